@@ -1,0 +1,50 @@
+ghost use Rattle.std.specs.Prelude.{◌≡◌, ◌↔◌, IsTrue, IfOk};
+
+use crate::memory::NoMemory;
+use crate::plain::Plain;
+use crate::region::Rpl;
+use std::alloc::Global;
+
+/// A read or a write of the regions that a path stands for.
+#[derive(Debug, Drop)]
+pub struct Effect {
+    /// A write; else a read.
+    pub write: bool,
+    /// Marked: the access stands inside an atomic block.
+    pub atomic: bool,
+    pub rpl: Rpl,
+}
+
+/// `left # right`: the two paths have no region in common.
+#[derive(Debug, Drop)]
+pub struct Constraint {
+    pub left: Rpl,
+    pub right: Rpl,
+}
+
+impl Plain for Effect {
+    fn copy(&self, alloc: Global) -> Result<Effect, NoMemory> {
+        Ok(Effect {
+            write: self.write,
+            atomic: self.atomic,
+            rpl: self.rpl.copy(alloc)?,
+        })
+    }
+
+    fn same(&self, other: &Effect) -> bool {
+        self.write == other.write && self.atomic == other.atomic && self.rpl.same(&other.rpl)
+    }
+}
+
+impl Plain for Constraint {
+    fn copy(&self, alloc: Global) -> Result<Constraint, NoMemory> {
+        Ok(Constraint {
+            left: self.left.copy(alloc)?,
+            right: self.right.copy(alloc)?,
+        })
+    }
+
+    fn same(&self, other: &Constraint) -> bool {
+        self.left.same(&other.left) && self.right.same(&other.right)
+    }
+}

@@ -1,0 +1,112 @@
+ghost use Rattle.std.specs.Prelude.{◌≡◌, ◌↔◌, ◌∷◌, ◌++◌, [], length, IsTrue, IfOk, OnOk, OnErr};
+
+use crate::memory::NoMemory;
+use crate::plain::Plain;
+use smallvec::SmallVec;
+use std::alloc::Global;
+use std::marker::Model;
+
+/// One element of a region path.
+#[derive(Clone, Copy, Debug, PartialEq, Eq)]
+pub enum Elem {
+    /// A declared region name, by its number.
+    Name(u32),
+    /// The index `[k]`, a whole number.
+    Lit(i32),
+    /// The index `[v]`, a variable. The renamed copy of `Var(k)` is `Var(k + 2147483648)`.
+    Var(u32),
+    /// The index `[?]`, which stands for any one index.
+    Any,
+    /// `*`, which stands for any sequence of elements.
+    Star,
+    /// A local region. In a text: the number of its declaration in its body, and 0. In a run: the number
+    /// of the task that made it, and its count there, from 1.
+    Local(u32, u32),
+}
+
+/// `*`, which a small vector puts into the places that hold nothing yet.
+impl Default for Elem {
+    fn default() -> Elem {
+        Elem::Star
+    }
+}
+
+/// The elements of a region path, short ones kept in place. A contract sees the list alone.
+#[derive(Debug, Drop)]
+pub struct Elems {
+    items: SmallVec<Elem, 4>,
+}
+
+impl Model for Elems {
+    ghost use Rattle.std.specs.Prelude.{List};
+    ghost use Rattle.dpj_base.specs.declared.elems.Elem.{Elem};
+
+    ghost Value = { List Elem };
+
+    ghost view = { λ e. e.items.items };
+}
+
+impl Elems {
+    /// No elements, which takes no memory.
+    pub fn new(alloc: Global) -> Elems
+        ensures { result ≡ [] }
+    {
+        Elems {
+            items: SmallVec::new(alloc),
+        }
+    }
+
+    pub fn from_slice(alloc: Global, elems: &[Elem]) -> Result<Elems, NoMemory>
+        ensures { IfOk result (λ e. e ≡ elems.now) }
+    {
+        Ok(Elems {
+            items: SmallVec::from_slice(alloc, elems)?,
+        })
+    }
+
+    pub fn as_slice(&self) -> &[Elem]
+        ensures { result.now ≡ self.now }
+    {
+        self.items.as_slice()
+    }
+
+    pub fn len(&self) -> usize
+        ensures { result ≡ length self.now }
+    {
+        self.items.len()
+    }
+
+    pub fn is_empty(&self) -> bool
+        ensures { IsTrue result ↔ (self.now ≡ []) }
+    {
+        self.items.is_empty()
+    }
+
+    /// Puts an element last. After want of memory the elements are as they were.
+    pub fn push(&mut self, elem: Elem) -> Result<(), NoMemory>
+        ensures ok { OnOk result (self.new ≡ self.old ++ elem ∷ []) }
+        ensures err { OnErr result (self.new ≡ self.old) }
+    {
+        self.items.push(elem)?;
+        Ok(())
+    }
+
+    /// Puts elements behind the last. After want of memory the elements are as they were.
+    pub fn extend(&mut self, more: &[Elem]) -> Result<(), NoMemory>
+        ensures ok { OnOk result (self.new ≡ self.old ++ more.now) }
+        ensures err { OnErr result (self.new ≡ self.old) }
+    {
+        self.items.extend_from_slice(more)?;
+        Ok(())
+    }
+}
+
+impl Plain for Elems {
+    fn copy(&self, alloc: Global) -> Result<Elems, NoMemory> {
+        Elems::from_slice(alloc, self.as_slice())
+    }
+
+    fn same(&self, other: &Elems) -> bool {
+        self.as_slice() == other.as_slice()
+    }
+}

@@ -1,0 +1,95 @@
+ghost use Rattle.std.specs.Prelude.{◌≡◌, ◌↔◌, IsTrue, IfOk};
+
+use crate::boxed::Boxed;
+use crate::items::Items;
+use crate::memory::NoMemory;
+use crate::plain::Plain;
+use crate::region::Rpl;
+use std::alloc::Global;
+
+/// A type of the language.
+#[derive(Debug, Drop)]
+pub enum Ty {
+    Int,
+    Bool,
+    /// What a method without a result gives.
+    Void,
+    /// The type of `null`.
+    Null,
+    Class {
+        class: u32,
+        args: Items<Rpl>,
+    },
+    /// An array whose element `k` lies in `rpl` with `k` for the index name. Where no index name is
+    /// written, `index` is None.
+    Array {
+        elem: Boxed<Ty>,
+        rpl: Rpl,
+        index: Option<u32>,
+    },
+}
+
+/// The superclass of a class, with the region arguments that the class gives it.
+#[derive(Debug, Drop)]
+pub struct Super {
+    pub class: u32,
+    pub parent: Ty,
+}
+
+impl Plain for Ty {
+    fn copy(&self, alloc: Global) -> Result<Ty, NoMemory> {
+        match self {
+            Ty::Int => Ok(Ty::Int),
+            Ty::Bool => Ok(Ty::Bool),
+            Ty::Void => Ok(Ty::Void),
+            Ty::Null => Ok(Ty::Null),
+            Ty::Class { class, args } => Ok(Ty::Class {
+                class: *class,
+                args: args.copy(alloc)?,
+            }),
+            Ty::Array { elem, rpl, index } => Ok(Ty::Array {
+                elem: Boxed::new(alloc, elem.get().copy(alloc)?)?,
+                rpl: rpl.copy(alloc)?,
+                index: *index,
+            }),
+        }
+    }
+
+    fn same(&self, other: &Ty) -> bool {
+        match (self, other) {
+            (Ty::Int, Ty::Int)
+            | (Ty::Bool, Ty::Bool)
+            | (Ty::Void, Ty::Void)
+            | (Ty::Null, Ty::Null) => true,
+            (
+                Ty::Class { class, args },
+                Ty::Class {
+                    class: other_class,
+                    args: other_args,
+                },
+            ) => *class == *other_class && args.same(other_args),
+            (
+                Ty::Array { elem, rpl, index },
+                Ty::Array {
+                    elem: other_elem,
+                    rpl: other_rpl,
+                    index: other_index,
+                },
+            ) => elem.get().same(other_elem.get()) && rpl.same(other_rpl) && *index == *other_index,
+            _ => false,
+        }
+    }
+}
+
+impl Plain for Super {
+    fn copy(&self, alloc: Global) -> Result<Super, NoMemory> {
+        Ok(Super {
+            class: self.class,
+            parent: self.parent.copy(alloc)?,
+        })
+    }
+
+    fn same(&self, other: &Super) -> bool {
+        self.class == other.class && self.parent.same(&other.parent)
+    }
+}
