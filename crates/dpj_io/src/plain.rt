@@ -27,7 +27,8 @@ impl Model for PlainSource {
 impl PlainSource {
     /// A source of these bytes.
     pub fn new(bytes: Vec<u8>) -> PlainSource
-        ensures { result ≡ bytes.items }
+        ensures bytes { result ≡ bytes.items }
+        ensures count { ⟦<PlainSource as Source>⟧.faults result ≡ 0 }
     {
         PlainSource { bytes, at: 0 }
     }
@@ -41,6 +42,7 @@ impl Source for PlainSource {
     fn fill(&mut self, buf: &mut [u8]) -> Result<usize, Failed>
         requires { 0 < length buf.old }
         ensures never_fails { IsOk result }
+        ensures count { ⟦<PlainSource as Source>⟧.faults self.new ≡ 0 }
         ensures gives { IfOk result (λ n. n ≡ min (length buf.old) (length self.old)) }
         ensures filled { IfOk result (λ n. Fills self.old buf.old buf.new n) }
         ensures taken { IfOk result (λ n. self.new ≡ drop n self.old) }

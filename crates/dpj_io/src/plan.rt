@@ -5,7 +5,7 @@ use std::marker::Model;
 
 /// Which calls of an end in memory fail, with counts of its calls and of its faults.
 #[derive(Debug, Drop)]
-pub struct Plan {
+pub(crate) struct Plan {
     fails: Vec<u64>,
     calls: u64,
     faults: u64,
@@ -23,7 +23,7 @@ impl Plan {
     ghost use Rattle.dpj_io.specs.Plan.{FailsNext};
 
     /// No call was made yet. The calls numbered in `fails`, counted from 1, are those that fail.
-    pub fn new(fails: Vec<u64>) -> Plan
+    pub(crate) fn new(fails: Vec<u64>) -> Plan
         ensures { result ≡ record { fails = fails.items; calls = 0; faults = 0 } }
     {
         Plan {
@@ -34,7 +34,7 @@ impl Plan {
     }
 
     /// Counts a call, and says whether it is one that fails.
-    pub fn next_fails(&mut self) -> bool
+    pub(crate) fn next_fails(&mut self) -> bool
         ensures answer { IsTrue result ↔ FailsNext self.old }
         ensures counted { self.new ≡ record self.old { calls = next_count self.old.calls } }
     {
@@ -46,7 +46,7 @@ impl Plan {
     }
 
     /// Counts a fault.
-    pub fn count_fault(&mut self)
+    pub(crate) fn count_fault(&mut self)
         ensures counted { self.new ≡ record self.old { faults = next_count self.old.faults } }
         ensures never_falls { self.old.faults ≤ self.new.faults }
     {

@@ -1,4 +1,4 @@
-ghost use Rattle.std.specs.Prelude.{◌≡◌, ◌<◌, ◌≤◌, ◌+◌, ◌-◌, ◌++◌, ℕ, Some, length, take, IsOk, OnOk, OnErr, IfSome};
+ghost use Rattle.std.specs.Prelude.{◌≡◌, ◌↔◌, ◌<◌, ◌≤◌, ◌+◌, ◌-◌, ◌++◌, ℕ, Some, length, take, IsOk, OnOk, OnErr, IfSome};
 ghost use Rattle.dpj_io.specs.Ends.{Rose};
 
 use crate::traits::{Failed, Sink};
@@ -24,10 +24,11 @@ pub fn write_all<K: Sink>(sink: &mut K, bytes: &[u8]) -> Result<(), WriteFault>
     ensures never_falls { K.faults sink.old ≤ K.faults sink.new }
 
     // Where the sink tells its room: what suffices, and what is left of it.
-    ensures succeeds { IfSome (K.room sink.old) (λ room. length bytes.now ≤ room → IsOk result) }
+    ensures succeeds { IfSome (K.room sink.old) (λ room. IsOk result ↔ (length bytes.now ≤ room)) }
     ensures room { OnOk result (IfSome (K.room sink.old) (λ room. K.room sink.new ≡ Some (room - length bytes.now))) }
     ensures untroubled { OnOk result (IfSome (K.room sink.old) (λ _. K.faults sink.new ≡ K.faults sink.old)) }
     ensures full { OnErr result (IfSome (K.room sink.old) (λ _. K.room sink.new ≡ Some 0)) }
+    ensures filled { OnErr result (IfSome (K.room sink.old) (λ room. IfSome (K.held sink.old) (λ old. K.held sink.new ≡ Some (old ++ take room bytes.now)))) }
 {
     let mut done = 0;
     while done < bytes.len() {
