@@ -1,0 +1,73 @@
+-- The job that a list of words gives.
+use Rattle.std.specs.Prelude.{ℕ, ℤ, pos, ◌≤◌, Bool, List, [], ◌∷◌, Option, Some, None, if◌then◌else◌}
+use Rattle.std.specs.List.{list_all}
+use Rattle.std.specs.Option.{option_and_then}
+use Rattle.dpj_words.specs.Words.{command_named, sets_key_of, values_for, number_in, arg_of, mode_of, is_carried_out}
+use Rattle.dpj_words.specs.declared.command.Command.{Command}
+use Rattle.dpj_words.specs.declared.key.Key.{Key}
+use Rattle.dpj_words.specs.declared.key.Key.TheVariants as key
+use Rattle.dpj_words.specs.declared.key.Mode.{Mode}
+use Rattle.dpj_words.specs.declared.key.Mode.TheVariants as mode
+use Rattle.dpj_words.specs.declared.job.Job.{Job}
+
+-- the meaning of the one value given, or the default where none is given
+abbrev pub one_of : {A : Type 0} → (List ℕ → Option A) → A → List (List ℕ) → Option A
+one_of meaning default [] = Some default
+one_of meaning default (value ∷ []) = meaning value
+one_of meaning default (first ∷ second ∷ others) = None
+
+abbrev pub workers_of : List (List ℕ) → Option ℕ
+workers_of words = one_of (number_in 1 64) 4 (values_for key.Workers words)
+
+abbrev pub steps_of : List (List ℕ) → Option ℕ
+steps_of words = one_of (number_in 1 20000000) 5000000 (values_for key.Steps words)
+
+abbrev pub cells_of : List (List ℕ) → Option ℕ
+cells_of words = one_of (number_in 1 16777216) 1048576 (values_for key.Cells words)
+
+abbrev pub argument_of : List (List ℕ) → Option ℤ
+argument_of words = one_of arg_of (pos 0) (values_for key.Arg words)
+
+abbrev pub classes_of : List (List ℕ) → Option ℕ
+classes_of words = one_of (number_in 1 200) 8 (values_for key.Number words)
+
+abbrev pub made_by : List (List ℕ) → Option Mode
+made_by words = one_of mode_of mode.Steps (values_for key.Mode words)
+
+-- a job where each of its fields is given
+abbrev pub job_with : Command → Option ℕ → Option ℕ → Option ℕ → Option ℤ → Option ℕ → Option Mode → Option Job
+job_with command (Some workers) (Some steps) (Some cells) (Some arg) (Some n) (Some mode) =
+    Some (record { command = command; workers = workers; steps = steps; cells = cells; arg = arg; n = n; mode = mode })
+job_with _ _ _ _ _ _ _ = None
+
+-- the job of a command, each field by the words that set it
+abbrev pub fields_job : List (List ℕ) → Command → Option Job
+fields_job words command = job_with command (workers_of words) (steps_of words) (cells_of words) (argument_of words) (classes_of words) (made_by words)
+
+-- the job of a command with the words behind it, each of which sets one of its keys
+abbrev pub settings_job : List (List ℕ) → Command → Option Job
+settings_job words command = if list_all (sets_key_of command) words then fields_job words command else None
+
+-- the job that words give by the tables of commands and keys
+abbrev pub any_job : List (List ℕ) → Option Job
+any_job [] = None
+any_job (first ∷ words) = option_and_then (settings_job words) (command_named first)
+
+-- a job that the program carries out
+abbrev pub carried_out : Job → Option Job
+carried_out job = if is_carried_out job.command then Some job else None
+
+-- the job that words give
+abbrev pub job : List (List ℕ) → Option Job
+job words = option_and_then carried_out (any_job words)
+
+-- each number of a job is in the range of its key
+pub record IsInRange (job : Job) : Type 0 where
+  pub workers_least : 1 ≤ job.workers
+  pub workers_most : job.workers ≤ 64
+  pub steps_least : 1 ≤ job.steps
+  pub steps_most : job.steps ≤ 20000000
+  pub cells_least : 1 ≤ job.cells
+  pub cells_most : job.cells ≤ 16777216
+  pub n_least : 1 ≤ job.n
+  pub n_most : job.n ≤ 200

@@ -1,0 +1,85 @@
+ghost use Rattle.std.specs.Prelude.{◌≡◌};
+
+use crate::key::Key;
+
+/// What the program can be asked to do.
+#[derive(Clone, Copy, Debug, PartialEq, Eq)]
+pub enum Command {
+    /// Checks the text.
+    Check,
+    /// Checks, compiles and runs.
+    Run,
+    /// Checks, and runs the sequential elision.
+    Elide,
+    /// Checks, compiles and lists the code.
+    List,
+    /// Makes a text, checks and runs it.
+    Demo,
+    /// Runs, and writes the trace of the run.
+    Trace,
+    /// Reads a trace, and runs its schedule.
+    Replay,
+    /// Checks, and writes the inferred summaries.
+    Effects,
+}
+
+const COMMANDS: [Command; 8] = [
+    Command::Check,
+    Command::Run,
+    Command::Elide,
+    Command::List,
+    Command::Demo,
+    Command::Trace,
+    Command::Replay,
+    Command::Effects,
+];
+
+impl Command {
+    ghost use Rattle.dpj_words.specs.Words.{command_name, command_named, keys_of, is_carried_out};
+
+    /// The word that asks for it.
+    pub fn name(self) -> &'static str
+        ensures { result.now ≡ command_name self }
+    {
+        match self {
+            Command::Check => "check",
+            Command::Run => "run",
+            Command::Elide => "elide",
+            Command::List => "list",
+            Command::Demo => "demo",
+            Command::Trace => "trace",
+            Command::Replay => "replay",
+            Command::Effects => "effects",
+        }
+    }
+
+    /// The command that a word asks for, if any.
+    pub fn named(word: &str) -> Option<Command>
+        ensures { result ≡ command_named word.now }
+    {
+        COMMANDS
+            .iter()
+            .copied()
+            .find(|command| command.name() == word)
+    }
+
+    /// The keys that may stand behind it.
+    pub fn keys(self) -> &'static [Key]
+        ensures { result.now ≡ keys_of self }
+    {
+        match self {
+            Command::Run => &[Key::Workers, Key::Steps, Key::Cells, Key::Arg, Key::Mode],
+            Command::Trace => &[Key::Workers, Key::Steps, Key::Cells, Key::Arg],
+            Command::Elide => &[Key::Steps, Key::Cells, Key::Arg],
+            Command::Demo => &[Key::Workers, Key::Steps, Key::Cells, Key::Number],
+            Command::Check | Command::List | Command::Replay | Command::Effects => &[],
+        }
+    }
+
+    /// Whether the program already does it; until then it is no job.
+    pub const fn is_carried_out(self) -> bool
+        ensures { result ≡ is_carried_out self }
+    {
+        matches!(self, Command::Run)
+    }
+}

@@ -1,0 +1,102 @@
+ghost use Rattle.std.specs.Prelude.{◌≡◌, ◌≢◌, ◌↔◌, ◌≤◌, map, length, slice_index, IsTrue, IfOk, IfSome, MatchResult};
+ghost use Rattle.std.specs.Result.{result_ok};
+ghost use Rattle.std.specs.Option.{option_map, option_to_list};
+ghost use Rattle.std.specs.String.{string_bytes};
+ghost use Rattle.dpj_words.specs.Words.{value_for, values_for, number_in, arg_of, mode_of};
+ghost use Rattle.dpj_words.specs.Jobs.{one_of, argument_of, made_by};
+
+use crate::job::Usage;
+use crate::key::{Key, Mode};
+
+/// What the words set a key of numbers to, or its default.
+pub fn number_set(
+    settings: &[String],
+    key: Key,
+    least: u64,
+    most: u64,
+    default: u64,
+) -> Result<u64, Usage>
+    requires default_least { least ≤ default }
+    requires default_most { default ≤ most }
+    ensures given { result_ok result ≡ one_of (number_in least most) default (values_for key (map string_bytes settings.now)) }
+    ensures at_least { IfOk result (λ n. least ≤ n) }
+    ensures at_most { IfOk result (λ n. n ≤ most) }
+{
+    match value_set(settings, key)? {
+        None => Ok(default),
+        Some(value) => number(value, least, most).ok_or(Usage),
+    }
+}
+
+/// What the words set the argument to, or its default.
+pub fn arg_set(settings: &[String]) -> Result<i32, Usage>
+    ensures { result_ok result ≡ argument_of (map string_bytes settings.now) }
+{
+    match value_set(settings, Key::Arg)? {
+        None => Ok(0),
+        Some(value) => argument(value).ok_or(Usage),
+    }
+}
+
+/// What the words set the mode to, or its default.
+pub fn mode_set(settings: &[String]) -> Result<Mode, Usage>
+    ensures { result_ok result ≡ made_by (map string_bytes settings.now) }
+{
+    match value_set(settings, Key::Mode)? {
+        None => Ok(Mode::Steps),
+        Some("steps") => Ok(Mode::Steps),
+        Some("rounds") => Ok(Mode::Rounds),
+        Some(_) => Err(Usage),
+    }
+}
+
+// The value that one of the words gives to a key, if any does; Usage where more than one does.
+fn value_set(settings: &[String], key: Key) -> Result<Option<&str>, Usage>
+    ensures { MatchResult result
+        (λ value. values_for key (map string_bytes settings.now) ≡ option_to_list (option_map (λ text. text.now) value))
+        (λ _. 2 ≤ length (values_for key (map string_bytes settings.now))) }
+{
+    let mut value = None;
+    for word in settings {
+        if let Some(given) = key.value_in(word.as_str()) {
+            if value.is_some() {
+                return Err(Usage);
+            }
+            value = Some(given);
+        }
+    }
+    Ok(value)
+}
+
+// The number that a text of decimal digits is for, without a leading zero, where it lies in a range.
+fn number(text: &str, least: u64, most: u64) -> Option<u64>
+    ensures given { result ≡ number_in least most text.now }
+    ensures at_least { IfSome result (λ n. least ≤ n) }
+    ensures at_most { IfSome result (λ n. n ≤ most) }
+{
+    if !is_plain(text) {
+        return None;
+    }
+    match text.parse::<u64>() {
+        Ok(value) if least <= value && value <= most => Some(value),
+        _ => None,
+    }
+}
+
+// Whether a text begins with neither a `+` nor a leading zero.
+fn is_plain(text: &str) -> bool
+    ensures { IsTrue result
+        ↔ ((slice_index text.now 0 ≢ 43) × (slice_index text.now 0 ≡ 48 → length text.now ≡ 1)) }
+{
+    !matches!(text.as_bytes(), [b'+', ..] | [b'0', _, ..])
+}
+
+// The number of 32 bits that a text of decimal digits is for, with a `-` before one that is below 0.
+fn argument(text: &str) -> Option<i32>
+    ensures { result ≡ arg_of text.now }
+{
+    match text.strip_prefix("-") {
+        Some(digits) => number(digits, 1, 2147483648).map(|size| (-(size as i64)) as i32),
+        None => number(text, 0, 2147483647).map(|size| size as i32),
+    }
+}
