@@ -10,6 +10,7 @@
 
 mod program;
 mod running;
+mod token;
 
 pub use program::{First, Sum};
 pub use running::run;
