@@ -1,8 +1,8 @@
 -- What the steps of reading say to one another. No public clause names any of it.
-use Rattle.std.specs.Prelude.{◌≡◌, ◌≤◌, ℕ, Bool, true, false, cond, List, [], ◌∷◌, ◌++◌, length, Option, MatchOption}
-use Rattle.std.specs.Borrow.{Bor}
+use Rattle.std.specs.Prelude.{◌≡◌, ℕ, false, cond, List, [], ◌∷◌, ◌++◌}
 use Rattle.dpj_first.specs.Tokens.{Token, word, mark, is_blank, is_word_byte}
-use Rattle.dpj_first.specs.Form.{literal, joined, IsName, IsSum, sum_tokens, plus}
+use Rattle.dpj_first.specs.Form.{plus, print_tokens, IsSum}
+use Rattle.dpj_first.specs.declared.program.Sum.{Sum}
 use Rattle.dpj_first.specs.declared.token.Token.{Token as Found}
 use Rattle.dpj_first.specs.declared.token.Token.TheVariants.{Word, Mark}
 
@@ -33,3 +33,7 @@ tokens_in text = tokens_from [] text
 -- what comes next isn't a `+`
 abbrev pub IsNoPlus : List Token → Type 0
 IsNoPlus ts = (us : List Token) → ts ≡ plus ∷ us → ⊥
+
+-- what comes next isn't a print statement
+abbrev pub IsNoPrint : List Token → Type 0
+IsNoPrint ts = (s : Sum) (us : List Token) → IsSum s → ts ≡ print_tokens s ++ us → ⊥

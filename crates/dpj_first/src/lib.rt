@@ -9,8 +9,10 @@
 #![tactic(auto)]
 
 mod program;
+mod reading;
 mod running;
 mod token;
 
 pub use program::{First, Sum};
+pub use reading::read;
 pub use running::run;

@@ -40,9 +40,10 @@ pub fn next(text: &[u8]) -> Option<(Token<'_>, &[u8])>
 
 /// What is behind the tokens, if the text begins with them.
 pub fn skip<'a>(text: &'a [u8], tokens: &[Token]) -> Option<&'a [u8]>
-    ensures { MatchOption result
+    ensures tokens { MatchOption result
         ((ts : List Tok) → tokens_in text.now ≡ map seen tokens.now ++ ts → ⊥)
         (λ rest. tokens_in text.now ≡ map seen tokens.now ++ tokens_in rest.now) }
+    ensures shorter { IfSome result (λ rest. length rest.now ≤ length text.now) }
 {
     let mut rest = text;
     for token in tokens {

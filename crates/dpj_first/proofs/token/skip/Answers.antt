@@ -6,5 +6,5 @@ not_done f [] i ts h e = absurd (omega (arith, h))
 not_done f (x ∷ xs) zero ts h e = cc
 not_done f (x ∷ xs) (suc i) ts h e = not_done f xs i ts (omega (arith, h)) e
 
-pub returns-in_err-found : goal.returns-in_err-found
-returns-in_err-found c = rw c.from_residual.ensures (λ ts e. not_done _ _ _ ts c.loop-token-test.true (sym ((c.loop-token.invariant ts).0 e) ∙ c.in_err-found.ensures.token))
+pub returns-in_err-found-clause-tokens : goal.returns-in_err-found-clause-tokens
+returns-in_err-found-clause-tokens c = rw c.from_residual.ensures (λ ts e. not_done _ _ _ ts c.loop-token-test.true (sym ((c.loop-token.invariant.0 ts).0 e) ∙ c.in_err-found.ensures.token))
