@@ -1,7 +1,6 @@
 -- Each text has one list of tokens, and this is how it begins.
 use Rattle.std.proofs.Common.{◌≡◌, ℕ, Bool, true, false, cond, List, [], ◌∷◌, ◌++◌, refl, sym, ap, ◌∙◌, append_assoc, append-nil, arith, take, drop, length, ◌+◌, one-add, suc, subst, take-append-drop}
 use Rattle.std.proofs.lemmas.Bool.Decides.{nat_tests}
-use Rattle.std.specs.Char.{is_ascii_alphanumeric}
 use Rattle.std.specs.List.{prefix_len}
 use Rattle.dpj_first.specs.Tokens.{Token, word, mark, is_blank, is_word_byte, AreBlank, AreWordBytes, IsToken, bytes_of, EndsWord, EndsBefore, Spells}
 use Rattle.dpj_first.specs.Reading.{IsNotBlank, closed, tokens_from, tokens_in}
@@ -88,9 +87,9 @@ Spells-from (b ∷ text) begun h =
     by_test (λ v. Spells (cond v (tokens_from (begun ++ b ∷ []) text) (closed begun (cond (is_blank b) (tokens_from [] text) (mark b ∷ tokens_from [] text)))) (begun ++ b ∷ text)) (is_word_byte b)
     (λ k. let s = Spells-from text (begun ++ b ∷ []) (AreWordBytes-push begun b h k) in rw append_assoc at s)
     (λ k. Spells-closed begun (b ∷ text) _ h k
-        (by_test (λ v. Spells (cond v (tokens_from [] text) (mark b ∷ tokens_from [] text)) (b ∷ text)) (is_blank b)
-            (λ j. Spells-blank _ b text j (Spells-from text [] tt))
-            (λ j. ([], text, tt, refl, (j, k), tt, Spells-from text [] tt))))
+    (by_test (λ v. Spells (cond v (tokens_from [] text) (mark b ∷ tokens_from [] text)) (b ∷ text)) (is_blank b)
+    (λ j. Spells-blank _ b text j (Spells-from text [] tt))
+    (λ j. ([], text, tt, refl, (j, k), tt, Spells-from text [] tt))))
 
 -- a text spells its tokens
 pub Spells-tokens_in : (text : List ℕ) → Spells (tokens_in text) text

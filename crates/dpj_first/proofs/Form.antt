@@ -1,12 +1,11 @@
 -- A text of the first form is so of one program.
-use Rattle.std.proofs.Common.{◌≡◌, ℕ, ◌<◌, ◌≤◌, ◌^◌, List, [], ◌∷◌, ◌++◌, length, refl, sym, ap, ◌∙◌, subst, append_assoc, append-nil, arith, codes, ◌+◌}
+use Rattle.std.proofs.Common.{◌≡◌, ℕ, ◌<◌, ◌≤◌, List, [], ◌∷◌, ◌++◌, length, refl, sym, ap, ◌∙◌, subst, append_assoc, append-nil, arith, codes, ◌+◌}
 use Rattle.std.proofs.lemmas.Fmt.{decimal_injective}
 use Rattle.std.proofs.lemmas.List.{flat_map_more, length-append}
-use Rattle.std.specs.Fmt.{decimal}
 use Rattle.std.specs.List.{AllByRecursion, flat_map}
-use Rattle.dpj_first.specs.Tokens.{Token, word, mark, Spells}
-use Rattle.dpj_first.specs.Form.{literal, plus, more_tokens, joined, sum_tokens, IsSum, IsName, IsFirstForm, opening, print_tokens, ending_tokens, tokens_of}
-use Rattle.dpj_first.specs.Reading.{tokens_in, IsNoPlus, IsNoPrint}
+use Rattle.dpj_first.specs.Tokens.{Token, word, mark}
+use Rattle.dpj_first.specs.Form.{literal, plus, more_tokens, joined, sum_tokens, IsSum, print_tokens, ending_tokens}
+use Rattle.dpj_first.specs.Reading.{IsNoPlus, IsNoPrint}
 use Rattle.dpj_first.specs.declared.program.First.{First}
 use Rattle.dpj_first.specs.declared.program.Sum.{Sum}
 
@@ -90,8 +89,8 @@ print_one s t x y h k e = framed_one (word (codes "print") ∷ mark 40 ∷ []) (
 ending_one : (s t : Sum) (x y : List Token) → IsSum s → IsSum t → ending_tokens s ++ x ≡ ending_tokens t ++ y → (s ≡ t) × (x ≡ y)
 ending_one s t x y h k e = framed_one (word (codes "return") ∷ []) (mark 59 ∷ mark 125 ∷ mark 125 ∷ []) x y s t no_plus_ending h k e
 
-ending_no_print : (s : Sum) (ts : List Token) → IsNoPrint (ending_tokens s ++ ts)
-ending_no_print s ts t us h e = let k : ◌≡◌ {A = ℕ} 114 112 = heads (words (heads e)) in absurd (omega (arith, k))
+pub ending_no_print : (s : Sum) → IsNoPrint (ending_tokens s)
+ending_no_print s t us h e = let k : ◌≡◌ {A = ℕ} 114 112 = heads (words (heads e)) in absurd (omega (arith, k))
 
 print_first : (s : Sum) (ps : List Sum) (x : List Token) → flat_map print_tokens (s ∷ ps) ++ x ≡ print_tokens s ++ (flat_map print_tokens ps ++ x)
 print_first s ps x = append_assoc (print_tokens s) (flat_map print_tokens ps) x
@@ -167,7 +166,7 @@ body_of p = flat_map print_tokens p.prints ++ ending_tokens p.result
 
 pub body_one : (prints : List Sum) (rest : List Token) (p : First) → AllByRecursion IsSum prints → IsNoPrint rest → AllByRecursion IsSum p.prints → flat_map print_tokens prints ++ rest ≡ body_of p → (prints ≡ p.prints) × (rest ≡ ending_tokens p.result)
 body_one prints rest p h none k e =
-    prints_one prints p.prints rest (ending_tokens p.result) h k none (λ s us i e. ending_no_print p.result [] s us i (append-nil (ending_tokens p.result) ∙ e)) e
+    prints_one prints p.prints rest (ending_tokens p.result) h k none (ending_no_print p.result) e
 
 pub ending_is : (s t : Sum) (last : List Token) → IsSum s → IsSum t → ending_tokens s ++ last ≡ ending_tokens t → (s ≡ t) × (last ≡ [])
 ending_is s t last h k e = ending_one s t last [] h k (e ∙ sym (append-nil (ending_tokens t)))

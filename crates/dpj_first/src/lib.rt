@@ -14,5 +14,5 @@ mod running;
 mod token;
 
 pub use program::{First, Sum};
-pub use reading::read;
+pub use reading::{one_reading, read};
 pub use running::run;

@@ -74,6 +74,11 @@ pub fn read(alloc: Global, text: &[u8]) -> Result<Option<First>, NoMemory>
     Ok(Some(First { prints, result }))
 }
 
+/// The law that no text spells two programs of the first form.
+pub fn one_reading()
+    ensures { (text : List ℕ) (left right : Program) → IsFirstForm text left → IsFirstForm text right → left ≡ right }
+{}
+
 /// What is behind the `{` that opens the body of `main`.
 fn body(text: &[u8]) -> Option<&[u8]>
     ensures { MatchOption result
