@@ -1,0 +1,18 @@
+//! The whole tool behind one call: `dpj` takes the words of a command line, reads a text from a source, and
+//! writes one report to a sink.
+//!
+//! What it promises: what the sink holds afterwards and the status are the definition's answer for the words
+//! and for the bytes that the source held. A fault of reading or writing is answered only where the source or
+//! the sink counted one in this call. Nothing is written before the report is whole.
+#![tactic(auto)]
+
+mod answers;
+mod call;
+mod laws;
+
+pub use answers::{MAX_TEXT, answer};
+pub use call::{Ended, dpj};
+pub use laws::one_answer;
+
+#[cfg(test)]
+mod tests;
