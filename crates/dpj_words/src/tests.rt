@@ -1,16 +1,20 @@
 use super::*;
 use dpj_base::{Bytes, Ending, Kind, Outcome, Place, Refusal, Trap};
 use std::alloc::{AllocError, Global};
+use std::process::Abort;
 use std::test::Fail;
 
-const USAGE: &str = "usage: dpj COMMAND [NAME=VALUE]...\n";
-
-fn strings(alloc: Global, words: &[&str]) -> Result<Vec<String>, AllocError> {
-    let mut strings = Vec::new(alloc);
-    for word in words {
-        strings.push(String::from_str(alloc, *word)?)?;
+// The words of a line, between commas.
+fn split(alloc: Global, line: &str) -> Result<Vec<String>, AllocError> {
+    let mut words = Vec::new(alloc);
+    for word in line.split(',') {
+        words.push(String::from_str(alloc, word)?)?;
     }
-    Ok(strings)
+    Ok(words)
+}
+
+fn read_line(alloc: Global, line: &str) -> Result<Option<Job>, AllocError> {
+    Ok(read_any(&split(alloc, line)?).ok())
 }
 
 // What a job has for a key.
@@ -25,127 +29,160 @@ fn field(job: &Job, key: &str) -> Option<i64> {
     }
 }
 
+const COMMANDS: [(&str, &str); 8] = [
+    ("check", ""),
+    ("run", "workers steps cells arg mode"),
+    ("elide", "steps cells arg"),
+    ("list", ""),
+    ("demo", "workers steps cells n"),
+    ("trace", "workers steps cells arg"),
+    ("replay", ""),
+    ("effects", ""),
+];
+
+const KEYS: [(&str, i64, i64, i64); 5] = [
+    ("workers", 1, 64, 4),
+    ("steps", 1, 20000000, 5000000),
+    ("cells", 1, 16777216, 1048576),
+    ("arg", -2147483648, 2147483647, 0),
+    ("n", 1, 200, 8),
+];
+
+// What a command with a key set to a value has there.
+fn set(alloc: Global, command: &str, key: &str, value: i64) -> Result<Option<i64>, AllocError> {
+    let line = format!(in alloc; "{command},{key}={value}")?;
+    Ok(read_line(alloc, line.as_str())?.and_then(|job| field(&job, key)))
+}
+
 #[test]
 fn each_key_of_each_command(rt: HostRuntime) -> Result<(), Fail> {
-    let commands = [
-        ("check", Command::Check, ""),
-        ("run", Command::Run, "workers steps cells arg mode"),
-        ("elide", Command::Elide, "steps cells arg"),
-        ("list", Command::List, ""),
-        ("demo", Command::Demo, "workers steps cells n"),
-        ("trace", Command::Trace, "workers steps cells arg"),
-        ("replay", Command::Replay, ""),
-        ("effects", Command::Effects, ""),
-    ];
-    let keys = [
-        ("workers", 1, 64, 4),
-        ("steps", 1, 20000000, 5000000),
-        ("cells", 1, 16777216, 1048576),
-        ("arg", -2147483648, 2147483647, 0),
-        ("n", 1, 200, 8),
-    ];
-    for (name, command, taken) in commands {
-        let bare = read_any(&strings(rt.alloc(), &[name])?).expect(&rt, name);
-        assert_eq!(rt; bare.command, command);
-        assert_eq!(rt; bare.mode, Mode::Steps);
-        for (key, least, most, default) in keys {
+    let alloc = rt.alloc();
+    for (command, taken) in COMMANDS {
+        for (key, least, most, default) in KEYS {
             let takes = taken.split(' ').any(|other| other == key);
-            assert_eq!(rt; field(&bare, key), Some(default), "{name} {key}");
-            for value in [least, most] {
-                let word = format!(in rt.alloc(); "{key}={value}")?;
-                let job = read_any(&strings(rt.alloc(), &[name, word.as_str()])?);
-                let got = job.ok().and_then(|job| field(&job, key));
-                let wanted = if takes { Some(value) } else { None };
-                assert_eq!(rt; got, wanted, "{name} {word}");
-            }
-            for value in [least - 1, most + 1] {
-                let word = format!(in rt.alloc(); "{key}={value}")?;
-                let job = read_any(&strings(rt.alloc(), &[name, word.as_str()])?);
-                assert_eq!(rt; job, Err(Usage), "{name} {word}");
-            }
+            let bare = read_line(alloc, command)?.and_then(|job| field(&job, key));
+            assert_eq!(rt; bare, Some(default), "{command} {key}");
+            assert_eq!(rt;
+                set(alloc, command, key, least)?,
+                takes.then_some(least),
+                "{command} {key}"
+            );
+            assert_eq!(rt;
+                set(alloc, command, key, most)?,
+                takes.then_some(most),
+                "{command} {key}"
+            );
+            assert_eq!(rt;
+                set(alloc, command, key, least.wrapping_sub(1))?,
+                None,
+                "{command} {key}"
+            );
+            assert_eq!(rt;
+                set(alloc, command, key, most.wrapping_add(1))?,
+                None,
+                "{command} {key}"
+            );
         }
-        for (word, mode) in [("mode=steps", Mode::Steps), ("mode=rounds", Mode::Rounds)] {
-            let job = read_any(&strings(rt.alloc(), &[name, word])?);
-            let wanted = if name == "run" { Some(mode) } else { None };
-            assert_eq!(rt; job.ok().map(|job| job.mode), wanted, "{name} {word}");
+    }
+    Ok(())
+}
+
+#[test]
+fn commands_modes_and_what_is_carried_out(rt: HostRuntime) -> Result<(), Fail> {
+    let alloc = rt.alloc();
+    for (command, _) in COMMANDS {
+        let job = read_line(alloc, command)?;
+        assert_eq!(rt; job.map(|job| job.command.name()), Some(command));
+        assert_eq!(rt; job.map(|job| job.mode), Some(Mode::Steps));
+        let runs = command == "run";
+        let words = split(alloc, command)?;
+        assert_eq!(rt; read_words(&words).is_ok(), runs, "{command}");
+        for (mode, wanted) in [("steps", Mode::Steps), ("rounds", Mode::Rounds)] {
+            let line = format!(in alloc; "{command},mode={mode}")?;
+            let got = read_line(alloc, line.as_str())?.map(|job| job.mode);
+            assert_eq!(rt; got, runs.then_some(wanted), "{line}");
         }
-        let carried_out = read_words(&strings(rt.alloc(), &[name])?).is_ok();
-        assert_eq!(rt; carried_out, name == "run", "{name}");
     }
     Ok(())
 }
 
 #[test]
 fn several_keys_in_any_order(rt: HostRuntime) -> Result<(), Fail> {
-    let words = [
-        "run",
-        "mode=rounds",
-        "arg=-7",
-        "cells=3",
-        "workers=2",
-        "steps=529",
-    ];
-    let job = read_words(&strings(rt.alloc(), &words)?)?;
-    assert_eq!(rt;
-        job,
-        Job {
-            command: Command::Run,
-            workers: 2,
-            steps: 529,
-            cells: 3,
-            arg: -7,
-            n: 8,
-            mode: Mode::Rounds,
-        }
-    );
+    let words = split(
+        rt.alloc(),
+        "run,mode=rounds,arg=-7,cells=3,workers=2,steps=529",
+    )?;
+    let wanted = Job {
+        command: Command::Run,
+        workers: 2,
+        steps: 529,
+        cells: 3,
+        arg: -7,
+        n: 8,
+        mode: Mode::Rounds,
+    };
+    assert_eq!(rt; read_words(&words), Ok(wanted));
     Ok(())
 }
 
 #[test]
 fn words_that_give_no_job(rt: HostRuntime) -> Result<(), Fail> {
-    let lists: [&[&str]; 36] = [
-        &[],
-        &[""],
-        &["run", ""],
-        &["", "run"],
-        &["Run"],
-        &["runs"],
-        &["ru"],
-        &["run "],
-        &["--help"],
-        &["--version"],
-        &["run", "--help"],
-        &["run", "help"],
-        &["run", "run"],
-        &["workers=4"],
-        &["run", "=5"],
-        &["run", "="],
-        &["run", "workers"],
-        &["run", "workers=0"],
-        &["run", "workers=04"],
-        &["run", "Workers=4"],
-        &["run", "workers =4"],
-        &["run", "workers==4"],
-        &["run", "steps="],
-        &["run", "steps=5", "steps=5"],
-        &["run", "steps=5", "arg=1", "steps=6"],
-        &["run", "steps=18446744073709551617"],
-        &["run", "arg=-0"],
-        &["run", "arg=00"],
-        &["run", "arg=+1"],
-        &["run", "arg=-"],
-        &["run", "arg=--1"],
-        &["run", "arg=1e3"],
-        &["run", "arg= 1"],
-        &["run", "mode=fast"],
-        &["run", "n=8"],
-        &["check", "arg=1"],
+    let lines = [
+        "",
+        "run,",
+        ",run",
+        "Run",
+        "runs",
+        "ru",
+        "run ",
+        "--help",
+        "--version",
+        "run,--help",
+        "run,help",
+        "run,run",
+        "workers=4",
+        "run,=5",
+        "run,=",
+        "run,workers",
+        "run,workers=0",
+        "run,workers=04",
+        "run,Workers=4",
+        "run,workers =4",
+        "run,workers==4",
+        "run,steps=",
+        "run,steps=5,steps=5",
+        "run,steps=5,arg=1,steps=6",
+        "run,steps=18446744073709551617",
+        "run,arg=-0",
+        "run,arg=00",
+        "run,arg=+1",
+        "run,arg=-",
+        "run,arg=--1",
+        "run,arg=1e3",
+        "run,arg= 1",
+        "run,mode=fast",
+        "run,n=8",
+        "check,arg=1",
     ];
-    for words in lists {
-        let words = strings(rt.alloc(), words)?;
-        assert_eq!(rt; read_any(&words), Err(Usage), "{words:?}");
-        assert_eq!(rt; read_words(&words), Err(Usage), "{words:?}");
+    for line in lines {
+        let words = split(rt.alloc(), line)?;
+        assert_eq!(rt; read_any(&words), Err(Usage), "{line}");
+        assert_eq!(rt; read_words(&words), Err(Usage), "{line}");
     }
+    assert_eq!(rt; read_words(&[]), Err(Usage));
+    Ok(())
+}
+
+fn told(
+    rt: &impl Abort,
+    alloc: Global,
+    verdict: &Verdict,
+    bytes: &str,
+    number: u8,
+) -> Result<(), Fail> {
+    let got = report(alloc, verdict)?;
+    assert_eq!(rt; got.as_slice(), bytes.as_bytes());
+    assert_eq!(rt; status(verdict).number(), number, "{bytes}");
     Ok(())
 }
 
@@ -158,103 +195,126 @@ fn outcome(alloc: Global, ending: Ending, out: &str, steps: u64) -> Result<Outco
     })
 }
 
-fn demo(alloc: Global, n: u32, bytes: u64, ending: Ending, steps: u64) -> Result<Verdict, Fail> {
-    Ok(Verdict::Demo {
-        classes: n,
-        bytes,
-        outcome: outcome(alloc, ending, "17\n", steps)?,
-    })
-}
+const DIVIDE: Ending = Ending::Trapped(Trap::Divide, Place { line: 3, col: 23 });
 
-fn traced(alloc: Global, ending: Ending) -> Result<Verdict, Fail> {
-    Ok(Verdict::Traced {
-        outcome: outcome(alloc, ending, "", 2)?,
-        text: Bytes::from_slice(alloc, b"dpj-trace 1\n")?,
-    })
-}
+const INDEX: Ending = Ending::Trapped(Trap::Index, Place { line: 6, col: 59 });
 
-fn refused(kind: Kind, line: u32, col: u32) -> Verdict {
-    let place = Place { line, col };
-    Verdict::Refused(Refusal { kind, place })
+#[test]
+fn reports_of_texts(rt: HostRuntime) -> Result<(), Fail> {
+    told(
+        &rt,
+        rt.alloc(),
+        &Verdict::Usage,
+        "usage: dpj COMMAND [NAME=VALUE]...\n",
+        1,
+    )?;
+    told(&rt, rt.alloc(), &Verdict::Accepted, "accepted\n", 0)?;
+    let refusals = [
+        (Kind::Interferes, 6, 5, "refused 6:5 interferes\n"),
+        (Kind::OverrideEffect, 7, 7, "refused 7:7 override-effect\n"),
+        (Kind::TooLong, 1, 1, "refused 1:1 too-long\n"),
+    ];
+    for (kind, line, col, bytes) in refusals {
+        let place = Place { line, col };
+        told(
+            &rt,
+            rt.alloc(),
+            &Verdict::Refused(Refusal { kind, place }),
+            bytes,
+            2,
+        )?;
+    }
+    let listing = Bytes::from_slice(rt.alloc(), b"int 7\nreturn\n")?;
+    told(
+        &rt,
+        rt.alloc(),
+        &Verdict::Listed(listing),
+        "int 7\nreturn\n",
+        0,
+    )?;
+    let lines = Bytes::from_slice(rt.alloc(), b"Main.fib pure\nMain.main pure\n")?;
+    told(
+        &rt,
+        rt.alloc(),
+        &Verdict::Effects(lines),
+        "Main.fib pure\nMain.main pure\n",
+        0,
+    )
 }
 
 #[test]
-fn reports_and_statuses(rt: HostRuntime) -> Result<(), Fail> {
+fn reports_of_runs_and_traces(rt: HostRuntime) -> Result<(), Fail> {
     let alloc = rt.alloc();
-    let divide = Ending::Trapped(Trap::Divide, Place { line: 3, col: 23 });
-    let index = Ending::Trapped(Trap::Index, Place { line: 6, col: 59 });
-    let listing = Bytes::from_slice(alloc, b"int 7\nreturn\n")?;
-    let summaries = Bytes::from_slice(alloc, b"Main.fib pure\nMain.main pure\n")?;
-    let rows = Vec::from_array(
-        alloc,
-        [
-            (Verdict::Usage, USAGE, 1),
-            (
-                refused(Kind::Interferes, 6, 5),
-                "refused 6:5 interferes\n",
-                2,
-            ),
-            (
-                refused(Kind::OverrideEffect, 7, 7),
-                "refused 7:7 override-effect\n",
-                2,
-            ),
-            (refused(Kind::TooLong, 1, 1), "refused 1:1 too-long\n", 2),
-            (Verdict::Accepted, "accepted\n", 0),
-            (
-                Verdict::Ran(outcome(alloc, Ending::Done(7), "3\n", 2)?),
-                "3\nresult 7\n",
-                0,
-            ),
-            (
-                Verdict::Ran(outcome(alloc, Ending::Done(-2147483648), "", 4)?),
-                "result -2147483648\n",
-                0,
-            ),
-            (
-                Verdict::Ran(outcome(alloc, divide, "", 6)?),
-                "trap divide 3:23\n",
-                3,
-            ),
-            (
-                Verdict::Ran(outcome(alloc, index, "1\n2\n", 1007)?),
-                "1\n2\ntrap index 6:59\n",
-                3,
-            ),
-            (
-                Verdict::Ran(outcome(alloc, Ending::Limited, "", 1)?),
-                "limit\n",
-                4,
-            ),
-            (Verdict::Listed(listing), "int 7\nreturn\n", 0),
-            (
-                demo(alloc, 1, 338, Ending::Done(4950), 409)?,
-                "classes 1\nbytes 338\nresult 4950\nsteps 409\n",
-                0,
-            ),
-            (
-                demo(alloc, 8, 2228, Ending::Done(42400), 3251)?,
-                "classes 8\nbytes 2228\nresult 42400\nsteps 3251\n",
-                0,
-            ),
-            (demo(alloc, 1, 338, divide, 9)?, "trap divide 3:23\n", 3),
-            (demo(alloc, 1, 338, Ending::Limited, 9)?, "limit\n", 4),
-            (traced(alloc, Ending::Done(0))?, "dpj-trace 1\n", 0),
-            (traced(alloc, divide)?, "dpj-trace 1\n", 3),
-            (traced(alloc, Ending::Limited)?, "dpj-trace 1\n", 4),
-            (
-                Verdict::Effects(summaries),
-                "Main.fib pure\nMain.main pure\n",
-                0,
-            ),
-        ],
-    )?;
-    for (verdict, bytes, number) in &rows {
-        let told = report(alloc, verdict)?;
-        assert_eq!(rt; told.as_slice(), bytes.as_bytes());
-        assert_eq!(rt; status(verdict).number(), *number, "{bytes}");
+    let rows = [
+        (Ending::Done(7), "3\n", "3\nresult 7\n", 0),
+        (Ending::Done(-2147483648), "", "result -2147483648\n", 0),
+        (DIVIDE, "", "trap divide 3:23\n", 3),
+        (INDEX, "1\n2\n", "1\n2\ntrap index 6:59\n", 3),
+        (Ending::Limited, "", "limit\n", 4),
+    ];
+    for (ending, out, bytes, number) in rows {
+        told(
+            &rt,
+            rt.alloc(),
+            &Verdict::Ran(outcome(alloc, ending, out, 4)?),
+            bytes,
+            number,
+        )?;
+        let outcome = outcome(alloc, ending, out, 4)?;
+        let text = Bytes::from_slice(alloc, b"dpj-trace 1\n")?;
+        told(
+            &rt,
+            rt.alloc(),
+            &Verdict::Traced { outcome, text },
+            "dpj-trace 1\n",
+            number,
+        )?;
     }
-    let rest = [Status::ReadFault, Status::WriteFault, Status::NoMemory];
-    assert_eq!(rt; rest.map(|status| status.number()), [5, 6, 7]);
     Ok(())
+}
+
+#[test]
+fn reports_of_demos(rt: HostRuntime) -> Result<(), Fail> {
+    let rows = [
+        (
+            1,
+            338,
+            Ending::Done(4950),
+            409,
+            "classes 1\nbytes 338\nresult 4950\nsteps 409\n",
+            0,
+        ),
+        (
+            8,
+            2228,
+            Ending::Done(42400),
+            3251,
+            "classes 8\nbytes 2228\nresult 42400\nsteps 3251\n",
+            0,
+        ),
+        (1, 338, DIVIDE, 9, "trap divide 3:23\n", 3),
+        (1, 338, Ending::Limited, 9, "limit\n", 4),
+    ];
+    for (classes, bytes, ending, steps, wanted, number) in rows {
+        let outcome = outcome(rt.alloc(), ending, "17\n", steps)?;
+        told(
+            &rt,
+            rt.alloc(),
+            &Verdict::Demo {
+                classes,
+                bytes,
+                outcome,
+            },
+            wanted,
+            number,
+        )?;
+    }
+    Ok(())
+}
+
+#[test]
+fn numbers_of_the_other_statuses(rt: HostRuntime) {
+    assert_eq!(rt; Status::ReadFault.number(), 5);
+    assert_eq!(rt; Status::WriteFault.number(), 6);
+    assert_eq!(rt; Status::NoMemory.number(), 7);
 }
