@@ -24,8 +24,24 @@ IsName (b ∷ bs) = (is_ascii_digit b ≡ false) × ¬ (Contains keywords (b ∷
 abbrev pub literal : ℕ → Token
 literal n = word (decimal n)
 
+-- `+` `;` `(` `)` `{` `}`
 abbrev pub plus : Token
 plus = mark 43
+
+abbrev pub semicolon : Token
+semicolon = mark 59
+
+abbrev pub left_parenthesis : Token
+left_parenthesis = mark 40
+
+abbrev pub right_parenthesis : Token
+right_parenthesis = mark 41
+
+abbrev pub left_brace : Token
+left_brace = mark 123
+
+abbrev pub right_brace : Token
+right_brace = mark 125
 
 -- further literals, a `+` before each
 abbrev pub more_tokens : List ℕ → List Token
@@ -40,6 +56,7 @@ joined (n ∷ ns) = literal n ∷ more_tokens ns
 abbrev pub sum_tokens : Sum → List Token
 sum_tokens s = joined s.literals
 
+-- 1 to 33 literals, each at most the greatest int
 pub record IsSum (s : Sum) : Type 0 where
   pub some : 0 < length s.literals
   pub most : length s.literals ≤ 33
@@ -48,16 +65,16 @@ pub record IsSum (s : Sum) : Type 0 where
 -- class Main { int main ( int NAME ) {
 abbrev pub opening : List ℕ → List Token
 opening name =
-    word (codes "class") ∷ word (codes "Main") ∷ mark 123 ∷ word (codes "int") ∷ word (codes "main") ∷ mark 40
-    ∷ word (codes "int") ∷ word name ∷ mark 41 ∷ mark 123 ∷ []
+    word (codes "class") ∷ word (codes "Main") ∷ left_brace ∷ word (codes "int") ∷ word (codes "main") ∷ left_parenthesis
+    ∷ word (codes "int") ∷ word name ∷ right_parenthesis ∷ left_brace ∷ []
 
 -- print ( SUM ) ;
 abbrev pub print_tokens : Sum → List Token
-print_tokens s = word (codes "print") ∷ mark 40 ∷ sum_tokens s ++ (mark 41 ∷ mark 59 ∷ [])
+print_tokens s = word (codes "print") ∷ left_parenthesis ∷ sum_tokens s ++ (right_parenthesis ∷ semicolon ∷ [])
 
 -- return SUM ; } }
 abbrev pub ending_tokens : Sum → List Token
-ending_tokens s = word (codes "return") ∷ sum_tokens s ++ (mark 59 ∷ mark 125 ∷ mark 125 ∷ [])
+ending_tokens s = word (codes "return") ∷ sum_tokens s ++ (semicolon ∷ right_brace ∷ right_brace ∷ [])
 
 -- the program's tokens, with the name of its parameter
 abbrev pub tokens_of : List ℕ → First → List Token

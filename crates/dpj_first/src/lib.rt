@@ -11,6 +11,8 @@
 mod program;
 mod reading;
 mod running;
+#[cfg(test)]
+mod tests;
 mod token;
 
 pub use program::{First, Sum};
