@@ -60,8 +60,8 @@ fully_specified a = all_specified a.elems
 abbrev pub elem_within : Elem → Elem → Bool
 elem_within x y = same_elem x y || (is_any y && is_index x)
 
--- a list of elements, behind, lies in another, in front: element by element, where `*` takes up any
--- elements but local regions
+-- the second list of elements lies in the first: element by element, where a `*` of the first takes up any
+-- elements of the second but local regions
 abbrev pub covers_elems : List Elem → List Elem → Bool
 covers_elems [] [] = true
 covers_elems [] (x ∷ a) = false

@@ -1,0 +1,1 @@
+//! Laws of region paths, each the clause of a function that does nothing.
