@@ -64,4 +64,4 @@ apart_by_some (c ∷ cs) a b = apart_by c a b || apart_by_some cs a b
 
 -- the two paths can never name one region, where the constraints hold
 unfoldable pub apart : List Constraint → Rpl → Rpl → Bool
-apart given a b = apart_from_left a b || (apart_by_length a b || (apart_from_right a b || apart_by_some given a b))
+apart given a b = apart_from_left a b || apart_by_length a b || apart_from_right a b || apart_by_some given a b
