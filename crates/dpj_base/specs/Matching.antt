@@ -1,5 +1,5 @@
 -- What region paths mean: environments, and the concrete regions that a path matches.
-use Rattle.std.specs.Prelude.{◌≡◌, ◌≢◌, ℕ, ◌<◌, ◌+◌, ℤ, Bool, true, false, IsTrue, List, [], ◌∷◌, ◌++◌, map, All, slice_index_or}
+use Rattle.std.specs.Prelude.{◌≡◌, ◌≢◌, ℕ, ◌<◌, ◌+◌, ℤ, Bool, true, false, ◌&&◌, cond, ◌==◌, IsTrue, List, [], ◌∷◌, ◌++◌, map, All, slice_index_or}
 use Rattle.dpj_base.specs.declared.elems.Elem.{Elem}
 use Rattle.dpj_base.specs.declared.elems.Elem.TheVariants.{Name, Lit, Var, Any, Star, Local}
 use Rattle.dpj_base.specs.declared.region.Head.{Head}
@@ -14,8 +14,9 @@ is_plain (Name _) = true
 is_plain (Lit _) = true
 is_plain _ = false
 
-abbrev pub all_plain : List Elem → Type 0
-all_plain r = All (λ x. IsTrue (is_plain x)) r
+abbrev pub all_plain : List Elem → Bool
+all_plain [] = true
+all_plain (x ∷ r) = is_plain x && all_plain r
 
 -- what the parameters, the index variables and the local regions of a text stand for in a run
 pub record Env : Type 0 where
@@ -44,7 +45,7 @@ Fits env (Name n) r = r ≡ Name n ∷ []
 Fits env (Lit k) r = r ≡ Lit k ∷ []
 Fits env (Var v) r = r ≡ Lit (env.index v) ∷ []
 Fits env Any r = (k : ℤ) × (r ≡ Lit k ∷ [])
-Fits env Star r = all_plain r
+Fits env Star r = IsTrue (all_plain r)
 Fits env (Local a b) r = r ≡ Local (env.made a b).0 (env.made a b).1 ∷ []
 
 -- the elements of a path fit the region piece by piece
@@ -62,7 +63,7 @@ Holds env c = IsTrue (apart [] (put_in env c.left) (put_in env c.right))
 
 -- an environment of a text in which these constraints are in force
 pub record IsEnv (given : List Constraint) (env : Env) : Type 0 where
-  pub regions : (p : ℕ) → all_plain (env.region p)
+  pub regions : (p : ℕ) → IsTrue (all_plain (env.region p))
   pub copies : (v : ℕ) → v < 2147483648 → env.index v ≢ env.index (v + 2147483648)
   pub locals : (a b c d : ℕ) → env.made a b ≡ env.made c d → (a ≡ c) × (b ≡ d)
   pub constraints : All (Holds env) given
@@ -75,6 +76,10 @@ MatchesMore env a b = (r : List Elem) → Matches env a r → Matches env b r
 abbrev pub MatchNoCommon : Env → Rpl → Rpl → Type 0
 MatchNoCommon env a b = (r : List Elem) → Matches env a r → Matches env b r → ⊥
 
--- the environment that gives each parameter its argument, with an environment put in
-abbrev pub bound : Env → List Rpl → Env
-bound env args = record env { region = λ p. (put_in env (slice_index_or args p (record { head = Param p; elems = [] }))).elems }
+-- the environment with other regions for the parameters
+abbrev pub with_regions : Env → (ℕ → List Elem) → Env
+with_regions env regions = record env { region = regions }
+
+-- the environment with another number for one variable
+abbrev pub with_index : Env → ℕ → ℤ → Env
+with_index env v k = record env { index = λ w. cond (v == w) k (env.index w) }

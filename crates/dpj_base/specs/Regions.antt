@@ -88,10 +88,13 @@ within a b = heads_within a.head b.head b.elems && covers_elems b.elems a.elems
 abbrev pub behind : Rpl → List Elem → Rpl
 behind a elems = record { head = a.head; elems = a.elems ++ elems }
 
--- elements behind a head, with the parameter's argument in its place where there is one
+-- the argument for a parameter; where there is none, the parameter itself
+abbrev pub argument : List Rpl → ℕ → Rpl
+argument args p = slice_index_or args p (record { head = Param p; elems = [] })
+
 abbrev pub put_at : Head → List Elem → List Rpl → Rpl
 put_at Root elems args = record { head = Root; elems = elems }
-put_at (Param p) elems args = behind (slice_index_or args p (record { head = Param p; elems = [] })) elems
+put_at (Param p) elems args = behind (argument args p) elems
 
 -- a path with its argument put in for the parameter at its head
 unfoldable pub substituted : List Rpl → Rpl → Rpl

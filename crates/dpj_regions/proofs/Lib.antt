@@ -1,1 +1,4 @@
+pub mod Fitting
+pub mod Inclusion
+pub mod Putting
 pub mod Segments
