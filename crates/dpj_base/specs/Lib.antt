@@ -1,2 +1,5 @@
+pub mod Apart
+pub mod Matching
+pub mod Regions
 pub mod Text
 pub mod formers

@@ -1,5 +1,5 @@
 -- The texts by which places, traps and refusals are told.
-use Rattle.std.specs.Prelude.{ℕ, List, ◌++◌, ◌∷◌, codes}
+use Rattle.std.specs.Prelude.{ℕ, List, ◌++◌, codes}
 use Rattle.std.specs.Fmt.{decimal}
 use Rattle.dpj_base.specs.declared.place.Place.{Place}
 use Rattle.dpj_base.specs.declared.value.Trap.{Trap}

@@ -1,0 +1,4 @@
+pub mod Envs
+pub mod Lists
+pub mod Paths
+pub mod Walks

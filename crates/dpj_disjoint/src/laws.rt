@@ -1,0 +1,15 @@
+//! Laws of disjoint paths, each the clause of a function that does nothing.
+
+ghost use Rattle.dpj_disjoint.specs.Laws.{ApartMatchNoCommon, PatternsStayApart, IncludedStayApart, ApartIsSymmetric};
+
+/// Disjointness is sound over what paths mean.
+pub fn law_disjoint()
+    ensures no_common { ApartMatchNoCommon }
+    ensures patterns { PatternsStayApart }
+{}
+
+/// Disjointness goes along with inclusion, and is symmetric.
+pub fn law_disjoint_included()
+    ensures included { IncludedStayApart }
+    ensures symmetric { ApartIsSymmetric }
+{}

@@ -1,0 +1,4 @@
+pub mod Fitting
+pub mod Inclusion
+pub mod Putting
+pub mod Segments

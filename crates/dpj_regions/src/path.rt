@@ -1,0 +1,66 @@
+ghost use Rattle.std.specs.Prelude.{◌≡◌, ◌<◌, ℕ, length, IfOk};
+ghost use Rattle.dpj_base.specs.Regions.{fully_specified, within, substituted, generalised};
+
+use crate::covers::covers;
+use dpj_base::{Elem, Elems, Head, NoMemory, Plain, Rpl};
+use std::alloc::Global;
+
+/// Whether every region that the inner path can name the outer path can name too, by the rule of inclusion.
+#[tactic(auto, unfolding(dpj_base::specs::Regions::within))]
+pub fn includes(outer: &Rpl, inner: &Rpl) -> bool
+    ensures { result ≡ within inner.now outer.now }
+{
+    let heads = match (inner.head, outer.head) {
+        (Head::Root, Head::Root) => true,
+        (Head::Param(p), Head::Param(q)) => p == q,
+        (Head::Param(_), Head::Root) => matches!(outer.elems.as_slice(), [Elem::Star, ..]),
+        (Head::Root, Head::Param(_)) => false,
+    };
+    heads && covers(outer.elems.as_slice(), inner.elems.as_slice())
+}
+
+/// Whether the path is fully specified: it has no `*` and no `[?]`.
+pub fn is_full(rpl: &Rpl) -> bool
+    ensures { result ≡ fully_specified rpl.now }
+{
+    for elem in rpl.elems.as_slice() {
+        if matches!(*elem, Elem::Star | Elem::Any) {
+            return false;
+        }
+    }
+    true
+}
+
+/// The path with its argument put in for the parameter at its head.
+#[tactic(auto, unfolding(dpj_base::specs::Regions::substituted))]
+pub fn subst(alloc: Global, rpl: &Rpl, args: &[Rpl]) -> Result<Rpl, NoMemory>
+    requires { (p : ℕ) → rpl.now.head ≡ Head.Param p → p < length args.now }
+    ensures { IfOk result (λ made. made ≡ substituted args.now rpl.now) }
+{
+    match rpl.head {
+        Head::Root => rpl.copy(alloc),
+        Head::Param(p) => {
+            let mut made = args[p as usize].copy(alloc)?;
+            made.elems.extend(rpl.elems.as_slice())?;
+            Ok(made)
+        }
+    }
+}
+
+/// The path with `[?]` for each index that is the variable.
+#[tactic(auto, unfolding(dpj_base::specs::Regions::generalised))]
+pub fn generalise(alloc: Global, rpl: &Rpl, var: u32) -> Result<Rpl, NoMemory>
+    ensures { IfOk result (λ made. made ≡ generalised var rpl.now) }
+{
+    let mut elems = Elems::new(alloc);
+    for elem in rpl.elems.as_slice() {
+        elems.push(match *elem {
+            Elem::Var(v) if v == var => Elem::Any,
+            other => other,
+        })?;
+    }
+    Ok(Rpl {
+        head: rpl.head,
+        elems,
+    })
+}
