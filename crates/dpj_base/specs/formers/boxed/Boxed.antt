@@ -1,4 +1,4 @@
--- `Boxed` as a type that may hold the type that holds it.
+-- How `Boxed` stores what it holds, so that a type may hold itself.
 use mathlib.Core.Path.{refl}
 use mathlib.Core.Former.{Former, this, const, pair, via}
 use base.Stored.{gnil}
@@ -15,43 +15,49 @@ use denote.Model.Placed.{view_places}
 use Rattle.std.specs.declared.boxed.Box.{Box}
 use Rattle.std.specs.contracts.boxed.Box as box
 use Rattle.std.specs.declared.alloc.Global.{Global}
-use Rattle.std.specs.contracts.alloc.Global as heap
+use Rattle.std.specs.contracts.alloc.Global as global
 use Rattle.std.specs.contracts.impls.GlobalAllocator.TheImpl.{ghosts}
 use Rattle.dpj_base.specs.declared.boxed.Boxed.TheInside.{Inside}
 use Rattle.dpj_base.specs.declared.boxed.Boxed.TheView.{view, invariant}
-use Rattle.dpj_base.specs.contracts.boxed.Boxed as C
-use Rattle.dpj_base.specs.contracts.boxed.Boxed.TheInside as I
+use Rattle.dpj_base.specs.contracts.boxed.Boxed as outer
+use Rattle.dpj_base.specs.contracts.boxed.Boxed.TheInside as inner
 
+-- a value is what it holds, and nothing else
 abbrev pub the_former : Former {0} → Former {0}
-the_former g = g
+the_former held = held
 
-abbrev pub the_weighed : {g : Former {0}} → Weighed g → Weighed (the_former g)
-the_weighed w = w
+abbrev pub the_weighed : {held : Former {0}} → Weighed held → Weighed (the_former held)
+the_weighed weight = weight
 
-abbrev fields : Former {0}
-fields = via (pair (const (Ptr × Global)) this) Inside (λ X a. ((a.inner.ptr, a.inner.alloc), a.inner.value))
-    (λ X v. record { inner = record { ptr = v.0.0; alloc = v.0.1; value = v.1 } }) (λ X a. refl) (λ X v. refl)
+-- the one field: a pointer with its allocator, and the value behind it
+abbrev inside : Former {0}
+inside = via (pair (const (Ptr × Global)) this) Inside
+    (λ X fields. ((fields.inner.ptr, fields.inner.alloc), fields.inner.value))
+    (λ X parts. record { inner = record { ptr = parts.0.0; alloc = parts.0.1; value = parts.1 } })
+    (λ X fields. refl) (λ X parts. refl)
 
-abbrev with_value : {X Y : Type 0} → Box X Global → Y → Box Y Global
-with_value b y = record { ptr = b.ptr; alloc = b.alloc; value = y }
+abbrev holding : {X Y : Type 0} → Box X Global → Y → Box Y Global
+holding old value = record { ptr = old.ptr; alloc = old.alloc; value = value }
 
-abbrev box_of : RattleType → RattleType
-box_of R = box.the_row R heap.the_row ghosts
+abbrev box_row : RattleType → RattleType
+box_row R = box.the_row R global.the_row ghosts
 
-module _ (R S : RattleType) (h : R.Denot → S.Denot) where
-  box_places : Alike R S h → Alike (box_of R) (box_of S) (λ b. with_value b (h b.value))
+-- two types that are stored alike give boxes that are stored alike
+module _ (R S : RattleType) (along : R.Denot → S.Denot) where
+  box_alike : Alike R S along → Alike (box_row R) (box_row S) (λ b. holding b (along b.value))
   unfolding part_of
-  box_places a = record {
-    mir_same = λ i. (box_of (one_value R (a.mir_same i) (λ _. ftrue) (λ _ _. nothing) gnil)).mir;
-    own_same = λ b i. (box_of (one_value R (a.mir_same i) (a.own_same b.value i) (a.shr_same b.value i) gnil)).own_val (with_value b tt);
-    shr_same = λ b i. (box_of (one_value R (a.mir_same i) (a.own_same b.value i) (a.shr_same b.value i) gnil)).shr_at (with_value b tt);
+  box_alike alike = record {
+    mir_same = λ i. (box_row (one_value R (alike.mir_same i) (λ _. ftrue) (λ _ _. nothing) gnil)).mir;
+    own_same = λ b i. (box_row (one_value R (alike.mir_same i) (alike.own_same b.value i) (alike.shr_same b.value i) gnil)).own_val (holding b tt);
+    shr_same = λ b i. (box_row (one_value R (alike.mir_same i) (alike.own_same b.value i) (alike.shr_same b.value i) gnil)).shr_at (holding b tt);
   }
 
-  pub the_places : Alike R S h → Alike (C.the_row R) (C.the_row S) ((the_former this).map R.Denot S.Denot h)
-  the_places a = view_places fields this view (λ X Y k u. refl) (λ X u. refl) R.Denot S.Denot h (C.the_row R).coded (C.the_row S).coded
-      (invariant R.Denot) (invariant S.Denot) (λ u p q. refl) (λ u p q. refl) (λ u e. tt) (λ u e. tt)
-      (over (I.the_row R)) (over (I.the_row S))
-      (struct_places (I.the_type R) (I.the_type S) ((λ b. with_value b (h b.value)), tt) _ (λ d. refl) refl (laid _ _ _ (box_places a), tt))
+  pub the_places : Alike R S along → Alike (outer.the_row R) (outer.the_row S) ((the_former this).map R.Denot S.Denot along)
+  the_places alike = view_places inside this view (λ X Y k u. refl) (λ X u. refl) R.Denot S.Denot along
+      (outer.the_row R).coded (outer.the_row S).coded (invariant R.Denot) (invariant S.Denot)
+      (λ u p q. refl) (λ u p q. refl) (λ u e. tt) (λ u e. tt) (over (inner.the_row R)) (over (inner.the_row S))
+      (struct_places (inner.the_type R) (inner.the_type S) ((λ b. holding b (along b.value)), tt) _ (λ fields. refl) refl
+      (laid _ _ _ (box_alike alike), tt))
 
-  pub the_codes_placed : Recodes R S h → Recodes (C.the_row R) (C.the_row S) ((the_former this).map R.Denot S.Denot h)
-  the_codes_placed e d = e d
+  pub the_codes_placed : Recodes R S along → Recodes (outer.the_row R) (outer.the_row S) ((the_former this).map R.Denot S.Denot along)
+  the_codes_placed recodes value = recodes value
