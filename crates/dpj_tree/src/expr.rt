@@ -1,0 +1,82 @@
+use crate::region::{BaseTree, Named, RplTree, Suffix};
+use dpj_base::{Boxed, Items, Place};
+
+#[derive(Clone, Copy, Debug, PartialEq, Eq)]
+pub enum UnaryOp {
+    Neg,
+    Not,
+}
+
+#[derive(Clone, Copy, Debug, PartialEq, Eq)]
+pub enum BinaryOp {
+    Or,
+    And,
+    Eq,
+    Ne,
+    Lt,
+    Le,
+    Gt,
+    Ge,
+    Add,
+    Sub,
+    Mul,
+    Div,
+    Rem,
+}
+
+/// An expression. The place of an operation is its operator, of a field or call the name behind the dot, of an
+/// element the `[`, of a creation `new`, and of anything else its token.
+#[cycle(exprs)]
+#[derive(Drop)]
+pub struct Expr {
+    pub node: u32,
+    pub place: Place,
+    pub kind: ExprKind,
+}
+
+#[cycle(exprs)]
+#[derive(Drop)]
+pub enum ExprKind {
+    Int(i32),
+    Bool(bool),
+    Null,
+    This,
+    /// A local or a parameter.
+    Local(u32),
+    /// A field, or the length of an array.
+    Field {
+        of: Boxed<Expr>,
+        name: u32,
+    },
+    Element {
+        array: Boxed<Expr>,
+        index: Boxed<Expr>,
+    },
+    Call {
+        of: Boxed<Expr>,
+        regions: Items<RplTree>,
+        name: u32,
+        actuals: Items<Expr>,
+    },
+    New {
+        class: Named,
+        regions: Items<RplTree>,
+        actuals: Items<Expr>,
+    },
+    NewArray {
+        base: BaseTree,
+        suffixes: Items<Suffix>,
+        length: Boxed<Expr>,
+        rpl: Option<RplTree>,
+        index: Option<Named>,
+    },
+    Unary {
+        op: UnaryOp,
+        arg: Boxed<Expr>,
+    },
+    Binary {
+        op: BinaryOp,
+        left: Boxed<Expr>,
+        right: Boxed<Expr>,
+    },
+}
