@@ -43,8 +43,8 @@ impl From<AllocError> for ReadEnd {
 /// The most bytes that are asked for at once.
 const PIECE: usize = 4096;
 
-/// The bytes up to the end of input, of which there are at most `max`. No fill is offered more than 4096
-/// bytes, and all of them together at most `max + 1`.
+/// The bytes up to the end of input, of which there are at most `max`. Each fill is offered 4096 bytes, or
+/// what is left up to `max + 1` if that is less.
 pub fn read_all<S: Source>(alloc: Global, source: &mut S, max: usize) -> Result<Vec<u8>, ReadEnd>
     ensures bound { IfOk result (λ v. vec_len v ≤ max) }
     ensures all { IfOk result (λ v. IfSome (S.left source.old) (λ bytes. v.items ≡ bytes)) }
@@ -54,7 +54,7 @@ pub fn read_all<S: Source>(alloc: Global, source: &mut S, max: usize) -> Result<
     ensures too_long { result ≡ Err ReadEnd.TooLong → IfSome (S.left source.old) (λ bytes. max < length bytes) }
     ensures taken { result ≡ Err ReadEnd.TooLong → IfSome (S.left source.old) (λ bytes. S.left source.new ≡ Some (drop (max + 1) bytes)) }
 
-    // After any answer the source has lost at most that many of the first bytes that were left, and no others.
+    // After any answer, what is gone is a first part of at most `max + 1` bytes.
     ensures rest { IfSome (S.left source.old) (λ bytes. (n : ℕ) × (n ≤ max + 1) × (S.left source.new ≡ Some (drop n bytes))) }
 
     ensures fault { result ≡ Err ReadEnd.ReadFault → Rose (S.faults source.old) (S.faults source.new) }
