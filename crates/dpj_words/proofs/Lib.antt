@@ -1,3 +1,4 @@
 pub mod Prefixes
 pub mod Values
 pub mod Numbers
+pub mod Texts

@@ -1,5 +1,5 @@
 -- What `strip_prefix` says of a key's prefix.
-use Rattle.std.proofs.Common.{◌≡◌, ℕ, List, length, drop, Bool, true, false, cond, eqb, Option, Some, None, MatchOption, Bor, is_some, refl, sym, ap, ◌∙◌}
+use Rattle.std.proofs.Common.{◌≡◌, ℕ, List, length, drop, true, false, eqb, Option, Some, None, MatchOption, Bor, is_some, refl, sym, ap, ◌∙◌}
 use Rattle.std.specs.List.{starts_with}
 use Rattle.std.specs.Option.{option_map}
 use Rattle.std.specs.Str.Pattern.{FindsTextPrefix, StripsPrefix}

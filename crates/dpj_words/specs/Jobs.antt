@@ -1,10 +1,9 @@
 -- The job that a list of words gives.
-use Rattle.std.specs.Prelude.{ℕ, ℤ, pos, ◌≤◌, Bool, List, [], ◌∷◌, Option, Some, None, if◌then◌else◌}
+use Rattle.std.specs.Prelude.{ℕ, ℤ, pos, ◌≤◌, List, [], ◌∷◌, Option, Some, None, if◌then◌else◌}
 use Rattle.std.specs.List.{list_all}
 use Rattle.std.specs.Option.{option_and_then}
 use Rattle.dpj_words.specs.Words.{command_named, sets_key_of, values_for, number_in, arg_of, mode_of, is_carried_out}
 use Rattle.dpj_words.specs.declared.command.Command.{Command}
-use Rattle.dpj_words.specs.declared.key.Key.{Key}
 use Rattle.dpj_words.specs.declared.key.Key.TheVariants as key
 use Rattle.dpj_words.specs.declared.key.Mode.{Mode}
 use Rattle.dpj_words.specs.declared.key.Mode.TheVariants as mode
@@ -16,21 +15,27 @@ one_of meaning default [] = Some default
 one_of meaning default (value ∷ []) = meaning value
 one_of meaning default (first ∷ second ∷ others) = None
 
+-- how many threads work
 abbrev pub workers_of : List (List ℕ) → Option ℕ
 workers_of words = one_of (number_in 1 64) 4 (values_for key.Workers words)
 
+-- the most steps
 abbrev pub steps_of : List (List ℕ) → Option ℕ
 steps_of words = one_of (number_in 1 20000000) 5000000 (values_for key.Steps words)
 
+-- the most cells
 abbrev pub cells_of : List (List ℕ) → Option ℕ
 cells_of words = one_of (number_in 1 16777216) 1048576 (values_for key.Cells words)
 
+-- the argument of `main`
 abbrev pub argument_of : List (List ℕ) → Option ℤ
 argument_of words = one_of arg_of (pos 0) (values_for key.Arg words)
 
+-- how many classes a demo has
 abbrev pub classes_of : List (List ℕ) → Option ℕ
 classes_of words = one_of (number_in 1 200) 8 (values_for key.Number words)
 
+-- how the run is made
 abbrev pub made_by : List (List ℕ) → Option Mode
 made_by words = one_of mode_of mode.Steps (values_for key.Mode words)
 

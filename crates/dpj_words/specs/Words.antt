@@ -1,5 +1,5 @@
 -- The commands, their keys, and what a word gives to a key.
-use Rattle.std.specs.Prelude.{ℕ, ℤ, pos, neg_ℤ, Bool, true, false, ◌&&◌, List, [], ◌∷◌, ◌++◌, ◌==◌, length, drop, codes, Option, Some, None, if◌then◌else◌, nat_eq, nat_le, is_some}
+use Rattle.std.specs.Prelude.{ℕ, ℤ, pos, neg_ℤ, Bool, true, false, ◌&&◌, List, [], ◌∷◌, ◌++◌, length, drop, codes, Option, Some, None, if◌then◌else◌, nat_eq, nat_le, is_some}
 use Rattle.std.specs.List.{find, filter_map, starts_with, list_any}
 use Rattle.std.specs.Option.{option_map}
 use Rattle.std.specs.Str.{bytes_eq}

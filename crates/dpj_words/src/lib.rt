@@ -11,6 +11,7 @@
 mod command;
 mod job;
 mod key;
+mod laws;
 mod reports;
 mod setting;
 mod verdict;
@@ -18,6 +19,7 @@ mod verdict;
 pub use command::Command;
 pub use job::{Job, Usage, read_any, read_words};
 pub use key::{Key, Mode};
+pub use laws::law_values;
 pub use reports::{report, status};
 pub use verdict::{Status, Verdict};
 

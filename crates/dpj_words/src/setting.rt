@@ -18,7 +18,8 @@ pub fn number_set(
 ) -> Result<u64, Usage>
     requires default_least { least ≤ default }
     requires default_most { default ≤ most }
-    ensures given { result_ok result ≡ one_of (number_in least most) default (values_for key (map string_bytes settings.now)) }
+    ensures given { result_ok result
+        ≡ one_of (number_in least most) default (values_for key (map string_bytes settings.now)) }
     ensures at_least { IfOk result (λ n. least ≤ n) }
     ensures at_most { IfOk result (λ n. n ≤ most) }
 {
@@ -53,7 +54,8 @@ pub fn mode_set(settings: &[String]) -> Result<Mode, Usage>
 // The value that one of the words gives to a key, if any does; Usage where more than one does.
 fn value_set(settings: &[String], key: Key) -> Result<Option<&str>, Usage>
     ensures { MatchResult result
-        (λ value. values_for key (map string_bytes settings.now) ≡ option_to_list (option_map (λ text. text.now) value))
+        (λ value. values_for key (map string_bytes settings.now)
+        ≡ option_to_list (option_map (λ text. text.now) value))
         (λ _. 2 ≤ length (values_for key (map string_bytes settings.now))) }
 {
     let mut value = None;

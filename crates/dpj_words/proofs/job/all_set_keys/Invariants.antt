@@ -1,4 +1,4 @@
-use Rattle.std.proofs.Common.{◌≡◌, map, take, true}
+use Rattle.std.proofs.Common.{◌≡◌, take, true}
 use Rattle.std.specs.String.{string_bytes}
 use Rattle.std.specs.List.{list_all}
 use Rattle.dpj_words.specs.Words.{sets_key_of}

@@ -1,4 +1,4 @@
-use Rattle.std.proofs.Common.{◌+◌, map, take, is_some, sym, ap, ◌∙◌, arith}
+use Rattle.std.proofs.Common.{◌+◌, map, is_some, sym, ap, ◌∙◌, arith}
 use Rattle.std.specs.String.{string_bytes}
 use Rattle.std.proofs.lemmas.List.{take_all}
 use Rattle.dpj_words.specs.Words.{values_for}
