@@ -1,4 +1,5 @@
 pub mod Apart
+pub mod Effects
 pub mod Matching
 pub mod Regions
 pub mod Text

@@ -10,5 +10,7 @@
 
 mod apart;
 pub mod laws;
+#[cfg(test)]
+mod tests;
 
 pub use apart::{disjoint, dyn_disjoint};

@@ -11,5 +11,7 @@
 mod covers;
 pub mod laws;
 mod path;
+#[cfg(test)]
+mod tests;
 
 pub use path::{generalise, includes, is_full, subst};

@@ -1,0 +1,117 @@
+-- Covering and interference of effects, over inclusion and disjointness of their paths.
+use Rattle.std.proofs.Common.{◌≡◌, Bool, true, false, not, ◌&&◌, ◌||◌, List, [], ◌∷◌, refl, sym, ap, ◌∙◌, ⊎_elim}
+use Rattle.std.proofs.lemmas.Bool.{and_parts, and_from, and_left, and_right, or_cases, or_left, or_right, false≢true, not-true, not-false, cases_Bool, false_from_ne_true}
+use Rattle.dpj_base.specs.declared.effect.Effect.{Effect}
+use Rattle.dpj_base.specs.declared.effect.Constraint.{Constraint}
+use Rattle.dpj_base.specs.Regions.{within}
+use Rattle.dpj_base.specs.Apart.{apart}
+use Rattle.dpj_base.specs.Matching.{Env, IsEnv, MatchNoCommon}
+use Rattle.dpj_base.specs.Effects.{covers_effect, interferes, some_covers, set_covers}
+use Rattle.dpj_regions.proofs.Inclusion.{within-refl, within-trans}
+use Rattle.dpj_disjoint.proofs.Paths.{apart-within}
+use Rattle.dpj_disjoint.proofs.Envs.{apart_swap, no_common}
+
+implied : (a b : Bool) → (a || not b) ≡ true → b ≡ true → a ≡ true
+implied true b h k = refl
+implied false b h k = absurd (false≢true (sym (not-true b h) ∙ k))
+
+or_not_self : (b : Bool) → (b || not b) ≡ true
+or_not_self true = refl
+or_not_self false = refl
+
+not_or_self : (b : Bool) → (not b || b) ≡ true
+not_or_self true = refl
+not_or_self false = refl
+
+or_not-trans : (a b c : Bool) → (a || not b) ≡ true → (b || not c) ≡ true → (a || not c) ≡ true
+or_not-trans true b c h k = refl
+or_not-trans false true c h k = absurd (false≢true h)
+or_not-trans false false c h k = k
+
+not_or-trans : (a b c : Bool) → (not a || b) ≡ true → (not b || c) ≡ true → (not a || c) ≡ true
+not_or-trans false b c h k = refl
+not_or-trans true true c h k = k
+not_or-trans true false c h k = absurd (false≢true h)
+
+covers-within : (e c : Effect) → covers_effect e c ≡ true → within c.rpl e.rpl ≡ true
+unfolding covers_effect
+covers-within e c h = (and_parts (within c.rpl e.rpl) _ (and_parts (within c.rpl e.rpl && (e.write || not c.write)) _ h).0).0
+
+covers-writes : (e c : Effect) → covers_effect e c ≡ true → (e.write || not c.write) ≡ true
+unfolding covers_effect
+covers-writes e c h = (and_parts (within c.rpl e.rpl) _ (and_parts (within c.rpl e.rpl && (e.write || not c.write)) _ h).0).1
+
+covers-marks : (e c : Effect) → covers_effect e c ≡ true → (not e.atomic || c.atomic) ≡ true
+unfolding covers_effect
+covers-marks e c h = (and_parts (within c.rpl e.rpl && (e.write || not c.write)) _ h).1
+
+pub covers-refl : (e : Effect) → covers_effect e e ≡ true
+unfolding covers_effect
+covers-refl e = and_from _ _ (and_from _ _ (within-refl e.rpl) (or_not_self e.write)) (not_or_self e.atomic)
+
+pub covers-trans : (e f g : Effect) → covers_effect e f ≡ true → covers_effect f g ≡ true → covers_effect e g ≡ true
+unfolding covers_effect
+covers-trans e f g h k =
+    and_from _ _
+    (and_from _ _
+    (within-trans g.rpl f.rpl e.rpl (covers-within f g k) (covers-within e f h))
+    (or_not-trans e.write f.write g.write (covers-writes e f h) (covers-writes f g k)))
+    (not_or-trans e.atomic f.atomic g.atomic (covers-marks e f h) (covers-marks f g k))
+
+-- two effects, one of them a write, that don't interfere have paths that are apart
+quiet-apart : (given : List Constraint) (e f : Effect) → interferes given e f ≡ false → (e.write || f.write) ≡ true → apart given e.rpl f.rpl ≡ true
+unfolding interferes
+quiet-apart given e f h w = not-false _ (sym (ap (λ z. z && not (apart given e.rpl f.rpl)) w) ∙ h)
+
+pub covered_quiet : (given : List Constraint) (e f c d : Effect) → covers_effect e c ≡ true → covers_effect f d ≡ true → interferes given e f ≡ false → interferes given c d ≡ false
+unfolding interferes
+covered_quiet given e f c d h k q =
+    ⊎_elim
+    (λ w. let v = ⊎_elim (λ t. or_left e.write f.write (implied e.write c.write (covers-writes e c h) t)) (λ t. or_right e.write f.write (implied f.write d.write (covers-writes f d k) t)) (or_cases c.write d.write w) in
+    and_right (c.write || d.write) _ (ap not (apart-within given c.rpl e.rpl d.rpl f.rpl (covers-within e c h) (covers-within f d k) (quiet-apart given e f q v))))
+    (λ w. and_left _ _ w)
+    (cases_Bool (c.write || d.write))
+
+pub quiet_no_common : (given : List Constraint) (env : Env) → IsEnv given env → (e f : Effect) → interferes given e f ≡ false → (e.write || f.write) ≡ true → MatchNoCommon env e.rpl f.rpl
+quiet_no_common given env v e f q w = no_common given env v e.rpl f.rpl (quiet-apart given e f q w)
+
+pub interferes_swap : (given : List Constraint) (e f : Effect) → interferes given e f ≡ true → interferes given f e ≡ true
+unfolding interferes
+interferes_swap given e f h =
+    let p = and_parts (e.write || f.write) _ h in
+    and_from _ _
+    (⊎_elim (λ t. or_right f.write e.write t) (λ t. or_left f.write e.write t) (or_cases e.write f.write p.0))
+    (ap not (false_from_ne_true _ (λ t. false≢true (sym (not-true _ p.1) ∙ apart_swap given f.rpl e.rpl t))))
+
+some_covers-trans : (es : List Effect) (f g : Effect) → some_covers es f ≡ true → covers_effect f g ≡ true → some_covers es g ≡ true
+some_covers-trans [] f g h k = absurd (false≢true h)
+some_covers-trans (e ∷ es) f g h k =
+    ⊎_elim
+    (λ t. or_left _ _ (covers-trans e f g t k))
+    (λ t. or_right (covers_effect e g) _ (some_covers-trans es f g t k))
+    (or_cases (covers_effect e f) _ h)
+
+some_covers-through : (es fs : List Effect) (g : Effect) → set_covers es fs ≡ true → some_covers fs g ≡ true → some_covers es g ≡ true
+some_covers-through es [] g h k = absurd (false≢true k)
+some_covers-through es (f ∷ fs) g h k =
+    let p = and_parts (some_covers es f) _ h in
+    ⊎_elim
+    (λ t. some_covers-trans es f g p.0 t)
+    (λ t. some_covers-through es fs g p.1 t)
+    (or_cases (covers_effect f g) _ k)
+
+pub set_covers-trans : (es fs gs : List Effect) → set_covers es fs ≡ true → set_covers fs gs ≡ true → set_covers es gs ≡ true
+set_covers-trans es fs [] h k = refl
+set_covers-trans es fs (g ∷ gs) h k =
+    let p = and_parts (some_covers fs g) _ k in
+    and_from _ _ (some_covers-through es fs g h p.0) (set_covers-trans es fs gs h p.1)
+
+set_covers-more : (e : Effect) (es fs : List Effect) → set_covers es fs ≡ true → set_covers (e ∷ es) fs ≡ true
+set_covers-more e es [] h = refl
+set_covers-more e es (f ∷ fs) h =
+    let p = and_parts (some_covers es f) _ h in
+    and_from _ _ (or_right (covers_effect e f) _ p.0) (set_covers-more e es fs p.1)
+
+pub set_covers-refl : (es : List Effect) → set_covers es es ≡ true
+set_covers-refl [] = refl
+set_covers-refl (e ∷ es) = and_from _ _ (or_left _ _ (covers-refl e)) (set_covers-more e es es (set_covers-refl es))

@@ -1,0 +1,18 @@
+//! Laws of effects, each the clause of a function that does nothing.
+
+ghost use Rattle.dpj_effects.specs.Laws.{CoveredDoNotInterfere, NoInterferenceNoCommon, InterferenceIsSymmetric, CoveringIsReflexive, CoveringIsTransitive, SetCoversItself, SetCoversOn};
+
+/// Interference is sound over what paths mean, and goes along with covering.
+pub fn law_interference()
+    ensures covered { CoveredDoNotInterfere }
+    ensures no_common { NoInterferenceNoCommon }
+    ensures symmetric { InterferenceIsSymmetric }
+{}
+
+/// Covering is an order, of effects and of sets.
+pub fn law_covering()
+    ensures reflexive { CoveringIsReflexive }
+    ensures transitive { CoveringIsTransitive }
+    ensures set_reflexive { SetCoversItself }
+    ensures set_transitive { SetCoversOn }
+{}

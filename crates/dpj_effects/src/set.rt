@@ -1,0 +1,152 @@
+ghost use Rattle.std.specs.Prelude.{◌≡◌, ◌↔◌, [], true, false, length, IsTrue, IfOk, OnOk, OnErr};
+ghost use Rattle.dpj_base.specs.Effects.{same_effect, has_effect, some_covers, set_covers, added, gathered, all_marked, with_mark};
+
+use crate::effect::covers;
+use dpj_base::{Effect, Items, NoMemory, Plain};
+use std::alloc::Global;
+use std::marker::Model;
+
+/// Distinct effects, in the order in which they were added. A contract sees the list.
+#[derive(Debug, Drop)]
+pub struct EffectSet {
+    effects: Items<Effect>,
+}
+
+impl Model for EffectSet {
+    ghost use Rattle.std.specs.Prelude.{List, IsTrue};
+    ghost use Rattle.dpj_base.specs.Effects.{all_distinct};
+    ghost use Rattle.dpj_base.specs.declared.effect.Effect.{Effect};
+
+    ghost Value = { List Effect };
+
+    ghost view = { λ set. set.effects };
+
+    ghost invariant = { λ set. IsTrue (all_distinct set.effects) };
+}
+
+impl EffectSet {
+    /// No effects, which takes no memory.
+    pub fn new(alloc: Global) -> EffectSet
+        ensures { result ≡ [] }
+    {
+        EffectSet {
+            effects: Items::new(alloc),
+        }
+    }
+
+    pub fn as_slice(&self) -> &[Effect]
+        ensures { result.now ≡ self.now }
+    {
+        self.effects.as_slice()
+    }
+
+    pub fn len(&self) -> usize
+        ensures { result ≡ length self.now }
+    {
+        self.effects.len()
+    }
+
+    pub fn is_empty(&self) -> bool
+        ensures { IsTrue result ↔ (self.now ≡ []) }
+    {
+        self.effects.is_empty()
+    }
+
+    /// Puts the effect last, unless it is there already. After want of memory the set is as it was.
+    pub fn add(&mut self, e: Effect) -> Result<(), NoMemory>
+        ensures ok { OnOk result (self.new ≡ added self.old e) }
+        ensures err { OnErr result (self.new ≡ self.old) }
+    {
+        if has(self.effects.as_slice(), &e) {
+            return Ok(());
+        }
+        self.effects.push(e)?;
+        Ok(())
+    }
+
+    /// Whether each effect of the other set is covered by one of this. It takes no memory.
+    pub fn set_covers(&self, other: &EffectSet) -> bool
+        ensures { result ≡ set_covers self.now other.now }
+    {
+        for f in other.effects.as_slice() {
+            if !some_covers(self.effects.as_slice(), f) {
+                return false;
+            }
+        }
+        true
+    }
+
+    /// The same effects, each marked, each once and at its first place.
+    pub fn marked(&self, alloc: Global) -> Result<EffectSet, NoMemory>
+        ensures { IfOk result (λ set. set ≡ all_marked true self.now) }
+    {
+        with_marks(alloc, self.effects.as_slice(), true)
+    }
+
+    /// The same effects, each plain, each once and at its first place.
+    pub fn unmarked(&self, alloc: Global) -> Result<EffectSet, NoMemory>
+        ensures { IfOk result (λ set. set ≡ all_marked false self.now) }
+    {
+        with_marks(alloc, self.effects.as_slice(), false)
+    }
+}
+
+impl Plain for EffectSet {
+    fn copy(&self, alloc: Global) -> Result<EffectSet, NoMemory> {
+        Ok(EffectSet {
+            effects: self.effects.copy(alloc)?,
+        })
+    }
+
+    fn same(&self, other: &EffectSet) -> bool {
+        self.effects.same(&other.effects)
+    }
+}
+
+fn same_effect(e: &Effect, f: &Effect) -> bool
+    ensures { result ≡ same_effect e.now f.now }
+{
+    e.same(f)
+}
+
+fn has(effects: &[Effect], e: &Effect) -> bool
+    ensures { result ≡ has_effect effects.now e.now }
+{
+    for f in effects {
+        if same_effect(f, e) {
+            return true;
+        }
+    }
+    false
+}
+
+fn some_covers(effects: &[Effect], f: &Effect) -> bool
+    ensures { result ≡ some_covers effects.now f.now }
+{
+    for e in effects {
+        if covers(e, f) {
+            return true;
+        }
+    }
+    false
+}
+
+fn with_mark(alloc: Global, e: &Effect, mark: bool) -> Result<Effect, NoMemory>
+    ensures { IfOk result (λ made. made ≡ with_mark mark e.now) }
+{
+    Ok(Effect {
+        write: e.write,
+        atomic: mark,
+        rpl: e.rpl.copy(alloc)?,
+    })
+}
+
+fn with_marks(alloc: Global, effects: &[Effect], mark: bool) -> Result<EffectSet, NoMemory>
+    ensures { IfOk result (λ set. set ≡ all_marked mark effects.now) }
+{
+    let mut set = EffectSet::new(alloc);
+    for e in effects {
+        set.add(with_mark(alloc, e, mark)?)?;
+    }
+    Ok(set)
+}
