@@ -1,2 +1,3 @@
+pub mod Lexical
 pub mod Text
 pub mod formers
