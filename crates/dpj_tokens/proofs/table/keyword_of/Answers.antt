@@ -1,0 +1,10 @@
+use Rattle.std.proofs.Common.{arith, below_more}
+use Rattle.std.proofs.lemmas.Bool.{false≢true}
+use Rattle.dpj_tokens.proofs.Tables.{symbols-none, symbol-longest, keywords-none}
+use Rattle.dpj_tokens.proofs.table.keyword_of.Goals as goal
+
+pub loop-keyword-preserved : goal.loop-keyword-preserved
+loop-keyword-preserved c = below_more _ _ c.loop-keyword.invariant (λ e. false≢true (c.if-spells.ensures.1 e))
+
+pub returns-clause-none : goal.returns-clause-none
+returns-clause-none c = keywords-none _ c.loop-keyword.keyword-index (omega arith) c.loop-keyword.invariant

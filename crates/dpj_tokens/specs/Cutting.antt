@@ -1,0 +1,51 @@
+-- A whole text, cut into its tokens, or its first fault.
+use Rattle.std.specs.Prelude.{◌≡◌, ◌+◌, ℕ, List, [], ◌∷◌, ◌++◌, length, take, Option, Some, None}
+use Rattle.std.specs.List.{flat_map}
+use Rattle.dpj_base.specs.declared.place.Place.{Place}
+use Rattle.dpj_base.specs.declared.refusal.Refusal.{Refusal}
+use Rattle.dpj_tokens.specs.declared.token.Token.{Token}
+use Rattle.dpj_tokens.specs.declared.token.TokenKind.{TokenKind}
+use Rattle.dpj_tokens.specs.Fault.{IsFault}
+use Rattle.dpj_tokens.specs.Piece.{IsPiece}
+use Rattle.dpj_tokens.specs.Place.{place_behind}
+
+-- pieces in a row, each with its bytes
+abbrev pub Pieces : Type 0
+Pieces = List (Option TokenKind × List ℕ)
+
+abbrev pub text_of : Pieces → List ℕ
+text_of [] = []
+text_of ((kind, text) ∷ pieces) = text ++ text_of pieces
+
+-- each stands in front of the pieces behind it and of what is left
+abbrev pub StandBefore : List ℕ → Pieces → Type 0
+StandBefore left [] = Unit {0}
+StandBefore left ((kind, text) ∷ pieces) = IsPiece kind text (text_of pieces ++ left) × StandBefore left pieces
+
+-- the token of a piece that begins at an offset and a place, with its length
+abbrev pub token_at : ℕ → ℕ → Place → Option TokenKind → List Token
+token_at from len place None = []
+token_at from len place (Some kind) = record { kind = kind; from = from; to = from + len; place = place } ∷ []
+
+-- the tokens among pieces that stand behind these bytes
+abbrev pub tokens_of : List ℕ → Pieces → List Token
+tokens_of front [] = []
+tokens_of front ((kind, text) ∷ pieces) = token_at (length front) (length text) (place_behind front) kind ++ tokens_of (front ++ text) pieces
+
+-- the text is pieces in a row, these are the tokens among them, and this is where it ends
+pub record Cuts (bytes : List ℕ) (tokens : List Token) (end : Place) : Type 0 where
+  pub pieces : Pieces
+  pub whole : bytes ≡ text_of pieces
+  pub each : StandBefore [] pieces
+  pub told : tokens ≡ tokens_of [] pieces
+  pub ends : end ≡ place_behind bytes
+
+-- the text is pieces in a row and then a fault
+pub record FaultsAt (bytes : List ℕ) (refusal : Refusal) : Type 0 where
+  pub pieces : Pieces
+  pub left : List ℕ
+  pub at : ℕ
+  pub whole : bytes ≡ text_of pieces ++ left
+  pub each : StandBefore left pieces
+  pub fault : IsFault refusal.kind left at
+  pub placed : refusal.place ≡ place_behind (text_of pieces ++ take at left)
