@@ -10,6 +10,8 @@
 mod effect;
 pub mod laws;
 mod set;
+#[cfg(test)]
+mod tests;
 
 pub use effect::{covers, interferes};
 pub use set::EffectSet;
