@@ -1,7 +1,10 @@
 pub mod Comments
 pub mod Faults
 pub mod Found
+pub mod Fronts
+pub mod OneCutting
 pub mod Runs
 pub mod Steps
 pub mod Tables
 pub mod Texts
+pub mod Unique

@@ -49,3 +49,9 @@ pub record FaultsAt (bytes : List ℕ) (refusal : Refusal) : Type 0 where
   pub each : StandBefore left pieces
   pub fault : IsFault refusal.kind left at
   pub placed : refusal.place ≡ place_behind (text_of pieces ++ take at left)
+
+-- a text is cut in one way, or has one fault, and never both
+pub record OneCutting : Type 0 where
+  pub tokens : (bytes : List ℕ) (some others : List Token) (end other : Place) → Cuts bytes some end → Cuts bytes others other → (some ≡ others) × (end ≡ other)
+  pub faults : (bytes : List ℕ) (one other : Refusal) → FaultsAt bytes one → FaultsAt bytes other → one ≡ other
+  pub either : (bytes : List ℕ) (tokens : List Token) (end : Place) (refusal : Refusal) → Cuts bytes tokens end → FaultsAt bytes refusal → ⊥

@@ -1,6 +1,6 @@
 ghost use Rattle.std.specs.Prelude.{◌≡◌, ◌≤◌, ◌<◌, ◌+◌, ◌^◌, ◌++◌, length, take, IfOk, IfErr, OnOk};
 ghost use Rattle.std.specs.List.{fold};
-ghost use Rattle.dpj_tokens.specs.Cutting.{Cuts, FaultsAt, token_at};
+ghost use Rattle.dpj_tokens.specs.Cutting.{Cuts, FaultsAt, OneCutting, token_at};
 ghost use Rattle.dpj_tokens.specs.Place.{next_place};
 ghost use Rattle.dpj_tokens.specs.Reading.{IfRefused};
 
@@ -85,3 +85,8 @@ fn behind(place: Place, bytes: &[u8]) -> Place
     }
     place
 }
+
+/// A text has one list of tokens and one end, or one first fault, and never both.
+pub fn one_cutting()
+    ensures { OneCutting }
+{}

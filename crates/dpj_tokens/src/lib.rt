@@ -15,7 +15,7 @@ mod piece;
 mod table;
 mod token;
 
-pub use cut::tokens;
+pub use cut::{one_cutting, tokens};
 pub use token::{Keyword, Symbol, Token, TokenKind, Tokens};
 
 #[cfg(test)]
