@@ -1,6 +1,8 @@
 pub mod Apart
 pub mod Effects
 pub mod Matching
+pub mod Pairs
+pub mod Parts
 pub mod Regions
 pub mod Lexical
 pub mod Text
