@@ -1,4 +1,5 @@
 pub mod Apart
+pub mod Branches
 pub mod Effects
 pub mod Matching
 pub mod Pairs
