@@ -1,6 +1,9 @@
 pub mod Apart
+pub mod Branches
 pub mod Effects
 pub mod Matching
+pub mod Pairs
+pub mod Parts
 pub mod Regions
 pub mod Lexical
 pub mod Text

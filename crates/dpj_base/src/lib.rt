@@ -9,6 +9,7 @@
 //! values, and both hold on types that reach themselves. A failed growth leaves a container as it was.
 #![tactic(auto)]
 
+mod array_part;
 mod boxed;
 mod bytes;
 mod effect;
@@ -16,6 +17,7 @@ mod elems;
 mod items;
 mod memory;
 mod outcome;
+mod parting;
 mod path;
 mod place;
 mod plain;
@@ -24,6 +26,7 @@ mod region;
 mod ty;
 mod value;
 
+pub use array_part::{Part, PartUse};
 pub use boxed::Boxed;
 pub use bytes::Bytes;
 pub use effect::{Constraint, Effect};
@@ -31,6 +34,7 @@ pub use elems::{Elem, Elems};
 pub use items::Items;
 pub use memory::NoMemory;
 pub use outcome::{Ending, Limits, Outcome};
+pub use parting::{law_parts, part};
 pub use path::{Path, PathStep};
 pub use place::Place;
 pub use plain::Plain;

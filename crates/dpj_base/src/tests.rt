@@ -66,3 +66,13 @@ fn containers_give_back_what_they_took(rt: HostRuntime) -> Result<(), Fail> {
     assert_eq!(rt; bytes.into_vec().as_slice(), b"one two".as_slice());
     Ok(())
 }
+
+#[test]
+fn ten_places_in_four_parts(rt: HostRuntime) -> Result<(), Fail> {
+    let cut = [(0u32, 2u32), (2, 3), (5, 2), (7, 3)];
+    for (k, (from, len)) in cut.into_iter().enumerate() {
+        assert_eq!(rt; part(10, 4, k as u32), Part { from, len });
+    }
+    assert_eq!(rt; part(2, 2147483647, 2147483646), Part { from: 1, len: 1 });
+    Ok(())
+}

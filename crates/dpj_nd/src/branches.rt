@@ -1,0 +1,99 @@
+ghost use Rattle.std.specs.Prelude.{◌≡◌, ◌<◌, length, not, IsTrue, IfOk};
+ghost use Rattle.dpj_base.specs.Pairs.{FirstPair, FirstBehind};
+ghost use Rattle.dpj_base.specs.Branches.{some_interferes_nd, lists_interfere_nd, turns_interfere_nd};
+
+use crate::atomic::interferes_nd;
+use dpj_base::{Constraint, Effect, NoMemory};
+use dpj_effects::EffectSet;
+use dpj_interfere::renamed_all;
+use std::alloc::Global;
+
+/// The first two branches, in their order, of which an effect of one interferes for nd with an effect of the
+/// other. `names` and `params` say which region names and parameters are declared atomic.
+pub fn check_cobegin_nd(
+    branches: &[EffectSet],
+    given: &[Constraint],
+    names: &[bool],
+    params: &[bool],
+) -> Option<(u32, u32)>
+    requires { length branches.now < 4294967296 }
+    ensures { FirstPair (λ es fs. IsTrue (lists_interfere_nd given.now names.now params.now es fs)) branches.now result }
+{
+    for i in 0..branches.len() {
+        if let Some(j) = interferes_behind(branches, given, names, params, i) {
+            return Some((i as u32, j as u32));
+        }
+    }
+    None
+}
+
+/// The first branch behind this one that interferes with it.
+fn interferes_behind(
+    branches: &[EffectSet],
+    given: &[Constraint],
+    names: &[bool],
+    params: &[bool],
+    i: usize,
+) -> Option<usize>
+    requires { i < length branches.now }
+    ensures { FirstBehind (λ es fs. IsTrue (lists_interfere_nd given.now names.now params.now es fs)) branches.now i result }
+{
+    for j in i + 1..branches.len() {
+        let branch = branches[i].as_slice();
+        if lists_interfere(branch, branches[j].as_slice(), given, names, params) {
+            return Some(j);
+        }
+    }
+    None
+}
+
+/// Whether no effect of the body of a `foreach_nd` interferes for nd with an effect of another turn of it.
+pub fn check_foreach_nd(
+    alloc: Global,
+    body: &EffectSet,
+    var: u32,
+    given: &[Constraint],
+    names: &[bool],
+    params: &[bool],
+) -> Result<bool, NoMemory>
+    requires { var < 2147483648 }
+    ensures { IfOk result (λ passed. passed ≡ not (turns_interfere_nd given.now names.now params.now var body.now)) }
+{
+    let other_turn = renamed_all(alloc, body.as_slice(), var)?;
+    let met = lists_interfere(body.as_slice(), other_turn.as_slice(), given, names, params);
+    Ok(!met)
+}
+
+fn lists_interfere(
+    effects: &[Effect],
+    others: &[Effect],
+    given: &[Constraint],
+    names: &[bool],
+    params: &[bool],
+) -> bool
+    ensures { result ≡ lists_interfere_nd given.now names.now params.now effects.now others.now }
+{
+    for e in effects {
+        if some_interferes(e, others, given, names, params) {
+            return true;
+        }
+    }
+    false
+}
+
+fn some_interferes(
+    e: &Effect,
+    others: &[Effect],
+    given: &[Constraint],
+    names: &[bool],
+    params: &[bool],
+) -> bool
+    ensures { result ≡ some_interferes_nd given.now names.now params.now e.now others.now }
+{
+    for f in others {
+        if interferes_nd(e, f, given, names, params) {
+            return true;
+        }
+    }
+    false
+}
