@@ -6,5 +6,6 @@ pub mod Pairs
 pub mod Parts
 pub mod Regions
 pub mod Lexical
+pub mod Refused
 pub mod Text
 pub mod formers

@@ -1,6 +1,6 @@
 -- Comments, by where they end.
 use Rattle.std.proofs.Common.{◌≡◌, ◌<◌, ◌≤◌, ◌+◌, ℕ, suc, List, [], ◌∷◌, ◌++◌, length, take, drop, get_or, sym, subst, refl, ap, ◌∙◌, arith, inl, inr, append_assoc}
-use Rattle.std.proofs.lemmas.List.{take_more, take-append-drop, length-take-le, get_or-take}
+use Rattle.std.proofs.lemmas.List.{take_more, length-take-le, get_or-take}
 use Rattle.std.specs.List.{prefix_len}
 use Rattle.dpj_tokens.specs.Piece.{ClosesAt, IsComment, is_no_line_feed}
 use Rattle.dpj_tokens.proofs.Runs.{run-prefix_len}

@@ -1,8 +1,8 @@
 -- Pieces, each from what the code finds.
-use Rattle.std.proofs.Common.{◌≡◌, ◌≢◌, ◌<◌, ◌≤◌, ◌+◌, ◌-◌, ◌*◌, ℕ, zero, suc, true, false, nat_eq, List, [], ◌∷◌, ◌++◌, length, take, drop, get_or, sym, subst, refl, ap, ◌∙◌, arith, Some, None, IsUtf8}
-use Rattle.std.specs.List.{prefix_len, slice_get, Contains, starts_with, fold}
+use Rattle.std.proofs.Common.{◌≡◌, ◌<◌, ◌≤◌, ◌+◌, ◌-◌, ◌*◌, ℕ, suc, true, List, [], ◌∷◌, ◌++◌, length, take, drop, get_or, sym, subst, refl, ap, ◌∙◌, arith, Some, IsUtf8}
+use Rattle.std.specs.List.{prefix_len, slice_get, Contains, fold}
 use Rattle.std.proofs.Math.Seq.{take-append-add}
-use Rattle.std.proofs.lemmas.List.{take-append-drop, length-append, at_drop_more}
+use Rattle.std.proofs.lemmas.List.{length-append, at_drop_more}
 use Rattle.std.proofs.lemmas.List.Sums.{prefix_len-le-length}
 use Rattle.dpj_base.specs.Lexical.{is_letter, is_digit, is_name_byte, keywords, decimal_value}
 use Rattle.dpj_tokens.specs.declared.token.TokenKind.TheVariants as kind

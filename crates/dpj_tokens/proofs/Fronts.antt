@@ -1,13 +1,11 @@
 -- Each piece and each fault is the answer for its bytes.
-use Rattle.std.proofs.Common.{◌≡◌, ◌≢◌, ◌<◌, ◌≤◌, ◌+◌, ◌⊎◌, ◌==◌, ◌||◌, ◌&&◌, ℕ, suc, Bool, true, false, not, cond, nat_eq, nat_le, List, [], ◌∷◌, ◌++◌, length, take, drop, get_or, slice_index, Option, Some, None, IsUtf8, sym, subst, refl, ap, ◌∙◌, arith, inl, inr, append_assoc, lit<}
-use Rattle.std.specs.List.{AllByRecursion, Contains, starts_with, list_all}
-use Rattle.std.specs.Str.Lossy.{utf8_valid_len}
+use Rattle.std.proofs.Common.{◌≡◌, ◌<◌, ◌+◌, ◌⊎◌, ◌==◌, ◌||◌, ◌&&◌, ℕ, Bool, true, false, nat_eq, List, [], ◌∷◌, ◌++◌, length, take, get_or, Option, Some, None, IsUtf8, sym, subst, refl, ap, ◌∙◌, arith, inl, inr, append_assoc}
+use Rattle.std.specs.List.{AllByRecursion, starts_with, list_all}
 use Rattle.std.proofs.lemmas.Bool.{false≢true, eqb-true, ne_eqb}
 use Rattle.std.proofs.lemmas.Bool.Decides.{nat_tests, Decides-eqb}
 use Rattle.std.proofs.lemmas.Slice.Eq.{starts_is}
 use Rattle.std.proofs.lemmas.List.{length-append, get_or_append_left, get_or_at, get_or-append-add, take_at, append-nil}
-use Rattle.dpj_base.specs.Lexical.{is_blank, is_letter, is_digit, is_name_byte, keywords, IsWord, decimal_value}
-use Rattle.dpj_base.specs.declared.refusal.Kind.{Kind}
+use Rattle.dpj_base.specs.Lexical.{is_blank, is_letter, is_digit, is_name_byte}
 use Rattle.dpj_tokens.specs.declared.token.TokenKind.{TokenKind}
 use Rattle.dpj_tokens.specs.declared.token.TokenKind.TheVariants as tokens
 use Rattle.dpj_tokens.specs.declared.token.Symbol.{Symbol}
@@ -15,9 +13,9 @@ use Rattle.dpj_tokens.specs.declared.token.Symbol.TheVariants as symbol
 use Rattle.dpj_tokens.specs.declared.token.Keyword.{Keyword}
 use Rattle.dpj_tokens.specs.declared.token.Keyword.TheVariants as keyword
 use Rattle.dpj_tokens.specs.Spelling.{symbol_text, keyword_text}
-use Rattle.dpj_tokens.specs.Piece.{StopsAt, IsRun, is_no_line_feed, ClosesAt, IsComment, BeginsComment, is_escape, is_plain, IsInside, HasLeadingZero, IsLongestSymbol, IsToken, IsPiece}
-use Rattle.dpj_tokens.specs.Fault.{BeginsNothing, IsBadInText, EndsInside, Cause, no_piece, bad_int, open_comment, byte_in_comment, byte_in_text, bad_in_text, open_text, kind_of, IsCause, IsFault}
-use Rattle.dpj_tokens.proofs.Unique.{Class, at_end, at_blank, at_word, at_digits, at_text, at_line, at_block, at_mark, class_of, class_after_slash, Answer, piece, fault, ClosesFirst, CommentAnswer, Body, Front}
+use Rattle.dpj_tokens.specs.Piece.{IsRun, ClosesAt, IsComment, BeginsComment, IsLongestSymbol, IsPiece}
+use Rattle.dpj_tokens.specs.Fault.{BeginsNothing, Cause, no_piece, bad_int, open_comment, byte_in_comment, byte_in_text, bad_in_text, open_text, kind_of, IsCause}
+use Rattle.dpj_tokens.proofs.Unique.{at_blank, at_word, at_digits, at_text, at_line, at_block, at_mark, class_of, class_after_slash, Answer, piece, fault, CommentAnswer, Front}
 
 digit-no_letter : (b : ℕ) → is_digit b ≡ true → is_letter b ≡ false
 unfolding is_letter is_digit

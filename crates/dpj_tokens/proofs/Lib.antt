@@ -4,6 +4,7 @@ pub mod Found
 pub mod Fronts
 pub mod OneCutting
 pub mod Runs
+pub mod Spans
 pub mod Steps
 pub mod Tables
 pub mod Texts

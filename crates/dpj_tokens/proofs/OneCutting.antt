@@ -1,5 +1,5 @@
 -- A text is cut in one way at most.
-use Rattle.std.proofs.Common.{◌≡◌, ◌≢◌, ◌<◌, ◌≤◌, ◌+◌, ◌⊎◌, ℕ, List, [], ◌∷◌, ◌++◌, length, take, Option, Some, None, sym, subst, refl, ap, ◌∙◌, inl, inr, append_assoc}
+use Rattle.std.proofs.Common.{◌≡◌, ◌⊎◌, ℕ, List, [], ◌∷◌, ◌++◌, length, take, Option, sym, subst, refl, ap, ◌∙◌, inl, inr, append_assoc}
 use Rattle.std.proofs.lemmas.List.{append-nil, append_cancel_left, take_at}
 use Rattle.dpj_base.specs.declared.place.Place.{Place}
 use Rattle.dpj_base.specs.declared.refusal.Kind.{Kind}
@@ -7,7 +7,7 @@ use Rattle.dpj_base.specs.declared.refusal.Refusal.{Refusal}
 use Rattle.dpj_tokens.specs.declared.token.Token.{Token}
 use Rattle.dpj_tokens.specs.declared.token.TokenKind.{TokenKind}
 use Rattle.dpj_tokens.specs.Cutting.{Pieces, text_of, StandBefore, tokens_of, Cuts, FaultsAt}
-use Rattle.dpj_tokens.specs.Fault.{Cause, IsCause, IsFault}
+use Rattle.dpj_tokens.specs.Fault.{IsFault}
 use Rattle.dpj_tokens.specs.Piece.{IsPiece}
 use Rattle.dpj_tokens.specs.Place.{place_behind}
 use Rattle.dpj_tokens.proofs.Fronts.{piece-front, cause-front}

@@ -1,8 +1,8 @@
 -- Runs of bytes of one kind.
-use Rattle.std.proofs.Common.{◌≡◌, ◌<◌, ◌≤◌, ◌+◌, ℕ, zero, suc, Bool, true, false, cond, List, [], ◌∷◌, length, take, drop, get_or, sym, subst, refl, ap, arith}
-use Rattle.std.specs.List.{prefix_len, AllByRecursion}
-use Rattle.dpj_base.specs.Lexical.{is_letter, is_digit, is_name_byte, IsWord}
-use Rattle.dpj_tokens.specs.Piece.{StopsAt, IsRun}
+use Rattle.std.proofs.Common.{◌≡◌, ◌<◌, ◌+◌, ℕ, zero, suc, Bool, true, false, cond, List, [], ◌∷◌, take, drop, get_or, subst, refl, arith}
+use Rattle.std.specs.List.{prefix_len}
+use Rattle.dpj_base.specs.Lexical.{is_letter, is_name_byte, IsWord}
+use Rattle.dpj_tokens.specs.Piece.{IsRun}
 
 -- a byte that passes or doesn't, before a run
 run-cons : (is : ℕ → Bool) (b : ℕ) (bs : List ℕ) (n : ℕ) (v : Bool) → is b ≡ v → IsRun is (take n bs) (drop n bs) → IsRun is (take (cond v (1 + n) 0) (b ∷ bs)) (drop (cond v (1 + n) 0) (b ∷ bs))

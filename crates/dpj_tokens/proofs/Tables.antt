@@ -1,9 +1,9 @@
 -- The tables of symbols and keywords have all of them.
-use Rattle.std.proofs.Common.{◌≡◌, ◌≢◌, ◌<◌, ◌≤◌, ◌+◌, ℕ, Bool, true, false, nat_eq, ltb, cond, List, [], ◌∷◌, ◌++◌, length, map, get_or, sym, subst, refl, ap, ◌∙◌, arith, lit<, zero-add, inl, inr}
+use Rattle.std.proofs.Common.{◌≡◌, ◌≢◌, ◌<◌, ◌≤◌, ℕ, false, nat_eq, ltb, cond, List, length, map, get_or, sym, subst, refl, ap, ◌∙◌, arith, lit<, zero-add, inl, inr}
 use Rattle.std.proofs.lemmas.Bool.{cases_lt, false≢true}
 use Rattle.std.proofs.lemmas.Bool.Decides.{nat_tests}
 use Rattle.std.proofs.lemmas.List.FromFn.{get_or-range_with_len}
-use Rattle.std.specs.List.{starts_with, Contains, range_with_len}
+use Rattle.std.specs.List.{starts_with, Contains}
 use Rattle.std.proofs.lemmas.List.{get_or-map}
 use Rattle.dpj_base.specs.Lexical.{keywords}
 use Rattle.dpj_tokens.specs.Piece.{IsLongestSymbol}
@@ -11,7 +11,6 @@ use Rattle.dpj_tokens.specs.Spelling.{symbol_text, keyword_text}
 use Rattle.dpj_tokens.specs.declared.table.TheConstants.{SYMBOLS, KEYWORDS}
 use Rattle.dpj_tokens.specs.declared.token.Symbol.{Symbol}
 use Rattle.dpj_tokens.specs.declared.token.Symbol.TheVariants as symbol
-use Rattle.dpj_tokens.specs.declared.token.Keyword.{Keyword}
 use Rattle.dpj_tokens.specs.declared.token.Keyword.TheVariants as keyword
 
 -- where a symbol stands in its table

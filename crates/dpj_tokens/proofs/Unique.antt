@@ -1,14 +1,14 @@
 -- What the bytes begin with is one thing alone.
-use Rattle.std.proofs.Common.{◌≡◌, ◌≢◌, ◌<◌, ◌≤◌, ◌+◌, ◌⊎◌, ◌==◌, ◌||◌, ℕ, suc, Bool, true, false, not, cond, nat_eq, List, [], ◌∷◌, ◌++◌, length, take, drop, get_or, slice_index, Option, Some, None, IsUtf8, sym, subst, refl, ap, ◌∙◌, arith, inl, inr, append_assoc, lit<}
-use Rattle.std.specs.List.{AllByRecursion, Contains, starts_with, list_all, find}
+use Rattle.std.proofs.Common.{◌≡◌, ◌<◌, ◌≤◌, ◌+◌, ◌⊎◌, ◌==◌, ℕ, Bool, true, false, cond, nat_eq, List, [], ◌∷◌, ◌++◌, length, take, drop, Option, Some, None, IsUtf8, sym, subst, refl, ap, ◌∙◌, arith, inl, inr, lit<}
+use Rattle.std.specs.List.{Contains, starts_with, find}
 use Rattle.std.specs.Option.{unwrap_or}
 use Rattle.std.specs.Str.{bytes_eq}
 use Rattle.std.specs.Str.Lossy.{utf8_valid_len}
-use Rattle.std.proofs.lemmas.Bool.{cases_lt, false≢true, eqb-true}
-use Rattle.std.proofs.lemmas.Bool.Decides.{nat_tests, Decides-eqb}
+use Rattle.std.proofs.lemmas.Bool.{cases_lt, false≢true}
+use Rattle.std.proofs.lemmas.Bool.Decides.{Decides-eqb}
 use Rattle.std.proofs.lemmas.Slice.Eq.{starts_is}
-use Rattle.std.proofs.lemmas.List.{length-append, get_or_append_left, get_or_at, get_or-append-add, take_at, append_cancel_left}
-use Rattle.dpj_base.specs.Lexical.{is_blank, is_letter, is_digit, is_name_byte, keywords, IsWord, decimal_value}
+use Rattle.std.proofs.lemmas.List.{take_at, append_cancel_left}
+use Rattle.dpj_base.specs.Lexical.{is_blank, is_letter, is_digit, is_name_byte, keywords, decimal_value}
 use Rattle.dpj_base.specs.declared.refusal.Kind.{Kind}
 use Rattle.dpj_base.specs.declared.refusal.Kind.TheVariants as kinds
 use Rattle.dpj_tokens.specs.declared.table.TheConstants.{SYMBOLS, KEYWORDS}
@@ -19,8 +19,8 @@ use Rattle.dpj_tokens.specs.declared.token.Symbol.TheVariants as symbol
 use Rattle.dpj_tokens.specs.declared.token.Keyword.{Keyword}
 use Rattle.dpj_tokens.specs.declared.token.Keyword.TheVariants as keyword
 use Rattle.dpj_tokens.specs.Spelling.{symbol_text, keyword_text}
-use Rattle.dpj_tokens.specs.Piece.{StopsAt, IsRun, is_no_line_feed, ClosesAt, BeginsComment, is_escape, is_plain, IsInside, nothing, plain, escape, HasLeadingZero, IsLongestSymbol, IsToken, IsPiece}
-use Rattle.dpj_tokens.specs.Fault.{IsBadInText, EndsInside, Cause, no_piece, bad_int, open_comment, byte_in_comment, byte_in_text, bad_in_text, open_text, kind_of, IsCause, IsFault}
+use Rattle.dpj_tokens.specs.Piece.{StopsAt, IsRun, is_no_line_feed, ClosesAt, is_escape, is_plain, IsInside, nothing, plain, escape, HasLeadingZero, IsLongestSymbol}
+use Rattle.dpj_tokens.specs.Fault.{IsBadInText, EndsInside}
 
 -- what the first two bytes decide
 pub data Class : Type 0 where

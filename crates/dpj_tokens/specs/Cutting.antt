@@ -1,18 +1,18 @@
 -- A whole text, cut into its tokens, or its first fault.
-use Rattle.std.specs.Prelude.{◌≡◌, ◌+◌, ℕ, List, [], ◌∷◌, ◌++◌, length, take, Option, Some, None}
-use Rattle.std.specs.List.{flat_map}
+use Rattle.std.specs.Prelude.{◌≡◌, ◌<◌, ◌≤◌, ◌+◌, ℕ, List, [], ◌∷◌, ◌++◌, length, take, drop, slice_range, Option, Some, None}
 use Rattle.dpj_base.specs.declared.place.Place.{Place}
 use Rattle.dpj_base.specs.declared.refusal.Refusal.{Refusal}
 use Rattle.dpj_tokens.specs.declared.token.Token.{Token}
 use Rattle.dpj_tokens.specs.declared.token.TokenKind.{TokenKind}
 use Rattle.dpj_tokens.specs.Fault.{IsFault}
-use Rattle.dpj_tokens.specs.Piece.{IsPiece}
+use Rattle.dpj_tokens.specs.Piece.{IsToken, IsPiece}
 use Rattle.dpj_tokens.specs.Place.{place_behind}
 
 -- pieces in a row, each with its bytes
 abbrev pub Pieces : Type 0
 Pieces = List (Option TokenKind × List ℕ)
 
+-- the bytes of all of them
 abbrev pub text_of : Pieces → List ℕ
 text_of [] = []
 text_of ((kind, text) ∷ pieces) = text ++ text_of pieces
@@ -55,3 +55,15 @@ pub record OneCutting : Type 0 where
   pub tokens : (bytes : List ℕ) (some others : List Token) (end other : Place) → Cuts bytes some end → Cuts bytes others other → (some ≡ others) × (end ≡ other)
   pub faults : (bytes : List ℕ) (one other : Refusal) → FaultsAt bytes one → FaultsAt bytes other → one ≡ other
   pub either : (bytes : List ℕ) (tokens : List Token) (end : Place) (refusal : Refusal) → Cuts bytes tokens end → FaultsAt bytes refusal → ⊥
+
+-- the token is what stands at its span
+pub record Stands (bytes : List ℕ) (token : Token) : Type 0 where
+  pub some : token.from < token.to
+  pub within : token.to ≤ length bytes
+  pub is : IsToken token.kind (slice_range bytes token.from token.to) (drop token.to bytes)
+  pub placed : token.place ≡ place_behind (take token.from bytes)
+
+-- each stands in the text, from an offset on, and none before the end of the one in front of it
+abbrev pub StandInOrder : List ℕ → ℕ → List Token → Type 0
+StandInOrder bytes from [] = Unit {0}
+StandInOrder bytes from (token ∷ tokens) = (from ≤ token.from) × Stands bytes token × StandInOrder bytes token.to tokens

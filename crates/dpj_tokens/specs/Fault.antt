@@ -1,5 +1,5 @@
 -- Where no piece stands: the causes, and their places.
-use Rattle.std.specs.Prelude.{◌≡◌, ◌≢◌, ◌<◌, ◌+◌, ◌⊎◌, ℕ, true, false, List, [], ◌∷◌, ◌++◌, length, nat_eq, IsUtf8}
+use Rattle.std.specs.Prelude.{◌≡◌, ◌≢◌, ◌<◌, ◌+◌, ◌⊎◌, ℕ, false, List, [], ◌∷◌, ◌++◌, length, nat_eq, IsUtf8}
 use Rattle.std.specs.List.{starts_with}
 use Rattle.std.specs.Str.Lossy.{utf8_valid_len}
 use Rattle.dpj_base.specs.Lexical.{is_blank, is_letter, is_digit, decimal_value}
@@ -24,6 +24,7 @@ abbrev pub EndsInside : List ℕ → Type 0
 EndsInside [] = Unit {0}
 EndsInside (b ∷ bs) = (b ≡ 34) ⊎ IsBadInText (b ∷ bs)
 
+-- why no piece stands there
 pub data Cause : Type 0 where
   no_piece : Cause
   bad_int : Cause
@@ -33,6 +34,7 @@ pub data Cause : Type 0 where
   bad_in_text : Cause
   open_text : Cause
 
+-- the refusal that a cause is told as
 abbrev pub kind_of : Cause → Kind
 kind_of bad_int = kind.Number
 kind_of no_piece = kind.Syntax

@@ -1,5 +1,5 @@
 -- What a text is made of: blanks, comments and tokens, each with the bytes behind it.
-use Rattle.std.specs.Prelude.{◌≡◌, ◌≢◌, ◌<◌, ◌≤◌, ◌+◌, ◌⊎◌, ◌==◌, ◌||◌, ℕ, Bool, true, false, not, List, [], ◌∷◌, ◌++◌, length, nat_eq, slice_index, Option, Some, None, IsUtf8}
+use Rattle.std.specs.Prelude.{◌≡◌, ◌<◌, ◌≤◌, ◌+◌, ◌⊎◌, ◌==◌, ◌||◌, ℕ, Bool, true, false, not, List, [], ◌∷◌, ◌++◌, length, nat_eq, slice_index, Option, Some, None, IsUtf8}
 use Rattle.std.specs.List.{AllByRecursion, starts_with}
 use Rattle.dpj_base.specs.Lexical.{is_blank, is_digit, is_name_byte, IsName, decimal_value}
 use Rattle.dpj_tokens.specs.declared.token.TokenKind.{TokenKind}
@@ -16,6 +16,7 @@ StopsAt is (b ∷ bs) = is b ≡ false
 abbrev pub IsRun : (ℕ → Bool) → List ℕ → List ℕ → Type 0
 IsRun is text rest = AllByRecursion (λ b. is b ≡ true) text × StopsAt is rest
 
+-- what a `//` comment goes on with
 abbrev pub is_no_line_feed : ℕ → Bool
 is_no_line_feed b = not (b == 10)
 
@@ -31,9 +32,11 @@ ClosesAt bytes at = (slice_index bytes at ≡ 42) × (slice_index bytes (at + 1)
 abbrev pub IsBlockComment : List ℕ → Type 0
 IsBlockComment text = (body : List ℕ) × (text ≡ 47 ∷ 42 ∷ (body ++ 42 ∷ 47 ∷ [])) × ((at : ℕ) → at < length body → ¬ (ClosesAt (body ++ 42 ∷ 47 ∷ []) at))
 
+-- a comment of either kind, and the bytes behind it
 abbrev pub IsComment : List ℕ → List ℕ → Type 0
 IsComment text rest = IsLineComment text rest ⊎ IsBlockComment text
 
+-- `//` or `/*`
 abbrev pub BeginsComment : List ℕ → Type 0
 BeginsComment [] = ⊥
 BeginsComment (b ∷ []) = ⊥
@@ -53,6 +56,7 @@ pub data IsInside : List ℕ → Type 0 where
   plain : (b : ℕ) (bs : List ℕ) → is_plain b ≡ true → IsInside bs → IsInside (b ∷ bs)
   escape : (b : ℕ) (bs : List ℕ) → is_escape b ≡ true → IsInside bs → IsInside (92 ∷ b ∷ bs)
 
+-- a text that is closed, in UTF-8
 abbrev pub IsText : List ℕ → Type 0
 IsText text = (inside : List ℕ) × (text ≡ 34 ∷ (inside ++ 34 ∷ [])) × IsInside inside × IsUtf8 inside
 

@@ -1,8 +1,9 @@
 -- Where a byte stands.
-use Rattle.std.specs.Prelude.{ℕ, ◌+◌, List, [], ◌∷◌, ◌==◌, if◌then◌else◌}
+use Rattle.std.specs.Prelude.{ℕ, ◌+◌, List, ◌==◌, if◌then◌else◌}
 use Rattle.std.specs.List.{fold}
 use Rattle.dpj_base.specs.declared.place.Place.{Place}
 
+-- the place of the first byte
 abbrev pub first_place : Place
 first_place = record { line = 1; col = 1 }
 

@@ -1,9 +1,6 @@
 -- What the reading of one piece answers.
 use Rattle.std.specs.Prelude.{◌≡◌, ◌≢◌, ◌<◌, ◌≤◌, ℕ, false, List, [], ◌∷◌, length, take, drop, Result, Ok, Err}
 use Rattle.dpj_base.specs.Lexical.{is_blank, is_letter, is_digit}
-use Rattle.dpj_base.specs.declared.refusal.Stop.{Stop}
-use Rattle.dpj_base.specs.declared.refusal.Stop.TheVariants as stop
-use Rattle.dpj_base.specs.declared.refusal.Refusal.{Refusal}
 use Rattle.dpj_tokens.specs.declared.piece.Found.{Found}
 use Rattle.dpj_tokens.specs.declared.piece.Fault.{Fault}
 use Rattle.dpj_tokens.specs.Fault.{IsFault}
@@ -15,6 +12,7 @@ pub record IsFound (bytes : List ℕ) (found : Found) : Type 0 where
   pub within : found.len ≤ length bytes
   pub is : IsPiece found.token (take found.len bytes) (drop found.len bytes)
 
+-- a piece, or why there is none
 abbrev pub Reads : List ℕ → Result Found Fault → Type 0
 Reads bytes (Ok found) = IsFound bytes found
 Reads bytes (Err fault) = IsFault fault.kind bytes fault.at
@@ -23,8 +21,3 @@ Reads bytes (Err fault) = IsFault fault.kind bytes fault.at
 abbrev pub BeginsOtherwise : List ℕ → Type 0
 BeginsOtherwise [] = ⊥
 BeginsOtherwise (b ∷ bs) = (is_blank b ≡ false) × (is_letter b ≡ false) × (is_digit b ≡ false) × (b ≢ 34) × ¬ (BeginsComment (b ∷ bs))
-
--- a fact of the refusal, where it isn't want of memory that stopped
-abbrev pub IfRefused : Stop → (Refusal → Type 0) → Type 0
-IfRefused (stop.Refused refusal) P = P refusal
-IfRefused stop.NoMemory P = Unit {0}

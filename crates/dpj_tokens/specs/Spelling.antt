@@ -5,6 +5,7 @@ use Rattle.dpj_tokens.specs.declared.token.Symbol.TheVariants as symbol
 use Rattle.dpj_tokens.specs.declared.token.Keyword.{Keyword}
 use Rattle.dpj_tokens.specs.declared.token.Keyword.TheVariants as keyword
 
+-- the bytes of a symbol
 abbrev pub symbol_text : Symbol → List ℕ
 symbol_text symbol.AtMost = codes "<="
 symbol_text symbol.AtLeast = codes ">="
@@ -35,6 +36,7 @@ symbol_text symbol.Hash = codes "#"
 symbol_text symbol.Bar = codes "|"
 symbol_text symbol.Question = codes "?"
 
+-- the bytes of a keyword
 abbrev pub keyword_text : Keyword → List ℕ
 keyword_text keyword.Class = codes "class"
 keyword_text keyword.Extends = codes "extends"

@@ -1,8 +1,10 @@
-ghost use Rattle.std.specs.Prelude.{◌≡◌, ◌≤◌, ◌<◌, ◌+◌, ◌^◌, ◌++◌, length, take, IfOk, IfErr, OnOk};
+ghost use Rattle.std.specs.Prelude.{◌≡◌, ◌≤◌, ◌<◌, ◌+◌, ◌^◌, ◌++◌, length, take, List, ℕ, IfOk, IfErr, OnOk};
 ghost use Rattle.std.specs.List.{fold};
-ghost use Rattle.dpj_tokens.specs.Cutting.{Cuts, FaultsAt, OneCutting, token_at};
+ghost use Rattle.dpj_base.specs.Refused.{IfRefused};
+ghost use Rattle.dpj_tokens.specs.Cutting.{Cuts, FaultsAt, OneCutting, StandInOrder, token_at};
 ghost use Rattle.dpj_tokens.specs.Place.{next_place};
-ghost use Rattle.dpj_tokens.specs.Reading.{IfRefused};
+ghost use Rattle.dpj_tokens.specs.declared.token.Token.{Token};
+ghost use Rattle.dpj_base.specs.declared.place.Place.{Place};
 
 use crate::piece::{Fault, Found, piece};
 use crate::token::{Token, Tokens};
@@ -13,6 +15,7 @@ use std::alloc::Global;
 pub fn tokens(alloc: Global, bytes: &[u8]) -> Result<Tokens, Stop>
     requires { length bytes.now ≤ 1048576 }
     ensures cut { IfOk result (λ tokens. Cuts bytes.now tokens.list tokens.end) }
+    ensures spans { IfOk result (λ tokens. StandInOrder bytes.now 0 tokens.list) }
     ensures fault { IfErr result (λ stop. IfRefused stop (λ refusal. FaultsAt bytes.now refusal)) }
 {
     let mut list = Items::new(alloc);
@@ -85,6 +88,11 @@ fn behind(place: Place, bytes: &[u8]) -> Place
     }
     place
 }
+
+/// The tokens of a text stand in it in order, each where its span says, whichever call cut it.
+pub fn tokens_stand()
+    ensures { (bytes : List ℕ) (tokens : List Token) (end : Place) → Cuts bytes tokens end → StandInOrder bytes 0 tokens }
+{}
 
 /// A text has one list of tokens and one end, or one first fault, and never both.
 pub fn one_cutting()

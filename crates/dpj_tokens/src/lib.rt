@@ -15,7 +15,7 @@ mod piece;
 mod table;
 mod token;
 
-pub use cut::{one_cutting, tokens};
+pub use cut::{one_cutting, tokens, tokens_stand};
 pub use token::{Keyword, Symbol, Token, TokenKind, Tokens};
 
 #[cfg(test)]

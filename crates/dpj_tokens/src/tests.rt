@@ -1,11 +1,14 @@
 use super::*;
-use dpj_base::{Kind, Stop};
-use std::process::Abort;
+use dpj_base::Stop;
 use std::test::Fail;
 
 /// What a text comes to: `kind from to line:col` for each token and the end place, or the refusal.
 fn told<R: Alloc + AllocGlobal>(rt: &R, text: &[u8]) -> Result<String, Fail> {
     let mut out = String::new(rt.alloc());
+    if text.len() > 1048576 {
+        out.push_str("too long")?;
+        return Ok(out);
+    }
     match tokens(rt.alloc(), text) {
         Ok(read) => {
             for token in read.list.as_slice() {
@@ -118,6 +121,20 @@ fn texts_are_cut_or_refused(rt: HostRuntime) -> Result<(), Fail> {
     ];
     for (text, wanted) in table {
         assert_eq!(rt; told(&rt, text)?.as_str(), wanted);
+    }
+    Ok(())
+}
+
+#[test]
+fn the_longest_text_is_cut(rt: HostRuntime) -> Result<(), Fail> {
+    let text = vec![in rt.alloc(); b'('; 1048576]?;
+    assert!(rt; text.len() <= 1048576);
+    match tokens(rt.alloc(), text.as_slice()) {
+        Ok(read) => {
+            assert_eq!(rt; read.list.len(), 1048576);
+            assert_eq!(rt; read.end.col, 1048577);
+        }
+        Err(_) => assert!(rt; false),
     }
     Ok(())
 }

@@ -1,4 +1,4 @@
-use Rattle.std.proofs.Common.{◌≡◌, ◌≤◌, ◌+◌, ◌-◌, length, drop}
+use Rattle.std.proofs.Common.{◌≡◌, ◌≤◌, ◌+◌, drop}
 use Rattle.std.specs.List.{fold}
 use Rattle.dpj_tokens.specs.Place.{next_place}
 use Rattle.dpj_tokens.proofs.cut.behind.Given as goal

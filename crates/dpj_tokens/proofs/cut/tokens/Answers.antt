@@ -1,8 +1,9 @@
-use Rattle.std.proofs.Common.{arith, ◌+◌, List, length, drop, sym, subst, ap}
+use Rattle.std.proofs.Common.{arith, ◌+◌, List, length, sym, subst, ap}
 use Rattle.std.proofs.lemmas.List.{take_rest, length-drop, length-take-le}
 use Rattle.dpj_tokens.specs.declared.token.Token.{Token}
 use Rattle.dpj_tokens.proofs.Faults.{fault-within}
-use Rattle.dpj_tokens.proofs.Steps.{ReadsTo, read-found}
+use Rattle.dpj_tokens.proofs.Steps.{ReadsTo, read-found, cut-all}
+use Rattle.dpj_tokens.proofs.Spans.{cuts-stand}
 use Rattle.dpj_tokens.proofs.cut.tokens.Goals as goal
 
 pub refused-requires-clause-within : goal.refused-requires-clause-within
@@ -21,3 +22,6 @@ loop-at-preserved c =
       read = subst (λ (tokens : List Token). ReadsTo bytes (at + c.in-Ok.found.len) tokens c.behind-place.result) (sym c.in_ok-put.ensures)
           (read-found bytes _ at c.loop-at.list c.loop-at.place c.behind-place.result c.in-Ok.found c.loop-at.invariant.within left c.loop-at.invariant.read finds c.behind-place.ensures.place);
     }
+
+pub returns-clause-spans : goal.returns-clause-spans
+returns-clause-spans c = cuts-stand c.args.bytes.now c.loop-at.list c.loop-at.place (cut-all c.args.bytes.now c.loop-at.at c.loop-at.list c.loop-at.place (omega arith) c.loop-at.invariant.read)

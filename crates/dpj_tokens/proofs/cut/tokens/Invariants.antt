@@ -1,4 +1,4 @@
-use Rattle.std.proofs.Common.{◌≡◌, ◌≤◌, ◌+◌, ◌-◌, length}
+use Rattle.std.proofs.Common.{◌≤◌, ◌+◌, ◌-◌, length}
 use Rattle.dpj_tokens.proofs.Steps.{ReadsTo}
 use Rattle.dpj_tokens.proofs.cut.tokens.Given as goal
 

@@ -1,4 +1,4 @@
-use Rattle.std.proofs.Common.{refl, inl, inr, rules}
+use Rattle.std.proofs.Common.{refl, inl, inr}
 use Rattle.dpj_tokens.proofs.Faults.{digits-prefix_len, fault-bad_int}
 use Rattle.std.proofs.lemmas.Bool.{false≢true}
 use Rattle.dpj_tokens.proofs.Found.{found-int}

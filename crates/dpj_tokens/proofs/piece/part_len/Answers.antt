@@ -1,4 +1,4 @@
-use Rattle.std.proofs.Common.{arith, rules, ◌≡◌, sym, ◌∙◌, true, false}
+use Rattle.std.proofs.Common.{arith, sym, true, false}
 use Rattle.dpj_tokens.proofs.Texts.{inside-plain, inside-escape, ends-otherwise, escape-behind, escape-long}
 use Rattle.dpj_tokens.proofs.piece.part_len.Goals as goal
 use Rattle.dpj_tokens.proofs.piece.part_len.Goals.{else-first-eq92-via-then-first-eq92+else-begins_escape, else-first-eq92-via-else-first-eq92}

@@ -1,4 +1,3 @@
-use Rattle.std.proofs.Common.{sym}
 use Rattle.dpj_tokens.proofs.Found.{found-name, found-keyword}
 use Rattle.dpj_tokens.proofs.piece.word.Goals as goal
 

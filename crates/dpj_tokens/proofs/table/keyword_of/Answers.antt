@@ -1,6 +1,6 @@
 use Rattle.std.proofs.Common.{arith, below_more}
 use Rattle.std.proofs.lemmas.Bool.{false≢true}
-use Rattle.dpj_tokens.proofs.Tables.{symbols-none, symbol-longest, keywords-none}
+use Rattle.dpj_tokens.proofs.Tables.{keywords-none}
 use Rattle.dpj_tokens.proofs.table.keyword_of.Goals as goal
 
 pub loop-keyword-preserved : goal.loop-keyword-preserved

@@ -1,5 +1,5 @@
 use Rattle.std.proofs.Common.{arith, below_more, sym, ◌∙◌}
-use Rattle.dpj_tokens.proofs.Tables.{symbols-none, symbol-longest, keywords-none}
+use Rattle.dpj_tokens.proofs.Tables.{symbols-none, symbol-longest}
 use Rattle.dpj_tokens.proofs.table.symbol_of.Goals as goal
 
 pub loop-symbol-preserved : goal.loop-symbol-preserved
