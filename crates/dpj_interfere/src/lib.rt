@@ -4,7 +4,7 @@
 //! `check_cobegin` gives the first two branches, in their order, of which an effect of one interferes with an
 //! effect of the other, and None exactly where there are no such two; it takes no memory. `check_foreach` is
 //! true exactly where no effect of the body interferes with one of another turn, which is the body's effects
-//! with the renamed copy of the foreach variable. What they are good for stands in `laws`.
+//! with the renamed copy of the foreach variable.
 #![tactic(auto)]
 
 mod branches;
