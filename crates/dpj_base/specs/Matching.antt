@@ -18,6 +18,15 @@ abbrev pub all_plain : List Elem → Bool
 all_plain [] = true
 all_plain (x ∷ r) = is_plain x && all_plain r
 
+-- a concrete region is a list of names, whole numbers and made local regions
+abbrev pub is_concrete : Elem → Bool
+is_concrete (Local _ _) = true
+is_concrete x = is_plain x
+
+abbrev pub all_concrete : List Elem → Bool
+all_concrete [] = true
+all_concrete (x ∷ r) = is_concrete x && all_concrete r
+
 -- what the parameters, the index variables and the local regions of a text stand for in a run
 pub record Env : Type 0 where
   -- the elements of a parameter's region

@@ -1,10 +1,12 @@
 -- The laws of disjoint paths, as statements.
-use Rattle.std.specs.Prelude.{List, [], IsTrue}
+use Rattle.std.specs.Prelude.{◌↔◌, List, [], IsTrue}
+use Rattle.dpj_base.specs.declared.elems.Elem.{Elem}
+use Rattle.dpj_base.specs.declared.region.Head.TheVariants.{Root}
 use Rattle.dpj_base.specs.declared.region.Rpl.{Rpl}
 use Rattle.dpj_base.specs.declared.effect.Constraint.{Constraint}
 use Rattle.dpj_base.specs.Regions.{within}
 use Rattle.dpj_base.specs.Apart.{apart}
-use Rattle.dpj_base.specs.Matching.{Env, IsEnv, put_in, MatchNoCommon}
+use Rattle.dpj_base.specs.Matching.{all_concrete, Env, IsEnv, put_in, Matches, MatchNoCommon}
 
 -- paths that are apart match no common region, in any environment
 abbrev pub ApartMatchNoCommon : Type 0
@@ -21,3 +23,7 @@ IncludedStayApart = (given : List Constraint) (a b c d : Rpl) → IsTrue (within
 -- if one path is apart from another, that one is from it
 abbrev pub ApartIsSymmetric : Type 0
 ApartIsSymmetric = (given : List Constraint) (a b : Rpl) → IsTrue (apart given a b) → IsTrue (apart given b a)
+
+-- a path matches exactly the concrete regions that, as paths, lie in it with the environment put in
+abbrev pub MatchingIsInclusion : Type 0
+MatchingIsInclusion = (given : List Constraint) (env : Env) → IsEnv given env → (a : Rpl) (r : List Elem) → Matches env a r ↔ (IsTrue (all_concrete r) × IsTrue (within (record { head = Root; elems = r }) (put_in env a)))

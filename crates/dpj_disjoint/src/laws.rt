@@ -1,6 +1,6 @@
 //! Laws of disjoint paths, each the clause of a function that does nothing.
 
-ghost use Rattle.dpj_disjoint.specs.Laws.{ApartMatchNoCommon, PatternsStayApart, IncludedStayApart, ApartIsSymmetric};
+ghost use Rattle.dpj_disjoint.specs.Laws.{MatchingIsInclusion, ApartMatchNoCommon, PatternsStayApart, IncludedStayApart, ApartIsSymmetric};
 
 /// Disjointness is sound over what paths mean.
 pub fn law_disjoint()
@@ -12,4 +12,9 @@ pub fn law_disjoint()
 pub fn law_disjoint_included()
     ensures included { IncludedStayApart }
     ensures symmetric { ApartIsSymmetric }
+{}
+
+/// Matching, told by inclusion: what a run can test of its regions.
+pub fn law_regions_as_paths()
+    ensures { MatchingIsInclusion }
 {}

@@ -1,12 +1,13 @@
 -- Covering and interference of effects, over inclusion and disjointness of their paths.
-use Rattle.std.proofs.Common.{◌≡◌, Bool, true, false, not, ◌&&◌, ◌||◌, List, [], ◌∷◌, refl, sym, ap, ◌∙◌, ⊎_elim}
+use Rattle.std.proofs.Common.{◌≡◌, Bool, true, false, not, ◌&&◌, ◌||◌, List, [], ◌∷◌, refl, sym, ap, ◌∙◌, subst, ⊎_elim}
 use Rattle.std.proofs.lemmas.Bool.{and_parts, and_from, and_left, and_right, or_cases, or_left, or_right, false≢true, not-true, not-false, cases_Bool, false_from_ne_true}
 use Rattle.dpj_base.specs.declared.effect.Effect.{Effect}
 use Rattle.dpj_base.specs.declared.effect.Constraint.{Constraint}
 use Rattle.dpj_base.specs.Regions.{within}
 use Rattle.dpj_base.specs.Apart.{apart}
 use Rattle.dpj_base.specs.Matching.{Env, IsEnv, MatchNoCommon}
-use Rattle.dpj_base.specs.Effects.{covers_effect, interferes, some_covers, set_covers}
+use Rattle.dpj_base.specs.Effects.{covers_effect, interferes, some_covers, set_covers, same_effect, has_effect}
+use Rattle.dpj_effects.proofs.Sets.{same_effect-is}
 use Rattle.dpj_regions.proofs.Inclusion.{within-refl, within-trans}
 use Rattle.dpj_disjoint.proofs.Paths.{apart-within}
 use Rattle.dpj_disjoint.proofs.Envs.{apart_swap, no_common}
@@ -115,3 +116,12 @@ set_covers-more e es (f ∷ fs) h =
 pub set_covers-refl : (es : List Effect) → set_covers es es ≡ true
 set_covers-refl [] = refl
 set_covers-refl (e ∷ es) = and_from _ _ (or_left _ _ (covers-refl e)) (set_covers-more e es es (set_covers-refl es))
+
+-- an effect that is in a list is covered by one of the list
+pub has-covered : (es : List Effect) (f : Effect) → has_effect es f ≡ true → some_covers es f ≡ true
+has-covered [] f h = absurd (false≢true h)
+has-covered (e ∷ es) f h =
+    ⊎_elim
+    (λ t. or_left _ _ (subst (λ z. covers_effect z f ≡ true) (sym (same_effect-is e f t)) (covers-refl f)))
+    (λ t. or_right (covers_effect e f) _ (has-covered es f t))
+    (or_cases (same_effect e f) _ h)

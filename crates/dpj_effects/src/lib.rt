@@ -8,6 +8,7 @@
 #![tactic(auto)]
 
 mod effect;
+mod index;
 pub mod laws;
 mod set;
 #[cfg(test)]

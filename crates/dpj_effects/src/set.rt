@@ -1,27 +1,33 @@
 ghost use Rattle.std.specs.Prelude.{◌≡◌, ◌↔◌, [], true, false, length, IsTrue, IfOk, OnOk, OnErr};
-ghost use Rattle.dpj_base.specs.Effects.{same_effect, has_effect, some_covers, set_covers, added, gathered, all_marked, with_mark};
+ghost use Rattle.dpj_base.specs.Effects.{has_effect, some_covers, set_covers, added, gathered, all_marked, with_mark};
 
 use crate::effect::covers;
+use crate::index::{any_at, note, number_of};
 use dpj_base::{Effect, Items, NoMemory, Plain};
 use std::alloc::Global;
+use std::collections::BTreeMap;
 use std::marker::Model;
 
 /// Distinct effects, in the order in which they were added. A contract sees the list.
 #[derive(Debug, Drop)]
 pub struct EffectSet {
     effects: Items<Effect>,
+    /// The places in the list, each under the number of its effect, so that none is looked for twice.
+    spots: BTreeMap<u32, Items<usize>>,
+    alloc: Global,
 }
 
 impl Model for EffectSet {
     ghost use Rattle.std.specs.Prelude.{List, IsTrue};
     ghost use Rattle.dpj_base.specs.Effects.{all_distinct};
     ghost use Rattle.dpj_base.specs.declared.effect.Effect.{Effect};
+    ghost use Rattle.dpj_effects.specs.Index.{Indexed};
 
     ghost Value = { List Effect };
 
     ghost view = { λ set. set.effects };
 
-    ghost invariant = { λ set. IsTrue (all_distinct set.effects) };
+    ghost invariant = { λ set. IsTrue (all_distinct set.effects) × Indexed set.effects set.spots };
 }
 
 impl EffectSet {
@@ -31,6 +37,8 @@ impl EffectSet {
     {
         EffectSet {
             effects: Items::new(alloc),
+            spots: BTreeMap::new(alloc),
+            alloc,
         }
     }
 
@@ -57,11 +65,30 @@ impl EffectSet {
         ensures ok { OnOk result (self.new ≡ added self.old e) }
         ensures err { OnErr result (self.new ≡ self.old) }
     {
-        if has(self.effects.as_slice(), &e) {
+        if self.has(&e) {
             return Ok(());
         }
+        let place = self.effects.len();
+        note(self.alloc, &mut self.spots, number_of(&e), place)?;
         self.effects.push(e)?;
         Ok(())
+    }
+
+    /// Whether the effect is in the set. It takes no memory.
+    pub fn has(&self, e: &Effect) -> bool
+        ensures { result ≡ has_effect self.now e.now }
+    {
+        match self.spots.get(&number_of(e)) {
+            None => false,
+            Some(places) => any_at(self.effects.as_slice(), places.as_slice(), e),
+        }
+    }
+
+    /// Whether some effect of the set covers this one. It takes no memory.
+    pub fn covers_effect(&self, f: &Effect) -> bool
+        ensures { result ≡ some_covers self.now f.now }
+    {
+        self.has(f) || some_covers(self.effects.as_slice(), f)
     }
 
     /// Whether each effect of the other set is covered by one of this. It takes no memory.
@@ -69,7 +96,7 @@ impl EffectSet {
         ensures { result ≡ set_covers self.now other.now }
     {
         for f in other.effects.as_slice() {
-            if !some_covers(self.effects.as_slice(), f) {
+            if !self.covers_effect(f) {
                 return false;
             }
         }
@@ -93,31 +120,16 @@ impl EffectSet {
 
 impl Plain for EffectSet {
     fn copy(&self, alloc: Global) -> Result<EffectSet, NoMemory> {
-        Ok(EffectSet {
-            effects: self.effects.copy(alloc)?,
-        })
+        let mut set = EffectSet::new(alloc);
+        for e in self.effects.as_slice() {
+            set.add(e.copy(alloc)?)?;
+        }
+        Ok(set)
     }
 
     fn same(&self, other: &EffectSet) -> bool {
         self.effects.same(&other.effects)
     }
-}
-
-fn same_effect(e: &Effect, f: &Effect) -> bool
-    ensures { result ≡ same_effect e.now f.now }
-{
-    e.same(f)
-}
-
-fn has(effects: &[Effect], e: &Effect) -> bool
-    ensures { result ≡ has_effect effects.now e.now }
-{
-    for f in effects {
-        if same_effect(f, e) {
-            return true;
-        }
-    }
-    false
 }
 
 fn some_covers(effects: &[Effect], f: &Effect) -> bool

@@ -50,3 +50,18 @@ fn a_set(rt: HostRuntime) -> Result<(), Fail> {
     assert_eq!(rt; set.unmarked(alloc)?.len(), 1);
     Ok(())
 }
+
+/// A set of many effects is made, and compared with itself, without looking at each pair.
+#[test]
+fn many_effects(rt: HostRuntime) -> Result<(), Fail> {
+    let alloc = rt.alloc();
+    let mut set = EffectSet::new(alloc);
+    for _ in 0..2 {
+        for k in 0..20000u32 {
+            set.add(effect(alloc, true, false, &[Elem::Name(k)])?)?;
+        }
+    }
+    assert_eq!(rt; set.len(), 20000);
+    assert!(rt; set.set_covers(&set));
+    Ok(())
+}

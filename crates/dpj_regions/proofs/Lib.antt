@@ -1,3 +1,4 @@
+pub mod Concrete
 pub mod Fitting
 pub mod Inclusion
 pub mod Putting

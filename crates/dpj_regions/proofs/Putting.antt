@@ -1,7 +1,7 @@
 -- What putting arguments in and making a variable general say of matching.
-use Rattle.std.proofs.Common.{◌≡◌, ◌↔◌, ◌≤◌, ◌+◌, ℕ, ℤ, pos, Bool, true, false, cond, eqb, List, [], ◌∷◌, ◌++◌, map, refl, sym, ap, ◌∙◌, subst, ⊎_elim, append_assoc, arith}
+use Rattle.std.proofs.Common.{◌≡◌, ◌↔◌, ◌≤◌, ◌+◌, ◌<◌, ℕ, ℤ, pos, ltb, Bool, true, false, cond, eqb, List, [], ◌∷◌, ◌++◌, map, refl, sym, ap, ◌∙◌, subst, ⊎_elim, append_assoc, arith}
 use Rattle.std.specs.Prelude.{count_by}
-use Rattle.std.proofs.lemmas.Bool.{and_from, false≢true, cases_Bool, eqb-true, eq-eqb, ne_eqb, cond-true, cond-false, false_from_ne_true}
+use Rattle.std.proofs.lemmas.Bool.{and_parts, and_from, false≢true, cases_Bool, eqb-true, eq-eqb, ne_eqb, cond-true, cond-false, false_from_ne_true, lt-ltb, le-ltb}
 use Rattle.std.proofs.lemmas.List.{map-append}
 use Rattle.std.proofs.lemmas.List.Sums.{sum_by-append}
 use Rattle.dpj_base.specs.declared.elems.Elem.{Elem}
@@ -9,8 +9,8 @@ use Rattle.dpj_base.specs.declared.elems.Elem.TheVariants.{Name, Lit, Var, Any, 
 use Rattle.dpj_base.specs.declared.region.Head.{Head}
 use Rattle.dpj_base.specs.declared.region.Head.TheVariants.{Root, Param}
 use Rattle.dpj_base.specs.declared.region.Rpl.{Rpl}
-use Rattle.dpj_base.specs.Regions.{is_star, same_elem, elem_within, within, argument, put_at, substituted, general_elem, generalised}
-use Rattle.dpj_base.specs.Matching.{Env, put_elem, put_in, head_region, Fits, FitsAll, Matches, with_regions, with_index}
+use Rattle.dpj_base.specs.Regions.{is_star, is_specified, all_specified, same_elem, elem_within, within, argument, put_at, substituted, general_elem, generalised}
+use Rattle.dpj_base.specs.Matching.{Env, IsEnv, put_elem, put_in, head_region, Fits, FitsAll, Matches, with_regions, with_index}
 use Rattle.dpj_regions.proofs.Inclusion.{Covers, none, one, stop, skip, Covers-to, star_is, same_elem-is, elem_within-refl, heads_within-same}
 
 -- what fits what, joined and split
@@ -20,7 +20,7 @@ FitsAll-append env [] b r q f g = subst (λ z. FitsAll env b (z ++ q)) (sym f) g
 FitsAll-append env (x ∷ a) b r q f g =
     (f.0, f.1 ++ q, ap (λ z. z ++ q) f.2 ∙ append_assoc f.0 f.1 q, f.3, FitsAll-append env a b f.1 q f.4 g)
 
-FitsAll-split : (env : Env) (a b r : List Elem) → FitsAll env (a ++ b) r → (p q : List Elem) × (r ≡ p ++ q) × FitsAll env a p × FitsAll env b q
+pub FitsAll-split : (env : Env) (a b r : List Elem) → FitsAll env (a ++ b) r → (p q : List Elem) × (r ≡ p ++ q) × FitsAll env a p × FitsAll env b q
 FitsAll-split env [] b r f = ([], r, refl, refl, f)
 FitsAll-split env (x ∷ a) b r f =
     let k = FitsAll-split env a b f.1 f.4 in
@@ -300,3 +300,46 @@ unfolding Matches generalised stands
 general_matches_no_more env a v h r m =
     let f = FitsAll-one_var env v a.elems m.0 h m.2 in
     (f.0, (m.0, m.1 ∙ ap (λ z. z ++ m.0) (sym (head_region-index env v f.0 a.head)), f.1))
+
+-- a fully specified path
+
+fits-specified : (env : Env) (x : Elem) (r : List Elem) → is_specified x ≡ true → Fits env x r ↔ (r ≡ put_elem env x ∷ [])
+fits-specified env (Name n) r h = (λ f. f, λ f. f)
+fits-specified env (Lit k) r h = (λ f. f, λ f. f)
+fits-specified env (Var v) r h = (λ f. f, λ f. f)
+fits-specified env (Local a b) r h = (λ f. f, λ f. f)
+fits-specified env x r h = absurd (false≢true h)
+
+FitsAll-specified : (env : Env) (a r : List Elem) → all_specified a ≡ true → FitsAll env a r ↔ (r ≡ map (put_elem env) a)
+FitsAll-specified env [] r h = (λ f. f, λ f. f)
+FitsAll-specified env (x ∷ a) r h =
+    let p = and_parts (is_specified x) _ h in (
+      λ f. f.2 ∙ ap (λ z. z ++ f.1) ((fits-specified env x f.0 p.0).0 f.3) ∙ ap (λ z. put_elem env x ∷ z) ((FitsAll-specified env a f.1 p.1).0 f.4),
+      λ e. (put_elem env x ∷ [], map (put_elem env) a, e, (fits-specified env x (put_elem env x ∷ []) p.0).1 refl, (FitsAll-specified env a (map (put_elem env) a) p.1).1 refl),
+    )
+
+pub specified_matches_one : (env : Env) (a : Rpl) → all_specified a.elems ≡ true → (r : List Elem) → Matches env a r ↔ (r ≡ (put_in env a).elems)
+unfolding Matches put_in
+specified_matches_one env a h r = (
+  λ m. m.1 ∙ ap (λ z. head_region env a.head ++ z) ((FitsAll-specified env a.elems m.0 h).0 m.2),
+  λ e. (map (put_elem env) a.elems, e, (FitsAll-specified env a.elems (map (put_elem env) a.elems) h).1 refl),
+)
+
+-- an environment: no parameter stands for more than the root, and copies have another number
+
+some_index : ℕ → ℤ
+some_index v = cond (ltb v 2147483648) (pos 0) (pos 1)
+
+some_index-apart : (v : ℕ) → v < 2147483648 → some_index v ≡ some_index (v + 2147483648) → ⊥
+unfolding some_index
+some_index-apart v l e =
+    zero_one (sym (cond-true (ltb v 2147483648) (pos 0) (pos 1) (lt-ltb v 2147483648 l)) ∙ e ∙ cond-false (ltb (v + 2147483648) 2147483648) (pos 0) (pos 1) (le-ltb (v + 2147483648) 2147483648 (omega arith)))
+  where
+    zero_one : pos 0 ≡ pos 1 → ⊥
+    zero_one e = cc
+
+pub environments_exist : (env : Env) × IsEnv [] env
+environments_exist = (
+  record { region = λ p. []; index = some_index; made = λ a b. (a, b) },
+  record { regions = λ p. refl; copies = some_index-apart; locals = λ a b c d e. (ap (λ z. z.0) e, ap (λ z. z.1) e); constraints = λ k d h. absurd (omega arith) },
+)

@@ -1,11 +1,11 @@
 -- The laws of region paths, as statements.
-use Rattle.std.specs.Prelude.{◌≡◌, ◌↔◌, ◌≤◌, ℕ, ℤ, List, IsTrue, count_by}
+use Rattle.std.specs.Prelude.{◌≡◌, ◌↔◌, ◌≤◌, ℕ, ℤ, List, [], IsTrue, count_by}
 use Rattle.dpj_base.specs.declared.elems.Elem.{Elem}
 use Rattle.dpj_base.specs.declared.elems.Elem.TheVariants.{Var}
 use Rattle.dpj_base.specs.declared.region.Rpl.{Rpl}
 use Rattle.dpj_base.specs.declared.effect.Constraint.{Constraint}
-use Rattle.dpj_base.specs.Regions.{same_elem, within, argument, substituted, generalised}
-use Rattle.dpj_base.specs.Matching.{Env, IsEnv, put_in, Matches, MatchesMore, with_regions, with_index}
+use Rattle.dpj_base.specs.Regions.{same_elem, fully_specified, within, argument, substituted, generalised}
+use Rattle.dpj_base.specs.Matching.{all_concrete, Env, IsEnv, put_in, Matches, MatchesMore, with_regions, with_index}
 
 -- what lies in a path matches only regions that the path matches, in every environment
 abbrev pub IncludedMatchesLess : Type 0
@@ -18,6 +18,18 @@ InclusionIsReflexive = (a : Rpl) → IsTrue (within a a)
 -- what lies in a path that lies in a third lies in the third
 abbrev pub InclusionIsTransitive : Type 0
 InclusionIsTransitive = (a b c : Rpl) → IsTrue (within a b) → IsTrue (within b c) → IsTrue (within a c)
+
+-- a fully specified path matches one region: that of its elements with the environment put in
+abbrev pub SpecifiedMatchesOne : Type 0
+SpecifiedMatchesOne = (env : Env) (a : Rpl) → IsTrue (fully_specified a) → (r : List Elem) → Matches env a r ↔ (r ≡ (put_in env a).elems)
+
+-- what a path matches is a concrete region
+abbrev pub MatchedIsConcrete : Type 0
+MatchedIsConcrete = (given : List Constraint) (env : Env) → IsEnv given env → (a : Rpl) (r : List Elem) → Matches env a r → IsTrue (all_concrete r)
+
+-- there are environments
+abbrev pub EnvironmentsExist : Type 0
+EnvironmentsExist = (env : Env) × IsEnv [] env
 
 -- a path with its argument put in matches what the path matches where its parameter stands for some region
 -- that the argument matches
