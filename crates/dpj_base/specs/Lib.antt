@@ -8,4 +8,5 @@ pub mod Regions
 pub mod Lexical
 pub mod Refused
 pub mod Text
+pub mod Types
 pub mod formers

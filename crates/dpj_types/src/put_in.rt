@@ -1,0 +1,49 @@
+ghost use Rattle.std.specs.Prelude.{◌≡◌, map, IfOk};
+ghost use Rattle.dpj_base.specs.Regions.{substituted};
+ghost use Rattle.dpj_base.specs.Types.{plain_type, type_with};
+
+use dpj_base::{Boxed, Head, Items, NoMemory, Plain, Rpl, Ty};
+use dpj_regions::subst;
+use std::alloc::Global;
+
+fn put_in_path(alloc: Global, rpl: &Rpl, args: &[Rpl]) -> Result<Rpl, NoMemory>
+    ensures { IfOk result (λ made. made ≡ substituted args.now rpl.now) }
+{
+    match rpl.head {
+        Head::Param(p) if p as usize >= args.len() => rpl.copy(alloc),
+        _ => subst(alloc, rpl, args),
+    }
+}
+
+/// Paths with their arguments put in.
+fn put_in_paths(alloc: Global, paths: &[Rpl], args: &[Rpl]) -> Result<Items<Rpl>, NoMemory>
+    ensures { IfOk result (λ made. made ≡ map (substituted args.now) paths.now) }
+{
+    let mut made = Items::new(alloc);
+    for path in paths {
+        made.push(put_in_path(alloc, path, args)?)?;
+    }
+    Ok(made)
+}
+
+/// The type with an argument put in for each region parameter; a parameter that has none stays. It is meant
+/// for arguments that mention no index name of an array type in it.
+pub fn subst_type(alloc: Global, t: &Ty, args: &[Rpl]) -> Result<Ty, NoMemory>
+    ensures { IfOk result (λ made. plain_type made ≡ type_with args.now (plain_type t.now)) }
+{
+    match t {
+        Ty::Int => Ok(Ty::Int),
+        Ty::Bool => Ok(Ty::Bool),
+        Ty::Void => Ok(Ty::Void),
+        Ty::Null => Ok(Ty::Null),
+        Ty::Class { class, args: paths } => Ok(Ty::Class {
+            class: *class,
+            args: put_in_paths(alloc, paths.as_slice(), args)?,
+        }),
+        Ty::Array { elem, rpl, index } => Ok(Ty::Array {
+            elem: Boxed::new(alloc, subst_type(alloc, elem.get(), args)?)?,
+            rpl: put_in_path(alloc, rpl, args)?,
+            index: *index,
+        }),
+    }
+}
