@@ -34,7 +34,9 @@ fn the_first_two_branches_that_interfere(rt: HostRuntime) -> Result<(), Fail> {
         for (write, elem) in branches {
             sets.push(one(alloc, write, [elem].as_slice())?)?;
         }
-        assert_eq!(rt; check_cobegin(sets.as_slice(), &[]), pair);
+        let branches = sets.as_slice();
+        assert_eq!(rt; branches.len(), 3);
+        assert_eq!(rt; check_cobegin(branches, &[]), pair);
     }
     Ok(())
 }
