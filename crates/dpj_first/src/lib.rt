@@ -11,8 +11,6 @@
 mod program;
 mod reading;
 mod running;
-#[cfg(test)]
-mod tests;
 mod token;
 
 pub use program::{First, Sum};

@@ -29,6 +29,3 @@ pub use read::{ReadEnd, read_all};
 pub use standard::{StdSink, StdSource};
 pub use traits::{Failed, Sink, Source};
 pub use write::{WriteFault, write_all};
-
-#[cfg(test)]
-mod tests;

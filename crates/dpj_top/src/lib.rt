@@ -13,6 +13,3 @@ mod laws;
 pub use answers::{MAX_TEXT, answer};
 pub use call::{Ended, dpj};
 pub use laws::one_answer;
-
-#[cfg(test)]
-mod tests;

@@ -22,6 +22,3 @@ pub use key::{Key, Mode};
 pub use laws::law_values;
 pub use reports::{report, status};
 pub use verdict::{Status, Verdict};
-
-#[cfg(test)]
-mod tests;

@@ -1,4 +1,7 @@
-use super::*;
+use dpj_io::{
+    Failed, MemSink, MemSource, PlainSink, PlainSource, ReadEnd, StdSink, StdSource, WriteFault,
+    read_all, write_all,
+};
 use std::alloc::{AllocError, Global};
 use std::io;
 use std::io::{Read, Write};

@@ -1,6 +1,6 @@
-use super::*;
 use dpj_base::NoMemory;
 use dpj_io::{MemSink, MemSource, PlainSink, PlainSource};
+use dpj_top::{MAX_TEXT, dpj};
 use dpj_words::Status;
 use std::alloc::Global;
 use std::test::Fail;

@@ -1,5 +1,5 @@
-use super::*;
 use dpj_base::{Ending, Limits, NoMemory};
+use dpj_first::{read, run};
 use std::alloc::Global;
 use std::test::Fail;
 

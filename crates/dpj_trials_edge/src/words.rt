@@ -1,5 +1,5 @@
-use super::*;
 use dpj_base::{Bytes, Ending, Kind, Outcome, Place, Refusal, Trap};
+use dpj_words::*;
 use std::alloc::{AllocError, Global};
 use std::process::Abort;
 use std::test::Fail;
