@@ -10,7 +10,5 @@
 
 mod apart;
 pub mod laws;
-#[cfg(test)]
-mod tests;
 
 pub use apart::{disjoint, dyn_disjoint};

@@ -11,7 +11,5 @@
 mod covers;
 pub mod laws;
 mod path;
-#[cfg(test)]
-mod tests;
 
 pub use path::{generalise, includes, is_full, subst};

@@ -17,6 +17,3 @@ mod token;
 
 pub use cut::{one_cutting, tokens, tokens_stand};
 pub use token::{Keyword, Symbol, Token, TokenKind, Tokens};
-
-#[cfg(test)]
-mod tests;

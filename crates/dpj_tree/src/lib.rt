@@ -22,6 +22,3 @@ pub use region::{
     TypeTree,
 };
 pub use stmt::{Stmt, StmtKind};
-
-#[cfg(test)]
-mod tests;

@@ -1,5 +1,7 @@
 use dpj_base::{Bytes, Ending, Kind, Outcome, Place, Refusal, Trap};
-use dpj_words::*;
+use dpj_words::{
+    Command, Job, Key, Mode, Status, Usage, Verdict, read_any, read_words, report, status,
+};
 use std::alloc::{AllocError, Global};
 use std::process::Abort;
 use std::test::Fail;

@@ -1,5 +1,5 @@
-use crate::{disjoint, dyn_disjoint};
 use dpj_base::{Constraint, Elem, Elems, Head, NoMemory, Rpl};
+use dpj_disjoint::{disjoint, dyn_disjoint};
 use dpj_regions::includes;
 use std::alloc::Global;
 use std::test::Fail;

@@ -1,5 +1,5 @@
-use super::*;
 use dpj_base::Stop;
+use dpj_tokens::{TokenKind, Tokens, tokens};
 use std::alloc::{AllocError, Global};
 use std::test::Fail;
 

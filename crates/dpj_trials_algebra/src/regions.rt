@@ -1,5 +1,5 @@
-use crate::{generalise, includes, is_full, subst};
 use dpj_base::{Elem, Elems, Head, NoMemory, Plain, Rpl};
+use dpj_regions::{generalise, includes, is_full, subst};
 use std::alloc::Global;
 use std::test::Fail;
 

@@ -1,5 +1,7 @@
-use super::*;
 use dpj_base::{Boxed, Bytes, Items, NoMemory, Place};
+use dpj_tree::{
+    Class, Expr, ExprKind, Member, Method, MethodResult, Params, Program, Stmt, StmtKind, uses_nd,
+};
 use std::alloc::Global;
 use std::test::Fail;
 
