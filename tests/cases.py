@@ -3,8 +3,8 @@
     tests/run [--only WORD] [--show] [FILE.json ..]
 
 A case is an object with "name", "words", "source", "stdout" and "status". The source is a text, or is made:
-{"pad": TEXT, "to": N} is TEXT and then spaces up to N bytes, {"repeat": TEXT, "times": N} repeats TEXT, and
-"source_hex" gives the bytes in hex. With no FILE, every tests/cases/*.json is run and every examples/NAME.dpj, which
+{"pad": TEXT, "to": N} is TEXT and then spaces up to N bytes, {"repeat": TEXT, "times": N} repeats TEXT,
+{"classes": N} is N empty classes, and "source_hex" gives the bytes in hex. With no FILE, every tests/cases/*.json is run and every examples/NAME.dpj, which
 must write examples/NAME.out with status 0.
 
 The program is out/dpj where ./build made it of these sources; else it is built once, unproved, by `rt try`.
@@ -32,6 +32,8 @@ def bytes_of(case):
         return source.encode()
     if "pad" in source:
         return source["pad"].encode().ljust(source["to"], b" ")
+    if "classes" in source:
+        return "".join(f"class C{number:05d}{{ }}\n" for number in range(source["classes"])).encode()
     return source["repeat"].encode() * source["times"]
 
 
