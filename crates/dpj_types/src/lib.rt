@@ -8,6 +8,7 @@
 #![tactic(auto)]
 
 mod at_index;
+pub mod laws;
 mod mention;
 mod put_in;
 mod same;
