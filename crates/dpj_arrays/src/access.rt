@@ -25,11 +25,7 @@ fn is_exact(index: IndexKind) -> bool
 
 /// The element of an array type at an index, with the index put in for the index name. None where the type is no
 /// array type.
-pub fn element(
-    alloc: Global,
-    array: &Ty,
-    index: &IndexKind,
-) -> Result<Option<Element>, NoMemory>
+pub fn element(alloc: Global, array: &Ty, index: &IndexKind) -> Result<Option<Element>, NoMemory>
     ensures { IfOk result (λ found. option_map plain_element found ≡ element_of (plain_type array.now) index.now) }
 {
     let Ty::Array {

@@ -60,9 +60,9 @@ bounded : (supers : List Super) → NoCycle supers → {a t : PlainType} {n : �
 bounded supers free {a = a} {n = n} r =
     ⊎_elim
     (λ (more : length supers < n).
-      let s = first_steps supers r (suc (length supers)) (omega arith) in
-      let e = sym (free a) ∙ ancestor-is supers s.1 in
-      absurd (none_some e))
+    let s = first_steps supers r (suc (length supers)) (omega arith) in
+    let e = sym (free a) ∙ ancestor-is supers s.1 in
+    absurd (none_some e))
     (λ h. h)
     (cases_lt (length supers) n)
   where
