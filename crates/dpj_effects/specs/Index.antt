@@ -7,7 +7,7 @@ use Rattle.std.specs.declared.alloc.Global.{Global}
 use Rattle.dpj_base.specs.declared.elems.Elem.{Elem}
 use Rattle.dpj_base.specs.declared.elems.Elem.TheVariants.{Name, Lit, Var, Any, Star, Local}
 use Rattle.dpj_base.specs.declared.effect.Effect.{Effect}
-use Rattle.dpj_base.specs.Effects.{same_effect, has_effect}
+use Rattle.dpj_base.specs.Effects.{covers_effect, same_effect, has_effect}
 
 abbrev pub elem_number : Elem → ℕ
 elem_number (Name n) = n
@@ -28,6 +28,11 @@ number_of e = mixed 7 e.rpl.elems
 abbrev pub any_at : List Effect → List ℕ → Effect → Bool
 any_at es [] e = false
 any_at es (p ∷ ps) e = (nat_lt p (length es) && same_effect (slice_index_or es p e) e) || any_at es ps e
+
+-- an effect at some of the places covers this one
+abbrev pub any_covers_at : List Effect → List ℕ → Effect → Bool
+any_covers_at es [] f = false
+any_covers_at es (p ∷ ps) f = (nat_lt p (length es) && covers_effect (slice_index_or es p f) f) || any_covers_at es ps f
 
 -- whatever the list has, the places under its number show
 abbrev pub Indexed : List Effect → BTreeMap ℕ (List ℕ) Global → Type 0

@@ -2,13 +2,15 @@ ghost use Rattle.std.specs.Prelude.{◌≡◌, ◌≢◌, ◌++◌, ◌∷◌, �
 ghost use Rattle.std.specs.Ordering.{nat_cmp};
 ghost use Rattle.std.specs.BTreeMap.{get};
 ghost use Rattle.dpj_base.specs.Effects.{same_effect};
-ghost use Rattle.dpj_effects.specs.Index.{elem_number, mixed, number_of, any_at};
+ghost use Rattle.dpj_effects.specs.Index.{elem_number, mixed, number_of, any_at, any_covers_at};
 
+use crate::effect::covers;
 use dpj_base::{Effect, Elem, Items, NoMemory, Plain};
 use std::alloc::Global;
 use std::collections::BTreeMap;
 
-fn elem_number(elem: Elem) -> u32
+/// A number of an element, the same for equal ones.
+pub fn elem_number(elem: Elem) -> u32
     ensures { result ≡ elem_number elem }
 {
     match elem {
@@ -21,7 +23,7 @@ fn elem_number(elem: Elem) -> u32
     }
 }
 
-/// The number under which an effect is looked for.
+/// The number under which an effect is looked for, the same for equal paths.
 pub fn number_of(e: &Effect) -> u32
     ensures { result ≡ number_of e.now }
 {
@@ -44,6 +46,18 @@ pub fn any_at(effects: &[Effect], places: &[usize], e: &Effect) -> bool
 {
     for place in places {
         if *place < effects.len() && same_effect(&effects[*place], e) {
+            return true;
+        }
+    }
+    false
+}
+
+/// Whether an effect at some of the places covers this one.
+pub fn any_covers_at(effects: &[Effect], places: &[usize], f: &Effect) -> bool
+    ensures { result ≡ any_covers_at effects.now places.now f.now }
+{
+    for place in places {
+        if *place < effects.len() && covers(&effects[*place], f) {
             return true;
         }
     }
