@@ -10,16 +10,16 @@ use Rattle.dpj_base.specs.declared.effect.Effect.{Effect}
 use Rattle.dpj_base.specs.Effects.{covers_effect, same_effect, has_effect}
 
 abbrev pub elem_number : Elem → ℕ
-elem_number (Name n) = n
-elem_number (Lit k) = nat_abs k
-elem_number (Var v) = v
-elem_number Any = 1
-elem_number Star = 2
-elem_number (Local a b) = (a + b) % 2 ^ 32
+elem_number (Name n) = (n * 4) % 2 ^ 32
+elem_number (Lit k) = ((nat_abs k * 4) % 2 ^ 32 + 1) % 2 ^ 32
+elem_number (Var v) = ((v * 4) % 2 ^ 32 + 2) % 2 ^ 32
+elem_number Any = 3
+elem_number Star = 7
+elem_number (Local a b) = ((a * 31) % 2 ^ 32 + b) % 2 ^ 32
 
 abbrev pub mixed : ℕ → List Elem → ℕ
 mixed h [] = h
-mixed h (x ∷ xs) = mixed (((h * 31) % 2 ^ 32 + elem_number x) % 2 ^ 32) xs
+mixed h (x ∷ xs) = mixed (((h * 16777619) % 2 ^ 32 + elem_number x) % 2 ^ 32) xs
 
 abbrev pub number_of : Effect → ℕ
 number_of e = mixed 7 e.rpl.elems

@@ -9,17 +9,17 @@ use dpj_base::{Effect, Elem, Items, NoMemory, Plain};
 use std::alloc::Global;
 use std::collections::BTreeMap;
 
-/// A number of an element, the same for equal ones.
+/// A number of an element, the same for equal ones and another for most others.
 pub fn elem_number(elem: Elem) -> u32
     ensures { result ≡ elem_number elem }
 {
     match elem {
-        Elem::Name(n) => n,
-        Elem::Lit(k) => k.unsigned_abs(),
-        Elem::Var(v) => v,
-        Elem::Any => 1,
-        Elem::Star => 2,
-        Elem::Local(a, b) => a.wrapping_add(b),
+        Elem::Name(n) => n.wrapping_mul(4),
+        Elem::Lit(k) => k.unsigned_abs().wrapping_mul(4).wrapping_add(1),
+        Elem::Var(v) => v.wrapping_mul(4).wrapping_add(2),
+        Elem::Any => 3,
+        Elem::Star => 7,
+        Elem::Local(a, b) => a.wrapping_mul(31).wrapping_add(b),
     }
 }
 
@@ -29,7 +29,7 @@ pub fn number_of(e: &Effect) -> u32
 {
     let mut number = 7u32;
     for elem in e.rpl.elems.as_slice() {
-        number = number.wrapping_mul(31).wrapping_add(elem_number(*elem));
+        number = number.wrapping_mul(16777619).wrapping_add(elem_number(*elem));
     }
     number
 }
