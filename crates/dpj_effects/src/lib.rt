@@ -15,4 +15,5 @@ mod set;
 mod tests;
 
 pub use effect::{covers, interferes};
+pub use index::{elem_number, number_of};
 pub use set::EffectSet;
