@@ -5,8 +5,6 @@
 
 mod access;
 mod parts;
-#[cfg(test)]
-mod tests;
 
 pub use access::element;
 pub use parts::{Element, IndexKind};

@@ -21,6 +21,3 @@ pub use branches::{check_cobegin, check_foreach};
 pub use meeting::first_meeting;
 pub use renaming::renamed_all;
 pub use thin::thinned;
-
-#[cfg(test)]
-mod tests;

@@ -17,6 +17,3 @@ mod meeting;
 pub use atomic::is_atomic;
 pub use branches::{check_cobegin_nd, check_foreach_nd};
 pub use meeting::first_meeting_nd;
-
-#[cfg(test)]
-mod tests;

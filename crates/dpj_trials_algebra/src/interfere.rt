@@ -1,4 +1,4 @@
-use super::*;
+use dpj_interfere::{check_cobegin, check_foreach, first_meeting};
 use dpj_base::{Effect, Elem, Elems, Head, Rpl};
 use dpj_effects::EffectSet;
 use std::alloc::Global;

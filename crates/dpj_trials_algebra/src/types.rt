@@ -1,4 +1,4 @@
-use crate::{
+use dpj_types::{
     is_ordered, mentions, mentions_index, rigid, rigid_in_index, subst_type, subtype, type_at,
 };
 use dpj_base::{Boxed, Elem, Elems, Head, Items, NoMemory, Plain, Rpl, Super, Ty};

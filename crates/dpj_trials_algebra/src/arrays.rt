@@ -1,4 +1,4 @@
-use crate::{IndexKind, element};
+use dpj_arrays::{IndexKind, element};
 use dpj_base::{Boxed, Elem, Elems, Head, Items, NoMemory, Plain, Rpl, Ty};
 use std::alloc::Global;
 use std::test::Fail;
