@@ -29,7 +29,9 @@ pub fn number_of(e: &Effect) -> u32
 {
     let mut number = 7u32;
     for elem in e.rpl.elems.as_slice() {
-        number = number.wrapping_mul(16777619).wrapping_add(elem_number(*elem));
+        number = number
+            .wrapping_mul(16777619)
+            .wrapping_add(elem_number(*elem));
     }
     number
 }

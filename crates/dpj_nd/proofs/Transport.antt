@@ -33,10 +33,10 @@ first_pair-thinned given names params branches left t p h =
     left
     t.lengths
     (λ i j d lt below.
-      let e = lists_interfere-meet given names params (get_or left i d) (get_or left j d)
-          ∙ meet-thinned given (interferes_nd given names params) (quiet-nd given names params) branches left t i j d lt below
-          ∙ sym (lists_interfere-meet given names params (get_or branches i d) (get_or branches j d)) in
-      (λ r. sym e ∙ r, λ r. e ∙ r))
+    let e = lists_interfere-meet given names params (get_or left i d) (get_or left j d)
+    ∙ meet-thinned given (interferes_nd given names params) (quiet-nd given names params) branches left t i j d lt below
+    ∙ sym (lists_interfere-meet given names params (get_or branches i d) (get_or branches j d)) in
+    (λ r. sym e ∙ r, λ r. e ∙ r))
     p
     h
 

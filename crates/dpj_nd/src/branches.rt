@@ -43,7 +43,13 @@ fn interferes_behind(
         return None;
     }
     for j in i + 1..branches.len() {
-        if lists_interfere(branch.as_slice(), branches[j].as_slice(), given, names, params) {
+        if lists_interfere(
+            branch.as_slice(),
+            branches[j].as_slice(),
+            given,
+            names,
+            params,
+        ) {
             return Some(j);
         }
     }

@@ -56,7 +56,13 @@ fn first_behind(
         return None;
     }
     for j in i + 1..branches.len() {
-        if lists_interfere(effects.as_slice(), branches[j].as_slice(), given, names, params) {
+        if lists_interfere(
+            effects.as_slice(),
+            branches[j].as_slice(),
+            given,
+            names,
+            params,
+        ) {
             return Some(j);
         }
     }
