@@ -1,4 +1,4 @@
-use crate::{EffectSet, covers, interferes};
+use dpj_effects::{EffectSet, covers, interferes};
 use dpj_base::{Effect, Elem, Elems, Head, NoMemory, Rpl};
 use std::alloc::Global;
 use std::test::Fail;

@@ -1,4 +1,4 @@
-use super::*;
+use dpj_interfere::{check_cobegin, check_foreach, first_meeting};
 use dpj_base::{Effect, Elem, Elems, Head, Rpl};
 use dpj_effects::EffectSet;
 use std::alloc::Global;
@@ -37,6 +37,7 @@ fn the_first_two_branches_that_interfere(rt: HostRuntime) -> Result<(), Fail> {
         let branches = sets.as_slice();
         assert_eq!(rt; branches.len(), 3);
         assert_eq!(rt; check_cobegin(branches, &[]), pair);
+        assert_eq!(rt; first_meeting(alloc, branches, &[])?, pair);
     }
     Ok(())
 }
@@ -55,5 +56,20 @@ fn a_body_writes_what_is_its_own(rt: HostRuntime) -> Result<(), Fail> {
         let body = one(alloc, write, elems.as_slice())?;
         assert_eq!(rt; check_foreach(alloc, &body, 7, &[])?, passed);
     }
+    Ok(())
+}
+
+/// Of many branches that read one region and write one of their own, only the last two meet.
+#[test]
+fn many_branches(rt: HostRuntime) -> Result<(), Fail> {
+    let alloc = rt.alloc();
+    let mut sets = Vec::new(alloc);
+    for k in 0..20000u32 {
+        let mut branch = one(alloc, true, &[Elem::Name(k.min(19998))])?;
+        branch.absorb(alloc, one(alloc, false, &[Elem::Lit(0), Elem::Star])?)?;
+        sets.push(branch)?;
+    }
+    let pair = Some((19998u32, 19999u32));
+    assert_eq!(rt; first_meeting(alloc, sets.as_slice(), &[])?, pair);
     Ok(())
 }

@@ -1,4 +1,4 @@
-use super::*;
+use dpj_nd::{check_cobegin_nd, check_foreach_nd, is_atomic};
 use dpj_base::{Effect, Elem, Elems, Head, NoMemory, Rpl};
 use dpj_effects::EffectSet;
 use std::alloc::Global;
