@@ -51,6 +51,10 @@ base_reads x (base.Class named args) = list_any (path_reads x) args
 abbrev pub written_reads : ℕ → BaseTree → List Suffix → Option Named → Bool
 written_reads x base suffixes own = (is_outer x suffixes own && base_reads x base) || suffixes_read x suffixes own
 
+-- the same for an array that is made, with its own path
+unfoldable pub made_reads : ℕ → BaseTree → List Suffix → Option RplTree → Option Named → Bool
+made_reads x base suffixes rpl index = written_reads x base suffixes index || (is_outer x [] index && optional_path_reads x rpl)
+
 abbrev pub type_reads : ℕ → TypeTree → Bool
 type_reads x ty = written_reads x ty.base ty.suffixes None
 
@@ -69,8 +73,7 @@ abbrev mutual
   form_reads x (element array index) = expr_reads x array || expr_reads x index
   form_reads x (call of regions name actuals) = (expr_reads x of || list_any (path_reads x) regions) || exprs_read x actuals
   form_reads x (create class regions actuals) = list_any (path_reads x) regions || exprs_read x actuals
-  form_reads x (create_array base suffixes len rpl index) =
-      (written_reads x base suffixes index || (is_outer x [] index && optional_path_reads x rpl)) || expr_reads x len
+  form_reads x (create_array base suffixes len rpl index) = made_reads x base suffixes rpl index || expr_reads x len
   form_reads x (unary op arg) = expr_reads x arg
   form_reads x (binary op left right) = expr_reads x left || expr_reads x right
 

@@ -1,8 +1,8 @@
-ghost use Rattle.std.specs.Prelude.{◌≡◌, ◌==◌, ◌&&◌, ◌||◌, OnOk, map, []};
+ghost use Rattle.std.specs.Prelude.{◌≡◌, ◌==◌, ◌&&◌, ◌||◌, OnOk, map};
 ghost use Rattle.std.specs.List.{list_any};
 ghost use Rattle.dpj_tree.specs.Plain.{plain_expr, plain_exprs};
 ghost use Rattle.dpj_locals.specs.Gains.{Gains};
-ghost use Rattle.dpj_locals.specs.Touches.{path_reads, optional_path_reads, expr_reads, exprs_read, is_index_name, is_bound, is_outer, suffixes_read, base_reads, written_reads, type_reads};
+ghost use Rattle.dpj_locals.specs.Touches.{path_reads, optional_path_reads, expr_reads, exprs_read, is_index_name, is_bound, is_outer, suffixes_read, base_reads, written_reads, made_reads, type_reads};
 
 use dpj_base::{Items, NoMemory};
 use dpj_tree::{BaseTree, ElemTree, Expr, ExprKind, Named, RplTree, Suffix, TypeTree};
@@ -155,6 +155,7 @@ fn read_written(
 }
 
 /// Notes the locals that stand as indices in the type of an array that is made, and in its own path.
+#[tactic(auto, unfolding(crate::specs::Touches::made_reads))]
 fn read_made(
     inside: &BTreeSet<u32>,
     reads: &mut BTreeSet<u32>,
@@ -163,7 +164,7 @@ fn read_made(
     rpl: &Option<RplTree>,
     index: &Option<Named>,
 ) -> Result<(), NoMemory>
-    ensures { OnOk result (Gains inside.now reads.old reads.new (λ x. written_reads x base.now suffixes.now index.now || (is_outer x [] index.now && optional_path_reads x rpl.now))) }
+    ensures { OnOk result (Gains inside.now reads.old reads.new (λ x. made_reads x base.now suffixes.now rpl.now index.now)) }
 {
     read_written(inside, reads, base, suffixes, index)?;
     read_optional_path(inside, reads, rpl, &[], index)

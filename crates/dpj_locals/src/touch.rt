@@ -1,8 +1,7 @@
-ghost use Rattle.std.specs.Prelude.{◌↔◌, ℕ, Contains, IsTrue, IfOk};
+ghost use Rattle.std.specs.Prelude.{◌≡◌, ◌↔◌, ℕ, Contains, IsTrue, IfOk};
 ghost use Rattle.std.specs.Ordering.{nat_cmp};
 ghost use Rattle.std.specs.List.Sorted.{IsStrictlySortedBy};
 ghost use Rattle.dpj_tree.specs.Plain.{plain_stmt};
-ghost use Rattle.dpj_locals.specs.Gains.{has};
 ghost use Rattle.dpj_locals.specs.Touches.{stmt_reads, stmt_assigns};
 
 use crate::branch::Touched;
@@ -31,7 +30,7 @@ pub fn touched(alloc: Global, stmt: &Stmt) -> Result<Touched, NoMemory>
 
 /// The names of a set, in order.
 fn listed(alloc: Global, names: &BTreeSet<u32>) -> Result<Items<u32>, NoMemory>
-    ensures all { IfOk result (λ list. (x : ℕ) → IsTrue (has names.now x) ↔ Contains list x) }
+    ensures keys { IfOk result (λ list. list ≡ names.now.keys) }
     ensures sorted { IfOk result (λ list. IsStrictlySortedBy nat_cmp list) }
 {
     let list = names.iter().copied().collect(alloc)?;

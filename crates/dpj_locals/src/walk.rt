@@ -182,8 +182,14 @@ fn leave(inside: &mut BTreeSet<u32>, declared: &[u32])
     ensures { Scoped inside.new inside.old declared.now }
 {
     for name in declared {
-        inside.remove(name);
+        drop_name(inside, *name);
     }
+}
+
+fn drop_name(inside: &mut BTreeSet<u32>, name: u32)
+    ensures { (x : ℕ) → has inside.new x ≡ (has inside.old x && not (name == x)) }
+{
+    inside.remove(&name);
 }
 
 /// Branches, each a block of its own.
