@@ -68,11 +68,7 @@ fn visit(alloc: Global, links: &Links, root: u32, steps: &mut Items<Step>) -> Re
     Ok(())
 }
 
-fn push_children(
-    links: &Links,
-    class: u32,
-    pending: &mut Items<Step>,
-) -> Result<(), NoMemory> {
+fn push_children(links: &Links, class: u32, pending: &mut Items<Step>) -> Result<(), NoMemory> {
     let mut next = links.child.get(class as usize).copied().flatten();
     for _ in 0..links.child.len() {
         let Some(child) = next else {

@@ -21,7 +21,13 @@ pub fn headers(alloc: Global, program: &Program) -> Result<Headers, Stop> {
     check_extended(alloc, classes, parents.as_slice(), &mut faults)?;
     faults.settle()?;
     let steps = way(alloc, parents.as_slice())?;
-    check_members(alloc, classes, program.names.len(), steps.as_slice(), &mut faults)?;
+    check_members(
+        alloc,
+        classes,
+        program.names.len(),
+        steps.as_slice(),
+        &mut faults,
+    )?;
     faults.settle()?;
     let counts = count_fields(alloc, classes, parents.as_slice(), steps.as_slice())?;
     let (regions, atomic) = number_regions(alloc, classes)?;
@@ -40,7 +46,14 @@ fn is_field(member: &Member) -> bool {
 }
 
 fn own_fields(class: &Class) -> u32 {
-    to_number(class.members.as_slice().iter().filter(|member| is_field(member)).count())
+    to_number(
+        class
+            .members
+            .as_slice()
+            .iter()
+            .filter(|member| is_field(member))
+            .count(),
+    )
 }
 
 /// How many fields each class has, inherited ones included. The steps go through all classes.
@@ -146,5 +159,8 @@ fn rows(
 
 /// The number of a name, where the text has it.
 fn name_of(names: &[Bytes], text: &[u8]) -> Option<u32> {
-    names.iter().position(|name| name.as_slice() == text).map(to_number)
+    names
+        .iter()
+        .position(|name| name.as_slice() == text)
+        .map(to_number)
 }

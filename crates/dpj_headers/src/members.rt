@@ -52,6 +52,7 @@ struct Visible {
 
 /// In lists that belong to one class or one method: declared by the class, and by the method.
 const BY_CLASS: u32 = 0;
+
 const BY_METHOD: u32 = 1;
 
 /// Notes each second declaration of a name, inherited ones included, and each constructor that isn't named as
@@ -94,7 +95,12 @@ impl Visible {
     }
 
     fn enter_class(&mut self, class: &Class, number: u32, faults: &mut Faults) {
-        enter_params(&mut self.params, class.params.list.as_slice(), BY_CLASS, faults);
+        enter_params(
+            &mut self.params,
+            class.params.list.as_slice(),
+            BY_CLASS,
+            faults,
+        );
         for member in class.members.as_slice() {
             self.enter_member(class, member, number, faults);
         }

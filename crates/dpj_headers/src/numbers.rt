@@ -57,7 +57,10 @@ impl OwnedNumbers {
 
     /// Puts a number under a name, in the place of one that stands there.
     pub fn set(&mut self, owner: u32, name: u32, number: u32) -> Result<(), NoMemory> {
-        let _ = self.map.insert(Owned { owner, name }, number).map_err(AllocError::from)?;
+        let _ = self
+            .map
+            .insert(Owned { owner, name }, number)
+            .map_err(AllocError::from)?;
         Ok(())
     }
 }
