@@ -39,7 +39,7 @@ fn link(alloc: Global, parents: &[Option<u32>]) -> Result<Links, NoMemory> {
     Ok(links)
 }
 
-/// The way through all classes, each entered behind its superclass and left behind what extends it.
+/// The way through all classes, each entered behind its superclass and left behind all that extends it.
 pub fn way(alloc: Global, parents: &[Option<u32>]) -> Result<Items<Step>, NoMemory> {
     let links = link(alloc, parents)?;
     let mut steps = Items::new(alloc);

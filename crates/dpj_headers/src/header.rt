@@ -1,3 +1,4 @@
+use crate::forest::{Step, way};
 use crate::numbers::{NameNumbers, OwnedNumbers};
 use dpj_base::{Items, NoMemory, Place, Plain};
 use std::alloc::Global;
@@ -96,6 +97,15 @@ impl Headers {
             at = self.parent(reached);
         }
         false
+    }
+
+    /// The way through all classes, each entered behind its superclass and left behind all that extends it.
+    pub fn way(&self, alloc: Global) -> Result<Items<Step>, NoMemory> {
+        let mut parents = Items::new(alloc);
+        for row in self.rows.as_slice() {
+            parents.push(row.parent)?;
+        }
+        way(alloc, parents.as_slice())
     }
 
     /// The number of the name `Main`, where the text has it.

@@ -17,6 +17,7 @@ mod numbers;
 mod supers;
 
 pub use faults::Faults;
+pub use forest::Step;
 pub use gather::{headers, param_rows};
 pub use header::{Header, Headers, ParamRow};
 pub use numbers::{NameNumbers, OwnedNumbers, to_number};
