@@ -142,20 +142,18 @@ abbrev pub class_within : PlainType → PlainType → Bool
 class_within (class c rs) (class d ss) = (c == d) && all_within rs ss
 class_within a b = false
 
-abbrev pub ancestor_within : List Super → ℕ → PlainType → PlainType → Bool
-ancestor_within supers n a b = option_map_or (λ t. class_within t b) (ancestor supers n a) false
-
--- the class type itself, or one that it reaches by its superclasses, lies in the other; where there is no cycle,
--- no chain of superclasses has more steps than there are rows
-abbrev pub BelowClass : List Super → PlainType → PlainType → Type 0
-BelowClass supers a b = (n : ℕ) × (n ≤ length supers) × IsTrue (ancestor_within supers n a b)
+-- the class type lies in the other, or its superclass does, or the superclass of that, at most so many steps up
+abbrev pub below_class : List Super → ℕ → PlainType → PlainType → Bool
+below_class supers zero a b = class_within a b
+below_class supers (suc n) a b = class_within a b || option_map_or (λ t. below_class supers n t b) (parent_of supers a) false
 
 -- the regions of the elements lie in the other's, and the element types are the same, up to the index name
 abbrev pub ArrayWithin : PlainType → Rpl → Option ℕ → PlainType → Rpl → Option ℕ → Type 0
 ArrayWithin elem rpl index elem' rpl' index' =
     IsTrue (within (nameless_path (index ∷ []) rpl) (nameless_path (index' ∷ []) rpl')) × (nameless (index ∷ []) elem ≡ nameless (index' ∷ []) elem')
 
--- the first type is a subtype of the second
+-- the first type is a subtype of the second; where there is no cycle, no chain of superclasses has more steps than
+-- there are rows
 abbrev pub Subtype : List Super → PlainType → PlainType → Type 0
 Subtype supers int int = Unit {0}
 Subtype supers boolean boolean = Unit {0}
@@ -163,6 +161,6 @@ Subtype supers void void = Unit {0}
 Subtype supers null null = Unit {0}
 Subtype supers null (class c args) = Unit {0}
 Subtype supers null (array elem rpl index) = Unit {0}
-Subtype supers (class c rs) (class d ss) = BelowClass supers (class c rs) (class d ss)
+Subtype supers (class c rs) (class d ss) = IsTrue (below_class supers (length supers) (class c rs) (class d ss))
 Subtype supers (array elem rpl index) (array elem' rpl' index') = ArrayWithin elem rpl index elem' rpl' index'
 Subtype supers a b = ⊥

@@ -1,5 +1,6 @@
 ghost use Rattle.std.specs.Prelude.{◌≡◌, IfOk};
 ghost use Rattle.dpj_base.specs.Regions.{substituted};
+ghost use Rattle.dpj_resolve.specs.Constraints.{holds_at, all_hold};
 
 use dpj_base::{Constraint, Head, NoMemory, Plain, Rpl};
 use dpj_disjoint::disjoint;
@@ -12,15 +13,28 @@ pub fn constraints_hold(
     constraints: &[Constraint],
     args: &[Rpl],
     given: &[Constraint],
-) -> Result<bool, NoMemory> {
+) -> Result<bool, NoMemory>
+    ensures { IfOk result (λ hold. hold ≡ all_hold given.now args.now constraints.now) }
+{
     for constraint in constraints {
-        let left = put_in(alloc, &constraint.left, args)?;
-        let right = put_in(alloc, &constraint.right, args)?;
-        if !disjoint(&left, &right, given) {
+        if !holds_at(alloc, constraint, args, given)? {
             return Ok(false);
         }
     }
     Ok(true)
+}
+
+fn holds_at(
+    alloc: Global,
+    constraint: &Constraint,
+    args: &[Rpl],
+    given: &[Constraint],
+) -> Result<bool, NoMemory>
+    ensures { IfOk result (λ holds. holds ≡ holds_at given.now args.now constraint.now) }
+{
+    let left = put_in(alloc, &constraint.left, args)?;
+    let right = put_in(alloc, &constraint.right, args)?;
+    Ok(disjoint(&left, &right, given))
 }
 
 /// The path with its argument put in for the parameter at its head. A parameter that has none stays.

@@ -18,9 +18,9 @@ mod scope;
 mod scoped;
 mod types;
 
-pub use args::{ReadArgs, fit_args, read_args};
-pub use base::ReadType;
-pub use constraints::constraints_hold;
+pub use args::{ReadArgs, fit_args, read_args, root};
+pub use base::{ReadBase, ReadType, class_made};
+pub use constraints::{constraints_hold, put_in};
 pub use index::{IndexNames, index_number};
 pub use paths::{Need, path};
 pub use scope::{Scope, Site};

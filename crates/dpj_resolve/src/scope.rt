@@ -13,6 +13,7 @@ pub enum Site {
 }
 
 /// What is around a place of the text.
+#[derive(Drop)]
 pub struct Scope<'a> {
     pub headers: &'a Headers,
     pub class: u32,

@@ -1,0 +1,10 @@
+//! Arrays: the type and the region path of an element at an index, and whether it may be read and written.
+//!
+//! `element` is exactly its definition in `specs/Access.antt`.
+#![tactic(auto)]
+
+mod access;
+#[cfg(test)]
+mod tests;
+
+pub use access::{Element, IndexKind, element};
