@@ -1,7 +1,7 @@
 use crate::env::{Env, LocalRow};
 use crate::fitting::{mentions_partial, refused, rigid_in_partial};
 use crate::found::Found;
-use dpj_arrays::{Element, IndexKind};
+use dpj_arrays::{Element, IndexKind, element};
 use dpj_base::{Kind, Place, Plain, Rpl, Stop, Ty};
 use dpj_resolve::put_in;
 use dpj_tree::{Expr, ExprKind};
@@ -90,7 +90,7 @@ pub fn element_at(
     if !matches!(index_ty, Ty::Int) {
         return Err(refused(Kind::Type, place));
     }
-    match dpj_arrays::read_element(alloc, array, &index_kind(env, index))? {
+    match element(alloc, array, &index_kind(env, index))? {
         Some(found) => Ok(found),
         None => Err(refused(Kind::Type, place)),
     }

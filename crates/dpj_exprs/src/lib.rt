@@ -18,6 +18,7 @@ mod fitting;
 mod found;
 mod node_types;
 mod operations;
+mod supers;
 mod typing;
 
 pub use assigned::{Target, assign, read_target};
