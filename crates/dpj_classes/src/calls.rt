@@ -16,6 +16,7 @@ pub struct Reached {
 }
 
 /// A walk through one body that finds the classes of receivers, where they can be told. Faults don't stop it.
+#[derive(Drop)]
 struct Walk<'a> {
     table: &'a Table,
     class: u32,
@@ -100,7 +101,10 @@ impl Walk<'_> {
                 Ok(array.element())
             }
             ExprKind::Call {
-                of, name, actuals, ..
+                of,
+                name,
+                actuals,
+                ..
             } => {
                 let of = self.expr(of.get())?;
                 self.exprs(actuals.as_slice())?;
@@ -146,7 +150,10 @@ impl Walk<'_> {
         match &stmt.kind {
             StmtKind::Block(all) | StmtKind::Atomic(all) => self.block(all.as_slice()),
             StmtKind::Declare {
-                ty, name, value, ..
+                ty,
+                name,
+                value,
+                ..
             } => {
                 self.expr(value)?;
                 self.declare(*name, ty)

@@ -7,7 +7,11 @@ use dpj_tree::{Class, Member};
 use std::alloc::Global;
 
 /// Of each method and constructor, whether an nd construct is reached through it.
-pub fn find_forks(alloc: Global, table: &Table, classes: &[Class]) -> Result<Items<bool>, NoMemory> {
+pub fn find_forks(
+    alloc: Global,
+    table: &Table,
+    classes: &[Class],
+) -> Result<Items<bool>, NoMemory> {
     let mut edges = Items::new(alloc);
     let mut marks = vec![in alloc]?;
     for (at, class) in classes.iter().enumerate() {

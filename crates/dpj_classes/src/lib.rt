@@ -13,10 +13,10 @@
 #![tactic(auto)]
 
 mod around;
-mod build;
 mod calls;
 mod forking;
 mod main_class;
+mod make;
 mod overridden;
 mod overriding;
 mod reach;
@@ -27,7 +27,7 @@ mod signatures;
 mod summary;
 mod table;
 
-pub use build::build;
+pub use make::build;
 pub use rows::{FieldRow, MethodRow};
 pub use same::same_type;
 pub use table::Table;

@@ -26,7 +26,10 @@ pub fn check_main(table: &Table, names: &[Bytes], faults: &mut Faults) {
 fn begins_runs(table: &Table, class: u32, header: &Header, names: &[Bytes]) -> bool {
     header.params.is_empty()
         && table.constructor(class).is_none()
-        && table.methods().iter().any(|row| row.owner == class && is_main(row, names))
+        && table
+            .methods()
+            .iter()
+            .any(|row| row.owner == class && is_main(row, names))
 }
 
 /// Whether a method is `int main(int)` without region parameters.

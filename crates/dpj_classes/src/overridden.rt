@@ -50,7 +50,11 @@ fn spans(alloc: Global, classes: usize, methods: &[MethodRow]) -> Result<Vec<Spa
     Ok(spans)
 }
 
-fn own_methods<'a>(methods: &'a [MethodRow], spans: &[Span], class: u32) -> Option<&'a [MethodRow]> {
+fn own_methods<'a>(
+    methods: &'a [MethodRow],
+    spans: &[Span],
+    class: u32,
+) -> Option<&'a [MethodRow]> {
     let span = spans.get(class as usize)?;
     methods.get(span.from..span.to)
 }

@@ -8,11 +8,7 @@ use dpj_types::subst_type;
 use std::alloc::Global;
 
 /// Notes each method that doesn't fit the one that it overrides.
-pub fn check_overriding(
-    alloc: Global,
-    table: &Table,
-    faults: &mut Faults,
-) -> Result<(), NoMemory> {
+pub fn check_overriding(alloc: Global, table: &Table, faults: &mut Faults) -> Result<(), NoMemory> {
     for row in table.methods() {
         let Some(overridden) = table.overrides(row.id) else {
             continue;
@@ -45,7 +41,10 @@ fn region_args(
     row: &MethodRow,
     owner: u32,
 ) -> Result<Items<Rpl>, NoMemory> {
-    let of_class = table.headers().header(row.owner).map_or(0, |header| header.params.len());
+    let of_class = table
+        .headers()
+        .header(row.owner)
+        .map_or(0, |header| header.params.len());
     let mut own = Items::new(alloc);
     for at in 0..of_class {
         own.push(param(alloc, to_number(at)))?;
@@ -70,14 +69,28 @@ fn fits(
 ) -> Result<bool, NoMemory> {
     Ok(
         same_kinds(row.regions.as_slice(), overridden.regions.as_slice())
-            && same_constraints(alloc, row.given.as_slice(), overridden.given.as_slice(), args)?
-            && same_types(alloc, row.params.as_slice(), overridden.params.as_slice(), args)?
+            && same_constraints(
+                alloc,
+                row.given.as_slice(),
+                overridden.given.as_slice(),
+                args,
+            )?
+            && same_types(
+                alloc,
+                row.params.as_slice(),
+                overridden.params.as_slice(),
+                args,
+            )?
             && same_with(alloc, &row.result, &overridden.result, args)?,
     )
 }
 
 fn same_kinds(own: &[ParamRow], others: &[ParamRow]) -> bool {
-    own.len() == others.len() && own.iter().zip(others.iter()).all(|(a, b)| a.atomic == b.atomic)
+    own.len() == others.len()
+        && own
+            .iter()
+            .zip(others.iter())
+            .all(|(a, b)| a.atomic == b.atomic)
 }
 
 fn same_constraints(

@@ -18,7 +18,7 @@ struct Chains {
     nexts: Vec<Option<u32>>,
 }
 
-fn chains(alloc: Global, count: usize, edges: &[Edge]) -> Result<Chains, NoMemory> {
+fn chain_edges(alloc: Global, count: usize, edges: &[Edge]) -> Result<Chains, NoMemory> {
     let mut chains = Chains {
         heads: vec![in alloc; None; count]?,
         nexts: vec![in alloc; None; edges.len()]?,
@@ -36,12 +36,8 @@ fn chains(alloc: Global, count: usize, edges: &[Edge]) -> Result<Chains, NoMemor
 }
 
 /// Marks whatever reaches something that is marked, by any chain of edges.
-pub fn mark_reaching(
-    alloc: Global,
-    marks: &mut Vec<bool>,
-    edges: &[Edge],
-) -> Result<(), NoMemory> {
-    let chains = chains(alloc, marks.len(), edges)?;
+pub fn mark_reaching(alloc: Global, marks: &mut Vec<bool>, edges: &[Edge]) -> Result<(), NoMemory> {
+    let chains = chain_edges(alloc, marks.len(), edges)?;
     let mut pending = Items::new(alloc);
     for (at, mark) in marks.iter().enumerate() {
         if *mark {

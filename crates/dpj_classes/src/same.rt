@@ -16,18 +16,18 @@ pub fn same_type(alloc: Global, a: &Ty, b: &Ty) -> Result<bool, NoMemory> {
 /// The same inside array types with these index names, the outermost first. The names are as before behind it.
 fn same_inside(a: &Ty, b: &Ty, names: &mut Items<IndexPair>) -> Result<bool, NoMemory> {
     match (a, b) {
-        (Ty::Int, Ty::Int)
-        | (Ty::Bool, Ty::Bool)
-        | (Ty::Void, Ty::Void)
-        | (Ty::Null, Ty::Null) => Ok(true),
+        (Ty::Int, Ty::Int) | (Ty::Bool, Ty::Bool) | (Ty::Void, Ty::Void) | (Ty::Null, Ty::Null) =>
+            Ok(true),
         (
             Ty::Class { class, args },
             Ty::Class {
                 class: other_class,
                 args: other_args,
             },
-        ) => Ok(*class == *other_class
-            && same_paths(args.as_slice(), other_args.as_slice(), names.as_slice())),
+        ) => Ok(
+            *class == *other_class
+                && same_paths(args.as_slice(), other_args.as_slice(), names.as_slice()),
+        ),
         (
             Ty::Array { elem, rpl, index },
             Ty::Array {
@@ -50,7 +50,11 @@ fn same_inside(a: &Ty, b: &Ty, names: &mut Items<IndexPair>) -> Result<bool, NoM
 }
 
 fn same_paths(left: &[Rpl], right: &[Rpl], names: &[IndexPair]) -> bool {
-    left.len() == right.len() && left.iter().zip(right.iter()).all(|(a, b)| same_path(a, b, names))
+    left.len() == right.len()
+        && left
+            .iter()
+            .zip(right.iter())
+            .all(|(a, b)| same_path(a, b, names))
 }
 
 fn same_path(a: &Rpl, b: &Rpl, names: &[IndexPair]) -> bool {
@@ -58,7 +62,10 @@ fn same_path(a: &Rpl, b: &Rpl, names: &[IndexPair]) -> bool {
     let others = b.elems.as_slice();
     a.head == b.head
         && elems.len() == others.len()
-        && elems.iter().zip(others.iter()).all(|(x, y)| same_elem(*x, *y, names))
+        && elems
+            .iter()
+            .zip(others.iter())
+            .all(|(x, y)| same_elem(*x, *y, names))
 }
 
 fn same_elem(x: Elem, y: Elem, names: &[IndexPair]) -> bool {

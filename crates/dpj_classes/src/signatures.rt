@@ -33,7 +33,7 @@ pub fn class_constraints(
 }
 
 /// Reads the signatures of all classes, whose constraints are known.
-pub fn signatures(
+pub fn read_signatures(
     alloc: Global,
     headers: &Headers,
     classes: &[Class],
@@ -57,6 +57,7 @@ pub fn signatures(
 }
 
 /// The class whose signatures are read.
+#[derive(Clone, Copy)]
 struct Around<'a> {
     headers: &'a Headers,
     class: u32,
@@ -82,9 +83,14 @@ impl Around<'_> {
             match member {
                 Member::Regions { .. } => {}
                 Member::Field(field) => {
-                    let scope =
-                        names.scope(self.headers, self.class, in_force.as_slice(), self.classes_given);
-                    made.fields.push(read_field(alloc, &scope, faults, field, slot)?)?;
+                    let scope = names.scope(
+                        self.headers,
+                        self.class,
+                        in_force.as_slice(),
+                        self.classes_given,
+                    );
+                    made.fields
+                        .push(read_field(alloc, &scope, faults, field, slot)?)?;
                     slot = slot.saturating_add(1);
                 }
                 Member::Method(method) => {
@@ -100,7 +106,10 @@ impl Around<'_> {
     /// The slot of the first field that the class itself declares.
     fn first_slot(&self) -> u32 {
         match self.headers.parent(self.class) {
-            Some(parent) => self.headers.header(parent).map_or(0, |header| header.fields),
+            Some(parent) => self
+                .headers
+                .header(parent)
+                .map_or(0, |header| header.fields),
             None => 0,
         }
     }
@@ -144,10 +153,20 @@ impl Around<'_> {
     ) -> Result<MethodRow, Stop> {
         let names = Names::of_method(alloc, method)?;
         let of_class = in_force.len();
-        let scope = names.scope(self.headers, self.class, in_force.as_slice(), self.classes_given);
+        let scope = names.scope(
+            self.headers,
+            self.class,
+            in_force.as_slice(),
+            self.classes_given,
+        );
         let given = read_constraints(alloc, &scope, faults, method.params.given.as_slice())?;
         add_copies(alloc, in_force, given.as_slice())?;
-        let scope = names.scope(self.headers, self.class, in_force.as_slice(), self.classes_given);
+        let scope = names.scope(
+            self.headers,
+            self.class,
+            in_force.as_slice(),
+            self.classes_given,
+        );
         let params = read_formals(alloc, &scope, faults, method.formals.as_slice())?;
         let result = read_result(alloc, &scope, faults, &method.result)?;
         let summary = read_summary(alloc, &scope, faults, &method.summary)?;
@@ -187,11 +206,24 @@ fn read_parent(
     parent: u32,
 ) -> Result<Ty, Stop> {
     let params = scope.class_params(parent);
-    let read = read_args(alloc, scope, faults, tree.args.as_slice(), params, true, &no_indices())?;
+    let read = read_args(
+        alloc,
+        scope,
+        faults,
+        tree.args.as_slice(),
+        params,
+        true,
+        &no_indices(),
+    )?;
     let args = match fit_args(alloc, faults, read, params, tree.name.place)? {
         None => Items::new(alloc),
         Some(args) => {
-            if !constraints_hold(alloc, scope.class_given(parent), args.as_slice(), scope.given)? {
+            if !constraints_hold(
+                alloc,
+                scope.class_given(parent),
+                args.as_slice(),
+                scope.given,
+            )? {
                 faults.note(Kind::Constraint, tree.name.place);
             }
             args
@@ -242,10 +274,10 @@ fn read_result(
     alloc: Global,
     scope: &Scope,
     faults: &mut Faults,
-    result: &MethodResult,
+    tree: &MethodResult,
 ) -> Result<Ty, Stop> {
-    match result {
+    match tree {
         MethodResult::Constructor | MethodResult::Void => Ok(Ty::Void),
-        MethodResult::Value(tree) => Ok(ty(alloc, scope, faults, tree)?.unwrap_or(Ty::Void)),
+        MethodResult::Value(written) => Ok(ty(alloc, scope, faults, written)?.unwrap_or(Ty::Void)),
     }
 }

@@ -17,8 +17,22 @@ pub fn read_summary(
     match tree {
         None => summary.add(anything(alloc)?)?,
         Some(tree) => {
-            read_items(alloc, scope, faults, tree.reads.as_slice(), false, &mut summary)?;
-            read_items(alloc, scope, faults, tree.writes.as_slice(), true, &mut summary)?;
+            read_items(
+                alloc,
+                scope,
+                faults,
+                tree.reads.as_slice(),
+                false,
+                &mut summary,
+            )?;
+            read_items(
+                alloc,
+                scope,
+                faults,
+                tree.writes.as_slice(),
+                true,
+                &mut summary,
+            )?;
         }
     }
     Ok(summary)

@@ -1,6 +1,6 @@
 use crate::env::Env;
 use crate::fields::{element_at, field_at, part_element};
-use crate::fits::{fits, refused};
+use crate::fitting::{fits, refused};
 use crate::found::Found;
 use crate::node_types::NodeTypes;
 use crate::typing::{expr, note_part};
@@ -21,7 +21,7 @@ pub struct Target {
 
 /// Reads the target of an assignment, a field or an element. It isn't read itself, and the write comes with
 /// `assign`.
-pub fn target(
+pub fn read_target(
     alloc: Global,
     env: &Env,
     types: &mut NodeTypes,

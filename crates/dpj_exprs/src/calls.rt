@@ -1,5 +1,5 @@
 use crate::env::Env;
-use crate::fits::{fits, may_fit, mentions_partial, refused, rigid_in_partial};
+use crate::fitting::{fits, may_fit, mentions_partial, refused, rigid_in_partial};
 use crate::found::Found;
 use dpj_base::{Items, Kind, NoMemory, Place, Plain, Rpl, Stop, Ty};
 use dpj_classes::MethodRow;

@@ -1,6 +1,6 @@
 use crate::calls::{check_actuals, check_shapes, no_index_names, read_full_args};
 use crate::env::Env;
-use crate::fits::refused;
+use crate::fitting::refused;
 use crate::found::Found;
 use dpj_base::{Kind, NoMemory, Place, Rpl, Stop, Ty};
 use dpj_headers::Faults;

@@ -1,3 +1,4 @@
+use crate::supers::Supers;
 use dpj_base::{Constraint, Elems, Head, Items, NoMemory, Plain, Rpl, Ty};
 use dpj_classes::Table;
 use dpj_headers::{ParamRow, to_number};
@@ -31,6 +32,7 @@ pub struct Env<'a> {
     pub class: u32,
     /// The number of the method.
     pub method: u32,
+    pub(crate) supers: Supers<'a>,
     /// The name `length`, where the text has it.
     length: Option<u32>,
     /// The region parameters of the method, with whether each is atomic.
@@ -60,6 +62,7 @@ impl Env<'_> {
             table,
             class: 0,
             method: 0,
+            supers: Supers::of(table.supers()),
             length,
             params: Scoped::new(alloc),
             rows: Items::new(alloc),

@@ -1,5 +1,5 @@
 use crate::env::{Env, LocalRow};
-use crate::fits::{mentions_partial, refused, rigid_in_partial};
+use crate::fitting::{mentions_partial, refused, rigid_in_partial};
 use crate::found::Found;
 use dpj_arrays::{Element, IndexKind, element};
 use dpj_base::{Kind, Place, Plain, Rpl, Stop, Ty};

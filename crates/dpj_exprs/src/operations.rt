@@ -1,4 +1,4 @@
-use crate::fits::refused;
+use crate::fitting::refused;
 use dpj_base::{Kind, Place, Stop, Ty};
 use dpj_tree::{BinaryOp, UnaryOp};
 

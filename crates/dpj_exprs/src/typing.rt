@@ -2,7 +2,7 @@ use crate::calls::{call, read_call_args};
 use crate::creations::{array_creation, creation, read_array, read_new_args};
 use crate::env::{Env, LocalRow};
 use crate::fields::{read_element, read_field, read_part};
-use crate::fits::refused;
+use crate::fitting::refused;
 use crate::found::Found;
 use crate::node_types::NodeTypes;
 use crate::operations::{binary, unary};

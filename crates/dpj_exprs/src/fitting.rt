@@ -2,7 +2,7 @@ use crate::env::Env;
 use dpj_base::{Kind, NoMemory, Place, Refusal, Rpl, Stop, Ty};
 use dpj_headers::{Headers, to_number};
 use dpj_regions::is_full;
-use dpj_types::{mentions, rigid, subtype};
+use dpj_types::{mentions, rigid};
 use std::alloc::Global;
 
 /// A refusal as what stops a pass.
@@ -12,7 +12,7 @@ pub fn refused(kind: Kind, place: Place) -> Stop {
 
 /// Whether a value of the one type may stand where the other is declared.
 pub fn fits(alloc: Global, env: &Env, value: &Ty, declared: &Ty) -> Result<bool, NoMemory> {
-    subtype(alloc, value, declared, env.table.supers())
+    env.supers.fit(alloc, value, declared)
 }
 
 /// Whether a value of the one type may stand where the other is declared, for some regions.

@@ -3,7 +3,7 @@ use crate::main_class::check_main;
 use crate::overridden::find_overridden;
 use crate::overriding::check_overriding;
 use crate::rows::{FieldRow, MethodRow};
-use crate::signatures::{class_constraints, signatures, Signatures};
+use crate::signatures::{Signatures, class_constraints, read_signatures};
 use crate::table::Table;
 use dpj_base::{Items, NoMemory, Stop, Super};
 use dpj_headers::{Faults, OwnedNumbers, headers, to_number};
@@ -18,7 +18,7 @@ pub fn build(alloc: Global, program: &Program) -> Result<Table, Stop> {
     let headers = headers(alloc, program)?;
     let mut faults = Faults::by_place();
     let given = class_constraints(alloc, &headers, classes, &mut faults)?;
-    let made = signatures(alloc, &headers, classes, given.as_slice(), &mut faults)?;
+    let made = read_signatures(alloc, &headers, classes, given.as_slice(), &mut faults)?;
     faults.settle()?;
     let Signatures {
         supers,
