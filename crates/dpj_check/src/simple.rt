@@ -1,7 +1,7 @@
 use crate::body::Body;
 use crate::gathered::Gathered;
 use dpj_base::{Kind, Place, Stop, Ty};
-use dpj_exprs::{assign, target};
+use dpj_exprs::{assign, read_target};
 use dpj_headers::Faults;
 use dpj_resolve::ty;
 use dpj_tree::{Expr, Named, Stmt, TypeTree};
@@ -74,7 +74,7 @@ pub fn assign_place(
 ) -> Result<(), Stop> {
     let mut faults = faults;
     let alloc = body.alloc;
-    let target = target(alloc, &body.env, &mut body.known.types, &mut out.found, written)?;
+    let target = read_target(alloc, &body.env, &mut body.known.types, &mut out.found, written)?;
     body.follow(written, out);
     let value = body.typed(value, out)?;
     let assigned = assign(alloc, &body.env, &mut out.found, target, &value, place);
