@@ -1,10 +1,11 @@
 use crate::gathered::Gathered;
+use crate::node::{Around, Node};
 use crate::reach::reaches_nd;
 use dpj_base::{Items, Kind, NoMemory, Place, Stop, Ty};
 use dpj_effects::EffectSet;
 use dpj_exprs::{Env, LocalRow, Mark, NodeTypes, expr, fits};
-use dpj_headers::{Faults, ParamRow};
-use dpj_tree::{Expr, Named};
+use dpj_headers::ParamRow;
+use dpj_tree::Expr;
 use std::alloc::Global;
 
 /// What was found out so far, from the first method to the last.
@@ -15,25 +16,14 @@ pub struct Known {
     pub blocks: Items<EffectSet>,
 }
 
-/// What we stand in.
-#[derive(Clone, Copy, Debug, PartialEq, Eq)]
-pub struct Around {
-    /// A branch or an atomic block, which no `return` leaves.
-    pub enclosed: bool,
-    pub in_atomic: bool,
-}
-
-/// A body that is being checked.
+/// The bodies that are being checked, and what is in scope in the one at hand.
 #[derive(Drop)]
 pub struct Body<'a> {
     pub alloc: Global,
     pub env: Env<'a>,
-    /// The type of the method's result. None where it has none.
-    pub result: Option<&'a Ty>,
     /// Of each region parameter, those of the class first, whether it is atomic.
     pub atomic_params: Items<bool>,
     pub known: Known,
-    pub around: Around,
 }
 
 impl<'a> Body<'a> {
@@ -42,19 +32,16 @@ impl<'a> Body<'a> {
         Body {
             alloc,
             env,
-            result: None,
             atomic_params: Items::new(alloc),
             known: Known {
                 types: NodeTypes::new(alloc),
                 blocks: Items::new(alloc),
             },
-            around: Around {
-                enclosed: false,
-                in_atomic: false,
-            },
         }
     }
+}
 
+impl Body<'_> {
     /// Goes over to a class.
     pub fn enter_class(&mut self, class: u32) -> Result<(), NoMemory> {
         self.env.enter_class(self.alloc, class)?;
@@ -67,23 +54,14 @@ impl<'a> Body<'a> {
     }
 
     /// Goes over to a method of the class that was entered, which has `class_params` region parameters.
-    pub fn enter_method(
-        &mut self,
-        method: u32,
-        class_params: usize,
-        has_result: bool,
-    ) -> Result<(), NoMemory> {
+    pub fn enter_method(&mut self, method: u32, class_params: usize) -> Result<(), NoMemory> {
         self.env.enter_method(self.alloc, method)?;
         self.atomic_params.truncate(class_params);
-        self.result = None;
         let table = self.env.table;
-        let Some(row) = table.numbered(method) else {
-            return Ok(());
-        };
-        if has_result {
-            self.result = Some(&row.result);
+        match table.numbered(method) {
+            Some(row) => self.add_params(row.regions.as_slice()),
+            None => Ok(()),
         }
-        self.add_params(row.regions.as_slice())
     }
 
     fn add_params(&mut self, params: &[ParamRow]) -> Result<(), NoMemory> {
@@ -94,45 +72,45 @@ impl<'a> Body<'a> {
     }
 
     /// Types an expression, and gathers what it does.
-    pub fn typed(&mut self, e: &Expr, out: &mut Gathered) -> Result<Ty, Stop> {
+    pub fn typed(&mut self, around: Around, e: &Expr, out: &mut Gathered) -> Result<Ty, Stop> {
         let ty = expr(self.alloc, &self.env, &mut self.known.types, &mut out.found, e)?;
-        self.follow(e, out);
+        self.follow(around, e, out);
         Ok(ty)
     }
 
     /// Notes whether an nd construct is reached from an expression in an atomic block.
-    pub fn follow(&self, e: &Expr, out: &mut Gathered) {
-        if self.around.in_atomic && reaches_nd(self.env.table, &self.known.types, e) {
+    pub fn follow(&self, around: Around, e: &Expr, out: &mut Gathered) {
+        if around.in_atomic && reaches_nd(self.env.table, &self.known.types, e) {
             out.reaches_nd = true;
         }
     }
 
-    /// An expression that is to be an int, for the node at a place.
+    /// An expression that is to be an int.
     pub fn int(
         &mut self,
+        around: Around,
         e: &Expr,
-        place: Place,
         out: &mut Gathered,
-        faults: &mut Faults,
+        node: &mut Node,
     ) -> Result<(), Stop> {
-        let ty = self.typed(e, out)?;
+        let ty = self.typed(around, e, out)?;
         if !matches!(ty, Ty::Int) {
-            faults.note(Kind::Type, place);
+            node.note(Kind::Type);
         }
         Ok(())
     }
 
-    /// An expression that is to be a boolean, for the node at a place.
+    /// An expression that is to be a boolean.
     pub fn boolean(
         &mut self,
+        around: Around,
         e: &Expr,
-        place: Place,
         out: &mut Gathered,
-        faults: &mut Faults,
+        node: &mut Node,
     ) -> Result<(), Stop> {
-        let ty = self.typed(e, out)?;
+        let ty = self.typed(around, e, out)?;
         if !matches!(ty, Ty::Bool) {
-            faults.note(Kind::Type, place);
+            node.note(Kind::Type);
         }
         Ok(())
     }
@@ -142,14 +120,22 @@ impl<'a> Body<'a> {
         fits(self.alloc, &self.env, value, declared)
     }
 
-    /// A name that is declared while a local or a formal has it is a fault.
-    pub fn note_duplicate(&self, name: u32, place: Place, faults: &mut Faults) {
-        if self.env.local(name).is_some() {
-            faults.note(Kind::Duplicate, place);
+    /// Whether a value of the type may be returned. Where the method has no result that is asked of `void` alone.
+    pub fn is_returned(&self, around: Around, value: &Ty) -> Result<bool, NoMemory> {
+        match self.env.table.numbered(self.env.method) {
+            Some(row) if around.has_result => self.fits(value, &row.result),
+            _ => Ok(!matches!(value, Ty::Void)),
         }
     }
 
-    /// Puts a local in scope that no part of an array is.
+    /// A name that is declared while a local or a formal has it is a fault.
+    pub fn note_duplicate(&self, name: u32, place: Place, node: &mut Node) {
+        if self.env.local(name).is_some() {
+            node.note_at(Kind::Duplicate, place);
+        }
+    }
+
+    /// Puts a local in scope that is no part of an array.
     pub fn declare(
         &mut self,
         name: u32,
@@ -188,15 +174,5 @@ impl<'a> Body<'a> {
             Some(first) => *first,
             None => u32::MAX,
         }
-    }
-
-    /// Goes into a branch or into an atomic block, and says what we stood in.
-    pub fn enclose(&mut self, in_atomic: bool) -> Around {
-        let around = self.around;
-        self.around = Around {
-            enclosed: true,
-            in_atomic: around.in_atomic || in_atomic,
-        };
-        around
     }
 }

@@ -1,6 +1,10 @@
+ghost use Rattle.std.specs.Prelude.{◌≡◌, IfOk};
+ghost use Rattle.dpj_tree.specs.Nd.{program_uses_nd};
+
 use crate::accepted::Accepted;
 use crate::body::{Body, Known};
 use crate::gathered::Gathered;
+use crate::node::Around;
 use crate::statements::block;
 use dpj_base::{Kind, NoMemory, Plain, Stop, Ty};
 use dpj_classes::Table;
@@ -11,7 +15,9 @@ use std::alloc::Global;
 
 /// Checks the bodies of a program, class by class and member by member in the order of the text, and tells the
 /// fault of the first node that has one. `table` is the program's.
-pub fn check(alloc: Global, program: &Program, table: &Table) -> Result<Accepted, Stop> {
+pub fn check(alloc: Global, program: &Program, table: &Table) -> Result<Accepted, Stop>
+    ensures { IfOk result (λ accepted. accepted.uses_nd ≡ program_uses_nd program.now) }
+{
     let mut body = Body::new(alloc, Env::new(alloc, table, length_name(program)));
     let mut methods = 0;
     let mut nodes = 0;
@@ -34,8 +40,7 @@ fn check_members(body: &mut Body, class: &Class, first: u32) -> Result<u32, Stop
     let mut number = first;
     for member in class.members.as_slice() {
         if let Member::Method(method) = member {
-            let has_result = matches!(method.result, MethodResult::Value(_));
-            body.enter_method(number, class.params.list.len(), has_result)?;
+            body.enter_method(number, class.params.list.len())?;
             check_method(body, method, number)?;
             number = number.saturating_add(1);
         }
@@ -50,10 +55,12 @@ fn check_method(body: &mut Body, method: &Method, number: u32) -> Result<(), Sto
         return Ok(());
     };
     declare_formals(body, method.formals.as_slice(), row.params.as_slice())?;
+    let has_result = matches!(method.result, MethodResult::Value(_));
+    let around = Around::method(has_result);
     let mut done = Gathered::new(body.alloc);
-    let completes = block(body, method.body.as_slice(), &mut done)?;
+    let completes = block(body, around, method.body.as_slice(), &mut done)?;
     let mut faults = Faults::by_number();
-    if completes && body.result.is_some() {
+    if completes && has_result {
         faults.note(Kind::Return, method.place);
     }
     if !row.summary.set_covers(done.effects()) {

@@ -1,3 +1,6 @@
+ghost use Rattle.std.specs.Prelude.{◌≡◌, IfOk};
+ghost use Rattle.dpj_check.specs.Leaving.{left_elem, left_path, left_mark, begins_inside, left_effect};
+
 use dpj_base::{Effect, Elem, Elems, NoMemory, Rpl};
 use dpj_tree::{BaseTree, Stmt, StmtKind};
 use std::alloc::Global;
@@ -57,7 +60,9 @@ impl Leaving {
 
     /// What is left of an effect behind the scope: `[?]` for each index variable, and nothing of an effect on a
     /// local region.
-    pub fn left_of(&self, alloc: Global, e: &Effect) -> Result<Option<Effect>, NoMemory> {
+    pub fn left_of(&self, alloc: Global, e: &Effect) -> Result<Option<Effect>, NoMemory>
+        ensures { IfOk result (λ left. left ≡ left_effect self.now e.now) }
+    {
         if self.begins_inside(e.rpl.elems.as_slice()) {
             return Ok(None);
         }
@@ -68,14 +73,18 @@ impl Leaving {
         }))
     }
 
-    fn begins_inside(&self, elems: &[Elem]) -> bool {
+    fn begins_inside(&self, elems: &[Elem]) -> bool
+        ensures { result ≡ begins_inside self.now.first_region elems.now }
+    {
         match elems.first() {
             Some(Elem::Local(region, _)) => *region >= self.first_region,
             _ => false,
         }
     }
 
-    fn mark(&self, atomic: bool) -> bool {
+    fn mark(&self, atomic: bool) -> bool
+        ensures { result ≡ left_mark self.now.marks atomic }
+    {
         match self.marks {
             Marks::Kept => atomic,
             Marks::Dropped => false,
@@ -83,7 +92,9 @@ impl Leaving {
         }
     }
 
-    fn left_path(&self, alloc: Global, rpl: &Rpl) -> Result<Rpl, NoMemory> {
+    fn left_path(&self, alloc: Global, rpl: &Rpl) -> Result<Rpl, NoMemory>
+        ensures { IfOk result (λ left. left ≡ left_path self.now.variables rpl.now) }
+    {
         let mut elems = Elems::new(alloc);
         for elem in rpl.elems.as_slice() {
             elems.push(self.left_elem(*elem))?;
@@ -94,7 +105,9 @@ impl Leaving {
         })
     }
 
-    fn left_elem(&self, elem: Elem) -> Elem {
+    fn left_elem(&self, elem: Elem) -> Elem
+        ensures { result ≡ left_elem self.now.variables elem }
+    {
         match elem {
             Elem::Var(v) if self.variables.contains(&v) => Elem::Any,
             other => other,

@@ -18,6 +18,7 @@ mod constructs;
 mod gathered;
 mod leaving;
 mod meet;
+mod node;
 mod parts;
 mod reach;
 mod simple;

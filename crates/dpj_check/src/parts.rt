@@ -3,9 +3,9 @@ use crate::constructs::variable;
 use crate::gathered::Gathered;
 use crate::leaving::{Leaving, Marks};
 use crate::meet::parts_pass;
+use crate::node::{Around, Node};
 use crate::statements::scoped;
 use dpj_base::{Kind, NoMemory, Plain, Stop, Ty};
-use dpj_headers::Faults;
 use dpj_locals::touched;
 use dpj_regions::is_full;
 use dpj_tree::{Expr, Named, Stmt};
@@ -23,54 +23,77 @@ struct Whole {
 #[cycle(statements)]
 pub fn foreach_parts(
     body: &mut Body,
-    stmt: &Stmt,
+    around: Around,
+    node: Node,
     names: (Named, Named),
-    array: &Expr,
-    count: &Expr,
+    range: (&Expr, &Expr),
     turn: &Stmt,
     out: &mut Gathered,
-    faults: Faults,
 ) -> Result<(), Stop> {
-    let mut faults = faults;
-    let (view, var) = names;
-    let whole = whole(body, array, out)?;
-    if let Some(kind) = whole.fault {
-        faults.note(kind, stmt.place);
-    }
-    body.int(count, stmt.place, out, &mut faults)?;
-    let number = variable(stmt.node);
+    let mut node = node;
+    let number = variable(node.number);
     let mut inner = Gathered::new(body.alloc);
-    let around = body.enclose(false);
     let scope = body.env.mark();
-    body.note_duplicate(view.name, view.place, &mut faults);
-    body.declare_part(view.name, number, whole.ty)?;
-    body.note_duplicate(var.name, var.place, &mut faults);
-    body.declare_variable(var.name, number)?;
-    scoped(body, turn, &mut inner)?;
+    let outer = declare_part(body, around, &mut node, number, names, range, out)?;
+    scoped(body, around.branch(), turn, &mut inner)?;
     body.env.leave(scope);
-    body.around = around;
     if !touched(body.alloc, turn)?.writes.is_empty() {
-        faults.note(Kind::Assign, stmt.place);
+        node.note(Kind::Assign);
     }
-    faults.settle()?;
+    node.settle()?;
     if !parts_pass(body, &inner, number)? {
-        faults.note(Kind::Interferes, stmt.place);
+        node.note(Kind::Interferes);
     }
-    faults.settle()?;
-    inner.hand_on_uses(body.alloc, number, whole.view)?;
+    node.settle()?;
+    inner.hand_on_uses(body.alloc, number, outer)?;
     let leaving = Leaving::variable(body.alloc, number, Marks::Dropped)?;
     out.take_in(body.alloc, inner, &leaving)?;
     Ok(())
 }
 
+/// Reads the array and the count, and puts the part and the variable in scope. Gives the view of the part that is
+/// cut, where it is one.
+fn declare_part(
+    body: &mut Body,
+    around: Around,
+    node: &mut Node,
+    number: u32,
+    names: (Named, Named),
+    range: (&Expr, &Expr),
+    out: &mut Gathered,
+) -> Result<Option<u32>, Stop> {
+    let (view, var) = names;
+    let (array, count) = range;
+    let whole = whole_of(body, around, array, out)?;
+    if let Some(kind) = whole.fault {
+        node.note(kind);
+    }
+    body.int(around, count, out, node)?;
+    let Whole {
+        ty, view: outer, ..
+    } = whole;
+    body.note_duplicate(view.name, view.place, node);
+    body.declare_part(view.name, number, ty)?;
+    body.note_duplicate(var.name, var.place, node);
+    body.declare_variable(var.name, number)?;
+    Ok(outer)
+}
+
 /// What the array of a `foreach_parts` is. A part in its place is no use of that part.
-fn whole(body: &mut Body, array: &Expr, out: &mut Gathered) -> Result<Whole, Stop> {
+fn whole_of(
+    body: &mut Body,
+    around: Around,
+    array: &Expr,
+    out: &mut Gathered,
+) -> Result<Whole, Stop> {
     if let Some(whole) = part_of_part(body, array)? {
         return Ok(whole);
     }
-    let ty = body.typed(array, out)?;
+    let ty = body.typed(around, array, out)?;
     let fault = match &ty {
-        Ty::Array { rpl, index: None, .. } if is_full(rpl) => None,
+        Ty::Array {
+            rpl, index: None, ..
+        } if is_full(rpl) => None,
         Ty::Array { index: None, .. } => Some(Kind::RegionArgs),
         _ => Some(Kind::Type),
     };

@@ -1,36 +1,38 @@
 use crate::body::Body;
 use crate::gathered::Gathered;
-use dpj_base::{Kind, Place, Stop, Ty};
+use crate::node::{Around, Node};
+use dpj_base::{Kind, Stop, Ty};
 use dpj_exprs::{assign, read_target};
 use dpj_headers::Faults;
 use dpj_resolve::ty;
-use dpj_tree::{Expr, Named, Stmt, TypeTree};
+use dpj_tree::{Expr, Named, TypeTree};
 
 /// `ty name = value;`
 pub fn declare(
     body: &mut Body,
-    stmt: &Stmt,
+    around: Around,
+    node: Node,
     is_final: bool,
     tree: &TypeTree,
     name: u32,
     value: &Expr,
     out: &mut Gathered,
-    faults: Faults,
 ) -> Result<(), Stop> {
-    let mut faults = faults;
-    let declared = declared(body, tree)?;
-    let value = body.typed(value, out)?;
-    body.note_duplicate(name, stmt.place, &mut faults);
+    let mut node = node;
+    let declared = declared_type(body, tree)?;
+    let value = body.typed(around, value, out)?;
+    let place = node.place;
+    body.note_duplicate(name, place, &mut node);
     if !body.fits(&value, &declared)? {
-        faults.note(Kind::Type, stmt.place);
+        node.note(Kind::Type);
     }
-    faults.settle()?;
-    body.declare(name, stmt.node, declared, is_final)?;
+    node.settle()?;
+    body.declare(name, node.number, declared, is_final)?;
     Ok(())
 }
 
 /// The type that a declaration names. In a body a type with a fault is told at once.
-fn declared(body: &Body, tree: &TypeTree) -> Result<Ty, Stop> {
+fn declared_type(body: &Body, tree: &TypeTree) -> Result<Ty, Stop> {
     let mut faults = Faults::by_number();
     match ty(body.alloc, &body.env.scope(), &mut faults, tree)? {
         Some(ty) => Ok(ty),
@@ -41,51 +43,51 @@ fn declared(body: &Body, tree: &TypeTree) -> Result<Ty, Stop> {
 /// `target = value;` for a local.
 pub fn assign_local(
     body: &mut Body,
-    place: Place,
+    around: Around,
+    node: Node,
     target: Named,
     value: &Expr,
     out: &mut Gathered,
-    faults: Faults,
 ) -> Result<(), Stop> {
-    let mut faults = faults;
-    let value = body.typed(value, out)?;
+    let mut node = node;
+    let value = body.typed(around, value, out)?;
     match body.env.local(target.name) {
-        None => faults.note(Kind::Unknown, target.place),
+        None => node.note_at(Kind::Unknown, target.place),
         Some(row) => {
             if !body.fits(&value, &row.ty)? {
-                faults.note(Kind::Type, place);
+                node.note(Kind::Type);
             }
             if row.is_final {
-                faults.note(Kind::Assign, place);
+                node.note(Kind::Assign);
             }
         }
     }
-    faults.settle()
+    node.settle()
 }
 
 /// `written = value;` for a field or an element.
 pub fn assign_place(
     body: &mut Body,
-    place: Place,
+    around: Around,
+    node: Node,
     written: &Expr,
     value: &Expr,
     out: &mut Gathered,
-    faults: Faults,
 ) -> Result<(), Stop> {
-    let mut faults = faults;
+    let mut node = node;
     let alloc = body.alloc;
     let target = read_target(alloc, &body.env, &mut body.known.types, &mut out.found, written)?;
-    body.follow(written, out);
-    let value = body.typed(value, out)?;
-    let assigned = assign(alloc, &body.env, &mut out.found, target, &value, place);
-    first_of(assigned, &mut faults)?;
-    faults.settle()
+    body.follow(around, written, out);
+    let value = body.typed(around, value, out)?;
+    let assigned = assign(alloc, &body.env, &mut out.found, target, &value, node.place);
+    note_refusal(assigned, &mut node)?;
+    node.settle()
 }
 
 /// Notes a refusal of the node at hand beside its other faults.
-fn first_of(outcome: Result<(), Stop>, faults: &mut Faults) -> Result<(), Stop> {
+fn note_refusal(outcome: Result<(), Stop>, node: &mut Node) -> Result<(), Stop> {
     match outcome {
-        Err(Stop::Refused(refusal)) => faults.note(refusal.kind, refusal.place),
+        Err(Stop::Refused(refusal)) => node.note_at(refusal.kind, refusal.place),
         Err(Stop::NoMemory) => return Err(Stop::NoMemory),
         Ok(()) => {}
     }
@@ -95,70 +97,63 @@ fn first_of(outcome: Result<(), Stop>, faults: &mut Faults) -> Result<(), Stop> 
 /// A call or a creation as a statement.
 pub fn perform(
     body: &mut Body,
+    around: Around,
+    node: Node,
     e: &Expr,
     out: &mut Gathered,
-    faults: Faults,
 ) -> Result<(), Stop> {
-    let mut faults = faults;
-    body.typed(e, out)?;
-    faults.settle()
+    let mut node = node;
+    body.typed(around, e, out)?;
+    node.settle()
 }
 
 /// `return;` or `return value;`
 pub fn leave(
     body: &mut Body,
-    place: Place,
+    around: Around,
+    node: Node,
     value: Option<&Expr>,
     out: &mut Gathered,
-    faults: Faults,
 ) -> Result<(), Stop> {
-    let mut faults = faults;
-    if body.around.enclosed || value.is_some() != body.result.is_some() {
-        faults.note(Kind::Return, place);
+    let mut node = node;
+    if around.enclosed || value.is_some() != around.has_result {
+        node.note(Kind::Return);
     }
     if let Some(value) = value {
-        let value = body.typed(value, out)?;
-        if !is_returned(body, &value)? {
-            faults.note(Kind::Type, place);
+        let value = body.typed(around, value, out)?;
+        if !body.is_returned(around, &value)? {
+            node.note(Kind::Type);
         }
     }
-    faults.settle()
-}
-
-/// Whether a value of the type may be returned. Where the method has no result that is asked of `void` alone.
-fn is_returned(body: &Body, value: &Ty) -> Result<bool, Stop> {
-    match body.result {
-        Some(result) => Ok(body.fits(value, result)?),
-        None => Ok(!matches!(value, Ty::Void)),
-    }
+    node.settle()
 }
 
 /// `print(value);`
 pub fn print(
     body: &mut Body,
-    place: Place,
+    around: Around,
+    node: Node,
     value: &Expr,
     out: &mut Gathered,
-    faults: Faults,
 ) -> Result<(), Stop> {
-    let mut faults = faults;
-    let value = body.typed(value, out)?;
+    let mut node = node;
+    let value = body.typed(around, value, out)?;
     if !matches!(value, Ty::Int | Ty::Bool) {
-        faults.note(Kind::Type, place);
+        node.note(Kind::Type);
     }
-    faults.settle()
+    node.settle()
 }
 
 /// `region name, ..;`
-pub fn declare_regions(body: &mut Body, names: &[Named], faults: Faults) -> Result<(), Stop> {
-    let mut faults = faults;
+pub fn declare_regions(body: &mut Body, node: Node, names: &[Named]) -> Result<(), Stop> {
+    let mut node = node;
     for named in names {
         if is_region(body, named.name) {
-            faults.note(Kind::Duplicate, named.place);
+            node.note_at(Kind::Duplicate, named.place);
         }
         body.env.declare_region(named.name)?;
     }
-    faults.settle()
+    node.settle()
 }
 
 /// Whether a region parameter or a local region in scope, or a region of the class or a superclass has the name.

@@ -1,43 +1,60 @@
+ghost use Rattle.std.specs.Prelude.{◌≡◌, map, IfOk};
+ghost use Rattle.dpj_tree.specs.Plain.{plain_stmt, plain_stmts};
+ghost use Rattle.dpj_check.specs.Completes.{completes, all_complete};
+
 use crate::body::Body;
 use crate::constructs::{atomic, cobegin, foreach};
 use crate::gathered::Gathered;
 use crate::leaving::{Leaving, leaves_scope};
+use crate::node::{Around, Node};
 use crate::parts::foreach_parts;
 use crate::simple::{
     assign_local, assign_place, declare, declare_regions, leave, perform, print,
 };
-use dpj_base::{Kind, Stop};
-use dpj_headers::Faults;
-use dpj_tree::{Expr, Stmt, StmtKind};
+use dpj_base::Stop;
+use dpj_tree::{Stmt, StmtKind};
 
 /// Checks a statement, and says whether it completes. `follows` says that it stands behind one that doesn't.
 #[cycle(statements)]
 pub fn statement(
     body: &mut Body,
+    around: Around,
     stmt: &Stmt,
     follows: bool,
     out: &mut Gathered,
-) -> Result<bool, Stop> {
-    let mut faults = Faults::by_number();
-    if follows {
-        faults.note(Kind::Return, stmt.place);
-    }
+) -> Result<bool, Stop>
+    ensures { IfOk result (λ done. done ≡ completes (plain_stmt stmt.now)) }
+{
+    let mut node = Node::of(stmt, follows);
     match &stmt.kind {
         StmtKind::Block(all) => {
-            let completes = block(body, all.as_slice(), out)?;
-            faults.settle()?;
+            let completes = block(body, around, all.as_slice(), out)?;
+            node.settle()?;
             Ok(completes)
         }
         StmtKind::If { test, then, other } => {
-            let other = other.as_ref().map(|other| other.get());
-            choice(body, stmt, test, then.get(), other, out, faults)
+            body.boolean(around, test, out, &mut node)?;
+            let first = scoped(body, around, then.get(), out)?;
+            match other {
+                Some(other) => {
+                    let second = scoped(body, around, other.get(), out)?;
+                    node.settle()?;
+                    Ok(first || second)
+                }
+                None => {
+                    node.settle()?;
+                    Ok(true)
+                }
+            }
         }
         StmtKind::While { test, body: turn } => {
-            turns(body, stmt, test, turn.get(), out, faults)?;
+            body.boolean(around, test, out, &mut node)?;
+            scoped(body, around, turn.get(), out)?;
+            node.settle()?;
             Ok(true)
         }
         StmtKind::Cobegin { nd, branches } => {
-            cobegin(body, stmt, *nd, branches.as_slice(), out, faults)?;
+            cobegin(body, around, node, *nd, branches.as_slice(), out)?;
             Ok(true)
         }
         StmtKind::Foreach {
@@ -47,7 +64,9 @@ pub fn statement(
             count,
             body: turn,
         } => {
-            foreach(body, stmt, *nd, *var, (start, count), turn.get(), out, faults)?;
+            body.int(around, start, out, &mut node)?;
+            body.int(around, count, out, &mut node)?;
+            foreach(body, around, node, *nd, *var, turn.get(), out)?;
             Ok(true)
         }
         StmtKind::ForeachParts {
@@ -57,63 +76,74 @@ pub fn statement(
             count,
             body: turn,
         } => {
-            foreach_parts(body, stmt, (*view, *var), array, count, turn.get(), out, faults)?;
+            let names = (*view, *var);
+            foreach_parts(body, around, node, names, (array, count), turn.get(), out)?;
             Ok(true)
         }
         StmtKind::Atomic(all) => {
-            atomic(body, stmt, all.as_slice(), out, faults)?;
+            atomic(body, around, node, all.as_slice(), out)?;
             Ok(true)
         }
-        _ => single(body, stmt, out, faults),
+        StmtKind::Return(value) => {
+            leave(body, around, node, value.as_ref(), out)?;
+            Ok(false)
+        }
+        _ => {
+            single(body, around, node, &stmt.kind, out)?;
+            Ok(true)
+        }
     }
 }
 
-/// A statement that holds no other, and whether it completes.
+/// A statement that holds no other and completes.
 fn single(
     body: &mut Body,
-    stmt: &Stmt,
+    around: Around,
+    node: Node,
+    kind: &StmtKind,
     out: &mut Gathered,
-    faults: Faults,
-) -> Result<bool, Stop> {
-    match &stmt.kind {
+) -> Result<(), Stop> {
+    match kind {
         StmtKind::Declare {
             is_final,
             ty,
             name,
             value,
-        } => declare(body, stmt, *is_final, ty, *name, value, out, faults)?,
+        } => declare(body, around, node, *is_final, ty, *name, value, out),
         StmtKind::AssignLocal { target, value } => {
-            assign_local(body, stmt.place, *target, value, out, faults)?
+            assign_local(body, around, node, *target, value, out)
         }
         StmtKind::AssignField { target, value } | StmtKind::AssignElement { target, value } => {
-            assign_place(body, stmt.place, target, value, out, faults)?
+            assign_place(body, around, node, target, value, out)
         }
-        StmtKind::Do(value) => perform(body, value, out, faults)?,
-        StmtKind::Return(value) => {
-            leave(body, stmt.place, value.as_ref(), out, faults)?;
-            return Ok(false);
-        }
-        StmtKind::Print(value) => print(body, stmt.place, value, out, faults)?,
-        StmtKind::Region { names } => declare_regions(body, names.as_slice(), faults)?,
+        StmtKind::Do(value) => perform(body, around, node, value, out),
+        StmtKind::Print(value) => print(body, around, node, value, out),
+        StmtKind::Region { names } => declare_regions(body, node, names.as_slice()),
         _ => {
-            let mut faults = faults;
-            faults.settle()?;
+            let mut node = node;
+            node.settle()
         }
     }
-    Ok(true)
 }
 
 /// Checks the statements of a block in a scope of their own, and says whether they all complete.
 #[cycle(statements)]
-pub fn block(body: &mut Body, stmts: &[Stmt], out: &mut Gathered) -> Result<bool, Stop> {
+pub fn block(
+    body: &mut Body,
+    around: Around,
+    stmts: &[Stmt],
+    out: &mut Gathered,
+) -> Result<bool, Stop>
+    ensures { IfOk result (λ done. done ≡ all_complete (plain_stmts (map plain_stmt stmts.now))) }
+{
     let scope = body.env.mark();
-    if !stmts.iter().any(|stmt| leaves_scope(stmt)) {
-        let completes = statements(body, stmts, out)?;
+    if !stmts.iter().any(leaves_scope) {
+        let completes = statements(body, around, stmts, out)?;
         body.env.leave(scope);
         return Ok(completes);
     }
     let mut inner = Gathered::new(body.alloc);
-    let completes = statements(body, stmts, &mut inner)?;
+    let completes = statements(body, around, stmts, &mut inner)?;
     let leaving = Leaving::block(body.alloc, stmts, body.first_region(scope))?;
     body.env.leave(scope);
     out.take_in(body.alloc, inner, &leaving)?;
@@ -121,10 +151,17 @@ pub fn block(body: &mut Body, stmts: &[Stmt], out: &mut Gathered) -> Result<bool
 }
 
 #[cycle(statements)]
-fn statements(body: &mut Body, stmts: &[Stmt], out: &mut Gathered) -> Result<bool, Stop> {
+fn statements(
+    body: &mut Body,
+    around: Around,
+    stmts: &[Stmt],
+    out: &mut Gathered,
+) -> Result<bool, Stop>
+    ensures { IfOk result (λ done. done ≡ all_complete (plain_stmts (map plain_stmt stmts.now))) }
+{
     let mut completes = true;
     for stmt in stmts {
-        let done = statement(body, stmt, !completes, out)?;
+        let done = statement(body, around, stmt, !completes, out)?;
         completes = completes && done;
     }
     Ok(completes)
@@ -132,48 +169,16 @@ fn statements(body: &mut Body, stmts: &[Stmt], out: &mut Gathered) -> Result<boo
 
 /// Checks a branch or a body, which is a scope of its own even without braces.
 #[cycle(statements)]
-pub fn scoped(body: &mut Body, stmt: &Stmt, out: &mut Gathered) -> Result<bool, Stop> {
+pub fn scoped(
+    body: &mut Body,
+    around: Around,
+    stmt: &Stmt,
+    out: &mut Gathered,
+) -> Result<bool, Stop>
+    ensures { IfOk result (λ done. done ≡ completes (plain_stmt stmt.now)) }
+{
     let scope = body.env.mark();
-    let completes = statement(body, stmt, false, out)?;
+    let completes = statement(body, around, stmt, false, out)?;
     body.env.leave(scope);
     Ok(completes)
-}
-
-#[cycle(statements)]
-fn choice(
-    body: &mut Body,
-    stmt: &Stmt,
-    test: &Expr,
-    then: &Stmt,
-    other: Option<&Stmt>,
-    out: &mut Gathered,
-    faults: Faults,
-) -> Result<bool, Stop> {
-    let mut faults = faults;
-    body.boolean(test, stmt.place, out, &mut faults)?;
-    let mut completes = scoped(body, then, out)?;
-    match other {
-        Some(other) => {
-            let other_completes = scoped(body, other, out)?;
-            completes = completes || other_completes;
-        }
-        None => completes = true,
-    }
-    faults.settle()?;
-    Ok(completes)
-}
-
-#[cycle(statements)]
-fn turns(
-    body: &mut Body,
-    stmt: &Stmt,
-    test: &Expr,
-    turn: &Stmt,
-    out: &mut Gathered,
-    faults: Faults,
-) -> Result<(), Stop> {
-    let mut faults = faults;
-    body.boolean(test, stmt.place, out, &mut faults)?;
-    scoped(body, turn, out)?;
-    faults.settle()
 }
