@@ -12,8 +12,8 @@
 #![tactic(auto)]
 
 mod accepted;
+mod bodies;
 mod body;
-mod check;
 mod constructs;
 mod gathered;
 mod leaving;
@@ -25,4 +25,7 @@ mod simple;
 mod statements;
 
 pub use accepted::Accepted;
-pub use check::check;
+pub use bodies::check;
+
+#[cfg(test)]
+mod tests;

@@ -1,7 +1,7 @@
 use Rattle.std.proofs.Common.{◌≡◌, ◌&&◌, map, drop}
 use Rattle.dpj_tree.specs.Plain.{plain_stmt, plain_stmts}
 use Rattle.dpj_check.specs.Completes.{all_complete}
-use Rattle.dpj_check.proofs.statements.+statements.Given as goal
+use Rattle.dpj_check.proofs.+statements.Given as goal
 
 abbrev pub invariant-statements-loop-stmt : goal.invariant-statements-loop-stmt
 invariant-statements-loop-stmt l =
