@@ -73,7 +73,13 @@ impl Body<'_> {
 
     /// Types an expression, and gathers what it does.
     pub fn typed(&mut self, around: Around, e: &Expr, out: &mut Gathered) -> Result<Ty, Stop> {
-        let ty = expr(self.alloc, &self.env, &mut self.known.types, &mut out.found, e)?;
+        let ty = expr(
+            self.alloc,
+            &self.env,
+            &mut self.known.types,
+            &mut out.found,
+            e,
+        )?;
         self.follow(around, e, out);
         Ok(ty)
     }
@@ -136,13 +142,7 @@ impl Body<'_> {
     }
 
     /// Puts a local in scope that is no part of an array.
-    pub fn declare(
-        &mut self,
-        name: u32,
-        var: u32,
-        ty: Ty,
-        is_final: bool,
-    ) -> Result<(), NoMemory> {
+    pub fn declare(&mut self, name: u32, var: u32, ty: Ty, is_final: bool) -> Result<(), NoMemory> {
         self.env.declare(LocalRow {
             name,
             var,

@@ -1,3 +1,5 @@
+ghost use Rattle.std.specs.Prelude.{◌<◌};
+
 use crate::body::Body;
 use crate::gathered::Gathered;
 use crate::leaving::{Leaving, Marks};
@@ -10,7 +12,11 @@ use dpj_tree::{Named, Stmt};
 
 /// The fault of a construct whose branches interfere.
 fn interference(nd: bool) -> Kind {
-    if nd { Kind::InterferesNd } else { Kind::Interferes }
+    if nd {
+        Kind::InterferesNd
+    } else {
+        Kind::Interferes
+    }
 }
 
 /// Behind an nd construct marks are kept, and behind any other they are dropped.

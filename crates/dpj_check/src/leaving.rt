@@ -43,11 +43,7 @@ impl Leaving {
 
     /// What statements declare goes out of scope. `first_region` is the number of the first local region among
     /// them.
-    pub fn block(
-        alloc: Global,
-        stmts: &[Stmt],
-        first_region: u32,
-    ) -> Result<Leaving, NoMemory> {
+    pub fn block(alloc: Global, stmts: &[Stmt], first_region: u32) -> Result<Leaving, NoMemory> {
         let mut leaving = Leaving::nothing(alloc, Marks::Kept);
         leaving.first_region = first_region;
         for stmt in stmts {

@@ -1,3 +1,5 @@
+ghost use Rattle.std.specs.Prelude.{◌<◌};
+
 use crate::body::Body;
 use crate::gathered::Gathered;
 use dpj_base::NoMemory;
@@ -18,7 +20,12 @@ pub fn branches_pass(body: &Body, nd: bool, branches: &[EffectSet]) -> bool {
     }
     let given = body.env.given();
     let met = if nd {
-        check_cobegin_nd(branches, given, atomic_names(body), body.atomic_params.as_slice())
+        check_cobegin_nd(
+            branches,
+            given,
+            atomic_names(body),
+            body.atomic_params.as_slice(),
+        )
     } else {
         check_cobegin(branches, given)
     };
@@ -26,12 +33,7 @@ pub fn branches_pass(body: &Body, nd: bool, branches: &[EffectSet]) -> bool {
 }
 
 /// Whether no turn of a body interferes with another, for nd where the construct is one of nd.
-pub fn turns_pass(
-    body: &Body,
-    nd: bool,
-    turn: &Gathered,
-    var: u32,
-) -> Result<bool, NoMemory>
+pub fn turns_pass(body: &Body, nd: bool, turn: &Gathered, var: u32) -> Result<bool, NoMemory>
     requires { var < 2147483648 }
 {
     if turn.uses().is_empty() {
@@ -62,5 +64,12 @@ pub fn parts_pass(body: &Body, turn: &Gathered, number: u32) -> Result<bool, NoM
     requires { number < 2147483648 }
 {
     let given = body.env.given();
-    check_parts(body.alloc, turn.effects(), turn.uses(), number, number, given)
+    check_parts(
+        body.alloc,
+        turn.effects(),
+        turn.uses(),
+        number,
+        number,
+        given,
+    )
 }

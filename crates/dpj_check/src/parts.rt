@@ -70,7 +70,9 @@ fn declare_part(
     }
     body.int(around, count, out, node)?;
     let Whole {
-        ty, view: outer, ..
+        ty,
+        view: outer,
+        ..
     } = whole;
     body.note_duplicate(view.name, view.place, node);
     body.declare_part(view.name, number, ty)?;
@@ -92,7 +94,9 @@ fn whole_of(
     let ty = body.typed(around, array, out)?;
     let fault = match &ty {
         Ty::Array {
-            rpl, index: None, ..
+            rpl,
+            index: None,
+            ..
         } if is_full(rpl) => None,
         Ty::Array { index: None, .. } => Some(Kind::RegionArgs),
         _ => Some(Kind::Type),

@@ -18,7 +18,10 @@ pub fn reaches_nd(table: &Table, types: &NodeTypes, e: &Expr) -> bool {
             reaches_nd(table, types, left.get()) || reaches_nd(table, types, right.get())
         }
         ExprKind::Call {
-            of, name, actuals, ..
+            of,
+            name,
+            actuals,
+            ..
         } => {
             method_forks(table, types.get(of.get().node), *name)
                 || reaches_nd(table, types, of.get())

@@ -76,7 +76,13 @@ pub fn assign_place(
 ) -> Result<(), Stop> {
     let mut node = node;
     let alloc = body.alloc;
-    let target = read_target(alloc, &body.env, &mut body.known.types, &mut out.found, written)?;
+    let target = read_target(
+        alloc,
+        &body.env,
+        &mut body.known.types,
+        &mut out.found,
+        written,
+    )?;
     body.follow(around, written, out);
     let value = body.typed(around, value, out)?;
     let assigned = assign(alloc, &body.env, &mut out.found, target, &value, node.place);

@@ -8,9 +8,7 @@ use crate::gathered::Gathered;
 use crate::leaving::{Leaving, leaves_scope};
 use crate::node::{Around, Node};
 use crate::parts::foreach_parts;
-use crate::simple::{
-    assign_local, assign_place, declare, declare_regions, leave, perform, print,
-};
+use crate::simple::{assign_local, assign_place, declare, declare_regions, leave, perform, print};
 use dpj_base::Stop;
 use dpj_tree::{Stmt, StmtKind};
 

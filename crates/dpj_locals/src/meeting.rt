@@ -22,7 +22,11 @@ pub fn has_clash(alloc: Global, branches: &[Touched]) -> Result<bool, NoMemory> 
         note_all(&mut users, branch, touched.reads.as_slice(), false)?;
         note_all(&mut users, branch, touched.writes.as_slice(), true)?;
     }
-    Ok(users.values().any(|found: &Users| found.several && found.assigned))
+    Ok(
+        users
+            .values()
+            .any(|found: &Users| found.several && found.assigned),
+    )
 }
 
 fn note_all(

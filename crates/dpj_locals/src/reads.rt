@@ -9,11 +9,7 @@ use dpj_tree::{BaseTree, ElemTree, Expr, ExprKind, Named, RplTree, Suffix, TypeT
 use std::collections::BTreeSet;
 
 /// Notes a name, unless it is declared inside.
-pub fn note(
-    inside: &BTreeSet<u32>,
-    names: &mut BTreeSet<u32>,
-    name: u32,
-) -> Result<(), NoMemory>
+pub fn note(inside: &BTreeSet<u32>, names: &mut BTreeSet<u32>, name: u32) -> Result<(), NoMemory>
     ensures { OnOk result (Gains inside.now names.old names.new (λ x. name == x)) }
 {
     if !inside.contains(&name) {
@@ -209,7 +205,9 @@ pub fn read_expr(
             read_exprs(inside, reads, actuals.as_slice())
         }
         ExprKind::New {
-            regions, actuals, ..
+            regions,
+            actuals,
+            ..
         } => {
             read_arguments(inside, reads, regions.as_slice())?;
             read_exprs(inside, reads, actuals.as_slice())

@@ -91,7 +91,12 @@ fn declare(alloc: Global, name: u32, value: u32) -> Stmt {
 
 /// `foreach (int 1 in 2, 3) { 4 = 1; int 5 = 6; 5 = 1; 7 = 5; }`
 fn turns(alloc: Global) -> Result<Stmt, NoMemory> {
-    let all = vec![in alloc; assign(4, 1), declare(alloc, 5, 6), assign(5, 1), assign(7, 5)]?;
+    let all = vec![in alloc;
+        assign(4, 1),
+        declare(alloc, 5, 6),
+        assign(5, 1),
+        assign(7, 5),
+    ]?;
     let body = stmt(StmtKind::Block(Items::from_vec(all)));
     Ok(stmt(StmtKind::Foreach {
         nd: false,

@@ -75,7 +75,15 @@ pub fn statement(
             body,
         } => {
             read_both(inside, reads, array, count)?;
-            with_names(alloc, inside, reads, writes, view.name, var.name, body.get())
+            with_names(
+                alloc,
+                inside,
+                reads,
+                writes,
+                view.name,
+                var.name,
+                body.get(),
+            )
         }
         StmtKind::Return(None) | StmtKind::PrintText(_) | StmtKind::Region { .. } => Ok(()),
     }
@@ -161,11 +169,7 @@ fn block(
 }
 
 /// Puts the name that a statement declares into the scope, and notes it unless it was there.
-fn enter(
-    inside: &mut BTreeSet<u32>,
-    declared: &mut Items<u32>,
-    stmt: &Stmt,
-) -> Result<(), NoMemory>
+fn enter(inside: &mut BTreeSet<u32>, declared: &mut Items<u32>, stmt: &Stmt) -> Result<(), NoMemory>
     ensures inside { OnOk result ((x : ℕ) → has inside.new x ≡ (has inside.old x || declares x (plain_stmt stmt.now))) }
     ensures scope { OnOk result ((x : ℕ) → (has inside.new x && not (is_noted declared.new x)) ≡ (has inside.old x && not (is_noted declared.old x))) }
 {

@@ -15,8 +15,16 @@ fn region(alloc: Global, name: u32) -> Result<Rpl, NoMemory> {
 /// construct in the region `other`, and has an effect on the region `beside`.
 fn passes(alloc: Global, other: u32, beside: u32, write: bool) -> Result<bool, Fail> {
     let uses = vec![in alloc;
-        PartUse { view: 9, rpl: region(alloc, 1)?, write: true },
-        PartUse { view: 8, rpl: region(alloc, other)?, write: false }
+        PartUse {
+            view: 9,
+            rpl: region(alloc, 1)?,
+            write: true
+        },
+        PartUse {
+            view: 8,
+            rpl: region(alloc, other)?,
+            write: false
+        },
     ]?;
     let mut body = EffectSet::new(alloc);
     body.add(Effect {
