@@ -83,7 +83,7 @@ fn fault(alloc: Global, body: Vec<Stmt>) -> Result<Option<Kind>, Fail> {
     match check(alloc, &program, &table) {
         Ok(_) => Ok(None),
         Err(Stop::Refused(refusal)) => Ok(Some(refusal.kind)),
-        Err(Stop::NoMemory) => Err(Fail::new()),
+        Err(Stop::NoMemory) => Err(Fail::new("out of memory")),
     }
 }
 

@@ -21,7 +21,7 @@ fn with_third(alloc: Global, reads: &[u32], writes: &[u32]) -> Result<Option<(u3
     let branches = [first, second, third];
     let found = clash(branches.as_slice());
     if has_clash(alloc, branches.as_slice())? != found.is_some() {
-        return Err(Fail::new());
+        return Err(Fail::new("the two answers differ"));
     }
     Ok(found)
 }
