@@ -1,6 +1,6 @@
 use dpj_base::Items;
 
-/// The locals declared outside a branch, by their numbers, that it reads and that it assigns.
+/// The locals declared outside a branch, by their names, that it reads and that it assigns.
 #[derive(Debug, Drop)]
 pub struct Touched {
     pub reads: Items<u32>,

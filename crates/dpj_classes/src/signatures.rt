@@ -1,0 +1,283 @@
+use crate::around::{Names, no_indices, read_constraints, read_path, root};
+use crate::rows::{FieldRow, MethodRow};
+use crate::summary::read_summary;
+use dpj_base::{Constraint, Items, Kind, NoMemory, Plain, Stop, Super, Ty};
+use dpj_headers::{Faults, Headers, param_rows, to_number};
+use dpj_resolve::{Scope, constraints_hold, fit_args, read_args, ty};
+use dpj_tree::{Class, Field, Formal, Member, Method, MethodResult, Parent};
+use std::alloc::Global;
+
+/// What the signatures of all classes say.
+#[derive(Drop)]
+pub struct Signatures {
+    pub supers: Items<Super>,
+    pub fields: Items<FieldRow>,
+    pub methods: Items<MethodRow>,
+}
+
+/// Reads the constraints of each class.
+pub fn class_constraints(
+    alloc: Global,
+    headers: &Headers,
+    classes: &[Class],
+    faults: &mut Faults,
+) -> Result<Items<Items<Constraint>>, Stop> {
+    let names = Names::new(alloc);
+    let mut given = Items::new(alloc);
+    for (at, class) in classes.iter().enumerate() {
+        let scope = names.scope(headers, to_number(at), &[], &[]);
+        let read = read_constraints(alloc, &scope, faults, class.params.given.as_slice())?;
+        given.push(read)?;
+    }
+    Ok(given)
+}
+
+/// Reads the signatures of all classes, whose constraints are known.
+pub fn read_signatures(
+    alloc: Global,
+    headers: &Headers,
+    classes: &[Class],
+    given: &[Items<Constraint>],
+    faults: &mut Faults,
+) -> Result<Signatures, Stop> {
+    let mut made = Signatures {
+        supers: Items::new(alloc),
+        fields: Items::new(alloc),
+        methods: Items::new(alloc),
+    };
+    for (at, class) in classes.iter().enumerate() {
+        let around = Around {
+            headers,
+            class: to_number(at),
+            classes_given: given,
+        };
+        around.class(alloc, class, faults, &mut made)?;
+    }
+    Ok(made)
+}
+
+/// The class whose signatures are read.
+#[derive(Clone, Copy)]
+struct Around<'a> {
+    headers: &'a Headers,
+    class: u32,
+    classes_given: &'a [Items<Constraint>],
+}
+
+impl Around<'_> {
+    fn class(
+        &self,
+        alloc: Global,
+        class: &Class,
+        faults: &mut Faults,
+        made: &mut Signatures,
+    ) -> Result<(), Stop> {
+        let names = Names::new(alloc);
+        let mut in_force = match self.classes_given.get(self.class as usize) {
+            Some(given) => given.copy(alloc)?,
+            None => Items::new(alloc),
+        };
+        self.parent(alloc, &names, class, faults, made)?;
+        let mut slot = self.first_slot();
+        for member in class.members.as_slice() {
+            match member {
+                Member::Regions { .. } => {}
+                Member::Field(field) => {
+                    let scope = names.scope(
+                        self.headers,
+                        self.class,
+                        in_force.as_slice(),
+                        self.classes_given,
+                    );
+                    made.fields
+                        .push(read_field(alloc, &scope, faults, field, slot)?)?;
+                    slot = slot.saturating_add(1);
+                }
+                Member::Method(method) => {
+                    let id = to_number(made.methods.len());
+                    let row = self.method(alloc, &mut in_force, method, id, faults)?;
+                    made.methods.push(row)?;
+                }
+            }
+        }
+        Ok(())
+    }
+
+    /// The slot of the first field that the class itself declares.
+    fn first_slot(&self) -> u32 {
+        match self.headers.parent(self.class) {
+            Some(parent) => self
+                .headers
+                .header(parent)
+                .map_or(0, |header| header.fields),
+            None => 0,
+        }
+    }
+
+    /// Reads the superclass of a class that has one.
+    fn parent(
+        &self,
+        alloc: Global,
+        names: &Names,
+        class: &Class,
+        faults: &mut Faults,
+        made: &mut Signatures,
+    ) -> Result<(), Stop> {
+        let Some(tree) = &class.parent else {
+            return Ok(());
+        };
+        let Some(parent) = self.headers.parent(self.class) else {
+            return Ok(());
+        };
+        let given = match self.classes_given.get(self.class as usize) {
+            Some(given) => given.as_slice(),
+            None => &[],
+        };
+        let scope = names.scope(self.headers, self.class, given, self.classes_given);
+        let parent = read_parent(alloc, &scope, faults, tree, parent)?;
+        made.supers.push(Super {
+            class: self.class,
+            parent,
+        })?;
+        Ok(())
+    }
+
+    /// Reads a method. The constraints in force are those of the class, before and after.
+    fn method(
+        &self,
+        alloc: Global,
+        in_force: &mut Items<Constraint>,
+        method: &Method,
+        id: u32,
+        faults: &mut Faults,
+    ) -> Result<MethodRow, Stop> {
+        let names = Names::of_method(alloc, method)?;
+        let of_class = in_force.len();
+        let scope = names.scope(
+            self.headers,
+            self.class,
+            in_force.as_slice(),
+            self.classes_given,
+        );
+        let given = read_constraints(alloc, &scope, faults, method.params.given.as_slice())?;
+        add_copies(alloc, in_force, given.as_slice())?;
+        let scope = names.scope(
+            self.headers,
+            self.class,
+            in_force.as_slice(),
+            self.classes_given,
+        );
+        let params = read_formals(alloc, &scope, faults, method.formals.as_slice())?;
+        let result = read_result(alloc, &scope, faults, &method.result)?;
+        let summary = read_summary(alloc, &scope, faults, &method.summary)?;
+        in_force.truncate(of_class);
+        Ok(MethodRow {
+            id,
+            owner: self.class,
+            name: method.name,
+            place: method.place,
+            is_constructor: matches!(method.result, MethodResult::Constructor),
+            regions: param_rows(alloc, method.params.list.as_slice())?,
+            given,
+            params,
+            result,
+            summary,
+        })
+    }
+}
+
+fn add_copies(
+    alloc: Global,
+    in_force: &mut Items<Constraint>,
+    given: &[Constraint],
+) -> Result<(), NoMemory> {
+    for constraint in given {
+        in_force.push(constraint.copy(alloc)?)?;
+    }
+    Ok(())
+}
+
+/// Reads the superclass with its region arguments, which are fully specified.
+fn read_parent(
+    alloc: Global,
+    scope: &Scope,
+    faults: &mut Faults,
+    tree: &Parent,
+    parent: u32,
+) -> Result<Ty, Stop> {
+    let params = scope.class_params(parent);
+    let read = read_args(
+        alloc,
+        scope,
+        faults,
+        tree.args.as_slice(),
+        params,
+        true,
+        &no_indices(),
+    )?;
+    let args = match fit_args(alloc, faults, read, params, tree.name.place)? {
+        None => Items::new(alloc),
+        Some(args) => {
+            if !constraints_hold(
+                alloc,
+                scope.class_given(parent),
+                args.as_slice(),
+                scope.given,
+            )? {
+                faults.note(Kind::Constraint, tree.name.place);
+            }
+            args
+        }
+    };
+    Ok(Ty::Class {
+        class: parent,
+        args,
+    })
+}
+
+/// Reads a field. What isn't known of it is a fault, and stands as `void` and `Root` in the row.
+fn read_field(
+    alloc: Global,
+    scope: &Scope,
+    faults: &mut Faults,
+    field: &Field,
+    slot: u32,
+) -> Result<FieldRow, Stop> {
+    let made = ty(alloc, scope, faults, &field.ty)?;
+    let rpl = match &field.region {
+        None => None,
+        Some(tree) => read_path(alloc, scope, faults, tree, true)?,
+    };
+    Ok(FieldRow {
+        name: field.name,
+        slot,
+        owner: scope.class,
+        ty: made.unwrap_or(Ty::Void),
+        rpl: rpl.unwrap_or(root(alloc)),
+    })
+}
+
+fn read_formals(
+    alloc: Global,
+    scope: &Scope,
+    faults: &mut Faults,
+    formals: &[Formal],
+) -> Result<Items<Ty>, Stop> {
+    let mut params = Items::new(alloc);
+    for formal in formals {
+        params.push(ty(alloc, scope, faults, &formal.ty)?.unwrap_or(Ty::Void))?;
+    }
+    Ok(params)
+}
+
+fn read_result(
+    alloc: Global,
+    scope: &Scope,
+    faults: &mut Faults,
+    tree: &MethodResult,
+) -> Result<Ty, Stop> {
+    match tree {
+        MethodResult::Constructor | MethodResult::Void => Ok(Ty::Void),
+        MethodResult::Value(written) => Ok(ty(alloc, scope, faults, written)?.unwrap_or(Ty::Void)),
+    }
+}

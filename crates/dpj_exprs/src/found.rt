@@ -1,0 +1,51 @@
+use dpj_base::{Effect, Items, NoMemory, PartUse, Rpl};
+use dpj_effects::EffectSet;
+use dpj_resolve::put_in;
+use std::alloc::Global;
+
+/// The effects that were found, in the order of evaluation, and the uses of array parts apart from them.
+#[derive(Drop)]
+pub struct Found {
+    pub effects: EffectSet,
+    pub uses: Items<PartUse>,
+}
+
+impl Found {
+    pub fn new(alloc: Global) -> Found {
+        Found {
+            effects: EffectSet::new(alloc),
+            uses: Items::new(alloc),
+        }
+    }
+
+    /// Adds a plain read or write.
+    pub fn access(&mut self, rpl: Rpl, write: bool) -> Result<(), NoMemory> {
+        self.effects.add(Effect {
+            write,
+            atomic: false,
+            rpl,
+        })
+    }
+
+    /// Adds a read or a write through a part of an array.
+    pub fn part_use(&mut self, view: u32, rpl: Rpl, write: bool) -> Result<(), NoMemory> {
+        self.uses.push(PartUse { view, rpl, write })
+    }
+
+    /// Adds the effects of a summary, with region arguments put in.
+    pub fn summary(
+        &mut self,
+        alloc: Global,
+        summary: &EffectSet,
+        args: &[Rpl],
+    ) -> Result<(), NoMemory> {
+        for effect in summary.as_slice() {
+            self.effects.add(Effect {
+                write: effect.write,
+                atomic: effect.atomic,
+                rpl: put_in(alloc, &effect.rpl, args)?,
+            })?;
+        }
+        Ok(())
+    }
+}
