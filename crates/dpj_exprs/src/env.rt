@@ -32,7 +32,7 @@ pub struct Env<'a> {
     pub class: u32,
     /// The number of the method.
     pub method: u32,
-    pub(crate) supers: Supers<'a>,
+    pub supers: Supers<'a>,
     /// The name `length`, where the text has it.
     length: Option<u32>,
     /// The region parameters of the method, with whether each is atomic.
