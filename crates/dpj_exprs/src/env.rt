@@ -52,7 +52,10 @@ pub struct Env<'a> {
 /// The number of the name `length`, where the text has it.
 pub fn length_name(program: &Program) -> Option<u32> {
     let names = program.names.as_slice();
-    names.iter().position(|name| name.as_slice() == b"length".as_slice()).map(to_number)
+    names
+        .iter()
+        .position(|name| name.as_slice() == b"length".as_slice())
+        .map(to_number)
 }
 
 impl Env<'_> {

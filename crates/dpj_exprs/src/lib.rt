@@ -28,4 +28,3 @@ pub use found::Found;
 pub use node_types::NodeTypes;
 pub use supers::Supers;
 pub use typing::expr;
-

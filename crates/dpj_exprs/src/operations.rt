@@ -41,7 +41,6 @@ pub fn unary(op: UnaryOp, arg: &Ty, place: Place) -> Result<Ty, Stop>
 /// The type of an operation with two operands.
 pub fn binary(op: BinaryOp, left: &Ty, right: &Ty, place: Place) -> Result<Ty, Stop>
     ensures ok { IfOk result (λ t. binary_type op (plain_type left.now) (plain_type right.now) ≡ Some (plain_type t)) }
-    ensures none { IfErr result (λ stop. binary_type op (plain_type left.now) (plain_type right.now) ≡ None) }
     ensures fault { IfErr result (λ stop. stop ≡ refusal_at Kind.Type place) }
 {
     let ints = is_int(left) && is_int(right);

@@ -122,7 +122,16 @@ fn invocation(
             let of = expr(alloc, env, types, found, of.get())?;
             let regions = read_call_args(alloc, env, &of, *name, regions.as_slice())?;
             let actuals = exprs(alloc, env, types, found, actuals.as_slice())?;
-            call(alloc, env, found, &of, *name, regions, actuals.as_slice(), e.place)
+            call(
+                alloc,
+                env,
+                found,
+                &of,
+                *name,
+                regions,
+                actuals.as_slice(),
+                e.place,
+            )
         }
         ExprKind::New {
             class,
@@ -131,7 +140,15 @@ fn invocation(
         } => {
             let regions = read_new_args(alloc, env, *class, regions.as_slice())?;
             let actuals = exprs(alloc, env, types, found, actuals.as_slice())?;
-            creation(alloc, env, found, *class, regions, actuals.as_slice(), e.place)
+            creation(
+                alloc,
+                env,
+                found,
+                *class,
+                regions,
+                actuals.as_slice(),
+                e.place,
+            )
         }
         _ => leaf(alloc, env, &e.kind, e.place),
     }

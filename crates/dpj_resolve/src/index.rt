@@ -11,7 +11,9 @@ const NODES: u32 = 2097152;
 pub fn index_number(node: u32, suffix: u32) -> u32
     ensures { node < 2097152 → suffix < 1024 → result ≡ number_at node suffix }
 {
-    NODES.wrapping_mul(suffix.wrapping_add(1)).wrapping_add(node)
+    NODES
+        .wrapping_mul(suffix.wrapping_add(1))
+        .wrapping_add(node)
 }
 
 /// The index names that are in scope at a place of an array type or an array creation.

@@ -89,7 +89,16 @@ fn a_constraint_is_judged_with_its_arguments(rt: HostRuntime) -> Result<(), Fail
 #[test]
 fn a_list_that_is_left_out_is_root(rt: HostRuntime) -> Result<(), Fail> {
     let alloc = rt.alloc();
-    let params = [ParamRow { name: 1, atomic: false }, ParamRow { name: 2, atomic: true }];
+    let params = [
+        ParamRow {
+            name: 1,
+            atomic: false,
+        },
+        ParamRow {
+            name: 2,
+            atomic: true,
+        },
+    ];
     let read = ReadArgs {
         paths: Items::new(alloc),
         written: 0,
