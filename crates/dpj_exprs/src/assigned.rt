@@ -1,3 +1,9 @@
+ghost use Rattle.std.specs.Prelude.{◌≡◌, ◌⊎◌, None, Some, true, false, slice_index_or, IfOk, IfErr, OnOk};
+ghost use Rattle.dpj_base.specs.Refused.{IfRefused};
+ghost use Rattle.dpj_base.specs.Types.{plain_type, Subtype};
+ghost use Rattle.dpj_exprs.specs.Found.{AddsWrite};
+ghost use Rattle.dpj_exprs.specs.Refusing.{refusal_at};
+
 use crate::env::Env;
 use crate::fields::{element_at, field_at, part_element};
 use crate::fitting::{fits, refused};
@@ -5,7 +11,6 @@ use crate::found::Found;
 use crate::node_types::NodeTypes;
 use crate::typing::{expr, note_part};
 use dpj_base::{Kind, Place, Plain, Rpl, Stop, Ty};
-use dpj_headers::Faults;
 use dpj_tree::{Expr, ExprKind};
 use std::alloc::Global;
 
@@ -27,7 +32,9 @@ pub fn read_target(
     types: &mut NodeTypes,
     found: &mut Found,
     e: &Expr,
-) -> Result<Target, Stop> {
+) -> Result<Target, Stop>
+    ensures { IfOk result (λ target. slice_index_or types.new e.now.node None ≡ Some target.ty) }
+{
     let target = match &e.kind {
         ExprKind::Field { of, name } => {
             field_target(alloc, env, types, found, of.get(), *name, e.place)?
@@ -103,19 +110,23 @@ pub fn assign(
     target: Target,
     value: &Ty,
     place: Place,
-) -> Result<(), Stop> {
-    let mut faults = Faults::by_number();
+) -> Result<(), Stop>
+    ensures fit { OnOk result (Subtype env.now.supers.rows.now (plain_type value.now) (plain_type target.ty)) }
+    ensures writable { OnOk result (target.may_write ≡ true) }
+    ensures written { OnOk result (AddsWrite target.view target.rpl found.old.effects found.old.uses found.new.effects found.new.uses) }
+    ensures mistyped { IfErr result (λ stop. stop ≡ refusal_at Kind.Type place → ¬ (Subtype env.now.supers.rows.now (plain_type value.now) (plain_type target.ty))) }
+    ensures unwritable { IfErr result (λ stop. stop ≡ refusal_at Kind.PartialWrite place → target.may_write ≡ false) }
+    ensures fault { IfErr result (λ stop. IfRefused stop (λ refusal. (stop ≡ refusal_at Kind.Type place) ⊎ (stop ≡ refusal_at Kind.PartialWrite place))) }
+{
     if !fits(alloc, env, value, &target.ty)? {
-        faults.note(Kind::Type, place);
+        return Err(refused(Kind::Type, place));
     }
     if !target.may_write {
-        faults.note(Kind::PartialWrite, place);
+        return Err(refused(Kind::PartialWrite, place));
     }
-    faults.settle()?;
     let Target { rpl, view, .. } = target;
     match view {
-        Some(view) => found.part_use(view, rpl, true)?,
-        None => found.access(rpl, true)?,
+        Some(view) => Ok(found.part_use(view, rpl, true)?),
+        None => Ok(found.access(rpl, true)?),
     }
-    Ok(())
 }

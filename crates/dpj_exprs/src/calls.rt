@@ -27,7 +27,15 @@ pub fn read_full_args(
     params: &[ParamRow],
 ) -> Result<ReadArgs, Stop> {
     let mut faults = Faults::by_number();
-    read_args(alloc, &env.scope(), &mut faults, trees, params, true, &no_index_names())
+    read_args(
+        alloc,
+        &env.scope(),
+        &mut faults,
+        trees,
+        params,
+        true,
+        &no_index_names(),
+    )
 }
 
 /// Reads the region arguments of a call.
@@ -75,13 +83,7 @@ pub fn check_actuals(
 }
 
 /// The same where the region arguments aren't known: a value is a fault that fits for no regions.
-pub fn check_shapes(
-    env: &Env,
-    faults: &mut Faults,
-    actuals: &[Ty],
-    declared: &[Ty],
-    place: Place,
-) {
+pub fn check_shapes(env: &Env, faults: &mut Faults, actuals: &[Ty], declared: &[Ty], place: Place) {
     let headers = env.table.headers();
     let mut fit = actuals.len() == declared.len();
     for (value, ty) in actuals.iter().zip(declared.iter()) {
@@ -95,7 +97,10 @@ pub fn check_shapes(
 /// Whether a use through a receiver needs an argument that isn't fully specified: for the type of a formal, or
 /// for a result type that is rigid in it.
 fn is_partial(row: &MethodRow, owned: &[Rpl]) -> bool {
-    row.params.as_slice().iter().any(|ty| mentions_partial(ty, owned))
+    row.params
+        .as_slice()
+        .iter()
+        .any(|ty| mentions_partial(ty, owned))
         || rigid_in_partial(&row.result, owned)
 }
 
@@ -128,7 +133,9 @@ pub fn call(
     let Some(row) = env.table.method(*class, name) else {
         return Err(refused(Kind::Unknown, place));
     };
-    let owned = env.table.args_at(alloc, *class, args.as_slice(), row.owner)?;
+    let owned = env
+        .table
+        .args_at(alloc, *class, args.as_slice(), row.owner)?;
     let Some(owned) = owned else {
         return Err(refused(Kind::Type, place));
     };
@@ -143,7 +150,15 @@ pub fn call(
         faults.note(Kind::PartialWrite, place);
     }
     let args = joined(alloc, owned.as_slice(), regions)?;
-    check_call(alloc, env, &mut faults, row, args.as_slice(), actuals, place)?;
+    check_call(
+        alloc,
+        env,
+        &mut faults,
+        row,
+        args.as_slice(),
+        actuals,
+        place,
+    )?;
     faults.settle()?;
     found.summary(alloc, &row.summary, args.as_slice())?;
     Ok(subst_type(alloc, &row.result, args.as_slice())?)
@@ -159,7 +174,15 @@ fn check_call(
     actuals: &[Ty],
     place: Place,
 ) -> Result<(), NoMemory> {
-    check_actuals(alloc, env, faults, actuals, row.params.as_slice(), args, place)?;
+    check_actuals(
+        alloc,
+        env,
+        faults,
+        actuals,
+        row.params.as_slice(),
+        args,
+        place,
+    )?;
     if !constraints_hold(alloc, row.given.as_slice(), args, env.given())? {
         faults.note(Kind::Constraint, place);
     }

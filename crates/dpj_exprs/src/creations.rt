@@ -4,7 +4,9 @@ use crate::fitting::refused;
 use crate::found::Found;
 use dpj_base::{Kind, NoMemory, Place, Rpl, Stop, Ty};
 use dpj_headers::Faults;
-use dpj_resolve::{IndexNames, Need, ReadArgs, ReadType, array_made, class_made, path, read_type, root};
+use dpj_resolve::{
+    IndexNames, Need, ReadArgs, ReadType, array_made, class_made, path, read_type, root,
+};
 use dpj_tree::{BaseTree, Named, RplTree};
 use std::alloc::Global;
 
@@ -33,7 +35,15 @@ pub fn creation(
 ) -> Result<Ty, Stop> {
     let mut faults = Faults::by_number();
     let number = env.table.headers().class(class.name);
-    let made = class_made(alloc, &env.scope(), &mut faults, class, number, regions, place)?;
+    let made = class_made(
+        alloc,
+        &env.scope(),
+        &mut faults,
+        class,
+        number,
+        regions,
+        place,
+    )?;
     match (&made, number) {
         (Some(Ty::Class { class, args }), _) => {
             let args = args.as_slice();
@@ -65,7 +75,15 @@ fn check_constructed(
 ) -> Result<(), NoMemory> {
     match env.table.constructor(class) {
         Some(row) => {
-            check_actuals(alloc, env, faults, actuals, row.params.as_slice(), args, place)
+            check_actuals(
+                alloc,
+                env,
+                faults,
+                actuals,
+                row.params.as_slice(),
+                args,
+                place,
+            )
         }
         None => check_actuals(alloc, env, faults, actuals, &[], args, place),
     }

@@ -32,7 +32,7 @@ pub struct Env<'a> {
     pub class: u32,
     /// The number of the method.
     pub method: u32,
-    pub(crate) supers: Supers<'a>,
+    pub supers: Supers<'a>,
     /// The name `length`, where the text has it.
     length: Option<u32>,
     /// The region parameters of the method, with whether each is atomic.
@@ -52,7 +52,10 @@ pub struct Env<'a> {
 /// The number of the name `length`, where the text has it.
 pub fn length_name(program: &Program) -> Option<u32> {
     let names = program.names.as_slice();
-    names.iter().position(|name| name.as_slice() == b"length".as_slice()).map(to_number)
+    names
+        .iter()
+        .position(|name| name.as_slice() == b"length".as_slice())
+        .map(to_number)
 }
 
 impl Env<'_> {

@@ -31,7 +31,9 @@ pub fn field_at(
     let Some(row) = env.table.field(*class, name) else {
         return Err(refused(Kind::Unknown, place));
     };
-    let owned = env.table.args_at(alloc, *class, args.as_slice(), row.owner)?;
+    let owned = env
+        .table
+        .args_at(alloc, *class, args.as_slice(), row.owner)?;
     let Some(owned) = owned else {
         return Err(refused(Kind::Type, place));
     };
@@ -57,7 +59,10 @@ pub fn read_field(
         return Ok(Ty::Int);
     }
     let FieldAt {
-        ty, rpl, may_read, ..
+        ty,
+        rpl,
+        may_read,
+        ..
     } = field_at(alloc, env, of, name, place)?;
     if !may_read {
         return Err(refused(Kind::PartialWrite, place));
@@ -107,7 +112,10 @@ pub fn read_element(
     place: Place,
 ) -> Result<Ty, Stop> {
     let Element {
-        ty, rpl, may_read, ..
+        ty,
+        rpl,
+        may_read,
+        ..
     } = element_at(alloc, env, array, index, index_ty, place)?;
     if !may_read {
         return Err(refused(Kind::PartialWrite, place));

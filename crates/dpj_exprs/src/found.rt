@@ -11,7 +11,14 @@ pub struct Found {
 }
 
 impl Found {
-    pub fn new(alloc: Global) -> Found {
+    ghost use Rattle.std.specs.Prelude.{◌≡◌, ◌∷◌, ◌++◌, [], map, OnOk, OnErr};
+    ghost use Rattle.dpj_base.specs.Effects.{added, gathered};
+    ghost use Rattle.dpj_exprs.specs.Found.{access, part_access, effect_with};
+
+    pub fn new(alloc: Global) -> Found
+        ensures effects { result.effects ≡ [] }
+        ensures uses { result.uses ≡ [] }
+    {
         Found {
             effects: EffectSet::new(alloc),
             uses: Items::new(alloc),
@@ -19,7 +26,11 @@ impl Found {
     }
 
     /// Adds a plain read or write.
-    pub fn access(&mut self, rpl: Rpl, write: bool) -> Result<(), NoMemory> {
+    pub fn access(&mut self, rpl: Rpl, write: bool) -> Result<(), NoMemory>
+        ensures ok { OnOk result (self.new.effects ≡ added self.old.effects (access rpl write)) }
+        ensures err { OnErr result (self.new.effects ≡ self.old.effects) }
+        ensures apart { self.new.uses ≡ self.old.uses }
+    {
         self.effects.add(Effect {
             write,
             atomic: false,
@@ -28,7 +39,11 @@ impl Found {
     }
 
     /// Adds a read or a write through a part of an array.
-    pub fn part_use(&mut self, view: u32, rpl: Rpl, write: bool) -> Result<(), NoMemory> {
+    pub fn part_use(&mut self, view: u32, rpl: Rpl, write: bool) -> Result<(), NoMemory>
+        ensures ok { OnOk result (self.new.uses ≡ self.old.uses ++ part_access view rpl write ∷ []) }
+        ensures err { OnErr result (self.new.uses ≡ self.old.uses) }
+        ensures apart { self.new.effects ≡ self.old.effects }
+    {
         self.uses.push(PartUse { view, rpl, write })
     }
 
@@ -38,7 +53,10 @@ impl Found {
         alloc: Global,
         summary: &EffectSet,
         args: &[Rpl],
-    ) -> Result<(), NoMemory> {
+    ) -> Result<(), NoMemory>
+        ensures ok { OnOk result (self.new.effects ≡ gathered self.old.effects (map (effect_with args.now) summary.now)) }
+        ensures apart { self.new.uses ≡ self.old.uses }
+    {
         for effect in summary.as_slice() {
             self.effects.add(Effect {
                 write: effect.write,

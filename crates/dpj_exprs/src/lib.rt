@@ -26,4 +26,5 @@ pub use env::{Env, LocalRow, Mark, length_name};
 pub use fitting::fits;
 pub use found::Found;
 pub use node_types::NodeTypes;
+pub use supers::Supers;
 pub use typing::expr;

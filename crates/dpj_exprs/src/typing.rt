@@ -1,3 +1,5 @@
+ghost use Rattle.std.specs.Prelude.{◌≡◌, None, Some, slice_index_or, IfOk};
+
 use crate::calls::{call, read_call_args};
 use crate::creations::{array_creation, creation, read_array, read_new_args};
 use crate::env::{Env, LocalRow};
@@ -20,46 +22,65 @@ pub fn expr(
     types: &mut NodeTypes,
     found: &mut Found,
     e: &Expr,
+) -> Result<Ty, Stop>
+    ensures { IfOk result (λ ty. slice_index_or types.new e.now.node None ≡ Some ty) }
+{
+    let ty = access(alloc, env, types, found, e)?;
+    types.note(alloc, e.node, &ty)?;
+    Ok(ty)
+}
+
+/// The type of a field or an element, or of another expression.
+#[cycle(exprs)]
+fn access(
+    alloc: Global,
+    env: &Env,
+    types: &mut NodeTypes,
+    found: &mut Found,
+    e: &Expr,
 ) -> Result<Ty, Stop> {
-    let ty = match &e.kind {
+    match &e.kind {
         ExprKind::Field { of, name } => match env.part(of.get()) {
-            Some(row) if env.is_length(*name) => part_length(alloc, types, of.get(), row)?,
+            Some(row) if env.is_length(*name) => Ok(part_length(alloc, types, of.get(), row)?),
             _ => {
                 let of = expr(alloc, env, types, found, of.get())?;
-                read_field(alloc, env, found, &of, *name, e.place)?
+                read_field(alloc, env, found, &of, *name, e.place)
             }
         },
         ExprKind::Element { array, index } => match env.part(array.get()) {
             Some(row) => {
                 note_part(alloc, types, array.get(), row)?;
                 let index = expr(alloc, env, types, found, index.get())?;
-                read_part(alloc, found, row, &index, e.place)?
+                read_part(alloc, found, row, &index, e.place)
             }
             None => {
                 let array = expr(alloc, env, types, found, array.get())?;
                 let index_ty = expr(alloc, env, types, found, index.get())?;
-                read_element(alloc, env, found, &array, index.get(), &index_ty, e.place)?
+                read_element(alloc, env, found, &array, index.get(), &index_ty, e.place)
             }
         },
-        ExprKind::Call {
-            of,
-            regions,
-            name,
-            actuals,
-        } => {
-            let of = expr(alloc, env, types, found, of.get())?;
-            let regions = read_call_args(alloc, env, &of, *name, regions.as_slice())?;
-            let actuals = exprs(alloc, env, types, found, actuals.as_slice())?;
-            call(alloc, env, found, &of, *name, regions, actuals.as_slice(), e.place)?
+        _ => operation(alloc, env, types, found, e),
+    }
+}
+
+/// The type of an operation, or of another expression that is no access.
+#[cycle(exprs)]
+fn operation(
+    alloc: Global,
+    env: &Env,
+    types: &mut NodeTypes,
+    found: &mut Found,
+    e: &Expr,
+) -> Result<Ty, Stop> {
+    match &e.kind {
+        ExprKind::Unary { op, arg } => {
+            let arg = expr(alloc, env, types, found, arg.get())?;
+            unary(*op, &arg, e.place)
         }
-        ExprKind::New {
-            class,
-            regions,
-            actuals,
-        } => {
-            let regions = read_new_args(alloc, env, *class, regions.as_slice())?;
-            let actuals = exprs(alloc, env, types, found, actuals.as_slice())?;
-            creation(alloc, env, found, *class, regions, actuals.as_slice(), e.place)?
+        ExprKind::Binary { op, left, right } => {
+            let left = expr(alloc, env, types, found, left.get())?;
+            let right = expr(alloc, env, types, found, right.get())?;
+            binary(*op, &left, &right, e.place)
         }
         ExprKind::NewArray {
             base,
@@ -76,21 +97,61 @@ pub fn expr(
             };
             let read = read_array(alloc, env, base, around)?;
             let length = expr(alloc, env, types, found, length.get())?;
-            array_creation(alloc, env, read, &length, rpl.as_ref(), around, e.place)?
+            array_creation(alloc, env, read, &length, rpl.as_ref(), around, e.place)
         }
-        ExprKind::Unary { op, arg } => {
-            let arg = expr(alloc, env, types, found, arg.get())?;
-            unary(*op, &arg, e.place)?
+        _ => invocation(alloc, env, types, found, e),
+    }
+}
+
+/// The type of a call or the creation of an object, or of an expression without expressions in it.
+#[cycle(exprs)]
+fn invocation(
+    alloc: Global,
+    env: &Env,
+    types: &mut NodeTypes,
+    found: &mut Found,
+    e: &Expr,
+) -> Result<Ty, Stop> {
+    match &e.kind {
+        ExprKind::Call {
+            of,
+            regions,
+            name,
+            actuals,
+        } => {
+            let of = expr(alloc, env, types, found, of.get())?;
+            let regions = read_call_args(alloc, env, &of, *name, regions.as_slice())?;
+            let actuals = exprs(alloc, env, types, found, actuals.as_slice())?;
+            call(
+                alloc,
+                env,
+                found,
+                &of,
+                *name,
+                regions,
+                actuals.as_slice(),
+                e.place,
+            )
         }
-        ExprKind::Binary { op, left, right } => {
-            let left = expr(alloc, env, types, found, left.get())?;
-            let right = expr(alloc, env, types, found, right.get())?;
-            binary(*op, &left, &right, e.place)?
+        ExprKind::New {
+            class,
+            regions,
+            actuals,
+        } => {
+            let regions = read_new_args(alloc, env, *class, regions.as_slice())?;
+            let actuals = exprs(alloc, env, types, found, actuals.as_slice())?;
+            creation(
+                alloc,
+                env,
+                found,
+                *class,
+                regions,
+                actuals.as_slice(),
+                e.place,
+            )
         }
-        _ => leaf(alloc, env, &e.kind, e.place)?,
-    };
-    types.note(alloc, e.node, &ty)?;
-    Ok(ty)
+        _ => leaf(alloc, env, &e.kind, e.place),
+    }
 }
 
 /// The types of several expressions.

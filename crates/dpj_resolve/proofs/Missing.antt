@@ -1,8 +1,10 @@
--- A region parameter that has no argument.
-use Rattle.std.proofs.Common.{◌≡◌, ℕ, ◌≤◌, List, [], length, sym, ap, subst}
-use Rattle.std.proofs.lemmas.List.{get_or_past}
+-- Region parameters that have no argument.
+use Rattle.std.proofs.Common.{◌≡◌, ℕ, ◌+◌, ◌≤◌, ◌<◌, false, List, [], ◌∷◌, ◌++◌, take, length, sym, ap, subst}
+use Rattle.std.proofs.lemmas.List.{get_or_past, map_more}
 use Rattle.dpj_base.specs.declared.region.Head.TheVariants.{Param}
 use Rattle.dpj_base.specs.declared.region.Rpl.{Rpl}
+use Rattle.dpj_headers.specs.declared.header.ParamRow.{ParamRow}
+use Rattle.dpj_resolve.specs.Args.{root_path, roots}
 use Rattle.dpj_base.specs.Regions.{behind, put_at, substituted}
 
 -- it stays
@@ -11,3 +13,7 @@ unfolding substituted
 substituted_missing args a p is past =
     subst (λ h. put_at h a.elems args ≡ record { head = h; elems = a.elems }) (sym is)
     (ap (λ r. behind r a.elems) (get_or_past args p (record { head = Param p; elems = [] }) past))
+
+-- `Root` for one parameter more
+pub roots_more : (params : List ParamRow) (i : ℕ) → i < length params → roots (take (i + 1) params) ≡ roots (take i params) ++ root_path ∷ []
+roots_more params i below = map_more (λ param. root_path) params i (record { name = 0; atomic = false }) below

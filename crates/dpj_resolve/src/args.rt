@@ -1,3 +1,6 @@
+ghost use Rattle.std.specs.Prelude.{◌≡◌, IfOk};
+ghost use Rattle.dpj_resolve.specs.Args.{root_path, roots, args_given};
+
 use crate::index::IndexNames;
 use crate::paths::{Need, path};
 use crate::scope::Scope;
@@ -23,7 +26,9 @@ pub fn begins_local(rpl: &Rpl) -> bool {
 }
 
 /// The path `Root`.
-pub fn root(alloc: Global) -> Rpl {
+pub fn root(alloc: Global) -> Rpl
+    ensures { result ≡ root_path }
+{
     Rpl {
         head: Head::Root,
         elems: Elems::new(alloc),
@@ -67,14 +72,17 @@ fn is_atomic_at(params: &[ParamRow], at: usize) -> bool {
 }
 
 /// The region arguments of what stands at a place, one for each parameter: those that are read, or `Root` for
-/// each where none is written. None where their number is wrong or one isn't known.
+/// each where none is written. None where their number is wrong or one isn't known. A wrong number, a list left out
+/// for an atomic parameter and a local region are noted as faults.
 pub fn fit_args(
     alloc: Global,
     faults: &mut Faults,
     read: ReadArgs,
     params: &[ParamRow],
     place: Place,
-) -> Result<Option<Items<Rpl>>, NoMemory> {
+) -> Result<Option<Items<Rpl>>, NoMemory>
+    ensures { IfOk result (λ given. given ≡ args_given read.written read.paths params.now) }
+{
     let ReadArgs {
         paths,
         written,
@@ -83,27 +91,35 @@ pub fn fit_args(
     if let Some(name) = local {
         faults.note(Kind::LocalRegion, name);
     }
-    if written == 0 {
-        if params.iter().any(|param| param.atomic) {
-            faults.note(Kind::RegionArgs, place);
-        }
-        return Ok(Some(roots(alloc, params.len())?));
-    }
-    if written != params.len() {
+    if is_unfit(written, params) {
         faults.note(Kind::RegionArgs, place);
-        return Ok(None);
     }
-    Ok(if paths.len() == written {
-        Some(paths)
+    if written == 0 {
+        return Ok(Some(roots(alloc, params)?));
+    }
+    if written == params.len() && paths.len() == written {
+        Ok(Some(paths))
     } else {
-        None
-    })
+        Ok(None)
+    }
 }
 
-fn roots(alloc: Global, count: usize) -> Result<Items<Rpl>, NoMemory> {
-    let mut paths = Items::new(alloc);
-    for _ in 0..count {
-        paths.push(root(alloc))?;
+/// Whether so many written arguments are a fault for these parameters.
+fn is_unfit(written: usize, params: &[ParamRow]) -> bool {
+    if written == 0 {
+        params.iter().any(|param| param.atomic)
+    } else {
+        written != params.len()
     }
-    Ok(paths)
+}
+
+#[tactic(auto, using(crate::proofs::Missing::roots_more))]
+fn roots(alloc: Global, params: &[ParamRow]) -> Result<Items<Rpl>, NoMemory>
+    ensures { IfOk result (λ made. made ≡ roots params.now) }
+{
+    let mut made = Items::new(alloc);
+    for _param in params {
+        made.push(root(alloc))?;
+    }
+    Ok(made)
 }

@@ -64,7 +64,12 @@ pub fn class_made(
     let Some(args) = fit_args(alloc, faults, args, scope.class_params(class), place)? else {
         return Ok(None);
     };
-    if !constraints_hold(alloc, scope.class_given(class), args.as_slice(), scope.given)? {
+    if !constraints_hold(
+        alloc,
+        scope.class_given(class),
+        args.as_slice(),
+        scope.given,
+    )? {
         faults.note(Kind::Constraint, place);
     }
     Ok(Some(Ty::Class { class, args }))

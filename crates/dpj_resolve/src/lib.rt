@@ -26,3 +26,6 @@ pub use paths::{Need, path};
 pub use scope::{Scope, Site};
 pub use scoped::Scoped;
 pub use types::{array_made, read_type, ty};
+
+#[cfg(test)]
+mod tests;

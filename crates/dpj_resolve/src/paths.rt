@@ -52,7 +52,9 @@ pub fn path(
 
 /// Whether a written path has neither `*` nor `[?]`.
 fn is_full(elems: &[ElemTree]) -> bool {
-    elems.iter().all(|elem| !matches!(elem, ElemTree::Star | ElemTree::Any))
+    elems
+        .iter()
+        .all(|elem| !matches!(elem, ElemTree::Star | ElemTree::Any))
 }
 
 fn begin(
