@@ -5,9 +5,9 @@ use Rattle.dpj_base.specs.declared.elems.Elem.TheVariants.{Lit, Var, Any}
 use Rattle.dpj_base.specs.declared.region.Rpl.{Rpl}
 use Rattle.dpj_base.specs.Types.{PlainType, plain_type, path_at, type_at, mentions_index, rigid_in_index}
 use Rattle.dpj_base.specs.Types.PlainType.{array}
-use Rattle.dpj_arrays.specs.declared.access.Element.{Element}
-use Rattle.dpj_arrays.specs.declared.access.IndexKind.{IndexKind}
-use Rattle.dpj_arrays.specs.declared.access.IndexKind.TheVariants as index
+use Rattle.dpj_arrays.specs.declared.parts.Element.{Element}
+use Rattle.dpj_arrays.specs.declared.parts.IndexKind.{IndexKind}
+use Rattle.dpj_arrays.specs.declared.parts.IndexKind.TheVariants as index
 
 -- an element of an array: its type as plain data, its region path, and what may be done with it
 pub record PlainElement : Type 0 where

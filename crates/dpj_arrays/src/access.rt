@@ -2,31 +2,10 @@ ghost use Rattle.std.specs.Prelude.{◌≡◌, IfOk, option_map};
 ghost use Rattle.dpj_base.specs.Types.{plain_type};
 ghost use Rattle.dpj_arrays.specs.Access.{plain_element, index_elem, is_exact, element_of};
 
-use dpj_base::{Elem, NoMemory, Plain, Rpl, Ty};
+use crate::parts::{Element, IndexKind};
+use dpj_base::{Elem, NoMemory, Plain, Ty};
 use dpj_types::{mentions_index, path_at, rigid_in_index, type_at};
 use std::alloc::Global;
-
-/// What stands for the index of an element access.
-#[derive(Clone, Copy, Debug, PartialEq, Eq)]
-pub enum IndexKind {
-    /// A literal.
-    Lit(i32),
-    /// An index variable: a final local or the variable of a `foreach`.
-    Var(u32),
-    /// Any other expression.
-    Other,
-}
-
-/// An element of an array, as an access by one index sees it.
-#[derive(Debug, Drop)]
-pub struct Element {
-    pub ty: Ty,
-    pub rpl: Rpl,
-    /// Whether the access may read.
-    pub may_read: bool,
-    /// Whether the access may write.
-    pub may_write: bool,
-}
 
 fn index_elem(index: IndexKind) -> Elem
     ensures { result ≡ index_elem index }
@@ -46,11 +25,7 @@ fn is_exact(index: IndexKind) -> bool
 
 /// The element of an array type at an index, with the index put in for the index name. None where the type is no
 /// array type.
-pub fn element(
-    alloc: Global,
-    array: &Ty,
-    index: &IndexKind,
-) -> Result<Option<Element>, NoMemory>
+pub fn element(alloc: Global, array: &Ty, index: &IndexKind) -> Result<Option<Element>, NoMemory>
     ensures { IfOk result (λ found. option_map plain_element found ≡ element_of (plain_type array.now) index.now) }
 {
     let Ty::Array {

@@ -4,7 +4,9 @@
 #![tactic(auto)]
 
 mod access;
+mod parts;
 #[cfg(test)]
 mod tests;
 
-pub use access::{Element, IndexKind, element};
+pub use access::element;
+pub use parts::{Element, IndexKind};

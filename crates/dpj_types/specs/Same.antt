@@ -1,8 +1,8 @@
 -- Two types that are the same up to index names, compared side by side.
-use Rattle.std.specs.Prelude.{ℕ, Bool, true, false, ◌&&◌, ◌==◌, List, [], ◌∷◌, ◌++◌, map, Option}
+use Rattle.std.specs.Prelude.{ℕ, Bool, true, false, ◌&&◌, ◌||◌, cond, ◌==◌, List, [], ◌∷◌, ◌++◌, map, Option}
 use Rattle.dpj_base.specs.declared.region.Rpl.{Rpl}
 use Rattle.dpj_base.specs.Effects.{same_rpl}
-use Rattle.dpj_base.specs.Types.{PlainType, nameless_path}
+use Rattle.dpj_base.specs.Types.{PlainType, is_name, nameless_path}
 use Rattle.dpj_base.specs.Types.PlainType.{int, boolean, void, null, class, array}
 use Rattle.dpj_types.specs.declared.same.IndexNames.{IndexNames}
 
@@ -12,6 +12,13 @@ firsts names = map (λ n. n.first) names
 
 abbrev pub seconds : List IndexNames → List (Option ℕ)
 seconds names = map (λ n. n.second) names
+
+-- two variables are the same: the innermost pair of index names of which one is its variable decides, and where
+-- there is none they are the same if they are outside
+abbrev pub same_inside : Bool → List IndexNames → ℕ → ℕ → Bool
+same_inside outside [] v w = outside
+same_inside outside (n ∷ names) v w =
+    same_inside (cond (is_name n.first v || is_name n.second w) (is_name n.first v && is_name n.second w) outside) names v w
 
 abbrev pub same_paths : List (Option ℕ) → List (Option ℕ) → List Rpl → List Rpl → Bool
 same_paths ns ms [] [] = true

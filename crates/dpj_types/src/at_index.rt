@@ -28,12 +28,7 @@ pub fn path_at(alloc: Global, rpl: &Rpl, index: u32, value: Elem) -> Result<Rpl,
     })
 }
 
-fn paths_at(
-    alloc: Global,
-    paths: &[Rpl],
-    index: u32,
-    value: Elem,
-) -> Result<Items<Rpl>, NoMemory>
+fn paths_at(alloc: Global, paths: &[Rpl], index: u32, value: Elem) -> Result<Items<Rpl>, NoMemory>
     ensures { IfOk result (λ made. made ≡ map (path_at index value) paths.now) }
 {
     let mut made = Items::new(alloc);

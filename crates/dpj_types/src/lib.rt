@@ -8,11 +8,14 @@
 #![tactic(auto)]
 
 mod at_index;
+pub mod laws;
 mod mention;
 mod put_in;
 mod same;
 mod subtyping;
 mod supers;
+#[cfg(test)]
+mod tests;
 
 pub use at_index::{path_at, type_at};
 pub use mention::{mentions, mentions_index, rigid, rigid_in_index};

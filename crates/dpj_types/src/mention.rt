@@ -1,5 +1,6 @@
 ghost use Rattle.std.specs.Prelude.{◌≡◌};
 ghost use Rattle.std.specs.List.{list_any};
+ghost use Rattle.dpj_base.specs.Regions.{same_elem};
 ghost use Rattle.dpj_base.specs.Types.{plain_type, is_name, has_param, mentions_param, rigid_in_param, has_index, mentions_index, rigid_in_index};
 
 use dpj_base::{Elem, Head, Rpl, Ty};
@@ -56,11 +57,17 @@ pub(crate) fn is_name(name: Option<u32>, var: u32) -> bool
     }
 }
 
+fn is_variable(elem: Elem, index: u32) -> bool
+    ensures { result ≡ same_elem elem (Elem.Var index) }
+{
+    elem == Elem::Var(index)
+}
+
 fn has_index(rpl: &Rpl, index: u32) -> bool
     ensures { result ≡ has_index index rpl.now }
 {
     for elem in rpl.elems.as_slice() {
-        if *elem == Elem::Var(index) {
+        if is_variable(*elem, index) {
             return true;
         }
     }
@@ -103,7 +110,9 @@ pub fn rigid_in_index(t: &Ty, index: u32) -> bool
 {
     match t {
         Ty::Array {
-            elem, index: name, ..
+            elem,
+            index: name,
+            ..
         } => !is_name(*name, index) && mentions_index(elem.get(), index),
         _ => false,
     }

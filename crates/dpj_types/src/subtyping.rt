@@ -77,7 +77,7 @@ fn below_class(alloc: Global, a: &Ty, b: &Ty, supers: &[Super]) -> Result<bool, 
     ensures { IfOk result (λ yes. yes ≡ below_class supers.now (length supers.now) (plain_type a.now) (plain_type b.now)) }
 {
     let mut above = a.copy(alloc)?;
-    for _step in 0..supers.len() {
+    for step in 0..supers.len() {
         if class_within(&above, b) {
             return Ok(true);
         }
@@ -118,12 +118,7 @@ fn renamed(alloc: Global, rpl: &Rpl, names: IndexNames) -> Result<Rpl, NoMemory>
 }
 
 /// Whether the path of one array type lies in that of another, up to their index names.
-fn path_within(
-    alloc: Global,
-    inner: &Rpl,
-    outer: &Rpl,
-    names: IndexNames,
-) -> Result<bool, NoMemory>
+fn path_within(alloc: Global, inner: &Rpl, outer: &Rpl, names: IndexNames) -> Result<bool, NoMemory>
     ensures { IfOk result (λ yes. yes ≡ within (nameless_path (names.first ∷ []) inner.now) (nameless_path (names.second ∷ []) outer.now)) }
 {
     Ok(includes(outer, &renamed(alloc, inner, names)?))
