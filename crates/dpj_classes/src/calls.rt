@@ -1,9 +1,8 @@
-use crate::rows::MethodRow;
 use crate::shape::{NO_CLASS, Shape};
 use crate::table::Table;
 use dpj_base::{Items, NoMemory};
 use dpj_resolve::Scoped;
-use dpj_tree::{Expr, ExprKind, Method, Stmt, StmtKind, TypeTree};
+use dpj_tree::{BaseTree, Expr, ExprKind, Method, Stmt, StmtKind, Suffix, TypeTree};
 use std::alloc::Global;
 
 /// What a body reaches by itself.
@@ -15,13 +14,12 @@ pub struct Reached {
     pub holds_nd: bool,
 }
 
-/// A walk through one body that finds the classes of receivers, where they can be told. Faults don't stop it.
-#[derive(Drop)]
+/// The class that a body belongs to. The walk finds the classes of receivers, where they can be told; faults don't
+/// stop it.
+#[derive(Clone, Copy)]
 struct Walk<'a> {
     table: &'a Table,
     class: u32,
-    locals: Scoped<Shape>,
-    reached: Reached,
 }
 
 /// What the body of a method of a class reaches.
@@ -31,73 +29,86 @@ pub fn reached_by(
     class: u32,
     method: &Method,
 ) -> Result<Reached, NoMemory> {
-    let mut walk = Walk {
-        table,
-        class,
-        locals: Scoped::new(alloc),
-        reached: Reached {
-            called: Items::new(alloc),
-            holds_nd: false,
-        },
-    };
+    let walk = Walk { table, class };
+    let mut locals = Scoped::new(alloc);
     for formal in method.formals.as_slice() {
-        walk.declare(formal.name, &formal.ty)?;
+        walk.declare(&mut locals, formal.name, &formal.ty)?;
     }
-    walk.stmts(method.body.as_slice())?;
-    let Walk { reached, .. } = walk;
+    let mut reached = Reached {
+        called: Items::new(alloc),
+        holds_nd: false,
+    };
+    walk.block(&mut locals, &mut reached, method.body.as_slice())?;
     Ok(reached)
 }
 
 impl Walk<'_> {
-    fn declare(&mut self, name: u32, tree: &TypeTree) -> Result<(), NoMemory> {
-        let shape = Shape::of_tree(self.table.headers(), tree);
-        self.locals.enter(name, shape)
+    fn declare(
+        &self,
+        locals: &mut Scoped<Shape>,
+        name: u32,
+        tree: &TypeTree,
+    ) -> Result<(), NoMemory> {
+        locals.enter(name, Shape::of_tree(self.table.headers(), tree))
     }
 
     /// The shape of a field of an object.
     fn field(&self, of: Shape, name: u32) -> Shape {
-        let row = of.object().and_then(|class| self.table.field(class, name));
-        row.map_or(NO_CLASS, |row| Shape::of_type(&row.ty))
+        let Some(class) = of.object() else {
+            return NO_CLASS;
+        };
+        match self.table.field(class, name) {
+            Some(row) => Shape::of_type(&row.ty),
+            None => NO_CLASS,
+        }
     }
 
     /// Calls a method of an object. The shape of the result.
-    fn call(&mut self, of: Shape, name: u32) -> Result<Shape, NoMemory> {
-        let table = self.table;
-        let Some(row) = of.object().and_then(|class| table.method(class, name)) else {
+    fn call(&self, called: &mut Items<u32>, of: Shape, name: u32) -> Result<Shape, NoMemory> {
+        let Some(class) = of.object() else {
             return Ok(NO_CLASS);
         };
-        self.reach(row)?;
+        let Some(row) = self.table.method(class, name) else {
+            return Ok(NO_CLASS);
+        };
+        called.push(row.id)?;
         Ok(Shape::of_type(&row.result))
     }
 
     /// Makes an object of a class.
-    fn create(&mut self, name: u32) -> Result<Shape, NoMemory> {
-        let table = self.table;
-        let Some(class) = table.headers().class(name) else {
+    fn create(&self, called: &mut Items<u32>, name: u32) -> Result<Shape, NoMemory> {
+        let Some(class) = self.table.headers().class(name) else {
             return Ok(NO_CLASS);
         };
-        if let Some(row) = table.constructor(class) {
-            self.reach(row)?;
+        if let Some(row) = self.table.constructor(class) {
+            called.push(row.id)?;
         }
         Ok(Shape::of_class(class))
     }
 
-    fn reach(&mut self, row: &MethodRow) -> Result<(), NoMemory> {
-        self.reached.called.push(row.id)
+    /// The shape of an array that is made.
+    fn made(&self, base: &BaseTree, suffixes: &[Suffix]) -> Shape {
+        Shape::written(self.table.headers(), base, suffixes.len().saturating_add(1))
     }
 
+    /// Goes through an expression. The shape of its value.
     #[cycle(exprs)]
-    fn expr(&mut self, e: &Expr) -> Result<Shape, NoMemory> {
+    fn expr(
+        &self,
+        locals: &Scoped<Shape>,
+        called: &mut Items<u32>,
+        e: &Expr,
+    ) -> Result<Shape, NoMemory> {
         match &e.kind {
             ExprKind::This => Ok(Shape::of_class(self.class)),
-            ExprKind::Local(name) => Ok(self.locals.get(*name).copied().unwrap_or(NO_CLASS)),
+            ExprKind::Local(name) => Ok(locals.get(*name).copied().unwrap_or(NO_CLASS)),
             ExprKind::Field { of, name } => {
-                let of = self.expr(of.get())?;
+                let of = self.expr(locals, called, of.get())?;
                 Ok(self.field(of, *name))
             }
             ExprKind::Element { array, index } => {
-                let array = self.expr(array.get())?;
-                self.expr(index.get())?;
+                let array = self.expr(locals, called, array.get())?;
+                self.expr(locals, called, index.get())?;
                 Ok(array.element())
             }
             ExprKind::Call {
@@ -106,13 +117,13 @@ impl Walk<'_> {
                 actuals,
                 ..
             } => {
-                let of = self.expr(of.get())?;
-                self.exprs(actuals.as_slice())?;
-                self.call(of, *name)
+                let of = self.expr(locals, called, of.get())?;
+                self.exprs(locals, called, actuals.as_slice())?;
+                self.call(called, of, *name)
             }
             ExprKind::New { class, actuals, .. } => {
-                self.exprs(actuals.as_slice())?;
-                self.create(class.name)
+                self.exprs(locals, called, actuals.as_slice())?;
+                self.create(called, class.name)
             }
             ExprKind::NewArray {
                 base,
@@ -120,17 +131,16 @@ impl Walk<'_> {
                 length,
                 ..
             } => {
-                self.expr(length.get())?;
-                let arrays = suffixes.len().saturating_add(1);
-                Ok(Shape::written(self.table.headers(), base, arrays))
+                self.expr(locals, called, length.get())?;
+                Ok(self.made(base, suffixes.as_slice()))
             }
             ExprKind::Unary { arg, .. } => {
-                self.expr(arg.get())?;
+                self.expr(locals, called, arg.get())?;
                 Ok(NO_CLASS)
             }
             ExprKind::Binary { left, right, .. } => {
-                self.expr(left.get())?;
-                self.expr(right.get())?;
+                self.expr(locals, called, left.get())?;
+                self.expr(locals, called, right.get())?;
                 Ok(NO_CLASS)
             }
             ExprKind::Int(_) | ExprKind::Bool(_) | ExprKind::Null => Ok(NO_CLASS),
@@ -138,49 +148,108 @@ impl Walk<'_> {
     }
 
     #[cycle(exprs)]
-    fn exprs(&mut self, all: &[Expr]) -> Result<(), NoMemory> {
+    fn exprs(
+        &self,
+        locals: &Scoped<Shape>,
+        called: &mut Items<u32>,
+        all: &[Expr],
+    ) -> Result<(), NoMemory> {
         for e in all {
-            self.expr(e)?;
+            self.expr(locals, called, e)?;
         }
         Ok(())
     }
 
+    /// Goes through an expression whose value matters no more.
+    fn value(
+        &self,
+        locals: &Scoped<Shape>,
+        reached: &mut Reached,
+        e: &Expr,
+    ) -> Result<(), NoMemory> {
+        self.expr(locals, &mut reached.called, e)?;
+        Ok(())
+    }
+
+    fn values(
+        &self,
+        locals: &Scoped<Shape>,
+        reached: &mut Reached,
+        first: &Expr,
+        second: &Expr,
+    ) -> Result<(), NoMemory> {
+        self.value(locals, reached, first)?;
+        self.value(locals, reached, second)
+    }
+
+    /// Goes through the statements of a block. What it declares is in scope up to its end.
     #[cycle(stmts)]
-    fn stmt(&mut self, stmt: &Stmt) -> Result<(), NoMemory> {
+    fn block(
+        &self,
+        locals: &mut Scoped<Shape>,
+        reached: &mut Reached,
+        all: &[Stmt],
+    ) -> Result<(), NoMemory> {
+        let outer = locals.len();
+        for stmt in all {
+            self.stmt(locals, reached, stmt)?;
+            if let StmtKind::Declare { ty, name, .. } = &stmt.kind {
+                self.declare(locals, *name, ty)?;
+            }
+        }
+        locals.leave(outer);
+        Ok(())
+    }
+
+    /// Each branch is a block of its own.
+    #[cycle(stmts)]
+    fn branches(
+        &self,
+        locals: &mut Scoped<Shape>,
+        reached: &mut Reached,
+        branches: &[Stmt],
+    ) -> Result<(), NoMemory> {
+        for branch in branches {
+            self.stmt(locals, reached, branch)?;
+        }
+        Ok(())
+    }
+
+    /// Goes through a statement that is a block of its own. What it declares itself is left to the block around.
+    #[cycle(stmts)]
+    fn stmt(
+        &self,
+        locals: &mut Scoped<Shape>,
+        reached: &mut Reached,
+        stmt: &Stmt,
+    ) -> Result<(), NoMemory> {
         match &stmt.kind {
-            StmtKind::Block(all) | StmtKind::Atomic(all) => self.block(all.as_slice()),
-            StmtKind::Declare {
-                ty,
-                name,
-                value,
-                ..
-            } => {
-                self.expr(value)?;
-                self.declare(*name, ty)
+            StmtKind::Block(all) | StmtKind::Atomic(all) => {
+                self.block(locals, reached, all.as_slice())
             }
-            StmtKind::AssignLocal { value, .. } => self.value(value),
+            StmtKind::Declare { value, .. }
+            | StmtKind::AssignLocal { value, .. }
+            | StmtKind::Do(value)
+            | StmtKind::Print(value)
+            | StmtKind::Return(Some(value)) => self.value(locals, reached, value),
             StmtKind::AssignField { target, value } | StmtKind::AssignElement { target, value } => {
-                self.expr(target)?;
-                self.value(value)
+                self.values(locals, reached, target, value)
             }
-            StmtKind::Do(value) | StmtKind::Print(value) => self.value(value),
             StmtKind::If { test, then, other } => {
-                self.expr(test)?;
-                self.inner(then.get())?;
+                self.value(locals, reached, test)?;
+                self.stmt(locals, reached, then.get())?;
                 match other {
-                    Some(other) => self.inner(other.get()),
+                    Some(other) => self.stmt(locals, reached, other.get()),
                     None => Ok(()),
                 }
             }
             StmtKind::While { test, body } => {
-                self.expr(test)?;
-                self.inner(body.get())
+                self.value(locals, reached, test)?;
+                self.stmt(locals, reached, body.get())
             }
-            StmtKind::Return(Some(value)) => self.value(value),
-            StmtKind::Return(None) | StmtKind::PrintText(_) | StmtKind::Region { .. } => Ok(()),
             StmtKind::Cobegin { nd, branches } => {
-                self.reached.holds_nd = self.reached.holds_nd || *nd;
-                self.branches(branches.as_slice())
+                reached.holds_nd = reached.holds_nd || *nd;
+                self.branches(locals, reached, branches.as_slice())
             }
             StmtKind::Foreach {
                 nd,
@@ -189,13 +258,12 @@ impl Walk<'_> {
                 count,
                 body,
             } => {
-                self.reached.holds_nd = self.reached.holds_nd || *nd;
-                self.expr(start)?;
-                self.expr(count)?;
-                let outer = self.locals.len();
-                self.locals.enter(var.name, NO_CLASS)?;
-                self.stmt(body.get())?;
-                self.locals.leave(outer);
+                reached.holds_nd = reached.holds_nd || *nd;
+                self.values(locals, reached, start, count)?;
+                let outer = locals.len();
+                locals.enter(var.name, NO_CLASS)?;
+                self.stmt(locals, reached, body.get())?;
+                locals.leave(outer);
                 Ok(())
             }
             StmtKind::ForeachParts {
@@ -205,54 +273,16 @@ impl Walk<'_> {
                 count,
                 body,
             } => {
-                let array = self.expr(array)?;
-                self.expr(count)?;
-                let outer = self.locals.len();
-                self.locals.enter(view.name, array)?;
-                self.locals.enter(var.name, NO_CLASS)?;
-                self.stmt(body.get())?;
-                self.locals.leave(outer);
+                let array = self.expr(locals, &mut reached.called, array)?;
+                self.value(locals, reached, count)?;
+                let outer = locals.len();
+                locals.enter(view.name, array)?;
+                locals.enter(var.name, NO_CLASS)?;
+                self.stmt(locals, reached, body.get())?;
+                locals.leave(outer);
                 Ok(())
             }
+            StmtKind::Return(None) | StmtKind::PrintText(_) | StmtKind::Region { .. } => Ok(()),
         }
-    }
-
-    fn value(&mut self, e: &Expr) -> Result<(), NoMemory> {
-        self.expr(e)?;
-        Ok(())
-    }
-
-    #[cycle(stmts)]
-    fn stmts(&mut self, all: &[Stmt]) -> Result<(), NoMemory> {
-        for stmt in all {
-            self.stmt(stmt)?;
-        }
-        Ok(())
-    }
-
-    #[cycle(stmts)]
-    fn block(&mut self, all: &[Stmt]) -> Result<(), NoMemory> {
-        let outer = self.locals.len();
-        self.stmts(all)?;
-        self.locals.leave(outer);
-        Ok(())
-    }
-
-    /// Each branch is a block of its own.
-    #[cycle(stmts)]
-    fn branches(&mut self, branches: &[Stmt]) -> Result<(), NoMemory> {
-        for branch in branches {
-            self.inner(branch)?;
-        }
-        Ok(())
-    }
-
-    /// A statement that is a block of its own.
-    #[cycle(stmts)]
-    fn inner(&mut self, stmt: &Stmt) -> Result<(), NoMemory> {
-        let outer = self.locals.len();
-        self.stmt(stmt)?;
-        self.locals.leave(outer);
-        Ok(())
     }
 }

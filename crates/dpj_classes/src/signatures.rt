@@ -1,10 +1,10 @@
 use crate::around::{Names, no_indices, read_constraints, read_path, root};
 use crate::rows::{FieldRow, MethodRow};
 use crate::summary::read_summary;
-use dpj_base::{Constraint, Items, Kind, NoMemory, Plain, Stop, Super, Ty};
+use dpj_base::{Constraint, Items, Kind, NoMemory, Plain, Rpl, Stop, Super, Ty};
 use dpj_headers::{Faults, Headers, param_rows, to_number};
 use dpj_resolve::{Scope, constraints_hold, fit_args, read_args, ty};
-use dpj_tree::{Class, Field, Formal, Member, Method, MethodResult, Parent};
+use dpj_tree::{Class, Field, Formal, Member, Method, MethodResult, Parent, RplTree, TypeTree};
 use std::alloc::Global;
 
 /// What the signatures of all classes say.
@@ -235,7 +235,40 @@ fn read_parent(
     })
 }
 
-/// Reads a field. What isn't known of it is a fault, and stands as `void` and `Root` in the row.
+/// A type, and `void` where it isn't known.
+fn known_type(made: Option<Ty>) -> Ty {
+    match made {
+        Some(ty) => ty,
+        None => Ty::Void,
+    }
+}
+
+/// Reads the region of a field, which is fully specified. `Root` where none is written or it isn't known.
+fn read_region(
+    alloc: Global,
+    scope: &Scope,
+    faults: &mut Faults,
+    region: &Option<RplTree>,
+) -> Result<Rpl, Stop> {
+    let Some(tree) = region else {
+        return Ok(root(alloc));
+    };
+    match read_path(alloc, scope, faults, tree, true)? {
+        Some(rpl) => Ok(rpl),
+        None => Ok(root(alloc)),
+    }
+}
+
+fn read_type(
+    alloc: Global,
+    scope: &Scope,
+    faults: &mut Faults,
+    tree: &TypeTree,
+) -> Result<Ty, Stop> {
+    Ok(known_type(ty(alloc, scope, faults, tree)?))
+}
+
+/// Reads a field.
 fn read_field(
     alloc: Global,
     scope: &Scope,
@@ -243,17 +276,14 @@ fn read_field(
     field: &Field,
     slot: u32,
 ) -> Result<FieldRow, Stop> {
-    let made = ty(alloc, scope, faults, &field.ty)?;
-    let rpl = match &field.region {
-        None => None,
-        Some(tree) => read_path(alloc, scope, faults, tree, true)?,
-    };
+    let ty = read_type(alloc, scope, faults, &field.ty)?;
+    let rpl = read_region(alloc, scope, faults, &field.region)?;
     Ok(FieldRow {
         name: field.name,
         slot,
         owner: scope.class,
-        ty: made.unwrap_or(Ty::Void),
-        rpl: rpl.unwrap_or(root(alloc)),
+        ty,
+        rpl,
     })
 }
 
@@ -265,7 +295,7 @@ fn read_formals(
 ) -> Result<Items<Ty>, Stop> {
     let mut params = Items::new(alloc);
     for formal in formals {
-        params.push(ty(alloc, scope, faults, &formal.ty)?.unwrap_or(Ty::Void))?;
+        params.push(read_type(alloc, scope, faults, &formal.ty)?)?;
     }
     Ok(params)
 }
@@ -278,6 +308,6 @@ fn read_result(
 ) -> Result<Ty, Stop> {
     match tree {
         MethodResult::Constructor | MethodResult::Void => Ok(Ty::Void),
-        MethodResult::Value(written) => Ok(ty(alloc, scope, faults, written)?.unwrap_or(Ty::Void)),
+        MethodResult::Value(written) => read_type(alloc, scope, faults, written),
     }
 }
