@@ -4,6 +4,9 @@
 //! text nests deeper, joins longer or suffixes more than 32 times. The time is linear.
 #![tactic(auto)]
 
+ghost use Rattle.std.specs.Prelude.{◌≤◌, length};
+ghost use Rattle.dpj_tokens.specs.Cutting.{StandInOrder};
+
 use dpj_base::{Items, Stop};
 use dpj_terminals::terminals;
 use dpj_tokens::Tokens;
@@ -11,7 +14,10 @@ use dpj_tree::Program;
 use std::alloc::Global;
 
 /// The tree of a program's text, or the first fault of its grammar.
-pub fn parse(alloc: Global, bytes: &[u8], tokens: &Tokens) -> Result<Program, Stop> {
+pub fn parse(alloc: Global, bytes: &[u8], tokens: &Tokens) -> Result<Program, Stop>
+    requires small { length bytes.now ≤ 1048576 }
+    requires stand { StandInOrder bytes.now 0 tokens.now.list }
+{
     let found = terminals(alloc, bytes, tokens)?;
     Ok(Program {
         classes: Items::new(alloc),

@@ -4,7 +4,9 @@
 //! int the number that its digits spell; a text its bytes with the escapes replaced. The time is linear.
 #![tactic(auto)]
 
+mod names;
 mod say;
+mod spelling;
 mod terminal;
 
 pub use say::terminals;
