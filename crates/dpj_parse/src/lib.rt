@@ -4,23 +4,14 @@
 //! text nests deeper, joins longer or suffixes more than 32 times. The time is linear.
 #![tactic(auto)]
 
-ghost use Rattle.std.specs.Prelude.{◌≤◌, length};
-ghost use Rattle.dpj_tokens.specs.Cutting.{StandInOrder};
+mod classes;
+mod cursor;
+mod exprs;
+mod members;
+mod operator;
+mod program;
+mod region;
+mod stmts;
+mod types;
 
-use dpj_base::{Items, Stop};
-use dpj_terminals::terminals;
-use dpj_tokens::Tokens;
-use dpj_tree::Program;
-use std::alloc::Global;
-
-/// The tree of a program's text, or the first fault of its grammar.
-pub fn parse(alloc: Global, bytes: &[u8], tokens: &Tokens) -> Result<Program, Stop>
-    requires small { length bytes.now ≤ 1048576 }
-    requires stand { StandInOrder bytes.now 0 tokens.now.list }
-{
-    let found = terminals(alloc, bytes, tokens)?;
-    Ok(Program {
-        classes: Items::new(alloc),
-        names: found.names,
-    })
-}
+pub use program::parse;
