@@ -36,7 +36,8 @@ answer-no-usage job text verdict (too_long long) e = cc
 answer-no-usage job text verdict (of_first_form program short form) e =
     asks-no-usage (asks_run job.command) _ Accepted (ending_status-no-usage _) (λ h. cc) e
 answer-no-usage job text verdict (faulty refusal short other fault) e = cc
-answer-no-usage job text verdict (of_other_form place short other parsed) e = cc
+answer-no-usage job text verdict (of_other_form place short other accepted) e =
+    asks-no-usage (asks_run job.command) (Refused (record { kind = Form; place = place })) Accepted (λ h. cc) (λ h. cc) e
 
 -- where more was left than a text may have, the verdict is that
 pub verdict-too-long : (words : List (List ℕ)) (text : Option (List ℕ)) (given : Job) (verdict : Verdict)

@@ -35,9 +35,9 @@ asks_run _ = false
 abbrev pub first_verdict : Job → First → Verdict
 first_verdict job program = cond (asks_run job.command) (Ran (outcome_of program (limits_of job))) Accepted
 
--- a program of another form, whose first token stands at the place, can't be judged yet
-abbrev pub form_verdict : Place → Verdict
-form_verdict place = Refused (record { kind = Form; place = place })
+-- an accepted program of another form, whose first token stands at the place, can't be run yet
+abbrev pub other_verdict : Job → Place → Verdict
+other_verdict job place = cond (asks_run job.command) (Refused (record { kind = Form; place = place })) Accepted
 
 -- where the first token stands, or the end of a text without one
 abbrev pub first_place : List Token → Place → Place
@@ -49,7 +49,7 @@ abbrev pub IsOther : List ℕ → Type 0
 IsOther text = (program : First) → IsFirstForm text program → ⊥
 
 -- the text is cut into tokens, of which the first stands at the place
-pub record IsParsed (text : List ℕ) (place : Place) : Type 0 where
+pub record IsAccepted (text : List ℕ) (place : Place) : Type 0 where
   pub tokens : List Token
   pub end : Place
   pub cut : Cuts text tokens end
@@ -70,7 +70,7 @@ pub data IsAnswer (job : Job) (text : List ℕ) : Verdict → Type 0 where
   too_long : max_text < length text → IsAnswer job text (refused_at_start TooLong)
   of_first_form : (program : First) → length text ≤ max_text → IsFirstForm text program → IsAnswer job text (first_verdict job program)
   faulty : (refusal : Refusal) → length text ≤ max_text → IsOther text → IsFault text refusal → IsAnswer job text (Refused refusal)
-  of_other_form : (place : Place) → length text ≤ max_text → IsOther text → IsParsed text place → IsAnswer job text (form_verdict place)
+  of_other_form : (place : Place) → length text ≤ max_text → IsOther text → IsAccepted text place → IsAnswer job text (other_verdict job place)
 
 -- the text is too long, a program of the first form, or no text of tokens
 pub data IsDecided (text : List ℕ) : Type 0 where

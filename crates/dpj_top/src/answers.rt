@@ -1,8 +1,10 @@
 ghost use Rattle.std.specs.Prelude.{◌≡◌, ◌≤◌, length, IfOk, IfErr};
 ghost use Rattle.dpj_base.specs.Refused.{IfRefused};
-ghost use Rattle.dpj_top.specs.Answer.{IsAnswer, IsParsed, IsFault, IsOther, first_place, first_verdict, form_verdict, limits_of, refused_at_start};
+ghost use Rattle.dpj_top.specs.Answer.{IsAnswer, IsAccepted, IsFault, IsOther, first_place, first_verdict, limits_of, other_verdict, refused_at_start};
 
 use dpj_base::{Kind, Limits, NoMemory, Place, Refusal, Stop};
+use dpj_check::check;
+use dpj_classes::build;
 use dpj_first::{First, read, run};
 use dpj_parse::parse;
 use dpj_tokens::{Tokens, tokens};
@@ -40,7 +42,7 @@ fn other_form(alloc: Global, job: &Job, text: &[u8]) -> Result<Verdict, NoMemory
     ensures { IfOk result (IsAnswer job.now text.now) }
 {
     match front(alloc, text) {
-        Ok(place) => Ok(not_yet(place)),
+        Ok(place) => Ok(accepted(job, place)),
         Err(Stop::Refused(refusal)) => Ok(Verdict::Refused(refusal)),
         Err(Stop::NoMemory) => Err(NoMemory),
     }
@@ -49,11 +51,13 @@ fn other_form(alloc: Global, job: &Job, text: &[u8]) -> Result<Verdict, NoMemory
 /// Where the first token of a program stands, or the program's first fault.
 fn front(alloc: Global, text: &[u8]) -> Result<Place, Stop>
     requires { length text.now ≤ MAX_TEXT }
-    ensures parsed { IfOk result (IsParsed text.now) }
+    ensures accepted { IfOk result (IsAccepted text.now) }
     ensures fault { IfErr result (λ stop. IfRefused stop (IsFault text.now)) }
 {
     let tokens = tokens(alloc, text)?;
-    let _program = parse(alloc, text, &tokens)?;
+    let program = parse(alloc, text, &tokens)?;
+    let table = build(alloc, &program)?;
+    let _accepted = check(alloc, &program, &table)?;
     Ok(first_place(&tokens))
 }
 
@@ -67,14 +71,17 @@ fn first_place(tokens: &Tokens) -> Place
     }
 }
 
-/// A program that isn't of the first form can't be judged yet; it is told at its first token.
-fn not_yet(place: Place) -> Verdict
-    ensures { result ≡ form_verdict place }
+/// The verdict on an accepted program that isn't of the first form, whose first token stands at the place.
+fn accepted(job: &Job, place: Place) -> Verdict
+    ensures { result ≡ other_verdict job.now place }
 {
-    Verdict::Refused(Refusal {
-        kind: Kind::Form,
-        place,
-    })
+    match job.command {
+        Command::Run => Verdict::Refused(Refusal {
+            kind: Kind::Form,
+            place,
+        }),
+        _ => Verdict::Accepted,
+    }
 }
 
 /// A refusal of the text as a whole, told at its first byte.

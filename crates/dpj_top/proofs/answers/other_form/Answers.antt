@@ -3,7 +3,7 @@ use Rattle.dpj_top.proofs.answers.other_form.Goals as goal
 
 pub returns-in-Ok : goal.returns-in-Ok
 returns-in-Ok c =
-    rw c.not_yet.ensures (of_other_form c.in-Ok.place c.requires.short c.requires.other c.in-Ok.ensures.parsed)
+    rw c.accepted.ensures (of_other_form c.in-Ok.place c.requires.short c.requires.other c.in-Ok.ensures.accepted)
 
 pub returns-in-Err-Refused : goal.returns-in-Err-Refused
 returns-in-Err-Refused c =
