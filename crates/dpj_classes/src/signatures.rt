@@ -2,7 +2,8 @@ use crate::around::{Names, no_indices, read_constraints, read_path, root};
 use crate::rows::{FieldRow, MethodRow};
 use crate::summary::read_summary;
 use dpj_base::{Constraint, Items, Kind, NoMemory, Plain, Rpl, Stop, Super, Ty};
-use dpj_headers::{Faults, Headers, param_rows, to_number};
+use dpj_effects::EffectSet;
+use dpj_headers::{Faults, Headers, ParamRow, param_rows, to_number};
 use dpj_resolve::{Scope, constraints_hold, fit_args, read_args, ty};
 use dpj_tree::{Class, Field, Formal, Member, Method, MethodResult, Parent, RplTree, TypeTree};
 use std::alloc::Global;
@@ -151,8 +152,24 @@ impl Around<'_> {
         id: u32,
         faults: &mut Faults,
     ) -> Result<MethodRow, Stop> {
-        let names = Names::of_method(alloc, method)?;
         let of_class = in_force.len();
+        let names = Names::of_method(alloc, method)?;
+        let given = self.own_constraints(alloc, &names, in_force, method, faults)?;
+        let said = self.said(alloc, &names, in_force.as_slice(), method, faults)?;
+        in_force.truncate(of_class);
+        let regions = param_rows(alloc, method.params.list.as_slice())?;
+        Ok(method_row(self.class, method, id, regions, given, said))
+    }
+
+    /// Reads the constraints of a method, and adds them to those in force.
+    fn own_constraints(
+        &self,
+        alloc: Global,
+        names: &Names,
+        in_force: &mut Items<Constraint>,
+        method: &Method,
+        faults: &mut Faults,
+    ) -> Result<Items<Constraint>, Stop> {
         let scope = names.scope(
             self.headers,
             self.class,
@@ -161,28 +178,62 @@ impl Around<'_> {
         );
         let given = read_constraints(alloc, &scope, faults, method.params.given.as_slice())?;
         add_copies(alloc, in_force, given.as_slice())?;
-        let scope = names.scope(
-            self.headers,
-            self.class,
-            in_force.as_slice(),
-            self.classes_given,
-        );
+        Ok(given)
+    }
+
+    /// Reads the types and the summary of a method.
+    fn said(
+        &self,
+        alloc: Global,
+        names: &Names,
+        given: &[Constraint],
+        method: &Method,
+        faults: &mut Faults,
+    ) -> Result<Said, Stop> {
+        let scope = names.scope(self.headers, self.class, given, self.classes_given);
         let params = read_formals(alloc, &scope, faults, method.formals.as_slice())?;
-        let result = read_result(alloc, &scope, faults, &method.result)?;
+        let outcome = read_result(alloc, &scope, faults, &method.result)?;
         let summary = read_summary(alloc, &scope, faults, &method.summary)?;
-        in_force.truncate(of_class);
-        Ok(MethodRow {
-            id,
-            owner: self.class,
-            name: method.name,
-            place: method.place,
-            is_constructor: matches!(method.result, MethodResult::Constructor),
-            regions: param_rows(alloc, method.params.list.as_slice())?,
-            given,
+        Ok(Said {
             params,
-            result,
+            outcome,
             summary,
         })
+    }
+}
+
+/// The types and the summary of a method.
+#[derive(Drop)]
+struct Said {
+    params: Items<Ty>,
+    outcome: Ty,
+    summary: EffectSet,
+}
+
+fn method_row(
+    owner: u32,
+    method: &Method,
+    id: u32,
+    regions: Items<ParamRow>,
+    given: Items<Constraint>,
+    said: Said,
+) -> MethodRow {
+    let Said {
+        params,
+        outcome,
+        summary,
+    } = said;
+    MethodRow {
+        id,
+        owner,
+        name: method.name,
+        place: method.place,
+        is_constructor: matches!(method.result, MethodResult::Constructor),
+        regions,
+        given,
+        params,
+        result: outcome,
+        summary,
     }
 }
 
