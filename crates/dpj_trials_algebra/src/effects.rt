@@ -1,5 +1,5 @@
-use dpj_effects::{EffectSet, covers, interferes};
 use dpj_base::{Effect, Elem, Elems, Head, NoMemory, Rpl};
+use dpj_effects::{EffectSet, covers, interferes};
 use std::alloc::Global;
 use std::test::Fail;
 

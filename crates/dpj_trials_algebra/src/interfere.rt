@@ -1,6 +1,6 @@
-use dpj_interfere::{check_cobegin, check_foreach, first_meeting};
 use dpj_base::{Effect, Elem, Elems, Head, Rpl};
 use dpj_effects::EffectSet;
+use dpj_interfere::{check_cobegin, check_foreach, first_meeting};
 use std::alloc::Global;
 use std::test::Fail;
 

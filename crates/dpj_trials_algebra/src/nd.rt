@@ -1,6 +1,6 @@
-use dpj_nd::{check_cobegin_nd, check_foreach_nd, is_atomic};
 use dpj_base::{Effect, Elem, Elems, Head, NoMemory, Rpl};
 use dpj_effects::EffectSet;
+use dpj_nd::{check_cobegin_nd, check_foreach_nd, is_atomic};
 use std::alloc::Global;
 use std::test::Fail;
 

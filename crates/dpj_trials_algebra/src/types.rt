@@ -1,7 +1,7 @@
+use dpj_base::{Boxed, Elem, Elems, Head, Items, NoMemory, Plain, Rpl, Super, Ty};
 use dpj_types::{
     is_ordered, mentions, mentions_index, rigid, rigid_in_index, subst_type, subtype, type_at,
 };
-use dpj_base::{Boxed, Elem, Elems, Head, Items, NoMemory, Plain, Rpl, Super, Ty};
 use std::alloc::Global;
 use std::test::Fail;
 
