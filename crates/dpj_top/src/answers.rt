@@ -1,13 +1,15 @@
 ghost use Rattle.std.specs.Prelude.{◌≡◌, ◌≤◌, length, IfOk, IfErr};
 ghost use Rattle.dpj_base.specs.Refused.{IfRefused};
+ghost use Rattle.dpj_tokens.specs.Cutting.{StandInOrder};
 ghost use Rattle.dpj_top.specs.Answer.{IsAnswer, IsAccepted, IsFault, IsOther, first_place, first_verdict, limits_of, other_verdict, refused_at_start};
 
 use dpj_base::{Kind, Limits, NoMemory, Place, Refusal, Stop};
 use dpj_check::check;
-use dpj_classes::build;
+use dpj_classes::{Table, build};
 use dpj_first::{First, read, run};
 use dpj_parse::parse;
 use dpj_tokens::{Tokens, tokens};
+use dpj_tree::Program;
 use dpj_words::{Command, Job, Verdict};
 use std::alloc::Global;
 
@@ -55,10 +57,28 @@ fn front(alloc: Global, text: &[u8]) -> Result<Place, Stop>
     ensures fault { IfErr result (λ stop. IfRefused stop (IsFault text.now)) }
 {
     let tokens = tokens(alloc, text)?;
-    let program = parse(alloc, text, &tokens)?;
-    let table = build(alloc, &program)?;
-    let _accepted = check(alloc, &program, &table)?;
+    judge_text(alloc, text, &tokens)?;
     Ok(first_place(&tokens))
+}
+
+/// Tells the first fault of a text's grammar or of its program.
+fn judge_text(alloc: Global, text: &[u8], tokens: &Tokens) -> Result<(), Stop>
+    requires short { length text.now ≤ MAX_TEXT }
+    requires stand { StandInOrder text.now 0 tokens.now.list }
+{
+    let program = parse(alloc, text, tokens)?;
+    judge_program(alloc, &program)
+}
+
+/// Tells the first fault of a program's class table or of its bodies.
+fn judge_program(alloc: Global, program: &Program) -> Result<(), Stop> {
+    let table = build(alloc, program)?;
+    judge_bodies(alloc, program, &table)
+}
+
+fn judge_bodies(alloc: Global, program: &Program, table: &Table) -> Result<(), Stop> {
+    let _accepted = check(alloc, program, table)?;
+    Ok(())
 }
 
 /// Where the first token stands, or the end of a text without one.
