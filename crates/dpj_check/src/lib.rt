@@ -26,6 +26,3 @@ mod statements;
 
 pub use accepted::Accepted;
 pub use bodies::check;
-
-#[cfg(test)]
-mod tests;
