@@ -3,9 +3,10 @@
     tests/run [--only WORD] [--show] [FILE.json ..]
 
 A case is an object with "name", "words", "source", "stdout" and "status". The source is a text, or is made:
-{"pad": TEXT, "to": N} is TEXT and then spaces up to N bytes, {"repeat": TEXT, "times": N} repeats TEXT, and
-"source_hex" gives the bytes in hex. With no FILE, every tests/cases/*.json is run and every examples/NAME.dpj, which
-must write examples/NAME.out with status 0.
+{"pad": TEXT, "to": N} is TEXT and then spaces up to N bytes, {"repeat": TEXT, "times": N} repeats TEXT,
+{"classes": N} is N empty classes, and "source_hex" gives the bytes in hex. With no FILE, every tests/cases/*.json is run;
+every examples/NAME.dpj, which must write examples/NAME.out with status 0; every examples/check/NAME.dpj, for which `check`
+must answer NAME.out; and every text of docs/*.md that begins with ```dpj check: ANSWER.
 
 The program is out/dpj where ./build made it of these sources; else it is built once, unproved, by `rt try`.
 """
@@ -32,6 +33,8 @@ def bytes_of(case):
         return source.encode()
     if "pad" in source:
         return source["pad"].encode().ljust(source["to"], b" ")
+    if "classes" in source:
+        return "".join(f"class C{number:05d}{{ }}\n" for number in range(source["classes"])).encode()
     return source["repeat"].encode() * source["times"]
 
 
@@ -56,11 +59,36 @@ def from_example(path):
     }
 
 
+def checked(name, source, answer):
+    """A text for `check`, with the line that it answers."""
+    return {
+        "name": name,
+        "words": ["check"],
+        "source": source,
+        "stdout": answer,
+        "status": 0 if answer == b"accepted\n" else 2,
+    }
+
+
+def from_checked_example(path):
+    return checked(f"examples/check: {path.name}", path.read_bytes(), path.with_suffix(".out").read_bytes())
+
+
+def from_document(path):
+    """The texts of a document, each with the answer in the line that opens it."""
+    text = path.read_text(encoding="utf-8")
+    for number, found in enumerate(re.finditer(r"^```dpj check: (.*)\n((?:.*\n)*?)```$", text, re.M)):
+        answer, source = found.groups()
+        yield checked(f"docs: {path.name}, text {number + 1}", source.encode(), f"{answer}\n".encode())
+
+
 def load(files):
     if files:
         return [case for file in files for case in from_json(pathlib.Path(file))]
     cases = [case for file in sorted((TOP / "tests" / "cases").glob("*.json")) for case in from_json(file)]
-    return cases + [from_example(file) for file in sorted((TOP / "examples").glob("*.dpj"))]
+    cases += [from_example(file) for file in sorted((TOP / "examples").glob("*.dpj"))]
+    cases += [from_checked_example(file) for file in sorted((TOP / "examples" / "check").glob("*.dpj"))]
+    return cases + [case for file in sorted((TOP / "docs").glob("*.md")) for case in from_document(file)]
 
 
 def is_fresh():

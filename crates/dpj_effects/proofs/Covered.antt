@@ -116,12 +116,3 @@ set_covers-more e es (f ∷ fs) h =
 pub set_covers-refl : (es : List Effect) → set_covers es es ≡ true
 set_covers-refl [] = refl
 set_covers-refl (e ∷ es) = and_from _ _ (or_left _ _ (covers-refl e)) (set_covers-more e es es (set_covers-refl es))
-
--- an effect that is in a list is covered by one of the list
-pub has-covered : (es : List Effect) (f : Effect) → has_effect es f ≡ true → some_covers es f ≡ true
-has-covered [] f h = absurd (false≢true h)
-has-covered (e ∷ es) f h =
-    ⊎_elim
-    (λ t. or_left _ _ (subst (λ z. covers_effect z f ≡ true) (sym (same_effect-is e f t)) (covers-refl f)))
-    (λ t. or_right (covers_effect e f) _ (has-covered es f t))
-    (or_cases (same_effect e f) _ h)

@@ -1,3 +1,4 @@
+pub mod Beside
 pub mod Covered
 pub mod Places
 pub mod Sets

@@ -7,19 +7,19 @@ use Rattle.std.specs.declared.alloc.Global.{Global}
 use Rattle.dpj_base.specs.declared.elems.Elem.{Elem}
 use Rattle.dpj_base.specs.declared.elems.Elem.TheVariants.{Name, Lit, Var, Any, Star, Local}
 use Rattle.dpj_base.specs.declared.effect.Effect.{Effect}
-use Rattle.dpj_base.specs.Effects.{same_effect, has_effect}
+use Rattle.dpj_base.specs.Effects.{covers_effect, same_effect, has_effect}
 
 abbrev pub elem_number : Elem → ℕ
-elem_number (Name n) = n
-elem_number (Lit k) = nat_abs k
-elem_number (Var v) = v
-elem_number Any = 1
-elem_number Star = 2
-elem_number (Local a b) = (a + b) % 2 ^ 32
+elem_number (Name n) = (n * 4) % 2 ^ 32
+elem_number (Lit k) = ((nat_abs k * 4) % 2 ^ 32 + 1) % 2 ^ 32
+elem_number (Var v) = ((v * 4) % 2 ^ 32 + 2) % 2 ^ 32
+elem_number Any = 3
+elem_number Star = 7
+elem_number (Local a b) = ((a * 31) % 2 ^ 32 + b) % 2 ^ 32
 
 abbrev pub mixed : ℕ → List Elem → ℕ
 mixed h [] = h
-mixed h (x ∷ xs) = mixed (((h * 31) % 2 ^ 32 + elem_number x) % 2 ^ 32) xs
+mixed h (x ∷ xs) = mixed (((h * 16777619) % 2 ^ 32 + elem_number x) % 2 ^ 32) xs
 
 abbrev pub number_of : Effect → ℕ
 number_of e = mixed 7 e.rpl.elems
@@ -28,6 +28,11 @@ number_of e = mixed 7 e.rpl.elems
 abbrev pub any_at : List Effect → List ℕ → Effect → Bool
 any_at es [] e = false
 any_at es (p ∷ ps) e = (nat_lt p (length es) && same_effect (slice_index_or es p e) e) || any_at es ps e
+
+-- an effect at some of the places covers this one
+abbrev pub any_covers_at : List Effect → List ℕ → Effect → Bool
+any_covers_at es [] f = false
+any_covers_at es (p ∷ ps) f = (nat_lt p (length es) && covers_effect (slice_index_or es p f) f) || any_covers_at es ps f
 
 -- whatever the list has, the places under its number show
 abbrev pub Indexed : List Effect → BTreeMap ℕ (List ℕ) Global → Type 0

@@ -2,32 +2,36 @@ ghost use Rattle.std.specs.Prelude.{◌≡◌, ◌≢◌, ◌++◌, ◌∷◌, �
 ghost use Rattle.std.specs.Ordering.{nat_cmp};
 ghost use Rattle.std.specs.BTreeMap.{get};
 ghost use Rattle.dpj_base.specs.Effects.{same_effect};
-ghost use Rattle.dpj_effects.specs.Index.{elem_number, mixed, number_of, any_at};
+ghost use Rattle.dpj_effects.specs.Index.{elem_number, mixed, number_of, any_at, any_covers_at};
 
+use crate::effect::covers;
 use dpj_base::{Effect, Elem, Items, NoMemory, Plain};
 use std::alloc::Global;
 use std::collections::BTreeMap;
 
-fn elem_number(elem: Elem) -> u32
+/// A number of an element, the same for equal ones and another for most others.
+pub fn elem_number(elem: Elem) -> u32
     ensures { result ≡ elem_number elem }
 {
     match elem {
-        Elem::Name(n) => n,
-        Elem::Lit(k) => k.unsigned_abs(),
-        Elem::Var(v) => v,
-        Elem::Any => 1,
-        Elem::Star => 2,
-        Elem::Local(a, b) => a.wrapping_add(b),
+        Elem::Name(n) => n.wrapping_mul(4),
+        Elem::Lit(k) => k.unsigned_abs().wrapping_mul(4).wrapping_add(1),
+        Elem::Var(v) => v.wrapping_mul(4).wrapping_add(2),
+        Elem::Any => 3,
+        Elem::Star => 7,
+        Elem::Local(a, b) => a.wrapping_mul(31).wrapping_add(b),
     }
 }
 
-/// The number under which an effect is looked for.
+/// The number under which an effect is looked for, the same for equal paths.
 pub fn number_of(e: &Effect) -> u32
     ensures { result ≡ number_of e.now }
 {
     let mut number = 7u32;
     for elem in e.rpl.elems.as_slice() {
-        number = number.wrapping_mul(31).wrapping_add(elem_number(*elem));
+        number = number
+            .wrapping_mul(16777619)
+            .wrapping_add(elem_number(*elem));
     }
     number
 }
@@ -44,6 +48,18 @@ pub fn any_at(effects: &[Effect], places: &[usize], e: &Effect) -> bool
 {
     for place in places {
         if *place < effects.len() && same_effect(&effects[*place], e) {
+            return true;
+        }
+    }
+    false
+}
+
+/// Whether an effect at some of the places covers this one.
+pub fn any_covers_at(effects: &[Effect], places: &[usize], f: &Effect) -> bool
+    ensures { result ≡ any_covers_at effects.now places.now f.now }
+{
+    for place in places {
+        if *place < effects.len() && covers(&effects[*place], f) {
             return true;
         }
     }

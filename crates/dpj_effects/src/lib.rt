@@ -11,8 +11,7 @@ mod effect;
 mod index;
 pub mod laws;
 mod set;
-#[cfg(test)]
-mod tests;
 
 pub use effect::{covers, interferes};
+pub use index::{elem_number, number_of};
 pub use set::EffectSet;

@@ -2,7 +2,7 @@ ghost use Rattle.std.specs.Prelude.{◌≡◌, ◌↔◌, [], true, false, lengt
 ghost use Rattle.dpj_base.specs.Effects.{has_effect, some_covers, set_covers, added, gathered, all_marked, with_mark};
 
 use crate::effect::covers;
-use crate::index::{any_at, note, number_of};
+use crate::index::{any_at, any_covers_at, note, number_of};
 use dpj_base::{Effect, Items, NoMemory, Plain};
 use std::alloc::Global;
 use std::collections::BTreeMap;
@@ -84,11 +84,22 @@ impl EffectSet {
         }
     }
 
+    /// Whether an effect that is noted under the same number covers this one: most are covered by one of the same
+    /// path.
+    fn covers_beside(&self, f: &Effect) -> bool
+        ensures { IsTrue result → IsTrue (some_covers self.now f.now) }
+    {
+        match self.spots.get(&number_of(f)) {
+            None => false,
+            Some(places) => any_covers_at(self.effects.as_slice(), places.as_slice(), f),
+        }
+    }
+
     /// Whether some effect of the set covers this one. It takes no memory.
     pub fn covers_effect(&self, f: &Effect) -> bool
         ensures { result ≡ some_covers self.now f.now }
     {
-        self.has(f) || some_covers(self.effects.as_slice(), f)
+        self.covers_beside(f) || some_covers(self.effects.as_slice(), f)
     }
 
     /// Whether each effect of the other set is covered by one of this. It takes no memory.
@@ -101,6 +112,29 @@ impl EffectSet {
             }
         }
         true
+    }
+
+    /// Puts copies of another set's effects behind those of this one, but for those that are there already. After
+    /// want of memory some of them may be there.
+    pub fn add_all(&mut self, alloc: Global, other: &EffectSet) -> Result<(), NoMemory>
+        ensures { OnOk result (self.new ≡ gathered self.old other.now) }
+    {
+        for e in other.effects.as_slice() {
+            self.add(e.copy(alloc)?)?;
+        }
+        Ok(())
+    }
+
+    /// `add_all` where the other set isn't needed any more: into an empty set it moves, with no memory taken.
+    pub fn absorb(&mut self, alloc: Global, other: EffectSet) -> Result<(), NoMemory>
+        ensures { OnOk result (self.new ≡ gathered self.old other) }
+    {
+        let _ = &other.effects;
+        if self.is_empty() {
+            *self = other;
+            return Ok(());
+        }
+        self.add_all(alloc, &other)
     }
 
     /// The same effects, each marked, each once and at its first place.

@@ -25,8 +25,12 @@ fn interferes_behind(branches: &[EffectSet], given: &[Constraint], i: usize) -> 
     requires { i < length branches.now }
     ensures { FirstBehind (λ es fs. IsTrue (lists_interfere given.now es fs)) branches.now i result }
 {
+    let branch = &branches[i];
+    if branch.is_empty() {
+        return None;
+    }
     for j in i + 1..branches.len() {
-        if lists_interfere(branches[i].as_slice(), branches[j].as_slice(), given) {
+        if lists_interfere(branch.as_slice(), branches[j].as_slice(), given) {
             return Some(j);
         }
     }
@@ -47,7 +51,7 @@ pub fn check_foreach(
     Ok(!lists_interfere(body.as_slice(), other_turn.as_slice(), given))
 }
 
-fn lists_interfere(effects: &[Effect], others: &[Effect], given: &[Constraint]) -> bool
+pub(crate) fn lists_interfere(effects: &[Effect], others: &[Effect], given: &[Constraint]) -> bool
     ensures { result ≡ lists_interfere given.now effects.now others.now }
 {
     for e in effects {

@@ -2,16 +2,22 @@
 //! `foreach` is refused.
 //!
 //! `check_cobegin` gives the first two branches, in their order, of which an effect of one interferes with an
-//! effect of the other, and None exactly where there are no such two; it takes no memory. `check_foreach` is
-//! true exactly where no effect of the body interferes with one of another turn, which is the body's effects
-//! with the renamed copy of the foreach variable.
+//! effect of the other, and None exactly where there are no such two; it takes no memory, and compares each branch
+//! with each. `first_meeting` answers the same for many branches: it first leaves out the effects that can't meet
+//! another branch (`thinned`), so that only the others are compared. `check_foreach` is true exactly where no effect
+//! of the body interferes with one of another turn, which is the body's effects with the renamed copy of the foreach
+//! variable.
 #![tactic(auto)]
 
 mod branches;
+mod grouping;
+mod key;
+mod meeting;
 mod renaming;
+mod seen;
+mod thin;
 
 pub use branches::{check_cobegin, check_foreach};
+pub use meeting::first_meeting;
 pub use renaming::renamed_all;
-
-#[cfg(test)]
-mod tests;
+pub use thin::thinned;

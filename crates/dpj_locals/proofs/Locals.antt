@@ -2,7 +2,7 @@
 use Rattle.std.proofs.Common.{◌≡◌, ℕ, ◌<◌, ◌≤◌, ◌↔◌, false, length, get_or, refl, sym, ◌∙◌, subst, arith}
 use Rattle.std.proofs.lemmas.List.{get_or_default}
 use Rattle.std.specs.Bool.{IsTrue}
-use Rattle.dpj_locals.specs.declared.touched.Touched.{Touched}
+use Rattle.dpj_locals.specs.declared.branch.Touched.{Touched}
 use Rattle.dpj_locals.specs.Clash.{Uses, Disturbs}
 
 pub disturbs_at : (a b : Touched) (k : ℕ) → k < length a.writes → Uses b (get_or a.writes k 0) → Disturbs a b

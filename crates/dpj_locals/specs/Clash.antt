@@ -1,6 +1,6 @@
 -- Branches that get in each other's way by the locals declared outside them.
 use Rattle.std.specs.Prelude.{ℕ, ◌⊎◌, Contains}
-use Rattle.dpj_locals.specs.declared.touched.Touched.{Touched}
+use Rattle.dpj_locals.specs.declared.branch.Touched.{Touched}
 
 -- the branch reads or assigns the local
 abbrev pub Uses : Touched → ℕ → Type 0

@@ -2,7 +2,7 @@ ghost use Rattle.std.specs.Prelude.{◌↔◌, ◌<◌, ℕ, length, IsTrue, Con
 ghost use Rattle.dpj_base.specs.Pairs.{FirstPair, FirstBehind};
 ghost use Rattle.dpj_locals.specs.Clash.{Uses, Disturbs, Clash};
 
-use crate::touched::Touched;
+use crate::branch::Touched;
 use dpj_base::Items;
 
 /// The first two branches, in their order, of which one assigns a local that the other reads or assigns.

@@ -6,11 +6,17 @@
 //! gives None exactly where there are no such two. It takes no memory.
 #![tactic(auto)]
 
+mod branch;
 mod clashes;
-mod touched;
+mod meeting;
+mod reads;
+mod touch;
+mod walk;
 
+pub use branch::Touched;
 pub use clashes::clash;
-pub use touched::Touched;
+pub use meeting::has_clash;
+pub use touch::touched;
 
 #[cfg(test)]
 mod tests;

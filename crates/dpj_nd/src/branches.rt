@@ -38,9 +38,18 @@ fn interferes_behind(
     requires { i < length branches.now }
     ensures { FirstBehind (λ es fs. IsTrue (lists_interfere_nd given.now names.now params.now es fs)) branches.now i result }
 {
+    let branch = &branches[i];
+    if branch.is_empty() {
+        return None;
+    }
     for j in i + 1..branches.len() {
-        let branch = branches[i].as_slice();
-        if lists_interfere(branch, branches[j].as_slice(), given, names, params) {
+        if lists_interfere(
+            branch.as_slice(),
+            branches[j].as_slice(),
+            given,
+            names,
+            params,
+        ) {
             return Some(j);
         }
     }
@@ -64,7 +73,7 @@ pub fn check_foreach_nd(
     Ok(!met)
 }
 
-fn lists_interfere(
+pub(crate) fn lists_interfere(
     effects: &[Effect],
     others: &[Effect],
     given: &[Constraint],

@@ -2,18 +2,18 @@
 //!
 //! `is_atomic` says whether every region of a path is declared atomic, by the path's end. Two effects interfere
 //! for nd where they interfere, unless both are marked as inside an atomic block and both paths are atomic.
-//! `check_cobegin_nd` and `check_foreach_nd` are `check_cobegin` and `check_foreach` with this interference. What
+//! `check_cobegin_nd`, `first_meeting_nd` and `check_foreach_nd` are `check_cobegin`, `first_meeting` and
+//! `check_foreach` with this interference. What
 //! they are good for stands in `laws`: effects that are covered by ones that don't interfere don't either.
 //!
-//! Only `check_foreach_nd` takes memory.
+//! `first_meeting_nd` and `check_foreach_nd` take memory, the others none.
 #![tactic(auto)]
 
 mod atomic;
 mod branches;
 pub mod laws;
+mod meeting;
 
 pub use atomic::is_atomic;
 pub use branches::{check_cobegin_nd, check_foreach_nd};
-
-#[cfg(test)]
-mod tests;
+pub use meeting::first_meeting_nd;

@@ -1,14 +1,20 @@
 -- What the tool answers to a job and a text.
-use Rattle.std.specs.Prelude.{ℕ, ◌≡◌, ◌<◌, ◌≤◌, List, length}
+use Rattle.std.specs.Prelude.{ℕ, ◌≡◌, ◌<◌, ◌≤◌, ◌⊎◌, Bool, true, false, cond, List, [], ◌∷◌, length}
 use Rattle.dpj_base.specs.declared.outcome.Limits.{Limits}
+use Rattle.dpj_base.specs.declared.place.Place.{Place}
 use Rattle.dpj_base.specs.declared.refusal.Kind.{Kind}
 use Rattle.dpj_base.specs.declared.refusal.Kind.TheVariants.{Form, TooLong}
+use Rattle.dpj_base.specs.declared.refusal.Refusal.{Refusal}
 use Rattle.dpj_first.specs.declared.program.First.{First}
 use Rattle.dpj_first.specs.Form.{IsFirstForm}
 use Rattle.dpj_first.specs.Meaning.{outcome_of}
+use Rattle.dpj_tokens.specs.declared.token.Token.{Token}
+use Rattle.dpj_tokens.specs.Cutting.{Cuts, FaultsAt}
+use Rattle.dpj_words.specs.declared.command.Command.{Command}
+use Rattle.dpj_words.specs.declared.command.Command.TheVariants as command
 use Rattle.dpj_words.specs.declared.job.Job.{Job}
 use Rattle.dpj_words.specs.declared.verdict.Verdict.{Verdict}
-use Rattle.dpj_words.specs.declared.verdict.Verdict.TheVariants.{Refused, Ran}
+use Rattle.dpj_words.specs.declared.verdict.Verdict.TheVariants.{Refused, Ran, Accepted}
 
 -- the most bytes that a text may have
 abbrev pub max_text : ℕ
@@ -21,12 +27,57 @@ refused_at_start kind = Refused (record { kind = kind; place = record { line = 1
 abbrev pub limits_of : Job → Limits
 limits_of job = record { steps = job.steps; cells = job.cells }
 
--- the verdict on a text: it is too long, or its program was run within the job's limits, or it is of another form
+abbrev pub asks_run : Command → Bool
+asks_run command.Run = true
+asks_run _ = false
+
+-- a program of the first form is run within the job's limits where that is asked, and else accepted
+abbrev pub first_verdict : Job → First → Verdict
+first_verdict job program = cond (asks_run job.command) (Ran (outcome_of program (limits_of job))) Accepted
+
+-- an accepted program of another form, whose first token stands at the place, can't be run yet
+abbrev pub other_verdict : Job → Place → Verdict
+other_verdict job place = cond (asks_run job.command) (Refused (record { kind = Form; place = place })) Accepted
+
+-- where the first token stands, or the end of a text without one
+abbrev pub first_place : List Token → Place → Place
+first_place [] end = end
+first_place (token ∷ tokens) end = token.place
+
+-- the text is no program of the first form
+abbrev pub IsOther : List ℕ → Type 0
+IsOther text = (program : First) → IsFirstForm text program → ⊥
+
+-- the text is cut into tokens, of which the first stands at the place
+pub record IsAccepted (text : List ℕ) (place : Place) : Type 0 where
+  pub tokens : List Token
+  pub end : Place
+  pub cut : Cuts text tokens end
+  pub first : place ≡ first_place tokens end
+
+-- the text is cut into tokens, and a later pass refuses it
+pub record IsLaterFault (text : List ℕ) (refusal : Refusal) : Type 0 where
+  pub tokens : List Token
+  pub end : Place
+  pub cut : Cuts text tokens end
+
+-- the first fault of the text's tokens, or a fault that a later pass tells
+abbrev pub IsFault : List ℕ → Refusal → Type 0
+IsFault text refusal = FaultsAt text refusal ⊎ IsLaterFault text refusal
+
+-- the verdict on a text
 pub data IsAnswer (job : Job) (text : List ℕ) : Verdict → Type 0 where
   too_long : max_text < length text → IsAnswer job text (refused_at_start TooLong)
-  ran : (program : First) → length text ≤ max_text → IsFirstForm text program → IsAnswer job text (Ran (outcome_of program (limits_of job)))
-  other_form : length text ≤ max_text → ((program : First) → IsFirstForm text program → ⊥) → IsAnswer job text (refused_at_start Form)
+  of_first_form : (program : First) → length text ≤ max_text → IsFirstForm text program → IsAnswer job text (first_verdict job program)
+  faulty : (refusal : Refusal) → length text ≤ max_text → IsOther text → IsFault text refusal → IsAnswer job text (Refused refusal)
+  of_other_form : (place : Place) → length text ≤ max_text → IsOther text → IsAccepted text place → IsAnswer job text (other_verdict job place)
 
--- there is at most one answer to a job on a text
+-- the text is too long, a program of the first form, or no text of tokens
+pub data IsDecided (text : List ℕ) : Type 0 where
+  is_long : max_text < length text → IsDecided text
+  is_first : (program : First) → length text ≤ max_text → IsFirstForm text program → IsDecided text
+  has_no_tokens : (refusal : Refusal) → length text ≤ max_text → FaultsAt text refusal → IsDecided text
+
+-- there is one answer at most to a job on a text that is decided
 abbrev pub OneAnswer : Type 0
-OneAnswer = (job : Job) (text : List ℕ) (first second : Verdict) → IsAnswer job text first → IsAnswer job text second → first ≡ second
+OneAnswer = (job : Job) (text : List ℕ) (first second : Verdict) → IsDecided text → IsAnswer job text first → IsAnswer job text second → first ≡ second

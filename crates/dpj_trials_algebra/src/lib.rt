@@ -1,10 +1,21 @@
-//! The tests of the algebra of regions: inclusion and disjointness on paths whose answers come from outside.
+//! The tests of the algebra of regions, effects and types. Inclusion and disjointness are tried on paths whose answers
+//! come from outside.
 //!
 //! They stand here and not in their crates, since a crate with tests is proved twice. They show too that memory
 //! suffices, which no contract can say.
 #![tactic(auto)]
 
 #[cfg(test)]
+mod arrays;
+#[cfg(test)]
 mod disjoint;
 #[cfg(test)]
+mod effects;
+#[cfg(test)]
+mod interfere;
+#[cfg(test)]
+mod nd;
+#[cfg(test)]
 mod regions;
+#[cfg(test)]
+mod types;

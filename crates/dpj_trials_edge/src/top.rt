@@ -9,6 +9,8 @@ const FIRST: &str = "class Main { int main(int n) { print(1+2); return 7; } }\n"
 
 const WRAPS: &str = "class Main { int main(int n) { print(2147483647+1); return 0; } }\n";
 
+const CALLS: &str = " class Main { int main(int n) { return this.main(n); } }\n";
+
 const USAGE: &str = "usage: dpj COMMAND [NAME=VALUE]...\n";
 
 fn words_of(alloc: Global, words: &[&str]) -> Result<Vec<String>, NoMemory> {
@@ -51,13 +53,21 @@ fn texts_are_answered_by_a_report_and_a_status(rt: HostRuntime) -> Result<(), Fa
         (
             ["run"].as_slice(),
             "",
-            "refused 1:1 form\n",
+            "refused 1:1 syntax\n",
             Status::Refused,
         ),
         (
             ["run"].as_slice(),
             "class Main { int main(int n) { print(1); } }",
-            "refused 1:1 form\n",
+            "refused 1:18 return\n",
+            Status::Refused,
+        ),
+        (["check"].as_slice(), FIRST, "accepted\n", Status::Done),
+        (["check"].as_slice(), CALLS, "accepted\n", Status::Done),
+        (
+            ["run"].as_slice(),
+            CALLS,
+            "refused 1:2 form\n",
             Status::Refused,
         ),
         ([].as_slice(), FIRST, USAGE, Status::Usage),

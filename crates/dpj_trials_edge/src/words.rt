@@ -125,7 +125,7 @@ fn commands_modes_and_what_is_carried_out(rt: HostRuntime) -> Result<(), Fail> {
         assert!(rt; job.map(|job| job.mode) == Some(Mode::Steps), "{name}");
         let words = split(alloc, name)?;
         assert!(rt;
-            read_words(&words).is_ok() == (command == Command::Run),
+            read_words(&words).is_ok() == matches!(command, Command::Check | Command::Run),
             "{name}"
         );
         for (mode, wanted) in [("steps", Mode::Steps), ("rounds", Mode::Rounds)] {

@@ -1,1 +1,7 @@
+pub mod Carried
 pub mod Compare
+pub mod Equal
+pub mod Inside
+pub mod Order
+pub mod Rows
+pub mod Up

@@ -1,12 +1,22 @@
-//! Types: what one is with region arguments put in, and which region parameters it mentions.
+//! Types: which is a subtype of which, what one is with region arguments or an index put in, and which region
+//! parameters and index names it mentions.
 //!
-//! Each call is exactly its definition in `dpj_base`, over types as plain data. `mentions` and `rigid` take no
-//! memory. A type is gone down by recursion, once for each array type in it; the language has at most 32 of
-//! these, one inside the other.
+//! Each call is exactly its definition in `dpj_base`, over types as plain data. `mentions`, `rigid` and the same
+//! for an index name take no memory. A type is gone down by recursion, once for each array type in it; the
+//! language has at most 32 of these, one inside the other. `subtype` goes up the superclasses of a class, and
+//! finds each by a binary search.
 #![tactic(auto)]
 
+mod at_index;
+pub mod laws;
 mod mention;
 mod put_in;
+mod same;
+mod subtyping;
+mod supers;
 
-pub use mention::{mentions, rigid};
+pub use at_index::{path_at, type_at};
+pub use mention::{mentions, mentions_index, rigid, rigid_in_index};
 pub use put_in::subst_type;
+pub use subtyping::subtype;
+pub use supers::is_ordered;

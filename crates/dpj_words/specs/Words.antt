@@ -53,7 +53,7 @@ keys_of command.Effects = []
 
 -- whether the program already does what a command asks for
 abbrev pub is_carried_out : Command → Bool
-is_carried_out command.Check = false
+is_carried_out command.Check = true
 is_carried_out command.Run = true
 is_carried_out command.Elide = false
 is_carried_out command.«List» = false

@@ -80,6 +80,6 @@ impl Command {
     pub const fn is_carried_out(self) -> bool
         ensures { result ≡ is_carried_out self }
     {
-        matches!(self, Command::Run)
+        matches!(self, Command::Check | Command::Run)
     }
 }

@@ -1,0 +1,35 @@
+-- What is left of effects behind the scope of index variables and local regions.
+use Rattle.std.specs.Prelude.{ℕ, Bool, true, false, cond, List, [], ◌∷◌, map, Option, Some, None, nat_le}
+use Rattle.std.specs.Ordering.{nat_cmp}
+use Rattle.std.specs.BTreeSet.{BTreeSet, contains}
+use Rattle.dpj_base.specs.declared.elems.Elem.{Elem}
+use Rattle.dpj_base.specs.declared.elems.Elem.TheVariants.{Var, Any, Local}
+use Rattle.dpj_base.specs.declared.effect.Effect.{Effect}
+use Rattle.dpj_base.specs.declared.region.Rpl.{Rpl}
+use Rattle.dpj_check.specs.declared.leaving.Leaving.{Leaving}
+use Rattle.dpj_check.specs.declared.leaving.Marks.{Marks}
+use Rattle.dpj_check.specs.declared.leaving.Marks.TheVariants as marks
+
+-- `[?]` for an index variable that goes out of scope
+abbrev pub left_elem : BTreeSet ℕ → Elem → Elem
+left_elem variables (Var v) = cond (contains nat_cmp variables v) Any (Var v)
+left_elem variables x = x
+
+abbrev pub left_path : BTreeSet ℕ → Rpl → Rpl
+left_path variables a = record { head = a.head; elems = map (left_elem variables) a.elems }
+
+abbrev pub left_mark : Marks → Bool → Bool
+left_mark marks.Kept mark = mark
+left_mark marks.Dropped mark = false
+left_mark marks.Set mark = true
+
+-- the path begins with a local region that goes out of scope
+abbrev pub begins_inside : ℕ → List Elem → Bool
+begins_inside first (Local d n ∷ rest) = nat_le first d
+begins_inside first elems = false
+
+-- nothing is left of an effect on such a region
+abbrev pub left_effect : Leaving → Effect → Option Effect
+left_effect leaving e =
+    cond (begins_inside leaving.first_region e.rpl.elems) None
+    (Some (record { write = e.write; atomic = left_mark leaving.marks e.atomic; rpl = left_path leaving.variables e.rpl }))

@@ -1,0 +1,78 @@
+ghost use Rattle.std.specs.Prelude.{◌≡◌, IfOk};
+ghost use Rattle.dpj_tree.specs.Nd.{program_uses_nd};
+
+use crate::accepted::Accepted;
+use crate::body::{Body, Known};
+use crate::gathered::Gathered;
+use crate::node::Around;
+use crate::statements::block;
+use dpj_base::{Kind, NoMemory, Plain, Stop, Ty};
+use dpj_classes::Table;
+use dpj_exprs::{Env, length_name};
+use dpj_headers::{Faults, to_number};
+use dpj_tree::{Class, Formal, Member, Method, MethodResult, Program, uses_nd};
+use std::alloc::Global;
+
+/// Checks the bodies of a program, class by class and member by member in the order of the text, and tells the
+/// fault of the first node that has one. `table` is the program's.
+pub fn check(alloc: Global, program: &Program, table: &Table) -> Result<Accepted, Stop>
+    ensures { IfOk result (λ accepted. accepted.uses_nd ≡ program_uses_nd program.now) }
+{
+    let mut body = Body::new(alloc, Env::new(alloc, table, length_name(program)));
+    let mut methods = 0;
+    let mut nodes = 0;
+    for (number, class) in program.classes.as_slice().iter().enumerate() {
+        body.enter_class(to_number(number))?;
+        methods = check_members(&mut body, class, methods)?;
+        nodes = class.node.saturating_add(1);
+    }
+    let Body { known, .. } = body;
+    let Known { types, blocks } = known;
+    Ok(Accepted {
+        uses_nd: uses_nd(program),
+        types: types.into_items(nodes)?,
+        blocks,
+    })
+}
+
+/// Checks the bodies of a class, of which the first has that number, and gives the number behind the last.
+fn check_members(body: &mut Body, class: &Class, first: u32) -> Result<u32, Stop> {
+    let mut number = first;
+    for member in class.members.as_slice() {
+        if let Member::Method(method) = member {
+            body.enter_method(number, class.params.list.len())?;
+            check_method(body, method, number)?;
+            number = number.saturating_add(1);
+        }
+    }
+    Ok(number)
+}
+
+/// Checks the body of a method or a constructor.
+fn check_method(body: &mut Body, method: &Method, number: u32) -> Result<(), Stop> {
+    let table = body.env.table;
+    let Some(row) = table.numbered(number) else {
+        return Ok(());
+    };
+    declare_formals(body, method.formals.as_slice(), row.params.as_slice())?;
+    let has_result = matches!(method.result, MethodResult::Value(_));
+    let around = Around::method(has_result);
+    let mut done = Gathered::new(body.alloc);
+    let completes = block(body, around, method.body.as_slice(), &mut done)?;
+    let mut faults = Faults::by_number();
+    if completes && has_result {
+        faults.note(Kind::Return, method.place);
+    }
+    if !row.summary.set_covers(done.effects()) {
+        faults.note(Kind::Summary, method.place);
+    }
+    faults.settle()
+}
+
+fn declare_formals(body: &mut Body, formals: &[Formal], types: &[Ty]) -> Result<(), NoMemory> {
+    for (formal, ty) in formals.iter().zip(types) {
+        let ty = ty.copy(body.alloc)?;
+        body.declare(formal.name, formal.node, ty, false)?;
+    }
+    Ok(())
+}

@@ -1,0 +1,178 @@
+use crate::gathered::Gathered;
+use crate::node::{Around, Node};
+use crate::reach::reaches_nd;
+use dpj_base::{Items, Kind, NoMemory, Place, Stop, Ty};
+use dpj_effects::EffectSet;
+use dpj_exprs::{Env, LocalRow, Mark, NodeTypes, expr, fits};
+use dpj_headers::ParamRow;
+use dpj_tree::Expr;
+use std::alloc::Global;
+
+/// What was found out so far, from the first method to the last.
+#[derive(Drop)]
+pub struct Known {
+    pub types: NodeTypes,
+    /// The effects with which each atomic block is entered, in the order of their nodes.
+    pub blocks: Items<EffectSet>,
+}
+
+/// The bodies that are being checked, and what is in scope in the one at hand.
+#[derive(Drop)]
+pub struct Body<'a> {
+    pub alloc: Global,
+    pub env: Env<'a>,
+    /// Of each region parameter, those of the class first, whether it is atomic.
+    pub atomic_params: Items<bool>,
+    pub known: Known,
+}
+
+impl<'a> Body<'a> {
+    /// Nothing is known yet, and no class is entered.
+    pub fn new(alloc: Global, env: Env<'a>) -> Body<'a> {
+        Body {
+            alloc,
+            env,
+            atomic_params: Items::new(alloc),
+            known: Known {
+                types: NodeTypes::new(alloc),
+                blocks: Items::new(alloc),
+            },
+        }
+    }
+}
+
+impl Body<'_> {
+    /// Goes over to a class.
+    pub fn enter_class(&mut self, class: u32) -> Result<(), NoMemory> {
+        self.env.enter_class(self.alloc, class)?;
+        self.atomic_params.truncate(0);
+        let table = self.env.table;
+        match table.headers().header(class) {
+            Some(header) => self.add_params(header.params.as_slice()),
+            None => Ok(()),
+        }
+    }
+
+    /// Goes over to a method of the class that was entered, which has `class_params` region parameters.
+    pub fn enter_method(&mut self, method: u32, class_params: usize) -> Result<(), NoMemory> {
+        self.env.enter_method(self.alloc, method)?;
+        self.atomic_params.truncate(class_params);
+        let table = self.env.table;
+        match table.numbered(method) {
+            Some(row) => self.add_params(row.regions.as_slice()),
+            None => Ok(()),
+        }
+    }
+
+    fn add_params(&mut self, params: &[ParamRow]) -> Result<(), NoMemory> {
+        for param in params {
+            self.atomic_params.push(param.atomic)?;
+        }
+        Ok(())
+    }
+
+    /// Types an expression, and gathers what it does.
+    pub fn typed(&mut self, around: Around, e: &Expr, out: &mut Gathered) -> Result<Ty, Stop> {
+        let ty = expr(
+            self.alloc,
+            &self.env,
+            &mut self.known.types,
+            &mut out.found,
+            e,
+        )?;
+        self.follow(around, e, out);
+        Ok(ty)
+    }
+
+    /// Notes whether an nd construct is reached from an expression in an atomic block.
+    pub fn follow(&self, around: Around, e: &Expr, out: &mut Gathered) {
+        if around.in_atomic && reaches_nd(self.env.table, &self.known.types, e) {
+            out.reaches_nd = true;
+        }
+    }
+
+    /// An expression that is to be an int.
+    pub fn int(
+        &mut self,
+        around: Around,
+        e: &Expr,
+        out: &mut Gathered,
+        node: &mut Node,
+    ) -> Result<(), Stop> {
+        let ty = self.typed(around, e, out)?;
+        if !matches!(ty, Ty::Int) {
+            node.note(Kind::Type);
+        }
+        Ok(())
+    }
+
+    /// An expression that is to be a boolean.
+    pub fn boolean(
+        &mut self,
+        around: Around,
+        e: &Expr,
+        out: &mut Gathered,
+        node: &mut Node,
+    ) -> Result<(), Stop> {
+        let ty = self.typed(around, e, out)?;
+        if !matches!(ty, Ty::Bool) {
+            node.note(Kind::Type);
+        }
+        Ok(())
+    }
+
+    /// Whether a value of the one type may stand where the other is declared.
+    pub fn fits(&self, value: &Ty, declared: &Ty) -> Result<bool, NoMemory> {
+        fits(self.alloc, &self.env, value, declared)
+    }
+
+    /// Whether a value of the type may be returned. Where the method has no result that is asked of `void` alone.
+    pub fn is_returned(&self, around: Around, value: &Ty) -> Result<bool, NoMemory> {
+        match self.env.table.numbered(self.env.method) {
+            Some(row) if around.has_result => self.fits(value, &row.result),
+            _ => Ok(!matches!(value, Ty::Void)),
+        }
+    }
+
+    /// A name that is declared while a local or a formal has it is a fault.
+    pub fn note_duplicate(&self, name: u32, place: Place, node: &mut Node) {
+        if self.env.local(name).is_some() {
+            node.note_at(Kind::Duplicate, place);
+        }
+    }
+
+    /// Puts a local in scope that is no part of an array.
+    pub fn declare(&mut self, name: u32, var: u32, ty: Ty, is_final: bool) -> Result<(), NoMemory> {
+        self.env.declare(LocalRow {
+            name,
+            var,
+            ty,
+            is_final,
+            part: None,
+        })
+    }
+
+    /// Puts the variable of a `foreach` in scope.
+    pub fn declare_variable(&mut self, name: u32, var: u32) -> Result<(), NoMemory> {
+        self.declare(name, var, Ty::Int, true)
+    }
+
+    /// Puts a part of an array of a type in scope.
+    pub fn declare_part(&mut self, name: u32, view: u32, ty: Ty) -> Result<(), NoMemory> {
+        self.env.declare(LocalRow {
+            name,
+            var: view,
+            ty,
+            is_final: true,
+            part: Some(view),
+        })
+    }
+
+    /// The number of the first local region that is declared behind a mark and still in scope.
+    pub fn first_region(&self, scope: Mark) -> u32 {
+        match self.env.local_regions().get(scope.regions) {
+            Some(first) => *first,
+            None => u32::MAX,
+        }
+    }
+}

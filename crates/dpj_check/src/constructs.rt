@@ -1,0 +1,119 @@
+ghost use Rattle.std.specs.Prelude.{◌<◌};
+
+use crate::body::Body;
+use crate::gathered::Gathered;
+use crate::leaving::{Leaving, Marks};
+use crate::meet::{branches_pass, turns_pass};
+use crate::node::{Around, Node};
+use crate::statements::{block, scoped};
+use dpj_base::{Items, Kind, Stop};
+use dpj_locals::{has_clash, touched};
+use dpj_tree::{Named, Stmt};
+
+/// The fault of a construct whose branches interfere.
+fn interference(nd: bool) -> Kind {
+    if nd {
+        Kind::InterferesNd
+    } else {
+        Kind::Interferes
+    }
+}
+
+/// Behind an nd construct marks are kept, and behind any other they are dropped.
+fn marks_behind(nd: bool) -> Marks {
+    if nd { Marks::Kept } else { Marks::Dropped }
+}
+
+/// `cobegin { .. }`
+#[cycle(statements)]
+pub fn cobegin(
+    body: &mut Body,
+    around: Around,
+    node: Node,
+    nd: bool,
+    branches: &[Stmt],
+    out: &mut Gathered,
+) -> Result<(), Stop> {
+    let mut node = node;
+    let mut effects = Items::new(body.alloc);
+    let mut locals = Items::new(body.alloc);
+    let leaving = Leaving::nothing(body.alloc, marks_behind(nd));
+    for branch in branches {
+        let mut inner = Gathered::new(body.alloc);
+        scoped(body, around.branch(), branch, &mut inner)?;
+        locals.push(touched(body.alloc, branch)?)?;
+        effects.push(inner.all_effects(body.alloc)?)?;
+        out.take_in(body.alloc, inner, &leaving)?;
+    }
+    out.reaches_nd = out.reaches_nd || nd;
+    if has_clash(body.alloc, locals.as_slice())? {
+        node.note(Kind::Assign);
+    }
+    node.settle()?;
+    if !branches_pass(body, nd, effects.as_slice()) {
+        node.note(interference(nd));
+    }
+    node.settle()
+}
+
+/// `foreach (int var in ..) turn`, behind the start and the count.
+#[cycle(statements)]
+pub fn foreach(
+    body: &mut Body,
+    around: Around,
+    node: Node,
+    nd: bool,
+    var: Named,
+    turn: &Stmt,
+    out: &mut Gathered,
+) -> Result<(), Stop> {
+    let mut node = node;
+    body.note_duplicate(var.name, var.place, &mut node);
+    let number = variable(node.number);
+    let mut inner = Gathered::new(body.alloc);
+    let scope = body.env.mark();
+    body.declare_variable(var.name, number)?;
+    scoped(body, around.branch(), turn, &mut inner)?;
+    body.env.leave(scope);
+    inner.reaches_nd = inner.reaches_nd || nd;
+    if !touched(body.alloc, turn)?.writes.is_empty() {
+        node.note(Kind::Assign);
+    }
+    node.settle()?;
+    if !turns_pass(body, nd, &inner, number)? {
+        node.note(interference(nd));
+    }
+    node.settle()?;
+    let leaving = Leaving::variable(body.alloc, number, marks_behind(nd))?;
+    out.take_in(body.alloc, inner, &leaving)?;
+    Ok(())
+}
+
+/// The number of a foreach variable: that of its construct's node.
+pub fn variable(node: u32) -> u32
+    ensures { result < 2147483648 }
+{
+    node % 2147483648
+}
+
+/// `atomic { .. }`
+#[cycle(statements)]
+pub fn atomic(
+    body: &mut Body,
+    around: Around,
+    node: Node,
+    stmts: &[Stmt],
+    out: &mut Gathered,
+) -> Result<(), Stop> {
+    let mut node = node;
+    let mut inner = Gathered::new(body.alloc);
+    block(body, around.atomic(), stmts, &mut inner)?;
+    if inner.reaches_nd {
+        node.note(Kind::AtomicBody);
+    }
+    node.settle()?;
+    body.known.blocks.push(inner.entered(body.alloc)?)?;
+    let leaving = Leaving::nothing(body.alloc, Marks::Set);
+    out.take_in(body.alloc, inner, &leaving)?;
+    Ok(())
+}

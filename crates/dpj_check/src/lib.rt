@@ -1,0 +1,28 @@
+//! The checker of bodies: whether every method and constructor of a program keeps the rules of types, of effects
+//! and of what may run side by side.
+//!
+//! `check` goes through the bodies in the order of the text and tells the fault of the first node, in post-order,
+//! that has one; of several faults of one node it tells the one with the lowest number. Of a program that it
+//! accepts it says what the compiler needs: the type of each expression and the effects with which each atomic
+//! block is entered.
+//!
+//! A body is walked by recursion, as deep as its statements are nested. The effects of statements that follow each
+//! other are gathered into one set; a branch, and a block that declares what an effect may name, has a set of its
+//! own, which goes into the outer one with what went out of scope left out.
+#![tactic(auto)]
+
+mod accepted;
+mod bodies;
+mod body;
+mod constructs;
+mod gathered;
+mod leaving;
+mod meet;
+mod node;
+mod parts;
+mod reach;
+mod simple;
+mod statements;
+
+pub use accepted::Accepted;
+pub use bodies::check;

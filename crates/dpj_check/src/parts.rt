@@ -1,0 +1,121 @@
+use crate::body::Body;
+use crate::constructs::variable;
+use crate::gathered::Gathered;
+use crate::leaving::{Leaving, Marks};
+use crate::meet::parts_pass;
+use crate::node::{Around, Node};
+use crate::statements::scoped;
+use dpj_base::{Kind, NoMemory, Plain, Stop, Ty};
+use dpj_locals::touched;
+use dpj_regions::is_full;
+use dpj_tree::{Expr, Named, Stmt};
+
+/// What a `foreach_parts` cuts into parts.
+#[derive(Drop)]
+struct Whole {
+    ty: Ty,
+    /// It is itself a part: the number of its view.
+    view: Option<u32>,
+    fault: Option<Kind>,
+}
+
+/// `foreach_parts (view, int var in array, count) turn`
+#[cycle(statements)]
+pub fn foreach_parts(
+    body: &mut Body,
+    around: Around,
+    node: Node,
+    names: (Named, Named),
+    range: (&Expr, &Expr),
+    turn: &Stmt,
+    out: &mut Gathered,
+) -> Result<(), Stop> {
+    let mut node = node;
+    let number = variable(node.number);
+    let mut inner = Gathered::new(body.alloc);
+    let scope = body.env.mark();
+    let outer = declare_part(body, around, &mut node, number, names, range, out)?;
+    scoped(body, around.branch(), turn, &mut inner)?;
+    body.env.leave(scope);
+    if !touched(body.alloc, turn)?.writes.is_empty() {
+        node.note(Kind::Assign);
+    }
+    node.settle()?;
+    if !parts_pass(body, &inner, number)? {
+        node.note(Kind::Interferes);
+    }
+    node.settle()?;
+    inner.hand_on_uses(body.alloc, number, outer)?;
+    let leaving = Leaving::variable(body.alloc, number, Marks::Dropped)?;
+    out.take_in(body.alloc, inner, &leaving)?;
+    Ok(())
+}
+
+/// Reads the array and the count, and puts the part and the variable in scope. Gives the view of the part that is
+/// cut, where it is one.
+fn declare_part(
+    body: &mut Body,
+    around: Around,
+    node: &mut Node,
+    number: u32,
+    names: (Named, Named),
+    range: (&Expr, &Expr),
+    out: &mut Gathered,
+) -> Result<Option<u32>, Stop> {
+    let (view, var) = names;
+    let (array, count) = range;
+    let whole = whole_of(body, around, array, out)?;
+    if let Some(kind) = whole.fault {
+        node.note(kind);
+    }
+    body.int(around, count, out, node)?;
+    let Whole {
+        ty,
+        view: outer,
+        ..
+    } = whole;
+    body.note_duplicate(view.name, view.place, node);
+    body.declare_part(view.name, number, ty)?;
+    body.note_duplicate(var.name, var.place, node);
+    body.declare_variable(var.name, number)?;
+    Ok(outer)
+}
+
+/// What the array of a `foreach_parts` is. A part in its place is no use of that part.
+fn whole_of(
+    body: &mut Body,
+    around: Around,
+    array: &Expr,
+    out: &mut Gathered,
+) -> Result<Whole, Stop> {
+    if let Some(whole) = part_of_part(body, array)? {
+        return Ok(whole);
+    }
+    let ty = body.typed(around, array, out)?;
+    let fault = match &ty {
+        Ty::Array {
+            rpl,
+            index: None,
+            ..
+        } if is_full(rpl) => None,
+        Ty::Array { index: None, .. } => Some(Kind::RegionArgs),
+        _ => Some(Kind::Type),
+    };
+    Ok(Whole {
+        ty,
+        view: None,
+        fault,
+    })
+}
+
+fn part_of_part(body: &mut Body, array: &Expr) -> Result<Option<Whole>, NoMemory> {
+    let Some(row) = body.env.part(array) else {
+        return Ok(None);
+    };
+    body.known.types.note(body.alloc, array.node, &row.ty)?;
+    Ok(Some(Whole {
+        ty: row.ty.copy(body.alloc)?,
+        view: row.part,
+        fault: None,
+    }))
+}

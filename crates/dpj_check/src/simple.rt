@@ -1,0 +1,170 @@
+use crate::body::Body;
+use crate::gathered::Gathered;
+use crate::node::{Around, Node};
+use dpj_base::{Kind, Stop, Ty};
+use dpj_exprs::{assign, read_target};
+use dpj_headers::Faults;
+use dpj_resolve::ty;
+use dpj_tree::{Expr, Named, TypeTree};
+
+/// `ty name = value;`
+pub fn declare(
+    body: &mut Body,
+    around: Around,
+    node: Node,
+    is_final: bool,
+    tree: &TypeTree,
+    name: u32,
+    value: &Expr,
+    out: &mut Gathered,
+) -> Result<(), Stop> {
+    let mut node = node;
+    let declared = declared_type(body, tree)?;
+    let value = body.typed(around, value, out)?;
+    let place = node.place;
+    body.note_duplicate(name, place, &mut node);
+    if !body.fits(&value, &declared)? {
+        node.note(Kind::Type);
+    }
+    node.settle()?;
+    body.declare(name, node.number, declared, is_final)?;
+    Ok(())
+}
+
+/// The type that a declaration names. In a body a type with a fault is told at once.
+fn declared_type(body: &Body, tree: &TypeTree) -> Result<Ty, Stop> {
+    let mut faults = Faults::by_number();
+    match ty(body.alloc, &body.env.scope(), &mut faults, tree)? {
+        Some(ty) => Ok(ty),
+        None => Ok(Ty::Void),
+    }
+}
+
+/// `target = value;` for a local.
+pub fn assign_local(
+    body: &mut Body,
+    around: Around,
+    node: Node,
+    target: Named,
+    value: &Expr,
+    out: &mut Gathered,
+) -> Result<(), Stop> {
+    let mut node = node;
+    let value = body.typed(around, value, out)?;
+    match body.env.local(target.name) {
+        None => node.note_at(Kind::Unknown, target.place),
+        Some(row) => {
+            if !body.fits(&value, &row.ty)? {
+                node.note(Kind::Type);
+            }
+            if row.is_final {
+                node.note(Kind::Assign);
+            }
+        }
+    }
+    node.settle()
+}
+
+/// `written = value;` for a field or an element.
+pub fn assign_place(
+    body: &mut Body,
+    around: Around,
+    node: Node,
+    written: &Expr,
+    value: &Expr,
+    out: &mut Gathered,
+) -> Result<(), Stop> {
+    let mut node = node;
+    let alloc = body.alloc;
+    let target = read_target(
+        alloc,
+        &body.env,
+        &mut body.known.types,
+        &mut out.found,
+        written,
+    )?;
+    body.follow(around, written, out);
+    let value = body.typed(around, value, out)?;
+    let assigned = assign(alloc, &body.env, &mut out.found, target, &value, node.place);
+    note_refusal(assigned, &mut node)?;
+    node.settle()
+}
+
+/// Notes a refusal of the node at hand beside its other faults.
+fn note_refusal(outcome: Result<(), Stop>, node: &mut Node) -> Result<(), Stop> {
+    match outcome {
+        Err(Stop::Refused(refusal)) => node.note_at(refusal.kind, refusal.place),
+        Err(Stop::NoMemory) => return Err(Stop::NoMemory),
+        Ok(()) => {}
+    }
+    Ok(())
+}
+
+/// A call or a creation as a statement.
+pub fn perform(
+    body: &mut Body,
+    around: Around,
+    node: Node,
+    e: &Expr,
+    out: &mut Gathered,
+) -> Result<(), Stop> {
+    let mut node = node;
+    body.typed(around, e, out)?;
+    node.settle()
+}
+
+/// `return;` or `return value;`
+pub fn leave(
+    body: &mut Body,
+    around: Around,
+    node: Node,
+    value: Option<&Expr>,
+    out: &mut Gathered,
+) -> Result<(), Stop> {
+    let mut node = node;
+    if around.enclosed || value.is_some() != around.has_result {
+        node.note(Kind::Return);
+    }
+    if let Some(value) = value {
+        let value = body.typed(around, value, out)?;
+        if !body.is_returned(around, &value)? {
+            node.note(Kind::Type);
+        }
+    }
+    node.settle()
+}
+
+/// `print(value);`
+pub fn print(
+    body: &mut Body,
+    around: Around,
+    node: Node,
+    value: &Expr,
+    out: &mut Gathered,
+) -> Result<(), Stop> {
+    let mut node = node;
+    let value = body.typed(around, value, out)?;
+    if !matches!(value, Ty::Int | Ty::Bool) {
+        node.note(Kind::Type);
+    }
+    node.settle()
+}
+
+/// `region name, ..;`
+pub fn declare_regions(body: &mut Body, node: Node, names: &[Named]) -> Result<(), Stop> {
+    let mut node = node;
+    for named in names {
+        if is_region(body, named.name) {
+            node.note_at(Kind::Duplicate, named.place);
+        }
+        body.env.declare_region(named.name)?;
+    }
+    node.settle()
+}
+
+/// Whether a region parameter or a local region in scope, or a region of the class or a superclass has the name.
+fn is_region(body: &Body, name: u32) -> bool {
+    let env = &body.env;
+    let declared = env.table.headers().region(env.class, name);
+    env.has_param(name) || env.has_local_region(name) || declared.is_some()
+}

@@ -1,0 +1,288 @@
+use crate::shape::{NO_CLASS, Shape};
+use crate::table::Table;
+use dpj_base::{Items, NoMemory};
+use dpj_resolve::Scoped;
+use dpj_tree::{BaseTree, Expr, ExprKind, Method, Stmt, StmtKind, Suffix, TypeTree};
+use std::alloc::Global;
+
+/// What a body reaches by itself.
+#[derive(Drop)]
+pub struct Reached {
+    /// The methods that it calls and the constructors that its creations run.
+    pub called: Items<u32>,
+    /// It holds a `cobegin_nd` or a `foreach_nd`.
+    pub holds_nd: bool,
+}
+
+/// The class that a body belongs to. The walk finds the classes of receivers, where they can be told; faults don't
+/// stop it.
+#[derive(Clone, Copy)]
+struct Walk<'a> {
+    table: &'a Table,
+    class: u32,
+}
+
+/// What the body of a method of a class reaches.
+pub fn reached_by(
+    alloc: Global,
+    table: &Table,
+    class: u32,
+    method: &Method,
+) -> Result<Reached, NoMemory> {
+    let walk = Walk { table, class };
+    let mut locals = Scoped::new(alloc);
+    for formal in method.formals.as_slice() {
+        walk.declare(&mut locals, formal.name, &formal.ty)?;
+    }
+    let mut reached = Reached {
+        called: Items::new(alloc),
+        holds_nd: false,
+    };
+    walk.block(&mut locals, &mut reached, method.body.as_slice())?;
+    Ok(reached)
+}
+
+impl Walk<'_> {
+    fn declare(
+        &self,
+        locals: &mut Scoped<Shape>,
+        name: u32,
+        tree: &TypeTree,
+    ) -> Result<(), NoMemory> {
+        locals.enter(name, Shape::of_tree(self.table.headers(), tree))
+    }
+
+    /// The shape of a field of an object.
+    fn field(&self, of: Shape, name: u32) -> Shape {
+        let Some(class) = of.object() else {
+            return NO_CLASS;
+        };
+        match self.table.field(class, name) {
+            Some(row) => Shape::of_type(&row.ty),
+            None => NO_CLASS,
+        }
+    }
+
+    /// Calls a method of an object. The shape of the result.
+    fn call(&self, called: &mut Items<u32>, of: Shape, name: u32) -> Result<Shape, NoMemory> {
+        let Some(class) = of.object() else {
+            return Ok(NO_CLASS);
+        };
+        let Some(row) = self.table.method(class, name) else {
+            return Ok(NO_CLASS);
+        };
+        called.push(row.id)?;
+        Ok(Shape::of_type(&row.result))
+    }
+
+    /// Makes an object of a class.
+    fn create(&self, called: &mut Items<u32>, name: u32) -> Result<Shape, NoMemory> {
+        let Some(class) = self.table.headers().class(name) else {
+            return Ok(NO_CLASS);
+        };
+        if let Some(row) = self.table.constructor(class) {
+            called.push(row.id)?;
+        }
+        Ok(Shape::of_class(class))
+    }
+
+    /// The shape of an array that is made.
+    fn made(&self, base: &BaseTree, suffixes: &[Suffix]) -> Shape {
+        Shape::written(self.table.headers(), base, suffixes.len().saturating_add(1))
+    }
+
+    /// Goes through an expression. The shape of its value.
+    #[cycle(exprs)]
+    fn expr(
+        &self,
+        locals: &Scoped<Shape>,
+        called: &mut Items<u32>,
+        e: &Expr,
+    ) -> Result<Shape, NoMemory> {
+        match &e.kind {
+            ExprKind::This => Ok(Shape::of_class(self.class)),
+            ExprKind::Local(name) => Ok(locals.get(*name).copied().unwrap_or(NO_CLASS)),
+            ExprKind::Field { of, name } => {
+                let of = self.expr(locals, called, of.get())?;
+                Ok(self.field(of, *name))
+            }
+            ExprKind::Element { array, index } => {
+                let array = self.expr(locals, called, array.get())?;
+                self.expr(locals, called, index.get())?;
+                Ok(array.element())
+            }
+            ExprKind::Call {
+                of,
+                name,
+                actuals,
+                ..
+            } => {
+                let of = self.expr(locals, called, of.get())?;
+                self.exprs(locals, called, actuals.as_slice())?;
+                self.call(called, of, *name)
+            }
+            ExprKind::New { class, actuals, .. } => {
+                self.exprs(locals, called, actuals.as_slice())?;
+                self.create(called, class.name)
+            }
+            ExprKind::NewArray {
+                base,
+                suffixes,
+                length,
+                ..
+            } => {
+                self.expr(locals, called, length.get())?;
+                Ok(self.made(base, suffixes.as_slice()))
+            }
+            ExprKind::Unary { arg, .. } => {
+                self.expr(locals, called, arg.get())?;
+                Ok(NO_CLASS)
+            }
+            ExprKind::Binary { left, right, .. } => {
+                self.expr(locals, called, left.get())?;
+                self.expr(locals, called, right.get())?;
+                Ok(NO_CLASS)
+            }
+            ExprKind::Int(_) | ExprKind::Bool(_) | ExprKind::Null => Ok(NO_CLASS),
+        }
+    }
+
+    #[cycle(exprs)]
+    fn exprs(
+        &self,
+        locals: &Scoped<Shape>,
+        called: &mut Items<u32>,
+        all: &[Expr],
+    ) -> Result<(), NoMemory> {
+        for e in all {
+            self.expr(locals, called, e)?;
+        }
+        Ok(())
+    }
+
+    /// Goes through an expression whose value matters no more.
+    fn value(
+        &self,
+        locals: &Scoped<Shape>,
+        reached: &mut Reached,
+        e: &Expr,
+    ) -> Result<(), NoMemory> {
+        self.expr(locals, &mut reached.called, e)?;
+        Ok(())
+    }
+
+    fn values(
+        &self,
+        locals: &Scoped<Shape>,
+        reached: &mut Reached,
+        first: &Expr,
+        second: &Expr,
+    ) -> Result<(), NoMemory> {
+        self.value(locals, reached, first)?;
+        self.value(locals, reached, second)
+    }
+
+    /// Goes through the statements of a block. What it declares is in scope up to its end.
+    #[cycle(stmts)]
+    fn block(
+        &self,
+        locals: &mut Scoped<Shape>,
+        reached: &mut Reached,
+        all: &[Stmt],
+    ) -> Result<(), NoMemory> {
+        let outer = locals.len();
+        for stmt in all {
+            self.stmt(locals, reached, stmt)?;
+            if let StmtKind::Declare { ty, name, .. } = &stmt.kind {
+                self.declare(locals, *name, ty)?;
+            }
+        }
+        locals.leave(outer);
+        Ok(())
+    }
+
+    /// Each branch is a block of its own.
+    #[cycle(stmts)]
+    fn branches(
+        &self,
+        locals: &mut Scoped<Shape>,
+        reached: &mut Reached,
+        branches: &[Stmt],
+    ) -> Result<(), NoMemory> {
+        for branch in branches {
+            self.stmt(locals, reached, branch)?;
+        }
+        Ok(())
+    }
+
+    /// Goes through a statement that is a block of its own. What it declares itself is left to the block around.
+    #[cycle(stmts)]
+    fn stmt(
+        &self,
+        locals: &mut Scoped<Shape>,
+        reached: &mut Reached,
+        stmt: &Stmt,
+    ) -> Result<(), NoMemory> {
+        match &stmt.kind {
+            StmtKind::Block(all) | StmtKind::Atomic(all) => {
+                self.block(locals, reached, all.as_slice())
+            }
+            StmtKind::Declare { value, .. }
+            | StmtKind::AssignLocal { value, .. }
+            | StmtKind::Do(value)
+            | StmtKind::Print(value)
+            | StmtKind::Return(Some(value)) => self.value(locals, reached, value),
+            StmtKind::AssignField { target, value } | StmtKind::AssignElement { target, value } => {
+                self.values(locals, reached, target, value)
+            }
+            StmtKind::If { test, then, other } => {
+                self.value(locals, reached, test)?;
+                self.stmt(locals, reached, then.get())?;
+                match other {
+                    Some(other) => self.stmt(locals, reached, other.get()),
+                    None => Ok(()),
+                }
+            }
+            StmtKind::While { test, body } => {
+                self.value(locals, reached, test)?;
+                self.stmt(locals, reached, body.get())
+            }
+            StmtKind::Cobegin { nd, branches } => {
+                reached.holds_nd = reached.holds_nd || *nd;
+                self.branches(locals, reached, branches.as_slice())
+            }
+            StmtKind::Foreach {
+                nd,
+                var,
+                start,
+                count,
+                body,
+            } => {
+                reached.holds_nd = reached.holds_nd || *nd;
+                self.values(locals, reached, start, count)?;
+                let outer = locals.len();
+                locals.enter(var.name, NO_CLASS)?;
+                self.stmt(locals, reached, body.get())?;
+                locals.leave(outer);
+                Ok(())
+            }
+            StmtKind::ForeachParts {
+                view,
+                var,
+                array,
+                count,
+                body,
+            } => {
+                let array = self.expr(locals, &mut reached.called, array)?;
+                self.value(locals, reached, count)?;
+                let outer = locals.len();
+                locals.enter(view.name, array)?;
+                locals.enter(var.name, NO_CLASS)?;
+                self.stmt(locals, reached, body.get())?;
+                locals.leave(outer);
+                Ok(())
+            }
+            StmtKind::Return(None) | StmtKind::PrintText(_) | StmtKind::Region { .. } => Ok(()),
+        }
+    }
+}

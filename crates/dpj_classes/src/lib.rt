@@ -1,0 +1,33 @@
+//! The class table: what each class of a program has, and whether its declarations fit together.
+//!
+//! `build` makes the table of the tree. It refuses, in four passes one after the other: what the headers refuse by
+//! names alone, in two passes; then what is wrong in types, region paths, constraints and summaries of signatures;
+//! then methods that don't fit those that they override, and a program without its `Main`. In each pass the fault
+//! with the least place is told.
+//!
+//! A field or a method is looked for in the class first and then in its superclasses, one after the other. What a
+//! row says is said over the region parameters of the class that declares it; `args_at` gives what to put in for
+//! them.
+//!
+//! `forks` follows calls and creations through all bodies, by the classes of receivers alone.
+#![tactic(auto)]
+
+mod around;
+mod calls;
+mod forking;
+mod main_class;
+mod make;
+mod overridden;
+mod overriding;
+mod reach;
+mod rows;
+mod same;
+mod shape;
+mod signatures;
+mod summary;
+mod table;
+
+pub use make::build;
+pub use rows::{FieldRow, MethodRow};
+pub use same::same_type;
+pub use table::Table;

@@ -1,0 +1,163 @@
+use crate::forking::find_forks;
+use crate::main_class::check_main;
+use crate::overridden::find_overridden;
+use crate::overriding::check_overriding;
+use crate::rows::{FieldRow, MethodRow};
+use crate::signatures::{Signatures, class_constraints, read_signatures};
+use crate::table::Table;
+use dpj_base::{Bytes, Constraint, Items, NoMemory, Stop, Super};
+use dpj_headers::{Faults, Headers, OwnedNumbers, headers, to_number};
+use dpj_tree::{Class, Program};
+use std::alloc::Global;
+
+/// The class table of a program. It refuses what the headers refuse by names alone; then unknown names, region
+/// arguments and constraints in signatures; then methods that don't fit those that they override, and a program
+/// without its `Main`. Of these groups the first comes first, and in a group the fault with the least place.
+pub fn build(alloc: Global, program: &Program) -> Result<Table, Stop> {
+    let headers = headers(alloc, program)?;
+    let mut table = of_signatures(alloc, headers, program)?;
+    judge(alloc, &table, program.names.as_slice())?;
+    table.forks = find_forks(alloc, &table, program.classes.as_slice())?;
+    Ok(table)
+}
+
+/// The table with all signatures, before overriding and `Main` are looked at.
+fn of_signatures(alloc: Global, headers: Headers, program: &Program) -> Result<Table, Stop> {
+    let classes = program.classes.as_slice();
+    let read = read_all(alloc, &headers, classes)?;
+    let places = find_places(
+        alloc,
+        &headers,
+        classes.len(),
+        &read.made,
+        program.names.len(),
+    )?;
+    Ok(together(headers, read, places, Items::new(alloc)))
+}
+
+/// The constraints of the classes and all signatures.
+#[derive(Drop)]
+struct Read {
+    given: Items<Items<Constraint>>,
+    made: Signatures,
+}
+
+/// Reads all signatures, or tells the first fault in them.
+fn read_all(alloc: Global, headers: &Headers, classes: &[Class]) -> Result<Read, Stop> {
+    let mut faults = Faults::by_place();
+    let given = class_constraints(alloc, headers, classes, &mut faults)?;
+    let made = read_signatures(alloc, headers, classes, given.as_slice(), &mut faults)?;
+    faults.settle()?;
+    Ok(Read { given, made })
+}
+
+/// Where the rows of each class and name stand.
+#[derive(Drop)]
+struct Places {
+    supers: Items<Option<u32>>,
+    fields: OwnedNumbers,
+    methods: OwnedNumbers,
+    constructors: Items<Option<u32>>,
+    overrides: Items<Option<u32>>,
+}
+
+fn find_places(
+    alloc: Global,
+    headers: &Headers,
+    classes: usize,
+    made: &Signatures,
+    names: usize,
+) -> Result<Places, NoMemory> {
+    let supers = super_places(alloc, classes, made.supers.as_slice())?;
+    let fields = field_places(alloc, made.fields.as_slice())?;
+    let methods = method_places(alloc, made.methods.as_slice())?;
+    let constructors = constructors(alloc, classes, made.methods.as_slice())?;
+    let overrides = find_overridden(alloc, headers, made.methods.as_slice(), names)?;
+    Ok(Places {
+        supers,
+        fields,
+        methods,
+        constructors,
+        overrides,
+    })
+}
+
+fn together(headers: Headers, read: Read, places: Places, forks: Items<bool>) -> Table {
+    let Read { given, made } = read;
+    let Signatures {
+        supers,
+        fields,
+        methods,
+    } = made;
+    Table {
+        super_places: places.supers,
+        field_places: places.fields,
+        method_places: places.methods,
+        constructors: places.constructors,
+        overrides: places.overrides,
+        forks,
+        headers,
+        given,
+        supers,
+        fields,
+        methods,
+    }
+}
+
+/// Tells the first fault of overriding and of `Main`.
+fn judge(alloc: Global, table: &Table, names: &[Bytes]) -> Result<(), Stop> {
+    let mut faults = Faults::by_place();
+    check_overriding(alloc, table, &mut faults)?;
+    check_main(table, names, &mut faults);
+    faults.settle()
+}
+
+/// The position of each class among the rows of superclasses.
+fn super_places(
+    alloc: Global,
+    classes: usize,
+    supers: &[Super],
+) -> Result<Items<Option<u32>>, NoMemory> {
+    let mut places = vec![in alloc; None; classes]?;
+    for (at, row) in supers.iter().enumerate() {
+        if let Some(place) = places.get_mut(row.class as usize) {
+            *place = Some(to_number(at));
+        }
+    }
+    Ok(Items::from_vec(places))
+}
+
+fn field_places(alloc: Global, fields: &[FieldRow]) -> Result<OwnedNumbers, NoMemory> {
+    let mut places = OwnedNumbers::new(alloc);
+    for (at, row) in fields.iter().enumerate() {
+        places.set(row.owner, row.name, to_number(at))?;
+    }
+    Ok(places)
+}
+
+fn method_places(alloc: Global, methods: &[MethodRow]) -> Result<OwnedNumbers, NoMemory> {
+    let mut places = OwnedNumbers::new(alloc);
+    for row in methods {
+        if !row.is_constructor {
+            places.set(row.owner, row.name, row.id)?;
+        }
+    }
+    Ok(places)
+}
+
+/// The constructor of each class.
+fn constructors(
+    alloc: Global,
+    classes: usize,
+    methods: &[MethodRow],
+) -> Result<Items<Option<u32>>, NoMemory> {
+    let mut found = vec![in alloc; None; classes]?;
+    for row in methods {
+        if row.is_constructor {
+            if let Some(place) = found.get_mut(row.owner as usize) {
+                *place = Some(row.id);
+            }
+        }
+    }
+    Ok(Items::from_vec(found))
+}

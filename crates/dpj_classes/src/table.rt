@@ -1,0 +1,156 @@
+use crate::rows::{FieldRow, MethodRow};
+use dpj_base::{Constraint, Head, Items, NoMemory, Plain, Rpl, Super, Ty};
+use dpj_headers::{Headers, OwnedNumbers};
+use dpj_regions::subst;
+use std::alloc::Global;
+
+/// The classes of a program with their members. Classes and methods are known by their positions in the text.
+#[derive(Drop)]
+pub struct Table {
+    pub(crate) headers: Headers,
+    /// The constraints of each class.
+    pub(crate) given: Items<Items<Constraint>>,
+    /// One row for each class with a superclass, in the order of classes.
+    pub(crate) supers: Items<Super>,
+    /// The position of each class among these rows.
+    pub(crate) super_places: Items<Option<u32>>,
+    pub(crate) fields: Items<FieldRow>,
+    /// The positions of fields by classes and names.
+    pub(crate) field_places: OwnedNumbers,
+    pub(crate) methods: Items<MethodRow>,
+    /// The methods that aren't constructors, by classes and names.
+    pub(crate) method_places: OwnedNumbers,
+    /// The constructor of each class.
+    pub(crate) constructors: Items<Option<u32>>,
+    /// What each method overrides.
+    pub(crate) overrides: Items<Option<u32>>,
+    pub(crate) forks: Items<bool>,
+}
+
+impl Table {
+    pub fn headers(&self) -> &Headers {
+        &self.headers
+    }
+
+    /// The field of that name, where the class or a superclass declares it.
+    pub fn field(&self, class: u32, name: u32) -> Option<&FieldRow> {
+        let mut at = class;
+        for _ in 0..self.headers.len() {
+            if let Some(place) = self.field_places.get(at, name) {
+                return self.fields.get(place as usize);
+            }
+            at = self.headers.parent(at)?;
+        }
+        None
+    }
+
+    /// The method of that name: that of the class, or else of the nearest superclass that declares one.
+    pub fn method(&self, class: u32, name: u32) -> Option<&MethodRow> {
+        let mut at = class;
+        for _ in 0..self.headers.len() {
+            if let Some(id) = self.method_places.get(at, name) {
+                return self.numbered(id);
+            }
+            at = self.headers.parent(at)?;
+        }
+        None
+    }
+
+    /// The constructor that the class itself declares.
+    pub fn constructor(&self, class: u32) -> Option<&MethodRow> {
+        self.numbered(self.constructors.get(class as usize).copied().flatten()?)
+    }
+
+    /// The method or constructor of that number.
+    pub fn numbered(&self, method: u32) -> Option<&MethodRow> {
+        self.methods.get(method as usize)
+    }
+
+    /// All methods and constructors, by their numbers.
+    pub fn methods(&self) -> &[MethodRow] {
+        self.methods.as_slice()
+    }
+
+    /// The method that a method overrides.
+    pub fn overrides(&self, method: u32) -> Option<u32> {
+        self.overrides.get(method as usize).copied().flatten()
+    }
+
+    /// Whether a `cobegin_nd` or a `foreach_nd` is reached through the method, by any chain of calls and of
+    /// creations that run a constructor, where a call may reach each method that overrides the one that it names.
+    pub fn forks(&self, method: u32) -> bool {
+        self.forks.get(method as usize).copied() == Some(true)
+    }
+
+    /// The constraints of a class.
+    pub fn given(&self, class: u32) -> &[Constraint] {
+        match self.given.get(class as usize) {
+            Some(given) => given.as_slice(),
+            None => &[],
+        }
+    }
+
+    /// The constraints of all classes, by their numbers.
+    pub fn classes_given(&self) -> &[Items<Constraint>] {
+        self.given.as_slice()
+    }
+
+    /// The superclasses with their region arguments, in the order of the classes that extend them.
+    pub fn supers(&self) -> &[Super] {
+        self.supers.as_slice()
+    }
+
+    /// The superclass of a class with its region arguments.
+    fn parent_type(&self, class: u32) -> Option<&Ty> {
+        let place = self.super_places.get(class as usize).copied().flatten()?;
+        Some(&self.supers.get(place as usize)?.parent)
+    }
+
+    /// The region arguments of `owner` as a supertype of the class with these arguments. None where it is none.
+    pub fn args_at(
+        &self,
+        alloc: Global,
+        class: u32,
+        args: &[Rpl],
+        owner: u32,
+    ) -> Result<Option<Items<Rpl>>, NoMemory> {
+        let mut at = class;
+        let mut current = copy_paths(alloc, args)?;
+        for _ in 0..=self.headers.len() {
+            if at == owner {
+                return Ok(Some(current));
+            }
+            let Some(Ty::Class { class, args }) = self.parent_type(at) else {
+                return Ok(None);
+            };
+            at = *class;
+            current = put_in_all(alloc, args.as_slice(), current.as_slice())?;
+        }
+        Ok(None)
+    }
+}
+
+fn copy_paths(alloc: Global, paths: &[Rpl]) -> Result<Items<Rpl>, NoMemory> {
+    let mut copies = Items::new(alloc);
+    for path in paths {
+        copies.push(path.copy(alloc)?)?;
+    }
+    Ok(copies)
+}
+
+/// The path with its argument put in for the parameter at its head. A parameter that has none stays.
+pub fn put_in(alloc: Global, rpl: &Rpl, args: &[Rpl]) -> Result<Rpl, NoMemory> {
+    match rpl.head {
+        Head::Param(p) if p as usize >= args.len() => rpl.copy(alloc),
+        _ => subst(alloc, rpl, args),
+    }
+}
+
+/// Paths with their arguments put in.
+fn put_in_all(alloc: Global, paths: &[Rpl], args: &[Rpl]) -> Result<Items<Rpl>, NoMemory> {
+    let mut made = Items::new(alloc);
+    for path in paths {
+        made.push(put_in(alloc, path, args)?)?;
+    }
+    Ok(made)
+}

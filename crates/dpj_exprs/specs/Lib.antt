@@ -1,0 +1,4 @@
+pub mod Refusing
+pub mod Operations
+pub mod Partial
+pub mod Found

@@ -1,0 +1,19 @@
+-- Uses through a receiver whose region arguments aren't all fully specified.
+use Rattle.std.specs.Prelude.{ℕ, ◌+◌, min, Bool, true, false, not, ◌&&◌, ◌||◌, List, [], ◌∷◌}
+use Rattle.dpj_base.specs.declared.region.Rpl.{Rpl}
+use Rattle.dpj_base.specs.Regions.{fully_specified}
+use Rattle.dpj_base.specs.Types.{PlainType, mentions_param, rigid_in_param}
+
+-- parameters have numbers of 32 bits; no text has more of them
+abbrev pub param_number : ℕ → ℕ
+param_number p = min p 4294967295
+
+-- an argument isn't fully specified, and the type mentions its parameter; the parameters are counted on from a number
+abbrev pub mentions_partial : PlainType → ℕ → List Rpl → Bool
+mentions_partial t p [] = false
+mentions_partial t p (a ∷ args) = (not (fully_specified a) && mentions_param (param_number p) t) || mentions_partial t (p + 1) args
+
+-- the same for a parameter in which the type is rigid
+abbrev pub rigid_in_partial : PlainType → ℕ → List Rpl → Bool
+rigid_in_partial t p [] = false
+rigid_in_partial t p (a ∷ args) = (not (fully_specified a) && rigid_in_param (param_number p) t) || rigid_in_partial t (p + 1) args

@@ -1,0 +1,190 @@
+use crate::env::Env;
+use crate::fitting::{fits, may_fit, mentions_partial, refused, rigid_in_partial};
+use crate::found::Found;
+use dpj_base::{Items, Kind, NoMemory, Place, Plain, Rpl, Stop, Ty};
+use dpj_classes::MethodRow;
+use dpj_headers::{Faults, ParamRow};
+use dpj_resolve::{IndexNames, ReadArgs, constraints_hold, fit_args, read_args};
+use dpj_tree::RplTree;
+use dpj_types::subst_type;
+use std::alloc::Global;
+
+/// No index names: what is around a path that stands in no array type.
+pub fn no_index_names<'a>() -> IndexNames<'a> {
+    IndexNames {
+        node: 0,
+        suffixes: &[],
+        inside: 0,
+        made: None,
+    }
+}
+
+/// Reads region arguments that are to be fully specified.
+pub fn read_full_args(
+    alloc: Global,
+    env: &Env,
+    trees: &[RplTree],
+    params: &[ParamRow],
+) -> Result<ReadArgs, Stop> {
+    let mut faults = Faults::by_number();
+    read_args(
+        alloc,
+        &env.scope(),
+        &mut faults,
+        trees,
+        params,
+        true,
+        &no_index_names(),
+    )
+}
+
+/// Reads the region arguments of a call.
+pub fn read_call_args(
+    alloc: Global,
+    env: &Env,
+    of: &Ty,
+    name: u32,
+    trees: &[RplTree],
+) -> Result<ReadArgs, Stop> {
+    match callee(env, of, name) {
+        Some(row) => read_full_args(alloc, env, trees, row.regions.as_slice()),
+        None => read_full_args(alloc, env, trees, &[]),
+    }
+}
+
+/// The method of that name in the class of the receiver.
+fn callee<'e>(env: &'e Env, of: &Ty, name: u32) -> Option<&'e MethodRow> {
+    match of {
+        Ty::Class { class, .. } => env.table.method(*class, name),
+        _ => None,
+    }
+}
+
+/// Notes a fault where the values don't fit the declared types with region arguments put in.
+pub fn check_actuals(
+    alloc: Global,
+    env: &Env,
+    faults: &mut Faults,
+    actuals: &[Ty],
+    declared: &[Ty],
+    args: &[Rpl],
+    place: Place,
+) -> Result<(), NoMemory> {
+    let mut fit = actuals.len() == declared.len();
+    for (value, ty) in actuals.iter().zip(declared.iter()) {
+        if fit {
+            fit = fits(alloc, env, value, &subst_type(alloc, ty, args)?)?;
+        }
+    }
+    if !fit {
+        faults.note(Kind::Type, place);
+    }
+    Ok(())
+}
+
+/// The same where the region arguments aren't known: a value is a fault that fits for no regions.
+pub fn check_shapes(env: &Env, faults: &mut Faults, actuals: &[Ty], declared: &[Ty], place: Place) {
+    let headers = env.table.headers();
+    let mut fit = actuals.len() == declared.len();
+    for (value, ty) in actuals.iter().zip(declared.iter()) {
+        fit = fit && may_fit(headers, value, ty);
+    }
+    if !fit {
+        faults.note(Kind::Type, place);
+    }
+}
+
+/// Whether a use through a receiver needs an argument that isn't fully specified: for the type of a formal, or
+/// for a result type that is rigid in it.
+fn is_partial(row: &MethodRow, owned: &[Rpl]) -> bool {
+    row.params
+        .as_slice()
+        .iter()
+        .any(|ty| mentions_partial(ty, owned))
+        || rigid_in_partial(&row.result, owned)
+}
+
+/// The receiver's region arguments, and behind them those of the call.
+fn joined(alloc: Global, owned: &[Rpl], regions: Items<Rpl>) -> Result<Items<Rpl>, NoMemory> {
+    let mut args = Items::new(alloc);
+    for rpl in owned {
+        args.push(rpl.copy(alloc)?)?;
+    }
+    for rpl in regions.into_vec() {
+        args.push(rpl)?;
+    }
+    Ok(args)
+}
+
+/// The type of a call whose parts are read.
+pub fn call(
+    alloc: Global,
+    env: &Env,
+    found: &mut Found,
+    of: &Ty,
+    name: u32,
+    regions: ReadArgs,
+    actuals: &[Ty],
+    place: Place,
+) -> Result<Ty, Stop> {
+    let Ty::Class { class, args } = of else {
+        return Err(refused(Kind::Type, place));
+    };
+    let Some(row) = env.table.method(*class, name) else {
+        return Err(refused(Kind::Unknown, place));
+    };
+    let owned = env
+        .table
+        .args_at(alloc, *class, args.as_slice(), row.owner)?;
+    let Some(owned) = owned else {
+        return Err(refused(Kind::Type, place));
+    };
+    let mut faults = Faults::by_number();
+    let regions = fit_args(alloc, &mut faults, regions, row.regions.as_slice(), place)?;
+    let Some(regions) = regions else {
+        check_shapes(env, &mut faults, actuals, row.params.as_slice(), place);
+        faults.settle()?;
+        return Err(refused(Kind::RegionArgs, place));
+    };
+    if is_partial(row, owned.as_slice()) {
+        faults.note(Kind::PartialWrite, place);
+    }
+    let args = joined(alloc, owned.as_slice(), regions)?;
+    check_call(
+        alloc,
+        env,
+        &mut faults,
+        row,
+        args.as_slice(),
+        actuals,
+        place,
+    )?;
+    faults.settle()?;
+    found.summary(alloc, &row.summary, args.as_slice())?;
+    Ok(subst_type(alloc, &row.result, args.as_slice())?)
+}
+
+/// Notes what is wrong with the actuals, and where a constraint of the method doesn't hold.
+fn check_call(
+    alloc: Global,
+    env: &Env,
+    faults: &mut Faults,
+    row: &MethodRow,
+    args: &[Rpl],
+    actuals: &[Ty],
+    place: Place,
+) -> Result<(), NoMemory> {
+    check_actuals(
+        alloc,
+        env,
+        faults,
+        actuals,
+        row.params.as_slice(),
+        args,
+        place,
+    )?;
+    if !constraints_hold(alloc, row.given.as_slice(), args, env.given())? {
+        faults.note(Kind::Constraint, place);
+    }
+    Ok(())
+}

@@ -1,0 +1,249 @@
+use crate::supers::Supers;
+use dpj_base::{Constraint, Elems, Head, Items, NoMemory, Plain, Rpl, Ty};
+use dpj_classes::Table;
+use dpj_headers::{ParamRow, to_number};
+use dpj_resolve::{Scope, Scoped, Site};
+use dpj_tree::{Expr, ExprKind, Program};
+use std::alloc::Global;
+
+/// A local, a formal, a foreach variable or an array part in scope.
+#[derive(Drop)]
+pub struct LocalRow {
+    pub name: u32,
+    /// Its number as an index variable: the number of the node that declares it.
+    pub var: u32,
+    pub ty: Ty,
+    pub is_final: bool,
+    /// For a part of an array the number of its view.
+    pub part: Option<u32>,
+}
+
+/// How much is in scope.
+#[derive(Clone, Copy, Debug, PartialEq, Eq)]
+pub struct Mark {
+    pub locals: usize,
+    pub regions: usize,
+}
+
+/// What is around an expression.
+#[derive(Drop)]
+pub struct Env<'a> {
+    pub table: &'a Table,
+    pub class: u32,
+    /// The number of the method.
+    pub method: u32,
+    pub supers: Supers<'a>,
+    /// The name `length`, where the text has it.
+    length: Option<u32>,
+    /// The region parameters of the method, with whether each is atomic.
+    params: Scoped<bool>,
+    rows: Items<LocalRow>,
+    /// The same locals by name, with the numbers of those that may stand in an index.
+    variables: Scoped<Option<u32>>,
+    /// The local regions in scope, with the numbers of their declarations.
+    regions: Scoped<u32>,
+    /// How many local regions the method has declared so far.
+    declared: u32,
+    given: Items<Constraint>,
+    /// How many of the constraints in force are those of the class.
+    class_given: usize,
+}
+
+/// The number of the name `length`, where the text has it.
+pub fn length_name(program: &Program) -> Option<u32> {
+    let names = program.names.as_slice();
+    names
+        .iter()
+        .position(|name| name.as_slice() == b"length".as_slice())
+        .map(to_number)
+}
+
+impl Env<'_> {
+    /// What is around the members of class 0, before one is entered.
+    pub fn new<'a>(alloc: Global, table: &'a Table, length: Option<u32>) -> Env<'a> {
+        Env {
+            table,
+            class: 0,
+            method: 0,
+            supers: Supers::of(table.supers()),
+            length,
+            params: Scoped::new(alloc),
+            rows: Items::new(alloc),
+            variables: Scoped::new(alloc),
+            regions: Scoped::new(alloc),
+            declared: 0,
+            given: Items::new(alloc),
+            class_given: 0,
+        }
+    }
+
+    /// Goes over to a class. Its constraints are in force.
+    pub fn enter_class(&mut self, alloc: Global, class: u32) -> Result<(), NoMemory> {
+        self.clear();
+        self.class = class;
+        self.given.truncate(0);
+        self.class_given = 0;
+        let table = self.table;
+        put_constraints(alloc, &mut self.given, table.given(class))?;
+        self.class_given = self.given.len();
+        Ok(())
+    }
+
+    /// Goes over to a constructor or method of the class. Its region parameters are in scope and its constraints in
+    /// force, and no local is in scope yet.
+    pub fn enter_method(&mut self, alloc: Global, method: u32) -> Result<(), NoMemory> {
+        self.clear();
+        self.method = method;
+        self.given.truncate(self.class_given);
+        let table = self.table;
+        let Some(row) = table.numbered(method) else {
+            return Ok(());
+        };
+        put_constraints(alloc, &mut self.given, row.given.as_slice())?;
+        put_params(&mut self.params, row.regions.as_slice())
+    }
+
+    fn clear(&mut self) {
+        self.params.leave(0);
+        self.rows.truncate(0);
+        self.variables.leave(0);
+        self.regions.leave(0);
+        self.declared = 0;
+    }
+
+    /// Puts a local in scope. A final int may stand in an index.
+    pub fn declare(&mut self, row: LocalRow) -> Result<(), NoMemory> {
+        let index = if row.is_final && matches!(row.ty, Ty::Int) {
+            Some(row.var)
+        } else {
+            None
+        };
+        let name = row.name;
+        let count = self.rows.len();
+        self.rows.push(row)?;
+        let entered = self.variables.enter(name, index);
+        if entered.is_err() {
+            self.rows.truncate(count);
+        }
+        entered
+    }
+
+    /// Puts a local region in scope, and gives the number of its declaration.
+    pub fn declare_region(&mut self, name: u32) -> Result<u32, NoMemory> {
+        let decl = self.declared;
+        self.regions.enter(name, decl)?;
+        self.declared = decl.saturating_add(1);
+        Ok(decl)
+    }
+
+    /// What is in scope now, to be left again.
+    pub fn mark(&self) -> Mark {
+        Mark {
+            locals: self.rows.len(),
+            regions: self.regions.len(),
+        }
+    }
+
+    /// Takes what came into scope behind a mark out of it.
+    pub fn leave(&mut self, mark: Mark) {
+        self.rows.truncate(mark.locals);
+        self.variables.leave(mark.locals);
+        self.regions.leave(mark.regions);
+    }
+
+    /// The locals in scope, in the order of their declarations.
+    pub fn locals(&self) -> &[LocalRow] {
+        self.rows.as_slice()
+    }
+
+    /// The declarations of the local regions in scope, in their order.
+    pub fn local_regions(&self) -> &[u32] {
+        self.regions.values()
+    }
+
+    /// The local of that name: the last, where there are two.
+    pub fn local(&self, name: u32) -> Option<&LocalRow> {
+        self.rows.get(self.variables.place(name)?)
+    }
+
+    /// The number of the index variable of that name.
+    pub fn index_variable(&self, name: u32) -> Option<u32> {
+        self.variables.get(name).copied().flatten()
+    }
+
+    /// Whether a local region in scope has the name.
+    pub fn has_local_region(&self, name: u32) -> bool {
+        self.regions.place(name).is_some()
+    }
+
+    /// Whether a region parameter of the class or the method has the name.
+    pub fn has_param(&self, name: u32) -> bool {
+        self.scope().param(name).is_some()
+    }
+
+    /// Whether the name is `length`.
+    pub fn is_length(&self, name: u32) -> bool {
+        self.length == Some(name)
+    }
+
+    /// The constraints in force.
+    pub fn given(&self) -> &[Constraint] {
+        self.given.as_slice()
+    }
+
+    /// The part of an array that the expression names.
+    pub fn part(&self, e: &Expr) -> Option<&LocalRow> {
+        let ExprKind::Local(name) = &e.kind else {
+            return None;
+        };
+        let row = self.local(*name)?;
+        if row.part.is_some() { Some(row) } else { None }
+    }
+
+    /// What is around a region path or a type.
+    pub fn scope(&self) -> Scope<'_> {
+        Scope {
+            headers: self.table.headers(),
+            class: self.class,
+            params: &self.params,
+            variables: &self.variables,
+            regions: &self.regions,
+            given: self.given.as_slice(),
+            classes_given: self.table.classes_given(),
+            site: Site::Body,
+        }
+    }
+
+    /// The type of `this`.
+    pub fn this_type(&self, alloc: Global) -> Result<Ty, NoMemory> {
+        let mut args = Items::new(alloc);
+        for number in 0..self.scope().class_params(self.class).len() {
+            args.push(Rpl {
+                head: Head::Param(to_number(number)),
+                elems: Elems::new(alloc),
+            })?;
+        }
+        Ok(Ty::Class {
+            class: self.class,
+            args,
+        })
+    }
+}
+
+fn put_constraints(
+    alloc: Global,
+    given: &mut Items<Constraint>,
+    more: &[Constraint],
+) -> Result<(), NoMemory> {
+    for constraint in more {
+        given.push(constraint.copy(alloc)?)?;
+    }
+    Ok(())
+}
+
+fn put_params(params: &mut Scoped<bool>, rows: &[ParamRow]) -> Result<(), NoMemory> {
+    for row in rows {
+        params.enter(row.name, row.atomic)?;
+    }
+    Ok(())
+}

@@ -1,0 +1,166 @@
+use crate::env::{Env, LocalRow};
+use crate::fitting::{mentions_partial, refused, rigid_in_partial};
+use crate::found::Found;
+use dpj_arrays::{Element, IndexKind, element};
+use dpj_base::{Kind, Place, Plain, Rpl, Stop, Ty};
+use dpj_resolve::put_in;
+use dpj_tree::{Expr, ExprKind};
+use dpj_types::subst_type;
+use std::alloc::Global;
+
+/// A field as it is through a receiver.
+#[derive(Drop)]
+pub struct FieldAt {
+    pub ty: Ty,
+    pub rpl: Rpl,
+    pub may_read: bool,
+    pub may_write: bool,
+}
+
+/// The field of that name through a receiver of a class type.
+pub fn field_at(
+    alloc: Global,
+    env: &Env,
+    of: &Ty,
+    name: u32,
+    place: Place,
+) -> Result<FieldAt, Stop> {
+    let Ty::Class { class, args } = of else {
+        return Err(refused(Kind::Type, place));
+    };
+    let Some(row) = env.table.field(*class, name) else {
+        return Err(refused(Kind::Unknown, place));
+    };
+    let owned = env
+        .table
+        .args_at(alloc, *class, args.as_slice(), row.owner)?;
+    let Some(owned) = owned else {
+        return Err(refused(Kind::Type, place));
+    };
+    let args = owned.as_slice();
+    Ok(FieldAt {
+        ty: subst_type(alloc, &row.ty, args)?,
+        rpl: put_in(alloc, &row.rpl, args)?,
+        may_read: !rigid_in_partial(&row.ty, args),
+        may_write: !mentions_partial(&row.ty, args),
+    })
+}
+
+/// The type of a field that is read, or of the length of an array.
+pub fn read_field(
+    alloc: Global,
+    env: &Env,
+    found: &mut Found,
+    of: &Ty,
+    name: u32,
+    place: Place,
+) -> Result<Ty, Stop> {
+    if matches!(of, Ty::Array { .. }) && env.is_length(name) {
+        return Ok(Ty::Int);
+    }
+    let FieldAt {
+        ty,
+        rpl,
+        may_read,
+        ..
+    } = field_at(alloc, env, of, name, place)?;
+    if !may_read {
+        return Err(refused(Kind::PartialWrite, place));
+    }
+    found.access(rpl, false)?;
+    Ok(ty)
+}
+
+/// What stands for an index in the region of an element.
+fn index_kind(env: &Env, index: &Expr) -> IndexKind {
+    match &index.kind {
+        ExprKind::Int(k) => IndexKind::Lit(*k),
+        ExprKind::Local(name) => match env.index_variable(*name) {
+            Some(var) => IndexKind::Var(var),
+            None => IndexKind::Other,
+        },
+        _ => IndexKind::Other,
+    }
+}
+
+/// The element of an array at an index of which the type is given too.
+pub fn element_at(
+    alloc: Global,
+    env: &Env,
+    array: &Ty,
+    index: &Expr,
+    index_ty: &Ty,
+    place: Place,
+) -> Result<Element, Stop> {
+    if !matches!(index_ty, Ty::Int) {
+        return Err(refused(Kind::Type, place));
+    }
+    match element(alloc, array, &index_kind(env, index))? {
+        Some(found) => Ok(found),
+        None => Err(refused(Kind::Type, place)),
+    }
+}
+
+/// The type of an element that is read.
+pub fn read_element(
+    alloc: Global,
+    env: &Env,
+    found: &mut Found,
+    array: &Ty,
+    index: &Expr,
+    index_ty: &Ty,
+    place: Place,
+) -> Result<Ty, Stop> {
+    let Element {
+        ty,
+        rpl,
+        may_read,
+        ..
+    } = element_at(alloc, env, array, index, index_ty, place)?;
+    if !may_read {
+        return Err(refused(Kind::PartialWrite, place));
+    }
+    found.access(rpl, false)?;
+    Ok(ty)
+}
+
+/// An element of an array part, as it is used through the part.
+#[derive(Drop)]
+pub struct PartElement {
+    pub view: u32,
+    pub ty: Ty,
+    pub rpl: Rpl,
+}
+
+/// The element of a part at an index of which the type is given.
+pub fn part_element(
+    alloc: Global,
+    row: &LocalRow,
+    index_ty: &Ty,
+    place: Place,
+) -> Result<PartElement, Stop> {
+    if !matches!(index_ty, Ty::Int) {
+        return Err(refused(Kind::Type, place));
+    }
+    match (&row.ty, row.part) {
+        (Ty::Array { elem, rpl, .. }, Some(view)) => Ok(PartElement {
+            view,
+            ty: elem.get().copy(alloc)?,
+            rpl: rpl.copy(alloc)?,
+        }),
+        _ => Err(refused(Kind::Type, place)),
+    }
+}
+
+/// The type of an element that is read through a part.
+pub fn read_part(
+    alloc: Global,
+    found: &mut Found,
+    row: &LocalRow,
+    index_ty: &Ty,
+    place: Place,
+) -> Result<Ty, Stop> {
+    let PartElement { view, ty, rpl } = part_element(alloc, row, index_ty, place)?;
+    found.part_use(view, rpl, false)?;
+    Ok(ty)
+}

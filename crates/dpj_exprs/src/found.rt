@@ -1,0 +1,69 @@
+use dpj_base::{Effect, Items, NoMemory, PartUse, Rpl};
+use dpj_effects::EffectSet;
+use dpj_resolve::put_in;
+use std::alloc::Global;
+
+/// The effects that were found, in the order of evaluation, and the uses of array parts apart from them.
+#[derive(Drop)]
+pub struct Found {
+    pub effects: EffectSet,
+    pub uses: Items<PartUse>,
+}
+
+impl Found {
+    ghost use Rattle.std.specs.Prelude.{◌≡◌, ◌∷◌, ◌++◌, [], map, OnOk, OnErr};
+    ghost use Rattle.dpj_base.specs.Effects.{added, gathered};
+    ghost use Rattle.dpj_exprs.specs.Found.{access, part_access, effect_with};
+
+    pub fn new(alloc: Global) -> Found
+        ensures effects { result.effects ≡ [] }
+        ensures uses { result.uses ≡ [] }
+    {
+        Found {
+            effects: EffectSet::new(alloc),
+            uses: Items::new(alloc),
+        }
+    }
+
+    /// Adds a plain read or write.
+    pub fn access(&mut self, rpl: Rpl, write: bool) -> Result<(), NoMemory>
+        ensures ok { OnOk result (self.new.effects ≡ added self.old.effects (access rpl write)) }
+        ensures err { OnErr result (self.new.effects ≡ self.old.effects) }
+        ensures apart { self.new.uses ≡ self.old.uses }
+    {
+        self.effects.add(Effect {
+            write,
+            atomic: false,
+            rpl,
+        })
+    }
+
+    /// Adds a read or a write through a part of an array.
+    pub fn part_use(&mut self, view: u32, rpl: Rpl, write: bool) -> Result<(), NoMemory>
+        ensures ok { OnOk result (self.new.uses ≡ self.old.uses ++ part_access view rpl write ∷ []) }
+        ensures err { OnErr result (self.new.uses ≡ self.old.uses) }
+        ensures apart { self.new.effects ≡ self.old.effects }
+    {
+        self.uses.push(PartUse { view, rpl, write })
+    }
+
+    /// Adds the effects of a summary, with region arguments put in.
+    pub fn summary(
+        &mut self,
+        alloc: Global,
+        summary: &EffectSet,
+        args: &[Rpl],
+    ) -> Result<(), NoMemory>
+        ensures ok { OnOk result (self.new.effects ≡ gathered self.old.effects (map (effect_with args.now) summary.now)) }
+        ensures apart { self.new.uses ≡ self.old.uses }
+    {
+        for effect in summary.as_slice() {
+            self.effects.add(Effect {
+                write: effect.write,
+                atomic: effect.atomic,
+                rpl: put_in(alloc, &effect.rpl, args)?,
+            })?;
+        }
+        Ok(())
+    }
+}

@@ -1,0 +1,30 @@
+//! The types and the effects of expressions.
+//!
+//! `expr` reads one expression in an `Env`, which says what is around it: the class, the method, the locals and the
+//! local regions in scope and the constraints in force. It gives the type, notes the type of each expression in it
+//! by node number, and adds the effects to those found so far, in the order of evaluation. It refuses the first
+//! node, in post-order, that has a fault. `read_target` and `assign` do the same for what is assigned to, which isn't
+//! read.
+//!
+//! Reads and writes through a part of an array are kept apart from the other effects.
+#![tactic(auto)]
+
+mod assigned;
+mod calls;
+mod creations;
+mod env;
+mod fields;
+mod fitting;
+mod found;
+mod node_types;
+mod operations;
+mod supers;
+mod typing;
+
+pub use assigned::{Target, assign, read_target};
+pub use env::{Env, LocalRow, Mark, length_name};
+pub use fitting::fits;
+pub use found::Found;
+pub use node_types::NodeTypes;
+pub use supers::Supers;
+pub use typing::expr;

@@ -1,0 +1,212 @@
+ghost use Rattle.std.specs.Prelude.{◌≡◌, None, Some, slice_index_or, IfOk};
+
+use crate::calls::{call, read_call_args};
+use crate::creations::{array_creation, creation, read_array, read_new_args};
+use crate::env::{Env, LocalRow};
+use crate::fields::{read_element, read_field, read_part};
+use crate::fitting::refused;
+use crate::found::Found;
+use crate::node_types::NodeTypes;
+use crate::operations::{binary, unary};
+use dpj_base::{Items, Kind, NoMemory, Place, Plain, Stop, Ty};
+use dpj_resolve::IndexNames;
+use dpj_tree::{Expr, ExprKind};
+use std::alloc::Global;
+
+/// The type of an expression. The types of all expressions in it are noted, and its effects are added to those
+/// that were found.
+#[cycle(exprs)]
+pub fn expr(
+    alloc: Global,
+    env: &Env,
+    types: &mut NodeTypes,
+    found: &mut Found,
+    e: &Expr,
+) -> Result<Ty, Stop>
+    ensures { IfOk result (λ ty. slice_index_or types.new e.now.node None ≡ Some ty) }
+{
+    let ty = access(alloc, env, types, found, e)?;
+    types.note(alloc, e.node, &ty)?;
+    Ok(ty)
+}
+
+/// The type of a field or an element, or of another expression.
+#[cycle(exprs)]
+fn access(
+    alloc: Global,
+    env: &Env,
+    types: &mut NodeTypes,
+    found: &mut Found,
+    e: &Expr,
+) -> Result<Ty, Stop> {
+    match &e.kind {
+        ExprKind::Field { of, name } => match env.part(of.get()) {
+            Some(row) if env.is_length(*name) => Ok(part_length(alloc, types, of.get(), row)?),
+            _ => {
+                let of = expr(alloc, env, types, found, of.get())?;
+                read_field(alloc, env, found, &of, *name, e.place)
+            }
+        },
+        ExprKind::Element { array, index } => match env.part(array.get()) {
+            Some(row) => {
+                note_part(alloc, types, array.get(), row)?;
+                let index = expr(alloc, env, types, found, index.get())?;
+                read_part(alloc, found, row, &index, e.place)
+            }
+            None => {
+                let array = expr(alloc, env, types, found, array.get())?;
+                let index_ty = expr(alloc, env, types, found, index.get())?;
+                read_element(alloc, env, found, &array, index.get(), &index_ty, e.place)
+            }
+        },
+        _ => operation(alloc, env, types, found, e),
+    }
+}
+
+/// The type of an operation, or of another expression that is no access.
+#[cycle(exprs)]
+fn operation(
+    alloc: Global,
+    env: &Env,
+    types: &mut NodeTypes,
+    found: &mut Found,
+    e: &Expr,
+) -> Result<Ty, Stop> {
+    match &e.kind {
+        ExprKind::Unary { op, arg } => {
+            let arg = expr(alloc, env, types, found, arg.get())?;
+            unary(*op, &arg, e.place)
+        }
+        ExprKind::Binary { op, left, right } => {
+            let left = expr(alloc, env, types, found, left.get())?;
+            let right = expr(alloc, env, types, found, right.get())?;
+            binary(*op, &left, &right, e.place)
+        }
+        ExprKind::NewArray {
+            base,
+            suffixes,
+            length,
+            rpl,
+            index,
+        } => {
+            let around = IndexNames {
+                node: e.node,
+                suffixes: suffixes.as_slice(),
+                inside: 0,
+                made: *index,
+            };
+            let read = read_array(alloc, env, base, around)?;
+            let length = expr(alloc, env, types, found, length.get())?;
+            array_creation(alloc, env, read, &length, rpl.as_ref(), around, e.place)
+        }
+        _ => invocation(alloc, env, types, found, e),
+    }
+}
+
+/// The type of a call or the creation of an object, or of an expression without expressions in it.
+#[cycle(exprs)]
+fn invocation(
+    alloc: Global,
+    env: &Env,
+    types: &mut NodeTypes,
+    found: &mut Found,
+    e: &Expr,
+) -> Result<Ty, Stop> {
+    match &e.kind {
+        ExprKind::Call {
+            of,
+            regions,
+            name,
+            actuals,
+        } => {
+            let of = expr(alloc, env, types, found, of.get())?;
+            let regions = read_call_args(alloc, env, &of, *name, regions.as_slice())?;
+            let actuals = exprs(alloc, env, types, found, actuals.as_slice())?;
+            call(
+                alloc,
+                env,
+                found,
+                &of,
+                *name,
+                regions,
+                actuals.as_slice(),
+                e.place,
+            )
+        }
+        ExprKind::New {
+            class,
+            regions,
+            actuals,
+        } => {
+            let regions = read_new_args(alloc, env, *class, regions.as_slice())?;
+            let actuals = exprs(alloc, env, types, found, actuals.as_slice())?;
+            creation(
+                alloc,
+                env,
+                found,
+                *class,
+                regions,
+                actuals.as_slice(),
+                e.place,
+            )
+        }
+        _ => leaf(alloc, env, &e.kind, e.place),
+    }
+}
+
+/// The types of several expressions.
+#[cycle(exprs)]
+fn exprs(
+    alloc: Global,
+    env: &Env,
+    types: &mut NodeTypes,
+    found: &mut Found,
+    all: &[Expr],
+) -> Result<Items<Ty>, Stop> {
+    let mut made = Items::new(alloc);
+    for e in all {
+        made.push(expr(alloc, env, types, found, e)?)?;
+    }
+    Ok(made)
+}
+
+/// The type of an expression without expressions in it.
+fn leaf(alloc: Global, env: &Env, kind: &ExprKind, place: Place) -> Result<Ty, Stop> {
+    match kind {
+        ExprKind::Int(_) => Ok(Ty::Int),
+        ExprKind::Bool(_) => Ok(Ty::Bool),
+        ExprKind::Null => Ok(Ty::Null),
+        ExprKind::This => Ok(env.this_type(alloc)?),
+        ExprKind::Local(name) => local(alloc, env, *name, place),
+        _ => Err(refused(Kind::Type, place)),
+    }
+}
+
+/// The type of a local. A part of an array isn't used by its name alone.
+fn local(alloc: Global, env: &Env, name: u32, place: Place) -> Result<Ty, Stop> {
+    match env.local(name) {
+        None => Err(refused(Kind::Unknown, place)),
+        Some(row) if row.part.is_some() => Err(refused(Kind::Type, place)),
+        Some(row) => Ok(row.ty.copy(alloc)?),
+    }
+}
+
+/// Notes the type of a part at the expression that names it.
+pub fn note_part(
+    alloc: Global,
+    types: &mut NodeTypes,
+    e: &Expr,
+    row: &LocalRow,
+) -> Result<(), NoMemory> {
+    types.note(alloc, e.node, &row.ty)
+}
+
+fn part_length(
+    alloc: Global,
+    types: &mut NodeTypes,
+    e: &Expr,
+    row: &LocalRow,
+) -> Result<Ty, NoMemory> {
+    note_part(alloc, types, e, row)?;
+    Ok(Ty::Int)
+}

@@ -1,0 +1,153 @@
+-- Paths of different groups are apart.
+use Rattle.std.proofs.Common.{◌≡◌, ◌≢◌, ℕ, ◌<◌, suc, Bool, true, false, not, ◌&&◌, ◌||◌, cond, List, [], ◌∷◌, ◌++◌, length, reverse, Option, Some, None, refl, sym, ap, ◌∙◌, subst, inl, inr, ◌⊎◌, ⊎_elim, arith}
+use Rattle.std.proofs.lemmas.Bool.{and_parts, and_from, or_left, or_right, false≢true, cases_Bool}
+use Rattle.std.proofs.lemmas.List.{reverse-append}
+use Rattle.dpj_base.specs.declared.elems.Elem.{Elem}
+use Rattle.dpj_base.specs.declared.elems.Elem.TheVariants.{Name, Lit, Var, Any, Star, Local}
+use Rattle.dpj_base.specs.declared.region.Head.{Head}
+use Rattle.dpj_base.specs.declared.region.Rpl.{Rpl}
+use Rattle.dpj_base.specs.declared.effect.Effect.{Effect}
+use Rattle.dpj_base.specs.declared.effect.Constraint.{Constraint}
+use Rattle.dpj_base.specs.Regions.{is_star, is_root, same_elem, same_head}
+use Rattle.dpj_base.specs.Apart.{distinct, apart_front, solid, shorter, apart_as_shorter, apart}
+use Rattle.dpj_base.specs.Matching.{is_concrete, all_concrete}
+use Rattle.dpj_effects.specs.Index.{elem_number, mixed}
+use Rattle.dpj_regions.proofs.Inclusion.{same_elem-is}
+use Rattle.dpj_disjoint.proofs.Lists.{front-step, solid-one, shorter-from}
+use Rattle.dpj_disjoint.proofs.Paths.{same_head-is, same_head-refl, by_rule}
+use Rattle.dpj_interfere.specs.declared.key.Key.{Key}
+use Rattle.dpj_interfere.specs.declared.key.Key.TheVariants.{First, Last, Whole}
+use Rattle.dpj_interfere.specs.Groups.{fixed_number, first_number, last_number, key_of}
+
+cond-some : (b : Bool) (n p : ℕ) → cond b (Some n) None ≡ Some p → (b ≡ true) × (n ≡ p)
+cond-some true n p e = (refl, cc)
+cond-some false n p e = absurd (cc)
+
+cond-known : (b : Bool) (o : Option ℕ) (p : ℕ) → cond b o None ≡ Some p → (b ≡ true) × (o ≡ Some p)
+cond-known true o p e = (refl, e)
+cond-known false o p e = absurd (cc)
+
+concrete-no_star : (x : Elem) → is_concrete x ≡ true → is_star x ≡ false
+concrete-no_star Star h = absurd (false≢true h)
+concrete-no_star x h = refl
+
+-- two elements that stand for themselves alone are the same or distinct
+same_or_distinct : (x y : Elem) → is_concrete x ≡ true → is_concrete y ≡ true → (x ≡ y) ⊎ (distinct x y ≡ true)
+same_or_distinct (Var v) y h k = absurd (false≢true h)
+same_or_distinct Any y h k = absurd (false≢true h)
+same_or_distinct Star y h k = absurd (false≢true h)
+same_or_distinct (Name m) (Name n) h k =
+    ⊎_elim (λ t. inl (same_elem-is (Name m) (Name n) t)) (λ f. inr (ap not f)) (cases_Bool (same_elem (Name m) (Name n)))
+same_or_distinct (Lit m) (Lit n) h k =
+    ⊎_elim (λ t. inl (same_elem-is (Lit m) (Lit n) t)) (λ f. inr (ap not f)) (cases_Bool (same_elem (Lit m) (Lit n)))
+same_or_distinct (Local a b) (Local c d) h k =
+    ⊎_elim (λ t. inl (same_elem-is (Local a b) (Local c d) t)) (λ f. inr (ap not f)) (cases_Bool (same_elem (Local a b) (Local c d)))
+same_or_distinct x (Var v) h k = absurd (false≢true k)
+same_or_distinct x Any h k = absurd (false≢true k)
+same_or_distinct x Star h k = absurd (false≢true k)
+same_or_distinct x y h k = inr refl
+
+distinct-front : (x y : Elem) (a b : List Elem) → is_concrete x ≡ true → is_concrete y ≡ true → distinct x y ≡ true → apart_front (x ∷ a) (y ∷ b) ≡ true
+distinct-front x y a b h k d = front-step x y a b (concrete-no_star x h) (concrete-no_star y k) ∙ or_left _ _ d
+
+-- lists that begin with elements of different numbers
+numbers-front : (x y : Elem) (a b : List Elem) (p q : ℕ) → fixed_number x ≡ Some p → fixed_number y ≡ Some q → p ≢ q → apart_front (x ∷ a) (y ∷ b) ≡ true
+numbers-front x y a b p q e f ne =
+    let m = cond-some (is_concrete x) (elem_number x) p e in
+    let n = cond-some (is_concrete y) (elem_number y) q f in
+    ⊎_elim
+    (λ s. absurd (ne (sym m.1 ∙ ap elem_number s ∙ n.1)))
+    (λ d. distinct-front x y a b m.0 n.0 d)
+    (same_or_distinct x y m.0 n.0)
+
+firsts-front : (a b : List Elem) (p q : ℕ) → first_number a ≡ Some p → first_number b ≡ Some q → p ≢ q → apart_front a b ≡ true
+firsts-front [] b p q e f ne = absurd (cc)
+firsts-front (x ∷ a) [] p q e f ne = absurd (cc)
+firsts-front (x ∷ a) (y ∷ b) p q e f ne = numbers-front x y a b p q e f ne
+
+-- the last element of a list, and what stands before it
+abbrev Ends : List Elem → ℕ → Type 0
+Ends a p = (l : List Elem) × (x : Elem) × (a ≡ l ++ x ∷ []) × (fixed_number x ≡ Some p)
+
+last-ends : (o : Option ℕ) (a : List Elem) (p : ℕ) → last_number o a ≡ Some p → ((a ≡ []) × (o ≡ Some p)) ⊎ Ends a p
+last-ends o [] p e = inl (refl, e)
+last-ends o (x ∷ a) p e =
+    ⊎_elim
+    (λ h. inr ([], x, ap (λ z. x ∷ z) h.0, h.1))
+    (λ h. inr (x ∷ h.0, h.1, ap (λ z. x ∷ z) h.2, h.3))
+    (last-ends (fixed_number x) a p e)
+
+ends : (a : List Elem) (p : ℕ) → last_number None a ≡ Some p → Ends a p
+ends a p e = ⊎_elim (λ h. let none = h.1 in absurd (cc)) (λ h. h) (last-ends None a p e)
+
+lasts-front : (a b : List Elem) (p q : ℕ) → last_number None a ≡ Some p → last_number None b ≡ Some q → p ≢ q → apart_front (reverse a) (reverse b) ≡ true
+lasts-front a b p q e f ne =
+    let m = ends a p e in
+    let n = ends b q f in
+    let r : reverse a ≡ m.1 ∷ reverse m.0 = ap reverse m.2 ∙ reverse-append m.0 (m.1 ∷ []) in
+    let s : reverse b ≡ n.1 ∷ reverse n.0 = ap reverse n.2 ∙ reverse-append n.0 (n.1 ∷ []) in
+    ap (λ z. apart_front z (reverse b)) r ∙ ap (apart_front (m.1 ∷ reverse m.0)) s
+    ∙ numbers-front m.1 n.1 (reverse m.0) (reverse n.0) p q m.3 n.3 ne
+
+solid-concrete : (a : List Elem) → all_concrete a ≡ true → solid a ≡ length a
+solid-concrete [] h = refl
+solid-concrete (x ∷ a) h =
+    let p = and_parts (is_concrete x) _ h in
+    let r = solid-concrete a p.1 in
+    let s = solid-one x a (concrete-no_star x p.0) in
+    omega arith
+
+-- how two lists of elements that stand for themselves differ
+abbrev Differ : List Elem → List Elem → Type 0
+Differ a b = (apart_front a b ≡ true) ⊎ ((length a < length b) ⊎ (length b < length a))
+
+same-or-differ : (a b : List Elem) → all_concrete a ≡ true → all_concrete b ≡ true → (a ≡ b) ⊎ Differ a b
+same-or-differ [] [] h k = inl refl
+same-or-differ [] (y ∷ b) h k = inr (inr (inl (omega arith)))
+same-or-differ (x ∷ a) [] h k = inr (inr (inr (omega arith)))
+same-or-differ (x ∷ a) (y ∷ b) h k =
+    let p = and_parts (is_concrete x) _ h in
+    let q = and_parts (is_concrete y) _ k in
+    ⊎_elim
+    (λ s. ⊎_elim
+    (λ t. inl (ap (λ z. z ∷ a) s ∙ ap (λ z. y ∷ z) t))
+    (λ d. inr (⊎_elim
+    (λ front. inl (front-step x y a b (concrete-no_star x p.0) (concrete-no_star y q.0) ∙ or_right (distinct x y) _ front))
+    (λ l. inr (⊎_elim (λ (lt : length a < length b). inl (omega arith)) (λ (gt : length b < length a). inr (omega arith)) l))
+    d))
+    (same-or-differ a b p.1 q.1))
+    (λ d. inr (inl (distinct-front x y a b p.0 q.0 d)))
+    (same_or_distinct x y p.0 q.0)
+
+heads-same : (g h k : Head) → same_head g k ≡ true → same_head h k ≡ true → same_head g h ≡ true
+heads-same g h k a b = subst (λ z. same_head g z ≡ true) (same_head-is g k a ∙ sym (same_head-is h k b)) (same_head-refl g)
+
+longer-apart : (a b : Rpl) → same_head a.head b.head ≡ true → all_concrete a.elems ≡ true → all_concrete b.elems ≡ true → length a.elems < length b.elems → apart_as_shorter a b ≡ true
+longer-apart a b s h k lt =
+    let c = solid-concrete a.elems h in
+    let d = solid-concrete b.elems k in
+    and_from _ _ (or_left _ _ s) (shorter-from a.elems b.elems c (omega arith))
+
+pub keys-apart : (given : List Constraint) (key : Key) (e f : Effect) (p q : ℕ) → key_of key e ≡ Some p → key_of key f ≡ Some q → p ≢ q → apart given e.rpl f.rpl ≡ true
+keys-apart given (First h) e f p q m n ne =
+    let a = cond-known (same_head e.rpl.head h) (first_number e.rpl.elems) p m in
+    let b = cond-known (same_head f.rpl.head h) (first_number f.rpl.elems) q n in
+    by_rule given e.rpl f.rpl (inl (and_from _ _ (heads-same e.rpl.head f.rpl.head h a.0 b.0) (firsts-front e.rpl.elems f.rpl.elems p q a.1 b.1 ne)))
+keys-apart given Last e f p q m n ne = by_rule given e.rpl f.rpl (inr (inr (inl (lasts-front e.rpl.elems f.rpl.elems p q m n ne))))
+keys-apart given (Whole h) e f p q m n ne =
+    let a = cond-some (same_head e.rpl.head h && all_concrete e.rpl.elems) (mixed 7 e.rpl.elems) p m in
+    let b = cond-some (same_head f.rpl.head h && all_concrete f.rpl.elems) (mixed 7 f.rpl.elems) q n in
+    let c = and_parts (same_head e.rpl.head h) _ a.0 in
+    let d = and_parts (same_head f.rpl.head h) _ b.0 in
+    let s = heads-same e.rpl.head f.rpl.head h c.0 d.0 in
+    let t = heads-same f.rpl.head e.rpl.head h d.0 c.0 in
+    ⊎_elim
+    (λ same. absurd (ne (sym a.1 ∙ ap (mixed 7) same ∙ b.1)))
+    (λ differ. by_rule given e.rpl f.rpl (⊎_elim
+    (λ front. inl (and_from _ _ s front))
+    (λ l. inr (inl (⊎_elim
+    (λ lt. or_left _ _ (longer-apart e.rpl f.rpl s c.1 d.1 lt))
+    (λ gt. or_right (apart_as_shorter e.rpl f.rpl) _ (longer-apart f.rpl e.rpl t d.1 c.1 gt))
+    l)))
+    differ))
+    (same-or-differ e.rpl.elems f.rpl.elems c.1 d.1)

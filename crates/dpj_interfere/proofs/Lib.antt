@@ -1,0 +1,5 @@
+pub mod Alone
+pub mod Filtered
+pub mod Keys
+pub mod Noted
+pub mod Transport

@@ -1,0 +1,9 @@
+use Rattle.std.proofs.Common.{length}
+use Rattle.dpj_parse.specs.Progress.{Reads}
+use Rattle.dpj_parse.proofs.region.declared.Given as goal
+
+abbrev pub invariant-loop-list : goal.invariant-loop-list
+invariant-loop-list l = Reads 0 l.fn.cursor l.cursor
+
+abbrev pub decreases-loop-list : goal.decreases-loop-list
+decreases-loop-list l = length l.cursor.rest.now

@@ -1,0 +1,9 @@
+use Rattle.std.proofs.Common.{length}
+use Rattle.dpj_parse.specs.Progress.{Keeps}
+use Rattle.dpj_parse.proofs.types.suffixes.Given as goal
+
+abbrev pub invariant-loop-alloc : goal.invariant-loop-alloc
+invariant-loop-alloc l = Keeps l.fn.cursor l.cursor
+
+abbrev pub decreases-loop-alloc : goal.decreases-loop-alloc
+decreases-loop-alloc l = length l.cursor.rest.now

@@ -1,0 +1,156 @@
+-- The grammar of expressions, with their trees.
+use Rattle.std.specs.Prelude.{ℕ, suc, ◌≤◌, ℤ, List, true, false}
+use Rattle.dpj_base.specs.declared.place.Place.{Place}
+use Rattle.dpj_tokens.specs.declared.token.Symbol.{Symbol}
+use Rattle.dpj_tokens.specs.declared.token.Keyword.{Keyword}
+use Rattle.dpj_terminals.specs.declared.terminal.Placed.{Placed}
+use Rattle.dpj_terminals.specs.declared.terminal.Terminal.TheVariants as terminal
+use Rattle.dpj_tree.specs.declared.region.Named.{Named}
+use Rattle.dpj_tree.specs.declared.region.RplTree.{RplTree}
+use Rattle.dpj_tree.specs.declared.region.BaseTree.{BaseTree}
+use Rattle.dpj_tree.specs.declared.region.Suffix.{Suffix}
+use Rattle.dpj_tree.specs.declared.expr.UnaryOp.{UnaryOp}
+use Rattle.dpj_tree.specs.declared.expr.UnaryOp.TheVariants as unary_op
+use Rattle.dpj_tree.specs.declared.expr.BinaryOp.{BinaryOp}
+use Rattle.dpj_tree.specs.declared.expr.BinaryOp.TheVariants as binary_op
+use Rattle.dpj_tree.specs.Plain.{PlainExpr, expression, ExprForm, int, boolean, null, this, local, field, element, call, create, create_array, unary, binary, PlainExprs, no_exprs, more_exprs}
+use Rattle.dpj_parse.specs.Taking.{Takes, TakesSymbol, TakesKeyword, TakesName, Many}
+use Rattle.dpj_parse.specs.Paths.{DerivesArgs}
+use Rattle.dpj_parse.specs.Types.{DerivesBase, DerivesBehind, DerivesSuffix}
+
+-- the symbol of an operator
+abbrev pub symbol_of : BinaryOp → Symbol
+symbol_of binary_op.Or = Symbol.Or
+symbol_of binary_op.And = Symbol.And
+symbol_of binary_op.Eq = Symbol.Equal
+symbol_of binary_op.Ne = Symbol.NotEqual
+symbol_of binary_op.Lt = Symbol.Less
+symbol_of binary_op.Le = Symbol.AtMost
+symbol_of binary_op.Gt = Symbol.Greater
+symbol_of binary_op.Ge = Symbol.AtLeast
+symbol_of binary_op.Add = Symbol.Plus
+symbol_of binary_op.Sub = Symbol.Minus
+symbol_of binary_op.Mul = Symbol.Star
+symbol_of binary_op.Div = Symbol.Slash
+symbol_of binary_op.Rem = Symbol.Percent
+
+abbrev pub unary_symbol : UnaryOp → Symbol
+unary_symbol unary_op.Neg = Symbol.Minus
+unary_symbol unary_op.Not = Symbol.Not
+
+-- the level of its productions: 0 for Expr, 1 for And, 2 for Equal, 3 for Compare, 4 for Sum and 5 for Product
+abbrev pub level_of : BinaryOp → ℕ
+level_of binary_op.Or = 0
+level_of binary_op.And = 1
+level_of binary_op.Eq = 2
+level_of binary_op.Ne = 2
+level_of binary_op.Lt = 3
+level_of binary_op.Le = 3
+level_of binary_op.Gt = 3
+level_of binary_op.Ge = 3
+level_of binary_op.Add = 4
+level_of binary_op.Sub = 4
+level_of binary_op.Mul = 5
+level_of binary_op.Div = 5
+level_of binary_op.Rem = 5
+
+-- the level of its left operand: operators of one level group to the left, and no comparison compares another
+abbrev pub left_level : BinaryOp → ℕ
+left_level binary_op.Or = 0
+left_level binary_op.And = 1
+left_level binary_op.Eq = 2
+left_level binary_op.Ne = 2
+left_level binary_op.Lt = 4
+left_level binary_op.Le = 4
+left_level binary_op.Gt = 4
+left_level binary_op.Ge = 4
+left_level binary_op.Add = 4
+left_level binary_op.Sub = 4
+left_level binary_op.Mul = 5
+left_level binary_op.Div = 5
+left_level binary_op.Rem = 5
+
+-- what a Postfix ends as
+pub data Ending : Type 0 where
+  as_value : Ending
+  as_name : Ending
+  as_field : Ending
+  as_element : Ending
+  as_call : Ending
+  as_creation : Ending
+
+mutual
+  -- Expr, And, Equal, Compare, Sum and Product, by their levels
+  pub data DerivesLevel : ℕ → List Placed → List Placed → PlainExpr → Type 0 where
+    operand : {level : ℕ} {before after : List Placed} {e : PlainExpr} → DerivesUnary before after e → DerivesLevel level before after e
+    operation : {level : ℕ} {op : BinaryOp} {before one two after : List Placed} {left right : PlainExpr} {node : ℕ} {place : Place} →
+        level ≤ level_of op →
+        DerivesLevel (left_level op) before one left → TakesSymbol (symbol_of op) one two place → DerivesLevel (suc (level_of op)) two after right →
+        DerivesLevel level before after (expression node place (binary op left right))
+
+  -- Unary = ( "-" | "!" ) Unary | Postfix | NewArray
+  pub data DerivesUnary : List Placed → List Placed → PlainExpr → Type 0 where
+    operator : {op : UnaryOp} {before one after : List Placed} {arg : PlainExpr} {node : ℕ} {place : Place} →
+        TakesSymbol (unary_symbol op) before one place → DerivesUnary one after arg → DerivesUnary before after (expression node place (unary op arg))
+    postfix : {ending : Ending} {before after : List Placed} {e : PlainExpr} → DerivesPostfix ending before after e → DerivesUnary before after e
+    new_array : {before after : List Placed} {e : PlainExpr} → DerivesNewArray before after e → DerivesUnary before after e
+
+  -- Postfix = Primary { "." Name | "." [ Args ] Name "(" [ Actuals ] ")" | "[" Expr "]" }
+  pub data DerivesPostfix : Ending → List Placed → List Placed → PlainExpr → Type 0 where
+    primary : {ending : Ending} {before after : List Placed} {e : PlainExpr} → DerivesPrimary ending before after e → DerivesPostfix ending before after e
+    behind_dot : {ending : Ending} {before one two after : List Placed} {of : PlainExpr} {named : Named} {node : ℕ} {dot : Place} →
+        DerivesPostfix ending before one of → TakesSymbol Symbol.Dot one two dot → TakesName two after named →
+        DerivesPostfix as_field before after (expression node named.place (field of named.name))
+    called : {ending : Ending} {before one two three four after : List Placed} {of : PlainExpr} {regions : List RplTree} {named : Named} {actuals : PlainExprs} {node : ℕ} {dot : Place} →
+        DerivesPostfix ending before one of → TakesSymbol Symbol.Dot one two dot → DerivesArgs two three regions → TakesName three four named → DerivesActuals four after actuals →
+        DerivesPostfix as_call before after (expression node named.place (call of regions named.name actuals))
+    indexed : {ending : Ending} {before one two three after : List Placed} {array at : PlainExpr} {node : ℕ} {place close_at : Place} →
+        DerivesPostfix ending before one array → TakesSymbol Symbol.OpenBracket one two place → DerivesLevel 0 two three at → TakesSymbol Symbol.CloseBracket three after close_at →
+        DerivesPostfix as_element before after (expression node place (element array at))
+
+  -- what stands in parentheses ends as a value, so that it is neither assigned to nor a statement
+  -- Primary = Int | "true" | "false" | "null" | "this" | Name | "(" Expr ")" | "new" Name [ Args ] "(" [ Actuals ] ")"
+  pub data DerivesPrimary : Ending → List Placed → List Placed → PlainExpr → Type 0 where
+    number : {before after : List Placed} {n : ℤ} {node : ℕ} {place : Place} →
+        Takes (terminal.Int n) before after place → DerivesPrimary as_value before after (expression node place (int n))
+    yes : {before after : List Placed} {node : ℕ} {place : Place} →
+        TakesKeyword Keyword.True before after place → DerivesPrimary as_value before after (expression node place (boolean true))
+    no : {before after : List Placed} {node : ℕ} {place : Place} →
+        TakesKeyword Keyword.False before after place → DerivesPrimary as_value before after (expression node place (boolean false))
+    nothing : {before after : List Placed} {node : ℕ} {place : Place} →
+        TakesKeyword Keyword.Null before after place → DerivesPrimary as_value before after (expression node place null)
+    receiver : {before after : List Placed} {node : ℕ} {place : Place} →
+        TakesKeyword Keyword.This before after place → DerivesPrimary as_value before after (expression node place this)
+    name : {before after : List Placed} {named : Named} {node : ℕ} →
+        TakesName before after named → DerivesPrimary as_name before after (expression node named.place (local named.name))
+    parenthesised : {before one two after : List Placed} {e : PlainExpr} {open_at close_at : Place} →
+        TakesSymbol Symbol.OpenParen before one open_at → DerivesLevel 0 one two e → TakesSymbol Symbol.CloseParen two after close_at →
+        DerivesPrimary as_value before after e
+    creation : {before one two three after : List Placed} {class : Named} {regions : List RplTree} {actuals : PlainExprs} {node : ℕ} {place : Place} →
+        TakesKeyword Keyword.New before one place → TakesName one two class → DerivesArgs two three regions → DerivesActuals three after actuals →
+        DerivesPrimary as_creation before after (expression node place (create class regions actuals))
+
+  -- NewArray = "new" Base { "[" "]" [ "<" Rpl ">" ] [ "#" Name ] } "[" Expr "]" [ "<" Rpl ">" ] [ "#" Name ]
+  pub data DerivesNewArray : List Placed → List Placed → PlainExpr → Type 0 where
+    array : {before one two three four five six after : List Placed} {start : BaseTree} {suffixes : List Suffix} {len : PlainExpr} {own : Suffix} {node : ℕ} {place open_at close_at : Place} →
+        TakesKeyword Keyword.New before one place → DerivesBase one two start → Many DerivesSuffix two three suffixes →
+        TakesSymbol Symbol.OpenBracket three four open_at → DerivesLevel 0 four five len → TakesSymbol Symbol.CloseBracket five six close_at → DerivesBehind six after own →
+        DerivesNewArray before after (expression node place (create_array start suffixes len own.rpl own.index))
+
+  -- "(" [ Actuals ] ")", where Actuals = Expr { "," Expr }
+  pub data DerivesActuals : List Placed → List Placed → PlainExprs → Type 0 where
+    no_actuals : {before one after : List Placed} {open_at close_at : Place} →
+        TakesSymbol Symbol.OpenParen before one open_at → TakesSymbol Symbol.CloseParen one after close_at → DerivesActuals before after no_exprs
+    actuals : {before one two three after : List Placed} {e : PlainExpr} {es : PlainExprs} {open_at close_at : Place} →
+        TakesSymbol Symbol.OpenParen before one open_at → DerivesLevel 0 one two e → DerivesFurther two three es → TakesSymbol Symbol.CloseParen three after close_at →
+        DerivesActuals before after (more_exprs e es)
+
+  -- { "," Expr }
+  pub data DerivesFurther : List Placed → List Placed → PlainExprs → Type 0 where
+    end : {here : List Placed} → DerivesFurther here here no_exprs
+    further : {before one two after : List Placed} {e : PlainExpr} {es : PlainExprs} {comma : Place} →
+        TakesSymbol Symbol.Comma before one comma → DerivesLevel 0 one two e → DerivesFurther two after es → DerivesFurther before after (more_exprs e es)
+
+-- Expr
+abbrev pub DerivesExpr : List Placed → List Placed → PlainExpr → Type 0
+DerivesExpr before after e = DerivesLevel 0 before after e

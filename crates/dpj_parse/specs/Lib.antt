@@ -1,0 +1,7 @@
+pub mod Taking
+pub mod Paths
+pub mod Types
+pub mod Expressions
+pub mod Statements
+pub mod Classes
+pub mod Progress

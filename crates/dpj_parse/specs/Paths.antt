@@ -1,0 +1,60 @@
+-- The grammar of region paths, with their trees.
+use Rattle.std.specs.Prelude.{◌≡◌, ℕ, ℤ, List, [], ◌∷◌, Option, Some, None}
+use Rattle.dpj_base.specs.declared.place.Place.{Place}
+use Rattle.dpj_tokens.specs.declared.token.Symbol.{Symbol}
+use Rattle.dpj_tokens.specs.declared.token.Keyword.{Keyword}
+use Rattle.dpj_terminals.specs.declared.terminal.Placed.{Placed}
+use Rattle.dpj_terminals.specs.declared.terminal.Terminal.TheVariants as terminal
+use Rattle.dpj_tree.specs.declared.region.Named.{Named}
+use Rattle.dpj_tree.specs.declared.region.RName.{RName}
+use Rattle.dpj_tree.specs.declared.region.RplHead.{RplHead}
+use Rattle.dpj_tree.specs.declared.region.RplHead.TheVariants as head
+use Rattle.dpj_tree.specs.declared.region.ElemTree.{ElemTree}
+use Rattle.dpj_tree.specs.declared.region.ElemTree.TheVariants as elem
+use Rattle.dpj_tree.specs.declared.region.RplTree.{RplTree}
+use Rattle.dpj_parse.specs.Taking.{Takes, TakesSymbol, TakesKeyword, TakesName, StandsAt, Listed, Many}
+
+-- RName = Name [ "." Name ]
+pub data DerivesRName : List Placed → List Placed → RName → Type 0 where
+  one_name : {before after : List Placed} {first : Named} →
+      TakesName before after first → DerivesRName before after (record { first = first; second = None })
+  two_names : {before one two after : List Placed} {first second : Named} {dot : Place} →
+      TakesName before one first → TakesSymbol Symbol.Dot one two dot → TakesName two after second →
+      DerivesRName before after (record { first = first; second = Some second })
+
+-- "Root" | RName
+pub data DerivesHead : List Placed → List Placed → RplHead → Type 0 where
+  root : {before after : List Placed} {place : Place} → TakesKeyword Keyword.Root before after place → DerivesHead before after head.Root
+  name : {before after : List Placed} {name : RName} → DerivesRName before after name → DerivesHead before after (head.Name name)
+
+-- Elem = RName | "*" | "[" ( Int | Name | "?" ) "]"
+pub data DerivesElem : List Placed → List Placed → ElemTree → Type 0 where
+  name : {before after : List Placed} {name : RName} → DerivesRName before after name → DerivesElem before after (elem.Name name)
+  star : {before after : List Placed} {place : Place} → TakesSymbol Symbol.Star before after place → DerivesElem before after elem.Star
+  number : {before one two after : List Placed} {n : ℤ} {open_at at close_at : Place} →
+      TakesSymbol Symbol.OpenBracket before one open_at → Takes (terminal.Int n) one two at → TakesSymbol Symbol.CloseBracket two after close_at →
+      DerivesElem before after (elem.Lit n)
+  index : {before one two after : List Placed} {named : Named} {open_at close_at : Place} →
+      TakesSymbol Symbol.OpenBracket before one open_at → TakesName one two named → TakesSymbol Symbol.CloseBracket two after close_at →
+      DerivesElem before after (elem.Index named)
+  any : {before one two after : List Placed} {open_at at close_at : Place} →
+      TakesSymbol Symbol.OpenBracket before one open_at → TakesSymbol Symbol.Question one two at → TakesSymbol Symbol.CloseBracket two after close_at →
+      DerivesElem before after elem.Any
+
+-- ":" Elem
+pub data DerivesNext : List Placed → List Placed → ElemTree → Type 0 where
+  next : {before one after : List Placed} {tree : ElemTree} {colon : Place} →
+      TakesSymbol Symbol.Colon before one colon → DerivesElem one after tree → DerivesNext before after tree
+
+-- Rpl = ( "Root" | RName ) { ":" Elem }, at its first terminal
+pub data DerivesRpl : List Placed → List Placed → RplTree → Type 0 where
+  path : {before one after : List Placed} {start : RplHead} {elems : List ElemTree} {node : ℕ} {place : Place} →
+      StandsAt before place → DerivesHead before one start → Many DerivesNext one after elems →
+      DerivesRpl before after (record { node = node; place = place; head = start; elems = elems })
+
+-- [ Args ], where Args = "<" Rpl { "," Rpl } ">"
+pub data DerivesArgs : List Placed → List Placed → List RplTree → Type 0 where
+  no_args : {here : List Placed} → DerivesArgs here here []
+  args : {before one two after : List Placed} {paths : List RplTree} {open_at close_at : Place} →
+      TakesSymbol Symbol.Less before one open_at → Listed DerivesRpl one two paths → TakesSymbol Symbol.Greater two after close_at →
+      DerivesArgs before after paths

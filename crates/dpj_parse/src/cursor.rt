@@ -1,0 +1,224 @@
+ghost use Rattle.std.specs.Prelude.{◌≡◌, ◌+◌, ◌<◌, ◌≤◌, ◌^◌, length, OnOk, IfOk, IsTrue, ◌↔◌};
+
+use dpj_base::{Kind, Place, Refusal, Stop};
+use dpj_terminals::{Placed, Terminal};
+use dpj_tokens::{Keyword, Symbol};
+use dpj_tree::Named;
+
+/// How deep a text may nest, and how many operators, elements and suffixes may follow each other.
+pub const MOST: u32 = 32;
+
+/// Where the reading of a text stands.
+#[derive(Clone, Copy)]
+pub struct Cursor<'a> {
+    /// The terminals that are still to come.
+    pub rest: &'a [Placed],
+    /// The place behind the text.
+    pub end: Place,
+    /// The number of the next node.
+    pub node: u32,
+    /// How many brackets are open, and how many bodies without braces we stand in.
+    pub level: u32,
+    /// How many operators, dots and brackets the expression level has so far.
+    pub joined: u32,
+
+    /// A text has at most one node a token.
+    pub ghost room: { node + length rest.now < 2097152 },
+
+    /// No terminal is taken at a level over the greatest.
+    pub ghost deep: { level ≤ 33 },
+}
+
+impl<'a> Cursor<'a> {
+    ghost use Rattle.dpj_parse.specs.Progress.{Reads, ReadsIf, Opens, Closes, Numbers};
+
+    /// The next terminal.
+    pub fn next(&self) -> Option<&'a Terminal> {
+        match self.rest {
+            [first, ..] => Some(&first.terminal),
+            [] => None,
+        }
+    }
+
+    /// The terminal behind the next one.
+    pub fn second(&self) -> Option<&'a Terminal> {
+        match self.rest {
+            [_, second, ..] => Some(&second.terminal),
+            _ => None,
+        }
+    }
+
+    /// The terminal behind the second one.
+    pub fn third(&self) -> Option<&'a Terminal> {
+        match self.rest {
+            [_, _, third, ..] => Some(&third.terminal),
+            _ => None,
+        }
+    }
+
+    /// The place of the next terminal, or the end.
+    pub fn place(&self) -> Place {
+        match self.rest {
+            [first, ..] => first.place,
+            [] => self.end,
+        }
+    }
+
+    pub fn is_symbol(&self, symbol: Symbol) -> bool {
+        match self.next() {
+            Some(Terminal::Symbol(next)) => *next == symbol,
+            _ => false,
+        }
+    }
+
+    pub fn is_keyword(&self, keyword: Keyword) -> bool {
+        match self.next() {
+            Some(Terminal::Keyword(next)) => *next == keyword,
+            _ => false,
+        }
+    }
+
+    /// No program goes on with the next terminal, or the text ends too early.
+    pub fn unexpected(&self) -> Stop {
+        Stop::Refused(Refusal {
+            kind: Kind::Syntax,
+            place: self.place(),
+        })
+    }
+
+    /// The next terminal is one too many.
+    pub fn too_many(&self) -> Stop {
+        Stop::Refused(Refusal {
+            kind: Kind::Nest,
+            place: self.place(),
+        })
+    }
+
+    /// Takes the next terminal, which the grammar has here.
+    pub fn accept(&mut self) -> Result<(), Stop>
+        ensures { OnOk result (Reads 1 self.old self.new) }
+    {
+        match self.rest {
+            [] => Err(self.unexpected()),
+            [_, behind @ ..] => {
+                if self.level > MOST {
+                    return Err(self.too_many());
+                }
+                self.rest = behind;
+                Ok(())
+            }
+        }
+    }
+
+    /// Takes a symbol, and tells where it stands.
+    pub fn symbol(&mut self, symbol: Symbol) -> Result<Place, Stop>
+        ensures { OnOk result (Reads 1 self.old self.new) }
+    {
+        if !self.is_symbol(symbol) {
+            return Err(self.unexpected());
+        }
+        let place = self.place();
+        self.accept()?;
+        Ok(place)
+    }
+
+    /// Takes a keyword, and tells where it stands.
+    pub fn keyword(&mut self, keyword: Keyword) -> Result<Place, Stop>
+        ensures { OnOk result (Reads 1 self.old self.new) }
+    {
+        if !self.is_keyword(keyword) {
+            return Err(self.unexpected());
+        }
+        let place = self.place();
+        self.accept()?;
+        Ok(place)
+    }
+
+    /// Takes a symbol where it comes next.
+    pub fn symbol_if(&mut self, symbol: Symbol) -> Result<bool, Stop>
+        ensures { IfOk result (λ found. ReadsIf found self.old self.new) }
+    {
+        if !self.is_symbol(symbol) {
+            return Ok(false);
+        }
+        self.accept()?;
+        Ok(true)
+    }
+
+    /// Takes a keyword where it comes next.
+    pub fn keyword_if(&mut self, keyword: Keyword) -> Result<bool, Stop>
+        ensures { IfOk result (λ found. ReadsIf found self.old self.new) }
+    {
+        if !self.is_keyword(keyword) {
+            return Ok(false);
+        }
+        self.accept()?;
+        Ok(true)
+    }
+
+    /// Takes a name.
+    pub fn name(&mut self) -> Result<Named, Stop>
+        ensures { OnOk result (Reads 1 self.old self.new) }
+    {
+        let Some(Terminal::Name(name)) = self.next() else {
+            return Err(self.unexpected());
+        };
+        let place = self.place();
+        self.accept()?;
+        Ok(Named { name: *name, place })
+    }
+
+    /// Takes a bracket, and tells where it stands. What follows is a level deeper.
+    pub fn open(&mut self, bracket: Symbol) -> Result<Place, Stop>
+        ensures { OnOk result (Opens self.old self.new) }
+    {
+        let place = self.symbol(bracket)?;
+        self.level += 1;
+        Ok(place)
+    }
+
+    /// Takes the bracket that closes the level.
+    pub fn close(&mut self, bracket: Symbol) -> Result<(), Stop>
+        requires { 1 ≤ self.old.level }
+        ensures { OnOk result (Closes self.old self.new) }
+    {
+        self.symbol(bracket)?;
+        self.level -= 1;
+        Ok(())
+    }
+
+    /// Takes an operator, a dot or a bracket of an expression, and tells where it stands.
+    pub fn join(&mut self) -> Result<Place, Stop>
+        ensures { OnOk result (Reads 1 self.old self.new) }
+    {
+        let place = self.place();
+        if self.joined >= MOST {
+            return Err(self.too_many());
+        }
+        self.joined += 1;
+        self.accept()?;
+        Ok(place)
+    }
+
+    /// Takes a `[` of an expression, and tells where it stands. What follows is a level deeper.
+    pub fn join_open(&mut self) -> Result<Place, Stop>
+        ensures { OnOk result (Opens self.old self.new) }
+    {
+        if !self.is_symbol(Symbol::OpenBracket) {
+            return Err(self.unexpected());
+        }
+        let place = self.join()?;
+        self.level += 1;
+        Ok(place)
+    }
+
+    /// The number of a node that is complete.
+    pub fn number(&mut self) -> u32
+        requires { self.old.node + length self.old.rest.now + 1 < 2097152 }
+        ensures { Numbers self.old self.new }
+    {
+        let node = self.node;
+        self.node += 1;
+        node
+    }
+}

@@ -1,0 +1,17 @@
+//! The grammar: a text's tokens become the tree of its program, or the text is refused at its first fault.
+//!
+//! A fault is `syntax` where no program begins with the tokens up to and including one, and `nest` where the
+//! text nests deeper, joins longer or suffixes more than 32 times. The time is linear.
+#![tactic(auto)]
+
+mod classes;
+mod cursor;
+mod exprs;
+mod members;
+mod operator;
+mod program;
+mod region;
+mod stmts;
+mod types;
+
+pub use program::parse;

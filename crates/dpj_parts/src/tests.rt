@@ -1,0 +1,51 @@
+use super::*;
+use dpj_base::{Effect, Elem, Elems, Head, NoMemory, PartUse, Rpl};
+use dpj_effects::EffectSet;
+use std::alloc::Global;
+use std::test::Fail;
+
+fn region(alloc: Global, name: u32) -> Result<Rpl, NoMemory> {
+    Ok(Rpl {
+        head: Head::Root,
+        elems: Elems::from_slice(alloc, [Elem::Name(name)].as_slice())?,
+    })
+}
+
+/// Whether a body passes that writes through its part of an array in region 1, through a part of another
+/// construct in the region `other`, and has an effect on the region `beside`.
+fn passes(alloc: Global, other: u32, beside: u32, write: bool) -> Result<bool, Fail> {
+    let uses = vec![in alloc;
+        PartUse {
+            view: 9,
+            rpl: region(alloc, 1)?,
+            write: true
+        },
+        PartUse {
+            view: 8,
+            rpl: region(alloc, other)?,
+            write: false
+        },
+    ]?;
+    let mut body = EffectSet::new(alloc);
+    body.add(Effect {
+        write,
+        atomic: false,
+        rpl: region(alloc, beside)?,
+    })?;
+    Ok(check_parts(alloc, &body, uses.as_slice(), 9, 7, &[])?)
+}
+
+#[test]
+fn a_part_is_used_alone(rt: HostRuntime) -> Result<(), Fail> {
+    let alloc = rt.alloc();
+    let told = [
+        (2, 3, false, true),
+        (2, 1, false, false),
+        (1, 3, false, false),
+        (2, 3, true, false),
+    ];
+    for (other, beside, write, passed) in told {
+        assert_eq!(rt; passes(alloc, other, beside, write)?, passed);
+    }
+    Ok(())
+}

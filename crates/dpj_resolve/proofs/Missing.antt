@@ -1,0 +1,19 @@
+-- Region parameters that have no argument.
+use Rattle.std.proofs.Common.{◌≡◌, ℕ, ◌+◌, ◌≤◌, ◌<◌, false, List, [], ◌∷◌, ◌++◌, take, length, sym, ap, subst}
+use Rattle.std.proofs.lemmas.List.{get_or_past, map_more}
+use Rattle.dpj_base.specs.declared.region.Head.TheVariants.{Param}
+use Rattle.dpj_base.specs.declared.region.Rpl.{Rpl}
+use Rattle.dpj_headers.specs.declared.header.ParamRow.{ParamRow}
+use Rattle.dpj_resolve.specs.Args.{root_path, roots}
+use Rattle.dpj_base.specs.Regions.{behind, put_at, substituted}
+
+-- it stays
+pub substituted_missing : (args : List Rpl) (a : Rpl) (p : ℕ) → a.head ≡ Param p → length args ≤ p → substituted args a ≡ a
+unfolding substituted
+substituted_missing args a p is past =
+    subst (λ h. put_at h a.elems args ≡ record { head = h; elems = a.elems }) (sym is)
+    (ap (λ r. behind r a.elems) (get_or_past args p (record { head = Param p; elems = [] }) past))
+
+-- `Root` for one parameter more
+pub roots_more : (params : List ParamRow) (i : ℕ) → i < length params → roots (take (i + 1) params) ≡ roots (take i params) ++ root_path ∷ []
+roots_more params i below = map_more (λ param. root_path) params i (record { name = 0; atomic = false }) below

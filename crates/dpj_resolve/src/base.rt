@@ -1,0 +1,76 @@
+use crate::args::{ReadArgs, fit_args};
+use crate::constraints::constraints_hold;
+use crate::scope::Scope;
+use dpj_base::{Items, Kind, NoMemory, Place, Rpl, Ty};
+use dpj_headers::Faults;
+use dpj_tree::Named;
+use std::alloc::Global;
+
+/// What a type begins with, before the type is judged.
+#[derive(Drop)]
+pub enum ReadBase {
+    Int,
+    Bool,
+    /// A class, where there is one of that name, and its region arguments.
+    Class {
+        name: Named,
+        class: Option<u32>,
+        args: ReadArgs,
+    },
+}
+
+/// A written type, before it is judged.
+#[derive(Drop)]
+pub struct ReadType {
+    pub base: ReadBase,
+    /// The paths of its suffixes, those that are known.
+    pub paths: Items<Rpl>,
+    /// The first name of a local region among these paths.
+    pub local: Option<Place>,
+}
+
+/// Judges what a type at a place begins with.
+pub fn base_made(
+    alloc: Global,
+    scope: &Scope,
+    faults: &mut Faults,
+    base: ReadBase,
+    place: Place,
+) -> Result<Option<Ty>, NoMemory> {
+    match base {
+        ReadBase::Int => Ok(Some(Ty::Int)),
+        ReadBase::Bool => Ok(Some(Ty::Bool)),
+        ReadBase::Class { name, class, args } => {
+            class_made(alloc, scope, faults, name, class, args, place)
+        }
+    }
+}
+
+/// The type of a class with region arguments that stands at a place: the class is there, there are as many
+/// arguments as parameters, and the constraints of the class hold.
+pub fn class_made(
+    alloc: Global,
+    scope: &Scope,
+    faults: &mut Faults,
+    name: Named,
+    class: Option<u32>,
+    args: ReadArgs,
+    place: Place,
+) -> Result<Option<Ty>, NoMemory> {
+    let Some(class) = class else {
+        faults.note(Kind::Unknown, name.place);
+        return Ok(None);
+    };
+    let Some(args) = fit_args(alloc, faults, args, scope.class_params(class), place)? else {
+        return Ok(None);
+    };
+    if !constraints_hold(
+        alloc,
+        scope.class_given(class),
+        args.as_slice(),
+        scope.given,
+    )? {
+        faults.note(Kind::Constraint, place);
+    }
+    Ok(Some(Ty::Class { class, args }))
+}

@@ -1,0 +1,114 @@
+use crate::scoped::Scoped;
+use dpj_base::{Constraint, Items, Kind, Stop};
+use dpj_headers::{Faults, Headers, ParamRow};
+use dpj_tree::RName;
+
+/// Where a path or a type stands, which decides when its faults are told.
+#[derive(Clone, Copy, Debug, PartialEq, Eq)]
+pub enum Site {
+    /// In a signature: faults are only noted.
+    Signature,
+    /// In a body: each path and each type tells its own faults.
+    Body,
+}
+
+/// What is around a place of the text.
+#[derive(Drop)]
+pub struct Scope<'a> {
+    pub headers: &'a Headers,
+    pub class: u32,
+    /// The region parameters of the method, with whether each is atomic. They are numbered behind those of the class.
+    pub params: &'a Scoped<bool>,
+    /// The locals, formals and foreach variables, with the number of each that may stand in an index.
+    pub variables: &'a Scoped<Option<u32>>,
+    /// The local regions, with the numbers of their declarations.
+    pub regions: &'a Scoped<u32>,
+    /// The constraints in force.
+    pub given: &'a [Constraint],
+    /// The constraints of each class, by its number.
+    pub classes_given: &'a [Items<Constraint>],
+    pub site: Site,
+}
+
+/// A region parameter in scope.
+#[derive(Clone, Copy, Debug, PartialEq, Eq)]
+pub struct ParamFound {
+    pub number: u32,
+    pub atomic: bool,
+}
+
+impl Scope<'_> {
+    /// Tells a noted fault where the place is in a body.
+    pub fn settle(&self, faults: &mut Faults) -> Result<(), Stop> {
+        match self.site {
+            Site::Signature => Ok(()),
+            Site::Body => faults.settle(),
+        }
+    }
+
+    /// The region parameter of that name.
+    pub fn param(&self, name: u32) -> Option<ParamFound> {
+        match self.headers.param(self.class, name) {
+            Some(number) => Some(ParamFound {
+                number,
+                atomic: is_atomic_param(self.class_params(self.class), number),
+            }),
+            None => self.method_param(name),
+        }
+    }
+
+    fn method_param(&self, name: u32) -> Option<ParamFound> {
+        let place = self.params.place(name)?;
+        let atomic = self.params.values().get(place).copied()?;
+        let number = u32::try_from(self.class_params(self.class).len() + place).ok()?;
+        Some(ParamFound { number, atomic })
+    }
+
+    /// The region parameters of a class.
+    pub fn class_params(&self, class: u32) -> &[ParamRow] {
+        match self.headers.header(class) {
+            Some(header) => header.params.as_slice(),
+            None => &[],
+        }
+    }
+
+    /// The constraints of a class.
+    pub fn class_given(&self, class: u32) -> &[Constraint] {
+        match self.classes_given.get(class as usize) {
+            Some(given) => given.as_slice(),
+            None => &[],
+        }
+    }
+
+    /// The number of a region name. One that isn't there is a fault.
+    pub fn region_name(&self, faults: &mut Faults, name: RName) -> Option<u32> {
+        let Some(second) = name.second else {
+            let found = self.headers.region(self.class, name.first.name);
+            if found.is_none() {
+                faults.note(Kind::Unknown, name.first.place);
+            }
+            return found;
+        };
+        let Some(class) = self.headers.class(name.first.name) else {
+            faults.note(Kind::Unknown, name.first.place);
+            return None;
+        };
+        let found = self.headers.region(class, second.name);
+        if found.is_none() {
+            faults.note(Kind::Unknown, second.place);
+        }
+        found
+    }
+
+    /// Whether a region name is declared atomic.
+    pub fn is_atomic_name(&self, number: u32) -> bool {
+        self.headers.atomic_names().get(number as usize).copied() == Some(true)
+    }
+}
+
+fn is_atomic_param(params: &[ParamRow], number: u32) -> bool {
+    match params.get(number as usize) {
+        Some(param) => param.atomic,
+        None => false,
+    }
+}

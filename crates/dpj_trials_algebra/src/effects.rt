@@ -1,0 +1,67 @@
+use dpj_base::{Effect, Elem, Elems, Head, NoMemory, Rpl};
+use dpj_effects::{EffectSet, covers, interferes};
+use std::alloc::Global;
+use std::test::Fail;
+
+fn effect(alloc: Global, write: bool, atomic: bool, elems: &[Elem]) -> Result<Effect, NoMemory> {
+    Ok(Effect {
+        write,
+        atomic,
+        rpl: Rpl {
+            head: Head::Root,
+            elems: Elems::from_slice(alloc, elems)?,
+        },
+    })
+}
+
+#[test]
+fn two_effects(rt: HostRuntime) -> Result<(), Fail> {
+    let alloc = rt.alloc();
+    let index = [Elem::Name(0), Elem::Var(5)];
+    let copy = [Elem::Name(0), Elem::Var(2147483653)];
+    let all = effect(alloc, true, false, &[Elem::Star])?;
+    let read = effect(alloc, false, false, &index)?;
+    let write = effect(alloc, true, false, &index)?;
+    let marked = effect(alloc, true, true, &index)?;
+    let renamed = effect(alloc, true, false, &copy)?;
+    assert!(rt; covers(&all, &marked));
+    assert!(rt; covers(&write, &read));
+    assert!(rt; !covers(&read, &write));
+    assert!(rt; !covers(&marked, &write));
+    assert!(rt; interferes(&read, &write, &[]));
+    assert!(rt; !interferes(&read, &read, &[]));
+    assert!(rt; !interferes(&write, &renamed, &[]));
+    Ok(())
+}
+
+/// A plain and a marked write of one region are two effects, and one once both are marked.
+#[test]
+fn a_set(rt: HostRuntime) -> Result<(), Fail> {
+    let alloc = rt.alloc();
+    let mut set = EffectSet::new(alloc);
+    set.add(effect(alloc, true, true, &[Elem::Name(0)])?)?;
+    set.add(effect(alloc, true, false, &[Elem::Name(0)])?)?;
+    set.add(effect(alloc, true, true, &[Elem::Name(0)])?)?;
+    assert_eq!(rt; set.len(), 2);
+    let marked = set.marked(alloc)?;
+    assert_eq!(rt; marked.len(), 1);
+    assert!(rt; set.set_covers(&marked));
+    assert!(rt; !marked.set_covers(&set));
+    assert_eq!(rt; set.unmarked(alloc)?.len(), 1);
+    Ok(())
+}
+
+/// A set of many effects is made, and compared with itself, without looking at each pair.
+#[test]
+fn many_effects(rt: HostRuntime) -> Result<(), Fail> {
+    let alloc = rt.alloc();
+    let mut set = EffectSet::new(alloc);
+    for _ in 0..2 {
+        for k in 0..20000u32 {
+            set.add(effect(alloc, true, false, &[Elem::Name(k)])?)?;
+        }
+    }
+    assert_eq!(rt; set.len(), 20000);
+    assert!(rt; set.set_covers(&set));
+    Ok(())
+}
