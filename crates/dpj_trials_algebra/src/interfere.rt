@@ -69,6 +69,7 @@ fn many_branches(rt: HostRuntime) -> Result<(), Fail> {
         branch.absorb(alloc, one(alloc, false, &[Elem::Lit(0), Elem::Star])?)?;
         sets.push(branch)?;
     }
+    assert!(rt; sets.len() < 4294967296, "too many branches");
     let pair = Some((19998u32, 19999u32));
     assert_eq!(rt; first_meeting(alloc, sets.as_slice(), &[])?, pair);
     Ok(())
