@@ -1,2 +1,4 @@
+pub mod Meaning
+pub mod Naming
 pub mod Numbers
 pub mod Order

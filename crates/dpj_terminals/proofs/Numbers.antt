@@ -1,5 +1,5 @@
 -- Numbers grow with their digits.
-use Rattle.std.proofs.Common.{ℕ, ◌≡◌, suc, ◌+◌, ◌-◌, ◌*◌, ◌<◌, ◌≤◌, List, [], ◌∷◌, length, get_or, drop, drop-cons, arith}
+use Rattle.std.proofs.Common.{ℕ, suc, ◌+◌, ◌-◌, ◌*◌, ◌<◌, ◌≤◌, List, [], ◌∷◌, length, get_or, drop, drop-cons, arith}
 use Rattle.std.specs.List.{fold}
 
 fold-grows : (v : ℕ) (ds : List ℕ) → v ≤ fold (λ n b. 10 * n + (b - 48)) v ds

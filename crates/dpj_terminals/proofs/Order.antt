@@ -1,6 +1,5 @@
 -- Tokens in order.
-use Rattle.std.proofs.Common.{◌≡◌, ◌<◌, ◌≤◌, ◌+◌, ◌-◌, ℕ, suc, zero, List, [], ◌∷◌, ◌++◌, length, get_or, take, drop, drop-cons, sym, subst, ap, length-append, arith}
-use Rattle.std.specs.List.{slice_range}
+use Rattle.std.proofs.Common.{◌<◌, ◌≤◌, ◌+◌, ℕ, suc, zero, List, [], ◌∷◌, length, get_or, ap, length-append, arith}
 use Rattle.dpj_tokens.specs.declared.token.Token.{Token}
 use Rattle.dpj_tokens.specs.declared.token.TokenKind.{TokenKind}
 use Rattle.dpj_tokens.specs.declared.token.TokenKind.TheVariants as kind

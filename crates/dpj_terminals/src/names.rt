@@ -20,6 +20,9 @@ impl<'a> Model for Names<'a> {
 }
 
 impl<'a> Names<'a> {
+    ghost use Rattle.std.specs.Prelude.{Some, slice_get, IfOk, OnOk};
+    ghost use Rattle.dpj_terminals.specs.Says.{with_name};
+
     pub fn new(alloc: Global) -> Names<'a>
         ensures { result ≡ [] }
     {
@@ -31,7 +34,9 @@ impl<'a> Names<'a> {
     /// The position of a name, which goes last where it is new.
     pub fn number(&mut self, name: &'a [u8]) -> Result<u32, NoMemory>
         requires { length self.old < 2097152 }
-        ensures { OnOk result (length self.new ≤ length self.old + 1) }
+        ensures count { OnOk result (length self.new ≤ length self.old + 1) }
+        ensures noted { OnOk result (self.new ≡ with_name self.old name.now) }
+        ensures place { IfOk result (λ number. slice_get self.new number ≡ Some name.now) }
     {
         let (number, _new) = self.known.insert_full(name)?;
         Ok(number as u32)

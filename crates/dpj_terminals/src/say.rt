@@ -1,6 +1,6 @@
 ghost use Rattle.std.specs.Prelude.{◌≡◌, ◌≤◌, ◌<◌, ◌+◌, ◌^◌, length, slice_range, IfOk, OnOk};
 ghost use Rattle.dpj_tokens.specs.Cutting.{StandInOrder, Stands};
-ghost use Rattle.dpj_terminals.specs.Says.{CanSay};
+ghost use Rattle.dpj_terminals.specs.Says.{CanSay, Means, MeanAll, distinct_names, with_token};
 
 use crate::names::Names;
 use crate::spelling::{number, unescaped};
@@ -15,6 +15,8 @@ pub fn terminals(alloc: Global, bytes: &[u8], tokens: &Tokens) -> Result<Termina
     requires stand { StandInOrder bytes.now 0 tokens.now.list }
     ensures count { IfOk result (λ found. length found.list ≡ length tokens.now.list) }
     ensures small { IfOk result (λ found. length found.list ≤ length bytes.now) }
+    ensures said { IfOk result (λ found. MeanAll found.names bytes.now tokens.now.list found.list) }
+    ensures names { IfOk result (λ found. found.names ≡ distinct_names bytes.now tokens.now.list) }
 {
     let mut names = Names::new(alloc);
     let mut list = Items::new(alloc);
@@ -51,6 +53,8 @@ fn said<'a>(
     requires room { length names.old < 2097152 }
     requires token { CanSay kind text.now }
     ensures count { OnOk result (length names.new ≤ length names.old + 1) }
+    ensures noted { OnOk result (names.new ≡ with_token kind names.old text.now) }
+    ensures means { IfOk result (λ terminal. Means names.new kind text.now terminal) }
 {
     Ok(match kind {
         TokenKind::Name => Terminal::Name(names.number(text)?),

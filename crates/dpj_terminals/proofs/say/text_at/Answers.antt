@@ -1,5 +1,3 @@
-use Rattle.std.proofs.Common.{rules, ◌≡◌, ◌≤◌, ◌<◌, length, arith, sym, subst, List, ℕ}
-use Rattle.dpj_terminals.specs.Says.{CanSay}
 use Rattle.dpj_terminals.proofs.Order.{can_say}
 use Rattle.dpj_terminals.proofs.say.text_at.Goals as goal
 

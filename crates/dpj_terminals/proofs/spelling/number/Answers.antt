@@ -1,4 +1,4 @@
-use Rattle.std.proofs.Common.{◌≡◌, ◌≤◌, ◌<◌, ◌+◌, ◌-◌, ◌*◌, get_or, arith}
+use Rattle.std.proofs.Common.{arith}
 use Rattle.dpj_terminals.proofs.Numbers.{next-within}
 use Rattle.dpj_terminals.proofs.spelling.number.Goals as goal
 
