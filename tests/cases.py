@@ -6,7 +6,8 @@ A case is an object with "name", "words", "source", "stdout" and "status". The s
 {"pad": TEXT, "to": N} is TEXT and then spaces up to N bytes, {"repeat": TEXT, "times": N} repeats TEXT,
 {"classes": N} is N empty classes, and "source_hex" gives the bytes in hex. With no FILE, every tests/cases/*.json is run;
 every examples/NAME.dpj, which must write examples/NAME.out with status 0; every examples/check/NAME.dpj, for which `check`
-must answer NAME.out; and every text of docs/*.md that begins with ```dpj check: ANSWER.
+must answer NAME.out; every text of docs/*.md that begins with ```dpj check: ANSWER; and every prefix of three of the examples
+that ends behind a token: it is refused at its end.
 
 The program is out/dpj where ./build made it of these sources; else it is built once, unproved, by `rt try`.
 """
@@ -22,6 +23,10 @@ TOP = pathlib.Path(__file__).resolve().parent.parent
 PROVED = TOP / "out" / "dpj"
 CRATE = TOP / "crates" / "dpj_cli"
 SECONDS = 120
+
+# The programs whose prefixes are tried, and what their tokens are. None has a comment behind its first line, or a text literal.
+CUT = ("squares", "two_regions", "parts")
+TOKEN = re.compile(r"\w+|[<>=!]=|&&|\|\||[^\s\w]")
 
 
 def bytes_of(case):
@@ -82,13 +87,29 @@ def from_document(path):
         yield checked(f"docs: {path.name}, text {number + 1}", source.encode(), f"{answer}\n".encode())
 
 
+def from_prefixes(path):
+    """The prefixes of a program that end behind a token, but for those that are programs of the grammar themselves."""
+    text = path.read_text(encoding="utf-8")
+    open_brackets = 0
+    for token in TOKEN.finditer(text, text.index("\nclass")):
+        open_brackets += (token.group() == "{") - (token.group() == "}")
+        if token.group() == "}" and open_brackets == 0:
+            continue
+        prefix = text[: token.end()]
+        line, column = prefix.count("\n") + 1, len(prefix) - (prefix.rfind("\n") + 1) + 1
+        yield checked(
+            f"prefixes: {path.name}, {len(prefix)} bytes", prefix.encode(), f"refused {line}:{column} syntax\n".encode()
+        )
+
+
 def load(files):
     if files:
         return [case for file in files for case in from_json(pathlib.Path(file))]
     cases = [case for file in sorted((TOP / "tests" / "cases").glob("*.json")) for case in from_json(file)]
     cases += [from_example(file) for file in sorted((TOP / "examples").glob("*.dpj"))]
     cases += [from_checked_example(file) for file in sorted((TOP / "examples" / "check").glob("*.dpj"))]
-    return cases + [case for file in sorted((TOP / "docs").glob("*.md")) for case in from_document(file)]
+    cases += [case for file in sorted((TOP / "docs").glob("*.md")) for case in from_document(file)]
+    return cases + [case for name in CUT for case in from_prefixes(TOP / "examples" / "check" / f"{name}.dpj")]
 
 
 def is_fresh():

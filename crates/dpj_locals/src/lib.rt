@@ -17,6 +17,3 @@ pub use branch::Touched;
 pub use clashes::clash;
 pub use meeting::has_clash;
 pub use touch::touched;
-
-#[cfg(test)]
-mod tests;

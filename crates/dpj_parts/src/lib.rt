@@ -9,6 +9,3 @@
 mod parts;
 
 pub use parts::{as_effects, check_parts};
-
-#[cfg(test)]
-mod tests;

@@ -1,4 +1,4 @@
-//! The tests of the algebra of regions, effects and types. Inclusion and disjointness are tried on paths whose answers
+//! The tests of the algebra of regions, effects, types, locals and array parts. Inclusion and disjointness are tried on paths whose answers
 //! come from outside.
 //!
 //! They stand here and not in their crates, since a crate with tests is proved twice. They show too that memory
@@ -14,7 +14,11 @@ mod effects;
 #[cfg(test)]
 mod interfere;
 #[cfg(test)]
+mod locals;
+#[cfg(test)]
 mod nd;
+#[cfg(test)]
+mod parts;
 #[cfg(test)]
 mod regions;
 #[cfg(test)]

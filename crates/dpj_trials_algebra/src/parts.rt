@@ -1,6 +1,6 @@
-use super::*;
 use dpj_base::{Effect, Elem, Elems, Head, NoMemory, PartUse, Rpl};
 use dpj_effects::EffectSet;
+use dpj_parts::check_parts;
 use std::alloc::Global;
 use std::test::Fail;
 

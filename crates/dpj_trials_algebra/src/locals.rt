@@ -1,5 +1,5 @@
-use super::*;
 use dpj_base::{Boxed, Items, NoMemory, Place};
+use dpj_locals::{Touched, clash, has_clash, touched};
 use dpj_tree::{BaseTree, Expr, ExprKind, Named, Stmt, StmtKind, TypeTree};
 use std::alloc::Global;
 use std::test::Fail;
