@@ -1,3 +1,4 @@
 pub mod Main
 pub mod Overriding
+pub mod Summary
 pub mod Table

@@ -1,19 +1,25 @@
 -- When a method fits the one that it overrides, with region arguments put in there.
-use Rattle.std.specs.Prelude.{ℕ, Bool, true, false, not, ◌&&◌, cond, List, [], ◌∷◌, ◌++◌, map, Option}
+use Rattle.std.specs.Prelude.{ℕ, zero, suc, ◌+◌, length, unwrap_or, option_and_then, Bool, true, false, not, ◌&&◌, cond, List, [], ◌∷◌, ◌++◌, map, Option}
 use Rattle.std.specs.Option.{option_map_or}
 use Rattle.dpj_base.specs.declared.effect.Constraint.{Constraint}
 use Rattle.dpj_base.specs.declared.effect.Effect.{Effect}
 use Rattle.dpj_base.specs.declared.refusal.Kind.TheVariants as kind
 use Rattle.dpj_base.specs.declared.refusal.Refusal.{Refusal}
+use Rattle.dpj_base.specs.declared.region.Head.TheVariants.{Param}
 use Rattle.dpj_base.specs.declared.region.Rpl.{Rpl}
 use Rattle.dpj_base.specs.declared.ty.Ty.{Ty}
 use Rattle.dpj_base.specs.Effects.{same_bool, same_rpl, set_covers, gathered}
 use Rattle.dpj_base.specs.Regions.{substituted}
 use Rattle.dpj_base.specs.Types.{plain_type, nameless_path, type_with}
 use Rattle.dpj_types.specs.Same.{same_under}
+use Rattle.dpj_headers.specs.declared.header.Headers.{Headers}
 use Rattle.dpj_headers.specs.declared.header.ParamRow.{ParamRow}
+use Rattle.dpj_headers.specs.Headers.{header_of}
+use Rattle.dpj_headers.specs.Numbers.{as_number}
 use Rattle.dpj_headers.specs.Passes.{fault, fault_if}
 use Rattle.dpj_classes.specs.declared.rows.MethodRow.{MethodRow}
+use Rattle.dpj_classes.specs.declared.table.Table.{Table}
+use Rattle.dpj_classes.specs.Table.{headers_of, numbered, overridden_by, args_at}
 
 -- as many region parameters, and each as atomic as the other
 abbrev pub same_kinds : List ParamRow → List ParamRow → Bool
@@ -65,3 +71,37 @@ abbrev pub override_fault : List Rpl → MethodRow → MethodRow → List Refusa
 override_fault args row overridden =
     cond (fits args row overridden) (fault_if (not (is_covered args row overridden)) kind.OverrideEffect row.place)
     (fault kind.Override row.place ∷ [])
+
+-- a region parameter as a path
+abbrev pub param_path : ℕ → Rpl
+param_path number = record { head = Param number; elems = [] }
+
+-- so many region parameters, counted on from a number
+abbrev pub params_from : ℕ → ℕ → List Rpl
+params_from from zero = []
+params_from from (suc n) = params_from from n ++ param_path (as_number (from + n)) ∷ []
+
+-- how many region parameters a class has
+abbrev pub param_count : Headers → ℕ → ℕ
+param_count headers at = option_map_or (λ header. as_number (length header.params)) (header_of headers at) 0
+
+-- what the region parameters of a superclass, and behind them those of a method of it, are in a method that
+-- overrides it
+abbrev pub args_in : Table → MethodRow → ℕ → List Rpl
+args_in table row owner =
+    let count = param_count (headers_of table) row.owner in
+    unwrap_or (args_at table row.owner (params_from 0 count) owner) [] ++ params_from count (as_number (length row.regions))
+
+-- the method that a method overrides
+abbrev pub overridden_row : Table → MethodRow → Option MethodRow
+overridden_row table row = option_and_then (numbered table) (overridden_by table row.id)
+
+-- what is wrong in a method that overrides one
+abbrev pub row_faults : Table → MethodRow → List Refusal
+row_faults table row =
+    option_map_or (λ overridden. override_fault (args_in table row overridden.owner) row overridden) (overridden_row table row) []
+
+-- the same of each method
+abbrev pub override_faults : Table → List MethodRow → List Refusal
+override_faults table [] = []
+override_faults table (row ∷ rows) = row_faults table row ++ override_faults table rows

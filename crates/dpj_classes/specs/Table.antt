@@ -67,10 +67,18 @@ given_of table at = option_map_or (λ given. given) (slice_get table.given at) [
 abbrev pub parent_type_of : Table → ℕ → Option Ty
 parent_type_of table at = option_map (λ row. row.parent) (option_and_then (λ place. slice_get table.supers place) (entry_at table.super_places at))
 
--- what follows from the number and the region arguments of a class type
+-- the class of a class type, and its region arguments
+abbrev pub class_number : PlainType → Option ℕ
+class_number (class number paths) = Some number
+class_number t = None
+
+abbrev pub class_paths : PlainType → List Rpl
+class_paths (class number paths) = paths
+class_paths t = []
+
+-- what follows from the class and the region arguments of a class type
 abbrev pub of_class_type : {A : Type 0} → (ℕ → List Rpl → Option A) → PlainType → Option A
-of_class_type next (class number paths) = next number paths
-of_class_type next t = None
+of_class_type next t = option_and_then (λ number. next number (class_paths t)) (class_number t)
 
 -- the region arguments of `owner` as a supertype of a class with these arguments, at most so many steps up
 abbrev pub args_above : Table → ℕ → ℕ → List Rpl → ℕ → Option (List Rpl)

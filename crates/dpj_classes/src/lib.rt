@@ -26,8 +26,7 @@ mod signatures;
 mod summary;
 mod table;
 
+pub use dpj_types::same_type;
 pub use make::build;
 pub use rows::{FieldRow, MethodRow};
 pub use table::Table;
-
-pub use dpj_types::same_type;

@@ -1,4 +1,5 @@
-ghost use Rattle.std.specs.Prelude.{◌≡◌};
+ghost use Rattle.std.specs.Prelude.{◌≡◌, ◌==◌, ◌&&◌};
+ghost use Rattle.std.specs.List.{list_any};
 ghost use Rattle.dpj_base.specs.Types.{plain_type};
 ghost use Rattle.dpj_headers.specs.Faults.{all_noted};
 ghost use Rattle.dpj_classes.specs.Main.{is_spelled, is_int, takes_int, is_main, begins_runs, main_faults};
@@ -35,10 +36,16 @@ fn begins_runs(table: &Table, class: u32, header: &Header, names: &[Bytes]) -> b
 {
     header.params.len() == 0
         && table.constructor(class).is_none()
-        && table
-            .methods()
-            .iter()
-            .any(|row| row.owner == class && is_main(row, names))
+        && declares_main(table.methods(), class, names)
+}
+
+/// Whether one of the methods is an `int main(int)` of the class.
+fn declares_main(methods: &[MethodRow], class: u32, names: &[Bytes]) -> bool
+    ensures { result ≡ list_any (λ row. (row.owner == class) && is_main names.now row) methods.now }
+{
+    methods
+        .iter()
+        .any(|row| row.owner == class && is_main(row, names))
 }
 
 /// Whether a method is `int main(int)` without region parameters.

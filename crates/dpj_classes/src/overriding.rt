@@ -1,30 +1,50 @@
-ghost use Rattle.std.specs.Prelude.{◌≡◌, ◌&&◌, [], map, IfOk, OnOk};
+ghost use Rattle.std.specs.Prelude.{◌≡◌, ◌&&◌, ◌++◌, [], map, IfOk, OnOk};
+ghost use Rattle.std.specs.Option.{option_copied};
 ghost use Rattle.dpj_base.specs.Effects.{gathered};
 ghost use Rattle.dpj_headers.specs.Faults.{all_noted};
-ghost use Rattle.dpj_classes.specs.Overriding.{same_kinds, same_path_with, same_constraints, same_with, same_types, fits, effect_with, is_covered, override_fault};
+ghost use Rattle.dpj_classes.specs.Overriding.{same_kinds, same_path_with, same_constraints, same_with, same_types, fits, effect_with, is_covered, override_fault, param_path, params_from, param_count, args_in, overridden_row, row_faults, override_faults};
+ghost use Rattle.dpj_classes.specs.Table.{methods_of};
 
 use crate::rows::MethodRow;
 use crate::table::Table;
 use dpj_base::{Constraint, Effect, Elems, Head, Items, Kind, NoMemory, Rpl, Ty};
 use dpj_effects::EffectSet;
-use dpj_headers::{Faults, ParamRow, to_number};
+use dpj_headers::{Faults, Headers, ParamRow, to_number};
 use dpj_resolve::put_in;
 use dpj_types::{same_path, same_type, subst_type};
 use std::alloc::Global;
 
 /// Notes each method that doesn't fit the one that it overrides.
-pub fn check_overriding(alloc: Global, table: &Table, faults: &mut Faults) -> Result<(), NoMemory> {
+#[tactic(auto, using(dpj_headers::proofs::Noting::noting))]
+pub fn check_overriding(alloc: Global, table: &Table, faults: &mut Faults) -> Result<(), NoMemory>
+    ensures { OnOk result (faults.new ≡ all_noted faults.old (override_faults table.now (methods_of table.now))) }
+{
     for row in table.methods() {
-        let Some(overridden) = table.overrides(row.id) else {
-            continue;
-        };
-        let Some(overridden) = table.numbered(overridden) else {
-            continue;
-        };
-        let args = region_args(alloc, table, row, overridden.owner)?;
-        check_method(alloc, row, overridden, args.as_slice(), faults)?;
+        check_row(alloc, table, row, faults)?;
     }
     Ok(())
+}
+
+fn check_row(
+    alloc: Global,
+    table: &Table,
+    row: &MethodRow,
+    faults: &mut Faults,
+) -> Result<(), NoMemory>
+    ensures { OnOk result (faults.new ≡ all_noted faults.old (row_faults table.now row.now)) }
+{
+    let Some(overridden) = overridden_row(table, row) else {
+        return Ok(());
+    };
+    let args = region_args(alloc, table, row, overridden.owner)?;
+    check_method(alloc, row, overridden, args.as_slice(), faults)
+}
+
+/// The method that a method overrides.
+fn overridden_row<'a>(table: &'a Table, row: &MethodRow) -> Option<&'a MethodRow>
+    ensures { option_copied result ≡ overridden_row table.now row.now }
+{
+    table.numbered(table.overrides(row.id)?)
 }
 
 /// Notes a method that doesn't fit the one that it overrides, with region arguments put in there.
@@ -45,10 +65,33 @@ fn check_method(
     Ok(())
 }
 
-fn param(alloc: Global, number: u32) -> Rpl {
+fn param(alloc: Global, number: u32) -> Rpl
+    ensures { result ≡ param_path number }
+{
     Rpl {
         head: Head::Param(number),
         elems: Elems::new(alloc),
+    }
+}
+
+/// Puts so many region parameters behind paths, counted on from a number.
+#[tactic(auto, using(crate::proofs::Params::params_more))]
+fn add_params(alloc: Global, paths: &mut Items<Rpl>, from: u32, count: u32) -> Result<(), NoMemory>
+    ensures { OnOk result (paths.new ≡ paths.old ++ params_from from count) }
+{
+    for at in 0..count {
+        paths.push(param(alloc, from.saturating_add(at)))?;
+    }
+    Ok(())
+}
+
+/// How many region parameters a class has.
+fn param_count(headers: &Headers, class: u32) -> u32
+    ensures { result ≡ param_count headers.now class }
+{
+    match headers.header(class) {
+        Some(header) => to_number(header.params.len()),
+        None => 0,
     }
 }
 
@@ -59,22 +102,17 @@ fn region_args(
     table: &Table,
     row: &MethodRow,
     owner: u32,
-) -> Result<Items<Rpl>, NoMemory> {
-    let of_class = table
-        .headers()
-        .header(row.owner)
-        .map_or(0, |header| header.params.len());
+) -> Result<Items<Rpl>, NoMemory>
+    ensures { IfOk result (λ args. args ≡ args_in table.now row.now owner) }
+{
+    let of_class = param_count(table.headers(), row.owner);
     let mut own = Items::new(alloc);
-    for at in 0..of_class {
-        own.push(param(alloc, to_number(at)))?;
-    }
+    add_params(alloc, &mut own, 0, of_class)?;
     let mut args = match table.args_at(alloc, row.owner, own.as_slice(), owner)? {
         Some(args) => args,
         None => Items::new(alloc),
     };
-    for at in 0..row.regions.len() {
-        args.push(param(alloc, to_number(of_class.saturating_add(at))))?;
-    }
+    add_params(alloc, &mut args, of_class, to_number(row.regions.len()))?;
     Ok(args)
 }
 

@@ -1,3 +1,6 @@
+ghost use Rattle.std.specs.Prelude.{◌≡◌, ◌∷◌, [], None, IfOk};
+ghost use Rattle.dpj_classes.specs.Summary.{anything};
+
 use crate::around::read_path;
 use dpj_base::{Effect, Elem, Elems, Head, NoMemory, Rpl, Stop};
 use dpj_effects::EffectSet;
@@ -12,7 +15,9 @@ pub fn read_summary(
     scope: &Scope,
     faults: &mut Faults,
     tree: &Option<SummaryTree>,
-) -> Result<EffectSet, Stop> {
+) -> Result<EffectSet, Stop>
+    ensures { IfOk result (λ made. tree.now ≡ None → made ≡ anything ∷ []) }
+{
     let mut summary = EffectSet::new(alloc);
     match tree {
         None => summary.add(anything(alloc)?)?,
@@ -39,7 +44,9 @@ pub fn read_summary(
 }
 
 /// `writes Root:*`.
-fn anything(alloc: Global) -> Result<Effect, NoMemory> {
+fn anything(alloc: Global) -> Result<Effect, NoMemory>
+    ensures { IfOk result (λ made. made ≡ anything) }
+{
     let mut elems = Elems::new(alloc);
     elems.push(Elem::Star)?;
     Ok(Effect {

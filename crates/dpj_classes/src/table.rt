@@ -1,7 +1,8 @@
 ghost use Rattle.std.specs.Prelude.{◌≡◌, map, IfOk};
 ghost use Rattle.std.specs.Option.{option_copied};
 ghost use Rattle.dpj_base.specs.Regions.{substituted};
-ghost use Rattle.dpj_classes.specs.Table.{headers_of, field_of, method_of, methods_of, numbered, constructor_of, overridden_by, is_forking, given_of, parent_type_of, args_at};
+ghost use Rattle.dpj_base.specs.Types.{plain_type};
+ghost use Rattle.dpj_classes.specs.Table.{headers_of, field_of, method_of, methods_of, numbered, constructor_of, overridden_by, is_forking, given_of, parent_type_of, class_number, class_paths, args_at};
 
 use crate::rows::{FieldRow, MethodRow};
 use dpj_base::{Constraint, Items, NoMemory, Plain, Rpl, Super, Ty};
@@ -100,7 +101,11 @@ impl Table {
     pub fn forks(&self, method: u32) -> bool
         ensures { result ≡ is_forking self.now method }
     {
-        self.forks.get(method as usize).copied().unwrap_or(false)
+        self.forks
+            .as_slice()
+            .get(method as usize)
+            .copied()
+            .unwrap_or(false)
     }
 
     /// The constraints of a class.
@@ -147,13 +152,36 @@ impl Table {
             if at == owner {
                 return Ok(Some(current));
             }
-            let Some(Ty::Class { class, args }) = self.parent_type(at) else {
+            let Some(parent) = self.parent_type(at) else {
                 return Ok(None);
             };
-            at = *class;
-            current = put_in_all(alloc, args.as_slice(), current.as_slice())?;
+            let Some(above) = class_number(parent) else {
+                return Ok(None);
+            };
+            at = above;
+            current = put_in_all(alloc, class_paths(parent), current.as_slice())?;
         }
         Ok(None)
+    }
+}
+
+/// The class of a class type.
+fn class_number(ty: &Ty) -> Option<u32>
+    ensures { result ≡ class_number (plain_type ty.now) }
+{
+    match ty {
+        Ty::Class { class, .. } => Some(*class),
+        _ => None,
+    }
+}
+
+/// The region arguments of a class type.
+fn class_paths(ty: &Ty) -> &[Rpl]
+    ensures { result.now ≡ class_paths (plain_type ty.now) }
+{
+    match ty {
+        Ty::Class { args, .. } => args.as_slice(),
+        _ => &[],
     }
 }
 

@@ -1,0 +1,9 @@
+-- The summary that is meant where none is written.
+use Rattle.std.specs.Prelude.{true, false, [], ◌∷◌}
+use Rattle.dpj_base.specs.declared.effect.Effect.{Effect}
+use Rattle.dpj_base.specs.declared.elems.Elem.TheVariants.{Star}
+use Rattle.dpj_base.specs.declared.region.Head.TheVariants.{Root}
+
+-- `writes Root:*`
+abbrev pub anything : Effect
+anything = record { write = true; atomic = false; rpl = record { head = Root; elems = Star ∷ [] } }
