@@ -3,7 +3,7 @@ use crate::node::{Around, Node};
 use crate::reach::reaches_nd;
 use dpj_base::{Items, Kind, NoMemory, Place, Stop, Ty};
 use dpj_effects::EffectSet;
-use dpj_exprs::{Env, LocalRow, Mark, NodeTypes, expr, fits};
+use dpj_exprs::{Env, LocalRow, Mark, NodeTypes, Typed, expr, fits};
 use dpj_headers::ParamRow;
 use dpj_tree::Expr;
 use std::alloc::Global;
@@ -72,8 +72,8 @@ impl Body<'_> {
     }
 
     /// Types an expression, and gathers what it does.
-    pub fn typed(&mut self, around: Around, e: &Expr, out: &mut Gathered) -> Result<Ty, Stop> {
-        let ty = expr(
+    pub fn typed(&mut self, around: Around, e: &Expr, out: &mut Gathered) -> Result<Typed, Stop> {
+        let typed = expr(
             self.alloc,
             &self.env,
             &mut self.known.types,
@@ -81,7 +81,7 @@ impl Body<'_> {
             e,
         )?;
         self.follow(around, e, out);
-        Ok(ty)
+        Ok(typed)
     }
 
     /// Notes whether an nd construct is reached from an expression in an atomic block.
@@ -99,8 +99,7 @@ impl Body<'_> {
         out: &mut Gathered,
         node: &mut Node,
     ) -> Result<(), Stop> {
-        let ty = self.typed(around, e, out)?;
-        if !matches!(ty, Ty::Int) {
+        if !self.typed(around, e, out)?.is_int() {
             node.note(Kind::Type);
         }
         Ok(())
@@ -114,23 +113,22 @@ impl Body<'_> {
         out: &mut Gathered,
         node: &mut Node,
     ) -> Result<(), Stop> {
-        let ty = self.typed(around, e, out)?;
-        if !matches!(ty, Ty::Bool) {
+        if !self.typed(around, e, out)?.is_boolean() {
             node.note(Kind::Type);
         }
         Ok(())
     }
 
-    /// Whether a value of the one type may stand where the other is declared.
-    pub fn fits(&self, value: &Ty, declared: &Ty) -> Result<bool, NoMemory> {
+    /// Whether a value may stand where the type is declared.
+    pub fn fits(&self, value: &Typed, declared: &Ty) -> Result<bool, NoMemory> {
         fits(self.alloc, &self.env, value, declared)
     }
 
-    /// Whether a value of the type may be returned. Where the method has no result that is asked of `void` alone.
-    pub fn is_returned(&self, around: Around, value: &Ty) -> Result<bool, NoMemory> {
+    /// Whether the value may be returned. Where the method has no result that is asked of `void` alone.
+    pub fn is_returned(&self, around: Around, value: &Typed) -> Result<bool, NoMemory> {
         match self.env.table.numbered(self.env.method) {
             Some(row) if around.has_result => self.fits(value, &row.result),
-            _ => Ok(!matches!(value, Ty::Void)),
+            _ => Ok(value.is_value()),
         }
     }
 

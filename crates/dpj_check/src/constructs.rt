@@ -50,7 +50,7 @@ pub fn cobegin(
         node.note(Kind::Assign);
     }
     node.settle()?;
-    if !branches_pass(body, nd, effects.as_slice()) {
+    if !branches_pass(body, nd, effects.as_slice())? {
         node.note(interference(nd));
     }
     node.settle()

@@ -4,8 +4,8 @@ use crate::body::Body;
 use crate::gathered::Gathered;
 use dpj_base::NoMemory;
 use dpj_effects::EffectSet;
-use dpj_interfere::{check_cobegin, check_foreach};
-use dpj_nd::{check_cobegin_nd, check_foreach_nd};
+use dpj_interfere::{check_foreach, first_meeting};
+use dpj_nd::{check_foreach_nd, first_meeting_nd};
 use dpj_parts::check_parts;
 
 /// Of each region name, whether it is declared atomic.
@@ -14,22 +14,18 @@ fn atomic_names<'a>(body: &'a Body) -> &'a [bool] {
 }
 
 /// Whether no two branches interfere, for nd where the construct is one of nd.
-pub fn branches_pass(body: &Body, nd: bool, branches: &[EffectSet]) -> bool {
+pub fn branches_pass(body: &Body, nd: bool, branches: &[EffectSet]) -> Result<bool, NoMemory> {
     if branches.len() >= 4294967296 {
-        return false;
+        return Ok(false);
     }
     let given = body.env.given();
     let met = if nd {
-        check_cobegin_nd(
-            branches,
-            given,
-            atomic_names(body),
-            body.atomic_params.as_slice(),
-        )
+        let params = body.atomic_params.as_slice();
+        first_meeting_nd(body.alloc, branches, given, atomic_names(body), params)?
     } else {
-        check_cobegin(branches, given)
+        first_meeting(body.alloc, branches, given)?
     };
-    met.is_none()
+    Ok(met.is_none())
 }
 
 /// Whether no turn of a body interferes with another, for nd where the construct is one of nd.

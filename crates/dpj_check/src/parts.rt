@@ -6,6 +6,7 @@ use crate::meet::parts_pass;
 use crate::node::{Around, Node};
 use crate::statements::scoped;
 use dpj_base::{Kind, NoMemory, Plain, Stop, Ty};
+use dpj_exprs::Typed;
 use dpj_locals::touched;
 use dpj_regions::is_full;
 use dpj_tree::{Expr, Named, Stmt};
@@ -91,7 +92,9 @@ fn whole_of(
     if let Some(whole) = part_of_part(body, array)? {
         return Ok(whole);
     }
-    let ty = body.typed(around, array, out)?;
+    let Typed::Known(ty) = body.typed(around, array, out)? else {
+        return Ok(no_array());
+    };
     let fault = match &ty {
         Ty::Array {
             rpl,
@@ -108,11 +111,22 @@ fn whole_of(
     })
 }
 
+/// What comes from a part of what is no array, and is none itself. That is told at the outer construct.
+fn no_array() -> Whole {
+    Whole {
+        ty: Ty::Void,
+        view: None,
+        fault: None,
+    }
+}
+
 fn part_of_part(body: &mut Body, array: &Expr) -> Result<Option<Whole>, NoMemory> {
     let Some(row) = body.env.part(array) else {
         return Ok(None);
     };
-    body.known.types.note(body.alloc, array.node, &row.ty)?;
+    body.known
+        .types
+        .note(body.alloc, array.node, Some(&row.ty))?;
     Ok(Some(Whole {
         ty: row.ty.copy(body.alloc)?,
         view: row.part,

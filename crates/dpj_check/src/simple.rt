@@ -85,8 +85,15 @@ pub fn assign_place(
     )?;
     body.follow(around, written, out);
     let value = body.typed(around, value, out)?;
-    let assigned = assign(alloc, &body.env, &mut out.found, target, &value, node.place);
-    note_refusal(assigned, &mut node)?;
+    match target {
+        Some(target) => {
+            let found = &mut out.found;
+            let assigned = assign(alloc, &body.env, found, target, &value, node.place);
+            note_refusal(assigned, &mut node)?;
+        }
+        None if value.is_value() => {}
+        None => node.note(Kind::Type),
+    }
     node.settle()
 }
 
@@ -144,7 +151,7 @@ pub fn print(
 ) -> Result<(), Stop> {
     let mut node = node;
     let value = body.typed(around, value, out)?;
-    if !matches!(value, Ty::Int | Ty::Bool) {
+    if !value.is_int() && !value.is_boolean() {
         node.note(Kind::Type);
     }
     node.settle()

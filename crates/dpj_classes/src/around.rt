@@ -1,4 +1,4 @@
-use dpj_base::{Constraint, Elems, Head, Items, NoMemory, Rpl, Stop};
+use dpj_base::{Constraint, Items, NoMemory, Rpl, Stop};
 use dpj_headers::{Faults, Headers};
 use dpj_resolve::{IndexNames, Need, Scope, Scoped, Site, path};
 use dpj_tree::{ConstrTree, Method, RplTree};
@@ -54,16 +54,6 @@ impl Names {
     }
 }
 
-/// No index names around a place.
-pub fn no_indices<'a>() -> IndexNames<'a> {
-    IndexNames {
-        node: 0,
-        suffixes: &[],
-        inside: 0,
-        made: None,
-    }
-}
-
 /// Reads a region path outside of types.
 pub fn read_path(
     alloc: Global,
@@ -76,15 +66,7 @@ pub fn read_path(
         full,
         atomic: false,
     };
-    path(alloc, scope, faults, tree, need, &no_indices())
-}
-
-/// The path `Root`.
-pub fn root(alloc: Global) -> Rpl {
-    Rpl {
-        head: Head::Root,
-        elems: Elems::new(alloc),
-    }
+    path(alloc, scope, faults, tree, need, &IndexNames::none())
 }
 
 /// Reads constraints. One with a path that isn't known is left out.

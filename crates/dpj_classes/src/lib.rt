@@ -21,7 +21,6 @@ mod overridden;
 mod overriding;
 mod reach;
 mod rows;
-mod same;
 mod shape;
 mod signatures;
 mod summary;
@@ -29,5 +28,6 @@ mod table;
 
 pub use make::build;
 pub use rows::{FieldRow, MethodRow};
-pub use same::same_type;
 pub use table::Table;
+
+pub use dpj_types::same_type;

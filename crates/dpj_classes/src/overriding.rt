@@ -1,10 +1,15 @@
+ghost use Rattle.std.specs.Prelude.{◌≡◌, ◌&&◌, [], map, IfOk, OnOk};
+ghost use Rattle.dpj_base.specs.Effects.{gathered};
+ghost use Rattle.dpj_headers.specs.Faults.{all_noted};
+ghost use Rattle.dpj_classes.specs.Overriding.{same_kinds, same_path_with, same_constraints, same_with, same_types, fits, effect_with, is_covered, override_fault};
+
 use crate::rows::MethodRow;
-use crate::same::same_type;
-use crate::table::{Table, put_in};
-use dpj_base::{Constraint, Effect, Elems, Head, Items, Kind, NoMemory, Plain, Rpl, Ty};
+use crate::table::Table;
+use dpj_base::{Constraint, Effect, Elems, Head, Items, Kind, NoMemory, Rpl, Ty};
 use dpj_effects::EffectSet;
 use dpj_headers::{Faults, ParamRow, to_number};
-use dpj_types::subst_type;
+use dpj_resolve::put_in;
+use dpj_types::{same_path, same_type, subst_type};
 use std::alloc::Global;
 
 /// Notes each method that doesn't fit the one that it overrides.
@@ -17,11 +22,25 @@ pub fn check_overriding(alloc: Global, table: &Table, faults: &mut Faults) -> Re
             continue;
         };
         let args = region_args(alloc, table, row, overridden.owner)?;
-        if !fits(alloc, row, overridden, args.as_slice())? {
-            faults.note(Kind::Override, row.place);
-        } else if !is_covered(alloc, row, overridden, args.as_slice())? {
-            faults.note(Kind::OverrideEffect, row.place);
-        }
+        check_method(alloc, row, overridden, args.as_slice(), faults)?;
+    }
+    Ok(())
+}
+
+/// Notes a method that doesn't fit the one that it overrides, with region arguments put in there.
+fn check_method(
+    alloc: Global,
+    row: &MethodRow,
+    overridden: &MethodRow,
+    args: &[Rpl],
+    faults: &mut Faults,
+) -> Result<(), NoMemory>
+    ensures { OnOk result (faults.new ≡ all_noted faults.old (override_fault args.now row.now overridden.now)) }
+{
+    if !fits(alloc, row, overridden, args)? {
+        faults.note(Kind::Override, row.place);
+    } else if !is_covered(alloc, row, overridden, args)? {
+        faults.note(Kind::OverrideEffect, row.place);
     }
     Ok(())
 }
@@ -66,7 +85,9 @@ fn fits(
     row: &MethodRow,
     overridden: &MethodRow,
     args: &[Rpl],
-) -> Result<bool, NoMemory> {
+) -> Result<bool, NoMemory>
+    ensures { IfOk result (λ fit. fit ≡ fits args.now row.now overridden.now) }
+{
     Ok(
         same_kinds(row.regions.as_slice(), overridden.regions.as_slice())
             && same_constraints(
@@ -85,12 +106,18 @@ fn fits(
     )
 }
 
-fn same_kinds(own: &[ParamRow], others: &[ParamRow]) -> bool {
-    own.len() == others.len()
-        && own
-            .iter()
-            .zip(others.iter())
-            .all(|(a, b)| a.atomic == b.atomic)
+fn same_kinds(own: &[ParamRow], others: &[ParamRow]) -> bool
+    ensures { result ≡ same_kinds own.now others.now }
+{
+    if own.len() != others.len() {
+        return false;
+    }
+    for i in 0..own.len() {
+        if own[i].atomic != others[i].atomic {
+            return false;
+        }
+    }
+    true
 }
 
 fn same_constraints(
@@ -98,25 +125,41 @@ fn same_constraints(
     own: &[Constraint],
     others: &[Constraint],
     args: &[Rpl],
-) -> Result<bool, NoMemory> {
+) -> Result<bool, NoMemory>
+    ensures { IfOk result (λ same. same ≡ same_constraints args.now own.now others.now) }
+{
     if own.len() != others.len() {
         return Ok(false);
     }
-    for (a, b) in own.iter().zip(others.iter()) {
-        let same_left = a.left.same(&put_in(alloc, &b.left, args)?);
-        if !same_left || !a.right.same(&put_in(alloc, &b.right, args)?) {
+    for i in 0..own.len() {
+        if !same_constraint(alloc, &own[i], &others[i], args)? {
             return Ok(false);
         }
     }
     Ok(true)
 }
 
-fn same_types(alloc: Global, own: &[Ty], others: &[Ty], args: &[Rpl]) -> Result<bool, NoMemory> {
+fn same_constraint(
+    alloc: Global,
+    own: &Constraint,
+    other: &Constraint,
+    args: &[Rpl],
+) -> Result<bool, NoMemory>
+    ensures { IfOk result (λ same. same ≡ (same_path_with args.now own.now.left other.now.left && same_path_with args.now own.now.right other.now.right)) }
+{
+    let left = put_in(alloc, &other.left, args)?;
+    let right = put_in(alloc, &other.right, args)?;
+    Ok(same_path(&own.left, &left, &[]) && same_path(&own.right, &right, &[]))
+}
+
+fn same_types(alloc: Global, own: &[Ty], others: &[Ty], args: &[Rpl]) -> Result<bool, NoMemory>
+    ensures { IfOk result (λ same. same ≡ same_types args.now own.now others.now) }
+{
     if own.len() != others.len() {
         return Ok(false);
     }
-    for (a, b) in own.iter().zip(others.iter()) {
-        if !same_with(alloc, a, b, args)? {
+    for i in 0..own.len() {
+        if !same_with(alloc, &own[i], &others[i], args)? {
             return Ok(false);
         }
     }
@@ -124,7 +167,9 @@ fn same_types(alloc: Global, own: &[Ty], others: &[Ty], args: &[Rpl]) -> Result<
 }
 
 /// Whether a type is the other one with region arguments put in.
-fn same_with(alloc: Global, own: &Ty, other: &Ty, args: &[Rpl]) -> Result<bool, NoMemory> {
+fn same_with(alloc: Global, own: &Ty, other: &Ty, args: &[Rpl]) -> Result<bool, NoMemory>
+    ensures { IfOk result (λ same. same ≡ same_with args.now own.now other.now) }
+{
     same_type(alloc, own, &subst_type(alloc, other, args)?)
 }
 
@@ -134,14 +179,24 @@ fn is_covered(
     row: &MethodRow,
     overridden: &MethodRow,
     args: &[Rpl],
-) -> Result<bool, NoMemory> {
-    let mut summary = EffectSet::new(alloc);
-    for effect in overridden.summary.as_slice() {
-        summary.add(Effect {
+) -> Result<bool, NoMemory>
+    ensures { IfOk result (λ covered. covered ≡ is_covered args.now row.now overridden.now) }
+{
+    let summary = summary_with(alloc, &overridden.summary, args)?;
+    Ok(summary.set_covers(&row.summary))
+}
+
+/// A summary with region arguments put in.
+fn summary_with(alloc: Global, summary: &EffectSet, args: &[Rpl]) -> Result<EffectSet, NoMemory>
+    ensures { IfOk result (λ made. made ≡ gathered [] (map (effect_with args.now) summary.now)) }
+{
+    let mut made = EffectSet::new(alloc);
+    for effect in summary.as_slice() {
+        made.add(Effect {
             write: effect.write,
             atomic: effect.atomic,
             rpl: put_in(alloc, &effect.rpl, args)?,
         })?;
     }
-    Ok(summary.set_covers(&row.summary))
+    Ok(made)
 }

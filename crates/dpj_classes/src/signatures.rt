@@ -1,10 +1,10 @@
-use crate::around::{Names, no_indices, read_constraints, read_path, root};
+use crate::around::{Names, read_constraints, read_path};
 use crate::rows::{FieldRow, MethodRow};
 use crate::summary::read_summary;
 use dpj_base::{Constraint, Items, Kind, NoMemory, Plain, Rpl, Stop, Super, Ty};
 use dpj_effects::EffectSet;
 use dpj_headers::{Faults, Headers, ParamRow, param_rows, to_number};
-use dpj_resolve::{Scope, constraints_hold, fit_args, read_args, ty};
+use dpj_resolve::{IndexNames, Scope, constraints_hold, fit_args, read_args, root, ty};
 use dpj_tree::{Class, Field, Formal, Member, Method, MethodResult, Parent, RplTree, TypeTree};
 use std::alloc::Global;
 
@@ -264,7 +264,7 @@ fn read_parent(
         tree.args.as_slice(),
         params,
         true,
-        &no_indices(),
+        &IndexNames::none(),
     )?;
     let args = match fit_args(alloc, faults, read, params, tree.name.place)? {
         None => Items::new(alloc),

@@ -1,7 +1,12 @@
+ghost use Rattle.std.specs.Prelude.{◌≡◌, map, IfOk};
+ghost use Rattle.std.specs.Option.{option_copied};
+ghost use Rattle.dpj_base.specs.Regions.{substituted};
+ghost use Rattle.dpj_classes.specs.Table.{headers_of, field_of, method_of, methods_of, numbered, constructor_of, overridden_by, is_forking, given_of, parent_type_of, args_at};
+
 use crate::rows::{FieldRow, MethodRow};
-use dpj_base::{Constraint, Head, Items, NoMemory, Plain, Rpl, Super, Ty};
+use dpj_base::{Constraint, Items, NoMemory, Plain, Rpl, Super, Ty};
 use dpj_headers::{Headers, OwnedNumbers};
-use dpj_regions::subst;
+use dpj_resolve::put_in;
 use std::alloc::Global;
 
 /// The classes of a program with their members. Classes and methods are known by their positions in the text.
@@ -28,14 +33,18 @@ pub struct Table {
 }
 
 impl Table {
-    pub fn headers(&self) -> &Headers {
+    pub fn headers(&self) -> &Headers
+        ensures { result.now ≡ headers_of self.now }
+    {
         &self.headers
     }
 
     /// The field of that name, where the class or a superclass declares it.
-    pub fn field(&self, class: u32, name: u32) -> Option<&FieldRow> {
+    pub fn field(&self, class: u32, name: u32) -> Option<&FieldRow>
+        ensures { option_copied result ≡ field_of self.now class name }
+    {
         let mut at = class;
-        for _ in 0..self.headers.len() {
+        for _step in 0..self.headers.len() {
             if let Some(place) = self.field_places.get(at, name) {
                 return self.fields.get(place as usize);
             }
@@ -45,9 +54,11 @@ impl Table {
     }
 
     /// The method of that name: that of the class, or else of the nearest superclass that declares one.
-    pub fn method(&self, class: u32, name: u32) -> Option<&MethodRow> {
+    pub fn method(&self, class: u32, name: u32) -> Option<&MethodRow>
+        ensures { option_copied result ≡ method_of self.now class name }
+    {
         let mut at = class;
-        for _ in 0..self.headers.len() {
+        for _step in 0..self.headers.len() {
             if let Some(id) = self.method_places.get(at, name) {
                 return self.numbered(id);
             }
@@ -57,33 +68,45 @@ impl Table {
     }
 
     /// The constructor that the class itself declares.
-    pub fn constructor(&self, class: u32) -> Option<&MethodRow> {
+    pub fn constructor(&self, class: u32) -> Option<&MethodRow>
+        ensures { option_copied result ≡ constructor_of self.now class }
+    {
         self.numbered(self.constructors.get(class as usize).copied().flatten()?)
     }
 
     /// The method or constructor of that number.
-    pub fn numbered(&self, method: u32) -> Option<&MethodRow> {
+    pub fn numbered(&self, method: u32) -> Option<&MethodRow>
+        ensures { option_copied result ≡ numbered self.now method }
+    {
         self.methods.get(method as usize)
     }
 
     /// All methods and constructors, by their numbers.
-    pub fn methods(&self) -> &[MethodRow] {
+    pub fn methods(&self) -> &[MethodRow]
+        ensures { result.now ≡ methods_of self.now }
+    {
         self.methods.as_slice()
     }
 
     /// The method that a method overrides.
-    pub fn overrides(&self, method: u32) -> Option<u32> {
+    pub fn overrides(&self, method: u32) -> Option<u32>
+        ensures { result ≡ overridden_by self.now method }
+    {
         self.overrides.get(method as usize).copied().flatten()
     }
 
     /// Whether a `cobegin_nd` or a `foreach_nd` is reached through the method, by any chain of calls and of
     /// creations that run a constructor, where a call may reach each method that overrides the one that it names.
-    pub fn forks(&self, method: u32) -> bool {
-        self.forks.get(method as usize).copied() == Some(true)
+    pub fn forks(&self, method: u32) -> bool
+        ensures { result ≡ is_forking self.now method }
+    {
+        self.forks.get(method as usize).copied().unwrap_or(false)
     }
 
     /// The constraints of a class.
-    pub fn given(&self, class: u32) -> &[Constraint] {
+    pub fn given(&self, class: u32) -> &[Constraint]
+        ensures { result.now ≡ given_of self.now class }
+    {
         match self.given.get(class as usize) {
             Some(given) => given.as_slice(),
             None => &[],
@@ -101,7 +124,9 @@ impl Table {
     }
 
     /// The superclass of a class with its region arguments.
-    fn parent_type(&self, class: u32) -> Option<&Ty> {
+    fn parent_type(&self, class: u32) -> Option<&Ty>
+        ensures { option_copied result ≡ parent_type_of self.now class }
+    {
         let place = self.super_places.get(class as usize).copied().flatten()?;
         Some(&self.supers.get(place as usize)?.parent)
     }
@@ -113,10 +138,12 @@ impl Table {
         class: u32,
         args: &[Rpl],
         owner: u32,
-    ) -> Result<Option<Items<Rpl>>, NoMemory> {
+    ) -> Result<Option<Items<Rpl>>, NoMemory>
+        ensures { IfOk result (λ found. found ≡ args_at self.now class args.now owner) }
+    {
         let mut at = class;
         let mut current = copy_paths(alloc, args)?;
-        for _ in 0..=self.headers.len() {
+        for _step in 0..=self.headers.len() {
             if at == owner {
                 return Ok(Some(current));
             }
@@ -130,7 +157,9 @@ impl Table {
     }
 }
 
-fn copy_paths(alloc: Global, paths: &[Rpl]) -> Result<Items<Rpl>, NoMemory> {
+fn copy_paths(alloc: Global, paths: &[Rpl]) -> Result<Items<Rpl>, NoMemory>
+    ensures { IfOk result (λ copies. copies ≡ paths.now) }
+{
     let mut copies = Items::new(alloc);
     for path in paths {
         copies.push(path.copy(alloc)?)?;
@@ -138,16 +167,10 @@ fn copy_paths(alloc: Global, paths: &[Rpl]) -> Result<Items<Rpl>, NoMemory> {
     Ok(copies)
 }
 
-/// The path with its argument put in for the parameter at its head. A parameter that has none stays.
-pub fn put_in(alloc: Global, rpl: &Rpl, args: &[Rpl]) -> Result<Rpl, NoMemory> {
-    match rpl.head {
-        Head::Param(p) if p as usize >= args.len() => rpl.copy(alloc),
-        _ => subst(alloc, rpl, args),
-    }
-}
-
 /// Paths with their arguments put in.
-fn put_in_all(alloc: Global, paths: &[Rpl], args: &[Rpl]) -> Result<Items<Rpl>, NoMemory> {
+fn put_in_all(alloc: Global, paths: &[Rpl], args: &[Rpl]) -> Result<Items<Rpl>, NoMemory>
+    ensures { IfOk result (λ made. made ≡ map (substituted args.now) paths.now) }
+{
     let mut made = Items::new(alloc);
     for path in paths {
         made.push(put_in(alloc, path, args)?)?;

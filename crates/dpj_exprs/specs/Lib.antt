@@ -1,4 +1,5 @@
 pub mod Refusing
+pub mod Typed
 pub mod Operations
 pub mod Partial
 pub mod Found

@@ -1,16 +1,19 @@
-ghost use Rattle.std.specs.Prelude.{◌≡◌, ◌⊎◌, None, Some, true, false, slice_index_or, IfOk, IfErr, OnOk};
+ghost use Rattle.std.specs.Prelude.{◌≡◌, ◌⊎◌, None, true, false, slice_index_or, option_map, IfOk, IfErr, OnOk};
 ghost use Rattle.dpj_base.specs.Refused.{IfRefused};
-ghost use Rattle.dpj_base.specs.Types.{plain_type, Subtype};
+ghost use Rattle.dpj_base.specs.Types.{plain_type};
 ghost use Rattle.dpj_exprs.specs.Found.{AddsWrite};
 ghost use Rattle.dpj_exprs.specs.Refusing.{refusal_at};
+ghost use Rattle.dpj_exprs.specs.Typed.{Fits};
 
 use crate::env::Env;
-use crate::fields::{element_at, field_at, part_element};
+use crate::fields::{FieldAt, PartElement, element_at, field_at, part_element};
 use crate::fitting::{fits, refused};
 use crate::found::Found;
 use crate::node_types::NodeTypes;
+use crate::typed::Typed;
 use crate::typing::{expr, note_part};
-use dpj_base::{Kind, Place, Plain, Rpl, Stop, Ty};
+use dpj_arrays::Element;
+use dpj_base::{Kind, Place, Rpl, Stop, Ty};
 use dpj_tree::{Expr, ExprKind};
 use std::alloc::Global;
 
@@ -25,15 +28,15 @@ pub struct Target {
 }
 
 /// Reads the target of an assignment, a field or an element. It isn't read itself, and the write comes with
-/// `assign`.
+/// `assign`. None where the target comes from a part of what is no array: every value fits there.
 pub fn read_target(
     alloc: Global,
     env: &Env,
     types: &mut NodeTypes,
     found: &mut Found,
     e: &Expr,
-) -> Result<Target, Stop>
-    ensures { IfOk result (λ target. slice_index_or types.new e.now.node None ≡ Some target.ty) }
+) -> Result<Option<Target>, Stop>
+    ensures { IfOk result (λ target. slice_index_or types.new e.now.node None ≡ option_map (λ t. t.ty) target) }
 {
     let target = match &e.kind {
         ExprKind::Field { of, name } => {
@@ -44,7 +47,11 @@ pub fn read_target(
         }
         _ => return Err(refused(Kind::Type, e.place)),
     };
-    types.note(alloc, e.node, &target.ty)?;
+    let ty = match &target {
+        Some(target) => Some(&target.ty),
+        None => None,
+    };
+    types.note(alloc, e.node, ty)?;
     Ok(target)
 }
 
@@ -56,18 +63,25 @@ fn field_target(
     of: &Expr,
     name: u32,
     place: Place,
-) -> Result<Target, Stop> {
+) -> Result<Option<Target>, Stop> {
     if env.part(of).is_some() && env.is_length(name) {
         return Err(refused(Kind::Type, place));
     }
-    let of = expr(alloc, env, types, found, of)?;
-    let field = field_at(alloc, env, &of, name, place)?;
-    Ok(Target {
-        ty: field.ty.copy(alloc)?,
-        rpl: field.rpl.copy(alloc)?,
+    let Typed::Known(of) = expr(alloc, env, types, found, of)? else {
+        return Ok(None);
+    };
+    let FieldAt {
+        ty,
+        rpl,
+        may_write,
+        ..
+    } = field_at(alloc, env, &of, name, place)?;
+    Ok(Some(Target {
+        ty,
+        rpl,
         view: None,
-        may_write: field.may_write,
-    })
+        may_write,
+    }))
 }
 
 fn element_target(
@@ -78,27 +92,46 @@ fn element_target(
     array: &Expr,
     index: &Expr,
     place: Place,
-) -> Result<Target, Stop> {
+) -> Result<Option<Target>, Stop> {
     if let Some(row) = env.part(array) {
         note_part(alloc, types, array, row)?;
         let index = expr(alloc, env, types, found, index)?;
-        let part = part_element(alloc, row, &index, place)?;
-        return Ok(Target {
-            ty: part.ty.copy(alloc)?,
-            rpl: part.rpl.copy(alloc)?,
-            view: Some(part.view),
-            may_write: true,
-        });
+        return Ok(part_element(alloc, row, &index, place)?.map(in_part));
     }
     let array = expr(alloc, env, types, found, array)?;
     let index_ty = expr(alloc, env, types, found, index)?;
-    let element = element_at(alloc, env, &array, index, &index_ty, place)?;
-    Ok(Target {
-        ty: element.ty.copy(alloc)?,
-        rpl: element.rpl.copy(alloc)?,
+    Ok(element_at(alloc, env, &array, index, &index_ty, place)?.map(in_array))
+}
+
+/// An element of a part as a target.
+fn in_part(element: PartElement) -> Target
+    ensures { result.may_write ≡ true }
+{
+    let PartElement { view, ty, rpl } = element;
+    Target {
+        ty,
+        rpl,
+        view: Some(view),
+        may_write: true,
+    }
+}
+
+/// An element of an array as a target.
+fn in_array(element: Element) -> Target
+    ensures { result.may_write ≡ element.may_write }
+{
+    let Element {
+        ty,
+        rpl,
+        may_write,
+        ..
+    } = element;
+    Target {
+        ty,
+        rpl,
         view: None,
-        may_write: element.may_write,
-    })
+        may_write,
+    }
 }
 
 /// Assigns a value of a type to a target: the type fits, and the target may be written. The write is added to
@@ -108,13 +141,13 @@ pub fn assign(
     env: &Env,
     found: &mut Found,
     target: Target,
-    value: &Ty,
+    value: &Typed,
     place: Place,
 ) -> Result<(), Stop>
-    ensures fit { OnOk result (Subtype env.now.supers.rows.now (plain_type value.now) (plain_type target.ty)) }
+    ensures fit { OnOk result (Fits env.now.supers.rows.now value.now (plain_type target.ty)) }
     ensures writable { OnOk result (target.may_write ≡ true) }
     ensures written { OnOk result (AddsWrite target.view target.rpl found.old.effects found.old.uses found.new.effects found.new.uses) }
-    ensures mistyped { IfErr result (λ stop. stop ≡ refusal_at Kind.Type place → ¬ (Subtype env.now.supers.rows.now (plain_type value.now) (plain_type target.ty))) }
+    ensures mistyped { IfErr result (λ stop. stop ≡ refusal_at Kind.Type place → ¬ Fits env.now.supers.rows.now value.now (plain_type target.ty)) }
     ensures unwritable { IfErr result (λ stop. stop ≡ refusal_at Kind.PartialWrite place → target.may_write ≡ false) }
     ensures fault { IfErr result (λ stop. IfRefused stop (λ refusal. (stop ≡ refusal_at Kind.Type place) ⊎ (stop ≡ refusal_at Kind.PartialWrite place))) }
 {

@@ -1,6 +1,7 @@
 use crate::env::Env;
 use crate::fitting::{fits, may_fit, mentions_partial, refused, rigid_in_partial};
 use crate::found::Found;
+use crate::typed::Typed;
 use dpj_base::{Items, Kind, NoMemory, Place, Plain, Rpl, Stop, Ty};
 use dpj_classes::MethodRow;
 use dpj_headers::{Faults, ParamRow};
@@ -42,7 +43,7 @@ pub fn read_full_args(
 pub fn read_call_args(
     alloc: Global,
     env: &Env,
-    of: &Ty,
+    of: &Typed,
     name: u32,
     trees: &[RplTree],
 ) -> Result<ReadArgs, Stop> {
@@ -53,9 +54,9 @@ pub fn read_call_args(
 }
 
 /// The method of that name in the class of the receiver.
-fn callee<'e>(env: &'e Env, of: &Ty, name: u32) -> Option<&'e MethodRow> {
+fn callee<'e>(env: &'e Env, of: &Typed, name: u32) -> Option<&'e MethodRow> {
     match of {
-        Ty::Class { class, .. } => env.table.method(*class, name),
+        Typed::Known(Ty::Class { class, .. }) => env.table.method(*class, name),
         _ => None,
     }
 }
@@ -65,7 +66,7 @@ pub fn check_actuals(
     alloc: Global,
     env: &Env,
     faults: &mut Faults,
-    actuals: &[Ty],
+    actuals: &[Typed],
     declared: &[Ty],
     args: &[Rpl],
     place: Place,
@@ -83,7 +84,13 @@ pub fn check_actuals(
 }
 
 /// The same where the region arguments aren't known: a value is a fault that fits for no regions.
-pub fn check_shapes(env: &Env, faults: &mut Faults, actuals: &[Ty], declared: &[Ty], place: Place) {
+pub fn check_shapes(
+    env: &Env,
+    faults: &mut Faults,
+    actuals: &[Typed],
+    declared: &[Ty],
+    place: Place,
+) {
     let headers = env.table.headers();
     let mut fit = actuals.len() == declared.len();
     for (value, ty) in actuals.iter().zip(declared.iter()) {
@@ -121,10 +128,31 @@ pub fn call(
     alloc: Global,
     env: &Env,
     found: &mut Found,
+    of: &Typed,
+    name: u32,
+    regions: ReadArgs,
+    actuals: &[Typed],
+    place: Place,
+) -> Result<Typed, Stop> {
+    match of {
+        Typed::Known(of) => {
+            let ty = call_on(alloc, env, found, of, name, regions, actuals, place)?;
+            Ok(Typed::Known(ty))
+        }
+        Typed::Any if actuals.iter().all(Typed::is_value) => Ok(Typed::Any),
+        Typed::Any => Err(refused(Kind::Type, place)),
+    }
+}
+
+/// The type of a call on a receiver of that type.
+fn call_on(
+    alloc: Global,
+    env: &Env,
+    found: &mut Found,
     of: &Ty,
     name: u32,
     regions: ReadArgs,
-    actuals: &[Ty],
+    actuals: &[Typed],
     place: Place,
 ) -> Result<Ty, Stop> {
     let Ty::Class { class, args } = of else {
@@ -171,7 +199,7 @@ fn check_call(
     faults: &mut Faults,
     row: &MethodRow,
     args: &[Rpl],
-    actuals: &[Ty],
+    actuals: &[Typed],
     place: Place,
 ) -> Result<(), NoMemory> {
     check_actuals(

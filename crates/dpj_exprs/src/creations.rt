@@ -2,6 +2,7 @@ use crate::calls::{check_actuals, check_shapes, no_index_names, read_full_args};
 use crate::env::Env;
 use crate::fitting::refused;
 use crate::found::Found;
+use crate::typed::Typed;
 use dpj_base::{Kind, NoMemory, Place, Rpl, Stop, Ty};
 use dpj_headers::Faults;
 use dpj_resolve::{
@@ -30,7 +31,7 @@ pub fn creation(
     found: &mut Found,
     class: Named,
     regions: ReadArgs,
-    actuals: &[Ty],
+    actuals: &[Typed],
     place: Place,
 ) -> Result<Ty, Stop> {
     let mut faults = Faults::by_number();
@@ -70,7 +71,7 @@ fn check_constructed(
     faults: &mut Faults,
     class: u32,
     args: &[Rpl],
-    actuals: &[Ty],
+    actuals: &[Typed],
     place: Place,
 ) -> Result<(), NoMemory> {
     match env.table.constructor(class) {
@@ -94,7 +95,7 @@ fn check_constructed_shapes(
     env: &Env,
     faults: &mut Faults,
     class: u32,
-    actuals: &[Ty],
+    actuals: &[Typed],
     place: Place,
 ) {
     match env.table.constructor(class) {
@@ -144,7 +145,7 @@ pub fn array_creation(
     alloc: Global,
     env: &Env,
     read: ReadType,
-    length: &Ty,
+    length: &Typed,
     rpl: Option<&RplTree>,
     around: IndexNames,
     place: Place,
@@ -155,7 +156,7 @@ pub fn array_creation(
         None => place,
     };
     let mut faults = Faults::by_number();
-    if !matches!(length, Ty::Int) {
+    if !length.is_int() {
         faults.note(Kind::Type, place);
     }
     let made = array_made(

@@ -14,7 +14,8 @@ pub struct LocalRow {
     pub var: u32,
     pub ty: Ty,
     pub is_final: bool,
-    /// For a part of an array the number of its view.
+    /// For a part of an array the number of its view. The type is that of the array, or of what stands there that
+    /// is none.
     pub part: Option<u32>,
 }
 

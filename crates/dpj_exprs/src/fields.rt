@@ -1,6 +1,7 @@
 use crate::env::{Env, LocalRow};
 use crate::fitting::{mentions_partial, refused, rigid_in_partial};
 use crate::found::Found;
+use crate::typed::Typed;
 use dpj_arrays::{Element, IndexKind, element};
 use dpj_base::{Kind, Place, Plain, Rpl, Stop, Ty};
 use dpj_resolve::put_in;
@@ -51,12 +52,15 @@ pub fn read_field(
     alloc: Global,
     env: &Env,
     found: &mut Found,
-    of: &Ty,
+    of: &Typed,
     name: u32,
     place: Place,
-) -> Result<Ty, Stop> {
+) -> Result<Typed, Stop> {
+    let Typed::Known(of) = of else {
+        return Ok(Typed::Any);
+    };
     if matches!(of, Ty::Array { .. }) && env.is_length(name) {
-        return Ok(Ty::Int);
+        return Ok(Typed::Known(Ty::Int));
     }
     let FieldAt {
         ty,
@@ -68,7 +72,7 @@ pub fn read_field(
         return Err(refused(Kind::PartialWrite, place));
     }
     found.access(rpl, false)?;
-    Ok(ty)
+    Ok(Typed::Known(ty))
 }
 
 /// What stands for an index in the region of an element.
@@ -83,20 +87,24 @@ fn index_kind(env: &Env, index: &Expr) -> IndexKind {
     }
 }
 
-/// The element of an array at an index of which the type is given too.
+/// The element of an array at an index of which the type is given too. None where the array fits everywhere, and
+/// with it the element.
 pub fn element_at(
     alloc: Global,
     env: &Env,
-    array: &Ty,
+    array: &Typed,
     index: &Expr,
-    index_ty: &Ty,
+    index_ty: &Typed,
     place: Place,
-) -> Result<Element, Stop> {
-    if !matches!(index_ty, Ty::Int) {
+) -> Result<Option<Element>, Stop> {
+    if !index_ty.is_int() {
         return Err(refused(Kind::Type, place));
     }
+    let Typed::Known(array) = array else {
+        return Ok(None);
+    };
     match element(alloc, array, &index_kind(env, index))? {
-        Some(found) => Ok(found),
+        Some(found) => Ok(Some(found)),
         None => Err(refused(Kind::Type, place)),
     }
 }
@@ -106,22 +114,25 @@ pub fn read_element(
     alloc: Global,
     env: &Env,
     found: &mut Found,
-    array: &Ty,
+    array: &Typed,
     index: &Expr,
-    index_ty: &Ty,
+    index_ty: &Typed,
     place: Place,
-) -> Result<Ty, Stop> {
+) -> Result<Typed, Stop> {
+    let Some(element) = element_at(alloc, env, array, index, index_ty, place)? else {
+        return Ok(Typed::Any);
+    };
     let Element {
         ty,
         rpl,
         may_read,
         ..
-    } = element_at(alloc, env, array, index, index_ty, place)?;
+    } = element;
     if !may_read {
         return Err(refused(Kind::PartialWrite, place));
     }
     found.access(rpl, false)?;
-    Ok(ty)
+    Ok(Typed::Known(ty))
 }
 
 /// An element of an array part, as it is used through the part.
@@ -132,23 +143,24 @@ pub struct PartElement {
     pub rpl: Rpl,
 }
 
-/// The element of a part at an index of which the type is given.
+/// The element of a part at an index of which the type is given. None where the part is one of what is no array:
+/// then the element fits everywhere.
 pub fn part_element(
     alloc: Global,
     row: &LocalRow,
-    index_ty: &Ty,
+    index_ty: &Typed,
     place: Place,
-) -> Result<PartElement, Stop> {
-    if !matches!(index_ty, Ty::Int) {
+) -> Result<Option<PartElement>, Stop> {
+    if !index_ty.is_int() {
         return Err(refused(Kind::Type, place));
     }
     match (&row.ty, row.part) {
-        (Ty::Array { elem, rpl, .. }, Some(view)) => Ok(PartElement {
+        (Ty::Array { elem, rpl, .. }, Some(view)) => Ok(Some(PartElement {
             view,
             ty: elem.get().copy(alloc)?,
             rpl: rpl.copy(alloc)?,
-        }),
-        _ => Err(refused(Kind::Type, place)),
+        })),
+        _ => Ok(None),
     }
 }
 
@@ -157,10 +169,13 @@ pub fn read_part(
     alloc: Global,
     found: &mut Found,
     row: &LocalRow,
-    index_ty: &Ty,
+    index_ty: &Typed,
     place: Place,
-) -> Result<Ty, Stop> {
-    let PartElement { view, ty, rpl } = part_element(alloc, row, index_ty, place)?;
+) -> Result<Typed, Stop> {
+    let Some(element) = part_element(alloc, row, index_ty, place)? else {
+        return Ok(Typed::Any);
+    };
+    let PartElement { view, ty, rpl } = element;
     found.part_use(view, rpl, false)?;
-    Ok(ty)
+    Ok(Typed::Known(ty))
 }

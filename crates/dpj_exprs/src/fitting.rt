@@ -1,9 +1,11 @@
 ghost use Rattle.std.specs.Prelude.{◌≡◌, ◌↔◌, IsTrue, IfOk};
-ghost use Rattle.dpj_base.specs.Types.{plain_type, Subtype};
+ghost use Rattle.dpj_base.specs.Types.{plain_type};
 ghost use Rattle.dpj_exprs.specs.Partial.{param_number, mentions_partial, rigid_in_partial};
 ghost use Rattle.dpj_exprs.specs.Refusing.{refusal_at};
+ghost use Rattle.dpj_exprs.specs.Typed.{Fits};
 
 use crate::env::Env;
+use crate::typed::Typed;
 use dpj_base::{Kind, NoMemory, Place, Refusal, Rpl, Stop, Ty};
 use dpj_headers::Headers;
 use dpj_regions::is_full;
@@ -17,15 +19,26 @@ pub fn refused(kind: Kind, place: Place) -> Stop
     Stop::Refused(Refusal { kind, place })
 }
 
-/// Whether a value of the one type may stand where the other is declared.
-pub fn fits(alloc: Global, env: &Env, value: &Ty, declared: &Ty) -> Result<bool, NoMemory>
-    ensures { IfOk result (λ fit. IsTrue fit ↔ Subtype env.now.supers.rows.now (plain_type value.now) (plain_type declared.now)) }
+/// Whether a value may stand where the type is declared.
+pub fn fits(alloc: Global, env: &Env, value: &Typed, declared: &Ty) -> Result<bool, NoMemory>
+    ensures { IfOk result (λ fit. IsTrue fit ↔ Fits env.now.supers.rows.now value.now (plain_type declared.now)) }
 {
-    env.supers.fit(alloc, value, declared)
+    match value {
+        Typed::Known(ty) => env.supers.fit(alloc, ty, declared),
+        Typed::Any => Ok(true),
+    }
 }
 
-/// Whether a value of the one type may stand where the other is declared, for some regions.
-pub fn may_fit(headers: &Headers, value: &Ty, declared: &Ty) -> bool {
+/// Whether a value may stand where the type is declared, for some regions.
+pub fn may_fit(headers: &Headers, value: &Typed, declared: &Ty) -> bool {
+    match value {
+        Typed::Known(ty) => may_be_subtype(headers, ty, declared),
+        Typed::Any => true,
+    }
+}
+
+/// Whether the one type is a subtype of the other for some regions.
+fn may_be_subtype(headers: &Headers, value: &Ty, declared: &Ty) -> bool {
     match (value, declared) {
         (Ty::Int, Ty::Int) | (Ty::Bool, Ty::Bool) => true,
         (Ty::Null, Ty::Class { .. } | Ty::Array { .. }) => true,

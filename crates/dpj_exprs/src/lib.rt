@@ -19,6 +19,7 @@ mod found;
 mod node_types;
 mod operations;
 mod supers;
+mod typed;
 mod typing;
 
 pub use assigned::{Target, assign, read_target};
@@ -27,4 +28,5 @@ pub use fitting::fits;
 pub use found::Found;
 pub use node_types::NodeTypes;
 pub use supers::Supers;
+pub use typed::Typed;
 pub use typing::expr;

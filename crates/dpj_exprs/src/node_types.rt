@@ -1,4 +1,5 @@
 ghost use Rattle.std.specs.Prelude.{◌≡◌, ◌≢◌, ◌≤◌, ℕ, [], None, Some, length, slice_index_or, IfOk, OnOk};
+ghost use Rattle.std.specs.Option.{option_copied};
 
 use dpj_base::{Items, NoMemory, Plain, Ty};
 use std::alloc::Global;
@@ -41,15 +42,18 @@ impl NodeTypes {
         }
     }
 
-    /// Notes the type of a node. The other nodes keep theirs, also after want of memory.
-    pub fn note(&mut self, alloc: Global, node: u32, ty: &Ty) -> Result<(), NoMemory>
-        ensures noted { OnOk result (slice_index_or self.new node None ≡ Some ty.now) }
+    /// Notes the type of a node, where it has one. The other nodes keep theirs, also after want of memory.
+    pub fn note(&mut self, alloc: Global, node: u32, ty: Option<&Ty>) -> Result<(), NoMemory>
+        ensures noted { OnOk result (slice_index_or self.new node None ≡ option_copied ty.entry) }
         ensures others { (q : ℕ) → q ≢ node → slice_index_or self.new q None ≡ slice_index_or self.old q None }
     {
         let at = node as usize;
         reach(&mut self.types, at + 1)?;
-        let ty = ty.copy(alloc)?;
-        self.types.set(at, Some(ty));
+        let ty = match ty {
+            Some(ty) => Some(ty.copy(alloc)?),
+            None => None,
+        };
+        self.types.set(at, ty);
         Ok(())
     }
 

@@ -1,61 +1,82 @@
-ghost use Rattle.std.specs.Prelude.{◌≡◌, Some, None, IfOk, IfErr};
+ghost use Rattle.std.specs.Prelude.{◌≡◌, false, IfOk, IfErr, true};
 ghost use Rattle.dpj_base.specs.Types.{plain_type};
-ghost use Rattle.dpj_exprs.specs.Operations.{is_int, is_boolean, is_reference, unary_type, binary_type};
+ghost use Rattle.dpj_exprs.specs.Operations.{comparable, unary_takes, unary_gives, binary_takes, binary_gives};
 ghost use Rattle.dpj_exprs.specs.Refusing.{refusal_at};
 
 use crate::fitting::refused;
+use crate::typed::Typed;
 use dpj_base::{Kind, Place, Stop, Ty};
 use dpj_tree::{BinaryOp, UnaryOp};
 
-fn is_int(t: &Ty) -> bool
-    ensures { result ≡ is_int (plain_type t.now) }
+fn unary_takes(op: UnaryOp, arg: &Typed) -> bool
+    ensures { result ≡ unary_takes op arg.now }
 {
-    matches!(t, Ty::Int)
+    match op {
+        UnaryOp::Neg => arg.is_int(),
+        UnaryOp::Not => arg.is_boolean(),
+    }
 }
 
-fn is_boolean(t: &Ty) -> bool
-    ensures { result ≡ is_boolean (plain_type t.now) }
+fn unary_gives(op: UnaryOp) -> Ty
+    ensures { plain_type result ≡ unary_gives op }
 {
-    matches!(t, Ty::Bool)
-}
-
-fn is_reference(t: &Ty) -> bool
-    ensures { result ≡ is_reference (plain_type t.now) }
-{
-    matches!(t, Ty::Null | Ty::Class { .. } | Ty::Array { .. })
+    match op {
+        UnaryOp::Neg => Ty::Int,
+        UnaryOp::Not => Ty::Bool,
+    }
 }
 
 /// The type of an operation with one operand.
-pub fn unary(op: UnaryOp, arg: &Ty, place: Place) -> Result<Ty, Stop>
-    ensures ok { IfOk result (λ t. unary_type op (plain_type arg.now) ≡ Some (plain_type t)) }
-    ensures none { IfErr result (λ stop. unary_type op (plain_type arg.now) ≡ None) }
+pub fn unary(op: UnaryOp, arg: &Typed, place: Place) -> Result<Ty, Stop>
+    ensures takes { IfOk result (λ t. unary_takes op arg.now ≡ true) }
+    ensures gives { IfOk result (λ t. plain_type t ≡ unary_gives op) }
+    ensures refuses { IfErr result (λ stop. unary_takes op arg.now ≡ false) }
     ensures fault { IfErr result (λ stop. stop ≡ refusal_at Kind.Type place) }
 {
+    if unary_takes(op, arg) {
+        Ok(unary_gives(op))
+    } else {
+        Err(refused(Kind::Type, place))
+    }
+}
+
+/// Two ints, two booleans, or two values that may be null.
+fn comparable(left: &Typed, right: &Typed) -> bool
+    ensures { result ≡ comparable left.now right.now }
+{
+    left.is_int() && right.is_int()
+        || left.is_boolean() && right.is_boolean()
+        || left.is_reference() && right.is_reference()
+}
+
+fn binary_takes(op: BinaryOp, left: &Typed, right: &Typed) -> bool
+    ensures { result ≡ binary_takes op left.now right.now }
+{
     match op {
-        UnaryOp::Neg if is_int(arg) => Ok(Ty::Int),
-        UnaryOp::Not if is_boolean(arg) => Ok(Ty::Bool),
-        _ => Err(refused(Kind::Type, place)),
+        BinaryOp::Or | BinaryOp::And => left.is_boolean() && right.is_boolean(),
+        BinaryOp::Eq | BinaryOp::Ne => comparable(left, right),
+        _ => left.is_int() && right.is_int(),
+    }
+}
+
+fn binary_gives(op: BinaryOp) -> Ty
+    ensures { plain_type result ≡ binary_gives op }
+{
+    match op {
+        BinaryOp::Add | BinaryOp::Sub | BinaryOp::Mul | BinaryOp::Div | BinaryOp::Rem => Ty::Int,
+        _ => Ty::Bool,
     }
 }
 
 /// The type of an operation with two operands.
-pub fn binary(op: BinaryOp, left: &Ty, right: &Ty, place: Place) -> Result<Ty, Stop>
-    ensures ok { IfOk result (λ t. binary_type op (plain_type left.now) (plain_type right.now) ≡ Some (plain_type t)) }
+pub fn binary(op: BinaryOp, left: &Typed, right: &Typed, place: Place) -> Result<Ty, Stop>
+    ensures takes { IfOk result (λ t. binary_takes op left.now right.now ≡ true) }
+    ensures gives { IfOk result (λ t. plain_type t ≡ binary_gives op) }
+    ensures refuses { IfErr result (λ stop. binary_takes op left.now right.now ≡ false) }
     ensures fault { IfErr result (λ stop. stop ≡ refusal_at Kind.Type place) }
 {
-    let ints = is_int(left) && is_int(right);
-    let booleans = is_boolean(left) && is_boolean(right);
-    let references = is_reference(left) && is_reference(right);
-    let (takes, gives) = match op {
-        BinaryOp::Or | BinaryOp::And => (booleans, Ty::Bool),
-        BinaryOp::Eq | BinaryOp::Ne => (ints || booleans || references, Ty::Bool),
-        BinaryOp::Lt | BinaryOp::Le | BinaryOp::Gt | BinaryOp::Ge => (ints, Ty::Bool),
-        BinaryOp::Add | BinaryOp::Sub | BinaryOp::Mul | BinaryOp::Div | BinaryOp::Rem => {
-            (ints, Ty::Int)
-        }
-    };
-    if takes {
-        Ok(gives)
+    if binary_takes(op, left, right) {
+        Ok(binary_gives(op))
     } else {
         Err(refused(Kind::Type, place))
     }

@@ -1,4 +1,5 @@
-ghost use Rattle.std.specs.Prelude.{◌≡◌, None, Some, slice_index_or, IfOk};
+ghost use Rattle.std.specs.Prelude.{◌≡◌, None, slice_index_or, IfOk};
+ghost use Rattle.dpj_exprs.specs.Typed.{known};
 
 use crate::calls::{call, read_call_args};
 use crate::creations::{array_creation, creation, read_array, read_new_args};
@@ -8,6 +9,7 @@ use crate::fitting::refused;
 use crate::found::Found;
 use crate::node_types::NodeTypes;
 use crate::operations::{binary, unary};
+use crate::typed::Typed;
 use dpj_base::{Items, Kind, NoMemory, Place, Plain, Stop, Ty};
 use dpj_resolve::IndexNames;
 use dpj_tree::{Expr, ExprKind};
@@ -22,12 +24,12 @@ pub fn expr(
     types: &mut NodeTypes,
     found: &mut Found,
     e: &Expr,
-) -> Result<Ty, Stop>
-    ensures { IfOk result (λ ty. slice_index_or types.new e.now.node None ≡ Some ty) }
+) -> Result<Typed, Stop>
+    ensures { IfOk result (λ typed. slice_index_or types.new e.now.node None ≡ known typed) }
 {
-    let ty = access(alloc, env, types, found, e)?;
-    types.note(alloc, e.node, &ty)?;
-    Ok(ty)
+    let typed = access(alloc, env, types, found, e)?;
+    types.note(alloc, e.node, typed.known())?;
+    Ok(typed)
 }
 
 /// The type of a field or an element, or of another expression.
@@ -38,10 +40,13 @@ fn access(
     types: &mut NodeTypes,
     found: &mut Found,
     e: &Expr,
-) -> Result<Ty, Stop> {
+) -> Result<Typed, Stop> {
     match &e.kind {
         ExprKind::Field { of, name } => match env.part(of.get()) {
-            Some(row) if env.is_length(*name) => Ok(part_length(alloc, types, of.get(), row)?),
+            Some(row) if env.is_length(*name) => {
+                note_part(alloc, types, of.get(), row)?;
+                Ok(Typed::Known(Ty::Int))
+            }
             _ => {
                 let of = expr(alloc, env, types, found, of.get())?;
                 read_field(alloc, env, found, &of, *name, e.place)
@@ -71,16 +76,16 @@ fn operation(
     types: &mut NodeTypes,
     found: &mut Found,
     e: &Expr,
-) -> Result<Ty, Stop> {
+) -> Result<Typed, Stop> {
     match &e.kind {
         ExprKind::Unary { op, arg } => {
             let arg = expr(alloc, env, types, found, arg.get())?;
-            unary(*op, &arg, e.place)
+            Ok(Typed::Known(unary(*op, &arg, e.place)?))
         }
         ExprKind::Binary { op, left, right } => {
             let left = expr(alloc, env, types, found, left.get())?;
             let right = expr(alloc, env, types, found, right.get())?;
-            binary(*op, &left, &right, e.place)
+            Ok(Typed::Known(binary(*op, &left, &right, e.place)?))
         }
         ExprKind::NewArray {
             base,
@@ -97,7 +102,8 @@ fn operation(
             };
             let read = read_array(alloc, env, base, around)?;
             let length = expr(alloc, env, types, found, length.get())?;
-            array_creation(alloc, env, read, &length, rpl.as_ref(), around, e.place)
+            let ty = array_creation(alloc, env, read, &length, rpl.as_ref(), around, e.place)?;
+            Ok(Typed::Known(ty))
         }
         _ => invocation(alloc, env, types, found, e),
     }
@@ -111,7 +117,7 @@ fn invocation(
     types: &mut NodeTypes,
     found: &mut Found,
     e: &Expr,
-) -> Result<Ty, Stop> {
+) -> Result<Typed, Stop> {
     match &e.kind {
         ExprKind::Call {
             of,
@@ -140,17 +146,11 @@ fn invocation(
         } => {
             let regions = read_new_args(alloc, env, *class, regions.as_slice())?;
             let actuals = exprs(alloc, env, types, found, actuals.as_slice())?;
-            creation(
-                alloc,
-                env,
-                found,
-                *class,
-                regions,
-                actuals.as_slice(),
-                e.place,
-            )
+            let actuals = actuals.as_slice();
+            let ty = creation(alloc, env, found, *class, regions, actuals, e.place)?;
+            Ok(Typed::Known(ty))
         }
-        _ => leaf(alloc, env, &e.kind, e.place),
+        _ => Ok(Typed::Known(leaf(alloc, env, &e.kind, e.place)?)),
     }
 }
 
@@ -162,7 +162,7 @@ fn exprs(
     types: &mut NodeTypes,
     found: &mut Found,
     all: &[Expr],
-) -> Result<Items<Ty>, Stop> {
+) -> Result<Items<Typed>, Stop> {
     let mut made = Items::new(alloc);
     for e in all {
         made.push(expr(alloc, env, types, found, e)?)?;
@@ -198,15 +198,5 @@ pub fn note_part(
     e: &Expr,
     row: &LocalRow,
 ) -> Result<(), NoMemory> {
-    types.note(alloc, e.node, &row.ty)
-}
-
-fn part_length(
-    alloc: Global,
-    types: &mut NodeTypes,
-    e: &Expr,
-    row: &LocalRow,
-) -> Result<Ty, NoMemory> {
-    note_part(alloc, types, e, row)?;
-    Ok(Ty::Int)
+    types.note(alloc, e.node, Some(&row.ty))
 }

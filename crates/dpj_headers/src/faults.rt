@@ -1,3 +1,6 @@
+ghost use Rattle.std.specs.Prelude.{◌≡◌, None};
+ghost use Rattle.dpj_headers.specs.Faults.{is_before, comes_first, told, none_by, noted, forgotten, settled};
+
 use dpj_base::{Kind, Place, Refusal, Stop};
 
 /// Which of two faults is told.
@@ -16,22 +19,28 @@ pub struct Faults {
     kept: Option<Refusal>,
 }
 
-fn is_before(a: Place, b: Place) -> bool {
+fn is_before(a: Place, b: Place) -> bool
+    ensures { result ≡ is_before a b }
+{
     a.line < b.line || a.line == b.line && a.col < b.col
 }
 
 /// Whether the first fault is told rather than the second.
-fn comes_first(order: Order, a: Refusal, b: Refusal) -> bool {
-    let lower = a.kind.number() < b.kind.number();
+fn comes_first(order: Order, a: Refusal, b: Refusal) -> bool
+    ensures { result ≡ comes_first order a b }
+{
+    let (number, other) = (a.kind.number(), b.kind.number());
     match order {
-        Order::Place => is_before(a.place, b.place) || a.place == b.place && lower,
-        Order::Number => lower || a.kind == b.kind && is_before(a.place, b.place),
+        Order::Place => is_before(a.place, b.place) || a.place == b.place && number < other,
+        Order::Number => number < other || number == other && is_before(a.place, b.place),
     }
 }
 
 impl Faults {
     /// No faults yet. The one with the least place is told, at one place the one with the lower number.
-    pub fn by_place() -> Faults {
+    pub fn by_place() -> Faults
+        ensures { result ≡ none_by Order.Place }
+    {
         Faults {
             order: Order::Place,
             kept: None,
@@ -39,7 +48,9 @@ impl Faults {
     }
 
     /// No faults yet. The one with the lowest number is told, at one number the one with the least place.
-    pub fn by_number() -> Faults {
+    pub fn by_number() -> Faults
+        ensures { result ≡ none_by Order.Number }
+    {
         Faults {
             order: Order::Number,
             kept: None,
@@ -47,7 +58,10 @@ impl Faults {
     }
 
     /// Notes a fault.
-    pub fn note(&mut self, kind: Kind, place: Place) {
+    #[tactic(auto, unfolding(crate::specs::Faults::noted))]
+    pub fn note(&mut self, kind: Kind, place: Place)
+        ensures { self.new ≡ noted self.old (record { kind = kind; place = place }) }
+    {
         let fault = Refusal { kind, place };
         let is_told = match self.kept {
             None => true,
@@ -59,7 +73,10 @@ impl Faults {
     }
 
     /// Tells the fault, where one was noted, and forgets it.
-    pub fn settle(&mut self) -> Result<(), Stop> {
+    pub fn settle(&mut self) -> Result<(), Stop>
+        ensures result { result ≡ settled (told self.old) }
+        ensures forgotten { self.new ≡ forgotten self.old }
+    {
         match self.kept.take() {
             None => Ok(()),
             Some(fault) => Err(Stop::Refused(fault)),

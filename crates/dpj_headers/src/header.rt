@@ -1,3 +1,7 @@
+ghost use Rattle.std.specs.Prelude.{◌≡◌, ◌↔◌, [], IsTrue, length};
+ghost use Rattle.std.specs.Option.{option_copied};
+ghost use Rattle.dpj_headers.specs.Headers.{class_of, header_of, parent_of, class_count, param_of, own_region, region_of, atomic_regions, is_below, main_of};
+
 use crate::forest::{Step, way};
 use crate::numbers::{NameNumbers, OwnedNumbers};
 use dpj_base::{Items, NoMemory, Place, Plain};
@@ -35,37 +39,51 @@ pub struct Headers {
 
 impl Headers {
     /// How many classes there are.
-    pub fn len(&self) -> usize {
+    pub fn len(&self) -> usize
+        ensures { result ≡ class_count self.now }
+    {
         self.rows.len()
     }
 
-    pub fn is_empty(&self) -> bool {
+    pub fn is_empty(&self) -> bool
+        ensures { IsTrue result ↔ (class_count self.now ≡ 0) }
+    {
         self.rows.is_empty()
     }
 
     /// The class of that name.
-    pub fn class(&self, name: u32) -> Option<u32> {
+    pub fn class(&self, name: u32) -> Option<u32>
+        ensures { result ≡ class_of self.now name }
+    {
         self.classes.get(name)
     }
 
-    pub fn header(&self, class: u32) -> Option<&Header> {
+    pub fn header(&self, class: u32) -> Option<&Header>
+        ensures { option_copied result ≡ header_of self.now class }
+    {
         self.rows.get(class as usize)
     }
 
     /// The superclass.
-    pub fn parent(&self, class: u32) -> Option<u32> {
+    pub fn parent(&self, class: u32) -> Option<u32>
+        ensures { result ≡ parent_of self.now class }
+    {
         self.header(class)?.parent
     }
 
     /// The region parameter of that name which the class itself declares, by its position among them.
-    pub fn param(&self, class: u32, name: u32) -> Option<u32> {
+    pub fn param(&self, class: u32, name: u32) -> Option<u32>
+        ensures { result ≡ param_of self.now class name }
+    {
         self.params.get(class, name)
     }
 
     /// The region name's number, where the class or a superclass declares it.
-    pub fn region(&self, class: u32, name: u32) -> Option<u32> {
+    pub fn region(&self, class: u32, name: u32) -> Option<u32>
+        ensures { result ≡ region_of self.now class name }
+    {
         let mut at = class;
-        for _ in 0..self.rows.len() {
+        for _step in 0..self.rows.len() {
             if let Some(id) = self.regions.get(at, name) {
                 return Some(id);
             }
@@ -75,26 +93,32 @@ impl Headers {
     }
 
     /// The region name's number, where the class itself declares it.
-    pub fn region_own(&self, class: u32, name: u32) -> Option<u32> {
+    pub fn region_own(&self, class: u32, name: u32) -> Option<u32>
+        ensures { result ≡ own_region self.now class name }
+    {
         self.regions.get(class, name)
     }
 
     /// Of each region name, by its number, whether it is declared atomic.
-    pub fn atomic_names(&self) -> &[bool] {
+    pub fn atomic_names(&self) -> &[bool]
+        ensures { result.now ≡ atomic_regions self.now }
+    {
         self.atomic.as_slice()
     }
 
     /// Whether a class is the other one, or has it for a superclass, directly or further up.
-    pub fn is_below(&self, class: u32, other: u32) -> bool {
-        let mut at = Some(class);
-        for _ in 0..=self.rows.len() {
-            let Some(reached) = at else {
-                return false;
-            };
-            if reached == other {
+    pub fn is_below(&self, class: u32, other: u32) -> bool
+        ensures { result ≡ is_below self.now class other }
+    {
+        let mut at = class;
+        for _step in 0..self.rows.len() {
+            if at == other {
                 return true;
             }
-            at = self.parent(reached);
+            let Some(above) = self.parent(at) else {
+                return false;
+            };
+            at = above;
         }
         false
     }
@@ -109,7 +133,9 @@ impl Headers {
     }
 
     /// The number of the name `Main`, where the text has it.
-    pub fn main_name(&self) -> Option<u32> {
+    pub fn main_name(&self) -> Option<u32>
+        ensures { result ≡ main_of self.now }
+    {
         self.main_name
     }
 }

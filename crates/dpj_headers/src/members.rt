@@ -1,3 +1,7 @@
+ghost use Rattle.std.specs.Prelude.{◌≡◌, replicate, IfOk};
+ghost use Rattle.dpj_headers.specs.Faults.{all_noted};
+ghost use Rattle.dpj_headers.specs.Members.{marks, is_free, entered, left, all_entered, all_left, second_names, param_names, formal_names, misnamed};
+
 use crate::faults::Faults;
 use crate::forest::Step;
 use dpj_base::{Kind, NoMemory};
@@ -12,14 +16,19 @@ struct Declared {
 }
 
 impl Declared {
-    fn new(alloc: Global, names: usize) -> Result<Declared, NoMemory> {
+    fn new(alloc: Global, names: usize) -> Result<Declared, NoMemory>
+        ensures { IfOk result (λ declared. marks declared ≡ replicate names 0) }
+    {
         Ok(Declared {
             owners: vec![in alloc; 0; names]?,
         })
     }
 
     /// Declares a name, and tells whether nothing declares it yet.
-    fn enter(&mut self, name: u32, owner: u32) -> bool {
+    fn enter(&mut self, name: u32, owner: u32) -> bool
+        ensures free { result ≡ is_free (marks self.old) name }
+        ensures entered { marks self.new ≡ entered (marks self.old) name owner }
+    {
         match self.owners.get_mut(name as usize) {
             Some(mark) if *mark == 0 => {
                 *mark = owner.saturating_add(1);
@@ -30,7 +39,9 @@ impl Declared {
     }
 
     /// Takes back a name that this owner declared.
-    fn leave(&mut self, name: u32, owner: u32) {
+    fn leave(&mut self, name: u32, owner: u32)
+        ensures { marks self.new ≡ left (marks self.old) name owner }
+    {
         if let Some(mark) = self.owners.get_mut(name as usize) {
             if *mark == owner.saturating_add(1) {
                 *mark = 0;
@@ -127,13 +138,9 @@ impl Visible {
     }
 
     fn enter_method(&mut self, class: &Class, method: &Method, faults: &mut Faults) {
+        note_misnamed(class, method, faults);
         let is_new = match method.result {
-            MethodResult::Constructor => {
-                if method.name != class.name {
-                    faults.note(Kind::Unknown, method.place);
-                }
-                self.constructors.enter(method.name, BY_CLASS)
-            }
+            MethodResult::Constructor => self.constructors.enter(method.name, BY_CLASS),
             _ => self.methods.enter(method.name, BY_CLASS),
         };
         if !is_new {
@@ -142,7 +149,9 @@ impl Visible {
         let params = method.params.list.as_slice();
         enter_params(&mut self.params, params, BY_METHOD, faults);
         leave_params(&mut self.params, params, BY_METHOD);
-        check_formals(&mut self.formals, method.formals.as_slice(), faults);
+        let formals = method.formals.as_slice();
+        enter_formals(&mut self.formals, formals, BY_METHOD, faults);
+        leave_formals(&mut self.formals, formals, BY_METHOD);
     }
 
     fn leave_method(&mut self, member: &Member) {
@@ -166,7 +175,21 @@ impl Visible {
     }
 }
 
-fn enter_names(declared: &mut Declared, names: &[Named], owner: u32, faults: &mut Faults) {
+/// Notes a constructor that isn't named as its class.
+#[tactic(auto, using(crate::proofs::Noting::noting))]
+fn note_misnamed(class: &Class, method: &Method, faults: &mut Faults)
+    ensures { faults.new ≡ all_noted faults.old (misnamed class.now method.now) }
+{
+    if matches!(method.result, MethodResult::Constructor) && method.name != class.name {
+        faults.note(Kind::Unknown, method.place);
+    }
+}
+
+#[tactic(auto, using(crate::proofs::Noting::noting))]
+fn enter_names(declared: &mut Declared, names: &[Named], owner: u32, faults: &mut Faults)
+    ensures entered { marks declared.new ≡ all_entered (marks declared.old) owner names.now }
+    ensures faults { faults.new ≡ all_noted faults.old (second_names (marks declared.old) owner names.now) }
+{
     for named in names {
         if !declared.enter(named.name, owner) {
             faults.note(Kind::Duplicate, named.place);
@@ -174,13 +197,19 @@ fn enter_names(declared: &mut Declared, names: &[Named], owner: u32, faults: &mu
     }
 }
 
-fn leave_names(declared: &mut Declared, names: &[Named], owner: u32) {
+fn leave_names(declared: &mut Declared, names: &[Named], owner: u32)
+    ensures { marks declared.new ≡ all_left (marks declared.old) owner names.now }
+{
     for named in names {
         declared.leave(named.name, owner);
     }
 }
 
-fn enter_params(declared: &mut Declared, params: &[ParamTree], owner: u32, faults: &mut Faults) {
+#[tactic(auto, using(crate::proofs::Noting::noting))]
+fn enter_params(declared: &mut Declared, params: &[ParamTree], owner: u32, faults: &mut Faults)
+    ensures entered { marks declared.new ≡ all_entered (marks declared.old) owner (param_names params.now) }
+    ensures faults { faults.new ≡ all_noted faults.old (second_names (marks declared.old) owner (param_names params.now)) }
+{
     for param in params {
         if !declared.enter(param.name, owner) {
             faults.note(Kind::Duplicate, param.place);
@@ -188,19 +217,30 @@ fn enter_params(declared: &mut Declared, params: &[ParamTree], owner: u32, fault
     }
 }
 
-fn leave_params(declared: &mut Declared, params: &[ParamTree], owner: u32) {
+fn leave_params(declared: &mut Declared, params: &[ParamTree], owner: u32)
+    ensures { marks declared.new ≡ all_left (marks declared.old) owner (param_names params.now) }
+{
     for param in params {
         declared.leave(param.name, owner);
     }
 }
 
-fn check_formals(declared: &mut Declared, formals: &[Formal], faults: &mut Faults) {
+#[tactic(auto, using(crate::proofs::Noting::noting))]
+fn enter_formals(declared: &mut Declared, formals: &[Formal], owner: u32, faults: &mut Faults)
+    ensures entered { marks declared.new ≡ all_entered (marks declared.old) owner (formal_names formals.now) }
+    ensures faults { faults.new ≡ all_noted faults.old (second_names (marks declared.old) owner (formal_names formals.now)) }
+{
     for formal in formals {
-        if !declared.enter(formal.name, BY_METHOD) {
+        if !declared.enter(formal.name, owner) {
             faults.note(Kind::Duplicate, formal.place);
         }
     }
+}
+
+fn leave_formals(declared: &mut Declared, formals: &[Formal], owner: u32)
+    ensures { marks declared.new ≡ all_left (marks declared.old) owner (formal_names formals.now) }
+{
     for formal in formals {
-        declared.leave(formal.name, BY_METHOD);
+        declared.leave(formal.name, owner);
     }
 }

@@ -1,6 +1,9 @@
+ghost use Rattle.std.specs.Prelude.{◌≡◌, ℕ, None, OnOk};
+ghost use Rattle.dpj_headers.specs.Numbers.{as_number, number_of, IsPut, owned_number, IsOwnedPut};
+
 use dpj_base::NoMemory;
 use indexmap::IndexMap;
-use std::alloc::{AllocError, Global};
+use std::alloc::Global;
 
 /// Numbers under names.
 #[derive(Drop)]
@@ -22,45 +25,56 @@ pub struct OwnedNumbers {
 }
 
 /// A position as a number. A text has fewer than 4294967296 of anything.
-pub fn to_number(position: usize) -> u32 {
+pub fn to_number(position: usize) -> u32
+    ensures { result ≡ as_number position }
+{
     u32::try_from(position).unwrap_or(u32::MAX)
 }
 
 impl NameNumbers {
-    pub fn new(alloc: Global) -> NameNumbers {
+    pub fn new(alloc: Global) -> NameNumbers
+        ensures { (name : ℕ) → number_of result name ≡ None }
+    {
         NameNumbers {
             map: IndexMap::new(alloc),
         }
     }
 
-    pub fn get(&self, name: u32) -> Option<u32> {
+    pub fn get(&self, name: u32) -> Option<u32>
+        ensures { result ≡ number_of self.now name }
+    {
         self.map.get(&name).copied()
     }
 
     /// Puts a number under a name, in the place of one that stands there.
-    pub fn set(&mut self, name: u32, number: u32) -> Result<(), NoMemory> {
-        let _ = self.map.insert(name, number).map_err(AllocError::from)?;
+    pub fn set(&mut self, name: u32, number: u32) -> Result<(), NoMemory>
+        ensures { OnOk result (IsPut self.old name number self.new) }
+    {
+        let _ = self.map.insert(name, number)?;
         Ok(())
     }
 }
 
 impl OwnedNumbers {
-    pub fn new(alloc: Global) -> OwnedNumbers {
+    pub fn new(alloc: Global) -> OwnedNumbers
+        ensures { (owner : ℕ) (name : ℕ) → owned_number result owner name ≡ None }
+    {
         OwnedNumbers {
             map: IndexMap::new(alloc),
         }
     }
 
-    pub fn get(&self, owner: u32, name: u32) -> Option<u32> {
+    pub fn get(&self, owner: u32, name: u32) -> Option<u32>
+        ensures { result ≡ owned_number self.now owner name }
+    {
         self.map.get(&Owned { owner, name }).copied()
     }
 
     /// Puts a number under a name, in the place of one that stands there.
-    pub fn set(&mut self, owner: u32, name: u32, number: u32) -> Result<(), NoMemory> {
-        let _ = self
-            .map
-            .insert(Owned { owner, name }, number)
-            .map_err(AllocError::from)?;
+    pub fn set(&mut self, owner: u32, name: u32, number: u32) -> Result<(), NoMemory>
+        ensures { OnOk result (IsOwnedPut self.old owner name number self.new) }
+    {
+        let _ = self.map.insert(Owned { owner, name }, number)?;
         Ok(())
     }
 }

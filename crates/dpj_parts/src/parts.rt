@@ -5,7 +5,7 @@ ghost use Rattle.dpj_parts.specs.Uses.{use_effect, with_uses_of, with_other_uses
 
 use dpj_base::{Constraint, Effect, NoMemory, PartUse, Plain};
 use dpj_effects::EffectSet;
-use dpj_interfere::{check_cobegin, check_foreach};
+use dpj_interfere::{check_foreach, first_meeting};
 use std::alloc::Global;
 
 /// Whether no branch of a `foreach_parts` interferes with another: the body's effects, the uses of other parts
@@ -27,15 +27,20 @@ pub fn check_parts(
         return Ok(false);
     }
     let through = with_uses_of(alloc, EffectSet::new(alloc), uses, view)?;
-    Ok(meet_nowhere(others, through, given))
+    meet_nowhere(alloc, others, through, given)
 }
 
 /// Whether no effect of the one set interferes with one of the other.
-fn meet_nowhere(one: EffectSet, other: EffectSet, given: &[Constraint]) -> bool
-    ensures { result ≡ not (lists_interfere given.now one other) }
+fn meet_nowhere(
+    alloc: Global,
+    one: EffectSet,
+    other: EffectSet,
+    given: &[Constraint],
+) -> Result<bool, NoMemory>
+    ensures { IfOk result (λ apart. apart ≡ not (lists_interfere given.now one other)) }
 {
     let branches = [one, other];
-    check_cobegin(branches.as_slice(), given).is_none()
+    Ok(first_meeting(alloc, branches.as_slice(), given)?.is_none())
 }
 
 /// The uses of parts as effects on the regions of their arrays, each once.

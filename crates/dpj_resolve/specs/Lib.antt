@@ -1,3 +1,5 @@
 pub mod Args
 pub mod Constraints
+pub mod Classes
 pub mod Index
+pub mod Paths

@@ -1,5 +1,7 @@
 ghost use Rattle.std.specs.Prelude.{◌≡◌, IfOk};
-ghost use Rattle.dpj_resolve.specs.Args.{root_path, roots, args_given};
+ghost use Rattle.std.specs.List.{list_any};
+ghost use Rattle.dpj_headers.specs.Faults.{all_noted};
+ghost use Rattle.dpj_resolve.specs.Args.{root_path, roots, args_given, begins_local, first_local, local_fault, is_unfit, args_faults};
 
 use crate::index::IndexNames;
 use crate::paths::{Need, path};
@@ -21,8 +23,32 @@ pub struct ReadArgs {
 }
 
 /// Whether a path begins with a local region.
-pub fn begins_local(rpl: &Rpl) -> bool {
+pub fn begins_local(rpl: &Rpl) -> bool
+    ensures { result ≡ begins_local rpl.now.elems }
+{
     matches!(rpl.elems.as_slice(), [Elem::Local(_, _), ..])
+}
+
+/// The first name of a local region, where a further path is read at a place.
+pub fn first_local(before: Option<Place>, rpl: &Rpl, place: Place) -> Option<Place>
+    ensures { result ≡ first_local before rpl.now place }
+{
+    if before.is_none() && begins_local(rpl) {
+        Some(place)
+    } else {
+        before
+    }
+}
+
+/// Notes a local region that stands where it may not.
+pub fn note_local(faults: &mut Faults, local: Option<Place>, allowed: bool)
+    ensures { faults.new ≡ all_noted faults.old (local_fault local allowed) }
+{
+    if let Some(name) = local {
+        if !allowed {
+            faults.note(Kind::LocalRegion, name);
+        }
+    }
 }
 
 /// The path `Root`.
@@ -55,9 +81,7 @@ pub fn read_args(
         let atomic = trees.len() == params.len() && is_atomic_at(params, at);
         let need = Need { full, atomic };
         if let Some(rpl) = path(alloc, scope, faults, tree, need, around)? {
-            if args.local.is_none() && begins_local(&rpl) {
-                args.local = Some(tree.place);
-            }
+            args.local = first_local(args.local, &rpl, tree.place);
             args.paths.push(rpl)?;
         }
     }
@@ -81,16 +105,15 @@ pub fn fit_args(
     params: &[ParamRow],
     place: Place,
 ) -> Result<Option<Items<Rpl>>, NoMemory>
-    ensures { IfOk result (λ given. given ≡ args_given read.written read.paths params.now) }
+    ensures given { IfOk result (λ given. given ≡ args_given read.written read.paths params.now) }
+    ensures faults { faults.new ≡ all_noted faults.old (args_faults read.local read.written params.now place) }
 {
     let ReadArgs {
         paths,
         written,
         local,
     } = read;
-    if let Some(name) = local {
-        faults.note(Kind::LocalRegion, name);
-    }
+    note_local(faults, local, false);
     if is_unfit(written, params) {
         faults.note(Kind::RegionArgs, place);
     }
@@ -105,12 +128,21 @@ pub fn fit_args(
 }
 
 /// Whether so many written arguments are a fault for these parameters.
-fn is_unfit(written: usize, params: &[ParamRow]) -> bool {
+fn is_unfit(written: usize, params: &[ParamRow]) -> bool
+    ensures { result ≡ is_unfit written params.now }
+{
     if written == 0 {
-        params.iter().any(|param| param.atomic)
+        has_atomic(params)
     } else {
         written != params.len()
     }
+}
+
+/// Whether one of the parameters is atomic.
+fn has_atomic(params: &[ParamRow]) -> bool
+    ensures { result ≡ list_any (λ param. param.atomic) params.now }
+{
+    params.iter().any(|param| param.atomic)
 }
 
 #[tactic(auto, using(crate::proofs::Missing::roots_more))]

@@ -1,3 +1,8 @@
+ghost use Rattle.std.specs.Prelude.{◌≡◌, IfOk, OnOk, option_map};
+ghost use Rattle.dpj_base.specs.Types.{plain_type};
+ghost use Rattle.dpj_headers.specs.Faults.{all_noted};
+ghost use Rattle.dpj_resolve.specs.Classes.{class_faults, class_type};
+
 use crate::args::{ReadArgs, fit_args};
 use crate::constraints::constraints_hold;
 use crate::scope::Scope;
@@ -56,7 +61,10 @@ pub fn class_made(
     class: Option<u32>,
     args: ReadArgs,
     place: Place,
-) -> Result<Option<Ty>, NoMemory> {
+) -> Result<Option<Ty>, NoMemory>
+    ensures faults { OnOk result (faults.new ≡ all_noted faults.old (class_faults scope.now.headers.now scope.now.classes_given.now scope.now.given.now name class args place)) }
+    ensures made { IfOk result (λ made. option_map plain_type made ≡ class_type scope.now.headers.now class args) }
+{
     let Some(class) = class else {
         faults.note(Kind::Unknown, name.place);
         return Ok(None);

@@ -29,9 +29,19 @@ pub struct IndexNames<'a> {
     pub made: Option<Named>,
 }
 
-impl IndexNames<'_> {
+impl<'a> IndexNames<'a> {
     ghost use Rattle.std.specs.Prelude.{◌≡◌, ◌<◌, length};
     ghost use Rattle.dpj_resolve.specs.Index.{index_meant};
+
+    /// No index names around a place.
+    pub fn none() -> IndexNames<'a> {
+        IndexNames {
+            node: 0,
+            suffixes: &[],
+            inside: 0,
+            made: None,
+        }
+    }
 
     /// The number of an index name: the innermost one of that name.
     pub fn find(&self, name: u32) -> Option<u32>

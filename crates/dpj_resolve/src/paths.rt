@@ -1,3 +1,7 @@
+ghost use Rattle.std.specs.Prelude.{◌≡◌};
+ghost use Rattle.std.specs.List.{list_all};
+ghost use Rattle.dpj_resolve.specs.Paths.{is_specified, is_plain, misfits};
+
 use crate::index::IndexNames;
 use crate::scope::Scope;
 use dpj_base::{Elem, Elems, Head, Kind, NoMemory, Rpl, Stop};
@@ -39,10 +43,7 @@ pub fn path(
     for elem in tree.elems.as_slice() {
         reading.read(scope, faults, *elem, around)?;
     }
-    let unfit = need.full && !is_full(tree.elems.as_slice())
-        || need.atomic && reading.atomic == Some(false)
-        || reading.misplaced;
-    if unfit {
+    if reading.misfits(need, tree.elems.as_slice()) {
         faults.note(Kind::RegionArgs, tree.place);
     }
     scope.settle(faults)?;
@@ -51,7 +52,9 @@ pub fn path(
 }
 
 /// Whether a written path has neither `*` nor `[?]`.
-fn is_full(elems: &[ElemTree]) -> bool {
+fn is_full(elems: &[ElemTree]) -> bool
+    ensures { result ≡ list_all is_specified elems.now }
+{
     elems
         .iter()
         .all(|elem| !matches!(elem, ElemTree::Star | ElemTree::Any))
@@ -90,7 +93,24 @@ fn begin(
     Ok(reading)
 }
 
+/// Whether it is known of a path whether it is atomic, and it isn't.
+fn is_plain(atomic: Option<bool>) -> bool
+    ensures { result ≡ is_plain atomic }
+{
+    match atomic {
+        Some(atomic) => !atomic,
+        None => false,
+    }
+}
+
 impl Reading {
+    /// Whether the path, which has these elements, isn't what is asked.
+    fn misfits(&self, need: Need, elems: &[ElemTree]) -> bool
+        ensures { result ≡ misfits need elems.now self.now.atomic self.now.misplaced }
+    {
+        need.full && !is_full(elems) || need.atomic && is_plain(self.atomic) || self.misplaced
+    }
+
     fn read(
         &mut self,
         scope: &Scope,

@@ -1,3 +1,8 @@
+ghost use Rattle.std.specs.Prelude.{◌≡◌};
+ghost use Rattle.dpj_headers.specs.Faults.{all_noted};
+ghost use Rattle.dpj_resolve.specs.Classes.{params_in, constraints_in};
+ghost use Rattle.dpj_resolve.specs.Paths.{region_meant, region_faults, is_atomic_region};
+
 use crate::scoped::Scoped;
 use dpj_base::{Constraint, Items, Kind, Stop};
 use dpj_headers::{Faults, Headers, ParamRow};
@@ -65,7 +70,9 @@ impl Scope<'_> {
     }
 
     /// The region parameters of a class.
-    pub fn class_params(&self, class: u32) -> &[ParamRow] {
+    pub fn class_params(&self, class: u32) -> &[ParamRow]
+        ensures { result.now ≡ params_in self.now.headers.now class }
+    {
         match self.headers.header(class) {
             Some(header) => header.params.as_slice(),
             None => &[],
@@ -73,7 +80,9 @@ impl Scope<'_> {
     }
 
     /// The constraints of a class.
-    pub fn class_given(&self, class: u32) -> &[Constraint] {
+    pub fn class_given(&self, class: u32) -> &[Constraint]
+        ensures { result.now ≡ constraints_in self.now.classes_given.now class }
+    {
         match self.classes_given.get(class as usize) {
             Some(given) => given.as_slice(),
             None => &[],
@@ -81,7 +90,10 @@ impl Scope<'_> {
     }
 
     /// The number of a region name. One that isn't there is a fault.
-    pub fn region_name(&self, faults: &mut Faults, name: RName) -> Option<u32> {
+    pub fn region_name(&self, faults: &mut Faults, name: RName) -> Option<u32>
+        ensures meant { result ≡ region_meant self.now.headers.now self.now.class name }
+        ensures faults { faults.new ≡ all_noted faults.old (region_faults self.now.headers.now self.now.class name) }
+    {
         let Some(second) = name.second else {
             let found = self.headers.region(self.class, name.first.name);
             if found.is_none() {
@@ -101,8 +113,14 @@ impl Scope<'_> {
     }
 
     /// Whether a region name is declared atomic.
-    pub fn is_atomic_name(&self, number: u32) -> bool {
-        self.headers.atomic_names().get(number as usize).copied() == Some(true)
+    pub fn is_atomic_name(&self, number: u32) -> bool
+        ensures { result ≡ is_atomic_region self.now.headers.now number }
+    {
+        self.headers
+            .atomic_names()
+            .get(number as usize)
+            .copied()
+            .unwrap_or(false)
     }
 }
 

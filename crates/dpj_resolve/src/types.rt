@@ -1,9 +1,9 @@
-use crate::args::{begins_local, read_args, root};
+use crate::args::{begins_local, first_local, note_local, read_args, root};
 use crate::base::{ReadBase, ReadType, base_made};
 use crate::index::{IndexNames, index_number, suffix_number};
 use crate::paths::{Need, path};
 use crate::scope::Scope;
-use dpj_base::{Boxed, Items, Kind, NoMemory, Place, Rpl, Stop, Ty};
+use dpj_base::{Boxed, Items, NoMemory, Place, Rpl, Stop, Ty};
 use dpj_headers::Faults;
 use dpj_tree::{BaseTree, Suffix, TypeTree};
 use std::alloc::Global;
@@ -97,9 +97,7 @@ fn put_path(read: &mut ReadType, suffix: &Suffix, rpl: Option<Rpl>) -> Result<()
         return Ok(());
     };
     if let Some(tree) = &suffix.rpl {
-        if read.local.is_none() && begins_local(&rpl) {
-            read.local = Some(tree.place);
-        }
+        read.local = first_local(read.local, &rpl, tree.place);
     }
     read.paths.push(rpl)
 }
@@ -155,14 +153,6 @@ pub fn array_made(
 
 fn is_flat(base: &ReadBase) -> bool {
     matches!(base, ReadBase::Int | ReadBase::Bool)
-}
-
-fn note_local(faults: &mut Faults, local: Option<Place>, allowed: bool) {
-    if let Some(name) = local {
-        if !allowed {
-            faults.note(Kind::LocalRegion, name);
-        }
-    }
 }
 
 /// The array type of a base and paths, one for each suffix. None where one of these isn't known.

@@ -18,5 +18,6 @@ mod supers;
 pub use at_index::{path_at, type_at};
 pub use mention::{mentions, mentions_index, rigid, rigid_in_index};
 pub use put_in::subst_type;
+pub use same::{IndexNames, same_path, same_type};
 pub use subtyping::subtype;
 pub use supers::is_ordered;

@@ -68,7 +68,7 @@ fn same_elems(left: &[Elem], right: &[Elem], names: &[IndexNames]) -> bool
     true
 }
 
-fn same_path(a: &Rpl, b: &Rpl, names: &[IndexNames]) -> bool
+pub fn same_path(a: &Rpl, b: &Rpl, names: &[IndexNames]) -> bool
     ensures { result ≡ same_rpl (nameless_path (firsts names.now) a.now) (nameless_path (seconds names.now) b.now) }
 {
     same_head(a.head, b.head) && same_elems(a.elems.as_slice(), b.elems.as_slice(), names)
@@ -102,9 +102,21 @@ fn inside(
     Ok(inside)
 }
 
+/// Whether two types are the same up to index names.
+pub fn same_type(alloc: Global, a: &Ty, b: &Ty) -> Result<bool, NoMemory>
+    ensures { IfOk result (λ same. same ≡ same_under [] [] (plain_type a.now) (plain_type b.now)) }
+{
+    same_inside(alloc, a, b, &Items::new(alloc))
+}
+
 /// Whether two types are the same up to index names, inside array types with these index names, the outermost
 /// first.
-pub fn same_type(alloc: Global, a: &Ty, b: &Ty, names: &Items<IndexNames>) -> Result<bool, NoMemory>
+pub fn same_inside(
+    alloc: Global,
+    a: &Ty,
+    b: &Ty,
+    names: &Items<IndexNames>,
+) -> Result<bool, NoMemory>
     ensures { IfOk result (λ same. same ≡ same_under (firsts names.now) (seconds names.now) (plain_type a.now) (plain_type b.now)) }
 {
     match (a, b) {
@@ -133,7 +145,7 @@ pub fn same_type(alloc: Global, a: &Ty, b: &Ty, names: &Items<IndexNames>) -> Re
                 second: *other_index,
             };
             let within = inside(alloc, names, pair)?;
-            let same_elements = same_type(alloc, elem.get(), other_elem.get(), &within)?;
+            let same_elements = same_inside(alloc, elem.get(), other_elem.get(), &within)?;
             Ok(same_path(rpl, other_rpl, within.as_slice()) && same_elements)
         }
         _ => Ok(false),

@@ -4,7 +4,7 @@ ghost use Rattle.dpj_base.specs.Types.{plain_type, nameless, nameless_path, all_
 ghost use Rattle.dpj_types.specs.Inside.{renamed_elem};
 
 use crate::mention::is_name;
-use crate::same::{IndexNames, same_type};
+use crate::same::{IndexNames, same_inside};
 use crate::supers::parent_of;
 use dpj_base::{Elem, Elems, Items, NoMemory, Plain, Rpl, Super, Ty};
 use dpj_regions::includes;
@@ -129,5 +129,5 @@ fn same_elements(alloc: Global, a: &Ty, b: &Ty, names: IndexNames) -> Result<boo
 {
     let mut inside = Items::new(alloc);
     inside.push(names)?;
-    same_type(alloc, a, b, &inside)
+    same_inside(alloc, a, b, &inside)
 }

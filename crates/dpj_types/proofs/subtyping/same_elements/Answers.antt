@@ -12,8 +12,8 @@ returns c =
     let b = plain_type c.args.b.now in
     let inside = c.push.new.self in
     IfOk-weaker
-    c.same_type.result
+    c.same_inside.result
     (λ same. same ≡ same_under (firsts inside) (seconds inside) a b)
     (λ same. IsTrue same ↔ (nameless (names.first ∷ []) a ≡ nameless (names.second ∷ []) b))
     (told c.new-inside.result inside names a b c.new-inside.ensures c.in_ok-push.ensures.ok)
-    c.same_type.ensures
+    c.same_inside.ensures
