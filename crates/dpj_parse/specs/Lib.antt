@@ -5,3 +5,4 @@ pub mod Expressions
 pub mod Statements
 pub mod Classes
 pub mod Progress
+pub mod Program

@@ -1,5 +1,6 @@
-ghost use Rattle.std.specs.Prelude.{◌≤◌, length};
+ghost use Rattle.std.specs.Prelude.{◌≤◌, length, IfOk};
 ghost use Rattle.dpj_tokens.specs.Cutting.{StandInOrder};
+ghost use Rattle.dpj_parse.specs.Program.{IsProgram};
 
 use crate::classes::classes;
 use crate::cursor::Cursor;
@@ -13,6 +14,7 @@ use std::alloc::Global;
 pub fn parse(alloc: Global, bytes: &[u8], tokens: &Tokens) -> Result<Program, Stop>
     requires small { length bytes.now ≤ 1048576 }
     requires stand { StandInOrder bytes.now 0 tokens.now.list }
+    ensures derived { IfOk result (IsProgram bytes.now tokens.now.list) }
 {
     let Terminals { list, names } = terminals(alloc, bytes, tokens)?;
     let mut cursor = Cursor {

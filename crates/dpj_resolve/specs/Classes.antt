@@ -1,5 +1,5 @@
 -- A class type where it is written: what it is, and what is wrong in it.
-use Rattle.std.specs.Prelude.{ℕ, Bool, not, List, [], ◌∷◌, ◌++◌, slice_get, Option, None, Some, option_map, option_and_then}
+use Rattle.std.specs.Prelude.{ℕ, not, List, [], ◌∷◌, ◌++◌, slice_get, Option, None, Some, option_map}
 use Rattle.std.specs.Option.{option_map_or}
 use Rattle.dpj_base.specs.declared.effect.Constraint.{Constraint}
 use Rattle.dpj_base.specs.declared.place.Place.{Place}

@@ -10,6 +10,8 @@ use Rattle.dpj_first.specs.Form.{IsFirstForm}
 use Rattle.dpj_first.specs.Meaning.{outcome_of}
 use Rattle.dpj_tokens.specs.declared.token.Token.{Token}
 use Rattle.dpj_tokens.specs.Cutting.{Cuts, FaultsAt}
+use Rattle.dpj_tree.specs.declared.class.Program.{Program}
+use Rattle.dpj_parse.specs.Program.{IsProgram}
 use Rattle.dpj_words.specs.declared.command.Command.{Command}
 use Rattle.dpj_words.specs.declared.command.Command.TheVariants as command
 use Rattle.dpj_words.specs.declared.job.Job.{Job}
@@ -39,6 +41,11 @@ first_verdict job program = cond (asks_run job.command) (Ran (outcome_of program
 abbrev pub other_verdict : Job → Place → Verdict
 other_verdict job place = cond (asks_run job.command) (Refused (record { kind = Form; place = place })) Accepted
 
+-- the tokens of a text derive a program
+pub record HasProgram (text : List ℕ) (tokens : List Token) : Type 0 where
+  pub program : Program
+  pub is : IsProgram text tokens program
+
 -- where the first token stands, or the end of a text without one
 abbrev pub first_place : List Token → Place → Place
 first_place [] end = end
@@ -48,12 +55,13 @@ first_place (token ∷ tokens) end = token.place
 abbrev pub IsOther : List ℕ → Type 0
 IsOther text = (program : First) → IsFirstForm text program → ⊥
 
--- the text is cut into tokens, of which the first stands at the place
+-- the text is cut into tokens, which derive a program; the first of them stands at the place
 pub record IsAccepted (text : List ℕ) (place : Place) : Type 0 where
   pub tokens : List Token
   pub end : Place
   pub cut : Cuts text tokens end
   pub first : place ≡ first_place tokens end
+  pub derives : HasProgram text tokens
 
 -- the text is cut into tokens, and a later pass refuses it
 pub record IsLaterFault (text : List ℕ) (refusal : Refusal) : Type 0 where

@@ -1,7 +1,7 @@
-ghost use Rattle.std.specs.Prelude.{◌≡◌, ◌≤◌, length, IfOk, IfErr};
+ghost use Rattle.std.specs.Prelude.{◌≡◌, ◌≤◌, length, IfOk, IfErr, OnOk};
 ghost use Rattle.dpj_base.specs.Refused.{IfRefused};
 ghost use Rattle.dpj_tokens.specs.Cutting.{StandInOrder};
-ghost use Rattle.dpj_top.specs.Answer.{IsAnswer, IsAccepted, IsFault, IsOther, first_place, first_verdict, limits_of, other_verdict, refused_at_start};
+ghost use Rattle.dpj_top.specs.Answer.{HasProgram, IsAnswer, IsAccepted, IsFault, IsOther, first_place, first_verdict, limits_of, other_verdict, refused_at_start};
 
 use dpj_base::{Kind, Limits, NoMemory, Place, Refusal, Stop};
 use dpj_check::check;
@@ -65,6 +65,7 @@ fn front(alloc: Global, text: &[u8]) -> Result<Place, Stop>
 fn judge_text(alloc: Global, text: &[u8], tokens: &Tokens) -> Result<(), Stop>
     requires short { length text.now ≤ MAX_TEXT }
     requires stand { StandInOrder text.now 0 tokens.now.list }
+    ensures derives { OnOk result (HasProgram text.now tokens.now.list) }
 {
     let program = parse(alloc, text, tokens)?;
     judge_program(alloc, &program)

@@ -1,0 +1,18 @@
+-- A whole program, from the bytes of its text.
+use Rattle.std.specs.Prelude.{◌≡◌, ◌⊎◌, ℕ, List, [], ◌∷◌, Any}
+use Rattle.dpj_base.specs.declared.place.Place.{Place}
+use Rattle.dpj_base.specs.declared.refusal.Kind.{Kind}
+use Rattle.dpj_base.specs.declared.refusal.Kind.TheVariants.{Syntax, Nest}
+use Rattle.dpj_base.specs.declared.refusal.Refusal.{Refusal}
+use Rattle.dpj_tokens.specs.declared.token.Token.{Token}
+use Rattle.dpj_terminals.specs.declared.terminal.Placed.{Placed}
+use Rattle.dpj_terminals.specs.Says.{MeanAll, distinct_names}
+use Rattle.dpj_tree.specs.declared.class.Program.{Program}
+use Rattle.dpj_parse.specs.Classes.{DerivesProgram}
+
+-- the terminals that these tokens of a text say derive the program, which has the distinct names among them
+pub record IsProgram (bytes : List ℕ) (tokens : List Token) (program : Program) : Type 0 where
+  pub list : List Placed
+  pub names : program.names ≡ distinct_names bytes tokens
+  pub said : MeanAll program.names bytes tokens list
+  pub derived : DerivesProgram list program.classes
