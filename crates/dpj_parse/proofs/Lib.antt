@@ -1,4 +1,5 @@
 pub mod Lists
+pub mod MemberForms
 pub mod Regions
 pub mod Taken
 pub mod TypeForms

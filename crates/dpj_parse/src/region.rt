@@ -1,4 +1,4 @@
-ghost use Rattle.std.specs.Prelude.{IfOk, OnOk};
+ghost use Rattle.std.specs.Prelude.{◌≡◌, [], IfOk, OnOk};
 ghost use Rattle.dpj_parse.specs.Classes.{DerivesConstr, DerivesDeclared, DerivesGiven, DerivesKind, DerivesKindOr, DerivesParam, DerivesParams};
 ghost use Rattle.dpj_parse.specs.Paths.{DerivesArgs, DerivesElem, DerivesHead, DerivesNext, DerivesRName, DerivesRpl, DerivesWithin};
 ghost use Rattle.dpj_parse.specs.Progress.{Keeps, Reads};
@@ -185,12 +185,19 @@ pub fn params_if(alloc: Global, cursor: &mut Cursor) -> Result<Params, Stop>
     ensures derives { IfOk result (λ params. DerivesParams cursor.old.rest.now cursor.new.rest.now params) }
 {
     if !cursor.is_symbol(Symbol::Less) {
-        return Ok(Params {
-            list: Items::new(alloc),
-            given: Items::new(alloc),
-        });
+        return Ok(no_params(alloc));
     }
     params(alloc, cursor)
+}
+
+/// No region parameters are written.
+pub fn no_params(alloc: Global) -> Params
+    ensures { result ≡ record { list = []; given = [] } }
+{
+    Params {
+        list: Items::new(alloc),
+        given: Items::new(alloc),
+    }
 }
 
 /// `Params = "<" Kind Name { "," [ Kind ] Name } [ "|" Constr { "," Constr } ] ">"`
