@@ -15,3 +15,6 @@ pub listed_more : {A : Type 0} {Derives : List Placed → List Placed → A → 
     Listed Derives start here items → TakesOne (terminal.Symbol symbol.Comma) here one → Derives one after item → Listed Derives start after (items ++ item ∷ [])
 listed_more (last e) comma d = more e comma.takes (last d)
 listed_more (more e first l) comma d = more e first (listed_more l comma d)
+
+pub many_one : {A : Type 0} {Derives : List Placed → List Placed → A → Type 0} {before after : List Placed} {item : A} → Derives before after item → Many Derives before after (item ∷ [])
+many_one d = some d none

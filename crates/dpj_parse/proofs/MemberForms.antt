@@ -1,5 +1,6 @@
 -- The productions of classes and members, as their functions read them.
-use Rattle.std.proofs.Common.{◌≡◌, ◌≤◌, ◌⊎◌, ℕ, List, [], ◌∷◌, Option, Some, None, Bool, length, map, inl, inr, arith}
+use Rattle.std.proofs.Common.{◌≡◌, ◌≤◌, ◌⊎◌, ◌==◌, ℕ, List, [], ◌∷◌, Option, Some, None, Bool, length, map, inl, inr, true, refl, subst, arith}
+use Rattle.std.proofs.lemmas.Bool.Decides.{nat_tests}
 use Rattle.dpj_base.specs.declared.place.Place.{Place}
 use Rattle.dpj_tokens.specs.declared.token.Symbol.TheVariants as symbol
 use Rattle.dpj_tokens.specs.declared.token.Keyword.{Keyword}
@@ -104,6 +105,13 @@ pub members_of : {before one two after : List Placed} {all : List Member} {open_
     TakesSymbol symbol.OpenBrace before one open_at → Many DerivesMember one two all → TakesOne (terminal.Symbol symbol.CloseBrace) two after → DerivesMembers before after all
 members_of o m c = members o m c.takes
 
-pub program_of : {before : List Placed} {all : List Class} → Many DerivesClass before [] all → 1 ≤ length all → DerivesProgram before all
-program_of none h = absurd (omega arith)
-program_of (some c m) h = program c m
+whole_program : {before : List Placed} {all : List Class} → Many DerivesClass before [] all → 1 ≤ length all → DerivesProgram before all
+whole_program none h = absurd (omega arith)
+whole_program (some c m) h = program c m
+
+pub program_of : {before here : List Placed} {all : List Class} → Many DerivesClass before here all → here ≡ [] → 1 ≤ length all → DerivesProgram before all
+program_of {before} {all} m e h = whole_program (subst (λ here. Many DerivesClass before here all) e m) h
+
+pub no_rest : (rest : List Placed) → (length rest == 0) ≡ true → rest ≡ []
+no_rest [] h = refl
+no_rest (next ∷ rest) h = absurd (grind (arith, nat_tests))

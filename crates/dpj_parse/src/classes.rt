@@ -12,7 +12,7 @@ use dpj_tree::{Class, Member, Parent};
 use std::alloc::Global;
 
 /// `Class { Class }` up to the end of the text
-#[tactic(auto, using(crate::proofs::Lists::many_more, crate::specs::Taking::none, crate::specs::Taking::some, crate::proofs::MemberForms::program_of))]
+#[tactic(auto, using(crate::proofs::Lists::many_more, crate::proofs::Lists::many_one, crate::proofs::MemberForms::program_of))]
 pub fn classes(alloc: Global, cursor: &mut Cursor) -> Result<Items<Class>, Stop>
     ensures pays { OnOk result (Reads 0 cursor.old cursor.new) }
     ensures derives { IfOk result (λ classes. DerivesProgram cursor.old.rest.now classes) }
