@@ -1,7 +1,7 @@
+pub mod Taken
 pub mod Lists
 pub mod Ops
 pub mod Trees
 pub mod Selecting
-pub mod Taken
 pub mod Spelling
 pub mod Making

@@ -39,3 +39,15 @@ pub record Numbers (old new : Cursor) : Type 0 where
   pub counted : new.node ≡ old.node + 1
   pub rest : length new.rest.now ≡ length old.rest.now
   pub level : new.level ≡ old.level
+
+-- nothing changed but the terminals that are left
+pub record Advances (old new : Cursor) : Type 0 where
+  pub end : new.end ≡ old.end
+  pub node : new.node ≡ old.node
+  pub level : new.level ≡ old.level
+  pub joined : new.joined ≡ old.joined
+
+-- an operator, a dot or a bracket was counted, of which an expression level has at most 32
+pub record Joins (old new : Cursor) : Type 0 where
+  pub counted : new.joined ≡ old.joined + 1
+  pub within : new.joined ≤ 32
