@@ -5,3 +5,5 @@ pub mod Trees
 pub mod Selecting
 pub mod Spelling
 pub mod Making
+pub mod StmtTrees
+pub mod Stating

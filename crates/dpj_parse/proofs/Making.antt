@@ -26,26 +26,27 @@ use Rattle.dpj_parse.proofs.Selecting.{selections_unary, selection_postfix}
 use Rattle.dpj_parse.proofs.Taken.{next-takes}
 use Rattle.dpj_parse.proofs.Trees.{kind_Unary, kind_Field, kind_Call, kind_Element, kind_NewArray}
 
-pub made_operator : {before one after behind : List Placed} {op : UnaryOp} {arg e : Expr} {node : ℕ} {place : Place} →
+pub made_operator : (op : UnaryOp) (arg e : Expr) {before one after behind : List Placed} {node : ℕ} {place : Place} →
     Next (terminal.Symbol (unary_symbol op)) before → TakesNext before one place → DerivesUnary one after (plain_expr arg) →
     plain_expr e ≡ expression node place (plain_kind (kind.Unary op arg)) → behind ≡ after → DerivesUnary before behind (plain_expr e)
-made_operator {op = op} {arg = arg} next takes d is rest = rw (is, kind_Unary op arg, rest) (operator (next-takes takes next) d)
+made_operator op arg e next takes d is rest = rw (is, kind_Unary op arg, rest) (operator (next-takes takes next) d)
 
 pub made_object : {before one two three after : List Placed} {name : Named} {regions : List RplTree} {all : PlainExprs} {object found : PlainExpr} {node : ℕ} {place : Place} →
     TakesKeyword Keyword.New before one place → DerivesBase one two (base.Class name regions) → DerivesActuals two three all →
     object ≡ expression node place (create name regions all) → {here : List Placed} → here ≡ three → DerivesSelections object here after found → DerivesUnary before after found
-made_object {after = after} {found = found} takes (class named args) d is rest selections =
-    selections_unary (primary (creation takes named args d)) (subst (λ o. DerivesSelections o _ after found) is (subst (λ h. DerivesSelections _ h after found) rest selections))
+made_object {three = three} {after = after} {object = object} {found = found} takes (class named paths) d is {here} rest selections =
+    let from_three = subst (λ h. DerivesSelections object h after found) rest selections in
+    selections_unary (primary (creation takes named paths d)) (subst (λ o. DerivesSelections o three after found) is from_three)
 
 pub made_array : {before one two after : List Placed} {start : BaseTree} {e : PlainExpr} {place : Place} →
     TakesKeyword Keyword.New before one place → DerivesBase one two start → DerivesLengths start place two after e → DerivesUnary before after e
 made_array takes d (lengths (opened suffixes open_at) len close own) = new_array (array takes d suffixes open_at len close own)
 
-pub made_lengths : {before one two three after behind : List Placed} {start : BaseTree} {suffixes : List Suffix} {len e : Expr} {own : Suffix} {node : ℕ} {place : Place} →
+pub made_lengths : (start : BaseTree) (suffixes : List Suffix) (len e : Expr) (own : Suffix) {before one two three after behind : List Placed} {node : ℕ} {place : Place} →
     DerivesOpenSuffixes before one suffixes → DerivesExpr one two (plain_expr len) → TakesOne (terminal.Symbol Symbol.CloseBracket) two three → DerivesBehind three after own →
     plain_expr e ≡ expression node place (plain_kind (kind.NewArray start suffixes len own.rpl own.index)) → behind ≡ after → DerivesLengths start place before behind (plain_expr e)
-made_lengths {start = start} {suffixes = suffixes} {len = len} {own = own} opening d close behind is rest =
-    rw (is, kind_NewArray start suffixes len own.rpl own.index, rest) (lengths start_open d close.takes behind)
+made_lengths start suffixes len e own opening d close tail is rest =
+    rw (is, kind_NewArray start suffixes len own.rpl own.index, rest) (lengths opening d close.takes tail)
 
 pub first_opened : {before after : List Placed} {place : Place} → TakesSymbol Symbol.OpenBracket before after place → DerivesOpenSuffixes before after []
 first_opened takes = opened Many.none takes
@@ -53,7 +54,7 @@ first_opened takes = opened Many.none takes
 pub more_opened : {before one two three after : List Placed} {all : List Suffix} {next : Suffix} {place : Place} →
     DerivesOpenSuffixes before one all → TakesOne (terminal.Symbol Symbol.CloseBracket) one two → DerivesBehind two three next → TakesSymbol Symbol.OpenBracket three after place →
     {longer : List Suffix} → longer ≡ all ++ next ∷ [] → DerivesOpenSuffixes before after longer
-more_opened (opened many open_at) close behind takes is = rw is (opened (many_snoc many (suffix open_at close.takes behind)) takes)
+more_opened (opened many open_at) close tail takes is = rw is (opened (many_snoc many (suffix open_at close.takes tail)) takes)
 
 pub made_inner : {before one two after : List Placed} {e : PlainExpr} {place : Place} →
     TakesSymbol Symbol.OpenParen before one place → DerivesExpr one two e → TakesOne (terminal.Symbol Symbol.CloseParen) two after → DerivesInner before after e
@@ -84,27 +85,27 @@ pub made_literal : {before after behind : List Placed} {form : ExprForm} {e : Pl
     NextSpells before form → TakesNext before after at → place ≡ at → e ≡ expression node place form → behind ≡ after → DerivesPrimary (ending_of e) before behind e
 made_literal spelled takes same is rest = rw (is, rest, same) (spelled_primary (next-takes takes spelled.next) spelled.spells)
 
-pub made_element : {before one two after behind : List Placed} {of at e : Expr} {node : ℕ} {place : Place} →
+pub made_element : (of at e : Expr) {before one two after behind : List Placed} {node : ℕ} {place : Place} →
     TakesSymbol Symbol.OpenBracket before one place → DerivesExpr one two (plain_expr at) → TakesOne (terminal.Symbol Symbol.CloseBracket) two after →
     plain_expr e ≡ expression node place (plain_kind (kind.Element of at)) → behind ≡ after → DerivesSelection (plain_expr of) before behind (plain_expr e)
-made_element {of = of} {at = at} takes d close is rest = rw (is, kind_Element of at, rest) (indexed takes d close.takes)
+made_element of at e takes d close is rest = rw (is, kind_Element of at, rest) (indexed takes d close.takes)
 
 no_args_here : {before after : List Placed} {regions : List RplTree} → DerivesArgs before after regions → NoNext (terminal.Symbol Symbol.Less) before → after ≡ before
 no_args_here no_args none = refl
 no_args_here (args takes d close) none = absurd (none (record { after = _; takes = record { place = _; takes = takes } }))
 
-pub made_field : {before one two after behind : List Placed} {of e : Expr} {named : Named} {regions : List RplTree} {node : ℕ} {place : Place} →
+pub made_field : (of e : Expr) (named : Named) {before one two after behind : List Placed} {regions : List RplTree} {node : ℕ} {place : Place} →
     Next (terminal.Symbol Symbol.Dot) before → TakesNext before one place → DerivesArgs one two regions → NoNext (terminal.Symbol Symbol.Less) one → TakesName two after named →
     plain_expr e ≡ expression node named.place (plain_kind (kind.Field of named.name)) → behind ≡ after → DerivesSelection (plain_expr of) before behind (plain_expr e)
-made_field {after = after} {of = of} {named = named} next takes d none name is rest =
+made_field of e named {after = after} next takes d none name is rest =
     let here : TakesName _ after named = rw (no_args_here d none) at name in
     rw (is, kind_Field of named.name, rest) (behind_dot (next-takes takes next) here)
 
-pub made_call : {before one two three after behind : List Placed} {of e : Expr} {named : Named} {regions : List RplTree} {all : List Expr} {node : ℕ} {place : Place} →
+pub made_call : (of e : Expr) (named : Named) (regions : List RplTree) (all : List Expr) {before one two three after behind : List Placed} {node : ℕ} {place : Place} →
     Next (terminal.Symbol Symbol.Dot) before → TakesNext before one place → DerivesArgs one two regions → TakesName two three named → DerivesActuals three after (plain_exprs (map plain_expr all)) →
     plain_expr e ≡ expression node named.place (plain_kind (kind.Call of regions named.name all)) → behind ≡ after → DerivesSelection (plain_expr of) before behind (plain_expr e)
-made_call {of = of} {named = named} {regions = regions} {all = all} next takes args name d is rest =
-    rw (is, kind_Call of regions named.name all, rest) (called (next-takes takes next) args name d)
+made_call of e named regions all next takes paths name d is rest =
+    rw (is, kind_Call of regions named.name all, rest) (called (next-takes takes next) paths name d)
 
 pub made_no_actuals : {before one after : List Placed} {all : List Expr} {place : Place} →
     TakesSymbol Symbol.OpenParen before one place → TakesOne (terminal.Symbol Symbol.CloseParen) one after → all ≡ [] → DerivesActuals before after (plain_exprs (map plain_expr all))
@@ -123,15 +124,15 @@ made_actuals takes (more d comma listed) close = actuals takes d (listed_further
 pub made_new : {before one two three after behind : List Placed} {name : Named} {regions : List RplTree} {all : PlainExprs} {e : PlainExpr} {node : ℕ} {place : Place} →
     TakesKeyword Keyword.New before one place → TakesName one two name → DerivesArgs two three regions → DerivesActuals three after all →
     e ≡ expression node place (create name regions all) → behind ≡ after → DerivesPostfix (ending_of e) before behind e
-made_new takes name args d is rest = rw (is, rest) (primary (creation takes name args d))
+made_new takes name paths d is rest = rw (is, rest) (primary (creation takes name paths d))
 
-pub first_listed : {before after : List Placed} {e : Expr} {start all : List Expr} →
+pub first_listed : (e : Expr) {before after : List Placed} {start all : List Expr} →
     DerivesExpr before after (plain_expr e) → start ≡ [] → all ≡ start ++ e ∷ [] → Listed DerivesExprTree before after all
-first_listed d empty is = rw (is, empty) (last d)
+first_listed e d empty is = rw (is, empty) (last d)
 
-pub more_listed : {before one two after : List Placed} {e : Expr} {start all : List Expr} →
+pub more_listed : (e : Expr) {before one two after : List Placed} {start all : List Expr} →
     Listed DerivesExprTree before one start → TakesOne (terminal.Symbol Symbol.Comma) one two → DerivesExpr two after (plain_expr e) → all ≡ start ++ e ∷ [] → Listed DerivesExprTree before after all
-more_listed listed comma d is = rw is (listed_snoc listed comma.takes d)
+more_listed e listed comma d is = rw is (listed_snoc listed comma.takes d)
 
 pub primary_target : {ending : Ending} {before after : List Placed} {e : PlainExpr} → DerivesPrimary ending before after e → DerivesPostfix ending before after e
 primary_target d = primary d

@@ -31,6 +31,7 @@ fn made(cursor: &mut Cursor, place: Place, kind: StmtKind) -> Stmt
 }
 
 /// `Stmt`
+#[tactic(auto, using(crate::proofs::Stating::stmt_form, crate::proofs::Stating::stmt_stays))]
 #[cycle(stmts)]
 fn stmt(alloc: Global, cursor: &mut Cursor) -> Result<Stmt, Stop>
     ensures pays { OnOk result (Reads 0 cursor.old cursor.new) }
@@ -45,6 +46,7 @@ fn stmt(alloc: Global, cursor: &mut Cursor) -> Result<Stmt, Stop>
 }
 
 /// A statement that holds other ones, but for its number and place; None where another one begins here.
+#[tactic(auto, using(crate::proofs::Stating::block_form))]
 #[cycle(stmts)]
 fn form(alloc: Global, cursor: &mut Cursor) -> Result<Option<StmtKind>, Stop>
     ensures pays { IfOk result (λ found. MatchOption found (cursor.new ≡ cursor.old) (λ kind. Reads 1 cursor.old cursor.new)) }
@@ -67,6 +69,7 @@ fn form(alloc: Global, cursor: &mut Cursor) -> Result<Option<StmtKind>, Stop>
 }
 
 /// `Block = "{" { Stmt } "}"`
+#[tactic(auto, using(crate::proofs::Stating::block_braces))]
 #[cycle(stmts)]
 pub fn block(alloc: Global, cursor: &mut Cursor) -> Result<Items<Stmt>, Stop>
     ensures pays { OnOk result (Reads 1 cursor.old cursor.new) }
@@ -79,6 +82,7 @@ pub fn block(alloc: Global, cursor: &mut Cursor) -> Result<Items<Stmt>, Stop>
 }
 
 /// `{ Stmt }`, up to the `}`
+#[tactic(auto, using(crate::proofs::Stating::first_stmts, crate::proofs::Stating::more_stmts))]
 #[cycle(stmts)]
 fn stmts(alloc: Global, cursor: &mut Cursor) -> Result<Items<Stmt>, Stop>
     ensures pays { OnOk result (Keeps cursor.old cursor.new) }
@@ -108,6 +112,7 @@ fn body(alloc: Global, cursor: &mut Cursor) -> Result<Boxed<Stmt>, Stop>
 }
 
 /// `"if" "(" Expr ")" Stmt [ "else" Stmt ]`
+#[tactic(auto, using(crate::proofs::Stating::if_form, crate::proofs::Stating::else_form))]
 #[cycle(stmts)]
 fn choice(alloc: Global, cursor: &mut Cursor) -> Result<StmtKind, Stop>
     ensures pays { OnOk result (Reads 1 cursor.old cursor.new) }
@@ -128,6 +133,7 @@ fn choice(alloc: Global, cursor: &mut Cursor) -> Result<StmtKind, Stop>
 }
 
 /// `"while" "(" Expr ")" Stmt`
+#[tactic(auto, using(crate::proofs::Stating::while_form))]
 #[cycle(stmts)]
 fn while_loop(alloc: Global, cursor: &mut Cursor) -> Result<StmtKind, Stop>
     ensures pays { OnOk result (Reads 1 cursor.old cursor.new) }
@@ -140,6 +146,7 @@ fn while_loop(alloc: Global, cursor: &mut Cursor) -> Result<StmtKind, Stop>
 }
 
 /// `"(" Expr ")"`
+#[tactic(auto, using(crate::proofs::Stating::made_condition))]
 fn condition(alloc: Global, cursor: &mut Cursor) -> Result<Expr, Stop>
     ensures pays { OnOk result (Reads 1 cursor.old cursor.new) }
     ensures derives { IfOk result (λ e. DerivesCondition cursor.old.rest.now cursor.new.rest.now (plain_expr e)) }
@@ -151,6 +158,7 @@ fn condition(alloc: Global, cursor: &mut Cursor) -> Result<Expr, Stop>
 }
 
 /// `( "cobegin" | "cobegin_nd" ) Block`
+#[tactic(auto, using(crate::proofs::Stating::cobegin_form))]
 #[cycle(stmts)]
 fn cobegin(alloc: Global, cursor: &mut Cursor, nd: bool) -> Result<StmtKind, Stop>
     requires { Next (Terminal.Keyword (cobegin_word nd)) cursor.old.rest.now }
@@ -163,6 +171,7 @@ fn cobegin(alloc: Global, cursor: &mut Cursor, nd: bool) -> Result<StmtKind, Sto
 }
 
 /// `"atomic" Block`
+#[tactic(auto, using(crate::proofs::Stating::atomic_form))]
 #[cycle(stmts)]
 fn atomic(alloc: Global, cursor: &mut Cursor) -> Result<StmtKind, Stop>
     ensures pays { OnOk result (Reads 1 cursor.old cursor.new) }
@@ -173,6 +182,7 @@ fn atomic(alloc: Global, cursor: &mut Cursor) -> Result<StmtKind, Stop>
 }
 
 /// `( "foreach" | "foreach_nd" ) "(" "int" Name "in" Expr "," Expr ")" Stmt`
+#[tactic(auto, using(crate::proofs::Stating::foreach_form))]
 #[cycle(stmts)]
 fn foreach(alloc: Global, cursor: &mut Cursor, nd: bool) -> Result<StmtKind, Stop>
     requires { Next (Terminal.Keyword (foreach_word nd)) cursor.old.rest.now }
@@ -193,6 +203,7 @@ fn foreach(alloc: Global, cursor: &mut Cursor, nd: bool) -> Result<StmtKind, Sto
 }
 
 /// `"foreach_parts" "(" Name "," "int" Name "in" Expr "," Expr ")" Stmt`
+#[tactic(auto, using(crate::proofs::Stating::parts_form))]
 #[cycle(stmts)]
 fn foreach_parts(alloc: Global, cursor: &mut Cursor) -> Result<StmtKind, Stop>
     ensures pays { OnOk result (Reads 1 cursor.old cursor.new) }
@@ -222,6 +233,7 @@ struct Span {
 }
 
 /// `"int" Name "in" Expr "," Expr ")"`
+#[tactic(auto, using(crate::proofs::Stating::made_range))]
 fn range(alloc: Global, cursor: &mut Cursor) -> Result<Span, Stop>
     requires { 1 ≤ cursor.old.level }
     ensures pays { OnOk result (Closes cursor.old cursor.new) }
@@ -254,6 +266,7 @@ fn simple(alloc: Global, cursor: &mut Cursor) -> Result<Stmt, Stop>
 }
 
 /// `"return" [ Expr ] ";"`
+#[tactic(auto, using(crate::proofs::Stating::return_alone, crate::proofs::Stating::return_with))]
 fn returned(alloc: Global, cursor: &mut Cursor) -> Result<Stmt, Stop>
     ensures pays { OnOk result (Reads 0 cursor.old cursor.new) }
     ensures derives { IfOk result (λ s. DerivesStmt cursor.old.rest.now cursor.new.rest.now (plain_stmt s)) }
@@ -268,6 +281,7 @@ fn returned(alloc: Global, cursor: &mut Cursor) -> Result<Stmt, Stop>
 }
 
 /// `"print" "(" ( Expr | Text ) ")" ";"`
+#[tactic(auto, using(crate::proofs::Stating::made_print))]
 fn printed(alloc: Global, cursor: &mut Cursor) -> Result<Stmt, Stop>
     ensures pays { OnOk result (Reads 0 cursor.old cursor.new) }
     ensures derives { IfOk result (λ s. DerivesStmt cursor.old.rest.now cursor.new.rest.now (plain_stmt s)) }
@@ -282,6 +296,7 @@ fn printed(alloc: Global, cursor: &mut Cursor) -> Result<Stmt, Stop>
 }
 
 /// `Expr | Text`
+#[tactic(auto, using(crate::proofs::Stating::shown_value, crate::proofs::Stating::shown_text))]
 fn shown(alloc: Global, cursor: &mut Cursor) -> Result<StmtKind, Stop>
     ensures pays { OnOk result (Reads 0 cursor.old cursor.new) }
     ensures derives { IfOk result (λ kind. DerivesPrinted cursor.old.rest.now cursor.new.rest.now (plain_stmt_kind kind)) }
@@ -295,6 +310,7 @@ fn shown(alloc: Global, cursor: &mut Cursor) -> Result<StmtKind, Stop>
 }
 
 /// `"region" Name { "," Name } ";"`
+#[tactic(auto, using(crate::proofs::Stating::made_regions))]
 fn regions(alloc: Global, cursor: &mut Cursor) -> Result<Stmt, Stop>
     ensures pays { OnOk result (Reads 0 cursor.old cursor.new) }
     ensures derives { IfOk result (λ s. DerivesStmt cursor.old.rest.now cursor.new.rest.now (plain_stmt s)) }
@@ -329,6 +345,7 @@ fn closes_third(cursor: &Cursor) -> bool {
 }
 
 /// `[ "final" ] Type Name "=" Expr ";"`
+#[tactic(auto, using(crate::proofs::Stating::made_declaration))]
 fn declaration(alloc: Global, cursor: &mut Cursor) -> Result<Stmt, Stop>
     ensures pays { OnOk result (Reads 0 cursor.old cursor.new) }
     ensures derives { IfOk result (λ s. DerivesStmt cursor.old.rest.now cursor.new.rest.now (plain_stmt s)) }
@@ -349,6 +366,7 @@ fn declaration(alloc: Global, cursor: &mut Cursor) -> Result<Stmt, Stop>
 }
 
 /// `Expr ";"`
+#[tactic(auto, using(crate::proofs::Stating::made_value))]
 fn value(alloc: Global, cursor: &mut Cursor) -> Result<Expr, Stop>
     ensures pays { OnOk result (Reads 0 cursor.old cursor.new) }
     ensures derives { IfOk result (λ e. DerivesValue cursor.old.rest.now cursor.new.rest.now (plain_expr e)) }
@@ -370,6 +388,7 @@ fn assigns(cursor: &Cursor) -> bool {
 }
 
 /// `Name "=" Expr ";"`
+#[tactic(auto, using(crate::proofs::Stating::made_assignment))]
 fn assignment(alloc: Global, cursor: &mut Cursor) -> Result<Stmt, Stop>
     ensures pays { OnOk result (Reads 0 cursor.old cursor.new) }
     ensures derives { IfOk result (λ s. DerivesStmt cursor.old.rest.now cursor.new.rest.now (plain_stmt s)) }
@@ -382,6 +401,7 @@ fn assignment(alloc: Global, cursor: &mut Cursor) -> Result<Stmt, Stop>
 }
 
 /// `Postfix "=" Expr ";"` where it ends as a field or element, and `Postfix ";"` where as a call or creation.
+#[tactic(auto, using(crate::proofs::Stating::made_field_assignment, crate::proofs::Stating::made_element_assignment, crate::proofs::Stating::call_performed, crate::proofs::Stating::new_performed))]
 fn performed(alloc: Global, cursor: &mut Cursor) -> Result<Stmt, Stop>
     ensures pays { OnOk result (Reads 0 cursor.old cursor.new) }
     ensures derives { IfOk result (λ s. DerivesStmt cursor.old.rest.now cursor.new.rest.now (plain_stmt s)) }

@@ -61,12 +61,12 @@ invariant-operators-loop-op l = record {
 abbrev pub decreases-operators-loop-op : goal.decreases-operators-loop-op
 decreases-operators-loop-op l = length l.cursor.rest.now
 
-abbrev pub invariant-selected-loop-found : goal.invariant-selected-loop-found
-invariant-selected-loop-found l = record {
+abbrev pub invariant-selected-loop-alloc : goal.invariant-selected-loop-alloc
+invariant-selected-loop-alloc l = record {
   pays : Keeps l.fn.cursor l.cursor;
   derives : DerivesSelections (plain_expr l.fn.first) l.fn.cursor.rest.now l.cursor.rest.now (plain_expr l.found);
   last : l.found.node + 1 ≡ l.cursor.node;
 }
 
-abbrev pub decreases-selected-loop-found : goal.decreases-selected-loop-found
-decreases-selected-loop-found l = length l.cursor.rest.now
+abbrev pub decreases-selected-loop-alloc : goal.decreases-selected-loop-alloc
+decreases-selected-loop-alloc l = length l.cursor.rest.now
