@@ -1,5 +1,6 @@
 pub mod Taken
 pub mod Lists
+pub mod Regions
 pub mod Ops
 pub mod Trees
 pub mod Selecting

@@ -1,16 +1,24 @@
--- Lists that grow at their end.
-use Rattle.std.proofs.Common.{List, [], ◌∷◌, ◌++◌}
+-- A list grows by an item at its end, as a loop reads it.
+use Rattle.std.proofs.Common.{◌≡◌, List, [], ◌∷◌, ◌++◌}
 use Rattle.dpj_base.specs.declared.place.Place.{Place}
 use Rattle.dpj_tokens.specs.declared.token.Symbol.{Symbol}
+use Rattle.dpj_tokens.specs.declared.token.Symbol.TheVariants as symbol
 use Rattle.dpj_terminals.specs.declared.terminal.Placed.{Placed}
-use Rattle.dpj_parse.specs.Taking.{TakesSymbol, Many, none, some, Listed, last, more}
+use Rattle.dpj_terminals.specs.declared.terminal.Terminal.TheVariants as terminal
+use Rattle.dpj_parse.specs.Taking.{Takes, TakesOne, TakesSymbol, Listed, last, more, Many, none, some}
 
-pub many_snoc : {A : Type 0} {D : List Placed → List Placed → A → Type 0} {a b c : List Placed} {xs : List A} {x : A} →
-    Many D a b xs → D b c x → Many D a c (xs ++ x ∷ [])
-many_snoc none d = some d none
-many_snoc (some e many) d = some e (many_snoc many d)
+pub many_more : {A : Type 0} {Derives : List Placed → List Placed → A → Type 0} {start here after : List Placed} {items : List A} {item : A} →
+    Many Derives start here items → Derives here after item → Many Derives start after (items ++ item ∷ [])
+many_more none d = some d none
+many_more (some e m) d = some e (many_more m d)
 
-pub listed_snoc : {A : Type 0} {D : List Placed → List Placed → A → Type 0} {a b c d : List Placed} {xs : List A} {x : A} {comma : Place} →
-    Listed D a b xs → TakesSymbol Symbol.Comma b c comma → D c d x → Listed D a d (xs ++ x ∷ [])
-listed_snoc (last e) comma d = more e comma (last d)
-listed_snoc (more e between listed) comma d = more e between (listed_snoc listed comma d)
+pub listed_more : {A : Type 0} {Derives : List Placed → List Placed → A → Type 0} {start here one after : List Placed} {items : List A} {item : A} →
+    Listed Derives start here items → TakesOne (terminal.Symbol symbol.Comma) here one → Derives one after item → Listed Derives start after (items ++ item ∷ [])
+listed_more (last e) comma d = more e comma.takes (last d)
+listed_more (more e first l) comma d = more e first (listed_more l comma d)
+
+-- a list behind a bracket that opens it
+pub record Behind {A : Type 0} (bracket : Symbol) (Reads : List Placed → List Placed → List A → Type 0) (start here : List Placed) (items : List A) : Type 0 where
+  pub one : List Placed
+  pub opens : TakesOne (terminal.Symbol bracket) start one
+  pub reads : Reads one here items

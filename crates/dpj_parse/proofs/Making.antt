@@ -21,7 +21,7 @@ use Rattle.dpj_parse.specs.Types.{DerivesBase, class, DerivesBehind, DerivesSuff
 use Rattle.dpj_parse.specs.Expressions.{DerivesExpr, DerivesActuals, no_actuals, actuals, DerivesFurther, end, further, DerivesUnary, operator, new_array, DerivesNewArray, array, DerivesPostfix, primary, DerivesPrimary, parenthesised, creation, Ending, as_value, as_creation}
 use Rattle.dpj_parse.specs.Reading.{plain_kind, DerivesExprTree, ending_of, Spells, NextSpells, DerivesSelection, behind_dot, called, indexed, DerivesSelections, DerivesInner, inner, DerivesOpenSuffixes, opened, DerivesLengths, lengths}
 use Rattle.dpj_parse.specs.Expressions.{symbol_of, unary_symbol}
-use Rattle.dpj_parse.proofs.Lists.{many_snoc, listed_snoc}
+use Rattle.dpj_parse.proofs.Lists.{many_more, listed_more}
 use Rattle.dpj_parse.proofs.Selecting.{selections_unary, selection_postfix}
 use Rattle.dpj_parse.proofs.Taken.{next-takes}
 use Rattle.dpj_parse.proofs.Trees.{kind_Unary, kind_Field, kind_Call, kind_Element, kind_NewArray}
@@ -54,7 +54,7 @@ first_opened takes = opened Many.none takes
 pub more_opened : {before one two three after : List Placed} {all : List Suffix} {next : Suffix} {place : Place} →
     DerivesOpenSuffixes before one all → TakesOne (terminal.Symbol Symbol.CloseBracket) one two → DerivesBehind two three next → TakesSymbol Symbol.OpenBracket three after place →
     {longer : List Suffix} → longer ≡ all ++ next ∷ [] → DerivesOpenSuffixes before after longer
-more_opened (opened many open_at) close tail takes is = rw is (opened (many_snoc many (suffix open_at close.takes tail)) takes)
+more_opened (opened many open_at) close tail takes is = rw is (opened (many_more many (suffix open_at close.takes tail)) takes)
 
 pub made_inner : {before one two after : List Placed} {e : PlainExpr} {place : Place} →
     TakesSymbol Symbol.OpenParen before one place → DerivesExpr one two e → TakesOne (terminal.Symbol Symbol.CloseParen) two after → DerivesInner before after e
@@ -132,7 +132,7 @@ first_listed e d empty is = rw (is, empty) (last d)
 
 pub more_listed : (e : Expr) {before one two after : List Placed} {start all : List Expr} →
     Listed DerivesExprTree before one start → TakesOne (terminal.Symbol Symbol.Comma) one two → DerivesExpr two after (plain_expr e) → all ≡ start ++ e ∷ [] → Listed DerivesExprTree before after all
-more_listed e listed comma d is = rw is (listed_snoc listed comma.takes d)
+more_listed e listed comma d is = rw is (listed_more listed comma d)
 
 pub primary_target : {ending : Ending} {before after : List Placed} {e : PlainExpr} → DerivesPrimary ending before after e → DerivesPostfix ending before after e
 primary_target d = primary d

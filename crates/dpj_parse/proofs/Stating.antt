@@ -20,7 +20,7 @@ use Rattle.dpj_parse.specs.Types.{DerivesType}
 use Rattle.dpj_parse.specs.Expressions.{DerivesExpr, DerivesPostfix, as_field, as_element, as_call, as_creation}
 use Rattle.dpj_parse.specs.Statements.{DerivesStmt, DerivesStmts, DerivesBlock, DerivesForm, DerivesCondition, DerivesValue, DerivesRange, DerivesFinal, IsPerformed, cobegin_word, foreach_word}
 use Rattle.dpj_parse.specs.Reading.{plain_kind, plain_stmt_kind, DerivesStmtTree, DerivesPrinted, ending_of, form_ending}
-use Rattle.dpj_parse.proofs.Lists.{many_snoc}
+use Rattle.dpj_parse.proofs.Lists.{many_more}
 use Rattle.dpj_parse.proofs.Taken.{next-takes}
 use Rattle.dpj_parse.proofs.Trees.{plain_node, kind_Field, kind_Element, kind_Call, kind_New}
 use Rattle.dpj_parse.proofs.StmtTrees.{kind_Block, kind_Declare, kind_AssignLocal, kind_AssignField, kind_AssignElement, kind_Do, kind_If_alone, kind_If_else, kind_While, kind_Return_nothing, kind_Return_value, kind_Print, kind_PrintText, kind_Cobegin, kind_Foreach, kind_ForeachParts, kind_Atomic, kind_Region}
@@ -102,7 +102,7 @@ first_stmts is = rw is Many.none
 
 pub more_stmts : (s : Stmt) {before one after : List Placed} {start all : List Stmt} →
     Many DerivesStmtTree before one start → DerivesStmt one after (plain_stmt s) → all ≡ start ++ s ∷ [] → Many DerivesStmtTree before after all
-more_stmts s many d is = rw is (many_snoc many d)
+more_stmts s many d is = rw is (many_more many d)
 
 pub made_condition : {before one two after : List Placed} {e : PlainExpr} {place : Place} →
     TakesSymbol Symbol.OpenParen before one place → DerivesExpr one two e → TakesOne (terminal.Symbol Symbol.CloseParen) two after → DerivesCondition before after e

@@ -42,14 +42,16 @@ pub data DerivesParam : Bool → List Placed → List Placed → ParamTree → T
       TakesName before after named →
       DerivesParam is_atomic before after (record { node = node; place = named.place; name = named.name; atomic = is_atomic })
 
--- { "," [ Kind ] Name }, behind a parameter of a kind: a bare name has the kind of the one before it
+-- [ Kind ], behind a parameter of a kind: a bare name has the kind of the one before it
+pub data DerivesKindOr : Bool → List Placed → List Placed → Bool → Type 0 where
+  same : {earlier : Bool} {here : List Placed} → DerivesKindOr earlier here here earlier
+  other : {earlier is_atomic : Bool} {before after : List Placed} → DerivesKind before after is_atomic → DerivesKindOr earlier before after is_atomic
+
+-- { "," [ Kind ] Name }, behind a parameter of a kind
 pub data DerivesParamsBehind : Bool → List Placed → List Placed → List ParamTree → Type 0 where
   no_more : {earlier : Bool} {here : List Placed} → DerivesParamsBehind earlier here here []
-  bare : {earlier : Bool} {before one two after : List Placed} {tree : ParamTree} {others : List ParamTree} {comma : Place} →
-      TakesSymbol Symbol.Comma before one comma → DerivesParam earlier one two tree → DerivesParamsBehind earlier two after others →
-      DerivesParamsBehind earlier before after (tree ∷ others)
-  of_kind : {earlier is_atomic : Bool} {before one two three after : List Placed} {tree : ParamTree} {others : List ParamTree} {comma : Place} →
-      TakesSymbol Symbol.Comma before one comma → DerivesKind one two is_atomic → DerivesParam is_atomic two three tree → DerivesParamsBehind is_atomic three after others →
+  behind : {earlier is_atomic : Bool} {before one two three after : List Placed} {tree : ParamTree} {others : List ParamTree} {comma : Place} →
+      TakesSymbol Symbol.Comma before one comma → DerivesKindOr earlier one two is_atomic → DerivesParam is_atomic two three tree → DerivesParamsBehind is_atomic three after others →
       DerivesParamsBehind earlier before after (tree ∷ others)
 
 -- Kind Name { "," [ Kind ] Name }
