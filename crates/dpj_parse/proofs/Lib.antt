@@ -1,6 +1,7 @@
 pub mod Taken
 pub mod Lists
 pub mod Regions
+pub mod TypeForms
 pub mod Ops
 pub mod Trees
 pub mod Selecting

@@ -1,7 +1,6 @@
 -- A list grows by an item at its end, as a loop reads it.
 use Rattle.std.proofs.Common.{◌≡◌, List, [], ◌∷◌, ◌++◌}
 use Rattle.dpj_base.specs.declared.place.Place.{Place}
-use Rattle.dpj_tokens.specs.declared.token.Symbol.{Symbol}
 use Rattle.dpj_tokens.specs.declared.token.Symbol.TheVariants as symbol
 use Rattle.dpj_terminals.specs.declared.terminal.Placed.{Placed}
 use Rattle.dpj_terminals.specs.declared.terminal.Terminal.TheVariants as terminal
@@ -16,9 +15,3 @@ pub listed_more : {A : Type 0} {Derives : List Placed → List Placed → A → 
     Listed Derives start here items → TakesOne (terminal.Symbol symbol.Comma) here one → Derives one after item → Listed Derives start after (items ++ item ∷ [])
 listed_more (last e) comma d = more e comma.takes (last d)
 listed_more (more e first l) comma d = more e first (listed_more l comma d)
-
--- a list behind a bracket that opens it
-pub record Behind {A : Type 0} (bracket : Symbol) (Reads : List Placed → List Placed → List A → Type 0) (start here : List Placed) (items : List A) : Type 0 where
-  pub one : List Placed
-  pub opens : TakesOne (terminal.Symbol bracket) start one
-  pub reads : Reads one here items

@@ -1,5 +1,5 @@
 -- The productions of region paths and region parameters, as their functions read them.
-use Rattle.std.proofs.Common.{◌≡◌, ℕ, ℤ, List, [], ◌∷◌, ◌++◌, Option, Some, None, Bool, true, false, sym, subst, append_assoc}
+use Rattle.std.proofs.Common.{◌≡◌, ℕ, ℤ, List, [], ◌∷◌, ◌++◌, Option, Some, None, Bool, true, false, sym, subst, append_assoc, append-nil}
 use Rattle.dpj_base.specs.declared.place.Place.{Place}
 use Rattle.dpj_tokens.specs.declared.token.Symbol.TheVariants as symbol
 use Rattle.dpj_tokens.specs.declared.token.Keyword.TheVariants as keyword
@@ -15,9 +15,8 @@ use Rattle.dpj_tree.specs.declared.region.RName.{RName}
 use Rattle.dpj_tree.specs.declared.region.RplHead.TheVariants as head
 use Rattle.dpj_tree.specs.declared.region.RplTree.{RplTree}
 use Rattle.dpj_parse.specs.Taking.{Takes, TakesOne, TakesIf, TakesNext, TakesName, TakesSymbol, TakesKeyword, Next, Listed, last}
-use Rattle.dpj_parse.specs.Paths.{DerivesRName, two_names, DerivesHead, DerivesElem, DerivesNext, next, DerivesRpl, DerivesArgs, args}
+use Rattle.dpj_parse.specs.Paths.{DerivesRName, two_names, DerivesHead, DerivesWithin, number, any, DerivesElem, within, DerivesNext, next, DerivesRpl}
 use Rattle.dpj_parse.specs.Classes.{DerivesAtomic, DerivesKind, kind, DerivesKindOr, same, other, DerivesParam, DerivesParamsBehind, no_more, behind, DerivesDeclared, declared, DerivesConstr, DerivesGiven, given, DerivesParams, params}
-use Rattle.dpj_parse.proofs.Lists.{Behind, listed_more}
 use Rattle.dpj_parse.proofs.Taken.{next-takes}
 
 pub second_name : {before one two after : List Placed} {first second : Named} →
@@ -40,33 +39,16 @@ elem_star n t = DerivesElem.star (next-takes t n)
 pub next_elem : {before one after : List Placed} {tree : ElemTree} → TakesOne (terminal.Symbol symbol.Colon) before one → DerivesElem one after tree → DerivesNext before after tree
 next_elem colon d = next colon.takes d
 
-pub elem_number : {before one two after : List Placed} {n : ℤ} {open_at at : Place} →
-    TakesSymbol symbol.OpenBracket before one open_at → Next (terminal.Int n) one → TakesNext one two at → TakesOne (terminal.Symbol symbol.CloseBracket) two after →
-    DerivesElem before after (elem.Lit n)
-elem_number o n t c = DerivesElem.number o (next-takes t n) c.takes
+pub within_number : {before after : List Placed} {n : ℤ} {at : Place} → Next (terminal.Int n) before → TakesNext before after at → DerivesWithin before after (elem.Lit n)
+within_number n t = number (next-takes t n)
 
-pub elem_index : {before one two after : List Placed} {name : ℕ} {open_at at : Place} →
-    TakesSymbol symbol.OpenBracket before one open_at → Next (terminal.Name name) one → TakesNext one two at → TakesOne (terminal.Symbol symbol.CloseBracket) two after →
-    DerivesElem before after (elem.Index (record { name = name; place = at }))
-elem_index o n t c = DerivesElem.index o (next-takes t n) c.takes
+pub within_any : {before after : List Placed} {at : Place} → Next (terminal.Symbol symbol.Question) before → TakesNext before after at → DerivesWithin before after elem.Any
+within_any n t = any (next-takes t n)
 
-pub elem_any : {before one two after : List Placed} {open_at at : Place} →
-    TakesSymbol symbol.OpenBracket before one open_at → Next (terminal.Symbol symbol.Question) one → TakesNext one two at → TakesOne (terminal.Symbol symbol.CloseBracket) two after →
-    DerivesElem before after elem.Any
-elem_any o n t c = DerivesElem.any o (next-takes t n) c.takes
-
-pub args_first : {start one here : List Placed} {path : RplTree} {open_at : Place} →
-    TakesSymbol symbol.Less start one open_at → DerivesRpl one here path → Behind symbol.Less (Listed DerivesRpl) start here (path ∷ [])
-args_first o d = record { opens = record { takes = o }; reads = last d }
-
-pub args_more : {start here one after : List Placed} {paths : List RplTree} {path : RplTree} →
-    Behind symbol.Less (Listed DerivesRpl) start here paths → TakesOne (terminal.Symbol symbol.Comma) here one → DerivesRpl one after path →
-    Behind symbol.Less (Listed DerivesRpl) start after (paths ++ path ∷ [])
-args_more b comma d = record { opens = b.opens; reads = listed_more b.reads comma d }
-
-pub args_done : {start here after : List Placed} {paths : List RplTree} {close_at : Place} →
-    Behind symbol.Less (Listed DerivesRpl) start here paths → TakesSymbol symbol.Greater here after close_at → DerivesArgs start after paths
-args_done b c = args b.opens.takes b.reads c
+pub elem_within : {before one two after : List Placed} {tree : ElemTree} {open_at : Place} →
+    TakesSymbol symbol.OpenBracket before one open_at → DerivesWithin one two tree → TakesOne (terminal.Symbol symbol.CloseBracket) two after →
+    DerivesElem before after tree
+elem_within o d c = within o d c.takes
 
 pub atomic_if : {before after : List Placed} {found : Bool} → TakesIf (terminal.Keyword keyword.Atomic) found before after → DerivesAtomic before after found
 atomic_if {found = true} t = DerivesAtomic.atomic t.takes

@@ -1,6 +1,6 @@
 ghost use Rattle.std.specs.Prelude.{IfOk, OnOk};
 ghost use Rattle.dpj_parse.specs.Classes.{DerivesConstr, DerivesDeclared, DerivesGiven, DerivesKind, DerivesKindOr, DerivesParam, DerivesParams};
-ghost use Rattle.dpj_parse.specs.Paths.{DerivesArgs, DerivesElem, DerivesHead, DerivesNext, DerivesRName, DerivesRpl};
+ghost use Rattle.dpj_parse.specs.Paths.{DerivesArgs, DerivesElem, DerivesHead, DerivesNext, DerivesRName, DerivesRpl, DerivesWithin};
 ghost use Rattle.dpj_parse.specs.Progress.{Keeps, Reads};
 ghost use Rattle.dpj_parse.specs.Taking.{Listed, Many, TakesName};
 
@@ -110,22 +110,34 @@ fn elem(cursor: &mut Cursor) -> Result<ElemTree, Stop>
 }
 
 /// `"[" ( Int | Name | "?" ) "]"`
-#[tactic(auto, using(crate::proofs::Regions::elem_number, crate::proofs::Regions::elem_index, crate::proofs::Regions::elem_any))]
+#[tactic(auto, using(crate::proofs::Regions::elem_within))]
 fn index(cursor: &mut Cursor) -> Result<ElemTree, Stop>
     ensures pays { OnOk result (Reads 1 cursor.old cursor.new) }
     ensures derives { IfOk result (λ tree. DerivesElem cursor.old.rest.now cursor.new.rest.now tree) }
 {
     cursor.open(Symbol::OpenBracket)?;
-    let place = cursor.place();
-    let elem = match cursor.next() {
-        Some(Terminal::Int(number)) => ElemTree::Lit(*number),
-        Some(Terminal::Name(name)) => ElemTree::Index(Named { name: *name, place }),
-        Some(Terminal::Symbol(Symbol::Question)) => ElemTree::Any,
-        _ => return Err(cursor.unexpected()),
-    };
-    cursor.accept()?;
+    let elem = within(cursor)?;
     cursor.close(Symbol::CloseBracket)?;
     Ok(elem)
+}
+
+/// `Int | Name | "?"`
+#[tactic(auto, using(crate::specs::Paths::index, crate::proofs::Regions::within_number, crate::proofs::Regions::within_any))]
+fn within(cursor: &mut Cursor) -> Result<ElemTree, Stop>
+    ensures pays { OnOk result (Reads 1 cursor.old cursor.new) }
+    ensures derives { IfOk result (λ tree. DerivesWithin cursor.old.rest.now cursor.new.rest.now tree) }
+{
+    match cursor.next() {
+        Some(Terminal::Int(number)) => {
+            cursor.accept()?;
+            Ok(ElemTree::Lit(*number))
+        }
+        Some(Terminal::Symbol(Symbol::Question)) => {
+            cursor.accept()?;
+            Ok(ElemTree::Any)
+        }
+        _ => Ok(ElemTree::Index(cursor.name()?)),
+    }
 }
 
 /// `[ Args ]`
@@ -141,19 +153,29 @@ pub fn args_if(alloc: Global, cursor: &mut Cursor) -> Result<Items<RplTree>, Sto
 }
 
 /// `Args = "<" Rpl { "," Rpl } ">"`
-#[tactic(auto, using(crate::proofs::Regions::args_first, crate::proofs::Regions::args_more, crate::proofs::Regions::args_done))]
+#[tactic(auto, using(crate::specs::Paths::args))]
 pub fn args(alloc: Global, cursor: &mut Cursor) -> Result<Items<RplTree>, Stop>
     ensures pays { OnOk result (Reads 1 cursor.old cursor.new) }
     ensures derives { IfOk result (λ paths. DerivesArgs cursor.old.rest.now cursor.new.rest.now paths) }
 {
-    let mut args = Items::new(alloc);
     cursor.symbol(Symbol::Less)?;
-    args.push(rpl(alloc, cursor)?)?;
-    while cursor.symbol_if(Symbol::Comma)? {
-        args.push(rpl(alloc, cursor)?)?;
-    }
+    let args = paths(alloc, cursor)?;
     cursor.symbol(Symbol::Greater)?;
     Ok(args)
+}
+
+/// `Rpl { "," Rpl }`
+#[tactic(auto, using(crate::proofs::Lists::listed_more, crate::specs::Taking::last))]
+fn paths(alloc: Global, cursor: &mut Cursor) -> Result<Items<RplTree>, Stop>
+    ensures pays { OnOk result (Reads 0 cursor.old cursor.new) }
+    ensures derives { IfOk result (λ paths. Listed DerivesRpl cursor.old.rest.now cursor.new.rest.now paths) }
+{
+    let mut paths = Items::new(alloc);
+    paths.push(rpl(alloc, cursor)?)?;
+    while cursor.symbol_if(Symbol::Comma)? {
+        paths.push(rpl(alloc, cursor)?)?;
+    }
+    Ok(paths)
 }
 
 /// `[ Params ]`
