@@ -45,7 +45,6 @@ pub fn expr(alloc: Global, cursor: &mut Cursor) -> Result<Expr, Stop>
 }
 
 /// `Unary { operator Unary }`, with operators that bind at least so tightly.
-#[tactic(auto, using(crate::proofs::Ops::grouped_unary, crate::proofs::Ops::grouped_operation))]
 #[cycle(exprs)]
 fn operators(alloc: Global, cursor: &mut Cursor, least: u32) -> Result<Expr, Stop>
     ensures pays { OnOk result (Reads 0 cursor.old cursor.new) }
@@ -261,6 +260,7 @@ fn selects(cursor: &Cursor) -> bool {
 }
 
 /// `{ "." Name | "." [ Args ] Name "(" [ Actuals ] ")" | "[" Expr "]" }`
+#[tactic(auto, using(crate::specs::Reading::none, crate::specs::Reading::more))]
 #[cycle(exprs)]
 fn selected(alloc: Global, cursor: &mut Cursor, first: Expr) -> Result<Expr, Stop>
     requires { first.node + 1 ≡ cursor.old.node }
@@ -393,7 +393,6 @@ fn target_first(alloc: Global, cursor: &mut Cursor) -> Result<Expr, Stop>
 }
 
 /// `"new" Name [ Args ] "(" [ Actuals ] ")"`
-#[tactic(auto, using(crate::proofs::Making::made_new))]
 fn new_object(alloc: Global, cursor: &mut Cursor) -> Result<Expr, Stop>
     ensures pays { OnOk result (Reads 0 cursor.old cursor.new) }
     ensures derives { IfOk result (λ e. DerivesPostfix (ending_of (plain_expr e)) cursor.old.rest.now cursor.new.rest.now (plain_expr e)) }
