@@ -49,21 +49,21 @@ block_form all d = rw (kind_Block all) (DerivesForm.blocked d)
 pub if_form : (test : Expr) (body : Stmt) {found : Bool} {before one two three after : List Placed} {place : Place} →
     TakesKeyword Keyword.If before one place → DerivesCondition one two (plain_expr test) → DerivesStmt two three (plain_stmt body) →
     TakesIf (terminal.Keyword Keyword.Else) found three after → found ≡ false → DerivesForm before after (plain_stmt_kind (kind.If test body None))
-if_form test body {found = found} takes condition d alone is =
+if_form test body {found = found} takes tested d alone is =
     let none = takes_none found alone is in
-    rw (kind_If_alone test body, none.1) (DerivesForm.if_alone takes condition d none.0)
+    rw (kind_If_alone test body, none.1) (DerivesForm.if_alone takes tested d none.0)
 
 pub else_form : (test : Expr) (body other : Stmt) {found : Bool} {before one two three four after : List Placed} {place : Place} →
     TakesKeyword Keyword.If before one place → DerivesCondition one two (plain_expr test) → DerivesStmt two three (plain_stmt body) →
     TakesIf (terminal.Keyword Keyword.Else) found three four → found ≡ true → DerivesStmt four after (plain_stmt other) →
     DerivesForm before after (plain_stmt_kind (kind.If test body (Some other)))
-else_form test body other {found = found} takes condition d others is behind =
-    rw (kind_If_else test body other) (DerivesForm.if_else takes condition d (takes_found found others is).takes behind)
+else_form test body other {found = found} takes tested d others is behind =
+    rw (kind_If_else test body other) (DerivesForm.if_else takes tested d (takes_found found others is).takes behind)
 
 pub while_form : (test : Expr) (body : Stmt) {before one two after : List Placed} {place : Place} →
     TakesKeyword Keyword.While before one place → DerivesCondition one two (plain_expr test) → DerivesStmt two after (plain_stmt body) →
     DerivesForm before after (plain_stmt_kind (kind.While test body))
-while_form test body takes condition d = rw (kind_While test body) (DerivesForm.turning takes condition d)
+while_form test body takes tested d = rw (kind_While test body) (DerivesForm.turning takes tested d)
 
 pub cobegin_form : (nd : Bool) (all : List Stmt) {before one after : List Placed} {place : Place} →
     Next (terminal.Keyword (cobegin_word nd)) before → TakesNext before one place → DerivesBlock one after (plain_stmts (map plain_stmt all)) →
@@ -78,15 +78,15 @@ pub foreach_form : (nd : Bool) (var : Named) (first second : Expr) (body : Stmt)
     Next (terminal.Keyword (foreach_word nd)) before → TakesNext before one place → TakesSymbol Symbol.OpenParen one two open_at →
     DerivesRange two three var (plain_expr first) (plain_expr second) → DerivesStmt three after (plain_stmt body) →
     DerivesForm before after (plain_stmt_kind (kind.Foreach nd var first second body))
-foreach_form nd var first second body next takes start range d =
-    rw (kind_Foreach nd var first second body) (DerivesForm.spreading {nd = nd} (next-takes takes next) start range d)
+foreach_form nd var first second body next takes start span d =
+    rw (kind_Foreach nd var first second body) (DerivesForm.spreading {nd = nd} (next-takes takes next) start span d)
 
 pub parts_form : (view var : Named) (first second : Expr) (body : Stmt) {before one two three four five after : List Placed} {place open_at comma : Place} →
     TakesKeyword Keyword.ForeachParts before one place → TakesSymbol Symbol.OpenParen one two open_at → TakesName two three view → TakesSymbol Symbol.Comma three four comma →
     DerivesRange four five var (plain_expr first) (plain_expr second) → DerivesStmt five after (plain_stmt body) →
     DerivesForm before after (plain_stmt_kind (kind.ForeachParts view var first second body))
-parts_form view var first second body takes start name comma range d =
-    rw (kind_ForeachParts view var first second body) (DerivesForm.parting takes start name comma range d)
+parts_form view var first second body takes start name comma span d =
+    rw (kind_ForeachParts view var first second body) (DerivesForm.parting takes start name comma span d)
 
 stmts_all : {before after : List Placed} {all : List Stmt} → Many DerivesStmtTree before after all → DerivesStmts before after (plain_stmts (map plain_stmt all))
 stmts_all Many.none = DerivesStmts.none
