@@ -45,7 +45,7 @@ fn stmt(alloc: Global, cursor: &mut Cursor) -> Result<Stmt, Stop>
     }
 }
 
-/// A statement that holds other ones, but for its number and place; None where another one begins here.
+/// A statement that holds other ones, but for its number and place; None where one begins that holds none.
 #[tactic(auto, using(crate::proofs::Stating::block_form))]
 #[cycle(stmts)]
 fn form(alloc: Global, cursor: &mut Cursor) -> Result<Option<StmtKind>, Stop>
@@ -182,7 +182,6 @@ fn atomic(alloc: Global, cursor: &mut Cursor) -> Result<StmtKind, Stop>
 }
 
 /// `( "foreach" | "foreach_nd" ) "(" "int" Name "in" Expr "," Expr ")" Stmt`
-#[tactic(auto, using(crate::proofs::Stating::foreach_form))]
 #[cycle(stmts)]
 fn foreach(alloc: Global, cursor: &mut Cursor, nd: bool) -> Result<StmtKind, Stop>
     requires { Next (Terminal.Keyword (foreach_word nd)) cursor.old.rest.now }
@@ -203,7 +202,6 @@ fn foreach(alloc: Global, cursor: &mut Cursor, nd: bool) -> Result<StmtKind, Sto
 }
 
 /// `"foreach_parts" "(" Name "," "int" Name "in" Expr "," Expr ")" Stmt`
-#[tactic(auto, using(crate::proofs::Stating::parts_form))]
 #[cycle(stmts)]
 fn foreach_parts(alloc: Global, cursor: &mut Cursor) -> Result<StmtKind, Stop>
     ensures pays { OnOk result (Reads 1 cursor.old cursor.new) }
@@ -233,7 +231,6 @@ struct Span {
 }
 
 /// `"int" Name "in" Expr "," Expr ")"`
-#[tactic(auto, using(crate::proofs::Stating::made_range))]
 fn range(alloc: Global, cursor: &mut Cursor) -> Result<Span, Stop>
     requires { 1 ≤ cursor.old.level }
     ensures pays { OnOk result (Closes cursor.old cursor.new) }
@@ -281,7 +278,6 @@ fn returned(alloc: Global, cursor: &mut Cursor) -> Result<Stmt, Stop>
 }
 
 /// `"print" "(" ( Expr | Text ) ")" ";"`
-#[tactic(auto, using(crate::proofs::Stating::made_print))]
 fn printed(alloc: Global, cursor: &mut Cursor) -> Result<Stmt, Stop>
     ensures pays { OnOk result (Reads 0 cursor.old cursor.new) }
     ensures derives { IfOk result (λ s. DerivesStmt cursor.old.rest.now cursor.new.rest.now (plain_stmt s)) }
@@ -345,7 +341,6 @@ fn closes_third(cursor: &Cursor) -> bool {
 }
 
 /// `[ "final" ] Type Name "=" Expr ";"`
-#[tactic(auto, using(crate::proofs::Stating::made_declaration))]
 fn declaration(alloc: Global, cursor: &mut Cursor) -> Result<Stmt, Stop>
     ensures pays { OnOk result (Reads 0 cursor.old cursor.new) }
     ensures derives { IfOk result (λ s. DerivesStmt cursor.old.rest.now cursor.new.rest.now (plain_stmt s)) }
@@ -388,7 +383,6 @@ fn assigns(cursor: &Cursor) -> bool {
 }
 
 /// `Name "=" Expr ";"`
-#[tactic(auto, using(crate::proofs::Stating::made_assignment))]
 fn assignment(alloc: Global, cursor: &mut Cursor) -> Result<Stmt, Stop>
     ensures pays { OnOk result (Reads 0 cursor.old cursor.new) }
     ensures derives { IfOk result (λ s. DerivesStmt cursor.old.rest.now cursor.new.rest.now (plain_stmt s)) }
