@@ -4,4 +4,5 @@ pub mod Types
 pub mod Expressions
 pub mod Statements
 pub mod Classes
+pub mod Reading
 pub mod Progress

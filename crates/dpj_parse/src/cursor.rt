@@ -130,6 +130,7 @@ impl<'a> Cursor<'a> {
     pub fn symbol(&mut self, symbol: Symbol) -> Result<Place, Stop>
         ensures pays { OnOk result (Reads 1 self.old self.new) }
         ensures takes { IfOk result (λ place. TakesSymbol symbol self.old.rest.now self.new.rest.now place) }
+        ensures unnumbered { OnOk result (self.new.node ≡ self.old.node) }
     {
         if !self.is_symbol(symbol) {
             return Err(self.unexpected());
@@ -204,6 +205,7 @@ impl<'a> Cursor<'a> {
         requires { 1 ≤ self.old.level }
         ensures pays { OnOk result (Closes self.old self.new) }
         ensures takes { OnOk result (TakesOne (Terminal.Symbol bracket) self.old.rest.now self.new.rest.now) }
+        ensures unnumbered { OnOk result (self.new.node ≡ self.old.node) }
     {
         self.symbol(bracket)?;
         self.level -= 1;
