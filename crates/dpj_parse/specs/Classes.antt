@@ -1,5 +1,5 @@
 -- The grammar of a program, its classes and their members, with their trees.
-use Rattle.std.specs.Prelude.{◌≡◌, ◌⊎◌, ℕ, List, [], ◌∷◌, map, Bool, true, false, Option, Some, None}
+use Rattle.std.specs.Prelude.{◌≡◌, ◌⊎◌, ℕ, List, [], ◌∷◌, length, map, Bool, true, false, Option, Some, None}
 use Rattle.dpj_base.specs.declared.place.Place.{Place}
 use Rattle.dpj_tokens.specs.declared.token.Symbol.{Symbol}
 use Rattle.dpj_tokens.specs.declared.token.Keyword.{Keyword}
@@ -13,6 +13,7 @@ use Rattle.dpj_tree.specs.declared.class.Member.TheVariants as member
 use Rattle.dpj_tree.specs.declared.class.MethodResult.{MethodResult}
 use Rattle.dpj_tree.specs.declared.class.MethodResult.TheVariants as outcome
 use Rattle.dpj_tree.specs.declared.class.Parent.{Parent}
+use Rattle.dpj_tree.specs.declared.class.Program.{Program}
 use Rattle.dpj_tree.specs.declared.class.SummaryTree.{SummaryTree}
 use Rattle.dpj_tree.specs.declared.region.ConstrTree.{ConstrTree}
 use Rattle.dpj_tree.specs.declared.region.Named.{Named}
@@ -196,3 +197,9 @@ pub data DerivesClass : List Placed → List Placed → Class → Type 0 where
 pub data DerivesProgram : List Placed → List Class → Type 0 where
   program : {before one : List Placed} {first : Class} {others : List Class} →
       DerivesClass before one first → Many DerivesClass one [] others → DerivesProgram before (first ∷ others)
+
+-- a text of so many terminals has this tree
+pub record Parses (count : ℕ) (tree : Program) : Type 0 where
+  pub terminals : List Placed
+  pub counted : length terminals ≡ count
+  pub derives : DerivesProgram terminals tree.classes

@@ -1,5 +1,7 @@
 -- How far the reading of a text has come between two states of its cursor.
 use Rattle.std.specs.Prelude.{◌≡◌, ℕ, ◌+◌, ◌<◌, ◌≤◌, Bool, true, false, length}
+use Rattle.dpj_tree.specs.declared.class.Member.{Member}
+use Rattle.dpj_tree.specs.declared.class.Member.TheVariants as member
 use Rattle.dpj_parse.specs.declared.cursor.Cursor.{Cursor}
 
 -- Some terminals were taken, on the level where the next one stands. Each new node is paid by a terminal of its
@@ -51,3 +53,9 @@ pub record Advances (old new : Cursor) : Type 0 where
 pub record Joins (old new : Cursor) : Type 0 where
   pub counted : new.joined ≡ old.joined + 1
   pub within : new.joined ≤ 32
+
+-- the number of a member's node, if it has one, is the last that was given
+abbrev pub IsNumberedLast : Member → ℕ → Type 0
+IsNumberedLast (member.Field field) next = field.node + 1 ≡ next
+IsNumberedLast (member.Method method) next = method.node + 1 ≡ next
+IsNumberedLast (member.Regions is_atomic names) next = Unit {0}

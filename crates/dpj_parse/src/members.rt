@@ -1,6 +1,6 @@
-ghost use Rattle.std.specs.Prelude.{◌↔◌, IfOk, IsTrue, OnOk};
+ghost use Rattle.std.specs.Prelude.{◌≡◌, ◌+◌, ◌↔◌, IfOk, IsTrue, OnOk};
 ghost use Rattle.dpj_parse.specs.Classes.{BeginsEffects, DerivesField, DerivesFormal, DerivesFormalList, DerivesFormals, DerivesIn, DerivesItem, DerivesItemsIf, DerivesMember, DerivesMethod, DerivesNamed, DerivesResult, DerivesSummary};
-ghost use Rattle.dpj_parse.specs.Progress.{Keeps, Reads};
+ghost use Rattle.dpj_parse.specs.Progress.{IsNumberedLast, Keeps, Reads};
 ghost use Rattle.dpj_parse.specs.Taking.{Listed};
 
 use crate::cursor::Cursor;
@@ -21,6 +21,7 @@ use std::alloc::Global;
 pub fn member(alloc: Global, cursor: &mut Cursor) -> Result<Member, Stop>
     ensures pays { OnOk result (Reads 0 cursor.old cursor.new) }
     ensures derives { IfOk result (λ tree. DerivesMember cursor.old.rest.now cursor.new.rest.now tree) }
+    ensures last { IfOk result (λ tree. IsNumberedLast tree cursor.new.node) }
 {
     if begins_kind(cursor) {
         return regions(alloc, cursor);
@@ -76,6 +77,7 @@ fn result(alloc: Global, cursor: &mut Cursor) -> Result<MethodResult, Stop>
 fn typed(alloc: Global, cursor: &mut Cursor) -> Result<Member, Stop>
     ensures pays { OnOk result (Reads 0 cursor.old cursor.new) }
     ensures derives { IfOk result (λ tree. DerivesMember cursor.old.rest.now cursor.new.rest.now tree) }
+    ensures last { IfOk result (λ tree. IsNumberedLast tree cursor.new.node) }
 {
     let ty = ty(alloc, cursor)?;
     let named = cursor.name()?;
@@ -96,6 +98,7 @@ fn typed(alloc: Global, cursor: &mut Cursor) -> Result<Member, Stop>
 fn field(alloc: Global, cursor: &mut Cursor, ty: TypeTree, named: Named) -> Result<Member, Stop>
     ensures pays { OnOk result (Reads 0 cursor.old cursor.new) }
     ensures derives { IfOk result (λ tree. DerivesField ty named cursor.old.rest.now cursor.new.rest.now tree) }
+    ensures last { IfOk result (λ tree. IsNumberedLast tree cursor.new.node) }
 {
     let region = region_if(alloc, cursor)?;
     cursor.symbol(Symbol::Semicolon)?;
@@ -130,6 +133,7 @@ fn method(
 ) -> Result<Member, Stop>
     ensures pays { OnOk result (Reads 0 cursor.old cursor.new) }
     ensures derives { IfOk result (λ tree. DerivesNamed params returns cursor.old.rest.now cursor.new.rest.now tree) }
+    ensures last { IfOk result (λ tree. IsNumberedLast tree cursor.new.node) }
 {
     let named = cursor.name()?;
     behind_name(alloc, cursor, params, returns, named)
@@ -146,6 +150,7 @@ fn behind_name(
 ) -> Result<Member, Stop>
     ensures pays { OnOk result (Reads 0 cursor.old cursor.new) }
     ensures derives { IfOk result (λ tree. DerivesMethod params returns named cursor.old.rest.now cursor.new.rest.now tree) }
+    ensures last { IfOk result (λ tree. IsNumberedLast tree cursor.new.node) }
 {
     let formals = formals(alloc, cursor)?;
     let summary = summary(alloc, cursor)?;
@@ -196,6 +201,7 @@ fn formal_list(alloc: Global, cursor: &mut Cursor) -> Result<Items<Formal>, Stop
 fn formal(alloc: Global, cursor: &mut Cursor) -> Result<Formal, Stop>
     ensures pays { OnOk result (Reads 0 cursor.old cursor.new) }
     ensures derives { IfOk result (λ tree. DerivesFormal cursor.old.rest.now cursor.new.rest.now tree) }
+    ensures last { IfOk result (λ tree. tree.node + 1 ≡ cursor.new.node) }
 {
     let ty = ty(alloc, cursor)?;
     let named = cursor.name()?;

@@ -1,4 +1,5 @@
-ghost use Rattle.std.specs.Prelude.{◌≤◌, length};
+ghost use Rattle.std.specs.Prelude.{◌≤◌, length, IfOk};
+ghost use Rattle.dpj_parse.specs.Classes.{Parses};
 ghost use Rattle.dpj_tokens.specs.Cutting.{StandInOrder};
 
 use crate::classes::classes;
@@ -13,6 +14,7 @@ use std::alloc::Global;
 pub fn parse(alloc: Global, bytes: &[u8], tokens: &Tokens) -> Result<Program, Stop>
     requires small { length bytes.now ≤ 1048576 }
     requires stand { StandInOrder bytes.now 0 tokens.now.list }
+    ensures derives { IfOk result (λ tree. Parses (length tokens.now.list) tree) }
 {
     let Terminals { list, names } = terminals(alloc, bytes, tokens)?;
     let mut cursor = Cursor {

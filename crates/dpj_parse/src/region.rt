@@ -1,4 +1,4 @@
-ghost use Rattle.std.specs.Prelude.{◌≡◌, [], IfOk, OnOk};
+ghost use Rattle.std.specs.Prelude.{◌≡◌, ◌+◌, ◌≤◌, [], length, IfOk, OnOk};
 ghost use Rattle.dpj_parse.specs.Classes.{DerivesConstr, DerivesDeclared, DerivesGiven, DerivesKind, DerivesKindOr, DerivesParam, DerivesParams};
 ghost use Rattle.dpj_parse.specs.Paths.{DerivesArgs, DerivesElem, DerivesHead, DerivesNext, DerivesRName, DerivesRpl, DerivesWithin};
 ghost use Rattle.dpj_parse.specs.Progress.{Keeps, Reads};
@@ -45,6 +45,7 @@ fn region_name(cursor: &mut Cursor) -> Result<RName, Stop>
 pub fn rpl(alloc: Global, cursor: &mut Cursor) -> Result<RplTree, Stop>
     ensures pays { OnOk result (Reads 0 cursor.old cursor.new) }
     ensures derives { IfOk result (λ path. DerivesRpl cursor.old.rest.now cursor.new.rest.now path) }
+    ensures last { IfOk result (λ path. path.node + 1 ≡ cursor.new.node) }
 {
     let place = cursor.place();
     let head = head(cursor)?;
@@ -73,15 +74,25 @@ fn head(cursor: &mut Cursor) -> Result<RplHead, Stop>
 fn elems(alloc: Global, cursor: &mut Cursor) -> Result<Items<ElemTree>, Stop>
     ensures pays { OnOk result (Keeps cursor.old cursor.new) }
     ensures derives { IfOk result (λ elems. Many DerivesNext cursor.old.rest.now cursor.new.rest.now elems) }
+    ensures few { IfOk result (λ elems. length elems ≤ 32) }
 {
     let mut elems = Items::new(alloc);
     while cursor.symbol_if(Symbol::Colon)? {
-        if begins_elem(cursor) && elems.len() >= MOST as usize {
-            return Err(cursor.too_many());
+        if elems.len() >= MOST as usize {
+            return Err(one_more(cursor));
         }
         elems.push(elem(cursor)?)?;
     }
     Ok(elems)
+}
+
+/// No further element is taken, and something else can't stand here.
+fn one_more(cursor: &Cursor) -> Stop {
+    if begins_elem(cursor) {
+        cursor.too_many()
+    } else {
+        cursor.unexpected()
+    }
 }
 
 /// Whether an element of a region path comes next.
@@ -233,6 +244,7 @@ fn declared(alloc: Global, cursor: &mut Cursor) -> Result<Items<ParamTree>, Stop
 fn param(cursor: &mut Cursor, atomic: bool) -> Result<ParamTree, Stop>
     ensures pays { OnOk result (Reads 0 cursor.old cursor.new) }
     ensures derives { IfOk result (λ tree. DerivesParam atomic cursor.old.rest.now cursor.new.rest.now tree) }
+    ensures last { IfOk result (λ tree. tree.node + 1 ≡ cursor.new.node) }
 {
     let named = cursor.name()?;
     Ok(ParamTree {

@@ -1,4 +1,4 @@
-ghost use Rattle.std.specs.Prelude.{IfOk, OnOk};
+ghost use Rattle.std.specs.Prelude.{◌≡◌, ◌+◌, ◌≤◌, length, IfOk, OnOk};
 ghost use Rattle.dpj_parse.specs.Progress.{Keeps, Reads};
 ghost use Rattle.dpj_parse.specs.Taking.{Many};
 ghost use Rattle.dpj_parse.specs.Types.{DerivesBase, DerivesBehind, DerivesIndex, DerivesRegion, DerivesSuffix, DerivesType};
@@ -16,6 +16,7 @@ use std::alloc::Global;
 pub fn ty(alloc: Global, cursor: &mut Cursor) -> Result<TypeTree, Stop>
     ensures pays { OnOk result (Reads 0 cursor.old cursor.new) }
     ensures derives { IfOk result (λ tree. DerivesType cursor.old.rest.now cursor.new.rest.now tree) }
+    ensures last { IfOk result (λ tree. tree.node + 1 ≡ cursor.new.node) }
 {
     let place = cursor.place();
     let base = base(alloc, cursor)?;
@@ -56,6 +57,7 @@ pub fn base(alloc: Global, cursor: &mut Cursor) -> Result<BaseTree, Stop>
 fn suffixes(alloc: Global, cursor: &mut Cursor) -> Result<Items<Suffix>, Stop>
     ensures pays { OnOk result (Keeps cursor.old cursor.new) }
     ensures derives { IfOk result (λ suffixes. Many DerivesSuffix cursor.old.rest.now cursor.new.rest.now suffixes) }
+    ensures few { IfOk result (λ suffixes. length suffixes ≤ 32) }
 {
     let mut suffixes = Items::new(alloc);
     while cursor.is_symbol(Symbol::OpenBracket) {
