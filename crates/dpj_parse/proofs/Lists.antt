@@ -1,5 +1,5 @@
 -- A list grows by an item at its end, as a loop reads it.
-use Rattle.std.proofs.Common.{◌≡◌, List, [], ◌∷◌, ◌++◌}
+use Rattle.std.proofs.Common.{◌≡◌, ◌<◌, ◌≤◌, List, [], ◌∷◌, ◌++◌, length, length-append, arith}
 use Rattle.dpj_base.specs.declared.place.Place.{Place}
 use Rattle.dpj_tokens.specs.declared.token.Symbol.TheVariants as symbol
 use Rattle.dpj_terminals.specs.declared.terminal.Placed.{Placed}
@@ -18,3 +18,6 @@ listed_more (more e first l) comma d = more e first (listed_more l comma d)
 
 pub many_one : {A : Type 0} {Derives : List Placed → List Placed → A → Type 0} {before after : List Placed} {item : A} → Derives before after item → Many Derives before after (item ∷ [])
 many_one d = some d none
+
+pub few_more : {A : Type 0} (items : List A) (item : A) → length items < 32 → length (items ++ item ∷ []) ≤ 32
+few_more items item h = omega (arith, length-append items (item ∷ []))

@@ -70,7 +70,7 @@ fn head(cursor: &mut Cursor) -> Result<RplHead, Stop>
 }
 
 /// `{ ":" Elem }`
-#[tactic(auto, using(crate::proofs::Lists::many_more, crate::specs::Taking::none, crate::proofs::Regions::next_elem))]
+#[tactic(auto, using(crate::proofs::Lists::many_more, crate::proofs::Lists::few_more, crate::specs::Taking::none, crate::proofs::Regions::next_elem))]
 fn elems(alloc: Global, cursor: &mut Cursor) -> Result<Items<ElemTree>, Stop>
     ensures pays { OnOk result (Keeps cursor.old cursor.new) }
     ensures derives { IfOk result (λ elems. Many DerivesNext cursor.old.rest.now cursor.new.rest.now elems) }

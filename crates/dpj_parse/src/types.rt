@@ -53,7 +53,7 @@ pub fn base(alloc: Global, cursor: &mut Cursor) -> Result<BaseTree, Stop>
 }
 
 /// `{ "[" "]" [ "<" Rpl ">" ] [ "#" Name ] }`
-#[tactic(auto, using(crate::proofs::Lists::many_more, crate::specs::Taking::none, crate::proofs::TypeForms::suffix_of))]
+#[tactic(auto, using(crate::proofs::Lists::many_more, crate::proofs::Lists::few_more, crate::specs::Taking::none, crate::proofs::TypeForms::suffix_of))]
 fn suffixes(alloc: Global, cursor: &mut Cursor) -> Result<Items<Suffix>, Stop>
     ensures pays { OnOk result (Keeps cursor.old cursor.new) }
     ensures derives { IfOk result (λ suffixes. Many DerivesSuffix cursor.old.rest.now cursor.new.rest.now suffixes) }
