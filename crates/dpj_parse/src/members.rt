@@ -42,6 +42,7 @@ pub fn member(alloc: Global, cursor: &mut Cursor) -> Result<Member, Stop>
 fn regions(alloc: Global, cursor: &mut Cursor) -> Result<Member, Stop>
     ensures pays { OnOk result (Reads 0 cursor.old cursor.new) }
     ensures derives { IfOk result (λ tree. DerivesMember cursor.old.rest.now cursor.new.rest.now tree) }
+    ensures last { IfOk result (λ tree. IsNumberedLast tree cursor.new.node) }
 {
     let atomic = kind(cursor)?;
     let names = names(alloc, cursor)?;
