@@ -1,5 +1,5 @@
 -- What was read makes the statement that it is.
-use Rattle.std.proofs.Common.{◌≡◌, ℕ, Bool, true, false, List, [], ◌∷◌, ◌++◌, Option, Some, None, map, refl, sym, ap, subst, ◌∙◌, inl, inr}
+use Rattle.std.proofs.Common.{◌≡◌, ℕ, Bool, true, false, List, [], ◌∷◌, ◌++◌, Some, None, map, ap, subst, ◌∙◌, inl, inr}
 use Rattle.dpj_base.specs.declared.place.Place.{Place}
 use Rattle.dpj_tokens.specs.declared.token.Symbol.{Symbol}
 use Rattle.dpj_tokens.specs.declared.token.Keyword.{Keyword}
@@ -13,7 +13,7 @@ use Rattle.dpj_tree.specs.declared.expr.Expr.{Expr}
 use Rattle.dpj_tree.specs.declared.expr.ExprKind.TheVariants as expr_kind
 use Rattle.dpj_tree.specs.declared.stmt.Stmt.{Stmt}
 use Rattle.dpj_tree.specs.declared.stmt.StmtKind.TheVariants as kind
-use Rattle.dpj_tree.specs.Plain.{PlainExpr, expression, ExprForm, PlainStmt, statement, StmtForm, perform, plain_expr, plain_exprs, plain_stmt, plain_stmts}
+use Rattle.dpj_tree.specs.Plain.{PlainExpr, expression, PlainStmt, statement, StmtForm, perform, plain_expr, plain_stmt, plain_stmts}
 use Rattle.dpj_parse.specs.declared.cursor.Cursor.{Cursor}
 use Rattle.dpj_parse.specs.Taking.{Takes, TakesSymbol, TakesKeyword, TakesName, TakesOne, TakesNext, TakesIf, Next, NoNext, StandsAt, Many, Listed}
 use Rattle.dpj_parse.specs.Types.{DerivesType}

@@ -1,12 +1,12 @@
 -- The forms of the statements of the code's trees.
-use Rattle.std.proofs.Common.{◌≡◌, ℕ, Bool, List, Option, Some, None, map, refl, sym, ap, ◌∙◌, rules}
+use Rattle.std.proofs.Common.{◌≡◌, ℕ, Bool, List, Some, None, map, rules}
 use Rattle.dpj_tree.specs.declared.region.Named.{Named}
 use Rattle.dpj_tree.specs.declared.region.TypeTree.{TypeTree}
 use Rattle.dpj_tree.specs.declared.expr.Expr.{Expr}
 use Rattle.dpj_tree.specs.declared.stmt.Stmt.{Stmt}
-use Rattle.dpj_tree.specs.declared.stmt.StmtKind.{StmtKind, the_lemmas}
+use Rattle.dpj_tree.specs.declared.stmt.StmtKind.{the_lemmas}
 use Rattle.dpj_tree.specs.declared.stmt.StmtKind.TheVariants as kind
-use Rattle.dpj_tree.specs.Plain.{StmtForm, block, declare, assign_local, assign_field, assign_element, perform, choice, choice_else, while_loop, return_nothing, return_value, print, print_text, cobegin, foreach, foreach_parts, atomic, local_regions, plain_expr, plain_stmt, plain_stmts}
+use Rattle.dpj_tree.specs.Plain.{block, declare, assign_local, assign_field, assign_element, perform, choice, choice_else, while_loop, return_nothing, return_value, print, print_text, cobegin, foreach, foreach_parts, atomic, local_regions, plain_expr, plain_stmt, plain_stmts}
 use Rattle.dpj_parse.specs.Reading.{plain_stmt_kind}
 
 pub kind_Block : (all : List Stmt) → plain_stmt_kind (kind.Block all) ≡ block (plain_stmts (map plain_stmt all))

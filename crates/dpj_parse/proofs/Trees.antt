@@ -1,5 +1,5 @@
 -- The forms of the code's trees.
-use Rattle.std.proofs.Common.{◌≡◌, ℕ, ℤ, Bool, List, Option, Some, None, map, refl, sym, ap, ◌∙◌, rules}
+use Rattle.std.proofs.Common.{◌≡◌, ℕ, ℤ, Bool, List, Option, map, rules}
 use Rattle.dpj_tree.specs.declared.region.Named.{Named}
 use Rattle.dpj_tree.specs.declared.region.RplTree.{RplTree}
 use Rattle.dpj_tree.specs.declared.region.BaseTree.{BaseTree}
@@ -7,9 +7,9 @@ use Rattle.dpj_tree.specs.declared.region.Suffix.{Suffix}
 use Rattle.dpj_tree.specs.declared.expr.UnaryOp.{UnaryOp}
 use Rattle.dpj_tree.specs.declared.expr.BinaryOp.{BinaryOp}
 use Rattle.dpj_tree.specs.declared.expr.Expr.{Expr}
-use Rattle.dpj_tree.specs.declared.expr.ExprKind.{ExprKind, the_lemmas}
+use Rattle.dpj_tree.specs.declared.expr.ExprKind.{the_lemmas}
 use Rattle.dpj_tree.specs.declared.expr.ExprKind.TheVariants as kind
-use Rattle.dpj_tree.specs.Plain.{PlainExpr, expression, ExprForm, int, boolean, null, this, local, field, element, call, create, create_array, unary, binary, plain_expr, plain_exprs}
+use Rattle.dpj_tree.specs.Plain.{expression, int, boolean, null, this, local, field, element, call, create, create_array, unary, binary, plain_expr, plain_exprs}
 use Rattle.dpj_parse.specs.Reading.{plain_kind}
 
 pub plain_node : (e : Expr) → plain_expr e ≡ expression e.node e.place (plain_kind e.kind)

@@ -1,5 +1,5 @@
 -- Parts of the grammar of expressions and statements as they are read, one behind another.
-use Rattle.std.specs.Prelude.{ℕ, ℤ, ◌≤◌, List, true, false}
+use Rattle.std.specs.Prelude.{ℕ, ℤ, List, true, false}
 use Rattle.dpj_base.specs.declared.place.Place.{Place}
 use Rattle.dpj_tokens.specs.declared.token.Symbol.{Symbol}
 use Rattle.dpj_tokens.specs.declared.token.Keyword.{Keyword}
@@ -15,9 +15,9 @@ use Rattle.dpj_tree.specs.declared.expr.ExprKind.{ExprKind, fold-ExprKind}
 use Rattle.dpj_tree.specs.declared.stmt.Stmt.{Stmt}
 use Rattle.dpj_tree.specs.declared.stmt.StmtKind.{StmtKind, fold-StmtKind}
 use Rattle.dpj_tree.specs.Plain.{PlainExpr, expression, ExprForm, int, boolean, null, this, local, field, element, call, create, create_array, unary, binary, PlainExprs, expr_form, expr_node, PlainStmt, StmtForm, print, print_text, stmt_form, stmt_node, plain_expr, plain_stmt}
-use Rattle.dpj_parse.specs.Taking.{Takes, TakesSymbol, TakesKeyword, TakesName, Next, Many}
+use Rattle.dpj_parse.specs.Taking.{Takes, TakesSymbol, TakesName, Next, Many}
 use Rattle.dpj_parse.specs.Paths.{DerivesArgs}
-use Rattle.dpj_parse.specs.Types.{DerivesBase, DerivesBehind, DerivesSuffix}
+use Rattle.dpj_parse.specs.Types.{DerivesBehind, DerivesSuffix}
 use Rattle.dpj_parse.specs.Expressions.{DerivesExpr, DerivesActuals, Ending, as_value, as_name, as_field, as_element, as_call, as_creation}
 use Rattle.dpj_parse.specs.Statements.{DerivesStmt}
 
