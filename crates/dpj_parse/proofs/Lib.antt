@@ -1,0 +1,12 @@
+pub mod Taken
+pub mod Lists
+pub mod MemberForms
+pub mod Regions
+pub mod TypeForms
+pub mod Ops
+pub mod Trees
+pub mod Selecting
+pub mod Spelling
+pub mod Making
+pub mod StmtTrees
+pub mod Stating

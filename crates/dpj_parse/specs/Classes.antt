@@ -1,9 +1,10 @@
 -- The grammar of a program, its classes and their members, with their trees.
-use Rattle.std.specs.Prelude.{◌≡◌, ℕ, List, [], ◌∷◌, map, Bool, true, false, Option, Some, None}
+use Rattle.std.specs.Prelude.{◌≡◌, ◌⊎◌, ℕ, List, [], ◌∷◌, length, map, Bool, true, false, Option, Some, None}
 use Rattle.dpj_base.specs.declared.place.Place.{Place}
 use Rattle.dpj_tokens.specs.declared.token.Symbol.{Symbol}
 use Rattle.dpj_tokens.specs.declared.token.Keyword.{Keyword}
 use Rattle.dpj_terminals.specs.declared.terminal.Placed.{Placed}
+use Rattle.dpj_terminals.specs.declared.terminal.Terminal.TheVariants as terminal
 use Rattle.dpj_tree.specs.declared.class.Class.{Class}
 use Rattle.dpj_tree.specs.declared.class.Formal.{Formal}
 use Rattle.dpj_tree.specs.declared.class.Item.{Item}
@@ -12,6 +13,7 @@ use Rattle.dpj_tree.specs.declared.class.Member.TheVariants as member
 use Rattle.dpj_tree.specs.declared.class.MethodResult.{MethodResult}
 use Rattle.dpj_tree.specs.declared.class.MethodResult.TheVariants as outcome
 use Rattle.dpj_tree.specs.declared.class.Parent.{Parent}
+use Rattle.dpj_tree.specs.declared.class.Program.{Program}
 use Rattle.dpj_tree.specs.declared.class.SummaryTree.{SummaryTree}
 use Rattle.dpj_tree.specs.declared.region.ConstrTree.{ConstrTree}
 use Rattle.dpj_tree.specs.declared.region.Named.{Named}
@@ -21,7 +23,7 @@ use Rattle.dpj_tree.specs.declared.region.RplTree.{RplTree}
 use Rattle.dpj_tree.specs.declared.region.TypeTree.{TypeTree}
 use Rattle.dpj_tree.specs.declared.stmt.Stmt.{Stmt}
 use Rattle.dpj_tree.specs.Plain.{plain_stmt, plain_stmts}
-use Rattle.dpj_parse.specs.Taking.{TakesSymbol, TakesKeyword, TakesName, Listed, Many}
+use Rattle.dpj_parse.specs.Taking.{TakesSymbol, TakesKeyword, TakesName, Next, NoNext, Listed, Many}
 use Rattle.dpj_parse.specs.Paths.{DerivesRpl, DerivesArgs}
 use Rattle.dpj_parse.specs.Types.{DerivesType}
 use Rattle.dpj_parse.specs.Statements.{DerivesBlock}
@@ -42,14 +44,16 @@ pub data DerivesParam : Bool → List Placed → List Placed → ParamTree → T
       TakesName before after named →
       DerivesParam is_atomic before after (record { node = node; place = named.place; name = named.name; atomic = is_atomic })
 
--- { "," [ Kind ] Name }, behind a parameter of a kind: a bare name has the kind of the one before it
+-- [ Kind ], behind a parameter of a kind: a bare name has the kind of the one before it
+pub data DerivesKindOr : Bool → List Placed → List Placed → Bool → Type 0 where
+  same : {earlier : Bool} {here : List Placed} → DerivesKindOr earlier here here earlier
+  other : {earlier is_atomic : Bool} {before after : List Placed} → DerivesKind before after is_atomic → DerivesKindOr earlier before after is_atomic
+
+-- { "," [ Kind ] Name }, behind a parameter of a kind
 pub data DerivesParamsBehind : Bool → List Placed → List Placed → List ParamTree → Type 0 where
   no_more : {earlier : Bool} {here : List Placed} → DerivesParamsBehind earlier here here []
-  bare : {earlier : Bool} {before one two after : List Placed} {tree : ParamTree} {others : List ParamTree} {comma : Place} →
-      TakesSymbol Symbol.Comma before one comma → DerivesParam earlier one two tree → DerivesParamsBehind earlier two after others →
-      DerivesParamsBehind earlier before after (tree ∷ others)
-  of_kind : {earlier is_atomic : Bool} {before one two three after : List Placed} {tree : ParamTree} {others : List ParamTree} {comma : Place} →
-      TakesSymbol Symbol.Comma before one comma → DerivesKind one two is_atomic → DerivesParam is_atomic two three tree → DerivesParamsBehind is_atomic three after others →
+  behind : {earlier is_atomic : Bool} {before one two three after : List Placed} {tree : ParamTree} {others : List ParamTree} {comma : Place} →
+      TakesSymbol Symbol.Comma before one comma → DerivesKindOr earlier one two is_atomic → DerivesParam is_atomic two three tree → DerivesParamsBehind is_atomic three after others →
       DerivesParamsBehind earlier before after (tree ∷ others)
 
 -- Kind Name { "," [ Kind ] Name }
@@ -83,12 +87,15 @@ pub data DerivesFormal : List Placed → List Placed → Formal → Type 0 where
       DerivesType before one ty → TakesName one after named →
       DerivesFormal before after (record { node = node; place = named.place; name = named.name; ty = ty })
 
--- "(" [ Formals ] ")", where Formals = Type Name { "," Type Name }
+-- [ Formals ], where Formals = Type Name { "," Type Name }
+pub data DerivesFormalList : List Placed → List Placed → List Formal → Type 0 where
+  no_formals : {here : List Placed} → DerivesFormalList here here []
+  formals : {before after : List Placed} {all : List Formal} → Listed DerivesFormal before after all → DerivesFormalList before after all
+
+-- "(" [ Formals ] ")"
 pub data DerivesFormals : List Placed → List Placed → List Formal → Type 0 where
-  no_formals : {before one after : List Placed} {open_at close_at : Place} →
-      TakesSymbol Symbol.OpenParen before one open_at → TakesSymbol Symbol.CloseParen one after close_at → DerivesFormals before after []
-  formals : {before one two after : List Placed} {all : List Formal} {open_at close_at : Place} →
-      TakesSymbol Symbol.OpenParen before one open_at → Listed DerivesFormal one two all → TakesSymbol Symbol.CloseParen two after close_at →
+  parenthesised : {before one two after : List Placed} {all : List Formal} {open_at close_at : Place} →
+      TakesSymbol Symbol.OpenParen before one open_at → DerivesFormalList one two all → TakesSymbol Symbol.CloseParen two after close_at →
       DerivesFormals before after all
 
 -- [ "atomic" ] Rpl
@@ -100,6 +107,15 @@ pub data DerivesItem : List Placed → List Placed → Item → Type 0 where
 pub data DerivesItems : Keyword → List Placed → List Placed → List Item → Type 0 where
   items : {keyword : Keyword} {before one after : List Placed} {all : List Item} {place : Place} →
       TakesKeyword keyword before one place → Listed DerivesItem one after all → DerivesItems keyword before after all
+
+-- [ a keyword and Items ]
+pub data DerivesItemsIf : Keyword → List Placed → List Placed → List Item → Type 0 where
+  no_items : {keyword : Keyword} {here : List Placed} → NoNext (terminal.Keyword keyword) here → DerivesItemsIf keyword here here []
+  items : {keyword : Keyword} {before after : List Placed} {all : List Item} → DerivesItems keyword before after all → DerivesItemsIf keyword before after all
+
+-- a summary of reads or writes comes next
+abbrev pub BeginsEffects : List Placed → Type 0
+BeginsEffects before = Next (terminal.Keyword Keyword.Reads) before ⊎ Next (terminal.Keyword Keyword.Writes) before
 
 -- Summary = [ "pure" | "reads" Items [ "writes" Items ] | "writes" Items ]
 pub data DerivesSummary : List Placed → List Placed → Option SummaryTree → Type 0 where
@@ -130,19 +146,34 @@ pub data DerivesFront : List Placed → List Placed → Params → MethodResult 
   answers : {before one after : List Placed} {params : Params} {answer : MethodResult} →
       DerivesParams before one params → DerivesResult one after answer → DerivesFront before after params answer
 
+-- [ "in" Rpl ] ";", behind the type and the name of a field
+pub data DerivesField : TypeTree → Named → List Placed → List Placed → Member → Type 0 where
+  field : {ty : TypeTree} {named : Named} {before one after : List Placed} {region : Option RplTree} {node : ℕ} {ends_at : Place} →
+      DerivesIn before one region → TakesSymbol Symbol.Semicolon one after ends_at →
+      DerivesField ty named before after (member.Field (record { node = node; place = named.place; name = named.name; ty = ty; region = region }))
+
+-- "(" [ Formals ] ")" Summary Block, behind the name of a method and what stands in front of it
+pub data DerivesMethod : Params → MethodResult → Named → List Placed → List Placed → Member → Type 0 where
+  method : {params : Params} {answer : MethodResult} {named : Named} {before one two after : List Placed} {formals : List Formal} {summary : Option SummaryTree} {body : List Stmt} {node : ℕ} →
+      DerivesFormals before one formals → DerivesSummary one two summary → DerivesBlock two after (plain_stmts (map plain_stmt body)) →
+      DerivesMethod params answer named before after (member.Method (record { node = node; place = named.place; name = named.name; params = params; result = answer; formals = formals; summary = summary; body = body }))
+
+-- Name "(" [ Formals ] ")" Summary Block, behind what stands in front of the name of a method
+pub data DerivesNamed : Params → MethodResult → List Placed → List Placed → Member → Type 0 where
+  named : {params : Params} {answer : MethodResult} {before one after : List Placed} {name : Named} {tree : Member} →
+      TakesName before one name → DerivesMethod params answer name one after tree → DerivesNamed params answer before after tree
+
 pub data DerivesMember : List Placed → List Placed → Member → Type 0 where
   -- Kind Name { "," Name } ";"
   regions : {before one two after : List Placed} {is_atomic : Bool} {names : List Named} {ends_at : Place} →
       DerivesKind before one is_atomic → Listed TakesName one two names → TakesSymbol Symbol.Semicolon two after ends_at →
       DerivesMember before after (member.Regions is_atomic names)
   -- Type Name [ "in" Rpl ] ";"
-  field : {before one two three after : List Placed} {ty : TypeTree} {named : Named} {region : Option RplTree} {node : ℕ} {ends_at : Place} →
-      DerivesType before one ty → TakesName one two named → DerivesIn two three region → TakesSymbol Symbol.Semicolon three after ends_at →
-      DerivesMember before after (member.Field (record { node = node; place = named.place; name = named.name; ty = ty; region = region }))
+  field : {before one two after : List Placed} {ty : TypeTree} {named : Named} {tree : Member} →
+      DerivesType before one ty → TakesName one two named → DerivesField ty named two after tree → DerivesMember before after tree
   -- Name "(" [ Formals ] ")" Summary Block, or [ Params ] ( Type | "void" ) Name "(" [ Formals ] ")" Summary Block
-  method : {before one two three four after : List Placed} {params : Params} {answer : MethodResult} {named : Named} {formals : List Formal} {summary : Option SummaryTree} {body : List Stmt} {node : ℕ} →
-      DerivesFront before one params answer → TakesName one two named → DerivesFormals two three formals → DerivesSummary three four summary → DerivesBlock four after (plain_stmts (map plain_stmt body)) →
-      DerivesMember before after (member.Method (record { node = node; place = named.place; name = named.name; params = params; result = answer; formals = formals; summary = summary; body = body }))
+  method : {before one after : List Placed} {params : Params} {answer : MethodResult} {tree : Member} →
+      DerivesFront before one params answer → DerivesNamed params answer one after tree → DerivesMember before after tree
 
 -- [ "extends" Name [ Args ] ]
 pub data DerivesParent : List Placed → List Placed → Option Parent → Type 0 where
@@ -164,4 +195,5 @@ pub data DerivesClass : List Placed → List Placed → Class → Type 0 where
 
 -- Program = Class { Class }, and nothing behind it
 pub data DerivesProgram : List Placed → List Class → Type 0 where
-  program : {before : List Placed} {first : Class} {others : List Class} → Many DerivesClass before [] (first ∷ others) → DerivesProgram before (first ∷ others)
+  program : {before one : List Placed} {first : Class} {others : List Class} →
+      DerivesClass before one first → Many DerivesClass one [] others → DerivesProgram before (first ∷ others)

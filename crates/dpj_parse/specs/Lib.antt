@@ -4,5 +4,6 @@ pub mod Types
 pub mod Expressions
 pub mod Statements
 pub mod Classes
+pub mod Reading
 pub mod Progress
 pub mod Program

@@ -27,19 +27,19 @@ pub data DerivesHead : List Placed → List Placed → RplHead → Type 0 where
   root : {before after : List Placed} {place : Place} → TakesKeyword Keyword.Root before after place → DerivesHead before after head.Root
   name : {before after : List Placed} {name : RName} → DerivesRName before after name → DerivesHead before after (head.Name name)
 
+-- Int | Name | "?"
+pub data DerivesWithin : List Placed → List Placed → ElemTree → Type 0 where
+  number : {before after : List Placed} {n : ℤ} {at : Place} → Takes (terminal.Int n) before after at → DerivesWithin before after (elem.Lit n)
+  index : {before after : List Placed} {named : Named} → TakesName before after named → DerivesWithin before after (elem.Index named)
+  any : {before after : List Placed} {at : Place} → TakesSymbol Symbol.Question before after at → DerivesWithin before after elem.Any
+
 -- Elem = RName | "*" | "[" ( Int | Name | "?" ) "]"
 pub data DerivesElem : List Placed → List Placed → ElemTree → Type 0 where
   name : {before after : List Placed} {name : RName} → DerivesRName before after name → DerivesElem before after (elem.Name name)
   star : {before after : List Placed} {place : Place} → TakesSymbol Symbol.Star before after place → DerivesElem before after elem.Star
-  number : {before one two after : List Placed} {n : ℤ} {open_at at close_at : Place} →
-      TakesSymbol Symbol.OpenBracket before one open_at → Takes (terminal.Int n) one two at → TakesSymbol Symbol.CloseBracket two after close_at →
-      DerivesElem before after (elem.Lit n)
-  index : {before one two after : List Placed} {named : Named} {open_at close_at : Place} →
-      TakesSymbol Symbol.OpenBracket before one open_at → TakesName one two named → TakesSymbol Symbol.CloseBracket two after close_at →
-      DerivesElem before after (elem.Index named)
-  any : {before one two after : List Placed} {open_at at close_at : Place} →
-      TakesSymbol Symbol.OpenBracket before one open_at → TakesSymbol Symbol.Question one two at → TakesSymbol Symbol.CloseBracket two after close_at →
-      DerivesElem before after elem.Any
+  within : {before one two after : List Placed} {tree : ElemTree} {open_at close_at : Place} →
+      TakesSymbol Symbol.OpenBracket before one open_at → DerivesWithin one two tree → TakesSymbol Symbol.CloseBracket two after close_at →
+      DerivesElem before after tree
 
 -- ":" Elem
 pub data DerivesNext : List Placed → List Placed → ElemTree → Type 0 where

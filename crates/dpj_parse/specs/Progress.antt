@@ -1,5 +1,7 @@
 -- How far the reading of a text has come between two states of its cursor.
 use Rattle.std.specs.Prelude.{◌≡◌, ℕ, ◌+◌, ◌<◌, ◌≤◌, Bool, true, false, length}
+use Rattle.dpj_tree.specs.declared.class.Member.{Member}
+use Rattle.dpj_tree.specs.declared.class.Member.TheVariants as member
 use Rattle.dpj_parse.specs.declared.cursor.Cursor.{Cursor}
 
 -- Some terminals were taken, on the level where the next one stands. Each new node is paid by a terminal of its
@@ -39,3 +41,21 @@ pub record Numbers (old new : Cursor) : Type 0 where
   pub counted : new.node ≡ old.node + 1
   pub rest : length new.rest.now ≡ length old.rest.now
   pub level : new.level ≡ old.level
+
+-- nothing changed but the terminals that are left
+pub record Advances (old new : Cursor) : Type 0 where
+  pub end : new.end ≡ old.end
+  pub node : new.node ≡ old.node
+  pub level : new.level ≡ old.level
+  pub joined : new.joined ≡ old.joined
+
+-- an operator, a dot or a bracket was counted, of which an expression level has at most 32
+pub record Joins (old new : Cursor) : Type 0 where
+  pub counted : new.joined ≡ old.joined + 1
+  pub within : new.joined ≤ 32
+
+-- the number of a member's node, if it has one, is the last that was given
+abbrev pub IsNumberedLast : Member → ℕ → Type 0
+IsNumberedLast (member.Field field) next = field.node + 1 ≡ next
+IsNumberedLast (member.Method method) next = method.node + 1 ≡ next
+IsNumberedLast (member.Regions is_atomic names) next = Unit {0}

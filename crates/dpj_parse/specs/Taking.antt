@@ -1,6 +1,6 @@
 -- What every production of the grammar is made of: one terminal, something that may be left out, and lists.
 -- Each relation says that the terminals `before` begin with a part of the text, behind which `after` is left.
-use Rattle.std.specs.Prelude.{◌≡◌, List, [], ◌∷◌}
+use Rattle.std.specs.Prelude.{◌≡◌, List, [], ◌∷◌, Bool, true, false}
 use Rattle.dpj_base.specs.declared.place.Place.{Place}
 use Rattle.dpj_tokens.specs.declared.token.Symbol.{Symbol}
 use Rattle.dpj_tokens.specs.declared.token.Keyword.{Keyword}
@@ -22,19 +22,38 @@ TakesKeyword keyword before after place = Takes (terminal.Keyword keyword) befor
 abbrev pub TakesName : List Placed → List Placed → Named → Type 0
 TakesName before after named = Takes (terminal.Name named.name) before after named.place
 
+-- this terminal, wherever it stands
+pub record TakesOne (wanted : Terminal) (before after : List Placed) : Type 0 where
+  pub place : Place
+  pub takes : Takes wanted before after place
+
+-- the next terminal, whatever it is, at a place
+pub record TakesNext (before after : List Placed) (place : Place) : Type 0 where
+  pub terminal : Terminal
+  pub takes : Takes terminal before after place
+
 -- this terminal comes next
-abbrev pub Next : Terminal → List Placed → Type 0
-Next wanted [] = ⊥
-Next wanted (next ∷ after) = next.terminal ≡ wanted
+pub record Next (wanted : Terminal) (before : List Placed) : Type 0 where
+  pub after : List Placed
+  pub takes : TakesOne wanted before after
 
 -- it doesn't
 abbrev pub NoNext : Terminal → List Placed → Type 0
 NoNext unwanted before = ¬ (Next unwanted before)
 
+-- a terminal was taken exactly where it came next
+abbrev pub TakesIf : Terminal → Bool → List Placed → List Placed → Type 0
+TakesIf wanted true before after = TakesOne wanted before after
+TakesIf wanted false before after = NoNext wanted before × (after ≡ before)
+
 -- where the next terminal stands, if there is one
-abbrev pub StandsAt : List Placed → Place → Type 0
-StandsAt [] place = Unit {0}
-StandsAt (next ∷ after) place = place ≡ next.place
+pub record StandsAt (before : List Placed) (place : Place) : Type 0 where
+  pub first : (next : Placed) (after : List Placed) → before ≡ next ∷ after → place ≡ next.place
+
+-- the place of the next terminal, or the end
+abbrev pub place_of : List Placed → Place → Place
+place_of [] end = end
+place_of (next ∷ after) end = next.place
 
 -- X { "," X }
 pub data Listed {A : Type 0} (Derives : List Placed → List Placed → A → Type 0) : List Placed → List Placed → List A → Type 0 where

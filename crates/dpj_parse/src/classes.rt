@@ -1,5 +1,7 @@
-ghost use Rattle.std.specs.Prelude.{OnOk};
+ghost use Rattle.std.specs.Prelude.{◌≡◌, ◌+◌, IfOk, OnOk};
+ghost use Rattle.dpj_parse.specs.Classes.{DerivesClass, DerivesMember, DerivesMembers, DerivesParent, DerivesProgram};
 ghost use Rattle.dpj_parse.specs.Progress.{Keeps, Reads};
+ghost use Rattle.dpj_parse.specs.Taking.{Many};
 
 use crate::cursor::Cursor;
 use crate::members::member;
@@ -10,8 +12,10 @@ use dpj_tree::{Class, Member, Parent};
 use std::alloc::Global;
 
 /// `Class { Class }` up to the end of the text
+#[tactic(auto, using(crate::proofs::Lists::many_more, crate::proofs::Lists::many_one, crate::proofs::MemberForms::program_of))]
 pub fn classes(alloc: Global, cursor: &mut Cursor) -> Result<Items<Class>, Stop>
-    ensures { OnOk result (Reads 0 cursor.old cursor.new) }
+    ensures pays { OnOk result (Reads 0 cursor.old cursor.new) }
+    ensures derives { IfOk result (λ classes. DerivesProgram cursor.old.rest.now classes) }
 {
     let mut classes = Items::new(alloc);
     classes.push(class(alloc, cursor)?)?;
@@ -22,8 +26,11 @@ pub fn classes(alloc: Global, cursor: &mut Cursor) -> Result<Items<Class>, Stop>
 }
 
 /// `Class = "class" Name [ Params ] [ "extends" Name [ Args ] ] "{" { Member } "}"`
+#[tactic(auto, using(crate::specs::Classes::class))]
 fn class(alloc: Global, cursor: &mut Cursor) -> Result<Class, Stop>
-    ensures { OnOk result (Reads 0 cursor.old cursor.new) }
+    ensures pays { OnOk result (Reads 0 cursor.old cursor.new) }
+    ensures derives { IfOk result (λ tree. DerivesClass cursor.old.rest.now cursor.new.rest.now tree) }
+    ensures last { IfOk result (λ tree. tree.node + 1 ≡ cursor.new.node) }
 {
     cursor.keyword(Keyword::Class)?;
     let named = cursor.name()?;
@@ -41,8 +48,10 @@ fn class(alloc: Global, cursor: &mut Cursor) -> Result<Class, Stop>
 }
 
 /// `[ "extends" Name [ Args ] ]`
+#[tactic(auto, using(crate::specs::Classes::no_parent, crate::proofs::MemberForms::parent_of))]
 fn parent(alloc: Global, cursor: &mut Cursor) -> Result<Option<Parent>, Stop>
-    ensures { OnOk result (Keeps cursor.old cursor.new) }
+    ensures pays { OnOk result (Keeps cursor.old cursor.new) }
+    ensures derives { IfOk result (λ parent. DerivesParent cursor.old.rest.now cursor.new.rest.now parent) }
 {
     if !cursor.keyword_if(Keyword::Extends)? {
         return Ok(None);
@@ -53,14 +62,26 @@ fn parent(alloc: Global, cursor: &mut Cursor) -> Result<Option<Parent>, Stop>
 }
 
 /// `"{" { Member } "}"`
+#[tactic(auto, using(crate::proofs::MemberForms::members_of))]
 fn members(alloc: Global, cursor: &mut Cursor) -> Result<Items<Member>, Stop>
-    ensures { OnOk result (Reads 1 cursor.old cursor.new) }
+    ensures pays { OnOk result (Reads 1 cursor.old cursor.new) }
+    ensures derives { IfOk result (λ members. DerivesMembers cursor.old.rest.now cursor.new.rest.now members) }
+{
+    cursor.open(Symbol::OpenBrace)?;
+    let members = member_list(alloc, cursor)?;
+    cursor.close(Symbol::CloseBrace)?;
+    Ok(members)
+}
+
+/// `{ Member }`
+#[tactic(auto, using(crate::proofs::Lists::many_more, crate::specs::Taking::none))]
+fn member_list(alloc: Global, cursor: &mut Cursor) -> Result<Items<Member>, Stop>
+    ensures pays { OnOk result (Keeps cursor.old cursor.new) }
+    ensures derives { IfOk result (λ members. Many DerivesMember cursor.old.rest.now cursor.new.rest.now members) }
 {
     let mut members = Items::new(alloc);
-    cursor.open(Symbol::OpenBrace)?;
     while !cursor.is_symbol(Symbol::CloseBrace) {
         members.push(member(alloc, cursor)?)?;
     }
-    cursor.close(Symbol::CloseBrace)?;
     Ok(members)
 }

@@ -1,4 +1,4 @@
-ghost use Rattle.std.specs.Prelude.{◌≡◌, ◌+◌, ◌<◌, ◌≤◌, ◌^◌, length, OnOk, IfOk, IsTrue, ◌↔◌};
+ghost use Rattle.std.specs.Prelude.{◌≡◌, ◌+◌, ◌<◌, ◌≤◌, ◌^◌, ◌↔◌, [], length, MatchOption, OnOk, IfOk, IsTrue};
 
 use dpj_base::{Kind, Place, Refusal, Stop};
 use dpj_terminals::{Placed, Terminal};
@@ -30,10 +30,13 @@ pub struct Cursor<'a> {
 }
 
 impl<'a> Cursor<'a> {
-    ghost use Rattle.dpj_parse.specs.Progress.{Reads, ReadsIf, Opens, Closes, Numbers};
+    ghost use Rattle.dpj_parse.specs.Progress.{Advances, Closes, Joins, Numbers, Opens, Reads, ReadsIf};
+    ghost use Rattle.dpj_parse.specs.Taking.{Next, StandsAt, TakesIf, TakesKeyword, TakesName, TakesNext, TakesOne, TakesSymbol, place_of};
 
     /// The next terminal.
-    pub fn next(&self) -> Option<&'a Terminal> {
+    pub fn next(&self) -> Option<&'a Terminal>
+        ensures { MatchOption result (self.now.rest.now ≡ []) (λ next. Next next.now self.now.rest.now) }
+    {
         match self.rest {
             [first, ..] => Some(&first.terminal),
             [] => None,
@@ -57,21 +60,28 @@ impl<'a> Cursor<'a> {
     }
 
     /// The place of the next terminal, or the end.
-    pub fn place(&self) -> Place {
+    pub fn place(&self) -> Place
+        ensures place { result ≡ place_of self.now.rest.now self.now.end }
+        ensures stands { StandsAt self.now.rest.now result }
+    {
         match self.rest {
             [first, ..] => first.place,
             [] => self.end,
         }
     }
 
-    pub fn is_symbol(&self, symbol: Symbol) -> bool {
+    pub fn is_symbol(&self, symbol: Symbol) -> bool
+        ensures { IsTrue result ↔ Next (Terminal.Symbol symbol) self.now.rest.now }
+    {
         match self.next() {
             Some(Terminal::Symbol(next)) => *next == symbol,
             _ => false,
         }
     }
 
-    pub fn is_keyword(&self, keyword: Keyword) -> bool {
+    pub fn is_keyword(&self, keyword: Keyword) -> bool
+        ensures { IsTrue result ↔ Next (Terminal.Keyword keyword) self.now.rest.now }
+    {
         match self.next() {
             Some(Terminal::Keyword(next)) => *next == keyword,
             _ => false,
@@ -79,7 +89,9 @@ impl<'a> Cursor<'a> {
     }
 
     /// No program goes on with the next terminal, or the text ends too early.
-    pub fn unexpected(&self) -> Stop {
+    pub fn unexpected(&self) -> Stop
+        ensures { result ≡ Stop.Refused (record { kind = Kind.Syntax; place = place_of self.now.rest.now self.now.end }) }
+    {
         Stop::Refused(Refusal {
             kind: Kind::Syntax,
             place: self.place(),
@@ -87,7 +99,9 @@ impl<'a> Cursor<'a> {
     }
 
     /// The next terminal is one too many.
-    pub fn too_many(&self) -> Stop {
+    pub fn too_many(&self) -> Stop
+        ensures { result ≡ Stop.Refused (record { kind = Kind.Nest; place = place_of self.now.rest.now self.now.end }) }
+    {
         Stop::Refused(Refusal {
             kind: Kind::Nest,
             place: self.place(),
@@ -96,7 +110,9 @@ impl<'a> Cursor<'a> {
 
     /// Takes the next terminal, which the grammar has here.
     pub fn accept(&mut self) -> Result<(), Stop>
-        ensures { OnOk result (Reads 1 self.old self.new) }
+        ensures pays { OnOk result (Reads 1 self.old self.new) }
+        ensures takes { OnOk result (TakesNext self.old.rest.now self.new.rest.now (place_of self.old.rest.now self.old.end)) }
+        ensures stays { OnOk result (Advances self.old self.new) }
     {
         match self.rest {
             [] => Err(self.unexpected()),
@@ -112,7 +128,9 @@ impl<'a> Cursor<'a> {
 
     /// Takes a symbol, and tells where it stands.
     pub fn symbol(&mut self, symbol: Symbol) -> Result<Place, Stop>
-        ensures { OnOk result (Reads 1 self.old self.new) }
+        ensures pays { OnOk result (Reads 1 self.old self.new) }
+        ensures takes { IfOk result (λ place. TakesSymbol symbol self.old.rest.now self.new.rest.now place) }
+        ensures unnumbered { OnOk result (self.new.node ≡ self.old.node) }
     {
         if !self.is_symbol(symbol) {
             return Err(self.unexpected());
@@ -124,7 +142,8 @@ impl<'a> Cursor<'a> {
 
     /// Takes a keyword, and tells where it stands.
     pub fn keyword(&mut self, keyword: Keyword) -> Result<Place, Stop>
-        ensures { OnOk result (Reads 1 self.old self.new) }
+        ensures pays { OnOk result (Reads 1 self.old self.new) }
+        ensures takes { IfOk result (λ place. TakesKeyword keyword self.old.rest.now self.new.rest.now place) }
     {
         if !self.is_keyword(keyword) {
             return Err(self.unexpected());
@@ -136,7 +155,8 @@ impl<'a> Cursor<'a> {
 
     /// Takes a symbol where it comes next.
     pub fn symbol_if(&mut self, symbol: Symbol) -> Result<bool, Stop>
-        ensures { IfOk result (λ found. ReadsIf found self.old self.new) }
+        ensures pays { IfOk result (λ found. ReadsIf found self.old self.new) }
+        ensures takes { IfOk result (λ found. TakesIf (Terminal.Symbol symbol) found self.old.rest.now self.new.rest.now) }
     {
         if !self.is_symbol(symbol) {
             return Ok(false);
@@ -147,7 +167,8 @@ impl<'a> Cursor<'a> {
 
     /// Takes a keyword where it comes next.
     pub fn keyword_if(&mut self, keyword: Keyword) -> Result<bool, Stop>
-        ensures { IfOk result (λ found. ReadsIf found self.old self.new) }
+        ensures pays { IfOk result (λ found. ReadsIf found self.old self.new) }
+        ensures takes { IfOk result (λ found. TakesIf (Terminal.Keyword keyword) found self.old.rest.now self.new.rest.now) }
     {
         if !self.is_keyword(keyword) {
             return Ok(false);
@@ -158,7 +179,8 @@ impl<'a> Cursor<'a> {
 
     /// Takes a name.
     pub fn name(&mut self) -> Result<Named, Stop>
-        ensures { OnOk result (Reads 1 self.old self.new) }
+        ensures pays { OnOk result (Reads 1 self.old self.new) }
+        ensures takes { IfOk result (λ named. TakesName self.old.rest.now self.new.rest.now named) }
     {
         let Some(Terminal::Name(name)) = self.next() else {
             return Err(self.unexpected());
@@ -170,7 +192,8 @@ impl<'a> Cursor<'a> {
 
     /// Takes a bracket, and tells where it stands. What follows is a level deeper.
     pub fn open(&mut self, bracket: Symbol) -> Result<Place, Stop>
-        ensures { OnOk result (Opens self.old self.new) }
+        ensures pays { OnOk result (Opens self.old self.new) }
+        ensures takes { IfOk result (λ place. TakesSymbol bracket self.old.rest.now self.new.rest.now place) }
     {
         let place = self.symbol(bracket)?;
         self.level += 1;
@@ -180,7 +203,9 @@ impl<'a> Cursor<'a> {
     /// Takes the bracket that closes the level.
     pub fn close(&mut self, bracket: Symbol) -> Result<(), Stop>
         requires { 1 ≤ self.old.level }
-        ensures { OnOk result (Closes self.old self.new) }
+        ensures pays { OnOk result (Closes self.old self.new) }
+        ensures takes { OnOk result (TakesOne (Terminal.Symbol bracket) self.old.rest.now self.new.rest.now) }
+        ensures unnumbered { OnOk result (self.new.node ≡ self.old.node) }
     {
         self.symbol(bracket)?;
         self.level -= 1;
@@ -189,7 +214,9 @@ impl<'a> Cursor<'a> {
 
     /// Takes an operator, a dot or a bracket of an expression, and tells where it stands.
     pub fn join(&mut self) -> Result<Place, Stop>
-        ensures { OnOk result (Reads 1 self.old self.new) }
+        ensures pays { OnOk result (Reads 1 self.old self.new) }
+        ensures takes { IfOk result (λ place. TakesNext self.old.rest.now self.new.rest.now place) }
+        ensures joins { OnOk result (Joins self.old self.new) }
     {
         let place = self.place();
         if self.joined >= MOST {
@@ -202,7 +229,8 @@ impl<'a> Cursor<'a> {
 
     /// Takes a `[` of an expression, and tells where it stands. What follows is a level deeper.
     pub fn join_open(&mut self) -> Result<Place, Stop>
-        ensures { OnOk result (Opens self.old self.new) }
+        ensures pays { OnOk result (Opens self.old self.new) }
+        ensures takes { IfOk result (λ place. TakesSymbol Symbol.OpenBracket self.old.rest.now self.new.rest.now place) }
     {
         if !self.is_symbol(Symbol::OpenBracket) {
             return Err(self.unexpected());
@@ -215,7 +243,9 @@ impl<'a> Cursor<'a> {
     /// The number of a node that is complete.
     pub fn number(&mut self) -> u32
         requires { self.old.node + length self.old.rest.now + 1 < 2097152 }
-        ensures { Numbers self.old self.new }
+        ensures counts { Numbers self.old self.new }
+        ensures given { result ≡ self.old.node }
+        ensures stays { self.new.rest.now ≡ self.old.rest.now }
     {
         let node = self.node;
         self.node += 1;

@@ -1,20 +1,27 @@
-ghost use Rattle.std.specs.Prelude.{◌+◌, ◌<◌, length, OnOk};
+ghost use Rattle.std.specs.Prelude.{◌≡◌, ◌+◌, ◌<◌, ◌≤◌, length, map, OnOk, IfOk, IfSome};
 ghost use Rattle.dpj_parse.specs.Progress.{Keeps, Numbers, Opens, Reads};
+ghost use Rattle.dpj_parse.specs.Taking.{Next, Listed};
+ghost use Rattle.dpj_parse.specs.Expressions.{DerivesActuals, DerivesExpr, DerivesLevel, DerivesPostfix, DerivesPrimary, DerivesUnary, as_creation, level_of, symbol_of, unary_symbol};
+ghost use Rattle.dpj_parse.specs.Reading.{DerivesExprTree, DerivesInner, DerivesLengths, DerivesOpenSuffixes, DerivesSelection, DerivesSelections, NextSpells, ending_of, plain_kind};
+ghost use Rattle.dpj_tree.specs.Plain.{binary, create, expression, plain_expr, plain_exprs};
 
 use crate::cursor::Cursor;
-use crate::operator::{COMPARING, LOOSEST, TIGHTEST, binary_of, binding, unary_of};
+use crate::operator::{LOOSEST, TIGHTEST, binary_of, binding, tightest_behind, unary_of};
 use crate::region::args_if;
 use crate::types::{base, behind_brackets};
 use dpj_base::{Boxed, Items, Place, Stop};
 use dpj_terminals::Terminal;
 use dpj_tokens::{Keyword, Symbol};
-use dpj_tree::{BaseTree, BinaryOp, Expr, ExprKind, Named, RplTree, Suffix};
+use dpj_tree::{BaseTree, BinaryOp, Expr, ExprKind, Named, RplTree, Suffix, UnaryOp};
 use std::alloc::Global;
 
 /// A complete expression gets its number.
 fn made(cursor: &mut Cursor, place: Place, kind: ExprKind) -> Expr
     requires { cursor.old.node + length cursor.old.rest.now + 1 < 2097152 }
-    ensures { Numbers cursor.old cursor.new }
+    ensures pays { Numbers cursor.old cursor.new }
+    ensures takes { cursor.new.rest.now ≡ cursor.old.rest.now }
+    ensures plain { plain_expr result ≡ expression cursor.old.node place (plain_kind kind) }
+    ensures last { result.node + 1 ≡ cursor.new.node }
 {
     Expr {
         node: cursor.number(),
@@ -26,7 +33,9 @@ fn made(cursor: &mut Cursor, place: Place, kind: ExprKind) -> Expr
 /// `Expr`: an expression level of its own.
 #[cycle(exprs)]
 pub fn expr(alloc: Global, cursor: &mut Cursor) -> Result<Expr, Stop>
-    ensures { OnOk result (Reads 0 cursor.old cursor.new) }
+    ensures pays { OnOk result (Reads 0 cursor.old cursor.new) }
+    ensures derives { IfOk result (λ e. DerivesExpr cursor.old.rest.now cursor.new.rest.now (plain_expr e)) }
+    ensures last { IfOk result (λ e. e.node + 1 ≡ cursor.new.node) }
 {
     let outer = cursor.joined;
     cursor.joined = 0;
@@ -35,11 +44,12 @@ pub fn expr(alloc: Global, cursor: &mut Cursor) -> Result<Expr, Stop>
     Ok(found)
 }
 
-/// `Unary { operator Unary }`, with operators that bind at least so tightly. Those of one binding group to the
-/// left, and a comparison has no other one behind it.
+/// `Unary { operator Unary }`, with operators that bind at least so tightly.
 #[cycle(exprs)]
 fn operators(alloc: Global, cursor: &mut Cursor, least: u32) -> Result<Expr, Stop>
-    ensures { OnOk result (Reads 0 cursor.old cursor.new) }
+    ensures pays { OnOk result (Reads 0 cursor.old cursor.new) }
+    ensures derives { IfOk result (λ e. DerivesLevel least cursor.old.rest.now cursor.new.rest.now (plain_expr e)) }
+    ensures last { IfOk result (λ e. e.node + 1 ≡ cursor.new.node) }
 {
     let mut left = unary(alloc, cursor)?;
     let mut most = TIGHTEST;
@@ -47,24 +57,27 @@ fn operators(alloc: Global, cursor: &mut Cursor, least: u32) -> Result<Expr, Sto
         let place = cursor.join()?;
         let right = operators(alloc, cursor, binding(op) + 1)?;
         left = joined(alloc, cursor, place, op, left, right)?;
-        most = if binding(op) == COMPARING {
-            COMPARING - 1
-        } else {
-            binding(op)
-        };
+        most = tightest_behind(op);
     }
     Ok(left)
 }
 
 /// The operator that comes next, where it binds so tightly.
-fn operator_within(cursor: &Cursor, least: u32, most: u32) -> Option<BinaryOp> {
-    let op = binary_of(cursor.next())?;
+fn operator_within(cursor: &Cursor, least: u32, most: u32) -> Option<BinaryOp>
+    ensures next { IfSome result (λ op. Next (Terminal.Symbol (symbol_of op)) cursor.now.rest.now) }
+    ensures within { IfSome result (λ op. (least ≤ level_of op) × (level_of op ≤ most)) }
+{
+    let Some(Terminal::Symbol(symbol)) = cursor.next() else {
+        return None;
+    };
+    let op = binary_of(*symbol)?;
     if binding(op) < least || binding(op) > most {
         return None;
     }
     Some(op)
 }
 
+#[tactic(auto, using(crate::proofs::Trees::kind_Binary))]
 fn joined(
     alloc: Global,
     cursor: &mut Cursor,
@@ -74,7 +87,10 @@ fn joined(
     right: Expr,
 ) -> Result<Expr, Stop>
     requires { cursor.old.node + length cursor.old.rest.now + 1 < 2097152 }
-    ensures { OnOk result (Numbers cursor.old cursor.new) }
+    ensures pays { OnOk result (Numbers cursor.old cursor.new) }
+    ensures takes { OnOk result (cursor.new.rest.now ≡ cursor.old.rest.now) }
+    ensures plain { IfOk result (λ e. plain_expr e ≡ expression cursor.old.node place (binary op (plain_expr left) (plain_expr right))) }
+    ensures last { IfOk result (λ e. e.node + 1 ≡ cursor.new.node) }
 {
     let left = Boxed::new(alloc, left)?;
     let right = Boxed::new(alloc, right)?;
@@ -82,11 +98,14 @@ fn joined(
 }
 
 /// `Unary = ( "-" | "!" ) Unary | Postfix | NewArray`
+#[tactic(auto, using(crate::proofs::Making::made_operator, crate::proofs::Making::inner_selected, crate::proofs::Making::primary_selected))]
 #[cycle(exprs)]
 fn unary(alloc: Global, cursor: &mut Cursor) -> Result<Expr, Stop>
-    ensures { OnOk result (Reads 0 cursor.old cursor.new) }
+    ensures pays { OnOk result (Reads 0 cursor.old cursor.new) }
+    ensures derives { IfOk result (λ e. DerivesUnary cursor.old.rest.now cursor.new.rest.now (plain_expr e)) }
+    ensures last { IfOk result (λ e. e.node + 1 ≡ cursor.new.node) }
 {
-    if let Some(op) = unary_of(cursor.next()) {
+    if let Some(op) = operator_before(cursor) {
         let place = cursor.join()?;
         let arg = Boxed::new(alloc, unary(alloc, cursor)?)?;
         return Ok(made(cursor, place, ExprKind::Unary { op, arg }));
@@ -94,14 +113,31 @@ fn unary(alloc: Global, cursor: &mut Cursor) -> Result<Expr, Stop>
     if cursor.is_keyword(Keyword::New) {
         return created(alloc, cursor);
     }
-    let first = primary(alloc, cursor)?;
+    if cursor.is_symbol(Symbol::OpenParen) {
+        let first = inner(alloc, cursor)?;
+        return selected(alloc, cursor, first);
+    }
+    let first = literal(cursor)?;
     selected(alloc, cursor, first)
 }
 
+/// The operator before an expression that comes next.
+fn operator_before(cursor: &Cursor) -> Option<UnaryOp>
+    ensures { IfSome result (λ op. Next (Terminal.Symbol (unary_symbol op)) cursor.now.rest.now) }
+{
+    match cursor.next() {
+        Some(Terminal::Symbol(symbol)) => unary_of(*symbol),
+        _ => None,
+    }
+}
+
 /// A Postfix that begins with a creation, or a NewArray.
+#[tactic(auto, using(crate::proofs::Making::made_object, crate::proofs::Making::made_array))]
 #[cycle(exprs)]
 fn created(alloc: Global, cursor: &mut Cursor) -> Result<Expr, Stop>
-    ensures { OnOk result (Reads 0 cursor.old cursor.new) }
+    ensures pays { OnOk result (Reads 0 cursor.old cursor.new) }
+    ensures derives { IfOk result (λ e. DerivesUnary cursor.old.rest.now cursor.new.rest.now (plain_expr e)) }
+    ensures last { IfOk result (λ e. e.node + 1 ≡ cursor.new.node) }
 {
     let place = cursor.keyword(Keyword::New)?;
     match base(alloc, cursor)? {
@@ -115,6 +151,7 @@ fn created(alloc: Global, cursor: &mut Cursor) -> Result<Expr, Stop>
 }
 
 /// The creation of an object, behind its actuals.
+#[tactic(auto, using(crate::proofs::Trees::kind_New))]
 fn object(
     cursor: &mut Cursor,
     place: Place,
@@ -123,7 +160,10 @@ fn object(
     actuals: Items<Expr>,
 ) -> Expr
     requires { cursor.old.node + length cursor.old.rest.now + 1 < 2097152 }
-    ensures { Numbers cursor.old cursor.new }
+    ensures pays { Numbers cursor.old cursor.new }
+    ensures takes { cursor.new.rest.now ≡ cursor.old.rest.now }
+    ensures plain { plain_expr result ≡ expression cursor.old.node place (create class regions (plain_exprs (map plain_expr actuals))) }
+    ensures last { result.node + 1 ≡ cursor.new.node }
 {
     let kind = ExprKind::New {
         class,
@@ -134,9 +174,12 @@ fn object(
 }
 
 /// `NewArray` behind its base: `{ "[" "]" [ "<" Rpl ">" ] [ "#" Name ] } "[" Expr "]" [ "<" Rpl ">" ] [ "#" Name ]`
+#[tactic(auto, using(crate::proofs::Making::made_lengths))]
 #[cycle(exprs)]
 fn array(alloc: Global, cursor: &mut Cursor, place: Place, base: BaseTree) -> Result<Expr, Stop>
-    ensures { OnOk result (Reads 0 cursor.old cursor.new) }
+    ensures pays { OnOk result (Reads 0 cursor.old cursor.new) }
+    ensures derives { IfOk result (λ e. DerivesLengths base place cursor.old.rest.now cursor.new.rest.now (plain_expr e)) }
+    ensures last { IfOk result (λ e. e.node + 1 ≡ cursor.new.node) }
 {
     let suffixes = open_suffixes(alloc, cursor)?;
     let length = Boxed::new(alloc, expr(alloc, cursor)?)?;
@@ -153,8 +196,10 @@ fn array(alloc: Global, cursor: &mut Cursor, place: Place, base: BaseTree) -> Re
 }
 
 /// The suffixes before the length of an array, and the `[` in front of the length.
+#[tactic(auto, using(crate::proofs::Making::first_opened, crate::proofs::Making::more_opened))]
 fn open_suffixes(alloc: Global, cursor: &mut Cursor) -> Result<Items<Suffix>, Stop>
-    ensures { OnOk result (Opens cursor.old cursor.new) }
+    ensures pays { OnOk result (Opens cursor.old cursor.new) }
+    ensures derives { IfOk result (λ suffixes. DerivesOpenSuffixes cursor.old.rest.now cursor.new.rest.now suffixes) }
 {
     let mut suffixes = Items::new(alloc);
     cursor.join_open()?;
@@ -166,14 +211,14 @@ fn open_suffixes(alloc: Global, cursor: &mut Cursor) -> Result<Items<Suffix>, St
     Ok(suffixes)
 }
 
-/// `Primary`, but for creations.
+/// `"(" Expr ")"`
+#[tactic(auto, using(crate::proofs::Making::made_inner))]
 #[cycle(exprs)]
-fn primary(alloc: Global, cursor: &mut Cursor) -> Result<Expr, Stop>
-    ensures { OnOk result (Reads 0 cursor.old cursor.new) }
+fn inner(alloc: Global, cursor: &mut Cursor) -> Result<Expr, Stop>
+    ensures pays { OnOk result (Reads 0 cursor.old cursor.new) }
+    ensures derives { IfOk result (λ e. DerivesInner cursor.old.rest.now cursor.new.rest.now (plain_expr e)) }
+    ensures last { IfOk result (λ e. e.node + 1 ≡ cursor.new.node) }
 {
-    if !cursor.is_symbol(Symbol::OpenParen) {
-        return literal(cursor);
-    }
     cursor.open(Symbol::OpenParen)?;
     let inner = expr(alloc, cursor)?;
     cursor.close(Symbol::CloseParen)?;
@@ -181,21 +226,32 @@ fn primary(alloc: Global, cursor: &mut Cursor) -> Result<Expr, Stop>
 }
 
 /// `Int | "true" | "false" | "null" | "this" | Name`
+#[tactic(auto, using(crate::proofs::Making::made_literal))]
 fn literal(cursor: &mut Cursor) -> Result<Expr, Stop>
-    ensures { OnOk result (Reads 0 cursor.old cursor.new) }
+    ensures pays { OnOk result (Reads 0 cursor.old cursor.new) }
+    ensures derives { IfOk result (λ e. DerivesPrimary (ending_of (plain_expr e)) cursor.old.rest.now cursor.new.rest.now (plain_expr e)) }
+    ensures last { IfOk result (λ e. e.node + 1 ≡ cursor.new.node) }
 {
-    let kind = match cursor.next() {
-        Some(Terminal::Int(number)) => ExprKind::Int(*number),
-        Some(Terminal::Name(name)) => ExprKind::Local(*name),
-        Some(Terminal::Keyword(Keyword::True)) => ExprKind::Bool(true),
-        Some(Terminal::Keyword(Keyword::False)) => ExprKind::Bool(false),
-        Some(Terminal::Keyword(Keyword::Null)) => ExprKind::Null,
-        Some(Terminal::Keyword(Keyword::This)) => ExprKind::This,
-        _ => return Err(cursor.unexpected()),
-    };
+    let kind = spelled(cursor)?;
     let place = cursor.place();
     cursor.accept()?;
     Ok(made(cursor, place, kind))
+}
+
+/// The expression that the next terminal is.
+#[tactic(auto, using(crate::proofs::Spelling::next_number, crate::proofs::Spelling::next_name, crate::proofs::Spelling::next_true, crate::proofs::Spelling::next_false, crate::proofs::Spelling::next_null, crate::proofs::Spelling::next_this))]
+fn spelled(cursor: &Cursor) -> Result<ExprKind, Stop>
+    ensures { IfOk result (λ kind. NextSpells cursor.now.rest.now (plain_kind kind)) }
+{
+    match cursor.next() {
+        Some(Terminal::Int(number)) => Ok(ExprKind::Int(*number)),
+        Some(Terminal::Name(name)) => Ok(ExprKind::Local(*name)),
+        Some(Terminal::Keyword(Keyword::True)) => Ok(ExprKind::Bool(true)),
+        Some(Terminal::Keyword(Keyword::False)) => Ok(ExprKind::Bool(false)),
+        Some(Terminal::Keyword(Keyword::Null)) => Ok(ExprKind::Null),
+        Some(Terminal::Keyword(Keyword::This)) => Ok(ExprKind::This),
+        _ => Err(cursor.unexpected()),
+    }
 }
 
 /// Whether a field, a call or an element of what stands before comes next.
@@ -204,25 +260,41 @@ fn selects(cursor: &Cursor) -> bool {
 }
 
 /// `{ "." Name | "." [ Args ] Name "(" [ Actuals ] ")" | "[" Expr "]" }`
+#[tactic(auto, using(crate::specs::Reading::none, crate::specs::Reading::more))]
 #[cycle(exprs)]
 fn selected(alloc: Global, cursor: &mut Cursor, first: Expr) -> Result<Expr, Stop>
-    ensures { OnOk result (Keeps cursor.old cursor.new) }
+    requires { first.node + 1 ≡ cursor.old.node }
+    ensures pays { OnOk result (Keeps cursor.old cursor.new) }
+    ensures derives { IfOk result (λ e. DerivesSelections (plain_expr first) cursor.old.rest.now cursor.new.rest.now (plain_expr e)) }
+    ensures last { IfOk result (λ e. e.node + 1 ≡ cursor.new.node) }
 {
     let mut found = first;
     while selects(cursor) {
-        found = if cursor.is_symbol(Symbol::Dot) {
-            member(alloc, cursor, found)?
-        } else {
-            element(alloc, cursor, found)?
-        };
+        found = selection(alloc, cursor, found)?;
     }
     Ok(found)
 }
 
+/// `"." Name | "." [ Args ] Name "(" [ Actuals ] ")" | "[" Expr "]"`
+#[cycle(exprs)]
+fn selection(alloc: Global, cursor: &mut Cursor, of: Expr) -> Result<Expr, Stop>
+    ensures pays { OnOk result (Reads 0 cursor.old cursor.new) }
+    ensures derives { IfOk result (λ e. DerivesSelection (plain_expr of) cursor.old.rest.now cursor.new.rest.now (plain_expr e)) }
+    ensures last { IfOk result (λ e. e.node + 1 ≡ cursor.new.node) }
+{
+    if cursor.is_symbol(Symbol::Dot) {
+        return member(alloc, cursor, of);
+    }
+    element(alloc, cursor, of)
+}
+
 /// `"[" Expr "]"`
+#[tactic(auto, using(crate::proofs::Making::made_element))]
 #[cycle(exprs)]
 fn element(alloc: Global, cursor: &mut Cursor, of: Expr) -> Result<Expr, Stop>
-    ensures { OnOk result (Reads 0 cursor.old cursor.new) }
+    ensures pays { OnOk result (Reads 0 cursor.old cursor.new) }
+    ensures derives { IfOk result (λ e. DerivesSelection (plain_expr of) cursor.old.rest.now cursor.new.rest.now (plain_expr e)) }
+    ensures last { IfOk result (λ e. e.node + 1 ≡ cursor.new.node) }
 {
     let array = Boxed::new(alloc, of)?;
     let place = cursor.join_open()?;
@@ -232,9 +304,13 @@ fn element(alloc: Global, cursor: &mut Cursor, of: Expr) -> Result<Expr, Stop>
 }
 
 /// `"." Name | "." [ Args ] Name "(" [ Actuals ] ")"`
+#[tactic(auto, using(crate::proofs::Making::made_field, crate::proofs::Making::made_call))]
 #[cycle(exprs)]
 fn member(alloc: Global, cursor: &mut Cursor, of: Expr) -> Result<Expr, Stop>
-    ensures { OnOk result (Reads 0 cursor.old cursor.new) }
+    requires { Next (Terminal.Symbol Symbol.Dot) cursor.old.rest.now }
+    ensures pays { OnOk result (Reads 0 cursor.old cursor.new) }
+    ensures derives { IfOk result (λ e. DerivesSelection (plain_expr of) cursor.old.rest.now cursor.new.rest.now (plain_expr e)) }
+    ensures last { IfOk result (λ e. e.node + 1 ≡ cursor.new.node) }
 {
     let of = Boxed::new(alloc, of)?;
     cursor.join()?;
@@ -254,44 +330,73 @@ fn member(alloc: Global, cursor: &mut Cursor, of: Expr) -> Result<Expr, Stop>
     Ok(made(cursor, named.place, kind))
 }
 
-/// `"(" [ Actuals ] ")"` with `Actuals = Expr { "," Expr }`
+/// `"(" [ Actuals ] ")"`
+#[tactic(auto, using(crate::proofs::Making::made_no_actuals, crate::proofs::Making::made_actuals))]
 #[cycle(exprs)]
 fn actuals(alloc: Global, cursor: &mut Cursor) -> Result<Items<Expr>, Stop>
-    ensures { OnOk result (Reads 1 cursor.old cursor.new) }
+    ensures pays { OnOk result (Reads 1 cursor.old cursor.new) }
+    ensures derives { IfOk result (λ all. DerivesActuals cursor.old.rest.now cursor.new.rest.now (plain_exprs (map plain_expr all))) }
 {
-    let mut actuals = Items::new(alloc);
     cursor.open(Symbol::OpenParen)?;
-    if !cursor.is_symbol(Symbol::CloseParen) {
-        actuals.push(expr(alloc, cursor)?)?;
-        while cursor.symbol_if(Symbol::Comma)? {
-            actuals.push(expr(alloc, cursor)?)?;
-        }
+    if cursor.is_symbol(Symbol::CloseParen) {
+        cursor.close(Symbol::CloseParen)?;
+        return Ok(Items::new(alloc));
     }
+    let actuals = listed(alloc, cursor)?;
     cursor.close(Symbol::CloseParen)?;
     Ok(actuals)
 }
 
+/// `Actuals = Expr { "," Expr }`
+#[tactic(auto, using(crate::proofs::Making::first_listed, crate::proofs::Making::more_listed))]
+#[cycle(exprs)]
+fn listed(alloc: Global, cursor: &mut Cursor) -> Result<Items<Expr>, Stop>
+    ensures pays { OnOk result (Reads 0 cursor.old cursor.new) }
+    ensures derives { IfOk result (λ all. Listed DerivesExprTree cursor.old.rest.now cursor.new.rest.now all) }
+{
+    let mut all = Items::new(alloc);
+    all.push(expr(alloc, cursor)?)?;
+    while cursor.symbol_if(Symbol::Comma)? {
+        all.push(expr(alloc, cursor)?)?;
+    }
+    Ok(all)
+}
+
 /// `Postfix` at the beginning of a statement: a creation is that of an object, and something in parentheses has a
 /// field, a call or an element behind it.
+#[tactic(auto, using(crate::proofs::Selecting::selections_postfix))]
 pub fn target(alloc: Global, cursor: &mut Cursor) -> Result<Expr, Stop>
-    ensures { OnOk result (Reads 0 cursor.old cursor.new) }
+    ensures pays { OnOk result (Reads 0 cursor.old cursor.new) }
+    ensures derives { IfOk result (λ e. DerivesPostfix (ending_of (plain_expr e)) cursor.old.rest.now cursor.new.rest.now (plain_expr e)) }
+    ensures last { IfOk result (λ e. e.node + 1 ≡ cursor.new.node) }
 {
     cursor.joined = 0;
-    if cursor.is_keyword(Keyword::New) {
-        let object = new_object(alloc, cursor)?;
-        return selected(alloc, cursor, object);
-    }
-    let is_inner = cursor.is_symbol(Symbol::OpenParen);
-    let first = primary(alloc, cursor)?;
-    if is_inner && !selects(cursor) {
-        return Err(cursor.unexpected());
-    }
+    let first = target_first(alloc, cursor)?;
     selected(alloc, cursor, first)
+}
+
+/// The shortest such Postfix.
+#[tactic(auto, using(crate::proofs::Making::inner_selection, crate::proofs::Making::primary_target))]
+fn target_first(alloc: Global, cursor: &mut Cursor) -> Result<Expr, Stop>
+    ensures pays { OnOk result (Reads 0 cursor.old cursor.new) }
+    ensures derives { IfOk result (λ e. DerivesPostfix (ending_of (plain_expr e)) cursor.old.rest.now cursor.new.rest.now (plain_expr e)) }
+    ensures last { IfOk result (λ e. e.node + 1 ≡ cursor.new.node) }
+{
+    if cursor.is_keyword(Keyword::New) {
+        return new_object(alloc, cursor);
+    }
+    if cursor.is_symbol(Symbol::OpenParen) {
+        let inner = inner(alloc, cursor)?;
+        return selection(alloc, cursor, inner);
+    }
+    literal(cursor)
 }
 
 /// `"new" Name [ Args ] "(" [ Actuals ] ")"`
 fn new_object(alloc: Global, cursor: &mut Cursor) -> Result<Expr, Stop>
-    ensures { OnOk result (Reads 0 cursor.old cursor.new) }
+    ensures pays { OnOk result (Reads 0 cursor.old cursor.new) }
+    ensures derives { IfOk result (λ e. DerivesPostfix (ending_of (plain_expr e)) cursor.old.rest.now cursor.new.rest.now (plain_expr e)) }
+    ensures last { IfOk result (λ e. e.node + 1 ≡ cursor.new.node) }
 {
     let place = cursor.keyword(Keyword::New)?;
     let class = cursor.name()?;

@@ -1,44 +1,48 @@
-ghost use Rattle.std.specs.Prelude.{OnOk};
-ghost use Rattle.dpj_parse.specs.Progress.{Keeps, Reads};
+ghost use Rattle.std.specs.Prelude.{◌≡◌, ◌+◌, ◌↔◌, IfOk, IsTrue, OnOk};
+ghost use Rattle.dpj_parse.specs.Classes.{BeginsEffects, DerivesField, DerivesFormal, DerivesFormalList, DerivesFormals, DerivesIn, DerivesItem, DerivesItemsIf, DerivesMember, DerivesMethod, DerivesNamed, DerivesResult, DerivesSummary};
+ghost use Rattle.dpj_parse.specs.Progress.{IsNumberedLast, Keeps, Reads};
+ghost use Rattle.dpj_parse.specs.Taking.{Listed};
 
 use crate::cursor::Cursor;
-use crate::region::{begins_kind, kind, names, params_if, rpl};
+use crate::region::{begins_kind, kind, names, no_params, params_if, rpl};
 use crate::stmts::block;
 use crate::types::ty;
 use dpj_base::{Items, Stop};
 use dpj_terminals::Terminal;
 use dpj_tokens::{Keyword, Symbol};
 use dpj_tree::{
-    Field, Formal, Item, Member, Method, MethodResult, Named, Params, SummaryTree, TypeTree,
+    Field, Formal, Item, Member, Method, MethodResult, Named, Params, RplTree, SummaryTree,
+    TypeTree,
 };
 use std::alloc::Global;
 
 /// `Member`
+#[tactic(auto, using(crate::proofs::MemberForms::method_of, crate::proofs::MemberForms::constructor_of))]
 pub fn member(alloc: Global, cursor: &mut Cursor) -> Result<Member, Stop>
-    ensures { OnOk result (Reads 0 cursor.old cursor.new) }
+    ensures pays { OnOk result (Reads 0 cursor.old cursor.new) }
+    ensures derives { IfOk result (λ tree. DerivesMember cursor.old.rest.now cursor.new.rest.now tree) }
+    ensures last { IfOk result (λ tree. IsNumberedLast tree cursor.new.node) }
 {
     if begins_kind(cursor) {
         return regions(alloc, cursor);
     }
-    if cursor.is_symbol(Symbol::Less) {
+    if cursor.is_symbol(Symbol::Less) || cursor.is_keyword(Keyword::Void) {
         let params = params_if(alloc, cursor)?;
         let returns = result(alloc, cursor)?;
         return method(alloc, cursor, params, returns);
     }
-    let none = params_if(alloc, cursor)?;
-    if cursor.is_keyword(Keyword::Void) {
-        let returns = result(alloc, cursor)?;
-        return method(alloc, cursor, none, returns);
-    }
     if constructs(cursor) {
-        return method(alloc, cursor, none, MethodResult::Constructor);
+        return method(alloc, cursor, no_params(alloc), MethodResult::Constructor);
     }
-    typed(alloc, cursor, none)
+    typed(alloc, cursor)
 }
 
 /// `Kind Name { "," Name } ";"`
+#[tactic(auto, using(crate::proofs::MemberForms::regions_of))]
 fn regions(alloc: Global, cursor: &mut Cursor) -> Result<Member, Stop>
-    ensures { OnOk result (Reads 0 cursor.old cursor.new) }
+    ensures pays { OnOk result (Reads 0 cursor.old cursor.new) }
+    ensures derives { IfOk result (λ tree. DerivesMember cursor.old.rest.now cursor.new.rest.now tree) }
+    ensures last { IfOk result (λ tree. IsNumberedLast tree cursor.new.node) }
 {
     let atomic = kind(cursor)?;
     let names = names(alloc, cursor)?;
@@ -58,8 +62,10 @@ fn constructs(cursor: &Cursor) -> bool {
 }
 
 /// `Type | "void"`
+#[tactic(auto, using(crate::proofs::MemberForms::result_void, crate::proofs::MemberForms::result_value))]
 fn result(alloc: Global, cursor: &mut Cursor) -> Result<MethodResult, Stop>
-    ensures { OnOk result (Reads 0 cursor.old cursor.new) }
+    ensures pays { OnOk result (Reads 0 cursor.old cursor.new) }
+    ensures derives { IfOk result (λ answer. DerivesResult cursor.old.rest.now cursor.new.rest.now answer) }
 {
     if cursor.keyword_if(Keyword::Void)? {
         return Ok(MethodResult::Void);
@@ -68,26 +74,34 @@ fn result(alloc: Global, cursor: &mut Cursor) -> Result<MethodResult, Stop>
 }
 
 /// A field, or a method with a result and without region parameters.
-fn typed(alloc: Global, cursor: &mut Cursor, none: Params) -> Result<Member, Stop>
-    ensures { OnOk result (Reads 0 cursor.old cursor.new) }
+#[tactic(auto, using(crate::proofs::MemberForms::typed_field, crate::proofs::MemberForms::typed_method))]
+fn typed(alloc: Global, cursor: &mut Cursor) -> Result<Member, Stop>
+    ensures pays { OnOk result (Reads 0 cursor.old cursor.new) }
+    ensures derives { IfOk result (λ tree. DerivesMember cursor.old.rest.now cursor.new.rest.now tree) }
+    ensures last { IfOk result (λ tree. IsNumberedLast tree cursor.new.node) }
 {
     let ty = ty(alloc, cursor)?;
     let named = cursor.name()?;
     if cursor.is_symbol(Symbol::OpenParen) {
-        return behind_name(alloc, cursor, none, MethodResult::Value(ty), named);
+        return behind_name(
+            alloc,
+            cursor,
+            no_params(alloc),
+            MethodResult::Value(ty),
+            named,
+        );
     }
     field(alloc, cursor, ty, named)
 }
 
 /// `[ "in" Rpl ] ";"`
+#[tactic(auto, using(crate::proofs::MemberForms::field_of))]
 fn field(alloc: Global, cursor: &mut Cursor, ty: TypeTree, named: Named) -> Result<Member, Stop>
-    ensures { OnOk result (Reads 0 cursor.old cursor.new) }
+    ensures pays { OnOk result (Reads 0 cursor.old cursor.new) }
+    ensures derives { IfOk result (λ tree. DerivesField ty named cursor.old.rest.now cursor.new.rest.now tree) }
+    ensures last { IfOk result (λ tree. IsNumberedLast tree cursor.new.node) }
 {
-    let region = if cursor.keyword_if(Keyword::In)? {
-        Some(rpl(alloc, cursor)?)
-    } else {
-        None
-    };
+    let region = region_if(alloc, cursor)?;
     cursor.symbol(Symbol::Semicolon)?;
     Ok(Member::Field(Field {
         node: cursor.number(),
@@ -98,20 +112,36 @@ fn field(alloc: Global, cursor: &mut Cursor, ty: TypeTree, named: Named) -> Resu
     }))
 }
 
+/// `[ "in" Rpl ]`
+#[tactic(auto, using(crate::specs::Classes::nowhere, crate::proofs::MemberForms::in_region_of))]
+fn region_if(alloc: Global, cursor: &mut Cursor) -> Result<Option<RplTree>, Stop>
+    ensures pays { OnOk result (Keeps cursor.old cursor.new) }
+    ensures derives { IfOk result (λ region. DerivesIn cursor.old.rest.now cursor.new.rest.now region) }
+{
+    if !cursor.keyword_if(Keyword::In)? {
+        return Ok(None);
+    }
+    Ok(Some(rpl(alloc, cursor)?))
+}
+
 /// `Name "(" [ Formals ] ")" Summary Block`
+#[tactic(auto, using(crate::specs::Classes::named))]
 fn method(
     alloc: Global,
     cursor: &mut Cursor,
     params: Params,
     returns: MethodResult,
 ) -> Result<Member, Stop>
-    ensures { OnOk result (Reads 0 cursor.old cursor.new) }
+    ensures pays { OnOk result (Reads 0 cursor.old cursor.new) }
+    ensures derives { IfOk result (λ tree. DerivesNamed params returns cursor.old.rest.now cursor.new.rest.now tree) }
+    ensures last { IfOk result (λ tree. IsNumberedLast tree cursor.new.node) }
 {
     let named = cursor.name()?;
     behind_name(alloc, cursor, params, returns, named)
 }
 
 /// `"(" [ Formals ] ")" Summary Block`
+#[tactic(auto, using(crate::proofs::MemberForms::method_behind))]
 fn behind_name(
     alloc: Global,
     cursor: &mut Cursor,
@@ -119,7 +149,9 @@ fn behind_name(
     returns: MethodResult,
     named: Named,
 ) -> Result<Member, Stop>
-    ensures { OnOk result (Reads 0 cursor.old cursor.new) }
+    ensures pays { OnOk result (Reads 0 cursor.old cursor.new) }
+    ensures derives { IfOk result (λ tree. DerivesMethod params returns named cursor.old.rest.now cursor.new.rest.now tree) }
+    ensures last { IfOk result (λ tree. IsNumberedLast tree cursor.new.node) }
 {
     let formals = formals(alloc, cursor)?;
     let summary = summary(alloc, cursor)?;
@@ -136,25 +168,41 @@ fn behind_name(
     }))
 }
 
-/// `"(" [ Formals ] ")"` with `Formals = Type Name { "," Type Name }`
+/// `"(" [ Formals ] ")"`
+#[tactic(auto, using(crate::proofs::MemberForms::formals_of))]
 fn formals(alloc: Global, cursor: &mut Cursor) -> Result<Items<Formal>, Stop>
-    ensures { OnOk result (Reads 1 cursor.old cursor.new) }
+    ensures pays { OnOk result (Reads 1 cursor.old cursor.new) }
+    ensures derives { IfOk result (λ formals. DerivesFormals cursor.old.rest.now cursor.new.rest.now formals) }
 {
-    let mut formals = Items::new(alloc);
     cursor.open(Symbol::OpenParen)?;
-    if !cursor.is_symbol(Symbol::CloseParen) {
-        formals.push(formal(alloc, cursor)?)?;
-        while cursor.symbol_if(Symbol::Comma)? {
-            formals.push(formal(alloc, cursor)?)?;
-        }
-    }
+    let formals = formal_list(alloc, cursor)?;
     cursor.close(Symbol::CloseParen)?;
     Ok(formals)
 }
 
+/// `[ Formals ]` with `Formals = Type Name { "," Type Name }`
+#[tactic(auto, using(crate::specs::Classes::no_formals, crate::specs::Classes::formals, crate::proofs::Lists::listed_more, crate::specs::Taking::last))]
+fn formal_list(alloc: Global, cursor: &mut Cursor) -> Result<Items<Formal>, Stop>
+    ensures pays { OnOk result (Keeps cursor.old cursor.new) }
+    ensures derives { IfOk result (λ formals. DerivesFormalList cursor.old.rest.now cursor.new.rest.now formals) }
+{
+    if cursor.is_symbol(Symbol::CloseParen) {
+        return Ok(Items::new(alloc));
+    }
+    let mut formals = Items::new(alloc);
+    formals.push(formal(alloc, cursor)?)?;
+    while cursor.symbol_if(Symbol::Comma)? {
+        formals.push(formal(alloc, cursor)?)?;
+    }
+    Ok(formals)
+}
+
 /// `Type Name`
+#[tactic(auto, using(crate::specs::Classes::formal))]
 fn formal(alloc: Global, cursor: &mut Cursor) -> Result<Formal, Stop>
-    ensures { OnOk result (Reads 0 cursor.old cursor.new) }
+    ensures pays { OnOk result (Reads 0 cursor.old cursor.new) }
+    ensures derives { IfOk result (λ tree. DerivesFormal cursor.old.rest.now cursor.new.rest.now tree) }
+    ensures last { IfOk result (λ tree. tree.node + 1 ≡ cursor.new.node) }
 {
     let ty = ty(alloc, cursor)?;
     let named = cursor.name()?;
@@ -167,10 +215,12 @@ fn formal(alloc: Global, cursor: &mut Cursor) -> Result<Formal, Stop>
 }
 
 /// `Summary = [ "pure" | "reads" Items [ "writes" Items ] | "writes" Items ]`
+#[tactic(auto, using(crate::specs::Classes::no_summary, crate::proofs::MemberForms::summary_pure, crate::proofs::MemberForms::summary_effects))]
 fn summary(alloc: Global, cursor: &mut Cursor) -> Result<Option<SummaryTree>, Stop>
-    ensures { OnOk result (Keeps cursor.old cursor.new) }
+    ensures pays { OnOk result (Keeps cursor.old cursor.new) }
+    ensures derives { IfOk result (λ summary. DerivesSummary cursor.old.rest.now cursor.new.rest.now summary) }
 {
-    if cursor.is_keyword(Keyword::Reads) || cursor.is_keyword(Keyword::Writes) {
+    if begins_effects(cursor) {
         let reads = items_if(alloc, cursor, Keyword::Reads)?;
         let writes = items_if(alloc, cursor, Keyword::Writes)?;
         return Ok(Some(SummaryTree { reads, writes }));
@@ -184,9 +234,18 @@ fn summary(alloc: Global, cursor: &mut Cursor) -> Result<Option<SummaryTree>, St
     }))
 }
 
+/// Whether `reads` or `writes` comes next.
+fn begins_effects(cursor: &Cursor) -> bool
+    ensures { IsTrue result ↔ BeginsEffects cursor.now.rest.now }
+{
+    cursor.is_keyword(Keyword::Reads) || cursor.is_keyword(Keyword::Writes)
+}
+
 /// A keyword and Items, or neither.
+#[tactic(auto, using(crate::proofs::MemberForms::items_none, crate::proofs::MemberForms::items_some))]
 fn items_if(alloc: Global, cursor: &mut Cursor, keyword: Keyword) -> Result<Items<Item>, Stop>
-    ensures { OnOk result (Keeps cursor.old cursor.new) }
+    ensures pays { OnOk result (Keeps cursor.old cursor.new) }
+    ensures derives { IfOk result (λ items. DerivesItemsIf keyword cursor.old.rest.now cursor.new.rest.now items) }
 {
     if !cursor.keyword_if(keyword)? {
         return Ok(Items::new(alloc));
@@ -195,8 +254,10 @@ fn items_if(alloc: Global, cursor: &mut Cursor, keyword: Keyword) -> Result<Item
 }
 
 /// `Items = [ "atomic" ] Rpl { "," [ "atomic" ] Rpl }`
+#[tactic(auto, using(crate::proofs::Lists::listed_more, crate::specs::Taking::last))]
 fn items(alloc: Global, cursor: &mut Cursor) -> Result<Items<Item>, Stop>
-    ensures { OnOk result (Reads 0 cursor.old cursor.new) }
+    ensures pays { OnOk result (Reads 0 cursor.old cursor.new) }
+    ensures derives { IfOk result (λ items. Listed DerivesItem cursor.old.rest.now cursor.new.rest.now items) }
 {
     let mut items = Items::new(alloc);
     items.push(item(alloc, cursor)?)?;
@@ -207,8 +268,10 @@ fn items(alloc: Global, cursor: &mut Cursor) -> Result<Items<Item>, Stop>
 }
 
 /// `[ "atomic" ] Rpl`
+#[tactic(auto, using(crate::proofs::MemberForms::item_of))]
 fn item(alloc: Global, cursor: &mut Cursor) -> Result<Item, Stop>
-    ensures { OnOk result (Reads 0 cursor.old cursor.new) }
+    ensures pays { OnOk result (Reads 0 cursor.old cursor.new) }
+    ensures derives { IfOk result (λ tree. DerivesItem cursor.old.rest.now cursor.new.rest.now tree) }
 {
     let atomic = cursor.keyword_if(Keyword::Atomic)?;
     let rpl = rpl(alloc, cursor)?;

@@ -1,6 +1,8 @@
-ghost use Rattle.std.specs.Prelude.{◌≤◌};
+ghost use Rattle.std.specs.Prelude.{◌≡◌, ◌≢◌, ◌≤◌, MatchOption};
+ghost use Rattle.dpj_parse.specs.Expressions.{symbol_of, unary_symbol, level_of, left_level};
+ghost use Rattle.dpj_tree.specs.declared.expr.BinaryOp.{BinaryOp};
+ghost use Rattle.dpj_tree.specs.declared.expr.UnaryOp.{UnaryOp};
 
-use dpj_terminals::Terminal;
 use dpj_tokens::Symbol;
 use dpj_tree::{BinaryOp, UnaryOp};
 
@@ -8,17 +10,17 @@ use dpj_tree::{BinaryOp, UnaryOp};
 pub const LOOSEST: u32 = 0;
 
 /// The binding of the comparisons, of which a level has at most one.
-pub const COMPARING: u32 = 3;
+const COMPARING: u32 = 3;
 
 /// The tightest binding, that of `*`.
 pub const TIGHTEST: u32 = 5;
 
-/// The operator between two expressions that a terminal is.
-pub fn binary_of(terminal: Option<&Terminal>) -> Option<BinaryOp> {
-    let Some(Terminal::Symbol(symbol)) = terminal else {
-        return None;
-    };
-    match *symbol {
+/// The operator between two expressions that a symbol is.
+#[tactic(auto, using(crate::proofs::Ops::no_binary))]
+pub fn binary_of(symbol: Symbol) -> Option<BinaryOp>
+    ensures { MatchOption result ((op : BinaryOp) → symbol ≢ symbol_of op) (λ op. symbol ≡ symbol_of op) }
+{
+    match symbol {
         Symbol::Or => Some(BinaryOp::Or),
         Symbol::And => Some(BinaryOp::And),
         Symbol::Equal => Some(BinaryOp::Eq),
@@ -36,12 +38,12 @@ pub fn binary_of(terminal: Option<&Terminal>) -> Option<BinaryOp> {
     }
 }
 
-/// The operator before an expression that a terminal is.
-pub fn unary_of(terminal: Option<&Terminal>) -> Option<UnaryOp> {
-    let Some(Terminal::Symbol(symbol)) = terminal else {
-        return None;
-    };
-    match *symbol {
+/// The operator before an expression that a symbol is.
+#[tactic(auto, using(crate::proofs::Ops::no_unary))]
+pub fn unary_of(symbol: Symbol) -> Option<UnaryOp>
+    ensures { MatchOption result ((op : UnaryOp) → symbol ≢ unary_symbol op) (λ op. symbol ≡ unary_symbol op) }
+{
+    match symbol {
         Symbol::Minus => Some(UnaryOp::Neg),
         Symbol::Not => Some(UnaryOp::Not),
         _ => None,
@@ -50,7 +52,8 @@ pub fn unary_of(terminal: Option<&Terminal>) -> Option<UnaryOp> {
 
 /// How tightly an operator binds.
 pub fn binding(op: BinaryOp) -> u32
-    ensures { result ≤ TIGHTEST }
+    ensures level { result ≡ level_of op }
+    ensures within { result ≤ TIGHTEST }
 {
     match op {
         BinaryOp::Or => LOOSEST,
@@ -59,5 +62,19 @@ pub fn binding(op: BinaryOp) -> u32
         BinaryOp::Lt | BinaryOp::Le | BinaryOp::Gt | BinaryOp::Ge => COMPARING,
         BinaryOp::Add | BinaryOp::Sub => 4,
         BinaryOp::Mul | BinaryOp::Div | BinaryOp::Rem => TIGHTEST,
+    }
+}
+
+/// The tightest binding that an operator behind this one may have: those of one binding group to the left, and a
+/// comparison has no other one behind it.
+#[tactic(auto, using(crate::proofs::Ops::left_behind, crate::proofs::Ops::left_behind_comparison))]
+pub fn tightest_behind(op: BinaryOp) -> u32
+    ensures left { (next : BinaryOp) → level_of next ≤ result → left_level next ≤ level_of op }
+    ensures within { result ≤ TIGHTEST }
+{
+    if binding(op) == COMPARING {
+        COMPARING - 1
+    } else {
+        binding(op)
     }
 }

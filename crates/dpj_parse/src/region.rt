@@ -1,5 +1,8 @@
-ghost use Rattle.std.specs.Prelude.{OnOk};
+ghost use Rattle.std.specs.Prelude.{◌≡◌, ◌+◌, ◌≤◌, [], length, IfOk, OnOk};
+ghost use Rattle.dpj_parse.specs.Classes.{DerivesConstr, DerivesDeclared, DerivesGiven, DerivesKind, DerivesKindOr, DerivesParam, DerivesParams};
+ghost use Rattle.dpj_parse.specs.Paths.{DerivesArgs, DerivesElem, DerivesHead, DerivesNext, DerivesRName, DerivesRpl, DerivesWithin};
 ghost use Rattle.dpj_parse.specs.Progress.{Keeps, Reads};
+ghost use Rattle.dpj_parse.specs.Taking.{Listed, Many, TakesName};
 
 use crate::cursor::{Cursor, MOST};
 use dpj_base::{Items, Stop};
@@ -9,8 +12,10 @@ use dpj_tree::{ConstrTree, ElemTree, Named, ParamTree, Params, RName, RplHead, R
 use std::alloc::Global;
 
 /// `Name { "," Name }`
+#[tactic(auto, using(crate::proofs::Lists::listed_more, crate::specs::Taking::last))]
 pub fn names(alloc: Global, cursor: &mut Cursor) -> Result<Items<Named>, Stop>
-    ensures { OnOk result (Reads 1 cursor.old cursor.new) }
+    ensures pays { OnOk result (Reads 1 cursor.old cursor.new) }
+    ensures derives { IfOk result (λ names. Listed TakesName cursor.old.rest.now cursor.new.rest.now names) }
 {
     let mut names = Items::new(alloc);
     names.push(cursor.name()?)?;
@@ -21,8 +26,10 @@ pub fn names(alloc: Global, cursor: &mut Cursor) -> Result<Items<Named>, Stop>
 }
 
 /// `RName = Name [ "." Name ]`
+#[tactic(auto, using(crate::specs::Paths::one_name, crate::proofs::Regions::second_name))]
 fn region_name(cursor: &mut Cursor) -> Result<RName, Stop>
-    ensures { OnOk result (Reads 1 cursor.old cursor.new) }
+    ensures pays { OnOk result (Reads 1 cursor.old cursor.new) }
+    ensures derives { IfOk result (λ name. DerivesRName cursor.old.rest.now cursor.new.rest.now name) }
 {
     let first = cursor.name()?;
     let second = if cursor.symbol_if(Symbol::Dot)? {
@@ -34,8 +41,11 @@ fn region_name(cursor: &mut Cursor) -> Result<RName, Stop>
 }
 
 /// `Rpl = ( "Root" | RName ) { ":" Elem }`
+#[tactic(auto, using(crate::specs::Paths::path))]
 pub fn rpl(alloc: Global, cursor: &mut Cursor) -> Result<RplTree, Stop>
-    ensures { OnOk result (Reads 0 cursor.old cursor.new) }
+    ensures pays { OnOk result (Reads 0 cursor.old cursor.new) }
+    ensures derives { IfOk result (λ path. DerivesRpl cursor.old.rest.now cursor.new.rest.now path) }
+    ensures last { IfOk result (λ path. path.node + 1 ≡ cursor.new.node) }
 {
     let place = cursor.place();
     let head = head(cursor)?;
@@ -48,8 +58,10 @@ pub fn rpl(alloc: Global, cursor: &mut Cursor) -> Result<RplTree, Stop>
     })
 }
 
+#[tactic(auto, using(crate::proofs::Regions::head_root, crate::proofs::Regions::head_name))]
 fn head(cursor: &mut Cursor) -> Result<RplHead, Stop>
-    ensures { OnOk result (Reads 1 cursor.old cursor.new) }
+    ensures pays { OnOk result (Reads 1 cursor.old cursor.new) }
+    ensures derives { IfOk result (λ start. DerivesHead cursor.old.rest.now cursor.new.rest.now start) }
 {
     if cursor.keyword_if(Keyword::Root)? {
         return Ok(RplHead::Root);
@@ -58,17 +70,29 @@ fn head(cursor: &mut Cursor) -> Result<RplHead, Stop>
 }
 
 /// `{ ":" Elem }`
+#[tactic(auto, using(crate::proofs::Lists::many_more, crate::proofs::Lists::few_more, crate::specs::Taking::none, crate::proofs::Regions::next_elem))]
 fn elems(alloc: Global, cursor: &mut Cursor) -> Result<Items<ElemTree>, Stop>
-    ensures { OnOk result (Keeps cursor.old cursor.new) }
+    ensures pays { OnOk result (Keeps cursor.old cursor.new) }
+    ensures derives { IfOk result (λ elems. Many DerivesNext cursor.old.rest.now cursor.new.rest.now elems) }
+    ensures few { IfOk result (λ elems. length elems ≤ 32) }
 {
     let mut elems = Items::new(alloc);
     while cursor.symbol_if(Symbol::Colon)? {
-        if begins_elem(cursor) && elems.len() >= MOST as usize {
-            return Err(cursor.too_many());
+        if elems.len() >= MOST as usize {
+            return Err(one_more(cursor));
         }
         elems.push(elem(cursor)?)?;
     }
     Ok(elems)
+}
+
+/// No further element is taken, and something else can't stand here.
+fn one_more(cursor: &Cursor) -> Stop {
+    if begins_elem(cursor) {
+        cursor.too_many()
+    } else {
+        cursor.unexpected()
+    }
 }
 
 /// Whether an element of a region path comes next.
@@ -81,8 +105,10 @@ fn begins_elem(cursor: &Cursor) -> bool {
 }
 
 /// `Elem = RName | "*" | "[" ( Int | Name | "?" ) "]"`
+#[tactic(auto, using(crate::proofs::Regions::elem_star, crate::proofs::Regions::elem_name))]
 fn elem(cursor: &mut Cursor) -> Result<ElemTree, Stop>
-    ensures { OnOk result (Reads 1 cursor.old cursor.new) }
+    ensures pays { OnOk result (Reads 1 cursor.old cursor.new) }
+    ensures derives { IfOk result (λ tree. DerivesElem cursor.old.rest.now cursor.new.rest.now tree) }
 {
     match cursor.next() {
         Some(Terminal::Symbol(Symbol::Star)) => {
@@ -95,25 +121,41 @@ fn elem(cursor: &mut Cursor) -> Result<ElemTree, Stop>
 }
 
 /// `"[" ( Int | Name | "?" ) "]"`
+#[tactic(auto, using(crate::proofs::Regions::elem_within))]
 fn index(cursor: &mut Cursor) -> Result<ElemTree, Stop>
-    ensures { OnOk result (Reads 1 cursor.old cursor.new) }
+    ensures pays { OnOk result (Reads 1 cursor.old cursor.new) }
+    ensures derives { IfOk result (λ tree. DerivesElem cursor.old.rest.now cursor.new.rest.now tree) }
 {
     cursor.open(Symbol::OpenBracket)?;
-    let place = cursor.place();
-    let elem = match cursor.next() {
-        Some(Terminal::Int(number)) => ElemTree::Lit(*number),
-        Some(Terminal::Name(name)) => ElemTree::Index(Named { name: *name, place }),
-        Some(Terminal::Symbol(Symbol::Question)) => ElemTree::Any,
-        _ => return Err(cursor.unexpected()),
-    };
-    cursor.accept()?;
+    let elem = within(cursor)?;
     cursor.close(Symbol::CloseBracket)?;
     Ok(elem)
 }
 
+/// `Int | Name | "?"`
+#[tactic(auto, using(crate::specs::Paths::index, crate::proofs::Regions::within_number, crate::proofs::Regions::within_any))]
+fn within(cursor: &mut Cursor) -> Result<ElemTree, Stop>
+    ensures pays { OnOk result (Reads 1 cursor.old cursor.new) }
+    ensures derives { IfOk result (λ tree. DerivesWithin cursor.old.rest.now cursor.new.rest.now tree) }
+{
+    match cursor.next() {
+        Some(Terminal::Int(number)) => {
+            cursor.accept()?;
+            Ok(ElemTree::Lit(*number))
+        }
+        Some(Terminal::Symbol(Symbol::Question)) => {
+            cursor.accept()?;
+            Ok(ElemTree::Any)
+        }
+        _ => Ok(ElemTree::Index(cursor.name()?)),
+    }
+}
+
 /// `[ Args ]`
+#[tactic(auto, using(crate::specs::Paths::no_args))]
 pub fn args_if(alloc: Global, cursor: &mut Cursor) -> Result<Items<RplTree>, Stop>
-    ensures { OnOk result (Keeps cursor.old cursor.new) }
+    ensures pays { OnOk result (Keeps cursor.old cursor.new) }
+    ensures derives { IfOk result (λ paths. DerivesArgs cursor.old.rest.now cursor.new.rest.now paths) }
 {
     if !cursor.is_symbol(Symbol::Less) {
         return Ok(Items::new(alloc));
@@ -122,65 +164,87 @@ pub fn args_if(alloc: Global, cursor: &mut Cursor) -> Result<Items<RplTree>, Sto
 }
 
 /// `Args = "<" Rpl { "," Rpl } ">"`
+#[tactic(auto, using(crate::specs::Paths::args))]
 pub fn args(alloc: Global, cursor: &mut Cursor) -> Result<Items<RplTree>, Stop>
-    ensures { OnOk result (Reads 1 cursor.old cursor.new) }
+    ensures pays { OnOk result (Reads 1 cursor.old cursor.new) }
+    ensures derives { IfOk result (λ paths. DerivesArgs cursor.old.rest.now cursor.new.rest.now paths) }
 {
-    let mut args = Items::new(alloc);
     cursor.symbol(Symbol::Less)?;
-    args.push(rpl(alloc, cursor)?)?;
-    while cursor.symbol_if(Symbol::Comma)? {
-        args.push(rpl(alloc, cursor)?)?;
-    }
+    let args = paths(alloc, cursor)?;
     cursor.symbol(Symbol::Greater)?;
     Ok(args)
 }
 
+/// `Rpl { "," Rpl }`
+#[tactic(auto, using(crate::proofs::Lists::listed_more, crate::specs::Taking::last))]
+fn paths(alloc: Global, cursor: &mut Cursor) -> Result<Items<RplTree>, Stop>
+    ensures pays { OnOk result (Reads 0 cursor.old cursor.new) }
+    ensures derives { IfOk result (λ paths. Listed DerivesRpl cursor.old.rest.now cursor.new.rest.now paths) }
+{
+    let mut paths = Items::new(alloc);
+    paths.push(rpl(alloc, cursor)?)?;
+    while cursor.symbol_if(Symbol::Comma)? {
+        paths.push(rpl(alloc, cursor)?)?;
+    }
+    Ok(paths)
+}
+
 /// `[ Params ]`
+#[tactic(auto, using(crate::specs::Classes::no_params))]
 pub fn params_if(alloc: Global, cursor: &mut Cursor) -> Result<Params, Stop>
-    ensures { OnOk result (Keeps cursor.old cursor.new) }
+    ensures pays { OnOk result (Keeps cursor.old cursor.new) }
+    ensures derives { IfOk result (λ params. DerivesParams cursor.old.rest.now cursor.new.rest.now params) }
 {
     if !cursor.is_symbol(Symbol::Less) {
-        return Ok(Params {
-            list: Items::new(alloc),
-            given: Items::new(alloc),
-        });
+        return Ok(no_params(alloc));
     }
     params(alloc, cursor)
 }
 
+/// No region parameters are written.
+pub fn no_params(alloc: Global) -> Params
+    ensures { result ≡ record { list = []; given = [] } }
+{
+    Params {
+        list: Items::new(alloc),
+        given: Items::new(alloc),
+    }
+}
+
 /// `Params = "<" Kind Name { "," [ Kind ] Name } [ "|" Constr { "," Constr } ] ">"`
+#[tactic(auto, using(crate::specs::Classes::params))]
 fn params(alloc: Global, cursor: &mut Cursor) -> Result<Params, Stop>
-    ensures { OnOk result (Reads 0 cursor.old cursor.new) }
+    ensures pays { OnOk result (Reads 0 cursor.old cursor.new) }
+    ensures derives { IfOk result (λ params. DerivesParams cursor.old.rest.now cursor.new.rest.now params) }
 {
     cursor.symbol(Symbol::Less)?;
     let list = declared(alloc, cursor)?;
-    let given = if cursor.symbol_if(Symbol::Bar)? {
-        constraints(alloc, cursor)?
-    } else {
-        Items::new(alloc)
-    };
+    let given = given(alloc, cursor)?;
     cursor.symbol(Symbol::Greater)?;
     Ok(Params { list, given })
 }
 
 /// `Kind Name { "," [ Kind ] Name }`: a bare name has the kind of the one before it.
+#[tactic(auto, using(crate::proofs::Regions::declares_first, crate::proofs::Regions::declares_more, crate::proofs::Regions::declares_done))]
 fn declared(alloc: Global, cursor: &mut Cursor) -> Result<Items<ParamTree>, Stop>
-    ensures { OnOk result (Reads 0 cursor.old cursor.new) }
+    ensures pays { OnOk result (Reads 0 cursor.old cursor.new) }
+    ensures derives { IfOk result (λ list. DerivesDeclared cursor.old.rest.now cursor.new.rest.now list) }
 {
     let mut list = Items::new(alloc);
     let mut atomic = kind(cursor)?;
     list.push(param(cursor, atomic)?)?;
     while cursor.symbol_if(Symbol::Comma)? {
-        if begins_kind(cursor) {
-            atomic = kind(cursor)?;
-        }
+        atomic = kind_or(cursor, atomic)?;
         list.push(param(cursor, atomic)?)?;
     }
     Ok(list)
 }
 
+#[tactic(auto, using(crate::specs::Classes::param))]
 fn param(cursor: &mut Cursor, atomic: bool) -> Result<ParamTree, Stop>
-    ensures { OnOk result (Reads 0 cursor.old cursor.new) }
+    ensures pays { OnOk result (Reads 0 cursor.old cursor.new) }
+    ensures derives { IfOk result (λ tree. DerivesParam atomic cursor.old.rest.now cursor.new.rest.now tree) }
+    ensures last { IfOk result (λ tree. tree.node + 1 ≡ cursor.new.node) }
 {
     let named = cursor.name()?;
     Ok(ParamTree {
@@ -197,17 +261,45 @@ pub fn begins_kind(cursor: &Cursor) -> bool {
 }
 
 /// `Kind = [ "atomic" ] "region"`: whether it is atomic.
+#[tactic(auto, using(crate::proofs::Regions::kind_of))]
 pub fn kind(cursor: &mut Cursor) -> Result<bool, Stop>
-    ensures { OnOk result (Reads 1 cursor.old cursor.new) }
+    ensures pays { OnOk result (Reads 1 cursor.old cursor.new) }
+    ensures derives { IfOk result (λ atomic. DerivesKind cursor.old.rest.now cursor.new.rest.now atomic) }
 {
     let atomic = cursor.keyword_if(Keyword::Atomic)?;
     cursor.keyword(Keyword::Region)?;
     Ok(atomic)
 }
 
+/// `[ Kind ]`: whether it is atomic, or the one before it.
+#[tactic(auto, using(crate::specs::Classes::same, crate::specs::Classes::other))]
+fn kind_or(cursor: &mut Cursor, earlier: bool) -> Result<bool, Stop>
+    ensures pays { OnOk result (Keeps cursor.old cursor.new) }
+    ensures derives { IfOk result (λ atomic. DerivesKindOr earlier cursor.old.rest.now cursor.new.rest.now atomic) }
+{
+    if begins_kind(cursor) {
+        return kind(cursor);
+    }
+    Ok(earlier)
+}
+
+/// `[ "|" Constr { "," Constr } ]`
+#[tactic(auto, using(crate::specs::Classes::nothing_given, crate::proofs::Regions::given_behind))]
+fn given(alloc: Global, cursor: &mut Cursor) -> Result<Items<ConstrTree>, Stop>
+    ensures pays { OnOk result (Keeps cursor.old cursor.new) }
+    ensures derives { IfOk result (λ given. DerivesGiven cursor.old.rest.now cursor.new.rest.now given) }
+{
+    if !cursor.symbol_if(Symbol::Bar)? {
+        return Ok(Items::new(alloc));
+    }
+    constraints(alloc, cursor)
+}
+
 /// `Constr { "," Constr }`
+#[tactic(auto, using(crate::proofs::Lists::listed_more, crate::specs::Taking::last))]
 fn constraints(alloc: Global, cursor: &mut Cursor) -> Result<Items<ConstrTree>, Stop>
-    ensures { OnOk result (Reads 0 cursor.old cursor.new) }
+    ensures pays { OnOk result (Reads 0 cursor.old cursor.new) }
+    ensures derives { IfOk result (λ given. Listed DerivesConstr cursor.old.rest.now cursor.new.rest.now given) }
 {
     let mut given = Items::new(alloc);
     given.push(constraint(alloc, cursor)?)?;
@@ -218,8 +310,10 @@ fn constraints(alloc: Global, cursor: &mut Cursor) -> Result<Items<ConstrTree>, 
 }
 
 /// `Constr = Rpl "#" Rpl`
+#[tactic(auto, using(crate::specs::Classes::constraint))]
 fn constraint(alloc: Global, cursor: &mut Cursor) -> Result<ConstrTree, Stop>
-    ensures { OnOk result (Reads 0 cursor.old cursor.new) }
+    ensures pays { OnOk result (Reads 0 cursor.old cursor.new) }
+    ensures derives { IfOk result (λ tree. DerivesConstr cursor.old.rest.now cursor.new.rest.now tree) }
 {
     let left = rpl(alloc, cursor)?;
     cursor.symbol(Symbol::Hash)?;

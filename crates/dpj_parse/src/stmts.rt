@@ -1,5 +1,9 @@
-ghost use Rattle.std.specs.Prelude.{◌≤◌, ◌+◌, ◌<◌, length, OnOk};
-ghost use Rattle.dpj_parse.specs.Progress.{Closes, Numbers, Reads};
+ghost use Rattle.std.specs.Prelude.{◌≡◌, ◌≤◌, ◌+◌, ◌<◌, length, map, OnOk, IfOk, IfSome, MatchOption};
+ghost use Rattle.dpj_parse.specs.Progress.{Closes, Keeps, Numbers, Reads};
+ghost use Rattle.dpj_parse.specs.Taking.{Many, Next};
+ghost use Rattle.dpj_parse.specs.Statements.{DerivesBlock, DerivesCondition, DerivesForm, DerivesRange, DerivesStmt, DerivesValue, cobegin_word, foreach_word};
+ghost use Rattle.dpj_parse.specs.Reading.{DerivesPrinted, DerivesStmtTree, plain_stmt_kind};
+ghost use Rattle.dpj_tree.specs.Plain.{plain_expr, plain_stmt, plain_stmts, statement};
 
 use crate::cursor::Cursor;
 use crate::exprs::{expr, target};
@@ -14,7 +18,10 @@ use std::alloc::Global;
 /// A complete statement gets its number.
 fn made(cursor: &mut Cursor, place: Place, kind: StmtKind) -> Stmt
     requires { cursor.old.node + length cursor.old.rest.now + 1 < 2097152 }
-    ensures { Numbers cursor.old cursor.new }
+    ensures pays { Numbers cursor.old cursor.new }
+    ensures takes { cursor.new.rest.now ≡ cursor.old.rest.now }
+    ensures plain { plain_stmt result ≡ statement cursor.old.node place (plain_stmt_kind kind) }
+    ensures last { result.node + 1 ≡ cursor.new.node }
 {
     Stmt {
         node: cursor.number(),
@@ -24,37 +31,67 @@ fn made(cursor: &mut Cursor, place: Place, kind: StmtKind) -> Stmt
 }
 
 /// `Stmt`
+#[tactic(auto, using(crate::proofs::Stating::stmt_form, crate::proofs::Stating::stmt_stays))]
 #[cycle(stmts)]
 fn stmt(alloc: Global, cursor: &mut Cursor) -> Result<Stmt, Stop>
-    ensures { OnOk result (Reads 0 cursor.old cursor.new) }
+    ensures pays { OnOk result (Reads 0 cursor.old cursor.new) }
+    ensures derives { IfOk result (λ s. DerivesStmt cursor.old.rest.now cursor.new.rest.now (plain_stmt s)) }
+    ensures last { IfOk result (λ s. s.node + 1 ≡ cursor.new.node) }
 {
     let place = cursor.place();
-    let kind = match cursor.next() {
-        Some(Terminal::Symbol(Symbol::OpenBrace)) => StmtKind::Block(block(alloc, cursor)?),
-        Some(Terminal::Keyword(Keyword::If)) => choice(alloc, cursor)?,
-        Some(Terminal::Keyword(Keyword::While)) => while_loop(alloc, cursor)?,
-        Some(Terminal::Keyword(Keyword::Cobegin)) => cobegin(alloc, cursor, false)?,
-        Some(Terminal::Keyword(Keyword::CobeginNd)) => cobegin(alloc, cursor, true)?,
-        Some(Terminal::Keyword(Keyword::Foreach)) => foreach(alloc, cursor, false)?,
-        Some(Terminal::Keyword(Keyword::ForeachNd)) => foreach(alloc, cursor, true)?,
-        Some(Terminal::Keyword(Keyword::ForeachParts)) => foreach_parts(alloc, cursor)?,
-        Some(Terminal::Keyword(Keyword::Atomic)) => atomic(alloc, cursor)?,
-        _ => return simple(alloc, cursor),
-    };
-    Ok(made(cursor, place, kind))
+    match form(alloc, cursor)? {
+        Some(kind) => Ok(made(cursor, place, kind)),
+        None => simple(alloc, cursor),
+    }
+}
+
+/// A statement that holds other ones, but for its number and place; None where one begins that holds none.
+#[tactic(auto, using(crate::proofs::Stating::block_form))]
+#[cycle(stmts)]
+fn form(alloc: Global, cursor: &mut Cursor) -> Result<Option<StmtKind>, Stop>
+    ensures pays { IfOk result (λ found. MatchOption found (cursor.new ≡ cursor.old) (λ kind. Reads 1 cursor.old cursor.new)) }
+    ensures derives { IfOk result (λ found. IfSome found (λ kind. DerivesForm cursor.old.rest.now cursor.new.rest.now (plain_stmt_kind kind))) }
+{
+    match cursor.next() {
+        Some(Terminal::Symbol(Symbol::OpenBrace)) => {
+            Ok(Some(StmtKind::Block(block(alloc, cursor)?)))
+        }
+        Some(Terminal::Keyword(Keyword::If)) => Ok(Some(choice(alloc, cursor)?)),
+        Some(Terminal::Keyword(Keyword::While)) => Ok(Some(while_loop(alloc, cursor)?)),
+        Some(Terminal::Keyword(Keyword::Cobegin)) => Ok(Some(cobegin(alloc, cursor, false)?)),
+        Some(Terminal::Keyword(Keyword::CobeginNd)) => Ok(Some(cobegin(alloc, cursor, true)?)),
+        Some(Terminal::Keyword(Keyword::Foreach)) => Ok(Some(foreach(alloc, cursor, false)?)),
+        Some(Terminal::Keyword(Keyword::ForeachNd)) => Ok(Some(foreach(alloc, cursor, true)?)),
+        Some(Terminal::Keyword(Keyword::ForeachParts)) => Ok(Some(foreach_parts(alloc, cursor)?)),
+        Some(Terminal::Keyword(Keyword::Atomic)) => Ok(Some(atomic(alloc, cursor)?)),
+        _ => Ok(None),
+    }
 }
 
 /// `Block = "{" { Stmt } "}"`
+#[tactic(auto, using(crate::proofs::Stating::block_braces))]
 #[cycle(stmts)]
 pub fn block(alloc: Global, cursor: &mut Cursor) -> Result<Items<Stmt>, Stop>
-    ensures { OnOk result (Reads 1 cursor.old cursor.new) }
+    ensures pays { OnOk result (Reads 1 cursor.old cursor.new) }
+    ensures derives { IfOk result (λ all. DerivesBlock cursor.old.rest.now cursor.new.rest.now (plain_stmts (map plain_stmt all))) }
+{
+    cursor.open(Symbol::OpenBrace)?;
+    let all = stmts(alloc, cursor)?;
+    cursor.close(Symbol::CloseBrace)?;
+    Ok(all)
+}
+
+/// `{ Stmt }`, up to the `}`
+#[tactic(auto, using(crate::proofs::Stating::first_stmts, crate::proofs::Stating::more_stmts))]
+#[cycle(stmts)]
+fn stmts(alloc: Global, cursor: &mut Cursor) -> Result<Items<Stmt>, Stop>
+    ensures pays { OnOk result (Keeps cursor.old cursor.new) }
+    ensures derives { IfOk result (λ all. Many DerivesStmtTree cursor.old.rest.now cursor.new.rest.now all) }
 {
     let mut all = Items::new(alloc);
-    cursor.open(Symbol::OpenBrace)?;
     while !cursor.is_symbol(Symbol::CloseBrace) {
         all.push(stmt(alloc, cursor)?)?;
     }
-    cursor.close(Symbol::CloseBrace)?;
     Ok(all)
 }
 
@@ -62,7 +99,8 @@ pub fn block(alloc: Global, cursor: &mut Cursor) -> Result<Items<Stmt>, Stop>
 #[cycle(stmts)]
 fn body(alloc: Global, cursor: &mut Cursor) -> Result<Boxed<Stmt>, Stop>
     requires { cursor.old.level ≤ 32 }
-    ensures { OnOk result (Reads 0 cursor.old cursor.new) }
+    ensures pays { OnOk result (Reads 0 cursor.old cursor.new) }
+    ensures derives { IfOk result (λ s. DerivesStmt cursor.old.rest.now cursor.new.rest.now (plain_stmt s)) }
 {
     if cursor.is_symbol(Symbol::OpenBrace) {
         return Ok(Boxed::new(alloc, stmt(alloc, cursor)?)?);
@@ -74,25 +112,32 @@ fn body(alloc: Global, cursor: &mut Cursor) -> Result<Boxed<Stmt>, Stop>
 }
 
 /// `"if" "(" Expr ")" Stmt [ "else" Stmt ]`
+#[tactic(auto, using(crate::proofs::Stating::if_form, crate::proofs::Stating::else_form))]
 #[cycle(stmts)]
 fn choice(alloc: Global, cursor: &mut Cursor) -> Result<StmtKind, Stop>
-    ensures { OnOk result (Reads 1 cursor.old cursor.new) }
+    ensures pays { OnOk result (Reads 1 cursor.old cursor.new) }
+    ensures derives { IfOk result (λ kind. DerivesForm cursor.old.rest.now cursor.new.rest.now (plain_stmt_kind kind)) }
 {
     cursor.keyword(Keyword::If)?;
     let test = condition(alloc, cursor)?;
     let then = body(alloc, cursor)?;
-    let other = if cursor.keyword_if(Keyword::Else)? {
-        Some(body(alloc, cursor)?)
-    } else {
-        None
-    };
+    if !cursor.keyword_if(Keyword::Else)? {
+        return Ok(StmtKind::If {
+            test,
+            then,
+            other: None,
+        });
+    }
+    let other = Some(body(alloc, cursor)?);
     Ok(StmtKind::If { test, then, other })
 }
 
 /// `"while" "(" Expr ")" Stmt`
+#[tactic(auto, using(crate::proofs::Stating::while_form))]
 #[cycle(stmts)]
 fn while_loop(alloc: Global, cursor: &mut Cursor) -> Result<StmtKind, Stop>
-    ensures { OnOk result (Reads 1 cursor.old cursor.new) }
+    ensures pays { OnOk result (Reads 1 cursor.old cursor.new) }
+    ensures derives { IfOk result (λ kind. DerivesForm cursor.old.rest.now cursor.new.rest.now (plain_stmt_kind kind)) }
 {
     cursor.keyword(Keyword::While)?;
     let test = condition(alloc, cursor)?;
@@ -101,8 +146,10 @@ fn while_loop(alloc: Global, cursor: &mut Cursor) -> Result<StmtKind, Stop>
 }
 
 /// `"(" Expr ")"`
+#[tactic(auto, using(crate::proofs::Stating::made_condition))]
 fn condition(alloc: Global, cursor: &mut Cursor) -> Result<Expr, Stop>
-    ensures { OnOk result (Reads 1 cursor.old cursor.new) }
+    ensures pays { OnOk result (Reads 1 cursor.old cursor.new) }
+    ensures derives { IfOk result (λ e. DerivesCondition cursor.old.rest.now cursor.new.rest.now (plain_expr e)) }
 {
     cursor.open(Symbol::OpenParen)?;
     let test = expr(alloc, cursor)?;
@@ -111,9 +158,12 @@ fn condition(alloc: Global, cursor: &mut Cursor) -> Result<Expr, Stop>
 }
 
 /// `( "cobegin" | "cobegin_nd" ) Block`
+#[tactic(auto, using(crate::proofs::Stating::cobegin_form))]
 #[cycle(stmts)]
 fn cobegin(alloc: Global, cursor: &mut Cursor, nd: bool) -> Result<StmtKind, Stop>
-    ensures { OnOk result (Reads 1 cursor.old cursor.new) }
+    requires { Next (Terminal.Keyword (cobegin_word nd)) cursor.old.rest.now }
+    ensures pays { OnOk result (Reads 1 cursor.old cursor.new) }
+    ensures derives { IfOk result (λ kind. DerivesForm cursor.old.rest.now cursor.new.rest.now (plain_stmt_kind kind)) }
 {
     cursor.accept()?;
     let branches = block(alloc, cursor)?;
@@ -121,9 +171,11 @@ fn cobegin(alloc: Global, cursor: &mut Cursor, nd: bool) -> Result<StmtKind, Sto
 }
 
 /// `"atomic" Block`
+#[tactic(auto, using(crate::proofs::Stating::atomic_form))]
 #[cycle(stmts)]
 fn atomic(alloc: Global, cursor: &mut Cursor) -> Result<StmtKind, Stop>
-    ensures { OnOk result (Reads 1 cursor.old cursor.new) }
+    ensures pays { OnOk result (Reads 1 cursor.old cursor.new) }
+    ensures derives { IfOk result (λ kind. DerivesForm cursor.old.rest.now cursor.new.rest.now (plain_stmt_kind kind)) }
 {
     cursor.keyword(Keyword::Atomic)?;
     Ok(StmtKind::Atomic(block(alloc, cursor)?))
@@ -132,7 +184,9 @@ fn atomic(alloc: Global, cursor: &mut Cursor) -> Result<StmtKind, Stop>
 /// `( "foreach" | "foreach_nd" ) "(" "int" Name "in" Expr "," Expr ")" Stmt`
 #[cycle(stmts)]
 fn foreach(alloc: Global, cursor: &mut Cursor, nd: bool) -> Result<StmtKind, Stop>
-    ensures { OnOk result (Reads 1 cursor.old cursor.new) }
+    requires { Next (Terminal.Keyword (foreach_word nd)) cursor.old.rest.now }
+    ensures pays { OnOk result (Reads 1 cursor.old cursor.new) }
+    ensures derives { IfOk result (λ kind. DerivesForm cursor.old.rest.now cursor.new.rest.now (plain_stmt_kind kind)) }
 {
     cursor.accept()?;
     cursor.open(Symbol::OpenParen)?;
@@ -150,7 +204,8 @@ fn foreach(alloc: Global, cursor: &mut Cursor, nd: bool) -> Result<StmtKind, Sto
 /// `"foreach_parts" "(" Name "," "int" Name "in" Expr "," Expr ")" Stmt`
 #[cycle(stmts)]
 fn foreach_parts(alloc: Global, cursor: &mut Cursor) -> Result<StmtKind, Stop>
-    ensures { OnOk result (Reads 1 cursor.old cursor.new) }
+    ensures pays { OnOk result (Reads 1 cursor.old cursor.new) }
+    ensures derives { IfOk result (λ kind. DerivesForm cursor.old.rest.now cursor.new.rest.now (plain_stmt_kind kind)) }
 {
     cursor.keyword(Keyword::ForeachParts)?;
     cursor.open(Symbol::OpenParen)?;
@@ -178,7 +233,8 @@ struct Span {
 /// `"int" Name "in" Expr "," Expr ")"`
 fn range(alloc: Global, cursor: &mut Cursor) -> Result<Span, Stop>
     requires { 1 ≤ cursor.old.level }
-    ensures { OnOk result (Closes cursor.old cursor.new) }
+    ensures pays { OnOk result (Closes cursor.old cursor.new) }
+    ensures derives { IfOk result (λ span. DerivesRange cursor.old.rest.now cursor.new.rest.now span.var (plain_expr span.first) (plain_expr span.second)) }
 {
     cursor.keyword(Keyword::Int)?;
     let var = cursor.name()?;
@@ -192,7 +248,9 @@ fn range(alloc: Global, cursor: &mut Cursor) -> Result<Span, Stop>
 
 /// A statement that holds no other one.
 fn simple(alloc: Global, cursor: &mut Cursor) -> Result<Stmt, Stop>
-    ensures { OnOk result (Reads 0 cursor.old cursor.new) }
+    ensures pays { OnOk result (Reads 0 cursor.old cursor.new) }
+    ensures derives { IfOk result (λ s. DerivesStmt cursor.old.rest.now cursor.new.rest.now (plain_stmt s)) }
+    ensures last { IfOk result (λ s. s.node + 1 ≡ cursor.new.node) }
 {
     match cursor.next() {
         Some(Terminal::Keyword(Keyword::Return)) => returned(alloc, cursor),
@@ -205,40 +263,54 @@ fn simple(alloc: Global, cursor: &mut Cursor) -> Result<Stmt, Stop>
 }
 
 /// `"return" [ Expr ] ";"`
+#[tactic(auto, using(crate::proofs::Stating::return_alone, crate::proofs::Stating::return_with))]
 fn returned(alloc: Global, cursor: &mut Cursor) -> Result<Stmt, Stop>
-    ensures { OnOk result (Reads 0 cursor.old cursor.new) }
+    ensures pays { OnOk result (Reads 0 cursor.old cursor.new) }
+    ensures derives { IfOk result (λ s. DerivesStmt cursor.old.rest.now cursor.new.rest.now (plain_stmt s)) }
+    ensures last { IfOk result (λ s. s.node + 1 ≡ cursor.new.node) }
 {
     let place = cursor.keyword(Keyword::Return)?;
-    let value = if cursor.is_symbol(Symbol::Semicolon) {
-        None
-    } else {
-        Some(expr(alloc, cursor)?)
-    };
-    cursor.symbol(Symbol::Semicolon)?;
-    Ok(made(cursor, place, StmtKind::Return(value)))
+    if cursor.symbol_if(Symbol::Semicolon)? {
+        return Ok(made(cursor, place, StmtKind::Return(None)));
+    }
+    let value = value(alloc, cursor)?;
+    Ok(made(cursor, place, StmtKind::Return(Some(value))))
 }
 
 /// `"print" "(" ( Expr | Text ) ")" ";"`
 fn printed(alloc: Global, cursor: &mut Cursor) -> Result<Stmt, Stop>
-    ensures { OnOk result (Reads 0 cursor.old cursor.new) }
+    ensures pays { OnOk result (Reads 0 cursor.old cursor.new) }
+    ensures derives { IfOk result (λ s. DerivesStmt cursor.old.rest.now cursor.new.rest.now (plain_stmt s)) }
+    ensures last { IfOk result (λ s. s.node + 1 ≡ cursor.new.node) }
 {
     let place = cursor.keyword(Keyword::Print)?;
     cursor.open(Symbol::OpenParen)?;
-    let kind = if let Some(Terminal::Text(text)) = cursor.next() {
-        let bytes = Bytes::from_slice(alloc, text.as_slice())?;
-        cursor.accept()?;
-        StmtKind::PrintText(bytes)
-    } else {
-        StmtKind::Print(expr(alloc, cursor)?)
-    };
+    let kind = shown(alloc, cursor)?;
     cursor.close(Symbol::CloseParen)?;
     cursor.symbol(Symbol::Semicolon)?;
     Ok(made(cursor, place, kind))
 }
 
+/// `Expr | Text`
+#[tactic(auto, using(crate::proofs::Stating::shown_value, crate::proofs::Stating::shown_text))]
+fn shown(alloc: Global, cursor: &mut Cursor) -> Result<StmtKind, Stop>
+    ensures pays { OnOk result (Reads 0 cursor.old cursor.new) }
+    ensures derives { IfOk result (λ kind. DerivesPrinted cursor.old.rest.now cursor.new.rest.now (plain_stmt_kind kind)) }
+{
+    if let Some(Terminal::Text(text)) = cursor.next() {
+        let bytes = Bytes::from_slice(alloc, text.as_slice())?;
+        cursor.accept()?;
+        return Ok(StmtKind::PrintText(bytes));
+    }
+    Ok(StmtKind::Print(expr(alloc, cursor)?))
+}
+
 /// `"region" Name { "," Name } ";"`
+#[tactic(auto, using(crate::proofs::Stating::made_regions))]
 fn regions(alloc: Global, cursor: &mut Cursor) -> Result<Stmt, Stop>
-    ensures { OnOk result (Reads 0 cursor.old cursor.new) }
+    ensures pays { OnOk result (Reads 0 cursor.old cursor.new) }
+    ensures derives { IfOk result (λ s. DerivesStmt cursor.old.rest.now cursor.new.rest.now (plain_stmt s)) }
+    ensures last { IfOk result (λ s. s.node + 1 ≡ cursor.new.node) }
 {
     let place = cursor.keyword(Keyword::Region)?;
     let names = names(alloc, cursor)?;
@@ -270,7 +342,9 @@ fn closes_third(cursor: &Cursor) -> bool {
 
 /// `[ "final" ] Type Name "=" Expr ";"`
 fn declaration(alloc: Global, cursor: &mut Cursor) -> Result<Stmt, Stop>
-    ensures { OnOk result (Reads 0 cursor.old cursor.new) }
+    ensures pays { OnOk result (Reads 0 cursor.old cursor.new) }
+    ensures derives { IfOk result (λ s. DerivesStmt cursor.old.rest.now cursor.new.rest.now (plain_stmt s)) }
+    ensures last { IfOk result (λ s. s.node + 1 ≡ cursor.new.node) }
 {
     let is_final = cursor.keyword_if(Keyword::Final)?;
     let ty = ty(alloc, cursor)?;
@@ -287,8 +361,10 @@ fn declaration(alloc: Global, cursor: &mut Cursor) -> Result<Stmt, Stop>
 }
 
 /// `Expr ";"`
+#[tactic(auto, using(crate::proofs::Stating::made_value))]
 fn value(alloc: Global, cursor: &mut Cursor) -> Result<Expr, Stop>
-    ensures { OnOk result (Reads 0 cursor.old cursor.new) }
+    ensures pays { OnOk result (Reads 0 cursor.old cursor.new) }
+    ensures derives { IfOk result (λ e. DerivesValue cursor.old.rest.now cursor.new.rest.now (plain_expr e)) }
 {
     let value = expr(alloc, cursor)?;
     cursor.symbol(Symbol::Semicolon)?;
@@ -308,7 +384,9 @@ fn assigns(cursor: &Cursor) -> bool {
 
 /// `Name "=" Expr ";"`
 fn assignment(alloc: Global, cursor: &mut Cursor) -> Result<Stmt, Stop>
-    ensures { OnOk result (Reads 0 cursor.old cursor.new) }
+    ensures pays { OnOk result (Reads 0 cursor.old cursor.new) }
+    ensures derives { IfOk result (λ s. DerivesStmt cursor.old.rest.now cursor.new.rest.now (plain_stmt s)) }
+    ensures last { IfOk result (λ s. s.node + 1 ≡ cursor.new.node) }
 {
     let target = cursor.name()?;
     let place = cursor.symbol(Symbol::Assign)?;
@@ -317,8 +395,11 @@ fn assignment(alloc: Global, cursor: &mut Cursor) -> Result<Stmt, Stop>
 }
 
 /// `Postfix "=" Expr ";"` where it ends as a field or element, and `Postfix ";"` where as a call or creation.
+#[tactic(auto, using(crate::proofs::Stating::made_field_assignment, crate::proofs::Stating::made_element_assignment, crate::proofs::Stating::call_performed, crate::proofs::Stating::new_performed))]
 fn performed(alloc: Global, cursor: &mut Cursor) -> Result<Stmt, Stop>
-    ensures { OnOk result (Reads 0 cursor.old cursor.new) }
+    ensures pays { OnOk result (Reads 0 cursor.old cursor.new) }
+    ensures derives { IfOk result (λ s. DerivesStmt cursor.old.rest.now cursor.new.rest.now (plain_stmt s)) }
+    ensures last { IfOk result (λ s. s.node + 1 ≡ cursor.new.node) }
 {
     let target = target(alloc, cursor)?;
     match &target.kind {

@@ -1,17 +1,22 @@
-ghost use Rattle.std.specs.Prelude.{OnOk};
+ghost use Rattle.std.specs.Prelude.{◌≡◌, ◌+◌, ◌≤◌, length, IfOk, OnOk};
 ghost use Rattle.dpj_parse.specs.Progress.{Keeps, Reads};
+ghost use Rattle.dpj_parse.specs.Taking.{Many};
+ghost use Rattle.dpj_parse.specs.Types.{DerivesBase, DerivesBehind, DerivesIndex, DerivesRegion, DerivesSuffix, DerivesType};
 
 use crate::cursor::{Cursor, MOST};
 use crate::region::{args_if, rpl};
 use dpj_base::{Items, Stop};
 use dpj_terminals::Terminal;
 use dpj_tokens::{Keyword, Symbol};
-use dpj_tree::{BaseTree, RplTree, Suffix, TypeTree};
+use dpj_tree::{BaseTree, Named, RplTree, Suffix, TypeTree};
 use std::alloc::Global;
 
 /// `Type = Base { "[" "]" [ "<" Rpl ">" ] [ "#" Name ] }`
+#[tactic(auto, using(crate::specs::Types::type_of))]
 pub fn ty(alloc: Global, cursor: &mut Cursor) -> Result<TypeTree, Stop>
-    ensures { OnOk result (Reads 0 cursor.old cursor.new) }
+    ensures pays { OnOk result (Reads 0 cursor.old cursor.new) }
+    ensures derives { IfOk result (λ tree. DerivesType cursor.old.rest.now cursor.new.rest.now tree) }
+    ensures last { IfOk result (λ tree. tree.node + 1 ≡ cursor.new.node) }
 {
     let place = cursor.place();
     let base = base(alloc, cursor)?;
@@ -25,8 +30,10 @@ pub fn ty(alloc: Global, cursor: &mut Cursor) -> Result<TypeTree, Stop>
 }
 
 /// `Base = "int" | "boolean" | Name [ Args ]`
+#[tactic(auto, using(crate::proofs::TypeForms::base_int, crate::proofs::TypeForms::base_boolean, crate::specs::Types::class))]
 pub fn base(alloc: Global, cursor: &mut Cursor) -> Result<BaseTree, Stop>
-    ensures { OnOk result (Reads 1 cursor.old cursor.new) }
+    ensures pays { OnOk result (Reads 1 cursor.old cursor.new) }
+    ensures derives { IfOk result (λ start. DerivesBase cursor.old.rest.now cursor.new.rest.now start) }
 {
     match cursor.next() {
         Some(Terminal::Keyword(Keyword::Int)) => {
@@ -46,8 +53,11 @@ pub fn base(alloc: Global, cursor: &mut Cursor) -> Result<BaseTree, Stop>
 }
 
 /// `{ "[" "]" [ "<" Rpl ">" ] [ "#" Name ] }`
+#[tactic(auto, using(crate::proofs::Lists::many_more, crate::proofs::Lists::few_more, crate::specs::Taking::none, crate::proofs::TypeForms::suffix_of))]
 fn suffixes(alloc: Global, cursor: &mut Cursor) -> Result<Items<Suffix>, Stop>
-    ensures { OnOk result (Keeps cursor.old cursor.new) }
+    ensures pays { OnOk result (Keeps cursor.old cursor.new) }
+    ensures derives { IfOk result (λ suffixes. Many DerivesSuffix cursor.old.rest.now cursor.new.rest.now suffixes) }
+    ensures few { IfOk result (λ suffixes. length suffixes ≤ 32) }
 {
     let mut suffixes = Items::new(alloc);
     while cursor.is_symbol(Symbol::OpenBracket) {
@@ -62,21 +72,21 @@ fn suffixes(alloc: Global, cursor: &mut Cursor) -> Result<Items<Suffix>, Stop>
 }
 
 /// `[ "<" Rpl ">" ] [ "#" Name ]`
+#[tactic(auto, using(crate::specs::Types::behind))]
 pub fn behind_brackets(alloc: Global, cursor: &mut Cursor) -> Result<Suffix, Stop>
-    ensures { OnOk result (Keeps cursor.old cursor.new) }
+    ensures pays { OnOk result (Keeps cursor.old cursor.new) }
+    ensures derives { IfOk result (λ tree. DerivesBehind cursor.old.rest.now cursor.new.rest.now tree) }
 {
     let rpl = region_if(alloc, cursor)?;
-    let index = if cursor.symbol_if(Symbol::Hash)? {
-        Some(cursor.name()?)
-    } else {
-        None
-    };
+    let index = index_if(cursor)?;
     Ok(Suffix { rpl, index })
 }
 
 /// `[ "<" Rpl ">" ]`
+#[tactic(auto, using(crate::proofs::TypeForms::region_none, crate::proofs::TypeForms::region_some))]
 fn region_if(alloc: Global, cursor: &mut Cursor) -> Result<Option<RplTree>, Stop>
-    ensures { OnOk result (Keeps cursor.old cursor.new) }
+    ensures pays { OnOk result (Keeps cursor.old cursor.new) }
+    ensures derives { IfOk result (λ region. DerivesRegion cursor.old.rest.now cursor.new.rest.now region) }
 {
     if !cursor.symbol_if(Symbol::Less)? {
         return Ok(None);
@@ -84,4 +94,16 @@ fn region_if(alloc: Global, cursor: &mut Cursor) -> Result<Option<RplTree>, Stop
     let region = rpl(alloc, cursor)?;
     cursor.symbol(Symbol::Greater)?;
     Ok(Some(region))
+}
+
+/// `[ "#" Name ]`
+#[tactic(auto, using(crate::proofs::TypeForms::index_none, crate::proofs::TypeForms::index_some))]
+fn index_if(cursor: &mut Cursor) -> Result<Option<Named>, Stop>
+    ensures pays { OnOk result (Keeps cursor.old cursor.new) }
+    ensures derives { IfOk result (λ index. DerivesIndex cursor.old.rest.now cursor.new.rest.now index) }
+{
+    if !cursor.symbol_if(Symbol::Hash)? {
+        return Ok(None);
+    }
+    Ok(Some(cursor.name()?))
 }

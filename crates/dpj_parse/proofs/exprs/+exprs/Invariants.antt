@@ -1,51 +1,72 @@
-use Rattle.std.proofs.Common.{◌+◌, ◌*◌, length}
-use Rattle.dpj_parse.specs.Progress.{Reads, Keeps, Opens}
+use Rattle.std.proofs.Common.{◌+◌, ◌*◌, ◌≡◌, length}
+use Rattle.dpj_tree.specs.Plain.{plain_expr}
+use Rattle.dpj_parse.specs.Progress.{Reads, Keeps}
+use Rattle.dpj_parse.specs.Taking.{Listed}
+use Rattle.dpj_parse.specs.Reading.{DerivesExprTree, DerivesSelections}
+use Rattle.dpj_parse.proofs.Ops.{Grouped}
 use Rattle.dpj_parse.proofs.exprs.+exprs.Given as goal
 
+abbrev pub decreases-listed : goal.decreases-listed
+decreases-listed l = 6 * length l.cursor.now.rest.now + 5
+
 abbrev pub decreases-expr : goal.decreases-expr
-decreases-expr l = 4 * length l.cursor.now.rest.now + 3
+decreases-expr l = 6 * length l.cursor.now.rest.now + 4
 
 abbrev pub decreases-operators : goal.decreases-operators
-decreases-operators l = 4 * length l.cursor.now.rest.now + 2
+decreases-operators l = 6 * length l.cursor.now.rest.now + 3
 
 abbrev pub decreases-unary : goal.decreases-unary
-decreases-unary l = 4 * length l.cursor.now.rest.now + 1
+decreases-unary l = 6 * length l.cursor.now.rest.now + 2
 
 abbrev pub decreases-created : goal.decreases-created
-decreases-created l = 4 * length l.cursor.now.rest.now
+decreases-created l = 6 * length l.cursor.now.rest.now
 
 abbrev pub decreases-array : goal.decreases-array
-decreases-array l = 4 * length l.cursor.now.rest.now
+decreases-array l = 6 * length l.cursor.now.rest.now
 
-abbrev pub decreases-primary : goal.decreases-primary
-decreases-primary l = 4 * length l.cursor.now.rest.now
+abbrev pub decreases-inner : goal.decreases-inner
+decreases-inner l = 6 * length l.cursor.now.rest.now
 
 abbrev pub decreases-selected : goal.decreases-selected
-decreases-selected l = 4 * length l.cursor.now.rest.now + 1
+decreases-selected l = 6 * length l.cursor.now.rest.now + 2
+
+abbrev pub decreases-selection : goal.decreases-selection
+decreases-selection l = 6 * length l.cursor.now.rest.now + 1
 
 abbrev pub decreases-element : goal.decreases-element
-decreases-element l = 4 * length l.cursor.now.rest.now
+decreases-element l = 6 * length l.cursor.now.rest.now
 
 abbrev pub decreases-member : goal.decreases-member
-decreases-member l = 4 * length l.cursor.now.rest.now
+decreases-member l = 6 * length l.cursor.now.rest.now
 
 abbrev pub decreases-actuals : goal.decreases-actuals
-decreases-actuals l = 4 * length l.cursor.now.rest.now
+decreases-actuals l = 6 * length l.cursor.now.rest.now
 
-abbrev pub invariant-actuals-loop-actuals : goal.invariant-actuals-loop-actuals
-invariant-actuals-loop-actuals l = Opens l.fn.cursor l.cursor
+abbrev pub invariant-listed-loop-all : goal.invariant-listed-loop-all
+invariant-listed-loop-all l = record {
+  pays : Reads 0 l.fn.cursor l.cursor;
+  derives : Listed DerivesExprTree l.fn.cursor.rest.now l.cursor.rest.now l.all;
+}
 
-abbrev pub decreases-actuals-loop-actuals : goal.decreases-actuals-loop-actuals
-decreases-actuals-loop-actuals l = length l.cursor.rest.now
+abbrev pub decreases-listed-loop-all : goal.decreases-listed-loop-all
+decreases-listed-loop-all l = length l.cursor.rest.now
 
 abbrev pub invariant-operators-loop-op : goal.invariant-operators-loop-op
-invariant-operators-loop-op l = Reads 0 l.fn.cursor l.cursor
+invariant-operators-loop-op l = record {
+  pays : Reads 0 l.fn.cursor l.cursor;
+  groups : Grouped l.least l.most l.fn.cursor.rest.now l.cursor.rest.now (plain_expr l.left);
+  last : l.left.node + 1 ≡ l.cursor.node;
+}
 
 abbrev pub decreases-operators-loop-op : goal.decreases-operators-loop-op
 decreases-operators-loop-op l = length l.cursor.rest.now
 
 abbrev pub invariant-selected-loop-alloc : goal.invariant-selected-loop-alloc
-invariant-selected-loop-alloc l = Keeps l.fn.cursor l.cursor
+invariant-selected-loop-alloc l = record {
+  pays : Keeps l.fn.cursor l.cursor;
+  derives : DerivesSelections (plain_expr l.fn.first) l.fn.cursor.rest.now l.cursor.rest.now (plain_expr l.found);
+  last : l.found.node + 1 ≡ l.cursor.node;
+}
 
 abbrev pub decreases-selected-loop-alloc : goal.decreases-selected-loop-alloc
 decreases-selected-loop-alloc l = length l.cursor.rest.now

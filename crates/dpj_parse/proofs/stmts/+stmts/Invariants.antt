@@ -1,36 +1,47 @@
 use Rattle.std.proofs.Common.{◌+◌, ◌*◌, length}
-use Rattle.dpj_parse.specs.Progress.{Opens}
+use Rattle.dpj_parse.specs.Progress.{Keeps}
+use Rattle.dpj_parse.specs.Taking.{Many}
+use Rattle.dpj_parse.specs.Reading.{DerivesStmtTree}
 use Rattle.dpj_parse.proofs.stmts.+stmts.Given as goal
 
+abbrev pub decreases-body : goal.decreases-body
+decreases-body l = 5 * length l.cursor.now.rest.now + 4
+
+abbrev pub decreases-stmts : goal.decreases-stmts
+decreases-stmts l = 5 * length l.cursor.now.rest.now + 3
+
 abbrev pub decreases-stmt : goal.decreases-stmt
-decreases-stmt l = 4 * length l.cursor.now.rest.now + 1
+decreases-stmt l = 5 * length l.cursor.now.rest.now + 2
+
+abbrev pub decreases-form : goal.decreases-form
+decreases-form l = 5 * length l.cursor.now.rest.now + 1
 
 abbrev pub decreases-block : goal.decreases-block
-decreases-block l = 4 * length l.cursor.now.rest.now
-
-abbrev pub decreases-body : goal.decreases-body
-decreases-body l = 4 * length l.cursor.now.rest.now + 2
+decreases-block l = 5 * length l.cursor.now.rest.now
 
 abbrev pub decreases-choice : goal.decreases-choice
-decreases-choice l = 4 * length l.cursor.now.rest.now
+decreases-choice l = 5 * length l.cursor.now.rest.now
 
 abbrev pub decreases-while_loop : goal.decreases-while_loop
-decreases-while_loop l = 4 * length l.cursor.now.rest.now
+decreases-while_loop l = 5 * length l.cursor.now.rest.now
 
 abbrev pub decreases-cobegin : goal.decreases-cobegin
-decreases-cobegin l = 4 * length l.cursor.now.rest.now
+decreases-cobegin l = 5 * length l.cursor.now.rest.now
 
 abbrev pub decreases-atomic : goal.decreases-atomic
-decreases-atomic l = 4 * length l.cursor.now.rest.now
+decreases-atomic l = 5 * length l.cursor.now.rest.now
 
 abbrev pub decreases-foreach : goal.decreases-foreach
-decreases-foreach l = 4 * length l.cursor.now.rest.now
+decreases-foreach l = 5 * length l.cursor.now.rest.now
 
 abbrev pub decreases-foreach_parts : goal.decreases-foreach_parts
-decreases-foreach_parts l = 4 * length l.cursor.now.rest.now
+decreases-foreach_parts l = 5 * length l.cursor.now.rest.now
 
-abbrev pub invariant-block-loop-alloc : goal.invariant-block-loop-alloc
-invariant-block-loop-alloc l = Opens l.fn.cursor l.cursor
+abbrev pub invariant-stmts-loop-alloc : goal.invariant-stmts-loop-alloc
+invariant-stmts-loop-alloc l = record {
+  pays : Keeps l.fn.cursor l.cursor;
+  derives : Many DerivesStmtTree l.fn.cursor.rest.now l.cursor.rest.now l.all;
+}
 
-abbrev pub decreases-block-loop-alloc : goal.decreases-block-loop-alloc
-decreases-block-loop-alloc l = length l.cursor.rest.now
+abbrev pub decreases-stmts-loop-alloc : goal.decreases-stmts-loop-alloc
+decreases-stmts-loop-alloc l = length l.cursor.rest.now
