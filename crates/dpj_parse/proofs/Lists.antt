@@ -1,10 +1,9 @@
 -- A list grows by an item at its end, as a loop reads it.
-use Rattle.std.proofs.Common.{◌≡◌, ◌<◌, ◌≤◌, List, [], ◌∷◌, ◌++◌, length, length-append, arith}
-use Rattle.dpj_base.specs.declared.place.Place.{Place}
+use Rattle.std.proofs.Common.{◌<◌, ◌≤◌, List, [], ◌∷◌, ◌++◌, length, length-append, arith}
 use Rattle.dpj_tokens.specs.declared.token.Symbol.TheVariants as symbol
 use Rattle.dpj_terminals.specs.declared.terminal.Placed.{Placed}
 use Rattle.dpj_terminals.specs.declared.terminal.Terminal.TheVariants as terminal
-use Rattle.dpj_parse.specs.Taking.{Takes, TakesOne, TakesSymbol, Listed, last, more, Many, none, some}
+use Rattle.dpj_parse.specs.Taking.{TakesOne, Listed, last, more, Many, none, some}
 
 pub many_more : {A : Type 0} {Derives : List Placed → List Placed → A → Type 0} {start here after : List Placed} {items : List A} {item : A} →
     Many Derives start here items → Derives here after item → Many Derives start after (items ++ item ∷ [])

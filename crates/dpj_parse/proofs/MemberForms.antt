@@ -1,5 +1,5 @@
 -- The productions of classes and members, as their functions read them.
-use Rattle.std.proofs.Common.{◌≡◌, ◌≤◌, ◌⊎◌, ◌==◌, ℕ, List, [], ◌∷◌, Option, Some, None, Bool, length, map, inl, inr, true, refl, subst, arith}
+use Rattle.std.proofs.Common.{◌≡◌, ◌≤◌, ◌==◌, ℕ, List, [], ◌∷◌, Option, Some, Bool, length, map, inl, inr, true, refl, subst, arith}
 use Rattle.std.proofs.lemmas.Bool.Decides.{nat_tests}
 use Rattle.dpj_base.specs.declared.place.Place.{Place}
 use Rattle.dpj_tokens.specs.declared.token.Symbol.TheVariants as symbol
@@ -14,7 +14,6 @@ use Rattle.dpj_tree.specs.declared.class.Member.{Member}
 use Rattle.dpj_tree.specs.declared.class.Member.TheVariants as member
 use Rattle.dpj_tree.specs.declared.class.MethodResult.{MethodResult}
 use Rattle.dpj_tree.specs.declared.class.MethodResult.TheVariants as outcome
-use Rattle.dpj_tree.specs.declared.class.Parent.{Parent}
 use Rattle.dpj_tree.specs.declared.class.SummaryTree.{SummaryTree}
 use Rattle.dpj_tree.specs.declared.region.Named.{Named}
 use Rattle.dpj_tree.specs.declared.region.Params.{Params}
@@ -22,7 +21,7 @@ use Rattle.dpj_tree.specs.declared.region.RplTree.{RplTree}
 use Rattle.dpj_tree.specs.declared.region.TypeTree.{TypeTree}
 use Rattle.dpj_tree.specs.declared.stmt.Stmt.{Stmt}
 use Rattle.dpj_tree.specs.Plain.{plain_stmt, plain_stmts}
-use Rattle.dpj_parse.specs.Taking.{TakesOne, TakesIf, TakesName, TakesSymbol, TakesKeyword, Next, NoNext, Listed, Many, none, some}
+use Rattle.dpj_parse.specs.Taking.{TakesOne, TakesIf, TakesName, TakesSymbol, NoNext, Listed, Many, none, some}
 use Rattle.dpj_parse.specs.Paths.{DerivesRpl, DerivesArgs}
 use Rattle.dpj_parse.specs.Types.{DerivesType}
 use Rattle.dpj_parse.specs.Statements.{DerivesBlock}

@@ -1,5 +1,5 @@
 -- The productions of region paths and region parameters, as their functions read them.
-use Rattle.std.proofs.Common.{◌≡◌, ℕ, ℤ, List, [], ◌∷◌, ◌++◌, Option, Some, None, Bool, true, false, sym, subst, append_assoc, append-nil}
+use Rattle.std.proofs.Common.{ℤ, List, [], ◌∷◌, ◌++◌, Some, Bool, true, false, sym, subst, append_assoc, append-nil}
 use Rattle.dpj_base.specs.declared.place.Place.{Place}
 use Rattle.dpj_tokens.specs.declared.token.Symbol.TheVariants as symbol
 use Rattle.dpj_tokens.specs.declared.token.Keyword.TheVariants as keyword
@@ -9,14 +9,12 @@ use Rattle.dpj_tree.specs.declared.region.ConstrTree.{ConstrTree}
 use Rattle.dpj_tree.specs.declared.region.ElemTree.{ElemTree}
 use Rattle.dpj_tree.specs.declared.region.ElemTree.TheVariants as elem
 use Rattle.dpj_tree.specs.declared.region.Named.{Named}
-use Rattle.dpj_tree.specs.declared.region.Params.{Params}
 use Rattle.dpj_tree.specs.declared.region.ParamTree.{ParamTree}
 use Rattle.dpj_tree.specs.declared.region.RName.{RName}
 use Rattle.dpj_tree.specs.declared.region.RplHead.TheVariants as head
-use Rattle.dpj_tree.specs.declared.region.RplTree.{RplTree}
-use Rattle.dpj_parse.specs.Taking.{Takes, TakesOne, TakesIf, TakesNext, TakesName, TakesSymbol, TakesKeyword, Next, Listed, last}
-use Rattle.dpj_parse.specs.Paths.{DerivesRName, two_names, DerivesHead, DerivesWithin, number, any, DerivesElem, within, DerivesNext, next, DerivesRpl}
-use Rattle.dpj_parse.specs.Classes.{DerivesAtomic, DerivesKind, kind, DerivesKindOr, same, other, DerivesParam, DerivesParamsBehind, no_more, behind, DerivesDeclared, declared, DerivesConstr, DerivesGiven, given, DerivesParams, params}
+use Rattle.dpj_parse.specs.Taking.{TakesOne, TakesIf, TakesNext, TakesName, TakesSymbol, TakesKeyword, Next, Listed}
+use Rattle.dpj_parse.specs.Paths.{DerivesRName, two_names, DerivesHead, DerivesWithin, number, any, DerivesElem, within, DerivesNext, next}
+use Rattle.dpj_parse.specs.Classes.{DerivesAtomic, DerivesKind, kind, DerivesKindOr, same, DerivesParam, DerivesParamsBehind, no_more, behind, DerivesDeclared, declared, DerivesConstr, DerivesGiven, given}
 use Rattle.dpj_parse.proofs.Taken.{next-takes}
 
 pub second_name : {before one two after : List Placed} {first second : Named} →

@@ -1,10 +1,10 @@
 -- What was taken is what came next.
-use Rattle.std.proofs.Common.{◌≡◌, ◌≤◌, ◌-◌, List, [], ◌∷◌, length, take, drop, arith}
+use Rattle.std.proofs.Common.{◌≤◌, ◌-◌, List, [], ◌∷◌, length, take, drop, arith}
 use Rattle.std.proofs.lemmas.Grind.{common_steps}
 use Rattle.dpj_base.specs.declared.place.Place.{Place}
 use Rattle.dpj_terminals.specs.declared.terminal.Placed.{Placed}
 use Rattle.dpj_terminals.specs.declared.terminal.Terminal.{Terminal}
-use Rattle.dpj_parse.specs.Taking.{Takes, TakesOne, TakesNext, Next, place_of}
+use Rattle.dpj_parse.specs.Taking.{Takes, TakesNext, Next, place_of}
 
 pub next-takes : {wanted : Terminal} {before after : List Placed} {place : Place} → TakesNext before after place → Next wanted before → Takes wanted before after place
 next-takes t n = grind (arith, t.takes.first, n.takes.takes.first)

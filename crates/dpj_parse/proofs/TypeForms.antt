@@ -1,5 +1,5 @@
 -- The productions of types, as their functions read them.
-use Rattle.std.proofs.Common.{◌≡◌, List, Option, Some, None}
+use Rattle.std.proofs.Common.{List, Some, None}
 use Rattle.dpj_base.specs.declared.place.Place.{Place}
 use Rattle.dpj_tokens.specs.declared.token.Symbol.TheVariants as symbol
 use Rattle.dpj_tokens.specs.declared.token.Keyword.TheVariants as keyword

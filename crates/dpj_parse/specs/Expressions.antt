@@ -13,7 +13,7 @@ use Rattle.dpj_tree.specs.declared.expr.UnaryOp.{UnaryOp}
 use Rattle.dpj_tree.specs.declared.expr.UnaryOp.TheVariants as unary_op
 use Rattle.dpj_tree.specs.declared.expr.BinaryOp.{BinaryOp}
 use Rattle.dpj_tree.specs.declared.expr.BinaryOp.TheVariants as binary_op
-use Rattle.dpj_tree.specs.Plain.{PlainExpr, expression, ExprForm, int, boolean, null, this, local, field, element, call, create, create_array, unary, binary, PlainExprs, no_exprs, more_exprs}
+use Rattle.dpj_tree.specs.Plain.{PlainExpr, expression, int, boolean, null, this, local, field, element, call, create, create_array, unary, binary, PlainExprs, no_exprs, more_exprs}
 use Rattle.dpj_parse.specs.Taking.{Takes, TakesSymbol, TakesKeyword, TakesName, Many}
 use Rattle.dpj_parse.specs.Paths.{DerivesArgs}
 use Rattle.dpj_parse.specs.Types.{DerivesBase, DerivesBehind, DerivesSuffix}
