@@ -9,7 +9,7 @@ use crate::rows::MethodRow;
 use crate::table::Table;
 use dpj_base::{Constraint, Effect, Elems, Head, Items, Kind, NoMemory, Rpl, Ty};
 use dpj_effects::EffectSet;
-use dpj_headers::{Faults, Headers, ParamRow, to_number};
+use dpj_headers::{Faults, Headers, ParamRow, number_at};
 use dpj_resolve::put_in;
 use dpj_types::{same_path, same_type, subst_type};
 use std::alloc::Global;
@@ -90,7 +90,7 @@ fn param_count(headers: &Headers, class: u32) -> u32
     ensures { result ≡ param_count headers.now class }
 {
     match headers.header(class) {
-        Some(header) => to_number(header.params.len()),
+        Some(header) => number_at(header.params.len()),
         None => 0,
     }
 }
@@ -112,7 +112,7 @@ fn region_args(
         Some(args) => args,
         None => Items::new(alloc),
     };
-    add_params(alloc, &mut args, of_class, to_number(row.regions.len()))?;
+    add_params(alloc, &mut args, of_class, number_at(row.regions.len()))?;
     Ok(args)
 }
 

@@ -25,10 +25,15 @@ pub struct OwnedNumbers {
 }
 
 /// A position as a number. A text has fewer than 4294967296 of anything.
-pub fn to_number(position: usize) -> u32
+pub fn number_at(position: usize) -> u32
     ensures { result ≡ as_number position }
 {
     u32::try_from(position).unwrap_or(u32::MAX)
+}
+
+/// The same for crates that pass it on as a value, which they can do with a function that has no clause.
+pub fn to_number(position: usize) -> u32 {
+    number_at(position)
 }
 
 impl NameNumbers {

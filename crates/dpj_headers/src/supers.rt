@@ -4,7 +4,7 @@ ghost use Rattle.dpj_headers.specs.Numbers.{number_of};
 ghost use Rattle.dpj_headers.specs.Passes.{first_named, second_classes, named_parent, unknown_parent, unknown_parents, is_constructor, has_constructor, extends_place, is_among, closed_parents};
 
 use crate::faults::Faults;
-use crate::numbers::{NameNumbers, to_number};
+use crate::numbers::{NameNumbers, number_at, to_number};
 use dpj_base::{Items, Kind, NoMemory, Place};
 use dpj_tree::{Class, Member, MethodResult};
 use std::alloc::Global;
@@ -24,7 +24,7 @@ pub fn number_classes(
         if numbers.get(class.name).is_some() {
             faults.note(Kind::Duplicate, class.place);
         } else {
-            numbers.set(class.name, to_number(at))?;
+            numbers.set(class.name, number_at(at))?;
         }
     }
     Ok(numbers)

@@ -34,7 +34,7 @@ loop-at-preserved c =
           record {
             faults = ap (λ f. all_noted f rest) w.faults-is ∙ sym note ∙ sym step ∙ c.loop-at.invariant.faults;
             first = λ name. ap (λ m. number_of m name) w.numbers-is ∙ w.in_ok-set.ensures name
-                ∙ ap (λ k. cond (class.name == name) (Some k) (number_of c.loop-at.numbers name)) w.to_number.ensures
+                ∙ ap (λ k. cond (class.name == name) (Some k) (number_of c.loop-at.numbers name)) w.number_at.ensures
                 ∙ ap (λ z. cond (class.name == name) (Some (as_number i)) z) (c.loop-at.invariant.first name)
                 ∙ ap (λ k. cond (class.name == name) (Some (as_number k)) (first_named name 0 (take i classes))) here
                 ∙ sym (named_new name 0 (take i classes) class (none_from _ none))
