@@ -1,3 +1,9 @@
+ghost use Rattle.std.specs.Prelude.{◌≡◌, ◌↔◌, false, Err, IsTrue, IfOk};
+ghost use Rattle.dpj_base.specs.Types.{plain_type, type_with};
+ghost use Rattle.dpj_exprs.specs.Partial.{is_partial_call};
+ghost use Rattle.dpj_exprs.specs.Refusing.{refusal_at};
+ghost use Rattle.dpj_exprs.specs.Typed.{is_class, Fits, ActualsFit};
+
 use crate::env::Env;
 use crate::fitting::{fits, may_fit, mentions_partial, refused, rigid_in_partial};
 use crate::found::Found;
@@ -71,16 +77,44 @@ pub fn check_actuals(
     args: &[Rpl],
     place: Place,
 ) -> Result<(), NoMemory> {
-    let mut fit = actuals.len() == declared.len();
-    for (value, ty) in actuals.iter().zip(declared.iter()) {
-        if fit {
-            fit = fits(alloc, env, value, &subst_type(alloc, ty, args)?)?;
-        }
-    }
-    if !fit {
+    if !actuals_fit(alloc, env, actuals, declared, args)? {
         faults.note(Kind::Type, place);
     }
     Ok(())
+}
+
+/// Whether a value fits a declared type with region arguments put in.
+fn fits_with(
+    alloc: Global,
+    env: &Env,
+    value: &Typed,
+    declared: &Ty,
+    args: &[Rpl],
+) -> Result<bool, NoMemory>
+    ensures { IfOk result (λ fit. IsTrue fit ↔ Fits env.now.supers.rows.now value.now (type_with args.now (plain_type declared.now))) }
+{
+    fits(alloc, env, value, &subst_type(alloc, declared, args)?)
+}
+
+/// Whether there are as many values as declared types, and each fits the one at its place.
+fn actuals_fit(
+    alloc: Global,
+    env: &Env,
+    actuals: &[Typed],
+    declared: &[Ty],
+    args: &[Rpl],
+) -> Result<bool, NoMemory>
+    ensures { IfOk result (λ fit. IsTrue fit ↔ ActualsFit env.now.supers.rows.now args.now actuals.now declared.now) }
+{
+    if actuals.len() != declared.len() {
+        return Ok(false);
+    }
+    for i in 0..actuals.len() {
+        if !fits_with(alloc, env, &actuals[i], &declared[i], args)? {
+            return Ok(false);
+        }
+    }
+    Ok(true)
 }
 
 /// The same where the region arguments aren't known: a value is a fault that fits for no regions.
@@ -103,7 +137,9 @@ pub fn check_shapes(
 
 /// Whether a use through a receiver needs an argument that isn't fully specified: for the type of a formal, or
 /// for a result type that is rigid in it.
-fn is_partial(row: &MethodRow, owned: &[Rpl]) -> bool {
+fn is_partial(row: &MethodRow, owned: &[Rpl]) -> bool
+    ensures { result ≡ is_partial_call owned.now row.now }
+{
     row.params
         .as_slice()
         .iter()
@@ -154,7 +190,9 @@ fn call_on(
     regions: ReadArgs,
     actuals: &[Typed],
     place: Place,
-) -> Result<Ty, Stop> {
+) -> Result<Ty, Stop>
+    ensures { is_class (plain_type of.now) ≡ false → result ≡ Err (refusal_at Kind.Type place) }
+{
     let Ty::Class { class, args } = of else {
         return Err(refused(Kind::Type, place));
     };
@@ -164,9 +202,32 @@ fn call_on(
     let owned = env
         .table
         .args_at(alloc, *class, args.as_slice(), row.owner)?;
-    let Some(owned) = owned else {
-        return Err(refused(Kind::Type, place));
-    };
+    match owned {
+        Some(owned) => call_of(
+            alloc,
+            env,
+            found,
+            row,
+            owned.as_slice(),
+            regions,
+            actuals,
+            place,
+        ),
+        None => Err(refused(Kind::Type, place)),
+    }
+}
+
+/// The type of a call of a method. The class that declares it has the region arguments `owned`.
+fn call_of(
+    alloc: Global,
+    env: &Env,
+    found: &mut Found,
+    row: &MethodRow,
+    owned: &[Rpl],
+    regions: ReadArgs,
+    actuals: &[Typed],
+    place: Place,
+) -> Result<Ty, Stop> {
     let mut faults = Faults::by_number();
     let regions = fit_args(alloc, &mut faults, regions, row.regions.as_slice(), place)?;
     let Some(regions) = regions else {
@@ -174,10 +235,10 @@ fn call_on(
         faults.settle()?;
         return Err(refused(Kind::RegionArgs, place));
     };
-    if is_partial(row, owned.as_slice()) {
+    if is_partial(row, owned) {
         faults.note(Kind::PartialWrite, place);
     }
-    let args = joined(alloc, owned.as_slice(), regions)?;
+    let args = joined(alloc, owned, regions)?;
     check_call(
         alloc,
         env,

@@ -1,9 +1,19 @@
+ghost use Rattle.std.specs.Prelude.{◌≡◌, true, false, not, Err, option_map, IfOk, IfErr};
+ghost use Rattle.dpj_base.specs.Refused.{IfRefused};
+ghost use Rattle.dpj_base.specs.Types.{plain_type, type_with};
+ghost use Rattle.dpj_base.specs.Regions.{substituted};
+ghost use Rattle.dpj_exprs.specs.Partial.{mentions_partial, rigid_in_partial};
+ghost use Rattle.dpj_exprs.specs.Refusing.{refusal_at};
+ghost use Rattle.dpj_exprs.specs.Elements.{part_element, element_seen};
+ghost use Rattle.dpj_exprs.specs.Typed.{passes, is_int, is_class};
+
 use crate::env::{Env, LocalRow};
 use crate::fitting::{mentions_partial, refused, rigid_in_partial};
 use crate::found::Found;
 use crate::typed::Typed;
 use dpj_arrays::{Element, IndexKind, element};
-use dpj_base::{Kind, Place, Plain, Rpl, Stop, Ty};
+use dpj_base::{Kind, NoMemory, Place, Plain, Rpl, Stop, Ty};
+use dpj_classes::FieldRow;
 use dpj_resolve::put_in;
 use dpj_tree::{Expr, ExprKind};
 use dpj_types::subst_type;
@@ -19,13 +29,9 @@ pub struct FieldAt {
 }
 
 /// The field of that name through a receiver of a class type.
-pub fn field_at(
-    alloc: Global,
-    env: &Env,
-    of: &Ty,
-    name: u32,
-    place: Place,
-) -> Result<FieldAt, Stop> {
+pub fn field_at(alloc: Global, env: &Env, of: &Ty, name: u32, place: Place) -> Result<FieldAt, Stop>
+    ensures { is_class (plain_type of.now) ≡ false → result ≡ Err (refusal_at Kind.Type place) }
+{
     let Ty::Class { class, args } = of else {
         return Err(refused(Kind::Type, place));
     };
@@ -38,7 +44,17 @@ pub fn field_at(
     let Some(owned) = owned else {
         return Err(refused(Kind::Type, place));
     };
-    let args = owned.as_slice();
+    Ok(field_with(alloc, row, owned.as_slice())?)
+}
+
+/// A field with region arguments put in. Where one of them isn't fully specified, the field may not be written if
+/// its type mentions it, nor read if its type is rigid in it.
+fn field_with(alloc: Global, row: &FieldRow, args: &[Rpl]) -> Result<FieldAt, NoMemory>
+    ensures ty { IfOk result (λ field. plain_type field.ty ≡ type_with args.now (plain_type row.now.ty)) }
+    ensures rpl { IfOk result (λ field. field.rpl ≡ substituted args.now row.now.rpl) }
+    ensures may_read { IfOk result (λ field. field.may_read ≡ not (rigid_in_partial (plain_type row.now.ty) 0 args.now)) }
+    ensures may_write { IfOk result (λ field. field.may_write ≡ not (mentions_partial (plain_type row.now.ty) 0 args.now)) }
+{
     Ok(FieldAt {
         ty: subst_type(alloc, &row.ty, args)?,
         rpl: put_in(alloc, &row.rpl, args)?,
@@ -96,7 +112,9 @@ pub fn element_at(
     index: &Expr,
     index_ty: &Typed,
     place: Place,
-) -> Result<Option<Element>, Stop> {
+) -> Result<Option<Element>, Stop>
+    ensures { IfOk result (λ element. passes is_int index_ty.now ≡ true) }
+{
     if !index_ty.is_int() {
         return Err(refused(Kind::Type, place));
     }
@@ -150,7 +168,11 @@ pub fn part_element(
     row: &LocalRow,
     index_ty: &Typed,
     place: Place,
-) -> Result<Option<PartElement>, Stop> {
+) -> Result<Option<PartElement>, Stop>
+    ensures index { IfOk result (λ element. passes is_int index_ty.now ≡ true) }
+    ensures element { IfOk result (λ element. option_map element_seen element ≡ part_element row.now.part (plain_type row.now.ty)) }
+    ensures fault { IfErr result (λ stop. IfRefused stop (λ refusal. (stop ≡ refusal_at Kind.Type place) × (passes is_int index_ty.now ≡ false))) }
+{
     if !index_ty.is_int() {
         return Err(refused(Kind::Type, place));
     }

@@ -24,7 +24,7 @@ mod typing;
 
 pub use assigned::{Target, assign, read_target};
 pub use env::{Env, LocalRow, Mark, length_name};
-pub use fitting::fits;
+pub use fitting::{fits, refused};
 pub use found::Found;
 pub use node_types::NodeTypes;
 pub use supers::Supers;

@@ -128,16 +128,8 @@ fn invocation(
             let of = expr(alloc, env, types, found, of.get())?;
             let regions = read_call_args(alloc, env, &of, *name, regions.as_slice())?;
             let actuals = exprs(alloc, env, types, found, actuals.as_slice())?;
-            call(
-                alloc,
-                env,
-                found,
-                &of,
-                *name,
-                regions,
-                actuals.as_slice(),
-                e.place,
-            )
+            let actuals = actuals.as_slice();
+            call(alloc, env, found, &of, *name, regions, actuals, e.place)
         }
         ExprKind::New {
             class,
