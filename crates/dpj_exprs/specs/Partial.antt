@@ -2,7 +2,7 @@
 use Rattle.std.specs.Prelude.{ℕ, ◌+◌, min, Bool, true, false, not, ◌&&◌, ◌||◌, List, [], ◌∷◌}
 use Rattle.dpj_base.specs.declared.region.Rpl.{Rpl}
 use Rattle.dpj_base.specs.Regions.{fully_specified}
-use Rattle.std.specs.List.{list_any}
+use Rattle.dpj_base.specs.declared.ty.Ty.{Ty}
 use Rattle.dpj_base.specs.Types.{PlainType, plain_type, mentions_param, rigid_in_param}
 use Rattle.dpj_classes.specs.declared.rows.MethodRow.{MethodRow}
 
@@ -20,7 +20,10 @@ abbrev pub rigid_in_partial : PlainType → ℕ → List Rpl → Bool
 rigid_in_partial t p [] = false
 rigid_in_partial t p (a ∷ args) = (not (fully_specified a) && rigid_in_param (param_number p) t) || rigid_in_partial t (p + 1) args
 
+abbrev pub some_mention_partial : List Rpl → List Ty → Bool
+some_mention_partial owned [] = false
+some_mention_partial owned (t ∷ ts) = mentions_partial (plain_type t) 0 owned || some_mention_partial owned ts
+
 -- a call through a receiver: for the type of a formal, or for a result type that is rigid in it
 abbrev pub is_partial_call : List Rpl → MethodRow → Bool
-is_partial_call owned row =
-    list_any (λ t. mentions_partial (plain_type t) 0 owned) row.params || rigid_in_partial (plain_type row.result) 0 owned
+is_partial_call owned row = some_mention_partial owned row.params || rigid_in_partial (plain_type row.result) 0 owned

@@ -1,6 +1,6 @@
 ghost use Rattle.std.specs.Prelude.{◌≡◌, ◌↔◌, false, Err, IsTrue, IfOk};
 ghost use Rattle.dpj_base.specs.Types.{plain_type, type_with};
-ghost use Rattle.dpj_exprs.specs.Partial.{is_partial_call};
+ghost use Rattle.dpj_exprs.specs.Partial.{some_mention_partial, is_partial_call};
 ghost use Rattle.dpj_exprs.specs.Refusing.{refusal_at};
 ghost use Rattle.dpj_exprs.specs.Typed.{is_class, Fits, ActualsFit};
 
@@ -140,11 +140,18 @@ pub fn check_shapes(
 fn is_partial(row: &MethodRow, owned: &[Rpl]) -> bool
     ensures { result ≡ is_partial_call owned.now row.now }
 {
-    row.params
-        .as_slice()
-        .iter()
-        .any(|ty| mentions_partial(ty, owned))
-        || rigid_in_partial(&row.result, owned)
+    some_mention_partial(row.params.as_slice(), owned) || rigid_in_partial(&row.result, owned)
+}
+
+fn some_mention_partial(types: &[Ty], owned: &[Rpl]) -> bool
+    ensures { result ≡ some_mention_partial owned.now types.now }
+{
+    for ty in types {
+        if mentions_partial(ty, owned) {
+            return true;
+        }
+    }
+    false
 }
 
 /// The receiver's region arguments, and behind them those of the call.
