@@ -1,1 +1,2 @@
+mod Assigning
 mod Meeting
