@@ -1,3 +1,2 @@
-mod Earlier
 pub mod Locals
 pub mod Steps

@@ -1,4 +1,3 @@
 pub mod Clash
 pub mod Gains
 pub mod Touches
-pub mod Earlier
