@@ -1,1 +1,2 @@
+mod Actuals
 mod Noted
