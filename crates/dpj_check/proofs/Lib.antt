@@ -1,0 +1,2 @@
+mod Assigning
+mod Meeting

@@ -1,11 +1,16 @@
 -- What is left of effects behind the scope of index variables and local regions.
-use Rattle.std.specs.Prelude.{ℕ, Bool, true, false, cond, List, [], ◌∷◌, map, Option, Some, None, nat_le}
+use Rattle.std.specs.Prelude.{ℕ, Bool, true, false, ◌&&◌, ◌||◌, ◌==◌, cond, List, [], ◌∷◌, map, Option, Some, None, nat_le}
 use Rattle.std.specs.Ordering.{nat_cmp}
 use Rattle.std.specs.BTreeSet.{BTreeSet, contains}
 use Rattle.dpj_base.specs.declared.elems.Elem.{Elem}
 use Rattle.dpj_base.specs.declared.elems.Elem.TheVariants.{Var, Any, Local}
 use Rattle.dpj_base.specs.declared.effect.Effect.{Effect}
 use Rattle.dpj_base.specs.declared.region.Rpl.{Rpl}
+use Rattle.dpj_tree.specs.declared.region.BaseTree.{BaseTree}
+use Rattle.dpj_tree.specs.declared.region.BaseTree.TheVariants as base
+use Rattle.dpj_tree.specs.declared.region.Suffix.{Suffix}
+use Rattle.dpj_tree.specs.declared.region.TypeTree.{TypeTree}
+use Rattle.dpj_tree.specs.Plain.{PlainStmt, statement, StmtForm, declare}
 use Rattle.dpj_check.specs.declared.leaving.Leaving.{Leaving}
 use Rattle.dpj_check.specs.declared.leaving.Marks.{Marks}
 use Rattle.dpj_check.specs.declared.leaving.Marks.TheVariants as marks
@@ -33,3 +38,31 @@ abbrev pub left_effect : Leaving → Effect → Option Effect
 left_effect leaving e =
     cond (begins_inside leaving.first_region e.rpl.elems) None
     (Some (record { write = e.write; atomic = left_mark leaving.marks e.atomic; rpl = left_path leaving.variables e.rpl }))
+
+-- the index variable of this number goes out of scope
+abbrev pub leaves : Leaving → ℕ → Bool
+leaves leaving v = contains nat_cmp leaving.variables v
+
+abbrev pub is_int_base : BaseTree → Bool
+is_int_base base.Int = true
+is_int_base b = false
+
+abbrev pub has_no_suffix : List Suffix → Bool
+has_no_suffix [] = true
+has_no_suffix (s ∷ ss) = false
+
+-- a final int is declared, which may stand in an index
+abbrev pub form_declares : StmtForm → Bool
+form_declares (declare is_final ty name value) = is_final && has_no_suffix ty.suffixes && is_int_base ty.base
+form_declares f = false
+
+abbrev pub declares_variable : PlainStmt → Bool
+declares_variable (statement node place form) = form_declares form
+
+-- the number is that of a statement that declares a final int
+abbrev pub is_variable : ℕ → PlainStmt → Bool
+is_variable v (statement node place form) = (node == v) && form_declares form
+
+abbrev pub some_variable : ℕ → List PlainStmt → Bool
+some_variable v [] = false
+some_variable v (s ∷ ss) = is_variable v s || some_variable v ss

@@ -1,2 +1,5 @@
 pub mod Completes
+pub mod Deciding
+pub mod Gathering
 pub mod Leaving
+pub mod Meeting

@@ -1,4 +1,6 @@
 ghost use Rattle.std.specs.Prelude.{◌≡◌, IfOk};
+ghost use Rattle.dpj_base.specs.Effects.{set_covers};
+ghost use Rattle.dpj_check.specs.Deciding.{has_value, method_fault, told_at};
 ghost use Rattle.dpj_tree.specs.Nd.{program_uses_nd};
 
 use crate::accepted::Accepted;
@@ -8,8 +10,9 @@ use crate::node::Around;
 use crate::statements::block;
 use dpj_base::{Kind, NoMemory, Plain, Stop, Ty};
 use dpj_classes::Table;
-use dpj_exprs::{Env, length_name};
-use dpj_headers::{Faults, to_number};
+use dpj_effects::EffectSet;
+use dpj_exprs::{Env, length_name, refused};
+use dpj_headers::to_number;
 use dpj_tree::{Class, Formal, Member, Method, MethodResult, Program, uses_nd};
 use std::alloc::Global;
 
@@ -55,18 +58,45 @@ fn check_method(body: &mut Body, method: &Method, number: u32) -> Result<(), Sto
         return Ok(());
     };
     declare_formals(body, method.formals.as_slice(), row.params.as_slice())?;
-    let has_result = matches!(method.result, MethodResult::Value(_));
-    let around = Around::method(has_result);
+    let around = Around::method(has_value(&method.result));
     let mut done = Gathered::new(body.alloc);
     let completes = block(body, around, method.body.as_slice(), &mut done)?;
-    let mut faults = Faults::by_number();
-    if completes && has_result {
-        faults.note(Kind::Return, method.place);
+    settle_method(method, &row.summary, completes, done.effects())
+}
+
+fn has_value(told: &MethodResult) -> bool
+    ensures { result ≡ has_value told.now }
+{
+    matches!(told, MethodResult::Value(_))
+}
+
+/// Tells the fault of a method behind its body, which has these effects.
+fn settle_method(
+    method: &Method,
+    summary: &EffectSet,
+    completes: bool,
+    effects: &EffectSet,
+) -> Result<(), Stop>
+    ensures { result ≡ told_at method.now.place (method_fault (has_value method.now.result) completes (set_covers summary.now effects.now)) }
+{
+    match method_fault(
+        has_value(&method.result),
+        completes,
+        summary.set_covers(effects),
+    ) {
+        Some(kind) => Err(refused(kind, method.place)),
+        None => Ok(()),
     }
-    if !row.summary.set_covers(done.effects()) {
-        faults.note(Kind::Summary, method.place);
+}
+
+/// A body with a result completes, or the effects of a body aren't covered.
+fn method_fault(has_result: bool, completes: bool, covered: bool) -> Option<Kind>
+    ensures { result ≡ method_fault has_result completes covered }
+{
+    if has_result && completes {
+        return Some(Kind::Return);
     }
-    faults.settle()
+    if covered { None } else { Some(Kind::Summary) }
 }
 
 fn declare_formals(body: &mut Body, formals: &[Formal], types: &[Ty]) -> Result<(), NoMemory> {

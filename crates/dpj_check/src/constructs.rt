@@ -1,4 +1,6 @@
-ghost use Rattle.std.specs.Prelude.{◌<◌};
+ghost use Rattle.std.specs.Prelude.{◌≡◌, ◌↔◌, ◌<◌, IsTrue, IfOk};
+ghost use Rattle.dpj_tree.specs.Plain.{plain_stmt};
+ghost use Rattle.dpj_check.specs.Deciding.{interference, marks_behind, AssignsOuter};
 
 use crate::body::Body;
 use crate::gathered::Gathered;
@@ -6,12 +8,15 @@ use crate::leaving::{Leaving, Marks};
 use crate::meet::{branches_pass, turns_pass};
 use crate::node::{Around, Node};
 use crate::statements::{block, scoped};
-use dpj_base::{Items, Kind, Stop};
+use dpj_base::{Items, Kind, NoMemory, Stop};
 use dpj_locals::{has_clash, touched};
 use dpj_tree::{Named, Stmt};
+use std::alloc::Global;
 
 /// The fault of a construct whose branches interfere.
-fn interference(nd: bool) -> Kind {
+fn interference(nd: bool) -> Kind
+    ensures { result ≡ interference nd }
+{
     if nd {
         Kind::InterferesNd
     } else {
@@ -20,7 +25,9 @@ fn interference(nd: bool) -> Kind {
 }
 
 /// Behind an nd construct marks are kept, and behind any other they are dropped.
-fn marks_behind(nd: bool) -> Marks {
+fn marks_behind(nd: bool) -> Marks
+    ensures { result ≡ marks_behind nd }
+{
     if nd { Marks::Kept } else { Marks::Dropped }
 }
 
@@ -76,7 +83,7 @@ pub fn foreach(
     scoped(body, around.branch(), turn, &mut inner)?;
     body.env.leave(scope);
     inner.reaches_nd = inner.reaches_nd || nd;
-    if !touched(body.alloc, turn)?.writes.is_empty() {
+    if assigns_outer(body.alloc, turn)? {
         node.note(Kind::Assign);
     }
     node.settle()?;
@@ -87,6 +94,13 @@ pub fn foreach(
     let leaving = Leaving::variable(body.alloc, number, marks_behind(nd))?;
     out.take_in(body.alloc, inner, &leaving)?;
     Ok(())
+}
+
+/// Whether a statement assigns a local that is declared outside of it.
+pub fn assigns_outer(alloc: Global, stmt: &Stmt) -> Result<bool, NoMemory>
+    ensures { IfOk result (λ assigns. IsTrue assigns ↔ AssignsOuter (plain_stmt stmt.now)) }
+{
+    Ok(!touched(alloc, stmt)?.writes.is_empty())
 }
 
 /// The number of a foreach variable: that of its construct's node.

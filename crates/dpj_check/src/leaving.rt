@@ -1,5 +1,6 @@
-ghost use Rattle.std.specs.Prelude.{◌≡◌, IfOk};
-ghost use Rattle.dpj_check.specs.Leaving.{left_elem, left_path, left_mark, begins_inside, left_effect};
+ghost use Rattle.std.specs.Prelude.{◌≡◌, ◌==◌, ℕ, false, map, IfOk};
+ghost use Rattle.dpj_tree.specs.Plain.{plain_stmt};
+ghost use Rattle.dpj_check.specs.Leaving.{left_elem, left_path, left_mark, begins_inside, left_effect, leaves, declares_variable, some_variable};
 
 use dpj_base::{Effect, Elem, Elems, NoMemory, Rpl};
 use dpj_tree::{BaseTree, Stmt, StmtKind};
@@ -26,7 +27,11 @@ pub struct Leaving {
 
 impl Leaving {
     /// Nothing goes out of scope.
-    pub fn nothing(alloc: Global, marks: Marks) -> Leaving {
+    pub fn nothing(alloc: Global, marks: Marks) -> Leaving
+        ensures variables { (v : ℕ) → leaves result v ≡ false }
+        ensures regions { result.first_region ≡ 4294967295 }
+        ensures marks { result.marks ≡ marks }
+    {
         Leaving {
             variables: BTreeSet::new(alloc),
             first_region: u32::MAX,
@@ -35,7 +40,11 @@ impl Leaving {
     }
 
     /// An index variable goes out of scope.
-    pub fn variable(alloc: Global, number: u32, marks: Marks) -> Result<Leaving, NoMemory> {
+    pub fn variable(alloc: Global, number: u32, marks: Marks) -> Result<Leaving, NoMemory>
+        ensures variables { IfOk result (λ leaving. (v : ℕ) → leaves leaving v ≡ (number == v)) }
+        ensures regions { IfOk result (λ leaving. leaving.first_region ≡ 4294967295) }
+        ensures marks { IfOk result (λ leaving. leaving.marks ≡ marks) }
+    {
         let mut leaving = Leaving::nothing(alloc, marks);
         leaving.variables.insert(number)?;
         Ok(leaving)
@@ -43,7 +52,11 @@ impl Leaving {
 
     /// What statements declare goes out of scope. `first_region` is the number of the first local region among
     /// them.
-    pub fn block(alloc: Global, stmts: &[Stmt], first_region: u32) -> Result<Leaving, NoMemory> {
+    pub fn block(alloc: Global, stmts: &[Stmt], first_region: u32) -> Result<Leaving, NoMemory>
+        ensures variables { IfOk result (λ leaving. (v : ℕ) → leaves leaving v ≡ some_variable v (map plain_stmt stmts.now)) }
+        ensures regions { IfOk result (λ leaving. leaving.first_region ≡ first_region) }
+        ensures marks { IfOk result (λ leaving. leaving.marks ≡ Marks.Kept) }
+    {
         let mut leaving = Leaving::nothing(alloc, Marks::Kept);
         leaving.first_region = first_region;
         for stmt in stmts {
@@ -117,7 +130,9 @@ pub fn leaves_scope(stmt: &Stmt) -> bool {
 }
 
 /// Whether the statement declares a final int, which may stand in an index.
-fn declares_variable(stmt: &Stmt) -> bool {
+fn declares_variable(stmt: &Stmt) -> bool
+    ensures { result ≡ declares_variable (plain_stmt stmt.now) }
+{
     match &stmt.kind {
         StmtKind::Declare { is_final, ty, .. } => {
             *is_final && ty.suffixes.is_empty() && matches!(ty.base, BaseTree::Int)

@@ -1,12 +1,15 @@
-ghost use Rattle.std.specs.Prelude.{◌<◌};
+ghost use Rattle.std.specs.Prelude.{◌≡◌, ◌↔◌, ◌<◌, true, false, not, length, IsTrue, IfOk};
+ghost use Rattle.dpj_base.specs.Branches.{turns_interfere, turns_interfere_nd};
+ghost use Rattle.dpj_check.specs.Meeting.{Apart, ApartNd};
 
 use crate::body::Body;
 use crate::gathered::Gathered;
-use dpj_base::NoMemory;
+use dpj_base::{Constraint, NoMemory};
 use dpj_effects::EffectSet;
 use dpj_interfere::{check_foreach, first_meeting};
 use dpj_nd::{check_foreach_nd, first_meeting_nd};
 use dpj_parts::check_parts;
+use std::alloc::Global;
 
 /// Of each region name, whether it is declared atomic.
 fn atomic_names<'a>(body: &'a Body) -> &'a [bool] {
@@ -18,14 +21,34 @@ pub fn branches_pass(body: &Body, nd: bool, branches: &[EffectSet]) -> Result<bo
     if branches.len() >= 4294967296 {
         return Ok(false);
     }
-    let given = body.env.given();
-    let met = if nd {
-        let params = body.atomic_params.as_slice();
-        first_meeting_nd(body.alloc, branches, given, atomic_names(body), params)?
+    branches_apart(
+        body.alloc,
+        nd,
+        branches,
+        body.env.given(),
+        atomic_names(body),
+        body.atomic_params.as_slice(),
+    )
+}
+
+/// `names` and `params` say which region names and parameters are declared atomic.
+fn branches_apart(
+    alloc: Global,
+    nd: bool,
+    branches: &[EffectSet],
+    given: &[Constraint],
+    names: &[bool],
+    params: &[bool],
+) -> Result<bool, NoMemory>
+    requires { length branches.now < 4294967296 }
+    ensures plain { nd ≡ false → IfOk result (λ passed. IsTrue passed ↔ Apart given.now branches.now) }
+    ensures nd { nd ≡ true → IfOk result (λ passed. IsTrue passed ↔ ApartNd given.now names.now params.now branches.now) }
+{
+    if nd {
+        Ok(first_meeting_nd(alloc, branches, given, names, params)?.is_none())
     } else {
-        first_meeting(body.alloc, branches, given)?
-    };
-    Ok(met.is_none())
+        Ok(first_meeting(alloc, branches, given)?.is_none())
+    }
 }
 
 /// Whether no turn of a body interferes with another, for nd where the construct is one of nd.
@@ -38,21 +61,38 @@ pub fn turns_pass(body: &Body, nd: bool, turn: &Gathered, var: u32) -> Result<bo
     effects_pass(body, nd, &turn.all_effects(body.alloc)?, var)
 }
 
-fn effects_pass(body: &Body, nd: bool, effects: &EffectSet, var: u32) -> Result<bool, NoMemory>
+fn effects_pass(body: &Body, nd: bool, turn: &EffectSet, var: u32) -> Result<bool, NoMemory>
     requires { var < 2147483648 }
 {
-    let given = body.env.given();
-    if !nd {
-        return check_foreach(body.alloc, effects, var, given);
-    }
-    check_foreach_nd(
+    turns_apart(
         body.alloc,
-        effects,
+        nd,
+        turn,
         var,
-        given,
+        body.env.given(),
         atomic_names(body),
         body.atomic_params.as_slice(),
     )
+}
+
+fn turns_apart(
+    alloc: Global,
+    nd: bool,
+    turn: &EffectSet,
+    var: u32,
+    given: &[Constraint],
+    names: &[bool],
+    params: &[bool],
+) -> Result<bool, NoMemory>
+    requires { var < 2147483648 }
+    ensures plain { nd ≡ false → IfOk result (λ passed. passed ≡ not (turns_interfere given.now var turn.now)) }
+    ensures nd { nd ≡ true → IfOk result (λ passed. passed ≡ not (turns_interfere_nd given.now names.now params.now var turn.now)) }
+{
+    if nd {
+        check_foreach_nd(alloc, turn, var, given, names, params)
+    } else {
+        check_foreach(alloc, turn, var, given)
+    }
 }
 
 /// Whether no branch of a `foreach_parts` interferes with another. The part and the variable have one number.

@@ -13,8 +13,12 @@ pub struct Around {
 }
 
 impl Around {
+    ghost use Rattle.std.specs.Prelude.{◌≡◌, true, false};
+
     /// In the body of a method.
-    pub fn method(has_result: bool) -> Around {
+    pub fn method(has_result: bool) -> Around
+        ensures { result ≡ record { has_result = has_result; enclosed = false; in_atomic = false } }
+    {
         Around {
             has_result,
             enclosed: false,
@@ -23,7 +27,9 @@ impl Around {
     }
 
     /// In a branch there.
-    pub fn branch(self) -> Around {
+    pub fn branch(self) -> Around
+        ensures { result ≡ record self { enclosed = true } }
+    {
         Around {
             enclosed: true,
             ..self
@@ -31,7 +37,9 @@ impl Around {
     }
 
     /// In an atomic block there.
-    pub fn atomic(self) -> Around {
+    pub fn atomic(self) -> Around
+        ensures { result ≡ record self { enclosed = true; in_atomic = true } }
+    {
         Around {
             enclosed: true,
             in_atomic: true,
@@ -65,6 +73,13 @@ impl Node {
     /// Notes a fault at the statement's own place.
     pub fn note(&mut self, kind: Kind) {
         self.faults.note(kind, self.place);
+    }
+
+    /// Notes a fault at the statement's own place, where one was found.
+    pub fn note_found(&mut self, kind: Option<Kind>) {
+        if let Some(kind) = kind {
+            self.note(kind);
+        }
     }
 
     /// Notes a fault at another place.

@@ -1,5 +1,5 @@
 use crate::body::Body;
-use crate::constructs::variable;
+use crate::constructs::{assigns_outer, variable};
 use crate::gathered::Gathered;
 use crate::leaving::{Leaving, Marks};
 use crate::meet::parts_pass;
@@ -7,7 +7,6 @@ use crate::node::{Around, Node};
 use crate::statements::scoped;
 use dpj_base::{Kind, NoMemory, Plain, Stop, Ty};
 use dpj_exprs::Typed;
-use dpj_locals::touched;
 use dpj_regions::is_full;
 use dpj_tree::{Expr, Named, Stmt};
 
@@ -38,7 +37,7 @@ pub fn foreach_parts(
     let outer = declare_part(body, around, &mut node, number, names, range, out)?;
     scoped(body, around.branch(), turn, &mut inner)?;
     body.env.leave(scope);
-    if !touched(body.alloc, turn)?.writes.is_empty() {
+    if assigns_outer(body.alloc, turn)? {
         node.note(Kind::Assign);
     }
     node.settle()?;

@@ -1,8 +1,11 @@
+ghost use Rattle.std.specs.Prelude.{◌≡◌};
+ghost use Rattle.dpj_check.specs.Deciding.{is_misplaced, is_printed, local_fault};
+
 use crate::body::Body;
 use crate::gathered::Gathered;
 use crate::node::{Around, Node};
 use dpj_base::{Kind, Stop, Ty};
-use dpj_exprs::{assign, read_target};
+use dpj_exprs::{Typed, assign, read_target};
 use dpj_headers::Faults;
 use dpj_resolve::ty;
 use dpj_tree::{Expr, Named, TypeTree};
@@ -53,16 +56,19 @@ pub fn assign_local(
     let value = body.typed(around, value, out)?;
     match body.env.local(target.name) {
         None => node.note_at(Kind::Unknown, target.place),
-        Some(row) => {
-            if !body.fits(&value, &row.ty)? {
-                node.note(Kind::Type);
-            }
-            if row.is_final {
-                node.note(Kind::Assign);
-            }
-        }
+        Some(row) => node.note_found(local_fault(body.fits(&value, &row.ty)?, row.is_final)),
     }
     node.settle()
+}
+
+/// The fault of an assignment to a local: the value doesn't fit, or the local is final.
+fn local_fault(fit: bool, is_final: bool) -> Option<Kind>
+    ensures { result ≡ local_fault fit is_final }
+{
+    if !fit {
+        return Some(Kind::Type);
+    }
+    if is_final { Some(Kind::Assign) } else { None }
 }
 
 /// `written = value;` for a field or an element.
@@ -129,7 +135,7 @@ pub fn leave(
     out: &mut Gathered,
 ) -> Result<(), Stop> {
     let mut node = node;
-    if around.enclosed || value.is_some() != around.has_result {
+    if is_misplaced(around, value.is_some()) {
         node.note(Kind::Return);
     }
     if let Some(value) = value {
@@ -139,6 +145,13 @@ pub fn leave(
         }
     }
     node.settle()
+}
+
+/// A `return`, with or without a value, stands in a branch or an atomic block, or doesn't fit the method.
+fn is_misplaced(around: Around, valued: bool) -> bool
+    ensures { result ≡ is_misplaced around valued }
+{
+    around.enclosed || valued != around.has_result
 }
 
 /// `print(value);`
@@ -151,10 +164,17 @@ pub fn print(
 ) -> Result<(), Stop> {
     let mut node = node;
     let value = body.typed(around, value, out)?;
-    if !value.is_int() && !value.is_boolean() {
+    if !is_printed(&value) {
         node.note(Kind::Type);
     }
     node.settle()
+}
+
+/// An int or a boolean is printed, and no reference.
+fn is_printed(value: &Typed) -> bool
+    ensures { result ≡ is_printed value.now }
+{
+    value.is_int() || value.is_boolean()
 }
 
 /// `region name, ..;`

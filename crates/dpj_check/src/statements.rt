@@ -33,27 +33,60 @@ pub fn statement(
         StmtKind::If { test, then, other } => {
             body.boolean(around, test, out, &mut node)?;
             let first = scoped(body, around, then.get(), out)?;
-            match other {
-                Some(other) => {
-                    let second = scoped(body, around, other.get(), out)?;
-                    node.settle()?;
-                    Ok(first || second)
-                }
-                None => {
-                    node.settle()?;
-                    Ok(true)
-                }
-            }
+            let second = match other {
+                Some(other) => scoped(body, around, other.get(), out)?,
+                None => true,
+            };
+            node.settle()?;
+            Ok(first || second)
         }
+        StmtKind::Return(value) => {
+            leave(body, around, node, value.as_ref(), out)?;
+            Ok(false)
+        }
+        _ => {
+            construct(body, around, node, &stmt.kind, out)?;
+            Ok(true)
+        }
+    }
+}
+
+/// A construct with branches, an atomic block, a loop, or a statement that holds no other: each completes.
+#[cycle(statements)]
+fn construct(
+    body: &mut Body,
+    around: Around,
+    node: Node,
+    kind: &StmtKind,
+    out: &mut Gathered,
+) -> Result<(), Stop> {
+    match kind {
+        StmtKind::Cobegin { nd, branches } => {
+            cobegin(body, around, node, *nd, branches.as_slice(), out)
+        }
+        StmtKind::Atomic(all) => atomic(body, around, node, all.as_slice(), out),
+        StmtKind::While { .. } | StmtKind::Foreach { .. } | StmtKind::ForeachParts { .. } => {
+            turns(body, around, node, kind, out)
+        }
+        _ => single(body, around, node, kind, out),
+    }
+}
+
+/// A loop.
+#[cycle(statements)]
+fn turns(
+    body: &mut Body,
+    around: Around,
+    node: Node,
+    kind: &StmtKind,
+    out: &mut Gathered,
+) -> Result<(), Stop> {
+    let mut node = node;
+    match kind {
         StmtKind::While { test, body: turn } => {
             body.boolean(around, test, out, &mut node)?;
             scoped(body, around, turn.get(), out)?;
-            node.settle()?;
-            Ok(true)
-        }
-        StmtKind::Cobegin { nd, branches } => {
-            cobegin(body, around, node, *nd, branches.as_slice(), out)?;
-            Ok(true)
+            node.settle()
         }
         StmtKind::Foreach {
             nd,
@@ -64,8 +97,7 @@ pub fn statement(
         } => {
             body.int(around, start, out, &mut node)?;
             body.int(around, count, out, &mut node)?;
-            foreach(body, around, node, *nd, *var, turn.get(), out)?;
-            Ok(true)
+            foreach(body, around, node, *nd, *var, turn.get(), out)
         }
         StmtKind::ForeachParts {
             view,
@@ -75,21 +107,9 @@ pub fn statement(
             body: turn,
         } => {
             let names = (*view, *var);
-            foreach_parts(body, around, node, names, (array, count), turn.get(), out)?;
-            Ok(true)
+            foreach_parts(body, around, node, names, (array, count), turn.get(), out)
         }
-        StmtKind::Atomic(all) => {
-            atomic(body, around, node, all.as_slice(), out)?;
-            Ok(true)
-        }
-        StmtKind::Return(value) => {
-            leave(body, around, node, value.as_ref(), out)?;
-            Ok(false)
-        }
-        _ => {
-            single(body, around, node, &stmt.kind, out)?;
-            Ok(true)
-        }
+        _ => node.settle(),
     }
 }
 

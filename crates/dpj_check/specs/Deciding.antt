@@ -1,0 +1,54 @@
+-- When a node of a body is refused, told of what was found of its parts.
+use Rattle.std.specs.Prelude.{ℕ, Bool, true, false, not, ◌&&◌, ◌||◌, cond, IsTrue, Option, Some, None, Result, Ok, Err}
+use Rattle.dpj_base.specs.declared.place.Place.{Place}
+use Rattle.dpj_base.specs.declared.refusal.Kind.{Kind}
+use Rattle.dpj_base.specs.declared.refusal.Kind.TheVariants as kind
+use Rattle.dpj_base.specs.declared.refusal.Stop.{Stop}
+use Rattle.dpj_base.specs.Effects.{same_bool}
+use Rattle.dpj_tree.specs.declared.class.MethodResult.{MethodResult}
+use Rattle.dpj_tree.specs.declared.class.MethodResult.TheVariants as given
+use Rattle.dpj_tree.specs.Plain.{PlainStmt}
+use Rattle.dpj_locals.specs.Touches.{stmt_assigns}
+use Rattle.dpj_exprs.specs.Refusing.{refusal_at}
+use Rattle.dpj_exprs.specs.declared.typed.Typed.{Typed}
+use Rattle.dpj_exprs.specs.Typed.{passes, is_int, is_boolean}
+use Rattle.dpj_check.specs.declared.node.Around.{Around}
+use Rattle.dpj_check.specs.declared.leaving.Marks.{Marks}
+use Rattle.dpj_check.specs.declared.leaving.Marks.TheVariants as marks
+
+-- the fault that is told at a place, if there is one
+abbrev pub told_at : Place → Option Kind → Result (Unit {0}) Stop
+told_at place None = Ok tt
+told_at place (Some k) = Err (refusal_at k place)
+
+abbrev pub has_value : MethodResult → Bool
+has_value (given.Value ty) = true
+has_value r = false
+
+-- behind a body: one with a result completes, or its effects aren't covered by the summary
+abbrev pub method_fault : Bool → Bool → Bool → Option Kind
+method_fault has_result completes covered =
+    cond (has_result && completes) (Some kind.Return) (cond covered None (Some kind.Summary))
+
+-- a `return` stands in a branch or an atomic block, or has no value in a method with a result, or one in another
+abbrev pub is_misplaced : Around → Bool → Bool
+is_misplaced around valued = around.enclosed || not (same_bool valued around.has_result)
+
+-- an assignment to a local: the value doesn't fit, or the local is final
+abbrev pub local_fault : Bool → Bool → Option Kind
+local_fault fit is_final = cond fit (cond is_final (Some kind.Assign) None) (Some kind.Type)
+
+-- what may be printed
+abbrev pub is_printed : Typed → Bool
+is_printed value = passes is_int value || passes is_boolean value
+
+-- the statement assigns a local that is declared outside of it
+abbrev pub AssignsOuter : PlainStmt → Type 0
+AssignsOuter s = (x : ℕ) × IsTrue (stmt_assigns x s)
+
+abbrev pub interference : Bool → Kind
+interference nd = cond nd kind.InterferesNd kind.Interferes
+
+-- behind an nd construct marks are kept, and behind any other they are dropped
+abbrev pub marks_behind : Bool → Marks
+marks_behind nd = cond nd marks.Kept marks.Dropped
