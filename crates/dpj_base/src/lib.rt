@@ -42,6 +42,3 @@ pub use refusal::{Kind, Refusal, Stop};
 pub use region::{Head, Region, Rpl};
 pub use ty::{Super, Ty};
 pub use value::{Trap, Value};
-
-#[cfg(test)]
-mod tests;

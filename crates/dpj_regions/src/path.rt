@@ -31,9 +31,19 @@ pub fn is_full(rpl: &Rpl) -> bool
     true
 }
 
-/// The path with its argument put in for the parameter at its head.
-#[tactic(auto, unfolding(dpj_base::specs::Regions::substituted))]
+/// The path with its argument put in for the parameter at its head. A parameter that has none stays.
 pub fn subst(alloc: Global, rpl: &Rpl, args: &[Rpl]) -> Result<Rpl, NoMemory>
+    ensures { IfOk result (λ made. made ≡ substituted args.now rpl.now) }
+{
+    match rpl.head {
+        Head::Param(p) if p as usize >= args.len() => rpl.copy(alloc),
+        _ => subst_given(alloc, rpl, args),
+    }
+}
+
+/// The same where the parameter has an argument.
+#[tactic(auto, unfolding(dpj_base::specs::Regions::substituted))]
+fn subst_given(alloc: Global, rpl: &Rpl, args: &[Rpl]) -> Result<Rpl, NoMemory>
     requires { (p : ℕ) → rpl.now.head ≡ Head.Param p → p < length args.now }
     ensures { IfOk result (λ made. made ≡ substituted args.now rpl.now) }
 {

@@ -1,5 +1,5 @@
-//! The tests of the algebra of regions, effects, types, locals and array parts. Inclusion and disjointness are tried on paths whose answers
-//! come from outside.
+//! The tests of the small types and of the algebra of regions, effects, types, locals and array parts. Inclusion and disjointness
+//! are tried on paths whose answers come from outside.
 //!
 //! They stand here and not in their crates, since a crate with tests is proved twice. They show too that memory
 //! suffices, which no contract can say.
@@ -7,6 +7,8 @@
 
 #[cfg(test)]
 mod arrays;
+#[cfg(test)]
+mod base;
 #[cfg(test)]
 mod disjoint;
 #[cfg(test)]

@@ -1,5 +1,4 @@
 pub mod Carried
-pub mod Compare
 pub mod Equal
 pub mod Inside
 pub mod Order

@@ -2,18 +2,9 @@ ghost use Rattle.std.specs.Prelude.{◌≡◌, map, IfOk};
 ghost use Rattle.dpj_base.specs.Regions.{substituted};
 ghost use Rattle.dpj_base.specs.Types.{plain_type, type_with};
 
-use dpj_base::{Boxed, Head, Items, NoMemory, Plain, Rpl, Ty};
+use dpj_base::{Boxed, Items, NoMemory, Plain, Rpl, Ty};
 use dpj_regions::subst;
 use std::alloc::Global;
-
-fn put_in_path(alloc: Global, rpl: &Rpl, args: &[Rpl]) -> Result<Rpl, NoMemory>
-    ensures { IfOk result (λ made. made ≡ substituted args.now rpl.now) }
-{
-    match rpl.head {
-        Head::Param(p) if p as usize >= args.len() => rpl.copy(alloc),
-        _ => subst(alloc, rpl, args),
-    }
-}
 
 /// Paths with their arguments put in.
 fn put_in_paths(alloc: Global, paths: &[Rpl], args: &[Rpl]) -> Result<Items<Rpl>, NoMemory>
@@ -21,7 +12,7 @@ fn put_in_paths(alloc: Global, paths: &[Rpl], args: &[Rpl]) -> Result<Items<Rpl>
 {
     let mut made = Items::new(alloc);
     for path in paths {
-        made.push(put_in_path(alloc, path, args)?)?;
+        made.push(subst(alloc, path, args)?)?;
     }
     Ok(made)
 }
@@ -42,7 +33,7 @@ pub fn subst_type(alloc: Global, t: &Ty, args: &[Rpl]) -> Result<Ty, NoMemory>
         }),
         Ty::Array { elem, rpl, index } => Ok(Ty::Array {
             elem: Boxed::new(alloc, subst_type(alloc, elem.get(), args)?)?,
-            rpl: put_in_path(alloc, rpl, args)?,
+            rpl: subst(alloc, rpl, args)?,
             index: *index,
         }),
     }

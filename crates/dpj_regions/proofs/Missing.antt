@@ -1,4 +1,4 @@
--- A region parameter that has no argument.
+-- Region parameters that have no argument.
 use Rattle.std.proofs.Common.{◌≡◌, ℕ, ◌≤◌, List, [], length, sym, ap, subst}
 use Rattle.std.proofs.lemmas.List.{get_or_past}
 use Rattle.dpj_base.specs.declared.region.Head.TheVariants.{Param}

@@ -1,4 +1,7 @@
-use super::*;
+use dpj_base::{
+    Boxed, Bytes, Elem, Elems, Head, Items, Kind, NoMemory, Part, Place, Plain, Refusal, Rpl, Ty,
+    part,
+};
 use std::alloc::Global;
 use std::test::Fail;
 
