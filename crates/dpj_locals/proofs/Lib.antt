@@ -1,2 +1,3 @@
+mod Earlier
 pub mod Locals
 pub mod Steps

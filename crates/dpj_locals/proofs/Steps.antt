@@ -1,11 +1,10 @@
 -- One statement more of a block, for one name, and the names of a set that had none.
 use Rattle.std.proofs.Common.{◌≡◌, Bool, true, false, not, ◌&&◌, ◌||◌, refl, IsTrue, Contains, ℕ, List, [], ◌↔◌, sym, ◌∙◌, ap, subst}
-use Rattle.std.specs.Ordering.{nat_cmp}
 use Rattle.std.specs.BTreeSet.{BTreeSet}
 use Rattle.std.proofs.lemmas.Cmp.{nat_cmp_total}
 use Rattle.std.proofs.lemmas.Map.Lookups.{exact_unsigned}
 use Rattle.std.proofs.lemmas.Map.Views.{btree_set_contains_iff}
-use Rattle.dpj_locals.specs.Gains.{has, gained, Gains}
+use Rattle.dpj_locals.specs.Gains.{has, Gains}
 
 -- in the scope before or declared; read before or by the statement; read behind it
 pub block_step : (inside read told declared rest : Bool) → ((read || (not inside && told)) || (not (inside || declared) && rest)) ≡ (read || (not inside && (told || (not declared && rest))))

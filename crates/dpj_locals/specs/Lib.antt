@@ -1,3 +1,4 @@
 pub mod Clash
 pub mod Gains
 pub mod Touches
+pub mod Earlier

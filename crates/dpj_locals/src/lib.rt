@@ -3,7 +3,8 @@
 //!
 //! A branch starts with a copy of the enclosing locals, and may assign one that no sibling reads or assigns.
 //! `clash` finds the first two branches of which one assigns a local that the other reads or assigns, and
-//! gives None exactly where there are no such two. It takes no memory.
+//! gives None exactly where there are no such two. It takes no memory. `has_clash` tells in one pass over the locals
+//! whether there are such two.
 #![tactic(auto)]
 
 mod branch;

@@ -1,58 +1,82 @@
+ghost use Rattle.std.specs.Prelude.{◌≡◌, ◌↔◌, ◌⊎◌, ◌||◌, ◌==◌, ℕ, true, false, Contains, IsTrue, IfOk, OnOk};
+ghost use Rattle.dpj_base.specs.Pairs.{NoPair};
+ghost use Rattle.dpj_locals.specs.Clash.{Uses, Clash};
+ghost use Rattle.dpj_locals.specs.Gains.{has, is_noted};
+ghost use Rattle.dpj_locals.specs.Earlier.{has_some, meets};
+
 use crate::branch::Touched;
 use dpj_base::NoMemory;
 use std::alloc::Global;
-use std::collections::BTreeMap;
-
-/// What branches do with a local.
-#[derive(Clone, Copy, Debug, PartialEq, Eq)]
-struct Users {
-    /// The last branch that reads or assigns it.
-    last: usize,
-    /// More branches than one read or assign it.
-    several: bool,
-    /// Some branch assigns it.
-    assigned: bool,
-}
+use std::collections::BTreeSet;
 
 /// Whether some branch assigns a local that another one reads or assigns: whether `clash` finds two branches. Its
 /// cost grows with the number of locals and not with that of pairs.
-pub fn has_clash(alloc: Global, branches: &[Touched]) -> Result<bool, NoMemory> {
-    let mut users = BTreeMap::new(alloc);
-    for (branch, touched) in branches.iter().enumerate() {
-        note_all(&mut users, branch, touched.reads.as_slice(), false)?;
-        note_all(&mut users, branch, touched.writes.as_slice(), true)?;
+pub fn has_clash(alloc: Global, branches: &[Touched]) -> Result<bool, NoMemory>
+    ensures none { IfOk result (λ met. met ≡ false → NoPair Clash branches.now) }
+    ensures some { IfOk result (λ met. met ≡ true → ¬ NoPair Clash branches.now) }
+{
+    let mut used = BTreeSet::new(alloc);
+    let mut assigned = BTreeSet::new(alloc);
+    for branch in branches {
+        if meets(&used, &assigned, branch) {
+            return Ok(true);
+        }
+        add_used(&mut used, branch)?;
+        add_assigned(&mut assigned, branch)?;
     }
-    Ok(
-        users
-            .values()
-            .any(|found: &Users| found.several && found.assigned),
-    )
+    Ok(false)
 }
 
-fn note_all(
-    users: &mut BTreeMap<u32, Users>,
-    branch: usize,
-    locals: &[u32],
-    assigns: bool,
-) -> Result<(), NoMemory> {
+/// Whether a branch assigns a local that is used before, or reads one that is assigned before.
+fn meets(used: &BTreeSet<u32>, assigned: &BTreeSet<u32>, branch: &Touched) -> bool
+    ensures { result ≡ meets used.now assigned.now branch.now }
+{
+    has_some(used, branch.writes.as_slice()) || has_some(assigned, branch.reads.as_slice())
+}
+
+fn has_some(set: &BTreeSet<u32>, locals: &[u32]) -> bool
+    ensures { result ≡ has_some set.now locals.now }
+{
+    locals.iter().any(|local| has(set, *local))
+}
+
+fn has(set: &BTreeSet<u32>, local: u32) -> bool
+    ensures { result ≡ has set.now local }
+{
+    set.contains(&local)
+}
+
+/// Adds the locals that a branch reads or assigns.
+#[tactic(auto, using(crate::proofs::Earlier::used_told))]
+fn add_used(set: &mut BTreeSet<u32>, branch: &Touched) -> Result<(), NoMemory>
+    ensures { OnOk result ((x : ℕ) → IsTrue (has set.new x) ↔ (IsTrue (has set.old x) ⊎ Uses branch.now x)) }
+{
+    add_all(set, branch.reads.as_slice())?;
+    add_all(set, branch.writes.as_slice())?;
+    Ok(())
+}
+
+/// Adds the locals that a branch assigns.
+#[tactic(auto, using(crate::proofs::Earlier::assigned_told))]
+fn add_assigned(set: &mut BTreeSet<u32>, branch: &Touched) -> Result<(), NoMemory>
+    ensures { OnOk result ((x : ℕ) → IsTrue (has set.new x) ↔ (IsTrue (has set.old x) ⊎ Contains branch.now.writes x)) }
+{
+    add_all(set, branch.writes.as_slice())?;
+    Ok(())
+}
+
+fn add_all(set: &mut BTreeSet<u32>, locals: &[u32]) -> Result<(), NoMemory>
+    ensures { OnOk result ((x : ℕ) → has set.new x ≡ (has set.old x || is_noted locals.now x)) }
+{
     for local in locals {
-        let before = users.get(local).copied();
-        users.insert(*local, with_user(before, branch, assigns))?;
+        add(set, *local)?;
     }
     Ok(())
 }
 
-fn with_user(before: Option<Users>, branch: usize, assigns: bool) -> Users {
-    match before {
-        None => Users {
-            last: branch,
-            several: false,
-            assigned: assigns,
-        },
-        Some(found) => Users {
-            last: branch,
-            several: found.several || found.last != branch,
-            assigned: found.assigned || assigns,
-        },
-    }
+fn add(set: &mut BTreeSet<u32>, local: u32) -> Result<(), NoMemory>
+    ensures { OnOk result ((x : ℕ) → has set.new x ≡ (has set.old x || local == x)) }
+{
+    set.insert(local)?;
+    Ok(())
 }
