@@ -9,7 +9,7 @@ every examples/NAME.dpj, which must write examples/NAME.out with status 0; every
 must answer NAME.out; every text of docs/*.md that begins with ```dpj check: ANSWER; and every prefix of three of the examples
 that ends behind a token: it is refused at its end.
 
-The program is out/dpj where ./build made it of these sources; else it is built once, unproved, by `rt try`.
+The program is out/dpj where ./build or the gate made it of these sources; else it is built once, unproved, by `rt try`.
 """
 import argparse
 import json
@@ -113,7 +113,7 @@ def load(files):
 
 
 def is_fresh():
-    """Whether ./build made the proved program of the sources as they are."""
+    """Whether ./build or the gate made the proved program of the sources as they are."""
     if not PROVED.exists():
         return False
     made = PROVED.stat().st_mtime_ns
