@@ -59,13 +59,14 @@ parts_later at faults (part ∷ parts) more none =
     let both = or_else at (all_noted faults part) (told_at at (all_noted faults part)) parts more none in
     told_later at faults part (parts ++ more) both.0 ∙ parts_later at (all_noted faults part) parts more both.1
 
+or_same : {p q : Option Refusal} (o : Option Refusal) (refusal : Refusal) → (p ≡ Some refusal → q ≡ Some refusal) → option_or o p ≡ Some refusal → option_or o q ≡ Some refusal
+or_same None refusal to is = to is
+or_same (Some r) refusal to is = is
+
 -- they tell one
 pub parts_first : (at : Site) (faults : Faults) (parts more : List (List Refusal)) (refusal : Refusal) → parts_told at faults parts ≡ Some refusal → parts_told at faults (parts ++ more) ≡ Some refusal
 parts_first at faults [] more refusal is = cc
-parts_first at faults (part ∷ parts) more refusal is = goes (told_at at (all_noted faults part)) is
-  where
-    goes : (o : Option Refusal) → option_or o (parts_told at (all_noted faults part) parts) ≡ Some refusal → option_or o (parts_told at (all_noted faults part) (parts ++ more)) ≡ Some refusal
-    goes None is = parts_first at (all_noted faults part) parts more refusal is
-    goes (Some r) is = is
+parts_first at faults (part ∷ parts) more refusal is =
+    or_same (told_at at (all_noted faults part)) refusal (λ rest. parts_first at (all_noted faults part) parts more refusal rest) is
 
 pub ruleset settling = (forgotten_same, settled_ok, settled_err)

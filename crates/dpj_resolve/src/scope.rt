@@ -41,7 +41,8 @@ pub struct ParamFound {
 }
 
 impl Scope<'_> {
-    ghost use Rattle.std.specs.Prelude.{◌≡◌, OnOk};
+    ghost use Rattle.std.specs.Prelude.{◌≡◌, [], OnOk};
+    ghost use Rattle.std.specs.Option.{option_map_or};
     ghost use Rattle.dpj_headers.specs.Faults.{all_noted, settled};
     ghost use Rattle.dpj_resolve.specs.Classes.{params_in, constraints_in};
     ghost use Rattle.dpj_resolve.specs.Paths.{region_meant, region_faults, is_atomic_region};
@@ -88,6 +89,16 @@ impl Scope<'_> {
     {
         match self.headers.header(class) {
             Some(header) => header.params.as_slice(),
+            None => &[],
+        }
+    }
+
+    /// The region parameters of a class that is there.
+    pub fn known_params(&self, class: Option<u32>) -> &[ParamRow]
+        ensures { result.now ≡ option_map_or (params_in self.now.headers.now) class [] }
+    {
+        match class {
+            Some(class) => self.class_params(class),
             None => &[],
         }
     }

@@ -14,7 +14,7 @@ use crate::paths::Need;
 use crate::scope::Scope;
 use dpj_base::{Boxed, Items, NoMemory, Place, Rpl, Stop, Ty};
 use dpj_headers::Faults;
-use dpj_tree::{BaseTree, Suffix, TypeTree};
+use dpj_tree::{BaseTree, Named, RplTree, Suffix, TypeTree};
 use std::alloc::Global;
 
 /// Reads a type. None where it has a fault of a signature by which nothing more can be said of it.
@@ -77,16 +77,31 @@ fn read_base(
     ensures untold { OnOk result (parts_told scope.now.site faults.old (base_parts (plain_scope scope.now) (plain_index around.now) base.now) ≡ None) }
     ensures told { IfErr result (λ stop. IfRefused stop (λ refusal. parts_told scope.now.site faults.old (base_parts (plain_scope scope.now) (plain_index around.now) base.now) ≡ Some refusal)) }
 {
-    let (name, trees) = match base {
-        BaseTree::Int => return Ok(ReadBase::Int),
-        BaseTree::Bool => return Ok(ReadBase::Bool),
-        BaseTree::Class { name, args } => (*name, args.as_slice()),
-    };
+    match base {
+        BaseTree::Int => Ok(ReadBase::Int),
+        BaseTree::Bool => Ok(ReadBase::Bool),
+        BaseTree::Class { name, args } => {
+            read_class(alloc, scope, faults, *name, args.as_slice(), around)
+        }
+    }
+}
+
+/// Reads a class and its region arguments.
+fn read_class(
+    alloc: Global,
+    scope: &Scope,
+    faults: &mut Faults,
+    name: Named,
+    trees: &[RplTree],
+    around: &IndexNames,
+) -> Result<ReadBase, Stop>
+    ensures meant { IfOk result (λ read. read ≡ base_read (plain_scope scope.now) (plain_index around.now) (BaseTree.Class name trees.now)) }
+    ensures noted { OnOk result (faults.new ≡ parts_noted faults.old (base_parts (plain_scope scope.now) (plain_index around.now) (BaseTree.Class name trees.now))) }
+    ensures untold { OnOk result (parts_told scope.now.site faults.old (base_parts (plain_scope scope.now) (plain_index around.now) (BaseTree.Class name trees.now)) ≡ None) }
+    ensures told { IfErr result (λ stop. IfRefused stop (λ refusal. parts_told scope.now.site faults.old (base_parts (plain_scope scope.now) (plain_index around.now) (BaseTree.Class name trees.now)) ≡ Some refusal)) }
+{
     let class = scope.headers.class(name.name);
-    let params = match class {
-        Some(class) => scope.class_params(class),
-        None => &[],
-    };
+    let params = scope.known_params(class);
     let args = read_args(alloc, scope, faults, trees, params, false, around)?;
     Ok(ReadBase::Class { name, class, args })
 }
@@ -229,12 +244,14 @@ fn arrays(
     ensures { IfOk result (λ made. plain_type made ≡ arrays_from (plain_index around.now) 0 (plain_type base) paths) }
 {
     let mut made = base;
-    for (at, rpl) in paths.into_vec().into_iter().enumerate() {
+    let mut at = 0;
+    for rpl in paths.into_vec() {
         made = Ty::Array {
             elem: Boxed::new(alloc, made)?,
             rpl,
             index: own_index(around, at),
         };
+        at += 1;
     }
     Ok(made)
 }
