@@ -3,4 +3,5 @@ pub mod Naming
 pub mod Parts
 pub mod Steps
 pub mod Told
+pub mod Whole
 pub mod Wrapping

@@ -1,5 +1,5 @@
 -- Faults that are told, and parts that are read one after the other.
-use Rattle.std.proofs.Common.{◌≡◌, ◌∙◌, ◌++◌, List, [], ◌∷◌, fold, Option, None, Some, Result, Ok, Err, IfErr, refl, ap, sym}
+use Rattle.std.proofs.Common.{◌≡◌, ◌∙◌, ◌++◌, List, [], ◌∷◌, fold, Option, None, Some, Result, Ok, Err, IfErr, IsErrAnd, refl, ap, sym, subst}
 use Rattle.std.specs.Option.{option_or}
 use Rattle.dpj_base.specs.declared.refusal.Refusal.{Refusal}
 use Rattle.dpj_base.specs.declared.refusal.Stop.{Stop}
@@ -68,5 +68,23 @@ pub parts_first : (at : Site) (faults : Faults) (parts more : List (List Refusal
 parts_first at faults [] more refusal is = cc
 parts_first at faults (part ∷ parts) more refusal is =
     or_same (told_at at (all_noted faults part)) refusal (λ rest. parts_first at (all_noted faults part) parts more refusal rest) is
+
+-- a refusal of the first parts is one of all
+pub refused_first : (e : Stop) (at : Site) (faults : Faults) (parts more : List (List Refusal)) → IfRefused e (λ refusal. parts_told at faults parts ≡ Some refusal) → IfRefused e (λ refusal. parts_told at faults (parts ++ more) ≡ Some refusal)
+refused_first e at faults parts more tells = refused_map e tells (λ refusal here. parts_first at faults parts more refusal here)
+
+-- so is one of the later parts, where the first ones tell none
+pub refused_later : (e : Stop) (at : Site) (faults new : Faults) (parts more : List (List Refusal)) → parts_told at faults parts ≡ None → new ≡ parts_noted faults parts → IfRefused e (λ refusal. parts_told at new more ≡ Some refusal) → IfRefused e (λ refusal. parts_told at faults (parts ++ more) ≡ Some refusal)
+refused_later e at faults new parts more none is tells =
+    refused_map e tells (λ refusal here. parts_later at faults parts more none ∙ ap (λ z. parts_told at z more) (sym is) ∙ here)
+
+-- what holds of the fault of a step holds of that of the whole
+pub passed_on : {T : Type 0} (r : Result T Stop) (e : Stop) (Q : Stop → Type 0) → IsErrAnd r (λ x. x ≡ e) → Q e → IfErr r Q
+passed_on (Ok x) e Q is q = tt
+passed_on (Err x) e Q is q = subst Q (sym is) q
+
+-- the first parts tell none, nor do the later ones
+pub untold_parts : (at : Site) (faults new : Faults) (parts more : List (List Refusal)) → parts_told at faults parts ≡ None → new ≡ parts_noted faults parts → parts_told at new more ≡ None → parts_told at faults (parts ++ more) ≡ None
+untold_parts at faults new parts more none is later = parts_later at faults parts more none ∙ ap (λ z. parts_told at z more) (sym is) ∙ later
 
 pub ruleset settling = (forgotten_same, settled_ok, settled_err)
