@@ -32,10 +32,6 @@ refused_map stop.NoMemory p to = tt
 pub told_later : (at : Site) (faults : Faults) (part : List Refusal) (parts : List (List Refusal)) → told_at at (all_noted faults part) ≡ None → parts_told at faults (part ∷ parts) ≡ parts_told at (all_noted faults part) parts
 told_later at faults part parts none = ap (λ o. option_or o (parts_told at (all_noted faults part) parts)) none
 
--- it tells one
-pub told_first : (at : Site) (faults : Faults) (part : List Refusal) (parts : List (List Refusal)) (refusal : Refusal) → told_at at (all_noted faults part) ≡ Some refusal → parts_told at faults (part ∷ parts) ≡ Some refusal
-told_first at faults part parts refusal is = ap (λ o. option_or o (parts_told at (all_noted faults part) parts)) is
-
 -- one part alone
 pub told_one : (at : Site) (faults : Faults) (part : List Refusal) → parts_told at faults (part ∷ []) ≡ told_at at (all_noted faults part)
 told_one at faults part = or_none (told_at at (all_noted faults part))
@@ -44,19 +40,15 @@ told_one at faults part = or_none (told_at at (all_noted faults part))
     or_none None = refl
     or_none (Some refusal) = refl
 
-pub noted_parts : (faults : Faults) (parts more : List (List Refusal)) → parts_noted faults (parts ++ more) ≡ parts_noted (parts_noted faults parts) more
-noted_parts faults [] more = refl
-noted_parts faults (part ∷ parts) more = noted_parts (all_noted faults part) parts more
-
-or_else : (at : Site) (faults : Faults) (o : Option Refusal) (parts more : List (List Refusal)) → option_or o (parts_told at faults parts) ≡ None → (o ≡ None) × (parts_told at faults parts ≡ None)
-or_else at faults None parts more is = (refl, is)
-or_else at faults (Some refusal) parts more is = cc
+or_else : (o p : Option Refusal) → option_or o p ≡ None → (o ≡ None) × (p ≡ None)
+or_else None p is = (refl, is)
+or_else (Some refusal) p is = cc
 
 -- the first parts tell none
 pub parts_later : (at : Site) (faults : Faults) (parts more : List (List Refusal)) → parts_told at faults parts ≡ None → parts_told at faults (parts ++ more) ≡ parts_told at (parts_noted faults parts) more
 parts_later at faults [] more none = refl
 parts_later at faults (part ∷ parts) more none =
-    let both = or_else at (all_noted faults part) (told_at at (all_noted faults part)) parts more none in
+    let both = or_else (told_at at (all_noted faults part)) (parts_told at (all_noted faults part) parts) none in
     told_later at faults part (parts ++ more) both.0 ∙ parts_later at (all_noted faults part) parts more both.1
 
 or_same : {p q : Option Refusal} (o : Option Refusal) (refusal : Refusal) → (p ≡ Some refusal → q ≡ Some refusal) → option_or o p ≡ Some refusal → option_or o q ≡ Some refusal
