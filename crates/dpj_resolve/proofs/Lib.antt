@@ -1,2 +1,5 @@
 mod Missing
 pub mod Naming
+pub mod Told
+pub mod Whole
+pub mod Wrapping
