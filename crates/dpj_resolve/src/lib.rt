@@ -29,6 +29,3 @@ pub use paths::{Need, path};
 pub use scope::{ParamFound, Scope, Site};
 pub use scoped::Scoped;
 pub use types::{array_made, read_type, ty};
-
-#[cfg(test)]
-mod tests;

@@ -1,4 +1,4 @@
-//! The tests of the small types and of the algebra of regions, effects, types, locals and array parts. Inclusion and disjointness
+//! The tests of the small types, of the algebra of regions, effects, types, locals and array parts, and of names in scope. Inclusion and disjointness
 //! are tried on paths whose answers come from outside.
 //!
 //! They stand here and not in their crates, since a crate with tests is proved twice. They show too that memory
@@ -23,5 +23,7 @@ mod nd;
 mod parts;
 #[cfg(test)]
 mod regions;
+#[cfg(test)]
+mod resolve;
 #[cfg(test)]
 mod types;

@@ -1,6 +1,6 @@
-use super::*;
 use dpj_base::{Constraint, Elem, Elems, Head, Items, Kind, NoMemory, Place, Refusal, Rpl, Stop};
 use dpj_headers::{Faults, ParamRow};
+use dpj_resolve::{IndexNames, ReadArgs, Scoped, constraints_hold, fit_args};
 use dpj_tree::{Named, Suffix};
 use std::alloc::Global;
 use std::test::Fail;
