@@ -61,6 +61,12 @@ has_constructor class = list_any is_constructor class.members
 abbrev pub extends_place : Class → Place
 extends_place class = option_map_or (λ parent. parent.name.place) class.parent class.place
 
+-- each class that is its own superclass, as a list tells of the classes from a number on
+abbrev pub cycles : List Bool → ℕ → List Class → List Refusal
+cycles rounds at [] = []
+cycles rounds at (class ∷ classes) =
+    fault_if (slice_index_or rounds at false) kind.Cycle (extends_place class) ++ cycles rounds (at + 1) classes
+
 -- the superclass is one of these
 abbrev pub is_among : List Bool → Option ℕ → Bool
 is_among closed parent = option_map_or (λ number. slice_index_or closed number false) parent false
