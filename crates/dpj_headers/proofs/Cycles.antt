@@ -12,6 +12,7 @@ up-add parents zero n at = ap (λ k. up parents k at) e ∙ sym (same (up parent
   where
     e : 0 + n ≡ n
     e = omega arith
+
     same : (o : Option ℕ) → option_and_then (λ one. Some one) o ≡ o
     same None = refl
     same (Some one) = refl
@@ -75,9 +76,9 @@ one_meets f x (suc n) =
     elim (one_meets f x n) [
       | inl m ↦ inl (m.0, omega (arith, m.1), m.2)
       | inr none ↦ elim (cases_eq (f n) x) [
-          | inl e ↦ inl (n, omega arith, e)
-          | inr ne ↦ inr (λ i l e. elim (cases_eq i n) [ inl same ↦ ne (ap f (sym same) ∙ e) | inr differ ↦ none i (omega arith) e ])
-        ]
+        | inl e ↦ inl (n, omega arith, e)
+        | inr ne ↦ inr (λ i l e. elim (cases_eq i n) [ inl same ↦ ne (ap f (sym same) ∙ e) | inr differ ↦ none i (omega arith) e ])
+      ]
     ]
 
 meets_or_apart : (f : ℕ → ℕ) (n : ℕ) → Meets f n ⊎ Apart f n
@@ -86,9 +87,9 @@ meets_or_apart f (suc n) =
     elim (meets_or_apart f n) [
       | inl m ↦ inl (m.0, m.1, m.2, omega (arith, m.3), m.4)
       | inr apart ↦ elim (one_meets f (f n) n) [
-          | inl m ↦ inl (m.0, n, m.1, omega arith, m.2)
-          | inr none ↦ inr (λ i j l b e. elim (cases_eq j n) [ inl same ↦ none i (omega arith) (e ∙ ap f same) | inr differ ↦ apart i j l (omega arith) e ])
-        ]
+        | inl m ↦ inl (m.0, n, m.1, omega arith, m.2)
+        | inr none ↦ inr (λ i j l b e. elim (cases_eq j n) [ inl same ↦ none i (omega arith) (e ∙ ap f same) | inr differ ↦ apart i j l (omega arith) e ])
+      ]
     ]
 
 -- no more numbers differ below a bound than it says
@@ -112,17 +113,18 @@ few_apart (suc n) (suc m) f into apart = let less = few_apart n m (moved f m n) 
           | inl w ↦ elim (cases_eq (f n) m) [ inl e ↦ absurd (differ (w.0 ∙ sym e)) | inr ne ↦ omega (arith, w.1, b, ne) ]
           | inr w ↦ omega (arith, w.1, a, w.0)
         ]
+
     apart_less : (i j : ℕ) → i < j → j < n → moved f m n i ≡ moved f m n j → ⊥
     apart_less i j l b e =
         elim (moved_is f m n i) [
           | inl v ↦ elim (moved_is f m n j) [
-              | inl w ↦ apart i j l (omega arith) (v.0 ∙ sym w.0)
-              | inr w ↦ apart j n b (omega arith) (sym w.1 ∙ sym e ∙ v.1)
-            ]
+            | inl w ↦ apart i j l (omega arith) (v.0 ∙ sym w.0)
+            | inr w ↦ apart j n b (omega arith) (sym w.1 ∙ sym e ∙ v.1)
+          ]
           | inr v ↦ elim (moved_is f m n j) [
-              | inl w ↦ apart i n (omega arith) (omega arith) (sym v.1 ∙ e ∙ w.1)
-              | inr w ↦ apart i j l (omega arith) (sym v.1 ∙ e ∙ w.1)
-            ]
+            | inl w ↦ apart i n (omega arith) (omega arith) (sym v.1 ∙ e ∙ w.1)
+            | inr w ↦ apart i j l (omega arith) (sym v.1 ∙ e ∙ w.1)
+          ]
         ]
 
 -- what is so many steps above a class; nothing is 0
@@ -145,14 +147,17 @@ far_round parents at steps below many h =
     reach i l =
         let e : steps ≡ steps - i + i = omega arith in
         up-first parents (steps - i) i below at (ap (λ n. up parents n below) (sym e) ∙ h)
+
     above_is : (i one : ℕ) → up parents i below ≡ Some one → above parents below i ≡ one
     above_is i one e = ap value_of e
+
     into : (i : ℕ) → i < steps → above parents below i < length parents
     into i l =
         let r = reach i l in
         let e : steps - i ≡ suc (steps - i - 1) = omega arith in
         let w = up_within parents (steps - i - 1) r.0 at (ap (λ n. up parents n r.0) (sym e) ∙ r.2) in
         omega (arith, w, above_is i r.0 r.1)
+
     round : (i j : ℕ) → i < j → j < steps → above parents below i ≡ above parents below j → IsRound parents at
     round i j l b same =
         let r = reach i (omega arith) in
@@ -212,9 +217,9 @@ round_from rounds (None ∷ jumps) at h = elim (round_from rounds jumps at h) [ 
 round_from rounds (Some one ∷ jumps) at h =
     elim (round_from (set rounds one true) jumps at h) [
       | inl was ↦ elim (cases_eq at one) [
-          | inl same ↦ inr (0, ap (λ n. Some n) (sym same))
-          | inr differ ↦ inl (sym (get_or-set_other rounds one at true false differ) ∙ was)
-        ]
+        | inl same ↦ inr (0, ap (λ n. Some n) (sym same))
+        | inr differ ↦ inl (sym (get_or-set_other rounds one at true false differ) ∙ was)
+      ]
       | inr k ↦ inr (suc k.0, k.1)
     ]
 
@@ -228,9 +233,10 @@ rounds_tell parents jumps steps many h at = (there, back)
   where
     there : get_or (all_rounds (replicate (length parents) false) jumps) at false ≡ true → IsRound parents at
     there m = elim (round_from (replicate (length parents) false) jumps at m) [
-        | inl was ↦ absurd (none_yet (length parents) at was)
-        | inr k ↦ far_round parents at steps k.0 many (sym (h k.0) ∙ k.1)
-      ]
+      | inl was ↦ absurd (none_yet (length parents) at was)
+      | inr k ↦ far_round parents at steps k.0 many (sym (h k.0) ∙ k.1)
+    ]
+
     back : IsRound parents at → get_or (all_rounds (replicate (length parents) false) jumps) at false ≡ true
     back r =
         let f = round_far parents at steps r in

@@ -17,15 +17,14 @@ noted_first classes named rounds parents start second unknown round new same are
     let known : parents ≡ parents_in classes = are ∙ parents_named classes named same in
     let unknowns = unknown_parents (class_named classes) classes in
     let rounded = cycles rounds 0 classes in
-    let closed = closed_parents (map has_constructor classes) classes (parents_in classes) in
-    (
+    let closed = closed_parents (map has_constructor classes) classes (parents_in classes) in (
       rounds,
       subst (λ ps. TellRounds ps rounds) known tell,
       d
-      ∙ ap (λ f. all_noted f (closed_parents (map has_constructor classes) classes parents)) (c ∙ ap (λ f. all_noted f rounded) (b ∙ ap (λ f. all_noted f (unknown_parents named classes)) a))
-      ∙ ap (λ ps. all_noted (all_noted (all_noted (all_noted start (second_classes [] classes)) (unknown_parents named classes)) rounded) (closed_parents (map has_constructor classes) classes ps)) known
-      ∙ ap (λ f. all_noted (all_noted (all_noted (all_noted start (second_classes [] classes)) (unknown_parents f classes)) rounded) closed) (fun_ext same)
-      ∙ sym (noted_append (all_noted (all_noted start (second_classes [] classes)) unknowns) rounded closed)
-      ∙ sym (noted_append (all_noted start (second_classes [] classes)) unknowns (rounded ++ closed))
-      ∙ sym (noted_append start (second_classes [] classes) (unknowns ++ (rounded ++ closed)))
+          ∙ ap (λ f. all_noted f (closed_parents (map has_constructor classes) classes parents)) (c ∙ ap (λ f. all_noted f rounded) (b ∙ ap (λ f. all_noted f (unknown_parents named classes)) a))
+          ∙ ap (λ ps. all_noted (all_noted (all_noted (all_noted start (second_classes [] classes)) (unknown_parents named classes)) rounded) (closed_parents (map has_constructor classes) classes ps)) known
+          ∙ ap (λ f. all_noted (all_noted (all_noted (all_noted start (second_classes [] classes)) (unknown_parents f classes)) rounded) closed) (fun_ext same)
+          ∙ sym (noted_append (all_noted (all_noted start (second_classes [] classes)) unknowns) rounded closed)
+          ∙ sym (noted_append (all_noted start (second_classes [] classes)) unknowns (rounded ++ closed))
+          ∙ sym (noted_append start (second_classes [] classes) (unknowns ++ (rounded ++ closed))),
     )
