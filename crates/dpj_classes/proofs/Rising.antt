@@ -1,5 +1,5 @@
 -- The rows of superclasses stand in the order of classes.
-use Rattle.std.proofs.Common.{◌≡◌, ℕ, zero, suc, ◌+◌, ◌<◌, ◌≤◌, ◌&&◌, Bool, true, false, cond, is_some, List, [], ◌∷◌, ◌++◌, map, length, get_or, sym, ap, ◌∙◌, subst, arith}
+use Rattle.std.proofs.Common.{◌≡◌, ℕ, zero, suc, ◌+◌, ◌<◌, ◌≤◌, ◌&&◌, true, false, cond, is_some, List, [], ◌∷◌, ◌++◌, length, get_or, sym, subst, arith}
 use Rattle.std.proofs.lemmas.List.{get_or-map, length-map}
 use Rattle.dpj_base.specs.declared.ty.Super.{Super}
 use Rattle.dpj_base.specs.Types.{Ordered}
@@ -7,7 +7,7 @@ use Rattle.dpj_tree.specs.declared.class.Class.{Class}
 use Rattle.dpj_headers.specs.declared.header.Headers.{Headers}
 use Rattle.dpj_headers.specs.Headers.{parent_of}
 use Rattle.dpj_headers.specs.Numbers.{as_number}
-use Rattle.dpj_classes.specs.Supers.{classes_in, extending, all_extending}
+use Rattle.dpj_classes.specs.Supers.{classes_in, all_extending}
 
 cons_rises : (n : ℕ) (more : List ℕ) → ((k d : ℕ) → k < length more → n < get_or more k d) → ((i j d : ℕ) → i < j → j < length more → get_or more i d < get_or more j d) → (i j d : ℕ) → i < j → j < length (n ∷ more) → get_or (n ∷ more) i d < get_or (n ∷ more) j d
 cons_rises n more above rise i zero d lt below = absurd (omega arith)

@@ -1,6 +1,6 @@
 -- The steps of marking, of which only functions of this crate speak: what leads to a position, the positions that are
 -- marked, and a further one marked and noted.
-use Rattle.std.specs.Prelude.{ℕ, ◌+◌, Bool, true, false, ◌==◌, cond, List, [], ◌∷◌, ◌++◌, slice_index_or, slice_set}
+use Rattle.std.specs.Prelude.{ℕ, ◌+◌, Bool, true, ◌==◌, cond, List, [], ◌∷◌, ◌++◌, slice_index_or, slice_set}
 use Rattle.dpj_classes.specs.declared.reach.Edge.{Edge}
 
 -- what leads to a position by one edge

@@ -1,7 +1,11 @@
-ghost use Rattle.std.specs.Prelude.{◌≡◌, ◌≤◌, length, IfOk};
+ghost use Rattle.std.specs.Prelude.{◌≡◌, ◌≤◌, ◌↔◌, ◌++◌, ℕ, List, length, IsTrue, IfOk};
+ghost use Rattle.std.specs.List.{flat_map};
 ghost use Rattle.dpj_base.specs.Types.{Ordered};
+ghost use Rattle.dpj_classes.specs.declared.reach.Edge.{Edge as AnEdge};
+ghost use Rattle.dpj_classes.specs.Bodies.{class_marks, override_edges};
+ghost use Rattle.dpj_classes.specs.Reach.{IsBehind};
 ghost use Rattle.dpj_classes.specs.Supers.{classes_in, all_extending};
-ghost use Rattle.dpj_classes.specs.Table.{headers_of, supers_of};
+ghost use Rattle.dpj_classes.specs.Table.{headers_of, methods_of, is_forking, supers_of};
 
 use crate::forking::find_forks;
 use crate::main_class::check_main;
@@ -20,6 +24,7 @@ use std::alloc::Global;
 /// without its `Main`. Of these groups the first comes first, and in a group the fault with the least place.
 pub fn build(alloc: Global, program: &Program) -> Result<Table, Stop>
     ensures extending { IfOk result (λ table. classes_in (supers_of table) ≡ all_extending (headers_of table) 0 program.now.classes) }
+    ensures forks { IfOk result (λ table. (calls : List AnEdge) × ((at : ℕ) → IsTrue (is_forking table at) ↔ IsBehind (flat_map class_marks program.now.classes) (calls ++ override_edges table (methods_of table)) at)) }
     ensures ordered { IfOk result (λ table. length program.now.classes ≤ 4294967296 → Ordered (supers_of table)) }
 {
     let headers = headers(alloc, program)?;

@@ -1,10 +1,10 @@
 -- What is above some class over more steps than there are classes is its own superclass.
-use Rattle.std.proofs.Common.{◌≡◌, ◌≢◌, ◌↔◌, ℕ, zero, suc, ◌+◌, ◌*◌, ◌-◌, ◌<◌, ◌≤◌, Bool, true, false, cond, List, [], ◌∷◌, length, get_or, set, map, replicate, take, drop, ◌⊎◌, inl, inr, Option, Some, None, slice_get, refl, sym, ap, ◌∙◌, subst, arith, length-set, get_or-set_same, get_or-set_other}
+use Rattle.std.proofs.Common.{◌≡◌, ℕ, zero, suc, ◌+◌, ◌*◌, ◌-◌, ◌<◌, ◌≤◌, Bool, true, false, List, [], ◌∷◌, length, get_or, set, map, replicate, ◌⊎◌, inl, inr, Option, Some, None, refl, sym, ap, ◌∙◌, subst, arith, length-set, get_or-set_same, get_or-set_other}
 use Rattle.std.specs.Option.{option_and_then}
 use Rattle.std.proofs.lemmas.Bool.{false≢true, cases_eq}
 use Rattle.std.proofs.lemmas.List.{length-replicate}
 use Rattle.std.proofs.lemmas.Option.{none-some}
-use Rattle.dpj_headers.specs.Rounds.{entry_of, up, IsRound, TellRounds, with_round, all_rounds}
+use Rattle.dpj_headers.specs.Rounds.{entry_of, up, IsRound, TellRounds, all_rounds}
 
 -- so many steps and so many more
 pub up-add : (parents : List (Option ℕ)) (m n at : ℕ) → up parents (m + n) at ≡ option_and_then (up parents m) (up parents n at)

@@ -4,7 +4,7 @@ use mathlib.Core.Path.{fun_ext}
 use Rattle.dpj_tree.specs.declared.class.Class.{Class}
 use Rattle.dpj_headers.specs.declared.faults.Faults.{Faults}
 use Rattle.dpj_headers.specs.Faults.{all_noted}
-use Rattle.dpj_headers.specs.First.{class_named, parents_in, first_faults, IsNotedFirst}
+use Rattle.dpj_headers.specs.First.{class_named, parents_in, IsNotedFirst}
 use Rattle.dpj_headers.specs.Passes.{second_classes, named_parent, unknown_parents, has_constructor, cycles, closed_parents}
 use Rattle.dpj_headers.specs.Rounds.{TellRounds}
 use Rattle.dpj_headers.proofs.Noting.{noted_append}

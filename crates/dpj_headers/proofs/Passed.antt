@@ -1,5 +1,5 @@
 -- The first pass decides before the second one begins.
-use Rattle.std.proofs.Common.{List, Option, Some, None, Result, Ok, Err, IfOk, IfErr, ◌⊎◌, inl, inr}
+use Rattle.std.proofs.Common.{List, Some, None, Result, Ok, Err, IfOk, IfErr, ◌⊎◌, inl, inr}
 use Rattle.dpj_base.specs.declared.refusal.Stop.{Stop}
 use Rattle.dpj_base.specs.declared.refusal.Stop.TheVariants as stop
 use Rattle.dpj_base.specs.Refused.{IfRefused}

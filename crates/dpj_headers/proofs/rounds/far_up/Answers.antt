@@ -1,6 +1,6 @@
 use Rattle.std.proofs.Common.{◌≡◌, map, ap, ◌∙◌, arith}
 use Rattle.std.specs.Option.{option_and_then}
-use Rattle.dpj_headers.specs.Rounds.{entry_of, up}
+use Rattle.dpj_headers.specs.Rounds.{entry_of}
 use Rattle.dpj_headers.proofs.Cycles.{twice_up}
 use Rattle.dpj_headers.proofs.rounds.far_up.Goals as goal
 

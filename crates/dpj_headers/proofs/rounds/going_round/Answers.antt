@@ -1,4 +1,4 @@
-use Rattle.std.proofs.Common.{◌≡◌, false, length, replicate, subst, sym, ap, ◌∙◌, arith}
+use Rattle.std.proofs.Common.{◌≡◌, false, length, replicate, subst, sym, arith}
 use Rattle.std.proofs.lemmas.Grind.{common_steps}
 use Rattle.dpj_headers.specs.Rounds.{TellRounds, all_rounds}
 use Rattle.dpj_headers.proofs.Cycles.{rounds_tell}
