@@ -1,2 +1,5 @@
 pub mod Above
+pub mod Joined
+pub mod Marking
 pub mod Params
+pub mod Rising

@@ -1,4 +1,8 @@
+pub mod Bodies
 pub mod Main
+pub mod Marking
 pub mod Overriding
+pub mod Reach
 pub mod Summary
+pub mod Supers
 pub mod Table

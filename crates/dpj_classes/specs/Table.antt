@@ -4,6 +4,7 @@ use Rattle.std.specs.Prelude.{ℕ, zero, suc, ◌+◌, Bool, false, ◌==◌, co
 use Rattle.std.specs.Option.{option_map_or}
 use Rattle.dpj_base.specs.declared.effect.Constraint.{Constraint}
 use Rattle.dpj_base.specs.declared.region.Rpl.{Rpl}
+use Rattle.dpj_base.specs.declared.ty.Super.{Super}
 use Rattle.dpj_base.specs.declared.ty.Ty.{Ty}
 use Rattle.dpj_base.specs.Regions.{substituted}
 use Rattle.dpj_base.specs.Types.{PlainType, plain_type}
@@ -62,6 +63,14 @@ is_forking table id = slice_index_or table.forks id false
 -- the constraints of a class
 abbrev pub given_of : Table → ℕ → List Constraint
 given_of table at = option_map_or (λ given. given) (slice_get table.given at) []
+
+-- the constraints of all classes, by their numbers
+abbrev pub all_given : Table → List (List Constraint)
+all_given table = table.given
+
+-- the superclasses with their region arguments, one row for each class that has one
+abbrev pub supers_of : Table → List Super
+supers_of table = table.supers
 
 -- the superclass of a class with its region arguments
 abbrev pub parent_type_of : Table → ℕ → Option Ty

@@ -1,3 +1,8 @@
+ghost use Rattle.std.specs.Prelude.{◌≡◌, ◌||◌, map, IfOk, OnOk};
+ghost use Rattle.dpj_tree.specs.Nd.{holds_nd, some_holds_nd};
+ghost use Rattle.dpj_tree.specs.Plain.{plain_stmt, plain_stmts};
+ghost use Rattle.dpj_classes.specs.Bodies.{foreach_holds_nd};
+
 use crate::shape::{NO_CLASS, Shape};
 use crate::table::Table;
 use dpj_base::{Items, NoMemory};
@@ -28,7 +33,9 @@ pub fn reached_by(
     table: &Table,
     class: u32,
     method: &Method,
-) -> Result<Reached, NoMemory> {
+) -> Result<Reached, NoMemory>
+    ensures { IfOk result (λ reached. reached.holds_nd ≡ some_holds_nd (plain_stmts (map plain_stmt method.now.body))) }
+{
     let walk = Walk { table, class };
     let mut locals = Scoped::new(alloc);
     for formal in method.formals.as_slice() {
@@ -111,6 +118,28 @@ impl Walk<'_> {
                 self.expr(locals, called, index.get())?;
                 Ok(array.element())
             }
+            ExprKind::Unary { arg, .. } => {
+                self.expr(locals, called, arg.get())?;
+                Ok(NO_CLASS)
+            }
+            ExprKind::Binary { left, right, .. } => {
+                self.expr(locals, called, left.get())?;
+                self.expr(locals, called, right.get())?;
+                Ok(NO_CLASS)
+            }
+            _ => self.invocation(locals, called, e),
+        }
+    }
+
+    /// Goes through a call or a creation, or an expression without expressions in it.
+    #[cycle(exprs)]
+    fn invocation(
+        &self,
+        locals: &Scoped<Shape>,
+        called: &mut Items<u32>,
+        e: &Expr,
+    ) -> Result<Shape, NoMemory> {
+        match &e.kind {
             ExprKind::Call {
                 of,
                 name,
@@ -134,16 +163,7 @@ impl Walk<'_> {
                 self.expr(locals, called, length.get())?;
                 Ok(self.made(base, suffixes.as_slice()))
             }
-            ExprKind::Unary { arg, .. } => {
-                self.expr(locals, called, arg.get())?;
-                Ok(NO_CLASS)
-            }
-            ExprKind::Binary { left, right, .. } => {
-                self.expr(locals, called, left.get())?;
-                self.expr(locals, called, right.get())?;
-                Ok(NO_CLASS)
-            }
-            ExprKind::Int(_) | ExprKind::Bool(_) | ExprKind::Null => Ok(NO_CLASS),
+            _ => Ok(NO_CLASS),
         }
     }
 
@@ -161,12 +181,9 @@ impl Walk<'_> {
     }
 
     /// Goes through an expression whose value matters no more.
-    fn value(
-        &self,
-        locals: &Scoped<Shape>,
-        reached: &mut Reached,
-        e: &Expr,
-    ) -> Result<(), NoMemory> {
+    fn value(&self, locals: &Scoped<Shape>, reached: &mut Reached, e: &Expr) -> Result<(), NoMemory>
+        ensures { OnOk result (reached.new.holds_nd ≡ reached.old.holds_nd) }
+    {
         self.expr(locals, &mut reached.called, e)?;
         Ok(())
     }
@@ -177,38 +194,52 @@ impl Walk<'_> {
         reached: &mut Reached,
         first: &Expr,
         second: &Expr,
-    ) -> Result<(), NoMemory> {
+    ) -> Result<(), NoMemory>
+        ensures { OnOk result (reached.new.holds_nd ≡ reached.old.holds_nd) }
+    {
         self.value(locals, reached, first)?;
         self.value(locals, reached, second)
     }
 
     /// Goes through the statements of a block. What it declares is in scope up to its end.
     #[cycle(stmts)]
+    #[tactic(auto, using(crate::proofs::Joined::joined))]
     fn block(
         &self,
         locals: &mut Scoped<Shape>,
         reached: &mut Reached,
         all: &[Stmt],
-    ) -> Result<(), NoMemory> {
+    ) -> Result<(), NoMemory>
+        ensures { OnOk result (reached.new.holds_nd ≡ (reached.old.holds_nd || some_holds_nd (plain_stmts (map plain_stmt all.now)))) }
+    {
         let outer = locals.len();
         for stmt in all {
             self.stmt(locals, reached, stmt)?;
-            if let StmtKind::Declare { ty, name, .. } = &stmt.kind {
-                self.declare(locals, *name, ty)?;
-            }
+            self.declared(locals, stmt)?;
         }
         locals.leave(outer);
         Ok(())
     }
 
+    /// Takes in what a statement declares.
+    fn declared(&self, locals: &mut Scoped<Shape>, stmt: &Stmt) -> Result<(), NoMemory> {
+        match &stmt.kind {
+            StmtKind::Declare { ty, name, .. } => self.declare(locals, *name, ty),
+            _ => Ok(()),
+        }
+    }
+
     /// Each branch is a block of its own.
     #[cycle(stmts)]
+    #[tactic(auto, using(crate::proofs::Joined::joined))]
     fn branches(
         &self,
         locals: &mut Scoped<Shape>,
         reached: &mut Reached,
         branches: &[Stmt],
-    ) -> Result<(), NoMemory> {
+    ) -> Result<(), NoMemory>
+        ensures { OnOk result (reached.new.holds_nd ≡ (reached.old.holds_nd || some_holds_nd (plain_stmts (map plain_stmt branches.now)))) }
+    {
         for branch in branches {
             self.stmt(locals, reached, branch)?;
         }
@@ -217,23 +248,22 @@ impl Walk<'_> {
 
     /// Goes through a statement that is a block of its own. What it declares itself is left to the block around.
     #[cycle(stmts)]
+    #[tactic(auto, using(crate::proofs::Joined::joined))]
     fn stmt(
         &self,
         locals: &mut Scoped<Shape>,
         reached: &mut Reached,
         stmt: &Stmt,
-    ) -> Result<(), NoMemory> {
+    ) -> Result<(), NoMemory>
+        ensures { OnOk result (reached.new.holds_nd ≡ (reached.old.holds_nd || holds_nd (plain_stmt stmt.now))) }
+    {
         match &stmt.kind {
             StmtKind::Block(all) | StmtKind::Atomic(all) => {
                 self.block(locals, reached, all.as_slice())
             }
-            StmtKind::Declare { value, .. }
-            | StmtKind::AssignLocal { value, .. }
-            | StmtKind::Do(value)
-            | StmtKind::Print(value)
-            | StmtKind::Return(Some(value)) => self.value(locals, reached, value),
-            StmtKind::AssignField { target, value } | StmtKind::AssignElement { target, value } => {
-                self.values(locals, reached, target, value)
+            StmtKind::Cobegin { nd, branches } => {
+                reached.holds_nd = reached.holds_nd || *nd;
+                self.branches(locals, reached, branches.as_slice())
             }
             StmtKind::If { test, then, other } => {
                 self.value(locals, reached, test)?;
@@ -247,10 +277,26 @@ impl Walk<'_> {
                 self.value(locals, reached, test)?;
                 self.stmt(locals, reached, body.get())
             }
-            StmtKind::Cobegin { nd, branches } => {
-                reached.holds_nd = reached.holds_nd || *nd;
-                self.branches(locals, reached, branches.as_slice())
+            StmtKind::Foreach { .. } | StmtKind::ForeachParts { .. } => {
+                self.foreach(locals, reached, stmt)
             }
+            _ => self.simple(locals, reached, stmt),
+        }
+    }
+
+    /// Goes through a foreach, in whose body its variables are in scope.
+    #[cycle(stmts)]
+    #[tactic(auto, using(crate::proofs::Joined::joined))]
+    fn foreach(
+        &self,
+        locals: &mut Scoped<Shape>,
+        reached: &mut Reached,
+        stmt: &Stmt,
+    ) -> Result<(), NoMemory>
+        ensures { OnOk result (reached.new.holds_nd ≡ (reached.old.holds_nd || foreach_holds_nd (plain_stmt stmt.now))) }
+    {
+        let outer = locals.len();
+        match &stmt.kind {
             StmtKind::Foreach {
                 nd,
                 var,
@@ -260,11 +306,8 @@ impl Walk<'_> {
             } => {
                 reached.holds_nd = reached.holds_nd || *nd;
                 self.values(locals, reached, start, count)?;
-                let outer = locals.len();
                 locals.enter(var.name, NO_CLASS)?;
                 self.stmt(locals, reached, body.get())?;
-                locals.leave(outer);
-                Ok(())
             }
             StmtKind::ForeachParts {
                 view,
@@ -275,14 +318,35 @@ impl Walk<'_> {
             } => {
                 let array = self.expr(locals, &mut reached.called, array)?;
                 self.value(locals, reached, count)?;
-                let outer = locals.len();
                 locals.enter(view.name, array)?;
                 locals.enter(var.name, NO_CLASS)?;
                 self.stmt(locals, reached, body.get())?;
-                locals.leave(outer);
-                Ok(())
             }
-            StmtKind::Return(None) | StmtKind::PrintText(_) | StmtKind::Region { .. } => Ok(()),
+            _ => {}
+        }
+        locals.leave(outer);
+        Ok(())
+    }
+
+    /// Goes through a statement without statements in it.
+    fn simple(
+        &self,
+        locals: &Scoped<Shape>,
+        reached: &mut Reached,
+        stmt: &Stmt,
+    ) -> Result<(), NoMemory>
+        ensures { OnOk result (reached.new.holds_nd ≡ reached.old.holds_nd) }
+    {
+        match &stmt.kind {
+            StmtKind::Declare { value, .. }
+            | StmtKind::AssignLocal { value, .. }
+            | StmtKind::Do(value)
+            | StmtKind::Print(value)
+            | StmtKind::Return(Some(value)) => self.value(locals, reached, value),
+            StmtKind::AssignField { target, value } | StmtKind::AssignElement { target, value } => {
+                self.values(locals, reached, target, value)
+            }
+            _ => Ok(()),
         }
     }
 }

@@ -1,34 +1,48 @@
+ghost use Rattle.std.specs.Prelude.{◌≡◌, ◌↔◌, ◌++◌, ℕ, true, List, IfOk, OnOk};
+ghost use Rattle.std.specs.List.{flat_map};
+ghost use Rattle.dpj_classes.specs.declared.reach.Edge.{Edge as AnEdge};
+ghost use Rattle.dpj_classes.specs.Bodies.{own_marks, class_marks, override_edge, override_edges};
+ghost use Rattle.dpj_classes.specs.Reach.{is_marked, IsBehind};
+ghost use Rattle.dpj_classes.specs.Table.{methods_of};
+
 use crate::calls::reached_by;
 use crate::reach::{Edge, mark_reaching};
+use crate::rows::MethodRow;
 use crate::table::Table;
 use dpj_base::{Items, NoMemory};
-use dpj_headers::to_number;
+use dpj_headers::number_at;
 use dpj_tree::{Class, Member};
 use std::alloc::Global;
 
 /// Of each method and constructor, whether an nd construct is reached through it.
-pub fn find_forks(
+pub fn find_forks(alloc: Global, table: &Table, classes: &[Class]) -> Result<Items<bool>, NoMemory>
+    ensures { IfOk result (λ forks. (calls : List AnEdge) × ((at : ℕ) → (is_marked forks at ≡ true) ↔ IsBehind (flat_map class_marks classes.now) (calls ++ override_edges table.now (methods_of table.now)) at)) }
+{
+    let mut edges = Items::new(alloc);
+    let mut marks = Vec::new(alloc);
+    for (at, class) in classes.iter().enumerate() {
+        add_class(alloc, table, number_at(at), class, &mut edges, &mut marks)?;
+    }
+    add_overrides(table, &mut edges)?;
+    mark_reaching(alloc, marks.as_mut_slice(), edges.as_slice())?;
+    Ok(Items::from_vec(marks))
+}
+
+/// Adds what the methods and constructors of a class reach by themselves.
+fn add_class(
     alloc: Global,
     table: &Table,
-    classes: &[Class],
-) -> Result<Items<bool>, NoMemory> {
-    let mut edges = Items::new(alloc);
-    let mut marks = vec![in alloc]?;
-    for (at, class) in classes.iter().enumerate() {
-        for member in class.members.as_slice() {
-            add_member(alloc, table, to_number(at), member, &mut edges, &mut marks)?;
-        }
+    number: u32,
+    class: &Class,
+    edges: &mut Items<Edge>,
+    marks: &mut Vec<bool>,
+) -> Result<(), NoMemory>
+    ensures { OnOk result (marks.new.items ≡ marks.old.items ++ class_marks class.now) }
+{
+    for member in class.members.as_slice() {
+        add_member(alloc, table, number, member, edges, marks)?;
     }
-    for row in table.methods() {
-        if let Some(overridden) = table.overrides(row.id) {
-            edges.push(Edge {
-                from: overridden,
-                to: row.id,
-            })?;
-        }
-    }
-    mark_reaching(alloc, &mut marks, edges.as_slice())?;
-    Ok(Items::from_vec(marks))
+    Ok(())
 }
 
 /// Adds what a method or constructor reaches by itself. They come in the order of their numbers.
@@ -39,15 +53,44 @@ fn add_member(
     member: &Member,
     edges: &mut Items<Edge>,
     marks: &mut Vec<bool>,
-) -> Result<(), NoMemory> {
+) -> Result<(), NoMemory>
+    ensures { OnOk result (marks.new.items ≡ marks.old.items ++ own_marks member.now) }
+{
     let Member::Method(method) = member else {
         return Ok(());
     };
-    let from = to_number(marks.len());
+    let from = number_at(marks.len());
     let reached = reached_by(alloc, table, class, method)?;
-    for to in reached.called.as_slice() {
+    add_calls(from, reached.called.as_slice(), edges)?;
+    marks.push(reached.holds_nd)?;
+    Ok(())
+}
+
+fn add_calls(from: u32, called: &[u32], edges: &mut Items<Edge>) -> Result<(), NoMemory> {
+    for to in called {
         edges.push(Edge { from, to: *to })?;
     }
-    marks.push(reached.holds_nd)?;
+    Ok(())
+}
+
+/// A call may reach each method that overrides the one that it names.
+fn add_overrides(table: &Table, edges: &mut Items<Edge>) -> Result<(), NoMemory>
+    ensures { OnOk result (edges.new ≡ edges.old ++ override_edges table.now (methods_of table.now)) }
+{
+    for row in table.methods() {
+        add_override(table, row, edges)?;
+    }
+    Ok(())
+}
+
+fn add_override(table: &Table, row: &MethodRow, edges: &mut Items<Edge>) -> Result<(), NoMemory>
+    ensures { OnOk result (edges.new ≡ edges.old ++ override_edge table.now row.now) }
+{
+    if let Some(overridden) = table.overrides(row.id) {
+        edges.push(Edge {
+            from: overridden,
+            to: row.id,
+        })?;
+    }
     Ok(())
 }

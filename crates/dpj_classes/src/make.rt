@@ -1,3 +1,12 @@
+ghost use Rattle.std.specs.Prelude.{◌≡◌, ◌≤◌, ◌↔◌, ◌++◌, ℕ, List, length, IsTrue, IfOk};
+ghost use Rattle.std.specs.List.{flat_map};
+ghost use Rattle.dpj_base.specs.Types.{Ordered};
+ghost use Rattle.dpj_classes.specs.declared.reach.Edge.{Edge as AnEdge};
+ghost use Rattle.dpj_classes.specs.Bodies.{class_marks, override_edges};
+ghost use Rattle.dpj_classes.specs.Reach.{IsBehind};
+ghost use Rattle.dpj_classes.specs.Supers.{classes_in, all_extending};
+ghost use Rattle.dpj_classes.specs.Table.{headers_of, methods_of, is_forking, supers_of};
+
 use crate::forking::find_forks;
 use crate::main_class::check_main;
 use crate::overridden::find_overridden;
@@ -13,7 +22,11 @@ use std::alloc::Global;
 /// The class table of a program. It refuses what the headers refuse by names alone; then unknown names, region
 /// arguments and constraints in signatures; then methods that don't fit those that they override, and a program
 /// without its `Main`. Of these groups the first comes first, and in a group the fault with the least place.
-pub fn build(alloc: Global, program: &Program) -> Result<Table, Stop> {
+pub fn build(alloc: Global, program: &Program) -> Result<Table, Stop>
+    ensures extending { IfOk result (λ table. classes_in (supers_of table) ≡ all_extending (headers_of table) 0 program.now.classes) }
+    ensures forks { IfOk result (λ table. (calls : List AnEdge) × ((at : ℕ) → IsTrue (is_forking table at) ↔ IsBehind (flat_map class_marks program.now.classes) (calls ++ override_edges table (methods_of table)) at)) }
+    ensures ordered { IfOk result (λ table. length program.now.classes ≤ 4294967296 → Ordered (supers_of table)) }
+{
     let headers = headers(alloc, program)?;
     let mut table = of_signatures(alloc, headers, program)?;
     judge(alloc, &table, program.names.as_slice())?;
@@ -22,7 +35,9 @@ pub fn build(alloc: Global, program: &Program) -> Result<Table, Stop> {
 }
 
 /// The table with all signatures, before overriding and `Main` are looked at.
-fn of_signatures(alloc: Global, headers: Headers, program: &Program) -> Result<Table, Stop> {
+fn of_signatures(alloc: Global, headers: Headers, program: &Program) -> Result<Table, Stop>
+    ensures { IfOk result (λ table. classes_in (supers_of table) ≡ all_extending (headers_of table) 0 program.now.classes) }
+{
     let classes = program.classes.as_slice();
     let read = read_all(alloc, &headers, classes)?;
     let places = find_places(
@@ -43,7 +58,9 @@ struct Read {
 }
 
 /// Reads all signatures, or tells the first fault in them.
-fn read_all(alloc: Global, headers: &Headers, classes: &[Class]) -> Result<Read, Stop> {
+fn read_all(alloc: Global, headers: &Headers, classes: &[Class]) -> Result<Read, Stop>
+    ensures { IfOk result (λ read. classes_in read.made.supers ≡ all_extending headers.now 0 classes.now) }
+{
     let mut faults = Faults::by_place();
     let given = class_constraints(alloc, headers, classes, &mut faults)?;
     let made = read_signatures(alloc, headers, classes, given.as_slice(), &mut faults)?;
@@ -82,7 +99,10 @@ fn find_places(
     })
 }
 
-fn together(headers: Headers, read: Read, places: Places, forks: Items<bool>) -> Table {
+fn together(headers: Headers, read: Read, places: Places, forks: Items<bool>) -> Table
+    ensures supers { supers_of result ≡ read.made.supers }
+    ensures headers { headers_of result ≡ headers }
+{
     let Read { given, made } = read;
     let Signatures {
         supers,

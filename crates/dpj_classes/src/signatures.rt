@@ -1,9 +1,12 @@
+ghost use Rattle.std.specs.Prelude.{◌≡◌, ◌++◌, IfOk, OnOk};
+ghost use Rattle.dpj_classes.specs.Supers.{classes_in, extending, all_extending};
+
 use crate::around::{Names, read_constraints, read_path};
 use crate::rows::{FieldRow, MethodRow};
 use crate::summary::read_summary;
 use dpj_base::{Constraint, Items, Kind, NoMemory, Plain, Rpl, Stop, Super, Ty};
 use dpj_effects::EffectSet;
-use dpj_headers::{Faults, Headers, ParamRow, param_rows, to_number};
+use dpj_headers::{Faults, Headers, ParamRow, number_at, param_rows, to_number};
 use dpj_resolve::{IndexNames, Scope, constraints_hold, fit_args, read_args, root, ty};
 use dpj_tree::{Class, Field, Formal, Member, Method, MethodResult, Parent, RplTree, TypeTree};
 use std::alloc::Global;
@@ -40,7 +43,9 @@ pub fn read_signatures(
     classes: &[Class],
     given: &[Items<Constraint>],
     faults: &mut Faults,
-) -> Result<Signatures, Stop> {
+) -> Result<Signatures, Stop>
+    ensures { IfOk result (λ made. classes_in made.supers ≡ all_extending headers.now 0 classes.now) }
+{
     let mut made = Signatures {
         supers: Items::new(alloc),
         fields: Items::new(alloc),
@@ -49,7 +54,7 @@ pub fn read_signatures(
     for (at, class) in classes.iter().enumerate() {
         let around = Around {
             headers,
-            class: to_number(at),
+            class: number_at(at),
             classes_given: given,
         };
         around.class(alloc, class, faults, &mut made)?;
@@ -72,36 +77,78 @@ impl Around<'_> {
         class: &Class,
         faults: &mut Faults,
         made: &mut Signatures,
-    ) -> Result<(), Stop> {
-        let names = Names::new(alloc);
-        let mut in_force = match self.classes_given.get(self.class as usize) {
-            Some(given) => given.copy(alloc)?,
-            None => Items::new(alloc),
-        };
-        self.parent(alloc, &names, class, faults, made)?;
+    ) -> Result<(), Stop>
+        ensures { OnOk result (classes_in made.new.supers ≡ classes_in made.old.supers ++ extending self.now.headers.now self.now.class class.now) }
+    {
+        self.parent(alloc, class, faults, made)?;
+        self.members(alloc, class.members.as_slice(), faults, made)
+    }
+
+    /// Reads the members of the class.
+    fn members(
+        &self,
+        alloc: Global,
+        members: &[Member],
+        faults: &mut Faults,
+        made: &mut Signatures,
+    ) -> Result<(), Stop>
+        ensures { OnOk result (made.new.supers ≡ made.old.supers) }
+    {
+        let mut in_force = self.own_given(alloc)?;
         let mut slot = self.first_slot();
-        for member in class.members.as_slice() {
-            match member {
-                Member::Regions { .. } => {}
-                Member::Field(field) => {
-                    let scope = names.scope(
-                        self.headers,
-                        self.class,
-                        in_force.as_slice(),
-                        self.classes_given,
-                    );
-                    made.fields
-                        .push(read_field(alloc, &scope, faults, field, slot)?)?;
-                    slot = slot.saturating_add(1);
-                }
-                Member::Method(method) => {
-                    let id = to_number(made.methods.len());
-                    let row = self.method(alloc, &mut in_force, method, id, faults)?;
-                    made.methods.push(row)?;
-                }
-            }
+        for member in members {
+            slot = self.member(alloc, &mut in_force, member, slot, faults, made)?;
         }
         Ok(())
+    }
+
+    /// The constraints of the class.
+    fn own_given(&self, alloc: Global) -> Result<Items<Constraint>, NoMemory> {
+        match self.classes_given.get(self.class as usize) {
+            Some(given) => given.copy(alloc),
+            None => Ok(Items::new(alloc)),
+        }
+    }
+
+    /// Reads a member, where the next field has this slot. The slot of the next field behind it.
+    fn member(
+        &self,
+        alloc: Global,
+        in_force: &mut Items<Constraint>,
+        member: &Member,
+        slot: u32,
+        faults: &mut Faults,
+        made: &mut Signatures,
+    ) -> Result<u32, Stop>
+        ensures { OnOk result (made.new.supers ≡ made.old.supers) }
+    {
+        match member {
+            Member::Regions { .. } => Ok(slot),
+            Member::Field(field) => {
+                let row = self.field(alloc, in_force.as_slice(), field, slot, faults)?;
+                made.fields.push(row)?;
+                Ok(slot.saturating_add(1))
+            }
+            Member::Method(method) => {
+                let id = to_number(made.methods.len());
+                let row = self.method(alloc, in_force, method, id, faults)?;
+                made.methods.push(row)?;
+                Ok(slot)
+            }
+        }
+    }
+
+    fn field(
+        &self,
+        alloc: Global,
+        given: &[Constraint],
+        field: &Field,
+        slot: u32,
+        faults: &mut Faults,
+    ) -> Result<FieldRow, Stop> {
+        let names = Names::new(alloc);
+        let scope = names.scope(self.headers, self.class, given, self.classes_given);
+        read_field(alloc, &scope, faults, field, slot)
     }
 
     /// The slot of the first field that the class itself declares.
@@ -119,28 +166,41 @@ impl Around<'_> {
     fn parent(
         &self,
         alloc: Global,
-        names: &Names,
         class: &Class,
         faults: &mut Faults,
         made: &mut Signatures,
-    ) -> Result<(), Stop> {
+    ) -> Result<(), Stop>
+        ensures { OnOk result (classes_in made.new.supers ≡ classes_in made.old.supers ++ extending self.now.headers.now self.now.class class.now) }
+    {
         let Some(tree) = &class.parent else {
             return Ok(());
         };
         let Some(parent) = self.headers.parent(self.class) else {
             return Ok(());
         };
-        let given = match self.classes_given.get(self.class as usize) {
-            Some(given) => given.as_slice(),
-            None => &[],
-        };
-        let scope = names.scope(self.headers, self.class, given, self.classes_given);
-        let parent = read_parent(alloc, &scope, faults, tree, parent)?;
+        let parent = self.parent_type(alloc, tree, parent, faults)?;
         made.supers.push(Super {
             class: self.class,
             parent,
         })?;
         Ok(())
+    }
+
+    /// The superclass with its region arguments.
+    fn parent_type(
+        &self,
+        alloc: Global,
+        tree: &Parent,
+        parent: u32,
+        faults: &mut Faults,
+    ) -> Result<Ty, Stop> {
+        let given = match self.classes_given.get(self.class as usize) {
+            Some(given) => given.as_slice(),
+            None => &[],
+        };
+        let names = Names::new(alloc);
+        let scope = names.scope(self.headers, self.class, given, self.classes_given);
+        read_parent(alloc, &scope, faults, tree, parent)
     }
 
     /// Reads a method. The constraints in force are those of the class, before and after.

@@ -2,7 +2,7 @@ ghost use Rattle.std.specs.Prelude.{◌≡◌, map, IfOk};
 ghost use Rattle.std.specs.Option.{option_copied};
 ghost use Rattle.dpj_base.specs.Regions.{substituted};
 ghost use Rattle.dpj_base.specs.Types.{plain_type};
-ghost use Rattle.dpj_classes.specs.Table.{headers_of, field_of, method_of, methods_of, numbered, constructor_of, overridden_by, is_forking, given_of, parent_type_of, class_number, class_paths, args_at};
+ghost use Rattle.dpj_classes.specs.Table.{headers_of, field_of, method_of, methods_of, numbered, constructor_of, overridden_by, is_forking, given_of, all_given, supers_of, parent_type_of, class_number, class_paths, args_at};
 
 use crate::rows::{FieldRow, MethodRow};
 use dpj_base::{Constraint, Items, NoMemory, Plain, Rpl, Super, Ty};
@@ -119,12 +119,16 @@ impl Table {
     }
 
     /// The constraints of all classes, by their numbers.
-    pub fn classes_given(&self) -> &[Items<Constraint>] {
+    pub fn classes_given(&self) -> &[Items<Constraint>]
+        ensures { result.now ≡ all_given self.now }
+    {
         self.given.as_slice()
     }
 
     /// The superclasses with their region arguments, in the order of the classes that extend them.
-    pub fn supers(&self) -> &[Super] {
+    pub fn supers(&self) -> &[Super]
+        ensures { result.now ≡ supers_of self.now }
+    {
         self.supers.as_slice()
     }
 

@@ -1,3 +1,6 @@
 pub mod Chains
+pub mod Cycles
+pub mod First
 pub mod Named
 pub mod Noting
+pub mod Passed

@@ -1,6 +1,6 @@
 -- Second declarations of a name among the members, parameters and formals of a class. What is declared is told by
 -- a list of numbers, one for each name: 0 for a name that isn't declared, else the number of what declares it and 1.
-use Rattle.std.specs.Prelude.{ℕ, ◌+◌, ◌==◌, Bool, true, false, not, cond, min, List, [], ◌∷◌, ◌++◌, map, slice_set, slice_index_or}
+use Rattle.std.specs.Prelude.{ℕ, ◌+◌, ◌==◌, Bool, false, not, cond, min, List, [], ◌∷◌, ◌++◌, map, slice_set, slice_index_or}
 use Rattle.dpj_base.specs.declared.refusal.Kind.TheVariants as kind
 use Rattle.dpj_base.specs.declared.refusal.Refusal.{Refusal}
 use Rattle.dpj_tree.specs.declared.class.Class.{Class}

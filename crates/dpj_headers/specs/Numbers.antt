@@ -1,5 +1,5 @@
 -- Numbers under names, and under names that belong to something.
-use Rattle.std.specs.Prelude.{◌≡◌, ℕ, Bool, ◌&&◌, ◌==◌, nat_eq, cond, min, Option, Some}
+use Rattle.std.specs.Prelude.{◌≡◌, ℕ, ◌&&◌, ◌==◌, nat_eq, cond, min, Option, Some}
 use Rattle.indexmap.specs.IndexMap.{get, get_by}
 use Rattle.dpj_headers.specs.declared.numbers.NameNumbers.{NameNumbers}
 use Rattle.dpj_headers.specs.declared.numbers.OwnedNumbers.{OwnedNumbers}

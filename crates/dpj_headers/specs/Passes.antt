@@ -1,5 +1,5 @@
 -- What is wrong in the classes of a program by names alone: the faults of each pass, in the order of the text.
-use Rattle.std.specs.Prelude.{ℕ, ◌+◌, Bool, true, false, not, ◌==◌, nat_eq, cond, List, [], ◌∷◌, ◌++◌, slice_index_or, is_some, is_none, Option, Some, None, option_and_then}
+use Rattle.std.specs.Prelude.{ℕ, ◌+◌, Bool, true, false, ◌==◌, cond, List, [], ◌∷◌, ◌++◌, slice_index_or, is_some, is_none, Option, Some, None, option_and_then}
 use Rattle.std.specs.List.{list_any}
 use Rattle.std.specs.Option.{option_map_or}
 use Rattle.dpj_base.specs.declared.place.Place.{Place}
@@ -60,6 +60,12 @@ has_constructor class = list_any is_constructor class.members
 -- the place of the name behind `extends`; of the class, where it extends none
 abbrev pub extends_place : Class → Place
 extends_place class = option_map_or (λ parent. parent.name.place) class.parent class.place
+
+-- each class that is its own superclass, as a list tells of the classes from a number on
+abbrev pub cycles : List Bool → ℕ → List Class → List Refusal
+cycles rounds at [] = []
+cycles rounds at (class ∷ classes) =
+    fault_if (slice_index_or rounds at false) kind.Cycle (extends_place class) ++ cycles rounds (at + 1) classes
 
 -- the superclass is one of these
 abbrev pub is_among : List Bool → Option ℕ → Bool

@@ -1,3 +1,7 @@
+ghost use Rattle.std.specs.Prelude.{◌≡◌, ◌⊎◌, None, Some, IfOk, IfErr, OnOk};
+ghost use Rattle.dpj_base.specs.Refused.{IfRefused};
+ghost use Rattle.dpj_headers.specs.First.{IsToldFirst, IsNotedFirst, parents_in};
+
 use crate::faults::Faults;
 use crate::forest::{Step, way};
 use crate::header::{Header, Headers, ParamRow};
@@ -12,15 +16,55 @@ use std::alloc::Global;
 /// that is its own superclass and a class that extends one with a constructor; and then two members, region
 /// parameters or formals of one kind and one name, inherited ones included, and a constructor that isn't named as
 /// its class. Of these two groups the first comes first, and in a group the fault with the least place.
-pub fn headers(alloc: Global, program: &Program) -> Result<Headers, Stop> {
-    let classes = program.classes.as_slice();
+pub fn headers(alloc: Global, program: &Program) -> Result<Headers, Stop>
+    ensures accepted { IfOk result (λ headers. IsToldFirst program.now.classes None) }
+    ensures fault { IfErr result (λ stop. IfRefused stop (λ fault. IsToldFirst program.now.classes (Some fault) ⊎ IsToldFirst program.now.classes None)) }
+{
+    let linked = link_classes(alloc, program.classes.as_slice())?;
+    of_linked(alloc, program, linked)
+}
+
+/// The classes by name, and the superclass of each.
+#[derive(Drop)]
+struct Linked {
+    numbers: NameNumbers,
+    parents: Items<Option<u32>>,
+}
+
+/// Looks at the classes alone, or tells the first fault there.
+fn link_classes(alloc: Global, classes: &[Class]) -> Result<Linked, Stop>
+    ensures accepted { IfOk result (λ linked. IsToldFirst classes.now None) }
+    ensures parents { IfOk result (λ linked. linked.parents ≡ parents_in classes.now) }
+    ensures fault { IfErr result (λ stop. IfRefused stop (λ fault. IsToldFirst classes.now (Some fault))) }
+{
     let mut faults = Faults::by_place();
-    let numbers = number_classes(alloc, classes, &mut faults)?;
-    let parents = find_parents(alloc, classes, &numbers, &mut faults)?;
-    check_cycles(alloc, classes, parents.as_slice(), &mut faults)?;
-    check_extended(alloc, classes, parents.as_slice(), &mut faults)?;
+    let linked = look_at_classes(alloc, classes, &mut faults)?;
     faults.settle()?;
+    Ok(linked)
+}
+
+/// Notes each fault of the classes alone.
+fn look_at_classes(
+    alloc: Global,
+    classes: &[Class],
+    faults: &mut Faults,
+) -> Result<Linked, NoMemory>
+    ensures noted { OnOk result (IsNotedFirst classes.now faults.old faults.new) }
+    ensures parents { IfOk result (λ linked. linked.parents ≡ parents_in classes.now) }
+{
+    let numbers = number_classes(alloc, classes, faults)?;
+    let parents = find_parents(alloc, classes, &numbers, faults)?;
+    check_cycles(alloc, classes, parents.as_slice(), faults)?;
+    check_extended(alloc, classes, parents.as_slice(), faults)?;
+    Ok(Linked { numbers, parents })
+}
+
+/// The headers, or the first fault of members.
+fn of_linked(alloc: Global, program: &Program, linked: Linked) -> Result<Headers, Stop> {
+    let Linked { numbers, parents } = linked;
+    let classes = program.classes.as_slice();
     let steps = way(alloc, parents.as_slice())?;
+    let mut faults = Faults::by_place();
     check_members(
         alloc,
         classes,

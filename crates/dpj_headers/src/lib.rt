@@ -14,6 +14,7 @@ mod gather;
 mod header;
 mod members;
 mod numbers;
+mod rounds;
 mod supers;
 
 pub use faults::Faults;

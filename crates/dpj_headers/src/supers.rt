@@ -1,10 +1,12 @@
-ghost use Rattle.std.specs.Prelude.{◌≡◌, ℕ, [], map, OnOk, IfOk};
+ghost use Rattle.std.specs.Prelude.{◌≡◌, ℕ, Bool, false, List, [], map, slice_index_or, OnOk, IfOk};
 ghost use Rattle.dpj_headers.specs.Faults.{noted, all_noted};
 ghost use Rattle.dpj_headers.specs.Numbers.{number_of};
-ghost use Rattle.dpj_headers.specs.Passes.{first_named, second_classes, named_parent, unknown_parent, unknown_parents, is_constructor, has_constructor, extends_place, is_among, closed_parents};
+ghost use Rattle.dpj_headers.specs.Passes.{first_named, second_classes, named_parent, unknown_parent, unknown_parents, is_constructor, has_constructor, extends_place, is_among, cycles, closed_parents};
+ghost use Rattle.dpj_headers.specs.Rounds.{TellRounds};
 
 use crate::faults::Faults;
-use crate::numbers::{NameNumbers, number_at, to_number};
+use crate::numbers::{NameNumbers, number_at};
+use crate::rounds::going_round;
 use dpj_base::{Items, Kind, NoMemory, Place};
 use dpj_tree::{Class, Member, MethodResult};
 use std::alloc::Global;
@@ -132,54 +134,27 @@ fn extends_place(class: &Class) -> Place
 }
 
 /// Notes each class that is its own superclass.
+#[tactic(auto, using(crate::proofs::Noting::noting))]
 pub fn check_cycles(
     alloc: Global,
     classes: &[Class],
     parents: &[Option<u32>],
     faults: &mut Faults,
-) -> Result<(), NoMemory> {
-    let mut walks = vec![in alloc; 0u32; classes.len()]?;
-    for start in 0..classes.len() {
-        let walk = to_number(start).saturating_add(1);
-        let stop = walk_up(parents, walks.as_mut_slice(), to_number(start), walk);
-        if let Some(met) = stop {
-            note_cycle(classes, parents, met, faults);
+) -> Result<(), NoMemory>
+    ensures { OnOk result ((rounds : List Bool) × TellRounds parents.now rounds × (faults.new ≡ all_noted faults.old (cycles rounds 0 classes.now))) }
+{
+    let found = going_round(alloc, parents)?;
+    let rounds = found.as_slice();
+    for (at, class) in classes.iter().enumerate() {
+        if is_round(rounds, at) {
+            faults.note(Kind::Cycle, extends_place(class));
         }
     }
     Ok(())
 }
 
-/// Goes up from a class, marking each class that no walk has come to. The class where this walk meets itself.
-fn walk_up(parents: &[Option<u32>], walks: &mut [u32], start: u32, walk: u32) -> Option<u32> {
-    let mut at = start;
-    for _ in 0..=parents.len() {
-        let mark = walks.get_mut(at as usize)?;
-        if *mark == walk {
-            return Some(at);
-        }
-        if *mark != 0 {
-            return None;
-        }
-        *mark = walk;
-        at = (*parents.get(at as usize)?)?;
-    }
-    None
-}
-
-/// Notes each class of the cycle through a class.
-fn note_cycle(classes: &[Class], parents: &[Option<u32>], start: u32, faults: &mut Faults) {
-    let mut at = start;
-    for _ in 0..parents.len() {
-        let Some(class) = classes.get(at as usize) else {
-            return;
-        };
-        faults.note(Kind::Cycle, extends_place(class));
-        let Some(Some(parent)) = parents.get(at as usize) else {
-            return;
-        };
-        at = *parent;
-        if at == start {
-            return;
-        }
-    }
+fn is_round(rounds: &[bool], at: usize) -> bool
+    ensures { result ≡ slice_index_or rounds.now at false }
+{
+    rounds.get(at).copied().unwrap_or(false)
 }

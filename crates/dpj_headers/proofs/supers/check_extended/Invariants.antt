@@ -1,4 +1,4 @@
-use Rattle.std.proofs.Common.{◌≡◌, drop, map}
+use Rattle.std.proofs.Common.{◌≡◌, drop}
 use Rattle.dpj_headers.specs.Faults.{all_noted}
 use Rattle.dpj_headers.specs.Passes.{closed_parents}
 use Rattle.dpj_headers.proofs.supers.check_extended.Given as goal

@@ -1,4 +1,4 @@
-use Rattle.std.proofs.Common.{◌≡◌, ◌+◌, ◌==◌, ℕ, true, false, cond, Some, is_some, take, drop, length, length-take, sym, ap, ◌∙◌, arith}
+use Rattle.std.proofs.Common.{◌≡◌, ◌+◌, ◌==◌, true, false, cond, Some, is_some, take, drop, length, length-take, sym, ap, ◌∙◌, arith}
 use Rattle.dpj_base.specs.declared.refusal.Kind.TheVariants as kind
 use Rattle.dpj_headers.specs.Faults.{all_noted}
 use Rattle.dpj_headers.specs.Numbers.{as_number, number_of}

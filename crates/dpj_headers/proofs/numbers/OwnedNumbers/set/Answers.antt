@@ -1,4 +1,3 @@
-use Rattle.std.proofs.Common.{◌≡◌, ℕ}
 use Rattle.dpj_headers.proofs.numbers.OwnedNumbers.set.Goals as goal
 
 pub returns : goal.returns

@@ -1,0 +1,12 @@
+-- One test after the other.
+use Rattle.std.proofs.Common.{◌≡◌, Bool, true, false, ◌||◌, refl}
+
+pub or_assoc : (a b c : Bool) → ((a || b) || c) ≡ (a || (b || c))
+or_assoc true b c = refl
+or_assoc false b c = refl
+
+pub or_false : (a : Bool) → (a || false) ≡ a
+or_false true = refl
+or_false false = refl
+
+pub ruleset joined = (or_assoc, or_false)
