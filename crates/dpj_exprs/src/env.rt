@@ -1,7 +1,10 @@
+ghost use Rattle.std.specs.Prelude.{◌≡◌, IfOk};
+ghost use Rattle.dpj_exprs.specs.Env.{param_paths};
+
 use crate::supers::Supers;
 use dpj_base::{Constraint, Elems, Head, Items, NoMemory, Plain, Rpl, Ty};
 use dpj_classes::Table;
-use dpj_headers::{ParamRow, to_number};
+use dpj_headers::{ParamRow, number_at, to_number};
 use dpj_resolve::{Scope, Scoped, Site};
 use dpj_tree::{Expr, ExprKind, Program};
 use std::alloc::Global;
@@ -34,6 +37,8 @@ pub struct Env<'a> {
     /// The number of the method.
     pub method: u32,
     pub supers: Supers<'a>,
+    /// The constraints of each class, by its number.
+    classes_given: &'a [Items<Constraint>],
     /// The name `length`, where the text has it.
     length: Option<u32>,
     /// The region parameters of the method, with whether each is atomic.
@@ -60,6 +65,13 @@ pub fn length_name(program: &Program) -> Option<u32> {
 }
 
 impl Env<'_> {
+    ghost use Rattle.std.specs.Prelude.{◌≡◌, IfOk};
+    ghost use Rattle.std.specs.Option.{option_copied};
+    ghost use Rattle.dpj_base.specs.Types.{plain_type};
+    ghost use Rattle.dpj_resolve.specs.Scopes.{plain_scope};
+    ghost use Rattle.dpj_tree.specs.Plain.{plain_expr};
+    ghost use Rattle.dpj_exprs.specs.Env.{locals_in, local_of, index_variable_of, part_of, is_length_name, given_in, regions_in, has_region, scope_of, this_type_of};
+
     /// What is around the members of class 0, before one is entered.
     pub fn new<'a>(alloc: Global, table: &'a Table, length: Option<u32>) -> Env<'a> {
         Env {
@@ -67,6 +79,7 @@ impl Env<'_> {
             class: 0,
             method: 0,
             supers: Supers::of(table.supers()),
+            classes_given: table.classes_given(),
             length,
             params: Scoped::new(alloc),
             rows: Items::new(alloc),
@@ -153,27 +166,37 @@ impl Env<'_> {
     }
 
     /// The locals in scope, in the order of their declarations.
-    pub fn locals(&self) -> &[LocalRow] {
+    pub fn locals(&self) -> &[LocalRow]
+        ensures { result.now ≡ locals_in self.now }
+    {
         self.rows.as_slice()
     }
 
     /// The declarations of the local regions in scope, in their order.
-    pub fn local_regions(&self) -> &[u32] {
+    pub fn local_regions(&self) -> &[u32]
+        ensures { result.now ≡ regions_in self.now }
+    {
         self.regions.values()
     }
 
     /// The local of that name: the last, where there are two.
-    pub fn local(&self, name: u32) -> Option<&LocalRow> {
+    pub fn local(&self, name: u32) -> Option<&LocalRow>
+        ensures { option_copied result ≡ local_of self.now name }
+    {
         self.rows.get(self.variables.place(name)?)
     }
 
     /// The number of the index variable of that name.
-    pub fn index_variable(&self, name: u32) -> Option<u32> {
+    pub fn index_variable(&self, name: u32) -> Option<u32>
+        ensures { result ≡ index_variable_of self.now name }
+    {
         self.variables.get(name).copied().flatten()
     }
 
     /// Whether a local region in scope has the name.
-    pub fn has_local_region(&self, name: u32) -> bool {
+    pub fn has_local_region(&self, name: u32) -> bool
+        ensures { result ≡ has_region self.now name }
+    {
         self.regions.place(name).is_some()
     }
 
@@ -183,17 +206,23 @@ impl Env<'_> {
     }
 
     /// Whether the name is `length`.
-    pub fn is_length(&self, name: u32) -> bool {
+    pub fn is_length(&self, name: u32) -> bool
+        ensures { result ≡ is_length_name self.now name }
+    {
         self.length == Some(name)
     }
 
     /// The constraints in force.
-    pub fn given(&self) -> &[Constraint] {
+    pub fn given(&self) -> &[Constraint]
+        ensures { result.now ≡ given_in self.now }
+    {
         self.given.as_slice()
     }
 
     /// The part of an array that the expression names.
-    pub fn part(&self, e: &Expr) -> Option<&LocalRow> {
+    pub fn part(&self, e: &Expr) -> Option<&LocalRow>
+        ensures { option_copied result ≡ part_of self.now (plain_expr e.now) }
+    {
         let ExprKind::Local(name) = &e.kind else {
             return None;
         };
@@ -202,7 +231,9 @@ impl Env<'_> {
     }
 
     /// What is around a region path or a type.
-    pub fn scope(&self) -> Scope<'_> {
+    pub fn scope(&self) -> Scope<'_>
+        ensures { plain_scope result ≡ scope_of self.now }
+    {
         Scope {
             headers: self.table.headers(),
             class: self.class,
@@ -210,25 +241,35 @@ impl Env<'_> {
             variables: &self.variables,
             regions: &self.regions,
             given: self.given.as_slice(),
-            classes_given: self.table.classes_given(),
+            classes_given: self.classes_given,
             site: Site::Body,
         }
     }
 
     /// The type of `this`.
-    pub fn this_type(&self, alloc: Global) -> Result<Ty, NoMemory> {
-        let mut args = Items::new(alloc);
-        for number in 0..self.scope().class_params(self.class).len() {
-            args.push(Rpl {
-                head: Head::Param(to_number(number)),
-                elems: Elems::new(alloc),
-            })?;
-        }
+    pub fn this_type(&self, alloc: Global) -> Result<Ty, NoMemory>
+        ensures { IfOk result (λ ty. plain_type ty ≡ this_type_of self.now) }
+    {
+        let args = param_paths(alloc, self.scope().class_params(self.class).len())?;
         Ok(Ty::Class {
             class: self.class,
             args,
         })
     }
+}
+
+/// The first region parameters, each as a path.
+fn param_paths(alloc: Global, count: usize) -> Result<Items<Rpl>, NoMemory>
+    ensures { IfOk result (λ paths. paths ≡ param_paths count) }
+{
+    let mut paths = Items::new(alloc);
+    for number in 0..count {
+        paths.push(Rpl {
+            head: Head::Param(number_at(number)),
+            elems: Elems::new(alloc),
+        })?;
+    }
+    Ok(paths)
 }
 
 fn put_constraints(
