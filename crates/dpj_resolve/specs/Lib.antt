@@ -1,7 +1,12 @@
 pub mod Args
+pub mod Begun
 pub mod Constraints
 pub mod Classes
 pub mod Index
 pub mod Paths
 pub mod Names
+pub mod Reading
 pub mod Scoped
+pub mod Scopes
+pub mod Telling
+pub mod Written

@@ -1,11 +1,16 @@
-ghost use Rattle.std.specs.Prelude.{◌≡◌, IfOk};
+ghost use Rattle.std.specs.Prelude.{◌≡◌, ◌++◌, [], None, Some, IfOk, IfErr, OnOk};
 ghost use Rattle.std.specs.List.{list_any};
+ghost use Rattle.std.specs.Option.{option_to_list};
+ghost use Rattle.dpj_base.specs.Refused.{IfRefused};
 ghost use Rattle.dpj_headers.specs.Faults.{all_noted};
 ghost use Rattle.dpj_resolve.specs.Args.{root_path, roots, args_given, begins_local, first_local, local_fault, is_unfit, args_faults};
+ghost use Rattle.dpj_resolve.specs.Reading.{path_meant, path_faults, arg_need, arg_faults, local_with, args_read};
+ghost use Rattle.dpj_resolve.specs.Scopes.{plain_scope, plain_index};
+ghost use Rattle.dpj_resolve.specs.Telling.{told_at, parts_noted, parts_told};
 
 use crate::index::IndexNames;
 use crate::paths::{Need, path};
-use crate::scope::Scope;
+use crate::scope::{Scope, is_atomic_at};
 use dpj_base::{Elem, Elems, Head, Items, Kind, NoMemory, Place, Rpl, Stop};
 use dpj_headers::{Faults, ParamRow};
 use dpj_tree::RplTree;
@@ -61,6 +66,50 @@ pub fn root(alloc: Global) -> Rpl
     }
 }
 
+/// Paths that are read one after the other.
+#[derive(Drop)]
+pub(crate) struct ReadPaths {
+    /// Those that are known.
+    pub(crate) paths: Items<Rpl>,
+    /// The first name of a local region among them.
+    pub(crate) local: Option<Place>,
+}
+
+impl ReadPaths {
+    pub(crate) fn new(alloc: Global) -> ReadPaths
+        ensures paths { result.paths ≡ [] }
+        ensures local { result.local ≡ None }
+    {
+        ReadPaths {
+            paths: Items::new(alloc),
+            local: None,
+        }
+    }
+
+    /// Reads a further path.
+    pub(crate) fn read(
+        &mut self,
+        alloc: Global,
+        scope: &Scope,
+        faults: &mut Faults,
+        tree: &RplTree,
+        need: Need,
+        around: &IndexNames,
+    ) -> Result<(), Stop>
+        ensures paths { OnOk result (self.new.paths ≡ self.old.paths ++ option_to_list (path_meant (plain_scope scope.now) (plain_index around.now) tree.now)) }
+        ensures local { OnOk result (self.new.local ≡ local_with (plain_scope scope.now) (plain_index around.now) self.old.local tree.now) }
+        ensures noted { OnOk result (faults.new ≡ all_noted faults.old (path_faults (plain_scope scope.now) (plain_index around.now) need tree.now)) }
+        ensures untold { OnOk result (told_at scope.now.site (all_noted faults.old (path_faults (plain_scope scope.now) (plain_index around.now) need tree.now)) ≡ None) }
+        ensures told { IfErr result (λ stop. IfRefused stop (λ refusal. told_at scope.now.site (all_noted faults.old (path_faults (plain_scope scope.now) (plain_index around.now) need tree.now)) ≡ Some refusal)) }
+    {
+        if let Some(rpl) = path(alloc, scope, faults, tree, need, around)? {
+            self.local = first_local(self.local, &rpl, tree.place);
+            self.paths.push(rpl)?;
+        }
+        Ok(())
+    }
+}
+
 /// Reads region arguments for parameters. Where there are as many as parameters, those of atomic ones are to be
 /// atomic. `full` asks that each is fully specified.
 pub fn read_args(
@@ -71,27 +120,31 @@ pub fn read_args(
     params: &[ParamRow],
     full: bool,
     around: &IndexNames,
-) -> Result<ReadArgs, Stop> {
-    let mut args = ReadArgs {
-        paths: Items::new(alloc),
-        written: trees.len(),
-        local: None,
-    };
+) -> Result<ReadArgs, Stop>
+    ensures meant { IfOk result (λ args. args ≡ args_read (plain_scope scope.now) (plain_index around.now) trees.now) }
+    ensures noted { OnOk result (faults.new ≡ parts_noted faults.old (arg_faults (plain_scope scope.now) (plain_index around.now) params.now full trees.now)) }
+    ensures untold { OnOk result (parts_told scope.now.site faults.old (arg_faults (plain_scope scope.now) (plain_index around.now) params.now full trees.now) ≡ None) }
+    ensures told { IfErr result (λ stop. IfRefused stop (λ refusal. parts_told scope.now.site faults.old (arg_faults (plain_scope scope.now) (plain_index around.now) params.now full trees.now) ≡ Some refusal)) }
+{
+    let mut read = ReadPaths::new(alloc);
     for (at, tree) in trees.iter().enumerate() {
-        let atomic = trees.len() == params.len() && is_atomic_at(params, at);
-        let need = Need { full, atomic };
-        if let Some(rpl) = path(alloc, scope, faults, tree, need, around)? {
-            args.local = first_local(args.local, &rpl, tree.place);
-            args.paths.push(rpl)?;
-        }
+        let need = arg_need(params, full, trees.len(), at);
+        read.read(alloc, scope, faults, tree, need, around)?;
     }
-    Ok(args)
+    Ok(ReadArgs {
+        paths: read.paths,
+        written: trees.len(),
+        local: read.local,
+    })
 }
 
-fn is_atomic_at(params: &[ParamRow], at: usize) -> bool {
-    match params.get(at) {
-        Some(param) => param.atomic,
-        None => false,
+/// What is asked of the argument at a position, where so many are written.
+fn arg_need(params: &[ParamRow], full: bool, written: usize, at: usize) -> Need
+    ensures { result ≡ arg_need params.now full written at }
+{
+    Need {
+        full,
+        atomic: written == params.len() && is_atomic_at(params, at),
     }
 }
 

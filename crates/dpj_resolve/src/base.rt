@@ -2,6 +2,8 @@ ghost use Rattle.std.specs.Prelude.{◌≡◌, IfOk, OnOk, option_map};
 ghost use Rattle.dpj_base.specs.Types.{plain_type};
 ghost use Rattle.dpj_headers.specs.Faults.{all_noted};
 ghost use Rattle.dpj_resolve.specs.Classes.{class_faults, class_type};
+ghost use Rattle.dpj_resolve.specs.Scopes.{plain_scope};
+ghost use Rattle.dpj_resolve.specs.Written.{base_type, base_faults};
 
 use crate::args::{ReadArgs, fit_args};
 use crate::constraints::constraints_hold;
@@ -41,7 +43,10 @@ pub fn base_made(
     faults: &mut Faults,
     base: ReadBase,
     place: Place,
-) -> Result<Option<Ty>, NoMemory> {
+) -> Result<Option<Ty>, NoMemory>
+    ensures faults { OnOk result (faults.new ≡ all_noted faults.old (base_faults (plain_scope scope.now) base place)) }
+    ensures made { IfOk result (λ made. option_map plain_type made ≡ base_type (plain_scope scope.now) base) }
+{
     match base {
         ReadBase::Int => Ok(Some(Ty::Int)),
         ReadBase::Bool => Ok(Some(Ty::Bool)),

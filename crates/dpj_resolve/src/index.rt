@@ -1,6 +1,7 @@
 ghost use Rattle.std.specs.Prelude.{◌≡◌, ◌<◌, length, drop, IfSome};
-ghost use Rattle.dpj_resolve.specs.Index.{number_at, is_named, suffix_named};
+ghost use Rattle.dpj_resolve.specs.Index.{number_at, number_of, is_named, suffix_named};
 
+use dpj_headers::number_at;
 use dpj_tree::{Named, Suffix};
 
 /// Nodes have numbers below this one.
@@ -8,12 +9,20 @@ const NODES: u32 = 2097152;
 
 /// The number of the index name of a written array suffix: no local, no formal, no foreach variable and no other
 /// suffix has it. Suffixes are counted from 0 in the type or creation that is the node.
+#[tactic(auto, using(crate::proofs::Wrapping::wrapped))]
 pub fn index_number(node: u32, suffix: u32) -> u32
-    ensures { node < 2097152 → suffix < 1024 → result ≡ number_at node suffix }
+    ensures { result ≡ number_at node suffix }
 {
     NODES
         .wrapping_mul(suffix.wrapping_add(1))
         .wrapping_add(node)
+}
+
+/// The number of the index name of the suffix at a position.
+pub fn index_at(node: u32, position: usize) -> u32
+    ensures { result ≡ number_of node position }
+{
+    index_number(node, number_at(position))
 }
 
 /// The index names that are in scope at a place of an array type or an array creation.
@@ -30,11 +39,15 @@ pub struct IndexNames<'a> {
 }
 
 impl<'a> IndexNames<'a> {
-    ghost use Rattle.std.specs.Prelude.{◌≡◌, ◌<◌, length};
-    ghost use Rattle.dpj_resolve.specs.Index.{index_meant};
+    ghost use Rattle.std.specs.Prelude.{◌≡◌};
+    ghost use Rattle.dpj_resolve.specs.Reading.{index_name};
+    ghost use Rattle.dpj_resolve.specs.Scopes.{no_index, plain_index};
+    ghost use Rattle.dpj_resolve.specs.Written.{at_suffix};
 
     /// No index names around a place.
-    pub fn none() -> IndexNames<'a> {
+    pub fn none() -> IndexNames<'a>
+        ensures { plain_index result ≡ no_index }
+    {
         IndexNames {
             node: 0,
             suffixes: &[],
@@ -45,15 +58,25 @@ impl<'a> IndexNames<'a> {
 
     /// The number of an index name: the innermost one of that name.
     pub fn find(&self, name: u32) -> Option<u32>
-        ensures { self.now.node < 2097152 → length self.now.suffixes.now < 1024 → result ≡ index_meant name self.now.node self.now.suffixes.now self.now.inside self.now.made }
+        ensures { result ≡ index_name (plain_index self.now) name }
     {
         if let Some(at) = suffix_named(self.suffixes, self.inside, name) {
-            return Some(index_number(self.node, suffix_number(at)));
+            return Some(index_at(self.node, at));
         }
         if is_named(self.made, name) {
-            return Some(index_number(self.node, suffix_number(self.suffixes.len())));
+            return Some(index_at(self.node, self.suffixes.len()));
         }
         None
+    }
+
+    /// The same at the suffix at a position.
+    pub fn at_suffix(&self, position: usize) -> IndexNames<'a>
+        ensures { plain_index result ≡ at_suffix (plain_index self.now) position }
+    {
+        IndexNames {
+            inside: position,
+            ..*self
+        }
     }
 }
 
@@ -68,13 +91,6 @@ fn suffix_named(suffixes: &[Suffix], inside: usize, name: u32) -> Option<usize>
         }
     }
     None
-}
-
-/// A place as a number. A type has at most 32 suffixes.
-pub fn suffix_number(at: usize) -> u32
-    ensures { at < 1024 → result ≡ at }
-{
-    u32::try_from(at).unwrap_or(u32::MAX)
 }
 
 fn is_named(index: Option<Named>, name: u32) -> bool

@@ -21,9 +21,9 @@ mod types;
 pub use args::{ReadArgs, fit_args, read_args, root};
 pub use base::{ReadBase, ReadType, class_made};
 pub use constraints::{constraints_hold, put_in};
-pub use index::{IndexNames, index_number};
+pub use index::{IndexNames, index_at, index_number};
 pub use paths::{Need, path};
-pub use scope::{Scope, Site};
+pub use scope::{ParamFound, Scope, Site};
 pub use scoped::Scoped;
 pub use types::{array_made, read_type, ty};
 

@@ -1,11 +1,9 @@
 ghost use Rattle.std.specs.Prelude.{◌≡◌};
-ghost use Rattle.dpj_headers.specs.Faults.{all_noted};
-ghost use Rattle.dpj_resolve.specs.Classes.{params_in, constraints_in};
-ghost use Rattle.dpj_resolve.specs.Paths.{region_meant, region_faults, is_atomic_region};
+ghost use Rattle.dpj_resolve.specs.Scopes.{is_atomic_at};
 
 use crate::scoped::Scoped;
 use dpj_base::{Constraint, Items, Kind, Stop};
-use dpj_headers::{Faults, Headers, ParamRow};
+use dpj_headers::{Faults, Headers, ParamRow, number_at};
 use dpj_tree::RName;
 
 /// Where a path or a type stands, which decides when its faults are told.
@@ -43,8 +41,20 @@ pub struct ParamFound {
 }
 
 impl Scope<'_> {
+    ghost use Rattle.std.specs.Prelude.{◌≡◌, [], OnOk};
+    ghost use Rattle.std.specs.Option.{option_map_or};
+    ghost use Rattle.dpj_headers.specs.Faults.{all_noted, settled};
+    ghost use Rattle.dpj_resolve.specs.Classes.{params_in, constraints_in};
+    ghost use Rattle.dpj_resolve.specs.Paths.{region_meant, region_faults, is_atomic_region};
+    ghost use Rattle.dpj_resolve.specs.Scopes.{plain_scope, method_param, param_meant};
+    ghost use Rattle.dpj_resolve.specs.Telling.{told_at};
+
     /// Tells a noted fault where the place is in a body.
-    pub fn settle(&self, faults: &mut Faults) -> Result<(), Stop> {
+    #[tactic(auto, using(crate::proofs::Told::settling))]
+    pub fn settle(&self, faults: &mut Faults) -> Result<(), Stop>
+        ensures result { result ≡ settled (told_at self.now.site faults.old) }
+        ensures same { OnOk result (faults.new ≡ faults.old) }
+    {
         match self.site {
             Site::Signature => Ok(()),
             Site::Body => faults.settle(),
@@ -52,20 +62,24 @@ impl Scope<'_> {
     }
 
     /// The region parameter of that name.
-    pub fn param(&self, name: u32) -> Option<ParamFound> {
+    pub fn param(&self, name: u32) -> Option<ParamFound>
+        ensures { result ≡ param_meant (plain_scope self.now) name }
+    {
         match self.headers.param(self.class, name) {
             Some(number) => Some(ParamFound {
                 number,
-                atomic: is_atomic_param(self.class_params(self.class), number),
+                atomic: is_atomic_at(self.class_params(self.class), number as usize),
             }),
             None => self.method_param(name),
         }
     }
 
-    fn method_param(&self, name: u32) -> Option<ParamFound> {
+    fn method_param(&self, name: u32) -> Option<ParamFound>
+        ensures { result ≡ method_param (plain_scope self.now) name }
+    {
         let place = self.params.place(name)?;
         let atomic = self.params.values().get(place).copied()?;
-        let number = u32::try_from(self.class_params(self.class).len() + place).ok()?;
+        let number = number_at(self.class_params(self.class).len() + place);
         Some(ParamFound { number, atomic })
     }
 
@@ -75,6 +89,16 @@ impl Scope<'_> {
     {
         match self.headers.header(class) {
             Some(header) => header.params.as_slice(),
+            None => &[],
+        }
+    }
+
+    /// The region parameters of a class that is there.
+    pub fn known_params(&self, class: Option<u32>) -> &[ParamRow]
+        ensures { result.now ≡ option_map_or (params_in self.now.headers.now) class [] }
+    {
+        match class {
+            Some(class) => self.class_params(class),
             None => &[],
         }
     }
@@ -124,8 +148,11 @@ impl Scope<'_> {
     }
 }
 
-fn is_atomic_param(params: &[ParamRow], number: u32) -> bool {
-    match params.get(number as usize) {
+/// Whether the parameter at a position is atomic.
+pub fn is_atomic_at(params: &[ParamRow], at: usize) -> bool
+    ensures { result ≡ is_atomic_at params.now at }
+{
+    match params.get(at) {
         Some(param) => param.atomic,
         None => false,
     }

@@ -1,11 +1,20 @@
-use crate::args::{begins_local, first_local, note_local, read_args, root};
+ghost use Rattle.std.specs.Prelude.{◌≡◌, ◌==◌, ◌++◌, [], nat_le, length, None, Some, option_map, IfOk, IfErr, OnOk};
+ghost use Rattle.std.specs.Option.{option_to_list};
+ghost use Rattle.dpj_base.specs.Refused.{IfRefused};
+ghost use Rattle.dpj_base.specs.Types.{plain_type};
+ghost use Rattle.dpj_headers.specs.Faults.{all_noted};
+ghost use Rattle.dpj_resolve.specs.Scopes.{plain_scope, plain_index};
+ghost use Rattle.dpj_resolve.specs.Telling.{told_at, parts_noted, parts_told};
+ghost use Rattle.dpj_resolve.specs.Written.{base_read, base_parts, suffix_meant, suffix_parts, suffix_local, paths_from, local_from, parts_from, type_read, type_parts, is_flat, own_fault, own_index, made_index, with_suffixes, arrays_from, judged_type, judged_faults, type_meant, type_faults, array_meant, array_faults};
+
+use crate::args::{ReadPaths, begins_local, note_local, read_args, root};
 use crate::base::{ReadBase, ReadType, base_made};
-use crate::index::{IndexNames, index_number, suffix_number};
-use crate::paths::{Need, path};
+use crate::index::{IndexNames, index_at};
+use crate::paths::Need;
 use crate::scope::Scope;
 use dpj_base::{Boxed, Items, NoMemory, Place, Rpl, Stop, Ty};
 use dpj_headers::Faults;
-use dpj_tree::{BaseTree, Suffix, TypeTree};
+use dpj_tree::{BaseTree, Named, RplTree, Suffix, TypeTree};
 use std::alloc::Global;
 
 /// Reads a type. None where it has a fault of a signature by which nothing more can be said of it.
@@ -14,7 +23,12 @@ pub fn ty(
     scope: &Scope,
     faults: &mut Faults,
     tree: &TypeTree,
-) -> Result<Option<Ty>, Stop> {
+) -> Result<Option<Ty>, Stop>
+    ensures meant { IfOk result (λ made. option_map plain_type made ≡ type_meant (plain_scope scope.now) tree.now) }
+    ensures noted { OnOk result (faults.new ≡ parts_noted faults.old (type_faults (plain_scope scope.now) tree.now)) }
+    ensures untold { OnOk result (parts_told scope.now.site faults.old (type_faults (plain_scope scope.now) tree.now) ≡ None) }
+    ensures told { IfErr result (λ stop. IfRefused stop (λ refusal. parts_told scope.now.site faults.old (type_faults (plain_scope scope.now) tree.now) ≡ Some refusal)) }
+{
     let around = IndexNames {
         node: tree.node,
         suffixes: tree.suffixes.as_slice(),
@@ -35,71 +49,107 @@ pub fn read_type(
     faults: &mut Faults,
     base: &BaseTree,
     around: IndexNames,
-) -> Result<ReadType, Stop> {
+) -> Result<ReadType, Stop>
+    ensures meant { IfOk result (λ read. read ≡ type_read (plain_scope scope.now) (plain_index around.entry) base.now) }
+    ensures noted { OnOk result (faults.new ≡ parts_noted faults.old (type_parts (plain_scope scope.now) (plain_index around.entry) base.now)) }
+    ensures untold { OnOk result (parts_told scope.now.site faults.old (type_parts (plain_scope scope.now) (plain_index around.entry) base.now) ≡ None) }
+    ensures told { IfErr result (λ stop. IfRefused stop (λ refusal. parts_told scope.now.site faults.old (type_parts (plain_scope scope.now) (plain_index around.entry) base.now) ≡ Some refusal)) }
+{
     let base = read_base(alloc, scope, faults, base, &around)?;
-    let mut read = ReadType {
+    let read = read_suffixes(alloc, scope, faults, &around)?;
+    Ok(ReadType {
         base,
-        paths: Items::new(alloc),
-        local: None,
-    };
-    for (at, suffix) in around.suffixes.iter().enumerate() {
-        let around = IndexNames {
-            inside: at,
-            ..around
-        };
-        let rpl = suffix_path(alloc, scope, faults, suffix, &around)?;
-        put_path(&mut read, suffix, rpl)?;
-    }
-    Ok(read)
+        paths: read.paths,
+        local: read.local,
+    })
 }
 
+/// Reads what a type begins with.
 fn read_base(
     alloc: Global,
     scope: &Scope,
     faults: &mut Faults,
     base: &BaseTree,
     around: &IndexNames,
-) -> Result<ReadBase, Stop> {
-    let (name, trees) = match base {
-        BaseTree::Int => return Ok(ReadBase::Int),
-        BaseTree::Bool => return Ok(ReadBase::Bool),
-        BaseTree::Class { name, args } => (*name, args.as_slice()),
-    };
+) -> Result<ReadBase, Stop>
+    ensures meant { IfOk result (λ read. read ≡ base_read (plain_scope scope.now) (plain_index around.now) base.now) }
+    ensures noted { OnOk result (faults.new ≡ parts_noted faults.old (base_parts (plain_scope scope.now) (plain_index around.now) base.now)) }
+    ensures untold { OnOk result (parts_told scope.now.site faults.old (base_parts (plain_scope scope.now) (plain_index around.now) base.now) ≡ None) }
+    ensures told { IfErr result (λ stop. IfRefused stop (λ refusal. parts_told scope.now.site faults.old (base_parts (plain_scope scope.now) (plain_index around.now) base.now) ≡ Some refusal)) }
+{
+    match base {
+        BaseTree::Int => Ok(ReadBase::Int),
+        BaseTree::Bool => Ok(ReadBase::Bool),
+        BaseTree::Class { name, args } => {
+            read_class(alloc, scope, faults, *name, args.as_slice(), around)
+        }
+    }
+}
+
+/// Reads a class and its region arguments.
+fn read_class(
+    alloc: Global,
+    scope: &Scope,
+    faults: &mut Faults,
+    name: Named,
+    trees: &[RplTree],
+    around: &IndexNames,
+) -> Result<ReadBase, Stop>
+    ensures meant { IfOk result (λ read. read ≡ base_read (plain_scope scope.now) (plain_index around.now) (BaseTree.Class name trees.now)) }
+    ensures noted { OnOk result (faults.new ≡ parts_noted faults.old (base_parts (plain_scope scope.now) (plain_index around.now) (BaseTree.Class name trees.now))) }
+    ensures untold { OnOk result (parts_told scope.now.site faults.old (base_parts (plain_scope scope.now) (plain_index around.now) (BaseTree.Class name trees.now)) ≡ None) }
+    ensures told { IfErr result (λ stop. IfRefused stop (λ refusal. parts_told scope.now.site faults.old (base_parts (plain_scope scope.now) (plain_index around.now) (BaseTree.Class name trees.now)) ≡ Some refusal)) }
+{
     let class = scope.headers.class(name.name);
-    let params = match class {
-        Some(class) => scope.class_params(class),
-        None => &[],
-    };
+    let params = scope.known_params(class);
     let args = read_args(alloc, scope, faults, trees, params, false, around)?;
     Ok(ReadBase::Class { name, class, args })
 }
 
-/// The path of a suffix: `Root` where none is written.
-fn suffix_path(
+/// Reads the paths of all suffixes.
+fn read_suffixes(
     alloc: Global,
     scope: &Scope,
     faults: &mut Faults,
+    around: &IndexNames,
+) -> Result<ReadPaths, Stop>
+    ensures paths { IfOk result (λ read. read.paths ≡ paths_from (plain_scope scope.now) (plain_index around.now) 0 around.now.suffixes.now) }
+    ensures local { IfOk result (λ read. read.local ≡ local_from (plain_scope scope.now) (plain_index around.now) 0 None around.now.suffixes.now) }
+    ensures noted { OnOk result (faults.new ≡ parts_noted faults.old (parts_from (plain_scope scope.now) (plain_index around.now) 0 around.now.suffixes.now)) }
+    ensures untold { OnOk result (parts_told scope.now.site faults.old (parts_from (plain_scope scope.now) (plain_index around.now) 0 around.now.suffixes.now) ≡ None) }
+    ensures told { IfErr result (λ stop. IfRefused stop (λ refusal. parts_told scope.now.site faults.old (parts_from (plain_scope scope.now) (plain_index around.now) 0 around.now.suffixes.now) ≡ Some refusal)) }
+{
+    let mut read = ReadPaths::new(alloc);
+    for (at, suffix) in around.suffixes.iter().enumerate() {
+        read_suffix(alloc, scope, faults, &mut read, suffix, &around.at_suffix(at))?;
+    }
+    Ok(read)
+}
+
+/// Reads the path of a suffix: `Root` where none is written.
+fn read_suffix(
+    alloc: Global,
+    scope: &Scope,
+    faults: &mut Faults,
+    read: &mut ReadPaths,
     suffix: &Suffix,
     around: &IndexNames,
-) -> Result<Option<Rpl>, Stop> {
+) -> Result<(), Stop>
+    ensures paths { OnOk result (read.new.paths ≡ read.old.paths ++ option_to_list (suffix_meant (plain_scope scope.now) (plain_index around.now) suffix.now)) }
+    ensures local { OnOk result (read.new.local ≡ suffix_local (plain_scope scope.now) (plain_index around.now) read.old.local suffix.now) }
+    ensures noted { OnOk result (faults.new ≡ parts_noted faults.old (suffix_parts (plain_scope scope.now) (plain_index around.now) suffix.now)) }
+    ensures untold { OnOk result (parts_told scope.now.site faults.old (suffix_parts (plain_scope scope.now) (plain_index around.now) suffix.now) ≡ None) }
+    ensures told { IfErr result (λ stop. IfRefused stop (λ refusal. parts_told scope.now.site faults.old (suffix_parts (plain_scope scope.now) (plain_index around.now) suffix.now) ≡ Some refusal)) }
+{
+    let Some(tree) = &suffix.rpl else {
+        read.paths.push(root(alloc))?;
+        return Ok(());
+    };
     let need = Need {
         full: false,
         atomic: false,
     };
-    match &suffix.rpl {
-        Some(tree) => path(alloc, scope, faults, tree, need, around),
-        None => Ok(Some(root(alloc))),
-    }
-}
-
-fn put_path(read: &mut ReadType, suffix: &Suffix, rpl: Option<Rpl>) -> Result<(), NoMemory> {
-    let Some(rpl) = rpl else {
-        return Ok(());
-    };
-    if let Some(tree) = &suffix.rpl {
-        read.local = first_local(read.local, &rpl, tree.place);
-    }
-    read.paths.push(rpl)
+    read.read(alloc, scope, faults, tree, need, around)
 }
 
 /// Judges a type that stands at a place.
@@ -110,7 +160,10 @@ fn type_made(
     read: ReadType,
     around: IndexNames,
     place: Place,
-) -> Result<Option<Ty>, NoMemory> {
+) -> Result<Option<Ty>, NoMemory>
+    ensures made { IfOk result (λ made. option_map plain_type made ≡ judged_type (plain_scope scope.now) (plain_index around.entry) read) }
+    ensures faults { OnOk result (faults.new ≡ all_noted faults.old (judged_faults (plain_scope scope.now) (plain_index around.entry) read place)) }
+{
     let ReadType { base, paths, local } = read;
     let flat = is_flat(&base) && around.suffixes.len() <= 1;
     note_local(faults, local, flat);
@@ -129,29 +182,37 @@ pub fn array_made(
     around: IndexNames,
     own_place: Place,
     place: Place,
-) -> Result<Option<Ty>, NoMemory> {
-    let flat = is_flat(&read.base) && around.suffixes.is_empty();
+) -> Result<Option<Ty>, NoMemory>
+    ensures made { IfOk result (λ made. option_map plain_type made ≡ array_meant (plain_scope scope.now) (plain_index around.entry) read own) }
+    ensures faults { OnOk result (faults.new ≡ all_noted faults.old (array_faults (plain_scope scope.now) (plain_index around.entry) read own own_place place)) }
+{
     note_local(faults, read.local, false);
-    if begins_local(&own) {
-        note_local(faults, Some(own_place), flat);
-    }
+    note_own(faults, &read.base, &around, &own, own_place);
     let ReadType { base, paths, .. } = read;
     let base = base_made(alloc, scope, faults, base, place)?;
     let Some(elem) = with_suffixes(alloc, base, paths, around)? else {
         return Ok(None);
     };
-    let index = match around.made {
-        Some(_) => Some(index_number(around.node, suffix_number(around.suffixes.len()))),
-        None => None,
-    };
     Ok(Some(Ty::Array {
         elem: Boxed::new(alloc, elem)?,
         rpl: own,
-        index,
+        index: made_index(&around),
     }))
 }
 
-fn is_flat(base: &ReadBase) -> bool {
+/// Notes a local region at the head of the path of a created array whose elements aren't ints or booleans.
+fn note_own(faults: &mut Faults, base: &ReadBase, around: &IndexNames, own: &Rpl, place: Place)
+    ensures { faults.new ≡ all_noted faults.old (own_fault base.now (plain_index around.now) own.now place) }
+{
+    if begins_local(own) {
+        let flat = is_flat(base) && around.suffixes.is_empty();
+        note_local(faults, Some(place), flat);
+    }
+}
+
+fn is_flat(base: &ReadBase) -> bool
+    ensures { result ≡ is_flat base.now }
+{
     matches!(base, ReadBase::Int | ReadBase::Bool)
 }
 
@@ -161,28 +222,57 @@ fn with_suffixes(
     base: Option<Ty>,
     paths: Items<Rpl>,
     around: IndexNames,
-) -> Result<Option<Ty>, NoMemory> {
-    let Some(mut made) = base else {
+) -> Result<Option<Ty>, NoMemory>
+    ensures { IfOk result (λ made. option_map plain_type made ≡ with_suffixes (plain_index around.entry) (option_map plain_type base) paths) }
+{
+    let Some(base) = base else {
         return Ok(None);
     };
     if paths.len() != around.suffixes.len() {
         return Ok(None);
     }
-    for (at, rpl) in paths.into_vec().into_iter().enumerate() {
+    Ok(Some(arrays(alloc, base, paths, &around)?))
+}
+
+/// An array of arrays, one for each path, the first innermost.
+fn arrays(
+    alloc: Global,
+    base: Ty,
+    paths: Items<Rpl>,
+    around: &IndexNames,
+) -> Result<Ty, NoMemory>
+    ensures { IfOk result (λ made. plain_type made ≡ arrays_from (plain_index around.now) 0 (plain_type base) paths) }
+{
+    let mut made = base;
+    let mut at = 0;
+    for rpl in paths.into_vec() {
         made = Ty::Array {
             elem: Boxed::new(alloc, made)?,
             rpl,
             index: own_index(around, at),
         };
+        at += 1;
     }
-    Ok(Some(made))
+    Ok(made)
+}
+
+/// The number of the index name of a created array, where it has one.
+fn made_index(around: &IndexNames) -> Option<u32>
+    ensures { result ≡ made_index (plain_index around.now) }
+{
+    match around.made {
+        Some(_) => Some(index_at(around.node, around.suffixes.len())),
+        None => None,
+    }
 }
 
 /// The number of a suffix's index name, where it has one.
-fn own_index(around: IndexNames, at: usize) -> Option<u32> {
+fn own_index(around: &IndexNames, at: usize) -> Option<u32>
+    ensures { result ≡ own_index (plain_index around.now) at }
+{
     let suffix = around.suffixes.get(at)?;
     if suffix.index.is_none() {
         return None;
     }
-    Some(index_number(around.node, suffix_number(at)))
+    Some(index_at(around.node, at))
 }
