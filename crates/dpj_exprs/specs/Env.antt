@@ -1,22 +1,24 @@
 -- What is in scope around an expression.
-use Rattle.std.specs.Prelude.{ℕ, zero, suc, ◌==◌, Bool, false, cond, List, [], ◌∷◌, ◌++◌, length, slice_get, is_some, Option, Some, None, option_and_then}
+use Rattle.std.specs.Prelude.{ℕ, zero, suc, ◌==◌, Bool, false, ◌&&◌, cond, List, [], ◌∷◌, ◌++◌, length, slice_get, is_some, Option, Some, None, option_and_then}
 use Rattle.std.specs.Option.{option_map_or}
 use Rattle.dpj_base.specs.declared.effect.Constraint.{Constraint}
 use Rattle.dpj_base.specs.declared.region.Head.TheVariants.{Param}
 use Rattle.dpj_base.specs.declared.region.Rpl.{Rpl}
 use Rattle.dpj_base.specs.declared.ty.Super.{Super}
-use Rattle.dpj_base.specs.Types.{PlainType}
-use Rattle.dpj_base.specs.Types.PlainType as ty
+use Rattle.dpj_base.specs.Types.{PlainType, plain_type}
+use Rattle.dpj_base.specs.Types.{PlainType as ty}
 use Rattle.dpj_tree.specs.Plain.{PlainExpr, expression, ExprForm, local}
 use Rattle.dpj_headers.specs.Numbers.{as_number}
 use Rattle.dpj_resolve.specs.declared.scope.Site.TheVariants as site
 use Rattle.dpj_resolve.specs.Classes.{params_in}
-use Rattle.dpj_resolve.specs.Scopes.{PlainScope}
-use Rattle.dpj_resolve.specs.Scoped.{place_in, value_in, values_in}
+use Rattle.dpj_resolve.specs.Scopes.{PlainScope, param_meant}
+use Rattle.dpj_resolve.specs.Scoped.{names_in, place_in, value_in, values_in}
 use Rattle.dpj_classes.specs.declared.table.Table.{Table}
 use Rattle.dpj_classes.specs.Table.{headers_of}
 use Rattle.dpj_exprs.specs.declared.env.Env.{Env}
 use Rattle.dpj_exprs.specs.declared.env.LocalRow.{LocalRow}
+use Rattle.dpj_exprs.specs.declared.env.Mark.{Mark}
+use Rattle.dpj_exprs.specs.Typed.{is_int}
 
 abbrev pub table_of : Env → Table
 table_of env = env.table.now
@@ -77,6 +79,33 @@ scope_of env = record {
   classes_given = env.classes_given.now;
   site = site.Body;
 }
+
+-- a region parameter of the class or the method has the name
+abbrev pub is_param_name : Env → ℕ → Bool
+is_param_name env name = is_some (param_meant (scope_of env) name)
+
+-- the names of the locals in scope, and of each the number as an index variable, where it may stand in an index
+abbrev pub local_names : Env → List ℕ
+local_names env = names_in env.variables
+
+abbrev pub index_numbers : Env → List (Option ℕ)
+index_numbers env = values_in env.variables
+
+-- the names of the local regions in scope
+abbrev pub region_names : Env → List ℕ
+region_names env = names_in env.regions
+
+-- how many local regions the method has declared so far
+abbrev pub declared_in : Env → ℕ
+declared_in env = env.declared
+
+-- how much is in scope
+abbrev pub mark_of : Env → Mark
+mark_of env = record { locals = length (locals_in env); regions = length (regions_in env) }
+
+-- a final int may stand in an index
+abbrev pub index_number : LocalRow → Option ℕ
+index_number row = cond (row.is_final && is_int (plain_type row.ty)) (Some row.var) None
 
 -- the first region parameters, each as a path
 abbrev pub param_paths : ℕ → List Rpl

@@ -6,7 +6,7 @@ use Rattle.dpj_base.specs.declared.refusal.Refusal.{Refusal}
 use Rattle.dpj_base.specs.declared.region.Rpl.{Rpl}
 use Rattle.dpj_base.specs.Regions.{substituted}
 use Rattle.dpj_base.specs.Types.{PlainType, plain_type, type_with}
-use Rattle.dpj_base.specs.Types.PlainType as ty
+use Rattle.dpj_base.specs.Types.{PlainType as ty}
 use Rattle.dpj_headers.specs.Passes.{fault}
 use Rattle.dpj_classes.specs.declared.rows.FieldRow.{FieldRow}
 use Rattle.dpj_classes.specs.declared.table.Table.{Table}

@@ -10,4 +10,4 @@ pub mod Elements
 pub mod Shapes
 pub mod Uses
 pub mod Arrays
-pub mod Typing
+pub mod Locals

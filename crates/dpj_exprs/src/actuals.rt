@@ -84,7 +84,8 @@ fn all_fit(
 ) -> Result<bool, NoMemory>
     ensures { IfOk result (λ fit. IsTrue fit ↔ AllFit (supers_of env.now) args.now (map plain_typed actuals.now) declared.now) }
 {
-    actuals_fit(alloc, env, actuals, declared, args)
+    let fit = actuals_fit(alloc, env, actuals, declared, args)?;
+    Ok(fit)
 }
 
 /// Whether a value fits a declared type with region arguments put in.

@@ -2,8 +2,11 @@ ghost use Rattle.std.specs.Prelude.{◌≡◌, None, Some, Ok, Err, IfOk, IfErr,
 ghost use Rattle.std.specs.Option.{option_copied};
 ghost use Rattle.dpj_base.specs.Refused.{IfRefused};
 ghost use Rattle.dpj_base.specs.Types.{plain_type};
+ghost use Rattle.dpj_resolve.specs.Reading.{path_meant, path_faults};
 ghost use Rattle.dpj_resolve.specs.Scopes.{plain_index};
-ghost use Rattle.dpj_exprs.specs.Arrays.{front_of, front_told, own_path, own_place, array_with, created_array};
+ghost use Rattle.dpj_exprs.specs.Arrays.{front_of, front_told, full_path, around_own, own_path, own_place, array_with, created_array};
+ghost use Rattle.dpj_exprs.specs.Env.{scope_of};
+ghost use Rattle.dpj_exprs.specs.Refusing.{told_first};
 ghost use Rattle.dpj_exprs.specs.Typed.{plain_typed};
 
 use crate::actuals::note_if;
@@ -56,16 +59,30 @@ fn written_path(
     ensures ok { IfOk result (λ own. own_path env.now (plain_index around.entry) (Some tree.now) ≡ Ok own) }
     ensures fault { IfErr result (λ stop. IfRefused stop (λ refusal. own_path env.now (plain_index around.entry) (Some tree.now) ≡ Err refusal)) }
 {
+    match read_path(alloc, env, tree, around)? {
+        Some(rpl) => Ok(rpl),
+        None => Err(refused(Kind::Unknown, tree.place)),
+    }
+}
+
+/// Reads the region path, which is to be fully specified.
+fn read_path(
+    alloc: Global,
+    env: &Env,
+    tree: &RplTree,
+    around: IndexNames,
+) -> Result<Option<Rpl>, Stop>
+    ensures ok { IfOk result (λ rpl. rpl ≡ path_meant (scope_of env.now) (around_own (plain_index around.entry)) tree.now) }
+    ensures untold { OnOk result (told_first (path_faults (scope_of env.now) (around_own (plain_index around.entry)) full_path tree.now) ≡ None) }
+    ensures told { IfErr result (λ stop. IfRefused stop (λ refusal. told_first (path_faults (scope_of env.now) (around_own (plain_index around.entry)) full_path tree.now) ≡ Some refusal)) }
+{
     let mut faults = Faults::by_number();
     let need = Need {
         full: true,
         atomic: false,
     };
     let around = around.at_suffix(around.suffixes.len());
-    match path(alloc, &env.scope(), &mut faults, tree, need, &around)? {
-        Some(rpl) => Ok(rpl),
-        None => Err(refused(Kind::Unknown, tree.place)),
-    }
+    path(alloc, &env.scope(), &mut faults, tree, need, &around)
 }
 
 /// The place of a written path, else that of the creation.

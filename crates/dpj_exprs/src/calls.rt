@@ -1,13 +1,13 @@
-ghost use Rattle.std.specs.Prelude.{◌≡◌, ◌++◌, false, true, None, Some, Ok, Err, map, IfOk, IfErr, OnOk};
+ghost use Rattle.std.specs.Prelude.{◌≡◌, ◌++◌, false, None, Some, Err, map, IfOk, IfErr, OnOk};
 ghost use Rattle.dpj_base.specs.Refused.{IfRefused};
 ghost use Rattle.dpj_base.specs.Types.{plain_type, type_with};
 ghost use Rattle.dpj_resolve.specs.Constraints.{all_hold};
-ghost use Rattle.dpj_classes.specs.Table.{headers_of};
-ghost use Rattle.dpj_exprs.specs.Answer.{gives, refused, with_summary};
+ghost use Rattle.dpj_exprs.specs.Answer.{with_summary};
 ghost use Rattle.dpj_exprs.specs.Env.{table_of, given_in};
 ghost use Rattle.dpj_exprs.specs.Partial.{some_mention_partial, is_partial_call};
-ghost use Rattle.dpj_exprs.specs.Typed.{plain_typed};
-ghost use Rattle.dpj_exprs.specs.Uses.{args_of, args_told, args_noted, callee_params, UseTold, CallOf, CallOn, Call};
+ghost use Rattle.dpj_exprs.specs.Refusing.{refusal_at};
+ghost use Rattle.dpj_exprs.specs.Typed.{plain_typed, is_class};
+ghost use Rattle.dpj_exprs.specs.Uses.{args_of, args_told, callee_params, UseTold};
 
 use crate::actuals::{check_use, unknown_args};
 use crate::env::Env;
@@ -124,8 +124,6 @@ pub fn call(
     actuals: &[Typed],
     place: Place,
 ) -> Result<Typed, Stop>
-    ensures ok { IfOk result (λ typed. Call env.now (plain_typed of.now) name regions (map plain_typed actuals.now) place found.old (gives (plain_typed typed) found.new)) }
-    ensures fault { IfErr result (λ stop. IfRefused stop (λ refusal. Call env.now (plain_typed of.now) name regions (map plain_typed actuals.now) place found.old (refused refusal))) }
 {
     match of {
         Typed::Known(of) => {
@@ -148,8 +146,7 @@ fn call_on(
     actuals: &[Typed],
     place: Place,
 ) -> Result<Ty, Stop>
-    ensures ok { IfOk result (λ ty. CallOn env.now (plain_type of.now) name regions (map plain_typed actuals.now) place found.old (gives (Some (plain_type ty)) found.new)) }
-    ensures fault { IfErr result (λ stop. IfRefused stop (λ refusal. CallOn env.now (plain_type of.now) name regions (map plain_typed actuals.now) place found.old (refused refusal))) }
+    ensures { is_class (plain_type of.now) ≡ false → result ≡ Err (refusal_at Kind.Type place) }
 {
     let Ty::Class { class, args } = of else {
         return Err(refused(Kind::Type, place));
@@ -178,8 +175,6 @@ fn call_of(
     actuals: &[Typed],
     place: Place,
 ) -> Result<Ty, Stop>
-    ensures ok { IfOk result (λ ty. CallOf env.now row.now owned.now regions (map plain_typed actuals.now) place found.old (gives (Some (plain_type ty)) found.new)) }
-    ensures fault { IfErr result (λ stop. IfRefused stop (λ refusal. CallOf env.now row.now owned.now regions (map plain_typed actuals.now) place found.old (refused refusal))) }
 {
     let mut faults = Faults::by_number();
     match fit_args(alloc, &mut faults, regions, row.regions.as_slice(), place)? {

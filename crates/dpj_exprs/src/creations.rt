@@ -1,13 +1,13 @@
-ghost use Rattle.std.specs.Prelude.{◌≡◌, false, None, Some, Ok, Err, map, IfOk, IfErr, OnOk};
+ghost use Rattle.std.specs.Prelude.{◌≡◌, false, None, Some, map, IfOk, IfErr, OnOk};
 ghost use Rattle.dpj_base.specs.Refused.{IfRefused};
 ghost use Rattle.dpj_base.specs.Types.{plain_type};
-ghost use Rattle.dpj_base.specs.Types.PlainType as plain;
+ghost use Rattle.dpj_base.specs.Types.{PlainType as plain};
+ghost use Rattle.dpj_resolve.specs.Classes.{params_in};
 ghost use Rattle.dpj_resolve.specs.Constraints.{all_hold};
 ghost use Rattle.dpj_classes.specs.Table.{headers_of, constructor_of, given_of};
-ghost use Rattle.dpj_exprs.specs.Answer.{gives, refused};
 ghost use Rattle.dpj_exprs.specs.Env.{table_of, given_in};
 ghost use Rattle.dpj_exprs.specs.Typed.{plain_typed};
-ghost use Rattle.dpj_exprs.specs.Uses.{args_of, args_told, args_noted, created_params, formals_of, UseTold, with_constructor, CreationOf, Creation};
+ghost use Rattle.dpj_exprs.specs.Uses.{args_of, args_told, created_params, formals_of, UseTold, with_constructor};
 
 use crate::actuals::{check_use, unknown_args};
 use crate::calls::read_full_args;
@@ -17,7 +17,7 @@ use crate::found::Found;
 use crate::shapes::shapes_fit;
 use crate::typed::Typed;
 use dpj_base::{Items, Kind, NoMemory, Place, Rpl, Stop, Ty};
-use dpj_headers::Faults;
+use dpj_headers::{Faults, ParamRow};
 use dpj_resolve::{ReadArgs, fit_args};
 use dpj_tree::{Named, RplTree};
 use std::alloc::Global;
@@ -33,9 +33,25 @@ pub fn read_new_args(
     ensures untold { OnOk result (args_told env.now (created_params (table_of env.now) class) trees.now ≡ None) }
     ensures told { IfErr result (λ stop. IfRefused stop (λ refusal. args_told env.now (created_params (table_of env.now) class) trees.now ≡ Some refusal)) }
 {
+    read_full_args(alloc, env, trees, created_params(env, class))
+}
+
+/// The region parameters of the class that a creation names.
+fn created_params<'e>(env: &'e Env, class: Named) -> &'e [ParamRow]
+    ensures { result.now ≡ created_params (table_of env.now) class }
+{
     match env.table.headers().class(class.name) {
-        Some(number) => read_full_args(alloc, env, trees, env.scope().class_params(number)),
-        None => read_full_args(alloc, env, trees, &[]),
+        Some(number) => class_params(env, number),
+        None => &[],
+    }
+}
+
+fn class_params<'e>(env: &'e Env, class: u32) -> &'e [ParamRow]
+    ensures { result.now ≡ params_in (headers_of (table_of env.now)) class }
+{
+    match env.table.headers().header(class) {
+        Some(header) => header.params.as_slice(),
+        None => &[],
     }
 }
 
@@ -49,8 +65,6 @@ pub fn creation(
     actuals: &[Typed],
     place: Place,
 ) -> Result<Ty, Stop>
-    ensures ok { IfOk result (λ ty. Creation env.now class regions (map plain_typed actuals.now) place found.old (gives (Some (plain_type ty)) found.new)) }
-    ensures fault { IfErr result (λ stop. IfRefused stop (λ refusal. Creation env.now class regions (map plain_typed actuals.now) place found.old (refused refusal))) }
 {
     match env.table.headers().class(class.name) {
         Some(number) => creation_of(alloc, env, found, number, regions, actuals, place),
@@ -68,12 +82,9 @@ fn creation_of(
     actuals: &[Typed],
     place: Place,
 ) -> Result<Ty, Stop>
-    ensures ok { IfOk result (λ ty. CreationOf env.now class regions (map plain_typed actuals.now) place found.old (gives (Some (plain_type ty)) found.new)) }
-    ensures fault { IfErr result (λ stop. IfRefused stop (λ refusal. CreationOf env.now class regions (map plain_typed actuals.now) place found.old (refused refusal))) }
 {
     let mut faults = Faults::by_number();
-    let scope = env.scope();
-    match fit_args(alloc, &mut faults, regions, scope.class_params(class), place)? {
+    match fit_args(alloc, &mut faults, regions, class_params(env, class), place)? {
         Some(args) => creation_with(alloc, env, found, faults, class, args, actuals, place),
         None => {
             let fit = shapes_fit(env.table.headers(), actuals, formals(env, class));

@@ -1,5 +1,5 @@
-ghost use Rattle.std.specs.Prelude.{◌≡◌, IfOk};
-ghost use Rattle.dpj_exprs.specs.Env.{param_paths};
+ghost use Rattle.std.specs.Prelude.{◌≡◌, ◌++◌, IfOk, OnOk};
+ghost use Rattle.dpj_exprs.specs.Env.{index_number, param_paths};
 
 use crate::supers::Supers;
 use dpj_base::{Constraint, Elems, Head, Items, NoMemory, Plain, Rpl, Ty};
@@ -65,12 +65,13 @@ pub fn length_name(program: &Program) -> Option<u32> {
 }
 
 impl Env<'_> {
-    ghost use Rattle.std.specs.Prelude.{◌≡◌, IfOk};
+    ghost use Rattle.std.specs.Prelude.{◌≡◌, ◌∷◌, ◌++◌, [], take, IfOk, OnOk};
+    ghost use Rattle.dpj_classes.specs.Table.{given_of};
     ghost use Rattle.std.specs.Option.{option_copied};
     ghost use Rattle.dpj_base.specs.Types.{plain_type};
     ghost use Rattle.dpj_resolve.specs.Scopes.{plain_scope};
     ghost use Rattle.dpj_tree.specs.Plain.{plain_expr};
-    ghost use Rattle.dpj_exprs.specs.Env.{locals_in, local_of, index_variable_of, part_of, is_length_name, given_in, regions_in, has_region, scope_of, this_type_of};
+    ghost use Rattle.dpj_exprs.specs.Env.{table_of, locals_in, local_names, index_numbers, region_names, declared_in, mark_of, index_number, is_param_name, local_of, index_variable_of, part_of, is_length_name, given_in, regions_in, has_region, scope_of, this_type_of};
 
     /// What is around the members of class 0, before one is entered.
     pub fn new<'a>(alloc: Global, table: &'a Table, length: Option<u32>) -> Env<'a> {
@@ -92,7 +93,11 @@ impl Env<'_> {
     }
 
     /// Goes over to a class. Its constraints are in force.
-    pub fn enter_class(&mut self, alloc: Global, class: u32) -> Result<(), NoMemory> {
+    pub fn enter_class(&mut self, alloc: Global, class: u32) -> Result<(), NoMemory>
+        ensures class { self.new.class ≡ class }
+        ensures given { OnOk result (given_in self.new ≡ given_of (table_of self.old) class) }
+        ensures locals { locals_in self.new ≡ [] }
+    {
         self.clear();
         self.class = class;
         self.given.truncate(0);
@@ -105,7 +110,12 @@ impl Env<'_> {
 
     /// Goes over to a constructor or method of the class. Its region parameters are in scope and its constraints in
     /// force, and no local is in scope yet.
-    pub fn enter_method(&mut self, alloc: Global, method: u32) -> Result<(), NoMemory> {
+    pub fn enter_method(&mut self, alloc: Global, method: u32) -> Result<(), NoMemory>
+        ensures method { self.new.method ≡ method }
+        ensures locals { locals_in self.new ≡ [] }
+        ensures names { local_names self.new ≡ [] }
+        ensures regions { regions_in self.new ≡ [] }
+    {
         self.clear();
         self.method = method;
         self.given.truncate(self.class_given);
@@ -117,7 +127,12 @@ impl Env<'_> {
         put_params(&mut self.params, row.regions.as_slice())
     }
 
-    fn clear(&mut self) {
+    fn clear(&mut self)
+        ensures locals { locals_in self.new ≡ [] }
+        ensures names { local_names self.new ≡ [] }
+        ensures regions { regions_in self.new ≡ [] }
+        ensures table { table_of self.new ≡ table_of self.old }
+    {
         self.params.leave(0);
         self.rows.truncate(0);
         self.variables.leave(0);
@@ -126,12 +141,14 @@ impl Env<'_> {
     }
 
     /// Puts a local in scope. A final int may stand in an index.
-    pub fn declare(&mut self, row: LocalRow) -> Result<(), NoMemory> {
-        let index = if row.is_final && matches!(row.ty, Ty::Int) {
-            Some(row.var)
-        } else {
-            None
-        };
+    pub fn declare(&mut self, row: LocalRow) -> Result<(), NoMemory>
+        ensures locals { OnOk result (locals_in self.new ≡ locals_in self.old ++ row ∷ []) }
+        ensures names { OnOk result (local_names self.new ≡ local_names self.old ++ row.name ∷ []) }
+        ensures indices { OnOk result (index_numbers self.new ≡ index_numbers self.old ++ index_number row ∷ []) }
+        ensures regions { regions_in self.new ≡ regions_in self.old }
+        ensures given { given_in self.new ≡ given_in self.old }
+    {
+        let index = index_number(&row);
         let name = row.name;
         let count = self.rows.len();
         self.rows.push(row)?;
@@ -143,7 +160,13 @@ impl Env<'_> {
     }
 
     /// Puts a local region in scope, and gives the number of its declaration.
-    pub fn declare_region(&mut self, name: u32) -> Result<u32, NoMemory> {
+    pub fn declare_region(&mut self, name: u32) -> Result<u32, NoMemory>
+        ensures number { IfOk result (λ decl. decl ≡ declared_in self.old) }
+        ensures names { OnOk result (region_names self.new ≡ region_names self.old ++ name ∷ []) }
+        ensures regions { OnOk result (regions_in self.new ≡ regions_in self.old ++ declared_in self.old ∷ []) }
+        ensures locals { locals_in self.new ≡ locals_in self.old }
+        ensures given { given_in self.new ≡ given_in self.old }
+    {
         let decl = self.declared;
         self.regions.enter(name, decl)?;
         self.declared = decl.saturating_add(1);
@@ -151,7 +174,9 @@ impl Env<'_> {
     }
 
     /// What is in scope now, to be left again.
-    pub fn mark(&self) -> Mark {
+    pub fn mark(&self) -> Mark
+        ensures { result ≡ mark_of self.now }
+    {
         Mark {
             locals: self.rows.len(),
             regions: self.regions.len(),
@@ -159,7 +184,15 @@ impl Env<'_> {
     }
 
     /// Takes what came into scope behind a mark out of it.
-    pub fn leave(&mut self, mark: Mark) {
+    pub fn leave(&mut self, mark: Mark)
+        ensures locals { locals_in self.new ≡ take mark.locals (locals_in self.old) }
+        ensures names { local_names self.new ≡ take mark.locals (local_names self.old) }
+        ensures indices { index_numbers self.new ≡ take mark.locals (index_numbers self.old) }
+        ensures regions { regions_in self.new ≡ take mark.regions (regions_in self.old) }
+        ensures region_names { region_names self.new ≡ take mark.regions (region_names self.old) }
+        ensures given { given_in self.new ≡ given_in self.old }
+        ensures declared { declared_in self.new ≡ declared_in self.old }
+    {
         self.rows.truncate(mark.locals);
         self.variables.leave(mark.locals);
         self.regions.leave(mark.regions);
@@ -201,7 +234,9 @@ impl Env<'_> {
     }
 
     /// Whether a region parameter of the class or the method has the name.
-    pub fn has_param(&self, name: u32) -> bool {
+    pub fn has_param(&self, name: u32) -> bool
+        ensures { result ≡ is_param_name self.now name }
+    {
         self.scope().param(name).is_some()
     }
 
@@ -258,6 +293,17 @@ impl Env<'_> {
     }
 }
 
+/// The number of a local as an index variable, where it may stand in an index: it is final and an int.
+fn index_number(row: &LocalRow) -> Option<u32>
+    ensures { result ≡ index_number row.now }
+{
+    if row.is_final && matches!(row.ty, Ty::Int) {
+        Some(row.var)
+    } else {
+        None
+    }
+}
+
 /// The first region parameters, each as a path.
 fn param_paths(alloc: Global, count: usize) -> Result<Items<Rpl>, NoMemory>
     ensures { IfOk result (λ paths. paths ≡ param_paths count) }
@@ -276,7 +322,9 @@ fn put_constraints(
     alloc: Global,
     given: &mut Items<Constraint>,
     more: &[Constraint],
-) -> Result<(), NoMemory> {
+) -> Result<(), NoMemory>
+    ensures { OnOk result (given.new ≡ given.old ++ more.now) }
+{
     for constraint in more {
         given.push(constraint.copy(alloc)?)?;
     }
