@@ -1,2 +1,5 @@
-mod Actuals
+pub mod Fitted
 mod Noted
+pub mod Own
+pub mod Shaping
+pub mod Telling

@@ -2,5 +2,12 @@ pub mod Refusing
 pub mod Typed
 pub mod Operations
 pub mod Partial
-pub mod Elements
+pub mod Env
 pub mod Found
+pub mod Answer
+pub mod Fields
+pub mod Elements
+pub mod Shapes
+pub mod Uses
+pub mod Arrays
+pub mod Locals

@@ -1,31 +1,31 @@
 -- The types that operations take and give.
-use Rattle.std.specs.Prelude.{Bool, ◌&&◌, ◌||◌}
+use Rattle.std.specs.Prelude.{Bool, ◌&&◌, ◌||◌, Option}
 use Rattle.dpj_base.specs.Types.{PlainType}
 use Rattle.dpj_base.specs.Types.PlainType.{int, boolean}
 use Rattle.dpj_tree.specs.declared.expr.BinaryOp.{BinaryOp}
 use Rattle.dpj_tree.specs.declared.expr.BinaryOp.TheVariants.{Or, And, Eq, Ne, Lt, Le, Gt, Ge, Add, Sub, Mul, Div, Rem}
 use Rattle.dpj_tree.specs.declared.expr.UnaryOp.{UnaryOp}
 use Rattle.dpj_tree.specs.declared.expr.UnaryOp.TheVariants.{Neg, Not}
-use Rattle.dpj_exprs.specs.declared.typed.Typed.{Typed}
-use Rattle.dpj_exprs.specs.Typed.{passes, is_int, is_boolean, is_reference}
+use Rattle.dpj_exprs.specs.Typed.{may_be, is_int, is_boolean, is_reference}
 
-abbrev pub unary_takes : UnaryOp → Typed → Bool
-unary_takes Neg t = passes is_int t
-unary_takes Not t = passes is_boolean t
+-- the operation takes an operand of this type
+abbrev pub unary_takes : UnaryOp → Option PlainType → Bool
+unary_takes Neg t = may_be is_int t
+unary_takes Not t = may_be is_boolean t
 
 abbrev pub unary_gives : UnaryOp → PlainType
 unary_gives Neg = int
 unary_gives Not = boolean
 
-abbrev pub both : (PlainType → Bool) → Typed → Typed → Bool
-both test t u = passes test t && passes test u
+abbrev pub both : (PlainType → Bool) → Option PlainType → Option PlainType → Bool
+both test t u = may_be test t && may_be test u
 
 -- two ints, two booleans, or two values that may be null
-abbrev pub comparable : Typed → Typed → Bool
+abbrev pub comparable : Option PlainType → Option PlainType → Bool
 comparable t u = both is_int t u || both is_boolean t u || both is_reference t u
 
 -- the operation takes operands of these types
-abbrev pub binary_takes : BinaryOp → Typed → Typed → Bool
+abbrev pub binary_takes : BinaryOp → Option PlainType → Option PlainType → Bool
 binary_takes Or t u = both is_boolean t u
 binary_takes And t u = both is_boolean t u
 binary_takes Eq t u = comparable t u

@@ -1,8 +1,16 @@
--- A refusal as what stops a pass.
+-- Refusals: as what stops a pass, and the one of several faults that is told.
+use Rattle.std.specs.Prelude.{List, Option}
 use Rattle.dpj_base.specs.declared.place.Place.{Place}
 use Rattle.dpj_base.specs.declared.refusal.Kind.{Kind}
+use Rattle.dpj_base.specs.declared.refusal.Refusal.{Refusal}
 use Rattle.dpj_base.specs.declared.refusal.Stop.{Stop}
 use Rattle.dpj_base.specs.declared.refusal.Stop.TheVariants.{Refused}
+use Rattle.dpj_headers.specs.declared.faults.Order.TheVariants as order
+use Rattle.dpj_headers.specs.Faults.{told, none_by, all_noted}
 
 abbrev pub refusal_at : Kind → Place → Stop
 refusal_at kind place = Refused (record { kind = kind; place = place })
+
+-- of the faults of one expression the one with the lowest number is told, at one number the first in the text
+abbrev pub told_first : List Refusal → Option Refusal
+told_first faults = told (all_noted (none_by order.Number) faults)

@@ -1,5 +1,5 @@
 -- What is known of the types of expressions, and where they fit.
-use Rattle.std.specs.Prelude.{◌≡◌, ℕ, ◌<◌, Bool, true, false, List, length, slice_index_or, Option, Some, None}
+use Rattle.std.specs.Prelude.{◌≡◌, ℕ, ◌<◌, Bool, true, false, List, [], ◌∷◌, length, slice_index_or, Option, Some, None}
 use Rattle.dpj_base.specs.declared.ty.Ty.{Ty}
 use Rattle.dpj_base.specs.declared.ty.Super.{Super}
 use Rattle.dpj_base.specs.declared.region.Rpl.{Rpl}
@@ -12,10 +12,18 @@ abbrev pub known : Typed → Option Ty
 known (Known t) = Some t
 known Any = None
 
+-- the type of an expression, which has none where it fits everywhere
+abbrev pub plain_typed : Typed → Option PlainType
+plain_typed (Known t) = Some (plain_type t)
+plain_typed Any = None
+
 -- the type passes the test; what fits everywhere passes every test
+abbrev pub may_be : (PlainType → Bool) → Option PlainType → Bool
+may_be test (Some t) = test t
+may_be test None = true
+
 abbrev pub passes : (PlainType → Bool) → Typed → Bool
-passes test (Known t) = test (plain_type t)
-passes test Any = true
+passes test t = may_be test (plain_typed t)
 
 abbrev pub is_int : PlainType → Bool
 is_int int = true
@@ -36,16 +44,30 @@ abbrev pub is_value : PlainType → Bool
 is_value void = false
 is_value t = true
 
+abbrev pub is_array : PlainType → Bool
+is_array (array elem rpl index) = true
+is_array t = false
+
 abbrev pub is_class : PlainType → Bool
 is_class (class c args) = true
 is_class t = false
 
 -- a value may stand where the type is declared
+abbrev pub FitsAs : List Super → Option PlainType → PlainType → Type 0
+FitsAs supers (Some t) declared = Subtype supers t declared
+FitsAs supers None declared = Unit {0}
+
 abbrev pub Fits : List Super → Typed → PlainType → Type 0
-Fits supers (Known t) declared = Subtype supers (plain_type t) declared
-Fits supers Any declared = Unit {0}
+Fits supers t declared = FitsAs supers (plain_typed t) declared
 
 -- as many values as declared types, each of which fits the one at its place with region arguments put in
+abbrev pub AllFit : List Super → List Rpl → List (Option PlainType) → List Ty → Type 0
+AllFit supers args [] [] = Unit {0}
+AllFit supers args [] (t ∷ declared) = ⊥
+AllFit supers args (v ∷ values) [] = ⊥
+AllFit supers args (v ∷ values) (t ∷ declared) = FitsAs supers v (type_with args (plain_type t)) × AllFit supers args values declared
+
+-- the same by their places
 abbrev pub ActualsFit : List Super → List Rpl → List Typed → List Ty → Type 0
 ActualsFit supers args values declared =
     (length values ≡ length declared)

@@ -1,30 +1,27 @@
-ghost use Rattle.std.specs.Prelude.{◌≡◌, ◌↔◌, false, Err, IsTrue, IfOk};
+ghost use Rattle.std.specs.Prelude.{◌≡◌, ◌++◌, false, None, Some, Err, map, IfOk, IfErr, OnOk};
+ghost use Rattle.dpj_base.specs.Refused.{IfRefused};
 ghost use Rattle.dpj_base.specs.Types.{plain_type, type_with};
+ghost use Rattle.dpj_resolve.specs.Constraints.{all_hold};
+ghost use Rattle.dpj_exprs.specs.Answer.{with_summary};
+ghost use Rattle.dpj_exprs.specs.Env.{table_of, given_in};
 ghost use Rattle.dpj_exprs.specs.Partial.{some_mention_partial, is_partial_call};
 ghost use Rattle.dpj_exprs.specs.Refusing.{refusal_at};
-ghost use Rattle.dpj_exprs.specs.Typed.{is_class, Fits, ActualsFit};
+ghost use Rattle.dpj_exprs.specs.Typed.{plain_typed, is_class};
+ghost use Rattle.dpj_exprs.specs.Uses.{args_of, args_told, callee_params, UseTold};
 
+use crate::actuals::{check_use, unknown_args};
 use crate::env::Env;
-use crate::fitting::{fits, may_fit, mentions_partial, refused, rigid_in_partial};
+use crate::fitting::{mentions_partial, refused, rigid_in_partial};
 use crate::found::Found;
+use crate::shapes::shapes_fit;
 use crate::typed::Typed;
 use dpj_base::{Items, Kind, NoMemory, Place, Plain, Rpl, Stop, Ty};
 use dpj_classes::MethodRow;
 use dpj_headers::{Faults, ParamRow};
-use dpj_resolve::{IndexNames, ReadArgs, constraints_hold, fit_args, read_args};
+use dpj_resolve::{IndexNames, ReadArgs, fit_args, read_args};
 use dpj_tree::RplTree;
 use dpj_types::subst_type;
 use std::alloc::Global;
-
-/// No index names: what is around a path that stands in no array type.
-pub fn no_index_names<'a>() -> IndexNames<'a> {
-    IndexNames {
-        node: 0,
-        suffixes: &[],
-        inside: 0,
-        made: None,
-    }
-}
 
 /// Reads region arguments that are to be fully specified.
 pub fn read_full_args(
@@ -32,8 +29,13 @@ pub fn read_full_args(
     env: &Env,
     trees: &[RplTree],
     params: &[ParamRow],
-) -> Result<ReadArgs, Stop> {
+) -> Result<ReadArgs, Stop>
+    ensures ok { IfOk result (λ args. args ≡ args_of env.now trees.now) }
+    ensures untold { OnOk result (args_told env.now params.now trees.now ≡ None) }
+    ensures told { IfErr result (λ stop. IfRefused stop (λ refusal. args_told env.now params.now trees.now ≡ Some refusal)) }
+{
     let mut faults = Faults::by_number();
+    let around = IndexNames::none();
     read_args(
         alloc,
         &env.scope(),
@@ -41,7 +43,7 @@ pub fn read_full_args(
         trees,
         params,
         true,
-        &no_index_names(),
+        &around,
     )
 }
 
@@ -52,86 +54,24 @@ pub fn read_call_args(
     of: &Typed,
     name: u32,
     trees: &[RplTree],
-) -> Result<ReadArgs, Stop> {
-    match callee(env, of, name) {
-        Some(row) => read_full_args(alloc, env, trees, row.regions.as_slice()),
-        None => read_full_args(alloc, env, trees, &[]),
-    }
-}
-
-/// The method of that name in the class of the receiver.
-fn callee<'e>(env: &'e Env, of: &Typed, name: u32) -> Option<&'e MethodRow> {
-    match of {
-        Typed::Known(Ty::Class { class, .. }) => env.table.method(*class, name),
-        _ => None,
-    }
-}
-
-/// Notes a fault where the values don't fit the declared types with region arguments put in.
-pub fn check_actuals(
-    alloc: Global,
-    env: &Env,
-    faults: &mut Faults,
-    actuals: &[Typed],
-    declared: &[Ty],
-    args: &[Rpl],
-    place: Place,
-) -> Result<(), NoMemory> {
-    if !actuals_fit(alloc, env, actuals, declared, args)? {
-        faults.note(Kind::Type, place);
-    }
-    Ok(())
-}
-
-/// Whether a value fits a declared type with region arguments put in.
-fn fits_with(
-    alloc: Global,
-    env: &Env,
-    value: &Typed,
-    declared: &Ty,
-    args: &[Rpl],
-) -> Result<bool, NoMemory>
-    ensures { IfOk result (λ fit. IsTrue fit ↔ Fits env.now.supers.rows.now value.now (type_with args.now (plain_type declared.now))) }
+) -> Result<ReadArgs, Stop>
+    ensures ok { IfOk result (λ args. args ≡ args_of env.now trees.now) }
+    ensures untold { OnOk result (args_told env.now (callee_params (table_of env.now) (plain_typed of.now) name) trees.now ≡ None) }
+    ensures told { IfErr result (λ stop. IfRefused stop (λ refusal. args_told env.now (callee_params (table_of env.now) (plain_typed of.now) name) trees.now ≡ Some refusal)) }
 {
-    fits(alloc, env, value, &subst_type(alloc, declared, args)?)
+    read_full_args(alloc, env, trees, callee_params(env, of, name))
 }
 
-/// Whether there are as many values as declared types, and each fits the one at its place.
-fn actuals_fit(
-    alloc: Global,
-    env: &Env,
-    actuals: &[Typed],
-    declared: &[Ty],
-    args: &[Rpl],
-) -> Result<bool, NoMemory>
-    ensures { IfOk result (λ fit. IsTrue fit ↔ ActualsFit env.now.supers.rows.now args.now actuals.now declared.now) }
+/// The region parameters of the method that a call names.
+fn callee_params<'e>(env: &'e Env, of: &Typed, name: u32) -> &'e [ParamRow]
+    ensures { result.now ≡ callee_params (table_of env.now) (plain_typed of.now) name }
 {
-    if actuals.len() != declared.len() {
-        return Ok(false);
-    }
-    for i in 0..actuals.len() {
-        if !fits_with(alloc, env, &actuals[i], &declared[i], args)? {
-            return Ok(false);
-        }
-    }
-    Ok(true)
-}
-
-/// The same where the region arguments aren't known: a value is a fault that fits for no regions.
-pub fn check_shapes(
-    env: &Env,
-    faults: &mut Faults,
-    actuals: &[Typed],
-    declared: &[Ty],
-    place: Place,
-) {
-    let headers = env.table.headers();
-    let mut fit = actuals.len() == declared.len();
-    for (value, ty) in actuals.iter().zip(declared.iter()) {
-        fit = fit && may_fit(headers, value, ty);
-    }
-    if !fit {
-        faults.note(Kind::Type, place);
+    let Typed::Known(Ty::Class { class, .. }) = of else {
+        return &[];
+    };
+    match env.table.method(*class, name) {
+        Some(row) => row.regions.as_slice(),
+        None => &[],
     }
 }
 
@@ -155,18 +95,25 @@ fn some_mention_partial(types: &[Ty], owned: &[Rpl]) -> bool
 }
 
 /// The receiver's region arguments, and behind them those of the call.
-fn joined(alloc: Global, owned: &[Rpl], regions: Items<Rpl>) -> Result<Items<Rpl>, NoMemory> {
+fn joined(alloc: Global, owned: &[Rpl], regions: &[Rpl]) -> Result<Items<Rpl>, NoMemory>
+    ensures { IfOk result (λ args. args ≡ owned.now ++ regions.now) }
+{
     let mut args = Items::new(alloc);
-    for rpl in owned {
-        args.push(rpl.copy(alloc)?)?;
-    }
-    for rpl in regions.into_vec() {
-        args.push(rpl)?;
-    }
+    put_copies(alloc, &mut args, owned)?;
+    put_copies(alloc, &mut args, regions)?;
     Ok(args)
 }
 
-/// The type of a call whose parts are read.
+fn put_copies(alloc: Global, paths: &mut Items<Rpl>, more: &[Rpl]) -> Result<(), NoMemory>
+    ensures { OnOk result (paths.new ≡ paths.old ++ more.now) }
+{
+    for path in more {
+        paths.push(path.copy(alloc)?)?;
+    }
+    Ok(())
+}
+
+/// The type of a call whose parts are read. On what fits everywhere the call does.
 pub fn call(
     alloc: Global,
     env: &Env,
@@ -176,7 +123,8 @@ pub fn call(
     regions: ReadArgs,
     actuals: &[Typed],
     place: Place,
-) -> Result<Typed, Stop> {
+) -> Result<Typed, Stop>
+{
     match of {
         Typed::Known(of) => {
             let ty = call_on(alloc, env, found, of, name, regions, actuals, place)?;
@@ -209,19 +157,11 @@ fn call_on(
     let owned = env
         .table
         .args_at(alloc, *class, args.as_slice(), row.owner)?;
-    match owned {
-        Some(owned) => call_of(
-            alloc,
-            env,
-            found,
-            row,
-            owned.as_slice(),
-            regions,
-            actuals,
-            place,
-        ),
-        None => Err(refused(Kind::Type, place)),
-    }
+    let Some(owned) = owned else {
+        return Err(refused(Kind::Type, place));
+    };
+    let owned = owned.as_slice();
+    call_of(alloc, env, found, row, owned, regions, actuals, place)
 }
 
 /// The type of a call of a method. The class that declares it has the region arguments `owned`.
@@ -234,53 +174,52 @@ fn call_of(
     regions: ReadArgs,
     actuals: &[Typed],
     place: Place,
-) -> Result<Ty, Stop> {
+) -> Result<Ty, Stop>
+{
     let mut faults = Faults::by_number();
-    let regions = fit_args(alloc, &mut faults, regions, row.regions.as_slice(), place)?;
-    let Some(regions) = regions else {
-        check_shapes(env, &mut faults, actuals, row.params.as_slice(), place);
-        faults.settle()?;
-        return Err(refused(Kind::RegionArgs, place));
-    };
-    if is_partial(row, owned) {
-        faults.note(Kind::PartialWrite, place);
+    match fit_args(alloc, &mut faults, regions, row.regions.as_slice(), place)? {
+        Some(regions) => {
+            let args = joined(alloc, owned, regions.as_slice())?;
+            let partial = is_partial(row, owned);
+            let args = args.as_slice();
+            call_with(alloc, env, found, faults, row, args, partial, actuals, place)
+        }
+        None => {
+            let fit = shapes_fit(env.table.headers(), actuals, row.params.as_slice());
+            Err(unknown_args(faults, fit, place))
+        }
     }
-    let args = joined(alloc, owned, regions)?;
-    check_call(
-        alloc,
-        env,
-        &mut faults,
-        row,
-        args.as_slice(),
-        actuals,
-        place,
-    )?;
-    faults.settle()?;
-    found.summary(alloc, &row.summary, args.as_slice())?;
-    Ok(subst_type(alloc, &row.result, args.as_slice())?)
 }
 
-/// Notes what is wrong with the actuals, and where a constraint of the method doesn't hold.
-fn check_call(
+/// The type of a call of a method with region arguments, through a receiver that may be partial. Faults may be noted
+/// already.
+fn call_with(
     alloc: Global,
     env: &Env,
-    faults: &mut Faults,
+    found: &mut Found,
+    faults: Faults,
     row: &MethodRow,
     args: &[Rpl],
+    partial: bool,
     actuals: &[Typed],
     place: Place,
-) -> Result<(), NoMemory> {
-    check_actuals(
+) -> Result<Ty, Stop>
+    ensures untold { OnOk result (UseTold env.now faults args.now (map plain_typed actuals.now) row.now.params partial (all_hold (given_in env.now) args.now row.now.given) place None) }
+    ensures ty { IfOk result (λ ty. plain_type ty ≡ type_with args.now (plain_type row.now.result)) }
+    ensures found { OnOk result (found.new ≡ with_summary found.old row.now.summary args.now) }
+    ensures fault { IfErr result (λ stop. IfRefused stop (λ refusal. UseTold env.now faults args.now (map plain_typed actuals.now) row.now.params partial (all_hold (given_in env.now) args.now row.now.given) place (Some refusal))) }
+{
+    check_use(
         alloc,
         env,
         faults,
+        args,
         actuals,
         row.params.as_slice(),
-        args,
+        row.given.as_slice(),
+        partial,
         place,
     )?;
-    if !constraints_hold(alloc, row.given.as_slice(), args, env.given())? {
-        faults.note(Kind::Constraint, place);
-    }
-    Ok(())
+    found.summary(alloc, &row.summary, args)?;
+    Ok(subst_type(alloc, &row.result, args)?)
 }

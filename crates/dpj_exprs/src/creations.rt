@@ -1,14 +1,25 @@
-use crate::calls::{check_actuals, check_shapes, no_index_names, read_full_args};
+ghost use Rattle.std.specs.Prelude.{◌≡◌, false, None, Some, map, IfOk, IfErr, OnOk};
+ghost use Rattle.dpj_base.specs.Refused.{IfRefused};
+ghost use Rattle.dpj_base.specs.Types.{plain_type};
+ghost use Rattle.dpj_base.specs.Types.{PlainType as plain};
+ghost use Rattle.dpj_resolve.specs.Classes.{params_in};
+ghost use Rattle.dpj_resolve.specs.Constraints.{all_hold};
+ghost use Rattle.dpj_classes.specs.Table.{headers_of, constructor_of, given_of};
+ghost use Rattle.dpj_exprs.specs.Env.{table_of, given_in};
+ghost use Rattle.dpj_exprs.specs.Typed.{plain_typed};
+ghost use Rattle.dpj_exprs.specs.Uses.{args_of, args_told, created_params, formals_of, UseTold, with_constructor};
+
+use crate::actuals::{check_use, unknown_args};
+use crate::calls::read_full_args;
 use crate::env::Env;
 use crate::fitting::refused;
 use crate::found::Found;
+use crate::shapes::shapes_fit;
 use crate::typed::Typed;
-use dpj_base::{Kind, NoMemory, Place, Rpl, Stop, Ty};
-use dpj_headers::Faults;
-use dpj_resolve::{
-    IndexNames, Need, ReadArgs, ReadType, array_made, class_made, path, read_type, root,
-};
-use dpj_tree::{BaseTree, Named, RplTree};
+use dpj_base::{Items, Kind, NoMemory, Place, Rpl, Stop, Ty};
+use dpj_headers::{Faults, ParamRow};
+use dpj_resolve::{ReadArgs, fit_args};
+use dpj_tree::{Named, RplTree};
 use std::alloc::Global;
 
 /// Reads the region arguments of the creation of an object.
@@ -17,10 +28,30 @@ pub fn read_new_args(
     env: &Env,
     class: Named,
     trees: &[RplTree],
-) -> Result<ReadArgs, Stop> {
+) -> Result<ReadArgs, Stop>
+    ensures ok { IfOk result (λ args. args ≡ args_of env.now trees.now) }
+    ensures untold { OnOk result (args_told env.now (created_params (table_of env.now) class) trees.now ≡ None) }
+    ensures told { IfErr result (λ stop. IfRefused stop (λ refusal. args_told env.now (created_params (table_of env.now) class) trees.now ≡ Some refusal)) }
+{
+    read_full_args(alloc, env, trees, created_params(env, class))
+}
+
+/// The region parameters of the class that a creation names.
+fn created_params<'e>(env: &'e Env, class: Named) -> &'e [ParamRow]
+    ensures { result.now ≡ created_params (table_of env.now) class }
+{
     match env.table.headers().class(class.name) {
-        Some(number) => read_full_args(alloc, env, trees, env.scope().class_params(number)),
-        None => read_full_args(alloc, env, trees, &[]),
+        Some(number) => class_params(env, number),
+        None => &[],
+    }
+}
+
+fn class_params<'e>(env: &'e Env, class: u32) -> &'e [ParamRow]
+    ensures { result.now ≡ params_in (headers_of (table_of env.now)) class }
+{
+    match env.table.headers().header(class) {
+        Some(header) => header.params.as_slice(),
+        None => &[],
     }
 }
 
@@ -33,145 +64,88 @@ pub fn creation(
     regions: ReadArgs,
     actuals: &[Typed],
     place: Place,
-) -> Result<Ty, Stop> {
-    let mut faults = Faults::by_number();
-    let number = env.table.headers().class(class.name);
-    let made = class_made(
-        alloc,
-        &env.scope(),
-        &mut faults,
-        class,
-        number,
-        regions,
-        place,
-    )?;
-    match (&made, number) {
-        (Some(Ty::Class { class, args }), _) => {
-            let args = args.as_slice();
-            check_constructed(alloc, env, &mut faults, *class, args, actuals, place)?;
-            faults.settle()?;
-            if let Some(row) = env.table.constructor(*class) {
-                found.summary(alloc, &row.summary, args)?;
-            }
-        }
-        (_, Some(class)) => check_constructed_shapes(env, &mut faults, class, actuals, place),
-        _ => {}
-    }
-    faults.settle()?;
-    match made {
-        Some(ty) => Ok(ty),
-        None => Err(refused(Kind::RegionArgs, place)),
+) -> Result<Ty, Stop>
+{
+    match env.table.headers().class(class.name) {
+        Some(number) => creation_of(alloc, env, found, number, regions, actuals, place),
+        None => Err(refused(Kind::Unknown, class.place)),
     }
 }
 
-/// Notes a fault where the actuals don't fit the constructor of the class; without one there are none.
-fn check_constructed(
+/// The type of the creation of an object of a class.
+fn creation_of(
     alloc: Global,
     env: &Env,
-    faults: &mut Faults,
+    found: &mut Found,
+    class: u32,
+    regions: ReadArgs,
+    actuals: &[Typed],
+    place: Place,
+) -> Result<Ty, Stop>
+{
+    let mut faults = Faults::by_number();
+    match fit_args(alloc, &mut faults, regions, class_params(env, class), place)? {
+        Some(args) => creation_with(alloc, env, found, faults, class, args, actuals, place),
+        None => {
+            let fit = shapes_fit(env.table.headers(), actuals, formals(env, class));
+            Err(unknown_args(faults, fit, place))
+        }
+    }
+}
+
+/// The same with region arguments, where faults may be noted already.
+fn creation_with(
+    alloc: Global,
+    env: &Env,
+    found: &mut Found,
+    faults: Faults,
+    class: u32,
+    args: Items<Rpl>,
+    actuals: &[Typed],
+    place: Place,
+) -> Result<Ty, Stop>
+    ensures untold { OnOk result (UseTold env.now faults args (map plain_typed actuals.now) (formals_of (table_of env.now) class) false (all_hold (given_in env.now) args (given_of (table_of env.now) class)) place None) }
+    ensures ty { IfOk result (λ ty. plain_type ty ≡ plain.class class args) }
+    ensures found { OnOk result (found.new ≡ with_constructor found.old (constructor_of (table_of env.now) class) args) }
+    ensures fault { IfErr result (λ stop. IfRefused stop (λ refusal. UseTold env.now faults args (map plain_typed actuals.now) (formals_of (table_of env.now) class) false (all_hold (given_in env.now) args (given_of (table_of env.now) class)) place (Some refusal))) }
+{
+    check_use(
+        alloc,
+        env,
+        faults,
+        args.as_slice(),
+        actuals,
+        formals(env, class),
+        env.table.given(class),
+        false,
+        place,
+    )?;
+    add_constructor(alloc, env, found, class, args.as_slice())?;
+    Ok(Ty::Class { class, args })
+}
+
+/// The formals of the constructor of a class, which without one has none.
+fn formals<'e>(env: &'e Env, class: u32) -> &'e [Ty]
+    ensures { result.now ≡ formals_of (table_of env.now) class }
+{
+    match env.table.constructor(class) {
+        Some(row) => row.params.as_slice(),
+        None => &[],
+    }
+}
+
+/// Adds the effects of the constructor, where there is one.
+fn add_constructor(
+    alloc: Global,
+    env: &Env,
+    found: &mut Found,
     class: u32,
     args: &[Rpl],
-    actuals: &[Typed],
-    place: Place,
-) -> Result<(), NoMemory> {
+) -> Result<(), NoMemory>
+    ensures { OnOk result (found.new ≡ with_constructor found.old (constructor_of (table_of env.now) class) args.now) }
+{
     match env.table.constructor(class) {
-        Some(row) => {
-            check_actuals(
-                alloc,
-                env,
-                faults,
-                actuals,
-                row.params.as_slice(),
-                args,
-                place,
-            )
-        }
-        None => check_actuals(alloc, env, faults, actuals, &[], args, place),
-    }
-}
-
-/// The same where the region arguments aren't known.
-fn check_constructed_shapes(
-    env: &Env,
-    faults: &mut Faults,
-    class: u32,
-    actuals: &[Typed],
-    place: Place,
-) {
-    match env.table.constructor(class) {
-        Some(row) => check_shapes(env, faults, actuals, row.params.as_slice(), place),
-        None => check_shapes(env, faults, actuals, &[], place),
-    }
-}
-
-/// Reads what stands in front of the length of an array creation.
-pub fn read_array(
-    alloc: Global,
-    env: &Env,
-    base: &BaseTree,
-    around: IndexNames,
-) -> Result<ReadType, Stop> {
-    let mut faults = Faults::by_number();
-    read_type(alloc, &env.scope(), &mut faults, base, around)
-}
-
-/// The region of the elements of a created array: `Root` where none is written.
-fn own_path(
-    alloc: Global,
-    env: &Env,
-    rpl: Option<&RplTree>,
-    around: IndexNames,
-) -> Result<Rpl, Stop> {
-    let Some(tree) = rpl else {
-        return Ok(root(alloc));
-    };
-    let mut faults = Faults::by_number();
-    let need = Need {
-        full: true,
-        atomic: false,
-    };
-    let around = IndexNames {
-        inside: around.suffixes.len(),
-        ..around
-    };
-    match path(alloc, &env.scope(), &mut faults, tree, need, &around)? {
-        Some(rpl) => Ok(rpl),
-        None => Err(refused(Kind::Unknown, tree.place)),
-    }
-}
-
-/// The type of an array creation whose parts are read up to its length.
-pub fn array_creation(
-    alloc: Global,
-    env: &Env,
-    read: ReadType,
-    length: &Typed,
-    rpl: Option<&RplTree>,
-    around: IndexNames,
-    place: Place,
-) -> Result<Ty, Stop> {
-    let own = own_path(alloc, env, rpl, around)?;
-    let own_place = match rpl {
-        Some(tree) => tree.place,
-        None => place,
-    };
-    let mut faults = Faults::by_number();
-    if !length.is_int() {
-        faults.note(Kind::Type, place);
-    }
-    let made = array_made(
-        alloc,
-        &env.scope(),
-        &mut faults,
-        read,
-        own,
-        around,
-        own_place,
-        place,
-    )?;
-    faults.settle()?;
-    match made {
-        Some(ty) => Ok(ty),
-        None => Err(refused(Kind::RegionArgs, place)),
+        Some(row) => found.summary(alloc, &row.summary, args),
+        None => Ok(()),
     }
 }

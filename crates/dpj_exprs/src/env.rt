@@ -1,7 +1,10 @@
+ghost use Rattle.std.specs.Prelude.{◌≡◌, ◌++◌, IfOk, OnOk};
+ghost use Rattle.dpj_exprs.specs.Env.{index_number, param_paths};
+
 use crate::supers::Supers;
 use dpj_base::{Constraint, Elems, Head, Items, NoMemory, Plain, Rpl, Ty};
 use dpj_classes::Table;
-use dpj_headers::{ParamRow, to_number};
+use dpj_headers::{ParamRow, number_at, to_number};
 use dpj_resolve::{Scope, Scoped, Site};
 use dpj_tree::{Expr, ExprKind, Program};
 use std::alloc::Global;
@@ -34,6 +37,8 @@ pub struct Env<'a> {
     /// The number of the method.
     pub method: u32,
     pub supers: Supers<'a>,
+    /// The constraints of each class, by its number.
+    classes_given: &'a [Items<Constraint>],
     /// The name `length`, where the text has it.
     length: Option<u32>,
     /// The region parameters of the method, with whether each is atomic.
@@ -60,6 +65,14 @@ pub fn length_name(program: &Program) -> Option<u32> {
 }
 
 impl Env<'_> {
+    ghost use Rattle.std.specs.Prelude.{◌≡◌, ◌∷◌, ◌++◌, [], take, IfOk, OnOk};
+    ghost use Rattle.dpj_classes.specs.Table.{given_of};
+    ghost use Rattle.std.specs.Option.{option_copied};
+    ghost use Rattle.dpj_base.specs.Types.{plain_type};
+    ghost use Rattle.dpj_resolve.specs.Scopes.{plain_scope};
+    ghost use Rattle.dpj_tree.specs.Plain.{plain_expr};
+    ghost use Rattle.dpj_exprs.specs.Env.{table_of, locals_in, local_names, index_numbers, region_names, declared_in, mark_of, index_number, is_param_name, local_of, index_variable_of, part_of, is_length_name, given_in, regions_in, has_region, scope_of, this_type_of};
+
     /// What is around the members of class 0, before one is entered.
     pub fn new<'a>(alloc: Global, table: &'a Table, length: Option<u32>) -> Env<'a> {
         Env {
@@ -67,6 +80,7 @@ impl Env<'_> {
             class: 0,
             method: 0,
             supers: Supers::of(table.supers()),
+            classes_given: table.classes_given(),
             length,
             params: Scoped::new(alloc),
             rows: Items::new(alloc),
@@ -79,7 +93,11 @@ impl Env<'_> {
     }
 
     /// Goes over to a class. Its constraints are in force.
-    pub fn enter_class(&mut self, alloc: Global, class: u32) -> Result<(), NoMemory> {
+    pub fn enter_class(&mut self, alloc: Global, class: u32) -> Result<(), NoMemory>
+        ensures class { self.new.class ≡ class }
+        ensures given { OnOk result (given_in self.new ≡ given_of (table_of self.old) class) }
+        ensures locals { locals_in self.new ≡ [] }
+    {
         self.clear();
         self.class = class;
         self.given.truncate(0);
@@ -92,7 +110,12 @@ impl Env<'_> {
 
     /// Goes over to a constructor or method of the class. Its region parameters are in scope and its constraints in
     /// force, and no local is in scope yet.
-    pub fn enter_method(&mut self, alloc: Global, method: u32) -> Result<(), NoMemory> {
+    pub fn enter_method(&mut self, alloc: Global, method: u32) -> Result<(), NoMemory>
+        ensures method { self.new.method ≡ method }
+        ensures locals { locals_in self.new ≡ [] }
+        ensures names { local_names self.new ≡ [] }
+        ensures regions { regions_in self.new ≡ [] }
+    {
         self.clear();
         self.method = method;
         self.given.truncate(self.class_given);
@@ -104,7 +127,12 @@ impl Env<'_> {
         put_params(&mut self.params, row.regions.as_slice())
     }
 
-    fn clear(&mut self) {
+    fn clear(&mut self)
+        ensures locals { locals_in self.new ≡ [] }
+        ensures names { local_names self.new ≡ [] }
+        ensures regions { regions_in self.new ≡ [] }
+        ensures table { table_of self.new ≡ table_of self.old }
+    {
         self.params.leave(0);
         self.rows.truncate(0);
         self.variables.leave(0);
@@ -113,12 +141,14 @@ impl Env<'_> {
     }
 
     /// Puts a local in scope. A final int may stand in an index.
-    pub fn declare(&mut self, row: LocalRow) -> Result<(), NoMemory> {
-        let index = if row.is_final && matches!(row.ty, Ty::Int) {
-            Some(row.var)
-        } else {
-            None
-        };
+    pub fn declare(&mut self, row: LocalRow) -> Result<(), NoMemory>
+        ensures locals { OnOk result (locals_in self.new ≡ locals_in self.old ++ row ∷ []) }
+        ensures names { OnOk result (local_names self.new ≡ local_names self.old ++ row.name ∷ []) }
+        ensures indices { OnOk result (index_numbers self.new ≡ index_numbers self.old ++ index_number row ∷ []) }
+        ensures regions { regions_in self.new ≡ regions_in self.old }
+        ensures given { given_in self.new ≡ given_in self.old }
+    {
+        let index = index_number(&row);
         let name = row.name;
         let count = self.rows.len();
         self.rows.push(row)?;
@@ -130,7 +160,13 @@ impl Env<'_> {
     }
 
     /// Puts a local region in scope, and gives the number of its declaration.
-    pub fn declare_region(&mut self, name: u32) -> Result<u32, NoMemory> {
+    pub fn declare_region(&mut self, name: u32) -> Result<u32, NoMemory>
+        ensures number { IfOk result (λ decl. decl ≡ declared_in self.old) }
+        ensures names { OnOk result (region_names self.new ≡ region_names self.old ++ name ∷ []) }
+        ensures regions { OnOk result (regions_in self.new ≡ regions_in self.old ++ declared_in self.old ∷ []) }
+        ensures locals { locals_in self.new ≡ locals_in self.old }
+        ensures given { given_in self.new ≡ given_in self.old }
+    {
         let decl = self.declared;
         self.regions.enter(name, decl)?;
         self.declared = decl.saturating_add(1);
@@ -138,7 +174,9 @@ impl Env<'_> {
     }
 
     /// What is in scope now, to be left again.
-    pub fn mark(&self) -> Mark {
+    pub fn mark(&self) -> Mark
+        ensures { result ≡ mark_of self.now }
+    {
         Mark {
             locals: self.rows.len(),
             regions: self.regions.len(),
@@ -146,54 +184,80 @@ impl Env<'_> {
     }
 
     /// Takes what came into scope behind a mark out of it.
-    pub fn leave(&mut self, mark: Mark) {
+    pub fn leave(&mut self, mark: Mark)
+        ensures locals { locals_in self.new ≡ take mark.locals (locals_in self.old) }
+        ensures names { local_names self.new ≡ take mark.locals (local_names self.old) }
+        ensures indices { index_numbers self.new ≡ take mark.locals (index_numbers self.old) }
+        ensures regions { regions_in self.new ≡ take mark.regions (regions_in self.old) }
+        ensures region_names { region_names self.new ≡ take mark.regions (region_names self.old) }
+        ensures given { given_in self.new ≡ given_in self.old }
+        ensures declared { declared_in self.new ≡ declared_in self.old }
+    {
         self.rows.truncate(mark.locals);
         self.variables.leave(mark.locals);
         self.regions.leave(mark.regions);
     }
 
     /// The locals in scope, in the order of their declarations.
-    pub fn locals(&self) -> &[LocalRow] {
+    pub fn locals(&self) -> &[LocalRow]
+        ensures { result.now ≡ locals_in self.now }
+    {
         self.rows.as_slice()
     }
 
     /// The declarations of the local regions in scope, in their order.
-    pub fn local_regions(&self) -> &[u32] {
+    pub fn local_regions(&self) -> &[u32]
+        ensures { result.now ≡ regions_in self.now }
+    {
         self.regions.values()
     }
 
     /// The local of that name: the last, where there are two.
-    pub fn local(&self, name: u32) -> Option<&LocalRow> {
+    pub fn local(&self, name: u32) -> Option<&LocalRow>
+        ensures { option_copied result ≡ local_of self.now name }
+    {
         self.rows.get(self.variables.place(name)?)
     }
 
     /// The number of the index variable of that name.
-    pub fn index_variable(&self, name: u32) -> Option<u32> {
+    pub fn index_variable(&self, name: u32) -> Option<u32>
+        ensures { result ≡ index_variable_of self.now name }
+    {
         self.variables.get(name).copied().flatten()
     }
 
     /// Whether a local region in scope has the name.
-    pub fn has_local_region(&self, name: u32) -> bool {
+    pub fn has_local_region(&self, name: u32) -> bool
+        ensures { result ≡ has_region self.now name }
+    {
         self.regions.place(name).is_some()
     }
 
     /// Whether a region parameter of the class or the method has the name.
-    pub fn has_param(&self, name: u32) -> bool {
+    pub fn has_param(&self, name: u32) -> bool
+        ensures { result ≡ is_param_name self.now name }
+    {
         self.scope().param(name).is_some()
     }
 
     /// Whether the name is `length`.
-    pub fn is_length(&self, name: u32) -> bool {
+    pub fn is_length(&self, name: u32) -> bool
+        ensures { result ≡ is_length_name self.now name }
+    {
         self.length == Some(name)
     }
 
     /// The constraints in force.
-    pub fn given(&self) -> &[Constraint] {
+    pub fn given(&self) -> &[Constraint]
+        ensures { result.now ≡ given_in self.now }
+    {
         self.given.as_slice()
     }
 
     /// The part of an array that the expression names.
-    pub fn part(&self, e: &Expr) -> Option<&LocalRow> {
+    pub fn part(&self, e: &Expr) -> Option<&LocalRow>
+        ensures { option_copied result ≡ part_of self.now (plain_expr e.now) }
+    {
         let ExprKind::Local(name) = &e.kind else {
             return None;
         };
@@ -202,7 +266,9 @@ impl Env<'_> {
     }
 
     /// What is around a region path or a type.
-    pub fn scope(&self) -> Scope<'_> {
+    pub fn scope(&self) -> Scope<'_>
+        ensures { plain_scope result ≡ scope_of self.now }
+    {
         Scope {
             headers: self.table.headers(),
             class: self.class,
@@ -210,20 +276,16 @@ impl Env<'_> {
             variables: &self.variables,
             regions: &self.regions,
             given: self.given.as_slice(),
-            classes_given: self.table.classes_given(),
+            classes_given: self.classes_given,
             site: Site::Body,
         }
     }
 
     /// The type of `this`.
-    pub fn this_type(&self, alloc: Global) -> Result<Ty, NoMemory> {
-        let mut args = Items::new(alloc);
-        for number in 0..self.scope().class_params(self.class).len() {
-            args.push(Rpl {
-                head: Head::Param(to_number(number)),
-                elems: Elems::new(alloc),
-            })?;
-        }
+    pub fn this_type(&self, alloc: Global) -> Result<Ty, NoMemory>
+        ensures { IfOk result (λ ty. plain_type ty ≡ this_type_of self.now) }
+    {
+        let args = param_paths(alloc, self.scope().class_params(self.class).len())?;
         Ok(Ty::Class {
             class: self.class,
             args,
@@ -231,11 +293,38 @@ impl Env<'_> {
     }
 }
 
+/// The number of a local as an index variable, where it may stand in an index: it is final and an int.
+fn index_number(row: &LocalRow) -> Option<u32>
+    ensures { result ≡ index_number row.now }
+{
+    if row.is_final && matches!(row.ty, Ty::Int) {
+        Some(row.var)
+    } else {
+        None
+    }
+}
+
+/// The first region parameters, each as a path.
+fn param_paths(alloc: Global, count: usize) -> Result<Items<Rpl>, NoMemory>
+    ensures { IfOk result (λ paths. paths ≡ param_paths count) }
+{
+    let mut paths = Items::new(alloc);
+    for number in 0..count {
+        paths.push(Rpl {
+            head: Head::Param(number_at(number)),
+            elems: Elems::new(alloc),
+        })?;
+    }
+    Ok(paths)
+}
+
 fn put_constraints(
     alloc: Global,
     given: &mut Items<Constraint>,
     more: &[Constraint],
-) -> Result<(), NoMemory> {
+) -> Result<(), NoMemory>
+    ensures { OnOk result (given.new ≡ given.old ++ more.now) }
+{
     for constraint in more {
         given.push(constraint.copy(alloc)?)?;
     }

@@ -1,11 +1,14 @@
-ghost use Rattle.std.specs.Prelude.{◌≡◌, true, false, not, Err, option_map, IfOk, IfErr};
+ghost use Rattle.std.specs.Prelude.{◌≡◌, true, false, not, Ok, Err, option_map, IfOk, IfErr};
+ghost use Rattle.dpj_arrays.specs.Access.{plain_element};
 ghost use Rattle.dpj_base.specs.Refused.{IfRefused};
-ghost use Rattle.dpj_base.specs.Types.{plain_type, type_with};
-ghost use Rattle.dpj_base.specs.Regions.{substituted};
-ghost use Rattle.dpj_exprs.specs.Partial.{mentions_partial, rigid_in_partial};
+ghost use Rattle.dpj_base.specs.Types.{plain_type};
+ghost use Rattle.dpj_tree.specs.Plain.{plain_expr};
+ghost use Rattle.dpj_exprs.specs.Answer.{gives, refused};
+ghost use Rattle.dpj_exprs.specs.Env.{table_of};
+ghost use Rattle.dpj_exprs.specs.Fields.{plain_field, field_with, field_through, read_field};
 ghost use Rattle.dpj_exprs.specs.Refusing.{refusal_at};
-ghost use Rattle.dpj_exprs.specs.Elements.{part_element, element_seen};
-ghost use Rattle.dpj_exprs.specs.Typed.{passes, is_int, is_class};
+ghost use Rattle.dpj_exprs.specs.Elements.{index_of, element_through, read_element, part_element, element_seen, read_part};
+ghost use Rattle.dpj_exprs.specs.Typed.{plain_typed, passes, is_int};
 
 use crate::env::{Env, LocalRow};
 use crate::fitting::{mentions_partial, refused, rigid_in_partial};
@@ -30,7 +33,8 @@ pub struct FieldAt {
 
 /// The field of that name through a receiver of a class type.
 pub fn field_at(alloc: Global, env: &Env, of: &Ty, name: u32, place: Place) -> Result<FieldAt, Stop>
-    ensures { is_class (plain_type of.now) ≡ false → result ≡ Err (refusal_at Kind.Type place) }
+    ensures ok { IfOk result (λ field. field_through (table_of env.now) (plain_type of.now) name place ≡ Ok (plain_field field)) }
+    ensures fault { IfErr result (λ stop. IfRefused stop (λ refusal. field_through (table_of env.now) (plain_type of.now) name place ≡ Err refusal)) }
 {
     let Ty::Class { class, args } = of else {
         return Err(refused(Kind::Type, place));
@@ -50,10 +54,7 @@ pub fn field_at(alloc: Global, env: &Env, of: &Ty, name: u32, place: Place) -> R
 /// A field with region arguments put in. Where one of them isn't fully specified, the field may not be written if
 /// its type mentions it, nor read if its type is rigid in it.
 fn field_with(alloc: Global, row: &FieldRow, args: &[Rpl]) -> Result<FieldAt, NoMemory>
-    ensures ty { IfOk result (λ field. plain_type field.ty ≡ type_with args.now (plain_type row.now.ty)) }
-    ensures rpl { IfOk result (λ field. field.rpl ≡ substituted args.now row.now.rpl) }
-    ensures may_read { IfOk result (λ field. field.may_read ≡ not (rigid_in_partial (plain_type row.now.ty) 0 args.now)) }
-    ensures may_write { IfOk result (λ field. field.may_write ≡ not (mentions_partial (plain_type row.now.ty) 0 args.now)) }
+    ensures { IfOk result (λ field. plain_field field ≡ field_with row.now args.now) }
 {
     Ok(FieldAt {
         ty: subst_type(alloc, &row.ty, args)?,
@@ -71,7 +72,10 @@ pub fn read_field(
     of: &Typed,
     name: u32,
     place: Place,
-) -> Result<Typed, Stop> {
+) -> Result<Typed, Stop>
+    ensures ok { IfOk result (λ typed. read_field env.now (plain_typed of.now) name place found.old ≡ gives (plain_typed typed) found.new) }
+    ensures fault { IfErr result (λ stop. IfRefused stop (λ refusal. read_field env.now (plain_typed of.now) name place found.old ≡ refused refusal)) }
+{
     let Typed::Known(of) = of else {
         return Ok(Typed::Any);
     };
@@ -92,7 +96,9 @@ pub fn read_field(
 }
 
 /// What stands for an index in the region of an element.
-fn index_kind(env: &Env, index: &Expr) -> IndexKind {
+fn index_kind(env: &Env, index: &Expr) -> IndexKind
+    ensures { result ≡ index_of env.now (plain_expr index.now) }
+{
     match &index.kind {
         ExprKind::Int(k) => IndexKind::Lit(*k),
         ExprKind::Local(name) => match env.index_variable(*name) {
@@ -113,7 +119,8 @@ pub fn element_at(
     index_ty: &Typed,
     place: Place,
 ) -> Result<Option<Element>, Stop>
-    ensures { IfOk result (λ element. passes is_int index_ty.now ≡ true) }
+    ensures ok { IfOk result (λ element. element_through (plain_typed array.now) (index_of env.now (plain_expr index.now)) (plain_typed index_ty.now) place ≡ Ok (option_map plain_element element)) }
+    ensures fault { IfErr result (λ stop. IfRefused stop (λ refusal. element_through (plain_typed array.now) (index_of env.now (plain_expr index.now)) (plain_typed index_ty.now) place ≡ Err refusal)) }
 {
     if !index_ty.is_int() {
         return Err(refused(Kind::Type, place));
@@ -136,7 +143,10 @@ pub fn read_element(
     index: &Expr,
     index_ty: &Typed,
     place: Place,
-) -> Result<Typed, Stop> {
+) -> Result<Typed, Stop>
+    ensures ok { IfOk result (λ typed. read_element env.now (plain_typed array.now) (plain_expr index.now) (plain_typed index_ty.now) place found.old ≡ gives (plain_typed typed) found.new) }
+    ensures fault { IfErr result (λ stop. IfRefused stop (λ refusal. read_element env.now (plain_typed array.now) (plain_expr index.now) (plain_typed index_ty.now) place found.old ≡ refused refusal)) }
+{
     let Some(element) = element_at(alloc, env, array, index, index_ty, place)? else {
         return Ok(Typed::Any);
     };
@@ -193,7 +203,10 @@ pub fn read_part(
     row: &LocalRow,
     index_ty: &Typed,
     place: Place,
-) -> Result<Typed, Stop> {
+) -> Result<Typed, Stop>
+    ensures ok { IfOk result (λ typed. read_part row.now (plain_typed index_ty.now) place found.old ≡ gives (plain_typed typed) found.new) }
+    ensures fault { IfErr result (λ stop. IfRefused stop (λ refusal. read_part row.now (plain_typed index_ty.now) place found.old ≡ refused refusal)) }
+{
     let Some(element) = part_element(alloc, row, index_ty, place)? else {
         return Ok(Typed::Any);
     };

@@ -7,7 +7,6 @@ ghost use Rattle.dpj_exprs.specs.Typed.{Fits};
 use crate::env::Env;
 use crate::typed::Typed;
 use dpj_base::{Kind, NoMemory, Place, Refusal, Rpl, Stop, Ty};
-use dpj_headers::Headers;
 use dpj_regions::is_full;
 use dpj_types::{mentions, rigid};
 use std::alloc::Global;
@@ -26,41 +25,6 @@ pub fn fits(alloc: Global, env: &Env, value: &Typed, declared: &Ty) -> Result<bo
     match value {
         Typed::Known(ty) => env.supers.fit(alloc, ty, declared),
         Typed::Any => Ok(true),
-    }
-}
-
-/// Whether a value may stand where the type is declared, for some regions.
-pub fn may_fit(headers: &Headers, value: &Typed, declared: &Ty) -> bool {
-    match value {
-        Typed::Known(ty) => may_be_subtype(headers, ty, declared),
-        Typed::Any => true,
-    }
-}
-
-/// Whether the one type is a subtype of the other for some regions.
-fn may_be_subtype(headers: &Headers, value: &Ty, declared: &Ty) -> bool {
-    match (value, declared) {
-        (Ty::Int, Ty::Int) | (Ty::Bool, Ty::Bool) => true,
-        (Ty::Null, Ty::Class { .. } | Ty::Array { .. }) => true,
-        (Ty::Class { class, .. }, Ty::Class { class: other, .. }) => {
-            headers.is_below(*class, *other)
-        }
-        (Ty::Array { elem, .. }, Ty::Array { elem: other, .. }) => {
-            may_equal(elem.get(), other.get())
-        }
-        _ => false,
-    }
-}
-
-/// Whether two types are the same for some regions.
-fn may_equal(a: &Ty, b: &Ty) -> bool {
-    match (a, b) {
-        (Ty::Int, Ty::Int) | (Ty::Bool, Ty::Bool) => true,
-        (Ty::Class { class, .. }, Ty::Class { class: other, .. }) => *class == *other,
-        (Ty::Array { elem, .. }, Ty::Array { elem: other, .. }) => {
-            may_equal(elem.get(), other.get())
-        }
-        _ => false,
     }
 }
 

@@ -13,6 +13,7 @@ pub struct Found {
 impl Found {
     ghost use Rattle.std.specs.Prelude.{◌≡◌, ◌∷◌, ◌++◌, [], map, OnOk, OnErr};
     ghost use Rattle.dpj_base.specs.Effects.{added, gathered};
+    ghost use Rattle.dpj_exprs.specs.Answer.{with_access, with_part_use, with_summary};
     ghost use Rattle.dpj_exprs.specs.Found.{access, part_access, effect_with};
 
     pub fn new(alloc: Global) -> Found
@@ -27,6 +28,7 @@ impl Found {
 
     /// Adds a plain read or write.
     pub fn access(&mut self, rpl: Rpl, write: bool) -> Result<(), NoMemory>
+        ensures whole { OnOk result (self.new ≡ with_access self.old rpl write) }
         ensures ok { OnOk result (self.new.effects ≡ added self.old.effects (access rpl write)) }
         ensures err { OnErr result (self.new.effects ≡ self.old.effects) }
         ensures apart { self.new.uses ≡ self.old.uses }
@@ -40,6 +42,7 @@ impl Found {
 
     /// Adds a read or a write through a part of an array.
     pub fn part_use(&mut self, view: u32, rpl: Rpl, write: bool) -> Result<(), NoMemory>
+        ensures whole { OnOk result (self.new ≡ with_part_use self.old view rpl write) }
         ensures ok { OnOk result (self.new.uses ≡ self.old.uses ++ part_access view rpl write ∷ []) }
         ensures err { OnErr result (self.new.uses ≡ self.old.uses) }
         ensures apart { self.new.effects ≡ self.old.effects }
@@ -54,6 +57,7 @@ impl Found {
         summary: &EffectSet,
         args: &[Rpl],
     ) -> Result<(), NoMemory>
+        ensures whole { OnOk result (self.new ≡ with_summary self.old summary.now args.now) }
         ensures ok { OnOk result (self.new.effects ≡ gathered self.old.effects (map (effect_with args.now) summary.now)) }
         ensures apart { self.new.uses ≡ self.old.uses }
     {

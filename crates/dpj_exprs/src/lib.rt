@@ -9,6 +9,8 @@
 //! Reads and writes through a part of an array are kept apart from the other effects.
 #![tactic(auto)]
 
+mod actuals;
+mod arrays;
 mod assigned;
 mod calls;
 mod creations;
@@ -18,6 +20,7 @@ mod fitting;
 mod found;
 mod node_types;
 mod operations;
+mod shapes;
 mod supers;
 mod typed;
 mod typing;

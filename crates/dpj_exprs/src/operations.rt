@@ -2,6 +2,7 @@ ghost use Rattle.std.specs.Prelude.{◌≡◌, false, IfOk, IfErr, true};
 ghost use Rattle.dpj_base.specs.Types.{plain_type};
 ghost use Rattle.dpj_exprs.specs.Operations.{comparable, unary_takes, unary_gives, binary_takes, binary_gives};
 ghost use Rattle.dpj_exprs.specs.Refusing.{refusal_at};
+ghost use Rattle.dpj_exprs.specs.Typed.{plain_typed};
 
 use crate::fitting::refused;
 use crate::typed::Typed;
@@ -9,7 +10,7 @@ use dpj_base::{Kind, Place, Stop, Ty};
 use dpj_tree::{BinaryOp, UnaryOp};
 
 fn unary_takes(op: UnaryOp, arg: &Typed) -> bool
-    ensures { result ≡ unary_takes op arg.now }
+    ensures { result ≡ unary_takes op (plain_typed arg.now) }
 {
     match op {
         UnaryOp::Neg => arg.is_int(),
@@ -28,9 +29,9 @@ fn unary_gives(op: UnaryOp) -> Ty
 
 /// The type of an operation with one operand.
 pub fn unary(op: UnaryOp, arg: &Typed, place: Place) -> Result<Ty, Stop>
-    ensures takes { IfOk result (λ t. unary_takes op arg.now ≡ true) }
+    ensures takes { IfOk result (λ t. unary_takes op (plain_typed arg.now) ≡ true) }
     ensures gives { IfOk result (λ t. plain_type t ≡ unary_gives op) }
-    ensures refuses { IfErr result (λ stop. unary_takes op arg.now ≡ false) }
+    ensures refuses { IfErr result (λ stop. unary_takes op (plain_typed arg.now) ≡ false) }
     ensures fault { IfErr result (λ stop. stop ≡ refusal_at Kind.Type place) }
 {
     if unary_takes(op, arg) {
@@ -42,7 +43,7 @@ pub fn unary(op: UnaryOp, arg: &Typed, place: Place) -> Result<Ty, Stop>
 
 /// Two ints, two booleans, or two values that may be null.
 fn comparable(left: &Typed, right: &Typed) -> bool
-    ensures { result ≡ comparable left.now right.now }
+    ensures { result ≡ comparable (plain_typed left.now) (plain_typed right.now) }
 {
     left.is_int() && right.is_int()
         || left.is_boolean() && right.is_boolean()
@@ -50,7 +51,7 @@ fn comparable(left: &Typed, right: &Typed) -> bool
 }
 
 fn binary_takes(op: BinaryOp, left: &Typed, right: &Typed) -> bool
-    ensures { result ≡ binary_takes op left.now right.now }
+    ensures { result ≡ binary_takes op (plain_typed left.now) (plain_typed right.now) }
 {
     match op {
         BinaryOp::Or | BinaryOp::And => left.is_boolean() && right.is_boolean(),
@@ -70,9 +71,9 @@ fn binary_gives(op: BinaryOp) -> Ty
 
 /// The type of an operation with two operands.
 pub fn binary(op: BinaryOp, left: &Typed, right: &Typed, place: Place) -> Result<Ty, Stop>
-    ensures takes { IfOk result (λ t. binary_takes op left.now right.now ≡ true) }
+    ensures takes { IfOk result (λ t. binary_takes op (plain_typed left.now) (plain_typed right.now) ≡ true) }
     ensures gives { IfOk result (λ t. plain_type t ≡ binary_gives op) }
-    ensures refuses { IfErr result (λ stop. binary_takes op left.now right.now ≡ false) }
+    ensures refuses { IfErr result (λ stop. binary_takes op (plain_typed left.now) (plain_typed right.now) ≡ false) }
     ensures fault { IfErr result (λ stop. stop ≡ refusal_at Kind.Type place) }
 {
     if binary_takes(op, left, right) {

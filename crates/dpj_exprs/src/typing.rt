@@ -1,8 +1,13 @@
-ghost use Rattle.std.specs.Prelude.{◌≡◌, None, slice_index_or, IfOk};
+ghost use Rattle.std.specs.Prelude.{◌≡◌, None, Ok, Err, slice_index_or, IfOk, IfErr};
+ghost use Rattle.dpj_base.specs.Refused.{IfRefused};
+ghost use Rattle.dpj_base.specs.Types.{plain_type};
+ghost use Rattle.dpj_exprs.specs.Env.{local_of};
+ghost use Rattle.dpj_exprs.specs.Locals.{local_type};
 ghost use Rattle.dpj_exprs.specs.Typed.{known};
 
+use crate::arrays::{array_creation, read_array};
 use crate::calls::{call, read_call_args};
-use crate::creations::{array_creation, creation, read_array, read_new_args};
+use crate::creations::{creation, read_new_args};
 use crate::env::{Env, LocalRow};
 use crate::fields::{read_element, read_field, read_part};
 use crate::fitting::refused;
@@ -175,7 +180,10 @@ fn leaf(alloc: Global, env: &Env, kind: &ExprKind, place: Place) -> Result<Ty, S
 }
 
 /// The type of a local. A part of an array isn't used by its name alone.
-fn local(alloc: Global, env: &Env, name: u32, place: Place) -> Result<Ty, Stop> {
+fn local(alloc: Global, env: &Env, name: u32, place: Place) -> Result<Ty, Stop>
+    ensures ok { IfOk result (λ ty. local_type (local_of env.now name) place ≡ Ok (plain_type ty)) }
+    ensures fault { IfErr result (λ stop. IfRefused stop (λ refusal. local_type (local_of env.now name) place ≡ Err refusal)) }
+{
     match env.local(name) {
         None => Err(refused(Kind::Unknown, place)),
         Some(row) if row.part.is_some() => Err(refused(Kind::Type, place)),

@@ -3,7 +3,7 @@ use Rattle.dpj_base.specs.declared.ty.Ty.{Ty}
 use Rattle.dpj_base.specs.Types.{plain_type, type_with}
 use Rattle.dpj_exprs.specs.declared.typed.Typed.{Typed}
 use Rattle.dpj_exprs.specs.Typed.{Fits}
-use Rattle.dpj_exprs.proofs.calls.actuals_fit.Given as goal
+use Rattle.dpj_exprs.proofs.actuals.actuals_fit.Given as goal
 
 abbrev pub invariant-loop-i : goal.invariant-loop-i
 invariant-loop-i l =

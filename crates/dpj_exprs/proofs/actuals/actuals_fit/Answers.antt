@@ -1,8 +1,8 @@
 use Rattle.std.proofs.Common.{ℕ, ◌<◌, get_or, below_more, arith}
 use Rattle.dpj_base.specs.Types.{plain_type, type_with}
 use Rattle.dpj_exprs.specs.Typed.{Fits}
-use Rattle.dpj_exprs.proofs.Actuals.{fits_at}
-use Rattle.dpj_exprs.proofs.calls.actuals_fit.Goals as goal
+use Rattle.dpj_exprs.proofs.Fitted.{fits_at}
+use Rattle.dpj_exprs.proofs.actuals.actuals_fit.Goals as goal
 
 pub loop-i-preserved : goal.loop-i-preserved
 loop-i-preserved c k v t below =

@@ -1,0 +1,20 @@
+-- Values and declared types that aren't as many.
+use Rattle.std.proofs.Common.{◌≡◌, ◌≢◌, ◌∙◌, ℕ, suc, Bool, true, false, ◌&&◌, List, [], ◌∷◌, map, length, refl, ap, arith}
+use Rattle.dpj_base.specs.declared.ty.Ty.{Ty}
+use Rattle.dpj_base.specs.Types.{plain_type}
+use Rattle.dpj_headers.specs.declared.header.Headers.{Headers}
+use Rattle.dpj_exprs.specs.declared.typed.Typed.{Typed}
+use Rattle.dpj_exprs.specs.Shapes.{may_fit, shapes_fit}
+use Rattle.dpj_exprs.specs.Typed.{plain_typed}
+
+and_false : (b : Bool) → (b && false) ≡ false
+and_false true = refl
+and_false false = refl
+
+pub unfit : (headers : Headers) (values : List Typed) (declared : List Ty) → length values ≢ length declared → shapes_fit headers (map plain_typed values) declared ≡ false
+unfit headers [] [] differ = absurd (differ refl)
+unfit headers [] (t ∷ declared) differ = refl
+unfit headers (v ∷ values) [] differ = refl
+unfit headers (v ∷ values) (t ∷ declared) differ =
+    ap (λ (rest : Bool). may_fit headers (plain_typed v) (plain_type t) && rest) (unfit headers values declared (λ same. differ (ap suc same)))
+    ∙ and_false (may_fit headers (plain_typed v) (plain_type t))

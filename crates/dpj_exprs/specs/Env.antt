@@ -1,0 +1,121 @@
+-- What is in scope around an expression.
+use Rattle.std.specs.Prelude.{ℕ, zero, suc, ◌==◌, Bool, false, ◌&&◌, cond, List, [], ◌∷◌, ◌++◌, length, slice_get, is_some, Option, Some, None, option_and_then}
+use Rattle.std.specs.Option.{option_map_or}
+use Rattle.dpj_base.specs.declared.effect.Constraint.{Constraint}
+use Rattle.dpj_base.specs.declared.region.Head.TheVariants.{Param}
+use Rattle.dpj_base.specs.declared.region.Rpl.{Rpl}
+use Rattle.dpj_base.specs.declared.ty.Super.{Super}
+use Rattle.dpj_base.specs.Types.{PlainType, plain_type}
+use Rattle.dpj_base.specs.Types.{PlainType as ty}
+use Rattle.dpj_tree.specs.Plain.{PlainExpr, expression, ExprForm, local}
+use Rattle.dpj_headers.specs.Numbers.{as_number}
+use Rattle.dpj_resolve.specs.declared.scope.Site.TheVariants as site
+use Rattle.dpj_resolve.specs.Classes.{params_in}
+use Rattle.dpj_resolve.specs.Scopes.{PlainScope, param_meant}
+use Rattle.dpj_resolve.specs.Scoped.{names_in, place_in, value_in, values_in}
+use Rattle.dpj_classes.specs.declared.table.Table.{Table}
+use Rattle.dpj_classes.specs.Table.{headers_of}
+use Rattle.dpj_exprs.specs.declared.env.Env.{Env}
+use Rattle.dpj_exprs.specs.declared.env.LocalRow.{LocalRow}
+use Rattle.dpj_exprs.specs.declared.env.Mark.{Mark}
+use Rattle.dpj_exprs.specs.Typed.{is_int}
+
+abbrev pub table_of : Env → Table
+table_of env = env.table.now
+
+-- the locals in scope, in the order of their declarations
+abbrev pub locals_in : Env → List LocalRow
+locals_in env = env.rows
+
+-- the local of that name: the last, where there are two
+abbrev pub local_of : Env → ℕ → Option LocalRow
+local_of env name = option_and_then (λ place. slice_get (locals_in env) place) (place_in env.variables name)
+
+-- the number of the index variable of that name
+abbrev pub index_variable_of : Env → ℕ → Option ℕ
+index_variable_of env name = option_and_then (λ variable. variable) (value_in env.variables name)
+
+-- a local that is a part of an array
+abbrev pub as_part : LocalRow → Option LocalRow
+as_part row = cond (is_some row.part) (Some row) None
+
+-- the part of an array that an expression names
+abbrev pub part_in : Env → ExprForm → Option LocalRow
+part_in env (local name) = option_and_then as_part (local_of env name)
+part_in env form = None
+
+abbrev pub part_of : Env → PlainExpr → Option LocalRow
+part_of env (expression node place form) = part_in env form
+
+-- the name is `length`
+abbrev pub is_length_name : Env → ℕ → Bool
+is_length_name env name = option_map_or (λ length_name. length_name == name) env.length false
+
+-- the constraints in force
+abbrev pub given_in : Env → List Constraint
+given_in env = env.given
+
+-- the declarations of the local regions in scope, in their order
+abbrev pub regions_in : Env → List ℕ
+regions_in env = values_in env.regions
+
+-- a local region in scope has the name
+abbrev pub has_region : Env → ℕ → Bool
+has_region env name = is_some (place_in env.regions name)
+
+-- the superclasses of all classes
+abbrev pub supers_of : Env → List Super
+supers_of env = env.supers.rows.now
+
+-- what is around a region path or a type in a body
+abbrev pub scope_of : Env → PlainScope
+scope_of env = record {
+  headers = headers_of (table_of env);
+  class = env.class;
+  params = env.params;
+  variables = env.variables;
+  regions = env.regions;
+  given = env.given;
+  classes_given = env.classes_given.now;
+  site = site.Body;
+}
+
+-- a region parameter of the class or the method has the name
+abbrev pub is_param_name : Env → ℕ → Bool
+is_param_name env name = is_some (param_meant (scope_of env) name)
+
+-- the names of the locals in scope, and of each the number as an index variable, where it may stand in an index
+abbrev pub local_names : Env → List ℕ
+local_names env = names_in env.variables
+
+abbrev pub index_numbers : Env → List (Option ℕ)
+index_numbers env = values_in env.variables
+
+-- the names of the local regions in scope
+abbrev pub region_names : Env → List ℕ
+region_names env = names_in env.regions
+
+-- how many local regions the method has declared so far
+abbrev pub declared_in : Env → ℕ
+declared_in env = env.declared
+
+-- how much is in scope
+abbrev pub mark_of : Env → Mark
+mark_of env = record { locals = length (locals_in env); regions = length (regions_in env) }
+
+-- a final int may stand in an index
+abbrev pub index_number : LocalRow → Option ℕ
+index_number row = cond (row.is_final && is_int (plain_type row.ty)) (Some row.var) None
+
+-- the first region parameters, each as a path
+abbrev pub param_paths : ℕ → List Rpl
+param_paths zero = []
+param_paths (suc n) = param_paths n ++ (record { head = Param (as_number n); elems = [] }) ∷ []
+
+-- how many region parameters the class has
+abbrev pub class_arity : Env → ℕ
+class_arity env = length (params_in (headers_of (table_of env)) env.class)
+
+-- the class with its own region parameters
+abbrev pub this_type_of : Env → PlainType
+this_type_of env = ty.class env.class (param_paths (class_arity env))

@@ -1,0 +1,66 @@
+-- Fields through a receiver.
+use Rattle.std.specs.Prelude.{ℕ, Bool, not, ◌&&◌, cond, List, Option, Some, None, Result, Ok, Err}
+use Rattle.dpj_base.specs.declared.place.Place.{Place}
+use Rattle.dpj_base.specs.declared.refusal.Kind.TheVariants as kind
+use Rattle.dpj_base.specs.declared.refusal.Refusal.{Refusal}
+use Rattle.dpj_base.specs.declared.region.Rpl.{Rpl}
+use Rattle.dpj_base.specs.Regions.{substituted}
+use Rattle.dpj_base.specs.Types.{PlainType, plain_type, type_with}
+use Rattle.dpj_base.specs.Types.{PlainType as ty}
+use Rattle.dpj_headers.specs.Passes.{fault}
+use Rattle.dpj_classes.specs.declared.rows.FieldRow.{FieldRow}
+use Rattle.dpj_classes.specs.declared.table.Table.{Table}
+use Rattle.dpj_classes.specs.Table.{field_of, args_at}
+use Rattle.dpj_exprs.specs.declared.env.Env.{Env}
+use Rattle.dpj_exprs.specs.declared.fields.FieldAt.{FieldAt}
+use Rattle.dpj_exprs.specs.declared.found.Found.{Found}
+use Rattle.dpj_exprs.specs.Answer.{Answer, gives, refused, read}
+use Rattle.dpj_exprs.specs.Env.{table_of, is_length_name}
+use Rattle.dpj_exprs.specs.Partial.{mentions_partial, rigid_in_partial}
+use Rattle.dpj_exprs.specs.Typed.{is_array}
+
+-- a field as it is through a receiver
+pub record PlainField : Type 0 where
+  pub ty : PlainType
+  pub rpl : Rpl
+  pub may_read : Bool
+  pub may_write : Bool
+
+abbrev pub plain_field : FieldAt → PlainField
+plain_field field = record { ty = plain_type field.ty; rpl = field.rpl; may_read = field.may_read; may_write = field.may_write }
+
+-- a field with region arguments put in. Where one of them isn't fully specified, the field isn't written if its type
+-- mentions it, nor read if its type is rigid in it
+abbrev pub field_with : FieldRow → List Rpl → PlainField
+field_with row args =
+    record {
+      ty = type_with args (plain_type row.ty);
+      rpl = substituted args row.rpl;
+      may_read = not (rigid_in_partial (plain_type row.ty) 0 args);
+      may_write = not (mentions_partial (plain_type row.ty) 0 args);
+    }
+
+-- with the region arguments of the class that declares it, which is the receiver's class or a superclass
+abbrev pub owned_field : FieldRow → Option (List Rpl) → Place → Result PlainField Refusal
+owned_field row None place = Err (fault kind.Type place)
+owned_field row (Some args) place = Ok (field_with row args)
+
+-- the name is that of a field
+abbrev pub named_field : Table → ℕ → List Rpl → Option FieldRow → Place → Result PlainField Refusal
+named_field table class args None place = Err (fault kind.Unknown place)
+named_field table class args (Some row) place = owned_field row (args_at table class args row.owner) place
+
+-- the field of that name through a receiver, which has a class
+abbrev pub field_through : Table → PlainType → ℕ → Place → Result PlainField Refusal
+field_through table (ty.class class args) name place = named_field table class args (field_of table class name) place
+field_through table t name place = Err (fault kind.Type place)
+
+abbrev pub field_read : Result PlainField Refusal → Place → Found → Answer
+field_read (Ok field) place found = read field.may_read field.ty field.rpl place found
+field_read (Err refusal) place found = refused refusal
+
+-- a field, or the length of an array, of what a receiver gives
+abbrev pub read_field : Env → Option PlainType → ℕ → Place → Found → Answer
+read_field env None name place found = gives None found
+read_field env (Some t) name place found =
+    cond (is_array t && is_length_name env name) (gives (Some ty.int) found) (field_read (field_through (table_of env) t name place) place found)

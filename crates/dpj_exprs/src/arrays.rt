@@ -1,0 +1,149 @@
+ghost use Rattle.std.specs.Prelude.{◌≡◌, None, Some, Ok, Err, IfOk, IfErr, OnOk};
+ghost use Rattle.std.specs.Option.{option_copied};
+ghost use Rattle.dpj_base.specs.Refused.{IfRefused};
+ghost use Rattle.dpj_base.specs.Types.{plain_type};
+ghost use Rattle.dpj_resolve.specs.Reading.{path_meant, path_faults};
+ghost use Rattle.dpj_resolve.specs.Scopes.{plain_index};
+ghost use Rattle.dpj_exprs.specs.Arrays.{front_of, front_told, full_path, around_own, own_path, own_place, array_with, created_array};
+ghost use Rattle.dpj_exprs.specs.Env.{scope_of};
+ghost use Rattle.dpj_exprs.specs.Refusing.{told_first};
+ghost use Rattle.dpj_exprs.specs.Typed.{plain_typed};
+
+use crate::actuals::note_if;
+use crate::env::Env;
+use crate::fitting::refused;
+use crate::typed::Typed;
+use dpj_base::{Kind, Place, Rpl, Stop, Ty};
+use dpj_headers::Faults;
+use dpj_resolve::{IndexNames, Need, ReadType, array_made, path, read_type, root};
+use dpj_tree::{BaseTree, RplTree};
+use std::alloc::Global;
+
+/// Reads what stands in front of the length of an array creation.
+pub fn read_array(
+    alloc: Global,
+    env: &Env,
+    base: &BaseTree,
+    around: IndexNames,
+) -> Result<ReadType, Stop>
+    ensures ok { IfOk result (λ read. read ≡ front_of env.now (plain_index around.entry) base.now) }
+    ensures untold { OnOk result (front_told env.now (plain_index around.entry) base.now ≡ None) }
+    ensures told { IfErr result (λ stop. IfRefused stop (λ refusal. front_told env.now (plain_index around.entry) base.now ≡ Some refusal)) }
+{
+    let mut faults = Faults::by_number();
+    read_type(alloc, &env.scope(), &mut faults, base, around)
+}
+
+/// The region of the elements of a created array: `Root` where none is written.
+fn own_path(
+    alloc: Global,
+    env: &Env,
+    rpl: Option<&RplTree>,
+    around: IndexNames,
+) -> Result<Rpl, Stop>
+    ensures ok { IfOk result (λ own. own_path env.now (plain_index around.entry) (option_copied rpl.entry) ≡ Ok own) }
+    ensures fault { IfErr result (λ stop. IfRefused stop (λ refusal. own_path env.now (plain_index around.entry) (option_copied rpl.entry) ≡ Err refusal)) }
+{
+    match rpl {
+        Some(tree) => written_path(alloc, env, tree, around),
+        None => Ok(root(alloc)),
+    }
+}
+
+fn written_path(
+    alloc: Global,
+    env: &Env,
+    tree: &RplTree,
+    around: IndexNames,
+) -> Result<Rpl, Stop>
+    ensures ok { IfOk result (λ own. own_path env.now (plain_index around.entry) (Some tree.now) ≡ Ok own) }
+    ensures fault { IfErr result (λ stop. IfRefused stop (λ refusal. own_path env.now (plain_index around.entry) (Some tree.now) ≡ Err refusal)) }
+{
+    match read_path(alloc, env, tree, around)? {
+        Some(rpl) => Ok(rpl),
+        None => Err(refused(Kind::Unknown, tree.place)),
+    }
+}
+
+/// Reads the region path, which is to be fully specified.
+fn read_path(
+    alloc: Global,
+    env: &Env,
+    tree: &RplTree,
+    around: IndexNames,
+) -> Result<Option<Rpl>, Stop>
+    ensures ok { IfOk result (λ rpl. rpl ≡ path_meant (scope_of env.now) (around_own (plain_index around.entry)) tree.now) }
+    ensures untold { OnOk result (told_first (path_faults (scope_of env.now) (around_own (plain_index around.entry)) full_path tree.now) ≡ None) }
+    ensures told { IfErr result (λ stop. IfRefused stop (λ refusal. told_first (path_faults (scope_of env.now) (around_own (plain_index around.entry)) full_path tree.now) ≡ Some refusal)) }
+{
+    let mut faults = Faults::by_number();
+    let need = Need {
+        full: true,
+        atomic: false,
+    };
+    let around = around.at_suffix(around.suffixes.len());
+    path(alloc, &env.scope(), &mut faults, tree, need, &around)
+}
+
+/// The place of a written path, else that of the creation.
+fn own_place(rpl: Option<&RplTree>, place: Place) -> Place
+    ensures { result ≡ own_place (option_copied rpl.entry) place }
+{
+    match rpl {
+        Some(tree) => tree.place,
+        None => place,
+    }
+}
+
+/// The type of an array creation whose parts are read up to its length.
+pub fn array_creation(
+    alloc: Global,
+    env: &Env,
+    read: ReadType,
+    length: &Typed,
+    rpl: Option<&RplTree>,
+    around: IndexNames,
+    place: Place,
+) -> Result<Ty, Stop>
+    ensures ok { IfOk result (λ ty. created_array env.now (plain_index around.entry) read (plain_typed length.now) (option_copied rpl.entry) place ≡ Ok (plain_type ty)) }
+    ensures fault { IfErr result (λ stop. IfRefused stop (λ refusal. created_array env.now (plain_index around.entry) read (plain_typed length.now) (option_copied rpl.entry) place ≡ Err refusal)) }
+{
+    let own = own_path(alloc, env, rpl, around)?;
+    let own_place = own_place(rpl, place);
+    let is_length = length.is_int();
+    array_with(alloc, env, read, is_length, own, around, own_place, place)
+}
+
+/// The same with the region of the elements, where the length is an int or not.
+fn array_with(
+    alloc: Global,
+    env: &Env,
+    read: ReadType,
+    is_length: bool,
+    own: Rpl,
+    around: IndexNames,
+    own_place: Place,
+    place: Place,
+) -> Result<Ty, Stop>
+    ensures ok { IfOk result (λ ty. array_with env.now (plain_index around.entry) read is_length (Ok own) own_place place ≡ Ok (plain_type ty)) }
+    ensures fault { IfErr result (λ stop. IfRefused stop (λ refusal. array_with env.now (plain_index around.entry) read is_length (Ok own) own_place place ≡ Err refusal)) }
+{
+    let mut faults = Faults::by_number();
+    note_if(&mut faults, !is_length, Kind::Type, place);
+    let scope = env.scope();
+    let made = array_made(
+        alloc,
+        &scope,
+        &mut faults,
+        read,
+        own,
+        around,
+        own_place,
+        place,
+    )?;
+    faults.settle()?;
+    match made {
+        Some(ty) => Ok(ty),
+        None => Err(refused(Kind::RegionArgs, place)),
+    }
+}

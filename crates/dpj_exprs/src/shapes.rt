@@ -1,0 +1,65 @@
+ghost use Rattle.std.specs.Prelude.{◌≡◌, map};
+ghost use Rattle.dpj_base.specs.Types.{plain_type};
+ghost use Rattle.dpj_exprs.specs.Shapes.{may_equal, may_be_subtype, may_fit, shapes_fit};
+ghost use Rattle.dpj_exprs.specs.Typed.{plain_typed};
+
+use crate::typed::Typed;
+use dpj_base::Ty;
+use dpj_headers::Headers;
+
+/// Whether there are as many values as declared types, and each may stand where the one at its place is declared, for
+/// some regions.
+pub fn shapes_fit(headers: &Headers, actuals: &[Typed], declared: &[Ty]) -> bool
+    ensures { result ≡ shapes_fit headers.now (map plain_typed actuals.now) declared.now }
+{
+    if actuals.len() != declared.len() {
+        return false;
+    }
+    for i in 0..actuals.len() {
+        if !may_fit(headers, &actuals[i], &declared[i]) {
+            return false;
+        }
+    }
+    true
+}
+
+/// Whether a value may stand where the type is declared, for some regions.
+fn may_fit(headers: &Headers, value: &Typed, declared: &Ty) -> bool
+    ensures { result ≡ may_fit headers.now (plain_typed value.now) (plain_type declared.now) }
+{
+    match value {
+        Typed::Known(ty) => may_be_subtype(headers, ty, declared),
+        Typed::Any => true,
+    }
+}
+
+/// Whether the one type is a subtype of the other for some regions.
+fn may_be_subtype(headers: &Headers, value: &Ty, declared: &Ty) -> bool
+    ensures { result ≡ may_be_subtype headers.now (plain_type value.now) (plain_type declared.now) }
+{
+    match (value, declared) {
+        (Ty::Int, Ty::Int) | (Ty::Bool, Ty::Bool) => true,
+        (Ty::Null, Ty::Class { .. } | Ty::Array { .. }) => true,
+        (Ty::Class { class, .. }, Ty::Class { class: other, .. }) => {
+            headers.is_below(*class, *other)
+        }
+        (Ty::Array { elem, .. }, Ty::Array { elem: other, .. }) => {
+            may_equal(elem.get(), other.get())
+        }
+        _ => false,
+    }
+}
+
+/// Whether two types are the same for some regions.
+fn may_equal(a: &Ty, b: &Ty) -> bool
+    ensures { result ≡ may_equal (plain_type a.now) (plain_type b.now) }
+{
+    match (a, b) {
+        (Ty::Int, Ty::Int) | (Ty::Bool, Ty::Bool) => true,
+        (Ty::Class { class, .. }, Ty::Class { class: other, .. }) => *class == *other,
+        (Ty::Array { elem, .. }, Ty::Array { elem: other, .. }) => {
+            may_equal(elem.get(), other.get())
+        }
+        _ => false,
+    }
+}
