@@ -1,2 +1,3 @@
 mod Assigning
 mod Meeting
+pub mod Noting

@@ -31,3 +31,25 @@ abbrev mutual
   pub all_complete : PlainStmts → Bool
   all_complete no_stmts = true
   all_complete (more_stmts s ss) = completes s && all_complete ss
+
+-- neither a block nor an `if` nor a `return`
+abbrev pub form_goes_on : StmtForm → Bool
+form_goes_on (block all) = false
+form_goes_on (choice test then_part) = false
+form_goes_on (choice_else test then_part else_part) = false
+form_goes_on return_nothing = false
+form_goes_on (return_value value) = false
+form_goes_on form = true
+
+abbrev pub goes_on : PlainStmt → Bool
+goes_on (statement node place form) = form_goes_on form
+
+-- a `while`, a `foreach` or a `foreach_parts`
+abbrev pub form_is_loop : StmtForm → Bool
+form_is_loop (while_loop test body) = true
+form_is_loop (foreach nd var start count body) = true
+form_is_loop (foreach_parts view var array count body) = true
+form_is_loop form = false
+
+abbrev pub is_loop : PlainStmt → Bool
+is_loop (statement node place form) = form_is_loop form

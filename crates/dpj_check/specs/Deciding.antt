@@ -1,17 +1,22 @@
 -- When a node of a body is refused, told of what was found of its parts.
-use Rattle.std.specs.Prelude.{ℕ, Bool, true, false, not, ◌&&◌, ◌||◌, cond, IsTrue, Option, Some, None, Result, Ok, Err}
+use Rattle.std.specs.Prelude.{ℕ, List, Bool, true, false, not, ◌&&◌, ◌||◌, cond, IsTrue, Option, Some, None, Result, Ok, Err}
 use Rattle.dpj_base.specs.declared.place.Place.{Place}
 use Rattle.dpj_base.specs.declared.refusal.Kind.{Kind}
 use Rattle.dpj_base.specs.declared.refusal.Kind.TheVariants as kind
 use Rattle.dpj_base.specs.declared.refusal.Stop.{Stop}
 use Rattle.dpj_base.specs.Effects.{same_bool}
+use Rattle.dpj_base.specs.Regions.{fully_specified}
+use Rattle.dpj_base.specs.Types.{PlainType, plain_type}
+use Rattle.dpj_base.specs.Types.PlainType.{array}
+use Rattle.dpj_base.specs.declared.ty.Super.{Super}
+use Rattle.dpj_classes.specs.declared.rows.MethodRow.{MethodRow}
 use Rattle.dpj_tree.specs.declared.class.MethodResult.{MethodResult}
 use Rattle.dpj_tree.specs.declared.class.MethodResult.TheVariants as given
 use Rattle.dpj_tree.specs.Plain.{PlainStmt}
 use Rattle.dpj_locals.specs.Touches.{stmt_assigns}
 use Rattle.dpj_exprs.specs.Refusing.{refusal_at}
 use Rattle.dpj_exprs.specs.declared.typed.Typed.{Typed}
-use Rattle.dpj_exprs.specs.Typed.{passes, is_int, is_boolean}
+use Rattle.dpj_exprs.specs.Typed.{passes, is_int, is_boolean, is_value, Fits}
 use Rattle.dpj_check.specs.declared.node.Around.{Around}
 use Rattle.dpj_check.specs.declared.leaving.Marks.{Marks}
 use Rattle.dpj_check.specs.declared.leaving.Marks.TheVariants as marks
@@ -52,3 +57,16 @@ interference nd = cond nd kind.InterferesNd kind.Interferes
 -- behind an nd construct marks are kept, and behind any other they are dropped
 abbrev pub marks_behind : Bool → Marks
 marks_behind nd = cond nd marks.Kept marks.Dropped
+
+-- a value may be returned: it fits the result of the method, or where the method has none it is a value at all
+abbrev pub Returned : List Super → Bool → Option MethodRow → Typed → Type 0
+Returned supers true (Some row) value = Fits supers value (plain_type row.result)
+Returned supers true None value = IsTrue (passes is_value value)
+Returned supers false row value = IsTrue (passes is_value value)
+
+-- what is wrong with what is cut into parts: it is no array, or one with an index name, or its path isn't fully
+-- specified
+abbrev pub whole_fault : PlainType → Option Kind
+whole_fault (array elem rpl None) = cond (fully_specified rpl) None (Some kind.RegionArgs)
+whole_fault (array elem rpl (Some i)) = Some kind.Type
+whole_fault t = Some kind.Type

@@ -1,6 +1,7 @@
-ghost use Rattle.std.specs.Prelude.{◌≡◌, IfOk};
+ghost use Rattle.std.specs.Prelude.{◌≡◌, IfOk, OnOk};
 ghost use Rattle.dpj_base.specs.Effects.{set_covers};
 ghost use Rattle.dpj_check.specs.Deciding.{has_value, method_fault, told_at};
+ghost use Rattle.dpj_check.specs.Keeping.{MethodKeeps, MemberKeeps, MembersKeep, ProgramKeeps};
 ghost use Rattle.dpj_tree.specs.Nd.{program_uses_nd};
 
 use crate::accepted::Accepted;
@@ -19,7 +20,8 @@ use std::alloc::Global;
 /// Checks the bodies of a program, class by class and member by member in the order of the text, and tells the
 /// fault of the first node that has one. `table` is the program's.
 pub fn check(alloc: Global, program: &Program, table: &Table) -> Result<Accepted, Stop>
-    ensures { IfOk result (λ accepted. accepted.uses_nd ≡ program_uses_nd program.now) }
+    ensures nd { IfOk result (λ accepted. accepted.uses_nd ≡ program_uses_nd program.now) }
+    ensures keeps { OnOk result (ProgramKeeps program.now) }
 {
     let mut body = Body::new(alloc, Env::new(alloc, table, length_name(program)));
     let mut methods = 0;
@@ -39,29 +41,54 @@ pub fn check(alloc: Global, program: &Program, table: &Table) -> Result<Accepted
 }
 
 /// Checks the bodies of a class, of which the first has that number, and gives the number behind the last.
-fn check_members(body: &mut Body, class: &Class, first: u32) -> Result<u32, Stop> {
+fn check_members(body: &mut Body, class: &Class, first: u32) -> Result<u32, Stop>
+    ensures { OnOk result (MembersKeep class.now.members) }
+{
     let mut number = first;
     for member in class.members.as_slice() {
-        if let Member::Method(method) = member {
-            body.enter_method(number, class.params.list.len())?;
-            check_method(body, method, number)?;
-            number = number.saturating_add(1);
-        }
+        number = check_member(body, member, class.params.list.len(), number)?;
     }
     Ok(number)
 }
 
-/// Checks the body of a method or a constructor.
-fn check_method(body: &mut Body, method: &Method, number: u32) -> Result<(), Stop> {
-    let table = body.env.table;
-    let Some(row) = table.numbered(number) else {
-        return Ok(());
+/// Checks the body of a member that has one, in a class with so many region parameters, and gives the number
+/// behind it.
+fn check_member(
+    body: &mut Body,
+    member: &Member,
+    class_params: usize,
+    number: u32,
+) -> Result<u32, Stop>
+    ensures { OnOk result (MemberKeeps member.now) }
+{
+    let Member::Method(method) = member else {
+        return Ok(number);
     };
-    declare_formals(body, method.formals.as_slice(), row.params.as_slice())?;
+    body.enter_method(number, class_params)?;
+    check_method(body, method, number)?;
+    Ok(number.saturating_add(1))
+}
+
+/// Checks the body of a method or a constructor. One without a row has no formals in scope, and may have no effect.
+fn check_method(body: &mut Body, method: &Method, number: u32) -> Result<(), Stop>
+    ensures { OnOk result (MethodKeeps method.now) }
+{
+    let table = body.env.table;
+    let nothing = EffectSet::new(body.alloc);
+    let row = table.numbered(number);
+    let params = match row {
+        Some(row) => row.params.as_slice(),
+        None => &[],
+    };
+    let summary = match row {
+        Some(row) => &row.summary,
+        None => &nothing,
+    };
+    declare_formals(body, method.formals.as_slice(), params)?;
     let around = Around::method(has_value(&method.result));
     let mut done = Gathered::new(body.alloc);
     let completes = block(body, around, method.body.as_slice(), &mut done)?;
-    settle_method(method, &row.summary, completes, done.effects())
+    settle_method(method, summary, completes, done.effects())
 }
 
 fn has_value(told: &MethodResult) -> bool

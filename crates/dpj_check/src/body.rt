@@ -42,6 +42,15 @@ impl<'a> Body<'a> {
 }
 
 impl Body<'_> {
+    ghost use Rattle.std.specs.Prelude.{◌≡◌, ◌↔◌, ◌&&◌, ◌||◌, None, not, IsTrue, IfOk, OnOk};
+    ghost use Rattle.dpj_base.specs.Types.{plain_type};
+    ghost use Rattle.dpj_tree.specs.Plain.{plain_expr};
+    ghost use Rattle.dpj_classes.specs.Table.{numbered};
+    ghost use Rattle.dpj_exprs.specs.Typed.{known, is_int, is_boolean, Fits};
+    ghost use Rattle.dpj_check.specs.Deciding.{Returned};
+    ghost use Rattle.dpj_check.specs.Noting.{fault_of, noted_passes, with_fault_if};
+    ghost use Rattle.dpj_check.specs.Reaching.{reaches_nd, noted_type};
+
     /// Goes over to a class.
     pub fn enter_class(&mut self, class: u32) -> Result<(), NoMemory> {
         self.env.enter_class(self.alloc, class)?;
@@ -72,7 +81,10 @@ impl Body<'_> {
     }
 
     /// Types an expression, and gathers what it does.
-    pub fn typed(&mut self, around: Around, e: &Expr, out: &mut Gathered) -> Result<Typed, Stop> {
+    pub fn typed(&mut self, around: Around, e: &Expr, out: &mut Gathered) -> Result<Typed, Stop>
+        ensures noted { IfOk result (λ typed. noted_type self.new.known.types e.now.node ≡ known typed) }
+        ensures nd { OnOk result (out.new.reaches_nd ≡ (out.old.reaches_nd || (around.in_atomic && reaches_nd self.new.env.table.now self.new.known.types (plain_expr e.now)))) }
+    {
         let typed = expr(
             self.alloc,
             &self.env,
@@ -85,10 +97,12 @@ impl Body<'_> {
     }
 
     /// Notes whether an nd construct is reached from an expression in an atomic block.
-    pub fn follow(&self, around: Around, e: &Expr, out: &mut Gathered) {
-        if around.in_atomic && reaches_nd(self.env.table, &self.known.types, e) {
-            out.reaches_nd = true;
-        }
+    pub fn follow(&self, around: Around, e: &Expr, out: &mut Gathered)
+        ensures found { out.new.found ≡ out.old.found }
+        ensures nd { out.new.reaches_nd ≡ (out.old.reaches_nd || (around.in_atomic && reaches_nd self.now.env.table.now self.now.known.types (plain_expr e.now))) }
+    {
+        out.reaches_nd = out.reaches_nd
+            || around.in_atomic && reaches_nd(self.env.table, &self.known.types, e);
     }
 
     /// An expression that is to be an int.
@@ -98,10 +112,13 @@ impl Body<'_> {
         e: &Expr,
         out: &mut Gathered,
         node: &mut Node,
-    ) -> Result<(), Stop> {
-        if !self.typed(around, e, out)?.is_int() {
-            node.note(Kind::Type);
-        }
+    ) -> Result<(), Stop>
+        ensures node { OnOk result (node.new ≡ with_fault_if node.old Kind.Type (not (noted_passes is_int (noted_type self.new.known.types e.now.node)))) }
+        ensures clean { OnOk result (fault_of node.new ≡ None → fault_of node.old ≡ None) }
+        ensures nd { OnOk result (out.new.reaches_nd ≡ (out.old.reaches_nd || (around.in_atomic && reaches_nd self.new.env.table.now self.new.known.types (plain_expr e.now)))) }
+    {
+        let value = self.typed(around, e, out)?;
+        node.note_if(Kind::Type, !value.is_int());
         Ok(())
     }
 
@@ -112,20 +129,27 @@ impl Body<'_> {
         e: &Expr,
         out: &mut Gathered,
         node: &mut Node,
-    ) -> Result<(), Stop> {
-        if !self.typed(around, e, out)?.is_boolean() {
-            node.note(Kind::Type);
-        }
+    ) -> Result<(), Stop>
+        ensures node { OnOk result (node.new ≡ with_fault_if node.old Kind.Type (not (noted_passes is_boolean (noted_type self.new.known.types e.now.node)))) }
+        ensures clean { OnOk result (fault_of node.new ≡ None → fault_of node.old ≡ None) }
+        ensures nd { OnOk result (out.new.reaches_nd ≡ (out.old.reaches_nd || (around.in_atomic && reaches_nd self.new.env.table.now self.new.known.types (plain_expr e.now)))) }
+    {
+        let value = self.typed(around, e, out)?;
+        node.note_if(Kind::Type, !value.is_boolean());
         Ok(())
     }
 
     /// Whether a value may stand where the type is declared.
-    pub fn fits(&self, value: &Typed, declared: &Ty) -> Result<bool, NoMemory> {
+    pub fn fits(&self, value: &Typed, declared: &Ty) -> Result<bool, NoMemory>
+        ensures { IfOk result (λ fit. IsTrue fit ↔ Fits self.now.env.supers.rows.now value.now (plain_type declared.now)) }
+    {
         fits(self.alloc, &self.env, value, declared)
     }
 
     /// Whether the value may be returned. Where the method has no result that is asked of `void` alone.
-    pub fn is_returned(&self, around: Around, value: &Typed) -> Result<bool, NoMemory> {
+    pub fn is_returned(&self, around: Around, value: &Typed) -> Result<bool, NoMemory>
+        ensures { IfOk result (λ fit. IsTrue fit ↔ Returned self.now.env.supers.rows.now around.has_result (numbered self.now.env.table.now self.now.env.method) value.now) }
+    {
         match self.env.table.numbered(self.env.method) {
             Some(row) if around.has_result => self.fits(value, &row.result),
             _ => Ok(value.is_value()),
@@ -133,7 +157,9 @@ impl Body<'_> {
     }
 
     /// A name that is declared while a local or a formal has it is a fault.
-    pub fn note_duplicate(&self, name: u32, place: Place, node: &mut Node) {
+    pub fn note_duplicate(&self, name: u32, place: Place, node: &mut Node)
+        ensures { fault_of node.new ≡ None → fault_of node.old ≡ None }
+    {
         if self.env.local(name).is_some() {
             node.note_at(Kind::Duplicate, place);
         }

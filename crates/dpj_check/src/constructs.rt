@@ -1,6 +1,9 @@
-ghost use Rattle.std.specs.Prelude.{◌≡◌, ◌↔◌, ◌<◌, IsTrue, IfOk};
-ghost use Rattle.dpj_tree.specs.Plain.{plain_stmt};
+ghost use Rattle.std.specs.Prelude.{◌≡◌, ◌↔◌, ◌<◌, ◌||◌, None, false, map, IsTrue, IfOk, OnOk};
+ghost use Rattle.dpj_tree.specs.Nd.{holds_nd, some_holds_nd};
+ghost use Rattle.dpj_tree.specs.Plain.{plain_stmt, plain_stmts};
 ghost use Rattle.dpj_check.specs.Deciding.{interference, marks_behind, AssignsOuter};
+ghost use Rattle.dpj_check.specs.Keeping.{branch_around, atomic_around, Keeps, AllKeep, BranchesKeep};
+ghost use Rattle.dpj_check.specs.Noting.{fault_of};
 
 use crate::body::Body;
 use crate::gathered::Gathered;
@@ -40,7 +43,11 @@ pub fn cobegin(
     nd: bool,
     branches: &[Stmt],
     out: &mut Gathered,
-) -> Result<(), Stop> {
+) -> Result<(), Stop>
+    ensures clean { OnOk result (fault_of node ≡ None) }
+    ensures keeps { OnOk result (BranchesKeep (branch_around around) (plain_stmts (map plain_stmt branches.now))) }
+    ensures nd { OnOk result (IsTrue (out.old.reaches_nd || (nd || some_holds_nd (plain_stmts (map plain_stmt branches.now)))) → IsTrue out.new.reaches_nd) }
+{
     let mut node = node;
     let mut effects = Items::new(body.alloc);
     let mut locals = Items::new(body.alloc);
@@ -53,13 +60,10 @@ pub fn cobegin(
         out.take_in(body.alloc, inner, &leaving)?;
     }
     out.reaches_nd = out.reaches_nd || nd;
-    if has_clash(body.alloc, locals.as_slice())? {
-        node.note(Kind::Assign);
-    }
+    node.note_if(Kind::Assign, has_clash(body.alloc, locals.as_slice())?);
     node.settle()?;
-    if !branches_pass(body, nd, effects.as_slice())? {
-        node.note(interference(nd));
-    }
+    let passes = branches_pass(body, nd, effects.as_slice())?;
+    node.note_if(interference(nd), !passes);
     node.settle()
 }
 
@@ -73,7 +77,12 @@ pub fn foreach(
     var: Named,
     turn: &Stmt,
     out: &mut Gathered,
-) -> Result<(), Stop> {
+) -> Result<(), Stop>
+    ensures clean { OnOk result (fault_of node ≡ None) }
+    ensures keeps { OnOk result (Keeps (branch_around around) (plain_stmt turn.now)) }
+    ensures locals { OnOk result (¬ AssignsOuter (plain_stmt turn.now)) }
+    ensures nd { OnOk result (IsTrue (out.old.reaches_nd || (nd || holds_nd (plain_stmt turn.now))) → IsTrue out.new.reaches_nd) }
+{
     let mut node = node;
     body.note_duplicate(var.name, var.place, &mut node);
     let number = variable(node.number);
@@ -83,13 +92,10 @@ pub fn foreach(
     scoped(body, around.branch(), turn, &mut inner)?;
     body.env.leave(scope);
     inner.reaches_nd = inner.reaches_nd || nd;
-    if assigns_outer(body.alloc, turn)? {
-        node.note(Kind::Assign);
-    }
+    node.note_if(Kind::Assign, assigns_outer(body.alloc, turn)?);
     node.settle()?;
-    if !turns_pass(body, nd, &inner, number)? {
-        node.note(interference(nd));
-    }
+    let passes = turns_pass(body, nd, &inner, number)?;
+    node.note_if(interference(nd), !passes);
     node.settle()?;
     let leaving = Leaving::variable(body.alloc, number, marks_behind(nd))?;
     out.take_in(body.alloc, inner, &leaving)?;
@@ -118,13 +124,16 @@ pub fn atomic(
     node: Node,
     stmts: &[Stmt],
     out: &mut Gathered,
-) -> Result<(), Stop> {
+) -> Result<(), Stop>
+    ensures clean { OnOk result (fault_of node ≡ None) }
+    ensures keeps { OnOk result (AllKeep (atomic_around around) (plain_stmts (map plain_stmt stmts.now))) }
+    ensures quiet { OnOk result (some_holds_nd (plain_stmts (map plain_stmt stmts.now)) ≡ false) }
+    ensures nd { OnOk result (IsTrue (out.old.reaches_nd || some_holds_nd (plain_stmts (map plain_stmt stmts.now))) → IsTrue out.new.reaches_nd) }
+{
     let mut node = node;
     let mut inner = Gathered::new(body.alloc);
     block(body, around.atomic(), stmts, &mut inner)?;
-    if inner.reaches_nd {
-        node.note(Kind::AtomicBody);
-    }
+    node.note_if(Kind::AtomicBody, inner.reaches_nd);
     node.settle()?;
     body.known.blocks.push(inner.entered(body.alloc)?)?;
     let leaving = Leaving::nothing(body.alloc, Marks::Set);

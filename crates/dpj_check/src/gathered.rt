@@ -84,7 +84,9 @@ impl Gathered {
         alloc: Global,
         view: u32,
         outer: Option<u32>,
-    ) -> Result<(), NoMemory> {
+    ) -> Result<(), NoMemory>
+        ensures nd { OnOk result (self.new.reaches_nd ≡ self.old.reaches_nd) }
+    {
         let uses = std::mem::replace(&mut self.found.uses, Items::new(alloc));
         let mut own = Items::new(alloc);
         for part_use in uses.into_vec() {

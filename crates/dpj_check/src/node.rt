@@ -57,38 +57,64 @@ pub struct Node {
 }
 
 impl Node {
+    ghost use Rattle.std.specs.Prelude.{◌≡◌, ◌≢◌, None, false, OnOk};
+    ghost use Rattle.dpj_headers.specs.Faults.{settled};
+    ghost use Rattle.dpj_check.specs.Noting.{fault_of, node_at, settled_node, with_fault, with_fault_if, with_found};
+
     /// A statement behind one that doesn't complete is a fault.
-    pub fn of(stmt: &Stmt, follows: bool) -> Node {
+    #[tactic(auto, using(crate::proofs::Noting::noted_told))]
+    pub fn of(stmt: &Stmt, follows: bool) -> Node
+        ensures node { result ≡ node_at stmt.now.node stmt.now.place follows }
+        ensures clean { fault_of result ≡ None → follows ≡ false }
+    {
         let mut node = Node {
             number: stmt.node,
             place: stmt.place,
             faults: Faults::by_number(),
         };
-        if follows {
-            node.note(Kind::Return);
-        }
+        node.note_if(Kind::Return, follows);
         node
     }
 
-    /// Notes a fault at the statement's own place.
-    pub fn note(&mut self, kind: Kind) {
-        self.faults.note(kind, self.place);
+    /// Notes a fault at the statement's own place, where it is there.
+    #[tactic(auto, using(crate::proofs::Noting::noted_told))]
+    pub fn note_if(&mut self, kind: Kind, is_there: bool)
+        ensures node { self.new ≡ with_fault_if self.old kind is_there }
+        ensures clean { fault_of self.new ≡ None → fault_of self.old ≡ None }
+        ensures absent { fault_of self.new ≡ None → is_there ≡ false }
+    {
+        if is_there {
+            self.faults.note(kind, self.place);
+        }
     }
 
     /// Notes a fault at the statement's own place, where one was found.
-    pub fn note_found(&mut self, kind: Option<Kind>) {
+    #[tactic(auto, using(crate::proofs::Noting::noted_told))]
+    pub fn note_found(&mut self, kind: Option<Kind>)
+        ensures node { self.new ≡ with_found self.old kind }
+        ensures clean { fault_of self.new ≡ None → fault_of self.old ≡ None }
+        ensures absent { fault_of self.new ≡ None → kind ≡ None }
+    {
         if let Some(kind) = kind {
-            self.note(kind);
+            self.faults.note(kind, self.place);
         }
     }
 
     /// Notes a fault at another place.
-    pub fn note_at(&mut self, kind: Kind, place: Place) {
+    #[tactic(auto, using(crate::proofs::Noting::noted_told))]
+    pub fn note_at(&mut self, kind: Kind, place: Place)
+        ensures node { self.new ≡ with_fault self.old kind place }
+        ensures told { fault_of self.new ≢ None }
+    {
         self.faults.note(kind, place);
     }
 
     /// Tells the fault that comes first, if there is one.
-    pub fn settle(&mut self) -> Result<(), Stop> {
+    pub fn settle(&mut self) -> Result<(), Stop>
+        ensures result { result ≡ settled (fault_of self.old) }
+        ensures clean { OnOk result (fault_of self.old ≡ None) }
+        ensures forgotten { self.new ≡ settled_node self.old }
+    {
         self.faults.settle()
     }
 }

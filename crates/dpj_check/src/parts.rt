@@ -1,3 +1,11 @@
+ghost use Rattle.std.specs.Prelude.{◌≡◌, ◌||◌, None, IsTrue, OnOk};
+ghost use Rattle.dpj_tree.specs.Nd.{holds_nd};
+ghost use Rattle.dpj_tree.specs.Plain.{plain_stmt};
+ghost use Rattle.dpj_base.specs.Types.{plain_type};
+ghost use Rattle.dpj_check.specs.Deciding.{whole_fault, AssignsOuter};
+ghost use Rattle.dpj_check.specs.Keeping.{branch_around, Keeps};
+ghost use Rattle.dpj_check.specs.Noting.{fault_of};
+
 use crate::body::Body;
 use crate::constructs::{assigns_outer, variable};
 use crate::gathered::Gathered;
@@ -29,7 +37,12 @@ pub fn foreach_parts(
     range: (&Expr, &Expr),
     turn: &Stmt,
     out: &mut Gathered,
-) -> Result<(), Stop> {
+) -> Result<(), Stop>
+    ensures clean { OnOk result (fault_of node ≡ None) }
+    ensures keeps { OnOk result (Keeps (branch_around around) (plain_stmt turn.now)) }
+    ensures locals { OnOk result (¬ AssignsOuter (plain_stmt turn.now)) }
+    ensures nd { OnOk result (IsTrue (out.old.reaches_nd || holds_nd (plain_stmt turn.now)) → IsTrue out.new.reaches_nd) }
+{
     let mut node = node;
     let number = variable(node.number);
     let mut inner = Gathered::new(body.alloc);
@@ -37,13 +50,10 @@ pub fn foreach_parts(
     let outer = declare_part(body, around, &mut node, number, names, range, out)?;
     scoped(body, around.branch(), turn, &mut inner)?;
     body.env.leave(scope);
-    if assigns_outer(body.alloc, turn)? {
-        node.note(Kind::Assign);
-    }
+    node.note_if(Kind::Assign, assigns_outer(body.alloc, turn)?);
     node.settle()?;
-    if !parts_pass(body, &inner, number)? {
-        node.note(Kind::Interferes);
-    }
+    let passes = parts_pass(body, &inner, number)?;
+    node.note_if(Kind::Interferes, !passes);
     node.settle()?;
     inner.hand_on_uses(body.alloc, number, outer)?;
     let leaving = Leaving::variable(body.alloc, number, Marks::Dropped)?;
@@ -61,13 +71,14 @@ fn declare_part(
     names: (Named, Named),
     range: (&Expr, &Expr),
     out: &mut Gathered,
-) -> Result<Option<u32>, Stop> {
+) -> Result<Option<u32>, Stop>
+    ensures clean { OnOk result (fault_of node.new ≡ None → fault_of node.old ≡ None) }
+    ensures nd { OnOk result (IsTrue out.old.reaches_nd → IsTrue out.new.reaches_nd) }
+{
     let (view, var) = names;
     let (array, count) = range;
     let whole = whole_of(body, around, array, out)?;
-    if let Some(kind) = whole.fault {
-        node.note(kind);
-    }
+    node.note_found(whole.fault);
     body.int(around, count, out, node)?;
     let Whole {
         ty,
@@ -87,14 +98,28 @@ fn whole_of(
     around: Around,
     array: &Expr,
     out: &mut Gathered,
-) -> Result<Whole, Stop> {
+) -> Result<Whole, Stop>
+    ensures { OnOk result (IsTrue out.old.reaches_nd → IsTrue out.new.reaches_nd) }
+{
     if let Some(whole) = part_of_part(body, array)? {
         return Ok(whole);
     }
     let Typed::Known(ty) = body.typed(around, array, out)? else {
         return Ok(no_array());
     };
-    let fault = match &ty {
+    let fault = whole_fault(&ty);
+    Ok(Whole {
+        ty,
+        view: None,
+        fault,
+    })
+}
+
+/// What is wrong with what is cut into parts.
+fn whole_fault(ty: &Ty) -> Option<Kind>
+    ensures { result ≡ whole_fault (plain_type ty.now) }
+{
+    match ty {
         Ty::Array {
             rpl,
             index: None,
@@ -102,12 +127,7 @@ fn whole_of(
         } if is_full(rpl) => None,
         Ty::Array { index: None, .. } => Some(Kind::RegionArgs),
         _ => Some(Kind::Type),
-    };
-    Ok(Whole {
-        ty,
-        view: None,
-        fault,
-    })
+    }
 }
 
 /// What comes from a part of what is no array, and is none itself. That is told at the outer construct.

@@ -1,3 +1,8 @@
+ghost use Rattle.std.specs.Prelude.{◌≡◌, map};
+ghost use Rattle.std.specs.Option.{option_copied};
+ghost use Rattle.dpj_tree.specs.Plain.{plain_expr, plain_exprs};
+ghost use Rattle.dpj_check.specs.Reaching.{constructor_forks, method_forks, reaches_nd, some_reaches_nd};
+
 use dpj_base::Ty;
 use dpj_classes::Table;
 use dpj_exprs::NodeTypes;
@@ -6,7 +11,9 @@ use dpj_tree::{Expr, ExprKind};
 /// Whether an nd construct is reached by a call or a creation that stands in an expression. It goes as deep as the
 /// expression is nested.
 #[cycle(reach)]
-pub fn reaches_nd(table: &Table, types: &NodeTypes, e: &Expr) -> bool {
+pub fn reaches_nd(table: &Table, types: &NodeTypes, e: &Expr) -> bool
+    ensures { result ≡ reaches_nd table.now types.now (plain_expr e.now) }
+{
     match &e.kind {
         ExprKind::Field { of, .. } => reaches_nd(table, types, of.get()),
         ExprKind::Unary { arg, .. } => reaches_nd(table, types, arg.get()),
@@ -36,7 +43,9 @@ pub fn reaches_nd(table: &Table, types: &NodeTypes, e: &Expr) -> bool {
 }
 
 #[cycle(reach)]
-fn some_reaches_nd(table: &Table, types: &NodeTypes, exprs: &[Expr]) -> bool {
+fn some_reaches_nd(table: &Table, types: &NodeTypes, exprs: &[Expr]) -> bool
+    ensures { result ≡ some_reaches_nd table.now types.now (plain_exprs (map plain_expr exprs.now)) }
+{
     for e in exprs {
         if reaches_nd(table, types, e) {
             return true;
@@ -45,7 +54,9 @@ fn some_reaches_nd(table: &Table, types: &NodeTypes, exprs: &[Expr]) -> bool {
     false
 }
 
-fn method_forks(table: &Table, receiver: Option<&Ty>, name: u32) -> bool {
+fn method_forks(table: &Table, receiver: Option<&Ty>, name: u32) -> bool
+    ensures { result ≡ method_forks table.now (option_copied receiver.entry) name }
+{
     let Some(Ty::Class { class, .. }) = receiver else {
         return false;
     };
@@ -55,7 +66,9 @@ fn method_forks(table: &Table, receiver: Option<&Ty>, name: u32) -> bool {
     }
 }
 
-fn constructor_forks(table: &Table, name: u32) -> bool {
+fn constructor_forks(table: &Table, name: u32) -> bool
+    ensures { result ≡ constructor_forks table.now name }
+{
     let Some(class) = table.headers().class(name) else {
         return false;
     };

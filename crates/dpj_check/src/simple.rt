@@ -1,5 +1,6 @@
-ghost use Rattle.std.specs.Prelude.{◌≡◌};
+ghost use Rattle.std.specs.Prelude.{◌≡◌, None, false, is_some, IsTrue, OnOk};
 ghost use Rattle.dpj_check.specs.Deciding.{is_misplaced, is_printed, local_fault};
+ghost use Rattle.dpj_check.specs.Noting.{fault_of, with_refusal};
 
 use crate::body::Body;
 use crate::gathered::Gathered;
@@ -20,15 +21,17 @@ pub fn declare(
     name: u32,
     value: &Expr,
     out: &mut Gathered,
-) -> Result<(), Stop> {
+) -> Result<(), Stop>
+    ensures clean { OnOk result (fault_of node ≡ None) }
+    ensures nd { OnOk result (IsTrue out.old.reaches_nd → IsTrue out.new.reaches_nd) }
+{
     let mut node = node;
     let declared = declared_type(body, tree)?;
     let value = body.typed(around, value, out)?;
     let place = node.place;
     body.note_duplicate(name, place, &mut node);
-    if !body.fits(&value, &declared)? {
-        node.note(Kind::Type);
-    }
+    let fits = body.fits(&value, &declared)?;
+    node.note_if(Kind::Type, !fits);
     node.settle()?;
     body.declare(name, node.number, declared, is_final)?;
     Ok(())
@@ -51,7 +54,10 @@ pub fn assign_local(
     target: Named,
     value: &Expr,
     out: &mut Gathered,
-) -> Result<(), Stop> {
+) -> Result<(), Stop>
+    ensures clean { OnOk result (fault_of node ≡ None) }
+    ensures nd { OnOk result (IsTrue out.old.reaches_nd → IsTrue out.new.reaches_nd) }
+{
     let mut node = node;
     let value = body.typed(around, value, out)?;
     match body.env.local(target.name) {
@@ -79,7 +85,10 @@ pub fn assign_place(
     written: &Expr,
     value: &Expr,
     out: &mut Gathered,
-) -> Result<(), Stop> {
+) -> Result<(), Stop>
+    ensures clean { OnOk result (fault_of node ≡ None) }
+    ensures nd { OnOk result (IsTrue out.old.reaches_nd → IsTrue out.new.reaches_nd) }
+{
     let mut node = node;
     let alloc = body.alloc;
     let target = read_target(
@@ -97,14 +106,16 @@ pub fn assign_place(
             let assigned = assign(alloc, &body.env, found, target, &value, node.place);
             note_refusal(assigned, &mut node)?;
         }
-        None if value.is_value() => {}
-        None => node.note(Kind::Type),
+        None => node.note_if(Kind::Type, !value.is_value()),
     }
     node.settle()
 }
 
 /// Notes a refusal of the node at hand beside its other faults.
-fn note_refusal(outcome: Result<(), Stop>, node: &mut Node) -> Result<(), Stop> {
+fn note_refusal(outcome: Result<(), Stop>, node: &mut Node) -> Result<(), Stop>
+    ensures node { OnOk result (node.new ≡ with_refusal node.old outcome) }
+    ensures clean { OnOk result (fault_of node.new ≡ None → fault_of node.old ≡ None) }
+{
     match outcome {
         Err(Stop::Refused(refusal)) => node.note_at(refusal.kind, refusal.place),
         Err(Stop::NoMemory) => return Err(Stop::NoMemory),
@@ -120,7 +131,10 @@ pub fn perform(
     node: Node,
     e: &Expr,
     out: &mut Gathered,
-) -> Result<(), Stop> {
+) -> Result<(), Stop>
+    ensures clean { OnOk result (fault_of node ≡ None) }
+    ensures nd { OnOk result (IsTrue out.old.reaches_nd → IsTrue out.new.reaches_nd) }
+{
     let mut node = node;
     body.typed(around, e, out)?;
     node.settle()
@@ -133,16 +147,17 @@ pub fn leave(
     node: Node,
     value: Option<&Expr>,
     out: &mut Gathered,
-) -> Result<(), Stop> {
+) -> Result<(), Stop>
+    ensures placed { OnOk result (is_misplaced around (is_some value.entry) ≡ false) }
+    ensures clean { OnOk result (fault_of node ≡ None) }
+    ensures nd { OnOk result (IsTrue out.old.reaches_nd → IsTrue out.new.reaches_nd) }
+{
     let mut node = node;
-    if is_misplaced(around, value.is_some()) {
-        node.note(Kind::Return);
-    }
+    node.note_if(Kind::Return, is_misplaced(around, value.is_some()));
     if let Some(value) = value {
         let value = body.typed(around, value, out)?;
-        if !body.is_returned(around, &value)? {
-            node.note(Kind::Type);
-        }
+        let fits = body.is_returned(around, &value)?;
+        node.note_if(Kind::Type, !fits);
     }
     node.settle()
 }
@@ -161,12 +176,13 @@ pub fn print(
     node: Node,
     value: &Expr,
     out: &mut Gathered,
-) -> Result<(), Stop> {
+) -> Result<(), Stop>
+    ensures clean { OnOk result (fault_of node ≡ None) }
+    ensures nd { OnOk result (IsTrue out.old.reaches_nd → IsTrue out.new.reaches_nd) }
+{
     let mut node = node;
     let value = body.typed(around, value, out)?;
-    if !is_printed(&value) {
-        node.note(Kind::Type);
-    }
+    node.note_if(Kind::Type, !is_printed(&value));
     node.settle()
 }
 
@@ -178,7 +194,9 @@ fn is_printed(value: &Typed) -> bool
 }
 
 /// `region name, ..;`
-pub fn declare_regions(body: &mut Body, node: Node, names: &[Named]) -> Result<(), Stop> {
+pub fn declare_regions(body: &mut Body, node: Node, names: &[Named]) -> Result<(), Stop>
+    ensures { OnOk result (fault_of node ≡ None) }
+{
     let mut node = node;
     for named in names {
         if is_region(body, named.name) {

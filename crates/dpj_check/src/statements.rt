@@ -1,6 +1,9 @@
-ghost use Rattle.std.specs.Prelude.{◌≡◌, map, IfOk};
+ghost use Rattle.std.specs.Prelude.{◌≡◌, ◌||◌, None, false, map, IsTrue, IfOk, OnOk};
+ghost use Rattle.dpj_tree.specs.Nd.{holds_nd, some_holds_nd};
 ghost use Rattle.dpj_tree.specs.Plain.{plain_stmt, plain_stmts};
-ghost use Rattle.dpj_check.specs.Completes.{completes, all_complete};
+ghost use Rattle.dpj_check.specs.Completes.{completes, all_complete, goes_on, is_loop};
+ghost use Rattle.dpj_check.specs.Keeping.{Keeps, AllKeep};
+ghost use Rattle.dpj_check.specs.Noting.{fault_of};
 
 use crate::body::Body;
 use crate::constructs::{atomic, cobegin, foreach};
@@ -21,7 +24,10 @@ pub fn statement(
     follows: bool,
     out: &mut Gathered,
 ) -> Result<bool, Stop>
-    ensures { IfOk result (λ done. done ≡ completes (plain_stmt stmt.now)) }
+    ensures completes { IfOk result (λ done. done ≡ completes (plain_stmt stmt.now)) }
+    ensures behind { OnOk result (follows ≡ false) }
+    ensures keeps { OnOk result (Keeps around (plain_stmt stmt.now)) }
+    ensures nd { OnOk result (IsTrue (out.old.reaches_nd || holds_nd (plain_stmt stmt.now)) → IsTrue out.new.reaches_nd) }
 {
     let mut node = Node::of(stmt, follows);
     match &stmt.kind {
@@ -45,7 +51,7 @@ pub fn statement(
             Ok(false)
         }
         _ => {
-            construct(body, around, node, &stmt.kind, out)?;
+            construct(body, around, node, stmt, out)?;
             Ok(true)
         }
     }
@@ -57,18 +63,23 @@ fn construct(
     body: &mut Body,
     around: Around,
     node: Node,
-    kind: &StmtKind,
+    stmt: &Stmt,
     out: &mut Gathered,
-) -> Result<(), Stop> {
-    match kind {
+) -> Result<(), Stop>
+    requires { IsTrue (goes_on (plain_stmt stmt.now)) }
+    ensures clean { OnOk result (fault_of node ≡ None) }
+    ensures keeps { OnOk result (Keeps around (plain_stmt stmt.now)) }
+    ensures nd { OnOk result (IsTrue (out.old.reaches_nd || holds_nd (plain_stmt stmt.now)) → IsTrue out.new.reaches_nd) }
+{
+    match &stmt.kind {
         StmtKind::Cobegin { nd, branches } => {
             cobegin(body, around, node, *nd, branches.as_slice(), out)
         }
         StmtKind::Atomic(all) => atomic(body, around, node, all.as_slice(), out),
         StmtKind::While { .. } | StmtKind::Foreach { .. } | StmtKind::ForeachParts { .. } => {
-            turns(body, around, node, kind, out)
+            turns(body, around, node, stmt, out)
         }
-        _ => single(body, around, node, kind, out),
+        _ => single(body, around, node, &stmt.kind, out),
     }
 }
 
@@ -78,11 +89,16 @@ fn turns(
     body: &mut Body,
     around: Around,
     node: Node,
-    kind: &StmtKind,
+    stmt: &Stmt,
     out: &mut Gathered,
-) -> Result<(), Stop> {
+) -> Result<(), Stop>
+    requires { IsTrue (is_loop (plain_stmt stmt.now)) }
+    ensures clean { OnOk result (fault_of node ≡ None) }
+    ensures keeps { OnOk result (Keeps around (plain_stmt stmt.now)) }
+    ensures nd { OnOk result (IsTrue (out.old.reaches_nd || holds_nd (plain_stmt stmt.now)) → IsTrue out.new.reaches_nd) }
+{
     let mut node = node;
-    match kind {
+    match &stmt.kind {
         StmtKind::While { test, body: turn } => {
             body.boolean(around, test, out, &mut node)?;
             scoped(body, around, turn.get(), out)?;
@@ -120,7 +136,10 @@ fn single(
     node: Node,
     kind: &StmtKind,
     out: &mut Gathered,
-) -> Result<(), Stop> {
+) -> Result<(), Stop>
+    ensures clean { OnOk result (fault_of node ≡ None) }
+    ensures nd { OnOk result (IsTrue out.old.reaches_nd → IsTrue out.new.reaches_nd) }
+{
     match kind {
         StmtKind::Declare {
             is_final,
@@ -152,7 +171,9 @@ pub fn block(
     stmts: &[Stmt],
     out: &mut Gathered,
 ) -> Result<bool, Stop>
-    ensures { IfOk result (λ done. done ≡ all_complete (plain_stmts (map plain_stmt stmts.now))) }
+    ensures completes { IfOk result (λ done. done ≡ all_complete (plain_stmts (map plain_stmt stmts.now))) }
+    ensures keeps { OnOk result (AllKeep around (plain_stmts (map plain_stmt stmts.now))) }
+    ensures nd { OnOk result (IsTrue (out.old.reaches_nd || some_holds_nd (plain_stmts (map plain_stmt stmts.now))) → IsTrue out.new.reaches_nd) }
 {
     let scope = body.env.mark();
     if !stmts.iter().any(leaves_scope) {
@@ -175,7 +196,9 @@ fn statements(
     stmts: &[Stmt],
     out: &mut Gathered,
 ) -> Result<bool, Stop>
-    ensures { IfOk result (λ done. done ≡ all_complete (plain_stmts (map plain_stmt stmts.now))) }
+    ensures completes { IfOk result (λ done. done ≡ all_complete (plain_stmts (map plain_stmt stmts.now))) }
+    ensures keeps { OnOk result (AllKeep around (plain_stmts (map plain_stmt stmts.now))) }
+    ensures nd { OnOk result (IsTrue (out.old.reaches_nd || some_holds_nd (plain_stmts (map plain_stmt stmts.now))) → IsTrue out.new.reaches_nd) }
 {
     let mut completes = true;
     for stmt in stmts {
@@ -193,7 +216,9 @@ pub fn scoped(
     stmt: &Stmt,
     out: &mut Gathered,
 ) -> Result<bool, Stop>
-    ensures { IfOk result (λ done. done ≡ completes (plain_stmt stmt.now)) }
+    ensures completes { IfOk result (λ done. done ≡ completes (plain_stmt stmt.now)) }
+    ensures keeps { OnOk result (Keeps around (plain_stmt stmt.now)) }
+    ensures nd { OnOk result (IsTrue (out.old.reaches_nd || holds_nd (plain_stmt stmt.now)) → IsTrue out.new.reaches_nd) }
 {
     let scope = body.env.mark();
     let completes = statement(body, around, stmt, false, out)?;

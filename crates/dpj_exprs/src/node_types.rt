@@ -35,10 +35,13 @@ impl NodeTypes {
     }
 
     /// The type that was noted for a node.
-    pub fn get(&self, node: u32) -> Option<&Ty> {
+    pub fn get(&self, node: u32) -> Option<&Ty>
+        ensures { option_copied result ≡ slice_index_or self.now node None }
+    {
         match self.types.get(node as usize) {
             Some(Some(ty)) => Some(ty),
-            _ => None,
+            Some(None) => None,
+            None => None,
         }
     }
 
