@@ -50,12 +50,7 @@ fn own_path(
     }
 }
 
-fn written_path(
-    alloc: Global,
-    env: &Env,
-    tree: &RplTree,
-    around: IndexNames,
-) -> Result<Rpl, Stop>
+fn written_path(alloc: Global, env: &Env, tree: &RplTree, around: IndexNames) -> Result<Rpl, Stop>
     ensures ok { IfOk result (λ own. own_path env.now (plain_index around.entry) (Some tree.now) ≡ Ok own) }
     ensures fault { IfErr result (λ stop. IfRefused stop (λ refusal. own_path env.now (plain_index around.entry) (Some tree.now) ≡ Err refusal)) }
 {

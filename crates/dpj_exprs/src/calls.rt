@@ -123,8 +123,7 @@ pub fn call(
     regions: ReadArgs,
     actuals: &[Typed],
     place: Place,
-) -> Result<Typed, Stop>
-{
+) -> Result<Typed, Stop> {
     match of {
         Typed::Known(of) => {
             let ty = call_on(alloc, env, found, of, name, regions, actuals, place)?;
@@ -174,15 +173,16 @@ fn call_of(
     regions: ReadArgs,
     actuals: &[Typed],
     place: Place,
-) -> Result<Ty, Stop>
-{
+) -> Result<Ty, Stop> {
     let mut faults = Faults::by_number();
     match fit_args(alloc, &mut faults, regions, row.regions.as_slice(), place)? {
         Some(regions) => {
             let args = joined(alloc, owned, regions.as_slice())?;
             let partial = is_partial(row, owned);
             let args = args.as_slice();
-            call_with(alloc, env, found, faults, row, args, partial, actuals, place)
+            call_with(
+                alloc, env, found, faults, row, args, partial, actuals, place,
+            )
         }
         None => {
             let fit = shapes_fit(env.table.headers(), actuals, row.params.as_slice());

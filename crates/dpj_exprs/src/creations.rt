@@ -64,8 +64,7 @@ pub fn creation(
     regions: ReadArgs,
     actuals: &[Typed],
     place: Place,
-) -> Result<Ty, Stop>
-{
+) -> Result<Ty, Stop> {
     match env.table.headers().class(class.name) {
         Some(number) => creation_of(alloc, env, found, number, regions, actuals, place),
         None => Err(refused(Kind::Unknown, class.place)),
@@ -81,8 +80,7 @@ fn creation_of(
     regions: ReadArgs,
     actuals: &[Typed],
     place: Place,
-) -> Result<Ty, Stop>
-{
+) -> Result<Ty, Stop> {
     let mut faults = Faults::by_number();
     match fit_args(alloc, &mut faults, regions, class_params(env, class), place)? {
         Some(args) => creation_with(alloc, env, found, faults, class, args, actuals, place),
