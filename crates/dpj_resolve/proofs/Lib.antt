@@ -1,6 +1,5 @@
 mod Missing
 pub mod Naming
-pub mod Parts
-pub mod Steps
 pub mod Told
+pub mod Whole
 pub mod Wrapping

@@ -1,5 +1,5 @@
 -- Faults that are told, and parts that are read one after the other.
-use Rattle.std.proofs.Common.{◌≡◌, ◌∙◌, ◌++◌, List, [], ◌∷◌, fold, Option, None, Some, Result, Ok, Err, IfErr, refl, ap, sym}
+use Rattle.std.proofs.Common.{◌≡◌, ◌∙◌, ◌++◌, List, [], ◌∷◌, Option, None, Some, Result, Ok, Err, IfErr, IsErrAnd, refl, ap, sym, subst}
 use Rattle.std.specs.Option.{option_or}
 use Rattle.dpj_base.specs.declared.refusal.Refusal.{Refusal}
 use Rattle.dpj_base.specs.declared.refusal.Stop.{Stop}
@@ -32,10 +32,6 @@ refused_map stop.NoMemory p to = tt
 pub told_later : (at : Site) (faults : Faults) (part : List Refusal) (parts : List (List Refusal)) → told_at at (all_noted faults part) ≡ None → parts_told at faults (part ∷ parts) ≡ parts_told at (all_noted faults part) parts
 told_later at faults part parts none = ap (λ o. option_or o (parts_told at (all_noted faults part) parts)) none
 
--- it tells one
-pub told_first : (at : Site) (faults : Faults) (part : List Refusal) (parts : List (List Refusal)) (refusal : Refusal) → told_at at (all_noted faults part) ≡ Some refusal → parts_told at faults (part ∷ parts) ≡ Some refusal
-told_first at faults part parts refusal is = ap (λ o. option_or o (parts_told at (all_noted faults part) parts)) is
-
 -- one part alone
 pub told_one : (at : Site) (faults : Faults) (part : List Refusal) → parts_told at faults (part ∷ []) ≡ told_at at (all_noted faults part)
 told_one at faults part = or_none (told_at at (all_noted faults part))
@@ -44,19 +40,15 @@ told_one at faults part = or_none (told_at at (all_noted faults part))
     or_none None = refl
     or_none (Some refusal) = refl
 
-pub noted_parts : (faults : Faults) (parts more : List (List Refusal)) → parts_noted faults (parts ++ more) ≡ parts_noted (parts_noted faults parts) more
-noted_parts faults [] more = refl
-noted_parts faults (part ∷ parts) more = noted_parts (all_noted faults part) parts more
-
-or_else : (at : Site) (faults : Faults) (o : Option Refusal) (parts more : List (List Refusal)) → option_or o (parts_told at faults parts) ≡ None → (o ≡ None) × (parts_told at faults parts ≡ None)
-or_else at faults None parts more is = (refl, is)
-or_else at faults (Some refusal) parts more is = cc
+or_else : (o p : Option Refusal) → option_or o p ≡ None → (o ≡ None) × (p ≡ None)
+or_else None p is = (refl, is)
+or_else (Some refusal) p is = cc
 
 -- the first parts tell none
 pub parts_later : (at : Site) (faults : Faults) (parts more : List (List Refusal)) → parts_told at faults parts ≡ None → parts_told at faults (parts ++ more) ≡ parts_told at (parts_noted faults parts) more
 parts_later at faults [] more none = refl
 parts_later at faults (part ∷ parts) more none =
-    let both = or_else at (all_noted faults part) (told_at at (all_noted faults part)) parts more none in
+    let both = or_else (told_at at (all_noted faults part)) (parts_told at (all_noted faults part) parts) none in
     told_later at faults part (parts ++ more) both.0 ∙ parts_later at (all_noted faults part) parts more both.1
 
 or_same : {p q : Option Refusal} (o : Option Refusal) (refusal : Refusal) → (p ≡ Some refusal → q ≡ Some refusal) → option_or o p ≡ Some refusal → option_or o q ≡ Some refusal
@@ -68,5 +60,23 @@ pub parts_first : (at : Site) (faults : Faults) (parts more : List (List Refusal
 parts_first at faults [] more refusal is = cc
 parts_first at faults (part ∷ parts) more refusal is =
     or_same (told_at at (all_noted faults part)) refusal (λ rest. parts_first at (all_noted faults part) parts more refusal rest) is
+
+-- a refusal of the first parts is one of all
+pub refused_first : (e : Stop) (at : Site) (faults : Faults) (parts more : List (List Refusal)) → IfRefused e (λ refusal. parts_told at faults parts ≡ Some refusal) → IfRefused e (λ refusal. parts_told at faults (parts ++ more) ≡ Some refusal)
+refused_first e at faults parts more tells = refused_map e tells (λ refusal here. parts_first at faults parts more refusal here)
+
+-- so is one of the later parts, where the first ones tell none
+pub refused_later : (e : Stop) (at : Site) (faults new : Faults) (parts more : List (List Refusal)) → parts_told at faults parts ≡ None → new ≡ parts_noted faults parts → IfRefused e (λ refusal. parts_told at new more ≡ Some refusal) → IfRefused e (λ refusal. parts_told at faults (parts ++ more) ≡ Some refusal)
+refused_later e at faults new parts more none is tells =
+    refused_map e tells (λ refusal here. parts_later at faults parts more none ∙ ap (λ z. parts_told at z more) (sym is) ∙ here)
+
+-- what holds of the fault of a step holds of that of the whole
+pub passed_on : {T : Type 0} (r : Result T Stop) (e : Stop) (Q : Stop → Type 0) → IsErrAnd r (λ x. x ≡ e) → Q e → IfErr r Q
+passed_on (Ok x) e Q is q = tt
+passed_on (Err x) e Q is q = subst Q (sym is) q
+
+-- the first parts tell none, nor do the later ones
+pub untold_parts : (at : Site) (faults new : Faults) (parts more : List (List Refusal)) → parts_told at faults parts ≡ None → new ≡ parts_noted faults parts → parts_told at new more ≡ None → parts_told at faults (parts ++ more) ≡ None
+untold_parts at faults new parts more none is later = parts_later at faults parts more none ∙ ap (λ z. parts_told at z more) (sym is) ∙ later
 
 pub ruleset settling = (forgotten_same, settled_ok, settled_err)

@@ -1,5 +1,5 @@
 -- A region path where it is written: the path that it means, and what is wrong in it. The same of region arguments.
-use Rattle.std.specs.Prelude.{ℕ, ◌+◌, Bool, true, false, ◌&&◌, ◌==◌, cond, List, [], ◌∷◌, ◌++◌, length, fold, is_none, Option, None, Some, option_map, option_and_then}
+use Rattle.std.specs.Prelude.{ℕ, ◌+◌, Bool, true, false, ◌&&◌, ◌==◌, cond, List, [], ◌∷◌, ◌++◌, length, fold, is_none, Option, None, Some, option_map}
 use Rattle.std.specs.List.{list_any, flat_map, filter_map}
 use Rattle.std.specs.Option.{option_map_or, option_or, option_flatten}
 use Rattle.dpj_base.specs.declared.elems.Elem.{Elem}

@@ -1,5 +1,5 @@
 -- When faults are told: in a body those of each part at once, in a signature later, by the pass.
-use Rattle.std.specs.Prelude.{List, [], ◌∷◌, fold, Option, None, Some}
+use Rattle.std.specs.Prelude.{List, [], ◌∷◌, fold, Option, None}
 use Rattle.std.specs.Option.{option_or}
 use Rattle.dpj_base.specs.declared.refusal.Refusal.{Refusal}
 use Rattle.dpj_headers.specs.declared.faults.Faults.{Faults}

@@ -141,7 +141,7 @@ fn is_plain(atomic: Option<bool>) -> bool
 }
 
 impl Reading {
-    ghost use Rattle.std.specs.Prelude.{◌≡◌, ◌||◌, None, Some, option_map, OnOk};
+    ghost use Rattle.std.specs.Prelude.{◌≡◌, ◌||◌, false, [], None, Some, option_map, OnOk};
     ghost use Rattle.std.specs.List.{list_any, flat_map, fold};
     ghost use Rattle.dpj_base.specs.declared.elems.Elem.TheVariants.{Name, Var};
     ghost use Rattle.dpj_headers.specs.Faults.{all_noted};

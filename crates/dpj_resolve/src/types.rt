@@ -121,7 +121,14 @@ fn read_suffixes(
 {
     let mut read = ReadPaths::new(alloc);
     for (at, suffix) in around.suffixes.iter().enumerate() {
-        read_suffix(alloc, scope, faults, &mut read, suffix, &around.at_suffix(at))?;
+        read_suffix(
+            alloc,
+            scope,
+            faults,
+            &mut read,
+            suffix,
+            &around.at_suffix(at),
+        )?;
     }
     Ok(read)
 }
@@ -235,12 +242,7 @@ fn with_suffixes(
 }
 
 /// An array of arrays, one for each path, the first innermost.
-fn arrays(
-    alloc: Global,
-    base: Ty,
-    paths: Items<Rpl>,
-    around: &IndexNames,
-) -> Result<Ty, NoMemory>
+fn arrays(alloc: Global, base: Ty, paths: Items<Rpl>, around: &IndexNames) -> Result<Ty, NoMemory>
     ensures { IfOk result (λ made. plain_type made ≡ arrays_from (plain_index around.now) 0 (plain_type base) paths) }
 {
     let mut made = base;
