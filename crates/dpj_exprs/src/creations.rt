@@ -1,12 +1,14 @@
-ghost use Rattle.std.specs.Prelude.{◌≡◌, false, None, Some, map, IfOk, IfErr, OnOk};
+ghost use Rattle.std.specs.Prelude.{◌≡◌, false, None, Some, Err, map, IfOk, IfErr, OnOk};
 ghost use Rattle.dpj_base.specs.Refused.{IfRefused};
 ghost use Rattle.dpj_base.specs.Types.{plain_type};
 ghost use Rattle.dpj_base.specs.Types.{PlainType as plain};
+ghost use Rattle.dpj_headers.specs.Headers.{class_of};
 ghost use Rattle.dpj_resolve.specs.Classes.{params_in};
 ghost use Rattle.dpj_resolve.specs.Constraints.{all_hold};
 ghost use Rattle.dpj_classes.specs.Table.{headers_of, constructor_of, given_of};
 ghost use Rattle.dpj_exprs.specs.Given.{object_type, object_found, created_type, created_found};
 ghost use Rattle.dpj_exprs.specs.Env.{table_of, given_in};
+ghost use Rattle.dpj_exprs.specs.Refusing.{refusal_at};
 ghost use Rattle.dpj_exprs.specs.Typed.{plain_typed};
 ghost use Rattle.dpj_exprs.specs.Uses.{args_of, args_told, created_params, formals_of, UseTold, with_constructor};
 
@@ -66,6 +68,7 @@ pub fn creation(
     actuals: &[Typed],
     place: Place,
 ) -> Result<Ty, Stop>
+    ensures unknown { class_of (headers_of (table_of env.now)) class.name ≡ None → result ≡ Err (refusal_at Kind.Unknown class.place) }
     ensures ty { IfOk result (λ ty. created_type (table_of env.now) class.name regions ≡ Some (plain_type ty)) }
     ensures found { OnOk result (created_found found.old (table_of env.now) class.name regions ≡ Some found.new) }
 {
