@@ -1,8 +1,8 @@
 -- Faults that are noted one after the other.
-use Rattle.std.proofs.Common.{◌≡◌, Bool, true, false, List, [], ◌∷◌, ◌++◌, refl, sym, ap, ◌∙◌}
+use Rattle.std.proofs.Common.{◌≡◌, List, ◌++◌, ap, ◌∙◌}
 use Rattle.dpj_base.specs.declared.refusal.Refusal.{Refusal}
 use Rattle.dpj_headers.specs.declared.faults.Faults.{Faults}
-use Rattle.dpj_headers.specs.Faults.{noted, all_noted}
+use Rattle.dpj_headers.specs.Faults.{all_noted}
 use Rattle.dpj_headers.proofs.Noting.{noted_append}
 
 pub noted_three : (faults : Faults) (a b c : List Refusal) → all_noted faults (a ++ b ++ c) ≡ all_noted (all_noted (all_noted faults a) b) c

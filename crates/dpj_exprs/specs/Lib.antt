@@ -11,3 +11,4 @@ pub mod Shapes
 pub mod Uses
 pub mod Arrays
 pub mod Locals
+pub mod Given

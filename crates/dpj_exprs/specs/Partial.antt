@@ -1,5 +1,5 @@
 -- Uses through a receiver whose region arguments aren't all fully specified.
-use Rattle.std.specs.Prelude.{ℕ, ◌+◌, min, Bool, true, false, not, ◌&&◌, ◌||◌, List, [], ◌∷◌}
+use Rattle.std.specs.Prelude.{ℕ, ◌+◌, min, Bool, false, not, ◌&&◌, ◌||◌, List, [], ◌∷◌}
 use Rattle.dpj_base.specs.declared.region.Rpl.{Rpl}
 use Rattle.dpj_base.specs.Regions.{fully_specified}
 use Rattle.dpj_base.specs.declared.ty.Ty.{Ty}

@@ -3,6 +3,7 @@ ghost use Rattle.dpj_base.specs.Refused.{IfRefused};
 ghost use Rattle.dpj_base.specs.Types.{plain_type, type_with};
 ghost use Rattle.dpj_resolve.specs.Constraints.{all_hold};
 ghost use Rattle.dpj_exprs.specs.Answer.{with_summary};
+ghost use Rattle.dpj_exprs.specs.Given.{result_with, found_with, called_type, called_found, call_type, call_found};
 ghost use Rattle.dpj_exprs.specs.Env.{table_of, given_in};
 ghost use Rattle.dpj_exprs.specs.Partial.{some_mention_partial, is_partial_call};
 ghost use Rattle.dpj_exprs.specs.Refusing.{refusal_at};
@@ -123,7 +124,10 @@ pub fn call(
     regions: ReadArgs,
     actuals: &[Typed],
     place: Place,
-) -> Result<Typed, Stop> {
+) -> Result<Typed, Stop>
+    ensures ty { IfOk result (λ typed. call_type (table_of env.now) (plain_typed of.now) name regions ≡ Some (plain_typed typed)) }
+    ensures found { OnOk result (call_found found.old (table_of env.now) (plain_typed of.now) name regions ≡ Some found.new) }
+{
     match of {
         Typed::Known(of) => {
             let ty = call_on(alloc, env, found, of, name, regions, actuals, place)?;
@@ -145,7 +149,9 @@ fn call_on(
     actuals: &[Typed],
     place: Place,
 ) -> Result<Ty, Stop>
-    ensures { is_class (plain_type of.now) ≡ false → result ≡ Err (refusal_at Kind.Type place) }
+    ensures ty { IfOk result (λ ty. called_type (table_of env.now) (plain_type of.now) name regions ≡ Some (plain_type ty)) }
+    ensures found { OnOk result (called_found found.old (table_of env.now) (plain_type of.now) name regions ≡ Some found.new) }
+    ensures classless { is_class (plain_type of.now) ≡ false → result ≡ Err (refusal_at Kind.Type place) }
 {
     let Ty::Class { class, args } = of else {
         return Err(refused(Kind::Type, place));
@@ -173,7 +179,10 @@ fn call_of(
     regions: ReadArgs,
     actuals: &[Typed],
     place: Place,
-) -> Result<Ty, Stop> {
+) -> Result<Ty, Stop>
+    ensures ty { IfOk result (λ ty. result_with row.now owned.now regions ≡ Some (plain_type ty)) }
+    ensures found { OnOk result (found_with found.old row.now owned.now regions ≡ Some found.new) }
+{
     let mut faults = Faults::by_number();
     match fit_args(alloc, &mut faults, regions, row.regions.as_slice(), place)? {
         Some(regions) => {

@@ -1,4 +1,4 @@
-use Rattle.std.proofs.Common.{ℕ, ◌<◌, get_or, below_more, arith}
+use Rattle.std.proofs.Common.{ℕ, get_or, below_more, arith}
 use Rattle.dpj_base.specs.Types.{plain_type, type_with}
 use Rattle.dpj_exprs.specs.Typed.{Fits}
 use Rattle.dpj_exprs.proofs.Fitted.{fits_at}
