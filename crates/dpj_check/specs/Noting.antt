@@ -1,5 +1,5 @@
 -- A statement as a node with the faults of its own that were noted.
-use Rattle.std.specs.Prelude.{ℕ, Bool, true, false, cond, Option, Some, None, Result, Ok, Err}
+use Rattle.std.specs.Prelude.{ℕ, Bool, true, cond, Option, Some, None, Result, Ok, Err}
 use Rattle.dpj_base.specs.Types.{PlainType, plain_type}
 use Rattle.dpj_base.specs.declared.place.Place.{Place}
 use Rattle.dpj_base.specs.declared.refusal.Kind.{Kind}
@@ -8,7 +8,6 @@ use Rattle.dpj_base.specs.declared.refusal.Refusal.{Refusal}
 use Rattle.dpj_base.specs.declared.refusal.Stop.{Stop}
 use Rattle.dpj_base.specs.declared.refusal.Stop.TheVariants.{Refused, NoMemory}
 use Rattle.dpj_base.specs.declared.ty.Ty.{Ty}
-use Rattle.dpj_headers.specs.declared.faults.Faults.{Faults}
 use Rattle.dpj_headers.specs.declared.faults.Order.TheVariants as order
 use Rattle.dpj_headers.specs.Faults.{none_by, noted, told, forgotten}
 use Rattle.dpj_check.specs.declared.node.Node.{Node}
