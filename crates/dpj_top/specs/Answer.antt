@@ -12,6 +12,7 @@ use Rattle.dpj_tokens.specs.declared.token.Token.{Token}
 use Rattle.dpj_tokens.specs.Cutting.{Cuts, FaultsAt}
 use Rattle.dpj_tree.specs.declared.class.Program.{Program}
 use Rattle.dpj_parse.specs.Program.{IsProgram}
+use Rattle.dpj_check.specs.Keeping.{ProgramKeeps}
 use Rattle.dpj_words.specs.declared.command.Command.{Command}
 use Rattle.dpj_words.specs.declared.command.Command.TheVariants as command
 use Rattle.dpj_words.specs.declared.job.Job.{Job}
@@ -41,10 +42,11 @@ first_verdict job program = cond (asks_run job.command) (Ran (outcome_of program
 abbrev pub other_verdict : Job → Place → Verdict
 other_verdict job place = cond (asks_run job.command) (Refused (record { kind = Form; place = place })) Accepted
 
--- the tokens of a text derive a program
+-- the tokens of a text derive a program, whose bodies keep to the rules that need no types
 pub record HasProgram (text : List ℕ) (tokens : List Token) : Type 0 where
   pub program : Program
   pub is : IsProgram text tokens program
+  pub keeps : ProgramKeeps program
 
 -- where the first token stands, or the end of a text without one
 abbrev pub first_place : List Token → Place → Place

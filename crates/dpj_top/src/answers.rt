@@ -1,5 +1,6 @@
 ghost use Rattle.std.specs.Prelude.{◌≡◌, ◌≤◌, length, IfOk, IfErr, OnOk};
 ghost use Rattle.dpj_base.specs.Refused.{IfRefused};
+ghost use Rattle.dpj_check.specs.Keeping.{ProgramKeeps};
 ghost use Rattle.dpj_tokens.specs.Cutting.{StandInOrder};
 ghost use Rattle.dpj_top.specs.Answer.{HasProgram, IsAnswer, IsAccepted, IsFault, IsOther, first_place, first_verdict, limits_of, other_verdict, refused_at_start};
 
@@ -65,19 +66,23 @@ fn front(alloc: Global, text: &[u8]) -> Result<Place, Stop>
 fn judge_text(alloc: Global, text: &[u8], tokens: &Tokens) -> Result<(), Stop>
     requires short { length text.now ≤ MAX_TEXT }
     requires stand { StandInOrder text.now 0 tokens.now.list }
-    ensures derives { OnOk result (HasProgram text.now tokens.now.list) }
+    ensures { OnOk result (HasProgram text.now tokens.now.list) }
 {
     let program = parse(alloc, text, tokens)?;
     judge_program(alloc, &program)
 }
 
 /// Tells the first fault of a program's class table or of its bodies.
-fn judge_program(alloc: Global, program: &Program) -> Result<(), Stop> {
+fn judge_program(alloc: Global, program: &Program) -> Result<(), Stop>
+    ensures { OnOk result (ProgramKeeps program.now) }
+{
     let table = build(alloc, program)?;
     judge_bodies(alloc, program, &table)
 }
 
-fn judge_bodies(alloc: Global, program: &Program, table: &Table) -> Result<(), Stop> {
+fn judge_bodies(alloc: Global, program: &Program, table: &Table) -> Result<(), Stop>
+    ensures { OnOk result (ProgramKeeps program.now) }
+{
     let _accepted = check(alloc, program, table)?;
     Ok(())
 }
