@@ -11,4 +11,5 @@ pub mod Shapes
 pub mod Uses
 pub mod Arrays
 pub mod Locals
-pub mod Given
+pub mod Typing
+pub mod Targeting
