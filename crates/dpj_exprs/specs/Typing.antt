@@ -1,6 +1,6 @@
 -- The types and the effects of expressions: what an expression gives where it stands, or its first fault. Its parts are
 -- evaluated in order, and a fault of a part is the fault of the whole.
-use Rattle.std.specs.Prelude.{◌≡◌, ℕ, ℤ, Bool, true, false, List, [], ◌∷◌, Option, Some, None, Result, Ok, Err}
+use Rattle.std.specs.Prelude.{◌≡◌, ℕ, true, false, List, [], ◌∷◌, Option, Some, None, Result, Ok, Err}
 use Rattle.dpj_base.specs.declared.place.Place.{Place}
 use Rattle.dpj_base.specs.declared.refusal.Kind.TheVariants as kind
 use Rattle.dpj_base.specs.declared.refusal.Refusal.{Refusal}
@@ -14,7 +14,7 @@ use Rattle.dpj_tree.specs.declared.region.BaseTree.{BaseTree}
 use Rattle.dpj_tree.specs.declared.region.Named.{Named}
 use Rattle.dpj_tree.specs.declared.region.RplTree.{RplTree}
 use Rattle.dpj_tree.specs.declared.region.Suffix.{Suffix}
-use Rattle.dpj_tree.specs.Plain.{PlainExpr, expression, int, boolean, null, this, local, field, element, call, create, create_array, unary, binary, PlainExprs, no_exprs, more_exprs}
+use Rattle.dpj_tree.specs.Plain.{PlainExpr, expression, ExprForm, int, boolean, null, this, local, field, element, call, create, create_array, unary, binary, PlainExprs, no_exprs, more_exprs}
 use Rattle.dpj_exprs.specs.declared.env.Env.{Env}
 use Rattle.dpj_exprs.specs.declared.env.LocalRow.{LocalRow}
 use Rattle.dpj_exprs.specs.declared.found.Found.{Found}
@@ -32,6 +32,15 @@ abbrev pub answer : Result PlainType Refusal → Found → Answer
 answer (Ok t) found = gives (Some t) found
 answer (Err refusal) found = refused refusal
 
+-- a literal, `null`, `this` and a local, which have no expressions in them
+abbrev pub leaf_type : Env → Place → ExprForm → Option (Result PlainType Refusal)
+leaf_type env place (int k) = Some (Ok ty.int)
+leaf_type env place (boolean b) = Some (Ok ty.boolean)
+leaf_type env place null = Some (Ok ty.null)
+leaf_type env place this = Some (Ok (this_type_of env))
+leaf_type env place (local name) = Some (local_type (local_of env name) place)
+leaf_type env place form = None
+
 -- several expressions give types, or the first that is refused is
 pub data AllAnswer : Type 0 where
   all_give : List (Option PlainType) → Found → AllAnswer
@@ -39,14 +48,9 @@ pub data AllAnswer : Type 0 where
 
 mutual
   pub data Typing (env : Env) : PlainExpr → Found → Answer → Type 0 where
-    -- literals, `null` and `this`
-    int_literal : {node : ℕ} {place : Place} {k : ℤ} {f : Found} → Typing env (expression node place (int k)) f (gives (Some ty.int) f)
-    boolean_literal : {node : ℕ} {place : Place} {b : Bool} {f : Found} → Typing env (expression node place (boolean b)) f (gives (Some ty.boolean) f)
-    null_literal : {node : ℕ} {place : Place} {f : Found} → Typing env (expression node place null) f (gives (Some ty.null) f)
-    this_object : {node : ℕ} {place : Place} {f : Found} → Typing env (expression node place this) f (gives (Some (this_type_of env)) f)
-    -- a local
-    local_named : {node : ℕ} {place : Place} {name : ℕ} {f : Found} {a : Answer} →
-        answer (local_type (local_of env name) place) f ≡ a → Typing env (expression node place (local name)) f a
+    -- a literal, `null`, `this` or a local
+    no_parts : {node : ℕ} {place : Place} {form : ExprForm} {f : Found} {r : Result PlainType Refusal} {a : Answer} →
+        leaf_type env place form ≡ Some r → answer r f ≡ a → Typing env (expression node place form) f a
     -- the length of a part, which isn't read itself
     part_length : {node : ℕ} {place : Place} {of : PlainExpr} {name : ℕ} {f : Found} →
         is_part_length env of name ≡ true → Typing env (expression node place (field of name)) f (gives (Some ty.int) f)
