@@ -8,4 +8,5 @@ pub mod Own
 pub mod Passing
 pub mod Several
 pub mod Shaping
+pub mod Targets
 pub mod Telling

@@ -18,6 +18,7 @@ use Rattle.dpj_exprs.specs.Env.{table_of, part_of}
 use Rattle.dpj_exprs.specs.Fields.{PlainField, field_through}
 use Rattle.dpj_exprs.specs.Typed.{may_be, is_int}
 use Rattle.dpj_exprs.specs.Locals.{is_part_length}
+use Rattle.dpj_exprs.specs.Shape.{is_access}
 use Rattle.dpj_exprs.specs.Typing.{Typing}
 
 -- a target: its type, its region, the view of the part that it lies in, and whether it may be written
@@ -63,11 +64,6 @@ abbrev pub part_target : LocalRow → Option PlainType → Place → Found → T
 part_target row index_type place found =
     cond (may_be is_int index_type) (aims (option_map in_part (part_element row.part (plain_type row.ty))) found) (misses (fault kind.Type place))
 
-abbrev pub is_target : ExprForm → Bool
-is_target (field of name) = true
-is_target (element array index) = true
-is_target form = false
-
 pub data Targeting (env : Env) : PlainExpr → Found → TargetAnswer → Type 0 where
   -- the length of a part isn't assigned to
   length_assigned : {node : ℕ} {place : Place} {of : PlainExpr} {name : ℕ} {f : Found} →
@@ -95,4 +91,4 @@ pub data Targeting (env : Env) : PlainExpr → Found → TargetAnswer → Type 0
       Targeting env (expression node place (element array index)) f a
   -- nothing else is assigned to
   no_target : {node : ℕ} {place : Place} {form : ExprForm} {f : Found} →
-      is_target form ≡ false → Targeting env (expression node place form) f (misses (fault kind.Type place))
+      is_access form ≡ false → Targeting env (expression node place form) f (misses (fault kind.Type place))

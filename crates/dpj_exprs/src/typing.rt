@@ -190,7 +190,7 @@ fn exprs(
 }
 
 /// The part of an array whose length a field is.
-fn part_length<'e>(env: &'e Env, of: &Expr, name: u32) -> Option<&'e LocalRow>
+pub fn part_length<'e>(env: &'e Env, of: &Expr, name: u32) -> Option<&'e LocalRow>
     ensures { is_some (option_copied result) ≡ is_part_length env.now (plain_expr of.now) name }
 {
     let row = env.part(of)?;
