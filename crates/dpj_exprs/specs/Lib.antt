@@ -11,4 +11,6 @@ pub mod Shapes
 pub mod Uses
 pub mod Arrays
 pub mod Locals
-pub mod Given
+pub mod Shape
+pub mod Typing
+pub mod Targeting

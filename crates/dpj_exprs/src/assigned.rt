@@ -1,17 +1,23 @@
-ghost use Rattle.std.specs.Prelude.{◌≡◌, ◌⊎◌, None, true, false, slice_index_or, option_map, IfOk, IfErr, OnOk};
+ghost use Rattle.std.specs.Prelude.{◌≡◌, ◌⊎◌, ℕ, None, true, false, slice_index_or, option_map, IfOk, IfErr, OnOk};
 ghost use Rattle.dpj_base.specs.Refused.{IfRefused};
 ghost use Rattle.dpj_base.specs.Types.{plain_type};
+ghost use Rattle.dpj_tree.specs.Plain.{expression, plain_expr};
+ghost use Rattle.dpj_tree.specs.Plain.{ExprForm as form};
+ghost use Rattle.dpj_exprs.specs.declared.env.Env.{Env};
+ghost use Rattle.dpj_exprs.specs.declared.found.Found.{Found};
 ghost use Rattle.dpj_exprs.specs.Found.{AddsWrite};
 ghost use Rattle.dpj_exprs.specs.Refusing.{refusal_at};
-ghost use Rattle.dpj_exprs.specs.Typed.{Fits};
+ghost use Rattle.dpj_exprs.specs.Shape.{form_of, is_access};
+ghost use Rattle.dpj_exprs.specs.Targeting.{plain_target, aims, misses, field_target, element_target, part_target, Targeting};
+ghost use Rattle.dpj_exprs.specs.Typed.{plain_typed, Fits};
 
-use crate::env::Env;
+use crate::env::{Env, LocalRow};
 use crate::fields::{FieldAt, PartElement, element_at, field_at, part_element};
 use crate::fitting::{fits, refused};
 use crate::found::Found;
 use crate::node_types::NodeTypes;
 use crate::typed::Typed;
-use crate::typing::{expr, note_part};
+use crate::typing::{expr, note_part, part_length};
 use dpj_arrays::Element;
 use dpj_base::{Kind, Place, Rpl, Stop, Ty};
 use dpj_tree::{Expr, ExprKind};
@@ -36,23 +42,47 @@ pub fn read_target(
     found: &mut Found,
     e: &Expr,
 ) -> Result<Option<Target>, Stop>
-    ensures { IfOk result (λ target. slice_index_or types.new e.now.node None ≡ option_map (λ t. t.ty) target) }
+    ensures noted { IfOk result (λ target. slice_index_or types.new e.now.node None ≡ option_map (λ t. t.ty) target) }
+    ensures ok { IfOk result (λ target. Targeting env.now (plain_expr e.now) found.old (aims (option_map plain_target target) found.new)) }
+    ensures fault { IfErr result (λ stop. IfRefused stop (λ refusal. Targeting env.now (plain_expr e.now) found.old (misses refusal))) }
 {
-    let target = match &e.kind {
-        ExprKind::Field { of, name } => {
-            field_target(alloc, env, types, found, of.get(), *name, e.place)?
-        }
-        ExprKind::Element { array, index } => {
-            element_target(alloc, env, types, found, array.get(), index.get(), e.place)?
-        }
-        _ => return Err(refused(Kind::Type, e.place)),
-    };
+    let target = target_of(alloc, env, types, found, e)?;
     let ty = match &target {
         Some(target) => Some(&target.ty),
         None => None,
     };
     types.note(alloc, e.node, ty)?;
     Ok(target)
+}
+
+/// The target by its form.
+fn target_of(
+    alloc: Global,
+    env: &Env,
+    types: &mut NodeTypes,
+    found: &mut Found,
+    e: &Expr,
+) -> Result<Option<Target>, Stop>
+    ensures ok { IfOk result (λ target. Targeting env.now (plain_expr e.now) found.old (aims (option_map plain_target target) found.new)) }
+    ensures fault { IfErr result (λ stop. IfRefused stop (λ refusal. Targeting env.now (plain_expr e.now) found.old (misses refusal))) }
+{
+    match &e.kind {
+        ExprKind::Field { of, name } => {
+            field_target(alloc, env, types, found, of.get(), *name, e.place)
+        }
+        ExprKind::Element { array, index } => {
+            element_target(alloc, env, types, found, array.get(), index.get(), e.place)
+        }
+        _ => Err(no_target(e)),
+    }
+}
+
+/// The refusal of what is no field and no element.
+fn no_target(e: &Expr) -> Stop
+    requires { is_access (form_of (plain_expr e.now)) ≡ false }
+    ensures { IfRefused result (λ refusal. (env : Env) (found : Found) → Targeting env (plain_expr e.now) found (misses refusal)) }
+{
+    refused(Kind::Type, e.place)
 }
 
 fn field_target(
@@ -63,11 +93,31 @@ fn field_target(
     of: &Expr,
     name: u32,
     place: Place,
-) -> Result<Option<Target>, Stop> {
-    if env.part(of).is_some() && env.is_length(name) {
-        return Err(refused(Kind::Type, place));
+) -> Result<Option<Target>, Stop>
+    ensures ok { IfOk result (λ target. (node : ℕ) → Targeting env.now (expression node place (form.field (plain_expr of.now) name)) found.old (aims (option_map plain_target target) found.new)) }
+    ensures fault { IfErr result (λ stop. IfRefused stop (λ refusal. (node : ℕ) → Targeting env.now (expression node place (form.field (plain_expr of.now) name)) found.old (misses refusal))) }
+{
+    match part_length(env, of, name) {
+        Some(_) => Err(refused(Kind::Type, place)),
+        None => {
+            let of = expr(alloc, env, types, found, of)?;
+            through(alloc, env, &of, name, place)
+        }
     }
-    let Typed::Known(of) = expr(alloc, env, types, found, of)? else {
+}
+
+/// The field of that name through what a receiver gives, as a target.
+fn through(
+    alloc: Global,
+    env: &Env,
+    of: &Typed,
+    name: u32,
+    place: Place,
+) -> Result<Option<Target>, Stop>
+    ensures ok { IfOk result (λ target. (found : Found) → field_target env.now (plain_typed of.now) name place found ≡ aims (option_map plain_target target) found) }
+    ensures fault { IfErr result (λ stop. IfRefused stop (λ refusal. (found : Found) → field_target env.now (plain_typed of.now) name place found ≡ misses refusal)) }
+{
+    let Typed::Known(of) = of else {
         return Ok(None);
     };
     let FieldAt {
@@ -75,7 +125,7 @@ fn field_target(
         rpl,
         may_write,
         ..
-    } = field_at(alloc, env, &of, name, place)?;
+    } = field_at(alloc, env, of, name, place)?;
     Ok(Some(Target {
         ty,
         rpl,
@@ -92,46 +142,73 @@ fn element_target(
     array: &Expr,
     index: &Expr,
     place: Place,
-) -> Result<Option<Target>, Stop> {
-    if let Some(row) = env.part(array) {
-        note_part(alloc, types, array, row)?;
-        let index = expr(alloc, env, types, found, index)?;
-        return Ok(part_element(alloc, row, &index, place)?.map(in_part));
+) -> Result<Option<Target>, Stop>
+    ensures ok { IfOk result (λ target. (node : ℕ) → Targeting env.now (expression node place (form.element (plain_expr array.now) (plain_expr index.now))) found.old (aims (option_map plain_target target) found.new)) }
+    ensures fault { IfErr result (λ stop. IfRefused stop (λ refusal. (node : ℕ) → Targeting env.now (expression node place (form.element (plain_expr array.now) (plain_expr index.now))) found.old (misses refusal))) }
+{
+    match env.part(array) {
+        Some(row) => {
+            note_part(alloc, types, array, row)?;
+            let index = expr(alloc, env, types, found, index)?;
+            in_part(alloc, row, &index, place)
+        }
+        None => {
+            let array = expr(alloc, env, types, found, array)?;
+            let index_ty = expr(alloc, env, types, found, index)?;
+            in_array(alloc, env, &array, index, &index_ty, place)
+        }
     }
-    let array = expr(alloc, env, types, found, array)?;
-    let index_ty = expr(alloc, env, types, found, index)?;
-    Ok(element_at(alloc, env, &array, index, &index_ty, place)?.map(in_array))
 }
 
-/// An element of a part as a target.
-fn in_part(element: PartElement) -> Target
-    ensures { result.may_write ≡ true }
+/// The element of a part at an index of which the type is given, as a target.
+fn in_part(
+    alloc: Global,
+    row: &LocalRow,
+    index_ty: &Typed,
+    place: Place,
+) -> Result<Option<Target>, Stop>
+    ensures ok { IfOk result (λ target. (found : Found) → part_target row.now (plain_typed index_ty.now) place found ≡ aims (option_map plain_target target) found) }
+    ensures fault { IfErr result (λ stop. IfRefused stop (λ refusal. (found : Found) → part_target row.now (plain_typed index_ty.now) place found ≡ misses refusal)) }
 {
+    let Some(element) = part_element(alloc, row, index_ty, place)? else {
+        return Ok(None);
+    };
     let PartElement { view, ty, rpl } = element;
-    Target {
+    Ok(Some(Target {
         ty,
         rpl,
         view: Some(view),
         may_write: true,
-    }
+    }))
 }
 
-/// An element of an array as a target.
-fn in_array(element: Element) -> Target
-    ensures { result.may_write ≡ element.may_write }
+/// The element of an array at an index of which the type is given too, as a target.
+fn in_array(
+    alloc: Global,
+    env: &Env,
+    array: &Typed,
+    index: &Expr,
+    index_ty: &Typed,
+    place: Place,
+) -> Result<Option<Target>, Stop>
+    ensures ok { IfOk result (λ target. (found : Found) → element_target env.now (plain_typed array.now) (plain_expr index.now) (plain_typed index_ty.now) place found ≡ aims (option_map plain_target target) found) }
+    ensures fault { IfErr result (λ stop. IfRefused stop (λ refusal. (found : Found) → element_target env.now (plain_typed array.now) (plain_expr index.now) (plain_typed index_ty.now) place found ≡ misses refusal)) }
 {
+    let Some(element) = element_at(alloc, env, array, index, index_ty, place)? else {
+        return Ok(None);
+    };
     let Element {
         ty,
         rpl,
         may_write,
         ..
     } = element;
-    Target {
+    Ok(Some(Target {
         ty,
         rpl,
         view: None,
         may_write,
-    }
+    }))
 }
 
 /// Assigns a value of a type to a target: the type fits, and the target may be written. The write is added to

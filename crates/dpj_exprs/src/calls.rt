@@ -1,14 +1,14 @@
-ghost use Rattle.std.specs.Prelude.{◌≡◌, ◌++◌, false, None, Some, Err, map, IfOk, IfErr, OnOk};
+ghost use Rattle.std.specs.Prelude.{◌≡◌, ◌++◌, false, true, None, Some, Ok, Err, map, IfOk, IfErr, OnOk};
+ghost use Rattle.std.specs.List.{list_all};
 ghost use Rattle.dpj_base.specs.Refused.{IfRefused};
 ghost use Rattle.dpj_base.specs.Types.{plain_type, type_with};
 ghost use Rattle.dpj_resolve.specs.Constraints.{all_hold};
-ghost use Rattle.dpj_exprs.specs.Answer.{with_summary};
-ghost use Rattle.dpj_exprs.specs.Given.{result_with, found_with, called_type, called_found, call_type, call_found};
+ghost use Rattle.dpj_classes.specs.Table.{headers_of};
+ghost use Rattle.dpj_exprs.specs.Answer.{gives, refused, with_summary};
 ghost use Rattle.dpj_exprs.specs.Env.{table_of, given_in};
 ghost use Rattle.dpj_exprs.specs.Partial.{some_mention_partial, is_partial_call};
-ghost use Rattle.dpj_exprs.specs.Refusing.{refusal_at};
-ghost use Rattle.dpj_exprs.specs.Typed.{plain_typed, is_class};
-ghost use Rattle.dpj_exprs.specs.Uses.{args_of, args_told, callee_params, UseTold};
+ghost use Rattle.dpj_exprs.specs.Typed.{plain_typed, may_be, is_value};
+ghost use Rattle.dpj_exprs.specs.Uses.{args_of, args_told, args_noted, callee_params, UseTold, method_through, CallOf, CallOn, Call};
 
 use crate::actuals::{check_use, unknown_args};
 use crate::env::Env;
@@ -125,17 +125,28 @@ pub fn call(
     actuals: &[Typed],
     place: Place,
 ) -> Result<Typed, Stop>
-    ensures ty { IfOk result (λ typed. call_type (table_of env.now) (plain_typed of.now) name regions ≡ Some (plain_typed typed)) }
-    ensures found { OnOk result (call_found found.old (table_of env.now) (plain_typed of.now) name regions ≡ Some found.new) }
+    ensures ok { IfOk result (λ typed. Call env.now (plain_typed of.now) name regions (map plain_typed actuals.now) place found.old (gives (plain_typed typed) found.new)) }
+    ensures fault { IfErr result (λ stop. IfRefused stop (λ refusal. Call env.now (plain_typed of.now) name regions (map plain_typed actuals.now) place found.old (refused refusal))) }
 {
     match of {
         Typed::Known(of) => {
             let ty = call_on(alloc, env, found, of, name, regions, actuals, place)?;
             Ok(Typed::Known(ty))
         }
-        Typed::Any if actuals.iter().all(Typed::is_value) => Ok(Typed::Any),
+        Typed::Any if all_values(actuals) => Ok(Typed::Any),
         Typed::Any => Err(refused(Kind::Type, place)),
     }
+}
+
+fn all_values(actuals: &[Typed]) -> bool
+    ensures { result ≡ list_all (may_be is_value) (map plain_typed actuals.now) }
+{
+    for actual in actuals {
+        if !actual.is_value() {
+            return false;
+        }
+    }
+    true
 }
 
 /// The type of a call on a receiver of that type.
@@ -149,9 +160,24 @@ fn call_on(
     actuals: &[Typed],
     place: Place,
 ) -> Result<Ty, Stop>
-    ensures ty { IfOk result (λ ty. called_type (table_of env.now) (plain_type of.now) name regions ≡ Some (plain_type ty)) }
-    ensures found { OnOk result (called_found found.old (table_of env.now) (plain_type of.now) name regions ≡ Some found.new) }
-    ensures classless { is_class (plain_type of.now) ≡ false → result ≡ Err (refusal_at Kind.Type place) }
+    ensures ok { IfOk result (λ ty. CallOn env.now (plain_type of.now) name regions (map plain_typed actuals.now) place found.old (gives (Some (plain_type ty)) found.new)) }
+    ensures fault { IfErr result (λ stop. IfRefused stop (λ refusal. CallOn env.now (plain_type of.now) name regions (map plain_typed actuals.now) place found.old (refused refusal))) }
+{
+    let (row, owned) = called_method(alloc, env, of, name, place)?;
+    let owned = owned.as_slice();
+    call_of(alloc, env, found, row, owned, regions, actuals, place)
+}
+
+/// The method of that name through a receiver of a class type, and the region arguments of the class that declares it.
+fn called_method<'e>(
+    alloc: Global,
+    env: &'e Env,
+    of: &Ty,
+    name: u32,
+    place: Place,
+) -> Result<(&'e MethodRow, Items<Rpl>), Stop>
+    ensures ok { IfOk result (λ found. method_through (table_of env.now) (plain_type of.now) name place ≡ Ok (found.0.now, found.1)) }
+    ensures fault { IfErr result (λ stop. IfRefused stop (λ refusal. method_through (table_of env.now) (plain_type of.now) name place ≡ Err refusal)) }
 {
     let Ty::Class { class, args } = of else {
         return Err(refused(Kind::Type, place));
@@ -162,11 +188,10 @@ fn call_on(
     let owned = env
         .table
         .args_at(alloc, *class, args.as_slice(), row.owner)?;
-    let Some(owned) = owned else {
-        return Err(refused(Kind::Type, place));
-    };
-    let owned = owned.as_slice();
-    call_of(alloc, env, found, row, owned, regions, actuals, place)
+    match owned {
+        Some(owned) => Ok((row, owned)),
+        None => Err(refused(Kind::Type, place)),
+    }
 }
 
 /// The type of a call of a method. The class that declares it has the region arguments `owned`.
@@ -180,8 +205,8 @@ fn call_of(
     actuals: &[Typed],
     place: Place,
 ) -> Result<Ty, Stop>
-    ensures ty { IfOk result (λ ty. result_with row.now owned.now regions ≡ Some (plain_type ty)) }
-    ensures found { OnOk result (found_with found.old row.now owned.now regions ≡ Some found.new) }
+    ensures ok { IfOk result (λ ty. CallOf env.now row.now owned.now regions (map plain_typed actuals.now) place found.old (gives (Some (plain_type ty)) found.new)) }
+    ensures fault { IfErr result (λ stop. IfRefused stop (λ refusal. CallOf env.now row.now owned.now regions (map plain_typed actuals.now) place found.old (refused refusal))) }
 {
     let mut faults = Faults::by_number();
     match fit_args(alloc, &mut faults, regions, row.regions.as_slice(), place)? {

@@ -1,16 +1,14 @@
-ghost use Rattle.std.specs.Prelude.{◌≡◌, false, None, Some, Err, map, IfOk, IfErr, OnOk};
+ghost use Rattle.std.specs.Prelude.{◌≡◌, false, None, Some, Ok, Err, map, IfOk, IfErr, OnOk};
 ghost use Rattle.dpj_base.specs.Refused.{IfRefused};
 ghost use Rattle.dpj_base.specs.Types.{plain_type};
 ghost use Rattle.dpj_base.specs.Types.{PlainType as plain};
-ghost use Rattle.dpj_headers.specs.Headers.{class_of};
 ghost use Rattle.dpj_resolve.specs.Classes.{params_in};
 ghost use Rattle.dpj_resolve.specs.Constraints.{all_hold};
 ghost use Rattle.dpj_classes.specs.Table.{headers_of, constructor_of, given_of};
-ghost use Rattle.dpj_exprs.specs.Given.{object_type, object_found, created_type, created_found};
+ghost use Rattle.dpj_exprs.specs.Answer.{gives, refused};
 ghost use Rattle.dpj_exprs.specs.Env.{table_of, given_in};
-ghost use Rattle.dpj_exprs.specs.Refusing.{refusal_at};
 ghost use Rattle.dpj_exprs.specs.Typed.{plain_typed};
-ghost use Rattle.dpj_exprs.specs.Uses.{args_of, args_told, created_params, formals_of, UseTold, with_constructor};
+ghost use Rattle.dpj_exprs.specs.Uses.{args_of, args_told, args_noted, created_params, formals_of, UseTold, with_constructor, CreationOf, Creation};
 
 use crate::actuals::{check_use, unknown_args};
 use crate::calls::read_full_args;
@@ -68,9 +66,8 @@ pub fn creation(
     actuals: &[Typed],
     place: Place,
 ) -> Result<Ty, Stop>
-    ensures unknown { class_of (headers_of (table_of env.now)) class.name ≡ None → result ≡ Err (refusal_at Kind.Unknown class.place) }
-    ensures ty { IfOk result (λ ty. created_type (table_of env.now) class.name regions ≡ Some (plain_type ty)) }
-    ensures found { OnOk result (created_found found.old (table_of env.now) class.name regions ≡ Some found.new) }
+    ensures ok { IfOk result (λ ty. Creation env.now class regions (map plain_typed actuals.now) place found.old (gives (Some (plain_type ty)) found.new)) }
+    ensures fault { IfErr result (λ stop. IfRefused stop (λ refusal. Creation env.now class regions (map plain_typed actuals.now) place found.old (refused refusal))) }
 {
     match env.table.headers().class(class.name) {
         Some(number) => creation_of(alloc, env, found, number, regions, actuals, place),
@@ -88,8 +85,8 @@ fn creation_of(
     actuals: &[Typed],
     place: Place,
 ) -> Result<Ty, Stop>
-    ensures ty { IfOk result (λ ty. object_type (table_of env.now) class regions ≡ Some (plain_type ty)) }
-    ensures found { OnOk result (object_found found.old (table_of env.now) class regions ≡ Some found.new) }
+    ensures ok { IfOk result (λ ty. CreationOf env.now class regions (map plain_typed actuals.now) place found.old (gives (Some (plain_type ty)) found.new)) }
+    ensures fault { IfErr result (λ stop. IfRefused stop (λ refusal. CreationOf env.now class regions (map plain_typed actuals.now) place found.old (refused refusal))) }
 {
     let mut faults = Faults::by_number();
     match fit_args(alloc, &mut faults, regions, class_params(env, class), place)? {

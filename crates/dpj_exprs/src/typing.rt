@@ -1,9 +1,14 @@
-ghost use Rattle.std.specs.Prelude.{◌≡◌, None, Ok, Err, slice_index_or, IfOk, IfErr};
+ghost use Rattle.std.specs.Prelude.{◌≡◌, true, false, is_some, None, Some, Ok, Err, map, slice_index_or, IfOk, IfErr};
+ghost use Rattle.std.specs.Option.{option_copied};
 ghost use Rattle.dpj_base.specs.Refused.{IfRefused};
 ghost use Rattle.dpj_base.specs.Types.{plain_type};
+ghost use Rattle.dpj_tree.specs.Plain.{plain_expr, plain_exprs};
+ghost use Rattle.dpj_exprs.specs.Answer.{gives, refused};
 ghost use Rattle.dpj_exprs.specs.Env.{local_of};
-ghost use Rattle.dpj_exprs.specs.Locals.{local_type};
-ghost use Rattle.dpj_exprs.specs.Typed.{known};
+ghost use Rattle.dpj_exprs.specs.Locals.{local_type, is_part_length};
+ghost use Rattle.dpj_exprs.specs.Shape.{form_of, is_access, is_operation, is_leaf};
+ghost use Rattle.dpj_exprs.specs.Typed.{known, plain_typed};
+ghost use Rattle.dpj_exprs.specs.Typing.{all_give, one_refused, leaf_type, Typing, TypingAll};
 
 use crate::arrays::{array_creation, read_array};
 use crate::calls::{call, read_call_args};
@@ -30,7 +35,9 @@ pub fn expr(
     found: &mut Found,
     e: &Expr,
 ) -> Result<Typed, Stop>
-    ensures { IfOk result (λ typed. slice_index_or types.new e.now.node None ≡ known typed) }
+    ensures noted { IfOk result (λ typed. slice_index_or types.new e.now.node None ≡ known typed) }
+    ensures ok { IfOk result (λ typed. Typing env.now (plain_expr e.now) found.old (gives (plain_typed typed) found.new)) }
+    ensures fault { IfErr result (λ stop. IfRefused stop (λ refusal. Typing env.now (plain_expr e.now) found.old (refused refusal))) }
 {
     let typed = access(alloc, env, types, found, e)?;
     types.note(alloc, e.node, typed.known())?;
@@ -45,14 +52,17 @@ fn access(
     types: &mut NodeTypes,
     found: &mut Found,
     e: &Expr,
-) -> Result<Typed, Stop> {
+) -> Result<Typed, Stop>
+    ensures ok { IfOk result (λ typed. Typing env.now (plain_expr e.now) found.old (gives (plain_typed typed) found.new)) }
+    ensures fault { IfErr result (λ stop. IfRefused stop (λ refusal. Typing env.now (plain_expr e.now) found.old (refused refusal))) }
+{
     match &e.kind {
-        ExprKind::Field { of, name } => match env.part(of.get()) {
-            Some(row) if env.is_length(*name) => {
+        ExprKind::Field { of, name } => match part_length(env, of.get(), *name) {
+            Some(row) => {
                 note_part(alloc, types, of.get(), row)?;
                 Ok(Typed::Known(Ty::Int))
             }
-            _ => {
+            None => {
                 let of = expr(alloc, env, types, found, of.get())?;
                 read_field(alloc, env, found, &of, *name, e.place)
             }
@@ -81,7 +91,11 @@ fn operation(
     types: &mut NodeTypes,
     found: &mut Found,
     e: &Expr,
-) -> Result<Typed, Stop> {
+) -> Result<Typed, Stop>
+    requires { is_access (form_of (plain_expr e.now)) ≡ false }
+    ensures ok { IfOk result (λ typed. Typing env.now (plain_expr e.now) found.old (gives (plain_typed typed) found.new)) }
+    ensures fault { IfErr result (λ stop. IfRefused stop (λ refusal. Typing env.now (plain_expr e.now) found.old (refused refusal))) }
+{
     match &e.kind {
         ExprKind::Unary { op, arg } => {
             let arg = expr(alloc, env, types, found, arg.get())?;
@@ -122,7 +136,12 @@ fn invocation(
     types: &mut NodeTypes,
     found: &mut Found,
     e: &Expr,
-) -> Result<Typed, Stop> {
+) -> Result<Typed, Stop>
+    requires access { is_access (form_of (plain_expr e.now)) ≡ false }
+    requires operation { is_operation (form_of (plain_expr e.now)) ≡ false }
+    ensures ok { IfOk result (λ typed. Typing env.now (plain_expr e.now) found.old (gives (plain_typed typed) found.new)) }
+    ensures fault { IfErr result (λ stop. IfRefused stop (λ refusal. Typing env.now (plain_expr e.now) found.old (refused refusal))) }
+{
     match &e.kind {
         ExprKind::Call {
             of,
@@ -147,7 +166,7 @@ fn invocation(
             let ty = creation(alloc, env, found, *class, regions, actuals, e.place)?;
             Ok(Typed::Known(ty))
         }
-        _ => Ok(Typed::Known(leaf(alloc, env, &e.kind, e.place)?)),
+        _ => Ok(Typed::Known(leaf(alloc, env, e)?)),
     }
 }
 
@@ -159,7 +178,10 @@ fn exprs(
     types: &mut NodeTypes,
     found: &mut Found,
     all: &[Expr],
-) -> Result<Items<Typed>, Stop> {
+) -> Result<Items<Typed>, Stop>
+    ensures ok { IfOk result (λ made. TypingAll env.now (plain_exprs (map plain_expr all.now)) found.old (all_give (map plain_typed made) found.new)) }
+    ensures fault { IfErr result (λ stop. IfRefused stop (λ refusal. TypingAll env.now (plain_exprs (map plain_expr all.now)) found.old (one_refused refusal))) }
+{
     let mut made = Items::new(alloc);
     for e in all {
         made.push(expr(alloc, env, types, found, e)?)?;
@@ -167,15 +189,27 @@ fn exprs(
     Ok(made)
 }
 
+/// The part of an array whose length a field is.
+pub fn part_length<'e>(env: &'e Env, of: &Expr, name: u32) -> Option<&'e LocalRow>
+    ensures { is_some (option_copied result) ≡ is_part_length env.now (plain_expr of.now) name }
+{
+    let row = env.part(of)?;
+    if env.is_length(name) { Some(row) } else { None }
+}
+
 /// The type of an expression without expressions in it.
-fn leaf(alloc: Global, env: &Env, kind: &ExprKind, place: Place) -> Result<Ty, Stop> {
-    match kind {
+fn leaf(alloc: Global, env: &Env, e: &Expr) -> Result<Ty, Stop>
+    requires { is_leaf (form_of (plain_expr e.now)) ≡ true }
+    ensures ok { IfOk result (λ ty. leaf_type env.now e.now.place (form_of (plain_expr e.now)) ≡ Some (Ok (plain_type ty))) }
+    ensures fault { IfErr result (λ stop. IfRefused stop (λ refusal. leaf_type env.now e.now.place (form_of (plain_expr e.now)) ≡ Some (Err refusal))) }
+{
+    match &e.kind {
         ExprKind::Int(_) => Ok(Ty::Int),
         ExprKind::Bool(_) => Ok(Ty::Bool),
         ExprKind::Null => Ok(Ty::Null),
         ExprKind::This => Ok(env.this_type(alloc)?),
-        ExprKind::Local(name) => local(alloc, env, *name, place),
-        _ => Err(refused(Kind::Type, place)),
+        ExprKind::Local(name) => local(alloc, env, *name, e.place),
+        _ => unreachable!(),
     }
 }
 

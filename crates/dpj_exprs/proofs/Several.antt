@@ -1,0 +1,69 @@
+-- Several expressions, of which the first ones are typed.
+use Rattle.std.proofs.Common.{◌≡◌, ◌∙◌, ℕ, suc, ◌+◌, ◌<◌, List, [], ◌∷◌, ◌++◌, map, length, get_or, drop, drop-cons, add-one, Option, refl, sym, ap, subst, append_assoc, append-nil}
+use Rattle.dpj_base.specs.declared.refusal.Refusal.{Refusal}
+use Rattle.dpj_base.specs.Types.{PlainType}
+use Rattle.dpj_tree.specs.declared.expr.Expr.{Expr}
+use Rattle.dpj_tree.specs.Plain.{plain_expr, plain_exprs}
+use Rattle.dpj_exprs.specs.declared.env.Env.{Env}
+use Rattle.dpj_exprs.specs.declared.found.Found.{Found}
+use Rattle.dpj_exprs.specs.declared.typed.Typed.{Typed}
+use Rattle.dpj_exprs.specs.Answer.{gives, refused}
+use Rattle.dpj_exprs.specs.Typed.{plain_typed}
+use Rattle.dpj_exprs.specs.Typing.{AllAnswer, all_give, one_refused, Typing, TypingAll, none_left, first_refused, later_refused, one_more}
+
+-- an answer of the rest, with types in front
+abbrev pub behind : List (Option PlainType) → AllAnswer → AllAnswer
+behind types (all_give others f) = all_give (types ++ others) f
+behind types (one_refused refusal) = one_refused refusal
+
+-- so many of the expressions give these types, and what is said of the others is said of all
+pub record SoFar (env : Env) (all : List Expr) (f : Found) (i : ℕ) (made : List Typed) (g : Found) : Type 0 where
+  pub goes_on : (a : AllAnswer) → TypingAll env (plain_exprs (map plain_expr (drop i all))) g a →
+      TypingAll env (plain_exprs (map plain_expr all)) f (behind (map plain_typed made) a)
+
+behind_none : (a : AllAnswer) → behind [] a ≡ a
+behind_none (all_give others f) = refl
+behind_none (one_refused refusal) = refl
+
+behind_more : (types : List (Option PlainType)) (t : Option PlainType) (a : AllAnswer) → behind types (behind (t ∷ []) a) ≡ behind (types ++ t ∷ []) a
+behind_more types t (all_give others f) = ap (λ all. all_give all f) (sym (append_assoc types (t ∷ []) others))
+behind_more types t (one_refused refusal) = refl
+
+map_more : (made : List Typed) (x : Typed) → map plain_typed (made ++ x ∷ []) ≡ map plain_typed made ++ plain_typed x ∷ []
+map_more [] x = refl
+map_more (y ∷ made) x = ap (λ rest. plain_typed y ∷ rest) (map_more made x)
+
+pub none_so_far : (env : Env) (all : List Expr) (f : Found) → SoFar env all f 0 [] f
+none_so_far env all f = record { goes_on = λ a d. subst (λ b. TypingAll env (plain_exprs (map plain_expr all)) f b) (sym (behind_none a)) d }
+
+next_is : (all : List Expr) (i : ℕ) (e : Expr) → i < length all → e ≡ get_or all i e → drop i all ≡ e ∷ drop (i + 1) all
+next_is all i e below is = drop-cons all i e below ∙ ap (λ x. x ∷ drop (suc i) all) (sym is) ∙ ap (λ k. e ∷ drop k all) (sym (add-one i))
+
+step : (env : Env) (e : Expr) (es : List Expr) (f g : Found) (t : Option PlainType) (a : AllAnswer) → Typing env (plain_expr e) f (gives t g) → TypingAll env (plain_exprs (map plain_expr es)) g a →
+    TypingAll env (plain_exprs (map plain_expr (e ∷ es))) f (behind (t ∷ []) a)
+step env e es f g t (all_give others h) d rest = one_more d rest
+step env e es f g t (one_refused refusal) d rest = later_refused d rest
+
+pub one_so_far : (env : Env) (all : List Expr) (f : Found) (i : ℕ) (made : List Typed) (g h : Found) (e : Expr) (x : Typed) (others : List Typed) →
+    SoFar env all f i made g → i < length all → e ≡ get_or all i e → Typing env (plain_expr e) g (gives (plain_typed x) h) → others ≡ made ++ x ∷ [] → SoFar env all f (i + 1) others h
+one_so_far env all f i made g h e x others so_far below is d same = record {
+  goes_on = λ a rest.
+      let here : TypingAll env (plain_exprs (map plain_expr (e ∷ drop (i + 1) all))) g (behind (plain_typed x ∷ []) a) = step env e (drop (i + 1) all) g h (plain_typed x) a d rest in
+      let there : TypingAll env (plain_exprs (map plain_expr (drop i all))) g (behind (plain_typed x ∷ []) a) =
+      subst (λ es. TypingAll env (plain_exprs (map plain_expr es)) g (behind (plain_typed x ∷ []) a)) (sym (next_is all i e below is)) here in
+      subst (λ b. TypingAll env (plain_exprs (map plain_expr all)) f b)
+      (behind_more (map plain_typed made) (plain_typed x) a ∙ ap (λ types. behind types a) (sym (map_more made x) ∙ ap (map plain_typed) (sym same)))
+      (so_far.goes_on (behind (plain_typed x ∷ []) a) there);
+}
+
+pub one_stopped : (env : Env) (all : List Expr) (f : Found) (i : ℕ) (made : List Typed) (g : Found) (e : Expr) (q : Refusal) →
+    SoFar env all f i made g → i < length all → e ≡ get_or all i e → Typing env (plain_expr e) g (refused q) → TypingAll env (plain_exprs (map plain_expr all)) f (one_refused q)
+one_stopped env all f i made g e q so_far below is d =
+    so_far.goes_on (one_refused q)
+    (subst (λ es. TypingAll env (plain_exprs (map plain_expr es)) g (one_refused q)) (sym (next_is all i e below is)) (first_refused d))
+
+pub all_so_far : (env : Env) (all : List Expr) (f : Found) (i : ℕ) (made : List Typed) (g : Found) →
+    SoFar env all f i made g → drop i all ≡ [] → TypingAll env (plain_exprs (map plain_expr all)) f (all_give (map plain_typed made) g)
+all_so_far env all f i made g so_far none =
+    subst (λ types. TypingAll env (plain_exprs (map plain_expr all)) f (all_give types g)) (append-nil (map plain_typed made))
+    (so_far.goes_on (all_give [] g) (subst (λ es. TypingAll env (plain_exprs (map plain_expr es)) g (all_give [] g)) (sym none) none_left))
