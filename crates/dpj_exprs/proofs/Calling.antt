@@ -22,7 +22,7 @@ use Rattle.dpj_classes.specs.declared.rows.MethodRow.{MethodRow}
 use Rattle.dpj_classes.specs.Table.{headers_of}
 use Rattle.dpj_exprs.specs.declared.env.Env.{Env}
 use Rattle.dpj_exprs.specs.declared.found.Found.{Found}
-use Rattle.dpj_exprs.specs.Answer.{Answer, gives, refused, with_summary}
+use Rattle.dpj_exprs.specs.Answer.{Answer, gives, refused, with_call}
 use Rattle.dpj_exprs.specs.Env.{table_of, given_in}
 use Rattle.dpj_exprs.specs.Partial.{is_partial_call}
 use Rattle.dpj_exprs.specs.Shapes.{shapes_fit}
@@ -68,14 +68,14 @@ told_same env row actuals place told_one all all' before before' partial partial
 with_all : (env : Env) (row : MethodRow) (owned : List Rpl) (args : ReadArgs) (actuals : List (Option PlainType)) (place : Place) (f : Found) (regions all : List Rpl) (before : Faults) (partial : Bool) →
     args_given args.written args.paths row.regions ≡ Some regions → all ≡ owned ++ regions → before ≡ args_noted args row.regions place → partial ≡ is_partial_call owned row →
     CallTold env row actuals place None all before partial →
-    CallOf env row owned args actuals place f (gives (Some (type_with all (plain_type row.result))) (with_summary f row.summary all))
+    CallOf env row owned args actuals place f (gives (Some (type_with all (plain_type row.result))) (with_call (table_of env) f row all))
 with_all env row owned args actuals place f regions all before partial given e b p told =
-    subst (λ (z : List Rpl). CallOf env row owned args actuals place f (gives (Some (type_with z (plain_type row.result))) (with_summary f row.summary z))) (sym e)
+    subst (λ (z : List Rpl). CallOf env row owned args actuals place f (gives (Some (type_with z (plain_type row.result))) (with_call (table_of env) f row z))) (sym e)
     (CallOf.called given (told_same env row actuals place None all (owned ++ regions) before (args_noted args row.regions place) partial (is_partial_call owned row) e b p told))
 
 pub of_called : (env : Env) (row : MethodRow) (owned : List Rpl) (args : ReadArgs) (actuals : List (Option PlainType)) (place : Place) (f g : Found) (regions all : List Rpl) (before : Faults) (partial : Bool) (r : Result Ty Stop) →
     args_given args.written args.paths row.regions ≡ Some regions → all ≡ owned ++ regions → before ≡ args_noted args row.regions place → partial ≡ is_partial_call owned row →
-    OnOk r (CallTold env row actuals place None all before partial) → IfOk r (λ t. plain_type t ≡ type_with all (plain_type row.result)) → OnOk r (g ≡ with_summary f row.summary all) →
+    OnOk r (CallTold env row actuals place None all before partial) → IfOk r (λ t. plain_type t ≡ type_with all (plain_type row.result)) → OnOk r (g ≡ with_call (table_of env) f row all) →
     IfOk r (λ t. CallOf env row owned args actuals place f (gives (Some (plain_type t)) g))
 of_called env row owned args actuals place f g regions all before partial (Ok t) given e b p told is found =
     subst (λ (z : PlainType). CallOf env row owned args actuals place f (gives (Some z) g)) (sym is)

@@ -39,7 +39,7 @@ CreationTold env at actuals place told_one regions before =
 
 pub of_created : (env : Env) (at : ℕ) (args : ReadArgs) (actuals : List (Option PlainType)) (place : Place) (f g : Found) (regions : List Rpl) (before : Faults) (r : Result Ty Stop) →
     args_given args.written args.paths (params_at env at) ≡ Some regions → before ≡ args_noted args (params_at env at) place →
-    OnOk r (CreationTold env at actuals place None regions before) → IfOk r (λ t. plain_type t ≡ ty.class at regions) → OnOk r (g ≡ with_constructor f (constructor_of (table_of env) at) regions) →
+    OnOk r (CreationTold env at actuals place None regions before) → IfOk r (λ t. plain_type t ≡ ty.class at regions) → OnOk r (g ≡ with_constructor (table_of env) f (constructor_of (table_of env) at) regions) →
     IfOk r (λ t. CreationOf env at args actuals place f (gives (Some (plain_type t)) g))
 of_created env at args actuals place f g regions before (Ok t) given b told is found =
     subst (λ (z : PlainType). CreationOf env at args actuals place f (gives (Some z) g)) (sym is)

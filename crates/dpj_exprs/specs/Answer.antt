@@ -1,5 +1,5 @@
 -- What is said of an expression where it stands, and what reads add to what was found before.
-use Rattle.std.specs.Prelude.{ℕ, Bool, true, false, List, [], ◌∷◌, ◌++◌, map, Option, Some}
+use Rattle.std.specs.Prelude.{ℕ, Bool, true, false, ◌||◌, List, [], ◌∷◌, ◌++◌, map, Option, Some}
 use Rattle.dpj_base.specs.declared.effect.Effect.{Effect}
 use Rattle.dpj_base.specs.declared.place.Place.{Place}
 use Rattle.dpj_base.specs.declared.refusal.Kind.TheVariants as kind
@@ -8,6 +8,9 @@ use Rattle.dpj_base.specs.declared.region.Rpl.{Rpl}
 use Rattle.dpj_base.specs.Effects.{added, gathered}
 use Rattle.dpj_base.specs.Types.{PlainType}
 use Rattle.dpj_headers.specs.Passes.{fault}
+use Rattle.dpj_classes.specs.declared.rows.MethodRow.{MethodRow}
+use Rattle.dpj_classes.specs.declared.table.Table.{Table}
+use Rattle.dpj_classes.specs.Table.{is_forking}
 use Rattle.dpj_exprs.specs.declared.found.Found.{Found}
 use Rattle.dpj_exprs.specs.Found.{access, part_access, effect_with}
 
@@ -18,15 +21,20 @@ pub data Answer : Type 0 where
 
 -- with a plain read or write
 abbrev pub with_access : Found → Rpl → Bool → Found
-with_access found rpl write = record { effects = added found.effects (access rpl write); uses = found.uses }
+with_access found rpl write = record found { effects = added found.effects (access rpl write) }
 
 -- with a read or a write through the part of a number
 abbrev pub with_part_use : Found → ℕ → Rpl → Bool → Found
-with_part_use found view rpl write = record { effects = found.effects; uses = found.uses ++ part_access view rpl write ∷ [] }
+with_part_use found view rpl write = record found { uses = found.uses ++ part_access view rpl write ∷ [] }
 
 -- with the effects of a summary, region arguments put in
 abbrev pub with_summary : Found → List Effect → List Rpl → Found
-with_summary found summary args = record { effects = gathered found.effects (map (effect_with args) summary); uses = found.uses }
+with_summary found summary args = record found { effects = gathered found.effects (map (effect_with args) summary) }
+
+-- with what a call of a method or a constructor does, region arguments put in: the effects of its summary, and whether an
+-- nd construct is reached through it
+abbrev pub with_call : Table → Found → MethodRow → List Rpl → Found
+with_call table found row args = record (with_summary found row.summary args) { reaches_nd = found.reaches_nd || is_forking table row.id }
 
 -- a read of something at a place, where it may be read
 abbrev pub read : Bool → PlainType → Rpl → Place → Found → Answer

@@ -1,5 +1,5 @@
 -- What is in scope around an expression.
-use Rattle.std.specs.Prelude.{ℕ, zero, suc, ◌==◌, Bool, false, ◌&&◌, cond, List, [], ◌∷◌, ◌++◌, length, slice_get, is_some, Option, Some, None, option_and_then}
+use Rattle.std.specs.Prelude.{ℕ, zero, suc, ◌==◌, Bool, false, ◌&&◌, cond, List, [], ◌∷◌, ◌++◌, length, take, fold, slice_get, is_some, Option, Some, None, option_and_then}
 use Rattle.std.specs.Option.{option_map_or}
 use Rattle.dpj_base.specs.declared.effect.Constraint.{Constraint}
 use Rattle.dpj_base.specs.declared.region.Head.TheVariants.{Param}
@@ -9,12 +9,15 @@ use Rattle.dpj_base.specs.Types.{PlainType, plain_type}
 use Rattle.dpj_base.specs.Types.{PlainType as ty}
 use Rattle.dpj_tree.specs.Plain.{PlainExpr, expression, ExprForm, local}
 use Rattle.dpj_headers.specs.Numbers.{as_number}
+use Rattle.dpj_headers.specs.declared.header.ParamRow.{ParamRow}
 use Rattle.dpj_resolve.specs.declared.scope.Site.TheVariants as site
 use Rattle.dpj_resolve.specs.Classes.{params_in}
+use Rattle.dpj_resolve.specs.Names.{Names}
 use Rattle.dpj_resolve.specs.Scopes.{PlainScope, param_meant}
-use Rattle.dpj_resolve.specs.Scoped.{names_in, place_in, value_in, values_in}
+use Rattle.dpj_resolve.specs.Scoped.{no_names, names_in, place_in, value_in, values_in, with_name, names_left}
+use Rattle.dpj_classes.specs.declared.rows.MethodRow.{MethodRow}
 use Rattle.dpj_classes.specs.declared.table.Table.{Table}
-use Rattle.dpj_classes.specs.Table.{headers_of}
+use Rattle.dpj_classes.specs.Table.{headers_of, given_of, numbered}
 use Rattle.dpj_exprs.specs.declared.env.Env.{Env}
 use Rattle.dpj_exprs.specs.declared.env.LocalRow.{LocalRow}
 use Rattle.dpj_exprs.specs.declared.env.Mark.{Mark}
@@ -119,3 +122,40 @@ class_arity env = length (params_in (headers_of (table_of env)) env.class)
 -- the class with its own region parameters
 abbrev pub this_type_of : Env → PlainType
 this_type_of env = ty.class env.class (param_paths (class_arity env))
+
+-- a further local is in scope; a final int may stand in an index
+abbrev pub with_local : Env → LocalRow → Env
+with_local env row = record env { rows = env.rows ++ row ∷ []; variables = with_name env.variables row.name (index_number row) }
+
+-- a further local region is in scope
+abbrev pub with_region : Env → ℕ → Env
+with_region env name = record env { regions = with_name env.regions name env.declared; declared = as_number (suc env.declared) }
+
+-- only what was in scope at the mark still is
+abbrev pub left_to : Env → Mark → Env
+left_to env mark = record env {
+  rows = take mark.locals env.rows;
+  variables = names_left env.variables mark.locals;
+  regions = names_left env.regions mark.regions;
+}
+
+-- nothing is in scope
+abbrev pub bare : Env → Env
+bare env = record env { params = no_names; rows = []; variables = no_names; regions = no_names; declared = 0 }
+
+-- around the members of a class: its constraints are in force
+abbrev pub at_class : Env → ℕ → Env
+at_class env class = record (bare env) { class = class; given = given_of (table_of env) class; class_given = length (given_of (table_of env) class) }
+
+-- region parameters by their names, with whether each is atomic
+abbrev pub params_named : List ParamRow → Names Bool
+params_named rows = fold (λ names row. with_name names row.name row.atomic) no_names rows
+
+-- with the region parameters and the constraints of a method
+abbrev pub with_row : Env → Option MethodRow → Env
+with_row env None = env
+with_row env (Some row) = record env { params = params_named row.regions; given = env.given ++ row.given }
+
+-- around the body of a method or a constructor of the class
+abbrev pub at_method : Env → ℕ → Env
+at_method env method = with_row (record (bare env) { method = method; given = take env.class_given env.given }) (numbered (table_of env) method)

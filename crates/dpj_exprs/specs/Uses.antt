@@ -30,7 +30,7 @@ use Rattle.dpj_classes.specs.declared.table.Table.{Table}
 use Rattle.dpj_classes.specs.Table.{headers_of, method_of, constructor_of, given_of, args_at}
 use Rattle.dpj_exprs.specs.declared.env.Env.{Env}
 use Rattle.dpj_exprs.specs.declared.found.Found.{Found}
-use Rattle.dpj_exprs.specs.Answer.{Answer, gives, refused, with_summary}
+use Rattle.dpj_exprs.specs.Answer.{Answer, gives, refused, with_call}
 use Rattle.dpj_exprs.specs.Env.{table_of, supers_of, given_in, scope_of}
 use Rattle.dpj_exprs.specs.Partial.{is_partial_call}
 use Rattle.dpj_exprs.specs.Shapes.{shapes_fit}
@@ -104,7 +104,7 @@ pub data CallOf (env : Env) (row : MethodRow) (owned : List Rpl) (args : ReadArg
   called : {regions : List Rpl} →
       args_given args.written args.paths row.regions ≡ Some regions →
       UseTold env (args_noted args row.regions place) (owned ++ regions) actuals row.params (is_partial_call owned row) (all_hold (given_in env) (owned ++ regions) row.given) place None →
-      CallOf env row owned args actuals place found (gives (Some (type_with (owned ++ regions) (plain_type row.result))) (with_summary found row.summary (owned ++ regions)))
+      CallOf env row owned args actuals place found (gives (Some (type_with (owned ++ regions) (plain_type row.result))) (with_call (table_of env) found row (owned ++ regions)))
 
 -- a call on what has a type
 pub data CallOn (env : Env) (t : PlainType) (name : ℕ) (args : ReadArgs) (actuals : List (Option PlainType)) (place : Place) (found : Found) : Answer → Type 0 where
@@ -122,10 +122,10 @@ pub data Call (env : Env) : Option PlainType → ℕ → ReadArgs → List (Opti
   no_value_passed : {name : ℕ} {args : ReadArgs} {actuals : List (Option PlainType)} {place : Place} {found : Found} →
       list_all (may_be is_value) actuals ≡ false → Call env None name args actuals place found (refused (fault kind.Type place))
 
--- with the effects of the constructor, where there is one
-abbrev pub with_constructor : Found → Option MethodRow → List Rpl → Found
-with_constructor found None args = found
-with_constructor found (Some row) args = with_summary found row.summary args
+-- with what the constructor does, where there is one
+abbrev pub with_constructor : Table → Found → Option MethodRow → List Rpl → Found
+with_constructor table found None args = found
+with_constructor table found (Some row) args = with_call table found row args
 
 -- the creation of an object of a class, where the actuals have these types
 pub data CreationOf (env : Env) (at : ℕ) (args : ReadArgs) (actuals : List (Option PlainType)) (place : Place) (found : Found) : Answer → Type 0 where
@@ -143,7 +143,7 @@ pub data CreationOf (env : Env) (at : ℕ) (args : ReadArgs) (actuals : List (Op
   created : {regions : List Rpl} →
       args_given args.written args.paths (params_in (headers_of (table_of env)) at) ≡ Some regions →
       UseTold env (args_noted args (params_in (headers_of (table_of env)) at) place) regions actuals (formals_of (table_of env) at) false (all_hold (given_in env) regions (given_of (table_of env) at)) place None →
-      CreationOf env at args actuals place found (gives (Some (ty.class at regions)) (with_constructor found (constructor_of (table_of env) at) regions))
+      CreationOf env at args actuals place found (gives (Some (ty.class at regions)) (with_constructor (table_of env) found (constructor_of (table_of env) at) regions))
 
 -- the creation of an object of a class that is named
 pub data Creation (env : Env) (class : Named) (args : ReadArgs) (actuals : List (Option PlainType)) (place : Place) (found : Found) : Answer → Type 0 where

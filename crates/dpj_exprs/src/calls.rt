@@ -4,7 +4,7 @@ ghost use Rattle.dpj_base.specs.Refused.{IfRefused};
 ghost use Rattle.dpj_base.specs.Types.{plain_type, type_with};
 ghost use Rattle.dpj_resolve.specs.Constraints.{all_hold};
 ghost use Rattle.dpj_classes.specs.Table.{headers_of};
-ghost use Rattle.dpj_exprs.specs.Answer.{gives, refused, with_summary};
+ghost use Rattle.dpj_exprs.specs.Answer.{gives, refused, with_call};
 ghost use Rattle.dpj_exprs.specs.Env.{table_of, given_in};
 ghost use Rattle.dpj_exprs.specs.Partial.{some_mention_partial, is_partial_call};
 ghost use Rattle.dpj_exprs.specs.Typed.{plain_typed, may_be, is_value};
@@ -240,7 +240,7 @@ fn call_with(
 ) -> Result<Ty, Stop>
     ensures untold { OnOk result (UseTold env.now faults args.now (map plain_typed actuals.now) row.now.params partial (all_hold (given_in env.now) args.now row.now.given) place None) }
     ensures ty { IfOk result (λ ty. plain_type ty ≡ type_with args.now (plain_type row.now.result)) }
-    ensures found { OnOk result (found.new ≡ with_summary found.old row.now.summary args.now) }
+    ensures found { OnOk result (found.new ≡ with_call (table_of env.now) found.old row.now args.now) }
     ensures fault { IfErr result (λ stop. IfRefused stop (λ refusal. UseTold env.now faults args.now (map plain_typed actuals.now) row.now.params partial (all_hold (given_in env.now) args.now row.now.given) place (Some refusal))) }
 {
     check_use(
@@ -254,6 +254,6 @@ fn call_with(
         partial,
         place,
     )?;
-    found.summary(alloc, &row.summary, args)?;
+    found.call(alloc, env.table, row, args)?;
     Ok(subst_type(alloc, &row.result, args)?)
 }

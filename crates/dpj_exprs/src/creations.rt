@@ -111,7 +111,7 @@ fn creation_with(
 ) -> Result<Ty, Stop>
     ensures untold { OnOk result (UseTold env.now faults args (map plain_typed actuals.now) (formals_of (table_of env.now) class) false (all_hold (given_in env.now) args (given_of (table_of env.now) class)) place None) }
     ensures ty { IfOk result (λ ty. plain_type ty ≡ plain.class class args) }
-    ensures found { OnOk result (found.new ≡ with_constructor found.old (constructor_of (table_of env.now) class) args) }
+    ensures found { OnOk result (found.new ≡ with_constructor (table_of env.now) found.old (constructor_of (table_of env.now) class) args) }
     ensures fault { IfErr result (λ stop. IfRefused stop (λ refusal. UseTold env.now faults args (map plain_typed actuals.now) (formals_of (table_of env.now) class) false (all_hold (given_in env.now) args (given_of (table_of env.now) class)) place (Some refusal))) }
 {
     check_use(
@@ -139,7 +139,7 @@ fn formals<'e>(env: &'e Env, class: u32) -> &'e [Ty]
     }
 }
 
-/// Adds the effects of the constructor, where there is one.
+/// Adds what the constructor does, where there is one.
 fn add_constructor(
     alloc: Global,
     env: &Env,
@@ -147,10 +147,10 @@ fn add_constructor(
     class: u32,
     args: &[Rpl],
 ) -> Result<(), NoMemory>
-    ensures { OnOk result (found.new ≡ with_constructor found.old (constructor_of (table_of env.now) class) args.now) }
+    ensures { OnOk result (found.new ≡ with_constructor (table_of env.now) found.old (constructor_of (table_of env.now) class) args.now) }
 {
     match env.table.constructor(class) {
-        Some(row) => found.summary(alloc, &row.summary, args),
+        Some(row) => found.call(alloc, env.table, row, args),
         None => Ok(()),
     }
 }

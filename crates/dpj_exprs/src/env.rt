@@ -1,4 +1,6 @@
 ghost use Rattle.std.specs.Prelude.{◌≡◌, ◌++◌, IfOk, OnOk};
+ghost use Rattle.std.specs.Prelude.{fold};
+ghost use Rattle.dpj_resolve.specs.Scoped.{with_name};
 ghost use Rattle.dpj_exprs.specs.Env.{index_number, param_paths};
 
 use crate::supers::Supers;
@@ -71,7 +73,7 @@ impl Env<'_> {
     ghost use Rattle.dpj_base.specs.Types.{plain_type};
     ghost use Rattle.dpj_resolve.specs.Scopes.{plain_scope};
     ghost use Rattle.dpj_tree.specs.Plain.{plain_expr};
-    ghost use Rattle.dpj_exprs.specs.Env.{table_of, locals_in, local_names, index_numbers, region_names, declared_in, mark_of, index_number, is_param_name, local_of, index_variable_of, part_of, is_length_name, given_in, regions_in, has_region, scope_of, this_type_of};
+    ghost use Rattle.dpj_exprs.specs.Env.{table_of, locals_in, local_names, index_numbers, region_names, declared_in, mark_of, index_number, with_local, with_region, left_to, bare, at_class, at_method, is_param_name, local_of, index_variable_of, part_of, is_length_name, given_in, regions_in, has_region, scope_of, this_type_of};
 
     /// What is around the members of class 0, before one is entered.
     pub fn new<'a>(alloc: Global, table: &'a Table, length: Option<u32>) -> Env<'a> {
@@ -94,6 +96,7 @@ impl Env<'_> {
 
     /// Goes over to a class. Its constraints are in force.
     pub fn enter_class(&mut self, alloc: Global, class: u32) -> Result<(), NoMemory>
+        ensures whole { OnOk result (self.new ≡ at_class self.old class) }
         ensures class { self.new.class ≡ class }
         ensures given { OnOk result (given_in self.new ≡ given_of (table_of self.old) class) }
         ensures locals { locals_in self.new ≡ [] }
@@ -111,6 +114,7 @@ impl Env<'_> {
     /// Goes over to a constructor or method of the class. Its region parameters are in scope and its constraints in
     /// force, and no local is in scope yet.
     pub fn enter_method(&mut self, alloc: Global, method: u32) -> Result<(), NoMemory>
+        ensures whole { OnOk result (self.new ≡ at_method self.old method) }
         ensures method { self.new.method ≡ method }
         ensures locals { locals_in self.new ≡ [] }
         ensures names { local_names self.new ≡ [] }
@@ -128,10 +132,7 @@ impl Env<'_> {
     }
 
     fn clear(&mut self)
-        ensures locals { locals_in self.new ≡ [] }
-        ensures names { local_names self.new ≡ [] }
-        ensures regions { regions_in self.new ≡ [] }
-        ensures table { table_of self.new ≡ table_of self.old }
+        ensures { self.new ≡ bare self.old }
     {
         self.params.leave(0);
         self.rows.truncate(0);
@@ -142,6 +143,7 @@ impl Env<'_> {
 
     /// Puts a local in scope. A final int may stand in an index.
     pub fn declare(&mut self, row: LocalRow) -> Result<(), NoMemory>
+        ensures whole { OnOk result (self.new ≡ with_local self.old row) }
         ensures locals { OnOk result (locals_in self.new ≡ locals_in self.old ++ row ∷ []) }
         ensures names { OnOk result (local_names self.new ≡ local_names self.old ++ row.name ∷ []) }
         ensures indices { OnOk result (index_numbers self.new ≡ index_numbers self.old ++ index_number row ∷ []) }
@@ -161,6 +163,7 @@ impl Env<'_> {
 
     /// Puts a local region in scope, and gives the number of its declaration.
     pub fn declare_region(&mut self, name: u32) -> Result<u32, NoMemory>
+        ensures whole { OnOk result (self.new ≡ with_region self.old name) }
         ensures number { IfOk result (λ decl. decl ≡ declared_in self.old) }
         ensures names { OnOk result (region_names self.new ≡ region_names self.old ++ name ∷ []) }
         ensures regions { OnOk result (regions_in self.new ≡ regions_in self.old ++ declared_in self.old ∷ []) }
@@ -185,6 +188,7 @@ impl Env<'_> {
 
     /// Takes what came into scope behind a mark out of it.
     pub fn leave(&mut self, mark: Mark)
+        ensures whole { self.new ≡ left_to self.old mark }
         ensures locals { locals_in self.new ≡ take mark.locals (locals_in self.old) }
         ensures names { local_names self.new ≡ take mark.locals (local_names self.old) }
         ensures indices { index_numbers self.new ≡ take mark.locals (index_numbers self.old) }
@@ -331,7 +335,9 @@ fn put_constraints(
     Ok(())
 }
 
-fn put_params(params: &mut Scoped<bool>, rows: &[ParamRow]) -> Result<(), NoMemory> {
+fn put_params(params: &mut Scoped<bool>, rows: &[ParamRow]) -> Result<(), NoMemory>
+    ensures { OnOk result (params.new ≡ fold (λ names row. with_name names row.name row.atomic) params.old rows.now) }
+{
     for row in rows {
         params.enter(row.name, row.atomic)?;
     }

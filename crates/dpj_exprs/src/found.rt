@@ -1,28 +1,31 @@
 use dpj_base::{Effect, Items, NoMemory, PartUse, Rpl};
+use dpj_classes::{MethodRow, Table};
 use dpj_effects::EffectSet;
 use dpj_resolve::put_in;
 use std::alloc::Global;
 
-/// The effects that were found, in the order of evaluation, and the uses of array parts apart from them.
+/// What was found, in the order of evaluation: the effects, and the uses of array parts apart from them.
 #[derive(Drop)]
 pub struct Found {
     pub effects: EffectSet,
     pub uses: Items<PartUse>,
+    /// An nd construct stands there, or is reached through a method or a constructor that is called.
+    pub reaches_nd: bool,
 }
 
 impl Found {
-    ghost use Rattle.std.specs.Prelude.{◌≡◌, ◌∷◌, ◌++◌, [], map, OnOk, OnErr};
+    ghost use Rattle.std.specs.Prelude.{◌≡◌, ◌∷◌, ◌++◌, [], false, map, OnOk, OnErr};
     ghost use Rattle.dpj_base.specs.Effects.{added, gathered};
-    ghost use Rattle.dpj_exprs.specs.Answer.{with_access, with_part_use, with_summary};
+    ghost use Rattle.dpj_exprs.specs.Answer.{with_access, with_part_use, with_summary, with_call};
     ghost use Rattle.dpj_exprs.specs.Found.{access, part_access, effect_with};
 
     pub fn new(alloc: Global) -> Found
-        ensures effects { result.effects ≡ [] }
-        ensures uses { result.uses ≡ [] }
+        ensures { result ≡ record { effects = []; uses = []; reaches_nd = false } }
     {
         Found {
             effects: EffectSet::new(alloc),
             uses: Items::new(alloc),
+            reaches_nd: false,
         }
     }
 
@@ -50,8 +53,22 @@ impl Found {
         self.uses.push(PartUse { view, rpl, write })
     }
 
+    /// Adds what a call of a method or a constructor of the table does, with region arguments put in.
+    pub fn call(
+        &mut self,
+        alloc: Global,
+        table: &Table,
+        row: &MethodRow,
+        args: &[Rpl],
+    ) -> Result<(), NoMemory>
+        ensures { OnOk result (self.new ≡ with_call table.now self.old row.now args.now) }
+    {
+        self.reaches_nd = self.reaches_nd || table.forks(row.id);
+        self.summary(alloc, &row.summary, args)
+    }
+
     /// Adds the effects of a summary, with region arguments put in.
-    pub fn summary(
+    fn summary(
         &mut self,
         alloc: Global,
         summary: &EffectSet,

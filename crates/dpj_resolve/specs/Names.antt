@@ -1,10 +1,20 @@
 -- Names in the order in which they came. Of two equal names the later is meant.
-use Rattle.std.specs.Prelude.{◌≡◌, ℕ, suc, ◌==◌, cond, List, [], ◌∷◌, map, take, slice_get, Option, Some, None}
+use Rattle.std.specs.Prelude.{◌≡◌, refl, ℕ, suc, ◌==◌, cond, List, [], ◌∷◌, map, take, slice_get, Option, Some, None}
 use Rattle.std.specs.Ordering.{nat_cmp}
 use Rattle.std.specs.BTreeMap.{get}
 use Rattle.std.specs.declared.collections.BTreeMap.{BTreeMap}
 use Rattle.std.specs.declared.alloc.Global.{Global}
+use Rattle.std.specs.Coded.{Coded, code_by, coded×, coded_list, coded_ℕ}
 use Rattle.dpj_resolve.specs.declared.scoped.Named.{Named}
+
+-- names in the order in which they came, and the value of each
+pub record Names (T : Type 0) : Type 0 where
+  pub names : List ℕ
+  pub values : List T
+
+abbrev pub names_code : {T : Type 0} → Coded T → Coded (Names T)
+names_code {T} code =
+    code_by (List ℕ × List T) (coded× (coded_list coded_ℕ) (coded_list code)) (λ n. (n.names, n.values)) (λ p. record { names = p.0; values = p.1 }) (λ _. refl)
 
 -- the place of the last of a name among names that are counted on from a number; this one, where there is none
 abbrev pub last_from : ℕ → Option ℕ → List ℕ → ℕ → Option ℕ

@@ -12,8 +12,8 @@ use Rattle.dpj_resolve.specs.declared.index.IndexNames.{IndexNames}
 use Rattle.dpj_resolve.specs.declared.scope.ParamFound.{ParamFound}
 use Rattle.dpj_resolve.specs.declared.scope.Scope.{Scope}
 use Rattle.dpj_resolve.specs.declared.scope.Site.{Site}
-use Rattle.dpj_resolve.specs.declared.scoped.Scoped.{Scoped}
 use Rattle.dpj_resolve.specs.Classes.{params_in}
+use Rattle.dpj_resolve.specs.Names.{Names}
 use Rattle.dpj_resolve.specs.Scoped.{values_in, place_in}
 
 -- what is around a place
@@ -21,11 +21,11 @@ pub record PlainScope : Type 0 where
   pub headers : Headers
   pub class : ℕ
   -- the region parameters of the method, with whether each is atomic
-  pub params : Scoped Bool
+  pub params : Names Bool
   -- the locals, formals and foreach variables, with the number of each that may stand in an index
-  pub variables : Scoped (Option ℕ)
+  pub variables : Names (Option ℕ)
   -- the local regions, with the numbers of their declarations
-  pub regions : Scoped ℕ
+  pub regions : Names ℕ
   -- the constraints in force, and those of each class
   pub given : List Constraint
   pub classes_given : List (List Constraint)

@@ -2,18 +2,25 @@ ghost use Rattle.std.specs.Prelude.{◌≡◌, ◌↔◌, ◌++◌, ◌∷◌, �
 ghost use Rattle.std.specs.BTreeMap.{get};
 ghost use Rattle.std.specs.Option.{option_copied};
 ghost use Rattle.std.specs.Ordering.{nat_cmp};
-ghost use Rattle.dpj_resolve.specs.Names.{HasMoved, KnowHidden, ShowsLast};
+ghost use Rattle.dpj_resolve.specs.Names.{last_place, plain_names, HasMoved, KnowHidden, ShowsLast};
 
 use dpj_base::{Items, NoMemory};
 use std::alloc::Global;
 use std::collections::BTreeMap;
+use std::marker::Model;
 
 /// Names in scope, each with a value, in the order in which they came. Of two equal names the later is meant.
+/// A contract sees the names and the values.
 #[derive(Drop)]
 pub struct Scoped<T> {
+    kept: Kept<T>,
+}
+
+/// The names and the values as they are kept, with the place of the last of each name.
+#[derive(Drop)]
+struct Kept<T> {
     names: Items<Named>,
     values: Items<T>,
-    /// The place of the last of each name.
     spots: BTreeMap<u32, usize>,
 
     ghost valued: { length values ≡ length names },
@@ -28,64 +35,99 @@ struct Named {
     hidden: Option<usize>,
 }
 
+impl<T> Model for Scoped<T> {
+    ghost use Rattle.dpj_resolve.specs.Names.{Names, names_code, plain_names};
+
+    ghost Value = { Names T };
+
+    ghost coded = { names_code T.code };
+
+    ghost view = { λ scoped. record { names = plain_names scoped.kept.names; values = scoped.kept.values } };
+}
+
 impl<T> Scoped<T> {
-    ghost use Rattle.dpj_resolve.specs.Scoped.{names_in, values_in, place_in, value_in};
+    ghost use Rattle.dpj_resolve.specs.Scoped.{no_names, values_in, place_in, value_in};
 
     /// No names, which takes no memory.
     pub fn new(alloc: Global) -> Scoped<T>
-        ensures names { names_in result ≡ [] }
-        ensures values { values_in result ≡ [] }
+        ensures { result ≡ no_names }
     {
         Scoped {
-            names: Items::new(alloc),
-            values: Items::new(alloc),
-            spots: BTreeMap::new(alloc),
+            kept: Kept {
+                names: Items::new(alloc),
+                values: Items::new(alloc),
+                spots: BTreeMap::new(alloc),
+            },
         }
     }
 
     pub fn len(&self) -> usize
         ensures { result ≡ length (values_in self.now) }
     {
-        self.values.len()
+        self.kept.values.len()
     }
 
     pub fn is_empty(&self) -> bool
         ensures { IsTrue result ↔ (values_in self.now ≡ []) }
     {
-        self.values.is_empty()
+        self.kept.values.is_empty()
     }
 
     /// The values, in the order in which their names came.
     pub fn values(&self) -> &[T]
         ensures { result.now ≡ values_in self.now }
     {
-        self.values.as_slice()
+        self.kept.values.as_slice()
     }
 
     /// The place among all names, from 0, of the last of that name.
     pub fn place(&self, name: u32) -> Option<usize>
         ensures { result ≡ place_in self.now name }
     {
-        self.spots.get(&name).copied()
+        self.kept.place(name)
     }
 
     /// The value of the last of that name.
     pub fn get(&self, name: u32) -> Option<&T>
         ensures { option_copied result ≡ value_in self.now name }
     {
-        self.values.get(self.place(name)?)
+        self.kept.values.get(self.place(name)?)
     }
 }
 
 impl<T: Drop> Scoped<T> {
-    ghost use Rattle.dpj_resolve.specs.Scoped.{names_in, values_in};
+    ghost use Rattle.dpj_resolve.specs.Scoped.{with_name, names_left};
 
     /// Puts a name in scope.
     pub fn enter(&mut self, name: u32, value: T) -> Result<(), NoMemory>
-        ensures names { OnOk result (names_in self.new ≡ names_in self.old ++ name ∷ []) }
-        ensures values { OnOk result (values_in self.new ≡ values_in self.old ++ value ∷ []) }
-        ensures same_names { OnErr result (names_in self.new ≡ names_in self.old) }
-        ensures same_values { OnErr result (values_in self.new ≡ values_in self.old) }
+        ensures entered { OnOk result (self.new ≡ with_name self.old name value) }
+        ensures same { OnErr result (self.new ≡ self.old) }
+    {
+        self.kept.enter(name, value)
+    }
+
+    /// Takes all names but the first `len` out of scope.
+    pub fn leave(&mut self, len: usize)
+        ensures { self.new ≡ names_left self.old len }
+    {
+        self.kept.leave(len);
+    }
+}
+
+impl<T> Kept<T> {
+    fn place(&self, name: u32) -> Option<usize>
+        ensures { result ≡ last_place (plain_names self.now.names) name }
+    {
+        self.spots.get(&name).copied()
+    }
+}
+
+impl<T: Drop> Kept<T> {
+    fn enter(&mut self, name: u32, value: T) -> Result<(), NoMemory>
+        ensures names { OnOk result (plain_names self.new.names ≡ plain_names self.old.names ++ name ∷ []) }
+        ensures values { OnOk result (self.new.values ≡ self.old.values ++ value ∷ []) }
+        ensures same_names { OnErr result (plain_names self.new.names ≡ plain_names self.old.names) }
+        ensures same_values { OnErr result (self.new.values ≡ self.old.values) }
     {
         let hidden = self.place(name);
         let place = self.values.len();
@@ -102,10 +144,9 @@ impl<T: Drop> Scoped<T> {
         Ok(())
     }
 
-    /// Takes all names but the first `len` out of scope.
-    pub fn leave(&mut self, len: usize)
-        ensures names { names_in self.new ≡ take len (names_in self.old) }
-        ensures values { values_in self.new ≡ take len (values_in self.old) }
+    fn leave(&mut self, len: usize)
+        ensures names { plain_names self.new.names ≡ take len (plain_names self.old.names) }
+        ensures values { self.new.values ≡ take len self.old.values }
     {
         for _ in len..self.values.len() {
             self.leave_last();
@@ -113,8 +154,8 @@ impl<T: Drop> Scoped<T> {
     }
 
     fn leave_last(&mut self)
-        ensures names { names_in self.new ≡ take (length (names_in self.old) - 1) (names_in self.old) }
-        ensures values { values_in self.new ≡ take (length (values_in self.old) - 1) (values_in self.old) }
+        ensures names { plain_names self.new.names ≡ take (length (plain_names self.old.names) - 1) (plain_names self.old.names) }
+        ensures values { self.new.values ≡ take (length self.old.values - 1) self.old.values }
     {
         let Some(last) = self.names.pop() else {
             return;

@@ -7,3 +7,4 @@ abbrev pub invariant-loop-effect : goal.invariant-loop-effect
 invariant-loop-effect l =
     (gathered l.self.effects (map (effect_with l.args) (drop l.effect-index l.effect-items)) ≡ gathered l.initial.self.effects (map (effect_with l.args) l.effect-items))
     × (l.self.uses ≡ l.initial.self.uses)
+    × (l.self.reaches_nd ≡ l.initial.self.reaches_nd)

@@ -2,7 +2,7 @@ use Rattle.std.proofs.Common.{List, subst}
 use Rattle.dpj_resolve.specs.declared.scoped.Named.{Named}
 use Rattle.dpj_resolve.specs.Names.{KnowHidden, ShowsLast}
 use Rattle.dpj_resolve.proofs.Naming.{shown-left, hidden-left, last-shown}
-use Rattle.dpj_resolve.proofs.scoped.Scoped.leave_last.Goals as goal
+use Rattle.dpj_resolve.proofs.scoped.Kept.leave_last.Goals as goal
 
 pub invariant_of-self-2-clause-hidden : goal.invariant_of-self-2-clause-hidden
 invariant_of-self-2-clause-hidden g c =

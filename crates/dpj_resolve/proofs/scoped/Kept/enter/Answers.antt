@@ -2,7 +2,7 @@ use Rattle.std.proofs.Common.{sym, subst, List, arith}
 use Rattle.dpj_resolve.specs.declared.scoped.Named.{Named}
 use Rattle.dpj_resolve.specs.Names.{KnowHidden, ShowsLast}
 use Rattle.dpj_resolve.proofs.Naming.{shown-entered, hidden-entered, taken}
-use Rattle.dpj_resolve.proofs.scoped.Scoped.enter.Goals as goal
+use Rattle.dpj_resolve.proofs.scoped.Kept.enter.Goals as goal
 
 pub invariant_of-self-else-is_err-2-clause-hidden : goal.invariant_of-self-else-is_err-2-clause-hidden
 invariant_of-self-else-is_err-2-clause-hidden g c =
