@@ -12,7 +12,7 @@ use Rattle.dpj_exprs.specs.declared.assigned.Target.{Target}
 use Rattle.dpj_exprs.specs.declared.env.Env.{Env}
 use Rattle.dpj_exprs.specs.declared.env.LocalRow.{LocalRow}
 use Rattle.dpj_exprs.specs.declared.found.Found.{Found}
-use Rattle.dpj_exprs.specs.Answer.{gives, refused}
+use Rattle.dpj_exprs.specs.Answer.{gives, refused, with_access, with_part_use}
 use Rattle.dpj_exprs.specs.Elements.{index_of, element_through, part_element}
 use Rattle.dpj_exprs.specs.Env.{table_of, part_of}
 use Rattle.dpj_exprs.specs.Fields.{PlainField, field_through}
@@ -30,6 +30,14 @@ pub record PlainTarget : Type 0 where
 
 abbrev pub plain_target : Target → PlainTarget
 plain_target target = record { ty = plain_type target.ty; rpl = target.rpl; view = target.view; may_write = target.may_write }
+
+-- with the write to a target, by itself or through the part that it lies in
+abbrev pub written : Found → Option ℕ → Rpl → Found
+written found None rpl = with_access found rpl true
+written found (Some view) rpl = with_part_use found view rpl true
+
+abbrev pub with_write : Found → PlainTarget → Found
+with_write found target = written found target.view target.rpl
 
 -- there is a target, or every value fits there, and so much is found behind it; or it is refused
 pub data TargetAnswer : Type 0 where

@@ -1,25 +1,23 @@
-ghost use Rattle.std.specs.Prelude.{◌≡◌, ◌⊎◌, ℕ, None, true, false, slice_index_or, option_map, IfOk, IfErr, OnOk};
+ghost use Rattle.std.specs.Prelude.{◌≡◌, ℕ, true, false, slice_index_or, option_map, IfOk, IfErr, OnOk};
 ghost use Rattle.dpj_base.specs.Refused.{IfRefused};
 ghost use Rattle.dpj_base.specs.Types.{plain_type};
 ghost use Rattle.dpj_tree.specs.Plain.{expression, plain_expr};
 ghost use Rattle.dpj_tree.specs.Plain.{ExprForm as form};
 ghost use Rattle.dpj_exprs.specs.declared.env.Env.{Env};
 ghost use Rattle.dpj_exprs.specs.declared.found.Found.{Found};
-ghost use Rattle.dpj_exprs.specs.Found.{AddsWrite};
-ghost use Rattle.dpj_exprs.specs.Refusing.{refusal_at};
 ghost use Rattle.dpj_exprs.specs.Shape.{form_of, is_access};
-ghost use Rattle.dpj_exprs.specs.Targeting.{plain_target, aims, misses, field_target, element_target, part_target, Targeting};
-ghost use Rattle.dpj_exprs.specs.Typed.{plain_typed, Fits};
+ghost use Rattle.dpj_exprs.specs.Targeting.{plain_target, aims, misses, field_target, element_target, part_target, with_write, Targeting};
+ghost use Rattle.dpj_exprs.specs.Typed.{plain_typed};
 
 use crate::env::{Env, LocalRow};
 use crate::fields::{FieldAt, PartElement, element_at, field_at, part_element};
-use crate::fitting::{fits, refused};
+use crate::fitting::refused;
 use crate::found::Found;
 use crate::node_types::NodeTypes;
 use crate::typed::Typed;
 use crate::typing::{expr, note_part, part_length};
 use dpj_arrays::Element;
-use dpj_base::{Kind, Place, Rpl, Stop, Ty};
+use dpj_base::{Kind, NoMemory, Place, Rpl, Stop, Ty};
 use dpj_tree::{Expr, ExprKind};
 use std::alloc::Global;
 
@@ -34,7 +32,7 @@ pub struct Target {
 }
 
 /// Reads the target of an assignment, a field or an element. It isn't read itself, and the write comes with
-/// `assign`. None where the target comes from a part of what is no array: every value fits there.
+/// `write`. None where the target comes from a part of what is no array: every value fits there.
 pub fn read_target(
     alloc: Global,
     env: &Env,
@@ -211,32 +209,13 @@ fn in_array(
     }))
 }
 
-/// Assigns a value of a type to a target: the type fits, and the target may be written. The write is added to
-/// what was found.
-pub fn assign(
-    alloc: Global,
-    env: &Env,
-    found: &mut Found,
-    target: Target,
-    value: &Typed,
-    place: Place,
-) -> Result<(), Stop>
-    ensures fit { OnOk result (Fits env.now.supers.rows.now value.now (plain_type target.ty)) }
-    ensures writable { OnOk result (target.may_write ≡ true) }
-    ensures written { OnOk result (AddsWrite target.view target.rpl found.old.effects found.old.uses found.new.effects found.new.uses) }
-    ensures mistyped { IfErr result (λ stop. stop ≡ refusal_at Kind.Type place → ¬ Fits env.now.supers.rows.now value.now (plain_type target.ty)) }
-    ensures unwritable { IfErr result (λ stop. stop ≡ refusal_at Kind.PartialWrite place → target.may_write ≡ false) }
-    ensures fault { IfErr result (λ stop. IfRefused stop (λ refusal. (stop ≡ refusal_at Kind.Type place) ⊎ (stop ≡ refusal_at Kind.PartialWrite place))) }
+/// Adds the write of a value to a target, by itself or through the part that the target lies in.
+pub fn write(found: &mut Found, target: Target) -> Result<(), NoMemory>
+    ensures { OnOk result (found.new ≡ with_write found.old (plain_target target)) }
 {
-    if !fits(alloc, env, value, &target.ty)? {
-        return Err(refused(Kind::Type, place));
-    }
-    if !target.may_write {
-        return Err(refused(Kind::PartialWrite, place));
-    }
     let Target { rpl, view, .. } = target;
     match view {
-        Some(view) => Ok(found.part_use(view, rpl, true)?),
-        None => Ok(found.access(rpl, true)?),
+        Some(view) => found.part_use(view, rpl, true),
+        None => found.access(rpl, true),
     }
 }

@@ -68,12 +68,7 @@ impl Found {
     }
 
     /// Adds the effects of a summary, with region arguments put in.
-    fn summary(
-        &mut self,
-        alloc: Global,
-        summary: &EffectSet,
-        args: &[Rpl],
-    ) -> Result<(), NoMemory>
+    fn summary(&mut self, alloc: Global, summary: &EffectSet, args: &[Rpl]) -> Result<(), NoMemory>
         ensures whole { OnOk result (self.new ≡ with_summary self.old summary.now args.now) }
         ensures ok { OnOk result (self.new.effects ≡ gathered self.old.effects (map (effect_with args.now) summary.now)) }
         ensures apart { self.new.uses ≡ self.old.uses }

@@ -3,7 +3,7 @@
 //! `expr` reads one expression in an `Env`, which says what is around it: the class, the method, the locals and the
 //! local regions in scope and the constraints in force. It gives the type, notes the type of each expression in it
 //! by node number, and adds the effects to those found so far, in the order of evaluation. It refuses the first
-//! node, in post-order, that has a fault. `read_target` and `assign` do the same for what is assigned to, which isn't
+//! node, in post-order, that has a fault. `read_target` and `write` do the same for what is assigned to, which isn't
 //! read.
 //!
 //! Reads and writes through a part of an array are kept apart from the other effects.
@@ -25,7 +25,7 @@ mod supers;
 mod typed;
 mod typing;
 
-pub use assigned::{Target, assign, read_target};
+pub use assigned::{Target, read_target, write};
 pub use env::{Env, LocalRow, Mark, length_name};
 pub use fitting::{fits, refused};
 pub use found::Found;
