@@ -15,8 +15,7 @@ use Rattle.dpj_tree.specs.declared.class.MethodResult.TheVariants as given
 use Rattle.dpj_tree.specs.Plain.{PlainStmt}
 use Rattle.dpj_locals.specs.Touches.{stmt_assigns}
 use Rattle.dpj_exprs.specs.Refusing.{refusal_at}
-use Rattle.dpj_exprs.specs.declared.typed.Typed.{Typed}
-use Rattle.dpj_exprs.specs.Typed.{passes, is_int, is_boolean, is_value, Fits}
+use Rattle.dpj_exprs.specs.Typed.{may_be, is_value, FitsAs}
 use Rattle.dpj_check.specs.declared.node.Around.{Around}
 use Rattle.dpj_check.specs.declared.leaving.Marks.{Marks}
 use Rattle.dpj_check.specs.declared.leaving.Marks.TheVariants as marks
@@ -43,10 +42,6 @@ is_misplaced around valued = around.enclosed || not (same_bool valued around.has
 abbrev pub local_fault : Bool → Bool → Option Kind
 local_fault fit is_final = cond fit (cond is_final (Some kind.Assign) None) (Some kind.Type)
 
--- what may be printed
-abbrev pub is_printed : Typed → Bool
-is_printed value = passes is_int value || passes is_boolean value
-
 -- the statement assigns a local that is declared outside of it
 abbrev pub AssignsOuter : PlainStmt → Type 0
 AssignsOuter s = (x : ℕ) × IsTrue (stmt_assigns x s)
@@ -59,10 +54,10 @@ abbrev pub marks_behind : Bool → Marks
 marks_behind nd = cond nd marks.Kept marks.Dropped
 
 -- a value may be returned: it fits the result of the method, or where the method has none it is a value at all
-abbrev pub Returned : List Super → Bool → Option MethodRow → Typed → Type 0
-Returned supers true (Some row) value = Fits supers value (plain_type row.result)
-Returned supers true None value = IsTrue (passes is_value value)
-Returned supers false row value = IsTrue (passes is_value value)
+abbrev pub Returned : List Super → Bool → Option MethodRow → Option PlainType → Type 0
+Returned supers true (Some row) value = FitsAs supers value (plain_type row.result)
+Returned supers true None value = IsTrue (may_be is_value value)
+Returned supers false row value = IsTrue (may_be is_value value)
 
 -- what is wrong with what is cut into parts: it is no array, or one with an index name, or its path isn't fully
 -- specified

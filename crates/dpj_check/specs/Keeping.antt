@@ -13,15 +13,11 @@ use Rattle.dpj_check.specs.Deciding.{is_misplaced, has_value, AssignsOuter}
 
 -- what stands in the body of a method, with a result or without one
 abbrev pub method_around : Bool → Around
-method_around has_result = record { has_result = has_result; enclosed = false; in_atomic = false }
+method_around has_result = record { has_result = has_result; enclosed = false }
 
--- what stands in a branch there
-abbrev pub branch_around : Around → Around
-branch_around around = record around { enclosed = true }
-
--- what stands in an atomic block there
-abbrev pub atomic_around : Around → Around
-atomic_around around = record around { enclosed = true; in_atomic = true }
+-- what stands in a branch or in an atomic block there
+abbrev pub inside : Around → Around
+inside around = record around { enclosed = true }
 
 -- statements stand behind one only where it completes
 abbrev pub MayFollow : Bool → PlainStmts → Type 0
@@ -48,10 +44,10 @@ abbrev mutual
   FormKeeps around (return_value value) = is_misplaced around true ≡ false
   FormKeeps around (print value) = Unit {0}
   FormKeeps around (print_text text) = Unit {0}
-  FormKeeps around (cobegin nd branches) = BranchesKeep (branch_around around) branches
-  FormKeeps around (foreach nd var start count body) = Keeps (branch_around around) body × ¬ AssignsOuter body
-  FormKeeps around (foreach_parts view var array count body) = Keeps (branch_around around) body × ¬ AssignsOuter body
-  FormKeeps around (atomic all) = AllKeep (atomic_around around) all × (some_holds_nd all ≡ false)
+  FormKeeps around (cobegin nd branches) = BranchesKeep (inside around) branches
+  FormKeeps around (foreach nd var start count body) = Keeps (inside around) body × ¬ AssignsOuter body
+  FormKeeps around (foreach_parts view var array count body) = Keeps (inside around) body × ¬ AssignsOuter body
+  FormKeeps around (atomic all) = AllKeep (inside around) all × (some_holds_nd all ≡ false)
   FormKeeps around (local_regions names) = Unit {0}
 
   pub AllKeep : Around → PlainStmts → Type 0

@@ -1,8 +1,11 @@
+pub mod Checking
 pub mod Completes
 pub mod Deciding
 pub mod Gathering
 pub mod Keeping
 pub mod Leaving
 pub mod Meeting
+pub mod Methods
 pub mod Noting
-pub mod Reaching
+pub mod Simple
+pub mod Walks

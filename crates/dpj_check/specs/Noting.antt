@@ -1,13 +1,11 @@
 -- A statement as a node with the faults of its own that were noted.
 use Rattle.std.specs.Prelude.{ℕ, Bool, true, cond, Option, Some, None, Result, Ok, Err}
-use Rattle.dpj_base.specs.Types.{PlainType, plain_type}
 use Rattle.dpj_base.specs.declared.place.Place.{Place}
 use Rattle.dpj_base.specs.declared.refusal.Kind.{Kind}
 use Rattle.dpj_base.specs.declared.refusal.Kind.TheVariants as kind
 use Rattle.dpj_base.specs.declared.refusal.Refusal.{Refusal}
 use Rattle.dpj_base.specs.declared.refusal.Stop.{Stop}
 use Rattle.dpj_base.specs.declared.refusal.Stop.TheVariants.{Refused, NoMemory}
-use Rattle.dpj_base.specs.declared.ty.Ty.{Ty}
 use Rattle.dpj_headers.specs.declared.faults.Order.TheVariants as order
 use Rattle.dpj_headers.specs.Faults.{none_by, noted, told, forgotten}
 use Rattle.dpj_check.specs.declared.node.Node.{Node}
@@ -24,18 +22,6 @@ with_found node (Some fault) = with_fault node fault node.place
 -- with a fault at the statement's own place, where it is there
 abbrev pub with_fault_if : Node → Kind → Bool → Node
 with_fault_if node fault is_there = cond is_there (with_fault node fault node.place) node
-
--- with the fault of what was refused
-abbrev pub with_refusal : Node → Result (Unit {0}) Stop → Node
-with_refusal node (Ok u) = node
-with_refusal node (Err NoMemory) = node
-with_refusal node (Err (Refused r)) = with_fault node r.kind r.place
-
--- the type that is noted for an operand passes the test. One without a type comes from what is no array, and
--- passes every test
-abbrev pub noted_passes : (PlainType → Bool) → Option Ty → Bool
-noted_passes test None = true
-noted_passes test (Some t) = test (plain_type t)
 
 abbrev pub without_faults : ℕ → Place → Node
 without_faults number place = record { number = number; place = place; faults = none_by order.Number }

@@ -6,13 +6,12 @@ ghost use Rattle.dpj_tree.specs.Nd.{program_uses_nd};
 
 use crate::accepted::Accepted;
 use crate::body::{Body, Known};
-use crate::gathered::Gathered;
 use crate::node::Around;
 use crate::statements::block;
 use dpj_base::{Kind, NoMemory, Plain, Stop, Ty};
 use dpj_classes::Table;
 use dpj_effects::EffectSet;
-use dpj_exprs::{Env, length_name, refused};
+use dpj_exprs::{Env, Found, LocalRow, length_name, refused};
 use dpj_headers::to_number;
 use dpj_tree::{Class, Formal, Member, Method, MethodResult, Program, uses_nd};
 use std::alloc::Global;
@@ -86,9 +85,9 @@ fn check_method(body: &mut Body, method: &Method, number: u32) -> Result<(), Sto
     };
     declare_formals(body, method.formals.as_slice(), params)?;
     let around = Around::method(has_value(&method.result));
-    let mut done = Gathered::new(body.alloc);
+    let mut done = Found::new(body.alloc);
     let completes = block(body, around, method.body.as_slice(), &mut done)?;
-    settle_method(method, summary, completes, done.effects())
+    settle_method(method, summary, completes, &done.effects)
 }
 
 fn has_value(told: &MethodResult) -> bool
@@ -129,7 +128,13 @@ fn method_fault(has_result: bool, completes: bool, covered: bool) -> Option<Kind
 fn declare_formals(body: &mut Body, formals: &[Formal], types: &[Ty]) -> Result<(), NoMemory> {
     for (formal, ty) in formals.iter().zip(types) {
         let ty = ty.copy(body.alloc)?;
-        body.declare(formal.name, formal.node, ty, false)?;
+        body.declare(LocalRow {
+            name: formal.name,
+            var: formal.node,
+            ty,
+            is_final: false,
+            part: None,
+        })?;
     }
     Ok(())
 }

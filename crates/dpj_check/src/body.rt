@@ -1,9 +1,7 @@
-use crate::gathered::Gathered;
 use crate::node::{Around, Node};
-use crate::reach::reaches_nd;
 use dpj_base::{Items, Kind, NoMemory, Place, Stop, Ty};
 use dpj_effects::EffectSet;
-use dpj_exprs::{Env, LocalRow, Mark, NodeTypes, Typed, expr, fits};
+use dpj_exprs::{Env, Found, LocalRow, Mark, NodeTypes, Typed, expr, fits};
 use dpj_headers::ParamRow;
 use dpj_tree::Expr;
 use std::alloc::Global;
@@ -42,17 +40,30 @@ impl<'a> Body<'a> {
 }
 
 impl Body<'_> {
-    ghost use Rattle.std.specs.Prelude.{◌≡◌, ◌↔◌, ◌&&◌, ◌||◌, None, not, IsTrue, IfOk, OnOk};
+    ghost use Rattle.std.specs.Prelude.{◌≡◌, ◌↔◌, ◌++◌, None, Some, not, take, IsTrue, IfOk, IfErr, OnOk};
+    ghost use Rattle.dpj_base.specs.Refused.{IfRefused};
     ghost use Rattle.dpj_base.specs.Types.{plain_type};
+    ghost use Rattle.dpj_base.specs.declared.ty.Ty.TheVariants as made;
     ghost use Rattle.dpj_tree.specs.Plain.{plain_expr};
     ghost use Rattle.dpj_classes.specs.Table.{numbered};
-    ghost use Rattle.dpj_exprs.specs.Typed.{known, is_int, is_boolean, Fits};
+    ghost use Rattle.dpj_exprs.specs.Answer.{gives, refused};
+    ghost use Rattle.dpj_exprs.specs.Env.{at_class, at_method, table_of, with_local};
+    ghost use Rattle.dpj_exprs.specs.Typed.{plain_typed, may_be, is_int, is_boolean, Fits};
+    ghost use Rattle.dpj_exprs.specs.Typing.{Typing};
+    ghost use Rattle.dpj_check.specs.Checking.{part_row, variable_row};
     ghost use Rattle.dpj_check.specs.Deciding.{Returned};
-    ghost use Rattle.dpj_check.specs.Noting.{fault_of, noted_passes, with_fault_if};
-    ghost use Rattle.dpj_check.specs.Reaching.{reaches_nd, noted_type};
+    ghost use Rattle.dpj_check.specs.Leaving.{first_region_in};
+    ghost use Rattle.dpj_check.specs.Methods.{class_params, own_params, atomic_of};
+    ghost use Rattle.dpj_check.specs.Noting.{fault_of, with_fault_if};
+    ghost use Rattle.dpj_check.specs.Simple.{with_duplicate};
+    ghost use Rattle.dpj_check.specs.Walks.{with_env, with_types};
 
     /// Goes over to a class.
-    pub fn enter_class(&mut self, class: u32) -> Result<(), NoMemory> {
+    pub fn enter_class(&mut self, class: u32) -> Result<(), NoMemory>
+        ensures env { OnOk result (self.new.env ≡ at_class self.old.env class) }
+        ensures atomic { OnOk result (self.new.atomic_params ≡ class_params (table_of self.old.env) class) }
+        ensures known { self.new.known ≡ self.old.known }
+    {
         self.env.enter_class(self.alloc, class)?;
         self.atomic_params.truncate(0);
         let table = self.env.table;
@@ -63,7 +74,11 @@ impl Body<'_> {
     }
 
     /// Goes over to a method of the class that was entered, which has `class_params` region parameters.
-    pub fn enter_method(&mut self, method: u32, class_params: usize) -> Result<(), NoMemory> {
+    pub fn enter_method(&mut self, method: u32, class_params: usize) -> Result<(), NoMemory>
+        ensures env { OnOk result (self.new.env ≡ at_method self.old.env method) }
+        ensures atomic { OnOk result (self.new.atomic_params ≡ take class_params self.old.atomic_params ++ own_params (table_of self.old.env) method) }
+        ensures known { self.new.known ≡ self.old.known }
+    {
         self.env.enter_method(self.alloc, method)?;
         self.atomic_params.truncate(class_params);
         let table = self.env.table;
@@ -73,7 +88,11 @@ impl Body<'_> {
         }
     }
 
-    fn add_params(&mut self, params: &[ParamRow]) -> Result<(), NoMemory> {
+    fn add_params(&mut self, params: &[ParamRow]) -> Result<(), NoMemory>
+        ensures env { self.new.env ≡ self.old.env }
+        ensures atomic { OnOk result (self.new.atomic_params ≡ self.old.atomic_params ++ atomic_of params.now) }
+        ensures known { self.new.known ≡ self.old.known }
+    {
         for param in params {
             self.atomic_params.push(param.atomic)?;
         }
@@ -81,62 +100,38 @@ impl Body<'_> {
     }
 
     /// Types an expression, and gathers what it does.
-    pub fn typed(&mut self, around: Around, e: &Expr, out: &mut Gathered) -> Result<Typed, Stop>
-        ensures noted { IfOk result (λ typed. noted_type self.new.known.types e.now.node ≡ known typed) }
-        ensures nd { OnOk result (out.new.reaches_nd ≡ (out.old.reaches_nd || (around.in_atomic && reaches_nd self.new.env.table.now self.new.known.types (plain_expr e.now)))) }
+    pub fn typed(&mut self, e: &Expr, out: &mut Found) -> Result<Typed, Stop>
+        ensures ok { IfOk result (λ typed. Typing self.old.env (plain_expr e.now) out.old (gives (plain_typed typed) out.new)) }
+        ensures fault { IfErr result (λ stop. IfRefused stop (λ refusal. Typing self.old.env (plain_expr e.now) out.old (refused refusal))) }
+        ensures same { self.new ≡ with_types self.old self.new.known.types }
     {
-        let typed = expr(
-            self.alloc,
-            &self.env,
-            &mut self.known.types,
-            &mut out.found,
-            e,
-        )?;
-        self.follow(around, e, out);
-        Ok(typed)
-    }
-
-    /// Notes whether an nd construct is reached from an expression in an atomic block.
-    pub fn follow(&self, around: Around, e: &Expr, out: &mut Gathered)
-        ensures found { out.new.found ≡ out.old.found }
-        ensures nd { out.new.reaches_nd ≡ (out.old.reaches_nd || (around.in_atomic && reaches_nd self.now.env.table.now self.now.known.types (plain_expr e.now))) }
-    {
-        out.reaches_nd = out.reaches_nd
-            || around.in_atomic && reaches_nd(self.env.table, &self.known.types, e);
+        expr(self.alloc, &self.env, &mut self.known.types, out, e)
     }
 
     /// An expression that is to be an int.
-    pub fn int(
-        &mut self,
-        around: Around,
-        e: &Expr,
-        out: &mut Gathered,
-        node: &mut Node,
-    ) -> Result<(), Stop>
-        ensures node { OnOk result (node.new ≡ with_fault_if node.old Kind.Type (not (noted_passes is_int (noted_type self.new.known.types e.now.node)))) }
+    pub fn int(&mut self, e: &Expr, out: &mut Found, node: &mut Node) -> Result<Typed, Stop>
+        ensures ok { IfOk result (λ typed. Typing self.old.env (plain_expr e.now) out.old (gives (plain_typed typed) out.new)) }
+        ensures fault { IfErr result (λ stop. IfRefused stop (λ refusal. Typing self.old.env (plain_expr e.now) out.old (refused refusal))) }
+        ensures node { IfOk result (λ typed. node.new ≡ with_fault_if node.old Kind.Type (not (may_be is_int (plain_typed typed)))) }
         ensures clean { OnOk result (fault_of node.new ≡ None → fault_of node.old ≡ None) }
-        ensures nd { OnOk result (out.new.reaches_nd ≡ (out.old.reaches_nd || (around.in_atomic && reaches_nd self.new.env.table.now self.new.known.types (plain_expr e.now)))) }
+        ensures same { self.new ≡ with_types self.old self.new.known.types }
     {
-        let value = self.typed(around, e, out)?;
+        let value = self.typed(e, out)?;
         node.note_if(Kind::Type, !value.is_int());
-        Ok(())
+        Ok(value)
     }
 
     /// An expression that is to be a boolean.
-    pub fn boolean(
-        &mut self,
-        around: Around,
-        e: &Expr,
-        out: &mut Gathered,
-        node: &mut Node,
-    ) -> Result<(), Stop>
-        ensures node { OnOk result (node.new ≡ with_fault_if node.old Kind.Type (not (noted_passes is_boolean (noted_type self.new.known.types e.now.node)))) }
+    pub fn boolean(&mut self, e: &Expr, out: &mut Found, node: &mut Node) -> Result<Typed, Stop>
+        ensures ok { IfOk result (λ typed. Typing self.old.env (plain_expr e.now) out.old (gives (plain_typed typed) out.new)) }
+        ensures fault { IfErr result (λ stop. IfRefused stop (λ refusal. Typing self.old.env (plain_expr e.now) out.old (refused refusal))) }
+        ensures node { IfOk result (λ typed. node.new ≡ with_fault_if node.old Kind.Type (not (may_be is_boolean (plain_typed typed)))) }
         ensures clean { OnOk result (fault_of node.new ≡ None → fault_of node.old ≡ None) }
-        ensures nd { OnOk result (out.new.reaches_nd ≡ (out.old.reaches_nd || (around.in_atomic && reaches_nd self.new.env.table.now self.new.known.types (plain_expr e.now)))) }
+        ensures same { self.new ≡ with_types self.old self.new.known.types }
     {
-        let value = self.typed(around, e, out)?;
+        let value = self.typed(e, out)?;
         node.note_if(Kind::Type, !value.is_boolean());
-        Ok(())
+        Ok(value)
     }
 
     /// Whether a value may stand where the type is declared.
@@ -148,7 +143,7 @@ impl Body<'_> {
 
     /// Whether the value may be returned. Where the method has no result that is asked of `void` alone.
     pub fn is_returned(&self, around: Around, value: &Typed) -> Result<bool, NoMemory>
-        ensures { IfOk result (λ fit. IsTrue fit ↔ Returned self.now.env.supers.rows.now around.has_result (numbered self.now.env.table.now self.now.env.method) value.now) }
+        ensures { IfOk result (λ fit. IsTrue fit ↔ Returned self.now.env.supers.rows.now around.has_result (numbered self.now.env.table.now self.now.env.method) (plain_typed value.now)) }
     {
         match self.env.table.numbered(self.env.method) {
             Some(row) if around.has_result => self.fits(value, &row.result),
@@ -158,32 +153,39 @@ impl Body<'_> {
 
     /// A name that is declared while a local or a formal has it is a fault.
     pub fn note_duplicate(&self, name: u32, place: Place, node: &mut Node)
-        ensures { fault_of node.new ≡ None → fault_of node.old ≡ None }
+        ensures node { node.new ≡ with_duplicate self.now.env name place node.old }
+        ensures clean { fault_of node.new ≡ None → fault_of node.old ≡ None }
     {
         if self.env.local(name).is_some() {
             node.note_at(Kind::Duplicate, place);
         }
     }
 
-    /// Puts a local in scope that is no part of an array.
-    pub fn declare(&mut self, name: u32, var: u32, ty: Ty, is_final: bool) -> Result<(), NoMemory> {
-        self.env.declare(LocalRow {
+    /// Puts a local in scope.
+    pub fn declare(&mut self, row: LocalRow) -> Result<(), NoMemory>
+        ensures { OnOk result (self.new ≡ with_env self.old (with_local self.old.env row)) }
+    {
+        self.env.declare(row)
+    }
+
+    /// Puts the variable of a loop in scope.
+    pub fn declare_variable(&mut self, name: u32, var: u32) -> Result<(), NoMemory>
+        ensures { OnOk result (self.new ≡ with_env self.old (with_local self.old.env (variable_row name var))) }
+    {
+        self.declare(LocalRow {
             name,
             var,
-            ty,
-            is_final,
+            ty: Ty::Int,
+            is_final: true,
             part: None,
         })
     }
 
-    /// Puts the variable of a `foreach` in scope.
-    pub fn declare_variable(&mut self, name: u32, var: u32) -> Result<(), NoMemory> {
-        self.declare(name, var, Ty::Int, true)
-    }
-
     /// Puts a part of an array of a type in scope.
-    pub fn declare_part(&mut self, name: u32, view: u32, ty: Ty) -> Result<(), NoMemory> {
-        self.env.declare(LocalRow {
+    pub fn declare_part(&mut self, name: u32, view: u32, ty: Ty) -> Result<(), NoMemory>
+        ensures { OnOk result (self.new ≡ with_env self.old (with_local self.old.env (part_row name view ty))) }
+    {
+        self.declare(LocalRow {
             name,
             var: view,
             ty,
@@ -193,7 +195,9 @@ impl Body<'_> {
     }
 
     /// The number of the first local region that is declared behind a mark and still in scope.
-    pub fn first_region(&self, scope: Mark) -> u32 {
+    pub fn first_region(&self, scope: Mark) -> u32
+        ensures { result ≡ first_region_in self.now.env scope }
+    {
         match self.env.local_regions().get(scope.regions) {
             Some(first) => *first,
             None => u32::MAX,

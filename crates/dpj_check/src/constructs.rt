@@ -1,17 +1,21 @@
-ghost use Rattle.std.specs.Prelude.{◌≡◌, ◌↔◌, ◌<◌, ◌||◌, None, false, map, IsTrue, IfOk, OnOk};
+ghost use Rattle.std.specs.Prelude.{◌≡◌, ◌↔◌, ◌<◌, ◌%◌, ◌||◌, None, false, map, IsTrue, IfOk, OnOk};
 ghost use Rattle.dpj_tree.specs.Nd.{holds_nd, some_holds_nd};
 ghost use Rattle.dpj_tree.specs.Plain.{plain_stmt, plain_stmts};
+ghost use Rattle.dpj_tree.specs.Plain.{StmtForm as form};
+ghost use Rattle.dpj_check.specs.Checking.{Checking, Forking, Turning};
 ghost use Rattle.dpj_check.specs.Deciding.{interference, marks_behind, AssignsOuter};
-ghost use Rattle.dpj_check.specs.Keeping.{branch_around, atomic_around, Keeps, AllKeep, BranchesKeep};
+ghost use Rattle.dpj_check.specs.Keeping.{inside, Keeps, AllKeep, BranchesKeep};
 ghost use Rattle.dpj_check.specs.Noting.{fault_of};
+ghost use Rattle.dpj_check.specs.Walks.{home_of, walk_of, Says};
 
 use crate::body::Body;
-use crate::gathered::Gathered;
+use crate::gathered::{all_effects, entered, take_in};
 use crate::leaving::{Leaving, Marks};
 use crate::meet::{branches_pass, turns_pass};
 use crate::node::{Around, Node};
 use crate::statements::{block, scoped};
 use dpj_base::{Items, Kind, NoMemory, Stop};
+use dpj_exprs::Found;
 use dpj_locals::{has_clash, touched};
 use dpj_tree::{Named, Stmt};
 use std::alloc::Global;
@@ -42,22 +46,24 @@ pub fn cobegin(
     node: Node,
     nd: bool,
     branches: &[Stmt],
-    out: &mut Gathered,
+    out: &mut Found,
 ) -> Result<(), Stop>
     ensures clean { OnOk result (fault_of node ≡ None) }
-    ensures keeps { OnOk result (BranchesKeep (branch_around around) (plain_stmts (map plain_stmt branches.now))) }
+    ensures keeps { OnOk result (BranchesKeep (inside around) (plain_stmts (map plain_stmt branches.now))) }
     ensures nd { OnOk result (IsTrue (out.old.reaches_nd || (nd || some_holds_nd (plain_stmts (map plain_stmt branches.now)))) → IsTrue out.new.reaches_nd) }
+    ensures home { OnOk result (home_of body.new ≡ home_of body.old) }
+    ensures checks { Says result (walk_of body.new out.new) (Forking body.old.atomic_params around node nd (plain_stmts (map plain_stmt branches.now)) (walk_of body.old out.old)) }
 {
     let mut node = node;
     let mut effects = Items::new(body.alloc);
     let mut locals = Items::new(body.alloc);
     let leaving = Leaving::nothing(body.alloc, marks_behind(nd));
     for branch in branches {
-        let mut inner = Gathered::new(body.alloc);
-        scoped(body, around.branch(), branch, &mut inner)?;
+        let mut inner = Found::new(body.alloc);
+        scoped(body, around.inside(), branch, &mut inner)?;
         locals.push(touched(body.alloc, branch)?)?;
-        effects.push(inner.all_effects(body.alloc)?)?;
-        out.take_in(body.alloc, inner, &leaving)?;
+        effects.push(all_effects(body.alloc, &inner)?)?;
+        take_in(body.alloc, out, inner, &leaving)?;
     }
     out.reaches_nd = out.reaches_nd || nd;
     node.note_if(Kind::Assign, has_clash(body.alloc, locals.as_slice())?);
@@ -76,20 +82,22 @@ pub fn foreach(
     nd: bool,
     var: Named,
     turn: &Stmt,
-    out: &mut Gathered,
+    out: &mut Found,
 ) -> Result<(), Stop>
     ensures clean { OnOk result (fault_of node ≡ None) }
-    ensures keeps { OnOk result (Keeps (branch_around around) (plain_stmt turn.now)) }
+    ensures keeps { OnOk result (Keeps (inside around) (plain_stmt turn.now)) }
     ensures locals { OnOk result (¬ AssignsOuter (plain_stmt turn.now)) }
     ensures nd { OnOk result (IsTrue (out.old.reaches_nd || (nd || holds_nd (plain_stmt turn.now))) → IsTrue out.new.reaches_nd) }
+    ensures home { OnOk result (home_of body.new ≡ home_of body.old) }
+    ensures checks { Says result (walk_of body.new out.new) (Turning body.old.atomic_params around node nd var (plain_stmt turn.now) (walk_of body.old out.old)) }
 {
     let mut node = node;
     body.note_duplicate(var.name, var.place, &mut node);
     let number = variable(node.number);
-    let mut inner = Gathered::new(body.alloc);
+    let mut inner = Found::new(body.alloc);
     let scope = body.env.mark();
     body.declare_variable(var.name, number)?;
-    scoped(body, around.branch(), turn, &mut inner)?;
+    scoped(body, around.inside(), turn, &mut inner)?;
     body.env.leave(scope);
     inner.reaches_nd = inner.reaches_nd || nd;
     node.note_if(Kind::Assign, assigns_outer(body.alloc, turn)?);
@@ -98,8 +106,7 @@ pub fn foreach(
     node.note_if(interference(nd), !passes);
     node.settle()?;
     let leaving = Leaving::variable(body.alloc, number, marks_behind(nd))?;
-    out.take_in(body.alloc, inner, &leaving)?;
-    Ok(())
+    Ok(take_in(body.alloc, out, inner, &leaving)?)
 }
 
 /// Whether a statement assigns a local that is declared outside of it.
@@ -109,9 +116,10 @@ pub fn assigns_outer(alloc: Global, stmt: &Stmt) -> Result<bool, NoMemory>
     Ok(!touched(alloc, stmt)?.writes.is_empty())
 }
 
-/// The number of a foreach variable: that of its construct's node.
+/// The number of the variable of a loop: that of its construct's node.
 pub fn variable(node: u32) -> u32
-    ensures { result < 2147483648 }
+    ensures small { result < 2147483648 }
+    ensures value { result ≡ node % 2147483648 }
 {
     node % 2147483648
 }
@@ -123,20 +131,21 @@ pub fn atomic(
     around: Around,
     node: Node,
     stmts: &[Stmt],
-    out: &mut Gathered,
+    out: &mut Found,
 ) -> Result<(), Stop>
     ensures clean { OnOk result (fault_of node ≡ None) }
-    ensures keeps { OnOk result (AllKeep (atomic_around around) (plain_stmts (map plain_stmt stmts.now))) }
+    ensures keeps { OnOk result (AllKeep (inside around) (plain_stmts (map plain_stmt stmts.now))) }
     ensures quiet { OnOk result (some_holds_nd (plain_stmts (map plain_stmt stmts.now)) ≡ false) }
     ensures nd { OnOk result (IsTrue (out.old.reaches_nd || some_holds_nd (plain_stmts (map plain_stmt stmts.now))) → IsTrue out.new.reaches_nd) }
+    ensures home { OnOk result (home_of body.new ≡ home_of body.old) }
+    ensures checks { Says result (walk_of body.new out.new) (Checking body.old.atomic_params around node (form.atomic (plain_stmts (map plain_stmt stmts.now))) (walk_of body.old out.old)) }
 {
     let mut node = node;
-    let mut inner = Gathered::new(body.alloc);
-    block(body, around.atomic(), stmts, &mut inner)?;
+    let mut inner = Found::new(body.alloc);
+    block(body, around.inside(), stmts, &mut inner)?;
     node.note_if(Kind::AtomicBody, inner.reaches_nd);
     node.settle()?;
-    body.known.blocks.push(inner.entered(body.alloc)?)?;
+    body.known.blocks.push(entered(body.alloc, &inner)?)?;
     let leaving = Leaving::nothing(body.alloc, Marks::Set);
-    out.take_in(body.alloc, inner, &leaving)?;
-    Ok(())
+    Ok(take_in(body.alloc, out, inner, &leaving)?)
 }

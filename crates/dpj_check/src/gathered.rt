@@ -1,6 +1,9 @@
-ghost use Rattle.std.specs.Prelude.{◌≡◌, ◌++◌, IfOk, OnOk};
+//! What is found of the statements of a block or of a branch, as it is behind them.
+ghost use Rattle.std.specs.Prelude.{◌≡◌, ◌++◌, List, filter, map, not, IfOk, OnOk};
 ghost use Rattle.dpj_base.specs.Effects.{gathered};
-ghost use Rattle.dpj_check.specs.Gathering.{all_left, with_uses};
+ghost use Rattle.dpj_parts.specs.Uses.{is_use_of};
+ghost use Rattle.dpj_check.specs.Gathering.{all_left, entered, handed_on, moved, of_view, taken_in, with_uses};
+ghost use Rattle.dpj_check.specs.Leaving.{Leave, IsLike, leave_of};
 
 use crate::leaving::Leaving;
 use dpj_base::{Items, NoMemory, PartUse, Plain};
@@ -9,96 +12,109 @@ use dpj_exprs::Found;
 use dpj_parts::as_effects;
 use std::alloc::Global;
 
-/// What is gathered of the statements of a block or of a branch.
-#[derive(Drop)]
-pub struct Gathered {
-    /// The effects, and the uses of array parts apart from them.
-    pub found: Found,
-    /// An nd construct stands there, or inside an atomic block is reached by a call.
-    pub reaches_nd: bool,
+/// Adds what was found of a piece of the text, as it is behind the piece.
+pub fn take_in(
+    alloc: Global,
+    out: &mut Found,
+    inner: Found,
+    leaving: &Leaving,
+) -> Result<(), NoMemory>
+    ensures whole { (leave : Leave) → IsLike leaving.now leave → OnOk result (out.new ≡ taken_in leave out.old inner) }
+{
+    let Found {
+        effects,
+        uses,
+        reaches_nd,
+    } = inner;
+    out.reaches_nd = out.reaches_nd || reaches_nd;
+    add_left(alloc, &mut out.effects, &effects, leaving)?;
+    add_uses(&mut out.uses, uses)
 }
 
-impl Gathered {
-    ghost use Rattle.std.specs.Prelude.{[], ◌||◌, true, false};
-    ghost use Rattle.dpj_base.specs.Effects.{all_marked};
+/// The effects, and the uses of parts as effects.
+pub fn all_effects(alloc: Global, found: &Found) -> Result<EffectSet, NoMemory>
+    ensures { IfOk result (λ set. set ≡ with_uses found.now.effects found.now.uses) }
+{
+    with_uses(alloc, found.effects.copy(alloc)?, found.uses.as_slice())
+}
 
-    pub fn new(alloc: Global) -> Gathered
-        ensures effects { result.found.effects ≡ [] }
-        ensures uses { result.found.uses ≡ [] }
-        ensures nd { result.reaches_nd ≡ false }
-    {
-        Gathered {
-            found: Found::new(alloc),
-            reaches_nd: false,
+/// The effects with which an atomic block is entered that does this: all marked, but for the uses of parts.
+pub fn entered(alloc: Global, found: &Found) -> Result<EffectSet, NoMemory>
+    ensures { IfOk result (λ set. set ≡ entered found.now) }
+{
+    with_uses(alloc, found.effects.marked(alloc)?, found.uses.as_slice())
+}
+
+/// Makes effects of the uses of a part, or uses of the part that it is of.
+pub fn hand_on_uses(
+    alloc: Global,
+    found: Found,
+    view: u32,
+    outer: Option<u32>,
+) -> Result<Found, NoMemory>
+    ensures { IfOk result (λ made. made ≡ handed_on view outer found) }
+{
+    let Found {
+        effects,
+        uses,
+        reaches_nd,
+    } = found;
+    match outer {
+        Some(outer) => Ok(Found {
+            effects,
+            uses: moved(alloc, uses.as_slice(), view, outer)?,
+            reaches_nd,
+        }),
+        None => {
+            let own = uses_of(alloc, uses.as_slice(), view, true)?;
+            Ok(Found {
+                effects: with_uses(alloc, effects, own.as_slice())?,
+                uses: uses_of(alloc, uses.as_slice(), view, false)?,
+                reaches_nd,
+            })
         }
     }
+}
 
-    pub fn effects(&self) -> &EffectSet
-        ensures { result.now ≡ self.now.found.effects }
-    {
-        &self.found.effects
-    }
-
-    pub fn uses(&self) -> &[PartUse]
-        ensures { result.now ≡ self.now.found.uses }
-    {
-        self.found.uses.as_slice()
-    }
-
-    /// Adds what is gathered of a piece of the text, as it is behind the piece.
-    pub fn take_in(
-        &mut self,
-        alloc: Global,
-        inner: Gathered,
-        leaving: &Leaving,
-    ) -> Result<(), NoMemory>
-        ensures effects { OnOk result (self.new.found.effects ≡ gathered self.old.found.effects (all_left leaving.now inner.found.effects)) }
-        ensures uses { OnOk result (self.new.found.uses ≡ self.old.found.uses ++ inner.found.uses) }
-        ensures nd { OnOk result (self.new.reaches_nd ≡ (self.old.reaches_nd || inner.reaches_nd)) }
-    {
-        let Gathered { found, reaches_nd } = inner;
-        let Found { effects, uses } = found;
-        self.reaches_nd = self.reaches_nd || reaches_nd;
-        add_left(alloc, &mut self.found.effects, &effects, leaving)?;
-        add_uses(&mut self.found.uses, uses)?;
-        Ok(())
-    }
-
-    /// The effects, and the uses of parts as effects.
-    pub fn all_effects(&self, alloc: Global) -> Result<EffectSet, NoMemory>
-        ensures { IfOk result (λ set. set ≡ with_uses self.now.found.effects self.now.found.uses) }
-    {
-        with_uses(alloc, self.effects().copy(alloc)?, self.uses())
-    }
-
-    /// The effects with which an atomic block is entered that does this: all marked, but for the uses of parts.
-    pub fn entered(&self, alloc: Global) -> Result<EffectSet, NoMemory>
-        ensures { IfOk result (λ set. set ≡ with_uses (all_marked true self.now.found.effects) self.now.found.uses) }
-    {
-        with_uses(alloc, self.effects().marked(alloc)?, self.uses())
-    }
-
-    /// Makes effects of the uses of a part, or uses of the part that it is of.
-    pub fn hand_on_uses(
-        &mut self,
-        alloc: Global,
-        view: u32,
-        outer: Option<u32>,
-    ) -> Result<(), NoMemory>
-        ensures nd { OnOk result (self.new.reaches_nd ≡ self.old.reaches_nd) }
-    {
-        let uses = std::mem::replace(&mut self.found.uses, Items::new(alloc));
-        let mut own = Items::new(alloc);
-        for part_use in uses.into_vec() {
-            match outer {
-                _ if part_use.view != view => self.found.uses.push(part_use)?,
-                Some(outer) => self.found.uses.push(of_view(part_use, outer))?,
-                None => own.push(part_use)?,
-            }
+/// The uses of the part, or those of other parts.
+fn uses_of(
+    alloc: Global,
+    uses: &[PartUse],
+    view: u32,
+    own: bool,
+) -> Result<Items<PartUse>, NoMemory>
+    ensures own { own ≡ true → IfOk result (λ found. found ≡ filter (is_use_of view) uses.now) }
+    ensures others { own ≡ false → IfOk result (λ found. found ≡ filter (λ u. not (is_use_of view u)) uses.now) }
+{
+    let mut found = Items::new(alloc);
+    for part_use in uses {
+        if (part_use.view == view) == own {
+            found.push(part_use.copy(alloc)?)?;
         }
-        self.found
-            .effects
-            .add_all(alloc, &as_effects(alloc, own.as_slice())?)
+    }
+    Ok(found)
+}
+
+/// All uses, where those of one part become uses of another.
+fn moved(alloc: Global, uses: &[PartUse], view: u32, outer: u32) -> Result<Items<PartUse>, NoMemory>
+    ensures { IfOk result (λ made. made ≡ map (moved view outer) uses.now) }
+{
+    let mut made = Items::new(alloc);
+    for part_use in uses {
+        let copied = part_use.copy(alloc)?;
+        made.push(move_use(copied, view, outer))?;
+    }
+    Ok(made)
+}
+
+/// A use of the one part becomes one of the other.
+fn move_use(part_use: PartUse, view: u32, outer: u32) -> PartUse
+    ensures { result ≡ moved view outer part_use }
+{
+    if part_use.view == view {
+        of_view(part_use, outer)
+    } else {
+        part_use
     }
 }
 
@@ -109,7 +125,7 @@ fn add_left(
     effects: &EffectSet,
     leaving: &Leaving,
 ) -> Result<(), NoMemory>
-    ensures { OnOk result (set.new ≡ gathered set.old (all_left leaving.now effects.now)) }
+    ensures { OnOk result (set.new ≡ gathered set.old (all_left (leave_of leaving.now) effects.now)) }
 {
     for e in effects.as_slice() {
         if let Some(e) = leaving.left_of(alloc, e)? {
@@ -130,7 +146,7 @@ fn add_uses(uses: &mut Items<PartUse>, more: Items<PartUse>) -> Result<(), NoMem
 
 /// The same use, of another part.
 fn of_view(part_use: PartUse, view: u32) -> PartUse
-    ensures { result ≡ record part_use { view = view } }
+    ensures { result ≡ of_view view part_use }
 {
     let PartUse { rpl, write, .. } = part_use;
     PartUse { view, rpl, write }

@@ -1,6 +1,6 @@
-ghost use Rattle.std.specs.Prelude.{◌≡◌, ◌==◌, ℕ, false, map, IfOk};
-ghost use Rattle.dpj_tree.specs.Plain.{plain_stmt};
-ghost use Rattle.dpj_check.specs.Leaving.{left_elem, left_path, left_mark, begins_inside, left_effect, leaves, declares_variable, some_variable};
+ghost use Rattle.std.specs.Prelude.{◌≡◌, map, IfOk};
+ghost use Rattle.dpj_tree.specs.Plain.{plain_stmt, plain_stmts};
+ghost use Rattle.dpj_check.specs.Leaving.{left_elem, left_path, left_mark, begins_inside, left_effect, leaves, leave_of, IsLike, nothing_leaves, variable_leaves, block_leaves, declares_variable};
 
 use dpj_base::{Effect, Elem, Elems, NoMemory, Rpl};
 use dpj_tree::{BaseTree, Stmt, StmtKind};
@@ -28,9 +28,7 @@ pub struct Leaving {
 impl Leaving {
     /// Nothing goes out of scope.
     pub fn nothing(alloc: Global, marks: Marks) -> Leaving
-        ensures variables { (v : ℕ) → leaves result v ≡ false }
-        ensures regions { result.first_region ≡ 4294967295 }
-        ensures marks { result.marks ≡ marks }
+        ensures { IsLike result (nothing_leaves marks) }
     {
         Leaving {
             variables: BTreeSet::new(alloc),
@@ -41,9 +39,7 @@ impl Leaving {
 
     /// An index variable goes out of scope.
     pub fn variable(alloc: Global, number: u32, marks: Marks) -> Result<Leaving, NoMemory>
-        ensures variables { IfOk result (λ leaving. (v : ℕ) → leaves leaving v ≡ (number == v)) }
-        ensures regions { IfOk result (λ leaving. leaving.first_region ≡ 4294967295) }
-        ensures marks { IfOk result (λ leaving. leaving.marks ≡ marks) }
+        ensures { IfOk result (λ leaving. IsLike leaving (variable_leaves number marks)) }
     {
         let mut leaving = Leaving::nothing(alloc, marks);
         leaving.variables.insert(number)?;
@@ -53,9 +49,7 @@ impl Leaving {
     /// What statements declare goes out of scope. `first_region` is the number of the first local region among
     /// them.
     pub fn block(alloc: Global, stmts: &[Stmt], first_region: u32) -> Result<Leaving, NoMemory>
-        ensures variables { IfOk result (λ leaving. (v : ℕ) → leaves leaving v ≡ some_variable v (map plain_stmt stmts.now)) }
-        ensures regions { IfOk result (λ leaving. leaving.first_region ≡ first_region) }
-        ensures marks { IfOk result (λ leaving. leaving.marks ≡ Marks.Kept) }
+        ensures { IfOk result (λ leaving. IsLike leaving (block_leaves (plain_stmts (map plain_stmt stmts.now)) first_region)) }
     {
         let mut leaving = Leaving::nothing(alloc, Marks::Kept);
         leaving.first_region = first_region;
@@ -70,7 +64,7 @@ impl Leaving {
     /// What is left of an effect behind the scope: `[?]` for each index variable, and nothing of an effect on a
     /// local region.
     pub fn left_of(&self, alloc: Global, e: &Effect) -> Result<Option<Effect>, NoMemory>
-        ensures { IfOk result (λ left. left ≡ left_effect self.now e.now) }
+        ensures { IfOk result (λ left. left ≡ left_effect (leave_of self.now) e.now) }
     {
         if self.begins_inside(e.rpl.elems.as_slice()) {
             return Ok(None);
@@ -102,7 +96,7 @@ impl Leaving {
     }
 
     fn left_path(&self, alloc: Global, rpl: &Rpl) -> Result<Rpl, NoMemory>
-        ensures { IfOk result (λ left. left ≡ left_path self.now.variables rpl.now) }
+        ensures { IfOk result (λ left. left ≡ left_path (leaves self.now) rpl.now) }
     {
         let mut elems = Elems::new(alloc);
         for elem in rpl.elems.as_slice() {
@@ -115,18 +109,13 @@ impl Leaving {
     }
 
     fn left_elem(&self, elem: Elem) -> Elem
-        ensures { result ≡ left_elem self.now.variables elem }
+        ensures { result ≡ left_elem (leaves self.now) elem }
     {
         match elem {
             Elem::Var(v) if self.variables.contains(&v) => Elem::Any,
             other => other,
         }
     }
-}
-
-/// Whether something goes out of scope behind a block with this statement that an effect may name.
-pub fn leaves_scope(stmt: &Stmt) -> bool {
-    matches!(stmt.kind, StmtKind::Region { .. }) || declares_variable(stmt)
 }
 
 /// Whether the statement declares a final int, which may stand in an index.

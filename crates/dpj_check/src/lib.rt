@@ -7,8 +7,8 @@
 //! block is entered.
 //!
 //! A body is walked by recursion, as deep as its statements are nested. The effects of statements that follow each
-//! other are gathered into one set; a branch, and a block that declares what an effect may name, has a set of its
-//! own, which goes into the outer one with what went out of scope left out.
+//! other are gathered into one set; a branch and a block have a set of their own, which goes into the outer one
+//! without what went out of scope.
 #![tactic(auto)]
 
 mod accepted;
@@ -20,7 +20,6 @@ mod leaving;
 mod meet;
 mod node;
 mod parts;
-mod reach;
 mod simple;
 mod statements;
 

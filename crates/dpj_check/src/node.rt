@@ -9,7 +9,6 @@ pub struct Around {
     pub has_result: bool,
     /// A branch or an atomic block, which no `return` leaves.
     pub enclosed: bool,
-    pub in_atomic: bool,
 }
 
 impl Around {
@@ -17,32 +16,20 @@ impl Around {
 
     /// In the body of a method.
     pub fn method(has_result: bool) -> Around
-        ensures { result ≡ record { has_result = has_result; enclosed = false; in_atomic = false } }
+        ensures { result ≡ record { has_result = has_result; enclosed = false } }
     {
         Around {
             has_result,
             enclosed: false,
-            in_atomic: false,
         }
     }
 
-    /// In a branch there.
-    pub fn branch(self) -> Around
+    /// In a branch or an atomic block there.
+    pub fn inside(self) -> Around
         ensures { result ≡ record self { enclosed = true } }
     {
         Around {
             enclosed: true,
-            ..self
-        }
-    }
-
-    /// In an atomic block there.
-    pub fn atomic(self) -> Around
-        ensures { result ≡ record self { enclosed = true; in_atomic = true } }
-    {
-        Around {
-            enclosed: true,
-            in_atomic: true,
             ..self
         }
     }

@@ -1,20 +1,26 @@
-ghost use Rattle.std.specs.Prelude.{◌≡◌, ◌||◌, None, IsTrue, OnOk};
-ghost use Rattle.dpj_tree.specs.Nd.{holds_nd};
-ghost use Rattle.dpj_tree.specs.Plain.{plain_stmt};
+ghost use Rattle.std.specs.Prelude.{◌≡◌, ◌||◌, None, Some, option_map, true, false, IsTrue, IfErr, IfOk, OnOk};
+ghost use Rattle.dpj_base.specs.Refused.{IfRefused};
 ghost use Rattle.dpj_base.specs.Types.{plain_type};
+ghost use Rattle.dpj_tree.specs.Nd.{holds_nd};
+ghost use Rattle.dpj_tree.specs.Plain.{plain_expr, plain_stmt};
+ghost use Rattle.dpj_exprs.specs.Answer.{refused};
+ghost use Rattle.dpj_exprs.specs.Env.{part_of};
+ghost use Rattle.dpj_exprs.specs.Typing.{Typing};
+ghost use Rattle.dpj_check.specs.Checking.{opened, not_opened, Cutting, Opening, Parting};
 ghost use Rattle.dpj_check.specs.Deciding.{whole_fault, AssignsOuter};
-ghost use Rattle.dpj_check.specs.Keeping.{branch_around, Keeps};
+ghost use Rattle.dpj_check.specs.Keeping.{inside, Keeps};
 ghost use Rattle.dpj_check.specs.Noting.{fault_of};
+ghost use Rattle.dpj_check.specs.Walks.{home_of, walk_of, with_types, Says};
 
 use crate::body::Body;
 use crate::constructs::{assigns_outer, variable};
-use crate::gathered::Gathered;
+use crate::gathered::{hand_on_uses, take_in};
 use crate::leaving::{Leaving, Marks};
 use crate::meet::parts_pass;
 use crate::node::{Around, Node};
 use crate::statements::scoped;
 use dpj_base::{Kind, NoMemory, Plain, Stop, Ty};
-use dpj_exprs::Typed;
+use dpj_exprs::{Found, Typed};
 use dpj_regions::is_full;
 use dpj_tree::{Expr, Named, Stmt};
 
@@ -36,50 +42,53 @@ pub fn foreach_parts(
     names: (Named, Named),
     range: (&Expr, &Expr),
     turn: &Stmt,
-    out: &mut Gathered,
+    out: &mut Found,
 ) -> Result<(), Stop>
     ensures clean { OnOk result (fault_of node ≡ None) }
-    ensures keeps { OnOk result (Keeps (branch_around around) (plain_stmt turn.now)) }
+    ensures keeps { OnOk result (Keeps (inside around) (plain_stmt turn.now)) }
     ensures locals { OnOk result (¬ AssignsOuter (plain_stmt turn.now)) }
     ensures nd { OnOk result (IsTrue (out.old.reaches_nd || holds_nd (plain_stmt turn.now)) → IsTrue out.new.reaches_nd) }
+    ensures home { OnOk result (home_of body.new ≡ home_of body.old) }
+    ensures checks { Says result (walk_of body.new out.new) (Parting body.old.atomic_params around node names.0 names.1 (plain_expr range.entry.0.now) (plain_expr range.entry.1.now) (plain_stmt turn.now) (walk_of body.old out.old)) }
 {
     let mut node = node;
     let number = variable(node.number);
-    let mut inner = Gathered::new(body.alloc);
+    let mut inner = Found::new(body.alloc);
     let scope = body.env.mark();
-    let outer = declare_part(body, around, &mut node, number, names, range, out)?;
-    scoped(body, around.branch(), turn, &mut inner)?;
+    let outer = open(body, &mut node, number, names, range, out)?;
+    scoped(body, around.inside(), turn, &mut inner)?;
     body.env.leave(scope);
     node.note_if(Kind::Assign, assigns_outer(body.alloc, turn)?);
     node.settle()?;
     let passes = parts_pass(body, &inner, number)?;
     node.note_if(Kind::Interferes, !passes);
     node.settle()?;
-    inner.hand_on_uses(body.alloc, number, outer)?;
+    let inner = hand_on_uses(body.alloc, inner, number, outer)?;
     let leaving = Leaving::variable(body.alloc, number, Marks::Dropped)?;
-    out.take_in(body.alloc, inner, &leaving)?;
-    Ok(())
+    Ok(take_in(body.alloc, out, inner, &leaving)?)
 }
 
 /// Reads the array and the count, and puts the part and the variable in scope. Gives the view of the part that is
 /// cut, where it is one.
-fn declare_part(
+fn open(
     body: &mut Body,
-    around: Around,
     node: &mut Node,
     number: u32,
     names: (Named, Named),
     range: (&Expr, &Expr),
-    out: &mut Gathered,
+    out: &mut Found,
 ) -> Result<Option<u32>, Stop>
     ensures clean { OnOk result (fault_of node.new ≡ None → fault_of node.old ≡ None) }
     ensures nd { OnOk result (IsTrue out.old.reaches_nd → IsTrue out.new.reaches_nd) }
+    ensures home { OnOk result (home_of body.new ≡ home_of body.old) }
+    ensures ok { IfOk result (λ outer. Opening node.old number names.0 names.1 (plain_expr range.entry.0.now) (plain_expr range.entry.1.now) (walk_of body.old out.old) (opened outer node.new (walk_of body.new out.new))) }
+    ensures fault { IfErr result (λ stop. IfRefused stop (λ refusal. Opening node.old number names.0 names.1 (plain_expr range.entry.0.now) (plain_expr range.entry.1.now) (walk_of body.old out.old) (not_opened refusal))) }
 {
     let (view, var) = names;
     let (array, count) = range;
-    let whole = whole_of(body, around, array, out)?;
+    let whole = whole_of(body, array, out)?;
     node.note_found(whole.fault);
-    body.int(around, count, out, node)?;
+    let _count = body.int(count, out, node)?;
     let Whole {
         ty,
         view: outer,
@@ -93,18 +102,17 @@ fn declare_part(
 }
 
 /// What the array of a `foreach_parts` is. A part in its place is no use of that part.
-fn whole_of(
-    body: &mut Body,
-    around: Around,
-    array: &Expr,
-    out: &mut Gathered,
-) -> Result<Whole, Stop>
-    ensures { OnOk result (IsTrue out.old.reaches_nd → IsTrue out.new.reaches_nd) }
+fn whole_of(body: &mut Body, array: &Expr, out: &mut Found) -> Result<Whole, Stop>
+    ensures nd { OnOk result (IsTrue out.old.reaches_nd → IsTrue out.new.reaches_nd) }
+    ensures ok { IfOk result (λ whole. Cutting body.old.env (plain_expr array.now) out.old (plain_type whole.ty) whole.view whole.fault out.new) }
+    ensures unnamed { IfErr result (λ stop. IfRefused stop (λ refusal. part_of body.old.env (plain_expr array.now) ≡ None)) }
+    ensures fault { IfErr result (λ stop. IfRefused stop (λ refusal. Typing body.old.env (plain_expr array.now) out.old (refused refusal))) }
+    ensures same { body.new ≡ with_types body.old body.new.known.types }
 {
     if let Some(whole) = part_of_part(body, array)? {
         return Ok(whole);
     }
-    let Typed::Known(ty) = body.typed(around, array, out)? else {
+    let Typed::Known(ty) = body.typed(array, out)? else {
         return Ok(no_array());
     };
     let fault = whole_fault(&ty);
@@ -131,7 +139,9 @@ fn whole_fault(ty: &Ty) -> Option<Kind>
 }
 
 /// What comes from a part of what is no array, and is none itself. That is told at the outer construct.
-fn no_array() -> Whole {
+fn no_array() -> Whole
+    ensures { result ≡ record { ty = Ty.Void; view = None; fault = None } }
+{
     Whole {
         ty: Ty::Void,
         view: None,
@@ -139,7 +149,11 @@ fn no_array() -> Whole {
     }
 }
 
-fn part_of_part(body: &mut Body, array: &Expr) -> Result<Option<Whole>, NoMemory> {
+/// The part that the array expression names, where it names one.
+fn part_of_part(body: &mut Body, array: &Expr) -> Result<Option<Whole>, NoMemory>
+    ensures { IfOk result (λ found. found ≡ option_map (λ row. record { ty = row.ty; view = row.part; fault = None }) (part_of body.old.env (plain_expr array.now))) }
+    ensures same { body.new ≡ with_types body.old body.new.known.types }
+{
     let Some(row) = body.env.part(array) else {
         return Ok(None);
     };

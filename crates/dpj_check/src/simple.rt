@@ -1,12 +1,18 @@
-ghost use Rattle.std.specs.Prelude.{◌≡◌, None, false, is_some, IsTrue, OnOk};
-ghost use Rattle.dpj_check.specs.Deciding.{is_misplaced, is_printed, local_fault};
-ghost use Rattle.dpj_check.specs.Noting.{fault_of, with_refusal};
+ghost use Rattle.std.specs.Prelude.{◌≡◌, ◌||◌, None, Some, false, true, IsTrue, IfErr, IfOk, OnOk};
+ghost use Rattle.dpj_base.specs.Refused.{IfRefused};
+ghost use Rattle.dpj_base.specs.Types.{plain_type};
+ghost use Rattle.dpj_exprs.specs.declared.found.Found.{Found};
+ghost use Rattle.dpj_exprs.specs.Typed.{plain_typed};
+ghost use Rattle.dpj_tree.specs.Plain.{plain_expr};
+ghost use Rattle.dpj_check.specs.Deciding.{is_misplaced, local_fault};
+ghost use Rattle.dpj_check.specs.Noting.{fault_of, with_fault_if};
+ghost use Rattle.dpj_check.specs.Simple.{declared_type, declared_told, is_region_name, may_print, regions_declared, target_fault, AssigningLocal, AssigningPlace, Declaring, Performing, Printing, Returning};
+ghost use Rattle.dpj_check.specs.Walks.{home_of, judged, walk_of, Says};
 
 use crate::body::Body;
-use crate::gathered::Gathered;
 use crate::node::{Around, Node};
 use dpj_base::{Kind, Stop, Ty};
-use dpj_exprs::{Typed, assign, read_target};
+use dpj_exprs::{Found, LocalRow, Typed, read_target, write};
 use dpj_headers::Faults;
 use dpj_resolve::ty;
 use dpj_tree::{Expr, Named, TypeTree};
@@ -14,31 +20,42 @@ use dpj_tree::{Expr, Named, TypeTree};
 /// `ty name = value;`
 pub fn declare(
     body: &mut Body,
-    around: Around,
     node: Node,
     is_final: bool,
     tree: &TypeTree,
     name: u32,
     value: &Expr,
-    out: &mut Gathered,
+    out: &mut Found,
 ) -> Result<(), Stop>
     ensures clean { OnOk result (fault_of node ≡ None) }
     ensures nd { OnOk result (IsTrue out.old.reaches_nd → IsTrue out.new.reaches_nd) }
+    ensures home { OnOk result (home_of body.new ≡ home_of body.old) }
+    ensures checks { Says result (walk_of body.new out.new) (Declaring node is_final tree.now name (plain_expr value.now) (walk_of body.old out.old)) }
 {
     let mut node = node;
     let declared = declared_type(body, tree)?;
-    let value = body.typed(around, value, out)?;
+    let value = body.typed(value, out)?;
     let place = node.place;
     body.note_duplicate(name, place, &mut node);
     let fits = body.fits(&value, &declared)?;
     node.note_if(Kind::Type, !fits);
     node.settle()?;
-    body.declare(name, node.number, declared, is_final)?;
+    body.declare(LocalRow {
+        name,
+        var: node.number,
+        ty: declared,
+        is_final,
+        part: None,
+    })?;
     Ok(())
 }
 
 /// The type that a declaration names. In a body a type with a fault is told at once.
-fn declared_type(body: &Body, tree: &TypeTree) -> Result<Ty, Stop> {
+fn declared_type(body: &Body, tree: &TypeTree) -> Result<Ty, Stop>
+    ensures ty { IfOk result (λ ty. plain_type ty ≡ declared_type body.now.env tree.now) }
+    ensures untold { OnOk result (declared_told body.now.env tree.now ≡ None) }
+    ensures told { IfErr result (λ stop. IfRefused stop (λ refusal. declared_told body.now.env tree.now ≡ Some refusal)) }
+{
     let mut faults = Faults::by_number();
     match ty(body.alloc, &body.env.scope(), &mut faults, tree)? {
         Some(ty) => Ok(ty),
@@ -49,17 +66,18 @@ fn declared_type(body: &Body, tree: &TypeTree) -> Result<Ty, Stop> {
 /// `target = value;` for a local.
 pub fn assign_local(
     body: &mut Body,
-    around: Around,
     node: Node,
     target: Named,
     value: &Expr,
-    out: &mut Gathered,
+    out: &mut Found,
 ) -> Result<(), Stop>
     ensures clean { OnOk result (fault_of node ≡ None) }
     ensures nd { OnOk result (IsTrue out.old.reaches_nd → IsTrue out.new.reaches_nd) }
+    ensures home { OnOk result (home_of body.new ≡ home_of body.old) }
+    ensures checks { Says result (walk_of body.new out.new) (AssigningLocal node target (plain_expr value.now) (walk_of body.old out.old)) }
 {
     let mut node = node;
-    let value = body.typed(around, value, out)?;
+    let value = body.typed(value, out)?;
     match body.env.local(target.name) {
         None => node.note_at(Kind::Unknown, target.place),
         Some(row) => node.note_found(local_fault(body.fits(&value, &row.ty)?, row.is_final)),
@@ -80,85 +98,90 @@ fn local_fault(fit: bool, is_final: bool) -> Option<Kind>
 /// `written = value;` for a field or an element.
 pub fn assign_place(
     body: &mut Body,
-    around: Around,
     node: Node,
     written: &Expr,
     value: &Expr,
-    out: &mut Gathered,
+    out: &mut Found,
 ) -> Result<(), Stop>
     ensures clean { OnOk result (fault_of node ≡ None) }
     ensures nd { OnOk result (IsTrue out.old.reaches_nd → IsTrue out.new.reaches_nd) }
+    ensures home { OnOk result (home_of body.new ≡ home_of body.old) }
+    ensures checks { Says result (walk_of body.new out.new) (AssigningPlace node (plain_expr written.now) (plain_expr value.now) (walk_of body.old out.old)) }
 {
     let mut node = node;
     let alloc = body.alloc;
-    let target = read_target(
-        alloc,
-        &body.env,
-        &mut body.known.types,
-        &mut out.found,
-        written,
-    )?;
-    body.follow(around, written, out);
-    let value = body.typed(around, value, out)?;
+    let target = read_target(alloc, &body.env, &mut body.known.types, out, written)?;
+    let value = body.typed(value, out)?;
     match target {
         Some(target) => {
-            let found = &mut out.found;
-            let assigned = assign(alloc, &body.env, found, target, &value, node.place);
-            note_refusal(assigned, &mut node)?;
+            let fits = body.fits(&value, &target.ty)?;
+            node.note_found(target_fault(fits, target.may_write));
+            node.settle()?;
+            Ok(write(out, target)?)
         }
-        None => node.note_if(Kind::Type, !value.is_value()),
+        None => {
+            node.note_if(Kind::Type, !value.is_value());
+            node.settle()
+        }
     }
-    node.settle()
 }
 
-/// Notes a refusal of the node at hand beside its other faults.
-fn note_refusal(outcome: Result<(), Stop>, node: &mut Node) -> Result<(), Stop>
-    ensures node { OnOk result (node.new ≡ with_refusal node.old outcome) }
-    ensures clean { OnOk result (fault_of node.new ≡ None → fault_of node.old ≡ None) }
+/// The fault of an assignment to a field or an element: the value doesn't fit, or the target may not be written.
+fn target_fault(fit: bool, may_write: bool) -> Option<Kind>
+    ensures { result ≡ target_fault fit may_write }
 {
-    match outcome {
-        Err(Stop::Refused(refusal)) => node.note_at(refusal.kind, refusal.place),
-        Err(Stop::NoMemory) => return Err(Stop::NoMemory),
-        Ok(()) => {}
+    if !fit {
+        return Some(Kind::Type);
     }
-    Ok(())
+    if may_write {
+        None
+    } else {
+        Some(Kind::PartialWrite)
+    }
 }
 
 /// A call or a creation as a statement.
-pub fn perform(
-    body: &mut Body,
-    around: Around,
-    node: Node,
-    e: &Expr,
-    out: &mut Gathered,
-) -> Result<(), Stop>
+pub fn perform(body: &mut Body, node: Node, e: &Expr, out: &mut Found) -> Result<(), Stop>
     ensures clean { OnOk result (fault_of node ≡ None) }
     ensures nd { OnOk result (IsTrue out.old.reaches_nd → IsTrue out.new.reaches_nd) }
+    ensures home { OnOk result (home_of body.new ≡ home_of body.old) }
+    ensures checks { Says result (walk_of body.new out.new) (Performing node (plain_expr e.now) (walk_of body.old out.old)) }
 {
     let mut node = node;
-    body.typed(around, e, out)?;
+    body.typed(e, out)?;
     node.settle()
 }
 
-/// `return;` or `return value;`
-pub fn leave(
+/// `return;`
+pub fn leave(body: &Body, around: Around, node: Node) -> Result<(), Stop>
+    ensures placed { OnOk result (is_misplaced around false ≡ false) }
+    ensures clean { OnOk result (fault_of node ≡ None) }
+    ensures checks { (found : Found) → Says result (walk_of body.now found) (λ v. judged (fault_of (with_fault_if node Kind.Return (is_misplaced around false))) (walk_of body.now found) ≡ v) }
+{
+    let mut node = node;
+    node.note_if(Kind::Return, is_misplaced(around, false));
+    node.settle()
+}
+
+/// `return value;`
+pub fn leave_with(
     body: &mut Body,
     around: Around,
     node: Node,
-    value: Option<&Expr>,
-    out: &mut Gathered,
+    value: &Expr,
+    out: &mut Found,
 ) -> Result<(), Stop>
-    ensures placed { OnOk result (is_misplaced around (is_some value.entry) ≡ false) }
+    ensures placed { OnOk result (is_misplaced around true ≡ false) }
     ensures clean { OnOk result (fault_of node ≡ None) }
     ensures nd { OnOk result (IsTrue out.old.reaches_nd → IsTrue out.new.reaches_nd) }
+    ensures home { OnOk result (home_of body.new ≡ home_of body.old) }
+    ensures checks { Says result (walk_of body.new out.new) (Returning around node (plain_expr value.now) (walk_of body.old out.old)) }
 {
     let mut node = node;
-    node.note_if(Kind::Return, is_misplaced(around, value.is_some()));
-    if let Some(value) = value {
-        let value = body.typed(around, value, out)?;
-        let fits = body.is_returned(around, &value)?;
-        node.note_if(Kind::Type, !fits);
-    }
+    node.note_if(Kind::Return, is_misplaced(around, true));
+    let value = body.typed(value, out)?;
+    let fits = body.is_returned(around, &value)?;
+    node.note_if(Kind::Type, !fits);
     node.settle()
 }
 
@@ -170,32 +193,30 @@ fn is_misplaced(around: Around, valued: bool) -> bool
 }
 
 /// `print(value);`
-pub fn print(
-    body: &mut Body,
-    around: Around,
-    node: Node,
-    value: &Expr,
-    out: &mut Gathered,
-) -> Result<(), Stop>
+pub fn print(body: &mut Body, node: Node, value: &Expr, out: &mut Found) -> Result<(), Stop>
     ensures clean { OnOk result (fault_of node ≡ None) }
     ensures nd { OnOk result (IsTrue out.old.reaches_nd → IsTrue out.new.reaches_nd) }
+    ensures home { OnOk result (home_of body.new ≡ home_of body.old) }
+    ensures checks { Says result (walk_of body.new out.new) (Printing node (plain_expr value.now) (walk_of body.old out.old)) }
 {
     let mut node = node;
-    let value = body.typed(around, value, out)?;
-    node.note_if(Kind::Type, !is_printed(&value));
+    let value = body.typed(value, out)?;
+    node.note_if(Kind::Type, !may_print(&value));
     node.settle()
 }
 
 /// An int or a boolean is printed, and no reference.
-fn is_printed(value: &Typed) -> bool
-    ensures { result ≡ is_printed value.now }
+fn may_print(value: &Typed) -> bool
+    ensures { result ≡ may_print (plain_typed value.now) }
 {
     value.is_int() || value.is_boolean()
 }
 
 /// `region name, ..;`
 pub fn declare_regions(body: &mut Body, node: Node, names: &[Named]) -> Result<(), Stop>
-    ensures { OnOk result (fault_of node ≡ None) }
+    ensures clean { OnOk result (fault_of node ≡ None) }
+    ensures home { OnOk result (home_of body.new ≡ home_of body.old) }
+    ensures checks { (found : Found) → Says result (walk_of body.new found) (λ v. regions_declared node names.now (walk_of body.old found) ≡ v) }
 {
     let mut node = node;
     for named in names {
@@ -208,7 +229,9 @@ pub fn declare_regions(body: &mut Body, node: Node, names: &[Named]) -> Result<(
 }
 
 /// Whether a region parameter or a local region in scope, or a region of the class or a superclass has the name.
-fn is_region(body: &Body, name: u32) -> bool {
+fn is_region(body: &Body, name: u32) -> bool
+    ensures { result ≡ is_region_name body.now.env name }
+{
     let env = &body.env;
     let declared = env.table.headers().region(env.class, name);
     env.has_param(name) || env.has_local_region(name) || declared.is_some()

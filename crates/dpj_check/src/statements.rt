@@ -1,18 +1,24 @@
-ghost use Rattle.std.specs.Prelude.{◌≡◌, ◌||◌, None, false, map, IsTrue, IfOk, OnOk};
+ghost use Rattle.std.specs.Prelude.{◌≡◌, ◌||◌, Bool, List, None, false, true, map, IsTrue, IfOk, OnOk};
 ghost use Rattle.dpj_tree.specs.Nd.{holds_nd, some_holds_nd};
 ghost use Rattle.dpj_tree.specs.Plain.{plain_stmt, plain_stmts};
-ghost use Rattle.dpj_check.specs.Completes.{completes, all_complete, goes_on, is_loop};
+ghost use Rattle.dpj_check.specs.Checking.{form_of, Checking, InBlock, InOrder, InScope, Standing};
+ghost use Rattle.dpj_check.specs.Completes.{completes, all_complete, goes_on, is_loop, is_single};
 ghost use Rattle.dpj_check.specs.Keeping.{Keeps, AllKeep};
+ghost use Rattle.dpj_check.specs.declared.node.Around.{Around};
 ghost use Rattle.dpj_check.specs.Noting.{fault_of};
+ghost use Rattle.dpj_check.specs.Walks.{home_of, walk_of, Says};
 
 use crate::body::Body;
 use crate::constructs::{atomic, cobegin, foreach};
-use crate::gathered::Gathered;
-use crate::leaving::{Leaving, leaves_scope};
+use crate::gathered::take_in;
+use crate::leaving::Leaving;
 use crate::node::{Around, Node};
 use crate::parts::foreach_parts;
-use crate::simple::{assign_local, assign_place, declare, declare_regions, leave, perform, print};
+use crate::simple::{
+    assign_local, assign_place, declare, declare_regions, leave, leave_with, perform, print,
+};
 use dpj_base::Stop;
+use dpj_exprs::Found;
 use dpj_tree::{Stmt, StmtKind};
 
 /// Checks a statement, and says whether it completes. `follows` says that it stands behind one that doesn't.
@@ -22,12 +28,14 @@ pub fn statement(
     around: Around,
     stmt: &Stmt,
     follows: bool,
-    out: &mut Gathered,
+    out: &mut Found,
 ) -> Result<bool, Stop>
     ensures completes { IfOk result (λ done. done ≡ completes (plain_stmt stmt.now)) }
     ensures behind { OnOk result (follows ≡ false) }
     ensures keeps { OnOk result (Keeps around (plain_stmt stmt.now)) }
     ensures nd { OnOk result (IsTrue (out.old.reaches_nd || holds_nd (plain_stmt stmt.now)) → IsTrue out.new.reaches_nd) }
+    ensures home { OnOk result (home_of body.new ≡ home_of body.old) }
+    ensures checks { Says result (walk_of body.new out.new) (Standing body.old.atomic_params around follows (plain_stmt stmt.now) (walk_of body.old out.old)) }
 {
     let mut node = Node::of(stmt, follows);
     match &stmt.kind {
@@ -37,7 +45,7 @@ pub fn statement(
             Ok(completes)
         }
         StmtKind::If { test, then, other } => {
-            body.boolean(around, test, out, &mut node)?;
+            let _test = body.boolean(test, out, &mut node)?;
             let first = scoped(body, around, then.get(), out)?;
             let second = match other {
                 Some(other) => scoped(body, around, other.get(), out)?,
@@ -46,8 +54,12 @@ pub fn statement(
             node.settle()?;
             Ok(first || second)
         }
-        StmtKind::Return(value) => {
-            leave(body, around, node, value.as_ref(), out)?;
+        StmtKind::Return(None) => {
+            leave(body, around, node)?;
+            Ok(false)
+        }
+        StmtKind::Return(Some(value)) => {
+            leave_with(body, around, node, value, out)?;
             Ok(false)
         }
         _ => {
@@ -64,12 +76,14 @@ fn construct(
     around: Around,
     node: Node,
     stmt: &Stmt,
-    out: &mut Gathered,
+    out: &mut Found,
 ) -> Result<(), Stop>
     requires { IsTrue (goes_on (plain_stmt stmt.now)) }
     ensures clean { OnOk result (fault_of node ≡ None) }
     ensures keeps { OnOk result (Keeps around (plain_stmt stmt.now)) }
     ensures nd { OnOk result (IsTrue (out.old.reaches_nd || holds_nd (plain_stmt stmt.now)) → IsTrue out.new.reaches_nd) }
+    ensures home { OnOk result (home_of body.new ≡ home_of body.old) }
+    ensures checks { Says result (walk_of body.new out.new) (Checking body.old.atomic_params around node (form_of (plain_stmt stmt.now)) (walk_of body.old out.old)) }
 {
     match &stmt.kind {
         StmtKind::Cobegin { nd, branches } => {
@@ -79,7 +93,7 @@ fn construct(
         StmtKind::While { .. } | StmtKind::Foreach { .. } | StmtKind::ForeachParts { .. } => {
             turns(body, around, node, stmt, out)
         }
-        _ => single(body, around, node, &stmt.kind, out),
+        _ => single(body, node, stmt, out),
     }
 }
 
@@ -90,17 +104,19 @@ fn turns(
     around: Around,
     node: Node,
     stmt: &Stmt,
-    out: &mut Gathered,
+    out: &mut Found,
 ) -> Result<(), Stop>
     requires { IsTrue (is_loop (plain_stmt stmt.now)) }
     ensures clean { OnOk result (fault_of node ≡ None) }
     ensures keeps { OnOk result (Keeps around (plain_stmt stmt.now)) }
     ensures nd { OnOk result (IsTrue (out.old.reaches_nd || holds_nd (plain_stmt stmt.now)) → IsTrue out.new.reaches_nd) }
+    ensures home { OnOk result (home_of body.new ≡ home_of body.old) }
+    ensures checks { Says result (walk_of body.new out.new) (Checking body.old.atomic_params around node (form_of (plain_stmt stmt.now)) (walk_of body.old out.old)) }
 {
     let mut node = node;
     match &stmt.kind {
         StmtKind::While { test, body: turn } => {
-            body.boolean(around, test, out, &mut node)?;
+            let _test = body.boolean(test, out, &mut node)?;
             scoped(body, around, turn.get(), out)?;
             node.settle()
         }
@@ -111,8 +127,8 @@ fn turns(
             count,
             body: turn,
         } => {
-            body.int(around, start, out, &mut node)?;
-            body.int(around, count, out, &mut node)?;
+            let _start = body.int(start, out, &mut node)?;
+            let _count = body.int(count, out, &mut node)?;
             foreach(body, around, node, *nd, *var, turn.get(), out)
         }
         StmtKind::ForeachParts {
@@ -125,67 +141,56 @@ fn turns(
             let names = (*view, *var);
             foreach_parts(body, around, node, names, (array, count), turn.get(), out)
         }
-        _ => node.settle(),
+        _ => unreachable!(),
     }
 }
 
 /// A statement that holds no other and completes.
-fn single(
-    body: &mut Body,
-    around: Around,
-    node: Node,
-    kind: &StmtKind,
-    out: &mut Gathered,
-) -> Result<(), Stop>
+fn single(body: &mut Body, node: Node, stmt: &Stmt, out: &mut Found) -> Result<(), Stop>
+    requires { IsTrue (is_single (plain_stmt stmt.now)) }
     ensures clean { OnOk result (fault_of node ≡ None) }
     ensures nd { OnOk result (IsTrue out.old.reaches_nd → IsTrue out.new.reaches_nd) }
+    ensures home { OnOk result (home_of body.new ≡ home_of body.old) }
+    ensures checks { (params : List Bool) (around : Around) → Says result (walk_of body.new out.new) (Checking params around node (form_of (plain_stmt stmt.now)) (walk_of body.old out.old)) }
 {
-    match kind {
+    match &stmt.kind {
         StmtKind::Declare {
             is_final,
             ty,
             name,
             value,
-        } => declare(body, around, node, *is_final, ty, *name, value, out),
-        StmtKind::AssignLocal { target, value } => {
-            assign_local(body, around, node, *target, value, out)
-        }
+        } => declare(body, node, *is_final, ty, *name, value, out),
+        StmtKind::AssignLocal { target, value } => assign_local(body, node, *target, value, out),
         StmtKind::AssignField { target, value } | StmtKind::AssignElement { target, value } => {
-            assign_place(body, around, node, target, value, out)
+            assign_place(body, node, target, value, out)
         }
-        StmtKind::Do(value) => perform(body, around, node, value, out),
-        StmtKind::Print(value) => print(body, around, node, value, out),
+        StmtKind::Do(value) => perform(body, node, value, out),
+        StmtKind::Print(value) => print(body, node, value, out),
         StmtKind::Region { names } => declare_regions(body, node, names.as_slice()),
-        _ => {
+        StmtKind::PrintText(_) => {
             let mut node = node;
             node.settle()
         }
+        _ => unreachable!(),
     }
 }
 
-/// Checks the statements of a block in a scope of their own, and says whether they all complete.
+/// Checks the statements of a block in a scope of their own, and says whether they all complete. What they do is
+/// gathered by itself, and goes to what is gathered around the block without what the block declares.
 #[cycle(statements)]
-pub fn block(
-    body: &mut Body,
-    around: Around,
-    stmts: &[Stmt],
-    out: &mut Gathered,
-) -> Result<bool, Stop>
+pub fn block(body: &mut Body, around: Around, stmts: &[Stmt], out: &mut Found) -> Result<bool, Stop>
     ensures completes { IfOk result (λ done. done ≡ all_complete (plain_stmts (map plain_stmt stmts.now))) }
     ensures keeps { OnOk result (AllKeep around (plain_stmts (map plain_stmt stmts.now))) }
     ensures nd { OnOk result (IsTrue (out.old.reaches_nd || some_holds_nd (plain_stmts (map plain_stmt stmts.now))) → IsTrue out.new.reaches_nd) }
+    ensures home { OnOk result (home_of body.new ≡ home_of body.old) }
+    ensures checks { Says result (walk_of body.new out.new) (InBlock body.old.atomic_params around (plain_stmts (map plain_stmt stmts.now)) (walk_of body.old out.old)) }
 {
     let scope = body.env.mark();
-    if !stmts.iter().any(leaves_scope) {
-        let completes = statements(body, around, stmts, out)?;
-        body.env.leave(scope);
-        return Ok(completes);
-    }
-    let mut inner = Gathered::new(body.alloc);
+    let mut inner = Found::new(body.alloc);
     let completes = statements(body, around, stmts, &mut inner)?;
     let leaving = Leaving::block(body.alloc, stmts, body.first_region(scope))?;
     body.env.leave(scope);
-    out.take_in(body.alloc, inner, &leaving)?;
+    take_in(body.alloc, out, inner, &leaving)?;
     Ok(completes)
 }
 
@@ -194,11 +199,13 @@ fn statements(
     body: &mut Body,
     around: Around,
     stmts: &[Stmt],
-    out: &mut Gathered,
+    out: &mut Found,
 ) -> Result<bool, Stop>
     ensures completes { IfOk result (λ done. done ≡ all_complete (plain_stmts (map plain_stmt stmts.now))) }
     ensures keeps { OnOk result (AllKeep around (plain_stmts (map plain_stmt stmts.now))) }
     ensures nd { OnOk result (IsTrue (out.old.reaches_nd || some_holds_nd (plain_stmts (map plain_stmt stmts.now))) → IsTrue out.new.reaches_nd) }
+    ensures home { OnOk result (home_of body.new ≡ home_of body.old) }
+    ensures checks { Says result (walk_of body.new out.new) (InOrder body.old.atomic_params around true (plain_stmts (map plain_stmt stmts.now)) (walk_of body.old out.old)) }
 {
     let mut completes = true;
     for stmt in stmts {
@@ -210,15 +217,12 @@ fn statements(
 
 /// Checks a branch or a body, which is a scope of its own even without braces.
 #[cycle(statements)]
-pub fn scoped(
-    body: &mut Body,
-    around: Around,
-    stmt: &Stmt,
-    out: &mut Gathered,
-) -> Result<bool, Stop>
+pub fn scoped(body: &mut Body, around: Around, stmt: &Stmt, out: &mut Found) -> Result<bool, Stop>
     ensures completes { IfOk result (λ done. done ≡ completes (plain_stmt stmt.now)) }
     ensures keeps { OnOk result (Keeps around (plain_stmt stmt.now)) }
     ensures nd { OnOk result (IsTrue (out.old.reaches_nd || holds_nd (plain_stmt stmt.now)) → IsTrue out.new.reaches_nd) }
+    ensures home { OnOk result (home_of body.new ≡ home_of body.old) }
+    ensures checks { Says result (walk_of body.new out.new) (InScope body.old.atomic_params around (plain_stmt stmt.now) (walk_of body.old out.old)) }
 {
     let scope = body.env.mark();
     let completes = statement(body, around, stmt, false, out)?;

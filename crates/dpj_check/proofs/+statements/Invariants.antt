@@ -2,7 +2,7 @@ use Rattle.std.proofs.Common.{◌≡◌, ◌&&◌, ◌||◌, IsTrue, map, drop}
 use Rattle.dpj_tree.specs.Nd.{some_holds_nd}
 use Rattle.dpj_tree.specs.Plain.{plain_stmt, plain_stmts}
 use Rattle.dpj_check.specs.Completes.{all_complete}
-use Rattle.dpj_check.specs.Keeping.{MayFollow, AllKeep, BranchesKeep, branch_around}
+use Rattle.dpj_check.specs.Keeping.{MayFollow, AllKeep, BranchesKeep, inside}
 use Rattle.dpj_check.proofs.+statements.Given as goal
 
 abbrev pub invariant-statements::statements-loop-stmt : goal.invariant-statements::statements-loop-stmt
@@ -14,6 +14,6 @@ invariant-statements::statements-loop-stmt l = record {
 
 abbrev pub invariant-constructs::cobegin-loop-branch : goal.invariant-constructs::cobegin-loop-branch
 invariant-constructs::cobegin-loop-branch l = record {
-  keeps : BranchesKeep (branch_around l.around) (plain_stmts (map plain_stmt (drop l.branch-index l.branches))) → BranchesKeep (branch_around l.around) (plain_stmts (map plain_stmt l.branches));
+  keeps : BranchesKeep (inside l.around) (plain_stmts (map plain_stmt (drop l.branch-index l.branches))) → BranchesKeep (inside l.around) (plain_stmts (map plain_stmt l.branches));
   nd : IsTrue (l.fn.out.reaches_nd || some_holds_nd (plain_stmts (map plain_stmt l.branches))) → IsTrue (l.out.reaches_nd || some_holds_nd (plain_stmts (map plain_stmt (drop l.branch-index l.branches))));
 }

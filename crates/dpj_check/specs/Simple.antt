@@ -1,0 +1,135 @@
+-- Statements that hold no other, as the rules of the language say: their parts in order, then the node itself.
+use Rattle.std.specs.Prelude.{◌≡◌, ◌↔◌, ℕ, Bool, true, false, not, ◌||◌, cond, IsTrue, List, [], ◌∷◌, ◌++◌, is_some, Option, Some, None, option_map}
+use Rattle.std.specs.Option.{option_map_or}
+use Rattle.dpj_base.specs.declared.place.Place.{Place}
+use Rattle.dpj_base.specs.declared.refusal.Kind.{Kind}
+use Rattle.dpj_base.specs.declared.refusal.Kind.TheVariants as kind
+use Rattle.dpj_base.specs.declared.refusal.Refusal.{Refusal}
+use Rattle.dpj_base.specs.declared.ty.Ty.{Ty}
+use Rattle.dpj_base.specs.Types.{PlainType, plain_type}
+use Rattle.dpj_base.specs.Types.{PlainType as ty}
+use Rattle.dpj_headers.specs.declared.faults.Order.TheVariants as order
+use Rattle.dpj_headers.specs.Faults.{none_by}
+use Rattle.dpj_headers.specs.Headers.{region_of}
+use Rattle.dpj_resolve.specs.declared.scope.Site.TheVariants as site
+use Rattle.dpj_resolve.specs.Telling.{parts_told}
+use Rattle.dpj_resolve.specs.Written.{type_meant, type_faults}
+use Rattle.dpj_tree.specs.declared.region.Named.{Named}
+use Rattle.dpj_tree.specs.declared.region.TypeTree.{TypeTree}
+use Rattle.dpj_tree.specs.Plain.{PlainExpr}
+use Rattle.dpj_classes.specs.Table.{headers_of, numbered}
+use Rattle.dpj_exprs.specs.declared.env.Env.{Env}
+use Rattle.dpj_exprs.specs.declared.env.LocalRow.{LocalRow}
+use Rattle.dpj_exprs.specs.declared.found.Found.{Found}
+use Rattle.dpj_exprs.specs.Answer.{gives}
+use Rattle.dpj_exprs.specs.Answer.{Answer as answer}
+use Rattle.dpj_exprs.specs.Env.{table_of, supers_of, scope_of, local_of, with_region, is_param_name, has_region}
+use Rattle.dpj_exprs.specs.Targeting.{PlainTarget, Targeting, aims, misses, with_write}
+use Rattle.dpj_exprs.specs.Typed.{may_be, is_int, is_boolean, is_value, FitsAs}
+use Rattle.dpj_exprs.specs.Typing.{Typing}
+use Rattle.dpj_check.specs.declared.node.Around.{Around}
+use Rattle.dpj_check.specs.declared.node.Node.{Node}
+use Rattle.dpj_check.specs.Deciding.{is_misplaced, local_fault, Returned}
+use Rattle.dpj_check.specs.Noting.{with_fault, with_found, with_fault_if, fault_of}
+use Rattle.dpj_check.specs.Walks.{Walk, Verdict, passes, refused, judged, found_so, declaring}
+
+-- a value of the type may stand where the other is declared, or not
+abbrev pub FitIs : Env → Option PlainType → PlainType → Bool → Type 0
+FitIs env value declared fit = IsTrue fit ↔ FitsAs (supers_of env) value declared
+
+-- the type that a declaration names, and the fault that is told of it
+abbrev pub declared_type : Env → TypeTree → PlainType
+declared_type env tree = option_map_or (λ t. t) (type_meant (scope_of env) tree) ty.void
+
+abbrev pub declared_told : Env → TypeTree → Option Refusal
+declared_told env tree = parts_told site.Body (none_by order.Number) (type_faults (scope_of env) tree)
+
+-- a name that is declared while a local or a formal has it
+abbrev pub with_duplicate : Env → ℕ → Place → Node → Node
+with_duplicate env name place node = cond (is_some (local_of env name)) (with_fault node kind.Duplicate place) node
+
+-- a local that is no part of an array
+abbrev pub local_row : ℕ → ℕ → Ty → Bool → LocalRow
+local_row name var t is_final = record { name = name; var = var; ty = t; is_final = is_final; part = None }
+
+-- `ty name = value;`: the type, the value, then the declaration
+pub data Declaring (node : Node) (is_final : Bool) (tree : TypeTree) (name : ℕ) (value : PlainExpr) (w : Walk) : Verdict → Type 0 where
+  type_refused : {refusal : Refusal} → declared_told w.env tree ≡ Some refusal → Declaring node is_final tree name value w (refused refusal)
+  value_refused : {refusal : Refusal} →
+      declared_told w.env tree ≡ None → Typing w.env value w.found (answer.refused refusal) → Declaring node is_final tree name value w (refused refusal)
+  declared : {t : Option PlainType} {g : Found} {fit : Bool} {made : Ty} {v : Verdict} →
+      declared_told w.env tree ≡ None → plain_type made ≡ declared_type w.env tree → Typing w.env value w.found (gives t g) → FitIs w.env t (declared_type w.env tree) fit →
+      judged (fault_of (with_fault_if (with_duplicate w.env name node.place node) kind.Type (not fit))) (declaring (found_so w g) (local_row name node.number made is_final)) ≡ v →
+      Declaring node is_final tree name value w v
+
+-- `target = value;` for a local: the value, then the assignment
+pub data AssigningLocal (node : Node) (target : Named) (value : PlainExpr) (w : Walk) : Verdict → Type 0 where
+  value_refused : {refusal : Refusal} → Typing w.env value w.found (answer.refused refusal) → AssigningLocal node target value w (refused refusal)
+  no_local : {t : Option PlainType} {g : Found} {v : Verdict} →
+      Typing w.env value w.found (gives t g) → local_of w.env target.name ≡ None → judged (fault_of (with_fault node kind.Unknown target.place)) (found_so w g) ≡ v →
+      AssigningLocal node target value w v
+  assigned : {t : Option PlainType} {g : Found} {row : LocalRow} {fit : Bool} {v : Verdict} →
+      Typing w.env value w.found (gives t g) → local_of w.env target.name ≡ Some row → FitIs w.env t (plain_type row.ty) fit →
+      judged (fault_of (with_found node (local_fault fit row.is_final))) (found_so w g) ≡ v →
+      AssigningLocal node target value w v
+
+-- what is wrong with an assignment of a value that fits or not to a target that may be written or not
+abbrev pub target_fault : Bool → Bool → Option Kind
+target_fault fit may_write = cond fit (cond may_write None (Some kind.PartialWrite)) (Some kind.Type)
+
+-- `target = value;` for a field or an element: the target, the value, then the assignment
+pub data AssigningPlace (node : Node) (target value : PlainExpr) (w : Walk) : Verdict → Type 0 where
+  target_refused : {refusal : Refusal} → Targeting w.env target w.found (misses refusal) → AssigningPlace node target value w (refused refusal)
+  value_refused : {aim : Option PlainTarget} {g : Found} {refusal : Refusal} →
+      Targeting w.env target w.found (aims aim g) → Typing w.env value g (answer.refused refusal) → AssigningPlace node target value w (refused refusal)
+  -- it comes from a part of what is no array, where every value fits
+  anything_assigned : {g h : Found} {t : Option PlainType} {v : Verdict} →
+      Targeting w.env target w.found (aims None g) → Typing w.env value g (gives t h) →
+      judged (fault_of (with_fault_if node kind.Type (not (may_be is_value t)))) (found_so w h) ≡ v →
+      AssigningPlace node target value w v
+  place_assigned : {aim : PlainTarget} {g h : Found} {t : Option PlainType} {fit : Bool} {v : Verdict} →
+      Targeting w.env target w.found (aims (Some aim) g) → Typing w.env value g (gives t h) → FitIs w.env t aim.ty fit →
+      judged (fault_of (with_found node (target_fault fit aim.may_write))) (found_so w (with_write h aim)) ≡ v →
+      AssigningPlace node target value w v
+
+-- a call or a creation as a statement
+pub data Performing (node : Node) (value : PlainExpr) (w : Walk) : Verdict → Type 0 where
+  refused_itself : {refusal : Refusal} → Typing w.env value w.found (answer.refused refusal) → Performing node value w (refused refusal)
+  performed : {t : Option PlainType} {g : Found} {v : Verdict} →
+      Typing w.env value w.found (gives t g) → judged (fault_of node) (found_so w g) ≡ v → Performing node value w v
+
+-- `return value;`: the value, then the statement, which may stand there or not
+pub data Returning (around : Around) (node : Node) (value : PlainExpr) (w : Walk) : Verdict → Type 0 where
+  value_refused : {refusal : Refusal} → Typing w.env value w.found (answer.refused refusal) → Returning around node value w (refused refusal)
+  returned : {t : Option PlainType} {g : Found} {fit : Bool} {v : Verdict} →
+      Typing w.env value w.found (gives t g) → IsTrue fit ↔ Returned (supers_of w.env) around.has_result (numbered (table_of w.env) w.env.method) t →
+      judged (fault_of (with_fault_if (with_fault_if node kind.Return (is_misplaced around true)) kind.Type (not fit))) (found_so w g) ≡ v →
+      Returning around node value w v
+
+-- an int or a boolean may be printed
+abbrev pub may_print : Option PlainType → Bool
+may_print t = may_be is_int t || may_be is_boolean t
+
+-- `print(value);`
+pub data Printing (node : Node) (value : PlainExpr) (w : Walk) : Verdict → Type 0 where
+  value_refused : {refusal : Refusal} → Typing w.env value w.found (answer.refused refusal) → Printing node value w (refused refusal)
+  printed : {t : Option PlainType} {g : Found} {v : Verdict} →
+      Typing w.env value w.found (gives t g) → judged (fault_of (with_fault_if node kind.Type (not (may_print t)))) (found_so w g) ≡ v →
+      Printing node value w v
+
+-- a region parameter or a local region in scope, or a region of the class or a superclass has the name
+abbrev pub is_region_name : Env → ℕ → Bool
+is_region_name env name = (is_param_name env name || has_region env name) || is_some (region_of (headers_of (table_of env)) env.class name)
+
+-- `region name, ..;`: each name comes into scope behind the one before it
+abbrev pub regions_noted : Env → Node → List Named → Node
+regions_noted env node [] = node
+regions_noted env node (named ∷ names) =
+    regions_noted (with_region env named.name) (cond (is_region_name env named.name) (with_fault node kind.Duplicate named.place) node) names
+
+abbrev pub with_regions : Env → List Named → Env
+with_regions env [] = env
+with_regions env (named ∷ names) = with_regions (with_region env named.name) names
+
+abbrev pub regions_declared : Node → List Named → Walk → Verdict
+regions_declared node names w = judged (fault_of (regions_noted w.env node names)) (record w { env = with_regions w.env names })
