@@ -1,3 +1,4 @@
 mod Assigning
 mod Meeting
 pub mod Noting
+pub mod Passing

@@ -1,11 +1,11 @@
 -- What is in scope around an expression.
-use Rattle.std.specs.Prelude.{ℕ, zero, suc, ◌==◌, Bool, false, ◌&&◌, cond, List, [], ◌∷◌, ◌++◌, length, take, fold, slice_get, is_some, Option, Some, None, option_and_then}
+use Rattle.std.specs.Prelude.{◌≡◌, ℕ, zero, suc, ◌==◌, Bool, false, ◌&&◌, cond, List, [], ◌∷◌, ◌++◌, length, take, fold, slice_get, is_some, Option, Some, None, option_and_then}
 use Rattle.std.specs.Option.{option_map_or}
 use Rattle.dpj_base.specs.declared.effect.Constraint.{Constraint}
 use Rattle.dpj_base.specs.declared.region.Head.TheVariants.{Param}
 use Rattle.dpj_base.specs.declared.region.Rpl.{Rpl}
 use Rattle.dpj_base.specs.declared.ty.Super.{Super}
-use Rattle.dpj_base.specs.Types.{PlainType, plain_type}
+use Rattle.dpj_base.specs.Types.{PlainType, plain_type, Ordered}
 use Rattle.dpj_base.specs.Types.{PlainType as ty}
 use Rattle.dpj_tree.specs.Plain.{PlainExpr, expression, ExprForm, local}
 use Rattle.dpj_headers.specs.Numbers.{as_number}
@@ -17,7 +17,8 @@ use Rattle.dpj_resolve.specs.Scopes.{PlainScope, param_meant}
 use Rattle.dpj_resolve.specs.Scoped.{no_names, names_in, place_in, value_in, values_in, with_name, names_left}
 use Rattle.dpj_classes.specs.declared.rows.MethodRow.{MethodRow}
 use Rattle.dpj_classes.specs.declared.table.Table.{Table}
-use Rattle.dpj_classes.specs.Table.{headers_of, given_of, numbered}
+use Rattle.dpj_classes.specs.Table.{headers_of, given_of, all_given, numbered}
+use Rattle.dpj_classes.specs.Table.{supers_of as superclasses}
 use Rattle.dpj_exprs.specs.declared.env.Env.{Env}
 use Rattle.dpj_exprs.specs.declared.env.LocalRow.{LocalRow}
 use Rattle.dpj_exprs.specs.declared.env.Mark.{Mark}
@@ -138,6 +139,13 @@ left_to env mark = record env {
   variables = names_left env.variables mark.locals;
   regions = names_left env.regions mark.regions;
 }
+
+-- around no class yet: what the table says of all of them, and which name is `length`
+pub record IsFresh (table : Table) (length_name : Option ℕ) (env : Env) : Type 0 where
+  pub table_is : table_of env ≡ table
+  pub supers_are : Ordered (superclasses table) → supers_of env ≡ superclasses table
+  pub given_are : env.classes_given.now ≡ all_given table
+  pub length_is : env.length ≡ length_name
 
 -- nothing is in scope
 abbrev pub bare : Env → Env

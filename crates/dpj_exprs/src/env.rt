@@ -73,10 +73,12 @@ impl Env<'_> {
     ghost use Rattle.dpj_base.specs.Types.{plain_type};
     ghost use Rattle.dpj_resolve.specs.Scopes.{plain_scope};
     ghost use Rattle.dpj_tree.specs.Plain.{plain_expr};
-    ghost use Rattle.dpj_exprs.specs.Env.{table_of, locals_in, local_names, index_numbers, region_names, declared_in, mark_of, index_number, with_local, with_region, left_to, bare, at_class, at_method, is_param_name, local_of, index_variable_of, part_of, is_length_name, given_in, regions_in, has_region, scope_of, this_type_of};
+    ghost use Rattle.dpj_exprs.specs.Env.{table_of, locals_in, local_names, index_numbers, region_names, declared_in, mark_of, index_number, with_local, with_region, left_to, bare, at_class, at_method, is_param_name, local_of, index_variable_of, part_of, is_length_name, given_in, regions_in, has_region, scope_of, this_type_of, IsFresh};
 
     /// What is around the members of class 0, before one is entered.
-    pub fn new<'a>(alloc: Global, table: &'a Table, length: Option<u32>) -> Env<'a> {
+    pub fn new<'a>(alloc: Global, table: &'a Table, length: Option<u32>) -> Env<'a>
+        ensures { IsFresh table.now length result }
+    {
         Env {
             table,
             class: 0,
