@@ -1,5 +1,5 @@
 -- Several expressions, of which the first ones are typed.
-use Rattle.std.proofs.Common.{◌≡◌, ◌∙◌, ℕ, suc, ◌+◌, ◌<◌, List, [], ◌∷◌, ◌++◌, map, length, get_or, drop, drop-cons, add-one, Option, refl, sym, ap, subst, append_assoc, append-nil}
+use Rattle.std.proofs.Common.{◌≡◌, ◌∙◌, ℕ, suc, ◌+◌, ◌<◌, List, [], ◌∷◌, ◌++◌, map, length, get_or, IsTrue, drop, drop-cons, add-one, Option, refl, sym, ap, subst, append_assoc, append-nil}
 use Rattle.dpj_base.specs.declared.refusal.Refusal.{Refusal}
 use Rattle.dpj_base.specs.Types.{PlainType}
 use Rattle.dpj_tree.specs.declared.expr.Expr.{Expr}
@@ -20,6 +20,8 @@ behind types (one_refused refusal) = one_refused refusal
 pub record SoFar (env : Env) (all : List Expr) (f : Found) (i : ℕ) (made : List Typed) (g : Found) : Type 0 where
   pub goes_on : (a : AllAnswer) → TypingAll env (plain_exprs (map plain_expr (drop i all))) g a →
       TypingAll env (plain_exprs (map plain_expr all)) f (behind (map plain_typed made) a)
+  -- what reached an nd construct still does
+  pub keeps_nd : IsTrue f.reaches_nd → IsTrue g.reaches_nd
 
 behind_none : (a : AllAnswer) → behind [] a ≡ a
 behind_none (all_give others f) = refl
@@ -34,7 +36,7 @@ map_more [] x = refl
 map_more (y ∷ made) x = ap (λ rest. plain_typed y ∷ rest) (map_more made x)
 
 pub none_so_far : (env : Env) (all : List Expr) (f : Found) → SoFar env all f 0 [] f
-none_so_far env all f = record { goes_on = λ a d. subst (λ b. TypingAll env (plain_exprs (map plain_expr all)) f b) (sym (behind_none a)) d }
+none_so_far env all f = record { goes_on = λ a d. subst (λ b. TypingAll env (plain_exprs (map plain_expr all)) f b) (sym (behind_none a)) d; keeps_nd = λ n. n }
 
 next_is : (all : List Expr) (i : ℕ) (e : Expr) → i < length all → e ≡ get_or all i e → drop i all ≡ e ∷ drop (i + 1) all
 next_is all i e below is = drop-cons all i e below ∙ ap (λ x. x ∷ drop (suc i) all) (sym is) ∙ ap (λ k. e ∷ drop k all) (sym (add-one i))
@@ -45,8 +47,8 @@ step env e es f g t (all_give others h) d rest = one_more d rest
 step env e es f g t (one_refused refusal) d rest = later_refused d rest
 
 pub one_so_far : (env : Env) (all : List Expr) (f : Found) (i : ℕ) (made : List Typed) (g h : Found) (e : Expr) (x : Typed) (others : List Typed) →
-    SoFar env all f i made g → i < length all → e ≡ get_or all i e → Typing env (plain_expr e) g (gives (plain_typed x) h) → others ≡ made ++ x ∷ [] → SoFar env all f (i + 1) others h
-one_so_far env all f i made g h e x others so_far below is d same = record {
+    SoFar env all f i made g → i < length all → e ≡ get_or all i e → Typing env (plain_expr e) g (gives (plain_typed x) h) → others ≡ made ++ x ∷ [] → (IsTrue g.reaches_nd → IsTrue h.reaches_nd) → SoFar env all f (i + 1) others h
+one_so_far env all f i made g h e x others so_far below is d same kept = record {
   goes_on = λ a rest.
       let here : TypingAll env (plain_exprs (map plain_expr (e ∷ drop (i + 1) all))) g (behind (plain_typed x ∷ []) a) = step env e (drop (i + 1) all) g h (plain_typed x) a d rest in
       let there : TypingAll env (plain_exprs (map plain_expr (drop i all))) g (behind (plain_typed x ∷ []) a) =
@@ -54,6 +56,7 @@ one_so_far env all f i made g h e x others so_far below is d same = record {
       subst (λ b. TypingAll env (plain_exprs (map plain_expr all)) f b)
       (behind_more (map plain_typed made) (plain_typed x) a ∙ ap (λ types. behind types a) (sym (map_more made x) ∙ ap (map plain_typed) (sym same)))
       (so_far.goes_on (behind (plain_typed x ∷ []) a) there);
+  keeps_nd = λ n. kept (so_far.keeps_nd n);
 }
 
 pub one_stopped : (env : Env) (all : List Expr) (f : Found) (i : ℕ) (made : List Typed) (g : Found) (e : Expr) (q : Refusal) →

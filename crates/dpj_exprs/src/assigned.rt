@@ -1,4 +1,4 @@
-ghost use Rattle.std.specs.Prelude.{◌≡◌, ℕ, true, false, slice_index_or, option_map, IfOk, IfErr, OnOk};
+ghost use Rattle.std.specs.Prelude.{◌≡◌, ℕ, true, false, slice_index_or, option_map, IfOk, IfErr, OnOk, IsTrue};
 ghost use Rattle.dpj_base.specs.Refused.{IfRefused};
 ghost use Rattle.dpj_base.specs.Types.{plain_type};
 ghost use Rattle.dpj_tree.specs.Plain.{expression, plain_expr};
@@ -43,6 +43,7 @@ pub fn read_target(
     ensures noted { IfOk result (λ target. slice_index_or types.new e.now.node None ≡ option_map (λ t. t.ty) target) }
     ensures ok { IfOk result (λ target. Targeting env.now (plain_expr e.now) found.old (aims (option_map plain_target target) found.new)) }
     ensures fault { IfErr result (λ stop. IfRefused stop (λ refusal. Targeting env.now (plain_expr e.now) found.old (misses refusal))) }
+    ensures nd { OnOk result (IsTrue found.old.reaches_nd → IsTrue found.new.reaches_nd) }
 {
     let target = target_of(alloc, env, types, found, e)?;
     let ty = match &target {
@@ -63,6 +64,7 @@ fn target_of(
 ) -> Result<Option<Target>, Stop>
     ensures ok { IfOk result (λ target. Targeting env.now (plain_expr e.now) found.old (aims (option_map plain_target target) found.new)) }
     ensures fault { IfErr result (λ stop. IfRefused stop (λ refusal. Targeting env.now (plain_expr e.now) found.old (misses refusal))) }
+    ensures nd { OnOk result (IsTrue found.old.reaches_nd → IsTrue found.new.reaches_nd) }
 {
     match &e.kind {
         ExprKind::Field { of, name } => {
@@ -94,6 +96,7 @@ fn field_target(
 ) -> Result<Option<Target>, Stop>
     ensures ok { IfOk result (λ target. (node : ℕ) → Targeting env.now (expression node place (form.field (plain_expr of.now) name)) found.old (aims (option_map plain_target target) found.new)) }
     ensures fault { IfErr result (λ stop. IfRefused stop (λ refusal. (node : ℕ) → Targeting env.now (expression node place (form.field (plain_expr of.now) name)) found.old (misses refusal))) }
+    ensures nd { OnOk result (IsTrue found.old.reaches_nd → IsTrue found.new.reaches_nd) }
 {
     match part_length(env, of, name) {
         Some(_) => Err(refused(Kind::Type, place)),
@@ -143,6 +146,7 @@ fn element_target(
 ) -> Result<Option<Target>, Stop>
     ensures ok { IfOk result (λ target. (node : ℕ) → Targeting env.now (expression node place (form.element (plain_expr array.now) (plain_expr index.now))) found.old (aims (option_map plain_target target) found.new)) }
     ensures fault { IfErr result (λ stop. IfRefused stop (λ refusal. (node : ℕ) → Targeting env.now (expression node place (form.element (plain_expr array.now) (plain_expr index.now))) found.old (misses refusal))) }
+    ensures nd { OnOk result (IsTrue found.old.reaches_nd → IsTrue found.new.reaches_nd) }
 {
     match env.part(array) {
         Some(row) => {

@@ -1,4 +1,4 @@
-ghost use Rattle.std.specs.Prelude.{◌≡◌, ◌++◌, false, true, None, Some, Ok, Err, map, IfOk, IfErr, OnOk};
+ghost use Rattle.std.specs.Prelude.{◌≡◌, ◌++◌, false, true, None, Some, Ok, Err, map, IfOk, IfErr, OnOk, IsTrue};
 ghost use Rattle.std.specs.List.{list_all};
 ghost use Rattle.dpj_base.specs.Refused.{IfRefused};
 ghost use Rattle.dpj_base.specs.Types.{plain_type, type_with};
@@ -127,6 +127,7 @@ pub fn call(
 ) -> Result<Typed, Stop>
     ensures ok { IfOk result (λ typed. Call env.now (plain_typed of.now) name regions (map plain_typed actuals.now) place found.old (gives (plain_typed typed) found.new)) }
     ensures fault { IfErr result (λ stop. IfRefused stop (λ refusal. Call env.now (plain_typed of.now) name regions (map plain_typed actuals.now) place found.old (refused refusal))) }
+    ensures nd { OnOk result (IsTrue found.old.reaches_nd → IsTrue found.new.reaches_nd) }
 {
     match of {
         Typed::Known(of) => {
@@ -162,6 +163,7 @@ fn call_on(
 ) -> Result<Ty, Stop>
     ensures ok { IfOk result (λ ty. CallOn env.now (plain_type of.now) name regions (map plain_typed actuals.now) place found.old (gives (Some (plain_type ty)) found.new)) }
     ensures fault { IfErr result (λ stop. IfRefused stop (λ refusal. CallOn env.now (plain_type of.now) name regions (map plain_typed actuals.now) place found.old (refused refusal))) }
+    ensures nd { OnOk result (IsTrue found.old.reaches_nd → IsTrue found.new.reaches_nd) }
 {
     let (row, owned) = called_method(alloc, env, of, name, place)?;
     let owned = owned.as_slice();
@@ -207,6 +209,7 @@ fn call_of(
 ) -> Result<Ty, Stop>
     ensures ok { IfOk result (λ ty. CallOf env.now row.now owned.now regions (map plain_typed actuals.now) place found.old (gives (Some (plain_type ty)) found.new)) }
     ensures fault { IfErr result (λ stop. IfRefused stop (λ refusal. CallOf env.now row.now owned.now regions (map plain_typed actuals.now) place found.old (refused refusal))) }
+    ensures nd { OnOk result (IsTrue found.old.reaches_nd → IsTrue found.new.reaches_nd) }
 {
     let mut faults = Faults::by_number();
     match fit_args(alloc, &mut faults, regions, row.regions.as_slice(), place)? {
@@ -242,6 +245,7 @@ fn call_with(
     ensures ty { IfOk result (λ ty. plain_type ty ≡ type_with args.now (plain_type row.now.result)) }
     ensures found { OnOk result (found.new ≡ with_call (table_of env.now) found.old row.now args.now) }
     ensures fault { IfErr result (λ stop. IfRefused stop (λ refusal. UseTold env.now faults args.now (map plain_typed actuals.now) row.now.params partial (all_hold (given_in env.now) args.now row.now.given) place (Some refusal))) }
+    ensures nd { OnOk result (IsTrue found.old.reaches_nd → IsTrue found.new.reaches_nd) }
 {
     check_use(
         alloc,

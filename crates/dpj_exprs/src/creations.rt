@@ -1,4 +1,4 @@
-ghost use Rattle.std.specs.Prelude.{◌≡◌, false, None, Some, Ok, Err, map, IfOk, IfErr, OnOk};
+ghost use Rattle.std.specs.Prelude.{◌≡◌, false, None, Some, Ok, Err, map, IfOk, IfErr, OnOk, IsTrue};
 ghost use Rattle.dpj_base.specs.Refused.{IfRefused};
 ghost use Rattle.dpj_base.specs.Types.{plain_type};
 ghost use Rattle.dpj_base.specs.Types.{PlainType as plain};
@@ -68,6 +68,7 @@ pub fn creation(
 ) -> Result<Ty, Stop>
     ensures ok { IfOk result (λ ty. Creation env.now class regions (map plain_typed actuals.now) place found.old (gives (Some (plain_type ty)) found.new)) }
     ensures fault { IfErr result (λ stop. IfRefused stop (λ refusal. Creation env.now class regions (map plain_typed actuals.now) place found.old (refused refusal))) }
+    ensures nd { OnOk result (IsTrue found.old.reaches_nd → IsTrue found.new.reaches_nd) }
 {
     match env.table.headers().class(class.name) {
         Some(number) => creation_of(alloc, env, found, number, regions, actuals, place),
@@ -87,6 +88,7 @@ fn creation_of(
 ) -> Result<Ty, Stop>
     ensures ok { IfOk result (λ ty. CreationOf env.now class regions (map plain_typed actuals.now) place found.old (gives (Some (plain_type ty)) found.new)) }
     ensures fault { IfErr result (λ stop. IfRefused stop (λ refusal. CreationOf env.now class regions (map plain_typed actuals.now) place found.old (refused refusal))) }
+    ensures nd { OnOk result (IsTrue found.old.reaches_nd → IsTrue found.new.reaches_nd) }
 {
     let mut faults = Faults::by_number();
     match fit_args(alloc, &mut faults, regions, class_params(env, class), place)? {
@@ -113,6 +115,7 @@ fn creation_with(
     ensures ty { IfOk result (λ ty. plain_type ty ≡ plain.class class args) }
     ensures found { OnOk result (found.new ≡ with_constructor (table_of env.now) found.old (constructor_of (table_of env.now) class) args) }
     ensures fault { IfErr result (λ stop. IfRefused stop (λ refusal. UseTold env.now faults args (map plain_typed actuals.now) (formals_of (table_of env.now) class) false (all_hold (given_in env.now) args (given_of (table_of env.now) class)) place (Some refusal))) }
+    ensures nd { OnOk result (IsTrue found.old.reaches_nd → IsTrue found.new.reaches_nd) }
 {
     check_use(
         alloc,
@@ -147,7 +150,8 @@ fn add_constructor(
     class: u32,
     args: &[Rpl],
 ) -> Result<(), NoMemory>
-    ensures { OnOk result (found.new ≡ with_constructor (table_of env.now) found.old (constructor_of (table_of env.now) class) args.now) }
+    ensures whole { OnOk result (found.new ≡ with_constructor (table_of env.now) found.old (constructor_of (table_of env.now) class) args.now) }
+    ensures nd { OnOk result (IsTrue found.old.reaches_nd → IsTrue found.new.reaches_nd) }
 {
     match env.table.constructor(class) {
         Some(row) => found.call(alloc, env.table, row, args),

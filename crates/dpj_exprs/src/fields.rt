@@ -1,4 +1,4 @@
-ghost use Rattle.std.specs.Prelude.{◌≡◌, true, false, not, Ok, Err, option_map, IfOk, IfErr};
+ghost use Rattle.std.specs.Prelude.{◌≡◌, true, false, not, Ok, Err, option_map, IfOk, IfErr, OnOk, IsTrue};
 ghost use Rattle.dpj_arrays.specs.Access.{plain_element};
 ghost use Rattle.dpj_base.specs.Refused.{IfRefused};
 ghost use Rattle.dpj_base.specs.Types.{plain_type};
@@ -75,6 +75,7 @@ pub fn read_field(
 ) -> Result<Typed, Stop>
     ensures ok { IfOk result (λ typed. read_field env.now (plain_typed of.now) name place found.old ≡ gives (plain_typed typed) found.new) }
     ensures fault { IfErr result (λ stop. IfRefused stop (λ refusal. read_field env.now (plain_typed of.now) name place found.old ≡ refused refusal)) }
+    ensures nd { OnOk result (IsTrue found.old.reaches_nd → IsTrue found.new.reaches_nd) }
 {
     let Typed::Known(of) = of else {
         return Ok(Typed::Any);
@@ -146,6 +147,7 @@ pub fn read_element(
 ) -> Result<Typed, Stop>
     ensures ok { IfOk result (λ typed. read_element env.now (plain_typed array.now) (plain_expr index.now) (plain_typed index_ty.now) place found.old ≡ gives (plain_typed typed) found.new) }
     ensures fault { IfErr result (λ stop. IfRefused stop (λ refusal. read_element env.now (plain_typed array.now) (plain_expr index.now) (plain_typed index_ty.now) place found.old ≡ refused refusal)) }
+    ensures nd { OnOk result (IsTrue found.old.reaches_nd → IsTrue found.new.reaches_nd) }
 {
     let Some(element) = element_at(alloc, env, array, index, index_ty, place)? else {
         return Ok(Typed::Any);
@@ -206,6 +208,7 @@ pub fn read_part(
 ) -> Result<Typed, Stop>
     ensures ok { IfOk result (λ typed. read_part row.now (plain_typed index_ty.now) place found.old ≡ gives (plain_typed typed) found.new) }
     ensures fault { IfErr result (λ stop. IfRefused stop (λ refusal. read_part row.now (plain_typed index_ty.now) place found.old ≡ refused refusal)) }
+    ensures nd { OnOk result (IsTrue found.old.reaches_nd → IsTrue found.new.reaches_nd) }
 {
     let Some(element) = part_element(alloc, row, index_ty, place)? else {
         return Ok(Typed::Any);

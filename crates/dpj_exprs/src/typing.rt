@@ -1,4 +1,4 @@
-ghost use Rattle.std.specs.Prelude.{◌≡◌, true, false, is_some, None, Some, Ok, Err, map, slice_index_or, IfOk, IfErr};
+ghost use Rattle.std.specs.Prelude.{◌≡◌, true, false, is_some, None, Some, Ok, Err, map, slice_index_or, IfOk, IfErr, OnOk, IsTrue};
 ghost use Rattle.std.specs.Option.{option_copied};
 ghost use Rattle.dpj_base.specs.Refused.{IfRefused};
 ghost use Rattle.dpj_base.specs.Types.{plain_type};
@@ -38,6 +38,7 @@ pub fn expr(
     ensures noted { IfOk result (λ typed. slice_index_or types.new e.now.node None ≡ known typed) }
     ensures ok { IfOk result (λ typed. Typing env.now (plain_expr e.now) found.old (gives (plain_typed typed) found.new)) }
     ensures fault { IfErr result (λ stop. IfRefused stop (λ refusal. Typing env.now (plain_expr e.now) found.old (refused refusal))) }
+    ensures nd { OnOk result (IsTrue found.old.reaches_nd → IsTrue found.new.reaches_nd) }
 {
     let typed = access(alloc, env, types, found, e)?;
     types.note(alloc, e.node, typed.known())?;
@@ -55,6 +56,7 @@ fn access(
 ) -> Result<Typed, Stop>
     ensures ok { IfOk result (λ typed. Typing env.now (plain_expr e.now) found.old (gives (plain_typed typed) found.new)) }
     ensures fault { IfErr result (λ stop. IfRefused stop (λ refusal. Typing env.now (plain_expr e.now) found.old (refused refusal))) }
+    ensures nd { OnOk result (IsTrue found.old.reaches_nd → IsTrue found.new.reaches_nd) }
 {
     match &e.kind {
         ExprKind::Field { of, name } => match part_length(env, of.get(), *name) {
@@ -95,6 +97,7 @@ fn operation(
     requires { is_access (form_of (plain_expr e.now)) ≡ false }
     ensures ok { IfOk result (λ typed. Typing env.now (plain_expr e.now) found.old (gives (plain_typed typed) found.new)) }
     ensures fault { IfErr result (λ stop. IfRefused stop (λ refusal. Typing env.now (plain_expr e.now) found.old (refused refusal))) }
+    ensures nd { OnOk result (IsTrue found.old.reaches_nd → IsTrue found.new.reaches_nd) }
 {
     match &e.kind {
         ExprKind::Unary { op, arg } => {
@@ -141,6 +144,7 @@ fn invocation(
     requires operation { is_operation (form_of (plain_expr e.now)) ≡ false }
     ensures ok { IfOk result (λ typed. Typing env.now (plain_expr e.now) found.old (gives (plain_typed typed) found.new)) }
     ensures fault { IfErr result (λ stop. IfRefused stop (λ refusal. Typing env.now (plain_expr e.now) found.old (refused refusal))) }
+    ensures nd { OnOk result (IsTrue found.old.reaches_nd → IsTrue found.new.reaches_nd) }
 {
     match &e.kind {
         ExprKind::Call {
@@ -181,6 +185,7 @@ fn exprs(
 ) -> Result<Items<Typed>, Stop>
     ensures ok { IfOk result (λ made. TypingAll env.now (plain_exprs (map plain_expr all.now)) found.old (all_give (map plain_typed made) found.new)) }
     ensures fault { IfErr result (λ stop. IfRefused stop (λ refusal. TypingAll env.now (plain_exprs (map plain_expr all.now)) found.old (one_refused refusal))) }
+    ensures nd { OnOk result (IsTrue found.old.reaches_nd → IsTrue found.new.reaches_nd) }
 {
     let mut made = Items::new(alloc);
     for e in all {

@@ -89,7 +89,7 @@ exprs-returns-in_err-expr-clause-fault t c =
 
 pub exprs-loop-e-preserved : goal.exprs-loop-e-preserved
 exprs-loop-e-preserved t c =
-    one_so_far c.args.env.now c.args.all.now c.args.found.now c.loop-e.e-index c.loop-e.made c.loop-e.found c.expr.new.found c.e-item.result c.in_ok-expr.field-0 c.push.new.self c.loop-e.invariant c.loop-e-test.true c.e-item.is c.in_ok-expr.ensures.ok c.in_ok-push.ensures.ok
+    one_so_far c.args.env.now c.args.all.now c.args.found.now c.loop-e.e-index c.loop-e.made c.loop-e.found c.expr.new.found c.e-item.result c.in_ok-expr.field-0 c.push.new.self c.loop-e.invariant c.loop-e-test.true c.e-item.is c.in_ok-expr.ensures.ok c.in_ok-push.ensures.ok c.in_ok-expr.ensures.nd
 
 pub exprs-returns-clause-ok : goal.exprs-returns-clause-ok
 exprs-returns-clause-ok t c =
