@@ -4,3 +4,4 @@ pub mod First
 pub mod Named
 pub mod Noting
 pub mod Passed
+pub mod Ways

@@ -6,3 +6,4 @@ pub mod Members
 pub mod Numbers
 pub mod Passes
 pub mod Rounds
+pub mod Way
