@@ -3,5 +3,6 @@ pub mod Cycles
 pub mod First
 pub mod Named
 pub mod Noting
+pub mod Order
 pub mod Passed
 pub mod Ways
