@@ -1,8 +1,11 @@
 pub mod Chains
 pub mod Cycles
 pub mod First
+pub mod Inside
+pub mod Marks
 pub mod Named
 pub mod Noting
 pub mod Order
 pub mod Passed
+pub mod Same
 pub mod Ways

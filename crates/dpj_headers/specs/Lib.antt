@@ -6,4 +6,5 @@ pub mod Members
 pub mod Numbers
 pub mod Passes
 pub mod Rounds
+pub mod Second
 pub mod Way
