@@ -9,3 +9,5 @@ pub mod Order
 pub mod Passed
 pub mod Same
 pub mod Ways
+pub mod Among
+pub mod Trees
