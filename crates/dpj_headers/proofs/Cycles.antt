@@ -41,7 +41,7 @@ entry_within [] at top h = cc
 entry_within (parent ∷ parents) zero top h = omega arith
 entry_within (parent ∷ parents) (suc at) top h = let b = entry_within parents at top h in omega arith
 
-up_within : (parents : List (Option ℕ)) (n at top : ℕ) → up parents (suc n) at ≡ Some top → at < length parents
+pub up_within : (parents : List (Option ℕ)) (n at top : ℕ) → up parents (suc n) at ≡ Some top → at < length parents
 up_within parents n at top h =
     let e : suc n ≡ n + 1 = omega arith in
     let f = up-first parents n 1 at top (ap (λ k. up parents k at) (sym e) ∙ h) in

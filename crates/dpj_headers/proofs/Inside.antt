@@ -49,7 +49,7 @@ method_declared : (seen : Around) (method : Method) → IsNoOwner seen.params 1 
 method_declared seen method params formals = by (is_constructor_result method.result)
   where
     by : (b : Bool) → (let named : Around = cond b (record seen { constructors = all_entered seen.constructors 0 (method_name method ∷ []) }) (record seen { methods = all_entered seen.methods 0 (method_name method ∷ []) }) in
-      record named { params = passed named.params (param_names method.params.list); formals = passed named.formals (formal_names method.formals) }) ≡ one_declared seen method b
+        record named { params = passed named.params (param_names method.params.list); formals = passed named.formals (formal_names method.formals) }) ≡ one_declared seen method b
     by true =
         ap (λ p. record seen { constructors = all_entered seen.constructors 0 (method_name method ∷ []); params = p; formals = passed seen.formals (formal_names method.formals) }) (same_passed seen.params (param_names method.params.list) params)
         ∙ ap (λ f. record seen { constructors = all_entered seen.constructors 0 (method_name method ∷ []); formals = f }) (same_passed seen.formals (formal_names method.formals) formals)
@@ -69,9 +69,9 @@ members_declared seen number (member.Method method ∷ members) params formals =
     ap (λ s. members_entered s number members) (method_declared seen method params formals)
     ∙ members_declared (one_declared seen method b) number members params formals
     ∙ ap (λ m. record (all_declared seen number members) { methods = m; constructors = all_entered (all_entered seen.constructors 0 (cond b (method_name method ∷ []) [])) 0 (constructor_names (meths members)) })
-        (sym (entered_append seen.methods 0 (cond b [] (method_name method ∷ [])) (method_names (meths members))))
+    (sym (entered_append seen.methods 0 (cond b [] (method_name method ∷ [])) (method_names (meths members))))
     ∙ ap (λ c. record (all_declared seen number members) { methods = all_entered seen.methods 0 (method_names (method ∷ meths members)); constructors = c })
-        (sym (entered_append seen.constructors 0 (cond b (method_name method ∷ []) []) (constructor_names (meths members))))
+    (sym (entered_append seen.constructors 0 (cond b (method_name method ∷ []) []) (constructor_names (meths members))))
 
 -- all methods are declared no more
 abbrev called : List Method → List Named
@@ -188,8 +188,8 @@ method_kinds seen class number method members true =
     let x = second_at seen method true in
     let w = in_method seen class method in
     same_then _ _ _ (same_behind x _ _ (same_moved_four w a f m made rest))
-        (same_then _ _ _ (same_moved_three x a f m (made ++ (w ++ rest)))
-            (same_list _ _ (ap (λ z. a ++ (f ++ (m ++ z))) (sym (append_assoc x made (w ++ rest))))))
+    (same_then _ _ _ (same_moved_three x a f m (made ++ (w ++ rest)))
+    (same_list _ _ (ap (λ z. a ++ (f ++ (m ++ z))) (sym (append_assoc x made (w ++ rest))))))
 method_kinds seen class number method members false =
     let a = second_names seen.regions number (regs members) in
     let f = second_names seen.fields number (flds members) in
@@ -199,8 +199,8 @@ method_kinds seen class number method members false =
     let x = second_at seen method false in
     let w = in_method seen class method in
     same_then _ _ _ (same_behind x _ _ (same_moved_four w a f m made rest))
-        (same_then _ _ _ (same_moved_two x a f (m ++ (made ++ (w ++ rest))))
-            (same_list _ _ (ap (λ z. a ++ (f ++ z)) (sym (append_assoc x m (made ++ (w ++ rest)))))))
+    (same_then _ _ _ (same_moved_two x a f (m ++ (made ++ (w ++ rest))))
+    (same_list _ _ (ap (λ z. a ++ (f ++ z)) (sym (append_assoc x m (made ++ (w ++ rest)))))))
 
 pub members_by_kind : (seen : Around) (class : Class) (number : ℕ) (members : List Member) → IsNoOwner seen.params 1 → IsNoOwner seen.formals 1 → Same (members_faults seen class number members) (by_kind seen class number members)
 members_by_kind seen class number [] params formals = same_list _ _ refl
@@ -210,7 +210,7 @@ members_by_kind seen class number (member.Regions is_atomic names ∷ members) p
     let more = second_names next.regions number (regs members) in
     let rest = second_names seen.fields number (flds members) ++ (second_names seen.methods 0 (method_names (meths members)) ++ (second_names seen.constructors 0 (constructor_names (meths members)) ++ flat_map (in_method seen class) (meths members))) in
     same_then _ _ _ (same_behind here _ _ (members_by_kind next class number members params formals))
-        (same_list _ _ (sym (append_assoc here more rest) ∙ ap (λ z. z ++ rest) (sym (second_append seen.regions number names (regs members)))))
+    (same_list _ _ (sym (append_assoc here more rest) ∙ ap (λ z. z ++ rest) (sym (second_append seen.regions number names (regs members)))))
 members_by_kind seen class number (member.Field field ∷ members) params formals =
     let here = fault_if (not (is_free seen.fields field.name)) kind.Duplicate field.place in
     let next = record seen { fields = all_entered seen.fields number (field_name field ∷ []) } in
@@ -218,7 +218,7 @@ members_by_kind seen class number (member.Field field ∷ members) params formal
     let more = second_names next.fields number (flds members) in
     let rest = second_names seen.methods 0 (method_names (meths members)) ++ (second_names seen.constructors 0 (constructor_names (meths members)) ++ flat_map (in_method seen class) (meths members)) in
     same_then _ _ _ (same_behind here _ _ (members_by_kind next class number members params formals))
-        (same_then _ _ _ (same_moved here regions (more ++ rest)) (same_list _ _ (ap (λ z. regions ++ z) (sym (append_assoc here more rest)))))
+    (same_then _ _ _ (same_moved here regions (more ++ rest)) (same_list _ _ (ap (λ z. regions ++ z) (sym (append_assoc here more rest)))))
 members_by_kind seen class number (member.Method method ∷ members) params formals =
     let b = is_constructor_result method.result in
     let wrong = misnamed class method in
@@ -226,9 +226,9 @@ members_by_kind seen class number (member.Method method ∷ members) params form
     let inner = second_names seen.params 1 (param_names method.params.list) ++ second_names seen.formals 1 (formal_names method.formals) in
     let next = one_declared seen method b in
     same_then _ _ _
-        (same_append _ _ _ _ (same_moved wrong x inner)
-            (same_then _ _ _ (same_list _ _ (ap (λ s. members_faults s class number members) (method_declared seen method params formals))) (members_by_kind next class number members params formals)))
-        (same_then _ _ _ (same_list _ _ (append_assoc x (wrong ++ inner) (by_kind next class number members))) (method_kinds seen class number method members b))
+    (same_append _ _ _ _ (same_moved wrong x inner)
+    (same_then _ _ _ (same_list _ _ (ap (λ s. members_faults s class number members) (method_declared seen method params formals))) (members_by_kind next class number members params formals)))
+    (same_then _ _ _ (same_list _ _ (append_assoc x (wrong ++ inner) (by_kind next class number members))) (method_kinds seen class number method members b))
 
 -- the names in the methods are below a count
 abbrev pub InnerBelow : ℕ → List Method → Type 0
@@ -255,9 +255,9 @@ same_inner : (count : ℕ) (seen : Around) (class : Class) (methods : List Metho
 same_inner count seen class [] params formals below = refl
 same_inner count seen class (method ∷ methods) params formals below =
     ap (λ p. (misnamed class method ++ (p ++ second_names seen.formals 1 (formal_names method.formals))) ++ flat_map (in_method seen class) methods)
-        (second_same count seen.params (names_of (own_params class)) 1 (param_names method.params.list) params below.0)
+    (second_same count seen.params (names_of (own_params class)) 1 (param_names method.params.list) params below.0)
     ∙ ap (λ f. (misnamed class method ++ (second_of (names_of (own_params class)) (param_names method.params.list) ++ f)) ++ flat_map (in_method seen class) methods)
-        (second_same count seen.formals [] 1 (formal_names method.formals) formals below.1)
+    (second_same count seen.formals [] 1 (formal_names method.formals) formals below.1)
     ∙ ap (λ rest. wrong_in_method class method ++ rest) (same_inner count seen class methods params formals below.2)
 
 -- where the marks say what the class inherits, it says a second time what is wrong in it
@@ -278,6 +278,6 @@ class_second count seen number class regions fields clean says_regions says_fiel
     let i : flat_map (in_method inner class) (own_methods class) ≡ flat_map (wrong_in_method class) (own_methods class) =
     same_inner count inner class (own_methods class) inner_params (says_none count seen.formals clean.formals) below.inner in
     same_then _ _ _
-        (same_behind (second_names seen.params 0 (own_params class)) _ _
-            (members_by_kind inner class number members (params_owner count seen.params (own_params class) clean.params) (no_owner count seen.formals 1 clean.formals)))
-        (same_list _ _ (cc (p, r, f, m, c, i)))
+    (same_behind (second_names seen.params 0 (own_params class)) _ _
+    (members_by_kind inner class number members (params_owner count seen.params (own_params class) clean.params) (no_owner count seen.formals 1 clean.formals)))
+    (same_list _ _ (cc (p, r, f, m, c, i)))

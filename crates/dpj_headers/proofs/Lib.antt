@@ -11,3 +11,5 @@ pub mod Same
 pub mod Ways
 pub mod Among
 pub mod Trees
+pub mod Walks
+pub mod Second

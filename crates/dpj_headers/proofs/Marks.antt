@@ -157,7 +157,7 @@ mark_all_left owners owner (named ∷ names) x =
   where
     by : (b : Bool) → (get_or owners x 0 == mark_of owner) ≡ b → (e k : Bool) →
         cond ((cond (b && e) 0 (get_or owners x 0) == mark_of owner) && k) 0 (cond (b && e) 0 (get_or owners x 0)) ≡ cond (b && (e || k)) 0 (get_or owners x 0)
-    by true is true k = ap (λ t. cond (t && k) 0 0) (none_marked owner) 
+    by true is true k = ap (λ t. cond (t && k) 0 0) (none_marked owner)
     by true is false k = ap (λ t. cond (t && k) 0 (get_or owners x 0)) is
     by false is e k = ap (λ t. cond (t && k) 0 (get_or owners x 0)) is
 
@@ -185,8 +185,8 @@ IsNoOwner owners owner = (x : ℕ) → is_owned owners x owner ≡ false
 pub entered_and_left : (owners : List ℕ) (owner : ℕ) (names more : List Named) → IsNoOwner owners owner → ((x : ℕ) → is_known (names_of names) x ≡ true → is_known (names_of more) x ≡ true) → all_left (all_entered owners owner names) owner more ≡ owners
 entered_and_left owners owner names more none within =
     ext_get_or 0 (all_left (all_entered owners owner names) owner more) owners
-        (length_left (all_entered owners owner names) owner more ∙ length_entered owners owner names)
-        (λ x below. at x)
+    (length_left (all_entered owners owner names) owner more ∙ length_entered owners owner names)
+    (λ x below. at x)
   where
     is_zero : (x : ℕ) → is_free owners x ≡ true → 0 ≡ get_or owners x 0
     is_zero x free = sym (free_within owners x free).1
@@ -257,9 +257,9 @@ pub second_same : (count : ℕ) (owners known : List ℕ) (owner : ℕ) (names :
 second_same count owners known owner [] says below = refl
 second_same count owners known owner (named ∷ names) says below =
     ap (λ t. fault_if t kind.Duplicate named.place ++ second_names (entered owners named.name owner) owner names)
-        (ap not (says named.name below.0) ∙ not_not (is_known known named.name))
+    (ap not (says named.name below.0) ∙ not_not (is_known known named.name))
     ∙ ap (λ more. fault_if (is_known known named.name) kind.Duplicate named.place ++ more)
-        (second_same count (entered owners named.name owner) (named.name ∷ known) owner names (says_entered count owners known owner named.name says) below.1)
+    (second_same count (entered owners named.name owner) (named.name ∷ known) owner names (says_entered count owners known owner named.name says) below.1)
 
 -- one list of names behind another
 pub entered_append : (owners : List ℕ) (owner : ℕ) (xs ys : List Named) → all_entered owners owner (xs ++ ys) ≡ all_entered (all_entered owners owner xs) owner ys

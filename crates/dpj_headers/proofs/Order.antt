@@ -57,18 +57,18 @@ decided order.Place a b =
     let c = Decides-ltb a.place.col b.place.col in
     let n = Decides-ltb (kind_number a.kind) (kind_number b.kind) in
     Decides-like _
-        (λ h. elim h [
-          | inl is ↦ elim is [ inl line ↦ inl line | inr col ↦ inr (col.0, inl col.1) ]
-          | inr num ↦ inr (num.0.0, inr (num.0.1, num.1))
-        ])
-        (λ h. elim h [
-          | inl line ↦ inl (inl line)
-          | inr more ↦ elim more.1 [ inl col ↦ inl (inr (more.0, col)) | inr num ↦ inr ((more.0, num.0), num.1) ]
-        ])
-        (Decides-or _ _ (Decides-or _ _ l (Decides-lex _ _ _ c)) (Decides-and _ _ (Decides-and _ _ (Decides-eqb a.place.line b.place.line) (Decides-eqb a.place.col b.place.col)) n))
+    (λ h. elim h [
+      | inl is ↦ elim is [ inl line ↦ inl line | inr col ↦ inr (col.0, inl col.1) ]
+      | inr num ↦ inr (num.0.0, inr (num.0.1, num.1))
+    ])
+    (λ h. elim h [
+      | inl line ↦ inl (inl line)
+      | inr more ↦ elim more.1 [ inl col ↦ inl (inr (more.0, col)) | inr num ↦ inr ((more.0, num.0), num.1) ]
+    ])
+    (Decides-or _ _ (Decides-or _ _ l (Decides-lex _ _ _ c)) (Decides-and _ _ (Decides-and _ _ (Decides-eqb a.place.line b.place.line) (Decides-eqb a.place.col b.place.col)) n))
 decided order.Number a b =
     Decides-or _ _ (Decides-ltb (kind_number a.kind) (kind_number b.kind))
-        (Decides-lex _ _ _ (Decides-or _ _ (Decides-ltb a.place.line b.place.line) (Decides-lex _ _ _ (Decides-ltb a.place.col b.place.col))))
+    (Decides-lex _ _ _ (Decides-or _ _ (Decides-ltb a.place.line b.place.line) (Decides-lex _ _ _ (Decides-ltb a.place.col b.place.col))))
 
 before_trans : (by : Order) (a b c : Refusal) → Before by a b → Before by b c → Before by a c
 before_trans order.Place a b c h k =

@@ -1,12 +1,13 @@
 -- The classes as a forest: what stands under a class, and where a walk ends.
-use Rattle.std.proofs.Common.{◌≡◌, ◌≢◌, ℕ, zero, suc, ◌+◌, ◌<◌, ◌≤◌, List, [], ◌∷◌, ◌++◌, length, get_or, set, replicate, length-set, get_or-set_same, get_or-set_other, ◌⊎◌, inl, inr, Option, Some, None, refl, sym, ap, subst, ◌∙◌, arith}
+use Rattle.std.proofs.Common.{◌≡◌, ◌≢◌, ℕ, zero, suc, ◌+◌, ◌<◌, ◌≤◌, List, [], ◌∷◌, ◌++◌, length, drop, get_or, set, replicate, length-set, get_or-set_same, get_or-set_other, ◌⊎◌, inl, inr, Option, Some, None, refl, sym, ap, subst, ◌∙◌, arith}
 use Rattle.std.proofs.lemmas.Bool.{cases_eq, cases_lt}
-use Rattle.std.proofs.lemmas.List.{set_past, length-replicate}
+use Rattle.std.proofs.lemmas.List.{set_past, drop_all, length-replicate}
 use Rattle.std.proofs.lemmas.Option.{none-some}
 use Rattle.std.specs.Option.{option_and_then}
+use Rattle.dpj_headers.specs.declared.forest.Step.{Step}
 use Rattle.dpj_headers.specs.Numbers.{as_number}
 use Rattle.dpj_headers.specs.Rounds.{entry_of, up, IsRound}
-use Rattle.dpj_headers.specs.Way.{with_filed, filed, extensions, extending, roots, walks, way_of, Each, IsEnded, deep}
+use Rattle.dpj_headers.specs.Way.{IsCounted, with_filed, filed, extensions, extending, roots, walks, way_of, Each, IsEnded, deep}
 use Rattle.dpj_headers.proofs.Among.{among_left, among_right, among_either, each_among}
 use Rattle.dpj_headers.proofs.Cycles.{up-first, entry_within, far_round}
 use Rattle.dpj_headers.proofs.Order.{Among}
@@ -87,10 +88,6 @@ child_into lists at (Some above ∷ parents) class (suc j) l h =
     let longer : class < length next = omega (arith, length-set lists above (extending lists above ++ as_number at ∷ [])) in
     subst (λ k. Among k (extending (filed next (at + 1) parents) class)) (shifted at j) (child_into next (at + 1) parents class j longer h)
 
--- there are fewer classes than numbers
-abbrev pub IsCounted : List (Option ℕ) → Type 0
-IsCounted parents = length parents < 4294967295
-
 numbered : (n j : ℕ) → j < n → n < 4294967295 → as_number (0 + j) ≡ j
 numbered n j l b = omega arith
 
@@ -140,7 +137,7 @@ ended_where : (parents : List (Option ℕ)) (n class : ℕ) → IsCounted parent
 ended_where parents zero class counted none = none class refl
 ended_where parents (suc n) class counted none =
     each_among (λ below. IsEnded (extensions parents) n below) (extending (extensions parents) class)
-        (λ below h. ended_where parents n below counted (λ one e. none one (ap (option_and_then (entry_of parents)) e ∙ child_up parents class below counted h)))
+    (λ below h. ended_where parents n below counted (λ one e. none one (ap (option_and_then (entry_of parents)) e ∙ child_up parents class below counted h)))
 
 root_no_round : (parents : List (Option ℕ)) (root : ℕ) → entry_of parents root ≡ None → IsRound parents root → ⊥
 root_no_round parents root none h =
@@ -151,4 +148,13 @@ root_no_round parents root none h =
 pub roots_end : (parents : List (Option ℕ)) → IsCounted parents → Each (IsEnded (extensions parents) (deep parents)) (roots 0 parents)
 roots_end parents counted =
     each_among (IsEnded (extensions parents) (deep parents)) (roots 0 parents)
-        (λ root h. ended_where parents (deep parents) root counted (λ one e. root_no_round parents root (root_is parents root counted h).1 (far_round parents root (deep parents) one (omega arith) e)))
+    (λ root h. ended_where parents (deep parents) root counted (λ one e. root_no_round parents root (root_is parents root counted h).1 (far_round parents root (deep parents) one (omega arith) e)))
+
+-- at the end the whole way is taken
+pub whole_way : (parents : List (Option ℕ)) (i : ℕ) (steps : List Step) → length parents ≤ i → steps ++ walks (extensions parents) (deep parents) (roots i (drop i parents)) ≡ way_of parents → steps ≡ way_of parents
+whole_way parents i steps past h =
+    sym (append_nil steps) ∙ ap (λ left. steps ++ walks (extensions parents) (deep parents) (roots i left)) (sym (drop_all i parents past)) ∙ h
+  where
+    append_nil : (xs : List Step) → xs ++ [] ≡ xs
+    append_nil [] = refl
+    append_nil (x ∷ xs) = ap (λ z. x ∷ z) (append_nil xs)

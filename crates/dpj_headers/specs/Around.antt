@@ -1,6 +1,6 @@
 -- What is declared around a member, each kind of name by itself, and what the classes' members and parameters do to
 -- it and say of it a second time, on a way from class to class.
-use Rattle.std.specs.Prelude.{ℕ, Bool, not, cond, List, [], ◌∷◌, ◌++◌, replicate, slice_get}
+use Rattle.std.specs.Prelude.{ℕ, Bool, not, cond, List, [], ◌∷◌, ◌++◌, replicate, slice_get, Option}
 use Rattle.std.specs.Option.{option_map_or}
 use Rattle.dpj_base.specs.declared.refusal.Kind.TheVariants as kind
 use Rattle.dpj_base.specs.declared.refusal.Refusal.{Refusal}
@@ -11,7 +11,9 @@ use Rattle.dpj_tree.specs.declared.class.Method.{Method}
 use Rattle.dpj_tree.specs.declared.region.Named.{Named}
 use Rattle.dpj_headers.specs.declared.forest.Step.{Step}
 use Rattle.dpj_headers.specs.declared.forest.Step.TheVariants as step
+use Rattle.dpj_headers.specs.declared.faults.Order.TheVariants as order
 use Rattle.dpj_headers.specs.declared.members.Visible.{Visible}
+use Rattle.dpj_headers.specs.Faults.{all_noted, told, none_by}
 use Rattle.dpj_headers.specs.Members.{marks, is_free, entered, left, all_entered, all_left, second_names, param_names, formal_names, misnamed}
 use Rattle.dpj_headers.specs.Passes.{fault_if, is_constructor_result}
 
@@ -141,3 +143,7 @@ step_faults classes seen (step.Leave number) = []
 abbrev pub way_faults : List Class → Around → List Step → List Refusal
 way_faults classes seen [] = []
 way_faults classes seen (s ∷ more) = step_faults classes seen s ++ way_faults classes (after_step classes seen s) more
+
+-- the fault that is told of these, if there is one
+abbrev pub told_on_way : ℕ → List Class → List Step → Option Refusal
+told_on_way names classes steps = told (all_noted (none_by order.Place) (way_faults classes (none_around names) steps))

@@ -1,7 +1,7 @@
 -- What is wrong in the members of a program's classes: the second pass. A second name of one kind where the first one
 -- is visible, and a constructor that isn't named as its class. What a class inherits are the region names and the
 -- fields of its superclasses; of two of one name, one inherited, the subclass's is the second.
-use Rattle.std.specs.Prelude.{ℕ, ◌≡◌, ◌==◌, nat_lt, Bool, true, cond, List, [], ◌∷◌, ◌++◌, map, length, slice_get, Option}
+use Rattle.std.specs.Prelude.{ℕ, ◌≡◌, ◌==◌, nat_lt, Bool, true, cond, List, [], ◌∷◌, ◌++◌, map, length, slice_get, Option, None, Some, ◌⊎◌}
 use Rattle.std.specs.List.{list_any, list_all, flat_map, range_with_len}
 use Rattle.std.specs.Option.{option_map_or}
 use Rattle.dpj_base.specs.declared.refusal.Kind.TheVariants as kind
@@ -12,10 +12,14 @@ use Rattle.dpj_tree.specs.declared.class.Member.{Member}
 use Rattle.dpj_tree.specs.declared.class.Member.TheVariants as member
 use Rattle.dpj_tree.specs.declared.class.Method.{Method}
 use Rattle.dpj_tree.specs.declared.region.Named.{Named}
+use Rattle.dpj_headers.specs.declared.faults.Order.TheVariants as order
+use Rattle.dpj_headers.specs.Faults.{all_noted, told, none_by}
+use Rattle.dpj_headers.specs.First.{parents_in, IsToldFirst}
 use Rattle.dpj_headers.specs.Headers.{chain}
 use Rattle.dpj_headers.specs.Members.{param_names, formal_names, misnamed}
 use Rattle.dpj_headers.specs.Passes.{fault_if, is_constructor_result}
 use Rattle.dpj_headers.specs.Rounds.{entry_of}
+use Rattle.dpj_headers.specs.Way.{IsCounted}
 
 -- what a member declares of each kind, its names where they stand
 abbrev pub regions_in : Member → List Named
@@ -111,3 +115,16 @@ declared_in class = own_params class ++ (own_regions class ++ (own_fields class 
 
 abbrev pub AreNamed : ℕ → List Class → Type 0
 AreNamed count classes = list_all (λ class. are_below count (declared_in class)) classes ≡ true
+
+-- there are fewer classes than numbers, and every name that they declare is one of so many
+abbrev pub AreCounted : ℕ → List Class → Type 0
+AreCounted count classes = IsCounted classes × AreNamed count classes
+
+-- the fault that is told of what is wrong in the members, if there is one: that with the least place
+abbrev pub told_second : List Class → Option Refusal
+told_second classes = told (all_noted (none_by order.Place) (second_faults classes (parents_in classes)))
+
+-- a refusal is that of the first pass, or where there is none that of the second
+abbrev pub IsToldOf : ℕ → List Class → Refusal → Type 0
+IsToldOf count classes fault =
+    IsToldFirst classes (Some fault) ⊎ (IsToldFirst classes None × (AreCounted count classes → told_second classes ≡ Some fault))

@@ -1,5 +1,5 @@
 -- The way through all classes: a class is entered behind its superclass, and left behind all that extends it.
-use Rattle.std.specs.Prelude.{ℕ, zero, suc, ◌+◌, List, [], ◌∷◌, ◌++◌, map, length, replicate, slice_set, slice_index_or, Option, None, Some}
+use Rattle.std.specs.Prelude.{ℕ, zero, suc, ◌+◌, ◌<◌, List, [], ◌∷◌, ◌++◌, map, length, replicate, slice_set, slice_index_or, Option, None, Some}
 use Rattle.dpj_headers.specs.declared.forest.Step.{Step}
 use Rattle.dpj_headers.specs.declared.forest.Step.TheVariants as step
 use Rattle.dpj_headers.specs.Numbers.{as_number}
@@ -54,6 +54,10 @@ IsEnded lists (suc n) class = Each (λ below. IsEnded lists n below) (extending 
 -- no way goes deeper
 abbrev pub deep : List (Option ℕ) → ℕ
 deep parents = suc (suc (length parents))
+
+-- there are fewer of them than numbers
+abbrev pub IsCounted : {A : Type 0} → List A → Type 0
+IsCounted list = length list < 4294967295
 
 abbrev pub way_of : List (Option ℕ) → List Step
 way_of parents = walks (extensions parents) (deep parents) (roots 0 parents)

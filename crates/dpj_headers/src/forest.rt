@@ -1,5 +1,5 @@
 ghost use Rattle.std.specs.Prelude.{◌≡◌, ℕ, ◌++◌, [], length, replicate, IfOk, OnOk};
-ghost use Rattle.dpj_headers.specs.Way.{with_filed, extensions, roots, walk, walks, Each, IsEnded, entered_below, behind};
+ghost use Rattle.dpj_headers.specs.Way.{with_filed, extensions, walk, IsEnded, IsCounted, entered_below, behind, way_of};
 
 use crate::numbers::number_at;
 use dpj_base::{Items, NoMemory};
@@ -50,7 +50,7 @@ fn file(lists: &mut [Items<u32>], above: u32, number: u32) -> Result<(), NoMemor
 
 /// The way through all classes, each entered behind its superclass and left behind all that extends it.
 pub fn way(alloc: Global, parents: &[Option<u32>]) -> Result<Items<Step>, NoMemory>
-    ensures { IfOk result (λ steps. (n : ℕ) → Each (IsEnded (extensions parents.now) n) (roots 0 parents.now) → steps ≡ walks (extensions parents.now) n (roots 0 parents.now)) }
+    ensures { IfOk result (λ steps. IsCounted parents.now → steps ≡ way_of parents.now) }
 {
     let lists = file_classes(alloc, parents)?;
     let mut steps = Vec::new(alloc);

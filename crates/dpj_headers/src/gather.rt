@@ -1,6 +1,9 @@
-ghost use Rattle.std.specs.Prelude.{◌≡◌, ◌⊎◌, None, Some, IfOk, IfErr, OnOk};
+ghost use Rattle.std.specs.Prelude.{◌≡◌, ◌⊎◌, length, None, Some, IfOk, IfErr, OnOk};
 ghost use Rattle.dpj_base.specs.Refused.{IfRefused};
+ghost use Rattle.dpj_headers.specs.Around.{told_on_way};
 ghost use Rattle.dpj_headers.specs.First.{IsToldFirst, IsNotedFirst, parents_in};
+ghost use Rattle.dpj_headers.specs.Second.{AreCounted, told_second, IsToldOf};
+ghost use Rattle.dpj_headers.specs.Way.{IsCounted, way_of};
 
 use crate::faults::Faults;
 use crate::forest::{Step, way};
@@ -19,6 +22,8 @@ use std::alloc::Global;
 pub fn headers(alloc: Global, program: &Program) -> Result<Headers, Stop>
     ensures accepted { IfOk result (λ headers. IsToldFirst program.now.classes None) }
     ensures fault { IfErr result (λ stop. IfRefused stop (λ fault. IsToldFirst program.now.classes (Some fault) ⊎ IsToldFirst program.now.classes None)) }
+    ensures members { IfOk result (λ headers. AreCounted (length program.now.names) program.now.classes → told_second program.now.classes ≡ None) }
+    ensures second { IfErr result (λ stop. IfRefused stop (IsToldOf (length program.now.names) program.now.classes)) }
 {
     let linked = link_classes(alloc, program.classes.as_slice())?;
     of_linked(alloc, program, linked)
@@ -59,20 +64,30 @@ fn look_at_classes(
     Ok(Linked { numbers, parents })
 }
 
+/// Looks at the members of the classes, or tells the first fault there.
+fn look_at_members(
+    alloc: Global,
+    classes: &[Class],
+    names: usize,
+    steps: &[Step],
+) -> Result<(), Stop>
+    ensures accepted { OnOk result (told_on_way names classes.now steps.now ≡ None) }
+    ensures fault { IfErr result (λ stop. IfRefused stop (λ fault. told_on_way names classes.now steps.now ≡ Some fault)) }
+{
+    let mut faults = Faults::by_place();
+    check_members(alloc, classes, names, steps, &mut faults)?;
+    faults.settle()
+}
+
 /// The headers, or the first fault of members.
-fn of_linked(alloc: Global, program: &Program, linked: Linked) -> Result<Headers, Stop> {
+fn of_linked(alloc: Global, program: &Program, linked: Linked) -> Result<Headers, Stop>
+    ensures accepted { OnOk result (IsCounted linked.parents → told_on_way (length program.now.names) program.now.classes (way_of linked.parents) ≡ None) }
+    ensures fault { IfErr result (λ stop. IfRefused stop (λ fault. IsCounted linked.parents → told_on_way (length program.now.names) program.now.classes (way_of linked.parents) ≡ Some fault)) }
+{
     let Linked { numbers, parents } = linked;
     let classes = program.classes.as_slice();
     let steps = way(alloc, parents.as_slice())?;
-    let mut faults = Faults::by_place();
-    check_members(
-        alloc,
-        classes,
-        program.names.len(),
-        steps.as_slice(),
-        &mut faults,
-    )?;
-    faults.settle()?;
+    look_at_members(alloc, classes, program.names.len(), steps.as_slice())?;
     let counts = count_fields(alloc, classes, parents.as_slice(), steps.as_slice())?;
     let (regions, atomic) = number_regions(alloc, classes)?;
     Ok(Headers {

@@ -1,6 +1,7 @@
 use Rattle.std.proofs.Common.{◌≡◌, ◌+◌, ◌++◌, drop, get_or, is_some, true, false, None, subst, sym, ap, not, ◌∙◌}
 use Rattle.dpj_headers.specs.Numbers.{as_number}
-use Rattle.dpj_headers.specs.Way.{extensions, roots, walk, walks, IsEnded}
+use Rattle.dpj_headers.specs.Way.{extensions, roots, walk, walks, IsEnded, deep}
+use Rattle.dpj_headers.proofs.Trees.{roots_end, whole_way}
 use Rattle.dpj_headers.proofs.Ways.{root_next, other_next, root_step, root_over}
 use Rattle.dpj_headers.proofs.forest.way.Goals.{then-is_none+in_ok-visit, else-is_none}
 use Rattle.dpj_headers.proofs.forest.way.Goals as goal
@@ -23,3 +24,9 @@ loop-at-preserved c =
           let over = root_over lists n now next c.loop-at.steps.items (walks lists n (roots 0 parents)) (other_next parents i c.loop-at-test.true some) (c.loop-at.invariant n ends) in
           (over.0, ap (λ v. v.items ++ walks lists n next) w.steps-is ∙ over.1)
     ]
+
+pub returns : goal.returns
+returns c = λ counted.
+    let parents = c.args.parents.now in
+    c.from_vec.ensures
+    ∙ whole_way parents c.loop-at.at c.loop-at.steps.items c.loop-at-test.false (c.loop-at.invariant (deep parents) (roots_end parents counted)).1
