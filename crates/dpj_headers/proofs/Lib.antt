@@ -13,3 +13,4 @@ pub mod Among
 pub mod Trees
 pub mod Walks
 pub mod Second
+pub mod Numbered

@@ -1,18 +1,21 @@
-ghost use Rattle.std.specs.Prelude.{◌≡◌, ◌⊎◌, length, None, Some, IfOk, IfErr, OnOk};
+ghost use Rattle.std.specs.Prelude.{◌≡◌, ◌⊎◌, map, length, slice_index_or, None, Some, IfOk, IfErr, OnOk};
 ghost use Rattle.dpj_base.specs.Refused.{IfRefused};
 ghost use Rattle.dpj_headers.specs.Around.{told_on_way};
 ghost use Rattle.dpj_headers.specs.First.{IsToldFirst, IsNotedFirst, parents_in};
+ghost use Rattle.dpj_headers.specs.Gathered.{param_row, header_row, header_rows, name_number};
 ghost use Rattle.dpj_headers.specs.Second.{AreCounted, told_second, IsToldOf};
 ghost use Rattle.dpj_headers.specs.Way.{IsCounted, way_of};
 
 use crate::faults::Faults;
+use crate::fields::count_fields;
 use crate::forest::{Step, way};
 use crate::header::{Header, Headers, ParamRow};
 use crate::members::check_members;
-use crate::numbers::{NameNumbers, OwnedNumbers, to_number};
+use crate::numbering::{number_params, number_regions};
+use crate::numbers::{NameNumbers, number_at};
 use crate::supers::{check_cycles, check_extended, find_parents, number_classes};
 use dpj_base::{Bytes, Items, NoMemory, Stop};
-use dpj_tree::{Class, Member, ParamTree, Program};
+use dpj_tree::{Class, ParamTree, Program};
 use std::alloc::Global;
 
 /// The headers of a program's classes. It refuses two classes of one name, a superclass that isn't there, a class
@@ -100,93 +103,10 @@ fn of_linked(alloc: Global, program: &Program, linked: Linked) -> Result<Headers
     })
 }
 
-fn is_field(member: &Member) -> bool {
-    matches!(member, Member::Field(_))
-}
-
-fn own_fields(class: &Class) -> u32 {
-    to_number(
-        class
-            .members
-            .as_slice()
-            .iter()
-            .filter(|member| is_field(member))
-            .count(),
-    )
-}
-
-/// How many fields each class has, inherited ones included. The steps go through all classes.
-fn count_fields(
-    alloc: Global,
-    classes: &[Class],
-    parents: &[Option<u32>],
-    steps: &[Step],
-) -> Result<Vec<u32>, NoMemory> {
-    let mut counts = vec![in alloc; 0u32; classes.len()]?;
-    for step in steps {
-        let Step::Enter(number) = *step else {
-            continue;
-        };
-        let inherited = match parents.get(number as usize).copied().flatten() {
-            None => 0,
-            Some(parent) => counts.get(parent as usize).copied().unwrap_or(0),
-        };
-        let own = classes.get(number as usize).map_or(0, own_fields);
-        if let Some(count) = counts.get_mut(number as usize) {
-            *count = inherited.saturating_add(own);
-        }
-    }
-    Ok(counts)
-}
-
-/// The region names by their classes, numbered in the order of the text, and whether each is atomic.
-fn number_regions(
-    alloc: Global,
-    classes: &[Class],
-) -> Result<(OwnedNumbers, Items<bool>), NoMemory> {
-    let mut regions = OwnedNumbers::new(alloc);
-    let mut atomic = Items::new(alloc);
-    for (at, class) in classes.iter().enumerate() {
-        for member in class.members.as_slice() {
-            number_member(member, to_number(at), &mut regions, &mut atomic)?;
-        }
-    }
-    Ok((regions, atomic))
-}
-
-fn number_member(
-    member: &Member,
-    class: u32,
-    regions: &mut OwnedNumbers,
-    atomic: &mut Items<bool>,
-) -> Result<(), NoMemory> {
-    let Member::Regions {
-        atomic: is_atomic,
-        names,
-    } = member
-    else {
-        return Ok(());
-    };
-    for named in names.as_slice() {
-        regions.set(class, named.name, to_number(atomic.len()))?;
-        atomic.push(*is_atomic)?;
-    }
-    Ok(())
-}
-
-/// The region parameters by their classes, numbered in each from 0.
-fn number_params(alloc: Global, classes: &[Class]) -> Result<OwnedNumbers, NoMemory> {
-    let mut numbers = OwnedNumbers::new(alloc);
-    for (at, class) in classes.iter().enumerate() {
-        for (position, param) in class.params.list.as_slice().iter().enumerate() {
-            numbers.set(to_number(at), param.name, to_number(position))?;
-        }
-    }
-    Ok(numbers)
-}
-
 /// Region parameters as rows.
-pub fn param_rows(alloc: Global, params: &[ParamTree]) -> Result<Items<ParamRow>, NoMemory> {
+pub fn param_rows(alloc: Global, params: &[ParamTree]) -> Result<Items<ParamRow>, NoMemory>
+    ensures { IfOk result (λ rows. rows ≡ map param_row params.now) }
+{
     let mut rows = Items::new(alloc);
     for param in params {
         rows.push(ParamRow {
@@ -202,24 +122,42 @@ fn rows(
     classes: &[Class],
     parents: &[Option<u32>],
     counts: &[u32],
-) -> Result<Items<Header>, NoMemory> {
+) -> Result<Items<Header>, NoMemory>
+    ensures { IfOk result (λ rows. rows ≡ header_rows parents.now (λ at. slice_index_or counts.now at 0) 0 classes.now) }
+{
     let mut rows = Items::new(alloc);
     for (at, class) in classes.iter().enumerate() {
-        rows.push(Header {
-            name: class.name,
-            place: class.place,
-            parent: parents.get(at).copied().flatten(),
-            params: param_rows(alloc, class.params.list.as_slice())?,
-            fields: counts.get(at).copied().unwrap_or(0),
-        })?;
+        rows.push(row(alloc, class, parents, counts, at)?)?;
     }
     Ok(rows)
 }
 
+fn row(
+    alloc: Global,
+    class: &Class,
+    parents: &[Option<u32>],
+    counts: &[u32],
+    at: usize,
+) -> Result<Header, NoMemory>
+    ensures { IfOk result (λ row. row ≡ header_row parents.now (λ number. slice_index_or counts.now number 0) at class.now) }
+{
+    Ok(Header {
+        name: class.name,
+        place: class.place,
+        parent: parents.get(at).copied().flatten(),
+        params: param_rows(alloc, class.params.list.as_slice())?,
+        fields: counts.get(at).copied().unwrap_or(0),
+    })
+}
+
 /// The number of a name, where the text has it.
-fn name_of(names: &[Bytes], text: &[u8]) -> Option<u32> {
-    names
-        .iter()
-        .position(|name| name.as_slice() == text)
-        .map(to_number)
+fn name_of(names: &[Bytes], text: &[u8]) -> Option<u32>
+    ensures { result ≡ name_number names.now text.now }
+{
+    for (at, name) in names.iter().enumerate() {
+        if name.as_slice() == text {
+            return Some(number_at(at));
+        }
+    }
+    None
 }
