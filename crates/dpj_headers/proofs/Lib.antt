@@ -14,3 +14,5 @@ pub mod Trees
 pub mod Walks
 pub mod Second
 pub mod Numbered
+pub mod Counting
+pub mod Gathered

@@ -47,7 +47,7 @@ names_more names i owner is_atomic default number start first last begun old new
     let rows : region_rows owner is_atomic (take (i + 1) names) ≡ region_rows owner is_atomic (take i names) ++ one ∷ [] =
     ap (region_rows owner is_atomic) more ∙ map-append (λ n. record { owner = owner; name = n.name; is_atomic = is_atomic }) (take i names) (named ∷ []) in
     subst (λ rs. AreNumbered rs start begun last new) (sym rows)
-        (numbered_then (region_rows owner is_atomic (take i names)) (one ∷ []) start first last begun old new h (numbered_one owner named.name is_atomic number first last old new is put push))
+    (numbered_then (region_rows owner is_atomic (take i names)) (one ∷ []) start first last begun old new h (numbered_one owner named.name is_atomic number first last old new is put push))
 
 append_nil : {A : Type 0} (xs : List A) → xs ++ [] ≡ xs
 append_nil [] = refl
@@ -61,7 +61,7 @@ members_more members i owner member start first last begun old new below item h 
     ap (flat_map (member_regions owner)) more ∙ flat_map-append (member_regions owner) (take i members) (member ∷ [])
     ∙ ap (λ z. flat_map (member_regions owner) (take i members) ++ z) (append_nil (member_regions owner member)) in
     subst (λ rs. AreNumbered rs start begun last new) (sym rows)
-        (numbered_then (flat_map (member_regions owner) (take i members)) (member_regions owner member) start first last begun old new h k)
+    (numbered_then (flat_map (member_regions owner) (take i members)) (member_regions owner member) start first last begun old new h k)
 
 regions-append : (at : ℕ) (xs ys : List Class) → all_regions at (xs ++ ys) ≡ all_regions at xs ++ all_regions (at + length xs) ys
 regions-append at [] ys = let none : at ≡ at + 0 = omega arith in ap (λ k. all_regions k ys) none
@@ -82,4 +82,4 @@ classes_more classes i number class start first last begun old new below item is
     ∙ ap (λ z. all_regions 0 (take i classes) ++ z) (append_nil (flat_map (member_regions (as_number (0 + length (take i classes)))) class.members))
     ∙ ap (λ o. all_regions 0 (take i classes) ++ flat_map (member_regions o) class.members) (ap as_number here ∙ sym is) in
     subst (λ rs. AreNumbered rs start begun last new) (sym rows)
-        (numbered_then (all_regions 0 (take i classes)) (flat_map (member_regions number) class.members) start first last begun old new h k)
+    (numbered_then (all_regions 0 (take i classes)) (flat_map (member_regions number) class.members) start first last begun old new h k)

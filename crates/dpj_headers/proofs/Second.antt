@@ -64,7 +64,7 @@ no_cycle rounds at (suc j) (class ∷ classes) h l =
     let next : at + suc j ≡ at + 1 + j = omega arith in
     ap (λ k. get_or rounds k false) next ∙ no_cycle rounds (at + 1) j classes (append_none (fault_if (get_or rounds at false) kind.Cycle (extends_place class)) _ h).1 (omega arith)
 
-length_parents : (classes : List Class) → length (parents_in classes) ≡ length classes
+pub length_parents : (classes : List Class) → length (parents_in classes) ≡ length classes
 length_parents classes = length-map classes (named_parent (class_named classes))
 
 -- where the first pass finds nothing no class is its own superclass

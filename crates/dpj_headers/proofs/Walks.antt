@@ -53,7 +53,7 @@ chain_longer parents (suc n) at h = by (entry_of parents at) refl (λ above. cha
         ap (λ z. at ∷ z) (more above (sym (ap (λ k. up parents k at) one ∙ up-then parents n 1 at above e) ∙ h))
 
 -- above a class stands its superclass, and then what stands above that
-superclasses_step : (parents : List (Option ℕ)) (at above : ℕ) → Sound parents → entry_of parents at ≡ Some above → superclasses parents at ≡ above ∷ superclasses parents above
+pub superclasses_step : (parents : List (Option ℕ)) (at above : ℕ) → Sound parents → entry_of parents at ≡ Some above → superclasses parents at ≡ above ∷ superclasses parents above
 superclasses_step parents at above sound e = by (length parents) refl (entry_of parents above) refl
   where
     by : (n : ℕ) → length parents ≡ n → (o : Option ℕ) → entry_of parents above ≡ o → superclasses parents at ≡ above ∷ option_map_or (λ top. chain (entry_of parents) (length parents) top) o []
@@ -131,7 +131,7 @@ record Whole (count : ℕ) (classes : List Class) (parents : List (Option ℕ)) 
   each : length parents ≡ length classes
   below : (at : ℕ) (class : Class) → slice_get classes at ≡ Some class → Below count class
 
-class_at : (classes : List Class) (at : ℕ) → at < length classes → (class : Class) × (slice_get classes at ≡ Some class)
+pub class_at : (classes : List Class) (at : ℕ) → at < length classes → (class : Class) × (slice_get classes at ≡ Some class)
 class_at [] at l = absurd (omega arith)
 class_at (class ∷ classes) zero l = (class, refl)
 class_at (class ∷ classes) (suc at) l = class_at classes at (omega arith)
@@ -152,7 +152,7 @@ faults-append classes seen (x ∷ xs) ys =
     ∙ sym (append_assoc (step_faults classes seen x) (way_faults classes (after_step classes seen x) xs) (way_faults classes (after_way classes (after_step classes seen x) xs) ys))
 
 -- a walk through a class that is entered leaves what is declared as it was, and notes what is wrong in the classes inside
-abbrev inside : List (List ℕ) → ℕ → ℕ → List ℕ
+abbrev pub inside : List (List ℕ) → ℕ → ℕ → List ℕ
 inside lists zero class = []
 inside lists (suc n) class = class ∷ last_first (λ below. inside lists n below) (extending lists class)
 
@@ -237,7 +237,7 @@ root_ready count classes parents root none = record {
     zero_at (suc count) zero = refl
     zero_at (suc count) (suc x) = zero_at count x
 
-abbrev insides : List (List ℕ) → ℕ → List ℕ → List ℕ
+abbrev pub insides : List (List ℕ) → ℕ → List ℕ → List ℕ
 insides lists n classes = flat_map (inside lists n) classes
 
 walks_told : (count : ℕ) (classes : List Class) (parents : List (Option ℕ)) (n : ℕ) (numbers : List ℕ) → Whole count classes parents → ((one : ℕ) → Among one numbers → (one < length parents) × (entry_of parents one ≡ None)) →
@@ -286,7 +286,7 @@ up_inside parents (suc d) at top sound l h =
     let f = up-first parents 1 d at top (ap (λ k. up parents k at) (sym one) ∙ h) in
     sound.within f.0 top f.2
 
-all_inside : (parents : List (Option ℕ)) (at : ℕ) → Sound parents → at < length parents → Among at (insides (extensions parents) (deep parents) (roots 0 parents))
+pub all_inside : (parents : List (Option ℕ)) (at : ℕ) → Sound parents → at < length parents → Among at (insides (extensions parents) (deep parents) (roots 0 parents))
 all_inside parents at sound l =
     let w = topmost parents (suc (length parents)) at (top_none parents (suc (length parents)) at sound (omega arith)) in
     let below = w.1 in

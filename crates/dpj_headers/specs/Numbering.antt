@@ -1,12 +1,13 @@
 -- Numbers under names that belong to something, where more of them are put.
-use Rattle.std.specs.Prelude.{◌≡◌, ℕ, ◌+◌, ◌==◌, Bool, cond, List, [], ◌∷◌, ◌++◌, map, length, slice_get, slice_set, slice_index_or, Option, Some}
+use Rattle.std.specs.Prelude.{◌≡◌, ℕ, ◌+◌, ◌==◌, Bool, cond, List, [], ◌∷◌, ◌++◌, map, length, replicate, slice_get, slice_set, slice_index_or, Option, Some}
 use Rattle.std.specs.Option.{option_map_or}
 use Rattle.dpj_tree.specs.declared.class.Class.{Class}
 use Rattle.dpj_tree.specs.declared.region.ParamTree.{ParamTree}
 use Rattle.dpj_headers.specs.declared.forest.Step.{Step}
 use Rattle.dpj_headers.specs.declared.forest.Step.TheVariants as step
+use Rattle.dpj_headers.specs.declared.header.Header.{Header}
 use Rattle.dpj_headers.specs.declared.numbers.OwnedNumbers.{OwnedNumbers}
-use Rattle.dpj_headers.specs.Gathered.{last_place, RegionRow, is_region, field_count}
+use Rattle.dpj_headers.specs.Gathered.{last_place, RegionRow, is_region, field_count, header_rows}
 use Rattle.dpj_headers.specs.Numbers.{as_number, owned_number}
 use Rattle.dpj_headers.specs.Rounds.{entry_of}
 
@@ -40,3 +41,9 @@ counted_step classes parents counts (step.Leave at) = counts
 abbrev pub counted_way : List Class → List (Option ℕ) → List ℕ → List Step → List ℕ
 counted_way classes parents counts [] = counts
 counted_way classes parents counts (s ∷ steps) = counted_way classes parents (counted_step classes parents counts s) steps
+
+-- the rows, where the fields are counted on the way
+abbrev pub counted_rows : List Class → List (Option ℕ) → List Step → List Header
+counted_rows classes parents steps =
+    let counts = counted_way classes parents (replicate (length classes) 0) steps in
+    header_rows parents (λ at. slice_index_or counts at 0) 0 classes

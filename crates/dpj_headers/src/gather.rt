@@ -1,8 +1,11 @@
-ghost use Rattle.std.specs.Prelude.{◌≡◌, ◌⊎◌, map, length, slice_index_or, None, Some, IfOk, IfErr, OnOk};
+ghost use Rattle.std.specs.Prelude.{◌≡◌, ◌⊎◌, ℕ, map, codes, length, slice_index_or, None, Some, IfOk, IfErr, OnOk};
 ghost use Rattle.dpj_base.specs.Refused.{IfRefused};
 ghost use Rattle.dpj_headers.specs.Around.{told_on_way};
-ghost use Rattle.dpj_headers.specs.First.{IsToldFirst, IsNotedFirst, parents_in};
-ghost use Rattle.dpj_headers.specs.Gathered.{param_row, header_row, header_rows, name_number};
+ghost use Rattle.dpj_headers.specs.First.{IsToldFirst, IsNotedFirst, parents_in, class_named};
+ghost use Rattle.dpj_headers.specs.Gathered.{param_row, header_row, header_rows, name_number, all_regions, region_number, AreHeaders};
+ghost use Rattle.dpj_headers.specs.Headers.{param_of, own_region};
+ghost use Rattle.dpj_headers.specs.Numbering.{with_all_params, counted_rows};
+ghost use Rattle.dpj_headers.specs.Numbers.{number_of};
 ghost use Rattle.dpj_headers.specs.Second.{AreCounted, told_second, IsToldOf};
 ghost use Rattle.dpj_headers.specs.Way.{IsCounted, way_of};
 
@@ -26,6 +29,7 @@ pub fn headers(alloc: Global, program: &Program) -> Result<Headers, Stop>
     ensures accepted { IfOk result (λ headers. IsToldFirst program.now.classes None) }
     ensures fault { IfErr result (λ stop. IfRefused stop (λ fault. IsToldFirst program.now.classes (Some fault) ⊎ IsToldFirst program.now.classes None)) }
     ensures members { IfOk result (λ headers. AreCounted (length program.now.names) program.now.classes → told_second program.now.classes ≡ None) }
+    ensures gathered { IfOk result (λ headers. IsCounted program.now.classes → AreHeaders program.now headers) }
     ensures second { IfErr result (λ stop. IfRefused stop (IsToldOf (length program.now.names) program.now.classes)) }
 {
     let linked = link_classes(alloc, program.classes.as_slice())?;
@@ -42,6 +46,7 @@ struct Linked {
 /// Looks at the classes alone, or tells the first fault there.
 fn link_classes(alloc: Global, classes: &[Class]) -> Result<Linked, Stop>
     ensures accepted { IfOk result (λ linked. IsToldFirst classes.now None) }
+    ensures named { IfOk result (λ linked. (name : ℕ) → number_of linked.numbers name ≡ class_named classes.now name) }
     ensures parents { IfOk result (λ linked. linked.parents ≡ parents_in classes.now) }
     ensures fault { IfErr result (λ stop. IfRefused stop (λ fault. IsToldFirst classes.now (Some fault))) }
 {
@@ -58,6 +63,7 @@ fn look_at_classes(
     faults: &mut Faults,
 ) -> Result<Linked, NoMemory>
     ensures noted { OnOk result (IsNotedFirst classes.now faults.old faults.new) }
+    ensures named { IfOk result (λ linked. (name : ℕ) → number_of linked.numbers name ≡ class_named classes.now name) }
     ensures parents { IfOk result (λ linked. linked.parents ≡ parents_in classes.now) }
 {
     let numbers = number_classes(alloc, classes, faults)?;
@@ -84,6 +90,12 @@ fn look_at_members(
 
 /// The headers, or the first fault of members.
 fn of_linked(alloc: Global, program: &Program, linked: Linked) -> Result<Headers, Stop>
+    ensures rows { IfOk result (λ headers. IsCounted linked.parents → headers.rows ≡ counted_rows program.now.classes linked.parents (way_of linked.parents)) }
+    ensures classes { IfOk result (λ headers. headers.classes ≡ linked.numbers) }
+    ensures params { IfOk result (λ headers. (owner : ℕ) (name : ℕ) → param_of headers owner name ≡ with_all_params 0 program.now.classes owner name None) }
+    ensures regions { IfOk result (λ headers. (owner : ℕ) (name : ℕ) → own_region headers owner name ≡ region_number program.now.classes owner name) }
+    ensures atomic { IfOk result (λ headers. headers.atomic ≡ map (λ row. row.is_atomic) (all_regions 0 program.now.classes)) }
+    ensures main { IfOk result (λ headers. headers.main_name ≡ name_number program.now.names (codes "Main")) }
     ensures accepted { OnOk result (IsCounted linked.parents → told_on_way (length program.now.names) program.now.classes (way_of linked.parents) ≡ None) }
     ensures fault { IfErr result (λ stop. IfRefused stop (λ fault. IsCounted linked.parents → told_on_way (length program.now.names) program.now.classes (way_of linked.parents) ≡ Some fault)) }
 {
@@ -91,10 +103,10 @@ fn of_linked(alloc: Global, program: &Program, linked: Linked) -> Result<Headers
     let classes = program.classes.as_slice();
     let steps = way(alloc, parents.as_slice())?;
     look_at_members(alloc, classes, program.names.len(), steps.as_slice())?;
-    let counts = count_fields(alloc, classes, parents.as_slice(), steps.as_slice())?;
+    let rows = count_rows(alloc, classes, parents.as_slice(), steps.as_slice())?;
     let (regions, atomic) = number_regions(alloc, classes)?;
     Ok(Headers {
-        rows: rows(alloc, classes, parents.as_slice(), counts.as_slice())?,
+        rows,
         classes: numbers,
         params: number_params(alloc, classes)?,
         regions,
@@ -115,6 +127,19 @@ pub fn param_rows(alloc: Global, params: &[ParamTree]) -> Result<Items<ParamRow>
         })?;
     }
     Ok(rows)
+}
+
+/// The rows with the numbers of fields. The steps go through all classes.
+fn count_rows(
+    alloc: Global,
+    classes: &[Class],
+    parents: &[Option<u32>],
+    steps: &[Step],
+) -> Result<Items<Header>, NoMemory>
+    ensures { IfOk result (λ rows. rows ≡ counted_rows classes.now parents.now steps.now) }
+{
+    let counts = count_fields(alloc, classes, parents, steps)?;
+    rows(alloc, classes, parents, counts.as_slice())
 }
 
 fn rows(

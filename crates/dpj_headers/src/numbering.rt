@@ -1,6 +1,6 @@
-ghost use Rattle.std.specs.Prelude.{◌≡◌, ℕ, [], None, IfOk, OnOk};
+ghost use Rattle.std.specs.Prelude.{◌≡◌, ℕ, map, None, IfOk, OnOk};
 ghost use Rattle.std.specs.List.{flat_map};
-ghost use Rattle.dpj_headers.specs.Gathered.{region_rows, member_regions, all_regions};
+ghost use Rattle.dpj_headers.specs.Gathered.{region_rows, member_regions, all_regions, region_number};
 ghost use Rattle.dpj_headers.specs.Numbering.{with_params, with_all_params, AreNumbered};
 ghost use Rattle.dpj_headers.specs.Numbers.{owned_number};
 
@@ -20,7 +20,11 @@ pub fn number_params(alloc: Global, classes: &[Class]) -> Result<OwnedNumbers, N
     Ok(numbers)
 }
 
-fn number_own_params(class: u32, params: &[ParamTree], numbers: &mut OwnedNumbers) -> Result<(), NoMemory>
+fn number_own_params(
+    class: u32,
+    params: &[ParamTree],
+    numbers: &mut OwnedNumbers,
+) -> Result<(), NoMemory>
     ensures { OnOk result ((owner : ℕ) (name : ℕ) → owned_number numbers.new owner name ≡ with_params class 0 params.now owner name (owned_number numbers.old owner name)) }
 {
     for (position, param) in params.iter().enumerate() {
@@ -30,13 +34,22 @@ fn number_own_params(class: u32, params: &[ParamTree], numbers: &mut OwnedNumber
 }
 
 /// The region names by their classes, numbered in the order of the text, and whether each is atomic.
-pub fn number_regions(alloc: Global, classes: &[Class]) -> Result<(OwnedNumbers, Items<bool>), NoMemory>
-    ensures { IfOk result (λ made. (none : OwnedNumbers) → ((owner : ℕ) (name : ℕ) → owned_number none owner name ≡ None) → AreNumbered (all_regions 0 classes.now) none [] made.0 made.1) }
+pub fn number_regions(
+    alloc: Global,
+    classes: &[Class],
+) -> Result<(OwnedNumbers, Items<bool>), NoMemory>
+    ensures numbers { IfOk result (λ made. (owner : ℕ) (name : ℕ) → owned_number made.0 owner name ≡ region_number classes.now owner name) }
+    ensures atomic { IfOk result (λ made. made.1 ≡ map (λ row. row.is_atomic) (all_regions 0 classes.now)) }
 {
     let mut regions = OwnedNumbers::new(alloc);
     let mut atomic = Items::new(alloc);
     for (at, class) in classes.iter().enumerate() {
-        number_members(class.members.as_slice(), number_at(at), &mut regions, &mut atomic)?;
+        number_members(
+            class.members.as_slice(),
+            number_at(at),
+            &mut regions,
+            &mut atomic,
+        )?;
     }
     Ok((regions, atomic))
 }
