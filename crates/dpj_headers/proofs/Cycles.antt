@@ -25,23 +25,23 @@ up-add parents (suc m) n at =
     along (Some one) = refl
 
 -- where more steps lead somewhere, fewer do
-up-first : (parents : List (Option ℕ)) (m n at top : ℕ) → up parents (m + n) at ≡ Some top → (one : ℕ) × (up parents n at ≡ Some one) × (up parents m one ≡ Some top)
+pub up-first : (parents : List (Option ℕ)) (m n at top : ℕ) → up parents (m + n) at ≡ Some top → (one : ℕ) × (up parents n at ≡ Some one) × (up parents m one ≡ Some top)
 up-first parents m n at top h = split (up parents n at) refl
   where
     split : (o : Option ℕ) → up parents n at ≡ o → (one : ℕ) × (up parents n at ≡ Some one) × (up parents m one ≡ Some top)
     split None e = absurd (none-some top (sym (up-add parents m n at ∙ ap (option_and_then (up parents m)) e) ∙ h))
     split (Some one) e = (one, e, sym (up-add parents m n at ∙ ap (option_and_then (up parents m)) e) ∙ h)
 
-up-then : (parents : List (Option ℕ)) (m n at one : ℕ) → up parents n at ≡ Some one → up parents (m + n) at ≡ up parents m one
+pub up-then : (parents : List (Option ℕ)) (m n at one : ℕ) → up parents n at ≡ Some one → up parents (m + n) at ≡ up parents m one
 up-then parents m n at one e = up-add parents m n at ∙ ap (option_and_then (up parents m)) e
 
 -- what has something above it is one of the classes
-entry_within : (parents : List (Option ℕ)) (at top : ℕ) → entry_of parents at ≡ Some top → at < length parents
+pub entry_within : (parents : List (Option ℕ)) (at top : ℕ) → entry_of parents at ≡ Some top → at < length parents
 entry_within [] at top h = cc
 entry_within (parent ∷ parents) zero top h = omega arith
 entry_within (parent ∷ parents) (suc at) top h = let b = entry_within parents at top h in omega arith
 
-up_within : (parents : List (Option ℕ)) (n at top : ℕ) → up parents (suc n) at ≡ Some top → at < length parents
+pub up_within : (parents : List (Option ℕ)) (n at top : ℕ) → up parents (suc n) at ≡ Some top → at < length parents
 up_within parents n at top h =
     let e : suc n ≡ n + 1 = omega arith in
     let f = up-first parents n 1 at top (ap (λ k. up parents k at) (sym e) ∙ h) in

@@ -1,6 +1,6 @@
 -- The headers of a program's classes, and what a name means in a class: what the nearest of its superclasses says,
 -- the class itself first.
-use Rattle.std.specs.Prelude.{ℕ, zero, suc, Bool, ◌==◌, List, [], ◌∷◌, length, slice_get, Option, None, Some, option_and_then}
+use Rattle.std.specs.Prelude.{ℕ, zero, suc, Bool, ◌==◌, List, [], ◌∷◌, map, length, slice_get, Option, None, Some, option_and_then}
 use Rattle.std.specs.List.{list_any}
 use Rattle.std.specs.Option.{option_map_or}
 use Rattle.dpj_headers.specs.declared.header.Header.{Header}
@@ -27,6 +27,10 @@ header_of headers class = slice_get headers.rows class
 -- the superclass of a class
 abbrev pub parent_of : Headers → ℕ → Option ℕ
 parent_of headers class = option_and_then (λ header. header.parent) (header_of headers class)
+
+-- the superclass of each class
+abbrev pub parents_of : Headers → List (Option ℕ)
+parents_of headers = map (λ row. row.parent) headers.rows
 
 -- how many classes there are
 abbrev pub class_count : Headers → ℕ

@@ -1,7 +1,12 @@
+pub mod Around
 pub mod Faults
 pub mod First
+pub mod Gathered
 pub mod Headers
 pub mod Members
+pub mod Numbering
 pub mod Numbers
 pub mod Passes
 pub mod Rounds
+pub mod Second
+pub mod Way

@@ -1,4 +1,7 @@
-use crate::numbers::to_number;
+ghost use Rattle.std.specs.Prelude.{◌≡◌, ℕ, ◌++◌, [], length, replicate, IfOk, OnOk};
+ghost use Rattle.dpj_headers.specs.Way.{with_filed, extensions, walk, IsEnded, IsCounted, entered_below, behind, way_of};
+
+use crate::numbers::number_at;
 use dpj_base::{Items, NoMemory};
 use std::alloc::Global;
 
@@ -10,72 +13,92 @@ pub enum Step {
     Leave(u32),
 }
 
-/// The classes that extend a class, as a chain.
-#[derive(Drop)]
-struct Links {
-    /// The last class that extends it.
-    child: Vec<Option<u32>>,
-    /// The class before it that extends the same one.
-    sibling: Vec<Option<u32>>,
-}
-
-fn link(alloc: Global, parents: &[Option<u32>]) -> Result<Links, NoMemory> {
-    let mut links = Links {
-        child: vec![in alloc; None; parents.len()]?,
-        sibling: vec![in alloc; None; parents.len()]?,
-    };
+/// Of each class, the classes that extend it.
+fn file_classes(alloc: Global, parents: &[Option<u32>]) -> Result<Vec<Items<u32>>, NoMemory>
+    ensures { IfOk result (λ lists. lists.items ≡ extensions parents.now) }
+{
+    let mut lists = empty_lists(alloc, parents.len())?;
     for (at, parent) in parents.iter().enumerate() {
-        let Some(parent) = *parent else {
-            continue;
-        };
-        let Some(last) = links.child.get_mut(parent as usize) else {
-            continue;
-        };
-        let before = last.replace(to_number(at));
-        if let Some(sibling) = links.sibling.get_mut(at) {
-            *sibling = before;
+        if let Some(above) = *parent {
+            file(lists.as_mut_slice(), above, number_at(at))?;
         }
     }
-    Ok(links)
+    Ok(lists)
 }
 
-/// The way through all classes, each entered behind its superclass and left behind all that extends it.
-pub fn way(alloc: Global, parents: &[Option<u32>]) -> Result<Items<Step>, NoMemory> {
-    let links = link(alloc, parents)?;
-    let mut steps = Items::new(alloc);
-    for (at, parent) in parents.iter().enumerate() {
-        if parent.is_none() {
-            visit(alloc, &links, to_number(at), &mut steps)?;
-        }
+fn empty_lists(alloc: Global, count: usize) -> Result<Vec<Items<u32>>, NoMemory>
+    ensures { IfOk result (λ lists. lists.items ≡ replicate count []) }
+{
+    let mut lists = Vec::new(alloc);
+    for _class in 0..count {
+        lists.push(Items::new(alloc))?;
     }
-    Ok(steps)
+    Ok(lists)
 }
 
-/// The way through a class and all that extend it. No class is met twice, so that it has two steps for each.
-fn visit(alloc: Global, links: &Links, root: u32, steps: &mut Items<Step>) -> Result<(), NoMemory> {
-    let mut pending = Items::new(alloc);
-    pending.push(Step::Enter(root))?;
-    for _ in 0..links.child.len().saturating_mul(2) {
-        let Some(step) = pending.pop() else {
-            return Ok(());
-        };
-        steps.push(step)?;
-        if let Step::Enter(class) = step {
-            pending.push(Step::Leave(class))?;
-            push_children(links, class, &mut pending)?;
-        }
+/// Puts a class under its superclass.
+#[tactic(auto, using(std::proofs::lemmas::List::set_past))]
+fn file(lists: &mut [Items<u32>], above: u32, number: u32) -> Result<(), NoMemory>
+    ensures { OnOk result (lists.new ≡ with_filed lists.old above number) }
+{
+    let at = above as usize;
+    if at < lists.len() {
+        lists[at].push(number)?;
     }
     Ok(())
 }
 
-fn push_children(links: &Links, class: u32, pending: &mut Items<Step>) -> Result<(), NoMemory> {
-    let mut next = links.child.get(class as usize).copied().flatten();
-    for _ in 0..links.child.len() {
-        let Some(child) = next else {
-            return Ok(());
-        };
-        pending.push(Step::Enter(child))?;
-        next = links.sibling.get(child as usize).copied().flatten();
+/// The way through all classes, each entered behind its superclass and left behind all that extends it.
+pub fn way(alloc: Global, parents: &[Option<u32>]) -> Result<Items<Step>, NoMemory>
+    ensures { IfOk result (λ steps. IsCounted parents.now → steps ≡ way_of parents.now) }
+{
+    let lists = file_classes(alloc, parents)?;
+    let mut steps = Vec::new(alloc);
+    for (at, parent) in parents.iter().enumerate() {
+        if parent.is_none() {
+            visit(alloc, lists.as_slice(), number_at(at), &mut steps)?;
+        }
+    }
+    Ok(Items::from_vec(steps))
+}
+
+/// The way through a class and all that extend it.
+fn visit(
+    alloc: Global,
+    lists: &[Items<u32>],
+    root: u32,
+    steps: &mut Vec<Step>,
+) -> Result<(), NoMemory>
+    ensures { OnOk result ((n : ℕ) → IsEnded lists.now n root → steps.new.items ≡ steps.old.items ++ walk lists.now n root) }
+{
+    let mut pending = Items::new(alloc);
+    pending.push(Step::Enter(root))?;
+    while let Some(step) = pending.pop() {
+        steps.push(step)?;
+        push_behind(lists, step, &mut pending)?;
+    }
+    Ok(())
+}
+
+/// What comes behind a step, the last first.
+fn push_behind(lists: &[Items<u32>], step: Step, pending: &mut Items<Step>) -> Result<(), NoMemory>
+    ensures { OnOk result (pending.new ≡ pending.old ++ behind lists.now step) }
+{
+    let Step::Enter(class) = step else {
+        return Ok(());
+    };
+    pending.push(Step::Leave(class))?;
+    if let Some(list) = lists.get(class as usize) {
+        push_entered(list.as_slice(), pending)?;
+    }
+    Ok(())
+}
+
+fn push_entered(classes: &[u32], pending: &mut Items<Step>) -> Result<(), NoMemory>
+    ensures { OnOk result (pending.new ≡ pending.old ++ entered_below classes.now) }
+{
+    for class in classes {
+        pending.push(Step::Enter(*class))?;
     }
     Ok(())
 }

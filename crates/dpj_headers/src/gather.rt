@@ -1,15 +1,24 @@
-ghost use Rattle.std.specs.Prelude.{◌≡◌, ◌⊎◌, None, Some, IfOk, IfErr, OnOk};
+ghost use Rattle.std.specs.Prelude.{◌≡◌, ◌⊎◌, ℕ, map, codes, length, slice_index_or, None, Some, IfOk, IfErr, OnOk};
 ghost use Rattle.dpj_base.specs.Refused.{IfRefused};
-ghost use Rattle.dpj_headers.specs.First.{IsToldFirst, IsNotedFirst, parents_in};
+ghost use Rattle.dpj_headers.specs.Around.{told_on_way};
+ghost use Rattle.dpj_headers.specs.First.{IsToldFirst, IsNotedFirst, parents_in, class_named};
+ghost use Rattle.dpj_headers.specs.Gathered.{param_row, header_row, header_rows, name_number, all_regions, region_number, AreHeaders};
+ghost use Rattle.dpj_headers.specs.Headers.{param_of, own_region};
+ghost use Rattle.dpj_headers.specs.Numbering.{with_all_params, counted_rows};
+ghost use Rattle.dpj_headers.specs.Numbers.{number_of};
+ghost use Rattle.dpj_headers.specs.Second.{AreCounted, told_second, IsToldOf};
+ghost use Rattle.dpj_headers.specs.Way.{IsCounted, way_of};
 
 use crate::faults::Faults;
+use crate::fields::count_fields;
 use crate::forest::{Step, way};
 use crate::header::{Header, Headers, ParamRow};
 use crate::members::check_members;
-use crate::numbers::{NameNumbers, OwnedNumbers, to_number};
+use crate::numbering::{number_params, number_regions};
+use crate::numbers::{NameNumbers, number_at};
 use crate::supers::{check_cycles, check_extended, find_parents, number_classes};
 use dpj_base::{Bytes, Items, NoMemory, Stop};
-use dpj_tree::{Class, Member, ParamTree, Program};
+use dpj_tree::{Class, ParamTree, Program};
 use std::alloc::Global;
 
 /// The headers of a program's classes. It refuses two classes of one name, a superclass that isn't there, a class
@@ -19,6 +28,9 @@ use std::alloc::Global;
 pub fn headers(alloc: Global, program: &Program) -> Result<Headers, Stop>
     ensures accepted { IfOk result (λ headers. IsToldFirst program.now.classes None) }
     ensures fault { IfErr result (λ stop. IfRefused stop (λ fault. IsToldFirst program.now.classes (Some fault) ⊎ IsToldFirst program.now.classes None)) }
+    ensures members { IfOk result (λ headers. AreCounted (length program.now.names) program.now.classes → told_second program.now.classes ≡ None) }
+    ensures gathered { IfOk result (λ headers. IsCounted program.now.classes → AreHeaders program.now headers) }
+    ensures second { IfErr result (λ stop. IfRefused stop (IsToldOf (length program.now.names) program.now.classes)) }
 {
     let linked = link_classes(alloc, program.classes.as_slice())?;
     of_linked(alloc, program, linked)
@@ -34,6 +46,7 @@ struct Linked {
 /// Looks at the classes alone, or tells the first fault there.
 fn link_classes(alloc: Global, classes: &[Class]) -> Result<Linked, Stop>
     ensures accepted { IfOk result (λ linked. IsToldFirst classes.now None) }
+    ensures named { IfOk result (λ linked. (name : ℕ) → number_of linked.numbers name ≡ class_named classes.now name) }
     ensures parents { IfOk result (λ linked. linked.parents ≡ parents_in classes.now) }
     ensures fault { IfErr result (λ stop. IfRefused stop (λ fault. IsToldFirst classes.now (Some fault))) }
 {
@@ -50,6 +63,7 @@ fn look_at_classes(
     faults: &mut Faults,
 ) -> Result<Linked, NoMemory>
     ensures noted { OnOk result (IsNotedFirst classes.now faults.old faults.new) }
+    ensures named { IfOk result (λ linked. (name : ℕ) → number_of linked.numbers name ≡ class_named classes.now name) }
     ensures parents { IfOk result (λ linked. linked.parents ≡ parents_in classes.now) }
 {
     let numbers = number_classes(alloc, classes, faults)?;
@@ -59,24 +73,40 @@ fn look_at_classes(
     Ok(Linked { numbers, parents })
 }
 
+/// Looks at the members of the classes, or tells the first fault there.
+fn look_at_members(
+    alloc: Global,
+    classes: &[Class],
+    names: usize,
+    steps: &[Step],
+) -> Result<(), Stop>
+    ensures accepted { OnOk result (told_on_way names classes.now steps.now ≡ None) }
+    ensures fault { IfErr result (λ stop. IfRefused stop (λ fault. told_on_way names classes.now steps.now ≡ Some fault)) }
+{
+    let mut faults = Faults::by_place();
+    check_members(alloc, classes, names, steps, &mut faults)?;
+    faults.settle()
+}
+
 /// The headers, or the first fault of members.
-fn of_linked(alloc: Global, program: &Program, linked: Linked) -> Result<Headers, Stop> {
+fn of_linked(alloc: Global, program: &Program, linked: Linked) -> Result<Headers, Stop>
+    ensures rows { IfOk result (λ headers. IsCounted linked.parents → headers.rows ≡ counted_rows program.now.classes linked.parents (way_of linked.parents)) }
+    ensures classes { IfOk result (λ headers. headers.classes ≡ linked.numbers) }
+    ensures params { IfOk result (λ headers. (owner : ℕ) (name : ℕ) → param_of headers owner name ≡ with_all_params 0 program.now.classes owner name None) }
+    ensures regions { IfOk result (λ headers. (owner : ℕ) (name : ℕ) → own_region headers owner name ≡ region_number program.now.classes owner name) }
+    ensures atomic { IfOk result (λ headers. headers.atomic ≡ map (λ row. row.is_atomic) (all_regions 0 program.now.classes)) }
+    ensures main { IfOk result (λ headers. headers.main_name ≡ name_number program.now.names (codes "Main")) }
+    ensures accepted { OnOk result (IsCounted linked.parents → told_on_way (length program.now.names) program.now.classes (way_of linked.parents) ≡ None) }
+    ensures fault { IfErr result (λ stop. IfRefused stop (λ fault. IsCounted linked.parents → told_on_way (length program.now.names) program.now.classes (way_of linked.parents) ≡ Some fault)) }
+{
     let Linked { numbers, parents } = linked;
     let classes = program.classes.as_slice();
     let steps = way(alloc, parents.as_slice())?;
-    let mut faults = Faults::by_place();
-    check_members(
-        alloc,
-        classes,
-        program.names.len(),
-        steps.as_slice(),
-        &mut faults,
-    )?;
-    faults.settle()?;
-    let counts = count_fields(alloc, classes, parents.as_slice(), steps.as_slice())?;
+    look_at_members(alloc, classes, program.names.len(), steps.as_slice())?;
+    let rows = count_rows(alloc, classes, parents.as_slice(), steps.as_slice())?;
     let (regions, atomic) = number_regions(alloc, classes)?;
     Ok(Headers {
-        rows: rows(alloc, classes, parents.as_slice(), counts.as_slice())?,
+        rows,
         classes: numbers,
         params: number_params(alloc, classes)?,
         regions,
@@ -85,93 +115,10 @@ fn of_linked(alloc: Global, program: &Program, linked: Linked) -> Result<Headers
     })
 }
 
-fn is_field(member: &Member) -> bool {
-    matches!(member, Member::Field(_))
-}
-
-fn own_fields(class: &Class) -> u32 {
-    to_number(
-        class
-            .members
-            .as_slice()
-            .iter()
-            .filter(|member| is_field(member))
-            .count(),
-    )
-}
-
-/// How many fields each class has, inherited ones included. The steps go through all classes.
-fn count_fields(
-    alloc: Global,
-    classes: &[Class],
-    parents: &[Option<u32>],
-    steps: &[Step],
-) -> Result<Vec<u32>, NoMemory> {
-    let mut counts = vec![in alloc; 0u32; classes.len()]?;
-    for step in steps {
-        let Step::Enter(number) = *step else {
-            continue;
-        };
-        let inherited = match parents.get(number as usize).copied().flatten() {
-            None => 0,
-            Some(parent) => counts.get(parent as usize).copied().unwrap_or(0),
-        };
-        let own = classes.get(number as usize).map_or(0, own_fields);
-        if let Some(count) = counts.get_mut(number as usize) {
-            *count = inherited.saturating_add(own);
-        }
-    }
-    Ok(counts)
-}
-
-/// The region names by their classes, numbered in the order of the text, and whether each is atomic.
-fn number_regions(
-    alloc: Global,
-    classes: &[Class],
-) -> Result<(OwnedNumbers, Items<bool>), NoMemory> {
-    let mut regions = OwnedNumbers::new(alloc);
-    let mut atomic = Items::new(alloc);
-    for (at, class) in classes.iter().enumerate() {
-        for member in class.members.as_slice() {
-            number_member(member, to_number(at), &mut regions, &mut atomic)?;
-        }
-    }
-    Ok((regions, atomic))
-}
-
-fn number_member(
-    member: &Member,
-    class: u32,
-    regions: &mut OwnedNumbers,
-    atomic: &mut Items<bool>,
-) -> Result<(), NoMemory> {
-    let Member::Regions {
-        atomic: is_atomic,
-        names,
-    } = member
-    else {
-        return Ok(());
-    };
-    for named in names.as_slice() {
-        regions.set(class, named.name, to_number(atomic.len()))?;
-        atomic.push(*is_atomic)?;
-    }
-    Ok(())
-}
-
-/// The region parameters by their classes, numbered in each from 0.
-fn number_params(alloc: Global, classes: &[Class]) -> Result<OwnedNumbers, NoMemory> {
-    let mut numbers = OwnedNumbers::new(alloc);
-    for (at, class) in classes.iter().enumerate() {
-        for (position, param) in class.params.list.as_slice().iter().enumerate() {
-            numbers.set(to_number(at), param.name, to_number(position))?;
-        }
-    }
-    Ok(numbers)
-}
-
 /// Region parameters as rows.
-pub fn param_rows(alloc: Global, params: &[ParamTree]) -> Result<Items<ParamRow>, NoMemory> {
+pub fn param_rows(alloc: Global, params: &[ParamTree]) -> Result<Items<ParamRow>, NoMemory>
+    ensures { IfOk result (λ rows. rows ≡ map param_row params.now) }
+{
     let mut rows = Items::new(alloc);
     for param in params {
         rows.push(ParamRow {
@@ -182,29 +129,60 @@ pub fn param_rows(alloc: Global, params: &[ParamTree]) -> Result<Items<ParamRow>
     Ok(rows)
 }
 
+/// The rows with the numbers of fields. The steps go through all classes.
+fn count_rows(
+    alloc: Global,
+    classes: &[Class],
+    parents: &[Option<u32>],
+    steps: &[Step],
+) -> Result<Items<Header>, NoMemory>
+    ensures { IfOk result (λ rows. rows ≡ counted_rows classes.now parents.now steps.now) }
+{
+    let counts = count_fields(alloc, classes, parents, steps)?;
+    rows(alloc, classes, parents, counts.as_slice())
+}
+
 fn rows(
     alloc: Global,
     classes: &[Class],
     parents: &[Option<u32>],
     counts: &[u32],
-) -> Result<Items<Header>, NoMemory> {
+) -> Result<Items<Header>, NoMemory>
+    ensures { IfOk result (λ rows. rows ≡ header_rows parents.now (λ at. slice_index_or counts.now at 0) 0 classes.now) }
+{
     let mut rows = Items::new(alloc);
     for (at, class) in classes.iter().enumerate() {
-        rows.push(Header {
-            name: class.name,
-            place: class.place,
-            parent: parents.get(at).copied().flatten(),
-            params: param_rows(alloc, class.params.list.as_slice())?,
-            fields: counts.get(at).copied().unwrap_or(0),
-        })?;
+        rows.push(row(alloc, class, parents, counts, at)?)?;
     }
     Ok(rows)
 }
 
+fn row(
+    alloc: Global,
+    class: &Class,
+    parents: &[Option<u32>],
+    counts: &[u32],
+    at: usize,
+) -> Result<Header, NoMemory>
+    ensures { IfOk result (λ row. row ≡ header_row parents.now (λ number. slice_index_or counts.now number 0) at class.now) }
+{
+    Ok(Header {
+        name: class.name,
+        place: class.place,
+        parent: parents.get(at).copied().flatten(),
+        params: param_rows(alloc, class.params.list.as_slice())?,
+        fields: counts.get(at).copied().unwrap_or(0),
+    })
+}
+
 /// The number of a name, where the text has it.
-fn name_of(names: &[Bytes], text: &[u8]) -> Option<u32> {
-    names
-        .iter()
-        .position(|name| name.as_slice() == text)
-        .map(to_number)
+fn name_of(names: &[Bytes], text: &[u8]) -> Option<u32>
+    ensures { result ≡ name_number names.now text.now }
+{
+    for (at, name) in names.iter().enumerate() {
+        if name.as_slice() == text {
+            return Some(number_at(at));
+        }
+    }
+    None
 }

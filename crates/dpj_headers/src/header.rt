@@ -1,6 +1,7 @@
-ghost use Rattle.std.specs.Prelude.{◌≡◌, ◌↔◌, [], IsTrue, length};
+ghost use Rattle.std.specs.Prelude.{◌≡◌, ◌↔◌, [], IsTrue, IfOk, length};
 ghost use Rattle.std.specs.Option.{option_copied};
-ghost use Rattle.dpj_headers.specs.Headers.{class_of, header_of, parent_of, class_count, param_of, own_region, region_of, atomic_regions, is_below, main_of};
+ghost use Rattle.dpj_headers.specs.Headers.{class_of, header_of, parent_of, class_count, param_of, own_region, region_of, atomic_regions, is_below, main_of, parents_of};
+ghost use Rattle.dpj_headers.specs.Way.{IsCounted, way_of};
 
 use crate::forest::{Step, way};
 use crate::numbers::{NameNumbers, OwnedNumbers};
@@ -124,7 +125,9 @@ impl Headers {
     }
 
     /// The way through all classes, each entered behind its superclass and left behind all that extends it.
-    pub fn way(&self, alloc: Global) -> Result<Items<Step>, NoMemory> {
+    pub fn way(&self, alloc: Global) -> Result<Items<Step>, NoMemory>
+        ensures { IfOk result (λ steps. IsCounted self.now.rows → steps ≡ way_of (parents_of self.now)) }
+    {
         let mut parents = Items::new(alloc);
         for row in self.rows.as_slice() {
             parents.push(row.parent)?;

@@ -9,10 +9,12 @@
 #![tactic(auto)]
 
 mod faults;
+mod fields;
 mod forest;
 mod gather;
 mod header;
 mod members;
+mod numbering;
 mod numbers;
 mod rounds;
 mod supers;

@@ -1,4 +1,5 @@
-ghost use Rattle.std.specs.Prelude.{◌≡◌, replicate, IfOk};
+ghost use Rattle.std.specs.Prelude.{◌≡◌, replicate, IfOk, OnOk};
+ghost use Rattle.dpj_headers.specs.Around.{around, none_around, method_named, second_method, method_entered, method_faults, member_entered, member_faults, members_entered, members_faults, method_left, methods_left, class_entered, class_faults, member_left, class_left, after_step, step_faults, way_faults};
 ghost use Rattle.dpj_headers.specs.Faults.{all_noted};
 ghost use Rattle.dpj_headers.specs.Members.{marks, is_free, entered, left, all_entered, all_left, second_names, param_names, formal_names, misnamed};
 
@@ -68,33 +69,27 @@ const BY_METHOD: u32 = 1;
 
 /// Notes each second declaration of a name, inherited ones included, and each constructor that isn't named as
 /// its class. The steps go through all classes.
+#[tactic(auto, using(crate::proofs::Noting::noting))]
 pub fn check_members(
     alloc: Global,
     classes: &[Class],
     names: usize,
     steps: &[Step],
     faults: &mut Faults,
-) -> Result<(), NoMemory> {
+) -> Result<(), NoMemory>
+    ensures { OnOk result (faults.new ≡ all_noted faults.old (way_faults classes.now (none_around names) steps.now)) }
+{
     let mut visible = Visible::new(alloc, names)?;
     for step in steps {
-        match *step {
-            Step::Enter(number) => {
-                if let Some(class) = classes.get(number as usize) {
-                    visible.enter_class(class, number, faults);
-                }
-            }
-            Step::Leave(number) => {
-                if let Some(class) = classes.get(number as usize) {
-                    visible.leave_class(class, number);
-                }
-            }
-        }
+        visible.take_step(classes, *step, faults);
     }
     Ok(())
 }
 
 impl Visible {
-    fn new(alloc: Global, names: usize) -> Result<Visible, NoMemory> {
+    fn new(alloc: Global, names: usize) -> Result<Visible, NoMemory>
+        ensures { IfOk result (λ visible. around visible ≡ none_around names) }
+    {
         Ok(Visible {
             regions: Declared::new(alloc, names)?,
             fields: Declared::new(alloc, names)?,
@@ -105,23 +100,51 @@ impl Visible {
         })
     }
 
-    fn enter_class(&mut self, class: &Class, number: u32, faults: &mut Faults) {
-        enter_params(
-            &mut self.params,
-            class.params.list.as_slice(),
-            BY_CLASS,
-            faults,
-        );
+    fn take_step(&mut self, classes: &[Class], step: Step, faults: &mut Faults)
+        ensures visible { around self.new ≡ after_step classes.now (around self.old) step }
+        ensures faults { faults.new ≡ all_noted faults.old (step_faults classes.now (around self.old) step) }
+    {
+        match step {
+            Step::Enter(number) => {
+                if let Some(class) = classes.get(number as usize) {
+                    self.enter_class(class, number, faults);
+                }
+            }
+            Step::Leave(number) => {
+                if let Some(class) = classes.get(number as usize) {
+                    self.leave_class(class, number);
+                }
+            }
+        }
+    }
+
+    #[tactic(auto, using(crate::proofs::Noting::noting))]
+    fn enter_class(&mut self, class: &Class, number: u32, faults: &mut Faults)
+        ensures visible { around self.new ≡ class_entered (around self.old) number class.now }
+        ensures faults { faults.new ≡ all_noted faults.old (class_faults (around self.old) number class.now) }
+    {
+        let params = class.params.list.as_slice();
+        enter_params(&mut self.params, params, BY_CLASS, faults);
+        self.enter_members(class, number, faults);
+        self.leave_methods(class.members.as_slice());
+        leave_params(&mut self.params, params, BY_CLASS);
+    }
+
+    #[tactic(auto, using(crate::proofs::Noting::noting))]
+    fn enter_members(&mut self, class: &Class, number: u32, faults: &mut Faults)
+        ensures visible { around self.new ≡ members_entered (around self.old) number class.now.members }
+        ensures faults { faults.new ≡ all_noted faults.old (members_faults (around self.old) class.now number class.now.members) }
+    {
         for member in class.members.as_slice() {
             self.enter_member(class, member, number, faults);
         }
-        for member in class.members.as_slice() {
-            self.leave_method(member);
-        }
-        leave_params(&mut self.params, class.params.list.as_slice(), BY_CLASS);
     }
 
-    fn enter_member(&mut self, class: &Class, member: &Member, number: u32, faults: &mut Faults) {
+    #[tactic(auto, using(crate::proofs::Noting::noting))]
+    fn enter_member(&mut self, class: &Class, member: &Member, number: u32, faults: &mut Faults)
+        ensures visible { around self.new ≡ member_entered (around self.old) number member.now }
+        ensures faults { faults.new ≡ all_noted faults.old (member_faults (around self.old) class.now number member.now) }
+    {
         match member {
             Member::Regions { names, .. } => {
                 enter_names(&mut self.regions, names.as_slice(), number, faults);
@@ -137,15 +160,13 @@ impl Visible {
         }
     }
 
-    fn enter_method(&mut self, class: &Class, method: &Method, faults: &mut Faults) {
+    #[tactic(auto, using(crate::proofs::Noting::noting))]
+    fn enter_method(&mut self, class: &Class, method: &Method, faults: &mut Faults)
+        ensures visible { around self.new ≡ method_entered (around self.old) method.now }
+        ensures faults { faults.new ≡ all_noted faults.old (method_faults (around self.old) class.now method.now) }
+    {
         note_misnamed(class, method, faults);
-        let is_new = match method.result {
-            MethodResult::Constructor => self.constructors.enter(method.name, BY_CLASS),
-            _ => self.methods.enter(method.name, BY_CLASS),
-        };
-        if !is_new {
-            faults.note(Kind::Duplicate, method.place);
-        }
+        self.enter_method_name(method, faults);
         let params = method.params.list.as_slice();
         enter_params(&mut self.params, params, BY_METHOD, faults);
         leave_params(&mut self.params, params, BY_METHOD);
@@ -154,7 +175,31 @@ impl Visible {
         leave_formals(&mut self.formals, formals, BY_METHOD);
     }
 
-    fn leave_method(&mut self, member: &Member) {
+    #[tactic(auto, using(crate::proofs::Noting::noting))]
+    fn enter_method_name(&mut self, method: &Method, faults: &mut Faults)
+        ensures visible { around self.new ≡ method_named (around self.old) method.now }
+        ensures faults { faults.new ≡ all_noted faults.old (second_method (around self.old) method.now) }
+    {
+        let is_new = match method.result {
+            MethodResult::Constructor => self.constructors.enter(method.name, BY_CLASS),
+            _ => self.methods.enter(method.name, BY_CLASS),
+        };
+        if !is_new {
+            faults.note(Kind::Duplicate, method.place);
+        }
+    }
+
+    fn leave_methods(&mut self, members: &[Member])
+        ensures { around self.new ≡ methods_left (around self.old) members.now }
+    {
+        for member in members {
+            self.leave_method(member);
+        }
+    }
+
+    fn leave_method(&mut self, member: &Member)
+        ensures { around self.new ≡ method_left (around self.old) member.now }
+    {
         if let Member::Method(method) = member {
             self.methods.leave(method.name, BY_CLASS);
             self.constructors.leave(method.name, BY_CLASS);
@@ -162,15 +207,23 @@ impl Visible {
     }
 
     /// Takes back the names that the class hands down to what extends it.
-    fn leave_class(&mut self, class: &Class, number: u32) {
+    fn leave_class(&mut self, class: &Class, number: u32)
+        ensures { around self.new ≡ class_left (around self.old) number class.now.members }
+    {
         for member in class.members.as_slice() {
-            match member {
-                Member::Regions { names, .. } => {
-                    leave_names(&mut self.regions, names.as_slice(), number);
-                }
-                Member::Field(field) => self.fields.leave(field.name, number),
-                Member::Method(_) => {}
+            self.leave_member(member, number);
+        }
+    }
+
+    fn leave_member(&mut self, member: &Member, number: u32)
+        ensures { around self.new ≡ member_left (around self.old) number member.now }
+    {
+        match member {
+            Member::Regions { names, .. } => {
+                leave_names(&mut self.regions, names.as_slice(), number);
             }
+            Member::Field(field) => self.fields.leave(field.name, number),
+            Member::Method(_) => {}
         }
     }
 }

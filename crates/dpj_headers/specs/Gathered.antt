@@ -1,0 +1,103 @@
+-- What the headers of a program are.
+use Rattle.std.specs.Prelude.{◌≡◌, ℕ, ◌+◌, ◌==◌, ◌&&◌, Bool, true, false, cond, List, [], ◌∷◌, ◌++◌, map, count_by, codes, length, slice_get, Option, None, Some, option_and_then}
+use Rattle.std.specs.List.{flat_map, position_from}
+use Rattle.std.specs.Option.{option_map, option_map_or}
+use Rattle.std.specs.Str.{bytes_eq}
+use Rattle.dpj_tree.specs.declared.class.Class.{Class}
+use Rattle.dpj_tree.specs.declared.class.Member.{Member}
+use Rattle.dpj_tree.specs.declared.class.Member.TheVariants as member
+use Rattle.dpj_tree.specs.declared.class.Program.{Program}
+use Rattle.dpj_tree.specs.declared.region.Named.{Named}
+use Rattle.dpj_tree.specs.declared.region.ParamTree.{ParamTree}
+use Rattle.dpj_headers.specs.declared.header.Header.{Header}
+use Rattle.dpj_headers.specs.declared.header.Headers.{Headers}
+use Rattle.dpj_headers.specs.declared.header.ParamRow.{ParamRow}
+use Rattle.dpj_headers.specs.First.{class_named, parents_in}
+use Rattle.dpj_headers.specs.Headers.{class_of, param_of, own_region, atomic_regions, main_of}
+use Rattle.dpj_headers.specs.Numbers.{as_number}
+use Rattle.dpj_headers.specs.Rounds.{entry_of}
+use Rattle.dpj_headers.specs.Second.{superclasses}
+
+abbrev pub param_row : ParamTree → ParamRow
+param_row param = record { name = param.name; atomic = param.atomic }
+
+abbrev pub is_field : Member → Bool
+is_field (member.Regions is_atomic names) = false
+is_field (member.Field field) = true
+is_field (member.Method method) = false
+
+-- how many fields a class declares
+abbrev pub field_count : Class → ℕ
+field_count class = count_by is_field class.members
+
+-- how many fields some classes declare together
+abbrev pub fields_together : List Class → List ℕ → ℕ
+fields_together classes [] = 0
+fields_together classes (at ∷ more) = option_map_or field_count (slice_get classes at) 0 + fields_together classes more
+
+-- how many fields an object of a class has: what the class and its superclasses declare
+abbrev pub object_fields : List Class → List (Option ℕ) → ℕ → ℕ
+object_fields classes parents at = as_number (fields_together classes (at ∷ superclasses parents at))
+
+-- a class without its members
+abbrev pub header_row : List (Option ℕ) → (ℕ → ℕ) → ℕ → Class → Header
+header_row parents fields at class = record {
+  name = class.name;
+  place = class.place;
+  parent = entry_of parents at;
+  params = map param_row class.params.list;
+  fields = fields at;
+}
+
+abbrev pub header_rows : List (Option ℕ) → (ℕ → ℕ) → ℕ → List Class → List Header
+header_rows parents fields at [] = []
+header_rows parents fields at (class ∷ classes) = header_row parents fields at class ∷ header_rows parents fields (at + 1) classes
+
+-- the last place, counted on from a number, that passes a test; else what was found before
+abbrev pub last_place : {A : Type 0} → (A → Bool) → ℕ → List A → Option ℕ → Option ℕ
+last_place test at [] found = found
+last_place test at (x ∷ xs) found = last_place test (at + 1) xs (cond (test x) (Some (as_number at)) found)
+
+-- the region parameter of that name, by its position among those of the class
+abbrev pub param_number : List Class → ℕ → ℕ → Option ℕ
+param_number classes at name =
+    option_and_then (λ class. last_place (λ param. param.name == name) 0 class.params.list None) (slice_get classes at)
+
+-- a region name where it is declared
+pub record RegionRow : Type 0 where
+  pub owner : ℕ
+  pub name : ℕ
+  pub is_atomic : Bool
+
+abbrev pub region_rows : ℕ → Bool → List Named → List RegionRow
+region_rows owner is_atomic names = map (λ named. record { owner = owner; name = named.name; is_atomic = is_atomic }) names
+
+abbrev pub member_regions : ℕ → Member → List RegionRow
+member_regions owner (member.Regions is_atomic names) = region_rows owner is_atomic names
+member_regions owner (member.Field field) = []
+member_regions owner (member.Method method) = []
+
+-- all region names in the order of the text
+abbrev pub all_regions : ℕ → List Class → List RegionRow
+all_regions at [] = []
+all_regions at (class ∷ classes) = flat_map (member_regions (as_number at)) class.members ++ all_regions (at + 1) classes
+
+abbrev pub is_region : ℕ → ℕ → RegionRow → Bool
+is_region owner name row = (row.owner == owner) && (row.name == name)
+
+-- the region name of a class, by its position among all region names
+abbrev pub region_number : List Class → ℕ → ℕ → Option ℕ
+region_number classes owner name = last_place (is_region owner name) 0 (all_regions 0 classes) None
+
+-- the number of a text among the names
+abbrev pub name_number : List (List ℕ) → List ℕ → Option ℕ
+name_number names text = option_map as_number (position_from (λ name. bytes_eq name text) 0 names)
+
+-- the headers are those of the program; a name means the class, region parameter or region name that it is the name of
+pub record AreHeaders (program : Program) (headers : Headers) : Type 0 where
+  pub rows : headers.rows ≡ header_rows (parents_in program.classes) (object_fields program.classes (parents_in program.classes)) 0 program.classes
+  pub classes : (name : ℕ) → class_of headers name ≡ class_named program.classes name
+  pub params : (class name : ℕ) → param_of headers class name ≡ param_number program.classes class name
+  pub regions : (class name : ℕ) → own_region headers class name ≡ region_number program.classes class name
+  pub atomic : atomic_regions headers ≡ map (λ row. row.is_atomic) (all_regions 0 program.classes)
+  pub main : main_of headers ≡ name_number program.names (codes "Main")
