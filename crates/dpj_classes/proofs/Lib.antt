@@ -1,5 +1,7 @@
 pub mod Above
+pub mod Counted
 pub mod Joined
 pub mod Marking
 pub mod Params
+pub mod Parts
 pub mod Rising

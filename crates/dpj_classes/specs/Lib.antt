@@ -1,8 +1,13 @@
+pub mod Around
 pub mod Bodies
+pub mod Build
 pub mod Main
 pub mod Marking
 pub mod Overriding
 pub mod Reach
+pub mod Reading
+pub mod Rows
+pub mod Signatures
 pub mod Summary
 pub mod Supers
 pub mod Table

@@ -25,6 +25,7 @@ mod shape;
 mod signatures;
 mod summary;
 mod table;
+mod written;
 
 pub use dpj_types::same_type;
 pub use make::build;

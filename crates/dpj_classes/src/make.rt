@@ -1,11 +1,14 @@
-ghost use Rattle.std.specs.Prelude.{◌≡◌, ◌≤◌, ◌↔◌, ◌++◌, ℕ, List, length, IsTrue, IfOk};
+ghost use Rattle.std.specs.Prelude.{◌≡◌, ◌≤◌, ◌↔◌, ◌++◌, ℕ, List, None, Some, map, length, IsTrue, IfOk, IfErr, OnOk};
 ghost use Rattle.std.specs.List.{flat_map};
+ghost use Rattle.dpj_base.specs.Refused.{IfRefused};
 ghost use Rattle.dpj_base.specs.Types.{Ordered};
 ghost use Rattle.dpj_classes.specs.declared.reach.Edge.{Edge as AnEdge};
 ghost use Rattle.dpj_classes.specs.Bodies.{class_marks, override_edges};
+ghost use Rattle.dpj_classes.specs.Build.{first_of, text_faults, table_faults, IsReadOf, IsTold};
 ghost use Rattle.dpj_classes.specs.Reach.{IsBehind};
+ghost use Rattle.dpj_classes.specs.Rows.{plain_super, plain_field, plain_method, all_constraints, supers_meant, fields_meant, methods_meant};
 ghost use Rattle.dpj_classes.specs.Supers.{classes_in, all_extending};
-ghost use Rattle.dpj_classes.specs.Table.{headers_of, methods_of, is_forking, supers_of};
+ghost use Rattle.dpj_classes.specs.Table.{headers_of, all_given, fields_of, methods_of, is_forking, supers_of};
 
 use crate::forking::find_forks;
 use crate::main_class::check_main;
@@ -26,17 +29,22 @@ pub fn build(alloc: Global, program: &Program) -> Result<Table, Stop>
     ensures extending { IfOk result (λ table. classes_in (supers_of table) ≡ all_extending (headers_of table) 0 program.now.classes) }
     ensures forks { IfOk result (λ table. (calls : List AnEdge) × ((at : ℕ) → IsTrue (is_forking table at) ↔ IsBehind (flat_map class_marks program.now.classes) (calls ++ override_edges table (methods_of table)) at)) }
     ensures ordered { IfOk result (λ table. length program.now.classes ≤ 4294967296 → Ordered (supers_of table)) }
+    ensures read { IfOk result (λ table. IsReadOf program.now.classes table) }
+    ensures judged { IfOk result (λ table. first_of (table_faults table program.now.names) ≡ None) }
+    ensures refused { IfErr result (λ stop. IfRefused stop (λ fault. IsTold program.now.classes program.now.names fault)) }
 {
     let headers = headers(alloc, program)?;
     let mut table = of_signatures(alloc, headers, program)?;
-    judge(alloc, &table, program.names.as_slice())?;
     table.forks = find_forks(alloc, &table, program.classes.as_slice())?;
+    judge(alloc, &table, program.names.as_slice())?;
     Ok(table)
 }
 
 /// The table with all signatures, before overriding and `Main` are looked at.
 fn of_signatures(alloc: Global, headers: Headers, program: &Program) -> Result<Table, Stop>
-    ensures { IfOk result (λ table. classes_in (supers_of table) ≡ all_extending (headers_of table) 0 program.now.classes) }
+    ensures read { IfOk result (λ table. IsReadOf program.now.classes table) }
+    ensures refused { IfErr result (λ stop. IfRefused stop (λ fault. first_of (text_faults headers program.now.classes) ≡ Some fault)) }
+    ensures extending { IfOk result (λ table. classes_in (supers_of table) ≡ all_extending (headers_of table) 0 program.now.classes) }
 {
     let classes = program.classes.as_slice();
     let read = read_all(alloc, &headers, classes)?;
@@ -59,7 +67,13 @@ struct Read {
 
 /// Reads all signatures, or tells the first fault in them.
 fn read_all(alloc: Global, headers: &Headers, classes: &[Class]) -> Result<Read, Stop>
-    ensures { IfOk result (λ read. classes_in read.made.supers ≡ all_extending headers.now 0 classes.now) }
+    ensures free { IfOk result (λ read. first_of (text_faults headers.now classes.now) ≡ None) }
+    ensures refused { IfErr result (λ stop. IfRefused stop (λ fault. first_of (text_faults headers.now classes.now) ≡ Some fault)) }
+    ensures given { IfOk result (λ read. read.given ≡ all_constraints headers.now 0 classes.now) }
+    ensures supers { IfOk result (λ read. map plain_super read.made.supers ≡ supers_meant headers.now (all_constraints headers.now 0 classes.now) 0 classes.now) }
+    ensures fields { IfOk result (λ read. map plain_field read.made.fields ≡ fields_meant headers.now (all_constraints headers.now 0 classes.now) 0 classes.now) }
+    ensures methods { IfOk result (λ read. map plain_method read.made.methods ≡ methods_meant headers.now (all_constraints headers.now 0 classes.now) 0 0 classes.now) }
+    ensures extending { IfOk result (λ read. classes_in read.made.supers ≡ all_extending headers.now 0 classes.now) }
 {
     let mut faults = Faults::by_place();
     let given = class_constraints(alloc, headers, classes, &mut faults)?;
@@ -102,6 +116,9 @@ fn find_places(
 fn together(headers: Headers, read: Read, places: Places, forks: Items<bool>) -> Table
     ensures supers { supers_of result ≡ read.made.supers }
     ensures headers { headers_of result ≡ headers }
+    ensures given { all_given result ≡ read.given }
+    ensures fields { fields_of result ≡ read.made.fields }
+    ensures methods { methods_of result ≡ read.made.methods }
 {
     let Read { given, made } = read;
     let Signatures {
@@ -125,7 +142,11 @@ fn together(headers: Headers, read: Read, places: Places, forks: Items<bool>) ->
 }
 
 /// Tells the first fault of overriding and of `Main`.
-fn judge(alloc: Global, table: &Table, names: &[Bytes]) -> Result<(), Stop> {
+#[tactic(auto, using(dpj_headers::proofs::Noting::noting))]
+fn judge(alloc: Global, table: &Table, names: &[Bytes]) -> Result<(), Stop>
+    ensures judged { OnOk result (first_of (table_faults table.now names.now) ≡ None) }
+    ensures refused { IfErr result (λ stop. IfRefused stop (λ fault. first_of (table_faults table.now names.now) ≡ Some fault)) }
+{
     let mut faults = Faults::by_place();
     check_overriding(alloc, table, &mut faults)?;
     check_main(table, names, &mut faults);
