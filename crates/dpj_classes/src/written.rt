@@ -152,7 +152,15 @@ fn read_parent_args(
     ensures noted { OnOk result (faults.new ≡ all_noted faults.old (parent_arg_faults (plain_scope scope.now) trees.now parent)) }
 {
     let params = scope.class_params(parent);
-    match read_args(alloc, scope, faults, trees, params, true, &IndexNames::none()) {
+    match read_args(
+        alloc,
+        scope,
+        faults,
+        trees,
+        params,
+        true,
+        &IndexNames::none(),
+    ) {
         Ok(read) => Ok(read),
         Err(Stop::NoMemory) => Err(NoMemory),
         Err(Stop::Refused(_)) => unreachable!(),

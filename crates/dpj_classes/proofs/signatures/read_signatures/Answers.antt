@@ -21,10 +21,10 @@ loop-at-preserved c =
       supers = grind (arith, common_steps);
       fields = grind (arith, common_steps);
       methods =
-    methods_step headers given at c.loop-at.made.methods c.class.new.made.methods class (drop at classes) (drop (at + 1) classes)
-    (methods_meant headers given 0 0 classes) left (cc c.in_ok-class.ensures.methods) c.loop-at.invariant.methods;
+          methods_step headers given at c.loop-at.made.methods c.class.new.made.methods class (drop at classes) (drop (at + 1) classes)
+          (methods_meant headers given 0 0 classes) left (cc c.in_ok-class.ensures.methods) c.loop-at.invariant.methods;
       noted =
-    noted_next c.loop-at.faults c.class.new.faults (all_noted c.args.faults.now (signature_faults headers given 0 classes)) (signature_faults headers given at (drop at classes))
-    (class_faults (class_scope headers given (as_number at)) class) (signature_faults headers given (at + 1) (drop (at + 1) classes))
-    (ap (signature_faults headers given at) left) (cc c.in_ok-class.ensures.noted) c.loop-at.invariant.noted;
+          noted_next c.loop-at.faults c.class.new.faults (all_noted c.args.faults.now (signature_faults headers given 0 classes)) (signature_faults headers given at (drop at classes))
+          (class_faults (class_scope headers given (as_number at)) class) (signature_faults headers given (at + 1) (drop (at + 1) classes))
+          (ap (signature_faults headers given at) left) (cc c.in_ok-class.ensures.noted) c.loop-at.invariant.noted;
     }
