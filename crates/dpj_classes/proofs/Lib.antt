@@ -1,5 +1,6 @@
 pub mod Above
 pub mod Counted
+pub mod Finding
 pub mod Joined
 pub mod Marking
 pub mod Params

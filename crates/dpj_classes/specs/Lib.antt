@@ -4,6 +4,7 @@ pub mod Build
 pub mod Main
 pub mod Marking
 pub mod Overriding
+pub mod Places
 pub mod Reach
 pub mod Reading
 pub mod Rows

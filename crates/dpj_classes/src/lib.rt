@@ -19,6 +19,7 @@ mod main_class;
 mod make;
 mod overridden;
 mod overriding;
+mod places;
 mod reach;
 mod rows;
 mod shape;
