@@ -1,6 +1,7 @@
 pub mod Around
 pub mod Bodies
 pub mod Build
+pub mod Calls
 pub mod Main
 pub mod Marking
 pub mod Overriding
@@ -8,6 +9,7 @@ pub mod Places
 pub mod Reach
 pub mod Reading
 pub mod Rows
+pub mod Shapes
 pub mod Signatures
 pub mod Summary
 pub mod Supers

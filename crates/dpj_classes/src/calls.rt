@@ -1,7 +1,11 @@
-ghost use Rattle.std.specs.Prelude.{◌≡◌, ◌||◌, map, IfOk, OnOk};
+ghost use Rattle.std.specs.Prelude.{◌≡◌, ◌||◌, ◌++◌, ◌+◌, map, length, IfOk, OnOk};
 ghost use Rattle.dpj_tree.specs.Nd.{holds_nd, some_holds_nd};
-ghost use Rattle.dpj_tree.specs.Plain.{plain_stmt, plain_stmts};
+ghost use Rattle.dpj_tree.specs.Plain.{plain_expr, plain_exprs, plain_stmt, plain_stmts};
+ghost use Rattle.dpj_resolve.specs.Scoped.{with_name};
 ghost use Rattle.dpj_classes.specs.Bodies.{foreach_holds_nd};
+ghost use Rattle.dpj_classes.specs.Calls.{shape_of, id_of, calls_of, all_calls, invocation_shape, invocation_calls};
+ghost use Rattle.dpj_classes.specs.Shapes.{tree_shape, written_shape, field_shape, called_row, call_shape, run_row, create_shape};
+ghost use Rattle.dpj_classes.specs.Table.{headers_of};
 
 use crate::shape::{NO_CLASS, Shape};
 use crate::table::Table;
@@ -55,12 +59,16 @@ impl Walk<'_> {
         locals: &mut Scoped<Shape>,
         name: u32,
         tree: &TypeTree,
-    ) -> Result<(), NoMemory> {
+    ) -> Result<(), NoMemory>
+        ensures { OnOk result (locals.new ≡ with_name locals.old name (tree_shape (headers_of self.now.table.now) tree.now)) }
+    {
         locals.enter(name, Shape::of_tree(self.table.headers(), tree))
     }
 
     /// The shape of a field of an object.
-    fn field(&self, of: Shape, name: u32) -> Shape {
+    fn field(&self, of: Shape, name: u32) -> Shape
+        ensures { result ≡ field_shape self.now.table.now of name }
+    {
         let Some(class) = of.object() else {
             return NO_CLASS;
         };
@@ -71,7 +79,10 @@ impl Walk<'_> {
     }
 
     /// Calls a method of an object. The shape of the result.
-    fn call(&self, called: &mut Items<u32>, of: Shape, name: u32) -> Result<Shape, NoMemory> {
+    fn call(&self, called: &mut Items<u32>, of: Shape, name: u32) -> Result<Shape, NoMemory>
+        ensures shape { IfOk result (λ shape. shape ≡ call_shape self.now.table.now of name) }
+        ensures called { OnOk result (called.new ≡ called.old ++ id_of (called_row self.now.table.now of name)) }
+    {
         let Some(class) = of.object() else {
             return Ok(NO_CLASS);
         };
@@ -83,7 +94,10 @@ impl Walk<'_> {
     }
 
     /// Makes an object of a class.
-    fn create(&self, called: &mut Items<u32>, name: u32) -> Result<Shape, NoMemory> {
+    fn create(&self, called: &mut Items<u32>, name: u32) -> Result<Shape, NoMemory>
+        ensures shape { IfOk result (λ shape. shape ≡ create_shape self.now.table.now name) }
+        ensures called { OnOk result (called.new ≡ called.old ++ id_of (run_row self.now.table.now name)) }
+    {
         let Some(class) = self.table.headers().class(name) else {
             return Ok(NO_CLASS);
         };
@@ -94,8 +108,10 @@ impl Walk<'_> {
     }
 
     /// The shape of an array that is made.
-    fn made(&self, base: &BaseTree, suffixes: &[Suffix]) -> Shape {
-        Shape::written(self.table.headers(), base, suffixes.len().saturating_add(1))
+    fn made(&self, base: &BaseTree, suffixes: &[Suffix]) -> Shape
+        ensures { result ≡ written_shape (headers_of self.now.table.now) base.now (length suffixes.now + 1) }
+    {
+        Shape::written(self.table.headers(), base, suffixes.len() + 1)
     }
 
     /// Goes through an expression. The shape of its value.
@@ -105,7 +121,10 @@ impl Walk<'_> {
         locals: &Scoped<Shape>,
         called: &mut Items<u32>,
         e: &Expr,
-    ) -> Result<Shape, NoMemory> {
+    ) -> Result<Shape, NoMemory>
+        ensures shape { IfOk result (λ shape. shape ≡ shape_of self.now.table.now self.now.class locals.now (plain_expr e.now)) }
+        ensures called { OnOk result (called.new ≡ called.old ++ calls_of self.now.table.now self.now.class locals.now (plain_expr e.now)) }
+    {
         match &e.kind {
             ExprKind::This => Ok(Shape::of_class(self.class)),
             ExprKind::Local(name) => Ok(locals.get(*name).copied().unwrap_or(NO_CLASS)),
@@ -138,7 +157,10 @@ impl Walk<'_> {
         locals: &Scoped<Shape>,
         called: &mut Items<u32>,
         e: &Expr,
-    ) -> Result<Shape, NoMemory> {
+    ) -> Result<Shape, NoMemory>
+        ensures shape { IfOk result (λ shape. shape ≡ invocation_shape self.now.table.now self.now.class locals.now (plain_expr e.now)) }
+        ensures called { OnOk result (called.new ≡ called.old ++ invocation_calls self.now.table.now self.now.class locals.now (plain_expr e.now)) }
+    {
         match &e.kind {
             ExprKind::Call {
                 of,
@@ -168,12 +190,15 @@ impl Walk<'_> {
     }
 
     #[cycle(exprs)]
+    #[tactic(auto, using(std::proofs::Common::append_assoc))]
     fn exprs(
         &self,
         locals: &Scoped<Shape>,
         called: &mut Items<u32>,
         all: &[Expr],
-    ) -> Result<(), NoMemory> {
+    ) -> Result<(), NoMemory>
+        ensures { OnOk result (called.new ≡ called.old ++ all_calls self.now.table.now self.now.class locals.now (plain_exprs (map plain_expr all.now))) }
+    {
         for e in all {
             self.expr(locals, called, e)?;
         }
