@@ -1,12 +1,13 @@
 -- Which methods and constructors a body calls by itself, by the classes of receivers alone.
-use Rattle.std.specs.Prelude.{ℕ, ◌+◌, List, [], ◌∷◌, ◌++◌, map, length, fold, unwrap_or, Option}
+use Rattle.std.specs.Prelude.{◌≡◌, ℕ, ◌+◌, List, [], ◌∷◌, ◌++◌, map, length, fold, unwrap_or, Option, None, Some}
 use Rattle.std.specs.Option.{option_map_or}
 use Rattle.dpj_headers.specs.declared.header.Headers.{Headers}
 use Rattle.dpj_tree.specs.declared.class.Formal.{Formal}
 use Rattle.dpj_tree.specs.declared.class.Method.{Method}
+use Rattle.dpj_tree.specs.declared.region.TypeTree.{TypeTree}
 use Rattle.dpj_tree.specs.Plain.{PlainExpr, expression, ExprForm, int, boolean, null, this, local, field, element, call, create, create_array, unary, binary, PlainExprs, no_exprs, more_exprs, PlainStmt, statement, StmtForm, block, declare, assign_local, assign_field, assign_element, perform, choice, choice_else, while_loop, return_nothing, return_value, print, print_text, cobegin, foreach, foreach_parts, atomic, local_regions, PlainStmts, no_stmts, more_stmts, plain_stmt, plain_stmts}
 use Rattle.dpj_resolve.specs.Names.{Names}
-use Rattle.dpj_resolve.specs.Scoped.{no_names, with_name, value_in}
+use Rattle.dpj_resolve.specs.Scoped.{no_names, names_in, values_in, with_name, value_in}
 use Rattle.dpj_classes.specs.declared.rows.MethodRow.{MethodRow}
 use Rattle.dpj_classes.specs.declared.shape.Shape.{Shape}
 use Rattle.dpj_classes.specs.declared.table.Table.{Table}
@@ -74,10 +75,18 @@ invocation_calls table class locals (expression node place (create named regions
 invocation_calls table class locals (expression node place (create_array base suffixes len rpl index)) = calls_of table class locals len
 invocation_calls table class locals e = []
 
--- the locals behind a statement: a declaration brings its name into scope
+-- each name has its value
+abbrev pub IsPaired : Names Shape → Type 0
+IsPaired locals = length (names_in locals) ≡ length (values_in locals)
+
+-- the local that a statement declares, with its type
+abbrev pub declared_by : PlainStmt → Option (ℕ × TypeTree)
+declared_by (statement node place (declare is_final ty name value)) = Some (name, ty)
+declared_by s = None
+
+-- the locals behind a statement
 abbrev pub behind : Headers → Names Shape → PlainStmt → Names Shape
-behind headers locals (statement node place (declare is_final ty name value)) = with_name locals name (tree_shape headers ty)
-behind headers locals s = locals
+behind headers locals s = option_map_or (λ local. with_name locals local.0 (tree_shape headers local.1)) (declared_by s) locals
 
 -- the calls and creations of a statement
 abbrev mutual
@@ -117,6 +126,26 @@ abbrev mutual
   pub branch_calls : Table → ℕ → Names Shape → PlainStmts → List ℕ
   branch_calls table class locals no_stmts = []
   branch_calls table class locals (more_stmts s ss) = stmt_calls table class locals s ++ branch_calls table class locals ss
+
+-- the same of a foreach or a `foreach_parts`; any other statement is none
+abbrev pub foreach_calls : Table → ℕ → Names Shape → PlainStmt → List ℕ
+foreach_calls table class locals (statement node place (foreach nd var start count body)) =
+    calls_of table class locals start ++ calls_of table class locals count ++ stmt_calls table class (with_name locals var.name no_class) body
+foreach_calls table class locals (statement node place (foreach_parts view var array count body)) =
+    calls_of table class locals array ++ calls_of table class locals count
+    ++ stmt_calls table class (with_name (with_name locals view.name (shape_of table class locals array)) var.name no_class) body
+foreach_calls table class locals s = []
+
+-- the same of a statement without statements in it
+abbrev pub simple_calls : Table → ℕ → Names Shape → PlainStmt → List ℕ
+simple_calls table class locals (statement node place (declare is_final ty name value)) = calls_of table class locals value
+simple_calls table class locals (statement node place (assign_local target value)) = calls_of table class locals value
+simple_calls table class locals (statement node place (assign_field target value)) = calls_of table class locals target ++ calls_of table class locals value
+simple_calls table class locals (statement node place (assign_element target value)) = calls_of table class locals target ++ calls_of table class locals value
+simple_calls table class locals (statement node place (perform performed)) = calls_of table class locals performed
+simple_calls table class locals (statement node place (return_value value)) = calls_of table class locals value
+simple_calls table class locals (statement node place (print value)) = calls_of table class locals value
+simple_calls table class locals s = []
 
 -- the formals of a method
 abbrev pub formal_shapes : Headers → List Formal → Names Shape
