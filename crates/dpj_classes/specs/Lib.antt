@@ -2,6 +2,7 @@ pub mod Around
 pub mod Bodies
 pub mod Build
 pub mod Calls
+pub mod Edges
 pub mod Main
 pub mod Marking
 pub mod Overriding
