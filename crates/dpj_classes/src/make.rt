@@ -1,10 +1,11 @@
-ghost use Rattle.std.specs.Prelude.{◌≡◌, ◌≤◌, ◌↔◌, ◌++◌, ℕ, List, None, Some, map, length, IsTrue, IfOk, IfErr, OnOk};
+ghost use Rattle.std.specs.Prelude.{◌≡◌, ◌≤◌, ◌↔◌, ◌++◌, ℕ, List, [], None, Some, map, length, IsTrue, IfOk, IfErr, OnOk};
 ghost use Rattle.std.specs.List.{flat_map};
 ghost use Rattle.dpj_base.specs.Refused.{IfRefused};
 ghost use Rattle.dpj_base.specs.Types.{Ordered};
 ghost use Rattle.dpj_classes.specs.declared.reach.Edge.{Edge as AnEdge};
 ghost use Rattle.dpj_classes.specs.Bodies.{class_marks, override_edges};
 ghost use Rattle.dpj_classes.specs.Build.{first_of, text_faults, table_faults, IsReadOf, IsTold};
+ghost use Rattle.dpj_classes.specs.Edges.{call_edges, without_forks};
 ghost use Rattle.dpj_classes.specs.Places.{FindsRows};
 ghost use Rattle.dpj_classes.specs.Reach.{IsBehind};
 ghost use Rattle.dpj_classes.specs.Rows.{plain_super, plain_field, plain_method, all_constraints, supers_meant, fields_meant, methods_meant};
@@ -28,6 +29,7 @@ use std::alloc::Global;
 pub fn build(alloc: Global, program: &Program) -> Result<Table, Stop>
     ensures extending { IfOk result (λ table. classes_in (supers_of table) ≡ all_extending (headers_of table) 0 program.now.classes) }
     ensures forks { IfOk result (λ table. (calls : List AnEdge) × ((at : ℕ) → IsTrue (is_forking table at) ↔ IsBehind (flat_map class_marks program.now.classes) (calls ++ override_edges table (methods_of table)) at)) }
+    ensures reach { IfOk result (λ table. (at : ℕ) → IsTrue (is_forking table at) ↔ IsBehind (flat_map class_marks program.now.classes) (call_edges (without_forks table) 0 0 program.now.classes ++ override_edges table (methods_of table)) at) }
     ensures ordered { IfOk result (λ table. length program.now.classes ≤ 4294967296 → Ordered (supers_of table)) }
     ensures read { IfOk result (λ table. IsReadOf program.now.classes table) }
     ensures found { IfOk result (λ table. FindsRows (length program.now.classes) table) }
@@ -46,6 +48,7 @@ fn of_signatures(alloc: Global, headers: Headers, program: &Program) -> Result<T
     ensures read { IfOk result (λ table. IsReadOf program.now.classes table) }
     ensures found { IfOk result (λ table. FindsRows (length program.now.classes) table) }
     ensures refused { IfErr result (λ stop. IfRefused stop (λ fault. first_of (text_faults headers program.now.classes) ≡ Some fault)) }
+    ensures forks { IfOk result (λ table. table.forks ≡ []) }
     ensures extending { IfOk result (λ table. classes_in (supers_of table) ≡ all_extending (headers_of table) 0 program.now.classes) }
 {
     let classes = program.classes.as_slice();
@@ -85,6 +88,7 @@ fn read_all(alloc: Global, headers: &Headers, classes: &[Class]) -> Result<Read,
 }
 
 fn together(headers: Headers, read: Read, places: Places, forks: Items<bool>) -> Table
+    ensures forks { result.forks ≡ forks }
     ensures places { (result.super_places ≡ places.supers) × (result.field_places ≡ places.fields) × (result.method_places ≡ places.methods) × (result.constructors ≡ places.constructors) }
     ensures supers { supers_of result ≡ read.made.supers }
     ensures headers { headers_of result ≡ headers }

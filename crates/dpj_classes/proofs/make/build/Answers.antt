@@ -1,4 +1,4 @@
-use Rattle.std.proofs.Common.{◌≡◌, ◌∙◌, ◌↔◌, ◌++◌, ℕ, true, List, Some, ap, sym, subst}
+use Rattle.std.proofs.Common.{◌≡◌, ◌∙◌, ◌↔◌, ◌++◌, ℕ, Bool, true, List, Some, ap, sym, subst}
 use Rattle.std.specs.List.{flat_map}
 use Rattle.dpj_base.specs.Refused.{IfRefused}
 use Rattle.dpj_tree.specs.declared.class.Class.{Class}
@@ -8,6 +8,7 @@ use Rattle.dpj_classes.specs.declared.table.Table.{Table}
 use Rattle.dpj_classes.specs.Bodies.{class_marks, override_edges}
 use Rattle.dpj_classes.specs.Build.{first_of, table_faults, IsReadOf, IsTold}
 use Rattle.dpj_classes.specs.Build.IsTold.{in_table}
+use Rattle.dpj_classes.specs.Edges.{call_edges, without_forks}
 use Rattle.dpj_classes.specs.Reach.{is_marked, IsBehind}
 use Rattle.dpj_classes.specs.Table.{methods_of}
 use Rattle.dpj_classes.proofs.Rising.{extending_ordered}
@@ -17,11 +18,23 @@ pub returns-clause-ordered : goal.returns-clause-ordered
 returns-clause-ordered c =
     λ few. extending_ordered c.in_ok-table.table.headers c.args.program.now.classes c.in_ok-table.table.supers c.in_ok-table.ensures.extending few
 
+-- what is found of forks, along the edges of the text
+abbrev Exact : Table → List Class → List Bool → List Edge → Type 0
+Exact table classes forks calls = (at : ℕ) → (is_marked forks at ≡ true) ↔ IsBehind (flat_map class_marks classes) (calls ++ override_edges table (methods_of table)) at
+
 pub returns-clause-forks : goal.returns-clause-forks
 returns-clause-forks c =
     let table = c.in_ok-table.table in
     let forks = c.in_ok-table-2.field-0 in
-    subst (λ (classes : List Class). (calls : List Edge) × ((at : ℕ) → (is_marked forks at ≡ true) ↔ IsBehind (flat_map class_marks classes) (calls ++ override_edges table (methods_of table)) at)) c.as_slice.ensures c.in_ok-table-2.ensures
+    (call_edges table 0 0 c.args.program.now.classes, subst (λ (classes : List Class). Exact table classes forks (call_edges table 0 0 classes)) c.as_slice.ensures c.in_ok-table-2.ensures)
+
+pub returns-clause-reach : goal.returns-clause-reach
+returns-clause-reach c =
+    let table = c.in_ok-table.table in
+    let forks = c.in_ok-table-2.field-0 in
+    let bare : table ≡ without_forks table = ap (λ (marks : List Bool). record table { forks = marks }) c.in_ok-table.ensures.forks in
+    let Found : List Class → Table → Type 0 = λ classes before. Exact table classes forks (call_edges before 0 0 classes) in
+    subst (Found c.args.program.now.classes) bare (subst (λ (classes : List Class). Found classes table) c.as_slice.ensures c.in_ok-table-2.ensures)
 
 pub returns-clause-read : goal.returns-clause-read
 returns-clause-read c =
