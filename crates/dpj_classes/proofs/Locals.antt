@@ -1,15 +1,10 @@
 -- Locals that come into scope and leave it again.
 use Rattle.std.proofs.Common.{◌≡◌, ◌∙◌, ℕ, ◌+◌, ◌≤◌, List, [], ◌∷◌, ◌++◌, length, take, Option, None, Some, refl, ap, sym, append_assoc, arith}
-use Rattle.std.specs.Option.{option_map_or}
 use Rattle.std.proofs.lemmas.List.{length-append, take-append-le, take_all}
-use Rattle.dpj_tree.specs.declared.region.TypeTree.{TypeTree}
-use Rattle.dpj_tree.specs.Plain.{PlainStmt}
-use Rattle.dpj_headers.specs.declared.header.Headers.{Headers}
 use Rattle.dpj_resolve.specs.Names.{Names}
-use Rattle.dpj_resolve.specs.Scoped.{with_name, names_left, names_in, values_in}
+use Rattle.dpj_resolve.specs.Scoped.{with_name, names_left, values_in}
 use Rattle.dpj_classes.specs.declared.shape.Shape.{Shape}
-use Rattle.dpj_classes.specs.Shapes.{tree_shape}
-use Rattle.dpj_classes.specs.Calls.{IsPaired, declared_by, behind}
+use Rattle.dpj_classes.specs.Calls.{IsPaired}
 
 -- the first of the locals are these
 pub record IsAbove (outer : ℕ) (old locals : Names Shape) : Type 0 where

@@ -1,5 +1,5 @@
 -- Faults noted part by part in a signature, where nothing is told.
-use Rattle.std.proofs.Common.{◌≡◌, ◌∙◌, List, [], ◌∷◌, ◌++◌, None, Some, Option, refl, sym, ap, subst}
+use Rattle.std.proofs.Common.{◌≡◌, ◌∙◌, List, [], ◌∷◌, ◌++◌, None, Some, refl, sym, ap, subst}
 use Rattle.dpj_base.specs.declared.refusal.Refusal.{Refusal}
 use Rattle.dpj_base.specs.declared.refusal.Stop.{Stop}
 use Rattle.dpj_base.specs.declared.refusal.Stop.TheVariants as stop

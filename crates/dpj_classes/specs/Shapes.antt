@@ -1,5 +1,5 @@
 -- What is known of a value without its regions: the class that it begins with, and how many arrays are around.
-use Rattle.std.specs.Prelude.{ℕ, zero, suc, ◌+◌, ◌-◌, ◌^◌, min, length, Option, None, Some, option_map, option_and_then}
+use Rattle.std.specs.Prelude.{ℕ, zero, suc, ◌+◌, min, length, Option, None, Some, option_and_then}
 use Rattle.std.specs.Option.{option_map_or}
 use Rattle.dpj_base.specs.Types.{PlainType, plain_type}
 use Rattle.dpj_base.specs.Types.PlainType.{class, array}

@@ -21,7 +21,6 @@ use Rattle.dpj_tree.specs.declared.region.RplTree.{RplTree}
 use Rattle.dpj_tree.specs.declared.region.TypeTree.{TypeTree}
 use Rattle.dpj_headers.specs.declared.header.ParamRow.{ParamRow}
 use Rattle.dpj_resolve.specs.declared.args.ReadArgs.{ReadArgs}
-use Rattle.dpj_resolve.specs.declared.paths.Need.{Need}
 use Rattle.dpj_resolve.specs.Args.{root_path}
 use Rattle.dpj_resolve.specs.Classes.{params_in, class_args, class_faults}
 use Rattle.dpj_resolve.specs.Reading.{path_meant, path_faults, args_read, arg_faults}

@@ -1,4 +1,4 @@
-use Rattle.std.proofs.Common.{◌≡◌, ◌∙◌, false, ap}
+use Rattle.std.proofs.Common.{◌∙◌, false, ap}
 use Rattle.dpj_headers.specs.Faults.{all_noted}
 use Rattle.dpj_resolve.specs.Reading.{path_faults}
 use Rattle.dpj_resolve.specs.Scopes.{plain_scope}
