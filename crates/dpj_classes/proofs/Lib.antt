@@ -1,5 +1,9 @@
 pub mod Above
+pub mod Counted
+pub mod Finding
 pub mod Joined
+pub mod Locals
 pub mod Marking
 pub mod Params
+pub mod Parts
 pub mod Rising

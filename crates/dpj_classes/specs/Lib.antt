@@ -1,8 +1,17 @@
+pub mod Around
 pub mod Bodies
+pub mod Build
+pub mod Calls
+pub mod Edges
 pub mod Main
 pub mod Marking
 pub mod Overriding
+pub mod Places
 pub mod Reach
+pub mod Reading
+pub mod Rows
+pub mod Shapes
+pub mod Signatures
 pub mod Summary
 pub mod Supers
 pub mod Table

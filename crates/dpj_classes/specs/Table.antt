@@ -23,6 +23,10 @@ headers_of table = table.headers
 abbrev pub own_field : Table → ℕ → ℕ → Option ℕ
 own_field table at name = owned_number table.field_places at name
 
+-- all fields, those of a class in the order of the text
+abbrev pub fields_of : Table → List FieldRow
+fields_of table = table.fields
+
 -- the field that a name means in a class
 abbrev pub field_of : Table → ℕ → ℕ → Option FieldRow
 field_of table at name =

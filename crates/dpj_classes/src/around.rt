@@ -1,3 +1,10 @@
+ghost use Rattle.std.specs.Prelude.{◌≡◌, IfOk, OnOk};
+ghost use Rattle.dpj_headers.specs.Faults.{all_noted};
+ghost use Rattle.dpj_resolve.specs.declared.scope.Site.TheVariants.{Signature as InSignature};
+ghost use Rattle.dpj_resolve.specs.Scopes.{plain_scope};
+ghost use Rattle.dpj_classes.specs.Around.{class_names, method_names, scope_under, with_names};
+ghost use Rattle.dpj_classes.specs.Signatures.{rpl_meant, rpl_faults, constraint_meant, constraint_faults, constraints_meant, constraints_faults};
+
 use dpj_base::{Constraint, Items, NoMemory, Rpl, Stop};
 use dpj_headers::{Faults, Headers};
 use dpj_resolve::{IndexNames, Need, Scope, Scoped, Site, path};
@@ -14,7 +21,9 @@ pub struct Names {
 }
 
 impl Names {
-    pub fn new(alloc: Global) -> Names {
+    pub fn new(alloc: Global) -> Names
+        ensures { result ≡ class_names }
+    {
         Names {
             params: Scoped::new(alloc),
             formals: Scoped::new(alloc),
@@ -22,7 +31,9 @@ impl Names {
         }
     }
 
-    pub fn of_method(alloc: Global, method: &Method) -> Result<Names, NoMemory> {
+    pub fn of_method(alloc: Global, method: &Method) -> Result<Names, NoMemory>
+        ensures { IfOk result (λ names. names ≡ method_names method.now) }
+    {
         let mut names = Names::new(alloc);
         for param in method.params.list.as_slice() {
             names.params.enter(param.name, param.atomic)?;
@@ -40,7 +51,10 @@ impl Names {
         class: u32,
         given: &'a [Constraint],
         classes_given: &'a [Items<Constraint>],
-    ) -> Scope<'a> {
+    ) -> Scope<'a>
+        ensures scope { plain_scope result ≡ with_names self.now (scope_under headers.now classes_given.now class given.now) }
+        ensures site { result.site ≡ InSignature }
+    {
         Scope {
             headers,
             class,
@@ -54,35 +68,66 @@ impl Names {
     }
 }
 
-/// Reads a region path outside of types.
+/// Reads a region path outside of types. In a signature its faults are only noted, so nothing but memory can be
+/// wanting.
 pub fn read_path(
     alloc: Global,
     scope: &Scope,
     faults: &mut Faults,
     tree: &RplTree,
     full: bool,
-) -> Result<Option<Rpl>, Stop> {
+) -> Result<Option<Rpl>, NoMemory>
+    requires { scope.now.site ≡ InSignature }
+    ensures meant { IfOk result (λ rpl. rpl ≡ rpl_meant (plain_scope scope.now) tree.now) }
+    ensures noted { OnOk result (faults.new ≡ all_noted faults.old (rpl_faults (plain_scope scope.now) full tree.now)) }
+{
     let need = Need {
         full,
         atomic: false,
     };
-    path(alloc, scope, faults, tree, need, &IndexNames::none())
+    match path(alloc, scope, faults, tree, need, &IndexNames::none()) {
+        Ok(rpl) => Ok(rpl),
+        Err(Stop::NoMemory) => Err(NoMemory),
+        Err(Stop::Refused(_)) => unreachable!(),
+    }
 }
 
 /// Reads constraints. One with a path that isn't known is left out.
+#[tactic(auto, using(dpj_headers::proofs::Noting::noting))]
 pub fn read_constraints(
     alloc: Global,
     scope: &Scope,
     faults: &mut Faults,
     trees: &[ConstrTree],
-) -> Result<Items<Constraint>, Stop> {
+) -> Result<Items<Constraint>, NoMemory>
+    requires { scope.now.site ≡ InSignature }
+    ensures meant { IfOk result (λ given. given ≡ constraints_meant (plain_scope scope.now) trees.now) }
+    ensures noted { OnOk result (faults.new ≡ all_noted faults.old (constraints_faults (plain_scope scope.now) trees.now)) }
+{
     let mut given = Items::new(alloc);
     for tree in trees {
-        let left = read_path(alloc, scope, faults, &tree.left, false)?;
-        let right = read_path(alloc, scope, faults, &tree.right, false)?;
-        if let (Some(left), Some(right)) = (left, right) {
-            given.push(Constraint { left, right })?;
+        if let Some(constraint) = read_constraint(alloc, scope, faults, tree)? {
+            given.push(constraint)?;
         }
     }
     Ok(given)
+}
+
+#[tactic(auto, using(dpj_headers::proofs::Noting::noting))]
+fn read_constraint(
+    alloc: Global,
+    scope: &Scope,
+    faults: &mut Faults,
+    tree: &ConstrTree,
+) -> Result<Option<Constraint>, NoMemory>
+    requires { scope.now.site ≡ InSignature }
+    ensures meant { IfOk result (λ constraint. constraint ≡ constraint_meant (plain_scope scope.now) tree.now) }
+    ensures noted { OnOk result (faults.new ≡ all_noted faults.old (constraint_faults (plain_scope scope.now) tree.now)) }
+{
+    let left = read_path(alloc, scope, faults, &tree.left, false)?;
+    let right = read_path(alloc, scope, faults, &tree.right, false)?;
+    match (left, right) {
+        (Some(left), Some(right)) => Ok(Some(Constraint { left, right })),
+        _ => Ok(None),
+    }
 }

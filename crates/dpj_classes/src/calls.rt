@@ -1,7 +1,11 @@
-ghost use Rattle.std.specs.Prelude.{◌≡◌, ◌||◌, map, IfOk, OnOk};
+ghost use Rattle.std.specs.Prelude.{◌≡◌, ◌||◌, ◌++◌, ◌+◌, map, length, IfOk, OnOk};
 ghost use Rattle.dpj_tree.specs.Nd.{holds_nd, some_holds_nd};
-ghost use Rattle.dpj_tree.specs.Plain.{plain_stmt, plain_stmts};
+ghost use Rattle.dpj_tree.specs.Plain.{plain_expr, plain_exprs, plain_stmt, plain_stmts};
+ghost use Rattle.dpj_resolve.specs.Scoped.{with_name};
 ghost use Rattle.dpj_classes.specs.Bodies.{foreach_holds_nd};
+ghost use Rattle.dpj_classes.specs.Calls.{shape_of, id_of, calls_of, all_calls, invocation_shape, invocation_calls, IsPaired, behind, stmt_calls, block_calls, branch_calls, foreach_calls, simple_calls, body_calls};
+ghost use Rattle.dpj_classes.specs.Shapes.{tree_shape, written_shape, field_shape, called_row, call_shape, run_row, create_shape};
+ghost use Rattle.dpj_classes.specs.Table.{headers_of};
 
 use crate::shape::{NO_CLASS, Shape};
 use crate::table::Table;
@@ -34,7 +38,8 @@ pub fn reached_by(
     class: u32,
     method: &Method,
 ) -> Result<Reached, NoMemory>
-    ensures { IfOk result (λ reached. reached.holds_nd ≡ some_holds_nd (plain_stmts (map plain_stmt method.now.body))) }
+    ensures nd { IfOk result (λ reached. reached.holds_nd ≡ some_holds_nd (plain_stmts (map plain_stmt method.now.body))) }
+    ensures called { IfOk result (λ reached. reached.called ≡ body_calls table.now class method.now) }
 {
     let walk = Walk { table, class };
     let mut locals = Scoped::new(alloc);
@@ -55,12 +60,16 @@ impl Walk<'_> {
         locals: &mut Scoped<Shape>,
         name: u32,
         tree: &TypeTree,
-    ) -> Result<(), NoMemory> {
+    ) -> Result<(), NoMemory>
+        ensures { OnOk result (locals.new ≡ with_name locals.old name (tree_shape (headers_of self.now.table.now) tree.now)) }
+    {
         locals.enter(name, Shape::of_tree(self.table.headers(), tree))
     }
 
     /// The shape of a field of an object.
-    fn field(&self, of: Shape, name: u32) -> Shape {
+    fn field(&self, of: Shape, name: u32) -> Shape
+        ensures { result ≡ field_shape self.now.table.now of name }
+    {
         let Some(class) = of.object() else {
             return NO_CLASS;
         };
@@ -71,7 +80,10 @@ impl Walk<'_> {
     }
 
     /// Calls a method of an object. The shape of the result.
-    fn call(&self, called: &mut Items<u32>, of: Shape, name: u32) -> Result<Shape, NoMemory> {
+    fn call(&self, called: &mut Items<u32>, of: Shape, name: u32) -> Result<Shape, NoMemory>
+        ensures shape { IfOk result (λ shape. shape ≡ call_shape self.now.table.now of name) }
+        ensures called { OnOk result (called.new ≡ called.old ++ id_of (called_row self.now.table.now of name)) }
+    {
         let Some(class) = of.object() else {
             return Ok(NO_CLASS);
         };
@@ -83,7 +95,10 @@ impl Walk<'_> {
     }
 
     /// Makes an object of a class.
-    fn create(&self, called: &mut Items<u32>, name: u32) -> Result<Shape, NoMemory> {
+    fn create(&self, called: &mut Items<u32>, name: u32) -> Result<Shape, NoMemory>
+        ensures shape { IfOk result (λ shape. shape ≡ create_shape self.now.table.now name) }
+        ensures called { OnOk result (called.new ≡ called.old ++ id_of (run_row self.now.table.now name)) }
+    {
         let Some(class) = self.table.headers().class(name) else {
             return Ok(NO_CLASS);
         };
@@ -94,8 +109,10 @@ impl Walk<'_> {
     }
 
     /// The shape of an array that is made.
-    fn made(&self, base: &BaseTree, suffixes: &[Suffix]) -> Shape {
-        Shape::written(self.table.headers(), base, suffixes.len().saturating_add(1))
+    fn made(&self, base: &BaseTree, suffixes: &[Suffix]) -> Shape
+        ensures { result ≡ written_shape (headers_of self.now.table.now) base.now (length suffixes.now + 1) }
+    {
+        Shape::written(self.table.headers(), base, suffixes.len() + 1)
     }
 
     /// Goes through an expression. The shape of its value.
@@ -105,7 +122,10 @@ impl Walk<'_> {
         locals: &Scoped<Shape>,
         called: &mut Items<u32>,
         e: &Expr,
-    ) -> Result<Shape, NoMemory> {
+    ) -> Result<Shape, NoMemory>
+        ensures shape { IfOk result (λ shape. shape ≡ shape_of self.now.table.now self.now.class locals.now (plain_expr e.now)) }
+        ensures called { OnOk result (called.new ≡ called.old ++ calls_of self.now.table.now self.now.class locals.now (plain_expr e.now)) }
+    {
         match &e.kind {
             ExprKind::This => Ok(Shape::of_class(self.class)),
             ExprKind::Local(name) => Ok(locals.get(*name).copied().unwrap_or(NO_CLASS)),
@@ -138,7 +158,10 @@ impl Walk<'_> {
         locals: &Scoped<Shape>,
         called: &mut Items<u32>,
         e: &Expr,
-    ) -> Result<Shape, NoMemory> {
+    ) -> Result<Shape, NoMemory>
+        ensures shape { IfOk result (λ shape. shape ≡ invocation_shape self.now.table.now self.now.class locals.now (plain_expr e.now)) }
+        ensures called { OnOk result (called.new ≡ called.old ++ invocation_calls self.now.table.now self.now.class locals.now (plain_expr e.now)) }
+    {
         match &e.kind {
             ExprKind::Call {
                 of,
@@ -168,12 +191,15 @@ impl Walk<'_> {
     }
 
     #[cycle(exprs)]
+    #[tactic(auto, using(std::proofs::Common::append_assoc))]
     fn exprs(
         &self,
         locals: &Scoped<Shape>,
         called: &mut Items<u32>,
         all: &[Expr],
-    ) -> Result<(), NoMemory> {
+    ) -> Result<(), NoMemory>
+        ensures { OnOk result (called.new ≡ called.old ++ all_calls self.now.table.now self.now.class locals.now (plain_exprs (map plain_expr all.now))) }
+    {
         for e in all {
             self.expr(locals, called, e)?;
         }
@@ -182,7 +208,8 @@ impl Walk<'_> {
 
     /// Goes through an expression whose value matters no more.
     fn value(&self, locals: &Scoped<Shape>, reached: &mut Reached, e: &Expr) -> Result<(), NoMemory>
-        ensures { OnOk result (reached.new.holds_nd ≡ reached.old.holds_nd) }
+        ensures nd { OnOk result (reached.new.holds_nd ≡ reached.old.holds_nd) }
+        ensures called { OnOk result (reached.new.called ≡ reached.old.called ++ calls_of self.now.table.now self.now.class locals.now (plain_expr e.now)) }
     {
         self.expr(locals, &mut reached.called, e)?;
         Ok(())
@@ -195,7 +222,8 @@ impl Walk<'_> {
         first: &Expr,
         second: &Expr,
     ) -> Result<(), NoMemory>
-        ensures { OnOk result (reached.new.holds_nd ≡ reached.old.holds_nd) }
+        ensures nd { OnOk result (reached.new.holds_nd ≡ reached.old.holds_nd) }
+        ensures called { OnOk result (reached.new.called ≡ reached.old.called ++ calls_of self.now.table.now self.now.class locals.now (plain_expr first.now) ++ calls_of self.now.table.now self.now.class locals.now (plain_expr second.now)) }
     {
         self.value(locals, reached, first)?;
         self.value(locals, reached, second)
@@ -203,14 +231,17 @@ impl Walk<'_> {
 
     /// Goes through the statements of a block. What it declares is in scope up to its end.
     #[cycle(stmts)]
-    #[tactic(auto, using(crate::proofs::Joined::joined))]
+    #[tactic(auto, using(crate::proofs::Joined::joined, crate::proofs::Locals::locals))]
     fn block(
         &self,
         locals: &mut Scoped<Shape>,
         reached: &mut Reached,
         all: &[Stmt],
     ) -> Result<(), NoMemory>
-        ensures { OnOk result (reached.new.holds_nd ≡ (reached.old.holds_nd || some_holds_nd (plain_stmts (map plain_stmt all.now)))) }
+        requires { IsPaired locals.old }
+        ensures nd { OnOk result (reached.new.holds_nd ≡ (reached.old.holds_nd || some_holds_nd (plain_stmts (map plain_stmt all.now)))) }
+        ensures called { OnOk result (reached.new.called ≡ reached.old.called ++ block_calls self.now.table.now self.now.class locals.old (plain_stmts (map plain_stmt all.now))) }
+        ensures locals { OnOk result (locals.new ≡ locals.old) }
     {
         let outer = locals.len();
         for stmt in all {
@@ -222,7 +253,9 @@ impl Walk<'_> {
     }
 
     /// Takes in what a statement declares.
-    fn declared(&self, locals: &mut Scoped<Shape>, stmt: &Stmt) -> Result<(), NoMemory> {
+    fn declared(&self, locals: &mut Scoped<Shape>, stmt: &Stmt) -> Result<(), NoMemory>
+        ensures { OnOk result (locals.new ≡ behind (headers_of self.now.table.now) locals.old (plain_stmt stmt.now)) }
+    {
         match &stmt.kind {
             StmtKind::Declare { ty, name, .. } => self.declare(locals, *name, ty),
             _ => Ok(()),
@@ -231,14 +264,17 @@ impl Walk<'_> {
 
     /// Each branch is a block of its own.
     #[cycle(stmts)]
-    #[tactic(auto, using(crate::proofs::Joined::joined))]
+    #[tactic(auto, using(crate::proofs::Joined::joined, crate::proofs::Locals::locals))]
     fn branches(
         &self,
         locals: &mut Scoped<Shape>,
         reached: &mut Reached,
         branches: &[Stmt],
     ) -> Result<(), NoMemory>
-        ensures { OnOk result (reached.new.holds_nd ≡ (reached.old.holds_nd || some_holds_nd (plain_stmts (map plain_stmt branches.now)))) }
+        requires { IsPaired locals.old }
+        ensures nd { OnOk result (reached.new.holds_nd ≡ (reached.old.holds_nd || some_holds_nd (plain_stmts (map plain_stmt branches.now)))) }
+        ensures called { OnOk result (reached.new.called ≡ reached.old.called ++ branch_calls self.now.table.now self.now.class locals.old (plain_stmts (map plain_stmt branches.now))) }
+        ensures locals { OnOk result (locals.new ≡ locals.old) }
     {
         for branch in branches {
             self.stmt(locals, reached, branch)?;
@@ -248,14 +284,17 @@ impl Walk<'_> {
 
     /// Goes through a statement that is a block of its own. What it declares itself is left to the block around.
     #[cycle(stmts)]
-    #[tactic(auto, using(crate::proofs::Joined::joined))]
+    #[tactic(auto, using(crate::proofs::Joined::joined, crate::proofs::Locals::locals))]
     fn stmt(
         &self,
         locals: &mut Scoped<Shape>,
         reached: &mut Reached,
         stmt: &Stmt,
     ) -> Result<(), NoMemory>
-        ensures { OnOk result (reached.new.holds_nd ≡ (reached.old.holds_nd || holds_nd (plain_stmt stmt.now))) }
+        requires { IsPaired locals.old }
+        ensures nd { OnOk result (reached.new.holds_nd ≡ (reached.old.holds_nd || holds_nd (plain_stmt stmt.now))) }
+        ensures called { OnOk result (reached.new.called ≡ reached.old.called ++ stmt_calls self.now.table.now self.now.class locals.old (plain_stmt stmt.now)) }
+        ensures locals { OnOk result (locals.new ≡ locals.old) }
     {
         match &stmt.kind {
             StmtKind::Block(all) | StmtKind::Atomic(all) => {
@@ -286,14 +325,17 @@ impl Walk<'_> {
 
     /// Goes through a foreach, in whose body its variables are in scope.
     #[cycle(stmts)]
-    #[tactic(auto, using(crate::proofs::Joined::joined))]
+    #[tactic(auto, using(crate::proofs::Joined::joined, crate::proofs::Locals::locals))]
     fn foreach(
         &self,
         locals: &mut Scoped<Shape>,
         reached: &mut Reached,
         stmt: &Stmt,
     ) -> Result<(), NoMemory>
-        ensures { OnOk result (reached.new.holds_nd ≡ (reached.old.holds_nd || foreach_holds_nd (plain_stmt stmt.now))) }
+        requires { IsPaired locals.old }
+        ensures nd { OnOk result (reached.new.holds_nd ≡ (reached.old.holds_nd || foreach_holds_nd (plain_stmt stmt.now))) }
+        ensures called { OnOk result (reached.new.called ≡ reached.old.called ++ foreach_calls self.now.table.now self.now.class locals.old (plain_stmt stmt.now)) }
+        ensures locals { OnOk result (locals.new ≡ locals.old) }
     {
         let outer = locals.len();
         match &stmt.kind {
@@ -335,7 +377,8 @@ impl Walk<'_> {
         reached: &mut Reached,
         stmt: &Stmt,
     ) -> Result<(), NoMemory>
-        ensures { OnOk result (reached.new.holds_nd ≡ reached.old.holds_nd) }
+        ensures nd { OnOk result (reached.new.holds_nd ≡ reached.old.holds_nd) }
+        ensures called { OnOk result (reached.new.called ≡ reached.old.called ++ simple_calls self.now.table.now self.now.class locals.now (plain_stmt stmt.now)) }
     {
         match &stmt.kind {
             StmtKind::Declare { value, .. }

@@ -1,7 +1,7 @@
-ghost use Rattle.std.specs.Prelude.{◌≡◌, ◌↔◌, ◌++◌, ℕ, true, List, IfOk, OnOk};
+ghost use Rattle.std.specs.Prelude.{◌≡◌, ◌↔◌, ◌++◌, ℕ, true, length, IfOk, OnOk};
 ghost use Rattle.std.specs.List.{flat_map};
-ghost use Rattle.dpj_classes.specs.declared.reach.Edge.{Edge as AnEdge};
 ghost use Rattle.dpj_classes.specs.Bodies.{own_marks, class_marks, override_edge, override_edges};
+ghost use Rattle.dpj_classes.specs.Edges.{edges_from, member_edges, class_edges, call_edges};
 ghost use Rattle.dpj_classes.specs.Reach.{is_marked, IsBehind};
 ghost use Rattle.dpj_classes.specs.Table.{methods_of};
 
@@ -16,7 +16,7 @@ use std::alloc::Global;
 
 /// Of each method and constructor, whether an nd construct is reached through it.
 pub fn find_forks(alloc: Global, table: &Table, classes: &[Class]) -> Result<Items<bool>, NoMemory>
-    ensures { IfOk result (λ forks. (calls : List AnEdge) × ((at : ℕ) → (is_marked forks at ≡ true) ↔ IsBehind (flat_map class_marks classes.now) (calls ++ override_edges table.now (methods_of table.now)) at)) }
+    ensures { IfOk result (λ forks. (at : ℕ) → (is_marked forks at ≡ true) ↔ IsBehind (flat_map class_marks classes.now) (call_edges table.now 0 0 classes.now ++ override_edges table.now (methods_of table.now)) at) }
 {
     let mut edges = Items::new(alloc);
     let mut marks = Vec::new(alloc);
@@ -37,7 +37,8 @@ fn add_class(
     edges: &mut Items<Edge>,
     marks: &mut Vec<bool>,
 ) -> Result<(), NoMemory>
-    ensures { OnOk result (marks.new.items ≡ marks.old.items ++ class_marks class.now) }
+    ensures marks { OnOk result (marks.new.items ≡ marks.old.items ++ class_marks class.now) }
+    ensures edges { OnOk result (edges.new ≡ edges.old ++ class_edges table.now number (length marks.old.items) class.now.members) }
 {
     for member in class.members.as_slice() {
         add_member(alloc, table, number, member, edges, marks)?;
@@ -54,7 +55,8 @@ fn add_member(
     edges: &mut Items<Edge>,
     marks: &mut Vec<bool>,
 ) -> Result<(), NoMemory>
-    ensures { OnOk result (marks.new.items ≡ marks.old.items ++ own_marks member.now) }
+    ensures marks { OnOk result (marks.new.items ≡ marks.old.items ++ own_marks member.now) }
+    ensures edges { OnOk result (edges.new ≡ edges.old ++ member_edges table.now class (length marks.old.items) member.now) }
 {
     let Member::Method(method) = member else {
         return Ok(());
@@ -66,7 +68,9 @@ fn add_member(
     Ok(())
 }
 
-fn add_calls(from: u32, called: &[u32], edges: &mut Items<Edge>) -> Result<(), NoMemory> {
+fn add_calls(from: u32, called: &[u32], edges: &mut Items<Edge>) -> Result<(), NoMemory>
+    ensures { OnOk result (edges.new ≡ edges.old ++ edges_from from called.now) }
+{
     for to in called {
         edges.push(Edge { from, to: *to })?;
     }

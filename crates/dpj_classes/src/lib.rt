@@ -19,12 +19,14 @@ mod main_class;
 mod make;
 mod overridden;
 mod overriding;
+mod places;
 mod reach;
 mod rows;
 mod shape;
 mod signatures;
 mod summary;
 mod table;
+mod written;
 
 pub use dpj_types::same_type;
 pub use make::build;

@@ -1,21 +1,25 @@
-ghost use Rattle.std.specs.Prelude.{◌≡◌, ◌≤◌, ◌↔◌, ◌++◌, ℕ, List, length, IsTrue, IfOk};
+ghost use Rattle.std.specs.Prelude.{◌≡◌, ◌≤◌, ◌↔◌, ◌++◌, ℕ, List, [], None, Some, map, length, IsTrue, IfOk, IfErr, OnOk};
 ghost use Rattle.std.specs.List.{flat_map};
+ghost use Rattle.dpj_base.specs.Refused.{IfRefused};
 ghost use Rattle.dpj_base.specs.Types.{Ordered};
 ghost use Rattle.dpj_classes.specs.declared.reach.Edge.{Edge as AnEdge};
 ghost use Rattle.dpj_classes.specs.Bodies.{class_marks, override_edges};
+ghost use Rattle.dpj_classes.specs.Build.{first_of, text_faults, table_faults, IsReadOf, IsTold};
+ghost use Rattle.dpj_classes.specs.Edges.{call_edges, without_forks};
+ghost use Rattle.dpj_classes.specs.Places.{FindsRows};
 ghost use Rattle.dpj_classes.specs.Reach.{IsBehind};
+ghost use Rattle.dpj_classes.specs.Rows.{plain_super, plain_field, plain_method, all_constraints, supers_meant, fields_meant, methods_meant};
 ghost use Rattle.dpj_classes.specs.Supers.{classes_in, all_extending};
-ghost use Rattle.dpj_classes.specs.Table.{headers_of, methods_of, is_forking, supers_of};
+ghost use Rattle.dpj_classes.specs.Table.{headers_of, all_given, fields_of, methods_of, is_forking, supers_of};
 
 use crate::forking::find_forks;
 use crate::main_class::check_main;
-use crate::overridden::find_overridden;
 use crate::overriding::check_overriding;
-use crate::rows::{FieldRow, MethodRow};
+use crate::places::{Places, find_places};
 use crate::signatures::{Signatures, class_constraints, read_signatures};
 use crate::table::Table;
-use dpj_base::{Bytes, Constraint, Items, NoMemory, Stop, Super};
-use dpj_headers::{Faults, Headers, OwnedNumbers, headers, to_number};
+use dpj_base::{Bytes, Constraint, Items, Stop};
+use dpj_headers::{Faults, Headers, headers};
 use dpj_tree::{Class, Program};
 use std::alloc::Global;
 
@@ -25,18 +29,27 @@ use std::alloc::Global;
 pub fn build(alloc: Global, program: &Program) -> Result<Table, Stop>
     ensures extending { IfOk result (λ table. classes_in (supers_of table) ≡ all_extending (headers_of table) 0 program.now.classes) }
     ensures forks { IfOk result (λ table. (calls : List AnEdge) × ((at : ℕ) → IsTrue (is_forking table at) ↔ IsBehind (flat_map class_marks program.now.classes) (calls ++ override_edges table (methods_of table)) at)) }
+    ensures reach { IfOk result (λ table. (at : ℕ) → IsTrue (is_forking table at) ↔ IsBehind (flat_map class_marks program.now.classes) (call_edges (without_forks table) 0 0 program.now.classes ++ override_edges table (methods_of table)) at) }
     ensures ordered { IfOk result (λ table. length program.now.classes ≤ 4294967296 → Ordered (supers_of table)) }
+    ensures read { IfOk result (λ table. IsReadOf program.now.classes table) }
+    ensures found { IfOk result (λ table. FindsRows (length program.now.classes) table) }
+    ensures judged { IfOk result (λ table. first_of (table_faults table program.now.names) ≡ None) }
+    ensures refused { IfErr result (λ stop. IfRefused stop (λ fault. IsTold program.now.classes program.now.names fault)) }
 {
     let headers = headers(alloc, program)?;
     let mut table = of_signatures(alloc, headers, program)?;
-    judge(alloc, &table, program.names.as_slice())?;
     table.forks = find_forks(alloc, &table, program.classes.as_slice())?;
+    judge(alloc, &table, program.names.as_slice())?;
     Ok(table)
 }
 
 /// The table with all signatures, before overriding and `Main` are looked at.
 fn of_signatures(alloc: Global, headers: Headers, program: &Program) -> Result<Table, Stop>
-    ensures { IfOk result (λ table. classes_in (supers_of table) ≡ all_extending (headers_of table) 0 program.now.classes) }
+    ensures read { IfOk result (λ table. IsReadOf program.now.classes table) }
+    ensures found { IfOk result (λ table. FindsRows (length program.now.classes) table) }
+    ensures refused { IfErr result (λ stop. IfRefused stop (λ fault. first_of (text_faults headers program.now.classes) ≡ Some fault)) }
+    ensures forks { IfOk result (λ table. table.forks ≡ []) }
+    ensures extending { IfOk result (λ table. classes_in (supers_of table) ≡ all_extending (headers_of table) 0 program.now.classes) }
 {
     let classes = program.classes.as_slice();
     let read = read_all(alloc, &headers, classes)?;
@@ -59,7 +72,13 @@ struct Read {
 
 /// Reads all signatures, or tells the first fault in them.
 fn read_all(alloc: Global, headers: &Headers, classes: &[Class]) -> Result<Read, Stop>
-    ensures { IfOk result (λ read. classes_in read.made.supers ≡ all_extending headers.now 0 classes.now) }
+    ensures free { IfOk result (λ read. first_of (text_faults headers.now classes.now) ≡ None) }
+    ensures refused { IfErr result (λ stop. IfRefused stop (λ fault. first_of (text_faults headers.now classes.now) ≡ Some fault)) }
+    ensures given { IfOk result (λ read. read.given ≡ all_constraints headers.now 0 classes.now) }
+    ensures supers { IfOk result (λ read. map plain_super read.made.supers ≡ supers_meant headers.now (all_constraints headers.now 0 classes.now) 0 classes.now) }
+    ensures fields { IfOk result (λ read. map plain_field read.made.fields ≡ fields_meant headers.now (all_constraints headers.now 0 classes.now) 0 classes.now) }
+    ensures methods { IfOk result (λ read. map plain_method read.made.methods ≡ methods_meant headers.now (all_constraints headers.now 0 classes.now) 0 0 classes.now) }
+    ensures extending { IfOk result (λ read. classes_in read.made.supers ≡ all_extending headers.now 0 classes.now) }
 {
     let mut faults = Faults::by_place();
     let given = class_constraints(alloc, headers, classes, &mut faults)?;
@@ -68,40 +87,14 @@ fn read_all(alloc: Global, headers: &Headers, classes: &[Class]) -> Result<Read,
     Ok(Read { given, made })
 }
 
-/// Where the rows of each class and name stand.
-#[derive(Drop)]
-struct Places {
-    supers: Items<Option<u32>>,
-    fields: OwnedNumbers,
-    methods: OwnedNumbers,
-    constructors: Items<Option<u32>>,
-    overrides: Items<Option<u32>>,
-}
-
-fn find_places(
-    alloc: Global,
-    headers: &Headers,
-    classes: usize,
-    made: &Signatures,
-    names: usize,
-) -> Result<Places, NoMemory> {
-    let supers = super_places(alloc, classes, made.supers.as_slice())?;
-    let fields = field_places(alloc, made.fields.as_slice())?;
-    let methods = method_places(alloc, made.methods.as_slice())?;
-    let constructors = constructors(alloc, classes, made.methods.as_slice())?;
-    let overrides = find_overridden(alloc, headers, made.methods.as_slice(), names)?;
-    Ok(Places {
-        supers,
-        fields,
-        methods,
-        constructors,
-        overrides,
-    })
-}
-
 fn together(headers: Headers, read: Read, places: Places, forks: Items<bool>) -> Table
+    ensures forks { result.forks ≡ forks }
+    ensures places { (result.super_places ≡ places.supers) × (result.field_places ≡ places.fields) × (result.method_places ≡ places.methods) × (result.constructors ≡ places.constructors) }
     ensures supers { supers_of result ≡ read.made.supers }
     ensures headers { headers_of result ≡ headers }
+    ensures given { all_given result ≡ read.given }
+    ensures fields { fields_of result ≡ read.made.fields }
+    ensures methods { methods_of result ≡ read.made.methods }
 {
     let Read { given, made } = read;
     let Signatures {
@@ -125,59 +118,13 @@ fn together(headers: Headers, read: Read, places: Places, forks: Items<bool>) ->
 }
 
 /// Tells the first fault of overriding and of `Main`.
-fn judge(alloc: Global, table: &Table, names: &[Bytes]) -> Result<(), Stop> {
+#[tactic(auto, using(dpj_headers::proofs::Noting::noting))]
+fn judge(alloc: Global, table: &Table, names: &[Bytes]) -> Result<(), Stop>
+    ensures judged { OnOk result (first_of (table_faults table.now names.now) ≡ None) }
+    ensures refused { IfErr result (λ stop. IfRefused stop (λ fault. first_of (table_faults table.now names.now) ≡ Some fault)) }
+{
     let mut faults = Faults::by_place();
     check_overriding(alloc, table, &mut faults)?;
     check_main(table, names, &mut faults);
     faults.settle()
-}
-
-/// The position of each class among the rows of superclasses.
-fn super_places(
-    alloc: Global,
-    classes: usize,
-    supers: &[Super],
-) -> Result<Items<Option<u32>>, NoMemory> {
-    let mut places = vec![in alloc; None; classes]?;
-    for (at, row) in supers.iter().enumerate() {
-        if let Some(place) = places.get_mut(row.class as usize) {
-            *place = Some(to_number(at));
-        }
-    }
-    Ok(Items::from_vec(places))
-}
-
-fn field_places(alloc: Global, fields: &[FieldRow]) -> Result<OwnedNumbers, NoMemory> {
-    let mut places = OwnedNumbers::new(alloc);
-    for (at, row) in fields.iter().enumerate() {
-        places.set(row.owner, row.name, to_number(at))?;
-    }
-    Ok(places)
-}
-
-fn method_places(alloc: Global, methods: &[MethodRow]) -> Result<OwnedNumbers, NoMemory> {
-    let mut places = OwnedNumbers::new(alloc);
-    for row in methods {
-        if !row.is_constructor {
-            places.set(row.owner, row.name, row.id)?;
-        }
-    }
-    Ok(places)
-}
-
-/// The constructor of each class.
-fn constructors(
-    alloc: Global,
-    classes: usize,
-    methods: &[MethodRow],
-) -> Result<Items<Option<u32>>, NoMemory> {
-    let mut found = vec![in alloc; None; classes]?;
-    for row in methods {
-        if row.is_constructor {
-            if let Some(place) = found.get_mut(row.owner as usize) {
-                *place = Some(row.id);
-            }
-        }
-    }
-    Ok(Items::from_vec(found))
 }

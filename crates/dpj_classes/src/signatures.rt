@@ -1,14 +1,23 @@
-ghost use Rattle.std.specs.Prelude.{◌≡◌, ◌++◌, IfOk, OnOk};
+ghost use Rattle.std.specs.Prelude.{◌≡◌, ◌++◌, [], map, length, IfOk, OnOk};
+ghost use Rattle.std.specs.List.{flat_map};
+ghost use Rattle.dpj_base.specs.Types.{plain_type};
+ghost use Rattle.dpj_headers.specs.Faults.{all_noted};
+ghost use Rattle.dpj_headers.specs.Numbers.{as_number};
+ghost use Rattle.dpj_headers.specs.Passes.{is_constructor_result};
+ghost use Rattle.dpj_resolve.specs.Classes.{constraints_in};
+ghost use Rattle.dpj_classes.specs.Around.{with_names, class_scope};
+ghost use Rattle.dpj_classes.specs.Rows.{plain_super, plain_field, plain_method, field_row, field_faults, said_faults, said_scope, method_row, method_faults, own_fields, next_slot, own_methods, member_faults, fields_from, methods_from, first_slot, super_rows, super_faults, class_faults, supers_meant, fields_meant, methods_meant, signature_faults, all_constraints, all_constraint_faults};
+ghost use Rattle.dpj_classes.specs.Signatures.{constraints_meant, constraints_faults, formal_types, result_type, summary_meant, parent_meant, parent_faults};
 ghost use Rattle.dpj_classes.specs.Supers.{classes_in, extending, all_extending};
 
-use crate::around::{Names, read_constraints, read_path};
+use crate::around::{Names, read_constraints};
 use crate::rows::{FieldRow, MethodRow};
 use crate::summary::read_summary;
-use dpj_base::{Constraint, Items, Kind, NoMemory, Plain, Rpl, Stop, Super, Ty};
+use crate::written::{param_rows, read_field, read_formals, read_parent, read_result};
+use dpj_base::{Constraint, Items, NoMemory, Plain, Super, Ty};
 use dpj_effects::EffectSet;
-use dpj_headers::{Faults, Headers, ParamRow, number_at, param_rows, to_number};
-use dpj_resolve::{IndexNames, Scope, constraints_hold, fit_args, read_args, root, ty};
-use dpj_tree::{Class, Field, Formal, Member, Method, MethodResult, Parent, RplTree, TypeTree};
+use dpj_headers::{Faults, Headers, ParamRow, number_at};
+use dpj_tree::{Class, Field, Member, Method, MethodResult, Parent};
 use std::alloc::Global;
 
 /// What the signatures of all classes say.
@@ -20,31 +29,53 @@ pub struct Signatures {
 }
 
 /// Reads the constraints of each class.
+#[tactic(auto, using(dpj_headers::proofs::Noting::noting))]
 pub fn class_constraints(
     alloc: Global,
     headers: &Headers,
     classes: &[Class],
     faults: &mut Faults,
-) -> Result<Items<Items<Constraint>>, Stop> {
-    let names = Names::new(alloc);
+) -> Result<Items<Items<Constraint>>, NoMemory>
+    ensures meant { IfOk result (λ given. given ≡ all_constraints headers.now 0 classes.now) }
+    ensures noted { OnOk result (faults.new ≡ all_noted faults.old (all_constraint_faults headers.now 0 classes.now)) }
+{
     let mut given = Items::new(alloc);
     for (at, class) in classes.iter().enumerate() {
-        let scope = names.scope(headers, to_number(at), &[], &[]);
-        let read = read_constraints(alloc, &scope, faults, class.params.given.as_slice())?;
-        given.push(read)?;
+        given.push(own_constraints(alloc, headers, number_at(at), class, faults)?)?;
     }
     Ok(given)
 }
 
+/// Reads the constraints of a class. None are in force there.
+fn own_constraints(
+    alloc: Global,
+    headers: &Headers,
+    number: u32,
+    class: &Class,
+    faults: &mut Faults,
+) -> Result<Items<Constraint>, NoMemory>
+    ensures meant { IfOk result (λ given. given ≡ constraints_meant (class_scope headers.now [] number) class.now.params.given) }
+    ensures noted { OnOk result (faults.new ≡ all_noted faults.old (constraints_faults (class_scope headers.now [] number) class.now.params.given)) }
+{
+    let names = Names::new(alloc);
+    let scope = names.scope(headers, number, &[], &[]);
+    read_constraints(alloc, &scope, faults, class.params.given.as_slice())
+}
+
 /// Reads the signatures of all classes, whose constraints are known.
+#[tactic(auto, using(dpj_headers::proofs::Noting::noting))]
 pub fn read_signatures(
     alloc: Global,
     headers: &Headers,
     classes: &[Class],
     given: &[Items<Constraint>],
     faults: &mut Faults,
-) -> Result<Signatures, Stop>
-    ensures { IfOk result (λ made. classes_in made.supers ≡ all_extending headers.now 0 classes.now) }
+) -> Result<Signatures, NoMemory>
+    ensures extending { IfOk result (λ made. classes_in made.supers ≡ all_extending headers.now 0 classes.now) }
+    ensures supers { IfOk result (λ made. map plain_super made.supers ≡ supers_meant headers.now given.now 0 classes.now) }
+    ensures fields { IfOk result (λ made. map plain_field made.fields ≡ fields_meant headers.now given.now 0 classes.now) }
+    ensures methods { IfOk result (λ made. map plain_method made.methods ≡ methods_meant headers.now given.now 0 0 classes.now) }
+    ensures noted { OnOk result (faults.new ≡ all_noted faults.old (signature_faults headers.now given.now 0 classes.now)) }
 {
     let mut made = Signatures {
         supers: Items::new(alloc),
@@ -71,30 +102,42 @@ struct Around<'a> {
 }
 
 impl Around<'_> {
+    ghost use Rattle.dpj_classes.specs.Reading.{scope_around, scope_with};
+
+    #[tactic(auto, using(dpj_headers::proofs::Noting::noting))]
     fn class(
         &self,
         alloc: Global,
         class: &Class,
         faults: &mut Faults,
         made: &mut Signatures,
-    ) -> Result<(), Stop>
-        ensures { OnOk result (classes_in made.new.supers ≡ classes_in made.old.supers ++ extending self.now.headers.now self.now.class class.now) }
+    ) -> Result<(), NoMemory>
+        ensures extending { OnOk result (classes_in made.new.supers ≡ classes_in made.old.supers ++ extending self.now.headers.now self.now.class class.now) }
+        ensures supers { OnOk result (map plain_super made.new.supers ≡ map plain_super made.old.supers ++ super_rows (scope_around self.now) class.now) }
+        ensures fields { OnOk result (map plain_field made.new.fields ≡ map plain_field made.old.fields ++ fields_from (scope_around self.now) (first_slot self.now.headers.now self.now.class) class.now.members) }
+        ensures methods { OnOk result (map plain_method made.new.methods ≡ map plain_method made.old.methods ++ methods_from (scope_around self.now) (length made.old.methods) class.now.members) }
+        ensures noted { OnOk result (faults.new ≡ all_noted faults.old (class_faults (scope_around self.now) class.now)) }
     {
         self.parent(alloc, class, faults, made)?;
         self.members(alloc, class.members.as_slice(), faults, made)
     }
 
     /// Reads the members of the class.
+    #[tactic(auto, using(dpj_headers::proofs::Noting::noting))]
     fn members(
         &self,
         alloc: Global,
         members: &[Member],
         faults: &mut Faults,
         made: &mut Signatures,
-    ) -> Result<(), Stop>
-        ensures { OnOk result (made.new.supers ≡ made.old.supers) }
+    ) -> Result<(), NoMemory>
+        ensures supers { OnOk result (made.new.supers ≡ made.old.supers) }
+        ensures fields { OnOk result (map plain_field made.new.fields ≡ map plain_field made.old.fields ++ fields_from (scope_around self.now) (first_slot self.now.headers.now self.now.class) members.now) }
+        ensures methods { OnOk result (map plain_method made.new.methods ≡ map plain_method made.old.methods ++ methods_from (scope_around self.now) (length made.old.methods) members.now) }
+        ensures noted { OnOk result (faults.new ≡ all_noted faults.old (flat_map (member_faults (scope_around self.now)) members.now)) }
     {
-        let mut in_force = self.own_given(alloc)?;
+        let mut in_force = Items::new(alloc);
+        add_copies(alloc, &mut in_force, self.given())?;
         let mut slot = self.first_slot();
         for member in members {
             slot = self.member(alloc, &mut in_force, member, slot, faults, made)?;
@@ -103,10 +146,12 @@ impl Around<'_> {
     }
 
     /// The constraints of the class.
-    fn own_given(&self, alloc: Global) -> Result<Items<Constraint>, NoMemory> {
+    fn given(&self) -> &[Constraint]
+        ensures { result.now ≡ constraints_in self.now.classes_given.now self.now.class }
+    {
         match self.classes_given.get(self.class as usize) {
-            Some(given) => given.copy(alloc),
-            None => Ok(Items::new(alloc)),
+            Some(given) => given.as_slice(),
+            None => &[],
         }
     }
 
@@ -119,8 +164,13 @@ impl Around<'_> {
         slot: u32,
         faults: &mut Faults,
         made: &mut Signatures,
-    ) -> Result<u32, Stop>
-        ensures { OnOk result (made.new.supers ≡ made.old.supers) }
+    ) -> Result<u32, NoMemory>
+        ensures in_force { OnOk result (in_force.new ≡ in_force.old) }
+        ensures slot { IfOk result (λ next. next ≡ next_slot slot member.now) }
+        ensures supers { OnOk result (made.new.supers ≡ made.old.supers) }
+        ensures fields { OnOk result (map plain_field made.new.fields ≡ map plain_field made.old.fields ++ own_fields (scope_with self.now in_force.old) slot member.now) }
+        ensures methods { OnOk result (map plain_method made.new.methods ≡ map plain_method made.old.methods ++ own_methods (scope_with self.now in_force.old) (as_number (length made.old.methods)) member.now) }
+        ensures noted { OnOk result (faults.new ≡ all_noted faults.old (member_faults (scope_with self.now in_force.old) member.now)) }
     {
         match member {
             Member::Regions { .. } => Ok(slot),
@@ -130,7 +180,7 @@ impl Around<'_> {
                 Ok(slot.saturating_add(1))
             }
             Member::Method(method) => {
-                let id = to_number(made.methods.len());
+                let id = number_at(made.methods.len());
                 let row = self.method(alloc, in_force, method, id, faults)?;
                 made.methods.push(row)?;
                 Ok(slot)
@@ -145,14 +195,19 @@ impl Around<'_> {
         field: &Field,
         slot: u32,
         faults: &mut Faults,
-    ) -> Result<FieldRow, Stop> {
+    ) -> Result<FieldRow, NoMemory>
+        ensures meant { IfOk result (λ row. plain_field row ≡ field_row (scope_with self.now given.now) slot field.now) }
+        ensures noted { OnOk result (faults.new ≡ all_noted faults.old (field_faults (scope_with self.now given.now) field.now)) }
+    {
         let names = Names::new(alloc);
         let scope = names.scope(self.headers, self.class, given, self.classes_given);
         read_field(alloc, &scope, faults, field, slot)
     }
 
     /// The slot of the first field that the class itself declares.
-    fn first_slot(&self) -> u32 {
+    fn first_slot(&self) -> u32
+        ensures { result ≡ first_slot self.now.headers.now self.now.class }
+    {
         match self.headers.parent(self.class) {
             Some(parent) => self
                 .headers
@@ -169,8 +224,12 @@ impl Around<'_> {
         class: &Class,
         faults: &mut Faults,
         made: &mut Signatures,
-    ) -> Result<(), Stop>
-        ensures { OnOk result (classes_in made.new.supers ≡ classes_in made.old.supers ++ extending self.now.headers.now self.now.class class.now) }
+    ) -> Result<(), NoMemory>
+        ensures extending { OnOk result (classes_in made.new.supers ≡ classes_in made.old.supers ++ extending self.now.headers.now self.now.class class.now) }
+        ensures supers { OnOk result (map plain_super made.new.supers ≡ map plain_super made.old.supers ++ super_rows (scope_around self.now) class.now) }
+        ensures fields { OnOk result (made.new.fields ≡ made.old.fields) }
+        ensures methods { OnOk result (made.new.methods ≡ made.old.methods) }
+        ensures noted { OnOk result (faults.new ≡ all_noted faults.old (super_faults (scope_around self.now) class.now)) }
     {
         let Some(tree) = &class.parent else {
             return Ok(());
@@ -193,17 +252,17 @@ impl Around<'_> {
         tree: &Parent,
         parent: u32,
         faults: &mut Faults,
-    ) -> Result<Ty, Stop> {
-        let given = match self.classes_given.get(self.class as usize) {
-            Some(given) => given.as_slice(),
-            None => &[],
-        };
+    ) -> Result<Ty, NoMemory>
+        ensures meant { IfOk result (λ made. plain_type made ≡ parent_meant (scope_around self.now) tree.now parent) }
+        ensures noted { OnOk result (faults.new ≡ all_noted faults.old (parent_faults (scope_around self.now) tree.now parent)) }
+    {
         let names = Names::new(alloc);
-        let scope = names.scope(self.headers, self.class, given, self.classes_given);
+        let scope = names.scope(self.headers, self.class, self.given(), self.classes_given);
         read_parent(alloc, &scope, faults, tree, parent)
     }
 
     /// Reads a method. The constraints in force are those of the class, before and after.
+    #[tactic(auto, using(dpj_headers::proofs::Noting::noting))]
     fn method(
         &self,
         alloc: Global,
@@ -211,7 +270,11 @@ impl Around<'_> {
         method: &Method,
         id: u32,
         faults: &mut Faults,
-    ) -> Result<MethodRow, Stop> {
+    ) -> Result<MethodRow, NoMemory>
+        ensures in_force { OnOk result (in_force.new ≡ in_force.old) }
+        ensures meant { IfOk result (λ row. plain_method row ≡ method_row (scope_with self.now in_force.old) id method.now) }
+        ensures noted { OnOk result (faults.new ≡ all_noted faults.old (method_faults (scope_with self.now in_force.old) method.now)) }
+    {
         let of_class = in_force.len();
         let names = Names::of_method(alloc, method)?;
         let given = self.own_constraints(alloc, &names, in_force, method, faults)?;
@@ -229,7 +292,11 @@ impl Around<'_> {
         in_force: &mut Items<Constraint>,
         method: &Method,
         faults: &mut Faults,
-    ) -> Result<Items<Constraint>, Stop> {
+    ) -> Result<Items<Constraint>, NoMemory>
+        ensures meant { IfOk result (λ given. given ≡ constraints_meant (with_names names.now (scope_with self.now in_force.old)) method.now.params.given) }
+        ensures in_force { IfOk result (λ given. in_force.new ≡ in_force.old ++ given) }
+        ensures noted { OnOk result (faults.new ≡ all_noted faults.old (constraints_faults (with_names names.now (scope_with self.now in_force.old)) method.now.params.given)) }
+    {
         let scope = names.scope(
             self.headers,
             self.class,
@@ -242,6 +309,7 @@ impl Around<'_> {
     }
 
     /// Reads the types and the summary of a method.
+    #[tactic(auto, using(dpj_headers::proofs::Noting::noting))]
     fn said(
         &self,
         alloc: Global,
@@ -249,7 +317,12 @@ impl Around<'_> {
         given: &[Constraint],
         method: &Method,
         faults: &mut Faults,
-    ) -> Result<Said, Stop> {
+    ) -> Result<Said, NoMemory>
+        ensures params { IfOk result (λ said. map plain_type said.params ≡ formal_types (with_names names.now (scope_with self.now given.now)) method.now.formals) }
+        ensures outcome { IfOk result (λ said. plain_type said.outcome ≡ result_type (with_names names.now (scope_with self.now given.now)) method.now.result) }
+        ensures summary { IfOk result (λ said. said.summary ≡ summary_meant (with_names names.now (scope_with self.now given.now)) method.now.summary) }
+        ensures noted { OnOk result (faults.new ≡ all_noted faults.old (said_faults (with_names names.now (scope_with self.now given.now)) method.now)) }
+    {
         let scope = names.scope(self.headers, self.class, given, self.classes_given);
         let params = read_formals(alloc, &scope, faults, method.formals.as_slice())?;
         let outcome = read_result(alloc, &scope, faults, &method.result)?;
@@ -277,7 +350,9 @@ fn method_row(
     regions: Items<ParamRow>,
     given: Items<Constraint>,
     said: Said,
-) -> MethodRow {
+) -> MethodRow
+    ensures { plain_method result ≡ record { id = id; owner = owner; name = method.now.name; place = method.now.place; is_constructor = is_constructor_result method.now.result; regions = regions; given = given; params = map plain_type said.params; result = plain_type said.outcome; summary = said.summary } }
+{
     let Said {
         params,
         outcome,
@@ -301,124 +376,11 @@ fn add_copies(
     alloc: Global,
     in_force: &mut Items<Constraint>,
     given: &[Constraint],
-) -> Result<(), NoMemory> {
+) -> Result<(), NoMemory>
+    ensures { OnOk result (in_force.new ≡ in_force.old ++ given.now) }
+{
     for constraint in given {
         in_force.push(constraint.copy(alloc)?)?;
     }
     Ok(())
-}
-
-/// Reads the superclass with its region arguments, which are fully specified.
-fn read_parent(
-    alloc: Global,
-    scope: &Scope,
-    faults: &mut Faults,
-    tree: &Parent,
-    parent: u32,
-) -> Result<Ty, Stop> {
-    let params = scope.class_params(parent);
-    let read = read_args(
-        alloc,
-        scope,
-        faults,
-        tree.args.as_slice(),
-        params,
-        true,
-        &IndexNames::none(),
-    )?;
-    let args = match fit_args(alloc, faults, read, params, tree.name.place)? {
-        None => Items::new(alloc),
-        Some(args) => {
-            if !constraints_hold(
-                alloc,
-                scope.class_given(parent),
-                args.as_slice(),
-                scope.given,
-            )? {
-                faults.note(Kind::Constraint, tree.name.place);
-            }
-            args
-        }
-    };
-    Ok(Ty::Class {
-        class: parent,
-        args,
-    })
-}
-
-/// A type, and `void` where it isn't known.
-fn known_type(made: Option<Ty>) -> Ty {
-    match made {
-        Some(ty) => ty,
-        None => Ty::Void,
-    }
-}
-
-/// Reads the region of a field, which is fully specified. `Root` where none is written or it isn't known.
-fn read_region(
-    alloc: Global,
-    scope: &Scope,
-    faults: &mut Faults,
-    region: &Option<RplTree>,
-) -> Result<Rpl, Stop> {
-    let Some(tree) = region else {
-        return Ok(root(alloc));
-    };
-    match read_path(alloc, scope, faults, tree, true)? {
-        Some(rpl) => Ok(rpl),
-        None => Ok(root(alloc)),
-    }
-}
-
-fn read_type(
-    alloc: Global,
-    scope: &Scope,
-    faults: &mut Faults,
-    tree: &TypeTree,
-) -> Result<Ty, Stop> {
-    Ok(known_type(ty(alloc, scope, faults, tree)?))
-}
-
-/// Reads a field.
-fn read_field(
-    alloc: Global,
-    scope: &Scope,
-    faults: &mut Faults,
-    field: &Field,
-    slot: u32,
-) -> Result<FieldRow, Stop> {
-    let ty = read_type(alloc, scope, faults, &field.ty)?;
-    let rpl = read_region(alloc, scope, faults, &field.region)?;
-    Ok(FieldRow {
-        name: field.name,
-        slot,
-        owner: scope.class,
-        ty,
-        rpl,
-    })
-}
-
-fn read_formals(
-    alloc: Global,
-    scope: &Scope,
-    faults: &mut Faults,
-    formals: &[Formal],
-) -> Result<Items<Ty>, Stop> {
-    let mut params = Items::new(alloc);
-    for formal in formals {
-        params.push(read_type(alloc, scope, faults, &formal.ty)?)?;
-    }
-    Ok(params)
-}
-
-fn read_result(
-    alloc: Global,
-    scope: &Scope,
-    faults: &mut Faults,
-    tree: &MethodResult,
-) -> Result<Ty, Stop> {
-    match tree {
-        MethodResult::Constructor | MethodResult::Void => Ok(Ty::Void),
-        MethodResult::Value(written) => read_type(alloc, scope, faults, written),
-    }
 }

@@ -1,8 +1,13 @@
-ghost use Rattle.std.specs.Prelude.{◌≡◌, ◌∷◌, [], None, IfOk};
+ghost use Rattle.std.specs.Prelude.{◌≡◌, ◌∷◌, [], None, IfOk, OnOk};
+ghost use Rattle.dpj_base.specs.Effects.{gathered};
+ghost use Rattle.dpj_headers.specs.Faults.{all_noted};
+ghost use Rattle.dpj_resolve.specs.declared.scope.Site.TheVariants.{Signature as InSignature};
+ghost use Rattle.dpj_resolve.specs.Scopes.{plain_scope};
+ghost use Rattle.dpj_classes.specs.Signatures.{effects_meant, item_faults, summary_meant, summary_faults};
 ghost use Rattle.dpj_classes.specs.Summary.{anything};
 
 use crate::around::read_path;
-use dpj_base::{Effect, Elem, Elems, Head, NoMemory, Rpl, Stop};
+use dpj_base::{Effect, Elem, Elems, Head, NoMemory, Rpl};
 use dpj_effects::EffectSet;
 use dpj_headers::Faults;
 use dpj_resolve::Scope;
@@ -10,34 +15,25 @@ use dpj_tree::{Item, SummaryTree};
 use std::alloc::Global;
 
 /// Reads a summary. One that is missing is `writes Root:*`. An item with a path that isn't known is left out.
+#[tactic(auto, using(dpj_headers::proofs::Noting::noting))]
 pub fn read_summary(
     alloc: Global,
     scope: &Scope,
     faults: &mut Faults,
     tree: &Option<SummaryTree>,
-) -> Result<EffectSet, Stop>
-    ensures { IfOk result (λ made. tree.now ≡ None → made ≡ anything ∷ []) }
+) -> Result<EffectSet, NoMemory>
+    requires { scope.now.site ≡ InSignature }
+    ensures missing { IfOk result (λ made. tree.now ≡ None → made ≡ anything ∷ []) }
+    ensures meant { IfOk result (λ made. made ≡ summary_meant (plain_scope scope.now) tree.now) }
+    ensures noted { OnOk result (faults.new ≡ all_noted faults.old (summary_faults (plain_scope scope.now) tree.now)) }
 {
     let mut summary = EffectSet::new(alloc);
     match tree {
         None => summary.add(anything(alloc)?)?,
         Some(tree) => {
-            read_items(
-                alloc,
-                scope,
-                faults,
-                tree.reads.as_slice(),
-                false,
-                &mut summary,
-            )?;
-            read_items(
-                alloc,
-                scope,
-                faults,
-                tree.writes.as_slice(),
-                true,
-                &mut summary,
-            )?;
+            let (reads, writes) = (tree.reads.as_slice(), tree.writes.as_slice());
+            read_items(alloc, scope, faults, reads, false, &mut summary)?;
+            read_items(alloc, scope, faults, writes, true, &mut summary)?;
         }
     }
     Ok(summary)
@@ -59,6 +55,7 @@ fn anything(alloc: Global) -> Result<Effect, NoMemory>
     })
 }
 
+#[tactic(auto, using(dpj_headers::proofs::Noting::noting))]
 fn read_items(
     alloc: Global,
     scope: &Scope,
@@ -66,7 +63,11 @@ fn read_items(
     items: &[Item],
     write: bool,
     summary: &mut EffectSet,
-) -> Result<(), Stop> {
+) -> Result<(), NoMemory>
+    requires { scope.now.site ≡ InSignature }
+    ensures meant { OnOk result (summary.new ≡ gathered summary.old (effects_meant (plain_scope scope.now) write items.now)) }
+    ensures noted { OnOk result (faults.new ≡ all_noted faults.old (item_faults (plain_scope scope.now) items.now)) }
+{
     for item in items {
         if let Some(rpl) = read_path(alloc, scope, faults, &item.rpl, false)? {
             summary.add(Effect {

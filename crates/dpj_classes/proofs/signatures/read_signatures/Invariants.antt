@@ -1,6 +1,16 @@
-use Rattle.std.proofs.Common.{◌≡◌, ◌++◌, drop}
+use Rattle.std.proofs.Common.{◌≡◌, ◌++◌, drop, map, length}
+use Rattle.dpj_headers.specs.Faults.{all_noted}
+use Rattle.dpj_classes.specs.Rows.{plain_super, plain_field, plain_method, supers_meant, fields_meant, methods_meant, signature_faults}
 use Rattle.dpj_classes.specs.Supers.{classes_in, all_extending}
 use Rattle.dpj_classes.proofs.signatures.read_signatures.Given as goal
 
 abbrev pub invariant-loop-at : goal.invariant-loop-at
-invariant-loop-at l = classes_in l.made.supers ++ all_extending l.headers l.at (drop l.at l.classes) ≡ all_extending l.headers 0 l.classes
+invariant-loop-at l =
+    let left = drop l.at l.classes in
+    record {
+      extending : classes_in l.made.supers ++ all_extending l.headers l.at left ≡ all_extending l.headers 0 l.classes;
+      supers : map plain_super l.made.supers ++ supers_meant l.headers l.given l.at left ≡ supers_meant l.headers l.given 0 l.classes;
+      fields : map plain_field l.made.fields ++ fields_meant l.headers l.given l.at left ≡ fields_meant l.headers l.given 0 l.classes;
+      methods : map plain_method l.made.methods ++ methods_meant l.headers l.given l.at (length l.made.methods) left ≡ methods_meant l.headers l.given 0 0 l.classes;
+      noted : all_noted l.faults (signature_faults l.headers l.given l.at left) ≡ all_noted l.initial.faults (signature_faults l.headers l.given 0 l.classes);
+    }
