@@ -53,18 +53,3 @@ form_is_loop form = false
 
 abbrev pub is_loop : PlainStmt → Bool
 is_loop (statement node place form) = form_is_loop form
-
--- a statement that holds no other and completes
-abbrev pub form_is_single : StmtForm → Bool
-form_is_single (declare is_final ty name value) = true
-form_is_single (assign_local target value) = true
-form_is_single (assign_field target value) = true
-form_is_single (assign_element target value) = true
-form_is_single (perform performed) = true
-form_is_single (print value) = true
-form_is_single (print_text text) = true
-form_is_single (local_regions names) = true
-form_is_single form = false
-
-abbrev pub is_single : PlainStmt → Bool
-is_single (statement node place form) = form_is_single form

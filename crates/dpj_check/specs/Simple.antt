@@ -57,7 +57,7 @@ pub data Declaring (node : Node) (is_final : Bool) (tree : TypeTree) (name : ℕ
   type_refused : {refusal : Refusal} → declared_told w.env tree ≡ Some refusal → Declaring node is_final tree name value w (refused refusal)
   value_refused : {refusal : Refusal} →
       declared_told w.env tree ≡ None → Typing w.env value w.found (answer.refused refusal) → Declaring node is_final tree name value w (refused refusal)
-  declared : {t : Option PlainType} {g : Found} {fit : Bool} {made : Ty} {v : Verdict} →
+  declared : {t : Option PlainType} {g : Found} {fit : Bool} (made : Ty) {v : Verdict} →
       declared_told w.env tree ≡ None → plain_type made ≡ declared_type w.env tree → Typing w.env value w.found (gives t g) → FitIs w.env t (declared_type w.env tree) fit →
       judged (fault_of (with_fault_if (with_duplicate w.env name node.place node) kind.Type (not fit))) (declaring (found_so w g) (local_row name node.number made is_final)) ≡ v →
       Declaring node is_final tree name value w v

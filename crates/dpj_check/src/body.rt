@@ -50,7 +50,7 @@ impl Body<'_> {
     ghost use Rattle.dpj_exprs.specs.Env.{at_class, at_method, table_of, with_local};
     ghost use Rattle.dpj_exprs.specs.Typed.{plain_typed, may_be, is_int, is_boolean, Fits};
     ghost use Rattle.dpj_exprs.specs.Typing.{Typing};
-    ghost use Rattle.dpj_check.specs.Checking.{part_row, variable_row};
+    ghost use Rattle.dpj_check.specs.Constructs.{part_row, variable_row};
     ghost use Rattle.dpj_check.specs.Deciding.{Returned};
     ghost use Rattle.dpj_check.specs.Leaving.{first_region_in};
     ghost use Rattle.dpj_check.specs.Methods.{class_params, own_params, atomic_of};
@@ -103,6 +103,7 @@ impl Body<'_> {
     pub fn typed(&mut self, e: &Expr, out: &mut Found) -> Result<Typed, Stop>
         ensures ok { IfOk result (λ typed. Typing self.old.env (plain_expr e.now) out.old (gives (plain_typed typed) out.new)) }
         ensures fault { IfErr result (λ stop. IfRefused stop (λ refusal. Typing self.old.env (plain_expr e.now) out.old (refused refusal))) }
+        ensures nd { OnOk result (IsTrue out.old.reaches_nd → IsTrue out.new.reaches_nd) }
         ensures same { self.new ≡ with_types self.old self.new.known.types }
     {
         expr(self.alloc, &self.env, &mut self.known.types, out, e)
@@ -114,6 +115,7 @@ impl Body<'_> {
         ensures fault { IfErr result (λ stop. IfRefused stop (λ refusal. Typing self.old.env (plain_expr e.now) out.old (refused refusal))) }
         ensures node { IfOk result (λ typed. node.new ≡ with_fault_if node.old Kind.Type (not (may_be is_int (plain_typed typed)))) }
         ensures clean { OnOk result (fault_of node.new ≡ None → fault_of node.old ≡ None) }
+        ensures nd { OnOk result (IsTrue out.old.reaches_nd → IsTrue out.new.reaches_nd) }
         ensures same { self.new ≡ with_types self.old self.new.known.types }
     {
         let value = self.typed(e, out)?;
@@ -127,6 +129,7 @@ impl Body<'_> {
         ensures fault { IfErr result (λ stop. IfRefused stop (λ refusal. Typing self.old.env (plain_expr e.now) out.old (refused refusal))) }
         ensures node { IfOk result (λ typed. node.new ≡ with_fault_if node.old Kind.Type (not (may_be is_boolean (plain_typed typed)))) }
         ensures clean { OnOk result (fault_of node.new ≡ None → fault_of node.old ≡ None) }
+        ensures nd { OnOk result (IsTrue out.old.reaches_nd → IsTrue out.new.reaches_nd) }
         ensures same { self.new ≡ with_types self.old self.new.known.types }
     {
         let value = self.typed(e, out)?;

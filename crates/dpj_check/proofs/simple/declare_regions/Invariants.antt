@@ -1,6 +1,14 @@
-use Rattle.std.proofs.Common.{◌≡◌, None}
+use Rattle.std.proofs.Common.{◌≡◌, None, drop}
 use Rattle.dpj_check.specs.Noting.{fault_of}
+use Rattle.dpj_check.specs.Simple.{regions_noted, with_regions}
+use Rattle.dpj_check.specs.Walks.{home_of, with_env}
 use Rattle.dpj_check.proofs.simple.declare_regions.Given as goal
 
 abbrev pub invariant-loop-named : goal.invariant-loop-named
-invariant-loop-named l = fault_of l.node ≡ None → fault_of l.fn.node ≡ None
+invariant-loop-named l = record {
+  clean : fault_of l.node ≡ None → fault_of l.fn.node ≡ None;
+  home : home_of l.body ≡ home_of l.fn.body;
+  noted : regions_noted l.body.env l.node (drop l.named-index l.names) ≡ regions_noted l.fn.body.env l.fn.node l.names;
+  scope : with_regions l.body.env (drop l.named-index l.names) ≡ with_regions l.fn.body.env l.names;
+  blocks : l.body.known.blocks ≡ l.fn.body.known.blocks;
+}
