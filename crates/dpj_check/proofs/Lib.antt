@@ -1,4 +1,5 @@
 mod Assigning
+pub mod Cuts
 pub mod Leaves
 mod Meeting
 pub mod Noting
