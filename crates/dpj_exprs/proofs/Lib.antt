@@ -4,6 +4,9 @@ pub mod Creating
 pub mod Fitted
 pub mod Forms
 mod Noted
+pub mod Once
+pub mod OnceTargets
+pub mod OnceUsed
 pub mod Own
 pub mod Passing
 pub mod Several

@@ -14,3 +14,4 @@ pub mod Locals
 pub mod Shape
 pub mod Typing
 pub mod Targeting
+pub mod Once
