@@ -1,5 +1,5 @@
 -- What is gathered are the headers of the program.
-use Rattle.std.proofs.Common.{◌≡◌, ℕ, zero, suc, ◌+◌, ◌<◌, ◌≤◌, ◌==◌, true, false, cond, codes, List, [], ◌∷◌, length, get_or, map, inl, inr, Option, None, Some, Result, Ok, Err, IfOk, refl, sym, ap, subst, ◌∙◌, arith}
+use Rattle.std.proofs.Common.{◌≡◌, ℕ, zero, suc, ◌+◌, ◌<◌, ◌≤◌, ◌==◌, true, false, cond, codes, List, [], ◌∷◌, length, map, inl, inr, Option, None, Some, Result, Ok, Err, IfOk, refl, sym, ap, subst, ◌∙◌, arith}
 use Rattle.std.proofs.lemmas.Bool.Decides.{eqb_tells}
 use Rattle.std.specs.Option.{option_and_then, option_map_or}
 use Rattle.std.specs.Prelude.{slice_get}
@@ -11,7 +11,7 @@ use Rattle.dpj_headers.specs.declared.numbers.NameNumbers.{NameNumbers}
 use Rattle.dpj_headers.specs.First.{class_named, parents_in, IsToldFirst}
 use Rattle.dpj_headers.specs.Gathered.{header_row, header_rows, last_place, object_fields, param_number, all_regions, region_number, name_number, AreHeaders}
 use Rattle.dpj_headers.specs.Headers.{param_of, own_region}
-use Rattle.dpj_headers.specs.Numbering.{has_name, with_params, with_all_params, counted_rows}
+use Rattle.dpj_headers.specs.Numbering.{has_name, with_all_params, counted_rows}
 use Rattle.dpj_headers.specs.Numbers.{as_number, number_of}
 use Rattle.dpj_headers.specs.Way.{IsCounted, way_of}
 use Rattle.dpj_headers.proofs.Counting.{fields_counted}
