@@ -1,18 +1,20 @@
 -- What is gathered are the headers of the program.
-use Rattle.std.proofs.Common.{◌≡◌, ℕ, zero, suc, ◌+◌, ◌<◌, ◌≤◌, ◌==◌, true, false, cond, codes, List, [], ◌∷◌, length, get_or, map, inl, inr, Option, None, Some, Result, Ok, Err, IfOk, refl, sym, ap, subst, ◌∙◌, arith}
+use Rattle.std.proofs.Common.{◌≡◌, ℕ, zero, suc, ◌+◌, ◌<◌, ◌≤◌, ◌==◌, true, false, cond, codes, List, [], ◌∷◌, length, map, inl, inr, Option, None, Some, Result, Ok, Err, IfOk, refl, sym, ap, subst, ◌∙◌, arith}
 use Rattle.std.proofs.lemmas.Bool.Decides.{eqb_tells}
 use Rattle.std.specs.Option.{option_and_then, option_map_or}
 use Rattle.std.specs.Prelude.{slice_get}
 use Rattle.dpj_base.specs.declared.refusal.Stop.{Stop}
 use Rattle.dpj_tree.specs.declared.class.Class.{Class}
 use Rattle.dpj_tree.specs.declared.class.Program.{Program}
+use Rattle.dpj_headers.specs.declared.header.Header.{Header}
 use Rattle.dpj_headers.specs.declared.header.Headers.{Headers}
 use Rattle.dpj_headers.specs.declared.numbers.NameNumbers.{NameNumbers}
 use Rattle.dpj_headers.specs.First.{class_named, parents_in, IsToldFirst}
 use Rattle.dpj_headers.specs.Gathered.{header_row, header_rows, last_place, object_fields, param_number, all_regions, region_number, name_number, AreHeaders}
 use Rattle.dpj_headers.specs.Headers.{param_of, own_region}
-use Rattle.dpj_headers.specs.Numbering.{has_name, with_params, with_all_params, counted_rows}
+use Rattle.dpj_headers.specs.Numbering.{has_name, with_all_params, counted_rows}
 use Rattle.dpj_headers.specs.Numbers.{as_number, number_of}
+use Rattle.dpj_headers.specs.Rounds.{entry_of}
 use Rattle.dpj_headers.specs.Way.{IsCounted, way_of}
 use Rattle.dpj_headers.proofs.Counting.{fields_counted}
 use Rattle.dpj_headers.proofs.Second.{sound_from, length_parents}
@@ -60,6 +62,24 @@ rows_gathered classes counted first =
     rows_same (parents_in classes) _ (object_fields classes (parents_in classes)) 0 classes
     (λ one l. fields_counted classes (parents_in classes) one (sound_from classes counted first) (length_parents classes) (omega arith))
 
+-- the superclass of each row is that of its class
+parents_rows : (parents : List (Option ℕ)) (fields : ℕ → ℕ) (at : ℕ) (classes : List Class) (rest : List (Option ℕ)) → ((j : ℕ) → entry_of parents (at + j) ≡ entry_of rest j) → length rest ≡ length classes → map (λ row. row.parent) (header_rows parents fields at classes) ≡ rest
+parents_rows parents fields at [] [] same each = refl
+parents_rows parents fields at [] (one ∷ rest) same each = absurd (omega (arith, each))
+parents_rows parents fields at (class ∷ classes) [] same each = absurd (omega (arith, each))
+parents_rows parents fields at (class ∷ classes) (one ∷ rest) same each =
+    let here : at ≡ at + 0 = omega arith in
+    ap (λ parent. parent ∷ map (λ row. row.parent) (header_rows parents fields (at + 1) classes)) (ap (entry_of parents) here ∙ same 0)
+    ∙ ap (λ more. one ∷ more)
+    (parents_rows parents fields (at + 1) classes rest
+    (λ j. let next : at + 1 + j ≡ at + suc j = omega arith in ap (entry_of parents) next ∙ same (suc j))
+    (omega (arith, each)))
+
+parents_gathered : (classes : List Class) (rows : List Header) (fields : ℕ → ℕ) → rows ≡ header_rows (parents_in classes) fields 0 classes → map (λ row. row.parent) rows ≡ parents_in classes
+parents_gathered classes rows fields are =
+    ap (map (λ row. row.parent)) are
+    ∙ parents_rows (parents_in classes) fields 0 classes (parents_in classes) (λ j. let here : 0 + j ≡ j = omega arith in ap (entry_of (parents_in classes)) here) (length_parents classes)
+
 pub headers_gathered : (result : Result Headers Stop) (program : Program) (numbers : NameNumbers) (parents : List (Option ℕ)) → parents ≡ parents_in program.classes → ((name : ℕ) → number_of numbers name ≡ class_named program.classes name) → IsToldFirst program.classes None →
     IfOk result (λ headers. IsCounted parents → headers.rows ≡ counted_rows program.classes parents (way_of parents)) →
     IfOk result (λ headers. headers.classes ≡ numbers) →
@@ -71,8 +91,11 @@ pub headers_gathered : (result : Result Headers Stop) (program : Program) (numbe
 headers_gathered (Err found) program numbers parents are named first rows classes params regions atomic main = tt
 headers_gathered (Ok headers) program numbers parents are named first rows classes params regions atomic main = λ counted.
     let fits : IsCounted (parents_in program.classes) = omega (arith, length_parents program.classes) in
+    let made : headers.rows ≡ header_rows (parents_in program.classes) (object_fields program.classes (parents_in program.classes)) 0 program.classes =
+    rows (subst IsCounted (sym are) fits) ∙ ap (λ ps. counted_rows program.classes ps (way_of ps)) are ∙ rows_gathered program.classes counted first in
     record {
-      rows = rows (subst IsCounted (sym are) fits) ∙ ap (λ ps. counted_rows program.classes ps (way_of ps)) are ∙ rows_gathered program.classes counted first;
+      rows = made;
+      parents = parents_gathered program.classes headers.rows _ made;
       classes = λ name. ap (λ ns. number_of ns name) classes ∙ named name;
       params = λ owner name. params owner name ∙ params_gathered program.classes owner name counted;
       regions = regions;

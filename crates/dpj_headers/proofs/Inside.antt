@@ -8,7 +8,7 @@ use Rattle.dpj_tree.specs.declared.class.Member.{Member}
 use Rattle.dpj_tree.specs.declared.class.Member.TheVariants as member
 use Rattle.dpj_tree.specs.declared.class.Method.{Method}
 use Rattle.dpj_tree.specs.declared.region.Named.{Named}
-use Rattle.dpj_headers.specs.Around.{Around, method_named, second_method, passed, method_entered, member_entered, member_faults, members_entered, members_faults, methods_left, params_entered, class_entered, class_faults, class_left}
+use Rattle.dpj_headers.specs.Around.{Around, passed, method_entered, members_entered, members_faults, methods_left, params_entered, class_entered, class_faults, class_left}
 use Rattle.dpj_headers.specs.Members.{is_free, all_entered, all_left, second_names, param_names, formal_names, misnamed}
 use Rattle.dpj_headers.specs.Passes.{fault_if, is_constructor_result}
 use Rattle.dpj_headers.specs.Second.{regions_in, field_name, fields_in, method_in, method_name, method_names, constructor_names, own_params, own_regions, own_fields, own_methods, names_of, is_known, second_of, wrong_in_method, wrong_in_class}

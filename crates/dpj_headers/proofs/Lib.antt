@@ -16,3 +16,4 @@ pub mod Second
 pub mod Numbered
 pub mod Counting
 pub mod Gathered
+pub mod Shaped

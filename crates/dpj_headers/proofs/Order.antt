@@ -1,5 +1,5 @@
 -- Which fault is told depends on which ones are noted, and not on their order or on how often each is noted.
-use Rattle.std.proofs.Common.{◌≡◌, ℕ, ◌<◌, Bool, true, false, ◌==◌, ◌&&◌, ◌||◌, cond, List, [], ◌∷◌, ◌++◌, Option, Some, None, ◌⊎◌, inl, inr, refl, sym, ap, subst, ◌∙◌, arith}
+use Rattle.std.proofs.Common.{◌≡◌, ℕ, ◌<◌, Bool, true, false, ◌==◌, ◌&&◌, cond, List, [], ◌∷◌, Option, Some, None, ◌⊎◌, inl, inr, refl, sym, ap, subst, ◌∙◌, arith}
 use Rattle.std.specs.Bool.{Decides}
 use Rattle.std.proofs.lemmas.Bool.Decides.{Decides-ltb, Decides-eqb, Decides-and, Decides-or, Decides-like, not_from_Decides}
 use Rattle.std.proofs.lemmas.Bool.{cases_lt, cases_eq}
@@ -11,7 +11,6 @@ use Rattle.dpj_headers.specs.declared.faults.Faults.{Faults}
 use Rattle.dpj_headers.specs.declared.faults.Order.{Order}
 use Rattle.dpj_headers.specs.declared.faults.Order.TheVariants as order
 use Rattle.dpj_headers.specs.Faults.{comes_first, told_of, noted, all_noted}
-use Rattle.dpj_headers.proofs.Noting.{noted_append}
 
 -- one number decides, or where it is the same the rest
 abbrev Lex : ℕ → ℕ → Type 0 → Type 0

@@ -1,10 +1,10 @@
 -- Where the first pass finds nothing, the way through the classes tells what is wrong in their members.
-use Rattle.std.proofs.Common.{◌≡◌, ℕ, zero, suc, ◌+◌, ◌<◌, ◌≤◌, Bool, true, false, ◌&&◌, ◌==◌, cond, ltb, List, [], ◌∷◌, ◌++◌, length, get_or, map, is_some, ◌⊎◌, inl, inr, Option, Some, None, Result, Ok, Err, IfOk, OnOk, IfErr, refl, sym, ap, subst, ◌∙◌, arith}
+use Rattle.std.proofs.Common.{◌≡◌, ℕ, zero, suc, ◌+◌, ◌<◌, Bool, true, false, ◌&&◌, ◌==◌, cond, ltb, List, [], ◌∷◌, ◌++◌, length, get_or, map, inl, inr, Option, Some, None, Result, Ok, Err, IfOk, OnOk, IfErr, refl, sym, ap, subst, ◌∙◌, arith}
 use Rattle.std.proofs.lemmas.Bool.{false≢true}
 use Rattle.std.proofs.lemmas.Bool.Decides.{Decides-ltb}
 use Rattle.std.proofs.lemmas.List.{length-map}
 use Rattle.std.proofs.lemmas.Option.{none-some}
-use Rattle.std.specs.List.{list_all, flat_map}
+use Rattle.std.specs.List.{flat_map}
 use Rattle.std.specs.Option.{option_and_then}
 use Rattle.std.specs.Prelude.{slice_get}
 use Rattle.dpj_base.specs.declared.place.Place.{Place}
@@ -26,7 +26,7 @@ use Rattle.dpj_headers.specs.First.{class_named, parents_in, first_faults, IsTol
 use Rattle.dpj_headers.specs.Members.{param_names, formal_names}
 use Rattle.dpj_headers.specs.Numbers.{as_number}
 use Rattle.dpj_headers.specs.Passes.{fault_if, first_named, second_classes, named_parent, unknown_parents, extends_place, cycles, is_constructor_result}
-use Rattle.dpj_headers.specs.Rounds.{entry_of, up, IsRound, TellRounds}
+use Rattle.dpj_headers.specs.Rounds.{entry_of, IsRound}
 use Rattle.dpj_headers.specs.Second.{own_params, own_regions, own_fields, own_methods, method_name, method_names, constructor_names, are_below, declared_in_method, declared_in, AreNamed, AreCounted, told_second, IsToldOf}
 use Rattle.dpj_headers.specs.Way.{IsCounted, way_of}
 use Rattle.dpj_headers.proofs.Cycles.{up_within}

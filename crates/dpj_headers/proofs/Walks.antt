@@ -1,6 +1,5 @@
 -- What a walk through the classes says a second time is what is wrong in each of them.
-use Rattle.std.proofs.Common.{◌≡◌, ℕ, zero, suc, ◌+◌, ◌<◌, ◌≤◌, Bool, true, false, not, ◌==◌, cond, List, [], ◌∷◌, ◌++◌, length, get_or, replicate, ◌⊎◌, inl, inr, Option, Some, None, refl, sym, ap, subst, ◌∙◌, arith, append_assoc}
-use Rattle.std.proofs.lemmas.Bool.{false≢true}
+use Rattle.std.proofs.Common.{◌≡◌, ℕ, zero, suc, ◌+◌, ◌<◌, Bool, true, false, cond, List, [], ◌∷◌, ◌++◌, length, get_or, replicate, ◌⊎◌, inl, inr, Option, Some, None, refl, sym, ap, subst, ◌∙◌, arith, append_assoc}
 use Rattle.std.proofs.lemmas.Bool.Decides.{eqb_tells}
 use Rattle.std.proofs.lemmas.List.Concat.{flat_map-append}
 use Rattle.std.proofs.lemmas.Option.{none-some}
@@ -14,11 +13,11 @@ use Rattle.dpj_headers.specs.declared.forest.Step.{Step}
 use Rattle.dpj_headers.specs.declared.forest.Step.TheVariants as step
 use Rattle.dpj_headers.specs.Around.{Around, none_around, class_entered, class_faults, class_left, after_step, step_faults, way_faults}
 use Rattle.dpj_headers.specs.Headers.{chain}
-use Rattle.dpj_headers.specs.Members.{mark_of, is_owned, all_entered}
+use Rattle.dpj_headers.specs.Members.{mark_of, all_entered}
 use Rattle.dpj_headers.specs.Rounds.{entry_of, up, IsRound}
 use Rattle.dpj_headers.specs.Second.{own_regions, own_fields, names_of, names_in, superclasses, wrong_in_class, wrong_at, second_faults}
 use Rattle.dpj_headers.specs.Way.{IsCounted, extensions, extending, roots, last_first, walk, walks, way_of, deep}
-use Rattle.dpj_headers.proofs.Among.{among_flat, from_flat, among_last, from_last, among_left, among_right, among_either, among_range, range_below}
+use Rattle.dpj_headers.proofs.Among.{among_flat, from_flat, among_last, from_last, among_range, range_below}
 use Rattle.dpj_headers.proofs.Cycles.{up-first, up-then, entry_within, far_round}
 use Rattle.dpj_headers.proofs.Inside.{Clean, Below, class_declared, class_passed, class_second}
 use Rattle.dpj_headers.proofs.Marks.{IsNoOwner, Says, says_all_entered, mark_all_entered, none_said}

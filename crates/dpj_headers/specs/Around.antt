@@ -1,6 +1,6 @@
 -- What is declared around a member, each kind of name by itself, and what the classes' members and parameters do to
 -- it and say of it a second time, on a way from class to class.
-use Rattle.std.specs.Prelude.{ℕ, Bool, not, cond, List, [], ◌∷◌, ◌++◌, replicate, slice_get, Option}
+use Rattle.std.specs.Prelude.{ℕ, not, cond, List, [], ◌∷◌, ◌++◌, replicate, slice_get, Option}
 use Rattle.std.specs.Option.{option_map_or}
 use Rattle.dpj_base.specs.declared.refusal.Kind.TheVariants as kind
 use Rattle.dpj_base.specs.declared.refusal.Refusal.{Refusal}

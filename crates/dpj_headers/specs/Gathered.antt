@@ -1,5 +1,5 @@
 -- What the headers of a program are.
-use Rattle.std.specs.Prelude.{◌≡◌, ℕ, ◌+◌, ◌==◌, ◌&&◌, Bool, true, false, cond, List, [], ◌∷◌, ◌++◌, map, count_by, codes, length, slice_get, Option, None, Some, option_and_then}
+use Rattle.std.specs.Prelude.{◌≡◌, ℕ, ◌+◌, ◌==◌, ◌&&◌, Bool, true, false, cond, List, [], ◌∷◌, ◌++◌, map, count_by, codes, slice_get, Option, None, Some, option_and_then}
 use Rattle.std.specs.List.{flat_map, position_from}
 use Rattle.std.specs.Option.{option_map, option_map_or}
 use Rattle.std.specs.Str.{bytes_eq}
@@ -13,7 +13,7 @@ use Rattle.dpj_headers.specs.declared.header.Header.{Header}
 use Rattle.dpj_headers.specs.declared.header.Headers.{Headers}
 use Rattle.dpj_headers.specs.declared.header.ParamRow.{ParamRow}
 use Rattle.dpj_headers.specs.First.{class_named, parents_in}
-use Rattle.dpj_headers.specs.Headers.{class_of, param_of, own_region, atomic_regions, main_of}
+use Rattle.dpj_headers.specs.Headers.{class_of, parents_of, param_of, own_region, atomic_regions, main_of}
 use Rattle.dpj_headers.specs.Numbers.{as_number}
 use Rattle.dpj_headers.specs.Rounds.{entry_of}
 use Rattle.dpj_headers.specs.Second.{superclasses}
@@ -96,6 +96,7 @@ name_number names text = option_map as_number (position_from (λ name. bytes_eq 
 -- the headers are those of the program; a name means the class, region parameter or region name that it is the name of
 pub record AreHeaders (program : Program) (headers : Headers) : Type 0 where
   pub rows : headers.rows ≡ header_rows (parents_in program.classes) (object_fields program.classes (parents_in program.classes)) 0 program.classes
+  pub parents : parents_of headers ≡ parents_in program.classes
   pub classes : (name : ℕ) → class_of headers name ≡ class_named program.classes name
   pub params : (class name : ℕ) → param_of headers class name ≡ param_number program.classes class name
   pub regions : (class name : ℕ) → own_region headers class name ≡ region_number program.classes class name

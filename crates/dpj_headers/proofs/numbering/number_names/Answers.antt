@@ -1,4 +1,4 @@
-use Rattle.std.proofs.Common.{length, ap, ◌∙◌}
+use Rattle.std.proofs.Common.{ap, ◌∙◌}
 use Rattle.dpj_tree.specs.declared.region.Named.{Named}
 use Rattle.dpj_headers.specs.Numbers.{as_number}
 use Rattle.dpj_headers.proofs.Numbered.{names_more}

@@ -1,4 +1,4 @@
-use Rattle.std.proofs.Common.{List, subst}
+use Rattle.std.proofs.Common.{subst}
 use Rattle.std.specs.List.{flat_map}
 use Rattle.dpj_headers.specs.Gathered.{member_regions}
 use Rattle.dpj_headers.specs.Numbering.{AreNumbered}
