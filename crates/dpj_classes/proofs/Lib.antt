@@ -4,6 +4,7 @@ pub mod Finding
 pub mod Joined
 pub mod Locals
 pub mod Marking
+pub mod Numbered
 pub mod Params
 pub mod Parts
 pub mod Rising

@@ -8,7 +8,7 @@ ghost use Rattle.dpj_classes.specs.Build.{first_of, text_faults, table_faults, I
 ghost use Rattle.dpj_classes.specs.Edges.{call_edges, without_forks};
 ghost use Rattle.dpj_classes.specs.Places.{FindsRows};
 ghost use Rattle.dpj_classes.specs.Reach.{IsBehind};
-ghost use Rattle.dpj_classes.specs.Rows.{plain_super, plain_field, plain_method, all_constraints, supers_meant, fields_meant, methods_meant};
+ghost use Rattle.dpj_classes.specs.Rows.{plain_super, plain_field, plain_method, all_constraints, supers_meant, fields_meant, methods_meant, numbers_from};
 ghost use Rattle.dpj_classes.specs.Supers.{classes_in, all_extending};
 ghost use Rattle.dpj_classes.specs.Table.{headers_of, all_given, fields_of, methods_of, is_forking, supers_of};
 
@@ -32,6 +32,7 @@ pub fn build(alloc: Global, program: &Program) -> Result<Table, Stop>
     ensures reach { IfOk result (λ table. (at : ℕ) → IsTrue (is_forking table at) ↔ IsBehind (flat_map class_marks program.now.classes) (call_edges (without_forks table) 0 0 program.now.classes ++ override_edges table (methods_of table)) at) }
     ensures ordered { IfOk result (λ table. length program.now.classes ≤ 4294967296 → Ordered (supers_of table)) }
     ensures read { IfOk result (λ table. IsReadOf program.now.classes table) }
+    ensures numbered { IfOk result (λ table. map (λ row. row.id) (methods_of table) ≡ numbers_from 0 (length (methods_of table))) }
     ensures found { IfOk result (λ table. FindsRows (length program.now.classes) table) }
     ensures judged { IfOk result (λ table. first_of (table_faults table program.now.names) ≡ None) }
     ensures refused { IfErr result (λ stop. IfRefused stop (λ fault. IsTold program.now.classes program.now.names fault)) }

@@ -11,6 +11,7 @@ use Rattle.dpj_classes.specs.Build.IsTold.{in_table}
 use Rattle.dpj_classes.specs.Edges.{call_edges, without_forks}
 use Rattle.dpj_classes.specs.Reach.{is_marked, IsBehind}
 use Rattle.dpj_classes.specs.Table.{methods_of}
+use Rattle.dpj_classes.proofs.Numbered.{rows_numbered}
 use Rattle.dpj_classes.proofs.Rising.{extending_ordered}
 use Rattle.dpj_classes.proofs.make.build.Goals as goal
 
@@ -52,3 +53,8 @@ returns-in_err-judge-clause-refused c =
     passed_on c.from_residual-in_err-judge.result c.in_err-judge.field-0.0 (λ e. IfRefused e (λ fault. IsTold classes names fault)) c.from_residual-in_err-judge.ensures.1
     (refused_map c.in_err-judge.field-0.0 refused
     (λ fault here. in_table table c.in_ok-headers.ensures.accepted is_read (ap (λ (ns : List (List ℕ)). first_of (table_faults table ns)) (sym c.as_slice-2.ensures) ∙ here)))
+
+pub returns-clause-numbered : goal.returns-clause-numbered
+returns-clause-numbered c =
+    let table = c.in_ok-table.table in
+    rows_numbered table.headers table.given c.args.program.now.classes table.methods c.in_ok-table.ensures.read.methods
