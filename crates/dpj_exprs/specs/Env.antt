@@ -153,7 +153,7 @@ bare env = record env { params = no_names; rows = []; variables = no_names; regi
 
 -- around the members of a class: its constraints are in force
 abbrev pub at_class : Env → ℕ → Env
-at_class env class = record (bare env) { class = class; given = given_of (table_of env) class; class_given = length (given_of (table_of env) class) }
+at_class env class = record (bare env) { class = class; method = 0; given = given_of (table_of env) class; class_given = length (given_of (table_of env) class) }
 
 -- region parameters by their names, with whether each is atomic
 abbrev pub params_named : List ParamRow → Names Bool
@@ -164,6 +164,10 @@ abbrev pub with_row : Env → Option MethodRow → Env
 with_row env None = env
 with_row env (Some row) = record env { params = params_named row.regions; given = env.given ++ row.given }
 
+-- around the members of the class that was entered, also behind a method of it
+abbrev pub at_members : Env → Env
+at_members env = record (bare env) { method = 0; given = take env.class_given env.given }
+
 -- around the body of a method or a constructor of the class
 abbrev pub at_method : Env → ℕ → Env
-at_method env method = with_row (record (bare env) { method = method; given = take env.class_given env.given }) (numbered (table_of env) method)
+at_method env method = with_row (record (at_members env) { method = method }) (numbered (table_of env) method)

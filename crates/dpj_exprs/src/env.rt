@@ -105,6 +105,7 @@ impl Env<'_> {
     {
         self.clear();
         self.class = class;
+        self.method = 0;
         self.given.truncate(0);
         self.class_given = 0;
         let table = self.table;
