@@ -29,7 +29,7 @@ use Rattle.dpj_exprs.specs.Typing.{Typing}
 use Rattle.dpj_check.specs.declared.body.Body.{Body}
 use Rattle.dpj_check.specs.declared.node.Node.{Node}
 use Rattle.dpj_check.specs.declared.parts.Whole.{Whole}
-use Rattle.dpj_check.specs.Constructs.{Cutting, a_part, an_array, nothing, Opening, array_refused, count_refused, both_given, opened, not_opened, part_row, variable_row}
+use Rattle.dpj_check.specs.Checking.{Cutting, a_part, an_array, nothing, Opening, array_refused, count_refused, both_given, opened, not_opened, part_row, variable_row}
 use Rattle.dpj_check.specs.Deciding.{whole_fault}
 use Rattle.dpj_check.specs.Noting.{with_found, with_fault_if}
 use Rattle.dpj_check.specs.Simple.{with_duplicate}

@@ -53,3 +53,25 @@ form_is_loop form = false
 
 abbrev pub is_loop : PlainStmt → Bool
 is_loop (statement node place form) = form_is_loop form
+
+-- a declaration or an assignment
+abbrev pub form_is_store : StmtForm → Bool
+form_is_store (declare is_final ty name value) = true
+form_is_store (assign_local target value) = true
+form_is_store (assign_field target value) = true
+form_is_store (assign_element target value) = true
+form_is_store form = false
+
+abbrev pub is_store : PlainStmt → Bool
+is_store (statement node place form) = form_is_store form
+
+-- a call, a creation, a `print` or a declaration of local regions
+abbrev pub form_is_act : StmtForm → Bool
+form_is_act (perform performed) = true
+form_is_act (print value) = true
+form_is_act (print_text text) = true
+form_is_act (local_regions names) = true
+form_is_act form = false
+
+abbrev pub is_act : PlainStmt → Bool
+is_act (statement node place form) = form_is_act form

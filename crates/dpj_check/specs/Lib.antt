@@ -1,5 +1,5 @@
+pub mod Checking
 pub mod Completes
-pub mod Constructs
 pub mod Deciding
 pub mod Gathering
 pub mod Keeping

@@ -50,7 +50,7 @@ impl Body<'_> {
     ghost use Rattle.dpj_exprs.specs.Env.{at_class, at_method, table_of, with_local};
     ghost use Rattle.dpj_exprs.specs.Typed.{plain_typed, may_be, is_int, is_boolean, Fits};
     ghost use Rattle.dpj_exprs.specs.Typing.{Typing};
-    ghost use Rattle.dpj_check.specs.Constructs.{part_row, variable_row};
+    ghost use Rattle.dpj_check.specs.Checking.{part_row, variable_row};
     ghost use Rattle.dpj_check.specs.Deciding.{Returned};
     ghost use Rattle.dpj_check.specs.Leaving.{first_region_in};
     ghost use Rattle.dpj_check.specs.Methods.{class_params, own_params, atomic_of};

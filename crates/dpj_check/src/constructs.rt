@@ -1,10 +1,12 @@
 ghost use Rattle.std.specs.Prelude.{◌≡◌, ◌↔◌, ◌<◌, ◌%◌, ◌||◌, None, false, map, IsTrue, IfOk, OnOk};
 ghost use Rattle.dpj_tree.specs.Nd.{holds_nd, some_holds_nd};
 ghost use Rattle.dpj_tree.specs.Plain.{plain_stmt, plain_stmts};
+ghost use Rattle.dpj_tree.specs.Plain.{StmtForm as form};
+ghost use Rattle.dpj_check.specs.Checking.{Checking, Forking, Turning};
 ghost use Rattle.dpj_check.specs.Deciding.{interference, marks_behind, AssignsOuter};
 ghost use Rattle.dpj_check.specs.Keeping.{inside, Keeps, AllKeep, BranchesKeep};
 ghost use Rattle.dpj_check.specs.Noting.{fault_of};
-ghost use Rattle.dpj_check.specs.Walks.{home_of};
+ghost use Rattle.dpj_check.specs.Walks.{home_of, walk_of, Says};
 
 use crate::body::Body;
 use crate::gathered::{all_effects, entered, take_in};
@@ -50,6 +52,7 @@ pub fn cobegin(
     ensures keeps { OnOk result (BranchesKeep (inside around) (plain_stmts (map plain_stmt branches.now))) }
     ensures nd { OnOk result (IsTrue (out.old.reaches_nd || (nd || some_holds_nd (plain_stmts (map plain_stmt branches.now)))) → IsTrue out.new.reaches_nd) }
     ensures home { OnOk result (home_of body.new ≡ home_of body.old) }
+    ensures checks { Says result (walk_of body.new out.new) (Forking body.old.atomic_params around node nd (plain_stmts (map plain_stmt branches.now)) (walk_of body.old out.old)) }
 {
     let mut node = node;
     let mut effects = Items::new(body.alloc);
@@ -86,6 +89,7 @@ pub fn foreach(
     ensures locals { OnOk result (¬ AssignsOuter (plain_stmt turn.now)) }
     ensures nd { OnOk result (IsTrue (out.old.reaches_nd || (nd || holds_nd (plain_stmt turn.now))) → IsTrue out.new.reaches_nd) }
     ensures home { OnOk result (home_of body.new ≡ home_of body.old) }
+    ensures checks { Says result (walk_of body.new out.new) (Turning body.old.atomic_params around node nd var (plain_stmt turn.now) (walk_of body.old out.old)) }
 {
     let mut node = node;
     body.note_duplicate(var.name, var.place, &mut node);
@@ -134,6 +138,7 @@ pub fn atomic(
     ensures quiet { OnOk result (some_holds_nd (plain_stmts (map plain_stmt stmts.now)) ≡ false) }
     ensures nd { OnOk result (IsTrue (out.old.reaches_nd || some_holds_nd (plain_stmts (map plain_stmt stmts.now))) → IsTrue out.new.reaches_nd) }
     ensures home { OnOk result (home_of body.new ≡ home_of body.old) }
+    ensures checks { Says result (walk_of body.new out.new) (Checking body.old.atomic_params around node (form.atomic (plain_stmts (map plain_stmt stmts.now))) (walk_of body.old out.old)) }
 {
     let mut node = node;
     let mut inner = Found::new(body.alloc);

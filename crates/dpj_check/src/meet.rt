@@ -4,7 +4,7 @@ ghost use Rattle.dpj_headers.specs.Headers.{atomic_regions};
 ghost use Rattle.dpj_classes.specs.Table.{headers_of};
 ghost use Rattle.dpj_parts.specs.Uses.{parts_interfere};
 ghost use Rattle.dpj_exprs.specs.Env.{given_in, table_of};
-ghost use Rattle.dpj_check.specs.Constructs.{turns_meet, BranchesApart};
+ghost use Rattle.dpj_check.specs.Checking.{turns_meet, BranchesApart};
 ghost use Rattle.dpj_check.specs.Gathering.{with_uses};
 ghost use Rattle.dpj_check.specs.Meeting.{Apart, ApartNd};
 

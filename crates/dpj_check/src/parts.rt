@@ -6,11 +6,11 @@ ghost use Rattle.dpj_tree.specs.Plain.{plain_expr, plain_stmt};
 ghost use Rattle.dpj_exprs.specs.Answer.{refused};
 ghost use Rattle.dpj_exprs.specs.Env.{part_of};
 ghost use Rattle.dpj_exprs.specs.Typing.{Typing};
-ghost use Rattle.dpj_check.specs.Constructs.{opened, not_opened, Cutting, Opening};
+ghost use Rattle.dpj_check.specs.Checking.{opened, not_opened, Cutting, Opening, Parting};
 ghost use Rattle.dpj_check.specs.Deciding.{whole_fault, AssignsOuter};
 ghost use Rattle.dpj_check.specs.Keeping.{inside, Keeps};
 ghost use Rattle.dpj_check.specs.Noting.{fault_of};
-ghost use Rattle.dpj_check.specs.Walks.{home_of, walk_of, with_types};
+ghost use Rattle.dpj_check.specs.Walks.{home_of, walk_of, with_types, Says};
 
 use crate::body::Body;
 use crate::constructs::{assigns_outer, variable};
@@ -49,6 +49,7 @@ pub fn foreach_parts(
     ensures locals { OnOk result (¬ AssignsOuter (plain_stmt turn.now)) }
     ensures nd { OnOk result (IsTrue (out.old.reaches_nd || holds_nd (plain_stmt turn.now)) → IsTrue out.new.reaches_nd) }
     ensures home { OnOk result (home_of body.new ≡ home_of body.old) }
+    ensures checks { Says result (walk_of body.new out.new) (Parting body.old.atomic_params around node names.0 names.1 (plain_expr range.entry.0.now) (plain_expr range.entry.1.now) (plain_stmt turn.now) (walk_of body.old out.old)) }
 {
     let mut node = node;
     let number = variable(node.number);

@@ -1,10 +1,14 @@
-ghost use Rattle.std.specs.Prelude.{◌≡◌, ◌||◌, None, false, map, IsTrue, IfOk, OnOk};
+ghost use Rattle.std.specs.Prelude.{◌≡◌, ◌||◌, Bool, List, None, false, true, is_some, map, IsTrue, IfOk, OnOk};
+ghost use Rattle.std.specs.Option.{option_copied};
 ghost use Rattle.dpj_tree.specs.Nd.{holds_nd, some_holds_nd};
-ghost use Rattle.dpj_tree.specs.Plain.{plain_stmt, plain_stmts};
-ghost use Rattle.dpj_check.specs.Completes.{completes, all_complete, goes_on, is_loop};
+ghost use Rattle.dpj_tree.specs.Plain.{plain_stmt, plain_stmts, return_form};
+ghost use Rattle.dpj_check.specs.Checking.{form_of, Checking, InBlock, InOrder, InScope, Standing};
+ghost use Rattle.dpj_check.specs.Completes.{completes, all_complete, goes_on, is_loop, is_store, is_act};
+ghost use Rattle.dpj_check.specs.Deciding.{is_misplaced};
 ghost use Rattle.dpj_check.specs.Keeping.{Keeps, AllKeep};
+ghost use Rattle.dpj_check.specs.declared.node.Around.{Around};
 ghost use Rattle.dpj_check.specs.Noting.{fault_of};
-ghost use Rattle.dpj_check.specs.Walks.{home_of};
+ghost use Rattle.dpj_check.specs.Walks.{home_of, walk_of, Says};
 
 use crate::body::Body;
 use crate::constructs::{atomic, cobegin, foreach};
@@ -17,7 +21,7 @@ use crate::simple::{
 };
 use dpj_base::Stop;
 use dpj_exprs::Found;
-use dpj_tree::{Stmt, StmtKind};
+use dpj_tree::{Expr, Stmt, StmtKind};
 
 /// Checks a statement, and says whether it completes. `follows` says that it stands behind one that doesn't.
 #[cycle(statements)]
@@ -33,6 +37,7 @@ pub fn statement(
     ensures keeps { OnOk result (Keeps around (plain_stmt stmt.now)) }
     ensures nd { OnOk result (IsTrue (out.old.reaches_nd || holds_nd (plain_stmt stmt.now)) → IsTrue out.new.reaches_nd) }
     ensures home { OnOk result (home_of body.new ≡ home_of body.old) }
+    ensures checks { Says result (walk_of body.new out.new) (Standing body.old.atomic_params around follows (plain_stmt stmt.now) (walk_of body.old out.old)) }
 {
     let mut node = Node::of(stmt, follows);
     match &stmt.kind {
@@ -51,19 +56,53 @@ pub fn statement(
             node.settle()?;
             Ok(first || second)
         }
-        StmtKind::Return(None) => {
-            leave(body, around, node)?;
+        StmtKind::Return(value) => {
+            returns(body, around, node, value.as_ref(), out)?;
             Ok(false)
         }
-        StmtKind::Return(Some(value)) => {
-            leave_with(body, around, node, value, out)?;
-            Ok(false)
-        }
-        _ => {
-            construct(body, around, node, stmt, out)?;
-            Ok(true)
-        }
+        _ => completing(body, around, node, stmt, out),
     }
+}
+
+/// `return;` or `return value;`
+fn returns(
+    body: &mut Body,
+    around: Around,
+    node: Node,
+    value: Option<&Expr>,
+    out: &mut Found,
+) -> Result<(), Stop>
+    ensures placed { OnOk result (is_misplaced around (is_some value.entry) ≡ false) }
+    ensures clean { OnOk result (fault_of node ≡ None) }
+    ensures nd { OnOk result (IsTrue out.old.reaches_nd → IsTrue out.new.reaches_nd) }
+    ensures home { OnOk result (home_of body.new ≡ home_of body.old) }
+    ensures checks { (params : List Bool) → Says result (walk_of body.new out.new) (Checking params around node (return_form (option_copied value.entry)) (walk_of body.old out.old)) }
+{
+    match value {
+        None => leave(body, around, node),
+        Some(value) => leave_with(body, around, node, value, out),
+    }
+}
+
+/// A statement that completes.
+#[cycle(statements)]
+fn completing(
+    body: &mut Body,
+    around: Around,
+    node: Node,
+    stmt: &Stmt,
+    out: &mut Found,
+) -> Result<bool, Stop>
+    requires { IsTrue (goes_on (plain_stmt stmt.now)) }
+    ensures completes { IfOk result (λ done. done ≡ completes (plain_stmt stmt.now)) }
+    ensures clean { OnOk result (fault_of node ≡ None) }
+    ensures keeps { OnOk result (Keeps around (plain_stmt stmt.now)) }
+    ensures nd { OnOk result (IsTrue (out.old.reaches_nd || holds_nd (plain_stmt stmt.now)) → IsTrue out.new.reaches_nd) }
+    ensures home { OnOk result (home_of body.new ≡ home_of body.old) }
+    ensures checks { Says result (walk_of body.new out.new) (Checking body.old.atomic_params around node (form_of (plain_stmt stmt.now)) (walk_of body.old out.old)) }
+{
+    construct(body, around, node, stmt, out)?;
+    Ok(true)
 }
 
 /// A construct with branches, an atomic block, a loop, or a statement that holds no other: each completes.
@@ -80,6 +119,7 @@ fn construct(
     ensures keeps { OnOk result (Keeps around (plain_stmt stmt.now)) }
     ensures nd { OnOk result (IsTrue (out.old.reaches_nd || holds_nd (plain_stmt stmt.now)) → IsTrue out.new.reaches_nd) }
     ensures home { OnOk result (home_of body.new ≡ home_of body.old) }
+    ensures checks { Says result (walk_of body.new out.new) (Checking body.old.atomic_params around node (form_of (plain_stmt stmt.now)) (walk_of body.old out.old)) }
 {
     match &stmt.kind {
         StmtKind::Cobegin { nd, branches } => {
@@ -89,7 +129,11 @@ fn construct(
         StmtKind::While { .. } | StmtKind::Foreach { .. } | StmtKind::ForeachParts { .. } => {
             turns(body, around, node, stmt, out)
         }
-        _ => single(body, node, &stmt.kind, out),
+        StmtKind::Declare { .. }
+        | StmtKind::AssignLocal { .. }
+        | StmtKind::AssignField { .. }
+        | StmtKind::AssignElement { .. } => store(body, node, stmt, out),
+        _ => act(body, node, stmt, out),
     }
 }
 
@@ -107,6 +151,7 @@ fn turns(
     ensures keeps { OnOk result (Keeps around (plain_stmt stmt.now)) }
     ensures nd { OnOk result (IsTrue (out.old.reaches_nd || holds_nd (plain_stmt stmt.now)) → IsTrue out.new.reaches_nd) }
     ensures home { OnOk result (home_of body.new ≡ home_of body.old) }
+    ensures checks { Says result (walk_of body.new out.new) (Checking body.old.atomic_params around node (form_of (plain_stmt stmt.now)) (walk_of body.old out.old)) }
 {
     let mut node = node;
     match &stmt.kind {
@@ -136,17 +181,19 @@ fn turns(
             let names = (*view, *var);
             foreach_parts(body, around, node, names, (array, count), turn.get(), out)
         }
-        _ => node.settle(),
+        _ => unreachable!(),
     }
 }
 
-/// A statement that holds no other and completes.
-fn single(body: &mut Body, node: Node, kind: &StmtKind, out: &mut Found) -> Result<(), Stop>
+/// A declaration or an assignment.
+fn store(body: &mut Body, node: Node, stmt: &Stmt, out: &mut Found) -> Result<(), Stop>
+    requires { IsTrue (is_store (plain_stmt stmt.now)) }
     ensures clean { OnOk result (fault_of node ≡ None) }
     ensures nd { OnOk result (IsTrue out.old.reaches_nd → IsTrue out.new.reaches_nd) }
     ensures home { OnOk result (home_of body.new ≡ home_of body.old) }
+    ensures checks { (params : List Bool) (around : Around) → Says result (walk_of body.new out.new) (Checking params around node (form_of (plain_stmt stmt.now)) (walk_of body.old out.old)) }
 {
-    match kind {
+    match &stmt.kind {
         StmtKind::Declare {
             is_final,
             ty,
@@ -157,13 +204,27 @@ fn single(body: &mut Body, node: Node, kind: &StmtKind, out: &mut Found) -> Resu
         StmtKind::AssignField { target, value } | StmtKind::AssignElement { target, value } => {
             assign_place(body, node, target, value, out)
         }
+        _ => unreachable!(),
+    }
+}
+
+/// A call, a creation, a `print` or a declaration of local regions.
+fn act(body: &mut Body, node: Node, stmt: &Stmt, out: &mut Found) -> Result<(), Stop>
+    requires { IsTrue (is_act (plain_stmt stmt.now)) }
+    ensures clean { OnOk result (fault_of node ≡ None) }
+    ensures nd { OnOk result (IsTrue out.old.reaches_nd → IsTrue out.new.reaches_nd) }
+    ensures home { OnOk result (home_of body.new ≡ home_of body.old) }
+    ensures checks { (params : List Bool) (around : Around) → Says result (walk_of body.new out.new) (Checking params around node (form_of (plain_stmt stmt.now)) (walk_of body.old out.old)) }
+{
+    match &stmt.kind {
         StmtKind::Do(value) => perform(body, node, value, out),
         StmtKind::Print(value) => print(body, node, value, out),
         StmtKind::Region { names } => declare_regions(body, node, names.as_slice()),
-        _ => {
+        StmtKind::PrintText(_) => {
             let mut node = node;
             node.settle()
         }
+        _ => unreachable!(),
     }
 }
 
@@ -175,6 +236,7 @@ pub fn block(body: &mut Body, around: Around, stmts: &[Stmt], out: &mut Found) -
     ensures keeps { OnOk result (AllKeep around (plain_stmts (map plain_stmt stmts.now))) }
     ensures nd { OnOk result (IsTrue (out.old.reaches_nd || some_holds_nd (plain_stmts (map plain_stmt stmts.now))) → IsTrue out.new.reaches_nd) }
     ensures home { OnOk result (home_of body.new ≡ home_of body.old) }
+    ensures checks { Says result (walk_of body.new out.new) (InBlock body.old.atomic_params around (plain_stmts (map plain_stmt stmts.now)) (walk_of body.old out.old)) }
 {
     let scope = body.env.mark();
     let mut inner = Found::new(body.alloc);
@@ -196,6 +258,7 @@ fn statements(
     ensures keeps { OnOk result (AllKeep around (plain_stmts (map plain_stmt stmts.now))) }
     ensures nd { OnOk result (IsTrue (out.old.reaches_nd || some_holds_nd (plain_stmts (map plain_stmt stmts.now))) → IsTrue out.new.reaches_nd) }
     ensures home { OnOk result (home_of body.new ≡ home_of body.old) }
+    ensures checks { Says result (walk_of body.new out.new) (InOrder body.old.atomic_params around true (plain_stmts (map plain_stmt stmts.now)) (walk_of body.old out.old)) }
 {
     let mut completes = true;
     for stmt in stmts {
@@ -212,6 +275,7 @@ pub fn scoped(body: &mut Body, around: Around, stmt: &Stmt, out: &mut Found) -> 
     ensures keeps { OnOk result (Keeps around (plain_stmt stmt.now)) }
     ensures nd { OnOk result (IsTrue (out.old.reaches_nd || holds_nd (plain_stmt stmt.now)) → IsTrue out.new.reaches_nd) }
     ensures home { OnOk result (home_of body.new ≡ home_of body.old) }
+    ensures checks { Says result (walk_of body.new out.new) (InScope body.old.atomic_params around (plain_stmt stmt.now) (walk_of body.old out.old)) }
 {
     let scope = body.env.mark();
     let completes = statement(body, around, stmt, false, out)?;
