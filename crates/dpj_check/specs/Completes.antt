@@ -75,3 +75,7 @@ form_is_act form = false
 
 abbrev pub is_act : PlainStmt → Bool
 is_act (statement node place form) = form_is_act form
+
+-- a statement that holds no other and completes
+abbrev pub is_single : PlainStmt → Bool
+is_single s = is_store s || is_act s

@@ -3,7 +3,7 @@ ghost use Rattle.std.specs.Option.{option_copied};
 ghost use Rattle.dpj_tree.specs.Nd.{holds_nd, some_holds_nd};
 ghost use Rattle.dpj_tree.specs.Plain.{plain_stmt, plain_stmts, return_form};
 ghost use Rattle.dpj_check.specs.Checking.{form_of, Checking, InBlock, InOrder, InScope, Standing};
-ghost use Rattle.dpj_check.specs.Completes.{completes, all_complete, goes_on, is_loop, is_store, is_act};
+ghost use Rattle.dpj_check.specs.Completes.{completes, all_complete, goes_on, is_loop, is_single, is_store, is_act};
 ghost use Rattle.dpj_check.specs.Deciding.{is_misplaced};
 ghost use Rattle.dpj_check.specs.Keeping.{Keeps, AllKeep};
 ghost use Rattle.dpj_check.specs.declared.node.Around.{Around};
@@ -129,11 +129,7 @@ fn construct(
         StmtKind::While { .. } | StmtKind::Foreach { .. } | StmtKind::ForeachParts { .. } => {
             turns(body, around, node, stmt, out)
         }
-        StmtKind::Declare { .. }
-        | StmtKind::AssignLocal { .. }
-        | StmtKind::AssignField { .. }
-        | StmtKind::AssignElement { .. } => store(body, node, stmt, out),
-        _ => act(body, node, stmt, out),
+        _ => single(body, node, stmt, out),
     }
 }
 
@@ -182,6 +178,23 @@ fn turns(
             foreach_parts(body, around, node, names, (array, count), turn.get(), out)
         }
         _ => unreachable!(),
+    }
+}
+
+/// A statement that holds no other and completes.
+fn single(body: &mut Body, node: Node, stmt: &Stmt, out: &mut Found) -> Result<(), Stop>
+    requires { IsTrue (is_single (plain_stmt stmt.now)) }
+    ensures clean { OnOk result (fault_of node ≡ None) }
+    ensures nd { OnOk result (IsTrue out.old.reaches_nd → IsTrue out.new.reaches_nd) }
+    ensures home { OnOk result (home_of body.new ≡ home_of body.old) }
+    ensures checks { (params : List Bool) (around : Around) → Says result (walk_of body.new out.new) (Checking params around node (form_of (plain_stmt stmt.now)) (walk_of body.old out.old)) }
+{
+    match &stmt.kind {
+        StmtKind::Declare { .. }
+        | StmtKind::AssignLocal { .. }
+        | StmtKind::AssignField { .. }
+        | StmtKind::AssignElement { .. } => store(body, node, stmt, out),
+        _ => act(body, node, stmt, out),
     }
 }
 
