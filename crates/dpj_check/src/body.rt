@@ -25,8 +25,13 @@ pub struct Body<'a> {
 }
 
 impl<'a> Body<'a> {
+    ghost use Rattle.std.specs.Prelude.{◌≡◌, []};
+
     /// Nothing is known yet, and no class is entered.
-    pub fn new(alloc: Global, env: Env<'a>) -> Body<'a> {
+    pub fn new(alloc: Global, env: Env<'a>) -> Body<'a>
+        ensures env { result.env ≡ env.entry }
+        ensures none { result.known.blocks ≡ [] }
+    {
         Body {
             alloc,
             env,
