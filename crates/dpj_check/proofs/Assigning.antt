@@ -1,5 +1,5 @@
 -- A statement assigns an outer local exactly where the list of those that it assigns isn't empty.
-use Rattle.std.proofs.Common.{◌≡◌, ◌↔◌, ℕ, ◌<◌, Bool, true, false, not, IsTrue, Contains, List, [], ◌∷◌, length, refl, arith}
+use Rattle.std.proofs.Common.{◌≡◌, ◌↔◌, ℕ, Bool, true, false, not, IsTrue, Contains, List, [], ◌∷◌, refl, arith}
 use Rattle.std.proofs.lemmas.Bool.{false≢true}
 use Rattle.dpj_tree.specs.Plain.{PlainStmt}
 use Rattle.dpj_locals.specs.Touches.{stmt_assigns}

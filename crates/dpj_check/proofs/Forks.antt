@@ -1,5 +1,5 @@
 -- Constructs that hold other statements: what is said of each way through the code that checks one.
-use Rattle.std.proofs.Common.{◌≡◌, ◌∙◌, ◌↔◌, ℕ, suc, ◌+◌, ◌<◌, ◌%◌, map, length, get_or, drop, drop-cons, add-one, append_assoc, append-nil, List, [], ◌∷◌, ◌++◌, Bool, true, false, not, cond, ◌||◌, IsTrue, Option, Some, None, is_some, Result, Ok, Err, refl, sym, ap, subst}
+use Rattle.std.proofs.Common.{◌≡◌, ◌∙◌, ℕ, suc, ◌+◌, ◌<◌, ◌%◌, map, length, get_or, drop, drop-cons, add-one, append_assoc, append-nil, List, [], ◌∷◌, ◌++◌, Bool, true, false, not, cond, ◌||◌, IsTrue, Option, Some, None, is_some, Result, Err, refl, sym, ap, subst}
 use Rattle.std.specs.Result.{IsErrAnd}
 use Rattle.std.proofs.lemmas.Bool.{false≢true}
 use Rattle.dpj_base.specs.declared.effect.Effect.{Effect}

@@ -1,5 +1,5 @@
 -- Statements that hold no other: what is said of each way through the code that checks one.
-use Rattle.std.proofs.Common.{◌≡◌, ◌∙◌, ◌↔◌, ℕ, List, Bool, true, false, not, IsTrue, Option, Some, None, option_map, Result, Ok, Err, refl, sym, ap, subst}
+use Rattle.std.proofs.Common.{◌≡◌, ◌∙◌, ◌↔◌, ℕ, List, Bool, true, not, IsTrue, Option, Some, None, Result, sym, ap, subst}
 use Rattle.dpj_base.specs.declared.refusal.Kind.{Kind}
 use Rattle.dpj_base.specs.declared.refusal.Kind.TheVariants as kind
 use Rattle.dpj_base.specs.declared.refusal.Refusal.{Refusal}

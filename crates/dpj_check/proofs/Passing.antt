@@ -1,12 +1,12 @@
 -- What is passed on from a part of a statement to the statement.
-use Rattle.std.proofs.Common.{◌≡◌, ◌∙◌, Result, Ok, Err, Option, Some, None, sym, subst, refl}
+use Rattle.std.proofs.Common.{◌≡◌, Result, Ok, Err, Option, Some, None, sym, subst}
 use Rattle.std.specs.Result.{IsErrAnd}
 use Rattle.dpj_base.specs.declared.refusal.Refusal.{Refusal}
 use Rattle.dpj_base.specs.declared.refusal.Stop.{Stop}
 use Rattle.dpj_base.specs.declared.refusal.Stop.TheVariants as stop
 use Rattle.dpj_base.specs.Refused.{IfRefused}
 use Rattle.dpj_headers.specs.Faults.{settled}
-use Rattle.dpj_check.specs.Walks.{Walk, Verdict, passes, refused, judged, behind, Says}
+use Rattle.dpj_check.specs.Walks.{Walk, Verdict, passes, refused, judged, Says}
 
 -- what is said of an outcome that stopped
 said : (T : Type 0) (P : Refusal → Type 0) (Q : Verdict → Type 0) (s : Stop) (w : Walk) → ((q : Refusal) → P q → Q (refused q)) → IfRefused s P → Says {T = T} (Err s) w Q

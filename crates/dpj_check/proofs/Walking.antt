@@ -1,7 +1,6 @@
 -- The walk over statements: what is said of each way through the code, of what was said of its parts.
 use Rattle.std.proofs.Common.{◌≡◌, ◌∙◌, ℕ, suc, ◌+◌, ◌<◌, ◌&&◌, ◌||◌, IsTrue, Bool, true, false, not, List, [], ◌∷◌, map, length, get_or, drop, drop-cons, add-one, Option, Some, None, refl, sym, ap, subst}
 use Rattle.std.proofs.lemmas.Bool.{false≢true}
-use Rattle.dpj_base.specs.declared.effect.Effect.{Effect}
 use Rattle.dpj_base.specs.declared.refusal.Kind.TheVariants as kind
 use Rattle.dpj_base.specs.declared.refusal.Refusal.{Refusal}
 use Rattle.dpj_base.specs.Types.{PlainType}
@@ -34,7 +33,7 @@ use Rattle.dpj_check.specs.Noting.{fault_of, node_at, with_fault_if}
 use Rattle.dpj_check.specs.Walks.{Walk, Verdict, passes, refused, judged, behind, nothing_found, found_so, walk_of, with_types, Home, home_of}
 use Rattle.dpj_check.proofs.Forks.{walk_from, judged_none, judged_some}
 use Rattle.dpj_check.proofs.Leaves.{typed_walk}
-use Rattle.dpj_check.proofs.Stands.{plain_kind, plain_node, as_form, as_statement, at_Block, at_If, at_Else, at_While, at_Foreach, at_Parts}
+use Rattle.dpj_check.proofs.Stands.{plain_node, as_form, as_statement, at_Block, at_If, at_Else, at_While, at_Foreach, at_Parts}
 
 -- the statements of a block are gathered by themselves
 begun_so : (params : List Bool) (around : Around) (all : PlainStmts) (b : Body) (inner : Found) (v : Verdict) → inner ≡ nothing_found → InOrder params around true all (walk_of b inner) v → InOrder params around true all (walk_of b nothing_found) v

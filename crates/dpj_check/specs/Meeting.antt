@@ -1,5 +1,5 @@
 -- Branches and turns that run side by side without interference.
-use Rattle.std.specs.Prelude.{ℕ, Bool, IsTrue, List}
+use Rattle.std.specs.Prelude.{Bool, IsTrue, List}
 use Rattle.dpj_base.specs.declared.effect.Effect.{Effect}
 use Rattle.dpj_base.specs.declared.effect.Constraint.{Constraint}
 use Rattle.dpj_base.specs.Branches.{lists_interfere, lists_interfere_nd}

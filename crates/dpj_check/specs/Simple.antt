@@ -1,5 +1,5 @@
 -- Statements that hold no other, as the rules of the language say: their parts in order, then the node itself.
-use Rattle.std.specs.Prelude.{◌≡◌, ◌↔◌, ℕ, Bool, true, false, not, ◌||◌, cond, IsTrue, List, [], ◌∷◌, ◌++◌, is_some, Option, Some, None, option_map}
+use Rattle.std.specs.Prelude.{◌≡◌, ◌↔◌, ℕ, Bool, true, not, ◌||◌, cond, IsTrue, List, [], ◌∷◌, is_some, Option, Some, None}
 use Rattle.std.specs.Option.{option_map_or}
 use Rattle.dpj_base.specs.declared.place.Place.{Place}
 use Rattle.dpj_base.specs.declared.refusal.Kind.{Kind}
@@ -31,7 +31,7 @@ use Rattle.dpj_check.specs.declared.node.Around.{Around}
 use Rattle.dpj_check.specs.declared.node.Node.{Node}
 use Rattle.dpj_check.specs.Deciding.{is_misplaced, local_fault, Returned}
 use Rattle.dpj_check.specs.Noting.{with_fault, with_found, with_fault_if, fault_of}
-use Rattle.dpj_check.specs.Walks.{Walk, Verdict, passes, refused, judged, found_so, declaring}
+use Rattle.dpj_check.specs.Walks.{Walk, Verdict, refused, judged, found_so, declaring}
 
 -- a value of the type may stand where the other is declared, or not
 abbrev pub FitIs : Env → Option PlainType → PlainType → Bool → Type 0

@@ -1,16 +1,15 @@
-use Rattle.std.proofs.Common.{rules, ◌≡◌, ◌∙◌, ◌&&◌, Bool, true, false, not, map, drop, Some, None, Err, refl, sym, ap, subst, ◌||◌}
+use Rattle.std.proofs.Common.{◌≡◌, ◌∙◌, ◌&&◌, Bool, true, false, not, map, refl, sym, ap, subst, ◌||◌}
 use Rattle.std.proofs.lemmas.List.{drop_all}
 use Rattle.std.specs.Option.{option_copied}
 use Rattle.dpj_tree.specs.Plain.{plain_expr, plain_stmt, plain_stmts, return_form}
 use Rattle.dpj_tree.specs.Plain.{StmtForm as form}
 use Rattle.dpj_tree.specs.declared.stmt.StmtKind.TheVariants as tree
-use Rattle.dpj_base.specs.declared.refusal.Kind.TheVariants as kind
 use Rattle.dpj_exprs.specs.Answer.{refused}
 use Rattle.dpj_exprs.specs.Typed.{plain_typed}
 use Rattle.dpj_exprs.specs.Typing.{Typing}
 use Rattle.dpj_check.specs.Checking.{form_of, Checking, Standing, InScope, in_scope, InBlock, InOrder, Forking, Turning, Parting, all_pass, Branching, ClashIs}
 use Rattle.dpj_check.specs.Checking.{Checking as rule}
-use Rattle.dpj_check.specs.Noting.{fault_of, with_fault_if}
+use Rattle.dpj_check.specs.Noting.{fault_of}
 use Rattle.dpj_check.specs.Walks.{walk_of, passes, judged}
 use Rattle.dpj_check.specs.Walks.{Verdict as verdict}
 use Rattle.dpj_check.proofs.Forks.{piece_stopped, settle_stopped, atomic_nd, atomic_refused, atomic_told, atomic_passes, turn_begun, turn_stopped, turn_told, turns_told, turns_pass, turns_nd, or_then, or_else, reaching, reached_is, number_is, params_kept, Turn, TurnsMet, range_stopped, part_begun, part_stopped, Part, part_told, PartsMet, parts_told, parts_passes, parts_nd, fork_more, fork_all, fork_keeps, fork_nd, fork_stopped, fork_told, fork_ends, clash_is}
@@ -21,7 +20,6 @@ use Rattle.dpj_check.proofs.+statements.Goals as goal
 use Rattle.dpj_check.proofs.+statements.Goals.{statements::statement-in-Some+in_ok-second-in-Some, statements::statement-in-None, statements::statements-then-completes, statements::statements-else-completes, constructs::foreach-then-inner, constructs::foreach-else-inner, constructs::cobegin-then-out, constructs::cobegin-else-out}
 use Rattle.dpj_tree.specs.Nd.{holds_nd, some_holds_nd}
 use Rattle.dpj_check.specs.declared.leaving.Marks.TheVariants as marks
-use Rattle.dpj_check.specs.Deciding.{marks_behind}
 use Rattle.dpj_check.specs.Keeping.{inside}
 use Rattle.dpj_check.specs.Leaving.{nothing_leaves, variable_leaves}
 use Rattle.dpj_check.specs.declared.body.Body.{Body}

@@ -1,4 +1,4 @@
-use Rattle.std.proofs.Common.{◌∙◌, refl, sym, subst, drop}
+use Rattle.std.proofs.Common.{◌∙◌, refl, sym, subst}
 use Rattle.std.proofs.lemmas.List.{drop_all}
 use Rattle.dpj_exprs.specs.Env.{at_class, table_of}
 use Rattle.dpj_check.specs.Keeping.{ClassesKeep}

@@ -1,8 +1,7 @@
-use Rattle.std.proofs.Common.{◌∷◌, ap, refl}
+use Rattle.std.proofs.Common.{◌∷◌}
 use Rattle.dpj_exprs.specs.Env.{at_class, table_of}
-use Rattle.dpj_check.specs.Methods.{class_params, is_method, one_refused, MembersChecking, MethodChecking}
+use Rattle.dpj_check.specs.Methods.{class_params, one_refused, MembersChecking, MethodChecking}
 use Rattle.dpj_check.specs.Walks.{refused}
-use Rattle.dpj_tree.specs.declared.class.Member.{Member}
 use Rattle.dpj_check.proofs.Methodic.{begun_in, fault_passed, method_passes, method_stops, no_body, number_behind, passed_over}
 use Rattle.dpj_check.proofs.bodies.check_member.Goals as goal
 

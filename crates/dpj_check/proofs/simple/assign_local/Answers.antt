@@ -1,15 +1,14 @@
-use Rattle.std.proofs.Common.{◌≡◌, ◌∙◌, Some, None, Ok, Err, not, refl, sym, ap, option_map}
+use Rattle.std.proofs.Common.{◌∙◌, sym, ap}
 use Rattle.std.specs.Option.{option_copied}
 use Rattle.dpj_tree.specs.Plain.{plain_expr}
 use Rattle.dpj_exprs.specs.Answer.{refused}
 use Rattle.dpj_exprs.specs.Typed.{plain_typed}
 use Rattle.dpj_exprs.specs.Typing.{Typing}
-use Rattle.dpj_check.specs.Noting.{fault_of}
 use Rattle.dpj_check.specs.Simple.{AssigningLocal}
 use Rattle.dpj_check.specs.Simple.{AssigningLocal as rule}
 use Rattle.dpj_check.specs.Walks.{walk_of}
 use Rattle.dpj_check.proofs.Leaves.{no_local_says, local_says}
-use Rattle.dpj_check.proofs.Passing.{stopped, settled_stop}
+use Rattle.dpj_check.proofs.Passing.{stopped}
 use Rattle.dpj_check.proofs.simple.assign_local.Goals.{in-None, in-Some+in_ok-fits-in-Some}
 use Rattle.dpj_check.proofs.simple.assign_local.Goals as goal
 

@@ -1,5 +1,4 @@
-use Rattle.std.proofs.Common.{◌≡◌, ◌∙◌, Some, None, Ok, Err, not, refl, sym, ap, subst, option_map}
-use Rattle.std.specs.Option.{option_copied}
+use Rattle.std.proofs.Common.{◌≡◌, ◌∙◌, Some, sym, subst, option_map}
 use Rattle.dpj_tree.specs.Plain.{plain_expr}
 use Rattle.dpj_exprs.specs.Answer.{refused}
 use Rattle.dpj_exprs.specs.Typed.{plain_typed}

@@ -1,7 +1,7 @@
 use Rattle.std.proofs.Common.{◌≡◌, None, drop}
 use Rattle.dpj_check.specs.Noting.{fault_of}
 use Rattle.dpj_check.specs.Simple.{regions_noted, with_regions}
-use Rattle.dpj_check.specs.Walks.{home_of, with_env}
+use Rattle.dpj_check.specs.Walks.{home_of}
 use Rattle.dpj_check.proofs.simple.declare_regions.Given as goal
 
 abbrev pub invariant-loop-named : goal.invariant-loop-named

@@ -1,15 +1,12 @@
-use Rattle.std.proofs.Common.{◌≡◌, ◌∙◌, Some, None, Ok, Err, not, refl, sym, ap, option_map}
-use Rattle.dpj_base.specs.declared.refusal.Kind.TheVariants as kind
 use Rattle.dpj_tree.specs.Plain.{plain_expr}
 use Rattle.dpj_exprs.specs.Answer.{refused}
 use Rattle.dpj_exprs.specs.Typed.{plain_typed}
 use Rattle.dpj_exprs.specs.Typing.{Typing}
-use Rattle.dpj_check.specs.Noting.{fault_of}
 use Rattle.dpj_check.specs.Simple.{Returning}
 use Rattle.dpj_check.specs.Simple.{Returning as rule}
-use Rattle.dpj_check.specs.Walks.{walk_of, judged}
+use Rattle.dpj_check.specs.Walks.{walk_of}
 use Rattle.dpj_check.proofs.Leaves.{returned_says}
-use Rattle.dpj_check.proofs.Passing.{stopped, settled_says, settled_stop}
+use Rattle.dpj_check.proofs.Passing.{stopped}
 use Rattle.dpj_check.proofs.simple.leave_with.Goals as goal
 
 pub returns-in_err-value-clause-checks : goal.returns-in_err-value-clause-checks

@@ -1,5 +1,3 @@
-use Rattle.std.proofs.Common.{◌≡◌, ◌∙◌, Some, None, Ok, Err, not, refl, sym, ap, option_map}
-use Rattle.dpj_base.specs.declared.refusal.Kind.TheVariants as kind
 use Rattle.dpj_tree.specs.Plain.{plain_expr}
 use Rattle.dpj_exprs.specs.Answer.{refused}
 use Rattle.dpj_exprs.specs.Typed.{plain_typed}
@@ -7,9 +5,9 @@ use Rattle.dpj_exprs.specs.Typing.{Typing}
 use Rattle.dpj_check.specs.Noting.{fault_of}
 use Rattle.dpj_check.specs.Simple.{Printing}
 use Rattle.dpj_check.specs.Simple.{Printing as rule}
-use Rattle.dpj_check.specs.Walks.{walk_of, judged}
+use Rattle.dpj_check.specs.Walks.{walk_of}
 use Rattle.dpj_check.proofs.Leaves.{printed_judged}
-use Rattle.dpj_check.proofs.Passing.{stopped, settled_says, settled_stop}
+use Rattle.dpj_check.proofs.Passing.{stopped, settled_says}
 use Rattle.dpj_check.proofs.simple.print.Goals as goal
 
 pub returns-in_err-value-clause-checks : goal.returns-in_err-value-clause-checks

@@ -1,12 +1,11 @@
-use Rattle.std.proofs.Common.{◌≡◌, refl, ⊎_elim}
+use Rattle.std.proofs.Common.{⊎_elim}
 use Rattle.dpj_tree.specs.Plain.{plain_expr, plain_stmt}
 use Rattle.dpj_tree.specs.Plain.{StmtForm as form}
 use Rattle.dpj_check.specs.Checking.{form_of, Checking}
 use Rattle.dpj_check.specs.Checking.{Checking as rule}
-use Rattle.dpj_check.specs.Noting.{fault_of}
 use Rattle.dpj_check.specs.Simple.{Declaring, AssigningLocal, AssigningPlace}
-use Rattle.dpj_check.specs.Walks.{walk_of, judged}
-use Rattle.dpj_check.proofs.Passing.{says_all, settled_says}
+use Rattle.dpj_check.specs.Walks.{walk_of}
+use Rattle.dpj_check.proofs.Passing.{says_all}
 use Rattle.dpj_check.proofs.Stands.{at_Declare, at_AssignLocal, at_AssignField, at_AssignElement, as_form}
 use Rattle.dpj_check.proofs.statements.store.Goals as goal
 
