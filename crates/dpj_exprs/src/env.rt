@@ -6,7 +6,7 @@ ghost use Rattle.dpj_exprs.specs.Env.{index_number, param_paths};
 use crate::supers::Supers;
 use dpj_base::{Constraint, Elems, Head, Items, NoMemory, Plain, Rpl, Ty};
 use dpj_classes::Table;
-use dpj_headers::{ParamRow, number_at, to_number};
+use dpj_headers::{ParamRow, number_at};
 use dpj_resolve::{Scope, Scoped, Site};
 use dpj_tree::{Expr, ExprKind, Program};
 use std::alloc::Global;
@@ -63,7 +63,7 @@ pub fn length_name(program: &Program) -> Option<u32> {
     names
         .iter()
         .position(|name| name.as_slice() == b"length".as_slice())
-        .map(to_number)
+        .map(|at| number_at(at))
 }
 
 impl Env<'_> {

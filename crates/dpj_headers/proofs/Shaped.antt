@@ -113,10 +113,16 @@ few_classes (class ∷ classes) =
     let first = length-append (params_numbers class.params ++ parent_numbers class.parent ++ flat_map member_numbers class.members) (class.node ∷ []) in
     omega (arith, length-append (class_numbers class) (flat_map class_numbers classes), first)
 
-pub counted_when_shaped : (program : Program) → IsShaped program → AreCounted (length program.names) program.classes
-counted_when_shaped program shaped = (
-  let few = few_classes program.classes in let bound = shaped.bounded in omega arith,
+-- fewer classes than numbers, and names that are positions among so many
+pub counted_when_named : (program : Program) → length program.classes < 4294967295 → All (λ name. name < length program.names) (program_names program)
+    → AreCounted (length program.names) program.classes
+counted_when_named program few named = (
+  few,
   named_when (length program.names) program.classes
       (λ class k. below_when (length program.names) (declared_in class)
-      (λ named h. all_at (λ name. name < length program.names) named.name (program_names program) shaped.named (among_flat class_names named.name class program.classes k (named_class named class h)))),
+      (λ one h. all_at (λ name. name < length program.names) one.name (program_names program) named (among_flat class_names one.name class program.classes k (named_class one class h)))),
 )
+
+pub counted_when_shaped : (program : Program) → IsShaped program → AreCounted (length program.names) program.classes
+counted_when_shaped program shaped =
+    counted_when_named program (let few = few_classes program.classes in let bound = shaped.bounded in omega arith) shaped.named

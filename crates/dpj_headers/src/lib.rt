@@ -23,4 +23,4 @@ pub use faults::Faults;
 pub use forest::Step;
 pub use gather::{headers, param_rows};
 pub use header::{Header, Headers, ParamRow};
-pub use numbers::{NameNumbers, OwnedNumbers, number_at, to_number};
+pub use numbers::{NameNumbers, OwnedNumbers, number_at};

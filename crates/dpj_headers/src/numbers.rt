@@ -31,11 +31,6 @@ pub fn number_at(position: usize) -> u32
     u32::try_from(position).unwrap_or(u32::MAX)
 }
 
-/// The same for crates that pass it on as a value, which they can do with a function that has no clause.
-pub fn to_number(position: usize) -> u32 {
-    number_at(position)
-}
-
 impl NameNumbers {
     pub fn new(alloc: Global) -> NameNumbers
         ensures { (name : ℕ) → number_of result name ≡ None }
