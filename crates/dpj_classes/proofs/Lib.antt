@@ -8,3 +8,4 @@ pub mod Numbered
 pub mod Params
 pub mod Parts
 pub mod Rising
+pub mod Whole

@@ -1,16 +1,24 @@
--- What a class table has to say of the classes of a text, and which fault is told where there is none.
-use Rattle.std.specs.Prelude.{◌≡◌, ℕ, List, ◌++◌, map, Option, None, Some, ◌⊎◌}
+-- What makes a class table that of a program, and which fault is told where there is none.
+use Rattle.std.specs.Prelude.{◌≡◌, ◌↔◌, ℕ, List, ◌++◌, map, length, Option, None, Some, IsTrue}
+use Rattle.std.specs.List.{flat_map}
 use Rattle.dpj_base.specs.declared.refusal.Refusal.{Refusal}
 use Rattle.dpj_tree.specs.declared.class.Class.{Class}
+use Rattle.dpj_tree.specs.declared.class.Program.{Program}
 use Rattle.dpj_headers.specs.declared.faults.Order.TheVariants as order
 use Rattle.dpj_headers.specs.declared.header.Headers.{Headers}
 use Rattle.dpj_headers.specs.Faults.{told, none_by, all_noted}
 use Rattle.dpj_headers.specs.First.{IsToldFirst}
+use Rattle.dpj_headers.specs.Gathered.{AreHeaders}
+use Rattle.dpj_headers.specs.Second.{told_second}
 use Rattle.dpj_classes.specs.declared.table.Table.{Table}
+use Rattle.dpj_classes.specs.Bodies.{class_marks, override_edges}
+use Rattle.dpj_classes.specs.Edges.{call_edges, without_forks}
 use Rattle.dpj_classes.specs.Main.{main_faults}
 use Rattle.dpj_classes.specs.Overriding.{override_faults}
+use Rattle.dpj_classes.specs.Places.{FindsRows}
+use Rattle.dpj_classes.specs.Reach.{IsBehind}
 use Rattle.dpj_classes.specs.Rows.{plain_super, plain_field, plain_method, all_constraints, all_constraint_faults, supers_meant, fields_meant, methods_meant, signature_faults}
-use Rattle.dpj_classes.specs.Table.{headers_of, all_given, supers_of, fields_of, methods_of}
+use Rattle.dpj_classes.specs.Table.{headers_of, all_given, supers_of, fields_of, methods_of, is_forking}
 
 -- the fault that is told of these: that with the least place
 abbrev pub first_of : List Refusal → Option Refusal
@@ -32,9 +40,28 @@ pub record IsReadOf (classes : List Class) (table : Table) : Type 0 where
   pub fields : map plain_field (fields_of table) ≡ fields_meant (headers_of table) (all_given table) 0 classes
   pub methods : map plain_method (methods_of table) ≡ methods_meant (headers_of table) (all_given table) 0 0 classes
 
--- the fault is the first one of the headers; or of the signatures, where there is none there; or of the table as a
--- whole, where there is none in these either
-pub data IsTold (classes : List Class) (names : List (List ℕ)) (fault : Refusal) : Type 0 where
-  in_headers : IsToldFirst classes (Some fault) ⊎ IsToldFirst classes None → IsTold classes names fault
-  in_signatures : (headers : Headers) → IsToldFirst classes None → first_of (text_faults headers classes) ≡ Some fault → IsTold classes names fault
-  in_table : (table : Table) → IsToldFirst classes None → IsReadOf classes table → first_of (table_faults table names) ≡ Some fault → IsTold classes names fault
+-- the table tells of each method and constructor whether an nd construct is reached through it: one is in its body,
+-- or a call, a creation or an overriding method leads from it to one of which that is so
+abbrev pub TellsForking : List Class → Table → Type 0
+TellsForking classes table =
+    (id : ℕ) → IsTrue (is_forking table id) ↔ IsBehind (flat_map class_marks classes) (call_edges (without_forks table) 0 0 classes ++ override_edges table (methods_of table)) id
+
+-- the table is that of the program
+pub record IsTable (program : Program) (table : Table) : Type 0 where
+  pub headers : AreHeaders program (headers_of table)
+  pub read : IsReadOf program.classes table
+  pub found : FindsRows (length program.classes) table
+  pub reached : TellsForking program.classes table
+
+-- nothing is wrong in the classes by themselves, nor in their members
+pub record AreWellNamed (classes : List Class) : Type 0 where
+  pub first : IsToldFirst classes None
+  pub second : told_second classes ≡ None
+
+-- the fault is the first one of the classes by themselves; or of their members, where there is none there; or of the
+-- signatures, where there is none in these either; or else of the table as a whole
+pub data IsTold (program : Program) (fault : Refusal) : Type 0 where
+  in_classes : IsToldFirst program.classes (Some fault) → IsTold program fault
+  in_members : IsToldFirst program.classes None → told_second program.classes ≡ Some fault → IsTold program fault
+  in_signatures : (headers : Headers) → AreWellNamed program.classes → AreHeaders program headers → first_of (text_faults headers program.classes) ≡ Some fault → IsTold program fault
+  in_table : (table : Table) → AreWellNamed program.classes → IsTable program table → first_of (table_faults table program.names) ≡ Some fault → IsTold program fault

@@ -1,16 +1,12 @@
-ghost use Rattle.std.specs.Prelude.{◌≡◌, ◌≤◌, ◌↔◌, ◌++◌, ℕ, List, [], None, Some, map, length, IsTrue, IfOk, IfErr, OnOk};
-ghost use Rattle.std.specs.List.{flat_map};
+ghost use Rattle.std.specs.Prelude.{◌≡◌, ◌≤◌, ℕ, [], None, Some, map, length, IfOk, IfErr, OnOk};
 ghost use Rattle.dpj_base.specs.Refused.{IfRefused};
 ghost use Rattle.dpj_base.specs.Types.{Ordered};
-ghost use Rattle.dpj_classes.specs.declared.reach.Edge.{Edge as AnEdge};
-ghost use Rattle.dpj_classes.specs.Bodies.{class_marks, override_edges};
-ghost use Rattle.dpj_classes.specs.Build.{first_of, text_faults, table_faults, IsReadOf, IsTold};
-ghost use Rattle.dpj_classes.specs.Edges.{call_edges, without_forks};
+ghost use Rattle.dpj_headers.specs.Second.{AreCounted};
+ghost use Rattle.dpj_classes.specs.Build.{first_of, text_faults, table_faults, IsReadOf, AreWellNamed, IsTable, IsTold};
 ghost use Rattle.dpj_classes.specs.Places.{FindsRows};
-ghost use Rattle.dpj_classes.specs.Reach.{IsBehind};
 ghost use Rattle.dpj_classes.specs.Rows.{plain_super, plain_field, plain_method, all_constraints, supers_meant, fields_meant, methods_meant, numbers_from};
 ghost use Rattle.dpj_classes.specs.Supers.{classes_in, all_extending};
-ghost use Rattle.dpj_classes.specs.Table.{headers_of, all_given, fields_of, methods_of, is_forking, supers_of};
+ghost use Rattle.dpj_classes.specs.Table.{headers_of, all_given, fields_of, methods_of, supers_of};
 
 use crate::forking::find_forks;
 use crate::main_class::check_main;
@@ -27,15 +23,13 @@ use std::alloc::Global;
 /// arguments and constraints in signatures; then methods that don't fit those that they override, and a program
 /// without its `Main`. Of these groups the first comes first, and in a group the fault with the least place.
 pub fn build(alloc: Global, program: &Program) -> Result<Table, Stop>
-    ensures extending { IfOk result (λ table. classes_in (supers_of table) ≡ all_extending (headers_of table) 0 program.now.classes) }
-    ensures forks { IfOk result (λ table. (calls : List AnEdge) × ((at : ℕ) → IsTrue (is_forking table at) ↔ IsBehind (flat_map class_marks program.now.classes) (calls ++ override_edges table (methods_of table)) at)) }
-    ensures reach { IfOk result (λ table. (at : ℕ) → IsTrue (is_forking table at) ↔ IsBehind (flat_map class_marks program.now.classes) (call_edges (without_forks table) 0 0 program.now.classes ++ override_edges table (methods_of table)) at) }
-    ensures ordered { IfOk result (λ table. length program.now.classes ≤ 4294967296 → Ordered (supers_of table)) }
-    ensures read { IfOk result (λ table. IsReadOf program.now.classes table) }
-    ensures numbered { IfOk result (λ table. map (λ row. row.id) (methods_of table) ≡ numbers_from 0 (length (methods_of table))) }
-    ensures found { IfOk result (λ table. FindsRows (length program.now.classes) table) }
+    ensures named { IfOk result (λ table. AreCounted (length program.now.names) program.now.classes → AreWellNamed program.now.classes) }
+    ensures table { IfOk result (λ table. AreCounted (length program.now.names) program.now.classes → IsTable program.now table) }
     ensures judged { IfOk result (λ table. first_of (table_faults table program.now.names) ≡ None) }
-    ensures refused { IfErr result (λ stop. IfRefused stop (λ fault. IsTold program.now.classes program.now.names fault)) }
+    ensures refused { IfErr result (λ stop. IfRefused stop (λ fault. AreCounted (length program.now.names) program.now.classes → IsTold program.now fault)) }
+    ensures extending { IfOk result (λ table. classes_in (supers_of table) ≡ all_extending (headers_of table) 0 program.now.classes) }
+    ensures ordered { IfOk result (λ table. length program.now.classes ≤ 4294967296 → Ordered (supers_of table)) }
+    ensures numbered { IfOk result (λ table. map (λ row. row.id) (methods_of table) ≡ numbers_from 0 (length (methods_of table))) }
 {
     let headers = headers(alloc, program)?;
     let mut table = of_signatures(alloc, headers, program)?;
@@ -48,6 +42,7 @@ pub fn build(alloc: Global, program: &Program) -> Result<Table, Stop>
 fn of_signatures(alloc: Global, headers: Headers, program: &Program) -> Result<Table, Stop>
     ensures read { IfOk result (λ table. IsReadOf program.now.classes table) }
     ensures found { IfOk result (λ table. FindsRows (length program.now.classes) table) }
+    ensures headers { IfOk result (λ table. headers_of table ≡ headers) }
     ensures refused { IfErr result (λ stop. IfRefused stop (λ fault. first_of (text_faults headers program.now.classes) ≡ Some fault)) }
     ensures forks { IfOk result (λ table. table.forks ≡ []) }
     ensures extending { IfOk result (λ table. classes_in (supers_of table) ≡ all_extending (headers_of table) 0 program.now.classes) }
