@@ -10,3 +10,7 @@ pub mod Spelling
 pub mod Making
 pub mod StmtTrees
 pub mod Stating
+pub mod Held
+pub mod Targeted
+pub mod Distinct
+pub mod Promised

@@ -1,9 +1,5 @@
 -- A whole program, from the bytes of its text.
-use Rattle.std.specs.Prelude.{◌≡◌, ◌⊎◌, ℕ, List, [], ◌∷◌, Any}
-use Rattle.dpj_base.specs.declared.place.Place.{Place}
-use Rattle.dpj_base.specs.declared.refusal.Kind.{Kind}
-use Rattle.dpj_base.specs.declared.refusal.Kind.TheVariants.{Syntax, Nest}
-use Rattle.dpj_base.specs.declared.refusal.Refusal.{Refusal}
+use Rattle.std.specs.Prelude.{◌≡◌, ℕ, List}
 use Rattle.dpj_tokens.specs.declared.token.Token.{Token}
 use Rattle.dpj_terminals.specs.declared.terminal.Placed.{Placed}
 use Rattle.dpj_terminals.specs.Says.{MeanAll, distinct_names}

@@ -1,5 +1,9 @@
-ghost use Rattle.std.specs.Prelude.{◌≤◌, length, IfOk};
+ghost use Rattle.std.specs.Prelude.{◌≤◌, ◌<◌, length, All, IfOk};
+ghost use Rattle.std.specs.List.{IsDistinct};
+ghost use Rattle.std.specs.Str.{bytes_eq};
 ghost use Rattle.dpj_tokens.specs.Cutting.{StandInOrder};
+ghost use Rattle.dpj_tree.specs.Names.{program_names};
+ghost use Rattle.dpj_tree.specs.Shaped.{MemberHasTargets};
 ghost use Rattle.dpj_parse.specs.Program.{IsProgram};
 
 use crate::classes::classes;
@@ -15,6 +19,10 @@ pub fn parse(alloc: Global, bytes: &[u8], tokens: &Tokens) -> Result<Program, St
     requires small { length bytes.now ≤ 1048576 }
     requires stand { StandInOrder bytes.now 0 tokens.now.list }
     ensures derived { IfOk result (IsProgram bytes.now tokens.now.list) }
+    ensures named { IfOk result (λ program. All (λ name. name < length program.names) (program_names program)) }
+    ensures distinct { IfOk result (λ program. IsDistinct bytes_eq program.names) }
+    ensures targets { IfOk result (λ program. All (λ class. All MemberHasTargets class.members) program.classes) }
+    ensures counted { IfOk result (λ program. length program.classes < 4294967295) }
 {
     let Terminals { list, names } = terminals(alloc, bytes, tokens)?;
     let mut cursor = Cursor {
