@@ -5,7 +5,9 @@ pub mod Joined
 pub mod Locals
 pub mod Marking
 pub mod Numbered
+pub mod Overrides
 pub mod Params
 pub mod Parts
 pub mod Rising
+pub mod Visible
 pub mod Whole

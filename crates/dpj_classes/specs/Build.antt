@@ -14,6 +14,7 @@ use Rattle.dpj_classes.specs.declared.table.Table.{Table}
 use Rattle.dpj_classes.specs.Bodies.{class_marks, override_edges}
 use Rattle.dpj_classes.specs.Edges.{call_edges, without_forks}
 use Rattle.dpj_classes.specs.Main.{main_faults}
+use Rattle.dpj_classes.specs.Overridden.{FindsOverridden}
 use Rattle.dpj_classes.specs.Overriding.{override_faults}
 use Rattle.dpj_classes.specs.Places.{FindsRows}
 use Rattle.dpj_classes.specs.Reach.{IsBehind}
@@ -51,6 +52,7 @@ pub record IsTable (program : Program) (table : Table) : Type 0 where
   pub headers : AreHeaders program (headers_of table)
   pub read : IsReadOf program.classes table
   pub found : FindsRows (length program.classes) table
+  pub overridden : FindsOverridden table
   pub reached : TellsForking program.classes table
 
 -- nothing is wrong in the classes by themselves, nor in their members

@@ -5,6 +5,7 @@ pub mod Calls
 pub mod Edges
 pub mod Main
 pub mod Marking
+pub mod Overridden
 pub mod Overriding
 pub mod Places
 pub mod Reach
@@ -15,3 +16,4 @@ pub mod Signatures
 pub mod Summary
 pub mod Supers
 pub mod Table
+pub mod Visible

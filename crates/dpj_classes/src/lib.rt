@@ -9,9 +9,10 @@
 //! row says is said over the region parameters of the class that declares it; `args_at` gives what to put in for
 //! them.
 //!
-//! `specs/Build.antt` says what the table has to say of a text and which fault is told where there is none: its rows
+//! `specs/Build.antt` says what makes a table that of a program and which fault is told where there is none: its rows
 //! are those of `specs/Rows.antt`, and what a part of a signature means, with its faults, is said by
-//! `specs/Signatures.antt`. `specs/Places.antt` says which row a look-up finds.
+//! `specs/Signatures.antt`. `specs/Places.antt` says which row a look-up finds, `specs/Overridden.antt` which method
+//! each one overrides.
 //!
 //! `forks` follows calls and creations through all bodies, by the classes of receivers alone: along
 //! the edges of `specs/Edges.antt`, of which `specs/Calls.antt` says what a body calls.

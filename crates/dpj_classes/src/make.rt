@@ -1,12 +1,15 @@
 ghost use Rattle.std.specs.Prelude.{◌≡◌, ◌≤◌, ℕ, [], None, Some, map, length, IfOk, IfErr, OnOk};
 ghost use Rattle.dpj_base.specs.Refused.{IfRefused};
 ghost use Rattle.dpj_base.specs.Types.{Ordered};
+ghost use Rattle.dpj_headers.specs.Headers.{parents_of};
 ghost use Rattle.dpj_headers.specs.Second.{AreCounted};
+ghost use Rattle.dpj_headers.specs.Way.{IsCounted};
 ghost use Rattle.dpj_classes.specs.Build.{first_of, text_faults, table_faults, IsReadOf, AreWellNamed, IsTable, IsTold};
 ghost use Rattle.dpj_classes.specs.Places.{FindsRows};
 ghost use Rattle.dpj_classes.specs.Rows.{plain_super, plain_field, plain_method, all_constraints, supers_meant, fields_meant, methods_meant, numbers_from};
 ghost use Rattle.dpj_classes.specs.Supers.{classes_in, all_extending};
 ghost use Rattle.dpj_classes.specs.Table.{headers_of, all_given, fields_of, methods_of, supers_of};
+ghost use Rattle.dpj_classes.specs.Visible.{overridden_on_way};
 
 use crate::forking::find_forks;
 use crate::main_class::check_main;
@@ -43,6 +46,7 @@ fn of_signatures(alloc: Global, headers: Headers, program: &Program) -> Result<T
     ensures read { IfOk result (λ table. IsReadOf program.now.classes table) }
     ensures found { IfOk result (λ table. FindsRows (length program.now.classes) table) }
     ensures headers { IfOk result (λ table. headers_of table ≡ headers) }
+    ensures overrides { IfOk result (λ table. IsCounted headers.rows → table.overrides ≡ overridden_on_way (parents_of headers) (methods_of table) (length program.now.names)) }
     ensures refused { IfErr result (λ stop. IfRefused stop (λ fault. first_of (text_faults headers program.now.classes) ≡ Some fault)) }
     ensures forks { IfOk result (λ table. table.forks ≡ []) }
     ensures extending { IfOk result (λ table. classes_in (supers_of table) ≡ all_extending (headers_of table) 0 program.now.classes) }
@@ -86,6 +90,7 @@ fn read_all(alloc: Global, headers: &Headers, classes: &[Class]) -> Result<Read,
 fn together(headers: Headers, read: Read, places: Places, forks: Items<bool>) -> Table
     ensures forks { result.forks ≡ forks }
     ensures places { (result.super_places ≡ places.supers) × (result.field_places ≡ places.fields) × (result.method_places ≡ places.methods) × (result.constructors ≡ places.constructors) }
+    ensures overrides { result.overrides ≡ places.overrides }
     ensures supers { supers_of result ≡ read.made.supers }
     ensures headers { headers_of result ≡ headers }
     ensures given { all_given result ≡ read.given }

@@ -1,7 +1,10 @@
 ghost use Rattle.std.specs.Prelude.{◌≡◌, ℕ, ◌<◌, length, cond, Some, IfOk, OnOk};
+ghost use Rattle.dpj_headers.specs.Headers.{parents_of};
 ghost use Rattle.dpj_headers.specs.Numbers.{owned_number};
+ghost use Rattle.dpj_headers.specs.Way.{IsCounted};
 ghost use Rattle.dpj_classes.specs.Places.{is_method_of, is_constructor_of, field_place, method_number, constructor_number, super_place, IsEntered};
 ghost use Rattle.dpj_classes.specs.Table.{entry_at};
+ghost use Rattle.dpj_classes.specs.Visible.{overridden_on_way};
 
 use crate::overridden::find_overridden;
 use crate::rows::{FieldRow, MethodRow};
@@ -32,6 +35,7 @@ pub fn find_places(
     ensures methods { IfOk result (λ places. (number : ℕ) (name : ℕ) → owned_number places.methods number name ≡ method_number made.now.methods number name) }
     ensures constructors { IfOk result (λ places. (number : ℕ) → number < classes → entry_at places.constructors number ≡ constructor_number made.now.methods number) }
     ensures supers { IfOk result (λ places. (number : ℕ) → number < classes → entry_at places.supers number ≡ super_place made.now.supers number) }
+    ensures overrides { IfOk result (λ places. IsCounted headers.now.rows → places.overrides ≡ overridden_on_way (parents_of headers.now) made.now.methods names) }
 {
     let supers = super_places(alloc, classes, made.supers.as_slice())?;
     let fields = field_places(alloc, made.fields.as_slice())?;
