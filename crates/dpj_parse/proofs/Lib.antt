@@ -10,3 +10,10 @@ pub mod Spelling
 pub mod Making
 pub mod StmtTrees
 pub mod Stating
+pub mod OnceReader
+pub mod OncePaths
+pub mod OnceExprs
+pub mod OnceLevels
+pub mod OnceStmts
+pub mod OnceMembers
+pub mod OnceClasses

@@ -7,3 +7,5 @@ pub mod Classes
 pub mod Reading
 pub mod Progress
 pub mod Program
+pub mod Unnumbered
+pub mod OneTree

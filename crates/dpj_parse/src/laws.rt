@@ -1,0 +1,6 @@
+ghost use Rattle.dpj_parse.specs.OneTree.{OneTree};
+
+/// A list of terminals derives one program at most, but for the numbers of its nodes.
+pub fn one_tree()
+    ensures { OneTree }
+{}
