@@ -17,3 +17,4 @@ pub mod OnceLevels
 pub mod OnceStmts
 pub mod OnceMembers
 pub mod OnceClasses
+pub mod OnceText

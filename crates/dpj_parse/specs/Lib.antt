@@ -9,3 +9,4 @@ pub mod Progress
 pub mod Program
 pub mod Unnumbered
 pub mod OneTree
+pub mod OneProgram

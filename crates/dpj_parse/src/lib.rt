@@ -18,5 +18,5 @@ mod region;
 mod stmts;
 mod types;
 
-pub use laws::one_tree;
+pub use laws::{one_program, one_tree};
 pub use program::parse;
