@@ -14,3 +14,11 @@ pub mod Held
 pub mod Targeted
 pub mod Distinct
 pub mod Promised
+pub mod OnceReader
+pub mod OncePaths
+pub mod OnceExprs
+pub mod OnceLevels
+pub mod OnceStmts
+pub mod OnceMembers
+pub mod OnceClasses
+pub mod OnceText

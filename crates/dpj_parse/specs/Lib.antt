@@ -7,3 +7,6 @@ pub mod Classes
 pub mod Reading
 pub mod Progress
 pub mod Program
+pub mod Unnumbered
+pub mod OneTree
+pub mod OneProgram

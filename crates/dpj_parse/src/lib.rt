@@ -10,6 +10,7 @@
 mod classes;
 mod cursor;
 mod exprs;
+mod laws;
 mod members;
 mod operator;
 mod program;
@@ -17,4 +18,5 @@ mod region;
 mod stmts;
 mod types;
 
+pub use laws::{one_program, one_tree};
 pub use program::parse;
