@@ -14,3 +14,4 @@ pub mod Held
 pub mod Targeted
 pub mod Distinct
 pub mod Promised
+pub mod Told

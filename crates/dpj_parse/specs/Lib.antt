@@ -5,5 +5,6 @@ pub mod Expressions
 pub mod Statements
 pub mod Classes
 pub mod Reading
+pub mod Fault
 pub mod Progress
 pub mod Program
