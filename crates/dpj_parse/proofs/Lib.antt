@@ -22,3 +22,4 @@ pub mod OnceStmts
 pub mod OnceMembers
 pub mod OnceClasses
 pub mod OnceText
+pub mod Told

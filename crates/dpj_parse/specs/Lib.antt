@@ -5,6 +5,7 @@ pub mod Expressions
 pub mod Statements
 pub mod Classes
 pub mod Reading
+pub mod Fault
 pub mod Progress
 pub mod Program
 pub mod Unnumbered

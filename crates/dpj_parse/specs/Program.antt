@@ -1,10 +1,13 @@
 -- A whole program, from the bytes of its text.
 use Rattle.std.specs.Prelude.{◌≡◌, ℕ, List}
+use Rattle.dpj_base.specs.declared.place.Place.{Place}
+use Rattle.dpj_base.specs.declared.refusal.Refusal.{Refusal}
 use Rattle.dpj_tokens.specs.declared.token.Token.{Token}
 use Rattle.dpj_terminals.specs.declared.terminal.Placed.{Placed}
 use Rattle.dpj_terminals.specs.Says.{MeanAll, distinct_names}
 use Rattle.dpj_tree.specs.declared.class.Program.{Program}
 use Rattle.dpj_parse.specs.Classes.{DerivesProgram}
+use Rattle.dpj_parse.specs.Fault.{IsToldAmong}
 
 -- the terminals that these tokens of a text say derive the program, which has the distinct names among them
 pub record IsProgram (bytes : List ℕ) (tokens : List Token) (program : Program) : Type 0 where
@@ -12,3 +15,9 @@ pub record IsProgram (bytes : List ℕ) (tokens : List Token) (program : Program
   pub names : program.names ≡ distinct_names bytes tokens
   pub said : MeanAll program.names bytes tokens list
   pub derived : DerivesProgram list program.classes
+
+-- a refusal is told among the terminals that these tokens of a text say, and the end of the text
+pub record IsGrammarFault (bytes : List ℕ) (tokens : List Token) (end : Place) (refusal : Refusal) : Type 0 where
+  pub list : List Placed
+  pub said : MeanAll (distinct_names bytes tokens) bytes tokens list
+  pub told : IsToldAmong list end refusal

@@ -7,6 +7,7 @@ use Rattle.dpj_parse.specs.declared.cursor.Cursor.{Cursor}
 -- Some terminals were taken, on the level where the next one stands. Each new node is paid by a terminal of its
 -- own, and so many more terminals were taken.
 pub record Reads (spare : ℕ) (old new : Cursor) : Type 0 where
+  pub text : new.text ≡ old.text
   pub pays : new.node + length new.rest.now + spare ≤ old.node + length old.rest.now
   pub shorter : length new.rest.now < length old.rest.now
   pub level : new.level ≡ old.level
@@ -14,6 +15,7 @@ pub record Reads (spare : ℕ) (old new : Cursor) : Type 0 where
 
 -- Perhaps none was taken.
 pub record Keeps (old new : Cursor) : Type 0 where
+  pub text : new.text ≡ old.text
   pub pays : new.node + length new.rest.now ≤ old.node + length old.rest.now
   pub shorter : length new.rest.now ≤ length old.rest.now
   pub level : new.level ≡ old.level
@@ -25,12 +27,14 @@ ReadsIf false old new = new ≡ old
 
 -- a bracket was taken, and what follows is a level deeper
 pub record Opens (old new : Cursor) : Type 0 where
+  pub text : new.text ≡ old.text
   pub pays : new.node + length new.rest.now + 1 ≤ old.node + length old.rest.now
   pub shorter : length new.rest.now < length old.rest.now
   pub level : new.level ≡ old.level + 1
 
 -- the bracket that closes the level was taken
 pub record Closes (old new : Cursor) : Type 0 where
+  pub text : new.text ≡ old.text
   pub pays : new.node + length new.rest.now + 1 ≤ old.node + length old.rest.now
   pub shorter : length new.rest.now < length old.rest.now
   pub level : old.level ≡ new.level + 1
@@ -38,13 +42,14 @@ pub record Closes (old new : Cursor) : Type 0 where
 
 -- a node got its number, and no terminal was taken
 pub record Numbers (old new : Cursor) : Type 0 where
+  pub text : new.text ≡ old.text
   pub counted : new.node ≡ old.node + 1
   pub rest : length new.rest.now ≡ length old.rest.now
   pub level : new.level ≡ old.level
 
 -- nothing changed but the terminals that are left
 pub record Advances (old new : Cursor) : Type 0 where
-  pub end : new.end ≡ old.end
+  pub text : new.text ≡ old.text
   pub node : new.node ≡ old.node
   pub level : new.level ≡ old.level
   pub joined : new.joined ≡ old.joined

@@ -1,4 +1,5 @@
-ghost use Rattle.std.specs.Prelude.{◌≡◌, ◌+◌, IfOk, OnOk};
+ghost use Rattle.std.specs.Prelude.{◌≡◌, ◌+◌, IfOk, OnOk, IfErr};
+ghost use Rattle.dpj_parse.specs.Fault.{IsFault};
 ghost use Rattle.dpj_parse.specs.Classes.{DerivesClass, DerivesMember, DerivesMembers, DerivesParent, DerivesProgram};
 ghost use Rattle.dpj_parse.specs.Progress.{Keeps, Reads};
 ghost use Rattle.dpj_parse.specs.Taking.{Many};
@@ -15,6 +16,7 @@ use std::alloc::Global;
 #[tactic(auto, using(crate::proofs::Lists::many_more, crate::proofs::Lists::many_one, crate::proofs::MemberForms::program_of))]
 pub fn classes(alloc: Global, cursor: &mut Cursor) -> Result<Items<Class>, Stop>
     ensures pays { OnOk result (Reads 0 cursor.old cursor.new) }
+    ensures fault { IfErr result (λ stop. IsFault cursor.old.text stop) }
     ensures derives { IfOk result (λ classes. DerivesProgram cursor.old.rest.now classes) }
 {
     let mut classes = Items::new(alloc);
@@ -29,6 +31,7 @@ pub fn classes(alloc: Global, cursor: &mut Cursor) -> Result<Items<Class>, Stop>
 #[tactic(auto, using(crate::specs::Classes::class))]
 fn class(alloc: Global, cursor: &mut Cursor) -> Result<Class, Stop>
     ensures pays { OnOk result (Reads 0 cursor.old cursor.new) }
+    ensures fault { IfErr result (λ stop. IsFault cursor.old.text stop) }
     ensures derives { IfOk result (λ tree. DerivesClass cursor.old.rest.now cursor.new.rest.now tree) }
     ensures last { IfOk result (λ tree. tree.node + 1 ≡ cursor.new.node) }
 {
@@ -51,6 +54,7 @@ fn class(alloc: Global, cursor: &mut Cursor) -> Result<Class, Stop>
 #[tactic(auto, using(crate::specs::Classes::no_parent, crate::proofs::MemberForms::parent_of))]
 fn parent(alloc: Global, cursor: &mut Cursor) -> Result<Option<Parent>, Stop>
     ensures pays { OnOk result (Keeps cursor.old cursor.new) }
+    ensures fault { IfErr result (λ stop. IsFault cursor.old.text stop) }
     ensures derives { IfOk result (λ parent. DerivesParent cursor.old.rest.now cursor.new.rest.now parent) }
 {
     if !cursor.keyword_if(Keyword::Extends)? {
@@ -65,6 +69,7 @@ fn parent(alloc: Global, cursor: &mut Cursor) -> Result<Option<Parent>, Stop>
 #[tactic(auto, using(crate::proofs::MemberForms::members_of))]
 fn members(alloc: Global, cursor: &mut Cursor) -> Result<Items<Member>, Stop>
     ensures pays { OnOk result (Reads 1 cursor.old cursor.new) }
+    ensures fault { IfErr result (λ stop. IsFault cursor.old.text stop) }
     ensures derives { IfOk result (λ members. DerivesMembers cursor.old.rest.now cursor.new.rest.now members) }
 {
     cursor.open(Symbol::OpenBrace)?;
@@ -77,6 +82,7 @@ fn members(alloc: Global, cursor: &mut Cursor) -> Result<Items<Member>, Stop>
 #[tactic(auto, using(crate::proofs::Lists::many_more, crate::specs::Taking::none))]
 fn member_list(alloc: Global, cursor: &mut Cursor) -> Result<Items<Member>, Stop>
     ensures pays { OnOk result (Keeps cursor.old cursor.new) }
+    ensures fault { IfErr result (λ stop. IsFault cursor.old.text stop) }
     ensures derives { IfOk result (λ members. Many DerivesMember cursor.old.rest.now cursor.new.rest.now members) }
 {
     let mut members = Items::new(alloc);

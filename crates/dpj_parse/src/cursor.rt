@@ -1,4 +1,4 @@
-ghost use Rattle.std.specs.Prelude.{◌≡◌, ◌+◌, ◌<◌, ◌≤◌, ◌^◌, ◌↔◌, [], length, MatchOption, OnOk, IfOk, IsTrue};
+ghost use Rattle.std.specs.Prelude.{◌≡◌, ◌+◌, ◌-◌, ◌<◌, ◌≤◌, ◌^◌, ◌↔◌, [], drop, length, MatchOption, OnOk, IfErr, IfOk, IsTrue};
 
 use dpj_base::{Kind, Place, Refusal, Stop};
 use dpj_terminals::{Placed, Terminal};
@@ -8,13 +8,21 @@ use dpj_tree::Named;
 /// How deep a text may nest, and how many operators, elements and suffixes may follow each other.
 pub const MOST: u32 = 32;
 
+/// The text that is read.
+#[derive(Clone, Copy)]
+pub struct Text<'a> {
+    /// All its terminals, among which every fault is told.
+    pub terminals: &'a [Placed],
+    /// The place behind it.
+    pub end: Place,
+}
+
 /// Where the reading of a text stands.
 #[derive(Clone, Copy)]
 pub struct Cursor<'a> {
+    pub text: Text<'a>,
     /// The terminals that are still to come.
     pub rest: &'a [Placed],
-    /// The place behind the text.
-    pub end: Place,
     /// The number of the next node.
     pub node: u32,
     /// How many brackets are open, and how many bodies without braces we stand in.
@@ -25,11 +33,16 @@ pub struct Cursor<'a> {
     /// A text has at most one node a token.
     pub ghost room: { node + length rest.now < 2097152 },
 
+    /// What is to come is the end of the text.
+    pub ghost tail: { drop (length text.terminals.now - length rest.now) text.terminals.now ≡ rest.now },
+
     /// No terminal is taken at a level over the greatest.
     pub ghost deep: { level ≤ 33 },
 }
 
 impl<'a> Cursor<'a> {
+    ghost use Rattle.dpj_base.specs.Refused.{IfRefused};
+    ghost use Rattle.dpj_parse.specs.Fault.{IsFault};
     ghost use Rattle.dpj_parse.specs.Progress.{Advances, Closes, Joins, Numbers, Opens, Reads, ReadsIf};
     ghost use Rattle.dpj_parse.specs.Taking.{Next, StandsAt, TakesIf, TakesKeyword, TakesName, TakesNext, TakesOne, TakesSymbol, place_of};
 
@@ -61,12 +74,12 @@ impl<'a> Cursor<'a> {
 
     /// The place of the next terminal, or the end.
     pub fn place(&self) -> Place
-        ensures place { result ≡ place_of self.now.rest.now self.now.end }
+        ensures place { result ≡ place_of self.now.rest.now self.now.text.end }
         ensures stands { StandsAt self.now.rest.now result }
     {
         match self.rest {
             [first, ..] => first.place,
-            [] => self.end,
+            [] => self.text.end,
         }
     }
 
@@ -89,8 +102,10 @@ impl<'a> Cursor<'a> {
     }
 
     /// No program goes on with the next terminal, or the text ends too early.
+    #[tactic(auto, using(crate::proofs::Told::unexpected_told))]
     pub fn unexpected(&self) -> Stop
-        ensures { result ≡ Stop.Refused (record { kind = Kind.Syntax; place = place_of self.now.rest.now self.now.end }) }
+        ensures told { IsFault self.now.text result }
+        ensures syntax { result ≡ Stop.Refused (record { kind = Kind.Syntax; place = place_of self.now.rest.now self.now.text.end }) }
     {
         Stop::Refused(Refusal {
             kind: Kind::Syntax,
@@ -98,20 +113,26 @@ impl<'a> Cursor<'a> {
         })
     }
 
-    /// The next terminal is one too many.
+    /// The next terminal is one too many. At the end of the text nothing is.
+    #[tactic(auto, using(crate::proofs::Told::too_many_told))]
     pub fn too_many(&self) -> Stop
-        ensures { result ≡ Stop.Refused (record { kind = Kind.Nest; place = place_of self.now.rest.now self.now.end }) }
+        ensures told { IsFault self.now.text result }
+        ensures place { IfRefused result (λ refusal. refusal.place ≡ place_of self.now.rest.now self.now.text.end) }
     {
-        Stop::Refused(Refusal {
-            kind: Kind::Nest,
-            place: self.place(),
-        })
+        match self.rest {
+            [] => self.unexpected(),
+            [_, ..] => Stop::Refused(Refusal {
+                kind: Kind::Nest,
+                place: self.place(),
+            }),
+        }
     }
 
     /// Takes the next terminal, which the grammar has here.
     pub fn accept(&mut self) -> Result<(), Stop>
         ensures pays { OnOk result (Reads 1 self.old self.new) }
-        ensures takes { OnOk result (TakesNext self.old.rest.now self.new.rest.now (place_of self.old.rest.now self.old.end)) }
+        ensures fault { IfErr result (λ stop. IsFault self.old.text stop) }
+        ensures takes { OnOk result (TakesNext self.old.rest.now self.new.rest.now (place_of self.old.rest.now self.old.text.end)) }
         ensures stays { OnOk result (Advances self.old self.new) }
     {
         match self.rest {
@@ -129,6 +150,7 @@ impl<'a> Cursor<'a> {
     /// Takes a symbol, and tells where it stands.
     pub fn symbol(&mut self, symbol: Symbol) -> Result<Place, Stop>
         ensures pays { OnOk result (Reads 1 self.old self.new) }
+        ensures fault { IfErr result (λ stop. IsFault self.old.text stop) }
         ensures takes { IfOk result (λ place. TakesSymbol symbol self.old.rest.now self.new.rest.now place) }
         ensures unnumbered { OnOk result (self.new.node ≡ self.old.node) }
     {
@@ -143,6 +165,7 @@ impl<'a> Cursor<'a> {
     /// Takes a keyword, and tells where it stands.
     pub fn keyword(&mut self, keyword: Keyword) -> Result<Place, Stop>
         ensures pays { OnOk result (Reads 1 self.old self.new) }
+        ensures fault { IfErr result (λ stop. IsFault self.old.text stop) }
         ensures takes { IfOk result (λ place. TakesKeyword keyword self.old.rest.now self.new.rest.now place) }
     {
         if !self.is_keyword(keyword) {
@@ -156,6 +179,7 @@ impl<'a> Cursor<'a> {
     /// Takes a symbol where it comes next.
     pub fn symbol_if(&mut self, symbol: Symbol) -> Result<bool, Stop>
         ensures pays { IfOk result (λ found. ReadsIf found self.old self.new) }
+        ensures fault { IfErr result (λ stop. IsFault self.old.text stop) }
         ensures takes { IfOk result (λ found. TakesIf (Terminal.Symbol symbol) found self.old.rest.now self.new.rest.now) }
     {
         if !self.is_symbol(symbol) {
@@ -168,6 +192,7 @@ impl<'a> Cursor<'a> {
     /// Takes a keyword where it comes next.
     pub fn keyword_if(&mut self, keyword: Keyword) -> Result<bool, Stop>
         ensures pays { IfOk result (λ found. ReadsIf found self.old self.new) }
+        ensures fault { IfErr result (λ stop. IsFault self.old.text stop) }
         ensures takes { IfOk result (λ found. TakesIf (Terminal.Keyword keyword) found self.old.rest.now self.new.rest.now) }
     {
         if !self.is_keyword(keyword) {
@@ -180,6 +205,7 @@ impl<'a> Cursor<'a> {
     /// Takes a name.
     pub fn name(&mut self) -> Result<Named, Stop>
         ensures pays { OnOk result (Reads 1 self.old self.new) }
+        ensures fault { IfErr result (λ stop. IsFault self.old.text stop) }
         ensures takes { IfOk result (λ named. TakesName self.old.rest.now self.new.rest.now named) }
     {
         let Some(Terminal::Name(name)) = self.next() else {
@@ -193,6 +219,7 @@ impl<'a> Cursor<'a> {
     /// Takes a bracket, and tells where it stands. What follows is a level deeper.
     pub fn open(&mut self, bracket: Symbol) -> Result<Place, Stop>
         ensures pays { OnOk result (Opens self.old self.new) }
+        ensures fault { IfErr result (λ stop. IsFault self.old.text stop) }
         ensures takes { IfOk result (λ place. TakesSymbol bracket self.old.rest.now self.new.rest.now place) }
     {
         let place = self.symbol(bracket)?;
@@ -204,6 +231,7 @@ impl<'a> Cursor<'a> {
     pub fn close(&mut self, bracket: Symbol) -> Result<(), Stop>
         requires { 1 ≤ self.old.level }
         ensures pays { OnOk result (Closes self.old self.new) }
+        ensures fault { IfErr result (λ stop. IsFault self.old.text stop) }
         ensures takes { OnOk result (TakesOne (Terminal.Symbol bracket) self.old.rest.now self.new.rest.now) }
         ensures unnumbered { OnOk result (self.new.node ≡ self.old.node) }
     {
@@ -215,6 +243,7 @@ impl<'a> Cursor<'a> {
     /// Takes an operator, a dot or a bracket of an expression, and tells where it stands.
     pub fn join(&mut self) -> Result<Place, Stop>
         ensures pays { OnOk result (Reads 1 self.old self.new) }
+        ensures fault { IfErr result (λ stop. IsFault self.old.text stop) }
         ensures takes { IfOk result (λ place. TakesNext self.old.rest.now self.new.rest.now place) }
         ensures joins { OnOk result (Joins self.old self.new) }
     {
@@ -230,6 +259,7 @@ impl<'a> Cursor<'a> {
     /// Takes a `[` of an expression, and tells where it stands. What follows is a level deeper.
     pub fn join_open(&mut self) -> Result<Place, Stop>
         ensures pays { OnOk result (Opens self.old self.new) }
+        ensures fault { IfErr result (λ stop. IsFault self.old.text stop) }
         ensures takes { IfOk result (λ place. TakesSymbol Symbol.OpenBracket self.old.rest.now self.new.rest.now place) }
     {
         if !self.is_symbol(Symbol::OpenBracket) {

@@ -1,4 +1,5 @@
-ghost use Rattle.std.specs.Prelude.{◌≡◌, ◌+◌, ◌<◌, ◌≤◌, length, map, OnOk, IfOk, IfSome};
+ghost use Rattle.std.specs.Prelude.{◌≡◌, ◌+◌, ◌<◌, ◌≤◌, length, map, OnOk, IfOk, IfSome, IfErr};
+ghost use Rattle.dpj_parse.specs.Fault.{IsFault};
 ghost use Rattle.dpj_parse.specs.Progress.{Keeps, Numbers, Opens, Reads};
 ghost use Rattle.dpj_parse.specs.Taking.{Next, Listed};
 ghost use Rattle.dpj_parse.specs.Expressions.{DerivesActuals, DerivesExpr, DerivesLevel, DerivesPostfix, DerivesPrimary, DerivesUnary, as_creation, level_of, symbol_of, unary_symbol};
@@ -34,6 +35,7 @@ fn made(cursor: &mut Cursor, place: Place, kind: ExprKind) -> Expr
 #[cycle(exprs)]
 pub fn expr(alloc: Global, cursor: &mut Cursor) -> Result<Expr, Stop>
     ensures pays { OnOk result (Reads 0 cursor.old cursor.new) }
+    ensures fault { IfErr result (λ stop. IsFault cursor.old.text stop) }
     ensures derives { IfOk result (λ e. DerivesExpr cursor.old.rest.now cursor.new.rest.now (plain_expr e)) }
     ensures last { IfOk result (λ e. e.node + 1 ≡ cursor.new.node) }
 {
@@ -48,6 +50,7 @@ pub fn expr(alloc: Global, cursor: &mut Cursor) -> Result<Expr, Stop>
 #[cycle(exprs)]
 fn operators(alloc: Global, cursor: &mut Cursor, least: u32) -> Result<Expr, Stop>
     ensures pays { OnOk result (Reads 0 cursor.old cursor.new) }
+    ensures fault { IfErr result (λ stop. IsFault cursor.old.text stop) }
     ensures derives { IfOk result (λ e. DerivesLevel least cursor.old.rest.now cursor.new.rest.now (plain_expr e)) }
     ensures last { IfOk result (λ e. e.node + 1 ≡ cursor.new.node) }
 {
@@ -88,6 +91,7 @@ fn joined(
 ) -> Result<Expr, Stop>
     requires { cursor.old.node + length cursor.old.rest.now + 1 < 2097152 }
     ensures pays { OnOk result (Numbers cursor.old cursor.new) }
+    ensures fault { IfErr result (λ stop. IsFault cursor.old.text stop) }
     ensures takes { OnOk result (cursor.new.rest.now ≡ cursor.old.rest.now) }
     ensures plain { IfOk result (λ e. plain_expr e ≡ expression cursor.old.node place (binary op (plain_expr left) (plain_expr right))) }
     ensures last { IfOk result (λ e. e.node + 1 ≡ cursor.new.node) }
@@ -102,6 +106,7 @@ fn joined(
 #[cycle(exprs)]
 fn unary(alloc: Global, cursor: &mut Cursor) -> Result<Expr, Stop>
     ensures pays { OnOk result (Reads 0 cursor.old cursor.new) }
+    ensures fault { IfErr result (λ stop. IsFault cursor.old.text stop) }
     ensures derives { IfOk result (λ e. DerivesUnary cursor.old.rest.now cursor.new.rest.now (plain_expr e)) }
     ensures last { IfOk result (λ e. e.node + 1 ≡ cursor.new.node) }
 {
@@ -136,6 +141,7 @@ fn operator_before(cursor: &Cursor) -> Option<UnaryOp>
 #[cycle(exprs)]
 fn created(alloc: Global, cursor: &mut Cursor) -> Result<Expr, Stop>
     ensures pays { OnOk result (Reads 0 cursor.old cursor.new) }
+    ensures fault { IfErr result (λ stop. IsFault cursor.old.text stop) }
     ensures derives { IfOk result (λ e. DerivesUnary cursor.old.rest.now cursor.new.rest.now (plain_expr e)) }
     ensures last { IfOk result (λ e. e.node + 1 ≡ cursor.new.node) }
 {
@@ -178,6 +184,7 @@ fn object(
 #[cycle(exprs)]
 fn array(alloc: Global, cursor: &mut Cursor, place: Place, base: BaseTree) -> Result<Expr, Stop>
     ensures pays { OnOk result (Reads 0 cursor.old cursor.new) }
+    ensures fault { IfErr result (λ stop. IsFault cursor.old.text stop) }
     ensures derives { IfOk result (λ e. DerivesLengths base place cursor.old.rest.now cursor.new.rest.now (plain_expr e)) }
     ensures last { IfOk result (λ e. e.node + 1 ≡ cursor.new.node) }
 {
@@ -199,6 +206,7 @@ fn array(alloc: Global, cursor: &mut Cursor, place: Place, base: BaseTree) -> Re
 #[tactic(auto, using(crate::proofs::Making::first_opened, crate::proofs::Making::more_opened))]
 fn open_suffixes(alloc: Global, cursor: &mut Cursor) -> Result<Items<Suffix>, Stop>
     ensures pays { OnOk result (Opens cursor.old cursor.new) }
+    ensures fault { IfErr result (λ stop. IsFault cursor.old.text stop) }
     ensures derives { IfOk result (λ suffixes. DerivesOpenSuffixes cursor.old.rest.now cursor.new.rest.now suffixes) }
 {
     let mut suffixes = Items::new(alloc);
@@ -216,6 +224,7 @@ fn open_suffixes(alloc: Global, cursor: &mut Cursor) -> Result<Items<Suffix>, St
 #[cycle(exprs)]
 fn inner(alloc: Global, cursor: &mut Cursor) -> Result<Expr, Stop>
     ensures pays { OnOk result (Reads 0 cursor.old cursor.new) }
+    ensures fault { IfErr result (λ stop. IsFault cursor.old.text stop) }
     ensures derives { IfOk result (λ e. DerivesInner cursor.old.rest.now cursor.new.rest.now (plain_expr e)) }
     ensures last { IfOk result (λ e. e.node + 1 ≡ cursor.new.node) }
 {
@@ -229,6 +238,7 @@ fn inner(alloc: Global, cursor: &mut Cursor) -> Result<Expr, Stop>
 #[tactic(auto, using(crate::proofs::Making::made_literal))]
 fn literal(cursor: &mut Cursor) -> Result<Expr, Stop>
     ensures pays { OnOk result (Reads 0 cursor.old cursor.new) }
+    ensures fault { IfErr result (λ stop. IsFault cursor.old.text stop) }
     ensures derives { IfOk result (λ e. DerivesPrimary (ending_of (plain_expr e)) cursor.old.rest.now cursor.new.rest.now (plain_expr e)) }
     ensures last { IfOk result (λ e. e.node + 1 ≡ cursor.new.node) }
 {
@@ -241,7 +251,8 @@ fn literal(cursor: &mut Cursor) -> Result<Expr, Stop>
 /// The expression that the next terminal is.
 #[tactic(auto, using(crate::proofs::Spelling::next_number, crate::proofs::Spelling::next_name, crate::proofs::Spelling::next_true, crate::proofs::Spelling::next_false, crate::proofs::Spelling::next_null, crate::proofs::Spelling::next_this))]
 fn spelled(cursor: &Cursor) -> Result<ExprKind, Stop>
-    ensures { IfOk result (λ kind. NextSpells cursor.now.rest.now (plain_kind kind)) }
+    ensures spells { IfOk result (λ kind. NextSpells cursor.now.rest.now (plain_kind kind)) }
+    ensures fault { IfErr result (λ stop. IsFault cursor.now.text stop) }
 {
     match cursor.next() {
         Some(Terminal::Int(number)) => Ok(ExprKind::Int(*number)),
@@ -265,6 +276,7 @@ fn selects(cursor: &Cursor) -> bool {
 fn selected(alloc: Global, cursor: &mut Cursor, first: Expr) -> Result<Expr, Stop>
     requires { first.node + 1 ≡ cursor.old.node }
     ensures pays { OnOk result (Keeps cursor.old cursor.new) }
+    ensures fault { IfErr result (λ stop. IsFault cursor.old.text stop) }
     ensures derives { IfOk result (λ e. DerivesSelections (plain_expr first) cursor.old.rest.now cursor.new.rest.now (plain_expr e)) }
     ensures last { IfOk result (λ e. e.node + 1 ≡ cursor.new.node) }
 {
@@ -279,6 +291,7 @@ fn selected(alloc: Global, cursor: &mut Cursor, first: Expr) -> Result<Expr, Sto
 #[cycle(exprs)]
 fn selection(alloc: Global, cursor: &mut Cursor, of: Expr) -> Result<Expr, Stop>
     ensures pays { OnOk result (Reads 0 cursor.old cursor.new) }
+    ensures fault { IfErr result (λ stop. IsFault cursor.old.text stop) }
     ensures derives { IfOk result (λ e. DerivesSelection (plain_expr of) cursor.old.rest.now cursor.new.rest.now (plain_expr e)) }
     ensures last { IfOk result (λ e. e.node + 1 ≡ cursor.new.node) }
 {
@@ -293,6 +306,7 @@ fn selection(alloc: Global, cursor: &mut Cursor, of: Expr) -> Result<Expr, Stop>
 #[cycle(exprs)]
 fn element(alloc: Global, cursor: &mut Cursor, of: Expr) -> Result<Expr, Stop>
     ensures pays { OnOk result (Reads 0 cursor.old cursor.new) }
+    ensures fault { IfErr result (λ stop. IsFault cursor.old.text stop) }
     ensures derives { IfOk result (λ e. DerivesSelection (plain_expr of) cursor.old.rest.now cursor.new.rest.now (plain_expr e)) }
     ensures last { IfOk result (λ e. e.node + 1 ≡ cursor.new.node) }
 {
@@ -309,6 +323,7 @@ fn element(alloc: Global, cursor: &mut Cursor, of: Expr) -> Result<Expr, Stop>
 fn member(alloc: Global, cursor: &mut Cursor, of: Expr) -> Result<Expr, Stop>
     requires { Next (Terminal.Symbol Symbol.Dot) cursor.old.rest.now }
     ensures pays { OnOk result (Reads 0 cursor.old cursor.new) }
+    ensures fault { IfErr result (λ stop. IsFault cursor.old.text stop) }
     ensures derives { IfOk result (λ e. DerivesSelection (plain_expr of) cursor.old.rest.now cursor.new.rest.now (plain_expr e)) }
     ensures last { IfOk result (λ e. e.node + 1 ≡ cursor.new.node) }
 {
@@ -335,6 +350,7 @@ fn member(alloc: Global, cursor: &mut Cursor, of: Expr) -> Result<Expr, Stop>
 #[cycle(exprs)]
 fn actuals(alloc: Global, cursor: &mut Cursor) -> Result<Items<Expr>, Stop>
     ensures pays { OnOk result (Reads 1 cursor.old cursor.new) }
+    ensures fault { IfErr result (λ stop. IsFault cursor.old.text stop) }
     ensures derives { IfOk result (λ all. DerivesActuals cursor.old.rest.now cursor.new.rest.now (plain_exprs (map plain_expr all))) }
 {
     cursor.open(Symbol::OpenParen)?;
@@ -352,6 +368,7 @@ fn actuals(alloc: Global, cursor: &mut Cursor) -> Result<Items<Expr>, Stop>
 #[cycle(exprs)]
 fn listed(alloc: Global, cursor: &mut Cursor) -> Result<Items<Expr>, Stop>
     ensures pays { OnOk result (Reads 0 cursor.old cursor.new) }
+    ensures fault { IfErr result (λ stop. IsFault cursor.old.text stop) }
     ensures derives { IfOk result (λ all. Listed DerivesExprTree cursor.old.rest.now cursor.new.rest.now all) }
 {
     let mut all = Items::new(alloc);
@@ -367,6 +384,7 @@ fn listed(alloc: Global, cursor: &mut Cursor) -> Result<Items<Expr>, Stop>
 #[tactic(auto, using(crate::proofs::Selecting::selections_postfix))]
 pub fn target(alloc: Global, cursor: &mut Cursor) -> Result<Expr, Stop>
     ensures pays { OnOk result (Reads 0 cursor.old cursor.new) }
+    ensures fault { IfErr result (λ stop. IsFault cursor.old.text stop) }
     ensures derives { IfOk result (λ e. DerivesPostfix (ending_of (plain_expr e)) cursor.old.rest.now cursor.new.rest.now (plain_expr e)) }
     ensures last { IfOk result (λ e. e.node + 1 ≡ cursor.new.node) }
 {
@@ -379,6 +397,7 @@ pub fn target(alloc: Global, cursor: &mut Cursor) -> Result<Expr, Stop>
 #[tactic(auto, using(crate::proofs::Making::inner_selection, crate::proofs::Making::primary_target))]
 fn target_first(alloc: Global, cursor: &mut Cursor) -> Result<Expr, Stop>
     ensures pays { OnOk result (Reads 0 cursor.old cursor.new) }
+    ensures fault { IfErr result (λ stop. IsFault cursor.old.text stop) }
     ensures derives { IfOk result (λ e. DerivesPostfix (ending_of (plain_expr e)) cursor.old.rest.now cursor.new.rest.now (plain_expr e)) }
     ensures last { IfOk result (λ e. e.node + 1 ≡ cursor.new.node) }
 {
@@ -395,6 +414,7 @@ fn target_first(alloc: Global, cursor: &mut Cursor) -> Result<Expr, Stop>
 /// `"new" Name [ Args ] "(" [ Actuals ] ")"`
 fn new_object(alloc: Global, cursor: &mut Cursor) -> Result<Expr, Stop>
     ensures pays { OnOk result (Reads 0 cursor.old cursor.new) }
+    ensures fault { IfErr result (λ stop. IsFault cursor.old.text stop) }
     ensures derives { IfOk result (λ e. DerivesPostfix (ending_of (plain_expr e)) cursor.old.rest.now cursor.new.rest.now (plain_expr e)) }
     ensures last { IfOk result (λ e. e.node + 1 ≡ cursor.new.node) }
 {

@@ -1,4 +1,5 @@
-ghost use Rattle.std.specs.Prelude.{◌≡◌, ◌+◌, ◌↔◌, IfOk, IsTrue, OnOk};
+ghost use Rattle.std.specs.Prelude.{◌≡◌, ◌+◌, ◌↔◌, IfOk, IsTrue, OnOk, IfErr};
+ghost use Rattle.dpj_parse.specs.Fault.{IsFault};
 ghost use Rattle.dpj_parse.specs.Classes.{BeginsEffects, DerivesField, DerivesFormal, DerivesFormalList, DerivesFormals, DerivesIn, DerivesItem, DerivesItemsIf, DerivesMember, DerivesMethod, DerivesNamed, DerivesResult, DerivesSummary};
 ghost use Rattle.dpj_parse.specs.Progress.{IsNumberedLast, Keeps, Reads};
 ghost use Rattle.dpj_parse.specs.Taking.{Listed};
@@ -20,6 +21,7 @@ use std::alloc::Global;
 #[tactic(auto, using(crate::proofs::MemberForms::method_of, crate::proofs::MemberForms::constructor_of))]
 pub fn member(alloc: Global, cursor: &mut Cursor) -> Result<Member, Stop>
     ensures pays { OnOk result (Reads 0 cursor.old cursor.new) }
+    ensures fault { IfErr result (λ stop. IsFault cursor.old.text stop) }
     ensures derives { IfOk result (λ tree. DerivesMember cursor.old.rest.now cursor.new.rest.now tree) }
     ensures last { IfOk result (λ tree. IsNumberedLast tree cursor.new.node) }
 {
@@ -41,6 +43,7 @@ pub fn member(alloc: Global, cursor: &mut Cursor) -> Result<Member, Stop>
 #[tactic(auto, using(crate::proofs::MemberForms::regions_of))]
 fn regions(alloc: Global, cursor: &mut Cursor) -> Result<Member, Stop>
     ensures pays { OnOk result (Reads 0 cursor.old cursor.new) }
+    ensures fault { IfErr result (λ stop. IsFault cursor.old.text stop) }
     ensures derives { IfOk result (λ tree. DerivesMember cursor.old.rest.now cursor.new.rest.now tree) }
     ensures last { IfOk result (λ tree. IsNumberedLast tree cursor.new.node) }
 {
@@ -65,6 +68,7 @@ fn constructs(cursor: &Cursor) -> bool {
 #[tactic(auto, using(crate::proofs::MemberForms::result_void, crate::proofs::MemberForms::result_value))]
 fn result(alloc: Global, cursor: &mut Cursor) -> Result<MethodResult, Stop>
     ensures pays { OnOk result (Reads 0 cursor.old cursor.new) }
+    ensures fault { IfErr result (λ stop. IsFault cursor.old.text stop) }
     ensures derives { IfOk result (λ answer. DerivesResult cursor.old.rest.now cursor.new.rest.now answer) }
 {
     if cursor.keyword_if(Keyword::Void)? {
@@ -77,6 +81,7 @@ fn result(alloc: Global, cursor: &mut Cursor) -> Result<MethodResult, Stop>
 #[tactic(auto, using(crate::proofs::MemberForms::typed_field, crate::proofs::MemberForms::typed_method))]
 fn typed(alloc: Global, cursor: &mut Cursor) -> Result<Member, Stop>
     ensures pays { OnOk result (Reads 0 cursor.old cursor.new) }
+    ensures fault { IfErr result (λ stop. IsFault cursor.old.text stop) }
     ensures derives { IfOk result (λ tree. DerivesMember cursor.old.rest.now cursor.new.rest.now tree) }
     ensures last { IfOk result (λ tree. IsNumberedLast tree cursor.new.node) }
 {
@@ -98,6 +103,7 @@ fn typed(alloc: Global, cursor: &mut Cursor) -> Result<Member, Stop>
 #[tactic(auto, using(crate::proofs::MemberForms::field_of))]
 fn field(alloc: Global, cursor: &mut Cursor, ty: TypeTree, named: Named) -> Result<Member, Stop>
     ensures pays { OnOk result (Reads 0 cursor.old cursor.new) }
+    ensures fault { IfErr result (λ stop. IsFault cursor.old.text stop) }
     ensures derives { IfOk result (λ tree. DerivesField ty named cursor.old.rest.now cursor.new.rest.now tree) }
     ensures last { IfOk result (λ tree. IsNumberedLast tree cursor.new.node) }
 {
@@ -116,6 +122,7 @@ fn field(alloc: Global, cursor: &mut Cursor, ty: TypeTree, named: Named) -> Resu
 #[tactic(auto, using(crate::specs::Classes::nowhere, crate::proofs::MemberForms::in_region_of))]
 fn region_if(alloc: Global, cursor: &mut Cursor) -> Result<Option<RplTree>, Stop>
     ensures pays { OnOk result (Keeps cursor.old cursor.new) }
+    ensures fault { IfErr result (λ stop. IsFault cursor.old.text stop) }
     ensures derives { IfOk result (λ region. DerivesIn cursor.old.rest.now cursor.new.rest.now region) }
 {
     if !cursor.keyword_if(Keyword::In)? {
@@ -133,6 +140,7 @@ fn method(
     returns: MethodResult,
 ) -> Result<Member, Stop>
     ensures pays { OnOk result (Reads 0 cursor.old cursor.new) }
+    ensures fault { IfErr result (λ stop. IsFault cursor.old.text stop) }
     ensures derives { IfOk result (λ tree. DerivesNamed params returns cursor.old.rest.now cursor.new.rest.now tree) }
     ensures last { IfOk result (λ tree. IsNumberedLast tree cursor.new.node) }
 {
@@ -150,6 +158,7 @@ fn behind_name(
     named: Named,
 ) -> Result<Member, Stop>
     ensures pays { OnOk result (Reads 0 cursor.old cursor.new) }
+    ensures fault { IfErr result (λ stop. IsFault cursor.old.text stop) }
     ensures derives { IfOk result (λ tree. DerivesMethod params returns named cursor.old.rest.now cursor.new.rest.now tree) }
     ensures last { IfOk result (λ tree. IsNumberedLast tree cursor.new.node) }
 {
@@ -172,6 +181,7 @@ fn behind_name(
 #[tactic(auto, using(crate::proofs::MemberForms::formals_of))]
 fn formals(alloc: Global, cursor: &mut Cursor) -> Result<Items<Formal>, Stop>
     ensures pays { OnOk result (Reads 1 cursor.old cursor.new) }
+    ensures fault { IfErr result (λ stop. IsFault cursor.old.text stop) }
     ensures derives { IfOk result (λ formals. DerivesFormals cursor.old.rest.now cursor.new.rest.now formals) }
 {
     cursor.open(Symbol::OpenParen)?;
@@ -184,6 +194,7 @@ fn formals(alloc: Global, cursor: &mut Cursor) -> Result<Items<Formal>, Stop>
 #[tactic(auto, using(crate::specs::Classes::no_formals, crate::specs::Classes::formals, crate::proofs::Lists::listed_more, crate::specs::Taking::last))]
 fn formal_list(alloc: Global, cursor: &mut Cursor) -> Result<Items<Formal>, Stop>
     ensures pays { OnOk result (Keeps cursor.old cursor.new) }
+    ensures fault { IfErr result (λ stop. IsFault cursor.old.text stop) }
     ensures derives { IfOk result (λ formals. DerivesFormalList cursor.old.rest.now cursor.new.rest.now formals) }
 {
     if cursor.is_symbol(Symbol::CloseParen) {
@@ -201,6 +212,7 @@ fn formal_list(alloc: Global, cursor: &mut Cursor) -> Result<Items<Formal>, Stop
 #[tactic(auto, using(crate::specs::Classes::formal))]
 fn formal(alloc: Global, cursor: &mut Cursor) -> Result<Formal, Stop>
     ensures pays { OnOk result (Reads 0 cursor.old cursor.new) }
+    ensures fault { IfErr result (λ stop. IsFault cursor.old.text stop) }
     ensures derives { IfOk result (λ tree. DerivesFormal cursor.old.rest.now cursor.new.rest.now tree) }
     ensures last { IfOk result (λ tree. tree.node + 1 ≡ cursor.new.node) }
 {
@@ -218,6 +230,7 @@ fn formal(alloc: Global, cursor: &mut Cursor) -> Result<Formal, Stop>
 #[tactic(auto, using(crate::specs::Classes::no_summary, crate::proofs::MemberForms::summary_pure, crate::proofs::MemberForms::summary_effects))]
 fn summary(alloc: Global, cursor: &mut Cursor) -> Result<Option<SummaryTree>, Stop>
     ensures pays { OnOk result (Keeps cursor.old cursor.new) }
+    ensures fault { IfErr result (λ stop. IsFault cursor.old.text stop) }
     ensures derives { IfOk result (λ summary. DerivesSummary cursor.old.rest.now cursor.new.rest.now summary) }
 {
     if begins_effects(cursor) {
@@ -245,6 +258,7 @@ fn begins_effects(cursor: &Cursor) -> bool
 #[tactic(auto, using(crate::proofs::MemberForms::items_none, crate::proofs::MemberForms::items_some))]
 fn items_if(alloc: Global, cursor: &mut Cursor, keyword: Keyword) -> Result<Items<Item>, Stop>
     ensures pays { OnOk result (Keeps cursor.old cursor.new) }
+    ensures fault { IfErr result (λ stop. IsFault cursor.old.text stop) }
     ensures derives { IfOk result (λ items. DerivesItemsIf keyword cursor.old.rest.now cursor.new.rest.now items) }
 {
     if !cursor.keyword_if(keyword)? {
@@ -257,6 +271,7 @@ fn items_if(alloc: Global, cursor: &mut Cursor, keyword: Keyword) -> Result<Item
 #[tactic(auto, using(crate::proofs::Lists::listed_more, crate::specs::Taking::last))]
 fn items(alloc: Global, cursor: &mut Cursor) -> Result<Items<Item>, Stop>
     ensures pays { OnOk result (Reads 0 cursor.old cursor.new) }
+    ensures fault { IfErr result (λ stop. IsFault cursor.old.text stop) }
     ensures derives { IfOk result (λ items. Listed DerivesItem cursor.old.rest.now cursor.new.rest.now items) }
 {
     let mut items = Items::new(alloc);
@@ -271,6 +286,7 @@ fn items(alloc: Global, cursor: &mut Cursor) -> Result<Items<Item>, Stop>
 #[tactic(auto, using(crate::proofs::MemberForms::item_of))]
 fn item(alloc: Global, cursor: &mut Cursor) -> Result<Item, Stop>
     ensures pays { OnOk result (Reads 0 cursor.old cursor.new) }
+    ensures fault { IfErr result (λ stop. IsFault cursor.old.text stop) }
     ensures derives { IfOk result (λ tree. DerivesItem cursor.old.rest.now cursor.new.rest.now tree) }
 {
     let atomic = cursor.keyword_if(Keyword::Atomic)?;

@@ -1,13 +1,14 @@
-ghost use Rattle.std.specs.Prelude.{◌≤◌, ◌<◌, length, All, IfOk};
+ghost use Rattle.std.specs.Prelude.{◌≤◌, ◌<◌, length, All, IfErr, IfOk};
 ghost use Rattle.std.specs.List.{IsDistinct};
 ghost use Rattle.std.specs.Str.{bytes_eq};
 ghost use Rattle.dpj_tokens.specs.Cutting.{StandInOrder};
 ghost use Rattle.dpj_tree.specs.Names.{program_names};
 ghost use Rattle.dpj_tree.specs.Shaped.{MemberHasTargets};
-ghost use Rattle.dpj_parse.specs.Program.{IsProgram};
+ghost use Rattle.dpj_base.specs.Refused.{IfRefused};
+ghost use Rattle.dpj_parse.specs.Program.{IsGrammarFault, IsProgram};
 
 use crate::classes::classes;
-use crate::cursor::Cursor;
+use crate::cursor::{Cursor, Text};
 use dpj_base::Stop;
 use dpj_terminals::{Terminals, terminals};
 use dpj_tokens::Tokens;
@@ -23,11 +24,15 @@ pub fn parse(alloc: Global, bytes: &[u8], tokens: &Tokens) -> Result<Program, St
     ensures distinct { IfOk result (λ program. IsDistinct bytes_eq program.names) }
     ensures targets { IfOk result (λ program. All (λ class. All MemberHasTargets class.members) program.classes) }
     ensures counted { IfOk result (λ program. length program.classes < 4294967295) }
+    ensures fault { IfErr result (λ stop. IfRefused stop (IsGrammarFault bytes.now tokens.now.list tokens.now.end)) }
 {
     let Terminals { list, names } = terminals(alloc, bytes, tokens)?;
     let mut cursor = Cursor {
+        text: Text {
+            terminals: list.as_slice(),
+            end: tokens.end,
+        },
         rest: list.as_slice(),
-        end: tokens.end,
         node: 0,
         level: 0,
         joined: 0,

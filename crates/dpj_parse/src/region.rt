@@ -1,4 +1,5 @@
-ghost use Rattle.std.specs.Prelude.{◌≡◌, ◌+◌, ◌≤◌, [], length, IfOk, OnOk};
+ghost use Rattle.std.specs.Prelude.{◌≡◌, ◌+◌, ◌≤◌, [], length, IfOk, OnOk, IfErr};
+ghost use Rattle.dpj_parse.specs.Fault.{IsFault};
 ghost use Rattle.dpj_parse.specs.Classes.{DerivesConstr, DerivesDeclared, DerivesGiven, DerivesKind, DerivesKindOr, DerivesParam, DerivesParams};
 ghost use Rattle.dpj_parse.specs.Paths.{DerivesArgs, DerivesElem, DerivesHead, DerivesNext, DerivesRName, DerivesRpl, DerivesWithin};
 ghost use Rattle.dpj_parse.specs.Progress.{Keeps, Reads};
@@ -15,6 +16,7 @@ use std::alloc::Global;
 #[tactic(auto, using(crate::proofs::Lists::listed_more, crate::specs::Taking::last))]
 pub fn names(alloc: Global, cursor: &mut Cursor) -> Result<Items<Named>, Stop>
     ensures pays { OnOk result (Reads 1 cursor.old cursor.new) }
+    ensures fault { IfErr result (λ stop. IsFault cursor.old.text stop) }
     ensures derives { IfOk result (λ names. Listed TakesName cursor.old.rest.now cursor.new.rest.now names) }
 {
     let mut names = Items::new(alloc);
@@ -29,6 +31,7 @@ pub fn names(alloc: Global, cursor: &mut Cursor) -> Result<Items<Named>, Stop>
 #[tactic(auto, using(crate::specs::Paths::one_name, crate::proofs::Regions::second_name))]
 fn region_name(cursor: &mut Cursor) -> Result<RName, Stop>
     ensures pays { OnOk result (Reads 1 cursor.old cursor.new) }
+    ensures fault { IfErr result (λ stop. IsFault cursor.old.text stop) }
     ensures derives { IfOk result (λ name. DerivesRName cursor.old.rest.now cursor.new.rest.now name) }
 {
     let first = cursor.name()?;
@@ -44,6 +47,7 @@ fn region_name(cursor: &mut Cursor) -> Result<RName, Stop>
 #[tactic(auto, using(crate::specs::Paths::path))]
 pub fn rpl(alloc: Global, cursor: &mut Cursor) -> Result<RplTree, Stop>
     ensures pays { OnOk result (Reads 0 cursor.old cursor.new) }
+    ensures fault { IfErr result (λ stop. IsFault cursor.old.text stop) }
     ensures derives { IfOk result (λ path. DerivesRpl cursor.old.rest.now cursor.new.rest.now path) }
     ensures last { IfOk result (λ path. path.node + 1 ≡ cursor.new.node) }
 {
@@ -61,6 +65,7 @@ pub fn rpl(alloc: Global, cursor: &mut Cursor) -> Result<RplTree, Stop>
 #[tactic(auto, using(crate::proofs::Regions::head_root, crate::proofs::Regions::head_name))]
 fn head(cursor: &mut Cursor) -> Result<RplHead, Stop>
     ensures pays { OnOk result (Reads 1 cursor.old cursor.new) }
+    ensures fault { IfErr result (λ stop. IsFault cursor.old.text stop) }
     ensures derives { IfOk result (λ start. DerivesHead cursor.old.rest.now cursor.new.rest.now start) }
 {
     if cursor.keyword_if(Keyword::Root)? {
@@ -73,6 +78,7 @@ fn head(cursor: &mut Cursor) -> Result<RplHead, Stop>
 #[tactic(auto, using(crate::proofs::Lists::many_more, crate::proofs::Lists::few_more, crate::specs::Taking::none, crate::proofs::Regions::next_elem))]
 fn elems(alloc: Global, cursor: &mut Cursor) -> Result<Items<ElemTree>, Stop>
     ensures pays { OnOk result (Keeps cursor.old cursor.new) }
+    ensures fault { IfErr result (λ stop. IsFault cursor.old.text stop) }
     ensures derives { IfOk result (λ elems. Many DerivesNext cursor.old.rest.now cursor.new.rest.now elems) }
     ensures few { IfOk result (λ elems. length elems ≤ 32) }
 {
@@ -87,7 +93,9 @@ fn elems(alloc: Global, cursor: &mut Cursor) -> Result<Items<ElemTree>, Stop>
 }
 
 /// No further element is taken, and something else can't stand here.
-fn one_more(cursor: &Cursor) -> Stop {
+fn one_more(cursor: &Cursor) -> Stop
+    ensures { IsFault cursor.now.text result }
+{
     if begins_elem(cursor) {
         cursor.too_many()
     } else {
@@ -108,6 +116,7 @@ fn begins_elem(cursor: &Cursor) -> bool {
 #[tactic(auto, using(crate::proofs::Regions::elem_star, crate::proofs::Regions::elem_name))]
 fn elem(cursor: &mut Cursor) -> Result<ElemTree, Stop>
     ensures pays { OnOk result (Reads 1 cursor.old cursor.new) }
+    ensures fault { IfErr result (λ stop. IsFault cursor.old.text stop) }
     ensures derives { IfOk result (λ tree. DerivesElem cursor.old.rest.now cursor.new.rest.now tree) }
 {
     match cursor.next() {
@@ -124,6 +133,7 @@ fn elem(cursor: &mut Cursor) -> Result<ElemTree, Stop>
 #[tactic(auto, using(crate::proofs::Regions::elem_within))]
 fn index(cursor: &mut Cursor) -> Result<ElemTree, Stop>
     ensures pays { OnOk result (Reads 1 cursor.old cursor.new) }
+    ensures fault { IfErr result (λ stop. IsFault cursor.old.text stop) }
     ensures derives { IfOk result (λ tree. DerivesElem cursor.old.rest.now cursor.new.rest.now tree) }
 {
     cursor.open(Symbol::OpenBracket)?;
@@ -136,6 +146,7 @@ fn index(cursor: &mut Cursor) -> Result<ElemTree, Stop>
 #[tactic(auto, using(crate::specs::Paths::index, crate::proofs::Regions::within_number, crate::proofs::Regions::within_any))]
 fn within(cursor: &mut Cursor) -> Result<ElemTree, Stop>
     ensures pays { OnOk result (Reads 1 cursor.old cursor.new) }
+    ensures fault { IfErr result (λ stop. IsFault cursor.old.text stop) }
     ensures derives { IfOk result (λ tree. DerivesWithin cursor.old.rest.now cursor.new.rest.now tree) }
 {
     match cursor.next() {
@@ -155,6 +166,7 @@ fn within(cursor: &mut Cursor) -> Result<ElemTree, Stop>
 #[tactic(auto, using(crate::specs::Paths::no_args))]
 pub fn args_if(alloc: Global, cursor: &mut Cursor) -> Result<Items<RplTree>, Stop>
     ensures pays { OnOk result (Keeps cursor.old cursor.new) }
+    ensures fault { IfErr result (λ stop. IsFault cursor.old.text stop) }
     ensures derives { IfOk result (λ paths. DerivesArgs cursor.old.rest.now cursor.new.rest.now paths) }
 {
     if !cursor.is_symbol(Symbol::Less) {
@@ -167,6 +179,7 @@ pub fn args_if(alloc: Global, cursor: &mut Cursor) -> Result<Items<RplTree>, Sto
 #[tactic(auto, using(crate::specs::Paths::args))]
 pub fn args(alloc: Global, cursor: &mut Cursor) -> Result<Items<RplTree>, Stop>
     ensures pays { OnOk result (Reads 1 cursor.old cursor.new) }
+    ensures fault { IfErr result (λ stop. IsFault cursor.old.text stop) }
     ensures derives { IfOk result (λ paths. DerivesArgs cursor.old.rest.now cursor.new.rest.now paths) }
 {
     cursor.symbol(Symbol::Less)?;
@@ -179,6 +192,7 @@ pub fn args(alloc: Global, cursor: &mut Cursor) -> Result<Items<RplTree>, Stop>
 #[tactic(auto, using(crate::proofs::Lists::listed_more, crate::specs::Taking::last))]
 fn paths(alloc: Global, cursor: &mut Cursor) -> Result<Items<RplTree>, Stop>
     ensures pays { OnOk result (Reads 0 cursor.old cursor.new) }
+    ensures fault { IfErr result (λ stop. IsFault cursor.old.text stop) }
     ensures derives { IfOk result (λ paths. Listed DerivesRpl cursor.old.rest.now cursor.new.rest.now paths) }
 {
     let mut paths = Items::new(alloc);
@@ -193,6 +207,7 @@ fn paths(alloc: Global, cursor: &mut Cursor) -> Result<Items<RplTree>, Stop>
 #[tactic(auto, using(crate::specs::Classes::no_params))]
 pub fn params_if(alloc: Global, cursor: &mut Cursor) -> Result<Params, Stop>
     ensures pays { OnOk result (Keeps cursor.old cursor.new) }
+    ensures fault { IfErr result (λ stop. IsFault cursor.old.text stop) }
     ensures derives { IfOk result (λ params. DerivesParams cursor.old.rest.now cursor.new.rest.now params) }
 {
     if !cursor.is_symbol(Symbol::Less) {
@@ -215,6 +230,7 @@ pub fn no_params(alloc: Global) -> Params
 #[tactic(auto, using(crate::specs::Classes::params))]
 fn params(alloc: Global, cursor: &mut Cursor) -> Result<Params, Stop>
     ensures pays { OnOk result (Reads 0 cursor.old cursor.new) }
+    ensures fault { IfErr result (λ stop. IsFault cursor.old.text stop) }
     ensures derives { IfOk result (λ params. DerivesParams cursor.old.rest.now cursor.new.rest.now params) }
 {
     cursor.symbol(Symbol::Less)?;
@@ -228,6 +244,7 @@ fn params(alloc: Global, cursor: &mut Cursor) -> Result<Params, Stop>
 #[tactic(auto, using(crate::proofs::Regions::declares_first, crate::proofs::Regions::declares_more, crate::proofs::Regions::declares_done))]
 fn declared(alloc: Global, cursor: &mut Cursor) -> Result<Items<ParamTree>, Stop>
     ensures pays { OnOk result (Reads 0 cursor.old cursor.new) }
+    ensures fault { IfErr result (λ stop. IsFault cursor.old.text stop) }
     ensures derives { IfOk result (λ list. DerivesDeclared cursor.old.rest.now cursor.new.rest.now list) }
 {
     let mut list = Items::new(alloc);
@@ -243,6 +260,7 @@ fn declared(alloc: Global, cursor: &mut Cursor) -> Result<Items<ParamTree>, Stop
 #[tactic(auto, using(crate::specs::Classes::param))]
 fn param(cursor: &mut Cursor, atomic: bool) -> Result<ParamTree, Stop>
     ensures pays { OnOk result (Reads 0 cursor.old cursor.new) }
+    ensures fault { IfErr result (λ stop. IsFault cursor.old.text stop) }
     ensures derives { IfOk result (λ tree. DerivesParam atomic cursor.old.rest.now cursor.new.rest.now tree) }
     ensures last { IfOk result (λ tree. tree.node + 1 ≡ cursor.new.node) }
 {
@@ -264,6 +282,7 @@ pub fn begins_kind(cursor: &Cursor) -> bool {
 #[tactic(auto, using(crate::proofs::Regions::kind_of))]
 pub fn kind(cursor: &mut Cursor) -> Result<bool, Stop>
     ensures pays { OnOk result (Reads 1 cursor.old cursor.new) }
+    ensures fault { IfErr result (λ stop. IsFault cursor.old.text stop) }
     ensures derives { IfOk result (λ atomic. DerivesKind cursor.old.rest.now cursor.new.rest.now atomic) }
 {
     let atomic = cursor.keyword_if(Keyword::Atomic)?;
@@ -275,6 +294,7 @@ pub fn kind(cursor: &mut Cursor) -> Result<bool, Stop>
 #[tactic(auto, using(crate::specs::Classes::same, crate::specs::Classes::other))]
 fn kind_or(cursor: &mut Cursor, earlier: bool) -> Result<bool, Stop>
     ensures pays { OnOk result (Keeps cursor.old cursor.new) }
+    ensures fault { IfErr result (λ stop. IsFault cursor.old.text stop) }
     ensures derives { IfOk result (λ atomic. DerivesKindOr earlier cursor.old.rest.now cursor.new.rest.now atomic) }
 {
     if begins_kind(cursor) {
@@ -287,6 +307,7 @@ fn kind_or(cursor: &mut Cursor, earlier: bool) -> Result<bool, Stop>
 #[tactic(auto, using(crate::specs::Classes::nothing_given, crate::proofs::Regions::given_behind))]
 fn given(alloc: Global, cursor: &mut Cursor) -> Result<Items<ConstrTree>, Stop>
     ensures pays { OnOk result (Keeps cursor.old cursor.new) }
+    ensures fault { IfErr result (λ stop. IsFault cursor.old.text stop) }
     ensures derives { IfOk result (λ given. DerivesGiven cursor.old.rest.now cursor.new.rest.now given) }
 {
     if !cursor.symbol_if(Symbol::Bar)? {
@@ -299,6 +320,7 @@ fn given(alloc: Global, cursor: &mut Cursor) -> Result<Items<ConstrTree>, Stop>
 #[tactic(auto, using(crate::proofs::Lists::listed_more, crate::specs::Taking::last))]
 fn constraints(alloc: Global, cursor: &mut Cursor) -> Result<Items<ConstrTree>, Stop>
     ensures pays { OnOk result (Reads 0 cursor.old cursor.new) }
+    ensures fault { IfErr result (λ stop. IsFault cursor.old.text stop) }
     ensures derives { IfOk result (λ given. Listed DerivesConstr cursor.old.rest.now cursor.new.rest.now given) }
 {
     let mut given = Items::new(alloc);
@@ -313,6 +335,7 @@ fn constraints(alloc: Global, cursor: &mut Cursor) -> Result<Items<ConstrTree>, 
 #[tactic(auto, using(crate::specs::Classes::constraint))]
 fn constraint(alloc: Global, cursor: &mut Cursor) -> Result<ConstrTree, Stop>
     ensures pays { OnOk result (Reads 0 cursor.old cursor.new) }
+    ensures fault { IfErr result (λ stop. IsFault cursor.old.text stop) }
     ensures derives { IfOk result (λ tree. DerivesConstr cursor.old.rest.now cursor.new.rest.now tree) }
 {
     let left = rpl(alloc, cursor)?;

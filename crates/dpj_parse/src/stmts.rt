@@ -1,4 +1,5 @@
-ghost use Rattle.std.specs.Prelude.{◌≡◌, ◌≤◌, ◌+◌, ◌<◌, length, map, OnOk, IfOk, IfSome, MatchOption};
+ghost use Rattle.std.specs.Prelude.{◌≡◌, ◌≤◌, ◌+◌, ◌<◌, length, map, OnOk, IfOk, IfSome, MatchOption, IfErr};
+ghost use Rattle.dpj_parse.specs.Fault.{IsFault};
 ghost use Rattle.dpj_parse.specs.Progress.{Closes, Keeps, Numbers, Reads};
 ghost use Rattle.dpj_parse.specs.Taking.{Many, Next};
 ghost use Rattle.dpj_parse.specs.Statements.{DerivesBlock, DerivesCondition, DerivesForm, DerivesRange, DerivesStmt, DerivesValue, cobegin_word, foreach_word};
@@ -35,6 +36,7 @@ fn made(cursor: &mut Cursor, place: Place, kind: StmtKind) -> Stmt
 #[cycle(stmts)]
 fn stmt(alloc: Global, cursor: &mut Cursor) -> Result<Stmt, Stop>
     ensures pays { OnOk result (Reads 0 cursor.old cursor.new) }
+    ensures fault { IfErr result (λ stop. IsFault cursor.old.text stop) }
     ensures derives { IfOk result (λ s. DerivesStmt cursor.old.rest.now cursor.new.rest.now (plain_stmt s)) }
     ensures last { IfOk result (λ s. s.node + 1 ≡ cursor.new.node) }
 {
@@ -50,6 +52,7 @@ fn stmt(alloc: Global, cursor: &mut Cursor) -> Result<Stmt, Stop>
 #[cycle(stmts)]
 fn form(alloc: Global, cursor: &mut Cursor) -> Result<Option<StmtKind>, Stop>
     ensures pays { IfOk result (λ found. MatchOption found (cursor.new ≡ cursor.old) (λ kind. Reads 1 cursor.old cursor.new)) }
+    ensures fault { IfErr result (λ stop. IsFault cursor.old.text stop) }
     ensures derives { IfOk result (λ found. IfSome found (λ kind. DerivesForm cursor.old.rest.now cursor.new.rest.now (plain_stmt_kind kind))) }
 {
     match cursor.next() {
@@ -73,6 +76,7 @@ fn form(alloc: Global, cursor: &mut Cursor) -> Result<Option<StmtKind>, Stop>
 #[cycle(stmts)]
 pub fn block(alloc: Global, cursor: &mut Cursor) -> Result<Items<Stmt>, Stop>
     ensures pays { OnOk result (Reads 1 cursor.old cursor.new) }
+    ensures fault { IfErr result (λ stop. IsFault cursor.old.text stop) }
     ensures derives { IfOk result (λ all. DerivesBlock cursor.old.rest.now cursor.new.rest.now (plain_stmts (map plain_stmt all))) }
 {
     cursor.open(Symbol::OpenBrace)?;
@@ -86,6 +90,7 @@ pub fn block(alloc: Global, cursor: &mut Cursor) -> Result<Items<Stmt>, Stop>
 #[cycle(stmts)]
 fn stmts(alloc: Global, cursor: &mut Cursor) -> Result<Items<Stmt>, Stop>
     ensures pays { OnOk result (Keeps cursor.old cursor.new) }
+    ensures fault { IfErr result (λ stop. IsFault cursor.old.text stop) }
     ensures derives { IfOk result (λ all. Many DerivesStmtTree cursor.old.rest.now cursor.new.rest.now all) }
 {
     let mut all = Items::new(alloc);
@@ -100,6 +105,7 @@ fn stmts(alloc: Global, cursor: &mut Cursor) -> Result<Items<Stmt>, Stop>
 fn body(alloc: Global, cursor: &mut Cursor) -> Result<Boxed<Stmt>, Stop>
     requires { cursor.old.level ≤ 32 }
     ensures pays { OnOk result (Reads 0 cursor.old cursor.new) }
+    ensures fault { IfErr result (λ stop. IsFault cursor.old.text stop) }
     ensures derives { IfOk result (λ s. DerivesStmt cursor.old.rest.now cursor.new.rest.now (plain_stmt s)) }
 {
     if cursor.is_symbol(Symbol::OpenBrace) {
@@ -116,6 +122,7 @@ fn body(alloc: Global, cursor: &mut Cursor) -> Result<Boxed<Stmt>, Stop>
 #[cycle(stmts)]
 fn choice(alloc: Global, cursor: &mut Cursor) -> Result<StmtKind, Stop>
     ensures pays { OnOk result (Reads 1 cursor.old cursor.new) }
+    ensures fault { IfErr result (λ stop. IsFault cursor.old.text stop) }
     ensures derives { IfOk result (λ kind. DerivesForm cursor.old.rest.now cursor.new.rest.now (plain_stmt_kind kind)) }
 {
     cursor.keyword(Keyword::If)?;
@@ -137,6 +144,7 @@ fn choice(alloc: Global, cursor: &mut Cursor) -> Result<StmtKind, Stop>
 #[cycle(stmts)]
 fn while_loop(alloc: Global, cursor: &mut Cursor) -> Result<StmtKind, Stop>
     ensures pays { OnOk result (Reads 1 cursor.old cursor.new) }
+    ensures fault { IfErr result (λ stop. IsFault cursor.old.text stop) }
     ensures derives { IfOk result (λ kind. DerivesForm cursor.old.rest.now cursor.new.rest.now (plain_stmt_kind kind)) }
 {
     cursor.keyword(Keyword::While)?;
@@ -149,6 +157,7 @@ fn while_loop(alloc: Global, cursor: &mut Cursor) -> Result<StmtKind, Stop>
 #[tactic(auto, using(crate::proofs::Stating::made_condition))]
 fn condition(alloc: Global, cursor: &mut Cursor) -> Result<Expr, Stop>
     ensures pays { OnOk result (Reads 1 cursor.old cursor.new) }
+    ensures fault { IfErr result (λ stop. IsFault cursor.old.text stop) }
     ensures derives { IfOk result (λ e. DerivesCondition cursor.old.rest.now cursor.new.rest.now (plain_expr e)) }
 {
     cursor.open(Symbol::OpenParen)?;
@@ -163,6 +172,7 @@ fn condition(alloc: Global, cursor: &mut Cursor) -> Result<Expr, Stop>
 fn cobegin(alloc: Global, cursor: &mut Cursor, nd: bool) -> Result<StmtKind, Stop>
     requires { Next (Terminal.Keyword (cobegin_word nd)) cursor.old.rest.now }
     ensures pays { OnOk result (Reads 1 cursor.old cursor.new) }
+    ensures fault { IfErr result (λ stop. IsFault cursor.old.text stop) }
     ensures derives { IfOk result (λ kind. DerivesForm cursor.old.rest.now cursor.new.rest.now (plain_stmt_kind kind)) }
 {
     cursor.accept()?;
@@ -175,6 +185,7 @@ fn cobegin(alloc: Global, cursor: &mut Cursor, nd: bool) -> Result<StmtKind, Sto
 #[cycle(stmts)]
 fn atomic(alloc: Global, cursor: &mut Cursor) -> Result<StmtKind, Stop>
     ensures pays { OnOk result (Reads 1 cursor.old cursor.new) }
+    ensures fault { IfErr result (λ stop. IsFault cursor.old.text stop) }
     ensures derives { IfOk result (λ kind. DerivesForm cursor.old.rest.now cursor.new.rest.now (plain_stmt_kind kind)) }
 {
     cursor.keyword(Keyword::Atomic)?;
@@ -186,6 +197,7 @@ fn atomic(alloc: Global, cursor: &mut Cursor) -> Result<StmtKind, Stop>
 fn foreach(alloc: Global, cursor: &mut Cursor, nd: bool) -> Result<StmtKind, Stop>
     requires { Next (Terminal.Keyword (foreach_word nd)) cursor.old.rest.now }
     ensures pays { OnOk result (Reads 1 cursor.old cursor.new) }
+    ensures fault { IfErr result (λ stop. IsFault cursor.old.text stop) }
     ensures derives { IfOk result (λ kind. DerivesForm cursor.old.rest.now cursor.new.rest.now (plain_stmt_kind kind)) }
 {
     cursor.accept()?;
@@ -205,6 +217,7 @@ fn foreach(alloc: Global, cursor: &mut Cursor, nd: bool) -> Result<StmtKind, Sto
 #[cycle(stmts)]
 fn foreach_parts(alloc: Global, cursor: &mut Cursor) -> Result<StmtKind, Stop>
     ensures pays { OnOk result (Reads 1 cursor.old cursor.new) }
+    ensures fault { IfErr result (λ stop. IsFault cursor.old.text stop) }
     ensures derives { IfOk result (λ kind. DerivesForm cursor.old.rest.now cursor.new.rest.now (plain_stmt_kind kind)) }
 {
     cursor.keyword(Keyword::ForeachParts)?;
@@ -234,6 +247,7 @@ struct Span {
 fn range(alloc: Global, cursor: &mut Cursor) -> Result<Span, Stop>
     requires { 1 ≤ cursor.old.level }
     ensures pays { OnOk result (Closes cursor.old cursor.new) }
+    ensures fault { IfErr result (λ stop. IsFault cursor.old.text stop) }
     ensures derives { IfOk result (λ span. DerivesRange cursor.old.rest.now cursor.new.rest.now span.var (plain_expr span.first) (plain_expr span.second)) }
 {
     cursor.keyword(Keyword::Int)?;
@@ -249,6 +263,7 @@ fn range(alloc: Global, cursor: &mut Cursor) -> Result<Span, Stop>
 /// A statement that holds no other one.
 fn simple(alloc: Global, cursor: &mut Cursor) -> Result<Stmt, Stop>
     ensures pays { OnOk result (Reads 0 cursor.old cursor.new) }
+    ensures fault { IfErr result (λ stop. IsFault cursor.old.text stop) }
     ensures derives { IfOk result (λ s. DerivesStmt cursor.old.rest.now cursor.new.rest.now (plain_stmt s)) }
     ensures last { IfOk result (λ s. s.node + 1 ≡ cursor.new.node) }
 {
@@ -266,6 +281,7 @@ fn simple(alloc: Global, cursor: &mut Cursor) -> Result<Stmt, Stop>
 #[tactic(auto, using(crate::proofs::Stating::return_alone, crate::proofs::Stating::return_with))]
 fn returned(alloc: Global, cursor: &mut Cursor) -> Result<Stmt, Stop>
     ensures pays { OnOk result (Reads 0 cursor.old cursor.new) }
+    ensures fault { IfErr result (λ stop. IsFault cursor.old.text stop) }
     ensures derives { IfOk result (λ s. DerivesStmt cursor.old.rest.now cursor.new.rest.now (plain_stmt s)) }
     ensures last { IfOk result (λ s. s.node + 1 ≡ cursor.new.node) }
 {
@@ -280,6 +296,7 @@ fn returned(alloc: Global, cursor: &mut Cursor) -> Result<Stmt, Stop>
 /// `"print" "(" ( Expr | Text ) ")" ";"`
 fn printed(alloc: Global, cursor: &mut Cursor) -> Result<Stmt, Stop>
     ensures pays { OnOk result (Reads 0 cursor.old cursor.new) }
+    ensures fault { IfErr result (λ stop. IsFault cursor.old.text stop) }
     ensures derives { IfOk result (λ s. DerivesStmt cursor.old.rest.now cursor.new.rest.now (plain_stmt s)) }
     ensures last { IfOk result (λ s. s.node + 1 ≡ cursor.new.node) }
 {
@@ -295,6 +312,7 @@ fn printed(alloc: Global, cursor: &mut Cursor) -> Result<Stmt, Stop>
 #[tactic(auto, using(crate::proofs::Stating::shown_value, crate::proofs::Stating::shown_text))]
 fn shown(alloc: Global, cursor: &mut Cursor) -> Result<StmtKind, Stop>
     ensures pays { OnOk result (Reads 0 cursor.old cursor.new) }
+    ensures fault { IfErr result (λ stop. IsFault cursor.old.text stop) }
     ensures derives { IfOk result (λ kind. DerivesPrinted cursor.old.rest.now cursor.new.rest.now (plain_stmt_kind kind)) }
 {
     if let Some(Terminal::Text(text)) = cursor.next() {
@@ -309,6 +327,7 @@ fn shown(alloc: Global, cursor: &mut Cursor) -> Result<StmtKind, Stop>
 #[tactic(auto, using(crate::proofs::Stating::made_regions))]
 fn regions(alloc: Global, cursor: &mut Cursor) -> Result<Stmt, Stop>
     ensures pays { OnOk result (Reads 0 cursor.old cursor.new) }
+    ensures fault { IfErr result (λ stop. IsFault cursor.old.text stop) }
     ensures derives { IfOk result (λ s. DerivesStmt cursor.old.rest.now cursor.new.rest.now (plain_stmt s)) }
     ensures last { IfOk result (λ s. s.node + 1 ≡ cursor.new.node) }
 {
@@ -343,6 +362,7 @@ fn closes_third(cursor: &Cursor) -> bool {
 /// `[ "final" ] Type Name "=" Expr ";"`
 fn declaration(alloc: Global, cursor: &mut Cursor) -> Result<Stmt, Stop>
     ensures pays { OnOk result (Reads 0 cursor.old cursor.new) }
+    ensures fault { IfErr result (λ stop. IsFault cursor.old.text stop) }
     ensures derives { IfOk result (λ s. DerivesStmt cursor.old.rest.now cursor.new.rest.now (plain_stmt s)) }
     ensures last { IfOk result (λ s. s.node + 1 ≡ cursor.new.node) }
 {
@@ -364,6 +384,7 @@ fn declaration(alloc: Global, cursor: &mut Cursor) -> Result<Stmt, Stop>
 #[tactic(auto, using(crate::proofs::Stating::made_value))]
 fn value(alloc: Global, cursor: &mut Cursor) -> Result<Expr, Stop>
     ensures pays { OnOk result (Reads 0 cursor.old cursor.new) }
+    ensures fault { IfErr result (λ stop. IsFault cursor.old.text stop) }
     ensures derives { IfOk result (λ e. DerivesValue cursor.old.rest.now cursor.new.rest.now (plain_expr e)) }
 {
     let value = expr(alloc, cursor)?;
@@ -385,6 +406,7 @@ fn assigns(cursor: &Cursor) -> bool {
 /// `Name "=" Expr ";"`
 fn assignment(alloc: Global, cursor: &mut Cursor) -> Result<Stmt, Stop>
     ensures pays { OnOk result (Reads 0 cursor.old cursor.new) }
+    ensures fault { IfErr result (λ stop. IsFault cursor.old.text stop) }
     ensures derives { IfOk result (λ s. DerivesStmt cursor.old.rest.now cursor.new.rest.now (plain_stmt s)) }
     ensures last { IfOk result (λ s. s.node + 1 ≡ cursor.new.node) }
 {
@@ -398,6 +420,7 @@ fn assignment(alloc: Global, cursor: &mut Cursor) -> Result<Stmt, Stop>
 #[tactic(auto, using(crate::proofs::Stating::made_field_assignment, crate::proofs::Stating::made_element_assignment, crate::proofs::Stating::call_performed, crate::proofs::Stating::new_performed))]
 fn performed(alloc: Global, cursor: &mut Cursor) -> Result<Stmt, Stop>
     ensures pays { OnOk result (Reads 0 cursor.old cursor.new) }
+    ensures fault { IfErr result (λ stop. IsFault cursor.old.text stop) }
     ensures derives { IfOk result (λ s. DerivesStmt cursor.old.rest.now cursor.new.rest.now (plain_stmt s)) }
     ensures last { IfOk result (λ s. s.node + 1 ≡ cursor.new.node) }
 {

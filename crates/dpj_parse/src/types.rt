@@ -1,4 +1,5 @@
-ghost use Rattle.std.specs.Prelude.{◌≡◌, ◌+◌, ◌≤◌, length, IfOk, OnOk};
+ghost use Rattle.std.specs.Prelude.{◌≡◌, ◌+◌, ◌≤◌, length, IfOk, OnOk, IfErr};
+ghost use Rattle.dpj_parse.specs.Fault.{IsFault};
 ghost use Rattle.dpj_parse.specs.Progress.{Keeps, Reads};
 ghost use Rattle.dpj_parse.specs.Taking.{Many};
 ghost use Rattle.dpj_parse.specs.Types.{DerivesBase, DerivesBehind, DerivesIndex, DerivesRegion, DerivesSuffix, DerivesType};
@@ -15,6 +16,7 @@ use std::alloc::Global;
 #[tactic(auto, using(crate::specs::Types::type_of))]
 pub fn ty(alloc: Global, cursor: &mut Cursor) -> Result<TypeTree, Stop>
     ensures pays { OnOk result (Reads 0 cursor.old cursor.new) }
+    ensures fault { IfErr result (λ stop. IsFault cursor.old.text stop) }
     ensures derives { IfOk result (λ tree. DerivesType cursor.old.rest.now cursor.new.rest.now tree) }
     ensures last { IfOk result (λ tree. tree.node + 1 ≡ cursor.new.node) }
 {
@@ -33,6 +35,7 @@ pub fn ty(alloc: Global, cursor: &mut Cursor) -> Result<TypeTree, Stop>
 #[tactic(auto, using(crate::proofs::TypeForms::base_int, crate::proofs::TypeForms::base_boolean, crate::specs::Types::class))]
 pub fn base(alloc: Global, cursor: &mut Cursor) -> Result<BaseTree, Stop>
     ensures pays { OnOk result (Reads 1 cursor.old cursor.new) }
+    ensures fault { IfErr result (λ stop. IsFault cursor.old.text stop) }
     ensures derives { IfOk result (λ start. DerivesBase cursor.old.rest.now cursor.new.rest.now start) }
 {
     match cursor.next() {
@@ -56,6 +59,7 @@ pub fn base(alloc: Global, cursor: &mut Cursor) -> Result<BaseTree, Stop>
 #[tactic(auto, using(crate::proofs::Lists::many_more, crate::proofs::Lists::few_more, crate::specs::Taking::none, crate::proofs::TypeForms::suffix_of))]
 fn suffixes(alloc: Global, cursor: &mut Cursor) -> Result<Items<Suffix>, Stop>
     ensures pays { OnOk result (Keeps cursor.old cursor.new) }
+    ensures fault { IfErr result (λ stop. IsFault cursor.old.text stop) }
     ensures derives { IfOk result (λ suffixes. Many DerivesSuffix cursor.old.rest.now cursor.new.rest.now suffixes) }
     ensures few { IfOk result (λ suffixes. length suffixes ≤ 32) }
 {
@@ -75,6 +79,7 @@ fn suffixes(alloc: Global, cursor: &mut Cursor) -> Result<Items<Suffix>, Stop>
 #[tactic(auto, using(crate::specs::Types::behind))]
 pub fn behind_brackets(alloc: Global, cursor: &mut Cursor) -> Result<Suffix, Stop>
     ensures pays { OnOk result (Keeps cursor.old cursor.new) }
+    ensures fault { IfErr result (λ stop. IsFault cursor.old.text stop) }
     ensures derives { IfOk result (λ tree. DerivesBehind cursor.old.rest.now cursor.new.rest.now tree) }
 {
     let rpl = region_if(alloc, cursor)?;
@@ -86,6 +91,7 @@ pub fn behind_brackets(alloc: Global, cursor: &mut Cursor) -> Result<Suffix, Sto
 #[tactic(auto, using(crate::proofs::TypeForms::region_none, crate::proofs::TypeForms::region_some))]
 fn region_if(alloc: Global, cursor: &mut Cursor) -> Result<Option<RplTree>, Stop>
     ensures pays { OnOk result (Keeps cursor.old cursor.new) }
+    ensures fault { IfErr result (λ stop. IsFault cursor.old.text stop) }
     ensures derives { IfOk result (λ region. DerivesRegion cursor.old.rest.now cursor.new.rest.now region) }
 {
     if !cursor.symbol_if(Symbol::Less)? {
@@ -100,6 +106,7 @@ fn region_if(alloc: Global, cursor: &mut Cursor) -> Result<Option<RplTree>, Stop
 #[tactic(auto, using(crate::proofs::TypeForms::index_none, crate::proofs::TypeForms::index_some))]
 fn index_if(cursor: &mut Cursor) -> Result<Option<Named>, Stop>
     ensures pays { OnOk result (Keeps cursor.old cursor.new) }
+    ensures fault { IfErr result (λ stop. IsFault cursor.old.text stop) }
     ensures derives { IfOk result (λ index. DerivesIndex cursor.old.rest.now cursor.new.rest.now index) }
 {
     if !cursor.symbol_if(Symbol::Hash)? {
