@@ -5,6 +5,7 @@ pub mod Joined
 pub mod Locals
 pub mod Marking
 pub mod Numbered
+pub mod Once
 pub mod Overrides
 pub mod Params
 pub mod Parts

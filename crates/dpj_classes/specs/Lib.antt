@@ -5,6 +5,7 @@ pub mod Calls
 pub mod Edges
 pub mod Main
 pub mod Marking
+pub mod Once
 pub mod Overridden
 pub mod Overriding
 pub mod Places

@@ -21,6 +21,7 @@
 mod around;
 mod calls;
 mod forking;
+mod laws;
 mod main_class;
 mod make;
 mod overridden;
@@ -35,6 +36,7 @@ mod table;
 mod written;
 
 pub use dpj_types::same_type;
+pub use laws::one_fault;
 pub use make::build;
 pub use rows::{FieldRow, MethodRow};
 pub use table::Table;
