@@ -11,13 +11,13 @@ use Rattle.dpj_first.specs.Meaning.{outcome_of}
 use Rattle.dpj_tokens.specs.declared.token.Token.{Token}
 use Rattle.dpj_tokens.specs.Cutting.{Cuts, FaultsAt}
 use Rattle.dpj_tree.specs.declared.class.Program.{Program}
-use Rattle.dpj_parse.specs.Program.{IsProgram}
-use Rattle.dpj_check.specs.Keeping.{ProgramKeeps}
+use Rattle.dpj_parse.specs.Program.{IsProgram, IsGrammarFault}
 use Rattle.dpj_words.specs.declared.command.Command.{Command}
 use Rattle.dpj_words.specs.declared.command.Command.TheVariants as command
 use Rattle.dpj_words.specs.declared.job.Job.{Job}
 use Rattle.dpj_words.specs.declared.verdict.Verdict.{Verdict}
 use Rattle.dpj_words.specs.declared.verdict.Verdict.TheVariants.{Refused, Ran, Accepted}
+use Rattle.dpj_top.specs.Judging.{IsAccepted, IsFaulty}
 
 -- the most bytes that a text may have
 abbrev pub max_text : ℕ
@@ -42,11 +42,11 @@ first_verdict job program = cond (asks_run job.command) (Ran (outcome_of program
 abbrev pub other_verdict : Job → Place → Verdict
 other_verdict job place = cond (asks_run job.command) (Refused (record { kind = Form; place = place })) Accepted
 
--- the tokens of a text derive a program, whose bodies keep to the rules that need no types
+-- the tokens of a text derive a program, and it is accepted
 pub record HasProgram (text : List ℕ) (tokens : List Token) : Type 0 where
   pub program : Program
-  pub is : IsProgram text tokens program
-  pub keeps : ProgramKeeps program
+  pub derived : IsProgram text tokens program
+  pub accepted : IsAccepted program
 
 -- where the first token stands, or the end of a text without one
 abbrev pub first_place : List Token → Place → Place
@@ -57,21 +57,27 @@ first_place (token ∷ tokens) end = token.place
 abbrev pub IsOther : List ℕ → Type 0
 IsOther text = (program : First) → IsFirstForm text program → ⊥
 
--- the text is cut into tokens, which derive a program; the first of them stands at the place
-pub record IsAccepted (text : List ℕ) (place : Place) : Type 0 where
+-- the text is cut into tokens, which derive an accepted program; the first of them stands at the place
+pub record IsPassed (text : List ℕ) (place : Place) : Type 0 where
   pub tokens : List Token
   pub end : Place
   pub cut : Cuts text tokens end
   pub first : place ≡ first_place tokens end
-  pub derives : HasProgram text tokens
+  pub has_program : HasProgram text tokens
 
--- the text is cut into tokens, and a later pass refuses it
+-- the fault that is told of the tokens of a text: that of their grammar, or that of the program that they derive
+pub data IsTokenFault (text : List ℕ) (tokens : List Token) (end : Place) (refusal : Refusal) : Type 0 where
+  of_grammar : IsGrammarFault text tokens end refusal → IsTokenFault text tokens end refusal
+  of_program : (program : Program) → IsProgram text tokens program → IsFaulty program refusal → IsTokenFault text tokens end refusal
+
+-- the text is cut into tokens, and the fault is theirs
 pub record IsLaterFault (text : List ℕ) (refusal : Refusal) : Type 0 where
   pub tokens : List Token
   pub end : Place
   pub cut : Cuts text tokens end
+  pub fault : IsTokenFault text tokens end refusal
 
--- the first fault of the text's tokens, or a fault that a later pass tells
+-- the first fault of the text's tokens, or where it is cut into tokens, theirs
 abbrev pub IsFault : List ℕ → Refusal → Type 0
 IsFault text refusal = FaultsAt text refusal ⊎ IsLaterFault text refusal
 
@@ -80,7 +86,7 @@ pub data IsAnswer (job : Job) (text : List ℕ) : Verdict → Type 0 where
   too_long : max_text < length text → IsAnswer job text (refused_at_start TooLong)
   of_first_form : (program : First) → length text ≤ max_text → IsFirstForm text program → IsAnswer job text (first_verdict job program)
   faulty : (refusal : Refusal) → length text ≤ max_text → IsOther text → IsFault text refusal → IsAnswer job text (Refused refusal)
-  of_other_form : (place : Place) → length text ≤ max_text → IsOther text → IsAccepted text place → IsAnswer job text (other_verdict job place)
+  of_other_form : (place : Place) → length text ≤ max_text → IsOther text → IsPassed text place → IsAnswer job text (other_verdict job place)
 
 -- the text is too long, a program of the first form, or no text of tokens
 pub data IsDecided (text : List ℕ) : Type 0 where

@@ -1,8 +1,9 @@
 ghost use Rattle.std.specs.Prelude.{◌≡◌, ◌≤◌, length, IfOk, IfErr, OnOk};
 ghost use Rattle.dpj_base.specs.Refused.{IfRefused};
-ghost use Rattle.dpj_check.specs.Keeping.{ProgramKeeps};
+ghost use Rattle.dpj_headers.specs.Second.{AreCounted};
 ghost use Rattle.dpj_tokens.specs.Cutting.{StandInOrder};
-ghost use Rattle.dpj_top.specs.Answer.{HasProgram, IsAnswer, IsAccepted, IsFault, IsOther, first_place, first_verdict, limits_of, other_verdict, refused_at_start};
+ghost use Rattle.dpj_top.specs.Answer.{HasProgram, IsAnswer, IsFault, IsOther, IsPassed, IsTokenFault, first_place, first_verdict, limits_of, other_verdict, refused_at_start};
+ghost use Rattle.dpj_top.specs.Judging.{HasTable, IsAccepted, IsFaulty};
 
 use dpj_base::{Kind, Limits, NoMemory, Place, Refusal, Stop};
 use dpj_check::check;
@@ -54,7 +55,7 @@ fn other_form(alloc: Global, job: &Job, text: &[u8]) -> Result<Verdict, NoMemory
 /// Where the first token of a program stands, or the program's first fault.
 fn front(alloc: Global, text: &[u8]) -> Result<Place, Stop>
     requires { length text.now ≤ MAX_TEXT }
-    ensures accepted { IfOk result (IsAccepted text.now) }
+    ensures accepted { IfOk result (IsPassed text.now) }
     ensures fault { IfErr result (λ stop. IfRefused stop (IsFault text.now)) }
 {
     let tokens = tokens(alloc, text)?;
@@ -66,7 +67,8 @@ fn front(alloc: Global, text: &[u8]) -> Result<Place, Stop>
 fn judge_text(alloc: Global, text: &[u8], tokens: &Tokens) -> Result<(), Stop>
     requires short { length text.now ≤ MAX_TEXT }
     requires stand { StandInOrder text.now 0 tokens.now.list }
-    ensures { OnOk result (HasProgram text.now tokens.now.list) }
+    ensures accepted { OnOk result (HasProgram text.now tokens.now.list) }
+    ensures fault { IfErr result (λ stop. IfRefused stop (IsTokenFault text.now tokens.now.list tokens.now.end)) }
 {
     let program = parse(alloc, text, tokens)?;
     judge_program(alloc, &program)
@@ -74,14 +76,19 @@ fn judge_text(alloc: Global, text: &[u8], tokens: &Tokens) -> Result<(), Stop>
 
 /// Tells the first fault of a program's class table or of its bodies.
 fn judge_program(alloc: Global, program: &Program) -> Result<(), Stop>
-    ensures { OnOk result (ProgramKeeps program.now) }
+    requires { AreCounted (length program.now.names) program.now.classes }
+    ensures accepted { OnOk result (IsAccepted program.now) }
+    ensures fault { IfErr result (λ stop. IfRefused stop (IsFaulty program.now)) }
 {
     let table = build(alloc, program)?;
     judge_bodies(alloc, program, &table)
 }
 
+/// Tells the first fault of the bodies of a program with this class table.
 fn judge_bodies(alloc: Global, program: &Program, table: &Table) -> Result<(), Stop>
-    ensures { OnOk result (ProgramKeeps program.now) }
+    requires { HasTable program.now table.now }
+    ensures accepted { OnOk result (IsAccepted program.now) }
+    ensures fault { IfErr result (λ stop. IfRefused stop (IsFaulty program.now)) }
 {
     let _accepted = check(alloc, program, table)?;
     Ok(())

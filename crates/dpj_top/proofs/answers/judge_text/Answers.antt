@@ -1,0 +1,13 @@
+use Rattle.dpj_headers.proofs.Shaped.{counted_when_named}
+use Rattle.dpj_top.specs.Answer.{IsTokenFault, of_program}
+use Rattle.dpj_top.specs.Judging.{IsFaulty}
+use Rattle.dpj_top.proofs.Told.{told-so}
+use Rattle.dpj_top.proofs.answers.judge_text.Goals as goal
+
+pub judge_program-requires : goal.judge_program-requires
+judge_program-requires c = counted_when_named c.in_ok-program.program c.in_ok-program.ensures.counted c.in_ok-program.ensures.named
+
+pub returns-clause-fault : goal.returns-clause-fault
+returns-clause-fault c =
+    told-so (IsFaulty c.in_ok-program.program) (IsTokenFault c.args.text.now c.args.tokens.now.list c.args.tokens.now.end) c.judge_program.result
+    (λ refusal fault. of_program c.in_ok-program.program c.in_ok-program.ensures.derived fault) c.judge_program.ensures.fault
