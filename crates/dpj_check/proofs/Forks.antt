@@ -392,7 +392,8 @@ fork_none params around nd all w effects touched none no_touched =
     (subst (λ (z : List Touched). ForkSoFar params around nd all w 0 [] z w) (sym no_touched)
     (record { goes_on = λ v d. subst (λ (z : BranchesVerdict). Branching params around nd (plain_stmts (map plain_stmt all)) w z) (sym (so_far_none v)) d }))
 
-next_is : (all : List Stmt) (i : ℕ) (s : Stmt) → i < length all → s ≡ get_or all i s → drop i all ≡ s ∷ drop (i + 1) all
+-- the next statement stands first in what is left
+pub next_is : (all : List Stmt) (i : ℕ) (s : Stmt) → i < length all → s ≡ get_or all i s → drop i all ≡ s ∷ drop (i + 1) all
 next_is all i s below is = drop-cons all i s below ∙ ap (λ x. x ∷ drop (suc i) all) (sym is) ∙ ap (λ k. s ∷ drop k all) (sym (add-one i))
 
 pub fork_refused : (params : List Bool) (around : Around) (nd : Bool) (all : List Stmt) (w : Walk) (i : ℕ) (effects : List (List Effect)) (touched : List Touched) (u : Walk) (branch : Stmt) (q : Refusal) →

@@ -5,6 +5,11 @@ pub mod Leaves
 mod Meeting
 pub mod Methodic
 pub mod Noting
+mod Once
+mod OnceBodies
+mod OnceSimple
+mod OnceTouched
+mod OnceTypes
 pub mod Passing
 pub mod Stands
 pub mod Walking

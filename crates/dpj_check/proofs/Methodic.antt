@@ -1,5 +1,5 @@
 -- The bodies of methods, member by member and class by class: what is said of each way through the code.
-use Rattle.std.proofs.Common.{◌≡◌, ◌∙◌, ℕ, suc, List, [], ◌∷◌, ◌++◌, ◌+◌, ◌⊎◌, inl, inr, ◌<◌, get_or, drop, Bool, false, Option, Some, None, option_map, Result, Ok, Err, IfErr, OnOk, map, take, length, refl, sym, ap, subst}
+use Rattle.std.proofs.Common.{◌≡◌, ◌∙◌, ℕ, suc, List, [], ◌∷◌, ◌++◌, ◌+◌, ◌⊎◌, inl, inr, ◌<◌, get_or, drop, Bool, false, Option, Some, None, option_map, Result, Ok, Err, IfErr, OnOk, map, take, length, codes, refl, sym, ap, subst}
 use Rattle.std.specs.Result.{IsErrAnd}
 use Rattle.std.proofs.lemmas.List.{drop_more}
 use Rattle.std.proofs.Common.{add-one}
@@ -13,6 +13,7 @@ use Rattle.dpj_base.specs.declared.refusal.Stop.{Stop}
 use Rattle.dpj_base.specs.declared.refusal.Stop.TheVariants as stop
 use Rattle.dpj_base.specs.declared.ty.Ty.{Ty}
 use Rattle.dpj_base.specs.Refused.{IfRefused}
+use Rattle.dpj_headers.specs.Gathered.{name_number}
 use Rattle.dpj_headers.specs.Numbers.{as_number}
 use Rattle.dpj_headers.specs.Faults.{settled}
 use Rattle.dpj_headers.specs.Passes.{fault}
@@ -195,10 +196,12 @@ classes_go_on start env i number next k all c blocks more last below is same k_i
     goes_on v (subst (λ (z : List Class). ClassesChecking start i z number more v) (left_is all all i c refl below is)
     (then_classes (class_from start env i number k c.members more (all_checked next last) same k_is d) rest))
 
-pub whole_from : (program : Program) (table : Table) (length_name : Option ℕ) (start : Env) (body : Body) (classes : List Class) (v : BodiesVerdict) → IsFresh table length_name start → body.env ≡ start → body.known.blocks ≡ [] →
+pub fresh_so : (program : Program) (table : Table) (length_name : Option ℕ) (start : Env) → length_name ≡ name_number program.names (codes "length") → IsFresh table length_name start → IsFresh table (name_number program.names (codes "length")) start
+fresh_so program table length_name start is fresh = subst (λ (z : Option ℕ). IsFresh table z start) is fresh
+
+pub whole_from : (program : Program) (table : Table) (start : Env) (body : Body) (classes : List Class) (v : BodiesVerdict) → IsFresh table (name_number program.names (codes "length")) start → body.env ≡ start → body.known.blocks ≡ [] →
     classes ≡ program.classes → ClassesChecking body.env 0 classes 0 body.known.blocks v → BodiesChecking program table v
-whole_from program table length_name start body classes v fresh env_is none same d = record {
-  length_name = length_name;
+whole_from program table start body classes v fresh env_is none same d = record {
   start = start;
   fresh = fresh;
   checks = subst (λ (e : Env). ClassesChecking e 0 program.classes 0 [] v) env_is (subst (λ (bs : List (List Effect)). ClassesChecking body.env 0 program.classes 0 bs v) none (subst (λ (cs : List Class). ClassesChecking body.env 0 cs 0 body.known.blocks v) same d));

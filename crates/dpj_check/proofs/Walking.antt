@@ -1,5 +1,5 @@
 -- The walk over statements: what is said of each way through the code, of what was said of its parts.
-use Rattle.std.proofs.Common.{◌≡◌, ◌∙◌, ℕ, suc, ◌+◌, ◌<◌, ◌&&◌, ◌||◌, IsTrue, Bool, true, false, not, List, [], ◌∷◌, map, length, get_or, drop, drop-cons, add-one, Option, Some, None, refl, sym, ap, subst}
+use Rattle.std.proofs.Common.{◌≡◌, ◌∙◌, ℕ, ◌+◌, ◌<◌, ◌&&◌, ◌||◌, IsTrue, Bool, true, false, not, List, [], map, length, get_or, drop, Option, Some, None, refl, sym, ap, subst}
 use Rattle.std.proofs.lemmas.Bool.{false≢true}
 use Rattle.dpj_base.specs.declared.refusal.Kind.TheVariants as kind
 use Rattle.dpj_base.specs.declared.refusal.Refusal.{Refusal}
@@ -31,7 +31,7 @@ use Rattle.dpj_check.specs.Gathering.{taken_in}
 use Rattle.dpj_check.specs.Leaving.{Leave, IsLike, block_leaves, first_region_in}
 use Rattle.dpj_check.specs.Noting.{fault_of, node_at, with_fault_if}
 use Rattle.dpj_check.specs.Walks.{Walk, Verdict, passes, refused, judged, behind, nothing_found, found_so, walk_of, with_types, Home, home_of}
-use Rattle.dpj_check.proofs.Forks.{walk_from, judged_none, judged_some}
+use Rattle.dpj_check.proofs.Forks.{walk_from, next_is, judged_none, judged_some}
 use Rattle.dpj_check.proofs.Leaves.{typed_walk}
 use Rattle.dpj_check.proofs.Stands.{plain_node, as_form, as_statement, at_Block, at_If, at_Else, at_While, at_Foreach, at_Parts}
 
@@ -79,9 +79,6 @@ pub then_none : (told : Option Refusal) (w : Walk) → told ≡ None → behind 
 then_none told w is = judged_none told w is
 
 -- statements one after the other
-next_is : (all : List Stmt) (i : ℕ) (s : Stmt) → i < length all → s ≡ get_or all i s → drop i all ≡ s ∷ drop (i + 1) all
-next_is all i s below is = drop-cons all i s below ∙ ap (λ x. x ∷ drop (suc i) all) (sym is) ∙ ap (λ k. s ∷ drop k all) (sym (add-one i))
-
 pub next_refused : (params own : List Bool) (around : Around) (complete follows : Bool) (all : List Stmt) (i : ℕ) (s : Stmt) (w : Walk) (q : Refusal) → own ≡ params → follows ≡ not complete → i < length all → s ≡ get_or all i s →
     Standing own around follows (plain_stmt s) w (refused q) → InOrder params around complete (plain_stmts (map plain_stmt (drop i all))) w (refused q)
 next_refused params own around complete follows all i s w q same stands below is d =

@@ -1,11 +1,12 @@
 -- The bodies of methods and constructors, class by class and member by member in the order of the text.
-use Rattle.std.specs.Prelude.{◌≡◌, ℕ, suc, ◌+◌, Bool, true, false, List, [], ◌∷◌, ◌++◌, map, fold, length, take, Option, option_map}
+use Rattle.std.specs.Prelude.{◌≡◌, ℕ, suc, ◌+◌, Bool, true, false, List, [], ◌∷◌, ◌++◌, map, fold, length, take, codes, Option, option_map}
 use Rattle.std.specs.Option.{option_map_or}
 use Rattle.dpj_base.specs.declared.effect.Effect.{Effect}
 use Rattle.dpj_base.specs.declared.refusal.Refusal.{Refusal}
 use Rattle.dpj_base.specs.declared.ty.Ty.{Ty}
 use Rattle.dpj_base.specs.Effects.{set_covers}
 use Rattle.dpj_headers.specs.declared.header.ParamRow.{ParamRow}
+use Rattle.dpj_headers.specs.Gathered.{name_number}
 use Rattle.dpj_headers.specs.Numbers.{as_number}
 use Rattle.dpj_headers.specs.Passes.{fault}
 use Rattle.dpj_resolve.specs.Classes.{params_in}
@@ -128,7 +129,6 @@ pub data ClassesChecking (start : Env) : ℕ → List Class → ℕ → List (Li
 
 -- all bodies of a program with this table, from the first class on
 pub record BodiesChecking (program : Program) (table : Table) (v : BodiesVerdict) : Type 0 where
-  pub length_name : Option ℕ
   pub start : Env
-  pub fresh : IsFresh table length_name start
+  pub fresh : IsFresh table (name_number program.names (codes "length")) start
   pub checks : ClassesChecking start 0 program.classes 0 [] v

@@ -103,7 +103,7 @@ fn check_method(body: &mut Body, method: &Method, number: u32) -> Result<(), Sto
     ensures ok { (around : Env) → body.old.env ≡ at_method around number → OnOk result ((found : Found) × MethodChecking around body.old.atomic_params number method.now body.old.known.blocks (passes (walk_of body.new found))) }
     ensures fault { (around : Env) → body.old.env ≡ at_method around number → IfErr result (λ stop. IfRefused stop (λ refusal. MethodChecking around body.old.atomic_params number method.now body.old.known.blocks (refused refusal))) }
 {
-    let row = body.env.table.numbered(number);
+    let row = body.env.table().numbered(number);
     let nothing = EffectSet::new(body.alloc);
     let mut done = Found::new(body.alloc);
     let completes = check_body(body, method, types_of(row), &mut done)?;

@@ -52,7 +52,7 @@ impl Body<'_> {
     ghost use Rattle.dpj_tree.specs.Plain.{plain_expr};
     ghost use Rattle.dpj_classes.specs.Table.{numbered};
     ghost use Rattle.dpj_exprs.specs.Answer.{gives, refused};
-    ghost use Rattle.dpj_exprs.specs.Env.{at_class, at_method, table_of, with_local};
+    ghost use Rattle.dpj_exprs.specs.Env.{at_class, at_method, supers_of, table_of, with_local};
     ghost use Rattle.dpj_exprs.specs.Typed.{plain_typed, may_be, is_int, is_boolean, Fits};
     ghost use Rattle.dpj_exprs.specs.Typing.{Typing};
     ghost use Rattle.dpj_check.specs.Checking.{part_row, variable_row};
@@ -71,7 +71,7 @@ impl Body<'_> {
     {
         self.env.enter_class(self.alloc, class)?;
         self.atomic_params.truncate(0);
-        let table = self.env.table;
+        let table = self.env.table();
         match table.headers().header(class) {
             Some(header) => self.add_params(header.params.as_slice()),
             None => Ok(()),
@@ -86,7 +86,7 @@ impl Body<'_> {
     {
         self.env.enter_method(self.alloc, method)?;
         self.atomic_params.truncate(class_params);
-        let table = self.env.table;
+        let table = self.env.table();
         match table.numbered(method) {
             Some(row) => self.add_params(row.regions.as_slice()),
             None => Ok(()),
@@ -144,16 +144,16 @@ impl Body<'_> {
 
     /// Whether a value may stand where the type is declared.
     pub fn fits(&self, value: &Typed, declared: &Ty) -> Result<bool, NoMemory>
-        ensures { IfOk result (λ fit. IsTrue fit ↔ Fits self.now.env.supers.rows.now value.now (plain_type declared.now)) }
+        ensures { IfOk result (λ fit. IsTrue fit ↔ Fits (supers_of self.now.env) value.now (plain_type declared.now)) }
     {
         fits(self.alloc, &self.env, value, declared)
     }
 
     /// Whether the value may be returned. Where the method has no result that is asked of `void` alone.
     pub fn is_returned(&self, around: Around, value: &Typed) -> Result<bool, NoMemory>
-        ensures { IfOk result (λ fit. IsTrue fit ↔ Returned self.now.env.supers.rows.now around.has_result (numbered self.now.env.table.now self.now.env.method) (plain_typed value.now)) }
+        ensures { IfOk result (λ fit. IsTrue fit ↔ Returned (supers_of self.now.env) around.has_result (numbered (table_of self.now.env) self.now.env.method) (plain_typed value.now)) }
     {
-        match self.env.table.numbered(self.env.method) {
+        match self.env.table().numbered(self.env.method) {
             Some(row) if around.has_result => self.fits(value, &row.result),
             _ => Ok(value.is_value()),
         }

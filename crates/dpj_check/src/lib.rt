@@ -16,6 +16,7 @@ mod bodies;
 mod body;
 mod constructs;
 mod gathered;
+mod laws;
 mod leaving;
 mod meet;
 mod node;
@@ -25,3 +26,4 @@ mod statements;
 
 pub use accepted::Accepted;
 pub use bodies::check;
+pub use laws::one_checking;

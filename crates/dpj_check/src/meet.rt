@@ -22,7 +22,7 @@ use std::alloc::Global;
 fn atomic_names<'a>(body: &'a Body) -> &'a [bool]
     ensures { result.now ≡ atomic_regions (headers_of (table_of body.now.env)) }
 {
-    body.env.table.headers().atomic_names()
+    body.env.table().headers().atomic_names()
 }
 
 /// Whether no two branches interfere, for nd where the construct is one of nd.

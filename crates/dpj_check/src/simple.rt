@@ -233,6 +233,6 @@ fn is_region(body: &Body, name: u32) -> bool
     ensures { result ≡ is_region_name body.now.env name }
 {
     let env = &body.env;
-    let declared = env.table.headers().region(env.class, name);
+    let declared = env.table().headers().region(env.class, name);
     env.has_param(name) || env.has_local_region(name) || declared.is_some()
 }

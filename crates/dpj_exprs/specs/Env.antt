@@ -5,7 +5,7 @@ use Rattle.dpj_base.specs.declared.effect.Constraint.{Constraint}
 use Rattle.dpj_base.specs.declared.region.Head.TheVariants.{Param}
 use Rattle.dpj_base.specs.declared.region.Rpl.{Rpl}
 use Rattle.dpj_base.specs.declared.ty.Super.{Super}
-use Rattle.dpj_base.specs.Types.{PlainType, plain_type, Ordered}
+use Rattle.dpj_base.specs.Types.{PlainType, plain_type}
 use Rattle.dpj_base.specs.Types.{PlainType as ty}
 use Rattle.dpj_tree.specs.Plain.{PlainExpr, expression, ExprForm, local}
 use Rattle.dpj_headers.specs.Numbers.{as_number}
@@ -22,10 +22,10 @@ use Rattle.dpj_classes.specs.Table.{supers_of as superclasses}
 use Rattle.dpj_exprs.specs.declared.env.Env.{Env}
 use Rattle.dpj_exprs.specs.declared.env.LocalRow.{LocalRow}
 use Rattle.dpj_exprs.specs.declared.env.Mark.{Mark}
-use Rattle.dpj_exprs.specs.Typed.{is_int}
+use Rattle.dpj_exprs.specs.Typed.{is_int, AreTaken}
 
 abbrev pub table_of : Env → Table
-table_of env = env.table.now
+table_of env = env.table
 
 -- the locals in scope, in the order of their declarations
 abbrev pub locals_in : Env → List LocalRow
@@ -69,7 +69,7 @@ has_region env name = is_some (place_in env.regions name)
 
 -- the superclasses of all classes
 abbrev pub supers_of : Env → List Super
-supers_of env = env.supers.rows.now
+supers_of env = env.supers
 
 -- what is around a region path or a type in a body
 abbrev pub scope_of : Env → PlainScope
@@ -80,7 +80,7 @@ scope_of env = record {
   variables = env.variables;
   regions = env.regions;
   given = env.given;
-  classes_given = env.classes_given.now;
+  classes_given = all_given (table_of env);
   site = site.Body;
 }
 
@@ -143,8 +143,7 @@ left_to env mark = record env {
 -- around no class yet: what the table says of all of them, and which name is `length`
 pub record IsFresh (table : Table) (length_name : Option ℕ) (env : Env) : Type 0 where
   pub table_is : table_of env ≡ table
-  pub supers_are : Ordered (superclasses table) → supers_of env ≡ superclasses table
-  pub given_are : env.classes_given.now ≡ all_given table
+  pub supers_are : AreTaken (superclasses table) (supers_of env)
   pub length_is : env.length ≡ length_name
 
 -- nothing is in scope

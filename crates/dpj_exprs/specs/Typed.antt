@@ -1,9 +1,9 @@
 -- What is known of the types of expressions, and where they fit.
-use Rattle.std.specs.Prelude.{◌≡◌, ℕ, ◌<◌, Bool, true, false, List, [], ◌∷◌, length, slice_index_or, Option, Some, None}
+use Rattle.std.specs.Prelude.{◌≡◌, ◌⊎◌, ℕ, ◌<◌, Bool, true, false, List, [], ◌∷◌, length, slice_index_or, Option, Some, None}
 use Rattle.dpj_base.specs.declared.ty.Ty.{Ty}
 use Rattle.dpj_base.specs.declared.ty.Super.{Super}
 use Rattle.dpj_base.specs.declared.region.Rpl.{Rpl}
-use Rattle.dpj_base.specs.Types.{PlainType, plain_type, type_with, Subtype}
+use Rattle.dpj_base.specs.Types.{PlainType, plain_type, type_with, Ordered, Subtype}
 use Rattle.dpj_base.specs.Types.PlainType.{int, boolean, void, null, class, array}
 use Rattle.dpj_exprs.specs.declared.typed.Typed.{Typed}
 use Rattle.dpj_exprs.specs.declared.typed.Typed.TheVariants.{Known, Any}
@@ -51,6 +51,11 @@ is_array t = false
 abbrev pub is_class : PlainType → Bool
 is_class (class c args) = true
 is_class t = false
+
+-- the superclasses that are taken of a class table: its rows, which stand in the order of class numbers in every table
+-- that is built; of rows that don't none is taken
+abbrev pub AreTaken : List Super → List Super → Type 0
+AreTaken rows taken = (Ordered rows × (taken ≡ rows)) ⊎ (¬ Ordered rows × (taken ≡ []))
 
 -- a value may stand where the type is declared
 abbrev pub FitsAs : List Super → Option PlainType → PlainType → Type 0

@@ -70,7 +70,7 @@ fn callee_params<'e>(env: &'e Env, of: &Typed, name: u32) -> &'e [ParamRow]
     let Typed::Known(Ty::Class { class, .. }) = of else {
         return &[];
     };
-    match env.table.method(*class, name) {
+    match env.table().method(*class, name) {
         Some(row) => row.regions.as_slice(),
         None => &[],
     }
@@ -184,11 +184,11 @@ fn called_method<'e>(
     let Ty::Class { class, args } = of else {
         return Err(refused(Kind::Type, place));
     };
-    let Some(row) = env.table.method(*class, name) else {
+    let Some(row) = env.table().method(*class, name) else {
         return Err(refused(Kind::Unknown, place));
     };
     let owned = env
-        .table
+        .table()
         .args_at(alloc, *class, args.as_slice(), row.owner)?;
     match owned {
         Some(owned) => Ok((row, owned)),
@@ -222,7 +222,7 @@ fn call_of(
             )
         }
         None => {
-            let fit = shapes_fit(env.table.headers(), actuals, row.params.as_slice());
+            let fit = shapes_fit(env.table().headers(), actuals, row.params.as_slice());
             Err(unknown_args(faults, fit, place))
         }
     }
@@ -258,6 +258,6 @@ fn call_with(
         partial,
         place,
     )?;
-    found.call(alloc, env.table, row, args)?;
+    found.call(alloc, env.table(), row, args)?;
     Ok(subst_type(alloc, &row.result, args)?)
 }

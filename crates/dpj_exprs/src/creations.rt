@@ -41,7 +41,7 @@ pub fn read_new_args(
 fn created_params<'e>(env: &'e Env, class: Named) -> &'e [ParamRow]
     ensures { result.now ≡ created_params (table_of env.now) class }
 {
-    match env.table.headers().class(class.name) {
+    match env.table().headers().class(class.name) {
         Some(number) => class_params(env, number),
         None => &[],
     }
@@ -50,7 +50,7 @@ fn created_params<'e>(env: &'e Env, class: Named) -> &'e [ParamRow]
 fn class_params<'e>(env: &'e Env, class: u32) -> &'e [ParamRow]
     ensures { result.now ≡ params_in (headers_of (table_of env.now)) class }
 {
-    match env.table.headers().header(class) {
+    match env.table().headers().header(class) {
         Some(header) => header.params.as_slice(),
         None => &[],
     }
@@ -70,7 +70,7 @@ pub fn creation(
     ensures fault { IfErr result (λ stop. IfRefused stop (λ refusal. Creation env.now class regions (map plain_typed actuals.now) place found.old (refused refusal))) }
     ensures nd { OnOk result (IsTrue found.old.reaches_nd → IsTrue found.new.reaches_nd) }
 {
-    match env.table.headers().class(class.name) {
+    match env.table().headers().class(class.name) {
         Some(number) => creation_of(alloc, env, found, number, regions, actuals, place),
         None => Err(refused(Kind::Unknown, class.place)),
     }
@@ -94,7 +94,7 @@ fn creation_of(
     match fit_args(alloc, &mut faults, regions, class_params(env, class), place)? {
         Some(args) => creation_with(alloc, env, found, faults, class, args, actuals, place),
         None => {
-            let fit = shapes_fit(env.table.headers(), actuals, formals(env, class));
+            let fit = shapes_fit(env.table().headers(), actuals, formals(env, class));
             Err(unknown_args(faults, fit, place))
         }
     }
@@ -124,7 +124,7 @@ fn creation_with(
         args.as_slice(),
         actuals,
         formals(env, class),
-        env.table.given(class),
+        env.table().given(class),
         false,
         place,
     )?;
@@ -136,7 +136,7 @@ fn creation_with(
 fn formals<'e>(env: &'e Env, class: u32) -> &'e [Ty]
     ensures { result.now ≡ formals_of (table_of env.now) class }
 {
-    match env.table.constructor(class) {
+    match env.table().constructor(class) {
         Some(row) => row.params.as_slice(),
         None => &[],
     }
@@ -153,8 +153,8 @@ fn add_constructor(
     ensures whole { OnOk result (found.new ≡ with_constructor (table_of env.now) found.old (constructor_of (table_of env.now) class) args.now) }
     ensures nd { OnOk result (IsTrue found.old.reaches_nd → IsTrue found.new.reaches_nd) }
 {
-    match env.table.constructor(class) {
-        Some(row) => found.call(alloc, env.table, row, args),
+    match env.table().constructor(class) {
+        Some(row) => found.call(alloc, env.table(), row, args),
         None => Ok(()),
     }
 }

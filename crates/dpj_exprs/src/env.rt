@@ -1,9 +1,11 @@
-ghost use Rattle.std.specs.Prelude.{◌≡◌, ◌++◌, IfOk, OnOk};
+ghost use Rattle.std.specs.Prelude.{◌≡◌, ◌++◌, codes, IfOk, OnOk};
 ghost use Rattle.std.specs.Prelude.{fold};
 ghost use Rattle.dpj_resolve.specs.Scoped.{with_name};
+ghost use Rattle.dpj_headers.specs.Gathered.{name_number};
 ghost use Rattle.dpj_exprs.specs.Env.{index_number, param_paths};
 
 use crate::supers::Supers;
+use crate::table_ref::TableRef;
 use dpj_base::{Constraint, Elems, Head, Items, NoMemory, Plain, Rpl, Ty};
 use dpj_classes::Table;
 use dpj_headers::{ParamRow, number_at};
@@ -34,13 +36,11 @@ pub struct Mark {
 /// What is around an expression.
 #[derive(Drop)]
 pub struct Env<'a> {
-    pub table: &'a Table,
+    table: TableRef<'a>,
     pub class: u32,
     /// The number of the method.
     pub method: u32,
     pub supers: Supers<'a>,
-    /// The constraints of each class, by its number.
-    classes_given: &'a [Items<Constraint>],
     /// The name `length`, where the text has it.
     length: Option<u32>,
     /// The region parameters of the method, with whether each is atomic.
@@ -58,15 +58,19 @@ pub struct Env<'a> {
 }
 
 /// The number of the name `length`, where the text has it.
-pub fn length_name(program: &Program) -> Option<u32> {
+pub fn length_name(program: &Program) -> Option<u32>
+    ensures { result ≡ name_number program.now.names (codes "length") }
+{
     let names = program.names.as_slice();
-    names
-        .iter()
-        .position(|name| name.as_slice() == b"length".as_slice())
-        .map(|at| number_at(at))
+    for (at, name) in names.iter().enumerate() {
+        if name.as_slice() == b"length".as_slice() {
+            return Some(number_at(at));
+        }
+    }
+    None
 }
 
-impl Env<'_> {
+impl<'a> Env<'a> {
     ghost use Rattle.std.specs.Prelude.{◌≡◌, ◌∷◌, ◌++◌, [], take, IfOk, OnOk};
     ghost use Rattle.dpj_classes.specs.Table.{given_of};
     ghost use Rattle.std.specs.Option.{option_copied};
@@ -76,15 +80,14 @@ impl Env<'_> {
     ghost use Rattle.dpj_exprs.specs.Env.{table_of, locals_in, local_names, index_numbers, region_names, declared_in, mark_of, index_number, with_local, with_region, left_to, bare, at_class, at_method, is_param_name, local_of, index_variable_of, part_of, is_length_name, given_in, regions_in, has_region, scope_of, this_type_of, IsFresh};
 
     /// What is around the members of class 0, before one is entered.
-    pub fn new<'a>(alloc: Global, table: &'a Table, length: Option<u32>) -> Env<'a>
+    pub fn new(alloc: Global, table: &'a Table, length: Option<u32>) -> Env<'a>
         ensures { IsFresh table.now length result }
     {
         Env {
-            table,
+            table: TableRef::of(table),
             class: 0,
             method: 0,
             supers: Supers::of(table.supers()),
-            classes_given: table.classes_given(),
             length,
             params: Scoped::new(alloc),
             rows: Items::new(alloc),
@@ -94,6 +97,13 @@ impl Env<'_> {
             given: Items::new(alloc),
             class_given: 0,
         }
+    }
+
+    /// The class table.
+    pub fn table(&self) -> &'a Table
+        ensures { result.now ≡ table_of self.now }
+    {
+        self.table.get()
     }
 
     /// Goes over to a class. Its constraints are in force.
@@ -108,7 +118,7 @@ impl Env<'_> {
         self.method = 0;
         self.given.truncate(0);
         self.class_given = 0;
-        let table = self.table;
+        let table = self.table.get();
         put_constraints(alloc, &mut self.given, table.given(class))?;
         self.class_given = self.given.len();
         Ok(())
@@ -126,7 +136,7 @@ impl Env<'_> {
         self.clear();
         self.method = method;
         self.given.truncate(self.class_given);
-        let table = self.table;
+        let table = self.table.get();
         let Some(row) = table.numbered(method) else {
             return Ok(());
         };
@@ -277,13 +287,13 @@ impl Env<'_> {
         ensures { plain_scope result ≡ scope_of self.now }
     {
         Scope {
-            headers: self.table.headers(),
+            headers: self.table().headers(),
             class: self.class,
             params: &self.params,
             variables: &self.variables,
             regions: &self.regions,
             given: self.given.as_slice(),
-            classes_given: self.classes_given,
+            classes_given: self.table().classes_given(),
             site: Site::Body,
         }
     }

@@ -39,11 +39,11 @@ pub fn field_at(alloc: Global, env: &Env, of: &Ty, name: u32, place: Place) -> R
     let Ty::Class { class, args } = of else {
         return Err(refused(Kind::Type, place));
     };
-    let Some(row) = env.table.field(*class, name) else {
+    let Some(row) = env.table().field(*class, name) else {
         return Err(refused(Kind::Unknown, place));
     };
     let owned = env
-        .table
+        .table()
         .args_at(alloc, *class, args.as_slice(), row.owner)?;
     let Some(owned) = owned else {
         return Err(refused(Kind::Type, place));

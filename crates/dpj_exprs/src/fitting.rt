@@ -1,5 +1,6 @@
 ghost use Rattle.std.specs.Prelude.{◌≡◌, ◌↔◌, IsTrue, IfOk};
 ghost use Rattle.dpj_base.specs.Types.{plain_type};
+ghost use Rattle.dpj_exprs.specs.Env.{supers_of};
 ghost use Rattle.dpj_exprs.specs.Partial.{param_number, mentions_partial, rigid_in_partial};
 ghost use Rattle.dpj_exprs.specs.Refusing.{refusal_at};
 ghost use Rattle.dpj_exprs.specs.Typed.{Fits};
@@ -20,7 +21,7 @@ pub fn refused(kind: Kind, place: Place) -> Stop
 
 /// Whether a value may stand where the type is declared.
 pub fn fits(alloc: Global, env: &Env, value: &Typed, declared: &Ty) -> Result<bool, NoMemory>
-    ensures { IfOk result (λ fit. IsTrue fit ↔ Fits env.now.supers.rows.now value.now (plain_type declared.now)) }
+    ensures { IfOk result (λ fit. IsTrue fit ↔ Fits (supers_of env.now) value.now (plain_type declared.now)) }
 {
     match value {
         Typed::Known(ty) => env.supers.fit(alloc, ty, declared),

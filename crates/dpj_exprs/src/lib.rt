@@ -23,6 +23,7 @@ mod node_types;
 mod operations;
 mod shapes;
 mod supers;
+mod table_ref;
 mod typed;
 mod typing;
 

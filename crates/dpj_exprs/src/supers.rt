@@ -1,23 +1,38 @@
-ghost use Rattle.dpj_base.specs.Types.{Ordered};
-
 use dpj_base::{NoMemory, Super, Ty};
 use dpj_types::{is_ordered, subtype};
 use std::alloc::Global;
+use std::marker::Model;
 
-/// The superclasses of all classes, in the order of class numbers.
+/// The superclasses of all classes, in the order of class numbers. A contract sees them as a list.
 #[derive(Drop)]
 pub struct Supers<'a> {
-    pub rows: &'a [Super],
-    pub ghost ordered: { Ordered rows.now },
+    rows: &'a [Super],
+}
+
+impl<'a> Model for Supers<'a> {
+    ghost use Rattle.std.specs.Prelude.{List};
+    ghost use Rattle.std.specs.Coded.{codes};
+    ghost use Rattle.dpj_base.specs.contracts.ty.Super as super_row;
+    ghost use Rattle.dpj_base.specs.declared.ty.Super.{Super};
+    ghost use Rattle.dpj_base.specs.Types.{Ordered};
+
+    ghost Value = { List Super };
+
+    ghost coded = { Prim.hlevel (codes, super_row.the_row.coded) };
+
+    ghost view = { λ supers. supers.rows.now };
+
+    ghost invariant = { λ supers. Ordered supers.rows.now };
 }
 
 impl Supers<'_> {
-    ghost use Rattle.std.specs.Prelude.{◌≡◌, ◌↔◌, IsTrue, IfOk};
+    ghost use Rattle.std.specs.Prelude.{◌↔◌, IsTrue, IfOk};
     ghost use Rattle.dpj_base.specs.Types.{plain_type, Subtype};
+    ghost use Rattle.dpj_exprs.specs.Typed.{AreTaken};
 
-    /// The rows, which stand in that order in every class table.
+    /// The rows, which stand in that order in every class table. Of others none is taken.
     pub fn of<'a>(rows: &'a [Super]) -> Supers<'a>
-        ensures { Ordered rows.now → result.rows.now ≡ rows.now }
+        ensures { AreTaken rows.now result }
     {
         if is_ordered(rows) {
             Supers { rows }
@@ -28,7 +43,7 @@ impl Supers<'_> {
 
     /// Whether a value of the one type may stand where the other is declared.
     pub fn fit(&self, alloc: Global, value: &Ty, declared: &Ty) -> Result<bool, NoMemory>
-        ensures { IfOk result (λ fit. IsTrue fit ↔ Subtype self.now.rows.now (plain_type value.now) (plain_type declared.now)) }
+        ensures { IfOk result (λ fit. IsTrue fit ↔ Subtype self.now (plain_type value.now) (plain_type declared.now)) }
     {
         subtype(alloc, value, declared, self.rows)
     }

@@ -1,6 +1,6 @@
 -- The locals declared outside of a statement that it reads and assigns, told name by name: no two locals in scope at
 -- one place share a name.
-use Rattle.std.specs.Prelude.{ℕ, Bool, false, not, ◌&&◌, ◌||◌, ◌==◌, List, [], ◌∷◌, Option, Some, None}
+use Rattle.std.specs.Prelude.{ℕ, Bool, true, false, not, ◌&&◌, ◌||◌, ◌==◌, List, [], ◌∷◌, Option, Some, None}
 use Rattle.std.specs.List.{list_any}
 use Rattle.dpj_tree.specs.declared.region.BaseTree.{BaseTree}
 use Rattle.dpj_tree.specs.declared.region.BaseTree.TheVariants as base
@@ -88,6 +88,30 @@ declares_form x _ = false
 
 abbrev pub declares : ℕ → PlainStmt → Bool
 declares x (statement node place form) = declares_form x form
+
+-- a `foreach` or a `foreach_parts`
+abbrev pub form_is_parallel_loop : StmtForm → Bool
+form_is_parallel_loop (foreach nd var start count body) = true
+form_is_parallel_loop (foreach_parts view var array count body) = true
+form_is_parallel_loop form = false
+
+abbrev pub is_parallel_loop : PlainStmt → Bool
+is_parallel_loop (statement node place form) = form_is_parallel_loop form
+
+-- a statement that holds no other
+abbrev pub form_is_single : StmtForm → Bool
+form_is_single (block all) = false
+form_is_single (choice test then_part) = false
+form_is_single (choice_else test then_part else_part) = false
+form_is_single (while_loop test body) = false
+form_is_single (cobegin nd branches) = false
+form_is_single (foreach nd var start count body) = false
+form_is_single (foreach_parts view var array count body) = false
+form_is_single (atomic all) = false
+form_is_single form = true
+
+abbrev pub is_single : PlainStmt → Bool
+is_single (statement node place form) = form_is_single form
 
 -- a statement reads the local of that name declared outside of it
 abbrev mutual

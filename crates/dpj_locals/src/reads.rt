@@ -96,17 +96,6 @@ fn read_paths(
     Ok(())
 }
 
-/// Notes the locals that stand as indices in the region arguments of a call or of a creation.
-fn read_arguments(
-    inside: &BTreeSet<u32>,
-    reads: &mut BTreeSet<u32>,
-    paths: &[RplTree],
-) -> Result<(), NoMemory>
-    ensures { OnOk result (Gains inside.now reads.old reads.new (λ x. list_any (path_reads x) paths.now)) }
-{
-    read_paths(inside, reads, paths, &[], &None)
-}
-
 fn read_base(
     inside: &BTreeSet<u32>,
     reads: &mut BTreeSet<u32>,
@@ -201,17 +190,13 @@ pub fn read_expr(
             ..
         } => {
             read_expr(inside, reads, of.get())?;
-            read_arguments(inside, reads, regions.as_slice())?;
-            read_exprs(inside, reads, actuals.as_slice())
+            read_passed(inside, reads, regions.as_slice(), actuals.as_slice())
         }
         ExprKind::New {
             regions,
             actuals,
             ..
-        } => {
-            read_arguments(inside, reads, regions.as_slice())?;
-            read_exprs(inside, reads, actuals.as_slice())
-        }
+        } => read_passed(inside, reads, regions.as_slice(), actuals.as_slice()),
         ExprKind::NewArray {
             base,
             suffixes,
@@ -230,15 +215,19 @@ pub fn read_expr(
     }
 }
 
+/// Notes the locals that stand as indices in the region arguments of a call or of a creation, and those that its
+/// actuals read.
 #[cycle(reads)]
-fn read_exprs(
+fn read_passed(
     inside: &BTreeSet<u32>,
     reads: &mut BTreeSet<u32>,
-    exprs: &[Expr],
+    regions: &[RplTree],
+    actuals: &[Expr],
 ) -> Result<(), NoMemory>
-    ensures { OnOk result (Gains inside.now reads.old reads.new (λ x. exprs_read x (plain_exprs (map plain_expr exprs.now)))) }
+    ensures { OnOk result (Gains inside.now reads.old reads.new (λ x. list_any (path_reads x) regions.now || exprs_read x (plain_exprs (map plain_expr actuals.now)))) }
 {
-    for e in exprs {
+    read_paths(inside, reads, regions, &[], &None)?;
+    for e in actuals {
         read_expr(inside, reads, e)?;
     }
     Ok(())

@@ -1,7 +1,7 @@
-ghost use Rattle.std.specs.Prelude.{◌≡◌, ◌==◌, ◌&&◌, ◌||◌, ℕ, not, OnOk, map};
+ghost use Rattle.std.specs.Prelude.{◌≡◌, ◌==◌, ◌&&◌, ◌||◌, ℕ, not, IsTrue, OnOk, map};
 ghost use Rattle.dpj_tree.specs.Plain.{plain_expr, plain_stmt, plain_stmts};
 ghost use Rattle.dpj_locals.specs.Gains.{has, is_noted, Same, Gains, Scoped};
-ghost use Rattle.dpj_locals.specs.Touches.{declares, expr_reads, stmt_reads, stmts_read, branches_read, stmt_assigns, stmts_assign, branches_assign};
+ghost use Rattle.dpj_locals.specs.Touches.{declares, expr_reads, is_parallel_loop, is_single, stmt_reads, stmts_read, branches_read, stmt_assigns, stmts_assign, branches_assign};
 
 use crate::reads::{note, read_expr, read_type};
 use dpj_base::{Items, NoMemory};
@@ -28,6 +28,40 @@ pub fn statement(
         StmtKind::Block(all) | StmtKind::Atomic(all) => {
             block(alloc, inside, reads, writes, all.as_slice())
         }
+        StmtKind::Cobegin { branches, .. } => {
+            branches_of(alloc, inside, reads, writes, branches.as_slice())
+        }
+        StmtKind::If { test, then, other } => {
+            read_expr(inside, reads, test)?;
+            statement(alloc, inside, reads, writes, then.get())?;
+            match other {
+                Some(other) => statement(alloc, inside, reads, writes, other.get()),
+                None => Ok(()),
+            }
+        }
+        StmtKind::While { test, body } => {
+            read_expr(inside, reads, test)?;
+            statement(alloc, inside, reads, writes, body.get())
+        }
+        StmtKind::Foreach { .. } | StmtKind::ForeachParts { .. } => {
+            turns(alloc, inside, reads, writes, stmt)
+        }
+        _ => single(inside, reads, writes, stmt),
+    }
+}
+
+/// A statement that holds no other.
+fn single(
+    inside: &BTreeSet<u32>,
+    reads: &mut BTreeSet<u32>,
+    writes: &mut BTreeSet<u32>,
+    stmt: &Stmt,
+) -> Result<(), NoMemory>
+    requires { IsTrue (is_single (plain_stmt stmt.now)) }
+    ensures reads { OnOk result (Gains inside.now reads.old reads.new (λ x. stmt_reads x (plain_stmt stmt.now))) }
+    ensures writes { OnOk result (Gains inside.now writes.old writes.new (λ x. stmt_assigns x (plain_stmt stmt.now))) }
+{
+    match &stmt.kind {
         StmtKind::Declare { ty, value, .. } => {
             read_type(inside, reads, ty)?;
             read_expr(inside, reads, value)
@@ -42,21 +76,25 @@ pub fn statement(
         StmtKind::Do(value) | StmtKind::Print(value) | StmtKind::Return(Some(value)) => {
             read_expr(inside, reads, value)
         }
-        StmtKind::If { test, then, other } => {
-            read_expr(inside, reads, test)?;
-            statement(alloc, inside, reads, writes, then.get())?;
-            match other {
-                Some(other) => statement(alloc, inside, reads, writes, other.get()),
-                None => Ok(()),
-            }
-        }
-        StmtKind::While { test, body } => {
-            read_expr(inside, reads, test)?;
-            statement(alloc, inside, reads, writes, body.get())
-        }
-        StmtKind::Cobegin { branches, .. } => {
-            branches_of(alloc, inside, reads, writes, branches.as_slice())
-        }
+        _ => Ok(()),
+    }
+}
+
+/// A `foreach` or a `foreach_parts`: what it goes over, then its body, in which its own names are declared.
+#[cycle(walk)]
+fn turns(
+    alloc: Global,
+    inside: &mut BTreeSet<u32>,
+    reads: &mut BTreeSet<u32>,
+    writes: &mut BTreeSet<u32>,
+    stmt: &Stmt,
+) -> Result<(), NoMemory>
+    requires { IsTrue (is_parallel_loop (plain_stmt stmt.now)) }
+    ensures inside { OnOk result (Same inside.old inside.new) }
+    ensures reads { OnOk result (Gains inside.old reads.old reads.new (λ x. stmt_reads x (plain_stmt stmt.now))) }
+    ensures writes { OnOk result (Gains inside.old writes.old writes.new (λ x. stmt_assigns x (plain_stmt stmt.now))) }
+{
+    match &stmt.kind {
         StmtKind::Foreach {
             var,
             start,
@@ -75,17 +113,10 @@ pub fn statement(
             body,
         } => {
             read_both(inside, reads, array, count)?;
-            with_names(
-                alloc,
-                inside,
-                reads,
-                writes,
-                view.name,
-                var.name,
-                body.get(),
-            )
+            let (view, var) = (view.name, var.name);
+            with_names(alloc, inside, reads, writes, view, var, body.get())
         }
-        StmtKind::Return(None) | StmtKind::PrintText(_) | StmtKind::Region { .. } => Ok(()),
+        _ => Ok(()),
     }
 }
 

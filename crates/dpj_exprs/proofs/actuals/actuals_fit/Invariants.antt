@@ -7,4 +7,4 @@ use Rattle.dpj_exprs.proofs.actuals.actuals_fit.Given as goal
 
 abbrev pub invariant-loop-i : goal.invariant-loop-i
 invariant-loop-i l =
-    (k : ℕ) (v : Typed) (t : Ty) → k < l.i → Fits l.env.supers.rows.now (get_or l.actuals k v) (type_with l.args (plain_type (get_or l.declared k t)))
+    (k : ℕ) (v : Typed) (t : Ty) → k < l.i → Fits l.env.supers (get_or l.actuals k v) (type_with l.args (plain_type (get_or l.declared k t)))

@@ -1,4 +1,5 @@
-use Rattle.std.proofs.Common.{map}
+use Rattle.std.proofs.Common.{◌∙◌, map, ap}
+use Rattle.dpj_classes.specs.Table.{headers_of}
 use Rattle.dpj_exprs.specs.Typed.{plain_typed}
 use Rattle.dpj_exprs.proofs.Calling.{given_for, noted_for, all_for, fit_for, of_called, of_faulty, of_unknown}
 use Rattle.dpj_exprs.proofs.calls.call_of.Goals as goal
@@ -27,5 +28,5 @@ returns-in-None-clause-fault c =
     c.fit_args.new.faults c.shapes_fit-fit.result c.unknown_args.result
     (given_for c.args.regions c.as_slice.result.now c.args.row.now.regions c.in_ok-regions.field-0 _ c.in_ok-regions.ensures.given c.in-None.is c.as_slice.ensures)
     (noted_for c.args.regions c.as_slice.result.now c.args.row.now.regions c.args.place c.by_number-faults.result c.fit_args.new.faults c.fit_args.ensures.faults c.by_number-faults.ensures c.as_slice.ensures)
-    (fit_for c.headers.result.now _ (map plain_typed c.args.actuals.now) c.as_slice-in-None.result.now c.args.row.now.params c.shapes_fit-fit.result c.shapes_fit-fit.ensures c.headers.ensures c.as_slice-in-None.ensures)
+    (fit_for c.headers.result.now _ (map plain_typed c.args.actuals.now) c.as_slice-in-None.result.now c.args.row.now.params c.shapes_fit-fit.result c.shapes_fit-fit.ensures (c.headers.ensures ∙ ap headers_of c.table.ensures) c.as_slice-in-None.ensures)
     c.unknown_args.ensures
