@@ -1,5 +1,5 @@
 -- Lists of effects without some that meet nothing.
-use Rattle.std.proofs.Common.{◌≡◌, Bool, true, false, ◌||◌, cond, List, [], ◌∷◌, refl, sym, ap, ◌∙◌, ⊎_elim}
+use Rattle.std.proofs.Common.{◌≡◌, Bool, false, ◌||◌, List, [], ◌∷◌, refl, sym, ap, ◌∙◌, ⊎_elim}
 use Rattle.std.specs.List.{filter, AllByRecursion}
 use Rattle.std.proofs.lemmas.Bool.{or_from, cases_Bool, cond-true, cond-false}
 use Rattle.dpj_base.specs.declared.effect.Effect.{Effect}
@@ -39,7 +39,7 @@ lists_meet-filter meets p q (e ∷ es) fs h k =
     ∙ rest ∙ sym (ap (λ z. z || lists_meet meets es fs) (meets-none meets e fs (h.0 n))))
     (cases_Bool (p e))
 
-some_interferes-meets : (given : List Constraint) (e : Effect) (fs : List Effect) → some_interferes given e fs ≡ some_meets (interferes given) e fs
+pub some_interferes-meets : (given : List Constraint) (e : Effect) (fs : List Effect) → some_interferes given e fs ≡ some_meets (interferes given) e fs
 some_interferes-meets given e [] = refl
 some_interferes-meets given e (f ∷ fs) = ap (λ z. interferes given e f || z) (some_interferes-meets given e fs)
 

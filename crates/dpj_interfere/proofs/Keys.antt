@@ -1,5 +1,5 @@
 -- Paths of different groups are apart.
-use Rattle.std.proofs.Common.{◌≡◌, ◌≢◌, ℕ, ◌<◌, suc, Bool, true, false, not, ◌&&◌, ◌||◌, cond, List, [], ◌∷◌, ◌++◌, length, reverse, Option, Some, None, refl, sym, ap, ◌∙◌, subst, inl, inr, ◌⊎◌, ⊎_elim, arith}
+use Rattle.std.proofs.Common.{◌≡◌, ◌≢◌, ℕ, ◌<◌, Bool, true, false, not, ◌&&◌, cond, List, [], ◌∷◌, ◌++◌, length, reverse, Option, Some, None, refl, sym, ap, ◌∙◌, subst, inl, inr, ◌⊎◌, ⊎_elim, arith}
 use Rattle.std.proofs.lemmas.Bool.{and_parts, and_from, or_left, or_right, false≢true, cases_Bool}
 use Rattle.std.proofs.lemmas.List.{reverse-append}
 use Rattle.dpj_base.specs.declared.elems.Elem.{Elem}
@@ -8,8 +8,8 @@ use Rattle.dpj_base.specs.declared.region.Head.{Head}
 use Rattle.dpj_base.specs.declared.region.Rpl.{Rpl}
 use Rattle.dpj_base.specs.declared.effect.Effect.{Effect}
 use Rattle.dpj_base.specs.declared.effect.Constraint.{Constraint}
-use Rattle.dpj_base.specs.Regions.{is_star, is_root, same_elem, same_head}
-use Rattle.dpj_base.specs.Apart.{distinct, apart_front, solid, shorter, apart_as_shorter, apart}
+use Rattle.dpj_base.specs.Regions.{is_star, same_elem, same_head}
+use Rattle.dpj_base.specs.Apart.{distinct, apart_front, solid, apart_as_shorter, apart}
 use Rattle.dpj_base.specs.Matching.{is_concrete, all_concrete}
 use Rattle.dpj_effects.specs.Index.{elem_number, mixed}
 use Rattle.dpj_regions.proofs.Inclusion.{same_elem-is}

@@ -1,9 +1,9 @@
 -- What groups show of branches, and what an effect more keeps.
-use Rattle.std.proofs.Common.{◌≡◌, ◌==◌, ◌+◌, ◌<◌, ℕ, Bool, true, false, not, ◌&&◌, ◌||◌, cond, IsTrue, List, take, length, get_or, Option, Some, None, refl, sym, ap, ◌∙◌, subst, ⊎_elim, arith}
+use Rattle.std.proofs.Common.{◌≡◌, ◌==◌, ◌+◌, ◌<◌, ℕ, Bool, true, false, not, ◌||◌, cond, IsTrue, List, take, length, get_or, Option, Some, None, refl, sym, ap, ◌∙◌, subst, ⊎_elim, arith}
 use Rattle.std.specs.List.{All}
 use Rattle.std.proofs.lemmas.Bool.{and_parts, and_from, or_cases, or_left, or_right, false≢true, eq-eqb, cond_both, cases_eq}
 use Rattle.std.proofs.lemmas.List.{get_or_read}
-use Rattle.std.proofs.lemmas.List.Elements.{All-more, All-weaker, All-same}
+use Rattle.std.proofs.lemmas.List.Elements.{All-more, All-weaker}
 use Rattle.dpj_base.specs.declared.effect.Effect.{Effect}
 use Rattle.dpj_interfere.specs.declared.seen.Seen.{Seen}
 use Rattle.dpj_interfere.specs.declared.seen.Seen.TheVariants.{Nobody, One, Many}

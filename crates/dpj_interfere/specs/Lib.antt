@@ -1,3 +1,4 @@
 pub mod Groups
+pub mod InGroups
 pub mod Kept
 pub mod Thinned

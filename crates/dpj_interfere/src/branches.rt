@@ -1,11 +1,9 @@
-ghost use Rattle.std.specs.Prelude.{◌≡◌, ◌<◌, length, not, IsTrue, IfOk};
+ghost use Rattle.std.specs.Prelude.{◌≡◌, ◌<◌, length, IsTrue};
 ghost use Rattle.dpj_base.specs.Pairs.{FirstPair, FirstBehind};
-ghost use Rattle.dpj_base.specs.Branches.{some_interferes, lists_interfere, turns_interfere};
+ghost use Rattle.dpj_base.specs.Branches.{some_interferes, lists_interfere};
 
-use crate::renaming::renamed_all;
-use dpj_base::{Constraint, Effect, NoMemory};
+use dpj_base::{Constraint, Effect};
 use dpj_effects::{EffectSet, interferes};
-use std::alloc::Global;
 
 /// The first two branches, in their order, of which an effect of one interferes with an effect of the other.
 pub fn check_cobegin(branches: &[EffectSet], given: &[Constraint]) -> Option<(u32, u32)>
@@ -37,20 +35,6 @@ fn interferes_behind(branches: &[EffectSet], given: &[Constraint], i: usize) -> 
     None
 }
 
-/// Whether no effect of the body of a `foreach` interferes with an effect of another turn of it.
-pub fn check_foreach(
-    alloc: Global,
-    body: &EffectSet,
-    var: u32,
-    given: &[Constraint],
-) -> Result<bool, NoMemory>
-    requires { var < 2147483648 }
-    ensures { IfOk result (λ passed. passed ≡ not (turns_interfere given.now var body.now)) }
-{
-    let other_turn = renamed_all(alloc, body.as_slice(), var)?;
-    Ok(!lists_interfere(body.as_slice(), other_turn.as_slice(), given))
-}
-
 pub(crate) fn lists_interfere(effects: &[Effect], others: &[Effect], given: &[Constraint]) -> bool
     ensures { result ≡ lists_interfere given.now effects.now others.now }
 {
@@ -62,7 +46,7 @@ pub(crate) fn lists_interfere(effects: &[Effect], others: &[Effect], given: &[Co
     false
 }
 
-fn some_interferes(e: &Effect, others: &[Effect], given: &[Constraint]) -> bool
+pub(crate) fn some_interferes(e: &Effect, others: &[Effect], given: &[Constraint]) -> bool
     ensures { result ≡ some_interferes given.now e.now others.now }
 {
     for f in others {

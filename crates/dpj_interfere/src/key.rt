@@ -17,7 +17,7 @@ pub enum Key {
     Whole(Head),
 }
 
-fn same_head(a: Head, b: Head) -> bool
+pub fn same_head(a: Head, b: Head) -> bool
     ensures { result ≡ same_head a b }
 {
     a == b

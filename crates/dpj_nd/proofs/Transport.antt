@@ -11,7 +11,7 @@ use Rattle.dpj_interfere.specs.Thinned.{Thinned}
 use Rattle.dpj_interfere.proofs.Filtered.{some_meets, lists_meet}
 use Rattle.dpj_interfere.proofs.Transport.{first_pair-same, meet-thinned}
 
-some_interferes-meets : (given : List Constraint) (names params : List Bool) (e : Effect) (fs : List Effect) → some_interferes_nd given names params e fs ≡ some_meets (interferes_nd given names params) e fs
+pub some_interferes-meets : (given : List Constraint) (names params : List Bool) (e : Effect) (fs : List Effect) → some_interferes_nd given names params e fs ≡ some_meets (interferes_nd given names params) e fs
 some_interferes-meets given names params e [] = refl
 some_interferes-meets given names params e (f ∷ fs) = ap (λ z. interferes_nd given names params e f || z) (some_interferes-meets given names params e fs)
 
@@ -21,7 +21,7 @@ lists_interfere-meet given names params (e ∷ es) fs =
     ap (λ z. z || lists_interfere_nd given names params es fs) (some_interferes-meets given names params e fs)
     ∙ ap (λ z. some_meets (interferes_nd given names params) e fs || z) (lists_interfere-meet given names params es fs)
 
-quiet-nd : (given : List Constraint) (names params : List Bool) (e f : Effect) → interferes given e f ≡ false → interferes_nd given names params e f ≡ false
+pub quiet-nd : (given : List Constraint) (names params : List Bool) (e f : Effect) → interferes given e f ≡ false → interferes_nd given names params e f ≡ false
 unfolding interferes_nd
 quiet-nd given names params e f h = and_left _ _ h
 

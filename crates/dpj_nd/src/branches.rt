@@ -1,12 +1,10 @@
-ghost use Rattle.std.specs.Prelude.{◌≡◌, ◌<◌, length, not, IsTrue, IfOk};
+ghost use Rattle.std.specs.Prelude.{◌≡◌, ◌<◌, length, IsTrue};
 ghost use Rattle.dpj_base.specs.Pairs.{FirstPair, FirstBehind};
-ghost use Rattle.dpj_base.specs.Branches.{some_interferes_nd, lists_interfere_nd, turns_interfere_nd};
+ghost use Rattle.dpj_base.specs.Branches.{some_interferes_nd, lists_interfere_nd};
 
 use crate::atomic::interferes_nd;
-use dpj_base::{Constraint, Effect, NoMemory};
+use dpj_base::{Constraint, Effect};
 use dpj_effects::EffectSet;
-use dpj_interfere::renamed_all;
-use std::alloc::Global;
 
 /// The first two branches, in their order, of which an effect of one interferes for nd with an effect of the
 /// other. `names` and `params` say which region names and parameters are declared atomic.
@@ -56,23 +54,6 @@ fn interferes_behind(
     None
 }
 
-/// Whether no effect of the body of a `foreach_nd` interferes for nd with an effect of another turn of it.
-pub fn check_foreach_nd(
-    alloc: Global,
-    body: &EffectSet,
-    var: u32,
-    given: &[Constraint],
-    names: &[bool],
-    params: &[bool],
-) -> Result<bool, NoMemory>
-    requires { var < 2147483648 }
-    ensures { IfOk result (λ passed. passed ≡ not (turns_interfere_nd given.now names.now params.now var body.now)) }
-{
-    let other_turn = renamed_all(alloc, body.as_slice(), var)?;
-    let met = lists_interfere(body.as_slice(), other_turn.as_slice(), given, names, params);
-    Ok(!met)
-}
-
 pub(crate) fn lists_interfere(
     effects: &[Effect],
     others: &[Effect],
@@ -90,7 +71,7 @@ pub(crate) fn lists_interfere(
     false
 }
 
-fn some_interferes(
+pub(crate) fn some_interferes(
     e: &Effect,
     others: &[Effect],
     given: &[Constraint],

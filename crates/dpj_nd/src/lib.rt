@@ -13,7 +13,9 @@ mod atomic;
 mod branches;
 pub mod laws;
 mod meeting;
+mod turns;
 
 pub use atomic::is_atomic;
-pub use branches::{check_cobegin_nd, check_foreach_nd};
+pub use branches::check_cobegin_nd;
 pub use meeting::first_meeting_nd;
+pub use turns::check_foreach_nd;
