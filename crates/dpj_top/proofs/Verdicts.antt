@@ -8,11 +8,10 @@ use Rattle.dpj_base.specs.declared.refusal.Kind.TheVariants.{Form, TooLong}
 use Rattle.dpj_base.specs.declared.refusal.Refusal.{Refusal}
 use Rattle.dpj_first.specs.declared.program.First.{First}
 use Rattle.dpj_first.specs.Form.{IsFirstForm}
-use Rattle.dpj_first.specs.Meaning.{outcome_of}
 use Rattle.dpj_words.specs.declared.job.Job.{Job}
 use Rattle.dpj_words.specs.declared.verdict.Status.TheVariants as ended
 use Rattle.dpj_words.specs.declared.verdict.Verdict.{Verdict}
-use Rattle.dpj_words.specs.declared.verdict.Verdict.TheVariants.{Usage, Ran, Refused, Accepted}
+use Rattle.dpj_words.specs.declared.verdict.Verdict.TheVariants.{Usage, Refused, Accepted}
 use Rattle.dpj_words.specs.Jobs.{job}
 use Rattle.dpj_words.specs.Reports.{status_of, ending_status}
 use Rattle.dpj_tokens.specs.declared.token.Token.{Token}

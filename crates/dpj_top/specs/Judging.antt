@@ -3,16 +3,20 @@
 use Rattle.std.specs.Prelude.{◌≡◌, List, None}
 use Rattle.dpj_base.specs.declared.effect.Effect.{Effect}
 use Rattle.dpj_base.specs.declared.refusal.Refusal.{Refusal}
+use Rattle.dpj_base.specs.Types.{Ordered}
 use Rattle.dpj_tree.specs.declared.class.Program.{Program}
 use Rattle.dpj_classes.specs.declared.table.Table.{Table}
 use Rattle.dpj_classes.specs.Build.{AreWellNamed, IsTable, IsTold, first_of, table_faults}
+use Rattle.dpj_classes.specs.Table.{supers_of}
 use Rattle.dpj_check.specs.Keeping.{ProgramKeeps}
 use Rattle.dpj_check.specs.Methods.{BodiesChecking, accepted, rejected}
 
--- nothing is wrong with names and signatures, of which this is the table, nor with the table as a whole
+-- nothing is wrong with names and signatures, of which this is the table, nor with the table as a whole; its
+-- superclasses stand in the order of classes
 pub record HasTable (program : Program) (table : Table) : Type 0 where
   pub named : AreWellNamed program.classes
   pub is_table : IsTable program table
+  pub ordered : Ordered (supers_of table)
   pub whole : first_of (table_faults table program.names) ≡ None
 
 -- the program has a class table, and all its bodies pass the rules of the language, with these effects of its atomic

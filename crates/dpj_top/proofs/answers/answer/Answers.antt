@@ -1,6 +1,3 @@
-use Rattle.std.proofs.Common.{IfOk, subst, sym}
-use Rattle.dpj_words.specs.declared.verdict.Verdict.{Verdict}
-use Rattle.dpj_top.specs.Answer.{IsAnswer, of_first_form}
 use Rattle.dpj_top.proofs.Verdicts.{first-answer}
 use Rattle.dpj_top.proofs.answers.answer.Goals as goal
 

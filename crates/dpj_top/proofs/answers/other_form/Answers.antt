@@ -1,4 +1,4 @@
-use Rattle.dpj_top.specs.Answer.{IsAnswer, faulty, of_other_form}
+use Rattle.dpj_top.specs.Answer.{faulty, of_other_form}
 use Rattle.dpj_top.proofs.answers.other_form.Goals as goal
 
 pub returns-in-Ok : goal.returns-in-Ok
