@@ -1,18 +1,23 @@
 -- Region paths that have no region in common: distinct elements, and apart by four rules.
-use Rattle.std.specs.Prelude.{ℕ, Bool, true, false, not, ◌&&◌, ◌||◌, ◌==◌, ◌+◌, nat_lt, List, [], ◌∷◌, length, reverse, count_by}
+use Rattle.std.specs.Prelude.{ℕ, Bool, true, false, not, ◌&&◌, ◌||◌, ◌==◌, nat_lt, List, [], ◌∷◌, length, reverse, count_by}
 use Rattle.std.specs.Ordering.{int_eq}
 use Rattle.dpj_base.specs.declared.elems.Elem.{Elem}
-use Rattle.dpj_base.specs.declared.elems.Elem.TheVariants.{Name, Lit, Var, Local}
+use Rattle.dpj_base.specs.declared.elems.Elem.TheVariants.{Name, At, Local}
+use Rattle.dpj_base.specs.declared.elems.Index.{Index}
+use Rattle.dpj_base.specs.declared.elems.Index.TheVariants.{Literal, Variable, Renamed}
 use Rattle.dpj_base.specs.declared.region.Rpl.{Rpl}
 use Rattle.dpj_base.specs.declared.effect.Constraint.{Constraint}
 use Rattle.dpj_base.specs.Regions.{is_star, is_index, same_head, is_root, within}
 
--- the second variable is the renamed copy of the first
-abbrev pub is_copy : ℕ → ℕ → Bool
-is_copy v w = nat_lt v 2147483648 && (w == v + 2147483648)
+-- two indices that are never one number: different literals, and a variable and its renamed copy
+abbrev pub distinct_index : Index → Index → Bool
+distinct_index (Literal j) (Literal k) = not (int_eq j k)
+distinct_index (Variable v) (Renamed w) = v == w
+distinct_index (Renamed v) (Variable w) = v == w
+distinct_index x y = false
 
--- two elements that fit no common element: different names, literals or local regions, a variable and its
--- renamed copy, or two of different kinds; `*` is distinct from nothing
+-- two elements that fit no common element: different names or local regions, indices that are never one number, or
+-- two of different kinds; `*` is distinct from nothing
 abbrev pub distinct : Elem → Elem → Bool
 distinct (Name m) (Name n) = not (m == n)
 distinct (Name m) (Local c d) = true
@@ -20,8 +25,7 @@ distinct (Name m) y = is_index y
 distinct (Local a b) (Local c d) = not ((a == c) && (b == d))
 distinct (Local a b) (Name n) = true
 distinct (Local a b) y = is_index y
-distinct (Lit j) (Lit k) = not (int_eq j k)
-distinct (Var v) (Var w) = is_copy v w || is_copy w v
+distinct (At x) (At y) = distinct_index x y
 distinct x (Name n) = is_index x
 distinct x (Local c d) = is_index x
 distinct x y = false

@@ -1,8 +1,9 @@
--- Effects of branches that run side by side: when those of two branches interfere, the renamed copy of a foreach
--- variable, atomic paths, and interference for nd.
-use Rattle.std.specs.Prelude.{ℕ, ◌+◌, Bool, true, false, not, ◌&&◌, ◌||◌, ◌==◌, cond, List, [], ◌∷◌, map, slice_index_or}
+-- Effects of branches that run side by side: when those of two branches interfere, the renamed copy of a loop
+-- variable, atomic paths, and what atomic blocks order.
+use Rattle.std.specs.Prelude.{ℕ, Bool, true, false, not, ◌&&◌, ◌||◌, ◌==◌, cond, List, [], ◌∷◌, map, Option, Some, None, slice_index_or}
 use Rattle.dpj_base.specs.declared.elems.Elem.{Elem}
-use Rattle.dpj_base.specs.declared.elems.Elem.TheVariants.{Name, Var}
+use Rattle.dpj_base.specs.declared.elems.Elem.TheVariants.{Name, At}
+use Rattle.dpj_base.specs.declared.elems.Index.TheVariants.{Variable, Renamed}
 use Rattle.dpj_base.specs.declared.region.Head.{Head}
 use Rattle.dpj_base.specs.declared.region.Head.TheVariants.{Root, Param}
 use Rattle.dpj_base.specs.declared.region.Rpl.{Rpl}
@@ -11,30 +12,10 @@ use Rattle.dpj_base.specs.declared.effect.Constraint.{Constraint}
 use Rattle.dpj_base.specs.Regions.{is_index}
 use Rattle.dpj_base.specs.Effects.{interferes}
 
--- the effect interferes with some of the list
-abbrev pub some_interferes : List Constraint → Effect → List Effect → Bool
-some_interferes given e [] = false
-some_interferes given e (f ∷ fs) = interferes given e f || some_interferes given e fs
-
--- some effect of the first list interferes with some of the second
-abbrev pub lists_interfere : List Constraint → List Effect → List Effect → Bool
-lists_interfere given [] fs = false
-lists_interfere given (e ∷ es) fs = some_interferes given e fs || lists_interfere given es fs
-
--- the copy of the variable in place of the variable
-abbrev pub renamed_elem : ℕ → Elem → Elem
-renamed_elem v (Var w) = cond (v == w) (Var (w + 2147483648)) (Var w)
-renamed_elem v x = x
-
-abbrev pub renamed_rpl : ℕ → Rpl → Rpl
-renamed_rpl v a = record { head = a.head; elems = map (renamed_elem v) a.elems }
-
-abbrev pub renamed_effect : ℕ → Effect → Effect
-renamed_effect v e = record { write = e.write; atomic = e.atomic; rpl = renamed_rpl v e.rpl }
-
--- an effect of the body interferes with one of another turn of it
-abbrev pub turns_interfere : List Constraint → ℕ → List Effect → Bool
-turns_interfere given v body = lists_interfere given body (map (renamed_effect v) body)
+-- what is declared atomic: of each region name, and of each region parameter in scope
+pub record Atomic : Type 0 where
+  pub names : List Bool
+  pub params : List Bool
 
 abbrev pub is_atomic_name : List Bool → Elem → Bool
 is_atomic_name names (Name n) = slice_index_or names n false
@@ -53,25 +34,45 @@ abbrev pub atomic_head : List Bool → Head → Bool
 atomic_head params Root = false
 atomic_head params (Param p) = slice_index_or params p false
 
--- an atomic path: it ends by an atomic name and indices, or has nothing but indices behind an atomic parameter
-unfoldable pub atomic_path : List Bool → List Bool → Rpl → Bool
-atomic_path names params a = ends_atomic names a.elems || (all_index a.elems && atomic_head params a.head)
+-- an atomic path: it ends by an atomic name and indices, or has nothing but indices after an atomic parameter
+unfoldable pub atomic_path : Atomic → Rpl → Bool
+atomic_path atomic a = ends_atomic atomic.names a.elems || (all_index a.elems && atomic_head atomic.params a.head)
 
 -- both effects are marked, and both paths are atomic
-abbrev pub both_atomic : List Bool → List Bool → Effect → Effect → Bool
-both_atomic names params e f = (e.atomic && f.atomic) && (atomic_path names params e.rpl && atomic_path names params f.rpl)
+abbrev pub both_atomic : Atomic → Effect → Effect → Bool
+both_atomic atomic e f = (e.atomic && f.atomic) && (atomic_path atomic e.rpl && atomic_path atomic f.rpl)
 
--- the two interfere, and atomic blocks don't order them
-unfoldable pub interferes_nd : List Constraint → List Bool → List Bool → Effect → Effect → Bool
-interferes_nd given names params e f = interferes given e f && not (both_atomic names params e f)
+-- atomic blocks order the two effects: they do so between the branches of an nd construct alone, for which it is said
+-- what is declared atomic
+abbrev pub ordered_by_blocks : Option Atomic → Effect → Effect → Bool
+ordered_by_blocks None e f = false
+ordered_by_blocks (Some atomic) e f = both_atomic atomic e f
 
-abbrev pub some_interferes_nd : List Constraint → List Bool → List Bool → Effect → List Effect → Bool
-some_interferes_nd given names params e [] = false
-some_interferes_nd given names params e (f ∷ fs) = interferes_nd given names params e f || some_interferes_nd given names params e fs
+-- two effects of different branches interfere, and atomic blocks don't order them
+unfoldable pub clashes : List Constraint → Option Atomic → Effect → Effect → Bool
+clashes given nd e f = interferes given e f && not (ordered_by_blocks nd e f)
 
-abbrev pub lists_interfere_nd : List Constraint → List Bool → List Bool → List Effect → List Effect → Bool
-lists_interfere_nd given names params [] fs = false
-lists_interfere_nd given names params (e ∷ es) fs = some_interferes_nd given names params e fs || lists_interfere_nd given names params es fs
+-- the effect clashes with some of the list
+abbrev pub some_clashes : List Constraint → Option Atomic → Effect → List Effect → Bool
+some_clashes given nd e [] = false
+some_clashes given nd e (f ∷ fs) = clashes given nd e f || some_clashes given nd e fs
 
-abbrev pub turns_interfere_nd : List Constraint → List Bool → List Bool → ℕ → List Effect → Bool
-turns_interfere_nd given names params v body = lists_interfere_nd given names params body (map (renamed_effect v) body)
+-- some effect of the first list clashes with some of the second
+abbrev pub lists_clash : List Constraint → Option Atomic → List Effect → List Effect → Bool
+lists_clash given nd [] fs = false
+lists_clash given nd (e ∷ es) fs = some_clashes given nd e fs || lists_clash given nd es fs
+
+-- the copy of the variable in place of the variable
+abbrev pub renamed_elem : ℕ → Elem → Elem
+renamed_elem v (At (Variable w)) = cond (v == w) (At (Renamed w)) (At (Variable w))
+renamed_elem v x = x
+
+abbrev pub renamed_rpl : ℕ → Rpl → Rpl
+renamed_rpl v a = record { head = a.head; elems = map (renamed_elem v) a.elems }
+
+abbrev pub renamed_effect : ℕ → Effect → Effect
+renamed_effect v e = record { access = e.access; atomic = e.atomic; rpl = renamed_rpl v e.rpl }
+
+-- an effect of the body clashes with one of another iteration of it
+abbrev pub iterations_clash : List Constraint → Option Atomic → ℕ → List Effect → Bool
+iterations_clash given nd v body = lists_clash given nd body (map (renamed_effect v) body)

@@ -2,19 +2,35 @@
 use Rattle.std.specs.Prelude.{Bool, true, false, not, ◌&&◌, ◌||◌, cond, List, [], ◌∷◌, ◌++◌, map}
 use Rattle.dpj_base.specs.declared.elems.Elem.{Elem}
 use Rattle.dpj_base.specs.declared.region.Rpl.{Rpl}
+use Rattle.dpj_base.specs.declared.effect.Access.{Access}
+use Rattle.dpj_base.specs.declared.effect.Access.TheVariants.{Read, Write}
 use Rattle.dpj_base.specs.declared.effect.Effect.{Effect}
 use Rattle.dpj_base.specs.declared.effect.Constraint.{Constraint}
 use Rattle.dpj_base.specs.Regions.{same_elem, same_head, within}
 use Rattle.dpj_base.specs.Apart.{apart}
 
+abbrev pub is_write : Access → Bool
+is_write Read = false
+is_write Write = true
+
+-- a write covers both, a read covers reads alone
+abbrev pub covers_access : Access → Access → Bool
+covers_access Write b = true
+covers_access Read b = not (is_write b)
+
+abbrev pub same_access : Access → Access → Bool
+same_access Read Read = true
+same_access Write Write = true
+same_access a b = false
+
 -- the first effect covers the second: the path of the second lies in that of the first, a read covers reads
 -- alone, and a marked effect covers marked ones alone
 unfoldable pub covers_effect : Effect → Effect → Bool
-covers_effect e f = within f.rpl e.rpl && (e.write || not f.write) && (not e.atomic || f.atomic)
+covers_effect e f = within f.rpl e.rpl && covers_access e.access f.access && (not e.atomic || f.atomic)
 
 -- two effects interfere unless both are reads or their paths are apart
 unfoldable pub interferes : List Constraint → Effect → Effect → Bool
-interferes given e f = (e.write || f.write) && not (apart given e.rpl f.rpl)
+interferes given e f = (is_write e.access || is_write f.access) && not (apart given e.rpl f.rpl)
 
 abbrev pub some_covers : List Effect → Effect → Bool
 some_covers [] f = false
@@ -39,7 +55,7 @@ abbrev pub same_rpl : Rpl → Rpl → Bool
 same_rpl a b = same_head a.head b.head && same_elems a.elems b.elems
 
 unfoldable pub same_effect : Effect → Effect → Bool
-same_effect e f = same_bool e.write f.write && same_bool e.atomic f.atomic && same_rpl e.rpl f.rpl
+same_effect e f = same_access e.access f.access && same_bool e.atomic f.atomic && same_rpl e.rpl f.rpl
 
 abbrev pub has_effect : List Effect → Effect → Bool
 has_effect [] f = false

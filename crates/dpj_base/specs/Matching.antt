@@ -1,7 +1,9 @@
 -- What region paths mean: environments, and the concrete regions that a path matches.
-use Rattle.std.specs.Prelude.{◌≡◌, ◌≢◌, ℕ, ◌<◌, ◌+◌, ℤ, Bool, true, false, ◌&&◌, cond, ◌==◌, IsTrue, List, [], ◌∷◌, ◌++◌, map, All, slice_index_or}
+use Rattle.std.specs.Prelude.{◌≡◌, ◌≢◌, ℕ, ℤ, Bool, true, false, ◌&&◌, cond, ◌==◌, IsTrue, List, [], ◌∷◌, ◌++◌, map, All}
 use Rattle.dpj_base.specs.declared.elems.Elem.{Elem}
-use Rattle.dpj_base.specs.declared.elems.Elem.TheVariants.{Name, Lit, Var, Any, Star, Local}
+use Rattle.dpj_base.specs.declared.elems.Elem.TheVariants.{Name, At, Any, Star, Local}
+use Rattle.dpj_base.specs.declared.elems.Index.{Index}
+use Rattle.dpj_base.specs.declared.elems.Index.TheVariants.{Literal, Variable, Renamed, Own}
 use Rattle.dpj_base.specs.declared.region.Head.{Head}
 use Rattle.dpj_base.specs.declared.region.Head.TheVariants.{Root, Param}
 use Rattle.dpj_base.specs.declared.region.Rpl.{Rpl}
@@ -11,7 +13,7 @@ use Rattle.dpj_base.specs.Apart.{apart}
 -- a name or a whole number: it stands for itself, and is no local region
 abbrev pub is_plain : Elem → Bool
 is_plain (Name _) = true
-is_plain (Lit _) = true
+is_plain (At (Literal _)) = true
 is_plain _ = false
 
 abbrev pub all_plain : List Elem → Bool
@@ -27,16 +29,26 @@ abbrev pub all_concrete : List Elem → Bool
 all_concrete [] = true
 all_concrete (x ∷ r) = is_concrete x && all_concrete r
 
--- what the parameters, the index variables and the local regions of a text stand for in a run
+-- what the parameters, the indices and the local regions of a text stand for in a run
 pub record Env : Type 0 where
   -- the elements of a parameter's region
   pub region : ℕ → List Elem
+  -- the index variables, by their slots; the copies of loop variables; and the own indices of array types around
   pub index : ℕ → ℤ
+  pub renamed : ℕ → ℤ
+  pub own : ℕ → ℤ
   pub made : ℕ → ℕ → ℕ × ℕ
+
+-- the number that an index is
+abbrev pub number_of : Env → Index → ℤ
+number_of env (Literal k) = k
+number_of env (Variable v) = env.index v
+number_of env (Renamed v) = env.renamed v
+number_of env (Own d) = env.own d
 
 -- an element with the environment put in
 abbrev pub put_elem : Env → Elem → Elem
-put_elem env (Var v) = Lit (env.index v)
+put_elem env (At x) = At (Literal (number_of env x))
 put_elem env (Local a b) = Local (env.made a b).0 (env.made a b).1
 put_elem env x = x
 
@@ -51,9 +63,8 @@ put_in env a = record { head = Root; elems = head_region env a.head ++ map (put_
 -- which elements of a region one element of a path fits
 abbrev pub Fits : Env → Elem → List Elem → Type 0
 Fits env (Name n) r = r ≡ Name n ∷ []
-Fits env (Lit k) r = r ≡ Lit k ∷ []
-Fits env (Var v) r = r ≡ Lit (env.index v) ∷ []
-Fits env Any r = (k : ℤ) × (r ≡ Lit k ∷ [])
+Fits env (At x) r = r ≡ At (Literal (number_of env x)) ∷ []
+Fits env Any r = (k : ℤ) × (r ≡ At (Literal k) ∷ [])
 Fits env Star r = IsTrue (all_plain r)
 Fits env (Local a b) r = r ≡ Local (env.made a b).0 (env.made a b).1 ∷ []
 
@@ -73,7 +84,7 @@ Holds env c = IsTrue (apart [] (put_in env c.left) (put_in env c.right))
 -- an environment of a text in which these constraints are in force
 pub record IsEnv (given : List Constraint) (env : Env) : Type 0 where
   pub regions : (p : ℕ) → IsTrue (all_plain (env.region p))
-  pub copies : (v : ℕ) → v < 2147483648 → env.index v ≢ env.index (v + 2147483648)
+  pub copies : (v : ℕ) → env.index v ≢ env.renamed v
   pub locals : (a b c d : ℕ) → env.made a b ≡ env.made c d → (a ≡ c) × (b ≡ d)
   pub constraints : All (Holds env) given
 

@@ -2,7 +2,9 @@
 use Rattle.std.specs.Prelude.{ℕ, Bool, true, false, not, ◌&&◌, ◌||◌, cond, ◌==◌, List, [], ◌∷◌, ◌++◌, map, slice_index_or}
 use Rattle.std.specs.Ordering.{int_eq}
 use Rattle.dpj_base.specs.declared.elems.Elem.{Elem}
-use Rattle.dpj_base.specs.declared.elems.Elem.TheVariants.{Name, Lit, Var, Any, Star, Local}
+use Rattle.dpj_base.specs.declared.elems.Elem.TheVariants.{Name, At, Any, Star, Local}
+use Rattle.dpj_base.specs.declared.elems.Index.{Index}
+use Rattle.dpj_base.specs.declared.elems.Index.TheVariants.{Literal, Variable, Renamed, Own}
 use Rattle.dpj_base.specs.declared.region.Head.{Head}
 use Rattle.dpj_base.specs.declared.region.Head.TheVariants.{Root, Param}
 use Rattle.dpj_base.specs.declared.region.Rpl.{Rpl}
@@ -21,15 +23,20 @@ is_local _ = false
 
 -- an index of any kind
 abbrev pub is_index : Elem → Bool
-is_index (Lit _) = true
-is_index (Var _) = true
+is_index (At _) = true
 is_index Any = true
 is_index _ = false
 
+abbrev pub same_index : Index → Index → Bool
+same_index (Literal j) (Literal k) = int_eq j k
+same_index (Variable v) (Variable w) = v == w
+same_index (Renamed v) (Renamed w) = v == w
+same_index (Own d) (Own e) = d == e
+same_index _ _ = false
+
 abbrev pub same_elem : Elem → Elem → Bool
 same_elem (Name m) (Name n) = m == n
-same_elem (Lit j) (Lit k) = int_eq j k
-same_elem (Var v) (Var w) = v == w
+same_elem (At x) (At y) = same_index x y
 same_elem Any Any = true
 same_elem Star Star = true
 same_elem (Local a b) (Local c d) = (a == c) && (b == d)
@@ -101,7 +108,7 @@ unfoldable pub substituted : List Rpl → Rpl → Rpl
 substituted args a = put_at a.head a.elems args
 
 abbrev pub general_elem : ℕ → Elem → Elem
-general_elem v (Var w) = cond (v == w) Any (Var w)
+general_elem v (At (Variable w)) = cond (v == w) Any (At (Variable w))
 general_elem v x = x
 
 -- a path with `[?]` for each index that is the variable

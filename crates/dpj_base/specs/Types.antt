@@ -1,9 +1,10 @@
 -- Types as plain data, what is put into them, what they mention, when they are the same, and subtyping.
-use Rattle.std.specs.Prelude.{◌≡◌, ℕ, zero, suc, ◌<◌, ◌≤◌, Bool, true, false, not, ◌&&◌, ◌||◌, cond, ◌==◌, IsTrue, List, [], ◌∷◌, ◌++◌, AllPairs, map, length, fold, Option, Some, None, option_map}
+use Rattle.std.specs.Prelude.{◌≡◌, ℕ, zero, suc, ◌<◌, Bool, true, false, ◌&&◌, ◌||◌, cond, ◌==◌, IsTrue, List, [], ◌∷◌, AllPairs, map, length, Option, Some, None, option_map}
 use Rattle.std.specs.List.{list_any}
 use Rattle.std.specs.Option.{option_and_then, option_map_or}
 use Rattle.dpj_base.specs.declared.elems.Elem.{Elem}
-use Rattle.dpj_base.specs.declared.elems.Elem.TheVariants.{Var}
+use Rattle.dpj_base.specs.declared.elems.Elem.TheVariants.{At}
+use Rattle.dpj_base.specs.declared.elems.Index.TheVariants.{Own}
 use Rattle.dpj_base.specs.declared.region.Head.TheVariants.{Param}
 use Rattle.dpj_base.specs.declared.region.Rpl.{Rpl}
 use Rattle.dpj_base.specs.declared.ty.Ty.{Ty, fold-Ty}
@@ -11,14 +12,14 @@ use Rattle.dpj_base.specs.declared.ty.Ty.TheOpen.{Ty-F}
 use Rattle.dpj_base.specs.declared.ty.Super.{Super}
 use Rattle.dpj_base.specs.Regions.{same_head, same_elem, within, substituted}
 
--- a type; an array has its element type, the region path of its elements and its index name, if one is written
+-- a type; an array has its element type, the region path of its elements, and whether an index name is written
 pub data PlainType : Type 0 where
   int : PlainType
   boolean : PlainType
   void : PlainType
   null : PlainType
   class : ℕ → List Rpl → PlainType
-  array : PlainType → Rpl → Option ℕ → PlainType
+  array : PlainType → Rpl → Bool → PlainType
 
 -- one level of a type whose element type is plain already
 abbrev pub type_step : Ty-F PlainType → PlainType
@@ -27,36 +28,31 @@ type_step Ty-F.Bool = boolean
 type_step Ty-F.Void = void
 type_step Ty-F.Null = null
 type_step (Ty-F.Class number args) = class number args
-type_step (Ty-F.Array elem rpl index) = array elem rpl index
+type_step (Ty-F.Array elem rpl named) = array elem rpl named
 
 abbrev pub plain_type : Ty → PlainType
 plain_type = fold-Ty PlainType type_step
 
--- a type with arguments put in for the region parameters in each of its paths
+-- a type with arguments put in for the region parameters in each of its paths; an argument stands in no array type, so
+-- it has no own index that could be captured
 abbrev pub type_with : List Rpl → PlainType → PlainType
 type_with args (class number paths) = class number (map (substituted args) paths)
-type_with args (array elem rpl index) = array (type_with args elem) (substituted args rpl) index
+type_with args (array elem rpl named) = array (type_with args elem) (substituted args rpl) named
 type_with args t = t
 
--- the index name is written, and is this variable
-abbrev pub is_name : Option ℕ → ℕ → Bool
-is_name None v = false
-is_name (Some i) v = i == v
-
--- what takes the place of the index variable in one element, in a path and in a type; an array type inside that
--- has the same index name speaks of its own
+-- what takes the place of the own index of an array type, so many array types further in, in one element, in a path and
+-- in a type
 abbrev pub elem_at : ℕ → Elem → Elem → Elem
-elem_at i k (Var v) = cond (i == v) k (Var v)
-elem_at i k x = x
+elem_at depth k (At (Own d)) = cond (depth == d) k (At (Own d))
+elem_at depth k x = x
 
 abbrev pub path_at : ℕ → Elem → Rpl → Rpl
-path_at i k a = record { head = a.head; elems = map (elem_at i k) a.elems }
+path_at depth k a = record { head = a.head; elems = map (elem_at depth k) a.elems }
 
 abbrev pub type_at : ℕ → Elem → PlainType → PlainType
-type_at i k (class number paths) = class number (map (path_at i k) paths)
-type_at i k (array elem rpl index) =
-    cond (is_name index i) (array elem rpl index) (array (type_at i k elem) (path_at i k rpl) index)
-type_at i k t = t
+type_at depth k (class number paths) = class number (map (path_at depth k) paths)
+type_at depth k (array elem rpl named) = array (type_at (suc depth) k elem) (path_at (suc depth) k rpl) named
+type_at depth k t = t
 
 -- a path begins with the region parameter; a type has such a path
 abbrev pub has_param : ℕ → Rpl → Bool
@@ -64,49 +60,36 @@ has_param p a = same_head a.head (Param p)
 
 abbrev pub mentions_param : ℕ → PlainType → Bool
 mentions_param p (class number paths) = list_any (has_param p) paths
-mentions_param p (array elem rpl index) = has_param p rpl || mentions_param p elem
+mentions_param p (array elem rpl named) = has_param p rpl || mentions_param p elem
 mentions_param p t = false
 
 -- an array type whose element type mentions the parameter
 abbrev pub rigid_in_param : ℕ → PlainType → Bool
-rigid_in_param p (array elem rpl index) = mentions_param p elem
+rigid_in_param p (array elem rpl named) = mentions_param p elem
 rigid_in_param p t = false
 
--- the same for an index name
+-- the same for the own index of an array type, so many array types further in
 abbrev pub has_index : ℕ → Rpl → Bool
-has_index i a = list_any (λ x. same_elem x (Var i)) a.elems
+has_index depth a = list_any (λ x. same_elem x (At (Own depth))) a.elems
 
 abbrev pub mentions_index : ℕ → PlainType → Bool
-mentions_index i (class number paths) = list_any (has_index i) paths
-mentions_index i (array elem rpl index) = not (is_name index i) && (has_index i rpl || mentions_index i elem)
-mentions_index i t = false
+mentions_index depth (class number paths) = list_any (has_index depth) paths
+mentions_index depth (array elem rpl named) = has_index (suc depth) rpl || mentions_index (suc depth) elem
+mentions_index depth t = false
 
 abbrev pub rigid_in_index : ℕ → PlainType → Bool
-rigid_in_index i (array elem rpl index) = not (is_name index i) && mentions_index i elem
-rigid_in_index i t = false
+rigid_in_index depth (array elem rpl named) = mentions_index (suc depth) elem
+rigid_in_index depth t = false
 
--- the place of a variable under these index names, the outermost first: the index names are counted from the
--- inside, 0 for the innermost, and every other variable comes behind all of them
-abbrev pub place : List (Option ℕ) → ℕ → ℕ
-place names v = fold (λ before index. cond (is_name index v) 0 (suc before)) v names
+-- a type as if no index name were written
+abbrev pub unnamed : PlainType → PlainType
+unnamed (array elem rpl named) = array (unnamed elem) rpl false
+unnamed t = t
 
-abbrev pub nameless_elem : List (Option ℕ) → Elem → Elem
-nameless_elem names (Var v) = Var (place names v)
-nameless_elem names x = x
-
-abbrev pub nameless_path : List (Option ℕ) → Rpl → Rpl
-nameless_path names a = record { head = a.head; elems = map (nameless_elem names) a.elems }
-
--- a type with places in place of index names: types that differ in index names alone are one without them
-abbrev pub nameless : List (Option ℕ) → PlainType → PlainType
-nameless names (class number paths) = class number (map (nameless_path names) paths)
-nameless names (array elem rpl index) =
-    array (nameless (names ++ index ∷ []) elem) (nameless_path (names ++ index ∷ []) rpl) None
-nameless names t = t
-
--- the same type up to index names
+-- the same type: own indices are counted, so it doesn't matter how index names are spelt, or whether one that is
+-- mentioned nowhere is written
 abbrev pub SameType : PlainType → PlainType → Type 0
-SameType a b = nameless [] a ≡ nameless [] b
+SameType a b = unnamed a ≡ unnamed b
 
 -- the rows stand in the order of class numbers, one for a class at most
 abbrev pub Ordered : List Super → Type 0
@@ -147,10 +130,9 @@ abbrev pub below_class : List Super → ℕ → PlainType → PlainType → Bool
 below_class supers zero a b = class_within a b
 below_class supers (suc n) a b = class_within a b || option_map_or (λ t. below_class supers n t b) (parent_of supers a) false
 
--- the regions of the elements lie in the other's, and the element types are the same, up to the index name
-abbrev pub ArrayWithin : PlainType → Rpl → Option ℕ → PlainType → Rpl → Option ℕ → Type 0
-ArrayWithin elem rpl index elem' rpl' index' =
-    IsTrue (within (nameless_path (index ∷ []) rpl) (nameless_path (index' ∷ []) rpl')) × (nameless (index ∷ []) elem ≡ nameless (index' ∷ []) elem')
+-- the regions of the elements lie in the other's, and the element types are the same
+abbrev pub ArrayWithin : PlainType → Rpl → PlainType → Rpl → Type 0
+ArrayWithin elem rpl elem' rpl' = IsTrue (within rpl rpl') × SameType elem elem'
 
 -- the first type is a subtype of the second; where there is no cycle, no chain of superclasses has more steps than
 -- there are rows
@@ -160,7 +142,7 @@ Subtype supers boolean boolean = Unit {0}
 Subtype supers void void = Unit {0}
 Subtype supers null null = Unit {0}
 Subtype supers null (class c args) = Unit {0}
-Subtype supers null (array elem rpl index) = Unit {0}
+Subtype supers null (array elem rpl named) = Unit {0}
 Subtype supers (class c rs) (class d ss) = IsTrue (below_class supers (length supers) (class c rs) (class d ss))
-Subtype supers (array elem rpl index) (array elem' rpl' index') = ArrayWithin elem rpl index elem' rpl' index'
+Subtype supers (array elem rpl named) (array elem' rpl' named') = ArrayWithin elem rpl elem' rpl'
 Subtype supers a b = ⊥

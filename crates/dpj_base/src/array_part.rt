@@ -1,5 +1,6 @@
 ghost use Rattle.std.specs.Prelude.{◌≡◌, ◌↔◌, IsTrue, IfOk};
 
+use crate::effect::Access;
 use crate::memory::NoMemory;
 use crate::plain::Plain;
 use crate::region::Rpl;
@@ -14,15 +15,14 @@ pub struct Part {
     pub len: u32,
 }
 
-/// A read or a write through a part of an array.
+/// An access through a part of an array.
 #[derive(Debug, Drop)]
 pub struct PartUse {
     /// The number of the part's view.
     pub view: u32,
     /// The region of the array.
     pub rpl: Rpl,
-    /// A write; else a read.
-    pub write: bool,
+    pub access: Access,
 }
 
 impl Plain for PartUse {
@@ -30,11 +30,11 @@ impl Plain for PartUse {
         Ok(PartUse {
             view: self.view,
             rpl: self.rpl.copy(alloc)?,
-            write: self.write,
+            access: self.access,
         })
     }
 
     fn same(&self, other: &PartUse) -> bool {
-        self.view == other.view && self.rpl.same(&other.rpl) && self.write == other.write
+        self.view == other.view && self.rpl.same(&other.rpl) && self.access == other.access
     }
 }

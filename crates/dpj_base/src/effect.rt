@@ -5,11 +5,17 @@ use crate::plain::Plain;
 use crate::region::Rpl;
 use std::alloc::Global;
 
-/// A read or a write of the regions that a path stands for.
+/// What is done to a place in memory.
+#[derive(Clone, Copy, Debug, PartialEq, Eq)]
+pub enum Access {
+    Read,
+    Write,
+}
+
+/// An access to the regions that a path stands for.
 #[derive(Debug, Drop)]
 pub struct Effect {
-    /// A write; else a read.
-    pub write: bool,
+    pub access: Access,
     /// Marked: the access stands inside an atomic block.
     pub atomic: bool,
     pub rpl: Rpl,
@@ -25,14 +31,14 @@ pub struct Constraint {
 impl Plain for Effect {
     fn copy(&self, alloc: Global) -> Result<Effect, NoMemory> {
         Ok(Effect {
-            write: self.write,
+            access: self.access,
             atomic: self.atomic,
             rpl: self.rpl.copy(alloc)?,
         })
     }
 
     fn same(&self, other: &Effect) -> bool {
-        self.write == other.write && self.atomic == other.atomic && self.rpl.same(&other.rpl)
+        self.access == other.access && self.atomic == other.atomic && self.rpl.same(&other.rpl)
     }
 }
 

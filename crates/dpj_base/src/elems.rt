@@ -6,15 +6,27 @@ use smallvec::SmallVec;
 use std::alloc::Global;
 use std::marker::Model;
 
+/// An index in a region path.
+#[derive(Clone, Copy, Debug, PartialEq, Eq)]
+pub enum Index {
+    /// A whole number.
+    Literal(i32),
+    /// A local that keeps its value, by its slot.
+    Variable(u32),
+    /// The renamed copy of a loop variable: what the variable of that slot is in another iteration.
+    Renamed(u32),
+    /// The index name of an array type around, counted from the inside: 0 is the innermost. So types that differ
+    /// in the spelling of index names alone are equal, and nothing that is put into a type is captured by one.
+    Own(u32),
+}
+
 /// One element of a region path.
 #[derive(Clone, Copy, Debug, PartialEq, Eq)]
 pub enum Elem {
     /// A declared region name, by its number.
     Name(u32),
-    /// The index `[k]`, a whole number.
-    Lit(i32),
-    /// The index `[v]`, a variable. The renamed copy of `Var(k)` is `Var(k + 2147483648)`.
-    Var(u32),
+    /// One index, as in `[k]`.
+    At(Index),
     /// The index `[?]`, which stands for any one index.
     Any,
     /// `*`, which stands for any sequence of elements.

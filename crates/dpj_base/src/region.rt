@@ -21,7 +21,7 @@ pub struct Rpl {
 }
 
 /// A concrete region: the path from the root to one region of a run. Its elements are names, whole numbers
-/// and made local regions; the region of an array has `Var(0)` wherever its index goes in.
+/// and made local regions; the region of an array has its own index, `At(Own(0))`, wherever its index goes in.
 #[derive(Debug, Drop)]
 pub struct Region {
     pub elems: Elems,

@@ -20,12 +20,13 @@ pub enum Ty {
         class: u32,
         args: Items<Rpl>,
     },
-    /// An array whose element `k` lies in `rpl` with `k` for the index name. Where no index name is
-    /// written, `index` is None.
+    /// An array whose element `k` lies in `rpl` with `k` in the place of the array's own index. In the element
+    /// type too this index is `Own(0)`, and those of array types around it are counted on from there.
     Array {
         elem: Boxed<Ty>,
         rpl: Rpl,
-        index: Option<u32>,
+        /// Whether an index name is written. Types that differ in this alone are the same.
+        named: bool,
     },
 }
 
@@ -47,10 +48,10 @@ impl Plain for Ty {
                 class: *class,
                 args: args.copy(alloc)?,
             }),
-            Ty::Array { elem, rpl, index } => Ok(Ty::Array {
+            Ty::Array { elem, rpl, named } => Ok(Ty::Array {
                 elem: Boxed::new(alloc, elem.get().copy(alloc)?)?,
                 rpl: rpl.copy(alloc)?,
-                index: *index,
+                named: *named,
             }),
         }
     }
@@ -69,13 +70,13 @@ impl Plain for Ty {
                 },
             ) => *class == *other_class && args.same(other_args),
             (
-                Ty::Array { elem, rpl, index },
+                Ty::Array { elem, rpl, named },
                 Ty::Array {
                     elem: other_elem,
                     rpl: other_rpl,
-                    index: other_index,
+                    named: other_named,
                 },
-            ) => elem.get().same(other_elem.get()) && rpl.same(other_rpl) && *index == *other_index,
+            ) => elem.get().same(other_elem.get()) && rpl.same(other_rpl) && *named == *other_named,
             _ => false,
         }
     }
