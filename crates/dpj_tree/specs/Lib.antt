@@ -1,6 +1,5 @@
 pub mod Plain
 pub mod Names
-pub mod Numbers
 pub mod Shaped
 pub mod Targets
 pub mod Nd

@@ -9,7 +9,7 @@ use Rattle.dpj_tree.specs.Plain.{PlainStmt, statement, StmtForm, block, declare,
 
 abbrev mutual
   pub holds_nd : PlainStmt → Bool
-  holds_nd (statement node place form) = form_holds_nd form
+  holds_nd (statement place form) = form_holds_nd form
 
   pub form_holds_nd : StmtForm → Bool
   form_holds_nd (block all) = some_holds_nd all
