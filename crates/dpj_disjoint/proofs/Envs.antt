@@ -15,11 +15,12 @@ use Rattle.dpj_base.specs.declared.region.Head.{Head}
 use Rattle.dpj_base.specs.declared.region.Head.TheVariants.{Root, Param}
 use Rattle.dpj_base.specs.declared.region.Rpl.{Rpl}
 use Rattle.dpj_base.specs.declared.effect.Constraint.{Constraint}
-use Rattle.dpj_base.specs.Regions.{is_star, is_local, is_index, same_head, is_root, elem_within, begins_with_star, heads_within, within}
+use Rattle.dpj_base.specs.Regions.{is_star, is_local, is_index, same_head, is_root, elem_within, begins_with_star, heads_within, within, argument, substituted}
 use Rattle.dpj_base.specs.Apart.{distinct_index, distinct, apart_front, solid, shorter, apart_as_shorter, apart_by, apart_by_some, apart}
-use Rattle.dpj_base.specs.Matching.{is_plain, all_plain, Env, IsEnv, Holds, number_of, put_elem, put_in, head_region, Fits, FitsAll, Matches, MatchNoCommon}
+use Rattle.dpj_base.specs.Matching.{is_plain, all_plain, Env, IsEnv, Holds, number_of, put_elem, put_in, head_region, Fits, FitsAll, Matches, MatchNoCommon, with_regions}
 use Rattle.dpj_regions.proofs.Inclusion.{Covers, none, one, stop, skip, Covers-from, Covers-to, star_is, elem_within-cases, elem_within-same, elem_within-refl, elem_within-any}
 use Rattle.dpj_disjoint.proofs.Lists.{front-step, rev-cons, solid-cons, solid-one, solid-length, shorter-parts, shorter-from}
+use Rattle.dpj_regions.proofs.Putting.{substitution_puts_in}
 use Rattle.dpj_regions.proofs.Same.{same_head-is, same_head-refl}
 use Rattle.dpj_disjoint.proofs.Paths.{rule_of, by_rule, apart-within}
 
@@ -446,3 +447,10 @@ no_common given env v a b h = λ r m n.
 
 pub stays_apart : (given : List Constraint) (env : Env) → IsEnv given env → (a b p q : Rpl) → apart given a b ≡ true → within p (put_in env a) ≡ true → within q (put_in env b) ≡ true → apart [] p q ≡ true
 stays_apart given env v a b p q h w u = apart-within [] p (put_in env a) q (put_in env b) w u (put-apart given env v a b h)
+
+pub constraint_carried : (given : List Constraint) (env : Env) → IsEnv given env → (args : List Rpl) (c : Constraint) → apart given (substituted args c.left) (substituted args c.right) ≡ true → Holds (with_regions env (λ p. (put_in env (argument args p)).elems)) c
+constraint_carried given env v args c h =
+    let other = with_regions env (λ (p : ℕ). (put_in env (argument args p)).elems) in
+    ap (λ z. apart [] z (put_in other c.right)) (sym (substitution_puts_in env args c.left))
+    ∙ ap (λ z. apart [] (put_in env (substituted args c.left)) z) (sym (substitution_puts_in env args c.right))
+    ∙ put-apart given env v (substituted args c.left) (substituted args c.right) h

@@ -75,7 +75,7 @@ module _ (env : Env) (g : ℕ → List Elem) where
   FitsAll-no_regions [] r f = f
   FitsAll-no_regions (x ∷ a) r f = (f.0, f.1, f.2, fits-no_regions x f.0 f.3, FitsAll-no_regions a f.1 f.4)
 
-  put_elem-regions : (x : Elem) → put_elem env x ≡ put_elem (with_regions env g) x
+  pub put_elem-regions : (x : Elem) → put_elem env x ≡ put_elem (with_regions env g) x
   put_elem-regions (Name n) = refl
   put_elem-regions (At i) = ap (λ k. At (Literal k)) (number-regions i)
   put_elem-regions Any = refl
