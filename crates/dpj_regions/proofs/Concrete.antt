@@ -90,7 +90,8 @@ region-plain : (given : List Constraint) (env : Env) → IsEnv given env → (h 
 region-plain given env v Root = refl
 region-plain given env v (Param p) = v.regions p
 
-pub within_matches : (given : List Constraint) (env : Env) → IsEnv given env → (a : Rpl) (r : List Elem) → all_concrete r ≡ true → within (record { head = Root; elems = r }) (put_in env a) ≡ true → Matches env a r
+pub within_matches : (given : List Constraint) (env : Env) → IsEnv given env → (a : Rpl) (r : List Elem) → all_concrete r ≡ true →
+    within (record { head = Root; elems = r }) (put_in env a) ≡ true → Matches env a r
 unfolding within put_in Matches
 within_matches given env v a r c w =
     let reg = head_region env a.head in

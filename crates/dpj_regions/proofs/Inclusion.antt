@@ -138,7 +138,8 @@ starts-within (y ∷ b) (x ∷ a) h k =
     absurd (false≢true (sym (elem_within-star x y p.0 s) ∙ h)))
     (cases_Bool (is_star y))
 
-heads_within-trans : (h k m : Head) (b c : List Elem) → heads_within h k b ≡ true → heads_within k m c ≡ true → covers_elems c b ≡ true → heads_within h m c ≡ true
+heads_within-trans : (h k m : Head) (b c : List Elem) → heads_within h k b ≡ true → heads_within k m c ≡ true → covers_elems c b ≡ true →
+    heads_within h m c ≡ true
 heads_within-trans Root Root m b c e f w = f
 heads_within-trans Root (Param q) m b c e f w = absurd (false≢true e)
 heads_within-trans (Param p) (Param q) Root b c e f w = f

@@ -1,5 +1,6 @@
 -- What a path matches depends on what occurs in it alone, and so an index put in, a copy and a known argument are read back.
-use Rattle.std.proofs.Common.{◌≡◌, ◌≢◌, ◌↔◌, ◌==◌, ◌&&◌, ℕ, ℤ, zero, suc, pos, negsuc, Bool, true, false, cond, IsTrue, List, [], ◌∷◌, ◌++◌, map, refl, sym, ap, ◌∙◌, subst, ⊎_elim, append_assoc}
+use Rattle.std.proofs.Common.{◌≡◌, ◌≢◌, ◌↔◌, ◌==◌, ◌&&◌, ℕ, ℤ, zero, suc, pos, negsuc, Bool, true, false, cond, IsTrue, List, [], ◌∷◌, ◌++◌, map, refl, sym, ap}
+use Rattle.std.proofs.Common.{◌∙◌, subst, ⊎_elim, append_assoc}
 use Rattle.std.specs.Prelude.{All}
 use Rattle.std.proofs.lemmas.Bool.{and_parts, false≢true, cases_Bool, eqb-true, cond-true, cond-false}
 use Rattle.std.proofs.lemmas.List.{append-nil}
@@ -51,21 +52,25 @@ matches_by_what_occurs env other a e r = (agree-matches env other a e r, agree-m
 
 -- an element put in for each of a path
 
-FitsAll-onto : (env other : Env) (f : Elem → Elem) → ((x : Elem) (r : List Elem) → Fits other x r → Fits env (f x) r) → (a r : List Elem) → FitsAll other a r → FitsAll env (map f a) r
+FitsAll-onto : (env other : Env) (f : Elem → Elem) → ((x : Elem) (r : List Elem) → Fits other x r → Fits env (f x) r) → (a r : List Elem) → FitsAll other a r →
+    FitsAll env (map f a) r
 FitsAll-onto env other f h [] r m = m
 FitsAll-onto env other f h (x ∷ a) r m = (m.0, m.1, m.2, h x m.0 m.3, FitsAll-onto env other f h a m.1 m.4)
 
-FitsAll-from : (env other : Env) (f : Elem → Elem) → ((x : Elem) (r : List Elem) → Fits env (f x) r → Fits other x r) → (a r : List Elem) → FitsAll env (map f a) r → FitsAll other a r
+FitsAll-from : (env other : Env) (f : Elem → Elem) → ((x : Elem) (r : List Elem) → Fits env (f x) r → Fits other x r) → (a r : List Elem) →
+    FitsAll env (map f a) r → FitsAll other a r
 FitsAll-from env other f h [] r m = m
 FitsAll-from env other f h (x ∷ a) r m = (m.0, m.1, m.2, h x m.0 m.3, FitsAll-from env other f h a m.1 m.4)
 
 -- the own index of an array type
 
-own-onto : (env : Env) (d e : ℕ) (x : Elem) (k : ℤ) (r : List Elem) (b : Bool) → Fits env x (At (Literal k) ∷ []) → r ≡ At (Literal (cond b k (env.own e))) ∷ [] → Fits env (cond b x (At (Own e))) r
+own-onto : (env : Env) (d e : ℕ) (x : Elem) (k : ℤ) (r : List Elem) (b : Bool) → Fits env x (At (Literal k) ∷ []) →
+    r ≡ At (Literal (cond b k (env.own e))) ∷ [] → Fits env (cond b x (At (Own e))) r
 own-onto env d e x k r true h f = subst (Fits env x) (sym f) h
 own-onto env d e x k r false h f = f
 
-fits-onto : (env : Env) (d : ℕ) (x : Elem) (k : ℤ) → Fits env x (At (Literal k) ∷ []) → (y : Elem) (r : List Elem) → Fits (with_own env d k) y r → Fits env (elem_at d x y) r
+fits-onto : (env : Env) (d : ℕ) (x : Elem) (k : ℤ) → Fits env x (At (Literal k) ∷ []) → (y : Elem) (r : List Elem) → Fits (with_own env d k) y r →
+    Fits env (elem_at d x y) r
 fits-onto env d x k h (At (Own e)) r f = own-onto env d e x k r (d == e) h f
 fits-onto env d x k h (At (Literal j)) r f = f
 fits-onto env d x k h (At (Variable v)) r f = f
@@ -79,12 +84,14 @@ own-region : (env : Env) (d : ℕ) (k : ℤ) (h : Head) → head_region (with_ow
 own-region env d k Root = refl
 own-region env d k (Param p) = refl
 
-pub own_index_matches_more : (env : Env) (a : Rpl) (d : ℕ) (x : Elem) (k : ℤ) → Fits env x (At (Literal k) ∷ []) → (r : List Elem) → Matches (with_own env d k) a r → Matches env (path_at d x a) r
+pub own_index_matches_more : (env : Env) (a : Rpl) (d : ℕ) (x : Elem) (k : ℤ) → Fits env x (At (Literal k) ∷ []) → (r : List Elem) →
+    Matches (with_own env d k) a r → Matches env (path_at d x a) r
 unfolding Matches
 own_index_matches_more env a d x k h r m =
     (m.0, m.1 ∙ ap (λ z. z ++ m.0) (own-region env d k a.head), FitsAll-onto env (with_own env d k) (elem_at d x) (fits-onto env d x k h) a.elems m.0 m.2)
 
-own-from : (env : Env) (e : ℕ) (x : Index) (r : List Elem) (b : Bool) → Fits env (cond b (At x) (At (Own e))) r → r ≡ At (Literal (cond b (number_of env x) (env.own e))) ∷ []
+own-from : (env : Env) (e : ℕ) (x : Index) (r : List Elem) (b : Bool) → Fits env (cond b (At x) (At (Own e))) r →
+    r ≡ At (Literal (cond b (number_of env x) (env.own e))) ∷ []
 own-from env e x r true f = f
 own-from env e x r false f = f
 
@@ -104,7 +111,8 @@ own_index_read env a d x r m =
     let k = number_of env x in
     (m.0, m.1 ∙ ap (λ z. z ++ m.0) (sym (own-region env d k a.head)), FitsAll-from env (with_own env d k) (elem_at d (At x)) (fits-from env d x) a.elems m.0 m.2)
 
-pub own_index_puts_in : (env : Env) (a : Rpl) (d : ℕ) (x : Index) (r : List Elem) → Matches env (path_at d (At x) a) r ↔ Matches (with_own env d (number_of env x)) a r
+pub own_index_puts_in : (env : Env) (a : Rpl) (d : ℕ) (x : Index) (r : List Elem) →
+    Matches env (path_at d (At x) a) r ↔ Matches (with_own env d (number_of env x)) a r
 own_index_puts_in env a d x r = (own_index_read env a d x r, own_index_matches_more env a d (At x) (number_of env x) refl r)
 
 -- the renamed copy of a variable
@@ -160,7 +168,8 @@ renamed_matches env a v r =
 Known : Env → List Rpl → (ℕ → List Elem) → Head → Type 0
 Known env args regions h = (p : ℕ) → h ≡ Param p → (all_specified (argument args p).elems ≡ true) × Matches env (argument args p) (regions p)
 
-known : (env : Env) (args : List Rpl) (regions : ℕ → List Elem) (h : Head) (e r : List Elem) → Known env args regions h → Matches env (put_at h e args) r → Matches (with_regions env regions) (record { head = h; elems = e }) r
+known : (env : Env) (args : List Rpl) (regions : ℕ → List Elem) (h : Head) (e r : List Elem) → Known env args regions h → Matches env (put_at h e args) r →
+    Matches (with_regions env regions) (record { head = h; elems = e }) r
 unfolding Matches Known
 known env args regions Root e r k m = (m.0, m.1, FitsAll-agree env (with_regions env regions) e m.0 (λ i d lt. put_elem-regions env regions _) m.2)
 known env args regions (Param p) e r k m =
@@ -175,7 +184,9 @@ known env args regions (Param p) e r k m =
       FitsAll-agree env (with_regions env regions) e s.1 (λ i d lt. put_elem-regions env regions _) s.4,
     )
 
-pub known_argument_matches : (env : Env) (args : List Rpl) (a : Rpl) (regions : ℕ → List Elem) → ((p : ℕ) → a.head ≡ Param p → (all_specified (argument args p).elems ≡ true) × Matches env (argument args p) (regions p)) → (r : List Elem) → Matches env (substituted args a) r → Matches (with_regions env regions) a r
+pub known_argument_matches : (env : Env) (args : List Rpl) (a : Rpl) (regions : ℕ → List Elem) →
+    ((p : ℕ) → a.head ≡ Param p → (all_specified (argument args p).elems ≡ true) × Matches env (argument args p) (regions p)) → (r : List Elem) →
+    Matches env (substituted args a) r → Matches (with_regions env regions) a r
 unfolding substituted Known
 known_argument_matches env args a regions k r m = known env args regions a.head a.elems r k m
 
@@ -240,7 +251,9 @@ holds-copy env v j c h k =
     ∙ ap (λ z. apart [] (put_in env c.left) z) (sym (put_in-copy env v j c.right p.1))
     ∙ k
 
-pub copies_exist : (given : List Constraint) (env : Env) → ((p : ℕ) → IsTrue (all_plain (env.region p))) → ((a b c d : ℕ) → env.made a b ≡ env.made c d → (a ≡ c) × (b ≡ d)) → All (Holds env) given → All HasNoCopies given → (v : ℕ) (j : ℤ) → env.index v ≢ j → IsEnv given (with_copy env v j)
+pub copies_exist : (given : List Constraint) (env : Env) → ((p : ℕ) → IsTrue (all_plain (env.region p))) →
+    ((a b c d : ℕ) → env.made a b ≡ env.made c d → (a ≡ c) × (b ≡ d)) → All (Holds env) given → All HasNoCopies given → (v : ℕ) (j : ℤ) → env.index v ≢ j →
+    IsEnv given (with_copy env v j)
 copies_exist given env plain made hold none v j ne = record {
   regions = plain;
   copies = λ w. copy-apart env v w j ne;

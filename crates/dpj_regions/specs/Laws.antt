@@ -9,7 +9,8 @@ use Rattle.dpj_base.specs.declared.region.Head.TheVariants.{Param}
 use Rattle.dpj_base.specs.declared.region.Rpl.{Rpl}
 use Rattle.dpj_base.specs.declared.effect.Constraint.{Constraint}
 use Rattle.dpj_base.specs.Regions.{same_elem, fully_specified, within, argument, substituted, generalised}
-use Rattle.dpj_base.specs.Matching.{all_plain, all_concrete, Env, IsEnv, Holds, number_of, put_elem, put_in, head_region, Fits, Matches, MatchesMore, with_regions, with_index}
+use Rattle.dpj_base.specs.Matching.{all_plain, all_concrete, Env, IsEnv, Holds, number_of, put_elem, put_in, head_region, Fits, Matches, MatchesMore}
+use Rattle.dpj_base.specs.Matching.{with_regions, with_index}
 use Rattle.dpj_base.specs.Branches.{renamed_rpl}
 use Rattle.dpj_base.specs.Types.{path_at}
 
@@ -40,11 +41,13 @@ EnvironmentsExist = (env : Env) × IsEnv [] env
 -- a path with its argument put in matches what the path matches where its parameter stands for some region
 -- that the argument matches
 abbrev pub SubstitutionMatches : Type 0
-SubstitutionMatches = (env : Env) (args : List Rpl) (a : Rpl) (r : List Elem) → Matches env (substituted args a) r ↔ ((regions : ℕ → List Elem) × ((p : ℕ) → Matches env (argument args p) (regions p)) × Matches (with_regions env regions) a r)
+SubstitutionMatches = (env : Env) (args : List Rpl) (a : Rpl) (r : List Elem) →
+    Matches env (substituted args a) r ↔ ((regions : ℕ → List Elem) × ((p : ℕ) → Matches env (argument args p) (regions p)) × Matches (with_regions env regions) a r)
 
 -- the environment put in behind the arguments is the environment in which the parameters stand for them
 abbrev pub SubstitutionPutsIn : Type 0
-SubstitutionPutsIn = (env : Env) (args : List Rpl) (a : Rpl) → put_in env (substituted args a) ≡ put_in (with_regions env (λ p. (put_in env (argument args p)).elems)) a
+SubstitutionPutsIn = (env : Env) (args : List Rpl) (a : Rpl) →
+    put_in env (substituted args a) ≡ put_in (with_regions env (λ p. (put_in env (argument args p)).elems)) a
 
 -- a general path matches what the path matches, whatever number the variable has
 abbrev pub GeneralMatchesMore : Type 0
@@ -52,7 +55,8 @@ GeneralMatchesMore = (env : Env) (a : Rpl) (v : ℕ) (k : ℤ) (r : List Elem) �
 
 -- where the variable stands at most once, the general path matches nothing else
 abbrev pub GeneralMatchesNoMore : Type 0
-GeneralMatchesNoMore = (env : Env) (a : Rpl) (v : ℕ) → count_by (λ x. same_elem x (At (Variable v))) a.elems ≤ 1 → (r : List Elem) → Matches env (generalised v a) r → (k : ℤ) × Matches (with_index env v k) a r
+GeneralMatchesNoMore = (env : Env) (a : Rpl) (v : ℕ) → count_by (λ x. same_elem x (At (Variable v))) a.elems ≤ 1 → (r : List Elem) →
+    Matches env (generalised v a) r → (k : ℤ) × Matches (with_index env v k) a r
 
 -- what a general path matches doesn't depend on the variable
 abbrev pub GeneralForgets : Type 0
@@ -77,7 +81,8 @@ with_own env d k = record env { own = λ e. cond (d == e) k (env.own e) }
 
 -- an element that may be the number k, put in for an own index, matches what the path matches where that index is k
 abbrev pub OwnIndexMatchesMore : Type 0
-OwnIndexMatchesMore = (env : Env) (a : Rpl) (d : ℕ) (x : Elem) (k : ℤ) → Fits env x (At (Literal k) ∷ []) → (r : List Elem) → Matches (with_own env d k) a r → Matches env (path_at d x a) r
+OwnIndexMatchesMore = (env : Env) (a : Rpl) (d : ℕ) (x : Elem) (k : ℤ) → Fits env x (At (Literal k) ∷ []) → (r : List Elem) → Matches (with_own env d k) a r →
+    Matches env (path_at d x a) r
 
 -- an index put in for an own index matches exactly what the path matches where the own index is its number
 abbrev pub OwnIndexPutsIn : Type 0
@@ -90,7 +95,8 @@ RenamedMatches = (env : Env) (a : Rpl) (v : ℕ) (r : List Elem) → Matches env
 -- where the argument for the parameter at the path's head is fully specified and matches its region, the path matches
 -- what it matches with the argument put in
 abbrev pub KnownArgumentMatches : Type 0
-KnownArgumentMatches = (env : Env) (args : List Rpl) (a : Rpl) (regions : ℕ → List Elem) → ((p : ℕ) → a.head ≡ Param p → IsTrue (fully_specified (argument args p)) × Matches env (argument args p) (regions p)) →
+KnownArgumentMatches = (env : Env) (args : List Rpl) (a : Rpl) (regions : ℕ → List Elem) →
+    ((p : ℕ) → a.head ≡ Param p → IsTrue (fully_specified (argument args p)) × Matches env (argument args p) (regions p)) →
     (r : List Elem) → Matches env (substituted args a) r → Matches (with_regions env regions) a r
 
 -- a parameter by itself
@@ -128,5 +134,6 @@ with_copy env v j = record env { renamed = λ w. cond (v == w) j (another (env.i
 
 -- what holds in a run, where copies have no numbers, is an environment for two different iterations of a loop
 abbrev pub CopiesExist : Type 0
-CopiesExist = (given : List Constraint) (env : Env) → ((p : ℕ) → IsTrue (all_plain (env.region p))) → ((a b c d : ℕ) → env.made a b ≡ env.made c d → (a ≡ c) × (b ≡ d)) → All (Holds env) given → All HasNoCopies given →
+CopiesExist = (given : List Constraint) (env : Env) → ((p : ℕ) → IsTrue (all_plain (env.region p))) →
+    ((a b c d : ℕ) → env.made a b ≡ env.made c d → (a ≡ c) × (b ≡ d)) → All (Holds env) given → All HasNoCopies given →
     (v : ℕ) (j : ℤ) → env.index v ≢ j → IsEnv given (with_copy env v j)

@@ -1,6 +1,9 @@
 //! Laws of region paths, each the clause of a function that does nothing.
 
-ghost use Rattle.dpj_regions.specs.Laws.{EnvironmentsExist, MatchedIsConcrete, SpecifiedMatchesOne, IncludedMatchesLess, InclusionIsReflexive, InclusionIsTransitive, SubstitutionMatches, SubstitutionPutsIn, GeneralMatchesMore, GeneralMatchesNoMore, GeneralForgets, IncludedInGeneral, MatchesByWhatOccurs, OwnIndexMatchesMore, OwnIndexPutsIn, RenamedMatches, KnownArgumentMatches, ParameterMatchesItself, OwnParametersPutIn, CopiesExist};
+ghost use Rattle.dpj_regions.specs.Laws.{EnvironmentsExist, MatchedIsConcrete, SpecifiedMatchesOne, IncludedMatchesLess, InclusionIsReflexive};
+ghost use Rattle.dpj_regions.specs.Laws.{InclusionIsTransitive, SubstitutionMatches, SubstitutionPutsIn, GeneralMatchesMore, GeneralMatchesNoMore};
+ghost use Rattle.dpj_regions.specs.Laws.{GeneralForgets, IncludedInGeneral, MatchesByWhatOccurs, OwnIndexMatchesMore, OwnIndexPutsIn, RenamedMatches};
+ghost use Rattle.dpj_regions.specs.Laws.{KnownArgumentMatches, ParameterMatchesItself, OwnParametersPutIn, CopiesExist};
 
 /// What paths match are concrete regions, a fully specified path matches one, and it depends on what occurs in the
 /// path alone.
