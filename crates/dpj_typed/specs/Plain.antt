@@ -4,7 +4,6 @@ use Rattle.dpj_base.specs.declared.effect.Constraint.{Constraint}
 use Rattle.dpj_base.specs.declared.effect.Effect.{Effect}
 use Rattle.dpj_base.specs.declared.place.Place.{Place}
 use Rattle.dpj_base.specs.declared.region.Rpl.{Rpl}
-use Rattle.dpj_base.specs.declared.ty.Ty.{Ty}
 use Rattle.dpj_base.specs.Types.{PlainType, plain_type}
 use Rattle.dpj_typed.specs.declared.expr.BinaryOp.{BinaryOp}
 use Rattle.dpj_typed.specs.declared.expr.Expr.{Expr, fold-Expr}
@@ -15,7 +14,6 @@ use Rattle.dpj_typed.specs.declared.program.Field.{Field}
 use Rattle.dpj_typed.specs.declared.program.Member.{Member}
 use Rattle.dpj_typed.specs.declared.program.Parent.{Parent}
 use Rattle.dpj_typed.specs.declared.program.Program.{Program}
-use Rattle.dpj_typed.specs.declared.program.RegionName.{RegionName}
 use Rattle.dpj_typed.specs.declared.stmt.Forking.{Forking}
 use Rattle.dpj_typed.specs.declared.stmt.PartSource.{PartSource}
 use Rattle.dpj_typed.specs.declared.stmt.PartSource.TheVariants as source
