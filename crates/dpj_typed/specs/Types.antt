@@ -10,7 +10,7 @@ use Rattle.dpj_base.specs.declared.region.Rpl.{Rpl}
 use Rattle.dpj_base.specs.Apart.{apart}
 use Rattle.dpj_base.specs.Branches.{atomic_path}
 use Rattle.dpj_base.specs.Regions.{substituted, fully_specified, argument, within}
-use Rattle.dpj_base.specs.Types.{PlainType, int, boolean, void, null, class, array, all_within, SameType, mentions_param, rigid_in_param}
+use Rattle.dpj_base.specs.Types.{PlainType, int, boolean, void, null, class, array, all_within, SameType, mentions_param, rigid_in_param, has_index, mentions_index}
 use Rattle.dpj_typed.specs.Plain.{PlainProgram, PlainClass, PlainParent}
 use Rattle.dpj_typed.specs.Scope.{Scope, constant, class_at, parent_of, atomic_in}
 
@@ -52,6 +52,10 @@ pub record GoodArgs (P : PlainProgram) (L : Scope) (depth : ℕ) (params : List 
 abbrev pub IsFlat : PlainType → Type 0
 IsFlat t = (t ≡ int) ⊎ (t ≡ boolean)
 
+-- an array type without an index name speaks of no index of its own
+abbrev pub SpeaksOfNone : Rpl → PlainType → Type 0
+SpeaksOfNone a t = (has_index 0 a ≡ false) × (mentions_index 0 t ≡ false)
+
 -- the type of a value, so many array types inside
 abbrev pub GoodType : PlainProgram → Scope → ℕ → PlainType → Type 0
 GoodType P L depth int = Unit {0}
@@ -60,7 +64,8 @@ GoodType P L depth void = ⊥
 GoodType P L depth null = ⊥
 GoodType P L depth (class c args) = (k : PlainClass) × (class_at P c ≡ Some k) × GoodArgs P L depth k.params k.given [] args
 -- only an array of ints or booleans that is no element itself may lie in a local region
-GoodType P L depth (array t a named) = (GoodPath P L (suc depth) a ⊎ (LocalPath P L 1 a × IsFlat t × (depth ≡ 0))) × GoodType P L (suc depth) t
+GoodType P L depth (array t a named) =
+    (GoodPath P L (suc depth) a ⊎ (LocalPath P L 1 a × IsFlat t × (depth ≡ 0))) × GoodType P L (suc depth) t × (named ≡ false → SpeaksOfNone a t)
 
 -- a value of the first type may stand where one of the second is asked for
 pub data Subtype (P : PlainProgram) : PlainType → PlainType → Type 0 where
