@@ -1,5 +1,7 @@
 pub mod Effects
+pub mod Laws
 pub mod Plain
+pub mod Samples
 pub mod Scope
 pub mod Statements
 pub mod Table

@@ -64,23 +64,23 @@ mutual
     literal_null : {at : Place} → Has P L (typed at null form.null) []
     read_local : {at : Place} {x : ℕ} {t : PlainType} → Holds (L.local x) t → Has P L (typed at t (form.local x)) []
     -- e.f: reads the field's region
-    read_field : {at : Place} {e : TypedExpr} {c k : ℕ} {args : List Rpl} {f : PlainField} {E : List Own} →
-        Has P L e E → type_of e ≡ class c args → field_at P c k ≡ Some f → Readable args f.ty →
-        Has P L (typed at (type_with args f.ty) (form.field e c k)) (E ++ does (reads (substituted args f.region)) ∷ [])
+    read_field : {at : Place} {t : PlainType} {e : TypedExpr} {c k : ℕ} {args : List Rpl} {f : PlainField} {E : List Own} →
+        Has P L e E → type_of e ≡ class c args → field_at P c k ≡ Some f → Readable args f.ty → t ≡ type_with args f.ty →
+        Has P L (typed at t (form.field e c k)) (E ++ does (reads (substituted args f.region)) ∷ [])
     -- a[i]: reads the array's region at the index; at one that isn't known the element's type may not be rigid in it
-    read_element : {at : Place} {a i : TypedExpr} {t : PlainType} {rpl : Rpl} {named : Bool} {E F : List Own} →
+    read_element : {at : Place} {u : PlainType} {a i : TypedExpr} {t : PlainType} {rpl : Rpl} {named : Bool} {E F : List Own} →
         Has P L a E → type_of a ≡ array t rpl named → Has P L i F → type_of i ≡ int →
-        (IsTrue (is_any (index_elem L i)) → rigid_in_index 0 t ≡ false) →
-        Has P L (typed at (type_at 0 (index_elem L i) t) (form.element a i)) (E ++ (F ++ does (reads (path_at 0 (index_elem L i) rpl)) ∷ []))
+        (IsTrue (is_any (index_elem L i)) → rigid_in_index 0 t ≡ false) → u ≡ type_at 0 (index_elem L i) t →
+        Has P L (typed at u (form.element a i)) (E ++ (F ++ does (reads (path_at 0 (index_elem L i) rpl)) ∷ []))
     length_of_array : {at : Place} {a : TypedExpr} {t : PlainType} {rpl : Rpl} {named : Bool} {E : List Own} →
         Has P L a E → type_of a ≡ array t rpl named → Has P L (typed at int (form.array_length a)) E
     -- e.<regions>m(..): the member in the row, seen through the receiver's class; it does what its summary says
-    call_method : {at : Place} {e : TypedExpr} {c r n : ℕ} {args owned regions : List Rpl} {m : PlainMember} {es : TypedExprs} {E F : List Own} →
+    call_method : {at : Place} {t : PlainType} {e : TypedExpr} {c r n : ℕ} {args owned regions : List Rpl} {m : PlainMember} {es : TypedExprs} {E F : List Own} →
         Has P L e E → type_of e ≡ class c args → row_at P c r ≡ Some n → member_at P n ≡ Some m → Above P c args m.class owned →
         GoodArgs P L 0 m.params m.given owned regions → All (λ a. IsTrue (fully_specified a)) regions →
         All (Known (owned ++ regions)) m.formals → Readable (owned ++ regions) m.result →
-        Fit P L es (map (type_with (owned ++ regions)) m.formals) F → StaysCalm P L c r →
-        Has P L (typed at (type_with (owned ++ regions) m.result) (form.call e c r regions es)) (E ++ (F ++ summary_with (owned ++ regions) m.summary))
+        Fit P L es (map (type_with (owned ++ regions)) m.formals) F → StaysCalm P L c r → t ≡ type_with (owned ++ regions) m.result →
+        Has P L (typed at t (form.call e c r regions es)) (E ++ (F ++ summary_with (owned ++ regions) m.summary))
     -- new C<args>(): of a class without a constructor, and of one with
     create_object : {at : Place} {c : ℕ} {args : List Rpl} {k : PlainClass} →
         class_at P c ≡ Some k → GoodArgs P L 0 k.params k.given [] args → All (λ a. IsTrue (fully_specified a)) args → k.constructor ≡ None →
@@ -96,8 +96,8 @@ mutual
         Has P L (typed at (array t a named) (form.create_array n)) E
     negative : {at : Place} {e : TypedExpr} {E : List Own} → Has P L e E → type_of e ≡ int → Has P L (typed at int (form.unary Negate e)) E
     negation : {at : Place} {e : TypedExpr} {E : List Own} → Has P L e E → type_of e ≡ boolean → Has P L (typed at boolean (form.unary Not e)) E
-    operation : {at : Place} {o : BinaryOp} {a b : TypedExpr} {E F : List Own} →
-        Has P L a E → Has P L b F → Operands o (type_of a) (type_of b) → Has P L (typed at (result_of o) (form.binary o a b)) (E ++ F)
+    operation : {at : Place} {t : PlainType} {o : BinaryOp} {a b : TypedExpr} {E F : List Own} →
+        Has P L a E → Has P L b F → Operands o (type_of a) (type_of b) → t ≡ result_of o → Has P L (typed at t (form.binary o a b)) (E ++ F)
     conjunction : {at : Place} {a b : TypedExpr} {E F : List Own} →
         Has P L a E → type_of a ≡ boolean → Has P L b F → type_of b ≡ boolean → Has P L (typed at boolean (form.both a b)) (E ++ F)
     disjunction : {at : Place} {a b : TypedExpr} {E F : List Own} →
