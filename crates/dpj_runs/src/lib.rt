@@ -1,0 +1,2 @@
+//! The theory of runs.
+#![tactic(auto)]
