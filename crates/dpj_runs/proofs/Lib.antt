@@ -1,0 +1,15 @@
+pub mod Upto
+pub mod Mine
+pub mod Places
+pub mod Faithful
+pub mod Between
+pub mod Things
+pub mod Cells
+pub mod Compare
+pub mod Agreement
+pub mod Cost
+pub mod Sorted
+pub mod Blocks
+pub mod Standing
+pub mod Written
+pub mod Theorems

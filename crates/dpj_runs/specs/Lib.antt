@@ -6,3 +6,4 @@ pub mod Standing
 pub mod Order
 pub mod Schedules
 pub mod Meaning
+pub mod Laws

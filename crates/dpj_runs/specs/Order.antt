@@ -19,6 +19,34 @@ pub record Unordered (p q : Path) : Type 0 where
   pub p_is : p ≡ below_p ++ u ∷ above
   pub q_is : q ≡ below_q ++ v ∷ above
 
+-- where the events numbered k and l of tasks p and q stand to each other in every run: the one is before the other in their
+-- task, above a fork that the other is below, below a join that the other is behind, or below an earlier fork of one task
+pub data Before (p : Path) (k : ℕ) (q : Path) (l : ℕ) : Type 0 where
+  in_task : p ≡ q → k < l → Before p k q l
+  above_fork : (xs : Path) (u : ℕ × ℕ) → q ≡ xs ++ u ∷ p → k < u.0 → Before p k q l
+  below_join : (xs : Path) (u : ℕ × ℕ) → p ≡ xs ++ u ∷ q → u.0 < l → Before p k q l
+  across : (xs ys r : Path) (u v : ℕ × ℕ) → p ≡ xs ++ u ∷ r → q ≡ ys ++ v ∷ r → u.0 < v.0 → Before p k q l
+
+-- neither a begin nor a join
+pub record Passes (a : Action) : Type 0 where
+  pub not_join : a ≡ Join → ⊥
+  pub not_begin : (b : ℕ) → a ≡ Begin b → ⊥
+
+-- nor a fork
+abbrev pub IsPlain : Action → Type 0
+IsPlain (Do o) = Unit {0}
+IsPlain (End x) = Unit {0}
+IsPlain (Fork ts) = ⊥
+IsPlain (Begin b) = ⊥
+IsPlain Join = ⊥
+
+-- how two events of one run can stand to each other
+pub data Related (p : Path) (k : ℕ) (q : Path) (l : ℕ) : Type 0 where
+  one : p ≡ q → k ≡ l → Related p k q l
+  first : Before p k q l → Related p k q l
+  second : Before q l p k → Related p k q l
+  neither : Unordered p q → Related p k q l
+
 -- an access of a cell: a read or a write of it that was not out of bounds
 pub record Reads (c : Cell) (e : Event) : Type 0 where
   pub act : e.act ≡ Do (Read c.object (pos c.slot))
