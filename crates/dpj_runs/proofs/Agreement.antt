@@ -19,7 +19,7 @@ use Rattle.dpj_runs.proofs.Compare.{free_upto, agree_upto, same_last, same_list}
 got_in : (v : Value) → Got v ≢ Out
 got_in v e = cc
 
-same_event : (e f : Event) → e.path ≡ f.path → e.turns ≡ f.turns → e.act ≡ f.act → e.ans ≡ f.ans → e ≡ f
+pub same_event : (e f : Event) → e.path ≡ f.path → e.turns ≡ f.turns → e.act ≡ f.act → e.ans ≡ f.ans → e ≡ f
 same_event e f a n b c = λ i. record { path = a i; turns = n i; act = b i; ans = c i }
 
 module _ (P : Program) (D : Disciplined P) where

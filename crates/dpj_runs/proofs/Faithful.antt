@@ -83,11 +83,13 @@ same_task {R = R} {S = S} {t = t} {s = s} ag (branch q u F f ts B1 k1 a b c d e 
     let n : count F q ≡ count F' q = d ∙ ap (λ w. w.0) uu ∙ sym (subst (λ r. count F' r ≡ u'.0) qq d') in
     let l : count F q < count S q = subst (λ m. m < count S q) (sym n) (number_of q b' c'') in
     let fo = carry q ag b c l in
-    let one = same_of {X = fo.before} {Y = F'} q fo.stands b' c c'' (ap length fo.mine_is ∙ n) in
+    let number : count fo.before q ≡ count F' q = ap (λ es. length es) fo.mine_is ∙ n in
+    let one = same_of {X = fo.before} {Y = F'} q fo.stands b' c c'' number in
     let ff : f ≡ f' = one.0 in
     let tt' : Fork ts ≡ Fork ts' = sym e ∙ ap (λ v. v.act) ff ∙ e' in
     let ts_is : ts ≡ ts' = cc in
-    some_same t s (sym g ∙ ap (λ l. slice_get l.tasks u.1) ts_is ∙ ap (λ w. slice_get ts'.tasks w.1) uu ∙ g')
+    let same : slice_get ts.tasks u.1 ≡ slice_get ts'.tasks u'.1 = (λ i. slice_get (ts_is i).tasks (uu i).1) in
+    some_same t s (sym g ∙ same ∙ g')
 
 module _ (P : Program) where
   pub faithful_upto : {B R : Run} → Upto B R → Faithful P R → Faithful P B

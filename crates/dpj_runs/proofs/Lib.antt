@@ -13,3 +13,9 @@ pub mod Blocks
 pub mod Standing
 pub mod Written
 pub mod Theorems
+pub mod Carry
+pub mod Ready
+pub mod Numbers
+pub mod Schedules
+pub mod Bound
+pub mod Sorting

@@ -6,7 +6,7 @@ use Rattle.dpj_runs.specs.Runs.{Event, Run, Upto, count, later, mine, now}
 use Rattle.dpj_runs.proofs.Upto.{upto_split, upto_none}
 use Rattle.dpj_runs.proofs.Mine.{path_cases, mine_nil, mine_same, mine_other, Found, found}
 
-lex_trans : {xs ys zs : List ℕ} → Lex xs ys → Lex ys zs → Lex xs zs
+pub lex_trans : {xs ys zs : List ℕ} → Lex xs ys → Lex ys zs → Lex xs zs
 lex_trans shorter (lower k) = shorter
 lex_trans shorter (level_with k) = shorter
 lex_trans (lower h) (lower k) = lower (omega arith)
@@ -14,7 +14,7 @@ lex_trans (lower h) (level_with k) = lower h
 lex_trans (level_with h) (lower k) = lower k
 lex_trans (level_with h) (level_with k) = level_with (lex_trans h k)
 
-lex_differ : {xs ys : List ℕ} → Lex xs ys → xs ≡ ys → ⊥
+pub lex_differ : {xs ys : List ℕ} → Lex xs ys → xs ≡ ys → ⊥
 lex_differ shorter e = absurd (cc)
 lex_differ (lower {x = x} {y = y} h) e = let k : x ≡ y = cc in absurd (omega arith)
 lex_differ (level_with {xs = xs} {ys = ys} h) e = lex_differ h (let k : xs ≡ ys = cc in k)
@@ -26,7 +26,7 @@ latest_in e y R S o m = go (found (y ∷ S) e.path (subst (λ l. Upto (e ∷ min
     go : Found (y ∷ S) e.path e (mine R e.path) → (e ≡ y) ⊎ Lex (position e.path (count R e.path)) (position y.path (count S y.path))
     go f = ⊎_elim (λ k. inl k.0) (λ u. inr (subst (λ k. Lex (position e.path k) (position y.path (count S y.path))) (ap length f.mine_is) (o.each y e S f.before now u))) (upto_split f.stands)
 
-order_tail : {e : Event} {R : Run} → InOrder (e ∷ R) → InOrder R
+pub order_tail : {e : Event} {R : Run} → InOrder (e ∷ R) → InOrder R
 order_tail o = record { each = λ y x Y X h k. o.each y x Y X (later h) k }
 
 no_events : (e : Event) (R : Run) → mine (e ∷ R) e.path ≡ mine [] e.path → ⊥

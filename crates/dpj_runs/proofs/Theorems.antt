@@ -1,16 +1,21 @@
 -- The laws, from the lemmas.
-use Rattle.std.proofs.Common.{◌≡◌, ◌≤◌, ◌+◌, ℕ, suc, List, [], ◌∷◌, length, refl, sym, ap, ◌∙◌, subst, arith}
+use Rattle.std.proofs.Common.{◌≡◌, ◌≤◌, ◌+◌, ℕ, suc, List, [], ◌∷◌, length, refl, sym, ap, ◌∙◌, subst, arith, inr, append-nil}
 use Rattle.dpj_runs.specs.Actions.{cells, steps}
-use Rattle.dpj_runs.specs.Laws.{BlocksByStanding, Comparison, NoneCostsMore, OrderOf, Present, Respects, SameEvents, SameOutcome}
+use Rattle.dpj_runs.specs.Laws.{BlocksByStanding, Comparison, EachComesOut, NoneCostsMore, NothingAfter, OneNext, OneOutcome, OrderOf, Present, Respects, SameEvents, SameOutcome, SomeReady}
 use Rattle.dpj_runs.specs.Objects.{Path, size}
-use Rattle.dpj_runs.specs.Order.{Came, ending_of, printed, trapped}
-use Rattle.dpj_runs.specs.Runs.{Event, Run, Upto, cells_of, entry_step, event_cells, event_steps, mine, now, steps_of, total}
+use Rattle.dpj_runs.specs.Order.{Agree, Came, ending_of, printed, trapped}
+use Rattle.dpj_runs.specs.Runs.{Ended, Event, Faithful, Run, Upto, cells_of, entry_step, event_cells, event_steps, later, mine, now, steps_of, total}
 use Rattle.dpj_runs.specs.Schedules.{ended}
-use Rattle.dpj_runs.proofs.Upto.{upto_length}
-use Rattle.dpj_runs.proofs.Written.{legal_faithful, valid_from, legal_from}
-use Rattle.dpj_runs.proofs.Between.{respects_passing, order_of}
+use Rattle.dpj_runs.proofs.Mine.{mine_step, number_of}
+use Rattle.dpj_runs.proofs.Faithful.{agree_self, none_after_end}
+use Rattle.dpj_runs.proofs.Written.{allowed_from, legal_faithful, valid_from, legal_from}
+use Rattle.dpj_runs.proofs.Between.{complete, respects_passing, order_of}
 use Rattle.dpj_runs.proofs.Compare.{present}
 use Rattle.dpj_runs.proofs.Agreement.{agree, same_all, same_end}
+use Rattle.dpj_runs.proofs.Sorting.{sort}
+use Rattle.dpj_runs.proofs.Ready.{some_ready}
+use Rattle.dpj_runs.proofs.Numbers.{number_one, number_of_begun}
+use Rattle.dpj_runs.proofs.Schedules.{same_step}
 use Rattle.dpj_runs.proofs.Cost.{total_le, most_events}
 use Rattle.dpj_runs.proofs.Sorted.{one_order}
 
@@ -57,3 +62,36 @@ none_costs_more P D R S x l m fr fs g w =
     let l1 = legal_faithful P R l in
     let m1 = legal_faithful P S m in
     total_le w S R (λ p. most_events P D l1 m1 (comparison P D R S l m fr fs) g p)
+
+pub each_comes_out : EachComesOut
+each_comes_out P R x l g =
+    let s = sort P R (legal_faithful P R l) in
+    (Came (ending_of (trapped s.sorted) x) (printed s.sorted) (steps_of R) (cells_of P R), record { end = x; ended = g; sorted = s.sorted; in_order = s.in_order; events = s.events; outcome = refl })
+
+pub comes_one_way : OneOutcome
+comes_one_way P D R o q l c d =
+    let l1 = legal_faithful P R l in
+    let sorted : c.sorted ≡ d.sorted = one_order c.sorted d.sorted c.in_order d.in_order (λ p. sym (c.events p) ∙ d.events p) in
+    let end : c.end ≡ d.end = same_end P D [] l1 l1 (agree_self R) c.ended d.ended in
+    c.outcome ∙ (λ i. Came (ending_of (trapped (sorted i)) (end i)) (printed (sorted i)) (steps_of R) (cells_of P R)) ∙ sym d.outcome
+
+pub nothing_after : NothingAfter
+nothing_after P D R x e l g a =
+    let l1 = legal_faithful P R l in
+    let m : Faithful P (e ∷ R) = (a.follows, l1) in
+    let ag : Agree (e ∷ R) R = record { both = λ p. inr (mine_step e R p) } in
+    let y = complete P D [] m l1 ag g e.path R e now (sym (append-nil e.path)) in
+    let h = subst (λ p. Ended R p y.0) (append-nil e.path) y.1 in
+    let n = none_after_end P D e.path m (later h.stands) h.path h.act now refl in
+    let k = number_of e.path h.stands h.path in
+    absurd (omega arith)
+
+pub some_ready_event : SomeReady
+some_ready_event P D V K R l live =
+    let l1 = legal_faithful P R l in
+    let r = some_ready P D V R l1 (λ p t b o h. K.replies R l p t b o h) live in
+    let n = number_of_begun r.1.follows.begun in
+    (n.0, r.0, record { allowed = allowed_from P D R r.0 l1 r.1; number = n.1 })
+
+pub one_next : OneNext
+one_next P D R k e f l a b = same_step P D (legal_faithful P R l) a.allowed.follows b.allowed.follows (number_one a.number b.number)

@@ -1,11 +1,13 @@
 -- The laws of runs, as statements.
-use Rattle.std.specs.Prelude.{ℕ, ◌≡◌, ◌≤◌, List, [], ◌∷◌}
+use Rattle.std.specs.Prelude.{ℕ, ◌≡◌, ◌≤◌, ◌+◌, ◌*◌, List, [], ◌∷◌, length}
+use Rattle.dpj_runs.specs.Objects.{Path}
 use Rattle.dpj_runs.specs.Actions.{Ending, Program}
 use Rattle.dpj_runs.specs.Runs.{Event, Run, Upto, mine, count, total, Ended}
-use Rattle.dpj_runs.specs.Blocks.{Legal}
+use Rattle.dpj_runs.specs.Blocks.{Allowed, Legal}
 use Rattle.dpj_runs.specs.Standing.{Valid}
 use Rattle.dpj_runs.specs.Order.{Agree, Before, Comes, Free, IsPlain, Outcome, Passes, Related}
-use Rattle.dpj_runs.specs.Meaning.{Disciplined}
+use Rattle.dpj_runs.specs.Meaning.{Disciplined, Known, Lively, Paced}
+use Rattle.dpj_runs.specs.Schedules.{Finished, Limits, Ran, Ready}
 
 -- the rule of open blocks as it is written and the one by paths and own events allow the same runs
 abbrev pub BlocksByStanding : Type 0
@@ -36,7 +38,7 @@ Comparison = (P : Program) → Disciplined P → (R S : Run) → Legal P R → L
 -- to the same
 abbrev pub SameEvents : Type 0
 SameEvents = (P : Program) → Disciplined P → (R S : Run) (x y : Ending) → Legal P R → Legal P S → Free R → Free S → Ended R [] x → Ended S [] y
-  → (x ≡ y) × ((p : List (ℕ × ℕ)) → mine R p ≡ mine S p) × ((w : Event → ℕ) → total w R ≡ total w S)
+  → (x ≡ y) × ((p : Path) → mine R p ≡ mine S p) × ((w : Event → ℕ) → total w R ≡ total w S)
 
 abbrev pub SameOutcome : Type 0
 SameOutcome = (P : Program) → Disciplined P → (R S : Run) (o q : Outcome) → Legal P R → Legal P S → Free R → Free S → Comes P R o → Comes P S q → o ≡ q
@@ -44,3 +46,36 @@ SameOutcome = (P : Program) → Disciplined P → (R S : Run) (o q : Outcome) �
 -- and no legal run, ended or not, costs more than one whose root has ended
 abbrev pub NoneCostsMore : Type 0
 NoneCostsMore = (P : Program) → Disciplined P → (R S : Run) (x : Ending) → Legal P R → Legal P S → Free R → Free S → Ended S [] x → (w : Event → ℕ) → total w R ≤ total w S
+
+-- a legal run whose root has ended comes out in one way
+abbrev pub EachComesOut : Type 0
+EachComesOut = (P : Program) (R : Run) (x : Ending) → Legal P R → Ended R [] x → (o : Outcome) × Comes P R o
+
+abbrev pub OneOutcome : Type 0
+OneOutcome = (P : Program) → Disciplined P → (R : Run) (o q : Outcome) → Legal P R → Comes P R o → Comes P R q → o ≡ q
+
+-- and nothing comes after it
+abbrev pub NothingAfter : Type 0
+NothingAfter = (P : Program) → Disciplined P → (R : Run) (x : Ending) (e : Event) → Legal P R → Ended R [] x → Allowed P R e → ⊥
+
+-- as long as the root has not ended some task is ready
+abbrev pub SomeReady : Type 0
+SomeReady = (P : Program) → Disciplined P → Lively P → Known P → (R : Run) → Legal P R → ((x : Ending) → Ended R [] x → ⊥) → (k : ℕ) × (e : Event) × Ready P R k e
+
+-- a task that is ready has one next event
+abbrev pub OneNext : Type 0
+OneNext = (P : Program) → Disciplined P → (R : Run) (k : ℕ) (e f : Event) → Legal P R → Ready P R k e → Ready P R k f → e ≡ f
+
+-- so a schedule records one run, and that run is legal
+abbrev pub OneRun : Type 0
+OneRun = (P : Program) → Disciplined P → (L : Limits) (ks : List ℕ) (R S : Run) → Ran P L ks R → Ran P L ks S → R ≡ S
+
+abbrev pub RanIsLegal : Type 0
+RanIsLegal = (P : Program) (L : Limits) (ks : List ℕ) (R : Run) → Ran P L ks R → Legal P R
+
+-- a schedule has at most twice as many numbers as there are steps, and one more; a finished one has at most one more than that
+abbrev pub ScheduleIsBounded : Type 0
+ScheduleIsBounded = (P : Program) → Disciplined P → Paced P → (L : Limits) (ks : List ℕ) (R : Run) → Ran P L ks R → length ks ≤ 2 * L.steps + 1
+
+abbrev pub FinishedIsBounded : Type 0
+FinishedIsBounded = (P : Program) → Disciplined P → Paced P → (L : Limits) (ks : List ℕ) (o : Outcome) → Finished P L ks o → length ks ≤ 2 * L.steps + 2

@@ -1,7 +1,9 @@
--- What the laws ask of the meaning of tasks, and nothing else.
-use Rattle.std.specs.Prelude.{ℕ, suc, ◌≡◌, ◌<◌, List, [], ◌∷◌, ◌++◌, length}
+-- What the laws ask of a program, and nothing else.
+use Rattle.std.specs.Prelude.{ℕ, suc, ◌≡◌, ◌<◌, List, [], ◌∷◌, ◌++◌, length, Some}
 use Rattle.dpj_runs.specs.Objects.{Path, Effect}
 use Rattle.dpj_runs.specs.Actions.{Task, Branches, Ending, Own, Rest, Enter, Action, Do, Fork, Begin, Join, End, Answer, Next, Over, Program, Asks}
+use Rattle.dpj_runs.specs.Runs.{Run, mine, answers, Begun, reply}
+use Rattle.dpj_runs.specs.Blocks.{Legal}
 
 -- nothing comes after an end; after a fork come one begin for each branch, in order, and the join
 pub record Disciplined (P : Program) : Type 0 where
@@ -22,3 +24,8 @@ pub record Lively (P : Program) : Type 0 where
 -- a rest that no turns stand before stands in front of an entry
 pub record Paced (P : Program) : Type 0 where
   pub enters : (p : Path) (t : Task) (got : List Answer) (a : Answer) → P.meaning p t got ≡ Next 0 (Do Rest) → (E : List Effect) × Asks P p t (a ∷ got) (Do (Enter E))
+
+-- where a task of a legal run next acts on an object, something has that name
+pub record Known (P : Program) : Type 0 where
+  pub replies : (R : Run) → Legal P R → (p : Path) (t : Task) → Begun P R p t → (o : Own) → Asks P p t (answers (mine R p)) (Do o)
+    → (a : Answer) × (reply P R p o ≡ Some a)
