@@ -90,7 +90,7 @@ module _ (P : Program) (D : Disciplined P) where
         → (o : Option ℕ) → slot_of i (size t) ≡ o → e.ans ≡ read_at R t n o → f.ans ≡ read_at T t n o → e.ans ≡ f.ans
       read_same n i k t tr ts None h a b = a ∙ sym b
       read_same n i k t tr ts (Some slot) h a b =
-          a ∙ ap (λ v. Got (or_else v (first_value t slot))) (same_last P D l m fr ft ag pe ms act c reads_e reads_f t tr ts (subst (λ j. slot_of j (size t) ≡ Some slot) index h)) ∙ sym b
+          a ∙ ap (λ v. Got (or_else v (first_value t slot))) (same_last P D l m fr ft ag pe ms act c reads_e reads_f) ∙ sym b
         where
           c : Cell
           c = record { object = n; slot = slot }

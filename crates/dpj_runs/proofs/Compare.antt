@@ -2,13 +2,13 @@
 use Rattle.std.proofs.Common.{◌≡◌, ℕ, suc, pos, ◌<◌, ◌⊎◌, inl, inr, ⊎_elim, List, [], ◌∷◌, ◌++◌, length, refl, sym, ap, ◌∙◌, subst, arith, Some, None, slice_get, eq-eqb, ne_eqb}
 use Rattle.dpj_runs.specs.Actions.{Program}
 use Rattle.dpj_runs.specs.Meaning.{Disciplined}
-use Rattle.dpj_runs.specs.Objects.{Cell, Path, Thing, Value, size, slot_of}
+use Rattle.dpj_runs.specs.Objects.{Cell, Path}
 use Rattle.dpj_runs.specs.Order.{Agree, Before, Conflict, Free, IsPlain, Passes, Reads, Related, Unordered, Writes, above_fork, across, below_join, first, in_task, neither, one, second, write_read, write_write}
-use Rattle.dpj_runs.specs.Runs.{Event, Faithful, Run, Upto, count, last_written, later, mine, now, thing_of}
+use Rattle.dpj_runs.specs.Runs.{Event, Faithful, Run, Upto, count, last_written, later, mine, now}
 use Rattle.dpj_runs.specs.Standing.{above}
 use Rattle.dpj_runs.proofs.Upto.{upto_trans, upto_length, upto_tail, upto_two}
 use Rattle.dpj_runs.proofs.Mine.{mine_upto, Found, same_of, number_of}
-use Rattle.dpj_runs.proofs.Cells.{write_of, LastWrite, none, some, last_write, write_in_bounds, left_plain, right_plain}
+use Rattle.dpj_runs.proofs.Cells.{write_of, LastWrite, none, some, last_write, left_plain, right_plain}
 use Rattle.dpj_runs.proofs.Faithful.{ended_upto, carry, fork_above, JoinAt, join_upto, joined_before, branch_ended}
 use Rattle.dpj_runs.proofs.Between.{fork_passes, plain_passes, agree_back, ended_longer, complete, respects, order_of}
 
@@ -72,35 +72,28 @@ module _ (P : Program) (D : Disciplined P) where
       go (second b) = let k = upto_length (respects P D l now (later hw) (left_plain cf) b) in absurd (let n = upto_length hw in omega arith)
       go (neither n) = absurd (free.no R W e w now hw n cf)
 
-  -- a read of a cell that the object has gets the value of the same last write in both runs
+  -- a read gets the value of the same last write in both runs
   module _ {R S : Run} {e f : Event} (l : Faithful P (e ∷ R)) (m : Faithful P (f ∷ S)) (fr : Free (e ∷ R)) (fs : Free (f ∷ S)) (ag : Agree R S)
-    (pe : e.path ≡ f.path) (ms : mine R f.path ≡ mine S f.path) (ae : e.act ≡ f.act) (c : Cell) (re : Reads c e) (rf : Reads c f)
-    (t : Thing) (tr : thing_of P R c.object ≡ Some t) (ts : thing_of P S c.object ≡ Some t) (inside : slot_of (pos c.slot) (size t) ≡ Some c.slot) where
-    in_R : {w : Event} {W : Run} (v : Value) → Upto (w ∷ W) R → w.act ≡ write_of c v → Writes c w
-    in_R v h k = write_in_bounds P c v t l.1 h k tr inside
+    (pe : e.path ≡ f.path) (ms : mine R f.path ≡ mine S f.path) (ae : e.act ≡ f.act) (c : Cell) (re : Reads c e) (rf : Reads c f) where
+    over : {w : Event} {W : Run} → Upto (w ∷ W) R → Writes c w → Found S w.path w (mine W w.path)
+    over {w} h k = carry_write l m fr ag pe ms ae h (write_read c k re)
 
-    in_S : {w : Event} {W : Run} (v : Value) → Upto (w ∷ W) S → w.act ≡ write_of c v → Writes c w
-    in_S v h k = write_in_bounds P c v t m.1 h k ts inside
+    back : {w : Event} {W : Run} → Upto (w ∷ W) S → Writes c w → Found R w.path w (mine W w.path)
+    back {w} h k = carry_write m l fs (agree_back ag) (sym pe) (subst (λ p. mine S p ≡ mine R p) (sym pe) (sym ms)) (sym ae) h (write_read c k rf)
 
-    over : {w : Event} {W : Run} (v : Value) → Upto (w ∷ W) R → w.act ≡ write_of c v → Found S w.path w (mine W w.path)
-    over {w} v h k = carry_write l m fr ag pe ms ae h (write_read c (in_R v h k) re)
-
-    back : {w : Event} {W : Run} (v : Value) → Upto (w ∷ W) S → w.act ≡ write_of c v → Found R w.path w (mine W w.path)
-    back {w} v h k = carry_write m l fs (agree_back ag) (sym pe) (subst (λ p. mine S p ≡ mine R p) (sym pe) (sym ms)) (sym ae) h (write_read c (in_S v h k) rf)
+    same : (s t : Event) → (p : Writes c s) → (q : Writes c t) → s ≡ t → p.value ≡ q.value
+    same s t p q j = let o : write_of c p.value ≡ write_of c q.value = sym p.act ∙ ap (λ y. y.act) j ∙ q.act in cc
 
     -- two last writes, of which each is before the other
-    two : {w x : Event} {W W' X X' : Run} (v z : Value) → w.act ≡ write_of c v → x.act ≡ write_of c z → Upto (w ∷ W) R → Upto (x ∷ X') R → Upto (w ∷ W') S → Upto (x ∷ X) S
-      → count W' w.path ≡ count W w.path → count X' x.path ≡ count X x.path → Upto (x ∷ X') W → Upto (w ∷ W') X → v ≡ z
-    two {w} {x} {W} {W'} {X} {X'} v z a b hw hx' hw' hx nw nx xw wx = order (order_of P D l.1 hw hx' (left_plain clash) (right_plain clash))
+    two : {w x : Event} {W W' X X' : Run} → (a : Writes c w) → (b : Writes c x) → Upto (w ∷ W) R → Upto (x ∷ X') R → Upto (w ∷ W') S → Upto (x ∷ X) S
+      → count W' w.path ≡ count W w.path → count X' x.path ≡ count X x.path → Upto (x ∷ X') W → Upto (w ∷ W') X → a.value ≡ b.value
+    two {w} {x} {W} {W'} {X} {X'} a b hw hx' hw' hx nw nx xw wx = order (order_of P D l.1 hw hx' (left_plain clash) (right_plain clash))
       where
         clash : Conflict w x
-        clash = write_write c (in_R v hw a) (in_R z hx' b)
+        clash = write_write c a b
 
-        order : Related w.path (count W w.path) x.path (count X' x.path) → v ≡ z
-        order (one d n) =
-            let o = same_of x.path hw hx' d refl (subst (λ q. count W q ≡ count X' x.path) d n) in
-            let k : write_of c v ≡ write_of c z = sym a ∙ ap (λ y. y.act) o.0 ∙ b in
-            cc
+        order : Related w.path (count W w.path) x.path (count X' x.path) → a.value ≡ b.value
+        order (one d n) = same w x a b (same_of x.path hw hx' d refl (subst (λ q. count W q ≡ count X' x.path) d n)).0
         order (first h) = let k = upto_length (respects P D l.1 hw hx' (right_plain clash) h) in let n = upto_length xw in absurd (omega arith)
         order (second h) =
             let h1 = subst (λ k. Before x.path k w.path (count W w.path)) nx h in
@@ -108,34 +101,31 @@ module _ (P : Program) (D : Disciplined P) where
             let k = upto_length (respects P D m.1 hx hw' (left_plain clash) h2) in
             let n = upto_length wx in
             absurd (omega arith)
-        order (neither n) = absurd ((free_upto (later now) fr).no W X' w x hw xw (flip n) (write_write c (in_R z hx' b) (in_R v hw a)))
+        order (neither n) = absurd ((free_upto (later now) fr).no W X' w x hw xw (flip n) (write_write c b a))
           where
             flip : {p q : Path} → Unordered p q → Unordered q p
             flip u = record { below_p = u.below_q; below_q = u.below_p; above = u.above; u = u.v; v = u.u; one_fork = sym u.one_fork; apart = λ h. u.apart (sym h); p_is = u.q_is; q_is = u.p_is }
 
     same_written : LastWrite R c → LastWrite S c → last_written R c ≡ last_written S c
     same_written (none n z) (none n' z') = z ∙ sym z'
-    same_written (none n z) (some x X v h k i g) = let b = back v h k in absurd (n x b.before v b.stands k)
-    same_written (some w W v h k i g) (none n z) = let b = over v h k in absurd (n w b.before v b.stands k)
-    same_written (some w W v h k i g) (some x X z h' k' i' g') = i ∙ ap Some (meet (which_of (g' w a.before v a.stands k)) (which_of (g x b.before z b.stands k'))) ∙ sym i'
+    same_written (none n z) (some x X h k i g) = let b = back h k in absurd (n x b.before b.stands k)
+    same_written (some w W h k i g) (none n z) = let b = over h k in absurd (n w b.before b.stands k)
+    same_written (some w W h k i g) (some x X h' k' i' g') = i ∙ ap Some (meet (which_of (g' w a.before a.stands k)) (which_of (g x b.before b.stands k'))) ∙ sym i'
       where
         a : Found S w.path w (mine W w.path)
-        a = over v h k
+        a = over h k
 
         b : Found R x.path x (mine X x.path)
-        b = back z h' k'
+        b = back h' k'
 
         which_of : {s t : Event} {A B : Run} → Upto (s ∷ A) (t ∷ B) → (s ≡ t) ⊎ Upto (s ∷ A) B
         which_of now = inl refl
         which_of (later u) = inr u
 
-        same : (s t : Event) (p q : Value) → s.act ≡ write_of c p → t.act ≡ write_of c q → s ≡ t → p ≡ q
-        same s t p q d e j = let o : write_of c p ≡ write_of c q = sym d ∙ ap (λ y. y.act) j ∙ e in cc
-
-        meet : (w ≡ x) ⊎ Upto (w ∷ a.before) X → (x ≡ w) ⊎ Upto (x ∷ b.before) W → v ≡ z
-        meet (inl j) u = same w x v z k k' j
-        meet (inr t) (inl j) = same w x v z k k' (sym j)
-        meet (inr t) (inr u) = two v z k k' h b.stands a.stands h' (ap length a.mine_is) (ap length b.mine_is) u t
+        meet : (w ≡ x) ⊎ Upto (w ∷ a.before) X → (x ≡ w) ⊎ Upto (x ∷ b.before) W → k.value ≡ k'.value
+        meet (inl j) u = same w x k k' j
+        meet (inr t) (inl j) = same w x k k' (sym j)
+        meet (inr t) (inr u) = two k k' h b.stands a.stands h' (ap length a.mine_is) (ap length b.mine_is) u t
 
     pub same_last : last_written R c ≡ last_written S c
     same_last = same_written (last_write R c) (last_write S c)

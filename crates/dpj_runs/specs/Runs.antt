@@ -76,7 +76,7 @@ made P R p = at_start P p ++ things (mine R p)
 abbrev pub thing_of : Program → Run → Name → Option Thing
 thing_of P R n = slice_get (made P R n.maker) n.count
 
--- the value of the last write to a cell
+-- the value that an event writes to a cell; a write out of bounds writes to none
 abbrev pub own_written : Cell → Own → Option Value
 own_written c (Write n i v) = if is_cell n i c then Some v else None
 own_written c Rest = None
@@ -87,20 +87,34 @@ own_written c (Print bytes) = None
 own_written c (Enter E) = None
 own_written c Exit = None
 
-abbrev pub written : Cell → Action → Option Value
-written c (Do o) = own_written c o
-written c (Fork ts) = None
-written c (Begin b) = None
-written c Join = None
-written c (End x) = None
+abbrev pub written_by : Cell → Action → Option Value
+written_by c (Do o) = own_written c o
+written_by c (Fork ts) = None
+written_by c (Begin b) = None
+written_by c Join = None
+written_by c (End x) = None
+
+abbrev pub unless_out : {A : Type 0} → Answer → Option A → Option A
+unless_out Out o = None
+unless_out Went o = o
+unless_out (Got v) o = o
+unless_out (Class class regions) o = o
+unless_out (Length len) o = o
+unless_out (Named n) o = o
+unless_out (Joined ls) o = o
+unless_out (Fell trap place) o = o
+
+abbrev pub written : Cell → Event → Option Value
+written c e = unless_out e.ans (written_by c e.act)
 
 abbrev pub first_some : {A : Type 0} → Option A → Option A → Option A
 first_some None b = b
 first_some (Some v) b = Some v
 
+-- the value of the last write to a cell
 unfoldable pub last_written : Run → Cell → Option Value
 last_written [] c = None
-last_written (e ∷ R) c = first_some (written c e.act) (last_written R c)
+last_written (e ∷ R) c = first_some (written c e) (last_written R c)
 
 -- the value in a cell: that of the last write, or the first value where there is none
 abbrev pub value_in : Run → Thing → Cell → Value
