@@ -1,0 +1,4 @@
+pub mod Under
+pub mod Insertion
+pub mod Overlap
+pub mod Block

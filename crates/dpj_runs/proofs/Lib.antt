@@ -19,3 +19,4 @@ pub mod Numbers
 pub mod Schedules
 pub mod Bound
 pub mod Sorting
+pub mod Replies
