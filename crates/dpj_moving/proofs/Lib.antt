@@ -2,3 +2,6 @@ pub mod Under
 pub mod Insertion
 pub mod Overlap
 pub mod Block
+pub mod Gather
+pub mod Spots
+pub mod Branch
