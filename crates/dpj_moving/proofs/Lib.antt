@@ -5,3 +5,6 @@ pub mod Block
 pub mod Gather
 pub mod Spots
 pub mod Branch
+pub mod Move
+pub mod Shifts
+pub mod BehindForks
