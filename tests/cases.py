@@ -125,6 +125,16 @@ def from_document(path):
             }
 
 
+def unmended(path):
+    """The first refusal that a document has a heading for, but no program that is refused so, or none that is accepted."""
+    answers = collections.defaultdict(list)
+    for _, heading, info, _ in fences(path):
+        answers[heading].append(info.split(" ")[-1])
+    # The text of this one would have a megabyte.
+    names = set(re.findall(r"^## (.+)$", path.read_text(encoding="utf-8"), re.M)) - {"too-long"}
+    return next((name for name in sorted(names) if not {name, "accepted"} <= set(answers[name])), None)
+
+
 def from_prefixes(programs):
     """The prefixes of accepted programs that end with a token, but for those that are programs of the grammar themselves."""
     answers = dict(pair for program in programs for pair in prefixes.prefixes(program))
@@ -139,6 +149,9 @@ def load(files, is_proved):
     cases = [case for file in sorted((TOP / "tests" / "cases").glob("*.json")) for case in from_json(file)]
     cases += [from_example(file) for file in sorted((TOP / "examples").glob("*.dpj"))]
     cases += [from_checked_example(file) for file in sorted((TOP / "examples" / "check").glob("*.dpj"))]
+    missing = unmended(TOP / "docs" / "REFUSALS.md")
+    if missing:
+        sys.exit(f"docs/REFUSALS.md: {missing} has no program that is refused so, or none that is mended")
     documents = [TOP / "README.md", TOP / "examples" / "README.md", *sorted((TOP / "docs").glob("*.md"))]
     cases += [case for file in documents for case in from_document(file)]
     few = ((TOP / "examples" / "check" / f"{name}.dpj").read_bytes() for name in CUT)
