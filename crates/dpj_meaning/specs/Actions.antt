@@ -50,13 +50,14 @@ pub data Own (N M : Type 0) : Type 0 where
   Enter : (effects : List (Effect M)) → Own N M
   Exit : Own N M
 
-pub data Action (N M : Type 0) : Type 0 where
-  Do : (own : Own N M) → Action N M
-  Fork : (forking : Forking) (tasks : List (Task N M)) → Action N M
+-- T says what a branch is to do
+pub data Action (N M T : Type 0) : Type 0 where
+  Do : (own : Own N M) → Action N M T
+  Fork : (forking : Forking) (tasks : List T) → Action N M T
   -- of the branch of this number
-  Begin : (branch : ℕ) → Action N M
-  Join : Action N M
-  End : (ending : Ending N) → Action N M
+  Begin : (branch : ℕ) → Action N M T
+  Join : Action N M T
+  End : (ending : Ending N) → Action N M T
 
 pub data Answer (N M : Type 0) : Type 0 where
   Went : Answer N M
@@ -72,7 +73,7 @@ pub data Answer (N M : Type 0) : Type 0 where
 
 -- what a task does after some answers: its next action, after so many while turns; or nothing, since it ended before the
 -- last of them; or nothing is known of it
-pub data Reply (N M : Type 0) : Type 0 where
-  Next : (turns : ℕ) (action : Action N M) → Reply N M
-  Over : Reply N M
-  Unknown : Reply N M
+pub data Reply (N M T : Type 0) : Type 0 where
+  Next : (turns : ℕ) (action : Action N M T) → Reply N M T
+  Over : Reply N M T
+  Unknown : Reply N M T

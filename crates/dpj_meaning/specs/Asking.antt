@@ -1,9 +1,9 @@
 -- The next action of a task after a list of answers: its meaning in the world of a task that knows its answers alone.
-use Rattle.std.specs.Prelude.{ℕ, zero, suc, ◌+◌, ◌-◌, ◌*◌, ◌==◌, Bool, true, false, if◌then◌else◌, List, [], ◌∷◌, length, map, reverse, Option, Some, None}
+use Rattle.std.specs.Prelude.{ℕ, zero, suc, ◌+◌, ◌-◌, ◌*◌, ◌==◌, if◌then◌else◌, List, [], ◌∷◌, length, reverse, Some, None}
 use Rattle.dpj_typed.specs.declared.stmt.Forking.{Forking}
 use Rattle.dpj_typed.specs.Plain.{PlainProgram, TypedStmts}
 use Rattle.dpj_meaning.specs.Values.{Value, Naming}
-use Rattle.dpj_meaning.specs.Actions.{Frame, Work, Task, Ending, Returned, Assigned, Trapped, Own, Rest, Action, Do, Fork, Begin, Join, End, Answer, Reply, Next, Over, Unknown}
+use Rattle.dpj_meaning.specs.Actions.{Frame, Work, Task, Ending, Returned, Assigned, Trapped, Rest, Action, Do, Fork, Begin, Join, End, Answer, Reply, Next, Over, Unknown}
 use Rattle.dpj_meaning.specs.Core.{Result, Goes_on, Returns, Prog, Out, Done, Stopped, Lost, bind, World, run}
 use Rattle.dpj_meaning.specs.Core.{Out as out}
 use Rattle.dpj_meaning.specs.Counts.{Brought, brought}
@@ -27,11 +27,11 @@ pub record Told (N M : Type 0) : Type 0 where
   pub made : ℕ
   pub to_come : List (Answer N M)
 
-abbrev pub take_answer : {N M : Type 0} → Action N M → Told N M → List (Answer N M) → Out N M (Answer N M) (Told N M)
+abbrev pub take_answer : {N M : Type 0} → Action N M (Task N M) → Told N M → List (Answer N M) → Out N M (Answer N M) (Told N M)
 take_answer a w [] = Stopped w.since a
 take_answer a w (x ∷ xs) = Done x (record { since = 0; made = w.made; to_come = xs })
 
-abbrev pub asked : {N M : Type 0} → Action N M → Told N M → Out N M (Answer N M) (Told N M)
+abbrev pub asked : {N M : Type 0} → Action N M (Task N M) → Told N M → Out N M (Answer N M) (Told N M)
 asked a w = take_answer a w w.to_come
 
 -- a turn; the last that may be made without an event is followed by a rest
@@ -75,17 +75,17 @@ ended w (Returns v) = Returned v
 ended w (Goes_on v f) = if w.is_root then Returned none else Assigned (assigned w.copies f)
 
 -- an end comes where no answer is left over
-abbrev pub ending : {N M : Type 0} → Ending N → ℕ → List (Answer N M) → Reply N M
+abbrev pub ending : {N M : Type 0} → Ending N → ℕ → List (Answer N M) → Reply N M (Task N M)
 ending x n [] = Next n (End x)
 ending x n (a ∷ more) = Over
 
-abbrev pub replied : {N M : Type 0} → Work → Out N M (Result N M) (Told N M) → Reply N M
+abbrev pub replied : {N M : Type 0} → Work → Out N M (Result N M) (Told N M) → Reply N M (Task N M)
 replied k (Done r w) = ending (ended k r) w.since w.to_come
 replied k (out.Trapped trap p w) = ending (Trapped trap p) w.since w.to_come
 replied k (Stopped n a) = Next n a
 replied k (Lost w) = Unknown
 
 -- what a task does next after these answers, of which the latest stands first
-unfoldable pub ask : {N M : Type 0} → Naming N M → PlainProgram → Task N M → List (Answer N M) → Reply N M
+unfoldable pub ask : {N M : Type 0} → Naming N M → PlainProgram → Task N M → List (Answer N M) → Reply N M (Task N M)
 ask names P t got =
     replied t.work (run (told names) (meaning names P t.frame.left t.work.stmts (begun t.work.takes t.frame)) (record { since = 0; made = 0; to_come = reverse got }))

@@ -1,5 +1,5 @@
 -- What a task does, as a tree of seven forms, and how such a tree runs in a world.
-use Rattle.std.specs.Prelude.{ℕ, zero, suc, Bool, true, false, List, [], ◌∷◌}
+use Rattle.std.specs.Prelude.{ℕ, zero, suc, true, false, List, [], ◌∷◌}
 use Rattle.dpj_base.specs.declared.place.Place.{Place}
 use Rattle.dpj_base.specs.declared.value.Trap.{Trap}
 use Rattle.dpj_typed.specs.declared.stmt.Forking.{Forking}
@@ -43,7 +43,7 @@ and_then p j = on p (next_of j)
 pub data Out (N M V W : Type 0) : Type 0 where
   Done : (v : V) (w : W) → Out N M V W
   Trapped : (trap : Trap) (place : Place) (w : W) → Out N M V W
-  Stopped : (turns : ℕ) (a : Action N M) → Out N M V W
+  Stopped : (turns : ℕ) (a : Action N M (Task N M)) → Out N M V W
   Lost : (w : W) → Out N M V W
 
 abbrev pub bind : {N M V U W : Type 0} → Out N M V W → (V → W → Out N M U W) → Out N M U W

@@ -1,13 +1,13 @@
 -- What a value or an answer counts as, where an operation asks for one of another kind. No run of a well-typed program
 -- meets such a one. The code's instructions count by the same functions.
-use Rattle.std.specs.Prelude.{ℕ, ℤ, pos, zero, suc, Bool, true, false, ◌&&◌, ◌==◌, cond, not, List, [], ◌∷◌, ◌++◌, map, Option, Some, None, option_map, option_and_then, slice_index_or, slice_set, codes}
+use Rattle.std.specs.Prelude.{ℕ, ℤ, pos, zero, suc, Bool, true, false, ◌==◌, cond, not, List, [], ◌∷◌, ◌++◌, Option, Some, None, slice_set, codes}
 use Rattle.std.specs.Fmt.{signed_decimal}
 use Rattle.std.specs.Ordering.{int_eq}
 use Rattle.std.specs.List.{list_any}
 use Rattle.dpj_base.specs.declared.place.Place.{Place}
 use Rattle.dpj_base.specs.declared.value.Trap.{Trap}
-use Rattle.dpj_typed.specs.Plain.{PlainProgram, PlainClass, PlainParent}
-use Rattle.dpj_typed.specs.Scope.{class_at, parent_of}
+use Rattle.dpj_typed.specs.Plain.{PlainProgram}
+use Rattle.dpj_typed.specs.Scope.{parent_of}
 use Rattle.dpj_meaning.specs.Values.{Value, Int, Boolean, Null, Object, Region}
 use Rattle.dpj_meaning.specs.Actions.{Answer, Went, Got, Out, Class, Length, Named, Joined, Fell}
 

@@ -1,6 +1,6 @@
 -- What expressions mean: one clause a construct, in the order of evaluation. `dp` is what a body does one call deeper, and is
 -- none at the deepest.
-use Rattle.std.specs.Prelude.{ℕ, zero, suc, ◌-◌, ◌+◌, ℤ, pos, negsuc, Bool, true, false, not, ◌||◌, ◌&&◌, ◌==◌, cond, List, [], ◌∷◌, ◌++◌, map, length, reverse, Option, Some, None, is_some, slice_get, slice_index_or, int_lt, int_rem}
+use Rattle.std.specs.Prelude.{ℕ, zero, suc, ◌-◌, ◌+◌, ℤ, pos, negsuc, Bool, true, false, not, ◌||◌, cond, List, [], ◌∷◌, ◌++◌, map, length, reverse, Option, Some, None, int_lt, int_rem}
 use Rattle.std.specs.Ordering.{int_eq}
 use Rattle.std.specs.Int.{w32, int_wrapping_add, int_wrapping_sub, int_wrapping_mul, int_wrapping_div, int_wrapping_neg}
 use Rattle.std.specs.Option.{option_map_or}
@@ -13,11 +13,11 @@ use Rattle.dpj_typed.specs.declared.expr.BinaryOp.{BinaryOp}
 use Rattle.dpj_typed.specs.declared.expr.BinaryOp.TheVariants as op
 use Rattle.dpj_typed.specs.declared.expr.UnaryOp.{UnaryOp}
 use Rattle.dpj_typed.specs.declared.expr.UnaryOp.TheVariants.{Negate, Not}
-use Rattle.dpj_typed.specs.Plain.{PlainProgram, PlainClass, PlainField, PlainMember, TypedExpr, typed, type_of, TypedExprs, no_exprs, more_exprs, TypedStmts}
+use Rattle.dpj_typed.specs.Plain.{PlainProgram, PlainField, PlainMember, TypedExpr, typed, TypedExprs, no_exprs, more_exprs, TypedStmts}
 use Rattle.dpj_typed.specs.Plain.{ExprForm as form}
 use Rattle.dpj_typed.specs.Scope.{class_at, member_at, row_at, constructor_of}
 use Rattle.dpj_meaning.specs.Values.{Value, Int, Boolean, Null, Object, Region, Thing, An_object, An_array, Naming}
-use Rattle.dpj_meaning.specs.Actions.{Frame, Own, Read, Look, New, Answer}
+use Rattle.dpj_meaning.specs.Actions.{Frame, Read, Look, New}
 use Rattle.dpj_meaning.specs.Core.{Result, Goes_on, Returns, Prog, Ret, Traps, Act, on, and_then}
 use Rattle.dpj_meaning.specs.Counts.{number, truth, reference, value_read, length_seen, name_made, class_seen, is_below, same_value}
 use Rattle.dpj_meaning.specs.Regions.{local_value, concrete, is_long, some_long, regions_above}

@@ -1,7 +1,6 @@
 -- Region paths with the frame put in.
-use Rattle.std.specs.Prelude.{ℕ, zero, suc, ◌+◌, Bool, true, false, ◌||◌, ◌==◌, cond, nat_lt, List, [], ◌∷◌, ◌++◌, map, length, Option, Some, None, slice_index_or, slice_get}
+use Rattle.std.specs.Prelude.{ℕ, zero, suc, Bool, ◌==◌, cond, nat_lt, List, [], ◌++◌, map, length, Some, None, slice_index_or}
 use Rattle.std.specs.List.{list_any}
-use Rattle.std.specs.Option.{option_map_or}
 use Rattle.dpj_base.specs.declared.effect.Effect.{Effect as PathEffect}
 use Rattle.dpj_base.specs.declared.elems.Elem.{Elem}
 use Rattle.dpj_base.specs.declared.elems.Elem.TheVariants as elem
@@ -10,7 +9,7 @@ use Rattle.dpj_base.specs.declared.elems.Index.TheVariants as index
 use Rattle.dpj_base.specs.declared.region.Head.{Head}
 use Rattle.dpj_base.specs.declared.region.Head.TheVariants as head
 use Rattle.dpj_base.specs.declared.region.Rpl.{Rpl}
-use Rattle.dpj_typed.specs.Plain.{PlainProgram, PlainParent}
+use Rattle.dpj_typed.specs.Plain.{PlainProgram}
 use Rattle.dpj_typed.specs.Scope.{parent_of}
 use Rattle.dpj_meaning.specs.Values.{Value, Null, Part, Region_name, Number, Local, Own_index, Any_index, Any_parts, Region, Naming}
 use Rattle.dpj_meaning.specs.Actions.{Frame, Effect}

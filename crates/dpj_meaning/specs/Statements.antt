@@ -1,16 +1,15 @@
 -- What statements mean: one clause a construct, in the order of evaluation.
-use Rattle.std.specs.Prelude.{ℕ, zero, suc, ◌+◌, ◌-◌, ◌*◌, ◌/◌, ℤ, pos, negsuc, ◌+ℤ◌, Bool, true, false, ◌&&◌, not, cond, List, [], ◌∷◌, ◌++◌, map, length, Option, Some, None, slice_index_or, slice_set, int_lt}
+use Rattle.std.specs.Prelude.{ℕ, zero, suc, ◌+◌, ◌-◌, ◌*◌, ◌/◌, ℤ, pos, negsuc, ◌+ℤ◌, Bool, true, false, ◌&&◌, not, cond, List, [], ◌∷◌, ◌++◌, map, Option, Some, None, slice_set, int_lt}
 use Rattle.std.specs.Int.{w32, int_wrapping_add}
-use Rattle.dpj_base.specs.declared.effect.Effect.{Effect as PathEffect}
 use Rattle.dpj_base.specs.declared.place.Place.{Place}
 use Rattle.dpj_base.specs.declared.value.Trap.TheVariants as trap
 use Rattle.dpj_typed.specs.declared.stmt.Forking.{Forking}
 use Rattle.dpj_typed.specs.declared.stmt.Forking.TheVariants.{Deterministic}
-use Rattle.dpj_typed.specs.Plain.{PlainProgram, TypedExpr, Source, of_array, of_part, TypedStmt, statement, TypedStmts, no_stmts, more_stmts, TypedBranches, no_branches, more_branches}
+use Rattle.dpj_typed.specs.Plain.{PlainProgram, of_array, of_part, TypedStmt, statement, TypedStmts, no_stmts, more_stmts, TypedBranches, no_branches, more_branches}
 use Rattle.dpj_typed.specs.Plain.{StmtForm as form}
-use Rattle.dpj_meaning.specs.Values.{Value, Int, Null, Object, Naming}
-use Rattle.dpj_meaning.specs.Actions.{Frame, Work, Task, Own, Rest, Write, Look, Print, Enter, Exit, Answer}
-use Rattle.dpj_meaning.specs.Core.{Result, Goes_on, Returns, Prog, Ret, Traps, Act, Makes, Again, Split, and_then, next_of, on}
+use Rattle.dpj_meaning.specs.Values.{Value, Int, Naming}
+use Rattle.dpj_meaning.specs.Actions.{Frame, Task, Rest, Write, Look, Print, Enter, Exit}
+use Rattle.dpj_meaning.specs.Core.{Returns, Prog, Ret, Traps, Act, Makes, Again, Split, and_then}
 use Rattle.dpj_meaning.specs.Counts.{number, truth, is_out, length_seen, Brought, Back, Trap_of_branch, copied, text_of, line}
 use Rattle.dpj_meaning.specs.Regions.{local_value, concrete_effect}
 use Rattle.dpj_meaning.specs.Expressions.{Deeper, gives, none, unless_null, part_element, of_expr}
