@@ -6,8 +6,7 @@ use Rattle.dpj_meaning.specs.Values.{Value, Naming}
 use Rattle.dpj_meaning.specs.Actions.{Frame, Work, Task, Ending, Returned, Assigned, Trapped, Rest, Action, Do, Fork, Begin, Join, End, Answer, Reply, Next, Over, Unknown}
 use Rattle.dpj_meaning.specs.Core.{Result, Goes_on, Returns, Prog, Out, Done, Stopped, Lost, bind, World, run}
 use Rattle.dpj_meaning.specs.Core.{Out as out}
-use Rattle.dpj_meaning.specs.Counts.{Brought, brought}
-use Rattle.dpj_meaning.specs.Regions.{local_value}
+use Rattle.dpj_meaning.specs.Counts.{Brought, brought, assigned}
 use Rattle.dpj_meaning.specs.Expressions.{none}
 use Rattle.dpj_meaning.specs.Statements.{of_stmts, begun}
 
@@ -64,15 +63,10 @@ told names = record {
   fork = λ forking ts bodies w. told_fork forking ts w;
 }
 
--- the locals that a branch gives back
-abbrev pub assigned : {N M : Type 0} → List ℕ → Frame N M → List (ℕ × Value N)
-assigned [] f = []
-assigned (x ∷ xs) f = (x, local_value f x) ∷ assigned xs f
-
 -- how a task ends that doesn't trap
 abbrev pub ended : {N M : Type 0} → Work → Result N M → Ending N
 ended w (Returns v) = Returned v
-ended w (Goes_on v f) = if w.is_root then Returned none else Assigned (assigned w.copies f)
+ended w (Goes_on v f) = if w.is_root then Returned none else Assigned (assigned w.copies f.values)
 
 -- an end comes where no answer is left over
 abbrev pub ending : {N M : Type 0} → Ending N → ℕ → List (Answer N M) → Reply N M (Task N M)

@@ -15,12 +15,12 @@ use Rattle.dpj_typed.specs.declared.expr.UnaryOp.{UnaryOp}
 use Rattle.dpj_typed.specs.declared.expr.UnaryOp.TheVariants.{Negate, Not}
 use Rattle.dpj_typed.specs.Plain.{PlainProgram, PlainField, PlainMember, TypedExpr, typed, TypedExprs, no_exprs, more_exprs, TypedStmts}
 use Rattle.dpj_typed.specs.Plain.{ExprForm as form}
-use Rattle.dpj_typed.specs.Scope.{class_at, member_at, row_at, constructor_of}
+use Rattle.dpj_typed.specs.Scope.{class_at, member_at, row_at, constructor_of, parent_of}
 use Rattle.dpj_meaning.specs.Values.{Value, Int, Boolean, Null, Object, Region, Thing, An_object, An_array, Naming}
 use Rattle.dpj_meaning.specs.Actions.{Frame, Read, Look, New}
 use Rattle.dpj_meaning.specs.Core.{Result, Goes_on, Returns, Prog, Ret, Traps, Act, on, and_then}
-use Rattle.dpj_meaning.specs.Counts.{number, truth, reference, value_read, length_seen, name_made, class_seen, is_below, same_value}
-use Rattle.dpj_meaning.specs.Regions.{local_value, concrete, is_long, some_long, regions_above}
+use Rattle.dpj_meaning.specs.Counts.{number, truth, reference, value_read, length_seen, name_made, class_seen, class_entered, operated, unary, slot_value, padded, part_place}
+use Rattle.dpj_meaning.specs.Regions.{around, concrete, is_long, some_long, regions_above}
 
 -- what statements do one call deeper
 abbrev pub Deeper : Type 0 → Type 0 → Type 0
@@ -42,26 +42,9 @@ first_of ty.null = Null
 first_of (ty.class c args) = Null
 first_of (ty.array t a named) = Null
 
--- arithmetic wraps at 32 bits; a division rounds toward zero, and traps by zero
-abbrev pub divided : {N M : Type 0} → Place → (ℤ → ℤ → ℤ) → ℤ → ℤ → Frame N M → Prog N M
-divided at d j k f = cond (int_eq k (pos 0)) (Traps trap.Divide at) (gives (Int (d j k)) f)
-
-abbrev pub binary : {N M : Type 0} → (N → N → Bool) → Place → BinaryOp → Value N → Value N → Frame N M → Prog N M
-binary same at op.Add v u f = gives (Int (int_wrapping_add w32 (number v) (number u))) f
-binary same at op.Subtract v u f = gives (Int (int_wrapping_sub w32 (number v) (number u))) f
-binary same at op.Multiply v u f = gives (Int (int_wrapping_mul w32 (number v) (number u))) f
-binary same at op.Divide v u f = divided at (int_wrapping_div w32) (number v) (number u) f
-binary same at op.Remainder v u f = divided at int_rem (number v) (number u) f
-binary same at op.Equal v u f = gives (Boolean (same_value same v u)) f
-binary same at op.NotEqual v u f = gives (Boolean (not (same_value same v u))) f
-binary same at op.Less v u f = gives (Boolean (int_lt (number v) (number u))) f
-binary same at op.AtMost v u f = gives (Boolean (not (int_lt (number u) (number v)))) f
-binary same at op.Greater v u f = gives (Boolean (int_lt (number u) (number v))) f
-binary same at op.AtLeast v u f = gives (Boolean (not (int_lt (number v) (number u)))) f
-
-abbrev pub unary : {N : Type 0} → UnaryOp → Value N → Value N
-unary Negate v = Int (int_wrapping_neg w32 (number v))
-unary Not v = Boolean (not (truth v))
+-- an operation traps where it gives nothing
+abbrev pub operation : {N M : Type 0} → (N → N → Bool) → Place → BinaryOp → Value N → Value N → Frame N M → Prog N M
+operation same at o v u f = elim (operated same o v u) [ None ↦ Traps trap.Divide at | Some w ↦ gives w f ]
 
 -- what follows where the value is an object or an array; null traps
 abbrev pub unless_null : {N M : Type 0} → Place → Value N → (N → Prog N M) → Prog N M
@@ -70,12 +53,6 @@ unless_null at v k = elim (reference v) [ None ↦ Traps trap.Null at | Some n �
 -- a read of a cell, which traps where the index is out of bounds
 abbrev pub read_cell : {N M : Type 0} → Place → N → ℤ → Frame N M → Prog N M
 read_cell at n i f = Act (Read n i) (λ a. elim (value_read a) [ None ↦ Traps trap.Index at | Some v ↦ gives v f ])
-
--- so many slots, of which the first hold these values
-abbrev pub padded : {N : Type 0} → ℕ → List (Value N) → List (Value N)
-padded zero vs = []
-padded (suc n) [] = Null ∷ padded n []
-padded (suc n) (v ∷ vs) = v ∷ padded n vs
 
 -- the frame of a member that is entered
 abbrev pub entered : {N M : Type 0} → PlainMember → List (Value N) → List (Region M) → ℕ → Frame N M
@@ -86,12 +63,6 @@ abbrev pub back : {N M : Type 0} → Frame N M → Result N M → Prog N M
 back f (Goes_on v g) = gives none f
 back f (Returns v) = gives v f
 
--- the class whose row is entered where the look at the receiver is answered so, and its region arguments: the static class,
--- where the answer names none that is it or below it
-abbrev pub class_entered : {M : Type 0} → PlainProgram → ℕ → Option (ℕ × List (Region M)) → ℕ × List (Region M)
-class_entered P c None = (c, [])
-class_entered P c (Some seen) = cond (is_below P (length P.classes) seen.0 c) seen (c, seen.1)
-
 -- the member in the row of a class is entered: its region parameters are those of its class, as the object has them, and then
 -- its own
 abbrev pub enter : {N M : Type 0} → Naming N M → PlainProgram → Deeper N M → ℕ × List (Region M) → ℕ → List (Value N) → List (Region M) → Frame N M → Prog N M
@@ -100,7 +71,7 @@ enter names P dp seen r vs own f =
       None ↦ gives none f
     | Some n ↦ elim (member_at P n) [
         None ↦ gives none f
-      | Some m ↦ on (dp m.body (entered m vs (regions_above names P (length P.classes) seen.0 seen.1 m.class ++ own) (f.left - 1))) (back f)
+      | Some m ↦ on (dp m.body (entered m vs (regions_above names (parent_of P) (length P.classes) seen.0 seen.1 m.class ++ own) (f.left - 1))) (back f)
       ]
     ]
 
@@ -109,7 +80,7 @@ abbrev pub called : {N M : Type 0} → Naming N M → PlainProgram → Option (D
 called names P None at c r own n vs f = Traps trap.Stack at
 called names P (Some dp) at c r own n vs f =
     cond (some_long own) (Traps trap.Stack at)
-    (Act (Look n) (λ a. enter names P dp (class_entered P c (class_seen a)) r (Object n ∷ vs) own f))
+    (Act (Look n) (λ a. enter names P dp (class_entered (parent_of P) (length P.classes) c (class_seen a)) r (Object n ∷ vs) own f))
 
 abbrev pub class_fields : PlainProgram → ℕ → List PlainField
 class_fields P c = option_map_or (λ k. k.fields) (class_at P c) []
@@ -136,7 +107,7 @@ created names P dp at c regions vs f =
 abbrev pub made_array : {N M : Type 0} → Naming N M → Place → PlainType → ℤ → Frame N M → Prog N M
 made_array names at (ty.array t a named) (negsuc k) f = Traps trap.Size at
 made_array names at (ty.array t a named) (pos k) f =
-    cond (is_long (concrete names f a)) (Traps trap.Stack at) (Act (New (An_array (concrete names f a) k (first_of t)) false) (λ x. gives (name_made x) f))
+    cond (is_long (concrete names (around f) a)) (Traps trap.Stack at) (Act (New (An_array (concrete names (around f) a) k (first_of t)) false) (λ x. gives (name_made x) f))
 made_array names at t k f = gives none f
 
 -- the class and the region arguments of a created object
@@ -147,15 +118,14 @@ class_in t = (0, [])
 -- an element of a part: the index is looked at against the part's length, and counts from its first place
 abbrev pub part_element : {N M : Type 0} → Place → ℕ → ℤ → Frame N M → (N → ℤ → Prog N M) → Prog N M
 part_element at k i f j =
-    cond (int_lt i (pos 0) || not (int_lt i (number (local_value f (k + 2))))) (Traps trap.Index at)
-    (unless_null at (local_value f k) (λ n. j n (int_wrapping_add w32 (number (local_value f (k + 1))) i)))
+    elim (part_place k i f.values) [ None ↦ Traps trap.Index at | Some p ↦ unless_null at (slot_value f.values k) (λ n. j n p) ]
 
 abbrev mutual
   pub of_expr : {N M : Type 0} → Naming N M → PlainProgram → Option (Deeper N M) → TypedExpr → Frame N M → Prog N M
   of_expr names P dp (typed at t (form.int k)) f = gives (Int k) f
   of_expr names P dp (typed at t (form.boolean b)) f = gives (Boolean b) f
   of_expr names P dp (typed at t form.null) f = gives Null f
-  of_expr names P dp (typed at t (form.local x)) f = gives (local_value f x) f
+  of_expr names P dp (typed at t (form.local x)) f = gives (slot_value f.values x) f
   of_expr names P dp (typed at t (form.field e c k)) f = and_then (of_expr names P dp e f) (λ v g. unless_null at v (λ n. read_cell at n (pos k) g))
   of_expr names P dp (typed at t (form.element a i)) f =
       and_then (of_expr names P dp a f) (λ v g. and_then (of_expr names P dp i g) (λ u h. unless_null at v (λ n. read_cell at n (number u) h)))
@@ -163,18 +133,18 @@ abbrev mutual
       and_then (of_expr names P dp a f) (λ v g. unless_null at v (λ n. Act (Look n) (λ x. gives (Int (pos (length_seen x))) g)))
   of_expr names P dp (typed at t (form.call e c r regions es)) f =
       and_then (of_expr names P dp e f) (λ v g. of_exprs names P dp es g [] (λ vs h.
-        unless_null at v (λ n. called names P dp at c r (map (concrete names h) regions) n (reverse vs) h)))
+        unless_null at v (λ n. called names P dp at c r (map (concrete names (around h)) regions) n (reverse vs) h)))
   of_expr names P dp (typed at t (form.create es)) f =
-      of_exprs names P dp es f [] (λ vs g. created names P dp at (class_in t).0 (map (concrete names g) (class_in t).1) (reverse vs) g)
+      of_exprs names P dp es f [] (λ vs g. created names P dp at (class_in t).0 (map (concrete names (around g)) (class_in t).1) (reverse vs) g)
   of_expr names P dp (typed at t (form.create_array n)) f = and_then (of_expr names P dp n f) (λ v g. made_array names at t (number v) g)
   of_expr names P dp (typed at t (form.unary o e)) f = and_then (of_expr names P dp e f) (λ v g. gives (unary o v) g)
   of_expr names P dp (typed at t (form.binary o a b)) f =
-      and_then (of_expr names P dp a f) (λ v g. and_then (of_expr names P dp b g) (λ u h. binary names.same at o v u h))
+      and_then (of_expr names P dp a f) (λ v g. and_then (of_expr names P dp b g) (λ u h. operation names.same at o v u h))
   of_expr names P dp (typed at t (form.both a b)) f =
       and_then (of_expr names P dp a f) (λ v g. elim (truth v) [ false ↦ gives (Boolean false) g | true ↦ of_expr names P dp b g ])
   of_expr names P dp (typed at t (form.either a b)) f =
       and_then (of_expr names P dp a f) (λ v g. elim (truth v) [ false ↦ of_expr names P dp b g | true ↦ gives (Boolean true) g ])
-  of_expr names P dp (typed at t (form.part_length k)) f = gives (local_value f (k + 2)) f
+  of_expr names P dp (typed at t (form.part_length k)) f = gives (slot_value f.values (k + 2)) f
   of_expr names P dp (typed at t (form.part_element k i)) f =
       and_then (of_expr names P dp i f) (λ v g. part_element at k (number v) g (λ n j. read_cell at n j g))
 

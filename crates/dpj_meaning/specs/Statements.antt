@@ -10,8 +10,8 @@ use Rattle.dpj_typed.specs.Plain.{StmtForm as form}
 use Rattle.dpj_meaning.specs.Values.{Value, Int, Naming}
 use Rattle.dpj_meaning.specs.Actions.{Frame, Task, Rest, Write, Look, Print, Enter, Exit}
 use Rattle.dpj_meaning.specs.Core.{Returns, Prog, Ret, Traps, Act, Makes, Again, Split, and_then}
-use Rattle.dpj_meaning.specs.Counts.{number, truth, is_out, length_seen, Brought, Back, Trap_of_branch, copied, text_of, line}
-use Rattle.dpj_meaning.specs.Regions.{local_value, concrete_effect}
+use Rattle.dpj_meaning.specs.Counts.{number, truth, is_out, length_seen, Brought, Back, Trap_of_branch, copied, text_of, line, slot_value, part_taken, numbered, how_many}
+use Rattle.dpj_meaning.specs.Regions.{around, concrete_effect}
 use Rattle.dpj_meaning.specs.Expressions.{Deeper, gives, none, unless_null, part_element, of_expr}
 
 abbrev pub with_value : {N M : Type 0} → Frame N M → ℕ → Value N → Frame N M
@@ -44,29 +44,6 @@ branch_of takes copies s f = record {
   frame = record f { left = f.left - 1 };
 }
 
--- a part of an array in a branch over parts: its own beginning and length, computed from those of the whole, from how many
--- parts there are and from the number of this one; nothing, where such a part isn't there
-abbrev pub part_begin : ℤ → ℤ → ℤ → ℕ
-part_begin (pos len) (pos parts) (pos k) = k * len / parts
-part_begin len parts k = 0
-
-abbrev pub is_part : ℤ → ℤ → ℤ → Bool
-is_part len parts k = not (int_lt len (pos 0)) && (not (int_lt k (pos 0)) && int_lt k parts)
-
-abbrev pub next_number : ℤ → ℤ
-next_number k = k +ℤ pos 1
-
-abbrev pub part_taken : {N M : Type 0} → ℕ → Frame N M → Frame N M
-part_taken k f =
-    let first : ℤ = number (local_value f (k + 1)) in
-    let len : ℤ = number (local_value f (k + 2)) in
-    let parts : ℤ = number (local_value f (k + 3)) in
-    let at : ℤ = number (local_value f (k + 4)) in
-    cond (is_part len parts at)
-    (with_value (with_value f (k + 1) (Int (int_wrapping_add w32 first (pos (part_begin len parts at))))) (k + 2)
-      (Int (pos (part_begin len parts (next_number at) - part_begin len parts at))))
-    (with_value (with_value f (k + 1) (Int (pos 0))) (k + 2) (Int (pos 0)))
-
 abbrev pub tasks_of : {N M : Type 0} → TypedBranches → Frame N M → List (Task N M)
 tasks_of no_branches f = []
 tasks_of (more_branches copies s bs) f = branch_of None copies s f ∷ tasks_of bs f
@@ -80,29 +57,24 @@ branch_at no_branches i = no_stmts
 branch_at (more_branches copies s bs) zero = more_stmts s no_stmts
 branch_at (more_branches copies s bs) (suc i) = branch_at bs i
 
--- the iterations of a loop: each has its number in the slot of the loop's variable
-abbrev pub numbered : {N M : Type 0} → ℕ → ℤ → ℕ → Frame N M → Frame N M
-numbered x start i f = with_value f x (Int (int_wrapping_add w32 start (pos i)))
+-- the iterations of a loop, as branches
+abbrev pub numbered_frame : {N M : Type 0} → ℕ → ℤ → ℕ → Frame N M → Frame N M
+numbered_frame x start i f = record f { values = numbered x start i f.values }
 
 abbrev pub iterations : {N M : Type 0} → Option ℕ → ℕ → TypedStmt → Frame N M → ℤ → ℕ → ℕ → List (Task N M)
 iterations takes x s f start i zero = []
-iterations takes x s f start i (suc n) = branch_of takes [] s (numbered x start i f) ∷ iterations takes x s f start (suc i) n
-
--- none, where the count isn't positive
-abbrev pub how_many : ℤ → ℕ
-how_many (pos n) = n
-how_many (negsuc n) = 0
+iterations takes x s f start i (suc n) = branch_of takes [] s (numbered_frame x start i f) ∷ iterations takes x s f start (suc i) n
 
 abbrev pub begun : {N M : Type 0} → Option ℕ → Frame N M → Frame N M
 begun None f = f
-begun (Some k) f = part_taken k f
+begun (Some k) f = record f { values = part_taken k f.values }
 
 -- a loop of branches that isn't too deep
 abbrev pub forks : {N M : Type 0} → Option (Deeper N M) → Place → Forking → Option ℕ → ℕ → TypedStmt → ℤ → ℤ → Frame N M → Prog N M
 forks None at forking takes x s start count f = Traps trap.Stack at
 forks (Some dp) at forking takes x s start count f =
     Split forking (iterations takes x s f start 0 (how_many count))
-    (λ i. dp (more_stmts s no_stmts) (begun takes (record (numbered x start i f) { left = f.left - 1 }))) (joined [] f)
+    (λ i. dp (more_stmts s no_stmts) (begun takes (record (numbered_frame x start i f) { left = f.left - 1 }))) (joined [] f)
 
 -- the slots of a part: array, beginning, length and count
 abbrev pub whole_array : {N M : Type 0} → ℕ → Value N → ℤ → ℕ → Frame N M → Frame N M
@@ -110,7 +82,7 @@ whole_array k v count len f = with_value (with_value (with_value (with_value f k
 
 abbrev pub part_of_part : {N M : Type 0} → ℕ → ℕ → ℤ → Frame N M → Frame N M
 part_of_part k j count f =
-    with_value (with_value (with_value (with_value f k (local_value f j)) (k + 1) (local_value f (j + 1))) (k + 3) (Int count)) (k + 2) (local_value f (j + 2))
+    with_value (with_value (with_value (with_value f k (slot_value f.values j)) (k + 1) (slot_value f.values (j + 1))) (k + 3) (Int count)) (k + 2) (slot_value f.values (j + 2))
 
 abbrev mutual
   pub of_stmt : {N M : Type 0} → Naming N M → PlainProgram → Option (Deeper N M) → TypedStmt → Frame N M → Prog N M
@@ -138,7 +110,7 @@ abbrev mutual
   of_stmt names P dp (statement at (form.local_regions rs)) f = makes rs f
   -- in front of an entry the task rests
   of_stmt names P dp (statement at (form.atomic effects ss)) f =
-      Act Rest (λ a. Act (Enter (map (concrete_effect names f) effects)) (λ b. and_then (of_stmts names P dp ss f) (λ v g. Act Exit (λ c. gives none g))))
+      Act Rest (λ a. Act (Enter (map (concrete_effect names (around f)) effects)) (λ b. and_then (of_stmts names P dp ss f) (λ v g. Act Exit (λ c. gives none g))))
   of_stmt names P None (statement at (form.cobegin forking bs)) f = Traps trap.Stack at
   of_stmt names P (Some dp) (statement at (form.cobegin forking bs)) f =
       Split forking (tasks_of bs f) (λ i. dp (branch_at bs i) (record f { left = f.left - 1 })) (joined (all_copies bs) f)
