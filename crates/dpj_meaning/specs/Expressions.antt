@@ -20,7 +20,7 @@ use Rattle.dpj_meaning.specs.Values.{Value, Int, Boolean, Null, Object, Region, 
 use Rattle.dpj_meaning.specs.Actions.{Frame, Read, Look, New}
 use Rattle.dpj_meaning.specs.Core.{Result, Goes_on, Returns, Prog, Ret, Traps, Act, on, and_then}
 use Rattle.dpj_meaning.specs.Counts.{number, truth, reference, value_read, length_seen, name_made, class_seen, class_entered, operated, unary, slot_value, padded, part_place}
-use Rattle.dpj_meaning.specs.Regions.{around, concrete, is_long, some_long, regions_above}
+use Rattle.dpj_meaning.specs.Regions.{around, unmade_from, concrete, is_long, some_long, regions_above}
 
 -- what statements do one call deeper
 abbrev pub Deeper : Type 0 → Type 0 → Type 0
@@ -55,8 +55,9 @@ abbrev pub read_cell : {N M : Type 0} → Place → N → ℤ → Frame N M → 
 read_cell at n i f = Act (Read n i) (λ a. elim (value_read a) [ None ↦ Traps trap.Index at | Some v ↦ gives v f ])
 
 -- the frame of a member that is entered
-abbrev pub entered : {N M : Type 0} → PlainMember → List (Value N) → List (Region M) → ℕ → Frame N M
-entered m vs regions left = record { values = padded m.slots vs; regions = regions; locals = []; left = left }
+abbrev pub entered : {N M : Type 0} → Naming N M → PlainMember → List (Value N) → List (Region M) → ℕ → Frame N M
+entered names m vs regions left =
+    record { values = padded m.slots vs; regions = regions; locals = unmade_from names 0 m.local_regions; left = left }
 
 -- behind a call: its value, and the caller's locals
 abbrev pub back : {N M : Type 0} → Frame N M → Result N M → Prog N M
@@ -71,7 +72,7 @@ enter names P dp seen r vs own f =
       None ↦ gives none f
     | Some n ↦ elim (member_at P n) [
         None ↦ gives none f
-      | Some m ↦ on (dp m.body (entered m vs (regions_above names (parent_of P) (length P.classes) seen.0 seen.1 m.class ++ own) (f.left - 1))) (back f)
+      | Some m ↦ on (dp m.body (entered names m vs (regions_above names (parent_of P) (length P.classes) seen.0 seen.1 m.class ++ own) (f.left - 1))) (back f)
       ]
     ]
 
@@ -98,7 +99,7 @@ created names P dp at c regions vs f =
         None ↦ Traps trap.Stack at
       | Some deeper ↦ Act (New (new_object P c regions) true) (λ a. elim (member_at P n) [
           None ↦ gives (name_made a) f
-        | Some m ↦ on (deeper m.body (entered m (name_made a ∷ vs) regions (f.left - 1))) (λ r. gives (name_made a) f)
+        | Some m ↦ on (deeper m.body (entered names m (name_made a ∷ vs) regions (f.left - 1))) (λ r. gives (name_made a) f)
         ])
       ]
     ])

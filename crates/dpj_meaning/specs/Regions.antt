@@ -1,5 +1,5 @@
 -- Region paths with the frame put in.
-use Rattle.std.specs.Prelude.{Option, None, Some, ℕ, zero, suc, Bool, ◌==◌, cond, nat_lt, List, [], ◌++◌, map, length, Some, None, slice_index_or}
+use Rattle.std.specs.Prelude.{Option, None, Some, ℕ, zero, suc, Bool, ◌==◌, cond, nat_lt, List, [], ◌∷◌, ◌++◌, map, length, Some, None, slice_index_or}
 use Rattle.std.specs.List.{list_any}
 use Rattle.dpj_base.specs.declared.effect.Effect.{Effect as PathEffect}
 use Rattle.dpj_base.specs.declared.elems.Elem.{Elem}
@@ -11,6 +11,7 @@ use Rattle.dpj_base.specs.declared.region.Head.TheVariants as head
 use Rattle.dpj_base.specs.declared.region.Rpl.{Rpl}
 use Rattle.dpj_typed.specs.Plain.{PlainProgram}
 use Rattle.dpj_typed.specs.Scope.{parent_of}
+use Rattle.dpj_typed.specs.Plain.{PlainParent}
 use Rattle.dpj_meaning.specs.Values.{Value, Null, Part, Region_name, Number, Local, Own_index, Any_index, Any_parts, Region, Naming}
 use Rattle.dpj_meaning.specs.Actions.{Frame, Effect}
 use Rattle.dpj_meaning.specs.Counts.{number, slot_value}
@@ -59,6 +60,11 @@ some_long rs = list_any is_long rs
 -- what stands in a frame
 abbrev pub around : {N M : Type 0} → Frame N M → Around N M
 around f = record { values = f.values; regions = f.regions; locals = f.locals }
+
+-- local regions that are declared and not made yet
+abbrev pub unmade_from : {N M : Type 0} → Naming N M → ℕ → ℕ → List M
+unmade_from names r zero = []
+unmade_from names r (suc n) = names.unmade r ∷ unmade_from names (suc r) n
 
 -- the regions of a class as those of a class above it, at most so many steps up: what each class hands to its superclass
 -- speaks of parameters and names alone

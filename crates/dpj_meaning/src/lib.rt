@@ -9,3 +9,5 @@
 //! a world), `Expressions` and `Statements` (one clause a construct, in the order of evaluation), `Asking` (the next
 //! action of a task after a list of answers).
 #![tactic(auto)]
+
+pub mod laws;
