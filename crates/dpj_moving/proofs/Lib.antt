@@ -8,3 +8,6 @@ pub mod Branch
 pub mod Move
 pub mod Shifts
 pub mod BehindForks
+pub mod AtEntries
+pub mod Rules
+pub mod Theorems

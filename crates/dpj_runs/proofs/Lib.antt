@@ -20,3 +20,5 @@ pub mod Schedules
 pub mod Bound
 pub mod Sorting
 pub mod Replies
+pub mod Scripts
+pub mod Play
