@@ -17,6 +17,7 @@ import argparse
 import collections
 import concurrent.futures
 import json
+import os
 import pathlib
 import re
 import subprocess
@@ -178,7 +179,7 @@ def ask(case):
 
 
 def run_proved(cases):
-    with concurrent.futures.ThreadPoolExecutor() as pool:
+    with concurrent.futures.ThreadPoolExecutor(os.cpu_count()) as pool:
         for case, got in zip(cases, pool.map(ask, cases)):
             case["got"] = got
 
