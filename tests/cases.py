@@ -17,6 +17,7 @@ import argparse
 import collections
 import concurrent.futures
 import json
+import os
 import pathlib
 import re
 import subprocess
@@ -33,7 +34,7 @@ SECONDS = 120
 # The examples whose prefixes are tried on an unproved program, which is slow to ask.
 CUT = ("squares", "two_regions", "parts")
 
-# What may stand behind the three marks that open a fence, but for nothing: words for the program, and the lines that it answers.
+# What may follow the three marks that open a fence, other than nothing: words for the program, and the lines that it answers.
 FENCE = re.compile(r"dpj ((?:check|run)(?: [a-z]+=[-\w]+)*): (accepted|refused \d+:\d+ [a-z-]+|(?:-?\w+, )*result -?\d+|limit)")
 STATUSES = {"refused": 2, "limit": 4}
 
@@ -89,7 +90,7 @@ def from_checked_example(path):
 
 
 def fences(path):
-    """Each fence of a document: its first line's number, the heading above it, what stands behind its marks, and its lines."""
+    """Each fence of a document: its first line's number, the heading above it, what follows its marks, and its lines."""
     heading, opened = path.stem, None
     for number, line in enumerate(path.read_text(encoding="utf-8").split("\n"), 1):
         if not line.lstrip().startswith(("```", "~~~")):
@@ -178,7 +179,7 @@ def ask(case):
 
 
 def run_proved(cases):
-    with concurrent.futures.ThreadPoolExecutor() as pool:
+    with concurrent.futures.ThreadPoolExecutor(os.cpu_count()) as pool:
         for case, got in zip(cases, pool.map(ask, cases)):
             case["got"] = got
 

@@ -7,6 +7,7 @@ The accepted programs are those of tests/cases/*.json and of examples/check. PRO
 """
 import concurrent.futures
 import json
+import os
 import pathlib
 import re
 import subprocess
@@ -50,7 +51,7 @@ def main():
     def answer(prefix):
         return subprocess.run([program, "check"], input=prefix, capture_output=True, timeout=60).stdout
 
-    with concurrent.futures.ThreadPoolExecutor() as pool:
+    with concurrent.futures.ThreadPoolExecutor(os.cpu_count()) as pool:
         answers = pool.map(answer, wanted)
     failed = 0
     for (prefix, want), got in zip(wanted.items(), answers):
