@@ -1,5 +1,6 @@
 use crate::instr::Instr;
 use dpj_base::{Bytes, Effect, Items, Place, Rpl, Value};
+use dpj_typed::Forking;
 
 /// The code of a program.
 #[derive(Drop)]
@@ -69,13 +70,20 @@ pub struct BranchCopies {
 pub enum Site {
     /// Branches: their bodies, and what is copied back from each.
     Fork {
+        forking: Forking,
         bodies: Items<u32>,
         copies: Items<BranchCopies>,
     },
     /// A branch for each number: its body, and the slot of the number.
-    Spread { body: u32, slot: u32 },
+    Spread {
+        forking: Forking,
+        body: u32,
+        slot: u32,
+    },
     /// The effects with which an atomic block is entered.
-    Block { effects: Items<Effect> },
+    Block {
+        effects: Items<Effect>,
+    },
     /// A call of a row of a class, with so many actuals and with region arguments.
     Call {
         class: u32,
@@ -90,5 +98,8 @@ pub enum Site {
         regions: Items<Rpl>,
     },
     /// The creation of an array: the region of its elements, and the first value of each.
-    Array { region: Rpl, first: Value },
+    Array {
+        region: Rpl,
+        first: Value,
+    },
 }
