@@ -83,7 +83,7 @@ abbrev pub task_of : Program → Run → Path → Option Task
 task_of P R [] = Some P.root
 task_of P R (u ∷ q) = let_some (nth (mine R q) u.0) (λ f. let_some (fork_of f.act) (λ ts. let_some (nth (mine R q) (suc (u.0 + u.1))) (λ g. when (is_begin u.1 g.act) (slice_get ts.tasks u.1))))
 
-task_begun : (P : Program) (R : Run) (p : Path) (t : Task) → task_of P R p ≡ Some t → Begun P R p t
+pub task_begun : (P : Program) (R : Run) (p : Path) (t : Task) → task_of P R p ≡ Some t → Begun P R p t
 task_begun P R [] t e = root refl (sym (some_same P.root t e))
 task_begun P R (u ∷ q) t e =
     let a = let_parts (nth (mine R q) u.0) (λ f. let_some (fork_of f.act) (λ ts. let_some (nth (mine R q) (suc (u.0 + u.1))) (λ g. when (is_begin u.1 g.act) (slice_get ts.tasks u.1)))) t e in
@@ -186,7 +186,7 @@ open_is (x ∷ L) n k ts e = go x.act refl (open_is L (suc n) k ts)
         let k_is : length L ≡ k = ap (λ z. z.0) s in
         let m = eqb-true n (length us.tasks) w.0 in
         let l = ap (λ b. length b.tasks) ts_is in
-        record { since = []; fork = x; before = L; is = refl; act = h ∙ ap Fork ts_is; number = k_is; many = omega arith }
+        record { since = []; fork = x; before = L; is = refl; act = h ∙ ap Fork ts_is; number = k_is; many = omega (arith, m, l) }
     go (Begin b) h rec =
         let r = rec (sym (ap (λ a. at_fork a n L (open_fork (suc n) L)) h) ∙ e) in
         let m = r.many in
