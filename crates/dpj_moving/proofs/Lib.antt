@@ -11,3 +11,5 @@ pub mod BehindForks
 pub mod AtEntries
 pub mod Rules
 pub mod Theorems
+pub mod Tests
+pub mod Samples

@@ -15,7 +15,7 @@ write_of c v = Do (Write c.object (pos c.slot) v)
 name_eq : (n m : Name) → n.maker ≡ m.maker → n.count ≡ m.count → n ≡ m
 name_eq n m a b = λ i. record { maker = a i; count = b i }
 
-same_name_eq : (n m : Name) → same_name n m ≡ true → n ≡ m
+pub same_name_eq : (n m : Name) → same_name n m ≡ true → n ≡ m
 same_name_eq n m e = let a = and_parts _ _ e in name_eq n m (same_path_eq n.maker m.maker a.0) (eqb-true _ _ a.1)
 
 is_slot_eq : (i : ℤ) (k : ℕ) → is_slot i k ≡ true → i ≡ pos k

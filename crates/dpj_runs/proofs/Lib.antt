@@ -22,3 +22,5 @@ pub mod Sorting
 pub mod Replies
 pub mod Scripts
 pub mod Play
+pub mod Tests
+pub mod Samples

@@ -3,11 +3,11 @@ use Rattle.std.proofs.Common.{◌≡◌, ℕ, zero, suc, ◌+◌, ◌<◌, ◌�
 use Rattle.std.proofs.lemmas.Bool.{and_parts, cond-true, cond-false, cases_lt}
 use Rattle.std.proofs.lemmas.Option.{slice_get_past}
 use Rattle.dpj_runs.specs.Actions.{Action, Answer, Begin, Branches, Do, End, Ending, Enter, Fork, Join, Next, Over, Program, Reply, Rule, Task, Went}
-use Rattle.dpj_runs.specs.Objects.{Effect, Path}
+use Rattle.dpj_runs.specs.Objects.{Effect, Path, same_path}
 use Rattle.dpj_runs.specs.Runs.{Begun, Ended, Event, Joins, Right, Run, Upto, answers, branch, joined, later, made, mine, now, reply, root}
 use Rattle.dpj_runs.specs.Standing.{Admitted, CanEnter, Inside, Outside, Standing, Valid, standing}
 use Rattle.dpj_runs.proofs.Upto.{upto_trans, upto_length, upto_split, upto_none}
-use Rattle.dpj_runs.proofs.Mine.{mine_at, Found, found}
+use Rattle.dpj_runs.proofs.Mine.{test_same, mine_at, Found, found}
 use Rattle.dpj_runs.proofs.Faithful.{some_same}
 use Rattle.dpj_runs.proofs.Blocks.{entry_at}
 use Rattle.dpj_runs.proofs.Standing.{Opener, opener_of}
@@ -83,7 +83,7 @@ abbrev pub task_of : Program → Run → Path → Option Task
 task_of P R [] = Some P.root
 task_of P R (u ∷ q) = let_some (nth (mine R q) u.0) (λ f. let_some (fork_of f.act) (λ ts. let_some (nth (mine R q) (suc (u.0 + u.1))) (λ g. when (is_begin u.1 g.act) (slice_get ts.tasks u.1))))
 
-task_begun : (P : Program) (R : Run) (p : Path) (t : Task) → task_of P R p ≡ Some t → Begun P R p t
+pub task_begun : (P : Program) (R : Run) (p : Path) (t : Task) → task_of P R p ≡ Some t → Begun P R p t
 task_begun P R [] t e = root refl (sym (some_same P.root t e))
 task_begun P R (u ∷ q) t e =
     let a = let_parts (nth (mine R q) u.0) (λ f. let_some (fork_of f.act) (λ ts. let_some (nth (mine R q) (suc (u.0 + u.1))) (λ g. when (is_begin u.1 g.act) (slice_get ts.tasks u.1)))) t e in
@@ -186,7 +186,7 @@ open_is (x ∷ L) n k ts e = go x.act refl (open_is L (suc n) k ts)
         let k_is : length L ≡ k = ap (λ z. z.0) s in
         let m = eqb-true n (length us.tasks) w.0 in
         let l = ap (λ b. length b.tasks) ts_is in
-        record { since = []; fork = x; before = L; is = refl; act = h ∙ ap Fork ts_is; number = k_is; many = omega arith }
+        record { since = []; fork = x; before = L; is = refl; act = h ∙ ap Fork ts_is; number = k_is; many = omega (arith, m, l) }
     go (Begin b) h rec =
         let r = rec (sym (ap (λ a. at_fork a n L (open_fork (suc n) L)) h) ∙ e) in
         let m = r.many in
@@ -249,10 +249,10 @@ answer_right P R p (Begin b) x e = sym (some_same Went x e)
 answer_right P R p Join x e = joins_now R p x e
 answer_right P R p (End y) x e = sym (some_same Went x e)
 
--- whether an entry may come now: no task that has made an event stands in a block that the rule keeps apart from it
+-- whether an entry may come now: no task that has made an event stands in a block of its own that the rule keeps apart from it
 abbrev lets_by : Rule → Standing → Path → List Effect → Bool
 lets_by rule Outside q E = true
-lets_by rule (Inside o F) q E = rule F E
+lets_by rule (Inside o F) q E = if same_path o q then rule F E else true
 
 abbrev all_let_by : Rule → Run → Run → List Effect → Bool
 all_let_by rule R [] E = true
@@ -285,7 +285,7 @@ enter_ok rule R p E e = record { clear = λ w q F h. at w q F h (opener_of R q F
         let all : all_let_by rule R R E ≡ true = sym (ap (λ s. if_inside s (all_let_by rule R R E)) w) ∙ e in
         let l = all_let_at rule R R E all x.0 f.before f.stands in
         let s : standing R x.0.path ≡ Inside q F = ap (λ r. standing R r) f.path ∙ h in
-        sym (ap (λ t. lets_by rule t x.0.path E) s) ∙ l
+        sym (cond-true (same_path q x.0.path) (rule F E) true (test_same q x.0.path (sym f.path))) ∙ sym (ap (λ t. lets_by rule t x.0.path E) s) ∙ l
 
 -- the next event of a task, where it has one that may come now
 abbrev event_for : Program → Run → Path → Reply → Option Event

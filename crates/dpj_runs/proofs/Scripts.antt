@@ -10,7 +10,7 @@ pub data Item : Type 0 where
   forks : (turns : ℕ) (branches : Branches) → Item
 
 -- after a fork: the begins from branch b on, as many as are left, the join, and what follows
-abbrev after_fork : ℕ → ℕ → (ℕ → Reply) → ℕ → Reply
+abbrev pub after_fork : ℕ → ℕ → (ℕ → Reply) → ℕ → Reply
 after_fork b zero rest zero = Next 0 Join
 after_fork b zero rest (suc n) = rest n
 after_fork b (suc k) rest zero = Next 0 (Begin b)
@@ -29,7 +29,7 @@ pub record Body : Type 0 where
   pub items : List Item
   pub ending : Ending
 
-abbrev body_of : Option Body → Body
+abbrev pub body_of : Option Body → Body
 body_of None = record { items = []; ending = Returned Null }
 body_of (Some b) = b
 

@@ -7,7 +7,7 @@ use Rattle.dpj_runs.specs.Blocks.{Allowed, Legal}
 use Rattle.dpj_runs.specs.Standing.{Valid}
 use Rattle.dpj_runs.specs.Order.{Agree, Before, Comes, Free, IsPlain, Outcome, Passes, Related}
 use Rattle.dpj_runs.specs.Meaning.{Disciplined, Known, Lively, Paced}
-use Rattle.dpj_runs.specs.Schedules.{Finished, Limits, Ran, Ready}
+use Rattle.dpj_runs.specs.Schedules.{Finished, Limits, Ran, Ready, Within}
 
 -- the rule of open blocks as it is written and the one by paths and own events allow the same runs
 abbrev pub BlocksByStanding : Type 0
@@ -72,6 +72,10 @@ OneRun = (P : Program) → Disciplined P → (L : Limits) (ks : List ℕ) (R S :
 
 abbrev pub RanIsLegal : Type 0
 RanIsLegal = (P : Program) (L : Limits) (ks : List ℕ) (R : Run) → Ran P L ks R → Legal P R
+
+-- and each legal run within the limits is recorded by a schedule
+abbrev pub EachRecorded : Type 0
+EachRecorded = (P : Program) (L : Limits) (R : Run) → Legal P R → Within P L R → (ks : List ℕ) × Ran P L ks R
 
 -- a schedule has at most twice as many numbers as there are steps, and one more; a finished one has at most one more than that
 abbrev pub ScheduleIsBounded : Type 0

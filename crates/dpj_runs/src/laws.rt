@@ -1,7 +1,8 @@
 //! The laws of runs, each the clause of a function that does nothing.
 
 ghost use Rattle.dpj_runs.specs.Laws.{BlocksByStanding, Respects, OrderOf, Present, Comparison, SameEvents, SameOutcome, NoneCostsMore};
-ghost use Rattle.dpj_runs.specs.Laws.{EachComesOut, OneOutcome, NothingAfter, SomeReady, OneNext, OneRun, RanIsLegal, ScheduleIsBounded, FinishedIsBounded};
+ghost use Rattle.dpj_runs.specs.Laws.{EachComesOut, OneOutcome, NothingAfter, SomeReady, OneNext, OneRun, RanIsLegal, EachRecorded, ScheduleIsBounded, FinishedIsBounded};
+ghost use Rattle.dpj_runs.specs.Samples.{ComparisonApplies, ComparisonNeedsFree, RespectsNeedsPassing, ReadyApplies, ReadyNeedsKnown, BoundApplies, BoundNeedsPaced};
 
 /// Who stands inside which block is known from paths and from each task's own events.
 pub fn law_blocks()
@@ -36,10 +37,22 @@ pub fn law_ready()
     ensures one_next { OneNext }
 {}
 
-/// A schedule records one legal run, and the limit of steps bounds its length.
+/// A schedule records one legal run, each legal run has a schedule, and the limit of steps bounds its length.
 pub fn law_schedule()
     ensures one_run { OneRun }
     ensures legal { RanIsLegal }
+    ensures recorded { EachRecorded }
     ensures bounded { ScheduleIsBounded }
     ensures finished { FinishedIsBounded }
+{}
+
+/// The laws say something of some programs, and what they ask is needed.
+pub fn law_samples()
+    ensures comparison { ComparisonApplies }
+    ensures conflict { ComparisonNeedsFree }
+    ensures begin { RespectsNeedsPassing }
+    ensures ready { ReadyApplies }
+    ensures unknown { ReadyNeedsKnown }
+    ensures bound { BoundApplies }
+    ensures rests { BoundNeedsPaced }
 {}
