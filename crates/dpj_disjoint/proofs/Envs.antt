@@ -20,7 +20,8 @@ use Rattle.dpj_base.specs.Apart.{distinct_index, distinct, apart_front, solid, s
 use Rattle.dpj_base.specs.Matching.{is_plain, all_plain, Env, IsEnv, Holds, number_of, put_elem, put_in, head_region, Fits, FitsAll, Matches, MatchNoCommon}
 use Rattle.dpj_regions.proofs.Inclusion.{Covers, none, one, stop, skip, Covers-from, Covers-to, star_is, elem_within-cases, elem_within-same, elem_within-refl, elem_within-any}
 use Rattle.dpj_disjoint.proofs.Lists.{front-step, rev-cons, solid-cons, solid-one, solid-length, shorter-parts, shorter-from}
-use Rattle.dpj_disjoint.proofs.Paths.{same_head-is, same_head-refl, rule_of, by_rule, apart-within}
+use Rattle.dpj_regions.proofs.Same.{same_head-is, same_head-refl}
+use Rattle.dpj_disjoint.proofs.Paths.{rule_of, by_rule, apart-within}
 
 -- elements with the environment put in
 

@@ -13,7 +13,8 @@ use Rattle.dpj_base.specs.declared.region.Head.TheVariants.{Root, Param}
 use Rattle.dpj_base.specs.declared.region.Rpl.{Rpl}
 use Rattle.dpj_base.specs.Regions.{is_star, is_specified, all_specified, same_elem, elem_within, within, argument, put_at, substituted, general_elem, generalised}
 use Rattle.dpj_base.specs.Matching.{Env, IsEnv, number_of, put_elem, put_in, head_region, Fits, FitsAll, Matches, with_regions, with_index}
-use Rattle.dpj_regions.proofs.Inclusion.{Covers, none, one, stop, skip, Covers-to, star_is, same_elem-is, elem_within-refl, heads_within-same}
+use Rattle.dpj_regions.proofs.Inclusion.{Covers, none, one, stop, skip, Covers-to, star_is, elem_within-refl, heads_within-same}
+use Rattle.dpj_regions.proofs.Same.{same_elem-is}
 
 -- what fits what, joined and split
 
