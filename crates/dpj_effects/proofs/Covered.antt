@@ -38,7 +38,7 @@ not_or-trans false b c h k = refl
 not_or-trans true true c h k = k
 not_or-trans true false c h k = absurd (false≢true h)
 
-covers-within : (e c : Effect) → covers_effect e c ≡ true → within c.rpl e.rpl ≡ true
+pub covers-within : (e c : Effect) → covers_effect e c ≡ true → within c.rpl e.rpl ≡ true
 unfolding covers_effect
 covers-within e c h = (and_parts (within c.rpl e.rpl) _ (and_parts (within c.rpl e.rpl && covers_access e.access c.access) _ h).0).0
 
@@ -46,7 +46,7 @@ covers-access : (e c : Effect) → covers_effect e c ≡ true → covers_access 
 unfolding covers_effect
 covers-access e c h = (and_parts (within c.rpl e.rpl) _ (and_parts (within c.rpl e.rpl && covers_access e.access c.access) _ h).0).1
 
-covers-marks : (e c : Effect) → covers_effect e c ≡ true → (not e.atomic || c.atomic) ≡ true
+pub covers-marks : (e c : Effect) → covers_effect e c ≡ true → (not e.atomic || c.atomic) ≡ true
 unfolding covers_effect
 covers-marks e c h = (and_parts (within c.rpl e.rpl && covers_access e.access c.access) _ h).1
 
