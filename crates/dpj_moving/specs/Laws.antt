@@ -1,24 +1,28 @@
 -- The laws of gathering and moving, as statements.
 use Rattle.std.specs.Prelude.{ℕ, ◌≡◌, true, List, [], ◌∷◌}
 use Rattle.dpj_runs.specs.Objects.{Path, Effect}
-use Rattle.dpj_runs.specs.Actions.{Ending, Program, Rule}
-use Rattle.dpj_runs.specs.Runs.{Event, Run, mine, total, Ended}
+use Rattle.dpj_runs.specs.Actions.{Ending, Program, Rule, Task}
+use Rattle.dpj_runs.specs.Runs.{Begun, Event, Run, mine, total, Ended}
 use Rattle.dpj_runs.specs.Blocks.{In_block, hold, Legal, leaving_locals, with_rule}
 use Rattle.dpj_runs.specs.Standing.{Inside, standing}
 use Rattle.dpj_runs.specs.Order.{Comes, Outcome}
 use Rattle.dpj_runs.specs.Meaning.{Disciplined, Known}
+use Rattle.dpj_runs.specs.Schedules.{Limits, Within}
 use Rattle.dpj_moving.specs.Gathered.{gather, AtEntries, Together}
 use Rattle.dpj_moving.specs.Moved.{move, BehindForks}
 use Rattle.dpj_moving.specs.Guarded.{ConflictsGuarded, LevelsGuarded}
 
--- G is a legal run of the program with the events of R: each task makes the same ones, with the same answers; any weight of
--- events sums up to the same; and it comes out as R does
+-- G is a legal run of the program with the events of R: each task makes the same ones, with the same answers, so it is to do the
+-- same next; any weight of events sums up to the same; it comes out as R does; and a further event that is over a limit behind
+-- R is so behind G
 pub record Rearranges (P : Program) (R G : Run) : Type 0 where
   pub legal : Legal P G
   pub events : (p : Path) → mine G p ≡ mine R p
   pub costs : (w : Event → ℕ) → total w G ≡ total w R
   pub ended : (p : Path) (x : Ending) → Ended R p x → Ended G p x
   pub outcome : (o : Outcome) → Comes P R o → Comes P G o
+  pub begun : (p : Path) (t : Task) → Begun P R p t → Begun P G p t
+  pub over : (L : Limits) (e : Event) → (Within P L (e ∷ R) → ⊥) → Within P L (e ∷ G) → ⊥
 
 -- a legal run whose unordered conflicts are guarded can be gathered
 pub record IsGathered (P : Program) (R : Run) : Type 0 where
