@@ -296,7 +296,7 @@ module _ (P : Program) (D : Disciplined P) (known : Known P) where
       subst (AtEntries (e ∷ R)) (put_is (standing R e.path) e (gather R) ∙ sym (rearranged_step block_spot e R))
       (step_in_place R e (faithful_of P (e ∷ R) l) (gather R) (gathered P D known R l.1 less) (at_entries R l.1 less))
 
-anchor_stands : {X A R : Run} {x a : Event} → Upto (x ∷ X) R → Anchor X x A a → Upto (a ∷ A) R
+pub anchor_stands : {X A R : Run} {x a : Event} → Upto (x ∷ X) R → Anchor X x A a → Upto (a ∷ A) R
 anchor_stands {X} {A} {R} {x} {a} h (itself s p q) = subst (λ Z. Upto (a ∷ Z) R) (sym p) (subst (λ z. Upto (z ∷ X) R) (sym q) h)
 anchor_stands h (entry o E s t) = upto_trans t.stands (upto_tail h)
 

@@ -33,6 +33,10 @@ pub record IsGathered (P : Program) (R : Run) : Type 0 where
 abbrev pub Gathering : Type 0
 Gathering = (P : Program) → Disciplined P → Known P → (R : Run) → Legal P R → ConflictsGuarded P.rule R → IsGathered P R
 
+-- there is one run with the events of R that has each block's events at its entry, in their order, and all else in its order
+abbrev pub OneGathered : Type 0
+OneGathered = (R G H : Run) → ((p : Path) → mine G p ≡ mine R p) → ((p : Path) → mine H p ≡ mine R p) → AtEntries R G → AtEntries R H → G ≡ H
+
 -- where a task makes an event inside a block, the block's opener has not left it
 abbrev pub StillOpen : Type 0
 StillOpen = (P : Program) → Disciplined P → (R : Run) (e : Event) → Legal P (e ∷ R) → (o : Path) (E : List Effect) → standing R e.path ≡ Inside o E

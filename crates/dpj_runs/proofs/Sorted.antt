@@ -29,10 +29,10 @@ latest_in e y R S o m = go (found (y ∷ S) e.path (subst (λ l. Upto (e ∷ min
 pub order_tail : {e : Event} {R : Run} → InOrder (e ∷ R) → InOrder R
 order_tail o = record { each = λ y x Y X h k. o.each y x Y X (later h) k }
 
-no_events : (e : Event) (R : Run) → mine (e ∷ R) e.path ≡ mine [] e.path → ⊥
+pub no_events : (e : Event) (R : Run) → mine (e ∷ R) e.path ≡ mine [] e.path → ⊥
 no_events e R m = upto_none (subst (λ l. Upto (e ∷ mine R e.path) l) (sym (mine_same e R e.path refl) ∙ m ∙ mine_nil e.path) now)
 
-same_tail : (e : Event) (R S : Run) → ((p : Path) → mine (e ∷ R) p ≡ mine (e ∷ S) p) → (p : Path) → mine R p ≡ mine S p
+pub same_tail : (e : Event) (R S : Run) → ((p : Path) → mine (e ∷ R) p ≡ mine (e ∷ S) p) → (p : Path) → mine R p ≡ mine S p
 same_tail e R S m p = ⊎_elim here (λ h. sym (mine_other e R p h) ∙ m p ∙ mine_other e S p h) (path_cases e.path p)
   where
     here : e.path ≡ p → mine R p ≡ mine S p
