@@ -79,7 +79,7 @@ module _ (P : Program) (D : Disciplined P) where
 
       -- of what has a name in both
       by_thing : (n : Name) (g h : Thing → Answer) → answered_by (thing_of P R n) g ≡ Some e.ans → answered_by (thing_of P T n) h ≡ Some f.ans
-        → ((t : Thing) → thing_of P R n ≡ Some t → thing_of P T n ≡ Some t → e.ans ≡ g t → f.ans ≡ h t → e.ans ≡ f.ans) → e.ans ≡ f.ans
+          → ((t : Thing) → thing_of P R n ≡ Some t → thing_of P T n ≡ Some t → e.ans ≡ g t → f.ans ≡ h t → e.ans ≡ f.ans) → e.ans ≡ f.ans
       by_thing n g h a b each =
           let x = answering g (thing_of P R n) e.ans a in
           let y = answering h (thing_of P T n) f.ans b in
@@ -87,7 +87,7 @@ module _ (P : Program) (D : Disciplined P) where
           each x.thing x.is_there (subst (λ t. thing_of P T n ≡ Some t) s y.is_there) x.answer (y.answer ∙ ap h s)
 
       read_same : (n : Name) (i : ℤ) → e.act ≡ Do (Read n i) → (t : Thing) → thing_of P R n ≡ Some t → thing_of P T n ≡ Some t
-        → (o : Option ℕ) → slot_of i (size t) ≡ o → e.ans ≡ read_at R t n o → f.ans ≡ read_at T t n o → e.ans ≡ f.ans
+          → (o : Option ℕ) → slot_of i (size t) ≡ o → e.ans ≡ read_at R t n o → f.ans ≡ read_at T t n o → e.ans ≡ f.ans
       read_same n i k t tr ts None h a b = a ∙ sym b
       read_same n i k t tr ts (Some slot) h a b =
           a ∙ ap (λ v. Got (or_else v (first_value t slot))) (same_last P D l m fr ft ag pe ms act c reads_e reads_f) ∙ sym b

@@ -182,7 +182,7 @@ module _ (R : Run) (e : Event) where
 
   -- it is begun by one
   spares_one : {g : Event} {B : Run} (G : Run) (q : Path) (u : ℕ × ℕ) → Upto (g ∷ B) G → g.path ≡ q → g.act ≡ Begin u.1 → count B q ≡ suc (u.0 + u.1) → e.path ≡ u ∷ q
-    → spares (e ∷ R) G + spare (mine R e.path) ≡ spares R G + spare (mine (e ∷ R) e.path)
+      → spares (e ∷ R) G + spare (mine R e.path) ≡ spares R G + spare (mine (e ∷ R) e.path)
   spares_one [] q u h gq ga n k = absurd (let l = upto_length h in omega arith)
   spares_one {g} {B} (x ∷ G) q u h gq ga n k = go (spares_one {g = g} {B = B} G q u) (upto_split h)
     where
@@ -197,7 +197,7 @@ module _ (R : Run) (e : Event) where
           b' = sym b
 
       go : (Upto (g ∷ B) G → g.path ≡ q → g.act ≡ Begin u.1 → count B q ≡ suc (u.0 + u.1) → e.path ≡ u ∷ q → spares (e ∷ R) G + spare (mine R e.path) ≡ spares R G + spare (mine (e ∷ R) e.path))
-        → ((g ≡ x) × (B ≡ G)) ⊎ Upto (g ∷ B) G → spares (e ∷ R) (x ∷ G) + spare (mine R e.path) ≡ spares R (x ∷ G) + spare (mine (e ∷ R) e.path)
+          → ((g ≡ x) × (B ≡ G)) ⊎ Upto (g ∷ B) G → spares (e ∷ R) (x ∷ G) + spare (mine R e.path) ≡ spares R (x ∷ G) + spare (mine (e ∷ R) e.path)
       go rec (inl w) =
           let r = spares_same G (λ y Y v hy p a m. none y Y v hy p a m) in
           let a = spares_step (e ∷ R) x G in

@@ -101,7 +101,7 @@ last_step e R c = refl
 pub data LastWrite (R : Run) (c : Cell) : Type 0 where
   none : ((w : Event) (W : Run) → Upto (w ∷ W) R → Writes c w → ⊥) → last_written R c ≡ None → LastWrite R c
   some : (w : Event) (W : Run) → Upto (w ∷ W) R → (wr : Writes c w) → last_written R c ≡ Some wr.value
-    → ((x : Event) (X : Run) → Upto (x ∷ X) R → Writes c x → Upto (x ∷ X) (w ∷ W)) → LastWrite R c
+      → ((x : Event) (X : Run) → Upto (x ∷ X) R → Writes c x → Upto (x ∷ X) (w ∷ W)) → LastWrite R c
 
 pub last_write : (R : Run) (c : Cell) → LastWrite R c
 last_write [] c = none (λ w W h e. (let n = upto_length h in absurd (omega arith))) (last_nil c)

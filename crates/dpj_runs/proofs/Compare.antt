@@ -74,7 +74,7 @@ module _ (P : Program) (D : Disciplined P) where
 
   -- a read gets the value of the same last write in both runs
   module _ {R S : Run} {e f : Event} (l : Faithful P (e ∷ R)) (m : Faithful P (f ∷ S)) (fr : Free (e ∷ R)) (fs : Free (f ∷ S)) (ag : Agree R S)
-    (pe : e.path ≡ f.path) (ms : mine R f.path ≡ mine S f.path) (ae : e.act ≡ f.act) (c : Cell) (re : Reads c e) (rf : Reads c f) where
+      (pe : e.path ≡ f.path) (ms : mine R f.path ≡ mine S f.path) (ae : e.act ≡ f.act) (c : Cell) (re : Reads c e) (rf : Reads c f) where
     over : {w : Event} {W : Run} → Upto (w ∷ W) R → Writes c w → Found S w.path w (mine W w.path)
     over {w} h k = carry_write l m fr ag pe ms ae h (write_read c k re)
 
@@ -86,7 +86,7 @@ module _ (P : Program) (D : Disciplined P) where
 
     -- two last writes, of which each is before the other
     two : {w x : Event} {W W' X X' : Run} → (a : Writes c w) → (b : Writes c x) → Upto (w ∷ W) R → Upto (x ∷ X') R → Upto (w ∷ W') S → Upto (x ∷ X) S
-      → count W' w.path ≡ count W w.path → count X' x.path ≡ count X x.path → Upto (x ∷ X') W → Upto (w ∷ W') X → a.value ≡ b.value
+        → count W' w.path ≡ count W w.path → count X' x.path ≡ count X x.path → Upto (x ∷ X') W → Upto (w ∷ W') X → a.value ≡ b.value
     two {w} {x} {W} {W'} {X} {X'} a b hw hx' hw' hx nw nx xw wx = order (order_of P D l.1 hw hx' (left_plain clash) (right_plain clash))
       where
         clash : Conflict w x

@@ -101,7 +101,7 @@ module _ (P : Program) where
 
   -- the next action is one, after the same events
   pub same_act : {R S B C : Run} {e f : Event} (p : Path) → Agree R S → Upto B R → Upto C S → Follows P B e → Follows P C f
-    → e.path ≡ p → f.path ≡ p → mine B p ≡ mine C p → (e.turns ≡ f.turns) × (e.act ≡ f.act)
+      → e.path ≡ p → f.path ≡ p → mine B p ≡ mine C p → (e.turns ≡ f.turns) × (e.act ≡ f.act)
   same_act {B = B} {C = C} {e = e} {f = f} p ag hb hc a b ep fp m =
       let t : a.task ≡ b.task = same_task ag (begun_upto hb a.begun) (begun_upto hc (subst (λ r. Begun P C r b.task) (fp ∙ sym ep) b.begun)) in
       let a1 = subst (λ r. P.meaning r a.task (answers (mine B r)) ≡ Next e.turns e.act) ep a.asks in

@@ -263,7 +263,7 @@ all_let_at rule R [] E e w V h = absurd (upto_none h)
 all_let_at rule R (x ∷ W) E e w V h = go (and_parts _ _ e) (upto_split h) (λ k. all_let_at rule R W E k w V)
   where
     go : (lets_by rule (standing R x.path) x.path E ≡ true) × (all_let_by rule R W E ≡ true) → ((w ≡ x) × (V ≡ W)) ⊎ Upto (w ∷ V) W
-      → (all_let_by rule R W E ≡ true → Upto (w ∷ V) W → lets_by rule (standing R w.path) w.path E ≡ true) → lets_by rule (standing R w.path) w.path E ≡ true
+        → (all_let_by rule R W E ≡ true → Upto (w ∷ V) W → lets_by rule (standing R w.path) w.path E ≡ true) → lets_by rule (standing R w.path) w.path E ≡ true
     go p (inl k) rec = subst (λ (z : Event). lets_by rule (standing R z.path) z.path E ≡ true) (sym k.0) p.0
     go p (inr k) rec = rec p.1 k
 

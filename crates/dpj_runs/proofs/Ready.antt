@@ -92,7 +92,7 @@ upto_behind [] f before = now
 upto_behind (x ∷ since) f before = later (upto_behind since f before)
 
 module _ (P : Program) (D : Disciplined P) (V : Lively P) (R : Run) (l : Faithful P R)
-  (known : (p : Path) (t : Task) → Begun P R p t → (o : Own) → Asks P p t (answers (mine R p)) (Do o) → (a : Answer) × (reply P R p o ≡ Some a)) where
+    (known : (p : Path) (t : Task) → Begun P R p t → (o : Own) → Asks P p t (answers (mine R p)) (Do o) → (a : Answer) × (reply P R p o ≡ Some a)) where
   -- what a task that has begun was to do when it made an event
   asked : (p : Path) (t : Task) → Begun P R p t → {w : Event} {W : Run} → Upto (w ∷ W) R → w.path ≡ p → Asks P p t (answers (mine W p)) w.act
   asked p t b {w} {W} h e =

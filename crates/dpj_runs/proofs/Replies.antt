@@ -12,8 +12,8 @@ got_in : (v : Value) → Got v ≢ Out
 got_in v e = cc
 
 pub reply_grows : (P : Program) {G H : Run} (p : Path) (o : Own) (a : Answer) → Grows G H → mine G p ≡ mine H p
-  → ((c : Cell) (t : Thing) → o ≡ Read c.object (pos c.slot) → thing_of P G c.object ≡ Some t → slot_of (pos c.slot) (size t) ≡ Some c.slot → last_written G c ≡ last_written H c)
-  → reply P G p o ≡ Some a → reply P H p o ≡ Some a
+    → ((c : Cell) (t : Thing) → o ≡ Read c.object (pos c.slot) → thing_of P G c.object ≡ Some t → slot_of (pos c.slot) (size t) ≡ Some c.slot → last_written G c ≡ last_written H c)
+    → reply P G p o ≡ Some a → reply P H p o ≡ Some a
 reply_grows P p Rest a g m f h = h
 reply_grows P p (Print l) a g m f h = h
 reply_grows P p (Enter E) a g m f h = h
@@ -39,7 +39,7 @@ reply_grows P {G} {H} p (Read n i) a g m f h =
 
 -- a read of a slot that the object has is an access
 pub reads_of : (P : Program) (R : Run) {e : Event} (c : Cell) (t : Thing) → e.act ≡ Do (Read c.object (pos c.slot)) → thing_of P R c.object ≡ Some t
-  → slot_of (pos c.slot) (size t) ≡ Some c.slot → Right P R e.path e.act e.ans → Reads c e
+    → slot_of (pos c.slot) (size t) ≡ Some c.slot → Right P R e.path e.act e.ans → Reads c e
 reads_of P R {e} c t k th s r = record {
   act = k;
   in_bounds = λ out. (

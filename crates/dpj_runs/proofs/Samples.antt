@@ -172,16 +172,15 @@ not_same : mine a_run [] ≡ mine b_run [] → ⊥
 not_same e = true≢false (sym reads_one ∙ sym (ap read_one e) ∙ reads_two)
 
 pub comparison_needs_free : ComparisonNeedsFree
-comparison_needs_free =
-    (
-      race,
-      script_disciplined racers (int 0 ∷ []) never,
-      a_run,
-      b_run,
-      legal_play racers (int 0 ∷ []) never a_first a_run a_played,
-      legal_play racers (int 0 ∷ []) never b_first b_run b_played,
-      (λ ag. ⊎_elim (λ u. not_same (upto_same u lengths)) (λ u. not_same (sym (upto_same u (sym lengths)))) (ag.both [])),
-    )
+comparison_needs_free = (
+  race,
+  script_disciplined racers (int 0 ∷ []) never,
+  a_run,
+  b_run,
+  legal_play racers (int 0 ∷ []) never a_first a_run a_played,
+  legal_play racers (int 0 ∷ []) never b_first b_run b_played,
+  (λ ag. ⊎_elim (λ u. not_same (upto_same u lengths)) (λ u. not_same (sym (upto_same u (sym lengths)))) (ag.both [])),
+)
 
 -- the first branch goes on before the second begins, by the numbers, but not in this run
 abbrev x_event : Event
@@ -203,8 +202,7 @@ y_number = refl
 
 pub respects_needs_passing : RespectsNeedsPassing
 respects_needs_passing =
-    let R : Run = x_event ∷ y_event ∷ y_before in
-    (
+    let R : Run = x_event ∷ y_event ∷ y_before in (
       apart,
       script_disciplined writers (int 0 ∷ int 0 ∷ []) never,
       R,
@@ -300,21 +298,20 @@ not_allowed e p a =
     true≢false (sym (c.clear (ap (λ q. standing inside_run q) p ∙ b_outside) pa any_effect a_inside))
 
 pub ready_applies : ReadyApplies
-ready_applies =
-    (
-      waits,
-      script_disciplined blocks (int 0 ∷ []) never,
-      script_lively blocks (int 0 ∷ []) never,
-      script_known blocks (int 0 ∷ []) never refl,
-      inside_run,
-      inside_legal,
-      none_ended inside_run inside_goes_on [],
-      pb,
-      task 2,
-      b_begun,
-      none_ended inside_run inside_goes_on pb,
-      not_allowed,
-    )
+ready_applies = (
+  waits,
+  script_disciplined blocks (int 0 ∷ []) never,
+  script_lively blocks (int 0 ∷ []) never,
+  script_known blocks (int 0 ∷ []) never refl,
+  inside_run,
+  inside_legal,
+  none_ended inside_run inside_goes_on [],
+  pb,
+  task 2,
+  b_begun,
+  none_ended inside_run inside_goes_on pb,
+  not_allowed,
+)
 
 -- a task looks at an object that nobody has made
 abbrev no_object : Name
@@ -375,7 +372,7 @@ rests_paced : Paced rests
 rests_paced = record { enters = λ p t got a e. by t.body (length got) e }
   where
     by : (b n : ℕ) → after (body_of (slice_get rested b)).items (body_of (slice_get rested b)).ending n ≡ Next 0 (Do Rest)
-      → (E : List Effect) × ((u : ℕ) × (after (body_of (slice_get rested b)).items (body_of (slice_get rested b)).ending (suc n) ≡ Next u (Do (Enter E))))
+        → (E : List Effect) × ((u : ℕ) × (after (body_of (slice_get rested b)).items (body_of (slice_get rested b)).ending (suc n) ≡ Next u (Do (Enter E))))
     by zero n e = let r = rest_paced n e in (r.0, (r.1, r.2))
     by (suc b) zero e = absurd (cc)
     by (suc b) (suc n) e = absurd (cc)

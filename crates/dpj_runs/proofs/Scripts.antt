@@ -50,7 +50,7 @@ scripted bodies fields rule = record {
 
 -- Over a rest that keeps to it, so does what stands after a fork
 over_fork : (rest : ℕ → Reply) → ((n t : ℕ) (y : Ending) → rest n ≡ Next t (End y) → rest (suc n) ≡ Over) → (b k n t : ℕ) (y : Ending)
-  → after_fork b k rest n ≡ Next t (End y) → after_fork b k rest (suc n) ≡ Over
+    → after_fork b k rest n ≡ Next t (End y) → after_fork b k rest (suc n) ≡ Over
 over_fork rest f b zero zero t y e = absurd (cc)
 over_fork rest f b zero (suc n) t y e = f n t y e
 over_fork rest f b (suc k) zero t y e = absurd (cc)
@@ -79,7 +79,7 @@ record Behind (f : ℕ → Reply) (n : ℕ) (ts : Branches) : Type 0 where
   is : (m j : ℕ) → j ≡ n + m → f (suc j) ≡ after_fork 0 (length ts.tasks) rest m
 
 behind_fork : (rest : ℕ → Reply) → ((n t : ℕ) (ts : Branches) → rest n ≡ Next t (Fork ts) → Behind rest n ts) → (b k n t : ℕ) (ts : Branches)
-  → after_fork b k rest n ≡ Next t (Fork ts) → Behind (λ m. after_fork b k rest m) n ts
+    → after_fork b k rest n ≡ Next t (Fork ts) → Behind (λ m. after_fork b k rest m) n ts
 behind_fork rest f b zero zero t ts e = absurd (cc)
 behind_fork rest f b zero (suc n) t ts e = let r = f n t ts e in record { rest = r.rest; is = each r }
   where
@@ -141,7 +141,7 @@ starts_after (does t o ∷ is) x e = cc
 starts_after (forks t ts ∷ is) x e = cc
 
 goes_fork : (rest : ℕ → Reply) → (rest 0 ≡ Over → ⊥) → ((n t : ℕ) (c : Action) → rest n ≡ Next t c → rest (suc n) ≡ Over → (y : Ending) × (c ≡ End y)) → (b k n t : ℕ) (c : Action)
-  → after_fork b k rest n ≡ Next t c → after_fork b k rest (suc n) ≡ Over → (y : Ending) × (c ≡ End y)
+    → after_fork b k rest n ≡ Next t c → after_fork b k rest (suc n) ≡ Over → (y : Ending) × (c ≡ End y)
 goes_fork rest s f b zero zero t c e h = absurd (s h)
 goes_fork rest s f b zero (suc n) t c e h = f n t c e h
 goes_fork rest s f b (suc zero) zero t c e h = absurd (cc)
@@ -230,15 +230,15 @@ script_lively bodies fields rule = record {
     ending t = (body_of (slice_get bodies t.body)).ending
 
     forked : (t : Task) (got : List Answer) → Forked (λ m. after (items t) (ending t) m) (length got) → (ts : Branches) × (later : List Answer) × (a : Answer)
-      × (earlier : List Answer) × (got ≡ later ++ a ∷ earlier) × (length later ≡ length ts.tasks) × Asks (scripted bodies fields rule) [] t earlier (Fork ts)
+        × (earlier : List Answer) × (got ≡ later ++ a ∷ earlier) × (length later ≡ length ts.tasks) × Asks (scripted bodies fields rule) [] t earlier (Fork ts)
     forked t got r = go (split_at got (suc r.at) (let i = r.number in omega arith))
       where
         go : SplitAt got (suc r.at) → (ts : Branches) × (later : List Answer) × (a : Answer)
-          × (earlier : List Answer) × (got ≡ later ++ a ∷ earlier) × (length later ≡ length ts.tasks) × Asks (scripted bodies fields rule) [] t earlier (Fork ts)
+            × (earlier : List Answer) × (got ≡ later ++ a ∷ earlier) × (length later ≡ length ts.tasks) × Asks (scripted bodies fields rule) [] t earlier (Fork ts)
         go s = by s.earlier s.is s.many
           where
             by : (es : List Answer) → got ≡ s.later_ones ++ es → length es ≡ suc r.at → (ts : Branches) × (later : List Answer) × (a : Answer)
-              × (earlier : List Answer) × (got ≡ later ++ a ∷ earlier) × (length later ≡ length ts.tasks) × Asks (scripted bodies fields rule) [] t earlier (Fork ts)
+                × (earlier : List Answer) × (got ≡ later ++ a ∷ earlier) × (length later ≡ length ts.tasks) × Asks (scripted bodies fields rule) [] t earlier (Fork ts)
             by [] e n = absurd (omega arith)
             by (a ∷ es) e n =
                 let i = r.number in

@@ -147,5 +147,5 @@ body_main (b ∷ bs) (suc i) h = body_main bs i (and_parts (items_main b.items) 
 pub script_known : (bodies : List Body) (fields : List Value) (rule : Rule) → bodies_main bodies ≡ true → Known (scripted bodies fields rule)
 script_known bodies fields rule h = record {
   replies = λ R l p t b o e. own_known (scripted bodies fields rule) R p o
-    (after_main (body_of (slice_get bodies t.body)).items (body_of (slice_get bodies t.body)).ending (body_main bodies t.body h) (length (answers (mine R p))) e.0 o e.1);
+      (after_main (body_of (slice_get bodies t.body)).items (body_of (slice_get bodies t.body)).ending (body_main bodies t.body h) (length (answers (mine R p))) e.0 o e.1);
 }

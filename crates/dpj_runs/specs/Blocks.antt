@@ -40,7 +40,7 @@ hold (e ∷ es) = hold_after e.act (hold es)
 pub data StandsIn (A : Run) (a : Event) : Run → Path → Type 0 where
   opened : {R : Run} {p : Path} → Upto (a ∷ A) R → a.path ≡ p → StandsIn A a R p
   begun_in : {R : Run} {p : Path} (q : Path) (u : ℕ × ℕ) (F : Run) (f : Event) (ts : Branches) → p ≡ u ∷ q
-    → Upto (f ∷ F) R → f.path ≡ q → count F q ≡ u.0 → f.act ≡ Fork ts → StandsIn A a F q → StandsIn A a R p
+      → Upto (f ∷ F) R → f.path ≡ q → count F q ≡ u.0 → f.act ≡ Fork ts → StandsIn A a F q → StandsIn A a R p
 
 -- a block is open from its entry to its opener's matching exit or end
 pub record IsOpen (A : Run) (a : Event) (E : List Effect) (R : Run) : Type 0 where
@@ -50,7 +50,7 @@ pub record IsOpen (A : Run) (a : Event) (E : List Effect) (R : Run) : Type 0 whe
 abbrev pub IsBlock : Run → Run → Event → List Effect → Type 0
 IsBlock [] A a E = ⊥
 IsBlock (e ∷ R) A a E = ((e ≡ a) × (R ≡ A) × (a.act ≡ Do (Enter E))
-  × ((B : Run) (b : Event) (F : List Effect) → IsBlock R B b F → IsOpen B b F R → StandsIn B b R e.path → ⊥)) ⊎ IsBlock R A a E
+    × ((B : Run) (b : Event) (F : List Effect) → IsBlock R B b F → IsOpen B b F R → StandsIn B b R e.path → ⊥)) ⊎ IsBlock R A a E
 
 abbrev pub Outermost : Run → Path → Type 0
 Outermost R p = (B : Run) (b : Event) (F : List Effect) → IsBlock R B b F → IsOpen B b F R → StandsIn B b R p → ⊥

@@ -39,8 +39,8 @@ count R p = length (mine R p)
 pub data Begun (P : Program) (R : Run) (p : Path) (t : Task) : Type 0 where
   root : p ≡ [] → t ≡ P.root → Begun P R p t
   branch : (q : Path) (u : ℕ × ℕ) (F : Run) (f : Event) (ts : Branches) (B : Run) (g : Event) → p ≡ u ∷ q
-    → Upto (f ∷ F) R → f.path ≡ q → count F q ≡ u.0 → f.act ≡ Fork ts → slice_get ts.tasks u.1 ≡ Some t
-    → Upto (g ∷ B) R → g.path ≡ q → g.act ≡ Begin u.1 → count B q ≡ suc (u.0 + u.1) → Begun P R p t
+      → Upto (f ∷ F) R → f.path ≡ q → count F q ≡ u.0 → f.act ≡ Fork ts → slice_get ts.tasks u.1 ≡ Some t
+      → Upto (g ∷ B) R → g.path ≡ q → g.act ≡ Begin u.1 → count B q ≡ suc (u.0 + u.1) → Begun P R p t
 
 -- the things that some events of one task made, in order
 abbrev pub own_made : Own → List Thing

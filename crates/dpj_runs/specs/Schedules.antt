@@ -30,7 +30,7 @@ begins (e ∷ R) = one_begin e.act + begins R
 pub data Numbered (R : Run) (k : ℕ) (p : Path) : Type 0 where
   root_is : p ≡ [] → k ≡ 0 → Numbered R k p
   branch_is : (q : Path) (u : ℕ × ℕ) (G : Run) (g : Event) → p ≡ u ∷ q → Upto (g ∷ G) R → g.path ≡ q → g.act ≡ Begin u.1
-    → count G q ≡ suc (u.0 + u.1) → k ≡ suc (begins G) → Numbered R k p
+      → count G q ≡ suc (u.0 + u.1) → k ≡ suc (begins G) → Numbered R k p
 
 -- this event of the task of this number may come next
 pub record Ready (P : Program) (R : Run) (k : ℕ) (e : Event) : Type 0 where
