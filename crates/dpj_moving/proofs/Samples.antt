@@ -14,23 +14,15 @@ use Rattle.dpj_moving.specs.Laws.{Weaker}
 use Rattle.dpj_moving.specs.Moved.{inner, move}
 use Rattle.dpj_moving.specs.Samples.{BothApply, GatheringNeedsGuarded, GatheringNeedsKnown, MovingNeedsWeaker, SomeConflict}
 use Rattle.dpj_moving.specs.Guarded.{ConflictsGuarded, LevelsGuarded}
+use Rattle.dpj_moving.specs.Insertion.{All_of, Branch_of, rearranged}
+use Rattle.dpj_moving.specs.Guarded.{ConflictsGuarded, LevelsGuarded}
 use Rattle.dpj_runs.proofs.Mine.{path_cases}
 use Rattle.dpj_runs.proofs.Written.{legal_from, valid_from}
-use Rattle.dpj_runs.proofs.Scripts.{Item, does, forks, Body, body_of, after, task, scripted, script_disciplined}
-use Rattle.dpj_runs.proofs.Play.{play, played, has_ended_with}
+use Rattle.dpj_runs.proofs.Scripts.{main, int, Item, does, forks, Body, body_of, after, task, scripted, script_disciplined}
+use Rattle.dpj_runs.proofs.Play.{run_of, play, played, has_ended_with}
 use Rattle.dpj_runs.proofs.Tests.{script_known}
 use Rattle.dpj_moving.proofs.Insertion.{valid_upto}
 use Rattle.dpj_moving.proofs.Tests.{each_pair, conflict_test, conflicts_guarded, level_test, levels_guarded, without, upto_without}
-
-abbrev main : Name
-main = record { maker = []; count = 0 }
-
-abbrev int : ℕ → Value
-int n = Int (pos n)
-
-abbrev run_of : Option Run → Run
-run_of None = []
-run_of (Some R) = R
 
 abbrev writes_to : ℕ → List Effect
 writes_to n = record { access = Writing; region = Exactly (Region_name n) ∷ [] } ∷ []

@@ -2,9 +2,9 @@
 use Rattle.std.proofs.Common.{append-nil, ◌≡◌, ◌≢◌, ℕ, ℤ, pos, Option, Some, None, suc, ◌<◌, ◌≤◌, ◌⊎◌, inl, inr, ⊎_elim, [], ◌∷◌, ◌++◌, length, refl, sym, ap, ◌∙◌, subst, arith}
 use Rattle.std.proofs.lemmas.Bool.{cases_lt}
 use Rattle.std.proofs.Common.{◌+◌, length-append}
-use Rattle.dpj_runs.specs.Actions.{Action, Answer, Begin, Do, End, Ending, Enter, Exit, Fork, Got, Join, Look, Named, New, Out, Own, Print, Program, Read, Rest, Write}
+use Rattle.dpj_runs.specs.Actions.{Action, Answer, Begin, Do, End, Ending, Enter, Exit, Fork, Got, Join, Look, Named, New, Own, Print, Program, Read, Rest, Write}
 use Rattle.dpj_runs.specs.Meaning.{Disciplined}
-use Rattle.dpj_runs.specs.Objects.{Cell, Name, Path, Thing, Value, first_value, or_else, size, slot_of}
+use Rattle.dpj_runs.specs.Objects.{Cell, Name, Path, Thing, first_value, or_else, size, slot_of}
 use Rattle.dpj_runs.specs.Order.{Agree, Free, Reads}
 use Rattle.dpj_runs.specs.Runs.{Ended, Event, Faithful, Joins, Right, Run, Upto, answered_by, at_start, count, joined, later, mine, now, read_at, reply, seen, thing_of, things, value_in, wrote_at}
 use Rattle.dpj_runs.specs.Schedules.{ended}
@@ -13,11 +13,8 @@ use Rattle.dpj_runs.proofs.Mine.{path_cases, mine_nil, mine_step, mine_same, min
 use Rattle.dpj_runs.proofs.Faithful.{one_fork, agree_self, carry, same_act, faithful_upto, none_after_end}
 use Rattle.dpj_runs.proofs.Between.{agree_back, ended_longer, complete}
 use Rattle.dpj_runs.proofs.Things.{answering, same_some, same_thing}
-use Rattle.dpj_runs.proofs.Cells.{slot_is}
+use Rattle.dpj_runs.proofs.Cells.{got_in, slot_is}
 use Rattle.dpj_runs.proofs.Compare.{free_upto, agree_upto, same_last, same_list}
-
-got_in : (v : Value) → Got v ≢ Out
-got_in v e = cc
 
 pub same_event : (e f : Event) → e.path ≡ f.path → e.turns ≡ f.turns → e.act ≡ f.act → e.ans ≡ f.ans → e ≡ f
 same_event e f a n b c = λ i. record { path = a i; turns = n i; act = b i; ans = c i }

@@ -128,6 +128,9 @@ slot_is (pos j) n k e = go (nat_lt j n) refl
     go false h = absurd (let s : None ≡ Some k = sym (cond-false (nat_lt j n) (Some j) None h) ∙ e in cc)
 slot_is (negsuc j) n k e = absurd (let s : None ≡ Some k = e in cc)
 
+pub got_in : (v : Value) → Got v ≢ Out
+got_in v e = cc
+
 -- conflicts are of plain actions
 pub left_plain : {x y : Event} → Conflict x y → IsPlain x.act
 left_plain (read_write c a b) = subst IsPlain (sym a.act) tt

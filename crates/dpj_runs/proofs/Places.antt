@@ -18,7 +18,7 @@ pub snoc : (x : ℕ × ℕ) (xs : Path) → (ys : Path) × (y : ℕ × ℕ) × (
 snoc x [] = ([], x, refl)
 snoc x (z ∷ xs) = let r = snoc z xs in (x ∷ r.0, r.1, ap (λ l. x ∷ l) r.2)
 
-pair_eq : (x y : ℕ × ℕ) → x.0 ≡ y.0 → x.1 ≡ y.1 → x ≡ y
+pub pair_eq : (x y : ℕ × ℕ) → x.0 ≡ y.0 → x.1 ≡ y.1 → x ≡ y
 pair_eq x y a b = λ i. (a i, b i)
 
 apart : (x z : ℕ × ℕ) (xs p q : Path) → q ≡ xs ++ z ∷ p → (z.1 ≡ x.1 → ⊥) → x.0 ≡ z.0 → Place (x ∷ p) q

@@ -6,7 +6,7 @@ use Rattle.dpj_runs.specs.Actions.{Action, Answer, Begin, Branches, Do, End, End
 use Rattle.dpj_runs.specs.Objects.{Effect, Path, same_path}
 use Rattle.dpj_runs.specs.Runs.{Begun, Ended, Event, Joins, Right, Run, Upto, answers, branch, joined, later, made, mine, now, reply, root}
 use Rattle.dpj_runs.specs.Standing.{Admitted, CanEnter, Inside, Outside, Standing, Valid, standing}
-use Rattle.dpj_runs.proofs.Upto.{upto_trans, upto_length, upto_split, upto_none}
+use Rattle.dpj_runs.proofs.Upto.{upto_behind, upto_trans, upto_length, upto_split, upto_none}
 use Rattle.dpj_runs.proofs.Mine.{test_same, mine_at, Found, found}
 use Rattle.dpj_runs.proofs.Faithful.{some_same}
 use Rattle.dpj_runs.proofs.Blocks.{entry_at}
@@ -198,10 +198,6 @@ open_is (x ∷ L) n k ts e = go x.act refl (open_is L (suc n) k ts)
 abbrev join_answer : Run → Path → Option Answer
 join_answer R p = let_some (open_fork 0 (mine R p)) (λ f. let_some (ends_from R p f.0 0 (length f.1.tasks)) (λ xs. Some (joined xs)))
 
-upto_behind : (since : Run) (f : Event) (before : Run) → Upto (f ∷ before) (since ++ f ∷ before)
-upto_behind [] f before = now
-upto_behind (x ∷ since) f before = later (upto_behind since f before)
-
 joins_now : (R : Run) (p : Path) (a : Answer) → join_answer R p ≡ Some a → Joins R p a
 joins_now R p a e =
     let c = let_parts (open_fork 0 (mine R p)) (λ f. let_some (ends_from R p f.0 0 (length f.1.tasks)) (λ xs. Some (joined xs))) a e in
@@ -328,3 +324,7 @@ played P (p ∷ ps) R e =
     let x : Event = b.value in
     let v : Valid P (x ∷ S) = (admitted_next P S p x b.is, played P ps S a.is) in
     subst (λ R. Valid P R) (some_same (x ∷ S) R b.then_is) v
+
+abbrev pub run_of : Option Run → Run
+run_of None = []
+run_of (Some R) = R

@@ -7,7 +7,7 @@ use Rattle.dpj_runs.specs.Objects.{Effect, Path}
 use Rattle.dpj_runs.specs.Runs.{Begun, Ended, Event, Faithful, Right, Run, Upto, answers, branch, count, joined, later, mine, now, reply, root}
 use Rattle.dpj_runs.specs.Schedules.{ended}
 use Rattle.dpj_runs.specs.Standing.{Admitted, CanEnter, Inside, Outside, Standing, above, first_of, joined_by, standing}
-use Rattle.dpj_runs.proofs.Upto.{upto_trans, upto_length, upto_tail, upto_split, upto_none}
+use Rattle.dpj_runs.proofs.Upto.{upto_behind, upto_trans, upto_length, upto_tail, upto_split, upto_none}
 use Rattle.dpj_runs.proofs.Mine.{path_cases, mine_at, found, same_of, number_of, numbered}
 use Rattle.dpj_runs.proofs.Faithful.{agree_self, next_same, same_task, begun_upto, some_same, follows_at, fork_above, begin_after, none_after_end}
 use Rattle.dpj_runs.proofs.Standing.{first_is, above_step, hold_since, opener_of}
@@ -86,10 +86,6 @@ parted (e ∷ L) (x ∷ xs) a ys h =
     let k : answers L ≡ xs ++ a ∷ ys = cc in
     let r = parted L xs a ys k in
     record { since = e ∷ r.since; event = r.event; before = r.before; is = ap (λ l. e ∷ l) r.is; many = ap (λ n. suc n) r.many; rest = r.rest }
-
-upto_behind : (since : Run) (f : Event) (before : Run) → Upto (f ∷ before) (since ++ f ∷ before)
-upto_behind [] f before = now
-upto_behind (x ∷ since) f before = later (upto_behind since f before)
 
 module _ (P : Program) (D : Disciplined P) (V : Lively P) (R : Run) (l : Faithful P R)
     (known : (p : Path) (t : Task) → Begun P R p t → (o : Own) → Asks P p t (answers (mine R p)) (Do o) → (a : Answer) × (reply P R p o ≡ Some a)) where

@@ -1,15 +1,12 @@
 -- What a task does by itself is answered alike in a run in which all tasks have at least the same events.
 use Rattle.std.proofs.Common.{◌≡◌, ◌≢◌, ℕ, ℤ, pos, List, [], ◌∷◌, ◌++◌, length, refl, sym, ap, ◌∙◌, subst, Option, Some, None}
-use Rattle.dpj_runs.specs.Actions.{Answer, Do, Enter, Exit, Got, Look, Named, New, Out, Own, Print, Program, Read, Rest, Write}
-use Rattle.dpj_runs.specs.Objects.{Cell, Path, Thing, Value, first_value, or_else, size, slot_of}
+use Rattle.dpj_runs.specs.Actions.{Answer, Do, Enter, Exit, Got, Look, Named, New, Own, Print, Program, Read, Rest, Write}
+use Rattle.dpj_runs.specs.Objects.{Cell, Path, Thing, first_value, or_else, size, slot_of}
 use Rattle.dpj_runs.specs.Order.{Reads}
 use Rattle.dpj_runs.specs.Runs.{Event, Right, Run, answered_by, at_start, count, last_written, mine, read_at, reply, seen, thing_of, things, value_in, wrote_at}
 use Rattle.dpj_runs.proofs.Things.{answering, same_some, thing_upto}
-use Rattle.dpj_runs.proofs.Cells.{slot_is}
+use Rattle.dpj_runs.proofs.Cells.{got_in, slot_is}
 use Rattle.dpj_runs.proofs.Standing.{Grows}
-
-got_in : (v : Value) → Got v ≢ Out
-got_in v e = cc
 
 pub reply_grows : (P : Program) {G H : Run} (p : Path) (o : Own) (a : Answer) → Grows G H → mine G p ≡ mine H p
     → ((c : Cell) (t : Thing) → o ≡ Read c.object (pos c.slot) → thing_of P G c.object ≡ Some t → slot_of (pos c.slot) (size t) ≡ Some c.slot → last_written G c ≡ last_written H c)

@@ -15,15 +15,9 @@ use Rattle.dpj_runs.proofs.Faithful.{agree_self, next_same, same_task}
 use Rattle.dpj_runs.proofs.Written.{legal_from, admitted_from, legal_faithful}
 use Rattle.dpj_runs.proofs.Schedules.{recorded, ran_length}
 use Rattle.dpj_runs.proofs.Theorems.{each_comes_out, same_outcome}
-use Rattle.dpj_runs.proofs.Scripts.{Item, does, forks, Body, body_of, after, after_fork, task, scripted, script_disciplined, script_lively}
-use Rattle.dpj_runs.proofs.Play.{play, played, task_begun, has_ended_with}
+use Rattle.dpj_runs.proofs.Scripts.{main, int, Item, does, forks, Body, body_of, after, after_fork, task, scripted, script_disciplined, script_lively}
+use Rattle.dpj_runs.proofs.Play.{run_of, play, played, task_begun, has_ended_with}
 use Rattle.dpj_runs.proofs.Tests.{is_free, script_known}
-
-abbrev main : Name
-main = record { maker = []; count = 0 }
-
-abbrev int : ℕ → Value
-int n = Int (pos n)
 
 abbrev two : Kind → Branches
 two k = record { kind = k; tasks = task 1 ∷ task 2 ∷ [] }
@@ -33,10 +27,6 @@ pa = (0, 0) ∷ []
 
 abbrev pb : Path
 pb = (0, 1) ∷ []
-
-abbrev run_of : Option Run → Run
-run_of None = []
-run_of (Some R) = R
 
 abbrev never : Rule
 never F E = false

@@ -1,9 +1,10 @@
 -- Programs for samples: each task goes through a list of what it does, whatever it is answered.
-use Rattle.std.proofs.Common.{◌≡◌, ℕ, zero, suc, ◌+◌, ◌<◌, ◌≤◌, ◌⊎◌, inl, inr, ⊎_elim, Bool, true, false, ◌&&◌, List, [], ◌∷◌, ◌++◌, length, refl, sym, ap, ◌∙◌, subst, arith, Option, Some, None, slice_get, length-append}
+use Rattle.std.proofs.Common.{◌≡◌, ℕ, pos, zero, suc, ◌+◌, ◌<◌, ◌≤◌, ◌⊎◌, inl, inr, ⊎_elim, Bool, true, false, ◌&&◌, List, [], ◌∷◌, ◌++◌, length, refl, sym, ap, ◌∙◌, subst, arith, Option, Some, None, slice_get, length-append}
 use Rattle.std.proofs.lemmas.Bool.{and_parts, cases_lt}
 use Rattle.dpj_runs.specs.Actions.{Action, Answer, Asks, Begin, Branches, Do, End, Ending, Fork, Join, Next, Over, Own, Program, Reply, Returned, Rule, Task}
 use Rattle.dpj_runs.specs.Meaning.{Disciplined, Lively}
-use Rattle.dpj_runs.specs.Objects.{An_object, Null, Thing, Value}
+use Rattle.dpj_runs.specs.Objects.{An_object, Int, Name, Null, Thing, Value}
+use Rattle.dpj_runs.specs.Runs.{count}
 
 pub data Item : Type 0 where
   does : (turns : ℕ) (own : Own) → Item
@@ -36,9 +37,15 @@ body_of (Some b) = b
 abbrev pub task : ℕ → Task
 task n = record { body = n; frame = record { values = []; regions = []; locals = []; depth = 0 } }
 
--- the object that stands at the start, of some fields
+-- the object that stands at the start, and its name
+abbrev pub main : Name
+main = record { maker = []; count = 0 }
+
 abbrev pub main_object : List Value → Thing
 main_object fields = An_object 0 [] fields
+
+abbrev pub int : ℕ → Value
+int n = Int (pos n)
 
 abbrev pub scripted : List Body → List Value → Rule → Program
 scripted bodies fields rule = record {
