@@ -108,7 +108,8 @@ module _ (P : Program) (D : Disciplined P) (known : Known P) (R G0 : Run) (e : E
               ne (record { below = t.below; is = t.path ∙ ap (λ q. t.below ++ q) (k ∙ oo) })
 
           barred : Barred P.rule i.effects E
-          barred = (let ee : gs.latter.effects ≡ E = effects_same gs.latter.opener o gs.latter.effects E same_block in subst (λ F. Barred P.rule i.effects F) ee (gs.barred two_blocks))
+          barred = (let ee : gs.latter.effects ≡ E = effects_same gs.latter.opener o gs.latter.effects E same_block in
+              subst (λ F. Barred P.rule i.effects F) ee (gs.barred two_blocks))
 
           meet : EntryAt Y i.opener i.effects → ⊥
           meet a = by_order (which a.stands entered.stands)

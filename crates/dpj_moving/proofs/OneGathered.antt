@@ -20,7 +20,8 @@ module _ (Ord : Path → ℕ → Path → ℕ → Type 0) where
     pub each : (p q : Path) (k l : ℕ) → k < count G p → l < count G q → Ord p k q l → Earlier G p k q l
 
   compares_tail : {e : Event} {G : Run} → Compares (e ∷ G) → Compares G
-  compares_tail {e} {G} c = record { each = λ p q k l a b n. (let i = upto_length (mine_step e G p) in let j = upto_length (mine_step e G q) in c.each p q k l (omega arith) (omega arith) n) }
+  compares_tail {e} {G} c = record { each = λ p q k l a b n. (let i = upto_length (mine_step e G p) in let j = upto_length (mine_step e G q) in
+      c.each p q k l (omega arith) (omega arith) n) }
 
   keeps_tail : {e : Event} {G : Run} → Keeps (e ∷ G) → Keeps G
   keeps_tail {e} {G} s = record { each = each }
@@ -51,7 +52,8 @@ module _ (Ord : Path → ℕ → Path → ℕ → Type 0) where
     where
       differ : (e.path ≡ y.path → count G e.path ≡ count H y.path → ⊥) → e ∷ G ≡ y ∷ H
       differ n = absurd (⊎_elim (λ o. not_top {e = e} {G = G} y.path (count H y.path) (s.each e.path y.path (count G e.path) (count H y.path) here there o))
-        (λ o. not_top {e = y} {G = H} e.path (count G e.path) (t.each y.path e.path (count H y.path) (count G e.path) there_y here_e o)) (c.each e.path y.path (count G e.path) (count H y.path) here there n))
+        (λ o. not_top {e = y} {G = H} e.path (count G e.path) (t.each y.path e.path (count H y.path) (count G e.path) there_y here_e o))
+            (c.each e.path y.path (count G e.path) (count H y.path) here there n))
         where
           here : count G e.path < count (e ∷ G) e.path
           here = (let i = ap length (mine_same e G e.path refl) in omega arith)
@@ -65,7 +67,8 @@ module _ (Ord : Path → ℕ → Path → ℕ → Type 0) where
           here_e : count G e.path < count (y ∷ H) e.path
           here_e = (let i = ap length (m e.path) in let j = here in omega arith)
 
-      go : (((p : Path) → mine G p ≡ mine H p) → Compares G → Keeps G → Keeps H → G ≡ H) → (e.path ≡ y.path) ⊎ (e.path ≡ y.path → ⊥) → (count G e.path ≡ count H y.path) ⊎ (count G e.path ≡ count H y.path → ⊥) → e ∷ G ≡ y ∷ H
+      go : (((p : Path) → mine G p ≡ mine H p) → Compares G → Keeps G → Keeps H → G ≡ H) → (e.path ≡ y.path) ⊎ (e.path ≡ y.path → ⊥)
+          → (count G e.path ≡ count H y.path) ⊎ (count G e.path ≡ count H y.path → ⊥) → e ∷ G ≡ y ∷ H
       go rec (inr n) b = differ (λ k j. n k)
       go rec (inl k) (inr n) = differ (λ i j. n j)
       go rec (inl k) (inl n) =
@@ -101,7 +104,8 @@ compares R G m i = record { each = each }
     each : (p q : Path) (k l : ℕ) → k < count G p → l < count G q → (p ≡ q → k ≡ l → ⊥) → Sooner R p k q l ⊎ Sooner R q l p k
     each p q k l a b n = by (numbered R p k (subst (λ es. k < length es) (m p) a)) (numbered R q l (subst (λ es. l < length es) (m q) b))
       where
-        by : (x : Event) × (X : Run) × Upto (x ∷ X) R × (x.path ≡ p) × (count X p ≡ k) → (y : Event) × (Y : Run) × Upto (y ∷ Y) R × (y.path ≡ q) × (count Y q ≡ l) → Sooner R p k q l ⊎ Sooner R q l p k
+        by : (x : Event) × (X : Run) × Upto (x ∷ X) R × (x.path ≡ p) × (count X p ≡ k) → (y : Event) × (Y : Run) × Upto (y ∷ Y) R × (y.path ≡ q)
+            × (count Y q ≡ l) → Sooner R p k q l ⊎ Sooner R q l p k
         by x y = go (which (anchor_stands x.2 (i.has x.1 x.0 x.2).2) (anchor_stands y.2 (i.has y.1 y.0 y.2).2))
           where
             ax : (A : Run) × (a : Event) × Anchor x.1 x.0 A a
@@ -111,10 +115,12 @@ compares R G m i = record { each = each }
             ay = i.has y.1 y.0 y.2
 
             x_first : Upto (ax.1 ∷ ax.0) ay.0 ⊎ ((ax.0 ≡ ay.0) × Upto (x.0 ∷ x.1) y.1) → Sooner R p k q l
-            x_first s = record { X = x.1; x = x.0; Y = y.1; y = y.0; A = ax.0; a = ax.1; B = ay.0; b = ay.1; x_stands = x.2; y_stands = y.2; x_path = x.3; x_number = x.4; y_path = y.3; y_number = y.4; x_anchor = ax.2; y_anchor = ay.2; sooner = s }
+            x_first s = record { X = x.1; x = x.0; Y = y.1; y = y.0; A = ax.0; a = ax.1; B = ay.0; b = ay.1; x_stands = x.2; y_stands = y.2; x_path = x.3;
+                x_number = x.4; y_path = y.3; y_number = y.4; x_anchor = ax.2; y_anchor = ay.2; sooner = s }
 
             y_first : Upto (ay.1 ∷ ay.0) ax.0 ⊎ ((ay.0 ≡ ax.0) × Upto (y.0 ∷ y.1) x.1) → Sooner R q l p k
-            y_first s = record { X = y.1; x = y.0; Y = x.1; y = x.0; A = ay.0; a = ay.1; B = ax.0; b = ax.1; x_stands = y.2; y_stands = x.2; x_path = y.3; x_number = y.4; y_path = x.3; y_number = x.4; x_anchor = ay.2; y_anchor = ax.2; sooner = s }
+            y_first s = record { X = y.1; x = y.0; Y = x.1; y = x.0; A = ay.0; a = ay.1; B = ax.0; b = ax.1; x_stands = y.2; y_stands = x.2; x_path = y.3;
+                x_number = y.4; y_path = x.3; y_number = x.4; x_anchor = ay.2; y_anchor = ax.2; sooner = s }
 
             in_one : ax.0 ≡ ay.0 → Which x.0 x.1 y.0 y.1 → Sooner R p k q l ⊎ Sooner R q l p k
             in_one e (same_one u v) =

@@ -35,10 +35,12 @@ module _ (P : Program) where
       let bq = subst (λ r. Begun P b.before r al.task) b.path al.begun in
       let bp = begun_at P p fb u a.path in
       let o = a.open_since b.before up u in
-      c1.clear (stands_outside b.before q (above_same P fb grows q bq ∙ aq) b.outside) p E (opener_stands b.before p E o.0 (above_same P fb grows p bp.1 ∙ ap_) o.1)
+      c1.clear (stands_outside b.before q (above_same P fb grows q bq ∙ aq) b.outside) p E
+          (opener_stands b.before p E o.0 (above_same P fb grows p bp.1 ∙ ap_) o.1)
 
   -- so blocks that the rule keeps apart are not
-  pub never_both : (Y : Run) (p q : Path) (E F : List Effect) → Valid P Y → above Y p ≡ Outside → above Y q ≡ Outside → (a : EntryAt Y p E) → (b : EntryAt Y q F)
+  pub never_both : (Y : Run) (p q : Path) (E F : List Effect) → Valid P Y → above Y p ≡ Outside → above Y q ≡ Outside → (a : EntryAt Y p E)
+      → (b : EntryAt Y q F)
     → Upto (a.event ∷ a.before) b.before → P.rule E F ≡ false → ⊥
   never_both Y p q E F l ap_ aq a b u k = true≢false (sym (no_overlap Y p q E F l ap_ aq a b u) ∙ k)
 
@@ -57,4 +59,5 @@ module _ (P : Program) where
         ∙ sym (above_same P (faithful_upto P (upto_tail w.stands) l) (record { each = λ p. mine_upto p (upto_tail w.stands) }) y.path c.begun)
 
     pub same_standing : {y : Event} {Y : Run} → (hy : Upto (y ∷ Y) G0) → (w : Found R y.path y (mine Y y.path)) → standing Y y.path ≡ standing w.before y.path
-    same_standing {y} {Y} hy w = ap (λ a. joined_by a y.path (hold (mine Y y.path))) (same_above hy w) ∙ ap (λ m. joined_by (above w.before y.path) y.path (hold m)) (sym w.mine_is)
+    same_standing {y} {Y} hy w = ap (λ a. joined_by a y.path (hold (mine Y y.path))) (same_above hy w)
+        ∙ ap (λ m. joined_by (above w.before y.path) y.path (hold m)) (sym w.mine_is)

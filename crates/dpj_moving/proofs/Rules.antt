@@ -36,7 +36,8 @@ valid_rule P weak w (e ∷ R) l = (admitted l.0, valid_rule P weak w R l.1)
   where
     admitted : Admitted P R e → Admitted (with_rule weak P) R e
     admitted a = record {
-      follows = (let f = a.follows in record { task = f.task; begun = begun_rule P weak f.begun; asks = f.asks; right = right_rule P weak R e.path e.act e.ans f.right });
+      follows = (let f = a.follows in record { task = f.task; begun = begun_rule P weak f.begun; asks = f.asks;
+          right = right_rule P weak R e.path e.act e.ans f.right });
       enters = λ E k. (let c = a.enters E k in record { clear = λ s q F h. w F E (c.clear s q F h) });
     }
 

@@ -1,6 +1,8 @@
 -- The samples.
-use Rattle.std.proofs.Common.{◌≡◌, ◌≢◌, ℕ, ℤ, pos, zero, suc, ◌⊎◌, inl, inr, ⊎_elim, Bool, true, false, true≢false, not, ◌&&◌, ◌||◌, ◌==◌, List, [], ◌∷◌, length, map, refl, sym, ap, ◌∙◌, subst, arith, Option, Some, None, slice_get}
-use Rattle.dpj_runs.specs.Actions.{Answer, Assigned, Branches, Deterministic, Do, Enter, Exit, Got, Length, Look, New, Nondeterministic, Out, Program, Read, Rest, Returned, Rule, Went, Write}
+use Rattle.std.proofs.Common.{◌≡◌, ◌≢◌, ℕ, ℤ, pos, zero, suc, ◌⊎◌, inl, inr, ⊎_elim, Bool, true, false, true≢false, not, ◌&&◌, ◌||◌, ◌==◌, List, [], ◌∷◌}
+use Rattle.std.proofs.Common.{length, map, refl, sym, ap, ◌∙◌, subst, arith, Option, Some, None, slice_get}
+use Rattle.dpj_runs.specs.Actions.{Answer, Assigned, Branches, Deterministic, Do, Enter, Exit, Got, Length, Look, New, Nondeterministic, Out, Program, Read}
+use Rattle.dpj_runs.specs.Actions.{Rest, Returned, Rule, Went, Write}
 use Rattle.dpj_runs.specs.Blocks.{Legal, leaving_locals, without_locals}
 use Rattle.dpj_runs.specs.Meaning.{Disciplined, Known}
 use Rattle.dpj_runs.specs.Objects.{An_array, Effect, Exactly, Int, Local, Name, Path, PatternPart, Reading, Region_name, Star, Value, Writing, same_path}
@@ -58,7 +60,8 @@ block_of_writes region field = does 0 Rest ∷ does 0 (Enter (writes_to region))
 abbrev bodies : List Body
 bodies =
     record { items = forks 0 (record { kind = Nondeterministic; tasks = task 1 ∷ task 2 ∷ task 3 ∷ [] }) ∷ []; ending = Returned (int 0) }
-    ∷ record { items = does 0 Rest ∷ does 0 (Enter (writes_to 1)) ∷ forks 0 (record { kind = Deterministic; tasks = task 4 ∷ [] }) ∷ does 0 Exit ∷ []; ending = Assigned [] }
+    ∷ record { items = does 0 Rest ∷ does 0 (Enter (writes_to 1)) ∷ forks 0 (record { kind = Deterministic; tasks = task 4 ∷ [] }) ∷ does 0 Exit ∷ [];
+        ending = Assigned [] }
     ∷ record { items = block_of_writes 1 0; ending = Assigned [] }
     ∷ record { items = block_of_writes 2 1; ending = Assigned [] }
     ∷ record { items = does 0 (Write main (pos 0) (int 2)) ∷ []; ending = Assigned [] }
@@ -132,8 +135,10 @@ some_conflict = record {
   earlier = d_writes;
   stands = b_stands;
   under = d_stands;
-  unordered = record { below_p = (2, 0) ∷ []; below_q = []; above = []; u = (0, 0); v = (0, 1); one_fork = refl; apart = λ e. (omega arith); p_is = refl; q_is = refl };
-  conflict = write_write (record { object = main; slot = 0 }) (record { value = int 2; act = refl; in_bounds = went_in }) (record { value = int 1; act = refl; in_bounds = went_in });
+  unordered = record { below_p = (2, 0) ∷ []; below_q = []; above = []; u = (0, 0); v = (0, 1); one_fork = refl; apart = λ e. (omega arith); p_is = refl;
+      q_is = refl };
+  conflict = write_write (record { object = main; slot = 0 }) (record { value = int 2; act = refl; in_bounds = went_in })
+      (record { value = int 1; act = refl; in_bounds = went_in });
   levels = two_levels;
 }
 
@@ -206,7 +211,8 @@ not_gathered l =
 pub gathering_needs_guarded : GatheringNeedsGuarded
 gathering_needs_guarded =
     let D = script_disciplined open_bodies fields other_region in
-    (unguarded, D, script_known open_bodies fields other_region refl, open_run, legal_from unguarded D open_run (played unguarded in_between open_run open_played), not_gathered)
+    (unguarded, D, script_known open_bodies fields other_region refl, open_run,
+        legal_from unguarded D open_run (played unguarded in_between open_run open_played), not_gathered)
 
 -- One branch looks inside a block at what another makes
 abbrev made_by_b : Name

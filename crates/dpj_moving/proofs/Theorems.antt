@@ -46,7 +46,8 @@ same_comes P R G m o c =
     }
 
 one_more : (R G : Run) (e : Event) → ((p : Path) → mine G p ≡ mine R p) → (p : Path) → mine (e ∷ G) p ≡ mine (e ∷ R) p
-one_more R G e m p = ⊎_elim (λ h. mine_same e G p h ∙ ap (λ l. e ∷ l) (m p) ∙ sym (mine_same e R p h)) (λ h. mine_other e G p h ∙ m p ∙ sym (mine_other e R p h)) (path_cases e.path p)
+one_more R G e m p = ⊎_elim (λ h. mine_same e G p h ∙ ap (λ l. e ∷ l) (m p) ∙ sym (mine_same e R p h))
+    (λ h. mine_other e G p h ∙ m p ∙ sym (mine_other e R p h)) (path_cases e.path p)
 
 same_within : (P : Program) (L : Limits) (R G : Run) (e : Event) → ((p : Path) → mine G p ≡ mine R p) → Within P L (e ∷ G) → Within P L (e ∷ R)
 same_within P L R G e m w =

@@ -46,7 +46,8 @@ unfolding mine
 mine_nil p = refl
 
 pub mine_step : (e : Event) (R : Run) (p : Path) → Upto (mine R p) (mine (e ∷ R) p)
-mine_step e R p = ⊎_elim (λ h. subst (Upto (mine R p)) (sym (mine_same e R p h)) (later now)) (λ h. subst (Upto (mine R p)) (sym (mine_other e R p h)) now) (path_cases e.path p)
+mine_step e R p = ⊎_elim (λ h. subst (Upto (mine R p)) (sym (mine_same e R p h)) (later now)) (λ h. subst (Upto (mine R p)) (sym (mine_other e R p h)) now)
+    (path_cases e.path p)
 
 pub mine_upto : {B R : Run} (p : Path) → Upto B R → Upto (mine B p) (mine R p)
 mine_upto p now = now

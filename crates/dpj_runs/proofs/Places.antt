@@ -39,7 +39,8 @@ cons_place x p q (over xs z e) = go (cases_order x.0 z.0)
     go (inr (inr l)) = right_of [] xs p x z refl e l
 cons_place x p q (left_of xs ys r u v d e l) = left_of (x ∷ xs) ys r u v (ap (λ l. x ∷ l) d) e l
 cons_place x p q (right_of xs ys r u v d e l) = right_of (x ∷ xs) ys r u v (ap (λ l. x ∷ l) d) e l
-cons_place x p q (beside n) = beside (record { below_p = x ∷ n.below_p; below_q = n.below_q; above = n.above; u = n.u; v = n.v; one_fork = n.one_fork; apart = n.apart; p_is = ap (λ l. x ∷ l) n.p_is; q_is = n.q_is })
+cons_place x p q (beside n) = beside (record { below_p = x ∷ n.below_p; below_q = n.below_q; above = n.above; u = n.u; v = n.v; one_fork = n.one_fork;
+    apart = n.apart; p_is = ap (λ l. x ∷ l) n.p_is; q_is = n.q_is })
 
 nil_place : (q : Path) → Place [] q
 nil_place [] = equal refl

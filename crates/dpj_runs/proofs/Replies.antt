@@ -9,7 +9,8 @@ use Rattle.dpj_runs.proofs.Cells.{got_in, slot_is}
 use Rattle.dpj_runs.proofs.Standing.{Grows}
 
 pub reply_grows : (P : Program) {G H : Run} (p : Path) (o : Own) (a : Answer) → Grows G H → mine G p ≡ mine H p
-    → ((c : Cell) (t : Thing) → o ≡ Read c.object (pos c.slot) → thing_of P G c.object ≡ Some t → slot_of (pos c.slot) (size t) ≡ Some c.slot → last_written G c ≡ last_written H c)
+    → ((c : Cell) (t : Thing) → o ≡ Read c.object (pos c.slot) → thing_of P G c.object ≡ Some t → slot_of (pos c.slot) (size t) ≡ Some c.slot
+        → last_written G c ≡ last_written H c)
     → reply P G p o ≡ Some a → reply P H p o ≡ Some a
 reply_grows P p Rest a g m f h = h
 reply_grows P p (Print l) a g m f h = h
@@ -43,6 +44,7 @@ reads_of P R {e} c t k th s r = record {
       let h : reply P R e.path (Read c.object (pos c.slot)) ≡ Some e.ans = subst (λ a. Right P R e.path a e.ans) k r in
       let a = answering (λ x. read_at R x c.object (slot_of (pos c.slot) (size x))) (thing_of P R c.object) e.ans h in
       let same : a.thing ≡ t = same_some a.is_there th in
-      let got : e.ans ≡ Got (value_in R t (record { object = c.object; slot = c.slot })) = a.answer ∙ ap (λ x. read_at R x c.object (slot_of (pos c.slot) (size x))) same ∙ ap (λ o. read_at R t c.object o) s in
+      let got : e.ans ≡ Got (value_in R t (record { object = c.object; slot = c.slot })) =
+          a.answer ∙ ap (λ x. read_at R x c.object (slot_of (pos c.slot) (size x))) same ∙ ap (λ o. read_at R t c.object o) s in
       got_in (value_in R t (record { object = c.object; slot = c.slot })) (sym got ∙ out));
 }

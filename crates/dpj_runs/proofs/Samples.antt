@@ -1,12 +1,15 @@
 -- The samples.
-use Rattle.std.proofs.Common.{◌≡◌, ◌≢◌, ℕ, ℤ, pos, zero, suc, ◌+◌, ◌*◌, ◌<◌, ◌≤◌, ◌⊎◌, inl, inr, ⊎_elim, Bool, true, false, cond, true≢false, ◌&&◌, ◌==◌, List, [], ◌∷◌, length, map, refl, sym, ap, ◌∙◌, subst, arith, Option, Some, None, slice_get}
+use Rattle.std.proofs.Common.{◌≡◌, ◌≢◌, ℕ, ℤ, pos, zero, suc, ◌+◌, ◌*◌, ◌<◌, ◌≤◌, ◌⊎◌, inl, inr, ⊎_elim, Bool, true, false, cond, true≢false, ◌&&◌, ◌==◌, List}
+use Rattle.std.proofs.Common.{[], ◌∷◌, length, map, refl, sym, ap, ◌∙◌, subst, arith, Option, Some, None, slice_get}
 use Rattle.std.proofs.lemmas.Bool.{and_parts}
-use Rattle.dpj_runs.specs.Actions.{Action, Answer, Assigned, Begin, Branches, Deterministic, Do, End, Ending, Enter, Exit, Got, Kind, Look, New, Next, Nondeterministic, Print, Program, Read, Reply, Rest, Returned, Rule, Went, Write, cells, steps}
+use Rattle.dpj_runs.specs.Actions.{Action, Answer, Assigned, Begin, Branches, Deterministic, Do, End, Ending, Enter, Exit, Got, Kind, Look, New, Next}
+use Rattle.dpj_runs.specs.Actions.{Nondeterministic, Print, Program, Read, Reply, Rest, Returned, Rule, Went, Write, cells, steps}
 use Rattle.dpj_runs.specs.Blocks.{Allowed, Legal}
 use Rattle.dpj_runs.specs.Meaning.{Paced}
 use Rattle.dpj_runs.specs.Objects.{An_array, Effect, Int, Name, Path, Star, Value, Writing, same_path}
 use Rattle.dpj_runs.specs.Order.{Comes, Free, below_join}
-use Rattle.dpj_runs.specs.Runs.{Begun, Ended, Event, Follows, Right, Run, Upto, answers, branch, cells_of, count, last_written, later, mine, now, reply, root, steps_of, things, total}
+use Rattle.dpj_runs.specs.Runs.{Begun, Ended, Event, Follows, Right, Run, Upto, answers, branch, cells_of, count, last_written, later, mine, now, reply, root}
+use Rattle.dpj_runs.specs.Runs.{steps_of, things, total}
 use Rattle.dpj_runs.specs.Samples.{BoundApplies, BoundNeedsPaced, ComparisonApplies, ComparisonNeedsFree, ReadyApplies, ReadyNeedsKnown, RespectsNeedsPassing}
 use Rattle.dpj_runs.specs.Schedules.{Limits, Ran, Within}
 use Rattle.dpj_runs.specs.Standing.{Inside, Outside, above, first_of, standing}
@@ -31,7 +34,8 @@ pb = (0, 1) ∷ []
 abbrev never : Rule
 never F E = false
 
-legal_play : (bodies : List Body) (fields : List Value) (rule : Rule) (ps : List Path) (R : Run) → play (scripted bodies fields rule) ps ≡ Some R → Legal (scripted bodies fields rule) R
+legal_play : (bodies : List Body) (fields : List Value) (rule : Rule) (ps : List Path) (R : Run) → play (scripted bodies fields rule) ps ≡ Some R
+    → Legal (scripted bodies fields rule) R
 legal_play bodies fields rule ps R e = let P = scripted bodies fields rule in legal_from P (script_disciplined bodies fields rule) R (played P ps R e)
 
 -- Two branches write two fields, and one makes an object; then the root reads both fields
@@ -282,7 +286,8 @@ not_allowed e p a =
     let d = admitted_from waits inside_run e (legal_faithful waits inside_run inside_legal) a in
     let f = d.follows in
     let t : f.task ≡ task 2 = same_task (agree_self inside_run) (subst (λ q. Begun waits inside_run q f.task) p f.begun) b_begun in
-    let k : waits.meaning pb f.task (answers (mine inside_run pb)) ≡ Next e.turns e.act = subst (λ q. waits.meaning q f.task (answers (mine inside_run q)) ≡ Next e.turns e.act) p f.asks in
+    let k : waits.meaning pb f.task (answers (mine inside_run pb)) ≡ Next e.turns e.act =
+        subst (λ q. waits.meaning q f.task (answers (mine inside_run q)) ≡ Next e.turns e.act) p f.asks in
     let act = (next_same 0 e.turns (Do (Enter any_effect)) e.act (sym (ap (λ s. waits.meaning pb s (answers (mine inside_run pb))) t ∙ b_asks) ∙ k)).1 in
     let c = d.enters any_effect (sym act) in
     true≢false (sym (c.clear (ap (λ q. standing inside_run q) p ∙ b_outside) pa any_effect a_inside))
@@ -330,7 +335,8 @@ stuck e a = go a.follows.begun
     go : Begun looks [] e.path f.task → ⊥
     go (branch q u F g ts B h p b c d r s b1 c1 e1 d1) = upto_none b
     go (root p t) =
-        let k : looks.meaning [] f.task (answers (mine [] [])) ≡ Next e.turns e.act = subst (λ q. looks.meaning q f.task (answers (mine [] q)) ≡ Next e.turns e.act) p f.asks in
+        let k : looks.meaning [] f.task (answers (mine [] [])) ≡ Next e.turns e.act =
+            subst (λ q. looks.meaning q f.task (answers (mine [] q)) ≡ Next e.turns e.act) p f.asks in
         let act = (next_same 0 e.turns (Do (Look no_object)) e.act (sym (ap (λ s. looks.meaning [] s (answers (mine [] []))) t ∙ at_first) ∙ k)).1 in
         let r : reply looks [] e.path (Look no_object) ≡ Some e.ans = subst (λ c. Right looks [] e.path c e.ans) (sym act) f.right in
         let z : None ≡ Some e.ans = sym nothing_there ∙ ap (λ q. reply looks [] q (Look no_object)) (sym p) ∙ r in
@@ -394,7 +400,8 @@ bound_applies =
     let L : Limits = record { steps = 4; cells = 2 } in
     let w : Within rests L rest_run = record { steps = (let n = rest_steps in omega arith); cells = (let n = rest_cells in omega arith) } in
     let r = recorded rests L rest_run (legal_play rested (int 0 ∷ []) never ([] ∷ [] ∷ [] ∷ [] ∷ [] ∷ []) rest_run rest_played) w in
-    (rests, script_disciplined rested (int 0 ∷ []) never, rests_paced, L, r.0, rest_run, r.1, (let n = some_ran rests L rest_run 5 r rest_length in omega arith))
+    (rests, script_disciplined rested (int 0 ∷ []) never, rests_paced, L, r.0, rest_run, r.1,
+        (let n = some_ran rests L rest_run 5 r rest_length in omega arith))
 
 -- a root that rests and rests
 abbrev resters : List Body

@@ -45,7 +45,8 @@ SameOutcome = (P : Program) → Disciplined P → (R S : Run) (o q : Outcome) �
 
 -- and no legal run, ended or not, costs more than one whose root has ended
 abbrev pub NoneCostsMore : Type 0
-NoneCostsMore = (P : Program) → Disciplined P → (R S : Run) (x : Ending) → Legal P R → Legal P S → Free R → Free S → Ended S [] x → (w : Event → ℕ) → total w R ≤ total w S
+NoneCostsMore = (P : Program) → Disciplined P → (R S : Run) (x : Ending) → Legal P R → Legal P S → Free R → Free S → Ended S [] x → (w : Event → ℕ)
+    → total w R ≤ total w S
 
 -- a legal run whose root has ended comes out in one way
 abbrev pub EachComesOut : Type 0
@@ -60,7 +61,8 @@ NothingAfter = (P : Program) → Disciplined P → (R : Run) (x : Ending) (e : E
 
 -- as long as the root has not ended some task is ready
 abbrev pub SomeReady : Type 0
-SomeReady = (P : Program) → Disciplined P → Lively P → Known P → (R : Run) → Legal P R → ((x : Ending) → Ended R [] x → ⊥) → (k : ℕ) × (e : Event) × Ready P R k e
+SomeReady = (P : Program) → Disciplined P → Lively P → Known P → (R : Run) → Legal P R → ((x : Ending) → Ended R [] x → ⊥) → (k : ℕ) × (e : Event)
+    × Ready P R k e
 
 -- a task that is ready has one next event
 abbrev pub OneNext : Type 0

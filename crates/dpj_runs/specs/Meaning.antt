@@ -23,7 +23,8 @@ pub record Lively (P : Program) : Type 0 where
 
 -- a rest that no turns stand before stands in front of an entry
 pub record Paced (P : Program) : Type 0 where
-  pub enters : (p : Path) (t : Task) (got : List Answer) (a : Answer) → P.meaning p t got ≡ Next 0 (Do Rest) → (E : List Effect) × Asks P p t (a ∷ got) (Do (Enter E))
+  pub enters : (p : Path) (t : Task) (got : List Answer) (a : Answer) → P.meaning p t got ≡ Next 0 (Do Rest) → (E : List Effect)
+      × Asks P p t (a ∷ got) (Do (Enter E))
 
 -- where a task of a legal run next acts on an object, something has that name
 pub record Known (P : Program) : Type 0 where
