@@ -11,7 +11,6 @@ use Rattle.dpj_runs.specs.Standing.{Inside, Outside, Standing, Valid, above, fir
 use Rattle.dpj_moving.specs.Gathered.{Anchor, AtEntries, EntryOf, Together, block_of, block_spot, entry, gather, itself}
 use Rattle.dpj_moving.specs.Guarded.{ConflictsGuarded}
 use Rattle.dpj_moving.specs.Insertion.{All_of, Earlier, put_behind}
-use Rattle.dpj_moving.specs.Moved.{below}
 use Rattle.dpj_moving.specs.Guarded.{ConflictsGuarded}
 use Rattle.dpj_moving.specs.Insertion.{All_of, Earlier, put_behind}
 use Rattle.dpj_runs.proofs.Upto.{upto_trans, upto_length, upto_tail, upto_split, upto_none, Which, which, same_one, before, after}
@@ -83,8 +82,13 @@ module _ (P : Program) (D : Disciplined P) (known : Known P) where
       same_above = above_same P zl.1 (record { each = λ p. mine_upto p (upto_tail zr.stands) }) z.path z_task.1
 
       entered : Upto (a ∷ A) zr.before → EntryOf zr.before o E A a
-      entered h = record { stands = h; path = ent.path; outside = ent.outside; act = ent.act;
-          open_since = λ Z k j. ent.open_since Z (upto_trans k (upto_tail zr.stands)) j }
+      entered h = record {
+        stands = h;
+        path = ent.path;
+        outside = ent.outside;
+        act = ent.act;
+        open_since = λ Z k j. ent.open_since Z (upto_trans k (upto_tail zr.stands)) j;
+      }
 
       by_opener : z.path ≡ o → (count zr.before o ≡ count A o) ⊎ ((count zr.before o < count A o) ⊎ (count A o < count zr.before o)) → Anchor zr.before z A a
       by_opener k (inl n) =
@@ -125,9 +129,9 @@ module _ (P : Program) (D : Disciplined P) (known : Known P) where
           let h = earlier_of o ent.stands fs ent.path f.path (subst (λ i. count A o < i) (sym f.number) n) in
           let m = ent.open_since f.before (upto_tail fs) h in
           let firsts : first_of u.0 (mine R o) ≡ mine f.before o =
-              subst (λ i. first_of i (mine R o) ≡ mine f.before o) f.number (first_is (upto_tail (mine_at o fs f.path))) in
+          subst (λ i. first_of i (mine R o) ≡ mine f.before o) f.number (first_is (upto_tail (mine_at o fs f.path))) in
           let up : above R (u ∷ o) ≡ Inside o E = above_step R u o ∙ ap (λ b. joined_by b o (hold (first_of u.0 (mine R o)))) s.outside
-              ∙ ap (λ r. joined_by Outside o (hold r)) firsts ∙ ap (λ r. joined_by Outside o r) m.1 in
+          ∙ ap (λ r. joined_by Outside o (hold r)) firsts ∙ ap (λ r. joined_by Outside o r) m.1 in
           let upz : above zr.before z.path ≡ Inside o E = same_above ∙ ap (λ r. above R r) k ∙ above_under R (u ∷ o) o E up xs in
           entry o E (ap (λ b. joined_by b z.path (hold (mine zr.before z.path))) upz) (entered (upto_trans h (upto_tail f.stands)))
 
@@ -167,8 +171,14 @@ module _ (P : Program) (D : Disciplined P) (known : Known P) where
         → Earlier (put (standing R e.path) e G0) x.path (count X x.path) e.path (count R e.path)
     as_later X A B x a b hx ax (itself s p q) so =
         subst (λ st. Earlier (put st e G0) x.path (count X x.path) e.path (count R e.path)) (sym s)
-        (record { before = G0; event = e; stands = now; path = refl; number = ap length (g.same e.path);
-            more = (let n = number_of x.path hx refl in let m = ap length (g.same x.path) in omega arith) })
+        (record {
+          before = G0;
+          event = e;
+          stands = now;
+          path = refl;
+          number = ap length (g.same e.path);
+          more = (let n = number_of x.path hx refl in let m = ap length (g.same x.path) in omega arith);
+        })
     as_later X A B x a b hx ax (entry o E s ent) so =
         subst (λ st. Earlier (put st e G0) x.path (count X x.path) e.path (count R e.path)) (sym s)
         (record { before = n.top ∷ n.rest; event = e; stands = n.new; path = refl; number = ap length (n.full e.path eu ∙ g.same e.path); more = enough so })
@@ -291,13 +301,13 @@ module _ (P : Program) (D : Disciplined P) (known : Known P) where
                 let so1 = subst (λ Z. Sooner A X B Z x a) q.1 so in
                 let r = as_later X A B x a b p ax ay1 so1 in
                 subst (λ Z. Earlier (put (standing R e.path) e G0) x.path (count X x.path) y.path (count Z y.path)) (sym q.1)
-                    (subst (λ z. Earlier (put (standing R e.path) e G0) x.path (count X x.path) z.path (count R z.path)) (sym q.0) r)
+                (subst (λ z. Earlier (put (standing R e.path) e G0) x.path (count X x.path) z.path (count R z.path)) (sym q.0) r)
             go (inl p) (inr q) =
                 let ax1 = subst (λ Z. Anchor Z e A a) p.1 (subst (λ z. Anchor X z A a) p.0 ax) in
                 let so1 = subst (λ z. Sooner A R B Y z a) p.0 (subst (λ Z. Sooner A Z B Y x a) p.1 so) in
                 let r = as_earlier Y A B y a b q ax1 ay so1 in
                 subst (λ Z. Earlier (put (standing R e.path) e G0) x.path (count Z x.path) y.path (count Y y.path)) (sym p.1)
-                    (subst (λ z. Earlier (put (standing R e.path) e G0) z.path (count R z.path) y.path (count Y y.path)) (sym p.0) r)
+                (subst (λ z. Earlier (put (standing R e.path) e G0) z.path (count R z.path) y.path (count Y y.path)) (sym p.0) r)
             go (inl p) (inl q) =
                 let ax1 = subst (λ Z. Anchor Z e A a) p.1 (subst (λ z. Anchor X z A a) p.0 ax) in
                 let ay1 = subst (λ Z. Anchor Z e B b) q.1 (subst (λ z. Anchor Y z B b) q.0 ay) in
@@ -327,5 +337,5 @@ together R G i = record { none_between = each }
         go (before h) =
             let ca : c ≡ a = same_place (anchor_stands hz az) (anchor_stands hx ax) (sym ac) in
             absurd (not_back G y.path z.path (count Y y.path) (count Z z.path) yz
-                (i.each Z Y C B z y c b hz hy az ay (inl (subst (λ r. Upto (c ∷ r) B) ac (subst (λ v. Upto (v ∷ A) B) (sym ca) h)))))
+            (i.each Z Y C B z y c b hz hy az ay (inl (subst (λ r. Upto (c ∷ r) B) ac (subst (λ v. Upto (v ∷ A) B) (sym ca) h)))))
         go (after h) = absurd (not_back G x.path y.path (count X x.path) (count Y y.path) xy (i.each Y X B A y x b a hy hx ay ax (inl h)))

@@ -1,5 +1,5 @@
 -- The run with deterministic constructs moved has each event in its place.
-use Rattle.std.proofs.Common.{◌≡◌, ℕ, zero, suc, ◌+◌, ◌-◌, ◌<◌, ◌≤◌, ◌⊎◌, inl, inr, ⊎_elim, true, false, true≢false, List, [], ◌∷◌, ◌++◌, length, refl, sym, ap}
+use Rattle.std.proofs.Common.{◌≡◌, ℕ, zero, suc, ◌+◌, ◌-◌, ◌<◌, ◌≤◌, ◌⊎◌, inl, inr, ⊎_elim, true, List, [], ◌∷◌, ◌++◌, length, refl, sym, ap}
 use Rattle.std.proofs.Common.{◌∙◌, subst, arith, append_assoc, Some, None, slice_get}
 use Rattle.std.proofs.lemmas.Bool.{cases_order, cases_eq, cases_lt, and_parts, cond-true, cond-false}
 use Rattle.std.proofs.lemmas.Option.{slice_get_past}
@@ -7,14 +7,14 @@ use Rattle.std.proofs.Common.{eqb-true}
 use Rattle.dpj_runs.specs.Actions.{Action, Begin, Do, End, Fork, Join, Program}
 use Rattle.dpj_runs.specs.Meaning.{Disciplined, Known}
 use Rattle.dpj_runs.specs.Objects.{Path}
-use Rattle.dpj_runs.specs.Runs.{Event, Faithful, Run, Upto, branch, count, later, mine, now}
+use Rattle.dpj_runs.specs.Runs.{Event, Faithful, Run, Upto, count, later, mine, now}
 use Rattle.dpj_runs.specs.Standing.{Valid, first_of}
 use Rattle.dpj_moving.specs.Guarded.{LevelsGuarded}
 use Rattle.dpj_moving.specs.Insertion.{All_of, Branch_of, Earlier, Spot, begins_branch, is_under, near, put_behind}
 use Rattle.dpj_moving.specs.Moved.{BehindForks, DetFork, InBranch, InConstruct, below, construct_spot, inner, is_det, its_begin, kind_after, move, spot_of}
 use Rattle.dpj_runs.proofs.Upto.{upto_trans, upto_length, upto_tail, upto_split, upto_none, Which, which, same_one, before, after}
 use Rattle.dpj_runs.proofs.Places.{snoc, not_below_self}
-use Rattle.dpj_runs.proofs.Mine.{path_cases, same_path_eq, mine_same, mine_other, mine_step, mine_at, mine_upto, Found, found, same_of, number_of}
+use Rattle.dpj_runs.proofs.Mine.{path_cases, same_path_eq, mine_same, mine_at, mine_upto, Found, found, same_of, number_of}
 use Rattle.dpj_runs.proofs.Faithful.{ForkAt, fork_above, begin_after}
 use Rattle.dpj_runs.proofs.Between.{closed, fork_passes}
 use Rattle.dpj_runs.proofs.Standing.{first_is, only_begins_so}
@@ -251,7 +251,7 @@ module _ (P : Program) (D : Disciplined P) (R : Run) (e : Event) (l : Faithful P
   det_at {q} {k} d =
       let n = ap suc d.number in
       let f : first_of (suc k) (mine R q) ≡ d.event ∷ mine d.before q =
-          subst (λ i. first_of i (mine R q) ≡ d.event ∷ mine d.before q) n (first_is (mine_at q d.stands d.path)) in
+      subst (λ i. first_of i (mine R q) ≡ d.event ∷ mine d.before q) n (first_is (mine_at q d.stands d.path)) in
       ap is_det f ∙ ap (λ c. kind_after c (is_det (mine d.before q))) d.act ∙ d.det
 
   spot_deep : (p : Path) (a : Action) (u : ℕ × ℕ) (q : Path) → inner R p ≡ Branch_of u q → (spot_of R p a ≡ Branch_of u q) ⊎ (spot_of R p a ≡ All_of p)
@@ -296,8 +296,13 @@ module _ (P : Program) (D : Disciplined P) (R : Run) (e : Event) (l : Faithful P
     where
       other : (q : Path) → construct_spot R e ≡ All_of q → Other R e.path e.act q → (w : Event) × (W : Run) × Upto (w ∷ W) G0
           × (near (construct_spot R e) w ≡ true)
-      other q sp (free k) = (x, (there hx).before, (there hx).stands, ap (λ s. near s x) sp
-          ∙ true_of q x.path (subst (λ r. Under r x.path) (sym k) (under_root x.path)))
+      other q sp (free k) = (
+        x,
+        (there hx).before,
+        (there hx).stands,
+        ap (λ s. near s x) sp
+            ∙ true_of q x.path (subst (λ r. Under r x.path) (sym k) (under_root x.path)),
+      )
       other q sp (begin b a k d) =
           let v = some_event (mine R e.path) d in
           let f = found R e.path (subst (λ z. Upto (v.0 ∷ v.1) z) (sym v.2) now) in
@@ -332,7 +337,7 @@ module _ (P : Program) (D : Disciplined P) (R : Run) (e : Event) (l : Faithful P
         let m = ap length (mine_same tp at.rest r p) in
         let n = subst (λ q. count tr.before q ≡ count at.rest q) p (ap length tr.mine_is) in
         let k : Begin v.1 ≡ Begin (count tr.before r - suc v.0) =
-            sym a ∙ only_begins_so P D h.below r v l h.is (mine tr.before r) tp (mine_at r tr.stands p) (omega arith) in
+        sym a ∙ only_begins_so P D h.below r v l h.is (mine tr.before r) tp (mine_at r tr.stands p) (omega arith) in
         let z : v.1 ≡ count tr.before r - suc v.0 = cc in
         omega arith
 
@@ -390,8 +395,11 @@ module _ (P : Program) (D : Disciplined P) (R : Run) (e : Event) (l : Faithful P
         fn = subst (λ z. count (there d.stands).before z ≡ count d.before z) d.path (ap length (there d.stands).mine_is) ∙ d.number
 
         at_task : tp.path ≡ q → TopIn q k (length d.branches.tasks)
-        at_task y = ⊎_elim (λ z. inl (y, z)) (λ z. inr (record { branch = count tr.before q - suc k; there = omega (arith, c, m, i, j, n, lt, z);
-            is = its_begin y (let v = ap (λ r. count tr.before r) y in omega (arith, v, c, m, i, j, z)) })) (cases_eq (count tr.before q) k)
+        at_task y = ⊎_elim (λ z. inl (y, z)) (λ z. inr (record {
+          branch = count tr.before q - suc k;
+          there = omega (arith, c, m, i, j, n, lt, z);
+          is = its_begin y (let v = ap (λ r. count tr.before r) y in omega (arith, v, c, m, i, j, z));
+        })) (cases_eq (count tr.before q) k)
           where
             c : k < count (tp ∷ at.rest) q
             c = subst (λ i. i < count (tp ∷ at.rest) q) fn (number_of q fz d.path)
@@ -420,11 +428,14 @@ module _ (P : Program) (D : Disciplined P) (R : Run) (e : Event) (l : Faithful P
                 let ft : Fork f.tasks ≡ Fork d.branches = sym f.act ∙ ap (λ v. v.act) w.0 ∙ d.act in
                 let bt : f.tasks ≡ d.branches = cc in
                 let pe : c ≡ (k, c.1) = (λ i. (z i, c.1)) in
-                inr (record { branch = c.1; there = there_lt d.branches.tasks c.1 f.task (ap (λ b. slice_get b.tasks c.1) (sym bt) ∙ f.is_there);
-                    is = below xs (y ∙ ap (λ w. xs ++ w ∷ q) pe) })
+                inr (record {
+                  branch = c.1;
+                  there = there_lt d.branches.tasks c.1 f.task (ap (λ b. slice_get b.tasks c.1) (sym bt) ∙ f.is_there);
+                  is = below xs (y ∙ ap (λ w. xs ++ w ∷ q) pe);
+                })
             by_order (inr (inl z)) =
                 let w = upto_length (closed P D xs q c lg at.stands y (there d.stands).stands d.path (omega (arith, fn, z))
-                    (fork_passes P D d.event.act d.branches d.act)) in
+                (fork_passes P D d.event.act d.branches d.act)) in
                 let v = upto_length fz in
                 absurd (omega arith)
             by_order (inr (inr z)) =
@@ -489,7 +500,7 @@ module _ (P : Program) (D : Disciplined P) (R : Run) (e : Event) (l : Faithful P
               not_back G0 q q k k c c
           hit (inl f) (inr m) =
               let a : Earlier G0 y.path (count Y y.path) q k =
-                  subst (λ i. Earlier G0 y.path (count Y y.path) q i) f.1 (subst (λ z. Earlier G0 y.path (count Y y.path) z (count r.before z)) f.0 m) in
+              subst (λ i. Earlier G0 y.path (count Y y.path) q i) f.1 (subst (λ z. Earlier G0 y.path (count Y y.path) z (count r.before z)) f.0 m) in
               not_back G0 y.path q (count Y y.path) k a fy
 
   -- this event, that is not in a construct, and one that is
@@ -562,7 +573,7 @@ module _ (P : Program) (D : Disciplined P) (R : Run) (e : Event) (l : Faithful P
                   at_is (below xs p) (inr b) =
                       let h = inner_under R e.path b.0 b.1 (spot_inner R e.path e.act b.0 b.1 b.2) in
                       lower_branch (h.below ++ b.0 ∷ xs) c.branch c.there
-                          (h.is ∙ ap (λ z. h.below ++ b.0 ∷ z) (sym b.3 ∙ p) ∙ sym (append_assoc h.below (b.0 ∷ xs) ((k, c.branch) ∷ q)))
+                      (h.is ∙ ap (λ z. h.below ++ b.0 ∷ z) (sym b.3 ∙ p) ∙ sym (append_assoc h.below (b.0 ∷ xs) ((k, c.branch) ∷ q)))
                   at_is (its_begin p i) (inr b) = by_order (cases_order b.0.0 k)
                     where
                       u : ℕ × ℕ
@@ -600,7 +611,7 @@ module _ (P : Program) (D : Disciplined P) (R : Run) (e : Event) (l : Faithful P
                           let fn = f.number in
                           let ct = c.there in
                           let a = begin_after P D q d.branches (u.0 - suc k) l.1 d.stands d.path d.act f.stands f.path (omega (arith, z, dn, fn))
-                              (omega (arith, z, sum, ct)) in
+                          (omega (arith, z, sum, ct)) in
                           (let y : Fork f.tasks ≡ Begin (u.0 - suc k) = sym f.act ∙ a in cc)
 
               by_fork : Upto (d.event ∷ (there d.stands).before) (t ∷ n.rest) ⊎ Earlier H e.path (count R e.path) d.event.path (count d.before d.event.path) → ⊥
@@ -664,8 +675,8 @@ module _ (P : Program) (D : Disciplined P) (R : Run) (e : Event) (l : Faithful P
           hit (inr m) = not_back G0 y.path t.path (count Y y.path) (count r.before t.path) m ty
           hit (inl m) =
               let c : Earlier G0 t.path (count r.before t.path) t.path (count r.before t.path) =
-                  subst (λ i. Earlier G0 t.path (count r.before t.path) t.path i) m.1
-                  (subst (λ z. Earlier G0 t.path (count r.before t.path) z.path (count Y y.path)) m.0 ty) in
+              subst (λ i. Earlier G0 t.path (count r.before t.path) t.path i) m.1
+              (subst (λ z. Earlier G0 t.path (count r.before t.path) z.path (count Y y.path)) m.0 ty) in
               not_back G0 t.path t.path (count r.before t.path) (count r.before t.path) c c
 
   -- the fork of a construct of which there is an event stands in the run before
@@ -707,7 +718,7 @@ module _ (P : Program) (D : Disciplined P) (R : Run) (e : Event) (l : Faithful P
       go (inr h) = keeps (rec.kept X Y x y hx h k)
       go (inl c) =
           subst (λ z. Earlier H x.path (count X x.path) z.path (count Y z.path)) (sym c.0)
-              (subst (λ Z. Earlier H x.path (count X x.path) e.path (count Z e.path)) (sym c.1)
+          (subst (λ Z. Earlier H x.path (count X x.path) e.path (count Z e.path)) (sym c.1)
           (kept_here X x (subst (λ Z. Upto (x ∷ X) Z) c.1 hx) (k ∙ ap (λ z. construct_spot Y z) c.0 ∙ ap (λ Z. construct_spot Z e) c.1)))
 
   step_behind : (q : Path) (k : ℕ) (d : DetFork (e ∷ R) q k) (X W : Run) (x z : Event) → Upto (x ∷ X) (e ∷ R) → Upto (z ∷ W) (e ∷ R)
@@ -730,15 +741,15 @@ module _ (P : Program) (D : Disciplined P) (R : Run) (e : Event) (l : Faithful P
           (subst (λ Y. InConstruct m q k x.path (count Y x.path)) (h.1 ∙ sym i.1) cx)))
       go (inl h) (inr i) =
           subst (λ y. Earlier H y.path (count X y.path) z.path (count W z.path)) (sym h.0)
-              (subst (λ Y. Earlier H e.path (count Y e.path) z.path (count W z.path)) (sym h.1)
+          (subst (λ Y. Earlier H e.path (count Y e.path) z.path (count W z.path)) (sym h.1)
           (behind_in d1 W z i (subst (λ Y. InConstruct m q k e.path (count Y e.path)) h.1
-              (subst (λ y. InConstruct m q k y.path (count X y.path)) h.0 cx)) nz w))
+          (subst (λ y. InConstruct m q k y.path (count X y.path)) h.0 cx)) nz w))
       go (inr h) (inl i) =
           subst (λ y. Earlier H x.path (count X x.path) y.path (count W y.path)) (sym i.0)
-              (subst (λ Y. Earlier H x.path (count X x.path) e.path (count Y e.path)) (sym i.1)
+          (subst (λ Y. Earlier H x.path (count X x.path) e.path (count Y e.path)) (sym i.1)
           (behind_out d1 X x h cx (λ c. nz (subst (λ y. InConstruct m q k y.path (count W y.path)) (sym i.0)
-              (subst (λ Y. InConstruct m q k e.path (count Y e.path)) (sym i.1) c)))
-              (subst (λ Y. Earlier H q k e.path (count Y e.path)) i.1 (subst (λ y. Earlier H q k y.path (count W y.path)) i.0 w))))
+          (subst (λ Y. InConstruct m q k e.path (count Y e.path)) (sym i.1) c)))
+          (subst (λ Y. Earlier H q k e.path (count Y e.path)) i.1 (subst (λ y. Earlier H q k y.path (count W y.path)) i.0 w))))
 
   step_turn : (q : Path) (k a b : ℕ) (d : DetFork (e ∷ R) q k) (X Y : Run) (x y : Event) → Upto (x ∷ X) (e ∷ R) → Upto (y ∷ Y) (e ∷ R) → a < b
       → b < length d.branches.tasks → InBranch q k a x.path (count X x.path) → InBranch q k b y.path (count Y y.path)
@@ -752,14 +763,14 @@ module _ (P : Program) (D : Disciplined P) (R : Run) (e : Event) (l : Faithful P
       go (inr h) (inr i) = keeps (rec.in_turn q k a b d1 X Y x y h i ab lt ix iy)
       go (inl h) (inr i) =
           subst (λ z. Earlier H z.path (count X z.path) y.path (count Y y.path)) (sym h.0)
-              (subst (λ Z. Earlier H e.path (count Z e.path) y.path (count Y y.path)) (sym h.1)
+          (subst (λ Z. Earlier H e.path (count Z e.path) y.path (count Y y.path)) (sym h.1)
           (turn_sooner a b d1 Y y i ab lt (subst (λ Z. InBranch q k a e.path (count Z e.path)) h.1
-              (subst (λ z. InBranch q k a z.path (count X z.path)) h.0 ix)) iy))
+          (subst (λ z. InBranch q k a z.path (count X z.path)) h.0 ix)) iy))
       go (inr h) (inl i) =
           subst (λ z. Earlier H x.path (count X x.path) z.path (count Y z.path)) (sym i.0)
-              (subst (λ Z. Earlier H x.path (count X x.path) e.path (count Z e.path)) (sym i.1)
+          (subst (λ Z. Earlier H x.path (count X x.path) e.path (count Z e.path)) (sym i.1)
           (turn_later a b d1 X x h ab lt ix (subst (λ Z. InBranch q k b e.path (count Z e.path)) i.1
-              (subst (λ z. InBranch q k b z.path (count Y z.path)) i.0 iy))))
+          (subst (λ z. InBranch q k b z.path (count Y z.path)) i.0 iy))))
       go (inl h) (inl i) = absurd (one_branch (subst (λ z. InBranch q k a z.path (count Y z.path)) (h.0 ∙ sym i.0)
           (subst (λ Z. InBranch q k a x.path (count Z x.path)) (h.1 ∙ sym i.1) ix)) iy)
         where
@@ -782,9 +793,12 @@ module _ (P : Program) (D : Disciplined P) (R : Run) (e : Event) (l : Faithful P
 
 module _ (P : Program) (D : Disciplined P) (known : Known P) where
   pub behind_forks : (R : Run) → Valid P R → LevelsGuarded P.rule R → BehindForks R (move R)
-  behind_forks [] l f = record { kept = λ X Y x y hx hy k. absurd (upto_none hy); behind_fork = λ q k d X Z x z hx. absurd (upto_none hx);
-      in_turn = λ q k a b d X Y x y hx. absurd (upto_none hx) }
+  behind_forks [] l f = record {
+    kept = λ X Y x y hx hy k. absurd (upto_none hy);
+    behind_fork = λ q k d X Z x z hx. absurd (upto_none hx);
+    in_turn = λ q k a b d X Y x y hx. absurd (upto_none hx);
+  }
   behind_forks (e ∷ R) l f =
       let less = levels_upto (later now) f in
       subst (BehindForks (e ∷ R)) (sym (rearranged_step construct_spot e R))
-          (step_in_place P D R e (faithful_of P (e ∷ R) l) (move R) (moved P D known R l.1 less) (behind_forks R l.1 less))
+      (step_in_place P D R e (faithful_of P (e ∷ R) l) (move R) (moved P D known R l.1 less) (behind_forks R l.1 less))

@@ -13,7 +13,7 @@ use Rattle.dpj_moving.specs.Guarded.{InBlock, Levelled, LevelsGuarded}
 use Rattle.dpj_moving.specs.Insertion.{Branch_of, begins_branch, is_under, near}
 use Rattle.dpj_moving.specs.Moved.{inner}
 use Rattle.dpj_runs.proofs.Upto.{upto_trans, upto_length, upto_same, upto_tail, upto_two, upto_less, upto_split, Which, which, same_one, before, after}
-use Rattle.dpj_runs.proofs.Mine.{test_same, mine_upto, Found, found, number_of, numbered}
+use Rattle.dpj_runs.proofs.Mine.{test_same, mine_upto, Found, number_of, numbered}
 use Rattle.dpj_runs.proofs.Places.{Place, equal, under, over, left_of, right_of, beside, place, not_below_self}
 use Rattle.dpj_runs.proofs.Faithful.{begun_upto, faithful_upto, follows_at, ForkAt}
 use Rattle.dpj_runs.proofs.Between.{fork_passes, plain_passes, respects_passing, order_of}
@@ -22,8 +22,8 @@ use Rattle.dpj_runs.proofs.Blocks.{EntryAt, entry_at}
 use Rattle.dpj_runs.proofs.Standing.{Grows, Opener, opener_of, opener_stands, stands_outside, Joined_by, from_above, own, joined_cases, Adopted, adopted}
 use Rattle.dpj_runs.proofs.Standing.{above_same, Stands, stands, outside_above, above_out, begun_fork, waits_in}
 use Rattle.dpj_runs.proofs.Written.{faithful_of}
-use Rattle.dpj_runs.proofs.Carry.{begun_at, begun_held, found_in, grows_upto}
-use Rattle.dpj_moving.proofs.Under.{Under, under_self, under_more, true_of, Split, lies_in, lies_over, split}
+use Rattle.dpj_runs.proofs.Carry.{begun_held, found_in, grows_upto}
+use Rattle.dpj_moving.proofs.Under.{Under, under_more, true_of, Split, lies_in, lies_over, split}
 use Rattle.dpj_moving.proofs.Spots.{inner_under, inner_between}
 use Rattle.dpj_moving.proofs.Insertion.{valid_upto, Rebuilt, grown, Side, Bools, yes, no, bools}
 use Rattle.dpj_moving.proofs.Overlap.{never_both, there, same_standing}
@@ -40,7 +40,7 @@ near_begin u q x p a = go (bools (is_under x.path (u ∷ q)))
     go (no h) = cond-false _ _ _ h ∙ and_from _ _ (test_same x.path q p) (ap (begins_branch u.1) a ∙ eq-eqb u.1 u.1 refl)
 
 module _ (P : Program) (D : Disciplined P) (known : Known P) (R G0 : Run) (e : Event) (u : ℕ × ℕ) (q : Path) (l : Valid P (e ∷ R)) (g : Rebuilt P R G0)
-  (ck : LevelsGuarded P.rule (e ∷ R)) (spot : inner R e.path ≡ Branch_of u q) where
+    (ck : LevelsGuarded P.rule (e ∷ R)) (spot : inner R e.path ≡ Branch_of u q) where
   lf : Faithful P (e ∷ R)
   lf = faithful_of P (e ∷ R) l
 
@@ -139,19 +139,19 @@ module _ (P : Program) (D : Disciplined P) (known : Known P) (R G0 : Run) (e : E
           by_own : Under i2.opener q → Joined_by (above R e.path) e.path (hold (mine R e.path)) i2.opener i2.effects → ⊥
           by_own h (own n k p hh) =
               let c : q ≡ (h.below ++ e_under.below) ++ u ∷ q =
-                  h.is ∙ ap (λ r. h.below ++ r) (sym p ∙ e_under.is) ∙ sym (append_assoc h.below e_under.below (u ∷ q)) in
+              h.is ∙ ap (λ r. h.below ++ r) (sym p ∙ e_under.is) ∙ sym (append_assoc h.below e_under.below (u ∷ q)) in
               not_below_self q (h.below ++ e_under.below) u c
           by_own h (from_above k) =
               let a : Adopted Y e.path i2.opener i2.effects = adopted Y e.path i2.opener i2.effects (above_same P legal_y.1 grows e.path begun ∙ k) in
               let held : hold (mine Y i2.opener) ≡ In_block a.depth i2.effects =
-                  waits_in P D a.below i2.opener a.fork lf a.path legal_y.1 grows begun ∙ a.held in
+              waits_in P D a.below i2.opener a.fork lf a.path legal_y.1 grows begun ∙ a.held in
               meet (entry_at Y i1.opener t.depth i1.effects t.held) (entry_at Y i2.opener a.depth i2.effects held) a.outside
 
           by_place : Split i2.opener q u → ⊥
           by_place (lies_in h) = by_own h (joined_cases (above R e.path) e.path (hold (mine R e.path)) i2.opener i2.effects i2.stands)
           by_place (lies_over ys h) =
               let k : inner R i2.opener ≡ Branch_of u q = inner_between R s.below i2.opener u q (subst (λ r. inner R r ≡ Branch_of u q) s.path spot)
-                  (record { below = ys; is = h }) in
+              (record { below = ys; is = h }) in
               let v = inner_under yr.before i1.opener u q (gs.level ∙ k) in
               ne (under_more o i1.opener y.path t.below v t.path)
 
@@ -177,7 +177,7 @@ module _ (P : Program) (D : Disciplined P) (known : Known P) (R G0 : Run) (e : E
           upto_length yr.stands in absurd (omega arith)
       go (neither x) =
           let c = ck.entries R yr.before e y F E now yr.stands x ya ea (sym (same_standing P lf.1 g hy yr) ∙ sy) se
-              (λ k. ne (inner_under yr.before y.path u q (k ∙ spot))) in
+          (λ k. ne (inner_under yr.before y.path u q (k ∙ spot))) in
           c.1
 
   -- where it may enter in the run it may enter behind the latest of the branch
@@ -259,7 +259,7 @@ module _ (P : Program) (D : Disciplined P) (known : Known P) (R G0 : Run) (e : E
                   out_a =
                       let al = follows_at P ar.stands lf.1 in
                       let up = above_same P (faithful_upto P (upto_tail ar.stands) lf.1) (record { each = λ p. mine_upto p (upto_tail ar.stands) }) r
-                          (subst (λ p. Begun P ar.before p al.task) a.path al.begun) in
+                      (subst (λ p. Begun P ar.before p al.task) a.path al.begun) in
                       stands_outside ar.before r (up ∙ sym up_r ∙ h.outside) (ap hold ar.mine_is ∙ a.outside)
 
                   by_place : Place r e.path → P.rule F E ≡ true
@@ -276,8 +276,8 @@ module _ (P : Program) (D : Disciplined P) (known : Known P) (R G0 : Run) (e : E
                       absurd (omega arith)
                   by_place (beside b) =
                       let c = ck.entries R ar.before e a.event F E now ar.stands (subst (λ p. Unordered p e.path) (sym a.path) b) a.act ea
-                          (subst (λ p. standing ar.before p ≡ Outside) (sym a.path) out_a) out_e
-                          (λ k. not_o (subst (λ p. Under o p) a.path (inner_under ar.before a.event.path u q (k ∙ spot)))) in
+                      (subst (λ p. standing ar.before p ≡ Outside) (sym a.path) out_a) out_e
+                      (λ k. not_o (subst (λ p. Under o p) a.path (inner_under ar.before a.event.path u q (k ∙ spot)))) in
                       c.0
 
           by_count : (count Z r < count R r) ⊎ (count R r ≤ count Z r) → P.rule F E ≡ true

@@ -1,5 +1,5 @@
 -- The gathered run is valid.
-use Rattle.std.proofs.Common.{◌≡◌, ℕ, true, false, true≢false, List, [], ◌∷◌, refl, sym, ap, ◌∙◌, subst}
+use Rattle.std.proofs.Common.{◌≡◌, true≢false, [], ◌∷◌, refl, sym, ap, ◌∙◌, subst}
 use Rattle.dpj_runs.specs.Actions.{Program, Rule}
 use Rattle.dpj_runs.specs.Blocks.{hold}
 use Rattle.dpj_runs.specs.Meaning.{Disciplined, Known}

@@ -1,6 +1,6 @@
 -- A run rearranged stays legal where nothing that is not near the spot of an event hinders it there.
-use Rattle.std.proofs.Common.{◌≡◌, ℕ, ◌⊎◌, inl, inr, ⊎_elim, Bool, true, false, true≢false, pos, List, [], ◌∷◌, ◌++◌, length, refl, sym, ap, ◌∙◌, subst, None}
-use Rattle.std.proofs.Common.{Some, slice_get}
+use Rattle.std.proofs.Common.{◌≡◌, ◌⊎◌, inl, inr, ⊎_elim, Bool, true, false, true≢false, pos, List, [], ◌∷◌, refl, sym, ap, ◌∙◌, subst}
+use Rattle.std.proofs.Common.{Some}
 use Rattle.std.proofs.lemmas.Bool.{cond-true, cond-false}
 use Rattle.dpj_runs.specs.Actions.{Action, Begin, Do, End, Enter, Fork, Join, Next, Own, Program, Read, Task}
 use Rattle.dpj_runs.specs.Blocks.{In_block, hold}
@@ -12,8 +12,8 @@ use Rattle.dpj_runs.specs.Runs.{written}
 use Rattle.dpj_runs.specs.Standing.{Admitted, CanEnter, Outside, Valid, above, joined_by, standing}
 use Rattle.dpj_moving.specs.Insertion.{Spot, near, put_behind, rearranged}
 use Rattle.dpj_moving.specs.Insertion.{Spot, near, put_behind, rearranged}
-use Rattle.dpj_runs.proofs.Upto.{upto_trans, upto_tail}
-use Rattle.dpj_runs.proofs.Mine.{path_cases, mine_same, mine_other, mine_upto}
+use Rattle.dpj_runs.proofs.Upto.{upto_tail}
+use Rattle.dpj_runs.proofs.Mine.{path_cases, mine_same, mine_other}
 use Rattle.dpj_runs.proofs.Faithful.{begun_upto, same_task}
 use Rattle.dpj_runs.proofs.Things.{same_some, thing_upto}
 use Rattle.dpj_runs.proofs.Cells.{last_step, writes, Written, it_does, it_does_not}
@@ -73,15 +73,15 @@ module _ (P : Program) (D : Disciplined P) (known : Known P) where
     pub here : Under o e.path
     pub test : (x : Event) → Under o x.path → near s x ≡ true
     pub down : (x : Event) (G : Run) (t : Task) → Upto (x ∷ G) G0 → near s x ≡ false → ((r : Path) → Under o r → mine G r ≡ mine R r) → Begun P (x ∷ G) e.path t
-      → (t : Task) × Begun P G e.path t
+        → (t : Task) × Begun P G e.path t
     pub clashes : {y : Event} {Y : Run} {t : Task} → Upto (y ∷ Y) G0 → (Under o y.path → ⊥) → ((r : Path) → Under o r → mine Y r ≡ mine R r)
         → Begun P Y e.path t
-      → Conflict y e → ⊥
+        → Conflict y e → ⊥
     pub enters_over : {y : Event} {Y : Run} {t : Task} (E F : List Effect) → Upto (y ∷ Y) G0 → (Under o y.path → ⊥)
         → ((r : Path) → Under o r → mine Y r ≡ mine R r)
-      → Begun P Y e.path t → y.act ≡ Do (Enter F) → e.act ≡ Do (Enter E) → standing Y y.path ≡ Outside → standing R e.path ≡ Outside → P.rule E F ≡ true
+        → Begun P Y e.path t → y.act ≡ Do (Enter F) → e.act ≡ Do (Enter E) → standing Y y.path ≡ Outside → standing R e.path ≡ Outside → P.rule E F ≡ true
     pub enters_here : {Z : Run} {t : Task} (E : List Effect) → Upto Z G0 → Begun P Z e.path t → ((r : Path) → Under o r → mine Z r ≡ mine R r)
-      → e.act ≡ Do (Enter E) → CanEnter P.rule R e.path E → CanEnter P.rule Z e.path E
+        → e.act ≡ Do (Enter E) → CanEnter P.rule R e.path E → CanEnter P.rule Z e.path E
 
   module _ (R G0 : Run) (e : Event) (s : Spot) (o : Path) (l : Valid P (e ∷ R)) (g : Rebuilt P R G0) (side : Side R G0 e s o) where
     a0 : Follows P R e
@@ -101,14 +101,25 @@ module _ (P : Program) (D : Disciplined P) (known : Known P) where
     put_grows : {G H : Run} → Put G H → Grows G H
     put_grows {G} {H} k = record {
       each = λ p. ⊎_elim (λ h. subst (λ q. Upto (mine G q) (mine H q)) (sym h) (subst (λ l. Upto (mine G e.path) l) (sym k.here) (later now)))
-        (λ h. subst (λ l. Upto (mine G p) l) (sym (k.other p h)) now) (path_cases p e.path);
+          (λ h. subst (λ l. Upto (mine G p) l) (sym (k.other p h)) now) (path_cases p e.path);
     }
 
     -- behind the latest that is near it may come
     put_here : (Z : Run) → Upto Z G0 → Complete Z → Begun P Z e.path a0.task → ((c : Cell) → Reads c e → last_written Z c ≡ last_written R c) → Put Z (e ∷ Z)
     put_here Z hz full begun lz = record {
-      valid = (record { follows = record { task = a0.task; begun = begun; asks = ap (λ l. P.meaning e.path a0.task (answers l)) mz
-          ∙ a0.asks; right = right e.act refl }; enters = enters_z }, valid_z);
+      valid = (
+        record {
+          follows = record {
+            task = a0.task;
+            begun = begun;
+            asks = ap (λ l. P.meaning e.path a0.task (answers l)) mz
+                ∙ a0.asks;
+            right = right e.act refl;
+          };
+          enters = enters_z;
+        },
+        valid_z,
+      );
       here = mine_same e Z e.path refl;
       other = λ q h. mine_other e Z q (λ k. h (sym k));
       lasts = λ c. last_step e Z c;
@@ -134,7 +145,7 @@ module _ (P : Program) (D : Disciplined P) (known : Known P) where
         own : (c : Own) → e.act ≡ Do c → reply P Z e.path c ≡ Some e.ans
         own c k =
             let asks : P.meaning e.path a0.task (answers (mine Z e.path)) ≡ Next e.turns (Do c) =
-                ap (λ l. P.meaning e.path a0.task (answers l)) mz ∙ a0.asks ∙ ap (λ x. Next e.turns x) k in
+            ap (λ l. P.meaning e.path a0.task (answers l)) mz ∙ a0.asks ∙ ap (λ x. Next e.turns x) k in
             let z = known.replies Z (legal_from P D Z valid_z) e.path a0.task begun c (e.turns, asks) in
             let r : reply P R e.path c ≡ Some z.0 = reply_grows P e.path c z.0 grows mz last_here z.1 in
             z.1 ∙ ap Some (same_some r (ready (Do c) k))
@@ -157,8 +168,19 @@ module _ (P : Program) (D : Disciplined P) (known : Known P) where
     -- what stands behind stays allowed
     put_over : (y : Event) (G H : Run) → Upto (y ∷ G) G0 → (Under o y.path → ⊥) → Complete G → Put G H → Put (y ∷ G) (y ∷ H)
     put_over y G H hy ne full k = record {
-      valid = (record { follows = record { task = a.task; begun = begun_in (put_grows k) a.begun; asks = ap (λ l. P.meaning y.path a.task (answers l)) my
-          ∙ a.asks; right = right y.act refl }; enters = enters_h }, k.valid);
+      valid = (
+        record {
+          follows = record {
+            task = a.task;
+            begun = begun_in (put_grows k) a.begun;
+            asks = ap (λ l. P.meaning y.path a.task (answers l)) my
+                ∙ a.asks;
+            right = right y.act refl;
+          };
+          enters = enters_h;
+        },
+        k.valid,
+      );
       here = mine_other y H e.path differ ∙ k.here ∙ ap (λ l. e ∷ l) (sym (mine_other y G e.path differ));
       other = λ q h. ⊎_elim (λ s. mine_same y H q s ∙ ap (λ l. y ∷ l) (k.other q h) ∙ sym (mine_same y G q s))
           (λ s. mine_other y H q s ∙ k.other q h ∙ sym (mine_other y G q s)) (path_cases y.path q);
@@ -232,7 +254,7 @@ module _ (P : Program) (D : Disciplined P) (known : Known P) where
                 own_block (was m hh) = ce.clear w e.path F' (opener_stands G e.path F' m out_g hh)
                 own_block (enters ho ea) =
                     let se = stands_outside R e.path (sym (above_same P faithful_g grows e.path k.begun) ∙ out_g)
-                        (ap hold (sym (full e.path side.here)) ∙ ho) in
+                    (ap hold (sym (full e.path side.here)) ∙ ho) in
                     side.enters_over F' F hy ne full k.begun ya ea w se
 
         right : (c : Action) → y.act ≡ c → Right P H y.path y.act y.ans

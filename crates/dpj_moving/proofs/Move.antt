@@ -1,5 +1,5 @@
 -- The run with deterministic constructs moved is valid.
-use Rattle.std.proofs.Common.{◌≡◌, ℕ, true, false, true≢false, List, [], ◌∷◌, refl, sym, ap, ◌∙◌, subst}
+use Rattle.std.proofs.Common.{◌≡◌, ℕ, true, true≢false, [], ◌∷◌, refl, sym, ◌∙◌, subst}
 use Rattle.std.proofs.lemmas.Bool.{cond-true, cond-false}
 use Rattle.dpj_runs.specs.Actions.{Action, Begin, Do, End, Enter, Fork, Join, Program, Rule}
 use Rattle.dpj_runs.specs.Meaning.{Disciplined, Known}
@@ -16,7 +16,7 @@ use Rattle.dpj_runs.proofs.Faithful.{faithful_upto}
 use Rattle.dpj_runs.proofs.Cells.{right_plain}
 use Rattle.dpj_runs.proofs.Carry.{begun_at}
 use Rattle.dpj_runs.proofs.Written.{faithful_of}
-use Rattle.dpj_moving.proofs.Under.{Under, under_self, true_of}
+use Rattle.dpj_moving.proofs.Under.{under_self, true_of}
 use Rattle.dpj_moving.proofs.Spots.{inner_all}
 use Rattle.dpj_moving.proofs.Insertion.{rearranged_step, rearranged_nil, Rebuilt, Side, rebuilt_in, Bools, yes, no, bools}
 use Rattle.dpj_moving.proofs.Branch.{branch_side}

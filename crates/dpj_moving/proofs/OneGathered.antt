@@ -1,12 +1,12 @@
 -- The run with each block's events at its entry is one.
-use Rattle.std.proofs.Common.{◌≡◌, ℕ, suc, ◌<◌, ◌≤◌, ◌⊎◌, inl, inr, ⊎_elim, List, [], ◌∷◌, length, refl, sym, ap, ◌∙◌, subst, arith}
+use Rattle.std.proofs.Common.{◌≡◌, ℕ, ◌<◌, ◌⊎◌, inl, inr, ⊎_elim, [], ◌∷◌, length, refl, sym, ap, ◌∙◌, subst, arith}
 use Rattle.std.proofs.lemmas.Bool.{cases_eq}
 use Rattle.dpj_runs.specs.Objects.{Path}
 use Rattle.dpj_runs.specs.Runs.{Event, Run, Upto, count, mine}
 use Rattle.dpj_moving.specs.Gathered.{Anchor, AtEntries}
 use Rattle.dpj_moving.specs.Insertion.{Earlier}
 use Rattle.dpj_runs.proofs.Upto.{upto_length, upto_split, upto_tail, Which, which, same_one, before, after}
-use Rattle.dpj_runs.proofs.Mine.{path_cases, mine_same, mine_step, mine_upto, number_of, numbered}
+use Rattle.dpj_runs.proofs.Mine.{path_cases, mine_same, mine_step, mine_upto, numbered}
 use Rattle.dpj_runs.proofs.Sorted.{no_events, same_tail}
 use Rattle.dpj_moving.proofs.AtEntries.{anchor_stands}
 
@@ -20,8 +20,10 @@ module _ (Ord : Path → ℕ → Path → ℕ → Type 0) where
     pub each : (p q : Path) (k l : ℕ) → k < count G p → l < count G q → Ord p k q l → Earlier G p k q l
 
   compares_tail : {e : Event} {G : Run} → Compares (e ∷ G) → Compares G
-  compares_tail {e} {G} c = record { each = λ p q k l a b n. (let i = upto_length (mine_step e G p) in let j = upto_length (mine_step e G q) in
-      c.each p q k l (omega arith) (omega arith) n) }
+  compares_tail {e} {G} c = record {
+    each = λ p q k l a b n. (let i = upto_length (mine_step e G p) in let j = upto_length (mine_step e G q) in
+        c.each p q k l (omega arith) (omega arith) n);
+  }
 
   keeps_tail : {e : Event} {G : Run} → Keeps (e ∷ G) → Keeps G
   keeps_tail {e} {G} s = record { each = each }
@@ -52,8 +54,8 @@ module _ (Ord : Path → ℕ → Path → ℕ → Type 0) where
     where
       differ : (e.path ≡ y.path → count G e.path ≡ count H y.path → ⊥) → e ∷ G ≡ y ∷ H
       differ n = absurd (⊎_elim (λ o. not_top {e = e} {G = G} y.path (count H y.path) (s.each e.path y.path (count G e.path) (count H y.path) here there o))
-        (λ o. not_top {e = y} {G = H} e.path (count G e.path) (t.each y.path e.path (count H y.path) (count G e.path) there_y here_e o))
-            (c.each e.path y.path (count G e.path) (count H y.path) here there n))
+          (λ o. not_top {e = y} {G = H} e.path (count G e.path) (t.each y.path e.path (count H y.path) (count G e.path) there_y here_e o))
+          (c.each e.path y.path (count G e.path) (count H y.path) here there n))
         where
           here : count G e.path < count (e ∷ G) e.path
           here = (let i = ap length (mine_same e G e.path refl) in omega arith)
@@ -115,12 +117,46 @@ compares R G m i = record { each = each }
             ay = i.has y.1 y.0 y.2
 
             x_first : Upto (ax.1 ∷ ax.0) ay.0 ⊎ ((ax.0 ≡ ay.0) × Upto (x.0 ∷ x.1) y.1) → Sooner R p k q l
-            x_first s = record { X = x.1; x = x.0; Y = y.1; y = y.0; A = ax.0; a = ax.1; B = ay.0; b = ay.1; x_stands = x.2; y_stands = y.2; x_path = x.3;
-                x_number = x.4; y_path = y.3; y_number = y.4; x_anchor = ax.2; y_anchor = ay.2; sooner = s }
+            x_first s = record {
+              X = x.1;
+              x = x.0;
+              Y = y.1;
+              y = y.0;
+              A = ax.0;
+              a = ax.1;
+              B = ay.0;
+              b = ay.1;
+              x_stands = x.2;
+              y_stands = y.2;
+              x_path = x.3;
+              x_number = x.4;
+              y_path = y.3;
+              y_number = y.4;
+              x_anchor = ax.2;
+              y_anchor = ay.2;
+              sooner = s;
+            }
 
             y_first : Upto (ay.1 ∷ ay.0) ax.0 ⊎ ((ay.0 ≡ ax.0) × Upto (y.0 ∷ y.1) x.1) → Sooner R q l p k
-            y_first s = record { X = y.1; x = y.0; Y = x.1; y = x.0; A = ay.0; a = ay.1; B = ax.0; b = ax.1; x_stands = y.2; y_stands = x.2; x_path = y.3;
-                x_number = y.4; y_path = x.3; y_number = x.4; x_anchor = ay.2; y_anchor = ax.2; sooner = s }
+            y_first s = record {
+              X = y.1;
+              x = y.0;
+              Y = x.1;
+              y = x.0;
+              A = ay.0;
+              a = ay.1;
+              B = ax.0;
+              b = ax.1;
+              x_stands = y.2;
+              y_stands = x.2;
+              x_path = y.3;
+              x_number = y.4;
+              y_path = x.3;
+              y_number = x.4;
+              x_anchor = ay.2;
+              y_anchor = ax.2;
+              sooner = s;
+            }
 
             in_one : ax.0 ≡ ay.0 → Which x.0 x.1 y.0 y.1 → Sooner R p k q l ⊎ Sooner R q l p k
             in_one e (same_one u v) =

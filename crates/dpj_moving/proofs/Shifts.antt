@@ -1,5 +1,5 @@
 -- Where an event is put, and what stands in the run that it is put into.
-use Rattle.std.proofs.Common.{◌≡◌, ℕ, ◌<◌, ◌≤◌, ◌⊎◌, inl, inr, ⊎_elim, true, false, true≢false, List, [], ◌∷◌, ◌++◌, length, refl, sym, ap, ◌∙◌, subst, arith}
+use Rattle.std.proofs.Common.{◌≡◌, ℕ, ◌≤◌, ◌⊎◌, inl, inr, ⊎_elim, true, false, true≢false, [], ◌∷◌, length, refl, sym, ap, ◌∙◌, subst, arith}
 use Rattle.dpj_runs.specs.Objects.{Path}
 use Rattle.dpj_runs.specs.Runs.{Event, Run, Upto, count, later, mine, now}
 use Rattle.dpj_moving.specs.Insertion.{Earlier, Spot, near, put_behind}
@@ -50,8 +50,12 @@ module _ (s : Spot) (o : Path) (e : Event) (e_in : Under o e.path) (test : (x : 
     where
       go : (Upto (y ∷ Y) G → Shifted y Y (put_behind s e G)) → Bools (near s x) → Shifted y Y (put_behind s e (x ∷ G))
       go rec (yes t) = record { before = Y; stands = subst (λ r. Upto (y ∷ Y) r) (sym (behind_here s e x G t)) (later h); same = refl; more = λ p. omega arith }
-      go rec (no t) = ⊎_elim here (λ d. (let m = rec d in record { before = m.before;
-          stands = subst (λ r. Upto (y ∷ m.before) r) (sym (behind_over s e x G t)) (later m.stands); same = m.same; more = m.more })) (upto_split h)
+      go rec (no t) = ⊎_elim here (λ d. (let m = rec d in record {
+        before = m.before;
+        stands = subst (λ r. Upto (y ∷ m.before) r) (sym (behind_over s e x G t)) (later m.stands);
+        same = m.same;
+        more = m.more;
+      })) (upto_split h)
         where
           here : (y ≡ x) × (Y ≡ G) → Shifted y Y (put_behind s e (x ∷ G))
           here d = record {
@@ -79,8 +83,16 @@ module _ (s : Spot) (o : Path) (e : Event) (e_in : Under o e.path) (test : (x : 
   new_at (x ∷ G) w W h hu = go (λ k. new_at G w W k hu) (bools (near s x))
     where
       go : (Upto (w ∷ W) G → NewAt G) → Bools (near s x) → NewAt (x ∷ G)
-      go rec (yes t) = record { top = x; rest = G; stands = now; is_near = t; new = subst (λ r. Upto (e ∷ x ∷ G) r) (sym (behind_here s e x G t)) now;
-          full = λ q v. refl; has = λ y Y d m. d; others = λ y Y d. inl d }
+      go rec (yes t) = record {
+        top = x;
+        rest = G;
+        stands = now;
+        is_near = t;
+        new = subst (λ r. Upto (e ∷ x ∷ G) r) (sym (behind_here s e x G t)) now;
+        full = λ q v. refl;
+        has = λ y Y d m. d;
+        others = λ y Y d. inl d;
+      }
       go rec (no t) = over (rec (⊎_elim (λ d. absurd (true≢false (sym hu ∙ ap (near s) d.0 ∙ t))) (λ d. d) (upto_split h)))
         where
           over : NewAt G → NewAt (x ∷ G)
@@ -97,9 +109,13 @@ module _ (s : Spot) (o : Path) (e : Event) (e_in : Under o e.path) (test : (x : 
             where
               here : (y : Event) (Y : Run) → (y ≡ x) × (Y ≡ G) → (Z : Run) × Upto (y ∷ Z) (put_behind s e (x ∷ G)) × (count Z y.path ≡ count Y y.path)
                   × Upto (e ∷ n.top ∷ n.rest) Z
-              here y Y d = (put_behind s e G, subst (λ r. Upto (y ∷ put_behind s e G) r) (sym (behind_over s e x G t))
-                  (subst (λ z. Upto (y ∷ put_behind s e G) (z ∷ put_behind s e G)) d.0 now),
-                  ap length (behind_other G y.path (not_its y (ap (near s) d.0 ∙ t))) ∙ ap (λ r. count r y.path) (sym d.1), n.new)
+              here y Y d = (
+                put_behind s e G,
+                subst (λ r. Upto (y ∷ put_behind s e G) r) (sym (behind_over s e x G t))
+                    (subst (λ z. Upto (y ∷ put_behind s e G) (z ∷ put_behind s e G)) d.0 now),
+                ap length (behind_other G y.path (not_its y (ap (near s) d.0 ∙ t))) ∙ ap (λ r. count r y.path) (sym d.1),
+                n.new,
+              )
 
               there : (y : Event) (Y : Run) → Upto (y ∷ Y) (n.top ∷ n.rest)
                   ⊎ ((Z : Run) × Upto (y ∷ Z) (put_behind s e G) × (count Z y.path ≡ count Y y.path) × Upto (e ∷ n.top ∷ n.rest) Z)

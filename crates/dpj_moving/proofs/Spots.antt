@@ -5,7 +5,7 @@ use Rattle.dpj_runs.specs.Objects.{Path}
 use Rattle.dpj_runs.specs.Runs.{Run, mine}
 use Rattle.dpj_runs.specs.Standing.{first_of}
 use Rattle.dpj_moving.specs.Insertion.{All_of, Branch_of}
-use Rattle.dpj_moving.specs.Moved.{below, inner, is_det}
+use Rattle.dpj_moving.specs.Moved.{inner, is_det}
 use Rattle.dpj_runs.proofs.Places.{not_below_self}
 use Rattle.dpj_moving.proofs.Under.{Under, under_self, under_next}
 

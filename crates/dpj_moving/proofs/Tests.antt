@@ -1,6 +1,6 @@
 -- Whether the conflicts of a closed run are guarded, by computing.
-use Rattle.std.proofs.Common.{◌≡◌, ℕ, zero, suc, ◌⊎◌, inl, inr, ⊎_elim, Bool, true, false, true≢false, not, ◌&&◌, ◌||◌, ◌==◌, List, [], ◌∷◌, refl, sym, ap, ◌∙◌}
-use Rattle.std.proofs.Common.{subst, eqb-true}
+use Rattle.std.proofs.Common.{◌≡◌, ℕ, zero, suc, ◌⊎◌, inl, inr, Bool, true, false, true≢false, not, ◌&&◌, ◌||◌, List, [], ◌∷◌, refl, sym, ap, ◌∙◌}
+use Rattle.std.proofs.Common.{subst}
 use Rattle.std.proofs.lemmas.Bool.{and_from, and_parts}
 use Rattle.dpj_runs.specs.Actions.{Action, Do, Enter, Rule}
 use Rattle.dpj_runs.specs.Objects.{Effect, Path, same_path}
@@ -10,7 +10,7 @@ use Rattle.dpj_runs.specs.Standing.{Inside, Outside, Standing, standing}
 use Rattle.dpj_moving.specs.Guarded.{Barred, ConflictsGuarded, Guarded, LetBy, Levelled, LevelsGuarded}
 use Rattle.dpj_moving.specs.Insertion.{All_of, Branch_of, Spot}
 use Rattle.dpj_moving.specs.Moved.{inner}
-use Rattle.dpj_runs.proofs.Upto.{upto_split, upto_none, upto_trans}
+use Rattle.dpj_runs.proofs.Upto.{upto_split, upto_none}
 use Rattle.dpj_runs.proofs.Mine.{same_path_eq, test_same}
 use Rattle.dpj_runs.proofs.Tests.{clash, clashes, may_part, parts}
 
@@ -95,9 +95,12 @@ conflicts_guarded rule R e = record { each = each }
     each Y X y x hy hx u c =
         let t = pair_at (conflict_test rule) R Y X y x e hy hx in
         let b = two_blocks rule (standing X x.path) (standing Y y.path)
-            (only_so (may_meet y x) (guarded_by rule (standing X x.path) (standing Y y.path)) t (and_from _ _ (parts u) (clashes c))) in
-        record { former = record { opener = b.o; effects = b.E; stands = b.first_is }; latter = record { opener = b.q; effects = b.F; stands = b.second_is };
-            barred = λ n. b.barred }
+        (only_so (may_meet y x) (guarded_by rule (standing X x.path) (standing Y y.path)) t (and_from _ _ (parts u) (clashes c))) in
+        record {
+          former = record { opener = b.o; effects = b.E; stands = b.first_is };
+          latter = record { opener = b.q; effects = b.F; stands = b.second_is };
+          barred = λ n. b.barred;
+        }
 
 abbrev same_spot : Spot → Spot → Bool
 same_spot (Branch_of u q) (Branch_of v r) = same_path (u ∷ q) (v ∷ r)
@@ -184,19 +187,24 @@ levels_guarded rule R e = record { accesses = accesses; entries = entries }
     accesses : (Y X : Run) (y x : Event) → Upto (y ∷ Y) R → Upto (x ∷ X) Y → Unordered x.path y.path → Conflict x y → Levelled rule X x Y y
     accesses Y X y x hy hx u c =
         let b = two_levels rule X Y (standing X x.path) (standing Y y.path)
-            (only_so (may_meet y x) (levelled_by rule X Y (standing X x.path) (standing Y y.path)) (both Y X y x hy hx).0
-            (and_from _ _ (parts u) (clashes c))) in
-        record { former = record { opener = b.o; effects = b.E; stands = b.first_is }; latter = record { opener = b.q; effects = b.F; stands = b.second_is };
-            differ = b.differ; level = b.level; barred = b.barred }
+        (only_so (may_meet y x) (levelled_by rule X Y (standing X x.path) (standing Y y.path)) (both Y X y x hy hx).0
+        (and_from _ _ (parts u) (clashes c))) in
+        record {
+          former = record { opener = b.o; effects = b.E; stands = b.first_is };
+          latter = record { opener = b.q; effects = b.F; stands = b.second_is };
+          differ = b.differ;
+          level = b.level;
+          barred = b.barred;
+        }
 
     entries : (Y X : Run) (y x : Event) (E F : List Effect) → Upto (y ∷ Y) R → Upto (x ∷ X) Y → Unordered x.path y.path → x.act ≡ Do (Enter E)
         → y.act ≡ Do (Enter F)
-      → standing X x.path ≡ Outside → standing Y y.path ≡ Outside → (inner X x.path ≡ inner Y y.path → ⊥) → LetBy rule E F
+        → standing X x.path ≡ Outside → standing Y y.path ≡ Outside → (inner X x.path ≡ inner Y y.path → ⊥) → LetBy rule E F
     entries Y X y x E F hy hx u a b c d n =
         let when_both = and_from _ _ (parts u) (and_from _ _ (entry_so (standing X x.path) x.act E c a) (entry_so (standing Y y.path) y.act F d b)) in
         let t = only_so _ _ (both Y X y x hy hx).1 when_both in
         let l = or_else_so (same_spot (inner X x.path) (inner Y y.path)) (let_by_test rule (entered x.act) (entered y.act)) t
-            (λ k. n (same_spot_is (inner X x.path) (inner Y y.path) k)) in
+        (λ k. n (same_spot_is (inner X x.path) (inner Y y.path) k)) in
         let m : let_by_test rule E F ≡ true = (λ i. let_by_test rule (entered (a' i)) (entered (b' i))) ∙ l in
         and_parts (rule E F) (rule F E) m
       where

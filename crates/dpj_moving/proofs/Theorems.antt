@@ -1,12 +1,12 @@
 -- The laws, from the lemmas.
-use Rattle.std.proofs.Common.{◌≡◌, ◌≤◌, ◌+◌, ℕ, suc, List, [], ◌∷◌, length, refl, sym, ap, ◌∙◌, subst, ⊎_elim}
-use Rattle.dpj_runs.specs.Actions.{Ending, Program, cells, steps}
+use Rattle.std.proofs.Common.{◌≡◌, ◌≤◌, ◌+◌, suc, [], ◌∷◌, sym, ap, ◌∙◌, subst, ⊎_elim}
+use Rattle.dpj_runs.specs.Actions.{Ending, Program}
 use Rattle.dpj_runs.specs.Blocks.{leaving_locals, with_rule}
 use Rattle.dpj_runs.specs.Meaning.{Disciplined, Known}
 use Rattle.dpj_runs.specs.Objects.{Path, size}
 use Rattle.dpj_runs.specs.Order.{Came, Comes, Outcome, ending_of, printed, trapped}
 use Rattle.dpj_runs.specs.Runs.{Ended, Event, Run, Upto, cells_of, entry_step, event_cells, event_steps, mine, now, steps_of, total}
-use Rattle.dpj_runs.specs.Schedules.{Limits, Within, ended}
+use Rattle.dpj_runs.specs.Schedules.{Limits, Within}
 use Rattle.dpj_runs.specs.Standing.{Valid}
 use Rattle.dpj_moving.specs.Gathered.{gather}
 use Rattle.dpj_moving.specs.Guarded.{LevelsGuarded}
@@ -30,8 +30,9 @@ same_ended {R} {G} m p x h = ended_in (subst (λ es. Upto (mine R p) es) (sym (m
 
 same_costs : (P : Program) (R G : Run) → ((p : Path) → mine G p ≡ mine R p) → (steps_of R ≡ steps_of G) × (cells_of P R ≡ cells_of P G)
 same_costs P R G m = (
-    ap (λ es. entry_step es + total event_steps R) (sym (m [])) ∙ ap (λ k. entry_step (mine G []) + k) (same_total event_steps R G (λ p. sym (m p))),
-    ap (λ k. suc (size P.object) + k) (same_total event_cells R G (λ p. sym (m p))))
+  ap (λ es. entry_step es + total event_steps R) (sym (m [])) ∙ ap (λ k. entry_step (mine G []) + k) (same_total event_steps R G (λ p. sym (m p))),
+  ap (λ k. suc (size P.object) + k) (same_total event_cells R G (λ p. sym (m p))),
+)
 
 same_comes : (P : Program) (R G : Run) → ((p : Path) → mine G p ≡ mine R p) → (o : Outcome) → Comes P R o → Comes P G o
 same_comes P R G m o c =

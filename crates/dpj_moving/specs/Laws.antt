@@ -1,5 +1,5 @@
 -- The laws of gathering and moving, as statements.
-use Rattle.std.specs.Prelude.{ℕ, ◌≡◌, true, List, [], ◌∷◌}
+use Rattle.std.specs.Prelude.{ℕ, ◌≡◌, true, List, ◌∷◌}
 use Rattle.dpj_runs.specs.Objects.{Path, Effect}
 use Rattle.dpj_runs.specs.Actions.{Ending, Program, Rule, Task}
 use Rattle.dpj_runs.specs.Runs.{Begun, Event, Run, mine, total, Ended}
@@ -40,7 +40,7 @@ OneGathered = (R G H : Run) → ((p : Path) → mine G p ≡ mine R p) → ((p :
 -- where a task makes an event inside a block, the block's opener has not left it
 abbrev pub StillOpen : Type 0
 StillOpen = (P : Program) → Disciplined P → (R : Run) (e : Event) → Legal P (e ∷ R) → (o : Path) (E : List Effect) → standing R e.path ≡ Inside o E
-  → (n : ℕ) × (hold (mine R o) ≡ In_block n E)
+    → (n : ℕ) × (hold (mine R o) ≡ In_block n E)
 
 -- its deterministic constructs can be moved, where its levels are guarded
 pub record IsMoved (P : Program) (R : Run) : Type 0 where
@@ -57,9 +57,9 @@ Weaker weak strong = (F E : List Effect) → strong F E ≡ true → weak F E �
 -- a run that is legal by a stronger rule is moved to one that is legal by the weaker
 abbrev pub MovingBy : Type 0
 MovingBy = (P : Program) (weak : Rule) → Weaker weak P.rule → Disciplined P → Known (with_rule weak P) → (R : Run) → Legal P R → LevelsGuarded weak R
-  → IsMoved (with_rule weak P) R
+    → IsMoved (with_rule weak P) R
 
 -- so to one that is legal by the rule that leaves effects on local regions aside, where that is the weaker one
 abbrev pub MovingInside : Type 0
 MovingInside = (P : Program) → Weaker (leaving_locals P.rule) P.rule → Disciplined P → Known (with_rule (leaving_locals P.rule) P)
-  → (R : Run) → Legal P R → LevelsGuarded (leaving_locals P.rule) R → IsMoved (with_rule (leaving_locals P.rule) P) R
+    → (R : Run) → Legal P R → LevelsGuarded (leaving_locals P.rule) R → IsMoved (with_rule (leaving_locals P.rule) P) R

@@ -1,5 +1,5 @@
 -- Two legal runs without conflicts agree.
-use Rattle.std.proofs.Common.{append-nil, ◌≡◌, ◌≢◌, ℕ, ℤ, pos, Option, Some, None, suc, ◌<◌, ◌≤◌, ◌⊎◌, inl, inr, ⊎_elim, [], ◌∷◌, ◌++◌, length, refl, sym, ap}
+use Rattle.std.proofs.Common.{append-nil, ◌≡◌, ℕ, ℤ, pos, Option, Some, None, suc, ◌<◌, ◌≤◌, ◌⊎◌, inl, inr, ⊎_elim, [], ◌∷◌, ◌++◌, length, refl, sym, ap}
 use Rattle.std.proofs.Common.{◌∙◌, subst, arith}
 use Rattle.std.proofs.lemmas.Bool.{cases_lt}
 use Rattle.std.proofs.Common.{◌+◌, length-append}
@@ -10,7 +10,6 @@ use Rattle.dpj_runs.specs.Objects.{Cell, Name, Path, Thing, first_value, or_else
 use Rattle.dpj_runs.specs.Order.{Agree, Free, Reads}
 use Rattle.dpj_runs.specs.Runs.{Ended, Event, Faithful, Joins, Right, Run, Upto, answered_by, at_start, count, joined, later, mine, now, read_at, reply, seen}
 use Rattle.dpj_runs.specs.Runs.{thing_of, things, value_in, wrote_at}
-use Rattle.dpj_runs.specs.Schedules.{ended}
 use Rattle.dpj_runs.proofs.Upto.{upto_all, upto_trans, upto_length, upto_next, upto_same, upto_tail}
 use Rattle.dpj_runs.proofs.Mine.{path_cases, mine_nil, mine_step, mine_same, mine_other, mine_at, Found, found, same_of, number_of, numbered}
 use Rattle.dpj_runs.proofs.Faithful.{one_fork, agree_self, carry, same_act, faithful_upto, none_after_end}
@@ -138,7 +137,7 @@ module _ (P : Program) (D : Disciplined P) where
           one_more : (p : Path) (f : Event) → e.path ≡ p → Found S p f (mine R p) → Upto (mine (e ∷ R) p) (mine S p)
           one_more p f k h =
               let fe : e ≡ f = next_event l (faithful_upto P h.stands m) fr (free_upto h.stands fs) (agree_upto (upto_tail h.stands) ag) (k ∙ sym h.path)
-                  (subst (λ q. mine R q ≡ mine h.before q) (sym h.path) (sym h.mine_is)) in
+              (subst (λ q. mine R q ≡ mine h.before q) (sym h.path) (sym h.mine_is)) in
               let u = mine_at p h.stands h.path in
               let v : f ∷ mine h.before p ≡ mine (e ∷ R) p = ap (λ g. g ∷ mine h.before p) (sym fe) ∙ ap (λ r. e ∷ r) h.mine_is ∙ sym (mine_same e R p k) in
               subst (λ r. Upto r (mine S p)) v u

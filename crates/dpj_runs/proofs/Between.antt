@@ -65,8 +65,8 @@ module _ (P : Program) (D : Disciplined P) where
       end_case p v f c n m e =
           let ne = none_after_end P D p m e.1.stands e.1.path e.1.act c.stands c.path in
           let differ : count c.before p ≡ count e.1.before p → ⊥ =
-              λ k. (let o = same_of p c.stands e.1.stands c.path e.1.path k in let z : Fork f.tasks ≡ End e.0 = sym f.act ∙ ap (λ y. y.act) o.0 ∙ e.1.act in
-              cc) in
+          λ k. (let o = same_of p c.stands e.1.stands c.path e.1.path k in let z : Fork f.tasks ≡ End e.0 = sym f.act ∙ ap (λ y. y.act) o.0 ∙ e.1.act in
+          cc) in
           let never = end_passes e.1.event.act e.0 e.1.act in
           let j = joined_before P D p f.tasks m c.stands c.path f.act e.1.stands e.1.path (omega arith) never in
           let j' : JoinAt P D S p (count c.before p) (length f.tasks.tasks) = join_upto P D (upto_tail e.1.stands) j in

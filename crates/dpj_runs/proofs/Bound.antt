@@ -1,7 +1,7 @@
 -- How long a run is: each task makes one event more that costs nothing than it makes entries, at most.
 use Rattle.std.proofs.Common.{◌≡◌, ℕ, zero, suc, ◌+◌, ◌-◌, ◌*◌, ◌<◌, ◌≤◌, ◌⊎◌, inl, inr, ⊎_elim, Bool, true, false, List, [], ◌∷◌, length, refl, sym, ap, ◌∙◌}
-use Rattle.std.proofs.Common.{subst, arith, nat_lt, true≢false, if◌then◌else◌}
-use Rattle.std.proofs.lemmas.Bool.{cond-true, cond-false, cases_lt, lt-ltb, ltb-true, false_from_ne_true, cases_eq}
+use Rattle.std.proofs.Common.{subst, arith, nat_lt, if◌then◌else◌}
+use Rattle.std.proofs.lemmas.Bool.{cond-true, cond-false, cases_lt, lt-ltb, ltb-true}
 use Rattle.dpj_runs.specs.Actions.{Action, Begin, Do, End, Ending, Enter, Exit, Fork, Join, Look, New, Next, Own, Print, Program, Read, Rest, Task, Write}
 use Rattle.dpj_runs.specs.Actions.{steps}
 use Rattle.dpj_runs.specs.Meaning.{Disciplined, Paced}
@@ -9,11 +9,11 @@ use Rattle.dpj_runs.specs.Objects.{Path}
 use Rattle.dpj_runs.specs.Order.{Outcome}
 use Rattle.dpj_runs.specs.Runs.{Begun, Event, Faithful, Run, Upto, answers, branch, count, event_steps, later, mine, now, root, steps_of, total}
 use Rattle.dpj_runs.specs.Schedules.{Finished, Limits, Ran, begins, ended, no_room, one_begin, over}
-use Rattle.dpj_runs.proofs.Upto.{upto_trans, upto_tail, upto_split, upto_length}
-use Rattle.dpj_runs.proofs.Mine.{Found, path_cases, mine_same, mine_other, mine_nil, number_of, found}
+use Rattle.dpj_runs.proofs.Upto.{upto_tail, upto_split, upto_length}
+use Rattle.dpj_runs.proofs.Mine.{Found, mine_same, mine_other, mine_nil, number_of, found}
 use Rattle.dpj_runs.proofs.Faithful.{agree_self, begun_upto, follows_at, next_same, same_task, none_after_end}
 use Rattle.dpj_runs.proofs.Cost.{total_nil, total_step}
-use Rattle.dpj_runs.proofs.Numbers.{begins_step, begins_nil, same_begin}
+use Rattle.dpj_runs.proofs.Numbers.{begins_step, begins_nil}
 use Rattle.dpj_runs.proofs.Schedules.{ran_faithful, ran_length}
 
 -- whether so many steps are some
@@ -171,7 +171,7 @@ module _ (R : Run) (e : Event) where
       go true h =
           let l = ltb-true b n h in
           cond-true (nat_lt b n) _ _ h ∙ ap spare (mine_other e R ((n - suc b, b) ∷ q) (λ k. f (n - suc b, b) k refl (omega arith)))
-              ∙ sym (cond-true (nat_lt b n) _ _ h)
+          ∙ sym (cond-true (nat_lt b n) _ _ h)
       go false h = cond-false (nat_lt b n) _ _ h ∙ sym (cond-false (nat_lt b n) _ _ h)
   same_begun q n (Do o) f = refl
   same_begun q n (Fork ts) f = refl
@@ -199,9 +199,9 @@ module _ (R : Run) (e : Event) where
       head : (S : Run) → g ≡ x → B ≡ G → spare_begun S x.path (count G x.path) x.act ≡ spare (mine S e.path)
       head S a b =
           let c1 : spare_begun S x.path (count G x.path) x.act ≡ spare_begun S q (count B q) (Begin u.1) =
-              (λ i. spare_begun S ((sym (ap (λ z. z.path) a) ∙ gq) i) (count (b' i) ((sym (ap (λ z. z.path) a) ∙ gq) i)) ((sym (ap (λ z. z.act) a) ∙ ga) i)) in
+          (λ i. spare_begun S ((sym (ap (λ z. z.path) a) ∙ gq) i) (count (b' i) ((sym (ap (λ z. z.path) a) ∙ gq) i)) ((sym (ap (λ z. z.act) a) ∙ ga) i)) in
           let c2 : spare_begun S q (count B q) (Begin u.1) ≡ spare (mine S ((count B q - suc u.1, u.1) ∷ q)) =
-              cond-true (nat_lt u.1 (count B q)) _ _ (lt-ltb u.1 (count B q) (omega arith)) in
+          cond-true (nat_lt u.1 (count B q)) _ _ (lt-ltb u.1 (count B q) (omega arith)) in
           let u0 : count B q - suc u.1 ≡ u.0 = omega arith in
           c1 ∙ c2 ∙ (λ i. spare (mine S ((u0 i, u.1) ∷ q))) ∙ ap (λ p. spare (mine S p)) (sym k)
         where
@@ -277,12 +277,12 @@ module _ (P : Program) (D : Disciplined P) (C : Paced P) where
           let a = follows_at P f.stands l.1 in
           let b = l.0 in
           let t : a.task ≡ b.task = same_task (agree_self R)
-              (begun_upto (upto_tail f.stands) (subst (λ q. Begun P f.before q a.task) f.path a.begun)) b.begun in
+          (begun_upto (upto_tail f.stands) (subst (λ q. Begun P f.before q a.task) f.path a.begun)) b.begun in
           let k1 : P.meaning e.path a.task (answers (mine f.before e.path)) ≡ Next w.turns w.act =
-              subst (λ q. P.meaning q a.task (answers (mine f.before q)) ≡ Next w.turns w.act) f.path a.asks in
+          subst (λ q. P.meaning q a.task (answers (mine f.before q)) ≡ Next w.turns w.act) f.path a.asks in
           let k2 : P.meaning e.path b.task (answers L) ≡ Next 0 (Do Rest) =
-              ap (λ s. P.meaning e.path s (answers L)) (sym t) ∙ ap (λ es. P.meaning e.path a.task (answers es)) (sym f.mine_is) ∙ k1
-              ∙ (λ i. Next (at_rest.0 i) (at_rest.1 i)) in
+          ap (λ s. P.meaning e.path s (answers L)) (sym t) ∙ ap (λ es. P.meaning e.path a.task (answers es)) (sym f.mine_is) ∙ k1
+          ∙ (λ i. Next (at_rest.0 i) (at_rest.1 i)) in
           let c = C.enters e.path b.task (answers L) w.ans k2 in
           let k3 : P.meaning e.path b.task (w.ans ∷ answers L) ≡ Next e.turns e.act = ap (λ es. P.meaning e.path b.task (answers es)) (sym m) ∙ b.asks in
           let same = next_same e.turns c.1.0 e.act (Do (Enter c.0)) (sym k3 ∙ c.1.1) in

@@ -1,12 +1,12 @@
 -- Which events write to a cell, and the last that does.
-use Rattle.std.proofs.Common.{◌≡◌, ◌≢◌, ℕ, ℤ, pos, negsuc, ◌<◌, ◌⊎◌, inl, inr, ⊎_elim, Bool, true, false, ◌&&◌, List, [], ◌∷◌, length, refl, sym, ap, ap₂, ◌∙◌}
+use Rattle.std.proofs.Common.{◌≡◌, ◌≢◌, ℕ, ℤ, pos, negsuc, Bool, true, false, [], ◌∷◌, refl, sym, ap, ap₂, ◌∙◌}
 use Rattle.std.proofs.Common.{subst, arith, Option, Some, None, eq-eqb, eqb-true, true≢false, nat_lt}
 use Rattle.std.proofs.lemmas.Bool.{and_from, and_parts, cond-true, cond-false}
 use Rattle.dpj_runs.specs.Actions.{Action, Answer, Begin, Class, Do, End, Enter, Exit, Fell, Fork, Got, Join, Joined, Length, Look, Named, New, Out, Own, Print}
 use Rattle.dpj_runs.specs.Actions.{Read, Rest, Went, Write}
 use Rattle.dpj_runs.specs.Objects.{Cell, Name, Value, is_cell, is_slot, same_name, slot_of}
 use Rattle.dpj_runs.specs.Order.{Conflict, IsPlain, Writes, read_write, write_read, write_write}
-use Rattle.dpj_runs.specs.Runs.{Event, Run, Upto, count, first_some, last_written, later, now, unless_out, written, written_by}
+use Rattle.dpj_runs.specs.Runs.{Event, Run, Upto, first_some, last_written, later, now, unless_out, written, written_by}
 use Rattle.dpj_runs.proofs.Upto.{upto_length}
 use Rattle.dpj_runs.proofs.Mine.{same_path_eq, test_same}
 

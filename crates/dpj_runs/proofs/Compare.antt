@@ -1,13 +1,12 @@
 -- What stands before an action in the one of two runs stands in the other too, so a read gets the same value in both.
-use Rattle.std.proofs.Common.{◌≡◌, ℕ, suc, pos, ◌<◌, ◌⊎◌, inl, inr, ⊎_elim, List, [], ◌∷◌, ◌++◌, length, refl, sym, ap, ◌∙◌, subst, arith, Some, None}
-use Rattle.std.proofs.Common.{slice_get, eq-eqb, ne_eqb}
+use Rattle.std.proofs.Common.{◌≡◌, ℕ, suc, ◌<◌, ◌⊎◌, inl, inr, ⊎_elim, List, [], ◌∷◌, ◌++◌, length, refl, sym, ap, ◌∙◌, subst, arith, Some}
+use Rattle.std.proofs.Common.{slice_get}
 use Rattle.dpj_runs.specs.Actions.{Program}
 use Rattle.dpj_runs.specs.Meaning.{Disciplined}
 use Rattle.dpj_runs.specs.Objects.{Cell, Path}
 use Rattle.dpj_runs.specs.Order.{Agree, Before, Conflict, Free, IsPlain, Passes, Reads, Related, Unordered, Writes, above_fork, across, below_join, first}
 use Rattle.dpj_runs.specs.Order.{in_task, neither, one, second, write_read, write_write}
 use Rattle.dpj_runs.specs.Runs.{Event, Faithful, Run, Upto, count, last_written, later, mine, now}
-use Rattle.dpj_runs.specs.Standing.{above}
 use Rattle.dpj_runs.proofs.Upto.{upto_trans, upto_length, upto_tail, upto_two}
 use Rattle.dpj_runs.proofs.Mine.{mine_upto, Found, same_of, number_of}
 use Rattle.dpj_runs.proofs.Cells.{write_of, LastWrite, none, some, last_write, left_plain, right_plain}
@@ -110,8 +109,17 @@ module _ (P : Program) (D : Disciplined P) where
         order (neither n) = absurd ((free_upto (later now) fr).no W X' w x hw xw (flip n) (write_write c b a))
           where
             flip : {p q : Path} → Unordered p q → Unordered q p
-            flip u = record { below_p = u.below_q; below_q = u.below_p; above = u.above; u = u.v; v = u.u; one_fork = sym u.one_fork;
-                apart = λ h. u.apart (sym h); p_is = u.q_is; q_is = u.p_is }
+            flip u = record {
+              below_p = u.below_q;
+              below_q = u.below_p;
+              above = u.above;
+              u = u.v;
+              v = u.u;
+              one_fork = sym u.one_fork;
+              apart = λ h. u.apart (sym h);
+              p_is = u.q_is;
+              q_is = u.p_is;
+            }
 
     same_written : LastWrite R c → LastWrite S c → last_written R c ≡ last_written S c
     same_written (none n z) (none n' z') = z ∙ sym z'

@@ -66,7 +66,7 @@ total_le c (y ∷ S) R h = go (total_le c S) (upto_cases (subst (Upto (mine R y.
     go rec (inl e) =
         let w = without c R y.path y (mine S y.path) e in
         let a = rec w.run (λ q. ⊎_elim (λ k. subst (λ p. Upto (mine w.run p) (mine S p)) (sym k) (subst (λ l. Upto l (mine S y.path)) (sym w.here) now))
-            (λ n. subst (λ l. Upto l (mine S q)) (sym (w.other q n)) (at_other q n)) (path_cases q y.path)) in
+        (λ n. subst (λ l. Upto l (mine S q)) (sym (w.other q n)) (at_other q n)) (path_cases q y.path)) in
         let b = total_step c y S in
         let d = w.costs in
         omega arith

@@ -8,9 +8,8 @@ use Rattle.std.proofs.lemmas.List.{map-append, length-map}
 use Rattle.dpj_runs.specs.Actions.{Action, Answer, Asks, Begin, Branches, End, Ending, Fork, Join, Next, Over, Program, Task}
 use Rattle.dpj_runs.specs.Meaning.{Disciplined}
 use Rattle.dpj_runs.specs.Objects.{Path}
-use Rattle.dpj_runs.specs.Order.{Agree, IsPlain, Passes, one}
+use Rattle.dpj_runs.specs.Order.{Agree, IsPlain, Passes}
 use Rattle.dpj_runs.specs.Runs.{Begun, Ended, Event, Faithful, Follows, Joins, Right, Run, Upto, answers, branch, count, later, mine, now, root}
-use Rattle.dpj_runs.specs.Schedules.{begins, ended, over}
 use Rattle.dpj_runs.proofs.Upto.{upto_rest, upto_trans, upto_length, upto_same, upto_tail, upto_two}
 use Rattle.dpj_runs.proofs.Mine.{mine_at, Found, found, earlier_of, same_of, number_of, numbered}
 
@@ -54,9 +53,24 @@ pub record ForkAt (R : Run) (q : Path) (u : ℕ × ℕ) : Type 0 where
   pub begin_number : count began q ≡ suc (u.0 + u.1)
 
 pub fork_upto : {B R : Run} {q : Path} {u : ℕ × ℕ} → Upto B R → ForkAt B q u → ForkAt R q u
-fork_upto h f = record { before = f.before; event = f.event; stands = upto_trans f.stands h; path = f.path; number = f.number; tasks = f.tasks; act = f.act;
-    task = f.task; is_there = f.is_there; began = f.began; begin = f.begin; begin_stands = upto_trans f.begin_stands h; begin_path =
-    f.begin_path; begin_act = f.begin_act; begin_number = f.begin_number }
+fork_upto h f = record {
+  before = f.before;
+  event = f.event;
+  stands = upto_trans f.stands h;
+  path = f.path;
+  number = f.number;
+  tasks = f.tasks;
+  act = f.act;
+  task = f.task;
+  is_there = f.is_there;
+  began = f.began;
+  begin = f.begin;
+  begin_stands = upto_trans f.begin_stands h;
+  begin_path =
+      f.begin_path;
+  begin_act = f.begin_act;
+  begin_number = f.begin_number;
+}
 
 pub ended_upto : {B R : Run} {p : Path} {x : Ending} → Upto B R → Ended B p x → Ended R p x
 ended_upto h e = record { before = e.before; event = e.event; stands = upto_trans e.stands h; path = e.path; act = e.act }
@@ -114,7 +128,7 @@ module _ (P : Program) where
       let a1 = subst (λ r. P.meaning r a.task (answers (mine B r)) ≡ Next e.turns e.act) ep a.asks in
       let b1 = subst (λ r. P.meaning r b.task (answers (mine C r)) ≡ Next f.turns f.act) fp b.asks in
       let c1 : P.meaning p a.task (answers (mine B p)) ≡ P.meaning p b.task (answers (mine C p)) =
-          ap (λ t. P.meaning p t (answers (mine B p))) t ∙ ap (λ l. P.meaning p b.task (answers l)) m in
+      ap (λ t. P.meaning p t (answers (mine B p))) t ∙ ap (λ l. P.meaning p b.task (answers l)) m in
       next_same e.turns f.turns e.act f.act (sym a1 ∙ c1 ∙ b1)
 
   -- the task of an event, and that it makes this action
@@ -151,15 +165,17 @@ module _ (P : Program) where
         let b = asked_of q l hy yq in
         let t : b.task ≡ a.task = same_task (agree_self R) b.begun a.begun in
         let e1 : answers (z.0 ++ f ∷ mine F q) ≡ (answers z.0 ++ f.ans ∷ []) ++ answers (mine F q) =
-            map-append (λ e. e.ans) z.0 (f ∷ mine F q) ∙ sym (append_assoc (answers z.0) (f.ans ∷ []) (answers (mine F q))) in
+        map-append (λ e. e.ans) z.0 (f ∷ mine F q) ∙ sym (append_assoc (answers z.0) (f.ans ∷ []) (answers (mine F q))) in
         let k : P.meaning q b.task (answers (mine Y q)) ≡ P.meaning q a.task ((answers z.0 ++ f.ans ∷ []) ++ answers (mine F q)) =
-            ap (λ t. P.meaning q t (answers (mine Y q))) t ∙ ap (λ l. P.meaning q a.task (answers l)) z.1 ∙ ap (λ l. P.meaning q a.task l) e1 in
+        ap (λ t. P.meaning q t (answers (mine Y q))) t ∙ ap (λ l. P.meaning q a.task (answers l)) z.1 ∙ ap (λ l. P.meaning q a.task l) e1 in
         (a.task, z.0, z.1, (f.turns, a.asks ∙ ap (λ z. Next f.turns z) fa), sym k ∙ b.asks)
 
     since_length : (f : Event) (zs es ys : Run) → ys ≡ zs ++ f ∷ es → length (answers zs ++ f.ans ∷ []) ≡ suc (length zs)
         × (length ys ≡ suc (length zs + length es))
-    since_length f zs es ys e = (omega (arith, length-append (answers zs) (f.ans ∷ []), length-map zs (λ e. e.ans)),
-        omega (arith, ap length e, length-append zs (f ∷ es)))
+    since_length f zs es ys e = (
+      omega (arith, length-append (answers zs) (f.ans ∷ []), length-map zs (λ e. e.ans)),
+      omega (arith, ap length e, length-append zs (f ∷ es)),
+    )
 
     pub begin_after : {R F Y : Run} {f y : Event} (q : Path) (ts : Branches) (k : ℕ) → Faithful P R → Upto (f ∷ F) R → f.path ≡ q → f.act ≡ Fork ts
         → Upto (y ∷ Y) R → y.path ≡ q → count Y q ≡ suc (count F q + k) → k < length ts.tasks → y.act ≡ Begin k
@@ -192,7 +208,7 @@ module _ (P : Program) where
         let t : b.task ≡ a.task = same_task (agree_self R) b.begun a.begun in
         let d = D.over q a.task (answers (mine G q)) x g.ans (g.turns, a.asks ∙ ap (λ z. Next g.turns z) ga) in
         let k : P.meaning q b.task (answers (mine Y q)) ≡ P.meaning q a.task (g.ans ∷ answers (mine G q)) =
-            ap (λ t. P.meaning q t (answers (mine Y q))) t ∙ ap (λ l. P.meaning q a.task (answers l)) m in
+        ap (λ t. P.meaning q t (answers (mine Y q))) t ∙ ap (λ l. P.meaning q a.task (answers l)) m in
         let z : Next y.turns y.act ≡ Over = sym b.asks ∙ k ∙ d in
         cc
 
@@ -216,10 +232,26 @@ module _ (P : Program) where
             let k : u ∷ q ≡ u' ∷ q' = sym e ∙ a in
             let uu : u' ≡ u = cc in
             let qq : q' ≡ q = cc in
-            record { before = F; event = f; stands = b; path = c ∙ qq; number = ap (λ r. count F r) (sym qq) ∙ d
-                ∙ ap (λ w. w.0) uu; tasks = ts; act = g; task = t; is_there = ap (λ w. slice_get ts.tasks w.1) (sym uu) ∙ h; began = B; begin =
-                k1; begin_stands = b1; begin_path = c1 ∙ qq; begin_act = e1 ∙ ap (λ w. Begin w.1) uu; begin_number =
-                ap (λ r. count B r) (sym qq) ∙ d1 ∙ ap (λ w. suc (w.0 + w.1)) uu }
+            record {
+              before = F;
+              event = f;
+              stands = b;
+              path = c ∙ qq;
+              number = ap (λ r. count F r) (sym qq) ∙ d
+                  ∙ ap (λ w. w.0) uu;
+              tasks = ts;
+              act = g;
+              task = t;
+              is_there = ap (λ w. slice_get ts.tasks w.1) (sym uu) ∙ h;
+              began = B;
+              begin =
+                  k1;
+              begin_stands = b1;
+              begin_path = c1 ∙ qq;
+              begin_act = e1 ∙ ap (λ w. Begin w.1) uu;
+              begin_number =
+                  ap (λ r. count B r) (sym qq) ∙ d1 ∙ ap (λ w. suc (w.0 + w.1)) uu;
+            }
     fork_above {R} {Y} {y} (x ∷ xs) q u l hy e = go (follows_at hy l).begun (λ F f h k. fork_above xs q u (faithful_upto (upto_tail hy) l) h k)
       where
         go : {t : Task} → Begun P Y y.path t → ((F : Run) (f : Event) → Upto (f ∷ F) Y → f.path ≡ xs ++ u ∷ q → ForkAt F q u) → ForkAt Y q u

@@ -1,16 +1,15 @@
 -- Legal runs for samples, computed from the names of the tasks that go on, and checked as they are made.
-use Rattle.std.proofs.Common.{◌≡◌, ℕ, zero, suc, ◌+◌, ◌<◌, ◌≤◌, ◌⊎◌, inl, inr, ⊎_elim, Bool, true, false, true≢false, ◌&&◌, ◌==◌, if◌then◌else◌, List, [], ◌∷◌}
+use Rattle.std.proofs.Common.{◌≡◌, ℕ, zero, suc, ◌+◌, ◌⊎◌, inl, inr, Bool, true, false, true≢false, ◌&&◌, ◌==◌, if◌then◌else◌, List, [], ◌∷◌}
 use Rattle.std.proofs.Common.{◌++◌, length, refl, sym, ap, ◌∙◌, subst, arith, Option, Some, None, slice_get, eqb-true}
-use Rattle.std.proofs.lemmas.Bool.{and_parts, cond-true, cond-false, cases_lt}
+use Rattle.std.proofs.lemmas.Bool.{and_parts, cond-true, cond-false}
 use Rattle.std.proofs.lemmas.Option.{slice_get_past}
 use Rattle.dpj_runs.specs.Actions.{Action, Answer, Begin, Branches, Do, End, Ending, Enter, Fork, Join, Next, Over, Program, Reply, Rule, Task, Went}
 use Rattle.dpj_runs.specs.Objects.{Effect, Path, same_path}
-use Rattle.dpj_runs.specs.Runs.{Begun, Ended, Event, Joins, Right, Run, Upto, answers, branch, joined, later, made, mine, now, reply, root}
+use Rattle.dpj_runs.specs.Runs.{Begun, Ended, Event, Joins, Right, Run, Upto, answers, branch, joined, later, mine, now, reply, root}
 use Rattle.dpj_runs.specs.Standing.{Admitted, CanEnter, Inside, Outside, Standing, Valid, standing}
-use Rattle.dpj_runs.proofs.Upto.{upto_behind, upto_trans, upto_length, upto_split, upto_none}
-use Rattle.dpj_runs.proofs.Mine.{test_same, mine_at, Found, found}
+use Rattle.dpj_runs.proofs.Upto.{upto_behind, upto_split, upto_none}
+use Rattle.dpj_runs.proofs.Mine.{test_same, found}
 use Rattle.dpj_runs.proofs.Faithful.{some_same}
-use Rattle.dpj_runs.proofs.Blocks.{entry_at}
 use Rattle.dpj_runs.proofs.Standing.{Opener, opener_of}
 use Rattle.dpj_runs.proofs.Carry.{has_event}
 
@@ -90,9 +89,9 @@ pub task_begun : (P : Program) (R : Run) (p : Path) (t : Task) → task_of P R p
 task_begun P R [] t e = root refl (sym (some_same P.root t e))
 task_begun P R (u ∷ q) t e =
     let a = let_parts (nth (mine R q) u.0) (λ f. let_some (fork_of f.act)
-        (λ ts. let_some (nth (mine R q) (suc (u.0 + u.1))) (λ g. when (is_begin u.1 g.act) (slice_get ts.tasks u.1)))) t e in
+    (λ ts. let_some (nth (mine R q) (suc (u.0 + u.1))) (λ g. when (is_begin u.1 g.act) (slice_get ts.tasks u.1)))) t e in
     let b = let_parts (fork_of a.value.act) (λ ts. let_some (nth (mine R q) (suc (u.0 + u.1)))
-        (λ g. when (is_begin u.1 g.act) (slice_get ts.tasks u.1))) t a.then_is in
+    (λ g. when (is_begin u.1 g.act) (slice_get ts.tasks u.1))) t a.then_is in
     let ts : Branches = b.value in
     let c = let_parts (nth (mine R q) (suc (u.0 + u.1))) (λ g. when (is_begin u.1 g.act) (slice_get ts.tasks u.1)) t b.then_is in
     let d = when_parts (is_begin u.1 c.value.act) (slice_get ts.tasks u.1) t c.then_is in
@@ -101,7 +100,7 @@ task_begun P R (u ∷ q) t e =
     let ff = found R q f.1 in
     let gg = found R q g.1 in
     branch q u ff.before a.value ts gg.before c.value refl ff.stands ff.path (ap length ff.mine_is ∙ f.2) (fork_is a.value.act ts b.is) d.1 gg.stands gg.path
-        (begin_is u.1 c.value.act d.0) (ap length gg.mine_is ∙ g.2)
+    (begin_is u.1 c.value.act d.0) (ap length gg.mine_is ∙ g.2)
 
 abbrev ending_of_act : Action → Option Ending
 ending_of_act (End x) = Some x

@@ -1,12 +1,11 @@
 -- Some task is ready: where a block is open, one of those in it; else one on the way down from the root.
 use Rattle.std.proofs.Common.{◌≡◌, ℕ, zero, suc, ◌+◌, ◌-◌, ◌<◌, ◌≤◌, ◌⊎◌, inl, inr, ⊎_elim, List, [], ◌∷◌, ◌++◌, length, refl, sym, ap, ◌∙◌, subst, arith}
-use Rattle.std.proofs.Common.{Option, Some, None, slice_get, length-append}
+use Rattle.std.proofs.Common.{Some, slice_get, length-append}
 use Rattle.dpj_runs.specs.Actions.{Action, Answer, Asks, Begin, Branches, Do, End, Ending, Fork, Join, Next, Over, Own, Program, Reply, Task, Went}
 use Rattle.dpj_runs.specs.Blocks.{In_block, Out_of, hold, hold_after}
 use Rattle.dpj_runs.specs.Meaning.{Disciplined, Lively}
 use Rattle.dpj_runs.specs.Objects.{Effect, Path}
 use Rattle.dpj_runs.specs.Runs.{Begun, Ended, Event, Faithful, Right, Run, Upto, answers, branch, count, joined, later, mine, now, reply, root}
-use Rattle.dpj_runs.specs.Schedules.{ended}
 use Rattle.dpj_runs.specs.Standing.{Admitted, CanEnter, Inside, Outside, Standing, above, first_of, joined_by, standing}
 use Rattle.dpj_runs.proofs.Upto.{upto_behind, upto_trans, upto_length, upto_tail, upto_split, upto_none}
 use Rattle.dpj_runs.proofs.Mine.{path_cases, mine_at, found, same_of, number_of, numbered}
@@ -97,7 +96,7 @@ module _ (P : Program) (D : Disciplined P) (V : Lively P) (R : Run) (l : Faithfu
       let a = follows_at P h l in
       let same : a.task ≡ t = same_task (agree_self R) (begun_upto (upto_tail h) (subst (λ q. Begun P W q a.task) e a.begun)) b in
       let k : P.meaning p a.task (answers (mine W p)) ≡ Next w.turns w.act =
-          subst (λ q. P.meaning q a.task (answers (mine W q)) ≡ Next w.turns w.act) e a.asks in
+      subst (λ q. P.meaning q a.task (answers (mine W q)) ≡ Next w.turns w.act) e a.asks in
       (w.turns, subst (λ s. P.meaning p s (answers (mine W p)) ≡ Next w.turns w.act) same k)
 
   -- a task that has not ended has a next action
@@ -128,8 +127,10 @@ module _ (P : Program) (D : Disciplined P) (V : Lively P) (R : Run) (l : Faithfu
   -- an action that a task asks for, rightly answered, is ready; an entry where no block is open or its task stands inside one
   make : (p : Path) (t : Task) (c : Action) (a : Answer) → Begun P R p t → Asks P p t (answers (mine R p)) c → Right P R p c a → Free_or p → (e : Event)
       × Admitted P R e
-  make p t c a b k r fr = (record { path = p; turns = k.0; act = c; ans = a },
-      record { follows = record { task = t; begun = b; asks = k.1; right = r }; enters = λ E i. may_enter p E fr })
+  make p t c a b k r fr = (
+    record { path = p; turns = k.0; act = c; ans = a },
+    record { follows = record { task = t; begun = b; asks = k.1; right = r }; enters = λ E i. may_enter p E fr },
+  )
 
   -- the fork in front of whose join a task stands
   record AtJoin (p : Path) (t : Task) : Type 0 where
@@ -181,9 +182,11 @@ module _ (P : Program) (D : Disciplined P) (V : Lively P) (R : Run) (l : Faithfu
           let w = found R p h in
           let wn = ap length w.mine_is in
           let s = upto_length h in
-          let z = events_at_join p t j in
-          (count w.before p - suc (count j.before p), begin_after P D p j.tasks
-              (count w.before p - suc (count j.before p)) l j.stands j.path j.act w.stands w.path (omega (arith, wn, m)) (omega (arith, wn, m, s, z)))
+          let z = events_at_join p t j in (
+            count w.before p - suc (count j.before p),
+            begin_after P D p j.tasks
+                (count w.before p - suc (count j.before p)) l j.stands j.path j.act w.stands w.path (omega (arith, wn, m)) (omega (arith, wn, m, s, z)),
+          )
 
       same : hold (mine R p) ≡ hold (mine j.before p)
       same = hold_since since begins ∙ ap (λ c. hold_after c (hold (mine j.before p))) j.act

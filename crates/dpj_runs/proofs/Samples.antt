@@ -1,9 +1,8 @@
 -- The samples.
-use Rattle.std.proofs.Common.{◌≡◌, ◌≢◌, ℕ, ℤ, pos, zero, suc, ◌+◌, ◌*◌, ◌<◌, ◌≤◌, ◌⊎◌, inl, inr, ⊎_elim, Bool, true, false, cond, true≢false, ◌&&◌, ◌==◌, List}
+use Rattle.std.proofs.Common.{◌≡◌, ℕ, pos, zero, suc, ◌⊎◌, inl, inr, ⊎_elim, Bool, true, false, cond, true≢false, ◌==◌, List}
 use Rattle.std.proofs.Common.{[], ◌∷◌, length, map, refl, sym, ap, ◌∙◌, subst, arith, Option, Some, None, slice_get}
-use Rattle.std.proofs.lemmas.Bool.{and_parts}
 use Rattle.dpj_runs.specs.Actions.{Action, Answer, Assigned, Begin, Branches, Deterministic, Do, End, Ending, Enter, Exit, Got, Kind, Look, New, Next}
-use Rattle.dpj_runs.specs.Actions.{Nondeterministic, Print, Program, Read, Reply, Rest, Returned, Rule, Went, Write, cells, steps}
+use Rattle.dpj_runs.specs.Actions.{Nondeterministic, Print, Program, Read, Reply, Rest, Returned, Rule, Went, Write}
 use Rattle.dpj_runs.specs.Blocks.{Allowed, Legal}
 use Rattle.dpj_runs.specs.Meaning.{Paced}
 use Rattle.dpj_runs.specs.Objects.{An_array, Effect, Int, Name, Path, Star, Value, Writing, same_path}
@@ -18,7 +17,7 @@ use Rattle.dpj_runs.proofs.Faithful.{agree_self, next_same, same_task}
 use Rattle.dpj_runs.proofs.Written.{legal_from, admitted_from, legal_faithful}
 use Rattle.dpj_runs.proofs.Schedules.{recorded, ran_length}
 use Rattle.dpj_runs.proofs.Theorems.{each_comes_out, same_outcome}
-use Rattle.dpj_runs.proofs.Scripts.{main, int, Item, does, forks, Body, body_of, after, after_fork, task, scripted, script_disciplined, script_lively}
+use Rattle.dpj_runs.proofs.Scripts.{main, int, does, forks, Body, body_of, after, task, scripted, script_disciplined, script_lively}
 use Rattle.dpj_runs.proofs.Play.{run_of, play, played, task_begun, has_ended_with}
 use Rattle.dpj_runs.proofs.Tests.{is_free, script_known}
 
@@ -287,7 +286,7 @@ not_allowed e p a =
     let f = d.follows in
     let t : f.task ≡ task 2 = same_task (agree_self inside_run) (subst (λ q. Begun waits inside_run q f.task) p f.begun) b_begun in
     let k : waits.meaning pb f.task (answers (mine inside_run pb)) ≡ Next e.turns e.act =
-        subst (λ q. waits.meaning q f.task (answers (mine inside_run q)) ≡ Next e.turns e.act) p f.asks in
+    subst (λ q. waits.meaning q f.task (answers (mine inside_run q)) ≡ Next e.turns e.act) p f.asks in
     let act = (next_same 0 e.turns (Do (Enter any_effect)) e.act (sym (ap (λ s. waits.meaning pb s (answers (mine inside_run pb))) t ∙ b_asks) ∙ k)).1 in
     let c = d.enters any_effect (sym act) in
     true≢false (sym (c.clear (ap (λ q. standing inside_run q) p ∙ b_outside) pa any_effect a_inside))
@@ -336,7 +335,7 @@ stuck e a = go a.follows.begun
     go (branch q u F g ts B h p b c d r s b1 c1 e1 d1) = upto_none b
     go (root p t) =
         let k : looks.meaning [] f.task (answers (mine [] [])) ≡ Next e.turns e.act =
-            subst (λ q. looks.meaning q f.task (answers (mine [] q)) ≡ Next e.turns e.act) p f.asks in
+        subst (λ q. looks.meaning q f.task (answers (mine [] q)) ≡ Next e.turns e.act) p f.asks in
         let act = (next_same 0 e.turns (Do (Look no_object)) e.act (sym (ap (λ s. looks.meaning [] s (answers (mine [] []))) t ∙ at_first) ∙ k)).1 in
         let r : reply looks [] e.path (Look no_object) ≡ Some e.ans = subst (λ c. Right looks [] e.path c e.ans) (sym act) f.right in
         let z : None ≡ Some e.ans = sym nothing_there ∙ ap (λ q. reply looks [] q (Look no_object)) (sym p) ∙ r in
@@ -399,9 +398,16 @@ pub bound_applies : BoundApplies
 bound_applies =
     let L : Limits = record { steps = 4; cells = 2 } in
     let w : Within rests L rest_run = record { steps = (let n = rest_steps in omega arith); cells = (let n = rest_cells in omega arith) } in
-    let r = recorded rests L rest_run (legal_play rested (int 0 ∷ []) never ([] ∷ [] ∷ [] ∷ [] ∷ [] ∷ []) rest_run rest_played) w in
-    (rests, script_disciplined rested (int 0 ∷ []) never, rests_paced, L, r.0, rest_run, r.1,
-        (let n = some_ran rests L rest_run 5 r rest_length in omega arith))
+    let r = recorded rests L rest_run (legal_play rested (int 0 ∷ []) never ([] ∷ [] ∷ [] ∷ [] ∷ [] ∷ []) rest_run rest_played) w in (
+      rests,
+      script_disciplined rested (int 0 ∷ []) never,
+      rests_paced,
+      L,
+      r.0,
+      rest_run,
+      r.1,
+      (let n = some_ran rests L rest_run 5 r rest_length in omega arith),
+    )
 
 -- a root that rests and rests
 abbrev resters : List Body

@@ -1,11 +1,10 @@
 -- Programs for samples: each task goes through a list of what it does, whatever it is answered.
-use Rattle.std.proofs.Common.{◌≡◌, ℕ, pos, zero, suc, ◌+◌, ◌<◌, ◌≤◌, ◌⊎◌, inl, inr, ⊎_elim, Bool, true, false, ◌&&◌, List, [], ◌∷◌, ◌++◌, length, refl, sym, ap}
-use Rattle.std.proofs.Common.{◌∙◌, subst, arith, Option, Some, None, slice_get, length-append}
-use Rattle.std.proofs.lemmas.Bool.{and_parts, cases_lt}
+use Rattle.std.proofs.Common.{◌≡◌, ℕ, pos, zero, suc, ◌+◌, ◌<◌, ◌≤◌, ◌⊎◌, inl, inr, ⊎_elim, List, [], ◌∷◌, ◌++◌, length, refl, sym, ap}
+use Rattle.std.proofs.Common.{◌∙◌, arith, Option, Some, None, slice_get, length-append}
+use Rattle.std.proofs.lemmas.Bool.{cases_lt}
 use Rattle.dpj_runs.specs.Actions.{Action, Answer, Asks, Begin, Branches, Do, End, Ending, Fork, Join, Next, Over, Own, Program, Reply, Returned, Rule, Task}
 use Rattle.dpj_runs.specs.Meaning.{Disciplined, Lively}
 use Rattle.dpj_runs.specs.Objects.{An_object, Int, Name, Null, Thing, Value}
-use Rattle.dpj_runs.specs.Runs.{count}
 
 pub data Item : Type 0 where
   does : (turns : ℕ) (own : Own) → Item
@@ -131,14 +130,18 @@ script_disciplined bodies fields rule = record {
   over = λ p t got x a e. over_after (items t) (ending t) (length got) e.0 x e.1;
   begins = λ p t got since ts k e n l. (
       let r = behind_after (items t) (ending t) (length got) e.0 ts e.1 in
-      let j = length-append since got in
-      (0, ap (λ m. after (items t) (ending t) m) (let z : length (since ++ got) ≡ suc (length got + k) = omega arith in z) ∙ r.is k (length got + k) refl
-          ∙ begin_at r.rest 0 (length ts.tasks) k k l (omega arith)));
+      let j = length-append since got in (
+        0,
+        ap (λ m. after (items t) (ending t) m) (let z : length (since ++ got) ≡ suc (length got + k) = omega arith in z) ∙ r.is k (length got + k) refl
+            ∙ begin_at r.rest 0 (length ts.tasks) k k l (omega arith),
+      ));
   joins = λ p t got since ts e n. (
       let r = behind_after (items t) (ending t) (length got) e.0 ts e.1 in
-      let j = length-append since got in
-      (0, ap (λ m. after (items t) (ending t) m) (let z : length (since ++ got) ≡ suc (length got + length ts.tasks) = omega arith in z)
-          ∙ r.is (length ts.tasks) (length got + length ts.tasks) refl ∙ join_at r.rest 0 (length ts.tasks)));
+      let j = length-append since got in (
+        0,
+        ap (λ m. after (items t) (ending t) m) (let z : length (since ++ got) ≡ suc (length got + length ts.tasks) = omega arith in z)
+            ∙ r.is (length ts.tasks) (length got + length ts.tasks) refl ∙ join_at r.rest 0 (length ts.tasks),
+      ));
 }
   where
     items : Task → List Item
@@ -253,12 +256,12 @@ script_lively bodies fields rule = record {
       where
         go : SplitAt got (suc r.at) → (ts : Branches) × (later : List Answer) × (a : Answer)
             × (earlier : List Answer) × (got ≡ later ++ a ∷ earlier) × (length later ≡ length ts.tasks)
-                × Asks (scripted bodies fields rule) [] t earlier (Fork ts)
+            × Asks (scripted bodies fields rule) [] t earlier (Fork ts)
         go s = by s.earlier s.is s.many
           where
             by : (es : List Answer) → got ≡ s.later_ones ++ es → length es ≡ suc r.at → (ts : Branches) × (later : List Answer) × (a : Answer)
                 × (earlier : List Answer) × (got ≡ later ++ a ∷ earlier) × (length later ≡ length ts.tasks)
-                    × Asks (scripted bodies fields rule) [] t earlier (Fork ts)
+                × Asks (scripted bodies fields rule) [] t earlier (Fork ts)
             by [] e n = absurd (omega arith)
             by (a ∷ es) e n =
                 let i = r.number in

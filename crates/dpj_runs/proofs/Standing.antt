@@ -70,10 +70,22 @@ adopted R [] o E e = absurd (let k : Outside ≡ Inside o E = sym (above_nil R) 
 adopted R (u ∷ q) o E e = go (adopted R q o E) (joined_cases (above R q) q (hold (first_of u.0 (mine R q))) o E (sym (above_step R u q) ∙ e))
   where
     go : (above R q ≡ Inside o E → Adopted R q o E) → Joined_by (above R q) q (hold (first_of u.0 (mine R q))) o E → Adopted R (u ∷ q) o E
-    go rec (from_above k) = let a = rec k in record { below = u ∷ a.below; fork = a.fork; path = ap (λ l. u ∷ l) a.path; outside = a.outside;
-        depth = a.depth; held = a.held }
-    go rec (own n k s h) = record { below = []; fork = u; path = ap (λ l. u ∷ l) s; outside = subst (λ r. above R r ≡ Outside) s k; depth = n;
-        held = subst (λ r. hold (first_of u.0 (mine R r)) ≡ In_block n E) s h }
+    go rec (from_above k) = let a = rec k in record {
+      below = u ∷ a.below;
+      fork = a.fork;
+      path = ap (λ l. u ∷ l) a.path;
+      outside = a.outside;
+      depth = a.depth;
+      held = a.held;
+    }
+    go rec (own n k s h) = record {
+      below = [];
+      fork = u;
+      path = ap (λ l. u ∷ l) s;
+      outside = subst (λ r. above R r ≡ Outside) s k;
+      depth = n;
+      held = subst (λ r. hold (first_of u.0 (mine R r)) ≡ In_block n E) s h;
+    }
 
 -- who stands in a block of its own was begun in none, and has entries open
 pub record Opener (R : Run) (q : Path) (F : List Effect) : Type 0 where
@@ -120,7 +132,7 @@ module _ (P : Program) where
           let al = follows_at P b l in
           let r = rec al.task (begun_upto (upto_tail b) (subst (λ r. Begun P F r al.task) fq al.begun)) in
           above_step T u q ∙ ap (λ s. joined_by s q (hold (first_of u.0 (mine T q)))) r ∙ ap (λ l. joined_by (above S q) q (hold l)) (mt ∙ sym ms)
-              ∙ sym (above_step S u q)
+          ∙ sym (above_step S u q)
 
   module _ (D : Disciplined P) where
     -- since a fork of a task below which another goes on, it has begun branches and nothing else
@@ -149,7 +161,7 @@ module _ (P : Program) where
             let zn = z.4 in
             let k : z.0.act ≡ Join = join_after P D a f.tasks l.1 f.stands f.path f.act z.2 z.3 (omega (arith, fn, zn)) in
             let j : JoinAt P D (y ∷ Y) a (count f.before a) (length f.tasks.tasks) =
-                record { before = z.1; event = z.0; stands = later z.2; path = z.3; number = omega (arith, fn, zn); act = k } in
+            record { before = z.1; event = z.0; stands = later z.2; path = z.3; number = omega (arith, fn, zn); act = k } in
             let i = upto_length (in_join P D xs a u f.tasks f.task l (later f.stands) f.path f.act (sym f.number) f.is_there j now e) in
             let d = upto_length z.2 in
             absurd (omega arith)
@@ -183,8 +195,13 @@ module _ (P : Program) where
     stands {e} {R} o E l s = go (joined_cases (above R e.path) e.path (hold (mine R e.path)) o E s)
       where
         go : Joined_by (above R e.path) e.path (hold (mine R e.path)) o E → Stands R e.path o E
-        go (own n k p h) = record { below = []; path = p; outside = subst (λ r. above R r ≡ Outside) p k; depth = n;
-            held = subst (λ r. hold (mine R r) ≡ In_block n E) p h }
+        go (own n k p h) = record {
+          below = [];
+          path = p;
+          outside = subst (λ r. above R r ≡ Outside) p k;
+          depth = n;
+          held = subst (λ r. hold (mine R r) ≡ In_block n E) p h;
+        }
         go (from_above k) =
             let a = adopted R e.path o E k in
             record {
@@ -223,9 +240,25 @@ module _ (P : Program) (D : Disciplined P) where
       let k : u ∷ q ≡ u' ∷ q' = sym e ∙ a in
       let uu : u' ≡ u = cc in
       let qq : q' ≡ q = cc in
-      record { before = F; event = f; stands = b; path = c ∙ qq; number = ap (λ r. count F r) (sym qq) ∙ d
-          ∙ ap (λ w. w.0) uu; tasks = ts; act = g; task = t; is_there = ap (λ w. slice_get ts.tasks w.1) (sym uu) ∙ h; began = B; begin = k1; begin_stands =
-          b1; begin_path = c1 ∙ qq; begin_act = e1 ∙ ap (λ w. Begin w.1) uu; begin_number = ap (λ r. count B r) (sym qq) ∙ d1 ∙ ap (λ w. suc (w.0 + w.1)) uu }
+      record {
+        before = F;
+        event = f;
+        stands = b;
+        path = c ∙ qq;
+        number = ap (λ r. count F r) (sym qq) ∙ d
+            ∙ ap (λ w. w.0) uu;
+        tasks = ts;
+        act = g;
+        task = t;
+        is_there = ap (λ w. slice_get ts.tasks w.1) (sym uu) ∙ h;
+        began = B;
+        begin = k1;
+        begin_stands =
+            b1;
+        begin_path = c1 ∙ qq;
+        begin_act = e1 ∙ ap (λ w. Begin w.1) uu;
+        begin_number = ap (λ r. count B r) (sym qq) ∙ d1 ∙ ap (λ w. suc (w.0 + w.1)) uu;
+      }
   begun_fork {S} {t} (x ∷ xs) p q u l (branch q' u' F f ts B k1 a b c d g h b1 c1 e1 d1) e =
       let k : x ∷ (xs ++ u ∷ q) ≡ u' ∷ q' = sym e ∙ a in
       let qq : q' ≡ xs ++ u ∷ q = cc in

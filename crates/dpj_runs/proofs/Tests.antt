@@ -1,15 +1,15 @@
 -- Whether a closed run is free of conflicts, and whether its program knows its objects, by computing.
-use Rattle.std.proofs.Common.{◌≡◌, ◌≢◌, ℕ, ℤ, pos, negsuc, zero, suc, ◌<◌, ◌⊎◌, inl, inr, ⊎_elim, Bool, true, false, true≢false, not, ◌&&◌, ◌==◌, List, [], ◌∷◌}
-use Rattle.std.proofs.Common.{◌++◌, length, length-append, refl, sym, ap, ◌∙◌, subst, arith, eq-eqb, Option, Some, None, slice_get}
+use Rattle.std.proofs.Common.{◌≡◌, ℕ, ℤ, pos, negsuc, zero, suc, ◌⊎◌, inl, inr, Bool, true, false, true≢false, not, ◌&&◌, ◌==◌, List, [], ◌∷◌}
+use Rattle.std.proofs.Common.{◌++◌, length, length-append, refl, sym, ap, ◌∙◌, subst, arith, eq-eqb, Some, slice_get}
 use Rattle.std.proofs.lemmas.Bool.{and_from, and_parts}
 use Rattle.std.proofs.lemmas.Option.{slice_get_past}
 use Rattle.dpj_runs.specs.Actions.{Action, Answer, Do, Ending, Enter, Exit, Look, Named, New, Next, Own, Print, Program, Read, Reply, Rest, Rule, Went, Write}
 use Rattle.dpj_runs.specs.Meaning.{Known}
 use Rattle.dpj_runs.specs.Objects.{Cell, Name, Path, Value, same_name, same_path, size, slot_of}
 use Rattle.dpj_runs.specs.Order.{Conflict, Free, Unordered, read_write, write_read, write_write}
-use Rattle.dpj_runs.specs.Runs.{Event, Run, Upto, answered_by, answers, count, made, mine, read_at, reply, seen, thing_of, wrote_at}
-use Rattle.dpj_runs.proofs.Upto.{upto_split, upto_none, upto_trans}
-use Rattle.dpj_runs.proofs.Mine.{test_same, test_other, path_cases}
+use Rattle.dpj_runs.specs.Runs.{Event, Run, Upto, answered_by, answers, made, mine, read_at, reply, seen, thing_of, wrote_at}
+use Rattle.dpj_runs.proofs.Upto.{upto_split, upto_none}
+use Rattle.dpj_runs.proofs.Mine.{test_same, test_other}
 use Rattle.dpj_runs.proofs.Cells.{same_name_eq}
 use Rattle.dpj_runs.proofs.Scripts.{Item, does, forks, Body, body_of, after, after_fork, scripted}
 
@@ -124,12 +124,16 @@ own_known P R p (Enter E) e = (Went, refl)
 own_known P R p Exit e = (Went, refl)
 own_known P R p (New t c) e = (Named (record { maker = p; count = length (made P R p) }), refl)
 own_known P R p (Look n) e = (seen P.object, ap (λ m. answered_by (thing_of P R m) seen) (same_name_eq n _ e))
-own_known P R p (Write n i v) e = (wrote_at (slot_of i (size P.object)),
-    ap (λ m. answered_by (thing_of P R m) (λ t. wrote_at (slot_of i (size t)))) (same_name_eq n _ e))
+own_known P R p (Write n i v) e = (
+  wrote_at (slot_of i (size P.object)),
+  ap (λ m. answered_by (thing_of P R m) (λ t. wrote_at (slot_of i (size t)))) (same_name_eq n _ e),
+)
 own_known P R p (Read n i) e =
-    let main : Name = record { maker = []; count = 0 } in
-    (read_at R P.object main (slot_of i (size P.object)), ap (λ m. answered_by (thing_of P R m) (λ t. read_at R t m (slot_of i (size t))))
-        (same_name_eq n main e))
+    let main : Name = record { maker = []; count = 0 } in (
+      read_at R P.object main (slot_of i (size P.object)),
+      ap (λ m. answered_by (thing_of P R m) (λ t. read_at R t m (slot_of i (size t))))
+          (same_name_eq n main e),
+    )
 
 fork_main : (rest : ℕ → Reply) → ((n t : ℕ) (o : Own) → rest n ≡ Next t (Do o) → own_main o ≡ true) → (b k n t : ℕ) (o : Own)
     → after_fork b k rest n ≡ Next t (Do o) → own_main o ≡ true
@@ -155,5 +159,5 @@ pub script_known : (bodies : List Body) (fields : List Value) (rule : Rule) → 
 script_known bodies fields rule h = record {
   replies = λ R l p t b o e. own_known (scripted bodies fields rule) R p o
       (after_main (body_of (slice_get bodies t.body)).items (body_of (slice_get bodies t.body)).ending (body_main bodies t.body h)
-          (length (answers (mine R p))) e.0 o e.1);
+      (length (answers (mine R p))) e.0 o e.1);
 }

@@ -93,7 +93,7 @@ module _ (P : Program) where
     chain_down {A = A} {a = a} o u l ap_ before_fork [] W w hw e =
         let f = fork_above P D [] o u l hw e in
         begun_in o u f.before f.event f.tasks e f.stands f.path f.number f.act
-            (opened (before_fork f.before f.event f.tasks (upto_trans f.stands (upto_tail hw)) f.path f.number f.act) ap_)
+        (opened (before_fork f.before f.event f.tasks (upto_trans f.stands (upto_tail hw)) f.path f.number f.act) ap_)
     chain_down {A = A} {a = a} o u l ap_ before_fork (v ∷ xs) W w hw e =
         let f = fork_above P D [] (xs ++ u ∷ o) v l hw e in
         let s = chain_down o u l ap_ before_fork xs f.before f.event (upto_trans f.stands (upto_tail hw)) f.path in
@@ -148,8 +148,10 @@ module _ (P : Program) where
             ce.clear (outermost_to R e l out) b.path F (opener_stands R b.path F m.0 up m.1)
 
   can_from : (R : Run) (p : Path) (E : List Effect) → Faithful P R → MayEnter P.rule R p E → CanEnter P.rule R p E
-  can_from R p E l me = record { clear = λ st q F h. (let b = block_of R q F l (opener_of R q F h) in
-      me.clear (outermost_from R p st) b.before b.event F b.is_block b.is_open) }
+  can_from R p E l me = record {
+    clear = λ st q F h. (let b = block_of R q F l (opener_of R q F h) in
+        me.clear (outermost_from R p st) b.before b.event F b.is_block b.is_open);
+  }
 
 pub faithful_of : (P : Program) (R : Run) → Valid P R → Faithful P R
 faithful_of P [] l = tt

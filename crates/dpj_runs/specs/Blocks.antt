@@ -1,6 +1,6 @@
 -- Atomic blocks: who stands inside one, how long it is open, when it may be entered; and with them the legal runs.
-use Rattle.std.specs.Prelude.{ℕ, zero, suc, ◌≡◌, ◌⊎◌, Bool, true, false, not, List, [], ◌∷◌}
-use Rattle.dpj_runs.specs.Objects.{Path, Part, Region_name, Number, Local, PatternPart, Exactly, Own_index, Any_index, Star, Pattern, Effect}
+use Rattle.std.specs.Prelude.{ℕ, zero, suc, ◌≡◌, ◌⊎◌, Bool, true, false, List, [], ◌∷◌}
+use Rattle.dpj_runs.specs.Objects.{Path, Part, Region_name, Number, Local, Exactly, Own_index, Any_index, Star, Pattern, Effect}
 use Rattle.dpj_runs.specs.Actions.{Branches, Own, Rest, Read, Write, Look, New, Print, Enter, Exit, Action, Do, Fork, Begin, Join, End, Rule, Program}
 use Rattle.dpj_runs.specs.Runs.{Event, Run, Upto, mine, count, Follows}
 

@@ -1,5 +1,5 @@
 -- Runs of a program: what each task has made, and how each event is answered by those before it. Blocks are left aside.
-use Rattle.std.specs.Prelude.{ℕ, suc, pos, ◌+◌, ◌<◌, ◌≡◌, ◌⊎◌, if◌then◌else◌, List, [], ◌∷◌, ◌++◌, length, map, Option, Some, None, slice_get}
+use Rattle.std.specs.Prelude.{ℕ, suc, ◌+◌, ◌≡◌, if◌then◌else◌, List, [], ◌∷◌, ◌++◌, length, map, Option, Some, None, slice_get}
 use Rattle.dpj_base.specs.declared.value.Trap.{Trap}
 use Rattle.dpj_base.specs.declared.place.Place.{Place}
 use Rattle.dpj_runs.specs.Objects.{Path, same_path, Name, Value, Thing, An_object, An_array, size, or_else, first_value, Cell, slot_of, is_cell}

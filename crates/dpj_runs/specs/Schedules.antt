@@ -4,7 +4,7 @@ use Rattle.dpj_runs.specs.Objects.{Path}
 use Rattle.dpj_runs.specs.Actions.{Action, Do, Fork, Begin, Join, End, Program}
 use Rattle.dpj_runs.specs.Runs.{Event, Run, Upto, count, steps_of, cells_of}
 use Rattle.dpj_runs.specs.Blocks.{Allowed}
-use Rattle.dpj_runs.specs.Order.{Outcome, Came, Limited, Comes}
+use Rattle.dpj_runs.specs.Order.{Outcome, Limited, Comes}
 
 pub record Limits : Type 0 where
   pub steps : ℕ
