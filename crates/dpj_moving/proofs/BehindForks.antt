@@ -1,25 +1,27 @@
 -- The run with deterministic constructs moved has each event in its place.
-use Rattle.std.proofs.Common.{◌≡◌, ℕ, zero, suc, ◌+◌, ◌-◌, ◌<◌, ◌≤◌, ◌⊎◌, inl, inr, ⊎_elim, true, false, true≢false, List, [], ◌∷◌, ◌++◌, length, refl, sym, ap, ◌∙◌, subst, arith, append_assoc, Some, None, slice_get}
+use Rattle.std.proofs.Common.{◌≡◌, ℕ, zero, suc, ◌+◌, ◌-◌, ◌<◌, ◌≤◌, ◌⊎◌, inl, inr, ⊎_elim, true, List, [], ◌∷◌, ◌++◌, length, refl, sym, ap}
+use Rattle.std.proofs.Common.{◌∙◌, subst, arith, append_assoc, Some, None, slice_get}
 use Rattle.std.proofs.lemmas.Bool.{cases_order, cases_eq, cases_lt, and_parts, cond-true, cond-false}
 use Rattle.std.proofs.lemmas.Option.{slice_get_past}
 use Rattle.std.proofs.Common.{eqb-true}
 use Rattle.dpj_runs.specs.Actions.{Action, Begin, Do, End, Fork, Join, Program}
 use Rattle.dpj_runs.specs.Meaning.{Disciplined, Known}
 use Rattle.dpj_runs.specs.Objects.{Path}
-use Rattle.dpj_runs.specs.Runs.{Event, Faithful, Run, Upto, branch, count, later, mine, now}
+use Rattle.dpj_runs.specs.Runs.{Event, Faithful, Run, Upto, count, later, mine, now}
 use Rattle.dpj_runs.specs.Standing.{Valid, first_of}
 use Rattle.dpj_moving.specs.Guarded.{LevelsGuarded}
 use Rattle.dpj_moving.specs.Insertion.{All_of, Branch_of, Earlier, Spot, begins_branch, is_under, near, put_behind}
 use Rattle.dpj_moving.specs.Moved.{BehindForks, DetFork, InBranch, InConstruct, below, construct_spot, inner, is_det, its_begin, kind_after, move, spot_of}
 use Rattle.dpj_runs.proofs.Upto.{upto_trans, upto_length, upto_tail, upto_split, upto_none, Which, which, same_one, before, after}
 use Rattle.dpj_runs.proofs.Places.{snoc, not_below_self}
-use Rattle.dpj_runs.proofs.Mine.{path_cases, same_path_eq, mine_same, mine_other, mine_step, mine_at, mine_upto, Found, found, same_of, number_of}
+use Rattle.dpj_runs.proofs.Mine.{path_cases, same_path_eq, mine_same, mine_at, mine_upto, Found, found, same_of, number_of}
 use Rattle.dpj_runs.proofs.Faithful.{ForkAt, fork_above, begin_after}
 use Rattle.dpj_runs.proofs.Between.{closed, fork_passes}
 use Rattle.dpj_runs.proofs.Standing.{first_is, only_begins_so}
 use Rattle.dpj_runs.proofs.Carry.{found_in}
 use Rattle.dpj_runs.proofs.Written.{faithful_of}
-use Rattle.dpj_moving.proofs.Under.{Under, under_self, under_more, under_root, UnderCases, yes_under, not_under, under_cases, true_of, of_true, Split, lies_in, lies_over, split}
+use Rattle.dpj_moving.proofs.Under.{Under, under_self, under_more, under_root, UnderCases, yes_under, not_under, under_cases, true_of, of_true, Split, lies_in}
+use Rattle.dpj_moving.proofs.Under.{lies_over, split}
 use Rattle.dpj_moving.proofs.Spots.{inner_under, inner_least}
 use Rattle.dpj_moving.proofs.Insertion.{rearranged_step, Rebuilt, grown, grown_back, Bools, yes, no, bools}
 use Rattle.dpj_moving.proofs.Branch.{near_under, near_begin}
@@ -82,7 +84,8 @@ construct_cases : (m : ℕ) (q : Path) (k : ℕ) (p : Path) (n : ℕ) → InCons
 construct_cases zero q k p n = inr (λ c. (let l = c.there in absurd (omega arith)))
 construct_cases (suc m) q k p n = go (construct_cases m q k p n) (branch_cases q k m p n)
   where
-    go : InConstruct m q k p n ⊎ (InConstruct m q k p n → ⊥) → InBranch q k m p n ⊎ (InBranch q k m p n → ⊥) → InConstruct (suc m) q k p n ⊎ (InConstruct (suc m) q k p n → ⊥)
+    go : InConstruct m q k p n ⊎ (InConstruct m q k p n → ⊥) → InBranch q k m p n ⊎ (InBranch q k m p n → ⊥) → InConstruct (suc m) q k p n
+        ⊎ (InConstruct (suc m) q k p n → ⊥)
     go (inl c) d = inl (record { branch = c.branch; there = (let l = c.there in omega arith); is = c.is })
     go (inr c) (inl d) = inl (record { branch = m; there = omega arith; is = d })
     go (inr c) (inr d) = inr (λ x. (let l = x.there in at x (cases_eq x.branch m)))
@@ -137,7 +140,8 @@ module _ (P : Program) (D : Disciplined P) (R : Run) (e : Event) (l : Faithful P
       record { before = m.before; event = y.event; stands = m.stands; path = y.path; number = same ∙ y.number; more = omega arith }
 
   -- what stands in the moved run so that the one is before the other
-  in_order : {x y : Event} {X Y : Run} → (hx : Upto (x ∷ X) R) → (hy : Upto (y ∷ Y) R) → Upto (x ∷ (there hx).before) (there hy).before → Earlier G0 x.path (count X x.path) y.path (count Y y.path)
+  in_order : {x y : Event} {X Y : Run} → (hx : Upto (x ∷ X) R) → (hy : Upto (y ∷ Y) R) → Upto (x ∷ (there hx).before) (there hy).before
+      → Earlier G0 x.path (count X x.path) y.path (count Y y.path)
   in_order {x} {y} {X} {Y} hx hy h =
       let a = there hx in
       let b = there hy in
@@ -145,7 +149,8 @@ module _ (P : Program) (D : Disciplined P) (R : Run) (e : Event) (l : Faithful P
       let c = ap length a.mine_is in
       record { before = b.before; event = y; stands = b.stands; path = refl; number = ap length b.mine_is; more = omega arith }
 
-  back : {x y : Event} {X Y : Run} → (hx : Upto (x ∷ X) R) → (hy : Upto (y ∷ Y) R) → Earlier H x.path (count X x.path) y.path (count Y y.path) → Earlier G0 x.path (count X x.path) y.path (count Y y.path)
+  back : {x y : Event} {X Y : Run} → (hx : Upto (x ∷ X) R) → (hy : Upto (y ∷ Y) R) → Earlier H x.path (count X x.path) y.path (count Y y.path)
+      → Earlier G0 x.path (count X x.path) y.path (count Y y.path)
   back {x} {y} {X} {Y} hx hy w = go (which (there hx).stands (there hy).stands)
     where
       go : Which x (there hx).before y (there hy).before → Earlier G0 x.path (count X x.path) y.path (count Y y.path)
@@ -188,7 +193,8 @@ module _ (P : Program) (D : Disciplined P) (R : Run) (e : Event) (l : Faithful P
     either : {x : Event} {X : Run} → (hx : Upto (x ∷ X) R) → Upto (x ∷ (there hx).before) Z ⊎ Earlier H e.path (count R e.path) x.path (count X x.path)
     either {x} {X} hx = go (new.others x (there hx).before (there hx).stands)
       where
-        go : Upto (x ∷ (there hx).before) Z ⊎ ((Y : Run) × Upto (x ∷ Y) H × (count Y x.path ≡ count (there hx).before x.path) × Upto (e ∷ Z) Y) → Upto (x ∷ (there hx).before) Z ⊎ Earlier H e.path (count R e.path) x.path (count X x.path)
+        go : Upto (x ∷ (there hx).before) Z ⊎ ((Y : Run) × Upto (x ∷ Y) H × (count Y x.path ≡ count (there hx).before x.path) × Upto (e ∷ Z) Y)
+            → Upto (x ∷ (there hx).before) Z ⊎ Earlier H e.path (count R e.path) x.path (count X x.path)
         go (inl h) = inl h
         go (inr v) =
             let a = there hx in
@@ -197,10 +203,12 @@ module _ (P : Program) (D : Disciplined P) (R : Run) (e : Event) (l : Faithful P
             inr (record { before = v.0; event = x; stands = v.1; path = refl; number = v.2 ∙ ap length a.mine_is; more = omega arith })
 
     -- what is not behind the place is the event there, or before it
-    by_top : {x : Event} {X : Run} → (hx : Upto (x ∷ X) R) → Upto (x ∷ (there hx).before) Z → ((x ≡ top) × (count X x.path ≡ count zr.before top.path)) ⊎ Earlier G0 x.path (count X x.path) top.path (count zr.before top.path)
+    by_top : {x : Event} {X : Run} → (hx : Upto (x ∷ X) R) → Upto (x ∷ (there hx).before) Z → ((x ≡ top) × (count X x.path ≡ count zr.before top.path))
+        ⊎ Earlier G0 x.path (count X x.path) top.path (count zr.before top.path)
     by_top {x} {X} hx h = go (upto_split h)
       where
-        go : ((x ≡ top) × ((there hx).before ≡ new.rest)) ⊎ Upto (x ∷ (there hx).before) new.rest → ((x ≡ top) × (count X x.path ≡ count zr.before top.path)) ⊎ Earlier G0 x.path (count X x.path) top.path (count zr.before top.path)
+        go : ((x ≡ top) × ((there hx).before ≡ new.rest)) ⊎ Upto (x ∷ (there hx).before) new.rest → ((x ≡ top) × (count X x.path ≡ count zr.before top.path))
+            ⊎ Earlier G0 x.path (count X x.path) top.path (count zr.before top.path)
         go (inl p) =
             let a = ap length (there hx).mine_is in
             let b = ap length zr.mine_is in
@@ -214,7 +222,8 @@ module _ (P : Program) (D : Disciplined P) (R : Run) (e : Event) (l : Faithful P
             inr (record { before = new.rest; event = top; stands = new.stands; path = refl; number = sym (ap length zr.mine_is); more = omega arith })
 
     -- and what comes before it is not behind the place
-    not_behind : {x : Event} {X : Run} → (hx : Upto (x ∷ X) R) → Earlier G0 x.path (count X x.path) top.path (count zr.before top.path) → Upto (x ∷ (there hx).before) Z
+    not_behind : {x : Event} {X : Run} → (hx : Upto (x ∷ X) R) → Earlier G0 x.path (count X x.path) top.path (count zr.before top.path)
+        → Upto (x ∷ (there hx).before) Z
     not_behind {x} {X} hx w = go (which (there hx).stands new.stands)
       where
         go : Which x (there hx).before top new.rest → Upto (x ∷ (there hx).before) Z
@@ -241,7 +250,8 @@ module _ (P : Program) (D : Disciplined P) (R : Run) (e : Event) (l : Faithful P
   det_at : {q : Path} {k : ℕ} → (d : DetFork R q k) → is_det (first_of (suc k) (mine R q)) ≡ true
   det_at {q} {k} d =
       let n = ap suc d.number in
-      let f : first_of (suc k) (mine R q) ≡ d.event ∷ mine d.before q = subst (λ i. first_of i (mine R q) ≡ d.event ∷ mine d.before q) n (first_is (mine_at q d.stands d.path)) in
+      let f : first_of (suc k) (mine R q) ≡ d.event ∷ mine d.before q =
+      subst (λ i. first_of i (mine R q) ≡ d.event ∷ mine d.before q) n (first_is (mine_at q d.stands d.path)) in
       ap is_det f ∙ ap (λ c. kind_after c (is_det (mine d.before q))) d.act ∙ d.det
 
   spot_deep : (p : Path) (a : Action) (u : ℕ × ℕ) (q : Path) → inner R p ≡ Branch_of u q → (spot_of R p a ≡ Branch_of u q) ⊎ (spot_of R p a ≡ All_of p)
@@ -256,13 +266,15 @@ module _ (P : Program) (D : Disciplined P) (R : Run) (e : Event) (l : Faithful P
   spot_deep p (End x) u q i = inl i
 
   -- behind the fork, as long as not all branches have begun, stand begins
-  begun_so : {q : Path} {k : ℕ} (d : DetFork R q k) (b : ℕ) → b < length d.branches.tasks → count R q ≡ suc (k + b) → (y : Event) (Y : Run) → Upto (y ∷ Y) R → y.path ≡ q → k < count Y q → y.act ≡ Begin (count Y q - suc k)
+  begun_so : {q : Path} {k : ℕ} (d : DetFork R q k) (b : ℕ) → b < length d.branches.tasks → count R q ≡ suc (k + b) → (y : Event) (Y : Run) → Upto (y ∷ Y) R
+      → y.path ≡ q → k < count Y q → y.act ≡ Begin (count Y q - suc k)
   begun_so {q} {k} d b lt n y Y hy yq m =
       let c = number_of q hy yq in
       let i = d.number in
       begin_after P D q d.branches (count Y q - suc k) l.1 d.stands d.path d.act hy yq (omega arith) (omega arith)
 
-  spot_begin : {q : Path} {k : ℕ} (d : DetFork R q k) (b : ℕ) → b < length d.branches.tasks → e.path ≡ q → count R q ≡ suc (k + b) → construct_spot R e ≡ All_of q
+  spot_begin : {q : Path} {k : ℕ} (d : DetFork R q k) (b : ℕ) → b < length d.branches.tasks → e.path ≡ q → count R q ≡ suc (k + b)
+      → construct_spot R e ≡ All_of q
   spot_begin {q} {k} d b lt p n = ap (λ c. spot_of R e.path c) act ∙ cond-true _ _ _ (ap (λ r. is_det (mine R r)) p ∙ kinds) ∙ ap All_of p
     where
       act : e.act ≡ Begin b
@@ -282,8 +294,15 @@ module _ (P : Program) (D : Disciplined P) (R : Run) (e : Event) (l : Faithful P
   witness : {x : Event} {X : Run} → Upto (x ∷ X) R → (w : Event) × (W : Run) × Upto (w ∷ W) G0 × (near (construct_spot R e) w ≡ true)
   witness {x} {X} hx = go (construct_spot R e) refl
     where
-      other : (q : Path) → construct_spot R e ≡ All_of q → Other R e.path e.act q → (w : Event) × (W : Run) × Upto (w ∷ W) G0 × (near (construct_spot R e) w ≡ true)
-      other q sp (free k) = (x, (there hx).before, (there hx).stands, ap (λ s. near s x) sp ∙ true_of q x.path (subst (λ r. Under r x.path) (sym k) (under_root x.path)))
+      other : (q : Path) → construct_spot R e ≡ All_of q → Other R e.path e.act q → (w : Event) × (W : Run) × Upto (w ∷ W) G0
+          × (near (construct_spot R e) w ≡ true)
+      other q sp (free k) = (
+        x,
+        (there hx).before,
+        (there hx).stands,
+        ap (λ s. near s x) sp
+            ∙ true_of q x.path (subst (λ r. Under r x.path) (sym k) (under_root x.path)),
+      )
       other q sp (begin b a k d) =
           let v = some_event (mine R e.path) d in
           let f = found R e.path (subst (λ z. Upto (v.0 ∷ v.1) z) (sym v.2) now) in
@@ -317,7 +336,8 @@ module _ (P : Program) (D : Disciplined P) (R : Run) (e : Event) (l : Faithful P
         let j = f.begin_number in
         let m = ap length (mine_same tp at.rest r p) in
         let n = subst (λ q. count tr.before q ≡ count at.rest q) p (ap length tr.mine_is) in
-        let k : Begin v.1 ≡ Begin (count tr.before r - suc v.0) = sym a ∙ only_begins_so P D h.below r v l h.is (mine tr.before r) tp (mine_at r tr.stands p) (omega arith) in
+        let k : Begin v.1 ≡ Begin (count tr.before r - suc v.0) =
+        sym a ∙ only_begins_so P D h.below r v l h.is (mine tr.before r) tp (mine_at r tr.stands p) (omega arith) in
         let z : v.1 ≡ count tr.before r - suc v.0 = cc in
         omega arith
 
@@ -336,7 +356,8 @@ module _ (P : Program) (D : Disciplined P) (R : Run) (e : Event) (l : Faithful P
         iv : inner R e.path ≡ Branch_of v r
         iv = ap (λ z. inner R z) p ∙ least.2
 
-        by_begin : (ws : Path) → v ∷ r ≡ ws ++ (k, b) ∷ q → construct_spot R e ≡ Branch_of v r → tp.path ≡ r → tp.act ≡ Begin v.1 → InBranch q k b tp.path (count tr.before tp.path)
+        by_begin : (ws : Path) → v ∷ r ≡ ws ++ (k, b) ∷ q → construct_spot R e ≡ Branch_of v r → tp.path ≡ r → tp.act ≡ Begin v.1
+            → InBranch q k b tp.path (count tr.before tp.path)
         by_begin [] y sp h a =
             let i : v ≡ (k, b) = cc in
             let j : r ≡ q = cc in
@@ -357,7 +378,8 @@ module _ (P : Program) (D : Disciplined P) (R : Run) (e : Event) (l : Faithful P
     abbrev TopIn : Path → ℕ → ℕ → Type 0
     TopIn q k m = ((tp.path ≡ q) × (count tr.before q ≡ k)) ⊎ InConstruct m q k tp.path (count tr.before tp.path)
 
-    top_of_begin : {q : Path} {k : ℕ} (d : DetFork R q k) (b : ℕ) → b < length d.branches.tasks → e.path ≡ q → count R q ≡ suc (k + b) → TopIn q k (length d.branches.tasks)
+    top_of_begin : {q : Path} {k : ℕ} (d : DetFork R q k) (b : ℕ) → b < length d.branches.tasks → e.path ≡ q → count R q ≡ suc (k + b)
+        → TopIn q k (length d.branches.tasks)
     top_of_begin {q} {k} d b lt p n = go h.below h.is
       where
         sp : construct_spot R e ≡ All_of q
@@ -373,7 +395,11 @@ module _ (P : Program) (D : Disciplined P) (R : Run) (e : Event) (l : Faithful P
         fn = subst (λ z. count (there d.stands).before z ≡ count d.before z) d.path (ap length (there d.stands).mine_is) ∙ d.number
 
         at_task : tp.path ≡ q → TopIn q k (length d.branches.tasks)
-        at_task y = ⊎_elim (λ z. inl (y, z)) (λ z. inr (record { branch = count tr.before q - suc k; there = omega (arith, c, m, i, j, n, lt, z); is = its_begin y (let v = ap (λ r. count tr.before r) y in omega (arith, v, c, m, i, j, z)) })) (cases_eq (count tr.before q) k)
+        at_task y = ⊎_elim (λ z. inl (y, z)) (λ z. inr (record {
+          branch = count tr.before q - suc k;
+          there = omega (arith, c, m, i, j, n, lt, z);
+          is = its_begin y (let v = ap (λ r. count tr.before r) y in omega (arith, v, c, m, i, j, z));
+        })) (cases_eq (count tr.before q) k)
           where
             c : k < count (tp ∷ at.rest) q
             c = subst (λ i. i < count (tp ∷ at.rest) q) fn (number_of q fz d.path)
@@ -402,9 +428,14 @@ module _ (P : Program) (D : Disciplined P) (R : Run) (e : Event) (l : Faithful P
                 let ft : Fork f.tasks ≡ Fork d.branches = sym f.act ∙ ap (λ v. v.act) w.0 ∙ d.act in
                 let bt : f.tasks ≡ d.branches = cc in
                 let pe : c ≡ (k, c.1) = (λ i. (z i, c.1)) in
-                inr (record { branch = c.1; there = there_lt d.branches.tasks c.1 f.task (ap (λ b. slice_get b.tasks c.1) (sym bt) ∙ f.is_there); is = below xs (y ∙ ap (λ w. xs ++ w ∷ q) pe) })
+                inr (record {
+                  branch = c.1;
+                  there = there_lt d.branches.tasks c.1 f.task (ap (λ b. slice_get b.tasks c.1) (sym bt) ∙ f.is_there);
+                  is = below xs (y ∙ ap (λ w. xs ++ w ∷ q) pe);
+                })
             by_order (inr (inl z)) =
-                let w = upto_length (closed P D xs q c lg at.stands y (there d.stands).stands d.path (omega (arith, fn, z)) (fork_passes P D d.event.act d.branches d.act)) in
+                let w = upto_length (closed P D xs q c lg at.stands y (there d.stands).stands d.path (omega (arith, fn, z))
+                (fork_passes P D d.event.act d.branches d.act)) in
                 let v = upto_length fz in
                 absurd (omega arith)
             by_order (inr (inr z)) =
@@ -440,7 +471,9 @@ module _ (P : Program) (D : Disciplined P) (R : Run) (e : Event) (l : Faithful P
       t = test x (subst (λ s. Under (group s) x.path) k (group_in X x))
 
   -- this event in a construct, and another that is not in it
-  behind_in : {q : Path} {k : ℕ} (d : DetFork R q k) (Y : Run) (y : Event) → Upto (y ∷ Y) R → InConstruct (length d.branches.tasks) q k e.path (count R e.path) → (InConstruct (length d.branches.tasks) q k y.path (count Y y.path) → ⊥) → Earlier H q k y.path (count Y y.path) → Earlier H e.path (count R e.path) y.path (count Y y.path)
+  behind_in : {q : Path} {k : ℕ} (d : DetFork R q k) (Y : Run) (y : Event) → Upto (y ∷ Y) R
+      → InConstruct (length d.branches.tasks) q k e.path (count R e.path) → (InConstruct (length d.branches.tasks) q k y.path (count Y y.path) → ⊥)
+      → Earlier H q k y.path (count Y y.path) → Earlier H e.path (count R e.path) y.path (count Y y.path)
   behind_in {q} {k} d Y y hy ce ny w = go (witness hy)
     where
       fy : Earlier G0 q k y.path (count Y y.path)
@@ -455,8 +488,10 @@ module _ (P : Program) (D : Disciplined P) (R : Run) (e : Event) (l : Faithful P
           r : Found R t.path t (mine (new v.0 v.1 v.2 v.3).rest t.path)
           r = zr v.0 v.1 v.2 v.3
 
-          hit : ((t.path ≡ q) × (count r.before q ≡ k)) ⊎ InConstruct (length d.branches.tasks) q k t.path (count r.before t.path) → ((y ≡ t) × (count Y y.path ≡ count r.before t.path)) ⊎ Earlier G0 y.path (count Y y.path) t.path (count r.before t.path) → ⊥
-          hit (inr c) (inl m) = ny (subst (λ z. InConstruct (length d.branches.tasks) q k z.path (count Y y.path)) (sym m.0) (subst (λ i. InConstruct (length d.branches.tasks) q k t.path i) (sym m.1) c))
+          hit : ((t.path ≡ q) × (count r.before q ≡ k)) ⊎ InConstruct (length d.branches.tasks) q k t.path (count r.before t.path)
+              → ((y ≡ t) × (count Y y.path ≡ count r.before t.path)) ⊎ Earlier G0 y.path (count Y y.path) t.path (count r.before t.path) → ⊥
+          hit (inr c) (inl m) = ny (subst (λ z. InConstruct (length d.branches.tasks) q k z.path (count Y y.path)) (sym m.0)
+              (subst (λ i. InConstruct (length d.branches.tasks) q k t.path i) (sym m.1) c))
           hit (inr c) (inr m) = not_back G0 y.path t.path (count Y y.path) (count r.before t.path) m (rec.behind_fork q k d r.before Y t y r.stands hy c ny fy)
           hit (inl f) (inl m) =
               let a : y.path ≡ q = ap (λ z. z.path) m.0 ∙ f.0 in
@@ -464,11 +499,14 @@ module _ (P : Program) (D : Disciplined P) (R : Run) (e : Event) (l : Faithful P
               let c : Earlier G0 q k q k = subst (λ i. Earlier G0 q k q i) b (subst (λ z. Earlier G0 q k z (count Y y.path)) a fy) in
               not_back G0 q q k k c c
           hit (inl f) (inr m) =
-              let a : Earlier G0 y.path (count Y y.path) q k = subst (λ i. Earlier G0 y.path (count Y y.path) q i) f.1 (subst (λ z. Earlier G0 y.path (count Y y.path) z (count r.before z)) f.0 m) in
+              let a : Earlier G0 y.path (count Y y.path) q k =
+              subst (λ i. Earlier G0 y.path (count Y y.path) q i) f.1 (subst (λ z. Earlier G0 y.path (count Y y.path) z (count r.before z)) f.0 m) in
               not_back G0 y.path q (count Y y.path) k a fy
 
   -- this event, that is not in a construct, and one that is
-  behind_out : {q : Path} {k : ℕ} (d : DetFork R q k) (X : Run) (x : Event) → Upto (x ∷ X) R → InConstruct (length d.branches.tasks) q k x.path (count X x.path) → (InConstruct (length d.branches.tasks) q k e.path (count R e.path) → ⊥) → Earlier H q k e.path (count R e.path) → Earlier H x.path (count X x.path) e.path (count R e.path)
+  behind_out : {q : Path} {k : ℕ} (d : DetFork R q k) (X : Run) (x : Event) → Upto (x ∷ X) R
+      → InConstruct (length d.branches.tasks) q k x.path (count X x.path) → (InConstruct (length d.branches.tasks) q k e.path (count R e.path) → ⊥)
+      → Earlier H q k e.path (count R e.path) → Earlier H x.path (count X x.path) e.path (count R e.path)
   behind_out {q} {k} d X x hx cx ne w = go (witness hx)
     where
       m : ℕ
@@ -508,28 +546,34 @@ module _ (P : Program) (D : Disciplined P) (R : Run) (e : Event) (l : Faithful P
               by_near : Under o t.path ⊎ ((u : ℕ × ℕ) × (p : Path) × (construct_spot R e ≡ Branch_of u p) × (t.path ≡ p) × (t.act ≡ Begin u.1))
               by_near = at_spot (construct_spot R e) refl
                 where
-                  at_spot : (s : Spot) → construct_spot R e ≡ s → Under o t.path ⊎ ((u : ℕ × ℕ) × (p : Path) × (construct_spot R e ≡ Branch_of u p) × (t.path ≡ p) × (t.act ≡ Begin u.1))
+                  at_spot : (s : Spot) → construct_spot R e ≡ s → Under o t.path
+                      ⊎ ((u : ℕ × ℕ) × (p : Path) × (construct_spot R e ≡ Branch_of u p) × (t.path ≡ p) × (t.act ≡ Begin u.1))
                   at_spot (All_of p) sp = inl (subst (λ s. Under (group s) t.path) (sym sp) (of_true p t.path (ap (λ s. near s t) (sym sp) ∙ n.is_near)))
-                  at_spot (Branch_of u p) sp = ⊎_elim (λ h. inl (subst (λ s. Under (group s) t.path) (sym sp) h)) (λ h. inr (u, p, sp, h.0, h.1)) (near_branch u p t (ap (λ s. near s t) (sym sp) ∙ n.is_near))
+                  at_spot (Branch_of u p) sp = ⊎_elim (λ h. inl (subst (λ s. Under (group s) t.path) (sym sp) h)) (λ h. inr (u, p, sp, h.0, h.1))
+                      (near_branch u p t (ap (λ s. near s t) (sym sp) ∙ n.is_near))
 
               -- the construct's fork at the place
               top_fork : d.event ≡ t → ⊥
-              top_fork c = ⊎_elim (λ u. not_q (subst (λ z. Under o z) (ap (λ z. z.path) (sym c) ∙ d.path) u)) (λ b. (let z : Fork d.branches ≡ Begin b.0.1 = sym d.act ∙ ap (λ z. z.act) c ∙ b.4 in cc)) by_near
+              top_fork c = ⊎_elim (λ u. not_q (subst (λ z. Under o z) (ap (λ z. z.path) (sym c) ∙ d.path) u))
+                  (λ b. (let z : Fork d.branches ≡ Begin b.0.1 = sym d.act ∙ ap (λ z. z.act) c ∙ b.4 in cc)) by_near
 
               -- an event of the construct at the place
               top_in_it : InConstruct m q k t.path (count r.before t.path) → ⊥
               top_in_it c = at_is c.is by_near
                 where
-                  at_is : InBranch q k c.branch t.path (count r.before t.path) → Under o t.path ⊎ ((u : ℕ × ℕ) × (p : Path) × (construct_spot R e ≡ Branch_of u p) × (t.path ≡ p) × (t.act ≡ Begin u.1)) → ⊥
+                  at_is : InBranch q k c.branch t.path (count r.before t.path) → Under o t.path
+                      ⊎ ((u : ℕ × ℕ) × (p : Path) × (construct_spot R e ≡ Branch_of u p) × (t.path ≡ p) × (t.act ≡ Begin u.1)) → ⊥
                   at_is (its_begin p i) (inl u) = not_q (subst (λ z. Under o z) p u)
                   at_is (below xs p) (inl u) = by_split (split u.below o xs q (k, c.branch) (sym u.is ∙ p))
                     where
                       by_split : Split o q (k, c.branch) → ⊥
                       by_split (lies_in h) = not_q h
-                      by_split (lies_over ys h) = (let b = e_in in lower_branch (b.below ++ ys) c.branch c.there (b.is ∙ ap (λ z. b.below ++ z) h ∙ sym (append_assoc b.below ys ((k, c.branch) ∷ q))))
+                      by_split (lies_over ys h) = (let b = e_in in
+                          lower_branch (b.below ++ ys) c.branch c.there (b.is ∙ ap (λ z. b.below ++ z) h ∙ sym (append_assoc b.below ys ((k, c.branch) ∷ q))))
                   at_is (below xs p) (inr b) =
                       let h = inner_under R e.path b.0 b.1 (spot_inner R e.path e.act b.0 b.1 b.2) in
-                      lower_branch (h.below ++ b.0 ∷ xs) c.branch c.there (h.is ∙ ap (λ z. h.below ++ b.0 ∷ z) (sym b.3 ∙ p) ∙ sym (append_assoc h.below (b.0 ∷ xs) ((k, c.branch) ∷ q)))
+                      lower_branch (h.below ++ b.0 ∷ xs) c.branch c.there
+                      (h.is ∙ ap (λ z. h.below ++ b.0 ∷ z) (sym b.3 ∙ p) ∙ sym (append_assoc h.below (b.0 ∷ xs) ((k, c.branch) ∷ q)))
                   at_is (its_begin p i) (inr b) = by_order (cases_order b.0.0 k)
                     where
                       u : ℕ × ℕ
@@ -566,20 +610,25 @@ module _ (P : Program) (D : Disciplined P) (R : Run) (e : Event) (l : Faithful P
                           let dn = d.number in
                           let fn = f.number in
                           let ct = c.there in
-                          let a = begin_after P D q d.branches (u.0 - suc k) l.1 d.stands d.path d.act f.stands f.path (omega (arith, z, dn, fn)) (omega (arith, z, sum, ct)) in
+                          let a = begin_after P D q d.branches (u.0 - suc k) l.1 d.stands d.path d.act f.stands f.path (omega (arith, z, dn, fn))
+                          (omega (arith, z, sum, ct)) in
                           (let y : Fork f.tasks ≡ Begin (u.0 - suc k) = sym f.act ∙ a in cc)
 
               by_fork : Upto (d.event ∷ (there d.stands).before) (t ∷ n.rest) ⊎ Earlier H e.path (count R e.path) d.event.path (count d.before d.event.path) → ⊥
               by_fork (inr y) = not_back H e.path q (count R e.path) k (to_fork d y) w
-              by_fork (inl y) = ⊎_elim (λ c. top_fork c.0) (λ c. by_case c (construct_cases m q k t.path (count r.before t.path))) (by_top v.0 v.1 v.2 v.3 d.stands y)
+              by_fork (inl y) = ⊎_elim (λ c. top_fork c.0) (λ c. by_case c (construct_cases m q k t.path (count r.before t.path)))
+                  (by_top v.0 v.1 v.2 v.3 d.stands y)
                 where
-                  by_case : Earlier G0 d.event.path (count d.before d.event.path) t.path (count r.before t.path) → InConstruct m q k t.path (count r.before t.path) ⊎ (InConstruct m q k t.path (count r.before t.path) → ⊥) → ⊥
+                  by_case : Earlier G0 d.event.path (count d.before d.event.path) t.path (count r.before t.path)
+                      → InConstruct m q k t.path (count r.before t.path) ⊎ (InConstruct m q k t.path (count r.before t.path) → ⊥) → ⊥
                   by_case c (inl i) = top_in_it i
                   by_case c (inr i) = not_sooner (not_behind v.0 v.1 v.2 v.3 hx (rec.behind_fork q k d X r.before x t hx r.stands cx i (of_fork d c)))
 
   -- this event, and one in an earlier branch of a construct
-  turn_later : {q : Path} {k : ℕ} (a b : ℕ) (d : DetFork R q k) (X : Run) (x : Event) → Upto (x ∷ X) R → a < b → b < length d.branches.tasks → InBranch q k a x.path (count X x.path) → InBranch q k b e.path (count R e.path) → Earlier H x.path (count X x.path) e.path (count R e.path)
-  turn_later {q} {k} a b d X x hx ab lt ix (its_begin p n) = sooner x (there hx).before (there hx).stands t hx (near_sooner x (there hx).before (there hx).stands t hx t)
+  turn_later : {q : Path} {k : ℕ} (a b : ℕ) (d : DetFork R q k) (X : Run) (x : Event) → Upto (x ∷ X) R → a < b → b < length d.branches.tasks
+      → InBranch q k a x.path (count X x.path) → InBranch q k b e.path (count R e.path) → Earlier H x.path (count X x.path) e.path (count R e.path)
+  turn_later {q} {k} a b d X x hx ab lt ix (its_begin p n) =
+      sooner x (there hx).before (there hx).stands t hx (near_sooner x (there hx).before (there hx).stands t hx t)
     where
       t : near (construct_spot R e) x ≡ true
       t = ap (λ s. near s x) (spot_begin d b lt p (ap (λ z. count R z) (sym p) ∙ n)) ∙ true_of q x.path (in_branch_under q k a x.path (count X x.path) ix)
@@ -591,7 +640,8 @@ module _ (P : Program) (D : Disciplined P) (R : Run) (e : Event) (l : Faithful P
           let r = zr v.0 v.1 v.2 v.3 in
           sooner v.0 v.1 v.2 v.3 hx (not_behind v.0 v.1 v.2 v.3 hx (rec.in_turn q k a b d X r.before x (top v.0 v.1 v.2 v.3) hx r.stands ab lt ix it))
 
-  turn_sooner : {q : Path} {k : ℕ} (a b : ℕ) (d : DetFork R q k) (Y : Run) (y : Event) → Upto (y ∷ Y) R → a < b → b < length d.branches.tasks → InBranch q k a e.path (count R e.path) → InBranch q k b y.path (count Y y.path) → Earlier H e.path (count R e.path) y.path (count Y y.path)
+  turn_sooner : {q : Path} {k : ℕ} (a b : ℕ) (d : DetFork R q k) (Y : Run) (y : Event) → Upto (y ∷ Y) R → a < b → b < length d.branches.tasks
+      → InBranch q k a e.path (count R e.path) → InBranch q k b y.path (count Y y.path) → Earlier H e.path (count R e.path) y.path (count Y y.path)
   turn_sooner {q} {k} a b d Y y hy ab lt (its_begin p n) iy = absurd (go iy)
     where
       nq : count R q ≡ suc (k + a)
@@ -624,14 +674,17 @@ module _ (P : Program) (D : Disciplined P) (R : Run) (e : Event) (l : Faithful P
           hit : ((y ≡ t) × (count Y y.path ≡ count r.before t.path)) ⊎ Earlier G0 y.path (count Y y.path) t.path (count r.before t.path) → ⊥
           hit (inr m) = not_back G0 y.path t.path (count Y y.path) (count r.before t.path) m ty
           hit (inl m) =
-              let c : Earlier G0 t.path (count r.before t.path) t.path (count r.before t.path) = subst (λ i. Earlier G0 t.path (count r.before t.path) t.path i) m.1 (subst (λ z. Earlier G0 t.path (count r.before t.path) z.path (count Y y.path)) m.0 ty) in
+              let c : Earlier G0 t.path (count r.before t.path) t.path (count r.before t.path) =
+              subst (λ i. Earlier G0 t.path (count r.before t.path) t.path i) m.1
+              (subst (λ z. Earlier G0 t.path (count r.before t.path) z.path (count Y y.path)) m.0 ty) in
               not_back G0 t.path t.path (count r.before t.path) (count r.before t.path) c c
 
   -- the fork of a construct of which there is an event stands in the run before
   abbrev old : {q : Path} {k : ℕ} (d : DetFork (e ∷ R) q k) → Upto (d.event ∷ d.before) R → DetFork R q k
   old d h = record { before = d.before; event = d.event; stands = h; path = d.path; number = d.number; branches = d.branches; act = d.act; det = d.det }
 
-  fork_first : {q : Path} {k : ℕ} (d : DetFork (e ∷ R) q k) (b : ℕ) (X : Run) (x : Event) → Upto (x ∷ X) (e ∷ R) → InBranch q k b x.path (count X x.path) → Upto (d.event ∷ d.before) R
+  fork_first : {q : Path} {k : ℕ} (d : DetFork (e ∷ R) q k) (b : ℕ) (X : Run) (x : Event) → Upto (x ∷ X) (e ∷ R) → InBranch q k b x.path (count X x.path)
+      → Upto (d.event ∷ d.before) R
   fork_first {q} {k} d b X x hx ix = ⊎_elim (λ c. absurd (go c ix)) (λ c. c) (upto_split d.stands)
     where
       go : (d.event ≡ e) × (d.before ≡ R) → InBranch q k b x.path (count X x.path) → ⊥
@@ -657,16 +710,20 @@ module _ (P : Program) (D : Disciplined P) (R : Run) (e : Event) (l : Faithful P
           upto_under now = now
           upto_under (later h) = upto_tail h
 
-  step_kept : (X Y : Run) (x y : Event) → Upto (x ∷ X) Y → Upto (y ∷ Y) (e ∷ R) → construct_spot X x ≡ construct_spot Y y → Earlier H x.path (count X x.path) y.path (count Y y.path)
+  step_kept : (X Y : Run) (x y : Event) → Upto (x ∷ X) Y → Upto (y ∷ Y) (e ∷ R) → construct_spot X x ≡ construct_spot Y y
+      → Earlier H x.path (count X x.path) y.path (count Y y.path)
   step_kept X Y x y hx hy k = go (upto_split hy)
     where
       go : ((y ≡ e) × (Y ≡ R)) ⊎ Upto (y ∷ Y) R → Earlier H x.path (count X x.path) y.path (count Y y.path)
       go (inr h) = keeps (rec.kept X Y x y hx h k)
       go (inl c) =
-          subst (λ z. Earlier H x.path (count X x.path) z.path (count Y z.path)) (sym c.0) (subst (λ Z. Earlier H x.path (count X x.path) e.path (count Z e.path)) (sym c.1)
+          subst (λ z. Earlier H x.path (count X x.path) z.path (count Y z.path)) (sym c.0)
+          (subst (λ Z. Earlier H x.path (count X x.path) e.path (count Z e.path)) (sym c.1)
           (kept_here X x (subst (λ Z. Upto (x ∷ X) Z) c.1 hx) (k ∙ ap (λ z. construct_spot Y z) c.0 ∙ ap (λ Z. construct_spot Z e) c.1)))
 
-  step_behind : (q : Path) (k : ℕ) (d : DetFork (e ∷ R) q k) (X W : Run) (x z : Event) → Upto (x ∷ X) (e ∷ R) → Upto (z ∷ W) (e ∷ R) → InConstruct (length d.branches.tasks) q k x.path (count X x.path) → (InConstruct (length d.branches.tasks) q k z.path (count W z.path) → ⊥) → Earlier H q k z.path (count W z.path) → Earlier H x.path (count X x.path) z.path (count W z.path)
+  step_behind : (q : Path) (k : ℕ) (d : DetFork (e ∷ R) q k) (X W : Run) (x z : Event) → Upto (x ∷ X) (e ∷ R) → Upto (z ∷ W) (e ∷ R)
+      → InConstruct (length d.branches.tasks) q k x.path (count X x.path) → (InConstruct (length d.branches.tasks) q k z.path (count W z.path) → ⊥)
+      → Earlier H q k z.path (count W z.path) → Earlier H x.path (count X x.path) z.path (count W z.path)
   step_behind q k d X W x z hx hz cx nz w = go (upto_split hx) (upto_split hz)
     where
       d1 : DetFork R q k
@@ -680,15 +737,23 @@ module _ (P : Program) (D : Disciplined P) (R : Run) (e : Event) (l : Faithful P
 
       go : ((x ≡ e) × (X ≡ R)) ⊎ Upto (x ∷ X) R → ((z ≡ e) × (W ≡ R)) ⊎ Upto (z ∷ W) R → Earlier H x.path (count X x.path) z.path (count W z.path)
       go (inr h) (inr i) = keeps (rec.behind_fork q k d1 X W x z h i cx nz (back_in i w))
-      go (inl h) (inl i) = absurd (nz (subst (λ y. InConstruct m q k y.path (count W y.path)) (h.0 ∙ sym i.0) (subst (λ Y. InConstruct m q k x.path (count Y x.path)) (h.1 ∙ sym i.1) cx)))
+      go (inl h) (inl i) = absurd (nz (subst (λ y. InConstruct m q k y.path (count W y.path)) (h.0 ∙ sym i.0)
+          (subst (λ Y. InConstruct m q k x.path (count Y x.path)) (h.1 ∙ sym i.1) cx)))
       go (inl h) (inr i) =
-          subst (λ y. Earlier H y.path (count X y.path) z.path (count W z.path)) (sym h.0) (subst (λ Y. Earlier H e.path (count Y e.path) z.path (count W z.path)) (sym h.1)
-          (behind_in d1 W z i (subst (λ Y. InConstruct m q k e.path (count Y e.path)) h.1 (subst (λ y. InConstruct m q k y.path (count X y.path)) h.0 cx)) nz w))
+          subst (λ y. Earlier H y.path (count X y.path) z.path (count W z.path)) (sym h.0)
+          (subst (λ Y. Earlier H e.path (count Y e.path) z.path (count W z.path)) (sym h.1)
+          (behind_in d1 W z i (subst (λ Y. InConstruct m q k e.path (count Y e.path)) h.1
+          (subst (λ y. InConstruct m q k y.path (count X y.path)) h.0 cx)) nz w))
       go (inr h) (inl i) =
-          subst (λ y. Earlier H x.path (count X x.path) y.path (count W y.path)) (sym i.0) (subst (λ Y. Earlier H x.path (count X x.path) e.path (count Y e.path)) (sym i.1)
-          (behind_out d1 X x h cx (λ c. nz (subst (λ y. InConstruct m q k y.path (count W y.path)) (sym i.0) (subst (λ Y. InConstruct m q k e.path (count Y e.path)) (sym i.1) c))) (subst (λ Y. Earlier H q k e.path (count Y e.path)) i.1 (subst (λ y. Earlier H q k y.path (count W y.path)) i.0 w))))
+          subst (λ y. Earlier H x.path (count X x.path) y.path (count W y.path)) (sym i.0)
+          (subst (λ Y. Earlier H x.path (count X x.path) e.path (count Y e.path)) (sym i.1)
+          (behind_out d1 X x h cx (λ c. nz (subst (λ y. InConstruct m q k y.path (count W y.path)) (sym i.0)
+          (subst (λ Y. InConstruct m q k e.path (count Y e.path)) (sym i.1) c)))
+          (subst (λ Y. Earlier H q k e.path (count Y e.path)) i.1 (subst (λ y. Earlier H q k y.path (count W y.path)) i.0 w))))
 
-  step_turn : (q : Path) (k a b : ℕ) (d : DetFork (e ∷ R) q k) (X Y : Run) (x y : Event) → Upto (x ∷ X) (e ∷ R) → Upto (y ∷ Y) (e ∷ R) → a < b → b < length d.branches.tasks → InBranch q k a x.path (count X x.path) → InBranch q k b y.path (count Y y.path) → Earlier H x.path (count X x.path) y.path (count Y y.path)
+  step_turn : (q : Path) (k a b : ℕ) (d : DetFork (e ∷ R) q k) (X Y : Run) (x y : Event) → Upto (x ∷ X) (e ∷ R) → Upto (y ∷ Y) (e ∷ R) → a < b
+      → b < length d.branches.tasks → InBranch q k a x.path (count X x.path) → InBranch q k b y.path (count Y y.path)
+      → Earlier H x.path (count X x.path) y.path (count Y y.path)
   step_turn q k a b d X Y x y hx hy ab lt ix iy = go (upto_split hx) (upto_split hy)
     where
       d1 : DetFork R q k
@@ -697,12 +762,17 @@ module _ (P : Program) (D : Disciplined P) (R : Run) (e : Event) (l : Faithful P
       go : ((x ≡ e) × (X ≡ R)) ⊎ Upto (x ∷ X) R → ((y ≡ e) × (Y ≡ R)) ⊎ Upto (y ∷ Y) R → Earlier H x.path (count X x.path) y.path (count Y y.path)
       go (inr h) (inr i) = keeps (rec.in_turn q k a b d1 X Y x y h i ab lt ix iy)
       go (inl h) (inr i) =
-          subst (λ z. Earlier H z.path (count X z.path) y.path (count Y y.path)) (sym h.0) (subst (λ Z. Earlier H e.path (count Z e.path) y.path (count Y y.path)) (sym h.1)
-          (turn_sooner a b d1 Y y i ab lt (subst (λ Z. InBranch q k a e.path (count Z e.path)) h.1 (subst (λ z. InBranch q k a z.path (count X z.path)) h.0 ix)) iy))
+          subst (λ z. Earlier H z.path (count X z.path) y.path (count Y y.path)) (sym h.0)
+          (subst (λ Z. Earlier H e.path (count Z e.path) y.path (count Y y.path)) (sym h.1)
+          (turn_sooner a b d1 Y y i ab lt (subst (λ Z. InBranch q k a e.path (count Z e.path)) h.1
+          (subst (λ z. InBranch q k a z.path (count X z.path)) h.0 ix)) iy))
       go (inr h) (inl i) =
-          subst (λ z. Earlier H x.path (count X x.path) z.path (count Y z.path)) (sym i.0) (subst (λ Z. Earlier H x.path (count X x.path) e.path (count Z e.path)) (sym i.1)
-          (turn_later a b d1 X x h ab lt ix (subst (λ Z. InBranch q k b e.path (count Z e.path)) i.1 (subst (λ z. InBranch q k b z.path (count Y z.path)) i.0 iy))))
-      go (inl h) (inl i) = absurd (one_branch (subst (λ z. InBranch q k a z.path (count Y z.path)) (h.0 ∙ sym i.0) (subst (λ Z. InBranch q k a x.path (count Z x.path)) (h.1 ∙ sym i.1) ix)) iy)
+          subst (λ z. Earlier H x.path (count X x.path) z.path (count Y z.path)) (sym i.0)
+          (subst (λ Z. Earlier H x.path (count X x.path) e.path (count Z e.path)) (sym i.1)
+          (turn_later a b d1 X x h ab lt ix (subst (λ Z. InBranch q k b e.path (count Z e.path)) i.1
+          (subst (λ z. InBranch q k b z.path (count Y z.path)) i.0 iy))))
+      go (inl h) (inl i) = absurd (one_branch (subst (λ z. InBranch q k a z.path (count Y z.path)) (h.0 ∙ sym i.0)
+          (subst (λ Z. InBranch q k a x.path (count Z x.path)) (h.1 ∙ sym i.1) ix)) iy)
         where
           one_branch : InBranch q k a y.path (count Y y.path) → InBranch q k b y.path (count Y y.path) → ⊥
           one_branch (its_begin p n) (its_begin p1 n1) = absurd (omega (arith, n, n1, ab))
@@ -723,7 +793,12 @@ module _ (P : Program) (D : Disciplined P) (R : Run) (e : Event) (l : Faithful P
 
 module _ (P : Program) (D : Disciplined P) (known : Known P) where
   pub behind_forks : (R : Run) → Valid P R → LevelsGuarded P.rule R → BehindForks R (move R)
-  behind_forks [] l f = record { kept = λ X Y x y hx hy k. absurd (upto_none hy); behind_fork = λ q k d X Z x z hx. absurd (upto_none hx); in_turn = λ q k a b d X Y x y hx. absurd (upto_none hx) }
+  behind_forks [] l f = record {
+    kept = λ X Y x y hx hy k. absurd (upto_none hy);
+    behind_fork = λ q k d X Z x z hx. absurd (upto_none hx);
+    in_turn = λ q k a b d X Y x y hx. absurd (upto_none hx);
+  }
   behind_forks (e ∷ R) l f =
       let less = levels_upto (later now) f in
-      subst (BehindForks (e ∷ R)) (sym (rearranged_step construct_spot e R)) (step_in_place P D R e (faithful_of P (e ∷ R) l) (move R) (moved P D known R l.1 less) (behind_forks R l.1 less))
+      subst (BehindForks (e ∷ R)) (sym (rearranged_step construct_spot e R))
+      (step_in_place P D R e (faithful_of P (e ∷ R) l) (move R) (moved P D known R l.1 less) (behind_forks R l.1 less))

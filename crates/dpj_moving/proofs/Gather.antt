@@ -1,5 +1,5 @@
 -- The gathered run is valid.
-use Rattle.std.proofs.Common.{◌≡◌, ℕ, true, false, true≢false, List, [], ◌∷◌, refl, sym, ap, ◌∙◌, subst}
+use Rattle.std.proofs.Common.{◌≡◌, true≢false, [], ◌∷◌, refl, sym, ap, ◌∙◌, subst}
 use Rattle.dpj_runs.specs.Actions.{Program, Rule}
 use Rattle.dpj_runs.specs.Blocks.{hold}
 use Rattle.dpj_runs.specs.Meaning.{Disciplined, Known}
@@ -34,11 +34,13 @@ module _ (P : Program) (D : Disciplined P) (known : Known P) where
   }
     where
       same : (Z : Run) → ((r : Path) → Under [] r → mine Z r ≡ mine R r) → (p : Path) → standing Z p ≡ standing R p
-      same Z full p = ap (λ b. joined_by b p (hold (mine Z p))) (above_mine Z R (λ r. full r (under_root r)) p) ∙ ap (λ m. joined_by (above R p) p (hold m)) (full p (under_root p))
+      same Z full p = ap (λ b. joined_by b p (hold (mine Z p))) (above_mine Z R (λ r. full r (under_root r)) p)
+          ∙ ap (λ m. joined_by (above R p) p (hold m)) (full p (under_root p))
 
   pub gathered : (R : Run) → Valid P R → ConflictsGuarded P.rule R → Rebuilt P R (gather R)
   gathered [] l f = subst (Rebuilt P []) (sym (rearranged_nil block_spot)) (rebuilt_nil P)
-  gathered (e ∷ R) l f = subst (Rebuilt P (e ∷ R)) (sym (rearranged_step block_spot e R)) (go (gathered R l.1 (guarded_upto (later now) f)) (standing R e.path) refl)
+  gathered (e ∷ R) l f = subst (Rebuilt P (e ∷ R)) (sym (rearranged_step block_spot e R))
+      (go (gathered R l.1 (guarded_upto (later now) f)) (standing R e.path) refl)
     where
       go : Rebuilt P R (gather R) → (h : Standing) → standing R e.path ≡ h → Rebuilt P (e ∷ R) (put_behind (block_of h) e (gather R))
       go g Outside k = rebuilt_in P D known R (gather R) e (All_of []) [] l g (top_side R (gather R) e)

@@ -13,3 +13,4 @@ pub mod Rules
 pub mod Theorems
 pub mod Tests
 pub mod Samples
+pub mod OneGathered

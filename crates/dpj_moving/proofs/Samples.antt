@@ -1,11 +1,13 @@
 -- The samples.
-use Rattle.std.proofs.Common.{◌≡◌, ◌≢◌, ℕ, ℤ, pos, zero, suc, ◌⊎◌, inl, inr, ⊎_elim, Bool, true, false, true≢false, not, ◌&&◌, ◌||◌, ◌==◌, List, [], ◌∷◌, length, map, refl, sym, ap, ◌∙◌, subst, arith, Option, Some, None, slice_get}
-use Rattle.dpj_runs.specs.Actions.{Answer, Assigned, Branches, Deterministic, Do, Enter, Exit, Got, Length, Look, New, Nondeterministic, Out, Program, Read, Rest, Returned, Rule, Went, Write}
+use Rattle.std.proofs.Common.{◌≡◌, ◌≢◌, ℕ, pos, Bool, true, false, true≢false, not, ◌||◌, ◌==◌, List, [], ◌∷◌}
+use Rattle.std.proofs.Common.{refl, sym, ap, ◌∙◌, subst, arith, Option, Some, None, slice_get}
+use Rattle.dpj_runs.specs.Actions.{Answer, Assigned, Branches, Deterministic, Do, Enter, Exit, Got, Length, Look, New, Nondeterministic, Out, Program, Read}
+use Rattle.dpj_runs.specs.Actions.{Rest, Returned, Rule, Went, Write}
 use Rattle.dpj_runs.specs.Blocks.{Legal, leaving_locals, without_locals}
 use Rattle.dpj_runs.specs.Meaning.{Disciplined, Known}
 use Rattle.dpj_runs.specs.Objects.{An_array, Effect, Exactly, Int, Local, Name, Path, PatternPart, Reading, Region_name, Star, Value, Writing, same_path}
 use Rattle.dpj_runs.specs.Order.{write_write}
-use Rattle.dpj_runs.specs.Runs.{Ended, Event, Run, Upto, count, last_written, mine, reply, things}
+use Rattle.dpj_runs.specs.Runs.{Ended, Event, Run, Upto, last_written, mine, reply, things}
 use Rattle.dpj_runs.specs.Standing.{Inside, Outside, Valid, above, first_of, standing}
 use Rattle.dpj_moving.specs.Gathered.{gather}
 use Rattle.dpj_moving.specs.Guarded.{ConflictsGuarded, LevelsGuarded}
@@ -14,23 +16,14 @@ use Rattle.dpj_moving.specs.Laws.{Weaker}
 use Rattle.dpj_moving.specs.Moved.{inner, move}
 use Rattle.dpj_moving.specs.Samples.{BothApply, GatheringNeedsGuarded, GatheringNeedsKnown, MovingNeedsWeaker, SomeConflict}
 use Rattle.dpj_moving.specs.Guarded.{ConflictsGuarded, LevelsGuarded}
-use Rattle.dpj_runs.proofs.Mine.{path_cases}
+use Rattle.dpj_moving.specs.Insertion.{All_of, Branch_of, rearranged}
+use Rattle.dpj_moving.specs.Guarded.{ConflictsGuarded, LevelsGuarded}
 use Rattle.dpj_runs.proofs.Written.{legal_from, valid_from}
-use Rattle.dpj_runs.proofs.Scripts.{Item, does, forks, Body, body_of, after, task, scripted, script_disciplined}
-use Rattle.dpj_runs.proofs.Play.{play, played, has_ended_with}
+use Rattle.dpj_runs.proofs.Scripts.{main, int, Item, does, forks, Body, task, scripted, script_disciplined}
+use Rattle.dpj_runs.proofs.Play.{run_of, play, played, has_ended_with}
 use Rattle.dpj_runs.proofs.Tests.{script_known}
 use Rattle.dpj_moving.proofs.Insertion.{valid_upto}
-use Rattle.dpj_moving.proofs.Tests.{each_pair, conflict_test, conflicts_guarded, level_test, levels_guarded, without, upto_without}
-
-abbrev main : Name
-main = record { maker = []; count = 0 }
-
-abbrev int : ℕ → Value
-int n = Int (pos n)
-
-abbrev run_of : Option Run → Run
-run_of None = []
-run_of (Some R) = R
+use Rattle.dpj_moving.proofs.Tests.{conflicts_guarded, levels_guarded, without, upto_without}
 
 abbrev writes_to : ℕ → List Effect
 writes_to n = record { access = Writing; region = Exactly (Region_name n) ∷ [] } ∷ []
@@ -66,7 +59,10 @@ block_of_writes region field = does 0 Rest ∷ does 0 (Enter (writes_to region))
 abbrev bodies : List Body
 bodies =
     record { items = forks 0 (record { kind = Nondeterministic; tasks = task 1 ∷ task 2 ∷ task 3 ∷ [] }) ∷ []; ending = Returned (int 0) }
-    ∷ record { items = does 0 Rest ∷ does 0 (Enter (writes_to 1)) ∷ forks 0 (record { kind = Deterministic; tasks = task 4 ∷ [] }) ∷ does 0 Exit ∷ []; ending = Assigned [] }
+    ∷ record {
+      items = does 0 Rest ∷ does 0 (Enter (writes_to 1)) ∷ forks 0 (record { kind = Deterministic; tasks = task 4 ∷ [] }) ∷ does 0 Exit ∷ [];
+      ending = Assigned [];
+    }
     ∷ record { items = block_of_writes 1 0; ending = Assigned [] }
     ∷ record { items = block_of_writes 2 1; ending = Assigned [] }
     ∷ record { items = does 0 (Write main (pos 0) (int 2)) ∷ []; ending = Assigned [] }
@@ -140,8 +136,19 @@ some_conflict = record {
   earlier = d_writes;
   stands = b_stands;
   under = d_stands;
-  unordered = record { below_p = (2, 0) ∷ []; below_q = []; above = []; u = (0, 0); v = (0, 1); one_fork = refl; apart = λ e. (omega arith); p_is = refl; q_is = refl };
-  conflict = write_write (record { object = main; slot = 0 }) (record { value = int 2; act = refl; in_bounds = went_in }) (record { value = int 1; act = refl; in_bounds = went_in });
+  unordered = record {
+    below_p = (2, 0) ∷ [];
+    below_q = [];
+    above = [];
+    u = (0, 0);
+    v = (0, 1);
+    one_fork = refl;
+    apart = λ e. (omega arith);
+    p_is = refl;
+    q_is = refl;
+  };
+  conflict = write_write (record { object = main; slot = 0 }) (record { value = int 2; act = refl; in_bounds = went_in })
+      (record { value = int 1; act = refl; in_bounds = went_in });
   levels = two_levels;
 }
 
@@ -213,8 +220,14 @@ not_gathered l =
 
 pub gathering_needs_guarded : GatheringNeedsGuarded
 gathering_needs_guarded =
-    let D = script_disciplined open_bodies fields other_region in
-    (unguarded, D, script_known open_bodies fields other_region refl, open_run, legal_from unguarded D open_run (played unguarded in_between open_run open_played), not_gathered)
+    let D = script_disciplined open_bodies fields other_region in (
+      unguarded,
+      D,
+      script_known open_bodies fields other_region refl,
+      open_run,
+      legal_from unguarded D open_run (played unguarded in_between open_run open_played),
+      not_gathered,
+    )
 
 -- One branch looks inside a block at what another makes
 abbrev made_by_b : Name
@@ -352,8 +365,7 @@ not_moved l =
 
 pub moving_needs_weaker : MovingNeedsWeaker
 moving_needs_weaker =
-    let D = script_disciplined waiting_bodies [] strict in
-    (
+    let D = script_disciplined waiting_bodies [] strict in (
       waiting,
       weaker,
       D,

@@ -1,5 +1,5 @@
 -- Where an event is put, and what stands in the run that it is put into.
-use Rattle.std.proofs.Common.{◌≡◌, ℕ, ◌<◌, ◌≤◌, ◌⊎◌, inl, inr, ⊎_elim, true, false, true≢false, List, [], ◌∷◌, ◌++◌, length, refl, sym, ap, ◌∙◌, subst, arith}
+use Rattle.std.proofs.Common.{◌≡◌, ℕ, ◌≤◌, ◌⊎◌, inl, inr, ⊎_elim, true, false, true≢false, [], ◌∷◌, length, refl, sym, ap, ◌∙◌, subst, arith}
 use Rattle.dpj_runs.specs.Objects.{Path}
 use Rattle.dpj_runs.specs.Runs.{Event, Run, Upto, count, later, mine, now}
 use Rattle.dpj_moving.specs.Insertion.{Earlier, Spot, near, put_behind}
@@ -16,7 +16,9 @@ module _ (s : Spot) (o : Path) (e : Event) (e_in : Under o e.path) (test : (x : 
     where
       go : mine (put_behind s e G) q ≡ mine G q → Bools (near s x) → mine (put_behind s e (x ∷ G)) q ≡ mine (x ∷ G) q
       go rec (yes t) = ap (λ r. mine r q) (behind_here s e x G t) ∙ mine_other e (x ∷ G) q (λ k. n (sym k))
-      go rec (no t) = ap (λ r. mine r q) (behind_over s e x G t) ∙ ⊎_elim (λ h. mine_same x (put_behind s e G) q h ∙ ap (λ l. x ∷ l) rec ∙ sym (mine_same x G q h)) (λ h. mine_other x (put_behind s e G) q h ∙ rec ∙ sym (mine_other x G q h)) (path_cases x.path q)
+      go rec (no t) = ap (λ r. mine r q) (behind_over s e x G t)
+          ∙ ⊎_elim (λ h. mine_same x (put_behind s e G) q h ∙ ap (λ l. x ∷ l) rec ∙ sym (mine_same x G q h))
+          (λ h. mine_other x (put_behind s e G) q h ∙ rec ∙ sym (mine_other x G q h)) (path_cases x.path q)
 
   behind_more : (G : Run) (q : Path) → count G q ≤ count (put_behind s e G) q
   behind_more [] q = upto_length (mine_step e [] q)
@@ -48,12 +50,18 @@ module _ (s : Spot) (o : Path) (e : Event) (e_in : Under o e.path) (test : (x : 
     where
       go : (Upto (y ∷ Y) G → Shifted y Y (put_behind s e G)) → Bools (near s x) → Shifted y Y (put_behind s e (x ∷ G))
       go rec (yes t) = record { before = Y; stands = subst (λ r. Upto (y ∷ Y) r) (sym (behind_here s e x G t)) (later h); same = refl; more = λ p. omega arith }
-      go rec (no t) = ⊎_elim here (λ d. (let m = rec d in record { before = m.before; stands = subst (λ r. Upto (y ∷ m.before) r) (sym (behind_over s e x G t)) (later m.stands); same = m.same; more = m.more })) (upto_split h)
+      go rec (no t) = ⊎_elim here (λ d. (let m = rec d in record {
+        before = m.before;
+        stands = subst (λ r. Upto (y ∷ m.before) r) (sym (behind_over s e x G t)) (later m.stands);
+        same = m.same;
+        more = m.more;
+      })) (upto_split h)
         where
           here : (y ≡ x) × (Y ≡ G) → Shifted y Y (put_behind s e (x ∷ G))
           here d = record {
             before = put_behind s e G;
-            stands = subst (λ r. Upto (y ∷ put_behind s e G) r) (sym (behind_over s e x G t)) (subst (λ z. Upto (y ∷ put_behind s e G) (z ∷ put_behind s e G)) d.0 now);
+            stands = subst (λ r. Upto (y ∷ put_behind s e G) r) (sym (behind_over s e x G t))
+                (subst (λ z. Upto (y ∷ put_behind s e G) (z ∷ put_behind s e G)) d.0 now);
             same = ap length (behind_other G y.path (not_its y (ap (near s) d.0 ∙ t))) ∙ ap (λ r. count r y.path) (sym d.1);
             more = λ p. (let b = behind_more G p in subst (λ r. count r p ≤ count (put_behind s e G) p) (sym d.1) b);
           }
@@ -67,14 +75,24 @@ module _ (s : Spot) (o : Path) (e : Event) (e_in : Under o e.path) (test : (x : 
     pub new : Upto (e ∷ top ∷ rest) (put_behind s e G)
     pub full : (q : Path) → Under o q → mine (top ∷ rest) q ≡ mine G q
     pub has : (y : Event) (Y : Run) → Upto (y ∷ Y) G → near s y ≡ true → Upto (y ∷ Y) (top ∷ rest)
-    pub others : (y : Event) (Y : Run) → Upto (y ∷ Y) G → Upto (y ∷ Y) (top ∷ rest) ⊎ ((Z : Run) × Upto (y ∷ Z) (put_behind s e G) × (count Z y.path ≡ count Y y.path) × Upto (e ∷ top ∷ rest) Z)
+    pub others : (y : Event) (Y : Run) → Upto (y ∷ Y) G → Upto (y ∷ Y) (top ∷ rest)
+        ⊎ ((Z : Run) × Upto (y ∷ Z) (put_behind s e G) × (count Z y.path ≡ count Y y.path) × Upto (e ∷ top ∷ rest) Z)
 
   pub new_at : (G : Run) (w : Event) (W : Run) → Upto (w ∷ W) G → near s w ≡ true → NewAt G
   new_at [] w W h hu = absurd (upto_none h)
   new_at (x ∷ G) w W h hu = go (λ k. new_at G w W k hu) (bools (near s x))
     where
       go : (Upto (w ∷ W) G → NewAt G) → Bools (near s x) → NewAt (x ∷ G)
-      go rec (yes t) = record { top = x; rest = G; stands = now; is_near = t; new = subst (λ r. Upto (e ∷ x ∷ G) r) (sym (behind_here s e x G t)) now; full = λ q v. refl; has = λ y Y d m. d; others = λ y Y d. inl d }
+      go rec (yes t) = record {
+        top = x;
+        rest = G;
+        stands = now;
+        is_near = t;
+        new = subst (λ r. Upto (e ∷ x ∷ G) r) (sym (behind_here s e x G t)) now;
+        full = λ q v. refl;
+        has = λ y Y d m. d;
+        others = λ y Y d. inl d;
+      }
       go rec (no t) = over (rec (⊎_elim (λ d. absurd (true≢false (sym hu ∙ ap (near s) d.0 ∙ t))) (λ d. d) (upto_split h)))
         where
           over : NewAt G → NewAt (x ∷ G)
@@ -89,10 +107,20 @@ module _ (s : Spot) (o : Path) (e : Event) (e_in : Under o e.path) (test : (x : 
             others = λ y Y d. ⊎_elim (λ p. inr (here y Y p)) (λ d1. there y Y (n.others y Y d1)) (upto_split d);
           }
             where
-              here : (y : Event) (Y : Run) → (y ≡ x) × (Y ≡ G) → (Z : Run) × Upto (y ∷ Z) (put_behind s e (x ∷ G)) × (count Z y.path ≡ count Y y.path) × Upto (e ∷ n.top ∷ n.rest) Z
-              here y Y d = (put_behind s e G, subst (λ r. Upto (y ∷ put_behind s e G) r) (sym (behind_over s e x G t)) (subst (λ z. Upto (y ∷ put_behind s e G) (z ∷ put_behind s e G)) d.0 now), ap length (behind_other G y.path (not_its y (ap (near s) d.0 ∙ t))) ∙ ap (λ r. count r y.path) (sym d.1), n.new)
+              here : (y : Event) (Y : Run) → (y ≡ x) × (Y ≡ G) → (Z : Run) × Upto (y ∷ Z) (put_behind s e (x ∷ G)) × (count Z y.path ≡ count Y y.path)
+                  × Upto (e ∷ n.top ∷ n.rest) Z
+              here y Y d = (
+                put_behind s e G,
+                subst (λ r. Upto (y ∷ put_behind s e G) r) (sym (behind_over s e x G t))
+                    (subst (λ z. Upto (y ∷ put_behind s e G) (z ∷ put_behind s e G)) d.0 now),
+                ap length (behind_other G y.path (not_its y (ap (near s) d.0 ∙ t))) ∙ ap (λ r. count r y.path) (sym d.1),
+                n.new,
+              )
 
-              there : (y : Event) (Y : Run) → Upto (y ∷ Y) (n.top ∷ n.rest) ⊎ ((Z : Run) × Upto (y ∷ Z) (put_behind s e G) × (count Z y.path ≡ count Y y.path) × Upto (e ∷ n.top ∷ n.rest) Z) → Upto (y ∷ Y) (n.top ∷ n.rest) ⊎ ((Z : Run) × Upto (y ∷ Z) (put_behind s e (x ∷ G)) × (count Z y.path ≡ count Y y.path) × Upto (e ∷ n.top ∷ n.rest) Z)
+              there : (y : Event) (Y : Run) → Upto (y ∷ Y) (n.top ∷ n.rest)
+                  ⊎ ((Z : Run) × Upto (y ∷ Z) (put_behind s e G) × (count Z y.path ≡ count Y y.path) × Upto (e ∷ n.top ∷ n.rest) Z)
+                  → Upto (y ∷ Y) (n.top ∷ n.rest) ⊎ ((Z : Run) × Upto (y ∷ Z) (put_behind s e (x ∷ G)) × (count Z y.path ≡ count Y y.path)
+                  × Upto (e ∷ n.top ∷ n.rest) Z)
               there y Y (inl d) = inl d
               there y Y (inr d) = inr (d.0, subst (λ r. Upto (y ∷ d.0) r) (sym (behind_over s e x G t)) (later d.1), d.2, d.3)
 

@@ -1,5 +1,6 @@
 -- Whether the conflicts of a closed run are guarded, by computing.
-use Rattle.std.proofs.Common.{◌≡◌, ℕ, zero, suc, ◌⊎◌, inl, inr, ⊎_elim, Bool, true, false, true≢false, not, ◌&&◌, ◌||◌, ◌==◌, List, [], ◌∷◌, refl, sym, ap, ◌∙◌, subst, eqb-true}
+use Rattle.std.proofs.Common.{◌≡◌, ℕ, zero, suc, ◌⊎◌, inl, inr, Bool, true, false, true≢false, not, ◌&&◌, ◌||◌, List, [], ◌∷◌, refl, sym, ap, ◌∙◌}
+use Rattle.std.proofs.Common.{subst}
 use Rattle.std.proofs.lemmas.Bool.{and_from, and_parts}
 use Rattle.dpj_runs.specs.Actions.{Action, Do, Enter, Rule}
 use Rattle.dpj_runs.specs.Objects.{Effect, Path, same_path}
@@ -9,7 +10,7 @@ use Rattle.dpj_runs.specs.Standing.{Inside, Outside, Standing, standing}
 use Rattle.dpj_moving.specs.Guarded.{Barred, ConflictsGuarded, Guarded, LetBy, Levelled, LevelsGuarded}
 use Rattle.dpj_moving.specs.Insertion.{All_of, Branch_of, Spot}
 use Rattle.dpj_moving.specs.Moved.{inner}
-use Rattle.dpj_runs.proofs.Upto.{upto_split, upto_none, upto_trans}
+use Rattle.dpj_runs.proofs.Upto.{upto_split, upto_none}
 use Rattle.dpj_runs.proofs.Mine.{same_path_eq, test_same}
 use Rattle.dpj_runs.proofs.Tests.{clash, clashes, may_part, parts}
 
@@ -29,7 +30,8 @@ under_at : (f : Test) (Y : Run) (y : Event) (W X : Run) (x : Event) → each_und
 under_at f Y y [] X x e h = absurd (upto_none h)
 under_at f Y y (w ∷ W) X x e h = go (and_parts _ _ e) (upto_split h) (λ k u. under_at f Y y W X x k u)
   where
-    go : (f Y y W w ≡ true) × (each_under f Y y W ≡ true) → ((x ≡ w) × (X ≡ W)) ⊎ Upto (x ∷ X) W → (each_under f Y y W ≡ true → Upto (x ∷ X) W → f Y y X x ≡ true) → f Y y X x ≡ true
+    go : (f Y y W w ≡ true) × (each_under f Y y W ≡ true) → ((x ≡ w) × (X ≡ W)) ⊎ Upto (x ∷ X) W
+        → (each_under f Y y W ≡ true → Upto (x ∷ X) W → f Y y X x ≡ true) → f Y y X x ≡ true
     go p (inl k) rec = (λ i. f Y y (k.1 i) (k.0 i)) ∙ p.0
     go p (inr k) rec = rec p.1 k
 
@@ -37,7 +39,8 @@ pair_at : (f : Test) (R Y X : Run) (y x : Event) → each_pair f R ≡ true → 
 pair_at f [] Y X y x e hy hx = absurd (upto_none hy)
 pair_at f (w ∷ R) Y X y x e hy hx = go (and_parts _ _ e) (upto_split hy) (λ k u. pair_at f R Y X y x k u hx)
   where
-    go : (each_under f R w R ≡ true) × (each_pair f R ≡ true) → ((y ≡ w) × (Y ≡ R)) ⊎ Upto (y ∷ Y) R → (each_pair f R ≡ true → Upto (y ∷ Y) R → f Y y X x ≡ true) → f Y y X x ≡ true
+    go : (each_under f R w R ≡ true) × (each_pair f R ≡ true) → ((y ≡ w) × (Y ≡ R)) ⊎ Upto (y ∷ Y) R
+        → (each_pair f R ≡ true → Upto (y ∷ Y) R → f Y y X x ≡ true) → f Y y X x ≡ true
     go p (inl k) rec = (λ i. f (k.1 i) (k.0 i) X x) ∙ under_at f R w R X x p.0 (subst (λ Z. Upto (x ∷ X) Z) k.1 hx)
     go p (inr k) rec = rec p.1 k
 
@@ -91,8 +94,13 @@ conflicts_guarded rule R e = record { each = each }
     each : (Y X : Run) (y x : Event) → Upto (y ∷ Y) R → Upto (x ∷ X) Y → Unordered x.path y.path → Conflict x y → Guarded rule X x Y y
     each Y X y x hy hx u c =
         let t = pair_at (conflict_test rule) R Y X y x e hy hx in
-        let b = two_blocks rule (standing X x.path) (standing Y y.path) (only_so (may_meet y x) (guarded_by rule (standing X x.path) (standing Y y.path)) t (and_from _ _ (parts u) (clashes c))) in
-        record { former = record { opener = b.o; effects = b.E; stands = b.first_is }; latter = record { opener = b.q; effects = b.F; stands = b.second_is }; barred = λ n. b.barred }
+        let b = two_blocks rule (standing X x.path) (standing Y y.path)
+        (only_so (may_meet y x) (guarded_by rule (standing X x.path) (standing Y y.path)) t (and_from _ _ (parts u) (clashes c))) in
+        record {
+          former = record { opener = b.o; effects = b.E; stands = b.first_is };
+          latter = record { opener = b.q; effects = b.F; stands = b.second_is };
+          barred = λ n. b.barred;
+        }
 
 abbrev same_spot : Spot → Spot → Bool
 same_spot (Branch_of u q) (Branch_of v r) = same_path (u ∷ q) (v ∷ r)
@@ -100,7 +108,8 @@ same_spot (All_of q) (All_of r) = same_path q r
 same_spot s t = false
 
 same_spot_is : (s t : Spot) → same_spot s t ≡ true → s ≡ t
-same_spot_is (Branch_of u q) (Branch_of v r) e = let k = same_path_eq (u ∷ q) (v ∷ r) e in let a : u ≡ v = cc in let b : q ≡ r = cc in λ i. Branch_of (a i) (b i)
+same_spot_is (Branch_of u q) (Branch_of v r) e = let k = same_path_eq (u ∷ q) (v ∷ r) e in let a : u ≡ v = cc in let b : q ≡ r =
+    cc in λ i. Branch_of (a i) (b i)
 same_spot_is (All_of q) (All_of r) e = ap All_of (same_path_eq q r e)
 same_spot_is (Branch_of u q) (All_of r) e = absurd (true≢false (sym e))
 same_spot_is (All_of q) (Branch_of v r) e = absurd (true≢false (sym e))
@@ -177,15 +186,25 @@ levels_guarded rule R e = record { accesses = accesses; entries = entries }
 
     accesses : (Y X : Run) (y x : Event) → Upto (y ∷ Y) R → Upto (x ∷ X) Y → Unordered x.path y.path → Conflict x y → Levelled rule X x Y y
     accesses Y X y x hy hx u c =
-        let b = two_levels rule X Y (standing X x.path) (standing Y y.path) (only_so (may_meet y x) (levelled_by rule X Y (standing X x.path) (standing Y y.path)) (both Y X y x hy hx).0 (and_from _ _ (parts u) (clashes c))) in
-        record { former = record { opener = b.o; effects = b.E; stands = b.first_is }; latter = record { opener = b.q; effects = b.F; stands = b.second_is }; differ = b.differ; level = b.level; barred = b.barred }
+        let b = two_levels rule X Y (standing X x.path) (standing Y y.path)
+        (only_so (may_meet y x) (levelled_by rule X Y (standing X x.path) (standing Y y.path)) (both Y X y x hy hx).0
+        (and_from _ _ (parts u) (clashes c))) in
+        record {
+          former = record { opener = b.o; effects = b.E; stands = b.first_is };
+          latter = record { opener = b.q; effects = b.F; stands = b.second_is };
+          differ = b.differ;
+          level = b.level;
+          barred = b.barred;
+        }
 
-    entries : (Y X : Run) (y x : Event) (E F : List Effect) → Upto (y ∷ Y) R → Upto (x ∷ X) Y → Unordered x.path y.path → x.act ≡ Do (Enter E) → y.act ≡ Do (Enter F)
-      → standing X x.path ≡ Outside → standing Y y.path ≡ Outside → (inner X x.path ≡ inner Y y.path → ⊥) → LetBy rule E F
+    entries : (Y X : Run) (y x : Event) (E F : List Effect) → Upto (y ∷ Y) R → Upto (x ∷ X) Y → Unordered x.path y.path → x.act ≡ Do (Enter E)
+        → y.act ≡ Do (Enter F)
+        → standing X x.path ≡ Outside → standing Y y.path ≡ Outside → (inner X x.path ≡ inner Y y.path → ⊥) → LetBy rule E F
     entries Y X y x E F hy hx u a b c d n =
         let when_both = and_from _ _ (parts u) (and_from _ _ (entry_so (standing X x.path) x.act E c a) (entry_so (standing Y y.path) y.act F d b)) in
         let t = only_so _ _ (both Y X y x hy hx).1 when_both in
-        let l = or_else_so (same_spot (inner X x.path) (inner Y y.path)) (let_by_test rule (entered x.act) (entered y.act)) t (λ k. n (same_spot_is (inner X x.path) (inner Y y.path) k)) in
+        let l = or_else_so (same_spot (inner X x.path) (inner Y y.path)) (let_by_test rule (entered x.act) (entered y.act)) t
+        (λ k. n (same_spot_is (inner X x.path) (inner Y y.path) k)) in
         let m : let_by_test rule E F ≡ true = (λ i. let_by_test rule (entered (a' i)) (entered (b' i))) ∙ l in
         and_parts (rule E F) (rule F E) m
       where

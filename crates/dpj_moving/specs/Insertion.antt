@@ -1,5 +1,5 @@
 -- A run put together anew: each event in turn is put directly behind the latest one that is near its spot.
-use Rattle.std.specs.Prelude.{ℕ, ◌≡◌, ◌<◌, Bool, true, false, ◌&&◌, ◌==◌, if◌then◌else◌, List, [], ◌∷◌}
+use Rattle.std.specs.Prelude.{ℕ, ◌≡◌, ◌<◌, Bool, true, false, ◌&&◌, ◌==◌, if◌then◌else◌, [], ◌∷◌}
 use Rattle.dpj_runs.specs.Objects.{Path, same_path}
 use Rattle.dpj_runs.specs.Actions.{Action, Do, Fork, Begin, Join, End}
 use Rattle.dpj_runs.specs.Runs.{Event, Run, Upto, count}

@@ -1,5 +1,5 @@
 -- Samples: the laws of gathering and moving say something, and their premises are needed.
-use Rattle.std.specs.Prelude.{ℕ, ◌≡◌, List, [], ◌∷◌}
+use Rattle.std.specs.Prelude.{◌≡◌, [], ◌∷◌}
 use Rattle.dpj_runs.specs.Actions.{Ending, Program}
 use Rattle.dpj_runs.specs.Runs.{Ended, Event, Run, Upto}
 use Rattle.dpj_runs.specs.Blocks.{Legal, leaving_locals, with_rule}
@@ -27,7 +27,7 @@ pub record SomeConflict (R : Run) : Type 0 where
 -- and moving change
 abbrev pub BothApply : Type 0
 BothApply = (P : Program) × Disciplined P × Known P × (R : Run) × Legal P R × ((x : Ending) × Ended R [] x) × ConflictsGuarded P.rule R × LevelsGuarded P.rule R
-  × SomeConflict R × (gather R ≡ R → ⊥) × (move R ≡ R → ⊥)
+    × SomeConflict R × (gather R ≡ R → ⊥) × (move R ≡ R → ⊥)
 
 -- where a conflict isn't guarded, the gathered run may not be legal
 abbrev pub GatheringNeedsGuarded : Type 0
@@ -40,4 +40,4 @@ GatheringNeedsKnown = (P : Program) × Disciplined P × (R : Run) × Legal P R �
 -- a moved run may be legal by the weaker rule alone
 abbrev pub MovingNeedsWeaker : Type 0
 MovingNeedsWeaker = (P : Program) × Weaker (leaving_locals P.rule) P.rule × Disciplined P × Known (with_rule (leaving_locals P.rule) P) × (R : Run) × Legal P R
-  × LevelsGuarded (leaving_locals P.rule) R × ((x : Ending) × Ended R [] x) × (Legal P (move R) → ⊥)
+    × LevelsGuarded (leaving_locals P.rule) R × ((x : Ending) × Ended R [] x) × (Legal P (move R) → ⊥)

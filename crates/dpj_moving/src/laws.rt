@@ -1,11 +1,12 @@
 //! The laws of gathering and moving, each the clause of a function that does nothing.
 
-ghost use Rattle.dpj_moving.specs.Laws.{Gathering, StillOpen, Moving, MovingBy, MovingInside};
+ghost use Rattle.dpj_moving.specs.Laws.{Gathering, OneGathered, StillOpen, Moving, MovingBy, MovingInside};
 ghost use Rattle.dpj_moving.specs.Samples.{BothApply, GatheringNeedsGuarded, GatheringNeedsKnown, MovingNeedsWeaker};
 
 /// Where unordered conflicts are guarded by blocks, each block's events can be gathered at its entry.
 pub fn law_gathering()
     ensures gathering { Gathering }
+    ensures one { OneGathered }
     ensures still_open { StillOpen }
 {}
 

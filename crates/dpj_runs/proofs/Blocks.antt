@@ -55,7 +55,14 @@ entry (x ∷ L) n E e = go (λ m k. entry L m E k) (opened x.act (hold L) n E e)
 
     go : ((m : ℕ) → hold L ≡ In_block m E → Entry L E) → Opened x.act (hold L) E → Entry (x ∷ L) E
     go rec (enters o a) = record { before = L; event = x; stands = now; outside = o; act = a; open_since = first_here o a }
-    go rec (was m k) = let r = rec m k in record { before = r.before; event = r.event; stands = later r.stands; outside = r.outside; act = r.act; open_since = still r }
+    go rec (was m k) = let r = rec m k in record {
+      before = r.before;
+      event = r.event;
+      stands = later r.stands;
+      outside = r.outside;
+      act = r.act;
+      open_since = still r;
+    }
 
 -- the same, in the run
 pub record EntryAt (R : Run) (p : Path) (E : List Effect) : Type 0 where

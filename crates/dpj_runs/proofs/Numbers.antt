@@ -4,6 +4,7 @@ use Rattle.dpj_runs.specs.Actions.{Begin, Program, Task}
 use Rattle.dpj_runs.specs.Objects.{Path}
 use Rattle.dpj_runs.specs.Runs.{Begun, Event, Run, Upto, branch, count, later, now, root}
 use Rattle.dpj_runs.specs.Schedules.{Numbered, begins, branch_is, one_begin, root_is}
+use Rattle.dpj_runs.proofs.Places.{pair_eq}
 use Rattle.dpj_runs.proofs.Upto.{which, Which, same_one, before, after}
 
 pub begins_step : (e : Event) (R : Run) → begins (e ∷ R) ≡ one_begin e.act + begins R
@@ -20,9 +21,6 @@ begins_upto {A} (later {y = e} {ys = R} h) = let a = begins_upto h in let b = be
 
 begins_less : {G B : Run} {g : Event} (b : ℕ) → Upto (g ∷ G) B → g.act ≡ Begin b → begins G < begins B
 begins_less {G} {B} {g} b h e = let a = begins_upto h in let s = begins_step g G in let o = ap one_begin e in omega arith
-
-pair_eq : (x y : ℕ × ℕ) → x.0 ≡ y.0 → x.1 ≡ y.1 → x ≡ y
-pair_eq x y a b = λ i. (a i, b i)
 
 pub same_begin : (b c : ℕ) → Begin b ≡ Begin c → b ≡ c
 same_begin b c e = cc

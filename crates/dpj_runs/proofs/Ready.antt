@@ -1,13 +1,13 @@
 -- Some task is ready: where a block is open, one of those in it; else one on the way down from the root.
-use Rattle.std.proofs.Common.{◌≡◌, ℕ, zero, suc, ◌+◌, ◌-◌, ◌<◌, ◌≤◌, ◌⊎◌, inl, inr, ⊎_elim, List, [], ◌∷◌, ◌++◌, length, refl, sym, ap, ◌∙◌, subst, arith, Option, Some, None, slice_get, length-append}
+use Rattle.std.proofs.Common.{◌≡◌, ℕ, zero, suc, ◌+◌, ◌-◌, ◌<◌, ◌≤◌, ◌⊎◌, inl, inr, ⊎_elim, List, [], ◌∷◌, ◌++◌, length, refl, sym, ap, ◌∙◌, subst, arith}
+use Rattle.std.proofs.Common.{Some, slice_get, length-append}
 use Rattle.dpj_runs.specs.Actions.{Action, Answer, Asks, Begin, Branches, Do, End, Ending, Fork, Join, Next, Over, Own, Program, Reply, Task, Went}
 use Rattle.dpj_runs.specs.Blocks.{In_block, Out_of, hold, hold_after}
 use Rattle.dpj_runs.specs.Meaning.{Disciplined, Lively}
 use Rattle.dpj_runs.specs.Objects.{Effect, Path}
 use Rattle.dpj_runs.specs.Runs.{Begun, Ended, Event, Faithful, Right, Run, Upto, answers, branch, count, joined, later, mine, now, reply, root}
-use Rattle.dpj_runs.specs.Schedules.{ended}
 use Rattle.dpj_runs.specs.Standing.{Admitted, CanEnter, Inside, Outside, Standing, above, first_of, joined_by, standing}
-use Rattle.dpj_runs.proofs.Upto.{upto_trans, upto_length, upto_tail, upto_split, upto_none}
+use Rattle.dpj_runs.proofs.Upto.{upto_behind, upto_trans, upto_length, upto_tail, upto_split, upto_none}
 use Rattle.dpj_runs.proofs.Mine.{path_cases, mine_at, found, same_of, number_of, numbered}
 use Rattle.dpj_runs.proofs.Faithful.{agree_self, next_same, same_task, begun_upto, some_same, follows_at, fork_above, begin_after, none_after_end}
 use Rattle.dpj_runs.proofs.Standing.{first_is, above_step, hold_since, opener_of}
@@ -33,7 +33,8 @@ has_ended (e ∷ R) p = go (has_ended R p) (path_cases e.path p) (is_end e.act)
     older x h = record { before = h.before; event = h.event; stands = later h.stands; path = h.path; act = h.act }
 
     never : ((x : Ending) → Ended R p x → ⊥) → ((x : Ending) → e.path ≡ p → e.act ≡ End x → ⊥) → (x : Ending) → Ended (e ∷ R) p x → ⊥
-    never f n x h = ⊎_elim (λ q. n x (ap (λ z. z.path) (sym q.0) ∙ h.path) (ap (λ z. z.act) (sym q.0) ∙ h.act)) (λ u. f x (record { before = h.before; event = h.event; stands = u; path = h.path; act = h.act })) (upto_split h.stands)
+    never f n x h = ⊎_elim (λ q. n x (ap (λ z. z.path) (sym q.0) ∙ h.path) (ap (λ z. z.act) (sym q.0) ∙ h.act))
+        (λ u. f x (record { before = h.before; event = h.event; stands = u; path = h.path; act = h.act })) (upto_split h.stands)
 
     go : HasEnded R p → (e.path ≡ p) ⊎ (e.path ≡ p → ⊥) → ((x : Ending) × (e.act ≡ End x)) ⊎ ((x : Ending) → e.act ≡ End x → ⊥) → HasEnded (e ∷ R) p
     go (it_has x h) a b = it_has x (older x h)
@@ -87,18 +88,15 @@ parted (e ∷ L) (x ∷ xs) a ys h =
     let r = parted L xs a ys k in
     record { since = e ∷ r.since; event = r.event; before = r.before; is = ap (λ l. e ∷ l) r.is; many = ap (λ n. suc n) r.many; rest = r.rest }
 
-upto_behind : (since : Run) (f : Event) (before : Run) → Upto (f ∷ before) (since ++ f ∷ before)
-upto_behind [] f before = now
-upto_behind (x ∷ since) f before = later (upto_behind since f before)
-
 module _ (P : Program) (D : Disciplined P) (V : Lively P) (R : Run) (l : Faithful P R)
-  (known : (p : Path) (t : Task) → Begun P R p t → (o : Own) → Asks P p t (answers (mine R p)) (Do o) → (a : Answer) × (reply P R p o ≡ Some a)) where
+    (known : (p : Path) (t : Task) → Begun P R p t → (o : Own) → Asks P p t (answers (mine R p)) (Do o) → (a : Answer) × (reply P R p o ≡ Some a)) where
   -- what a task that has begun was to do when it made an event
   asked : (p : Path) (t : Task) → Begun P R p t → {w : Event} {W : Run} → Upto (w ∷ W) R → w.path ≡ p → Asks P p t (answers (mine W p)) w.act
   asked p t b {w} {W} h e =
       let a = follows_at P h l in
       let same : a.task ≡ t = same_task (agree_self R) (begun_upto (upto_tail h) (subst (λ q. Begun P W q a.task) e a.begun)) b in
-      let k : P.meaning p a.task (answers (mine W p)) ≡ Next w.turns w.act = subst (λ q. P.meaning q a.task (answers (mine W q)) ≡ Next w.turns w.act) e a.asks in
+      let k : P.meaning p a.task (answers (mine W p)) ≡ Next w.turns w.act =
+      subst (λ q. P.meaning q a.task (answers (mine W q)) ≡ Next w.turns w.act) e a.asks in
       (w.turns, subst (λ s. P.meaning p s (answers (mine W p)) ≡ Next w.turns w.act) same k)
 
   -- a task that has not ended has a next action
@@ -127,8 +125,12 @@ module _ (P : Program) (D : Disciplined P) (V : Lively P) (R : Run) (l : Faithfu
   may_enter p E (in_block o F k) = record { clear = λ s q G h. absurd (let z : Inside o F ≡ Outside = sym k ∙ s in cc) }
 
   -- an action that a task asks for, rightly answered, is ready; an entry where no block is open or its task stands inside one
-  make : (p : Path) (t : Task) (c : Action) (a : Answer) → Begun P R p t → Asks P p t (answers (mine R p)) c → Right P R p c a → Free_or p → (e : Event) × Admitted P R e
-  make p t c a b k r fr = (record { path = p; turns = k.0; act = c; ans = a }, record { follows = record { task = t; begun = b; asks = k.1; right = r }; enters = λ E i. may_enter p E fr })
+  make : (p : Path) (t : Task) (c : Action) (a : Answer) → Begun P R p t → Asks P p t (answers (mine R p)) c → Right P R p c a → Free_or p → (e : Event)
+      × Admitted P R e
+  make p t c a b k r fr = (
+    record { path = p; turns = k.0; act = c; ans = a },
+    record { follows = record { task = t; begun = b; asks = k.1; right = r }; enters = λ E i. may_enter p E fr },
+  )
 
   -- the fork in front of whose join a task stands
   record AtJoin (p : Path) (t : Task) : Type 0 where
@@ -180,8 +182,11 @@ module _ (P : Program) (D : Disciplined P) (V : Lively P) (R : Run) (l : Faithfu
           let w = found R p h in
           let wn = ap length w.mine_is in
           let s = upto_length h in
-          let z = events_at_join p t j in
-          (count w.before p - suc (count j.before p), begin_after P D p j.tasks (count w.before p - suc (count j.before p)) l j.stands j.path j.act w.stands w.path (omega (arith, wn, m)) (omega (arith, wn, m, s, z)))
+          let z = events_at_join p t j in (
+            count w.before p - suc (count j.before p),
+            begin_after P D p j.tasks
+                (count w.before p - suc (count j.before p)) l j.stands j.path j.act w.stands w.path (omega (arith, wn, m)) (omega (arith, wn, m, s, z)),
+          )
 
       same : hold (mine R p) ≡ hold (mine j.before p)
       same = hold_since since begins ∙ ap (λ c. hold_after c (hold (mine j.before p))) j.act
@@ -190,7 +195,9 @@ module _ (P : Program) (D : Disciplined P) (V : Lively P) (R : Run) (l : Faithfu
   pair u n k a b = λ i. (a i, b i)
 
   -- a task that has not ended is ready, or a branch in front of whose join it stands has not ended
-  ready_or : (p : Path) (t : Task) → Begun P R p t → ((x : Ending) → Ended R p x → ⊥) → Free_or p → ((j : AtJoin p t) (i : ℕ) (s : Task) → Begun P R ((count j.before p, 0 + i) ∷ p) s → ((x : Ending) → Ended R ((count j.before p, 0 + i) ∷ p) x → ⊥) → (e : Event) × Admitted P R e) → (e : Event) × Admitted P R e
+  ready_or : (p : Path) (t : Task) → Begun P R p t → ((x : Ending) → Ended R p x → ⊥) → Free_or p
+      → ((j : AtJoin p t) (i : ℕ) (s : Task) → Begun P R ((count j.before p, 0 + i) ∷ p) s → ((x : Ending) → Ended R ((count j.before p, 0 + i) ∷ p) x → ⊥)
+      → (e : Event) × Admitted P R e) → (e : Event) × Admitted P R e
   ready_or p t b live fr down = let x = next_action p t b live in at_act x.0 x.1
     where
       at_join_of : (j : AtJoin p t) → Asks P p t (answers (mine R p)) Join → Ends R p (count j.before p) 0 j.tasks.tasks → (e : Event) × Admitted P R e
@@ -227,13 +234,18 @@ module _ (P : Program) (D : Disciplined P) (V : Lively P) (R : Run) (l : Faithfu
       at_act Join e = let j = at_join p t b e in at_join_of j e (ends_of R p (count j.before p) 0 j.tasks.tasks)
 
   -- from a task that has not ended down to one that is ready; each fork on the way stands further behind in the run
-  descend : (n : ℕ) (p : Path) (t : Task) → Begun P R p t → ((x : Ending) → Ended R p x → ⊥) → Free_or p → (k : ℕ) → ((W : Run) (w : Event) → Upto (w ∷ W) R → w.path ≡ p → k ≤ length W) → length R ≤ n + k → (e : Event) × Admitted P R e
-  descend zero p t b live fr k low fuel = ready_or p t b live fr (λ j i s c f. (let a = low j.before j.fork j.stands j.path in let d = upto_length j.stands in absurd (omega arith)))
-  descend (suc n) p t b live fr k low fuel = ready_or p t b live fr (λ j i s c f. descend n ((count j.before p, 0 + i) ∷ p) s c f (child_free j i fr) (suc (length j.before)) (child_low j i) (let a = low j.before j.fork j.stands j.path in omega arith))
+  descend : (n : ℕ) (p : Path) (t : Task) → Begun P R p t → ((x : Ending) → Ended R p x → ⊥) → Free_or p → (k : ℕ)
+      → ((W : Run) (w : Event) → Upto (w ∷ W) R → w.path ≡ p → k ≤ length W) → length R ≤ n + k → (e : Event) × Admitted P R e
+  descend zero p t b live fr k low fuel = ready_or p t b live fr
+      (λ j i s c f. (let a = low j.before j.fork j.stands j.path in let d = upto_length j.stands in absurd (omega arith)))
+  descend (suc n) p t b live fr k low fuel = ready_or p t b live fr
+      (λ j i s c f. descend n ((count j.before p, 0 + i) ∷ p) s c f (child_free j i fr) (suc (length j.before)) (child_low j i)
+      (let a = low j.before j.fork j.stands j.path in omega arith))
     where
       child_free : (j : AtJoin p t) (i : ℕ) → Free_or p → Free_or ((count j.before p, 0 + i) ∷ p)
       child_free j i (no_block f) = no_block f
-      child_free j i (in_block o F h) = in_block o F (ap (λ s. joined_by s ((count j.before p, 0 + i) ∷ p) (hold (mine R ((count j.before p, 0 + i) ∷ p)))) (child_stands p t j (count j.before p, 0 + i) refl ∙ h))
+      child_free j i (in_block o F h) = in_block o F (ap (λ s. joined_by s ((count j.before p, 0 + i) ∷ p) (hold (mine R ((count j.before p, 0 + i) ∷ p))))
+          (child_stands p t j (count j.before p, 0 + i) refl ∙ h))
 
       child_low : (j : AtJoin p t) (i : ℕ) (W : Run) (w : Event) → Upto (w ∷ W) R → w.path ≡ (count j.before p, 0 + i) ∷ p → suc (length j.before) ≤ length W
       child_low j i W w hw e =
@@ -257,16 +269,22 @@ module _ (P : Program) (D : Disciplined P) (V : Lively P) (R : Run) (l : Faithfu
       let z : Out_of ≡ In_block n F = sym (ap (λ c. hold_after c (hold y.1)) ya) ∙ sym (ap hold y.2) ∙ h in
       absurd (cc)
 
-  scan : (L : Run) → ((q : Path) × (F : List Effect) × (standing R q ≡ Inside q F)) ⊎ ((w : Event) (W : Run) → Upto (w ∷ W) L → (F : List Effect) → standing R w.path ≡ Inside w.path F → ⊥)
+  scan : (L : Run) → ((q : Path) × (F : List Effect) × (standing R q ≡ Inside q F))
+      ⊎ ((w : Event) (W : Run) → Upto (w ∷ W) L → (F : List Effect) → standing R w.path ≡ Inside w.path F → ⊥)
   scan [] = inr (λ w W h F k. upto_none h)
   scan (e ∷ L) = ⊎_elim (λ f. inl f) (λ f. here f (standing R e.path) refl) (scan L)
     where
-      more : ((w : Event) (W : Run) → Upto (w ∷ W) L → (F : List Effect) → standing R w.path ≡ Inside w.path F → ⊥) → ((F : List Effect) → standing R e.path ≡ Inside e.path F → ⊥) → (w : Event) (W : Run) → Upto (w ∷ W) (e ∷ L) → (F : List Effect) → standing R w.path ≡ Inside w.path F → ⊥
+      more : ((w : Event) (W : Run) → Upto (w ∷ W) L → (F : List Effect) → standing R w.path ≡ Inside w.path F → ⊥)
+          → ((F : List Effect) → standing R e.path ≡ Inside e.path F → ⊥) → (w : Event) (W : Run) → Upto (w ∷ W) (e ∷ L) → (F : List Effect)
+          → standing R w.path ≡ Inside w.path F → ⊥
       more f n w W h F k = ⊎_elim (λ q. n F (subst (λ (z : Event). standing R z.path ≡ Inside z.path F) q.0 k)) (λ u. f w W u F k) (upto_split h)
 
-      here : ((w : Event) (W : Run) → Upto (w ∷ W) L → (F : List Effect) → standing R w.path ≡ Inside w.path F → ⊥) → (h : Standing) → standing R e.path ≡ h → ((q : Path) × (F : List Effect) × (standing R q ≡ Inside q F)) ⊎ ((w : Event) (W : Run) → Upto (w ∷ W) (e ∷ L) → (F : List Effect) → standing R w.path ≡ Inside w.path F → ⊥)
+      here : ((w : Event) (W : Run) → Upto (w ∷ W) L → (F : List Effect) → standing R w.path ≡ Inside w.path F → ⊥) → (h : Standing) → standing R e.path ≡ h
+          → ((q : Path) × (F : List Effect) × (standing R q ≡ Inside q F))
+          ⊎ ((w : Event) (W : Run) → Upto (w ∷ W) (e ∷ L) → (F : List Effect) → standing R w.path ≡ Inside w.path F → ⊥)
       here f Outside k = inr (more f (λ F z. (let c : Outside ≡ Inside e.path F = sym k ∙ z in cc)))
-      here f (Inside o E) k = ⊎_elim (λ p. inl (e.path, E, k ∙ ap (λ q. Inside q E) p)) (λ n. inr (more f (λ F z. (let c : Inside o E ≡ Inside e.path F = sym k ∙ z in n (opener_same o e.path E F c))))) (path_cases o e.path)
+      here f (Inside o E) k = ⊎_elim (λ p. inl (e.path, E, k ∙ ap (λ q. Inside q E) p))
+          (λ n. inr (more f (λ F z. (let c : Inside o E ≡ Inside e.path F = sym k ∙ z in n (opener_same o e.path E F c))))) (path_cases o e.path)
         where
           opener_same : (p q : Path) (E F : List Effect) → Inside p E ≡ Inside q F → p ≡ q
           opener_same p q E F k = cc

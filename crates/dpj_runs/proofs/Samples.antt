@@ -1,12 +1,14 @@
 -- The samples.
-use Rattle.std.proofs.Common.{◌≡◌, ◌≢◌, ℕ, ℤ, pos, zero, suc, ◌+◌, ◌*◌, ◌<◌, ◌≤◌, ◌⊎◌, inl, inr, ⊎_elim, Bool, true, false, cond, true≢false, ◌&&◌, ◌==◌, List, [], ◌∷◌, length, map, refl, sym, ap, ◌∙◌, subst, arith, Option, Some, None, slice_get}
-use Rattle.std.proofs.lemmas.Bool.{and_parts}
-use Rattle.dpj_runs.specs.Actions.{Action, Answer, Assigned, Begin, Branches, Deterministic, Do, End, Ending, Enter, Exit, Got, Kind, Look, New, Next, Nondeterministic, Print, Program, Read, Reply, Rest, Returned, Rule, Went, Write, cells, steps}
+use Rattle.std.proofs.Common.{◌≡◌, ℕ, pos, zero, suc, ◌⊎◌, inl, inr, ⊎_elim, Bool, true, false, cond, true≢false, ◌==◌, List}
+use Rattle.std.proofs.Common.{[], ◌∷◌, length, map, refl, sym, ap, ◌∙◌, subst, arith, Option, Some, None, slice_get}
+use Rattle.dpj_runs.specs.Actions.{Action, Answer, Assigned, Begin, Branches, Deterministic, Do, End, Ending, Enter, Exit, Got, Kind, Look, New, Next}
+use Rattle.dpj_runs.specs.Actions.{Nondeterministic, Print, Program, Read, Reply, Rest, Returned, Rule, Went, Write}
 use Rattle.dpj_runs.specs.Blocks.{Allowed, Legal}
 use Rattle.dpj_runs.specs.Meaning.{Paced}
 use Rattle.dpj_runs.specs.Objects.{An_array, Effect, Int, Name, Path, Star, Value, Writing, same_path}
 use Rattle.dpj_runs.specs.Order.{Comes, Free, below_join}
-use Rattle.dpj_runs.specs.Runs.{Begun, Ended, Event, Follows, Right, Run, Upto, answers, branch, cells_of, count, last_written, later, mine, now, reply, root, steps_of, things, total}
+use Rattle.dpj_runs.specs.Runs.{Begun, Ended, Event, Follows, Right, Run, Upto, answers, branch, cells_of, count, last_written, later, mine, now, reply, root}
+use Rattle.dpj_runs.specs.Runs.{steps_of, things, total}
 use Rattle.dpj_runs.specs.Samples.{BoundApplies, BoundNeedsPaced, ComparisonApplies, ComparisonNeedsFree, ReadyApplies, ReadyNeedsKnown, RespectsNeedsPassing}
 use Rattle.dpj_runs.specs.Schedules.{Limits, Ran, Within}
 use Rattle.dpj_runs.specs.Standing.{Inside, Outside, above, first_of, standing}
@@ -15,15 +17,9 @@ use Rattle.dpj_runs.proofs.Faithful.{agree_self, next_same, same_task}
 use Rattle.dpj_runs.proofs.Written.{legal_from, admitted_from, legal_faithful}
 use Rattle.dpj_runs.proofs.Schedules.{recorded, ran_length}
 use Rattle.dpj_runs.proofs.Theorems.{each_comes_out, same_outcome}
-use Rattle.dpj_runs.proofs.Scripts.{Item, does, forks, Body, body_of, after, after_fork, task, scripted, script_disciplined, script_lively}
-use Rattle.dpj_runs.proofs.Play.{play, played, task_begun, has_ended_with}
+use Rattle.dpj_runs.proofs.Scripts.{main, int, does, forks, Body, body_of, after, task, scripted, script_disciplined, script_lively}
+use Rattle.dpj_runs.proofs.Play.{run_of, play, played, task_begun, has_ended_with}
 use Rattle.dpj_runs.proofs.Tests.{is_free, script_known}
-
-abbrev main : Name
-main = record { maker = []; count = 0 }
-
-abbrev int : ℕ → Value
-int n = Int (pos n)
 
 abbrev two : Kind → Branches
 two k = record { kind = k; tasks = task 1 ∷ task 2 ∷ [] }
@@ -34,14 +30,11 @@ pa = (0, 0) ∷ []
 abbrev pb : Path
 pb = (0, 1) ∷ []
 
-abbrev run_of : Option Run → Run
-run_of None = []
-run_of (Some R) = R
-
 abbrev never : Rule
 never F E = false
 
-legal_play : (bodies : List Body) (fields : List Value) (rule : Rule) (ps : List Path) (R : Run) → play (scripted bodies fields rule) ps ≡ Some R → Legal (scripted bodies fields rule) R
+legal_play : (bodies : List Body) (fields : List Value) (rule : Rule) (ps : List Path) (R : Run) → play (scripted bodies fields rule) ps ≡ Some R
+    → Legal (scripted bodies fields rule) R
 legal_play bodies fields rule ps R e = let P = scripted bodies fields rule in legal_from P (script_disciplined bodies fields rule) R (played P ps R e)
 
 -- Two branches write two fields, and one makes an object; then the root reads both fields
@@ -172,16 +165,15 @@ not_same : mine a_run [] ≡ mine b_run [] → ⊥
 not_same e = true≢false (sym reads_one ∙ sym (ap read_one e) ∙ reads_two)
 
 pub comparison_needs_free : ComparisonNeedsFree
-comparison_needs_free =
-    (
-      race,
-      script_disciplined racers (int 0 ∷ []) never,
-      a_run,
-      b_run,
-      legal_play racers (int 0 ∷ []) never a_first a_run a_played,
-      legal_play racers (int 0 ∷ []) never b_first b_run b_played,
-      (λ ag. ⊎_elim (λ u. not_same (upto_same u lengths)) (λ u. not_same (sym (upto_same u (sym lengths)))) (ag.both [])),
-    )
+comparison_needs_free = (
+  race,
+  script_disciplined racers (int 0 ∷ []) never,
+  a_run,
+  b_run,
+  legal_play racers (int 0 ∷ []) never a_first a_run a_played,
+  legal_play racers (int 0 ∷ []) never b_first b_run b_played,
+  (λ ag. ⊎_elim (λ u. not_same (upto_same u lengths)) (λ u. not_same (sym (upto_same u (sym lengths)))) (ag.both [])),
+)
 
 -- the first branch goes on before the second begins, by the numbers, but not in this run
 abbrev x_event : Event
@@ -203,8 +195,7 @@ y_number = refl
 
 pub respects_needs_passing : RespectsNeedsPassing
 respects_needs_passing =
-    let R : Run = x_event ∷ y_event ∷ y_before in
-    (
+    let R : Run = x_event ∷ y_event ∷ y_before in (
       apart,
       script_disciplined writers (int 0 ∷ int 0 ∷ []) never,
       R,
@@ -294,27 +285,27 @@ not_allowed e p a =
     let d = admitted_from waits inside_run e (legal_faithful waits inside_run inside_legal) a in
     let f = d.follows in
     let t : f.task ≡ task 2 = same_task (agree_self inside_run) (subst (λ q. Begun waits inside_run q f.task) p f.begun) b_begun in
-    let k : waits.meaning pb f.task (answers (mine inside_run pb)) ≡ Next e.turns e.act = subst (λ q. waits.meaning q f.task (answers (mine inside_run q)) ≡ Next e.turns e.act) p f.asks in
+    let k : waits.meaning pb f.task (answers (mine inside_run pb)) ≡ Next e.turns e.act =
+    subst (λ q. waits.meaning q f.task (answers (mine inside_run q)) ≡ Next e.turns e.act) p f.asks in
     let act = (next_same 0 e.turns (Do (Enter any_effect)) e.act (sym (ap (λ s. waits.meaning pb s (answers (mine inside_run pb))) t ∙ b_asks) ∙ k)).1 in
     let c = d.enters any_effect (sym act) in
     true≢false (sym (c.clear (ap (λ q. standing inside_run q) p ∙ b_outside) pa any_effect a_inside))
 
 pub ready_applies : ReadyApplies
-ready_applies =
-    (
-      waits,
-      script_disciplined blocks (int 0 ∷ []) never,
-      script_lively blocks (int 0 ∷ []) never,
-      script_known blocks (int 0 ∷ []) never refl,
-      inside_run,
-      inside_legal,
-      none_ended inside_run inside_goes_on [],
-      pb,
-      task 2,
-      b_begun,
-      none_ended inside_run inside_goes_on pb,
-      not_allowed,
-    )
+ready_applies = (
+  waits,
+  script_disciplined blocks (int 0 ∷ []) never,
+  script_lively blocks (int 0 ∷ []) never,
+  script_known blocks (int 0 ∷ []) never refl,
+  inside_run,
+  inside_legal,
+  none_ended inside_run inside_goes_on [],
+  pb,
+  task 2,
+  b_begun,
+  none_ended inside_run inside_goes_on pb,
+  not_allowed,
+)
 
 -- a task looks at an object that nobody has made
 abbrev no_object : Name
@@ -343,7 +334,8 @@ stuck e a = go a.follows.begun
     go : Begun looks [] e.path f.task → ⊥
     go (branch q u F g ts B h p b c d r s b1 c1 e1 d1) = upto_none b
     go (root p t) =
-        let k : looks.meaning [] f.task (answers (mine [] [])) ≡ Next e.turns e.act = subst (λ q. looks.meaning q f.task (answers (mine [] q)) ≡ Next e.turns e.act) p f.asks in
+        let k : looks.meaning [] f.task (answers (mine [] [])) ≡ Next e.turns e.act =
+        subst (λ q. looks.meaning q f.task (answers (mine [] q)) ≡ Next e.turns e.act) p f.asks in
         let act = (next_same 0 e.turns (Do (Look no_object)) e.act (sym (ap (λ s. looks.meaning [] s (answers (mine [] []))) t ∙ at_first) ∙ k)).1 in
         let r : reply looks [] e.path (Look no_object) ≡ Some e.ans = subst (λ c. Right looks [] e.path c e.ans) (sym act) f.right in
         let z : None ≡ Some e.ans = sym nothing_there ∙ ap (λ q. reply looks [] q (Look no_object)) (sym p) ∙ r in
@@ -375,7 +367,7 @@ rests_paced : Paced rests
 rests_paced = record { enters = λ p t got a e. by t.body (length got) e }
   where
     by : (b n : ℕ) → after (body_of (slice_get rested b)).items (body_of (slice_get rested b)).ending n ≡ Next 0 (Do Rest)
-      → (E : List Effect) × ((u : ℕ) × (after (body_of (slice_get rested b)).items (body_of (slice_get rested b)).ending (suc n) ≡ Next u (Do (Enter E))))
+        → (E : List Effect) × ((u : ℕ) × (after (body_of (slice_get rested b)).items (body_of (slice_get rested b)).ending (suc n) ≡ Next u (Do (Enter E))))
     by zero n e = let r = rest_paced n e in (r.0, (r.1, r.2))
     by (suc b) zero e = absurd (cc)
     by (suc b) (suc n) e = absurd (cc)
@@ -406,8 +398,16 @@ pub bound_applies : BoundApplies
 bound_applies =
     let L : Limits = record { steps = 4; cells = 2 } in
     let w : Within rests L rest_run = record { steps = (let n = rest_steps in omega arith); cells = (let n = rest_cells in omega arith) } in
-    let r = recorded rests L rest_run (legal_play rested (int 0 ∷ []) never ([] ∷ [] ∷ [] ∷ [] ∷ [] ∷ []) rest_run rest_played) w in
-    (rests, script_disciplined rested (int 0 ∷ []) never, rests_paced, L, r.0, rest_run, r.1, (let n = some_ran rests L rest_run 5 r rest_length in omega arith))
+    let r = recorded rests L rest_run (legal_play rested (int 0 ∷ []) never ([] ∷ [] ∷ [] ∷ [] ∷ [] ∷ []) rest_run rest_played) w in (
+      rests,
+      script_disciplined rested (int 0 ∷ []) never,
+      rests_paced,
+      L,
+      r.0,
+      rest_run,
+      r.1,
+      (let n = some_ran rests L rest_run 5 r rest_length in omega arith),
+    )
 
 -- a root that rests and rests
 abbrev resters : List Body

@@ -1,6 +1,6 @@
 -- A schedule records one run, and each legal run is recorded.
-use Rattle.std.proofs.Common.{◌≡◌, ℕ, suc, List, [], ◌∷◌, length, refl, sym, ap, ◌∙◌, subst, ◌+◌, ◌≤◌, arith}
-use Rattle.dpj_runs.specs.Actions.{Action, Begin, Do, End, Fork, Join, Program, cells, steps}
+use Rattle.std.proofs.Common.{◌≡◌, ℕ, suc, List, [], ◌∷◌, length, refl, sym, ap, ◌∙◌, subst, ◌≤◌, arith}
+use Rattle.dpj_runs.specs.Actions.{Action, Begin, Do, End, Fork, Join, Program}
 use Rattle.dpj_runs.specs.Blocks.{Legal}
 use Rattle.dpj_runs.specs.Meaning.{Disciplined}
 use Rattle.dpj_runs.specs.Runs.{Event, Faithful, Follows, Right, Run, Upto, entry_step, event_cells, event_steps, mine, now}

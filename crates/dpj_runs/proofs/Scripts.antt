@@ -1,9 +1,10 @@
 -- Programs for samples: each task goes through a list of what it does, whatever it is answered.
-use Rattle.std.proofs.Common.{◌≡◌, ℕ, zero, suc, ◌+◌, ◌<◌, ◌≤◌, ◌⊎◌, inl, inr, ⊎_elim, Bool, true, false, ◌&&◌, List, [], ◌∷◌, ◌++◌, length, refl, sym, ap, ◌∙◌, subst, arith, Option, Some, None, slice_get, length-append}
-use Rattle.std.proofs.lemmas.Bool.{and_parts, cases_lt}
+use Rattle.std.proofs.Common.{◌≡◌, ℕ, pos, zero, suc, ◌+◌, ◌<◌, ◌≤◌, ◌⊎◌, inl, inr, ⊎_elim, List, [], ◌∷◌, ◌++◌, length, refl, sym, ap}
+use Rattle.std.proofs.Common.{◌∙◌, arith, Option, Some, None, slice_get, length-append}
+use Rattle.std.proofs.lemmas.Bool.{cases_lt}
 use Rattle.dpj_runs.specs.Actions.{Action, Answer, Asks, Begin, Branches, Do, End, Ending, Fork, Join, Next, Over, Own, Program, Reply, Returned, Rule, Task}
 use Rattle.dpj_runs.specs.Meaning.{Disciplined, Lively}
-use Rattle.dpj_runs.specs.Objects.{An_object, Null, Thing, Value}
+use Rattle.dpj_runs.specs.Objects.{An_object, Int, Name, Null, Thing, Value}
 
 pub data Item : Type 0 where
   does : (turns : ℕ) (own : Own) → Item
@@ -36,9 +37,15 @@ body_of (Some b) = b
 abbrev pub task : ℕ → Task
 task n = record { body = n; frame = record { values = []; regions = []; locals = []; depth = 0 } }
 
--- the object that stands at the start, of some fields
+-- the object that stands at the start, and its name
+abbrev pub main : Name
+main = record { maker = []; count = 0 }
+
 abbrev pub main_object : List Value → Thing
 main_object fields = An_object 0 [] fields
+
+abbrev pub int : ℕ → Value
+int n = Int (pos n)
 
 abbrev pub scripted : List Body → List Value → Rule → Program
 scripted bodies fields rule = record {
@@ -50,7 +57,7 @@ scripted bodies fields rule = record {
 
 -- Over a rest that keeps to it, so does what stands after a fork
 over_fork : (rest : ℕ → Reply) → ((n t : ℕ) (y : Ending) → rest n ≡ Next t (End y) → rest (suc n) ≡ Over) → (b k n t : ℕ) (y : Ending)
-  → after_fork b k rest n ≡ Next t (End y) → after_fork b k rest (suc n) ≡ Over
+    → after_fork b k rest n ≡ Next t (End y) → after_fork b k rest (suc n) ≡ Over
 over_fork rest f b zero zero t y e = absurd (cc)
 over_fork rest f b zero (suc n) t y e = f n t y e
 over_fork rest f b (suc k) zero t y e = absurd (cc)
@@ -79,7 +86,7 @@ record Behind (f : ℕ → Reply) (n : ℕ) (ts : Branches) : Type 0 where
   is : (m j : ℕ) → j ≡ n + m → f (suc j) ≡ after_fork 0 (length ts.tasks) rest m
 
 behind_fork : (rest : ℕ → Reply) → ((n t : ℕ) (ts : Branches) → rest n ≡ Next t (Fork ts) → Behind rest n ts) → (b k n t : ℕ) (ts : Branches)
-  → after_fork b k rest n ≡ Next t (Fork ts) → Behind (λ m. after_fork b k rest m) n ts
+    → after_fork b k rest n ≡ Next t (Fork ts) → Behind (λ m. after_fork b k rest m) n ts
 behind_fork rest f b zero zero t ts e = absurd (cc)
 behind_fork rest f b zero (suc n) t ts e = let r = f n t ts e in record { rest = r.rest; is = each r }
   where
@@ -89,7 +96,8 @@ behind_fork rest f b zero (suc n) t ts e = let r = f n t ts e in record { rest =
 behind_fork rest f b (suc k) zero t ts e = absurd (cc)
 behind_fork rest f b (suc k) (suc n) t ts e = let r = behind_fork rest f (suc b) k n t ts e in record { rest = r.rest; is = each r }
   where
-    each : (r : Behind (λ m. after_fork (suc b) k rest m) n ts) (m j : ℕ) → j ≡ suc n + m → after_fork b (suc k) rest (suc j) ≡ after_fork 0 (length ts.tasks) r.rest m
+    each : (r : Behind (λ m. after_fork (suc b) k rest m) n ts) (m j : ℕ) → j ≡ suc n + m
+        → after_fork b (suc k) rest (suc j) ≡ after_fork 0 (length ts.tasks) r.rest m
     each r m zero h = absurd (omega arith)
     each r m (suc j) h = r.is m j (omega arith)
 
@@ -109,9 +117,11 @@ behind_after (forks s us ∷ is) x zero t ts e = record { rest = λ m. after is 
 
     each : (m j : ℕ) → j ≡ 0 + m → after_fork 0 (length us.tasks) (λ m. after is x m) j ≡ after_fork 0 (length ts.tasks) (λ m. after is x m) m
     each m j h = (let k : j ≡ m = omega arith in λ i. after_fork 0 (length (us_is i).tasks) (λ m. after is x m) (k i))
-behind_after (forks s us ∷ is) x (suc n) t ts e = let r = behind_fork (λ m. after is x m) (λ m a b h. behind_after is x m a b h) 0 (length us.tasks) n t ts e in record { rest = r.rest; is = each r }
+behind_after (forks s us ∷ is) x (suc n) t ts e = let r = behind_fork (λ m. after is x m) (λ m a b h. behind_after is x m a b h) 0
+    (length us.tasks) n t ts e in record { rest = r.rest; is = each r }
   where
-    each : (r : Behind (λ m. after_fork 0 (length us.tasks) (λ m. after is x m) m) n ts) (m j : ℕ) → j ≡ suc n + m → after (forks s us ∷ is) x (suc j) ≡ after_fork 0 (length ts.tasks) r.rest m
+    each : (r : Behind (λ m. after_fork 0 (length us.tasks) (λ m. after is x m) m) n ts) (m j : ℕ) → j ≡ suc n + m
+        → after (forks s us ∷ is) x (suc j) ≡ after_fork 0 (length ts.tasks) r.rest m
     each r m zero h = absurd (omega arith)
     each r m (suc j) h = r.is m j (omega arith)
 
@@ -120,12 +130,18 @@ script_disciplined bodies fields rule = record {
   over = λ p t got x a e. over_after (items t) (ending t) (length got) e.0 x e.1;
   begins = λ p t got since ts k e n l. (
       let r = behind_after (items t) (ending t) (length got) e.0 ts e.1 in
-      let j = length-append since got in
-      (0, ap (λ m. after (items t) (ending t) m) (let z : length (since ++ got) ≡ suc (length got + k) = omega arith in z) ∙ r.is k (length got + k) refl ∙ begin_at r.rest 0 (length ts.tasks) k k l (omega arith)));
+      let j = length-append since got in (
+        0,
+        ap (λ m. after (items t) (ending t) m) (let z : length (since ++ got) ≡ suc (length got + k) = omega arith in z) ∙ r.is k (length got + k) refl
+            ∙ begin_at r.rest 0 (length ts.tasks) k k l (omega arith),
+      ));
   joins = λ p t got since ts e n. (
       let r = behind_after (items t) (ending t) (length got) e.0 ts e.1 in
-      let j = length-append since got in
-      (0, ap (λ m. after (items t) (ending t) m) (let z : length (since ++ got) ≡ suc (length got + length ts.tasks) = omega arith in z) ∙ r.is (length ts.tasks) (length got + length ts.tasks) refl ∙ join_at r.rest 0 (length ts.tasks)));
+      let j = length-append since got in (
+        0,
+        ap (λ m. after (items t) (ending t) m) (let z : length (since ++ got) ≡ suc (length got + length ts.tasks) = omega arith in z)
+            ∙ r.is (length ts.tasks) (length got + length ts.tasks) refl ∙ join_at r.rest 0 (length ts.tasks),
+      ));
 }
   where
     items : Task → List Item
@@ -140,8 +156,9 @@ starts_after [] x e = cc
 starts_after (does t o ∷ is) x e = cc
 starts_after (forks t ts ∷ is) x e = cc
 
-goes_fork : (rest : ℕ → Reply) → (rest 0 ≡ Over → ⊥) → ((n t : ℕ) (c : Action) → rest n ≡ Next t c → rest (suc n) ≡ Over → (y : Ending) × (c ≡ End y)) → (b k n t : ℕ) (c : Action)
-  → after_fork b k rest n ≡ Next t c → after_fork b k rest (suc n) ≡ Over → (y : Ending) × (c ≡ End y)
+goes_fork : (rest : ℕ → Reply) → (rest 0 ≡ Over → ⊥) → ((n t : ℕ) (c : Action) → rest n ≡ Next t c → rest (suc n) ≡ Over → (y : Ending) × (c ≡ End y))
+    → (b k n t : ℕ) (c : Action)
+    → after_fork b k rest n ≡ Next t c → after_fork b k rest (suc n) ≡ Over → (y : Ending) × (c ≡ End y)
 goes_fork rest s f b zero zero t c e h = absurd (s h)
 goes_fork rest s f b zero (suc n) t c e h = f n t c e h
 goes_fork rest s f b (suc zero) zero t c e h = absurd (cc)
@@ -158,7 +175,8 @@ goes_after [] x (suc n) t c e h = absurd (cc)
 goes_after (does s o ∷ is) x zero t c e h = absurd (starts_after is x h)
 goes_after (does s o ∷ is) x (suc n) t c e h = goes_after is x n t c e h
 goes_after (forks s ts ∷ is) x zero t c e h = absurd (fork_starts (λ m. after is x m) 0 (length ts.tasks) h)
-goes_after (forks s ts ∷ is) x (suc n) t c e h = goes_fork (λ m. after is x m) (starts_after is x) (λ m u d p q. goes_after is x m u d p q) 0 (length ts.tasks) n t c e h
+goes_after (forks s ts ∷ is) x (suc n) t c e h = goes_fork (λ m. after is x m) (starts_after is x) (λ m u d p q. goes_after is x m u d p q) 0
+    (length ts.tasks) n t c e h
 
 -- a join stands behind its fork
 record Forked (f : ℕ → Reply) (n : ℕ) : Type 0 where
@@ -191,7 +209,8 @@ join_after (does s o ∷ is) x (suc n) t e =
 join_after (forks s ts ∷ is) x zero t e = absurd (cc)
 join_after (forks s ts ∷ is) x (suc n) t e = go (join_after is x) (join_fork (λ m. after is x m) 0 (length ts.tasks) n t e)
   where
-    go : ((m u : ℕ) → after is x m ≡ Next u Join → Forked (λ m. after is x m) m) → (n ≡ length ts.tasks) ⊎ ((m : ℕ) × (n ≡ suc (length ts.tasks + m)) × (after is x m ≡ Next t Join)) → Forked (λ m. after (forks s ts ∷ is) x m) (suc n)
+    go : ((m u : ℕ) → after is x m ≡ Next u Join → Forked (λ m. after is x m) m) → (n ≡ length ts.tasks)
+        ⊎ ((m : ℕ) × (n ≡ suc (length ts.tasks + m)) × (after is x m ≡ Next t Join)) → Forked (λ m. after (forks s ts ∷ is) x m) (suc n)
     go rec (inl h) = record { branches = ts; at = 0; turns = s; number = omega arith; is = refl }
     go rec (inr h) =
         let r = rec h.0 t h.2 in
@@ -214,7 +233,9 @@ record SplitAt (got : List Answer) (m : ℕ) : Type 0 where
 
 split_at : (got : List Answer) (m : ℕ) → m ≤ length got → SplitAt got m
 split_at [] m l = record { later_ones = []; earlier = []; is = refl; many = omega arith }
-split_at (a ∷ got) m l = ⊎_elim (λ h. (let r = split_at got m (omega arith) in record { later_ones = a ∷ r.later_ones; earlier = r.earlier; is = ap (λ l. a ∷ l) r.is; many = r.many })) (λ h. record { later_ones = []; earlier = a ∷ got; is = refl; many = omega arith }) (cases_lt m (length (a ∷ got)))
+split_at (a ∷ got) m l = ⊎_elim (λ h. (let r = split_at got m (omega arith) in
+    record { later_ones = a ∷ r.later_ones; earlier = r.earlier; is = ap (λ l. a ∷ l) r.is; many = r.many }))
+    (λ h. record { later_ones = []; earlier = a ∷ got; is = refl; many = omega arith }) (cases_lt m (length (a ∷ got)))
 
 pub script_lively : (bodies : List Body) (fields : List Value) (rule : Rule) → Lively (scripted bodies fields rule)
 script_lively bodies fields rule = record {
@@ -230,15 +251,17 @@ script_lively bodies fields rule = record {
     ending t = (body_of (slice_get bodies t.body)).ending
 
     forked : (t : Task) (got : List Answer) → Forked (λ m. after (items t) (ending t) m) (length got) → (ts : Branches) × (later : List Answer) × (a : Answer)
-      × (earlier : List Answer) × (got ≡ later ++ a ∷ earlier) × (length later ≡ length ts.tasks) × Asks (scripted bodies fields rule) [] t earlier (Fork ts)
+        × (earlier : List Answer) × (got ≡ later ++ a ∷ earlier) × (length later ≡ length ts.tasks) × Asks (scripted bodies fields rule) [] t earlier (Fork ts)
     forked t got r = go (split_at got (suc r.at) (let i = r.number in omega arith))
       where
         go : SplitAt got (suc r.at) → (ts : Branches) × (later : List Answer) × (a : Answer)
-          × (earlier : List Answer) × (got ≡ later ++ a ∷ earlier) × (length later ≡ length ts.tasks) × Asks (scripted bodies fields rule) [] t earlier (Fork ts)
+            × (earlier : List Answer) × (got ≡ later ++ a ∷ earlier) × (length later ≡ length ts.tasks)
+            × Asks (scripted bodies fields rule) [] t earlier (Fork ts)
         go s = by s.earlier s.is s.many
           where
             by : (es : List Answer) → got ≡ s.later_ones ++ es → length es ≡ suc r.at → (ts : Branches) × (later : List Answer) × (a : Answer)
-              × (earlier : List Answer) × (got ≡ later ++ a ∷ earlier) × (length later ≡ length ts.tasks) × Asks (scripted bodies fields rule) [] t earlier (Fork ts)
+                × (earlier : List Answer) × (got ≡ later ++ a ∷ earlier) × (length later ≡ length ts.tasks)
+                × Asks (scripted bodies fields rule) [] t earlier (Fork ts)
             by [] e n = absurd (omega arith)
             by (a ∷ es) e n =
                 let i = r.number in

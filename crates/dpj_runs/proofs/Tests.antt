@@ -1,14 +1,15 @@
 -- Whether a closed run is free of conflicts, and whether its program knows its objects, by computing.
-use Rattle.std.proofs.Common.{◌≡◌, ◌≢◌, ℕ, ℤ, pos, negsuc, zero, suc, ◌<◌, ◌⊎◌, inl, inr, ⊎_elim, Bool, true, false, true≢false, not, ◌&&◌, ◌==◌, List, [], ◌∷◌, ◌++◌, length, length-append, refl, sym, ap, ◌∙◌, subst, arith, eq-eqb, Option, Some, None, slice_get}
+use Rattle.std.proofs.Common.{◌≡◌, ℕ, ℤ, pos, negsuc, zero, suc, ◌⊎◌, inl, inr, Bool, true, false, true≢false, not, ◌&&◌, ◌==◌, List, [], ◌∷◌}
+use Rattle.std.proofs.Common.{◌++◌, length, length-append, refl, sym, ap, ◌∙◌, subst, arith, eq-eqb, Some, slice_get}
 use Rattle.std.proofs.lemmas.Bool.{and_from, and_parts}
 use Rattle.std.proofs.lemmas.Option.{slice_get_past}
 use Rattle.dpj_runs.specs.Actions.{Action, Answer, Do, Ending, Enter, Exit, Look, Named, New, Next, Own, Print, Program, Read, Reply, Rest, Rule, Went, Write}
 use Rattle.dpj_runs.specs.Meaning.{Known}
 use Rattle.dpj_runs.specs.Objects.{Cell, Name, Path, Value, same_name, same_path, size, slot_of}
 use Rattle.dpj_runs.specs.Order.{Conflict, Free, Unordered, read_write, write_read, write_write}
-use Rattle.dpj_runs.specs.Runs.{Event, Run, Upto, answered_by, answers, count, made, mine, read_at, reply, seen, thing_of, wrote_at}
-use Rattle.dpj_runs.proofs.Upto.{upto_split, upto_none, upto_trans}
-use Rattle.dpj_runs.proofs.Mine.{test_same, test_other, path_cases}
+use Rattle.dpj_runs.specs.Runs.{Event, Run, Upto, answered_by, answers, made, mine, read_at, reply, seen, thing_of, wrote_at}
+use Rattle.dpj_runs.proofs.Upto.{upto_split, upto_none}
+use Rattle.dpj_runs.proofs.Mine.{test_same, test_other}
 use Rattle.dpj_runs.proofs.Cells.{same_name_eq}
 use Rattle.dpj_runs.proofs.Scripts.{Item, does, forks, Body, body_of, after, after_fork, scripted}
 
@@ -55,7 +56,8 @@ one_place (x ∷ xs) [] a u v e = absurd (let n = ap length e in let k = length-
 one_place (x ∷ xs) (y ∷ ys) a u v e = one_place xs ys a u v (let t : xs ++ u ∷ a ≡ ys ++ v ∷ a = cc in t)
 
 pub parts : {p q : Path} → Unordered p q → may_part p q ≡ true
-parts {p} {q} n = and_from _ _ (ap below_root n.p_is ∙ below_is n.below_p n.above n.u) (and_from _ _ (ap below_root n.q_is ∙ below_is n.below_q n.above n.v) (ap not (test_other p q differ)))
+parts {p} {q} n = and_from _ _ (ap below_root n.p_is ∙ below_is n.below_p n.above n.u)
+    (and_from _ _ (ap below_root n.q_is ∙ below_is n.below_q n.above n.v) (ap not (test_other p q differ)))
   where
     differ : p ≡ q → ⊥
     differ k = n.apart (ap (λ w. w.1) (one_place n.below_p n.below_q n.above n.u n.v (sym n.p_is ∙ k ∙ n.q_is)))
@@ -73,7 +75,8 @@ before_at : (f : Event → Event → Bool) (y : Event) (Y X : Run) (x : Event) �
 before_at f y [] X x e h = absurd (upto_none h)
 before_at f y (w ∷ Y) X x e h = go (and_parts _ _ e) (upto_split h) (λ k u. before_at f y Y X x k u)
   where
-    go : (f y w ≡ true) × (each_before f y Y ≡ true) → ((x ≡ w) × (X ≡ Y)) ⊎ Upto (x ∷ X) Y → (each_before f y Y ≡ true → Upto (x ∷ X) Y → f y x ≡ true) → f y x ≡ true
+    go : (f y w ≡ true) × (each_before f y Y ≡ true) → ((x ≡ w) × (X ≡ Y)) ⊎ Upto (x ∷ X) Y → (each_before f y Y ≡ true → Upto (x ∷ X) Y → f y x ≡ true)
+        → f y x ≡ true
     go p (inl k) rec = ap (λ z. f y z) k.0 ∙ p.0
     go p (inr k) rec = rec p.1 k
 
@@ -81,7 +84,8 @@ pub two_at : (f : Event → Event → Bool) (R Y X : Run) (y x : Event) → each
 two_at f [] Y X y x e hy hx = absurd (upto_none hy)
 two_at f (w ∷ R) Y X y x e hy hx = go (and_parts _ _ e) (upto_split hy) (λ k u. two_at f R Y X y x k u hx)
   where
-    go : (each_before f w R ≡ true) × (each_two f R ≡ true) → ((y ≡ w) × (Y ≡ R)) ⊎ Upto (y ∷ Y) R → (each_two f R ≡ true → Upto (y ∷ Y) R → f y x ≡ true) → f y x ≡ true
+    go : (each_before f w R ≡ true) × (each_two f R ≡ true) → ((y ≡ w) × (Y ≡ R)) ⊎ Upto (y ∷ Y) R → (each_two f R ≡ true → Upto (y ∷ Y) R → f y x ≡ true)
+        → f y x ≡ true
     go p (inl k) rec = ap (λ z. f z x) k.0 ∙ before_at f w R X x p.0 (subst (λ Z. Upto (x ∷ X) Z) k.1 hx)
     go p (inr k) rec = rec p.1 k
 
@@ -120,12 +124,19 @@ own_known P R p (Enter E) e = (Went, refl)
 own_known P R p Exit e = (Went, refl)
 own_known P R p (New t c) e = (Named (record { maker = p; count = length (made P R p) }), refl)
 own_known P R p (Look n) e = (seen P.object, ap (λ m. answered_by (thing_of P R m) seen) (same_name_eq n _ e))
-own_known P R p (Write n i v) e = (wrote_at (slot_of i (size P.object)), ap (λ m. answered_by (thing_of P R m) (λ t. wrote_at (slot_of i (size t)))) (same_name_eq n _ e))
+own_known P R p (Write n i v) e = (
+  wrote_at (slot_of i (size P.object)),
+  ap (λ m. answered_by (thing_of P R m) (λ t. wrote_at (slot_of i (size t)))) (same_name_eq n _ e),
+)
 own_known P R p (Read n i) e =
-    let main : Name = record { maker = []; count = 0 } in
-    (read_at R P.object main (slot_of i (size P.object)), ap (λ m. answered_by (thing_of P R m) (λ t. read_at R t m (slot_of i (size t)))) (same_name_eq n main e))
+    let main : Name = record { maker = []; count = 0 } in (
+      read_at R P.object main (slot_of i (size P.object)),
+      ap (λ m. answered_by (thing_of P R m) (λ t. read_at R t m (slot_of i (size t))))
+          (same_name_eq n main e),
+    )
 
-fork_main : (rest : ℕ → Reply) → ((n t : ℕ) (o : Own) → rest n ≡ Next t (Do o) → own_main o ≡ true) → (b k n t : ℕ) (o : Own) → after_fork b k rest n ≡ Next t (Do o) → own_main o ≡ true
+fork_main : (rest : ℕ → Reply) → ((n t : ℕ) (o : Own) → rest n ≡ Next t (Do o) → own_main o ≡ true) → (b k n t : ℕ) (o : Own)
+    → after_fork b k rest n ≡ Next t (Do o) → own_main o ≡ true
 fork_main rest f b zero zero t o e = absurd (cc)
 fork_main rest f b zero (suc n) t o e = f n t o e
 fork_main rest f b (suc k) zero t o e = absurd (cc)
@@ -147,5 +158,6 @@ body_main (b ∷ bs) (suc i) h = body_main bs i (and_parts (items_main b.items) 
 pub script_known : (bodies : List Body) (fields : List Value) (rule : Rule) → bodies_main bodies ≡ true → Known (scripted bodies fields rule)
 script_known bodies fields rule h = record {
   replies = λ R l p t b o e. own_known (scripted bodies fields rule) R p o
-    (after_main (body_of (slice_get bodies t.body)).items (body_of (slice_get bodies t.body)).ending (body_main bodies t.body h) (length (answers (mine R p))) e.0 o e.1);
+      (after_main (body_of (slice_get bodies t.body)).items (body_of (slice_get bodies t.body)).ending (body_main bodies t.body h)
+      (length (answers (mine R p))) e.0 o e.1);
 }

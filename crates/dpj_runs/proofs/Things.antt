@@ -1,6 +1,7 @@
 -- What has a name: it stays the same from its making on, and is the same in all runs that agree.
-use Rattle.std.proofs.Common.{◌≡◌, ℕ, zero, suc, ◌⊎◌, ⊎_elim, List, [], ◌∷◌, ◌++◌, length, refl, sym, ap, ◌∙◌, subst, Option, Some, None, slice_get, append_assoc, append-nil}
-use Rattle.dpj_runs.specs.Objects.{Name, Path, Thing}
+use Rattle.std.proofs.Common.{◌≡◌, ℕ, zero, suc, ⊎_elim, List, [], ◌∷◌, ◌++◌, refl, sym, ap, ◌∙◌, Option, Some, None, slice_get}
+use Rattle.std.proofs.Common.{append_assoc, append-nil}
+use Rattle.dpj_runs.specs.Objects.{Name, Thing}
 use Rattle.dpj_runs.specs.Actions.{Answer, Program}
 use Rattle.dpj_runs.specs.Order.{Agree}
 use Rattle.dpj_runs.specs.Runs.{Event, Run, Upto, answered_by, at_start, later, made, made_by, mine, now, thing_of, things}

@@ -1,9 +1,9 @@
 -- Unordered events, conflicts, the order of elision, and how a run comes out.
-use Rattle.std.specs.Prelude.{ℕ, suc, pos, ◌+◌, ◌<◌, ◌≤◌, ◌≡◌, ◌≢◌, ◌⊎◌, List, [], ◌∷◌, ◌++◌, Option, Some, None}
+use Rattle.std.specs.Prelude.{ℕ, suc, pos, ◌+◌, ◌<◌, ◌≡◌, ◌≢◌, ◌⊎◌, List, [], ◌∷◌, ◌++◌, Option, Some, None}
 use Rattle.dpj_base.specs.declared.value.Trap.{Trap}
 use Rattle.dpj_base.specs.declared.place.Place.{Place}
 use Rattle.dpj_runs.specs.Objects.{Path, Value, Cell}
-use Rattle.dpj_runs.specs.Actions.{Ending, Returned, Assigned, Trapped, Own, Rest, Read, Write, Look, New, Print, Enter, Exit}
+use Rattle.dpj_runs.specs.Actions.{Ending, Trapped, Own, Rest, Read, Write, Look, New, Print, Enter, Exit}
 use Rattle.dpj_runs.specs.Actions.{Action, Do, Fork, Begin, Join, End, Out, Program}
 use Rattle.dpj_runs.specs.Runs.{Event, Run, Upto, mine, count, Ended, trap_of, steps_of, cells_of}
 

@@ -10,7 +10,8 @@ use Rattle.dpj_runs.specs.Schedules.{Limits, Ran}
 
 -- two legal runs without unordered conflicts, in different orders, that come out the same
 abbrev pub ComparisonApplies : Type 0
-ComparisonApplies = (P : Program) × Disciplined P × (R : Run) × (S : Run) × Legal P R × Legal P S × Free R × Free S × (R ≡ S → ⊥) × (o : Outcome) × Comes P R o × Comes P S o
+ComparisonApplies = (P : Program) × Disciplined P × (R : Run) × (S : Run) × Legal P R × Legal P S × Free R × Free S × (R ≡ S → ⊥) × (o : Outcome)
+    × Comes P R o × Comes P S o
 
 -- with a conflict legal runs don't agree
 abbrev pub ComparisonNeedsFree : Type 0
@@ -18,13 +19,14 @@ ComparisonNeedsFree = (P : Program) × Disciplined P × (R : Run) × (S : Run) �
 
 -- a begin may stand before events that are before it by their numbers
 abbrev pub RespectsNeedsPassing : Type 0
-RespectsNeedsPassing = (P : Program) × Disciplined P × (R : Run) × (X : Run) × (Y : Run) × (x : Event) × (y : Event) × Legal P R × Upto (x ∷ X) R × Upto (y ∷ Y) R
-  × Before x.path (count X x.path) y.path (count Y y.path) × (Upto (x ∷ X) Y → ⊥)
+RespectsNeedsPassing = (P : Program) × Disciplined P × (R : Run) × (X : Run) × (Y : Run) × (x : Event) × (y : Event) × Legal P R × Upto (x ∷ X) R
+    × Upto (y ∷ Y) R
+    × Before x.path (count X x.path) y.path (count Y y.path) × (Upto (x ∷ X) Y → ⊥)
 
 -- a legal run in which a task that has not ended has no next event, since it waits for a block
 abbrev pub ReadyApplies : Type 0
 ReadyApplies = (P : Program) × Disciplined P × Lively P × Known P × (R : Run) × Legal P R × ((x : Ending) → Ended R [] x → ⊥)
-  × (p : Path) × (t : Task) × Begun P R p t × ((x : Ending) → Ended R p x → ⊥) × ((e : Event) → e.path ≡ p → Allowed P R e → ⊥)
+    × (p : Path) × (t : Task) × Begun P R p t × ((x : Ending) → Ended R p x → ⊥) × ((e : Event) → e.path ≡ p → Allowed P R e → ⊥)
 
 -- where a task acts on what nobody has made, no task may be ready
 abbrev pub ReadyNeedsKnown : Type 0

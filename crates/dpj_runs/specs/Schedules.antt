@@ -4,7 +4,7 @@ use Rattle.dpj_runs.specs.Objects.{Path}
 use Rattle.dpj_runs.specs.Actions.{Action, Do, Fork, Begin, Join, End, Program}
 use Rattle.dpj_runs.specs.Runs.{Event, Run, Upto, count, steps_of, cells_of}
 use Rattle.dpj_runs.specs.Blocks.{Allowed}
-use Rattle.dpj_runs.specs.Order.{Outcome, Came, Limited, Comes}
+use Rattle.dpj_runs.specs.Order.{Outcome, Limited, Comes}
 
 pub record Limits : Type 0 where
   pub steps : ℕ
@@ -30,7 +30,7 @@ begins (e ∷ R) = one_begin e.act + begins R
 pub data Numbered (R : Run) (k : ℕ) (p : Path) : Type 0 where
   root_is : p ≡ [] → k ≡ 0 → Numbered R k p
   branch_is : (q : Path) (u : ℕ × ℕ) (G : Run) (g : Event) → p ≡ u ∷ q → Upto (g ∷ G) R → g.path ≡ q → g.act ≡ Begin u.1
-    → count G q ≡ suc (u.0 + u.1) → k ≡ suc (begins G) → Numbered R k p
+      → count G q ≡ suc (u.0 + u.1) → k ≡ suc (begins G) → Numbered R k p
 
 -- this event of the task of this number may come next
 pub record Ready (P : Program) (R : Run) (k : ℕ) (e : Event) : Type 0 where

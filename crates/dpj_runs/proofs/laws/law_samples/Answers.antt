@@ -1,4 +1,5 @@
-use Rattle.dpj_runs.proofs.Samples.{comparison_applies, comparison_needs_free, respects_needs_passing, ready_applies, ready_needs_known, bound_applies, bound_needs_paced}
+use Rattle.dpj_runs.proofs.Samples.{comparison_applies, comparison_needs_free, respects_needs_passing, ready_applies, ready_needs_known, bound_applies}
+use Rattle.dpj_runs.proofs.Samples.{bound_needs_paced}
 use Rattle.dpj_runs.proofs.laws.law_samples.Goals as goal
 
 pub returns : goal.returns
