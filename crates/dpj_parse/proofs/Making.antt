@@ -1,5 +1,5 @@
 -- What was read makes the part of the grammar that it is.
-use Rattle.std.proofs.Common.{◌≡◌, ℕ, List, [], ◌∷◌, ◌++◌, map, refl, subst}
+use Rattle.std.proofs.Common.{◌≡◌, List, [], ◌∷◌, ◌++◌, map, refl, subst}
 use Rattle.dpj_base.specs.declared.place.Place.{Place}
 use Rattle.dpj_tokens.specs.declared.token.Symbol.{Symbol}
 use Rattle.dpj_tokens.specs.declared.token.Keyword.{Keyword}

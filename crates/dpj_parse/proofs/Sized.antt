@@ -1,5 +1,5 @@
 -- Each node of a tree takes a terminal of its own.
-use Rattle.std.proofs.Common.{ℕ, suc, ◌+◌, ◌≤◌, List, [], ◌∷◌, length, map, sum_by, Bool, Option, refl, ap, arith}
+use Rattle.std.proofs.Common.{ℕ, suc, ◌+◌, ◌≤◌, List, [], length, sum_by, Bool, Option, ap, arith}
 use Rattle.std.proofs.lemmas.List.Sums.{sum_by-cons}
 use Rattle.dpj_base.specs.declared.place.Place.{Place}
 use Rattle.dpj_tokens.specs.declared.token.Keyword.{Keyword}
@@ -23,12 +23,11 @@ use Rattle.dpj_tree.specs.declared.region.RplHead.{RplHead}
 use Rattle.dpj_tree.specs.declared.region.RplTree.{RplTree}
 use Rattle.dpj_tree.specs.declared.region.Suffix.{Suffix}
 use Rattle.dpj_tree.specs.declared.region.TypeTree.{TypeTree}
-use Rattle.dpj_tree.specs.declared.stmt.Stmt.{Stmt}
-use Rattle.dpj_tree.specs.Plain.{PlainExpr, PlainExprs, PlainStmt, StmtForm, PlainStmts, plain_stmt, plain_stmts}
+use Rattle.dpj_tree.specs.Plain.{PlainExpr, PlainExprs, PlainStmt, StmtForm, PlainStmts}
 use Rattle.dpj_tree.specs.Size.{rpl_size, optional_rpl_size, base_size, suffix_size, type_size, expr_size, exprs_size, stmt_size, stmt_form_size, stmts_size, params_size, parent_size, result_size, items_size, summary_size, member_size, class_size}
 use Rattle.dpj_parse.specs.Taking.{Takes, TakesName, Listed, last, more, Many, none, some}
 use Rattle.dpj_parse.specs.Paths.{DerivesRName, one_name, two_names, DerivesHead, root, DerivesWithin, DerivesElem, star, within, DerivesNext, next, DerivesRpl, path, DerivesArgs, no_args, args}
-use Rattle.dpj_parse.specs.Types.{DerivesBase, DerivesRegion, no_region, region, DerivesIndex, no_index, index, DerivesBehind, behind, DerivesSuffix, suffix, DerivesType, type_of}
+use Rattle.dpj_parse.specs.Types.{DerivesBase, DerivesRegion, no_region, region, DerivesIndex, no_index, index, behind, DerivesSuffix, suffix, DerivesType, type_of}
 use Rattle.dpj_parse.specs.Expressions.{Ending, DerivesLevel, operand, operation, DerivesUnary, operator, postfix, new_array, DerivesPostfix, primary, behind_dot, called, indexed, DerivesPrimary, number, yes, no, nothing, receiver, parenthesised, creation, DerivesNewArray, array, DerivesActuals, no_actuals, actuals, DerivesFurther, end, further}
 use Rattle.dpj_parse.specs.Statements.{DerivesCondition, condition, DerivesValue, value, DerivesRange, range, DerivesBlock, braces, DerivesStmts, DerivesFinal, not_final, final, DerivesStmt, at_first, declaration, local_assignment, field_assignment, element_assignment, performed, DerivesForm, blocked, if_alone, if_else, turning, bare_return, return_with, printed, printed_text, branching, spreading, parting, in_one, new_regions}
 use Rattle.dpj_parse.specs.Classes.{DerivesAtomic, plain, atomic, DerivesKind, kind, DerivesParam, param, DerivesKindOr, same, other, DerivesParamsBehind, no_more, DerivesDeclared, declared, DerivesConstr, constraint, DerivesGiven, nothing_given, given, DerivesParams, no_params, params, DerivesFormal, formal, DerivesFormalList, no_formals, formals, DerivesFormals, DerivesItem, item, DerivesItems, DerivesSummary, no_summary, pure, reads, reads_and_writes, writes, DerivesIn, nowhere, in_region, DerivesResult, void, DerivesFront, constructs, answers, DerivesField, DerivesMethod, DerivesNamed, named, DerivesMember, DerivesParent, no_parent, extends, DerivesMembers, members, DerivesClass, class, DerivesProgram, program}

@@ -1,5 +1,5 @@
 -- The grammar of region paths, with their trees.
-use Rattle.std.specs.Prelude.{ℕ, ℤ, List, [], Some, None}
+use Rattle.std.specs.Prelude.{ℤ, List, [], Some, None}
 use Rattle.dpj_base.specs.declared.place.Place.{Place}
 use Rattle.dpj_tokens.specs.declared.token.Symbol.{Symbol}
 use Rattle.dpj_tokens.specs.declared.token.Keyword.{Keyword}

@@ -53,11 +53,7 @@ pub fn rpl(alloc: Global, cursor: &mut Cursor) -> Result<RplTree, Stop>
     let place = cursor.place();
     let head = head(cursor)?;
     let elems = elems(alloc, cursor)?;
-    Ok(RplTree {
-        place,
-        head,
-        elems,
-    })
+    Ok(RplTree { place, head, elems })
 }
 
 #[tactic(auto, using(crate::proofs::Regions::head_root, crate::proofs::Regions::head_name))]

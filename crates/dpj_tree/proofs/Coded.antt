@@ -1,12 +1,12 @@
 -- A tree is known by its plain form, since it can be made again from it.
-use Rattle.std.proofs.Common.{◌≡◌, ◌∙◌, List, [], ◌∷◌, Option, Some, None, map, refl, sym, ap, subst}
-use Rattle.dpj_tree.specs.declared.expr.Expr.{Expr, fold-Expr, ind-Expr, roll-Expr, fold-roll-Expr, map-Expr}
+use Rattle.std.proofs.Common.{◌≡◌, ◌∙◌, List, [], ◌∷◌, Some, None, map, refl, ap, subst}
+use Rattle.dpj_tree.specs.declared.expr.Expr.{Expr, ind-Expr, roll-Expr, fold-roll-Expr, map-Expr}
 use Rattle.dpj_tree.specs.declared.expr.ExprKind.{ExprKind, fold-ExprKind, roll-ExprKind, map-ExprKind, fold-roll-ExprKind}
 use Rattle.dpj_tree.specs.declared.expr.ExprKind.TheOpen.{ExprKind-F, Expr-F}
-use Rattle.dpj_tree.specs.declared.stmt.Stmt.{Stmt, fold-Stmt, ind-Stmt, roll-Stmt, fold-roll-Stmt, map-Stmt}
+use Rattle.dpj_tree.specs.declared.stmt.Stmt.{Stmt, ind-Stmt, roll-Stmt, fold-roll-Stmt, map-Stmt}
 use Rattle.dpj_tree.specs.declared.stmt.StmtKind.{StmtKind, fold-StmtKind, roll-StmtKind, map-StmtKind, fold-roll-StmtKind}
 use Rattle.dpj_tree.specs.declared.stmt.StmtKind.TheOpen.{StmtKind-F, Stmt-F}
-use Rattle.dpj_tree.specs.Plain.{PlainExpr, expression, ExprForm, int, boolean, null, this, local, field, element, call, create, create_array, unary, binary, PlainExprs, no_exprs, more_exprs, expr_form, expr_node, plain_expr, plain_exprs, PlainStmt, statement, StmtForm, block, declare, assign_local, assign_field, assign_element, perform, choice, choice_else, while_loop, return_nothing, return_value, print, print_text, cobegin, foreach, foreach_parts, atomic, local_regions, PlainStmts, no_stmts, more_stmts, choice_form, return_form, stmt_form, stmt_node, plain_stmt, plain_stmts}
+use Rattle.dpj_tree.specs.Plain.{PlainExpr, expression, ExprForm, int, boolean, null, this, local, field, element, call, create, create_array, unary, binary, PlainExprs, no_exprs, more_exprs, expr_form, expr_node, plain_expr, plain_exprs, PlainStmt, statement, StmtForm, block, declare, assign_local, assign_field, assign_element, perform, choice, choice_else, while_loop, return_nothing, return_value, print, print_text, cobegin, foreach, foreach_parts, atomic, local_regions, PlainStmts, no_stmts, more_stmts, stmt_form, stmt_node, plain_stmt, plain_stmts}
 
 abbrev mutual
   -- the expression that a plain one is of

@@ -1,4 +1,4 @@
-use Rattle.std.proofs.Common.{◌+◌, ◌*◌, ◌≡◌, length}
+use Rattle.std.proofs.Common.{◌+◌, ◌*◌, length}
 use Rattle.dpj_tree.specs.Plain.{plain_expr}
 use Rattle.dpj_parse.specs.Progress.{Reads, Keeps}
 use Rattle.dpj_parse.specs.Taking.{Listed}
