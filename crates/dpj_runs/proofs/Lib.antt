@@ -24,3 +24,4 @@ pub mod Scripts
 pub mod Play
 pub mod Tests
 pub mod Samples
+pub mod Finishing

@@ -21,11 +21,11 @@ is_end (Begin b) = inr (λ x e. cc)
 is_end Join = inr (λ x e. cc)
 
 -- whether a task has ended
-data HasEnded (R : Run) (p : Path) : Type 0 where
+pub data HasEnded (R : Run) (p : Path) : Type 0 where
   it_has : (x : Ending) → Ended R p x → HasEnded R p
   it_has_not : ((x : Ending) → Ended R p x → ⊥) → HasEnded R p
 
-has_ended : (R : Run) (p : Path) → HasEnded R p
+pub has_ended : (R : Run) (p : Path) → HasEnded R p
 has_ended [] p = it_has_not (λ x e. upto_none e.stands)
 has_ended (e ∷ R) p = go (has_ended R p) (path_cases e.path p) (is_end e.act)
   where

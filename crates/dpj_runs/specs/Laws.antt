@@ -1,5 +1,5 @@
 -- The laws of runs, as statements.
-use Rattle.std.specs.Prelude.{ℕ, ◌≡◌, ◌≤◌, ◌+◌, ◌*◌, List, [], ◌∷◌, length}
+use Rattle.std.specs.Prelude.{ℕ, ◌≡◌, ◌≤◌, ◌+◌, ◌*◌, List, [], ◌∷◌, ◌++◌, length}
 use Rattle.dpj_runs.specs.Objects.{Path}
 use Rattle.dpj_runs.specs.Actions.{Ending, Program}
 use Rattle.dpj_runs.specs.Runs.{Event, Run, Upto, mine, count, total, Ended}
@@ -85,3 +85,15 @@ ScheduleIsBounded = (P : Program) → Disciplined P → Paced P → (L : Limits)
 
 abbrev pub FinishedIsBounded : Type 0
 FinishedIsBounded = (P : Program) → Disciplined P → Paced P → (L : Limits) (ks : List ℕ) (o : Outcome) → Finished P L ks o → length ks ≤ 2 * L.steps + 2
+
+-- where no legal run has unordered conflicts all finished schedules come out the same, limits included
+abbrev pub AllFree : Program → Type 0
+AllFree P = (R : Run) → Legal P R → Free R
+
+abbrev pub SchedulesAgree : Type 0
+SchedulesAgree = (P : Program) → Disciplined P → AllFree P → (L : Limits) (ks js : List ℕ) (o q : Outcome) → Finished P L ks o → Finished P L js q → o ≡ q
+
+-- each schedule can be carried on to a finished one
+abbrev pub EachFinishes : Type 0
+EachFinishes = (P : Program) → Disciplined P → Lively P → Known P → Paced P → (L : Limits) (ks : List ℕ) (R : Run) → Ran P L ks R
+    → (js : List ℕ) × (o : Outcome) × Finished P L (js ++ ks) o
