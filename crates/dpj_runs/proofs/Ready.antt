@@ -7,7 +7,7 @@ use Rattle.dpj_runs.specs.Meaning.{Disciplined, Lively}
 use Rattle.dpj_runs.specs.Objects.{Effect, Path}
 use Rattle.dpj_runs.specs.Runs.{Begun, Ended, Event, Faithful, Right, Run, Upto, answers, branch, count, joined, later, mine, now, reply, root}
 use Rattle.dpj_runs.specs.Standing.{Admitted, CanEnter, Inside, Outside, Standing, above, first_of, joined_by, standing}
-use Rattle.dpj_runs.proofs.Upto.{upto_behind, upto_trans, upto_length, upto_tail, upto_split, upto_none}
+use Rattle.dpj_runs.proofs.Upto.{upto_since, upto_trans, upto_length, upto_tail, upto_split, upto_none}
 use Rattle.dpj_runs.proofs.Mine.{path_cases, mine_at, found, same_of, number_of, numbered}
 use Rattle.dpj_runs.proofs.Faithful.{agree_self, next_same, same_task, begun_upto, some_same, follows_at, fork_above, begin_after, none_after_end}
 use Rattle.dpj_runs.proofs.Standing.{first_is, above_step, hold_since, opener_of}
@@ -148,7 +148,7 @@ module _ (P : Program) (D : Disciplined P) (V : Lively P) (R : Run) (l : Faithfu
   at_join p t b k =
       let j = V.joins_forked p t (answers (mine R p)) k in
       let d = parted (mine R p) j.1 j.2 j.3 j.4 in
-      let f = found R p (subst (λ m. Upto (d.event ∷ d.before) m) (sym d.is) (upto_behind d.since d.event d.before)) in
+      let f = found R p (subst (λ m. Upto (d.event ∷ d.before) m) (sym d.is) (upto_since d.since d.event d.before)) in
       let k1 = subst (λ got. Asks P p t got d.event.act) (ap (λ m. answers m) f.mine_is ∙ d.rest) (asked p t b f.stands f.path) in
       let same = next_same k1.0 j.6.0 d.event.act (Fork j.0) (sym k1.1 ∙ j.6.1) in
       record {
@@ -233,7 +233,7 @@ module _ (P : Program) (D : Disciplined P) (V : Lively P) (R : Run) (l : Faithfu
       at_act (End x) e = make p t (End x) Went b e refl fr
       at_act Join e = let j = at_join p t b e in at_join_of j e (ends_of R p (count j.before p) 0 j.tasks.tasks)
 
-  -- from a task that has not ended down to one that is ready; each fork on the way stands further behind in the run
+  -- from a task that has not ended down to one that is ready; each fork on the way stands further after in the run
   descend : (n : ℕ) (p : Path) (t : Task) → Begun P R p t → ((x : Ending) → Ended R p x → ⊥) → Free_or p → (k : ℕ)
       → ((W : Run) (w : Event) → Upto (w ∷ W) R → w.path ≡ p → k ≤ length W) → length R ≤ n + k → (e : Event) × Admitted P R e
   descend zero p t b live fr k low fuel = ready_or p t b live fr

@@ -141,13 +141,13 @@ abbrev got_one : Answer → Bool
 got_one (Got (Int (pos n))) = n == 1
 got_one a = false
 
-abbrev told_one : Option Event → Bool
-told_one None = false
-told_one (Some e) = got_one e.ans
+abbrev saw_one : Option Event → Bool
+saw_one None = false
+saw_one (Some e) = got_one e.ans
 
 -- whether the latest event but one of a task was told 1
 abbrev read_one : Run → Bool
-read_one es = told_one (slice_get es 1)
+read_one es = saw_one (slice_get es 1)
 
 lengths : count a_run [] ≡ count b_run []
 unfolding mine last_written things above first_of

@@ -80,47 +80,47 @@ join_at : (rest : ℕ → Reply) (b k : ℕ) → after_fork b k rest k ≡ Next 
 join_at rest b zero = refl
 join_at rest b (suc k) = join_at rest (suc b) k
 
--- what stands behind a fork
-record Behind (f : ℕ → Reply) (n : ℕ) (ts : Branches) : Type 0 where
+-- what stands after a fork
+record AfterFork (f : ℕ → Reply) (n : ℕ) (ts : Branches) : Type 0 where
   rest : ℕ → Reply
   is : (m j : ℕ) → j ≡ n + m → f (suc j) ≡ after_fork 0 (length ts.tasks) rest m
 
-behind_fork : (rest : ℕ → Reply) → ((n t : ℕ) (ts : Branches) → rest n ≡ Next t (Fork ts) → Behind rest n ts) → (b k n t : ℕ) (ts : Branches)
-    → after_fork b k rest n ≡ Next t (Fork ts) → Behind (λ m. after_fork b k rest m) n ts
-behind_fork rest f b zero zero t ts e = absurd (cc)
-behind_fork rest f b zero (suc n) t ts e = let r = f n t ts e in record { rest = r.rest; is = each r }
+rest_fork : (rest : ℕ → Reply) → ((n t : ℕ) (ts : Branches) → rest n ≡ Next t (Fork ts) → AfterFork rest n ts) → (b k n t : ℕ) (ts : Branches)
+    → after_fork b k rest n ≡ Next t (Fork ts) → AfterFork (λ m. after_fork b k rest m) n ts
+rest_fork rest f b zero zero t ts e = absurd (cc)
+rest_fork rest f b zero (suc n) t ts e = let r = f n t ts e in record { rest = r.rest; is = each r }
   where
-    each : (r : Behind rest n ts) (m j : ℕ) → j ≡ suc n + m → after_fork b zero rest (suc j) ≡ after_fork 0 (length ts.tasks) r.rest m
+    each : (r : AfterFork rest n ts) (m j : ℕ) → j ≡ suc n + m → after_fork b zero rest (suc j) ≡ after_fork 0 (length ts.tasks) r.rest m
     each r m zero h = absurd (omega arith)
     each r m (suc j) h = r.is m j (omega arith)
-behind_fork rest f b (suc k) zero t ts e = absurd (cc)
-behind_fork rest f b (suc k) (suc n) t ts e = let r = behind_fork rest f (suc b) k n t ts e in record { rest = r.rest; is = each r }
+rest_fork rest f b (suc k) zero t ts e = absurd (cc)
+rest_fork rest f b (suc k) (suc n) t ts e = let r = rest_fork rest f (suc b) k n t ts e in record { rest = r.rest; is = each r }
   where
-    each : (r : Behind (λ m. after_fork (suc b) k rest m) n ts) (m j : ℕ) → j ≡ suc n + m
+    each : (r : AfterFork (λ m. after_fork (suc b) k rest m) n ts) (m j : ℕ) → j ≡ suc n + m
         → after_fork b (suc k) rest (suc j) ≡ after_fork 0 (length ts.tasks) r.rest m
     each r m zero h = absurd (omega arith)
     each r m (suc j) h = r.is m j (omega arith)
 
-behind_after : (is : List Item) (x : Ending) (n t : ℕ) (ts : Branches) → after is x n ≡ Next t (Fork ts) → Behind (λ m. after is x m) n ts
-behind_after [] x zero t ts e = absurd (cc)
-behind_after [] x (suc n) t ts e = absurd (cc)
-behind_after (does s o ∷ is) x zero t ts e = absurd (cc)
-behind_after (does s o ∷ is) x (suc n) t ts e = let r = behind_after is x n t ts e in record { rest = r.rest; is = each r }
+rest_after : (is : List Item) (x : Ending) (n t : ℕ) (ts : Branches) → after is x n ≡ Next t (Fork ts) → AfterFork (λ m. after is x m) n ts
+rest_after [] x zero t ts e = absurd (cc)
+rest_after [] x (suc n) t ts e = absurd (cc)
+rest_after (does s o ∷ is) x zero t ts e = absurd (cc)
+rest_after (does s o ∷ is) x (suc n) t ts e = let r = rest_after is x n t ts e in record { rest = r.rest; is = each r }
   where
-    each : (r : Behind (λ m. after is x m) n ts) (m j : ℕ) → j ≡ suc n + m → after (does s o ∷ is) x (suc j) ≡ after_fork 0 (length ts.tasks) r.rest m
+    each : (r : AfterFork (λ m. after is x m) n ts) (m j : ℕ) → j ≡ suc n + m → after (does s o ∷ is) x (suc j) ≡ after_fork 0 (length ts.tasks) r.rest m
     each r m zero h = absurd (omega arith)
     each r m (suc j) h = r.is m j (omega arith)
-behind_after (forks s us ∷ is) x zero t ts e = record { rest = λ m. after is x m; is = each }
+rest_after (forks s us ∷ is) x zero t ts e = record { rest = λ m. after is x m; is = each }
   where
     us_is : us ≡ ts
     us_is = cc
 
     each : (m j : ℕ) → j ≡ 0 + m → after_fork 0 (length us.tasks) (λ m. after is x m) j ≡ after_fork 0 (length ts.tasks) (λ m. after is x m) m
     each m j h = (let k : j ≡ m = omega arith in λ i. after_fork 0 (length (us_is i).tasks) (λ m. after is x m) (k i))
-behind_after (forks s us ∷ is) x (suc n) t ts e = let r = behind_fork (λ m. after is x m) (λ m a b h. behind_after is x m a b h) 0
+rest_after (forks s us ∷ is) x (suc n) t ts e = let r = rest_fork (λ m. after is x m) (λ m a b h. rest_after is x m a b h) 0
     (length us.tasks) n t ts e in record { rest = r.rest; is = each r }
   where
-    each : (r : Behind (λ m. after_fork 0 (length us.tasks) (λ m. after is x m) m) n ts) (m j : ℕ) → j ≡ suc n + m
+    each : (r : AfterFork (λ m. after_fork 0 (length us.tasks) (λ m. after is x m) m) n ts) (m j : ℕ) → j ≡ suc n + m
         → after (forks s us ∷ is) x (suc j) ≡ after_fork 0 (length ts.tasks) r.rest m
     each r m zero h = absurd (omega arith)
     each r m (suc j) h = r.is m j (omega arith)
@@ -129,14 +129,14 @@ pub script_disciplined : (bodies : List Body) (fields : List Value) (rule : Rule
 script_disciplined bodies fields rule = record {
   over = λ p t got x a e. over_after (items t) (ending t) (length got) e.0 x e.1;
   begins = λ p t got since ts k e n l. (
-      let r = behind_after (items t) (ending t) (length got) e.0 ts e.1 in
+      let r = rest_after (items t) (ending t) (length got) e.0 ts e.1 in
       let j = length-append since got in (
         0,
         ap (λ m. after (items t) (ending t) m) (let z : length (since ++ got) ≡ suc (length got + k) = omega arith in z) ∙ r.is k (length got + k) refl
             ∙ begin_at r.rest 0 (length ts.tasks) k k l (omega arith),
       ));
   joins = λ p t got since ts e n. (
-      let r = behind_after (items t) (ending t) (length got) e.0 ts e.1 in
+      let r = rest_after (items t) (ending t) (length got) e.0 ts e.1 in
       let j = length-append since got in (
         0,
         ap (λ m. after (items t) (ending t) m) (let z : length (since ++ got) ≡ suc (length got + length ts.tasks) = omega arith in z)
@@ -178,7 +178,7 @@ goes_after (forks s ts ∷ is) x zero t c e h = absurd (fork_starts (λ m. after
 goes_after (forks s ts ∷ is) x (suc n) t c e h = goes_fork (λ m. after is x m) (starts_after is x) (λ m u d p q. goes_after is x m u d p q) 0
     (length ts.tasks) n t c e h
 
--- a join stands behind its fork
+-- a join stands after its fork
 record Forked (f : ℕ → Reply) (n : ℕ) : Type 0 where
   branches : Branches
   at : ℕ
@@ -224,7 +224,7 @@ join_after (forks s ts ∷ is) x (suc n) t e = go (join_after is x) (join_fork (
           is = past_fork (λ m. after is x m) 0 (length ts.tasks) r.at (suc (length ts.tasks + r.at)) (omega arith) ∙ r.is;
         }
 
--- a list is split behind so many
+-- a list is split after so many
 record SplitAt (got : List Answer) (m : ℕ) : Type 0 where
   later_ones : List Answer
   earlier : List Answer

@@ -110,7 +110,7 @@ order_more {R} e o a = record { each = each }
 below_top : {R : Run} {y : Event} → InOrder (y ∷ R) → AllBefore R (place_of y R)
 below_top {R} {y} o = record { each = λ x X h. o.each y x R X now h }
 
--- a sorted run with one more event of a task, behind that task's others
+-- a sorted run with one more event of a task, after that task's others
 record Inserted (e : Event) (S : Run) : Type 0 where
   run : Run
   in_order : InOrder run
