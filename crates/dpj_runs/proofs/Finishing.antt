@@ -1,5 +1,6 @@
 -- Schedules come to an end, and without conflicts to the same one.
-use Rattle.std.proofs.Common.{◌≡◌, ℕ, zero, suc, ◌+◌, ◌*◌, ◌<◌, ◌≤◌, ◌⊎◌, inl, inr, ⊎_elim, List, [], ◌∷◌, ◌++◌, length, refl, sym, ap, ◌∙◌, subst, arith, append_assoc}
+use Rattle.std.proofs.Common.{◌≡◌, ℕ, zero, suc, ◌+◌, ◌*◌, ◌<◌, ◌≤◌, ◌⊎◌, inl, inr, ⊎_elim, List, [], ◌∷◌, ◌++◌, length, refl, sym, ap, ◌∙◌, subst, arith}
+use Rattle.std.proofs.Common.{append_assoc}
 use Rattle.std.proofs.lemmas.Bool.{cases_lt}
 use Rattle.dpj_runs.specs.Actions.{Ending, Program, cells, steps}
 use Rattle.dpj_runs.specs.Blocks.{Legal}
@@ -49,8 +50,10 @@ module _ (P : Program) (D : Disciplined P) (free : AllFree P) where
       record { steps = (let i = w.steps in omega arith); cells = (let i = w.cells in omega arith) }
 
   -- a schedule whose root has ended, and one that ended over a limit
-  not_over : (L : Limits) (ks js : List ℕ) (o : Outcome) (R S : Run) (k : ℕ) (e : Event) → Ran P L ks R → Comes P R o → Ran P L js S → Ready P S k e → (Within P L (e ∷ S) → ⊥) → ⊥
-  not_over L ks js o R S k e r c s h n = n (none_over L R (e ∷ S) c.end (ran_legal P L ks R r) (ran_within P L ks R r) c.ended (h.allowed, ran_legal P L js S s))
+  not_over : (L : Limits) (ks js : List ℕ) (o : Outcome) (R S : Run) (k : ℕ) (e : Event) → Ran P L ks R → Comes P R o → Ran P L js S → Ready P S k e
+      → (Within P L (e ∷ S) → ⊥) → ⊥
+  not_over L ks js o R S k e r c s h n = n (none_over L R (e ∷ S) c.end (ran_legal P L ks R r) (ran_within P L ks R r) c.ended
+      (h.allowed, ran_legal P L js S s))
 
   pub schedules_agree : (L : Limits) (ks js : List ℕ) (o q : Outcome) → Finished P L ks o → Finished P L js q → o ≡ q
   schedules_agree L ks js o q (ended R r c) (ended S s d) =
@@ -83,7 +86,8 @@ module _ (P : Program) (D : Disciplined P) (V : Lively P) (known : Known P) (C :
       l : Legal P R
       l = ran_legal P L ks R r
 
-      go : ((k : ℕ) (e : Event) → Ran P L (k ∷ ks) (e ∷ R) → (js : List ℕ) × (o : Outcome) × Finished P L (js ++ (k ∷ ks)) o) → HasEnded R [] → (js : List ℕ) × (o : Outcome) × Finished P L (js ++ ks) o
+      go : ((k : ℕ) (e : Event) → Ran P L (k ∷ ks) (e ∷ R) → (js : List ℕ) × (o : Outcome) × Finished P L (js ++ (k ∷ ks)) o) → HasEnded R [] → (js : List ℕ)
+          × (o : Outcome) × Finished P L (js ++ ks) o
       go rec (it_has x g) = let c = each_comes_out P R x l g in ([], c.0, ended R r c.1)
       go rec (it_has_not f) = step (some_ready_event P D V known R l f)
         where

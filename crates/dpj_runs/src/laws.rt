@@ -4,7 +4,7 @@ ghost use Rattle.dpj_runs.specs.Laws.{BlocksByStanding, Respects, OrderOf, Prese
 ghost use Rattle.dpj_runs.specs.Laws.{EachComesOut, OneOutcome, NothingAfter, SomeReady, OneNext, OneRun, RanIsLegal, EachRecorded};
 ghost use Rattle.dpj_runs.specs.Laws.{ScheduleIsBounded, FinishedIsBounded, SchedulesAgree, EachFinishes};
 ghost use Rattle.dpj_runs.specs.Samples.{ComparisonApplies, ComparisonNeedsFree, RespectsNeedsPassing, ReadyApplies, ReadyNeedsKnown};
-ghost use Rattle.dpj_runs.specs.Samples.{BoundApplies, BoundNeedsPaced};
+ghost use Rattle.dpj_runs.specs.Samples.{BoundApplies, BoundNeedsPaced, DeterminismApplies};
 
 /// Who stands inside which block is known from paths and from each task's own events.
 pub fn law_blocks()
@@ -64,4 +64,5 @@ pub fn law_samples()
     ensures unknown { ReadyNeedsKnown }
     ensures bound { BoundApplies }
     ensures rests { BoundNeedsPaced }
+    ensures determinism { DeterminismApplies }
 {}
