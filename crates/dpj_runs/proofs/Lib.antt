@@ -25,3 +25,4 @@ pub mod Play
 pub mod Tests
 pub mod Samples
 pub mod Finishing
+pub mod Greatest

@@ -129,7 +129,8 @@ module _ (P : Program) (D : Disciplined P) (V : Lively P) (R : Run) (l : Faithfu
   make : (p : Path) (t : Task) (c : Action) (a : Answer) → Begun P R p t → Asks P p t (answers (mine R p)) c → Right P R p c a
       → ((E : List Effect) → CanEnter P.rule R p E) → (e : Event) × (e.path ≡ p) × Admitted P R e
   make p t c a b k r may =
-      (record { path = p; turns = k.0; act = c; ans = a }, refl, record { follows = record { task = t; begun = b; asks = k.1; right = r }; enters = λ E i. may E })
+      (record { path = p; turns = k.0; act = c; ans = a }, refl,
+          record { follows = record { task = t; begun = b; asks = k.1; right = r }; enters = λ E i. may E })
 
   -- the fork after which a task has made so many events
   pub record ForkSince (p : Path) (ts : Branches) (n : ℕ) : Type 0 where
@@ -216,7 +217,8 @@ module _ (P : Program) (D : Disciplined P) (V : Lively P) (R : Run) (l : Faithfu
   -- a task that has not ended is ready, or a branch in front of whose join it stands has not ended
   pub ready_or : (Q : Type 0) (p : Path) (t : Task) → Begun P R p t → ((x : Ending) → Ended R p x → ⊥) → ((E : List Effect) → CanEnter P.rule R p E)
       → ((e : Event) → e.path ≡ p → Admitted P R e → Q)
-      → ((j : AtJoin p t) (i : ℕ) (s : Task) → Begun P R ((count j.before p, 0 + i) ∷ p) s → ((x : Ending) → Ended R ((count j.before p, 0 + i) ∷ p) x → ⊥) → Q) → Q
+      → ((j : AtJoin p t) (i : ℕ) (s : Task) → Begun P R ((count j.before p, 0 + i) ∷ p) s → ((x : Ending) → Ended R ((count j.before p, 0 + i) ∷ p) x → ⊥)
+          → Q) → Q
   ready_or Q p t b live may done down = let x = next_action p t b live in at_act x.0 x.1
     where
       ready : (e : Event) × (e.path ≡ p) × Admitted P R e → Q

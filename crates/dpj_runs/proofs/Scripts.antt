@@ -234,11 +234,13 @@ record Beginning (f : ℕ → Reply) (n b : ℕ) : Type 0 where
   there : b < length branches.tasks
   is : f at ≡ Next turns (Fork branches)
 
-begin_fork : (rest : ℕ → Reply) (b k n t c : ℕ) → after_fork b k rest n ≡ Next t (Begin c) → ((n < k) × (c ≡ b + n)) ⊎ ((m : ℕ) × (n ≡ suc (k + m)) × (rest m ≡ Next t (Begin c)))
+begin_fork : (rest : ℕ → Reply) (b k n t c : ℕ) → after_fork b k rest n ≡ Next t (Begin c) → ((n < k) × (c ≡ b + n))
+    ⊎ ((m : ℕ) × (n ≡ suc (k + m)) × (rest m ≡ Next t (Begin c)))
 begin_fork rest b zero zero t c e = absurd (cc)
 begin_fork rest b zero (suc n) t c e = inr (n, omega arith, e)
 begin_fork rest b (suc k) zero t c e = let h : b ≡ c = cc in inl (omega arith, omega arith)
-begin_fork rest b (suc k) (suc n) t c e = ⊎_elim (λ h. (let i = h.0 in let j = h.1 in inl (omega arith, omega arith))) (λ h. (let i = h.1 in inr (h.0, omega arith, h.2))) (begin_fork rest (suc b) k n t c e)
+begin_fork rest b (suc k) (suc n) t c e = ⊎_elim (λ h. (let i = h.0 in let j = h.1 in inl (omega arith, omega arith)))
+    (λ h. (let i = h.1 in inr (h.0, omega arith, h.2))) (begin_fork rest (suc b) k n t c e)
 
 begin_after : (is : List Item) (x : Ending) (n t c : ℕ) → after is x n ≡ Next t (Begin c) → Beginning (λ m. after is x m) n c
 begin_after [] x zero t c e = absurd (cc)
@@ -252,7 +254,8 @@ begin_after (forks s ts ∷ is) x zero t c e = absurd (cc)
 begin_after (forks s ts ∷ is) x (suc n) t c e = go (begin_after is x) (begin_fork (λ m. after is x m) 0 (length ts.tasks) n t c e)
   where
     go : ((m u d : ℕ) → after is x m ≡ Next u (Begin d) → Beginning (λ m. after is x m) m d)
-        → ((n < length ts.tasks) × (c ≡ 0 + n)) ⊎ ((m : ℕ) × (n ≡ suc (length ts.tasks + m)) × (after is x m ≡ Next t (Begin c))) → Beginning (λ m. after (forks s ts ∷ is) x m) (suc n) c
+        → ((n < length ts.tasks) × (c ≡ 0 + n)) ⊎ ((m : ℕ) × (n ≡ suc (length ts.tasks + m)) × (after is x m ≡ Next t (Begin c)))
+            → Beginning (λ m. after (forks s ts ∷ is) x m) (suc n) c
     go rec (inl h) = let i = h.0 in let j = h.1 in record { branches = ts; at = 0; turns = s; number = omega arith; there = omega arith; is = refl }
     go rec (inr h) =
         let r = rec h.0 t c h.2 in
@@ -286,7 +289,8 @@ items_of bodies t = (body_of (slice_get bodies t.body)).items
 abbrev ending_of : List Body → Task → Ending
 ending_of bodies t = (body_of (slice_get bodies t.body)).ending
 
-forked : (bodies : List Body) (fields : List Value) (rule : Rule) (p : Path) (t : Task) (got : List Answer) (ts : Branches) (at turns n : ℕ) → length got ≡ suc (at + n) → after (items_of bodies t) (ending_of bodies t) at ≡ Next turns (Fork ts)
+forked : (bodies : List Body) (fields : List Value) (rule : Rule) (p : Path) (t : Task) (got : List Answer) (ts : Branches) (at turns n : ℕ)
+    → length got ≡ suc (at + n) → after (items_of bodies t) (ending_of bodies t) at ≡ Next turns (Fork ts)
     → AfterFork (scripted bodies fields rule) p t got ts n
 forked bodies fields rule p t got ts at turns n num is = go (split_at got (suc at) (omega arith))
   where
@@ -299,7 +303,8 @@ forked bodies fields rule p t got ts at turns n num is = go (split_at got (suc a
             let j = ap length e in
             let k = length-append s.later_ones (a ∷ es) in
             let i : length es ≡ at = omega arith in
-            record { since = s.later_ones; answer = a; earlier = es; is = e; number = omega arith; forks = (turns, ap (λ q. after (items_of bodies t) (ending_of bodies t) q) i ∙ is) }
+            record { since = s.later_ones; answer = a; earlier = es; is = e; number = omega arith;
+                forks = (turns, ap (λ q. after (items_of bodies t) (ending_of bodies t) q) i ∙ is) }
 
 pub script_lively : (bodies : List Body) (fields : List Value) (rule : Rule) → Lively (scripted bodies fields rule)
 script_lively bodies fields rule = record {

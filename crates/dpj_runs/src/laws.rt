@@ -2,7 +2,7 @@
 
 ghost use Rattle.dpj_runs.specs.Laws.{BlocksByStanding, Respects, OrderOf, Present, Comparison, SameEvents, SameOutcome, NoneCostsMore};
 ghost use Rattle.dpj_runs.specs.Laws.{EachComesOut, OneOutcome, NothingAfter, SomeReady, OneNext, OneRun, RanIsLegal, EachRecorded};
-ghost use Rattle.dpj_runs.specs.Laws.{ScheduleIsBounded, FinishedIsBounded, SchedulesAgree, EachFinishes};
+ghost use Rattle.dpj_runs.specs.Laws.{ScheduleIsBounded, FinishedIsBounded, SchedulesAgree, EachFinishes, GreatestFirst};
 ghost use Rattle.dpj_runs.specs.Samples.{ComparisonApplies, ComparisonNeedsFree, RespectsNeedsPassing, ReadyApplies, ReadyNeedsKnown};
 ghost use Rattle.dpj_runs.specs.Samples.{BoundApplies, BoundNeedsPaced, DeterminismApplies};
 
@@ -11,11 +11,13 @@ pub fn law_blocks()
     ensures by_standing { BlocksByStanding }
 {}
 
-/// Which of two events comes first is the same in every legal run, but for those of different branches of one fork.
+/// Which of two events comes first is the same in every legal run, but for those of different branches of one fork. Where
+/// the ready task with the greatest number always goes on, the run stands in the order of elision.
 pub fn law_order()
     ensures respects { Respects }
     ensures order_of { OrderOf }
     ensures present { Present }
+    ensures greatest { GreatestFirst }
 {}
 
 /// Legal runs without unordered conflicts agree as far as both go.
