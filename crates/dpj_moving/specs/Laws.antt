@@ -9,12 +9,12 @@ use Rattle.dpj_runs.specs.Order.{Comes, Outcome}
 use Rattle.dpj_runs.specs.Meaning.{Disciplined, Known}
 use Rattle.dpj_runs.specs.Schedules.{Limits, Within}
 use Rattle.dpj_moving.specs.Gathered.{gather, AtEntries, Together}
-use Rattle.dpj_moving.specs.Moved.{move, BehindForks}
+use Rattle.dpj_moving.specs.Moved.{move, AfterForks}
 use Rattle.dpj_moving.specs.Guarded.{ConflictsGuarded, LevelsGuarded}
 
 -- G is a legal run of the program with the events of R: each task makes the same ones, with the same answers, so it is to do the
--- same next; any weight of events sums up to the same; it comes out as R does; and a further event that is over a limit behind
--- R is so behind G
+-- same next; any weight of events sums up to the same; it comes out as R does; and a further event that is over a limit after
+-- R is so after G
 pub record Rearranges (P : Program) (R G : Run) : Type 0 where
   pub legal : Legal P G
   pub events : (p : Path) → mine G p ≡ mine R p
@@ -45,7 +45,7 @@ StillOpen = (P : Program) → Disciplined P → (R : Run) (e : Event) → Legal 
 -- its deterministic constructs can be moved, where its levels are guarded
 pub record IsMoved (P : Program) (R : Run) : Type 0 where
   pub rearranges : Rearranges P R (move R)
-  pub behind_forks : BehindForks R (move R)
+  pub after_forks : AfterForks R (move R)
 
 abbrev pub Moving : Type 0
 Moving = (P : Program) → Disciplined P → Known P → (R : Run) → Legal P R → LevelsGuarded P.rule R → IsMoved P R

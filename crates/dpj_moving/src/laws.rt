@@ -10,7 +10,7 @@ pub fn law_gathering()
     ensures still_open { StillOpen }
 {}
 
-/// Deterministic constructs can be moved behind their forks, by the rule of the run or by a weaker one.
+/// Deterministic constructs can be moved after their forks, by the rule of the run or by a weaker one.
 pub fn law_moving()
     ensures moving { Moving }
     ensures by_weaker { MovingBy }

@@ -34,7 +34,7 @@ answers R = map (λ e. e.ans) R
 abbrev pub count : Run → Path → ℕ
 count R p = length (mine R p)
 
--- the task of this name has begun, and this is what it is to do: the root; or a branch of a fork behind its begin. The begin
+-- the task of this name has begun, and this is what it is to do: the root; or a branch of a fork after its begin. The begin
 -- of branch b of the fork numbered k is numbered k + 1 + b
 pub data Begun (P : Program) (R : Run) (p : Path) (t : Task) : Type 0 where
   root : p ≡ [] → t ≡ P.root → Begun P R p t

@@ -10,8 +10,8 @@ use Rattle.dpj_runs.specs.Objects.{Path}
 use Rattle.dpj_runs.specs.Runs.{Event, Faithful, Run, Upto, count, later, mine, now}
 use Rattle.dpj_runs.specs.Standing.{Valid, first_of}
 use Rattle.dpj_moving.specs.Guarded.{LevelsGuarded}
-use Rattle.dpj_moving.specs.Insertion.{All_of, Branch_of, Earlier, Spot, begins_branch, is_under, near, put_behind}
-use Rattle.dpj_moving.specs.Moved.{BehindForks, DetFork, InBranch, InConstruct, below, construct_spot, inner, is_det, its_begin, kind_after, move, spot_of}
+use Rattle.dpj_moving.specs.Insertion.{All_of, Branch_of, Earlier, Spot, begins_branch, is_under, near, put_after}
+use Rattle.dpj_moving.specs.Moved.{AfterForks, DetFork, InBranch, InConstruct, below, construct_spot, inner, is_det, its_begin, kind_after, move, spot_of}
 use Rattle.dpj_runs.proofs.Upto.{upto_trans, upto_length, upto_tail, upto_split, upto_none, Which, which, same_one, before, after}
 use Rattle.dpj_runs.proofs.Places.{snoc, not_below_self}
 use Rattle.dpj_runs.proofs.Mine.{path_cases, same_path_eq, mine_same, mine_at, mine_upto, Found, found, same_of, number_of}
@@ -111,7 +111,7 @@ there_lt xs n x e = ⊎_elim (λ l. l) (λ g. absurd (let z : None ≡ Some x = 
 second_of : (x y : ℕ × ℕ) (p q : Path) → x ∷ p ≡ y ∷ q → x.1 ≡ y.1
 second_of x y p q e = let u : x ≡ y = cc in ap (λ w. w.1) u
 
-module _ (P : Program) (D : Disciplined P) (R : Run) (e : Event) (l : Faithful P (e ∷ R)) (G0 : Run) (g : Rebuilt P R G0) (rec : BehindForks R G0) where
+module _ (P : Program) (D : Disciplined P) (R : Run) (e : Event) (l : Faithful P (e ∷ R)) (G0 : Run) (g : Rebuilt P R G0) (rec : AfterForks R G0) where
   lg : Faithful P G0
   lg = faithful_of P G0 g.valid
 
@@ -119,7 +119,7 @@ module _ (P : Program) (D : Disciplined P) (R : Run) (e : Event) (l : Faithful P
   o = group (construct_spot R e)
 
   abbrev H : Run
-  H = put_behind (construct_spot R e) e G0
+  H = put_after (construct_spot R e) e G0
 
   e_in : Under o e.path
   e_in = group_in R e
@@ -202,7 +202,7 @@ module _ (P : Program) (D : Disciplined P) (R : Run) (e : Event) (l : Faithful P
             let d = ap length (new.full e.path e_in ∙ g.same e.path) in
             inr (record { before = v.0; event = x; stands = v.1; path = refl; number = v.2 ∙ ap length a.mine_is; more = omega arith })
 
-    -- what is not behind the place is the event there, or before it
+    -- what is not after the place is the event there, or before it
     by_top : {x : Event} {X : Run} → (hx : Upto (x ∷ X) R) → Upto (x ∷ (there hx).before) Z → ((x ≡ top) × (count X x.path ≡ count zr.before top.path))
         ⊎ Earlier G0 x.path (count X x.path) top.path (count zr.before top.path)
     by_top {x} {X} hx h = go (upto_split h)
@@ -221,10 +221,10 @@ module _ (P : Program) (D : Disciplined P) (R : Run) (e : Event) (l : Faithful P
             let c = ap length a.mine_is in
             inr (record { before = new.rest; event = top; stands = new.stands; path = refl; number = sym (ap length zr.mine_is); more = omega arith })
 
-    -- and what comes before it is not behind the place
-    not_behind : {x : Event} {X : Run} → (hx : Upto (x ∷ X) R) → Earlier G0 x.path (count X x.path) top.path (count zr.before top.path)
+    -- and what comes before it is not after the place
+    not_after : {x : Event} {X : Run} → (hx : Upto (x ∷ X) R) → Earlier G0 x.path (count X x.path) top.path (count zr.before top.path)
         → Upto (x ∷ (there hx).before) Z
-    not_behind {x} {X} hx w = go (which (there hx).stands new.stands)
+    not_after {x} {X} hx w = go (which (there hx).stands new.stands)
       where
         go : Which x (there hx).before top new.rest → Upto (x ∷ (there hx).before) Z
         go (before h) = later h
@@ -265,7 +265,7 @@ module _ (P : Program) (D : Disciplined P) (R : Run) (e : Event) (l : Faithful P
   spot_deep p (Do o) u q i = inl i
   spot_deep p (End x) u q i = inl i
 
-  -- behind the fork, as long as not all branches have begun, stand begins
+  -- after the fork, as long as not all branches have begun, stand begins
   begun_so : {q : Path} {k : ℕ} (d : DetFork R q k) (b : ℕ) → b < length d.branches.tasks → count R q ≡ suc (k + b) → (y : Event) (Y : Run) → Upto (y ∷ Y) R
       → y.path ≡ q → k < count Y q → y.act ≡ Begin (count Y q - suc k)
   begun_so {q} {k} d b lt n y Y hy yq m =
@@ -471,10 +471,10 @@ module _ (P : Program) (D : Disciplined P) (R : Run) (e : Event) (l : Faithful P
       t = test x (subst (λ s. Under (group s) x.path) k (group_in X x))
 
   -- this event in a construct, and another that is not in it
-  behind_in : {q : Path} {k : ℕ} (d : DetFork R q k) (Y : Run) (y : Event) → Upto (y ∷ Y) R
+  after_in : {q : Path} {k : ℕ} (d : DetFork R q k) (Y : Run) (y : Event) → Upto (y ∷ Y) R
       → InConstruct (length d.branches.tasks) q k e.path (count R e.path) → (InConstruct (length d.branches.tasks) q k y.path (count Y y.path) → ⊥)
       → Earlier H q k y.path (count Y y.path) → Earlier H e.path (count R e.path) y.path (count Y y.path)
-  behind_in {q} {k} d Y y hy ce ny w = go (witness hy)
+  after_in {q} {k} d Y y hy ce ny w = go (witness hy)
     where
       fy : Earlier G0 q k y.path (count Y y.path)
       fy = of_fork d (back d.stands hy (from_fork d w))
@@ -492,7 +492,7 @@ module _ (P : Program) (D : Disciplined P) (R : Run) (e : Event) (l : Faithful P
               → ((y ≡ t) × (count Y y.path ≡ count r.before t.path)) ⊎ Earlier G0 y.path (count Y y.path) t.path (count r.before t.path) → ⊥
           hit (inr c) (inl m) = ny (subst (λ z. InConstruct (length d.branches.tasks) q k z.path (count Y y.path)) (sym m.0)
               (subst (λ i. InConstruct (length d.branches.tasks) q k t.path i) (sym m.1) c))
-          hit (inr c) (inr m) = not_back G0 y.path t.path (count Y y.path) (count r.before t.path) m (rec.behind_fork q k d r.before Y t y r.stands hy c ny fy)
+          hit (inr c) (inr m) = not_back G0 y.path t.path (count Y y.path) (count r.before t.path) m (rec.after_its_fork q k d r.before Y t y r.stands hy c ny fy)
           hit (inl f) (inl m) =
               let a : y.path ≡ q = ap (λ z. z.path) m.0 ∙ f.0 in
               let b : count Y y.path ≡ k = m.1 ∙ ap (λ z. count r.before z) f.0 ∙ f.1 in
@@ -504,10 +504,10 @@ module _ (P : Program) (D : Disciplined P) (R : Run) (e : Event) (l : Faithful P
               not_back G0 y.path q (count Y y.path) k a fy
 
   -- this event, that is not in a construct, and one that is
-  behind_out : {q : Path} {k : ℕ} (d : DetFork R q k) (X : Run) (x : Event) → Upto (x ∷ X) R
+  after_out : {q : Path} {k : ℕ} (d : DetFork R q k) (X : Run) (x : Event) → Upto (x ∷ X) R
       → InConstruct (length d.branches.tasks) q k x.path (count X x.path) → (InConstruct (length d.branches.tasks) q k e.path (count R e.path) → ⊥)
       → Earlier H q k e.path (count R e.path) → Earlier H x.path (count X x.path) e.path (count R e.path)
-  behind_out {q} {k} d X x hx cx ne w = go (witness hx)
+  after_out {q} {k} d X x hx cx ne w = go (witness hx)
     where
       m : ℕ
       m = length d.branches.tasks
@@ -622,7 +622,7 @@ module _ (P : Program) (D : Disciplined P) (R : Run) (e : Event) (l : Faithful P
                   by_case : Earlier G0 d.event.path (count d.before d.event.path) t.path (count r.before t.path)
                       → InConstruct m q k t.path (count r.before t.path) ⊎ (InConstruct m q k t.path (count r.before t.path) → ⊥) → ⊥
                   by_case c (inl i) = top_in_it i
-                  by_case c (inr i) = not_sooner (not_behind v.0 v.1 v.2 v.3 hx (rec.behind_fork q k d X r.before x t hx r.stands cx i (of_fork d c)))
+                  by_case c (inr i) = not_sooner (not_after v.0 v.1 v.2 v.3 hx (rec.after_its_fork q k d X r.before x t hx r.stands cx i (of_fork d c)))
 
   -- this event, and one in an earlier branch of a construct
   turn_later : {q : Path} {k : ℕ} (a b : ℕ) (d : DetFork R q k) (X : Run) (x : Event) → Upto (x ∷ X) R → a < b → b < length d.branches.tasks
@@ -638,7 +638,7 @@ module _ (P : Program) (D : Disciplined P) (R : Run) (e : Event) (l : Faithful P
       go v =
           let it = top_in_branch v.0 v.1 v.2 v.3 b d xs p in
           let r = zr v.0 v.1 v.2 v.3 in
-          sooner v.0 v.1 v.2 v.3 hx (not_behind v.0 v.1 v.2 v.3 hx (rec.in_turn q k a b d X r.before x (top v.0 v.1 v.2 v.3) hx r.stands ab lt ix it))
+          sooner v.0 v.1 v.2 v.3 hx (not_after v.0 v.1 v.2 v.3 hx (rec.in_turn q k a b d X r.before x (top v.0 v.1 v.2 v.3) hx r.stands ab lt ix it))
 
   turn_sooner : {q : Path} {k : ℕ} (a b : ℕ) (d : DetFork R q k) (Y : Run) (y : Event) → Upto (y ∷ Y) R → a < b → b < length d.branches.tasks
       → InBranch q k a e.path (count R e.path) → InBranch q k b y.path (count Y y.path) → Earlier H e.path (count R e.path) y.path (count Y y.path)
@@ -721,10 +721,10 @@ module _ (P : Program) (D : Disciplined P) (R : Run) (e : Event) (l : Faithful P
           (subst (λ Z. Earlier H x.path (count X x.path) e.path (count Z e.path)) (sym c.1)
           (kept_here X x (subst (λ Z. Upto (x ∷ X) Z) c.1 hx) (k ∙ ap (λ z. construct_spot Y z) c.0 ∙ ap (λ Z. construct_spot Z e) c.1)))
 
-  step_behind : (q : Path) (k : ℕ) (d : DetFork (e ∷ R) q k) (X W : Run) (x z : Event) → Upto (x ∷ X) (e ∷ R) → Upto (z ∷ W) (e ∷ R)
+  step_after : (q : Path) (k : ℕ) (d : DetFork (e ∷ R) q k) (X W : Run) (x z : Event) → Upto (x ∷ X) (e ∷ R) → Upto (z ∷ W) (e ∷ R)
       → InConstruct (length d.branches.tasks) q k x.path (count X x.path) → (InConstruct (length d.branches.tasks) q k z.path (count W z.path) → ⊥)
       → Earlier H q k z.path (count W z.path) → Earlier H x.path (count X x.path) z.path (count W z.path)
-  step_behind q k d X W x z hx hz cx nz w = go (upto_split hx) (upto_split hz)
+  step_after q k d X W x z hx hz cx nz w = go (upto_split hx) (upto_split hz)
     where
       d1 : DetFork R q k
       d1 = (let c = cx in old d (fork_first d c.branch X x hx c.is))
@@ -736,18 +736,18 @@ module _ (P : Program) (D : Disciplined P) (R : Run) (e : Event) (l : Faithful P
       back_in hy v = of_fork d1 (back d1.stands hy (from_fork d1 v))
 
       go : ((x ≡ e) × (X ≡ R)) ⊎ Upto (x ∷ X) R → ((z ≡ e) × (W ≡ R)) ⊎ Upto (z ∷ W) R → Earlier H x.path (count X x.path) z.path (count W z.path)
-      go (inr h) (inr i) = keeps (rec.behind_fork q k d1 X W x z h i cx nz (back_in i w))
+      go (inr h) (inr i) = keeps (rec.after_its_fork q k d1 X W x z h i cx nz (back_in i w))
       go (inl h) (inl i) = absurd (nz (subst (λ y. InConstruct m q k y.path (count W y.path)) (h.0 ∙ sym i.0)
           (subst (λ Y. InConstruct m q k x.path (count Y x.path)) (h.1 ∙ sym i.1) cx)))
       go (inl h) (inr i) =
           subst (λ y. Earlier H y.path (count X y.path) z.path (count W z.path)) (sym h.0)
           (subst (λ Y. Earlier H e.path (count Y e.path) z.path (count W z.path)) (sym h.1)
-          (behind_in d1 W z i (subst (λ Y. InConstruct m q k e.path (count Y e.path)) h.1
+          (after_in d1 W z i (subst (λ Y. InConstruct m q k e.path (count Y e.path)) h.1
           (subst (λ y. InConstruct m q k y.path (count X y.path)) h.0 cx)) nz w))
       go (inr h) (inl i) =
           subst (λ y. Earlier H x.path (count X x.path) y.path (count W y.path)) (sym i.0)
           (subst (λ Y. Earlier H x.path (count X x.path) e.path (count Y e.path)) (sym i.1)
-          (behind_out d1 X x h cx (λ c. nz (subst (λ y. InConstruct m q k y.path (count W y.path)) (sym i.0)
+          (after_out d1 X x h cx (λ c. nz (subst (λ y. InConstruct m q k y.path (count W y.path)) (sym i.0)
           (subst (λ Y. InConstruct m q k e.path (count Y e.path)) (sym i.1) c)))
           (subst (λ Y. Earlier H q k e.path (count Y e.path)) i.1 (subst (λ y. Earlier H q k y.path (count W y.path)) i.0 w))))
 
@@ -788,17 +788,17 @@ module _ (P : Program) (D : Disciplined P) (R : Run) (e : Event) (l : Faithful P
               by_split (lies_in h) = not_below_self q h.below (k, a) h.is
               by_split (lies_over ws z) = at ws z
 
-  step_in_place : BehindForks (e ∷ R) H
-  step_in_place = record { kept = step_kept; behind_fork = step_behind; in_turn = step_turn }
+  step_in_place : AfterForks (e ∷ R) H
+  step_in_place = record { kept = step_kept; after_its_fork = step_after; in_turn = step_turn }
 
 module _ (P : Program) (D : Disciplined P) (known : Known P) where
-  pub behind_forks : (R : Run) → Valid P R → LevelsGuarded P.rule R → BehindForks R (move R)
-  behind_forks [] l f = record {
+  pub after_forks : (R : Run) → Valid P R → LevelsGuarded P.rule R → AfterForks R (move R)
+  after_forks [] l f = record {
     kept = λ X Y x y hx hy k. absurd (upto_none hy);
-    behind_fork = λ q k d X Z x z hx. absurd (upto_none hx);
+    after_its_fork = λ q k d X Z x z hx. absurd (upto_none hx);
     in_turn = λ q k a b d X Y x y hx. absurd (upto_none hx);
   }
-  behind_forks (e ∷ R) l f =
+  after_forks (e ∷ R) l f =
       let less = levels_upto (later now) f in
-      subst (BehindForks (e ∷ R)) (sym (rearranged_step construct_spot e R))
-      (step_in_place P D R e (faithful_of P (e ∷ R) l) (move R) (moved P D known R l.1 less) (behind_forks R l.1 less))
+      subst (AfterForks (e ∷ R)) (sym (rearranged_step construct_spot e R))
+      (step_in_place P D R e (faithful_of P (e ∷ R) l) (move R) (moved P D known R l.1 less) (after_forks R l.1 less))
