@@ -1,0 +1,4 @@
+pub mod Joining
+pub mod Maps
+pub mod Scopes
+pub mod Numbers
