@@ -2,3 +2,4 @@ pub mod Joining
 pub mod Maps
 pub mod Scopes
 pub mod Numbers
+pub mod Ranges

@@ -11,7 +11,7 @@ use Rattle.std.specs.declared.alloc.Global.{Global}
 use Rattle.dpj_tasks.specs.declared.task.Task.{Task}
 use Rattle.dpj_tasks.specs.Tree.{Tasks, OfTask, changed, changed_to}
 
-abbrev Map : Type 0
+abbrev pub Map : Type 0
 Map = BTreeMap ℕ Task Global
 
 abbrev pub seen : Map → Tasks

@@ -1,9 +1,9 @@
-ghost use Rattle.std.specs.Prelude.{◌≡◌, ◌<◌, IsTrue, IfOk, OnOk, OnErr, Some};
+ghost use Rattle.std.specs.Prelude.{◌≡◌, ◌<◌, IsTrue, IfOk, OnOk, OnErr, IfSome, IfNone, MatchOption, Some, None, ℕ};
 ghost use Rattle.std.specs.Option.{option_copied};
 ghost use Rattle.std.specs.FinMap.{empty, get, insert, remove};
 ghost use Rattle.dpj_tasks.specs.Join.{JoinsTo};
 ghost use Rattle.dpj_tasks.specs.Scope.{with_branch, with_end};
-ghost use Rattle.dpj_tasks.specs.Tree.{CanBegin, CanJoin, changed, forked_task, with_scope, joined_task, ends_in};
+ghost use Rattle.dpj_tasks.specs.Tree.{CanBegin, CanJoin, ready, IsLastBelow, IsGreatestReady, NoneReady, changed, forked_task, with_scope, joined_task, ends_in};
 
 use crate::end::{Joined, TaskEnd};
 use crate::scope::Scope;
@@ -47,6 +47,30 @@ impl Live {
         ensures { option_copied result ≡ get self.now number }
     {
         self.tasks.get(&number)
+    }
+
+    /// The task with the greatest number below a bound, with its number.
+    fn last_below(&self, bound: u32) -> Option<(u32, bool)>
+        ensures last { IfSome result (λ found. IsLastBelow self.now bound found.0) }
+        ensures ready { IfSome result (λ found. found.1 ≡ ready (get self.now found.0)) }
+        ensures absent { IfNone result ((q : ℕ) → q < bound → get self.now q ≡ None) }
+    {
+        let (number, task) = self.tasks.range(..bound).next_back()?;
+        Some((*number, task.state.is_ready()))
+    }
+
+    /// The greatest number below a bound of a task that can go on.
+    pub fn ready_below(&self, bound: u32) -> Option<u32>
+        ensures { MatchOption result (NoneReady self.now bound) (IsGreatestReady self.now bound) }
+    {
+        let mut rest = bound;
+        while let Some((number, is_ready)) = self.last_below(rest) {
+            if is_ready {
+                return Some(number);
+            }
+            rest = number;
+        }
+        None
     }
 
     pub fn insert(&mut self, number: u32, task: Task) -> Result<(), NoMemory>

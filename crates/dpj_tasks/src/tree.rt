@@ -34,7 +34,7 @@ impl Model for TaskTree {
 
 impl TaskTree {
     ghost use Rattle.dpj_tasks.specs.Join.{JoinsTo};
-    ghost use Rattle.dpj_tasks.specs.Tree.{only_root, task_at, Runs, CanBegin, CanJoin, is_ready, forked, with_task, without_task, joined, ends_in, IsPath, IsGreatestReady};
+    ghost use Rattle.dpj_tasks.specs.Tree.{only_root, task_at, Runs, CanBegin, CanJoin, is_ready, forked, with_task, without_task, joined, ends_in, IsPath, IsGreatestReady, NoneReady};
 
     /// The root alone, which has begun.
     pub fn open(alloc: Global) -> Result<TaskTree, NoMemory>
@@ -80,6 +80,14 @@ impl TaskTree {
             None => false,
             Some(found) => found.state.is_ready(),
         }
+    }
+
+    /// The greatest number below a bound of a task that can go on. With `begun` for a bound that is the task that the
+    /// order of the elision has next, and a caller for whom a task has to wait takes the next below it.
+    pub fn ready_below(&self, bound: u32) -> Option<u32>
+        ensures { MatchOption result (NoneReady self.now.tasks bound) (IsGreatestReady self.now.tasks bound) }
+    {
+        self.tasks.ready_below(bound)
     }
 
     /// Opens a scope of so many branches, of which none has begun. It takes no memory.
