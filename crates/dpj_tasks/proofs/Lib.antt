@@ -2,4 +2,5 @@ pub mod Joining
 pub mod Maps
 pub mod Scopes
 pub mod Numbers
+pub mod Paths
 pub mod Ranges

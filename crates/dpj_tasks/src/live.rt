@@ -3,11 +3,11 @@ ghost use Rattle.std.specs.Option.{option_copied};
 ghost use Rattle.std.specs.FinMap.{empty, get, insert, remove};
 ghost use Rattle.dpj_tasks.specs.Join.{JoinsTo};
 ghost use Rattle.dpj_tasks.specs.Scope.{with_branch, with_end};
-ghost use Rattle.dpj_tasks.specs.Tree.{CanBegin, CanJoin, ready, IsLastBelow, IsGreatestReady, NoneReady, changed, forked_task, with_scope, joined_task, ends_in};
+ghost use Rattle.dpj_tasks.specs.Tree.{CanBegin, CanJoin, origin_of, ready, IsLastBelow, IsGreatestReady, NoneReady, changed, forked_task, with_scope, joined_task, ends_in};
 
 use crate::end::{Joined, TaskEnd};
 use crate::scope::Scope;
-use crate::task::{State, Task};
+use crate::task::{Origin, State, Task};
 use dpj_base::NoMemory;
 use std::alloc::Global;
 use std::collections::BTreeMap;
@@ -47,6 +47,16 @@ impl Live {
         ensures { option_copied result ≡ get self.now number }
     {
         self.tasks.get(&number)
+    }
+
+    /// Where a live task came from: None for the root.
+    pub fn origin(&self, number: u32) -> Option<Origin>
+        ensures { result ≡ origin_of (get self.now number) }
+    {
+        match self.get(number) {
+            None => None,
+            Some(task) => task.origin,
+        }
     }
 
     /// The task with the greatest number below a bound, with its number.

@@ -142,6 +142,22 @@ impl TaskTree {
         let joined = self.tasks.join(task)?;
         Ok(joined)
     }
+
+    /// The path of a live task: the steps from the root to it.
+    pub fn path(&self, task: u32) -> Result<Path, NoMemory>
+        ensures { IfOk result (λ path. IsPath self.now.tasks task path.steps) }
+    {
+        let mut upwards = Vec::new(self.alloc);
+        let mut at = task;
+        while let Some(origin) = self.tasks.origin(at) {
+            upwards.push(origin.step)?;
+            at = origin.parent;
+        }
+        upwards.reverse();
+        Ok(Path {
+            steps: Items::from_vec(upwards),
+        })
+    }
 }
 
 fn fresh(origin: Option<Origin>) -> Task
