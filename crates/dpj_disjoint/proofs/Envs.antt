@@ -1,47 +1,52 @@
 -- Paths that are apart stay apart with the environment put in, and match no common region.
-use Rattle.std.proofs.Common.{◌≡◌, ◌≢◌, ◌+◌, ℕ, ℤ, true, false, not, ◌&&◌, ◌||◌, cond, eqb, ltb, List, [], ◌∷◌, ◌++◌, length, reverse, map, refl, sym, ap, ◌∙◌, subst, inl, inr, ⊎_elim, arith}
+use Rattle.std.proofs.Common.{◌≡◌, ◌≢◌, ◌+◌, ℕ, ℤ, true, false, not, ◌&&◌, ◌||◌, cond, eqb, List, [], ◌∷◌, ◌++◌, length, reverse, map, refl, sym, ap, ◌∙◌}
+use Rattle.std.proofs.Common.{subst, inl, inr, ⊎_elim, arith}
 use Rattle.std.specs.Prelude.{All}
 use Rattle.std.specs.Ordering.{int_eq}
-use Rattle.std.proofs.lemmas.Bool.{and_parts, and_from, or_cases, or_left, or_right, or_parts, false≢true, eqb-true, eq-eqb, ne_eqb, ltb-true, not-true, false_from_ne_true}
+use Rattle.std.proofs.lemmas.Bool.{and_parts, and_from, or_cases, or_left, or_right, or_parts, false≢true, eqb-true, eq-eqb, ne_eqb, not-true}
+use Rattle.std.proofs.lemmas.Bool.{false_from_ne_true}
 use Rattle.std.proofs.lemmas.Bool.Decides.{Decides-int_eq}
 use Rattle.std.proofs.lemmas.List.{map-append, reverse-append, length-append, length-map}
 use Rattle.std.proofs.lemmas.List.Elements.{All-head, All-tail}
 use Rattle.std.proofs.lemmas.List.Sums.{sum_by-append}
 use Rattle.dpj_base.specs.declared.elems.Elem.{Elem}
-use Rattle.dpj_base.specs.declared.elems.Elem.TheVariants.{Name, Lit, Var, Any, Star, Local}
+use Rattle.dpj_base.specs.declared.elems.Elem.TheVariants.{Name, At, Any, Star, Local}
+use Rattle.dpj_base.specs.declared.elems.Index.{Index}
+use Rattle.dpj_base.specs.declared.elems.Index.TheVariants.{Literal, Variable, Renamed, Own}
 use Rattle.dpj_base.specs.declared.region.Head.{Head}
 use Rattle.dpj_base.specs.declared.region.Head.TheVariants.{Root, Param}
 use Rattle.dpj_base.specs.declared.region.Rpl.{Rpl}
 use Rattle.dpj_base.specs.declared.effect.Constraint.{Constraint}
-use Rattle.dpj_base.specs.Regions.{is_star, is_local, is_index, same_head, is_root, elem_within, begins_with_star, heads_within, within}
-use Rattle.dpj_base.specs.Apart.{is_copy, distinct, apart_front, solid, shorter, apart_as_shorter, apart_by, apart_by_some, apart}
-use Rattle.dpj_base.specs.Matching.{is_plain, all_plain, Env, IsEnv, Holds, put_elem, put_in, head_region, Fits, FitsAll, Matches, MatchNoCommon}
-use Rattle.dpj_regions.proofs.Inclusion.{Covers, none, one, stop, skip, Covers-from, Covers-to, star_is, elem_within-cases, elem_within-same, elem_within-refl, elem_within-any}
+use Rattle.dpj_base.specs.Regions.{is_star, is_local, is_index, same_head, is_root, elem_within, begins_with_star, heads_within, within, argument, substituted}
+use Rattle.dpj_base.specs.Apart.{distinct_index, distinct, apart_front, solid, shorter, apart_as_shorter, apart_by, apart_by_some, apart}
+use Rattle.dpj_base.specs.Matching.{is_plain, all_plain, Env, IsEnv, Holds, number_of, put_elem, put_in, head_region, Fits, FitsAll, Matches, MatchNoCommon}
+use Rattle.dpj_base.specs.Matching.{with_regions}
+use Rattle.dpj_regions.proofs.Inclusion.{Covers, none, one, stop, skip, Covers-from, Covers-to, star_is, elem_within-cases, elem_within-same, elem_within-refl}
+use Rattle.dpj_regions.proofs.Inclusion.{elem_within-any}
 use Rattle.dpj_disjoint.proofs.Lists.{front-step, rev-cons, solid-cons, solid-one, solid-length, shorter-parts, shorter-from}
-use Rattle.dpj_disjoint.proofs.Paths.{same_head-is, same_head-refl, rule_of, by_rule, apart-within}
+use Rattle.dpj_regions.proofs.Putting.{substitution_puts_in}
+use Rattle.dpj_regions.proofs.Same.{same_head-is, same_head-refl}
+use Rattle.dpj_disjoint.proofs.Paths.{rule_of, by_rule, apart-within}
 
 -- elements with the environment put in
 
 put_elem-star : (env : Env) (x : Elem) → is_star (put_elem env x) ≡ is_star x
 put_elem-star env (Name n) = refl
-put_elem-star env (Lit k) = refl
-put_elem-star env (Var v) = refl
+put_elem-star env (At i) = refl
 put_elem-star env Any = refl
 put_elem-star env Star = refl
 put_elem-star env (Local a b) = refl
 
 put_elem-local : (env : Env) (x : Elem) → is_local (put_elem env x) ≡ is_local x
 put_elem-local env (Name n) = refl
-put_elem-local env (Lit k) = refl
-put_elem-local env (Var v) = refl
+put_elem-local env (At i) = refl
 put_elem-local env Any = refl
 put_elem-local env Star = refl
 put_elem-local env (Local a b) = refl
 
 put_elem-index : (env : Env) (x : Elem) → is_index (put_elem env x) ≡ is_index x
 put_elem-index env (Name n) = refl
-put_elem-index env (Lit k) = refl
-put_elem-index env (Var v) = refl
+put_elem-index env (At i) = refl
 put_elem-index env Any = refl
 put_elem-index env Star = refl
 put_elem-index env (Local a b) = refl
@@ -61,12 +66,12 @@ Covers-put env (skip {x = x} l r) = skip (put_elem-local env x ∙ l) (Covers-pu
 
 plain-local : (x : Elem) → is_plain x ≡ true → is_local x ≡ false
 plain-local (Name n) h = refl
-plain-local (Lit k) h = refl
+plain-local (At (Literal k)) h = refl
 plain-local x h = absurd (false≢true h)
 
 plain-star : (x : Elem) → is_plain x ≡ true → is_star x ≡ false
 plain-star (Name n) h = refl
-plain-star (Lit k) h = refl
+plain-star (At (Literal k)) h = refl
 plain-star x h = absurd (false≢true h)
 
 -- `*` takes up plain elements in front
@@ -93,7 +98,8 @@ module _ (given : List Constraint) (env : Env) (v : IsEnv given env) where
       subst (λ z. Covers (map (put_elem env) z) (r ++ map (put_elem env) a)) (sym c.1)
       (skip_plain r _ _ h (Covers-put env (subst (λ z. Covers z a) c.1 d)))
 
-  put_lists : (h k : Head) (b a : List Elem) → heads_within h k b ≡ true → Covers b a → Covers (head_region env k ++ map (put_elem env) b) (head_region env h ++ map (put_elem env) a)
+  put_lists : (h k : Head) (b a : List Elem) → heads_within h k b ≡ true → Covers b a →
+      Covers (head_region env k ++ map (put_elem env) b) (head_region env h ++ map (put_elem env) a)
   put_lists Root Root b a e d = Covers-put env d
   put_lists (Param p) (Param q) b a e d =
       subst (λ z. Covers (env.region z ++ map (put_elem env) b) (env.region p ++ map (put_elem env) a)) (eqb-true p q e)
@@ -108,13 +114,14 @@ module _ (given : List Constraint) (env : Env) (v : IsEnv given env) where
       let p = and_parts (heads_within a.head b.head b.elems) _ w in
       Covers-to (put_lists a.head b.head b.elems a.elems p.0 (Covers-from b.elems a.elems p.1))
 
-  is_copy-apart : (x y : ℕ) → is_copy x y ≡ true → env.index x ≢ env.index y
-  is_copy-apart x y h =
-      let p = and_parts (ltb x 2147483648) _ h in
-      λ e. v.copies x (ltb-true x 2147483648 p.0) (e ∙ ap env.index (eqb-true y (x + 2147483648) p.1))
+  number-apart : (j k : ℤ) → j ≢ k → not (int_eq j k) ≡ true
+  number-apart j k n = ap not (false_from_ne_true _ (λ t. n ((Decides-int_eq j k).0 t)))
 
-  int-apart : (x y : ℕ) → env.index x ≢ env.index y → not (int_eq (env.index x) (env.index y)) ≡ true
-  int-apart x y n = ap not (false_from_ne_true _ (λ t. n ((Decides-int_eq (env.index x) (env.index y)).0 t)))
+  put_index-distinct : (x y : Index) → distinct_index x y ≡ true → not (int_eq (number_of env x) (number_of env y)) ≡ true
+  put_index-distinct (Literal j) (Literal k) h = h
+  put_index-distinct (Variable x) (Renamed y) h = number-apart _ _ (λ e. v.copies x (e ∙ ap env.renamed (sym (eqb-true x y h))))
+  put_index-distinct (Renamed x) (Variable y) h = number-apart _ _ (λ e. v.copies y (sym e ∙ ap env.renamed (eqb-true x y h)))
+  put_index-distinct x y h = absurd (false≢true h)
 
   made-apart : (a b c d : ℕ) → not (eqb a c && eqb b d) ≡ true → not (eqb (env.made a b).0 (env.made c d).0 && eqb (env.made a b).1 (env.made c d).1) ≡ true
   made-apart a b c d h =
@@ -130,32 +137,22 @@ module _ (given : List Constraint) (env : Env) (v : IsEnv given env) where
   put_elem-distinct : (x y : Elem) → distinct x y ≡ true → distinct (put_elem env x) (put_elem env y) ≡ true
   put_elem-distinct (Name m) (Name n) h = h
   put_elem-distinct (Name m) (Local c d) h = refl
-  put_elem-distinct (Name m) (Lit k) h = refl
-  put_elem-distinct (Name m) (Var w) h = refl
+  put_elem-distinct (Name m) (At i) h = refl
   put_elem-distinct (Name m) Any h = refl
   put_elem-distinct (Name m) Star h = h
   put_elem-distinct (Local a b) (Local c d) h = made-apart a b c d h
   put_elem-distinct (Local a b) (Name n) h = refl
-  put_elem-distinct (Local a b) (Lit k) h = refl
-  put_elem-distinct (Local a b) (Var w) h = refl
+  put_elem-distinct (Local a b) (At i) h = refl
   put_elem-distinct (Local a b) Any h = refl
   put_elem-distinct (Local a b) Star h = h
-  put_elem-distinct (Lit j) (Lit k) h = h
-  put_elem-distinct (Var x) (Var y) h =
-      ⊎_elim
-      (λ e. int-apart x y (is_copy-apart x y e))
-      (λ e. int-apart x y (λ s. is_copy-apart y x e (sym s)))
-      (or_cases (is_copy x y) _ h)
-  put_elem-distinct (Lit j) (Name n) h = refl
-  put_elem-distinct (Lit j) (Local c d) h = refl
-  put_elem-distinct (Var x) (Name n) h = refl
-  put_elem-distinct (Var x) (Local c d) h = refl
+  put_elem-distinct (At i) (At j) h = put_index-distinct i j h
+  put_elem-distinct (At i) (Name n) h = refl
+  put_elem-distinct (At i) (Local c d) h = refl
   put_elem-distinct Any (Name n) h = refl
   put_elem-distinct Any (Local c d) h = refl
   put_elem-distinct Star (Name n) h = absurd (false≢true h)
   put_elem-distinct Star (Local c d) h = absurd (false≢true h)
-  put_elem-distinct Star (Lit k) h = absurd (false≢true h)
-  put_elem-distinct Star (Var w) h = absurd (false≢true h)
+  put_elem-distinct Star (At i) h = absurd (false≢true h)
   put_elem-distinct Star Any h = absurd (false≢true h)
   put_elem-distinct Star Star h = absurd (false≢true h)
   put_elem-distinct x y h = absurd (false≢true h)
@@ -244,28 +241,28 @@ module _ (given : List Constraint) (env : Env) (v : IsEnv given env) where
       let lm = length-map a (put_elem env) in
       shorter-from (map (put_elem env) a) (r ++ map (put_elem env) b) (omega arith) (omega arith)
 
-  put_shorter : (h k : Head) (a b : List Elem) → (same_head h k || is_root h) ≡ true → shorter a b ≡ true → shorter (head_region env h ++ map (put_elem env) a) (head_region env k ++ map (put_elem env) b) ≡ true
+  put_shorter : (h k : Head) (a b : List Elem) → (same_head h k || is_root h) ≡ true → shorter a b ≡ true →
+      shorter (head_region env h ++ map (put_elem env) a) (head_region env k ++ map (put_elem env) b) ≡ true
   put_shorter Root k a b e s = shorter_root (head_region env k) a b s
   put_shorter (Param p) Root a b e s = absurd (false≢true e)
   put_shorter (Param p) (Param q) a b e s =
       let n : eqb p q ≡ true = ⊎_elim (λ t. t) (λ t. absurd (false≢true t)) (or_cases (eqb p q) false e) in
       subst (λ z. shorter (env.region p ++ map (put_elem env) a) (env.region z ++ map (put_elem env) b) ≡ true) (eqb-true p q n) (shorter_behind (env.region p) a b (v.regions p) s)
 
-  put_from_left : (h k : Head) (a b : List Elem) → same_head h k ≡ true → apart_front a b ≡ true → apart_front (head_region env h ++ map (put_elem env) a) (head_region env k ++ map (put_elem env) b) ≡ true
+  put_from_left : (h k : Head) (a b : List Elem) → same_head h k ≡ true → apart_front a b ≡ true →
+      apart_front (head_region env h ++ map (put_elem env) a) (head_region env k ++ map (put_elem env) b) ≡ true
   put_from_left h k a b e f =
       subst (λ z. apart_front (head_region env h ++ map (put_elem env) a) (head_region env z ++ map (put_elem env) b) ≡ true) (same_head-is h k e)
       (behind_front (head_region env h) _ _ (region-plain h) (put_front a b f))
 
-  put_from_right : (r q a b : List Elem) → apart_front (reverse a) (reverse b) ≡ true → apart_front (reverse (r ++ map (put_elem env) a)) (reverse (q ++ map (put_elem env) b)) ≡ true
+  put_from_right : (r q a b : List Elem) → apart_front (reverse a) (reverse b) ≡ true →
+      apart_front (reverse (r ++ map (put_elem env) a)) (reverse (q ++ map (put_elem env) b)) ≡ true
   put_from_right r q a b f =
       ap (λ z. apart_front z (reverse (q ++ map (put_elem env) b))) (reverse_behind r a)
       ∙ ap (λ z. apart_front (map (put_elem env) (reverse a) ++ reverse r) z) (reverse_behind q b)
       ∙ front_before (map (put_elem env) (reverse a)) (map (put_elem env) (reverse b)) (reverse r) (reverse q) (put_front (reverse a) (reverse b) f)
 
 -- being apart is symmetric
-
-is_copy_swap : (x y : ℕ) → (is_copy x y || is_copy y x) ≡ true → (is_copy y x || is_copy x y) ≡ true
-is_copy_swap x y h = ⊎_elim (λ e. or_right (is_copy y x) _ e) (λ e. or_left _ _ e) (or_cases (is_copy x y) _ h)
 
 not_eqb_swap : (x y : ℕ) → not (eqb x y) ≡ true → not (eqb y x) ≡ true
 not_eqb_swap x y h = ap not (ne_eqb y x (λ e. false≢true (sym (not-true _ h) ∙ eq-eqb x y (sym e))))
@@ -279,31 +276,31 @@ not_pair_swap a b c d h =
     let p = and_parts (eqb c a) _ t in
     false≢true (sym (not-true _ h) ∙ and_from _ _ (eq-eqb a c (sym (eqb-true c a p.0))) (eq-eqb b d (sym (eqb-true d b p.1))))))
 
+index_swap : (x y : Index) → distinct_index x y ≡ true → distinct_index y x ≡ true
+index_swap (Literal j) (Literal k) h = not_int_swap j k h
+index_swap (Variable x) (Renamed y) h = eq-eqb y x (sym (eqb-true x y h))
+index_swap (Renamed x) (Variable y) h = eq-eqb y x (sym (eqb-true x y h))
+index_swap x y h = absurd (false≢true h)
+
 distinct_swap : (x y : Elem) → distinct x y ≡ true → distinct y x ≡ true
 distinct_swap (Name m) (Name n) h = not_eqb_swap m n h
 distinct_swap (Name m) (Local c d) h = refl
-distinct_swap (Name m) (Lit k) h = refl
-distinct_swap (Name m) (Var w) h = refl
+distinct_swap (Name m) (At i) h = refl
 distinct_swap (Name m) Any h = refl
 distinct_swap (Name m) Star h = absurd (false≢true h)
 distinct_swap (Local a b) (Local c d) h = not_pair_swap a b c d h
 distinct_swap (Local a b) (Name n) h = refl
-distinct_swap (Local a b) (Lit k) h = refl
-distinct_swap (Local a b) (Var w) h = refl
+distinct_swap (Local a b) (At i) h = refl
 distinct_swap (Local a b) Any h = refl
 distinct_swap (Local a b) Star h = absurd (false≢true h)
-distinct_swap (Lit j) (Lit k) h = not_int_swap j k h
-distinct_swap (Var x) (Var y) h = is_copy_swap x y h
-distinct_swap (Lit j) (Name n) h = refl
-distinct_swap (Lit j) (Local c d) h = refl
-distinct_swap (Var x) (Name n) h = refl
-distinct_swap (Var x) (Local c d) h = refl
+distinct_swap (At i) (At j) h = index_swap i j h
+distinct_swap (At i) (Name n) h = refl
+distinct_swap (At i) (Local c d) h = refl
 distinct_swap Any (Name n) h = refl
 distinct_swap Any (Local c d) h = refl
 distinct_swap Star (Name n) h = absurd (false≢true h)
 distinct_swap Star (Local c d) h = absurd (false≢true h)
-distinct_swap Star (Lit k) h = absurd (false≢true h)
-distinct_swap Star (Var w) h = absurd (false≢true h)
+distinct_swap Star (At i) h = absurd (false≢true h)
 distinct_swap Star Any h = absurd (false≢true h)
 distinct_swap Star Star h = absurd (false≢true h)
 distinct_swap x y h = absurd (false≢true h)
@@ -354,7 +351,8 @@ apart_swap given a b h =
 
 -- two paths that are apart are apart with the environment put in, without constraints
 
-put-by : (given : List Constraint) (env : Env) → IsEnv given env → (c : Constraint) → Holds env c → (a b : Rpl) → apart_by c a b ≡ true → apart [] (put_in env a) (put_in env b) ≡ true
+put-by : (given : List Constraint) (env : Env) → IsEnv given env → (c : Constraint) → Holds env c → (a b : Rpl) → apart_by c a b ≡ true →
+    apart [] (put_in env a) (put_in env b) ≡ true
 put-by given env v c k a b h =
     ⊎_elim
     (λ e. let p = and_parts (within a c.left) _ e in
@@ -363,7 +361,8 @@ put-by given env v c k a b h =
     apart-within [] (put_in env a) (put_in env c.right) (put_in env b) (put_in env c.left) (put-within given env v a c.right p.0) (put-within given env v b c.left p.1) (apart_swap [] (put_in env c.left) (put_in env c.right) k))
     (or_cases (within a c.left && within b c.right) _ h)
 
-put-by_some : (given : List Constraint) (env : Env) → IsEnv given env → (cs : List Constraint) → All (Holds env) cs → (a b : Rpl) → apart_by_some cs a b ≡ true → apart [] (put_in env a) (put_in env b) ≡ true
+put-by_some : (given : List Constraint) (env : Env) → IsEnv given env → (cs : List Constraint) → All (Holds env) cs → (a b : Rpl) →
+    apart_by_some cs a b ≡ true → apart [] (put_in env a) (put_in env b) ≡ true
 put-by_some given env v [] k a b h = absurd (false≢true h)
 put-by_some given env v (c ∷ cs) k a b h =
     ⊎_elim
@@ -391,13 +390,15 @@ put-apart given env v a b h =
 
 -- nothing is apart from itself, so paths that are apart match nothing in common
 
+index_self : (x : Index) → distinct_index x x ≡ true → ⊥
+index_self (Literal j) h = false≢true (sym (not-true _ h) ∙ (Decides-int_eq j j).1 refl)
+index_self (Variable v) h = false≢true h
+index_self (Renamed v) h = false≢true h
+index_self (Own d) h = false≢true h
+
 distinct_self : (x : Elem) → distinct x x ≡ true → ⊥
 distinct_self (Name m) h = false≢true (sym (not-true _ h) ∙ eq-eqb m m refl)
-distinct_self (Lit j) h = false≢true (sym (not-true _ h) ∙ (Decides-int_eq j j).1 refl)
-distinct_self (Var w) h = ⊎_elim (λ e. copy_self e) (λ e. copy_self e) (or_cases (is_copy w w) _ h)
-  where
-    copy_self : is_copy w w ≡ true → ⊥
-    copy_self e = let k = eqb-true w (w + 2147483648) (and_parts (ltb w 2147483648) _ e).1 in omega arith
+distinct_self (At i) h = index_self i h
 distinct_self Any h = false≢true h
 distinct_self Star h = false≢true h
 distinct_self (Local a b) h = false≢true (sym (not-true _ h) ∙ and_from _ _ (eq-eqb a a refl) (eq-eqb b b refl))
@@ -425,26 +426,29 @@ apart_self a h =
     longer t = shorter_self a.elems (and_parts (same_head a.head a.head || is_root a.head) _ t).1
 
 -- a region that a path matches, as a path, lies in it
-fits-one : (env : Env) (x y : Elem) (r : List Elem) → r ≡ y ∷ [] → elem_within y (put_elem env x) ≡ true → is_star x ≡ false → {b a : List Elem} → Covers b a → Covers (put_elem env x ∷ b) (r ++ a)
+fits-one : (env : Env) (x y : Elem) (r : List Elem) → r ≡ y ∷ [] → elem_within y (put_elem env x) ≡ true → is_star x ≡ false → {b a : List Elem} → Covers b a →
+    Covers (put_elem env x ∷ b) (r ++ a)
 fits-one env x y r e w s {b = b} {a = a} d = subst (λ z. Covers (put_elem env x ∷ b) (z ++ a)) (sym e) (one w (put_elem-star env x ∙ s) d)
 
 fits-covers : (env : Env) (x : Elem) (r : List Elem) → Fits env x r → {b a : List Elem} → Covers b a → Covers (put_elem env x ∷ b) (r ++ a)
 fits-covers env (Name n) r f d = fits-one env (Name n) (Name n) r f (elem_within-refl (Name n)) refl d
-fits-covers env (Lit k) r f d = fits-one env (Lit k) (Lit k) r f (elem_within-refl (Lit k)) refl d
-fits-covers env (Var w) r f d = fits-one env (Var w) (Lit (env.index w)) r f (elem_within-refl (Lit (env.index w))) refl d
-fits-covers env Any r f d = fits-one env Any (Lit f.0) r f.1 refl refl d
+fits-covers env (At i) r f d = let k = At (Literal (number_of env i)) in fits-one env (At i) k r f (elem_within-refl k) refl d
+fits-covers env Any r f d = fits-one env Any (At (Literal f.0)) r f.1 refl refl d
 fits-covers env Star r f {b = b} {a = a} d = skip_plain r b a f (stop d)
-fits-covers env (Local m n) r f d = fits-one env (Local m n) (Local (env.made m n).0 (env.made m n).1) r f (elem_within-refl (Local (env.made m n).0 (env.made m n).1)) refl d
+fits-covers env (Local m n) r f d =
+    fits-one env (Local m n) (Local (env.made m n).0 (env.made m n).1) r f (elem_within-refl (Local (env.made m n).0 (env.made m n).1)) refl d
 
 FitsAll-covers : (env : Env) (a r : List Elem) → FitsAll env a r → Covers (map (put_elem env) a) r
 FitsAll-covers env [] r f = subst (λ z. Covers [] z) (sym f) none
-FitsAll-covers env (x ∷ a) r f = subst (λ z. Covers (put_elem env x ∷ map (put_elem env) a) z) (sym f.2) (fits-covers env x f.0 f.3 (FitsAll-covers env a f.1 f.4))
+FitsAll-covers env (x ∷ a) r f =
+    subst (λ z. Covers (put_elem env x ∷ map (put_elem env) a) z) (sym f.2) (fits-covers env x f.0 f.3 (FitsAll-covers env a f.1 f.4))
 
 -- a region as a path
 abbrev pub as_path : List Elem → Rpl
 as_path r = record { head = Root; elems = r }
 
-pub matches-within : (given : List Constraint) (env : Env) → IsEnv given env → (a : Rpl) (r : List Elem) → Matches env a r → within (as_path r) (put_in env a) ≡ true
+pub matches-within : (given : List Constraint) (env : Env) → IsEnv given env → (a : Rpl) (r : List Elem) → Matches env a r →
+    within (as_path r) (put_in env a) ≡ true
 unfolding within put_in Matches
 matches-within given env v a r m =
     Covers-to (subst (λ z. Covers (head_region env a.head ++ map (put_elem env) a.elems) z) (sym m.1)
@@ -455,5 +459,14 @@ no_common given env v a b h = λ r m n.
     apart_self (as_path r)
     (apart-within [] (as_path r) (put_in env a) (as_path r) (put_in env b) (matches-within given env v a r m) (matches-within given env v b r n) (put-apart given env v a b h))
 
-pub stays_apart : (given : List Constraint) (env : Env) → IsEnv given env → (a b p q : Rpl) → apart given a b ≡ true → within p (put_in env a) ≡ true → within q (put_in env b) ≡ true → apart [] p q ≡ true
+pub stays_apart : (given : List Constraint) (env : Env) → IsEnv given env → (a b p q : Rpl) → apart given a b ≡ true → within p (put_in env a) ≡ true →
+    within q (put_in env b) ≡ true → apart [] p q ≡ true
 stays_apart given env v a b p q h w u = apart-within [] p (put_in env a) q (put_in env b) w u (put-apart given env v a b h)
+
+pub constraint_carried : (given : List Constraint) (env : Env) → IsEnv given env → (args : List Rpl) (c : Constraint) →
+    apart given (substituted args c.left) (substituted args c.right) ≡ true → Holds (with_regions env (λ p. (put_in env (argument args p)).elems)) c
+constraint_carried given env v args c h =
+    let other = with_regions env (λ (p : ℕ). (put_in env (argument args p)).elems) in
+    ap (λ z. apart [] z (put_in other c.right)) (sym (substitution_puts_in env args c.left))
+    ∙ ap (λ z. apart [] (put_in env (substituted args c.left)) z) (sym (substitution_puts_in env args c.right))
+    ∙ put-apart given env v (substituted args c.left) (substituted args c.right) h

@@ -1,6 +1,6 @@
 pub mod Plain
 pub mod Names
-pub mod Numbers
+pub mod Size
 pub mod Shaped
 pub mod Targets
 pub mod Nd

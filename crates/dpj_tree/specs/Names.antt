@@ -63,7 +63,7 @@ type_names ty = base_names ty.base ++ suffixes_names ty.suffixes
 
 abbrev mutual
   pub expr_names : PlainExpr → List ℕ
-  expr_names (expression node place form) = form_names form
+  expr_names (expression place form) = form_names form
 
   pub form_names : ExprForm → List ℕ
   form_names (int n) = []
@@ -86,7 +86,7 @@ abbrev mutual
 
 abbrev mutual
   pub stmt_names : PlainStmt → List ℕ
-  stmt_names (statement node place form) = stmt_form_names form
+  stmt_names (statement place form) = stmt_form_names form
 
   pub stmt_form_names : StmtForm → List ℕ
   stmt_form_names (block all) = stmts_names all

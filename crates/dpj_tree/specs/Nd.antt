@@ -1,7 +1,6 @@
 -- Whether a program uses nd: whether its text holds a `cobegin_nd` or a `foreach_nd`.
-use Rattle.std.specs.Prelude.{Bool, true, false, ◌||◌, map}
+use Rattle.std.specs.Prelude.{Bool, false, ◌||◌, map}
 use Rattle.std.specs.List.{list_any}
-use Rattle.dpj_tree.specs.declared.class.Class.{Class}
 use Rattle.dpj_tree.specs.declared.class.Member.{Member}
 use Rattle.dpj_tree.specs.declared.class.Member.TheVariants as member
 use Rattle.dpj_tree.specs.declared.class.Program.{Program}
@@ -9,7 +8,7 @@ use Rattle.dpj_tree.specs.Plain.{PlainStmt, statement, StmtForm, block, declare,
 
 abbrev mutual
   pub holds_nd : PlainStmt → Bool
-  holds_nd (statement node place form) = form_holds_nd form
+  holds_nd (statement place form) = form_holds_nd form
 
   pub form_holds_nd : StmtForm → Bool
   form_holds_nd (block all) = some_holds_nd all

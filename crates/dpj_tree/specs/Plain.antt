@@ -1,6 +1,6 @@
 -- The tree of a program as plain data, over which the rules of the language are written, and the map from the
--- code's tree to it. A node keeps its number and its place.
-use Rattle.std.specs.Prelude.{ℕ, ℤ, List, [], ◌∷◌, Bool, Option, Some, None, option_map, map}
+-- code's tree to it. A node keeps its place.
+use Rattle.std.specs.Prelude.{ℕ, ℤ, List, [], ◌∷◌, Bool, Option, Some, None}
 use Rattle.dpj_base.specs.declared.place.Place.{Place}
 use Rattle.dpj_tree.specs.declared.region.Named.{Named}
 use Rattle.dpj_tree.specs.declared.region.RplTree.{RplTree}
@@ -15,9 +15,9 @@ use Rattle.dpj_tree.specs.declared.stmt.Stmt.{Stmt, fold-Stmt}
 use Rattle.dpj_tree.specs.declared.stmt.StmtKind.TheOpen.{StmtKind-F, Stmt-F}
 
 mutual
-  -- an expression: its number, its place and its form
+  -- an expression: its place and its form
   pub data PlainExpr : Type 0 where
-    expression : ℕ → Place → ExprForm → PlainExpr
+    expression : Place → ExprForm → PlainExpr
 
   pub data ExprForm : Type 0 where
     int : ℤ → ExprForm
@@ -38,9 +38,9 @@ mutual
     more_exprs : PlainExpr → PlainExprs → PlainExprs
 
 mutual
-  -- a statement: its number, its place and its form
+  -- a statement: its place and its form
   pub data PlainStmt : Type 0 where
-    statement : ℕ → Place → StmtForm → PlainStmt
+    statement : Place → StmtForm → PlainStmt
 
   pub data StmtForm : Type 0 where
     block : PlainStmts → StmtForm
@@ -86,7 +86,7 @@ expr_form (ExprKind-F.Unary op arg) = unary op arg
 expr_form (ExprKind-F.Binary op left right) = binary op left right
 
 abbrev pub expr_node : Expr-F ExprForm PlainExpr → PlainExpr
-expr_node e = expression e.node e.place e.kind
+expr_node e = expression e.place e.kind
 
 abbrev pub plain_expr : Expr → PlainExpr
 plain_expr = fold-Expr ExprForm PlainExpr expr_form expr_node
@@ -123,7 +123,7 @@ stmt_form (StmtKind-F.Atomic all) = atomic (plain_stmts all)
 stmt_form (StmtKind-F.Region names) = local_regions names
 
 abbrev pub stmt_node : Stmt-F StmtForm PlainStmt → PlainStmt
-stmt_node s = statement s.node s.place s.kind
+stmt_node s = statement s.place s.kind
 
 abbrev pub plain_stmt : Stmt → PlainStmt
 plain_stmt = fold-Stmt StmtForm PlainStmt stmt_form stmt_node

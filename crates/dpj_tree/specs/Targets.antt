@@ -1,23 +1,23 @@
 -- What the targets of assignments and the expressions of expression statements are.
-use Rattle.dpj_tree.specs.Plain.{PlainExpr, expression, ExprForm, int, boolean, null, this, local, field, element, call, create, create_array, unary, binary, PlainStmt, statement, StmtForm, block, declare, assign_local, assign_field, assign_element, perform, choice, choice_else, while_loop, return_nothing, return_value, print, print_text, cobegin, foreach, foreach_parts, atomic, local_regions, PlainStmts, no_stmts, more_stmts}
+use Rattle.dpj_tree.specs.Plain.{PlainExpr, expression, field, element, call, create, PlainStmt, statement, StmtForm, block, declare, assign_local, assign_field, assign_element, perform, choice, choice_else, while_loop, return_nothing, return_value, print, print_text, cobegin, foreach, foreach_parts, atomic, local_regions, PlainStmts, no_stmts, more_stmts}
 
 abbrev pub IsField : PlainExpr → Type 0
-IsField (expression node place (field of name)) = Unit {0}
+IsField (expression place (field of name)) = Unit {0}
 IsField _ = ⊥
 
 abbrev pub IsElement : PlainExpr → Type 0
-IsElement (expression node place (element array index)) = Unit {0}
+IsElement (expression place (element array index)) = Unit {0}
 IsElement _ = ⊥
 
 abbrev pub IsPerformed : PlainExpr → Type 0
-IsPerformed (expression node place (call of regions name actuals)) = Unit {0}
-IsPerformed (expression node place (create class regions actuals)) = Unit {0}
+IsPerformed (expression place (call of regions name actuals)) = Unit {0}
+IsPerformed (expression place (create class regions actuals)) = Unit {0}
 IsPerformed _ = ⊥
 
 -- every target in a statement is of its assignment's kind, and every expression statement is a call or a creation
 abbrev mutual
   pub HasTargets : PlainStmt → Type 0
-  HasTargets (statement node place form) = FormHasTargets form
+  HasTargets (statement place form) = FormHasTargets form
 
   pub FormHasTargets : StmtForm → Type 0
   FormHasTargets (block all) = AllHaveTargets all

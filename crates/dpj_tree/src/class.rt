@@ -13,7 +13,6 @@ pub struct Program {
 /// A class. Its place is its name.
 #[derive(Drop)]
 pub struct Class {
-    pub node: u32,
     pub place: Place,
     pub name: u32,
     pub params: Params,
@@ -39,7 +38,6 @@ pub enum Member {
 /// A field. Its place is its name.
 #[derive(Drop)]
 pub struct Field {
-    pub node: u32,
     pub place: Place,
     pub name: u32,
     pub ty: TypeTree,
@@ -49,7 +47,6 @@ pub struct Field {
 /// A method or a constructor. Its place is its name.
 #[derive(Drop)]
 pub struct Method {
-    pub node: u32,
     pub place: Place,
     pub name: u32,
     pub params: Params,
@@ -69,7 +66,6 @@ pub enum MethodResult {
 /// A formal parameter. Its place is its name.
 #[derive(Drop)]
 pub struct Formal {
-    pub node: u32,
     pub place: Place,
     pub name: u32,
     pub ty: TypeTree,

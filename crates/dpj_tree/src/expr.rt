@@ -24,12 +24,11 @@ pub enum BinaryOp {
     Rem,
 }
 
-/// An expression. The place of an operation is its operator, of a field or call the name behind the dot, of an
+/// An expression. The place of an operation is its operator, of a field or call the name after the dot, of an
 /// element the `[`, of a creation `new`, and of anything else its token.
 #[cycle(exprs)]
 #[derive(Drop)]
 pub struct Expr {
-    pub node: u32,
     pub place: Place,
     pub kind: ExprKind,
 }

@@ -1,7 +1,6 @@
 //! The tree of a program: what the parser makes of a text and every later pass reads.
 //!
-//! Every node has a number, counted from 0 in post-order of the text, and a place. Names are positions in the
-//! program's list of distinct names. `specs/Plain.antt` has the same tree as plain data, over which the rules of
+//! Every node has a place. Names are positions in the program's list of distinct names. `specs/Plain.antt` has the same tree as plain data, over which the rules of
 //! the language are written, and the map from the one to the other; `specs/Shaped.antt` says what is true of
 //! every tree that the parser makes.
 #![tactic(auto)]

@@ -39,7 +39,6 @@ pub enum ElemTree {
 /// A written region path. Its place is its first token.
 #[derive(Drop)]
 pub struct RplTree {
-    pub node: u32,
     pub place: Place,
     pub head: RplHead,
     pub elems: Items<ElemTree>,
@@ -48,7 +47,6 @@ pub struct RplTree {
 /// A written type: a base, and array suffixes of which the last is the outermost. Its place is its first token.
 #[derive(Drop)]
 pub struct TypeTree {
-    pub node: u32,
     pub place: Place,
     pub base: BaseTree,
     pub suffixes: Items<Suffix>,
@@ -80,7 +78,6 @@ pub struct Params {
 /// A region parameter. Its place is its name.
 #[derive(Drop)]
 pub struct ParamTree {
-    pub node: u32,
     pub place: Place,
     pub name: u32,
     pub atomic: bool,

@@ -7,7 +7,6 @@ use dpj_base::{Boxed, Bytes, Items, Place};
 #[cycle(stmts)]
 #[derive(Drop)]
 pub struct Stmt {
-    pub node: u32,
     pub place: Place,
     pub kind: StmtKind,
 }

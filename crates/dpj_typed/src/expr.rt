@@ -1,0 +1,94 @@
+use crate::ids::{ClassId, FieldSlot, Row, Slot};
+use dpj_base::{Boxed, Items, Place, Rpl, Ty};
+
+/// An operation on one value.
+#[derive(Clone, Copy, Debug, PartialEq, Eq)]
+pub enum UnaryOp {
+    Negate,
+    Not,
+}
+
+/// An operation on two values, both of which are evaluated.
+#[derive(Clone, Copy, Debug, PartialEq, Eq)]
+pub enum BinaryOp {
+    Add,
+    Subtract,
+    Multiply,
+    Divide,
+    Remainder,
+    Equal,
+    NotEqual,
+    Less,
+    AtMost,
+    Greater,
+    AtLeast,
+}
+
+/// An expression. Its place is that at which its trap is reported.
+#[cycle(exprs)]
+#[derive(Drop)]
+pub struct Expr {
+    pub place: Place,
+    pub ty: Ty,
+    pub form: ExprForm,
+}
+
+#[cycle(exprs)]
+#[derive(Drop)]
+pub enum ExprForm {
+    Int(i32),
+    Bool(bool),
+    Null,
+    /// A local or a formal; `this` is slot 0.
+    Local(Slot),
+    /// A field of an object of that class or one below it.
+    Field {
+        of: Boxed<Expr>,
+        class: ClassId,
+        field: FieldSlot,
+    },
+    Element {
+        array: Boxed<Expr>,
+        index: Boxed<Expr>,
+    },
+    /// The length of an array.
+    Length(Boxed<Expr>),
+    /// A call of a method, by its row in the static class of the receiver, with its own region arguments.
+    Call {
+        of: Boxed<Expr>,
+        class: ClassId,
+        row: Row,
+        regions: Items<Rpl>,
+        actuals: Items<Expr>,
+    },
+    /// A new object of the class and with the region arguments that its type says.
+    New(Items<Expr>),
+    /// A new array of the type of the expression.
+    NewArray(Boxed<Expr>),
+    Unary {
+        op: UnaryOp,
+        arg: Boxed<Expr>,
+    },
+    Binary {
+        op: BinaryOp,
+        left: Boxed<Expr>,
+        right: Boxed<Expr>,
+    },
+    /// `left && right`: the right operand is evaluated only where the left one is true.
+    And {
+        left: Boxed<Expr>,
+        right: Boxed<Expr>,
+    },
+    /// `left || right`: the right operand is evaluated only where the left one is false.
+    Or {
+        left: Boxed<Expr>,
+        right: Boxed<Expr>,
+    },
+    /// The length of a part of an array.
+    PartLength(Slot),
+    /// An element of a part, counted from the part's first.
+    PartElement {
+        part: Slot,
+        index: Boxed<Expr>,
+    },
+}

@@ -1,0 +1,24 @@
+//! The typed program: what the checker makes of a text that it accepts, and what all of the back half starts from.
+//!
+//! The front half (tokens, tree, class table, rules) ends here; the compiler, the walker, the inference of
+//! summaries and all theory begin here. Nothing after it sees a name, a tree of the parser or a class table, and
+//! nothing before it knows frames, rows of methods at run time or instructions.
+//!
+//! Classes, members, fields, rows, locals and local regions are told by number. A local is its slot: slot 0 is
+//! `this`, then come the formals, then each declared local and loop variable of the member in the order of the
+//! text, without reuse. So the identity of an index variable comes from counting, and two are never one.
+//!
+//! `specs/Plain.antt` has the same program as plain data, and `specs/WellTyped.antt` says when it keeps the rules
+//! of the language: the judgement that soundness and determinism are proved from.
+#![tactic(auto)]
+
+mod expr;
+mod ids;
+pub mod laws;
+mod program;
+mod stmt;
+
+pub use expr::{BinaryOp, Expr, ExprForm, UnaryOp};
+pub use ids::{ClassId, FieldSlot, LocalRegion, MemberId, Row, Slot};
+pub use program::{Class, Field, Member, Parent, Program, RegionName, RegionParam};
+pub use stmt::{Branch, Forking, PartSource, Stmt, StmtForm};
