@@ -7,4 +7,4 @@ mod access;
 mod parts;
 
 pub use access::element;
-pub use parts::{Element, IndexKind};
+pub use parts::Element;

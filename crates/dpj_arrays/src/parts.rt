@@ -1,16 +1,5 @@
 use dpj_base::{Rpl, Ty};
 
-/// What stands for the index of an element access.
-#[derive(Clone, Copy, Debug, PartialEq, Eq)]
-pub enum IndexKind {
-    /// A literal.
-    Lit(i32),
-    /// An index variable: a final local or the variable of a `foreach`.
-    Var(u32),
-    /// Any other expression.
-    Other,
-}
-
 /// An element of an array, as an access by one index sees it.
 #[derive(Debug, Drop)]
 pub struct Element {

@@ -1,47 +1,47 @@
 -- Paths that are apart stay apart with the environment put in, and match no common region.
-use Rattle.std.proofs.Common.{◌≡◌, ◌≢◌, ◌+◌, ℕ, ℤ, true, false, not, ◌&&◌, ◌||◌, cond, eqb, ltb, List, [], ◌∷◌, ◌++◌, length, reverse, map, refl, sym, ap, ◌∙◌, subst, inl, inr, ⊎_elim, arith}
+use Rattle.std.proofs.Common.{◌≡◌, ◌≢◌, ◌+◌, ℕ, ℤ, true, false, not, ◌&&◌, ◌||◌, cond, eqb, List, [], ◌∷◌, ◌++◌, length, reverse, map, refl, sym, ap, ◌∙◌, subst, inl, inr, ⊎_elim, arith}
 use Rattle.std.specs.Prelude.{All}
 use Rattle.std.specs.Ordering.{int_eq}
-use Rattle.std.proofs.lemmas.Bool.{and_parts, and_from, or_cases, or_left, or_right, or_parts, false≢true, eqb-true, eq-eqb, ne_eqb, ltb-true, not-true, false_from_ne_true}
+use Rattle.std.proofs.lemmas.Bool.{and_parts, and_from, or_cases, or_left, or_right, or_parts, false≢true, eqb-true, eq-eqb, ne_eqb, not-true, false_from_ne_true}
 use Rattle.std.proofs.lemmas.Bool.Decides.{Decides-int_eq}
 use Rattle.std.proofs.lemmas.List.{map-append, reverse-append, length-append, length-map}
 use Rattle.std.proofs.lemmas.List.Elements.{All-head, All-tail}
 use Rattle.std.proofs.lemmas.List.Sums.{sum_by-append}
 use Rattle.dpj_base.specs.declared.elems.Elem.{Elem}
-use Rattle.dpj_base.specs.declared.elems.Elem.TheVariants.{Name, Lit, Var, Any, Star, Local}
+use Rattle.dpj_base.specs.declared.elems.Elem.TheVariants.{Name, At, Any, Star, Local}
+use Rattle.dpj_base.specs.declared.elems.Index.{Index}
+use Rattle.dpj_base.specs.declared.elems.Index.TheVariants.{Literal, Variable, Renamed, Own}
 use Rattle.dpj_base.specs.declared.region.Head.{Head}
 use Rattle.dpj_base.specs.declared.region.Head.TheVariants.{Root, Param}
 use Rattle.dpj_base.specs.declared.region.Rpl.{Rpl}
 use Rattle.dpj_base.specs.declared.effect.Constraint.{Constraint}
 use Rattle.dpj_base.specs.Regions.{is_star, is_local, is_index, same_head, is_root, elem_within, begins_with_star, heads_within, within}
-use Rattle.dpj_base.specs.Apart.{is_copy, distinct, apart_front, solid, shorter, apart_as_shorter, apart_by, apart_by_some, apart}
-use Rattle.dpj_base.specs.Matching.{is_plain, all_plain, Env, IsEnv, Holds, put_elem, put_in, head_region, Fits, FitsAll, Matches, MatchNoCommon}
+use Rattle.dpj_base.specs.Apart.{distinct_index, distinct, apart_front, solid, shorter, apart_as_shorter, apart_by, apart_by_some, apart}
+use Rattle.dpj_base.specs.Matching.{is_plain, all_plain, Env, IsEnv, Holds, number_of, put_elem, put_in, head_region, Fits, FitsAll, Matches, MatchNoCommon}
 use Rattle.dpj_regions.proofs.Inclusion.{Covers, none, one, stop, skip, Covers-from, Covers-to, star_is, elem_within-cases, elem_within-same, elem_within-refl, elem_within-any}
 use Rattle.dpj_disjoint.proofs.Lists.{front-step, rev-cons, solid-cons, solid-one, solid-length, shorter-parts, shorter-from}
-use Rattle.dpj_disjoint.proofs.Paths.{same_head-is, same_head-refl, rule_of, by_rule, apart-within}
+use Rattle.dpj_regions.proofs.Same.{same_head-is, same_head-refl}
+use Rattle.dpj_disjoint.proofs.Paths.{rule_of, by_rule, apart-within}
 
 -- elements with the environment put in
 
 put_elem-star : (env : Env) (x : Elem) → is_star (put_elem env x) ≡ is_star x
 put_elem-star env (Name n) = refl
-put_elem-star env (Lit k) = refl
-put_elem-star env (Var v) = refl
+put_elem-star env (At i) = refl
 put_elem-star env Any = refl
 put_elem-star env Star = refl
 put_elem-star env (Local a b) = refl
 
 put_elem-local : (env : Env) (x : Elem) → is_local (put_elem env x) ≡ is_local x
 put_elem-local env (Name n) = refl
-put_elem-local env (Lit k) = refl
-put_elem-local env (Var v) = refl
+put_elem-local env (At i) = refl
 put_elem-local env Any = refl
 put_elem-local env Star = refl
 put_elem-local env (Local a b) = refl
 
 put_elem-index : (env : Env) (x : Elem) → is_index (put_elem env x) ≡ is_index x
 put_elem-index env (Name n) = refl
-put_elem-index env (Lit k) = refl
-put_elem-index env (Var v) = refl
+put_elem-index env (At i) = refl
 put_elem-index env Any = refl
 put_elem-index env Star = refl
 put_elem-index env (Local a b) = refl
@@ -61,12 +61,12 @@ Covers-put env (skip {x = x} l r) = skip (put_elem-local env x ∙ l) (Covers-pu
 
 plain-local : (x : Elem) → is_plain x ≡ true → is_local x ≡ false
 plain-local (Name n) h = refl
-plain-local (Lit k) h = refl
+plain-local (At (Literal k)) h = refl
 plain-local x h = absurd (false≢true h)
 
 plain-star : (x : Elem) → is_plain x ≡ true → is_star x ≡ false
 plain-star (Name n) h = refl
-plain-star (Lit k) h = refl
+plain-star (At (Literal k)) h = refl
 plain-star x h = absurd (false≢true h)
 
 -- `*` takes up plain elements in front
@@ -108,13 +108,14 @@ module _ (given : List Constraint) (env : Env) (v : IsEnv given env) where
       let p = and_parts (heads_within a.head b.head b.elems) _ w in
       Covers-to (put_lists a.head b.head b.elems a.elems p.0 (Covers-from b.elems a.elems p.1))
 
-  is_copy-apart : (x y : ℕ) → is_copy x y ≡ true → env.index x ≢ env.index y
-  is_copy-apart x y h =
-      let p = and_parts (ltb x 2147483648) _ h in
-      λ e. v.copies x (ltb-true x 2147483648 p.0) (e ∙ ap env.index (eqb-true y (x + 2147483648) p.1))
+  number-apart : (j k : ℤ) → j ≢ k → not (int_eq j k) ≡ true
+  number-apart j k n = ap not (false_from_ne_true _ (λ t. n ((Decides-int_eq j k).0 t)))
 
-  int-apart : (x y : ℕ) → env.index x ≢ env.index y → not (int_eq (env.index x) (env.index y)) ≡ true
-  int-apart x y n = ap not (false_from_ne_true _ (λ t. n ((Decides-int_eq (env.index x) (env.index y)).0 t)))
+  put_index-distinct : (x y : Index) → distinct_index x y ≡ true → not (int_eq (number_of env x) (number_of env y)) ≡ true
+  put_index-distinct (Literal j) (Literal k) h = h
+  put_index-distinct (Variable x) (Renamed y) h = number-apart _ _ (λ e. v.copies x (e ∙ ap env.renamed (sym (eqb-true x y h))))
+  put_index-distinct (Renamed x) (Variable y) h = number-apart _ _ (λ e. v.copies y (sym e ∙ ap env.renamed (eqb-true x y h)))
+  put_index-distinct x y h = absurd (false≢true h)
 
   made-apart : (a b c d : ℕ) → not (eqb a c && eqb b d) ≡ true → not (eqb (env.made a b).0 (env.made c d).0 && eqb (env.made a b).1 (env.made c d).1) ≡ true
   made-apart a b c d h =
@@ -130,32 +131,22 @@ module _ (given : List Constraint) (env : Env) (v : IsEnv given env) where
   put_elem-distinct : (x y : Elem) → distinct x y ≡ true → distinct (put_elem env x) (put_elem env y) ≡ true
   put_elem-distinct (Name m) (Name n) h = h
   put_elem-distinct (Name m) (Local c d) h = refl
-  put_elem-distinct (Name m) (Lit k) h = refl
-  put_elem-distinct (Name m) (Var w) h = refl
+  put_elem-distinct (Name m) (At i) h = refl
   put_elem-distinct (Name m) Any h = refl
   put_elem-distinct (Name m) Star h = h
   put_elem-distinct (Local a b) (Local c d) h = made-apart a b c d h
   put_elem-distinct (Local a b) (Name n) h = refl
-  put_elem-distinct (Local a b) (Lit k) h = refl
-  put_elem-distinct (Local a b) (Var w) h = refl
+  put_elem-distinct (Local a b) (At i) h = refl
   put_elem-distinct (Local a b) Any h = refl
   put_elem-distinct (Local a b) Star h = h
-  put_elem-distinct (Lit j) (Lit k) h = h
-  put_elem-distinct (Var x) (Var y) h =
-      ⊎_elim
-      (λ e. int-apart x y (is_copy-apart x y e))
-      (λ e. int-apart x y (λ s. is_copy-apart y x e (sym s)))
-      (or_cases (is_copy x y) _ h)
-  put_elem-distinct (Lit j) (Name n) h = refl
-  put_elem-distinct (Lit j) (Local c d) h = refl
-  put_elem-distinct (Var x) (Name n) h = refl
-  put_elem-distinct (Var x) (Local c d) h = refl
+  put_elem-distinct (At i) (At j) h = put_index-distinct i j h
+  put_elem-distinct (At i) (Name n) h = refl
+  put_elem-distinct (At i) (Local c d) h = refl
   put_elem-distinct Any (Name n) h = refl
   put_elem-distinct Any (Local c d) h = refl
   put_elem-distinct Star (Name n) h = absurd (false≢true h)
   put_elem-distinct Star (Local c d) h = absurd (false≢true h)
-  put_elem-distinct Star (Lit k) h = absurd (false≢true h)
-  put_elem-distinct Star (Var w) h = absurd (false≢true h)
+  put_elem-distinct Star (At i) h = absurd (false≢true h)
   put_elem-distinct Star Any h = absurd (false≢true h)
   put_elem-distinct Star Star h = absurd (false≢true h)
   put_elem-distinct x y h = absurd (false≢true h)
@@ -264,9 +255,6 @@ module _ (given : List Constraint) (env : Env) (v : IsEnv given env) where
 
 -- being apart is symmetric
 
-is_copy_swap : (x y : ℕ) → (is_copy x y || is_copy y x) ≡ true → (is_copy y x || is_copy x y) ≡ true
-is_copy_swap x y h = ⊎_elim (λ e. or_right (is_copy y x) _ e) (λ e. or_left _ _ e) (or_cases (is_copy x y) _ h)
-
 not_eqb_swap : (x y : ℕ) → not (eqb x y) ≡ true → not (eqb y x) ≡ true
 not_eqb_swap x y h = ap not (ne_eqb y x (λ e. false≢true (sym (not-true _ h) ∙ eq-eqb x y (sym e))))
 
@@ -279,31 +267,31 @@ not_pair_swap a b c d h =
     let p = and_parts (eqb c a) _ t in
     false≢true (sym (not-true _ h) ∙ and_from _ _ (eq-eqb a c (sym (eqb-true c a p.0))) (eq-eqb b d (sym (eqb-true d b p.1))))))
 
+index_swap : (x y : Index) → distinct_index x y ≡ true → distinct_index y x ≡ true
+index_swap (Literal j) (Literal k) h = not_int_swap j k h
+index_swap (Variable x) (Renamed y) h = eq-eqb y x (sym (eqb-true x y h))
+index_swap (Renamed x) (Variable y) h = eq-eqb y x (sym (eqb-true x y h))
+index_swap x y h = absurd (false≢true h)
+
 distinct_swap : (x y : Elem) → distinct x y ≡ true → distinct y x ≡ true
 distinct_swap (Name m) (Name n) h = not_eqb_swap m n h
 distinct_swap (Name m) (Local c d) h = refl
-distinct_swap (Name m) (Lit k) h = refl
-distinct_swap (Name m) (Var w) h = refl
+distinct_swap (Name m) (At i) h = refl
 distinct_swap (Name m) Any h = refl
 distinct_swap (Name m) Star h = absurd (false≢true h)
 distinct_swap (Local a b) (Local c d) h = not_pair_swap a b c d h
 distinct_swap (Local a b) (Name n) h = refl
-distinct_swap (Local a b) (Lit k) h = refl
-distinct_swap (Local a b) (Var w) h = refl
+distinct_swap (Local a b) (At i) h = refl
 distinct_swap (Local a b) Any h = refl
 distinct_swap (Local a b) Star h = absurd (false≢true h)
-distinct_swap (Lit j) (Lit k) h = not_int_swap j k h
-distinct_swap (Var x) (Var y) h = is_copy_swap x y h
-distinct_swap (Lit j) (Name n) h = refl
-distinct_swap (Lit j) (Local c d) h = refl
-distinct_swap (Var x) (Name n) h = refl
-distinct_swap (Var x) (Local c d) h = refl
+distinct_swap (At i) (At j) h = index_swap i j h
+distinct_swap (At i) (Name n) h = refl
+distinct_swap (At i) (Local c d) h = refl
 distinct_swap Any (Name n) h = refl
 distinct_swap Any (Local c d) h = refl
 distinct_swap Star (Name n) h = absurd (false≢true h)
 distinct_swap Star (Local c d) h = absurd (false≢true h)
-distinct_swap Star (Lit k) h = absurd (false≢true h)
-distinct_swap Star (Var w) h = absurd (false≢true h)
+distinct_swap Star (At i) h = absurd (false≢true h)
 distinct_swap Star Any h = absurd (false≢true h)
 distinct_swap Star Star h = absurd (false≢true h)
 distinct_swap x y h = absurd (false≢true h)
@@ -391,13 +379,15 @@ put-apart given env v a b h =
 
 -- nothing is apart from itself, so paths that are apart match nothing in common
 
+index_self : (x : Index) → distinct_index x x ≡ true → ⊥
+index_self (Literal j) h = false≢true (sym (not-true _ h) ∙ (Decides-int_eq j j).1 refl)
+index_self (Variable v) h = false≢true h
+index_self (Renamed v) h = false≢true h
+index_self (Own d) h = false≢true h
+
 distinct_self : (x : Elem) → distinct x x ≡ true → ⊥
 distinct_self (Name m) h = false≢true (sym (not-true _ h) ∙ eq-eqb m m refl)
-distinct_self (Lit j) h = false≢true (sym (not-true _ h) ∙ (Decides-int_eq j j).1 refl)
-distinct_self (Var w) h = ⊎_elim (λ e. copy_self e) (λ e. copy_self e) (or_cases (is_copy w w) _ h)
-  where
-    copy_self : is_copy w w ≡ true → ⊥
-    copy_self e = let k = eqb-true w (w + 2147483648) (and_parts (ltb w 2147483648) _ e).1 in omega arith
+distinct_self (At i) h = index_self i h
 distinct_self Any h = false≢true h
 distinct_self Star h = false≢true h
 distinct_self (Local a b) h = false≢true (sym (not-true _ h) ∙ and_from _ _ (eq-eqb a a refl) (eq-eqb b b refl))
@@ -430,9 +420,8 @@ fits-one env x y r e w s {b = b} {a = a} d = subst (λ z. Covers (put_elem env x
 
 fits-covers : (env : Env) (x : Elem) (r : List Elem) → Fits env x r → {b a : List Elem} → Covers b a → Covers (put_elem env x ∷ b) (r ++ a)
 fits-covers env (Name n) r f d = fits-one env (Name n) (Name n) r f (elem_within-refl (Name n)) refl d
-fits-covers env (Lit k) r f d = fits-one env (Lit k) (Lit k) r f (elem_within-refl (Lit k)) refl d
-fits-covers env (Var w) r f d = fits-one env (Var w) (Lit (env.index w)) r f (elem_within-refl (Lit (env.index w))) refl d
-fits-covers env Any r f d = fits-one env Any (Lit f.0) r f.1 refl refl d
+fits-covers env (At i) r f d = let k = At (Literal (number_of env i)) in fits-one env (At i) k r f (elem_within-refl k) refl d
+fits-covers env Any r f d = fits-one env Any (At (Literal f.0)) r f.1 refl refl d
 fits-covers env Star r f {b = b} {a = a} d = skip_plain r b a f (stop d)
 fits-covers env (Local m n) r f d = fits-one env (Local m n) (Local (env.made m n).0 (env.made m n).1) r f (elem_within-refl (Local (env.made m n).0 (env.made m n).1)) refl d
 

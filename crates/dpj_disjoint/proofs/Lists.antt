@@ -4,7 +4,7 @@ use Rattle.std.proofs.lemmas.Bool.{and_parts, and_from, or_cases, or_left, or_ri
 use Rattle.std.proofs.lemmas.List.{append-nil, reverse-append}
 use Rattle.std.proofs.lemmas.List.Sums.{sum_by-append, count_by-le-length}
 use Rattle.dpj_base.specs.declared.elems.Elem.{Elem}
-use Rattle.dpj_base.specs.declared.elems.Elem.TheVariants.{Name, Lit, Var, Any, Star, Local}
+use Rattle.dpj_base.specs.declared.elems.Elem.TheVariants.{Name, At, Any, Star, Local}
 use Rattle.dpj_base.specs.Regions.{is_star, is_local, is_index, elem_within}
 use Rattle.dpj_base.specs.Apart.{distinct, apart_front, solid, shorter}
 use Rattle.dpj_regions.proofs.Inclusion.{Covers, none, one, stop, skip, elem_within-cases, elem_within-star, Covers-append}
@@ -12,22 +12,17 @@ use Rattle.dpj_regions.proofs.Inclusion.{Covers, none, one, stop, skip, elem_wit
 -- elements
 
 index-apart_any : (x y : Elem) → is_index x ≡ true → distinct Any y ≡ true → distinct x y ≡ true
-index-apart_any (Lit j) (Name n) h d = refl
-index-apart_any (Lit j) (Local a b) h d = refl
-index-apart_any (Lit j) y h d = absurd (false≢true d)
-index-apart_any (Var v) (Name n) h d = refl
-index-apart_any (Var v) (Local a b) h d = refl
-index-apart_any (Var v) y h d = absurd (false≢true d)
+index-apart_any (At i) (Name n) h d = refl
+index-apart_any (At i) (Local a b) h d = refl
+index-apart_any (At i) y h d = absurd (false≢true d)
 index-apart_any Any y h d = d
 index-apart_any x y h d = absurd (false≢true h)
 
 any_apart-index : (x y : Elem) → is_index y ≡ true → distinct x Any ≡ true → distinct x y ≡ true
-any_apart-index (Name n) (Lit j) h d = refl
-any_apart-index (Name n) (Var v) h d = refl
+any_apart-index (Name n) (At i) h d = refl
 any_apart-index (Name n) Any h d = refl
 any_apart-index (Name n) y h d = absurd (false≢true h)
-any_apart-index (Local a b) (Lit j) h d = refl
-any_apart-index (Local a b) (Var v) h d = refl
+any_apart-index (Local a b) (At i) h d = refl
 any_apart-index (Local a b) Any h d = refl
 any_apart-index (Local a b) y h d = absurd (false≢true h)
 any_apart-index x y h d = absurd (false≢true d)

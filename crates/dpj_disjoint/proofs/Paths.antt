@@ -42,16 +42,6 @@ starred_shorter (x ∷ b) d h k =
     let n = solid-length b in
     omega arith
 
-pub same_head-is : (h k : Head) → same_head h k ≡ true → h ≡ k
-same_head-is Root Root e = refl
-same_head-is Root (Param q) e = absurd (false≢true e)
-same_head-is (Param p) Root e = absurd (false≢true e)
-same_head-is (Param p) (Param q) e = ap Param (eqb-true p q e)
-
-pub same_head-refl : (h : Head) → same_head h h ≡ true
-same_head-refl Root = refl
-same_head-refl (Param p) = eq-eqb p p refl
-
 -- heads of what lies in paths that are apart from the left
 left-within : (h k m n : Head) (b a d c : List Elem) → Headed h k b → Headed m n d → Covers b a → Covers d c → same_head k n ≡ true → apart_front b d ≡ true → (same_head h m ≡ true) × (apart_front a c ≡ true)
 left-within h k m n b a d c same same r q e f = (e, front-within r q f)

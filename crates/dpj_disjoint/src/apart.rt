@@ -1,13 +1,9 @@
-ghost use Rattle.std.specs.Prelude.{◌≡◌, [], reverse, IsTrue, true, ◌||◌};
+ghost use Rattle.std.specs.Prelude.{◌≡◌, reverse};
 ghost use Rattle.dpj_base.specs.Regions.{is_star, is_index, same_head, is_root};
-ghost use Rattle.dpj_base.specs.Apart.{is_copy, distinct, apart_front, solid, shorter, apart_by, apart_by_some, apart_as_shorter, apart_from_left, apart_by_length, apart_from_right, apart};
-ghost use Rattle.dpj_disjoint.specs.Ground.{no_var};
+ghost use Rattle.dpj_base.specs.Apart.{distinct_index, distinct, apart_front, solid, shorter, apart_by, apart_by_some, apart_as_shorter, apart_from_left, apart_by_length, apart_from_right, apart};
 
-use dpj_base::{Constraint, Elem, Head, Rpl};
+use dpj_base::{Constraint, Elem, Head, Index, Rpl};
 use dpj_regions::includes;
-
-/// How much greater the number of a renamed variable is than that of the variable.
-const RENAMED: u32 = 2147483648;
 
 fn is_star(elem: Elem) -> bool
     ensures { result ≡ is_star elem }
@@ -18,13 +14,18 @@ fn is_star(elem: Elem) -> bool
 fn is_index(elem: Elem) -> bool
     ensures { result ≡ is_index elem }
 {
-    matches!(elem, Elem::Lit(_) | Elem::Var(_) | Elem::Any)
+    matches!(elem, Elem::At(_) | Elem::Any)
 }
 
-fn is_copy(var: u32, other: u32) -> bool
-    ensures { result ≡ is_copy var other }
+/// Whether two indices are never one number: different literals, or a variable and its renamed copy.
+fn distinct_index(x: Index, y: Index) -> bool
+    ensures { result ≡ distinct_index x y }
 {
-    var < RENAMED && other == var + RENAMED
+    match (x, y) {
+        (Index::Literal(j), Index::Literal(k)) => j != k,
+        (Index::Variable(v), Index::Renamed(w)) | (Index::Renamed(v), Index::Variable(w)) => v == w,
+        _ => false,
+    }
 }
 
 fn distinct(x: Elem, y: Elem) -> bool
@@ -33,8 +34,7 @@ fn distinct(x: Elem, y: Elem) -> bool
     match (x, y) {
         (Elem::Name(m), Elem::Name(n)) => m != n,
         (Elem::Local(a, b), Elem::Local(c, d)) => !(a == c && b == d),
-        (Elem::Lit(j), Elem::Lit(k)) => j != k,
-        (Elem::Var(v), Elem::Var(w)) => is_copy(v, w) || is_copy(w, v),
+        (Elem::At(j), Elem::At(k)) => distinct_index(j, k),
         (Elem::Name(_), Elem::Local(_, _)) | (Elem::Local(_, _), Elem::Name(_)) => true,
         (Elem::Name(_) | Elem::Local(_, _), other) | (other, Elem::Name(_) | Elem::Local(_, _)) => {
             is_index(other)
@@ -132,13 +132,4 @@ pub fn disjoint(a: &Rpl, b: &Rpl, given: &[Constraint]) -> bool
         || apart_by_length(a, b)
         || apart_from_right(a, b)
         || apart_by_some(given, a, b)
-}
-
-/// Whether the two paths of a run can never name the same region, with no constraint in force.
-pub fn dyn_disjoint(a: &Rpl, b: &Rpl) -> bool
-    requires roots { (a.now.head ≡ Head.Root) × (b.now.head ≡ Head.Root) }
-    requires ground { IsTrue (no_var a.now.elems) × IsTrue (no_var b.now.elems) }
-    ensures { result ≡ apart [] a.now b.now }
-{
-    disjoint(a, b, &[])
 }

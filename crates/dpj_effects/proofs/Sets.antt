@@ -2,13 +2,11 @@
 use Rattle.std.proofs.Common.{◌≡◌, Bool, true, false, not, ◌&&◌, cond, List, [], ◌∷◌, ◌++◌, refl, sym, ap, ◌∙◌, subst}
 use Rattle.std.specs.Bool.{Decides}
 use Rattle.std.proofs.lemmas.Bool.{and_parts, and_from, or_from, or_parts, false≢true, not-true, false_from_ne_true}
-use Rattle.dpj_base.specs.declared.elems.Elem.{Elem}
-use Rattle.dpj_base.specs.declared.region.Rpl.{Rpl}
+use Rattle.dpj_base.specs.declared.effect.Access.{Access}
+use Rattle.dpj_base.specs.declared.effect.Access.TheVariants.{Read, Write}
 use Rattle.dpj_base.specs.declared.effect.Effect.{Effect}
-use Rattle.dpj_base.specs.Regions.{same_elem, same_head}
-use Rattle.dpj_base.specs.Effects.{same_bool, same_elems, same_rpl, same_effect, has_effect, added, all_distinct}
-use Rattle.dpj_regions.proofs.Inclusion.{same_elem-is, same_elem-refl}
-use Rattle.dpj_disjoint.proofs.Paths.{same_head-is, same_head-refl}
+use Rattle.dpj_base.specs.Effects.{same_access, same_bool, same_rpl, same_effect, has_effect, added, all_distinct}
+use Rattle.dpj_regions.proofs.Same.{same_rpl-is, same_rpl-from}
 
 same_bool-is : (b c : Bool) → same_bool b c ≡ true → b ≡ c
 same_bool-is true c h = sym h
@@ -18,37 +16,29 @@ same_bool-refl : (b : Bool) → same_bool b b ≡ true
 same_bool-refl true = refl
 same_bool-refl false = refl
 
-same_elems-is : (a b : List Elem) → same_elems a b ≡ true → a ≡ b
-same_elems-is [] [] h = refl
-same_elems-is [] (y ∷ b) h = absurd (false≢true h)
-same_elems-is (x ∷ a) [] h = absurd (false≢true h)
-same_elems-is (x ∷ a) (y ∷ b) h =
-    let p = and_parts (same_elem x y) _ h in
-    ap (λ z. z ∷ a) (same_elem-is x y p.0) ∙ ap (λ z. y ∷ z) (same_elems-is a b p.1)
+same_access-is : (a b : Access) → same_access a b ≡ true → a ≡ b
+same_access-is Read Read h = refl
+same_access-is Write Write h = refl
+same_access-is a b h = absurd (false≢true h)
 
-same_elems-refl : (a : List Elem) → same_elems a a ≡ true
-same_elems-refl [] = refl
-same_elems-refl (x ∷ a) = and_from _ _ (same_elem-refl x) (same_elems-refl a)
-
-same_rpl-is : (a b : Rpl) → same_rpl a b ≡ true → a ≡ b
-same_rpl-is a b h =
-    let p = and_parts (same_head a.head b.head) _ h in
-    ap (λ z. record a { head = z }) (same_head-is a.head b.head p.0) ∙ ap (λ z. record { head = b.head; elems = z }) (same_elems-is a.elems b.elems p.1)
+same_access-refl : (a : Access) → same_access a a ≡ true
+same_access-refl Read = refl
+same_access-refl Write = refl
 
 pub same_effect-is : (e f : Effect) → same_effect e f ≡ true → e ≡ f
 unfolding same_effect
 same_effect-is e f h =
-    let p = and_parts (same_bool e.write f.write && same_bool e.atomic f.atomic) _ h in
-    let q = and_parts (same_bool e.write f.write) _ p.0 in
-    ap (λ z. record e { write = z }) (same_bool-is e.write f.write q.0)
-    ∙ ap (λ z. record { write = f.write; atomic = z; rpl = e.rpl }) (same_bool-is e.atomic f.atomic q.1)
-    ∙ ap (λ z. record { write = f.write; atomic = f.atomic; rpl = z }) (same_rpl-is e.rpl f.rpl p.1)
+    let p = and_parts (same_access e.access f.access && same_bool e.atomic f.atomic) _ h in
+    let q = and_parts (same_access e.access f.access) _ p.0 in
+    ap (λ z. record e { access = z }) (same_access-is e.access f.access q.0)
+    ∙ ap (λ z. record { access = f.access; atomic = z; rpl = e.rpl }) (same_bool-is e.atomic f.atomic q.1)
+    ∙ ap (λ z. record { access = f.access; atomic = f.atomic; rpl = z }) (same_rpl-is e.rpl f.rpl p.1)
 
 pub same_effect-refl : (e : Effect) → same_effect e e ≡ true
 unfolding same_effect
 same_effect-refl e =
-    and_from _ _ (and_from _ _ (same_bool-refl e.write) (same_bool-refl e.atomic))
-    (and_from _ _ (same_head-refl e.rpl.head) (same_elems-refl e.rpl.elems))
+    and_from _ _ (and_from _ _ (same_access-refl e.access) (same_bool-refl e.atomic))
+    (same_rpl-from e.rpl e.rpl refl)
 
 pub same_effect-decides : (e f : Effect) → Decides (same_effect e f) (e ≡ f)
 same_effect-decides e f = (same_effect-is e f, λ s. subst (λ z. same_effect e z ≡ true) s (same_effect-refl e))

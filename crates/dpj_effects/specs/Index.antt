@@ -5,16 +5,23 @@ use Rattle.std.specs.BTreeMap.{get}
 use Rattle.std.specs.declared.collections.BTreeMap.{BTreeMap}
 use Rattle.std.specs.declared.alloc.Global.{Global}
 use Rattle.dpj_base.specs.declared.elems.Elem.{Elem}
-use Rattle.dpj_base.specs.declared.elems.Elem.TheVariants.{Name, Lit, Var, Any, Star, Local}
+use Rattle.dpj_base.specs.declared.elems.Elem.TheVariants.{Name, At, Any, Star, Local}
+use Rattle.dpj_base.specs.declared.elems.Index.{Index}
+use Rattle.dpj_base.specs.declared.elems.Index.TheVariants.{Literal, Variable, Renamed, Own}
 use Rattle.dpj_base.specs.declared.effect.Effect.{Effect}
 use Rattle.dpj_base.specs.Effects.{covers_effect, same_effect, has_effect}
 
+abbrev pub index_number : Index → ℕ
+index_number (Literal k) = ((nat_abs k * 8) % 2 ^ 32 + 1) % 2 ^ 32
+index_number (Variable v) = ((v * 8) % 2 ^ 32 + 2) % 2 ^ 32
+index_number (Renamed v) = ((v * 8) % 2 ^ 32 + 3) % 2 ^ 32
+index_number (Own d) = ((d * 8) % 2 ^ 32 + 4) % 2 ^ 32
+
 abbrev pub elem_number : Elem → ℕ
-elem_number (Name n) = (n * 4) % 2 ^ 32
-elem_number (Lit k) = ((nat_abs k * 4) % 2 ^ 32 + 1) % 2 ^ 32
-elem_number (Var v) = ((v * 4) % 2 ^ 32 + 2) % 2 ^ 32
-elem_number Any = 3
-elem_number Star = 7
+elem_number (Name n) = (n * 8) % 2 ^ 32
+elem_number (At x) = index_number x
+elem_number Any = 5
+elem_number Star = 6
 elem_number (Local a b) = ((a * 31) % 2 ^ 32 + b) % 2 ^ 32
 
 abbrev pub mixed : ℕ → List Elem → ℕ

@@ -1,16 +1,32 @@
 ghost use Rattle.std.specs.Prelude.{◌≡◌};
-ghost use Rattle.dpj_base.specs.Effects.{covers_effect, interferes};
+ghost use Rattle.dpj_base.specs.Effects.{is_write, covers_access, covers_effect, interferes};
 
-use dpj_base::{Constraint, Effect};
+use dpj_base::{Access, Constraint, Effect};
 use dpj_disjoint::disjoint;
 use dpj_regions::includes;
+
+fn is_write(access: Access) -> bool
+    ensures { result ≡ is_write access }
+{
+    matches!(access, Access::Write)
+}
+
+/// A write covers both, a read covers reads alone.
+fn covers_access(a: Access, b: Access) -> bool
+    ensures { result ≡ covers_access a b }
+{
+    match a {
+        Access::Write => true,
+        Access::Read => !is_write(b),
+    }
+}
 
 /// Whether the first effect covers the second: whoever may do the first may do the second.
 #[tactic(auto, unfolding(dpj_base::specs::Effects::covers_effect))]
 pub fn covers(a: &Effect, b: &Effect) -> bool
     ensures { result ≡ covers_effect a.now b.now }
 {
-    includes(&a.rpl, &b.rpl) && (a.write || !b.write) && (!a.atomic || b.atomic)
+    includes(&a.rpl, &b.rpl) && covers_access(a.access, b.access) && (!a.atomic || b.atomic)
 }
 
 /// Whether the two effects interfere, where the constraints hold.
@@ -18,5 +34,5 @@ pub fn covers(a: &Effect, b: &Effect) -> bool
 pub fn interferes(a: &Effect, b: &Effect, given: &[Constraint]) -> bool
     ensures { result ≡ interferes given.now a.now b.now }
 {
-    (a.write || b.write) && !disjoint(&a.rpl, &b.rpl, given)
+    (is_write(a.access) || is_write(b.access)) && !disjoint(&a.rpl, &b.rpl, given)
 }

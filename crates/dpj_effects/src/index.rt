@@ -2,23 +2,33 @@ ghost use Rattle.std.specs.Prelude.{◌≡◌, ◌≢◌, ◌++◌, ◌∷◌, �
 ghost use Rattle.std.specs.Ordering.{nat_cmp};
 ghost use Rattle.std.specs.BTreeMap.{get};
 ghost use Rattle.dpj_base.specs.Effects.{same_effect};
-ghost use Rattle.dpj_effects.specs.Index.{elem_number, mixed, number_of, any_at, any_covers_at};
+ghost use Rattle.dpj_effects.specs.Index.{index_number, elem_number, mixed, number_of, any_at, any_covers_at};
 
 use crate::effect::covers;
-use dpj_base::{Effect, Elem, Items, NoMemory, Plain};
+use dpj_base::{Effect, Elem, Index, Items, NoMemory, Plain};
 use std::alloc::Global;
 use std::collections::BTreeMap;
+
+fn index_number(index: Index) -> u32
+    ensures { result ≡ index_number index }
+{
+    match index {
+        Index::Literal(k) => k.unsigned_abs().wrapping_mul(8).wrapping_add(1),
+        Index::Variable(v) => v.wrapping_mul(8).wrapping_add(2),
+        Index::Renamed(v) => v.wrapping_mul(8).wrapping_add(3),
+        Index::Own(depth) => depth.wrapping_mul(8).wrapping_add(4),
+    }
+}
 
 /// A number of an element, the same for equal ones and another for most others.
 pub fn elem_number(elem: Elem) -> u32
     ensures { result ≡ elem_number elem }
 {
     match elem {
-        Elem::Name(n) => n.wrapping_mul(4),
-        Elem::Lit(k) => k.unsigned_abs().wrapping_mul(4).wrapping_add(1),
-        Elem::Var(v) => v.wrapping_mul(4).wrapping_add(2),
-        Elem::Any => 3,
-        Elem::Star => 7,
+        Elem::Name(n) => n.wrapping_mul(8),
+        Elem::At(index) => index_number(index),
+        Elem::Any => 5,
+        Elem::Star => 6,
         Elem::Local(a, b) => a.wrapping_mul(31).wrapping_add(b),
     }
 }

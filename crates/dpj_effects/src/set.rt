@@ -1,4 +1,4 @@
-ghost use Rattle.std.specs.Prelude.{◌≡◌, ◌↔◌, [], true, false, length, IsTrue, IfOk, OnOk, OnErr};
+ghost use Rattle.std.specs.Prelude.{◌≡◌, ◌↔◌, [], true, length, IsTrue, IfOk, OnOk, OnErr};
 ghost use Rattle.dpj_base.specs.Effects.{has_effect, some_covers, set_covers, added, gathered, all_marked, with_mark};
 
 use crate::effect::covers;
@@ -114,8 +114,7 @@ impl EffectSet {
         true
     }
 
-    /// Puts copies of another set's effects behind those of this one, but for those that are there already. After
-    /// want of memory some of them may be there.
+    /// Adds copies of another set's effects, one after another. After want of memory some of them may be there.
     pub fn add_all(&mut self, alloc: Global, other: &EffectSet) -> Result<(), NoMemory>
         ensures { OnOk result (self.new ≡ gathered self.old other.now) }
     {
@@ -125,30 +124,15 @@ impl EffectSet {
         Ok(())
     }
 
-    /// `add_all` where the other set isn't needed any more: into an empty set it moves, with no memory taken.
-    pub fn absorb(&mut self, alloc: Global, other: EffectSet) -> Result<(), NoMemory>
-        ensures { OnOk result (self.new ≡ gathered self.old other) }
-    {
-        let _ = &other.effects;
-        if self.is_empty() {
-            *self = other;
-            return Ok(());
-        }
-        self.add_all(alloc, &other)
-    }
-
     /// The same effects, each marked, each once and at its first place.
     pub fn marked(&self, alloc: Global) -> Result<EffectSet, NoMemory>
         ensures { IfOk result (λ set. set ≡ all_marked true self.now) }
     {
-        with_marks(alloc, self.effects.as_slice(), true)
-    }
-
-    /// The same effects, each plain, each once and at its first place.
-    pub fn unmarked(&self, alloc: Global) -> Result<EffectSet, NoMemory>
-        ensures { IfOk result (λ set. set ≡ all_marked false self.now) }
-    {
-        with_marks(alloc, self.effects.as_slice(), false)
+        let mut set = EffectSet::new(alloc);
+        for e in self.effects.as_slice() {
+            set.add(marked(alloc, e)?)?;
+        }
+        Ok(set)
     }
 }
 
@@ -177,22 +161,12 @@ fn some_covers(effects: &[Effect], f: &Effect) -> bool
     false
 }
 
-fn with_mark(alloc: Global, e: &Effect, mark: bool) -> Result<Effect, NoMemory>
-    ensures { IfOk result (λ made. made ≡ with_mark mark e.now) }
+fn marked(alloc: Global, e: &Effect) -> Result<Effect, NoMemory>
+    ensures { IfOk result (λ made. made ≡ with_mark true e.now) }
 {
     Ok(Effect {
-        write: e.write,
-        atomic: mark,
+        access: e.access,
+        atomic: true,
         rpl: e.rpl.copy(alloc)?,
     })
-}
-
-fn with_marks(alloc: Global, effects: &[Effect], mark: bool) -> Result<EffectSet, NoMemory>
-    ensures { IfOk result (λ set. set ≡ all_marked mark effects.now) }
-{
-    let mut set = EffectSet::new(alloc);
-    for e in effects {
-        set.add(with_mark(alloc, e, mark)?)?;
-    }
-    Ok(set)
 }

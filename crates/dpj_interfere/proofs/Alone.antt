@@ -1,10 +1,12 @@
 -- Effects that are alone interfere with no effect of another branch.
 use Rattle.std.proofs.Common.{◌≡◌, ◌≢◌, ℕ, Bool, true, false, not, ◌||◌, List, Option, Some, None, refl, sym, ap, ◌∙◌, subst, ⊎_elim}
 use Rattle.std.proofs.lemmas.Bool.{and_parts, and_left, and_right, or_cases, false≢true, not-true, not-false, ne_eqb, eqb-true, cases_Bool, cases_eq}
+use Rattle.dpj_base.specs.declared.effect.Access.{Access}
+use Rattle.dpj_base.specs.declared.effect.Access.TheVariants.{Read, Write}
 use Rattle.dpj_base.specs.declared.effect.Effect.{Effect}
 use Rattle.dpj_base.specs.declared.effect.Constraint.{Constraint}
 use Rattle.dpj_base.specs.Apart.{apart}
-use Rattle.dpj_base.specs.Effects.{interferes}
+use Rattle.dpj_base.specs.Effects.{is_write, interferes}
 use Rattle.dpj_interfere.specs.declared.seen.Seen.{Seen}
 use Rattle.dpj_interfere.specs.declared.seen.Seen.TheVariants.{Nobody, One, Many}
 use Rattle.dpj_interfere.specs.declared.seen.Group.{Group}
@@ -21,35 +23,35 @@ another (One k) i j ne h = ap not (ne_eqb k i (λ e. ne (sym e ∙ eqb-true k j 
 another Many i j ne h = refl
 
 -- a group that shows an effect of another branch is met, if one of the two writes
-met : (g : Group) (i j : ℕ) (write v : Bool) → i ≢ j → (write || v) ≡ true → group_shows g j v ≡ true → group_meets g i write ≡ true
-met g i j true v ne w h = another g.any i j ne (and_parts (seen g.any j) _ h).0
-met g i j false true ne w h = another g.writers i j ne (and_parts (seen g.any j) _ h).1
-met g i j false false ne w h = absurd (false≢true w)
+met : (g : Group) (i j : ℕ) (a b : Access) → i ≢ j → (is_write a || is_write b) ≡ true → group_shows g j b ≡ true → group_meets g i a ≡ true
+met g i j Write b ne w h = another g.any i j ne (and_parts (seen g.any j) _ h).0
+met g i j Read Write ne w h = another g.writers i j ne (and_parts (seen g.any j) _ h).1
+met g i j Read Read ne w h = absurd (false≢true w)
 
-unmet : (g : Group) (i j : ℕ) (write v : Bool) → i ≢ j → (write || v) ≡ true → group_shows g j v ≡ true → not (group_meets g i write) ≡ true → ⊥
-unmet g i j write v ne w h k = false≢true (sym (not-true _ k) ∙ met g i j write v ne w h)
+unmet : (g : Group) (i j : ℕ) (a b : Access) → i ≢ j → (is_write a || is_write b) ≡ true → group_shows g j b ≡ true → not (group_meets g i a) ≡ true → ⊥
+unmet g i j a b ne w h k = false≢true (sym (not-true _ k) ∙ met g i j a b ne w h)
 
-apart-alone : (g : Groups) (given : List Constraint) (e f : Effect) (i j : ℕ) → i ≢ j → (e.write || f.write) ≡ true → (o p : Option ℕ) → key_of g.key e ≡ o → key_of g.key f ≡ p → alone_at o g i e.write ≡ true → group_shows g.all j f.write ≡ true → group_shows (group_at g p) j f.write ≡ true → apart given e.rpl f.rpl ≡ true
-apart-alone g given e f i j ne w None p ke kf a all s = absurd (unmet g.all i j e.write f.write ne w all a)
+apart-alone : (g : Groups) (given : List Constraint) (e f : Effect) (i j : ℕ) → i ≢ j → (is_write e.access || is_write f.access) ≡ true → (o p : Option ℕ) → key_of g.key e ≡ o → key_of g.key f ≡ p → alone_at o g i e.access ≡ true → group_shows g.all j f.access ≡ true → group_shows (group_at g p) j f.access ≡ true → apart given e.rpl f.rpl ≡ true
+apart-alone g given e f i j ne w None p ke kf a all s = absurd (unmet g.all i j e.access f.access ne w all a)
 apart-alone g given e f i j ne w (Some k) None ke kf a all s =
-    absurd (unmet g.unkeyed i j e.write f.write ne w s (and_parts (not (group_meets g.unkeyed i e.write)) _ a).0)
+    absurd (unmet g.unkeyed i j e.access f.access ne w s (and_parts (not (group_meets g.unkeyed i e.access)) _ a).0)
 apart-alone g given e f i j ne w (Some k) (Some l) ke kf a all s =
     ⊎_elim
     (λ (same : k ≡ l).
-    absurd (unmet (keyed_group g.keyed k) i j e.write f.write ne w
-    (subst (λ z. group_shows (keyed_group g.keyed z) j f.write ≡ true) (sym same) s)
-    (and_parts (not (group_meets g.unkeyed i e.write)) _ a).1))
+    absurd (unmet (keyed_group g.keyed k) i j e.access f.access ne w
+    (subst (λ z. group_shows (keyed_group g.keyed z) j f.access ≡ true) (sym same) s)
+    (and_parts (not (group_meets g.unkeyed i e.access)) _ a).1))
     (λ differ. keys-apart given g.key e f k l ke kf differ)
     (cases_eq k l)
 
 alone-quiet : (g : Groups) (given : List Constraint) (e f : Effect) (i j : ℕ) → i ≢ j → alone g i e ≡ true → shows g j f ≡ true → interferes given e f ≡ false
 unfolding interferes
 alone-quiet g given e f i j ne a s =
-    let p = and_parts (group_shows g.all j f.write) _ s in
+    let p = and_parts (group_shows g.all j f.access) _ s in
     ⊎_elim
-    (λ w. and_right (e.write || f.write) _ (ap not (apart-alone g given e f i j ne w (key_of g.key e) (key_of g.key f) refl refl a p.0 p.1)))
+    (λ w. and_right (is_write e.access || is_write f.access) _ (ap not (apart-alone g given e f i j ne w (key_of g.key e) (key_of g.key f) refl refl a p.0 p.1)))
     (λ n. and_left _ _ n)
-    (cases_Bool (e.write || f.write))
+    (cases_Bool (is_write e.access || is_write f.access))
 
 pub thinned_from : (g : Kinds) (branches left : List (List Effect)) → Grouped g branches → ThinnedBy (kept g) branches left → Thinned branches left
 thinned_from g branches left all t = record {

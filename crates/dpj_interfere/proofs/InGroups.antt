@@ -1,16 +1,16 @@
--- Effects by groups: an effect meets none of a list but those that are told for it.
+-- Effects by groups: an effect clashes with none of a list but those of its group and those that belong to none.
 use Rattle.std.proofs.Common.{◌≡◌, ℕ, Bool, true, false, not, ◌&&◌, ◌||◌, cond, List, [], ◌∷◌, Option, Some, None, refl, sym, ap, ◌∙◌}
 use Rattle.std.specs.List.{filter}
 use Rattle.std.proofs.lemmas.Bool.{and_right, eq-eqb, false≢true}
 use Rattle.dpj_base.specs.declared.effect.Effect.{Effect}
 use Rattle.dpj_base.specs.declared.effect.Constraint.{Constraint}
 use Rattle.dpj_base.specs.Apart.{apart}
-use Rattle.dpj_base.specs.Effects.{interferes}
-use Rattle.dpj_base.specs.Branches.{some_interferes}
+use Rattle.dpj_base.specs.Effects.{is_write, interferes}
+use Rattle.dpj_base.specs.Branches.{Atomic, clashes, some_clashes}
 use Rattle.dpj_interfere.specs.declared.key.Key.{Key}
 use Rattle.dpj_interfere.specs.Groups.{key_of, is_number}
 use Rattle.dpj_interfere.specs.InGroups.{is_none, is_in, is_in_none, in_group, in_no_group}
-use Rattle.dpj_interfere.proofs.Filtered.{some_meets, some_interferes-meets}
+use Rattle.dpj_interfere.proofs.Filtered.{quiet-clash}
 use Rattle.dpj_interfere.proofs.Keys.{keys-apart}
 
 -- two filters that leave out together only what isn't met
@@ -30,25 +30,26 @@ or-mixed true false false s t h = refl
 or-mixed false true false s t h = refl
 or-mixed false false false s t h = refl
 
-some_meets-step : (meets : Effect → Effect → Bool) (p : Effect → Bool) (e f : Effect) (fs : List Effect) → some_meets meets e (filter p (f ∷ fs)) ≡ (p f && meets e f) || some_meets meets e (filter p fs)
-some_meets-step meets p e f fs = by_case (p f)
-  where
-    by_case : (b : Bool) → some_meets meets e (cond b (f ∷ filter p fs) (filter p fs)) ≡ (b && meets e f) || some_meets meets e (filter p fs)
-    by_case true = refl
-    by_case false = refl
+module _ (given : List Constraint) (nd : Option Atomic) where
+  some_clashes-step : (p : Effect → Bool) (e f : Effect) (fs : List Effect) → some_clashes given nd e (filter p (f ∷ fs)) ≡ (p f && clashes given nd e f) || some_clashes given nd e (filter p fs)
+  some_clashes-step p e f fs = by_case (p f)
+    where
+      by_case : (b : Bool) → some_clashes given nd e (cond b (f ∷ filter p fs) (filter p fs)) ≡ (b && clashes given nd e f) || some_clashes given nd e (filter p fs)
+      by_case true = refl
+      by_case false = refl
 
-two-filters : (meets : Effect → Effect → Bool) (p q : Effect → Bool) (e : Effect) → ((f : Effect) → p f ≡ false → q f ≡ false → meets e f ≡ false) → (fs : List Effect) → some_meets meets e (filter p fs) || some_meets meets e (filter q fs) ≡ some_meets meets e fs
-two-filters meets p q e h [] = refl
-two-filters meets p q e h (f ∷ fs) =
-    ap (λ z. z || some_meets meets e (filter q (f ∷ fs))) (some_meets-step meets p e f fs)
-    ∙ ap (λ z. ((p f && meets e f) || some_meets meets e (filter p fs)) || z) (some_meets-step meets q e f fs)
-    ∙ or-mixed (p f) (q f) (meets e f) (some_meets meets e (filter p fs)) (some_meets meets e (filter q fs)) (h f)
-    ∙ ap (λ z. meets e f || z) (two-filters meets p q e h fs)
+  two-filters : (p q : Effect → Bool) (e : Effect) → ((f : Effect) → p f ≡ false → q f ≡ false → clashes given nd e f ≡ false) → (fs : List Effect) → some_clashes given nd e (filter p fs) || some_clashes given nd e (filter q fs) ≡ some_clashes given nd e fs
+  two-filters p q e h [] = refl
+  two-filters p q e h (f ∷ fs) =
+      ap (λ z. z || some_clashes given nd e (filter q (f ∷ fs))) (some_clashes-step p e f fs)
+      ∙ ap (λ z. ((p f && clashes given nd e f) || some_clashes given nd e (filter p fs)) || z) (some_clashes-step q e f fs)
+      ∙ or-mixed (p f) (q f) (clashes given nd e f) (some_clashes given nd e (filter p fs)) (some_clashes given nd e (filter q fs)) (h f)
+      ∙ ap (λ z. clashes given nd e f || z) (two-filters p q e h fs)
 
 -- effects of different groups don't interfere
 other-group : (given : List Constraint) (key : Key) (e f : Effect) (k : ℕ) → key_of key e ≡ Some k → is_in key k f ≡ false → is_in_none key f ≡ false → interferes given e f ≡ false
 unfolding interferes
-other-group given key e f k ke out keyed = and_right (e.write || f.write) _ (ap not (by_key (key_of key f) refl out keyed))
+other-group given key e f k ke out keyed = and_right (is_write e.access || is_write f.access) _ (ap not (by_key (key_of key f) refl out keyed))
   where
     by_key : (o : Option ℕ) → key_of key f ≡ o → is_number o k ≡ false → is_none o ≡ false → apart given e.rpl f.rpl ≡ true
     by_key None kf a b = absurd (false≢true (sym b))
@@ -58,20 +59,12 @@ or-false : (b : Bool) → b || false ≡ b
 or-false true = refl
 or-false false = refl
 
--- what is true of interference whatever the constraints is true of another relation that implies it
-pub meets-by_group : (given : List Constraint) (meets : Effect → Effect → Bool) → ((e f : Effect) → interferes given e f ≡ false → meets e f ≡ false) → (key : Key) (e : Effect) (fs : List Effect) → some_meets meets e (in_group key (key_of key e) fs) || some_meets meets e (in_no_group key (key_of key e) fs) ≡ some_meets meets e fs
-meets-by_group given meets implied key e fs = by_key (key_of key e) refl
+pub clashes-by_group : (given : List Constraint) (nd : Option Atomic) (key : Key) (e : Effect) (fs : List Effect) → some_clashes given nd e (in_group key (key_of key e) fs) || some_clashes given nd e (in_no_group key (key_of key e) fs) ≡ some_clashes given nd e fs
+clashes-by_group given nd key e fs = by_key (key_of key e) refl
   where
-    by_key : (o : Option ℕ) → key_of key e ≡ o → some_meets meets e (in_group key o fs) || some_meets meets e (in_no_group key o fs) ≡ some_meets meets e fs
-    by_key None ke = or-false (some_meets meets e fs)
-    by_key (Some k) ke = two-filters meets (is_in key k) (is_in_none key) e (λ f out keyed. implied e f (other-group given key e f k ke out keyed)) fs
-
-pub interferes-by_group : (given : List Constraint) (key : Key) (e : Effect) (fs : List Effect) → some_interferes given e (in_group key (key_of key e) fs) || some_interferes given e (in_no_group key (key_of key e) fs) ≡ some_interferes given e fs
-interferes-by_group given key e fs =
-    ap (λ z. z || some_interferes given e (in_no_group key (key_of key e) fs)) (some_interferes-meets given e (in_group key (key_of key e) fs))
-    ∙ ap (λ z. some_meets (interferes given) e (in_group key (key_of key e) fs) || z) (some_interferes-meets given e (in_no_group key (key_of key e) fs))
-    ∙ meets-by_group given (interferes given) (λ _ _ q. q) key e fs
-    ∙ sym (some_interferes-meets given e fs)
+    by_key : (o : Option ℕ) → key_of key e ≡ o → some_clashes given nd e (in_group key o fs) || some_clashes given nd e (in_no_group key o fs) ≡ some_clashes given nd e fs
+    by_key None ke = or-false (some_clashes given nd e fs)
+    by_key (Some k) ke = two-filters given nd (is_in key k) (is_in_none key) e (λ f out keyed. quiet-clash given nd e f (other-group given key e f k ke out keyed)) fs
 
 -- what is found in one part of a list, and in the other after that
 pub one-tells : (found : List Effect → Bool) (fs one other near : List Effect) (b : Bool) → found one || found other ≡ found fs → b ≡ found near → near ≡ one → b ≡ true → b ≡ found fs

@@ -1,4 +1,6 @@
 pub mod Alone
+pub mod Covered
+pub mod Ends
 pub mod Filtered
 pub mod InGroups
 pub mod Keys

@@ -4,7 +4,10 @@ use Rattle.std.specs.List.{All}
 use Rattle.std.proofs.lemmas.Bool.{and_parts, and_from, or_cases, or_left, or_right, false≢true, eq-eqb, cond_both, cases_eq}
 use Rattle.std.proofs.lemmas.List.{get_or_read}
 use Rattle.std.proofs.lemmas.List.Elements.{All-more, All-weaker}
+use Rattle.dpj_base.specs.declared.effect.Access.{Access}
+use Rattle.dpj_base.specs.declared.effect.Access.TheVariants.{Read, Write}
 use Rattle.dpj_base.specs.declared.effect.Effect.{Effect}
+use Rattle.dpj_base.specs.Effects.{is_write}
 use Rattle.dpj_interfere.specs.declared.seen.Seen.{Seen}
 use Rattle.dpj_interfere.specs.declared.seen.Seen.TheVariants.{Nobody, One, Many}
 use Rattle.dpj_interfere.specs.declared.seen.Group.{Group}
@@ -21,58 +24,58 @@ seen-there Nobody j = eq-eqb j j refl
 seen-there (One k) j = cond_both (k == j) (One k) Many (λ z. seen z j ≡ true) (λ e. e) (λ _. refl)
 seen-there Many j = refl
 
-writers-kept : (s : Seen) (i j : ℕ) (v write : Bool) → (not v || seen s i) ≡ true → (not v || seen (cond write (seen_with s j) s) i) ≡ true
-writers-kept s i j v false h = h
-writers-kept s i j v true h = ⊎_elim (λ t. or_left _ _ t) (λ t. or_right (not v) _ (seen-kept s i j t)) (or_cases (not v) _ h)
+writers-kept : (s : Seen) (i j : ℕ) (v access : Access) → (not (is_write v) || seen s i) ≡ true → (not (is_write v) || seen (cond (is_write access) (seen_with s j) s) i) ≡ true
+writers-kept s i j v Read h = h
+writers-kept s i j v Write h = ⊎_elim (λ t. or_left _ _ t) (λ t. or_right (not (is_write v)) _ (seen-kept s i j t)) (or_cases (not (is_write v)) _ h)
 
-group-kept : (g : Group) (i j : ℕ) (v write : Bool) → group_shows g i v ≡ true → group_shows (group_with g j write) i v ≡ true
-group-kept g i j v write h =
+group-kept : (g : Group) (i j : ℕ) (v access : Access) → group_shows g i v ≡ true → group_shows (group_with g j access) i v ≡ true
+group-kept g i j v access h =
     let p = and_parts (seen g.any i) _ h in
-    and_from _ _ (seen-kept g.any i j p.0) (writers-kept g.writers i j v write p.1)
+    and_from _ _ (seen-kept g.any i j p.0) (writers-kept g.writers i j v access p.1)
 
-writers-there : (s : Seen) (j : ℕ) (write : Bool) → (not write || seen (cond write (seen_with s j) s) j) ≡ true
-writers-there s j true = seen-there s j
-writers-there s j false = refl
+writers-there : (s : Seen) (j : ℕ) (access : Access) → (not (is_write access) || seen (cond (is_write access) (seen_with s j) s) j) ≡ true
+writers-there s j Write = seen-there s j
+writers-there s j Read = refl
 
-group-there : (g : Group) (j : ℕ) (write : Bool) → group_shows (group_with g j write) j write ≡ true
-group-there g j write = and_from _ _ (seen-there g.any j) (writers-there g.writers j write)
+group-there : (g : Group) (j : ℕ) (access : Access) → group_shows (group_with g j access) j access ≡ true
+group-there g j access = and_from _ _ (seen-there g.any j) (writers-there g.writers j access)
 
-unkeyed-kept : (o : Option ℕ) (g : Group) (i j : ℕ) (v write : Bool) → group_shows g i v ≡ true → group_shows (with_unkeyed o g j write) i v ≡ true
-unkeyed-kept None g i j v write h = group-kept g i j v write h
-unkeyed-kept (Some k) g i j v write h = h
+unkeyed-kept : (o : Option ℕ) (g : Group) (i j : ℕ) (v access : Access) → group_shows g i v ≡ true → group_shows (with_unkeyed o g j access) i v ≡ true
+unkeyed-kept None g i j v access h = group-kept g i j v access h
+unkeyed-kept (Some k) g i j v access h = h
 
-group_at-kept : (old new : Groups) (j : ℕ) (e : Effect) → Noted old new j e → (o : Option ℕ) (i : ℕ) (v : Bool) → group_shows (group_at old o) i v ≡ true → group_shows (group_at new o) i v ≡ true
+group_at-kept : (old new : Groups) (j : ℕ) (e : Effect) → Noted old new j e → (o : Option ℕ) (i : ℕ) (v : Access) → group_shows (group_at old o) i v ≡ true → group_shows (group_at new o) i v ≡ true
 group_at-kept old new j e n None i v h =
-    subst (λ g. group_shows g i v ≡ true) (sym n.unkeyed) (unkeyed-kept (key_of old.key e) old.unkeyed i j v e.write h)
+    subst (λ g. group_shows g i v ≡ true) (sym n.unkeyed) (unkeyed-kept (key_of old.key e) old.unkeyed i j v e.access h)
 group_at-kept old new j e n (Some q) i v h =
     subst (λ g. group_shows g i v ≡ true) (sym (n.keyed q))
     (cond_both
     (is_number (key_of old.key e) q)
-    (group_with (keyed_group old.keyed q) j e.write)
+    (group_with (keyed_group old.keyed q) j e.access)
     (keyed_group old.keyed q)
     (λ g. group_shows g i v ≡ true)
-    (λ _. group-kept (keyed_group old.keyed q) i j v e.write h)
+    (λ _. group-kept (keyed_group old.keyed q) i j v e.access h)
     (λ _. h))
 
-group_at-there : (old new : Groups) (j : ℕ) (write : Bool) (o : Option ℕ) → new.unkeyed ≡ with_unkeyed o old.unkeyed j write → ((q : ℕ) → keyed_group new.keyed q ≡ cond (is_number o q) (group_with (keyed_group old.keyed q) j write) (keyed_group old.keyed q)) → group_shows (group_at new o) j write ≡ true
-group_at-there old new j write None u k = subst (λ g. group_shows g j write ≡ true) (sym u) (group-there old.unkeyed j write)
-group_at-there old new j write (Some q) u k =
-    subst (λ g. group_shows g j write ≡ true)
-    (sym (k q ∙ ap (λ b. cond b (group_with (keyed_group old.keyed q) j write) (keyed_group old.keyed q)) (eq-eqb q q refl)))
-    (group-there (keyed_group old.keyed q) j write)
+group_at-there : (old new : Groups) (j : ℕ) (access : Access) (o : Option ℕ) → new.unkeyed ≡ with_unkeyed o old.unkeyed j access → ((q : ℕ) → keyed_group new.keyed q ≡ cond (is_number o q) (group_with (keyed_group old.keyed q) j access) (keyed_group old.keyed q)) → group_shows (group_at new o) j access ≡ true
+group_at-there old new j access None u k = subst (λ g. group_shows g j access ≡ true) (sym u) (group-there old.unkeyed j access)
+group_at-there old new j access (Some q) u k =
+    subst (λ g. group_shows g j access ≡ true)
+    (sym (k q ∙ ap (λ b. cond b (group_with (keyed_group old.keyed q) j access) (keyed_group old.keyed q)) (eq-eqb q q refl)))
+    (group-there (keyed_group old.keyed q) j access)
 
 noted-kept : (old new : Groups) (j : ℕ) (e : Effect) → Noted old new j e → (i : ℕ) (f : Effect) → shows old i f ≡ true → shows new i f ≡ true
 noted-kept old new j e n i f h =
-    let p = and_parts (group_shows old.all i f.write) _ h in
+    let p = and_parts (group_shows old.all i f.access) _ h in
     and_from _ _
-    (subst (λ g. group_shows g i f.write ≡ true) (sym n.all) (group-kept old.all i j f.write e.write p.0))
-    (subst (λ key. group_shows (group_at new (key_of key f)) i f.write ≡ true) (sym n.key) (group_at-kept old new j e n (key_of old.key f) i f.write p.1))
+    (subst (λ g. group_shows g i f.access ≡ true) (sym n.all) (group-kept old.all i j f.access e.access p.0))
+    (subst (λ key. group_shows (group_at new (key_of key f)) i f.access ≡ true) (sym n.key) (group_at-kept old new j e n (key_of old.key f) i f.access p.1))
 
 noted-there : (old new : Groups) (j : ℕ) (e : Effect) → Noted old new j e → shows new j e ≡ true
 noted-there old new j e n =
     and_from _ _
-    (subst (λ g. group_shows g j e.write ≡ true) (sym n.all) (group-there old.all j e.write))
-    (subst (λ key. group_shows (group_at new (key_of key e)) j e.write ≡ true) (sym n.key) (group_at-there old new j e.write (key_of old.key e) n.unkeyed n.keyed))
+    (subst (λ g. group_shows g j e.access ≡ true) (sym n.all) (group-there old.all j e.access))
+    (subst (λ key. group_shows (group_at new (key_of key e)) j e.access ≡ true) (sym n.key) (group_at-there old new j e.access (key_of old.key e) n.unkeyed n.keyed))
 
 pub shows-more : (old mid new : Groups) (j i : ℕ) (es : List Effect) (e : Effect) → i < length es → e ≡ get_or es i e → Shows old mid j (take i es) → Noted mid new j e → Shows old new j (take (i + 1) es)
 shows-more old mid new j i es e lt at s n = record {

@@ -7,11 +7,11 @@ use Rattle.std.proofs.lemmas.List.Elements.{recursion_from_All}
 use Rattle.dpj_base.specs.declared.effect.Effect.{Effect}
 use Rattle.dpj_base.specs.declared.effect.Constraint.{Constraint}
 use Rattle.dpj_base.specs.Effects.{interferes}
-use Rattle.dpj_base.specs.Branches.{lists_interfere}
+use Rattle.dpj_base.specs.Branches.{Atomic, clashes, lists_clash}
 use Rattle.dpj_base.specs.Pairs.{NoneBetween, FirstPair}
 use Rattle.dpj_effects.proofs.Covered.{interferes_swap}
 use Rattle.dpj_interfere.specs.Thinned.{Thinned}
-use Rattle.dpj_interfere.proofs.Filtered.{lists_meet, lists_meet-filter, lists_interfere-meet}
+use Rattle.dpj_interfere.proofs.Filtered.{quiet-clash, lists_clash-filter}
 
 pub first_pair-same : {X : Type 0} (R : X → X → Type 0) (xs ys : List X) → length ys ≡ length xs → ((i j : ℕ) (d : X) → i < j → j < length xs → R (get_or ys i d) (get_or ys j d) ↔ R (get_or xs i d) (get_or xs j d)) → (p : Option (ℕ × ℕ)) → FirstPair R ys p → FirstPair R xs p
 first_pair-same R xs ys n same None h = λ i j d lt below r. h i j d lt (omega arith) ((same i j d lt below).1 r)
@@ -30,41 +30,37 @@ first_pair-same R xs ys n same (Some p) h =
 swapped : (given : List Constraint) (e f : Effect) → interferes given f e ≡ false → interferes given e f ≡ false
 swapped given e f h = false_from_ne_true _ (λ t. false≢true (sym h ∙ interferes_swap given e f t))
 
--- what is true of interference whatever the constraints is true of another relation that implies it
-pub meet-thinned : (given : List Constraint) (meets : Effect → Effect → Bool) → ((e f : Effect) → interferes given e f ≡ false → meets e f ≡ false) → (branches left : List (List Effect)) → Thinned branches left → (i j : ℕ) (d : List Effect) → i < j → j < length branches → lists_meet meets (get_or left i d) (get_or left j d) ≡ lists_meet meets (get_or branches i d) (get_or branches j d)
-meet-thinned given meets implied branches left t i j d lt below =
+pub clash-thinned : (given : List Constraint) (nd : Option Atomic) (branches left : List (List Effect)) → Thinned branches left → (i j : ℕ) (d : List Effect) → i < j → j < length branches → lists_clash given nd (get_or left i d) (get_or left j d) ≡ lists_clash given nd (get_or branches i d) (get_or branches j d)
+clash-thinned given nd branches left t i j d lt below =
     let li : i < length branches = omega arith in
     let es = get_or branches i d in
     let fs = get_or branches j d in
     let away : i ≢ j = omega arith in
     let back : j ≢ i = omega arith in
-    let one : AllByRecursion (λ e. t.keeps i e ≡ false → AllByRecursion (λ f. meets e f ≡ false) fs) es =
-    recursion_from_All (λ e. t.keeps i e ≡ false → AllByRecursion (λ f. meets e f ≡ false) fs) es
-    (λ k dk lk drop. recursion_from_All (λ f. meets (get_or es k dk) f ≡ false) fs (λ m dm lm. implied _ _ (t.quiet given i j d away li below k dk lk drop m dm lm))) in
-    let two : AllByRecursion (λ e. AllByRecursion (λ f. t.keeps j f ≡ false → meets e f ≡ false) fs) es =
-    recursion_from_All (λ e. AllByRecursion (λ f. t.keeps j f ≡ false → meets e f ≡ false) fs) es
-    (λ k dk lk. recursion_from_All (λ f. t.keeps j f ≡ false → meets (get_or es k dk) f ≡ false) fs
-    (λ m dm lm drop. implied _ _ (swapped given _ _ (t.quiet given j i d back below li m dm lm drop k dk lk)))) in
-    ap (λ z. lists_meet meets z (get_or left j d)) (t.kept i d li) ∙ ap (lists_meet meets (filter (t.keeps i) es)) (t.kept j d below)
-    ∙ lists_meet-filter meets (t.keeps i) (t.keeps j) es fs one two
+    let one : AllByRecursion (λ e. t.keeps i e ≡ false → AllByRecursion (λ f. clashes given nd e f ≡ false) fs) es =
+    recursion_from_All (λ e. t.keeps i e ≡ false → AllByRecursion (λ f. clashes given nd e f ≡ false) fs) es
+    (λ k dk lk drop. recursion_from_All (λ f. clashes given nd (get_or es k dk) f ≡ false) fs
+    (λ m dm lm. quiet-clash given nd _ _ (t.quiet given i j d away li below k dk lk drop m dm lm))) in
+    let two : AllByRecursion (λ e. AllByRecursion (λ f. t.keeps j f ≡ false → clashes given nd e f ≡ false) fs) es =
+    recursion_from_All (λ e. AllByRecursion (λ f. t.keeps j f ≡ false → clashes given nd e f ≡ false) fs) es
+    (λ k dk lk. recursion_from_All (λ f. t.keeps j f ≡ false → clashes given nd (get_or es k dk) f ≡ false) fs
+    (λ m dm lm drop. quiet-clash given nd _ _ (swapped given _ _ (t.quiet given j i d back below li m dm lm drop k dk lk)))) in
+    ap (λ z. lists_clash given nd z (get_or left j d)) (t.kept i d li) ∙ ap (lists_clash given nd (filter (t.keeps i) es)) (t.kept j d below)
+    ∙ lists_clash-filter given nd (t.keeps i) (t.keeps j) es fs one two
 
-pub first_pair-thinned : (given : List Constraint) (branches left : List (List Effect)) → Thinned branches left → (p : Option (ℕ × ℕ)) → FirstPair (λ es fs. IsTrue (lists_interfere given es fs)) left p → FirstPair (λ es fs. IsTrue (lists_interfere given es fs)) branches p
-first_pair-thinned given branches left t p h =
+pub first_pair-thinned : (given : List Constraint) (nd : Option Atomic) (branches left : List (List Effect)) → Thinned branches left → (p : Option (ℕ × ℕ)) → FirstPair (λ es fs. IsTrue (lists_clash given nd es fs)) left p → FirstPair (λ es fs. IsTrue (lists_clash given nd es fs)) branches p
+first_pair-thinned given nd branches left t p h =
     first_pair-same
-    (λ es fs. IsTrue (lists_interfere given es fs))
+    (λ es fs. IsTrue (lists_clash given nd es fs))
     branches
     left
     t.lengths
-    (λ i j d lt below.
-    let e = lists_interfere-meet given (get_or left i d) (get_or left j d)
-    ∙ meet-thinned given (interferes given) (λ _ _ q. q) branches left t i j d lt below
-    ∙ sym (lists_interfere-meet given (get_or branches i d) (get_or branches j d)) in
-    (λ r. sym e ∙ r, λ r. e ∙ r))
+    (λ i j d lt below. let e = clash-thinned given nd branches left t i j d lt below in (λ r. sym e ∙ r, λ r. e ∙ r))
     p
     h
 
--- an empty branch interferes with none behind it
-pub empty-behind : (given : List Constraint) (branches : List (List Effect)) (i : ℕ) (x : List Effect) → i < length branches → x ≡ get_or branches i x → x ≡ [] → NoneBetween (λ es fs. IsTrue (lists_interfere given es fs)) branches i (length branches)
-empty-behind given branches i x lt at none b d above below r =
+-- an empty branch clashes with none after it
+pub empty-after : (given : List Constraint) (nd : Option Atomic) (branches : List (List Effect)) (i : ℕ) (x : List Effect) → i < length branches → x ≡ get_or branches i x → x ≡ [] → NoneBetween (λ es fs. IsTrue (lists_clash given nd es fs)) branches i (length branches)
+empty-after given nd branches i x lt at none b d above below r =
     let e : get_or branches i d ≡ [] = sym (get_or_read branches i x lt at d) ∙ none in
-    false≢true (subst (λ z. lists_interfere given z (get_or branches b d) ≡ true) e r)
+    false≢true (subst (λ z. lists_clash given nd z (get_or branches b d) ≡ true) e r)

@@ -5,8 +5,10 @@ use Rattle.std.specs.BTreeMap.{get}
 use Rattle.std.specs.declared.collections.BTreeMap.{BTreeMap}
 use Rattle.std.specs.declared.alloc.Global.{Global}
 use Rattle.dpj_base.specs.declared.elems.Elem.{Elem}
+use Rattle.dpj_base.specs.declared.effect.Access.{Access}
 use Rattle.dpj_base.specs.declared.effect.Effect.{Effect}
 use Rattle.dpj_base.specs.Regions.{same_head}
+use Rattle.dpj_base.specs.Effects.{is_write}
 use Rattle.dpj_base.specs.Matching.{is_concrete, all_concrete}
 use Rattle.dpj_effects.specs.Index.{elem_number, number_of}
 use Rattle.dpj_interfere.specs.declared.seen.Seen.{Seen}
@@ -36,15 +38,15 @@ has_other Many j = true
 abbrev pub no_group : Group
 no_group = record { any = Nobody; writers = Nobody }
 
-abbrev pub group_with : Group → ℕ → Bool → Group
-group_with g j write = record { any = seen_with g.any j; writers = cond write (seen_with g.writers j) g.writers }
+abbrev pub group_with : Group → ℕ → Access → Group
+group_with g j access = record { any = seen_with g.any j; writers = cond (is_write access) (seen_with g.writers j) g.writers }
 
 -- the group has an effect of the branch, and a write of it if this is one
-abbrev pub group_shows : Group → ℕ → Bool → Bool
-group_shows g j write = seen g.any j && (not write || seen g.writers j)
+abbrev pub group_shows : Group → ℕ → Access → Bool
+group_shows g j access = seen g.any j && (not (is_write access) || seen g.writers j)
 
-abbrev pub group_meets : Group → ℕ → Bool → Bool
-group_meets g j write = cond write (has_other g.any j) (has_other g.writers j)
+abbrev pub group_meets : Group → ℕ → Access → Bool
+group_meets g j access = cond (is_write access) (has_other g.any j) (has_other g.writers j)
 
 -- a number of an element that stands for itself alone
 abbrev pub fixed_number : Elem → Option ℕ
@@ -73,22 +75,22 @@ group_at g (Some q) = keyed_group g.keyed q
 
 -- all effects show this one of the branch, and so does its group
 abbrev pub shows : Groups → ℕ → Effect → Bool
-shows g j f = group_shows g.all j f.write && group_shows (group_at g (key_of g.key f)) j f.write
+shows g j f = group_shows g.all j f.access && group_shows (group_at g (key_of g.key f)) j f.access
 
 abbrev pub is_number : Option ℕ → ℕ → Bool
 is_number None q = false
 is_number (Some k) q = k == q
 
-abbrev pub with_unkeyed : Option ℕ → Group → ℕ → Bool → Group
-with_unkeyed None g j write = group_with g j write
-with_unkeyed (Some k) g j write = g
+abbrev pub with_unkeyed : Option ℕ → Group → ℕ → Access → Group
+with_unkeyed None g j access = group_with g j access
+with_unkeyed (Some k) g j access = g
 
 -- an effect of a branch is noted, and nothing else has changed
 pub record Noted (old new : Groups) (j : ℕ) (e : Effect) : Type 0 where
   pub key : new.key ≡ old.key
-  pub all : new.all ≡ group_with old.all j e.write
-  pub unkeyed : new.unkeyed ≡ with_unkeyed (key_of old.key e) old.unkeyed j e.write
-  pub keyed : (q : ℕ) → keyed_group new.keyed q ≡ cond (is_number (key_of old.key e) q) (group_with (keyed_group old.keyed q) j e.write) (keyed_group old.keyed q)
+  pub all : new.all ≡ group_with old.all j e.access
+  pub unkeyed : new.unkeyed ≡ with_unkeyed (key_of old.key e) old.unkeyed j e.access
+  pub keyed : (q : ℕ) → keyed_group new.keyed q ≡ cond (is_number (key_of old.key e) q) (group_with (keyed_group old.keyed q) j e.access) (keyed_group old.keyed q)
 
 -- what was shown is shown, and so are these effects of the branch
 pub record Shows (old new : Groups) (j : ℕ) (es : List Effect) : Type 0 where
@@ -104,9 +106,9 @@ abbrev pub ShowsAll : Groups → List (List Effect) → Type 0
 ShowsAll g branches = ShowsFirst g branches (length branches)
 
 -- an effect of the branch with this number meets none of another branch
-abbrev pub alone_at : Option ℕ → Groups → ℕ → Bool → Bool
-alone_at None g j write = not (group_meets g.all j write)
-alone_at (Some k) g j write = not (group_meets g.unkeyed j write) && not (group_meets (keyed_group g.keyed k) j write)
+abbrev pub alone_at : Option ℕ → Groups → ℕ → Access → Bool
+alone_at None g j access = not (group_meets g.all j access)
+alone_at (Some k) g j access = not (group_meets g.unkeyed j access) && not (group_meets (keyed_group g.keyed k) j access)
 
 abbrev pub alone : Groups → ℕ → Effect → Bool
-alone g j e = alone_at (key_of g.key e) g j e.write
+alone g j e = alone_at (key_of g.key e) g j e.access

@@ -3,7 +3,7 @@ ghost use Rattle.dpj_interfere.specs.Groups.{keyed_group, group_with, Noted, Sho
 
 use crate::key::{Key, key_of};
 use crate::seen::Group;
-use dpj_base::{Effect, NoMemory};
+use dpj_base::{Access, Effect, NoMemory};
 use dpj_effects::EffectSet;
 use std::alloc::Global;
 use std::collections::BTreeMap;
@@ -32,11 +32,11 @@ fn note_keyed(
     keyed: &mut BTreeMap<u32, Group>,
     number: u32,
     branch: u32,
-    write: bool,
+    access: Access,
 ) -> Result<(), NoMemory>
-    ensures { OnOk result ((q : ℕ) → keyed_group keyed.new q ≡ cond (number == q) (group_with (keyed_group keyed.old number) branch write) (keyed_group keyed.old q)) }
+    ensures { OnOk result ((q : ℕ) → keyed_group keyed.new q ≡ cond (number == q) (group_with (keyed_group keyed.old number) branch access) (keyed_group keyed.old q)) }
 {
-    let group = keyed_group(keyed, number).with(branch, write);
+    let group = keyed_group(keyed, number).with(branch, access);
     keyed.insert(number, group)?;
     Ok(())
 }
@@ -44,10 +44,10 @@ fn note_keyed(
 fn note(groups: &mut Groups, e: &Effect, branch: u32) -> Result<(), NoMemory>
     ensures { OnOk result (Noted groups.old groups.new branch e.now) }
 {
-    groups.all = groups.all.with(branch, e.write);
+    groups.all = groups.all.with(branch, e.access);
     match key_of(groups.key, e) {
-        None => groups.unkeyed = groups.unkeyed.with(branch, e.write),
-        Some(number) => note_keyed(&mut groups.keyed, number, branch, e.write)?,
+        None => groups.unkeyed = groups.unkeyed.with(branch, e.access),
+        Some(number) => note_keyed(&mut groups.keyed, number, branch, e.access)?,
     }
     Ok(())
 }
@@ -83,10 +83,10 @@ pub fn is_alone(groups: &Groups, e: &Effect, branch: u32) -> bool
     ensures { result ≡ alone groups.now branch e.now }
 {
     match key_of(groups.key, e) {
-        None => !groups.all.meets(branch, e.write),
+        None => !groups.all.meets(branch, e.access),
         Some(number) => {
-            !groups.unkeyed.meets(branch, e.write)
-                && !keyed_group(&groups.keyed, number).meets(branch, e.write)
+            !groups.unkeyed.meets(branch, e.access)
+                && !keyed_group(&groups.keyed, number).meets(branch, e.access)
         }
     }
 }

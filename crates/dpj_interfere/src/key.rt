@@ -3,7 +3,7 @@ ghost use Rattle.dpj_base.specs.Regions.{same_head};
 ghost use Rattle.dpj_base.specs.Matching.{is_concrete, all_concrete};
 ghost use Rattle.dpj_interfere.specs.Groups.{fixed_number, first_number, last_number, key_of};
 
-use dpj_base::{Effect, Elem, Head};
+use dpj_base::{Effect, Elem, Head, Index};
 use dpj_effects::{elem_number, number_of};
 
 /// How effects are put into groups: paths of different groups are apart.
@@ -27,7 +27,10 @@ pub fn same_head(a: Head, b: Head) -> bool
 fn is_fixed(elem: Elem) -> bool
     ensures { result ≡ is_concrete elem }
 {
-    matches!(elem, Elem::Name(_) | Elem::Lit(_) | Elem::Local(_, _))
+    matches!(
+        elem,
+        Elem::Name(_) | Elem::At(Index::Literal(_)) | Elem::Local(_, _)
+    )
 }
 
 fn all_fixed(elems: &[Elem]) -> bool

@@ -1,28 +1,31 @@
-//! Branches that run side by side: when the effects of two of them interfere, so that a `cobegin` or a
-//! `foreach` is refused.
+//! Branches that run side by side: when the effects of two of them clash, so that a `cobegin` or a loop of
+//! parallel iterations is refused.
 //!
-//! `check_cobegin` gives the first two branches, in their order, of which an effect of one interferes with an
-//! effect of the other, and None exactly where there are no such two; it takes no memory, and compares each branch
-//! with each. `first_meeting` answers the same for many branches: it first leaves out the effects that can't meet
-//! another branch (`thinned`), so that only the others are compared. `check_foreach` is true exactly where no effect
-//! of the body interferes with one of another turn, which is the body's effects with the renamed copy of the foreach
-//! variable; an effect is compared with those of the other turn alone that `ByGroup` tells for it, which are those of
-//! its group and those that belong to none.
+//! Two effects clash where they interfere, unless the construct is one of nd, both are marked as inside an atomic
+//! block and both paths are atomic: then atomic blocks keep them in order. What is declared atomic is given for a
+//! construct of nd, and None for a deterministic one. `first_meeting` gives the first two branches of which an
+//! effect of one clashes with an effect of the other, and None exactly where there are no such two.
+//! `iterations_clash` is true exactly where an effect of a body clashes with one of another iteration, which is the
+//! body's effects with the renamed copy of the loop variable. `is_atomic` says whether a path is atomic. What they
+//! are good for is said in `laws`: effects that are covered by ones that don't clash don't either.
+//!
+//! Effects are put into groups by an element of their paths, such that paths of different groups are apart, and
+//! are compared with those of their own group and those that belong to none: of branches with regions of their own
+//! no pair is compared. `is_atomic` takes no memory, the others do.
 #![tactic(auto)]
 
-mod branches;
+mod atomic;
 mod by_group;
+mod clash;
 mod grouping;
+mod iterations;
 mod key;
+pub mod laws;
 mod meeting;
 mod renaming;
 mod seen;
 mod thin;
-mod turns;
 
-pub use branches::check_cobegin;
-pub use by_group::ByGroup;
+pub use atomic::{Atomic, is_atomic};
+pub use iterations::iterations_clash;
 pub use meeting::first_meeting;
-pub use renaming::renamed_all;
-pub use thin::thinned;
-pub use turns::check_foreach;

@@ -1,49 +1,63 @@
 ghost use Rattle.std.specs.Prelude.{◌≡◌, ◌<◌, length, IsTrue, IfOk};
 ghost use Rattle.dpj_base.specs.Pairs.{FirstPair, FirstBehind};
-ghost use Rattle.dpj_base.specs.Branches.{lists_interfere};
+ghost use Rattle.dpj_base.specs.Branches.{lists_clash};
+ghost use Rattle.dpj_interfere.specs.Nd.{plain_nd};
 
-use crate::branches::lists_interfere;
+use crate::atomic::Atomic;
+use crate::clash::lists_clash;
 use crate::thin::thinned;
 use dpj_base::{Constraint, Effect, Items, NoMemory};
 use dpj_effects::EffectSet;
 use std::alloc::Global;
 
-/// `check_cobegin` for many branches: effects that can't interfere with another branch are left out first, so that
-/// branches with regions of their own aren't compared with each other.
+/// The first two branches, in their order, of which an effect of one clashes with an effect of the other. `nd` says
+/// what is declared atomic where the construct is one of nd. Effects that can't interfere with another branch are
+/// left out first, so that branches with regions of their own aren't compared with each other.
 pub fn first_meeting(
     alloc: Global,
     branches: &[EffectSet],
     given: &[Constraint],
+    nd: Option<Atomic<'_>>,
 ) -> Result<Option<(u32, u32)>, NoMemory>
     requires { length branches.now < 4294967296 }
-    ensures { IfOk result (λ pair. FirstPair (λ es fs. IsTrue (lists_interfere given.now es fs)) branches.now pair) }
+    ensures { IfOk result (λ pair. FirstPair (λ es fs. IsTrue (lists_clash given.now (plain_nd nd.entry) es fs)) branches.now pair) }
 {
     let left = thinned(alloc, branches)?;
-    Ok(first_pair(left.as_slice(), given))
+    Ok(first_pair(left.as_slice(), given, nd))
 }
 
-fn first_pair(branches: &[Items<Effect>], given: &[Constraint]) -> Option<(u32, u32)>
+fn first_pair(
+    branches: &[Items<Effect>],
+    given: &[Constraint],
+    nd: Option<Atomic<'_>>,
+) -> Option<(u32, u32)>
     requires { length branches.now < 4294967296 }
-    ensures { FirstPair (λ es fs. IsTrue (lists_interfere given.now es fs)) branches.now result }
+    ensures { FirstPair (λ es fs. IsTrue (lists_clash given.now (plain_nd nd.entry) es fs)) branches.now result }
 {
     for i in 0..branches.len() {
-        if let Some(j) = first_behind(branches, given, i) {
+        if let Some(j) = first_after(branches, given, nd, i) {
             return Some((i as u32, j as u32));
         }
     }
     None
 }
 
-fn first_behind(branches: &[Items<Effect>], given: &[Constraint], i: usize) -> Option<usize>
+/// The first branch after this one that it clashes with.
+fn first_after(
+    branches: &[Items<Effect>],
+    given: &[Constraint],
+    nd: Option<Atomic<'_>>,
+    i: usize,
+) -> Option<usize>
     requires { i < length branches.now }
-    ensures { FirstBehind (λ es fs. IsTrue (lists_interfere given.now es fs)) branches.now i result }
+    ensures { FirstBehind (λ es fs. IsTrue (lists_clash given.now (plain_nd nd.entry) es fs)) branches.now i result }
 {
     let effects = &branches[i];
     if effects.is_empty() {
         return None;
     }
     for j in i + 1..branches.len() {
-        if lists_interfere(effects.as_slice(), branches[j].as_slice(), given) {
+        if lists_clash(effects.as_slice(), branches[j].as_slice(), given, nd) {
             return Some(j);
         }
     }

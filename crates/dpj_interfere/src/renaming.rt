@@ -1,24 +1,19 @@
-ghost use Rattle.std.specs.Prelude.{◌≡◌, ◌<◌, map, IfOk};
+ghost use Rattle.std.specs.Prelude.{◌≡◌, map, IfOk};
 ghost use Rattle.dpj_base.specs.Branches.{renamed_elem, renamed_rpl, renamed_effect};
 
-use dpj_base::{Effect, Elem, Elems, Items, NoMemory, Rpl};
+use dpj_base::{Effect, Elem, Elems, Index, Items, NoMemory, Rpl};
 use std::alloc::Global;
 
-/// How much greater the number of a renamed variable is than that of the variable.
-const RENAMED: u32 = 2147483648;
-
 fn renamed_elem(elem: Elem, var: u32) -> Elem
-    requires { var < 2147483648 }
     ensures { result ≡ renamed_elem var elem }
 {
     match elem {
-        Elem::Var(v) if v == var => Elem::Var(var + RENAMED),
+        Elem::At(Index::Variable(v)) if v == var => Elem::At(Index::Renamed(v)),
         other => other,
     }
 }
 
 fn renamed(alloc: Global, rpl: &Rpl, var: u32) -> Result<Rpl, NoMemory>
-    requires { var < 2147483648 }
     ensures { IfOk result (λ made. made ≡ renamed_rpl var rpl.now) }
 {
     let mut elems = Elems::new(alloc);
@@ -31,15 +26,14 @@ fn renamed(alloc: Global, rpl: &Rpl, var: u32) -> Result<Rpl, NoMemory>
     })
 }
 
-/// The effects with the renamed copy in place of the variable, which is no copy itself.
+/// The effects with the renamed copy in place of the variable.
 pub fn renamed_all(alloc: Global, effects: &[Effect], var: u32) -> Result<Items<Effect>, NoMemory>
-    requires { var < 2147483648 }
     ensures { IfOk result (λ made. made ≡ map (renamed_effect var) effects.now) }
 {
     let mut made = Items::new(alloc);
     for e in effects {
         made.push(Effect {
-            write: e.write,
+            access: e.access,
             atomic: e.atomic,
             rpl: renamed(alloc, &e.rpl, var)?,
         })?;

@@ -1,6 +1,8 @@
 ghost use Rattle.std.specs.Prelude.{◌≡◌};
 ghost use Rattle.dpj_interfere.specs.Groups.{seen_with, has_other, group_with, group_meets, no_group};
 
+use dpj_base::Access;
+
 /// Which branches have something: none, one of them, or more than one.
 #[derive(Clone, Copy, Debug, PartialEq, Eq)]
 pub enum Seen {
@@ -49,28 +51,26 @@ impl Group {
     }
 
     /// The group with an effect of a branch more.
-    pub fn with(self, branch: u32, write: bool) -> Group
-        ensures { result ≡ group_with self branch write }
+    pub fn with(self, branch: u32, access: Access) -> Group
+        ensures { result ≡ group_with self branch access }
     {
         Group {
             any: self.any.with(branch),
-            writers: if write {
-                self.writers.with(branch)
-            } else {
-                self.writers
+            writers: match access {
+                Access::Read => self.writers,
+                Access::Write => self.writers.with(branch),
             },
         }
     }
 
     /// Whether a read or a write of a branch meets an effect of another branch in the group, one of the two being
     /// a write.
-    pub fn meets(self, branch: u32, write: bool) -> bool
-        ensures { result ≡ group_meets self branch write }
+    pub fn meets(self, branch: u32, access: Access) -> bool
+        ensures { result ≡ group_meets self branch access }
     {
-        if write {
-            self.any.has_other(branch)
-        } else {
-            self.writers.has_other(branch)
+        match access {
+            Access::Read => self.writers.has_other(branch),
+            Access::Write => self.any.has_other(branch),
         }
     }
 }

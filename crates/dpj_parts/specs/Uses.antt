@@ -1,24 +1,24 @@
 -- Uses of array parts as effects, and when the branches of a `foreach_parts` interfere.
-use Rattle.std.specs.Prelude.{ℕ, Bool, false, not, ◌||◌, ◌==◌, List, [], map, filter}
+use Rattle.std.specs.Prelude.{ℕ, Bool, false, not, ◌||◌, ◌==◌, List, [], None, map, filter}
 use Rattle.dpj_base.specs.declared.array_part.PartUse.{PartUse}
 use Rattle.dpj_base.specs.declared.effect.Effect.{Effect}
 use Rattle.dpj_base.specs.declared.effect.Constraint.{Constraint}
-use Rattle.dpj_base.specs.Branches.{lists_interfere, turns_interfere}
+use Rattle.dpj_base.specs.Branches.{lists_clash, iterations_clash}
 use Rattle.dpj_base.specs.Effects.{gathered}
 
 -- a read or a write of the array's region, without a mark
 abbrev pub use_effect : PartUse → Effect
-use_effect u = record { write = u.write; atomic = false; rpl = u.rpl }
+use_effect u = record { access = u.access; atomic = false; rpl = u.rpl }
 
 -- the use is one of the part
 abbrev pub is_use_of : ℕ → PartUse → Bool
 is_use_of view u = u.view == view
 
--- the effects with the uses of the part behind them, each effect once
+-- the effects with the uses of the part added, each effect once
 abbrev pub with_uses_of : ℕ → List Effect → List PartUse → List Effect
 with_uses_of view es uses = gathered es (map use_effect (filter (is_use_of view) uses))
 
--- the effects with the uses of other parts behind them, each effect once
+-- the effects with the uses of other parts added, each effect once
 abbrev pub with_other_uses : ℕ → List Effect → List PartUse → List Effect
 with_other_uses view es uses = gathered es (map use_effect (filter (λ u. not (is_use_of view u)) uses))
 
@@ -26,5 +26,5 @@ with_other_uses view es uses = gathered es (map use_effect (filter (λ u. not (i
 -- with what it does through its part
 abbrev pub parts_interfere : List Constraint → ℕ → ℕ → List Effect → List PartUse → Bool
 parts_interfere given view var body uses =
-    turns_interfere given var (with_other_uses view body uses)
-    || lists_interfere given (with_other_uses view body uses) (with_uses_of view [] uses)
+    iterations_clash given None var (with_other_uses view body uses)
+    || lists_clash given None (with_other_uses view body uses) (with_uses_of view [] uses)

@@ -1,16 +1,16 @@
-ghost use Rattle.std.specs.Prelude.{◌≡◌, ◌<◌, [], map, not, IfOk, OnOk};
-ghost use Rattle.dpj_base.specs.Branches.{lists_interfere};
+ghost use Rattle.std.specs.Prelude.{◌≡◌, [], map, not, IfOk, None};
+ghost use Rattle.dpj_base.specs.Branches.{lists_clash};
 ghost use Rattle.dpj_base.specs.Effects.{gathered};
 ghost use Rattle.dpj_parts.specs.Uses.{use_effect, with_uses_of, with_other_uses, parts_interfere};
 
 use dpj_base::{Constraint, Effect, NoMemory, PartUse, Plain};
 use dpj_effects::EffectSet;
-use dpj_interfere::{check_foreach, first_meeting};
+use dpj_interfere::{first_meeting, iterations_clash};
 use std::alloc::Global;
 
 /// Whether no branch of a `foreach_parts` interferes with another: the body's effects, the uses of other parts
-/// among them, meet neither those of another branch nor the uses of the part `view`. `var` is the variable of the
-/// construct, and the constraints `given` hold.
+/// among them, meet neither those of another branch nor the uses of the part `view`. `var` is the slot of the
+/// construct's variable, and the constraints `given` hold.
 pub fn check_parts(
     alloc: Global,
     body: &EffectSet,
@@ -19,11 +19,10 @@ pub fn check_parts(
     var: u32,
     given: &[Constraint],
 ) -> Result<bool, NoMemory>
-    requires { var < 2147483648 }
     ensures { IfOk result (λ passed. passed ≡ not (parts_interfere given.now view var body.now uses.now)) }
 {
     let others = with_other_uses(alloc, body.copy(alloc)?, uses, view)?;
-    if !check_foreach(alloc, &others, var, given)? {
+    if iterations_clash(alloc, &others, var, given, None)? {
         return Ok(false);
     }
     let through = with_uses_of(alloc, EffectSet::new(alloc), uses, view)?;
@@ -37,10 +36,10 @@ fn meet_nowhere(
     other: EffectSet,
     given: &[Constraint],
 ) -> Result<bool, NoMemory>
-    ensures { IfOk result (λ apart. apart ≡ not (lists_interfere given.now one other)) }
+    ensures { IfOk result (λ apart. apart ≡ not (lists_clash given.now None one other)) }
 {
     let branches = [one, other];
-    Ok(first_meeting(alloc, branches.as_slice(), given)?.is_none())
+    Ok(first_meeting(alloc, branches.as_slice(), given, None)?.is_none())
 }
 
 /// The uses of parts as effects on the regions of their arrays, each once.
@@ -58,13 +57,13 @@ fn use_effect(alloc: Global, part_use: &PartUse) -> Result<Effect, NoMemory>
     ensures { IfOk result (λ e. e ≡ use_effect part_use.now) }
 {
     Ok(Effect {
-        write: part_use.write,
+        access: part_use.access,
         atomic: false,
         rpl: part_use.rpl.copy(alloc)?,
     })
 }
 
-/// The set with the uses of the part behind it.
+/// The set with the uses of the part added.
 fn with_uses_of(
     alloc: Global,
     set: EffectSet,
@@ -82,7 +81,7 @@ fn with_uses_of(
     Ok(set)
 }
 
-/// The set with the uses of other parts behind it.
+/// The set with the uses of other parts added.
 fn with_other_uses(
     alloc: Global,
     set: EffectSet,

@@ -2,7 +2,8 @@
 use Rattle.std.proofs.Common.{◌≡◌, ℕ, ℤ, pos, Bool, true, false, ◌&&◌, List, [], ◌∷◌, ◌++◌, map, refl, sym, ap, ◌∙◌, subst}
 use Rattle.std.proofs.lemmas.Bool.{and_parts, and_from, false≢true}
 use Rattle.dpj_base.specs.declared.elems.Elem.{Elem}
-use Rattle.dpj_base.specs.declared.elems.Elem.TheVariants.{Name, Lit, Var, Any, Star, Local}
+use Rattle.dpj_base.specs.declared.elems.Elem.TheVariants.{Name, At, Any, Star, Local}
+use Rattle.dpj_base.specs.declared.elems.Index.TheVariants.{Literal}
 use Rattle.dpj_base.specs.declared.region.Head.{Head}
 use Rattle.dpj_base.specs.declared.region.Head.TheVariants.{Root, Param}
 use Rattle.dpj_base.specs.declared.region.Rpl.{Rpl}
@@ -19,7 +20,7 @@ all_concrete-append (x ∷ r) q h k = let p = and_parts (is_concrete x) _ h in a
 
 plain-concrete : (x : Elem) → is_plain x ≡ true → is_concrete x ≡ true
 plain-concrete (Name n) h = refl
-plain-concrete (Lit k) h = refl
+plain-concrete (At (Literal k)) h = refl
 plain-concrete x h = absurd (false≢true h)
 
 pub all_plain-concrete : (r : List Elem) → all_plain r ≡ true → all_concrete r ≡ true
@@ -28,8 +29,7 @@ all_plain-concrete (x ∷ r) h = let p = and_parts (is_plain x) _ h in and_from 
 
 fits-concrete : (env : Env) (x : Elem) (r : List Elem) → Fits env x r → all_concrete r ≡ true
 fits-concrete env (Name n) r f = ap all_concrete f
-fits-concrete env (Lit k) r f = ap all_concrete f
-fits-concrete env (Var v) r f = ap all_concrete f
+fits-concrete env (At i) r f = ap all_concrete f
 fits-concrete env Any r f = ap all_concrete f.1
 fits-concrete env Star r f = all_plain-concrete r f
 fits-concrete env (Local a b) r f = ap all_concrete f
@@ -50,12 +50,12 @@ matches_concrete given env v a r m =
 
 -- in a run a local region stands for itself
 run : Env
-run = record { region = λ p. []; index = λ v. pos 0; made = λ a b. (a, b) }
+run = record { region = λ p. []; index = λ v. pos 0; renamed = λ v. pos 0; own = λ d. pos 0; made = λ a b. (a, b) }
 
 fits-self : (x : Elem) → is_concrete x ≡ true → Fits run x (x ∷ [])
 unfolding run
 fits-self (Name n) h = refl
-fits-self (Lit k) h = refl
+fits-self (At (Literal k)) h = refl
 fits-self (Local a b) h = refl
 fits-self x h = absurd (false≢true h)
 
@@ -66,8 +66,7 @@ FitsAll-self (x ∷ r) h = let p = and_parts (is_concrete x) _ h in (x ∷ [], r
 fits-put : (env : Env) (x : Elem) (r : List Elem) → Fits run (put_elem env x) r → Fits env x r
 unfolding run
 fits-put env (Name n) r f = f
-fits-put env (Lit k) r f = f
-fits-put env (Var v) r f = f
+fits-put env (At i) r f = f
 fits-put env Any r f = f
 fits-put env Star r f = f
 fits-put env (Local a b) r f = f
@@ -78,7 +77,7 @@ FitsAll-put env (x ∷ a) r f = (f.0, f.1, f.2, fits-put env x f.0 f.3, FitsAll-
 
 fits-plain : (x : Elem) (r : List Elem) → is_plain x ≡ true → Fits run x r → r ≡ x ∷ []
 fits-plain (Name n) r h f = f
-fits-plain (Lit k) r h f = f
+fits-plain (At (Literal k)) r h f = f
 fits-plain x r h f = absurd (false≢true h)
 
 FitsAll-plain : (a r : List Elem) → all_plain a ≡ true → FitsAll run a r → r ≡ a

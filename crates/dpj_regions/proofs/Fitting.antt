@@ -2,13 +2,13 @@
 use Rattle.std.proofs.Common.{◌≡◌, true, false, List, [], ◌∷◌, ◌++◌, refl, sym, ap, ◌∙◌, subst, ⊎_elim, append_assoc}
 use Rattle.std.proofs.lemmas.Bool.{and_parts, and_from, false≢true, eqb-true}
 use Rattle.dpj_base.specs.declared.elems.Elem.{Elem}
-use Rattle.dpj_base.specs.declared.elems.Elem.TheVariants.{Name, Lit, Var, Any, Star, Local}
+use Rattle.dpj_base.specs.declared.elems.Elem.TheVariants.{Name, At, Any, Star, Local}
 use Rattle.dpj_base.specs.declared.region.Head.{Head}
 use Rattle.dpj_base.specs.declared.region.Head.TheVariants.{Root, Param}
 use Rattle.dpj_base.specs.declared.region.Rpl.{Rpl}
 use Rattle.dpj_base.specs.declared.effect.Constraint.{Constraint}
 use Rattle.dpj_base.specs.Regions.{is_local, is_index, elem_within, begins_with_star, heads_within, within}
-use Rattle.dpj_base.specs.Matching.{is_plain, all_plain, Env, IsEnv, head_region, Fits, FitsAll, Matches, MatchesMore}
+use Rattle.dpj_base.specs.Matching.{is_plain, all_plain, Env, IsEnv, number_of, head_region, Fits, FitsAll, Matches, MatchesMore}
 use Rattle.dpj_regions.proofs.Inclusion.{Covers, none, one, stop, skip, Covers-from, star_is, elem_within-cases}
 
 pub all_plain-append : (r q : List Elem) → all_plain r ≡ true → all_plain q ≡ true → all_plain (r ++ q) ≡ true
@@ -18,15 +18,13 @@ all_plain-append (x ∷ r) q h k = let p = and_parts (is_plain x) _ h in and_fro
 -- what an element other than a local region fits has no local region
 fits-plain : (env : Env) (x : Elem) (r : List Elem) → is_local x ≡ false → Fits env x r → all_plain r ≡ true
 fits-plain env (Name n) r l f = ap all_plain f
-fits-plain env (Lit k) r l f = ap all_plain f
-fits-plain env (Var v) r l f = ap all_plain f
+fits-plain env (At i) r l f = ap all_plain f
 fits-plain env Any r l f = ap all_plain f.1
 fits-plain env Star r l f = f
 fits-plain env (Local a b) r l f = absurd (false≢true (sym l))
 
 fits-index : (env : Env) (x : Elem) (r : List Elem) → is_index x ≡ true → Fits env x r → Fits env Any r
-fits-index env (Lit k) r h f = (k, f)
-fits-index env (Var v) r h f = (env.index v, f)
+fits-index env (At i) r h f = (number_of env i, f)
 fits-index env Any r h f = f
 fits-index env x r h f = absurd (false≢true h)
 

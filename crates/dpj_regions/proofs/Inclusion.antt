@@ -1,13 +1,13 @@
 -- Inclusion of lists of elements as a derivation, and what it keeps.
 use Rattle.std.proofs.Common.{◌≡◌, true, false, not, eqb, List, [], ◌∷◌, ◌++◌, refl, sym, ap, ◌∙◌, subst, inl, inr, ◌⊎◌, ⊎_elim}
 use Rattle.std.proofs.lemmas.Bool.{cases_Bool, and_parts, or_cases, or_right, or_left, and_from, false≢true, not-true, cond-true, cond-false, eqb-true, eq-eqb}
-use Rattle.std.proofs.lemmas.Bool.Decides.{Decides-int_eq}
 use Rattle.dpj_base.specs.declared.elems.Elem.{Elem}
-use Rattle.dpj_base.specs.declared.elems.Elem.TheVariants.{Name, Lit, Var, Any, Star, Local}
+use Rattle.dpj_base.specs.declared.elems.Elem.TheVariants.{Name, At, Any, Star, Local}
 use Rattle.dpj_base.specs.declared.region.Head.{Head}
 use Rattle.dpj_base.specs.declared.region.Head.TheVariants.{Root, Param}
 use Rattle.dpj_base.specs.declared.region.Rpl.{Rpl}
 use Rattle.dpj_base.specs.Regions.{is_star, is_any, is_local, is_index, same_elem, elem_within, covers_elems, begins_with_star, heads_within, within}
+use Rattle.dpj_regions.proofs.Same.{same_elem-is, same_elem-refl}
 use Rattle.dpj_regions.proofs.Segments.{elem_within-local}
 
 pub data Covers : List Elem → List Elem → Type 0 where
@@ -48,25 +48,6 @@ Covers-to (stop {b = b} {a = a} r) = star_stops b a (Covers-to r)
 Covers-to (skip {x = x} {b = b} {a = a} l r) = or_right (covers_elems b (x ∷ a)) _ (and_from _ _ (ap not l) (Covers-to r))
 
 -- elements
-
-pub same_elem-is : (x y : Elem) → same_elem x y ≡ true → x ≡ y
-same_elem-is (Name m) (Name n) h = ap Name (eqb-true m n h)
-same_elem-is (Lit j) (Lit k) h = ap Lit ((Decides-int_eq j k).0 h)
-same_elem-is (Var v) (Var w) h = ap Var (eqb-true v w h)
-same_elem-is Any Any h = refl
-same_elem-is Star Star h = refl
-same_elem-is (Local a b) (Local c d) h =
-    let p = and_parts (eqb a c) (eqb b d) h in
-    ap (λ z. Local z b) (eqb-true a c p.0) ∙ ap (λ z. Local c z) (eqb-true b d p.1)
-same_elem-is x y h = absurd (false≢true h)
-
-pub same_elem-refl : (x : Elem) → same_elem x x ≡ true
-same_elem-refl (Name m) = eq-eqb m m refl
-same_elem-refl (Lit j) = (Decides-int_eq j j).1 refl
-same_elem-refl (Var v) = eq-eqb v v refl
-same_elem-refl Any = refl
-same_elem-refl Star = refl
-same_elem-refl (Local a b) = and_from _ _ (eq-eqb a a refl) (eq-eqb b b refl)
 
 any_is : (y : Elem) → is_any y ≡ true → y ≡ Any
 any_is Any h = refl

@@ -3,4 +3,5 @@ pub mod Fitting
 pub mod Inclusion
 pub mod Missing
 pub mod Putting
+pub mod Same
 pub mod Segments

@@ -1,17 +1,20 @@
 -- What putting arguments in and making a variable general say of matching.
-use Rattle.std.proofs.Common.{◌≡◌, ◌↔◌, ◌≤◌, ◌+◌, ◌<◌, ℕ, ℤ, pos, ltb, Bool, true, false, cond, eqb, List, [], ◌∷◌, ◌++◌, map, refl, sym, ap, ◌∙◌, subst, ⊎_elim, append_assoc, arith}
+use Rattle.std.proofs.Common.{◌≡◌, ◌↔◌, ◌≤◌, ◌+◌, ℕ, ℤ, pos, Bool, true, false, cond, eqb, List, [], ◌∷◌, ◌++◌, map, refl, sym, ap, ◌∙◌, subst, ⊎_elim, append_assoc, arith}
 use Rattle.std.specs.Prelude.{count_by}
-use Rattle.std.proofs.lemmas.Bool.{and_parts, and_from, false≢true, cases_Bool, eqb-true, eq-eqb, ne_eqb, cond-true, cond-false, false_from_ne_true, lt-ltb, le-ltb}
+use Rattle.std.proofs.lemmas.Bool.{and_parts, and_from, false≢true, cases_Bool, eqb-true, eq-eqb, ne_eqb, cond-true, cond-false, false_from_ne_true}
 use Rattle.std.proofs.lemmas.List.{map-append}
 use Rattle.std.proofs.lemmas.List.Sums.{sum_by-append}
 use Rattle.dpj_base.specs.declared.elems.Elem.{Elem}
-use Rattle.dpj_base.specs.declared.elems.Elem.TheVariants.{Name, Lit, Var, Any, Star, Local}
+use Rattle.dpj_base.specs.declared.elems.Elem.TheVariants.{Name, At, Any, Star, Local}
+use Rattle.dpj_base.specs.declared.elems.Index.{Index}
+use Rattle.dpj_base.specs.declared.elems.Index.TheVariants.{Literal, Variable, Renamed, Own}
 use Rattle.dpj_base.specs.declared.region.Head.{Head}
 use Rattle.dpj_base.specs.declared.region.Head.TheVariants.{Root, Param}
 use Rattle.dpj_base.specs.declared.region.Rpl.{Rpl}
 use Rattle.dpj_base.specs.Regions.{is_star, is_specified, all_specified, same_elem, elem_within, within, argument, put_at, substituted, general_elem, generalised}
-use Rattle.dpj_base.specs.Matching.{Env, IsEnv, put_elem, put_in, head_region, Fits, FitsAll, Matches, with_regions, with_index}
-use Rattle.dpj_regions.proofs.Inclusion.{Covers, none, one, stop, skip, Covers-to, star_is, same_elem-is, elem_within-refl, heads_within-same}
+use Rattle.dpj_base.specs.Matching.{Env, IsEnv, number_of, put_elem, put_in, head_region, Fits, FitsAll, Matches, with_regions, with_index}
+use Rattle.dpj_regions.proofs.Inclusion.{Covers, none, one, stop, skip, Covers-to, star_is, elem_within-refl, heads_within-same}
+use Rattle.dpj_regions.proofs.Same.{same_elem-is}
 
 -- what fits what, joined and split
 
@@ -28,9 +31,8 @@ FitsAll-split env (x ∷ a) b r f =
 
 some_fit : (env : Env) (x : Elem) → (r : List Elem) × Fits env x r
 some_fit env (Name n) = (Name n ∷ [], refl)
-some_fit env (Lit k) = (Lit k ∷ [], refl)
-some_fit env (Var v) = (Lit (env.index v) ∷ [], refl)
-some_fit env Any = (Lit (pos 0) ∷ [], (pos 0, refl))
+some_fit env (At i) = (At (Literal (number_of env i)) ∷ [], refl)
+some_fit env Any = (At (Literal (pos 0)) ∷ [], (pos 0, refl))
 some_fit env Star = ([], refl)
 some_fit env (Local a b) = (Local (env.made a b).0 (env.made a b).1 ∷ [], refl)
 
@@ -45,18 +47,22 @@ some_region env a = let f = some_fit_all env a.elems in (head_region env a.head 
 
 -- the regions of the parameters matter to the head alone
 module _ (env : Env) (g : ℕ → List Elem) where
+  number-regions : (i : Index) → number_of env i ≡ number_of (with_regions env g) i
+  number-regions (Literal k) = refl
+  number-regions (Variable v) = refl
+  number-regions (Renamed v) = refl
+  number-regions (Own d) = refl
+
   fits-regions : (x : Elem) (r : List Elem) → Fits env x r → Fits (with_regions env g) x r
   fits-regions (Name n) r f = f
-  fits-regions (Lit k) r f = f
-  fits-regions (Var v) r f = f
+  fits-regions (At i) r f = f ∙ ap (λ k. At (Literal k) ∷ []) (number-regions i)
   fits-regions Any r f = f
   fits-regions Star r f = f
   fits-regions (Local a b) r f = f
 
   fits-no_regions : (x : Elem) (r : List Elem) → Fits (with_regions env g) x r → Fits env x r
   fits-no_regions (Name n) r f = f
-  fits-no_regions (Lit k) r f = f
-  fits-no_regions (Var v) r f = f
+  fits-no_regions (At i) r f = f ∙ ap (λ k. At (Literal k) ∷ []) (sym (number-regions i))
   fits-no_regions Any r f = f
   fits-no_regions Star r f = f
   fits-no_regions (Local a b) r f = f
@@ -71,8 +77,7 @@ module _ (env : Env) (g : ℕ → List Elem) where
 
   put_elem-regions : (x : Elem) → put_elem env x ≡ put_elem (with_regions env g) x
   put_elem-regions (Name n) = refl
-  put_elem-regions (Lit k) = refl
-  put_elem-regions (Var v) = refl
+  put_elem-regions (At i) = ap (λ k. At (Literal k)) (number-regions i)
   put_elem-regions Any = refl
   put_elem-regions Star = refl
   put_elem-regions (Local a b) = refl
@@ -154,14 +159,16 @@ substitution_puts_in env args a = puts_in env args a.head a.elems
 
 -- a variable made general
 
-general_fits : (env : Env) (v w : ℕ) (k : ℤ) (r : List Elem) (b : Bool) → r ≡ Lit (cond b k (env.index w)) ∷ [] → Fits env (cond b Any (Var w)) r
+general_fits : (env : Env) (v w : ℕ) (k : ℤ) (r : List Elem) (b : Bool) → r ≡ At (Literal (cond b k (env.index w))) ∷ [] → Fits env (cond b Any (At (Variable w))) r
 general_fits env v w k r true f = (k, f)
 general_fits env v w k r false f = f
 
 fits-general : (env : Env) (v : ℕ) (k : ℤ) (x : Elem) (r : List Elem) → Fits (with_index env v k) x r → Fits env (general_elem v x) r
 fits-general env v k (Name n) r f = f
-fits-general env v k (Lit j) r f = f
-fits-general env v k (Var w) r f = general_fits env v w k r (eqb v w) f
+fits-general env v k (At (Variable w)) r f = general_fits env v w k r (eqb v w) f
+fits-general env v k (At (Literal j)) r f = f
+fits-general env v k (At (Renamed w)) r f = f
+fits-general env v k (At (Own d)) r f = f
 fits-general env v k Any r f = f
 fits-general env v k Star r f = f
 fits-general env v k (Local a b) r f = f
@@ -181,22 +188,26 @@ general_matches_more env a v k r m =
 
 general_elem-within : (v : ℕ) (x : Elem) → elem_within x (general_elem v x) ≡ true
 general_elem-within v (Name n) = elem_within-refl (Name n)
-general_elem-within v (Lit j) = elem_within-refl (Lit j)
-general_elem-within v (Var w) = var_within (eqb v w)
+general_elem-within v (At (Literal j)) = elem_within-refl (At (Literal j))
+general_elem-within v (At (Renamed w)) = elem_within-refl (At (Renamed w))
+general_elem-within v (At (Own d)) = elem_within-refl (At (Own d))
+general_elem-within v (At (Variable w)) = var_within (eqb v w)
   where
-    var_within : (b : Bool) → elem_within (Var w) (cond b Any (Var w)) ≡ true
+    var_within : (b : Bool) → elem_within (At (Variable w)) (cond b Any (At (Variable w))) ≡ true
     var_within true = refl
-    var_within false = elem_within-refl (Var w)
+    var_within false = elem_within-refl (At (Variable w))
 general_elem-within v Any = refl
 general_elem-within v Star = refl
 general_elem-within v (Local a b) = elem_within-refl (Local a b)
 
 general_elem-star : (v : ℕ) (x : Elem) → is_star (general_elem v x) ≡ is_star x
 general_elem-star v (Name n) = refl
-general_elem-star v (Lit j) = refl
-general_elem-star v (Var w) = var_star (eqb v w)
+general_elem-star v (At (Literal j)) = refl
+general_elem-star v (At (Renamed w)) = refl
+general_elem-star v (At (Own d)) = refl
+general_elem-star v (At (Variable w)) = var_star (eqb v w)
   where
-    var_star : (b : Bool) → is_star (cond b Any (Var w)) ≡ false
+    var_star : (b : Bool) → is_star (cond b Any (At (Variable w))) ≡ false
     var_star true = refl
     var_star false = refl
 general_elem-star v Any = refl
@@ -216,16 +227,18 @@ pub included_in_general : (a : Rpl) (v : ℕ) → within a (generalised v a) ≡
 unfolding within generalised
 included_in_general a v = and_from _ _ (heads_within-same a.head _) (Covers-to (Covers-general v a.elems))
 
-general_var-index : (env : Env) (v w : ℕ) (k : ℤ) (r : List Elem) (b : Bool) → eqb v w ≡ b → Fits env (cond b Any (Var w)) r ↔ Fits (with_index env v k) (cond b Any (Var w)) r
+general_var-index : (env : Env) (v w : ℕ) (k : ℤ) (r : List Elem) (b : Bool) → eqb v w ≡ b → Fits env (cond b Any (At (Variable w))) r ↔ Fits (with_index env v k) (cond b Any (At (Variable w))) r
 general_var-index env v w k r true e = (λ f. f, λ f. f)
 general_var-index env v w k r false e =
     let s : cond (eqb v w) k (env.index w) ≡ env.index w = cond-false (eqb v w) _ _ e in
-    (λ f. f ∙ ap (λ z. Lit z ∷ []) (sym s), λ f. f ∙ ap (λ z. Lit z ∷ []) s)
+    (λ f. f ∙ ap (λ z. At (Literal z) ∷ []) (sym s), λ f. f ∙ ap (λ z. At (Literal z) ∷ []) s)
 
 fits_general-index : (env : Env) (v : ℕ) (k : ℤ) (x : Elem) (r : List Elem) → Fits env (general_elem v x) r ↔ Fits (with_index env v k) (general_elem v x) r
 fits_general-index env v k (Name n) r = (λ f. f, λ f. f)
-fits_general-index env v k (Lit j) r = (λ f. f, λ f. f)
-fits_general-index env v k (Var w) r = general_var-index env v w k r (eqb v w) refl
+fits_general-index env v k (At (Literal j)) r = (λ f. f, λ f. f)
+fits_general-index env v k (At (Renamed w)) r = (λ f. f, λ f. f)
+fits_general-index env v k (At (Own d)) r = (λ f. f, λ f. f)
+fits_general-index env v k (At (Variable w)) r = general_var-index env v w k r (eqb v w) refl
 fits_general-index env v k Any r = (λ f. f, λ f. f)
 fits_general-index env v k Star r = (λ f. f, λ f. f)
 fits_general-index env v k (Local a b) r = (λ f. f, λ f. f)
@@ -246,22 +259,24 @@ general_forgets env a v k r = (
 
 -- where the variable stands at most once
 
-fits-not_var : (env : Env) (v : ℕ) (k : ℤ) (x : Elem) (r : List Elem) → same_elem x (Var v) ≡ false → Fits env (general_elem v x) r → Fits (with_index env v k) x r
+fits-not_var : (env : Env) (v : ℕ) (k : ℤ) (x : Elem) (r : List Elem) → same_elem x (At (Variable v)) ≡ false → Fits env (general_elem v x) r → Fits (with_index env v k) x r
 fits-not_var env v k (Name n) r e f = f
-fits-not_var env v k (Lit j) r e f = f
-fits-not_var env v k (Var w) r e f =
+fits-not_var env v k (At (Literal j)) r e f = f
+fits-not_var env v k (At (Renamed w)) r e f = f
+fits-not_var env v k (At (Own d)) r e f = f
+fits-not_var env v k (At (Variable w)) r e f =
     let n : eqb v w ≡ false = ne_eqb v w (λ s. false≢true (sym e ∙ eq-eqb w v (sym s))) in
-    subst (λ z. Fits env z r) (cond-false (eqb v w) _ _ n) f ∙ ap (λ z. Lit z ∷ []) (sym (cond-false (eqb v w) k (env.index w) n))
+    subst (λ z. Fits env z r) (cond-false (eqb v w) _ _ n) f ∙ ap (λ z. At (Literal z) ∷ []) (sym (cond-false (eqb v w) k (env.index w) n))
 fits-not_var env v k Any r e f = f
 fits-not_var env v k Star r e f = f
 fits-not_var env v k (Local a b) r e f = f
 
 stands : ℕ → List Elem → ℕ
-stands v a = count_by (λ x. same_elem x (Var v)) a
+stands v a = count_by (λ x. same_elem x (At (Variable v))) a
 
-stands-cons : (v : ℕ) (x : Elem) (a : List Elem) → stands v (x ∷ a) ≡ cond (same_elem x (Var v)) 1 0 + stands v a
+stands-cons : (v : ℕ) (x : Elem) (a : List Elem) → stands v (x ∷ a) ≡ cond (same_elem x (At (Variable v))) 1 0 + stands v a
 unfolding stands
-stands-cons v x a = sum_by-append (λ y. cond (same_elem y (Var v)) 1 0) (x ∷ []) a ∙ ap (λ z. z + stands v a) (let e : 0 + cond {A = ℕ} (same_elem x (Var v)) 1 0 ≡ cond (same_elem x (Var v)) 1 0 = omega arith in e)
+stands-cons v x a = sum_by-append (λ y. cond (same_elem y (At (Variable v))) 1 0) (x ∷ []) a ∙ ap (λ z. z + stands v a) (let e : 0 + cond {A = ℕ} (same_elem x (At (Variable v))) 1 0 ≡ cond (same_elem x (At (Variable v))) 1 0 = omega arith in e)
 
 no_stand : (n : ℕ) (b : Bool) (m : ℕ) → cond b 1 0 + n ≤ m → b ≡ true → n + 1 ≤ m
 no_stand n true m h e = omega arith
@@ -276,8 +291,8 @@ unfolding stands
 FitsAll-no_var env v k [] r h f = f
 FitsAll-no_var env v k (x ∷ a) r h0 f =
     let h = subst (λ z. z ≤ 0) (stands-cons v x a) h0 in
-    let e : same_elem x (Var v) ≡ false = false_from_ne_true _ (λ t. absurd (omega (arith, no_stand (stands v a) (same_elem x (Var v)) 0 h t))) in
-    (f.0, f.1, f.2, fits-not_var env v k x f.0 e f.3, FitsAll-no_var env v k a f.1 (fewer (stands v a) (same_elem x (Var v)) 0 h) f.4)
+    let e : same_elem x (At (Variable v)) ≡ false = false_from_ne_true _ (λ t. absurd (omega (arith, no_stand (stands v a) (same_elem x (At (Variable v))) 0 h t))) in
+    (f.0, f.1, f.2, fits-not_var env v k x f.0 e f.3, FitsAll-no_var env v k a f.1 (fewer (stands v a) (same_elem x (At (Variable v))) 0 h) f.4)
 
 FitsAll-one_var : (env : Env) (v : ℕ) (a r : List Elem) → stands v a ≤ 1 → FitsAll env (map (general_elem v) a) r → (k : ℤ) × FitsAll (with_index env v k) a r
 unfolding stands
@@ -285,17 +300,17 @@ FitsAll-one_var env v [] r h f = (pos 0, f)
 FitsAll-one_var env v (x ∷ a) r h0 f =
     let h = subst (λ z. z ≤ 1) (stands-cons v x a) h0 in
     ⊎_elim
-    (λ t. let same = same_elem-is x (Var v) t in
+    (λ t. let same = same_elem-is x (At (Variable v)) t in
     let i = subst (λ z. Fits env (general_elem v z) f.0) same f.3 in
-    let any : Fits env Any f.0 = subst (λ z. Fits env z f.0) (cond-true (eqb v v) Any (Var v) (eq-eqb v v refl)) i in
-    let here : Fits (with_index env v any.0) (Var v) f.0 = any.1 ∙ ap (λ z. Lit z ∷ []) (sym (cond-true (eqb v v) any.0 (env.index v) (eq-eqb v v refl))) in
-    let none_left : stands v a ≤ 0 = omega (arith, no_stand (stands v a) (same_elem x (Var v)) 1 h t) in
+    let any : Fits env Any f.0 = subst (λ z. Fits env z f.0) (cond-true (eqb v v) Any (At (Variable v)) (eq-eqb v v refl)) i in
+    let here : Fits (with_index env v any.0) (At (Variable v)) f.0 = any.1 ∙ ap (λ z. At (Literal z) ∷ []) (sym (cond-true (eqb v v) any.0 (env.index v) (eq-eqb v v refl))) in
+    let none_left : stands v a ≤ 0 = omega (arith, no_stand (stands v a) (same_elem x (At (Variable v))) 1 h t) in
     (any.0, (f.0, f.1, f.2, subst (λ z. Fits (with_index env v any.0) z f.0) (sym same) here, FitsAll-no_var env v any.0 a f.1 none_left f.4)))
-    (λ e. let g = FitsAll-one_var env v a f.1 (fewer (stands v a) (same_elem x (Var v)) 1 h) f.4 in
+    (λ e. let g = FitsAll-one_var env v a f.1 (fewer (stands v a) (same_elem x (At (Variable v))) 1 h) f.4 in
     (g.0, (f.0, f.1, f.2, fits-not_var env v g.0 x f.0 e f.3, g.1)))
-    (cases_Bool (same_elem x (Var v)))
+    (cases_Bool (same_elem x (At (Variable v))))
 
-pub general_matches_no_more : (env : Env) (a : Rpl) (v : ℕ) → count_by (λ x. same_elem x (Var v)) a.elems ≤ 1 → (r : List Elem) → Matches env (generalised v a) r → (k : ℤ) × Matches (with_index env v k) a r
+pub general_matches_no_more : (env : Env) (a : Rpl) (v : ℕ) → count_by (λ x. same_elem x (At (Variable v))) a.elems ≤ 1 → (r : List Elem) → Matches env (generalised v a) r → (k : ℤ) × Matches (with_index env v k) a r
 unfolding Matches generalised stands
 general_matches_no_more env a v h r m =
     let f = FitsAll-one_var env v a.elems m.0 h m.2 in
@@ -305,8 +320,7 @@ general_matches_no_more env a v h r m =
 
 fits-specified : (env : Env) (x : Elem) (r : List Elem) → is_specified x ≡ true → Fits env x r ↔ (r ≡ put_elem env x ∷ [])
 fits-specified env (Name n) r h = (λ f. f, λ f. f)
-fits-specified env (Lit k) r h = (λ f. f, λ f. f)
-fits-specified env (Var v) r h = (λ f. f, λ f. f)
+fits-specified env (At i) r h = (λ f. f, λ f. f)
 fits-specified env (Local a b) r h = (λ f. f, λ f. f)
 fits-specified env x r h = absurd (false≢true h)
 
@@ -327,19 +341,11 @@ specified_matches_one env a h r = (
 
 -- an environment: no parameter stands for more than the root, and copies have another number
 
-some_index : ℕ → ℤ
-some_index v = cond (ltb v 2147483648) (pos 0) (pos 1)
-
-some_index-apart : (v : ℕ) → v < 2147483648 → some_index v ≡ some_index (v + 2147483648) → ⊥
-unfolding some_index
-some_index-apart v l e =
-    zero_one (sym (cond-true (ltb v 2147483648) (pos 0) (pos 1) (lt-ltb v 2147483648 l)) ∙ e ∙ cond-false (ltb (v + 2147483648) 2147483648) (pos 0) (pos 1) (le-ltb (v + 2147483648) 2147483648 (omega arith)))
-  where
-    zero_one : pos 0 ≡ pos 1 → ⊥
-    zero_one e = cc
+zero_not_one : pos 0 ≡ pos 1 → ⊥
+zero_not_one e = cc
 
 pub environments_exist : (env : Env) × IsEnv [] env
 environments_exist = (
-  record { region = λ p. []; index = some_index; made = λ a b. (a, b) },
-  record { regions = λ p. refl; copies = some_index-apart; locals = λ a b c d e. (ap (λ z. z.0) e, ap (λ z. z.1) e); constraints = λ k d h. absurd (omega arith) },
+  record { region = λ p. []; index = λ v. pos 0; renamed = λ v. pos 1; own = λ d. pos 0; made = λ a b. (a, b) },
+  record { regions = λ p. refl; copies = λ v. zero_not_one; locals = λ a b c d e. (ap (λ z. z.0) e, ap (λ z. z.1) e); constraints = λ k d h. absurd (omega arith) },
 )

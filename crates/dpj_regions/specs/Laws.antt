@@ -1,7 +1,8 @@
 -- The laws of region paths, as statements.
 use Rattle.std.specs.Prelude.{◌≡◌, ◌↔◌, ◌≤◌, ℕ, ℤ, List, [], IsTrue, count_by}
 use Rattle.dpj_base.specs.declared.elems.Elem.{Elem}
-use Rattle.dpj_base.specs.declared.elems.Elem.TheVariants.{Var}
+use Rattle.dpj_base.specs.declared.elems.Elem.TheVariants.{At}
+use Rattle.dpj_base.specs.declared.elems.Index.TheVariants.{Variable}
 use Rattle.dpj_base.specs.declared.region.Rpl.{Rpl}
 use Rattle.dpj_base.specs.declared.effect.Constraint.{Constraint}
 use Rattle.dpj_base.specs.Regions.{same_elem, fully_specified, within, argument, substituted, generalised}
@@ -46,7 +47,7 @@ GeneralMatchesMore = (env : Env) (a : Rpl) (v : ℕ) (k : ℤ) (r : List Elem) �
 
 -- where the variable stands at most once, the general path matches nothing else
 abbrev pub GeneralMatchesNoMore : Type 0
-GeneralMatchesNoMore = (env : Env) (a : Rpl) (v : ℕ) → count_by (λ x. same_elem x (Var v)) a.elems ≤ 1 → (r : List Elem) → Matches env (generalised v a) r → (k : ℤ) × Matches (with_index env v k) a r
+GeneralMatchesNoMore = (env : Env) (a : Rpl) (v : ℕ) → count_by (λ x. same_elem x (At (Variable v))) a.elems ≤ 1 → (r : List Elem) → Matches env (generalised v a) r → (k : ℤ) × Matches (with_index env v k) a r
 
 -- what a general path matches doesn't depend on the variable
 abbrev pub GeneralForgets : Type 0

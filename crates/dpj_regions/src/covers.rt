@@ -19,8 +19,7 @@ fn is_local(elem: Elem) -> bool
 fn elem_within(inner: Elem, outer: Elem) -> bool
     ensures { result ≡ elem_within inner outer }
 {
-    inner == outer
-        || (outer == Elem::Any && matches!(inner, Elem::Lit(_) | Elem::Var(_) | Elem::Any))
+    inner == outer || (outer == Elem::Any && matches!(inner, Elem::At(_) | Elem::Any))
 }
 
 /// What stands before the first `*` and what behind it.

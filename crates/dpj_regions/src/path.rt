@@ -2,7 +2,7 @@ ghost use Rattle.std.specs.Prelude.{◌≡◌, ◌<◌, ℕ, length, IfOk};
 ghost use Rattle.dpj_base.specs.Regions.{fully_specified, within, substituted, generalised};
 
 use crate::covers::covers;
-use dpj_base::{Elem, Elems, Head, NoMemory, Plain, Rpl};
+use dpj_base::{Elem, Elems, Head, Index, NoMemory, Plain, Rpl};
 use std::alloc::Global;
 
 /// Whether every region that the inner path can name the outer path can name too, by the rule of inclusion.
@@ -41,7 +41,7 @@ pub fn subst(alloc: Global, rpl: &Rpl, args: &[Rpl]) -> Result<Rpl, NoMemory>
     }
 }
 
-/// The same where the parameter has an argument.
+/// The path with its argument put in, where the parameter has one.
 #[tactic(auto, unfolding(dpj_base::specs::Regions::substituted))]
 fn subst_given(alloc: Global, rpl: &Rpl, args: &[Rpl]) -> Result<Rpl, NoMemory>
     requires { (p : ℕ) → rpl.now.head ≡ Head.Param p → p < length args.now }
@@ -65,7 +65,7 @@ pub fn generalise(alloc: Global, rpl: &Rpl, var: u32) -> Result<Rpl, NoMemory>
     let mut elems = Elems::new(alloc);
     for elem in rpl.elems.as_slice() {
         elems.push(match *elem {
-            Elem::Var(v) if v == var => Elem::Any,
+            Elem::At(Index::Variable(v)) if v == var => Elem::Any,
             other => other,
         })?;
     }

@@ -4,7 +4,7 @@ use Rattle.std.proofs.lemmas.Bool.{and_parts, or_cases, or_right, false≢true, 
 use Rattle.std.specs.Option.{option_and_then, option_map_or}
 use Rattle.dpj_base.specs.declared.region.Rpl.{Rpl}
 use Rattle.dpj_base.specs.declared.ty.Super.{Super}
-use Rattle.dpj_base.specs.Types.{PlainType, type_with, nameless, nameless_path, superclass, parent_of, ancestor, NoCycle, class_within, below_class, Subtype}
+use Rattle.dpj_base.specs.Types.{PlainType, type_with, superclass, parent_of, ancestor, NoCycle, class_within, below_class, Subtype}
 use Rattle.dpj_base.specs.Types.PlainType.{int, boolean, void, null, class, array}
 use Rattle.dpj_regions.proofs.Inclusion.{within-refl, within-trans}
 use Rattle.dpj_types.proofs.Carried.{IsClass, class_within-refl, class_within-trans, class_of-within, parent-within}
@@ -112,7 +112,7 @@ subtype-refl supers boolean = tt
 subtype-refl supers void = tt
 subtype-refl supers null = tt
 subtype-refl supers (class c rs) = below-here supers (length supers) (class c rs) (class c rs) (class_within-refl c rs)
-subtype-refl supers (array elem rpl index) = (within-refl (nameless_path (index ∷ []) rpl), refl)
+subtype-refl supers (array elem rpl index) = (within-refl rpl, refl)
 
 pub subtype-trans : (supers : List Super) → NoCycle supers → (a b c : PlainType) → Subtype supers a b → Subtype supers b c → Subtype supers a c
 subtype-trans supers free int int c h k = k
@@ -123,7 +123,7 @@ subtype-trans supers free null (class d ss) (class e ts) h k = tt
 subtype-trans supers free null (array t b j) (array u c l) h k = tt
 subtype-trans supers free (class c rs) (class d ss) (class e ts) h k = below-trans supers free (class c rs) (class d ss) (class e ts) h k
 subtype-trans supers free (array s a i) (array t b j) (array u c l) h k =
-    (within-trans (nameless_path (i ∷ []) a) (nameless_path (j ∷ []) b) (nameless_path (l ∷ []) c) h.0 k.0, h.1 ∙ k.1)
+    (within-trans a b c h.0 k.0, h.1 ∙ k.1)
 subtype-trans supers free null (class d ss) c h k = absurd k
 subtype-trans supers free null (array t b j) c h k = absurd k
 subtype-trans supers free (class c rs) (class d ss) t h k = absurd k

@@ -1,3 +1,3 @@
-pub mod Inside
+pub mod Depth
 pub mod Laws
 pub mod Same

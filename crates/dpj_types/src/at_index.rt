@@ -1,26 +1,23 @@
-ghost use Rattle.std.specs.Prelude.{◌≡◌, map, IfOk};
+ghost use Rattle.std.specs.Prelude.{◌≡◌, ℕ, map, IfOk};
 ghost use Rattle.dpj_base.specs.Types.{plain_type, elem_at, path_at, type_at};
+ghost use Rattle.dpj_types.specs.Depth.{IsDepth};
 
-use crate::mention::is_name;
-use dpj_base::{Boxed, Elem, Elems, Items, NoMemory, Plain, Rpl, Ty};
+use crate::depth::Depth;
+use dpj_base::{Boxed, Elem, Elems, Items, NoMemory, Rpl, Ty};
 use std::alloc::Global;
 
-fn elem_at(elem: Elem, index: u32, value: Elem) -> Elem
-    ensures { result ≡ elem_at index value elem }
+fn elem_at_depth(elem: Elem, depth: Depth, value: Elem) -> Elem
+    ensures { (n : ℕ) → IsDepth depth n → result ≡ elem_at n value elem }
 {
-    match elem {
-        Elem::Var(v) if v == index => value,
-        other => other,
-    }
+    if depth.is_own(elem) { value } else { elem }
 }
 
-/// The path with an element in place of the index variable.
-pub fn path_at(alloc: Global, rpl: &Rpl, index: u32, value: Elem) -> Result<Rpl, NoMemory>
-    ensures { IfOk result (λ made. made ≡ path_at index value rpl.now) }
+fn path_at_depth(alloc: Global, rpl: &Rpl, depth: Depth, value: Elem) -> Result<Rpl, NoMemory>
+    ensures { IfOk result (λ made. (n : ℕ) → IsDepth depth n → made ≡ path_at n value rpl.now) }
 {
     let mut elems = Elems::new(alloc);
     for elem in rpl.elems.as_slice() {
-        elems.push(elem_at(*elem, index, value))?;
+        elems.push(elem_at_depth(*elem, depth, value))?;
     }
     Ok(Rpl {
         head: rpl.head,
@@ -28,20 +25,23 @@ pub fn path_at(alloc: Global, rpl: &Rpl, index: u32, value: Elem) -> Result<Rpl,
     })
 }
 
-fn paths_at(alloc: Global, paths: &[Rpl], index: u32, value: Elem) -> Result<Items<Rpl>, NoMemory>
-    ensures { IfOk result (λ made. made ≡ map (path_at index value) paths.now) }
+fn paths_at_depth(
+    alloc: Global,
+    paths: &[Rpl],
+    depth: Depth,
+    value: Elem,
+) -> Result<Items<Rpl>, NoMemory>
+    ensures { IfOk result (λ made. (n : ℕ) → IsDepth depth n → made ≡ map (path_at n value) paths.now) }
 {
     let mut made = Items::new(alloc);
     for path in paths {
-        made.push(path_at(alloc, path, index, value)?)?;
+        made.push(path_at_depth(alloc, path, depth, value)?)?;
     }
     Ok(made)
 }
 
-/// The type with an element in place of the index variable. An array type inside it with the same index name
-/// stays as it is.
-pub fn type_at(alloc: Global, t: &Ty, index: u32, value: Elem) -> Result<Ty, NoMemory>
-    ensures { IfOk result (λ made. plain_type made ≡ type_at index value (plain_type t.now)) }
+fn type_at_depth(alloc: Global, t: &Ty, depth: Depth, value: Elem) -> Result<Ty, NoMemory>
+    ensures { IfOk result (λ made. (n : ℕ) → IsDepth depth n → plain_type made ≡ type_at n value (plain_type t.now)) }
 {
     match t {
         Ty::Int => Ok(Ty::Int),
@@ -50,21 +50,29 @@ pub fn type_at(alloc: Global, t: &Ty, index: u32, value: Elem) -> Result<Ty, NoM
         Ty::Null => Ok(Ty::Null),
         Ty::Class { class, args } => Ok(Ty::Class {
             class: *class,
-            args: paths_at(alloc, args.as_slice(), index, value)?,
+            args: paths_at_depth(alloc, args.as_slice(), depth, value)?,
         }),
-        Ty::Array {
-            elem,
-            rpl,
-            index: name,
-        } => {
-            if is_name(*name, index) {
-                return t.copy(alloc);
-            }
+        Ty::Array { elem, rpl, named } => {
+            let inside = depth.inside();
             Ok(Ty::Array {
-                elem: Boxed::new(alloc, type_at(alloc, elem.get(), index, value)?)?,
-                rpl: path_at(alloc, rpl, index, value)?,
-                index: *name,
+                elem: Boxed::new(alloc, type_at_depth(alloc, elem.get(), inside, value)?)?,
+                rpl: path_at_depth(alloc, rpl, inside, value)?,
+                named: *named,
             })
         }
     }
+}
+
+/// The path of an array type's elements with an element in place of the array's own index.
+pub fn path_at(alloc: Global, rpl: &Rpl, value: Elem) -> Result<Rpl, NoMemory>
+    ensures { IfOk result (λ made. made ≡ path_at 0 value rpl.now) }
+{
+    path_at_depth(alloc, rpl, Depth::outermost(), value)
+}
+
+/// The element type of an array type with an element in place of the array's own index.
+pub fn type_at(alloc: Global, t: &Ty, value: Elem) -> Result<Ty, NoMemory>
+    ensures { IfOk result (λ made. plain_type made ≡ type_at 0 value (plain_type t.now)) }
+{
+    type_at_depth(alloc, t, Depth::outermost(), value)
 }

@@ -1,13 +1,14 @@
-//! Types: which is a subtype of which, what one is with region arguments or an index put in, and which region
-//! parameters and index names it mentions.
+//! Types: which are the same, which is a subtype of which, what one is with region arguments or an index put in,
+//! and whether it mentions a region parameter or an array's own index.
 //!
-//! Each call is exactly its definition in `dpj_base`, over types as plain data. `mentions`, `rigid` and the same
-//! for an index name take no memory. A type is gone down by recursion, once for each array type in it; the
+//! Each call is exactly its definition in `dpj_base`, over types as plain data. `same_type`, `mentions`, `rigid`
+//! and the like for an own index take no memory. A type is gone down by recursion, once for each array type in it; the
 //! language has at most 32 of these, one inside the other. `subtype` goes up the superclasses of a class, and
 //! finds each by a binary search.
 #![tactic(auto)]
 
 mod at_index;
+mod depth;
 pub mod laws;
 mod mention;
 mod put_in;
@@ -18,6 +19,6 @@ mod supers;
 pub use at_index::{path_at, type_at};
 pub use mention::{mentions, mentions_index, rigid, rigid_in_index};
 pub use put_in::subst_type;
-pub use same::{IndexNames, same_path, same_type};
+pub use same::{same_path, same_type};
 pub use subtyping::subtype;
 pub use supers::is_ordered;

@@ -1,9 +1,10 @@
-ghost use Rattle.std.specs.Prelude.{◌≡◌};
+ghost use Rattle.std.specs.Prelude.{◌≡◌, ℕ};
 ghost use Rattle.std.specs.List.{list_any};
-ghost use Rattle.dpj_base.specs.Regions.{same_elem};
-ghost use Rattle.dpj_base.specs.Types.{plain_type, is_name, has_param, mentions_param, rigid_in_param, has_index, mentions_index, rigid_in_index};
+ghost use Rattle.dpj_base.specs.Types.{plain_type, has_param, mentions_param, rigid_in_param, has_index, mentions_index, rigid_in_index};
+ghost use Rattle.dpj_types.specs.Depth.{IsDepth};
 
-use dpj_base::{Elem, Head, Rpl, Ty};
+use crate::depth::Depth;
+use dpj_base::{Head, Rpl, Ty};
 
 fn has_param(rpl: &Rpl, param: u32) -> bool
     ensures { result ≡ has_param param rpl.now }
@@ -47,73 +48,55 @@ pub fn rigid(t: &Ty, param: u32) -> bool
     }
 }
 
-/// Whether the index name of an array type is this variable.
-pub(crate) fn is_name(name: Option<u32>, var: u32) -> bool
-    ensures { result ≡ is_name name var }
-{
-    match name {
-        None => false,
-        Some(index) => index == var,
-    }
-}
-
-fn is_variable(elem: Elem, index: u32) -> bool
-    ensures { result ≡ same_elem elem (Elem.Var index) }
-{
-    elem == Elem::Var(index)
-}
-
-fn has_index(rpl: &Rpl, index: u32) -> bool
-    ensures { result ≡ has_index index rpl.now }
+fn has_index(rpl: &Rpl, depth: Depth) -> bool
+    ensures { (n : ℕ) → IsDepth depth n → result ≡ has_index n rpl.now }
 {
     for elem in rpl.elems.as_slice() {
-        if is_variable(*elem, index) {
+        if depth.is_own(*elem) {
             return true;
         }
     }
     false
 }
 
-fn some_has_index(paths: &[Rpl], index: u32) -> bool
-    ensures { result ≡ list_any (has_index index) paths.now }
+fn some_has_index(paths: &[Rpl], depth: Depth) -> bool
+    ensures { (n : ℕ) → IsDepth depth n → result ≡ list_any (has_index n) paths.now }
 {
     for path in paths {
-        if has_index(path, index) {
+        if has_index(path, depth) {
             return true;
         }
     }
     false
 }
 
-/// Whether some region path in the type has the index variable. An array type inside it with the same index
-/// name speaks of its own.
-pub fn mentions_index(t: &Ty, index: u32) -> bool
-    ensures { result ≡ mentions_index index (plain_type t.now) }
+fn mentions_at_depth(t: &Ty, depth: Depth) -> bool
+    ensures { (n : ℕ) → IsDepth depth n → result ≡ mentions_index n (plain_type t.now) }
 {
     match t {
-        Ty::Class { args, .. } => some_has_index(args.as_slice(), index),
-        Ty::Array {
-            elem,
-            rpl,
-            index: name,
-        } => {
-            !is_name(*name, index) && (has_index(rpl, index) || mentions_index(elem.get(), index))
+        Ty::Class { args, .. } => some_has_index(args.as_slice(), depth),
+        Ty::Array { elem, rpl, .. } => {
+            let inside = depth.inside();
+            has_index(rpl, inside) || mentions_at_depth(elem.get(), inside)
         }
         _ => false,
     }
 }
 
-/// Whether the type mentions the index variable inside the element type of an array. Such a type has no
-/// subtype that differs there.
-pub fn rigid_in_index(t: &Ty, index: u32) -> bool
-    ensures { result ≡ rigid_in_index index (plain_type t.now) }
+/// Whether the element type of an array type mentions the array's own index.
+pub fn mentions_index(t: &Ty) -> bool
+    ensures { result ≡ mentions_index 0 (plain_type t.now) }
+{
+    mentions_at_depth(t, Depth::outermost())
+}
+
+/// Whether the element type of an array type is an array type whose element type mentions the outer array's own
+/// index. Such a type has no subtype that differs there.
+pub fn rigid_in_index(t: &Ty) -> bool
+    ensures { result ≡ rigid_in_index 0 (plain_type t.now) }
 {
     match t {
-        Ty::Array {
-            elem,
-            index: name,
-            ..
-        } => !is_name(*name, index) && mentions_index(elem.get(), index),
+        Ty::Array { elem, .. } => mentions_at_depth(elem.get(), Depth::outermost().inside()),
         _ => false,
     }
 }

@@ -18,7 +18,7 @@ fn put_in_paths(alloc: Global, paths: &[Rpl], args: &[Rpl]) -> Result<Items<Rpl>
 }
 
 /// The type with an argument put in for each region parameter; a parameter that has none stays. It is meant
-/// for arguments that mention no index name of an array type in it.
+/// for arguments that mention no index of an array type.
 pub fn subst_type(alloc: Global, t: &Ty, args: &[Rpl]) -> Result<Ty, NoMemory>
     ensures { IfOk result (λ made. plain_type made ≡ type_with args.now (plain_type t.now)) }
 {
@@ -31,10 +31,10 @@ pub fn subst_type(alloc: Global, t: &Ty, args: &[Rpl]) -> Result<Ty, NoMemory>
             class: *class,
             args: put_in_paths(alloc, paths.as_slice(), args)?,
         }),
-        Ty::Array { elem, rpl, index } => Ok(Ty::Array {
+        Ty::Array { elem, rpl, named } => Ok(Ty::Array {
             elem: Boxed::new(alloc, subst_type(alloc, elem.get(), args)?)?,
             rpl: subst(alloc, rpl, args)?,
-            index: *index,
+            named: *named,
         }),
     }
 }

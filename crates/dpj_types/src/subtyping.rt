@@ -1,12 +1,9 @@
-ghost use Rattle.std.specs.Prelude.{◌≡◌, ◌↔◌, ◌∷◌, [], length, IsTrue, IfOk, map};
-ghost use Rattle.dpj_base.specs.Regions.{within};
-ghost use Rattle.dpj_base.specs.Types.{plain_type, nameless, nameless_path, all_within, class_within, below_class, Ordered, ArrayWithin, Subtype};
-ghost use Rattle.dpj_types.specs.Inside.{renamed_elem};
+ghost use Rattle.std.specs.Prelude.{◌≡◌, ◌↔◌, length, IsTrue, IfOk};
+ghost use Rattle.dpj_base.specs.Types.{plain_type, all_within, class_within, below_class, Ordered, ArrayWithin, Subtype};
 
-use crate::mention::is_name;
-use crate::same::{IndexNames, same_inside};
+use crate::same::same_type;
 use crate::supers::parent_of;
-use dpj_base::{Elem, Elems, Items, NoMemory, Plain, Rpl, Super, Ty};
+use dpj_base::{NoMemory, Plain, Rpl, Super, Ty};
 use dpj_regions::includes;
 use std::alloc::Global;
 
@@ -22,24 +19,22 @@ pub fn subtype(alloc: Global, a: &Ty, b: &Ty, supers: &[Super]) -> Result<bool, 
         | (Ty::Null, Ty::Null | Ty::Class { .. } | Ty::Array { .. }) => Ok(true),
         (Ty::Class { .. }, Ty::Class { .. }) => below_class(alloc, a, b, supers),
         (
-            Ty::Array { elem, rpl, index },
+            Ty::Array { elem, rpl, .. },
             Ty::Array {
                 elem: other_elem,
                 rpl: other_rpl,
-                index: other_index,
+                ..
             },
-        ) => {
-            let names = IndexNames {
-                first: *index,
-                second: *other_index,
-            };
-            if !path_within(alloc, rpl, other_rpl, names)? {
-                return Ok(false);
-            }
-            same_elements(alloc, elem.get(), other_elem.get(), names)
-        }
+        ) => Ok(array_within(elem.get(), rpl, other_elem.get(), other_rpl)),
         _ => Ok(false),
     }
+}
+
+/// Whether the regions of the elements lie in the other's, and the element types are the same.
+fn array_within(elem: &Ty, rpl: &Rpl, other_elem: &Ty, other_rpl: &Rpl) -> bool
+    ensures { IsTrue result ↔ ArrayWithin (plain_type elem.now) rpl.now (plain_type other_elem.now) other_rpl.now }
+{
+    includes(other_rpl, rpl) && same_type(elem, other_elem)
 }
 
 fn all_within(inner: &[Rpl], outer: &[Rpl]) -> bool
@@ -87,47 +82,4 @@ fn below_class(alloc: Global, a: &Ty, b: &Ty, supers: &[Super]) -> Result<bool, 
         }
     }
     Ok(class_within(&above, b))
-}
-
-/// An element of the first array's path as the second array's calls it: the index name by the second's. What
-/// has no name there is `[?]`.
-fn renamed_elem(elem: Elem, names: IndexNames) -> Elem
-    ensures { result ≡ renamed_elem names.first names.second elem }
-{
-    match elem {
-        Elem::Var(v) if is_name(names.first, v) => match names.second {
-            Some(w) => Elem::Var(w),
-            None => Elem::Any,
-        },
-        Elem::Var(v) if is_name(names.second, v) => Elem::Any,
-        other => other,
-    }
-}
-
-fn renamed(alloc: Global, rpl: &Rpl, names: IndexNames) -> Result<Rpl, NoMemory>
-    ensures { IfOk result (λ made. made ≡ record { head = rpl.now.head; elems = map (renamed_elem names.first names.second) rpl.now.elems }) }
-{
-    let mut elems = Elems::new(alloc);
-    for elem in rpl.elems.as_slice() {
-        elems.push(renamed_elem(*elem, names))?;
-    }
-    Ok(Rpl {
-        head: rpl.head,
-        elems,
-    })
-}
-
-/// Whether the path of one array type lies in that of another, up to their index names.
-fn path_within(alloc: Global, inner: &Rpl, outer: &Rpl, names: IndexNames) -> Result<bool, NoMemory>
-    ensures { IfOk result (λ yes. yes ≡ within (nameless_path (names.first ∷ []) inner.now) (nameless_path (names.second ∷ []) outer.now)) }
-{
-    Ok(includes(outer, &renamed(alloc, inner, names)?))
-}
-
-fn same_elements(alloc: Global, a: &Ty, b: &Ty, names: IndexNames) -> Result<bool, NoMemory>
-    ensures { IfOk result (λ yes. IsTrue yes ↔ (nameless (names.first ∷ []) (plain_type a.now) ≡ nameless (names.second ∷ []) (plain_type b.now))) }
-{
-    let mut inside = Items::new(alloc);
-    inside.push(names)?;
-    same_inside(alloc, a, b, &inside)
 }

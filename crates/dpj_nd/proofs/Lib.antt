@@ -1,4 +1,0 @@
-pub mod Covered
-pub mod Ends
-pub mod InGroups
-pub mod Transport
