@@ -45,7 +45,7 @@ Gives env e f g t = Typing env (plain_expr e) f (gives (plain_typed t) g)
 abbrev pub Refuses : Env → Expr → Found → Refusal → Type 0
 Refuses env e f q = Typing env (plain_expr e) f (refused q)
 
-at_form : (env : Env) (e : Expr) (form : ExprForm) (f : Found) (a : Answer) → plain_expr e ≡ expression e.node e.place form → Typing env (expression e.node e.place form) f a → Typing env (plain_expr e) f a
+at_form : (env : Env) (e : Expr) (form : ExprForm) (f : Found) (a : Answer) → plain_expr e ≡ expression e.place form → Typing env (expression e.place form) f a → Typing env (plain_expr e) f a
 at_form env e form f a is d = subst (λ (z : PlainExpr). Typing env z f a) (sym is) d
 
 at_part : (env : Env) (x y : Expr) (f : Found) (a : Answer) → x ≡ y → Typing env (plain_expr x) f a → Typing env (plain_expr y) f a
