@@ -1,6 +1,6 @@
 -- The rules of statements: what becomes of a statement where it stands. Its parts are walked in the order of evaluation,
 -- and a fault of a part is the fault of the whole; then the faults of its own node are reported.
-use Rattle.std.specs.Prelude.{◌≡◌, ◌↔◌, ◌<◌, ℕ, length, Bool, true, false, not, ◌&&◌, ◌||◌, ◌%◌, IsTrue, List, [], ◌∷◌, ◌++◌, Contains, Option, Some, None}
+use Rattle.std.specs.Prelude.{◌≡◌, ◌↔◌, ◌+◌, ℕ, Bool, true, false, not, ◌&&◌, ◌||◌, IsTrue, List, [], ◌∷◌, ◌++◌, Contains, Option, Some, None}
 use Rattle.dpj_base.specs.declared.effect.Effect.{Effect}
 use Rattle.dpj_base.specs.declared.place.Place.{Place}
 use Rattle.dpj_base.specs.declared.refusal.Kind.{Kind}
@@ -53,16 +53,17 @@ with_nd nd found = record found { reaches_nd = found.reaches_nd || nd }
 abbrev pub gathers : Found → Walk → Walk
 gathers found w = record w { found = found }
 
--- after a block that began at the first walk: what it declared is out of scope, in its effects too
-abbrev pub block_closed : Walk → Walk → Walk
-block_closed before w = record {
+-- after a piece that began at the first walk and of which this was found: what it declared is out of scope, in its
+-- effects too
+abbrev pub closed : Walk → Marks → Found → Walk → Walk
+closed before kept inner w = record {
   env = left_to w.env (mark_of before.env);
-  found = taken_in (from_here before.env marks.Kept) before.found w.found;
+  found = taken_in (from_here before.env kept) before.found inner;
   blocks = w.blocks;
 }
 
 abbrev pub block_left : Walk → Verdict → Verdict
-block_left before (passes w) = passes (block_closed before w)
+block_left before (passes w) = passes (closed before marks.Kept w.found w)
 block_left before (refused refusal) = refused refusal
 
 -- the outer locals that a branch reads and assigns
@@ -132,17 +133,9 @@ after_branch effects touched (one_refused refusal) = one_refused refusal
 abbrev pub iteration_begun : Named → Walk → Walk
 iteration_begun var w = record w { env = variable_declared w.env var; found = nothing_found }
 
--- after a loop that began at the first walk: what it declared is out of scope, in the effects of an iteration too
-abbrev pub loop_left : Walk → Marks → Found → Walk → Walk
-loop_left before kept iteration w = record {
-  env = left_to w.env (mark_of before.env);
-  found = taken_in (from_here before.env kept) before.found iteration;
-  blocks = w.blocks;
-}
-
--- the same of parts: the uses of the part, which has this slot, are handed on
+-- after a `foreach_parts`: the uses of the part, which has this slot, are handed on
 abbrev pub parts_left : ℕ → Walk → Option ℕ → Found → Walk → Walk
-parts_left part before outer found w = loop_left (found_so before found) marks.Dropped (handed_on part outer w.found) w
+parts_left part before outer found w = closed (found_so before found) marks.Dropped (handed_on part outer w.found) w
 
 -- the slots of a part of an array, of which it has four, and of the variable of its construct
 abbrev pub part_slot : Env → ℕ
@@ -274,7 +267,7 @@ mutual
         fault_of (with_fault_if (variable_noted w.env var node) kind.Assign assigns) ≡ None →
         judged (fault_of (with_fault_if (settled_node (with_fault_if (variable_noted w.env var node) kind.Assign assigns)) (interference nd)
         (iterations_clash (given_in w.env) (declared_atomic params nd w.env) (slots_in w.env) (with_uses u.found.effects u.found.uses))))
-        (loop_left w (marks_after nd) (with_nd nd u.found) u) ≡ v →
+        (closed w (marks_after nd) (with_nd nd u.found) u) ≡ v →
         Iterating params around node nd var body w v
 
   -- a `foreach_parts`: the array and the count, the body, whether this assigns outer locals, then whether its branches

@@ -46,7 +46,7 @@ declared_told env tree = parts_told site.Body (none_by order.Number) (type_fault
 
 -- there is a slot of 32 bits for a further local or part, and a number for a further local region
 abbrev pub has_room : Env → Bool
-has_room env = nat_lt (slots_in env + 4) 4294967296 && nat_lt (declared_in env + 1) 4294967296
+has_room env = nat_lt (slots_in env + 4) 4294967295 && nat_lt (declared_in env) 4294967295
 
 -- a further local, part of an array or local region is in scope, where there is room for it
 abbrev pub local_declared : Env → ℕ → Ty → Bool → Env

@@ -1,11 +1,11 @@
 -- How far the walk through a body has come, and what becomes of a piece of it.
-use Rattle.std.specs.Prelude.{Bool, false, List, [], Option, Some, None, Result, Ok, Err}
+use Rattle.std.specs.Prelude.{Bool, false, List, [], Option, Some, None, Result}
 use Rattle.dpj_base.specs.declared.effect.Effect.{Effect}
 use Rattle.dpj_base.specs.declared.refusal.Refusal.{Refusal}
 use Rattle.dpj_base.specs.declared.refusal.Stop.{Stop}
-use Rattle.dpj_base.specs.declared.refusal.Stop.TheVariants.{Refused, NoMemory}
 use Rattle.dpj_exprs.specs.declared.env.Env.{Env}
 use Rattle.dpj_exprs.specs.declared.found.Found.{Found}
+use Rattle.dpj_exprs.specs.Answer.{Says as Answers}
 use Rattle.dpj_exprs.specs.Env.{bare, left_to, mark_of}
 use Rattle.dpj_check.specs.declared.body.Body.{Body}
 
@@ -26,9 +26,7 @@ pub data Verdict : Type 0 where
 
 -- what the code says of a piece, where the walk has come so far; want of memory says nothing
 abbrev pub Says : {T : Type 0} → Result T Stop → Walk → (Verdict → Type 0) → Type 0
-Says (Ok x) w P = P (passes w)
-Says (Err (Refused refusal)) w P = P (refused refusal)
-Says (Err NoMemory) w P = Unit {0}
+Says r w P = Answers r (λ x. passes w) refused P
 
 -- after expressions, which add to what was found
 abbrev pub found_so : Walk → Found → Walk

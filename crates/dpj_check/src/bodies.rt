@@ -175,7 +175,8 @@ fn method_fault(has_result: bool, completes: bool, covered: bool, has_slots: boo
 
 /// Puts the formals in scope.
 fn declare_formals(body: &mut Body, formals: &[Formal], types: &[Ty]) -> Result<(), NoMemory>
-    ensures { OnOk result (body.new ≡ with_env body.old (formals_declared body.old.env formals.now types.now)) }
+    ensures whole { OnOk result (body.new ≡ with_env body.old (formals_declared body.old.env formals.now types.now)) }
+    ensures home { OnOk result (home_of body.new ≡ home_of body.old) }
 {
     for (formal, ty) in formals.iter().zip(types) {
         let ty = ty.copy(body.alloc)?;

@@ -48,7 +48,7 @@ impl Body<'_> {
     ghost use Rattle.dpj_check.specs.Methods.{class_params, own_params, atomic_of};
     ghost use Rattle.dpj_check.specs.Noting.{fault_of, with_fault_if};
     ghost use Rattle.dpj_check.specs.Simple.{declaration_noted, has_room, local_declared, part_declared, region_declared, with_room};
-    ghost use Rattle.dpj_check.specs.Walks.{with_env};
+    ghost use Rattle.dpj_check.specs.Walks.{home_of, with_env};
 
     /// Goes over to a class.
     pub fn enter_class(&mut self, class: u32) -> Result<(), NoMemory>
@@ -174,7 +174,8 @@ impl Body<'_> {
 
     /// Puts a local in scope, where there is room for it.
     pub fn declare(&mut self, name: u32, ty: Ty, is_final: bool) -> Result<(), NoMemory>
-        ensures { OnOk result (self.new ≡ with_env self.old (local_declared self.old.env name ty is_final)) }
+        ensures whole { OnOk result (self.new ≡ with_env self.old (local_declared self.old.env name ty is_final)) }
+        ensures home { OnOk result (home_of self.new ≡ home_of self.old) }
     {
         if self.has_room() {
             self.env.declare(name, ty, is_final)?;
@@ -184,14 +185,16 @@ impl Body<'_> {
 
     /// Puts the variable of a loop in scope.
     pub fn declare_variable(&mut self, var: Named) -> Result<(), NoMemory>
-        ensures { OnOk result (self.new ≡ with_env self.old (variable_declared self.old.env var)) }
+        ensures whole { OnOk result (self.new ≡ with_env self.old (variable_declared self.old.env var)) }
+        ensures home { OnOk result (home_of self.new ≡ home_of self.old) }
     {
         self.declare(var.name, Ty::Int, true)
     }
 
     /// Puts a part of an array of a type in scope, where there is room for it.
     pub fn declare_part(&mut self, name: u32, ty: Ty) -> Result<(), NoMemory>
-        ensures { OnOk result (self.new ≡ with_env self.old (part_declared self.old.env name ty)) }
+        ensures whole { OnOk result (self.new ≡ with_env self.old (part_declared self.old.env name ty)) }
+        ensures home { OnOk result (home_of self.new ≡ home_of self.old) }
     {
         if self.has_room() {
             self.env.declare_part(name, ty)?;
@@ -201,7 +204,8 @@ impl Body<'_> {
 
     /// Puts a local region in scope, where there is room for it.
     pub fn declare_region(&mut self, name: u32) -> Result<(), NoMemory>
-        ensures { OnOk result (self.new ≡ with_env self.old (region_declared self.old.env name)) }
+        ensures whole { OnOk result (self.new ≡ with_env self.old (region_declared self.old.env name)) }
+        ensures home { OnOk result (home_of self.new ≡ home_of self.old) }
     {
         if self.has_room() {
             self.env.declare_region(name)?;

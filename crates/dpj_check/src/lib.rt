@@ -15,7 +15,6 @@ mod bodies;
 mod body;
 mod constructs;
 mod gathered;
-mod laws;
 mod leaving;
 mod meet;
 mod node;
@@ -25,4 +24,3 @@ mod statements;
 
 pub use accepted::Accepted;
 pub use bodies::check;
-pub use laws::one_checking;

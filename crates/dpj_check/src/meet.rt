@@ -1,6 +1,6 @@
 ghost use Rattle.std.specs.Prelude.{◌≡◌, ◌↔◌, ◌<◌, not, length, IsTrue, IfOk};
 ghost use Rattle.dpj_base.specs.Branches.{iterations_clash};
-ghost use Rattle.dpj_interfere.specs.Declared.{plain_nd};
+ghost use Rattle.dpj_interfere.specs.Nd.{plain_nd};
 ghost use Rattle.dpj_parts.specs.Uses.{parts_interfere};
 ghost use Rattle.dpj_exprs.specs.Env.{given_in};
 ghost use Rattle.dpj_check.specs.Gathering.{with_uses};
