@@ -2,31 +2,41 @@
 
     tests/run [--only WORD] [--show] [FILE.json ..]
 
-A case is an object with "name", "words", "source", "stdout" and "status". The source is a text, or is made:
+A case is an object with "name", "words", "source", "stdout" and "status"; its name says the rule that it tries, and no two
+cases share one. The source is a text, or is made:
 {"pad": TEXT, "to": N} is TEXT and then spaces up to N bytes, {"repeat": TEXT, "times": N} repeats TEXT,
 {"classes": N} is N empty classes, and "source_hex" gives the bytes in hex. With no FILE, every tests/cases/*.json is run;
 every examples/NAME.dpj, which must write examples/NAME.out with status 0; every examples/check/NAME.dpj, for which `check`
-must answer NAME.out; every text of docs/*.md that begins with ```dpj check: ANSWER; and every prefix of three of the examples
-that ends behind a token: it is refused at its end.
+must answer NAME.out; every program of README.md, docs/*.md and examples/README.md, which stands in a fence that begins with
+```dpj check: ANSWER or ```dpj run: LINE, LINE; and prefixes of accepted programs (tests/prefixes.py), of three examples where
+the program is unproved. It is an error, and no pass, where a fence isn't understood or no case is left.
 
 The program is out/dpj where ./build or the gate made it of these sources; else it is built once, unproved, by `rt try`.
 """
 import argparse
+import collections
+import concurrent.futures
 import json
+import os
 import pathlib
 import re
 import subprocess
 import sys
 import tempfile
 
+import prefixes
+
 TOP = pathlib.Path(__file__).resolve().parent.parent
 PROVED = TOP / "out" / "dpj"
 CRATE = TOP / "crates" / "dpj_cli"
 SECONDS = 120
 
-# The programs whose prefixes are tried, and what their tokens are. None has a comment behind its first line, or a text literal.
+# The examples whose prefixes are tried on an unproved program, which is slow to ask.
 CUT = ("squares", "two_regions", "parts")
-TOKEN = re.compile(r"\w+|[<>=!]=|&&|\|\||[^\s\w]")
+
+# What may follow the three marks that open a fence, other than nothing: words for the program, and the lines that it answers.
+FENCE = re.compile(r"dpj ((?:check|run)(?: [a-z]+=[-\w]+)*): (accepted|refused \d+:\d+ [a-z-]+|(?:-?\w+, )*result -?\d+|limit)")
+STATUSES = {"refused": 2, "limit": 4}
 
 
 def bytes_of(case):
@@ -79,37 +89,74 @@ def from_checked_example(path):
     return checked(f"examples/check: {path.name}", path.read_bytes(), path.with_suffix(".out").read_bytes())
 
 
+def fences(path):
+    """Each fence of a document: its first line's number, the heading above it, what follows its marks, and its lines."""
+    heading, opened = path.stem, None
+    for number, line in enumerate(path.read_text(encoding="utf-8").split("\n"), 1):
+        if not line.lstrip().startswith(("```", "~~~")):
+            if opened:
+                opened[3].append(line)
+            elif line.startswith("#"):
+                heading = line.lstrip("# ")
+        elif opened is None:
+            opened = (number, heading, line.removeprefix("```"), [])
+        elif line == "```":
+            yield opened
+            opened = None
+        else:
+            sys.exit(f"{path.relative_to(TOP)}:{number}: a fence inside of a fence")
+    if opened:
+        sys.exit(f"{path.relative_to(TOP)}:{opened[0]}: a fence that isn't closed")
+
+
 def from_document(path):
-    """The texts of a document, each with the answer in the line that opens it."""
-    text = path.read_text(encoding="utf-8")
-    for number, found in enumerate(re.finditer(r"^```dpj check: (.*)\n((?:.*\n)*?)```$", text, re.M)):
-        answer, source = found.groups()
-        yield checked(f"docs: {path.name}, text {number + 1}", source.encode(), f"{answer}\n".encode())
+    """The programs of a document, each with the words and the answer in the line that opens its fence."""
+    for number, heading, info, lines in fences(path):
+        found = FENCE.fullmatch(info)
+        if found is None and (info or any(line.startswith("class ") for line in lines)):
+            sys.exit(f"{path.relative_to(TOP)}:{number}: a fence that isn't understood: {info or 'a program without its answer'}")
+        if found:
+            words, answer = found.groups()
+            yield {
+                "name": f"{path.relative_to(TOP)}, {heading}, line {number}",
+                "words": words.split(),
+                "source": "".join(f"{line}\n" for line in lines).encode(),
+                "stdout": (answer.replace(", ", "\n") + "\n").encode(),
+                "status": STATUSES.get(answer.split()[0], 0),
+            }
 
 
-def from_prefixes(path):
-    """The prefixes of a program that end behind a token, but for those that are programs of the grammar themselves."""
-    text = path.read_text(encoding="utf-8")
-    open_brackets = 0
-    for token in TOKEN.finditer(text, text.index("\nclass")):
-        open_brackets += (token.group() == "{") - (token.group() == "}")
-        if token.group() == "}" and open_brackets == 0:
-            continue
-        prefix = text[: token.end()]
-        line, column = prefix.count("\n") + 1, len(prefix) - (prefix.rfind("\n") + 1) + 1
-        yield checked(
-            f"prefixes: {path.name}, {len(prefix)} bytes", prefix.encode(), f"refused {line}:{column} syntax\n".encode()
-        )
+def unmended(path):
+    """The first refusal that a document has a heading for, but no program that is refused so, or none that is accepted."""
+    answers = collections.defaultdict(list)
+    for _, heading, info, _ in fences(path):
+        answers[heading].append(info.split(" ")[-1])
+    # The text of this one would have a megabyte.
+    names = set(re.findall(r"^## (.+)$", path.read_text(encoding="utf-8"), re.M)) - {"too-long"}
+    return next((name for name in sorted(names) if not {name, "accepted"} <= set(answers[name])), None)
 
 
-def load(files):
+def from_prefixes(programs):
+    """The prefixes of accepted programs that end with a token, but for those that are programs of the grammar themselves."""
+    answers = dict(pair for program in programs for pair in prefixes.prefixes(program))
+    for number, (prefix, answer) in enumerate(answers.items()):
+        if answer:
+            yield checked(f"prefix {number}, that ends with {prefix[-12:]!r}", prefix, answer)
+
+
+def load(files, is_proved):
     if files:
         return [case for file in files for case in from_json(pathlib.Path(file))]
     cases = [case for file in sorted((TOP / "tests" / "cases").glob("*.json")) for case in from_json(file)]
     cases += [from_example(file) for file in sorted((TOP / "examples").glob("*.dpj"))]
     cases += [from_checked_example(file) for file in sorted((TOP / "examples" / "check").glob("*.dpj"))]
-    cases += [case for file in sorted((TOP / "docs").glob("*.md")) for case in from_document(file)]
-    return cases + [case for name in CUT for case in from_prefixes(TOP / "examples" / "check" / f"{name}.dpj")]
+    missing = unmended(TOP / "docs" / "REFUSALS.md")
+    if missing:
+        sys.exit(f"docs/REFUSALS.md: {missing} has no program that is refused so, or none that is mended")
+    documents = [TOP / "README.md", TOP / "examples" / "README.md", *sorted((TOP / "docs").glob("*.md"))]
+    cases += [case for file in documents for case in from_document(file)]
+    few = ((TOP / "examples" / "check" / f"{name}.dpj").read_bytes() for name in CUT)
+    return cases + list(from_prefixes(prefixes.accepted_programs() if is_proved else few))
 
 
 def is_fresh():
@@ -122,13 +169,19 @@ def is_fresh():
     return all(path.stat().st_mtime_ns <= made for path in folders + inside + [TOP / "crates.txt"])
 
 
+def ask(case):
+    """What the proved program writes, and its status."""
+    try:
+        done = subprocess.run([PROVED, *case["words"]], input=case["source"], capture_output=True, timeout=SECONDS)
+        return done.stdout, done.returncode
+    except subprocess.TimeoutExpired:
+        return f"(no answer in {SECONDS} s)".encode(), None
+
+
 def run_proved(cases):
-    for case in cases:
-        try:
-            done = subprocess.run([PROVED, *case["words"]], input=case["source"], capture_output=True, timeout=SECONDS)
-            case["got"] = (done.stdout, done.returncode)
-        except subprocess.TimeoutExpired:
-            case["got"] = (f"(no answer in {SECONDS} s)".encode(), None)
+    with concurrent.futures.ThreadPoolExecutor(os.cpu_count()) as pool:
+        for case, got in zip(cases, pool.map(ask, cases)):
+            case["got"] = got
 
 
 def run_unproved(cases):
@@ -157,8 +210,15 @@ def main():
     options.add_argument("--show", action="store_true")
     options.add_argument("files", nargs="*")
     options = options.parse_args()
-    cases = [case for case in load(options.files) if re.search(options.only or "", case["name"])]
-    if is_fresh():
+    is_proved = is_fresh()
+    loaded = load(options.files, is_proved)
+    twice = [name for name, count in collections.Counter(case["name"] for case in loaded).items() if count > 1]
+    if twice:
+        sys.exit(f"tests/run: two cases are named {twice[0]}")
+    cases = [case for case in loaded if re.search(options.only or "", case["name"])]
+    if not cases:
+        sys.exit(f"tests/run: no case is left{f' whose name has {options.only}' if options.only else ''}")
+    if is_proved:
         run_proved(cases)
     else:
         print("tests/run: the sources are newer than the proved program, so they run unproved")
@@ -175,4 +235,5 @@ def main():
     return 1 if failed else 0
 
 
-sys.exit(main())
+if __name__ == "__main__":
+    sys.exit(main())

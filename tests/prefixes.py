@@ -1,41 +1,67 @@
-"""Every prefix of a program is refused as `syntax`, at the end place, at its last token, or where a comment or a text literal
-begins that it doesn't close; but for those that end between two classes, which are programs of the grammar.
+"""Every prefix of an accepted program that ends with a token is refused as `syntax` at its end: a program begins with it. Those
+that end with a class are programs of the grammar themselves, and are answered otherwise.
 
-    python3 tests/prefixes.py PROGRAM FILE.dpj ..
+    python3 tests/prefixes.py [PROGRAM]
+
+The accepted programs are those of tests/cases/*.json and of examples/check. PROGRAM is out/dpj where none is named.
 """
+import concurrent.futures
+import json
+import os
+import pathlib
 import re
 import subprocess
 import sys
 
+TOP = pathlib.Path(__file__).resolve().parent.parent
 TOKEN = re.compile(rb'//[^\n]*|/\*.*?\*/|"(?:[^"\\\n]|\\.)*"|\w+|[<>=!]=|&&|\|\||[^\s\w]', re.S)
+COMMENT = re.compile(rb"//|/\*")
 
 
-def place(text, at):
-    """The line and the column of an offset, both from 1."""
-    before = text[:at]
-    return before.count(b"\n") + 1, at - (before.rfind(b"\n") + 1) + 1
+def prefixes(program):
+    """Each prefix that ends with a token, and its answer: None where the prefix is a program of the grammar."""
+    depth = 0
+    for token in TOKEN.finditer(program):
+        if COMMENT.match(token.group()):
+            continue
+        depth += (token.group() == b"{") - (token.group() == b"}")
+        prefix = program[: token.end()]
+        line, column = prefix.count(b"\n") + 1, len(prefix) - (prefix.rfind(b"\n") + 1) + 1
+        is_whole = token.group() == b"}" and depth == 0
+        yield prefix, None if is_whole else f"refused {line}:{column} syntax\n".encode()
+
+
+def accepted_programs():
+    for path in sorted((TOP / "tests" / "cases").glob("*.json")):
+        for case in json.loads(path.read_text(encoding="utf-8")):
+            if case["stdout"] == "accepted\n" and isinstance(case.get("source"), str):
+                yield case["source"].encode()
+    for path in sorted((TOP / "examples" / "check").glob("*.dpj")):
+        if path.with_suffix(".out").read_text() == "accepted\n":
+            yield path.read_bytes()
 
 
 def main():
-    program, files = sys.argv[1], sys.argv[2:]
-    tried = failed = 0
-    for file in files:
-        text = open(file, "rb").read()
-        last = list(TOKEN.finditer(text))[-1].start()
-        for at in range(last + 1):
-            prefix = text[:at]
-            found = list(TOKEN.finditer(prefix))
-            texts = [match.group() for match in found]
-            whole = texts[-1:] == [b"}"] and texts.count(b"{") == texts.count(b"}")
-            places = {place(prefix, at)} | {place(prefix, match.start()) for match in found[-2:]}
-            answers = {f"refused {line}:{column} syntax\n".encode() for line, column in places}
-            got = subprocess.run([program, "check"], input=prefix, capture_output=True).stdout
-            tried += 1
-            if whole == (b"syntax" in got) or (not whole and got not in answers):
-                failed += 1
-                print(f"failed: {file}: the first {at} bytes: {got}, none of {sorted(answers)}"[:300])
-    print(f"{tried - failed} passed, {failed} failed")
+    program = sys.argv[1] if len(sys.argv) > 1 else TOP / "out" / "dpj"
+    # Programs that begin alike have most of their prefixes in common.
+    wanted = dict(pair for text in accepted_programs() for pair in prefixes(text))
+    if not wanted:
+        sys.exit("tests/prefixes.py: no accepted program is there")
+
+    def answer(prefix):
+        return subprocess.run([program, "check"], input=prefix, capture_output=True, timeout=60).stdout
+
+    with concurrent.futures.ThreadPoolExecutor(os.cpu_count()) as pool:
+        answers = pool.map(answer, wanted)
+    failed = 0
+    for (prefix, want), got in zip(wanted.items(), answers):
+        is_right = got.endswith(b"\n") and b" syntax" not in got if want is None else got == want
+        if not is_right:
+            failed += 1
+            print(f"failed: {len(prefix)} bytes: {prefix[-60:]!r}: wanted {want or 'no syntax fault'}, got {got}"[:300])
+    print(f"{len(wanted) - failed} passed, {failed} failed")
     return 1 if failed else 0
 
 
-sys.exit(main())
+if __name__ == "__main__":
+    sys.exit(main())

@@ -1,12 +1,10 @@
 -- An expression is typed in one way at most: what two derivations say of it is the same.
 use Rattle.std.proofs.Common.{◌≡◌, ◌∙◌, ℕ, List, [], ◌∷◌, true, false, Option, Some, None, Result, refl, sym, ap}
 use Rattle.dpj_base.specs.declared.place.Place.{Place}
-use Rattle.dpj_base.specs.declared.refusal.Kind.TheVariants as kind
 use Rattle.dpj_base.specs.declared.refusal.Refusal.{Refusal}
 use Rattle.dpj_base.specs.Types.{PlainType}
 use Rattle.dpj_base.specs.Types.{PlainType as ty}
-use Rattle.dpj_headers.specs.Passes.{fault}
-use Rattle.dpj_resolve.specs.Scopes.{PlainIndex}
+use Rattle.dpj_resolve.specs.Index.{PlainIndex}
 use Rattle.dpj_tree.specs.declared.expr.BinaryOp.{BinaryOp}
 use Rattle.dpj_tree.specs.declared.expr.UnaryOp.{UnaryOp}
 use Rattle.dpj_tree.specs.declared.region.BaseTree.{BaseTree}
@@ -23,7 +21,7 @@ use Rattle.dpj_exprs.specs.Elements.{read_element, read_part}
 use Rattle.dpj_exprs.specs.Env.{table_of, part_of}
 use Rattle.dpj_exprs.specs.Fields.{read_field}
 use Rattle.dpj_exprs.specs.Locals.{is_part_length}
-use Rattle.dpj_exprs.specs.Operations.{unary_takes, unary_gives, binary_takes, binary_gives}
+use Rattle.dpj_exprs.specs.Operations.{unary_typed, binary_typed}
 use Rattle.dpj_exprs.specs.Typing.{answer, leaf_type, AllAnswer, all_give, one_refused, Typing, TypingArray, TypingAll}
 use Rattle.dpj_exprs.specs.Uses.{args_of, args_told, callee_params, created_params, Call, Creation}
 use Rattle.dpj_exprs.proofs.OnceUsed.{call_once, creation_once}
@@ -142,66 +140,46 @@ element_alone {env} {place} {array} {index} g h t u l only next r f' b p (Typing
     by_three (λ v w k. read_element env v index w place k) (same_type e) (same_type d) (same_found d) r r'
 
 -- an operation of one operand
-operand_alone : {env : Env} {place : Place} {op : UnaryOp} {arg : PlainExpr} {f : Found} (refusal : Refusal) → Alone env arg f (refused refusal) → Alone env (expression place (unary op arg)) f (refused refusal)
+operand_alone : {env : Env} {place : Place} {op : UnaryOp} {arg : PlainExpr} {f : Found} (refusal : Refusal) →
+    Alone env arg f (refused refusal) → Alone env (expression place (unary op arg)) f (refused refusal)
 operand_alone q only f' b p (Typing.no_parts l' s') = cc
 operand_alone q only f' b p (Typing.operand_refused d') = only f' _ p d'
 operand_alone q only f' b p (Typing.operation {g = g'} {t = t'} d' r') = let e = only f' (gives t' g') p d' in cc
-operand_alone q only f' b p (Typing.operand_mistyped {g = g'} {t = t'} d' r') = let e = only f' (gives t' g') p d' in cc
 
-operation_alone : {env : Env} {place : Place} {op : UnaryOp} {arg : PlainExpr} {f : Found} (g : Found) (t : Option PlainType) → Alone env arg f (gives t g) → unary_takes op t ≡ true → Alone env (expression place (unary op arg)) f (gives (Some (unary_gives op)) g)
+operation_alone : {env : Env} {place : Place} {op : UnaryOp} {arg : PlainExpr} {f : Found} {a : Answer} (g : Found) (t : Option PlainType) →
+    Alone env arg f (gives t g) → answer (unary_typed op t place) g ≡ a → Alone env (expression place (unary op arg)) f a
 operation_alone g t only r f' b p (Typing.no_parts l' s') = cc
 operation_alone g t only r f' b p (Typing.operand_refused {refusal = q'} d') = let e = only f' (refused q') p d' in cc
-operation_alone {op = op} g t only r f' b p (Typing.operation {g = g'} {t = t'} d' r') = ap (gives (Some (unary_gives op))) (same_found (only f' (gives t' g') p d'))
-operation_alone {op = op} g t only r f' b p (Typing.operand_mistyped {g = g'} {t = t'} d' r') =
-    let e : true ≡ false = by_one (unary_takes op) (same_type (only f' (gives t' g') p d')) r r' in cc
-
-operand_mistyped_alone : {env : Env} {place : Place} {op : UnaryOp} {arg : PlainExpr} {f : Found} (g : Found) (t : Option PlainType) → Alone env arg f (gives t g) → unary_takes op t ≡ false → Alone env (expression place (unary op arg)) f (refused (fault kind.Type place))
-operand_mistyped_alone g t only r f' b p (Typing.no_parts l' s') = cc
-operand_mistyped_alone g t only r f' b p (Typing.operand_refused {refusal = q'} d') = let e = only f' (refused q') p d' in cc
-operand_mistyped_alone {op = op} g t only r f' b p (Typing.operation {g = g'} {t = t'} d' r') =
-    let e : false ≡ true = by_one (unary_takes op) (same_type (only f' (gives t' g') p d')) r r' in cc
-operand_mistyped_alone g t only r f' b p (Typing.operand_mistyped d' r') = refl
+operation_alone {env} {place} {op} g t only r f' b p (Typing.operation {g = g'} {t = t'} d' r') =
+    let e = only f' (gives t' g') p d' in
+    by_two (λ u k. answer (unary_typed op u place) k) (same_type e) (same_found e) r r'
 
 -- an operation of two operands
-left_alone : {env : Env} {place : Place} {op : BinaryOp} {left right : PlainExpr} {f : Found} (refusal : Refusal) → Alone env left f (refused refusal) → Alone env (expression place (binary op left right)) f (refused refusal)
+left_alone : {env : Env} {place : Place} {op : BinaryOp} {left right : PlainExpr} {f : Found} (refusal : Refusal) →
+    Alone env left f (refused refusal) → Alone env (expression place (binary op left right)) f (refused refusal)
 left_alone q only f' b p (Typing.no_parts l' s') = cc
 left_alone q only f' b p (Typing.left_refused d') = only f' _ p d'
 left_alone q only f' b p (Typing.right_refused {g = g'} {t = t'} d' i') = let e = only f' (gives t' g') p d' in cc
 left_alone q only f' b p (Typing.both_operands {g = g'} {t = t'} d' i' r') = let e = only f' (gives t' g') p d' in cc
-left_alone q only f' b p (Typing.operands_mistyped {g = g'} {t = t'} d' i' r') = let e = only f' (gives t' g') p d' in cc
 
-right_alone : {env : Env} {place : Place} {op : BinaryOp} {left right : PlainExpr} {f : Found} (g : Found) (t : Option PlainType) (refusal : Refusal) → Alone env left f (gives t g) → Alone env right g (refused refusal) → Alone env (expression place (binary op left right)) f (refused refusal)
+right_alone : {env : Env} {place : Place} {op : BinaryOp} {left right : PlainExpr} {f : Found} (g : Found) (t : Option PlainType) (refusal : Refusal) →
+    Alone env left f (gives t g) → Alone env right g (refused refusal) → Alone env (expression place (binary op left right)) f (refused refusal)
 right_alone g t q only next f' b p (Typing.no_parts l' s') = cc
 right_alone g t q only next f' b p (Typing.left_refused {refusal = q'} d') = let e = only f' (refused q') p d' in cc
 right_alone g t q only next f' b p (Typing.right_refused {g = g'} {t = t'} d' i') = next g' _ (same_found (only f' (gives t' g') p d')) i'
 right_alone g t q only next f' b p (Typing.both_operands {g = g'} {h = h'} {t = t'} {u = u'} d' i' r') =
     let e = next g' (gives u' h') (same_found (only f' (gives t' g') p d')) i' in cc
-right_alone g t q only next f' b p (Typing.operands_mistyped {g = g'} {h = h'} {t = t'} {u = u'} d' i' r') =
-    let e = next g' (gives u' h') (same_found (only f' (gives t' g') p d')) i' in cc
 
-operations_alone : {env : Env} {place : Place} {op : BinaryOp} {left right : PlainExpr} {f : Found} (g h : Found) (t u : Option PlainType) → Alone env left f (gives t g) → Alone env right g (gives u h) → binary_takes op t u ≡ true → Alone env (expression place (binary op left right)) f (gives (Some (binary_gives op)) h)
+operations_alone : {env : Env} {place : Place} {op : BinaryOp} {left right : PlainExpr} {f : Found} {a : Answer} (g h : Found) (t u : Option PlainType) →
+    Alone env left f (gives t g) → Alone env right g (gives u h) → answer (binary_typed op t u place) h ≡ a → Alone env (expression place (binary op left right)) f a
 operations_alone g h t u only next r f' b p (Typing.no_parts l' s') = cc
 operations_alone g h t u only next r f' b p (Typing.left_refused {refusal = q'} d') = let e = only f' (refused q') p d' in cc
 operations_alone g h t u only next r f' b p (Typing.right_refused {g = g'} {t = t'} {refusal = q'} d' i') =
     let e = next g' (refused q') (same_found (only f' (gives t' g') p d')) i' in cc
-operations_alone {op = op} g h t u only next r f' b p (Typing.both_operands {g = g'} {h = h'} {t = t'} {u = u'} d' i' r') =
-    let d = next g' (gives u' h') (same_found (only f' (gives t' g') p d')) i' in
-    ap (gives (Some (binary_gives op))) (same_found d)
-operations_alone {op = op} g h t u only next r f' b p (Typing.operands_mistyped {g = g'} {h = h'} {t = t'} {u = u'} d' i' r') =
+operations_alone {env} {place} {op} g h t u only next r f' b p (Typing.both_operands {g = g'} {h = h'} {t = t'} {u = u'} d' i' r') =
     let e = only f' (gives t' g') p d' in
     let d = next g' (gives u' h') (same_found e) i' in
-    let off : true ≡ false = by_two (binary_takes op) (same_type e) (same_type d) r r' in cc
-
-operands_mistyped_alone : {env : Env} {place : Place} {op : BinaryOp} {left right : PlainExpr} {f : Found} (g h : Found) (t u : Option PlainType) → Alone env left f (gives t g) → Alone env right g (gives u h) → binary_takes op t u ≡ false → Alone env (expression place (binary op left right)) f (refused (fault kind.Type place))
-operands_mistyped_alone g h t u only next r f' b p (Typing.no_parts l' s') = cc
-operands_mistyped_alone g h t u only next r f' b p (Typing.left_refused {refusal = q'} d') = let e = only f' (refused q') p d' in cc
-operands_mistyped_alone g h t u only next r f' b p (Typing.right_refused {g = g'} {t = t'} {refusal = q'} d' i') =
-    let e = next g' (refused q') (same_found (only f' (gives t' g') p d')) i' in cc
-operands_mistyped_alone {op = op} g h t u only next r f' b p (Typing.both_operands {g = g'} {h = h'} {t = t'} {u = u'} d' i' r') =
-    let e = only f' (gives t' g') p d' in
-    let d = next g' (gives u' h') (same_found e) i' in
-    let off : false ≡ true = by_two (binary_takes op) (same_type e) (same_type d) r r' in cc
-operands_mistyped_alone g h t u only next r f' b p (Typing.operands_mistyped d' i' r') = refl
+    by_three (λ v w k. answer (binary_typed op v w place) k) (same_type e) (same_type d) (same_found d) r r'
 
 -- a call
 receiver_alone : {env : Env} {place : Place} {of : PlainExpr} {regions : List RplTree} {name : ℕ} {actuals : PlainExprs} {f : Found} (refusal : Refusal) → Alone env of f (refused refusal) → Alone env (expression place (call of regions name actuals)) f (refused refusal)
@@ -269,7 +247,7 @@ new_alone {env} {place} {class} {regions} {a = a} g types l next r f' b p (Typin
 
 -- the creation of an array
 new_array_alone : {env : Env} {place : Place} {base : BaseTree} {suffixes : List Suffix} {len : PlainExpr} {rpl : Option RplTree} {index : Option Named} {f : Found} {a : Answer} →
-    ArrayAlone env (made_names node suffixes index) base len rpl place f a → Alone env (expression place (create_array base suffixes len rpl index)) f a
+    ArrayAlone env (made_names suffixes index) base len rpl place f a → Alone env (expression place (create_array base suffixes len rpl index)) f a
 new_array_alone only f' b p (Typing.no_parts l' s') = cc
 new_array_alone only f' b p (Typing.new_array d') = only f' b p d'
 
@@ -329,11 +307,9 @@ mutual
   alone (Typing.element_read {g = g} {h = h} {t = t} {u = u} l d i r) = element_alone g h t u l (alone d) (alone i) r
   alone (Typing.operand_refused {refusal = q} d) = operand_alone q (alone d)
   alone (Typing.operation {g = g} {t = t} d r) = operation_alone g t (alone d) r
-  alone (Typing.operand_mistyped {g = g} {t = t} d r) = operand_mistyped_alone g t (alone d) r
   alone (Typing.left_refused {refusal = q} d) = left_alone q (alone d)
   alone (Typing.right_refused {g = g} {t = t} {refusal = q} d i) = right_alone g t q (alone d) (alone i)
   alone (Typing.both_operands {g = g} {h = h} {t = t} {u = u} d i r) = operations_alone g h t u (alone d) (alone i) r
-  alone (Typing.operands_mistyped {g = g} {h = h} {t = t} {u = u} d i r) = operands_mistyped_alone g h t u (alone d) (alone i) r
   alone (Typing.receiver_refused {refusal = q} d) = receiver_alone q (alone d)
   alone (Typing.call_args_refused {g = g} {t = t} {refusal = q} d l) = call_args_alone g t q (alone d) l
   alone (Typing.call_actual_refused {g = g} {t = t} {refusal = q} d l i) = call_actual_alone g t q (alone d) l (all_alone i)

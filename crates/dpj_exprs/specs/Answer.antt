@@ -7,9 +7,9 @@ use Rattle.dpj_base.specs.declared.place.Place.{Place}
 use Rattle.dpj_base.specs.declared.refusal.Kind.TheVariants as kind
 use Rattle.dpj_base.specs.declared.refusal.Refusal.{Refusal}
 use Rattle.dpj_base.specs.declared.refusal.Stop.{Stop}
-use Rattle.dpj_base.specs.declared.refusal.Stop.TheVariants as stop
 use Rattle.dpj_base.specs.declared.region.Rpl.{Rpl}
 use Rattle.dpj_base.specs.Effects.{added, gathered}
+use Rattle.dpj_base.specs.Refused.{IfRefused}
 use Rattle.dpj_base.specs.Types.{PlainType}
 use Rattle.dpj_headers.specs.Passes.{fault}
 use Rattle.dpj_classes.specs.declared.rows.MethodRow.{MethodRow}
@@ -25,9 +25,8 @@ pub data Answer : Type 0 where
 
 -- what the code says: by what it made, or by a refusal; want of memory says nothing
 abbrev pub Says : {T A : Type 0} → Result T Stop → (T → A) → (Refusal → A) → (A → Type 0) → Type 0
-Says (Ok x) made no P = P (made x)
-Says (Err (stop.Refused refusal)) made no P = P (no refusal)
-Says (Err stop.NoMemory) made no P = Unit {0}
+Says (Ok x) made refuse P = P (made x)
+Says (Err stop) made refuse P = IfRefused stop (λ refusal. P (refuse refusal))
 
 -- with a plain read or write
 abbrev pub with_access : Found → Rpl → Access → Found

@@ -2,11 +2,9 @@
 -- evaluated in order, and a fault of a part is the fault of the whole.
 use Rattle.std.specs.Prelude.{◌≡◌, ℕ, true, false, List, [], ◌∷◌, Option, Some, None, Result, Ok, Err}
 use Rattle.dpj_base.specs.declared.place.Place.{Place}
-use Rattle.dpj_base.specs.declared.refusal.Kind.TheVariants as kind
 use Rattle.dpj_base.specs.declared.refusal.Refusal.{Refusal}
 use Rattle.dpj_base.specs.Types.{PlainType}
 use Rattle.dpj_base.specs.Types.{PlainType as ty}
-use Rattle.dpj_headers.specs.Passes.{fault}
 use Rattle.dpj_resolve.specs.Index.{PlainIndex}
 use Rattle.dpj_tree.specs.declared.expr.BinaryOp.{BinaryOp}
 use Rattle.dpj_tree.specs.declared.expr.UnaryOp.{UnaryOp}
@@ -24,7 +22,7 @@ use Rattle.dpj_exprs.specs.Elements.{read_element, read_part}
 use Rattle.dpj_exprs.specs.Env.{table_of, local_of, part_of, this_type_of}
 use Rattle.dpj_exprs.specs.Locals.{local_type, is_part_length}
 use Rattle.dpj_exprs.specs.Fields.{read_field}
-use Rattle.dpj_exprs.specs.Operations.{unary_takes, unary_gives, binary_takes, binary_gives}
+use Rattle.dpj_exprs.specs.Operations.{unary_typed, binary_typed}
 use Rattle.dpj_exprs.specs.Uses.{args_of, args_told, callee_params, created_params, Call, Creation}
 
 -- a type without effects of its own, or a refusal
@@ -78,21 +76,16 @@ mutual
     -- the operand, then the operation
     operand_refused : {place : Place} {op : UnaryOp} {arg : PlainExpr} {f : Found} {refusal : Refusal} →
         Typing env arg f (refused refusal) → Typing env (expression place (unary op arg)) f (refused refusal)
-    operation : {place : Place} {op : UnaryOp} {arg : PlainExpr} {f g : Found} {t : Option PlainType} →
-        Typing env arg f (gives t g) → unary_takes op t ≡ true → Typing env (expression place (unary op arg)) f (gives (Some (unary_gives op)) g)
-    operand_mistyped : {place : Place} {op : UnaryOp} {arg : PlainExpr} {f g : Found} {t : Option PlainType} →
-        Typing env arg f (gives t g) → unary_takes op t ≡ false → Typing env (expression place (unary op arg)) f (refused (fault kind.Type place))
+    operation : {place : Place} {op : UnaryOp} {arg : PlainExpr} {f g : Found} {t : Option PlainType} {a : Answer} →
+        Typing env arg f (gives t g) → answer (unary_typed op t place) g ≡ a → Typing env (expression place (unary op arg)) f a
     -- both operands, from left to right, then the operation
     left_refused : {place : Place} {op : BinaryOp} {left right : PlainExpr} {f : Found} {refusal : Refusal} →
         Typing env left f (refused refusal) → Typing env (expression place (binary op left right)) f (refused refusal)
     right_refused : {place : Place} {op : BinaryOp} {left right : PlainExpr} {f g : Found} {t : Option PlainType} {refusal : Refusal} →
         Typing env left f (gives t g) → Typing env right g (refused refusal) → Typing env (expression place (binary op left right)) f (refused refusal)
-    both_operands : {place : Place} {op : BinaryOp} {left right : PlainExpr} {f g h : Found} {t u : Option PlainType} →
-        Typing env left f (gives t g) → Typing env right g (gives u h) → binary_takes op t u ≡ true →
-        Typing env (expression place (binary op left right)) f (gives (Some (binary_gives op)) h)
-    operands_mistyped : {place : Place} {op : BinaryOp} {left right : PlainExpr} {f g h : Found} {t u : Option PlainType} →
-        Typing env left f (gives t g) → Typing env right g (gives u h) → binary_takes op t u ≡ false →
-        Typing env (expression place (binary op left right)) f (refused (fault kind.Type place))
+    both_operands : {place : Place} {op : BinaryOp} {left right : PlainExpr} {f g h : Found} {t u : Option PlainType} {a : Answer} →
+        Typing env left f (gives t g) → Typing env right g (gives u h) → answer (binary_typed op t u place) h ≡ a →
+        Typing env (expression place (binary op left right)) f a
     -- the receiver, the region arguments, the actuals, then the call
     receiver_refused : {place : Place} {of : PlainExpr} {regions : List RplTree} {name : ℕ} {actuals : PlainExprs} {f : Found} {refusal : Refusal} →
         Typing env of f (refused refusal) → Typing env (expression place (call of regions name actuals)) f (refused refusal)

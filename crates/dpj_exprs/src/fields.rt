@@ -15,7 +15,7 @@ use crate::typed::Typed;
 use dpj_arrays::{Element, element};
 use dpj_base::{Access, Index, Kind, NoMemory, Place, Plain, Rpl, Stop, Ty};
 use dpj_classes::FieldRow;
-use dpj_resolve::put_in;
+use dpj_regions::subst;
 use dpj_tree::{Expr, ExprKind};
 use dpj_types::subst_type;
 use std::alloc::Global;
@@ -55,7 +55,7 @@ fn field_with(alloc: Global, row: &FieldRow, args: &[Rpl]) -> Result<FieldAt, No
 {
     Ok(FieldAt {
         ty: subst_type(alloc, &row.ty, args)?,
-        rpl: put_in(alloc, &row.rpl, args)?,
+        rpl: subst(alloc, &row.rpl, args)?,
         may_read: !rigid_in_partial(&row.ty, args),
         may_write: !mentions_partial(&row.ty, args),
     })

@@ -1,7 +1,7 @@
 use dpj_base::{Access, Effect, Items, NoMemory, PartUse, Rpl};
 use dpj_classes::{MethodRow, Table};
 use dpj_effects::EffectSet;
-use dpj_resolve::put_in;
+use dpj_regions::subst;
 use std::alloc::Global;
 
 /// What was found, in the order of evaluation: the effects, and the uses of array parts apart from them.
@@ -77,7 +77,7 @@ impl Found {
             self.effects.add(Effect {
                 access: effect.access,
                 atomic: effect.atomic,
-                rpl: put_in(alloc, &effect.rpl, args)?,
+                rpl: subst(alloc, &effect.rpl, args)?,
             })?;
         }
         Ok(())

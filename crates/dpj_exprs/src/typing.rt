@@ -53,12 +53,7 @@ pub fn expr(alloc: Global, env: &Env, found: &mut Found, e: &Expr) -> Result<Typ
 
 /// The type of an operation, or of another expression that is no access.
 #[cycle(exprs)]
-fn operation(
-    alloc: Global,
-    env: &Env,
-    found: &mut Found,
-    e: &Expr,
-) -> Result<Typed, Stop>
+fn operation(alloc: Global, env: &Env, found: &mut Found, e: &Expr) -> Result<Typed, Stop>
     requires { is_access (form_of (plain_expr e.now)) ≡ false }
     ensures answer { Says result (λ typed. gives (plain_typed typed) found.new) refused (Typing env.now (plain_expr e.now) found.old) }
     ensures nd { OnOk result (IsTrue found.old.reaches_nd → IsTrue found.new.reaches_nd) }
@@ -96,12 +91,7 @@ fn operation(
 
 /// The type of a call or the creation of an object, or of an expression without expressions in it.
 #[cycle(exprs)]
-fn invocation(
-    alloc: Global,
-    env: &Env,
-    found: &mut Found,
-    e: &Expr,
-) -> Result<Typed, Stop>
+fn invocation(alloc: Global, env: &Env, found: &mut Found, e: &Expr) -> Result<Typed, Stop>
     requires access { is_access (form_of (plain_expr e.now)) ≡ false }
     requires operation { is_operation (form_of (plain_expr e.now)) ≡ false }
     ensures answer { Says result (λ typed. gives (plain_typed typed) found.new) refused (Typing env.now (plain_expr e.now) found.old) }
@@ -137,12 +127,7 @@ fn invocation(
 
 /// The types of several expressions.
 #[cycle(exprs)]
-fn exprs(
-    alloc: Global,
-    env: &Env,
-    found: &mut Found,
-    all: &[Expr],
-) -> Result<Items<Typed>, Stop>
+fn exprs(alloc: Global, env: &Env, found: &mut Found, all: &[Expr]) -> Result<Items<Typed>, Stop>
     ensures answer { Says result (λ made. all_give (map plain_typed made) found.new) one_refused (TypingAll env.now (plain_exprs (map plain_expr all.now)) found.old) }
     ensures nd { OnOk result (IsTrue found.old.reaches_nd → IsTrue found.new.reaches_nd) }
 {

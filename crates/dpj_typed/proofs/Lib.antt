@@ -1,0 +1,3 @@
+mod Mended
+mod Refused
+mod Single

@@ -1,1 +1,10 @@
+pub mod Effects
+pub mod Laws
 pub mod Plain
+pub mod Samples
+pub mod Scope
+pub mod Statements
+pub mod Table
+pub mod Types
+pub mod Typing
+pub mod WellTyped

@@ -14,6 +14,7 @@
 
 mod expr;
 mod ids;
+pub mod laws;
 mod program;
 mod stmt;
 

@@ -1,0 +1,10 @@
+pub mod Actions
+pub mod Asking
+pub mod Core
+pub mod Counts
+pub mod Expressions
+pub mod Laws
+pub mod Regions
+pub mod Samples
+pub mod Statements
+pub mod Values

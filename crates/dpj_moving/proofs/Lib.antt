@@ -1,0 +1,13 @@
+pub mod Under
+pub mod Insertion
+pub mod Overlap
+pub mod Block
+pub mod Gather
+pub mod Spots
+pub mod Branch
+pub mod Move
+pub mod Shifts
+pub mod BehindForks
+pub mod AtEntries
+pub mod Rules
+pub mod Theorems

@@ -1,0 +1,44 @@
+-- A weaker rule of open blocks allows what a stronger one does.
+use Rattle.std.proofs.Common.{◌≡◌, true, List, [], ◌∷◌, refl, sym, ap, ◌∙◌, subst, Some}
+use Rattle.dpj_runs.specs.Actions.{Action, Answer, Begin, Do, End, Enter, Exit, Fork, Join, Look, New, Own, Print, Program, Read, Rest, Rule, Task, Write}
+use Rattle.dpj_runs.specs.Blocks.{with_rule}
+use Rattle.dpj_runs.specs.Meaning.{Disciplined}
+use Rattle.dpj_runs.specs.Objects.{Path}
+use Rattle.dpj_runs.specs.Runs.{Begun, Right, Run, branch, reply, root}
+use Rattle.dpj_runs.specs.Schedules.{begins, over}
+use Rattle.dpj_runs.specs.Standing.{Admitted, Valid}
+use Rattle.dpj_moving.specs.Laws.{Weaker}
+
+begun_rule : (P : Program) (rule : Rule) {R : Run} {p : Path} {t : Task} → Begun P R p t → Begun (with_rule rule P) R p t
+begun_rule P rule (root a b) = root a b
+begun_rule P rule (branch q u F f ts B g a b c d e s h i j m) = branch q u F f ts B g a b c d e s h i j m
+
+reply_rule : (P : Program) (rule : Rule) (R : Run) (p : Path) (o : Own) → reply (with_rule rule P) R p o ≡ reply P R p o
+reply_rule P rule R p Rest = refl
+reply_rule P rule R p (Read n i) = refl
+reply_rule P rule R p (Write n i v) = refl
+reply_rule P rule R p (Look n) = refl
+reply_rule P rule R p (New t c) = refl
+reply_rule P rule R p (Print l) = refl
+reply_rule P rule R p (Enter E) = refl
+reply_rule P rule R p Exit = refl
+
+right_rule : (P : Program) (rule : Rule) (R : Run) (p : Path) (a : Action) (x : Answer) → Right P R p a x → Right (with_rule rule P) R p a x
+right_rule P rule R p (Do o) x h = reply_rule P rule R p o ∙ h
+right_rule P rule R p (Fork ts) x h = h
+right_rule P rule R p (Begin b) x h = h
+right_rule P rule R p Join x h = h
+right_rule P rule R p (End y) x h = h
+
+pub valid_rule : (P : Program) (weak : Rule) → Weaker weak P.rule → (R : Run) → Valid P R → Valid (with_rule weak P) R
+valid_rule P weak w [] l = tt
+valid_rule P weak w (e ∷ R) l = (admitted l.0, valid_rule P weak w R l.1)
+  where
+    admitted : Admitted P R e → Admitted (with_rule weak P) R e
+    admitted a = record {
+      follows = (let f = a.follows in record { task = f.task; begun = begun_rule P weak f.begun; asks = f.asks; right = right_rule P weak R e.path e.act e.ans f.right });
+      enters = λ E k. (let c = a.enters E k in record { clear = λ s q F h. w F E (c.clear s q F h) });
+    }
+
+pub disciplined_rule : (P : Program) (rule : Rule) → Disciplined P → Disciplined (with_rule rule P)
+disciplined_rule P rule D = record { over = D.over; begins = D.begins; joins = D.joins }

@@ -1,0 +1,70 @@
+-- The laws, from the lemmas.
+use Rattle.std.proofs.Common.{◌≡◌, ◌≤◌, ◌+◌, ℕ, suc, List, [], ◌∷◌, length, refl, sym, ap, ◌∙◌, subst, arith}
+use Rattle.dpj_runs.specs.Actions.{Ending, Program, cells, steps}
+use Rattle.dpj_runs.specs.Blocks.{leaving_locals, with_rule}
+use Rattle.dpj_runs.specs.Meaning.{Disciplined, Known}
+use Rattle.dpj_runs.specs.Objects.{Path, size}
+use Rattle.dpj_runs.specs.Order.{Came, Comes, Outcome, ending_of, printed, trapped}
+use Rattle.dpj_runs.specs.Runs.{Ended, Run, Upto, cells_of, entry_step, event_cells, event_steps, mine, now, steps_of, total}
+use Rattle.dpj_runs.specs.Schedules.{ended}
+use Rattle.dpj_runs.specs.Standing.{Valid}
+use Rattle.dpj_moving.specs.Gathered.{gather}
+use Rattle.dpj_moving.specs.Guarded.{LevelsGuarded}
+use Rattle.dpj_moving.specs.Laws.{Gathering, IsMoved, Moving, MovingBy, MovingInside, Rearranges, StillOpen}
+use Rattle.dpj_moving.specs.Moved.{move}
+use Rattle.dpj_runs.proofs.Written.{legal_faithful, valid_from, legal_from}
+use Rattle.dpj_runs.proofs.Standing.{Stands, stands}
+use Rattle.dpj_runs.proofs.Carry.{ended_in}
+use Rattle.dpj_runs.proofs.Theorems.{same_total}
+use Rattle.dpj_moving.proofs.Insertion.{Rebuilt}
+use Rattle.dpj_moving.proofs.Gather.{gathered}
+use Rattle.dpj_moving.proofs.AtEntries.{at_entries, together}
+use Rattle.dpj_moving.proofs.Move.{moved}
+use Rattle.dpj_moving.proofs.BehindForks.{behind_forks}
+use Rattle.dpj_moving.proofs.Rules.{valid_rule, disciplined_rule}
+
+same_ended : {R G : Run} → ((p : Path) → mine G p ≡ mine R p) → (p : Path) (x : Ending) → Ended R p x → Ended G p x
+same_ended {R} {G} m p x h = ended_in (subst (λ es. Upto (mine R p) es) (sym (m p)) now) h
+
+same_comes : (P : Program) (R G : Run) → ((p : Path) → mine G p ≡ mine R p) → (o : Outcome) → Comes P R o → Comes P G o
+same_comes P R G m o c =
+    let steps : steps_of R ≡ steps_of G = ap (λ es. entry_step es + total event_steps R) (sym (m [])) ∙ ap (λ k. entry_step (mine G []) + k) (same_total event_steps R G (λ p. sym (m p))) in
+    let cells : cells_of P R ≡ cells_of P G = ap (λ k. suc (size P.object) + k) (same_total event_cells R G (λ p. sym (m p))) in
+    record {
+      end = c.end;
+      ended = same_ended m [] c.end c.ended;
+      sorted = c.sorted;
+      in_order = c.in_order;
+      events = λ p. m p ∙ c.events p;
+      outcome = c.outcome ∙ (λ i. Came (ending_of (trapped c.sorted) c.end) (printed c.sorted) (steps i) (cells i));
+    }
+
+rearranges : (P : Program) → Disciplined P → (R G : Run) → Rebuilt P R G → Rearranges P R G
+rearranges P D R G g = record {
+  legal = legal_from P D G g.valid;
+  events = λ p. g.same p;
+  costs = λ w. same_total w G R (λ p. g.same p);
+  ended = λ p x h. same_ended (λ q. g.same q) p x h;
+  outcome = λ o c. same_comes P R G (λ p. g.same p) o c;
+}
+
+pub gathering : Gathering
+gathering P D known R l f =
+    let v = valid_from P R l in
+    let placed = at_entries P D known R v f in
+    record { rearranges = rearranges P D R (gather R) (gathered P D known R v f); at_entries = placed; together = together R (gather R) placed }
+
+pub still_open : StillOpen
+still_open P D R e l o E k = let s : Stands P D R e.path o E = stands P D o E (legal_faithful P (e ∷ R) l) k in (s.depth, s.held)
+
+is_moved : (P : Program) → Disciplined P → Known P → (R : Run) → Valid P R → LevelsGuarded P.rule R → IsMoved P R
+is_moved P D known R v f = record { rearranges = rearranges P D R (move R) (moved P D known R v f); behind_forks = behind_forks P D known R v f }
+
+pub moving : Moving
+moving P D known R l f = is_moved P D known R (valid_from P R l) f
+
+pub moving_by : MovingBy
+moving_by P weak w D known R l f = is_moved (with_rule weak P) (disciplined_rule P weak D) known R (valid_rule P weak w R (valid_from P R l)) f
+
+pub moving_inside : MovingInside
+moving_inside P w D known R l f = moving_by P (leaving_locals P.rule) w D known R l f

@@ -1,0 +1,5 @@
+use Rattle.dpj_moving.proofs.Theorems.{gathering, still_open}
+use Rattle.dpj_moving.proofs.laws.law_gathering.Goals as goal
+
+pub returns : goal.returns
+returns c = record { gathering = gathering; still_open = still_open }

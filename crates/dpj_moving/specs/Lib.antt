@@ -1,0 +1,5 @@
+pub mod Insertion
+pub mod Gathered
+pub mod Moved
+pub mod Guarded
+pub mod Laws

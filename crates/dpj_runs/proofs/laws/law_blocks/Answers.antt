@@ -1,0 +1,5 @@
+use Rattle.dpj_runs.proofs.Theorems.{blocks_by_standing}
+use Rattle.dpj_runs.proofs.laws.law_blocks.Goals as goal
+
+pub returns : goal.returns
+returns c = record { by_standing = blocks_by_standing }

@@ -1,0 +1,10 @@
+//! Laws of the judgement, each the clause of a function that does nothing.
+
+ghost use Rattle.dpj_typed.specs.Laws.{OneFieldTwice, OneElementOften, PartialWrite};
+
+/// Small races and a partial write aren't well typed; their mended forms are.
+pub fn law_samples()
+    ensures field { OneFieldTwice }
+    ensures element { OneElementOften }
+    ensures partial { PartialWrite }
+{}
