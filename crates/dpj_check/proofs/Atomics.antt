@@ -4,6 +4,7 @@ use Rattle.std.specs.Result.{IsErrAnd}
 use Rattle.dpj_base.specs.declared.effect.Effect.{Effect}
 use Rattle.dpj_base.specs.declared.refusal.Kind.TheVariants as kind
 use Rattle.dpj_base.specs.declared.refusal.Stop.{Stop}
+use Rattle.dpj_base.specs.Refused.{IfRefused}
 use Rattle.dpj_headers.specs.Faults.{settled}
 use Rattle.dpj_tree.specs.Plain.{PlainStmts}
 use Rattle.dpj_tree.specs.Plain.{StmtForm as form}
@@ -28,10 +29,10 @@ inside_block params b around within all out begun v is none d =
     subst (λ (z : Found). InBlock params (inside around) all (walk_of b z) v) none
     (subst (λ (z : Around). InBlock params z all (walk_of b begun) v) is d)
 
-pub atomic_refused : {S T : Type 0} (params : List Bool) (b : Body) (around within : Around) (node : Node) (all : PlainStmts) (out begun : Found)
-    (w x : Walk) (r : Result T Stop) (s : Stop) → IsErrAnd r (λ z. z ≡ s) → within ≡ inside around → begun ≡ nothing_found →
-    Says {T = S} (Err s) w (InBlock params within all (walk_of b begun)) → Says r x (Checking params around node (form.atomic all) (walk_of b out))
-atomic_refused params b around within node all out begun w x r s is within_is none h =
+pub atomic_refused : {T : Type 0} (params : List Bool) (b : Body) (around within : Around) (node : Node) (all : PlainStmts) (out begun : Found)
+    (x : Walk) (r : Result T Stop) (s : Stop) → IsErrAnd r (λ z. z ≡ s) → within ≡ inside around → begun ≡ nothing_found →
+    IfRefused s (λ q. InBlock params within all (walk_of b begun) (refused q)) → Says r x (Checking params around node (form.atomic all) (walk_of b out))
+atomic_refused params b around within node all out begun x r s is within_is none h =
     stopped (λ q. InBlock params within all (walk_of b begun) (refused q)) (Checking params around node (form.atomic all) (walk_of b out)) r x s is
     (λ q d. block_refused (inside_block params b around within all out begun (refused q) within_is none d)) h
 

@@ -7,6 +7,7 @@ use Rattle.dpj_base.specs.declared.refusal.Kind.TheVariants as kind
 use Rattle.dpj_base.specs.declared.refusal.Refusal.{Refusal}
 use Rattle.dpj_base.specs.declared.refusal.Stop.{Stop}
 use Rattle.dpj_base.specs.Pairs.{NoPair}
+use Rattle.dpj_base.specs.Refused.{IfRefused}
 use Rattle.dpj_headers.specs.Faults.{settled}
 use Rattle.dpj_locals.specs.declared.branch.Touched.{Touched}
 use Rattle.dpj_locals.specs.Clash.{Clash}
@@ -121,13 +122,13 @@ pub clash_is : (touched read : List Touched) (clash : Bool) → read ≡ touched
 clash_is touched read true is none some = subst (λ (z : List Touched). ¬ NoPair Clash z) is (some refl)
 clash_is touched read false is none some = subst (λ (z : List Touched). NoPair Clash z) is (none refl)
 
-pub fork_stopped : {S T : Type 0} (b o : Body) (around within : Around) (node : Node) (nd : Bool) (all : List Stmt) (i : ℕ) (effects : List (List Effect))
-    (touched : List Touched) (f out begun : Found) (branch : Stmt) (w x : Walk) (r : Result T Stop) (s : Stop) → IsErrAnd r (λ z. z ≡ s) →
+pub fork_stopped : {T : Type 0} (b o : Body) (around within : Around) (node : Node) (nd : Bool) (all : List Stmt) (i : ℕ) (effects : List (List Effect))
+    (touched : List Touched) (f out begun : Found) (branch : Stmt) (x : Walk) (r : Result T Stop) (s : Stop) → IsErrAnd r (λ z. z ≡ s) →
     ForkSoFar b.atomic_params (inside around) nd all (walk_of b f) i effects touched (walk_of o out) → i < length all → branch ≡ get_or all i branch →
     home_of o ≡ home_of b → within ≡ inside around → begun ≡ nothing_found →
-    Says {T = S} (Err s) w (InScope o.atomic_params within (plain_stmt branch) (walk_of o begun)) →
+    IfRefused s (λ q. InScope o.atomic_params within (plain_stmt branch) (walk_of o begun) (refused q)) →
     Says r x (Forking b.atomic_params around node nd (plain_stmts (map plain_stmt all)) (walk_of b f))
-fork_stopped b o around within node nd all i effects touched f out begun branch w x r s is before below branch_is home within_is none h =
+fork_stopped b o around within node nd all i effects touched f out begun branch x r s is before below branch_is home within_is none h =
     stopped (λ q. InScope o.atomic_params within (plain_stmt branch) (walk_of o begun) (refused q))
     (Forking b.atomic_params around node nd (plain_stmts (map plain_stmt all)) (walk_of b f)) r x s is
     (λ q k.

@@ -5,6 +5,7 @@ use Rattle.dpj_base.specs.declared.refusal.Kind.{Kind}
 use Rattle.dpj_base.specs.declared.refusal.Kind.TheVariants as kind
 use Rattle.dpj_base.specs.declared.refusal.Stop.{Stop}
 use Rattle.dpj_base.specs.Branches.{iterations_clash}
+use Rattle.dpj_base.specs.Refused.{IfRefused}
 use Rattle.dpj_headers.specs.Faults.{settled}
 use Rattle.dpj_tree.specs.declared.region.Named.{Named}
 use Rattle.dpj_tree.specs.Plain.{PlainStmt}
@@ -37,11 +38,11 @@ iteration_in b d around within var body f begun v none d_is within_is h =
     (subst (λ (z : Found). InScope b.atomic_params within body (walk_from (variable_declared b.env var) z b.blocks) v) none
     (subst (λ (z : Body). InScope z.atomic_params within body (walk_of z begun) v) d_is h))
 
-pub iteration_stopped : {S T : Type 0} (b d : Body) (around within : Around) (node : Node) (nd : Bool) (var : Named) (body : PlainStmt) (f begun : Found)
-    (w x : Walk) (r : Result T Stop) (s : Stop) → IsErrAnd r (λ z. z ≡ s) →
+pub iteration_stopped : {T : Type 0} (b d : Body) (around within : Around) (node : Node) (nd : Bool) (var : Named) (body : PlainStmt) (f begun : Found)
+    (x : Walk) (r : Result T Stop) (s : Stop) → IsErrAnd r (λ z. z ≡ s) →
     begun ≡ nothing_found → d ≡ with_env b (variable_declared b.env var) → within ≡ inside around →
-    Says {T = S} (Err s) w (InScope d.atomic_params within body (walk_of d begun)) → Says r x (Iterating b.atomic_params around node nd var body (walk_of b f))
-iteration_stopped b d around within node nd var body f begun w x r s is none d_is within_is h =
+    IfRefused s (λ q. InScope d.atomic_params within body (walk_of d begun) (refused q)) → Says r x (Iterating b.atomic_params around node nd var body (walk_of b f))
+iteration_stopped b d around within node nd var body f begun x r s is none d_is within_is h =
     stopped (λ q. InScope d.atomic_params within body (walk_of d begun) (refused q)) (Iterating b.atomic_params around node nd var body (walk_of b f)) r x s is
     (λ q k. iteration_refused (iteration_in b d around within var body f begun (refused q) none d_is within_is k)) h
 

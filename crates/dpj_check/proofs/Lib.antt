@@ -8,6 +8,11 @@ pub mod Leaves
 mod Meeting
 pub mod Methodic
 pub mod Noting
+mod Once
+mod OnceBodies
+mod OnceSimple
+mod OnceTouched
+mod OnceTypes
 pub mod Orders
 pub mod Parting
 pub mod Passing

@@ -35,12 +35,12 @@ range_stopped b around node view var array count body f x r s is h =
     stopped (λ q. Opening node view var array count (walk_of b f) (not_opened q))
     (Parting b.atomic_params around node view var array count body (walk_of b f)) r x s is (λ q d. range_refused d) h
 
-pub part_stopped : {S T : Type 0} (b o : Body) (around within : Around) (node first : Node) (view var : Named) (array count : PlainExpr)
-    (body : PlainStmt) (f g begun : Found) (outer : Option ℕ) (w x : Walk) (r : Result T Stop) (s : Stop) → IsErrAnd r (λ z. z ≡ s) →
+pub part_stopped : {T : Type 0} (b o : Body) (around within : Around) (node first : Node) (view var : Named) (array count : PlainExpr)
+    (body : PlainStmt) (f g begun : Found) (outer : Option ℕ) (x : Walk) (r : Result T Stop) (s : Stop) → IsErrAnd r (λ z. z ≡ s) →
     Opening node view var array count (walk_of b f) (opened outer first (walk_of o g)) → home_of o ≡ home_of b → within ≡ inside around →
-    begun ≡ nothing_found → Says {T = S} (Err s) w (InScope o.atomic_params within body (walk_of o begun)) →
+    begun ≡ nothing_found → IfRefused s (λ q. InScope o.atomic_params within body (walk_of o begun) (refused q)) →
     Says r x (Parting b.atomic_params around node view var array count body (walk_of b f))
-part_stopped b o around within node first view var array count body f g begun outer w x r s is opening home within_is none h =
+part_stopped b o around within node first view var array count body f g begun outer x r s is opening home within_is none h =
     stopped (λ q. InScope o.atomic_params within body (walk_of o begun) (refused q))
     (Parting b.atomic_params around node view var array count body (walk_of b f)) r x s is
     (λ q k. part_refused opening (piece_begun b o around within body g begun (refused q) home within_is none k)) h

@@ -15,6 +15,7 @@ mod bodies;
 mod body;
 mod constructs;
 mod gathered;
+mod laws;
 mod leaving;
 mod meet;
 mod node;
@@ -24,3 +25,4 @@ mod statements;
 
 pub use accepted::Accepted;
 pub use bodies::check;
+pub use laws::one_checking;

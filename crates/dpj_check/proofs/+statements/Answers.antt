@@ -1,4 +1,4 @@
-use Rattle.std.proofs.Common.{◌≡◌, ◌∙◌, ◌&&◌, ◌||◌, Bool, true, false, not, map, refl, sym, ap, subst}
+use Rattle.std.proofs.Common.{◌≡◌, ◌∙◌, ◌+◌, ◌&&◌, ◌||◌, Bool, true, false, not, map, refl, sym, ap, subst}
 use Rattle.std.proofs.lemmas.List.{drop_all}
 use Rattle.std.specs.Option.{option_copied}
 use Rattle.dpj_tree.specs.Nd.{holds_nd, some_holds_nd}
@@ -345,7 +345,7 @@ statements::repeated-returns-in-ForeachParts-clause-checks t c =
 pub constructs::atomic-returns-in_err-block-clause-checks : goal.constructs::atomic-returns-in_err-block-clause-checks
 constructs::atomic-returns-in_err-block-clause-checks t c =
     atomic_refused c.args.body.now.atomic_params c.args.body.now c.args.around c.inside.result c.args.node (plain_stmts (map plain_stmt c.args.stmts.now)) c.args.out.now c.new-inner.result
-    (walk_of c.block.new.body c.block.new.out) _ c.from_residual.result c.in_err-block.field-0.0 c.from_residual.ensures.1 c.inside.ensures
+    _ c.from_residual.result c.in_err-block.field-0.0 c.from_residual.ensures.1 c.inside.ensures
     c.new-inner.ensures c.in_err-block.ensures.checks
 
 pub constructs::atomic-returns-in_err-settle-clause-checks : goal.constructs::atomic-returns-in_err-settle-clause-checks
@@ -371,7 +371,7 @@ pub constructs::foreach-returns-in_err-scoped-clause-checks :
     goal.constructs::foreach-returns-in_err-scoped-clause-checks
 constructs::foreach-returns-in_err-scoped-clause-checks t c =
     iteration_stopped c.args.body.now c.declare_variable.new.self c.args.around c.inside.result c.args.node c.args.nd c.args.var (plain_stmt c.args.iteration.now)
-    c.args.out.now c.new-inner.result (walk_of c.scoped.new.body c.scoped.new.out) _ c.from_residual-in_err-scoped.result c.in_err-scoped.field-0.0
+    c.args.out.now c.new-inner.result _ c.from_residual-in_err-scoped.result c.in_err-scoped.field-0.0
     c.from_residual-in_err-scoped.ensures.1 c.new-inner.ensures c.in_ok-declare_variable.ensures.whole c.inside.ensures c.in_err-scoped.ensures.checks
 
 pub constructs::foreach-returns-in_err-settle-clause-checks :
@@ -482,7 +482,7 @@ pub parts::foreach_parts-returns-in_err-scoped-clause-checks :
     goal.parts::foreach_parts-returns-in_err-scoped-clause-checks
 parts::foreach_parts-returns-in_err-scoped-clause-checks t c =
     part_stopped c.args.body.now c.open.new.body c.args.around c.inside.result c.args.node c.open.new.node c.args.names.0 c.args.names.1 (plain_expr c.args.range.0.now) (plain_expr c.args.range.1.now)
-    (plain_stmt c.args.iteration.now) c.args.out.now c.open.new.out c.new-inner.result c.in_ok-outer.outer (walk_of c.scoped.new.body c.scoped.new.out) _
+    (plain_stmt c.args.iteration.now) c.args.out.now c.open.new.out c.new-inner.result c.in_ok-outer.outer _
     c.from_residual-in_err-scoped.result c.in_err-scoped.field-0.0 c.from_residual-in_err-scoped.ensures.1 c.in_ok-outer.ensures.opening
     c.in_ok-outer.ensures.home c.inside.ensures c.new-inner.ensures c.in_err-scoped.ensures.checks
 
@@ -572,7 +572,7 @@ pub constructs::cobegin-returns-in_err-scoped-clause-checks :
     goal.constructs::cobegin-returns-in_err-scoped-clause-checks
 constructs::cobegin-returns-in_err-scoped-clause-checks t c =
     fork_stopped c.args.body.now c.loop-branch.body c.args.around c.inside.result c.args.node c.args.nd c.args.branches.now c.loop-branch.branch-index c.loop-branch.effects c.loop-branch.locals
-    c.args.out.now c.loop-branch.out c.new-inner.result c.branch-item.result (walk_of c.scoped.new.body c.scoped.new.out) _ c.from_residual.result
+    c.args.out.now c.loop-branch.out c.new-inner.result c.branch-item.result _ c.from_residual.result
     c.in_err-scoped.field-0.0 c.from_residual.ensures.1 c.loop-branch.invariant.forks c.loop-branch-test.true c.branch-item.is c.loop-branch.invariant.home c.inside.ensures
     c.new-inner.ensures c.in_err-scoped.ensures.checks
 

@@ -1,0 +1,142 @@
+-- A statement that holds no other has one verdict at most.
+use Rattle.std.proofs.Common.{◌≡◌, ◌∙◌, ◌↔◌, ℕ, Bool, true, false, not, IsTrue, Option, Some, refl, sym, ap, subst}
+use Rattle.dpj_base.specs.declared.refusal.Kind.TheVariants as kind
+use Rattle.dpj_base.specs.declared.ty.Ty.{Ty}
+use Rattle.dpj_base.specs.Types.{PlainType, plain_type}
+use Rattle.dpj_classes.specs.Table.{numbered}
+use Rattle.dpj_tree.specs.declared.region.Named.{Named}
+use Rattle.dpj_tree.specs.declared.region.TypeTree.{TypeTree}
+use Rattle.dpj_tree.specs.Plain.{PlainExpr}
+use Rattle.dpj_exprs.specs.declared.env.Env.{Env}
+use Rattle.dpj_exprs.specs.declared.env.LocalRow.{LocalRow}
+use Rattle.dpj_exprs.specs.declared.found.Found.{Found}
+use Rattle.dpj_exprs.specs.Answer.{Answer}
+use Rattle.dpj_exprs.specs.Env.{table_of, supers_of}
+use Rattle.dpj_exprs.specs.Once.{OneTyping}
+use Rattle.dpj_exprs.specs.Targeting.{PlainTarget, TargetAnswer, Targeting, aims, with_write}
+use Rattle.dpj_exprs.specs.Typed.{may_be, is_value}
+use Rattle.dpj_exprs.specs.Typing.{Typing}
+use Rattle.dpj_exprs.proofs.Once.{same_type, same_found, by_two, by_three}
+use Rattle.dpj_check.specs.declared.node.Around.{Around}
+use Rattle.dpj_check.specs.declared.node.Node.{Node}
+use Rattle.dpj_check.specs.Deciding.{is_misplaced, local_fault, Returned}
+use Rattle.dpj_check.specs.Noting.{with_fault, with_found, with_fault_if, fault_of}
+use Rattle.dpj_check.specs.Simple.{FitIs, declaration_noted, local_declared, target_fault, may_print, Declaring, AssigningLocal, AssigningPlace, Performing, Returning, Printing}
+use Rattle.dpj_check.specs.Walks.{Walk, Verdict, judged, found_so, scope_so}
+use Rattle.dpj_check.proofs.OnceTypes.{one_type}
+
+pub one_truth : {A : Type 0} (a b : Bool) → IsTrue a ↔ A → IsTrue b ↔ A → a ≡ b
+one_truth true true x y = refl
+one_truth true false x y = sym (y.1 (x.0 refl))
+one_truth false true x y = x.1 (y.0 refl)
+one_truth false false x y = refl
+
+-- what is said of an expression, and of what is assigned to
+pub said : OneTyping → {env : Env} {e : PlainExpr} {f : Found} {a b : Answer} → Typing env e f a → Typing env e f b → a ≡ b
+said one {env} {e} {f} {a} {b} d d' = one.expressions env e f a b d d'
+
+-- the same behind the same
+pub said_so : OneTyping → {env : Env} {e : PlainExpr} {f g : Found} {a b : Answer} → f ≡ g → Typing env e f a → Typing env e g b → a ≡ b
+said_so one {env} {e} {f} {g} {a} {b} same d d' = one.expressions env e f a b d (subst (λ (z : Found). Typing env e z b) (sym same) d')
+
+aimed : OneTyping → {env : Env} {e : PlainExpr} {f : Found} {a b : TargetAnswer} → Targeting env e f a → Targeting env e f b → a ≡ b
+aimed one {env} {e} {f} {a} {b} d d' = one.targets env e f a b d d'
+
+same_aim : {t u : Option PlainTarget} {f g : Found} → aims t f ≡ aims u g → t ≡ u
+same_aim e = cc
+
+same_behind : {t u : Option PlainTarget} {f g : Found} → aims t f ≡ aims u g → f ≡ g
+same_behind e = cc
+
+-- a value of one type fits or not
+fit_once : (env : Env) {t u : Option PlainType} {p q : PlainType} {a b : Bool} → t ≡ u → p ≡ q → FitIs env t p a → FitIs env u q b → a ≡ b
+fit_once env {t} {u} {p} {q} {a} {b} same alike x y =
+    one_truth a b x (subst (λ (z : Option PlainType). FitIs env z p b) (sym same) (subst (λ (z : PlainType). FitIs env u z b) (sym alike) y))
+
+pub declaring_once : OneTyping → {node : Node} {is_final : Bool} {tree : TypeTree} {name : ℕ} {value : PlainExpr} {w : Walk} {u v : Verdict} → Declaring node is_final tree name value w u → Declaring node is_final tree name value w v → u ≡ v
+declaring_once one (Declaring.type_refused l) (Declaring.type_refused l') = cc
+declaring_once one (Declaring.type_refused l) (Declaring.value_refused l' d') = cc
+declaring_once one (Declaring.type_refused l) (Declaring.declared made' l' k' d' f' j') = cc
+declaring_once one (Declaring.value_refused l d) (Declaring.type_refused l') = cc
+declaring_once one (Declaring.value_refused l d) (Declaring.value_refused l' d') = let e = said one d d' in cc
+declaring_once one (Declaring.value_refused l d) (Declaring.declared made' l' k' d' f' j') = let e = said one d d' in cc
+declaring_once one (Declaring.declared made l k d f j) (Declaring.type_refused l') = cc
+declaring_once one (Declaring.declared made l k d f j) (Declaring.value_refused l' d') = let e = said one d d' in cc
+declaring_once one {node} {is_final} {tree} {name} {value} {w} (Declaring.declared made l k d f j) (Declaring.declared made' l' k' d' f' j') =
+    let e = said one d d' in
+    by_three (λ (t : Ty) b g. judged (fault_of (with_fault_if (declaration_noted w.env name node.place node) kind.Type (not b))) (scope_so (found_so w g) (local_declared w.env name t is_final)))
+    (one_type made made' (k ∙ sym k')) (fit_once w.env (same_type e) refl f f') (same_found e) j j'
+
+pub local_once : OneTyping → {node : Node} {target : Named} {value : PlainExpr} {w : Walk} {u v : Verdict} → AssigningLocal node target value w u → AssigningLocal node target value w v → u ≡ v
+local_once one (AssigningLocal.value_refused d) (AssigningLocal.value_refused d') = let e = said one d d' in cc
+local_once one (AssigningLocal.value_refused d) (AssigningLocal.no_local d' l' j') = let e = said one d d' in cc
+local_once one (AssigningLocal.value_refused d) (AssigningLocal.assigned d' l' f' j') = let e = said one d d' in cc
+local_once one (AssigningLocal.no_local d l j) (AssigningLocal.value_refused d') = let e = said one d d' in cc
+local_once one {node} {target} {value} {w} (AssigningLocal.no_local d l j) (AssigningLocal.no_local d' l' j') =
+    let e = said one d d' in
+    sym j ∙ ap (λ g. judged (fault_of (with_fault node kind.Unknown target.place)) (found_so w g)) (same_found e) ∙ j'
+local_once one (AssigningLocal.no_local d l j) (AssigningLocal.assigned d' l' f' j') = cc
+local_once one (AssigningLocal.assigned d l f j) (AssigningLocal.value_refused d') = let e = said one d d' in cc
+local_once one (AssigningLocal.assigned d l f j) (AssigningLocal.no_local d' l' j') = cc
+local_once one {node} {target} {value} {w} (AssigningLocal.assigned {row = row} d l f j) (AssigningLocal.assigned {row = row'} d' l' f' j') =
+    let e = said one d d' in
+    let rows : Some row ≡ Some row' = sym l ∙ l' in
+    let same : row ≡ row' = cc in
+    by_three (λ (r : LocalRow) b g. judged (fault_of (with_found node (local_fault b r.is_final))) (found_so w g))
+    same (fit_once w.env (same_type e) (ap (λ (r : LocalRow). plain_type r.ty) same) f f') (same_found e) j j'
+
+pub place_once : OneTyping → {node : Node} {target value : PlainExpr} {w : Walk} {u v : Verdict} → AssigningPlace node target value w u → AssigningPlace node target value w v → u ≡ v
+place_once one (AssigningPlace.target_refused d) (AssigningPlace.target_refused d') = let e = aimed one d d' in cc
+place_once one (AssigningPlace.target_refused d) (AssigningPlace.value_refused d' i') = let e = aimed one d d' in cc
+place_once one (AssigningPlace.target_refused d) (AssigningPlace.anything_assigned d' i' j') = let e = aimed one d d' in cc
+place_once one (AssigningPlace.target_refused d) (AssigningPlace.place_assigned d' i' f' j') = let e = aimed one d d' in cc
+place_once one (AssigningPlace.value_refused d i) (AssigningPlace.target_refused d') = let e = aimed one d d' in cc
+place_once one (AssigningPlace.value_refused d i) (AssigningPlace.value_refused d' i') = let e = said_so one (same_behind (aimed one d d')) i i' in cc
+place_once one (AssigningPlace.value_refused d i) (AssigningPlace.anything_assigned d' i' j') = let e = said_so one (same_behind (aimed one d d')) i i' in cc
+place_once one (AssigningPlace.value_refused d i) (AssigningPlace.place_assigned d' i' f' j') = let e = said_so one (same_behind (aimed one d d')) i i' in cc
+place_once one (AssigningPlace.anything_assigned d i j) (AssigningPlace.target_refused d') = let e = aimed one d d' in cc
+place_once one (AssigningPlace.anything_assigned d i j) (AssigningPlace.value_refused d' i') = let e = said_so one (same_behind (aimed one d d')) i i' in cc
+place_once one {node} {target} {value} {w} (AssigningPlace.anything_assigned d i j) (AssigningPlace.anything_assigned d' i' j') =
+    let e = said_so one (same_behind (aimed one d d')) i i' in
+    by_two (λ t h. judged (fault_of (with_fault_if node kind.Type (not (may_be is_value t)))) (found_so w h)) (same_type e) (same_found e) j j'
+place_once one (AssigningPlace.anything_assigned d i j) (AssigningPlace.place_assigned d' i' f' j') = let e = same_aim (aimed one d d') in cc
+place_once one (AssigningPlace.place_assigned d i f j) (AssigningPlace.target_refused d') = let e = aimed one d d' in cc
+place_once one (AssigningPlace.place_assigned d i f j) (AssigningPlace.value_refused d' i') = let e = said_so one (same_behind (aimed one d d')) i i' in cc
+place_once one (AssigningPlace.place_assigned d i f j) (AssigningPlace.anything_assigned d' i' j') = let e = same_aim (aimed one d d') in cc
+place_once one {node} {target} {value} {w} (AssigningPlace.place_assigned {aim = a} d i f j) (AssigningPlace.place_assigned {aim = a'} d' i' f' j') =
+    let s = aimed one d d' in
+    let e = said_so one (same_behind s) i i' in
+    let aims_same : Some a ≡ Some a' = same_aim s in
+    let same : a ≡ a' = cc in
+    by_three (λ (x : PlainTarget) b h. judged (fault_of (with_found node (target_fault b x.may_write))) (found_so w (with_write h x)))
+    same (fit_once w.env (same_type e) (ap (λ (x : PlainTarget). x.ty) same) f f') (same_found e) j j'
+
+pub performing_once : OneTyping → {node : Node} {value : PlainExpr} {w : Walk} {u v : Verdict} → Performing node value w u → Performing node value w v → u ≡ v
+performing_once one (Performing.refused_itself d) (Performing.refused_itself d') = let e = said one d d' in cc
+performing_once one (Performing.refused_itself d) (Performing.performed d' j') = let e = said one d d' in cc
+performing_once one (Performing.performed d j) (Performing.refused_itself d') = let e = said one d d' in cc
+performing_once one {node} {value} {w} (Performing.performed d j) (Performing.performed d' j') =
+    sym j ∙ ap (λ g. judged (fault_of node) (found_so w g)) (same_found (said one d d')) ∙ j'
+
+-- a value may be returned or not
+may_once : (env : Env) (around : Around) {t u : Option PlainType} {a b : Bool} → t ≡ u → IsTrue a ↔ Returned (supers_of env) around.has_result (numbered (table_of env) env.method) t →
+    IsTrue b ↔ Returned (supers_of env) around.has_result (numbered (table_of env) env.method) u → a ≡ b
+may_once env around {t} {u} {a} {b} same x y =
+    one_truth a b x (subst (λ (z : Option PlainType). IsTrue b ↔ Returned (supers_of env) around.has_result (numbered (table_of env) env.method) z) (sym same) y)
+
+pub returning_once : OneTyping → {around : Around} {node : Node} {value : PlainExpr} {w : Walk} {u v : Verdict} → Returning around node value w u → Returning around node value w v → u ≡ v
+returning_once one (Returning.value_refused d) (Returning.value_refused d') = let e = said one d d' in cc
+returning_once one (Returning.value_refused d) (Returning.returned d' f' j') = let e = said one d d' in cc
+returning_once one (Returning.returned d f j) (Returning.value_refused d') = let e = said one d d' in cc
+returning_once one {around} {node} {value} {w} (Returning.returned d f j) (Returning.returned d' f' j') =
+    let e = said one d d' in
+    by_two (λ b g. judged (fault_of (with_fault_if (with_fault_if node kind.Return (is_misplaced around true)) kind.Type (not b))) (found_so w g))
+    (may_once w.env around (same_type e) f f') (same_found e) j j'
+
+pub printing_once : OneTyping → {node : Node} {value : PlainExpr} {w : Walk} {u v : Verdict} → Printing node value w u → Printing node value w v → u ≡ v
+printing_once one (Printing.value_refused d) (Printing.value_refused d') = let e = said one d d' in cc
+printing_once one (Printing.value_refused d) (Printing.printed d' j') = let e = said one d d' in cc
+printing_once one (Printing.printed d j) (Printing.value_refused d') = let e = said one d d' in cc
+printing_once one {node} {value} {w} (Printing.printed d j) (Printing.printed d' j') =
+    let e = said one d d' in
+    by_two (λ t g. judged (fault_of (with_fault_if node kind.Type (not (may_print t)))) (found_so w g)) (same_type e) (same_found e) j j'
