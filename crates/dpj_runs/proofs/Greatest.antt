@@ -22,7 +22,8 @@ use Rattle.dpj_runs.proofs.Carry.{begun_at, begun_held}
 use Rattle.dpj_runs.proofs.Numbers.{number_below, number_of_begun, same_begin}
 use Rattle.dpj_runs.proofs.Sorted.{lex_trans}
 use Rattle.dpj_runs.proofs.Sorting.{AllBefore, before_nil, before_more, order_more, lex_snoc}
-use Rattle.dpj_runs.proofs.Ready.{ready_or, AtJoin, ForkSince, fork_since, count_since, held_live}
+use Rattle.dpj_runs.proofs.Ready.{ready_or, AtJoin, held_live}
+use Rattle.dpj_runs.proofs.ForkSince.{ForkSince, fork_since, count_since}
 
 -- from one number of a task to the next, into a branch, and out of it to what follows its begin
 next_number : (p : Path) (k : ℕ) → Lex (position p k) (position p (suc k))
@@ -281,14 +282,14 @@ module _ (P : Program) (D : Disciplined P) (V : Lively P) (T : InTurn P) (K : Kn
             f : (ts : Branches) × (b < length ts.tasks) × AfterFork P w k.task (answers (mine R w)) ts b
             f = forked w k.task (answers (mine R w)) b (e.turns, asks)
 
-            j : ForkSince P D V R fl.1 replies w f.0 b
-            j = fork_since P D V R fl.1 replies w k.task f.0 b k.begun f.2
+            j : ForkSince P R fl.1 w f.0 b
+            j = fork_since P R fl.1 w k.task f.0 b k.begun f.2
 
             i : ℕ
             i = count j.before w
 
             number : count R w ≡ suc (i + b)
-            number = count_since P D V R fl.1 replies w f.0 b j
+            number = count_since P R fl.1 w f.0 b j
 
             there : (s : Task) × (slice_get f.0.tasks b ≡ Some s)
             there = some_there f.0.tasks b f.1

@@ -26,3 +26,4 @@ pub mod Tests
 pub mod Samples
 pub mod Finishing
 pub mod Greatest
+pub mod ForkSince

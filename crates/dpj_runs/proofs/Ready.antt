@@ -3,7 +3,7 @@ use Rattle.std.proofs.Common.{◌≡◌, ℕ, zero, suc, ◌+◌, ◌-◌, ◌<�
 use Rattle.std.proofs.Common.{Some, slice_get, length-append}
 use Rattle.dpj_runs.specs.Actions.{Action, Answer, Asks, Begin, Branches, Do, End, Ending, Fork, Join, Next, Over, Own, Program, Reply, Task, Went}
 use Rattle.dpj_runs.specs.Blocks.{In_block, Out_of, hold, hold_after}
-use Rattle.dpj_runs.specs.Meaning.{AfterFork, Disciplined, Lively}
+use Rattle.dpj_runs.specs.Meaning.{Disciplined, Lively}
 use Rattle.dpj_runs.specs.Objects.{Effect, Path}
 use Rattle.dpj_runs.specs.Runs.{Begun, Ended, Event, Faithful, Right, Run, Upto, answers, branch, count, joined, later, mine, now, reply, root}
 use Rattle.dpj_runs.specs.Schedules.{ended}
@@ -12,6 +12,7 @@ use Rattle.dpj_runs.proofs.Upto.{upto_since, upto_trans, upto_length, upto_tail,
 use Rattle.dpj_runs.proofs.Mine.{path_cases, mine_at, found, same_of, number_of, numbered}
 use Rattle.dpj_runs.proofs.Faithful.{agree_self, next_same, same_task, begun_upto, some_same, follows_at, fork_above, begin_after, none_after_end}
 use Rattle.dpj_runs.proofs.Standing.{first_is, above_step, hold_since, opener_of}
+use Rattle.dpj_runs.proofs.ForkSince.{ForkSince, fork_since, asked}
 use Rattle.dpj_runs.proofs.Carry.{has_event, begun_held}
 
 is_end : (a : Action) → ((x : Ending) × (a ≡ End x)) ⊎ ((x : Ending) → a ≡ End x → ⊥)
@@ -71,35 +72,8 @@ ends_of R p n b (t ∷ ts) = go (has_ended R ((n, b) ∷ p)) (ends_of R p n (suc
         each zero y e = subst (λ z. Ended R ((n, b + 0) ∷ p) z) (some_same x y e) (subst (λ i. Ended R ((n, i) ∷ p) x) zero_is h)
         each (suc k) y e = subst (λ i. Ended R ((n, i) ∷ p) y) (suc_is k) (f k y e)
 
--- a list of answers is split as its events are
-record Parted (L : Run) (xs : List Answer) (a : Answer) (ys : List Answer) : Type 0 where
-  since : Run
-  event : Event
-  before : Run
-  is : L ≡ since ++ event ∷ before
-  many : length since ≡ length xs
-  rest : answers before ≡ ys
-
-parted : (L : Run) (xs : List Answer) (a : Answer) (ys : List Answer) → answers L ≡ xs ++ a ∷ ys → Parted L xs a ys
-parted [] [] a ys e = absurd (cc)
-parted [] (x ∷ xs) a ys e = absurd (cc)
-parted (e ∷ L) [] a ys h = let k : answers L ≡ ys = cc in record { since = []; event = e; before = L; is = refl; many = refl; rest = k }
-parted (e ∷ L) (x ∷ xs) a ys h =
-    let k : answers L ≡ xs ++ a ∷ ys = cc in
-    let r = parted L xs a ys k in
-    record { since = e ∷ r.since; event = r.event; before = r.before; is = ap (λ l. e ∷ l) r.is; many = ap (λ n. suc n) r.many; rest = r.rest }
-
 module _ (P : Program) (D : Disciplined P) (V : Lively P) (R : Run) (l : Faithful P R)
     (known : (p : Path) (t : Task) → Begun P R p t → (o : Own) → Asks P p t (answers (mine R p)) (Do o) → (a : Answer) × (reply P R p o ≡ Some a)) where
-  -- what a task that has begun was to do when it made an event
-  asked : (p : Path) (t : Task) → Begun P R p t → {w : Event} {W : Run} → Upto (w ∷ W) R → w.path ≡ p → Asks P p t (answers (mine W p)) w.act
-  asked p t b {w} {W} h e =
-      let a = follows_at P h l in
-      let same : a.task ≡ t = same_task (agree_self R) (begun_upto (upto_tail h) (subst (λ q. Begun P W q a.task) e a.begun)) b in
-      let k : P.meaning p a.task (answers (mine W p)) ≡ Next w.turns w.act =
-      subst (λ q. P.meaning q a.task (answers (mine W q)) ≡ Next w.turns w.act) e a.asks in
-      (w.turns, subst (λ s. P.meaning p s (answers (mine W p)) ≡ Next w.turns w.act) same k)
-
   -- a task that has not ended has a next action
   next_action : (p : Path) (t : Task) → Begun P R p t → ((x : Ending) → Ended R p x → ⊥) → (a : Action) × Asks P p t (answers (mine R p)) a
   next_action p t b live = go (P.meaning p t (answers (mine R p))) refl
@@ -108,7 +82,7 @@ module _ (P : Program) (D : Disciplined P) (V : Lively P) (R : Run) (l : Faithfu
       none [] e k = V.starts p t k
       none (w ∷ L) e k =
           let f = found R p (subst (λ m. Upto (w ∷ L) m) (sym e) now) in
-          let k1 = subst (λ m. Asks P p t (answers m) w.act) f.mine_is (asked p t b f.stands f.path) in
+          let k1 = subst (λ m. Asks P p t (answers m) w.act) f.mine_is (asked P R l p t b f.stands f.path) in
           let x = V.goes_on p t (answers L) w.ans w.act k1 k in
           live x.0 (record { before = f.before; event = w; stands = f.stands; path = f.path; act = x.1 })
 
@@ -132,39 +106,6 @@ module _ (P : Program) (D : Disciplined P) (V : Lively P) (R : Run) (l : Faithfu
       (record { path = p; turns = k.0; act = c; ans = a }, refl,
           record { follows = record { task = t; begun = b; asks = k.1; right = r }; enters = λ E i. may E })
 
-  -- the fork after which a task has made so many events
-  pub record ForkSince (p : Path) (ts : Branches) (n : ℕ) : Type 0 where
-    pub since : Run
-    pub fork : Event
-    pub before : Run
-    pub stands : Upto (fork ∷ before) R
-    pub path : fork.path ≡ p
-    pub last : mine R p ≡ since ++ fork ∷ mine before p
-    pub act : fork.act ≡ Fork ts
-    pub many : length since ≡ n
-
-  pub fork_since : (p : Path) (t : Task) (ts : Branches) (n : ℕ) → Begun P R p t → AfterFork P p t (answers (mine R p)) ts n → ForkSince p ts n
-  fork_since p t ts n b j =
-      let d = parted (mine R p) j.since j.answer j.earlier j.is in
-      let f = found R p (subst (λ m. Upto (d.event ∷ d.before) m) (sym d.is) (upto_since d.since d.event d.before)) in
-      let k1 = subst (λ got. Asks P p t got d.event.act) (ap (λ m. answers m) f.mine_is ∙ d.rest) (asked p t b f.stands f.path) in
-      let k2 = j.forks in
-      let same = next_same k1.0 k2.0 d.event.act (Fork ts) (sym k1.1 ∙ k2.1) in
-      record {
-        since = d.since;
-        fork = d.event;
-        before = f.before;
-        stands = f.stands;
-        path = f.path;
-        last = d.is ∙ ap (λ m. d.since ++ d.event ∷ m) (sym f.mine_is);
-        act = same.1;
-        many = d.many ∙ j.number;
-      }
-
-  -- the number of a task's events after a fork
-  pub count_since : (p : Path) (ts : Branches) (n : ℕ) (j : ForkSince p ts n) → count R p ≡ suc (count j.before p + n)
-  count_since p ts n j = let a = ap length j.last in let b = length-append j.since (j.fork ∷ mine j.before p) in let c = j.many in omega arith
-
   -- the fork in front of whose join a task stands
   pub record AtJoin (p : Path) (t : Task) : Type 0 where
     pub since : Run
@@ -180,7 +121,7 @@ module _ (P : Program) (D : Disciplined P) (V : Lively P) (R : Run) (l : Faithfu
   at_join : (p : Path) (t : Task) → Begun P R p t → Asks P p t (answers (mine R p)) Join → AtJoin p t
   at_join p t b k =
       let j = V.joins_forked p t (answers (mine R p)) k in
-      let f = fork_since p t j.0 (length j.0.tasks) b j.1 in
+      let f = fork_since P R l p t j.0 (length j.0.tasks) b j.1 in
       record { since = f.since; fork = f.fork; before = f.before; stands = f.stands; path = f.path; last = f.last; tasks = j.0; act = f.act; many = f.many }
 
   -- the number of a task's events at its join
