@@ -1,9 +1,8 @@
 -- What a task does that runs code: one clause an instruction. What an unfitting value or answer counts as is said by the
 -- functions of the meaning.
 use Rattle.std.specs.Int.{w32, int_wrapping_add}
-use Rattle.std.specs.Prelude.{◌≡◌, ℕ, zero, suc, ◌+◌, ◌-◌, ◌==◌, ℤ, pos, Bool, true, false, cond, if◌then◌else◌, List, [], ◌∷◌, ◌++◌, map, length, reverse, Option, Some, None, slice_get, slice_index_or, slice_set}
+use Rattle.std.specs.Prelude.{◌≡◌, ℕ, zero, suc, ◌-◌, ◌==◌, ℤ, pos, Bool, true, false, cond, if◌then◌else◌, List, [], ◌∷◌, ◌++◌, map, length, reverse, Option, Some, None, slice_get, slice_index_or, slice_set}
 use Rattle.dpj_base.specs.declared.place.Place.{Place}
-use Rattle.dpj_base.specs.declared.region.Rpl.{Rpl}
 use Rattle.dpj_base.specs.declared.value.Trap.{Trap}
 use Rattle.dpj_base.specs.declared.value.Trap.TheVariants as trap
 use Rattle.dpj_base.specs.declared.value.Value.{Value as Constant}
@@ -12,15 +11,15 @@ use Rattle.dpj_typed.specs.declared.expr.BinaryOp.{BinaryOp}
 use Rattle.dpj_typed.specs.declared.expr.BinaryOp.TheVariants as op
 use Rattle.dpj_typed.specs.declared.expr.UnaryOp.TheVariants.{Negate, Not}
 use Rattle.dpj_meaning.specs.Values.{Value, Int, Boolean, Null, Object, Region, An_object, An_array, Naming}
-use Rattle.dpj_meaning.specs.Actions.{Frame, Ending, Returned, Assigned, Trapped, Own, Rest, Read, Write, Look, New, Print, Enter, Exit, Action, Do, Fork, Begin, Join, End, Answer, Reply, Next, Over, Unknown}
-use Rattle.dpj_meaning.specs.Counts.{number, truth, reference, value_read, is_out, length_seen, name_made, class_seen, class_entered, operated, unary, slot_value, padded, part_place, part_taken, how_many, numbered, assigned, Brought, Back, Trap_of_branch, brought, copied, text_of, line}
+use Rattle.dpj_meaning.specs.Actions.{Frame, Ending, Returned, Assigned, Trapped, Rest, Read, Write, Look, New, Print, Enter, Exit, Action, Do, Fork, Begin, Join, End, Answer, Reply, Next, Over, Unknown}
+use Rattle.dpj_meaning.specs.Counts.{number, truth, reference, value_read, is_out, length_seen, name_made, class_seen, class_entered, operated, unary, slot_value, padded, part_place, part_taken, how_many, assigned, Brought, Back, Trap_of_branch, brought, copied, text_of, line}
 use Rattle.dpj_meaning.specs.Regions.{around, concrete, concrete_effect, is_long, some_long, unmade_from, regions_above}
 use Rattle.dpj_meaning.specs.Expressions.{none}
 use Rattle.dpj_meaning.specs.Statements.{with_value, with_values, numbered_frame}
 use Rattle.dpj_meaning.specs.Asking.{most_turns}
 use Rattle.dpj_code.specs.declared.instr.Instr.{Instr}
 use Rattle.dpj_code.specs.declared.instr.Instr.TheVariants as i
-use Rattle.dpj_code.specs.Plain.{Line, Title, of_member, of_branch, PlainBody, Method, Site, fork_site, spread_site, block_site, call_site, new_site, array_site, PlainCode, body_at, class_at, parent_of, method_at, constructor_of, fields_of}
+use Rattle.dpj_code.specs.Plain.{Line, Title, of_member, of_branch, Method, Site, fork_site, spread_site, block_site, call_site, new_site, array_site, PlainCode, body_at, class_at, parent_of, method_at, constructor_of, fields_of}
 
 -- a body at work: where it stands, its frame and its stack
 pub record Level (N M : Type 0) : Type 0 where
