@@ -1,0 +1,4 @@
+pub mod Pieces
+pub mod Scheme
+pub mod Stands
+pub mod Resolved
