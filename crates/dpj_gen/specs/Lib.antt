@@ -2,3 +2,4 @@ pub mod Pieces
 pub mod Scheme
 pub mod Stands
 pub mod Resolved
+pub mod Compiled

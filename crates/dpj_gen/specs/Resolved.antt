@@ -1,5 +1,5 @@
 -- What the code asks of a program: rows and members are there, and what is called as a value gives one.
-use Rattle.std.specs.Prelude.{◌≡◌, ◌⊎◌, IsTrue, ℕ, Bool, true, false, not, List, Option, Some, None}
+use Rattle.std.specs.Prelude.{◌≡◌, ◌⊎◌, IsTrue, ℕ, Bool, true, false, not, Some}
 use Rattle.dpj_base.specs.Types.{PlainType}
 use Rattle.dpj_base.specs.Types.{PlainType as ty}
 use Rattle.dpj_typed.specs.Plain.{PlainProgram, PlainParent, PlainMember, TypedExpr, typed, type_of, TypedExprs, no_exprs, more_exprs, of_array, of_part, TypedStmt, statement, TypedStmts, no_stmts, more_stmts, TypedBranches, no_branches, more_branches}
