@@ -1,2 +1,3 @@
 pub mod Does
 pub mod Sim
+pub mod Tables

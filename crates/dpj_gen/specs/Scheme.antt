@@ -1,5 +1,5 @@
 -- The scheme of code: one equation a construct. `k` says which numbers are next, and `p` where the code begins.
-use Rattle.std.specs.Prelude.{ℕ, suc, ◌+◌, Bool, true, false, cond, pos, List, [], ◌∷◌, Option, Some, None}
+use Rattle.std.specs.Prelude.{ℕ, zero, suc, ◌+◌, Bool, true, false, cond, pos, List, [], ◌∷◌, ◌++◌, length, map, Option, Some, None, option_map}
 use Rattle.dpj_base.specs.declared.place.Place.{Place}
 use Rattle.dpj_base.specs.declared.region.Head.TheVariants.{Root}
 use Rattle.dpj_base.specs.declared.value.Value.{Value}
@@ -12,13 +12,14 @@ use Rattle.dpj_typed.specs.declared.expr.UnaryOp.{UnaryOp}
 use Rattle.dpj_typed.specs.declared.expr.UnaryOp.TheVariants.{Negate, Not}
 use Rattle.dpj_typed.specs.declared.stmt.Forking.{Forking}
 use Rattle.dpj_typed.specs.declared.stmt.Forking.TheVariants.{Deterministic}
-use Rattle.dpj_typed.specs.Plain.{TypedExpr, typed, type_of, TypedExprs, no_exprs, more_exprs, of_array, of_part, TypedStmt, statement, TypedStmts, no_stmts, more_stmts, TypedBranches, no_branches, more_branches}
+use Rattle.dpj_typed.specs.Plain.{TypedExpr, typed, type_of, TypedExprs, no_exprs, more_exprs, of_array, of_part, TypedStmt, statement, TypedStmts, no_stmts, more_stmts, TypedBranches, no_branches, more_branches, PlainClass, PlainMember, PlainProgram}
 use Rattle.dpj_typed.specs.Plain.{ExprForm as expr}
 use Rattle.dpj_typed.specs.Plain.{StmtForm as form}
+use Rattle.dpj_typed.specs.Scope.{member_at}
 use Rattle.dpj_meaning.specs.Expressions.{class_in}
 use Rattle.dpj_code.specs.declared.instr.Instr.{Instr}
 use Rattle.dpj_code.specs.declared.instr.Instr.TheVariants as i
-use Rattle.dpj_code.specs.Plain.{of_branch, Site, fork_site, spread_site, block_site, call_site, new_site, array_site}
+use Rattle.dpj_code.specs.Plain.{Title, of_member, of_branch, PlainBody, Method, ClassCode, Site, fork_site, spread_site, block_site, call_site, new_site, array_site, PlainCode}
 use Rattle.dpj_gen.specs.Pieces.{Branch, Piece, Next, nothing, line, with_site, with_text, with_branches, then_next}
 
 abbrev pub is_void : PlainType → Bool
@@ -235,3 +236,19 @@ abbrev mutual
   pub stmts_piece : Next → ℕ → TypedStmts → Piece
   stmts_piece k p no_stmts = nothing
   stmts_piece k p (more_stmts s ss) = then_next k (stmt_piece k p s) (λ k. stmts_piece k (after_stmt p s) ss)
+
+-- classes, where the body of each member has a number
+abbrev pub owner_of : Option PlainMember → ℕ
+owner_of None = 0
+owner_of (Some m) = m.class
+
+abbrev pub method_code : PlainProgram → (ℕ → ℕ) → ℕ → Method
+method_code P number n = record { owner = owner_of (member_at P n); body = number n }
+
+abbrev pub class_code : PlainProgram → (ℕ → ℕ) → PlainClass → ClassCode
+class_code P number k = record {
+  parent = k.parent;
+  fields = map (λ f. first_constant f.ty) k.fields;
+  constructor = option_map number k.constructor;
+  methods = map (method_code P number) k.rows;
+}

@@ -1,10 +1,11 @@
 -- What stands where in a code: one clause a construct, in the order of the lines.
-use Rattle.std.specs.Prelude.{◌≡◌, ◌⊎◌, ℕ, suc, ◌+◌, Bool, true, false, pos, List, [], ◌∷◌, Option, Some, None, slice_get, slice_index_or}
+use Rattle.std.specs.Prelude.{◌≡◌, ◌⊎◌, ℕ, suc, ◌+◌, Bool, true, false, pos, List, [], ◌∷◌, map, Option, Some, None, slice_get, slice_index_or}
 use Rattle.dpj_base.specs.declared.place.Place.{Place}
 use Rattle.dpj_typed.specs.declared.stmt.Forking.TheVariants.{Deterministic}
-use Rattle.dpj_typed.specs.Plain.{TypedExpr, typed, type_of, TypedExprs, no_exprs, more_exprs, of_array, of_part, TypedStmt, statement, TypedStmts, no_stmts, more_stmts, TypedBranches, no_branches, more_branches}
+use Rattle.dpj_typed.specs.Plain.{TypedExpr, typed, type_of, TypedExprs, no_exprs, more_exprs, of_array, of_part, TypedStmt, statement, TypedStmts, no_stmts, more_stmts, TypedBranches, no_branches, more_branches, PlainMember, PlainProgram}
 use Rattle.dpj_typed.specs.Plain.{ExprForm as expr}
 use Rattle.dpj_typed.specs.Plain.{StmtForm as form}
+use Rattle.dpj_typed.specs.Scope.{member_at}
 use Rattle.dpj_typed.specs.Statements.{all_complete}
 use Rattle.dpj_meaning.specs.Actions.{Work}
 use Rattle.dpj_meaning.specs.Expressions.{class_in}
@@ -12,7 +13,7 @@ use Rattle.dpj_code.specs.declared.instr.Instr.{Instr}
 use Rattle.dpj_code.specs.declared.instr.Instr.TheVariants as i
 use Rattle.dpj_code.specs.Plain.{Line, PlainBody, Site, fork_site, spread_site, block_site, call_site, new_site, PlainCode, body_at}
 use Rattle.dpj_code.specs.Machine.{copies_of}
-use Rattle.dpj_gen.specs.Scheme.{is_void, many, after_expr, after_exprs, after_stmt, after_stmts, instr_of, unary_instr, site_of_array, copy_lists}
+use Rattle.dpj_gen.specs.Scheme.{is_void, many, after_expr, after_exprs, after_stmt, after_stmts, instr_of, unary_instr, site_of_array, copy_lists, class_code}
 
 -- at p stands this instruction
 abbrev pub LineAt : List Line → ℕ → Instr → Place → Type 0
@@ -158,6 +159,17 @@ module _ (C : PlainCode) where
     BranchesAt (more_branches copies s bs) js =
         (j : ℕ) × (rest : List ℕ) × (js ≡ j ∷ rest) × (StmtAt (body_at C j).lines 0 s × BranchEnds (body_at C j) (after_stmt 0 s) copies) × BranchesAt bs rest
 
+  -- the body of a member: one that gives no value has an end
+  abbrev pub MemberEnds : List Line → ℕ → Bool → Type 0
+  MemberEnds c p true = (at : Place) × LineAt c p i.Leave at
+  MemberEnds c p false = Unit {0}
+
+  pub record MemberIs (b : PlainBody) (m : PlainMember) : Type 0 where
+    pub slots : b.slots ≡ m.slots
+    pub local_regions : b.local_regions ≡ m.local_regions
+    pub stmts : StmtsAt b.lines 0 m.body
+    pub ends : MemberEnds b.lines (after_stmts 0 m.body) (is_void m.result)
+
   -- how the body of a task ends where it comes to its end
   abbrev pub EndsAt : PlainBody → ℕ → Work → Bool → Type 0
   EndsAt b p w true = ((at : Place) × LineAt b.lines p i.Leave at) ⊎ (all_complete w.stmts ≡ false)
@@ -168,3 +180,8 @@ module _ (C : PlainCode) where
     pub begins : BeginsAt b.lines w.takes
     pub stmts : StmtsAt b.lines (first_place w.takes) w.stmts
     pub ends : EndsAt b (after_stmts (first_place w.takes) w.stmts) w w.is_root
+
+-- the code is laid out by the scheme, where the body of each member has this number
+pub record LaidOut (C : PlainCode) (P : PlainProgram) (number : ℕ → ℕ) : Type 0 where
+  pub classes : C.classes ≡ map (class_code P number) P.classes
+  pub members : (n : ℕ) (m : PlainMember) → member_at P n ≡ Some m → MemberIs C (body_at C (number n)) m
