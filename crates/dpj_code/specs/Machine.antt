@@ -211,9 +211,9 @@ spread at (Some (spread_site forking j x)) g fs =
 spread at site g fs = Stuck
 
 -- after a join
-abbrev pub joined : {N M : Type 0} → List ℕ → Brought N → Level N M → List (Value N) → List (Level N M) → State N M
-joined copies (Back ls) g st fs = On (record g { at = suc g.at; frame = with_values g.frame (copied copies ls g.frame.values); stack = st }) fs
-joined copies (Trap_of_branch t place) g st fs = trapped t place
+abbrev pub joined : {N M : Type 0} → List ℕ → Brought N → Level N M → List (Level N M) → State N M
+joined copies (Back ls) g fs = On (record g { at = suc g.at; frame = with_values g.frame (copied copies ls g.frame.values) }) fs
+joined copies (Trap_of_branch t place) g fs = trapped t place
 
 abbrev pub all_copied : List (List ℕ) → List ℕ
 all_copied [] = []
@@ -221,11 +221,11 @@ all_copied (c ∷ cs) = c ++ all_copied cs
 
 -- a branch begins, or all are joined, after a fork; and after a spread, whose next number rises
 abbrev pub joins_fork : {N M : Type 0} → ℕ → List ℕ → ℕ → Level N M → List (Value N) → List (Level N M) → Stand N M
-joins_fork total copies zero g st fs = Waits Join (λ a. joined copies (brought a) g st fs)
+joins_fork total copies zero g st fs = Waits Join (λ a. joined copies (brought a) (record g { stack = st }) fs)
 joins_fork total copies (suc left) g st fs = Waits (Begin (total - suc left)) (λ a. On (record g { stack = Int (pos left) ∷ st }) fs)
 
 abbrev pub joins_spread : {N M : Type 0} → Value N → ℕ → ℕ → Level N M → List (Value N) → List (Level N M) → Stand N M
-joins_spread next total zero g st fs = Waits Join (λ a. joined [] (brought a) g st fs)
+joins_spread next total zero g st fs = Waits Join (λ a. joined [] (brought a) (record g { stack = st }) fs)
 joins_spread next total (suc left) g st fs =
     Waits (Begin (total - suc left)) (λ a. On (record g { stack = waiting left (int_wrapping_add w32 (number next) (pos 1)) total st }) fs)
 

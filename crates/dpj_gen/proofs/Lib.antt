@@ -2,3 +2,4 @@ pub mod Does
 pub mod Sim
 pub mod Tables
 pub mod Right
+pub mod Statements

@@ -209,7 +209,7 @@ module _ {N M : Type 0} (names : Naming N M) (C : PlainCode) (P : PlainProgram) 
     Right_exprs dp p st es vs = (B : Value N → Frame N M → State N M) (j : List (Value N) → Frame N M → Prog N M) → ((ws : List (Value N)) → length ws ≡ many es + length vs → (g : Frame N M) → g.left ≡ d → Sim names C P d (spot b fs (after_exprs p es) (ws ++ st) g) B (λ v. gone y v fs) (j ws g)) → (f : Frame N M) → f.left ≡ d → Sim names C P d (spot b fs p (vs ++ st) f) B (λ v. gone y v fs) (of_exprs names P dp es f vs j)
 
     -- a call whose receiver and actuals are right
-    right_call : (dp : Option (Deeper N M)) → Right_deeper d dp → (z : Bool) (at : Place) (t : PlainType) (e : TypedExpr) (c r : ℕ) (regions : List Rpl) (es : TypedExprs) → RowGives P c r z → (p : ℕ) (st : List (Value N)) → SitedAt C (body_at C b).lines (after_exprs (after_expr p e) es) i.Call at (call_site c r (many es) regions) → Right_expr dp p st e → ((v : Value N) → Right_exprs dp (after_expr p e) (v ∷ st) es []) → (f : Frame N M) → f.left ≡ d → Sim names C P d (spot b fs p st f) (λ v g. spot b fs (suc (after_exprs (after_expr p e) es)) (kept z v st) g) (λ v. gone y v fs) (of_expr names P dp (typed at t (expr.call e c r regions es)) f)
+    pub right_call : (dp : Option (Deeper N M)) → Right_deeper d dp → (z : Bool) (at : Place) (t : PlainType) (e : TypedExpr) (c r : ℕ) (regions : List Rpl) (es : TypedExprs) → RowGives P c r z → (p : ℕ) (st : List (Value N)) → SitedAt C (body_at C b).lines (after_exprs (after_expr p e) es) i.Call at (call_site c r (many es) regions) → Right_expr dp p st e → ((v : Value N) → Right_exprs dp (after_expr p e) (v ∷ st) es []) → (f : Frame N M) → f.left ≡ d → Sim names C P d (spot b fs p st f) (λ v g. spot b fs (suc (after_exprs (after_expr p e) es)) (kept z v st) g) (λ v. gone y v fs) (of_expr names P dp (typed at t (expr.call e c r regions es)) f)
     right_call dp dh z at t e c r regions es row p st h re res f l =
         sim_then (re f l) (λ v g m. res v _ _ (λ ws n g l.
           sim_or trap.Null at (reference v) (stands ws v n g) (λ x q. right_called d dp dh z at c r row (map (concrete names (around g)) regions) x (reverse ws) b (after_exprs (after_expr p e) es) fs (ws ++ (v ∷ st)) st g l q)) g m)

@@ -19,6 +19,11 @@ use Rattle.dpj_gen.specs.Scheme.{is_void, many, after_expr, after_exprs, after_s
 abbrev pub LineAt : List Line → ℕ → Instr → Place → Type 0
 LineAt c p x at = slice_get c p ≡ Some (record { instr = x; place = at })
 
+-- the body of a branch takes its part first, where it has one
+abbrev pub first_place : Option ℕ → ℕ
+first_place None = 0
+first_place (Some x) = 1
+
 module _ (C : PlainCode) where
   -- at p stands an instruction with this site
   pub record SitedAt (c : List Line) (p : ℕ) (x : ℕ → Instr) (at : Place) (site : Site) : Type 0 where
@@ -64,11 +69,6 @@ module _ (C : PlainCode) where
   abbrev pub RegionsAt : List Line → ℕ → Place → List ℕ → Type 0
   RegionsAt c p at [] = Unit {0}
   RegionsAt c p at (r ∷ rs) = LineAt c p (i.Region r) at × RegionsAt c (suc p) at rs
-
-  -- the body of a branch takes its part first, where it has one
-  abbrev pub first_place : Option ℕ → ℕ
-  first_place None = 0
-  first_place (Some x) = 1
 
   pub record TakesAt (c : List Line) (x : ℕ) : Type 0 where
     pub place : Place
