@@ -173,14 +173,14 @@ makes_array names at (Some (array_site region first)) g fs =
     one g.stack (λ v st. array_of at (concrete names (around g.frame) region) first (number v) g st fs)
 makes_array names at site g fs = Stuck
 
--- back in the caller, with a value or without one
+-- back in the caller, with a value or without one; the first frame ends with a value either way
 abbrev pub returned : {N M : Type 0} → Value N → List (Level N M) → State N M
 returned v [] = Off (Returned v)
 returned v (g ∷ fs) = On (record g { stack = v ∷ g.stack }) fs
 
-abbrev pub left_with : {N M : Type 0} → List (Level N M) → State N M
-left_with [] = Off (Returned none)
-left_with (g ∷ fs) = On g fs
+abbrev pub left_with : {N M : Type 0} → Value N → List (Level N M) → State N M
+left_with v [] = Off (Returned v)
+left_with v (g ∷ fs) = On g fs
 
 -- branches begin one call deeper
 abbrev pub below : {N M : Type 0} → Frame N M → Frame N M
@@ -306,7 +306,7 @@ exec names C at (i.Call s) g fs = called names C at (slice_get C.sites s) g fs
 exec names C at (i.New s) g fs = created names C at (slice_get C.sites s) g fs
 exec names C at (i.Array s) g fs = makes_array names at (slice_get C.sites s) g fs
 exec names C at i.Return g fs = one g.stack (λ v st. Goes (returned v fs))
-exec names C at i.Leave g fs = Goes (left_with fs)
+exec names C at i.Leave g fs = Goes (left_with none fs)
 exec names C at i.Print g fs = one g.stack (λ v st. Waits (Do (Print (line (text_of v)))) (λ a. next g st fs))
 exec names C at (i.Text t) g fs = Waits (Do (Print (line (slice_index_or C.texts t [])))) (λ a. next g g.stack fs)
 exec names C at (i.Fork s) g fs = forked at (slice_get C.sites s) g fs

@@ -3,3 +3,4 @@ pub mod Sim
 pub mod Tables
 pub mod Right
 pub mod Statements
+pub mod Theorems

@@ -44,7 +44,7 @@ kept false v st = st
 -- where a body that gives a value or none has returned to
 abbrev pub gone : {N M : Type 0} → Bool → Value N → List (Level N M) → State N M
 gone true v fs = returned v fs
-gone false v fs = left_with fs
+gone false v fs = left_with v fs
 
 pub gone_kept : {N M : Type 0} (k : Bool) (v : Value N) (b p : ℕ) (st : List (Value N)) (f : Frame N M) (fs : List (Level N M)) → gone k v (lvl b p st f ∷ fs) ≡ spot b fs p (kept k v st) f
 gone_kept true v b p st f fs = refl
