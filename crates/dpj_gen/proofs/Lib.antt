@@ -4,3 +4,5 @@ pub mod Tables
 pub mod Right
 pub mod Statements
 pub mod Theorems
+pub mod Pieces
+pub mod Placed

@@ -3,3 +3,4 @@ pub mod Scheme
 pub mod Stands
 pub mod Resolved
 pub mod Compiled
+pub mod Whole

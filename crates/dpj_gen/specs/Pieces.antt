@@ -31,19 +31,19 @@ abbrev pub nothing : Piece
 nothing = record { lines = []; sites = []; texts = []; branches = [] }
 
 -- an instruction in front of a piece; the last with its site, or its text
-abbrev pub line : Instr → Place → Piece → Piece
+unfoldable pub line : Instr → Place → Piece → Piece
 line x at a = record a { lines = record { instr = x; place = at } ∷ a.lines }
 
-abbrev pub with_site : Site → Piece → Piece
+unfoldable pub with_site : Site → Piece → Piece
 with_site s a = record a { sites = s ∷ [] }
 
-abbrev pub with_text : List ℕ → Piece → Piece
+unfoldable pub with_text : List ℕ → Piece → Piece
 with_text text a = record a { texts = text ∷ [] }
 
-abbrev pub with_branches : List Branch → Piece → Piece
+unfoldable pub with_branches : List Branch → Piece → Piece
 with_branches bs a = record a { branches = bs }
 
-abbrev pub beside : Piece → Piece → Piece
+unfoldable pub beside : Piece → Piece → Piece
 beside a b = record { lines = a.lines ++ b.lines; sites = a.sites ++ b.sites; texts = a.texts ++ b.texts; branches = a.branches ++ b.branches }
 
 -- a piece, and what follows it with the numbers that are next then
