@@ -6,3 +6,4 @@ pub mod Statements
 pub mod Theorems
 pub mod Pieces
 pub mod Placed
+pub mod Whole
