@@ -1,14 +1,14 @@
 -- Small programs of one method, and how a run of one begins. Objects and local regions are named by numbers here.
-use Rattle.std.specs.Prelude.{◌≡◌, ℕ, suc, pos, Bool, true, false, List, [], ◌∷◌, None, codes, replicate}
+use Rattle.std.specs.Prelude.{ℕ, pos, true, false, List, [], ◌∷◌, None}
 use Rattle.std.specs.Prelude.{◌==◌}
 use Rattle.dpj_base.specs.Types.{int, boolean}
 use Rattle.dpj_typed.specs.declared.expr.BinaryOp.TheVariants as op
 use Rattle.dpj_typed.specs.declared.stmt.Forking.TheVariants.{Deterministic}
-use Rattle.dpj_typed.specs.Plain.{PlainProgram, TypedExpr, typed, TypedStmt, statement, TypedStmts, no_stmts, more_stmts, no_branches, more_branches}
+use Rattle.dpj_typed.specs.Plain.{typed, TypedStmts, no_stmts, more_stmts, no_branches, more_branches}
 use Rattle.dpj_typed.specs.Plain.{ExprForm as expr}
 use Rattle.dpj_typed.specs.Plain.{StmtForm as form}
 use Rattle.dpj_typed.specs.Samples.{here, number, int_local, does, program_of}
-use Rattle.dpj_meaning.specs.Values.{Value, Int, Object, Naming}
+use Rattle.dpj_meaning.specs.Values.{Int, Object, Naming}
 use Rattle.dpj_meaning.specs.Actions.{Task, Answer, Reply}
 use Rattle.dpj_meaning.specs.Asking.{ask}
 use Rattle.dpj_meaning.specs.Counts.{padded}
@@ -38,12 +38,12 @@ abbrev pub counts : TypedStmts
 counts =
     more_stmts (does (form.declare 2 int false (number 0)))
     (more_stmts (does (form.while_loop (typed here boolean (expr.binary op.Less (int_local 2) (number 5000)))
-      (does (form.store 2 (typed here int (expr.binary op.Add (int_local 2) (number 1)))))))
+    (does (form.store 2 (typed here int (expr.binary op.Add (int_local 2) (number 1)))))))
     (more_stmts (does (form.return_value (int_local 2))) no_stmts))
 
 -- `cobegin { print(1); print(2); } return 0;`
 abbrev pub one_and_two : TypedStmts
 one_and_two =
     more_stmts (does (form.cobegin Deterministic
-      (more_branches [] (does (form.print_int (number 1))) (more_branches [] (does (form.print_int (number 2))) no_branches))))
+    (more_branches [] (does (form.print_int (number 1))) (more_branches [] (does (form.print_int (number 2))) no_branches))))
     (more_stmts (does (form.return_value (number 0))) no_stmts)
