@@ -2,7 +2,7 @@
 use Rattle.std.specs.Prelude.{ℕ, ◌≡◌, ◌≤◌, ◌+◌, ◌*◌, List, [], ◌∷◌, ◌++◌, length}
 use Rattle.dpj_runs.specs.Objects.{Path}
 use Rattle.dpj_runs.specs.Actions.{Ending, Program}
-use Rattle.dpj_runs.specs.Runs.{Event, Run, Upto, mine, count, total, Ended}
+use Rattle.dpj_runs.specs.Runs.{Event, Faithful, Run, Upto, mine, count, total, Ended}
 use Rattle.dpj_runs.specs.Blocks.{Allowed, Legal}
 use Rattle.dpj_runs.specs.Standing.{Valid}
 use Rattle.dpj_runs.specs.Order.{Agree, Before, Comes, Free, InOrder, IsPlain, Outcome, Passes, Related}
@@ -12,6 +12,10 @@ use Rattle.dpj_runs.specs.Schedules.{Finished, Greedy, Limits, Ran, Ready, Withi
 -- the rule of open blocks as it is written and the one by paths and own events allow the same runs
 abbrev pub BlocksByStanding : Type 0
 BlocksByStanding = (P : Program) → Disciplined P → (R : Run) → (Legal P R → Valid P R) × (Valid P R → Legal P R)
+
+-- blocks aside, a legal run is one whose events came rightly
+abbrev pub LegalIsFaithful : Type 0
+LegalIsFaithful = (P : Program) (R : Run) → Legal P R → Faithful P R
 
 -- what is before an event in every run stands before it in each legal run that has both
 abbrev pub Respects : Type 0

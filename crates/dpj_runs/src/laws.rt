@@ -1,6 +1,6 @@
 //! The laws of runs, each the clause of a function that does nothing.
 
-ghost use Rattle.dpj_runs.specs.Laws.{BlocksByStanding, Respects, OrderOf, Present, Comparison, SameEvents, SameOutcome, NoneCostsMore};
+ghost use Rattle.dpj_runs.specs.Laws.{BlocksByStanding, LegalIsFaithful, Respects, OrderOf, Present, Comparison, SameEvents, SameOutcome, NoneCostsMore};
 ghost use Rattle.dpj_runs.specs.Laws.{EachComesOut, OneOutcome, NothingAfter, SomeReady, OneNext, OneRun, RanIsLegal, EachRecorded};
 ghost use Rattle.dpj_runs.specs.Laws.{ScheduleIsBounded, FinishedIsBounded, SchedulesAgree, EachFinishes, GreatestFirst};
 ghost use Rattle.dpj_runs.specs.Samples.{ComparisonApplies, ComparisonNeedsFree, RespectsNeedsPassing, ReadyApplies, ReadyNeedsKnown};
@@ -9,6 +9,7 @@ ghost use Rattle.dpj_runs.specs.Samples.{BoundApplies, BoundNeedsPaced, Determin
 /// Who stands inside which block is known from paths and from each task's own events.
 pub fn law_blocks()
     ensures by_standing { BlocksByStanding }
+    ensures faithful { LegalIsFaithful }
 {}
 
 /// Which of two events comes first is the same in every legal run, but for those of different branches of one fork. Where
