@@ -1,12 +1,12 @@
 -- The run with each deterministic construct directly after its fork is one.
-use Rattle.std.proofs.Common.{◌≡◌, ℕ, zero, suc, ◌+◌, ◌-◌, ◌<◌, ◌≤◌, ◌⊎◌, inl, inr, ⊎_elim, true, false, true≢false, List, [], ◌∷◌, ◌++◌, length, refl, sym, ap}
-use Rattle.std.proofs.Common.{◌∙◌, subst, arith, append_assoc, length-append, Some, slice_get}
-use Rattle.std.proofs.lemmas.Bool.{cases_order, cases_eq, cond-true, cond-false}
+use Rattle.std.proofs.Common.{◌≡◌, ℕ, zero, suc, ◌+◌, ◌-◌, ◌<◌, ◌≤◌, ◌⊎◌, inl, inr, ⊎_elim, true, true≢false, [], ◌∷◌, ◌++◌, length, refl, sym, ap}
+use Rattle.std.proofs.Common.{◌∙◌, subst, arith, length-append}
+use Rattle.std.proofs.lemmas.Bool.{cases_order, cases_eq, cond-false}
 use Rattle.std.proofs.lemmas.Option.{slice_get_within}
 use Rattle.dpj_runs.specs.Actions.{Action, Begin, Branches, Do, End, Fork, Join, Next, Program, is_deterministic}
 use Rattle.dpj_runs.specs.Meaning.{AfterFork, Disciplined, InTurn}
 use Rattle.dpj_runs.specs.Objects.{Path, size}
-use Rattle.dpj_runs.specs.Runs.{Event, Faithful, Follows, Run, Upto, answers, branch, count, later, mine, now}
+use Rattle.dpj_runs.specs.Runs.{Event, Faithful, Follows, Run, Upto, answers, count, later, mine, now}
 use Rattle.dpj_runs.specs.Standing.{first_of}
 use Rattle.dpj_moving.specs.Insertion.{All_of, Branch_of, Earlier, Spot}
 use Rattle.dpj_moving.specs.Moved.{AfterForks, DetFork, InBranch, InConstruct, below, construct_spot, inner, is_det, its_begin, kind_after, spot_of}
@@ -14,11 +14,10 @@ use Rattle.dpj_moving.specs.Insertion.{All_of, Branch_of, Earlier, Spot}
 use Rattle.dpj_moving.specs.Insertion.{Earlier}
 use Rattle.dpj_runs.proofs.Upto.{upto_trans, upto_length, upto_tail, Which, which, same_one, before, after}
 use Rattle.dpj_runs.proofs.Mine.{path_cases, mine_at, mine_upto, Found, found, earlier_of, same_of, number_of, numbered}
-use Rattle.dpj_runs.proofs.Places.{not_below_self}
-use Rattle.dpj_runs.proofs.Faithful.{ForkAt, fork_above, begin_after, faithful_upto, follows_at}
+use Rattle.dpj_runs.proofs.Faithful.{fork_above, begin_after, faithful_upto, follows_at}
 use Rattle.dpj_runs.proofs.Standing.{first_is}
 use Rattle.dpj_runs.proofs.ForkSince.{ForkSince, fork_since, count_since}
-use Rattle.dpj_moving.proofs.Under.{Under, under_self}
+use Rattle.dpj_moving.proofs.Under.{Under}
 use Rattle.dpj_moving.proofs.Spots.{inner_nil, inner_under, inner_all, inner_least, Inner, its_branch, as_above, inner_cases}
 use Rattle.dpj_moving.proofs.Insertion.{Bools, yes, no, bools}
 use Rattle.dpj_moving.proofs.AfterForks.{construct_cases, det_since}
@@ -40,8 +39,14 @@ module _ {P : Program} {R G : Run} (g : Fine P R G) where
 
   -- an event of which more than so many of a task stand before it
   sooner_by : {y : Event} {Y : Run} (p : Path) (k : ℕ) → (hy : Upto (y ∷ Y) R) → k < count (there hy).before p → Earlier G p k y.path (count Y y.path)
-  sooner_by {y} {Y} p k hy m = let a = there hy in record { before = a.before; event = y; stands = a.stands; path = refl; number = ap length a.mine_is;
-      more = m }
+  sooner_by {y} {Y} p k hy m = let a = there hy in record {
+    before = a.before;
+    event = y;
+    stands = a.stands;
+    path = refl;
+    number = ap length a.mine_is;
+    more = m;
+  }
 
   sooner : {x y : Event} {X Y : Run} (hx : Upto (x ∷ X) R) (hy : Upto (y ∷ Y) R) → Upto (x ∷ (there hx).before) (there hy).before → Sooner G x X y Y
   sooner {x} {y} {X} {Y} hx hy h = sooner_by x.path (count X x.path) hy (let a = number_of x.path h refl in let b = ap length (there hx).mine_is in omega arith)
@@ -80,7 +85,7 @@ module _ {P : Program} {R G : Run} (g : Fine P R G) where
   never_same : (x y : Event) (X Y : Run) → Sooner G x X y Y → x.path ≡ y.path → count X x.path ≡ count Y y.path → ⊥
   never_same x y X Y w p n =
       let e : Earlier G x.path (count X x.path) x.path (count X x.path) =
-          subst (λ k. Earlier G x.path (count X x.path) x.path k) (sym n) (subst (λ q. Earlier G x.path (count X x.path) q (count Y y.path)) (sym p) w) in
+      subst (λ k. Earlier G x.path (count X x.path) x.path k) (sym n) (subst (λ q. Earlier G x.path (count X x.path) q (count Y y.path)) (sym p) w) in
       not_back G x.path x.path (count X x.path) (count X x.path) e e
 
 -- the fork of a construct stands before what is in a branch
@@ -99,7 +104,7 @@ module _ (P : Program) (D : Disciplined P) where
   -- in each run with the same events
   fork_sooner : {R G X : Run} {x : Event} {q : Path} {k b : ℕ} → (g : Fine P R G) → DetFork R q k → (hx : Upto (x ∷ X) R)
       → InBranch q k b x.path (count X x.path)
-    → Earlier G q k x.path (count X x.path)
+      → Earlier G q k x.path (count X x.path)
   fork_sooner {R} {G} {X} {x} {q} {k} {b} g d hx (its_begin p n) =
       sooner_by g q k hx (let m = ap length (there g hx).mine_is in let c = ap (λ r. count (there g hx).before r) p in omega arith)
   fork_sooner {R} {G} {X} {x} {q} {k} {b} g d hx (below xs p) =
@@ -118,13 +123,13 @@ module _ (P : Program) (D : Disciplined P) where
   det_first {R} {X} {q} {k} d h =
       let n = ap (λ m. suc m) d.number in
       let f : first_of (suc k) (mine X q) ≡ d.event ∷ mine d.before q =
-          subst (λ i. first_of i (mine X q) ≡ d.event ∷ mine d.before q) n (first_is (mine_at q h d.path)) in
+      subst (λ i. first_of i (mine X q) ≡ d.event ∷ mine d.before q) n (first_is (mine_at q h d.path)) in
       ap is_det f ∙ ap (λ c. kind_after c (is_det (mine d.before q))) d.act ∙ d.det
 
   -- what stands where the begin of its branch does is that begin
   begin_facts : {R X : Run} {x : Event} {q : Path} {k b : ℕ} → Faithful P R → (d : DetFork R q k) → b < length d.branches.tasks → (hx : Upto (x ∷ X) R)
       → x.path ≡ q → count X q ≡ suc (k + b)
-    → (x.act ≡ Begin b) × (is_det (mine X q) ≡ true)
+      → (x.act ≡ Begin b) × (is_det (mine X q) ≡ true)
   begin_facts {R} {X} {x} {q} {k} {b} l d lt hx p n = (act, kinds)
     where
       dn : count d.before q ≡ k
@@ -165,7 +170,7 @@ data Home (R X : Run) (x : Event) : Type 0 where
   outside_all : inner X x.path ≡ All_of [] → construct_spot X x ≡ inner X x.path → ((b : ℕ) → x.act ≡ Begin b → is_det (mine X x.path) ≡ true → ⊥) → Home R X x
   in_branch : (q : Path) (k b : ℕ) (d : DetFork R q k) (xs : Path) → b < length d.branches.tasks → x.path ≡ xs ++ (k, b) ∷ q
       → inner X x.path ≡ Branch_of (k, b) q
-    → construct_spot X x ≡ inner X x.path → ((b : ℕ) → x.act ≡ Begin b → is_det (mine X x.path) ≡ true → ⊥) → Home R X x
+      → construct_spot X x ≡ inner X x.path → ((b : ℕ) → x.act ≡ Begin b → is_det (mine X x.path) ≡ true → ⊥) → Home R X x
   is_begin : (q : Path) (k b : ℕ) (d : DetFork R q k) → b < length d.branches.tasks → x.path ≡ q → count X q ≡ suc (k + b) → Home R X x
 
 module _ (P : Program) (D : Disciplined P) (T : InTurn P) where
@@ -185,12 +190,20 @@ module _ (P : Program) (D : Disciplined P) (T : InTurn P) where
               let f = fork_above P D h.below q u lx now h.is in
               let fs = upto_trans f.stands (upto_tail hx) in
               let first : first_of (suc u.0) (mine X q) ≡ f.event ∷ mine f.before q =
-                  subst (λ i. first_of i (mine X q) ≡ f.event ∷ mine f.before q) (ap (λ m. suc m) f.number) (first_is (mine_at q f.stands f.path)) in
+              subst (λ i. first_of i (mine X q) ≡ f.event ∷ mine f.before q) (ap (λ m. suc m) f.number) (first_is (mine_at q f.stands f.path)) in
               let det : is_deterministic f.tasks.kind ≡ true =
-                  sym (ap is_det first ∙ ap (λ c. kind_after c (is_det (mine f.before q))) f.act) ∙ inner_det X x.path u q e in
-              in_branch q u.0 u.1 (record { before = f.before; event = f.event; stands = fs; path = f.path; number = f.number; branches = f.tasks;
-                  act = f.act; det = det })
-                h.below (slice_get_within f.tasks.tasks u.1 f.task f.is_there) h.is e sp never
+              sym (ap is_det first ∙ ap (λ c. kind_after c (is_det (mine f.before q))) f.act) ∙ inner_det X x.path u q e in
+              in_branch q u.0 u.1 (record {
+                before = f.before;
+                event = f.event;
+                stands = fs;
+                path = f.path;
+                number = f.number;
+                branches = f.tasks;
+                act = f.act;
+                det = det;
+              })
+              h.below (slice_get_within f.tasks.tasks u.1 f.task f.is_there) h.is e sp never
 
       at_begin : (b : ℕ) → x.act ≡ Begin b → is_det (mine X x.path) ≡ true → Home R X x
       at_begin b act dt = is_begin x.path (count j.before x.path) b d f.1 refl number
@@ -213,17 +226,26 @@ module _ (P : Program) (D : Disciplined P) (T : InTurn P) where
               let i = ap length v.mine_is in
               let s = upto_length h in
               let n = number in
-              let lt = f.1 in
-              (count v.before x.path - suc (count j.before x.path),
+              let lt = f.1 in (
+                count v.before x.path - suc (count j.before x.path),
                 begin_after P D x.path f.0 (count v.before x.path - suc (count j.before x.path)) lx.1 j.stands j.path j.act v.stands v.path (omega arith)
-                    (omega arith))
+                    (omega arith),
+              )
 
           kinds : is_det (mine X x.path) ≡ is_deterministic f.0.kind
           kinds = det_since (mine_at x.path j.stands j.path) so ∙ ap (λ c. kind_after c (is_det (mine j.before x.path))) j.act
 
           d : DetFork R x.path (count j.before x.path)
-          d = record { before = j.before; event = j.fork; stands = upto_trans j.stands (upto_tail hx); path = j.path; number = refl; branches = f.0;
-              act = j.act; det = sym kinds ∙ dt }
+          d = record {
+            before = j.before;
+            event = j.fork;
+            stands = upto_trans j.stands (upto_tail hx);
+            path = j.path;
+            number = refl;
+            branches = f.0;
+            act = j.act;
+            det = sym kinds ∙ dt;
+          }
 
       spot_is : (a : Action) → x.act ≡ a → spot_of X x.path a ≡ inner X x.path → construct_spot X x ≡ inner X x.path
       spot_is a h e = ap (λ c. spot_of X x.path c) h ∙ e
@@ -268,7 +290,7 @@ module _ (P : Program) (D : Disciplined P) (T : InTurn P) (R : Run) (l : Faithfu
       (gs : Sooner G x X y Y) (hs : Sooner H y Y x X) where
     -- the other is not in a construct of the one: so it is swapped with the fork
     leaves : {q : Path} {k b : ℕ} (d : DetFork R q k) → b < length d.branches.tasks → InBranch q k b x.path (count X x.path)
-      → (InConstruct (length d.branches.tasks) q k y.path (count Y y.path) → ⊥) → ⊥
+        → (InConstruct (length d.branches.tasks) q k y.path (count Y y.path) → ⊥) → ⊥
     leaves {q} {k} {b} d lt ix out = by_same (path_cases q y.path) (cases_eq k (count Y y.path))
       where
         fx : Upto (d.event ∷ d.before) X
@@ -295,7 +317,7 @@ module _ (P : Program) (D : Disciplined P) (T : InTurn P) (R : Run) (l : Faithfu
         by_same : (q ≡ y.path) ⊎ (q ≡ y.path → ⊥) → (k ≡ count Y y.path) ⊎ (k ≡ count Y y.path → ⊥) → ⊥
         by_same (inl a) (inl c) =
             let w : Earlier G y.path (count Y y.path) x.path (count X x.path) =
-                subst (λ i. Earlier G y.path i x.path (count X x.path)) c (subst (λ r. Earlier G r k x.path (count X x.path)) a (fork_sooner P D g d hx ix)) in
+            subst (λ i. Earlier G y.path i x.path (count X x.path)) c (subst (λ r. Earlier G r k x.path (count X x.path)) a (fork_sooner P D g d hx ix)) in
             not_back G x.path y.path (count X x.path) (count Y y.path) gs w
         by_same (inr a) c = not_fork (λ p m. a (sym d.path ∙ p))
         by_same (inl a) (inr c) = not_fork (λ p m. c (sym d.number ∙ ap (λ r. count d.before r) (sym d.path) ∙ m))
@@ -327,8 +349,8 @@ module _ (P : Program) (D : Disciplined P) (T : InTurn P) (R : Run) (l : Faithfu
 
   -- an event that is no begin, in a branch: so it is below it
   lies_below : {X : Run} {x : Event} {q : Path} {k b : ℕ} (d : DetFork R q k) → b < length d.branches.tasks → (hx : Upto (x ∷ X) R)
-    → ((c : ℕ) → x.act ≡ Begin c → is_det (mine X x.path) ≡ true → ⊥) → InBranch q k b x.path (count X x.path)
-    → (v : ℕ × ℕ) × (r : Path) × (inner X x.path ≡ Branch_of v r) × Under ((k, b) ∷ q) (v ∷ r)
+      → ((c : ℕ) → x.act ≡ Begin c → is_det (mine X x.path) ≡ true → ⊥) → InBranch q k b x.path (count X x.path)
+      → (v : ℕ × ℕ) × (r : Path) × (inner X x.path ≡ Branch_of v r) × Under ((k, b) ∷ q) (v ∷ r)
   lies_below {X} {x} {q} {k} {b} d lt hx never (its_begin p m) =
       let f = begin_facts P D l d lt hx p (ap (λ r. count X r) (sym p) ∙ m) in
       absurd (never b f.0 (ap (λ r. is_det (mine X r)) p ∙ f.1))
@@ -354,7 +376,7 @@ module _ (P : Program) (D : Disciplined P) (T : InTurn P) (R : Run) (l : Faithfu
           at (below xs r) =
               let w = begin_sooner P D q k b xs h hy r in
               let v : Sooner H x X y Y = subst (λ i. Earlier H x.path i y.path (count Y y.path)) (sym num)
-                  (subst (λ z. Earlier H z (suc (k + b)) y.path (count Y y.path)) (sym p) w) in
+              (subst (λ z. Earlier H z (suc (k + b)) y.path (count Y y.path)) (sym p) w) in
               not_back H y.path x.path (count Y y.path) (count X x.path) hs v
       go rec other (is_begin q k b d lt p m) = same_branch n rec h g hy hx size_back hs gs d lt (its_begin p num) (λ ix. at ix)
         where
@@ -366,15 +388,15 @@ module _ (P : Program) (D : Disciplined P) (T : InTurn P) (R : Run) (l : Faithfu
           at (below xs r) =
               let w = begin_sooner P D q k b xs g hx r in
               let v : Sooner G y Y x X = subst (λ i. Earlier G y.path i x.path (count X x.path)) (sym num)
-                  (subst (λ z. Earlier G z (suc (k + b)) x.path (count X x.path)) (sym p) w) in
+              (subst (λ z. Earlier G z (suc (k + b)) x.path (count X x.path)) (sym p) w) in
               not_back G x.path y.path (count X x.path) (count Y y.path) gs v
       go rec (outside_all a s c) (outside_all a' s' c') = kept_both n rec g h hx hy size gs hs (s ∙ a ∙ sym a' ∙ sym s')
       go rec (outside_all a s c) (in_branch q k b d xs lt p i s' c') =
           same_branch n rec h g hy hx size_back hs gs d lt (below xs p)
-              (λ ix. (let z = lies_below d lt hx c ix in let w : All_of [] ≡ Branch_of z.0 z.1 = sym a ∙ z.2 in cc))
+          (λ ix. (let z = lies_below d lt hx c ix in let w : All_of [] ≡ Branch_of z.0 z.1 = sym a ∙ z.2 in cc))
       go rec (in_branch q k b d xs lt p i s c) (outside_all a s' c') =
           same_branch n rec g h hx hy size gs hs d lt (below xs p)
-              (λ iy. (let z = lies_below d lt hy c' iy in let w : All_of [] ≡ Branch_of z.0 z.1 = sym a ∙ z.2 in cc))
+          (λ iy. (let z = lies_below d lt hy c' iy in let w : All_of [] ≡ Branch_of z.0 z.1 = sym a ∙ z.2 in cc))
       go rec (in_branch q k b d xs lt p i s c) (in_branch r m b' d' ys lt' p' i' s' c') =
           same_branch n rec g h hx hy size gs hs d lt (below xs p) (λ iy. same_branch n rec h g hy hx size_back hs gs d' lt' (below ys p') (λ ix. both iy ix))
         where
@@ -424,10 +446,22 @@ module _ (P : Program) (D : Disciplined P) (T : InTurn P) (R : Run) (l : Faithfu
             where
               go : Which x.0 x.1 y.0 y.1 → Earlier G p i q j ⊎ Earlier G q j p i
               go (same_one u v) = absurd (let pq : p ≡ q = sym x.3 ∙ ap (λ z. z.path) u ∙ y.3 in n pq (sym x.4 ∙ (λ z. count (v z) (pq z)) ∙ y.4))
-              go (before h) = inl (record { before = y.1; event = y.0; stands = y.2; path = y.3; number = y.4;
-                  more = (let c = number_of p h x.3 in let d = x.4 in omega arith) })
-              go (after h) = inr (record { before = x.1; event = x.0; stands = x.2; path = x.3; number = x.4;
-                  more = (let c = number_of q h y.3 in let d = y.4 in omega arith) })
+              go (before h) = inl (record {
+                before = y.1;
+                event = y.0;
+                stands = y.2;
+                path = y.3;
+                number = y.4;
+                more = (let c = number_of p h x.3 in let d = x.4 in omega arith);
+              })
+              go (after h) = inr (record {
+                before = x.1;
+                event = x.0;
+                stands = x.2;
+                path = x.3;
+                number = x.4;
+                more = (let c = number_of q h y.3 in let d = y.4 in omega arith);
+              })
 
   pub one_moved : (G H : Run) → Faithful P G → Faithful P H → ((p : Path) → mine G p ≡ mine R p) → ((p : Path) → mine H p ≡ mine R p) → AfterForks R G
       → AfterForks R H → G ≡ H

@@ -1,8 +1,8 @@
 -- Schedules come to an end, and without conflicts to the same one.
-use Rattle.std.proofs.Common.{◌≡◌, ℕ, zero, suc, ◌+◌, ◌*◌, ◌<◌, ◌≤◌, ◌⊎◌, inl, inr, ⊎_elim, List, [], ◌∷◌, ◌++◌, length, refl, sym, ap, ◌∙◌, subst, arith}
+use Rattle.std.proofs.Common.{◌≡◌, ℕ, zero, suc, ◌+◌, ◌*◌, ◌<◌, ◌≤◌, ◌⊎◌, inl, inr, ⊎_elim, List, [], ◌∷◌, ◌++◌, length, refl, sym, subst, arith}
 use Rattle.std.proofs.Common.{append_assoc}
 use Rattle.std.proofs.lemmas.Bool.{cases_lt}
-use Rattle.dpj_runs.specs.Actions.{Ending, Program, cells, steps}
+use Rattle.dpj_runs.specs.Actions.{Ending, Program}
 use Rattle.dpj_runs.specs.Blocks.{Legal}
 use Rattle.dpj_runs.specs.Laws.{AllFree}
 use Rattle.dpj_runs.specs.Meaning.{Disciplined, InTurn, Known, Lively, Paced}
@@ -10,11 +10,9 @@ use Rattle.dpj_runs.specs.Order.{Comes, Limited, Outcome}
 use Rattle.dpj_runs.specs.Runs.{Ended, Event, Run, cells_of, entry_step, event_cells, event_steps, mine, steps_of}
 use Rattle.dpj_runs.specs.Schedules.{Finished, Greatest, Greedy, Limits, Ran, Ready, Within, ended, no_room, over}
 use Rattle.dpj_runs.proofs.Upto.{upto_length}
-use Rattle.dpj_runs.proofs.Mine.{mine_at, mine_nil}
-use Rattle.dpj_runs.proofs.Faithful.{ended_upto}
-use Rattle.dpj_runs.proofs.Cost.{total_nil}
+use Rattle.dpj_runs.proofs.Mine.{mine_at}
 use Rattle.dpj_runs.proofs.Ready.{HasEnded, it_has, it_has_not, has_ended}
-use Rattle.dpj_runs.proofs.Schedules.{ran_legal, ran_length, within_less}
+use Rattle.dpj_runs.proofs.Schedules.{ran_legal}
 use Rattle.dpj_runs.proofs.Bound.{ran_bounded}
 use Rattle.dpj_runs.proofs.Greatest.{next_greatest}
 use Rattle.dpj_runs.proofs.Theorems.{none_costs_more, same_outcome, each_comes_out, some_ready_event}

@@ -1,7 +1,7 @@
 -- The run in which the ready task with the greatest number always goes on stands in the order of elision.
 use Rattle.std.proofs.Common.{◌≡◌, ℕ, zero, suc, ◌+◌, ◌-◌, ◌<◌, ◌≤◌, ◌⊎◌, inl, inr, ⊎_elim, List, [], ◌∷◌, ◌++◌, length, refl, sym, ap, ◌∙◌, subst, arith, Some}
-use Rattle.std.proofs.Common.{None, slice_get, append_assoc, append-nil}
-use Rattle.std.proofs.lemmas.Bool.{cases_lt, cases_eq}
+use Rattle.std.proofs.Common.{slice_get, append_assoc}
+use Rattle.std.proofs.lemmas.Bool.{cases_lt}
 use Rattle.std.proofs.lemmas.Option.{slice_get_within}
 use Rattle.dpj_runs.specs.Actions.{Action, Answer, Asks, Begin, Branches, Do, End, Ending, Fork, Join, Next, Own, Program, Task}
 use Rattle.dpj_runs.specs.Blocks.{Allowed, In_block, Legal, Out_of, hold, hold_after}
@@ -12,7 +12,7 @@ use Rattle.dpj_runs.specs.Runs.{Begun, Ended, Event, Faithful, Run, Upto, answer
 use Rattle.dpj_runs.specs.Schedules.{Greatest, Greedy, Numbered, Ready}
 use Rattle.dpj_runs.specs.Standing.{Admitted, CanEnter, Inside, Outside, above, first_of, standing}
 use Rattle.dpj_runs.proofs.Upto.{upto_trans, upto_length, upto_split, upto_none, upto_tail}
-use Rattle.dpj_runs.proofs.Mine.{path_cases, mine_same, mine_other, mine_step, mine_at, mine_nil, Found, found, number_of, numbered}
+use Rattle.dpj_runs.proofs.Mine.{mine_same, mine_other, mine_step, mine_at, found, number_of, numbered}
 use Rattle.dpj_runs.proofs.Places.{pair_eq, not_below_self}
 use Rattle.dpj_runs.proofs.Faithful.{agree_self, same_task, begun_upto, ended_upto, none_after_end, fork_above, begin_after, ForkAt}
 use Rattle.dpj_runs.proofs.Between.{complete}
@@ -107,9 +107,11 @@ module _ (P : Program) (D : Disciplined P) (V : Lively P) (T : InTurn P) (K : Kn
             let s = upto_length h in
             let n = k.way_to xs q u e in
             let fn = f.number in
-            let in_them = slice_get_within f.tasks.tasks u.1 f.task f.is_there in
-            (count v.before q - suc u.0, begin_after P D q f.tasks (count v.before q - suc u.0) lf f.stands f.path f.act v.stands v.path
-                (omega (arith, vn, m, fn)) (omega (arith, vn, s, n, in_them)))
+            let in_them = slice_get_within f.tasks.tasks u.1 f.task f.is_there in (
+              count v.before q - suc u.0,
+              begin_after P D q f.tasks (count v.before q - suc u.0) lf f.stands f.path f.act v.stands v.path
+                  (omega (arith, vn, m, fn)) (omega (arith, vn, s, n, in_them)),
+            )
 
     -- so no entry of the task at work has to wait
     may : (E : List Effect) → CanEnter P.rule R w E
@@ -297,7 +299,7 @@ module _ (P : Program) (D : Disciplined P) (V : Lively P) (T : InTurn P) (K : Kn
             let a = l.0.follows in
             let t : a.task ≡ k.task = same_task (agree_self R) (subst (λ q. Begun P R q a.task) own a.begun) k.begun in
             let h : P.meaning w a.task (answers (mine R w)) ≡ Next e.turns e.act =
-                subst (λ q. P.meaning q a.task (answers (mine R q)) ≡ Next e.turns e.act) own a.asks in
+            subst (λ q. P.meaning q a.task (answers (mine R q)) ≡ Next e.turns e.act) own a.asks in
             ap (λ s. P.meaning w s (answers (mine R w))) (sym t) ∙ h ∙ ap (λ c. Next e.turns c) act
 
         make : ((p : Path) (t : Task) (got : List Answer) (b : ℕ) → Asks P p t got (Begin b) → (ts : Branches) × (b < length ts.tasks)
