@@ -492,7 +492,8 @@ module _ (P : Program) (D : Disciplined P) (R : Run) (e : Event) (l : Faithful P
               → ((y ≡ t) × (count Y y.path ≡ count r.before t.path)) ⊎ Earlier G0 y.path (count Y y.path) t.path (count r.before t.path) → ⊥
           hit (inr c) (inl m) = ny (subst (λ z. InConstruct (length d.branches.tasks) q k z.path (count Y y.path)) (sym m.0)
               (subst (λ i. InConstruct (length d.branches.tasks) q k t.path i) (sym m.1) c))
-          hit (inr c) (inr m) = not_back G0 y.path t.path (count Y y.path) (count r.before t.path) m (rec.after_its_fork q k d r.before Y t y r.stands hy c ny fy)
+          hit (inr c) (inr m) = not_back G0 y.path t.path (count Y y.path) (count r.before t.path) m
+              (rec.after_its_fork q k d r.before Y t y r.stands hy c ny fy)
           hit (inl f) (inl m) =
               let a : y.path ≡ q = ap (λ z. z.path) m.0 ∙ f.0 in
               let b : count Y y.path ≡ k = m.1 ∙ ap (λ z. count r.before z) f.0 ∙ f.1 in
