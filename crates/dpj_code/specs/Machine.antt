@@ -191,7 +191,7 @@ started js f = map (λ j. record { body = j; frame = below f }) js
 
 abbrev pub forked : {N M : Type 0} → Place → Option Site → Level N M → List (Level N M) → Stand N M
 forked at (Some (fork_site forking js copies)) g fs =
-    deeper g.frame.left at (Waits (Fork forking (started js g.frame)) (λ a. next g (Int (pos (length js)) ∷ g.stack) fs))
+    deeper g.frame.left at (Waits (Fork (record { kind = forking; tasks = started js g.frame })) (λ a. next g (Int (pos (length js)) ∷ g.stack) fs))
 forked at site g fs = Stuck
 
 -- a branch for each number
@@ -206,7 +206,7 @@ waiting left next total st = Int (pos left) ∷ Int next ∷ Int (pos total) ∷
 abbrev pub spread : {N M : Type 0} → Place → Option Site → Level N M → List (Level N M) → Stand N M
 spread at (Some (spread_site forking j x)) g fs =
     two g.stack (λ start count st. deeper g.frame.left at
-      (Waits (Fork forking (each_started j x g.frame (number start) 0 (how_many (number count))))
+      (Waits (Fork (record { kind = forking; tasks = each_started j x g.frame (number start) 0 (how_many (number count)) }))
       (λ a. next g (waiting (how_many (number count)) (number start) (how_many (number count)) st) fs)))
 spread at site g fs = Stuck
 
