@@ -7,3 +7,4 @@ pub mod Theorems
 pub mod Pieces
 pub mod Placed
 pub mod Whole
+pub mod Bodies
