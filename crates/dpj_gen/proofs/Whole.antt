@@ -134,7 +134,7 @@ pub branch_needs : (k : Next) (at : Place) (s : TypedStmt) (takes : Option ℕ) 
 branch_needs k at s None = both (stmt_needs k 0 s) (skip _ _ stop_here) (omega arith)
 branch_needs k at s (Some x) = skip _ _ (both (stmt_needs k 1 s) (skip _ _ stop_here) (omega arith))
 
-member_needs : (k : Next) (ss : TypedStmts) (z : Bool) → Needs (beside (stmts_piece k 0 ss) (closing z)) (weight_all ss)
+pub member_needs : (k : Next) (ss : TypedStmts) (z : Bool) → Needs (beside (stmts_piece k 0 ss) (closing z)) (weight_all ss)
 member_needs k ss true = both (stmts_needs k 0 ss) (skip _ _ stop_here) (omega arith)
 member_needs k ss false = both (stmts_needs k 0 ss) stop_here (omega arith)
 
@@ -208,7 +208,7 @@ module _ (C : PlainCode) where
   closing_at c k p true h = (no_place, (here C h).0)
   closing_at c k p false h = tt
 
-  member_is : (k : Next) (m : PlainMember) → OutputAt k k.body (member_output k m) → MemberIs C (body_at C k.body) m
+  pub member_is : (k : Next) (m : PlainMember) → OutputAt k k.body (member_output k m) → MemberIs C (body_at C k.body) m
   member_is k m h =
       let a = member_piece (in_member k) m in
       let e = h.bodies.0 in
