@@ -8,3 +8,4 @@ pub mod Pieces
 pub mod Placed
 pub mod Whole
 pub mod Bodies
+pub mod Typed

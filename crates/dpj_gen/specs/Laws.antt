@@ -2,6 +2,7 @@
 use Rattle.std.specs.Prelude.{◌≡◌, ◌<◌, ℕ, Bool, true, List, [], length, Some, None}
 use Rattle.dpj_typed.specs.Plain.{PlainProgram, PlainMember}
 use Rattle.dpj_typed.specs.Scope.{member_at}
+use Rattle.dpj_typed.specs.WellTyped.{WellTyped}
 use Rattle.dpj_meaning.specs.Values.{Naming}
 use Rattle.dpj_meaning.specs.Actions.{Frame, Work, Task, Answer, Reply, Unknown}
 use Rattle.dpj_meaning.specs.Asking.{ask}
@@ -46,3 +47,7 @@ abbrev pub NeverStuck : Type 0 → Type 0 → Type 0
 NeverStuck N M =
     (names : Naming N M) (P : PlainProgram) → Resolved P → (b : Start N M) (t : Task N M) → Compiled (compiled P) P b t →
     (got : List (Answer N M)) → Solo names (compiled P) b got Unknown → ⊥
+
+-- a well-typed program is resolved: so all of this holds of its code
+abbrev pub WellTypedIsResolved : Type 0
+WellTypedIsResolved = (P : PlainProgram) → WellTyped P → Resolved P

@@ -1,7 +1,7 @@
 //! The laws of generated code, each the clause of a function that does nothing. They hold for all names of objects and of
 //! made local regions.
 
-ghost use Rattle.dpj_gen.specs.Laws.{CodeIsRight, MembersAreCompiled, BodiesAreCompiled, OneReply, NeverStuck};
+ghost use Rattle.dpj_gen.specs.Laws.{CodeIsRight, MembersAreCompiled, BodiesAreCompiled, OneReply, NeverStuck, WellTypedIsResolved};
 
 /// The code of a program does what the program means, whatever its tasks are answered.
 pub fn law_code<N, M>()
@@ -14,4 +14,9 @@ pub fn law_code<N, M>()
 pub fn law_solo<N, M>()
     ensures one { OneReply N M }
     ensures never { NeverStuck N M }
+{}
+
+/// What the code asks of a program is had of every well-typed one.
+pub fn law_typed()
+    ensures resolved { WellTypedIsResolved }
 {}
