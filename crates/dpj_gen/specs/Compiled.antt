@@ -36,7 +36,8 @@ SameReply C P Over r = r ≡ Over
 SameReply C P Unknown r = ⊥
 
 -- the solo run stands at what is asked
-pub record Right {N M : Type 0} (names : Naming N M) (C : PlainCode) (P : PlainProgram) (b : Start N M) (got : List (Answer N M)) (asked : Reply N M (Task N M)) : Type 0 where
+pub record Right {N M : Type 0} (names : Naming N M) (C : PlainCode) (P : PlainProgram) (b : Start N M) (got : List (Answer N M))
+    (asked : Reply N M (Task N M)) : Type 0 where
   pub reply : Reply N M (Start N M)
   pub runs : Solo names C b got reply
   pub same : SameReply C P asked reply
