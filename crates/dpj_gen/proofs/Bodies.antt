@@ -1,7 +1,7 @@
 -- Each body of the code, of a member or a branch, is some task's.
-use Rattle.std.proofs.Common.{◌≡◌, ◌<◌, ◌≤◌, ◌⊎◌, inl, inr, ℕ, zero, suc, ◌+◌, ◌-◌, Bool, true, false, not, List, [], ◌∷◌, ◌++◌, length, map, refl, sym, ap, ◌∙◌, subst, arith, Option, Some, None, cond, slice_get, length-append}
+use Rattle.std.proofs.Common.{◌≡◌, ◌<◌, ◌≤◌, ◌⊎◌, inl, inr, ℕ, zero, suc, ◌+◌, Bool, true, false, List, [], ◌∷◌, ◌++◌, length, refl, subst, arith, Option, Some, None, slice_get, length-append}
 use Rattle.dpj_base.specs.declared.place.Place.{Place}
-use Rattle.dpj_typed.specs.Plain.{TypedExpr, TypedExprs, of_array, of_part, TypedStmt, statement, TypedStmts, no_stmts, more_stmts, TypedBranches, no_branches, more_branches, PlainMember, PlainProgram}
+use Rattle.dpj_typed.specs.Plain.{of_array, of_part, TypedStmt, statement, TypedStmts, no_stmts, more_stmts, TypedBranches, no_branches, more_branches, PlainMember, PlainProgram}
 use Rattle.dpj_typed.specs.Plain.{StmtForm as form}
 use Rattle.dpj_typed.specs.Scope.{member_at}
 use Rattle.dpj_meaning.specs.Actions.{Frame, Work}
@@ -13,10 +13,10 @@ use Rattle.dpj_gen.specs.Scheme.{is_void, stmt_piece, stmts_piece, branches_of}
 use Rattle.dpj_gen.specs.Stands.{BodyIs}
 use Rattle.dpj_gen.specs.Resolved.{gives_value, StmtFits, StmtsFit, BranchesFit, Resolved}
 use Rattle.dpj_gen.specs.Compiled.{Compiled}
-use Rattle.dpj_gen.specs.Whole.{weight, weight_all, place_of, branch_piece_of, branch_piece, closing, member_piece, generate, in_member, member_output, past_output, members_output, first, number_in, compiled}
+use Rattle.dpj_gen.specs.Whole.{weight_all, place_of, branch_piece_of, branch_piece, closing, member_piece, generate, in_member, member_output, past_output, members_output, first, compiled}
 use Rattle.dpj_gen.specs.Laws.{work_of}
-use Rattle.dpj_gen.proofs.Pieces.{split, BranchStands, queued, Queued}
-use Rattle.dpj_gen.proofs.Whole.{need, need_on, Needs, expr_needs, exprs_needs, stmt_needs, stmts_needs, branch_needs, OutputAt, generated, member_queued, first_output, bodies_at, member_needs, member_is, root_is}
+use Rattle.dpj_gen.proofs.Pieces.{split, BranchStands}
+use Rattle.dpj_gen.proofs.Whole.{need, need_on, Needs, expr_needs, stmt_needs, branch_needs, OutputAt, generated, first_output, bodies_at, member_needs, member_is, root_is}
 
 module _ (P : PlainProgram) (y : Bool) where
   -- the statements of branches fit
@@ -126,8 +126,12 @@ queue_known C P y (suc n) j m k (b ∷ todo) l e h f (suc i) lt =
     let c = length-append todo a.branches in
     let s = split C.sites a.sites rest.sites k.site h.sites in
     let t = split C.texts a.texts rest.texts k.text h.texts in
-    let r = queue_known C P y n (suc j) m (past k a) (todo ++ a.branches) (omega arith) (omega arith) (record { bodies = h.bodies.1; sites = s.1; texts =
-        t.1 }) (fit_on P y todo a.branches f.1 (branch_fit P y k (place_of b.stmt) b.stmt b.takes f.0).is) i (omega arith) in
+    let r = queue_known C P y n (suc j) m (past k a) (todo ++ a.branches) (omega arith) (omega arith) (record {
+      bodies = h.bodies.1;
+      sites = s.1;
+      texts =
+          t.1;
+    }) (fit_on P y todo a.branches f.1 (branch_fit P y k (place_of b.stmt) b.stmt b.takes f.0).is) i (omega arith) in
     subst (λ z. Known C P z) (omega arith) r
 
 -- a place is before n, or so far after it
@@ -144,8 +148,13 @@ module _ (P : PlainProgram) (resolved : Resolved P) where
   member_known : (k : Next) (m : PlainMember) (n : ℕ) → member_at P n ≡ Some m → OutputAt (compiled P) k k.body (member_output k m) → (i : ℕ) →
       i < length (member_output k m).bodies → Known (compiled P) P (k.body + i)
   member_known k m n e h zero l =
-      subst (λ z. Known (compiled P) P z) (omega arith) (record { work = work_of m; gives = gives_value m; body =
-          root_is P resolved n m e (body_at (compiled P) k.body) (member_is (compiled P) k m h); fits = resolved.bodies n m e })
+      subst (λ z. Known (compiled P) P z) (omega arith) (record {
+        work = work_of m;
+        gives = gives_value m;
+        body =
+            root_is P resolved n m e (body_at (compiled P) k.body) (member_is (compiled P) k m h);
+        fits = resolved.bodies n m e;
+      })
   member_known k m n e h (suc i) l =
       let a = member_piece (in_member k) m in
       let rest = generate (weight_all m.body) m (past (in_member k) a) a.branches in
@@ -153,8 +162,8 @@ module _ (P : PlainProgram) (resolved : Resolved P) where
       let s = split (compiled P).sites a.sites rest.sites k.site h.sites in
       let t = split (compiled P).texts a.texts rest.texts k.text h.texts in
       let r = queue_known (compiled P) P (gives_value m) (weight_all m.body) (suc k.body) m (past (in_member k) a) a.branches (omega arith) refl
-          (record { bodies = h.bodies.1; sites = s.1; texts = t.1 })
-          (member_fit P (gives_value m) (in_member k) m.body (is_void m.result) (resolved.bodies n m e)).is i (omega arith) in
+      (record { bodies = h.bodies.1; sites = s.1; texts = t.1 })
+      (member_fit P (gives_value m) (in_member k) m.body (is_void m.result) (resolved.bodies n m e)).is i (omega arith) in
       subst (λ z. Known (compiled P) P z) (omega arith) r
 
   members_known : (ms : List PlainMember) (k : Next) → OutputAt (compiled P) k k.body (members_output k ms) →
@@ -166,7 +175,7 @@ module _ (P : PlainProgram) (resolved : Resolved P) where
       let rest = members_output (past_output k a) ms in
       let c = length-append a.bodies rest.bodies in
       go (λ r lt. members_known ms (past_output k a) (first_output (compiled P) k m ms h).1 (λ n x e. is (suc n) x e) r lt)
-          (splits (length a.bodies) (length rest.bodies) i (omega arith))
+      (splits (length a.bodies) (length rest.bodies) i (omega arith))
     where
       go : ((r : ℕ) → r < length (members_output (past_output k (member_output k m)) ms).bodies →
           Known (compiled P) P (k.body + length (member_output k m).bodies + r)) →

@@ -113,8 +113,13 @@ module _ {N M : Type 0} {names : Naming N M} {C : PlainCode} {P : PlainProgram} 
   pub does_step : {b : ℕ} {s t : State N M} {h : Told N M → Reply N M (Task N M)} → step names C s ≡ Goes t → Does names C P b t h → Does names C P b s h
   does_step e d = record {
     from = λ w l r. (let x = d.from w l r in
-        record { fuel = suc x.fuel; reply = x.reply; stands = ap (λ o. stood names (λ n m t ys. solo names C x.fuel n m t ys) w.since w.made o w.to_come) e ∙
-        x.stands; same = x.same });
+        record {
+          fuel = suc x.fuel;
+          reply = x.reply;
+          stands = ap (λ o. stood names (λ n m t ys. solo names C x.fuel n m t ys) w.since w.made o w.to_come) e ∙
+              x.stands;
+          same = x.same;
+        });
   }
 
   answers : (w : Told N M) (a : Action N M (Task N M)) (b : Action N M (Start N M)) (k : Answer N M → State N M) (m : Answer N M → Told N M →
@@ -132,8 +137,13 @@ module _ {N M : Type 0} {names : Naming N M} {C : PlainCode} {P : PlainProgram} 
     from = λ w l r. (let x =
         answers w a c k m K w.to_come q
         (λ x ys z. (d x).from (record { since = 0; made = w.made; to_come = ys }) most_pos (room_falls b w.since w.to_come ys x z r)) in
-        record { fuel = suc x.fuel; reply = x.reply; stands = ap (λ o. stood names (λ n m t ys. solo names C x.fuel n m t ys) w.since w.made o w.to_come) e ∙
-        x.stands; same = x.same });
+        record {
+          fuel = suc x.fuel;
+          reply = x.reply;
+          stands = ap (λ o. stood names (λ n m t ys. solo names C x.fuel n m t ys) w.since w.made o w.to_come) e ∙
+              x.stands;
+          same = x.same;
+        });
   }
 
   -- a turn takes from the number of turns that are possible
@@ -155,7 +165,7 @@ module _ {N M : Type 0} {names : Naming N M} {C : PlainCode} {P : PlainProgram} 
       go : (t : Bool) → (suc w.since == most_turns) ≡ t → Ticks names C P w.since w.made s w.to_come (after (bind (turned_told w) (λ u v. m v)) K)
       go true q =
           let x = answers (record w { since = suc w.since }) (Do Rest) (Do Rest) (λ x. s) (λ a v. m v) K w.to_come refl
-              (λ x ys z. d.from (record { since = 0; made = w.made; to_come = ys }) most_pos (room_rest w.to_come ys x z r)) in
+          (λ x ys z. d.from (record { since = 0; made = w.made; to_come = ys }) most_pos (room_rest w.to_come ys x z r)) in
           record {
             fuel = x.fuel;
             reply = x.reply;
@@ -186,8 +196,13 @@ module _ {N M : Type 0} {names : Naming N M} {C : PlainCode} {P : PlainProgram} 
       step names C s ≡ Turns t → Does names C P b t (λ w. after (m w) K) → Does names C P (suc b) s (λ w. after (bind (turned_told w) (λ u v. m v)) K)
   does_turn {b} {s} {t} m K e d = record {
     from = λ w l r. (let x = ticks m K d w l r in
-        record { fuel = suc x.fuel; reply = x.reply; stands = ap (λ o. stood names (λ n m t ys. solo names C x.fuel n m t ys) w.since w.made o w.to_come) e ∙
-        x.stands; same = x.same });
+        record {
+          fuel = suc x.fuel;
+          reply = x.reply;
+          stands = ap (λ o. stood names (λ n m t ys. solo names C x.fuel n m t ys) w.since w.made o w.to_come) e ∙
+              x.stands;
+          same = x.same;
+        });
   }
 
   -- a new local region
@@ -197,13 +212,13 @@ module _ {N M : Type 0} {names : Naming N M} {C : PlainCode} {P : PlainProgram} 
   does_make {b} {s} {k} q K e d = record {
     from = λ w l r. (let x =
         ticks {b = b} {s = k (names.made w.made)} (λ v. q (names.made w.made) v) K (d (names.made w.made)) (record w { made = suc w.made }) l (omega arith) in
-      record {
-        fuel = suc x.fuel;
-        reply = x.reply;
-        stands = ap (λ o. stood names (λ n m t ys. solo names C x.fuel n m t ys) w.since w.made o w.to_come) e ∙ x.stands;
-        same = subst (λ y. SameReply C P y x.reply)
-            (sym (ap (λ o. after o K) (bind_assoc (turned_told (record w { made = suc w.made })) (λ u v. Done (names.made w.made) v) q))) x.same;
-      });
+        record {
+          fuel = suc x.fuel;
+          reply = x.reply;
+          stands = ap (λ o. stood names (λ n m t ys. solo names C x.fuel n m t ys) w.since w.made o w.to_come) e ∙ x.stands;
+          same = subst (λ y. SameReply C P y x.reply)
+              (sym (ap (λ o. after o K) (bind_assoc (turned_told (record w { made = suc w.made })) (λ u v. Done (names.made w.made) v) q))) x.same;
+        });
   }
 
   pub does_end : {b : ℕ} (e : Ending N) → Does names C P b (Off e) (λ w. ending e w.since w.to_come)
@@ -226,4 +241,4 @@ module _ {N M : Type 0} {names : Naming N M} {C : PlainCode} {P : PlainProgram} 
   does_begins n J D Y K begin join out (suc m) k e =
       does_same (λ w. ap (λ o. after o K) (sym (bind_assoc (asked (Begin k) w) (λ a v. begins_then (suc k) m told_join v) Y)))
       (does_act (Begin k) (Begin k) (λ a v. bind (begins_then (suc k) m told_join v) Y) K refl (begin k m e)
-          (λ x. does_begins n J D Y K begin join out m (suc k) (omega arith)))
+      (λ x. does_begins n J D Y K begin join out m (suc k) (omega arith)))

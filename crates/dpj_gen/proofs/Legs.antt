@@ -1,5 +1,5 @@
 -- The legs of compiled tasks.
-use Rattle.std.proofs.Common.{◌≡◌, ℕ, List, [], ◌∷◌, ◌++◌, reverse, subst}
+use Rattle.std.proofs.Common.{ℕ, List, [], ◌∷◌, reverse, subst}
 use Rattle.std.proofs.lemmas.List.{reverse-append}
 use Rattle.dpj_typed.specs.Plain.{PlainProgram}
 use Rattle.dpj_meaning.specs.Values.{Naming}

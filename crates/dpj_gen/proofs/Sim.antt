@@ -1,19 +1,19 @@
 -- From a state the machine does what a program does, and goes on as whatever follows from the states after it.
-use Rattle.std.proofs.Common.{◌≡◌, ℕ, zero, suc, ◌+◌, ◌≤◌, Bool, true, false, List, length, refl, sym, ap, ◌∙◌, subst, arith, Option, Some, None}
+use Rattle.std.proofs.Common.{◌≡◌, ℕ, zero, suc, ◌+◌, ◌≤◌, Bool, true, false, List, length, refl, sym, ap, ◌∙◌, subst, arith}
 use Rattle.dpj_base.specs.declared.place.Place.{Place}
 use Rattle.dpj_base.specs.declared.value.Trap.{Trap}
 use Rattle.dpj_typed.specs.declared.stmt.Forking.{Forking}
 use Rattle.dpj_typed.specs.Plain.{PlainProgram}
 use Rattle.dpj_meaning.specs.Values.{Value, Naming}
-use Rattle.dpj_meaning.specs.Actions.{Frame, Task, Trapped, Own, Action, Do, Fork, Begin, Join, Answer, Reply}
-use Rattle.dpj_meaning.specs.Core.{Result, Goes_on, Returns, Prog, Ret, Traps, Act, Makes, Again, Split, on, next_of, and_then, Out, Done, bind, loop, tested, rounded, run}
+use Rattle.dpj_meaning.specs.Actions.{Frame, Task, Trapped, Own, Do, Fork, Begin, Join, Answer, Reply}
+use Rattle.dpj_meaning.specs.Core.{Result, Goes_on, Returns, Prog, Ret, Traps, Act, Makes, Again, Split, next_of, and_then, Out, Done, bind, loop, tested, rounded, run}
 use Rattle.dpj_meaning.specs.Counts.{truth, Brought, brought}
-use Rattle.dpj_meaning.specs.Expressions.{none, gives}
-use Rattle.dpj_meaning.specs.Asking.{Told, asked, turned, begins_then, told_join, told_fork, told}
+use Rattle.dpj_meaning.specs.Expressions.{gives}
+use Rattle.dpj_meaning.specs.Asking.{Told, asked, turned, begins_then, told_join, told}
 use Rattle.dpj_code.specs.Plain.{PlainCode}
-use Rattle.dpj_code.specs.Machine.{Start, State, Off, Goes, Turns, Waits, or_trap, trapped, step}
+use Rattle.dpj_code.specs.Machine.{Start, State, Off, Goes, Turns, Waits, trapped, step}
 use Rattle.dpj_code.specs.Machine.{Stand as stand}
-use Rattle.dpj_gen.specs.Compiled.{SameAct, AllCompiled}
+use Rattle.dpj_gen.specs.Compiled.{AllCompiled}
 use Rattle.dpj_gen.proofs.Does.{after, room, after_assoc, bind_assoc, Replies, Does, does_same, does_less, does_on, does_step, does_act, does_turn, does_make, does_end, does_begins}
 
 -- a loop over what is told
@@ -99,18 +99,24 @@ module _ {N M : Type 0} {names : Naming N M} {C : PlainCode} {P : PlainProgram} 
         Does names C P (suc a) (T v g) (λ w. after (past_test names t b m (Goes_on v g) w) K)
     at_test a m K more h r v g l false e =
         does_same (λ w. ap (λ x. after
-            (elim x as (λ y. Out N M (Result N M) (Told N M)) [ false ↦ Done (Goes_on v g) w | true ↦ bind (turned w)
-            (λ u w'. bind (run (told names) (b g) w') (λ r w''. rounded (again names t b m) r w'')) ]) K) (sym e))
+        (elim x as (λ y. Out N M (Result N M) (Told N M)) [
+          | false ↦ Done (Goes_on v g) w
+          | true ↦ bind (turned w)
+              (λ u w'. bind (run (told names) (b g) w') (λ r w''. rounded (again names t b m) r w''))
+        ]) K) (sym e))
         (does_step (leave v g e) (h v g l))
     at_test a m K more h r v g l true e =
         does_same (λ w. ap (λ x. after
-            (elim x as (λ y. Out N M (Result N M) (Told N M)) [ false ↦ Done (Goes_on v g) w | true ↦ bind (turned w)
-            (λ u w'. bind (run (told names) (b g) w') (λ r w''. rounded (again names t b m) r w'')) ]) K) (sym e))
+        (elim x as (λ y. Out N M (Result N M) (Told N M)) [
+          | false ↦ Done (Goes_on v g) w
+          | true ↦ bind (turned w)
+              (λ u w'. bind (run (told names) (b g) w') (λ r w''. rounded (again names t b m) r w''))
+        ]) K) (sym e))
         (does_step (enter v g e)
         (does_turn (λ v. bind (run (told names) (b g) v) (λ r v. rounded (again names t b m) r v)) K (turn g)
-            (does_same (λ w. sym (after_assoc (run (told names) (b g) w) (λ r v. rounded (again names t b m) r v) K))
-            ((hb g l).does a (λ r v. after (rounded (again names t b m) r v) K) (λ v i y. does_step (back v i) (more i y))
-            (λ j. does_less (omega arith) (r j))))))
+        (does_same (λ w. sym (after_assoc (run (told names) (b g) w) (λ r v. rounded (again names t b m) r v) K))
+        ((hb g l).does a (λ r v. after (rounded (again names t b m) r v) K) (λ v i y. does_step (back v i) (more i y))
+        (λ j. does_less (omega arith) (r j))))))
 
     rounds : (a m : ℕ) → a ≤ m → (f : Frame N M) (K : Result N M → Told N M → Reply N M (Task N M)) → f.left ≡ d →
         ((v : Value N) (g : Frame N M) → g.left ≡ d → Does names C P a (B v g) (K (Goes_on v g))) → ((v : Value N) → Does names C P a (G v) (K (Returns v))) →
@@ -120,15 +126,15 @@ module _ {N M : Type 0} {names : Naming N M} {C : PlainCode} {P : PlainProgram} 
     rounds (suc a) (suc m) le f K l h r =
         does_same (λ w. sym (after_assoc (run (told names) (t f) w) (λ r v. past_test names t b m r v) K))
         ((ht f l).does (suc a) (λ r v. after (past_test names t b m r v) K)
-            (λ v g y. at_test a m K (λ i y. rounds a m (omega arith) i K y (λ u j z. does_less (omega arith) (h u j z)) (λ j. does_less (omega arith) (r j)))
-            h r v g y (truth v) refl) r)
+        (λ v g y. at_test a m K (λ i y. rounds a m (omega arith) i K y (λ u j z. does_less (omega arith) (h u j z)) (λ j. does_less (omega arith) (r j)))
+        h r v g y (truth v) refl) r)
 
     pub sim_loop : (f : Frame N M) → f.left ≡ d → Sim names C P d (H f) B G (Again t b f (λ r. Ret r))
     sim_loop f l = record {
       does = λ a K h r. record {
         from = λ w lo i.
             (let x = rounds (suc (room w)) (suc (room w)) (omega arith) f K l (λ v g y. does_less (omega arith) (h v g y))
-                (λ v. does_less (omega arith) (r v)) in
+            (λ v. does_less (omega arith) (r v)) in
             let y = x.from w lo (omega arith) in
             subst (λ z. Replies names C P w.since w.made (H f) w.to_come z) (sym (after_assoc (again names t b (suc (room w)) f w) (λ r v. Done r v) K)) y);
       };
@@ -146,6 +152,6 @@ module _ {N M : Type 0} {names : Naming N M} {C : PlainCode} {P : PlainProgram} 
         (let Y : Brought N → Told N M → Out N M (Result N M) (Told N M) = λ x v. run (told names) (k x) v in
         let begins = does_begins {b = b} n J D Y K begin join (λ x. (out x).does b K h r) n 0 (omega arith) in
         does_same (λ w. ap (λ o. after o K) (ap (λ i. bind (asked (Fork forking ts) w) (λ a v. bind (begins_then 0 i told_join v) Y)) (sym many) ∙
-            sym (bind_assoc (asked (Fork forking ts) w) (λ a v. begins_then 0 (length ts) told_join v) Y)))
+        sym (bind_assoc (asked (Fork forking ts) w) (λ a v. begins_then 0 (length ts) told_join v) Y)))
         (does_act (Fork forking ts) (Fork forking bs) (λ a v. bind (begins_then 0 n told_join v) Y) K (bs, refl, all) fork (λ x. begins)));
   }

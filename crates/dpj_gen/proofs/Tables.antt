@@ -5,15 +5,14 @@ use Rattle.std.proofs.lemmas.Option.{slice_get-map}
 use Rattle.std.proofs.lemmas.Bool.{eqb-true}
 use Rattle.std.proofs.Math.Path.{fun_ext}
 use Rattle.std.specs.Option.{option_map_or}
-use Rattle.dpj_base.specs.declared.region.Rpl.{Rpl}
 use Rattle.dpj_base.specs.Types.{PlainType}
 use Rattle.dpj_base.specs.Types.{PlainType as ty}
 use Rattle.dpj_typed.specs.Plain.{PlainProgram, PlainClass, PlainField, PlainParent}
 use Rattle.dpj_typed.specs.Scope as program
-use Rattle.dpj_meaning.specs.Values.{Value, Region}
+use Rattle.dpj_meaning.specs.Values.{Region}
 use Rattle.dpj_meaning.specs.Counts.{is_below, class_entered}
 use Rattle.dpj_meaning.specs.Expressions.{first_of, class_fields}
-use Rattle.dpj_code.specs.Plain.{PlainCode, ClassCode, parent_of, method_at, constructor_of, fields_of, class_at}
+use Rattle.dpj_code.specs.Plain.{PlainCode, parent_of, method_at, constructor_of, fields_of, class_at}
 use Rattle.dpj_code.specs.Machine.{first_value}
 use Rattle.dpj_gen.specs.Scheme.{first_constant, method_code, class_code}
 use Rattle.dpj_gen.specs.Resolved.{RowGives, Resolved}

@@ -1,16 +1,14 @@
 -- Code that is laid out by the scheme does what its program means, stands at one reply and is never stuck.
-use Rattle.std.proofs.Common.{◌≡◌, ◌⊎◌, inl, inr, ℕ, zero, suc, ◌+◌, ◌-◌, Bool, true, false, not, if◌then◌else◌, ◌==◌, List, [], ◌∷◌, length, reverse, refl, sym, ap, ◌∙◌, subst, arith, Option, Some, None}
-use Rattle.dpj_typed.specs.Plain.{PlainProgram, PlainMember, TypedStmts}
-use Rattle.dpj_typed.specs.Scope as program
-use Rattle.dpj_typed.specs.Statements.{all_complete}
+use Rattle.std.proofs.Common.{◌≡◌, inl, inr, ℕ, zero, suc, Bool, true, false, not, if◌then◌else◌, ◌==◌, List, [], ◌∷◌, reverse, refl, sym, ap, ◌∙◌, subst, arith, Option, Some, None}
+use Rattle.dpj_typed.specs.Plain.{PlainProgram}
 use Rattle.dpj_meaning.specs.Values.{Value, Naming}
-use Rattle.dpj_meaning.specs.Actions.{Frame, Task, Work, Ending, Returned, Assigned, Action, Do, Rest, Answer, Reply, Next, Over, Unknown}
-use Rattle.dpj_meaning.specs.Core.{Result, Goes_on, Returns, Out, Done, Stopped, Lost, run}
+use Rattle.dpj_meaning.specs.Actions.{Frame, Task, Work, Returned, Assigned, Action, Do, Rest, Answer, Reply, Next, Over, Unknown}
+use Rattle.dpj_meaning.specs.Core.{Result, Goes_on, Out, Done, Stopped, Lost}
 use Rattle.dpj_meaning.specs.Core.{Out as out}
 use Rattle.dpj_meaning.specs.Counts.{assigned}
 use Rattle.dpj_meaning.specs.Expressions.{Deeper, none}
 use Rattle.dpj_meaning.specs.Statements.{begun, of_stmts}
-use Rattle.dpj_meaning.specs.Asking.{meaning, most_turns, Told, told, ended, ending, replied, ask}
+use Rattle.dpj_meaning.specs.Asking.{meaning, most_turns, Told, ended, ending, replied, ask}
 use Rattle.dpj_code.specs.Plain.{PlainCode, body_at}
 use Rattle.dpj_code.specs.Machine.{State, Off, Start, Stand, Goes, Turns, Makes, Waits, Ends, Stuck, Solos, answered, turned, stood, step, solo, spot, begins_at, Solo}
 use Rattle.dpj_gen.specs.Scheme.{is_void, after_stmts}
@@ -39,10 +37,10 @@ module _ {N M : Type 0} (names : Naming N M) (C : PlainCode) (P : PlainProgram) 
       go true q h =
           sim_last (λ v g. right.at_line names C P body_of laid resolved (body_of n) _ fs [] g h.1 ∙ ap (λ z. Goes (gone (not z) none fs)) (sym q))
           (right_stmts names C P body_of laid resolved d (gives_value m) (body_of n) fs dp dh m.body (resolved.bodies n m im) 0 []
-              (laid.members n m im).stmts f l)
+          (laid.members n m im).stmts f l)
       go false q h =
           right_none names C P body_of laid resolved d (gives_value m) (body_of n) fs dp dh m.body (resolved.bodies n m im)
-              (resolved.ends n m im (ap not q)) 0 [] (laid.members n m im).stmts _ f l
+          (resolved.ends n m im (ap not q)) 0 [] (laid.members n m im).stmts _ f l
 
   right_meaning : (d : ℕ) → right.Right_body names C P body_of laid resolved d (meaning names P d)
   unfolding meaning
@@ -60,13 +58,13 @@ module _ {N M : Type 0} (names : Naming N M) (C : PlainCode) (P : PlainProgram) 
           Sim names C P d (spot j [] p [] g) (λ v h. Off (ended w (Goes_on v h))) (λ v. gone y v []) (of_stmts names P dp w.stmts g)
       last p q g m h true e (inl x) =
           sim_last (λ v g. right.at_line names C P body_of laid resolved j _ [] [] g x.1 ∙
-              ap (λ z. Goes (Off (if z then Returned none else Assigned (assigned w.copies g.values)))) (sym e))
+          ap (λ z. Goes (Off (if z then Returned none else Assigned (assigned w.copies g.values)))) (sym e))
           (right_stmts names C P body_of laid resolved d y j [] dp dh w.stmts ok p [] h g m)
       last p q g m h true e (inr x) = right_none names C P body_of laid resolved d y j [] dp dh w.stmts ok x p [] h _ g m
       last p q g m h false e x =
           sim_last (λ v g. right.at_line names C P body_of laid resolved j _ [] [] g x.stands ∙
-              (ap (λ z. Goes (Off (Assigned (assigned z g.values)))) x.gives ∙
-              ap (λ z. Goes (Off (if z then Returned none else Assigned (assigned w.copies g.values)))) (sym e)))
+          (ap (λ z. Goes (Off (Assigned (assigned z g.values)))) x.gives ∙
+          ap (λ z. Goes (Off (if z then Returned none else Assigned (assigned w.copies g.values)))) (sym e)))
           (right_stmts names C P body_of laid resolved d y j [] dp dh w.stmts ok p [] h g m)
 
       first : (takes : Option ℕ) → BeginsAt C (body_at C j).lines takes → StmtsAt C (body_at C j).lines (first_place takes) w.stmts →
@@ -87,7 +85,7 @@ module _ {N M : Type 0} (names : Naming N M) (C : PlainCode) (P : PlainProgram) 
       let w : Told N M = record { since = 0; made = 0; to_come = reverse got } in
       let s = right_task t.frame.left c.gives b.body t.work c.fits c.body t.frame refl in
       let d = s.does (suc (room w)) (λ r w. ending (ended t.work r) w.since w.to_come) (λ v g l. does_end (ended t.work (Goes_on v g)))
-          (λ v. back (suc (room w)) c.gives v) in
+      (λ v. back (suc (room w)) c.gives v) in
       let r = d.from w most_pos (omega arith) in
       record {
         reply = r.reply;

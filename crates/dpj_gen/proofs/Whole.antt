@@ -1,23 +1,22 @@
 -- The whole code is laid out by the scheme.
-use Rattle.std.proofs.Common.{◌≡◌, ◌<◌, ◌≤◌, ◌⊎◌, inl, inr, ℕ, zero, suc, ◌+◌, Bool, true, false, not, List, [], ◌∷◌, ◌++◌, length, map, refl, sym, ap, ◌∙◌, subst, arith, Option, Some, None, cond, slice_get, slice_index_or, length-append}
+use Rattle.std.proofs.Common.{◌≡◌, ◌≤◌, inl, inr, ℕ, zero, suc, ◌+◌, Bool, true, false, not, List, [], ◌∷◌, ◌++◌, length, map, refl, sym, ap, subst, arith, Option, Some, None, cond, slice_get, slice_index_or, length-append}
 use Rattle.dpj_base.specs.declared.place.Place.{Place}
-use Rattle.dpj_typed.specs.declared.stmt.Forking.{Forking}
 use Rattle.dpj_typed.specs.Plain.{TypedExpr, typed, type_of, TypedExprs, no_exprs, more_exprs, of_array, of_part, TypedStmt, statement, TypedStmts, no_stmts, more_stmts, TypedBranches, no_branches, more_branches, PlainMember, PlainProgram}
 use Rattle.dpj_typed.specs.Plain.{ExprForm as expr}
 use Rattle.dpj_typed.specs.Plain.{StmtForm as form}
 use Rattle.dpj_typed.specs.Scope.{member_at}
 use Rattle.dpj_code.specs.declared.instr.Instr.{Instr}
 use Rattle.dpj_code.specs.declared.instr.Instr.TheVariants as i
-use Rattle.dpj_code.specs.Plain.{Line, Title, of_member, of_branch, Site, PlainBody, body_or_none, PlainCode, body_at}
+use Rattle.dpj_code.specs.Plain.{Line, Title, Site, PlainBody, body_or_none, PlainCode, body_at}
 use Rattle.dpj_gen.specs.Pieces.{Branch, Piece, Next, past, nothing, line, with_site, with_text, with_branches, beside}
-use Rattle.dpj_gen.specs.Scheme.{is_void, after_expr, after_exprs, after_stmt, after_stmts, after_regions, expr_piece, exprs_piece, stmt_piece, stmts_piece, regions_piece, branches_of, class_code}
-use Rattle.dpj_gen.specs.Stands.{LineAt, StmtAt, StmtsAt, MemberEnds, MemberIs, EndsAt, BodyIs, LaidOut, first_place}
+use Rattle.dpj_gen.specs.Scheme.{is_void, after_expr, after_stmt, after_stmts, expr_piece, exprs_piece, stmt_piece, stmts_piece, regions_piece, branches_of, class_code}
+use Rattle.dpj_gen.specs.Stands.{LineAt, StmtAt, StmtsAt, MemberEnds, MemberIs, EndsAt, BodyIs, LaidOut}
 use Rattle.dpj_gen.specs.Resolved.{gives_value, Resolved}
 use Rattle.dpj_gen.specs.Compiled.{Compiled}
 use Rattle.dpj_gen.specs.Laws.{work_of}
 use Rattle.dpj_meaning.specs.Actions.{Frame}
-use Rattle.dpj_gen.specs.Whole.{weight, weight_all, weight_branches, no_place, place_of, branch_piece_of, branch_piece, closing, member_piece, body_of, Output, no_output, followed_by, then_output, generate, in_member, member_output, past_output, members_output, member_numbers, first, number_in, compiled}
-use Rattle.dpj_gen.proofs.Pieces.{Holds, split, all_of, Far, far, next, stop, BranchStands, Queued, queued, Laid, cut, here}
+use Rattle.dpj_gen.specs.Whole.{weight, weight_all, weight_branches, no_place, place_of, branch_piece_of, branch_piece, closing, member_piece, body_of, Output, generate, in_member, member_output, past_output, members_output, member_numbers, first, number_in, compiled}
+use Rattle.dpj_gen.proofs.Pieces.{Holds, split, all_of, BranchStands, Queued, queued, Laid, cut, here}
 use Rattle.dpj_gen.proofs.Placed.{stmt_far, stmts_far, stmt_at, stmts_at}
 
 -- how many bodies a queue leads to
@@ -131,7 +130,6 @@ mutual
   stmts_needs k p no_stmts = stop_here
   stmts_needs k p (more_stmts s ss) = both (stmt_needs k p s) (stmts_needs _ _ ss) refl
 
-
 pub branch_needs : (k : Next) (at : Place) (s : TypedStmt) (takes : Option ℕ) → Needs (branch_piece_of k at s takes) (weight s)
 branch_needs k at s None = both (stmt_needs k 0 s) (skip _ _ stop_here) (omega arith)
 branch_needs k at s (Some x) = skip _ _ (both (stmt_needs k 1 s) (skip _ _ stop_here) (omega arith))
@@ -191,9 +189,10 @@ module _ (C : PlainCode) where
       let t = split C.texts a.texts rest.texts k.text h.texts in
       let r = generated n (suc j) m (past k a) (todo ++ a.branches) (omega arith) (omega arith) (record { bodies = h.bodies.1; sites = s.1; texts = t.1 }) in
       let q = queued C todo a.branches (suc j) r in
-      let own : Queued C k.body a.branches = subst (λ z. Queued C z a.branches) (omega arith) q.1 in
-      (branch_stands j k m b.title b.stmt b.takes (place_of b.stmt) h.bodies.0 (record { lines = all_of a.lines; sites = s.0; texts = t.0; branches = own }),
-          q.0)
+      let own : Queued C k.body a.branches = subst (λ z. Queued C z a.branches) (omega arith) q.1 in (
+        branch_stands j k m b.title b.stmt b.takes (place_of b.stmt) h.bodies.0 (record { lines = all_of a.lines; sites = s.0; texts = t.0; branches = own }),
+        q.0,
+      )
 
   -- a member and its branches
   pub member_queued : (k : Next) (m : PlainMember) → OutputAt k k.body (member_output k m) →
@@ -275,5 +274,10 @@ root_is P resolved n m e b is = record { begins = tt; stmts = is.stmts; ends = g
 
 pub members_are_compiled : {N M : Type 0} (P : PlainProgram) → Resolved P → (n : ℕ) (m : PlainMember) → member_at P n ≡ Some m → (f : Frame N M) →
     Compiled (compiled P) P (record { body = number_in P n; frame = f }) (record { work = work_of m; frame = f })
-members_are_compiled P resolved n m e f = record { body = root_is P resolved n m e _ (members_at P n m e); frame = refl; gives = gives_value m; fits =
-    resolved.bodies n m e }
+members_are_compiled P resolved n m e f = record {
+  body = root_is P resolved n m e _ (members_at P n m e);
+  frame = refl;
+  gives = gives_value m;
+  fits =
+      resolved.bodies n m e;
+}

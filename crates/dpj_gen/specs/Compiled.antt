@@ -1,5 +1,5 @@
 -- When a start in a code is that of a task, and what it means that the code does what the task's meaning says.
-use Rattle.std.specs.Prelude.{◌≡◌, ℕ, Bool, List, [], ◌∷◌}
+use Rattle.std.specs.Prelude.{◌≡◌, Bool, List, [], ◌∷◌}
 use Rattle.dpj_typed.specs.Plain.{PlainProgram}
 use Rattle.dpj_meaning.specs.Values.{Naming}
 use Rattle.dpj_meaning.specs.Actions.{Task, Action, Do, Fork, Begin, Join, End, Answer, Reply, Next, Over, Unknown}

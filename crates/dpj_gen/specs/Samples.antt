@@ -1,5 +1,5 @@
 -- The code of small programs of one method, as a person writes it.
-use Rattle.std.specs.Prelude.{◌≡◌, ℕ, pos, List, [], ◌∷◌, map}
+use Rattle.std.specs.Prelude.{◌≡◌, pos, List, [], ◌∷◌, map}
 use Rattle.dpj_typed.specs.declared.stmt.Forking.TheVariants.{Deterministic}
 use Rattle.dpj_typed.specs.Plain.{TypedStmts}
 use Rattle.dpj_typed.specs.Samples.{program_of}

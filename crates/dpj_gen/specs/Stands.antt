@@ -108,10 +108,10 @@ module _ (C : PlainCode) where
     StmtAt c p (statement at (form.store_field o d f e)) = ExprAt c p o × ExprAt c (after_expr p o) e × LineAt c (after_expr (after_expr p o) e) (i.Put f) at
     StmtAt c p (statement at (form.store_element a j e)) =
         ExprAt c p a × ExprAt c (after_expr p a) j × ExprAt c (after_expr (after_expr p a) j) e × LineAt c
-            (after_expr (after_expr (after_expr p a) j) e) i.PutElem at
+        (after_expr (after_expr (after_expr p a) j) e) i.PutElem at
     StmtAt c p (statement at (form.store_part x j e)) =
         ExprAt c p j × ExprAt c (after_expr p j) e × LineAt c (after_expr (after_expr p j) e) (i.InParts x) at × LineAt c
-            (suc (after_expr (after_expr p j) e)) i.PutElem at
+        (suc (after_expr (after_expr p j) e)) i.PutElem at
     StmtAt c p (statement at (form.perform e)) = ExprAt c p e × PoppedAt c (after_expr p e) (is_void (type_of e)) at
     StmtAt c p (statement at (form.block ss)) = StmtsAt c p ss
     StmtAt c p (statement at (form.choice e s)) =
