@@ -4,3 +4,5 @@ pub mod Stands
 pub mod Resolved
 pub mod Compiled
 pub mod Whole
+pub mod Laws
+pub mod Samples

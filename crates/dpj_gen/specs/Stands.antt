@@ -94,7 +94,8 @@ module _ (C : PlainCode) where
 
   -- the count is kept, and the array's length
   abbrev pub ArrayAt : List Line → ℕ → Place → ℕ → Type 0
-  ArrayAt c p at x = LineAt c p (i.Store (x + 3)) at × LineAt c (suc p) (i.Load x) at × LineAt c (suc (suc p)) i.Length at × LineAt c (suc (suc (suc p))) (i.Store (x + 2)) at
+  ArrayAt c p at x = LineAt c p (i.Store (x + 3)) at × LineAt c (suc p) (i.Load x) at × LineAt c (suc (suc p)) i.Length at × LineAt c (suc (suc (suc p)))
+      (i.Store (x + 2)) at
 
   -- a branch for each part
   abbrev pub PartsAt : List Line → ℕ → Place → ℕ → ℕ → Type 0
@@ -106,9 +107,11 @@ module _ (C : PlainCode) where
     StmtAt c p (statement at (form.store x e)) = ExprAt c p e × LineAt c (after_expr p e) (i.Store x) at
     StmtAt c p (statement at (form.store_field o d f e)) = ExprAt c p o × ExprAt c (after_expr p o) e × LineAt c (after_expr (after_expr p o) e) (i.Put f) at
     StmtAt c p (statement at (form.store_element a j e)) =
-        ExprAt c p a × ExprAt c (after_expr p a) j × ExprAt c (after_expr (after_expr p a) j) e × LineAt c (after_expr (after_expr (after_expr p a) j) e) i.PutElem at
+        ExprAt c p a × ExprAt c (after_expr p a) j × ExprAt c (after_expr (after_expr p a) j) e × LineAt c
+        (after_expr (after_expr (after_expr p a) j) e) i.PutElem at
     StmtAt c p (statement at (form.store_part x j e)) =
-        ExprAt c p j × ExprAt c (after_expr p j) e × LineAt c (after_expr (after_expr p j) e) (i.InParts x) at × LineAt c (suc (after_expr (after_expr p j) e)) i.PutElem at
+        ExprAt c p j × ExprAt c (after_expr p j) e × LineAt c (after_expr (after_expr p j) e) (i.InParts x) at × LineAt c
+        (suc (after_expr (after_expr p j) e)) i.PutElem at
     StmtAt c p (statement at (form.perform e)) = ExprAt c p e × PoppedAt c (after_expr p e) (is_void (type_of e)) at
     StmtAt c p (statement at (form.block ss)) = StmtsAt c p ss
     StmtAt c p (statement at (form.choice e s)) =
