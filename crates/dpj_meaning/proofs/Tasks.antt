@@ -9,7 +9,7 @@ use Rattle.dpj_meaning.specs.Actions.{Reply, Next, Over, Unknown}
 use Rattle.dpj_meaning.specs.Core.{Result, Out, Done, Trapped, Stopped, Lost, run}
 use Rattle.dpj_meaning.specs.Asking.{most_turns, Told, told, ended, ending, replied, meaning, ask}
 use Rattle.dpj_meaning.specs.Statements.{begun}
-use Rattle.dpj_meaning.specs.Tasks.{Replies, Asks, Disciplined, AfterFork, Lively, Paced, IsDisciplined, IsLively, IsPaced}
+use Rattle.dpj_meaning.specs.Tasks.{Replies, Asks, Disciplined, AfterFork, Lively, InTurn, Paced, IsDisciplined, IsLively, IsInTurn, IsPaced}
 use Rattle.dpj_meaning.proofs.Turns.{most_pos}
 use Rattle.dpj_meaning.proofs.Entries.{steady_meaning}
 use Rattle.dpj_meaning.proofs.Modes.{Mode, Free, Forked, Rested, Ended, behind, May, Goes, Good, good_end, good_same, finish, all_fine}
@@ -223,6 +223,10 @@ module _ {N M : Type 0} where
       goes_on = λ got a c e o.
           ended_by (mode m got) e.0 c (over_ended _ (subst (λ r. May (behind (mode m got) (Next e.0 c)) r) o (then_may got a (Next e.0 c) e.1)));
       joins_forked = λ got e. (let j = join_mode (mode m got) e.0 (asked_at got (Next e.0 Join) e.1) in (j.0, after_fork got j.0 (length j.0.tasks) j.1));
+    }
+
+    pub in_turn : InTurn m
+    in_turn = record {
       begins_forked = λ got b e. (let j = begin_mode (mode m got) e.0 b (asked_at got (Next e.0 (Begin b)) e.1) in (j.0, j.1, after_fork got j.0 b j.2));
     }
 
@@ -269,6 +273,9 @@ module _ {N M : Type 0} where
 
   pub asks_lively : IsLively N M
   asks_lively names P t = lively (ask names P t) (ask_keeps names P t)
+
+  pub asks_in_turn : IsInTurn N M
+  asks_in_turn names P t = in_turn (ask names P t) (ask_keeps names P t)
 
   pub asks_paced : IsPaced N M
   asks_paced names P t = paced (ask names P t) (ask_keeps names P t)

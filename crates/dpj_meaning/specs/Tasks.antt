@@ -31,13 +31,15 @@ pub record AfterFork {N M : Type 0} (m : Replies N M) (got : List (Answer N M)) 
   pub number : length since ≡ many
   pub forks : Asks m earlier (Fork ts)
 
--- it is known what comes next, and something does until the task has ended; it joins only after a fork and its begins, and
--- begins a branch only after the fork, in turn
+-- it is known what comes next, and something does until the task has ended; and it joins only after a fork and its begins
 pub record Lively {N M : Type 0} (m : Replies N M) : Type 0 where
   pub known : (got : List (Answer N M)) → m got ≡ Unknown → ⊥
   pub starts : m [] ≡ Over → ⊥
   pub goes_on : (got : List (Answer N M)) (a : Answer N M) (c : Action N M (Task N M)) → Asks m got c → m (a ∷ got) ≡ Over → (x : Ending N) × (c ≡ End x)
   pub joins_forked : (got : List (Answer N M)) → Asks m got Join → (ts : Branches (Task N M)) × AfterFork m got ts (length ts.tasks)
+
+-- it begins a branch only after the fork, in turn
+pub record InTurn {N M : Type 0} (m : Replies N M) : Type 0 where
   pub begins_forked : (got : List (Answer N M)) (b : ℕ) → Asks m got (Begin b) → (ts : Branches (Task N M)) × (b < length ts.tasks) × AfterFork m got ts b
 
 -- a rest that no turns stand before stands in front of an entry, which no turns stand before either; and no more turns than
@@ -53,6 +55,9 @@ IsDisciplined N M = (names : Naming N M) (P : PlainProgram) (t : Task N M) → D
 
 abbrev pub IsLively : Type 0 → Type 0 → Type 0
 IsLively N M = (names : Naming N M) (P : PlainProgram) (t : Task N M) → Lively (ask names P t)
+
+abbrev pub IsInTurn : Type 0 → Type 0 → Type 0
+IsInTurn N M = (names : Naming N M) (P : PlainProgram) (t : Task N M) → InTurn (ask names P t)
 
 abbrev pub IsPaced : Type 0 → Type 0 → Type 0
 IsPaced N M = (names : Naming N M) (P : PlainProgram) (t : Task N M) → Paced (ask names P t)
