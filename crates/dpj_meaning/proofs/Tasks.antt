@@ -1,10 +1,10 @@
 -- What each task keeps to, from what may come next after what came before.
 use Rattle.std.proofs.Common.{◌≡◌, ℕ, zero, suc, ◌+◌, ◌*◌, ◌<◌, ◌≤◌, ◌⊎◌, inl, inr, List, [], ◌∷◌, ◌++◌, length, reverse, refl, sym, ap, ◌∙◌, subst, arith}
 use Rattle.std.proofs.lemmas.List.{reverse-append}
-use Rattle.dpj_typed.specs.declared.stmt.Forking.{Forking}
 use Rattle.dpj_typed.specs.Plain.{PlainProgram}
 use Rattle.dpj_meaning.specs.Values.{Naming}
-use Rattle.dpj_meaning.specs.Actions.{Work, Task, Branches, Own, Rest, Read, Write, Look, New, Print, Enter, Exit, Action, Do, Fork, Begin, Join, End, Ending, Answer}
+use Rattle.dpj_meaning.specs.Actions.{Work, Task, Branches, Own, Rest, Read, Write, Look, New, Print, Enter, Exit, Action, Do, Fork, Begin, Join, End, Ending}
+use Rattle.dpj_meaning.specs.Actions.{Answer}
 use Rattle.dpj_meaning.specs.Actions.{Reply, Next, Over, Unknown}
 use Rattle.dpj_meaning.specs.Core.{Result, Out, Done, Trapped, Stopped, Lost, run}
 use Rattle.dpj_meaning.specs.Asking.{most_turns, Told, told, ended, ending, replied, meaning, ask}

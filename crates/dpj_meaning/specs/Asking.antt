@@ -3,7 +3,8 @@ use Rattle.std.specs.Prelude.{ℕ, zero, suc, ◌+◌, ◌-◌, ◌*◌, ◌==�
 use Rattle.dpj_typed.specs.declared.stmt.Forking.{Forking}
 use Rattle.dpj_typed.specs.Plain.{PlainProgram, TypedStmts}
 use Rattle.dpj_meaning.specs.Values.{Naming}
-use Rattle.dpj_meaning.specs.Actions.{Frame, Work, Task, Ending, Returned, Assigned, Trapped, Rest, Action, Do, Fork, Begin, Join, End, Answer, Reply, Next, Over, Unknown}
+use Rattle.dpj_meaning.specs.Actions.{Frame, Work, Task, Ending, Returned, Assigned, Trapped, Rest, Action, Do, Fork, Begin, Join, End, Answer, Reply, Next}
+use Rattle.dpj_meaning.specs.Actions.{Over, Unknown}
 use Rattle.dpj_meaning.specs.Core.{Result, Goes_on, Returns, Prog, Out, Done, Stopped, Lost, bind, World, run}
 use Rattle.dpj_meaning.specs.Core.{Out as out}
 use Rattle.dpj_meaning.specs.Counts.{Brought, brought, assigned}
@@ -79,7 +80,11 @@ replied k (out.Trapped trap p w) = ending (Trapped trap p) w.since w.to_come
 replied k (Stopped n a) = Next n a
 replied k (Lost w) = Unknown
 
+-- what a task is to do
+abbrev pub does : {N M : Type 0} → Naming N M → PlainProgram → Task N M → Prog N M
+does names P t = meaning names P t.frame.left t.work.stmts (begun t.work.takes t.frame)
+
 -- what a task does next after these answers, of which the latest stands first
 unfoldable pub ask : {N M : Type 0} → Naming N M → PlainProgram → Task N M → List (Answer N M) → Reply N M (Task N M)
 ask names P t got =
-    replied t.work (run (told names) (meaning names P t.frame.left t.work.stmts (begun t.work.takes t.frame)) (record { since = 0; made = 0; to_come = reverse got }))
+    replied t.work (run (told names) (does names P t) (record { since = 0; made = 0; to_come = reverse got }))

@@ -1,6 +1,7 @@
 -- What a value or an answer counts as, where an operation asks for one of another kind. No run of a well-typed program
 -- meets such a one. The code's instructions count by the same functions.
-use Rattle.std.specs.Prelude.{ℕ, ℤ, pos, negsuc, ◌+ℤ◌, zero, suc, ◌+◌, ◌-◌, ◌*◌, ◌/◌, int_lt, int_rem, slice_index_or, ◌||◌, ◌&&◌, Bool, true, false, ◌==◌, cond, not, List, [], ◌∷◌, ◌++◌, Option, Some, None, slice_set, codes}
+use Rattle.std.specs.Prelude.{ℕ, ℤ, pos, negsuc, ◌+ℤ◌, zero, suc, ◌+◌, ◌-◌, ◌*◌, ◌/◌, int_lt, int_rem, slice_index_or, ◌||◌, ◌&&◌, Bool, true, false, ◌==◌}
+use Rattle.std.specs.Prelude.{cond, not, List, [], ◌∷◌, ◌++◌, Option, Some, None, slice_set, codes}
 use Rattle.std.specs.Fmt.{signed_decimal}
 use Rattle.std.specs.Ordering.{int_eq}
 use Rattle.std.specs.Int.{w32, int_wrapping_add, int_wrapping_sub, int_wrapping_mul, int_wrapping_div, int_wrapping_neg}

@@ -8,7 +8,7 @@ use Rattle.dpj_typed.specs.Scope.{member_at}
 use Rattle.dpj_meaning.specs.Values.{Value, Int, Object, Thing, An_object, An_array, Naming}
 use Rattle.dpj_meaning.specs.Actions.{Work, Task, Ending, Returned, Assigned, Trapped, Own, Rest, Read, Write, Look, New, Print, Enter, Exit}
 use Rattle.dpj_meaning.specs.Actions.{Answer, Went, Got, Out, Class, Length, Named}
-use Rattle.dpj_meaning.specs.Asking.{meaning, ended}
+use Rattle.dpj_meaning.specs.Asking.{ended, does}
 use Rattle.dpj_meaning.specs.Core.{Result, Done, Stopped, Lost, bind, World, run}
 use Rattle.dpj_meaning.specs.Core.{Out as out}
 use Rattle.dpj_meaning.specs.Costs.{size, own_steps, own_cells}
@@ -218,7 +218,7 @@ at_start P n = record {
 -- how the elision ends in at most so many turns, and what it leaves
 unfoldable pub ran_through : PlainProgram → ℤ → ℕ → out ℕ LocalRegion (Ending ℕ) Store
 ran_through P arg n = (let t : Task ℕ LocalRegion = root_task in_order P 0 arg in
-    at_end t.work (run sequential (meaning in_order P t.frame.left t.work.stmts t.frame) (at_start P n)))
+    at_end t.work (run sequential (does in_order P t) (at_start P n)))
 
 pub record Limits : Type 0 where
   pub steps : ℕ

@@ -14,7 +14,8 @@ use Rattle.dpj_typed.specs.Scope.{class_at, member_at, row_at, constructor_of, p
 use Rattle.dpj_meaning.specs.Values.{Value, Int, Boolean, Null, Object, Region, Thing, An_object, An_array, Naming}
 use Rattle.dpj_meaning.specs.Actions.{Frame, Read, Look, New}
 use Rattle.dpj_meaning.specs.Core.{Result, Goes_on, Returns, Prog, Ret, Traps, Act, on, and_then}
-use Rattle.dpj_meaning.specs.Counts.{number, truth, reference, value_read, length_seen, name_made, class_seen, class_entered, operated, unary, slot_value, padded, part_place}
+use Rattle.dpj_meaning.specs.Counts.{number, truth, reference, value_read, length_seen, name_made, class_seen, class_entered, operated, unary, slot_value}
+use Rattle.dpj_meaning.specs.Counts.{padded, part_place}
 use Rattle.dpj_meaning.specs.Regions.{around, unmade_from, concrete, is_long, some_long, regions_above}
 
 -- what statements do one call deeper
@@ -72,7 +73,8 @@ enter names P dp seen r vs own f =
     ]
 
 -- a call of what isn't null: the region arguments, then how deep it is, then a look at the object, and the entry
-abbrev pub called : {N M : Type 0} → Naming N M → PlainProgram → Option (Deeper N M) → Place → ℕ → ℕ → List (Region M) → N → List (Value N) → Frame N M → Prog N M
+abbrev pub called : {N M : Type 0} → Naming N M → PlainProgram → Option (Deeper N M) → Place → ℕ → ℕ → List (Region M) → N → List (Value N) → Frame N M
+    → Prog N M
 called names P None at c r own n vs f = Traps trap.Stack at
 called names P (Some dp) at c r own n vs f =
     cond (some_long own) (Traps trap.Stack at)
@@ -103,7 +105,8 @@ created names P dp at c regions vs f =
 abbrev pub made_array : {N M : Type 0} → Naming N M → Place → PlainType → ℤ → Frame N M → Prog N M
 made_array names at (ty.array t a named) (negsuc k) f = Traps trap.Size at
 made_array names at (ty.array t a named) (pos k) f =
-    cond (is_long (concrete names (around f) a)) (Traps trap.Stack at) (Act (New (An_array (concrete names (around f) a) k (first_of t)) false) (λ x. gives (name_made x) f))
+    cond (is_long (concrete names (around f) a)) (Traps trap.Stack at)
+        (Act (New (An_array (concrete names (around f) a) k (first_of t)) false) (λ x. gives (name_made x) f))
 made_array names at t k f = gives none f
 
 -- the class and the region arguments of a created object

@@ -4,12 +4,14 @@ use Rattle.dpj_base.specs.declared.place.Place.{Place}
 use Rattle.dpj_base.specs.declared.value.Trap.TheVariants as trap
 use Rattle.dpj_typed.specs.declared.stmt.Forking.{Forking}
 use Rattle.dpj_typed.specs.declared.stmt.Forking.TheVariants.{Deterministic}
-use Rattle.dpj_typed.specs.Plain.{PlainProgram, of_array, of_part, TypedStmt, statement, TypedStmts, no_stmts, more_stmts, TypedBranches, no_branches, more_branches}
+use Rattle.dpj_typed.specs.Plain.{PlainProgram, of_array, of_part, TypedStmt, statement, TypedStmts, no_stmts, more_stmts, TypedBranches, no_branches}
+use Rattle.dpj_typed.specs.Plain.{more_branches}
 use Rattle.dpj_typed.specs.Plain.{StmtForm as form}
 use Rattle.dpj_meaning.specs.Values.{Value, Int, Naming}
 use Rattle.dpj_meaning.specs.Actions.{Frame, Task, Rest, Write, Look, Print, Enter, Exit}
 use Rattle.dpj_meaning.specs.Core.{Returns, Prog, Ret, Traps, Act, Makes, Again, Split, and_then}
-use Rattle.dpj_meaning.specs.Counts.{number, truth, is_out, length_seen, Brought, Back, Trap_of_branch, copied, text_of, line, slot_value, part_taken, numbered, how_many}
+use Rattle.dpj_meaning.specs.Counts.{number, truth, is_out, length_seen, Brought, Back, Trap_of_branch, copied, text_of, line, slot_value, part_taken}
+use Rattle.dpj_meaning.specs.Counts.{numbered, how_many}
 use Rattle.dpj_meaning.specs.Regions.{around, concrete_effect}
 use Rattle.dpj_meaning.specs.Expressions.{Deeper, gives, none, unless_null, part_element, of_expr}
 
@@ -117,14 +119,16 @@ abbrev mutual
   of_stmt names P dp (statement at (form.local_regions rs)) f = makes rs f
   -- in front of an entry the task rests
   of_stmt names P dp (statement at (form.atomic effects ss)) f =
-      Act Rest (λ a. Act (Enter (map (concrete_effect names (around f)) effects)) (λ b. and_then (of_stmts names P dp ss f) (λ v g. Act Exit (λ c. gives none g))))
+      Act Rest (λ a. Act (Enter (map (concrete_effect names (around f)) effects))
+          (λ b. and_then (of_stmts names P dp ss f) (λ v g. Act Exit (λ c. gives none g))))
   of_stmt names P None (statement at (form.cobegin forking bs)) f = Traps trap.Stack at
   of_stmt names P (Some dp) (statement at (form.cobegin forking bs)) f =
       Split forking (tasks_of bs f) (λ i. dp (branch_at bs i) (record f { left = f.left - 1 })) (joined (all_copies bs) f)
   of_stmt names P dp (statement at (form.foreach forking x start count s)) f =
       and_then (of_expr names P dp start f) (λ v g. and_then (of_expr names P dp count g) (λ u h. forks dp at forking None x s (number v) (number u) h))
   of_stmt names P dp (statement at (form.foreach_parts k (of_array a) count s)) f =
-      and_then (of_expr names P dp a f) (λ v g. and_then (of_expr names P dp count (part_begun k v g)) (λ u h. parts_of_array dp at k s (with_value h (k + 3) u)))
+      and_then (of_expr names P dp a f)
+          (λ v g. and_then (of_expr names P dp count (part_begun k v g)) (λ u h. parts_of_array dp at k s (with_value h (k + 3) u)))
   of_stmt names P dp (statement at (form.foreach_parts k (of_part j) count s)) f =
       and_then (of_expr names P dp count (part_taken_over k j f)) (λ u g. (let h = with_value g (k + 3) u in
       parts dp at k s (with_value h (k + 2) (slot_value h.values (j + 2)))))

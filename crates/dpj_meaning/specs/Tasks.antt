@@ -2,7 +2,8 @@
 use Rattle.std.specs.Prelude.{ℕ, suc, ◌≡◌, ◌<◌, ◌≤◌, List, [], ◌∷◌, ◌++◌, length}
 use Rattle.dpj_typed.specs.Plain.{PlainProgram}
 use Rattle.dpj_meaning.specs.Values.{Naming}
-use Rattle.dpj_meaning.specs.Actions.{Frame, Task, Branches, Effect, Ending, Rest, Enter, Action, Do, Fork, Begin, Join, End, Answer, Reply, Next, Over, Unknown}
+use Rattle.dpj_meaning.specs.Actions.{Frame, Task, Branches, Effect, Ending, Rest, Enter, Action, Do, Fork, Begin, Join, End, Answer, Reply, Next, Over}
+use Rattle.dpj_meaning.specs.Actions.{Unknown}
 use Rattle.dpj_meaning.specs.Core.{Result, Prog, Ret, Again, Out, bind, tested, run}
 use Rattle.dpj_meaning.specs.Asking.{most_turns, Told, turned, told, ask}
 

@@ -2,7 +2,8 @@
 -- objects and local regions are named by their makers.
 use Rattle.std.specs.Prelude.{ℕ, ◌≡◌, Bool, true, false, List}
 use Rattle.dpj_typed.specs.declared.stmt.Forking.{Forking}
-use Rattle.dpj_meaning.specs.Actions.{Task as TaskOf, Branches as BranchesOf, Ending as EndingOf, Own as OwnOf, Action as ActionOf, Answer as AnswerOf, Reply as ReplyOf}
+use Rattle.dpj_meaning.specs.Actions.{Task as TaskOf, Branches as BranchesOf, Ending as EndingOf, Own as OwnOf, Action as ActionOf, Answer as AnswerOf}
+use Rattle.dpj_meaning.specs.Actions.{Reply as ReplyOf}
 use Rattle.dpj_runs.specs.Objects.{Path, Name, LocalRegion, Effect, Thing}
 pub use Rattle.dpj_typed.specs.declared.stmt.Forking.TheVariants.{Deterministic, Nondeterministic}
 pub use Rattle.dpj_meaning.specs.Actions.{Rest, Read, Write, Look, New, Print, Enter, Exit, Do, Fork, Begin, Join, End, Returned, Assigned, Trapped}

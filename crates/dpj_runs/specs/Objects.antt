@@ -1,6 +1,6 @@
 -- What a run speaks of: tasks by their paths, objects and local regions by their makers; and with these names the values, regions
 -- and things of the meaning.
-use Rattle.std.specs.Prelude.{ℕ, ℤ, pos, negsuc, Bool, true, false, ◌&&◌, ◌==◌, if◌then◌else◌, nat_lt, List, [], ◌∷◌, length, Option, Some, None, slice_get}
+use Rattle.std.specs.Prelude.{ℕ, ℤ, pos, negsuc, Bool, true, false, ◌&&◌, ◌==◌, if◌then◌else◌, nat_lt, List, [], ◌∷◌, Option, Some, None, slice_get}
 use Rattle.dpj_meaning.specs.Actions.{Effect as EffectOf}
 use Rattle.dpj_meaning.specs.Values.{Value as ValueOf, Part as PartOf, Region as RegionOf, Thing as ThingOf}
 pub use Rattle.dpj_meaning.specs.Values.{Int, Boolean, Null, Object, Region_name, Number, Local, Own_index, Any_index, Any_parts, An_object, An_array}

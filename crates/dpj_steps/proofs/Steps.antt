@@ -1,13 +1,13 @@
 -- What a typed program keeps to, task by task; so the laws of runs hold of it.
-use Rattle.std.proofs.Common.{ℕ, ℤ, ◌≡◌, List, []}
+use Rattle.std.proofs.Common.{ℕ, ℤ, List}
 use Rattle.dpj_typed.specs.Plain.{PlainProgram}
 use Rattle.dpj_meaning.proofs.Tasks.{asks_disciplined, asks_lively, asks_in_turn, asks_paced}
-use Rattle.dpj_runs.specs.Actions.{Branches, Answer, Task, Asks}
+use Rattle.dpj_runs.specs.Actions.{Branches, Answer, Task}
 use Rattle.dpj_runs.specs.Meaning.{AfterFork}
 use Rattle.dpj_meaning.specs.Asking.{ask}
 use Rattle.dpj_meaning.specs.Tasks.{AfterFork as TaskAfterFork}
 use Rattle.dpj_runs.specs.Objects.{Path}
-use Rattle.dpj_steps.specs.Laws.{Keeps, EachKeeps}
+use Rattle.dpj_steps.specs.Laws.{EachKeeps}
 use Rattle.dpj_steps.specs.Steps.{named_by, steps_of}
 
 after_fork : (P : PlainProgram) (arg : ℤ) (p : Path) (t : Task) (got : List Answer) (ts : Branches) (n : ℕ) → TaskAfterFork (ask (named_by p) P t) got ts n
