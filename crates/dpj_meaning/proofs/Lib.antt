@@ -1,3 +1,4 @@
+mod Coherent
 mod Entries
 mod Modes
 mod Samples

@@ -270,9 +270,15 @@ module _ {N M : Type 0} where
     all_fine (Split forking ts bs k) s = record {
       good = λ n K h.
           good_same (λ w l. ap (λ o. finish o K)
-          (sym (bind_bind (asked (Fork (record { kind =
-              forking; tasks = ts })) w) (λ a v. begins_then 0 (length ts) told_join v) (λ x v. run (told names) (k x) v))))
-          (good_act Free (Fork (record { kind =
-              forking; tasks = ts })) (λ a v. bind (begins_then 0 (length ts) told_join v) (λ x v. run (told names) (k x) v)) K (λ t l f. l)
+          (sym (bind_bind (asked (Fork (record {
+            kind =
+                forking;
+            tasks = ts;
+          })) w) (λ a v. begins_then 0 (length ts) told_join v) (λ x v. run (told names) (k x) v))))
+          (good_act Free (Fork (record {
+            kind =
+                forking;
+            tasks = ts;
+          })) (λ a v. bind (begins_then 0 (length ts) told_join v) (λ x v. run (told names) (k x) v)) K (λ t l f. l)
           (λ t x. good_begins (record { kind = forking; tasks = ts }) 0 (length ts) _ K (omega arith) (λ y. (all_fine (k y) (s y)).good n K h)));
     }

@@ -106,7 +106,7 @@ abbrev pub made_array : {N M : Type 0} → Naming N M → Place → PlainType �
 made_array names at (ty.array t a named) (negsuc k) f = Traps trap.Size at
 made_array names at (ty.array t a named) (pos k) f =
     cond (is_long (concrete names (around f) a)) (Traps trap.Stack at)
-        (Act (New (An_array (concrete names (around f) a) k (first_of t)) false) (λ x. gives (name_made x) f))
+    (Act (New (An_array (concrete names (around f) a) k (first_of t)) false) (λ x. gives (name_made x) f))
 made_array names at t k f = gives none f
 
 -- the class and the region arguments of a created object

@@ -1,5 +1,6 @@
 pub mod Actions
 pub mod Asking
+pub mod Coherent
 pub mod Core
 pub mod Costs
 pub mod Counts

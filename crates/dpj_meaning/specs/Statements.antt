@@ -120,7 +120,7 @@ abbrev mutual
   -- in front of an entry the task rests
   of_stmt names P dp (statement at (form.atomic effects ss)) f =
       Act Rest (λ a. Act (Enter (map (concrete_effect names (around f)) effects))
-          (λ b. and_then (of_stmts names P dp ss f) (λ v g. Act Exit (λ c. gives none g))))
+      (λ b. and_then (of_stmts names P dp ss f) (λ v g. Act Exit (λ c. gives none g))))
   of_stmt names P None (statement at (form.cobegin forking bs)) f = Traps trap.Stack at
   of_stmt names P (Some dp) (statement at (form.cobegin forking bs)) f =
       Split forking (tasks_of bs f) (λ i. dp (branch_at bs i) (record f { left = f.left - 1 })) (joined (all_copies bs) f)
@@ -128,7 +128,7 @@ abbrev mutual
       and_then (of_expr names P dp start f) (λ v g. and_then (of_expr names P dp count g) (λ u h. forks dp at forking None x s (number v) (number u) h))
   of_stmt names P dp (statement at (form.foreach_parts k (of_array a) count s)) f =
       and_then (of_expr names P dp a f)
-          (λ v g. and_then (of_expr names P dp count (part_begun k v g)) (λ u h. parts_of_array dp at k s (with_value h (k + 3) u)))
+      (λ v g. and_then (of_expr names P dp count (part_begun k v g)) (λ u h. parts_of_array dp at k s (with_value h (k + 3) u)))
   of_stmt names P dp (statement at (form.foreach_parts k (of_part j) count s)) f =
       and_then (of_expr names P dp count (part_taken_over k j f)) (λ u g. (let h = with_value g (k + 3) u in
       parts dp at k s (with_value h (k + 2) (slot_value h.values (j + 2)))))

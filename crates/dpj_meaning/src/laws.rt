@@ -1,5 +1,6 @@
 //! Laws of the meaning, each the clause of a function that does nothing.
 
+ghost use Rattle.dpj_meaning.specs.Coherent.{IsCoherent};
 ghost use Rattle.dpj_meaning.specs.Tasks.{IsDisciplined, IsLively, IsInTurn, IsPaced, LoopsAgain};
 ghost use Rattle.dpj_meaning.specs.Laws.{PrintsSum, RestsOnce, BeginsEach, BranchesInOrder, CountsFromFive, ReadsWritten, RunsLoops};
 
@@ -21,10 +22,12 @@ pub fn law_elision()
 /// What each task of each program keeps to, whatever it is answered and whatever names objects (N) and local regions (M):
 /// nothing comes after its end, and after a fork come its begins and its join; something comes next until it has ended; and
 /// no more than so many turns go by without an event. A loop is its test, a turn, its body and the loop again.
+/// Each branch of a fork does what its task is to do.
 pub fn law_tasks<N, M>()
     ensures disciplined { IsDisciplined N M }
     ensures lively { IsLively N M }
     ensures in_turn { IsInTurn N M }
     ensures paced { IsPaced N M }
     ensures loops { LoopsAgain N M }
+    ensures coherent { IsCoherent N M }
 {}
