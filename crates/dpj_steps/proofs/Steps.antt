@@ -8,10 +8,10 @@ use Rattle.dpj_meaning.specs.Asking.{ask}
 use Rattle.dpj_meaning.specs.Tasks.{AfterFork as TaskAfterFork}
 use Rattle.dpj_runs.specs.Objects.{Path}
 use Rattle.dpj_steps.specs.Laws.{EachKeeps}
-use Rattle.dpj_steps.specs.Steps.{named_by, steps_of}
+use Rattle.dpj_steps.specs.Steps.{named_by, stepped}
 
 after_fork : (P : PlainProgram) (arg : ℤ) (p : Path) (t : Task) (got : List Answer) (ts : Branches) (n : ℕ) → TaskAfterFork (ask (named_by p) P t) got ts n
-    → AfterFork (steps_of P arg) p t got ts n
+    → AfterFork (stepped P arg) p t got ts n
 after_fork P arg p t got ts n a = record { since = a.since; answer = a.answer; earlier = a.earlier; is = a.is; number = a.number; forks = a.forks }
 
 pub each_keeps : EachKeeps

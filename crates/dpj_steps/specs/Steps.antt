@@ -17,8 +17,8 @@ abbrev pub first_name : Name
 first_name = record { maker = []; count = 0 }
 
 -- the program on an argument
-abbrev pub steps_of : PlainProgram → ℤ → Program
-steps_of P arg = record {
+abbrev pub stepped : PlainProgram → ℤ → Program
+stepped P arg = record {
   meaning = λ p t got. ask (named_by p) P t got;
   root = root_task (named_by []) P first_name arg;
   object = main_object P;
