@@ -1,3 +1,4 @@
 pub mod Interfering
 pub mod Laws
+pub mod Samples
 pub mod Steps

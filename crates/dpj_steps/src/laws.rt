@@ -2,6 +2,7 @@
 
 ghost use Rattle.dpj_steps.specs.Laws.{EachKeeps, RunsAgree, RunsCostNoMore, OutcomesAgree, SchedulesAreBounded, SchedulesComeOutTheSame};
 ghost use Rattle.dpj_steps.specs.Laws.{SchedulesFinish, GreatestInOrder};
+ghost use Rattle.dpj_steps.specs.Samples.{DividesRuns, FillsRun};
 
 /// Each typed program keeps to what the laws of runs ask of a program, so they hold of its runs.
 pub fn law_steps()
@@ -13,4 +14,10 @@ pub fn law_steps()
     ensures schedules { SchedulesComeOutTheSame }
     ensures finish { SchedulesFinish }
     ensures greatest { GreatestInOrder }
+{}
+
+/// Small programs have runs in other orders that come out and cost as in sequence.
+pub fn law_samples()
+    ensures divides { DividesRuns }
+    ensures fills { FillsRun }
 {}
