@@ -12,8 +12,9 @@ use Rattle.dpj_meaning.specs.Asking.{ended, does}
 use Rattle.dpj_meaning.specs.Core.{Result, Done, Stopped, Lost, bind, World, run}
 use Rattle.dpj_meaning.specs.Core.{Out as out}
 use Rattle.dpj_meaning.specs.Costs.{size, own_steps, own_cells}
-use Rattle.dpj_meaning.specs.Counts.{Brought, Back, Trap_of_branch}
+use Rattle.dpj_meaning.specs.Counts.{Brought, brought}
 use Rattle.dpj_meaning.specs.Expressions.{entered, new_object}
+use Rattle.dpj_meaning.specs.Outcomes.{joined, Limits, Outcome, Came, Limited}
 
 -- a local region: one that was made, counted over the whole run, or one that is declared and not made yet
 pub data LocalRegion : Type 0 where
@@ -153,28 +154,6 @@ one_by_one [] ms w = Done [] w
 one_by_one (t ∷ ts) [] w = Done [] w
 one_by_one (t ∷ ts) (m ∷ ms) w = bind (at_end t.work (m (one_step w))) (λ x v. bind (one_by_one ts ms v) (λ xs u. Done (x ∷ xs) u))
 
--- how the join comes out: with the first trap of a branch, or with all the locals that the branches have assigned
-abbrev pub trap_of : Ending ℕ → Option (Trap × Place) → Option (Trap × Place)
-trap_of (Trapped trap p) later = Some (trap, p)
-trap_of (Returned v) later = later
-trap_of (Assigned ls) later = later
-
-abbrev pub first_trap : List (Ending ℕ) → Option (Trap × Place)
-first_trap [] = None
-first_trap (x ∷ xs) = trap_of x (first_trap xs)
-
-abbrev pub locals_of : Ending ℕ → List (ℕ × Value ℕ)
-locals_of (Assigned ls) = ls
-locals_of (Returned v) = []
-locals_of (Trapped trap p) = []
-
-abbrev pub all_locals : List (Ending ℕ) → List (ℕ × Value ℕ)
-all_locals [] = []
-all_locals (x ∷ xs) = locals_of x ++ all_locals xs
-
-abbrev pub joined : List (Ending ℕ) → Brought ℕ
-joined xs = elim (first_trap xs) [ None ↦ Back (all_locals xs) | Some fell ↦ Trap_of_branch fell.0 fell.1 ]
-
 -- a fork and a join each cost a step
 abbrev pub sequential : World ℕ LocalRegion Store
 sequential = record {
@@ -182,7 +161,7 @@ sequential = record {
   act = λ o w. Done (answer w.heap o) (after o w);
   turn = λ w. one_turn w.turns w;
   make = new_region;
-  fork = λ forking ts bodies w. bind (one_by_one ts bodies (one_step w)) (λ xs v. Done (joined xs) (one_step v));
+  fork = λ forking ts bodies w. bind (one_by_one ts bodies (one_step w)) (λ xs v. Done (brought {M = LocalRegion} (joined xs)) (one_step v));
 }
 
 -- the root: `main` of the first object on an argument; it may go 499 calls deeper
@@ -219,15 +198,6 @@ at_start P n = record {
 unfoldable pub ran_through : PlainProgram → ℤ → ℕ → out ℕ LocalRegion (Ending ℕ) Store
 ran_through P arg n = (let t : Task ℕ LocalRegion = root_task in_order P 0 arg in
     at_end t.work (run sequential (does in_order P t) (at_start P n)))
-
-pub record Limits : Type 0 where
-  pub steps : ℕ
-  pub cells : ℕ
-
--- how a run comes out: how it ended, what it printed up to the first trap, and its cost; or it was over a limit
-pub data Outcome (N : Type 0) : Type 0 where
-  Came : (ending : Ending N) (output : List ℕ) (steps cells : ℕ) → Outcome N
-  Limited : (steps cells : ℕ) → Outcome N
 
 abbrev pub judged : Limits → out ℕ LocalRegion (Ending ℕ) Store → Outcome ℕ
 judged L (Done x w) = cond (nat_lt L.steps w.steps || nat_lt L.cells w.cells) (Limited L.steps L.cells) (Came x w.output w.steps w.cells)

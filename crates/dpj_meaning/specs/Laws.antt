@@ -6,7 +6,8 @@ use Rattle.std.specs.Fmt.{signed_decimal}
 use Rattle.dpj_meaning.specs.Values.{Int}
 use Rattle.dpj_meaning.specs.Actions.{Went, Joined, Returned, Trapped, Do, Rest, Print, Begin, Join, End, Next, Over}
 use Rattle.dpj_meaning.specs.Counts.{line}
-use Rattle.dpj_meaning.specs.Elision.{Limits, Came, Limited, elided}
+use Rattle.dpj_meaning.specs.Elision.{elided}
+use Rattle.dpj_meaning.specs.Outcomes.{Limits, Came, Limited}
 use Rattle.dpj_meaning.specs.Samples.{asks, prints_sum, counts, one_and_two, divides, prints_from_five, fills_and_reads, traps_twice, endless}
 
 -- it prints 3 in decimal, then ends with 7, and then it is over

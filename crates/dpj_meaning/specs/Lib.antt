@@ -7,6 +7,7 @@ pub mod Counts
 pub mod Elision
 pub mod Expressions
 pub mod Laws
+pub mod Outcomes
 pub mod Regions
 pub mod Samples
 pub mod Statements

@@ -2,10 +2,12 @@
 use Rattle.std.specs.Prelude.{ℕ, suc, pos, ◌+◌, ◌<◌, ◌≡◌, ◌≢◌, ◌⊎◌, List, [], ◌∷◌, ◌++◌, Option, Some, None}
 use Rattle.dpj_base.specs.declared.value.Trap.{Trap}
 use Rattle.dpj_base.specs.declared.place.Place.{Place}
-use Rattle.dpj_runs.specs.Objects.{Path, Value, Cell}
+use Rattle.dpj_runs.specs.Objects.{Path, Name, Value, Cell}
 use Rattle.dpj_runs.specs.Actions.{Ending, Trapped, Own, Rest, Read, Write, Look, New, Print, Enter, Exit}
 use Rattle.dpj_runs.specs.Actions.{Action, Do, Fork, Begin, Join, End, Out, Program}
 use Rattle.dpj_runs.specs.Runs.{Event, Run, Upto, mine, count, Ended, trap_of, steps_of, cells_of}
+use Rattle.dpj_meaning.specs.Outcomes.{Outcome as OutcomeOf}
+pub use Rattle.dpj_meaning.specs.Outcomes.{Came, Limited}
 
 -- paths that part at one fork in different branches
 pub record Unordered (p q : Path) : Type 0 where
@@ -130,9 +132,8 @@ abbrev pub ending_of : Option (Trap × Place) → Ending → Ending
 ending_of None x = x
 ending_of (Some fell) x = Trapped fell.0 fell.1
 
-pub data Outcome : Type 0 where
-  Came : (ending : Ending) (output : List ℕ) (steps cells : ℕ) → Outcome
-  Limited : (steps cells : ℕ) → Outcome
+abbrev pub Outcome : Type 0
+Outcome = OutcomeOf Name
 
 -- how a run comes out whose root has ended: by its events put into the order of elision
 pub record Comes (P : Program) (R : Run) (o : Outcome) : Type 0 where

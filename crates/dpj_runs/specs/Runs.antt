@@ -5,6 +5,7 @@ use Rattle.dpj_base.specs.declared.place.Place.{Place}
 use Rattle.dpj_runs.specs.Objects.{Path, same_path, Name, Value, Thing, An_object, An_array, size, or_else, first_value, Cell, slot_of, is_cell}
 use Rattle.dpj_runs.specs.Actions.{Task, Branches, Ending, Returned, Assigned, Trapped, Own, Rest, Read, Write, Look, New, Print, Enter, Exit}
 use Rattle.dpj_runs.specs.Actions.{Action, Do, Fork, Begin, Join, End, Answer, Went, Got, Out, Class, Length, Named, Joined, Fell, Next, Program, steps, cells}
+pub use Rattle.dpj_meaning.specs.Outcomes.{trap_of, first_trap, locals_of, all_locals, joined_or, joined}
 
 pub record Event : Type 0 where
   pub path : Path
@@ -155,34 +156,6 @@ pub record Ended (R : Run) (p : Path) (x : Ending) : Type 0 where
   pub stands : Upto (event ∷ before) R
   pub path : event.path ≡ p
   pub act : event.act ≡ End x
-
--- the first trap among the ends of branches, in their order
-abbrev pub trap_of : Ending → Option (Trap × Place) → Option (Trap × Place)
-trap_of (Trapped trap place) other = Some (trap, place)
-trap_of (Returned v) other = other
-trap_of (Assigned ls) other = other
-
-abbrev pub first_trap : List Ending → Option (Trap × Place)
-first_trap [] = None
-first_trap (x ∷ xs) = trap_of x (first_trap xs)
-
--- the locals that the branches assigned
-abbrev pub locals_of : Ending → List (ℕ × Value)
-locals_of (Assigned ls) = ls
-locals_of (Returned v) = []
-locals_of (Trapped trap place) = []
-
-abbrev pub all_locals : List Ending → List (ℕ × Value)
-all_locals [] = []
-all_locals (x ∷ xs) = locals_of x ++ all_locals xs
-
-abbrev pub joined_or : Option (Trap × Place) → List (ℕ × Value) → Answer
-joined_or (Some fell) ls = Fell fell.0 fell.1
-joined_or None ls = Joined ls
-
--- what a join is answered
-abbrev pub joined : List Ending → Answer
-joined xs = joined_or (first_trap xs) (all_locals xs)
 
 -- since a fork the task has made as many events as the fork has branches, which are their begins; all branches have ended; and
 -- this is the answer to the join

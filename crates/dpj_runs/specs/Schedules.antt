@@ -5,10 +5,7 @@ use Rattle.dpj_runs.specs.Actions.{Action, Do, Fork, Begin, Join, End, Program}
 use Rattle.dpj_runs.specs.Runs.{Event, Run, Upto, count, steps_of, cells_of}
 use Rattle.dpj_runs.specs.Blocks.{Allowed}
 use Rattle.dpj_runs.specs.Order.{Outcome, Limited, Comes}
-
-pub record Limits : Type 0 where
-  pub steps : ℕ
-  pub cells : ℕ
+pub use Rattle.dpj_meaning.specs.Outcomes.{Limits}
 
 pub record Within (P : Program) (L : Limits) (R : Run) : Type 0 where
   pub steps : steps_of R ≤ L.steps
