@@ -2,7 +2,7 @@
 use Rattle.std.proofs.Common.{◌≡◌, ℕ, Bool, true, false, not, ◌&&◌, ◌||◌, ◌==◌, List, [], ◌∷◌, refl, sym, ap, subst, ◌∙◌, inl, inr, ◌⊎◌, ⊎_elim, MatchBool, Option, Some, None, ◌<◌, ◌≤◌, length, drop, arith, MatchOption}
 use Rattle.std.proofs.lemmas.List.{drop_all}
 use Rattle.dpj_locks.proofs.Found.{Sound}
-use Rattle.std.proofs.lemmas.Bool.{and_parts, or_left, false≢true, cases_Bool}
+use Rattle.std.proofs.lemmas.Bool.{and_parts, false≢true, cases_Bool}
 use Rattle.std.specs.FinMap.{get}
 use Rattle.dpj_base.specs.declared.elems.Elem.{Elem}
 use Rattle.dpj_base.specs.declared.elems.Elem.TheVariants.{Name, At, Any, Star, Local}
@@ -12,7 +12,6 @@ use Rattle.dpj_base.specs.declared.effect.Access.TheVariants.{Read, Write}
 use Rattle.dpj_base.specs.declared.effect.Effect.{Effect}
 use Rattle.dpj_base.specs.declared.region.Head.{Head}
 use Rattle.dpj_base.specs.declared.region.Head.TheVariants.{Root}
-use Rattle.dpj_base.specs.declared.region.Rpl.{Rpl}
 use Rattle.dpj_base.specs.Regions.{is_star, same_elem, same_head}
 use Rattle.dpj_base.specs.Apart.{distinct, apart_front, apart_from_left, apart_by_length, apart_from_right, apart_by_some, apart}
 use Rattle.dpj_base.specs.Effects.{interferes, is_write}
@@ -56,7 +55,8 @@ or_false true b is = cc
 or_false false b is = (refl, is)
 
 -- of two fixed elements at the front of paths that aren't apart
-front_same : (x y : Elem) (a b : List Elem) → is_concrete x ≡ true → is_concrete y ≡ true → apart_front (x ∷ a) (y ∷ b) ≡ false → (x ≡ y) × (apart_front a b ≡ false)
+front_same : (x y : Elem) (a b : List Elem) → is_concrete x ≡ true → is_concrete y ≡ true → apart_front (x ∷ a) (y ∷ b) ≡ false
+    → (x ≡ y) × (apart_front a b ≡ false)
 front_same x y a b h k near =
     let parts = or_false (distinct x y) (apart_front a b) (sym (front-step x y a b (concrete-no_star x h) (concrete-no_star y k)) ∙ near) in
     ⊎_elim {C = (x ≡ y) × (apart_front a b ≡ false)} (λ same. (same, parts.1)) (λ other. absurd (false≢true (sym parts.0 ∙ other))) (same_or_distinct x y h k)
@@ -79,10 +79,10 @@ module _ (under ending : Sets) (q : ℕ) where
   met n (x ∷ a) [] near noted = inl noted.1
   met n (x ∷ a) (y ∷ b) near noted =
       ⊎_elim {C = Met under ending q n (x ∷ a)}
-        (λ fixed. inr (met_match n x a (is_concrete x) refl
-          (λ h. let parts = front_same x y a b h fixed.0 near in
-            met (mixed n x) a b parts.1 (subst (λ z. NotedFrom under ending q (mixed n z) b) (sym parts.0) fixed.1)) noted.0))
-        (λ here. inl here) (fixed_noted n y b (is_concrete y) refl noted.1)
+      (λ fixed. inr (met_match n x a (is_concrete x) refl
+      (λ h. let parts = front_same x y a b h fixed.0 near in
+      met (mixed n x) a b parts.1 (subst (λ z. NotedFrom under ending q (mixed n z) b) (sym parts.0) fixed.1)) noted.0))
+      (λ here. inl here) (fixed_noted n y b (is_concrete y) refl noted.1)
 
 not_true : (b : Bool) → not b ≡ true → b ≡ false
 not_true true is = cc
@@ -97,37 +97,46 @@ interfering : (e f : Effect) → e.rpl.head ≡ Root → f.rpl.head ≡ Root →
 unfolding interferes apart
 interfering e f er fr is =
     let parts = and_parts (is_write e.access || is_write f.access) (not (apart [] e.rpl f.rpl)) is in
-    let near = not_true (apart [] e.rpl f.rpl) parts.1 in
-    (parts.0, near_front e.rpl.head f.rpl.head e.rpl.elems f.rpl.elems er fr
-      (or_false (apart_from_left e.rpl f.rpl) (apart_by_length e.rpl f.rpl) (or_false (apart_from_left e.rpl f.rpl || apart_by_length e.rpl f.rpl) (apart_from_right e.rpl f.rpl)
-        (or_false (apart_from_left e.rpl f.rpl || apart_by_length e.rpl f.rpl || apart_from_right e.rpl f.rpl) (apart_by_some [] e.rpl f.rpl) near).0).0).0)
+    let near = not_true (apart [] e.rpl f.rpl) parts.1 in (
+      parts.0,
+      near_front e.rpl.head f.rpl.head e.rpl.elems f.rpl.elems er fr
+          (or_false (apart_from_left e.rpl f.rpl) (apart_by_length e.rpl f.rpl) (or_false (apart_from_left e.rpl f.rpl || apart_by_length e.rpl f.rpl)
+          (apart_from_right e.rpl f.rpl)
+          (or_false (apart_from_left e.rpl f.rpl || apart_by_length e.rpl f.rpl || apart_from_right e.rpl f.rpl) (apart_by_some [] e.rpl f.rpl) near).0).0).0,
+    )
 
 module _ (reads writes : Index) (q : ℕ) where
-  by_access : (a b : Access) (xs ys : List Elem) → (is_write a || is_write b) ≡ true → apart_front xs ys ≡ false → NotedBy reads writes q b ys → MetBy reads writes q a xs
+  by_access : (a b : Access) (xs ys : List Elem) → (is_write a || is_write b) ≡ true → apart_front xs ys ≡ false → NotedBy reads writes q b ys
+      → MetBy reads writes q a xs
   by_access Read Read xs ys one near noted = cc
   by_access Read Write xs ys one near noted = met writes.under writes.ending q first_number xs ys near noted
   by_access Write Read xs ys one near noted = inl (met reads.under reads.ending q first_number xs ys near noted)
   by_access Write Write xs ys one near noted = inr (met writes.under writes.ending q first_number xs ys near noted)
 
-  one_met : (e f : Effect) → e.rpl.head ≡ Root → f.rpl.head ≡ Root → NotedBy reads writes q f.access f.rpl.elems → interferes [] e f ≡ true → MetBy reads writes q e.access e.rpl.elems
+  one_met : (e f : Effect) → e.rpl.head ≡ Root → f.rpl.head ≡ Root → NotedBy reads writes q f.access f.rpl.elems → interferes [] e f ≡ true
+      → MetBy reads writes q e.access e.rpl.elems
   one_met e f er fr noted is = let parts = interfering e f er fr is in by_access e.access f.access e.rpl.elems f.rpl.elems parts.0 parts.1 noted
 
   either : (c d : Bool) → (c || d) ≡ true → (c ≡ true) ⊎ (d ≡ true)
   either true d is = inl refl
   either false d is = inr is
 
-  some_met : (e : Effect) (fs : List Effect) → e.rpl.head ≡ Root → AllRoot fs → AllNoted reads writes q fs → some_interferes e fs ≡ true → MetBy reads writes q e.access e.rpl.elems
+  some_met : (e : Effect) (fs : List Effect) → e.rpl.head ≡ Root → AllRoot fs → AllNoted reads writes q fs → some_interferes e fs ≡ true
+      → MetBy reads writes q e.access e.rpl.elems
   some_met e [] er roots noted is = cc
   some_met e (f ∷ fs) er roots noted is =
-      ⊎_elim {C = MetBy reads writes q e.access e.rpl.elems} (one_met e f er roots.0 noted.0) (some_met e fs er roots.1 noted.1) (either (interferes [] e f) (some_interferes e fs) is)
+      ⊎_elim {C = MetBy reads writes q e.access e.rpl.elems} (one_met e f er roots.0 noted.0) (some_met e fs er roots.1 noted.1) (either (interferes [] e f)
+      (some_interferes e fs) is)
 
   any_met : (es fs : List Effect) → AllRoot es → AllRoot fs → AllNoted reads writes q fs → lists_interfere es fs ≡ true → MetAny reads writes q es
   any_met [] fs roots others noted is = cc
   any_met (e ∷ es) fs roots others noted is =
-      ⊎_elim {C = MetAny reads writes q (e ∷ es)} (λ here. inl (some_met e fs roots.0 others noted here)) (λ later. inr (any_met es fs roots.1 others noted later))
-        (either (some_interferes e fs) (lists_interfere es fs) is)
+      ⊎_elim {C = MetAny reads writes q (e ∷ es)} (λ here. inl (some_met e fs roots.0 others noted here))
+      (λ later. inr (any_met es fs roots.1 others noted later))
+      (either (some_interferes e fs) (lists_interfere es fs) is)
 
-  block_met : (o : Option Standing) (wants : List Effect) → AllRoot wants → IsFound reads writes q o → block_interferes o wants ≡ true → MetAny reads writes q wants
+  block_met : (o : Option Standing) (wants : List Effect) → AllRoot wants → IsFound reads writes q o → block_interferes o wants ≡ true
+      → MetAny reads writes q wants
   block_met None wants roots found is = cc
   block_met (Some (Opener effects depth)) wants roots found is = any_met wants effects roots found.0 found.1 is
   block_met (Some (Adopted opener depth)) wants roots found is = cc
@@ -136,7 +145,8 @@ module _ (reads writes : Index) (q : ℕ) where
 pub hindering_met : (reads writes : Index) (locks : Standings) (task q : ℕ) (wants : List Effect) → IsIndexed reads writes locks → AllRoot wants
     → hinders locks task wants q ≡ true → MetAny reads writes q wants
 hindering_met reads writes locks task q wants indexed roots is =
-    block_met reads writes q (get locks q) wants roots (indexed q) (and_parts (not (q == task) && not (opened_for (get locks task) q)) (block_interferes (get locks q) wants) is).1
+    block_met reads writes q (get locks q) wants roots (indexed q) (and_parts (not (q == task) && not (opened_for (get locks task) q))
+    (block_interferes (get locks q) wants) is).1
 
 free_at : (b : Bool) (q : ℕ) → (b ≡ true → AtMost None q) → b ≡ false
 free_at true q never = absurd (never refl)
@@ -152,8 +162,10 @@ pub concluded : (locks : Standings) (task : ℕ) (wants : List Effect) (least : 
 concluded locks task wants None sound most = λ q. free_at (hinders locks task wants q) q (most q)
 concluded locks task wants (Some h) sound most = record { itself = sound; least = λ q lt. less_at (hinders locks task wants q) h q lt (most q) }
 
-pub all_looked_at : (reads writes : Index) (locks : Standings) (task q i : ℕ) (wants : List Effect) (least : Option ℕ) → IsIndexed reads writes locks → AllRoot wants → length wants ≤ i
-    → (MetAny reads writes q wants → hinders locks task wants q ≡ true → AtMost least q ⊎ MetAny reads writes q (drop i wants)) → hinders locks task wants q ≡ true → AtMost least q
+pub all_looked_at : (reads writes : Index) (locks : Standings) (task q i : ℕ) (wants : List Effect) (least : Option ℕ) → IsIndexed reads writes locks
+    → AllRoot wants → length wants ≤ i
+    → (MetAny reads writes q wants → hinders locks task wants q ≡ true → AtMost least q ⊎ MetAny reads writes q (drop i wants))
+    → hinders locks task wants q ≡ true → AtMost least q
 all_looked_at reads writes locks task q i wants least indexed roots past reach is =
     ⊎_elim {C = AtMost least q} (λ le. le) (λ more. absurd (subst (MetAny reads writes q) (drop_all i wants past) more))
-      (reach (hindering_met reads writes locks task q wants indexed roots is) is)
+    (reach (hindering_met reads writes locks task q wants indexed roots is) is)

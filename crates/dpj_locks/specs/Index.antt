@@ -13,7 +13,7 @@ use Rattle.dpj_base.specs.declared.effect.Effect.{Effect}
 use Rattle.dpj_base.specs.Matching.{is_concrete}
 use Rattle.dpj_locks.specs.declared.index.Index.{Index}
 use Rattle.dpj_locks.specs.declared.standing.Standing.{Standing}
-use Rattle.dpj_locks.specs.declared.standing.Standing.TheVariants.{Opener, Adopted}
+use Rattle.dpj_locks.specs.declared.standing.Standing.TheVariants.{Opener}
 use Rattle.dpj_locks.specs.Locks.{Standings, AllRoot}
 use Rattle.std.specs.FinMap as map
 use Rattle.dpj_effects.specs.Index.{elem_number}

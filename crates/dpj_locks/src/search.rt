@@ -73,7 +73,8 @@ fn hinders(search: Search<'_>, holder: u32) -> bool
 
 /// The least task of a set that hinders.
 fn least_of(search: Search<'_>, set: &BTreeSet<u32>) -> Option<u32>
-    ensures first { result ≡ find (hinders search.entry.standings.now search.entry.task search.entry.wants.now) set.now.keys }
+    ensures first { result
+        ≡ find (hinders search.entry.standings.now search.entry.task search.entry.wants.now) set.now.keys }
     ensures ordered { IsOrdered nat_cmp set.now }
 {
     set.iter().copied().find(|holder| hinders(search, *holder))
@@ -94,7 +95,8 @@ pub fn lesser(one: Option<u32>, other: Option<u32>) -> Option<u32>
 /// The least task of the set under a number that hinders.
 fn least_under(search: Search<'_>, sets: &Sets, number: u32) -> Option<u32>
     ensures sound { IfSome result (λ h. hinders search.entry.standings.now search.entry.task search.entry.wants.now h ≡ true) }
-    ensures found { (q : ℕ) → has sets.now number q ≡ true → hinders search.entry.standings.now search.entry.task search.entry.wants.now q ≡ true → AtMost result q }
+    ensures found { (q : ℕ) → has sets.now number q ≡ true
+        → hinders search.entry.standings.now search.entry.task search.entry.wants.now q ≡ true → AtMost result q }
 {
     let set = sets.get(&number)?;
     least_of(search, set)
@@ -103,7 +105,8 @@ fn least_under(search: Search<'_>, sets: &Sets, number: u32) -> Option<u32>
 /// The least task that hinders, of those that hold a path which may have a region in common with this one.
 fn least_meeting(search: Search<'_>, index: &Index, elems: &[Elem]) -> Option<u32>
     ensures sound { IfSome result (λ h. hinders search.entry.standings.now search.entry.task search.entry.wants.now h ≡ true) }
-    ensures found { (q : ℕ) → Met index.now.under index.now.ending q first_number elems.now → hinders search.entry.standings.now search.entry.task search.entry.wants.now q ≡ true → AtMost result q }
+    ensures found { (q : ℕ) → Met index.now.under index.now.ending q first_number elems.now
+        → hinders search.entry.standings.now search.entry.task search.entry.wants.now q ≡ true → AtMost result q }
 {
     let mut number = FIRST_NUMBER;
     let mut least = None;
@@ -121,7 +124,8 @@ fn least_meeting(search: Search<'_>, index: &Index, elems: &[Elem]) -> Option<u3
 /// The least task that hinders, of those that hold an effect which may interfere with this one.
 pub fn least_holder(search: Search<'_>, reads: &Index, writes: &Index, e: &Effect) -> Option<u32>
     ensures sound { IfSome result (λ h. hinders search.entry.standings.now search.entry.task search.entry.wants.now h ≡ true) }
-    ensures found { (q : ℕ) → MetBy reads.now writes.now q e.now.access e.now.rpl.elems → hinders search.entry.standings.now search.entry.task search.entry.wants.now q ≡ true → AtMost result q }
+    ensures found { (q : ℕ) → MetBy reads.now writes.now q e.now.access e.now.rpl.elems
+        → hinders search.entry.standings.now search.entry.task search.entry.wants.now q ≡ true → AtMost result q }
 {
     let elems = e.rpl.elems.as_slice();
     match e.access {
