@@ -1,4 +1,4 @@
-use Rattle.std.proofs.Common.{◌≡◌, ◌∙◌, ◌+◌, ◌&&◌, ◌||◌, Bool, true, false, not, map, refl, sym, ap, subst}
+use Rattle.std.proofs.Common.{◌≡◌, ◌∙◌, ◌+◌, ◌&&◌, ◌||◌, true, false, not, map, refl, sym, ap, subst}
 use Rattle.std.proofs.lemmas.List.{drop_all}
 use Rattle.std.specs.Option.{option_copied}
 use Rattle.dpj_tree.specs.Nd.{holds_nd, some_holds_nd}
@@ -8,11 +8,11 @@ use Rattle.dpj_tree.specs.declared.stmt.StmtKind.TheVariants as tree
 use Rattle.dpj_exprs.specs.Answer.{refused}
 use Rattle.dpj_exprs.specs.Typed.{plain_typed}
 use Rattle.dpj_exprs.specs.Typing.{Typing}
-use Rattle.dpj_check.specs.Checking.{form_of, Checking, Standing, InScope, in_scope, InBlock, InOrder, Forking, Iterating, Parting, all_pass, Branching, ClashIs, opened, not_opened, Opening}
+use Rattle.dpj_check.specs.Checking.{form_of, Checking, Standing, InScope, in_scope, InBlock, InOrder, Forking, Iterating, Parting, all_pass, Branching, ClashIs}
 use Rattle.dpj_check.specs.Checking.{Checking as rule}
 use Rattle.dpj_check.specs.Keeping.{inside}
 use Rattle.dpj_check.specs.Noting.{fault_of}
-use Rattle.dpj_check.specs.Walks.{walk_of, passes, judged, home_of}
+use Rattle.dpj_check.specs.Walks.{walk_of, passes, judged}
 use Rattle.dpj_check.specs.Walks.{Verdict as verdict}
 use Rattle.dpj_check.proofs.Atomics.{atomic_refused, atomic_told, atomic_passes}
 use Rattle.dpj_check.proofs.Forks.{Branch, BranchesMet, fork_more, fork_all, fork_stopped, fork_told, fork_ends, clash_is}
