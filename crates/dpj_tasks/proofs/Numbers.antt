@@ -69,9 +69,9 @@ Rises q task = OfOrigin task.origin (λ origin. origin.parent < q)
 -- a change that keeps where the task came from
 pub numbered_changed : (tasks : Tasks) (begun k : ℕ) (change : Task → Task) → ((t : Task) → (change t).origin ≡ t.origin) → IsNumbered tasks begun → IsNumbered (changed tasks k change) begun
 numbered_changed tasks begun k change keeps numbered = record {
-    below = each_changed (Below begun) tasks k change (λ t h. h) numbered.below;
-    rising = each_changed Rises tasks k change (λ t h. subst (λ o. OfOrigin o (λ origin. origin.parent < k)) (sym (keeps t)) h) numbered.rising
-  }
+  below = each_changed (Below begun) tasks k change (λ t h. h) numbered.below;
+  rising = each_changed Rises tasks k change (λ t h. subst (λ o. OfOrigin o (λ origin. origin.parent < k)) (sym (keeps t)) h) numbered.rising;
+}
 
 pub numbered_removed : (tasks : Tasks) (begun k : ℕ) → IsNumbered tasks begun → IsNumbered (remove tasks k) begun
 numbered_removed tasks begun k numbered = record { below = each_removed (Below begun) tasks k numbered.below; rising = each_removed Rises tasks k numbered.rising }
@@ -82,9 +82,9 @@ weaker P Q (Some t) all each = all t each
 
 pub numbered_inserted : (tasks : Tasks) (begun : ℕ) (t : Task) → Rises begun t → IsNumbered tasks begun → IsNumbered (insert tasks begun t) (begun + 1)
 numbered_inserted tasks begun t rises numbered = record {
-    below = each_inserted (Below (begun + 1)) tasks begun t (λ q. weaker (Below begun q) (Below (begun + 1) q) (get tasks q) (λ u h. omega arith) (numbered.below q)) (omega arith);
-    rising = each_inserted Rises tasks begun t numbered.rising rises
-  }
+  below = each_inserted (Below (begun + 1)) tasks begun t (λ q. weaker (Below begun q) (Below (begun + 1) q) (get tasks q) (λ u h. omega arith) (numbered.below q)) (omega arith);
+  rising = each_inserted Rises tasks begun t numbered.rising rises;
+}
 
 -- a task that has begun has a number below the count
 pub number_below : (tasks : Tasks) (begun k : ℕ) (P : Task → Type 0) → IsNumbered tasks begun → OfTask (get tasks k) P → k < begun
@@ -107,6 +107,6 @@ next_rises begun n (Some t) lt = lt
 
 pub numbered_empty : IsNumbered empty 0
 numbered_empty = record {
-    below = λ q. subst (λ o. OfEach o (Below 0 q)) (sym (get-empty nat_cmp q)) tt;
-    rising = λ q. subst (λ o. OfEach o (Rises q)) (sym (get-empty nat_cmp q)) tt
-  }
+  below = λ q. subst (λ o. OfEach o (Below 0 q)) (sym (get-empty nat_cmp q)) tt;
+  rising = λ q. subst (λ o. OfEach o (Rises q)) (sym (get-empty nat_cmp q)) tt;
+}

@@ -25,10 +25,10 @@ absent (Some t) never = absurd (never refl)
 pub last_in : (m : Map) (bound : ℕ) (r t : List (ℕ × Task)) (n : ℕ) (task : Task) → IsRangeOf nat_cmp Unbounded (Excluded bound) m r → r ≡ t ++ (n, task) ∷ []
     → IsLastBelow (seen m) bound n
 last_in m bound r t n task range is = record {
-    below = of_less n bound (range.3 (n, task) t is).0.1;
-    last = λ q above under. get_seen m q ∙ absent (tree.get nat_cmp m q) (λ some.
-      true≢false (sym (ap is_lt (less n q above)) ∙ range.4 (n, task) t is q (tt, less q bound under) some))
-  }
+  below = of_less n bound (range.3 (n, task) t is).0.1;
+  last = λ q above under. get_seen m q ∙ absent (tree.get nat_cmp m q) (λ some.
+      true≢false (sym (ap is_lt (less n q above)) ∙ range.4 (n, task) t is q (tt, less q bound under) some));
+}
 
 pub last_is : (m : Map) (bound : ℕ) (r t : List (ℕ × Task)) (n : ℕ) (task : Task) → IsRangeOf nat_cmp Unbounded (Excluded bound) m r → r ≡ t ++ (n, task) ∷ []
     → get (seen m) n ≡ Some task

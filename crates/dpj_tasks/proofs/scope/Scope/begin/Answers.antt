@@ -18,5 +18,5 @@ invariant_of-self-2 c =
     record {
       running = ap (λ n. n + 1) c.self.invariant.running ∙ sym (ap running_in items ∙ running_more c.self.inside.ends.items);
       within = omega (arith, ap length items, length-append c.self.inside.ends.items (None ∷ []), c.requires, room, limit);
-      small = c.self.invariant.small
+      small = c.self.invariant.small;
     }

@@ -11,4 +11,4 @@ loop-origin-preserved c =
 pub returns : goal.returns
 returns c =
     subst (λ (tree : Tree). IsPath tree.tasks c.args.task c.from_vec.result) c.self.view_is
-      (path_made c.self.inside.tasks c.loop-origin.at c.args.task c.loop-origin.upwards.items c.from_vec.result (c.from_vec.ensures ∙ c.reverse.ensures.items) c.in_default.ensures c.loop-origin.invariant)
+    (path_made c.self.inside.tasks c.loop-origin.at c.args.task c.loop-origin.upwards.items c.from_vec.result (c.from_vec.ensures ∙ c.reverse.ensures.items) c.in_default.ensures c.loop-origin.invariant)
