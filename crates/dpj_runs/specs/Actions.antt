@@ -1,8 +1,8 @@
 -- What a task does to the shared world, what it is answered, and what that costs.
-use Rattle.std.specs.Prelude.{ℕ, zero, suc, ◌≡◌, ℤ, Bool, true, false, List, [], ◌∷◌, ◌++◌, length, Option, Some, None}
+use Rattle.std.specs.Prelude.{ℕ, suc, ◌≡◌, ℤ, Bool, true, false, List, length}
 use Rattle.dpj_base.specs.declared.value.Trap.{Trap}
 use Rattle.dpj_base.specs.declared.place.Place.{Place}
-use Rattle.dpj_runs.specs.Objects.{Path, Name, LocalRegion, Region, Effect, Value, Thing, An_object, An_array, size}
+use Rattle.dpj_runs.specs.Objects.{Path, Name, LocalRegion, Region, Effect, Value, Thing, size}
 
 -- what a task starts with: its locals, what the region parameters stand for, the local regions in scope, and its depth
 pub record Frame : Type 0 where
