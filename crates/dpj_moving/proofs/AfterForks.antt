@@ -80,7 +80,7 @@ branch_cases q k b p n = go (under_cases ((k, b) ∷ q) p) (path_cases p q) (cas
         never (its_begin x y) = c x
         never (below xs x) = h (record { below = xs; is = x })
 
-construct_cases : (m : ℕ) (q : Path) (k : ℕ) (p : Path) (n : ℕ) → InConstruct m q k p n ⊎ (InConstruct m q k p n → ⊥)
+pub construct_cases : (m : ℕ) (q : Path) (k : ℕ) (p : Path) (n : ℕ) → InConstruct m q k p n ⊎ (InConstruct m q k p n → ⊥)
 construct_cases zero q k p n = inr (λ c. (let l = c.there in absurd (omega arith)))
 construct_cases (suc m) q k p n = go (construct_cases m q k p n) (branch_cases q k m p n)
   where
@@ -99,13 +99,13 @@ in_branch_under q k b p n (its_begin x y) = record { below = []; is = x }
 in_branch_under q k b p n (below xs x) = record { below = xs ++ (k, b) ∷ []; is = x ∙ sym (append_assoc xs ((k, b) ∷ []) q) }
 
 -- begins change nothing of the kind of a task's latest construct
-det_since : {es L : Run} → Upto es L → ((X : Run) (x : Event) → Upto (x ∷ X) L → length es ≤ length X → (b : ℕ) × (x.act ≡ Begin b)) → is_det L ≡ is_det es
+pub det_since : {es L : Run} → Upto es L → ((X : Run) (x : Event) → Upto (x ∷ X) L → length es ≤ length X → (b : ℕ) × (x.act ≡ Begin b)) → is_det L ≡ is_det es
 det_since now f = refl
 det_since {es} (later {y = y} {ys = ys} h) f =
     let a = f ys y now (upto_length h) in
     ap (λ c. kind_after c (is_det ys)) a.1 ∙ det_since h (λ X x u l. f X x (later u) l)
 
-there_lt : {A : Type 0} (xs : List A) (n : ℕ) (x : A) → slice_get xs n ≡ Some x → n < length xs
+pub there_lt : {A : Type 0} (xs : List A) (n : ℕ) (x : A) → slice_get xs n ≡ Some x → n < length xs
 there_lt xs n x e = ⊎_elim (λ l. l) (λ g. absurd (let z : None ≡ Some x = sym (slice_get_past xs n g) ∙ e in cc)) (cases_lt n (length xs))
 
 second_of : (x y : ℕ × ℕ) (p q : Path) → x ∷ p ≡ y ∷ q → x.1 ≡ y.1
@@ -492,7 +492,8 @@ module _ (P : Program) (D : Disciplined P) (R : Run) (e : Event) (l : Faithful P
               → ((y ≡ t) × (count Y y.path ≡ count r.before t.path)) ⊎ Earlier G0 y.path (count Y y.path) t.path (count r.before t.path) → ⊥
           hit (inr c) (inl m) = ny (subst (λ z. InConstruct (length d.branches.tasks) q k z.path (count Y y.path)) (sym m.0)
               (subst (λ i. InConstruct (length d.branches.tasks) q k t.path i) (sym m.1) c))
-          hit (inr c) (inr m) = not_back G0 y.path t.path (count Y y.path) (count r.before t.path) m (rec.after_its_fork q k d r.before Y t y r.stands hy c ny fy)
+          hit (inr c) (inr m) = not_back G0 y.path t.path (count Y y.path) (count r.before t.path) m
+              (rec.after_its_fork q k d r.before Y t y r.stands hy c ny fy)
           hit (inl f) (inl m) =
               let a : y.path ≡ q = ap (λ z. z.path) m.0 ∙ f.0 in
               let b : count Y y.path ≡ k = m.1 ∙ ap (λ z. count r.before z) f.0 ∙ f.1 in

@@ -83,7 +83,8 @@ module _ (P : Program) (D : Disciplined P) (known : Known P) (R G0 : Run) (e : E
       go (lies_over ws h) = at ws h
 
   -- such an event does not stand after the fork
-  never_before : {y : Event} {Y : Run} {t : Task} (n : ℕ) → Upto (y ∷ Y) G0 → (Under o y.path → ⊥) → Begun P Y e.path t → Before y.path (count Y y.path) e.path n → ⊥
+  never_before : {y : Event} {Y : Run} {t : Task} (n : ℕ) → Upto (y ∷ Y) G0 → (Under o y.path → ⊥) → Begun P Y e.path t
+      → Before y.path (count Y y.path) e.path n → ⊥
   never_before {y} {Y} n hy ne b bf =
       let f : ForkAt Y q u = begun_fork P D e_under.below e.path q u (faithful_upto P (upto_tail hy) lg) b e_under.is in
       let b2 = from_outside y.path (count Y y.path) n ne bf in

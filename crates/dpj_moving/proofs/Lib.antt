@@ -14,3 +14,4 @@ pub mod Theorems
 pub mod Tests
 pub mod Samples
 pub mod OneGathered
+pub mod OneMoved

@@ -1,21 +1,20 @@
 -- Schedules come to an end, and without conflicts to the same one.
-use Rattle.std.proofs.Common.{◌≡◌, ℕ, zero, suc, ◌+◌, ◌*◌, ◌<◌, ◌≤◌, ◌⊎◌, inl, inr, ⊎_elim, List, [], ◌∷◌, ◌++◌, length, refl, sym, ap, ◌∙◌, subst, arith}
+use Rattle.std.proofs.Common.{◌≡◌, ℕ, zero, suc, ◌+◌, ◌*◌, ◌<◌, ◌≤◌, ◌⊎◌, inl, inr, ⊎_elim, List, [], ◌∷◌, ◌++◌, length, refl, sym, subst, arith}
 use Rattle.std.proofs.Common.{append_assoc}
 use Rattle.std.proofs.lemmas.Bool.{cases_lt}
-use Rattle.dpj_runs.specs.Actions.{Ending, Program, cells, steps}
+use Rattle.dpj_runs.specs.Actions.{Ending, Program}
 use Rattle.dpj_runs.specs.Blocks.{Legal}
 use Rattle.dpj_runs.specs.Laws.{AllFree}
-use Rattle.dpj_runs.specs.Meaning.{Disciplined, Known, Lively, Paced}
+use Rattle.dpj_runs.specs.Meaning.{Disciplined, InTurn, Known, Lively, Paced}
 use Rattle.dpj_runs.specs.Order.{Comes, Limited, Outcome}
 use Rattle.dpj_runs.specs.Runs.{Ended, Event, Run, cells_of, entry_step, event_cells, event_steps, mine, steps_of}
-use Rattle.dpj_runs.specs.Schedules.{Finished, Limits, Ran, Ready, Within, ended, no_room, over}
+use Rattle.dpj_runs.specs.Schedules.{Finished, Greatest, Greedy, Limits, Ran, Ready, Within, ended, no_room, over}
 use Rattle.dpj_runs.proofs.Upto.{upto_length}
-use Rattle.dpj_runs.proofs.Mine.{mine_at, mine_nil}
-use Rattle.dpj_runs.proofs.Faithful.{ended_upto}
-use Rattle.dpj_runs.proofs.Cost.{total_nil}
+use Rattle.dpj_runs.proofs.Mine.{mine_at}
 use Rattle.dpj_runs.proofs.Ready.{HasEnded, it_has, it_has_not, has_ended}
-use Rattle.dpj_runs.proofs.Schedules.{ran_legal, ran_length, within_less}
+use Rattle.dpj_runs.proofs.Schedules.{ran_legal}
 use Rattle.dpj_runs.proofs.Bound.{ran_bounded}
+use Rattle.dpj_runs.proofs.Greatest.{next_greatest}
 use Rattle.dpj_runs.proofs.Theorems.{none_costs_more, same_outcome, each_comes_out, some_ready_event}
 
 -- what is recorded is within the limits
@@ -101,3 +100,26 @@ module _ (P : Program) (D : Disciplined P) (V : Lively P) (known : Known P) (C :
 
   pub each_finishes : (ks : List ℕ) (R : Run) → Ran P L ks R → (js : List ℕ) × (o : Outcome) × Finished P L (js ++ ks) o
   each_finishes ks R r = carry_on (2 * L.steps + 2) ks R r (omega arith)
+
+-- the same with the greatest number each time
+module _ (P : Program) (D : Disciplined P) (V : Lively P) (T : InTurn P) (known : Known P) (C : Paced P) (L : Limits) where
+  abbrev Stops : Type 0
+  Stops = (ks : List ℕ) × (R : Run) × Ran P L ks R × Greedy P R
+      × (((x : Ending) × Ended R [] x) ⊎ ((e : Event) × (k : ℕ) × Ready P R k e × Greatest P R e × (Within P L (e ∷ R) → ⊥)))
+
+  greedy_on : (n : ℕ) (ks : List ℕ) (R : Run) → Ran P L ks R → Greedy P R → 2 * L.steps + 2 ≤ n + length ks → Stops
+  greedy_on zero ks R r g h = absurd (let b = ran_bounded P D C L ks R r in omega arith)
+  greedy_on (suc n) ks R r g h = go (λ k e s m. greedy_on n (k ∷ ks) (e ∷ R) s m (omega arith)) (has_ended R [])
+    where
+      l : Legal P R
+      l = ran_legal P L ks R r
+
+      go : ((k : ℕ) (e : Event) → Ran P L (k ∷ ks) (e ∷ R) → Greedy P (e ∷ R) → Stops) → HasEnded R [] → Stops
+      go rec (it_has x y) = (ks, R, r, g, inl (x, y))
+      go rec (it_has_not f) = step (next_greatest P D V T known R l g f)
+        where
+          step : (e : Event) × (k : ℕ) × Ready P R k e × Greatest P R e → Stops
+          step z = ⊎_elim (λ w. rec z.1 z.0 (r, z.2, w) (z.3, g)) (λ m. (ks, R, r, g, inr (z.0, z.1, z.2, z.3, m))) (within_cases P L (z.0 ∷ R))
+
+  pub greatest_finishes : Within P L [] → Stops
+  greatest_finishes w = greedy_on (2 * L.steps + 2) [] [] w tt (omega arith)

@@ -1,7 +1,7 @@
 -- The run in which the ready task with the greatest number always goes on stands in the order of elision.
 use Rattle.std.proofs.Common.{◌≡◌, ℕ, zero, suc, ◌+◌, ◌-◌, ◌<◌, ◌≤◌, ◌⊎◌, inl, inr, ⊎_elim, List, [], ◌∷◌, ◌++◌, length, refl, sym, ap, ◌∙◌, subst, arith, Some}
-use Rattle.std.proofs.Common.{None, slice_get, append_assoc, append-nil}
-use Rattle.std.proofs.lemmas.Bool.{cases_lt, cases_eq}
+use Rattle.std.proofs.Common.{slice_get, append_assoc}
+use Rattle.std.proofs.lemmas.Bool.{cases_lt}
 use Rattle.std.proofs.lemmas.Option.{slice_get_within}
 use Rattle.dpj_runs.specs.Actions.{Action, Answer, Asks, Begin, Branches, Do, End, Ending, Fork, Join, Next, Own, Program, Task}
 use Rattle.dpj_runs.specs.Blocks.{Allowed, In_block, Legal, Out_of, hold, hold_after}
@@ -9,17 +9,17 @@ use Rattle.dpj_runs.specs.Meaning.{AfterFork, Disciplined, InTurn, Known, Lively
 use Rattle.dpj_runs.specs.Objects.{Effect, Path}
 use Rattle.dpj_runs.specs.Order.{InOrder, Lex, level_with, lower, position, shorter, way}
 use Rattle.dpj_runs.specs.Runs.{Begun, Ended, Event, Faithful, Run, Upto, answers, branch, count, later, mine, now, reply, root}
-use Rattle.dpj_runs.specs.Schedules.{Greatest, Greedy, Numbered}
+use Rattle.dpj_runs.specs.Schedules.{Greatest, Greedy, Numbered, Ready}
 use Rattle.dpj_runs.specs.Standing.{Admitted, CanEnter, Inside, Outside, above, first_of, standing}
 use Rattle.dpj_runs.proofs.Upto.{upto_trans, upto_length, upto_split, upto_none, upto_tail}
-use Rattle.dpj_runs.proofs.Mine.{path_cases, mine_same, mine_other, mine_step, mine_at, mine_nil, Found, found, number_of, numbered}
+use Rattle.dpj_runs.proofs.Mine.{mine_same, mine_other, mine_step, mine_at, found, number_of, numbered}
 use Rattle.dpj_runs.proofs.Places.{pair_eq, not_below_self}
 use Rattle.dpj_runs.proofs.Faithful.{agree_self, same_task, begun_upto, ended_upto, none_after_end, fork_above, begin_after, ForkAt}
 use Rattle.dpj_runs.proofs.Between.{complete}
 use Rattle.dpj_runs.proofs.Standing.{Opener, opener_of, first_is, hold_since, outside_above, above_out, begun_fork}
 use Rattle.dpj_runs.proofs.Written.{legal_faithful, allowed_from}
 use Rattle.dpj_runs.proofs.Carry.{begun_at, begun_held}
-use Rattle.dpj_runs.proofs.Numbers.{number_below, number_of_begun, same_begin}
+use Rattle.dpj_runs.proofs.Numbers.{number_below, number_of_begun, number_same, same_begin}
 use Rattle.dpj_runs.proofs.Sorted.{lex_trans}
 use Rattle.dpj_runs.proofs.Sorting.{AllBefore, before_nil, before_more, order_more, lex_snoc}
 use Rattle.dpj_runs.proofs.Ready.{ready_or, AtJoin, held_live}
@@ -107,9 +107,11 @@ module _ (P : Program) (D : Disciplined P) (V : Lively P) (T : InTurn P) (K : Kn
             let s = upto_length h in
             let n = k.way_to xs q u e in
             let fn = f.number in
-            let in_them = slice_get_within f.tasks.tasks u.1 f.task f.is_there in
-            (count v.before q - suc u.0, begin_after P D q f.tasks (count v.before q - suc u.0) lf f.stands f.path f.act v.stands v.path
-                (omega (arith, vn, m, fn)) (omega (arith, vn, s, n, in_them)))
+            let in_them = slice_get_within f.tasks.tasks u.1 f.task f.is_there in (
+              count v.before q - suc u.0,
+              begin_after P D q f.tasks (count v.before q - suc u.0) lf f.stands f.path f.act v.stands v.path
+                  (omega (arith, vn, m, fn)) (omega (arith, vn, s, n, in_them)),
+            )
 
     -- so no entry of the task at work has to wait
     may : (E : List Effect) → CanEnter P.rule R w E
@@ -163,6 +165,31 @@ module _ (P : Program) (D : Disciplined P) (V : Lively P) (T : InTurn P) (K : Kn
             let j = g.none r.0 m.0 n (allowed_from P D R r.0 lf r.2) m.1 num in
             let b = number_below P xs e.path u m.0 lf (subst (λ p. Numbered R m.0 p) (r.1 ∙ q) m.1) num in
             absurd (omega arith)
+
+    -- and its event is that of the greatest number
+    ready_greatest : (e : Event) × (n : ℕ) × Ready P R n e × Greatest P R e
+    ready_greatest = (r.0, m.0, record { allowed = allowed_from P D R r.0 lf r.2; number = m.1 }, record { none = none_greater })
+      where
+        r : (e : Event) × (e.path ≡ w) × Admitted P R e
+        r = ready_worker
+
+        m : (j : ℕ) × Numbered R j r.0.path
+        m = number_of_begun (let d = r.2 in d.follows.begun)
+
+        none_greater : (f : Event) (j n : ℕ) → Allowed P R f → Numbered R j f.path → Numbered R n r.0.path → j ≤ n
+        none_greater f j n a nf ne = go (k.held f.path a.follows.task a.follows.begun)
+          where
+            nw : Numbered R n w
+            nw = subst (λ p. Numbered R n p) r.1 ne
+
+            go : Held R w f.path → j ≤ n
+            go (at_work q) = let h = number_same nf (subst (λ p. Numbered R n p) (sym q) nw) in omega arith
+            go (has_ended x h) =
+                let fl : Faithful P (f ∷ R) = (a.follows, lf) in
+                let i = none_after_end P D f.path fl (later h.stands) h.path h.act now refl in
+                let c = number_of f.path h.stands h.path in
+                absurd (omega arith)
+            go (waits xs u q) = let b = number_below P xs f.path u n lf (subst (λ p. Numbered R n p) q nw) nf in omega arith
 
   -- one event of the task at work
   module _ {R : Run} {e : Event} (l : Legal P (e ∷ R)) {w : Path} (k : Working P R w) (own : e.path ≡ w) where
@@ -272,7 +299,7 @@ module _ (P : Program) (D : Disciplined P) (V : Lively P) (T : InTurn P) (K : Kn
             let a = l.0.follows in
             let t : a.task ≡ k.task = same_task (agree_self R) (subst (λ q. Begun P R q a.task) own a.begun) k.begun in
             let h : P.meaning w a.task (answers (mine R w)) ≡ Next e.turns e.act =
-                subst (λ q. P.meaning q a.task (answers (mine R q)) ≡ Next e.turns e.act) own a.asks in
+            subst (λ q. P.meaning q a.task (answers (mine R q)) ≡ Next e.turns e.act) own a.asks in
             ap (λ s. P.meaning w s (answers (mine R w))) (sym t) ∙ h ∙ ap (λ c. Next e.turns c) act
 
         make : ((p : Path) (t : Task) (got : List Answer) (b : ℕ) → Asks P p t got (Begin b) → (ts : Branches) × (b < length ts.tasks)
@@ -415,3 +442,11 @@ module _ (P : Program) (D : Disciplined P) (V : Lively P) (T : InTurn P) (K : Kn
               let i = none_after_end P D e.path fl (later h.1.stands) h.1.path h.1.act now refl in
               let j = number_of e.path h.1.stands h.1.path in
               absurd (omega arith)
+
+  -- the worker of a greedy run, and its event
+  pub next_greatest : (R : Run) → Legal P R → Greedy P R → ((x : Ending) → Ended R [] x → ⊥) → (e : Event) × (n : ℕ) × Ready P R n e × Greatest P R e
+  next_greatest R l g live = go (greatest_order R l g).1
+    where
+      go : Worker P R → (e : Event) × (n : ℕ) × Ready P R n e × Greatest P R e
+      go (some w k) = ready_greatest l k
+      go (none f) = let h = f [] P.root (root refl refl) in absurd (live h.0 h.1)

@@ -54,7 +54,7 @@ cons_path : (u v : ℕ × ℕ) (p q : Path) → u ∷ p ≡ v ∷ q → (u ≡ v
 cons_path u v p q e = (cc, cc)
 
 -- one number to a task
-number_same : {R : Run} {k j : ℕ} {p : Path} → Numbered R k p → Numbered R j p → k ≡ j
+pub number_same : {R : Run} {k j : ℕ} {p : Path} → Numbered R k p → Numbered R j p → k ≡ j
 number_same (root_is a b) (root_is c d) = b ∙ sym d
 number_same (root_is a b) (branch_is q u G g c d e f n k) = absurd (let z : [] ≡ u ∷ q = sym a ∙ c in cc)
 number_same (branch_is q u G g c d e f n k) (root_is a b) = absurd (let z : [] ≡ u ∷ q = sym a ∙ c in cc)

@@ -6,13 +6,12 @@ use Rattle.dpj_runs.specs.Blocks.{In_block, Out_of, hold, hold_after}
 use Rattle.dpj_runs.specs.Meaning.{Disciplined, Lively}
 use Rattle.dpj_runs.specs.Objects.{Effect, Path}
 use Rattle.dpj_runs.specs.Runs.{Begun, Ended, Event, Faithful, Right, Run, Upto, answers, branch, count, joined, later, mine, now, reply, root}
-use Rattle.dpj_runs.specs.Schedules.{ended}
 use Rattle.dpj_runs.specs.Standing.{Admitted, CanEnter, Inside, Outside, Standing, above, first_of, joined_by, standing}
-use Rattle.dpj_runs.proofs.Upto.{upto_since, upto_trans, upto_length, upto_tail, upto_split, upto_none}
+use Rattle.dpj_runs.proofs.Upto.{upto_trans, upto_length, upto_tail, upto_split, upto_none}
 use Rattle.dpj_runs.proofs.Mine.{path_cases, mine_at, found, same_of, number_of, numbered}
-use Rattle.dpj_runs.proofs.Faithful.{agree_self, next_same, same_task, begun_upto, some_same, follows_at, fork_above, begin_after, none_after_end}
+use Rattle.dpj_runs.proofs.Faithful.{some_same, fork_above, begin_after, none_after_end}
 use Rattle.dpj_runs.proofs.Standing.{first_is, above_step, hold_since, opener_of}
-use Rattle.dpj_runs.proofs.ForkSince.{ForkSince, fork_since, asked}
+use Rattle.dpj_runs.proofs.ForkSince.{fork_since, asked}
 use Rattle.dpj_runs.proofs.Carry.{has_event, begun_held}
 
 is_end : (a : Action) → ((x : Ending) × (a ≡ End x)) ⊎ ((x : Ending) → a ≡ End x → ⊥)
@@ -102,9 +101,11 @@ module _ (P : Program) (D : Disciplined P) (V : Lively P) (R : Run) (l : Faithfu
   -- an action that a task asks for, rightly answered, is ready, where an entry may come
   make : (p : Path) (t : Task) (c : Action) (a : Answer) → Begun P R p t → Asks P p t (answers (mine R p)) c → Right P R p c a
       → ((E : List Effect) → CanEnter P.rule R p E) → (e : Event) × (e.path ≡ p) × Admitted P R e
-  make p t c a b k r may =
-      (record { path = p; turns = k.0; act = c; ans = a }, refl,
-          record { follows = record { task = t; begun = b; asks = k.1; right = r }; enters = λ E i. may E })
+  make p t c a b k r may = (
+    record { path = p; turns = k.0; act = c; ans = a },
+    refl,
+    record { follows = record { task = t; begun = b; asks = k.1; right = r }; enters = λ E i. may E },
+  )
 
   -- the fork in front of whose join a task stands
   pub record AtJoin (p : Path) (t : Task) : Type 0 where
@@ -159,7 +160,7 @@ module _ (P : Program) (D : Disciplined P) (V : Lively P) (R : Run) (l : Faithfu
   pub ready_or : (Q : Type 0) (p : Path) (t : Task) → Begun P R p t → ((x : Ending) → Ended R p x → ⊥) → ((E : List Effect) → CanEnter P.rule R p E)
       → ((e : Event) → e.path ≡ p → Admitted P R e → Q)
       → ((j : AtJoin p t) (i : ℕ) (s : Task) → Begun P R ((count j.before p, 0 + i) ∷ p) s → ((x : Ending) → Ended R ((count j.before p, 0 + i) ∷ p) x → ⊥)
-          → Q) → Q
+      → Q) → Q
   ready_or Q p t b live may done down = let x = next_action p t b live in at_act x.0 x.1
     where
       ready : (e : Event) × (e.path ≡ p) × Admitted P R e → Q

@@ -2,7 +2,7 @@
 use Rattle.std.proofs.Common.{◌≡◌, ℕ, pos, zero, suc, ◌⊎◌, inl, inr, ⊎_elim, Bool, true, false, cond, true≢false, ◌==◌, List}
 use Rattle.std.proofs.Common.{[], ◌∷◌, length, map, refl, sym, ap, ◌∙◌, subst, arith, Option, Some, None, slice_get}
 use Rattle.dpj_runs.specs.Actions.{Action, Answer, Assigned, Begin, Branches, Deterministic, Do, End, Ending, Enter, Exit, Got, Kind, Look, New, Next}
-use Rattle.dpj_runs.specs.Actions.{Nondeterministic, Print, Program, Read, Reply, Rest, Returned, Rule, Went, Write, cells, steps}
+use Rattle.dpj_runs.specs.Actions.{Nondeterministic, Print, Program, Read, Reply, Rest, Returned, Rule, Went, Write}
 use Rattle.dpj_runs.specs.Blocks.{Allowed, Legal}
 use Rattle.dpj_runs.specs.Meaning.{Paced}
 use Rattle.dpj_runs.specs.Objects.{An_array, Effect, Int, Name, Path, Star, Value, Writing, same_path}
@@ -296,8 +296,7 @@ determinism_applies =
     let d = each_comes_out prints other_turn (Returned (int 5)) m other_turn_ended in
     let f : Finished prints L r.0 c.0 = ended turn_run r.1 c.1 in
     let g : Finished prints L s.0 d.0 = ended other_turn s.1 d.1 in
-    let same = schedules_agree prints D free L r.0 s.0 c.0 d.0 f g in
-    (
+    let same = schedules_agree prints D free L r.0 s.0 c.0 d.0 f g in (
       prints,
       D,
       free,

@@ -5,7 +5,6 @@ use Rattle.std.proofs.lemmas.Bool.{cases_lt}
 use Rattle.dpj_runs.specs.Actions.{Action, Answer, Begin, Branches, Do, End, Ending, Fork, Join, Next, Over, Own, Program, Reply, Returned, Rule, Task}
 use Rattle.dpj_runs.specs.Meaning.{AfterFork, Disciplined, InTurn, Lively}
 use Rattle.dpj_runs.specs.Objects.{An_object, Int, Name, Null, Path, Thing, Value}
-use Rattle.dpj_runs.specs.Runs.{count}
 
 pub data Item : Type 0 where
   does : (turns : ℕ) (own : Own) → Item
@@ -255,7 +254,7 @@ begin_after (forks s ts ∷ is) x (suc n) t c e = go (begin_after is x) (begin_f
   where
     go : ((m u d : ℕ) → after is x m ≡ Next u (Begin d) → Beginning (λ m. after is x m) m d)
         → ((n < length ts.tasks) × (c ≡ 0 + n)) ⊎ ((m : ℕ) × (n ≡ suc (length ts.tasks + m)) × (after is x m ≡ Next t (Begin c)))
-            → Beginning (λ m. after (forks s ts ∷ is) x m) (suc n) c
+        → Beginning (λ m. after (forks s ts ∷ is) x m) (suc n) c
     go rec (inl h) = let i = h.0 in let j = h.1 in record { branches = ts; at = 0; turns = s; number = omega arith; there = omega arith; is = refl }
     go rec (inr h) =
         let r = rec h.0 t c h.2 in
@@ -303,8 +302,14 @@ forked bodies fields rule p t got ts at turns n num is = go (split_at got (suc a
             let j = ap length e in
             let k = length-append s.later_ones (a ∷ es) in
             let i : length es ≡ at = omega arith in
-            record { since = s.later_ones; answer = a; earlier = es; is = e; number = omega arith;
-                forks = (turns, ap (λ q. after (items_of bodies t) (ending_of bodies t) q) i ∙ is) }
+            record {
+              since = s.later_ones;
+              answer = a;
+              earlier = es;
+              is = e;
+              number = omega arith;
+              forks = (turns, ap (λ q. after (items_of bodies t) (ending_of bodies t) q) i ∙ is);
+            }
 
 pub script_lively : (bodies : List Body) (fields : List Value) (rule : Rule) → Lively (scripted bodies fields rule)
 script_lively bodies fields rule = record {

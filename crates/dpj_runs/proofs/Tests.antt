@@ -9,7 +9,7 @@ use Rattle.dpj_runs.specs.Laws.{AllFree}
 use Rattle.dpj_runs.specs.Meaning.{Known}
 use Rattle.dpj_runs.specs.Objects.{Cell, Name, Path, Value, same_name, same_path, size, slot_of}
 use Rattle.dpj_runs.specs.Order.{Conflict, Free, Unordered, read_write, write_read, write_write}
-use Rattle.dpj_runs.specs.Runs.{Begun, Event, Faithful, Follows, Run, Upto, answered_by, answers, branch, count, made, mine, read_at, reply, root, seen}
+use Rattle.dpj_runs.specs.Runs.{Begun, Event, Faithful, Follows, Run, Upto, answered_by, answers, branch, made, mine, read_at, reply, root, seen}
 use Rattle.dpj_runs.specs.Runs.{thing_of, wrote_at}
 use Rattle.dpj_runs.proofs.Upto.{upto_tail, upto_trans, upto_split, upto_none}
 use Rattle.dpj_runs.proofs.Mine.{test_same, test_other}
@@ -275,14 +275,14 @@ module _ (body : Body) (bodies : List Body) (fields : List Value) (rule : Rule) 
       go (branch q u F f ts B g p hf fq fn fa there hg gq ga gn) =
           let s = follows_at its (upto_trans hf (upto_tail hy)) l in
           let asks : after (body_of (slice_get (body ∷ bodies) s.task.body)).items (body_of (slice_get (body ∷ bodies) s.task.body)).ending
-              (length (answers (mine F f.path))) ≡ Next f.turns (Fork ts) = s.asks ∙ ap (λ c. Next f.turns c) fa in
+          (length (answers (mine F f.path))) ≡ Next f.turns (Fork ts) = s.asks ∙ ap (λ c. Next f.turns c) fa in
           let none = after_below (body_of (slice_get (body ∷ bodies) s.task.body)).items (body_of (slice_get (body ∷ bodies) s.task.body)).ending
-              (all_below_at (body ∷ bodies) s.task.body parts_of.0) (length (answers (mine F f.path))) f.turns ts asks in
+          (all_below_at (body ∷ bodies) s.task.body parts_of.0) (length (answers (mine F f.path))) f.turns ts asks in
           let m = not_root ts.tasks u.1 a.task none there in
           let quiet : items_quiet (body_of (slice_get (body ∷ bodies) a.task.body)).items ≡ true =
-              ap (λ n. items_quiet (body_of (slice_get (body ∷ bodies) n)).items) m.1 ∙ all_quiet_at bodies m.0 parts_of.1 in
+          ap (λ n. items_quiet (body_of (slice_get (body ∷ bodies) n)).items) m.1 ∙ all_quiet_at bodies m.0 parts_of.1 in
           after_quiet (body_of (slice_get (body ∷ bodies) a.task.body)).items (body_of (slice_get (body ∷ bodies) a.task.body)).ending quiet
-              (length (answers (mine Y y.path))) y.turns o (a.asks ∙ ap (λ c. Next y.turns c) k)
+          (length (answers (mine Y y.path))) y.turns o (a.asks ∙ ap (λ c. Next y.turns c) k)
 
   pub script_free : AllFree its
   script_free R l = record { no = no }

@@ -1,12 +1,10 @@
 -- The laws, from the lemmas.
 use Rattle.std.proofs.Common.{◌≡◌, ◌+◌, ℕ, suc, [], ◌∷◌, refl, sym, ap, ◌∙◌, subst, arith, inr, append-nil}
-use Rattle.dpj_runs.specs.Actions.{cells, steps}
 use Rattle.dpj_runs.specs.Laws.{BlocksByStanding, Comparison, EachComesOut, GreatestFirst, NoneCostsMore, NothingAfter, OneNext, OneOutcome, OrderOf, Present}
 use Rattle.dpj_runs.specs.Laws.{Respects, SameEvents, SameOutcome, SomeReady}
 use Rattle.dpj_runs.specs.Objects.{Path, size}
 use Rattle.dpj_runs.specs.Order.{Agree, Came, ending_of, printed, trapped}
 use Rattle.dpj_runs.specs.Runs.{Ended, Event, Faithful, Run, Upto, cells_of, entry_step, event_cells, event_steps, later, mine, now, steps_of, total}
-use Rattle.dpj_runs.specs.Schedules.{ended}
 use Rattle.dpj_runs.proofs.Mine.{mine_step, number_of}
 use Rattle.dpj_runs.proofs.Faithful.{agree_self, none_after_end}
 use Rattle.dpj_runs.proofs.Written.{allowed_from, legal_faithful, valid_from, legal_from}

@@ -1,17 +1,21 @@
 -- The laws of runs, as statements.
-use Rattle.std.specs.Prelude.{ℕ, ◌≡◌, ◌≤◌, ◌+◌, ◌*◌, List, [], ◌∷◌, ◌++◌, length}
+use Rattle.std.specs.Prelude.{ℕ, ◌⊎◌, ◌≡◌, ◌≤◌, ◌+◌, ◌*◌, List, [], ◌∷◌, ◌++◌, length}
 use Rattle.dpj_runs.specs.Objects.{Path}
 use Rattle.dpj_runs.specs.Actions.{Ending, Program}
-use Rattle.dpj_runs.specs.Runs.{Event, Run, Upto, mine, count, total, Ended}
+use Rattle.dpj_runs.specs.Runs.{Event, Faithful, Run, Upto, mine, count, total, Ended}
 use Rattle.dpj_runs.specs.Blocks.{Allowed, Legal}
 use Rattle.dpj_runs.specs.Standing.{Valid}
 use Rattle.dpj_runs.specs.Order.{Agree, Before, Comes, Free, InOrder, IsPlain, Outcome, Passes, Related}
 use Rattle.dpj_runs.specs.Meaning.{Disciplined, InTurn, Known, Lively, Paced}
-use Rattle.dpj_runs.specs.Schedules.{Finished, Greedy, Limits, Ran, Ready, Within}
+use Rattle.dpj_runs.specs.Schedules.{Finished, Greatest, Greedy, Limits, Ran, Ready, Within}
 
 -- the rule of open blocks as it is written and the one by paths and own events allow the same runs
 abbrev pub BlocksByStanding : Type 0
 BlocksByStanding = (P : Program) → Disciplined P → (R : Run) → (Legal P R → Valid P R) × (Valid P R → Legal P R)
+
+-- blocks aside, a legal run is one whose events came rightly
+abbrev pub LegalIsFaithful : Type 0
+LegalIsFaithful = (P : Program) (R : Run) → Legal P R → Faithful P R
 
 -- what is before an event in every run stands before it in each legal run that has both
 abbrev pub Respects : Type 0
@@ -101,3 +105,9 @@ EachFinishes = (P : Program) → Disciplined P → Lively P → Known P → Pace
 -- the run in which the ready task with the greatest number always goes on stands in the order of elision
 abbrev pub GreatestFirst : Type 0
 GreatestFirst = (P : Program) → Disciplined P → Lively P → InTurn P → Known P → (R : Run) → Legal P R → Greedy P R → InOrder R
+
+-- and there is such a run for each limits: until its root has ended, or the next event of the greatest number is over a limit
+abbrev pub GreatestFinishes : Type 0
+GreatestFinishes = (P : Program) → Disciplined P → Lively P → InTurn P → Known P → Paced P → (L : Limits) → Within P L []
+    → (ks : List ℕ) × (R : Run) × Ran P L ks R × Greedy P R
+    × (((x : Ending) × Ended R [] x) ⊎ ((e : Event) × (k : ℕ) × Ready P R k e × Greatest P R e × (Within P L (e ∷ R) → ⊥)))

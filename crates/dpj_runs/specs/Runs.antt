@@ -184,8 +184,8 @@ joined_or None ls = Joined ls
 abbrev pub joined : List Ending → Answer
 joined xs = joined_or (first_trap xs) (all_locals xs)
 
--- the task has made nothing but begins since a fork, all branches of that fork have begun and ended, and this is the answer
--- to the join
+-- since a fork the task has made as many events as the fork has branches, which are their begins; all branches have ended; and
+-- this is the answer to the join
 pub record Joins (R : Run) (p : Path) (a : Answer) : Type 0 where
   pub before : Run
   pub fork : Event

@@ -1,23 +1,22 @@
 //! The laws of runs, each the clause of a function that does nothing.
 
-ghost use Rattle.dpj_runs.specs.Laws.{BlocksByStanding, Respects, OrderOf, Present, Comparison, SameEvents, SameOutcome, NoneCostsMore};
+ghost use Rattle.dpj_runs.specs.Laws.{BlocksByStanding, LegalIsFaithful, Respects, OrderOf, Present, Comparison, SameEvents, SameOutcome, NoneCostsMore};
 ghost use Rattle.dpj_runs.specs.Laws.{EachComesOut, OneOutcome, NothingAfter, SomeReady, OneNext, OneRun, RanIsLegal, EachRecorded};
-ghost use Rattle.dpj_runs.specs.Laws.{ScheduleIsBounded, FinishedIsBounded, SchedulesAgree, EachFinishes, GreatestFirst};
+ghost use Rattle.dpj_runs.specs.Laws.{ScheduleIsBounded, FinishedIsBounded, SchedulesAgree, EachFinishes, GreatestFirst, GreatestFinishes};
 ghost use Rattle.dpj_runs.specs.Samples.{ComparisonApplies, ComparisonNeedsFree, RespectsNeedsPassing, ReadyApplies, ReadyNeedsKnown};
 ghost use Rattle.dpj_runs.specs.Samples.{BoundApplies, BoundNeedsPaced, DeterminismApplies};
 
 /// Who stands inside which block is known from paths and from each task's own events.
 pub fn law_blocks()
     ensures by_standing { BlocksByStanding }
+    ensures faithful { LegalIsFaithful }
 {}
 
-/// Which of two events comes first is the same in every legal run, but for those of different branches of one fork. Where
-/// the ready task with the greatest number always goes on, the run stands in the order of elision.
+/// Which of two events comes first is the same in every legal run, but for those of different branches of one fork.
 pub fn law_order()
     ensures respects { Respects }
     ensures order_of { OrderOf }
     ensures present { Present }
-    ensures greatest { GreatestFirst }
 {}
 
 /// Legal runs without unordered conflicts agree as far as both go.
@@ -50,6 +49,13 @@ pub fn law_schedule()
     ensures bounded { ScheduleIsBounded }
     ensures finished { FinishedIsBounded }
     ensures finishes { EachFinishes }
+{}
+
+/// Where the ready task with the greatest number always goes on, the run stands in the order of elision, and comes to an end
+/// within limits.
+pub fn law_greatest()
+    ensures in_order { GreatestFirst }
+    ensures finishes { GreatestFinishes }
 {}
 
 /// Where no legal run has unordered conflicts, all finished schedules come out the same, limits included.

@@ -4,4 +4,11 @@ use Rattle.dpj_runs.proofs.Finishing.{each_finishes}
 use Rattle.dpj_runs.proofs.laws.law_schedule.Goals as goal
 
 pub returns : goal.returns
-returns c = record { one_run = one_run; legal = ran_legal; recorded = recorded; bounded = ran_bounded; finished = finished_bounded; finishes = λ P D V K C L ks R r. each_finishes P D V K C L ks R r }
+returns c = record {
+  one_run = one_run;
+  legal = ran_legal;
+  recorded = recorded;
+  bounded = ran_bounded;
+  finished = finished_bounded;
+  finishes = λ P D V K C L ks R r. each_finishes P D V K C L ks R r;
+}
