@@ -7,3 +7,5 @@ pub mod Theorems
 pub mod Pieces
 pub mod Placed
 pub mod Whole
+pub mod Bodies
+pub mod Typed

@@ -11,7 +11,11 @@ use Rattle.dpj_code.specs.declared.instr.Instr.TheVariants as i
 use Rattle.dpj_code.specs.Plain.{Line, Title, of_member, of_branch, Site, PlainBody, body_or_none, PlainCode, body_at}
 use Rattle.dpj_gen.specs.Pieces.{Branch, Piece, Next, past, nothing, line, with_site, with_text, with_branches, beside}
 use Rattle.dpj_gen.specs.Scheme.{is_void, after_expr, after_exprs, after_stmt, after_stmts, after_regions, expr_piece, exprs_piece, stmt_piece, stmts_piece, regions_piece, branches_of, class_code}
-use Rattle.dpj_gen.specs.Stands.{LineAt, StmtAt, StmtsAt, MemberEnds, MemberIs, LaidOut, first_place}
+use Rattle.dpj_gen.specs.Stands.{LineAt, StmtAt, StmtsAt, MemberEnds, MemberIs, EndsAt, BodyIs, LaidOut, first_place}
+use Rattle.dpj_gen.specs.Resolved.{gives_value, Resolved}
+use Rattle.dpj_gen.specs.Compiled.{Compiled}
+use Rattle.dpj_gen.specs.Laws.{work_of}
+use Rattle.dpj_meaning.specs.Actions.{Frame}
 use Rattle.dpj_gen.specs.Whole.{weight, weight_all, weight_branches, no_place, place_of, branch_piece_of, branch_piece, closing, member_piece, body_of, Output, no_output, followed_by, then_output, generate, in_member, member_output, past_output, members_output, member_numbers, first, number_in, compiled}
 use Rattle.dpj_gen.proofs.Pieces.{Holds, split, all_of, Far, far, next, stop, BranchStands, Queued, queued, Laid, cut, here}
 use Rattle.dpj_gen.proofs.Placed.{stmt_far, stmts_far, stmt_at, stmts_at}
@@ -21,13 +25,13 @@ abbrev pub need : List Branch → ℕ
 need [] = 0
 need (b ∷ bs) = suc (weight b.stmt) + need bs
 
-need_on : (xs ys : List Branch) → need (xs ++ ys) ≡ need xs + need ys
+pub need_on : (xs ys : List Branch) → need (xs ++ ys) ≡ need xs + need ys
 need_on [] ys = omega arith
 need_on (x ∷ xs) ys = let r = need_on xs ys in omega arith
 
 -- a piece puts branches into the queue that lead to n bodies
-record Needs (a : Piece) (n : ℕ) : Type 0 where
-  is : need a.branches ≡ n
+pub record Needs (a : Piece) (n : ℕ) : Type 0 where
+  pub is : need a.branches ≡ n
 
 both : {a b : Piece} {n m q : ℕ} → Needs a n → Needs b m → n + m ≡ q → Needs (beside a b) q
 unfolding beside
@@ -63,7 +67,7 @@ many_branches s n no_branches = refl
 many_branches s n (more_branches copies t bs) = let r = many_branches s (suc n) bs in omega arith
 
 mutual
-  expr_needs : (k : Next) (p : ℕ) (e : TypedExpr) → Needs (expr_piece k p e) 0
+  pub expr_needs : (k : Next) (p : ℕ) (e : TypedExpr) → Needs (expr_piece k p e) 0
   expr_needs k p (typed at t (expr.int n)) = skip _ _ stop_here
   expr_needs k p (typed at t (expr.boolean b)) = skip _ _ stop_here
   expr_needs k p (typed at t expr.null) = skip _ _ stop_here
@@ -81,7 +85,7 @@ mutual
   expr_needs k p (typed at t (expr.part_length x)) = skip _ _ stop_here
   expr_needs k p (typed at t (expr.part_element x j)) = clear (expr_needs k p j) (skip _ _ (skip _ _ stop_here))
 
-  exprs_needs : (k : Next) (p : ℕ) (es : TypedExprs) → Needs (exprs_piece k p es) 0
+  pub exprs_needs : (k : Next) (p : ℕ) (es : TypedExprs) → Needs (exprs_piece k p es) 0
   exprs_needs k p no_exprs = stop_here
   exprs_needs k p (more_exprs e es) = clear (expr_needs k p e) (exprs_needs _ _ es)
 
@@ -94,7 +98,7 @@ regions_needs p at [] = stop_here
 regions_needs p at (r ∷ rs) = skip _ _ (regions_needs (suc p) at rs)
 
 mutual
-  stmt_needs : (k : Next) (p : ℕ) (s : TypedStmt) → Needs (stmt_piece k p s) (weight s)
+  pub stmt_needs : (k : Next) (p : ℕ) (s : TypedStmt) → Needs (stmt_piece k p s) (weight s)
   stmt_needs k p (statement at (form.declare x t is_final e)) = clear (expr_needs k p e) (skip _ _ stop_here)
   stmt_needs k p (statement at (form.store x e)) = clear (expr_needs k p e) (skip _ _ stop_here)
   stmt_needs k p (statement at (form.store_field o c f e)) = clear (expr_needs k p o) (clear (expr_needs _ _ e) (skip _ _ stop_here))
@@ -121,16 +125,16 @@ mutual
       skip _ _ (skip _ _ (skip _ _ (skip _ _ (clear (expr_needs _ _ count)
       (skip _ _ (skip _ _ (skip _ _ (skip _ _ (skip _ _ (branch _ _ (one_more (weight s))))))))))))
 
-  stmts_needs : (k : Next) (p : ℕ) (ss : TypedStmts) → Needs (stmts_piece k p ss) (weight_all ss)
+  pub stmts_needs : (k : Next) (p : ℕ) (ss : TypedStmts) → Needs (stmts_piece k p ss) (weight_all ss)
   stmts_needs k p no_stmts = stop_here
   stmts_needs k p (more_stmts s ss) = both (stmt_needs k p s) (stmts_needs _ _ ss) refl
 
 
-branch_needs : (k : Next) (at : Place) (s : TypedStmt) (takes : Option ℕ) → Needs (branch_piece_of k at s takes) (weight s)
+pub branch_needs : (k : Next) (at : Place) (s : TypedStmt) (takes : Option ℕ) → Needs (branch_piece_of k at s takes) (weight s)
 branch_needs k at s None = both (stmt_needs k 0 s) (skip _ _ stop_here) (omega arith)
 branch_needs k at s (Some x) = skip _ _ (both (stmt_needs k 1 s) (skip _ _ stop_here) (omega arith))
 
-member_needs : (k : Next) (ss : TypedStmts) (z : Bool) → Needs (beside (stmts_piece k 0 ss) (closing z)) (weight_all ss)
+pub member_needs : (k : Next) (ss : TypedStmts) (z : Bool) → Needs (beside (stmts_piece k 0 ss) (closing z)) (weight_all ss)
 member_needs k ss true = both (stmts_needs k 0 ss) (skip _ _ stop_here) (omega arith)
 member_needs k ss false = both (stmts_needs k 0 ss) stop_here (omega arith)
 
@@ -139,10 +143,10 @@ module _ (C : PlainCode) where
   is_body j h = ap body_or_none h
 
   -- bodies, sites and texts stand in the code
-  record OutputAt (k : Next) (j : ℕ) (a : Output) : Type 0 where
-    bodies : Holds C.bodies j a.bodies
-    sites : Holds C.sites k.site a.sites
-    texts : Holds C.texts k.text a.texts
+  pub record OutputAt (k : Next) (j : ℕ) (a : Output) : Type 0 where
+    pub bodies : Holds C.bodies j a.bodies
+    pub sites : Holds C.sites k.site a.sites
+    pub texts : Holds C.texts k.text a.texts
 
   branch_stands : (j : ℕ) (k : Next) (m : PlainMember) (t : Title) (s : TypedStmt) (takes : Option ℕ) (at : Place) → slice_get C.bodies j ≡ Some (body_of t m (branch_piece_of k at s takes)) → Laid C (branch_piece_of k at s takes).lines k 0 (branch_piece_of k at s takes) → BranchStands C j (record { title = t; takes = takes; stmt = s })
   branch_stands j k m t s None at e h =
@@ -168,7 +172,7 @@ module _ (C : PlainCode) where
       }
 
   -- what stands from j on where the queue's first is numbered j, and the next after the queue is numbered by k
-  generated : (n j : ℕ) (m : PlainMember) (k : Next) (todo : List Branch) → need todo ≤ n → j + length todo ≡ k.body → OutputAt k j (generate n m k todo) → Queued C j todo
+  pub generated : (n j : ℕ) (m : PlainMember) (k : Next) (todo : List Branch) → need todo ≤ n → j + length todo ≡ k.body → OutputAt k j (generate n m k todo) → Queued C j todo
   generated zero j m k [] l e h = tt
   generated zero j m k (b ∷ todo) l e h = absurd (omega arith)
   generated (suc n) j m k [] l e h = tt
@@ -186,7 +190,7 @@ module _ (C : PlainCode) where
       (branch_stands j k m b.title b.stmt b.takes (place_of b.stmt) h.bodies.0 (record { lines = all_of a.lines; sites = s.0; texts = t.0; branches = own }), q.0)
 
   -- a member and its branches
-  member_queued : (k : Next) (m : PlainMember) → OutputAt k k.body (member_output k m) → Laid C (member_piece (in_member k) m).lines (in_member k) 0 (member_piece (in_member k) m)
+  pub member_queued : (k : Next) (m : PlainMember) → OutputAt k k.body (member_output k m) → Laid C (member_piece (in_member k) m).lines (in_member k) 0 (member_piece (in_member k) m)
   member_queued k m h =
       let a = member_piece (in_member k) m in
       let rest = generate (weight_all m.body) m (past (in_member k) a) a.branches in
@@ -204,7 +208,7 @@ module _ (C : PlainCode) where
   closing_at c k p true h = (no_place, (here C h).0)
   closing_at c k p false h = tt
 
-  member_is : (k : Next) (m : PlainMember) → OutputAt k k.body (member_output k m) → MemberIs C (body_at C k.body) m
+  pub member_is : (k : Next) (m : PlainMember) → OutputAt k k.body (member_output k m) → MemberIs C (body_at C k.body) m
   member_is k m h =
       let a = member_piece (in_member k) m in
       let e = h.bodies.0 in
@@ -218,7 +222,7 @@ module _ (C : PlainCode) where
         ends = subst (λ b. MemberEnds C b.lines (after_stmts 0 m.body) (is_void m.result)) (sym (is_body k.body e)) y;
       }
 
-  first_output : (k : Next) (m : PlainMember) (ms : List PlainMember) → OutputAt k k.body (members_output k (m ∷ ms)) → OutputAt k k.body (member_output k m) × OutputAt (past_output k (member_output k m)) (past_output k (member_output k m)).body (members_output (past_output k (member_output k m)) ms)
+  pub first_output : (k : Next) (m : PlainMember) (ms : List PlainMember) → OutputAt k k.body (members_output k (m ∷ ms)) → OutputAt k k.body (member_output k m) × OutputAt (past_output k (member_output k m)) (past_output k (member_output k m)).body (members_output (past_output k (member_output k m)) ms)
   first_output k m ms h =
       let a = member_output k m in
       let rest = members_output (past_output k a) ms in
@@ -232,7 +236,7 @@ module _ (C : PlainCode) where
   members_are (x ∷ ms) k h zero m e = let r : x ≡ m = cc in subst (λ y. MemberIs C (body_at C k.body) y) r (member_is k x (first_output k x ms h).0)
   members_are (x ∷ ms) k h (suc n) m e = members_are ms (past_output k (member_output k x)) (first_output k x ms h).1 n m e
 
-bodies_at : (P : PlainProgram) → OutputAt (compiled P) first 0 (members_output first P.members)
+pub bodies_at : (P : PlainProgram) → OutputAt (compiled P) first 0 (members_output first P.members)
 unfolding compiled
 bodies_at P = record { bodies = all_of _; sites = all_of _; texts = all_of _ }
 
@@ -240,10 +244,21 @@ classes_are : (P : PlainProgram) → (compiled P).classes ≡ map (class_code P 
 unfolding compiled
 classes_are P = refl
 
-members_at : (P : PlainProgram) (n : ℕ) (m : PlainMember) → member_at P n ≡ Some m → MemberIs (compiled P) (body_at (compiled P) (number_in P n)) m
+pub members_at : (P : PlainProgram) (n : ℕ) (m : PlainMember) → member_at P n ≡ Some m → MemberIs (compiled P) (body_at (compiled P) (number_in P n)) m
 unfolding number_in
 members_at P n m e = members_are (compiled P) P.members first (bodies_at P) n m e
 
 -- the code of a program is laid out by the scheme
 pub laid_out : (P : PlainProgram) → LaidOut (compiled P) P (number_in P)
 laid_out P = record { classes = classes_are P; members = members_at P }
+
+-- each member is compiled
+pub root_is : (P : PlainProgram) (resolved : Resolved P) (n : ℕ) (m : PlainMember) → member_at P n ≡ Some m → (b : PlainBody) → MemberIs (compiled P) b m → BodyIs (compiled P) b (work_of m)
+root_is P resolved n m e b is = record { begins = tt; stmts = is.stmts; ends = go (is_void m.result) refl is.ends }
+  where
+    go : (z : Bool) → is_void m.result ≡ z → MemberEnds (compiled P) b.lines (after_stmts 0 m.body) z → EndsAt (compiled P) b (after_stmts 0 m.body) (work_of m) true
+    go true q h = inl h
+    go false q h = inr (resolved.ends n m e (ap not q))
+
+pub members_are_compiled : {N M : Type 0} (P : PlainProgram) → Resolved P → (n : ℕ) (m : PlainMember) → member_at P n ≡ Some m → (f : Frame N M) → Compiled (compiled P) P (record { body = number_in P n; frame = f }) (record { work = work_of m; frame = f })
+members_are_compiled P resolved n m e f = record { body = root_is P resolved n m e _ (members_at P n m e); frame = refl; gives = gives_value m; fits = resolved.bodies n m e }

@@ -4,3 +4,4 @@ pub mod Stands
 pub mod Resolved
 pub mod Compiled
 pub mod Whole
+pub mod Laws
