@@ -1,5 +1,5 @@
 -- How the blocks are found that may interfere: by numbers of the fixed elements at the front of a path.
-use Rattle.std.specs.Prelude.{◌≡◌, ℕ, ◌+◌, ◌*◌, ◌%◌, ◌^◌, ◌≤◌, ◌≢◌, min, ◌⊎◌, Bool, true, false, List, [], ◌∷◌, Option, Some, None, MatchBool}
+use Rattle.std.specs.Prelude.{◌≡◌, ℕ, ◌+◌, ◌*◌, ◌%◌, ◌^◌, ◌≤◌, ◌≢◌, ◌⊎◌, cond, nat_lt, Bool, true, false, List, [], ◌∷◌, Option, Some, None, MatchBool}
 use Rattle.std.specs.Ordering.{nat_cmp}
 use Rattle.std.specs.BTreeMap.{get}
 use Rattle.std.specs.BTreeSet.{contains}
@@ -82,7 +82,7 @@ pub record KeepsOthers (task : ℕ) (old new : Index) : Type 0 where
 abbrev pub lesser : Option ℕ → Option ℕ → Option ℕ
 lesser None other = other
 lesser (Some a) None = Some a
-lesser (Some a) (Some b) = Some (min a b)
+lesser (Some a) (Some b) = cond (nat_lt b a) (Some b) (Some a)
 
 abbrev pub AtMost : Option ℕ → ℕ → Type 0
 AtMost None q = ⊥

@@ -26,6 +26,10 @@ abbrev pub AllRoot : List Effect → Type 0
 AllRoot [] = Unit {0}
 AllRoot (e ∷ es) = (e.rpl.head ≡ Root) × AllRoot es
 
+abbrev pub effects_of : Option Standing → List Effect
+effects_of (Some (Opener effects depth)) = effects
+effects_of standing = []
+
 -- the task is the opener of the block that another was adopted into
 abbrev pub opened_for : Option Standing → ℕ → Bool
 opened_for (Some (Adopted opener depth)) q = opener == q
