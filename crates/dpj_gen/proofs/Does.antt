@@ -150,12 +150,12 @@ module _ {N M : Type 0} {names : Naming N M} {C : PlainCode} {P : PlainProgram} 
   pub does_make : {b : ℕ} {s : State N M} {k : M → State N M} (q : M → Told N M → Out N M (Result N M) (Told N M)) (K : Result N M → Told N M → Reply N M (Task N M)) → step names C s ≡ stand.Makes k → ((r : M) → Does names C P b (k r) (λ w. after (q r w) K)) → Does names C P b s (λ w. after (bind ((told names).make w) q) K)
   does_make {b} {s} {k} q K e d = record {
     from = λ w l r. (let x = ticks {b = b} {s = k (names.made w.made)} (λ v. q (names.made w.made) v) K (d (names.made w.made)) (record w { made = suc w.made }) l (omega arith) in
-      record {
-        fuel = suc x.fuel;
-        reply = x.reply;
-        stands = ap (λ o. stood names (λ n m t ys. solo names C x.fuel n m t ys) w.since w.made o w.to_come) e ∙ x.stands;
-        same = subst (λ y. SameReply C P y x.reply) (sym (ap (λ o. after o K) (bind_assoc (turned_told (record w { made = suc w.made })) (λ u v. Done (names.made w.made) v) q))) x.same;
-      });
+        record {
+          fuel = suc x.fuel;
+          reply = x.reply;
+          stands = ap (λ o. stood names (λ n m t ys. solo names C x.fuel n m t ys) w.since w.made o w.to_come) e ∙ x.stands;
+          same = subst (λ y. SameReply C P y x.reply) (sym (ap (λ o. after o K) (bind_assoc (turned_told (record w { made = suc w.made })) (λ u v. Done (names.made w.made) v) q))) x.same;
+        });
   }
 
   pub does_end : {b : ℕ} (e : Ending N) → Does names C P b (Off e) (λ w. ending e w.since w.to_come)

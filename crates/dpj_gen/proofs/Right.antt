@@ -146,8 +146,8 @@ module _ {N M : Type 0} (names : Naming N M) (C : PlainCode) (P : PlainProgram) 
       (subst (λ o. Sim names C P d (enters names C seen r vs own (lvl b p st f) fs) (λ v g. spot b fs p (kept y v st) g) G (elim o as (λ z. Prog N M) [ None ↦ gives none f | Some m ↦ on (deep m.body (meaning.entered names m vs (regions_above names (program.parent_of P) (length P.classes) seen.0 seen.1 m.class ++ own) (f.left - 1))) (meaning.back f) ])) (sym row.is_there)
       (subst (λ s. Sim names C P d s (λ v g. spot b fs p (kept y v st) g) G (on (deep row.member.body (meaning.entered names row.member vs (regions_above names (program.parent_of P) (length P.classes) seen.0 seen.1 row.member.class ++ own) (f.left - 1))) (meaning.back f))) (sym same)
       (in_member d k deep e rb row.number row.member row.is_there vs (regions_above names (program.parent_of P) (length P.classes) seen.0 seen.1 row.member.class ++ own) (lvl b p st f) fs l (meaning.back f)
-        (λ u h. subst (λ s. Sim names C P d s (λ v g. spot b fs p (kept y v st) g) G (gives none f)) (sym (kind none)) (sim_here none f l))
-        (λ u. subst (λ s. Sim names C P d s (λ v g. spot b fs p (kept y v st) g) G (gives u f)) (sym (kind u)) (sim_here u f l)))))
+      (λ u h. subst (λ s. Sim names C P d s (λ v g. spot b fs p (kept y v st) g) G (gives none f)) (sym (kind none)) (sim_here none f l))
+      (λ u. subst (λ s. Sim names C P d s (λ v g. spot b fs p (kept y v st) g) G (gives u f)) (sym (kind u)) (sim_here u f l)))))
     where
       kind : (u : Value N) → gone (gives_value row.member) u (lvl b p st f ∷ fs) ≡ spot b fs p (kept y u st) f
       kind u = ap (λ z. gone z u (lvl b p st f ∷ fs)) row.kind ∙ gone_kept y u b p st f fs
@@ -165,21 +165,21 @@ module _ {N M : Type 0} (names : Naming N M) (C : PlainCode) (P : PlainProgram) 
       sim_deepest at _ f.left (l ∙ dh) e
   right_called d (Some deep) dh y at c r row own n vs b p fs more st f l {s} {G} e =
       sim_long at (some_long own) (deep_enough at _ f.left dh.0 (l ∙ dh.1) e) (λ z. sim_act z (λ a.
-        subst (λ x. Sim names C P d (enters names C x r (Object n ∷ vs) own (lvl b (suc p) st f) fs) (λ v g. spot b fs (suc p) (kept y v st) g) G (meaning.enter names P deep (class_entered (program.parent_of P) (length P.classes) c (class_seen a)) r (Object n ∷ vs) own f))
-        (sym (ap (λ x. class_entered x (length C.classes) c (class_seen a)) (parents_are C P body_of laid) ∙ ap (λ x. class_entered (program.parent_of P) x c (class_seen a)) (classes_many C P body_of laid)))
-        (right_enter d dh.0 deep dh.1 dh.2 y (class_entered (program.parent_of P) (length P.classes) c (class_seen a)) r (entered_gives P resolved (length P.classes) c r y (class_seen a) row) (Object n ∷ vs) own b (suc p) fs st f l)))
+      subst (λ x. Sim names C P d (enters names C x r (Object n ∷ vs) own (lvl b (suc p) st f) fs) (λ v g. spot b fs (suc p) (kept y v st) g) G (meaning.enter names P deep (class_entered (program.parent_of P) (length P.classes) c (class_seen a)) r (Object n ∷ vs) own f))
+      (sym (ap (λ x. class_entered x (length C.classes) c (class_seen a)) (parents_are C P body_of laid) ∙ ap (λ x. class_entered (program.parent_of P) x c (class_seen a)) (classes_many C P body_of laid)))
+      (right_enter d dh.0 deep dh.1 dh.2 y (class_entered (program.parent_of P) (length P.classes) c (class_seen a)) r (entered_gives P resolved (length P.classes) c r y (class_seen a) row) (Object n ∷ vs) own b (suc p) fs st f l)))
 
   -- a creation that isn't too long
   right_created : (d : ℕ) (dp : Option (Deeper N M)) → Right_deeper d dp → (at : Place) (c : ℕ) (own : List (Region M)) (vs : List (Value N)) (b p : ℕ) (fs : List (Level N M)) (more st : List (Value N)) (f : Frame N M) → f.left ≡ d → {s : State N M} {G : Value N → State N M} → (x : Option ℕ) → program.constructor_of P c ≡ x → step names C s ≡ creates names C at c own vs (option_map body_of x) (lvl b p more f) st fs → Sim names C P d s (λ v g. spot b fs (suc p) (v ∷ st) g) G (elim x as (λ z. Prog N M) [
-        None ↦ Act (New (meaning.new_object P c own) false) (λ a. gives (name_made a) f)
-      | Some n ↦ elim dp as (λ z. Prog N M) [
-          None ↦ Traps trap.Stack at
-        | Some deeper ↦ Act (New (meaning.new_object P c own) true) (λ a. elim (program.member_at P n) as (λ z. Prog N M) [
-            None ↦ gives (name_made a) f
-          | Some m ↦ on (deeper m.body (meaning.entered names m (name_made a ∷ vs) own (f.left - 1))) (λ r. gives (name_made a) f)
-          ])
-        ]
+    | None ↦ Act (New (meaning.new_object P c own) false) (λ a. gives (name_made a) f)
+    | Some n ↦ elim dp as (λ z. Prog N M) [
+      | None ↦ Traps trap.Stack at
+      | Some deeper ↦ Act (New (meaning.new_object P c own) true) (λ a. elim (program.member_at P n) as (λ z. Prog N M) [
+        | None ↦ gives (name_made a) f
+        | Some m ↦ on (deeper m.body (meaning.entered names m (name_made a ∷ vs) own (f.left - 1))) (λ r. gives (name_made a) f)
       ])
+    ]
+  ])
   right_created d dp dh at c own vs b p fs more st f l None is e =
       sim_act (e ∙ ap (λ t. Waits (Do (New (An_object c own t) false)) (λ a. spot b fs (suc p) (name_made a ∷ st) f)) (fields_are C P body_of laid c)) (λ a. sim_here (name_made a) f l)
   right_created d None dh at c own vs b p fs more st f l (Some n) is e = sim_deepest at _ f.left (l ∙ dh) e
@@ -212,7 +212,7 @@ module _ {N M : Type 0} (names : Naming N M) (C : PlainCode) (P : PlainProgram) 
     pub right_call : (dp : Option (Deeper N M)) → Right_deeper d dp → (z : Bool) (at : Place) (t : PlainType) (e : TypedExpr) (c r : ℕ) (regions : List Rpl) (es : TypedExprs) → RowGives P c r z → (p : ℕ) (st : List (Value N)) → SitedAt C (body_at C b).lines (after_exprs (after_expr p e) es) i.Call at (call_site c r (many es) regions) → Right_expr dp p st e → ((v : Value N) → Right_exprs dp (after_expr p e) (v ∷ st) es []) → (f : Frame N M) → f.left ≡ d → Sim names C P d (spot b fs p st f) (λ v g. spot b fs (suc (after_exprs (after_expr p e) es)) (kept z v st) g) (λ v. gone y v fs) (of_expr names P dp (typed at t (expr.call e c r regions es)) f)
     right_call dp dh z at t e c r regions es row p st h re res f l =
         sim_then (re f l) (λ v g m. res v _ _ (λ ws n g l.
-          sim_or trap.Null at (reference v) (stands ws v n g) (λ x q. right_called d dp dh z at c r row (map (concrete names (around g)) regions) x (reverse ws) b (after_exprs (after_expr p e) es) fs (ws ++ (v ∷ st)) st g l q)) g m)
+        sim_or trap.Null at (reference v) (stands ws v n g) (λ x q. right_called d dp dh z at c r row (map (concrete names (around g)) regions) x (reverse ws) b (after_exprs (after_expr p e) es) fs (ws ++ (v ∷ st)) st g l q)) g m)
       where
         stands : (ws : List (Value N)) (v : Value N) → length ws ≡ many es + 0 → (g : Frame N M) → step names C (spot b fs (after_exprs (after_expr p e) es) (ws ++ (v ∷ st)) g) ≡ or_trap trap.Null at (reference v) (λ x. calls names C at c r (map (concrete names (around g)) regions) x (reverse ws) (lvl b (after_exprs (after_expr p e) es) (ws ++ (v ∷ st)) g) st fs)
         stands ws v n g = at_line b _ fs (ws ++ (v ∷ st)) g h.stands ∙ (ap (λ o. called names C at o (lvl b (after_exprs (after_expr p e) es) (ws ++ (v ∷ st)) g) fs) h.site_is ∙ (ap (λ x. called_with x) (sym (n ∙ no_more (many es))) ∙ taken_is ws (v ∷ st) _))
@@ -223,8 +223,8 @@ module _ {N M : Type 0} (names : Naming N M) (C : PlainCode) (P : PlainProgram) 
     right_create : (dp : Option (Deeper N M)) → Right_deeper d dp → (at : Place) (t : PlainType) (es : TypedExprs) (p : ℕ) (st : List (Value N)) → SitedAt C (body_at C b).lines (after_exprs p es) i.New at (new_site (meaning.class_in t).0 (many es) (meaning.class_in t).1) → Right_exprs dp p st es [] → (f : Frame N M) → f.left ≡ d → Sim names C P d (spot b fs p st f) (λ v g. spot b fs (suc (after_exprs p es)) (v ∷ st) g) (λ v. gone y v fs) (of_expr names P dp (typed at t (expr.create es)) f)
     right_create dp dh at t es p st h res f l =
         res _ _ (λ ws n g m. sim_long at (some_long (own g)) (stands ws n g)
-          (λ q. right_created d dp dh at c (own g) (reverse ws) b (after_exprs p es) fs (ws ++ st) st g m (program.constructor_of P c) refl
-            (q ∙ ap (λ o. creates names C at c (own g) (reverse ws) o (lvl b (after_exprs p es) (ws ++ st) g) st fs) (constructor_is C P body_of laid c)))) f l
+        (λ q. right_created d dp dh at c (own g) (reverse ws) b (after_exprs p es) fs (ws ++ st) st g m (program.constructor_of P c) refl
+        (q ∙ ap (λ o. creates names C at c (own g) (reverse ws) o (lvl b (after_exprs p es) (ws ++ st) g) st fs) (constructor_is C P body_of laid c)))) f l
       where
         c : ℕ
         c = (meaning.class_in t).0
@@ -254,10 +254,10 @@ module _ {N M : Type 0} (names : Naming N M) (C : PlainCode) (P : PlainProgram) 
           sim_then (right_expr dp dh e ok p st h.0 f l) (λ v g m. sim_read at v (pos k) b _ fs (v ∷ st) st g m (at_line b _ fs (v ∷ st) g h.1))
       right_expr dp dh (typed at t (expr.element a j)) ok p st h f l =
           sim_then (right_expr dp dh a ok.0 p st h.0 f l) (λ v g m. sim_then (right_expr dp dh j ok.1 _ (v ∷ st) h.1 g m) (λ u g m.
-            sim_read at v (number u) b _ fs (u ∷ v ∷ st) st g m (at_line b _ fs (u ∷ v ∷ st) g h.2)))
+          sim_read at v (number u) b _ fs (u ∷ v ∷ st) st g m (at_line b _ fs (u ∷ v ∷ st) g h.2)))
       right_expr dp dh (typed at t (expr.array_length a)) ok p st h f l =
           sim_then (right_expr dp dh a ok p st h.0 f l) (λ v g m. sim_or trap.Null at (reference v) (at_line b _ fs (v ∷ st) g h.1) (λ n q.
-            sim_act q (λ x. sim_here (Int (pos (length_seen x))) g m)))
+          sim_act q (λ x. sim_here (Int (pos (length_seen x))) g m)))
       right_expr dp dh (typed at t (expr.call e c r regions es)) ok p st h f l =
           right_call dp dh true at t e c r regions es ok.2 p st h.2 (right_expr dp dh e ok.0 p st h.0) (λ v. right_exprs dp dh es ok.1 _ (v ∷ st) [] h.1) f l
       right_expr dp dh (typed at t (expr.create es)) ok p st h f l = right_create dp dh at t es p st h.1 (right_exprs dp dh es ok p st [] h.0) f l
@@ -269,19 +269,19 @@ module _ {N M : Type 0} (names : Naming N M) (C : PlainCode) (P : PlainProgram) 
           one_operand Not v g h = at_line b _ fs (v ∷ st) g h
       right_expr dp dh (typed at t (expr.binary o x z)) ok p st h f l =
           sim_then (right_expr dp dh x ok.0 p st h.0 f l) (λ v g m. sim_then (right_expr dp dh z ok.1 _ (v ∷ st) h.1 g m) (λ u g m.
-            sim_or trap.Divide at (operated names.same o v u) (at_line b _ fs (u ∷ v ∷ st) g h.2 ∙ operator_is names C at o (lvl b _ (u ∷ v ∷ st) g) fs) (λ w q. sim_value w g m q)))
+          sim_or trap.Divide at (operated names.same o v u) (at_line b _ fs (u ∷ v ∷ st) g h.2 ∙ operator_is names C at o (lvl b _ (u ∷ v ∷ st) g) fs) (λ w q. sim_value w g m q)))
       right_expr dp dh (typed at t (expr.both x z)) ok p st h f l =
           sim_then (right_expr dp dh x ok.0 p st h.0 f l) (λ v g m. sim_test b _ _ fs st g (truth v) (at_line b _ fs (v ∷ st) g h.1)
-            (sim_value (Boolean false) g m (at_line b _ fs st g h.4))
-            (sim_last (λ u g. at_line b _ fs (u ∷ st) g h.3) (right_expr dp dh z ok.1 _ st h.2 g m)))
+          (sim_value (Boolean false) g m (at_line b _ fs st g h.4))
+          (sim_last (λ u g. at_line b _ fs (u ∷ st) g h.3) (right_expr dp dh z ok.1 _ st h.2 g m)))
       right_expr dp dh (typed at t (expr.either x z)) ok p st h f l =
           sim_then (right_expr dp dh x ok.0 p st h.0 f l) (λ v g m. sim_test b _ _ fs st g (truth v) (at_line b _ fs (v ∷ st) g h.1)
-            (right_expr dp dh z ok.1 _ st h.4 g m)
-            (sim_step (at_line b _ fs st g h.2) (sim_value (Boolean true) g m (at_line b _ fs (Boolean true ∷ st) g h.3))))
+          (right_expr dp dh z ok.1 _ st h.4 g m)
+          (sim_step (at_line b _ fs st g h.2) (sim_value (Boolean true) g m (at_line b _ fs (Boolean true ∷ st) g h.3))))
       right_expr dp dh (typed at t (expr.part_length x)) ok p st h f l = sim_value (slot_value f.values (x + 2)) f l (at_line b p fs st f h)
       right_expr dp dh (typed at t (expr.part_element x j)) ok p st h f l =
           sim_then (right_expr dp dh j ok p st h.0 f l) (λ v g m. sim_or trap.Index at (part_place x (number v) g.values) (at_line b _ fs (v ∷ st) g h.1) (λ q e.
-            sim_step e (sim_read at (slot_value g.values x) q b _ fs (Int q ∷ slot_value g.values x ∷ st) st g m (at_line b _ fs (Int q ∷ slot_value g.values x ∷ st) g h.2))))
+          sim_step e (sim_read at (slot_value g.values x) q b _ fs (Int q ∷ slot_value g.values x ∷ st) st g m (at_line b _ fs (Int q ∷ slot_value g.values x ∷ st) g h.2))))
 
       pub right_exprs : (dp : Option (Deeper N M)) → Right_deeper d dp → (es : TypedExprs) → ExprsFit P es → (p : ℕ) (st vs : List (Value N)) → ExprsAt C (body_at C b).lines p es → Right_exprs dp p st es vs
       right_exprs dp dh no_exprs ok p st vs h B j k f l = k vs (omega arith) f l

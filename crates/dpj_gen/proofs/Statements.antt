@@ -188,23 +188,23 @@ module _ {N M : Type 0} (names : Naming N M) (C : PlainCode) (P : PlainProgram) 
           sim_then (right_expr dp dh e ok p st h.0 f l) (λ v g m. sim_value none (with_value g x v) m (at_line b _ fs (v ∷ st) g h.1))
       right_stmt dp dh (statement at (form.store_field o c k e)) ok p st h f l =
           sim_then (right_expr dp dh o ok.0 p st h.0 f l) (λ v g m. sim_then (right_expr dp dh e ok.1 _ (v ∷ st) h.1 g m) (λ u g m.
-            sim_write at v (pos k) u b _ fs (u ∷ v ∷ st) st g m (at_line b _ fs (u ∷ v ∷ st) g h.2)))
+          sim_write at v (pos k) u b _ fs (u ∷ v ∷ st) st g m (at_line b _ fs (u ∷ v ∷ st) g h.2)))
       right_stmt dp dh (statement at (form.store_element a j e)) ok p st h f l =
           sim_then (right_expr dp dh a ok.0 p st h.0 f l) (λ v g m. sim_then (right_expr dp dh j ok.1 _ (v ∷ st) h.1 g m) (λ w g m.
-            sim_then (right_expr dp dh e ok.2 _ (w ∷ v ∷ st) h.2 g m) (λ u g m.
-              sim_write at v (number w) u b _ fs (u ∷ w ∷ v ∷ st) st g m (at_line b _ fs (u ∷ w ∷ v ∷ st) g h.3))))
+          sim_then (right_expr dp dh e ok.2 _ (w ∷ v ∷ st) h.2 g m) (λ u g m.
+          sim_write at v (number w) u b _ fs (u ∷ w ∷ v ∷ st) st g m (at_line b _ fs (u ∷ w ∷ v ∷ st) g h.3))))
       right_stmt dp dh (statement at (form.store_part k j e)) ok p st h f l =
           sim_then (right_expr dp dh j ok.0 p st h.0 f l) (λ w g m. sim_then (right_expr dp dh e ok.1 _ (w ∷ st) h.1 g m) (λ u g m.
-            sim_or trap.Index at (part_place k (number w) g.values) (at_line b _ fs (u ∷ w ∷ st) g h.2) (λ q e.
-              sim_step e (sim_write at (slot_value g.values k) q u b _ fs (u ∷ Int q ∷ slot_value g.values k ∷ st) st g m (at_line b _ fs (u ∷ Int q ∷ slot_value g.values k ∷ st) g h.3)))))
+          sim_or trap.Index at (part_place k (number w) g.values) (at_line b _ fs (u ∷ w ∷ st) g h.2) (λ q e.
+          sim_step e (sim_write at (slot_value g.values k) q u b _ fs (u ∷ Int q ∷ slot_value g.values k ∷ st) st g m (at_line b _ fs (u ∷ Int q ∷ slot_value g.values k ∷ st) g h.3)))))
       right_stmt dp dh (statement at (form.perform e)) ok p st h f l = right_perform dp dh at e (is_void (type_of e)) ok p st h.0 h.1 f l
       right_stmt dp dh (statement at (form.block ss)) ok p st h f l = right_stmts dp dh ss ok p st h f l
       right_stmt dp dh (statement at (form.choice e s)) ok p st h f l =
           sim_then (right_expr dp dh e ok.0 p st h.0 f l) (λ v g m. sim_test b _ _ fs st g (truth v) (at_line b _ fs (v ∷ st) g h.1)
-            (sim_here none g m) (right_stmt dp dh s ok.1 _ st h.2 g m))
+          (sim_here none g m) (right_stmt dp dh s ok.1 _ st h.2 g m))
       right_stmt dp dh (statement at (form.choice_else e s t)) ok p st h f l =
           sim_then (right_expr dp dh e ok.0 p st h.0 f l) (λ v g m. sim_test b _ _ fs st g (truth v) (at_line b _ fs (v ∷ st) g h.1)
-            (right_stmt dp dh t ok.2 _ st h.4 g m) (sim_last (λ u g. at_line b _ fs st g h.3) (right_stmt dp dh s ok.1 _ st h.2 g m)))
+          (right_stmt dp dh t ok.2 _ st h.4 g m) (sim_last (λ u g. at_line b _ fs st g h.3) (right_stmt dp dh s ok.1 _ st h.2 g m)))
       right_stmt dp dh (statement at (form.while_loop e s)) ok p st h f l =
           sim_loop _ _ _ _ _ _ _ _ (right_expr dp dh e ok.0 p st h.0) (right_stmt dp dh s ok.1 _ st h.3) (spot b fs (suc (after_expr p e)) st)
           (λ v g q. at_line b _ fs (v ∷ st) g h.1 ∙ ap (λ c. Goes (spot b fs (cond c (suc (after_expr p e)) (after_stmt p (statement at (form.while_loop e s)))) st g)) q)
@@ -222,27 +222,27 @@ module _ {N M : Type 0} (names : Naming N M) (C : PlainCode) (P : PlainProgram) 
       right_stmt dp dh (statement at (form.local_regions rs)) ok p st h f l = right_regions at rs p st h f l
       right_stmt dp dh (statement at (form.atomic effects ss)) ok p st h f l =
           sim_act (at_line b p fs st f h.0.stands) (λ a. sim_act (at_rested b p fs st f h.0.stands ∙ ap (λ o. enters_block names o (lvl b p st f) fs) h.0.site_is) (λ c.
-            sim_then (right_stmts dp dh ss ok _ st h.1 f l) (λ v g m. sim_act (at_line b _ fs st g h.2) (λ z. sim_here none g m))))
+          sim_then (right_stmts dp dh ss ok _ st h.1 f l) (λ v g m. sim_act (at_line b _ fs st g h.2) (λ z. sim_here none g m))))
       right_stmt dp dh (statement at (form.cobegin forking bs)) ok p st h f l = right_cobegin dp dh at forking bs ok h.0 p st h.1 h.2 f l
       right_stmt dp dh (statement at (form.foreach forking x start count s)) ok p st h f l =
           sim_then (right_expr dp dh start ok.0 p st h.1 f l) (λ v g m. sim_then (right_expr dp dh count ok.1 _ (v ∷ st) h.2 g m) (λ u g m.
-            right_forks dp dh at forking None x h.0 s (record { begins = tt; stmt = h.4.0; ends = h.4.1 }) ok.2 _ st h.3 v u g m))
+          right_forks dp dh at forking None x h.0 s (record { begins = tt; stmt = h.4.0; ends = h.4.1 }) ok.2 _ st h.3 v u g m))
       right_stmt dp dh (statement at (form.foreach_parts x (of_array a) count s)) ok p st h f l =
           sim_then (right_expr dp dh a ok.0 p st h.1 f l) (λ v g m.
-            sim_step (at_line b _ fs (v ∷ st) g h.2) (sim_step (at_line b _ fs st (with_value g x v) h.3) (sim_step (at_line b _ fs (Int (pos 0) ∷ st) (with_value g x v) h.4)
-            (sim_then (right_expr dp dh count ok.1 _ st h.5 (part_begun x v g) m) (λ u g m.
-              sim_step (at_line b _ fs (u ∷ st) g h.6.0) (sim_step (at_line b _ fs st (with_value g (x + 3) u) h.6.1)
-              (sim_or trap.Null at (reference (slot_value (with_value g (x + 3) u).values x)) (at_line b _ fs (slot_value (with_value g (x + 3) u).values x ∷ st) (with_value g (x + 3) u) h.6.2) (λ n e. sim_act e (λ c.
-                sim_step (at_line b _ fs (Int (pos (length_seen c)) ∷ st) (with_value g (x + 3) u) h.6.3)
-                (right_parts dp dh at x h.0 s (record { begins = h.8.0; stmt = h.8.1; ends = h.8.2 }) ok.2 _ st h.7 (with_value (with_value g (x + 3) u) (x + 2) (Int (pos (length_seen c)))) m))))))))))
+          sim_step (at_line b _ fs (v ∷ st) g h.2) (sim_step (at_line b _ fs st (with_value g x v) h.3) (sim_step (at_line b _ fs (Int (pos 0) ∷ st) (with_value g x v) h.4)
+          (sim_then (right_expr dp dh count ok.1 _ st h.5 (part_begun x v g) m) (λ u g m.
+          sim_step (at_line b _ fs (u ∷ st) g h.6.0) (sim_step (at_line b _ fs st (with_value g (x + 3) u) h.6.1)
+          (sim_or trap.Null at (reference (slot_value (with_value g (x + 3) u).values x)) (at_line b _ fs (slot_value (with_value g (x + 3) u).values x ∷ st) (with_value g (x + 3) u) h.6.2) (λ n e. sim_act e (λ c.
+          sim_step (at_line b _ fs (Int (pos (length_seen c)) ∷ st) (with_value g (x + 3) u) h.6.3)
+          (right_parts dp dh at x h.0 s (record { begins = h.8.0; stmt = h.8.1; ends = h.8.2 }) ok.2 _ st h.7 (with_value (with_value g (x + 3) u) (x + 2) (Int (pos (length_seen c)))) m))))))))))
       right_stmt dp dh (statement at (form.foreach_parts x (of_part z) count s)) ok p st h f l =
           sim_step (at_line b p fs st f h.1) (sim_step (at_line b _ fs (slot_value f.values z ∷ st) f h.2)
           (sim_step (at_line b _ fs st (with_value f x (slot_value f.values z)) h.3)
           (sim_step (at_line b _ fs (slot_value (with_value f x (slot_value f.values z)).values (z + 1) ∷ st) (with_value f x (slot_value f.values z)) h.4)
           (sim_then (right_expr dp dh count ok.0 _ st h.5 (part_taken_over x z f) l) (λ u g m.
-            sim_step (at_line b _ fs (u ∷ st) g h.6) (sim_step (at_line b _ fs st (with_value g (x + 3) u) h.7)
-            (sim_step (at_line b _ fs (slot_value (with_value g (x + 3) u).values (z + 2) ∷ st) (with_value g (x + 3) u) h.8)
-            (right_parts dp dh at x h.0 s (record { begins = h.10.0; stmt = h.10.1; ends = h.10.2 }) ok.1 _ st h.9 (with_value (with_value g (x + 3) u) (x + 2) (slot_value (with_value g (x + 3) u).values (z + 2))) m))))))))
+          sim_step (at_line b _ fs (u ∷ st) g h.6) (sim_step (at_line b _ fs st (with_value g (x + 3) u) h.7)
+          (sim_step (at_line b _ fs (slot_value (with_value g (x + 3) u).values (z + 2) ∷ st) (with_value g (x + 3) u) h.8)
+          (right_parts dp dh at x h.0 s (record { begins = h.10.0; stmt = h.10.1; ends = h.10.2 }) ok.1 _ st h.9 (with_value (with_value g (x + 3) u) (x + 2) (slot_value (with_value g (x + 3) u).values (z + 2))) m))))))))
 
       pub right_stmts : (dp : Option (Deeper N M)) → Right_deeper d dp → (ss : TypedStmts) → StmtsFit P y ss → (p : ℕ) (st : List (Value N)) → StmtsAt C (body_at C b).lines p ss → (f : Frame N M) → f.left ≡ d → Sim names C P d (spot b fs p st f) (λ v g. spot b fs (after_stmts p ss) st g) (λ v. gone y v fs) (of_stmts names P dp ss f)
       right_stmts dp dh no_stmts ok p st h f l = sim_here none f l
@@ -257,7 +257,7 @@ module _ {N M : Type 0} (names : Naming N M) (C : PlainCode) (P : PlainProgram) 
       right_never dp dh (statement at (form.block ss)) ok e p st h B f l = right_none dp dh ss ok e p st h B f l
       right_never dp dh (statement at (form.choice_else x s t)) ok e p st h B f l =
           sim_then (right_expr dp dh x ok.0 p st h.0 f l) (λ v g m. sim_test b _ _ fs st g (truth v) (at_line b _ fs (v ∷ st) g h.1)
-            (right_never dp dh t ok.2 (neither (completes s) (completes t) e).1 _ st h.4 B g m) (right_never dp dh s ok.1 (neither (completes s) (completes t) e).0 _ st h.2 B g m))
+          (right_never dp dh t ok.2 (neither (completes s) (completes t) e).1 _ st h.4 B g m) (right_never dp dh s ok.1 (neither (completes s) (completes t) e).0 _ st h.2 B g m))
       right_never dp dh s ok e p st h B f l = absurd (cc)
 
       pub right_none : (dp : Option (Deeper N M)) → Right_deeper d dp → (ss : TypedStmts) → StmtsFit P y ss → all_complete ss ≡ false → (p : ℕ) (st : List (Value N)) → StmtsAt C (body_at C b).lines p ss → (B : Value N → Frame N M → State N M) (f : Frame N M) → f.left ≡ d → Sim names C P d (spot b fs p st f) B (λ v. gone y v fs) (of_stmts names P dp ss f)

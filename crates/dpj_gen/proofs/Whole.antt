@@ -129,7 +129,6 @@ mutual
   stmts_needs k p no_stmts = stop_here
   stmts_needs k p (more_stmts s ss) = both (stmt_needs k p s) (stmts_needs _ _ ss) refl
 
-
 pub branch_needs : (k : Next) (at : Place) (s : TypedStmt) (takes : Option ℕ) → Needs (branch_piece_of k at s takes) (weight s)
 branch_needs k at s None = both (stmt_needs k 0 s) (skip _ _ stop_here) (omega arith)
 branch_needs k at s (Some x) = skip _ _ (both (stmt_needs k 1 s) (skip _ _ stop_here) (omega arith))

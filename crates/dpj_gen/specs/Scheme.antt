@@ -132,7 +132,7 @@ abbrev mutual
   expr_piece k p (typed at t (expr.array_length a)) = then_next k (expr_piece k p a) (λ k. line i.Length at nothing)
   expr_piece k p (typed at t (expr.call e c r regions es)) =
       then_next k (expr_piece k p e) (λ k. then_next k (exprs_piece k (after_expr p e) es) (λ k.
-        with_site (call_site c r (many es) regions) (line (i.Call k.site) at nothing)))
+      with_site (call_site c r (many es) regions) (line (i.Call k.site) at nothing)))
   expr_piece k p (typed at t (expr.create es)) =
       then_next k (exprs_piece k p es) (λ k. with_site (new_site (class_in t).0 (many es) (class_in t).1) (line (i.New k.site) at nothing))
   expr_piece k p (typed at t (expr.create_array n)) = then_next k (expr_piece k p n) (λ k. with_site (site_of_array t) (line (i.Array k.site) at nothing))
@@ -142,12 +142,12 @@ abbrev mutual
   -- [a] unless L1 [b] jump L2; L1: bool false; L2:
   expr_piece k p (typed at t (expr.both a b)) =
       then_next k (expr_piece k p a) (λ k. line (i.Unless (suc (after_expr (suc (after_expr p a)) b))) at
-        (then_next k (expr_piece k (suc (after_expr p a)) b) (λ k.
-          line (i.Jump (after_expr p (typed at t (expr.both a b)))) at (line (i.Bool false) at nothing))))
+      (then_next k (expr_piece k (suc (after_expr p a)) b) (λ k.
+      line (i.Jump (after_expr p (typed at t (expr.both a b)))) at (line (i.Bool false) at nothing))))
   -- [a] unless L1 bool true jump L2; L1: [b]; L2:
   expr_piece k p (typed at t (expr.either a b)) =
       then_next k (expr_piece k p a) (λ k. line (i.Unless (suc (suc (suc (after_expr p a))))) at (line (i.Bool true) at
-        (line (i.Jump (after_expr p (typed at t (expr.either a b)))) at (expr_piece k (suc (suc (suc (after_expr p a)))) b))))
+      (line (i.Jump (after_expr p (typed at t (expr.either a b)))) at (expr_piece k (suc (suc (suc (after_expr p a)))) b))))
   expr_piece k p (typed at t (expr.part_length x)) = line (i.Load (x + 2)) at nothing
   expr_piece k p (typed at t (expr.part_element x j)) = then_next k (expr_piece k p j) (λ k. line (i.InPart x) at (line i.Elem at nothing))
 
@@ -189,7 +189,7 @@ abbrev mutual
       then_next k (expr_piece k p o) (λ k. then_next k (expr_piece k (after_expr p o) e) (λ k. line (i.Put f) at nothing))
   stmt_piece k p (statement at (form.store_element a j e)) =
       then_next k (expr_piece k p a) (λ k. then_next k (expr_piece k (after_expr p a) j) (λ k.
-        then_next k (expr_piece k (after_expr (after_expr p a) j) e) (λ k. line i.PutElem at nothing)))
+      then_next k (expr_piece k (after_expr (after_expr p a) j) e) (λ k. line i.PutElem at nothing)))
   stmt_piece k p (statement at (form.store_part x j e)) =
       then_next k (expr_piece k p j) (λ k. then_next k (expr_piece k (after_expr p j) e) (λ k. line (i.InParts x) at (line i.PutElem at nothing)))
   stmt_piece k p (statement at (form.perform e)) = then_next k (expr_piece k p e) (λ k. popped (type_of e) at)
@@ -200,12 +200,12 @@ abbrev mutual
   -- [c] unless L1 [s] jump L2; L1: [t]; L2:
   stmt_piece k p (statement at (form.choice_else e s t)) =
       then_next k (expr_piece k p e) (λ k. line (i.Unless (suc (after_stmt (suc (after_expr p e)) s))) at
-        (then_next k (stmt_piece k (suc (after_expr p e)) s) (λ k. line (i.Jump (after_stmt p (statement at (form.choice_else e s t)))) at
-          (stmt_piece k (suc (after_stmt (suc (after_expr p e)) s)) t))))
+      (then_next k (stmt_piece k (suc (after_expr p e)) s) (λ k. line (i.Jump (after_stmt p (statement at (form.choice_else e s t)))) at
+      (stmt_piece k (suc (after_stmt (suc (after_expr p e)) s)) t))))
   -- L0: [c] unless L1 turn [s] jump L0; L1:
   stmt_piece k p (statement at (form.while_loop e s)) =
       then_next k (expr_piece k p e) (λ k. line (i.Unless (after_stmt p (statement at (form.while_loop e s)))) at (line i.Turn at
-        (then_next k (stmt_piece k (suc (suc (after_expr p e))) s) (λ k. line (i.Jump p) at nothing))))
+      (then_next k (stmt_piece k (suc (suc (after_expr p e))) s) (λ k. line (i.Jump p) at nothing))))
   stmt_piece k p (statement at form.return_nothing) = line i.Leave at nothing
   stmt_piece k p (statement at (form.return_value e)) = then_next k (expr_piece k p e) (λ k. line i.Return at nothing)
   stmt_piece k p (statement at (form.print_int e)) = then_next k (expr_piece k p e) (λ k. line i.Print at nothing)
@@ -214,7 +214,7 @@ abbrev mutual
   stmt_piece k p (statement at (form.local_regions rs)) = regions_piece at rs
   stmt_piece k p (statement at (form.atomic effects ss)) =
       then_next k (with_site (block_site effects) (line (i.Enter k.site) at nothing)) (λ k.
-        then_next k (stmts_piece k (suc p) ss) (λ k. line i.Exit at nothing))
+      then_next k (stmts_piece k (suc p) ss) (λ k. line i.Exit at nothing))
   stmt_piece k p (statement at (form.cobegin forking bs)) =
       with_branches (branches_of k.site 0 bs)
       (with_site (fork_site forking (numbers k.body bs) (copy_lists bs)) (line (i.Fork k.site) at (line i.Join at nothing)))
@@ -223,15 +223,15 @@ abbrev mutual
   -- [a] store K, int 0, store K+1, [n] store K+3, load K, length, store K+2, int 0, load K+3, spread S, join
   stmt_piece k p (statement at (form.foreach_parts x (of_array a) count s)) =
       then_next k (expr_piece k p a) (λ k. line (i.Store x) at (line (i.Int (pos 0)) at (line (i.Store (x + 1)) at
-        (then_next k (expr_piece k (suc (suc (suc (after_expr p a)))) count) (λ k.
-          line (i.Store (x + 3)) at (line (i.Load x) at (line i.Length at (line (i.Store (x + 2)) at
-            (line (i.Int (pos 0)) at (line (i.Load (x + 3)) at (spread_piece k at Deterministic (x + 4) (Some x) s)))))))))))
+      (then_next k (expr_piece k (suc (suc (suc (after_expr p a)))) count) (λ k.
+      line (i.Store (x + 3)) at (line (i.Load x) at (line i.Length at (line (i.Store (x + 2)) at
+      (line (i.Int (pos 0)) at (line (i.Load (x + 3)) at (spread_piece k at Deterministic (x + 4) (Some x) s)))))))))))
   -- load V, store K, load V+1, store K+1, [n] store K+3, load V+2, store K+2, int 0, load K+3, spread S, join
   stmt_piece k p (statement at (form.foreach_parts x (of_part y) count s)) =
       line (i.Load y) at (line (i.Store x) at (line (i.Load (y + 1)) at (line (i.Store (x + 1)) at
-        (then_next k (expr_piece k (suc (suc (suc (suc p)))) count) (λ k.
-          line (i.Store (x + 3)) at (line (i.Load (y + 2)) at (line (i.Store (x + 2)) at
-            (line (i.Int (pos 0)) at (line (i.Load (x + 3)) at (spread_piece k at Deterministic (x + 4) (Some x) s))))))))))
+      (then_next k (expr_piece k (suc (suc (suc (suc p)))) count) (λ k.
+      line (i.Store (x + 3)) at (line (i.Load (y + 2)) at (line (i.Store (x + 2)) at
+      (line (i.Int (pos 0)) at (line (i.Load (x + 3)) at (spread_piece k at Deterministic (x + 4) (Some x) s))))))))))
 
   pub stmts_piece : Next → ℕ → TypedStmts → Piece
   stmts_piece k p no_stmts = nothing

@@ -53,7 +53,7 @@ module _ (p : ℕ → Bool) where
   find_least [] q sorted there good = cc
   find_least (x ∷ xs) q sorted there good =
       least_cond x q (find p xs) (p x) (is_eq (nat_cmp q x)) (list_any (is_at (nat_cmp q)) xs) refl refl good there
-        (above x q xs sorted.0) (λ later. find_least xs q sorted.1 later good)
+      (above x q xs sorted.0) (λ later. find_least xs q sorted.1 later good)
 
   sound_choice : (b : Bool) (x y : ℕ) → p x ≡ true → p y ≡ true → Sound (cond b (Some y) (Some x))
   sound_choice true x y one other = other
@@ -105,9 +105,9 @@ reach_more under ending q number i x all least one lt at fixed found so_far =
     elim so_far [
       | inl le ↦ inl (most_left least one q le)
       | inr met ↦ elim (met_at under ending q number i x all lt at met) [
-          | inl here ↦ inl (most_right least one q (found here))
-          | inr on ↦ inr (met_fixed under ending q number x (drop (i + 1) all) (is_concrete x) refl fixed on)
-        ]
+        | inl here ↦ inl (most_right least one q (found here))
+        | inr on ↦ inr (met_fixed under ending q number x (drop (i + 1) all) (is_concrete x) refl fixed on)
+      ]
     ]
 
 pub reach_open : (under ending : Sets) (q number i : ℕ) (x : Elem) (all : List Elem) (least one two : Option ℕ) → i < length all → x ≡ get_or all i x → is_concrete x ≡ false
@@ -117,9 +117,9 @@ reach_open under ending q number i x all least one two lt at wild found below so
     elim so_far [
       | inl le ↦ most_left (lesser least one) two q (most_left least one q le)
       | inr met ↦ elim (met_at under ending q number i x all lt at met) [
-          | inl here ↦ most_left (lesser least one) two q (most_right least one q (found here))
-          | inr on ↦ most_right (lesser least one) two q (below (met_open under ending q number x (drop (i + 1) all) (is_concrete x) refl wild on))
-        ]
+        | inl here ↦ most_left (lesser least one) two q (most_right least one q (found here))
+        | inr on ↦ most_right (lesser least one) two q (below (met_open under ending q number x (drop (i + 1) all) (is_concrete x) refl wild on))
+      ]
     ]
 
 pub reach_end : (under ending : Sets) (q number : ℕ) (rest : List Elem) (least one two : Option ℕ) → rest ≡ []
@@ -129,7 +129,7 @@ reach_end under ending q number rest least one two is found below so_far =
     elim so_far [
       | inl le ↦ most_left (lesser least one) two q (most_left least one q le)
       | inr met ↦ elim (subst (Met under ending q number) is met) [
-          | inl here ↦ most_left (lesser least one) two q (most_right least one q (found here))
-          | inr on ↦ most_right (lesser least one) two q (below on)
-        ]
+        | inl here ↦ most_left (lesser least one) two q (most_right least one q (found here))
+        | inr on ↦ most_right (lesser least one) two q (below on)
+      ]
     ]

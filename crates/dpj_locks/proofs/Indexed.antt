@@ -72,13 +72,13 @@ pub indexed_inserted : (r w r' w' : Index) (locks : Standings) (k : ℕ) (s : St
     → ((q : ℕ) → q ≢ k → Keeps q r r') → ((q : ℕ) → q ≢ k → Keeps q w w') → IsIndexed r w locks → IsIndexed r' w' (insert locks k s)
 indexed_inserted r w r' w' locks k s found kr kw indexed q =
     subst (IsFound r' w' q) (sym (get-insert nat_cmp_total locks k s q))
-      (at_choice (IsFound r' w') q k (eq_by_cmp nat_cmp q k) (Some s) (get locks q) refl found (λ apart. found_kept r w r' w' q (get locks q) (kr q apart) (kw q apart) (indexed q)))
+    (at_choice (IsFound r' w') q k (eq_by_cmp nat_cmp q k) (Some s) (get locks q) refl found (λ apart. found_kept r w r' w' q (get locks q) (kr q apart) (kw q apart) (indexed q)))
 
 pub indexed_removed : (r w r' w' : Index) (locks : Standings) (k : ℕ)
     → ((q : ℕ) → q ≢ k → Keeps q r r') → ((q : ℕ) → q ≢ k → Keeps q w w') → IsIndexed r w locks → IsIndexed r' w' (remove locks k)
 indexed_removed r w r' w' locks k kr kw indexed q =
     subst (IsFound r' w' q) (sym (get-remove nat_cmp_total locks k q))
-      (at_choice (IsFound r' w') q k (eq_by_cmp nat_cmp q k) None (get locks q) refl tt (λ apart. found_kept r w r' w' q (get locks q) (kr q apart) (kw q apart) (indexed q)))
+    (at_choice (IsFound r' w') q k (eq_by_cmp nat_cmp q k) None (get locks q) refl tt (λ apart. found_kept r w r' w' q (get locks q) (kr q apart) (kw q apart) (indexed q)))
 
 pub indexed_empty : (r w : Index) → IsIndexed r w empty
 indexed_empty r w q = subst (IsFound r w q) (sym (get-empty nat_cmp q)) tt
@@ -136,5 +136,5 @@ pub leads_one_on : (reads writes reads' writes' : Index) (task i : ℕ) (e : Eff
     → LeadsOn reads writes task (drop i all) all → LeadsOn reads' writes' task (drop (i + 1) all) all
 leads_one_on reads writes reads' writes' task i e all lt at noted kr kw leads r w kr' kw' rest =
     leads r w (keeps_on task reads reads' r kr kr') (keeps_on task writes writes' w kw kw')
-      (subst (AllNoted r w task) (ap (λ f. f ∷ drop (i + 1) all) at ∙ sym (drop_more all i e lt))
-        (by_kept reads' writes' r w task e.access e.rpl.elems kr' kw' noted, rest))
+    (subst (AllNoted r w task) (ap (λ f. f ∷ drop (i + 1) all) at ∙ sym (drop_more all i e lt))
+    (by_kept reads' writes' r w task e.access e.rpl.elems kr' kw' noted, rest))

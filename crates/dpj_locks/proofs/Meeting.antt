@@ -77,10 +77,10 @@ module _ (under ending : Sets) (q : ℕ) where
   met n (x ∷ a) [] near noted = inl noted.1
   met n (x ∷ a) (y ∷ b) near noted =
       ⊎_elim {C = Met under ending q n (x ∷ a)}
-        (λ fixed. inr (met_match n x a (is_concrete x) refl
-          (λ h. let parts = front_same x y a b h fixed.0 near in
-            met (mixed n x) a b parts.1 (subst (λ z. NotedFrom under ending q (mixed n z) b) (sym parts.0) fixed.1)) noted.0))
-        (λ here. inl here) (fixed_noted n y b (is_concrete y) refl noted.1)
+      (λ fixed. inr (met_match n x a (is_concrete x) refl
+      (λ h. let parts = front_same x y a b h fixed.0 near in
+      met (mixed n x) a b parts.1 (subst (λ z. NotedFrom under ending q (mixed n z) b) (sym parts.0) fixed.1)) noted.0))
+      (λ here. inl here) (fixed_noted n y b (is_concrete y) refl noted.1)
 
 not_true : (b : Bool) → not b ≡ true → b ≡ false
 not_true true is = cc
@@ -95,10 +95,12 @@ interfering : (e f : Effect) → e.rpl.head ≡ Root → f.rpl.head ≡ Root →
 unfolding interferes apart
 interfering e f er fr is =
     let parts = and_parts (is_write e.access || is_write f.access) (not (apart [] e.rpl f.rpl)) is in
-    let near = not_true (apart [] e.rpl f.rpl) parts.1 in
-    (parts.0, near_front e.rpl.head f.rpl.head e.rpl.elems f.rpl.elems er fr
-      (or_false (apart_from_left e.rpl f.rpl) (apart_by_length e.rpl f.rpl) (or_false (apart_from_left e.rpl f.rpl || apart_by_length e.rpl f.rpl) (apart_from_right e.rpl f.rpl)
-        (or_false (apart_from_left e.rpl f.rpl || apart_by_length e.rpl f.rpl || apart_from_right e.rpl f.rpl) (apart_by_some [] e.rpl f.rpl) near).0).0).0)
+    let near = not_true (apart [] e.rpl f.rpl) parts.1 in (
+      parts.0,
+      near_front e.rpl.head f.rpl.head e.rpl.elems f.rpl.elems er fr
+          (or_false (apart_from_left e.rpl f.rpl) (apart_by_length e.rpl f.rpl) (or_false (apart_from_left e.rpl f.rpl || apart_by_length e.rpl f.rpl) (apart_from_right e.rpl f.rpl)
+          (or_false (apart_from_left e.rpl f.rpl || apart_by_length e.rpl f.rpl || apart_from_right e.rpl f.rpl) (apart_by_some [] e.rpl f.rpl) near).0).0).0,
+    )
 
 module _ (reads writes : Index) (q : ℕ) where
   by_access : (a b : Access) (xs ys : List Elem) → (is_write a || is_write b) ≡ true → apart_front xs ys ≡ false → NotedBy reads writes q b ys → MetBy reads writes q a xs
@@ -123,7 +125,7 @@ module _ (reads writes : Index) (q : ℕ) where
   any_met [] fs roots others noted is = cc
   any_met (e ∷ es) fs roots others noted is =
       ⊎_elim {C = MetAny reads writes q (e ∷ es)} (λ here. inl (some_met e fs roots.0 others noted here)) (λ later. inr (any_met es fs roots.1 others noted later))
-        (either (some_interferes e fs) (lists_interfere es fs) is)
+      (either (some_interferes e fs) (lists_interfere es fs) is)
 
   block_met : (o : Option Standing) (wants : List Effect) → AllRoot wants → IsFound reads writes q o → block_interferes o wants ≡ true → MetAny reads writes q wants
   block_met None wants roots found is = cc

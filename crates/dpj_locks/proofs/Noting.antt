@@ -30,8 +30,8 @@ pub leads_more : (now new : Sets) (task number i : ℕ) (x : Elem) (all : List E
     → Leads now task number (drop i all) all → Leads new task (mixed number x) (drop (i + 1) all) all
 leads_more now new task number i x all lt at fixed there grown leads under ending kept noted =
     leads under ending (λ k h. kept k (grown k task h))
-      (subst (NotedFrom under ending task number) (ap (λ y. y ∷ drop (i + 1) all) at ∙ sym (drop_more all i x lt))
-        (kept number there, fixed_more under ending task number x (drop (i + 1) all) (is_concrete x) refl fixed noted))
+    (subst (NotedFrom under ending task number) (ap (λ y. y ∷ drop (i + 1) all) at ∙ sym (drop_more all i x lt))
+    (kept number there, fixed_more under ending task number x (drop (i + 1) all) (is_concrete x) refl fixed noted))
 
 -- an element that isn't fixed
 pub noted_open : (now under ending : Sets) (task number i : ℕ) (x : Elem) (all : List Elem) → i < length all → x ≡ get_or all i x → is_concrete x ≡ false
@@ -39,8 +39,8 @@ pub noted_open : (now under ending : Sets) (task number i : ℕ) (x : Elem) (all
     → Leads now task number (drop i all) all → NotedFrom under ending task first_number all
 noted_open now under ending task number i x all lt at wild grown there last leads =
     leads under ending (λ k h. grown k task h)
-      (subst (NotedFrom under ending task number) (ap (λ y. y ∷ drop (i + 1) all) at ∙ sym (drop_more all i x lt))
-        (there, open_here under ending task number x (drop (i + 1) all) (is_concrete x) refl wild last))
+    (subst (NotedFrom under ending task number) (ap (λ y. y ∷ drop (i + 1) all) at ∙ sym (drop_more all i x lt))
+    (there, open_here under ending task number x (drop (i + 1) all) (is_concrete x) refl wild last))
 
 -- the end of the path
 pub noted_end : (now under ending : Sets) (task number : ℕ) (rest all : List Elem) → rest ≡ []

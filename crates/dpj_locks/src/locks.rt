@@ -96,13 +96,7 @@ impl Locks {
         };
         self.standings.insert(task, block)?;
         let effects = effects_of(&self.standings, task);
-        if let Err(stop) = note_all(
-            self.alloc,
-            &mut self.reads,
-            &mut self.writes,
-            task,
-            effects,
-        ) {
+        if let Err(stop) = note_all(self.alloc, &mut self.reads, &mut self.writes, task, effects) {
             forget_all(&mut self.reads, &mut self.writes, task, effects);
             self.standings.remove(task);
             return Err(stop);

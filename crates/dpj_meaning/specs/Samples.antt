@@ -38,12 +38,12 @@ abbrev pub counts : TypedStmts
 counts =
     more_stmts (does (form.declare 2 int false (number 0)))
     (more_stmts (does (form.while_loop (typed here boolean (expr.binary op.Less (int_local 2) (number 5000)))
-      (does (form.store 2 (typed here int (expr.binary op.Add (int_local 2) (number 1)))))))
+    (does (form.store 2 (typed here int (expr.binary op.Add (int_local 2) (number 1)))))))
     (more_stmts (does (form.return_value (int_local 2))) no_stmts))
 
 -- `cobegin { print(1); print(2); } return 0;`
 abbrev pub one_and_two : TypedStmts
 one_and_two =
     more_stmts (does (form.cobegin Deterministic
-      (more_branches [] (does (form.print_int (number 1))) (more_branches [] (does (form.print_int (number 2))) no_branches))))
+    (more_branches [] (does (form.print_int (number 1))) (more_branches [] (does (form.print_int (number 2))) no_branches))))
     (more_stmts (does (form.return_value (number 0))) no_stmts)

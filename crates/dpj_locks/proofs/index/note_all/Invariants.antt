@@ -5,7 +5,7 @@ use Rattle.dpj_locks.proofs.index.note_all.Given as goal
 
 abbrev pub invariant-loop-e : goal.invariant-loop-e
 invariant-loop-e l = record {
-    leads : LeadsOn l.reads l.writes l.task (drop l.e-index l.effects) l.effects;
-    reads : IsGrown l.initial.reads l.reads;
-    writes : IsGrown l.initial.writes l.writes
-  }
+  leads : LeadsOn l.reads l.writes l.task (drop l.e-index l.effects) l.effects;
+  reads : IsGrown l.initial.reads l.reads;
+  writes : IsGrown l.initial.writes l.writes;
+}

@@ -14,7 +14,7 @@ pub judge_program-requires : goal.judge_program-requires
 judge_program-requires c =
     counted_when_named c.in_ok-program.program
     (few (length c.in_ok-program.program.classes) (program_size c.in_ok-program.program) (length c.args.text.now)
-      (classes_counted c.in_ok-program.program) c.in_ok-program.ensures.sized c.requires.short)
+    (classes_counted c.in_ok-program.program) c.in_ok-program.ensures.sized c.requires.short)
     c.in_ok-program.ensures.named
 
 pub returns-clause-fault : goal.returns-clause-fault

@@ -7,5 +7,5 @@ use Rattle.dpj_locks.proofs.locks.Locks.adopt.Goals as goal
 pub invariant_of-self-2 : goal.invariant_of-self-2
 invariant_of-self-2 c =
     subst (IsIndexed c.self.inside.reads c.self.inside.writes) (sym c.in_ok-insert.ensures.ok)
-      (indexed_inserted c.self.inside.reads c.self.inside.writes c.self.inside.reads c.self.inside.writes c.self.inside.standings c.args.task _ tt
-        (λ q apart. keeps_itself q c.self.inside.reads) (λ q apart. keeps_itself q c.self.inside.writes) c.self.invariant)
+    (indexed_inserted c.self.inside.reads c.self.inside.writes c.self.inside.reads c.self.inside.writes c.self.inside.standings c.args.task _ tt
+    (λ q apart. keeps_itself q c.self.inside.reads) (λ q apart. keeps_itself q c.self.inside.writes) c.self.invariant)

@@ -20,4 +20,4 @@ returns-clause-inside c = sym (ap is_some (at_key c.self.inside.map c.args.task 
 pub returns-clause-deeper : goal.returns-clause-deeper
 returns-clause-deeper c =
     entry_more c.self.inside.map c.get_mut.follows.lender c.args.task c.deepen.new.self c.in-Some.standing.now c.args.self.now c.in-Some.ensures.value c.get_mut.follows.holds
-      c.deepen.ensures c.self.view_is
+    c.deepen.ensures c.self.view_is
