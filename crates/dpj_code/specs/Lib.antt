@@ -1,2 +1,4 @@
 pub mod Plain
 pub mod Machine
+pub mod Fit
+pub mod Safe

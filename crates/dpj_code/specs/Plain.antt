@@ -1,11 +1,19 @@
--- Code as plain data.
-use Rattle.std.specs.Prelude.{ℕ, List, [], Option, Some, None, option_and_then, slice_get}
+-- Code as plain data, over which the machine is written, and the map from the code's types.
+use Rattle.std.specs.Prelude.{ℕ, List, [], ◌∷◌, map, Option, Some, None, option_and_then, option_map, slice_get}
 use Rattle.dpj_base.specs.declared.effect.Effect.{Effect}
 use Rattle.dpj_base.specs.declared.place.Place.{Place}
 use Rattle.dpj_base.specs.declared.region.Rpl.{Rpl}
 use Rattle.dpj_base.specs.declared.value.Value.{Value}
 use Rattle.dpj_typed.specs.declared.stmt.Forking.{Forking}
 use Rattle.dpj_typed.specs.Plain.{PlainParent}
+use Rattle.dpj_code.specs.declared.code.Body.{Body}
+use Rattle.dpj_code.specs.declared.code.ClassCode.{ClassCode as DeclaredClass}
+use Rattle.dpj_code.specs.declared.code.Code.{Code}
+use Rattle.dpj_code.specs.declared.code.MethodCode.{MethodCode}
+use Rattle.dpj_code.specs.declared.code.Site.{Site as DeclaredSite}
+use Rattle.dpj_code.specs.declared.code.Site.TheVariants as site
+use Rattle.dpj_code.specs.declared.code.Title.{Title as DeclaredTitle}
+use Rattle.dpj_code.specs.declared.code.Title.TheVariants as title
 use Rattle.dpj_code.specs.declared.instr.Instr.{Instr}
 
 -- an instruction, and the place at which its trap is reported
@@ -78,3 +86,45 @@ constructor_of C c = option_and_then (λ k. k.constructor) (class_at C c)
 abbrev pub fields_of : Option ClassCode → List Value
 fields_of None = []
 fields_of (Some k) = k.fields
+
+-- each instruction with its place
+abbrev pub lines_of : List Instr → List Place → List Line
+lines_of [] places = []
+lines_of (i ∷ is) [] = []
+lines_of (i ∷ is) (p ∷ places) = record { instr = i; place = p } ∷ lines_of is places
+
+abbrev pub plain_title : DeclaredTitle → Title
+plain_title (title.Member name) = of_member
+plain_title (title.Branch site number) = of_branch site number
+
+abbrev pub plain_body : Body → PlainBody
+plain_body b = record { title = plain_title b.title; lines = lines_of b.instrs b.places; slots = b.slots; local_regions = b.locals }
+
+abbrev pub plain_method : MethodCode → Method
+plain_method m = record { owner = m.owner; body = m.body }
+
+abbrev pub plain_class : DeclaredClass → ClassCode
+plain_class k = record {
+  parent = option_map (λ c. record { class = c; args = k.args }) k.parent;
+  fields = k.fields;
+  constructor = k.constructor;
+  methods = map plain_method k.methods;
+}
+
+abbrev pub plain_site : DeclaredSite → Site
+plain_site (site.Fork forking bodies copies) = fork_site forking bodies (map (λ c. c.slots) copies)
+plain_site (site.Spread forking body slot) = spread_site forking body slot
+plain_site (site.Block effects) = block_site effects
+plain_site (site.Call class row formals regions) = call_site class row formals regions
+plain_site (site.New class formals regions) = new_site class formals regions
+plain_site (site.Array region first) = array_site region first
+
+abbrev pub plain_code : Code → PlainCode
+plain_code C = record {
+  classes = map plain_class C.classes;
+  bodies = map plain_body C.bodies;
+  sites = map plain_site C.sites;
+  texts = C.texts;
+  main_class = C.main_class;
+  main_body = C.main_body;
+}

@@ -9,3 +9,4 @@ pub mod Placed
 pub mod Whole
 pub mod Bodies
 pub mod Typed
+pub mod Samples

@@ -5,3 +5,4 @@ pub mod Resolved
 pub mod Compiled
 pub mod Whole
 pub mod Laws
+pub mod Samples

@@ -1,6 +1,7 @@
 //! The laws of generated code, each the clause of a function that does nothing. They hold for all names of objects and of
 //! made local regions.
 
+ghost use Rattle.dpj_gen.specs.Samples.{SamplesStand};
 ghost use Rattle.dpj_gen.specs.Laws.{CodeIsRight, MembersAreCompiled, BodiesAreCompiled, OneReply, NeverStuck, WellTypedIsResolved};
 
 /// The code of a program does what the program means, whatever its tasks are answered.
@@ -19,4 +20,9 @@ pub fn law_solo<N, M>()
 /// What the code asks of a program is had of every well-typed one.
 pub fn law_typed()
     ensures resolved { WellTypedIsResolved }
+{}
+
+/// Small programs have the code that a person writes.
+pub fn law_samples()
+    ensures samples { SamplesStand }
 {}
