@@ -7,4 +7,5 @@ pub mod Laws
 pub mod Regions
 pub mod Samples
 pub mod Statements
+pub mod Tasks
 pub mod Values

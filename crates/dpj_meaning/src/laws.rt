@@ -1,5 +1,6 @@
 //! Laws of the meaning, each the clause of a function that does nothing.
 
+ghost use Rattle.dpj_meaning.specs.Tasks.{IsDisciplined, IsLively, IsPaced, LoopsAgain};
 ghost use Rattle.dpj_meaning.specs.Laws.{PrintsSum, RestsOnce, BeginsEach};
 
 /// Small programs ask what their texts say.
@@ -7,4 +8,14 @@ pub fn law_samples()
     ensures prints { PrintsSum }
     ensures rests { RestsOnce }
     ensures begins { BeginsEach }
+{}
+
+/// What each task of each program keeps to, whatever it is answered and whatever names objects (N) and local regions (M):
+/// nothing comes after its end, and after a fork come its begins and its join; something comes next until it has ended; and
+/// no more than so many turns go by without an event. A loop is its test, a turn, its body and the loop again.
+pub fn law_tasks<N, M>()
+    ensures disciplined { IsDisciplined N M }
+    ensures lively { IsLively N M }
+    ensures paced { IsPaced N M }
+    ensures loops { LoopsAgain N M }
 {}
