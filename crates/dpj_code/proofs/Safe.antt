@@ -65,7 +65,6 @@ module _ (C : PlainCode) (F : CodeFit C) where
       go true q = below_is k seen.0 c r y q h
       go false q = h
 
-
 -- what a state leads to is safe
 record Fine {N M : Type 0} (C : PlainCode) (F : CodeFit C) (r : ℕ) (z : Stand N M) : Type 0 where
   is : SafeStand C F r z
@@ -102,11 +101,17 @@ module _ {N M : Type 0} (C : PlainCode) (F : CodeFit C) where
     callee : (names : Naming N M) (y : Bool) (j : ℕ) (vs : List (Value N)) (regions : List (Region M)) (rest : List (Value N)) {q takes puts opens closes : ℕ} (t : Path_to (F.marks g.body) s.3.mark q takes puts opens closes) → MemberBody C F.gives j y → (puts_of y + length rest) + takes ≡ length g.stack + puts → (x : ℕ) × Safe C F x (entered names C j vs regions (record { body = g.body; at = q; frame = g.frame; stack = rest }) fs)
     callee names y j vs regions rest {q} t h e =
         let o = F.first j h.is_there in
-        let outer : At C F (record { body = g.body; at = q; frame = g.frame; stack = rest }) (puts_of y + length rest) t.there.rank = moved t g.frame rest (puts_of y + length rest) refl refl e in
-        (suc o.0.rank + (suc t.there.rank + s.1), (o.0.rank, suc t.there.rank + s.1, refl,
-          record { slots = padded_length (body_at C j).slots vs; local_regions = unmade_length names 0 (body_at C j).local_regions; mark = o.0; marked = o.1; height = o.2; ranked = refl },
-          (λ i. absurd (differ (is_branch (body_at C j).title) i h.member)),
-          subst (λ z. Callers C F z (suc t.there.rank + s.1) (record { body = g.body; at = q; frame = g.frame; stack = rest } ∷ fs)) (sym h.kind) (t.there.rank, s.1, refl, outer, s.4, s.5)))
+        let outer : At C F (record { body = g.body; at = q; frame = g.frame; stack = rest }) (puts_of y + length rest) t.there.rank = moved t g.frame rest (puts_of y + length rest) refl refl e in (
+          suc o.0.rank + (suc t.there.rank + s.1),
+          (
+            o.0.rank,
+            suc t.there.rank + s.1,
+            refl,
+            record { slots = padded_length (body_at C j).slots vs; local_regions = unmade_length names 0 (body_at C j).local_regions; mark = o.0; marked = o.1; height = o.2; ranked = refl },
+            (λ i. absurd (differ (is_branch (body_at C j).title) i h.member)),
+            subst (λ z. Callers C F z (suc t.there.rank + s.1) (record { body = g.body; at = q; frame = g.frame; stack = rest } ∷ fs)) (sym h.kind) (t.there.rank, s.1, refl, outer, s.4, s.5),
+          ),
+        )
       where
         differ : (z : Bool) → z ≡ true → z ≡ false → ⊥
         differ z i j = cc
@@ -238,9 +243,9 @@ module _ {N M : Type 0} (C : PlainCode) (F : CodeFit C) where
         let l = enough r g fs s t.path in
         subst (λ z. Fine C F r (machine.called names C at z g fs)) (sym e)
         (taken_safe r n g.stack _ (omega arith) (λ vs more q. one_safe r more _ (omega arith) (λ v st q'. or_safe r trap.Null at (reference v) _ some_rank (λ o.
-          deeper_safe r g.frame.left at _ some_rank (long_safe r (some_long (map (concrete names (around g.frame)) regions)) at _ some_rank (record {
-            is = ((λ a. enters_safe y (class_entered (parent_of C) (length C.classes) c (class_seen a)) row (entered_is C F (length C.classes) c row y (class_seen a) h) _ _ st t.path (omega arith)), tt);
-          }))))))
+        deeper_safe r g.frame.left at _ some_rank (long_safe r (some_long (map (concrete names (around g.frame)) regions)) at _ some_rank (record {
+          is = ((λ a. enters_safe y (class_entered (parent_of C) (length C.classes) c (class_seen a)) row (entered_is C F (length C.classes) c row y (class_seen a) h) _ _ st t.path (omega arith)), tt);
+        }))))))
 
     creates_safe : (at : Place) (c : ℕ) (own : List (Region M)) (vs : List (Value N)) (x : Option ℕ) → constructor_of C c ≡ x → (st : List (Value N)) {takes : ℕ} → Path_to (F.marks g.body) s.3.mark (suc g.at) takes 1 0 0 → length g.stack ≡ length st + takes → Fine C F r (machine.creates names C at c own vs x g st fs)
     creates_safe at c own vs None q st t e = record { is = ((λ a. stays r g fs s t g.frame (name_made a ∷ st) refl refl (omega arith)), tt) }
@@ -252,7 +257,7 @@ module _ {N M : Type 0} (C : PlainCode) (F : CodeFit C) where
         let l = enough r g fs s t.path in
         subst (λ z. Fine C F r (machine.created names C at z g fs)) (sym e)
         (taken_safe r n g.stack _ (omega arith) (λ vs st q. long_safe r (some_long (map (concrete names (around g.frame)) regions)) at _ some_rank
-          (creates_safe at c (map (concrete names (around g.frame)) regions) (reverse vs) (constructor_of C c) refl st t.path (omega arith))))
+        (creates_safe at c (map (concrete names (around g.frame)) regions) (reverse vs) (constructor_of C c) refl st t.path (omega arith))))
 
     array_safe : (at : Place) (region : Region M) (v : Constant) (len : ℤ) (st : List (Value N)) {takes : ℕ} → Path_to (F.marks g.body) s.3.mark (suc g.at) takes 1 0 0 → length g.stack ≡ length st + takes → Fine C F r (machine.array_of at region v len g st fs)
     array_safe at region v (pos k) st t e = long_safe r (is_long region) at _ some_rank (record { is = ((λ a. stays r g fs s t g.frame (name_made a ∷ st) refl refl (omega arith)), tt) })

@@ -264,12 +264,12 @@ module _ {N M : Type 0} where
           good_same (λ w l. ap (λ o. finish o K) (ap (λ o. bind o (λ r v. run (told names) (k r) v)) (bind_done _)))
           (good_same (λ w l. sym (finish_bind (again names t b f w) _ K))
           (good_loop t b (λ g. all_fine (t g) (s.0 g)) (λ g. all_fine (b g) (s.1 g)) n f (λ r w. finish (run (told names) (k r) w) K)
-              (λ r. (all_fine (k r) (s.2 r)).good n K h)));
+          (λ r. (all_fine (k r) (s.2 r)).good n K h)));
     }
     all_fine (Split forking ts bs k) s = record {
       good = λ n K h.
           good_same (λ w l. ap (λ o. finish o K)
-              (sym (bind_bind (asked (Fork forking ts) w) (λ a v. begins_then 0 (length ts) told_join v) (λ x v. run (told names) (k x) v))))
+          (sym (bind_bind (asked (Fork forking ts) w) (λ a v. begins_then 0 (length ts) told_join v) (λ x v. run (told names) (k x) v))))
           (good_act Free (Fork forking ts) (λ a v. bind (begins_then 0 (length ts) told_join v) (λ x v. run (told names) (k x) v)) K (λ t l f. l)
           (λ t x. good_begins ts 0 (length ts) _ K (omega arith) (λ y. (all_fine (k y) (s y)).good n K h)));
     }

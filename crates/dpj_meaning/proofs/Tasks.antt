@@ -45,7 +45,7 @@ module _ {N M : Type 0} where
   keeps : (h : Replies N M) → ((d : ℕ) → Goes d Free h) → Keeps (λ xs. h (reverse xs))
   keeps h s got =
       subst (λ g. May g (h (reverse got))) (mode_along h got)
-          (goes_along (reverse got) Free h (suc (length (reverse got))) (omega arith) (s (suc (length (reverse got)))))
+      (goes_along (reverse got) Free h (suc (length (reverse got))) (omega arith) (s (suc (length (reverse got)))))
 
   -- the reply where an action comes next
   no_unknown : (g : Mode N M) → May g Unknown → ⊥
@@ -243,17 +243,21 @@ module _ {N M : Type 0} where
   module _ (names : Naming N M) (P : PlainProgram) (t : Task N M) where
     abbrev heard : Replies N M
     heard xs =
-        replied t.work (run (told names) (meaning names P t.frame.left t.work.stmts (begun t.work.takes t.frame)) (record { since =
-            0; made = 0; to_come = xs }))
+        replied t.work (run (told names) (meaning names P t.frame.left t.work.stmts (begun t.work.takes t.frame)) (record {
+          since =
+              0;
+          made = 0;
+          to_come = xs;
+        }))
 
     heard_goes : (d : ℕ) → Goes d Free heard
     heard_goes d =
         (let p = most_pos in
         let fine =
-            all_fine names (meaning names P t.frame.left t.work.stmts (begun t.work.takes t.frame))
-                (steady_meaning names P t.frame.left t.work.stmts (begun t.work.takes t.frame)) in
+        all_fine names (meaning names P t.frame.left t.work.stmts (begun t.work.takes t.frame))
+        (steady_meaning names P t.frame.left t.work.stmts (begun t.work.takes t.frame)) in
         let good : Good (suc (most_turns * d + most_turns)) Free
-            (λ w. replied t.work (run (told names) (meaning names P t.frame.left t.work.stmts (begun t.work.takes t.frame)) w)) =
+        (λ w. replied t.work (run (told names) (meaning names P t.frame.left t.work.stmts (begun t.work.takes t.frame)) w)) =
         good_same (λ w l. replied_is t.work _) (fine.good _ (λ r w. ending (ended t.work r) w.since w.to_come) (λ r. good_end (ended t.work r))) in
         good.from d 0 0 p tt (omega arith))
 

@@ -105,8 +105,11 @@ BodyFits {N} {M} body = (f : Frame N M) (w : Told N M) → w.since < most_turns 
 -- what follows a test that came out so
 abbrev pub past_test : {N M : Type 0} → Body N M → Body N M → Value N → Frame N M → Told N M → Bool → Out N M (Result N M) (Told N M)
 past_test {N} {M} body again v f w b =
-    elim b as (λ b. Out N M (Result N M) (Told N M)) [ false ↦ Done (Goes_on v f) w | true ↦ bind (turned w)
-        (λ u w'. bind (body f w') (λ r w''. rounded again r w'')) ]
+    elim b as (λ b. Out N M (Result N M) (Told N M)) [
+      | false ↦ Done (Goes_on v f) w
+      | true ↦ bind (turned w)
+          (λ u w'. bind (body f w') (λ r w''. rounded again r w''))
+    ]
 
 module _ {N M : Type 0} (test body : Body N M) (ht : BodyFits test) (hb : BodyFits body) where
   -- what follows the test fits, if what follows the body does
@@ -135,7 +138,7 @@ module _ {N M : Type 0} (test body : Body N M) (ht : BodyFits test) (hb : BodyFi
   loop_fits zero f w l r = absurd (omega arith)
   loop_fits (suc n) f w l r =
       bind_fits _ _ (room w) (ht f w l)
-          (λ x v lv rv. fits_less _ (room v) (room w) rv (tested_fits (looped n) x v lv (λ g u lu ru. loop_fits n g u lu (omega arith))))
+      (λ x v lv rv. fits_less _ (room v) (room w) rv (tested_fits (looped n) x v lv (λ g u lu ru. loop_fits n g u lu (omega arith))))
 
   tested_same : (j j' : Body N M) (r : Result N M) (w : Told N M) → w.since < most_turns
       → ((g : Frame N M) (u : Told N M) → u.since < most_turns → room u < room w → j g u ≡ j' g u) → tested turned body j r w ≡ tested turned body j' r w
@@ -205,10 +208,10 @@ module _ {N M : Type 0} (names : Naming N M) where
   run_fits (Makes k) w l = then_fits _ _ (room w) (made_fits names w l) (λ m v lv. run_fits (k m) v lv)
   run_fits (Again t b f k) w l =
       then_fits _ _ (room w) (loop_fits _ _ (λ g v m. run_fits (t g) v m) (λ g v m. run_fits (b g) v m) (suc (room w)) f w l (omega arith))
-          (λ x v lv. run_fits (k x) v lv)
+      (λ x v lv. run_fits (k x) v lv)
   run_fits (Split forking ts bs k) w l =
       then_fits _ _ (room w)
-          (bind_fits _ _ (room w) (asked_fits (Fork forking ts) w) (λ a v lv rv. fits_less _ (room v) (room w) rv (begins_fits 0 (length ts) v)))
+      (bind_fits _ _ (room w) (asked_fits (Fork forking ts) w) (λ a v lv rv. fits_less _ (room v) (room w) rv (begins_fits 0 (length ts) v)))
       (λ x v lv. run_fits (k x) v lv)
 
   pub loops_again : (t b : Frame N M → Prog N M) (f : Frame N M) (w : Told N M) → w.since < most_turns
