@@ -1,5 +1,7 @@
 -- An effect that interferes with a noted one is met by a search.
-use Rattle.std.proofs.Common.{◌≡◌, ℕ, Bool, true, false, not, ◌&&◌, ◌||◌, ◌==◌, List, [], ◌∷◌, refl, sym, ap, subst, ◌∙◌, inl, inr, ◌⊎◌, ⊎_elim, MatchBool, Option, Some, None}
+use Rattle.std.proofs.Common.{◌≡◌, ℕ, Bool, true, false, not, ◌&&◌, ◌||◌, ◌==◌, List, [], ◌∷◌, refl, sym, ap, subst, ◌∙◌, inl, inr, ◌⊎◌, ⊎_elim, MatchBool, Option, Some, None, ◌<◌, ◌≤◌, length, drop, arith, MatchOption}
+use Rattle.std.proofs.lemmas.List.{drop_all}
+use Rattle.dpj_locks.proofs.Found.{Sound}
 use Rattle.std.proofs.lemmas.Bool.{and_parts, or_left, false≢true, cases_Bool}
 use Rattle.std.specs.FinMap.{get}
 use Rattle.dpj_base.specs.declared.elems.Elem.{Elem}
@@ -20,8 +22,8 @@ use Rattle.dpj_disjoint.proofs.Lists.{front-step}
 use Rattle.dpj_locks.specs.declared.index.Index.{Index}
 use Rattle.dpj_locks.specs.declared.standing.Standing.{Standing}
 use Rattle.dpj_locks.specs.declared.standing.Standing.TheVariants.{Opener, Adopted}
-use Rattle.dpj_locks.specs.Index.{Sets, has, first_number, mixed, NotedFrom, Met, NotedBy, AllNoted, MetBy, MetAny, IsFound, IsIndexed}
-use Rattle.dpj_locks.specs.Locks.{Standings, AllRoot, some_interferes, lists_interfere, block_interferes, opened_for, hinders}
+use Rattle.dpj_locks.specs.Index.{Sets, has, first_number, mixed, NotedFrom, Met, NotedBy, AllNoted, MetBy, MetAny, AtMost, IsFound, IsIndexed}
+use Rattle.dpj_locks.specs.Locks.{Standings, AllRoot, some_interferes, lists_interfere, block_interferes, opened_for, hinders, IsFree, IsLeastHolder}
 
 concrete-no_star : (x : Elem) → is_concrete x ≡ true → is_star x ≡ false
 concrete-no_star Star h = absurd (false≢true h)
@@ -137,3 +139,23 @@ pub hindering_met : (reads writes : Index) (locks : Standings) (task q : ℕ) (w
     → hinders locks task wants q ≡ true → MetAny reads writes q wants
 hindering_met reads writes locks task q wants indexed roots is =
     block_met reads writes q (get locks q) wants roots (indexed q) (and_parts (not (q == task) && not (opened_for (get locks task) q)) (block_interferes (get locks q) wants) is).1
+
+free_at : (b : Bool) (q : ℕ) → (b ≡ true → AtMost None q) → b ≡ false
+free_at true q never = absurd (never refl)
+free_at false q never = refl
+
+less_at : (b : Bool) (h q : ℕ) → q < h → (b ≡ true → AtMost (Some h) q) → b ≡ false
+less_at true h q lt most = absurd (omega (arith, most refl))
+less_at false h q lt most = refl
+
+-- who hinders and is no greater than any that does is the least
+pub concluded : (locks : Standings) (task : ℕ) (wants : List Effect) (least : Option ℕ) → Sound (hinders locks task wants) least
+    → ((q : ℕ) → hinders locks task wants q ≡ true → AtMost least q) → MatchOption least (IsFree locks task wants) (IsLeastHolder locks task wants)
+concluded locks task wants None sound most = λ q. free_at (hinders locks task wants q) q (most q)
+concluded locks task wants (Some h) sound most = record { itself = sound; least = λ q lt. less_at (hinders locks task wants q) h q lt (most q) }
+
+pub all_looked_at : (reads writes : Index) (locks : Standings) (task q i : ℕ) (wants : List Effect) (least : Option ℕ) → IsIndexed reads writes locks → AllRoot wants → length wants ≤ i
+    → (MetAny reads writes q wants → hinders locks task wants q ≡ true → AtMost least q ⊎ MetAny reads writes q (drop i wants)) → hinders locks task wants q ≡ true → AtMost least q
+all_looked_at reads writes locks task q i wants least indexed roots past reach is =
+    ⊎_elim {C = AtMost least q} (λ le. le) (λ more. absurd (subst (MetAny reads writes q) (drop_all i wants past) more))
+      (reach (hindering_met reads writes locks task q wants indexed roots is) is)

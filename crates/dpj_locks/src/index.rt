@@ -1,6 +1,6 @@
 ghost use Rattle.std.specs.Prelude.{◌≡◌, ◌≢◌, ℕ, true, OnOk};
 ghost use Rattle.dpj_base.specs.Matching.{is_concrete};
-ghost use Rattle.dpj_locks.specs.Index.{has, first_number, mixed, NotedFrom, AllNoted, IsGrown, KeepsOthers};
+ghost use Rattle.dpj_locks.specs.Index.{has, first_number, mixed, NotedFrom, NotedBy, AllNoted, IsGrown, KeepsOthers};
 
 use crate::sets::{Sets, add, take_out};
 use dpj_base::{Access, Effect, Elem, Index as ElemIndex, NoMemory};
@@ -87,7 +87,25 @@ pub fn forget(index: &mut Index, task: u32, elems: &[Elem])
     take_out(&mut index.ending, number, task);
 }
 
-/// Notes a task under each of its effects: reads and writes apart. Whatever was noted stays.
+/// Notes a task under one effect: reads and writes apart.
+fn note_effect(
+    alloc: Global,
+    reads: &mut Index,
+    writes: &mut Index,
+    task: u32,
+    e: &Effect,
+) -> Result<(), NoMemory>
+    ensures there { OnOk result (NotedBy reads.new writes.new task e.now.access e.now.rpl.elems) }
+    ensures reads { IsGrown reads.old reads.new }
+    ensures writes { IsGrown writes.old writes.new }
+{
+    match e.access {
+        Access::Read => note(alloc, reads, task, e.rpl.elems.as_slice()),
+        Access::Write => note(alloc, writes, task, e.rpl.elems.as_slice()),
+    }
+}
+
+/// Notes a task under each of its effects. Whatever was noted stays.
 pub fn note_all(
     alloc: Global,
     reads: &mut Index,
@@ -100,11 +118,7 @@ pub fn note_all(
     ensures writes { IsGrown writes.old writes.new }
 {
     for e in effects {
-        let elems = e.rpl.elems.as_slice();
-        match e.access {
-            Access::Read => note(alloc, reads, task, elems)?,
-            Access::Write => note(alloc, writes, task, elems)?,
-        }
+        note_effect(alloc, reads, writes, task, e)?;
     }
     Ok(())
 }

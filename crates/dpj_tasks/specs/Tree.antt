@@ -148,7 +148,8 @@ ends_in (Some task) = scope_ends task.state
 -- a path: the steps from the root to a task
 pub data IsPath (tasks : Tasks) : ℕ → List PathStep → Type 0 where
   root : (n : ℕ) → origin_of (get tasks n) ≡ None → IsPath tasks n []
-  step : (n : ℕ) (origin : Origin) (steps : List PathStep) → origin_of (get tasks n) ≡ Some origin → IsPath tasks origin.parent steps → IsPath tasks n (steps ++ origin.step ∷ [])
+  step : (n : ℕ) (origin : Origin) (steps : List PathStep) → origin_of (get tasks n) ≡ Some origin → IsPath tasks origin.parent steps
+      → IsPath tasks n (steps ++ origin.step ∷ [])
 
 -- the task is the last with a number below the bound
 pub record IsLastBelow (tasks : Tasks) (bound n : ℕ) : Type 0 where

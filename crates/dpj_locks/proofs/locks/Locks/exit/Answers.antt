@@ -6,4 +6,4 @@ use Rattle.dpj_locks.proofs.locks.Locks.exit.Goals as goal
 
 pub invariant_of-self-else-not-leave : goal.invariant_of-self-else-not-leave
 invariant_of-self-else-not-leave c =
-    subst (IsIndexed c.self.inside.reads c.self.inside.writes) (sym (c.leave.ensures.left ?)) (indexed_exited c.self.inside.reads c.self.inside.writes c.self.inside.standings c.args.task c.self.invariant)
+    subst (IsIndexed c.self.inside.reads c.self.inside.writes) (sym (c.leave.ensures.left c.if-not-leave.false)) (indexed_exited c.self.inside.reads c.self.inside.writes c.self.inside.standings c.args.task c.self.invariant)

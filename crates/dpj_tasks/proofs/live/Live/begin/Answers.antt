@@ -13,7 +13,8 @@ begin-requires c = of_found c.self.inside.tasks c.args.number c.in-Some.task.now
 
 pub returns-clause-ok : goal.returns-clause-ok
 returns-clause-ok c =
-    written c.self.inside.tasks c.get_mut.follows.lender c.args.number _ c.in-Some.task.now (with_scope with_branch) c.in-Some.ensures.value c.get_mut.follows.holds
+    written c.self.inside.tasks c.get_mut.follows.lender c.args.number _ c.in-Some.task.now
+    (with_scope with_branch) c.in-Some.ensures.value c.get_mut.follows.holds
     (ap (λ state. record { origin = c.in-Some.task.now.origin; forks = c.in-Some.task.now.forks; state = state }) c.in_ok-begin.ensures.ok)
     ∙ ap (λ (tasks : Tasks). changed tasks c.args.number (with_scope with_branch)) c.self.view_is
 

@@ -21,7 +21,8 @@ returns-clause-joined c =
 pub returns-clause-ok : goal.returns-clause-ok
 returns-clause-ok c =
     subst (λ o. JoinsTo (ends_in o) c.in_ok-joined.joined)
-    (c.in-Some.ensures.value ∙ sym (get_seen c.self.inside.tasks c.args.number) ∙ ap (λ (tasks : Tasks). get tasks c.args.number) c.self.view_is) c.in_ok-joined.ensures.ok
+    (c.in-Some.ensures.value ∙ sym (get_seen c.self.inside.tasks c.args.number)
+    ∙ ap (λ (tasks : Tasks). get tasks c.args.number) c.self.view_is) c.in_ok-joined.ensures.ok
 
 pub returns-in_err-joined-clause-err : goal.returns-in_err-joined-clause-err
 returns-in_err-joined-clause-err c =

@@ -1,5 +1,5 @@
 -- One branch more runs.
-use Rattle.std.proofs.Common.{◌≡◌, ◌+◌, ◌∷◌, [], length, ap, sym, ◌∙◌, arith, None, length-append}
+use Rattle.std.proofs.Common.{◌+◌, ◌∷◌, [], length, ap, sym, ◌∙◌, arith, None, length-append}
 use Rattle.dpj_tasks.specs.Scope.{Branches, running_in}
 use Rattle.dpj_tasks.proofs.Scopes.{running_more, running_within}
 use Rattle.dpj_tasks.proofs.scope.Scope.begin.Goals as goal
