@@ -10,3 +10,4 @@ pub mod Whole
 pub mod Bodies
 pub mod Typed
 pub mod Samples
+pub mod Legs

@@ -4,14 +4,15 @@ use Rattle.dpj_typed.specs.Plain.{PlainProgram, PlainMember}
 use Rattle.dpj_typed.specs.Scope.{member_at}
 use Rattle.dpj_typed.specs.WellTyped.{WellTyped}
 use Rattle.dpj_meaning.specs.Values.{Naming}
-use Rattle.dpj_meaning.specs.Actions.{Frame, Work, Task, Answer, Reply, Unknown}
+use Rattle.dpj_meaning.specs.Actions.{Frame, Work, Task, Action, Answer, Reply, Unknown}
 use Rattle.dpj_meaning.specs.Asking.{ask}
 use Rattle.dpj_code.specs.Plain.{PlainCode, body_at}
-use Rattle.dpj_code.specs.Machine.{Start, Solo}
+use Rattle.dpj_code.specs.Legs.{Halt, Asks, Leg, Halts, said}
+use Rattle.dpj_code.specs.Machine.{Start, State, begins_at, Solo}
 use Rattle.dpj_gen.specs.Whole.{number_in, compiled}
 use Rattle.dpj_gen.specs.Stands.{BodyIs}
 use Rattle.dpj_gen.specs.Resolved.{StmtsFit, Resolved}
-use Rattle.dpj_gen.specs.Compiled.{Compiled, Right}
+use Rattle.dpj_gen.specs.Compiled.{Compiled, SameReply, Right}
 
 -- of each task whose start is compiled, whatever it is answered, the solo run stands at the action, after as many turns, that
 -- the meaning asks, or is over exactly where that is; and the starts of its branches are compiled again
@@ -47,6 +48,23 @@ abbrev pub NeverStuck : Type 0 → Type 0 → Type 0
 NeverStuck N M =
     (names : Naming N M) (P : PlainProgram) → Resolved P → (b : Start N M) (t : Task N M) → Compiled (compiled P) P b t →
     (got : List (Answer N M)) → Solo names (compiled P) b got Unknown → ⊥
+
+-- a compiled task that gets its answers one at a time stands each time at what the meaning asks
+abbrev pub LegsAreRight : Type 0 → Type 0 → Type 0
+LegsAreRight N M =
+    (names : Naming N M) (P : PlainProgram) → Resolved P → (b : Start N M) (t : Task N M) → Compiled (compiled P) P b t →
+    (got : List (Answer N M)) (h : Halt N M) → Halts names (compiled P) b got h → SameReply (compiled P) P (ask names P t got) (said h)
+
+-- its first leg ends, and so does each leg after an answer
+pub record LegsEndOf {N M : Type 0} (names : Naming N M) (C : PlainCode) (b : Start N M) : Type 0 where
+  pub first : (h : Halt N M) × Leg names C 0 (begins_at b) h
+  pub later :
+      (got : List (Answer N M)) (n m : ℕ) (a : Action N M (Start N M)) (k : Answer N M → State N M) → Halts names C b got (Asks n m a k) →
+      (x : Answer N M) → (h : Halt N M) × Leg names C m (k x) h
+
+abbrev pub LegsEnd : Type 0 → Type 0 → Type 0
+LegsEnd N M =
+    (names : Naming N M) (P : PlainProgram) → Resolved P → (b : Start N M) (t : Task N M) → Compiled (compiled P) P b t → LegsEndOf names (compiled P) b
 
 -- a well-typed program is resolved: so all of this holds of its code
 abbrev pub WellTypedIsResolved : Type 0

@@ -2,7 +2,7 @@
 //! made local regions.
 
 ghost use Rattle.dpj_gen.specs.Samples.{SamplesStand};
-ghost use Rattle.dpj_gen.specs.Laws.{CodeIsRight, MembersAreCompiled, BodiesAreCompiled, OneReply, NeverStuck, WellTypedIsResolved};
+ghost use Rattle.dpj_gen.specs.Laws.{CodeIsRight, MembersAreCompiled, BodiesAreCompiled, OneReply, NeverStuck, LegsAreRight, LegsEnd, WellTypedIsResolved};
 
 /// The code of a program does what the program means, whatever its tasks are answered.
 pub fn law_code<N, M>()
@@ -15,6 +15,12 @@ pub fn law_code<N, M>()
 pub fn law_solo<N, M>()
     ensures one { OneReply N M }
     ensures never { NeverStuck N M }
+{}
+
+/// A compiled task that gets its answers one at a time does what it means, and each of its legs ends.
+pub fn law_legs<N, M>()
+    ensures right { LegsAreRight N M }
+    ensures ends { LegsEnd N M }
 {}
 
 /// What the code asks of a program is had of every well-typed one.
