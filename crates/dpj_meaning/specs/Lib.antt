@@ -1,7 +1,9 @@
 pub mod Actions
 pub mod Asking
 pub mod Core
+pub mod Costs
 pub mod Counts
+pub mod Elision
 pub mod Expressions
 pub mod Laws
 pub mod Regions

@@ -1,13 +1,21 @@
 //! Laws of the meaning, each the clause of a function that does nothing.
 
 ghost use Rattle.dpj_meaning.specs.Tasks.{IsDisciplined, IsLively, IsPaced, LoopsAgain};
-ghost use Rattle.dpj_meaning.specs.Laws.{PrintsSum, RestsOnce, BeginsEach};
+ghost use Rattle.dpj_meaning.specs.Laws.{PrintsSum, RestsOnce, BeginsEach, BranchesInOrder, CountsFromFive, ReadsWritten, RunsLoops};
 
 /// Small programs ask what their texts say.
 pub fn law_samples()
     ensures prints { PrintsSum }
     ensures rests { RestsOnce }
     ensures begins { BeginsEach }
+{}
+
+/// Run in sequence small programs come out as their texts say: endings, output, costs and limits.
+pub fn law_elision()
+    ensures branches { BranchesInOrder }
+    ensures counts { CountsFromFive }
+    ensures reads { ReadsWritten }
+    ensures loops { RunsLoops }
 {}
 
 /// What each task of each program keeps to, whatever it is answered and whatever names objects (N) and local regions (M):
