@@ -72,13 +72,13 @@ pub indexed_inserted : (r w r' w' : Index) (locks : Standings) (k : ℕ) (s : St
     → ((q : ℕ) → q ≢ k → Keeps q r r') → ((q : ℕ) → q ≢ k → Keeps q w w') → IsIndexed r w locks → IsIndexed r' w' (insert locks k s)
 indexed_inserted r w r' w' locks k s found kr kw indexed q =
     subst (IsFound r' w' q) (sym (get-insert nat_cmp_total locks k s q))
-      (at_choice (IsFound r' w') q k (eq_by_cmp nat_cmp q k) (Some s) (get locks q) refl found (λ apart. found_kept r w r' w' q (get locks q) (kr q apart) (kw q apart) (indexed q)))
+    (at_choice (IsFound r' w') q k (eq_by_cmp nat_cmp q k) (Some s) (get locks q) refl found (λ apart. found_kept r w r' w' q (get locks q) (kr q apart) (kw q apart) (indexed q)))
 
 pub indexed_removed : (r w r' w' : Index) (locks : Standings) (k : ℕ)
     → ((q : ℕ) → q ≢ k → Keeps q r r') → ((q : ℕ) → q ≢ k → Keeps q w w') → IsIndexed r w locks → IsIndexed r' w' (remove locks k)
 indexed_removed r w r' w' locks k kr kw indexed q =
     subst (IsFound r' w' q) (sym (get-remove nat_cmp_total locks k q))
-      (at_choice (IsFound r' w') q k (eq_by_cmp nat_cmp q k) None (get locks q) refl tt (λ apart. found_kept r w r' w' q (get locks q) (kr q apart) (kw q apart) (indexed q)))
+    (at_choice (IsFound r' w') q k (eq_by_cmp nat_cmp q k) None (get locks q) refl tt (λ apart. found_kept r w r' w' q (get locks q) (kr q apart) (kw q apart) (indexed q)))
 
 pub indexed_empty : (r w : Index) → IsIndexed r w empty
 indexed_empty r w q = subst (IsFound r w q) (sym (get-empty nat_cmp q)) tt
@@ -136,8 +136,8 @@ pub leads_one_on : (reads writes reads' writes' : Index) (task i : ℕ) (e : Eff
     → LeadsOn reads writes task (drop i all) all → LeadsOn reads' writes' task (drop (i + 1) all) all
 leads_one_on reads writes reads' writes' task i e all lt at noted kr kw leads r w kr' kw' rest =
     leads r w (keeps_on task reads reads' r kr kr') (keeps_on task writes writes' w kw kw')
-      (subst (AllNoted r w task) (ap (λ f. f ∷ drop (i + 1) all) at ∙ sym (drop_more all i e lt))
-        (by_kept reads' writes' r w task e.access e.rpl.elems kr' kw' noted, rest))
+    (subst (AllNoted r w task) (ap (λ f. f ∷ drop (i + 1) all) at ∙ sym (drop_more all i e lt))
+    (by_kept reads' writes' r w task e.access e.rpl.elems kr' kw' noted, rest))
 
 pub grown_on : (a b c : Index) → IsGrown a b → IsGrown b c → IsGrown a c
 grown_on a b c one two = record { under = λ k q h. two.under k q (one.under k q h); ending = λ k q h. two.ending k q (one.ending k q h) }
@@ -155,13 +155,13 @@ pub indexed_back : (r w r1 w1 r2 w2 : Index) (locks : Standings) (k : ℕ) → g
     → KeepsOthers k r1 r2 → KeepsOthers k w1 w2 → IsIndexed r w locks → IsIndexed r2 w2 locks
 indexed_back r w r1 w1 r2 w2 locks k absent gr gw kr kw indexed =
     subst (IsIndexed r2 w2) (removed_absent locks k absent)
-      (indexed_removed r w r2 w2 locks k
-        (λ q apart. keeps_on q r r1 r2 (grown_keeps q r r1 gr) (others_kept k q r1 r2 apart kr))
-        (λ q apart. keeps_on q w w1 w2 (grown_keeps q w w1 gw) (others_kept k q w1 w2 apart kw)) indexed)
+    (indexed_removed r w r2 w2 locks k
+    (λ q apart. keeps_on q r r1 r2 (grown_keeps q r r1 gr) (others_kept k q r1 r2 apart kr))
+    (λ q apart. keeps_on q w w1 w2 (grown_keeps q w w1 gw) (others_kept k q w1 w2 apart kw)) indexed)
 
 -- a block that was noted
 pub indexed_block : (r w r1 w1 : Index) (locks : Standings) (k : ℕ) (wants effects : List Effect) → AllRoot wants → effects ≡ wants → AllNoted r1 w1 k effects
     → IsGrown r r1 → IsGrown w w1 → IsIndexed r w locks → IsIndexed r1 w1 (insert locks k (Opener wants 1))
 indexed_block r w r1 w1 locks k wants effects roots is noted gr gw indexed =
     indexed_inserted r w r1 w1 locks k (Opener wants 1) (roots, subst (AllNoted r1 w1 k) is noted)
-      (λ q apart. grown_keeps q r r1 gr) (λ q apart. grown_keeps q w w1 gw) indexed
+    (λ q apart. grown_keeps q r r1 gr) (λ q apart. grown_keeps q w w1 gw) indexed

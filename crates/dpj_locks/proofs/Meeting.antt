@@ -158,4 +158,4 @@ pub all_looked_at : (reads writes : Index) (locks : Standings) (task q i : ℕ) 
     → (MetAny reads writes q wants → hinders locks task wants q ≡ true → AtMost least q ⊎ MetAny reads writes q (drop i wants)) → hinders locks task wants q ≡ true → AtMost least q
 all_looked_at reads writes locks task q i wants least indexed roots past reach is =
     ⊎_elim {C = AtMost least q} (λ le. le) (λ more. absurd (subst (MetAny reads writes q) (drop_all i wants past) more))
-      (reach (hindering_met reads writes locks task q wants indexed roots is) is)
+    (reach (hindering_met reads writes locks task q wants indexed roots is) is)
