@@ -1,0 +1,5 @@
+pub mod Plain
+pub mod Machine
+pub mod Fit
+pub mod Safe
+pub mod Legs

@@ -1,5 +1,5 @@
 -- Covering and interference of effects, over inclusion and disjointness of their paths.
-use Rattle.std.proofs.Common.{◌≡◌, Bool, true, false, not, ◌&&◌, ◌||◌, List, [], ◌∷◌, refl, sym, ap, ◌∙◌, subst, ⊎_elim}
+use Rattle.std.proofs.Common.{◌≡◌, Bool, true, false, not, ◌&&◌, ◌||◌, List, [], ◌∷◌, refl, sym, ap, ◌∙◌, ⊎_elim}
 use Rattle.std.proofs.lemmas.Bool.{and_parts, and_from, and_left, and_right, or_cases, or_left, or_right, false≢true, not-true, not-false, cases_Bool}
 use Rattle.std.proofs.lemmas.Bool.{false_from_ne_true}
 use Rattle.dpj_base.specs.declared.effect.Access.{Access}
@@ -9,8 +9,7 @@ use Rattle.dpj_base.specs.declared.effect.Constraint.{Constraint}
 use Rattle.dpj_base.specs.Regions.{within}
 use Rattle.dpj_base.specs.Apart.{apart}
 use Rattle.dpj_base.specs.Matching.{Env, IsEnv, MatchNoCommon}
-use Rattle.dpj_base.specs.Effects.{is_write, covers_access, covers_effect, interferes, some_covers, set_covers, same_effect, has_effect}
-use Rattle.dpj_effects.proofs.Sets.{same_effect-is}
+use Rattle.dpj_base.specs.Effects.{is_write, covers_access, covers_effect, interferes, some_covers, set_covers}
 use Rattle.dpj_regions.proofs.Inclusion.{within-refl, within-trans}
 use Rattle.dpj_disjoint.proofs.Paths.{apart-within}
 use Rattle.dpj_disjoint.proofs.Envs.{apart_swap, no_common}

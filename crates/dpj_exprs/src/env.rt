@@ -167,6 +167,13 @@ impl<'a> Env<'a> {
         self.slots
     }
 
+    /// How many local regions the member has declared so far, in scope still or not.
+    pub fn regions_declared(&self) -> u32
+        ensures { result ≡ declared_in self.now }
+    {
+        self.declared
+    }
+
     /// Whether one thing more can be declared, of any kind: slots and local regions have numbers of 32 bits. A text of
     /// a megabyte doesn't declare so many.
     pub fn has_room(&self) -> bool

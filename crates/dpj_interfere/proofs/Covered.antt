@@ -4,7 +4,7 @@ use Rattle.std.proofs.lemmas.Bool.{and_parts, and_from, and_left, and_right, fal
 use Rattle.dpj_base.specs.declared.effect.Effect.{Effect}
 use Rattle.dpj_base.specs.declared.effect.Constraint.{Constraint}
 use Rattle.dpj_base.specs.Effects.{covers_effect, interferes}
-use Rattle.dpj_base.specs.Branches.{Atomic, atomic_path, both_atomic, ordered_by_blocks, clashes}
+use Rattle.dpj_base.specs.Branches.{Atomic, atomic_path, ordered_by_blocks, clashes}
 use Rattle.dpj_effects.proofs.Covered.{covers-within, covers-marks, covered_quiet}
 use Rattle.dpj_interfere.proofs.Ends.{atomic-within}
 

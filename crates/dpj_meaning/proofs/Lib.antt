@@ -1,1 +1,5 @@
+mod Entries
+mod Modes
 mod Samples
+mod Tasks
+mod Turns

@@ -1,8 +1,6 @@
 -- What expressions mean: one clause a construct, in the order of evaluation. `dp` is what a body does one call deeper, and is
 -- none at the deepest.
-use Rattle.std.specs.Prelude.{ℕ, zero, suc, ◌-◌, ◌+◌, ℤ, pos, negsuc, Bool, true, false, not, ◌||◌, cond, List, [], ◌∷◌, ◌++◌, map, length, reverse, Option, Some, None, int_lt, int_rem}
-use Rattle.std.specs.Ordering.{int_eq}
-use Rattle.std.specs.Int.{w32, int_wrapping_add, int_wrapping_sub, int_wrapping_mul, int_wrapping_div, int_wrapping_neg}
+use Rattle.std.specs.Prelude.{ℕ, ◌-◌, ◌+◌, ℤ, pos, negsuc, Bool, true, false, cond, List, [], ◌∷◌, ◌++◌, map, length, reverse, Option, Some, None}
 use Rattle.std.specs.Option.{option_map_or}
 use Rattle.dpj_base.specs.declared.place.Place.{Place}
 use Rattle.dpj_base.specs.declared.region.Rpl.{Rpl}
@@ -10,9 +8,6 @@ use Rattle.dpj_base.specs.declared.value.Trap.TheVariants as trap
 use Rattle.dpj_base.specs.Types.{PlainType}
 use Rattle.dpj_base.specs.Types.{PlainType as ty}
 use Rattle.dpj_typed.specs.declared.expr.BinaryOp.{BinaryOp}
-use Rattle.dpj_typed.specs.declared.expr.BinaryOp.TheVariants as op
-use Rattle.dpj_typed.specs.declared.expr.UnaryOp.{UnaryOp}
-use Rattle.dpj_typed.specs.declared.expr.UnaryOp.TheVariants.{Negate, Not}
 use Rattle.dpj_typed.specs.Plain.{PlainProgram, PlainField, PlainMember, TypedExpr, typed, TypedExprs, no_exprs, more_exprs, TypedStmts}
 use Rattle.dpj_typed.specs.Plain.{ExprForm as form}
 use Rattle.dpj_typed.specs.Scope.{class_at, member_at, row_at, constructor_of, parent_of}
@@ -69,10 +64,10 @@ back f (Returns v) = gives v f
 abbrev pub enter : {N M : Type 0} → Naming N M → PlainProgram → Deeper N M → ℕ × List (Region M) → ℕ → List (Value N) → List (Region M) → Frame N M → Prog N M
 enter names P dp seen r vs own f =
     elim (row_at P seen.0 r) [
-      None ↦ gives none f
-    | Some n ↦ elim (member_at P n) [
-        None ↦ gives none f
-      | Some m ↦ on (dp m.body (entered names m vs (regions_above names (parent_of P) (length P.classes) seen.0 seen.1 m.class ++ own) (f.left - 1))) (back f)
+      | None ↦ gives none f
+      | Some n ↦ elim (member_at P n) [
+        | None ↦ gives none f
+        | Some m ↦ on (dp m.body (entered names m vs (regions_above names (parent_of P) (length P.classes) seen.0 seen.1 m.class ++ own) (f.left - 1))) (back f)
       ]
     ]
 
@@ -94,12 +89,12 @@ abbrev pub created : {N M : Type 0} → Naming N M → PlainProgram → Option (
 created names P dp at c regions vs f =
     cond (some_long regions) (Traps trap.Stack at)
     (elim (constructor_of P c) [
-      None ↦ Act (New (new_object P c regions) false) (λ a. gives (name_made a) f)
-    | Some n ↦ elim dp [
-        None ↦ Traps trap.Stack at
-      | Some deeper ↦ Act (New (new_object P c regions) true) (λ a. elim (member_at P n) [
-          None ↦ gives (name_made a) f
-        | Some m ↦ on (deeper m.body (entered names m (name_made a ∷ vs) regions (f.left - 1))) (λ r. gives (name_made a) f)
+      | None ↦ Act (New (new_object P c regions) false) (λ a. gives (name_made a) f)
+      | Some n ↦ elim dp [
+        | None ↦ Traps trap.Stack at
+        | Some deeper ↦ Act (New (new_object P c regions) true) (λ a. elim (member_at P n) [
+          | None ↦ gives (name_made a) f
+          | Some m ↦ on (deeper m.body (entered names m (name_made a ∷ vs) regions (f.left - 1))) (λ r. gives (name_made a) f)
         ])
       ]
     ])
@@ -134,7 +129,7 @@ abbrev mutual
       and_then (of_expr names P dp a f) (λ v g. unless_null at v (λ n. Act (Look n) (λ x. gives (Int (pos (length_seen x))) g)))
   of_expr names P dp (typed at t (form.call e c r regions es)) f =
       and_then (of_expr names P dp e f) (λ v g. of_exprs names P dp es g [] (λ vs h.
-        unless_null at v (λ n. called names P dp at c r (map (concrete names (around h)) regions) n (reverse vs) h)))
+      unless_null at v (λ n. called names P dp at c r (map (concrete names (around h)) regions) n (reverse vs) h)))
   of_expr names P dp (typed at t (form.create es)) f =
       of_exprs names P dp es f [] (λ vs g. created names P dp at (class_in t).0 (map (concrete names (around g)) (class_in t).1) (reverse vs) g)
   of_expr names P dp (typed at t (form.create_array n)) f = and_then (of_expr names P dp n f) (λ v g. made_array names at t (number v) g)

@@ -1,6 +1,5 @@
 -- What statements mean: one clause a construct, in the order of evaluation.
-use Rattle.std.specs.Prelude.{ℕ, zero, suc, ◌+◌, ◌-◌, ◌*◌, ◌/◌, ℤ, pos, negsuc, ◌+ℤ◌, Bool, true, false, ◌&&◌, not, cond, List, [], ◌∷◌, ◌++◌, map, Option, Some, None, slice_set, int_lt}
-use Rattle.std.specs.Int.{w32, int_wrapping_add}
+use Rattle.std.specs.Prelude.{ℕ, zero, suc, ◌+◌, ◌-◌, ℤ, pos, true, false, cond, List, [], ◌∷◌, ◌++◌, map, Option, Some, None, slice_set}
 use Rattle.dpj_base.specs.declared.place.Place.{Place}
 use Rattle.dpj_base.specs.declared.value.Trap.TheVariants as trap
 use Rattle.dpj_typed.specs.declared.stmt.Forking.{Forking}
@@ -76,13 +75,21 @@ forks (Some dp) at forking takes x s start count f =
     Split forking (iterations takes x s f start 0 (how_many count))
     (λ i. dp (more_stmts s no_stmts) (begun takes (record (numbered_frame x start i f) { left = f.left - 1 }))) (joined [] f)
 
--- the slots of a part: array, beginning, length and count
-abbrev pub whole_array : {N M : Type 0} → ℕ → Value N → ℤ → ℕ → Frame N M → Frame N M
-whole_array k v count len f = with_value (with_value (with_value (with_value f k v) (k + 1) (Int (pos 0))) (k + 3) (Int count)) (k + 2) (Int (pos len))
+-- the slots of a part: array, beginning, length and count. They are filled in this order, of an array, and of a part: the
+-- array and the beginning, then the count, then the length
+abbrev pub part_begun : {N M : Type 0} → ℕ → Value N → Frame N M → Frame N M
+part_begun k v f = with_value (with_value f k v) (k + 1) (Int (pos 0))
 
-abbrev pub part_of_part : {N M : Type 0} → ℕ → ℕ → ℤ → Frame N M → Frame N M
-part_of_part k j count f =
-    with_value (with_value (with_value (with_value f k (slot_value f.values j)) (k + 1) (slot_value f.values (j + 1))) (k + 3) (Int count)) (k + 2) (slot_value f.values (j + 2))
+abbrev pub part_taken_over : {N M : Type 0} → ℕ → ℕ → Frame N M → Frame N M
+part_taken_over k j f = (let g = with_value f k (slot_value f.values j) in with_value g (k + 1) (slot_value g.values (j + 1)))
+
+-- a branch for each part, whose slots are filled
+abbrev pub parts : {N M : Type 0} → Option (Deeper N M) → Place → ℕ → TypedStmt → Frame N M → Prog N M
+parts dp at k s f = forks dp at Deterministic (Some k) (k + 4) s (pos 0) (number (slot_value f.values (k + 3))) f
+
+abbrev pub parts_of_array : {N M : Type 0} → Option (Deeper N M) → Place → ℕ → TypedStmt → Frame N M → Prog N M
+parts_of_array dp at k s f =
+    unless_null at (slot_value f.values k) (λ n. Act (Look n) (λ a. parts dp at k s (with_value f (k + 2) (Int (pos (length_seen a))))))
 
 abbrev mutual
   pub of_stmt : {N M : Type 0} → Naming N M → PlainProgram → Option (Deeper N M) → TypedStmt → Frame N M → Prog N M
@@ -92,7 +99,7 @@ abbrev mutual
       and_then (of_expr names P dp o f) (λ v g. and_then (of_expr names P dp e g) (λ u h. unless_null at v (λ n. write_cell at n (pos k) u h)))
   of_stmt names P dp (statement at (form.store_element a i e)) f =
       and_then (of_expr names P dp a f) (λ v g. and_then (of_expr names P dp i g) (λ j h. and_then (of_expr names P dp e h) (λ u l.
-        unless_null at v (λ n. write_cell at n (number j) u l))))
+      unless_null at v (λ n. write_cell at n (number j) u l))))
   of_stmt names P dp (statement at (form.store_part k i e)) f =
       and_then (of_expr names P dp i f) (λ j g. and_then (of_expr names P dp e g) (λ u h. part_element at k (number j) h (λ n l. write_cell at n l u h)))
   of_stmt names P dp (statement at (form.perform e)) f = and_then (of_expr names P dp e f) (λ v g. gives none g)
@@ -116,12 +123,11 @@ abbrev mutual
       Split forking (tasks_of bs f) (λ i. dp (branch_at bs i) (record f { left = f.left - 1 })) (joined (all_copies bs) f)
   of_stmt names P dp (statement at (form.foreach forking x start count s)) f =
       and_then (of_expr names P dp start f) (λ v g. and_then (of_expr names P dp count g) (λ u h. forks dp at forking None x s (number v) (number u) h))
-  -- the array, the count, then the array's length; of a part all is there already
   of_stmt names P dp (statement at (form.foreach_parts k (of_array a) count s)) f =
-      and_then (of_expr names P dp a f) (λ v g. and_then (of_expr names P dp count g) (λ u h. unless_null at v (λ n.
-        Act (Look n) (λ x. forks dp at Deterministic (Some k) (k + 4) s (pos 0) (number u) (whole_array k v (number u) (length_seen x) h)))))
+      and_then (of_expr names P dp a f) (λ v g. and_then (of_expr names P dp count (part_begun k v g)) (λ u h. parts_of_array dp at k s (with_value h (k + 3) u)))
   of_stmt names P dp (statement at (form.foreach_parts k (of_part j) count s)) f =
-      and_then (of_expr names P dp count f) (λ u g. forks dp at Deterministic (Some k) (k + 4) s (pos 0) (number u) (part_of_part k j (number u) g))
+      and_then (of_expr names P dp count (part_taken_over k j f)) (λ u g. (let h = with_value g (k + 3) u in
+      parts dp at k s (with_value h (k + 2) (slot_value h.values (j + 2)))))
 
   pub of_stmts : {N M : Type 0} → Naming N M → PlainProgram → Option (Deeper N M) → TypedStmts → Frame N M → Prog N M
   of_stmts names P dp no_stmts f = gives none f

@@ -10,9 +10,9 @@ use Rattle.dpj_runs.specs.Runs.{Begun, Event, Faithful, Run, Upto, count, later,
 use Rattle.dpj_runs.specs.Standing.{Inside, Outside, Standing, Valid, above, first_of, joined_by, standing}
 use Rattle.dpj_moving.specs.Gathered.{Anchor, AtEntries, EntryOf, Together, block_of, block_spot, entry, gather, itself}
 use Rattle.dpj_moving.specs.Guarded.{ConflictsGuarded}
-use Rattle.dpj_moving.specs.Insertion.{All_of, Earlier, put_behind}
+use Rattle.dpj_moving.specs.Insertion.{All_of, Earlier, put_after}
 use Rattle.dpj_moving.specs.Guarded.{ConflictsGuarded}
-use Rattle.dpj_moving.specs.Insertion.{All_of, Earlier, put_behind}
+use Rattle.dpj_moving.specs.Insertion.{All_of, Earlier, put_after}
 use Rattle.dpj_runs.proofs.Upto.{upto_trans, upto_length, upto_tail, upto_split, upto_none, Which, which, same_one, before, after}
 use Rattle.dpj_runs.proofs.Mine.{mine_same, mine_at, mine_upto, Found, found, earlier_of, same_of, number_of}
 use Rattle.dpj_runs.proofs.Places.{snoc}
@@ -23,18 +23,18 @@ use Rattle.dpj_runs.proofs.Standing.{first_is, above_step, above_same, opener_st
 use Rattle.dpj_runs.proofs.Carry.{found_in}
 use Rattle.dpj_runs.proofs.Written.{faithful_of}
 use Rattle.dpj_moving.proofs.Under.{Under, under_self, under_root, true_of, of_true}
-use Rattle.dpj_moving.proofs.Insertion.{rearranged_step, behind_here, Rebuilt, grown, grown_back}
+use Rattle.dpj_moving.proofs.Insertion.{rearranged_step, after_here, Rebuilt, grown, grown_back}
 use Rattle.dpj_moving.proofs.Gather.{guarded_upto, gathered}
 use Rattle.dpj_moving.proofs.Shifts.{not_back, shifted, NewAt, new_at}
 
 -- an event put in by where its task stands
 abbrev put : Standing → Event → Run → Run
 put Outside e G = e ∷ G
-put (Inside o E) e G = put_behind (All_of o) e G
+put (Inside o E) e G = put_after (All_of o) e G
 
-put_is : (h : Standing) (e : Event) (G : Run) → put h e G ≡ put_behind (block_of h) e G
+put_is : (h : Standing) (e : Event) (G : Run) → put h e G ≡ put_after (block_of h) e G
 put_is Outside e [] = refl
-put_is Outside e (x ∷ G) = sym (behind_here (All_of []) e x G (true_of [] x.path (under_root x.path)))
+put_is Outside e (x ∷ G) = sym (after_here (All_of []) e x G (true_of [] x.path (under_root x.path)))
 put_is (Inside o E) e G = refl
 
 -- two events at one place of a run are one
@@ -255,8 +255,8 @@ module _ (P : Program) (D : Disciplined P) (known : Known P) where
         az : Anchor zr.before n.top A a
         az = block_anchor o E l g s ent n.stands (of_true o n.top.path n.is_near) (λ q u. n.full q u ∙ g.same q) zr
 
-        place : Upto (y ∷ yg.before) (n.top ∷ n.rest) ⊎ ((Z : Run) × Upto (y ∷ Z) (put_behind (All_of o) e G0) × (count Z y.path ≡ count yg.before y.path)
-            × Upto (e ∷ n.top ∷ n.rest) Z) → Earlier (put_behind (All_of o) e G0) e.path (count R e.path) y.path (count Y y.path)
+        place : Upto (y ∷ yg.before) (n.top ∷ n.rest) ⊎ ((Z : Run) × Upto (y ∷ Z) (put_after (All_of o) e G0) × (count Z y.path ≡ count yg.before y.path)
+            × Upto (e ∷ n.top ∷ n.rest) Z) → Earlier (put_after (All_of o) e G0) e.path (count R e.path) y.path (count Y y.path)
         place (inr v) =
             let c = upto_length (mine_at e.path v.3 refl) in
             let d = ap length (n.full e.path eu ∙ g.same e.path) in

@@ -1,4 +1,4 @@
--- An event in a branch of a deterministic construct: nothing that was put behind the branch hinders it.
+-- An event in a branch of a deterministic construct: nothing that was put after the branch hinders it.
 use Rattle.std.proofs.Common.{eq-eqb, ◌≡◌, ℕ, ◌<◌, ◌≤◌, ◌⊎◌, inl, inr, true, false, true≢false, List, [], ◌∷◌, ◌++◌, length, refl, sym, ap, ◌∙◌, subst, arith}
 use Rattle.std.proofs.Common.{append_assoc}
 use Rattle.std.proofs.lemmas.Bool.{and_from, cases_lt, cond-true, cond-false}
@@ -82,9 +82,10 @@ module _ (P : Program) (D : Disciplined P) (known : Known P) (R G0 : Run) (e : E
       go (lies_in h) = absurd (ne (under_more o r y (xs ++ w ∷ []) h (a ∙ sym (append_assoc xs (w ∷ []) r))))
       go (lies_over ws h) = at ws h
 
-  -- such an event does not stand behind the fork
-  behind : {y : Event} {Y : Run} {t : Task} (n : ℕ) → Upto (y ∷ Y) G0 → (Under o y.path → ⊥) → Begun P Y e.path t → Before y.path (count Y y.path) e.path n → ⊥
-  behind {y} {Y} n hy ne b bf =
+  -- such an event does not stand after the fork
+  never_before : {y : Event} {Y : Run} {t : Task} (n : ℕ) → Upto (y ∷ Y) G0 → (Under o y.path → ⊥) → Begun P Y e.path t
+      → Before y.path (count Y y.path) e.path n → ⊥
+  never_before {y} {Y} n hy ne b bf =
       let f : ForkAt Y q u = begun_fork P D e_under.below e.path q u (faithful_upto P (upto_tail hy) lg) b e_under.is in
       let b2 = from_outside y.path (count Y y.path) n ne bf in
       let b3 = subst (λ k. Before y.path (count Y y.path) q k) (sym f.number) b2 in
@@ -93,7 +94,7 @@ module _ (P : Program) (D : Disciplined P) (known : Known P) (R G0 : Run) (e : E
       let r = upto_length f.stands in
       absurd (omega arith)
 
-  -- no event behind the latest of the branch conflicts with this one
+  -- no event after the latest of the branch conflicts with this one
   clash : {y : Event} {Y : Run} {t : Task} → Upto (y ∷ Y) G0 → (Under o y.path → ⊥) → Begun P Y e.path t → Conflict y e → ⊥
   clash {y} {Y} {t = t0} hy ne begun cf = go (order_of P D lf (later yr.stands) now (left_plain cf) (right_plain cf))
     where
@@ -157,7 +158,7 @@ module _ (P : Program) (D : Disciplined P) (known : Known P) (R G0 : Run) (e : E
 
       go : Related y.path (count yr.before y.path) e.path (count R e.path) → ⊥
       go (one a b) = ne (subst (λ r. Under o r) (sym a) e_under)
-      go (first b) = behind (count R e.path) hy ne begun (subst (λ k. Before y.path k e.path (count R e.path)) (ap length yr.mine_is) b)
+      go (first b) = never_before (count R e.path) hy ne begun (subst (λ k. Before y.path k e.path (count R e.path)) (ap length yr.mine_is) b)
       go (second b) = let x = upto_length (respects_passing P D lf now (later yr.stands) (plain_passes P D y.act (left_plain cf)) b) in let p =
           upto_length yr.stands in absurd (omega arith)
       go (neither x) = guarded (ck.accesses R yr.before e y now yr.stands x cf)
@@ -172,7 +173,7 @@ module _ (P : Program) (D : Disciplined P) (known : Known P) (R G0 : Run) (e : E
 
       go : Related y.path (count yr.before y.path) e.path (count R e.path) → P.rule E F ≡ true
       go (one a b) = absurd (ne (subst (λ r. Under o r) (sym a) e_under))
-      go (first b) = absurd (behind (count R e.path) hy ne begun (subst (λ k. Before y.path k e.path (count R e.path)) (ap length yr.mine_is) b))
+      go (first b) = absurd (never_before (count R e.path) hy ne begun (subst (λ k. Before y.path k e.path (count R e.path)) (ap length yr.mine_is) b))
       go (second b) = let x = upto_length (respects_passing P D lf now (later yr.stands) (enters_pass y.act F ya) b) in let p =
           upto_length yr.stands in absurd (omega arith)
       go (neither x) =
@@ -180,7 +181,7 @@ module _ (P : Program) (D : Disciplined P) (known : Known P) (R G0 : Run) (e : E
           (λ k. ne (inner_under yr.before y.path u q (k ∙ spot))) in
           c.1
 
-  -- where it may enter in the run it may enter behind the latest of the branch
+  -- where it may enter in the run it may enter after the latest of the branch
   enter_here : {Z : Run} {t : Task} (E : List Effect) → Upto Z G0 → Begun P Z e.path t → ((r : Path) → Under o r → mine Z r ≡ mine R r)
       → e.act ≡ Do (Enter E) → CanEnter P.rule R e.path E → CanEnter P.rule Z e.path E
   enter_here {Z} {t = t0} E hz begun full ea ce = record { clear = λ w r F h. at w r F (opener_of Z r F h) }
@@ -269,7 +270,7 @@ module _ (P : Program) (D : Disciplined P) (known : Known P) (R G0 : Run) (e : E
                       let c = waits_in P D xs r x lf k legal_z grows begun in
                       let d = above_out Z xs r x (subst (λ p. above Z p ≡ Outside) k out_z) in
                       absurd (let z : Out_of ≡ In_block h.depth F = sym d ∙ sym c ∙ h.held in cc)
-                  by_place (left_of xs ys s x z k m n) = absurd (behind (count R e.path) hy ne begun_y (across xs ys s x z (yp ∙ k) m n))
+                  by_place (left_of xs ys s x z k m n) = absurd (never_before (count R e.path) hy ne begun_y (across xs ys s x z (yp ∙ k) m n))
                   by_place (right_of xs ys s x z k m n) =
                       let c = upto_length (respects_passing P D lf now (later ar.stands) apass (across ys xs s z x m (a.path ∙ k) n)) in
                       let d = upto_length ar.stands in

@@ -10,8 +10,8 @@ use Rattle.dpj_runs.specs.Order.{Conflict, Reads, read_write, write_read, write_
 use Rattle.dpj_runs.specs.Runs.{Begun, Event, Faithful, Follows, Right, Run, Upto, answers, first_some, last_written, later, mine, now, reply, thing_of}
 use Rattle.dpj_runs.specs.Runs.{written}
 use Rattle.dpj_runs.specs.Standing.{Admitted, CanEnter, Outside, Valid, above, joined_by, standing}
-use Rattle.dpj_moving.specs.Insertion.{Spot, near, put_behind, rearranged}
-use Rattle.dpj_moving.specs.Insertion.{Spot, near, put_behind, rearranged}
+use Rattle.dpj_moving.specs.Insertion.{Spot, near, put_after, rearranged}
+use Rattle.dpj_moving.specs.Insertion.{Spot, near, put_after, rearranged}
 use Rattle.dpj_runs.proofs.Upto.{upto_tail}
 use Rattle.dpj_runs.proofs.Mine.{path_cases, mine_same, mine_other}
 use Rattle.dpj_runs.proofs.Faithful.{begun_upto, same_task}
@@ -24,7 +24,7 @@ use Rattle.dpj_runs.proofs.Carry.{agree_of, begun_in, joins_in, begun_held, grow
 use Rattle.dpj_runs.proofs.Replies.{reply_grows, reads_of}
 use Rattle.dpj_moving.proofs.Under.{Under, under_more}
 
-pub rearranged_step : (f : Run → Event → Spot) (e : Event) (R : Run) → rearranged f (e ∷ R) ≡ put_behind (f R e) e (rearranged f R)
+pub rearranged_step : (f : Run → Event → Spot) (e : Event) (R : Run) → rearranged f (e ∷ R) ≡ put_after (f R e) e (rearranged f R)
 unfolding rearranged
 rearranged_step f e R = refl
 
@@ -32,11 +32,11 @@ pub rearranged_nil : (f : Run → Event → Spot) → rearranged f [] ≡ []
 unfolding rearranged
 rearranged_nil f = refl
 
-pub behind_here : (s : Spot) (e x : Event) (G : Run) → near s x ≡ true → put_behind s e (x ∷ G) ≡ e ∷ (x ∷ G)
-behind_here s e x G h = cond-true (near s x) _ _ h
+pub after_here : (s : Spot) (e x : Event) (G : Run) → near s x ≡ true → put_after s e (x ∷ G) ≡ e ∷ (x ∷ G)
+after_here s e x G h = cond-true (near s x) _ _ h
 
-pub behind_over : (s : Spot) (e x : Event) (G : Run) → near s x ≡ false → put_behind s e (x ∷ G) ≡ x ∷ put_behind s e G
-behind_over s e x G h = cond-false (near s x) _ _ h
+pub after_over : (s : Spot) (e x : Event) (G : Run) → near s x ≡ false → put_after s e (x ∷ G) ≡ x ∷ put_after s e G
+after_over s e x G h = cond-false (near s x) _ _ h
 
 pub data Bools (b : Bool) : Type 0 where
   yes : b ≡ true → Bools b
@@ -90,7 +90,7 @@ module _ (P : Program) (D : Disciplined P) (known : Known P) where
     abbrev Complete : Run → Type 0
     Complete G = (r : Path) → Under o r → mine G r ≡ mine R r
 
-    -- this event, put behind the latest that is near
+    -- this event, put after the latest that is near
     record Put (G H : Run) : Type 0 where
       valid : Valid P H
       here : mine H e.path ≡ e ∷ mine G e.path
@@ -104,7 +104,7 @@ module _ (P : Program) (D : Disciplined P) (known : Known P) where
           (λ h. subst (λ l. Upto (mine G p) l) (sym (k.other p h)) now) (path_cases p e.path);
     }
 
-    -- behind the latest that is near it may come
+    -- after the latest that is near it may come
     put_here : (Z : Run) → Upto Z G0 → Complete Z → Begun P Z e.path a0.task → ((c : Cell) → Reads c e → last_written Z c ≡ last_written R c) → Put Z (e ∷ Z)
     put_here Z hz full begun lz = record {
       valid = (
@@ -165,7 +165,7 @@ module _ (P : Program) (D : Disciplined P) (known : Known P) where
             at_act Join k = joins_in (sym mz) (λ u. subst (λ m. Upto (mine R (u ∷ e.path)) m)
                 (sym (full (u ∷ e.path) (under_more o e.path (u ∷ e.path) (u ∷ []) side.here refl))) now) (ready Join k)
 
-    -- what stands behind stays allowed
+    -- what stands after stays allowed
     put_over : (y : Event) (G H : Run) → Upto (y ∷ G) G0 → (Under o y.path → ⊥) → Complete G → Put G H → Put (y ∷ G) (y ∷ H)
     put_over y G H hy ne full k = record {
       valid = (
@@ -271,14 +271,14 @@ module _ (P : Program) (D : Disciplined P) (known : Known P) where
             at_act Join p = let kg = put_grows k in joins_in (sym my) (λ u. kg.each (u ∷ y.path)) (ready Join p)
 
     put_all : (G : Run) → Upto G G0 → Complete G → Begun P G e.path a0.task → ((c : Cell) → Reads c e → last_written G c ≡ last_written R c)
-        → Put G (put_behind s e G)
+        → Put G (put_after s e G)
     put_all [] h full b lr = put_here [] h full b lr
     put_all (x ∷ G) h full b lr = go (put_all G (upto_tail h)) (bools (near s x))
       where
-        go : (Complete G → Begun P G e.path a0.task → ((c : Cell) → Reads c e → last_written G c ≡ last_written R c) → Put G (put_behind s e G))
-            → Bools (near s x) → Put (x ∷ G) (put_behind s e (x ∷ G))
-        go rec (yes t) = subst (Put (x ∷ G)) (sym (behind_here s e x G t)) (put_here (x ∷ G) h full b lr)
-        go rec (no t) = subst (Put (x ∷ G)) (sym (behind_over s e x G t)) (put_over x G (put_behind s e G) h n less (rec less begun fewer))
+        go : (Complete G → Begun P G e.path a0.task → ((c : Cell) → Reads c e → last_written G c ≡ last_written R c) → Put G (put_after s e G))
+            → Bools (near s x) → Put (x ∷ G) (put_after s e (x ∷ G))
+        go rec (yes t) = subst (Put (x ∷ G)) (sym (after_here s e x G t)) (put_here (x ∷ G) h full b lr)
+        go rec (no t) = subst (Put (x ∷ G)) (sym (after_over s e x G t)) (put_over x G (put_after s e G) h n less (rec less begun fewer))
           where
             n : Under o x.path → ⊥
             n u = true≢false (sym (side.test x u) ∙ t)
@@ -299,12 +299,12 @@ module _ (P : Program) (D : Disciplined P) (known : Known P) where
                 by_write (it_does_not q j) = ap (λ o. first_some o (last_written G c)) (sym j) ∙ sym (last_step x G c) ∙ lr c r
                 by_write (it_does w j) = absurd (side.clashes h n less begun (write_read c w r))
 
-    pub rebuilt_in : Rebuilt P (e ∷ R) (put_behind s e G0)
+    pub rebuilt_in : Rebuilt P (e ∷ R) (put_after s e G0)
     rebuilt_in =
         let k = put_all G0 now (λ q u. g.same q) (begun_in (grown_back g) a0.begun) (λ c r. g.lasts c) in
         record {
           valid = k.valid;
-          same = λ p. ⊎_elim (λ h. subst (λ q. mine (put_behind s e G0) q ≡ mine (e ∷ R) q) h
+          same = λ p. ⊎_elim (λ h. subst (λ q. mine (put_after s e G0) q ≡ mine (e ∷ R) q) h
               (k.here ∙ ap (λ l. e ∷ l) (g.same e.path) ∙ sym (mine_same e R e.path refl)))
               (λ h. k.other p (λ q. h (sym q)) ∙ g.same p ∙ sym (mine_other e R p h)) (path_cases e.path p);
           lasts = λ c. k.lasts c ∙ ap (λ o. first_some (written c e) o) (g.lasts c) ∙ sym (last_step e R c);

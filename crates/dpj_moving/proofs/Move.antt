@@ -8,7 +8,7 @@ use Rattle.dpj_runs.specs.Order.{IsPlain}
 use Rattle.dpj_runs.specs.Runs.{Event, Run, Upto, later, mine, now}
 use Rattle.dpj_runs.specs.Standing.{Valid}
 use Rattle.dpj_moving.specs.Guarded.{LevelsGuarded}
-use Rattle.dpj_moving.specs.Insertion.{All_of, Branch_of, Spot, put_behind}
+use Rattle.dpj_moving.specs.Insertion.{All_of, Branch_of, Spot, put_after}
 use Rattle.dpj_moving.specs.Moved.{construct_spot, inner, is_det, move, spot_of}
 use Rattle.dpj_runs.proofs.Upto.{upto_trans, upto_tail}
 use Rattle.dpj_runs.proofs.Mine.{found}
@@ -83,13 +83,13 @@ module _ (P : Program) (D : Disciplined P) (known : Known P) where
   moved (e ∷ R) l f = subst (Rebuilt P (e ∷ R)) (sym (rearranged_step construct_spot e R))
       (go (moved R l.1 (levels_upto (later now) f)) (construct_spot R e) refl)
     where
-      behind_all : Rebuilt P R (move R) → (q : Path) → Other R e.path e.act q → Rebuilt P (e ∷ R) (put_behind (All_of q) e (move R))
-      behind_all g q (free k) = subst (λ r. Rebuilt P (e ∷ R) (put_behind (All_of r) e (move R))) (sym k)
+      after_all : Rebuilt P R (move R) → (q : Path) → Other R e.path e.act q → Rebuilt P (e ∷ R) (put_after (All_of q) e (move R))
+      after_all g q (free k) = subst (λ r. Rebuilt P (e ∷ R) (put_after (All_of r) e (move R))) (sym k)
           (rebuilt_in P D known R (move R) e (All_of []) [] l g (top_side P D known R (move R) e))
-      behind_all g q (begin b a k d) = subst (λ r. Rebuilt P (e ∷ R) (put_behind (All_of r) e (move R))) (sym k)
+      after_all g q (begin b a k d) = subst (λ r. Rebuilt P (e ∷ R) (put_after (All_of r) e (move R))) (sym k)
           (rebuilt_in P D known R (move R) e (All_of e.path) e.path l g (begin_side R (move R) e b g a d))
 
-      go : Rebuilt P R (move R) → (s : Spot) → construct_spot R e ≡ s → Rebuilt P (e ∷ R) (put_behind s e (move R))
+      go : Rebuilt P R (move R) → (s : Spot) → construct_spot R e ≡ s → Rebuilt P (e ∷ R) (put_after s e (move R))
       go g (Branch_of u q) k = rebuilt_in P D known R (move R) e (Branch_of u q) (u ∷ q) l g
           (branch_side P D known R (move R) e u q l g f (spot_inner R e.path e.act u q k))
-      go g (All_of q) k = behind_all g q (spot_other R e.path e.act q k)
+      go g (All_of q) k = after_all g q (spot_other R e.path e.act q k)

@@ -22,7 +22,7 @@ use Rattle.dpj_moving.proofs.Insertion.{Rebuilt, grown_back}
 use Rattle.dpj_moving.proofs.Gather.{gathered}
 use Rattle.dpj_moving.proofs.AtEntries.{at_entries, together}
 use Rattle.dpj_moving.proofs.Move.{moved}
-use Rattle.dpj_moving.proofs.BehindForks.{behind_forks}
+use Rattle.dpj_moving.proofs.AfterForks.{after_forks}
 use Rattle.dpj_moving.proofs.Rules.{valid_rule, disciplined_rule}
 
 same_ended : {R G : Run} → ((p : Path) → mine G p ≡ mine R p) → (p : Path) (x : Ending) → Ended R p x → Ended G p x
@@ -76,7 +76,7 @@ pub still_open : StillOpen
 still_open P D R e l o E k = let s : Stands P D R e.path o E = stands P D o E (legal_faithful P (e ∷ R) l) k in (s.depth, s.held)
 
 is_moved : (P : Program) → Disciplined P → Known P → (R : Run) → Valid P R → LevelsGuarded P.rule R → IsMoved P R
-is_moved P D known R v f = record { rearranges = rearranges P D R (move R) (moved P D known R v f); behind_forks = behind_forks P D known R v f }
+is_moved P D known R v f = record { rearranges = rearranges P D R (move R) (moved P D known R v f); after_forks = after_forks P D known R v f }
 
 pub moving : Moving
 moving P D known R l f = is_moved P D known R (valid_from P R l) f

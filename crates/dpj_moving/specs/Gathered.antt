@@ -7,7 +7,7 @@ use Rattle.dpj_runs.specs.Blocks.{Out_of, In_block, hold}
 use Rattle.dpj_runs.specs.Standing.{Standing, Outside, Inside, standing}
 use Rattle.dpj_moving.specs.Insertion.{Spot, All_of, rearranged, Earlier}
 
--- an event inside a block belongs behind the latest event of its opener and of the tasks below it; any other behind all
+-- an event inside a block belongs after the latest event of its opener and of the tasks below it; any other after all
 abbrev pub block_of : Standing → Spot
 block_of Outside = All_of []
 block_of (Inside o E) = All_of o

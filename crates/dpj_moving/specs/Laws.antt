@@ -2,19 +2,19 @@
 use Rattle.std.specs.Prelude.{ℕ, ◌≡◌, true, List, ◌∷◌}
 use Rattle.dpj_runs.specs.Objects.{Path, Effect}
 use Rattle.dpj_runs.specs.Actions.{Ending, Program, Rule, Task}
-use Rattle.dpj_runs.specs.Runs.{Begun, Event, Run, mine, total, Ended}
+use Rattle.dpj_runs.specs.Runs.{Begun, Event, Faithful, Run, mine, total, Ended}
 use Rattle.dpj_runs.specs.Blocks.{In_block, hold, Legal, leaving_locals, with_rule}
 use Rattle.dpj_runs.specs.Standing.{Inside, standing}
 use Rattle.dpj_runs.specs.Order.{Comes, Outcome}
-use Rattle.dpj_runs.specs.Meaning.{Disciplined, Known}
+use Rattle.dpj_runs.specs.Meaning.{Disciplined, InTurn, Known}
 use Rattle.dpj_runs.specs.Schedules.{Limits, Within}
 use Rattle.dpj_moving.specs.Gathered.{gather, AtEntries, Together}
-use Rattle.dpj_moving.specs.Moved.{move, BehindForks}
+use Rattle.dpj_moving.specs.Moved.{move, AfterForks}
 use Rattle.dpj_moving.specs.Guarded.{ConflictsGuarded, LevelsGuarded}
 
 -- G is a legal run of the program with the events of R: each task makes the same ones, with the same answers, so it is to do the
--- same next; any weight of events sums up to the same; it comes out as R does; and a further event that is over a limit behind
--- R is so behind G
+-- same next; any weight of events sums up to the same; it comes out as R does; and a further event that is over a limit after
+-- R is so after G
 pub record Rearranges (P : Program) (R G : Run) : Type 0 where
   pub legal : Legal P G
   pub events : (p : Path) → mine G p ≡ mine R p
@@ -45,10 +45,16 @@ StillOpen = (P : Program) → Disciplined P → (R : Run) (e : Event) → Legal 
 -- its deterministic constructs can be moved, where its levels are guarded
 pub record IsMoved (P : Program) (R : Run) : Type 0 where
   pub rearranges : Rearranges P R (move R)
-  pub behind_forks : BehindForks R (move R)
+  pub after_forks : AfterForks R (move R)
 
 abbrev pub Moving : Type 0
 Moving = (P : Program) → Disciplined P → Known P → (R : Run) → Legal P R → LevelsGuarded P.rule R → IsMoved P R
+
+-- there is one run with the events of R, rightly answered, that has each construct's events directly after its fork, branch after
+-- branch, and all else in its order
+abbrev pub OneMoved : Type 0
+OneMoved = (P : Program) → Disciplined P → InTurn P → (R G H : Run) → Faithful P R → Faithful P G → Faithful P H
+    → ((p : Path) → mine G p ≡ mine R p) → ((p : Path) → mine H p ≡ mine R p) → AfterForks R G → AfterForks R H → G ≡ H
 
 -- one rule lets by what another does
 abbrev pub Weaker : Rule → Rule → Type 0

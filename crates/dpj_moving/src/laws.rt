@@ -1,6 +1,6 @@
 //! The laws of gathering and moving, each the clause of a function that does nothing.
 
-ghost use Rattle.dpj_moving.specs.Laws.{Gathering, OneGathered, StillOpen, Moving, MovingBy, MovingInside};
+ghost use Rattle.dpj_moving.specs.Laws.{Gathering, OneGathered, StillOpen, Moving, OneMoved, MovingBy, MovingInside};
 ghost use Rattle.dpj_moving.specs.Samples.{BothApply, GatheringNeedsGuarded, GatheringNeedsKnown, MovingNeedsWeaker};
 
 /// Where unordered conflicts are guarded by blocks, each block's events can be gathered at its entry.
@@ -10,9 +10,10 @@ pub fn law_gathering()
     ensures still_open { StillOpen }
 {}
 
-/// Deterministic constructs can be moved behind their forks, by the rule of the run or by a weaker one.
+/// Deterministic constructs can be moved after their forks, by the rule of the run or by a weaker one.
 pub fn law_moving()
     ensures moving { Moving }
+    ensures one { OneMoved }
     ensures by_weaker { MovingBy }
     ensures inside { MovingInside }
 {}

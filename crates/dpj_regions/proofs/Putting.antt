@@ -123,7 +123,7 @@ bound_from env args (Param p) e r m =
       (
         s.1,
         m.1 ∙ ap (λ z. head_region env arg.head ++ z) s.2 ∙ sym (append_assoc (head_region env arg.head) s.0 s.1)
-        ∙ ap (λ z. z ++ s.1) (sym (chosen-at env args p q)),
+            ∙ ap (λ z. z ++ s.1) (sym (chosen-at env args p q)),
         FitsAll-regions env regions e s.1 s.4,
       ),
     )

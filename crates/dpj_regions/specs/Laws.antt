@@ -4,7 +4,6 @@ use Rattle.dpj_base.specs.declared.elems.Elem.{Elem}
 use Rattle.dpj_base.specs.declared.elems.Elem.TheVariants.{At}
 use Rattle.dpj_base.specs.declared.elems.Index.{Index}
 use Rattle.dpj_base.specs.declared.elems.Index.TheVariants.{Literal, Variable, Renamed}
-use Rattle.dpj_base.specs.declared.region.Head.{Head}
 use Rattle.dpj_base.specs.declared.region.Head.TheVariants.{Param}
 use Rattle.dpj_base.specs.declared.region.Rpl.{Rpl}
 use Rattle.dpj_base.specs.declared.effect.Constraint.{Constraint}
@@ -44,7 +43,7 @@ abbrev pub SubstitutionMatches : Type 0
 SubstitutionMatches = (env : Env) (args : List Rpl) (a : Rpl) (r : List Elem) →
     Matches env (substituted args a) r ↔ ((regions : ℕ → List Elem) × ((p : ℕ) → Matches env (argument args p) (regions p)) × Matches (with_regions env regions) a r)
 
--- the environment put in behind the arguments is the environment in which the parameters stand for them
+-- the environment put in after the arguments is the environment in which the parameters stand for them
 abbrev pub SubstitutionPutsIn : Type 0
 SubstitutionPutsIn = (env : Env) (args : List Rpl) (a : Rpl) →
     put_in env (substituted args a) ≡ put_in (with_regions env (λ p. (put_in env (argument args p)).elems)) a
@@ -53,7 +52,7 @@ SubstitutionPutsIn = (env : Env) (args : List Rpl) (a : Rpl) →
 abbrev pub GeneralMatchesMore : Type 0
 GeneralMatchesMore = (env : Env) (a : Rpl) (v : ℕ) (k : ℤ) (r : List Elem) → Matches (with_index env v k) a r → Matches env (generalised v a) r
 
--- where the variable stands at most once, the general path matches nothing else
+-- where the variable occurs at most once, the general path matches nothing else
 abbrev pub GeneralMatchesNoMore : Type 0
 GeneralMatchesNoMore = (env : Env) (a : Rpl) (v : ℕ) → count_by (λ x. same_elem x (At (Variable v))) a.elems ≤ 1 → (r : List Elem) →
     Matches env (generalised v a) r → (k : ℤ) × Matches (with_index env v k) a r

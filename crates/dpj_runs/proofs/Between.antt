@@ -15,7 +15,7 @@ use Rattle.dpj_runs.proofs.Faithful.{join_upto, joined_before, branch_ended}
 pub agree_back : {R S : Run} → Agree R S → Agree S R
 agree_back ag = record { both = λ p. ⊎_elim inr inl (ag.both p) }
 
--- the first event is not behind the second
+-- the first event is not after the second
 not_both : {x y : Event} {X Y : Run} → Upto (x ∷ X) Y → Upto (y ∷ Y) X → ⊥
 not_both h k = let a = upto_length h in let b = upto_length k in absurd (omega arith)
 
@@ -73,7 +73,7 @@ module _ (P : Program) (D : Disciplined P) where
           let r = branch_ended P D p f.tasks v f.task m c.stands c.path f.act (sym f.number ∙ sym n) f.is_there j' in
           (r.0, ended_upto (upto_tail j'.stands) r.1)
 
-  -- an event of a task that has ended stands before what is behind the end
+  -- an event of a task that has ended stands before what is after the end
   pub stands_in : {R W B : Run} {w : Event} {x : Ending} (q : Path) → Faithful P R → Upto B R → Ended B q x → Upto (w ∷ W) R → w.path ≡ q → Upto (w ∷ W) B
   stands_in {R} {W} {B} {w} q l hb g hw wq = go (which hw gs)
     where

@@ -154,7 +154,7 @@ module _ (P : Program) where
       sym (upto_same (mine_at q e fq) (sym n))
 
   module _ (D : Disciplined P) where
-    -- the events behind a fork
+    -- the events after a fork
     since_fork : {R F Y : Run} {f y : Event} (q : Path) (ts : Branches) → Faithful P R → Upto (f ∷ F) R → f.path ≡ q → f.act ≡ Fork ts → Upto (y ∷ Y) R
         → y.path ≡ q → count F q < count Y q → (t : Task) × (zs : Run) × (mine Y q ≡ zs ++ f ∷ mine F q) × Asks P q t (answers (mine F q)) (Fork ts)
         × (P.meaning q t ((answers zs ++ f.ans ∷ []) ++ answers (mine F q)) ≡ Next y.turns y.act)
@@ -187,7 +187,7 @@ module _ (P : Program) where
         let d = D.begins q z.0 (answers (mine F q)) (answers z.1 ++ f.ans ∷ []) ts k z.3 (omega arith) lt in
         (next_same y.turns d.0 y.act (Begin k) (sym z.4 ∙ d.1)).1
 
-    -- behind a fork and its begins stands the join
+    -- after a fork and its begins stands the join
     pub join_after : {R F Y : Run} {f y : Event} (q : Path) (ts : Branches) → Faithful P R → Upto (f ∷ F) R → f.path ≡ q → f.act ≡ Fork ts → Upto (y ∷ Y) R
         → y.path ≡ q → count Y q ≡ suc (count F q + length ts.tasks) → y.act ≡ Join
     join_after {R} {F} {Y} {f} {y} q ts l hf fq fa hy yq n =
@@ -198,7 +198,7 @@ module _ (P : Program) where
         let d = D.joins q z.0 (answers (mine F q)) (answers z.1 ++ f.ans ∷ []) ts z.3 (omega arith) in
         (next_same y.turns d.0 y.act Join (sym z.4 ∙ d.1)).1
 
-    -- nothing stands behind an end
+    -- nothing stands after an end
     next_after_end : {R G Y : Run} {g y : Event} {x : Ending} (q : Path) → Faithful P R → Upto (g ∷ G) R → g.path ≡ q → g.act ≡ End x → Upto (y ∷ Y) R
         → y.path ≡ q → count Y q ≡ suc (count G q) → ⊥
     next_after_end {R} {G} {Y} {g} {y} {x} q l hg gq ga hy yq n =
@@ -310,7 +310,7 @@ module _ (P : Program) where
         go (inr (inr gt)) = let sz = size in absurd (no_fork r.fork (count r.before q - suc (count F q)) r.tasks
             (begin_after q ts (count r.before q - suc (count F q)) l hf fq fa rs r.path (omega arith) (omega arith)) r.act)
 
-    -- a join stands behind the end of each branch
+    -- a join stands after the end of each branch
     pub branch_ended : {R F : Run} {f : Event} (q : Path) (ts : Branches) (u : ℕ × ℕ) (t : Task) → Faithful P R → Upto (f ∷ F) R → f.path ≡ q
         → f.act ≡ Fork ts → u.0 ≡ count F q → slice_get ts.tasks u.1 ≡ Some t → (j : JoinAt R q (count F q) (length ts.tasks)) → (x : Ending)
         × Ended j.before (u ∷ q) x

@@ -24,3 +24,6 @@ pub mod Scripts
 pub mod Play
 pub mod Tests
 pub mod Samples
+pub mod Finishing
+pub mod Greatest
+pub mod ForkSince

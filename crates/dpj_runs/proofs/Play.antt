@@ -7,7 +7,7 @@ use Rattle.dpj_runs.specs.Actions.{Action, Answer, Begin, Branches, Do, End, End
 use Rattle.dpj_runs.specs.Objects.{Effect, Path, same_path}
 use Rattle.dpj_runs.specs.Runs.{Begun, Ended, Event, Joins, Right, Run, Upto, answers, branch, joined, later, mine, now, reply, root}
 use Rattle.dpj_runs.specs.Standing.{Admitted, CanEnter, Inside, Outside, Standing, Valid, standing}
-use Rattle.dpj_runs.proofs.Upto.{upto_behind, upto_split, upto_none}
+use Rattle.dpj_runs.proofs.Upto.{upto_since, upto_split, upto_none}
 use Rattle.dpj_runs.proofs.Mine.{test_same, found}
 use Rattle.dpj_runs.proofs.Faithful.{some_same}
 use Rattle.dpj_runs.proofs.Standing.{Opener, opener_of}
@@ -162,7 +162,7 @@ ends_ended R p k b (suc n) xs e i y g =
         let m : suc b + i ≡ b + suc i = omega arith in
         subst (λ c. Ended R ((k, c) ∷ p) y) m (rec i y j)
 
--- the fork behind which stand begins alone, so many: how many events stand before it, and its branches
+-- the fork after which stand begins alone, so many: how many events stand before it, and its branches
 abbrev at_fork : Action → ℕ → Run → Option (ℕ × Branches) → Option (ℕ × Branches)
 at_fork (Fork ts) n es o = when (n == length ts.tasks) (Some (length es, ts))
 at_fork (Begin b) n es o = o
@@ -215,7 +215,7 @@ joins_now R p a e =
     let d = let_parts (ends_from R p k 0 (length ts.tasks)) (λ xs. Some (joined xs)) a c.then_is in
     let xs : List Ending = d.value in
     let o = open_is (mine R p) 0 k ts c.is in
-    let f = found R p (subst (λ l. Upto (o.fork ∷ o.before) l) (sym o.is) (upto_behind o.since o.fork o.before)) in
+    let f = found R p (subst (λ l. Upto (o.fork ∷ o.before) l) (sym o.is) (upto_since o.since o.fork o.before)) in
     let m = o.many in
     record {
       before = f.before;

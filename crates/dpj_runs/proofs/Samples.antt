@@ -9,17 +9,19 @@ use Rattle.dpj_runs.specs.Objects.{An_array, Effect, Int, Name, Path, Star, Valu
 use Rattle.dpj_runs.specs.Order.{Comes, Free, below_join}
 use Rattle.dpj_runs.specs.Runs.{Begun, Ended, Event, Follows, Right, Run, Upto, answers, branch, cells_of, count, last_written, later, mine, now, reply, root}
 use Rattle.dpj_runs.specs.Runs.{steps_of, things, total}
-use Rattle.dpj_runs.specs.Samples.{BoundApplies, BoundNeedsPaced, ComparisonApplies, ComparisonNeedsFree, ReadyApplies, ReadyNeedsKnown, RespectsNeedsPassing}
-use Rattle.dpj_runs.specs.Schedules.{Limits, Ran, Within}
+use Rattle.dpj_runs.specs.Samples.{BoundApplies, BoundNeedsPaced, ComparisonApplies, ComparisonNeedsFree, DeterminismApplies, ReadyApplies, ReadyNeedsKnown}
+use Rattle.dpj_runs.specs.Samples.{RespectsNeedsPassing}
+use Rattle.dpj_runs.specs.Schedules.{Finished, Limits, Ran, Within, ended}
 use Rattle.dpj_runs.specs.Standing.{Inside, Outside, above, first_of, standing}
 use Rattle.dpj_runs.proofs.Upto.{upto_none, upto_same, upto_length, upto_split}
 use Rattle.dpj_runs.proofs.Faithful.{agree_self, next_same, same_task}
 use Rattle.dpj_runs.proofs.Written.{legal_from, admitted_from, legal_faithful}
-use Rattle.dpj_runs.proofs.Schedules.{recorded, ran_length}
+use Rattle.dpj_runs.proofs.Schedules.{one_run, recorded, ran_length}
 use Rattle.dpj_runs.proofs.Theorems.{each_comes_out, same_outcome}
 use Rattle.dpj_runs.proofs.Scripts.{main, int, does, forks, Body, body_of, after, task, scripted, script_disciplined, script_lively}
 use Rattle.dpj_runs.proofs.Play.{run_of, play, played, task_begun, has_ended_with}
-use Rattle.dpj_runs.proofs.Tests.{is_free, script_known}
+use Rattle.dpj_runs.proofs.Tests.{is_free, script_free, script_known}
+use Rattle.dpj_runs.proofs.Finishing.{schedules_agree}
 
 abbrev two : Kind → Branches
 two k = record { kind = k; tasks = task 1 ∷ task 2 ∷ [] }
@@ -55,13 +57,13 @@ in_turn = [] ∷ [] ∷ [] ∷ [] ∷ pb ∷ pb ∷ pb ∷ pa ∷ pa ∷ pa ∷ 
 abbrev mixed : List Path
 mixed = [] ∷ [] ∷ [] ∷ [] ∷ pa ∷ pa ∷ pb ∷ pb ∷ pa ∷ pb ∷ [] ∷ [] ∷ [] ∷ []
 
-abbrev one_run : Run
-one_run = run_of (play apart in_turn)
+abbrev turn_by_turn : Run
+turn_by_turn = run_of (play apart in_turn)
 
 abbrev other_run : Run
 other_run = run_of (play apart mixed)
 
-one_played : play apart in_turn ≡ Some one_run
+one_played : play apart in_turn ≡ Some turn_by_turn
 unfolding mine last_written things above first_of
 one_played = refl
 
@@ -69,17 +71,17 @@ other_played : play apart mixed ≡ Some other_run
 unfolding mine last_written things above first_of
 other_played = refl
 
-one_free : Free one_run
+one_free : Free turn_by_turn
 unfolding mine last_written things above first_of
-one_free = is_free one_run refl
+one_free = is_free turn_by_turn refl
 
 other_free : Free other_run
 unfolding mine last_written things above first_of
 other_free = is_free other_run refl
 
-one_ended : Ended one_run [] (Returned (int 3))
+one_ended : Ended turn_by_turn [] (Returned (int 3))
 unfolding mine last_written things above first_of
-one_ended = has_ended_with one_run [] (Returned (int 3)) refl
+one_ended = has_ended_with turn_by_turn [] (Returned (int 3)) refl
 
 other_ended : Ended other_run [] (Returned (int 3))
 unfolding mine last_written things above first_of
@@ -92,19 +94,19 @@ is_at (Some p) = same_path p pb
 abbrev fifth : Run → Bool
 fifth R = is_at (slice_get (map (λ e. e.path) R) 4)
 
-two_runs : one_run ≡ other_run → ⊥
+two_runs : turn_by_turn ≡ other_run → ⊥
 unfolding mine last_written things above first_of
 two_runs e = let k : true ≡ false = ap fifth e in true≢false k
 
 pub comparison_applies : ComparisonApplies
 comparison_applies =
     let D = script_disciplined writers (int 0 ∷ int 0 ∷ []) never in
-    let l = legal_play writers (int 0 ∷ int 0 ∷ []) never in_turn one_run one_played in
+    let l = legal_play writers (int 0 ∷ int 0 ∷ []) never in_turn turn_by_turn one_played in
     let m = legal_play writers (int 0 ∷ int 0 ∷ []) never mixed other_run other_played in
-    let c = each_comes_out apart one_run (Returned (int 3)) l one_ended in
+    let c = each_comes_out apart turn_by_turn (Returned (int 3)) l one_ended in
     let d = each_comes_out apart other_run (Returned (int 3)) m other_ended in
-    let s = same_outcome apart D one_run other_run c.0 d.0 l m one_free other_free c.1 d.1 in
-    (apart, D, one_run, other_run, l, m, one_free, other_free, two_runs, c.0, c.1, subst (λ o. Comes apart other_run o) (sym s) d.1)
+    let s = same_outcome apart D turn_by_turn other_run c.0 d.0 l m one_free other_free c.1 d.1 in
+    (apart, D, turn_by_turn, other_run, l, m, one_free, other_free, two_runs, c.0, c.1, subst (λ o. Comes apart other_run o) (sym s) d.1)
 
 -- two branches write one field, and the root reads it
 abbrev racers : List Body
@@ -141,13 +143,13 @@ abbrev got_one : Answer → Bool
 got_one (Got (Int (pos n))) = n == 1
 got_one a = false
 
-abbrev told_one : Option Event → Bool
-told_one None = false
-told_one (Some e) = got_one e.ans
+abbrev saw_one : Option Event → Bool
+saw_one None = false
+saw_one (Some e) = got_one e.ans
 
 -- whether the latest event but one of a task was told 1
 abbrev read_one : Run → Bool
-read_one es = told_one (slice_get es 1)
+read_one es = saw_one (slice_get es 1)
 
 lengths : count a_run [] ≡ count b_run []
 unfolding mine last_written things above first_of
@@ -208,6 +210,103 @@ respects_needs_passing =
       later now,
       below_join [] (0, 0) refl (let n = y_number in omega arith),
       (λ h. (let n = upto_length h in absurd (omega arith))),
+    )
+
+-- two branches print, and the root writes and reads
+abbrev first_body : Body
+first_body = record {
+  items = does 0 (Write main (pos 0) (int 5)) ∷ forks 0 (two Deterministic) ∷ does 0 (Read main (pos 0)) ∷ [];
+  ending = Returned (int 5);
+}
+
+abbrev printers : List Body
+printers =
+    record { items = does 0 (Print (49 ∷ 10 ∷ [])) ∷ []; ending = Assigned [] }
+    ∷ record { items = does 0 (Print (50 ∷ 10 ∷ [])) ∷ []; ending = Assigned [] }
+    ∷ []
+
+abbrev prints : Program
+prints = scripted (first_body ∷ printers) (int 0 ∷ []) never
+
+abbrev p1 : Path
+p1 = (1, 0) ∷ []
+
+abbrev p2 : Path
+p2 = (1, 1) ∷ []
+
+abbrev one_by_one : List Path
+one_by_one = [] ∷ [] ∷ [] ∷ p2 ∷ p2 ∷ p1 ∷ p1 ∷ [] ∷ [] ∷ [] ∷ [] ∷ []
+
+abbrev other_first : List Path
+other_first = [] ∷ [] ∷ [] ∷ p1 ∷ p1 ∷ p2 ∷ p2 ∷ [] ∷ [] ∷ [] ∷ [] ∷ []
+
+abbrev turn_run : Run
+turn_run = run_of (play prints one_by_one)
+
+abbrev other_turn : Run
+other_turn = run_of (play prints other_first)
+
+turn_played : play prints one_by_one ≡ Some turn_run
+unfolding mine last_written things above first_of
+turn_played = refl
+
+other_turn_played : play prints other_first ≡ Some other_turn
+unfolding mine last_written things above first_of
+other_turn_played = refl
+
+turn_costs : (steps_of turn_run ≡ 9) × (cells_of prints turn_run ≡ 6)
+unfolding mine last_written things above first_of total
+turn_costs = (refl, refl)
+
+other_costs : (steps_of other_turn ≡ 9) × (cells_of prints other_turn ≡ 6)
+unfolding mine last_written things above first_of total
+other_costs = (refl, refl)
+
+turn_ended : Ended turn_run [] (Returned (int 5))
+unfolding mine last_written things above first_of
+turn_ended = has_ended_with turn_run [] (Returned (int 5)) refl
+
+other_turn_ended : Ended other_turn [] (Returned (int 5))
+unfolding mine last_written things above first_of
+other_turn_ended = has_ended_with other_turn [] (Returned (int 5)) refl
+
+abbrev at_second : Option Path → Bool
+at_second None = false
+at_second (Some p) = same_path p p2
+
+abbrev fourth : Run → Bool
+fourth R = at_second (slice_get (map (λ e. e.path) R) 3)
+
+turns_differ : turn_run ≡ other_turn → ⊥
+unfolding mine last_written things above first_of
+turns_differ e = let k : true ≡ false = ap fourth e in true≢false k
+
+pub determinism_applies : DeterminismApplies
+determinism_applies =
+    let D = script_disciplined (first_body ∷ printers) (int 0 ∷ []) never in
+    let free = script_free first_body printers (int 0 ∷ []) never refl in
+    let L : Limits = record { steps = 9; cells = 6 } in
+    let l = legal_play (first_body ∷ printers) (int 0 ∷ []) never one_by_one turn_run turn_played in
+    let m = legal_play (first_body ∷ printers) (int 0 ∷ []) never other_first other_turn other_turn_played in
+    let v : Within prints L turn_run = record { steps = (let n = turn_costs.0 in omega arith); cells = (let n = turn_costs.1 in omega arith) } in
+    let w : Within prints L other_turn = record { steps = (let n = other_costs.0 in omega arith); cells = (let n = other_costs.1 in omega arith) } in
+    let r = recorded prints L turn_run l v in
+    let s = recorded prints L other_turn m w in
+    let c = each_comes_out prints turn_run (Returned (int 5)) l turn_ended in
+    let d = each_comes_out prints other_turn (Returned (int 5)) m other_turn_ended in
+    let f : Finished prints L r.0 c.0 = ended turn_run r.1 c.1 in
+    let g : Finished prints L s.0 d.0 = ended other_turn s.1 d.1 in
+    let same = schedules_agree prints D free L r.0 s.0 c.0 d.0 f g in (
+      prints,
+      D,
+      free,
+      L,
+      r.0,
+      s.0,
+      (λ e. turns_differ (one_run prints D L s.0 turn_run other_turn (subst (λ ks. Ran prints L ks turn_run) e r.1) s.1)),
+      c.0,
+      f,
+      subst (λ o. Finished prints L s.0 o) (sym same) g,
     )
 
 -- two branches with blocks that the rule keeps apart

@@ -37,7 +37,7 @@ entry_more [] (f ∷ fs) h = omega arith
 entry_more (e ∷ es) [] h = absurd (upto_none h)
 entry_more (e ∷ es) (f ∷ fs) h = omega arith
 
-within_less : (P : Program) (L : Limits) (e : Event) (R : Run) → Within P L (e ∷ R) → Within P L R
+pub within_less : (P : Program) (L : Limits) (e : Event) (R : Run) → Within P L (e ∷ R) → Within P L R
 within_less P L e R w = record {
   steps = (let a = w.steps in let b = total_step event_steps e R in let c = entry_more (mine R []) (mine (e ∷ R) []) (mine_step e R []) in omega arith);
   cells = (let a = w.cells in let b = total_step event_cells e R in omega arith);

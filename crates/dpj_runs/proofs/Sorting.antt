@@ -43,7 +43,7 @@ snoc_same (x ∷ xs) (y ∷ ys) a b e =
     let r = snoc_same xs ys a b t in
     ((λ i. k i ∷ r.0 i), r.1)
 
-lex_snoc : (xs : List ℕ) (a b : ℕ) → a < b → Lex (xs ++ a ∷ []) (xs ++ b ∷ [])
+pub lex_snoc : (xs : List ℕ) (a b : ℕ) → a < b → Lex (xs ++ a ∷ []) (xs ++ b ∷ [])
 lex_snoc [] a b h = lower h
 lex_snoc (x ∷ xs) a b h = level_with (lex_snoc xs a b h)
 
@@ -83,24 +83,24 @@ one_way P {R} {t} {s} (u ∷ p) (v ∷ q) l b c e = go b c (λ x y k. one_way P 
         let s0 : u.0 ≡ v.0 = omega arith in
         λ i. (s0 i, s1 i) ∷ pq i
 
-abbrev place_of : Event → Run → List ℕ
+abbrev pub place_of : Event → Run → List ℕ
 place_of e R = position e.path (count R e.path)
 
 -- all events of a run stand before a place
-record AllBefore (R : Run) (l : List ℕ) : Type 0 where
-  each : (x : Event) (X : Run) → Upto (x ∷ X) R → Lex (place_of x X) l
+pub record AllBefore (R : Run) (l : List ℕ) : Type 0 where
+  pub each : (x : Event) (X : Run) → Upto (x ∷ X) R → Lex (place_of x X) l
 
-before_nil : (l : List ℕ) → AllBefore [] l
+pub before_nil : (l : List ℕ) → AllBefore [] l
 before_nil l = record { each = λ x X h. elim h [ ] }
 
-before_more : {R : Run} {l : List ℕ} (e : Event) → AllBefore R l → Lex (place_of e R) l → AllBefore (e ∷ R) l
+pub before_more : {R : Run} {l : List ℕ} (e : Event) → AllBefore R l → Lex (place_of e R) l → AllBefore (e ∷ R) l
 before_more {R} {l} e a h = record { each = each }
   where
     each : (x : Event) (X : Run) → Upto (x ∷ X) (e ∷ R) → Lex (place_of x X) l
     each x X now = h
     each x X (later u) = a.each x X u
 
-order_more : {R : Run} (e : Event) → InOrder R → AllBefore R (place_of e R) → InOrder (e ∷ R)
+pub order_more : {R : Run} (e : Event) → InOrder R → AllBefore R (place_of e R) → InOrder (e ∷ R)
 order_more {R} e o a = record { each = each }
   where
     each : (y x : Event) (Y X : Run) → Upto (y ∷ Y) (e ∷ R) → Upto (x ∷ X) Y → Lex (place_of x X) (place_of y Y)
@@ -110,7 +110,7 @@ order_more {R} e o a = record { each = each }
 below_top : {R : Run} {y : Event} → InOrder (y ∷ R) → AllBefore R (place_of y R)
 below_top {R} {y} o = record { each = λ x X h. o.each y x R X now h }
 
--- a sorted run with one more event of a task, behind that task's others
+-- a sorted run with one more event of a task, after that task's others
 record Inserted (e : Event) (S : Run) : Type 0 where
   run : Run
   in_order : InOrder run

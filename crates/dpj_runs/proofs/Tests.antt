@@ -1,15 +1,20 @@
 -- Whether a closed run is free of conflicts, and whether its program knows its objects, by computing.
 use Rattle.std.proofs.Common.{◌≡◌, ℕ, ℤ, pos, negsuc, zero, suc, ◌⊎◌, inl, inr, Bool, true, false, true≢false, not, ◌&&◌, ◌==◌, List, [], ◌∷◌}
-use Rattle.std.proofs.Common.{◌++◌, length, length-append, refl, sym, ap, ◌∙◌, subst, arith, eq-eqb, Some, slice_get}
+use Rattle.std.proofs.Common.{◌++◌, length, length-append, refl, sym, ap, ◌∙◌, subst, arith, eq-eqb, Some, None, slice_get}
 use Rattle.std.proofs.lemmas.Bool.{and_from, and_parts}
 use Rattle.std.proofs.lemmas.Option.{slice_get_past}
-use Rattle.dpj_runs.specs.Actions.{Action, Answer, Do, Ending, Enter, Exit, Look, Named, New, Next, Own, Print, Program, Read, Reply, Rest, Rule, Went, Write}
+use Rattle.dpj_runs.specs.Actions.{Action, Answer, Branches, Do, Ending, Enter, Exit, Fork, Look, Named, New, Next, Own, Print, Program, Read, Reply, Rest}
+use Rattle.dpj_runs.specs.Actions.{Rule, Task, Went, Write}
+use Rattle.dpj_runs.specs.Laws.{AllFree}
 use Rattle.dpj_runs.specs.Meaning.{Known}
 use Rattle.dpj_runs.specs.Objects.{Cell, Name, Path, Value, same_name, same_path, size, slot_of}
 use Rattle.dpj_runs.specs.Order.{Conflict, Free, Unordered, read_write, write_read, write_write}
-use Rattle.dpj_runs.specs.Runs.{Event, Run, Upto, answered_by, answers, made, mine, read_at, reply, seen, thing_of, wrote_at}
-use Rattle.dpj_runs.proofs.Upto.{upto_split, upto_none}
+use Rattle.dpj_runs.specs.Runs.{Begun, Event, Faithful, Follows, Run, Upto, answered_by, answers, branch, made, mine, read_at, reply, root, seen}
+use Rattle.dpj_runs.specs.Runs.{thing_of, wrote_at}
+use Rattle.dpj_runs.proofs.Upto.{upto_tail, upto_trans, upto_split, upto_none}
 use Rattle.dpj_runs.proofs.Mine.{test_same, test_other}
+use Rattle.dpj_runs.proofs.Faithful.{follows_at}
+use Rattle.dpj_runs.proofs.Written.{legal_faithful}
 use Rattle.dpj_runs.proofs.Cells.{same_name_eq}
 use Rattle.dpj_runs.proofs.Scripts.{Item, does, forks, Body, body_of, after, after_fork, scripted}
 
@@ -161,3 +166,129 @@ script_known bodies fields rule h = record {
       (after_main (body_of (slice_get bodies t.body)).items (body_of (slice_get bodies t.body)).ending (body_main bodies t.body h)
       (length (answers (mine R p))) e.0 o e.1);
 }
+
+-- whether only the root of a script accesses objects, and it never begins again as a branch
+abbrev no_access : Own → Bool
+no_access (Read n i) = false
+no_access (Write n i v) = false
+no_access o = true
+
+abbrev items_quiet : List Item → Bool
+items_quiet [] = true
+items_quiet (does t o ∷ is) = no_access o && items_quiet is
+items_quiet (forks t ts ∷ is) = items_quiet is
+
+abbrev no_roots : List Task → Bool
+no_roots [] = true
+no_roots (t ∷ ts) = not (t.body == 0) && no_roots ts
+
+abbrev items_below : List Item → Bool
+items_below [] = true
+items_below (does t o ∷ is) = items_below is
+items_below (forks t ts ∷ is) = no_roots ts.tasks && items_below is
+
+abbrev all_below : List Body → Bool
+all_below [] = true
+all_below (b ∷ bs) = items_below b.items && all_below bs
+
+abbrev all_quiet : List Body → Bool
+all_quiet [] = true
+all_quiet (b ∷ bs) = items_quiet b.items && all_quiet bs
+
+abbrev pub root_alone : List Body → Bool
+root_alone [] = true
+root_alone (b ∷ bs) = (items_below b.items && all_below bs) && all_quiet bs
+
+quiet_fork : (rest : ℕ → Reply) → ((n t : ℕ) (o : Own) → rest n ≡ Next t (Do o) → no_access o ≡ true) → (b k n t : ℕ) (o : Own)
+    → after_fork b k rest n ≡ Next t (Do o) → no_access o ≡ true
+quiet_fork rest f b zero zero t o e = absurd (cc)
+quiet_fork rest f b zero (suc n) t o e = f n t o e
+quiet_fork rest f b (suc k) zero t o e = absurd (cc)
+quiet_fork rest f b (suc k) (suc n) t o e = quiet_fork rest f (suc b) k n t o e
+
+after_quiet : (is : List Item) (x : Ending) → items_quiet is ≡ true → (n t : ℕ) (o : Own) → after is x n ≡ Next t (Do o) → no_access o ≡ true
+after_quiet [] x h zero t o e = absurd (cc)
+after_quiet [] x h (suc n) t o e = absurd (cc)
+after_quiet (does s c ∷ is) x h zero t o e = let k : c ≡ o = cc in ap no_access (sym k) ∙ (and_parts (no_access c) (items_quiet is) h).0
+after_quiet (does s c ∷ is) x h (suc n) t o e = after_quiet is x (and_parts (no_access c) (items_quiet is) h).1 n t o e
+after_quiet (forks s ts ∷ is) x h zero t o e = absurd (cc)
+after_quiet (forks s ts ∷ is) x h (suc n) t o e = quiet_fork (λ m. after is x m) (λ m u c k. after_quiet is x h m u c k) 0 (length ts.tasks) n t o e
+
+below_fork : (rest : ℕ → Reply) → ((n t : ℕ) (us : Branches) → rest n ≡ Next t (Fork us) → no_roots us.tasks ≡ true) → (b k n t : ℕ) (us : Branches)
+    → after_fork b k rest n ≡ Next t (Fork us) → no_roots us.tasks ≡ true
+below_fork rest f b zero zero t us e = absurd (cc)
+below_fork rest f b zero (suc n) t us e = f n t us e
+below_fork rest f b (suc k) zero t us e = absurd (cc)
+below_fork rest f b (suc k) (suc n) t us e = below_fork rest f (suc b) k n t us e
+
+after_below : (is : List Item) (x : Ending) → items_below is ≡ true → (n t : ℕ) (us : Branches) → after is x n ≡ Next t (Fork us) → no_roots us.tasks ≡ true
+after_below [] x h zero t us e = absurd (cc)
+after_below [] x h (suc n) t us e = absurd (cc)
+after_below (does s c ∷ is) x h zero t us e = absurd (cc)
+after_below (does s c ∷ is) x h (suc n) t us e = after_below is x h n t us e
+after_below (forks s ts ∷ is) x h zero t us e = let k : ts ≡ us =
+    cc in ap (λ (b : Branches). no_roots b.tasks) (sym k) ∙ (and_parts (no_roots ts.tasks) (items_below is) h).0
+after_below (forks s ts ∷ is) x h (suc n) t us e = below_fork (λ m. after is x m)
+    (λ m u c k. after_below is x (and_parts (no_roots ts.tasks) (items_below is) h).1 m u c k) 0 (length ts.tasks) n t us e
+
+not_root : (ts : List Task) (i : ℕ) (t : Task) → no_roots ts ≡ true → slice_get ts i ≡ Some t → (m : ℕ) × (t.body ≡ suc m)
+not_root [] i t h e = absurd (let k : None ≡ Some t = sym (slice_get_past [] i (omega arith)) ∙ e in cc)
+not_root (s ∷ ts) zero t h e = let k : s ≡ t = cc in by t.body
+    (ap (λ (w : Task). not (w.body == 0)) (sym k) ∙ (and_parts (not (s.body == 0)) (no_roots ts) h).0)
+  where
+    by : (b : ℕ) → not (b == 0) ≡ true → (m : ℕ) × (b ≡ suc m)
+    by zero n = absurd (true≢false (sym n))
+    by (suc m) n = (m, refl)
+not_root (s ∷ ts) (suc i) t h e = not_root ts i t (and_parts (not (s.body == 0)) (no_roots ts) h).1 e
+
+all_below_at : (bodies : List Body) (i : ℕ) → all_below bodies ≡ true → items_below (body_of (slice_get bodies i)).items ≡ true
+all_below_at [] i h = ap (λ b. items_below (body_of b).items) (slice_get_past [] i (omega arith))
+all_below_at (b ∷ bs) zero h = (and_parts (items_below b.items) (all_below bs) h).0
+all_below_at (b ∷ bs) (suc i) h = all_below_at bs i (and_parts (items_below b.items) (all_below bs) h).1
+
+all_quiet_at : (bodies : List Body) (i : ℕ) → all_quiet bodies ≡ true → items_quiet (body_of (slice_get bodies i)).items ≡ true
+all_quiet_at [] i h = ap (λ b. items_quiet (body_of b).items) (slice_get_past [] i (omega arith))
+all_quiet_at (b ∷ bs) zero h = (and_parts (items_quiet b.items) (all_quiet bs) h).0
+all_quiet_at (b ∷ bs) (suc i) h = all_quiet_at bs i (and_parts (items_quiet b.items) (all_quiet bs) h).1
+
+accesses : {x y : Event} → Conflict x y → (o : Own) × (y.act ≡ Do o) × (no_access o ≡ false)
+accesses (read_write c a b) = (Write c.object (pos c.slot) b.value, b.act, refl)
+accesses (write_read c a b) = (Read c.object (pos c.slot), b.act, refl)
+accesses (write_write c a b) = (Write c.object (pos c.slot) b.value, b.act, refl)
+
+module _ (body : Body) (bodies : List Body) (fields : List Value) (rule : Rule) (h : root_alone (body ∷ bodies) ≡ true) where
+  abbrev its : Program
+  its = scripted (body ∷ bodies) fields rule
+
+  parts_of : (items_below body.items && all_below bodies ≡ true) × (all_quiet bodies ≡ true)
+  parts_of = and_parts (items_below body.items && all_below bodies) (all_quiet bodies) h
+
+  -- a branch accesses nothing
+  branch_quiet : {R Y : Run} {y : Event} → Faithful its R → Upto (y ∷ Y) R → below_root y.path ≡ true → (o : Own) → y.act ≡ Do o → no_access o ≡ true
+  branch_quiet {R} {Y} {y} l hy b o k = go (follows_at its hy l).begun
+    where
+      a : Follows its Y y
+      a = follows_at its hy l
+
+      go : Begun its Y y.path a.task → no_access o ≡ true
+      go (root p t) = absurd (true≢false (sym b ∙ ap below_root p))
+      go (branch q u F f ts B g p hf fq fn fa there hg gq ga gn) =
+          let s = follows_at its (upto_trans hf (upto_tail hy)) l in
+          let asks : after (body_of (slice_get (body ∷ bodies) s.task.body)).items (body_of (slice_get (body ∷ bodies) s.task.body)).ending
+          (length (answers (mine F f.path))) ≡ Next f.turns (Fork ts) = s.asks ∙ ap (λ c. Next f.turns c) fa in
+          let none = after_below (body_of (slice_get (body ∷ bodies) s.task.body)).items (body_of (slice_get (body ∷ bodies) s.task.body)).ending
+          (all_below_at (body ∷ bodies) s.task.body parts_of.0) (length (answers (mine F f.path))) f.turns ts asks in
+          let m = not_root ts.tasks u.1 a.task none there in
+          let quiet : items_quiet (body_of (slice_get (body ∷ bodies) a.task.body)).items ≡ true =
+          ap (λ n. items_quiet (body_of (slice_get (body ∷ bodies) n)).items) m.1 ∙ all_quiet_at bodies m.0 parts_of.1 in
+          after_quiet (body_of (slice_get (body ∷ bodies) a.task.body)).items (body_of (slice_get (body ∷ bodies) a.task.body)).ending quiet
+          (length (answers (mine Y y.path))) y.turns o (a.asks ∙ ap (λ c. Next y.turns c) k)
+
+  pub script_free : AllFree its
+  script_free R l = record { no = no }
+    where
+      no : (Y X : Run) (y x : Event) → Upto (y ∷ Y) R → Upto (x ∷ X) Y → Unordered x.path y.path → Conflict x y → ⊥
+      no Y X y x hy hx u c =
+          let a = accesses c in
+          let b : below_root y.path ≡ true = ap below_root u.q_is ∙ below_is u.below_q u.above u.v in
+          true≢false (sym (branch_quiet (legal_faithful its R l) hy b a.0 a.1) ∙ a.2)

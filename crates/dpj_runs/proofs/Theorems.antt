@@ -1,7 +1,7 @@
 -- The laws, from the lemmas.
 use Rattle.std.proofs.Common.{◌≡◌, ◌+◌, ℕ, suc, [], ◌∷◌, refl, sym, ap, ◌∙◌, subst, arith, inr, append-nil}
-use Rattle.dpj_runs.specs.Laws.{BlocksByStanding, Comparison, EachComesOut, NoneCostsMore, NothingAfter, OneNext, OneOutcome, OrderOf, Present, Respects}
-use Rattle.dpj_runs.specs.Laws.{SameEvents, SameOutcome, SomeReady}
+use Rattle.dpj_runs.specs.Laws.{BlocksByStanding, Comparison, EachComesOut, GreatestFirst, NoneCostsMore, NothingAfter, OneNext, OneOutcome, OrderOf, Present}
+use Rattle.dpj_runs.specs.Laws.{Respects, SameEvents, SameOutcome, SomeReady}
 use Rattle.dpj_runs.specs.Objects.{Path, size}
 use Rattle.dpj_runs.specs.Order.{Agree, Came, ending_of, printed, trapped}
 use Rattle.dpj_runs.specs.Runs.{Ended, Event, Faithful, Run, Upto, cells_of, entry_step, event_cells, event_steps, later, mine, now, steps_of, total}
@@ -13,6 +13,7 @@ use Rattle.dpj_runs.proofs.Compare.{present}
 use Rattle.dpj_runs.proofs.Agreement.{agree, same_all, same_end}
 use Rattle.dpj_runs.proofs.Sorting.{sort}
 use Rattle.dpj_runs.proofs.Ready.{some_ready}
+use Rattle.dpj_runs.proofs.Greatest.{greatest_order}
 use Rattle.dpj_runs.proofs.Numbers.{number_one, number_of_begun}
 use Rattle.dpj_runs.proofs.Schedules.{same_step}
 use Rattle.dpj_runs.proofs.Cost.{total_le, most_events}
@@ -97,3 +98,6 @@ some_ready_event P D V K R l live =
 
 pub one_next : OneNext
 one_next P D R k e f l a b = same_step P D (legal_faithful P R l) a.allowed.follows b.allowed.follows (number_one a.number b.number)
+
+pub greatest_first : GreatestFirst
+greatest_first P D V T K R l g = (greatest_order P D V T K R l g).0

@@ -11,7 +11,7 @@ things_step : (e : Event) (es : Run) → things (e ∷ es) ≡ things es ++ made
 unfolding things
 things_step e es = refl
 
--- what a task makes later comes behind
+-- what a task makes later comes after
 things_upto : {es fs : Run} → Upto es fs → (rest : List Thing) × (things fs ≡ things es ++ rest)
 things_upto {es} now = ([], sym (append-nil (things es)))
 things_upto {es} (later {y = e} {ys = fs} h) =

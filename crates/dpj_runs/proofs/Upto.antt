@@ -74,6 +74,6 @@ pub upto_less : {A : Type 0} {y : A} {xs ys : List A} → Upto xs (y ∷ ys) →
 upto_less now n = absurd (n refl)
 upto_less (later h) n = h
 
-pub upto_behind : {A : Type 0} (since : List A) (x : A) (xs : List A) → Upto (x ∷ xs) (since ++ x ∷ xs)
-upto_behind [] x xs = now
-upto_behind (y ∷ since) x xs = later (upto_behind since x xs)
+pub upto_since : {A : Type 0} (since : List A) (x : A) (xs : List A) → Upto (x ∷ xs) (since ++ x ∷ xs)
+upto_since [] x xs = now
+upto_since (y ∷ since) x xs = later (upto_since since x xs)

@@ -86,7 +86,7 @@ module _ (P : Program) where
           }
 
   module _ (D : Disciplined P) where
-    -- a task below a fork of the opener that stands behind the entry
+    -- a task below a fork of the opener that stands after the entry
     chain_down : {R A : Run} {a : Event} (o : Path) (u : ℕ × ℕ) → Faithful P R → a.path ≡ o
         → ((F : Run) (f : Event) (ts : Branches) → Upto (f ∷ F) R → f.path ≡ o → count F o ≡ u.0 → f.act ≡ Fork ts → Upto (a ∷ A) F)
         → (xs : Path) (W : Run) (w : Event) → Upto (w ∷ W) R → w.path ≡ xs ++ u ∷ o → StandsIn A a W w.path

@@ -1,17 +1,21 @@
 -- The laws of runs, as statements.
-use Rattle.std.specs.Prelude.{ℕ, ◌≡◌, ◌≤◌, ◌+◌, ◌*◌, List, [], ◌∷◌, length}
+use Rattle.std.specs.Prelude.{ℕ, ◌⊎◌, ◌≡◌, ◌≤◌, ◌+◌, ◌*◌, List, [], ◌∷◌, ◌++◌, length}
 use Rattle.dpj_runs.specs.Objects.{Path}
 use Rattle.dpj_runs.specs.Actions.{Ending, Program}
-use Rattle.dpj_runs.specs.Runs.{Event, Run, Upto, mine, count, total, Ended}
+use Rattle.dpj_runs.specs.Runs.{Event, Faithful, Run, Upto, mine, count, total, Ended}
 use Rattle.dpj_runs.specs.Blocks.{Allowed, Legal}
 use Rattle.dpj_runs.specs.Standing.{Valid}
-use Rattle.dpj_runs.specs.Order.{Agree, Before, Comes, Free, IsPlain, Outcome, Passes, Related}
-use Rattle.dpj_runs.specs.Meaning.{Disciplined, Known, Lively, Paced}
-use Rattle.dpj_runs.specs.Schedules.{Finished, Limits, Ran, Ready, Within}
+use Rattle.dpj_runs.specs.Order.{Agree, Before, Comes, Free, InOrder, IsPlain, Outcome, Passes, Related}
+use Rattle.dpj_runs.specs.Meaning.{Disciplined, InTurn, Known, Lively, Paced}
+use Rattle.dpj_runs.specs.Schedules.{Finished, Greatest, Greedy, Limits, Ran, Ready, Within}
 
 -- the rule of open blocks as it is written and the one by paths and own events allow the same runs
 abbrev pub BlocksByStanding : Type 0
 BlocksByStanding = (P : Program) → Disciplined P → (R : Run) → (Legal P R → Valid P R) × (Valid P R → Legal P R)
+
+-- blocks aside, a legal run is one whose events came rightly
+abbrev pub LegalIsFaithful : Type 0
+LegalIsFaithful = (P : Program) (R : Run) → Legal P R → Faithful P R
 
 -- what is before an event in every run stands before it in each legal run that has both
 abbrev pub Respects : Type 0
@@ -85,3 +89,25 @@ ScheduleIsBounded = (P : Program) → Disciplined P → Paced P → (L : Limits)
 
 abbrev pub FinishedIsBounded : Type 0
 FinishedIsBounded = (P : Program) → Disciplined P → Paced P → (L : Limits) (ks : List ℕ) (o : Outcome) → Finished P L ks o → length ks ≤ 2 * L.steps + 2
+
+-- where no legal run has unordered conflicts all finished schedules come out the same, limits included
+abbrev pub AllFree : Program → Type 0
+AllFree P = (R : Run) → Legal P R → Free R
+
+abbrev pub SchedulesAgree : Type 0
+SchedulesAgree = (P : Program) → Disciplined P → AllFree P → (L : Limits) (ks js : List ℕ) (o q : Outcome) → Finished P L ks o → Finished P L js q → o ≡ q
+
+-- each schedule can be carried on to a finished one
+abbrev pub EachFinishes : Type 0
+EachFinishes = (P : Program) → Disciplined P → Lively P → Known P → Paced P → (L : Limits) (ks : List ℕ) (R : Run) → Ran P L ks R
+    → (js : List ℕ) × (o : Outcome) × Finished P L (js ++ ks) o
+
+-- the run in which the ready task with the greatest number always goes on stands in the order of elision
+abbrev pub GreatestFirst : Type 0
+GreatestFirst = (P : Program) → Disciplined P → Lively P → InTurn P → Known P → (R : Run) → Legal P R → Greedy P R → InOrder R
+
+-- and there is such a run for each limits: until its root has ended, or the next event of the greatest number is over a limit
+abbrev pub GreatestFinishes : Type 0
+GreatestFinishes = (P : Program) → Disciplined P → Lively P → InTurn P → Known P → Paced P → (L : Limits) → Within P L []
+    → (ks : List ℕ) × (R : Run) × Ran P L ks R × Greedy P R
+    × (((x : Ending) × Ended R [] x) ⊎ ((e : Event) × (k : ℕ) × Ready P R k e × Greatest P R e × (Within P L (e ∷ R) → ⊥)))

@@ -13,13 +13,26 @@ pub record Disciplined (P : Program) : Type 0 where
   pub joins : (p : Path) (t : Task) (got since : List Answer) (ts : Branches)
       → Asks P p t got (Fork ts) → length since ≡ suc (length ts.tasks) → Asks P p t (since ++ got) Join
 
+-- the task has got so many answers since that to this fork
+pub record AfterFork (P : Program) (p : Path) (t : Task) (got : List Answer) (ts : Branches) (many : ℕ) : Type 0 where
+  pub since : List Answer
+  pub answer : Answer
+  pub earlier : List Answer
+  pub is : got ≡ since ++ answer ∷ earlier
+  pub number : length since ≡ many
+  pub forks : Asks P p t earlier (Fork ts)
+
 -- a task does something next until it has ended, and joins only after a fork and its begins
 pub record Lively (P : Program) : Type 0 where
   pub starts : (p : Path) (t : Task) → P.meaning p t [] ≡ Over → ⊥
   pub goes_on : (p : Path) (t : Task) (got : List Answer) (a : Answer) (c : Action) → Asks P p t got c → P.meaning p t (a ∷ got) ≡ Over
       → (x : Ending) × (c ≡ End x)
-  pub joins_forked : (p : Path) (t : Task) (got : List Answer) → Asks P p t got Join → (ts : Branches) × (later : List Answer) × (a : Answer)
-      × (earlier : List Answer) × (got ≡ later ++ a ∷ earlier) × (length later ≡ length ts.tasks) × Asks P p t earlier (Fork ts)
+  pub joins_forked : (p : Path) (t : Task) (got : List Answer) → Asks P p t got Join → (ts : Branches) × AfterFork P p t got ts (length ts.tasks)
+
+-- a task begins a branch only after the fork, in turn
+pub record InTurn (P : Program) : Type 0 where
+  pub begins_forked : (p : Path) (t : Task) (got : List Answer) (b : ℕ) → Asks P p t got (Begin b) → (ts : Branches) × (b < length ts.tasks)
+      × AfterFork P p t got ts b
 
 -- a rest that no turns stand before stands in front of an entry
 pub record Paced (P : Program) : Type 0 where

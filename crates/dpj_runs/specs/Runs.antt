@@ -34,7 +34,7 @@ answers R = map (λ e. e.ans) R
 abbrev pub count : Run → Path → ℕ
 count R p = length (mine R p)
 
--- the task of this name has begun, and this is what it is to do: the root; or a branch of a fork behind its begin. The begin
+-- the task of this name has begun, and this is what it is to do: the root; or a branch of a fork after its begin. The begin
 -- of branch b of the fork numbered k is numbered k + 1 + b
 pub data Begun (P : Program) (R : Run) (p : Path) (t : Task) : Type 0 where
   root : p ≡ [] → t ≡ P.root → Begun P R p t
@@ -184,8 +184,8 @@ joined_or None ls = Joined ls
 abbrev pub joined : List Ending → Answer
 joined xs = joined_or (first_trap xs) (all_locals xs)
 
--- the task has made nothing but begins since a fork, all branches of that fork have begun and ended, and this is the answer
--- to the join
+-- since a fork the task has made as many events as the fork has branches, which are their begins; all branches have ended; and
+-- this is the answer to the join
 pub record Joins (R : Run) (p : Path) (a : Answer) : Type 0 where
   pub before : Run
   pub fork : Event

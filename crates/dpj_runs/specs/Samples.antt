@@ -6,7 +6,8 @@ use Rattle.dpj_runs.specs.Runs.{Begun, Ended, Event, Run, Upto, count}
 use Rattle.dpj_runs.specs.Blocks.{Allowed, Legal}
 use Rattle.dpj_runs.specs.Order.{Agree, Before, Comes, Free, Outcome}
 use Rattle.dpj_runs.specs.Meaning.{Disciplined, Known, Lively, Paced}
-use Rattle.dpj_runs.specs.Schedules.{Limits, Ran}
+use Rattle.dpj_runs.specs.Schedules.{Finished, Limits, Ran}
+use Rattle.dpj_runs.specs.Laws.{AllFree}
 
 -- two legal runs without unordered conflicts, in different orders, that come out the same
 abbrev pub ComparisonApplies : Type 0
@@ -39,3 +40,8 @@ BoundApplies = (P : Program) × Disciplined P × Paced P × (L : Limits) × (ks 
 -- rests that no entry follows make schedules longer
 abbrev pub BoundNeedsPaced : Type 0
 BoundNeedsPaced = (P : Program) × Disciplined P × (L : Limits) × (ks : List ℕ) × (R : Run) × Ran P L ks R × (2 * L.steps + 1 < length ks)
+
+-- two schedules of a program without conflicts that have finished, with one outcome
+abbrev pub DeterminismApplies : Type 0
+DeterminismApplies = (P : Program) × Disciplined P × AllFree P × (L : Limits) × (ks : List ℕ) × (js : List ℕ) × (ks ≡ js → ⊥)
+    × (o : Outcome) × Finished P L ks o × Finished P L js o

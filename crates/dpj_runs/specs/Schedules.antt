@@ -37,6 +37,15 @@ pub record Ready (P : Program) (R : Run) (k : ℕ) (e : Event) : Type 0 where
   pub allowed : Allowed P R e
   pub number : Numbered R k e.path
 
+-- no task with a greater number could make an event
+pub record Greatest (P : Program) (R : Run) (e : Event) : Type 0 where
+  pub none : (f : Event) (j k : ℕ) → Allowed P R f → Numbered R j f.path → Numbered R k e.path → j ≤ k
+
+-- each event was made by the ready task with the greatest number
+abbrev pub Greedy : Program → Run → Type 0
+Greedy P [] = Unit {0}
+Greedy P (e ∷ R) = Greatest P R e × Greedy P R
+
 -- the run that a schedule records, the latest number first: each number lets its task make its next event, within the limits
 abbrev pub Ran : Program → Limits → List ℕ → Run → Type 0
 Ran P L [] [] = Within P L []

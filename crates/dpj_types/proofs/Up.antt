@@ -1,5 +1,5 @@
 -- The way up from a class type to its superclasses.
-use Rattle.std.proofs.Common.{◌≡◌, ℕ, zero, suc, Bool, true, false, ◌||◌, List, Option, Some, None, refl, sym, ap, ◌∙◌, subst, arith}
+use Rattle.std.proofs.Common.{◌≡◌, ℕ, zero, suc, true, false, ◌||◌, List, Some, None, ap, ◌∙◌}
 use Rattle.std.proofs.lemmas.Bool.{or_left, or_from}
 use Rattle.std.specs.Option.{option_map_or}
 use Rattle.dpj_base.specs.declared.ty.Super.{Super}

@@ -1,0 +1,13 @@
+pub mod Does
+pub mod Sim
+pub mod Tables
+pub mod Right
+pub mod Statements
+pub mod Theorems
+pub mod Pieces
+pub mod Placed
+pub mod Whole
+pub mod Bodies
+pub mod Typed
+pub mod Samples
+pub mod Legs

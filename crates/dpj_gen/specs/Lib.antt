@@ -1,0 +1,8 @@
+pub mod Pieces
+pub mod Scheme
+pub mod Stands
+pub mod Resolved
+pub mod Compiled
+pub mod Whole
+pub mod Laws
+pub mod Samples
