@@ -2,7 +2,7 @@
 use Rattle.std.specs.Prelude.{ℕ, zero, suc, ◌+◌, ◌-◌, ◌*◌, ◌==◌, if◌then◌else◌, List, [], ◌∷◌, length, reverse, Some, None}
 use Rattle.dpj_typed.specs.declared.stmt.Forking.{Forking}
 use Rattle.dpj_typed.specs.Plain.{PlainProgram, TypedStmts}
-use Rattle.dpj_meaning.specs.Values.{Value, Naming}
+use Rattle.dpj_meaning.specs.Values.{Naming}
 use Rattle.dpj_meaning.specs.Actions.{Frame, Work, Task, Ending, Returned, Assigned, Trapped, Rest, Action, Do, Fork, Begin, Join, End, Answer, Reply, Next, Over, Unknown}
 use Rattle.dpj_meaning.specs.Core.{Result, Goes_on, Returns, Prog, Out, Done, Stopped, Lost, bind, World, run}
 use Rattle.dpj_meaning.specs.Core.{Out as out}

@@ -1,8 +1,6 @@
 -- What expressions mean: one clause a construct, in the order of evaluation. `dp` is what a body does one call deeper, and is
 -- none at the deepest.
-use Rattle.std.specs.Prelude.{ℕ, zero, suc, ◌-◌, ◌+◌, ℤ, pos, negsuc, Bool, true, false, not, ◌||◌, cond, List, [], ◌∷◌, ◌++◌, map, length, reverse, Option, Some, None, int_lt, int_rem}
-use Rattle.std.specs.Ordering.{int_eq}
-use Rattle.std.specs.Int.{w32, int_wrapping_add, int_wrapping_sub, int_wrapping_mul, int_wrapping_div, int_wrapping_neg}
+use Rattle.std.specs.Prelude.{ℕ, ◌-◌, ◌+◌, ℤ, pos, negsuc, Bool, true, false, cond, List, [], ◌∷◌, ◌++◌, map, length, reverse, Option, Some, None}
 use Rattle.std.specs.Option.{option_map_or}
 use Rattle.dpj_base.specs.declared.place.Place.{Place}
 use Rattle.dpj_base.specs.declared.region.Rpl.{Rpl}
@@ -10,9 +8,6 @@ use Rattle.dpj_base.specs.declared.value.Trap.TheVariants as trap
 use Rattle.dpj_base.specs.Types.{PlainType}
 use Rattle.dpj_base.specs.Types.{PlainType as ty}
 use Rattle.dpj_typed.specs.declared.expr.BinaryOp.{BinaryOp}
-use Rattle.dpj_typed.specs.declared.expr.BinaryOp.TheVariants as op
-use Rattle.dpj_typed.specs.declared.expr.UnaryOp.{UnaryOp}
-use Rattle.dpj_typed.specs.declared.expr.UnaryOp.TheVariants.{Negate, Not}
 use Rattle.dpj_typed.specs.Plain.{PlainProgram, PlainField, PlainMember, TypedExpr, typed, TypedExprs, no_exprs, more_exprs, TypedStmts}
 use Rattle.dpj_typed.specs.Plain.{ExprForm as form}
 use Rattle.dpj_typed.specs.Scope.{class_at, member_at, row_at, constructor_of, parent_of}

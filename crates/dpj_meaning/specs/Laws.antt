@@ -1,7 +1,7 @@
 -- What small programs ask, as their texts say.
-use Rattle.std.specs.Prelude.{◌≡◌, ℕ, pos, [], ◌∷◌}
+use Rattle.std.specs.Prelude.{◌≡◌, pos, [], ◌∷◌}
 use Rattle.std.specs.Fmt.{signed_decimal}
-use Rattle.dpj_meaning.specs.Values.{Value, Int}
+use Rattle.dpj_meaning.specs.Values.{Int}
 use Rattle.dpj_meaning.specs.Actions.{Went, Joined, Returned, Do, Rest, Print, Begin, Join, End, Next, Over}
 use Rattle.dpj_meaning.specs.Counts.{line}
 use Rattle.dpj_meaning.specs.Samples.{asks, prints_sum, counts, one_and_two}

@@ -9,10 +9,8 @@ use Rattle.dpj_base.specs.declared.elems.Index.TheVariants as index
 use Rattle.dpj_base.specs.declared.region.Head.{Head}
 use Rattle.dpj_base.specs.declared.region.Head.TheVariants as head
 use Rattle.dpj_base.specs.declared.region.Rpl.{Rpl}
-use Rattle.dpj_typed.specs.Plain.{PlainProgram}
-use Rattle.dpj_typed.specs.Scope.{parent_of}
 use Rattle.dpj_typed.specs.Plain.{PlainParent}
-use Rattle.dpj_meaning.specs.Values.{Value, Null, Part, Region_name, Number, Local, Own_index, Any_index, Any_parts, Region, Naming}
+use Rattle.dpj_meaning.specs.Values.{Value, Part, Region_name, Number, Local, Own_index, Any_index, Any_parts, Region, Naming}
 use Rattle.dpj_meaning.specs.Actions.{Frame, Effect}
 use Rattle.dpj_meaning.specs.Counts.{number, slot_value}
 

@@ -1,14 +1,14 @@
 -- Small programs of one method, and how a run of one begins. Objects and local regions are named by numbers here.
-use Rattle.std.specs.Prelude.{◌≡◌, ℕ, suc, pos, Bool, true, false, List, [], ◌∷◌, None, codes, replicate}
+use Rattle.std.specs.Prelude.{ℕ, pos, true, false, List, [], ◌∷◌, None}
 use Rattle.std.specs.Prelude.{◌==◌}
 use Rattle.dpj_base.specs.Types.{int, boolean}
 use Rattle.dpj_typed.specs.declared.expr.BinaryOp.TheVariants as op
 use Rattle.dpj_typed.specs.declared.stmt.Forking.TheVariants.{Deterministic}
-use Rattle.dpj_typed.specs.Plain.{PlainProgram, TypedExpr, typed, TypedStmt, statement, TypedStmts, no_stmts, more_stmts, no_branches, more_branches}
+use Rattle.dpj_typed.specs.Plain.{typed, TypedStmts, no_stmts, more_stmts, no_branches, more_branches}
 use Rattle.dpj_typed.specs.Plain.{ExprForm as expr}
 use Rattle.dpj_typed.specs.Plain.{StmtForm as form}
 use Rattle.dpj_typed.specs.Samples.{here, number, int_local, does, program_of}
-use Rattle.dpj_meaning.specs.Values.{Value, Int, Object, Naming}
+use Rattle.dpj_meaning.specs.Values.{Int, Object, Naming}
 use Rattle.dpj_meaning.specs.Actions.{Task, Answer, Reply}
 use Rattle.dpj_meaning.specs.Asking.{ask}
 use Rattle.dpj_meaning.specs.Counts.{padded}

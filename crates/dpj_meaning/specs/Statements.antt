@@ -1,6 +1,5 @@
 -- What statements mean: one clause a construct, in the order of evaluation.
-use Rattle.std.specs.Prelude.{ℕ, zero, suc, ◌+◌, ◌-◌, ◌*◌, ◌/◌, ℤ, pos, negsuc, ◌+ℤ◌, Bool, true, false, ◌&&◌, not, cond, List, [], ◌∷◌, ◌++◌, map, Option, Some, None, slice_set, int_lt}
-use Rattle.std.specs.Int.{w32, int_wrapping_add}
+use Rattle.std.specs.Prelude.{ℕ, zero, suc, ◌+◌, ◌-◌, ℤ, pos, true, false, cond, List, [], ◌∷◌, ◌++◌, map, Option, Some, None, slice_set}
 use Rattle.dpj_base.specs.declared.place.Place.{Place}
 use Rattle.dpj_base.specs.declared.value.Trap.TheVariants as trap
 use Rattle.dpj_typed.specs.declared.stmt.Forking.{Forking}
