@@ -1,5 +1,5 @@
 -- The code of small programs of one method, as a person writes it.
-use Rattle.std.specs.Prelude.{◌≡◌, pos, List, [], ◌∷◌, map}
+use Rattle.std.specs.Prelude.{◌≡◌, ℕ, pos, true, false, List, [], ◌∷◌, ◌++◌, map, Some, None, codes}
 use Rattle.dpj_typed.specs.declared.stmt.Forking.TheVariants.{Deterministic}
 use Rattle.dpj_base.specs.Types.{PlainType, int, boolean, void, class, array}
 use Rattle.dpj_typed.specs.declared.expr.BinaryOp.TheVariants as op
