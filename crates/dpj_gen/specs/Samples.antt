@@ -51,7 +51,7 @@ bodies_of_a =
     member 0 void 2 (alone (does (form.store_field this 0 0 (int_local 1)))) ∷
     member 0 void 1 (alone (does form.return_nothing)) ∷
     member 0 int 2 (alone (does (form.choice_else (typed here boolean (expr.local 1)) (nested (does (form.return_value (number 1))))
-      (nested (does (form.return_value (number 2))))))) ∷ []
+    (nested (does (form.return_value (number 2))))))) ∷ []
 
 -- A a = new A(3); a.f(); a.g(true); new A(4); int[] x = new int[2]; x[0] = x.length;
 -- while (n > 0 && true || false) { n = n - 1; } foreach (int i in 0, n) { print(i); cobegin { print("x"); } } return x[0];
@@ -70,19 +70,19 @@ body_of_main =
     (more_stmts (does (form.declare 3 (array int (below_root []) false) false (typed here (array int (below_root []) false) (expr.create_array (number 2)))))
     (more_stmts (does (form.store_element array_local (number 0) (typed here int (expr.array_length array_local))))
     (more_stmts (does (form.while_loop
-      (typed here boolean (expr.either (typed here boolean (expr.both (typed here boolean (expr.binary op.Greater (int_local 1) (number 0))) yes))
-        (typed here boolean (expr.boolean false))))
-      (nested (does (form.store 1 (typed here int (expr.binary op.Subtract (int_local 1) (number 1))))))))
+    (typed here boolean (expr.either (typed here boolean (expr.both (typed here boolean (expr.binary op.Greater (int_local 1) (number 0))) yes))
+    (typed here boolean (expr.boolean false))))
+    (nested (does (form.store 1 (typed here int (expr.binary op.Subtract (int_local 1) (number 1))))))))
     (more_stmts (does (form.foreach Deterministic 4 (number 0) (int_local 1) (does (form.block
-      (more_stmts (does (form.print_int (int_local 4)))
-      (alone (does (form.cobegin Deterministic (more_branches [] (does (form.print_text (codes "x"))) no_branches)))))))))
+    (more_stmts (does (form.print_int (int_local 4)))
+    (alone (does (form.cobegin Deterministic (more_branches [] (does (form.print_text (codes "x"))) no_branches)))))))))
     (alone (does (form.return_value (typed here int (expr.element array_local (number 0)))))))))))))
 
 abbrev pub listed : PlainProgram
 listed = record {
   classes =
-    record { params = []; given = []; parent = None; fields = record { ty = int; region = below_root [] } ∷ []; rows = 1 ∷ 2 ∷ []; constructor = Some 0 } ∷
-    record { params = []; given = []; parent = None; fields = []; rows = 3 ∷ []; constructor = None } ∷ [];
+      record { params = []; given = []; parent = None; fields = record { ty = int; region = below_root [] } ∷ []; rows = 1 ∷ 2 ∷ []; constructor = Some 0 } ∷
+      record { params = []; given = []; parent = None; fields = []; rows = 3 ∷ []; constructor = None } ∷ [];
   members = bodies_of_a ++ member 1 int 5 body_of_main ∷ [];
   region_names = [];
   main_class = 1;
@@ -96,9 +96,9 @@ listing =
     (Leave ∷ []) ∷
     (Load 1 ∷ Unless 5 ∷ Int (pos 1) ∷ Return ∷ Jump 7 ∷ Int (pos 2) ∷ Return ∷ []) ∷
     (Int (pos 3) ∷ New 0 ∷ Store 2 ∷ Load 2 ∷ Call 1 ∷ Load 2 ∷ Bool true ∷ Call 2 ∷ Pop ∷ Int (pos 4) ∷ New 3 ∷ Pop ∷ Int (pos 2) ∷ Array 4 ∷ Store 3 ∷ Load 3 ∷
-     Int (pos 0) ∷ Load 3 ∷ Length ∷ PutElem ∷ Load 1 ∷ Int (pos 0) ∷ Gt ∷ Unless 26 ∷ Bool true ∷ Jump 27 ∷ Bool false ∷ Unless 30 ∷ Bool true ∷ Jump 31 ∷
-     Bool false ∷ Unless 38 ∷ Turn ∷ Load 1 ∷ Int (pos 1) ∷ Sub ∷ Store 1 ∷ Jump 20 ∷ Int (pos 0) ∷ Load 1 ∷ Spread 5 ∷ Join ∷ Load 3 ∷ Int (pos 0) ∷ Elem ∷
-     Return ∷ []) ∷
+    Int (pos 0) ∷ Load 3 ∷ Length ∷ PutElem ∷ Load 1 ∷ Int (pos 0) ∷ Gt ∷ Unless 26 ∷ Bool true ∷ Jump 27 ∷ Bool false ∷ Unless 30 ∷ Bool true ∷ Jump 31 ∷
+    Bool false ∷ Unless 38 ∷ Turn ∷ Load 1 ∷ Int (pos 1) ∷ Sub ∷ Store 1 ∷ Jump 20 ∷ Int (pos 0) ∷ Load 1 ∷ Spread 5 ∷ Join ∷ Load 3 ∷ Int (pos 0) ∷ Elem ∷
+    Return ∷ []) ∷
     (Load 4 ∷ Print ∷ Fork 6 ∷ Join ∷ End ∷ []) ∷
     (Text 0 ∷ End ∷ []) ∷ []
 
