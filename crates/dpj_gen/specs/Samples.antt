@@ -3,13 +3,13 @@ use Rattle.std.specs.Prelude.{◌≡◌, ℕ, pos, true, false, List, [], ◌∷
 use Rattle.dpj_typed.specs.declared.stmt.Forking.TheVariants.{Deterministic}
 use Rattle.dpj_base.specs.Types.{PlainType, int, boolean, void, class, array}
 use Rattle.dpj_typed.specs.declared.expr.BinaryOp.TheVariants as op
-use Rattle.dpj_typed.specs.Plain.{PlainProgram, PlainMember, TypedExpr, typed, no_exprs, more_exprs, TypedStmt, TypedStmts, no_stmts, more_stmts, no_branches, more_branches}
+use Rattle.dpj_typed.specs.Plain.{PlainProgram, PlainMember, TypedExpr, typed, no_exprs, more_exprs, of_array, TypedStmt, TypedStmts, no_stmts, more_stmts, no_branches, more_branches}
 use Rattle.dpj_typed.specs.Plain.{ExprForm as expr}
 use Rattle.dpj_typed.specs.Plain.{StmtForm as form}
 use Rattle.dpj_typed.specs.Samples.{here, below_root, number, this, int_local, does, program_of}
 use Rattle.dpj_meaning.specs.Samples.{prints_sum, counts, one_and_two}
 use Rattle.dpj_code.specs.declared.instr.Instr.{Instr}
-use Rattle.dpj_code.specs.declared.instr.Instr.TheVariants.{Int, Bool, Load, Store, Pop, Add, Sub, Lt, Gt, Jump, Unless, Turn, Put, Elem, PutElem, Length, Call, New, Array, Return, Leave, Print, Text, Fork, Spread, Join, End}
+use Rattle.dpj_code.specs.declared.instr.Instr.TheVariants.{Int, Bool, Load, Store, Pop, Add, Sub, Lt, Gt, Jump, Unless, Turn, Put, Elem, PutElem, Length, Call, New, Array, Return, Leave, Print, Text, Fork, Spread, Join, End, Region, Enter, Exit, Part}
 use Rattle.dpj_code.specs.Plain.{PlainCode, fork_site}
 use Rattle.dpj_gen.specs.Whole.{compiled}
 
@@ -102,6 +102,15 @@ listing =
     (Load 4 ∷ Print ∷ Fork 6 ∷ Join ∷ End ∷ []) ∷
     (Text 0 ∷ End ∷ []) ∷ []
 
+-- region r; atomic { print(1); } foreach_parts (v, int k in a, n) { print(v.length); } return 0;
+abbrev pub cuts_parts : TypedStmts
+cuts_parts =
+    more_stmts (does (form.local_regions (0 ∷ [])))
+    (more_stmts (does (form.atomic [] (alone (does (form.print_int (number 1))))))
+    (more_stmts (does (form.foreach_parts 3 (of_array (typed here (array int (below_root []) false) (expr.local 2))) (int_local 1)
+    (does (form.print_int (typed here int (expr.part_length 3))))))
+    (alone (does (form.return_value (number 0))))))
+
 pub record SamplesStand : Type 0 where
   pub sum : instructions prints_sum ≡ (Int (pos 1) ∷ Int (pos 2) ∷ Add ∷ Print ∷ Int (pos 7) ∷ Return ∷ []) ∷ []
   pub loop :
@@ -114,3 +123,9 @@ pub record SamplesStand : Type 0 where
   pub site : (code_of one_and_two).sites ≡ fork_site Deterministic (1 ∷ 2 ∷ []) ([] ∷ [] ∷ []) ∷ []
   -- a program with a constructor, calls, an array, a loop and branches in branches
   pub whole : map (λ b. map (λ l. l.instr) b.lines) (compiled listed).bodies ≡ listing
+  -- a local region, an atomic block, and a branch for each part of an array, which takes its part first
+  pub parts :
+      instructions cuts_parts ≡
+      (Region 0 ∷ Enter 0 ∷ Int (pos 1) ∷ Print ∷ Exit ∷ Load 2 ∷ Store 3 ∷ Int (pos 0) ∷ Store 4 ∷ Load 1 ∷ Store 6 ∷ Load 3 ∷ Length ∷ Store 5 ∷
+      Int (pos 0) ∷ Load 6 ∷ Spread 1 ∷ Join ∷ Int (pos 0) ∷ Return ∷ []) ∷
+      (Part 3 ∷ Load 5 ∷ Print ∷ End ∷ []) ∷ []
