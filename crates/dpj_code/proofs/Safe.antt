@@ -1,7 +1,6 @@
 -- Fit code never gets stuck, and its local steps end.
 use Rattle.std.proofs.Common.{◌≡◌, ◌<◌, ◌≤◌, ℕ, zero, suc, ◌+◌, ℤ, pos, negsuc, Bool, true, false, cond, List, [], ◌∷◌, map, length, reverse, refl, sym, ap, ◌∙◌, subst, arith, Option, Some, None, slice_get, slice_set, ◌==◌}
 use Rattle.std.proofs.lemmas.List.{length-set}
-use Rattle.std.proofs.lemmas.Bool.{eqb-true}
 use Rattle.std.specs.List.{list_any}
 use Rattle.dpj_base.specs.declared.place.Place.{Place}
 use Rattle.dpj_base.specs.declared.region.Rpl.{Rpl}
@@ -11,10 +10,9 @@ use Rattle.dpj_base.specs.declared.value.Value.{Value as Constant}
 use Rattle.dpj_typed.specs.declared.expr.BinaryOp.{BinaryOp}
 use Rattle.dpj_typed.specs.declared.expr.BinaryOp.TheVariants as op
 use Rattle.dpj_typed.specs.declared.stmt.Forking.{Forking}
-use Rattle.dpj_typed.specs.Plain.{PlainParent}
 use Rattle.dpj_meaning.specs.Values.{Value, Int, Region, Naming}
 use Rattle.dpj_meaning.specs.Actions.{Frame}
-use Rattle.dpj_meaning.specs.Counts.{number, truth, reference, value_read, is_out, name_made, is_below, class_entered, operated, part_place, class_seen, length_seen, slot_value, how_many, padded, part_taken, part_first, part_length, copied, copied_one, Brought, Back, Trap_of_branch, brought}
+use Rattle.dpj_meaning.specs.Counts.{number, truth, reference, value_read, is_out, name_made, class_entered, operated, part_place, class_seen, length_seen, slot_value, how_many, padded, part_taken, part_first, part_length, copied, copied_one, Brought, Back, Trap_of_branch, brought}
 use Rattle.dpj_meaning.specs.Regions.{around, concrete, is_long, some_long, unmade_from}
 use Rattle.dpj_meaning.specs.Expressions.{none}
 use Rattle.dpj_meaning.specs.Statements.{numbered_frame}
@@ -24,6 +22,7 @@ use Rattle.dpj_code.specs.Plain.{PlainBody, Site, fork_site, spread_site, block_
 use Rattle.dpj_code.specs.Machine.{Level, Start, State, On, Rested, Off, Nowhere, Stand, Goes, Turns, Makes, Waits, Ends, Stuck, one, two, three, taken, or_trap, deeper, unless_long, cell_read, cell_written, entered, enters, calls_method, joined, joins, joins_site, started, each_started, below, returned, left_with, exec, exec_line, rested_line, step, begins_at, site_of, line_before}
 use Rattle.dpj_code.specs.Machine as machine
 use Rattle.dpj_code.specs.Fit.{Path_to, Falls_to, is_branch, puts_of, MemberBody, RowIs, BranchBody, AllBranches, left_by, site_at, Local, CodeFit}
+use Rattle.dpj_code.proofs.Below.{entered_has}
 use Rattle.dpj_code.specs.Safe.{At, Callers, SafeOn, Safe, AllSafe, SafeStand}
 
 padded_length : {N : Type 0} (n : ℕ) (vs : List (Value N)) → length (padded n vs) ≡ n
@@ -43,30 +42,10 @@ copied_length slots (l ∷ ls) vs = copied_length slots ls (copied_one slots l.0
     go true = length-set vs l.0 l.1
     go false = refl
 
-module _ (C : PlainCode) (F : CodeFit C) where
-  -- the row that is entered is there, and of the same kind
-  below_is : (k a c r : ℕ) (y : Bool) → is_below (parent_of C) k a c ≡ true → RowIs C F.gives c r y → RowIs C F.gives a r y
-  below_is zero a c r y e h = subst (λ z. RowIs C F.gives z r y) (sym (eqb-true a c e)) h
-  below_is (suc k) a c r y e h = here (λ p f. below_is k p c r y f h) (a == c) refl e
-    where
-      above : ((p : ℕ) → is_below (parent_of C) k p c ≡ true → RowIs C F.gives p r y) → (p : Option PlainParent) → parent_of C a ≡ p →
-          elim p as (λ z. Bool) [ None ↦ false | Some q ↦ is_below (parent_of C) k q.class c ] ≡ true → RowIs C F.gives a r y
-      above more None q f = absurd (cc)
-      above more (Some p) q f = F.rows a r p y q (more p.class f)
-
-      here : ((p : ℕ) → is_below (parent_of C) k p c ≡ true → RowIs C F.gives p r y) → (t : Bool) → (a == c) ≡ t →
-          cond t true (elim (parent_of C a) as (λ z. Bool) [ None ↦ false | Some q ↦ is_below (parent_of C) k q.class c ]) ≡ true → RowIs C F.gives a r y
-      here more true q f = subst (λ z. RowIs C F.gives z r y) (sym (eqb-true a c q)) h
-      here more false q f = above more (parent_of C a) refl f
-
-  entered_is : {M : Type 0} (k c r : ℕ) (y : Bool) (seen : Option (ℕ × List (Region M))) → RowIs C F.gives c r y →
-      RowIs C F.gives (class_entered (parent_of C) k c seen).0 r y
-  entered_is k c r y None h = h
-  entered_is k c r y (Some seen) h = go (is_below (parent_of C) k seen.0 c) refl
-    where
-      go : (t : Bool) → is_below (parent_of C) k seen.0 c ≡ t → RowIs C F.gives (cond t seen (c, seen.1)).0 r y
-      go true q = below_is k seen.0 c r y q h
-      go false q = h
+-- the row that is entered is there, and of the same kind
+entered_is : {M : Type 0} (C : PlainCode) (F : CodeFit C) (k c r : ℕ) (y : Bool) (seen : Option (ℕ × List (Region M))) → RowIs C F.gives c r y →
+    RowIs C F.gives (class_entered (parent_of C) k c seen).0 r y
+entered_is C F k c r y seen h = entered_has (parent_of C) (λ a. RowIs C F.gives a r y) (λ a p q g. F.rows a r p y q g) k c seen h
 
 -- what a state leads to is safe
 record Fine {N M : Type 0} (C : PlainCode) (F : CodeFit C) (r : ℕ) (z : Stand N M) : Type 0 where
