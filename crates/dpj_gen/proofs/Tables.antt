@@ -31,7 +31,8 @@ firsts_are [] = refl
 firsts_are (f ∷ fs) = ap₂ ◌∷◌ (first_is f.ty) (firsts_are fs)
 
 -- the row that is entered is there, and of the same kind
-pub entered_gives : {M : Type 0} (P : PlainProgram) (resolved : Resolved P) (k c r : ℕ) (gives : Bool) (seen : Option (ℕ × List (Region M))) → RowGives P c r gives →
+pub entered_gives : {M : Type 0} (P : PlainProgram) (resolved : Resolved P) (k c r : ℕ) (gives : Bool) (seen : Option (ℕ × List (Region M))) →
+    RowGives P c r gives →
     RowGives P (class_entered (program.parent_of P) k c seen).0 r gives
 entered_gives P resolved k c r gives seen g =
     entered_has (program.parent_of P) (λ a. RowGives P a r gives) (λ a p q h. resolved.below a r p gives q h) k c seen g

@@ -37,7 +37,8 @@ module _ {N M : Type 0} (names : Naming N M) (C : PlainCode) (P : PlainProgram) 
       go : (z : Bool) → closes m ≡ z → MemberEnds C (body_at C (body_of n)).lines (after_stmts 0 m.body) z →
           Sim names C P d (spot (body_of n) fs 0 [] f) (λ v g. gone (gives_value m) none fs) (λ v. gone (gives_value m) v fs) (of_stmts names P dp m.body f)
       go true q h =
-          sim_last (λ v g. right.at_line names C P body_of laid resolved (body_of n) _ fs [] g h.1 ∙ ap (λ z. Goes (gone (not z) none fs)) (sym (leaves_nothing (is_void m.result) (all_complete m.body) q)))
+          sim_last (λ v g. right.at_line names C P body_of laid resolved (body_of n) _ fs [] g h.1 ∙
+          ap (λ z. Goes (gone (not z) none fs)) (sym (leaves_nothing (is_void m.result) (all_complete m.body) q)))
           (right_stmts names C P body_of laid resolved d (gives_value m) (body_of n) fs dp dh m.body (resolved.bodies n m im) 0 []
           (laid.members n m im).stmts f l)
       go false q h =
