@@ -95,7 +95,8 @@ listing =
     (Load 0 ∷ Load 1 ∷ Put 0 ∷ Leave ∷ []) ∷
     (Leave ∷ []) ∷
     (Load 1 ∷ Unless 5 ∷ Int (pos 1) ∷ Return ∷ Jump 7 ∷ Int (pos 2) ∷ Return ∷ []) ∷
-    (Int (pos 3) ∷ New 0 ∷ Store 2 ∷ Load 2 ∷ Call 1 ∷ Load 2 ∷ Bool true ∷ Call 2 ∷ Pop ∷ Int (pos 4) ∷ New 3 ∷ Pop ∷ Int (pos 2) ∷ Array 4 ∷ Store 3 ∷ Load 3 ∷
+    (Int (pos 3) ∷ New 0 ∷ Store 2 ∷ Load 2 ∷ Call 1 ∷ Load 2 ∷ Bool true ∷ Call 2 ∷ Pop ∷ Int (pos 4) ∷ New 3 ∷ Pop ∷ Int (pos 2) ∷ Array 4 ∷
+    Store 3 ∷ Load 3 ∷
     Int (pos 0) ∷ Load 3 ∷ Length ∷ PutElem ∷ Load 1 ∷ Int (pos 0) ∷ Gt ∷ Unless 26 ∷ Bool true ∷ Jump 27 ∷ Bool false ∷ Unless 30 ∷ Bool true ∷ Jump 31 ∷
     Bool false ∷ Unless 38 ∷ Turn ∷ Load 1 ∷ Int (pos 1) ∷ Sub ∷ Store 1 ∷ Jump 20 ∷ Int (pos 0) ∷ Load 1 ∷ Spread 5 ∷ Join ∷ Load 3 ∷ Int (pos 0) ∷ Elem ∷
     Return ∷ []) ∷
