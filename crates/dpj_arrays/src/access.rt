@@ -18,11 +18,7 @@ fn index_elem(index: Option<Index>) -> Elem
 
 /// The element of an array type at an index, which takes the place of the array's own: a literal, an index
 /// variable, or None for any other expression. The answer is None where the type is no array type.
-pub fn element(
-    alloc: Global,
-    array: &Ty,
-    index: Option<Index>,
-) -> Result<Option<Element>, NoMemory>
+pub fn element(alloc: Global, array: &Ty, index: Option<Index>) -> Result<Option<Element>, NoMemory>
     ensures { IfOk result (λ found. option_map plain_element found ≡ element_of (plain_type array.now) index) }
 {
     let Ty::Array { elem, rpl, .. } = array else {

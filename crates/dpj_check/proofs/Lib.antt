@@ -1,6 +1,9 @@
 mod Assigning
+pub mod Atomics
 pub mod Cuts
 pub mod Forks
+pub mod Homes
+pub mod Iterations
 pub mod Leaves
 mod Meeting
 pub mod Methodic
@@ -10,6 +13,9 @@ mod OnceBodies
 mod OnceSimple
 mod OnceTouched
 mod OnceTypes
+pub mod Orders
+pub mod Parting
 pub mod Passing
+pub mod Reaching
 pub mod Stands
 pub mod Walking

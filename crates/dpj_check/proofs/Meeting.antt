@@ -1,22 +1,34 @@
 -- A first pair is found exactly where there is a pair.
-use Rattle.std.proofs.Common.{◌≡◌, ◌↔◌, ℕ, Bool, true, false, not, IsTrue, List, [], Option, Some, None, is_some, refl, sym}
+use Rattle.std.proofs.Common.{◌≡◌, ◌↔◌, ◌<◌, ℕ, Bool, true, false, not, IsTrue, List, [], length, Option, Some, None, is_some, Result, Ok, Err, IfOk, refl, sym, subst}
 use Rattle.std.proofs.lemmas.Bool.{false≢true}
 use Rattle.dpj_base.specs.declared.effect.Effect.{Effect}
 use Rattle.dpj_base.specs.declared.effect.Constraint.{Constraint}
-use Rattle.dpj_base.specs.Branches.{lists_interfere, lists_interfere_nd}
+use Rattle.dpj_base.specs.Branches.{Atomic, lists_clash}
 use Rattle.dpj_base.specs.Pairs.{NoPair, FirstPair}
-use Rattle.dpj_check.specs.Meeting.{Apart, ApartNd}
+use Rattle.dpj_exprs.specs.declared.env.Env.{Env}
+use Rattle.dpj_exprs.specs.Env.{given_in}
+use Rattle.dpj_check.specs.Meeting.{declared_atomic, Apart, BranchesApart}
 
-none_where_apart : {X : Type 0} (R : X → X → Type 0) (xs : List X) (d : X) (pair : Option (ℕ × ℕ)) (none : Bool) → FirstPair R xs pair → is_some pair ≡ not none → IsTrue none ↔ NoPair R xs
+none_where_apart : {X : Type 0} (R : X → X → Type 0) (xs : List X) (d : X) (pair : Option (ℕ × ℕ)) (none : Bool) → FirstPair R xs pair →
+    is_some pair ≡ not none → IsTrue none ↔ NoPair R xs
 none_where_apart R xs d None true h e = (λ _. h, λ _. refl)
 none_where_apart R xs d None false h e = absurd (false≢true e)
 none_where_apart R xs d (Some p) true h e = absurd (false≢true (sym e))
 none_where_apart R xs d (Some p) false h e =
     (λ t. absurd (false≢true t), λ apart. absurd (apart p.0 p.1 d h.behind.in_order h.behind.within (h.behind.holds d)))
 
-pub apart_where_none : (given : List Constraint) (branches : List (List Effect)) (pair : Option (ℕ × ℕ)) (none : Bool) → FirstPair (λ es fs. IsTrue (lists_interfere given es fs)) branches pair → is_some pair ≡ not none → IsTrue none ↔ Apart given branches
-apart_where_none given branches pair none h e = none_where_apart (λ es fs. IsTrue (lists_interfere given es fs)) branches [] pair none h e
+pub apart_where_none : (given : List Constraint) (nd : Option Atomic) (branches : List (List Effect)) (pair : Option (ℕ × ℕ)) (none : Bool) →
+    FirstPair (λ es fs. IsTrue (lists_clash given nd es fs)) branches pair → is_some pair ≡ not none → IsTrue none ↔ Apart given nd branches
+apart_where_none given nd branches pair none h e =
+    none_where_apart (λ es fs. IsTrue (lists_clash given nd es fs)) branches [] pair none h e
 
-pub apart_nd_where_none : (given : List Constraint) (names params : List Bool) (branches : List (List Effect)) (pair : Option (ℕ × ℕ)) (none : Bool) → FirstPair (λ es fs. IsTrue (lists_interfere_nd given names params es fs)) branches pair → is_some pair ≡ not none → IsTrue none ↔ ApartNd given names params branches
-apart_nd_where_none given names params branches pair none h e =
-    none_where_apart (λ es fs. IsTrue (lists_interfere_nd given names params es fs)) branches [] pair none h e
+-- no more branches than numbers count
+pub apart_counted : {E : Type 0} (params : List Bool) (nd : Bool) (env : Env) (given : List Constraint) (atomic : Option Atomic) (branches : List (List Effect))
+    (r : Result Bool E) → length branches < 4294967296 → given ≡ given_in env → atomic ≡ declared_atomic params nd env →
+    IfOk r (λ passed. IsTrue passed ↔ Apart given atomic branches) → IfOk r (BranchesApart params nd env branches)
+apart_counted params nd env given atomic branches (Ok passed) below given_is atomic_is h =
+    let here : IsTrue passed ↔ Apart (given_in env) (declared_atomic params nd env) branches =
+    subst (λ (z : List Constraint). IsTrue passed ↔ Apart z (declared_atomic params nd env) branches) given_is
+    (subst (λ (z : Option Atomic). IsTrue passed ↔ Apart given z branches) atomic_is h) in
+    (λ t. (below, here.0 t), λ p. here.1 p.1)
+apart_counted params nd env given atomic branches (Err e) below given_is atomic_is h = tt

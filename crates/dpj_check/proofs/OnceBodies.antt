@@ -21,7 +21,7 @@ use Rattle.dpj_check.proofs.Methodic.{class_from}
 use Rattle.dpj_check.proofs.Once.{block_once, same_walk}
 
 method_once : OneTyping → {class_env : Env} {params : List Bool} {number : ℕ} {method : Method} {blocks : List (List Effect)} {u v : Verdict} → MethodChecking class_env params number method blocks u → MethodChecking class_env params number method blocks v → u ≡ v
-method_once one {class_env = env} {number = number} {method = method} (of_method d j) (of_method d' j') = sym j ∙ ap (method_judged (table_of env) number method) (block_once one d d') ∙ j'
+method_once one {class_env = env} {number = number} {method = method} (of_method d j) (of_method d' j') = sym j ∙ ap (method_judged env number method) (block_once one d d') ∙ j'
 
 -- behind the same blocks, and from the same number on
 members_from : {class_env : Env} {params : List Bool} {ms : List Member} {number : ℕ} {x y : Walk} {v : MembersVerdict} → x ≡ y → MembersChecking class_env params ms number y.blocks v → MembersChecking class_env params ms number x.blocks v
@@ -78,6 +78,7 @@ around_class table supers length_name class = record {
   params = no_names;
   rows = [];
   variables = no_names;
+  slots = 1;
   regions = no_names;
   declared = 0;
   given = given_of table class;

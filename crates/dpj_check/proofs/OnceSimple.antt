@@ -21,8 +21,8 @@ use Rattle.dpj_check.specs.declared.node.Around.{Around}
 use Rattle.dpj_check.specs.declared.node.Node.{Node}
 use Rattle.dpj_check.specs.Deciding.{is_misplaced, local_fault, Returned}
 use Rattle.dpj_check.specs.Noting.{with_fault, with_found, with_fault_if, fault_of}
-use Rattle.dpj_check.specs.Simple.{FitIs, with_duplicate, local_row, target_fault, may_print, Declaring, AssigningLocal, AssigningPlace, Performing, Returning, Printing}
-use Rattle.dpj_check.specs.Walks.{Walk, Verdict, judged, found_so, declaring}
+use Rattle.dpj_check.specs.Simple.{FitIs, declaration_noted, local_declared, target_fault, may_print, Declaring, AssigningLocal, AssigningPlace, Performing, Returning, Printing}
+use Rattle.dpj_check.specs.Walks.{Walk, Verdict, judged, found_so, scope_so}
 use Rattle.dpj_check.proofs.OnceTypes.{one_type}
 
 pub one_truth : {A : Type 0} (a b : Bool) → IsTrue a ↔ A → IsTrue b ↔ A → a ≡ b
@@ -64,7 +64,7 @@ declaring_once one (Declaring.declared made l k d f j) (Declaring.type_refused l
 declaring_once one (Declaring.declared made l k d f j) (Declaring.value_refused l' d') = let e = said one d d' in cc
 declaring_once one {node} {is_final} {tree} {name} {value} {w} (Declaring.declared made l k d f j) (Declaring.declared made' l' k' d' f' j') =
     let e = said one d d' in
-    by_three (λ (t : Ty) b g. judged (fault_of (with_fault_if (with_duplicate w.env name node.place node) kind.Type (not b))) (declaring (found_so w g) (local_row name node.number t is_final)))
+    by_three (λ (t : Ty) b g. judged (fault_of (with_fault_if (declaration_noted w.env name node.place node) kind.Type (not b))) (scope_so (found_so w g) (local_declared w.env name t is_final)))
     (one_type made made' (k ∙ sym k')) (fit_once w.env (same_type e) refl f f') (same_found e) j j'
 
 pub local_once : OneTyping → {node : Node} {target : Named} {value : PlainExpr} {w : Walk} {u v : Verdict} → AssigningLocal node target value w u → AssigningLocal node target value w v → u ≡ v

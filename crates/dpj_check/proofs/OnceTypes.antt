@@ -12,7 +12,7 @@ of_plain ty.boolean = roll-Ty Ty-F.Bool
 of_plain ty.void = roll-Ty Ty-F.Void
 of_plain ty.null = roll-Ty Ty-F.Null
 of_plain (ty.class number args) = roll-Ty (Ty-F.Class number args)
-of_plain (ty.array elem rpl index) = roll-Ty (Ty-F.Array (of_plain elem) rpl index)
+of_plain (ty.array elem rpl named) = roll-Ty (Ty-F.Array (of_plain elem) rpl named)
 
 -- a type of which it is known that it comes back
 abbrev Back : Type 0
@@ -24,7 +24,7 @@ step_back Ty-F.Bool = refl
 step_back Ty-F.Void = refl
 step_back Ty-F.Null = refl
 step_back (Ty-F.Class number args) = refl
-step_back (Ty-F.Array elem rpl index) = ap (λ z. roll-Ty (Ty-F.Array z rpl index)) elem.1
+step_back (Ty-F.Array elem rpl named) = ap (λ z. roll-Ty (Ty-F.Array z rpl named)) elem.1
 
 came_back : (t : Ty) → of_plain (plain_type t) ≡ t
 came_back = ind-Ty (λ t. of_plain (plain_type t) ≡ t)

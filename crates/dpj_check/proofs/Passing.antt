@@ -1,32 +1,47 @@
 -- What is passed on from a part of a statement to the statement.
-use Rattle.std.proofs.Common.{◌≡◌, Result, Ok, Err, Option, Some, None, sym, subst}
+use Rattle.std.proofs.Common.{◌≡◌, ◌∙◌, Bool, List, Result, Ok, Err, Option, Some, None, sym, ap, subst}
 use Rattle.std.specs.Result.{IsErrAnd}
+use Rattle.dpj_base.specs.declared.effect.Effect.{Effect}
+use Rattle.dpj_base.specs.declared.refusal.Kind.{Kind}
 use Rattle.dpj_base.specs.declared.refusal.Refusal.{Refusal}
 use Rattle.dpj_base.specs.declared.refusal.Stop.{Stop}
 use Rattle.dpj_base.specs.declared.refusal.Stop.TheVariants as stop
 use Rattle.dpj_base.specs.Refused.{IfRefused}
 use Rattle.dpj_headers.specs.Faults.{settled}
-use Rattle.dpj_check.specs.Walks.{Walk, Verdict, passes, refused, judged, Says}
+use Rattle.dpj_exprs.specs.declared.env.Env.{Env}
+use Rattle.dpj_exprs.specs.declared.env.Mark.{Mark}
+use Rattle.dpj_exprs.specs.declared.found.Found.{Found}
+use Rattle.dpj_exprs.specs.Env.{left_to, mark_of}
+use Rattle.dpj_check.specs.declared.body.Body.{Body}
+use Rattle.dpj_check.specs.declared.leaving.Leaving.{Leaving}
+use Rattle.dpj_check.specs.declared.leaving.Marks.{Marks}
+use Rattle.dpj_check.specs.declared.node.Node.{Node}
+use Rattle.dpj_check.specs.Checking.{closed}
+use Rattle.dpj_check.specs.Gathering.{taken_in}
+use Rattle.dpj_check.specs.Leaving.{from_here}
+use Rattle.dpj_check.specs.Noting.{fault_of, settled_node, with_fault_if}
+use Rattle.dpj_check.specs.Walks.{Walk, Verdict, passes, refused, judged, found_so, walk_of, Says}
 
--- what is said of an outcome that stopped
-said : (T : Type 0) (P : Refusal → Type 0) (Q : Verdict → Type 0) (s : Stop) (w : Walk) → ((q : Refusal) → P q → Q (refused q)) → IfRefused s P → Says {T = T} (Err s) w Q
-said T P Q (stop.Refused q) w next h = next q h
-said T P Q stop.NoMemory w next h = tt
+pub said_of : (P Q : Refusal → Type 0) (s : Stop) → ((q : Refusal) → P q → Q q) → IfRefused s P → IfRefused s Q
+said_of P Q (stop.Refused q) next h = next q h
+said_of P Q stop.NoMemory next h = tt
 
 -- at the exit of a `?`
-pub stopped : {T : Type 0} (P : Refusal → Type 0) (Q : Verdict → Type 0) (r : Result T Stop) (w : Walk) (s : Stop) → IsErrAnd r (λ x. x ≡ s) → ((q : Refusal) → P q → Q (refused q)) → IfRefused s P → Says r w Q
+pub stopped : {T : Type 0} (P : Refusal → Type 0) (Q : Verdict → Type 0) (r : Result T Stop) (w : Walk) (s : Stop) →
+    IsErrAnd r (λ x. x ≡ s) → ((q : Refusal) → P q → Q (refused q)) → IfRefused s P → Says r w Q
 stopped P Q (Ok x) w s is next h = absurd is
-stopped {T} P Q (Err x) w s is next h = said T P Q x w next (subst (λ (z : Stop). IfRefused z P) (sym is) h)
+stopped P Q (Err x) w s is next h = said_of P (λ q. Q (refused q)) x next (subst (λ (z : Stop). IfRefused z P) (sym is) h)
 
 told_said : (told : Option Refusal) (w : Walk) (Q : Verdict → Type 0) → Q (judged told w) → Says (settled told) w Q
 told_said None w Q h = h
 told_said (Some q) w Q h = h
 
--- where the faults of a node are told last
-pub settled_says : (told : Option Refusal) (r : Result (Unit {0}) Stop) (w : Walk) (Q : Verdict → Type 0) → r ≡ settled told → Q (judged told w) → Says r w Q
+-- where the faults of a node are reported last
+pub settled_says : (told : Option Refusal) (r : Result (Unit {0}) Stop) (w : Walk) (Q : Verdict → Type 0) →
+    r ≡ settled told → Q (judged told w) → Says r w Q
 settled_says told r w Q is h = subst (λ (z : Result (Unit {0}) Stop). Says z w Q) (sym is) (told_said told w Q h)
 
--- what stops where the faults of a node are told
+-- what stops where the faults of a node are reported
 pub settled_stop : (told : Option Refusal) (s : Stop) → settled told ≡ Err s → IfRefused s (λ q. told ≡ Some q)
 settled_stop None s is = cc
 settled_stop (Some q) s is = of_stop q s is
@@ -35,14 +50,46 @@ settled_stop (Some q) s is = of_stop q s is
     of_stop p (stop.Refused z) e = cc
     of_stop p stop.NoMemory e = cc
 
--- what is said of a piece, as what is said of a larger one that says no more behind it
-pub says_map : {T : Type 0} (P Q : Verdict → Type 0) (r : Result T Stop) (w x : Walk) → (P (passes w) → Q (passes x)) → ((q : Refusal) → P (refused q) → Q (refused q)) → Says r w P → Says r x Q
-says_map P Q (Ok t) w x ok err h = ok h
-says_map P Q (Err (stop.Refused q)) w x ok err h = err q h
-says_map P Q (Err stop.NoMemory) w x ok err h = tt
+-- at the exit of a `?` where the faults of a node are reported
+pub settle_stopped : {T : Type 0} (Q : Verdict → Type 0) (told : Option Refusal) (r : Result T Stop) (s : Stop) (x : Walk) →
+    IsErrAnd r (λ z. z ≡ s) → Err s ≡ settled told → ((q : Refusal) → told ≡ Some q → Q (refused q)) → Says r x Q
+settle_stopped Q told r s x is settle next = stopped (λ q. told ≡ Some q) Q r x s is next (settled_stop told s (sym settle))
 
 -- a piece whose outcome is passed on
 pub says_all : {T : Type 0} (P Q : Verdict → Type 0) (r : Result T Stop) (w : Walk) → ((v : Verdict) → P v → Q v) → Says r w P → Says r w Q
 says_all P Q (Ok t) w next h = next (passes w) h
-says_all P Q (Err (stop.Refused q)) w next h = next (refused q) h
-says_all P Q (Err stop.NoMemory) w next h = tt
+says_all P Q (Err s) w next h = said_of (λ q. P (refused q)) (λ q. Q (refused q)) s (λ q. next (refused q)) h
+
+-- the verdict of a node, by what was noted of it
+pub judged_at : (m n : Node) (w : Walk) → n ≡ m → judged (fault_of m) w ≡ judged (fault_of n) w
+judged_at m n w is = ap (λ (z : Node). judged (fault_of z) w) (sym is)
+
+pub judged_none : (told : Option Refusal) (w : Walk) → told ≡ None → judged told w ≡ passes w
+judged_none told w is = ap (λ (z : Option Refusal). judged z w) is
+
+pub judged_some : (told : Option Refusal) (w : Walk) (q : Refusal) → told ≡ Some q → judged told w ≡ refused q
+judged_some told w q is = ap (λ (z : Option Refusal). judged z w) is
+
+-- what is noted of a node by two tests, the second after the faults of the first were reported
+pub noted_twice : (second second' settle third : Node) (reason reason' : Kind) (there there' : Bool) →
+    second ≡ second' → settle ≡ settled_node second → reason ≡ reason' → there ≡ there' → third ≡ with_fault_if settle reason there →
+    third ≡ with_fault_if (settled_node second') reason' there'
+noted_twice second second' settle third reason reason' there there' second_is settle_is reason_is there_is is =
+    is ∙ ap (λ (z : Node). with_fault_if z reason there) (settle_is ∙ ap settled_node second_is)
+    ∙ ap (λ (z : Kind). with_fault_if (settled_node second') z there) reason_is
+    ∙ ap (λ (z : Bool). with_fault_if (settled_node second') reason' z) there_is
+
+abbrev pub walk_from : Env → Found → List (List Effect) → Walk
+walk_from env found blocks = record { env = env; found = found; blocks = blocks }
+
+-- a scope that was left
+pub closed_is : (b s : Body) (env : Env) (scope : Mark) (leaving : Leaving) (kept kept' : Marks) (f g inner inner' rest out : Found) →
+    scope ≡ mark_of b.env → env ≡ left_to s.env scope → leaving ≡ from_here b.env kept → kept ≡ kept' → inner ≡ inner' → out ≡ taken_in leaving g inner →
+    closed (found_so (walk_of b f) g) kept' inner' (walk_of s rest) ≡ walk_from env out s.blocks
+closed_is b s env scope leaving kept kept' f g inner inner' rest out scope_is env_is leaving_is kept_is inner_is out_is =
+    let env_so : env ≡ left_to s.env (mark_of b.env) = env_is ∙ ap (λ (z : Mark). left_to s.env z) scope_is in
+    let out_so : out ≡ taken_in (from_here b.env kept') g inner' =
+    out_is ∙ ap (λ (z : Leaving). taken_in z g inner) (leaving_is ∙ ap (from_here b.env) kept_is)
+    ∙ ap (λ (z : Found). taken_in (from_here b.env kept') g z) inner_is in
+    ap (λ (z : Env). walk_from z (taken_in (from_here b.env kept') g inner') s.blocks) (sym env_so)
+    ∙ ap (λ (z : Found). walk_from env z s.blocks) (sym out_so)

@@ -1,6 +1,6 @@
 -- The rules of statements: what becomes of a statement where it stands. Its parts are walked in the order of evaluation,
--- and a fault of a part is the fault of the whole; then the faults of its own node are told.
-use Rattle.std.specs.Prelude.{◌≡◌, ◌↔◌, ◌<◌, ℕ, length, Bool, true, false, not, ◌&&◌, ◌||◌, ◌%◌, IsTrue, List, [], ◌∷◌, ◌++◌, Contains, Option, Some, None}
+-- and a fault of a part is the fault of the whole; then the faults of its own node are reported.
+use Rattle.std.specs.Prelude.{◌≡◌, ◌↔◌, ◌+◌, ℕ, Bool, true, false, not, ◌&&◌, ◌||◌, IsTrue, List, [], ◌∷◌, ◌++◌, Contains, Option, Some, None}
 use Rattle.dpj_base.specs.declared.effect.Effect.{Effect}
 use Rattle.dpj_base.specs.declared.place.Place.{Place}
 use Rattle.dpj_base.specs.declared.refusal.Kind.{Kind}
@@ -8,16 +8,14 @@ use Rattle.dpj_base.specs.declared.refusal.Kind.TheVariants as kind
 use Rattle.dpj_base.specs.declared.refusal.Refusal.{Refusal}
 use Rattle.dpj_base.specs.declared.ty.Ty.{Ty}
 use Rattle.dpj_base.specs.declared.ty.Ty.TheVariants as made
-use Rattle.dpj_base.specs.Branches.{turns_interfere, turns_interfere_nd}
+use Rattle.dpj_base.specs.Branches.{iterations_clash}
 use Rattle.dpj_base.specs.Pairs.{NoPair}
 use Rattle.dpj_base.specs.Types.{PlainType, plain_type}
 use Rattle.dpj_base.specs.Types.{PlainType as ty}
-use Rattle.dpj_headers.specs.Headers.{atomic_regions}
 use Rattle.dpj_tree.specs.declared.region.Named.{Named}
 use Rattle.dpj_tree.specs.declared.region.TypeTree.{TypeTree}
 use Rattle.dpj_tree.specs.Plain.{PlainExpr, PlainStmt, statement, StmtForm, PlainStmts, no_stmts, more_stmts}
 use Rattle.dpj_tree.specs.Plain.{StmtForm as form}
-use Rattle.dpj_classes.specs.Table.{headers_of}
 use Rattle.dpj_locals.specs.declared.branch.Touched.{Touched}
 use Rattle.dpj_locals.specs.Clash.{Clash}
 use Rattle.dpj_locals.specs.Touches.{stmt_reads, stmt_assigns}
@@ -27,7 +25,7 @@ use Rattle.dpj_exprs.specs.declared.env.LocalRow.{LocalRow}
 use Rattle.dpj_exprs.specs.declared.found.Found.{Found}
 use Rattle.dpj_exprs.specs.Answer.{gives}
 use Rattle.dpj_exprs.specs.Answer.{Answer as answer}
-use Rattle.dpj_exprs.specs.Env.{table_of, given_in, with_local, left_to, mark_of, part_of}
+use Rattle.dpj_exprs.specs.Env.{given_in, slots_in, left_to, mark_of, part_of}
 use Rattle.dpj_exprs.specs.Typed.{may_be, is_int, is_boolean}
 use Rattle.dpj_exprs.specs.Typing.{Typing}
 use Rattle.dpj_check.specs.declared.leaving.Marks.{Marks}
@@ -35,37 +33,38 @@ use Rattle.dpj_check.specs.declared.leaving.Marks.TheVariants as marks
 use Rattle.dpj_check.specs.declared.node.Around.{Around}
 use Rattle.dpj_check.specs.declared.node.Node.{Node}
 use Rattle.dpj_check.specs.Completes.{completes}
-use Rattle.dpj_check.specs.Deciding.{is_misplaced, interference, marks_behind, whole_fault, AssignsOuter}
+use Rattle.dpj_check.specs.Deciding.{is_misplaced, interference, marks_after, whole_fault, AssignsOuter}
 use Rattle.dpj_check.specs.Gathering.{with_uses, entered, taken_in, handed_on}
 use Rattle.dpj_check.specs.Keeping.{inside}
-use Rattle.dpj_check.specs.Leaving.{nothing_leaves, variable_leaves, block_leaves, first_region_in}
-use Rattle.dpj_check.specs.Meeting.{Apart, ApartNd}
+use Rattle.dpj_check.specs.Leaving.{from_here}
+use Rattle.dpj_check.specs.Meeting.{declared_atomic, BranchesApart}
 use Rattle.dpj_check.specs.Noting.{node_at, with_found, with_fault_if, fault_of, settled_node}
-use Rattle.dpj_check.specs.Simple.{with_duplicate, local_row, Declaring, AssigningLocal, AssigningPlace, Performing, Returning, Printing, regions_declared}
-use Rattle.dpj_check.specs.Walks.{Walk, Verdict, passes, refused, found_so, nothing_found, apart_from, left_scope, judged, behind}
+use Rattle.dpj_check.specs.Simple.{declaration_noted, local_declared, part_declared, Declaring, AssigningLocal, AssigningPlace, Performing, Returning, Printing, regions_declared}
+use Rattle.dpj_check.specs.Walks.{Walk, Verdict, passes, refused, found_so, scope_so, nothing_found, apart_from, left_scope, judged, behind}
 
 abbrev pub form_of : PlainStmt → StmtForm
-form_of (statement number place f) = f
+form_of (statement place f) = f
 
 -- with an nd construct, where it is one
 abbrev pub with_nd : Bool → Found → Found
 with_nd nd found = record found { reaches_nd = found.reaches_nd || nd }
 
--- behind a piece of which what is found is gathered by itself
+-- after a piece of which what is found is gathered by itself
 abbrev pub gathers : Found → Walk → Walk
 gathers found w = record w { found = found }
 
--- behind a block that began at the first walk: what it declared is out of scope, in its effects too
-abbrev pub block_closed : Walk → PlainStmts → Walk → Walk
-block_closed before all w = record {
+-- after a piece that began at the first walk and of which this was found: what it declared is out of scope, in its
+-- effects too
+abbrev pub closed : Walk → Marks → Found → Walk → Walk
+closed before kept inner w = record {
   env = left_to w.env (mark_of before.env);
-  found = taken_in (block_leaves all (first_region_in w.env (mark_of before.env))) before.found w.found;
+  found = taken_in (from_here before.env kept) before.found inner;
   blocks = w.blocks;
 }
 
-abbrev pub block_left : Walk → PlainStmts → Verdict → Verdict
-block_left before all (passes w) = passes (block_closed before all w)
-block_left before all (refused refusal) = refused refusal
+abbrev pub block_left : Walk → Verdict → Verdict
+block_left before (passes w) = passes (closed before marks.Kept w.found w)
+block_left before (refused refusal) = refused refusal
 
 -- the outer locals that a branch reads and assigns
 pub record TouchedBy (branch : PlainStmt) (touched : Touched) : Type 0 where
@@ -77,50 +76,47 @@ abbrev pub ClashIs : List Touched → Bool → Type 0
 ClashIs branches true = ¬ NoPair Clash branches
 ClashIs branches false = NoPair Clash branches
 
--- no two branches interfere; more than numbers count are never let pass
-abbrev pub BranchesApart : List Bool → Bool → Env → List (List Effect) → Bool → Type 0
-BranchesApart params false env branches apart = IsTrue apart ↔ ((length branches < 4294967296) × Apart (given_in env) branches)
-BranchesApart params true env branches apart = IsTrue apart ↔ ((length branches < 4294967296) × ApartNd (given_in env) (atomic_regions (headers_of (table_of env))) params branches)
-
--- the turns of a loop interfere
-abbrev pub turns_meet : List Bool → Bool → Env → ℕ → List Effect → Bool
-turns_meet params false env var effects = turns_interfere (given_in env) var effects
-turns_meet params true env var effects = turns_interfere_nd (given_in env) (atomic_regions (headers_of (table_of env))) params var effects
-
 abbrev pub AssignsIs : PlainStmt → Bool → Type 0
 AssignsIs body assigns = IsTrue assigns ↔ AssignsOuter body
 
--- the variable of a loop, and the part of an array, as locals
-abbrev pub variable_row : ℕ → ℕ → LocalRow
-variable_row name number = local_row name number made.Int true
+-- the variable of a loop, which is a final int, is in scope
+abbrev pub variable_declared : Env → Named → Env
+variable_declared env var = local_declared env var.name made.Int true
 
-abbrev pub part_row : ℕ → ℕ → Ty → LocalRow
-part_row name number t = record { name = name; var = number; ty = t; is_final = true; part = Some number }
+abbrev pub variable_noted : Env → Named → Node → Node
+variable_noted env var node = declaration_noted env var.name var.place node
 
--- what a `foreach_parts` cuts: the type and the view of a part; or what an array expression gives, with what is wrong
+-- what a `foreach_parts` cuts: the type and the slot of a part; or what an array expression gives, with what is wrong
 -- with it
 pub data Cutting (env : Env) (array : PlainExpr) (f : Found) : PlainType → Option ℕ → Option Kind → Found → Type 0 where
-  a_part : {row : LocalRow} → part_of env array ≡ Some row → Cutting env array f (plain_type row.ty) row.part None f
-  an_array : {t : PlainType} {g : Found} → part_of env array ≡ None → Typing env array f (gives (Some t) g) → Cutting env array f t None (whole_fault t) g
+  a_part : {row : LocalRow} → part_of env array ≡ Some row → Cutting env array f (plain_type row.ty) (Some row.slot) None f
+  an_array : {t : PlainType} {g : Found} →
+      part_of env array ≡ None → Typing env array f (gives (Some t) g) → Cutting env array f t None (whole_fault t) g
   nothing : {g : Found} → part_of env array ≡ None → Typing env array f (gives None g) → Cutting env array f ty.void None None g
 
--- the array and the count of a `foreach_parts`, and the scope of its body; or the fault of one of the two
+-- the array and the count of a `foreach_parts`, and the scope of its body: the part, then the variable; or the fault of
+-- one of the two
 pub data Opened : Type 0 where
   opened : Option ℕ → Node → Walk → Opened
   not_opened : Refusal → Opened
 
-pub data Opening (node : Node) (number : ℕ) (view var : Named) (array count : PlainExpr) (w : Walk) : Opened → Type 0 where
+abbrev pub parts_noted : Env → Named → Named → Ty → Node → Node
+parts_noted env view var t node = variable_noted (part_declared env view.name t) var (declaration_noted env view.name view.place node)
+
+abbrev pub parts_declared : Env → Named → Named → Ty → Env
+parts_declared env view var t = variable_declared (part_declared env view.name t) var
+
+pub data Opening (node : Node) (view var : Named) (array count : PlainExpr) (w : Walk) : Opened → Type 0 where
   array_refused : {refusal : Refusal} →
-      part_of w.env array ≡ None → Typing w.env array w.found (answer.refused refusal) → Opening node number view var array count w (not_opened refusal)
+      part_of w.env array ≡ None → Typing w.env array w.found (answer.refused refusal) → Opening node view var array count w (not_opened refusal)
   count_refused : {t : PlainType} {outer : Option ℕ} {fault : Option Kind} {g : Found} {refusal : Refusal} →
-      Cutting w.env array w.found t outer fault g → Typing w.env count g (answer.refused refusal) → Opening node number view var array count w (not_opened refusal)
+      Cutting w.env array w.found t outer fault g → Typing w.env count g (answer.refused refusal) →
+      Opening node view var array count w (not_opened refusal)
   both_given : (t : Ty) {outer : Option ℕ} {fault : Option Kind} {g h : Found} {u : Option PlainType} →
       Cutting w.env array w.found (plain_type t) outer fault g → Typing w.env count g (gives u h) →
-      Opening node number view var array count w
-      (opened outer
-      (with_duplicate (with_local w.env (part_row view.name number t)) var.name var.place
-      (with_duplicate w.env view.name view.place (with_fault_if (with_found node fault) kind.Type (not (may_be is_int u)))))
-      (record w { env = with_local (with_local w.env (part_row view.name number t)) (variable_row var.name number); found = h }))
+      Opening node view var array count w
+      (opened outer (parts_noted w.env view var t (with_fault_if (with_found node fault) kind.Type (not (may_be is_int u))))
+      (scope_so (found_so w h) (parts_declared w.env view var t)))
 
 -- the branches of a `cobegin`: the effects of each, the outer locals that it touches, and how far the walk has come; or
 -- the first that is refused
@@ -128,33 +124,28 @@ pub data BranchesVerdict : Type 0 where
   all_pass : List (List Effect) → List Touched → Walk → BranchesVerdict
   one_refused : Refusal → BranchesVerdict
 
--- behind the first branch
-abbrev pub behind_branch : List Effect → Touched → BranchesVerdict → BranchesVerdict
-behind_branch effects touched (all_pass others more w) = all_pass (effects ∷ others) (touched ∷ more) w
-behind_branch effects touched (one_refused refusal) = one_refused refusal
+-- after the first branch
+abbrev pub after_branch : List Effect → Touched → BranchesVerdict → BranchesVerdict
+after_branch effects touched (all_pass others more w) = all_pass (effects ∷ others) (touched ∷ more) w
+after_branch effects touched (one_refused refusal) = one_refused refusal
 
--- the number of the variable of a loop, and of a part: that of the construct
-abbrev pub variable_of : Node → ℕ
-variable_of node = node.number % 2147483648
+-- at the begin of an iteration: the variable is in scope
+abbrev pub iteration_begun : Named → Walk → Walk
+iteration_begun var w = record w { env = variable_declared w.env var; found = nothing_found }
 
--- at the begin of a turn
-abbrev pub turn_of : Node → Named → Walk → Walk
-turn_of node var w = record w { env = with_local w.env (variable_row var.name (variable_of node)); found = nothing_found }
+-- after a `foreach_parts`: the uses of the part, which has this slot, are handed on
+abbrev pub parts_left : ℕ → Walk → Option ℕ → Found → Walk → Walk
+parts_left part before outer found w = closed (found_so before found) marks.Dropped (handed_on part outer w.found) w
 
--- behind a loop that began at the first walk: its variable is out of scope, in the effects of a turn too
-abbrev pub turns_left : Node → Walk → Marks → Found → Walk → Walk
-turns_left node before kept turn w = record {
-  env = left_to w.env (mark_of before.env);
-  found = taken_in (variable_leaves (variable_of node) kept) before.found turn;
-  blocks = w.blocks;
-}
+-- the slots of a part of an array, of which it has four, and of the variable of its construct
+abbrev pub part_slot : Env → ℕ
+part_slot env = slots_in env
 
--- the same of parts: the uses of the part are handed on
-abbrev pub parts_left : Node → Walk → Option ℕ → Found → Walk → Walk
-parts_left node before outer found w = turns_left node (found_so before found) marks.Dropped (handed_on (variable_of node) outer w.found) w
+abbrev pub part_variable : Env → ℕ
+part_variable env = slots_in env + 4
 
 mutual
-  -- a statement, told by its node and its form; the list says which region parameters are declared atomic
+  -- a statement, by its node and its form; the list says which region parameters are declared atomic
   pub data Checking (params : List Bool) : Around → Node → StmtForm → Walk → Verdict → Type 0 where
     -- a block
     of_block : {around : Around} {node : Node} {all : PlainStmts} {w : Walk} {u v : Verdict} →
@@ -204,7 +195,7 @@ mutual
         Typing w.env start w.found (gives t g) → Typing w.env count g (answer.refused refusal) → Checking params around node (form.foreach nd var start count body) w (refused refusal)
     of_foreach : {around : Around} {node : Node} {nd : Bool} {var : Named} {start count : PlainExpr} {body : PlainStmt} {w : Walk} {t u : Option PlainType} {g h : Found} {v : Verdict} →
         Typing w.env start w.found (gives t g) → Typing w.env count g (gives u h) →
-        Turning params around (with_fault_if (with_fault_if node kind.Type (not (may_be is_int t))) kind.Type (not (may_be is_int u))) nd var body (found_so w h) v →
+        Iterating params around (with_fault_if (with_fault_if node kind.Type (not (may_be is_int t))) kind.Type (not (may_be is_int u))) nd var body (found_so w h) v →
         Checking params around node (form.foreach nd var start count body) w v
     -- array and count, then the body
     of_parts : {around : Around} {node : Node} {view var : Named} {array count : PlainExpr} {body : PlainStmt} {w : Walk} {v : Verdict} →
@@ -215,13 +206,13 @@ mutual
     of_atomic : {around : Around} {node : Node} {all : PlainStmts} {w u : Walk} {v : Verdict} →
         InBlock params (inside around) all (apart_from w) (passes u) →
         judged (fault_of (with_fault_if node kind.AtomicBody u.found.reaches_nd))
-        (record { env = u.env; found = taken_in (nothing_leaves marks.Set) w.found u.found; blocks = u.blocks ++ entered u.found ∷ [] }) ≡ v →
+        (record { env = u.env; found = taken_in (from_here w.env marks.Set) w.found u.found; blocks = u.blocks ++ entered u.found ∷ [] }) ≡ v →
         Checking params around node (form.atomic all) w v
 
-  -- a statement, which stands behind one that doesn't complete or not
+  -- a statement, which stands after one that doesn't complete or not
   pub data Standing (params : List Bool) : Around → Bool → PlainStmt → Walk → Verdict → Type 0 where
-    standing : {around : Around} {follows : Bool} {number : ℕ} {place : Place} {f : StmtForm} {w : Walk} {v : Verdict} →
-        Checking params around (node_at number place follows) f w v → Standing params around follows (statement number place f) w v
+    standing : {around : Around} {follows : Bool} {place : Place} {f : StmtForm} {w : Walk} {v : Verdict} →
+        Checking params around (node_at place follows) f w v → Standing params around follows (statement place f) w v
 
   -- a branch or a body, which has a scope of its own
   pub data InScope (params : List Bool) : Around → PlainStmt → Walk → Verdict → Type 0 where
@@ -229,7 +220,7 @@ mutual
 
   -- the statements of a block, in a scope of their own
   pub data InBlock (params : List Bool) : Around → PlainStmts → Walk → Verdict → Type 0 where
-    in_block : {around : Around} {all : PlainStmts} {w : Walk} {u v : Verdict} → InOrder params around true all (apart_from w) u → block_left w all u ≡ v → InBlock params around all w v
+    in_block : {around : Around} {all : PlainStmts} {w : Walk} {u v : Verdict} → InOrder params around true all (apart_from w) u → block_left w u ≡ v → InBlock params around all w v
 
   -- statements one after the other, where those before them complete or not
   pub data InOrder (params : List Bool) : Around → Bool → PlainStmts → Walk → Verdict → Type 0 where
@@ -246,8 +237,8 @@ mutual
         InScope params around s (apart_from w) (refused refusal) → Branching params around nd (more_stmts s ss) w (one_refused refusal)
     then_branches : {around : Around} {nd : Bool} {s : PlainStmt} {ss : PlainStmts} {w u : Walk} {touched : Touched} {v x : BranchesVerdict} →
         InScope params around s (apart_from w) (passes u) → TouchedBy s touched →
-        Branching params around nd ss (gathers (taken_in (nothing_leaves (marks_behind nd)) w.found u.found) u) v →
-        behind_branch (with_uses u.found.effects u.found.uses) touched v ≡ x → Branching params around nd (more_stmts s ss) w x
+        Branching params around nd ss (gathers (taken_in (from_here w.env (marks_after nd)) w.found u.found) u) v →
+        after_branch (with_uses u.found.effects u.found.uses) touched v ≡ x → Branching params around nd (more_stmts s ss) w x
 
   -- a `cobegin`: its branches, then whether two of them clash over locals, then whether two of them interfere
   pub data Forking (params : List Bool) : Around → Node → Bool → PlainStmts → Walk → Verdict → Type 0 where
@@ -258,41 +249,42 @@ mutual
         fault_of (with_fault_if node kind.Assign clash) ≡ Some refusal → Forking params around node nd branches w (refused refusal)
     forked : {around : Around} {node : Node} {nd : Bool} {branches : PlainStmts} {w u : Walk} (effects : List (List Effect)) (touched : List Touched) (clash apart : Bool) {v : Verdict} →
         Branching params (inside around) nd branches w (all_pass effects touched u) → ClashIs touched clash →
-        fault_of (with_fault_if node kind.Assign clash) ≡ None → BranchesApart params nd u.env effects apart →
+        fault_of (with_fault_if node kind.Assign clash) ≡ None → BranchesApart params nd w.env effects apart →
         judged (fault_of (with_fault_if (settled_node (with_fault_if node kind.Assign clash)) (interference nd) (not apart))) (gathers (with_nd nd u.found) u) ≡ v →
         Forking params around node nd branches w v
 
-  -- a `foreach` behind its start and count: the variable, the body, whether this assigns outer locals, then whether its
-  -- turns interfere
-  pub data Turning (params : List Bool) : Around → Node → Bool → Named → PlainStmt → Walk → Verdict → Type 0 where
-    turn_refused : {around : Around} {node : Node} {nd : Bool} {var : Named} {body : PlainStmt} {w : Walk} {refusal : Refusal} →
-        InScope params (inside around) body (turn_of node var w) (refused refusal) → Turning params around node nd var body w (refused refusal)
-    turn_assigning : {around : Around} {node : Node} {nd : Bool} {var : Named} {body : PlainStmt} {w u : Walk} (assigns : Bool) {refusal : Refusal} →
-        InScope params (inside around) body (turn_of node var w) (passes u) → AssignsIs body assigns →
-        fault_of (with_fault_if (with_duplicate w.env var.name var.place node) kind.Assign assigns) ≡ Some refusal → Turning params around node nd var body w (refused refusal)
-    turned : {around : Around} {node : Node} {nd : Bool} {var : Named} {body : PlainStmt} {w u : Walk} (assigns : Bool) {v : Verdict} →
-        InScope params (inside around) body (turn_of node var w) (passes u) → AssignsIs body assigns →
-        fault_of (with_fault_if (with_duplicate w.env var.name var.place node) kind.Assign assigns) ≡ None →
-        judged (fault_of (with_fault_if (settled_node (with_fault_if (with_duplicate w.env var.name var.place node) kind.Assign assigns)) (interference nd)
-        (turns_meet params nd (left_to u.env (mark_of w.env)) (variable_of node) (with_uses u.found.effects u.found.uses))))
-        (turns_left node w (marks_behind nd) (with_nd nd u.found) u) ≡ v →
-        Turning params around node nd var body w v
+  -- a `foreach` after its start and count: the variable, the body, whether this assigns outer locals, then whether its
+  -- iterations interfere
+  pub data Iterating (params : List Bool) : Around → Node → Bool → Named → PlainStmt → Walk → Verdict → Type 0 where
+    iteration_refused : {around : Around} {node : Node} {nd : Bool} {var : Named} {body : PlainStmt} {w : Walk} {refusal : Refusal} →
+        InScope params (inside around) body (iteration_begun var w) (refused refusal) → Iterating params around node nd var body w (refused refusal)
+    iteration_assigning : {around : Around} {node : Node} {nd : Bool} {var : Named} {body : PlainStmt} {w u : Walk} (assigns : Bool) {refusal : Refusal} →
+        InScope params (inside around) body (iteration_begun var w) (passes u) → AssignsIs body assigns →
+        fault_of (with_fault_if (variable_noted w.env var node) kind.Assign assigns) ≡ Some refusal →
+        Iterating params around node nd var body w (refused refusal)
+    iterated : {around : Around} {node : Node} {nd : Bool} {var : Named} {body : PlainStmt} {w u : Walk} (assigns : Bool) {v : Verdict} →
+        InScope params (inside around) body (iteration_begun var w) (passes u) → AssignsIs body assigns →
+        fault_of (with_fault_if (variable_noted w.env var node) kind.Assign assigns) ≡ None →
+        judged (fault_of (with_fault_if (settled_node (with_fault_if (variable_noted w.env var node) kind.Assign assigns)) (interference nd)
+        (iterations_clash (given_in w.env) (declared_atomic params nd w.env) (slots_in w.env) (with_uses u.found.effects u.found.uses))))
+        (closed w (marks_after nd) (with_nd nd u.found) u) ≡ v →
+        Iterating params around node nd var body w v
 
   -- a `foreach_parts`: the array and the count, the body, whether this assigns outer locals, then whether its branches
   -- interfere by other ways than through their parts
   pub data Parting (params : List Bool) : Around → Node → Named → Named → PlainExpr → PlainExpr → PlainStmt → Walk → Verdict → Type 0 where
     range_refused : {around : Around} {node : Node} {view var : Named} {array count : PlainExpr} {body : PlainStmt} {w : Walk} {refusal : Refusal} →
-        Opening node (variable_of node) view var array count w (not_opened refusal) → Parting params around node view var array count body w (refused refusal)
+        Opening node view var array count w (not_opened refusal) → Parting params around node view var array count body w (refused refusal)
     part_refused : {around : Around} {node : Node} {view var : Named} {array count : PlainExpr} {body : PlainStmt} {w x : Walk} {outer : Option ℕ} {noted : Node} {refusal : Refusal} →
-        Opening node (variable_of node) view var array count w (opened outer noted x) → InScope params (inside around) body (apart_from x) (refused refusal) →
+        Opening node view var array count w (opened outer noted x) → InScope params (inside around) body (apart_from x) (refused refusal) →
         Parting params around node view var array count body w (refused refusal)
     part_assigning : {around : Around} {node : Node} {view var : Named} {array count : PlainExpr} {body : PlainStmt} {w x u : Walk} {outer : Option ℕ} {noted : Node} (assigns : Bool) {refusal : Refusal} →
-        Opening node (variable_of node) view var array count w (opened outer noted x) → InScope params (inside around) body (apart_from x) (passes u) → AssignsIs body assigns →
+        Opening node view var array count w (opened outer noted x) → InScope params (inside around) body (apart_from x) (passes u) → AssignsIs body assigns →
         fault_of (with_fault_if noted kind.Assign assigns) ≡ Some refusal → Parting params around node view var array count body w (refused refusal)
     parted : {around : Around} {node : Node} {view var : Named} {array count : PlainExpr} {body : PlainStmt} {w x u : Walk} {outer : Option ℕ} {noted : Node} (assigns : Bool) {v : Verdict} →
-        Opening node (variable_of node) view var array count w (opened outer noted x) → InScope params (inside around) body (apart_from x) (passes u) → AssignsIs body assigns →
+        Opening node view var array count w (opened outer noted x) → InScope params (inside around) body (apart_from x) (passes u) → AssignsIs body assigns →
         fault_of (with_fault_if noted kind.Assign assigns) ≡ None →
         judged (fault_of (with_fault_if (settled_node (with_fault_if noted kind.Assign assigns)) kind.Interferes
-        (parts_interfere (given_in (left_to u.env (mark_of w.env))) (variable_of node) (variable_of node) u.found.effects u.found.uses)))
-        (parts_left node w outer x.found u) ≡ v →
+        (parts_interfere (given_in w.env) (part_slot w.env) (part_variable w.env) u.found.effects u.found.uses)))
+        (parts_left (part_slot w.env) w outer x.found u) ≡ v →
         Parting params around node view var array count body w v

@@ -6,7 +6,7 @@ use Rattle.dpj_tree.specs.Plain.{PlainStmt, statement, StmtForm, block, declare,
 -- `else` neither part of which completes
 abbrev mutual
   pub completes : PlainStmt → Bool
-  completes (statement node place form) = form_completes form
+  completes (statement place form) = form_completes form
 
   pub form_completes : StmtForm → Bool
   form_completes (block all) = all_complete all
@@ -42,7 +42,7 @@ form_goes_on (return_value value) = false
 form_goes_on form = true
 
 abbrev pub goes_on : PlainStmt → Bool
-goes_on (statement node place form) = form_goes_on form
+goes_on (statement place form) = form_goes_on form
 
 -- a `while`, a `foreach` or a `foreach_parts`
 abbrev pub form_is_loop : StmtForm → Bool
@@ -52,7 +52,7 @@ form_is_loop (foreach_parts view var array count body) = true
 form_is_loop form = false
 
 abbrev pub is_loop : PlainStmt → Bool
-is_loop (statement node place form) = form_is_loop form
+is_loop (statement place form) = form_is_loop form
 
 -- a declaration or an assignment
 abbrev pub form_is_store : StmtForm → Bool
@@ -63,7 +63,7 @@ form_is_store (assign_element target value) = true
 form_is_store form = false
 
 abbrev pub is_store : PlainStmt → Bool
-is_store (statement node place form) = form_is_store form
+is_store (statement place form) = form_is_store form
 
 -- a call, a creation, a `print` or a declaration of local regions
 abbrev pub form_is_act : StmtForm → Bool
@@ -74,7 +74,7 @@ form_is_act (local_regions names) = true
 form_is_act form = false
 
 abbrev pub is_act : PlainStmt → Bool
-is_act (statement node place form) = form_is_act form
+is_act (statement place form) = form_is_act form
 
 -- a statement that holds no other and completes
 abbrev pub is_single : PlainStmt → Bool

@@ -1,4 +1,4 @@
--- When a node of a body is refused, told of what was found of its parts.
+-- When a node of a body is refused, by what was found of its parts.
 use Rattle.std.specs.Prelude.{ℕ, List, Bool, true, false, not, ◌&&◌, ◌||◌, cond, IsTrue, Option, Some, None, Result, Ok, Err}
 use Rattle.dpj_base.specs.declared.place.Place.{Place}
 use Rattle.dpj_base.specs.declared.refusal.Kind.{Kind}
@@ -20,7 +20,7 @@ use Rattle.dpj_check.specs.declared.node.Around.{Around}
 use Rattle.dpj_check.specs.declared.leaving.Marks.{Marks}
 use Rattle.dpj_check.specs.declared.leaving.Marks.TheVariants as marks
 
--- the fault that is told at a place, if there is one
+-- the fault that is reported at a place, if there is one
 abbrev pub told_at : Place → Option Kind → Result (Unit {0}) Stop
 told_at place None = Ok tt
 told_at place (Some k) = Err (refusal_at k place)
@@ -29,10 +29,11 @@ abbrev pub has_value : MethodResult → Bool
 has_value (given.Value ty) = true
 has_value r = false
 
--- behind a body: one with a result completes, or its effects aren't covered by the summary
-abbrev pub method_fault : Bool → Bool → Bool → Option Kind
-method_fault has_result completes covered =
-    cond (has_result && completes) (Some kind.Return) (cond covered None (Some kind.Summary))
+-- after a body: one with a result completes, or its effects aren't covered by the summary, or it has more formals than
+-- get a slot
+abbrev pub method_fault : Bool → Bool → Bool → Bool → Option Kind
+method_fault has_result completes covered has_slots =
+    cond (has_result && completes) (Some kind.Return) (cond covered (cond has_slots None (Some kind.TooLong)) (Some kind.Summary))
 
 -- a `return` stands in a branch or an atomic block, or has no value in a method with a result, or one in another
 abbrev pub is_misplaced : Around → Bool → Bool
@@ -49,9 +50,9 @@ AssignsOuter s = (x : ℕ) × IsTrue (stmt_assigns x s)
 abbrev pub interference : Bool → Kind
 interference nd = cond nd kind.InterferesNd kind.Interferes
 
--- behind an nd construct marks are kept, and behind any other they are dropped
-abbrev pub marks_behind : Bool → Marks
-marks_behind nd = cond nd marks.Kept marks.Dropped
+-- after an nd construct marks are kept, and after any other they are dropped
+abbrev pub marks_after : Bool → Marks
+marks_after nd = cond nd marks.Kept marks.Dropped
 
 -- a value may be returned: it fits the result of the method, or where the method has none it is a value at all
 abbrev pub Returned : List Super → Bool → Option MethodRow → Option PlainType → Type 0
@@ -62,6 +63,6 @@ Returned supers false row value = IsTrue (may_be is_value value)
 -- what is wrong with what is cut into parts: it is no array, or one with an index name, or its path isn't fully
 -- specified
 abbrev pub whole_fault : PlainType → Option Kind
-whole_fault (array elem rpl None) = cond (fully_specified rpl) None (Some kind.RegionArgs)
-whole_fault (array elem rpl (Some i)) = Some kind.Type
+whole_fault (array elem rpl false) = cond (fully_specified rpl) None (Some kind.RegionArgs)
+whole_fault (array elem rpl true) = Some kind.Type
 whole_fault t = Some kind.Type

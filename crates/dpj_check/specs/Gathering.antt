@@ -5,26 +5,27 @@ use Rattle.dpj_base.specs.declared.array_part.PartUse.{PartUse}
 use Rattle.dpj_base.specs.Effects.{gathered, all_marked}
 use Rattle.dpj_parts.specs.Uses.{use_effect, is_use_of}
 use Rattle.dpj_exprs.specs.declared.found.Found.{Found}
-use Rattle.dpj_check.specs.Leaving.{Leave, left_effect}
+use Rattle.dpj_check.specs.declared.leaving.Leaving.{Leaving}
+use Rattle.dpj_check.specs.Leaving.{left_effect}
 
 abbrev pub before : Option Effect → List Effect → List Effect
 before None es = es
 before (Some e) es = e ∷ es
 
--- what is left of each effect behind a scope
-abbrev pub all_left : Leave → List Effect → List Effect
-all_left leave [] = []
-all_left leave (e ∷ es) = before (left_effect leave e) (all_left leave es)
+-- what is left of each effect after a scope
+abbrev pub all_left : Leaving → List Effect → List Effect
+all_left leaving [] = []
+all_left leaving (e ∷ es) = before (left_effect leaving e) (all_left leaving es)
 
--- with what was found of a piece of the text, as it is behind the piece
-abbrev pub taken_in : Leave → Found → Found → Found
-taken_in leave outer inner = record {
-  effects = gathered outer.effects (all_left leave inner.effects);
+-- with what was found of a piece of the text, as it is after the piece
+abbrev pub taken_in : Leaving → Found → Found → Found
+taken_in leaving outer inner = record {
+  effects = gathered outer.effects (all_left leaving inner.effects);
   uses = outer.uses ++ inner.uses;
   reaches_nd = outer.reaches_nd || inner.reaches_nd;
 }
 
--- effects, and behind them the uses of parts as effects, each once
+-- effects, and after them the uses of parts as effects, each once
 abbrev pub with_uses : List Effect → List PartUse → List Effect
 with_uses es uses = gathered es (gathered [] (map use_effect uses))
 
@@ -40,7 +41,7 @@ of_view view u = record u { view = view }
 abbrev pub moved : ℕ → ℕ → PartUse → PartUse
 moved view outer u = cond (is_use_of view u) (of_view outer u) u
 
--- behind a `foreach_parts` the uses of its part are effects, or uses of the part that it is of
+-- after a `foreach_parts` the uses of its part are effects, or uses of the part that it is of
 abbrev pub handed_on : ℕ → Option ℕ → Found → Found
 handed_on view None found = record found {
   effects = with_uses found.effects (filter (is_use_of view) found.uses);

@@ -28,7 +28,7 @@ MayFollow complete (more_stmts s ss) = IsTrue complete
 -- `foreach_parts` assigns no local that is declared outside of it; an atomic block holds no nd construct
 abbrev mutual
   pub Keeps : Around → PlainStmt → Type 0
-  Keeps around (statement node place form) = FormKeeps around form
+  Keeps around (statement place form) = FormKeeps around form
 
   pub FormKeeps : Around → StmtForm → Type 0
   FormKeeps around (block all) = AllKeep around all

@@ -1,5 +1,5 @@
 -- The bodies of methods and constructors, class by class and member by member in the order of the text.
-use Rattle.std.specs.Prelude.{◌≡◌, ℕ, suc, ◌+◌, Bool, true, false, List, [], ◌∷◌, ◌++◌, map, fold, length, take, codes, Option, option_map}
+use Rattle.std.specs.Prelude.{◌≡◌, ℕ, suc, ◌+◌, Bool, true, false, List, [], ◌∷◌, ◌++◌, map, length, take, codes, Option, option_map}
 use Rattle.std.specs.Option.{option_map_or}
 use Rattle.dpj_base.specs.declared.effect.Effect.{Effect}
 use Rattle.dpj_base.specs.declared.refusal.Refusal.{Refusal}
@@ -21,14 +21,13 @@ use Rattle.dpj_classes.specs.declared.rows.MethodRow.{MethodRow}
 use Rattle.dpj_classes.specs.declared.table.Table.{Table}
 use Rattle.dpj_classes.specs.Table.{headers_of, numbered}
 use Rattle.dpj_exprs.specs.declared.env.Env.{Env}
-use Rattle.dpj_exprs.specs.declared.env.LocalRow.{LocalRow}
 use Rattle.dpj_check.specs.declared.body.Body.{Body}
-use Rattle.dpj_exprs.specs.Env.{table_of, at_class, at_members, at_method, with_local, IsFresh}
+use Rattle.dpj_exprs.specs.Env.{table_of, at_class, at_members, at_method, IsFresh}
 use Rattle.dpj_check.specs.Checking.{InBlock}
 use Rattle.dpj_check.specs.Completes.{all_complete}
 use Rattle.dpj_check.specs.Deciding.{has_value, method_fault}
 use Rattle.dpj_check.specs.Keeping.{method_around}
-use Rattle.dpj_check.specs.Simple.{local_row}
+use Rattle.dpj_check.specs.Simple.{has_room, local_declared}
 use Rattle.dpj_check.specs.Walks.{Walk, Verdict, passes, refused, judged, nothing_found}
 
 -- of each region parameter, whether it is declared atomic
@@ -43,14 +42,11 @@ class_params table class = atomic_of (params_in (headers_of table) class)
 abbrev pub own_params : Table → ℕ → List Bool
 own_params table method = option_map_or (λ row. atomic_of row.regions) (numbered table method) []
 
--- the formals of a method as locals, where their types are known
-abbrev pub formal_rows : List Formal → List Ty → List LocalRow
-formal_rows [] types = []
-formal_rows (formal ∷ formals) [] = []
-formal_rows (formal ∷ formals) (t ∷ types) = local_row formal.name formal.node t false ∷ formal_rows formals types
-
-abbrev pub all_locals : Env → List LocalRow → Env
-all_locals env rows = fold with_local env rows
+-- the formals of a method are in scope, where their types are known
+abbrev pub formals_declared : Env → List Formal → List Ty → Env
+formals_declared env [] types = env
+formals_declared env (formal ∷ formals) [] = env
+formals_declared env (formal ∷ formals) (t ∷ types) = formals_declared (local_declared env formal.name t false) formals types
 
 -- the types of the formals, and the summary, of the row of a method
 abbrev pub formal_types : Option MethodRow → List Ty
@@ -62,26 +58,27 @@ summary_of row = option_map_or (λ r. r.summary) row []
 -- at the begin of the body of a method of a class: its formals are in scope
 abbrev pub body_begun : Env → ℕ → Method → List (List Effect) → Walk
 body_begun class_env number method blocks = record {
-  env = all_locals (at_method class_env number) (formal_rows method.formals (formal_types (numbered (table_of class_env) number)));
+  env = formals_declared (at_method class_env number) method.formals (formal_types (numbered (table_of class_env) number));
   found = nothing_found;
   blocks = blocks;
 }
 
--- the fault that is told behind the body of a method: it completes and shouldn't, or its effects aren't covered
-abbrev pub method_told : Table → ℕ → Method → List Effect → Option Refusal
-method_told table number method effects =
+-- the fault that is reported after the body of a method
+abbrev pub method_told : Env → ℕ → Method → List Effect → Option Refusal
+method_told class_env number method effects =
     option_map (λ reason. fault reason method.place)
-    (method_fault (has_value method.result) (all_complete (plain_stmts (map plain_stmt method.body))) (set_covers (summary_of (numbered table number)) effects))
+    (method_fault (has_value method.result) (all_complete (plain_stmts (map plain_stmt method.body)))
+    (set_covers (summary_of (numbered (table_of class_env) number)) effects) (has_room (body_begun class_env number method []).env))
 
-abbrev pub method_judged : Table → ℕ → Method → Verdict → Verdict
-method_judged table number method (passes w) = judged (method_told table number method w.found.effects) w
-method_judged table number method (refused refusal) = refused refusal
+abbrev pub method_judged : Env → ℕ → Method → Verdict → Verdict
+method_judged class_env number method (passes w) = judged (method_told class_env number method w.found.effects) w
+method_judged class_env number method (refused refusal) = refused refusal
 
 -- the body of a method or a constructor: its statements, then the method itself
 pub data MethodChecking (class_env : Env) (params : List Bool) (number : ℕ) (method : Method) (blocks : List (List Effect)) : Verdict → Type 0 where
   of_method : {u v : Verdict} →
       InBlock params (method_around (has_value method.result)) (plain_stmts (map plain_stmt method.body)) (body_begun class_env number method blocks) u →
-      method_judged (table_of class_env) number method u ≡ v → MethodChecking class_env params number method blocks v
+      method_judged class_env number method u ≡ v → MethodChecking class_env params number method blocks v
 
 -- the class is entered, which has so many region parameters, or a method of it
 pub record IsIn (start : Env) (class count : ℕ) (body : Body) : Type 0 where

@@ -1,5 +1,5 @@
 -- A statement as a node with the faults of its own that were noted.
-use Rattle.std.specs.Prelude.{ℕ, Bool, cond, Option, Some, None}
+use Rattle.std.specs.Prelude.{Bool, cond, Option, Some, None}
 use Rattle.dpj_base.specs.declared.place.Place.{Place}
 use Rattle.dpj_base.specs.declared.refusal.Kind.{Kind}
 use Rattle.dpj_base.specs.declared.refusal.Kind.TheVariants as kind
@@ -21,15 +21,14 @@ with_found node (Some fault) = with_fault node fault node.place
 abbrev pub with_fault_if : Node → Kind → Bool → Node
 with_fault_if node fault is_there = cond is_there (with_fault node fault node.place) node
 
-abbrev pub without_faults : ℕ → Place → Node
-without_faults number place = record { number = number; place = place; faults = none_by order.Number }
+abbrev pub without_faults : Place → Node
+without_faults place = record { place = place; faults = none_by order.Number }
 
--- a statement behind one that doesn't complete is a fault
-abbrev pub node_at : ℕ → Place → Bool → Node
-node_at number place follows =
-    cond follows (with_fault (without_faults number place) kind.Return place) (without_faults number place)
+-- a statement after one that doesn't complete is a fault
+abbrev pub node_at : Place → Bool → Node
+node_at place follows = cond follows (with_fault (without_faults place) kind.Return place) (without_faults place)
 
--- the fault that is told of a node
+-- the fault that is reported of a node
 abbrev pub fault_of : Node → Option Refusal
 fault_of node = told node.faults
 

@@ -1,5 +1,5 @@
 -- Statements that hold no other, as the rules of the language say: their parts in order, then the node itself.
-use Rattle.std.specs.Prelude.{◌≡◌, ◌↔◌, ℕ, Bool, true, not, ◌||◌, cond, IsTrue, List, [], ◌∷◌, is_some, Option, Some, None}
+use Rattle.std.specs.Prelude.{◌≡◌, ◌↔◌, ◌+◌, ℕ, Bool, true, not, ◌&&◌, ◌||◌, cond, IsTrue, nat_lt, List, [], ◌∷◌, is_some, Option, Some, None}
 use Rattle.std.specs.Option.{option_map_or}
 use Rattle.dpj_base.specs.declared.place.Place.{Place}
 use Rattle.dpj_base.specs.declared.refusal.Kind.{Kind}
@@ -23,7 +23,7 @@ use Rattle.dpj_exprs.specs.declared.env.LocalRow.{LocalRow}
 use Rattle.dpj_exprs.specs.declared.found.Found.{Found}
 use Rattle.dpj_exprs.specs.Answer.{gives}
 use Rattle.dpj_exprs.specs.Answer.{Answer as answer}
-use Rattle.dpj_exprs.specs.Env.{table_of, supers_of, scope_of, local_of, with_region, is_param_name, has_region}
+use Rattle.dpj_exprs.specs.Env.{table_of, supers_of, scope_of, local_of, slots_in, declared_in, with_local, with_part, with_region, is_param_name, has_region}
 use Rattle.dpj_exprs.specs.Targeting.{PlainTarget, Targeting, aims, misses, with_write}
 use Rattle.dpj_exprs.specs.Typed.{may_be, is_int, is_boolean, is_value, FitsAs}
 use Rattle.dpj_exprs.specs.Typing.{Typing}
@@ -31,26 +31,40 @@ use Rattle.dpj_check.specs.declared.node.Around.{Around}
 use Rattle.dpj_check.specs.declared.node.Node.{Node}
 use Rattle.dpj_check.specs.Deciding.{is_misplaced, local_fault, Returned}
 use Rattle.dpj_check.specs.Noting.{with_fault, with_found, with_fault_if, fault_of}
-use Rattle.dpj_check.specs.Walks.{Walk, Verdict, refused, judged, found_so, declaring}
+use Rattle.dpj_check.specs.Walks.{Walk, Verdict, refused, judged, found_so, scope_so}
 
 -- a value of the type may stand where the other is declared, or not
 abbrev pub FitIs : Env → Option PlainType → PlainType → Bool → Type 0
 FitIs env value declared fit = IsTrue fit ↔ FitsAs (supers_of env) value declared
 
--- the type that a declaration names, and the fault that is told of it
+-- the type that a declaration names, and the fault that is reported of it
 abbrev pub declared_type : Env → TypeTree → PlainType
 declared_type env tree = option_map_or (λ t. t) (type_meant (scope_of env) tree) ty.void
 
 abbrev pub declared_told : Env → TypeTree → Option Refusal
 declared_told env tree = parts_told site.Body (none_by order.Number) (type_faults (scope_of env) tree)
 
--- a name that is declared while a local or a formal has it
-abbrev pub with_duplicate : Env → ℕ → Place → Node → Node
-with_duplicate env name place node = cond (is_some (local_of env name)) (with_fault node kind.Duplicate place) node
+-- there is a slot of 32 bits for a further local or part, and a number for a further local region
+abbrev pub has_room : Env → Bool
+has_room env = nat_lt (slots_in env + 4) 4294967295 && nat_lt (declared_in env) 4294967295
 
--- a local that is no part of an array
-abbrev pub local_row : ℕ → ℕ → Ty → Bool → LocalRow
-local_row name var t is_final = record { name = name; var = var; ty = t; is_final = is_final; part = None }
+-- a further local, part of an array or local region is in scope, where there is room for it
+abbrev pub local_declared : Env → ℕ → Ty → Bool → Env
+local_declared env name t is_final = cond (has_room env) (with_local env name t is_final) env
+
+abbrev pub part_declared : Env → ℕ → Ty → Env
+part_declared env name t = cond (has_room env) (with_part env name t) env
+
+abbrev pub region_declared : Env → ℕ → Env
+region_declared env name = cond (has_room env) (with_region env name) env
+
+-- a text that declares more than there is room for is too long
+abbrev pub with_room : Env → Place → Node → Node
+with_room env place node = cond (has_room env) node (with_fault node kind.TooLong place)
+
+-- a local that is declared: its name is that of another local or formal in scope, or there is no room for it
+abbrev pub declaration_noted : Env → ℕ → Place → Node → Node
+declaration_noted env name place node = with_room env place (cond (is_some (local_of env name)) (with_fault node kind.Duplicate place) node)
 
 -- `ty name = value;`: the type, the value, then the declaration
 pub data Declaring (node : Node) (is_final : Bool) (tree : TypeTree) (name : ℕ) (value : PlainExpr) (w : Walk) : Verdict → Type 0 where
@@ -58,15 +72,18 @@ pub data Declaring (node : Node) (is_final : Bool) (tree : TypeTree) (name : ℕ
   value_refused : {refusal : Refusal} →
       declared_told w.env tree ≡ None → Typing w.env value w.found (answer.refused refusal) → Declaring node is_final tree name value w (refused refusal)
   declared : {t : Option PlainType} {g : Found} {fit : Bool} (made : Ty) {v : Verdict} →
-      declared_told w.env tree ≡ None → plain_type made ≡ declared_type w.env tree → Typing w.env value w.found (gives t g) → FitIs w.env t (declared_type w.env tree) fit →
-      judged (fault_of (with_fault_if (with_duplicate w.env name node.place node) kind.Type (not fit))) (declaring (found_so w g) (local_row name node.number made is_final)) ≡ v →
+      declared_told w.env tree ≡ None → plain_type made ≡ declared_type w.env tree →
+      Typing w.env value w.found (gives t g) → FitIs w.env t (declared_type w.env tree) fit →
+      judged (fault_of (with_fault_if (declaration_noted w.env name node.place node) kind.Type (not fit)))
+      (scope_so (found_so w g) (local_declared w.env name made is_final)) ≡ v →
       Declaring node is_final tree name value w v
 
 -- `target = value;` for a local: the value, then the assignment
 pub data AssigningLocal (node : Node) (target : Named) (value : PlainExpr) (w : Walk) : Verdict → Type 0 where
   value_refused : {refusal : Refusal} → Typing w.env value w.found (answer.refused refusal) → AssigningLocal node target value w (refused refusal)
   no_local : {t : Option PlainType} {g : Found} {v : Verdict} →
-      Typing w.env value w.found (gives t g) → local_of w.env target.name ≡ None → judged (fault_of (with_fault node kind.Unknown target.place)) (found_so w g) ≡ v →
+      Typing w.env value w.found (gives t g) → local_of w.env target.name ≡ None →
+      judged (fault_of (with_fault node kind.Unknown target.place)) (found_so w g) ≡ v →
       AssigningLocal node target value w v
   assigned : {t : Option PlainType} {g : Found} {row : LocalRow} {fit : Bool} {v : Verdict} →
       Typing w.env value w.found (gives t g) → local_of w.env target.name ≡ Some row → FitIs w.env t (plain_type row.ty) fit →
@@ -121,15 +138,17 @@ pub data Printing (node : Node) (value : PlainExpr) (w : Walk) : Verdict → Typ
 abbrev pub is_region_name : Env → ℕ → Bool
 is_region_name env name = (is_param_name env name || has_region env name) || is_some (region_of (headers_of (table_of env)) env.class name)
 
--- `region name, ..;`: each name comes into scope behind the one before it
+-- `region name, ..;`: each name comes into scope after the one before it
+abbrev pub region_noted : Env → Named → Node → Node
+region_noted env named node = with_room env named.place (cond (is_region_name env named.name) (with_fault node kind.Duplicate named.place) node)
+
 abbrev pub regions_noted : Env → Node → List Named → Node
 regions_noted env node [] = node
-regions_noted env node (named ∷ names) =
-    regions_noted (with_region env named.name) (cond (is_region_name env named.name) (with_fault node kind.Duplicate named.place) node) names
+regions_noted env node (named ∷ names) = regions_noted (region_declared env named.name) (region_noted env named node) names
 
 abbrev pub with_regions : Env → List Named → Env
 with_regions env [] = env
-with_regions env (named ∷ names) = with_regions (with_region env named.name) names
+with_regions env (named ∷ names) = with_regions (region_declared env named.name) names
 
 abbrev pub regions_declared : Node → List Named → Walk → Verdict
-regions_declared node names w = judged (fault_of (regions_noted w.env node names)) (record w { env = with_regions w.env names })
+regions_declared node names w = judged (fault_of (regions_noted w.env node names)) (scope_so w (with_regions w.env names))

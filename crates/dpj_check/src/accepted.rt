@@ -1,4 +1,4 @@
-use dpj_base::{Items, Ty};
+use dpj_base::Items;
 use dpj_effects::EffectSet;
 
 /// What the checker found out about a program that it accepts.
@@ -6,8 +6,6 @@ use dpj_effects::EffectSet;
 pub struct Accepted {
     /// Whether the text holds a `cobegin_nd` or a `foreach_nd`.
     pub uses_nd: bool,
-    /// The type of each expression, by its node number. A node that is no expression has none.
-    pub types: Items<Option<Ty>>,
-    /// The effects with which each atomic block is entered, in the order of node numbers.
+    /// The effects with which each atomic block is entered, in the order in which the blocks end.
     pub blocks: Items<EffectSet>,
 }

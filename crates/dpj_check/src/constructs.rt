@@ -1,9 +1,9 @@
-ghost use Rattle.std.specs.Prelude.{◌≡◌, ◌↔◌, ◌<◌, ◌%◌, ◌||◌, None, false, map, IsTrue, IfOk, OnOk};
+ghost use Rattle.std.specs.Prelude.{◌≡◌, ◌↔◌, ◌||◌, None, false, map, IsTrue, IfOk, OnOk};
 ghost use Rattle.dpj_tree.specs.Nd.{holds_nd, some_holds_nd};
 ghost use Rattle.dpj_tree.specs.Plain.{plain_stmt, plain_stmts};
 ghost use Rattle.dpj_tree.specs.Plain.{StmtForm as form};
-ghost use Rattle.dpj_check.specs.Checking.{Checking, Forking, Turning};
-ghost use Rattle.dpj_check.specs.Deciding.{interference, marks_behind, AssignsOuter};
+ghost use Rattle.dpj_check.specs.Checking.{Checking, Forking, Iterating};
+ghost use Rattle.dpj_check.specs.Deciding.{interference, marks_after, AssignsOuter};
 ghost use Rattle.dpj_check.specs.Keeping.{inside, Keeps, AllKeep, BranchesKeep};
 ghost use Rattle.dpj_check.specs.Noting.{fault_of};
 ghost use Rattle.dpj_check.specs.Walks.{home_of, walk_of, Says};
@@ -11,7 +11,7 @@ ghost use Rattle.dpj_check.specs.Walks.{home_of, walk_of, Says};
 use crate::body::Body;
 use crate::gathered::{all_effects, entered, take_in};
 use crate::leaving::{Leaving, Marks};
-use crate::meet::{branches_pass, turns_pass};
+use crate::meet::{branches_pass, iterations_interfere};
 use crate::node::{Around, Node};
 use crate::statements::{block, scoped};
 use dpj_base::{Items, Kind, NoMemory, Stop};
@@ -31,9 +31,9 @@ fn interference(nd: bool) -> Kind
     }
 }
 
-/// Behind an nd construct marks are kept, and behind any other they are dropped.
-fn marks_behind(nd: bool) -> Marks
-    ensures { result ≡ marks_behind nd }
+/// After an nd construct marks are kept, and after any other they are dropped.
+fn marks_after(nd: bool) -> Marks
+    ensures { result ≡ marks_after nd }
 {
     if nd { Marks::Kept } else { Marks::Dropped }
 }
@@ -57,13 +57,13 @@ pub fn cobegin(
     let mut node = node;
     let mut effects = Items::new(body.alloc);
     let mut locals = Items::new(body.alloc);
-    let leaving = Leaving::nothing(body.alloc, marks_behind(nd));
     for branch in branches {
+        let leaving = Leaving::from_here(&body.env, marks_after(nd));
         let mut inner = Found::new(body.alloc);
         scoped(body, around.inside(), branch, &mut inner)?;
         locals.push(touched(body.alloc, branch)?)?;
         effects.push(all_effects(body.alloc, &inner)?)?;
-        take_in(body.alloc, out, inner, &leaving)?;
+        take_in(body.alloc, out, inner, leaving)?;
     }
     out.reaches_nd = out.reaches_nd || nd;
     node.note_if(Kind::Assign, has_clash(body.alloc, locals.as_slice())?);
@@ -73,7 +73,7 @@ pub fn cobegin(
     node.settle()
 }
 
-/// `foreach (int var in ..) turn`, behind the start and the count.
+/// `foreach (int var in ..) iteration`, after the start and the count.
 #[cycle(statements)]
 pub fn foreach(
     body: &mut Body,
@@ -81,32 +81,32 @@ pub fn foreach(
     node: Node,
     nd: bool,
     var: Named,
-    turn: &Stmt,
+    iteration: &Stmt,
     out: &mut Found,
 ) -> Result<(), Stop>
     ensures clean { OnOk result (fault_of node ≡ None) }
-    ensures keeps { OnOk result (Keeps (inside around) (plain_stmt turn.now)) }
-    ensures locals { OnOk result (¬ AssignsOuter (plain_stmt turn.now)) }
-    ensures nd { OnOk result (IsTrue (out.old.reaches_nd || (nd || holds_nd (plain_stmt turn.now))) → IsTrue out.new.reaches_nd) }
+    ensures keeps { OnOk result (Keeps (inside around) (plain_stmt iteration.now)) }
+    ensures locals { OnOk result (¬ AssignsOuter (plain_stmt iteration.now)) }
+    ensures nd { OnOk result (IsTrue (out.old.reaches_nd || (nd || holds_nd (plain_stmt iteration.now))) → IsTrue out.new.reaches_nd) }
     ensures home { OnOk result (home_of body.new ≡ home_of body.old) }
-    ensures checks { Says result (walk_of body.new out.new) (Turning body.old.atomic_params around node nd var (plain_stmt turn.now) (walk_of body.old out.old)) }
+    ensures checks { Says result (walk_of body.new out.new) (Iterating body.old.atomic_params around node nd var (plain_stmt iteration.now) (walk_of body.old out.old)) }
 {
     let mut node = node;
-    body.note_duplicate(var.name, var.place, &mut node);
-    let number = variable(node.number);
+    body.note_declaration(var.name, var.place, &mut node);
+    let slot = body.env.slots();
+    let leaving = Leaving::from_here(&body.env, marks_after(nd));
     let mut inner = Found::new(body.alloc);
     let scope = body.env.mark();
-    body.declare_variable(var.name, number)?;
-    scoped(body, around.inside(), turn, &mut inner)?;
+    body.declare_variable(var)?;
+    scoped(body, around.inside(), iteration, &mut inner)?;
     body.env.leave(scope);
     inner.reaches_nd = inner.reaches_nd || nd;
-    node.note_if(Kind::Assign, assigns_outer(body.alloc, turn)?);
+    node.note_if(Kind::Assign, assigns_outer(body.alloc, iteration)?);
     node.settle()?;
-    let passes = turns_pass(body, nd, &inner, number)?;
-    node.note_if(interference(nd), !passes);
+    let clash = iterations_interfere(body, nd, &inner, slot)?;
+    node.note_if(interference(nd), clash);
     node.settle()?;
-    let leaving = Leaving::variable(body.alloc, number, marks_behind(nd))?;
-    Ok(take_in(body.alloc, out, inner, &leaving)?)
+    Ok(take_in(body.alloc, out, inner, leaving)?)
 }
 
 /// Whether a statement assigns a local that is declared outside of it.
@@ -114,14 +114,6 @@ pub fn assigns_outer(alloc: Global, stmt: &Stmt) -> Result<bool, NoMemory>
     ensures { IfOk result (λ assigns. IsTrue assigns ↔ AssignsOuter (plain_stmt stmt.now)) }
 {
     Ok(!touched(alloc, stmt)?.writes.is_empty())
-}
-
-/// The number of the variable of a loop: that of its construct's node.
-pub fn variable(node: u32) -> u32
-    ensures small { result < 2147483648 }
-    ensures value { result ≡ node % 2147483648 }
-{
-    node % 2147483648
 }
 
 /// `atomic { .. }`
@@ -141,11 +133,11 @@ pub fn atomic(
     ensures checks { Says result (walk_of body.new out.new) (Checking body.old.atomic_params around node (form.atomic (plain_stmts (map plain_stmt stmts.now))) (walk_of body.old out.old)) }
 {
     let mut node = node;
+    let leaving = Leaving::from_here(&body.env, Marks::Set);
     let mut inner = Found::new(body.alloc);
     block(body, around.inside(), stmts, &mut inner)?;
     node.note_if(Kind::AtomicBody, inner.reaches_nd);
     node.settle()?;
-    body.known.blocks.push(entered(body.alloc, &inner)?)?;
-    let leaving = Leaving::nothing(body.alloc, Marks::Set);
-    Ok(take_in(body.alloc, out, inner, &leaving)?)
+    body.blocks.push(entered(body.alloc, &inner)?)?;
+    Ok(take_in(body.alloc, out, inner, leaving)?)
 }

@@ -1,9 +1,8 @@
-//! What is found of the statements of a block or of a branch, as it is behind them.
+//! What is found of the statements of a block or of a branch, as it is after them.
 ghost use Rattle.std.specs.Prelude.{◌≡◌, ◌||◌, ◌++◌, filter, map, not, true, false, IfOk, OnOk};
 ghost use Rattle.dpj_base.specs.Effects.{gathered};
 ghost use Rattle.dpj_parts.specs.Uses.{is_use_of};
 ghost use Rattle.dpj_check.specs.Gathering.{all_left, entered, handed_on, moved, of_view, taken_in, with_uses};
-ghost use Rattle.dpj_check.specs.Leaving.{Leave, IsLike, leave_of};
 
 use crate::leaving::Leaving;
 use dpj_base::{Items, NoMemory, PartUse, Plain};
@@ -12,15 +11,14 @@ use dpj_exprs::Found;
 use dpj_parts::as_effects;
 use std::alloc::Global;
 
-/// Adds what was found of a piece of the text, as it is behind the piece.
+/// Adds what was found of a piece of the text, as it is after the piece.
 pub fn take_in(
     alloc: Global,
     out: &mut Found,
     inner: Found,
-    leaving: &Leaving,
+    leaving: Leaving,
 ) -> Result<(), NoMemory>
-    ensures nd { OnOk result (out.new.reaches_nd ≡ (out.old.reaches_nd || inner.reaches_nd)) }
-    ensures whole { (leave : Leave) → IsLike leaving.now leave → OnOk result (out.new ≡ taken_in leave out.old inner) }
+    ensures { OnOk result (out.new ≡ taken_in leaving out.old inner) }
 {
     let Found {
         effects,
@@ -119,14 +117,14 @@ fn move_use(part_use: PartUse, view: u32, outer: u32) -> PartUse
     }
 }
 
-/// Adds what is left of effects behind a scope.
+/// Adds what is left of effects after a scope.
 fn add_left(
     alloc: Global,
     set: &mut EffectSet,
     effects: &EffectSet,
-    leaving: &Leaving,
+    leaving: Leaving,
 ) -> Result<(), NoMemory>
-    ensures { OnOk result (set.new ≡ gathered set.old (all_left (leave_of leaving.now) effects.now)) }
+    ensures { OnOk result (set.new ≡ gathered set.old (all_left leaving effects.now)) }
 {
     for e in effects.as_slice() {
         if let Some(e) = leaving.left_of(alloc, e)? {
@@ -149,8 +147,8 @@ fn add_uses(uses: &mut Items<PartUse>, more: Items<PartUse>) -> Result<(), NoMem
 fn of_view(part_use: PartUse, view: u32) -> PartUse
     ensures { result ≡ of_view view part_use }
 {
-    let PartUse { rpl, write, .. } = part_use;
-    PartUse { view, rpl, write }
+    let PartUse { rpl, access, .. } = part_use;
+    PartUse { view, rpl, access }
 }
 
 fn with_uses(alloc: Global, set: EffectSet, uses: &[PartUse]) -> Result<EffectSet, NoMemory>

@@ -1,11 +1,9 @@
-ghost use Rattle.std.specs.Prelude.{◌≡◌, map, IfOk};
-ghost use Rattle.dpj_tree.specs.Plain.{plain_stmt, plain_stmts};
-ghost use Rattle.dpj_check.specs.Leaving.{left_elem, left_path, left_mark, begins_inside, left_effect, leaves, leave_of, IsLike, nothing_leaves, variable_leaves, block_leaves, declares_variable};
+ghost use Rattle.std.specs.Prelude.{◌≡◌, IfOk};
+ghost use Rattle.dpj_check.specs.Leaving.{left_elem, left_path, left_mark, begins_inside, left_effect, from_here};
 
-use dpj_base::{Effect, Elem, Elems, NoMemory, Rpl};
-use dpj_tree::{BaseTree, Stmt, StmtKind};
+use dpj_base::{Effect, Elem, Elems, Index, NoMemory, Rpl};
+use dpj_exprs::Env;
 use std::alloc::Global;
-use std::collections::BTreeSet;
 
 /// What becomes of the marks of effects.
 #[derive(Clone, Copy, Debug, PartialEq, Eq)]
@@ -15,62 +13,39 @@ pub enum Marks {
     Set,
 }
 
-/// What goes out of scope at the end of a block or of a branch.
-#[derive(Drop)]
+/// What goes out of scope at the end of a block, of a branch or of an iteration. Later declarations have greater
+/// numbers.
+#[derive(Clone, Copy, Debug, PartialEq, Eq)]
 pub struct Leaving {
-    /// The numbers of the index variables.
-    pub variables: BTreeSet<u32>,
-    /// The number of the first declaration of a local region there. Later ones have greater numbers.
+    /// The first slot of the locals that go out of scope.
+    pub first_slot: u32,
+    /// The number of the first local region that does.
     pub first_region: u32,
     pub marks: Marks,
 }
 
 impl Leaving {
-    /// Nothing goes out of scope.
-    pub fn nothing(alloc: Global, marks: Marks) -> Leaving
-        ensures { IsLike result (nothing_leaves marks) }
+    /// What is declared from here on goes out of scope.
+    pub fn from_here(env: &Env, marks: Marks) -> Leaving
+        ensures { result ≡ from_here env.now marks }
     {
         Leaving {
-            variables: BTreeSet::new(alloc),
-            first_region: u32::MAX,
+            first_slot: env.slots(),
+            first_region: env.regions_declared(),
             marks,
         }
     }
 
-    /// An index variable goes out of scope.
-    pub fn variable(alloc: Global, number: u32, marks: Marks) -> Result<Leaving, NoMemory>
-        ensures { IfOk result (λ leaving. IsLike leaving (variable_leaves number marks)) }
-    {
-        let mut leaving = Leaving::nothing(alloc, marks);
-        leaving.variables.insert(number)?;
-        Ok(leaving)
-    }
-
-    /// What statements declare goes out of scope. `first_region` is the number of the first local region among
-    /// them.
-    pub fn block(alloc: Global, stmts: &[Stmt], first_region: u32) -> Result<Leaving, NoMemory>
-        ensures { IfOk result (λ leaving. IsLike leaving (block_leaves (plain_stmts (map plain_stmt stmts.now)) first_region)) }
-    {
-        let mut leaving = Leaving::nothing(alloc, Marks::Kept);
-        leaving.first_region = first_region;
-        for stmt in stmts {
-            if declares_variable(stmt) {
-                leaving.variables.insert(stmt.node)?;
-            }
-        }
-        Ok(leaving)
-    }
-
-    /// What is left of an effect behind the scope: `[?]` for each index variable, and nothing of an effect on a
+    /// What is left of an effect after the scope: `[?]` for each index variable, and nothing of an effect on a
     /// local region.
     pub fn left_of(&self, alloc: Global, e: &Effect) -> Result<Option<Effect>, NoMemory>
-        ensures { IfOk result (λ left. left ≡ left_effect (leave_of self.now) e.now) }
+        ensures { IfOk result (λ left. left ≡ left_effect self.now e.now) }
     {
         if self.begins_inside(e.rpl.elems.as_slice()) {
             return Ok(None);
         }
         Ok(Some(Effect {
-            write: e.write,
+            access: e.access,
             atomic: self.mark(e.atomic),
             rpl: self.left_path(alloc, &e.rpl)?,
         }))
@@ -96,7 +71,7 @@ impl Leaving {
     }
 
     fn left_path(&self, alloc: Global, rpl: &Rpl) -> Result<Rpl, NoMemory>
-        ensures { IfOk result (λ left. left ≡ left_path (leaves self.now) rpl.now) }
+        ensures { IfOk result (λ left. left ≡ left_path self.now.first_slot rpl.now) }
     {
         let mut elems = Elems::new(alloc);
         for elem in rpl.elems.as_slice() {
@@ -109,23 +84,11 @@ impl Leaving {
     }
 
     fn left_elem(&self, elem: Elem) -> Elem
-        ensures { result ≡ left_elem (leaves self.now) elem }
+        ensures { result ≡ left_elem self.now.first_slot elem }
     {
         match elem {
-            Elem::Var(v) if self.variables.contains(&v) => Elem::Any,
+            Elem::At(Index::Variable(slot)) if slot >= self.first_slot => Elem::Any,
             other => other,
         }
-    }
-}
-
-/// Whether the statement declares a final int, which may stand in an index.
-fn declares_variable(stmt: &Stmt) -> bool
-    ensures { result ≡ declares_variable (plain_stmt stmt.now) }
-{
-    match &stmt.kind {
-        StmtKind::Declare { is_final, ty, .. } => {
-            *is_final && ty.suffixes.is_empty() && matches!(ty.base, BaseTree::Int)
-        }
-        _ => false,
     }
 }

@@ -1,10 +1,9 @@
 //! The checker of bodies: whether every method and constructor of a program keeps the rules of types, of effects
 //! and of what may run side by side.
 //!
-//! `check` goes through the bodies in the order of the text and tells the fault of the first node, in post-order,
-//! that has one; of several faults of one node it tells the one with the lowest number. Of a program that it
-//! accepts it says what the compiler needs: the type of each expression and the effects with which each atomic
-//! block is entered.
+//! `check` goes through the bodies in the order of the text and reports the fault of the first node, in post-order,
+//! that has one; of several faults of one node it reports the one with the lowest number. Of a program that it
+//! accepts it says with which effects each atomic block is entered.
 //!
 //! A body is walked by recursion, as deep as its statements are nested. The effects of statements that follow each
 //! other are gathered into one set; a branch and a block have a set of their own, which goes into the outer one

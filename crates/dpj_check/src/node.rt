@@ -38,7 +38,6 @@ impl Around {
 /// A statement as a node of the tree, with the faults of its own that were noted so far.
 #[derive(Drop)]
 pub struct Node {
-    pub number: u32,
     pub place: Place,
     faults: Faults,
 }
@@ -48,14 +47,13 @@ impl Node {
     ghost use Rattle.dpj_headers.specs.Faults.{settled};
     ghost use Rattle.dpj_check.specs.Noting.{fault_of, node_at, settled_node, with_fault, with_fault_if, with_found};
 
-    /// A statement behind one that doesn't complete is a fault.
+    /// A statement after one that doesn't complete is a fault.
     #[tactic(auto, using(crate::proofs::Noting::noted_told))]
     pub fn of(stmt: &Stmt, follows: bool) -> Node
-        ensures node { result ≡ node_at stmt.now.node stmt.now.place follows }
+        ensures node { result ≡ node_at stmt.now.place follows }
         ensures clean { fault_of result ≡ None → follows ≡ false }
     {
         let mut node = Node {
-            number: stmt.node,
             place: stmt.place,
             faults: Faults::by_number(),
         };
@@ -96,7 +94,7 @@ impl Node {
         self.faults.note(kind, place);
     }
 
-    /// Tells the fault that comes first, if there is one.
+    /// Reports the fault that comes first, if there is one.
     pub fn settle(&mut self) -> Result<(), Stop>
         ensures result { result ≡ settled (fault_of self.old) }
         ensures clean { OnOk result (fault_of self.old ≡ None) }

@@ -4,16 +4,18 @@ ghost use Rattle.dpj_base.specs.Types.{plain_type};
 ghost use Rattle.dpj_tree.specs.Nd.{holds_nd};
 ghost use Rattle.dpj_tree.specs.Plain.{plain_expr, plain_stmt};
 ghost use Rattle.dpj_exprs.specs.Answer.{refused};
+ghost use Rattle.dpj_exprs.specs.Answer.{Says as Answers};
 ghost use Rattle.dpj_exprs.specs.Env.{part_of};
 ghost use Rattle.dpj_exprs.specs.Typing.{Typing};
 ghost use Rattle.dpj_check.specs.Checking.{opened, not_opened, Cutting, Opening, Parting};
 ghost use Rattle.dpj_check.specs.Deciding.{whole_fault, AssignsOuter};
 ghost use Rattle.dpj_check.specs.Keeping.{inside, Keeps};
 ghost use Rattle.dpj_check.specs.Noting.{fault_of};
-ghost use Rattle.dpj_check.specs.Walks.{home_of, walk_of, with_types, Says};
+ghost use Rattle.dpj_check.specs.Simple.{has_room};
+ghost use Rattle.dpj_check.specs.Walks.{home_of, walk_of, Says};
 
 use crate::body::Body;
-use crate::constructs::{assigns_outer, variable};
+use crate::constructs::assigns_outer;
 use crate::gathered::{hand_on_uses, take_in};
 use crate::leaving::{Leaving, Marks};
 use crate::meet::parts_pass;
@@ -28,12 +30,12 @@ use dpj_tree::{Expr, Named, Stmt};
 #[derive(Drop)]
 struct Whole {
     ty: Ty,
-    /// It is itself a part: the number of its view.
-    view: Option<u32>,
+    /// It is itself a part, in this slot.
+    part: Option<u32>,
     fault: Option<Kind>,
 }
 
-/// `foreach_parts (view, int var in array, count) turn`
+/// `foreach_parts (view, int var in array, count) iteration`
 #[cycle(statements)]
 pub fn foreach_parts(
     body: &mut Body,
@@ -41,48 +43,48 @@ pub fn foreach_parts(
     node: Node,
     names: (Named, Named),
     range: (&Expr, &Expr),
-    turn: &Stmt,
+    iteration: &Stmt,
     out: &mut Found,
 ) -> Result<(), Stop>
     ensures clean { OnOk result (fault_of node ≡ None) }
-    ensures keeps { OnOk result (Keeps (inside around) (plain_stmt turn.now)) }
-    ensures locals { OnOk result (¬ AssignsOuter (plain_stmt turn.now)) }
-    ensures nd { OnOk result (IsTrue (out.old.reaches_nd || holds_nd (plain_stmt turn.now)) → IsTrue out.new.reaches_nd) }
+    ensures keeps { OnOk result (Keeps (inside around) (plain_stmt iteration.now)) }
+    ensures locals { OnOk result (¬ AssignsOuter (plain_stmt iteration.now)) }
+    ensures nd { OnOk result (IsTrue (out.old.reaches_nd || holds_nd (plain_stmt iteration.now)) → IsTrue out.new.reaches_nd) }
     ensures home { OnOk result (home_of body.new ≡ home_of body.old) }
-    ensures checks { Says result (walk_of body.new out.new) (Parting body.old.atomic_params around node names.0 names.1 (plain_expr range.entry.0.now) (plain_expr range.entry.1.now) (plain_stmt turn.now) (walk_of body.old out.old)) }
+    ensures checks { Says result (walk_of body.new out.new) (Parting body.old.atomic_params around node names.0 names.1 (plain_expr range.entry.0.now) (plain_expr range.entry.1.now) (plain_stmt iteration.now) (walk_of body.old out.old)) }
 {
     let mut node = node;
-    let number = variable(node.number);
+    let part = body.env.slots();
+    let leaving = Leaving::from_here(&body.env, Marks::Dropped);
     let mut inner = Found::new(body.alloc);
     let scope = body.env.mark();
-    let outer = open(body, &mut node, number, names, range, out)?;
-    scoped(body, around.inside(), turn, &mut inner)?;
+    let outer = open(body, &mut node, names, range, out)?;
+    scoped(body, around.inside(), iteration, &mut inner)?;
     body.env.leave(scope);
-    node.note_if(Kind::Assign, assigns_outer(body.alloc, turn)?);
+    node.note_if(Kind::Assign, assigns_outer(body.alloc, iteration)?);
     node.settle()?;
-    let passes = parts_pass(body, &inner, number)?;
+    // The part has four slots, and the variable the one after them.
+    let passes = parts_pass(body, &inner, part, part + 4)?;
     node.note_if(Kind::Interferes, !passes);
     node.settle()?;
-    let inner = hand_on_uses(body.alloc, inner, number, outer)?;
-    let leaving = Leaving::variable(body.alloc, number, Marks::Dropped)?;
-    Ok(take_in(body.alloc, out, inner, &leaving)?)
+    let inner = hand_on_uses(body.alloc, inner, part, outer)?;
+    Ok(take_in(body.alloc, out, inner, leaving)?)
 }
 
-/// Reads the array and the count, and puts the part and the variable in scope. Gives the view of the part that is
+/// Reads the array and the count, and puts the part and the variable in scope. Gives the slot of the part that is
 /// cut, where it is one.
 fn open(
     body: &mut Body,
     node: &mut Node,
-    number: u32,
     names: (Named, Named),
     range: (&Expr, &Expr),
     out: &mut Found,
 ) -> Result<Option<u32>, Stop>
     ensures clean { OnOk result (fault_of node.new ≡ None → fault_of node.old ≡ None) }
+    ensures room { OnOk result (fault_of node.new ≡ None → has_room body.old.env ≡ true) }
     ensures nd { OnOk result (IsTrue out.old.reaches_nd → IsTrue out.new.reaches_nd) }
     ensures home { OnOk result (home_of body.new ≡ home_of body.old) }
-    ensures ok { IfOk result (λ outer. Opening node.old number names.0 names.1 (plain_expr range.entry.0.now) (plain_expr range.entry.1.now) (walk_of body.old out.old) (opened outer node.new (walk_of body.new out.new))) }
-    ensures fault { IfErr result (λ stop. IfRefused stop (λ refusal. Opening node.old number names.0 names.1 (plain_expr range.entry.0.now) (plain_expr range.entry.1.now) (walk_of body.old out.old) (not_opened refusal))) }
+    ensures opening { Answers result (λ outer. opened outer node.new (walk_of body.new out.new)) not_opened (Opening node.old names.0 names.1 (plain_expr range.entry.0.now) (plain_expr range.entry.1.now) (walk_of body.old out.old)) }
 {
     let (view, var) = names;
     let (array, count) = range;
@@ -91,23 +93,22 @@ fn open(
     let _count = body.int(count, out, node)?;
     let Whole {
         ty,
-        view: outer,
+        part: outer,
         ..
     } = whole;
-    body.note_duplicate(view.name, view.place, node);
-    body.declare_part(view.name, number, ty)?;
-    body.note_duplicate(var.name, var.place, node);
-    body.declare_variable(var.name, number)?;
+    body.note_declaration(view.name, view.place, node);
+    body.declare_part(view.name, ty)?;
+    body.note_declaration(var.name, var.place, node);
+    body.declare_variable(var)?;
     Ok(outer)
 }
 
 /// What the array of a `foreach_parts` is. A part in its place is no use of that part.
-fn whole_of(body: &mut Body, array: &Expr, out: &mut Found) -> Result<Whole, Stop>
+fn whole_of(body: &Body, array: &Expr, out: &mut Found) -> Result<Whole, Stop>
     ensures nd { OnOk result (IsTrue out.old.reaches_nd → IsTrue out.new.reaches_nd) }
-    ensures ok { IfOk result (λ whole. Cutting body.old.env (plain_expr array.now) out.old (plain_type whole.ty) whole.view whole.fault out.new) }
-    ensures unnamed { IfErr result (λ stop. IfRefused stop (λ refusal. part_of body.old.env (plain_expr array.now) ≡ None)) }
-    ensures fault { IfErr result (λ stop. IfRefused stop (λ refusal. Typing body.old.env (plain_expr array.now) out.old (refused refusal))) }
-    ensures same { body.new ≡ with_types body.old body.new.known.types }
+    ensures ok { IfOk result (λ whole. Cutting body.now.env (plain_expr array.now) out.old (plain_type whole.ty) whole.part whole.fault out.new) }
+    ensures unnamed { IfErr result (λ stop. IfRefused stop (λ refusal. part_of body.now.env (plain_expr array.now) ≡ None)) }
+    ensures fault { IfErr result (λ stop. IfRefused stop (λ refusal. Typing body.now.env (plain_expr array.now) out.old (refused refusal))) }
 {
     if let Some(whole) = part_of_part(body, array)? {
         return Ok(whole);
@@ -118,7 +119,7 @@ fn whole_of(body: &mut Body, array: &Expr, out: &mut Found) -> Result<Whole, Sto
     let fault = whole_fault(&ty);
     Ok(Whole {
         ty,
-        view: None,
+        part: None,
         fault,
     })
 }
@@ -130,39 +131,35 @@ fn whole_fault(ty: &Ty) -> Option<Kind>
     match ty {
         Ty::Array {
             rpl,
-            index: None,
+            named: false,
             ..
         } if is_full(rpl) => None,
-        Ty::Array { index: None, .. } => Some(Kind::RegionArgs),
+        Ty::Array { named: false, .. } => Some(Kind::RegionArgs),
         _ => Some(Kind::Type),
     }
 }
 
-/// What comes from a part of what is no array, and is none itself. That is told at the outer construct.
+/// What comes from a part of what is no array, and is none itself. That is reported at the outer construct.
 fn no_array() -> Whole
-    ensures { result ≡ record { ty = Ty.Void; view = None; fault = None } }
+    ensures { result ≡ record { ty = Ty.Void; part = None; fault = None } }
 {
     Whole {
         ty: Ty::Void,
-        view: None,
+        part: None,
         fault: None,
     }
 }
 
 /// The part that the array expression names, where it names one.
-fn part_of_part(body: &mut Body, array: &Expr) -> Result<Option<Whole>, NoMemory>
-    ensures part { IfOk result (λ found. found ≡ option_map (λ row. record { ty = row.ty; view = row.part; fault = None }) (part_of body.old.env (plain_expr array.now))) }
-    ensures same { body.new ≡ with_types body.old body.new.known.types }
+fn part_of_part(body: &Body, array: &Expr) -> Result<Option<Whole>, NoMemory>
+    ensures { IfOk result (λ found. found ≡ option_map (λ row. record { ty = row.ty; part = Some row.slot; fault = None }) (part_of body.now.env (plain_expr array.now))) }
 {
     let Some(row) = body.env.part(array) else {
         return Ok(None);
     };
-    body.known
-        .types
-        .note(body.alloc, array.node, Some(&row.ty))?;
     Ok(Some(Whole {
         ty: row.ty.copy(body.alloc)?,
-        view: row.part,
+        part: Some(row.slot),
         fault: None,
     }))
 }

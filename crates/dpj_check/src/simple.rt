@@ -12,7 +12,7 @@ ghost use Rattle.dpj_check.specs.Walks.{home_of, judged, walk_of, Says};
 use crate::body::Body;
 use crate::node::{Around, Node};
 use dpj_base::{Kind, Stop, Ty};
-use dpj_exprs::{Found, LocalRow, Typed, read_target, write};
+use dpj_exprs::{Found, Typed, read_target, write};
 use dpj_headers::Faults;
 use dpj_resolve::ty;
 use dpj_tree::{Expr, Named, TypeTree};
@@ -32,25 +32,19 @@ pub fn declare(
     ensures home { OnOk result (home_of body.new ≡ home_of body.old) }
     ensures checks { Says result (walk_of body.new out.new) (Declaring node is_final tree.now name (plain_expr value.now) (walk_of body.old out.old)) }
 {
-    let (number, place) = (node.number, node.place);
+    let place = node.place;
     let mut node = node;
     let declared = declared_type(body, tree)?;
     let value = body.typed(value, out)?;
-    body.note_duplicate(name, place, &mut node);
+    body.note_declaration(name, place, &mut node);
     let fits = body.fits(&value, &declared)?;
     node.note_if(Kind::Type, !fits);
     node.settle()?;
-    body.declare(LocalRow {
-        name,
-        var: number,
-        ty: declared,
-        is_final,
-        part: None,
-    })?;
+    body.declare(name, declared, is_final)?;
     Ok(())
 }
 
-/// The type that a declaration names. In a body a type with a fault is told at once.
+/// The type that a declaration names. In a body a type with a fault is refused at once.
 fn declared_type(body: &Body, tree: &TypeTree) -> Result<Ty, Stop>
     ensures ty { IfOk result (λ ty. plain_type ty ≡ declared_type body.now.env tree.now) }
     ensures untold { OnOk result (declared_told body.now.env tree.now ≡ None) }
@@ -65,7 +59,7 @@ fn declared_type(body: &Body, tree: &TypeTree) -> Result<Ty, Stop>
 
 /// `target = value;` for a local.
 pub fn assign_local(
-    body: &mut Body,
+    body: &Body,
     node: Node,
     target: Named,
     value: &Expr,
@@ -73,8 +67,7 @@ pub fn assign_local(
 ) -> Result<(), Stop>
     ensures clean { OnOk result (fault_of node ≡ None) }
     ensures nd { OnOk result (IsTrue out.old.reaches_nd → IsTrue out.new.reaches_nd) }
-    ensures home { OnOk result (home_of body.new ≡ home_of body.old) }
-    ensures checks { Says result (walk_of body.new out.new) (AssigningLocal node target (plain_expr value.now) (walk_of body.old out.old)) }
+    ensures checks { Says result (walk_of body.now out.new) (AssigningLocal node target (plain_expr value.now) (walk_of body.now out.old)) }
 {
     let mut node = node;
     let value = body.typed(value, out)?;
@@ -97,7 +90,7 @@ fn local_fault(fit: bool, is_final: bool) -> Option<Kind>
 
 /// `written = value;` for a field or an element.
 pub fn assign_place(
-    body: &mut Body,
+    body: &Body,
     node: Node,
     written: &Expr,
     value: &Expr,
@@ -105,12 +98,10 @@ pub fn assign_place(
 ) -> Result<(), Stop>
     ensures clean { OnOk result (fault_of node ≡ None) }
     ensures nd { OnOk result (IsTrue out.old.reaches_nd → IsTrue out.new.reaches_nd) }
-    ensures home { OnOk result (home_of body.new ≡ home_of body.old) }
-    ensures checks { Says result (walk_of body.new out.new) (AssigningPlace node (plain_expr written.now) (plain_expr value.now) (walk_of body.old out.old)) }
+    ensures checks { Says result (walk_of body.now out.new) (AssigningPlace node (plain_expr written.now) (plain_expr value.now) (walk_of body.now out.old)) }
 {
     let mut node = node;
-    let alloc = body.alloc;
-    let target = read_target(alloc, &body.env, &mut body.known.types, out, written)?;
+    let target = read_target(body.alloc, &body.env, out, written)?;
     let value = body.typed(value, out)?;
     match target {
         Some(target) => {
@@ -141,11 +132,10 @@ fn target_fault(fit: bool, may_write: bool) -> Option<Kind>
 }
 
 /// A call or a creation as a statement.
-pub fn perform(body: &mut Body, node: Node, e: &Expr, out: &mut Found) -> Result<(), Stop>
+pub fn perform(body: &Body, node: Node, e: &Expr, out: &mut Found) -> Result<(), Stop>
     ensures clean { OnOk result (fault_of node ≡ None) }
     ensures nd { OnOk result (IsTrue out.old.reaches_nd → IsTrue out.new.reaches_nd) }
-    ensures home { OnOk result (home_of body.new ≡ home_of body.old) }
-    ensures checks { Says result (walk_of body.new out.new) (Performing node (plain_expr e.now) (walk_of body.old out.old)) }
+    ensures checks { Says result (walk_of body.now out.new) (Performing node (plain_expr e.now) (walk_of body.now out.old)) }
 {
     let mut node = node;
     body.typed(e, out)?;
@@ -165,7 +155,7 @@ pub fn leave(body: &Body, around: Around, node: Node) -> Result<(), Stop>
 
 /// `return value;`
 pub fn leave_with(
-    body: &mut Body,
+    body: &Body,
     around: Around,
     node: Node,
     value: &Expr,
@@ -174,8 +164,7 @@ pub fn leave_with(
     ensures placed { OnOk result (is_misplaced around true ≡ false) }
     ensures clean { OnOk result (fault_of node ≡ None) }
     ensures nd { OnOk result (IsTrue out.old.reaches_nd → IsTrue out.new.reaches_nd) }
-    ensures home { OnOk result (home_of body.new ≡ home_of body.old) }
-    ensures checks { Says result (walk_of body.new out.new) (Returning around node (plain_expr value.now) (walk_of body.old out.old)) }
+    ensures checks { Says result (walk_of body.now out.new) (Returning around node (plain_expr value.now) (walk_of body.now out.old)) }
 {
     let mut node = node;
     node.note_if(Kind::Return, is_misplaced(around, true));
@@ -193,11 +182,10 @@ fn is_misplaced(around: Around, valued: bool) -> bool
 }
 
 /// `print(value);`
-pub fn print(body: &mut Body, node: Node, value: &Expr, out: &mut Found) -> Result<(), Stop>
+pub fn print(body: &Body, node: Node, value: &Expr, out: &mut Found) -> Result<(), Stop>
     ensures clean { OnOk result (fault_of node ≡ None) }
     ensures nd { OnOk result (IsTrue out.old.reaches_nd → IsTrue out.new.reaches_nd) }
-    ensures home { OnOk result (home_of body.new ≡ home_of body.old) }
-    ensures checks { Says result (walk_of body.new out.new) (Printing node (plain_expr value.now) (walk_of body.old out.old)) }
+    ensures checks { Says result (walk_of body.now out.new) (Printing node (plain_expr value.now) (walk_of body.now out.old)) }
 {
     let mut node = node;
     let value = body.typed(value, out)?;
@@ -223,7 +211,8 @@ pub fn declare_regions(body: &mut Body, node: Node, names: &[Named]) -> Result<(
         if is_region(body, named.name) {
             node.note_at(Kind::Duplicate, named.place);
         }
-        body.env.declare_region(named.name)?;
+        body.note_room(named.place, &mut node);
+        body.declare_region(named.name)?;
     }
     node.settle()
 }

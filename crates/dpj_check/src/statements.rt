@@ -13,7 +13,7 @@ ghost use Rattle.dpj_check.specs.Walks.{home_of, walk_of, Says};
 use crate::body::Body;
 use crate::constructs::{atomic, cobegin, foreach};
 use crate::gathered::take_in;
-use crate::leaving::Leaving;
+use crate::leaving::{Leaving, Marks};
 use crate::node::{Around, Node};
 use crate::parts::foreach_parts;
 use crate::simple::{
@@ -23,7 +23,7 @@ use dpj_base::Stop;
 use dpj_exprs::Found;
 use dpj_tree::{Expr, Stmt, StmtKind};
 
-/// Checks a statement, and says whether it completes. `follows` says that it stands behind one that doesn't.
+/// Checks a statement, and says whether it completes. `follows` says that it stands after one that doesn't.
 #[cycle(statements)]
 pub fn statement(
     body: &mut Body,
@@ -33,7 +33,7 @@ pub fn statement(
     out: &mut Found,
 ) -> Result<bool, Stop>
     ensures completes { IfOk result (λ done. done ≡ completes (plain_stmt stmt.now)) }
-    ensures behind { OnOk result (follows ≡ false) }
+    ensures after { OnOk result (follows ≡ false) }
     ensures keeps { OnOk result (Keeps around (plain_stmt stmt.now)) }
     ensures nd { OnOk result (IsTrue (out.old.reaches_nd || holds_nd (plain_stmt stmt.now)) → IsTrue out.new.reaches_nd) }
     ensures home { OnOk result (home_of body.new ≡ home_of body.old) }
@@ -66,7 +66,7 @@ pub fn statement(
 
 /// `return;` or `return value;`
 fn returns(
-    body: &mut Body,
+    body: &Body,
     around: Around,
     node: Node,
     value: Option<&Expr>,
@@ -75,8 +75,7 @@ fn returns(
     ensures placed { OnOk result (is_misplaced around (is_some value.entry) ≡ false) }
     ensures clean { OnOk result (fault_of node ≡ None) }
     ensures nd { OnOk result (IsTrue out.old.reaches_nd → IsTrue out.new.reaches_nd) }
-    ensures home { OnOk result (home_of body.new ≡ home_of body.old) }
-    ensures checks { (params : List Bool) → Says result (walk_of body.new out.new) (Checking params around node (return_form (option_copied value.entry)) (walk_of body.old out.old)) }
+    ensures checks { (params : List Bool) → Says result (walk_of body.now out.new) (Checking params around node (return_form (option_copied value.entry)) (walk_of body.now out.old)) }
 {
     match value {
         None => leave(body, around, node),
@@ -127,7 +126,7 @@ fn construct(
         }
         StmtKind::Atomic(all) => atomic(body, around, node, all.as_slice(), out),
         StmtKind::While { .. } | StmtKind::Foreach { .. } | StmtKind::ForeachParts { .. } => {
-            turns(body, around, node, stmt, out)
+            repeated(body, around, node, stmt, out)
         }
         _ => single(body, node, stmt, out),
     }
@@ -135,7 +134,7 @@ fn construct(
 
 /// A loop.
 #[cycle(statements)]
-fn turns(
+fn repeated(
     body: &mut Body,
     around: Around,
     node: Node,
@@ -151,9 +150,9 @@ fn turns(
 {
     let mut node = node;
     match &stmt.kind {
-        StmtKind::While { test, body: turn } => {
+        StmtKind::While { test, body: iteration } => {
             let _test = body.boolean(test, out, &mut node)?;
-            scoped(body, around, turn.get(), out)?;
+            scoped(body, around, iteration.get(), out)?;
             node.settle()
         }
         StmtKind::Foreach {
@@ -161,21 +160,22 @@ fn turns(
             var,
             start,
             count,
-            body: turn,
+            body: iteration,
         } => {
             let _start = body.int(start, out, &mut node)?;
             let _count = body.int(count, out, &mut node)?;
-            foreach(body, around, node, *nd, *var, turn.get(), out)
+            foreach(body, around, node, *nd, *var, iteration.get(), out)
         }
         StmtKind::ForeachParts {
             view,
             var,
             array,
             count,
-            body: turn,
+            body: iteration,
         } => {
             let names = (*view, *var);
-            foreach_parts(body, around, node, names, (array, count), turn.get(), out)
+            let range = (array, count);
+            foreach_parts(body, around, node, names, range, iteration.get(), out)
         }
         _ => unreachable!(),
     }
@@ -252,11 +252,11 @@ pub fn block(body: &mut Body, around: Around, stmts: &[Stmt], out: &mut Found) -
     ensures checks { Says result (walk_of body.new out.new) (InBlock body.old.atomic_params around (plain_stmts (map plain_stmt stmts.now)) (walk_of body.old out.old)) }
 {
     let scope = body.env.mark();
+    let leaving = Leaving::from_here(&body.env, Marks::Kept);
     let mut inner = Found::new(body.alloc);
     let completes = statements(body, around, stmts, &mut inner)?;
-    let leaving = Leaving::block(body.alloc, stmts, body.first_region(scope))?;
     body.env.leave(scope);
-    take_in(body.alloc, out, inner, &leaving)?;
+    take_in(body.alloc, out, inner, leaving)?;
     Ok(completes)
 }
 

@@ -39,7 +39,7 @@ module _ {N M : Type 0} (C : PlainCode) (F : CodeFit C) where
   AllSafe (b ∷ bs) = ((r : ℕ) × Safe r (begins_at b)) × AllSafe bs
 
   abbrev pub SafeAct : Action N M (Start N M) → Type 0
-  SafeAct (Fork forking bs) = AllSafe bs
+  SafeAct (Fork bs) = AllSafe bs.tasks
   SafeAct a = Unit {0}
 
   -- what a safe state may lead to: local steps fall

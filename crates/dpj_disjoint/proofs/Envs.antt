@@ -1,8 +1,10 @@
 -- Paths that are apart stay apart with the environment put in, and match no common region.
-use Rattle.std.proofs.Common.{◌≡◌, ◌≢◌, ◌+◌, ℕ, ℤ, true, false, not, ◌&&◌, ◌||◌, cond, eqb, List, [], ◌∷◌, ◌++◌, length, reverse, map, refl, sym, ap, ◌∙◌, subst, inl, inr, ⊎_elim, arith}
+use Rattle.std.proofs.Common.{◌≡◌, ◌≢◌, ◌+◌, ℕ, ℤ, true, false, not, ◌&&◌, ◌||◌, cond, eqb, List, [], ◌∷◌, ◌++◌, length, reverse, map, refl, sym, ap, ◌∙◌}
+use Rattle.std.proofs.Common.{subst, inl, inr, ⊎_elim, arith}
 use Rattle.std.specs.Prelude.{All}
 use Rattle.std.specs.Ordering.{int_eq}
-use Rattle.std.proofs.lemmas.Bool.{and_parts, and_from, or_cases, or_left, or_right, or_parts, false≢true, eqb-true, eq-eqb, ne_eqb, not-true, false_from_ne_true}
+use Rattle.std.proofs.lemmas.Bool.{and_parts, and_from, or_cases, or_left, or_right, or_parts, false≢true, eqb-true, eq-eqb, ne_eqb, not-true}
+use Rattle.std.proofs.lemmas.Bool.{false_from_ne_true}
 use Rattle.std.proofs.lemmas.Bool.Decides.{Decides-int_eq}
 use Rattle.std.proofs.lemmas.List.{map-append, reverse-append, length-append, length-map}
 use Rattle.std.proofs.lemmas.List.Elements.{All-head, All-tail}
@@ -15,11 +17,14 @@ use Rattle.dpj_base.specs.declared.region.Head.{Head}
 use Rattle.dpj_base.specs.declared.region.Head.TheVariants.{Root, Param}
 use Rattle.dpj_base.specs.declared.region.Rpl.{Rpl}
 use Rattle.dpj_base.specs.declared.effect.Constraint.{Constraint}
-use Rattle.dpj_base.specs.Regions.{is_star, is_local, is_index, same_head, is_root, elem_within, begins_with_star, heads_within, within}
+use Rattle.dpj_base.specs.Regions.{is_star, is_local, is_index, same_head, is_root, elem_within, begins_with_star, heads_within, within, argument, substituted}
 use Rattle.dpj_base.specs.Apart.{distinct_index, distinct, apart_front, solid, shorter, apart_as_shorter, apart_by, apart_by_some, apart}
 use Rattle.dpj_base.specs.Matching.{is_plain, all_plain, Env, IsEnv, Holds, number_of, put_elem, put_in, head_region, Fits, FitsAll, Matches, MatchNoCommon}
-use Rattle.dpj_regions.proofs.Inclusion.{Covers, none, one, stop, skip, Covers-from, Covers-to, star_is, elem_within-cases, elem_within-same, elem_within-refl, elem_within-any}
+use Rattle.dpj_base.specs.Matching.{with_regions}
+use Rattle.dpj_regions.proofs.Inclusion.{Covers, none, one, stop, skip, Covers-from, Covers-to, star_is, elem_within-cases, elem_within-same, elem_within-refl}
+use Rattle.dpj_regions.proofs.Inclusion.{elem_within-any}
 use Rattle.dpj_disjoint.proofs.Lists.{front-step, rev-cons, solid-cons, solid-one, solid-length, shorter-parts, shorter-from}
+use Rattle.dpj_regions.proofs.Putting.{substitution_puts_in}
 use Rattle.dpj_regions.proofs.Same.{same_head-is, same_head-refl}
 use Rattle.dpj_disjoint.proofs.Paths.{rule_of, by_rule, apart-within}
 
@@ -93,7 +98,8 @@ module _ (given : List Constraint) (env : Env) (v : IsEnv given env) where
       subst (λ z. Covers (map (put_elem env) z) (r ++ map (put_elem env) a)) (sym c.1)
       (skip_plain r _ _ h (Covers-put env (subst (λ z. Covers z a) c.1 d)))
 
-  put_lists : (h k : Head) (b a : List Elem) → heads_within h k b ≡ true → Covers b a → Covers (head_region env k ++ map (put_elem env) b) (head_region env h ++ map (put_elem env) a)
+  put_lists : (h k : Head) (b a : List Elem) → heads_within h k b ≡ true → Covers b a →
+      Covers (head_region env k ++ map (put_elem env) b) (head_region env h ++ map (put_elem env) a)
   put_lists Root Root b a e d = Covers-put env d
   put_lists (Param p) (Param q) b a e d =
       subst (λ z. Covers (env.region z ++ map (put_elem env) b) (env.region p ++ map (put_elem env) a)) (eqb-true p q e)
@@ -235,19 +241,22 @@ module _ (given : List Constraint) (env : Env) (v : IsEnv given env) where
       let lm = length-map a (put_elem env) in
       shorter-from (map (put_elem env) a) (r ++ map (put_elem env) b) (omega arith) (omega arith)
 
-  put_shorter : (h k : Head) (a b : List Elem) → (same_head h k || is_root h) ≡ true → shorter a b ≡ true → shorter (head_region env h ++ map (put_elem env) a) (head_region env k ++ map (put_elem env) b) ≡ true
+  put_shorter : (h k : Head) (a b : List Elem) → (same_head h k || is_root h) ≡ true → shorter a b ≡ true →
+      shorter (head_region env h ++ map (put_elem env) a) (head_region env k ++ map (put_elem env) b) ≡ true
   put_shorter Root k a b e s = shorter_root (head_region env k) a b s
   put_shorter (Param p) Root a b e s = absurd (false≢true e)
   put_shorter (Param p) (Param q) a b e s =
       let n : eqb p q ≡ true = ⊎_elim (λ t. t) (λ t. absurd (false≢true t)) (or_cases (eqb p q) false e) in
       subst (λ z. shorter (env.region p ++ map (put_elem env) a) (env.region z ++ map (put_elem env) b) ≡ true) (eqb-true p q n) (shorter_behind (env.region p) a b (v.regions p) s)
 
-  put_from_left : (h k : Head) (a b : List Elem) → same_head h k ≡ true → apart_front a b ≡ true → apart_front (head_region env h ++ map (put_elem env) a) (head_region env k ++ map (put_elem env) b) ≡ true
+  put_from_left : (h k : Head) (a b : List Elem) → same_head h k ≡ true → apart_front a b ≡ true →
+      apart_front (head_region env h ++ map (put_elem env) a) (head_region env k ++ map (put_elem env) b) ≡ true
   put_from_left h k a b e f =
       subst (λ z. apart_front (head_region env h ++ map (put_elem env) a) (head_region env z ++ map (put_elem env) b) ≡ true) (same_head-is h k e)
       (behind_front (head_region env h) _ _ (region-plain h) (put_front a b f))
 
-  put_from_right : (r q a b : List Elem) → apart_front (reverse a) (reverse b) ≡ true → apart_front (reverse (r ++ map (put_elem env) a)) (reverse (q ++ map (put_elem env) b)) ≡ true
+  put_from_right : (r q a b : List Elem) → apart_front (reverse a) (reverse b) ≡ true →
+      apart_front (reverse (r ++ map (put_elem env) a)) (reverse (q ++ map (put_elem env) b)) ≡ true
   put_from_right r q a b f =
       ap (λ z. apart_front z (reverse (q ++ map (put_elem env) b))) (reverse_behind r a)
       ∙ ap (λ z. apart_front (map (put_elem env) (reverse a) ++ reverse r) z) (reverse_behind q b)
@@ -342,7 +351,8 @@ apart_swap given a b h =
 
 -- two paths that are apart are apart with the environment put in, without constraints
 
-put-by : (given : List Constraint) (env : Env) → IsEnv given env → (c : Constraint) → Holds env c → (a b : Rpl) → apart_by c a b ≡ true → apart [] (put_in env a) (put_in env b) ≡ true
+put-by : (given : List Constraint) (env : Env) → IsEnv given env → (c : Constraint) → Holds env c → (a b : Rpl) → apart_by c a b ≡ true →
+    apart [] (put_in env a) (put_in env b) ≡ true
 put-by given env v c k a b h =
     ⊎_elim
     (λ e. let p = and_parts (within a c.left) _ e in
@@ -351,7 +361,8 @@ put-by given env v c k a b h =
     apart-within [] (put_in env a) (put_in env c.right) (put_in env b) (put_in env c.left) (put-within given env v a c.right p.0) (put-within given env v b c.left p.1) (apart_swap [] (put_in env c.left) (put_in env c.right) k))
     (or_cases (within a c.left && within b c.right) _ h)
 
-put-by_some : (given : List Constraint) (env : Env) → IsEnv given env → (cs : List Constraint) → All (Holds env) cs → (a b : Rpl) → apart_by_some cs a b ≡ true → apart [] (put_in env a) (put_in env b) ≡ true
+put-by_some : (given : List Constraint) (env : Env) → IsEnv given env → (cs : List Constraint) → All (Holds env) cs → (a b : Rpl) →
+    apart_by_some cs a b ≡ true → apart [] (put_in env a) (put_in env b) ≡ true
 put-by_some given env v [] k a b h = absurd (false≢true h)
 put-by_some given env v (c ∷ cs) k a b h =
     ⊎_elim
@@ -415,7 +426,8 @@ apart_self a h =
     longer t = shorter_self a.elems (and_parts (same_head a.head a.head || is_root a.head) _ t).1
 
 -- a region that a path matches, as a path, lies in it
-fits-one : (env : Env) (x y : Elem) (r : List Elem) → r ≡ y ∷ [] → elem_within y (put_elem env x) ≡ true → is_star x ≡ false → {b a : List Elem} → Covers b a → Covers (put_elem env x ∷ b) (r ++ a)
+fits-one : (env : Env) (x y : Elem) (r : List Elem) → r ≡ y ∷ [] → elem_within y (put_elem env x) ≡ true → is_star x ≡ false → {b a : List Elem} → Covers b a →
+    Covers (put_elem env x ∷ b) (r ++ a)
 fits-one env x y r e w s {b = b} {a = a} d = subst (λ z. Covers (put_elem env x ∷ b) (z ++ a)) (sym e) (one w (put_elem-star env x ∙ s) d)
 
 fits-covers : (env : Env) (x : Elem) (r : List Elem) → Fits env x r → {b a : List Elem} → Covers b a → Covers (put_elem env x ∷ b) (r ++ a)
@@ -423,17 +435,20 @@ fits-covers env (Name n) r f d = fits-one env (Name n) (Name n) r f (elem_within
 fits-covers env (At i) r f d = let k = At (Literal (number_of env i)) in fits-one env (At i) k r f (elem_within-refl k) refl d
 fits-covers env Any r f d = fits-one env Any (At (Literal f.0)) r f.1 refl refl d
 fits-covers env Star r f {b = b} {a = a} d = skip_plain r b a f (stop d)
-fits-covers env (Local m n) r f d = fits-one env (Local m n) (Local (env.made m n).0 (env.made m n).1) r f (elem_within-refl (Local (env.made m n).0 (env.made m n).1)) refl d
+fits-covers env (Local m n) r f d =
+    fits-one env (Local m n) (Local (env.made m n).0 (env.made m n).1) r f (elem_within-refl (Local (env.made m n).0 (env.made m n).1)) refl d
 
 FitsAll-covers : (env : Env) (a r : List Elem) → FitsAll env a r → Covers (map (put_elem env) a) r
 FitsAll-covers env [] r f = subst (λ z. Covers [] z) (sym f) none
-FitsAll-covers env (x ∷ a) r f = subst (λ z. Covers (put_elem env x ∷ map (put_elem env) a) z) (sym f.2) (fits-covers env x f.0 f.3 (FitsAll-covers env a f.1 f.4))
+FitsAll-covers env (x ∷ a) r f =
+    subst (λ z. Covers (put_elem env x ∷ map (put_elem env) a) z) (sym f.2) (fits-covers env x f.0 f.3 (FitsAll-covers env a f.1 f.4))
 
 -- a region as a path
 abbrev pub as_path : List Elem → Rpl
 as_path r = record { head = Root; elems = r }
 
-pub matches-within : (given : List Constraint) (env : Env) → IsEnv given env → (a : Rpl) (r : List Elem) → Matches env a r → within (as_path r) (put_in env a) ≡ true
+pub matches-within : (given : List Constraint) (env : Env) → IsEnv given env → (a : Rpl) (r : List Elem) → Matches env a r →
+    within (as_path r) (put_in env a) ≡ true
 unfolding within put_in Matches
 matches-within given env v a r m =
     Covers-to (subst (λ z. Covers (head_region env a.head ++ map (put_elem env) a.elems) z) (sym m.1)
@@ -444,5 +459,14 @@ no_common given env v a b h = λ r m n.
     apart_self (as_path r)
     (apart-within [] (as_path r) (put_in env a) (as_path r) (put_in env b) (matches-within given env v a r m) (matches-within given env v b r n) (put-apart given env v a b h))
 
-pub stays_apart : (given : List Constraint) (env : Env) → IsEnv given env → (a b p q : Rpl) → apart given a b ≡ true → within p (put_in env a) ≡ true → within q (put_in env b) ≡ true → apart [] p q ≡ true
+pub stays_apart : (given : List Constraint) (env : Env) → IsEnv given env → (a b p q : Rpl) → apart given a b ≡ true → within p (put_in env a) ≡ true →
+    within q (put_in env b) ≡ true → apart [] p q ≡ true
 stays_apart given env v a b p q h w u = apart-within [] p (put_in env a) q (put_in env b) w u (put-apart given env v a b h)
+
+pub constraint_carried : (given : List Constraint) (env : Env) → IsEnv given env → (args : List Rpl) (c : Constraint) →
+    apart given (substituted args c.left) (substituted args c.right) ≡ true → Holds (with_regions env (λ p. (put_in env (argument args p)).elems)) c
+constraint_carried given env v args c h =
+    let other = with_regions env (λ (p : ℕ). (put_in env (argument args p)).elems) in
+    ap (λ z. apart [] z (put_in other c.right)) (sym (substitution_puts_in env args c.left))
+    ∙ ap (λ z. apart [] (put_in env (substituted args c.left)) z) (sym (substitution_puts_in env args c.right))
+    ∙ put-apart given env v (substituted args c.left) (substituted args c.right) h

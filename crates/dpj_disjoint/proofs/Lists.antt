@@ -1,5 +1,6 @@
 -- What lies in lists that are apart is apart.
-use Rattle.std.proofs.Common.{◌≡◌, ◌≤◌, ◌<◌, ◌+◌, ℕ, Bool, true, false, not, ◌&&◌, ◌||◌, cond, eqb, List, [], ◌∷◌, ◌++◌, length, reverse, refl, sym, ap, ◌∙◌, subst, ⊎_elim, arith}
+use Rattle.std.proofs.Common.{◌≡◌, ◌≤◌, ◌<◌, ◌+◌, ℕ, Bool, true, false, not, ◌&&◌, ◌||◌, cond, eqb, List, [], ◌∷◌, ◌++◌, length, reverse, refl, sym, ap, ◌∙◌}
+use Rattle.std.proofs.Common.{subst, ⊎_elim, arith}
 use Rattle.std.proofs.lemmas.Bool.{and_parts, and_from, or_cases, or_left, or_right, false≢true, eqb-true, eq-eqb, ltb-true, lt-ltb}
 use Rattle.std.proofs.lemmas.List.{append-nil, reverse-append}
 use Rattle.std.proofs.lemmas.List.Sums.{sum_by-append, count_by-le-length}
@@ -113,7 +114,9 @@ Covers-reverse (skip {x = x} {b = b} {a = a} l r) =
 -- counting
 
 pub solid-cons : (x : Elem) (a : List Elem) → solid (x ∷ a) ≡ cond (not (is_star x)) 1 0 + solid a
-solid-cons x a = sum_by-append (λ y. cond (not (is_star y)) 1 0) (x ∷ []) a ∙ ap (λ z. z + solid a) (let e : 0 + cond {A = ℕ} (not (is_star x)) 1 0 ≡ cond (not (is_star x)) 1 0 = omega arith in e)
+solid-cons x a =
+    sum_by-append (λ y. cond (not (is_star y)) 1 0) (x ∷ []) a
+    ∙ ap (λ z. z + solid a) (let e : 0 + cond {A = ℕ} (not (is_star x)) 1 0 ≡ cond (not (is_star x)) 1 0 = omega arith in e)
 
 pub solid-one : (x : Elem) (a : List Elem) → is_star x ≡ false → solid (x ∷ a) ≡ 1 + solid a
 solid-one x a s = solid-cons x a ∙ ap (λ z. cond (not z) 1 0 + solid a) s

@@ -1,13 +1,14 @@
 -- Paths that are apart: whatever lies in them, with heads and constraints.
 use Rattle.std.proofs.Common.{◌≡◌, ℕ, true, not, ◌&&◌, ◌||◌, List, [], ◌∷◌, refl, sym, ap, ◌∙◌, subst, inl, inr, ◌⊎◌, ⊎_elim, arith}
-use Rattle.std.proofs.lemmas.Bool.{and_parts, and_from, or_cases, or_left, or_right, false≢true, eqb-true, eq-eqb}
+use Rattle.std.proofs.lemmas.Bool.{and_parts, and_from, or_cases, or_left, or_right, false≢true, eqb-true}
 use Rattle.dpj_base.specs.declared.elems.Elem.{Elem}
 use Rattle.dpj_base.specs.declared.region.Head.{Head}
 use Rattle.dpj_base.specs.declared.region.Head.TheVariants.{Root, Param}
 use Rattle.dpj_base.specs.declared.region.Rpl.{Rpl}
 use Rattle.dpj_base.specs.declared.effect.Constraint.{Constraint}
 use Rattle.dpj_base.specs.Regions.{is_star, same_head, is_root, begins_with_star, heads_within, within}
-use Rattle.dpj_base.specs.Apart.{distinct, apart_front, solid, shorter, apart_from_left, apart_as_shorter, apart_by_length, apart_from_right, apart_by, apart_by_some, apart}
+use Rattle.dpj_base.specs.Apart.{distinct, apart_front, solid, shorter, apart_from_left, apart_as_shorter, apart_by_length, apart_from_right, apart_by}
+use Rattle.dpj_base.specs.Apart.{apart_by_some, apart}
 use Rattle.dpj_regions.proofs.Inclusion.{Covers, Covers-from, star_is, within-trans}
 use Rattle.dpj_disjoint.proofs.Lists.{front-within, Covers-reverse, shorter-within, shorter-parts, solid-star, solid-length}
 
@@ -43,12 +44,14 @@ starred_shorter (x ∷ b) d h k =
     omega arith
 
 -- heads of what lies in paths that are apart from the left
-left-within : (h k m n : Head) (b a d c : List Elem) → Headed h k b → Headed m n d → Covers b a → Covers d c → same_head k n ≡ true → apart_front b d ≡ true → (same_head h m ≡ true) × (apart_front a c ≡ true)
+left-within : (h k m n : Head) (b a d c : List Elem) → Headed h k b → Headed m n d → Covers b a → Covers d c → same_head k n ≡ true → apart_front b d ≡ true →
+    (same_head h m ≡ true) × (apart_front a c ≡ true)
 left-within h k m n b a d c same same r q e f = (e, front-within r q f)
 left-within h k m n b a d c same (under s) r q e f = absurd (front_starred b d s f)
 left-within h k m n b a d c (under s) g r q e f = absurd (starred_front b d s f)
 
-length-within : (h k m n : Head) (b a d c : List Elem) → Headed h k b → Headed m n d → Covers b a → Covers d c → (same_head k n || is_root k) ≡ true → shorter b d ≡ true → ((same_head h m || is_root h) ≡ true) × (shorter a c ≡ true)
+length-within : (h k m n : Head) (b a d c : List Elem) → Headed h k b → Headed m n d → Covers b a → Covers d c → (same_head k n || is_root k) ≡ true →
+    shorter b d ≡ true → ((same_head h m || is_root h) ≡ true) × (shorter a c ≡ true)
 length-within h k m n b a d c same same r q e f = (e, shorter-within r q f)
 length-within Root k m n b a d c same (under s) r q e f = (refl, shorter-within r q f)
 length-within (Param p) k m n b a d c same (under s) r q e f = absurd (false≢true e)

@@ -1,5 +1,6 @@
 -- The walk along two lists, by the position that it has come to.
-use Rattle.std.proofs.Common.{◌≡◌, ℕ, suc, zero, ◌+◌, ◌-◌, ◌<◌, ◌≤◌, Bool, true, false, not, ◌&&◌, ◌||◌, List, [], ◌∷◌, length, reverse, drop, get_or, min, refl, sym, ap, ◌∙◌, arith}
+use Rattle.std.proofs.Common.{◌≡◌, ℕ, suc, zero, ◌+◌, ◌-◌, ◌<◌, ◌≤◌, Bool, true, false, not, ◌&&◌, ◌||◌, List, [], ◌∷◌, length, reverse, drop, get_or, min}
+use Rattle.std.proofs.Common.{refl, sym, ap, ◌∙◌, arith}
 use Rattle.std.proofs.lemmas.List.{get_or-reverse, length-reverse, drop_more}
 use Rattle.std.proofs.lemmas.Bool.{or_right}
 use Rattle.dpj_base.specs.declared.elems.Elem.{Elem}
@@ -14,7 +15,8 @@ apart_front-nil : (a : List Elem) → apart_front a [] ≡ false
 apart_front-nil [] = refl
 apart_front-nil (x ∷ a) = refl
 
-pub apart_front-at : (a b : List Elem) (i : ℕ) (d : Elem) → i < length a → i < length b → apart_front (drop i a) (drop i b) ≡ at_pair (get_or a i d) (get_or b i d) (apart_front (drop (i + 1) a) (drop (i + 1) b))
+pub apart_front-at : (a b : List Elem) (i : ℕ) (d : Elem) → i < length a → i < length b →
+    apart_front (drop i a) (drop i b) ≡ at_pair (get_or a i d) (get_or b i d) (apart_front (drop (i + 1) a) (drop (i + 1) b))
 apart_front-at a b i d p q =
     let e = drop_more a i d p in
     let f = drop_more b i d q in
@@ -29,7 +31,8 @@ apart_front-end (x ∷ a) (y ∷ b) zero h = absurd (omega arith)
 apart_front-end (x ∷ a) (y ∷ b) (suc i) h = apart_front-end a b i (omega arith)
 
 -- the same walk from the last elements back
-pub apart_back-at : (a b : List Elem) (i : ℕ) (d : Elem) → i < length a → i < length b → apart_front (drop i (reverse a)) (drop i (reverse b)) ≡ at_pair (get_or a (length a - 1 - i) d) (get_or b (length b - 1 - i) d) (apart_front (drop (i + 1) (reverse a)) (drop (i + 1) (reverse b)))
+pub apart_back-at : (a b : List Elem) (i : ℕ) (d : Elem) → i < length a → i < length b →
+    apart_front (drop i (reverse a)) (drop i (reverse b)) ≡ at_pair (get_or a (length a - 1 - i) d) (get_or b (length b - 1 - i) d) (apart_front (drop (i + 1) (reverse a)) (drop (i + 1) (reverse b)))
 apart_back-at a b i d p q =
     apart_front-at (reverse a) (reverse b) i d (omega (arith, length-reverse a)) (omega (arith, length-reverse b))
     ∙ ap (λ x. at_pair x (get_or (reverse b) i d) (apart_front (drop (i + 1) (reverse a)) (drop (i + 1) (reverse b)))) (get_or-reverse a i d p)

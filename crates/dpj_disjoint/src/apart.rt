@@ -1,6 +1,7 @@
 ghost use Rattle.std.specs.Prelude.{◌≡◌, reverse};
 ghost use Rattle.dpj_base.specs.Regions.{is_star, is_index, same_head, is_root};
-ghost use Rattle.dpj_base.specs.Apart.{distinct_index, distinct, apart_front, solid, shorter, apart_by, apart_by_some, apart_as_shorter, apart_from_left, apart_by_length, apart_from_right, apart};
+ghost use Rattle.dpj_base.specs.Apart.{distinct_index, distinct, apart_front, solid, shorter, apart_by, apart_by_some, apart_as_shorter, apart_from_left};
+ghost use Rattle.dpj_base.specs.Apart.{apart_by_length, apart_from_right, apart};
 
 use dpj_base::{Constraint, Elem, Head, Index, Rpl};
 use dpj_regions::includes;

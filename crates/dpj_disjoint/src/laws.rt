@@ -1,6 +1,6 @@
 //! Laws of disjoint paths, each the clause of a function that does nothing.
 
-ghost use Rattle.dpj_disjoint.specs.Laws.{MatchingIsInclusion, ApartMatchNoCommon, PatternsStayApart, IncludedStayApart, ApartIsSymmetric};
+ghost use Rattle.dpj_disjoint.specs.Laws.{MatchingIsInclusion, ApartMatchNoCommon, PatternsStayApart, IncludedStayApart, ApartIsSymmetric, ConstraintCarried};
 
 /// Disjointness is sound over what paths mean.
 pub fn law_disjoint()
@@ -14,7 +14,12 @@ pub fn law_disjoint_included()
     ensures symmetric { ApartIsSymmetric }
 {}
 
-/// Matching, told by inclusion: what a run can test of its regions.
+/// Matching by inclusion: what a run can test of its regions.
 pub fn law_regions_as_paths()
     ensures { MatchingIsInclusion }
+{}
+
+/// Constraints that hold of arguments hold of the parameters that stand for them.
+pub fn law_constraints()
+    ensures { ConstraintCarried }
 {}

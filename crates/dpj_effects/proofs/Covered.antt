@@ -1,6 +1,7 @@
 -- Covering and interference of effects, over inclusion and disjointness of their paths.
-use Rattle.std.proofs.Common.{◌≡◌, Bool, true, false, not, ◌&&◌, ◌||◌, List, [], ◌∷◌, refl, sym, ap, ◌∙◌, subst, ⊎_elim}
-use Rattle.std.proofs.lemmas.Bool.{and_parts, and_from, and_left, and_right, or_cases, or_left, or_right, false≢true, not-true, not-false, cases_Bool, false_from_ne_true}
+use Rattle.std.proofs.Common.{◌≡◌, Bool, true, false, not, ◌&&◌, ◌||◌, List, [], ◌∷◌, refl, sym, ap, ◌∙◌, ⊎_elim}
+use Rattle.std.proofs.lemmas.Bool.{and_parts, and_from, and_left, and_right, or_cases, or_left, or_right, false≢true, not-true, not-false, cases_Bool}
+use Rattle.std.proofs.lemmas.Bool.{false_from_ne_true}
 use Rattle.dpj_base.specs.declared.effect.Access.{Access}
 use Rattle.dpj_base.specs.declared.effect.Access.TheVariants.{Read, Write}
 use Rattle.dpj_base.specs.declared.effect.Effect.{Effect}
@@ -8,8 +9,7 @@ use Rattle.dpj_base.specs.declared.effect.Constraint.{Constraint}
 use Rattle.dpj_base.specs.Regions.{within}
 use Rattle.dpj_base.specs.Apart.{apart}
 use Rattle.dpj_base.specs.Matching.{Env, IsEnv, MatchNoCommon}
-use Rattle.dpj_base.specs.Effects.{is_write, covers_access, covers_effect, interferes, some_covers, set_covers, same_effect, has_effect}
-use Rattle.dpj_effects.proofs.Sets.{same_effect-is}
+use Rattle.dpj_base.specs.Effects.{is_write, covers_access, covers_effect, interferes, some_covers, set_covers}
 use Rattle.dpj_regions.proofs.Inclusion.{within-refl, within-trans}
 use Rattle.dpj_disjoint.proofs.Paths.{apart-within}
 use Rattle.dpj_disjoint.proofs.Envs.{apart_swap, no_common}
@@ -64,11 +64,13 @@ covers-trans e f g h k =
     (not_or-trans e.atomic f.atomic g.atomic (covers-marks e f h) (covers-marks f g k))
 
 -- two effects, one of them a write, that don't interfere have paths that are apart
-quiet-apart : (given : List Constraint) (e f : Effect) → interferes given e f ≡ false → (is_write e.access || is_write f.access) ≡ true → apart given e.rpl f.rpl ≡ true
+quiet-apart : (given : List Constraint) (e f : Effect) → interferes given e f ≡ false → (is_write e.access || is_write f.access) ≡ true →
+    apart given e.rpl f.rpl ≡ true
 unfolding interferes
 quiet-apart given e f h w = not-false _ (sym (ap (λ z. z && not (apart given e.rpl f.rpl)) w) ∙ h)
 
-pub covered_quiet : (given : List Constraint) (e f c d : Effect) → covers_effect e c ≡ true → covers_effect f d ≡ true → interferes given e f ≡ false → interferes given c d ≡ false
+pub covered_quiet : (given : List Constraint) (e f c d : Effect) → covers_effect e c ≡ true → covers_effect f d ≡ true → interferes given e f ≡ false →
+    interferes given c d ≡ false
 unfolding interferes
 covered_quiet given e f c d h k q =
     ⊎_elim
@@ -77,7 +79,8 @@ covered_quiet given e f c d h k q =
     (λ w. and_left _ _ w)
     (cases_Bool (is_write c.access || is_write d.access))
 
-pub quiet_no_common : (given : List Constraint) (env : Env) → IsEnv given env → (e f : Effect) → interferes given e f ≡ false → (is_write e.access || is_write f.access) ≡ true → MatchNoCommon env e.rpl f.rpl
+pub quiet_no_common : (given : List Constraint) (env : Env) → IsEnv given env → (e f : Effect) → interferes given e f ≡ false →
+    (is_write e.access || is_write f.access) ≡ true → MatchNoCommon env e.rpl f.rpl
 quiet_no_common given env v e f q w = no_common given env v e.rpl f.rpl (quiet-apart given e f q w)
 
 pub interferes_swap : (given : List Constraint) (e f : Effect) → interferes given e f ≡ true → interferes given f e ≡ true

@@ -1,11 +1,13 @@
 -- The places under which effects are found: what a further place and a further effect keep.
-use Rattle.std.proofs.Common.{◌≡◌, ◌≢◌, ◌<◌, ℕ, zero, suc, Bool, true, false, not, cond, ◌&&◌, ltb, List, [], ◌∷◌, ◌++◌, length, get_or, Some, None, refl, sym, ap, ◌∙◌, subst, inl, inr, ◌⊎◌, ⊎_elim, append_assoc, arith}
+use Rattle.std.proofs.Common.{◌≡◌, ◌≢◌, ◌<◌, ℕ, zero, suc, Bool, true, false, not, cond, ◌&&◌, ltb, List, [], ◌∷◌, ◌++◌, length, get_or, Some, None, refl, sym}
+use Rattle.std.proofs.Common.{ap, ◌∙◌, subst, inl, inr, ◌⊎◌, ⊎_elim, append_assoc, arith}
 use Rattle.std.specs.Prelude.{unwrap_or}
 use Rattle.std.specs.Ordering.{nat_cmp}
 use Rattle.std.specs.BTreeMap.{get}
 use Rattle.std.specs.declared.collections.BTreeMap.{BTreeMap}
 use Rattle.std.specs.declared.alloc.Global.{Global}
-use Rattle.std.proofs.lemmas.Bool.{and_parts, and_from, or_cases, or_left, or_right, false≢true, cases_eq, ltb-true, lt-ltb, false_from_ne_true, or_from, not-true}
+use Rattle.std.proofs.lemmas.Bool.{and_parts, and_from, or_cases, or_left, or_right, false≢true, cases_eq, ltb-true, lt-ltb, false_from_ne_true, or_from}
+use Rattle.std.proofs.lemmas.Bool.{not-true}
 use Rattle.std.proofs.lemmas.List.{append-nil, get_or_append_left, get_or_at, length-append}
 use Rattle.dpj_base.specs.declared.effect.Effect.{Effect}
 use Rattle.dpj_base.specs.Effects.{same_effect, has_effect, gathered, all_distinct}
@@ -33,7 +35,8 @@ any_at-more_places es (p ∷ ps) qs e h =
     (λ t. or_right (ltb p (length es) && same_effect (get_or es p e) e) _ (any_at-more_places es ps qs e t))
     (or_cases (ltb p (length es) && same_effect (get_or es p e) e) _ h)
 
-any_at-last_place : (es : List Effect) (ps : List ℕ) (p : ℕ) (e : Effect) → p < length es → same_effect (get_or es p e) e ≡ true → any_at es (ps ++ p ∷ []) e ≡ true
+any_at-last_place : (es : List Effect) (ps : List ℕ) (p : ℕ) (e : Effect) → p < length es → same_effect (get_or es p e) e ≡ true →
+    any_at es (ps ++ p ∷ []) e ≡ true
 any_at-last_place es [] p e l h = or_left _ _ (and_from _ _ (lt-ltb p (length es) l) h)
 any_at-last_place es (q ∷ ps) p e l h = or_right (ltb q (length es) && same_effect (get_or es q e) e) _ (any_at-last_place es ps p e l h)
 
@@ -58,8 +61,10 @@ found-none es m i e h = sym (false_from_ne_true _ (λ t. none_some (h ∙ (i e t
     none_some : {ps : List ℕ} → None ≡ Some ps → ⊥
     none_some k = cc
 
-pub found-some : (es : List Effect) (m : Spots) (ps : List ℕ) → Indexed es m → (e : Effect) → Some ps ≡ get nat_cmp m (number_of e) → any_at es ps e ≡ has_effect es e
-found-some es m ps i e h = both (any_at es ps e) (has_effect es e) (λ t. any_at-has es ps e t) (λ t. let k = i e t in subst (λ z. any_at es z e ≡ true) (sym (same_some (h ∙ k.1))) k.2)
+pub found-some : (es : List Effect) (m : Spots) (ps : List ℕ) → Indexed es m → (e : Effect) → Some ps ≡ get nat_cmp m (number_of e) →
+    any_at es ps e ≡ has_effect es e
+found-some es m ps i e h =
+    both (any_at es ps e) (has_effect es e) (λ t. any_at-has es ps e t) (λ t. let k = i e t in subst (λ z. any_at es z e ≡ true) (sym (same_some (h ∙ k.1))) k.2)
   where
     same_some : {qs rs : List ℕ} → Some qs ≡ Some rs → qs ≡ rs
     same_some k = cc
@@ -98,7 +103,8 @@ last_has (g ∷ es) f e h =
     (λ t. ⊎_elim (λ k. inl (or_right (same_effect g e) _ k)) (λ k. inr k) (last_has es f e t))
     (or_cases (same_effect g e) _ h)
 
-pub indexed-push : (es : List Effect) (m n : Spots) (f : Effect) → Indexed es m → ((q : ℕ) → q ≢ number_of f → get nat_cmp n q ≡ get nat_cmp m q) → get nat_cmp n (number_of f) ≡ Some (unwrap_or (get nat_cmp m (number_of f)) [] ++ length es ∷ []) → Indexed (es ++ f ∷ []) n
+pub indexed-push : (es : List Effect) (m n : Spots) (f : Effect) → Indexed es m → ((q : ℕ) → q ≢ number_of f → get nat_cmp n q ≡ get nat_cmp m q) →
+    get nat_cmp n (number_of f) ≡ Some (unwrap_or (get nat_cmp m (number_of f)) [] ++ length es ∷ []) → Indexed (es ++ f ∷ []) n
 indexed-push es m n f i others ok = λ e h.
     ⊎_elim
     (λ t. let k = indexed-noted es m n (number_of f) (length es) i others ok e t in (k.0, k.1, any_at-more_effects es (f ∷ []) k.0 e k.2))
@@ -141,7 +147,9 @@ gathered-more es (f ∷ fs) h =
 pub gathered-distinct : (es : List Effect) → all_distinct es ≡ true → gathered [] es ≡ es
 gathered-distinct es h = gathered-more [] es h
 
-pub indexed-added : (es : List Effect) (m n : Spots) (f : Effect) (number place : ℕ) → number ≡ number_of f → place ≡ length es → Indexed es m → ((q : ℕ) → q ≢ number → get nat_cmp n q ≡ get nat_cmp m q) → get nat_cmp n number ≡ Some (unwrap_or (get nat_cmp m number) [] ++ place ∷ []) → Indexed (es ++ f ∷ []) n
+pub indexed-added : (es : List Effect) (m n : Spots) (f : Effect) (number place : ℕ) → number ≡ number_of f → place ≡ length es → Indexed es m →
+    ((q : ℕ) → q ≢ number → get nat_cmp n q ≡ get nat_cmp m q) → get nat_cmp n number ≡ Some (unwrap_or (get nat_cmp m number) [] ++ place ∷ []) →
+    Indexed (es ++ f ∷ []) n
 indexed-added es m n f number place a b i others ok =
     indexed-push es m n f i (λ q d. others q (λ s. d (s ∙ a)))
     (ap (λ q. get nat_cmp n q) (sym a) ∙ ok ∙ ap (λ q. Some (unwrap_or (get nat_cmp m q) [] ++ place ∷ [])) a ∙ ap (λ p. Some (unwrap_or (get nat_cmp m (number_of f)) [] ++ p ∷ [])) b)

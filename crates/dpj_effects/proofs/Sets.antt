@@ -5,7 +5,7 @@ use Rattle.std.proofs.lemmas.Bool.{and_parts, and_from, or_from, or_parts, false
 use Rattle.dpj_base.specs.declared.effect.Access.{Access}
 use Rattle.dpj_base.specs.declared.effect.Access.TheVariants.{Read, Write}
 use Rattle.dpj_base.specs.declared.effect.Effect.{Effect}
-use Rattle.dpj_base.specs.Effects.{same_access, same_bool, same_rpl, same_effect, has_effect, added, all_distinct}
+use Rattle.dpj_base.specs.Effects.{same_access, same_bool, same_effect, has_effect, added, all_distinct}
 use Rattle.dpj_regions.proofs.Same.{same_rpl-is, same_rpl-from}
 
 same_bool-is : (b c : Bool) → same_bool b c ≡ true → b ≡ c

@@ -1,4 +1,4 @@
--- How a set finds an effect: by a number made of its path, under which the places stand where it may be.
+-- How a set finds an effect: by a number made of its path, under which the places are noted where it may be.
 use Rattle.std.specs.Prelude.{◌≡◌, ℕ, ◌+◌, ◌*◌, ◌%◌, ◌^◌, Bool, true, false, ◌&&◌, ◌||◌, nat_lt, nat_abs, List, [], ◌∷◌, length, slice_index_or, Some}
 use Rattle.std.specs.Ordering.{nat_cmp}
 use Rattle.std.specs.BTreeMap.{get}

@@ -7,11 +7,13 @@ use Rattle.dpj_base.specs.Effects.{is_write, covers_effect, interferes, set_cove
 
 -- if two effects don't interfere, effects that they cover don't either
 abbrev pub CoveredDoNotInterfere : Type 0
-CoveredDoNotInterfere = (given : List Constraint) (e f c d : Effect) → IsTrue (covers_effect e c) → IsTrue (covers_effect f d) → interferes given e f ≡ false → interferes given c d ≡ false
+CoveredDoNotInterfere = (given : List Constraint) (e f c d : Effect) → IsTrue (covers_effect e c) → IsTrue (covers_effect f d) → interferes given e f ≡ false →
+    interferes given c d ≡ false
 
 -- if two effects, one of them a write, don't interfere, they have no region in common, in any environment
 abbrev pub NoInterferenceNoCommon : Type 0
-NoInterferenceNoCommon = (given : List Constraint) (env : Env) → IsEnv given env → (e f : Effect) → interferes given e f ≡ false → IsTrue (is_write e.access || is_write f.access) → MatchNoCommon env e.rpl f.rpl
+NoInterferenceNoCommon = (given : List Constraint) (env : Env) → IsEnv given env → (e f : Effect) → interferes given e f ≡ false →
+    IsTrue (is_write e.access || is_write f.access) → MatchNoCommon env e.rpl f.rpl
 
 -- if one effect interferes with another, that one does with it
 abbrev pub InterferenceIsSymmetric : Type 0

@@ -76,7 +76,7 @@ pub fn any_covers_at(effects: &[Effect], places: &[usize], f: &Effect) -> bool
     false
 }
 
-/// Notes one place more under a number. After want of memory everything is noted as before.
+/// Notes one place more under a number. If memory runs out, everything is noted as before.
 pub fn note(
     alloc: Global,
     spots: &mut BTreeMap<u32, Items<usize>>,

@@ -1,6 +1,7 @@
 //! Laws of effects, each the clause of a function that does nothing.
 
-ghost use Rattle.dpj_effects.specs.Laws.{CoveredDoNotInterfere, NoInterferenceNoCommon, InterferenceIsSymmetric, CoveringIsReflexive, CoveringIsTransitive, SetCoversItself, SetCoversOn};
+ghost use Rattle.dpj_effects.specs.Laws.{CoveredDoNotInterfere, NoInterferenceNoCommon, InterferenceIsSymmetric, CoveringIsReflexive, CoveringIsTransitive};
+ghost use Rattle.dpj_effects.specs.Laws.{SetCoversItself, SetCoversOn};
 
 /// Interference is sound over what paths mean, and goes along with covering.
 pub fn law_interference()

@@ -1,10 +1,10 @@
 //! Effects: reads and writes of region paths, plain or marked as inside an atomic block.
 //!
 //! `covers` and `interferes` are exactly their definitions in `dpj_base`. `EffectSet` is a list of distinct
-//! effects in the order in which they came. What they are good for stands in `laws`: what is covered by effects
+//! effects in the order in which they came. What they are good for is said in `laws`: what is covered by effects
 //! that don't interfere doesn't interfere.
 //!
-//! Only what makes or grows a set takes memory. After want of memory a set is as it was.
+//! Only what makes or grows a set takes memory. If memory runs out, a set is as it was.
 #![tactic(auto)]
 
 mod effect;

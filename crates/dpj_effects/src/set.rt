@@ -60,7 +60,7 @@ impl EffectSet {
         self.effects.is_empty()
     }
 
-    /// Puts the effect last, unless it is there already. After want of memory the set is as it was.
+    /// Puts the effect last, unless it is there already. If memory runs out, the set is as it was.
     pub fn add(&mut self, e: Effect) -> Result<(), NoMemory>
         ensures ok { OnOk result (self.new ≡ added self.old e) }
         ensures err { OnErr result (self.new ≡ self.old) }
@@ -114,7 +114,8 @@ impl EffectSet {
         true
     }
 
-    /// Adds copies of another set's effects, one after another. After want of memory some of them may be there.
+    /// Adds copies of another set's effects, one after another. If memory runs out, some of them may be
+    /// there.
     pub fn add_all(&mut self, alloc: Global, other: &EffectSet) -> Result<(), NoMemory>
         ensures { OnOk result (self.new ≡ gathered self.old other.now) }
     {

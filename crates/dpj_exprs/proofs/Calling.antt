@@ -1,5 +1,5 @@
 -- Calls whose parts are read: of what is told of a use with region arguments, what is so of the call.
-use Rattle.std.proofs.Common.{◌≡◌, ◌∙◌, ℕ, List, ◌++◌, Bool, true, false, Option, Some, None, Result, Ok, Err, IfOk, IfErr, OnOk, sym, subst, ap}
+use Rattle.std.proofs.Common.{◌≡◌, ◌∙◌, ℕ, List, ◌++◌, Bool, true, false, Option, Some, None, Result, Ok, Err, IfOk, OnOk, sym, subst, ap}
 use Rattle.std.specs.List.{list_all}
 use Rattle.dpj_base.specs.declared.place.Place.{Place}
 use Rattle.dpj_base.specs.declared.refusal.Kind.TheVariants as kind
@@ -22,7 +22,7 @@ use Rattle.dpj_classes.specs.declared.rows.MethodRow.{MethodRow}
 use Rattle.dpj_classes.specs.Table.{headers_of}
 use Rattle.dpj_exprs.specs.declared.env.Env.{Env}
 use Rattle.dpj_exprs.specs.declared.found.Found.{Found}
-use Rattle.dpj_exprs.specs.Answer.{Answer, gives, refused, with_call}
+use Rattle.dpj_exprs.specs.Answer.{Answer, gives, refused, with_call, Says}
 use Rattle.dpj_exprs.specs.Env.{table_of, given_in}
 use Rattle.dpj_exprs.specs.Partial.{is_partial_call}
 use Rattle.dpj_exprs.specs.Shapes.{shapes_fit}
@@ -31,7 +31,7 @@ use Rattle.dpj_exprs.specs.declared.typed.Typed.TheVariants.{Known, Any}
 use Rattle.dpj_exprs.specs.Refusing.{refusal_at}
 use Rattle.dpj_exprs.specs.Typed.{plain_typed, may_be, is_value}
 use Rattle.dpj_exprs.specs.Uses.{args_noted, UseTold, unknown_told, method_through, CallOf, CallOn, Call}
-use Rattle.dpj_exprs.proofs.Passing.{ok_map, err_map}
+use Rattle.dpj_exprs.proofs.Passing.{refused_map, says_all}
 
 -- the region arguments, and the faults of their list, for the parameters of the row
 pub given_for : (args : ReadArgs) (params rows : List ParamRow) (given seen : Option (List Rpl)) →
@@ -73,24 +73,22 @@ with_all env row owned args actuals place f regions all before partial given e b
     subst (λ (z : List Rpl). CallOf env row owned args actuals place f (gives (Some (type_with z (plain_type row.result))) (with_call (table_of env) f row z))) (sym e)
     (CallOf.called given (told_same env row actuals place None all (owned ++ regions) before (args_noted args row.regions place) partial (is_partial_call owned row) e b p told))
 
-pub of_called : (env : Env) (row : MethodRow) (owned : List Rpl) (args : ReadArgs) (actuals : List (Option PlainType)) (place : Place) (f g : Found) (regions all : List Rpl) (before : Faults) (partial : Bool) (r : Result Ty Stop) →
+-- what is told of a use of a method, as what is said of the call
+pub of_used : (env : Env) (row : MethodRow) (owned : List Rpl) (args : ReadArgs) (actuals : List (Option PlainType)) (place : Place) (f g : Found)
+    (regions all : List Rpl) (before : Faults) (partial : Bool) (r : Result Ty Stop) →
     args_given args.written args.paths row.regions ≡ Some regions → all ≡ owned ++ regions → before ≡ args_noted args row.regions place → partial ≡ is_partial_call owned row →
-    OnOk r (CallTold env row actuals place None all before partial) → IfOk r (λ t. plain_type t ≡ type_with all (plain_type row.result)) → OnOk r (g ≡ with_call (table_of env) f row all) →
-    IfOk r (λ t. CallOf env row owned args actuals place f (gives (Some (plain_type t)) g))
-of_called env row owned args actuals place f g regions all before partial (Ok t) given e b p told is found =
+    Says r (λ t. None) Some (λ told. CallTold env row actuals place told all before partial) →
+    IfOk r (λ t. plain_type t ≡ type_with all (plain_type row.result)) → OnOk r (g ≡ with_call (table_of env) f row all) →
+    Says r (λ t. gives (Some (plain_type t)) g) refused (CallOf env row owned args actuals place f)
+of_used env row owned args actuals place f g regions all before partial (Ok t) given e b p told is found =
     subst (λ (z : PlainType). CallOf env row owned args actuals place f (gives (Some z) g)) (sym is)
     (subst (λ (z : Found). CallOf env row owned args actuals place f (gives (Some (type_with all (plain_type row.result))) z)) (sym found)
     (with_all env row owned args actuals place f regions all before partial given e b p told))
-of_called env row owned args actuals place f g regions all before partial (Err s) given e b p told is found = tt
-
-pub of_faulty : (env : Env) (row : MethodRow) (owned : List Rpl) (args : ReadArgs) (actuals : List (Option PlainType)) (place : Place) (f : Found) (regions all : List Rpl) (before : Faults) (partial : Bool) (r : Result Ty Stop) →
-    args_given args.written args.paths row.regions ≡ Some regions → all ≡ owned ++ regions → before ≡ args_noted args row.regions place → partial ≡ is_partial_call owned row →
-    IfErr r (λ s. IfRefused s (λ q. CallTold env row actuals place (Some q) all before partial)) →
-    IfErr r (λ s. IfRefused s (λ q. CallOf env row owned args actuals place f (refused q)))
-of_faulty env row owned args actuals place f regions all before partial (Ok t) given e b p told = tt
-of_faulty env row owned args actuals place f regions all before partial (Err (stop.Refused q)) given e b p told =
-    CallOf.faulty_call given (told_same env row actuals place (Some q) all (owned ++ regions) before (args_noted args row.regions place) partial (is_partial_call owned row) e b p told)
-of_faulty env row owned args actuals place f regions all before partial (Err stop.NoMemory) given e b p told = tt
+of_used env row owned args actuals place f g regions all before partial (Err s) given e b p told is found =
+    refused_map (λ q. CallTold env row actuals place (Some q) all before partial) (λ q. CallOf env row owned args actuals place f (refused q)) s
+    (λ q d. CallOf.faulty_call given
+    (told_same env row actuals place (Some q) all (owned ++ regions) before (args_noted args row.regions place) partial (is_partial_call owned row) e b p d))
+    told
 
 pub of_unknown : (env : Env) (row : MethodRow) (owned : List Rpl) (args : ReadArgs) (actuals : List (Option PlainType)) (place : Place) (f : Found) (before : Faults) (fit : Bool) (s : Stop) →
     args_given args.written args.paths row.regions ≡ None → before ≡ args_noted args row.regions place → fit ≡ shapes_fit (headers_of (table_of env)) actuals row.params →
@@ -102,20 +100,14 @@ of_unknown env row owned args actuals place f before fit s given b fits is =
     (CallOf.unknown_args given)))
 
 -- a call of the method that is found
-pub of_found : (env : Env) (t : PlainType) (name : ℕ) (args : ReadArgs) (actuals : List (Option PlainType)) (place : Place) (f g : Found) (row : MethodRow) (owned shown : List Rpl) (r : Result Ty Stop) →
-    method_through (table_of env) t name place ≡ Ok (row, owned) → shown ≡ owned → IfOk r (λ u. CallOf env row shown args actuals place f (gives (Some (plain_type u)) g)) →
-    IfOk r (λ u. CallOn env t name args actuals place f (gives (Some (plain_type u)) g))
+pub of_found : (env : Env) (t : PlainType) (name : ℕ) (args : ReadArgs) (actuals : List (Option PlainType)) (place : Place) (f g : Found)
+    (row : MethodRow) (owned shown : List Rpl) (r : Result Ty Stop) →
+    method_through (table_of env) t name place ≡ Ok (row, owned) → shown ≡ owned →
+    Says r (λ u. gives (Some (plain_type u)) g) refused (CallOf env row shown args actuals place f) →
+    Says r (λ u. gives (Some (plain_type u)) g) refused (CallOn env t name args actuals place f)
 of_found env t name args actuals place f g row owned shown r through is h =
-    ok_map (λ u. CallOf env row shown args actuals place f (gives (Some (plain_type u)) g)) (λ u. CallOn env t name args actuals place f (gives (Some (plain_type u)) g)) r
-    (λ u d. CallOn.of_method through (subst (λ (z : List Rpl). CallOf env row z args actuals place f (gives (Some (plain_type u)) g)) is d))
-    h
-
-pub of_found_faulty : (env : Env) (t : PlainType) (name : ℕ) (args : ReadArgs) (actuals : List (Option PlainType)) (place : Place) (f : Found) (row : MethodRow) (owned shown : List Rpl) (r : Result Ty Stop) →
-    method_through (table_of env) t name place ≡ Ok (row, owned) → shown ≡ owned → IfErr r (λ s. IfRefused s (λ q. CallOf env row shown args actuals place f (refused q))) →
-    IfErr r (λ s. IfRefused s (λ q. CallOn env t name args actuals place f (refused q)))
-of_found_faulty env t name args actuals place f row owned shown r through is h =
-    err_map (λ q. CallOf env row shown args actuals place f (refused q)) (λ q. CallOn env t name args actuals place f (refused q)) r
-    (λ q d. CallOn.of_method through (subst (λ (z : List Rpl). CallOf env row z args actuals place f (refused q)) is d))
+    says_all (CallOf env row shown args actuals place f) (CallOn env t name args actuals place f) (λ u. gives (Some (plain_type u)) g) refused r
+    (λ a d. CallOn.of_method through (subst (λ (z : List Rpl). CallOf env row z args actuals place f a) is d))
     h
 
 -- a call on what has a type, and on what fits everywhere

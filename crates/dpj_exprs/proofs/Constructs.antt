@@ -1,14 +1,12 @@
 -- What an expression is typed as, of what its parts are: one lemma for each rule, over the code's expressions.
 use Rattle.std.proofs.Common.{◌≡◌, ◌∙◌, ℕ, List, Bool, true, false, Option, Some, None, Result, map, sym, subst, ap, refl, rules}
-use Rattle.dpj_base.specs.declared.place.Place.{Place}
-use Rattle.dpj_base.specs.declared.refusal.Kind.TheVariants as kind
+use Rattle.std.specs.Result.{IsErrAnd}
 use Rattle.dpj_base.specs.declared.refusal.Refusal.{Refusal}
 use Rattle.dpj_base.specs.declared.refusal.Stop.{Stop}
 use Rattle.dpj_base.specs.Refused.{IfRefused}
 use Rattle.dpj_base.specs.declared.ty.Ty.{Int, the_lemmas}
 use Rattle.dpj_base.specs.Types.{PlainType, plain_type}
 use Rattle.dpj_base.specs.Types.{PlainType as ty}
-use Rattle.dpj_headers.specs.Passes.{fault}
 use Rattle.dpj_resolve.specs.declared.args.ReadArgs.{ReadArgs}
 use Rattle.dpj_resolve.specs.declared.base.ReadType.{ReadType}
 use Rattle.dpj_tree.specs.declared.expr.BinaryOp.{BinaryOp}
@@ -24,18 +22,18 @@ use Rattle.dpj_exprs.specs.declared.env.Env.{Env}
 use Rattle.dpj_exprs.specs.declared.env.LocalRow.{LocalRow}
 use Rattle.dpj_exprs.specs.declared.found.Found.{Found}
 use Rattle.dpj_exprs.specs.declared.typed.Typed.{Typed}
-use Rattle.dpj_exprs.specs.Answer.{Answer, gives, refused}
+use Rattle.dpj_exprs.specs.Answer.{Answer, gives, refused, Says}
 use Rattle.dpj_exprs.specs.Arrays.{made_names, front_of, front_told, created_array}
 use Rattle.dpj_exprs.specs.Elements.{read_element, read_part}
 use Rattle.dpj_exprs.specs.Env.{table_of, part_of}
 use Rattle.dpj_exprs.specs.Fields.{read_field}
 use Rattle.dpj_exprs.specs.Locals.{is_part_length}
-use Rattle.dpj_exprs.specs.Operations.{unary_takes, unary_gives, binary_takes, binary_gives}
-use Rattle.dpj_exprs.specs.Refusing.{refusal_at}
+use Rattle.dpj_exprs.specs.Operations.{unary_typed, binary_typed}
 use Rattle.dpj_exprs.specs.Shape.{form_of}
 use Rattle.dpj_exprs.specs.Typed.{plain_typed}
 use Rattle.dpj_exprs.specs.Typing.{answer, leaf_type, all_give, one_refused, Typing, TypingArray, TypingAll}
 use Rattle.dpj_exprs.specs.Uses.{args_of, args_told, callee_params, created_params, Call, Creation}
+use Rattle.dpj_exprs.proofs.Passing.{passed_on, says_all}
 use Rattle.dpj_exprs.proofs.Forms.{plain_node, at_Field, at_Element, at_Unary, at_Binary, at_NewArray, at_Call, at_New}
 
 -- an expression gives the type, or is refused
@@ -45,7 +43,7 @@ Gives env e f g t = Typing env (plain_expr e) f (gives (plain_typed t) g)
 abbrev pub Refuses : Env → Expr → Found → Refusal → Type 0
 Refuses env e f q = Typing env (plain_expr e) f (refused q)
 
-at_form : (env : Env) (e : Expr) (form : ExprForm) (f : Found) (a : Answer) → plain_expr e ≡ expression e.node e.place form → Typing env (expression e.node e.place form) f a → Typing env (plain_expr e) f a
+at_form : (env : Env) (e : Expr) (form : ExprForm) (f : Found) (a : Answer) → plain_expr e ≡ expression e.place form → Typing env (expression e.place form) f a → Typing env (plain_expr e) f a
 at_form env e form f a is d = subst (λ (z : PlainExpr). Typing env z f a) (sym is) d
 
 at_part : (env : Env) (x y : Expr) (f : Found) (a : Answer) → x ≡ y → Typing env (plain_expr x) f a → Typing env (plain_expr y) f a
@@ -57,9 +55,15 @@ length_at env x y name b same told = subst (λ (z : Expr). is_part_length env (p
 part_at : (env : Env) (x y : Expr) (row : Option LocalRow) → x ≡ y → row ≡ part_of env (plain_expr x) → part_of env (plain_expr y) ≡ row
 part_at env x y row same told = subst (λ (z : Expr). part_of env (plain_expr z) ≡ row) same (sym told)
 
--- a refusal at the expression itself
-pub at_place : (env : Env) (e : Expr) (f : Found) (s : Stop) (place : Place) → s ≡ refusal_at kind.Type place → Refuses env e f (fault kind.Type place) → IfRefused s (Refuses env e f)
-at_place env e f s place is d = subst (λ (z : Stop). IfRefused z (Refuses env e f)) (sym is) d
+-- at the exit of a `?`, and at a call that says it all
+pub exits : (env : Env) (e : Expr) (f g : Found) (P : Refusal → Type 0) (r : Result Typed Stop) (s : Stop) →
+    IsErrAnd r (λ x. x ≡ s) → ((q : Refusal) → P q → Refuses env e f q) → IfRefused s P → Says r (λ t. gives (plain_typed t) g) refused (Typing env (plain_expr e) f)
+exits env e f g P r s is next h = passed_on P (Typing env (plain_expr e) f) (λ t. gives (plain_typed t) g) refused r s is next h
+
+pub ends : (env : Env) (e : Expr) (f g : Found) (P : Answer → Type 0) (r : Result Typed Stop) →
+    ((a : Answer) → P a → Typing env (plain_expr e) f a) → Says r (λ t. gives (plain_typed t) g) refused P →
+    Says r (λ t. gives (plain_typed t) g) refused (Typing env (plain_expr e) f)
+ends env e f g P r next h = says_all P (Typing env (plain_expr e) f) (λ t. gives (plain_typed t) g) refused r next h
 
 -- fields
 int_type : plain_type Int ≡ ty.int
@@ -120,16 +124,11 @@ pub operand_refused : (env : Env) (e arg x : Expr) (op : UnaryOp) (f : Found) (q
 operand_refused env e arg x op f q is same d =
     at_form env e (unary op (plain_expr arg)) f (refused q) (at_Unary e op arg is) (Typing.operand_refused (at_part env x arg f (refused q) same d))
 
-pub operand_mistyped : (env : Env) (e arg x : Expr) (op : UnaryOp) (f g : Found) (t : Option PlainType) → e.kind ≡ form.Unary op arg → x ≡ arg → Typing env (plain_expr x) f (gives t g) → unary_takes op t ≡ false →
-    Refuses env e f (fault kind.Type e.place)
-operand_mistyped env e arg x op f g t is same d takes =
-    at_form env e (unary op (plain_expr arg)) f (refused (fault kind.Type e.place)) (at_Unary e op arg is) (Typing.operand_mistyped (at_part env x arg f (gives t g) same d) takes)
-
-pub operation_typed : (env : Env) (e arg x : Expr) (op : UnaryOp) (f g : Found) (t : Option PlainType) (made : PlainType) → e.kind ≡ form.Unary op arg → x ≡ arg → Typing env (plain_expr x) f (gives t g) →
-    unary_takes op t ≡ true → made ≡ unary_gives op → Typing env (plain_expr e) f (gives (Some made) g)
-operation_typed env e arg x op f g t made is same d takes makes =
-    subst (λ (z : PlainType). Typing env (plain_expr e) f (gives (Some z) g)) (sym makes)
-    (at_form env e (unary op (plain_expr arg)) f (gives (Some (unary_gives op)) g) (at_Unary e op arg is) (Typing.operation (at_part env x arg f (gives t g) same d) takes))
+pub operation_typed : (env : Env) (e arg x : Expr) (op : UnaryOp) (f g : Found) (t : Option PlainType) (made : Result PlainType Refusal) →
+    e.kind ≡ form.Unary op arg → x ≡ arg → Typing env (plain_expr x) f (gives t g) → unary_typed op t e.place ≡ made → Typing env (plain_expr e) f (answer made g)
+operation_typed env e arg x op f g t made is same d makes =
+    at_form env e (unary op (plain_expr arg)) f (answer made g) (at_Unary e op arg is)
+    (Typing.operation (at_part env x arg f (gives t g) same d) (ap (λ (z : Result PlainType Refusal). answer z g) makes))
 
 pub left_refused : (env : Env) (e left right x : Expr) (op : BinaryOp) (f : Found) (q : Refusal) → e.kind ≡ form.Binary op left right → x ≡ left → Refuses env x f q → Refuses env e f q
 left_refused env e left right x op f q is same d =
@@ -141,45 +140,40 @@ right_refused env e left right x y op f g t q is same also d i =
     at_form env e (binary op (plain_expr left) (plain_expr right)) f (refused q) (at_Binary e op left right is)
     (Typing.right_refused (at_part env x left f (gives t g) same d) (at_part env y right g (refused q) also i))
 
-pub operands_mistyped : (env : Env) (e left right x y : Expr) (op : BinaryOp) (f g h : Found) (t u : Option PlainType) → e.kind ≡ form.Binary op left right → x ≡ left → y ≡ right →
-    Typing env (plain_expr x) f (gives t g) → Typing env (plain_expr y) g (gives u h) → binary_takes op t u ≡ false → Refuses env e f (fault kind.Type e.place)
-operands_mistyped env e left right x y op f g h t u is same also d i takes =
-    at_form env e (binary op (plain_expr left) (plain_expr right)) f (refused (fault kind.Type e.place)) (at_Binary e op left right is)
-    (Typing.operands_mistyped (at_part env x left f (gives t g) same d) (at_part env y right g (gives u h) also i) takes)
-
-pub operations_typed : (env : Env) (e left right x y : Expr) (op : BinaryOp) (f g h : Found) (t u : Option PlainType) (made : PlainType) → e.kind ≡ form.Binary op left right → x ≡ left → y ≡ right →
-    Typing env (plain_expr x) f (gives t g) → Typing env (plain_expr y) g (gives u h) → binary_takes op t u ≡ true → made ≡ binary_gives op → Typing env (plain_expr e) f (gives (Some made) h)
-operations_typed env e left right x y op f g h t u made is same also d i takes makes =
-    subst (λ (z : PlainType). Typing env (plain_expr e) f (gives (Some z) h)) (sym makes)
-    (at_form env e (binary op (plain_expr left) (plain_expr right)) f (gives (Some (binary_gives op)) h) (at_Binary e op left right is)
-    (Typing.both_operands (at_part env x left f (gives t g) same d) (at_part env y right g (gives u h) also i) takes))
+pub operations_typed : (env : Env) (e left right x y : Expr) (op : BinaryOp) (f g h : Found) (t u : Option PlainType) (made : Result PlainType Refusal) →
+    e.kind ≡ form.Binary op left right → x ≡ left → y ≡ right → Typing env (plain_expr x) f (gives t g) → Typing env (plain_expr y) g (gives u h) →
+    binary_typed op t u e.place ≡ made → Typing env (plain_expr e) f (answer made h)
+operations_typed env e left right x y op f g h t u made is same also d i makes =
+    at_form env e (binary op (plain_expr left) (plain_expr right)) f (answer made h) (at_Binary e op left right is)
+    (Typing.both_operands (at_part env x left f (gives t g) same d) (at_part env y right g (gives u h) also i)
+    (ap (λ (z : Result PlainType Refusal). answer z h) makes))
 
 -- creations of arrays
 at_array : (env : Env) (e len : Expr) (base : BaseTree) (suffixes shown : List Suffix) (rpl : Option RplTree) (index : Option Named) (f : Found) (a : Answer) →
-    e.kind ≡ form.NewArray base suffixes len rpl index → shown ≡ suffixes → TypingArray env (made_names e.node shown index) base (plain_expr len) rpl e.place f a → Typing env (plain_expr e) f a
+    e.kind ≡ form.NewArray base suffixes len rpl index → shown ≡ suffixes → TypingArray env (made_names shown index) base (plain_expr len) rpl e.place f a → Typing env (plain_expr e) f a
 at_array env e len base suffixes shown rpl index f a is shows d =
     at_form env e (create_array base suffixes (plain_expr len) rpl index) f a (at_NewArray e base suffixes len rpl index is)
-    (Typing.new_array (subst (λ (z : List Suffix). TypingArray env (made_names e.node z index) base (plain_expr len) rpl e.place f a) shows d))
+    (Typing.new_array (subst (λ (z : List Suffix). TypingArray env (made_names z index) base (plain_expr len) rpl e.place f a) shows d))
 
 pub front_refused : (env : Env) (e len : Expr) (base : BaseTree) (suffixes shown : List Suffix) (rpl : Option RplTree) (index : Option Named) (f : Found) (q : Refusal) →
-    e.kind ≡ form.NewArray base suffixes len rpl index → shown ≡ suffixes → front_told env (made_names e.node shown index) base ≡ Some q → Refuses env e f q
+    e.kind ≡ form.NewArray base suffixes len rpl index → shown ≡ suffixes → front_told env (made_names shown index) base ≡ Some q → Refuses env e f q
 front_refused env e len base suffixes shown rpl index f q is shows told =
     at_array env e len base suffixes shown rpl index f (refused q) is shows (TypingArray.front_refused told)
 
 pub length_refused : (env : Env) (e len x : Expr) (base : BaseTree) (suffixes shown : List Suffix) (rpl : Option RplTree) (index : Option Named) (f : Found) (q : Refusal) →
-    e.kind ≡ form.NewArray base suffixes len rpl index → shown ≡ suffixes → x ≡ len → front_told env (made_names e.node shown index) base ≡ None → Refuses env x f q → Refuses env e f q
+    e.kind ≡ form.NewArray base suffixes len rpl index → shown ≡ suffixes → x ≡ len → front_told env (made_names shown index) base ≡ None → Refuses env x f q → Refuses env e f q
 length_refused env e len x base suffixes shown rpl index f q is shows same told d =
     at_array env e len base suffixes shown rpl index f (refused q) is shows (TypingArray.length_refused told (at_part env x len f (refused q) same d))
 
 pub array_typed : (env : Env) (e len x : Expr) (base : BaseTree) (suffixes shown : List Suffix) (rpl given : Option RplTree) (index : Option Named) (f g : Found) (t : Option PlainType) (front : ReadType) (made : Result PlainType Refusal) →
-    e.kind ≡ form.NewArray base suffixes len rpl index → shown ≡ suffixes → x ≡ len → given ≡ rpl → front_told env (made_names e.node shown index) base ≡ None → Typing env (plain_expr x) f (gives t g) →
-    front ≡ front_of env (made_names e.node shown index) base → created_array env (made_names e.node shown index) front t given e.place ≡ made → Typing env (plain_expr e) f (answer made g)
+    e.kind ≡ form.NewArray base suffixes len rpl index → shown ≡ suffixes → x ≡ len → given ≡ rpl → front_told env (made_names shown index) base ≡ None → Typing env (plain_expr x) f (gives t g) →
+    front ≡ front_of env (made_names shown index) base → created_array env (made_names shown index) front t given e.place ≡ made → Typing env (plain_expr e) f (answer made g)
 array_typed env e len x base suffixes shown rpl given index f g t front made is shows same gave told d read makes =
     at_array env e len base suffixes shown rpl index f (answer made g) is shows
     (TypingArray.array_created told (at_part env x len f (gives t g) same d)
     (ap (λ (z : Result PlainType Refusal). answer z g)
-    (subst (λ (z : Option RplTree). created_array env (made_names e.node shown index) (front_of env (made_names e.node shown index) base) t z e.place ≡ made) gave
-    (subst (λ (z : ReadType). created_array env (made_names e.node shown index) z t given e.place ≡ made) read makes))))
+    (subst (λ (z : Option RplTree). created_array env (made_names shown index) (front_of env (made_names shown index) base) t z e.place ≡ made) gave
+    (subst (λ (z : ReadType). created_array env (made_names shown index) z t given e.place ≡ made) read makes))))
 
 -- calls
 pub call_receiver_refused : (env : Env) (e of x : Expr) (regions : List RplTree) (name : ℕ) (actuals : List Expr) (f : Found) (q : Refusal) → e.kind ≡ form.Call of regions name actuals → x ≡ of → Refuses env x f q → Refuses env e f q

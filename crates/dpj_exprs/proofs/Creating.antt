@@ -1,5 +1,5 @@
 -- Creations of objects whose parts are read: of what is told of a use with region arguments, what is so of the creation.
-use Rattle.std.proofs.Common.{◌≡◌, ◌∙◌, ℕ, List, Bool, false, Option, Some, None, Result, Ok, Err, IfOk, IfErr, OnOk, sym, subst}
+use Rattle.std.proofs.Common.{◌≡◌, ◌∙◌, ℕ, List, Bool, false, Option, Some, None, Result, Ok, Err, IfOk, OnOk, sym, subst}
 use Rattle.dpj_base.specs.declared.place.Place.{Place}
 use Rattle.dpj_base.specs.declared.refusal.Kind.TheVariants as kind
 use Rattle.dpj_base.specs.declared.refusal.Refusal.{Refusal}
@@ -22,12 +22,12 @@ use Rattle.dpj_classes.specs.Table.{headers_of, constructor_of, given_of}
 use Rattle.dpj_tree.specs.declared.region.Named.{Named}
 use Rattle.dpj_exprs.specs.declared.env.Env.{Env}
 use Rattle.dpj_exprs.specs.declared.found.Found.{Found}
-use Rattle.dpj_exprs.specs.Answer.{gives, refused}
+use Rattle.dpj_exprs.specs.Answer.{gives, refused, Says}
 use Rattle.dpj_exprs.specs.Env.{table_of, given_in}
 use Rattle.dpj_exprs.specs.Refusing.{refusal_at}
 use Rattle.dpj_exprs.specs.Shapes.{shapes_fit}
 use Rattle.dpj_exprs.specs.Uses.{args_noted, formals_of, UseTold, unknown_told, with_constructor, CreationOf, Creation}
-use Rattle.dpj_exprs.proofs.Passing.{ok_map, err_map}
+use Rattle.dpj_exprs.proofs.Passing.{refused_map, says_all}
 
 abbrev pub params_at : Env → ℕ → List ParamRow
 params_at env at = params_in (headers_of (table_of env)) at
@@ -37,22 +37,19 @@ abbrev pub CreationTold : Env → ℕ → List (Option PlainType) → Place → 
 CreationTold env at actuals place told_one regions before =
     UseTold env before regions actuals (formals_of (table_of env) at) false (all_hold (given_in env) regions (given_of (table_of env) at)) place told_one
 
-pub of_created : (env : Env) (at : ℕ) (args : ReadArgs) (actuals : List (Option PlainType)) (place : Place) (f g : Found) (regions : List Rpl) (before : Faults) (r : Result Ty Stop) →
+-- what is told of a use of a constructor, as what is said of the creation
+pub of_used : (env : Env) (at : ℕ) (args : ReadArgs) (actuals : List (Option PlainType)) (place : Place) (f g : Found)
+    (regions : List Rpl) (before : Faults) (r : Result Ty Stop) →
     args_given args.written args.paths (params_at env at) ≡ Some regions → before ≡ args_noted args (params_at env at) place →
-    OnOk r (CreationTold env at actuals place None regions before) → IfOk r (λ t. plain_type t ≡ ty.class at regions) → OnOk r (g ≡ with_constructor (table_of env) f (constructor_of (table_of env) at) regions) →
-    IfOk r (λ t. CreationOf env at args actuals place f (gives (Some (plain_type t)) g))
-of_created env at args actuals place f g regions before (Ok t) given b told is found =
+    Says r (λ t. None) Some (λ told. CreationTold env at actuals place told regions before) →
+    IfOk r (λ t. plain_type t ≡ ty.class at regions) → OnOk r (g ≡ with_constructor (table_of env) f (constructor_of (table_of env) at) regions) →
+    Says r (λ t. gives (Some (plain_type t)) g) refused (CreationOf env at args actuals place f)
+of_used env at args actuals place f g regions before (Ok t) given b told is found =
     subst (λ (z : PlainType). CreationOf env at args actuals place f (gives (Some z) g)) (sym is)
     (subst (λ (z : Found). CreationOf env at args actuals place f (gives (Some (ty.class at regions)) z)) (sym found)
     (CreationOf.created given (subst (λ (z : Faults). CreationTold env at actuals place None regions z) b told)))
-of_created env at args actuals place f g regions before (Err s) given b told is found = tt
-
-pub of_faulty : (env : Env) (at : ℕ) (args : ReadArgs) (actuals : List (Option PlainType)) (place : Place) (f : Found) (regions : List Rpl) (before : Faults) (r : Result Ty Stop) →
-    args_given args.written args.paths (params_at env at) ≡ Some regions → before ≡ args_noted args (params_at env at) place →
-    IfErr r (λ s. IfRefused s (λ q. CreationTold env at actuals place (Some q) regions before)) →
-    IfErr r (λ s. IfRefused s (λ q. CreationOf env at args actuals place f (refused q)))
-of_faulty env at args actuals place f regions before r given b told =
-    err_map (λ q. CreationTold env at actuals place (Some q) regions before) (λ q. CreationOf env at args actuals place f (refused q)) r
+of_used env at args actuals place f g regions before (Err s) given b told is found =
+    refused_map (λ q. CreationTold env at actuals place (Some q) regions before) (λ q. CreationOf env at args actuals place f (refused q)) s
     (λ q d. CreationOf.faulty_creation given (subst (λ (z : Faults). CreationTold env at actuals place (Some q) regions z) b d))
     told
 
@@ -70,18 +67,12 @@ pub class_for : (headers others : Headers) (name : ℕ) (seen told : Option ℕ)
 class_for headers others name seen told s h t = subst (λ (z : Headers). class_of z name ≡ told) h (sym s ∙ t)
 
 pub of_class : (env : Env) (class : Named) (at : ℕ) (args : ReadArgs) (actuals : List (Option PlainType)) (place : Place) (f g : Found) (r : Result Ty Stop) →
-    class_of (headers_of (table_of env)) class.name ≡ Some at → IfOk r (λ t. CreationOf env at args actuals place f (gives (Some (plain_type t)) g)) →
-    IfOk r (λ t. Creation env class args actuals place f (gives (Some (plain_type t)) g))
+    class_of (headers_of (table_of env)) class.name ≡ Some at →
+    Says r (λ t. gives (Some (plain_type t)) g) refused (CreationOf env at args actuals place f) →
+    Says r (λ t. gives (Some (plain_type t)) g) refused (Creation env class args actuals place f)
 of_class env class at args actuals place f g r is h =
-    ok_map (λ t. CreationOf env at args actuals place f (gives (Some (plain_type t)) g)) (λ t. Creation env class args actuals place f (gives (Some (plain_type t)) g)) r
-    (λ t d. Creation.of_class is d) h
-
-pub of_class_faulty : (env : Env) (class : Named) (at : ℕ) (args : ReadArgs) (actuals : List (Option PlainType)) (place : Place) (f : Found) (r : Result Ty Stop) →
-    class_of (headers_of (table_of env)) class.name ≡ Some at → IfErr r (λ s. IfRefused s (λ q. CreationOf env at args actuals place f (refused q))) →
-    IfErr r (λ s. IfRefused s (λ q. Creation env class args actuals place f (refused q)))
-of_class_faulty env class at args actuals place f r is h =
-    err_map (λ q. CreationOf env at args actuals place f (refused q)) (λ q. Creation env class args actuals place f (refused q)) r
-    (λ q d. Creation.of_class is d) h
+    says_all (CreationOf env at args actuals place f) (Creation env class args actuals place f) (λ t. gives (Some (plain_type t)) g) refused r
+    (λ a d. Creation.of_class is d) h
 
 pub of_no_class : (env : Env) (class : Named) (args : ReadArgs) (actuals : List (Option PlainType)) (place : Place) (f : Found) (s : Stop) →
     class_of (headers_of (table_of env)) class.name ≡ None → s ≡ refusal_at kind.Unknown class.place → IfRefused s (λ q. Creation env class args actuals place f (refused q))

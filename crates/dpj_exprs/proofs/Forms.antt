@@ -14,11 +14,11 @@ use Rattle.dpj_tree.specs.Plain.{PlainExpr, expression, ExprForm, int, boolean, 
 abbrev pub plain_kind : ExprKind → ExprForm
 plain_kind = fold-ExprKind ExprForm PlainExpr expr_form expr_node
 
-pub plain_node : (e : Expr) → plain_expr e ≡ expression e.node e.place (plain_kind e.kind)
+pub plain_node : (e : Expr) → plain_expr e ≡ expression e.place (plain_kind e.kind)
 plain_node e = search (rules, the_lemmas)
 
-of_kind : (e : Expr) (k : ExprKind) (form : ExprForm) → e.kind ≡ k → plain_kind k ≡ form → plain_expr e ≡ expression e.node e.place form
-of_kind e k form is same = plain_node e ∙ ap (λ f. expression e.node e.place f) (ap plain_kind is ∙ same)
+of_kind : (e : Expr) (k : ExprKind) (form : ExprForm) → e.kind ≡ k → plain_kind k ≡ form → plain_expr e ≡ expression e.place form
+of_kind e k form is same = plain_node e ∙ ap (λ f. expression e.place f) (ap plain_kind is ∙ same)
 
 kind_Int : (n : ℤ) → plain_kind (kind.Int n) ≡ int n
 kind_Int n = search (rules, the_lemmas)
@@ -59,44 +59,44 @@ kind_Unary op arg = search (rules, the_lemmas)
 kind_Binary : (op : BinaryOp) (left right : Expr) → plain_kind (kind.Binary op left right) ≡ binary op (plain_expr left) (plain_expr right)
 kind_Binary op left right = search (rules, the_lemmas)
 
-pub at_Int : (e : Expr) (n : ℤ) → e.kind ≡ kind.Int n → plain_expr e ≡ expression e.node e.place (int n)
+pub at_Int : (e : Expr) (n : ℤ) → e.kind ≡ kind.Int n → plain_expr e ≡ expression e.place (int n)
 at_Int e n is = of_kind e (kind.Int n) (int n) is (kind_Int n)
 
-pub at_Bool : (e : Expr) (b : Bool) → e.kind ≡ kind.Bool b → plain_expr e ≡ expression e.node e.place (boolean b)
+pub at_Bool : (e : Expr) (b : Bool) → e.kind ≡ kind.Bool b → plain_expr e ≡ expression e.place (boolean b)
 at_Bool e b is = of_kind e (kind.Bool b) (boolean b) is (kind_Bool b)
 
-pub at_Null : (e : Expr) → e.kind ≡ kind.Null → plain_expr e ≡ expression e.node e.place null
+pub at_Null : (e : Expr) → e.kind ≡ kind.Null → plain_expr e ≡ expression e.place null
 at_Null e is = of_kind e kind.Null null is kind_Null
 
-pub at_This : (e : Expr) → e.kind ≡ kind.This → plain_expr e ≡ expression e.node e.place this
+pub at_This : (e : Expr) → e.kind ≡ kind.This → plain_expr e ≡ expression e.place this
 at_This e is = of_kind e kind.This this is kind_This
 
-pub at_Local : (e : Expr) (name : ℕ) → e.kind ≡ kind.Local name → plain_expr e ≡ expression e.node e.place (local name)
+pub at_Local : (e : Expr) (name : ℕ) → e.kind ≡ kind.Local name → plain_expr e ≡ expression e.place (local name)
 at_Local e name is = of_kind e (kind.Local name) (local name) is (kind_Local name)
 
-pub at_Field : (e of : Expr) (name : ℕ) → e.kind ≡ kind.Field of name → plain_expr e ≡ expression e.node e.place (field (plain_expr of) name)
+pub at_Field : (e of : Expr) (name : ℕ) → e.kind ≡ kind.Field of name → plain_expr e ≡ expression e.place (field (plain_expr of) name)
 at_Field e of name is = of_kind e (kind.Field of name) (field (plain_expr of) name) is (kind_Field of name)
 
-pub at_Element : (e of at : Expr) → e.kind ≡ kind.Element of at → plain_expr e ≡ expression e.node e.place (element (plain_expr of) (plain_expr at))
+pub at_Element : (e of at : Expr) → e.kind ≡ kind.Element of at → plain_expr e ≡ expression e.place (element (plain_expr of) (plain_expr at))
 at_Element e of at is = of_kind e (kind.Element of at) (element (plain_expr of) (plain_expr at)) is (kind_Element of at)
 
-pub at_Unary : (e : Expr) (op : UnaryOp) (arg : Expr) → e.kind ≡ kind.Unary op arg → plain_expr e ≡ expression e.node e.place (unary op (plain_expr arg))
+pub at_Unary : (e : Expr) (op : UnaryOp) (arg : Expr) → e.kind ≡ kind.Unary op arg → plain_expr e ≡ expression e.place (unary op (plain_expr arg))
 at_Unary e op arg is = of_kind e (kind.Unary op arg) (unary op (plain_expr arg)) is (kind_Unary op arg)
 
-pub at_Binary : (e : Expr) (op : BinaryOp) (left right : Expr) → e.kind ≡ kind.Binary op left right → plain_expr e ≡ expression e.node e.place (binary op (plain_expr left) (plain_expr right))
+pub at_Binary : (e : Expr) (op : BinaryOp) (left right : Expr) → e.kind ≡ kind.Binary op left right → plain_expr e ≡ expression e.place (binary op (plain_expr left) (plain_expr right))
 at_Binary e op left right is = of_kind e (kind.Binary op left right) (binary op (plain_expr left) (plain_expr right)) is (kind_Binary op left right)
 
 pub at_Call : (e of : Expr) (regions : List RplTree) (name : ℕ) (actuals : List Expr) → e.kind ≡ kind.Call of regions name actuals →
-    plain_expr e ≡ expression e.node e.place (call (plain_expr of) regions name (plain_exprs (map plain_expr actuals)))
+    plain_expr e ≡ expression e.place (call (plain_expr of) regions name (plain_exprs (map plain_expr actuals)))
 at_Call e of regions name actuals is =
     of_kind e (kind.Call of regions name actuals) (call (plain_expr of) regions name (plain_exprs (map plain_expr actuals))) is (kind_Call of regions name actuals)
 
 pub at_New : (e : Expr) (class : Named) (regions : List RplTree) (actuals : List Expr) → e.kind ≡ kind.New class regions actuals →
-    plain_expr e ≡ expression e.node e.place (create class regions (plain_exprs (map plain_expr actuals)))
+    plain_expr e ≡ expression e.place (create class regions (plain_exprs (map plain_expr actuals)))
 at_New e class regions actuals is =
     of_kind e (kind.New class regions actuals) (create class regions (plain_exprs (map plain_expr actuals))) is (kind_New class regions actuals)
 
 pub at_NewArray : (e : Expr) (start : BaseTree) (suffixes : List Suffix) (len : Expr) (rpl : Option RplTree) (index : Option Named) → e.kind ≡ kind.NewArray start suffixes len rpl index →
-    plain_expr e ≡ expression e.node e.place (create_array start suffixes (plain_expr len) rpl index)
+    plain_expr e ≡ expression e.place (create_array start suffixes (plain_expr len) rpl index)
 at_NewArray e start suffixes len rpl index is =
     of_kind e (kind.NewArray start suffixes len rpl index) (create_array start suffixes (plain_expr len) rpl index) is (kind_NewArray start suffixes len rpl index)

@@ -3,7 +3,6 @@ pub mod Constructs
 pub mod Creating
 pub mod Fitted
 pub mod Forms
-mod Noted
 pub mod Once
 pub mod OnceTargets
 pub mod OnceUsed

@@ -1,12 +1,10 @@
 -- An expression is typed in one way at most: what two derivations say of it is the same.
 use Rattle.std.proofs.Common.{◌≡◌, ◌∙◌, ℕ, List, [], ◌∷◌, true, false, Option, Some, None, Result, refl, sym, ap}
 use Rattle.dpj_base.specs.declared.place.Place.{Place}
-use Rattle.dpj_base.specs.declared.refusal.Kind.TheVariants as kind
 use Rattle.dpj_base.specs.declared.refusal.Refusal.{Refusal}
 use Rattle.dpj_base.specs.Types.{PlainType}
 use Rattle.dpj_base.specs.Types.{PlainType as ty}
-use Rattle.dpj_headers.specs.Passes.{fault}
-use Rattle.dpj_resolve.specs.Scopes.{PlainIndex}
+use Rattle.dpj_resolve.specs.Index.{PlainIndex}
 use Rattle.dpj_tree.specs.declared.expr.BinaryOp.{BinaryOp}
 use Rattle.dpj_tree.specs.declared.expr.UnaryOp.{UnaryOp}
 use Rattle.dpj_tree.specs.declared.region.BaseTree.{BaseTree}
@@ -23,7 +21,7 @@ use Rattle.dpj_exprs.specs.Elements.{read_element, read_part}
 use Rattle.dpj_exprs.specs.Env.{table_of, part_of}
 use Rattle.dpj_exprs.specs.Fields.{read_field}
 use Rattle.dpj_exprs.specs.Locals.{is_part_length}
-use Rattle.dpj_exprs.specs.Operations.{unary_takes, unary_gives, binary_takes, binary_gives}
+use Rattle.dpj_exprs.specs.Operations.{unary_typed, binary_typed}
 use Rattle.dpj_exprs.specs.Typing.{answer, leaf_type, AllAnswer, all_give, one_refused, Typing, TypingArray, TypingAll}
 use Rattle.dpj_exprs.specs.Uses.{args_of, args_told, callee_params, created_params, Call, Creation}
 use Rattle.dpj_exprs.proofs.OnceUsed.{call_once, creation_once}
@@ -61,8 +59,8 @@ pub by_three : {A B C D : Type 0} (to : A → B → C → D) {x y : A} {u v : B}
 by_three to {x} {y} {u} {v} {w} {z} e d c p q = sym p ∙ ap (λ s. to s u w) e ∙ ap (λ s. to y s w) d ∙ ap (to y v) c ∙ q
 
 -- a literal, `null`, `this` or a local
-leaf_alone : {env : Env} {node : ℕ} {place : Place} {form : ExprForm} {f : Found} {a : Answer} (r : Result PlainType Refusal) →
-    leaf_type env place form ≡ Some r → answer r f ≡ a → Alone env (expression node place form) f a
+leaf_alone : {env : Env} {place : Place} {form : ExprForm} {f : Found} {a : Answer} (r : Result PlainType Refusal) →
+    leaf_type env place form ≡ Some r → answer r f ≡ a → Alone env (expression place form) f a
 leaf_alone r l s f' b p (Typing.no_parts {r = r'} l' s') =
     let e : Some r ≡ Some r' = sym l ∙ l' in
     let same : r ≡ r' = cc in
@@ -70,28 +68,28 @@ leaf_alone r l s f' b p (Typing.no_parts {r = r'} l' s') =
 leaf_alone r l s f' b p _ = cc
 
 -- the length of a part, and a field
-length_alone : {env : Env} {node : ℕ} {place : Place} {of : PlainExpr} {name : ℕ} {f : Found} → is_part_length env of name ≡ true → Alone env (expression node place (field of name)) f (gives (Some ty.int) f)
+length_alone : {env : Env} {place : Place} {of : PlainExpr} {name : ℕ} {f : Found} → is_part_length env of name ≡ true → Alone env (expression place (field of name)) f (gives (Some ty.int) f)
 length_alone l f' b p (Typing.no_parts l' s') = cc
 length_alone l f' b p (Typing.part_length l') = ap (gives (Some ty.int)) p
 length_alone l f' b p (Typing.field_receiver_refused l' d') = cc
 length_alone l f' b p (Typing.field_read l' d' r') = cc
 
-field_receiver_alone : {env : Env} {node : ℕ} {place : Place} {of : PlainExpr} {name : ℕ} {f : Found} (refusal : Refusal) → is_part_length env of name ≡ false → Alone env of f (refused refusal) → Alone env (expression node place (field of name)) f (refused refusal)
+field_receiver_alone : {env : Env} {place : Place} {of : PlainExpr} {name : ℕ} {f : Found} (refusal : Refusal) → is_part_length env of name ≡ false → Alone env of f (refused refusal) → Alone env (expression place (field of name)) f (refused refusal)
 field_receiver_alone q l only f' b p (Typing.no_parts l' s') = cc
 field_receiver_alone q l only f' b p (Typing.part_length l') = cc
 field_receiver_alone q l only f' b p (Typing.field_receiver_refused l' d') = only f' _ p d'
 field_receiver_alone q l only f' b p (Typing.field_read {g = g'} {t = t'} l' d' r') = let e = only f' (gives t' g') p d' in cc
 
-field_alone : {env : Env} {node : ℕ} {place : Place} {of : PlainExpr} {name : ℕ} {f : Found} {a : Answer} (g : Found) (t : Option PlainType) → is_part_length env of name ≡ false → Alone env of f (gives t g) → read_field env t name place g ≡ a → Alone env (expression node place (field of name)) f a
+field_alone : {env : Env} {place : Place} {of : PlainExpr} {name : ℕ} {f : Found} {a : Answer} (g : Found) (t : Option PlainType) → is_part_length env of name ≡ false → Alone env of f (gives t g) → read_field env t name place g ≡ a → Alone env (expression place (field of name)) f a
 field_alone g t l only r f' b p (Typing.no_parts l' s') = cc
 field_alone g t l only r f' b p (Typing.part_length l') = cc
 field_alone g t l only r f' b p (Typing.field_receiver_refused {refusal = q} l' d') = let e = only f' (refused q) p d' in cc
-field_alone {env} {node} {place} {of} {name} g t l only r f' b p (Typing.field_read {g = g'} {t = t'} l' d' r') =
+field_alone {env} {place} {of} {name} g t l only r f' b p (Typing.field_read {g = g'} {t = t'} l' d' r') =
     let e = only f' (gives t' g') p d' in
     by_two (λ u k. read_field env u name place k) (same_type e) (same_found e) r r'
 
 -- an element of a part, and of an array
-part_index_alone : {env : Env} {node : ℕ} {place : Place} {array index : PlainExpr} {f : Found} (row : LocalRow) (refusal : Refusal) → part_of env array ≡ Some row → Alone env index f (refused refusal) → Alone env (expression node place (element array index)) f (refused refusal)
+part_index_alone : {env : Env} {place : Place} {array index : PlainExpr} {f : Found} (row : LocalRow) (refusal : Refusal) → part_of env array ≡ Some row → Alone env index f (refused refusal) → Alone env (expression place (element array index)) f (refused refusal)
 part_index_alone row q l only f' b p (Typing.no_parts l' s') = cc
 part_index_alone row q l only f' b p (Typing.part_index_refused l' d') = only f' _ p d'
 part_index_alone row q l only f' b p (Typing.part_element_read {g = g'} {t = t'} l' d' r') = let e = only f' (gives t' g') p d' in cc
@@ -99,10 +97,10 @@ part_index_alone row q l only f' b p (Typing.array_refused l' d') = cc
 part_index_alone row q l only f' b p (Typing.index_refused l' d' i') = cc
 part_index_alone row q l only f' b p (Typing.element_read l' d' i' r') = cc
 
-part_element_alone : {env : Env} {node : ℕ} {place : Place} {array index : PlainExpr} {f : Found} {a : Answer} (g : Found) (row : LocalRow) (t : Option PlainType) → part_of env array ≡ Some row → Alone env index f (gives t g) → read_part row t place g ≡ a → Alone env (expression node place (element array index)) f a
+part_element_alone : {env : Env} {place : Place} {array index : PlainExpr} {f : Found} {a : Answer} (g : Found) (row : LocalRow) (t : Option PlainType) → part_of env array ≡ Some row → Alone env index f (gives t g) → read_part row t place g ≡ a → Alone env (expression place (element array index)) f a
 part_element_alone g row t l only r f' b p (Typing.no_parts l' s') = cc
 part_element_alone g row t l only r f' b p (Typing.part_index_refused {refusal = q} l' d') = let e = only f' (refused q) p d' in cc
-part_element_alone {env} {node} {place} g row t l only r f' b p (Typing.part_element_read {g = g'} {row = row'} {t = t'} l' d' r') =
+part_element_alone {env} {place} g row t l only r f' b p (Typing.part_element_read {g = g'} {row = row'} {t = t'} l' d' r') =
     let e = only f' (gives t' g') p d' in
     let rows : Some row ≡ Some row' = sym l ∙ l' in
     let same : row ≡ row' = cc in
@@ -111,7 +109,7 @@ part_element_alone g row t l only r f' b p (Typing.array_refused l' d') = cc
 part_element_alone g row t l only r f' b p (Typing.index_refused l' d' i') = cc
 part_element_alone g row t l only r f' b p (Typing.element_read l' d' i' r') = cc
 
-array_refused_alone : {env : Env} {node : ℕ} {place : Place} {array index : PlainExpr} {f : Found} (refusal : Refusal) → part_of env array ≡ None → Alone env array f (refused refusal) → Alone env (expression node place (element array index)) f (refused refusal)
+array_refused_alone : {env : Env} {place : Place} {array index : PlainExpr} {f : Found} (refusal : Refusal) → part_of env array ≡ None → Alone env array f (refused refusal) → Alone env (expression place (element array index)) f (refused refusal)
 array_refused_alone q l only f' b p (Typing.no_parts l' s') = cc
 array_refused_alone q l only f' b p (Typing.part_index_refused l' d') = cc
 array_refused_alone q l only f' b p (Typing.part_element_read l' d' r') = cc
@@ -119,7 +117,7 @@ array_refused_alone q l only f' b p (Typing.array_refused l' d') = only f' _ p d
 array_refused_alone q l only f' b p (Typing.index_refused {g = g'} {t = t'} l' d' i') = let e = only f' (gives t' g') p d' in cc
 array_refused_alone q l only f' b p (Typing.element_read {g = g'} {t = t'} l' d' i' r') = let e = only f' (gives t' g') p d' in cc
 
-index_refused_alone : {env : Env} {node : ℕ} {place : Place} {array index : PlainExpr} {f : Found} (g : Found) (t : Option PlainType) (refusal : Refusal) → part_of env array ≡ None → Alone env array f (gives t g) → Alone env index g (refused refusal) → Alone env (expression node place (element array index)) f (refused refusal)
+index_refused_alone : {env : Env} {place : Place} {array index : PlainExpr} {f : Found} (g : Found) (t : Option PlainType) (refusal : Refusal) → part_of env array ≡ None → Alone env array f (gives t g) → Alone env index g (refused refusal) → Alone env (expression place (element array index)) f (refused refusal)
 index_refused_alone g t q l only next f' b p (Typing.no_parts l' s') = cc
 index_refused_alone g t q l only next f' b p (Typing.part_index_refused l' d') = cc
 index_refused_alone g t q l only next f' b p (Typing.part_element_read l' d' r') = cc
@@ -128,148 +126,128 @@ index_refused_alone g t q l only next f' b p (Typing.index_refused {g = g'} {t =
 index_refused_alone g t q l only next f' b p (Typing.element_read {g = g'} {h = h'} {t = t'} {u = u'} l' d' i' r') =
     let e = next g' (gives u' h') (same_found (only f' (gives t' g') p d')) i' in cc
 
-element_alone : {env : Env} {node : ℕ} {place : Place} {array index : PlainExpr} {f : Found} {a : Answer} (g h : Found) (t u : Option PlainType) →
-    part_of env array ≡ None → Alone env array f (gives t g) → Alone env index g (gives u h) → read_element env t index u place h ≡ a → Alone env (expression node place (element array index)) f a
+element_alone : {env : Env} {place : Place} {array index : PlainExpr} {f : Found} {a : Answer} (g h : Found) (t u : Option PlainType) →
+    part_of env array ≡ None → Alone env array f (gives t g) → Alone env index g (gives u h) → read_element env t index u place h ≡ a → Alone env (expression place (element array index)) f a
 element_alone g h t u l only next r f' b p (Typing.no_parts l' s') = cc
 element_alone g h t u l only next r f' b p (Typing.part_index_refused l' d') = cc
 element_alone g h t u l only next r f' b p (Typing.part_element_read l' d' r') = cc
 element_alone g h t u l only next r f' b p (Typing.array_refused {refusal = q'} l' d') = let e = only f' (refused q') p d' in cc
 element_alone g h t u l only next r f' b p (Typing.index_refused {g = g'} {t = t'} {refusal = q'} l' d' i') =
     let e = next g' (refused q') (same_found (only f' (gives t' g') p d')) i' in cc
-element_alone {env} {node} {place} {array} {index} g h t u l only next r f' b p (Typing.element_read {g = g'} {h = h'} {t = t'} {u = u'} l' d' i' r') =
+element_alone {env} {place} {array} {index} g h t u l only next r f' b p (Typing.element_read {g = g'} {h = h'} {t = t'} {u = u'} l' d' i' r') =
     let e = only f' (gives t' g') p d' in
     let d = next g' (gives u' h') (same_found e) i' in
     by_three (λ v w k. read_element env v index w place k) (same_type e) (same_type d) (same_found d) r r'
 
 -- an operation of one operand
-operand_alone : {env : Env} {node : ℕ} {place : Place} {op : UnaryOp} {arg : PlainExpr} {f : Found} (refusal : Refusal) → Alone env arg f (refused refusal) → Alone env (expression node place (unary op arg)) f (refused refusal)
+operand_alone : {env : Env} {place : Place} {op : UnaryOp} {arg : PlainExpr} {f : Found} (refusal : Refusal) →
+    Alone env arg f (refused refusal) → Alone env (expression place (unary op arg)) f (refused refusal)
 operand_alone q only f' b p (Typing.no_parts l' s') = cc
 operand_alone q only f' b p (Typing.operand_refused d') = only f' _ p d'
 operand_alone q only f' b p (Typing.operation {g = g'} {t = t'} d' r') = let e = only f' (gives t' g') p d' in cc
-operand_alone q only f' b p (Typing.operand_mistyped {g = g'} {t = t'} d' r') = let e = only f' (gives t' g') p d' in cc
 
-operation_alone : {env : Env} {node : ℕ} {place : Place} {op : UnaryOp} {arg : PlainExpr} {f : Found} (g : Found) (t : Option PlainType) → Alone env arg f (gives t g) → unary_takes op t ≡ true → Alone env (expression node place (unary op arg)) f (gives (Some (unary_gives op)) g)
+operation_alone : {env : Env} {place : Place} {op : UnaryOp} {arg : PlainExpr} {f : Found} {a : Answer} (g : Found) (t : Option PlainType) →
+    Alone env arg f (gives t g) → answer (unary_typed op t place) g ≡ a → Alone env (expression place (unary op arg)) f a
 operation_alone g t only r f' b p (Typing.no_parts l' s') = cc
 operation_alone g t only r f' b p (Typing.operand_refused {refusal = q'} d') = let e = only f' (refused q') p d' in cc
-operation_alone {op = op} g t only r f' b p (Typing.operation {g = g'} {t = t'} d' r') = ap (gives (Some (unary_gives op))) (same_found (only f' (gives t' g') p d'))
-operation_alone {op = op} g t only r f' b p (Typing.operand_mistyped {g = g'} {t = t'} d' r') =
-    let e : true ≡ false = by_one (unary_takes op) (same_type (only f' (gives t' g') p d')) r r' in cc
-
-operand_mistyped_alone : {env : Env} {node : ℕ} {place : Place} {op : UnaryOp} {arg : PlainExpr} {f : Found} (g : Found) (t : Option PlainType) → Alone env arg f (gives t g) → unary_takes op t ≡ false → Alone env (expression node place (unary op arg)) f (refused (fault kind.Type place))
-operand_mistyped_alone g t only r f' b p (Typing.no_parts l' s') = cc
-operand_mistyped_alone g t only r f' b p (Typing.operand_refused {refusal = q'} d') = let e = only f' (refused q') p d' in cc
-operand_mistyped_alone {op = op} g t only r f' b p (Typing.operation {g = g'} {t = t'} d' r') =
-    let e : false ≡ true = by_one (unary_takes op) (same_type (only f' (gives t' g') p d')) r r' in cc
-operand_mistyped_alone g t only r f' b p (Typing.operand_mistyped d' r') = refl
+operation_alone {env} {place} {op} g t only r f' b p (Typing.operation {g = g'} {t = t'} d' r') =
+    let e = only f' (gives t' g') p d' in
+    by_two (λ u k. answer (unary_typed op u place) k) (same_type e) (same_found e) r r'
 
 -- an operation of two operands
-left_alone : {env : Env} {node : ℕ} {place : Place} {op : BinaryOp} {left right : PlainExpr} {f : Found} (refusal : Refusal) → Alone env left f (refused refusal) → Alone env (expression node place (binary op left right)) f (refused refusal)
+left_alone : {env : Env} {place : Place} {op : BinaryOp} {left right : PlainExpr} {f : Found} (refusal : Refusal) →
+    Alone env left f (refused refusal) → Alone env (expression place (binary op left right)) f (refused refusal)
 left_alone q only f' b p (Typing.no_parts l' s') = cc
 left_alone q only f' b p (Typing.left_refused d') = only f' _ p d'
 left_alone q only f' b p (Typing.right_refused {g = g'} {t = t'} d' i') = let e = only f' (gives t' g') p d' in cc
 left_alone q only f' b p (Typing.both_operands {g = g'} {t = t'} d' i' r') = let e = only f' (gives t' g') p d' in cc
-left_alone q only f' b p (Typing.operands_mistyped {g = g'} {t = t'} d' i' r') = let e = only f' (gives t' g') p d' in cc
 
-right_alone : {env : Env} {node : ℕ} {place : Place} {op : BinaryOp} {left right : PlainExpr} {f : Found} (g : Found) (t : Option PlainType) (refusal : Refusal) → Alone env left f (gives t g) → Alone env right g (refused refusal) → Alone env (expression node place (binary op left right)) f (refused refusal)
+right_alone : {env : Env} {place : Place} {op : BinaryOp} {left right : PlainExpr} {f : Found} (g : Found) (t : Option PlainType) (refusal : Refusal) →
+    Alone env left f (gives t g) → Alone env right g (refused refusal) → Alone env (expression place (binary op left right)) f (refused refusal)
 right_alone g t q only next f' b p (Typing.no_parts l' s') = cc
 right_alone g t q only next f' b p (Typing.left_refused {refusal = q'} d') = let e = only f' (refused q') p d' in cc
 right_alone g t q only next f' b p (Typing.right_refused {g = g'} {t = t'} d' i') = next g' _ (same_found (only f' (gives t' g') p d')) i'
 right_alone g t q only next f' b p (Typing.both_operands {g = g'} {h = h'} {t = t'} {u = u'} d' i' r') =
     let e = next g' (gives u' h') (same_found (only f' (gives t' g') p d')) i' in cc
-right_alone g t q only next f' b p (Typing.operands_mistyped {g = g'} {h = h'} {t = t'} {u = u'} d' i' r') =
-    let e = next g' (gives u' h') (same_found (only f' (gives t' g') p d')) i' in cc
 
-operations_alone : {env : Env} {node : ℕ} {place : Place} {op : BinaryOp} {left right : PlainExpr} {f : Found} (g h : Found) (t u : Option PlainType) → Alone env left f (gives t g) → Alone env right g (gives u h) → binary_takes op t u ≡ true → Alone env (expression node place (binary op left right)) f (gives (Some (binary_gives op)) h)
+operations_alone : {env : Env} {place : Place} {op : BinaryOp} {left right : PlainExpr} {f : Found} {a : Answer} (g h : Found) (t u : Option PlainType) →
+    Alone env left f (gives t g) → Alone env right g (gives u h) → answer (binary_typed op t u place) h ≡ a → Alone env (expression place (binary op left right)) f a
 operations_alone g h t u only next r f' b p (Typing.no_parts l' s') = cc
 operations_alone g h t u only next r f' b p (Typing.left_refused {refusal = q'} d') = let e = only f' (refused q') p d' in cc
 operations_alone g h t u only next r f' b p (Typing.right_refused {g = g'} {t = t'} {refusal = q'} d' i') =
     let e = next g' (refused q') (same_found (only f' (gives t' g') p d')) i' in cc
-operations_alone {op = op} g h t u only next r f' b p (Typing.both_operands {g = g'} {h = h'} {t = t'} {u = u'} d' i' r') =
-    let d = next g' (gives u' h') (same_found (only f' (gives t' g') p d')) i' in
-    ap (gives (Some (binary_gives op))) (same_found d)
-operations_alone {op = op} g h t u only next r f' b p (Typing.operands_mistyped {g = g'} {h = h'} {t = t'} {u = u'} d' i' r') =
+operations_alone {env} {place} {op} g h t u only next r f' b p (Typing.both_operands {g = g'} {h = h'} {t = t'} {u = u'} d' i' r') =
     let e = only f' (gives t' g') p d' in
     let d = next g' (gives u' h') (same_found e) i' in
-    let off : true ≡ false = by_two (binary_takes op) (same_type e) (same_type d) r r' in cc
-
-operands_mistyped_alone : {env : Env} {node : ℕ} {place : Place} {op : BinaryOp} {left right : PlainExpr} {f : Found} (g h : Found) (t u : Option PlainType) → Alone env left f (gives t g) → Alone env right g (gives u h) → binary_takes op t u ≡ false → Alone env (expression node place (binary op left right)) f (refused (fault kind.Type place))
-operands_mistyped_alone g h t u only next r f' b p (Typing.no_parts l' s') = cc
-operands_mistyped_alone g h t u only next r f' b p (Typing.left_refused {refusal = q'} d') = let e = only f' (refused q') p d' in cc
-operands_mistyped_alone g h t u only next r f' b p (Typing.right_refused {g = g'} {t = t'} {refusal = q'} d' i') =
-    let e = next g' (refused q') (same_found (only f' (gives t' g') p d')) i' in cc
-operands_mistyped_alone {op = op} g h t u only next r f' b p (Typing.both_operands {g = g'} {h = h'} {t = t'} {u = u'} d' i' r') =
-    let e = only f' (gives t' g') p d' in
-    let d = next g' (gives u' h') (same_found e) i' in
-    let off : false ≡ true = by_two (binary_takes op) (same_type e) (same_type d) r r' in cc
-operands_mistyped_alone g h t u only next r f' b p (Typing.operands_mistyped d' i' r') = refl
+    by_three (λ v w k. answer (binary_typed op v w place) k) (same_type e) (same_type d) (same_found d) r r'
 
 -- a call
-receiver_alone : {env : Env} {node : ℕ} {place : Place} {of : PlainExpr} {regions : List RplTree} {name : ℕ} {actuals : PlainExprs} {f : Found} (refusal : Refusal) → Alone env of f (refused refusal) → Alone env (expression node place (call of regions name actuals)) f (refused refusal)
+receiver_alone : {env : Env} {place : Place} {of : PlainExpr} {regions : List RplTree} {name : ℕ} {actuals : PlainExprs} {f : Found} (refusal : Refusal) → Alone env of f (refused refusal) → Alone env (expression place (call of regions name actuals)) f (refused refusal)
 receiver_alone q only f' b p (Typing.no_parts l' s') = cc
 receiver_alone q only f' b p (Typing.receiver_refused d') = only f' _ p d'
 receiver_alone q only f' b p (Typing.call_args_refused {g = g'} {t = t'} d' l') = let e = only f' (gives t' g') p d' in cc
 receiver_alone q only f' b p (Typing.call_actual_refused {g = g'} {t = t'} d' l' i') = let e = only f' (gives t' g') p d' in cc
 receiver_alone q only f' b p (Typing.method_call {g = g'} {t = t'} d' l' i' r') = let e = only f' (gives t' g') p d' in cc
 
-call_args_alone : {env : Env} {node : ℕ} {place : Place} {of : PlainExpr} {regions : List RplTree} {name : ℕ} {actuals : PlainExprs} {f : Found} (g : Found) (t : Option PlainType) (refusal : Refusal) → Alone env of f (gives t g) → args_told env (callee_params (table_of env) t name) regions ≡ Some refusal → Alone env (expression node place (call of regions name actuals)) f (refused refusal)
+call_args_alone : {env : Env} {place : Place} {of : PlainExpr} {regions : List RplTree} {name : ℕ} {actuals : PlainExprs} {f : Found} (g : Found) (t : Option PlainType) (refusal : Refusal) → Alone env of f (gives t g) → args_told env (callee_params (table_of env) t name) regions ≡ Some refusal → Alone env (expression place (call of regions name actuals)) f (refused refusal)
 call_args_alone g t q only l f' b p (Typing.no_parts l' s') = cc
 call_args_alone g t q only l f' b p (Typing.receiver_refused {refusal = q'} d') = let e = only f' (refused q') p d' in cc
-call_args_alone {env} {node} {place} {of} {regions} {name} g t q only l f' b p (Typing.call_args_refused {g = g'} {t = t'} {refusal = q'} d' l') =
+call_args_alone {env} {place} {of} {regions} {name} g t q only l f' b p (Typing.call_args_refused {g = g'} {t = t'} {refusal = q'} d' l') =
     let e : Some q ≡ Some q' = by_one (λ v. args_told env (callee_params (table_of env) v name) regions) (same_type (only f' (gives t' g') p d')) l l' in cc
-call_args_alone {env} {node} {place} {of} {regions} {name} g t q only l f' b p (Typing.call_actual_refused {g = g'} {t = t'} d' l' i') =
+call_args_alone {env} {place} {of} {regions} {name} g t q only l f' b p (Typing.call_actual_refused {g = g'} {t = t'} d' l' i') =
     let e : Some q ≡ None = by_one (λ v. args_told env (callee_params (table_of env) v name) regions) (same_type (only f' (gives t' g') p d')) l l' in cc
-call_args_alone {env} {node} {place} {of} {regions} {name} g t q only l f' b p (Typing.method_call {g = g'} {t = t'} d' l' i' r') =
+call_args_alone {env} {place} {of} {regions} {name} g t q only l f' b p (Typing.method_call {g = g'} {t = t'} d' l' i' r') =
     let e : Some q ≡ None = by_one (λ v. args_told env (callee_params (table_of env) v name) regions) (same_type (only f' (gives t' g') p d')) l l' in cc
 
-call_actual_alone : {env : Env} {node : ℕ} {place : Place} {of : PlainExpr} {regions : List RplTree} {name : ℕ} {actuals : PlainExprs} {f : Found} (g : Found) (t : Option PlainType) (refusal : Refusal) →
-    Alone env of f (gives t g) → args_told env (callee_params (table_of env) t name) regions ≡ None → AllAlone env actuals g (one_refused refusal) → Alone env (expression node place (call of regions name actuals)) f (refused refusal)
+call_actual_alone : {env : Env} {place : Place} {of : PlainExpr} {regions : List RplTree} {name : ℕ} {actuals : PlainExprs} {f : Found} (g : Found) (t : Option PlainType) (refusal : Refusal) →
+    Alone env of f (gives t g) → args_told env (callee_params (table_of env) t name) regions ≡ None → AllAlone env actuals g (one_refused refusal) → Alone env (expression place (call of regions name actuals)) f (refused refusal)
 call_actual_alone g t q only l next f' b p (Typing.no_parts l' s') = cc
 call_actual_alone g t q only l next f' b p (Typing.receiver_refused {refusal = q'} d') = let e = only f' (refused q') p d' in cc
-call_actual_alone {env} {node} {place} {of} {regions} {name} g t q only l next f' b p (Typing.call_args_refused {g = g'} {t = t'} {refusal = q'} d' l') =
+call_actual_alone {env} {place} {of} {regions} {name} g t q only l next f' b p (Typing.call_args_refused {g = g'} {t = t'} {refusal = q'} d' l') =
     let e : None ≡ Some q' = by_one (λ v. args_told env (callee_params (table_of env) v name) regions) (same_type (only f' (gives t' g') p d')) l l' in cc
 call_actual_alone g t q only l next f' b p (Typing.call_actual_refused {g = g'} {t = t'} {refusal = q'} d' l' i') =
     let e = next g' (one_refused q') (same_found (only f' (gives t' g') p d')) i' in cc
 call_actual_alone g t q only l next f' b p (Typing.method_call {g = g'} {h = h'} {t = t'} {types = types'} d' l' i' r') =
     let e = next g' (all_give types' h') (same_found (only f' (gives t' g') p d')) i' in cc
 
-call_alone : {env : Env} {node : ℕ} {place : Place} {of : PlainExpr} {regions : List RplTree} {name : ℕ} {actuals : PlainExprs} {f : Found} {a : Answer} (g h : Found) (t : Option PlainType) (types : List (Option PlainType)) →
-    Alone env of f (gives t g) → args_told env (callee_params (table_of env) t name) regions ≡ None → AllAlone env actuals g (all_give types h) → Call env t name (args_of env regions) types place h a → Alone env (expression node place (call of regions name actuals)) f a
+call_alone : {env : Env} {place : Place} {of : PlainExpr} {regions : List RplTree} {name : ℕ} {actuals : PlainExprs} {f : Found} {a : Answer} (g h : Found) (t : Option PlainType) (types : List (Option PlainType)) →
+    Alone env of f (gives t g) → args_told env (callee_params (table_of env) t name) regions ≡ None → AllAlone env actuals g (all_give types h) → Call env t name (args_of env regions) types place h a → Alone env (expression place (call of regions name actuals)) f a
 call_alone g h t types only l next r f' b p (Typing.no_parts l' s') = cc
 call_alone g h t types only l next r f' b p (Typing.receiver_refused {refusal = q'} d') = let e = only f' (refused q') p d' in cc
-call_alone {env} {node} {place} {of} {regions} {name} g h t types only l next r f' b p (Typing.call_args_refused {g = g'} {t = t'} {refusal = q'} d' l') =
+call_alone {env} {place} {of} {regions} {name} g h t types only l next r f' b p (Typing.call_args_refused {g = g'} {t = t'} {refusal = q'} d' l') =
     let e : None ≡ Some q' = by_one (λ v. args_told env (callee_params (table_of env) v name) regions) (same_type (only f' (gives t' g') p d')) l l' in cc
 call_alone g h t types only l next r f' b p (Typing.call_actual_refused {g = g'} {t = t'} {refusal = q'} d' l' i') =
     let e = next g' (one_refused q') (same_found (only f' (gives t' g') p d')) i' in cc
-call_alone {env} {node} {place} {of} {regions} {name} {a = a} g h t types only l next r f' b p (Typing.method_call {g = g'} {h = h'} {t = t'} {types = types'} d' l' i' r') =
+call_alone {env} {place} {of} {regions} {name} {a = a} g h t types only l next r f' b p (Typing.method_call {g = g'} {h = h'} {t = t'} {types = types'} d' l' i' r') =
     let e = only f' (gives t' g') p d' in
     let d = next g' (all_give types' h') (same_found e) i' in
     call_once env t t' name (args_of env regions) types types' place h h' a b (same_type e) (same_types d) (same_behind d) r r'
 
 -- the creation of an object
-new_args_alone : {env : Env} {node : ℕ} {place : Place} {class : Named} {regions : List RplTree} {actuals : PlainExprs} {f : Found} (refusal : Refusal) → args_told env (created_params (table_of env) class) regions ≡ Some refusal → Alone env (expression node place (create class regions actuals)) f (refused refusal)
+new_args_alone : {env : Env} {place : Place} {class : Named} {regions : List RplTree} {actuals : PlainExprs} {f : Found} (refusal : Refusal) → args_told env (created_params (table_of env) class) regions ≡ Some refusal → Alone env (expression place (create class regions actuals)) f (refused refusal)
 new_args_alone q l f' b p (Typing.no_parts l' s') = cc
 new_args_alone q l f' b p (Typing.new_args_refused l') = cc
 new_args_alone q l f' b p (Typing.new_actual_refused l' i') = cc
 new_args_alone q l f' b p (Typing.new_object l' i' r') = cc
 
-new_actual_alone : {env : Env} {node : ℕ} {place : Place} {class : Named} {regions : List RplTree} {actuals : PlainExprs} {f : Found} (refusal : Refusal) → args_told env (created_params (table_of env) class) regions ≡ None → AllAlone env actuals f (one_refused refusal) → Alone env (expression node place (create class regions actuals)) f (refused refusal)
+new_actual_alone : {env : Env} {place : Place} {class : Named} {regions : List RplTree} {actuals : PlainExprs} {f : Found} (refusal : Refusal) → args_told env (created_params (table_of env) class) regions ≡ None → AllAlone env actuals f (one_refused refusal) → Alone env (expression place (create class regions actuals)) f (refused refusal)
 new_actual_alone q l next f' b p (Typing.no_parts l' s') = cc
 new_actual_alone q l next f' b p (Typing.new_args_refused l') = cc
 new_actual_alone q l next f' b p (Typing.new_actual_refused {refusal = q'} l' i') = let e = next f' (one_refused q') p i' in cc
 new_actual_alone q l next f' b p (Typing.new_object {g = g'} {types = types'} l' i' r') = let e = next f' (all_give types' g') p i' in cc
 
-new_alone : {env : Env} {node : ℕ} {place : Place} {class : Named} {regions : List RplTree} {actuals : PlainExprs} {f : Found} {a : Answer} (g : Found) (types : List (Option PlainType)) →
-    args_told env (created_params (table_of env) class) regions ≡ None → AllAlone env actuals f (all_give types g) → Creation env class (args_of env regions) types place g a → Alone env (expression node place (create class regions actuals)) f a
+new_alone : {env : Env} {place : Place} {class : Named} {regions : List RplTree} {actuals : PlainExprs} {f : Found} {a : Answer} (g : Found) (types : List (Option PlainType)) →
+    args_told env (created_params (table_of env) class) regions ≡ None → AllAlone env actuals f (all_give types g) → Creation env class (args_of env regions) types place g a → Alone env (expression place (create class regions actuals)) f a
 new_alone g types l next r f' b p (Typing.no_parts l' s') = cc
 new_alone g types l next r f' b p (Typing.new_args_refused l') = cc
 new_alone g types l next r f' b p (Typing.new_actual_refused {refusal = q'} l' i') = let e = next f' (one_refused q') p i' in cc
-new_alone {env} {node} {place} {class} {regions} {a = a} g types l next r f' b p (Typing.new_object {g = g'} {types = types'} l' i' r') =
+new_alone {env} {place} {class} {regions} {a = a} g types l next r f' b p (Typing.new_object {g = g'} {types = types'} l' i' r') =
     let e = next f' (all_give types' g') p i' in
     creation_once env class (args_of env regions) types types' place g g' a b (same_types e) (same_behind e) r r'
 
 -- the creation of an array
-new_array_alone : {env : Env} {node : ℕ} {place : Place} {base : BaseTree} {suffixes : List Suffix} {len : PlainExpr} {rpl : Option RplTree} {index : Option Named} {f : Found} {a : Answer} →
-    ArrayAlone env (made_names node suffixes index) base len rpl place f a → Alone env (expression node place (create_array base suffixes len rpl index)) f a
+new_array_alone : {env : Env} {place : Place} {base : BaseTree} {suffixes : List Suffix} {len : PlainExpr} {rpl : Option RplTree} {index : Option Named} {f : Found} {a : Answer} →
+    ArrayAlone env (made_names suffixes index) base len rpl place f a → Alone env (expression place (create_array base suffixes len rpl index)) f a
 new_array_alone only f' b p (Typing.no_parts l' s') = cc
 new_array_alone only f' b p (Typing.new_array d') = only f' b p d'
 
@@ -329,11 +307,9 @@ mutual
   alone (Typing.element_read {g = g} {h = h} {t = t} {u = u} l d i r) = element_alone g h t u l (alone d) (alone i) r
   alone (Typing.operand_refused {refusal = q} d) = operand_alone q (alone d)
   alone (Typing.operation {g = g} {t = t} d r) = operation_alone g t (alone d) r
-  alone (Typing.operand_mistyped {g = g} {t = t} d r) = operand_mistyped_alone g t (alone d) r
   alone (Typing.left_refused {refusal = q} d) = left_alone q (alone d)
   alone (Typing.right_refused {g = g} {t = t} {refusal = q} d i) = right_alone g t q (alone d) (alone i)
   alone (Typing.both_operands {g = g} {h = h} {t = t} {u = u} d i r) = operations_alone g h t u (alone d) (alone i) r
-  alone (Typing.operands_mistyped {g = g} {h = h} {t = t} {u = u} d i r) = operands_mistyped_alone g h t u (alone d) (alone i) r
   alone (Typing.receiver_refused {refusal = q} d) = receiver_alone q (alone d)
   alone (Typing.call_args_refused {g = g} {t = t} {refusal = q} d l) = call_args_alone g t q (alone d) l
   alone (Typing.call_actual_refused {g = g} {t = t} {refusal = q} d l i) = call_actual_alone g t q (alone d) l (all_alone i)

@@ -5,7 +5,8 @@ use Rattle.dpj_headers.specs.declared.faults.Faults.{Faults}
 use Rattle.dpj_headers.specs.declared.faults.Order.TheVariants as order
 use Rattle.dpj_headers.specs.Faults.{none_by, all_noted}
 use Rattle.dpj_resolve.specs.Reading.{path_faults}
-use Rattle.dpj_resolve.specs.Scopes.{PlainScope, PlainIndex}
+use Rattle.dpj_resolve.specs.Index.{PlainIndex}
+use Rattle.dpj_resolve.specs.Scopes.{PlainScope}
 use Rattle.dpj_resolve.specs.Telling.{told_at}
 use Rattle.dpj_tree.specs.declared.region.RplTree.{RplTree}
 use Rattle.dpj_exprs.specs.declared.env.Env.{Env}

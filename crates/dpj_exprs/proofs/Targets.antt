@@ -14,19 +14,19 @@ use Rattle.dpj_exprs.specs.Shape.{form_of, is_access}
 use Rattle.dpj_exprs.specs.Targeting.{TargetAnswer, misses, Targeting}
 use Rattle.dpj_exprs.proofs.Forms.{plain_node, at_Field, at_Element}
 
--- what is so of a field or an element of every number is so of the expression
+-- what is so of a field or an element is so of the expression
 pub of_field : (env : Env) (e of x : Expr) (name : ℕ) (f : Found) (a : TargetAnswer) → e.kind ≡ form.Field of name → x ≡ of →
-    ((node : ℕ) → Targeting env (expression node e.place (field (plain_expr x) name)) f a) → Targeting env (plain_expr e) f a
+    Targeting env (expression e.place (field (plain_expr x) name)) f a → Targeting env (plain_expr e) f a
 of_field env e of x name f a is same d =
     subst (λ (z : PlainExpr). Targeting env z f a) (sym (at_Field e of name is))
-    (subst (λ (z : Expr). Targeting env (expression e.node e.place (field (plain_expr z) name)) f a) same (d e.node))
+    (subst (λ (z : Expr). Targeting env (expression e.place (field (plain_expr z) name)) f a) same d)
 
 pub of_element : (env : Env) (e array at x y : Expr) (f : Found) (a : TargetAnswer) → e.kind ≡ form.Element array at → x ≡ array → y ≡ at →
-    ((node : ℕ) → Targeting env (expression node e.place (element (plain_expr x) (plain_expr y))) f a) → Targeting env (plain_expr e) f a
+    Targeting env (expression e.place (element (plain_expr x) (plain_expr y))) f a → Targeting env (plain_expr e) f a
 of_element env e array at x y f a is same also d =
     subst (λ (z : PlainExpr). Targeting env z f a) (sym (at_Element e array at is))
-    (subst (λ (z : Expr). Targeting env (expression e.node e.place (element (plain_expr z) (plain_expr at))) f a) same
-    (subst (λ (z : Expr). Targeting env (expression e.node e.place (element (plain_expr x) (plain_expr z))) f a) also (d e.node)))
+    (subst (λ (z : Expr). Targeting env (expression e.place (element (plain_expr z) (plain_expr at))) f a) same
+    (subst (λ (z : Expr). Targeting env (expression e.place (element (plain_expr x) (plain_expr z))) f a) also d))
 
 -- what is no field and no element
 pub of_none : (e : Expr) (s : Stop) → is_access (form_of (plain_expr e)) ≡ false → s ≡ refusal_at kind.Type e.place →

@@ -1,31 +1,40 @@
 -- What is said of an expression where it stands, and what reads add to what was found before.
-use Rattle.std.specs.Prelude.{ℕ, Bool, true, false, ◌||◌, List, [], ◌∷◌, ◌++◌, map, Option, Some}
+use Rattle.std.specs.Prelude.{ℕ, Bool, true, false, ◌||◌, List, [], ◌∷◌, ◌++◌, map, Option, Some, Result, Ok, Err}
+use Rattle.dpj_base.specs.declared.effect.Access.{Access}
+use Rattle.dpj_base.specs.declared.effect.Access.TheVariants.{Read}
 use Rattle.dpj_base.specs.declared.effect.Effect.{Effect}
 use Rattle.dpj_base.specs.declared.place.Place.{Place}
 use Rattle.dpj_base.specs.declared.refusal.Kind.TheVariants as kind
 use Rattle.dpj_base.specs.declared.refusal.Refusal.{Refusal}
+use Rattle.dpj_base.specs.declared.refusal.Stop.{Stop}
 use Rattle.dpj_base.specs.declared.region.Rpl.{Rpl}
 use Rattle.dpj_base.specs.Effects.{added, gathered}
+use Rattle.dpj_base.specs.Refused.{IfRefused}
 use Rattle.dpj_base.specs.Types.{PlainType}
 use Rattle.dpj_headers.specs.Passes.{fault}
 use Rattle.dpj_classes.specs.declared.rows.MethodRow.{MethodRow}
 use Rattle.dpj_classes.specs.declared.table.Table.{Table}
 use Rattle.dpj_classes.specs.Table.{is_forking}
 use Rattle.dpj_exprs.specs.declared.found.Found.{Found}
-use Rattle.dpj_exprs.specs.Found.{access, part_access, effect_with}
+use Rattle.dpj_exprs.specs.Found.{access_to, part_access, effect_with}
 
--- it gives a type, or fits everywhere, and so much is found behind it; or it is refused
+-- it gives a type, or fits everywhere, and so much is found after it; or it is refused
 pub data Answer : Type 0 where
   gives : Option PlainType → Found → Answer
   refused : Refusal → Answer
 
+-- what the code says: by what it made, or by a refusal; want of memory says nothing
+abbrev pub Says : {T A : Type 0} → Result T Stop → (T → A) → (Refusal → A) → (A → Type 0) → Type 0
+Says (Ok x) made refuse P = P (made x)
+Says (Err stop) made refuse P = IfRefused stop (λ refusal. P (refuse refusal))
+
 -- with a plain read or write
-abbrev pub with_access : Found → Rpl → Bool → Found
-with_access found rpl write = record found { effects = added found.effects (access rpl write) }
+abbrev pub with_access : Found → Rpl → Access → Found
+with_access found rpl how = record found { effects = added found.effects (access_to rpl how) }
 
 -- with a read or a write through the part of a number
-abbrev pub with_part_use : Found → ℕ → Rpl → Bool → Found
-with_part_use found view rpl write = record found { uses = found.uses ++ part_access view rpl write ∷ [] }
+abbrev pub with_part_use : Found → ℕ → Rpl → Access → Found
+with_part_use found view rpl how = record found { uses = found.uses ++ part_access view rpl how ∷ [] }
 
 -- with the effects of a summary, region arguments put in
 abbrev pub with_summary : Found → List Effect → List Rpl → Found
@@ -38,5 +47,5 @@ with_call table found row args = record (with_summary found row.summary args) { 
 
 -- a read of something at a place, where it may be read
 abbrev pub read : Bool → PlainType → Rpl → Place → Found → Answer
-read true t rpl place found = gives (Some t) (with_access found rpl false)
+read true t rpl place found = gives (Some t) (with_access found rpl Read)
 read false t rpl place found = refused (fault kind.PartialWrite place)

@@ -1,5 +1,5 @@
 -- The creation of an array.
-use Rattle.std.specs.Prelude.{ℕ, Bool, true, false, not, List, ◌++◌, length, Option, Some, None, Result, Ok, Err}
+use Rattle.std.specs.Prelude.{Bool, true, false, not, List, ◌++◌, length, Option, Some, None, Result, Ok, Err}
 use Rattle.std.specs.Option.{option_map_or}
 use Rattle.dpj_base.specs.declared.place.Place.{Place}
 use Rattle.dpj_base.specs.declared.refusal.Kind.TheVariants as kind
@@ -13,8 +13,8 @@ use Rattle.dpj_resolve.specs.declared.base.ReadType.{ReadType}
 use Rattle.dpj_resolve.specs.declared.paths.Need.{Need}
 use Rattle.dpj_resolve.specs.declared.scope.Site.TheVariants as site
 use Rattle.dpj_resolve.specs.Args.{root_path}
+use Rattle.dpj_resolve.specs.Index.{PlainIndex}
 use Rattle.dpj_resolve.specs.Reading.{path_meant, path_faults}
-use Rattle.dpj_resolve.specs.Scopes.{PlainIndex}
 use Rattle.dpj_resolve.specs.Telling.{parts_told}
 use Rattle.dpj_resolve.specs.Written.{at_suffix, type_read, type_parts, array_meant, array_faults}
 use Rattle.dpj_tree.specs.declared.region.BaseTree.{BaseTree}
@@ -27,8 +27,8 @@ use Rattle.dpj_exprs.specs.Refusing.{told_first}
 use Rattle.dpj_exprs.specs.Typed.{may_be, is_int}
 
 -- the index names of a creation: those of the suffixes in front of its length, and its own
-abbrev pub made_names : ℕ → List Suffix → Option Named → PlainIndex
-made_names node suffixes index = record { node = node; suffixes = suffixes; inside = 0; made = index }
+abbrev pub made_names : List Suffix → Option Named → PlainIndex
+made_names suffixes index = record { suffixes = suffixes; inside = 0; made = index }
 
 -- what stands in front of the length, as it is read; and the first fault in its region arguments and paths
 abbrev pub front_of : Env → PlainIndex → BaseTree → ReadType

@@ -1,10 +1,11 @@
 -- What is in scope around an expression.
-use Rattle.std.specs.Prelude.{◌≡◌, ℕ, zero, suc, ◌==◌, Bool, false, ◌&&◌, cond, List, [], ◌∷◌, ◌++◌, length, take, fold, slice_get, is_some, Option, Some, None, option_and_then}
+use Rattle.std.specs.Prelude.{◌≡◌, ℕ, zero, suc, ◌+◌, ◌<◌, ◌==◌, Bool, true, false, ◌&&◌, cond, List, [], ◌∷◌, ◌++◌, length, take, fold, slice_get, is_some, Option, Some, None, option_and_then}
 use Rattle.std.specs.Option.{option_map_or}
 use Rattle.dpj_base.specs.declared.effect.Constraint.{Constraint}
 use Rattle.dpj_base.specs.declared.region.Head.TheVariants.{Param}
 use Rattle.dpj_base.specs.declared.region.Rpl.{Rpl}
 use Rattle.dpj_base.specs.declared.ty.Super.{Super}
+use Rattle.dpj_base.specs.declared.ty.Ty.{Ty}
 use Rattle.dpj_base.specs.Types.{PlainType, plain_type}
 use Rattle.dpj_base.specs.Types.{PlainType as ty}
 use Rattle.dpj_tree.specs.Plain.{PlainExpr, expression, ExprForm, local}
@@ -35,13 +36,13 @@ locals_in env = env.rows
 abbrev pub local_of : Env → ℕ → Option LocalRow
 local_of env name = option_and_then (λ place. slice_get (locals_in env) place) (place_in env.variables name)
 
--- the number of the index variable of that name
+-- the slot of the index variable of that name
 abbrev pub index_variable_of : Env → ℕ → Option ℕ
 index_variable_of env name = option_and_then (λ variable. variable) (value_in env.variables name)
 
 -- a local that is a part of an array
 abbrev pub as_part : LocalRow → Option LocalRow
-as_part row = cond (is_some row.part) (Some row) None
+as_part row = cond row.is_part (Some row) None
 
 -- the part of an array that an expression names
 abbrev pub part_in : Env → ExprForm → Option LocalRow
@@ -49,7 +50,7 @@ part_in env (local name) = option_and_then as_part (local_of env name)
 part_in env form = None
 
 abbrev pub part_of : Env → PlainExpr → Option LocalRow
-part_of env (expression node place form) = part_in env form
+part_of env (expression place form) = part_in env form
 
 -- the name is `length`
 abbrev pub is_length_name : Env → ℕ → Bool
@@ -88,28 +89,36 @@ scope_of env = record {
 abbrev pub is_param_name : Env → ℕ → Bool
 is_param_name env name = is_some (param_meant (scope_of env) name)
 
--- the names of the locals in scope, and of each the number as an index variable, where it may stand in an index
+-- the names of the locals in scope, and the slots of those that may stand in an index
 abbrev pub local_names : Env → List ℕ
 local_names env = names_in env.variables
 
-abbrev pub index_numbers : Env → List (Option ℕ)
-index_numbers env = values_in env.variables
+abbrev pub index_slots : Env → List (Option ℕ)
+index_slots env = values_in env.variables
 
 -- the names of the local regions in scope
 abbrev pub region_names : Env → List ℕ
 region_names env = names_in env.regions
 
--- how many local regions the method has declared so far
+-- how many local regions the member has declared so far
 abbrev pub declared_in : Env → ℕ
 declared_in env = env.declared
+
+-- how many slots the member has so far: that of `this`, and those of all that was declared, in scope still or not
+abbrev pub slots_in : Env → ℕ
+slots_in env = env.slots
+
+-- a further part of an array, local or local region has numbers of 32 bits
+abbrev pub HasRoom : Env → Type 0
+HasRoom env = (env.slots + 4 < 4294967295) × (env.declared < 4294967295)
 
 -- how much is in scope
 abbrev pub mark_of : Env → Mark
 mark_of env = record { locals = length (locals_in env); regions = length (regions_in env) }
 
 -- a final int may stand in an index
-abbrev pub index_number : LocalRow → Option ℕ
-index_number row = cond (row.is_final && is_int (plain_type row.ty)) (Some row.var) None
+abbrev pub index_slot : LocalRow → Option ℕ
+index_slot row = cond (row.is_final && is_int (plain_type row.ty)) (Some row.slot) None
 
 -- the first region parameters, each as a path
 abbrev pub param_paths : ℕ → List Rpl
@@ -124,13 +133,27 @@ class_arity env = length (params_in (headers_of (table_of env)) env.class)
 abbrev pub this_type_of : Env → PlainType
 this_type_of env = ty.class env.class (param_paths (class_arity env))
 
--- a further local is in scope; a final int may stand in an index
-abbrev pub with_local : Env → LocalRow → Env
-with_local env row = record env { rows = env.rows ++ row ∷ []; variables = with_name env.variables row.name (index_number row) }
+-- a local in the next slot, and a part of an array, which has four slots from there on
+abbrev pub local_row : Env → ℕ → Ty → Bool → LocalRow
+local_row env name t is_final = record { name = name; slot = slots_in env; ty = t; is_final = is_final; is_part = false }
+
+abbrev pub part_row : Env → ℕ → Ty → LocalRow
+part_row env name t = record { name = name; slot = slots_in env; ty = t; is_final = true; is_part = true }
+
+-- a further row is in scope; a final int may stand in an index
+abbrev pub with_row_in : Env → LocalRow → Env
+with_row_in env row = record env { rows = env.rows ++ row ∷ []; variables = with_name env.variables row.name (index_slot row) }
+
+-- a further local, and a further part, is in scope, and its slots are never given again
+abbrev pub with_local : Env → ℕ → Ty → Bool → Env
+with_local env name t is_final = record (with_row_in env (local_row env name t is_final)) { slots = env.slots + 1 }
+
+abbrev pub with_part : Env → ℕ → Ty → Env
+with_part env name t = record (with_row_in env (part_row env name t)) { slots = env.slots + 4 }
 
 -- a further local region is in scope
 abbrev pub with_region : Env → ℕ → Env
-with_region env name = record env { regions = with_name env.regions name env.declared; declared = as_number (suc env.declared) }
+with_region env name = record env { regions = with_name env.regions name env.declared; declared = env.declared + 1 }
 
 -- only what was in scope at the mark still is
 abbrev pub left_to : Env → Mark → Env
@@ -146,9 +169,9 @@ pub record IsFresh (table : Table) (length_name : Option ℕ) (env : Env) : Type
   pub supers_are : AreTaken (superclasses table) (supers_of env)
   pub length_is : env.length ≡ length_name
 
--- nothing is in scope
+-- nothing is in scope, and `this` has the one slot that there is
 abbrev pub bare : Env → Env
-bare env = record env { params = no_names; rows = []; variables = no_names; regions = no_names; declared = 0 }
+bare env = record env { params = no_names; rows = []; variables = no_names; slots = 1; regions = no_names; declared = 0 }
 
 -- around the members of a class: its constraints are in force
 abbrev pub at_class : Env → ℕ → Env
@@ -163,7 +186,7 @@ abbrev pub with_row : Env → Option MethodRow → Env
 with_row env None = env
 with_row env (Some row) = record env { params = params_named row.regions; given = env.given ++ row.given }
 
--- around the members of the class that was entered, also behind a method of it
+-- around the members of the class that was entered, after a method of it too
 abbrev pub at_members : Env → Env
 at_members env = record (bare env) { method = 0; given = take env.class_given env.given }
 

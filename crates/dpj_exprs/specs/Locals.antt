@@ -13,7 +13,7 @@ use Rattle.dpj_exprs.specs.Env.{part_of, is_length_name}
 -- a local by its name: it is in scope, and no part of an array
 abbrev pub local_type : Option LocalRow → Place → Result PlainType Refusal
 local_type None place = Err (fault kind.Unknown place)
-local_type (Some row) place = cond (is_some row.part) (Err (fault kind.Type place)) (Ok (plain_type row.ty))
+local_type (Some row) place = cond row.is_part (Err (fault kind.Type place)) (Ok (plain_type row.ty))
 
 -- the length of a part of an array
 abbrev pub is_part_length : Env → PlainExpr → ℕ → Bool

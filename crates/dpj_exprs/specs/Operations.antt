@@ -1,7 +1,11 @@
 -- The types that operations take and give.
-use Rattle.std.specs.Prelude.{Bool, ◌&&◌, ◌||◌, Option}
+use Rattle.std.specs.Prelude.{Bool, ◌&&◌, ◌||◌, cond, Option, Result, Ok, Err}
+use Rattle.dpj_base.specs.declared.place.Place.{Place}
+use Rattle.dpj_base.specs.declared.refusal.Kind.TheVariants as kind
+use Rattle.dpj_base.specs.declared.refusal.Refusal.{Refusal}
 use Rattle.dpj_base.specs.Types.{PlainType}
 use Rattle.dpj_base.specs.Types.PlainType.{int, boolean}
+use Rattle.dpj_headers.specs.Passes.{fault}
 use Rattle.dpj_tree.specs.declared.expr.BinaryOp.{BinaryOp}
 use Rattle.dpj_tree.specs.declared.expr.BinaryOp.TheVariants.{Or, And, Eq, Ne, Lt, Le, Gt, Ge, Add, Sub, Mul, Div, Rem}
 use Rattle.dpj_tree.specs.declared.expr.UnaryOp.{UnaryOp}
@@ -16,6 +20,14 @@ unary_takes Not t = may_be is_boolean t
 abbrev pub unary_gives : UnaryOp → PlainType
 unary_gives Neg = int
 unary_gives Not = boolean
+
+-- the type of an operation that takes its operands or not
+abbrev pub typed_if : Bool → PlainType → Place → Result PlainType Refusal
+typed_if takes t place = cond takes (Ok t) (Err (fault kind.Type place))
+
+-- the type of an operation of an operand of this type
+abbrev pub unary_typed : UnaryOp → Option PlainType → Place → Result PlainType Refusal
+unary_typed op t place = typed_if (unary_takes op t) (unary_gives op) place
 
 abbrev pub both : (PlainType → Bool) → Option PlainType → Option PlainType → Bool
 both test t u = may_be test t && may_be test u
@@ -54,3 +66,7 @@ binary_gives Sub = int
 binary_gives Mul = int
 binary_gives Div = int
 binary_gives Rem = int
+
+-- the type of an operation of operands of these types
+abbrev pub binary_typed : BinaryOp → Option PlainType → Option PlainType → Place → Result PlainType Refusal
+binary_typed op t u place = typed_if (binary_takes op t u) (binary_gives op) place

@@ -3,7 +3,7 @@ use Rattle.std.specs.Prelude.{Bool, true, false}
 use Rattle.dpj_tree.specs.Plain.{PlainExpr, expression, ExprForm, int, boolean, null, this, local, field, element, create_array, unary, binary}
 
 abbrev pub form_of : PlainExpr → ExprForm
-form_of (expression node place form) = form
+form_of (expression place form) = form
 
 -- a field or an element
 abbrev pub is_access : ExprForm → Bool

@@ -12,7 +12,7 @@ abbrev pub may_equal : PlainType → PlainType → Bool
 may_equal int int = true
 may_equal boolean boolean = true
 may_equal (class c args) (class d others) = c == d
-may_equal (array elem rpl index) (array other path name) = may_equal elem other
+may_equal (array elem rpl named) (array other path other_named) = may_equal elem other
 may_equal t u = false
 
 -- the first is a subtype of the second for some regions
@@ -20,9 +20,9 @@ abbrev pub may_be_subtype : Headers → PlainType → PlainType → Bool
 may_be_subtype headers int int = true
 may_be_subtype headers boolean boolean = true
 may_be_subtype headers null (class c args) = true
-may_be_subtype headers null (array elem rpl index) = true
+may_be_subtype headers null (array elem rpl named) = true
 may_be_subtype headers (class c args) (class d others) = is_below headers c d
-may_be_subtype headers (array elem rpl index) (array other path name) = may_equal elem other
+may_be_subtype headers (array elem rpl named) (array other path other_named) = may_equal elem other
 may_be_subtype headers t u = false
 
 abbrev pub may_fit : Headers → Option PlainType → PlainType → Bool

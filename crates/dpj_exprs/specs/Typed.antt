@@ -37,7 +37,7 @@ is_boolean t = false
 abbrev pub is_reference : PlainType → Bool
 is_reference null = true
 is_reference (class c args) = true
-is_reference (array elem rpl index) = true
+is_reference (array elem rpl named) = true
 is_reference t = false
 
 abbrev pub is_value : PlainType → Bool
@@ -45,7 +45,7 @@ is_value void = false
 is_value t = true
 
 abbrev pub is_array : PlainType → Bool
-is_array (array elem rpl index) = true
+is_array (array elem rpl named) = true
 is_array t = false
 
 abbrev pub is_class : PlainType → Bool

@@ -2,12 +2,10 @@
 -- evaluated in order, and a fault of a part is the fault of the whole.
 use Rattle.std.specs.Prelude.{◌≡◌, ℕ, true, false, List, [], ◌∷◌, Option, Some, None, Result, Ok, Err}
 use Rattle.dpj_base.specs.declared.place.Place.{Place}
-use Rattle.dpj_base.specs.declared.refusal.Kind.TheVariants as kind
 use Rattle.dpj_base.specs.declared.refusal.Refusal.{Refusal}
 use Rattle.dpj_base.specs.Types.{PlainType}
 use Rattle.dpj_base.specs.Types.{PlainType as ty}
-use Rattle.dpj_headers.specs.Passes.{fault}
-use Rattle.dpj_resolve.specs.Scopes.{PlainIndex}
+use Rattle.dpj_resolve.specs.Index.{PlainIndex}
 use Rattle.dpj_tree.specs.declared.expr.BinaryOp.{BinaryOp}
 use Rattle.dpj_tree.specs.declared.expr.UnaryOp.{UnaryOp}
 use Rattle.dpj_tree.specs.declared.region.BaseTree.{BaseTree}
@@ -24,7 +22,7 @@ use Rattle.dpj_exprs.specs.Elements.{read_element, read_part}
 use Rattle.dpj_exprs.specs.Env.{table_of, local_of, part_of, this_type_of}
 use Rattle.dpj_exprs.specs.Locals.{local_type, is_part_length}
 use Rattle.dpj_exprs.specs.Fields.{read_field}
-use Rattle.dpj_exprs.specs.Operations.{unary_takes, unary_gives, binary_takes, binary_gives}
+use Rattle.dpj_exprs.specs.Operations.{unary_typed, binary_typed}
 use Rattle.dpj_exprs.specs.Uses.{args_of, args_told, callee_params, created_params, Call, Creation}
 
 -- a type without effects of its own, or a refusal
@@ -49,78 +47,73 @@ pub data AllAnswer : Type 0 where
 mutual
   pub data Typing (env : Env) : PlainExpr → Found → Answer → Type 0 where
     -- a literal, `null`, `this` or a local
-    no_parts : {node : ℕ} {place : Place} {form : ExprForm} {f : Found} {r : Result PlainType Refusal} {a : Answer} →
-        leaf_type env place form ≡ Some r → answer r f ≡ a → Typing env (expression node place form) f a
+    no_parts : {place : Place} {form : ExprForm} {f : Found} {r : Result PlainType Refusal} {a : Answer} →
+        leaf_type env place form ≡ Some r → answer r f ≡ a → Typing env (expression place form) f a
     -- the length of a part, which isn't read itself
-    part_length : {node : ℕ} {place : Place} {of : PlainExpr} {name : ℕ} {f : Found} →
-        is_part_length env of name ≡ true → Typing env (expression node place (field of name)) f (gives (Some ty.int) f)
+    part_length : {place : Place} {of : PlainExpr} {name : ℕ} {f : Found} →
+        is_part_length env of name ≡ true → Typing env (expression place (field of name)) f (gives (Some ty.int) f)
     -- the receiver, then the field
-    field_receiver_refused : {node : ℕ} {place : Place} {of : PlainExpr} {name : ℕ} {f : Found} {refusal : Refusal} →
-        is_part_length env of name ≡ false → Typing env of f (refused refusal) → Typing env (expression node place (field of name)) f (refused refusal)
-    field_read : {node : ℕ} {place : Place} {of : PlainExpr} {name : ℕ} {f g : Found} {t : Option PlainType} {a : Answer} →
+    field_receiver_refused : {place : Place} {of : PlainExpr} {name : ℕ} {f : Found} {refusal : Refusal} →
+        is_part_length env of name ≡ false → Typing env of f (refused refusal) → Typing env (expression place (field of name)) f (refused refusal)
+    field_read : {place : Place} {of : PlainExpr} {name : ℕ} {f g : Found} {t : Option PlainType} {a : Answer} →
         is_part_length env of name ≡ false → Typing env of f (gives t g) → read_field env t name place g ≡ a →
-        Typing env (expression node place (field of name)) f a
+        Typing env (expression place (field of name)) f a
     -- the index, then the element of a part, which isn't read itself
-    part_index_refused : {node : ℕ} {place : Place} {array index : PlainExpr} {f : Found} {row : LocalRow} {refusal : Refusal} →
-        part_of env array ≡ Some row → Typing env index f (refused refusal) → Typing env (expression node place (element array index)) f (refused refusal)
-    part_element_read : {node : ℕ} {place : Place} {array index : PlainExpr} {f g : Found} {row : LocalRow} {t : Option PlainType} {a : Answer} →
+    part_index_refused : {place : Place} {array index : PlainExpr} {f : Found} {row : LocalRow} {refusal : Refusal} →
+        part_of env array ≡ Some row → Typing env index f (refused refusal) → Typing env (expression place (element array index)) f (refused refusal)
+    part_element_read : {place : Place} {array index : PlainExpr} {f g : Found} {row : LocalRow} {t : Option PlainType} {a : Answer} →
         part_of env array ≡ Some row → Typing env index f (gives t g) → read_part row t place g ≡ a →
-        Typing env (expression node place (element array index)) f a
+        Typing env (expression place (element array index)) f a
     -- the array, the index, then the element
-    array_refused : {node : ℕ} {place : Place} {array index : PlainExpr} {f : Found} {refusal : Refusal} →
-        part_of env array ≡ None → Typing env array f (refused refusal) → Typing env (expression node place (element array index)) f (refused refusal)
-    index_refused : {node : ℕ} {place : Place} {array index : PlainExpr} {f g : Found} {t : Option PlainType} {refusal : Refusal} →
+    array_refused : {place : Place} {array index : PlainExpr} {f : Found} {refusal : Refusal} →
+        part_of env array ≡ None → Typing env array f (refused refusal) → Typing env (expression place (element array index)) f (refused refusal)
+    index_refused : {place : Place} {array index : PlainExpr} {f g : Found} {t : Option PlainType} {refusal : Refusal} →
         part_of env array ≡ None → Typing env array f (gives t g) → Typing env index g (refused refusal) →
-        Typing env (expression node place (element array index)) f (refused refusal)
-    element_read : {node : ℕ} {place : Place} {array index : PlainExpr} {f g h : Found} {t u : Option PlainType} {a : Answer} →
+        Typing env (expression place (element array index)) f (refused refusal)
+    element_read : {place : Place} {array index : PlainExpr} {f g h : Found} {t u : Option PlainType} {a : Answer} →
         part_of env array ≡ None → Typing env array f (gives t g) → Typing env index g (gives u h) → read_element env t index u place h ≡ a →
-        Typing env (expression node place (element array index)) f a
+        Typing env (expression place (element array index)) f a
     -- the operand, then the operation
-    operand_refused : {node : ℕ} {place : Place} {op : UnaryOp} {arg : PlainExpr} {f : Found} {refusal : Refusal} →
-        Typing env arg f (refused refusal) → Typing env (expression node place (unary op arg)) f (refused refusal)
-    operation : {node : ℕ} {place : Place} {op : UnaryOp} {arg : PlainExpr} {f g : Found} {t : Option PlainType} →
-        Typing env arg f (gives t g) → unary_takes op t ≡ true → Typing env (expression node place (unary op arg)) f (gives (Some (unary_gives op)) g)
-    operand_mistyped : {node : ℕ} {place : Place} {op : UnaryOp} {arg : PlainExpr} {f g : Found} {t : Option PlainType} →
-        Typing env arg f (gives t g) → unary_takes op t ≡ false → Typing env (expression node place (unary op arg)) f (refused (fault kind.Type place))
+    operand_refused : {place : Place} {op : UnaryOp} {arg : PlainExpr} {f : Found} {refusal : Refusal} →
+        Typing env arg f (refused refusal) → Typing env (expression place (unary op arg)) f (refused refusal)
+    operation : {place : Place} {op : UnaryOp} {arg : PlainExpr} {f g : Found} {t : Option PlainType} {a : Answer} →
+        Typing env arg f (gives t g) → answer (unary_typed op t place) g ≡ a → Typing env (expression place (unary op arg)) f a
     -- both operands, from left to right, then the operation
-    left_refused : {node : ℕ} {place : Place} {op : BinaryOp} {left right : PlainExpr} {f : Found} {refusal : Refusal} →
-        Typing env left f (refused refusal) → Typing env (expression node place (binary op left right)) f (refused refusal)
-    right_refused : {node : ℕ} {place : Place} {op : BinaryOp} {left right : PlainExpr} {f g : Found} {t : Option PlainType} {refusal : Refusal} →
-        Typing env left f (gives t g) → Typing env right g (refused refusal) → Typing env (expression node place (binary op left right)) f (refused refusal)
-    both_operands : {node : ℕ} {place : Place} {op : BinaryOp} {left right : PlainExpr} {f g h : Found} {t u : Option PlainType} →
-        Typing env left f (gives t g) → Typing env right g (gives u h) → binary_takes op t u ≡ true →
-        Typing env (expression node place (binary op left right)) f (gives (Some (binary_gives op)) h)
-    operands_mistyped : {node : ℕ} {place : Place} {op : BinaryOp} {left right : PlainExpr} {f g h : Found} {t u : Option PlainType} →
-        Typing env left f (gives t g) → Typing env right g (gives u h) → binary_takes op t u ≡ false →
-        Typing env (expression node place (binary op left right)) f (refused (fault kind.Type place))
+    left_refused : {place : Place} {op : BinaryOp} {left right : PlainExpr} {f : Found} {refusal : Refusal} →
+        Typing env left f (refused refusal) → Typing env (expression place (binary op left right)) f (refused refusal)
+    right_refused : {place : Place} {op : BinaryOp} {left right : PlainExpr} {f g : Found} {t : Option PlainType} {refusal : Refusal} →
+        Typing env left f (gives t g) → Typing env right g (refused refusal) → Typing env (expression place (binary op left right)) f (refused refusal)
+    both_operands : {place : Place} {op : BinaryOp} {left right : PlainExpr} {f g h : Found} {t u : Option PlainType} {a : Answer} →
+        Typing env left f (gives t g) → Typing env right g (gives u h) → answer (binary_typed op t u place) h ≡ a →
+        Typing env (expression place (binary op left right)) f a
     -- the receiver, the region arguments, the actuals, then the call
-    receiver_refused : {node : ℕ} {place : Place} {of : PlainExpr} {regions : List RplTree} {name : ℕ} {actuals : PlainExprs} {f : Found} {refusal : Refusal} →
-        Typing env of f (refused refusal) → Typing env (expression node place (call of regions name actuals)) f (refused refusal)
-    call_args_refused : {node : ℕ} {place : Place} {of : PlainExpr} {regions : List RplTree} {name : ℕ} {actuals : PlainExprs} {f g : Found} {t : Option PlainType} {refusal : Refusal} →
+    receiver_refused : {place : Place} {of : PlainExpr} {regions : List RplTree} {name : ℕ} {actuals : PlainExprs} {f : Found} {refusal : Refusal} →
+        Typing env of f (refused refusal) → Typing env (expression place (call of regions name actuals)) f (refused refusal)
+    call_args_refused : {place : Place} {of : PlainExpr} {regions : List RplTree} {name : ℕ} {actuals : PlainExprs} {f g : Found} {t : Option PlainType} {refusal : Refusal} →
         Typing env of f (gives t g) → args_told env (callee_params (table_of env) t name) regions ≡ Some refusal →
-        Typing env (expression node place (call of regions name actuals)) f (refused refusal)
-    call_actual_refused : {node : ℕ} {place : Place} {of : PlainExpr} {regions : List RplTree} {name : ℕ} {actuals : PlainExprs} {f g : Found} {t : Option PlainType} {refusal : Refusal} →
+        Typing env (expression place (call of regions name actuals)) f (refused refusal)
+    call_actual_refused : {place : Place} {of : PlainExpr} {regions : List RplTree} {name : ℕ} {actuals : PlainExprs} {f g : Found} {t : Option PlainType} {refusal : Refusal} →
         Typing env of f (gives t g) → args_told env (callee_params (table_of env) t name) regions ≡ None → TypingAll env actuals g (one_refused refusal) →
-        Typing env (expression node place (call of regions name actuals)) f (refused refusal)
-    method_call : {node : ℕ} {place : Place} {of : PlainExpr} {regions : List RplTree} {name : ℕ} {actuals : PlainExprs} {f g h : Found} {t : Option PlainType} {types : List (Option PlainType)} {a : Answer} →
+        Typing env (expression place (call of regions name actuals)) f (refused refusal)
+    method_call : {place : Place} {of : PlainExpr} {regions : List RplTree} {name : ℕ} {actuals : PlainExprs} {f g h : Found} {t : Option PlainType} {types : List (Option PlainType)} {a : Answer} →
         Typing env of f (gives t g) → args_told env (callee_params (table_of env) t name) regions ≡ None → TypingAll env actuals g (all_give types h) →
         Call env t name (args_of env regions) types place h a →
-        Typing env (expression node place (call of regions name actuals)) f a
+        Typing env (expression place (call of regions name actuals)) f a
     -- the region arguments, the actuals, then the creation
-    new_args_refused : {node : ℕ} {place : Place} {class : Named} {regions : List RplTree} {actuals : PlainExprs} {f : Found} {refusal : Refusal} →
+    new_args_refused : {place : Place} {class : Named} {regions : List RplTree} {actuals : PlainExprs} {f : Found} {refusal : Refusal} →
         args_told env (created_params (table_of env) class) regions ≡ Some refusal →
-        Typing env (expression node place (create class regions actuals)) f (refused refusal)
-    new_actual_refused : {node : ℕ} {place : Place} {class : Named} {regions : List RplTree} {actuals : PlainExprs} {f : Found} {refusal : Refusal} →
+        Typing env (expression place (create class regions actuals)) f (refused refusal)
+    new_actual_refused : {place : Place} {class : Named} {regions : List RplTree} {actuals : PlainExprs} {f : Found} {refusal : Refusal} →
         args_told env (created_params (table_of env) class) regions ≡ None → TypingAll env actuals f (one_refused refusal) →
-        Typing env (expression node place (create class regions actuals)) f (refused refusal)
-    new_object : {node : ℕ} {place : Place} {class : Named} {regions : List RplTree} {actuals : PlainExprs} {f g : Found} {types : List (Option PlainType)} {a : Answer} →
+        Typing env (expression place (create class regions actuals)) f (refused refusal)
+    new_object : {place : Place} {class : Named} {regions : List RplTree} {actuals : PlainExprs} {f g : Found} {types : List (Option PlainType)} {a : Answer} →
         args_told env (created_params (table_of env) class) regions ≡ None → TypingAll env actuals f (all_give types g) →
         Creation env class (args_of env regions) types place g a →
-        Typing env (expression node place (create class regions actuals)) f a
+        Typing env (expression place (create class regions actuals)) f a
     -- the creation of an array
-    new_array : {node : ℕ} {place : Place} {base : BaseTree} {suffixes : List Suffix} {len : PlainExpr} {rpl : Option RplTree} {index : Option Named} {f : Found} {a : Answer} →
-        TypingArray env (made_names node suffixes index) base len rpl place f a →
-        Typing env (expression node place (create_array base suffixes len rpl index)) f a
+    new_array : {place : Place} {base : BaseTree} {suffixes : List Suffix} {len : PlainExpr} {rpl : Option RplTree} {index : Option Named} {f : Found} {a : Answer} →
+        TypingArray env (made_names suffixes index) base len rpl place f a →
+        Typing env (expression place (create_array base suffixes len rpl index)) f a
 
   -- what stands in front of the length of an array creation, the length, then the array
   pub data TypingArray (env : Env) : PlainIndex → BaseTree → PlainExpr → Option RplTree → Place → Found → Answer → Type 0 where

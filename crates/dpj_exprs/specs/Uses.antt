@@ -20,8 +20,8 @@ use Rattle.dpj_resolve.specs.declared.scope.Site.TheVariants as site
 use Rattle.dpj_resolve.specs.Args.{args_given, args_faults}
 use Rattle.dpj_resolve.specs.Classes.{params_in}
 use Rattle.dpj_resolve.specs.Constraints.{all_hold}
+use Rattle.dpj_resolve.specs.Index.{no_index}
 use Rattle.dpj_resolve.specs.Reading.{args_read, arg_faults}
-use Rattle.dpj_resolve.specs.Scopes.{no_index}
 use Rattle.dpj_resolve.specs.Telling.{parts_told}
 use Rattle.dpj_tree.specs.declared.region.Named.{Named}
 use Rattle.dpj_tree.specs.declared.region.RplTree.{RplTree}

@@ -1,10 +1,10 @@
-ghost use Rattle.std.specs.Prelude.{◌≡◌, ◌↔◌, ◌++◌, None, Some, not, map, length, IsTrue, IfOk, IfErr, OnOk};
+ghost use Rattle.std.specs.Prelude.{◌≡◌, ◌↔◌, ◌++◌, None, Some, not, map, length, IsTrue, IfOk};
 ghost use Rattle.std.specs.Option.{option_map_or};
-ghost use Rattle.dpj_base.specs.Refused.{IfRefused};
 ghost use Rattle.dpj_base.specs.Types.{plain_type, type_with};
 ghost use Rattle.dpj_headers.specs.Faults.{told, all_noted, settled};
 ghost use Rattle.dpj_headers.specs.Passes.{fault_if};
 ghost use Rattle.dpj_resolve.specs.Constraints.{all_hold};
+ghost use Rattle.dpj_exprs.specs.Answer.{Says};
 ghost use Rattle.dpj_exprs.specs.Env.{supers_of, given_in};
 ghost use Rattle.dpj_exprs.specs.Typed.{plain_typed, Fits, ActualsFit, AllFit};
 ghost use Rattle.dpj_exprs.specs.Uses.{use_faults, UseTold, unknown_told};
@@ -40,8 +40,7 @@ pub fn check_use(
     partial: bool,
     place: Place,
 ) -> Result<(), Stop>
-    ensures ok { OnOk result (UseTold env.now faults args.now (map plain_typed actuals.now) declared.now partial (all_hold (given_in env.now) args.now constraints.now) place None) }
-    ensures fault { IfErr result (λ stop. IfRefused stop (λ refusal. UseTold env.now faults args.now (map plain_typed actuals.now) declared.now partial (all_hold (given_in env.now) args.now constraints.now) place (Some refusal))) }
+    ensures { Says result (λ u. None) Some (UseTold env.now faults args.now (map plain_typed actuals.now) declared.now partial (all_hold (given_in env.now) args.now constraints.now) place) }
 {
     let fit = all_fit(alloc, env, actuals, declared, args)?;
     let hold = constraints_hold(alloc, constraints, args, env.given())?;

@@ -1,9 +1,9 @@
-ghost use Rattle.std.specs.Prelude.{◌≡◌, None, Some, Ok, Err, IfOk, IfErr, OnOk};
+ghost use Rattle.std.specs.Prelude.{◌≡◌, None, Some, Ok, Err, IfOk};
 ghost use Rattle.std.specs.Option.{option_copied};
-ghost use Rattle.dpj_base.specs.Refused.{IfRefused};
 ghost use Rattle.dpj_base.specs.Types.{plain_type};
 ghost use Rattle.dpj_resolve.specs.Reading.{path_meant, path_faults};
-ghost use Rattle.dpj_resolve.specs.Scopes.{plain_index};
+ghost use Rattle.dpj_resolve.specs.Index.{plain_index};
+ghost use Rattle.dpj_exprs.specs.Answer.{Says};
 ghost use Rattle.dpj_exprs.specs.Arrays.{front_of, front_told, full_path, around_own, own_path, own_place, array_with, created_array};
 ghost use Rattle.dpj_exprs.specs.Env.{scope_of};
 ghost use Rattle.dpj_exprs.specs.Refusing.{told_first};
@@ -26,9 +26,8 @@ pub fn read_array(
     base: &BaseTree,
     around: IndexNames,
 ) -> Result<ReadType, Stop>
-    ensures ok { IfOk result (λ read. read ≡ front_of env.now (plain_index around.entry) base.now) }
-    ensures untold { OnOk result (front_told env.now (plain_index around.entry) base.now ≡ None) }
-    ensures told { IfErr result (λ stop. IfRefused stop (λ refusal. front_told env.now (plain_index around.entry) base.now ≡ Some refusal)) }
+    ensures read { IfOk result (λ read. read ≡ front_of env.now (plain_index around.entry) base.now) }
+    ensures told { Says result (λ read. None) Some (λ t. front_told env.now (plain_index around.entry) base.now ≡ t) }
 {
     let mut faults = Faults::by_number();
     read_type(alloc, &env.scope(), &mut faults, base, around)
@@ -41,8 +40,7 @@ fn own_path(
     rpl: Option<&RplTree>,
     around: IndexNames,
 ) -> Result<Rpl, Stop>
-    ensures ok { IfOk result (λ own. own_path env.now (plain_index around.entry) (option_copied rpl.entry) ≡ Ok own) }
-    ensures fault { IfErr result (λ stop. IfRefused stop (λ refusal. own_path env.now (plain_index around.entry) (option_copied rpl.entry) ≡ Err refusal)) }
+    ensures answer { Says result (λ own. Ok own) Err (λ a. own_path env.now (plain_index around.entry) (option_copied rpl.entry) ≡ a) }
 {
     match rpl {
         Some(tree) => written_path(alloc, env, tree, around),
@@ -51,8 +49,7 @@ fn own_path(
 }
 
 fn written_path(alloc: Global, env: &Env, tree: &RplTree, around: IndexNames) -> Result<Rpl, Stop>
-    ensures ok { IfOk result (λ own. own_path env.now (plain_index around.entry) (Some tree.now) ≡ Ok own) }
-    ensures fault { IfErr result (λ stop. IfRefused stop (λ refusal. own_path env.now (plain_index around.entry) (Some tree.now) ≡ Err refusal)) }
+    ensures answer { Says result (λ own. Ok own) Err (λ a. own_path env.now (plain_index around.entry) (Some tree.now) ≡ a) }
 {
     match read_path(alloc, env, tree, around)? {
         Some(rpl) => Ok(rpl),
@@ -67,9 +64,8 @@ fn read_path(
     tree: &RplTree,
     around: IndexNames,
 ) -> Result<Option<Rpl>, Stop>
-    ensures ok { IfOk result (λ rpl. rpl ≡ path_meant (scope_of env.now) (around_own (plain_index around.entry)) tree.now) }
-    ensures untold { OnOk result (told_first (path_faults (scope_of env.now) (around_own (plain_index around.entry)) full_path tree.now) ≡ None) }
-    ensures told { IfErr result (λ stop. IfRefused stop (λ refusal. told_first (path_faults (scope_of env.now) (around_own (plain_index around.entry)) full_path tree.now) ≡ Some refusal)) }
+    ensures read { IfOk result (λ rpl. rpl ≡ path_meant (scope_of env.now) (around_own (plain_index around.entry)) tree.now) }
+    ensures told { Says result (λ rpl. None) Some (λ t. told_first (path_faults (scope_of env.now) (around_own (plain_index around.entry)) full_path tree.now) ≡ t) }
 {
     let mut faults = Faults::by_number();
     let need = Need {
@@ -100,8 +96,7 @@ pub fn array_creation(
     around: IndexNames,
     place: Place,
 ) -> Result<Ty, Stop>
-    ensures ok { IfOk result (λ ty. created_array env.now (plain_index around.entry) read (plain_typed length.now) (option_copied rpl.entry) place ≡ Ok (plain_type ty)) }
-    ensures fault { IfErr result (λ stop. IfRefused stop (λ refusal. created_array env.now (plain_index around.entry) read (plain_typed length.now) (option_copied rpl.entry) place ≡ Err refusal)) }
+    ensures answer { Says result (λ ty. Ok (plain_type ty)) Err (λ a. created_array env.now (plain_index around.entry) read (plain_typed length.now) (option_copied rpl.entry) place ≡ a) }
 {
     let own = own_path(alloc, env, rpl, around)?;
     let own_place = own_place(rpl, place);
@@ -120,8 +115,7 @@ fn array_with(
     own_place: Place,
     place: Place,
 ) -> Result<Ty, Stop>
-    ensures ok { IfOk result (λ ty. array_with env.now (plain_index around.entry) read is_length (Ok own) own_place place ≡ Ok (plain_type ty)) }
-    ensures fault { IfErr result (λ stop. IfRefused stop (λ refusal. array_with env.now (plain_index around.entry) read is_length (Ok own) own_place place ≡ Err refusal)) }
+    ensures answer { Says result (λ ty. Ok (plain_type ty)) Err (λ a. array_with env.now (plain_index around.entry) read is_length (Ok own) own_place place ≡ a) }
 {
     let mut faults = Faults::by_number();
     note_if(&mut faults, !is_length, Kind::Type, place);

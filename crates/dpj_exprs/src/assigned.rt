@@ -1,10 +1,11 @@
-ghost use Rattle.std.specs.Prelude.{◌≡◌, ℕ, true, false, slice_index_or, option_map, IfOk, IfErr, OnOk, IsTrue};
+ghost use Rattle.std.specs.Prelude.{◌≡◌, false, Ok, Err, option_map, OnOk, IsTrue};
 ghost use Rattle.dpj_base.specs.Refused.{IfRefused};
 ghost use Rattle.dpj_base.specs.Types.{plain_type};
 ghost use Rattle.dpj_tree.specs.Plain.{expression, plain_expr};
 ghost use Rattle.dpj_tree.specs.Plain.{ExprForm as form};
 ghost use Rattle.dpj_exprs.specs.declared.env.Env.{Env};
 ghost use Rattle.dpj_exprs.specs.declared.found.Found.{Found};
+ghost use Rattle.dpj_exprs.specs.Answer.{Says};
 ghost use Rattle.dpj_exprs.specs.Shape.{form_of, is_access};
 ghost use Rattle.dpj_exprs.specs.Targeting.{plain_target, aims, misses, field_target, element_target, part_target, with_write, Targeting};
 ghost use Rattle.dpj_exprs.specs.Typed.{plain_typed};
@@ -13,11 +14,10 @@ use crate::env::{Env, LocalRow};
 use crate::fields::{FieldAt, PartElement, element_at, field_at, part_element};
 use crate::fitting::refused;
 use crate::found::Found;
-use crate::node_types::NodeTypes;
 use crate::typed::Typed;
-use crate::typing::{expr, note_part, part_length};
+use crate::typing::{expr, is_part_length};
 use dpj_arrays::Element;
-use dpj_base::{Kind, NoMemory, Place, Rpl, Stop, Ty};
+use dpj_base::{Access, Kind, NoMemory, Place, Rpl, Stop, Ty};
 use dpj_tree::{Expr, ExprKind};
 use std::alloc::Global;
 
@@ -26,7 +26,7 @@ use std::alloc::Global;
 pub struct Target {
     pub ty: Ty,
     pub rpl: Rpl,
-    /// For an element of a part the number of its view.
+    /// For an element of a part the slot of the part.
     pub view: Option<u32>,
     pub may_write: bool,
 }
@@ -36,42 +36,18 @@ pub struct Target {
 pub fn read_target(
     alloc: Global,
     env: &Env,
-    types: &mut NodeTypes,
     found: &mut Found,
     e: &Expr,
 ) -> Result<Option<Target>, Stop>
-    ensures noted { IfOk result (λ target. slice_index_or types.new e.now.node None ≡ option_map (λ t. t.ty) target) }
-    ensures ok { IfOk result (λ target. Targeting env.now (plain_expr e.now) found.old (aims (option_map plain_target target) found.new)) }
-    ensures fault { IfErr result (λ stop. IfRefused stop (λ refusal. Targeting env.now (plain_expr e.now) found.old (misses refusal))) }
-    ensures nd { OnOk result (IsTrue found.old.reaches_nd → IsTrue found.new.reaches_nd) }
-{
-    let target = target_of(alloc, env, types, found, e)?;
-    let ty = match &target {
-        Some(target) => Some(&target.ty),
-        None => None,
-    };
-    types.note(alloc, e.node, ty)?;
-    Ok(target)
-}
-
-/// The target by its form.
-fn target_of(
-    alloc: Global,
-    env: &Env,
-    types: &mut NodeTypes,
-    found: &mut Found,
-    e: &Expr,
-) -> Result<Option<Target>, Stop>
-    ensures ok { IfOk result (λ target. Targeting env.now (plain_expr e.now) found.old (aims (option_map plain_target target) found.new)) }
-    ensures fault { IfErr result (λ stop. IfRefused stop (λ refusal. Targeting env.now (plain_expr e.now) found.old (misses refusal))) }
+    ensures answer { Says result (λ target. aims (option_map plain_target target) found.new) misses (Targeting env.now (plain_expr e.now) found.old) }
     ensures nd { OnOk result (IsTrue found.old.reaches_nd → IsTrue found.new.reaches_nd) }
 {
     match &e.kind {
         ExprKind::Field { of, name } => {
-            field_target(alloc, env, types, found, of.get(), *name, e.place)
+            field_target(alloc, env, found, of.get(), *name, e.place)
         }
         ExprKind::Element { array, index } => {
-            element_target(alloc, env, types, found, array.get(), index.get(), e.place)
+            element_target(alloc, env, found, array.get(), index.get(), e.place)
         }
         _ => Err(no_target(e)),
     }
@@ -88,23 +64,19 @@ fn no_target(e: &Expr) -> Stop
 fn field_target(
     alloc: Global,
     env: &Env,
-    types: &mut NodeTypes,
     found: &mut Found,
     of: &Expr,
     name: u32,
     place: Place,
 ) -> Result<Option<Target>, Stop>
-    ensures ok { IfOk result (λ target. (node : ℕ) → Targeting env.now (expression node place (form.field (plain_expr of.now) name)) found.old (aims (option_map plain_target target) found.new)) }
-    ensures fault { IfErr result (λ stop. IfRefused stop (λ refusal. (node : ℕ) → Targeting env.now (expression node place (form.field (plain_expr of.now) name)) found.old (misses refusal))) }
+    ensures answer { Says result (λ target. aims (option_map plain_target target) found.new) misses (Targeting env.now (expression place (form.field (plain_expr of.now) name)) found.old) }
     ensures nd { OnOk result (IsTrue found.old.reaches_nd → IsTrue found.new.reaches_nd) }
 {
-    match part_length(env, of, name) {
-        Some(_) => Err(refused(Kind::Type, place)),
-        None => {
-            let of = expr(alloc, env, types, found, of)?;
-            through(alloc, env, &of, name, place)
-        }
+    if is_part_length(env, of, name) {
+        return Err(refused(Kind::Type, place));
     }
+    let of = expr(alloc, env, found, of)?;
+    through(alloc, env, &of, name, place)
 }
 
 /// The field of that name through what a receiver gives, as a target.
@@ -115,8 +87,7 @@ fn through(
     name: u32,
     place: Place,
 ) -> Result<Option<Target>, Stop>
-    ensures ok { IfOk result (λ target. (found : Found) → field_target env.now (plain_typed of.now) name place found ≡ aims (option_map plain_target target) found) }
-    ensures fault { IfErr result (λ stop. IfRefused stop (λ refusal. (found : Found) → field_target env.now (plain_typed of.now) name place found ≡ misses refusal)) }
+    ensures { Says result (λ target. Ok (option_map plain_target target)) Err (λ a. field_target env.now (plain_typed of.now) name place ≡ a) }
 {
     let Typed::Known(of) = of else {
         return Ok(None);
@@ -138,25 +109,22 @@ fn through(
 fn element_target(
     alloc: Global,
     env: &Env,
-    types: &mut NodeTypes,
     found: &mut Found,
     array: &Expr,
     index: &Expr,
     place: Place,
 ) -> Result<Option<Target>, Stop>
-    ensures ok { IfOk result (λ target. (node : ℕ) → Targeting env.now (expression node place (form.element (plain_expr array.now) (plain_expr index.now))) found.old (aims (option_map plain_target target) found.new)) }
-    ensures fault { IfErr result (λ stop. IfRefused stop (λ refusal. (node : ℕ) → Targeting env.now (expression node place (form.element (plain_expr array.now) (plain_expr index.now))) found.old (misses refusal))) }
+    ensures answer { Says result (λ target. aims (option_map plain_target target) found.new) misses (Targeting env.now (expression place (form.element (plain_expr array.now) (plain_expr index.now))) found.old) }
     ensures nd { OnOk result (IsTrue found.old.reaches_nd → IsTrue found.new.reaches_nd) }
 {
     match env.part(array) {
         Some(row) => {
-            note_part(alloc, types, array, row)?;
-            let index = expr(alloc, env, types, found, index)?;
+            let index = expr(alloc, env, found, index)?;
             in_part(alloc, row, &index, place)
         }
         None => {
-            let array = expr(alloc, env, types, found, array)?;
-            let index_ty = expr(alloc, env, types, found, index)?;
+            let array = expr(alloc, env, found, array)?;
+            let index_ty = expr(alloc, env, found, index)?;
             in_array(alloc, env, &array, index, &index_ty, place)
         }
     }
@@ -169,8 +137,7 @@ fn in_part(
     index_ty: &Typed,
     place: Place,
 ) -> Result<Option<Target>, Stop>
-    ensures ok { IfOk result (λ target. (found : Found) → part_target row.now (plain_typed index_ty.now) place found ≡ aims (option_map plain_target target) found) }
-    ensures fault { IfErr result (λ stop. IfRefused stop (λ refusal. (found : Found) → part_target row.now (plain_typed index_ty.now) place found ≡ misses refusal)) }
+    ensures { Says result (λ target. Ok (option_map plain_target target)) Err (λ a. part_target row.now (plain_typed index_ty.now) place ≡ a) }
 {
     let Some(element) = part_element(alloc, row, index_ty, place)? else {
         return Ok(None);
@@ -193,8 +160,7 @@ fn in_array(
     index_ty: &Typed,
     place: Place,
 ) -> Result<Option<Target>, Stop>
-    ensures ok { IfOk result (λ target. (found : Found) → element_target env.now (plain_typed array.now) (plain_expr index.now) (plain_typed index_ty.now) place found ≡ aims (option_map plain_target target) found) }
-    ensures fault { IfErr result (λ stop. IfRefused stop (λ refusal. (found : Found) → element_target env.now (plain_typed array.now) (plain_expr index.now) (plain_typed index_ty.now) place found ≡ misses refusal)) }
+    ensures { Says result (λ target. Ok (option_map plain_target target)) Err (λ a. element_target env.now (plain_typed array.now) (plain_expr index.now) (plain_typed index_ty.now) place ≡ a) }
 {
     let Some(element) = element_at(alloc, env, array, index, index_ty, place)? else {
         return Ok(None);
@@ -219,7 +185,7 @@ pub fn write(found: &mut Found, target: Target) -> Result<(), NoMemory>
 {
     let Target { rpl, view, .. } = target;
     match view {
-        Some(view) => found.part_use(view, rpl, true),
-        None => found.access(rpl, true),
+        Some(view) => found.part_use(view, rpl, Access::Write),
+        None => found.access(rpl, Access::Write),
     }
 }

@@ -1,10 +1,9 @@
-ghost use Rattle.std.specs.Prelude.{◌≡◌, ◌++◌, false, true, None, Some, Ok, Err, map, IfOk, IfErr, OnOk, IsTrue};
+ghost use Rattle.std.specs.Prelude.{◌≡◌, ◌++◌, false, true, None, Some, Ok, Err, map, IfOk, OnOk, IsTrue};
 ghost use Rattle.std.specs.List.{list_all};
-ghost use Rattle.dpj_base.specs.Refused.{IfRefused};
 ghost use Rattle.dpj_base.specs.Types.{plain_type, type_with};
 ghost use Rattle.dpj_resolve.specs.Constraints.{all_hold};
 ghost use Rattle.dpj_classes.specs.Table.{headers_of};
-ghost use Rattle.dpj_exprs.specs.Answer.{gives, refused, with_call};
+ghost use Rattle.dpj_exprs.specs.Answer.{gives, refused, with_call, Says};
 ghost use Rattle.dpj_exprs.specs.Env.{table_of, given_in};
 ghost use Rattle.dpj_exprs.specs.Partial.{some_mention_partial, is_partial_call};
 ghost use Rattle.dpj_exprs.specs.Typed.{plain_typed, may_be, is_value};
@@ -31,9 +30,8 @@ pub fn read_full_args(
     trees: &[RplTree],
     params: &[ParamRow],
 ) -> Result<ReadArgs, Stop>
-    ensures ok { IfOk result (λ args. args ≡ args_of env.now trees.now) }
-    ensures untold { OnOk result (args_told env.now params.now trees.now ≡ None) }
-    ensures told { IfErr result (λ stop. IfRefused stop (λ refusal. args_told env.now params.now trees.now ≡ Some refusal)) }
+    ensures read { IfOk result (λ args. args ≡ args_of env.now trees.now) }
+    ensures told { Says result (λ args. None) Some (λ t. args_told env.now params.now trees.now ≡ t) }
 {
     let mut faults = Faults::by_number();
     let around = IndexNames::none();
@@ -56,9 +54,8 @@ pub fn read_call_args(
     name: u32,
     trees: &[RplTree],
 ) -> Result<ReadArgs, Stop>
-    ensures ok { IfOk result (λ args. args ≡ args_of env.now trees.now) }
-    ensures untold { OnOk result (args_told env.now (callee_params (table_of env.now) (plain_typed of.now) name) trees.now ≡ None) }
-    ensures told { IfErr result (λ stop. IfRefused stop (λ refusal. args_told env.now (callee_params (table_of env.now) (plain_typed of.now) name) trees.now ≡ Some refusal)) }
+    ensures read { IfOk result (λ args. args ≡ args_of env.now trees.now) }
+    ensures told { Says result (λ args. None) Some (λ t. args_told env.now (callee_params (table_of env.now) (plain_typed of.now) name) trees.now ≡ t) }
 {
     read_full_args(alloc, env, trees, callee_params(env, of, name))
 }
@@ -125,8 +122,7 @@ pub fn call(
     actuals: &[Typed],
     place: Place,
 ) -> Result<Typed, Stop>
-    ensures ok { IfOk result (λ typed. Call env.now (plain_typed of.now) name regions (map plain_typed actuals.now) place found.old (gives (plain_typed typed) found.new)) }
-    ensures fault { IfErr result (λ stop. IfRefused stop (λ refusal. Call env.now (plain_typed of.now) name regions (map plain_typed actuals.now) place found.old (refused refusal))) }
+    ensures answer { Says result (λ typed. gives (plain_typed typed) found.new) refused (Call env.now (plain_typed of.now) name regions (map plain_typed actuals.now) place found.old) }
     ensures nd { OnOk result (IsTrue found.old.reaches_nd → IsTrue found.new.reaches_nd) }
 {
     match of {
@@ -161,8 +157,7 @@ fn call_on(
     actuals: &[Typed],
     place: Place,
 ) -> Result<Ty, Stop>
-    ensures ok { IfOk result (λ ty. CallOn env.now (plain_type of.now) name regions (map plain_typed actuals.now) place found.old (gives (Some (plain_type ty)) found.new)) }
-    ensures fault { IfErr result (λ stop. IfRefused stop (λ refusal. CallOn env.now (plain_type of.now) name regions (map plain_typed actuals.now) place found.old (refused refusal))) }
+    ensures answer { Says result (λ ty. gives (Some (plain_type ty)) found.new) refused (CallOn env.now (plain_type of.now) name regions (map plain_typed actuals.now) place found.old) }
     ensures nd { OnOk result (IsTrue found.old.reaches_nd → IsTrue found.new.reaches_nd) }
 {
     let (row, owned) = called_method(alloc, env, of, name, place)?;
@@ -178,8 +173,7 @@ fn called_method<'e>(
     name: u32,
     place: Place,
 ) -> Result<(&'e MethodRow, Items<Rpl>), Stop>
-    ensures ok { IfOk result (λ found. method_through (table_of env.now) (plain_type of.now) name place ≡ Ok (found.0.now, found.1)) }
-    ensures fault { IfErr result (λ stop. IfRefused stop (λ refusal. method_through (table_of env.now) (plain_type of.now) name place ≡ Err refusal)) }
+    ensures answer { Says result (λ found. Ok (found.0.now, found.1)) Err (λ a. method_through (table_of env.now) (plain_type of.now) name place ≡ a) }
 {
     let Ty::Class { class, args } = of else {
         return Err(refused(Kind::Type, place));
@@ -207,8 +201,7 @@ fn call_of(
     actuals: &[Typed],
     place: Place,
 ) -> Result<Ty, Stop>
-    ensures ok { IfOk result (λ ty. CallOf env.now row.now owned.now regions (map plain_typed actuals.now) place found.old (gives (Some (plain_type ty)) found.new)) }
-    ensures fault { IfErr result (λ stop. IfRefused stop (λ refusal. CallOf env.now row.now owned.now regions (map plain_typed actuals.now) place found.old (refused refusal))) }
+    ensures answer { Says result (λ ty. gives (Some (plain_type ty)) found.new) refused (CallOf env.now row.now owned.now regions (map plain_typed actuals.now) place found.old) }
     ensures nd { OnOk result (IsTrue found.old.reaches_nd → IsTrue found.new.reaches_nd) }
 {
     let mut faults = Faults::by_number();
@@ -241,10 +234,9 @@ fn call_with(
     actuals: &[Typed],
     place: Place,
 ) -> Result<Ty, Stop>
-    ensures untold { OnOk result (UseTold env.now faults args.now (map plain_typed actuals.now) row.now.params partial (all_hold (given_in env.now) args.now row.now.given) place None) }
+    ensures told { Says result (λ ty. None) Some (UseTold env.now faults args.now (map plain_typed actuals.now) row.now.params partial (all_hold (given_in env.now) args.now row.now.given) place) }
     ensures ty { IfOk result (λ ty. plain_type ty ≡ type_with args.now (plain_type row.now.result)) }
     ensures found { OnOk result (found.new ≡ with_call (table_of env.now) found.old row.now args.now) }
-    ensures fault { IfErr result (λ stop. IfRefused stop (λ refusal. UseTold env.now faults args.now (map plain_typed actuals.now) row.now.params partial (all_hold (given_in env.now) args.now row.now.given) place (Some refusal))) }
     ensures nd { OnOk result (IsTrue found.old.reaches_nd → IsTrue found.new.reaches_nd) }
 {
     check_use(

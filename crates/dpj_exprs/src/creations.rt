@@ -1,11 +1,10 @@
-ghost use Rattle.std.specs.Prelude.{◌≡◌, false, None, Some, Ok, Err, map, IfOk, IfErr, OnOk, IsTrue};
-ghost use Rattle.dpj_base.specs.Refused.{IfRefused};
+ghost use Rattle.std.specs.Prelude.{◌≡◌, false, None, Some, Ok, Err, map, IfOk, OnOk, IsTrue};
 ghost use Rattle.dpj_base.specs.Types.{plain_type};
 ghost use Rattle.dpj_base.specs.Types.{PlainType as plain};
 ghost use Rattle.dpj_resolve.specs.Classes.{params_in};
 ghost use Rattle.dpj_resolve.specs.Constraints.{all_hold};
 ghost use Rattle.dpj_classes.specs.Table.{headers_of, constructor_of, given_of};
-ghost use Rattle.dpj_exprs.specs.Answer.{gives, refused};
+ghost use Rattle.dpj_exprs.specs.Answer.{gives, refused, Says};
 ghost use Rattle.dpj_exprs.specs.Env.{table_of, given_in};
 ghost use Rattle.dpj_exprs.specs.Typed.{plain_typed};
 ghost use Rattle.dpj_exprs.specs.Uses.{args_of, args_told, args_noted, created_params, formals_of, UseTold, with_constructor, CreationOf, Creation};
@@ -30,9 +29,8 @@ pub fn read_new_args(
     class: Named,
     trees: &[RplTree],
 ) -> Result<ReadArgs, Stop>
-    ensures ok { IfOk result (λ args. args ≡ args_of env.now trees.now) }
-    ensures untold { OnOk result (args_told env.now (created_params (table_of env.now) class) trees.now ≡ None) }
-    ensures told { IfErr result (λ stop. IfRefused stop (λ refusal. args_told env.now (created_params (table_of env.now) class) trees.now ≡ Some refusal)) }
+    ensures read { IfOk result (λ args. args ≡ args_of env.now trees.now) }
+    ensures told { Says result (λ args. None) Some (λ t. args_told env.now (created_params (table_of env.now) class) trees.now ≡ t) }
 {
     read_full_args(alloc, env, trees, created_params(env, class))
 }
@@ -66,8 +64,7 @@ pub fn creation(
     actuals: &[Typed],
     place: Place,
 ) -> Result<Ty, Stop>
-    ensures ok { IfOk result (λ ty. Creation env.now class regions (map plain_typed actuals.now) place found.old (gives (Some (plain_type ty)) found.new)) }
-    ensures fault { IfErr result (λ stop. IfRefused stop (λ refusal. Creation env.now class regions (map plain_typed actuals.now) place found.old (refused refusal))) }
+    ensures answer { Says result (λ ty. gives (Some (plain_type ty)) found.new) refused (Creation env.now class regions (map plain_typed actuals.now) place found.old) }
     ensures nd { OnOk result (IsTrue found.old.reaches_nd → IsTrue found.new.reaches_nd) }
 {
     match env.table().headers().class(class.name) {
@@ -86,8 +83,7 @@ fn creation_of(
     actuals: &[Typed],
     place: Place,
 ) -> Result<Ty, Stop>
-    ensures ok { IfOk result (λ ty. CreationOf env.now class regions (map plain_typed actuals.now) place found.old (gives (Some (plain_type ty)) found.new)) }
-    ensures fault { IfErr result (λ stop. IfRefused stop (λ refusal. CreationOf env.now class regions (map plain_typed actuals.now) place found.old (refused refusal))) }
+    ensures answer { Says result (λ ty. gives (Some (plain_type ty)) found.new) refused (CreationOf env.now class regions (map plain_typed actuals.now) place found.old) }
     ensures nd { OnOk result (IsTrue found.old.reaches_nd → IsTrue found.new.reaches_nd) }
 {
     let mut faults = Faults::by_number();
@@ -111,10 +107,9 @@ fn creation_with(
     actuals: &[Typed],
     place: Place,
 ) -> Result<Ty, Stop>
-    ensures untold { OnOk result (UseTold env.now faults args (map plain_typed actuals.now) (formals_of (table_of env.now) class) false (all_hold (given_in env.now) args (given_of (table_of env.now) class)) place None) }
+    ensures told { Says result (λ ty. None) Some (UseTold env.now faults args (map plain_typed actuals.now) (formals_of (table_of env.now) class) false (all_hold (given_in env.now) args (given_of (table_of env.now) class)) place) }
     ensures ty { IfOk result (λ ty. plain_type ty ≡ plain.class class args) }
     ensures found { OnOk result (found.new ≡ with_constructor (table_of env.now) found.old (constructor_of (table_of env.now) class) args) }
-    ensures fault { IfErr result (λ stop. IfRefused stop (λ refusal. UseTold env.now faults args (map plain_typed actuals.now) (formals_of (table_of env.now) class) false (all_hold (given_in env.now) args (given_of (table_of env.now) class)) place (Some refusal))) }
     ensures nd { OnOk result (IsTrue found.old.reaches_nd → IsTrue found.new.reaches_nd) }
 {
     check_use(

@@ -2,7 +2,7 @@ ghost use Rattle.std.specs.Prelude.{◌≡◌, ◌++◌, codes, IfOk, OnOk};
 ghost use Rattle.std.specs.Prelude.{fold};
 ghost use Rattle.dpj_resolve.specs.Scoped.{with_name};
 ghost use Rattle.dpj_headers.specs.Gathered.{name_number};
-ghost use Rattle.dpj_exprs.specs.Env.{index_number, param_paths};
+ghost use Rattle.dpj_exprs.specs.Env.{index_slot, param_paths};
 
 use crate::supers::Supers;
 use crate::table_ref::TableRef;
@@ -13,18 +13,20 @@ use dpj_resolve::{Scope, Scoped, Site};
 use dpj_tree::{Expr, ExprKind, Program};
 use std::alloc::Global;
 
-/// A local, a formal, a foreach variable or an array part in scope.
+/// A formal, a local, a loop variable or a part of an array in scope.
 #[derive(Drop)]
 pub struct LocalRow {
     pub name: u32,
-    /// Its number as an index variable: the number of the node that declares it.
-    pub var: u32,
+    /// Its slot, or the first of its slots. No other declaration of the member has it.
+    pub slot: u32,
     pub ty: Ty,
     pub is_final: bool,
-    /// For a part of an array the number of its view. The type is that of the array, or of what stands there that
-    /// is none.
-    pub part: Option<u32>,
+    /// It is a part of an array. The type is that of the array, or of what stands there that is none.
+    pub is_part: bool,
 }
+
+/// The slots of a part of an array: the array, the first place, the length and the count of parts.
+const PART_SLOTS: u32 = 4;
 
 /// How much is in scope.
 #[derive(Clone, Copy, Debug, PartialEq, Eq)]
@@ -46,11 +48,13 @@ pub struct Env<'a> {
     /// The region parameters of the method, with whether each is atomic.
     params: Scoped<bool>,
     rows: Items<LocalRow>,
-    /// The same locals by name, with the numbers of those that may stand in an index.
+    /// The same locals by name, with the slots of those that may stand in an index.
     variables: Scoped<Option<u32>>,
+    /// How many slots the member has so far. Those of locals that went out of scope aren't given again.
+    slots: u32,
     /// The local regions in scope, with the numbers of their declarations.
     regions: Scoped<u32>,
-    /// How many local regions the method has declared so far.
+    /// How many local regions the member has declared so far.
     declared: u32,
     given: Items<Constraint>,
     /// How many of the constraints in force are those of the class.
@@ -71,13 +75,13 @@ pub fn length_name(program: &Program) -> Option<u32>
 }
 
 impl<'a> Env<'a> {
-    ghost use Rattle.std.specs.Prelude.{◌≡◌, ◌∷◌, ◌++◌, [], take, IfOk, OnOk};
+    ghost use Rattle.std.specs.Prelude.{◌≡◌, ◌↔◌, ◌∷◌, ◌++◌, [], take, IsTrue, IfOk, OnOk};
     ghost use Rattle.dpj_classes.specs.Table.{given_of};
     ghost use Rattle.std.specs.Option.{option_copied};
     ghost use Rattle.dpj_base.specs.Types.{plain_type};
     ghost use Rattle.dpj_resolve.specs.Scopes.{plain_scope};
     ghost use Rattle.dpj_tree.specs.Plain.{plain_expr};
-    ghost use Rattle.dpj_exprs.specs.Env.{table_of, locals_in, local_names, index_numbers, region_names, declared_in, mark_of, index_number, with_local, with_region, left_to, bare, at_class, at_method, is_param_name, local_of, index_variable_of, part_of, is_length_name, given_in, regions_in, has_region, scope_of, this_type_of, IsFresh};
+    ghost use Rattle.dpj_exprs.specs.Env.{table_of, locals_in, local_names, index_slots, region_names, declared_in, slots_in, HasRoom, mark_of, local_row, part_row, with_row_in, with_local, with_part, with_region, left_to, bare, at_class, at_method, is_param_name, local_of, index_variable_of, part_of, is_length_name, given_in, regions_in, has_region, scope_of, this_type_of, IsFresh};
 
     /// What is around the members of class 0, before one is entered.
     pub fn new(alloc: Global, table: &'a Table, length: Option<u32>) -> Env<'a>
@@ -92,6 +96,7 @@ impl<'a> Env<'a> {
             params: Scoped::new(alloc),
             rows: Items::new(alloc),
             variables: Scoped::new(alloc),
+            slots: 1,
             regions: Scoped::new(alloc),
             declared: 0,
             given: Items::new(alloc),
@@ -150,20 +155,84 @@ impl<'a> Env<'a> {
         self.params.leave(0);
         self.rows.truncate(0);
         self.variables.leave(0);
+        self.slots = 1;
         self.regions.leave(0);
         self.declared = 0;
     }
 
-    /// Puts a local in scope. A final int may stand in an index.
-    pub fn declare(&mut self, row: LocalRow) -> Result<(), NoMemory>
-        ensures whole { OnOk result (self.new ≡ with_local self.old row) }
-        ensures locals { OnOk result (locals_in self.new ≡ locals_in self.old ++ row ∷ []) }
-        ensures names { OnOk result (local_names self.new ≡ local_names self.old ++ row.name ∷ []) }
-        ensures indices { OnOk result (index_numbers self.new ≡ index_numbers self.old ++ index_number row ∷ []) }
+    /// The slots of the member so far: that of `this`, and those of all that was declared, in scope still or not.
+    pub fn slots(&self) -> u32
+        ensures { result ≡ slots_in self.now }
+    {
+        self.slots
+    }
+
+    /// How many local regions the member has declared so far, in scope still or not.
+    pub fn regions_declared(&self) -> u32
+        ensures { result ≡ declared_in self.now }
+    {
+        self.declared
+    }
+
+    /// Whether one thing more can be declared, of any kind: slots and local regions have numbers of 32 bits. A text of
+    /// a megabyte doesn't declare so many.
+    pub fn has_room(&self) -> bool
+        ensures { IsTrue result ↔ HasRoom self.now }
+    {
+        self.slots < u32::MAX - PART_SLOTS && self.declared < u32::MAX
+    }
+
+    /// Puts a local in scope, in the next slot, and gives this slot. A final int may stand in an index.
+    pub fn declare(&mut self, name: u32, ty: Ty, is_final: bool) -> Result<u32, NoMemory>
+        requires { HasRoom self.old }
+        ensures whole { OnOk result (self.new ≡ with_local self.old name ty is_final) }
+        ensures slot { IfOk result (λ slot. slot ≡ slots_in self.old) }
+        ensures locals { OnOk result (locals_in self.new ≡ locals_in self.old ++ local_row self.old name ty is_final ∷ []) }
+        ensures names { OnOk result (local_names self.new ≡ local_names self.old ++ name ∷ []) }
         ensures regions { regions_in self.new ≡ regions_in self.old }
         ensures given { given_in self.new ≡ given_in self.old }
     {
-        let index = index_number(&row);
+        let slot = self.slots;
+        self.put(LocalRow {
+            name,
+            slot,
+            ty,
+            is_final,
+            is_part: false,
+        })?;
+        self.slots = slot + 1;
+        Ok(slot)
+    }
+
+    /// Puts a part of an array of that type in scope, in the next four slots, and gives the first of them.
+    pub fn declare_part(&mut self, name: u32, ty: Ty) -> Result<u32, NoMemory>
+        requires { HasRoom self.old }
+        ensures whole { OnOk result (self.new ≡ with_part self.old name ty) }
+        ensures slot { IfOk result (λ slot. slot ≡ slots_in self.old) }
+        ensures locals { OnOk result (locals_in self.new ≡ locals_in self.old ++ part_row self.old name ty ∷ []) }
+        ensures names { OnOk result (local_names self.new ≡ local_names self.old ++ name ∷ []) }
+        ensures regions { regions_in self.new ≡ regions_in self.old }
+        ensures given { given_in self.new ≡ given_in self.old }
+    {
+        let slot = self.slots;
+        self.put(LocalRow {
+            name,
+            slot,
+            ty,
+            is_final: true,
+            is_part: true,
+        })?;
+        self.slots = slot + PART_SLOTS;
+        Ok(slot)
+    }
+
+    /// Puts a row in scope, by its name too.
+    fn put(&mut self, row: LocalRow) -> Result<(), NoMemory>
+        ensures whole { OnOk result (self.new ≡ with_row_in self.old row) }
+        ensures regions { regions_in self.new ≡ regions_in self.old }
+        ensures given { given_in self.new ≡ given_in self.old }
+    {
+        let index = index_slot(&row);
         let name = row.name;
         let count = self.rows.len();
         self.rows.push(row)?;
@@ -176,6 +245,7 @@ impl<'a> Env<'a> {
 
     /// Puts a local region in scope, and gives the number of its declaration.
     pub fn declare_region(&mut self, name: u32) -> Result<u32, NoMemory>
+        requires { HasRoom self.old }
         ensures whole { OnOk result (self.new ≡ with_region self.old name) }
         ensures number { IfOk result (λ decl. decl ≡ declared_in self.old) }
         ensures names { OnOk result (region_names self.new ≡ region_names self.old ++ name ∷ []) }
@@ -185,7 +255,7 @@ impl<'a> Env<'a> {
     {
         let decl = self.declared;
         self.regions.enter(name, decl)?;
-        self.declared = decl.saturating_add(1);
+        self.declared = decl + 1;
         Ok(decl)
     }
 
@@ -199,16 +269,17 @@ impl<'a> Env<'a> {
         }
     }
 
-    /// Takes what came into scope behind a mark out of it.
+    /// Takes what came into scope after a mark out of it. Its slots and numbers aren't given again.
     pub fn leave(&mut self, mark: Mark)
         ensures whole { self.new ≡ left_to self.old mark }
         ensures locals { locals_in self.new ≡ take mark.locals (locals_in self.old) }
         ensures names { local_names self.new ≡ take mark.locals (local_names self.old) }
-        ensures indices { index_numbers self.new ≡ take mark.locals (index_numbers self.old) }
+        ensures indices { index_slots self.new ≡ take mark.locals (index_slots self.old) }
         ensures regions { regions_in self.new ≡ take mark.regions (regions_in self.old) }
         ensures region_names { region_names self.new ≡ take mark.regions (region_names self.old) }
         ensures given { given_in self.new ≡ given_in self.old }
         ensures declared { declared_in self.new ≡ declared_in self.old }
+        ensures slots { slots_in self.new ≡ slots_in self.old }
     {
         self.rows.truncate(mark.locals);
         self.variables.leave(mark.locals);
@@ -236,7 +307,7 @@ impl<'a> Env<'a> {
         self.rows.get(self.variables.place(name)?)
     }
 
-    /// The number of the index variable of that name.
+    /// The slot of the index variable of that name.
     pub fn index_variable(&self, name: u32) -> Option<u32>
         ensures { result ≡ index_variable_of self.now name }
     {
@@ -279,7 +350,7 @@ impl<'a> Env<'a> {
             return None;
         };
         let row = self.local(*name)?;
-        if row.part.is_some() { Some(row) } else { None }
+        if row.is_part { Some(row) } else { None }
     }
 
     /// What is around a region path or a type.
@@ -310,15 +381,11 @@ impl<'a> Env<'a> {
     }
 }
 
-/// The number of a local as an index variable, where it may stand in an index: it is final and an int.
-fn index_number(row: &LocalRow) -> Option<u32>
-    ensures { result ≡ index_number row.now }
+/// The slot of a local that may stand in an index: it is final and an int.
+fn index_slot(row: &LocalRow) -> Option<u32>
+    ensures { result ≡ index_slot row.now }
 {
-    if row.is_final && matches!(row.ty, Ty::Int) {
-        Some(row.var)
-    } else {
-        None
-    }
+    (row.is_final && matches!(row.ty, Ty::Int)).then_some(row.slot)
 }
 
 /// The first region parameters, each as a path.

@@ -1,23 +1,21 @@
-ghost use Rattle.std.specs.Prelude.{◌≡◌, true, false, not, Ok, Err, option_map, IfOk, IfErr, OnOk, IsTrue};
+ghost use Rattle.std.specs.Prelude.{◌≡◌, true, not, Ok, Err, option_map, IfOk, OnOk, IsTrue};
 ghost use Rattle.dpj_arrays.specs.Access.{plain_element};
-ghost use Rattle.dpj_base.specs.Refused.{IfRefused};
 ghost use Rattle.dpj_base.specs.Types.{plain_type};
 ghost use Rattle.dpj_tree.specs.Plain.{plain_expr};
-ghost use Rattle.dpj_exprs.specs.Answer.{gives, refused};
+ghost use Rattle.dpj_exprs.specs.Answer.{gives, refused, Says};
 ghost use Rattle.dpj_exprs.specs.Env.{table_of};
 ghost use Rattle.dpj_exprs.specs.Fields.{plain_field, field_with, field_through, read_field};
-ghost use Rattle.dpj_exprs.specs.Refusing.{refusal_at};
 ghost use Rattle.dpj_exprs.specs.Elements.{index_of, element_through, read_element, part_element, element_seen, read_part};
-ghost use Rattle.dpj_exprs.specs.Typed.{plain_typed, passes, is_int};
+ghost use Rattle.dpj_exprs.specs.Typed.{plain_typed};
 
 use crate::env::{Env, LocalRow};
 use crate::fitting::{mentions_partial, refused, rigid_in_partial};
 use crate::found::Found;
 use crate::typed::Typed;
-use dpj_arrays::{Element, IndexKind, element};
-use dpj_base::{Kind, NoMemory, Place, Plain, Rpl, Stop, Ty};
+use dpj_arrays::{Element, element};
+use dpj_base::{Access, Index, Kind, NoMemory, Place, Plain, Rpl, Stop, Ty};
 use dpj_classes::FieldRow;
-use dpj_resolve::put_in;
+use dpj_regions::subst;
 use dpj_tree::{Expr, ExprKind};
 use dpj_types::subst_type;
 use std::alloc::Global;
@@ -33,8 +31,7 @@ pub struct FieldAt {
 
 /// The field of that name through a receiver of a class type.
 pub fn field_at(alloc: Global, env: &Env, of: &Ty, name: u32, place: Place) -> Result<FieldAt, Stop>
-    ensures ok { IfOk result (λ field. field_through (table_of env.now) (plain_type of.now) name place ≡ Ok (plain_field field)) }
-    ensures fault { IfErr result (λ stop. IfRefused stop (λ refusal. field_through (table_of env.now) (plain_type of.now) name place ≡ Err refusal)) }
+    ensures answer { Says result (λ field. Ok (plain_field field)) Err (λ a. field_through (table_of env.now) (plain_type of.now) name place ≡ a) }
 {
     let Ty::Class { class, args } = of else {
         return Err(refused(Kind::Type, place));
@@ -58,7 +55,7 @@ fn field_with(alloc: Global, row: &FieldRow, args: &[Rpl]) -> Result<FieldAt, No
 {
     Ok(FieldAt {
         ty: subst_type(alloc, &row.ty, args)?,
-        rpl: put_in(alloc, &row.rpl, args)?,
+        rpl: subst(alloc, &row.rpl, args)?,
         may_read: !rigid_in_partial(&row.ty, args),
         may_write: !mentions_partial(&row.ty, args),
     })
@@ -73,8 +70,7 @@ pub fn read_field(
     name: u32,
     place: Place,
 ) -> Result<Typed, Stop>
-    ensures ok { IfOk result (λ typed. read_field env.now (plain_typed of.now) name place found.old ≡ gives (plain_typed typed) found.new) }
-    ensures fault { IfErr result (λ stop. IfRefused stop (λ refusal. read_field env.now (plain_typed of.now) name place found.old ≡ refused refusal)) }
+    ensures answer { Says result (λ typed. gives (plain_typed typed) found.new) refused (λ a. read_field env.now (plain_typed of.now) name place found.old ≡ a) }
     ensures nd { OnOk result (IsTrue found.old.reaches_nd → IsTrue found.new.reaches_nd) }
 {
     let Typed::Known(of) = of else {
@@ -92,21 +88,18 @@ pub fn read_field(
     if !may_read {
         return Err(refused(Kind::PartialWrite, place));
     }
-    found.access(rpl, false)?;
+    found.access(rpl, Access::Read)?;
     Ok(Typed::Known(ty))
 }
 
-/// What stands for an index in the region of an element.
-fn index_kind(env: &Env, index: &Expr) -> IndexKind
+/// What an index expression is in the region of an element. None for one that doesn't keep its value.
+fn index_of(env: &Env, index: &Expr) -> Option<Index>
     ensures { result ≡ index_of env.now (plain_expr index.now) }
 {
     match &index.kind {
-        ExprKind::Int(k) => IndexKind::Lit(*k),
-        ExprKind::Local(name) => match env.index_variable(*name) {
-            Some(var) => IndexKind::Var(var),
-            None => IndexKind::Other,
-        },
-        _ => IndexKind::Other,
+        ExprKind::Int(k) => Some(Index::Literal(*k)),
+        ExprKind::Local(name) => Some(Index::Variable(env.index_variable(*name)?)),
+        _ => None,
     }
 }
 
@@ -120,8 +113,7 @@ pub fn element_at(
     index_ty: &Typed,
     place: Place,
 ) -> Result<Option<Element>, Stop>
-    ensures ok { IfOk result (λ element. element_through (plain_typed array.now) (index_of env.now (plain_expr index.now)) (plain_typed index_ty.now) place ≡ Ok (option_map plain_element element)) }
-    ensures fault { IfErr result (λ stop. IfRefused stop (λ refusal. element_through (plain_typed array.now) (index_of env.now (plain_expr index.now)) (plain_typed index_ty.now) place ≡ Err refusal)) }
+    ensures answer { Says result (λ element. Ok (option_map plain_element element)) Err (λ a. element_through (plain_typed array.now) (index_of env.now (plain_expr index.now)) (plain_typed index_ty.now) place ≡ a) }
 {
     if !index_ty.is_int() {
         return Err(refused(Kind::Type, place));
@@ -129,7 +121,7 @@ pub fn element_at(
     let Typed::Known(array) = array else {
         return Ok(None);
     };
-    match element(alloc, array, &index_kind(env, index))? {
+    match element(alloc, array, index_of(env, index))? {
         Some(found) => Ok(Some(found)),
         None => Err(refused(Kind::Type, place)),
     }
@@ -145,8 +137,7 @@ pub fn read_element(
     index_ty: &Typed,
     place: Place,
 ) -> Result<Typed, Stop>
-    ensures ok { IfOk result (λ typed. read_element env.now (plain_typed array.now) (plain_expr index.now) (plain_typed index_ty.now) place found.old ≡ gives (plain_typed typed) found.new) }
-    ensures fault { IfErr result (λ stop. IfRefused stop (λ refusal. read_element env.now (plain_typed array.now) (plain_expr index.now) (plain_typed index_ty.now) place found.old ≡ refused refusal)) }
+    ensures answer { Says result (λ typed. gives (plain_typed typed) found.new) refused (λ a. read_element env.now (plain_typed array.now) (plain_expr index.now) (plain_typed index_ty.now) place found.old ≡ a) }
     ensures nd { OnOk result (IsTrue found.old.reaches_nd → IsTrue found.new.reaches_nd) }
 {
     let Some(element) = element_at(alloc, env, array, index, index_ty, place)? else {
@@ -161,13 +152,14 @@ pub fn read_element(
     if !may_read {
         return Err(refused(Kind::PartialWrite, place));
     }
-    found.access(rpl, false)?;
+    found.access(rpl, Access::Read)?;
     Ok(Typed::Known(ty))
 }
 
 /// An element of an array part, as it is used through the part.
 #[derive(Drop)]
 pub struct PartElement {
+    /// The slot of the part.
     pub view: u32,
     pub ty: Ty,
     pub rpl: Rpl,
@@ -181,16 +173,14 @@ pub fn part_element(
     index_ty: &Typed,
     place: Place,
 ) -> Result<Option<PartElement>, Stop>
-    ensures index { IfOk result (λ element. passes is_int index_ty.now ≡ true) }
-    ensures element { IfOk result (λ element. option_map element_seen element ≡ part_element row.now.part (plain_type row.now.ty)) }
-    ensures fault { IfErr result (λ stop. IfRefused stop (λ refusal. (stop ≡ refusal_at Kind.Type place) × (passes is_int index_ty.now ≡ false))) }
+    ensures { Says result (λ element. Ok (option_map element_seen element)) Err (λ a. part_element row.now (plain_typed index_ty.now) place ≡ a) }
 {
     if !index_ty.is_int() {
         return Err(refused(Kind::Type, place));
     }
-    match (&row.ty, row.part) {
-        (Ty::Array { elem, rpl, .. }, Some(view)) => Ok(Some(PartElement {
-            view,
+    match &row.ty {
+        Ty::Array { elem, rpl, .. } => Ok(Some(PartElement {
+            view: row.slot,
             ty: elem.get().copy(alloc)?,
             rpl: rpl.copy(alloc)?,
         })),
@@ -206,14 +196,13 @@ pub fn read_part(
     index_ty: &Typed,
     place: Place,
 ) -> Result<Typed, Stop>
-    ensures ok { IfOk result (λ typed. read_part row.now (plain_typed index_ty.now) place found.old ≡ gives (plain_typed typed) found.new) }
-    ensures fault { IfErr result (λ stop. IfRefused stop (λ refusal. read_part row.now (plain_typed index_ty.now) place found.old ≡ refused refusal)) }
+    ensures answer { Says result (λ typed. gives (plain_typed typed) found.new) refused (λ a. read_part row.now (plain_typed index_ty.now) place found.old ≡ a) }
     ensures nd { OnOk result (IsTrue found.old.reaches_nd → IsTrue found.new.reaches_nd) }
 {
     let Some(element) = part_element(alloc, row, index_ty, place)? else {
         return Ok(Typed::Any);
     };
     let PartElement { view, ty, rpl } = element;
-    found.part_use(view, rpl, false)?;
+    found.part_use(view, rpl, Access::Read)?;
     Ok(Typed::Known(ty))
 }

@@ -1,7 +1,7 @@
-use dpj_base::{Effect, Items, NoMemory, PartUse, Rpl};
+use dpj_base::{Access, Effect, Items, NoMemory, PartUse, Rpl};
 use dpj_classes::{MethodRow, Table};
 use dpj_effects::EffectSet;
-use dpj_resolve::put_in;
+use dpj_regions::subst;
 use std::alloc::Global;
 
 /// What was found, in the order of evaluation: the effects, and the uses of array parts apart from them.
@@ -17,7 +17,7 @@ impl Found {
     ghost use Rattle.std.specs.Prelude.{◌≡◌, ◌∷◌, ◌++◌, [], false, map, OnOk, OnErr};
     ghost use Rattle.dpj_base.specs.Effects.{added, gathered};
     ghost use Rattle.dpj_exprs.specs.Answer.{with_access, with_part_use, with_summary, with_call};
-    ghost use Rattle.dpj_exprs.specs.Found.{access, part_access, effect_with};
+    ghost use Rattle.dpj_exprs.specs.Found.{access_to, part_access, effect_with};
 
     pub fn new(alloc: Global) -> Found
         ensures { result ≡ record { effects = []; uses = []; reaches_nd = false } }
@@ -30,27 +30,27 @@ impl Found {
     }
 
     /// Adds a plain read or write.
-    pub fn access(&mut self, rpl: Rpl, write: bool) -> Result<(), NoMemory>
-        ensures whole { OnOk result (self.new ≡ with_access self.old rpl write) }
-        ensures ok { OnOk result (self.new.effects ≡ added self.old.effects (access rpl write)) }
+    pub fn access(&mut self, rpl: Rpl, access: Access) -> Result<(), NoMemory>
+        ensures whole { OnOk result (self.new ≡ with_access self.old rpl access) }
+        ensures ok { OnOk result (self.new.effects ≡ added self.old.effects (access_to rpl access)) }
         ensures err { OnErr result (self.new.effects ≡ self.old.effects) }
         ensures apart { self.new.uses ≡ self.old.uses }
     {
         self.effects.add(Effect {
-            write,
+            access,
             atomic: false,
             rpl,
         })
     }
 
     /// Adds a read or a write through a part of an array.
-    pub fn part_use(&mut self, view: u32, rpl: Rpl, write: bool) -> Result<(), NoMemory>
-        ensures whole { OnOk result (self.new ≡ with_part_use self.old view rpl write) }
-        ensures ok { OnOk result (self.new.uses ≡ self.old.uses ++ part_access view rpl write ∷ []) }
+    pub fn part_use(&mut self, view: u32, rpl: Rpl, access: Access) -> Result<(), NoMemory>
+        ensures whole { OnOk result (self.new ≡ with_part_use self.old view rpl access) }
+        ensures ok { OnOk result (self.new.uses ≡ self.old.uses ++ part_access view rpl access ∷ []) }
         ensures err { OnErr result (self.new.uses ≡ self.old.uses) }
         ensures apart { self.new.effects ≡ self.old.effects }
     {
-        self.uses.push(PartUse { view, rpl, write })
+        self.uses.push(PartUse { view, rpl, access })
     }
 
     /// Adds what a call of a method or a constructor of the table does, with region arguments put in.
@@ -75,9 +75,9 @@ impl Found {
     {
         for effect in summary.as_slice() {
             self.effects.add(Effect {
-                write: effect.write,
+                access: effect.access,
                 atomic: effect.atomic,
-                rpl: put_in(alloc, &effect.rpl, args)?,
+                rpl: subst(alloc, &effect.rpl, args)?,
             })?;
         }
         Ok(())

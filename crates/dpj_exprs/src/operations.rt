@@ -1,7 +1,7 @@
-ghost use Rattle.std.specs.Prelude.{◌≡◌, false, IfOk, IfErr, true};
+ghost use Rattle.std.specs.Prelude.{◌≡◌, Ok, Err};
 ghost use Rattle.dpj_base.specs.Types.{plain_type};
-ghost use Rattle.dpj_exprs.specs.Operations.{comparable, unary_takes, unary_gives, binary_takes, binary_gives};
-ghost use Rattle.dpj_exprs.specs.Refusing.{refusal_at};
+ghost use Rattle.dpj_exprs.specs.Answer.{Says};
+ghost use Rattle.dpj_exprs.specs.Operations.{comparable, unary_takes, unary_gives, unary_typed, binary_takes, binary_gives, binary_typed};
 ghost use Rattle.dpj_exprs.specs.Typed.{plain_typed};
 
 use crate::fitting::refused;
@@ -29,10 +29,7 @@ fn unary_gives(op: UnaryOp) -> Ty
 
 /// The type of an operation with one operand.
 pub fn unary(op: UnaryOp, arg: &Typed, place: Place) -> Result<Ty, Stop>
-    ensures takes { IfOk result (λ t. unary_takes op (plain_typed arg.now) ≡ true) }
-    ensures gives { IfOk result (λ t. plain_type t ≡ unary_gives op) }
-    ensures refuses { IfErr result (λ stop. unary_takes op (plain_typed arg.now) ≡ false) }
-    ensures fault { IfErr result (λ stop. stop ≡ refusal_at Kind.Type place) }
+    ensures { Says result (λ ty. Ok (plain_type ty)) Err (λ r. unary_typed op (plain_typed arg.now) place ≡ r) }
 {
     if unary_takes(op, arg) {
         Ok(unary_gives(op))
@@ -71,10 +68,7 @@ fn binary_gives(op: BinaryOp) -> Ty
 
 /// The type of an operation with two operands.
 pub fn binary(op: BinaryOp, left: &Typed, right: &Typed, place: Place) -> Result<Ty, Stop>
-    ensures takes { IfOk result (λ t. binary_takes op (plain_typed left.now) (plain_typed right.now) ≡ true) }
-    ensures gives { IfOk result (λ t. plain_type t ≡ binary_gives op) }
-    ensures refuses { IfErr result (λ stop. binary_takes op (plain_typed left.now) (plain_typed right.now) ≡ false) }
-    ensures fault { IfErr result (λ stop. stop ≡ refusal_at Kind.Type place) }
+    ensures { Says result (λ ty. Ok (plain_type ty)) Err (λ r. binary_typed op (plain_typed left.now) (plain_typed right.now) place ≡ r) }
 {
     if binary_takes(op, left, right) {
         Ok(binary_gives(op))

@@ -143,7 +143,7 @@ module _ {N M : Type 0} {names : Naming N M} {C : PlainCode} {P : PlainProgram} 
   -- branches. J: in front of the join, where a branch is next and so many are left; D: behind it
   pub sim_split : {s : State N M} {B : Value N → Frame N M → State N M} {G : Value N → State N M} (forking : Forking) (ts : List (Task N M))
       (bs : List (Start N M)) (bodies : ℕ → Prog N M) (k : Brought N → Prog N M) (J : ℕ → ℕ → State N M) (D : Brought N → State N M) (n : ℕ) → length ts ≡ n →
-      AllCompiled C P bs ts → step names C s ≡ Waits (Fork forking bs) (λ x. J 0 n) →
+      AllCompiled C P bs ts → step names C s ≡ Waits (Fork (record { kind = forking; tasks = bs })) (λ x. J 0 n) →
       ((i m : ℕ) → i + suc m ≡ n → step names C (J i (suc m)) ≡ Waits (Begin i) (λ x. J (suc i) m)) →
       ((i : ℕ) → step names C (J i 0) ≡ Waits Join (λ x. D (brought x))) → ((x : Brought N) → Sim names C P d (D x) B G (k x)) →
       Sim names C P d s B G (Split forking ts bodies k)
@@ -151,7 +151,7 @@ module _ {N M : Type 0} {names : Naming N M} {C : PlainCode} {P : PlainProgram} 
     does = λ b K h r.
         (let Y : Brought N → Told N M → Out N M (Result N M) (Told N M) = λ x v. run (told names) (k x) v in
         let begins = does_begins {b = b} n J D Y K begin join (λ x. (out x).does b K h r) n 0 (omega arith) in
-        does_same (λ w. ap (λ o. after o K) (ap (λ i. bind (asked (Fork forking ts) w) (λ a v. bind (begins_then 0 i told_join v) Y)) (sym many) ∙
-        sym (bind_assoc (asked (Fork forking ts) w) (λ a v. begins_then 0 (length ts) told_join v) Y)))
-        (does_act (Fork forking ts) (Fork forking bs) (λ a v. bind (begins_then 0 n told_join v) Y) K (bs, refl, all) fork (λ x. begins)));
+        does_same (λ w. ap (λ o. after o K) (ap (λ i. bind (asked (Fork (record { kind = forking; tasks = ts })) w) (λ a v. bind (begins_then 0 i told_join v) Y)) (sym many) ∙
+        sym (bind_assoc (asked (Fork (record { kind = forking; tasks = ts })) w) (λ a v. begins_then 0 (length ts) told_join v) Y)))
+        (does_act (Fork (record { kind = forking; tasks = ts })) (Fork (record { kind = forking; tasks = bs })) (λ a v. bind (begins_then 0 n told_join v) Y) K (bs, refl, all) fork (λ x. begins)));
   }

@@ -24,7 +24,7 @@ AllCompiled C P (b ∷ bs) (t ∷ ts) = Compiled C P b t × AllCompiled C P bs t
 -- the same action; of a fork, with starts of its tasks
 abbrev pub SameAct : {N M : Type 0} → PlainCode → PlainProgram → Action N M (Task N M) → Action N M (Start N M) → Type 0
 SameAct C P (Do o) a = a ≡ Do o
-SameAct {N} {M} C P (Fork forking ts) a = (bs : List (Start N M)) × (a ≡ Fork forking bs) × AllCompiled C P bs ts
+SameAct {N} {M} C P (Fork ts) a = (bs : List (Start N M)) × (a ≡ Fork (record { kind = ts.kind; tasks = bs })) × AllCompiled C P bs ts.tasks
 SameAct C P (Begin b) a = a ≡ Begin b
 SameAct C P Join a = a ≡ Join
 SameAct C P (End e) a = a ≡ End e

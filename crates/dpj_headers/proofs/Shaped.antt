@@ -1,5 +1,5 @@
--- A program that the parser makes has fewer classes than numbers, and names that are among its names.
-use Rattle.std.proofs.Common.{◌≡◌, ℕ, ◌<◌, ◌≤◌, ◌&&◌, true, List, [], ◌∷◌, ◌++◌, map, length, All, inl, inr, refl, sym, ap, subst, ◌∙◌, arith, length-append}
+-- Where every name of a program is a position among its names, so are those that its classes declare.
+use Rattle.std.proofs.Common.{◌≡◌, ℕ, ◌<◌, ◌&&◌, true, List, [], ◌∷◌, ◌++◌, map, length, All, inl, inr, refl, sym, ap, subst, ◌∙◌}
 use Rattle.std.proofs.lemmas.Bool.Decides.{Decides-ltb}
 use Rattle.std.proofs.lemmas.List.Elements.{All-head, All-tail}
 use Rattle.std.specs.List.{flat_map, list_all}
@@ -14,8 +14,6 @@ use Rattle.dpj_tree.specs.declared.region.Params.{Params}
 use Rattle.dpj_tree.specs.declared.region.ParamTree.{ParamTree}
 use Rattle.dpj_tree.specs.Names.{rpl_names, type_names, params_names, parent_names, result_names, member_names, class_names, program_names}
 use Rattle.dpj_tree.specs.Names.{method_names as names_of_method}
-use Rattle.dpj_tree.specs.Numbers.{params_numbers, parent_numbers, member_numbers, class_numbers}
-use Rattle.dpj_tree.specs.Shaped.{IsShaped}
 use Rattle.dpj_headers.specs.Members.{param_names, formal_names}
 use Rattle.dpj_headers.specs.Second.{regions_in, fields_in, method_in, own_params, own_regions, own_fields, own_methods, are_below, declared_in_method, declared_in, AreNamed, AreCounted}
 use Rattle.dpj_headers.proofs.Among.{among_left, among_right, among_either, among_flat, from_flat}
@@ -105,14 +103,6 @@ named_when count [] h = refl
 named_when count (class ∷ classes) h =
     ap (λ b. b && list_all (λ one. are_below count (declared_in one)) classes) (h class (inl refl)) ∙ named_when count classes (λ other k. h other (inr k))
 
--- each class has a node
-few_classes : (classes : List Class) → length classes ≤ length (flat_map class_numbers classes)
-few_classes [] = omega arith
-few_classes (class ∷ classes) =
-    let more = few_classes classes in
-    let first = length-append (params_numbers class.params ++ parent_numbers class.parent ++ flat_map member_numbers class.members) (class.node ∷ []) in
-    omega (arith, length-append (class_numbers class) (flat_map class_numbers classes), first)
-
 -- fewer classes than numbers, and names that are positions among so many
 pub counted_when_named : (program : Program) → length program.classes < 4294967295 → All (λ name. name < length program.names) (program_names program)
     → AreCounted (length program.names) program.classes
@@ -122,7 +112,3 @@ counted_when_named program few named = (
       (λ class k. below_when (length program.names) (declared_in class)
       (λ one h. all_at (λ name. name < length program.names) one.name (program_names program) named (among_flat class_names one.name class program.classes k (named_class one class h)))),
 )
-
-pub counted_when_shaped : (program : Program) → IsShaped program → AreCounted (length program.names) program.classes
-counted_when_shaped program shaped =
-    counted_when_named program (let few = few_classes program.classes in let bound = shaped.bounded in omega arith) shaped.named

@@ -1,5 +1,5 @@
 -- Effects that are alone interfere with no effect of another branch.
-use Rattle.std.proofs.Common.{◌≡◌, ◌≢◌, ℕ, Bool, true, false, not, ◌||◌, List, Option, Some, None, refl, sym, ap, ◌∙◌, subst, ⊎_elim}
+use Rattle.std.proofs.Common.{◌≡◌, ◌≢◌, ℕ, true, false, not, ◌||◌, List, Option, Some, None, refl, sym, ap, ◌∙◌, subst, ⊎_elim}
 use Rattle.std.proofs.lemmas.Bool.{and_parts, and_left, and_right, or_cases, false≢true, not-true, not-false, ne_eqb, eqb-true, cases_Bool, cases_eq}
 use Rattle.dpj_base.specs.declared.effect.Access.{Access}
 use Rattle.dpj_base.specs.declared.effect.Access.TheVariants.{Read, Write}
@@ -31,7 +31,9 @@ met g i j Read Read ne w h = absurd (false≢true w)
 unmet : (g : Group) (i j : ℕ) (a b : Access) → i ≢ j → (is_write a || is_write b) ≡ true → group_shows g j b ≡ true → not (group_meets g i a) ≡ true → ⊥
 unmet g i j a b ne w h k = false≢true (sym (not-true _ k) ∙ met g i j a b ne w h)
 
-apart-alone : (g : Groups) (given : List Constraint) (e f : Effect) (i j : ℕ) → i ≢ j → (is_write e.access || is_write f.access) ≡ true → (o p : Option ℕ) → key_of g.key e ≡ o → key_of g.key f ≡ p → alone_at o g i e.access ≡ true → group_shows g.all j f.access ≡ true → group_shows (group_at g p) j f.access ≡ true → apart given e.rpl f.rpl ≡ true
+apart-alone : (g : Groups) (given : List Constraint) (e f : Effect) (i j : ℕ) → i ≢ j → (is_write e.access || is_write f.access) ≡ true → (o p : Option ℕ) →
+    key_of g.key e ≡ o → key_of g.key f ≡ p → alone_at o g i e.access ≡ true → group_shows g.all j f.access ≡ true →
+    group_shows (group_at g p) j f.access ≡ true → apart given e.rpl f.rpl ≡ true
 apart-alone g given e f i j ne w None p ke kf a all s = absurd (unmet g.all i j e.access f.access ne w all a)
 apart-alone g given e f i j ne w (Some k) None ke kf a all s =
     absurd (unmet g.unkeyed i j e.access f.access ne w s (and_parts (not (group_meets g.unkeyed i e.access)) _ a).0)

@@ -4,7 +4,7 @@ use Rattle.std.proofs.lemmas.Bool.{and_parts, and_from, and_left, and_right, fal
 use Rattle.dpj_base.specs.declared.effect.Effect.{Effect}
 use Rattle.dpj_base.specs.declared.effect.Constraint.{Constraint}
 use Rattle.dpj_base.specs.Effects.{covers_effect, interferes}
-use Rattle.dpj_base.specs.Branches.{Atomic, atomic_path, both_atomic, ordered_by_blocks, clashes}
+use Rattle.dpj_base.specs.Branches.{Atomic, atomic_path, ordered_by_blocks, clashes}
 use Rattle.dpj_effects.proofs.Covered.{covers-within, covers-marks, covered_quiet}
 use Rattle.dpj_interfere.proofs.Ends.{atomic-within}
 
@@ -18,7 +18,8 @@ covered-marked e c h k = marked-too e.atomic c.atomic (covers-marks e c h) k
 covered-atomic : (atomic : Atomic) (e c : Effect) → covers_effect e c ≡ true → atomic_path atomic e.rpl ≡ true → atomic_path atomic c.rpl ≡ true
 covered-atomic atomic e c h k = atomic-within atomic c.rpl e.rpl (covers-within e c h) k
 
-ordered-covered : (nd : Option Atomic) (e f c d : Effect) → covers_effect e c ≡ true → covers_effect f d ≡ true → ordered_by_blocks nd e f ≡ true → ordered_by_blocks nd c d ≡ true
+ordered-covered : (nd : Option Atomic) (e f c d : Effect) → covers_effect e c ≡ true → covers_effect f d ≡ true → ordered_by_blocks nd e f ≡ true →
+    ordered_by_blocks nd c d ≡ true
 ordered-covered None e f c d h k b = b
 ordered-covered (Some atomic) e f c d h k b =
     let p = and_parts (e.atomic && f.atomic) _ b in
@@ -28,7 +29,8 @@ ordered-covered (Some atomic) e f c d h k b =
     (and_from _ _ (covered-marked e c h m.0) (covered-marked f d k m.1))
     (and_from _ _ (covered-atomic atomic e c h t.0) (covered-atomic atomic f d k t.1))
 
-pub covered_clashes_not : (given : List Constraint) (nd : Option Atomic) (e f c d : Effect) → covers_effect e c ≡ true → covers_effect f d ≡ true → clashes given nd e f ≡ false → clashes given nd c d ≡ false
+pub covered_clashes_not : (given : List Constraint) (nd : Option Atomic) (e f c d : Effect) → covers_effect e c ≡ true → covers_effect f d ≡ true →
+    clashes given nd e f ≡ false → clashes given nd c d ≡ false
 unfolding clashes
 covered_clashes_not given nd e f c d h k q =
     ⊎_elim

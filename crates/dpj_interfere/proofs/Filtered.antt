@@ -13,7 +13,8 @@ unfolding clashes
 quiet-clash given nd e f h = and_left _ _ h
 
 module _ (given : List Constraint) (nd : Option Atomic) where
-  some_clashes-filter : (q : Effect → Bool) (e : Effect) (fs : List Effect) → AllByRecursion (λ f. q f ≡ false → clashes given nd e f ≡ false) fs → some_clashes given nd e (filter q fs) ≡ some_clashes given nd e fs
+  some_clashes-filter : (q : Effect → Bool) (e : Effect) (fs : List Effect) → AllByRecursion (λ f. q f ≡ false → clashes given nd e f ≡ false) fs →
+      some_clashes given nd e (filter q fs) ≡ some_clashes given nd e fs
   some_clashes-filter q e [] h = refl
   some_clashes-filter q e (f ∷ fs) h =
       let rest = some_clashes-filter q e fs h.1 in
@@ -26,7 +27,9 @@ module _ (given : List Constraint) (nd : Option Atomic) where
   clashes-none e [] h = refl
   clashes-none e (f ∷ fs) h = or_from _ _ h.0 (clashes-none e fs h.1)
 
-  pub lists_clash-filter : (p q : Effect → Bool) (es fs : List Effect) → AllByRecursion (λ e. p e ≡ false → AllByRecursion (λ f. clashes given nd e f ≡ false) fs) es → AllByRecursion (λ e. AllByRecursion (λ f. q f ≡ false → clashes given nd e f ≡ false) fs) es →
+  pub lists_clash-filter : (p q : Effect → Bool) (es fs : List Effect) →
+      AllByRecursion (λ e. p e ≡ false → AllByRecursion (λ f. clashes given nd e f ≡ false) fs) es →
+      AllByRecursion (λ e. AllByRecursion (λ f. q f ≡ false → clashes given nd e f ≡ false) fs) es →
       lists_clash given nd (filter p es) (filter q fs) ≡ lists_clash given nd es fs
   lists_clash-filter p q [] fs h k = refl
   lists_clash-filter p q (e ∷ es) fs h k =

@@ -31,14 +31,17 @@ or-mixed false true false s t h = refl
 or-mixed false false false s t h = refl
 
 module _ (given : List Constraint) (nd : Option Atomic) where
-  some_clashes-step : (p : Effect → Bool) (e f : Effect) (fs : List Effect) → some_clashes given nd e (filter p (f ∷ fs)) ≡ (p f && clashes given nd e f) || some_clashes given nd e (filter p fs)
+  some_clashes-step : (p : Effect → Bool) (e f : Effect) (fs : List Effect) →
+      some_clashes given nd e (filter p (f ∷ fs)) ≡ (p f && clashes given nd e f) || some_clashes given nd e (filter p fs)
   some_clashes-step p e f fs = by_case (p f)
     where
-      by_case : (b : Bool) → some_clashes given nd e (cond b (f ∷ filter p fs) (filter p fs)) ≡ (b && clashes given nd e f) || some_clashes given nd e (filter p fs)
+      by_case : (b : Bool) →
+          some_clashes given nd e (cond b (f ∷ filter p fs) (filter p fs)) ≡ (b && clashes given nd e f) || some_clashes given nd e (filter p fs)
       by_case true = refl
       by_case false = refl
 
-  two-filters : (p q : Effect → Bool) (e : Effect) → ((f : Effect) → p f ≡ false → q f ≡ false → clashes given nd e f ≡ false) → (fs : List Effect) → some_clashes given nd e (filter p fs) || some_clashes given nd e (filter q fs) ≡ some_clashes given nd e fs
+  two-filters : (p q : Effect → Bool) (e : Effect) → ((f : Effect) → p f ≡ false → q f ≡ false → clashes given nd e f ≡ false) → (fs : List Effect) →
+      some_clashes given nd e (filter p fs) || some_clashes given nd e (filter q fs) ≡ some_clashes given nd e fs
   two-filters p q e h [] = refl
   two-filters p q e h (f ∷ fs) =
       ap (λ z. z || some_clashes given nd e (filter q (f ∷ fs))) (some_clashes-step p e f fs)
@@ -47,7 +50,8 @@ module _ (given : List Constraint) (nd : Option Atomic) where
       ∙ ap (λ z. clashes given nd e f || z) (two-filters p q e h fs)
 
 -- effects of different groups don't interfere
-other-group : (given : List Constraint) (key : Key) (e f : Effect) (k : ℕ) → key_of key e ≡ Some k → is_in key k f ≡ false → is_in_none key f ≡ false → interferes given e f ≡ false
+other-group : (given : List Constraint) (key : Key) (e f : Effect) (k : ℕ) → key_of key e ≡ Some k → is_in key k f ≡ false → is_in_none key f ≡ false →
+    interferes given e f ≡ false
 unfolding interferes
 other-group given key e f k ke out keyed = and_right (is_write e.access || is_write f.access) _ (ap not (by_key (key_of key f) refl out keyed))
   where
@@ -59,18 +63,23 @@ or-false : (b : Bool) → b || false ≡ b
 or-false true = refl
 or-false false = refl
 
-pub clashes-by_group : (given : List Constraint) (nd : Option Atomic) (key : Key) (e : Effect) (fs : List Effect) → some_clashes given nd e (in_group key (key_of key e) fs) || some_clashes given nd e (in_no_group key (key_of key e) fs) ≡ some_clashes given nd e fs
+pub clashes-by_group : (given : List Constraint) (nd : Option Atomic) (key : Key) (e : Effect) (fs : List Effect) →
+    some_clashes given nd e (in_group key (key_of key e) fs) || some_clashes given nd e (in_no_group key (key_of key e) fs) ≡ some_clashes given nd e fs
 clashes-by_group given nd key e fs = by_key (key_of key e) refl
   where
-    by_key : (o : Option ℕ) → key_of key e ≡ o → some_clashes given nd e (in_group key o fs) || some_clashes given nd e (in_no_group key o fs) ≡ some_clashes given nd e fs
+    by_key : (o : Option ℕ) → key_of key e ≡ o →
+        some_clashes given nd e (in_group key o fs) || some_clashes given nd e (in_no_group key o fs) ≡ some_clashes given nd e fs
     by_key None ke = or-false (some_clashes given nd e fs)
-    by_key (Some k) ke = two-filters given nd (is_in key k) (is_in_none key) e (λ f out keyed. quiet-clash given nd e f (other-group given key e f k ke out keyed)) fs
+    by_key (Some k) ke =
+        two-filters given nd (is_in key k) (is_in_none key) e (λ f out keyed. quiet-clash given nd e f (other-group given key e f k ke out keyed)) fs
 
 -- what is found in one part of a list, and in the other after that
-pub one-tells : (found : List Effect → Bool) (fs one other near : List Effect) (b : Bool) → found one || found other ≡ found fs → b ≡ found near → near ≡ one → b ≡ true → b ≡ found fs
+pub one-tells : (found : List Effect → Bool) (fs one other near : List Effect) (b : Bool) → found one || found other ≡ found fs → b ≡ found near → near ≡ one →
+    b ≡ true → b ≡ found fs
 one-tells found fs one other near b both is same t =
     t ∙ sym (ap (λ z. z || found other) (ap found (sym same) ∙ sym is ∙ t)) ∙ both
 
-pub other-tells : (found : List Effect → Bool) (fs one other near far : List Effect) (b d : Bool) → found one || found other ≡ found fs → b ≡ found near → near ≡ one → b ≡ false → d ≡ found far → far ≡ other → d ≡ found fs
+pub other-tells : (found : List Effect → Bool) (fs one other near far : List Effect) (b d : Bool) → found one || found other ≡ found fs → b ≡ found near →
+    near ≡ one → b ≡ false → d ≡ found far → far ≡ other → d ≡ found fs
 other-tells found fs one other near far b d both is same f so like =
     so ∙ ap found like ∙ sym (ap (λ z. z || found other) (ap found (sym same) ∙ sym is ∙ f)) ∙ both

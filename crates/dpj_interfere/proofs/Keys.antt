@@ -1,5 +1,6 @@
 -- Paths of different groups are apart.
-use Rattle.std.proofs.Common.{◌≡◌, ◌≢◌, ℕ, ◌<◌, Bool, true, false, not, ◌&&◌, cond, List, [], ◌∷◌, ◌++◌, length, reverse, Option, Some, None, refl, sym, ap, ◌∙◌, subst, inl, inr, ◌⊎◌, ⊎_elim, arith}
+use Rattle.std.proofs.Common.{◌≡◌, ◌≢◌, ℕ, ◌<◌, Bool, true, false, not, ◌&&◌, cond, List, [], ◌∷◌, ◌++◌, length, reverse, Option, Some, None, refl, sym, ap}
+use Rattle.std.proofs.Common.{◌∙◌, subst, inl, inr, ◌⊎◌, ⊎_elim, arith}
 use Rattle.std.proofs.lemmas.Bool.{and_parts, and_from, or_left, or_right, false≢true, cases_Bool}
 use Rattle.std.proofs.lemmas.List.{reverse-append}
 use Rattle.dpj_base.specs.declared.elems.Elem.{Elem}
@@ -129,13 +130,15 @@ same-or-differ (x ∷ a) (y ∷ b) h k =
 heads-same : (g h k : Head) → same_head g k ≡ true → same_head h k ≡ true → same_head g h ≡ true
 heads-same g h k a b = subst (λ z. same_head g z ≡ true) (same_head-is g k a ∙ sym (same_head-is h k b)) (same_head-refl g)
 
-longer-apart : (a b : Rpl) → same_head a.head b.head ≡ true → all_concrete a.elems ≡ true → all_concrete b.elems ≡ true → length a.elems < length b.elems → apart_as_shorter a b ≡ true
+longer-apart : (a b : Rpl) → same_head a.head b.head ≡ true → all_concrete a.elems ≡ true → all_concrete b.elems ≡ true → length a.elems < length b.elems →
+    apart_as_shorter a b ≡ true
 longer-apart a b s h k lt =
     let c = solid-concrete a.elems h in
     let d = solid-concrete b.elems k in
     and_from _ _ (or_left _ _ s) (shorter-from a.elems b.elems c (omega arith))
 
-pub keys-apart : (given : List Constraint) (key : Key) (e f : Effect) (p q : ℕ) → key_of key e ≡ Some p → key_of key f ≡ Some q → p ≢ q → apart given e.rpl f.rpl ≡ true
+pub keys-apart : (given : List Constraint) (key : Key) (e f : Effect) (p q : ℕ) → key_of key e ≡ Some p → key_of key f ≡ Some q → p ≢ q →
+    apart given e.rpl f.rpl ≡ true
 keys-apart given (First h) e f p q m n ne =
     let a = cond-known (same_head e.rpl.head h) (first_number e.rpl.elems) p m in
     let b = cond-known (same_head f.rpl.head h) (first_number f.rpl.elems) q n in

@@ -1,5 +1,6 @@
 -- What groups show of branches, and what an effect more keeps.
-use Rattle.std.proofs.Common.{◌≡◌, ◌==◌, ◌+◌, ◌<◌, ℕ, Bool, true, false, not, ◌||◌, cond, IsTrue, List, take, length, get_or, Option, Some, None, refl, sym, ap, ◌∙◌, subst, ⊎_elim, arith}
+use Rattle.std.proofs.Common.{◌≡◌, ◌==◌, ◌+◌, ◌<◌, ℕ, true, not, ◌||◌, cond, IsTrue, List, take, length, get_or, Option, Some, None, refl, sym, ap}
+use Rattle.std.proofs.Common.{◌∙◌, subst, ⊎_elim, arith}
 use Rattle.std.specs.List.{All}
 use Rattle.std.proofs.lemmas.Bool.{and_parts, and_from, or_cases, or_left, or_right, false≢true, eq-eqb, cond_both, cases_eq}
 use Rattle.std.proofs.lemmas.List.{get_or_read}
@@ -12,7 +13,8 @@ use Rattle.dpj_interfere.specs.declared.seen.Seen.{Seen}
 use Rattle.dpj_interfere.specs.declared.seen.Seen.TheVariants.{Nobody, One, Many}
 use Rattle.dpj_interfere.specs.declared.seen.Group.{Group}
 use Rattle.dpj_interfere.specs.declared.grouping.Groups.{Groups}
-use Rattle.dpj_interfere.specs.Groups.{seen_with, seen, group_with, group_shows, key_of, keyed_group, group_at, shows, is_number, with_unkeyed, Noted, Shows, ShowsFirst}
+use Rattle.dpj_interfere.specs.Groups.{seen_with, seen, group_with, group_shows, key_of, keyed_group, group_at, shows, is_number, with_unkeyed, Noted, Shows}
+use Rattle.dpj_interfere.specs.Groups.{ShowsFirst}
 
 seen-kept : (s : Seen) (i j : ℕ) → seen s i ≡ true → seen (seen_with s j) i ≡ true
 seen-kept Nobody i j h = absurd (false≢true h)
@@ -24,7 +26,8 @@ seen-there Nobody j = eq-eqb j j refl
 seen-there (One k) j = cond_both (k == j) (One k) Many (λ z. seen z j ≡ true) (λ e. e) (λ _. refl)
 seen-there Many j = refl
 
-writers-kept : (s : Seen) (i j : ℕ) (v access : Access) → (not (is_write v) || seen s i) ≡ true → (not (is_write v) || seen (cond (is_write access) (seen_with s j) s) i) ≡ true
+writers-kept : (s : Seen) (i j : ℕ) (v access : Access) → (not (is_write v) || seen s i) ≡ true →
+    (not (is_write v) || seen (cond (is_write access) (seen_with s j) s) i) ≡ true
 writers-kept s i j v Read h = h
 writers-kept s i j v Write h = ⊎_elim (λ t. or_left _ _ t) (λ t. or_right (not (is_write v)) _ (seen-kept s i j t)) (or_cases (not (is_write v)) _ h)
 
@@ -44,7 +47,8 @@ unkeyed-kept : (o : Option ℕ) (g : Group) (i j : ℕ) (v access : Access) → 
 unkeyed-kept None g i j v access h = group-kept g i j v access h
 unkeyed-kept (Some k) g i j v access h = h
 
-group_at-kept : (old new : Groups) (j : ℕ) (e : Effect) → Noted old new j e → (o : Option ℕ) (i : ℕ) (v : Access) → group_shows (group_at old o) i v ≡ true → group_shows (group_at new o) i v ≡ true
+group_at-kept : (old new : Groups) (j : ℕ) (e : Effect) → Noted old new j e → (o : Option ℕ) (i : ℕ) (v : Access) → group_shows (group_at old o) i v ≡ true →
+    group_shows (group_at new o) i v ≡ true
 group_at-kept old new j e n None i v h =
     subst (λ g. group_shows g i v ≡ true) (sym n.unkeyed) (unkeyed-kept (key_of old.key e) old.unkeyed i j v e.access h)
 group_at-kept old new j e n (Some q) i v h =
@@ -57,7 +61,9 @@ group_at-kept old new j e n (Some q) i v h =
     (λ _. group-kept (keyed_group old.keyed q) i j v e.access h)
     (λ _. h))
 
-group_at-there : (old new : Groups) (j : ℕ) (access : Access) (o : Option ℕ) → new.unkeyed ≡ with_unkeyed o old.unkeyed j access → ((q : ℕ) → keyed_group new.keyed q ≡ cond (is_number o q) (group_with (keyed_group old.keyed q) j access) (keyed_group old.keyed q)) → group_shows (group_at new o) j access ≡ true
+group_at-there : (old new : Groups) (j : ℕ) (access : Access) (o : Option ℕ) → new.unkeyed ≡ with_unkeyed o old.unkeyed j access →
+    ((q : ℕ) → keyed_group new.keyed q ≡ cond (is_number o q) (group_with (keyed_group old.keyed q) j access) (keyed_group old.keyed q)) →
+    group_shows (group_at new o) j access ≡ true
 group_at-there old new j access None u k = subst (λ g. group_shows g j access ≡ true) (sym u) (group-there old.unkeyed j access)
 group_at-there old new j access (Some q) u k =
     subst (λ g. group_shows g j access ≡ true)
@@ -77,7 +83,8 @@ noted-there old new j e n =
     (subst (λ g. group_shows g j e.access ≡ true) (sym n.all) (group-there old.all j e.access))
     (subst (λ key. group_shows (group_at new (key_of key e)) j e.access ≡ true) (sym n.key) (group_at-there old new j e.access (key_of old.key e) n.unkeyed n.keyed))
 
-pub shows-more : (old mid new : Groups) (j i : ℕ) (es : List Effect) (e : Effect) → i < length es → e ≡ get_or es i e → Shows old mid j (take i es) → Noted mid new j e → Shows old new j (take (i + 1) es)
+pub shows-more : (old mid new : Groups) (j i : ℕ) (es : List Effect) (e : Effect) → i < length es → e ≡ get_or es i e → Shows old mid j (take i es) →
+    Noted mid new j e → Shows old new j (take (i + 1) es)
 shows-more old mid new j i es e lt at s n = record {
   key = n.key ∙ s.key;
   kept = λ k f h. noted-kept mid new j e n k f (s.kept k f h);
@@ -92,7 +99,8 @@ shows-more old mid new j i es e lt at s n = record {
       (subst (λ f. IsTrue (shows new j f)) at (noted-there mid new j e n));
 }
 
-pub shows-next : (old new : Groups) (branches : List (List Effect)) (i : ℕ) (x es : List Effect) → i < length branches → x ≡ get_or branches i x → es ≡ x → ShowsFirst old branches i → Shows old new i es → ShowsFirst new branches (i + 1)
+pub shows-next : (old new : Groups) (branches : List (List Effect)) (i : ℕ) (x es : List Effect) → i < length branches → x ≡ get_or branches i x → es ≡ x →
+    ShowsFirst old branches i → Shows old new i es → ShowsFirst new branches (i + 1)
 shows-next old new branches i x es lt at is first s j d below =
     ⊎_elim
     (λ (e : j ≡ i).

@@ -1,5 +1,5 @@
 -- The first pair of branches is that of the branches without the effects that meet nothing.
-use Rattle.std.proofs.Common.{◌≡◌, ◌≢◌, ◌↔◌, ℕ, ◌<◌, Bool, true, false, IsTrue, List, [], length, get_or, Option, Some, None, sym, ap, ◌∙◌, subst, arith}
+use Rattle.std.proofs.Common.{◌≡◌, ◌≢◌, ◌↔◌, ℕ, ◌<◌, true, false, IsTrue, List, [], length, get_or, Option, Some, None, sym, ap, ◌∙◌, subst, arith}
 use Rattle.std.specs.List.{filter, AllByRecursion}
 use Rattle.std.proofs.lemmas.Bool.{false≢true, false_from_ne_true}
 use Rattle.std.proofs.lemmas.List.{get_or_read}
@@ -13,7 +13,9 @@ use Rattle.dpj_effects.proofs.Covered.{interferes_swap}
 use Rattle.dpj_interfere.specs.Thinned.{Thinned}
 use Rattle.dpj_interfere.proofs.Filtered.{quiet-clash, lists_clash-filter}
 
-pub first_pair-same : {X : Type 0} (R : X → X → Type 0) (xs ys : List X) → length ys ≡ length xs → ((i j : ℕ) (d : X) → i < j → j < length xs → R (get_or ys i d) (get_or ys j d) ↔ R (get_or xs i d) (get_or xs j d)) → (p : Option (ℕ × ℕ)) → FirstPair R ys p → FirstPair R xs p
+pub first_pair-same : {X : Type 0} (R : X → X → Type 0) (xs ys : List X) → length ys ≡ length xs →
+    ((i j : ℕ) (d : X) → i < j → j < length xs → R (get_or ys i d) (get_or ys j d) ↔ R (get_or xs i d) (get_or xs j d)) → (p : Option (ℕ × ℕ)) →
+    FirstPair R ys p → FirstPair R xs p
 first_pair-same R xs ys n same None h = λ i j d lt below r. h i j d lt (omega arith) ((same i j d lt below).1 r)
 first_pair-same R xs ys n same (Some p) h =
     let within : p.1 < length xs = omega (arith, h.behind.within) in
@@ -30,7 +32,8 @@ first_pair-same R xs ys n same (Some p) h =
 swapped : (given : List Constraint) (e f : Effect) → interferes given f e ≡ false → interferes given e f ≡ false
 swapped given e f h = false_from_ne_true _ (λ t. false≢true (sym h ∙ interferes_swap given e f t))
 
-pub clash-thinned : (given : List Constraint) (nd : Option Atomic) (branches left : List (List Effect)) → Thinned branches left → (i j : ℕ) (d : List Effect) → i < j → j < length branches → lists_clash given nd (get_or left i d) (get_or left j d) ≡ lists_clash given nd (get_or branches i d) (get_or branches j d)
+pub clash-thinned : (given : List Constraint) (nd : Option Atomic) (branches left : List (List Effect)) → Thinned branches left → (i j : ℕ) (d : List Effect) →
+    i < j → j < length branches → lists_clash given nd (get_or left i d) (get_or left j d) ≡ lists_clash given nd (get_or branches i d) (get_or branches j d)
 clash-thinned given nd branches left t i j d lt below =
     let li : i < length branches = omega arith in
     let es = get_or branches i d in
@@ -48,7 +51,8 @@ clash-thinned given nd branches left t i j d lt below =
     ap (λ z. lists_clash given nd z (get_or left j d)) (t.kept i d li) ∙ ap (lists_clash given nd (filter (t.keeps i) es)) (t.kept j d below)
     ∙ lists_clash-filter given nd (t.keeps i) (t.keeps j) es fs one two
 
-pub first_pair-thinned : (given : List Constraint) (nd : Option Atomic) (branches left : List (List Effect)) → Thinned branches left → (p : Option (ℕ × ℕ)) → FirstPair (λ es fs. IsTrue (lists_clash given nd es fs)) left p → FirstPair (λ es fs. IsTrue (lists_clash given nd es fs)) branches p
+pub first_pair-thinned : (given : List Constraint) (nd : Option Atomic) (branches left : List (List Effect)) → Thinned branches left → (p : Option (ℕ × ℕ)) →
+    FirstPair (λ es fs. IsTrue (lists_clash given nd es fs)) left p → FirstPair (λ es fs. IsTrue (lists_clash given nd es fs)) branches p
 first_pair-thinned given nd branches left t p h =
     first_pair-same
     (λ es fs. IsTrue (lists_clash given nd es fs))
@@ -60,7 +64,8 @@ first_pair-thinned given nd branches left t p h =
     h
 
 -- an empty branch clashes with none after it
-pub empty-after : (given : List Constraint) (nd : Option Atomic) (branches : List (List Effect)) (i : ℕ) (x : List Effect) → i < length branches → x ≡ get_or branches i x → x ≡ [] → NoneBetween (λ es fs. IsTrue (lists_clash given nd es fs)) branches i (length branches)
+pub empty-after : (given : List Constraint) (nd : Option Atomic) (branches : List (List Effect)) (i : ℕ) (x : List Effect) → i < length branches →
+    x ≡ get_or branches i x → x ≡ [] → NoneBetween (λ es fs. IsTrue (lists_clash given nd es fs)) branches i (length branches)
 empty-after given nd branches i x lt at none b d above below r =
     let e : get_or branches i d ≡ [] = sym (get_or_read branches i x lt at d) ∙ none in
     false≢true (subst (λ z. lists_clash given nd z (get_or branches b d) ≡ true) e r)

@@ -1,5 +1,6 @@
 -- Effects of branches by groups: a number of a path, such that paths with different numbers are apart.
-use Rattle.std.specs.Prelude.{◌≡◌, ℕ, ◌<◌, Bool, true, false, not, ◌&&◌, ◌||◌, cond, ◌==◌, IsTrue, List, [], ◌∷◌, length, All, slice_index_or, Option, Some, None, unwrap_or}
+use Rattle.std.specs.Prelude.{◌≡◌, ℕ, ◌<◌, Bool, true, false, not, ◌&&◌, ◌||◌, cond, ◌==◌, IsTrue, List, [], ◌∷◌, length, All, slice_index_or, Option, Some}
+use Rattle.std.specs.Prelude.{None, unwrap_or}
 use Rattle.std.specs.Ordering.{nat_cmp}
 use Rattle.std.specs.BTreeMap.{get}
 use Rattle.std.specs.declared.collections.BTreeMap.{BTreeMap}
@@ -90,7 +91,8 @@ pub record Noted (old new : Groups) (j : ℕ) (e : Effect) : Type 0 where
   pub key : new.key ≡ old.key
   pub all : new.all ≡ group_with old.all j e.access
   pub unkeyed : new.unkeyed ≡ with_unkeyed (key_of old.key e) old.unkeyed j e.access
-  pub keyed : (q : ℕ) → keyed_group new.keyed q ≡ cond (is_number (key_of old.key e) q) (group_with (keyed_group old.keyed q) j e.access) (keyed_group old.keyed q)
+  pub keyed : (q : ℕ) →
+      keyed_group new.keyed q ≡ cond (is_number (key_of old.key e) q) (group_with (keyed_group old.keyed q) j e.access) (keyed_group old.keyed q)
 
 -- what was shown is shown, and so are these effects of the branch
 pub record Shows (old new : Groups) (j : ℕ) (es : List Effect) : Type 0 where

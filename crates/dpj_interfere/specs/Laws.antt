@@ -13,4 +13,5 @@ AtomicWithin = (atomic : Atomic) (a b : Rpl) → IsTrue (within a b) → IsTrue 
 
 -- if two effects don't clash, effects that they cover don't either
 abbrev pub CoveredDoNotClash : Type 0
-CoveredDoNotClash = (given : List Constraint) (nd : Option Atomic) (e f c d : Effect) → IsTrue (covers_effect e c) → IsTrue (covers_effect f d) → clashes given nd e f ≡ false → clashes given nd c d ≡ false
+CoveredDoNotClash = (given : List Constraint) (nd : Option Atomic) (e f c d : Effect) → IsTrue (covers_effect e c) → IsTrue (covers_effect f d) →
+    clashes given nd e f ≡ false → clashes given nd c d ≡ false

@@ -10,7 +10,7 @@ use std::alloc::Global;
 use std::collections::BTreeMap;
 use std::marker::Model;
 
-/// A list of effects, from which those are told that an effect may meet. A contract sees how they are put into
+/// A list of effects, by groups: it gives those that an effect may meet. A contract sees how they are put into
 /// groups, and the list.
 #[derive(Debug, Drop)]
 pub struct ByGroup {
@@ -70,7 +70,7 @@ impl ByGroup {
         })
     }
 
-    /// How many pairs there are of an effect of the list and one that is told for it.
+    /// How many pairs there are of an effect of the list and one that it may meet.
     fn pairs(&self) -> usize {
         let mut pairs = 0usize;
         for e in self.effects.as_slice() {

@@ -78,7 +78,7 @@ pub fn grouped(alloc: Global, branches: &[EffectSet], key: Key) -> Result<Groups
     Ok(groups)
 }
 
-/// Whether an effect of a branch can't interfere with an effect of another branch, as its group tells.
+/// Whether an effect of a branch can't interfere with an effect of another branch, by its group.
 pub fn is_alone(groups: &Groups, e: &Effect, branch: u32) -> bool
     ensures { result ≡ alone groups.now branch e.now }
 {

@@ -80,7 +80,7 @@ fn thin_all(
 }
 
 /// The effects of each branch, but for such as can't interfere with an effect of another branch, as their paths'
-/// first elements, last elements or all elements tell: of many branches with regions of their own nothing is left.
+/// first elements, last elements or all elements show: of many branches with regions of their own nothing is left.
 pub fn thinned(alloc: Global, branches: &[EffectSet]) -> Result<Items<Items<Effect>>, NoMemory>
     requires { length branches.now < 4294967296 }
     ensures { IfOk result (λ left. Thinned branches.now left) }

@@ -61,7 +61,7 @@ type_reads x ty = written_reads x ty.base ty.suffixes None
 -- an expression reads the local
 abbrev mutual
   pub expr_reads : ℕ → PlainExpr → Bool
-  expr_reads x (expression node place form) = form_reads x form
+  expr_reads x (expression place form) = form_reads x form
 
   pub form_reads : ℕ → ExprForm → Bool
   form_reads x (int n) = false
@@ -87,7 +87,7 @@ declares_form x (declare is_final ty name value) = name == x
 declares_form x _ = false
 
 abbrev pub declares : ℕ → PlainStmt → Bool
-declares x (statement node place form) = declares_form x form
+declares x (statement place form) = declares_form x form
 
 -- a `foreach` or a `foreach_parts`
 abbrev pub form_is_parallel_loop : StmtForm → Bool
@@ -96,7 +96,7 @@ form_is_parallel_loop (foreach_parts view var array count body) = true
 form_is_parallel_loop form = false
 
 abbrev pub is_parallel_loop : PlainStmt → Bool
-is_parallel_loop (statement node place form) = form_is_parallel_loop form
+is_parallel_loop (statement place form) = form_is_parallel_loop form
 
 -- a statement that holds no other
 abbrev pub form_is_single : StmtForm → Bool
@@ -111,12 +111,12 @@ form_is_single (atomic all) = false
 form_is_single form = true
 
 abbrev pub is_single : PlainStmt → Bool
-is_single (statement node place form) = form_is_single form
+is_single (statement place form) = form_is_single form
 
 -- a statement reads the local of that name declared outside of it
 abbrev mutual
   pub stmt_reads : ℕ → PlainStmt → Bool
-  stmt_reads x (statement node place form) = stmt_form_reads x form
+  stmt_reads x (statement place form) = stmt_form_reads x form
 
   pub stmt_form_reads : ℕ → StmtForm → Bool
   stmt_form_reads x (block all) = stmts_read x all
@@ -152,7 +152,7 @@ abbrev mutual
 -- a statement assigns the local of that name declared outside of it
 abbrev mutual
   pub stmt_assigns : ℕ → PlainStmt → Bool
-  stmt_assigns x (statement node place form) = stmt_form_assigns x form
+  stmt_assigns x (statement place form) = stmt_form_assigns x form
 
   pub stmt_form_assigns : ℕ → StmtForm → Bool
   stmt_form_assigns x (block all) = stmts_assign x all

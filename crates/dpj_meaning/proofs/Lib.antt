@@ -1,1 +1,5 @@
+mod Entries
+mod Modes
 mod Samples
+pub mod Tasks
+mod Turns

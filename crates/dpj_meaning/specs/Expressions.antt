@@ -64,10 +64,10 @@ back f (Returns v) = gives v f
 abbrev pub enter : {N M : Type 0} → Naming N M → PlainProgram → Deeper N M → ℕ × List (Region M) → ℕ → List (Value N) → List (Region M) → Frame N M → Prog N M
 enter names P dp seen r vs own f =
     elim (row_at P seen.0 r) [
-      None ↦ gives none f
-    | Some n ↦ elim (member_at P n) [
-        None ↦ gives none f
-      | Some m ↦ on (dp m.body (entered names m vs (regions_above names (parent_of P) (length P.classes) seen.0 seen.1 m.class ++ own) (f.left - 1))) (back f)
+      | None ↦ gives none f
+      | Some n ↦ elim (member_at P n) [
+        | None ↦ gives none f
+        | Some m ↦ on (dp m.body (entered names m vs (regions_above names (parent_of P) (length P.classes) seen.0 seen.1 m.class ++ own) (f.left - 1))) (back f)
       ]
     ]
 
@@ -89,12 +89,12 @@ abbrev pub created : {N M : Type 0} → Naming N M → PlainProgram → Option (
 created names P dp at c regions vs f =
     cond (some_long regions) (Traps trap.Stack at)
     (elim (constructor_of P c) [
-      None ↦ Act (New (new_object P c regions) false) (λ a. gives (name_made a) f)
-    | Some n ↦ elim dp [
-        None ↦ Traps trap.Stack at
-      | Some deeper ↦ Act (New (new_object P c regions) true) (λ a. elim (member_at P n) [
-          None ↦ gives (name_made a) f
-        | Some m ↦ on (deeper m.body (entered names m (name_made a ∷ vs) regions (f.left - 1))) (λ r. gives (name_made a) f)
+      | None ↦ Act (New (new_object P c regions) false) (λ a. gives (name_made a) f)
+      | Some n ↦ elim dp [
+        | None ↦ Traps trap.Stack at
+        | Some deeper ↦ Act (New (new_object P c regions) true) (λ a. elim (member_at P n) [
+          | None ↦ gives (name_made a) f
+          | Some m ↦ on (deeper m.body (entered names m (name_made a ∷ vs) regions (f.left - 1))) (λ r. gives (name_made a) f)
         ])
       ]
     ])
@@ -129,7 +129,7 @@ abbrev mutual
       and_then (of_expr names P dp a f) (λ v g. unless_null at v (λ n. Act (Look n) (λ x. gives (Int (pos (length_seen x))) g)))
   of_expr names P dp (typed at t (form.call e c r regions es)) f =
       and_then (of_expr names P dp e f) (λ v g. of_exprs names P dp es g [] (λ vs h.
-        unless_null at v (λ n. called names P dp at c r (map (concrete names (around h)) regions) n (reverse vs) h)))
+      unless_null at v (λ n. called names P dp at c r (map (concrete names (around h)) regions) n (reverse vs) h)))
   of_expr names P dp (typed at t (form.create es)) f =
       of_exprs names P dp es f [] (λ vs g. created names P dp at (class_in t).0 (map (concrete names (around g)) (class_in t).1) (reverse vs) g)
   of_expr names P dp (typed at t (form.create_array n)) f = and_then (of_expr names P dp n f) (λ v g. made_array names at t (number v) g)

@@ -1,10 +1,13 @@
--- What small programs ask, as their texts say.
-use Rattle.std.specs.Prelude.{◌≡◌, pos, [], ◌∷◌}
+-- What small programs ask, and how they come out in sequence, as their texts say.
+use Rattle.std.specs.Prelude.{◌≡◌, ℕ, pos, negsuc, codes, [], ◌∷◌}
+use Rattle.dpj_base.specs.declared.value.Trap.TheVariants.{Divide, Index}
+use Rattle.dpj_typed.specs.Samples.{here, program_of}
 use Rattle.std.specs.Fmt.{signed_decimal}
 use Rattle.dpj_meaning.specs.Values.{Int}
-use Rattle.dpj_meaning.specs.Actions.{Went, Joined, Returned, Do, Rest, Print, Begin, Join, End, Next, Over}
+use Rattle.dpj_meaning.specs.Actions.{Went, Joined, Returned, Trapped, Do, Rest, Print, Begin, Join, End, Next, Over}
 use Rattle.dpj_meaning.specs.Counts.{line}
-use Rattle.dpj_meaning.specs.Samples.{asks, prints_sum, counts, one_and_two}
+use Rattle.dpj_meaning.specs.Elision.{Limits, Came, Limited, elided}
+use Rattle.dpj_meaning.specs.Samples.{asks, prints_sum, counts, one_and_two, divides, prints_from_five, fills_and_reads, traps_twice, endless}
 
 -- it prints 3 in decimal, then ends with 7, and then it is over
 pub record PrintsSum : Type 0 where
@@ -23,3 +26,38 @@ pub record BeginsEach : Type 0 where
   pub second : asks 2 one_and_two (Went ∷ Went ∷ []) ≡ Next 0 (Begin 1)
   pub joins : asks 2 one_and_two (Went ∷ Went ∷ Went ∷ []) ≡ Next 0 Join
   pub ends : asks 2 one_and_two (Joined [] ∷ Went ∷ Went ∷ Went ∷ []) ≡ Next 0 (End (Returned (Int (pos 0))))
+
+abbrev pub roomy : Limits
+roomy = record { steps = 10000; cells = 100 }
+
+abbrev pub limits : ℕ → ℕ → Limits
+limits steps cells = record { steps = steps; cells = cells }
+
+-- the first branch traps, and the second counts but prints nothing; or both print, in order; and one step or one cell less is
+-- too little
+pub record BranchesInOrder : Type 0 where
+  pub traps : elided divides (pos 0) roomy ≡ Came (Trapped Divide here) [] 6 3
+  pub prints : elided divides (pos 1) roomy ≡ Came (Returned (Int (pos 0))) (codes "1\n2\n") 7 5
+  pub suffices : elided divides (pos 1) (limits 7 5) ≡ Came (Returned (Int (pos 0))) (codes "1\n2\n") 7 5
+  pub steps : elided divides (pos 1) (limits 6 5) ≡ Limited 6 5
+  pub cells : elided divides (pos 1) (limits 7 4) ≡ Limited 7 4
+  -- a trap comes to nothing where what follows it is over a limit
+  pub trap_too : elided divides (pos 0) (limits 5 3) ≡ Limited 5 3
+
+-- a loop of branches, which makes none where its count isn't positive
+pub record CountsFromFive : Type 0 where
+  pub two : elided prints_from_five (pos 2) roomy ≡ Came (Returned (Int (pos 9))) (codes "5\n6\n") 7 5
+  pub zero : elided prints_from_five (pos 0) roomy ≡ Came (Returned (Int (pos 9))) [] 3 1
+  pub negative : elided prints_from_five (negsuc 3) roomy ≡ Came (Returned (Int (pos 9))) [] 3 1
+
+-- what branches write is read after them; out of bounds it traps
+pub record ReadsWritten : Type 0 where
+  pub three : elided fills_and_reads (pos 3) roomy ≡ Came (Returned (Int (pos 2))) [] 11 5
+  pub too_short : elided fills_and_reads (pos 2) roomy ≡ Came (Trapped Index here) [] 9 4
+
+-- 5000 turns cost 5000 steps; of two traps the first in order counts, however long its branch takes; and a loop without an end
+-- is over the limit
+pub record RunsLoops : Type 0 where
+  pub counts : elided (program_of [] [] 3 counts) (pos 0) roomy ≡ Came (Returned (Int (pos 5000))) [] 5001 1
+  pub first_trap : elided traps_twice (pos 0) roomy ≡ Came (Trapped Index here) [] 1007 5
+  pub endless : elided endless (pos 0) (limits 500 100) ≡ Limited 500 100

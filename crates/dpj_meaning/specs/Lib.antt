@@ -1,10 +1,13 @@
 pub mod Actions
 pub mod Asking
 pub mod Core
+pub mod Costs
 pub mod Counts
+pub mod Elision
 pub mod Expressions
 pub mod Laws
 pub mod Regions
 pub mod Samples
 pub mod Statements
+pub mod Tasks
 pub mod Values

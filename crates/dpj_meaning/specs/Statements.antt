@@ -99,7 +99,7 @@ abbrev mutual
       and_then (of_expr names P dp o f) (λ v g. and_then (of_expr names P dp e g) (λ u h. unless_null at v (λ n. write_cell at n (pos k) u h)))
   of_stmt names P dp (statement at (form.store_element a i e)) f =
       and_then (of_expr names P dp a f) (λ v g. and_then (of_expr names P dp i g) (λ j h. and_then (of_expr names P dp e h) (λ u l.
-        unless_null at v (λ n. write_cell at n (number j) u l))))
+      unless_null at v (λ n. write_cell at n (number j) u l))))
   of_stmt names P dp (statement at (form.store_part k i e)) f =
       and_then (of_expr names P dp i f) (λ j g. and_then (of_expr names P dp e g) (λ u h. part_element at k (number j) h (λ n l. write_cell at n l u h)))
   of_stmt names P dp (statement at (form.perform e)) f = and_then (of_expr names P dp e f) (λ v g. gives none g)
@@ -127,7 +127,7 @@ abbrev mutual
       and_then (of_expr names P dp a f) (λ v g. and_then (of_expr names P dp count (part_begun k v g)) (λ u h. parts_of_array dp at k s (with_value h (k + 3) u)))
   of_stmt names P dp (statement at (form.foreach_parts k (of_part j) count s)) f =
       and_then (of_expr names P dp count (part_taken_over k j f)) (λ u g. (let h = with_value g (k + 3) u in
-        parts dp at k s (with_value h (k + 2) (slot_value h.values (j + 2)))))
+      parts dp at k s (with_value h (k + 2) (slot_value h.values (j + 2)))))
 
   pub of_stmts : {N M : Type 0} → Naming N M → PlainProgram → Option (Deeper N M) → TypedStmts → Frame N M → Prog N M
   of_stmts names P dp no_stmts f = gives none f

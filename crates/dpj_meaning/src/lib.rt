@@ -7,7 +7,8 @@
 //! To read in this order: `Values` (values, regions, things), `Actions` (what a task does and is answered), `Counts`
 //! (what an unfitting value or answer counts as), `Core` (a task's work as a tree of seven forms, and how such a tree runs in
 //! a world), `Expressions` and `Statements` (one clause a construct, in the order of evaluation), `Asking` (the next
-//! action of a task after a list of answers).
+//! action of a task after a list of answers), `Tasks` (what every task keeps to), `Costs` and `Elision` (the same meaning run
+//! in sequence with one heap: how a program comes out).
 #![tactic(auto)]
 
 pub mod laws;

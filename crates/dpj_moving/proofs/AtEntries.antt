@@ -10,10 +10,9 @@ use Rattle.dpj_runs.specs.Runs.{Begun, Event, Faithful, Run, Upto, count, later,
 use Rattle.dpj_runs.specs.Standing.{Inside, Outside, Standing, Valid, above, first_of, joined_by, standing}
 use Rattle.dpj_moving.specs.Gathered.{Anchor, AtEntries, EntryOf, Together, block_of, block_spot, entry, gather, itself}
 use Rattle.dpj_moving.specs.Guarded.{ConflictsGuarded}
-use Rattle.dpj_moving.specs.Insertion.{All_of, Earlier, put_behind}
-use Rattle.dpj_moving.specs.Moved.{below}
+use Rattle.dpj_moving.specs.Insertion.{All_of, Earlier, put_after}
 use Rattle.dpj_moving.specs.Guarded.{ConflictsGuarded}
-use Rattle.dpj_moving.specs.Insertion.{All_of, Earlier, put_behind}
+use Rattle.dpj_moving.specs.Insertion.{All_of, Earlier, put_after}
 use Rattle.dpj_runs.proofs.Upto.{upto_trans, upto_length, upto_tail, upto_split, upto_none, Which, which, same_one, before, after}
 use Rattle.dpj_runs.proofs.Mine.{mine_same, mine_at, mine_upto, Found, found, earlier_of, same_of, number_of}
 use Rattle.dpj_runs.proofs.Places.{snoc}
@@ -24,18 +23,18 @@ use Rattle.dpj_runs.proofs.Standing.{first_is, above_step, above_same, opener_st
 use Rattle.dpj_runs.proofs.Carry.{found_in}
 use Rattle.dpj_runs.proofs.Written.{faithful_of}
 use Rattle.dpj_moving.proofs.Under.{Under, under_self, under_root, true_of, of_true}
-use Rattle.dpj_moving.proofs.Insertion.{rearranged_step, behind_here, Rebuilt, grown, grown_back}
+use Rattle.dpj_moving.proofs.Insertion.{rearranged_step, after_here, Rebuilt, grown, grown_back}
 use Rattle.dpj_moving.proofs.Gather.{guarded_upto, gathered}
 use Rattle.dpj_moving.proofs.Shifts.{not_back, shifted, NewAt, new_at}
 
 -- an event put in by where its task stands
 abbrev put : Standing → Event → Run → Run
 put Outside e G = e ∷ G
-put (Inside o E) e G = put_behind (All_of o) e G
+put (Inside o E) e G = put_after (All_of o) e G
 
-put_is : (h : Standing) (e : Event) (G : Run) → put h e G ≡ put_behind (block_of h) e G
+put_is : (h : Standing) (e : Event) (G : Run) → put h e G ≡ put_after (block_of h) e G
 put_is Outside e [] = refl
-put_is Outside e (x ∷ G) = sym (behind_here (All_of []) e x G (true_of [] x.path (under_root x.path)))
+put_is Outside e (x ∷ G) = sym (after_here (All_of []) e x G (true_of [] x.path (under_root x.path)))
 put_is (Inside o E) e G = refl
 
 -- two events at one place of a run are one
@@ -65,7 +64,9 @@ above_under R q o E h (x ∷ xs) = above_step R x (xs ++ q) ∙ ap (λ s. joined
 
 module _ (P : Program) (D : Disciplined P) (known : Known P) where
   -- the latest event of the block of the task that goes on belongs to the block's entry
-  block_anchor : {R G0 A Zg : Run} {e a z : Event} (o : Path) (E : List Effect) → Faithful P (e ∷ R) → Rebuilt P R G0 → standing R e.path ≡ Inside o E → EntryOf R o E A a → Upto (z ∷ Zg) G0 → Under o z.path → ((q : Path) → Under o q → mine (z ∷ Zg) q ≡ mine R q) → (zr : Found R z.path z (mine Zg z.path)) → Anchor zr.before z A a
+  block_anchor : {R G0 A Zg : Run} {e a z : Event} (o : Path) (E : List Effect) → Faithful P (e ∷ R) → Rebuilt P R G0 → standing R e.path ≡ Inside o E
+      → EntryOf R o E A a → Upto (z ∷ Zg) G0 → Under o z.path → ((q : Path) → Under o q → mine (z ∷ Zg) q ≡ mine R q)
+      → (zr : Found R z.path z (mine Zg z.path)) → Anchor zr.before z A a
   block_anchor {R} {G0} {A} {Zg} {e} {a} {z} o E l g inside ent hz zu full zr = go (below_or o z.path zu)
     where
       s : Stands P D R e.path o E
@@ -81,7 +82,13 @@ module _ (P : Program) (D : Disciplined P) (known : Known P) where
       same_above = above_same P zl.1 (record { each = λ p. mine_upto p (upto_tail zr.stands) }) z.path z_task.1
 
       entered : Upto (a ∷ A) zr.before → EntryOf zr.before o E A a
-      entered h = record { stands = h; path = ent.path; outside = ent.outside; act = ent.act; open_since = λ Z k j. ent.open_since Z (upto_trans k (upto_tail zr.stands)) j }
+      entered h = record {
+        stands = h;
+        path = ent.path;
+        outside = ent.outside;
+        act = ent.act;
+        open_since = λ Z k j. ent.open_since Z (upto_trans k (upto_tail zr.stands)) j;
+      }
 
       by_opener : z.path ≡ o → (count zr.before o ≡ count A o) ⊎ ((count zr.before o < count A o) ⊎ (count A o < count zr.before o)) → Anchor zr.before z A a
       by_opener k (inl n) =
@@ -100,7 +107,8 @@ module _ (P : Program) (D : Disciplined P) (known : Known P) where
           let up : above zr.before o ≡ Outside = ap (λ r. above zr.before r) (sym k) ∙ same_above ∙ ap (λ r. above R r) k ∙ s.outside in
           entry o E (ap (λ r. standing zr.before r) k ∙ opener_stands zr.before o E m.0 up m.1) (entered h)
 
-      by_branch : (xs : Path) (u : ℕ × ℕ) → z.path ≡ xs ++ u ∷ o → (f : ForkAt zr.before o u) → (u.0 ≡ count A o) ⊎ ((u.0 < count A o) ⊎ (count A o < u.0)) → Anchor zr.before z A a
+      by_branch : (xs : Path) (u : ℕ × ℕ) → z.path ≡ xs ++ u ∷ o → (f : ForkAt zr.before o u) → (u.0 ≡ count A o) ⊎ ((u.0 < count A o) ⊎ (count A o < u.0))
+          → Anchor zr.before z A a
       by_branch xs u k f (inl n) =
           let fs = upto_trans f.stands (upto_tail zr.stands) in
           let w = same_of o fs ent.stands f.path ent.path (f.number ∙ n) in
@@ -120,8 +128,10 @@ module _ (P : Program) (D : Disciplined P) (known : Known P) where
           let fs = upto_trans f.stands (upto_tail zr.stands) in
           let h = earlier_of o ent.stands fs ent.path f.path (subst (λ i. count A o < i) (sym f.number) n) in
           let m = ent.open_since f.before (upto_tail fs) h in
-          let firsts : first_of u.0 (mine R o) ≡ mine f.before o = subst (λ i. first_of i (mine R o) ≡ mine f.before o) f.number (first_is (upto_tail (mine_at o fs f.path))) in
-          let up : above R (u ∷ o) ≡ Inside o E = above_step R u o ∙ ap (λ b. joined_by b o (hold (first_of u.0 (mine R o)))) s.outside ∙ ap (λ r. joined_by Outside o (hold r)) firsts ∙ ap (λ r. joined_by Outside o r) m.1 in
+          let firsts : first_of u.0 (mine R o) ≡ mine f.before o =
+          subst (λ i. first_of i (mine R o) ≡ mine f.before o) f.number (first_is (upto_tail (mine_at o fs f.path))) in
+          let up : above R (u ∷ o) ≡ Inside o E = above_step R u o ∙ ap (λ b. joined_by b o (hold (first_of u.0 (mine R o)))) s.outside
+          ∙ ap (λ r. joined_by Outside o (hold r)) firsts ∙ ap (λ r. joined_by Outside o r) m.1 in
           let upz : above zr.before z.path ≡ Inside o E = same_above ∙ ap (λ r. above R r) k ∙ above_under R (u ∷ o) o E up xs in
           entry o E (ap (λ b. joined_by b z.path (hold (mine zr.before z.path))) upz) (entered (upto_trans h (upto_tail f.stands)))
 
@@ -157,10 +167,18 @@ module _ (P : Program) (D : Disciplined P) (known : Known P) where
         record { before = m.before; event = y.event; stands = m.stands; path = y.path; number = same ∙ y.number; more = omega arith }
 
     -- this event is the later one
-    as_later : (X A B : Run) (x a b : Event) → Upto (x ∷ X) R → Anchor X x A a → Anchor R e B b → Sooner A X B R x a → Earlier (put (standing R e.path) e G0) x.path (count X x.path) e.path (count R e.path)
+    as_later : (X A B : Run) (x a b : Event) → Upto (x ∷ X) R → Anchor X x A a → Anchor R e B b → Sooner A X B R x a
+        → Earlier (put (standing R e.path) e G0) x.path (count X x.path) e.path (count R e.path)
     as_later X A B x a b hx ax (itself s p q) so =
         subst (λ st. Earlier (put st e G0) x.path (count X x.path) e.path (count R e.path)) (sym s)
-        (record { before = G0; event = e; stands = now; path = refl; number = ap length (g.same e.path); more = (let n = number_of x.path hx refl in let m = ap length (g.same x.path) in omega arith) })
+        (record {
+          before = G0;
+          event = e;
+          stands = now;
+          path = refl;
+          number = ap length (g.same e.path);
+          more = (let n = number_of x.path hx refl in let m = ap length (g.same x.path) in omega arith);
+        })
     as_later X A B x a b hx ax (entry o E s ent) so =
         subst (λ st. Earlier (put st e G0) x.path (count X x.path) e.path (count R e.path)) (sym s)
         (record { before = n.top ∷ n.rest; event = e; stands = n.new; path = refl; number = ap length (n.full e.path eu ∙ g.same e.path); more = enough so })
@@ -208,8 +226,10 @@ module _ (P : Program) (D : Disciplined P) (known : Known P) where
             omega arith
 
     -- this event is the earlier one
-    as_earlier : (Y A B : Run) (y a b : Event) → Upto (y ∷ Y) R → Anchor R e A a → Anchor Y y B b → Sooner A R B Y e a → Earlier (put (standing R e.path) e G0) e.path (count R e.path) y.path (count Y y.path)
-    as_earlier Y A B y a b hy (itself s p q) ay (inl w) = let n1 = upto_length w in let n2 = anchor_length ay in let n3 = upto_length hy in let n4 = ap length p in absurd (omega arith)
+    as_earlier : (Y A B : Run) (y a b : Event) → Upto (y ∷ Y) R → Anchor R e A a → Anchor Y y B b → Sooner A R B Y e a
+        → Earlier (put (standing R e.path) e G0) e.path (count R e.path) y.path (count Y y.path)
+    as_earlier Y A B y a b hy (itself s p q) ay (inl w) = let n1 = upto_length w in let n2 = anchor_length ay in let n3 = upto_length hy in let n4 =
+        ap length p in absurd (omega arith)
     as_earlier Y A B y a b hy ae ay (inr w) = let n1 = upto_length w.1 in let n3 = upto_length hy in absurd (omega arith)
     as_earlier Y A B y a b hy (entry o E s ent) ay (inl w) =
         subst (λ st. Earlier (put st e G0) e.path (count R e.path) y.path (count Y y.path)) (sym s) (place (n.others y yg.before yg.stands))
@@ -235,7 +255,8 @@ module _ (P : Program) (D : Disciplined P) (known : Known P) where
         az : Anchor zr.before n.top A a
         az = block_anchor o E l g s ent n.stands (of_true o n.top.path n.is_near) (λ q u. n.full q u ∙ g.same q) zr
 
-        place : Upto (y ∷ yg.before) (n.top ∷ n.rest) ⊎ ((Z : Run) × Upto (y ∷ Z) (put_behind (All_of o) e G0) × (count Z y.path ≡ count yg.before y.path) × Upto (e ∷ n.top ∷ n.rest) Z) → Earlier (put_behind (All_of o) e G0) e.path (count R e.path) y.path (count Y y.path)
+        place : Upto (y ∷ yg.before) (n.top ∷ n.rest) ⊎ ((Z : Run) × Upto (y ∷ Z) (put_after (All_of o) e G0) × (count Z y.path ≡ count yg.before y.path)
+            × Upto (e ∷ n.top ∷ n.rest) Z) → Earlier (put_after (All_of o) e G0) e.path (count R e.path) y.path (count Y y.path)
         place (inr v) =
             let c = upto_length (mine_at e.path v.3 refl) in
             let d = ap length (n.full e.path eu ∙ g.same e.path) in
@@ -268,21 +289,25 @@ module _ (P : Program) (D : Disciplined P) (known : Known P) where
     step_in_place : AtEntries (e ∷ R) (put (standing R e.path) e G0)
     step_in_place = record { each = each; has = λ X x h. anchor_of X x l h }
       where
-        each : (X Y A B : Run) (x y a b : Event) → Upto (x ∷ X) (e ∷ R) → Upto (y ∷ Y) (e ∷ R) → Anchor X x A a → Anchor Y y B b → Sooner A X B Y x a → Earlier (put (standing R e.path) e G0) x.path (count X x.path) y.path (count Y y.path)
+        each : (X Y A B : Run) (x y a b : Event) → Upto (x ∷ X) (e ∷ R) → Upto (y ∷ Y) (e ∷ R) → Anchor X x A a → Anchor Y y B b → Sooner A X B Y x a
+            → Earlier (put (standing R e.path) e G0) x.path (count X x.path) y.path (count Y y.path)
         each X Y A B x y a b hx hy ax ay so = go (upto_split hx) (upto_split hy)
           where
-            go : ((x ≡ e) × (X ≡ R)) ⊎ Upto (x ∷ X) R → ((y ≡ e) × (Y ≡ R)) ⊎ Upto (y ∷ Y) R → Earlier (put (standing R e.path) e G0) x.path (count X x.path) y.path (count Y y.path)
+            go : ((x ≡ e) × (X ≡ R)) ⊎ Upto (x ∷ X) R → ((y ≡ e) × (Y ≡ R)) ⊎ Upto (y ∷ Y) R
+                → Earlier (put (standing R e.path) e G0) x.path (count X x.path) y.path (count Y y.path)
             go (inr p) (inr q) = keeps (standing R e.path) refl (rec.each X Y A B x y a b p q ax ay so)
             go (inr p) (inl q) =
                 let ay1 = subst (λ Z. Anchor Z e B b) q.1 (subst (λ z. Anchor Y z B b) q.0 ay) in
                 let so1 = subst (λ Z. Sooner A X B Z x a) q.1 so in
                 let r = as_later X A B x a b p ax ay1 so1 in
-                subst (λ Z. Earlier (put (standing R e.path) e G0) x.path (count X x.path) y.path (count Z y.path)) (sym q.1) (subst (λ z. Earlier (put (standing R e.path) e G0) x.path (count X x.path) z.path (count R z.path)) (sym q.0) r)
+                subst (λ Z. Earlier (put (standing R e.path) e G0) x.path (count X x.path) y.path (count Z y.path)) (sym q.1)
+                (subst (λ z. Earlier (put (standing R e.path) e G0) x.path (count X x.path) z.path (count R z.path)) (sym q.0) r)
             go (inl p) (inr q) =
                 let ax1 = subst (λ Z. Anchor Z e A a) p.1 (subst (λ z. Anchor X z A a) p.0 ax) in
                 let so1 = subst (λ z. Sooner A R B Y z a) p.0 (subst (λ Z. Sooner A Z B Y x a) p.1 so) in
                 let r = as_earlier Y A B y a b q ax1 ay so1 in
-                subst (λ Z. Earlier (put (standing R e.path) e G0) x.path (count Z x.path) y.path (count Y y.path)) (sym p.1) (subst (λ z. Earlier (put (standing R e.path) e G0) z.path (count R z.path) y.path (count Y y.path)) (sym p.0) r)
+                subst (λ Z. Earlier (put (standing R e.path) e G0) x.path (count Z x.path) y.path (count Y y.path)) (sym p.1)
+                (subst (λ z. Earlier (put (standing R e.path) e G0) z.path (count R z.path) y.path (count Y y.path)) (sym p.0) r)
             go (inl p) (inl q) =
                 let ax1 = subst (λ Z. Anchor Z e A a) p.1 (subst (λ z. Anchor X z A a) p.0 ax) in
                 let ay1 = subst (λ Z. Anchor Z e B b) q.1 (subst (λ z. Anchor Y z B b) q.0 ay) in
@@ -296,19 +321,21 @@ module _ (P : Program) (D : Disciplined P) (known : Known P) where
       subst (AtEntries (e ∷ R)) (put_is (standing R e.path) e (gather R) ∙ sym (rearranged_step block_spot e R))
       (step_in_place R e (faithful_of P (e ∷ R) l) (gather R) (gathered P D known R l.1 less) (at_entries R l.1 less))
 
-anchor_stands : {X A R : Run} {x a : Event} → Upto (x ∷ X) R → Anchor X x A a → Upto (a ∷ A) R
+pub anchor_stands : {X A R : Run} {x a : Event} → Upto (x ∷ X) R → Anchor X x A a → Upto (a ∷ A) R
 anchor_stands {X} {A} {R} {x} {a} h (itself s p q) = subst (λ Z. Upto (a ∷ Z) R) (sym p) (subst (λ z. Upto (z ∷ X) R) (sym q) h)
 anchor_stands h (entry o E s t) = upto_trans t.stands (upto_tail h)
 
 pub together : (R G : Run) → AtEntries R G → Together R G
 together R G i = record { none_between = each }
   where
-    each : (X Y Z A B C : Run) (x y z a b c : Event) → Upto (x ∷ X) R → Upto (y ∷ Y) R → Upto (z ∷ Z) R → Anchor X x A a → Anchor Y y B b → Anchor Z z C c → A ≡ C → Earlier G x.path (count X x.path) y.path (count Y y.path) → Earlier G y.path (count Y y.path) z.path (count Z z.path) → A ≡ B
+    each : (X Y Z A B C : Run) (x y z a b c : Event) → Upto (x ∷ X) R → Upto (y ∷ Y) R → Upto (z ∷ Z) R → Anchor X x A a → Anchor Y y B b → Anchor Z z C c
+        → A ≡ C → Earlier G x.path (count X x.path) y.path (count Y y.path) → Earlier G y.path (count Y y.path) z.path (count Z z.path) → A ≡ B
     each X Y Z A B C x y z a b c hx hy hz ax ay az ac xy yz = go (which (anchor_stands hx ax) (anchor_stands hy ay))
       where
         go : Which a A b B → A ≡ B
         go (same_one p q) = q
         go (before h) =
             let ca : c ≡ a = same_place (anchor_stands hz az) (anchor_stands hx ax) (sym ac) in
-            absurd (not_back G y.path z.path (count Y y.path) (count Z z.path) yz (i.each Z Y C B z y c b hz hy az ay (inl (subst (λ r. Upto (c ∷ r) B) ac (subst (λ v. Upto (v ∷ A) B) (sym ca) h)))))
+            absurd (not_back G y.path z.path (count Y y.path) (count Z z.path) yz
+            (i.each Z Y C B z y c b hz hy az ay (inl (subst (λ r. Upto (c ∷ r) B) ac (subst (λ v. Upto (v ∷ A) B) (sym ca) h)))))
         go (after h) = absurd (not_back G x.path y.path (count X x.path) (count Y y.path) xy (i.each Y X B A y x b a hy hx ay ax (inl h)))

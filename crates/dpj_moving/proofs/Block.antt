@@ -1,5 +1,5 @@
--- An event inside a block: nothing that was put behind the latest event of its block hinders it there.
-use Rattle.std.proofs.Common.{◌≡◌, ℕ, ◌⊎◌, inl, inr, ⊎_elim, true, false, List, [], ◌∷◌, ◌++◌, length, refl, sym, ap, ◌∙◌, subst, arith, append_assoc}
+-- An event inside a block: nothing that was put after the latest event of its block hinders it there.
+use Rattle.std.proofs.Common.{◌≡◌, ℕ, ◌⊎◌, inl, inr, List, [], ◌∷◌, ◌++◌, length, sym, ap, ◌∙◌, subst, arith, append_assoc}
 use Rattle.dpj_runs.specs.Actions.{Program, Task}
 use Rattle.dpj_runs.specs.Blocks.{In_block, hold}
 use Rattle.dpj_runs.specs.Meaning.{Disciplined, Known}
@@ -9,9 +9,8 @@ use Rattle.dpj_runs.specs.Runs.{Begun, Event, Faithful, Run, Upto, branch, count
 use Rattle.dpj_runs.specs.Standing.{Inside, Outside, Valid, above, joined_by, standing}
 use Rattle.dpj_moving.specs.Guarded.{Barred, ConflictsGuarded, Guarded, InBlock}
 use Rattle.dpj_moving.specs.Insertion.{All_of}
-use Rattle.dpj_moving.specs.Moved.{below}
 use Rattle.dpj_runs.proofs.Upto.{upto_trans, upto_length, upto_tail, Which, which, same_one, before, after}
-use Rattle.dpj_runs.proofs.Mine.{path_cases, mine_at, mine_nil, Found, found}
+use Rattle.dpj_runs.proofs.Mine.{path_cases, mine_at, Found, found}
 use Rattle.dpj_runs.proofs.Faithful.{faithful_upto, same_task}
 use Rattle.dpj_runs.proofs.Between.{plain_passes, respects, respects_passing, order_of}
 use Rattle.dpj_runs.proofs.Cells.{left_plain, right_plain}
@@ -24,7 +23,7 @@ use Rattle.dpj_moving.proofs.Insertion.{valid_upto, Rebuilt, grown, Side}
 use Rattle.dpj_moving.proofs.Overlap.{opener_same, effects_same, never_both, there, same_standing}
 
 module _ (P : Program) (D : Disciplined P) (known : Known P) (R G0 : Run) (e : Event) (o : Path) (E : List Effect) (l : Valid P (e ∷ R)) (g : Rebuilt P R G0)
-  (gd : ConflictsGuarded P.rule (e ∷ R)) (inside : standing R e.path ≡ Inside o E) where
+    (gd : ConflictsGuarded P.rule (e ∷ R)) (inside : standing R e.path ≡ Inside o E) where
   lf : Faithful P (e ∷ R)
   lf = faithful_of P (e ∷ R) l
 
@@ -56,7 +55,7 @@ module _ (P : Program) (D : Disciplined P) (known : Known P) (R G0 : Run) (e : E
       go (lies_in h) = absurd (ne (under_more o r y (xs ++ u ∷ []) h (a ∙ sym (append_assoc xs (u ∷ []) r))))
       go (lies_over ws h) = across xs ws r u v a h c
 
-  -- no event behind the latest of the block conflicts with this one
+  -- no event after the latest of the block conflicts with this one
   clash : {y : Event} {Y : Run} → Upto (y ∷ Y) G0 → (Under o y.path → ⊥) → Complete Y → Conflict y e → ⊥
   clash {y} {Y} hy ne full cf = go (order_of P D lf (later yr.stands) now (left_plain cf) (right_plain cf))
     where
@@ -75,8 +74,8 @@ module _ (P : Program) (D : Disciplined P) (known : Known P) (R G0 : Run) (e : E
       enter_passes : Passes entered.event.act
       enter_passes = plain_passes P D entered.event.act (subst IsPlain (sym entered.act) tt)
 
-      behind : Before y.path (count yr.before y.path) e.path (count R e.path) → ⊥
-      behind b =
+      never_before : Before y.path (count yr.before y.path) e.path (count R e.path) → ⊥
+      never_before b =
           let b1 = from_outside y.path (count yr.before y.path) (count R e.path) (count entered.before o) ne b in
           let b2 = subst (λ k. Before y.path k o (count entered.before o)) (ap length yr.mine_is) b1 in
           let b3 = subst (λ q. Before y.path (count Y y.path) q (count entered.before q)) (sym entered.path) b2 in
@@ -108,7 +107,8 @@ module _ (P : Program) (D : Disciplined P) (known : Known P) (R G0 : Run) (e : E
               ne (record { below = t.below; is = t.path ∙ ap (λ q. t.below ++ q) (k ∙ oo) })
 
           barred : Barred P.rule i.effects E
-          barred = (let ee : gs.latter.effects ≡ E = effects_same gs.latter.opener o gs.latter.effects E same_block in subst (λ F. Barred P.rule i.effects F) ee (gs.barred two_blocks))
+          barred = (let ee : gs.latter.effects ≡ E = effects_same gs.latter.opener o gs.latter.effects E same_block in
+              subst (λ F. Barred P.rule i.effects F) ee (gs.barred two_blocks))
 
           meet : EntryAt Y i.opener i.effects → ⊥
           meet a = by_order (which a.stands entered.stands)
@@ -120,7 +120,7 @@ module _ (P : Program) (D : Disciplined P) (known : Known P) (R G0 : Run) (e : E
 
       go : Related y.path (count yr.before y.path) e.path (count R e.path) → ⊥
       go (one a b) = ne (subst (λ r. Under o r) (sym a) e_under)
-      go (first b) = behind b
+      go (first b) = never_before b
       go (second b) = let u = upto_length (respects P D lf now (later yr.stands) (left_plain cf) b) in let p = upto_length yr.stands in absurd (omega arith)
       go (neither u) = guarded (gd.each R yr.before e y now yr.stands u cf)
 

@@ -1,5 +1,6 @@
--- An event in a branch of a deterministic construct: nothing that was put behind the branch hinders it.
-use Rattle.std.proofs.Common.{eq-eqb, ◌≡◌, ℕ, ◌<◌, ◌≤◌, ◌⊎◌, inl, inr, true, false, true≢false, List, [], ◌∷◌, ◌++◌, length, refl, sym, ap, ◌∙◌, subst, arith, append_assoc}
+-- An event in a branch of a deterministic construct: nothing that was put after the branch hinders it.
+use Rattle.std.proofs.Common.{eq-eqb, ◌≡◌, ℕ, ◌<◌, ◌≤◌, ◌⊎◌, inl, inr, true, false, true≢false, List, [], ◌∷◌, ◌++◌, length, refl, sym, ap, ◌∙◌, subst, arith}
+use Rattle.std.proofs.Common.{append_assoc}
 use Rattle.std.proofs.lemmas.Bool.{and_from, cases_lt, cond-true, cond-false}
 use Rattle.dpj_runs.specs.Actions.{Action, Begin, Do, Enter, Program, Task}
 use Rattle.dpj_runs.specs.Blocks.{In_block, Out_of, hold}
@@ -12,16 +13,17 @@ use Rattle.dpj_moving.specs.Guarded.{InBlock, Levelled, LevelsGuarded}
 use Rattle.dpj_moving.specs.Insertion.{Branch_of, begins_branch, is_under, near}
 use Rattle.dpj_moving.specs.Moved.{inner}
 use Rattle.dpj_runs.proofs.Upto.{upto_trans, upto_length, upto_same, upto_tail, upto_two, upto_less, upto_split, Which, which, same_one, before, after}
-use Rattle.dpj_runs.proofs.Mine.{test_same, mine_upto, Found, found, number_of, numbered}
+use Rattle.dpj_runs.proofs.Mine.{test_same, mine_upto, Found, number_of, numbered}
 use Rattle.dpj_runs.proofs.Places.{Place, equal, under, over, left_of, right_of, beside, place, not_below_self}
 use Rattle.dpj_runs.proofs.Faithful.{begun_upto, faithful_upto, follows_at, ForkAt}
 use Rattle.dpj_runs.proofs.Between.{fork_passes, plain_passes, respects_passing, order_of}
 use Rattle.dpj_runs.proofs.Cells.{left_plain, right_plain}
 use Rattle.dpj_runs.proofs.Blocks.{EntryAt, entry_at}
-use Rattle.dpj_runs.proofs.Standing.{Grows, Opener, opener_of, opener_stands, stands_outside, Joined_by, from_above, own, joined_cases, Adopted, adopted, above_same, Stands, stands, outside_above, above_out, begun_fork, waits_in}
+use Rattle.dpj_runs.proofs.Standing.{Grows, Opener, opener_of, opener_stands, stands_outside, Joined_by, from_above, own, joined_cases, Adopted, adopted}
+use Rattle.dpj_runs.proofs.Standing.{above_same, Stands, stands, outside_above, above_out, begun_fork, waits_in}
 use Rattle.dpj_runs.proofs.Written.{faithful_of}
-use Rattle.dpj_runs.proofs.Carry.{begun_at, begun_held, found_in, grows_upto}
-use Rattle.dpj_moving.proofs.Under.{Under, under_self, under_more, true_of, Split, lies_in, lies_over, split}
+use Rattle.dpj_runs.proofs.Carry.{begun_held, found_in, grows_upto}
+use Rattle.dpj_moving.proofs.Under.{Under, under_more, true_of, Split, lies_in, lies_over, split}
 use Rattle.dpj_moving.proofs.Spots.{inner_under, inner_between}
 use Rattle.dpj_moving.proofs.Insertion.{valid_upto, Rebuilt, grown, Side, Bools, yes, no, bools}
 use Rattle.dpj_moving.proofs.Overlap.{never_both, there, same_standing}
@@ -38,7 +40,7 @@ near_begin u q x p a = go (bools (is_under x.path (u ∷ q)))
     go (no h) = cond-false _ _ _ h ∙ and_from _ _ (test_same x.path q p) (ap (begins_branch u.1) a ∙ eq-eqb u.1 u.1 refl)
 
 module _ (P : Program) (D : Disciplined P) (known : Known P) (R G0 : Run) (e : Event) (u : ℕ × ℕ) (q : Path) (l : Valid P (e ∷ R)) (g : Rebuilt P R G0)
-  (ck : LevelsGuarded P.rule (e ∷ R)) (spot : inner R e.path ≡ Branch_of u q) where
+    (ck : LevelsGuarded P.rule (e ∷ R)) (spot : inner R e.path ≡ Branch_of u q) where
   lf : Faithful P (e ∷ R)
   lf = faithful_of P (e ∷ R) l
 
@@ -80,9 +82,10 @@ module _ (P : Program) (D : Disciplined P) (known : Known P) (R G0 : Run) (e : E
       go (lies_in h) = absurd (ne (under_more o r y (xs ++ w ∷ []) h (a ∙ sym (append_assoc xs (w ∷ []) r))))
       go (lies_over ws h) = at ws h
 
-  -- such an event does not stand behind the fork
-  behind : {y : Event} {Y : Run} {t : Task} (n : ℕ) → Upto (y ∷ Y) G0 → (Under o y.path → ⊥) → Begun P Y e.path t → Before y.path (count Y y.path) e.path n → ⊥
-  behind {y} {Y} n hy ne b bf =
+  -- such an event does not stand after the fork
+  never_before : {y : Event} {Y : Run} {t : Task} (n : ℕ) → Upto (y ∷ Y) G0 → (Under o y.path → ⊥) → Begun P Y e.path t
+      → Before y.path (count Y y.path) e.path n → ⊥
+  never_before {y} {Y} n hy ne b bf =
       let f : ForkAt Y q u = begun_fork P D e_under.below e.path q u (faithful_upto P (upto_tail hy) lg) b e_under.is in
       let b2 = from_outside y.path (count Y y.path) n ne bf in
       let b3 = subst (λ k. Before y.path (count Y y.path) q k) (sym f.number) b2 in
@@ -91,7 +94,7 @@ module _ (P : Program) (D : Disciplined P) (known : Known P) (R G0 : Run) (e : E
       let r = upto_length f.stands in
       absurd (omega arith)
 
-  -- no event behind the latest of the branch conflicts with this one
+  -- no event after the latest of the branch conflicts with this one
   clash : {y : Event} {Y : Run} {t : Task} → Upto (y ∷ Y) G0 → (Under o y.path → ⊥) → Begun P Y e.path t → Conflict y e → ⊥
   clash {y} {Y} {t = t0} hy ne begun cf = go (order_of P D lf (later yr.stands) now (left_plain cf) (right_plain cf))
     where
@@ -136,28 +139,33 @@ module _ (P : Program) (D : Disciplined P) (known : Known P) (R G0 : Run) (e : E
 
           by_own : Under i2.opener q → Joined_by (above R e.path) e.path (hold (mine R e.path)) i2.opener i2.effects → ⊥
           by_own h (own n k p hh) =
-              let c : q ≡ (h.below ++ e_under.below) ++ u ∷ q = h.is ∙ ap (λ r. h.below ++ r) (sym p ∙ e_under.is) ∙ sym (append_assoc h.below e_under.below (u ∷ q)) in
+              let c : q ≡ (h.below ++ e_under.below) ++ u ∷ q =
+              h.is ∙ ap (λ r. h.below ++ r) (sym p ∙ e_under.is) ∙ sym (append_assoc h.below e_under.below (u ∷ q)) in
               not_below_self q (h.below ++ e_under.below) u c
           by_own h (from_above k) =
               let a : Adopted Y e.path i2.opener i2.effects = adopted Y e.path i2.opener i2.effects (above_same P legal_y.1 grows e.path begun ∙ k) in
-              let held : hold (mine Y i2.opener) ≡ In_block a.depth i2.effects = waits_in P D a.below i2.opener a.fork lf a.path legal_y.1 grows begun ∙ a.held in
+              let held : hold (mine Y i2.opener) ≡ In_block a.depth i2.effects =
+              waits_in P D a.below i2.opener a.fork lf a.path legal_y.1 grows begun ∙ a.held in
               meet (entry_at Y i1.opener t.depth i1.effects t.held) (entry_at Y i2.opener a.depth i2.effects held) a.outside
 
           by_place : Split i2.opener q u → ⊥
           by_place (lies_in h) = by_own h (joined_cases (above R e.path) e.path (hold (mine R e.path)) i2.opener i2.effects i2.stands)
           by_place (lies_over ys h) =
-              let k : inner R i2.opener ≡ Branch_of u q = inner_between R s.below i2.opener u q (subst (λ r. inner R r ≡ Branch_of u q) s.path spot) (record { below = ys; is = h }) in
+              let k : inner R i2.opener ≡ Branch_of u q = inner_between R s.below i2.opener u q (subst (λ r. inner R r ≡ Branch_of u q) s.path spot)
+              (record { below = ys; is = h }) in
               let v = inner_under yr.before i1.opener u q (gs.level ∙ k) in
               ne (under_more o i1.opener y.path t.below v t.path)
 
       go : Related y.path (count yr.before y.path) e.path (count R e.path) → ⊥
       go (one a b) = ne (subst (λ r. Under o r) (sym a) e_under)
-      go (first b) = behind (count R e.path) hy ne begun (subst (λ k. Before y.path k e.path (count R e.path)) (ap length yr.mine_is) b)
-      go (second b) = let x = upto_length (respects_passing P D lf now (later yr.stands) (plain_passes P D y.act (left_plain cf)) b) in let p = upto_length yr.stands in absurd (omega arith)
+      go (first b) = never_before (count R e.path) hy ne begun (subst (λ k. Before y.path k e.path (count R e.path)) (ap length yr.mine_is) b)
+      go (second b) = let x = upto_length (respects_passing P D lf now (later yr.stands) (plain_passes P D y.act (left_plain cf)) b) in let p =
+          upto_length yr.stands in absurd (omega arith)
       go (neither x) = guarded (ck.accesses R yr.before e y now yr.stands x cf)
 
   -- nor does an entry there
-  enter_over : {y : Event} {Y : Run} {t : Task} (E F : List Effect) → Upto (y ∷ Y) G0 → (Under o y.path → ⊥) → Begun P Y e.path t → y.act ≡ Do (Enter F) → e.act ≡ Do (Enter E) → standing Y y.path ≡ Outside → standing R e.path ≡ Outside → P.rule E F ≡ true
+  enter_over : {y : Event} {Y : Run} {t : Task} (E F : List Effect) → Upto (y ∷ Y) G0 → (Under o y.path → ⊥) → Begun P Y e.path t → y.act ≡ Do (Enter F)
+      → e.act ≡ Do (Enter E) → standing Y y.path ≡ Outside → standing R e.path ≡ Outside → P.rule E F ≡ true
   enter_over {y} {Y} E F hy ne begun ya ea sy se = go (order_of P D lf (later yr.stands) now (plain_enter y.act F ya) (plain_enter e.act E ea))
     where
       yr : Found R y.path y (mine Y y.path)
@@ -165,14 +173,17 @@ module _ (P : Program) (D : Disciplined P) (known : Known P) (R G0 : Run) (e : E
 
       go : Related y.path (count yr.before y.path) e.path (count R e.path) → P.rule E F ≡ true
       go (one a b) = absurd (ne (subst (λ r. Under o r) (sym a) e_under))
-      go (first b) = absurd (behind (count R e.path) hy ne begun (subst (λ k. Before y.path k e.path (count R e.path)) (ap length yr.mine_is) b))
-      go (second b) = let x = upto_length (respects_passing P D lf now (later yr.stands) (enters_pass y.act F ya) b) in let p = upto_length yr.stands in absurd (omega arith)
+      go (first b) = absurd (never_before (count R e.path) hy ne begun (subst (λ k. Before y.path k e.path (count R e.path)) (ap length yr.mine_is) b))
+      go (second b) = let x = upto_length (respects_passing P D lf now (later yr.stands) (enters_pass y.act F ya) b) in let p =
+          upto_length yr.stands in absurd (omega arith)
       go (neither x) =
-          let c = ck.entries R yr.before e y F E now yr.stands x ya ea (sym (same_standing P lf.1 g hy yr) ∙ sy) se (λ k. ne (inner_under yr.before y.path u q (k ∙ spot))) in
+          let c = ck.entries R yr.before e y F E now yr.stands x ya ea (sym (same_standing P lf.1 g hy yr) ∙ sy) se
+          (λ k. ne (inner_under yr.before y.path u q (k ∙ spot))) in
           c.1
 
-  -- where it may enter in the run it may enter behind the latest of the branch
-  enter_here : {Z : Run} {t : Task} (E : List Effect) → Upto Z G0 → Begun P Z e.path t → ((r : Path) → Under o r → mine Z r ≡ mine R r) → e.act ≡ Do (Enter E) → CanEnter P.rule R e.path E → CanEnter P.rule Z e.path E
+  -- where it may enter in the run it may enter after the latest of the branch
+  enter_here : {Z : Run} {t : Task} (E : List Effect) → Upto Z G0 → Begun P Z e.path t → ((r : Path) → Under o r → mine Z r ≡ mine R r)
+      → e.act ≡ Do (Enter E) → CanEnter P.rule R e.path E → CanEnter P.rule Z e.path E
   enter_here {Z} {t = t0} E hz begun full ea ce = record { clear = λ w r F h. at w r F (opener_of Z r F h) }
     where
       legal_z : Faithful P Z
@@ -194,7 +205,8 @@ module _ (P : Program) (D : Disciplined P) (known : Known P) (R G0 : Run) (e : E
           out_z = outside_above _ _ _ w
 
           out_e : standing R e.path ≡ Outside
-          out_e = ap (λ a. joined_by a e.path (hold (mine R e.path))) (sym (above_same P legal_z grows e.path begun)) ∙ ap (λ m. joined_by (above Z e.path) e.path (hold m)) (sym (full e.path e_under)) ∙ w
+          out_e = ap (λ a. joined_by a e.path (hold (mine R e.path))) (sym (above_same P legal_z grows e.path begun))
+              ∙ ap (λ m. joined_by (above Z e.path) e.path (hold m)) (sym (full e.path e_under)) ∙ w
 
           more : count Z r < count R r → P.rule F E ≡ true
           more n = by_event (numbered G0 r (count Z r) (subst (λ m. count Z r < length m) (sym (g.same r)) n))
@@ -229,7 +241,8 @@ module _ (P : Program) (D : Disciplined P) (known : Known P) (R G0 : Run) (e : E
                         where
                           up : Upto (y ∷ Y) Z ⊎ Upto Z (y ∷ Y) → Upto Z Y
                           up (inl j) = let a = number_of r j yp in let b = v.4 in absurd (omega arith)
-                          up (inr j) = upto_less j (λ k. (let a = number_of {x = y} {X = Y} {Y = y ∷ Y} r now yp in let b = v.4 in let c = ap (λ S. count S r) k in absurd (omega arith)))
+                          up (inr j) = upto_less j (λ k. (let a = number_of {x = y} {X = Y} {Y = y ∷ Y} r now yp in let b = v.4 in
+                              let c = ap (λ S. count S r) k in absurd (omega arith)))
 
                   begun_y : Begun P Y e.path t0
                   begun_y = begun_upto z_in_y begun
@@ -246,7 +259,8 @@ module _ (P : Program) (D : Disciplined P) (known : Known P) (R G0 : Run) (e : E
                   out_a : standing ar.before r ≡ Outside
                   out_a =
                       let al = follows_at P ar.stands lf.1 in
-                      let up = above_same P (faithful_upto P (upto_tail ar.stands) lf.1) (record { each = λ p. mine_upto p (upto_tail ar.stands) }) r (subst (λ p. Begun P ar.before p al.task) a.path al.begun) in
+                      let up = above_same P (faithful_upto P (upto_tail ar.stands) lf.1) (record { each = λ p. mine_upto p (upto_tail ar.stands) }) r
+                      (subst (λ p. Begun P ar.before p al.task) a.path al.begun) in
                       stands_outside ar.before r (up ∙ sym up_r ∙ h.outside) (ap hold ar.mine_is ∙ a.outside)
 
                   by_place : Place r e.path → P.rule F E ≡ true
@@ -256,13 +270,15 @@ module _ (P : Program) (D : Disciplined P) (known : Known P) (R G0 : Run) (e : E
                       let c = waits_in P D xs r x lf k legal_z grows begun in
                       let d = above_out Z xs r x (subst (λ p. above Z p ≡ Outside) k out_z) in
                       absurd (let z : Out_of ≡ In_block h.depth F = sym d ∙ sym c ∙ h.held in cc)
-                  by_place (left_of xs ys s x z k m n) = absurd (behind (count R e.path) hy ne begun_y (across xs ys s x z (yp ∙ k) m n))
+                  by_place (left_of xs ys s x z k m n) = absurd (never_before (count R e.path) hy ne begun_y (across xs ys s x z (yp ∙ k) m n))
                   by_place (right_of xs ys s x z k m n) =
                       let c = upto_length (respects_passing P D lf now (later ar.stands) apass (across ys xs s z x m (a.path ∙ k) n)) in
                       let d = upto_length ar.stands in
                       absurd (omega arith)
                   by_place (beside b) =
-                      let c = ck.entries R ar.before e a.event F E now ar.stands (subst (λ p. Unordered p e.path) (sym a.path) b) a.act ea (subst (λ p. standing ar.before p ≡ Outside) (sym a.path) out_a) out_e (λ k. not_o (subst (λ p. Under o p) a.path (inner_under ar.before a.event.path u q (k ∙ spot)))) in
+                      let c = ck.entries R ar.before e a.event F E now ar.stands (subst (λ p. Unordered p e.path) (sym a.path) b) a.act ea
+                      (subst (λ p. standing ar.before p ≡ Outside) (sym a.path) out_a) out_e
+                      (λ k. not_o (subst (λ p. Under o p) a.path (inner_under ar.before a.event.path u q (k ∙ spot)))) in
                       c.0
 
           by_count : (count Z r < count R r) ⊎ (count R r ≤ count Z r) → P.rule F E ≡ true

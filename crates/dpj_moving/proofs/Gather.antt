@@ -1,5 +1,5 @@
 -- The gathered run is valid.
-use Rattle.std.proofs.Common.{◌≡◌, ℕ, true, false, true≢false, List, [], ◌∷◌, refl, sym, ap, ◌∙◌, subst}
+use Rattle.std.proofs.Common.{◌≡◌, true≢false, [], ◌∷◌, refl, sym, ap, ◌∙◌, subst}
 use Rattle.dpj_runs.specs.Actions.{Program, Rule}
 use Rattle.dpj_runs.specs.Blocks.{hold}
 use Rattle.dpj_runs.specs.Meaning.{Disciplined, Known}
@@ -8,7 +8,7 @@ use Rattle.dpj_runs.specs.Runs.{Event, Run, Upto, later, mine, now}
 use Rattle.dpj_runs.specs.Standing.{Inside, Outside, Standing, Valid, above, joined_by, standing}
 use Rattle.dpj_moving.specs.Gathered.{block_of, block_spot, gather}
 use Rattle.dpj_moving.specs.Guarded.{ConflictsGuarded}
-use Rattle.dpj_moving.specs.Insertion.{All_of, put_behind}
+use Rattle.dpj_moving.specs.Insertion.{All_of, put_after}
 use Rattle.dpj_runs.proofs.Upto.{upto_trans}
 use Rattle.dpj_runs.proofs.Standing.{above_mine}
 use Rattle.dpj_moving.proofs.Under.{Under, under_root, true_of}
@@ -22,7 +22,7 @@ pub rebuilt_nil : (P : Program) → Rebuilt P [] []
 rebuilt_nil P = record { valid = tt; same = λ p. refl; lasts = λ c. refl }
 
 module _ (P : Program) (D : Disciplined P) (known : Known P) where
-  -- an event that belongs behind all
+  -- an event that belongs after all
   pub top_side : (R G0 : Run) (e : Event) → Side P D known R G0 e (All_of []) []
   top_side R G0 e = record {
     here = under_root e.path;
@@ -34,12 +34,14 @@ module _ (P : Program) (D : Disciplined P) (known : Known P) where
   }
     where
       same : (Z : Run) → ((r : Path) → Under [] r → mine Z r ≡ mine R r) → (p : Path) → standing Z p ≡ standing R p
-      same Z full p = ap (λ b. joined_by b p (hold (mine Z p))) (above_mine Z R (λ r. full r (under_root r)) p) ∙ ap (λ m. joined_by (above R p) p (hold m)) (full p (under_root p))
+      same Z full p = ap (λ b. joined_by b p (hold (mine Z p))) (above_mine Z R (λ r. full r (under_root r)) p)
+          ∙ ap (λ m. joined_by (above R p) p (hold m)) (full p (under_root p))
 
   pub gathered : (R : Run) → Valid P R → ConflictsGuarded P.rule R → Rebuilt P R (gather R)
   gathered [] l f = subst (Rebuilt P []) (sym (rearranged_nil block_spot)) (rebuilt_nil P)
-  gathered (e ∷ R) l f = subst (Rebuilt P (e ∷ R)) (sym (rearranged_step block_spot e R)) (go (gathered R l.1 (guarded_upto (later now) f)) (standing R e.path) refl)
+  gathered (e ∷ R) l f = subst (Rebuilt P (e ∷ R)) (sym (rearranged_step block_spot e R))
+      (go (gathered R l.1 (guarded_upto (later now) f)) (standing R e.path) refl)
     where
-      go : Rebuilt P R (gather R) → (h : Standing) → standing R e.path ≡ h → Rebuilt P (e ∷ R) (put_behind (block_of h) e (gather R))
+      go : Rebuilt P R (gather R) → (h : Standing) → standing R e.path ≡ h → Rebuilt P (e ∷ R) (put_after (block_of h) e (gather R))
       go g Outside k = rebuilt_in P D known R (gather R) e (All_of []) [] l g (top_side R (gather R) e)
       go g (Inside o E) k = rebuilt_in P D known R (gather R) e (All_of o) o l g (block_side P D known R (gather R) e o E l g f k)

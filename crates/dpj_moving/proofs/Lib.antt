@@ -7,7 +7,11 @@ pub mod Spots
 pub mod Branch
 pub mod Move
 pub mod Shifts
-pub mod BehindForks
+pub mod AfterForks
 pub mod AtEntries
 pub mod Rules
 pub mod Theorems
+pub mod Tests
+pub mod Samples
+pub mod OneGathered
+pub mod OneMoved

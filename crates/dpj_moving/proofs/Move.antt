@@ -1,5 +1,5 @@
 -- The run with deterministic constructs moved is valid.
-use Rattle.std.proofs.Common.{◌≡◌, ℕ, true, false, true≢false, List, [], ◌∷◌, refl, sym, ap, ◌∙◌, subst}
+use Rattle.std.proofs.Common.{◌≡◌, ℕ, true, true≢false, [], ◌∷◌, refl, sym, ◌∙◌, subst}
 use Rattle.std.proofs.lemmas.Bool.{cond-true, cond-false}
 use Rattle.dpj_runs.specs.Actions.{Action, Begin, Do, End, Enter, Fork, Join, Program, Rule}
 use Rattle.dpj_runs.specs.Meaning.{Disciplined, Known}
@@ -8,7 +8,7 @@ use Rattle.dpj_runs.specs.Order.{IsPlain}
 use Rattle.dpj_runs.specs.Runs.{Event, Run, Upto, later, mine, now}
 use Rattle.dpj_runs.specs.Standing.{Valid}
 use Rattle.dpj_moving.specs.Guarded.{LevelsGuarded}
-use Rattle.dpj_moving.specs.Insertion.{All_of, Branch_of, Spot, put_behind}
+use Rattle.dpj_moving.specs.Insertion.{All_of, Branch_of, Spot, put_after}
 use Rattle.dpj_moving.specs.Moved.{construct_spot, inner, is_det, move, spot_of}
 use Rattle.dpj_runs.proofs.Upto.{upto_trans, upto_tail}
 use Rattle.dpj_runs.proofs.Mine.{found}
@@ -16,7 +16,7 @@ use Rattle.dpj_runs.proofs.Faithful.{faithful_upto}
 use Rattle.dpj_runs.proofs.Cells.{right_plain}
 use Rattle.dpj_runs.proofs.Carry.{begun_at}
 use Rattle.dpj_runs.proofs.Written.{faithful_of}
-use Rattle.dpj_moving.proofs.Under.{Under, under_self, true_of}
+use Rattle.dpj_moving.proofs.Under.{under_self, true_of}
 use Rattle.dpj_moving.proofs.Spots.{inner_all}
 use Rattle.dpj_moving.proofs.Insertion.{rearranged_step, rearranged_nil, Rebuilt, Side, rebuilt_in, Bools, yes, no, bools}
 use Rattle.dpj_moving.proofs.Branch.{branch_side}
@@ -63,7 +63,8 @@ levels_upto h f = record {
 
 module _ (P : Program) (D : Disciplined P) (known : Known P) where
   -- the begin of a branch of a deterministic construct
-  begin_side : (R G0 : Run) (e : Event) (b : ℕ) → Rebuilt P R G0 → e.act ≡ Begin b → is_det (mine R e.path) ≡ true → Side P D known R G0 e (All_of e.path) e.path
+  begin_side : (R G0 : Run) (e : Event) (b : ℕ) → Rebuilt P R G0 → e.act ≡ Begin b → is_det (mine R e.path) ≡ true
+      → Side P D known R G0 e (All_of e.path) e.path
   begin_side R G0 e b g act det = record {
     here = under_self e.path;
     test = λ x v. true_of e.path x.path v;
@@ -79,12 +80,16 @@ module _ (P : Program) (D : Disciplined P) (known : Known P) where
 
   pub moved : (R : Run) → Valid P R → LevelsGuarded P.rule R → Rebuilt P R (move R)
   moved [] l f = subst (Rebuilt P []) (sym (rearranged_nil construct_spot)) (rebuilt_nil P)
-  moved (e ∷ R) l f = subst (Rebuilt P (e ∷ R)) (sym (rearranged_step construct_spot e R)) (go (moved R l.1 (levels_upto (later now) f)) (construct_spot R e) refl)
+  moved (e ∷ R) l f = subst (Rebuilt P (e ∷ R)) (sym (rearranged_step construct_spot e R))
+      (go (moved R l.1 (levels_upto (later now) f)) (construct_spot R e) refl)
     where
-      behind_all : Rebuilt P R (move R) → (q : Path) → Other R e.path e.act q → Rebuilt P (e ∷ R) (put_behind (All_of q) e (move R))
-      behind_all g q (free k) = subst (λ r. Rebuilt P (e ∷ R) (put_behind (All_of r) e (move R))) (sym k) (rebuilt_in P D known R (move R) e (All_of []) [] l g (top_side P D known R (move R) e))
-      behind_all g q (begin b a k d) = subst (λ r. Rebuilt P (e ∷ R) (put_behind (All_of r) e (move R))) (sym k) (rebuilt_in P D known R (move R) e (All_of e.path) e.path l g (begin_side R (move R) e b g a d))
+      after_all : Rebuilt P R (move R) → (q : Path) → Other R e.path e.act q → Rebuilt P (e ∷ R) (put_after (All_of q) e (move R))
+      after_all g q (free k) = subst (λ r. Rebuilt P (e ∷ R) (put_after (All_of r) e (move R))) (sym k)
+          (rebuilt_in P D known R (move R) e (All_of []) [] l g (top_side P D known R (move R) e))
+      after_all g q (begin b a k d) = subst (λ r. Rebuilt P (e ∷ R) (put_after (All_of r) e (move R))) (sym k)
+          (rebuilt_in P D known R (move R) e (All_of e.path) e.path l g (begin_side R (move R) e b g a d))
 
-      go : Rebuilt P R (move R) → (s : Spot) → construct_spot R e ≡ s → Rebuilt P (e ∷ R) (put_behind s e (move R))
-      go g (Branch_of u q) k = rebuilt_in P D known R (move R) e (Branch_of u q) (u ∷ q) l g (branch_side P D known R (move R) e u q l g f (spot_inner R e.path e.act u q k))
-      go g (All_of q) k = behind_all g q (spot_other R e.path e.act q k)
+      go : Rebuilt P R (move R) → (s : Spot) → construct_spot R e ≡ s → Rebuilt P (e ∷ R) (put_after s e (move R))
+      go g (Branch_of u q) k = rebuilt_in P D known R (move R) e (Branch_of u q) (u ∷ q) l g
+          (branch_side P D known R (move R) e u q l g f (spot_inner R e.path e.act u q k))
+      go g (All_of q) k = after_all g q (spot_other R e.path e.act q k)

@@ -1,5 +1,5 @@
 -- Two blocks that are open at once: the rule let the later one by. And where an event of a rebuilt run stands in the run itself.
-use Rattle.std.proofs.Common.{◌≡◌, ℕ, true, false, true≢false, List, [], ◌∷◌, length, refl, sym, ap, ◌∙◌, subst}
+use Rattle.std.proofs.Common.{◌≡◌, true, false, true≢false, List, ◌∷◌, refl, sym, ap, ◌∙◌, subst}
 use Rattle.dpj_runs.specs.Actions.{Program}
 use Rattle.dpj_runs.specs.Blocks.{hold}
 use Rattle.dpj_runs.specs.Objects.{Effect, Path}
@@ -12,7 +12,7 @@ use Rattle.dpj_runs.proofs.Blocks.{EntryAt}
 use Rattle.dpj_runs.proofs.Standing.{Grows, opener_stands, stands_outside, above_same}
 use Rattle.dpj_runs.proofs.Written.{faithful_of}
 use Rattle.dpj_runs.proofs.Carry.{begun_at, found_in, grows_upto}
-use Rattle.dpj_moving.proofs.Insertion.{valid_upto, admitted_at, Rebuilt, grown}
+use Rattle.dpj_moving.proofs.Insertion.{valid_upto, Rebuilt, grown}
 
 pub opener_same : (p q : Path) (E F : List Effect) → Inside p E ≡ Inside q F → p ≡ q
 opener_same p q E F k = cc
@@ -23,7 +23,7 @@ effects_same p q E F k = cc
 module _ (P : Program) where
   -- an entry while a block of another opener is open
   no_overlap : (Y : Run) (p q : Path) (E F : List Effect) → Valid P Y → above Y p ≡ Outside → above Y q ≡ Outside → (a : EntryAt Y p E) → (b : EntryAt Y q F)
-    → Upto (a.event ∷ a.before) b.before → P.rule E F ≡ true
+      → Upto (a.event ∷ a.before) b.before → P.rule E F ≡ true
   no_overlap Y p q E F l ap_ aq a b u =
       let lb = valid_upto P b.stands l in
       let fb = faithful_of P b.before lb.1 in
@@ -35,11 +35,13 @@ module _ (P : Program) where
       let bq = subst (λ r. Begun P b.before r al.task) b.path al.begun in
       let bp = begun_at P p fb u a.path in
       let o = a.open_since b.before up u in
-      c1.clear (stands_outside b.before q (above_same P fb grows q bq ∙ aq) b.outside) p E (opener_stands b.before p E o.0 (above_same P fb grows p bp.1 ∙ ap_) o.1)
+      c1.clear (stands_outside b.before q (above_same P fb grows q bq ∙ aq) b.outside) p E
+      (opener_stands b.before p E o.0 (above_same P fb grows p bp.1 ∙ ap_) o.1)
 
   -- so blocks that the rule keeps apart are not
-  pub never_both : (Y : Run) (p q : Path) (E F : List Effect) → Valid P Y → above Y p ≡ Outside → above Y q ≡ Outside → (a : EntryAt Y p E) → (b : EntryAt Y q F)
-    → Upto (a.event ∷ a.before) b.before → P.rule E F ≡ false → ⊥
+  pub never_both : (Y : Run) (p q : Path) (E F : List Effect) → Valid P Y → above Y p ≡ Outside → above Y q ≡ Outside → (a : EntryAt Y p E)
+      → (b : EntryAt Y q F)
+      → Upto (a.event ∷ a.before) b.before → P.rule E F ≡ false → ⊥
   never_both Y p q E F l ap_ aq a b u k = true≢false (sym (no_overlap Y p q E F l ap_ aq a b u) ∙ k)
 
   module _ {R G0 : Run} (l : Faithful P R) (g : Rebuilt P R G0) where
@@ -57,4 +59,5 @@ module _ (P : Program) where
         ∙ sym (above_same P (faithful_upto P (upto_tail w.stands) l) (record { each = λ p. mine_upto p (upto_tail w.stands) }) y.path c.begun)
 
     pub same_standing : {y : Event} {Y : Run} → (hy : Upto (y ∷ Y) G0) → (w : Found R y.path y (mine Y y.path)) → standing Y y.path ≡ standing w.before y.path
-    same_standing {y} {Y} hy w = ap (λ a. joined_by a y.path (hold (mine Y y.path))) (same_above hy w) ∙ ap (λ m. joined_by (above w.before y.path) y.path (hold m)) (sym w.mine_is)
+    same_standing {y} {Y} hy w = ap (λ a. joined_by a y.path (hold (mine Y y.path))) (same_above hy w)
+        ∙ ap (λ m. joined_by (above w.before y.path) y.path (hold m)) (sym w.mine_is)

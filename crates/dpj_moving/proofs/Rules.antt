@@ -1,11 +1,10 @@
 -- A weaker rule of open blocks allows what a stronger one does.
-use Rattle.std.proofs.Common.{◌≡◌, true, List, [], ◌∷◌, refl, sym, ap, ◌∙◌, subst, Some}
+use Rattle.std.proofs.Common.{◌≡◌, [], ◌∷◌, refl, ◌∙◌}
 use Rattle.dpj_runs.specs.Actions.{Action, Answer, Begin, Do, End, Enter, Exit, Fork, Join, Look, New, Own, Print, Program, Read, Rest, Rule, Task, Write}
 use Rattle.dpj_runs.specs.Blocks.{with_rule}
 use Rattle.dpj_runs.specs.Meaning.{Disciplined}
 use Rattle.dpj_runs.specs.Objects.{Path}
 use Rattle.dpj_runs.specs.Runs.{Begun, Right, Run, branch, reply, root}
-use Rattle.dpj_runs.specs.Schedules.{begins, over}
 use Rattle.dpj_runs.specs.Standing.{Admitted, Valid}
 use Rattle.dpj_moving.specs.Laws.{Weaker}
 
@@ -36,7 +35,12 @@ valid_rule P weak w (e ∷ R) l = (admitted l.0, valid_rule P weak w R l.1)
   where
     admitted : Admitted P R e → Admitted (with_rule weak P) R e
     admitted a = record {
-      follows = (let f = a.follows in record { task = f.task; begun = begun_rule P weak f.begun; asks = f.asks; right = right_rule P weak R e.path e.act e.ans f.right });
+      follows = (let f = a.follows in record {
+        task = f.task;
+        begun = begun_rule P weak f.begun;
+        asks = f.asks;
+        right = right_rule P weak R e.path e.act e.ans f.right;
+      });
       enters = λ E k. (let c = a.enters E k in record { clear = λ s q F h. w F E (c.clear s q F h) });
     }
 

@@ -5,7 +5,7 @@ use Rattle.dpj_runs.specs.Objects.{Path}
 use Rattle.dpj_runs.specs.Runs.{Run, mine}
 use Rattle.dpj_runs.specs.Standing.{first_of}
 use Rattle.dpj_moving.specs.Insertion.{All_of, Branch_of}
-use Rattle.dpj_moving.specs.Moved.{below, inner, is_det}
+use Rattle.dpj_moving.specs.Moved.{inner, is_det}
 use Rattle.dpj_runs.proofs.Places.{not_below_self}
 use Rattle.dpj_moving.proofs.Under.{Under, under_self, under_next}
 
@@ -61,10 +61,12 @@ inner_between R (z ∷ zs) o u q e h = go (λ k. inner_between R zs o u q k h) (
     go rec (as_above d k) = rec (sym k ∙ e)
 
 -- below a branch of a deterministic construct, the innermost branch is that one or below it
-pub inner_least : (R : Run) (xs : Path) (u : ℕ × ℕ) (q : Path) → is_det (first_of (suc u.0) (mine R q)) ≡ true → (v : ℕ × ℕ) × (r : Path) × (inner R (xs ++ u ∷ q) ≡ Branch_of v r) × Under (u ∷ q) (v ∷ r)
+pub inner_least : (R : Run) (xs : Path) (u : ℕ × ℕ) (q : Path) → is_det (first_of (suc u.0) (mine R q)) ≡ true → (v : ℕ × ℕ) × (r : Path)
+    × (inner R (xs ++ u ∷ q) ≡ Branch_of v r) × Under (u ∷ q) (v ∷ r)
 inner_least R [] u q d = (u, q, inner_step R u q ∙ cond-true _ _ _ d, under_self (u ∷ q))
 inner_least R (x ∷ xs) u q d = go (inner_least R xs u q d) (inner_cases R x (xs ++ u ∷ q))
   where
-    go : (v : ℕ × ℕ) × (r : Path) × (inner R (xs ++ u ∷ q) ≡ Branch_of v r) × Under (u ∷ q) (v ∷ r) → Inner R x (xs ++ u ∷ q) → (v : ℕ × ℕ) × (r : Path) × (inner R (x ∷ (xs ++ u ∷ q)) ≡ Branch_of v r) × Under (u ∷ q) (v ∷ r)
+    go : (v : ℕ × ℕ) × (r : Path) × (inner R (xs ++ u ∷ q) ≡ Branch_of v r) × Under (u ∷ q) (v ∷ r) → Inner R x (xs ++ u ∷ q) → (v : ℕ × ℕ) × (r : Path)
+        × (inner R (x ∷ (xs ++ u ∷ q)) ≡ Branch_of v r) × Under (u ∷ q) (v ∷ r)
     go rec (its_branch e k) = (x, xs ++ u ∷ q, k, record { below = x ∷ xs; is = refl })
     go rec (as_above e k) = (rec.0, rec.1, k ∙ rec.2, rec.3)

@@ -1,43 +1,59 @@
 -- The laws, from the lemmas.
-use Rattle.std.proofs.Common.{◌≡◌, ◌≤◌, ◌+◌, ℕ, suc, List, [], ◌∷◌, length, refl, sym, ap, ◌∙◌, subst, arith}
-use Rattle.dpj_runs.specs.Actions.{Ending, Program, cells, steps}
+use Rattle.std.proofs.Common.{◌≡◌, ◌≤◌, ◌+◌, suc, [], ◌∷◌, sym, ap, ◌∙◌, subst, ⊎_elim}
+use Rattle.dpj_runs.specs.Actions.{Ending, Program}
 use Rattle.dpj_runs.specs.Blocks.{leaving_locals, with_rule}
 use Rattle.dpj_runs.specs.Meaning.{Disciplined, Known}
 use Rattle.dpj_runs.specs.Objects.{Path, size}
 use Rattle.dpj_runs.specs.Order.{Came, Comes, Outcome, ending_of, printed, trapped}
-use Rattle.dpj_runs.specs.Runs.{Ended, Run, Upto, cells_of, entry_step, event_cells, event_steps, mine, now, steps_of, total}
-use Rattle.dpj_runs.specs.Schedules.{ended}
+use Rattle.dpj_runs.specs.Runs.{Ended, Event, Run, Upto, cells_of, entry_step, event_cells, event_steps, mine, now, steps_of, total}
+use Rattle.dpj_runs.specs.Schedules.{Limits, Within}
 use Rattle.dpj_runs.specs.Standing.{Valid}
 use Rattle.dpj_moving.specs.Gathered.{gather}
 use Rattle.dpj_moving.specs.Guarded.{LevelsGuarded}
 use Rattle.dpj_moving.specs.Laws.{Gathering, IsMoved, Moving, MovingBy, MovingInside, Rearranges, StillOpen}
 use Rattle.dpj_moving.specs.Moved.{move}
+use Rattle.dpj_moving.specs.Guarded.{LevelsGuarded}
 use Rattle.dpj_runs.proofs.Written.{legal_faithful, valid_from, legal_from}
 use Rattle.dpj_runs.proofs.Standing.{Stands, stands}
-use Rattle.dpj_runs.proofs.Carry.{ended_in}
+use Rattle.dpj_runs.proofs.Carry.{begun_in, ended_in}
+use Rattle.dpj_runs.proofs.Mine.{path_cases, mine_same, mine_other}
 use Rattle.dpj_runs.proofs.Theorems.{same_total}
-use Rattle.dpj_moving.proofs.Insertion.{Rebuilt}
+use Rattle.dpj_moving.proofs.Insertion.{Rebuilt, grown_back}
 use Rattle.dpj_moving.proofs.Gather.{gathered}
 use Rattle.dpj_moving.proofs.AtEntries.{at_entries, together}
 use Rattle.dpj_moving.proofs.Move.{moved}
-use Rattle.dpj_moving.proofs.BehindForks.{behind_forks}
+use Rattle.dpj_moving.proofs.AfterForks.{after_forks}
 use Rattle.dpj_moving.proofs.Rules.{valid_rule, disciplined_rule}
 
 same_ended : {R G : Run} → ((p : Path) → mine G p ≡ mine R p) → (p : Path) (x : Ending) → Ended R p x → Ended G p x
 same_ended {R} {G} m p x h = ended_in (subst (λ es. Upto (mine R p) es) (sym (m p)) now) h
 
+same_costs : (P : Program) (R G : Run) → ((p : Path) → mine G p ≡ mine R p) → (steps_of R ≡ steps_of G) × (cells_of P R ≡ cells_of P G)
+same_costs P R G m = (
+  ap (λ es. entry_step es + total event_steps R) (sym (m [])) ∙ ap (λ k. entry_step (mine G []) + k) (same_total event_steps R G (λ p. sym (m p))),
+  ap (λ k. suc (size P.object) + k) (same_total event_cells R G (λ p. sym (m p))),
+)
+
 same_comes : (P : Program) (R G : Run) → ((p : Path) → mine G p ≡ mine R p) → (o : Outcome) → Comes P R o → Comes P G o
 same_comes P R G m o c =
-    let steps : steps_of R ≡ steps_of G = ap (λ es. entry_step es + total event_steps R) (sym (m [])) ∙ ap (λ k. entry_step (mine G []) + k) (same_total event_steps R G (λ p. sym (m p))) in
-    let cells : cells_of P R ≡ cells_of P G = ap (λ k. suc (size P.object) + k) (same_total event_cells R G (λ p. sym (m p))) in
+    let costs = same_costs P R G m in
     record {
       end = c.end;
       ended = same_ended m [] c.end c.ended;
       sorted = c.sorted;
       in_order = c.in_order;
       events = λ p. m p ∙ c.events p;
-      outcome = c.outcome ∙ (λ i. Came (ending_of (trapped c.sorted) c.end) (printed c.sorted) (steps i) (cells i));
+      outcome = c.outcome ∙ (λ i. Came (ending_of (trapped c.sorted) c.end) (printed c.sorted) (costs.0 i) (costs.1 i));
     }
+
+one_more : (R G : Run) (e : Event) → ((p : Path) → mine G p ≡ mine R p) → (p : Path) → mine (e ∷ G) p ≡ mine (e ∷ R) p
+one_more R G e m p = ⊎_elim (λ h. mine_same e G p h ∙ ap (λ l. e ∷ l) (m p) ∙ sym (mine_same e R p h))
+    (λ h. mine_other e G p h ∙ m p ∙ sym (mine_other e R p h)) (path_cases e.path p)
+
+same_within : (P : Program) (L : Limits) (R G : Run) (e : Event) → ((p : Path) → mine G p ≡ mine R p) → Within P L (e ∷ G) → Within P L (e ∷ R)
+same_within P L R G e m w =
+    let c = same_costs P (e ∷ R) (e ∷ G) (λ p. one_more R G e m p) in
+    record { steps = subst (λ n. n ≤ L.steps) (sym c.0) w.steps; cells = subst (λ n. n ≤ L.cells) (sym c.1) w.cells }
 
 rearranges : (P : Program) → Disciplined P → (R G : Run) → Rebuilt P R G → Rearranges P R G
 rearranges P D R G g = record {
@@ -46,6 +62,8 @@ rearranges P D R G g = record {
   costs = λ w. same_total w G R (λ p. g.same p);
   ended = λ p x h. same_ended (λ q. g.same q) p x h;
   outcome = λ o c. same_comes P R G (λ p. g.same p) o c;
+  begun = λ p t b. begun_in (grown_back g) b;
+  over = λ L e n w. n (same_within P L R G e (λ p. g.same p) w);
 }
 
 pub gathering : Gathering
@@ -58,7 +76,7 @@ pub still_open : StillOpen
 still_open P D R e l o E k = let s : Stands P D R e.path o E = stands P D o E (legal_faithful P (e ∷ R) l) k in (s.depth, s.held)
 
 is_moved : (P : Program) → Disciplined P → Known P → (R : Run) → Valid P R → LevelsGuarded P.rule R → IsMoved P R
-is_moved P D known R v f = record { rearranges = rearranges P D R (move R) (moved P D known R v f); behind_forks = behind_forks P D known R v f }
+is_moved P D known R v f = record { rearranges = rearranges P D R (move R) (moved P D known R v f); after_forks = after_forks P D known R v f }
 
 pub moving : Moving
 moving P D known R l f = is_moved P D known R (valid_from P R l) f

@@ -7,7 +7,7 @@ use Rattle.dpj_runs.specs.Blocks.{Out_of, In_block, hold}
 use Rattle.dpj_runs.specs.Standing.{Standing, Outside, Inside, standing}
 use Rattle.dpj_moving.specs.Insertion.{Spot, All_of, rearranged, Earlier}
 
--- an event inside a block belongs behind the latest event of its opener and of the tasks below it; any other behind all
+-- an event inside a block belongs after the latest event of its opener and of the tasks below it; any other after all
 abbrev pub block_of : Standing → Spot
 block_of Outside = All_of []
 block_of (Inside o E) = All_of o
@@ -34,11 +34,11 @@ pub data Anchor (X : Run) (x : Event) (A : Run) (a : Event) : Type 0 where
 -- G is R with each block's events at its entry, in their order, and all else in its order
 pub record AtEntries (R G : Run) : Type 0 where
   pub each : (X Y A B : Run) (x y a b : Event) → Upto (x ∷ X) R → Upto (y ∷ Y) R → Anchor X x A a → Anchor Y y B b
-    → Upto (a ∷ A) B ⊎ ((A ≡ B) × Upto (x ∷ X) Y) → Earlier G x.path (count X x.path) y.path (count Y y.path)
+      → Upto (a ∷ A) B ⊎ ((A ≡ B) × Upto (x ∷ X) Y) → Earlier G x.path (count X x.path) y.path (count Y y.path)
   pub has : (X : Run) (x : Event) → Upto (x ∷ X) R → (A : Run) × (a : Event) × Anchor X x A a
 
 -- what stands in G between two events of one block is of that block
 pub record Together (R G : Run) : Type 0 where
   pub none_between : (X Y Z A B C : Run) (x y z a b c : Event) → Upto (x ∷ X) R → Upto (y ∷ Y) R → Upto (z ∷ Z) R
-    → Anchor X x A a → Anchor Y y B b → Anchor Z z C c → A ≡ C
-    → Earlier G x.path (count X x.path) y.path (count Y y.path) → Earlier G y.path (count Y y.path) z.path (count Z z.path) → A ≡ B
+      → Anchor X x A a → Anchor Y y B b → Anchor Z z C c → A ≡ C
+      → Earlier G x.path (count X x.path) y.path (count Y y.path) → Earlier G y.path (count Y y.path) z.path (count Z z.path) → A ≡ B

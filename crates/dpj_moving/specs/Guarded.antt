@@ -1,5 +1,5 @@
 -- What gathering and moving ask of a run, and a check of its program gives.
-use Rattle.std.specs.Prelude.{◌≡◌, true, false, List, [], ◌∷◌}
+use Rattle.std.specs.Prelude.{◌≡◌, true, false, List, ◌∷◌}
 use Rattle.dpj_runs.specs.Objects.{Path, Effect}
 use Rattle.dpj_runs.specs.Actions.{Do, Enter, Rule}
 use Rattle.dpj_runs.specs.Runs.{Event, Run, Upto}
@@ -43,5 +43,5 @@ pub record Levelled (rule : Rule) (X : Run) (x : Event) (Y : Run) (y : Event) : 
 pub record LevelsGuarded (rule : Rule) (R : Run) : Type 0 where
   pub accesses : (Y X : Run) (y x : Event) → Upto (y ∷ Y) R → Upto (x ∷ X) Y → Unordered x.path y.path → Conflict x y → Levelled rule X x Y y
   pub entries : (Y X : Run) (y x : Event) (E F : List Effect) → Upto (y ∷ Y) R → Upto (x ∷ X) Y → Unordered x.path y.path
-    → x.act ≡ Do (Enter E) → y.act ≡ Do (Enter F) → standing X x.path ≡ Outside → standing Y y.path ≡ Outside
-    → (inner X x.path ≡ inner Y y.path → ⊥) → LetBy rule E F
+      → x.act ≡ Do (Enter E) → y.act ≡ Do (Enter F) → standing X x.path ≡ Outside → standing Y y.path ≡ Outside
+      → (inner X x.path ≡ inner Y y.path → ⊥) → LetBy rule E F

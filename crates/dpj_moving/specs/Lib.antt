@@ -3,3 +3,4 @@ pub mod Gathered
 pub mod Moved
 pub mod Guarded
 pub mod Laws
+pub mod Samples

@@ -1,5 +1,5 @@
--- The run with deterministic constructs moved: each one's branches directly behind its fork, one after another.
-use Rattle.std.specs.Prelude.{ℕ, suc, ◌+◌, ◌<◌, ◌≡◌, Bool, true, false, if◌then◌else◌, List, [], ◌∷◌, ◌++◌, length}
+-- The run with deterministic constructs moved: each one's branches directly after its fork, one after another.
+use Rattle.std.specs.Prelude.{ℕ, suc, ◌+◌, ◌<◌, ◌≡◌, Bool, true, false, if◌then◌else◌, [], ◌∷◌, ◌++◌, length}
 use Rattle.dpj_runs.specs.Objects.{Path}
 use Rattle.dpj_runs.specs.Actions.{Branches, is_deterministic, Action, Do, Fork, Begin, Join, End}
 use Rattle.dpj_runs.specs.Runs.{Event, Run, Upto, mine, count}
@@ -23,7 +23,7 @@ unfoldable pub inner : Run → Path → Spot
 inner R [] = All_of []
 inner R (u ∷ q) = if is_det (first_of (suc u.0) (mine R q)) then Branch_of u q else inner R q
 
--- the begin of a branch of a deterministic construct belongs behind all that its task and those below have made; any other event
+-- the begin of a branch of a deterministic construct belongs after all that its task and those below have made; any other event
 -- in the innermost branch
 abbrev pub spot_of : Run → Path → Action → Spot
 spot_of R p (Begin b) = if is_det (mine R p) then All_of p else inner R p
@@ -60,14 +60,14 @@ pub record InConstruct (m : ℕ) (q : Path) (k : ℕ) (p : Path) (n : ℕ) : Typ
   pub there : branch < m
   pub is : InBranch q k branch p n
 
--- G is R with the events of each deterministic construct directly behind its fork, branch after branch; and all else in its
+-- G is R with the events of each deterministic construct directly after its fork, branch after branch; and all else in its
 -- order: what is directly in one branch, or in none, stands as it stood
-pub record BehindForks (R G : Run) : Type 0 where
+pub record AfterForks (R G : Run) : Type 0 where
   pub kept : (X Y : Run) (x y : Event) → Upto (x ∷ X) Y → Upto (y ∷ Y) R → construct_spot X x ≡ construct_spot Y y
-    → Earlier G x.path (count X x.path) y.path (count Y y.path)
-  pub behind_fork : (q : Path) (k : ℕ) (d : DetFork R q k) (X Z : Run) (x z : Event) → Upto (x ∷ X) R → Upto (z ∷ Z) R
-    → InConstruct (length d.branches.tasks) q k x.path (count X x.path) → (InConstruct (length d.branches.tasks) q k z.path (count Z z.path) → ⊥)
-    → Earlier G q k z.path (count Z z.path) → Earlier G x.path (count X x.path) z.path (count Z z.path)
+      → Earlier G x.path (count X x.path) y.path (count Y y.path)
+  pub after_its_fork : (q : Path) (k : ℕ) (d : DetFork R q k) (X Z : Run) (x z : Event) → Upto (x ∷ X) R → Upto (z ∷ Z) R
+      → InConstruct (length d.branches.tasks) q k x.path (count X x.path) → (InConstruct (length d.branches.tasks) q k z.path (count Z z.path) → ⊥)
+      → Earlier G q k z.path (count Z z.path) → Earlier G x.path (count X x.path) z.path (count Z z.path)
   pub in_turn : (q : Path) (k a b : ℕ) (d : DetFork R q k) (X Y : Run) (x y : Event) → Upto (x ∷ X) R → Upto (y ∷ Y) R
-    → a < b → b < length d.branches.tasks → InBranch q k a x.path (count X x.path) → InBranch q k b y.path (count Y y.path)
-    → Earlier G x.path (count X x.path) y.path (count Y y.path)
+      → a < b → b < length d.branches.tasks → InBranch q k a x.path (count X x.path) → InBranch q k b y.path (count Y y.path)
+      → Earlier G x.path (count X x.path) y.path (count Y y.path)

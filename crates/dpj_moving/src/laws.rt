@@ -1,16 +1,27 @@
 //! The laws of gathering and moving, each the clause of a function that does nothing.
 
-ghost use Rattle.dpj_moving.specs.Laws.{Gathering, StillOpen, Moving, MovingBy, MovingInside};
+ghost use Rattle.dpj_moving.specs.Laws.{Gathering, OneGathered, StillOpen, Moving, OneMoved, MovingBy, MovingInside};
+ghost use Rattle.dpj_moving.specs.Samples.{BothApply, GatheringNeedsGuarded, GatheringNeedsKnown, MovingNeedsWeaker};
 
 /// Where unordered conflicts are guarded by blocks, each block's events can be gathered at its entry.
 pub fn law_gathering()
     ensures gathering { Gathering }
+    ensures one { OneGathered }
     ensures still_open { StillOpen }
 {}
 
-/// Deterministic constructs can be moved behind their forks, by the rule of the run or by a weaker one.
+/// Deterministic constructs can be moved after their forks, by the rule of the run or by a weaker one.
 pub fn law_moving()
     ensures moving { Moving }
+    ensures one { OneMoved }
     ensures by_weaker { MovingBy }
     ensures inside { MovingInside }
+{}
+
+/// The laws say something of some runs, and what they ask is needed.
+pub fn law_samples()
+    ensures both { BothApply }
+    ensures unguarded { GatheringNeedsGuarded }
+    ensures forged { GatheringNeedsKnown }
+    ensures weaker { MovingNeedsWeaker }
 {}

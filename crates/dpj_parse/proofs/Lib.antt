@@ -11,6 +11,7 @@ pub mod Making
 pub mod StmtTrees
 pub mod Stating
 pub mod Held
+pub mod Sized
 pub mod Targeted
 pub mod Distinct
 pub mod Promised

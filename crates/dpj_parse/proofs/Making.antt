@@ -1,5 +1,5 @@
 -- What was read makes the part of the grammar that it is.
-use Rattle.std.proofs.Common.{◌≡◌, ℕ, List, [], ◌∷◌, ◌++◌, map, refl, subst}
+use Rattle.std.proofs.Common.{◌≡◌, List, [], ◌∷◌, ◌++◌, map, refl, subst}
 use Rattle.dpj_base.specs.declared.place.Place.{Place}
 use Rattle.dpj_tokens.specs.declared.token.Symbol.{Symbol}
 use Rattle.dpj_tokens.specs.declared.token.Keyword.{Keyword}
@@ -26,27 +26,26 @@ use Rattle.dpj_parse.proofs.Selecting.{selections_unary, selection_postfix}
 use Rattle.dpj_parse.proofs.Taken.{next-takes}
 use Rattle.dpj_parse.proofs.Trees.{kind_Unary, kind_Field, kind_Call, kind_Element, kind_NewArray}
 
-pub made_operator : (op : UnaryOp) (arg e : Expr) {before one after behind : List Placed} {node : ℕ} {place : Place} →
+pub made_operator : (op : UnaryOp) (arg e : Expr) {before one after : List Placed} {place : Place} →
     Next (terminal.Symbol (unary_symbol op)) before → TakesNext before one place → DerivesUnary one after (plain_expr arg) →
-    plain_expr e ≡ expression node place (plain_kind (kind.Unary op arg)) → behind ≡ after → DerivesUnary before behind (plain_expr e)
-made_operator op arg e next takes d is rest = rw (is, kind_Unary op arg, rest) (operator (next-takes takes next) d)
+    plain_expr e ≡ expression place (plain_kind (kind.Unary op arg)) → DerivesUnary before after (plain_expr e)
+made_operator op arg e next takes d is = rw (is, kind_Unary op arg) (operator (next-takes takes next) d)
 
-pub made_object : {before one two three after : List Placed} {name : Named} {regions : List RplTree} {all : PlainExprs} {object found : PlainExpr} {node : ℕ} {place : Place} →
+pub made_object : {before one two three after : List Placed} {name : Named} {regions : List RplTree} {all : PlainExprs} {object found : PlainExpr} {place : Place} →
     TakesKeyword Keyword.New before one place → DerivesBase one two (base.Class name regions) → DerivesActuals two three all →
-    object ≡ expression node place (create name regions all) → {here : List Placed} → here ≡ three → DerivesSelections object here after found → DerivesUnary before after found
-made_object {three = three} {after = after} {object = object} {found = found} takes (class named paths) d is {here} rest selections =
-    let from_three = subst (λ h. DerivesSelections object h after found) rest selections in
-    selections_unary (primary (creation takes named paths d)) (subst (λ o. DerivesSelections o three after found) is from_three)
+    object ≡ expression place (create name regions all) → DerivesSelections object three after found → DerivesUnary before after found
+made_object {three = three} {after = after} {found = found} takes (class named paths) d is selections =
+    selections_unary (primary (creation takes named paths d)) (subst (λ o. DerivesSelections o three after found) is selections)
 
 pub made_array : {before one two after : List Placed} {start : BaseTree} {e : PlainExpr} {place : Place} →
     TakesKeyword Keyword.New before one place → DerivesBase one two start → DerivesLengths start place two after e → DerivesUnary before after e
 made_array takes d (lengths (opened suffixes open_at) len close own) = new_array (array takes d suffixes open_at len close own)
 
-pub made_lengths : (start : BaseTree) (suffixes : List Suffix) (len e : Expr) (own : Suffix) {before one two three after behind : List Placed} {node : ℕ} {place : Place} →
+pub made_lengths : (start : BaseTree) (suffixes : List Suffix) (len e : Expr) (own : Suffix) {before one two three after : List Placed} {place : Place} →
     DerivesOpenSuffixes before one suffixes → DerivesExpr one two (plain_expr len) → TakesOne (terminal.Symbol Symbol.CloseBracket) two three → DerivesBehind three after own →
-    plain_expr e ≡ expression node place (plain_kind (kind.NewArray start suffixes len own.rpl own.index)) → behind ≡ after → DerivesLengths start place before behind (plain_expr e)
-made_lengths start suffixes len e own opening d close tail is rest =
-    rw (is, kind_NewArray start suffixes len own.rpl own.index, rest) (lengths opening d close.takes tail)
+    plain_expr e ≡ expression place (plain_kind (kind.NewArray start suffixes len own.rpl own.index)) → DerivesLengths start place before after (plain_expr e)
+made_lengths start suffixes len e own opening d close tail is =
+    rw (is, kind_NewArray start suffixes len own.rpl own.index) (lengths opening d close.takes tail)
 
 pub first_opened : {before after : List Placed} {place : Place} → TakesSymbol Symbol.OpenBracket before after place → DerivesOpenSuffixes before after []
 first_opened takes = opened Many.none takes
@@ -72,8 +71,8 @@ pub primary_selected : {ending : Ending} {before one after : List Placed} {first
     DerivesPrimary ending before one first → DerivesSelections first one after found → DerivesUnary before after found
 primary_selected d selections = selections_unary (primary d) selections
 
-spelled_primary : {wanted : Terminal} {form : ExprForm} {before after : List Placed} {node : ℕ} {place : Place} →
-    Takes wanted before after place → Spells wanted form → DerivesPrimary (ending_of (expression node place form)) before after (expression node place form)
+spelled_primary : {wanted : Terminal} {form : ExprForm} {before after : List Placed} {place : Place} →
+    Takes wanted before after place → Spells wanted form → DerivesPrimary (ending_of (expression place form)) before after (expression place form)
 spelled_primary takes Spells.number = DerivesPrimary.number takes
 spelled_primary takes Spells.name = DerivesPrimary.name takes
 spelled_primary takes Spells.yes = DerivesPrimary.yes takes
@@ -81,31 +80,31 @@ spelled_primary takes Spells.no = DerivesPrimary.no takes
 spelled_primary takes Spells.nothing = DerivesPrimary.nothing takes
 spelled_primary takes Spells.receiver = DerivesPrimary.receiver takes
 
-pub made_literal : {before after behind : List Placed} {form : ExprForm} {e : PlainExpr} {node : ℕ} {place at : Place} →
-    NextSpells before form → TakesNext before after at → place ≡ at → e ≡ expression node place form → behind ≡ after → DerivesPrimary (ending_of e) before behind e
-made_literal spelled takes same is rest = rw (is, rest, same) (spelled_primary (next-takes takes spelled.next) spelled.spells)
+pub made_literal : {before after : List Placed} {form : ExprForm} {e : PlainExpr} {place at : Place} →
+    NextSpells before form → TakesNext before after at → place ≡ at → e ≡ expression place form → DerivesPrimary (ending_of e) before after e
+made_literal spelled takes same is = rw (is, same) (spelled_primary (next-takes takes spelled.next) spelled.spells)
 
-pub made_element : (of at e : Expr) {before one two after behind : List Placed} {node : ℕ} {place : Place} →
+pub made_element : (of at e : Expr) {before one two after : List Placed} {place : Place} →
     TakesSymbol Symbol.OpenBracket before one place → DerivesExpr one two (plain_expr at) → TakesOne (terminal.Symbol Symbol.CloseBracket) two after →
-    plain_expr e ≡ expression node place (plain_kind (kind.Element of at)) → behind ≡ after → DerivesSelection (plain_expr of) before behind (plain_expr e)
-made_element of at e takes d close is rest = rw (is, kind_Element of at, rest) (indexed takes d close.takes)
+    plain_expr e ≡ expression place (plain_kind (kind.Element of at)) → DerivesSelection (plain_expr of) before after (plain_expr e)
+made_element of at e takes d close is = rw (is, kind_Element of at) (indexed takes d close.takes)
 
 no_args_here : {before after : List Placed} {regions : List RplTree} → DerivesArgs before after regions → NoNext (terminal.Symbol Symbol.Less) before → after ≡ before
 no_args_here no_args none = refl
 no_args_here (args takes d close) none = absurd (none (record { after = _; takes = record { place = _; takes = takes } }))
 
-pub made_field : (of e : Expr) (named : Named) {before one two after behind : List Placed} {regions : List RplTree} {node : ℕ} {place : Place} →
+pub made_field : (of e : Expr) (named : Named) {before one two after : List Placed} {regions : List RplTree} {place : Place} →
     Next (terminal.Symbol Symbol.Dot) before → TakesNext before one place → DerivesArgs one two regions → NoNext (terminal.Symbol Symbol.Less) one → TakesName two after named →
-    plain_expr e ≡ expression node named.place (plain_kind (kind.Field of named.name)) → behind ≡ after → DerivesSelection (plain_expr of) before behind (plain_expr e)
-made_field of e named {after = after} next takes d none name is rest =
+    plain_expr e ≡ expression named.place (plain_kind (kind.Field of named.name)) → DerivesSelection (plain_expr of) before after (plain_expr e)
+made_field of e named {after = after} next takes d none name is =
     let here : TakesName _ after named = rw (no_args_here d none) at name in
-    rw (is, kind_Field of named.name, rest) (behind_dot (next-takes takes next) here)
+    rw (is, kind_Field of named.name) (behind_dot (next-takes takes next) here)
 
-pub made_call : (of e : Expr) (named : Named) (regions : List RplTree) (all : List Expr) {before one two three after behind : List Placed} {node : ℕ} {place : Place} →
+pub made_call : (of e : Expr) (named : Named) (regions : List RplTree) (all : List Expr) {before one two three after : List Placed} {place : Place} →
     Next (terminal.Symbol Symbol.Dot) before → TakesNext before one place → DerivesArgs one two regions → TakesName two three named → DerivesActuals three after (plain_exprs (map plain_expr all)) →
-    plain_expr e ≡ expression node named.place (plain_kind (kind.Call of regions named.name all)) → behind ≡ after → DerivesSelection (plain_expr of) before behind (plain_expr e)
-made_call of e named regions all next takes paths name d is rest =
-    rw (is, kind_Call of regions named.name all, rest) (called (next-takes takes next) paths name d)
+    plain_expr e ≡ expression named.place (plain_kind (kind.Call of regions named.name all)) → DerivesSelection (plain_expr of) before after (plain_expr e)
+made_call of e named regions all next takes paths name d is =
+    rw (is, kind_Call of regions named.name all) (called (next-takes takes next) paths name d)
 
 pub made_no_actuals : {before one after : List Placed} {all : List Expr} {place : Place} →
     TakesSymbol Symbol.OpenParen before one place → TakesOne (terminal.Symbol Symbol.CloseParen) one after → all ≡ [] → DerivesActuals before after (plain_exprs (map plain_expr all))
@@ -121,10 +120,10 @@ pub made_actuals : {before one two after : List Placed} {all : List Expr} {place
 made_actuals takes (last d) close = actuals takes d end close.takes
 made_actuals takes (more d comma listed) close = actuals takes d (listed_further comma listed) close.takes
 
-pub made_new : {before one two three after behind : List Placed} {name : Named} {regions : List RplTree} {all : PlainExprs} {e : PlainExpr} {node : ℕ} {place : Place} →
+pub made_new : {before one two three after : List Placed} {name : Named} {regions : List RplTree} {all : PlainExprs} {e : PlainExpr} {place : Place} →
     TakesKeyword Keyword.New before one place → TakesName one two name → DerivesArgs two three regions → DerivesActuals three after all →
-    e ≡ expression node place (create name regions all) → behind ≡ after → DerivesPostfix (ending_of e) before behind e
-made_new takes name paths d is rest = rw (is, rest) (primary (creation takes name paths d))
+    e ≡ expression place (create name regions all) → DerivesPostfix (ending_of e) before after e
+made_new takes name paths d is = rw is (primary (creation takes name paths d))
 
 pub first_listed : (e : Expr) {before after : List Placed} {start all : List Expr} →
     DerivesExpr before after (plain_expr e) → start ≡ [] → all ≡ start ++ e ∷ [] → Listed DerivesExprTree before after all

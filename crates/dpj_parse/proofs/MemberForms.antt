@@ -1,5 +1,5 @@
 -- The productions of classes and members, as their functions read them.
-use Rattle.std.proofs.Common.{◌≡◌, ◌≤◌, ◌==◌, ℕ, List, [], ◌∷◌, Option, Some, Bool, length, map, inl, inr, true, refl, subst, arith}
+use Rattle.std.proofs.Common.{◌≡◌, ◌≤◌, ◌==◌, List, [], ◌∷◌, Option, Some, Bool, length, map, inl, inr, true, refl, subst, arith}
 use Rattle.std.proofs.lemmas.Bool.Decides.{nat_tests}
 use Rattle.dpj_base.specs.declared.place.Place.{Place}
 use Rattle.dpj_tokens.specs.declared.token.Symbol.TheVariants as symbol
@@ -58,14 +58,14 @@ typed_method d n m = DerivesMember.method (DerivesFront.answers no_params (Deriv
 pub in_region_of : {before one after : List Placed} {path : RplTree} → TakesOne (terminal.Keyword keyword.In) before one → DerivesRpl one after path → DerivesIn before after (Some path)
 in_region_of t d = in_region t.takes d
 
-pub field_of : {ty : TypeTree} {name : Named} {before one after : List Placed} {region : Option RplTree} {node : ℕ} {ends_at : Place} →
+pub field_of : {ty : TypeTree} {name : Named} {before one after : List Placed} {region : Option RplTree} {ends_at : Place} →
     DerivesIn before one region → TakesSymbol symbol.Semicolon one after ends_at →
-    DerivesField ty name before after (member.Field (record { node = node; place = name.place; name = name.name; ty = ty; region = region }))
+    DerivesField ty name before after (member.Field (record { place = name.place; name = name.name; ty = ty; region = region }))
 field_of d s = DerivesField.field d s
 
-pub method_behind : {params : Params} {answer : MethodResult} {name : Named} {before one two after : List Placed} {formals : List Formal} {summary : Option SummaryTree} {body : List Stmt} {node : ℕ} →
+pub method_behind : {params : Params} {answer : MethodResult} {name : Named} {before one two after : List Placed} {formals : List Formal} {summary : Option SummaryTree} {body : List Stmt} →
     DerivesFormals before one formals → DerivesSummary one two summary → DerivesBlock two after (plain_stmts (map plain_stmt body)) →
-    DerivesMethod params answer name before after (member.Method (record { node = node; place = name.place; name = name.name; params = params; result = answer; formals = formals; summary = summary; body = body }))
+    DerivesMethod params answer name before after (member.Method (record { place = name.place; name = name.name; params = params; result = answer; formals = formals; summary = summary; body = body }))
 method_behind f s b = DerivesMethod.method f s b
 
 pub formals_of : {before one two after : List Placed} {all : List Formal} {open_at : Place} →

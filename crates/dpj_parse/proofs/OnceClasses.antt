@@ -1,5 +1,5 @@
 -- Members, classes and programs are read in one way.
-use Rattle.std.proofs.Common.{◌≡◌, ℕ, List, [], ◌∷◌, map, Bool, true, false, cond, ◌&&◌, Option, Some, None, option_map, refl}
+use Rattle.std.proofs.Common.{◌≡◌, ℕ, List, [], ◌∷◌, Bool, true, false, cond, ◌&&◌, Option, Some, None, refl, ap}
 use Rattle.dpj_tokens.specs.declared.token.Symbol.{Symbol}
 use Rattle.dpj_tokens.specs.declared.token.Keyword.{Keyword}
 use Rattle.dpj_terminals.specs.declared.terminal.Placed.{Placed}
@@ -7,6 +7,7 @@ use Rattle.dpj_terminals.specs.declared.terminal.Terminal.{Terminal}
 use Rattle.dpj_terminals.specs.declared.terminal.Terminal.TheVariants as terminal
 use Rattle.dpj_tree.specs.declared.class.Class.{Class}
 use Rattle.dpj_tree.specs.declared.class.Member.{Member}
+use Rattle.dpj_tree.specs.declared.class.Member.TheVariants as member
 use Rattle.dpj_tree.specs.declared.class.MethodResult.{MethodResult}
 use Rattle.dpj_tree.specs.declared.class.MethodResult.TheVariants as outcome
 use Rattle.dpj_tree.specs.declared.class.Parent.{Parent}
@@ -15,13 +16,14 @@ use Rattle.dpj_tree.specs.declared.region.Params.{Params}
 use Rattle.dpj_tree.specs.declared.region.RplTree.{RplTree}
 use Rattle.dpj_tree.specs.declared.region.Suffix.{Suffix}
 use Rattle.dpj_tree.specs.declared.region.TypeTree.{TypeTree}
+use Rattle.dpj_tree.specs.declared.stmt.Stmt.{Stmt}
 use Rattle.dpj_tree.specs.Plain.{PlainStmts}
+use Rattle.dpj_tree.proofs.Coded.{code_stmts, stmts_came_back}
 use Rattle.dpj_parse.specs.Taking.{TakesName, Many}
 use Rattle.dpj_parse.specs.Paths.{DerivesArgs}
 use Rattle.dpj_parse.specs.Types.{DerivesBase, DerivesSuffix, DerivesType, type_of}
 use Rattle.dpj_parse.specs.Statements.{DerivesBlock, braces}
 use Rattle.dpj_parse.specs.Classes.{DerivesKind, DerivesAtomic, DerivesParams, DerivesIn, DerivesResult, DerivesFront, DerivesField, DerivesMethod, DerivesNamed, DerivesMember, DerivesParent, DerivesMembers, DerivesClass, DerivesProgram}
-use Rattle.dpj_parse.specs.Unnumbered.{bare_type, bare_params, bare_result, bare_parent, BareMember, bare_regions, bare_field, bare_method, bare_member, BareClass, bare_of, bare_class}
 use Rattle.dpj_parse.proofs.OnceReader.{Out, into, Comes, come_once, at_once, then_reads, on, off, starts, tail, named, many, many_read, listed}
 use Rattle.dpj_parse.proofs.OncePaths.{is_less, nothing_goes_on, args_read, args_once, type_read, type_once}
 use Rattle.dpj_parse.proofs.OnceExprs.{is_open_paren}
@@ -56,7 +58,7 @@ is_member _ = false
 result_read : ℕ → List Placed → Out MethodResult
 result_read m before = cond (starts is_void before) (Some (outcome.Void, tail before)) (into (type_read m before) (λ ty left. Some (outcome.Value ty, left)))
 
-result_once : {before after rest : List Placed} {answer : MethodResult} {name : Named} → DerivesResult before after answer → TakesName after rest name → Comes (λ m. result_read m before) (bare_result answer) after
+result_once : {before after rest : List Placed} {answer : MethodResult} {name : Named} → DerivesResult before after answer → TakesName after rest name → Comes (λ m. result_read m before) answer after
 unfolding result_read
 result_once (DerivesResult.void t) n = rw t.first (at_once refl)
 result_once (DerivesResult.value d) n = off _ (type_not is_void refl refl (λ n. refl) d) (then_reads _ (type_once d (rw n.first refl) (rw n.first refl)) (at_once refl))
@@ -97,30 +99,32 @@ params_construct_no DerivesParams.no_params r n = (result_begins r n).constructo
 params_construct_no (DerivesParams.params o d g c) r n = rw o.first refl
 
 -- what stands behind the name of a method or a field
-method_read : ℕ → Params → MethodResult → Named → List Placed → Out BareMember
+method_read : ℕ → Params → MethodResult → Named → List Placed → Out Member
 method_read m params answer name before =
     into (formals_read m before) (λ formals one. into (summary_read m one) (λ summary two. into (block_read m two) (λ body left.
-    Some (bare_method name.place name.name params answer formals summary body, left))))
+    Some (member.Method (record { place = name.place; name = name.name; params = params; result = answer; formals = formals; summary = summary; body = code_stmts body }), left))))
 
 block_starts : {before after : List Placed} {all : PlainStmts} → DerivesBlock before after all → (test : Terminal → Bool) → starts test before ≡ test (terminal.Symbol Symbol.OpenBrace)
 block_starts (braces o ss c) test = rw o.first refl
 
 method_once : {params : Params} {answer : MethodResult} {name : Named} {before after : List Placed} {tree : Member} → DerivesMethod params answer name before after tree →
-    Comes (λ m. method_read m (bare_params params) (bare_result answer) name before) (bare_member tree) after
+    Comes (λ m. method_read m params answer name before) tree after
 unfolding method_read
-method_once (DerivesMethod.method f s b) = then_reads _ (formals_once f) (then_reads _ (summary_once s (block_starts b)) (then_reads _ (block_once b) (at_once refl)))
+method_once {params} {answer} {name} {after = after} (DerivesMethod.method {formals = formals} {summary = summary} {body = body} f s b) =
+    let made : List Stmt → Member = λ x. member.Method (record { place = name.place; name = name.name; params = params; result = answer; formals = formals; summary = summary; body = x }) in
+    then_reads _ (formals_once f) (then_reads _ (summary_once s (block_starts b)) (then_reads _ (block_once b) (at_once (ap (λ x. Some (made x, after)) (stmts_came_back body)))))
 
 method_paren : {params : Params} {answer : MethodResult} {name : Named} {before after : List Placed} {tree : Member} → DerivesMethod params answer name before after tree → starts is_open_paren before ≡ true
 method_paren (DerivesMethod.method f s b) = formals_start f is_open_paren
 
-abbrev field_of : MethodResult → Named → Option RplTree → BareMember
-field_of (outcome.Value ty) name region = bare_field name.place name.name ty region
-field_of _ name region = bare_regions false []
+abbrev field_of : MethodResult → Named → Option RplTree → Member
+field_of (outcome.Value ty) name region = member.Field (record { place = name.place; name = name.name; ty = ty; region = region })
+field_of _ name region = member.Regions false []
 
-field_read : ℕ → MethodResult → Named → List Placed → Out BareMember
+field_read : ℕ → MethodResult → Named → List Placed → Out Member
 field_read m answer name before = into (in_read m before) (λ region one. Some (field_of answer name region, tail one))
 
-field_once : {ty : TypeTree} {name : Named} {before after : List Placed} {tree : Member} → DerivesField ty name before after tree → Comes (λ m. field_read m (outcome.Value (bare_type ty)) name before) (bare_member tree) after
+field_once : {ty : TypeTree} {name : Named} {before after : List Placed} {tree : Member} → DerivesField ty name before after tree → Comes (λ m. field_read m (outcome.Value ty) name before) tree after
 unfolding field_read
 field_once (DerivesField.field d c) = then_reads _ (in_once d c) (rw c.first (at_once refl))
 
@@ -129,14 +133,14 @@ field_no_paren (DerivesField.field DerivesIn.nowhere c) = rw c.first refl
 field_no_paren (DerivesField.field (DerivesIn.in_region t d) c) = rw t.first refl
 
 -- a member
-member_read : ℕ → List Placed → Out BareMember
+member_read : ℕ → List Placed → Out Member
 member_read m before =
-    cond (starts is_kind before) (into (kind_read before) (λ found one. into (listed (λ k. named) m one) (λ names two. Some (bare_regions found names, tail two))))
+    cond (starts is_kind before) (into (kind_read before) (λ found one. into (listed (λ k. named) m one) (λ names two. Some (member.Regions found names, tail two))))
     (cond (constructs before) (into (named before) (λ name one. method_read m (record { list = []; given = [] }) outcome.Constructor name one))
     (into (params_read m before) (λ params one. into (result_read m one) (λ answer two. into (named two) (λ name three.
     cond (starts is_open_paren three) (method_read m params answer name three) (field_read m answer name three))))))
 
-member_once : (before after : List Placed) (tree : Member) → DerivesMember before after tree → nothing_goes_on after ≡ false → Comes (λ m. member_read m before) (bare_member tree) after
+member_once : (before after : List Placed) (tree : Member) → DerivesMember before after tree → nothing_goes_on after ≡ false → Comes (λ m. member_read m before) tree after
 unfolding member_read
 member_once before after tree (DerivesMember.regions k l c) closed =
     on _ (kind_starts k) (then_reads _ (at_once (kind_once k)) (then_reads _ (names_once l (rw c.first refl)) (rw c.first (at_once refl))))
@@ -170,7 +174,7 @@ parent_read m before = cond (starts is_extends before) (into (named (tail before
 members_start : {before after : List Placed} {all : List Member} → DerivesMembers before after all → (test : Terminal → Bool) → starts test before ≡ test (terminal.Symbol Symbol.OpenBrace)
 members_start (DerivesMembers.members o ds c) test = rw o.first refl
 
-parent_once : {before after rest : List Placed} {parent : Option Parent} {all : List Member} → DerivesParent before after parent → DerivesMembers after rest all → Comes (λ m. parent_read m before) (option_map bare_parent parent) after
+parent_once : {before after rest : List Placed} {parent : Option Parent} {all : List Member} → DerivesParent before after parent → DerivesMembers after rest all → Comes (λ m. parent_read m before) parent after
 unfolding parent_read
 parent_once DerivesParent.no_parent d = off _ (members_start d is_extends) (at_once refl)
 parent_once (DerivesParent.extends t n a) d = rw t.first (rw n.first (then_reads _ (args_once a (members_start d is_less)) (at_once refl)))
@@ -179,20 +183,20 @@ parent_no_less : {before after rest : List Placed} {parent : Option Parent} {all
 parent_no_less DerivesParent.no_parent d = members_start d is_less
 parent_no_less (DerivesParent.extends t n a) d = rw t.first refl
 
-members_read : ℕ → List Placed → Out (List BareMember)
+members_read : ℕ → List Placed → Out (List Member)
 members_read m before = into (many (starts is_member) member_read m (tail before)) (λ all two. Some (all, tail two))
 
-members_once : {before after : List Placed} {all : List Member} → DerivesMembers before after all → Comes (λ m. members_read m before) (map bare_member all) after
+members_once : {before after : List Placed} {all : List Member} → DerivesMembers before after all → Comes (λ m. members_read m before) all after
 unfolding members_read
 members_once (DerivesMembers.members o ds c) =
-    rw o.first (then_reads _ (many_read nothing_goes_on bare_member (starts is_member) member_read member_once member_starts ds (rw c.first refl) refl) (rw c.first (at_once refl)))
+    rw o.first (then_reads _ (many_read nothing_goes_on (starts is_member) member_read member_once member_starts ds (rw c.first refl) refl) (rw c.first (at_once refl)))
 
-class_read : ℕ → List Placed → Out BareClass
+class_read : ℕ → List Placed → Out Class
 class_read m before =
     into (named (tail before)) (λ name two. into (params_read m two) (λ params three. into (parent_read m three) (λ parent four. into (members_read m four) (λ all left.
-    Some (bare_of name.place name.name params parent all, left)))))
+    Some (record { place = name.place; name = name.name; params = params; parent = parent; members = all }, left)))))
 
-class_once : (before after : List Placed) (tree : Class) → DerivesClass before after tree → nothing_goes_on after ≡ false → Comes (λ m. class_read m before) (bare_class tree) after
+class_once : (before after : List Placed) (tree : Class) → DerivesClass before after tree → nothing_goes_on after ≡ false → Comes (λ m. class_read m before) tree after
 unfolding class_read
 class_once before after tree (DerivesClass.class t n p e ms) closed =
     rw t.first (rw n.first (then_reads _ (params_once p (parent_no_less e ms)) (then_reads _ (parent_once e ms) (then_reads _ (members_once ms) (at_once refl)))))
@@ -200,14 +204,14 @@ class_once before after tree (DerivesClass.class t n p e ms) closed =
 class_starts : (before after : List Placed) (tree : Class) → DerivesClass before after tree → (starts is_class before ≡ true) × (nothing_goes_on before ≡ false)
 class_starts before after tree (DerivesClass.class t n p e ms) = rw t.first (refl, refl)
 
-program_read : ℕ → List Placed → Out (List BareClass)
+program_read : ℕ → List Placed → Out (List Class)
 program_read m before = into (class_read m before) (λ first one. into (many (starts is_class) class_read m one) (λ others left. Some (first ∷ others, left)))
 
-program_once : {before : List Placed} {classes : List Class} → DerivesProgram before classes → Comes (λ m. program_read m before) (map bare_class classes) []
+program_once : {before : List Placed} {classes : List Class} → DerivesProgram before classes → Comes (λ m. program_read m before) classes []
 unfolding program_read
 program_once {before} (DerivesProgram.program {one = one} {first = first} d ds) =
-    then_reads _ (class_once before one first d refl) (then_reads _ (many_read nothing_goes_on bare_class (starts is_class) class_read class_once class_starts ds refl refl) (at_once refl))
+    then_reads _ (class_once before one first d refl) (then_reads _ (many_read nothing_goes_on (starts is_class) class_read class_once class_starts ds refl refl) (at_once refl))
 
 -- a list of terminals derives one program at most
-pub one_program : (list : List Placed) (left right : List Class) → DerivesProgram list left → DerivesProgram list right → map bare_class left ≡ map bare_class right
+pub one_program : (list : List Placed) (left right : List Class) → DerivesProgram list left → DerivesProgram list right → left ≡ right
 one_program list left right l r = come_once (program_once l) (program_once r)

@@ -1,5 +1,5 @@
 -- The reader of expressions, and what it reads a step at a time.
-use Rattle.std.proofs.Common.{◌≡◌, ◌∙◌, ℕ, zero, suc, ◌<◌, ◌≤◌, List, [], ◌∷◌, map, ◌⊎◌, inl, inr, Bool, true, false, cond, ◌&&◌, leb, Option, Some, None, option_map, refl, sym, subst, arith}
+use Rattle.std.proofs.Common.{◌≡◌, ◌∙◌, ℕ, zero, suc, ◌<◌, ◌≤◌, List, [], ◌∷◌, ◌⊎◌, inl, inr, Bool, true, false, cond, ◌&&◌, leb, Option, Some, None, refl, sym, subst, arith}
 use Rattle.std.proofs.lemmas.Bool.{le-leb}
 use Rattle.std.proofs.lemmas.Bool.Decides.{leb_tells}
 use Rattle.dpj_base.specs.declared.place.Place.{Place}
@@ -21,7 +21,6 @@ use Rattle.dpj_parse.specs.Taking.{Takes, TakesSymbol, TakesKeyword, TakesName, 
 use Rattle.dpj_parse.specs.Paths.{DerivesArgs}
 use Rattle.dpj_parse.specs.Types.{DerivesBase, DerivesBehind, DerivesSuffix, suffix}
 use Rattle.dpj_parse.specs.Expressions.{symbol_of, unary_symbol, level_of, left_level}
-use Rattle.dpj_parse.specs.Unnumbered.{bare_path, bare_base, bare_suffix}
 use Rattle.dpj_parse.proofs.OnceReader.{Out, into, Comes, at_once, then_reads, later, on, off, starts, tail, place_at, named, many, many_first, is_comma}
 use Rattle.dpj_parse.proofs.OncePaths.{is_dot, is_open_bracket, is_close_bracket, args_read, args_once, base_read, base_once, behind_read, behind_once, begins_suffix, suffix_read, suffixes_once, no_less_behind}
 
@@ -96,33 +95,33 @@ abbrev climb_by : Readers → ℕ → ℕ → PlainExpr → List Placed → Opti
 climb_by r level top left before None = Some (left, before)
 climb_by r level top left before (Some op) =
     cond (leb level (level_of op) && leb (left_level op) top)
-    (into (r.level (suc (level_of op)) (tail before)) (λ right behind. r.climb level (level_of op) (expression 0 (place_at before) (binary op left right)) behind))
+    (into (r.level (suc (level_of op)) (tail before)) (λ right behind. r.climb level (level_of op) (expression (place_at before) (binary op left right)) behind))
     (Some (left, before))
 
 abbrev array_by : ℕ → Readers → Place → BaseTree → List Placed → Out PlainExpr
 array_by m r place start one =
     into (many begins_suffix suffix_read m one) (λ suffixes two. into (r.level 0 (tail two)) (λ len three.
-    into (behind_read m (tail three)) (λ own left. Some (expression 0 place (create_array start suffixes len own.rpl own.index), left))))
+    into (behind_read m (tail three)) (λ own left. Some (expression place (create_array start suffixes len own.rpl own.index), left))))
 
 abbrev unary_by : ℕ → Readers → List Placed → Out PlainExpr
 unary_by m r before =
-    cond (starts is_minus before) (into (r.unary (tail before)) (λ arg left. Some (expression 0 (place_at before) (unary unary_op.Neg arg), left)))
-    (cond (starts is_not before) (into (r.unary (tail before)) (λ arg left. Some (expression 0 (place_at before) (unary unary_op.Not arg), left)))
+    cond (starts is_minus before) (into (r.unary (tail before)) (λ arg left. Some (expression (place_at before) (unary unary_op.Neg arg), left)))
+    (cond (starts is_not before) (into (r.unary (tail before)) (λ arg left. Some (expression (place_at before) (unary unary_op.Not arg), left)))
     (cond (starts is_new before) (into (base_read m (tail before)) (λ start one. cond (starts is_open_paren one) (r.postfix before) (array_by m r (place_at before) start one)))
     (r.postfix before)))
 
 abbrev pub keyword_by : ℕ → Readers → Place → Keyword → List Placed → Out PlainExpr
-keyword_by m r place Keyword.True after = Some (expression 0 place (boolean true), after)
-keyword_by m r place Keyword.False after = Some (expression 0 place (boolean false), after)
-keyword_by m r place Keyword.Null after = Some (expression 0 place null, after)
-keyword_by m r place Keyword.This after = Some (expression 0 place this, after)
+keyword_by m r place Keyword.True after = Some (expression place (boolean true), after)
+keyword_by m r place Keyword.False after = Some (expression place (boolean false), after)
+keyword_by m r place Keyword.Null after = Some (expression place null, after)
+keyword_by m r place Keyword.This after = Some (expression place this, after)
 keyword_by m r place Keyword.New after =
-    into (named after) (λ class two. into (args_read m two) (λ regions three. into (r.actuals three) (λ actuals left. Some (expression 0 place (create class regions actuals), left))))
+    into (named after) (λ class two. into (args_read m two) (λ regions three. into (r.actuals three) (λ actuals left. Some (expression place (create class regions actuals), left))))
 keyword_by m r place _ after = None
 
 abbrev pub primary_at : ℕ → Readers → Terminal → Place → List Placed → Out PlainExpr
-primary_at m r (terminal.Int n) place after = Some (expression 0 place (int n), after)
-primary_at m r (terminal.Name n) place after = Some (expression 0 place (local n), after)
+primary_at m r (terminal.Int n) place after = Some (expression place (int n), after)
+primary_at m r (terminal.Name n) place after = Some (expression place (local n), after)
 primary_at m r (terminal.Keyword k) place after = keyword_by m r place k after
 primary_at m r (terminal.Symbol s) place after = into (r.level 0 after) (λ e two. Some (e, tail two))
 primary_at m r (terminal.Text text) place after = None
@@ -136,10 +135,10 @@ selectors_by m r e before =
     cond (starts is_dot before)
     (into (args_read m (tail before)) (λ regions two. into (named two) (λ name three.
     cond (starts is_open_paren three)
-    (into (r.actuals three) (λ actuals four. r.selectors (expression 0 name.place (call e regions name.name actuals)) four))
-    (r.selectors (expression 0 name.place (field e name.name)) three))))
+    (into (r.actuals three) (λ actuals four. r.selectors (expression name.place (call e regions name.name actuals)) four))
+    (r.selectors (expression name.place (field e name.name)) three))))
     (cond (starts is_open_bracket before)
-    (into (r.level 0 (tail before)) (λ at two. r.selectors (expression 0 (place_at before) (element e at)) (tail two)))
+    (into (r.level 0 (tail before)) (λ at two. r.selectors (expression (place_at before) (element e at)) (tail two)))
     (Some (e, before)))
 
 abbrev actuals_by : Readers → List Placed → Out PlainExprs
@@ -213,7 +212,7 @@ stops level top e {after} ends =
 pub climbs : (level top : ℕ) (op : BinaryOp) (left : PlainExpr) {before two after rest : List Placed} {place : Place} {right tree : PlainExpr} →
     level ≤ level_of op → left_level op ≤ top → TakesSymbol (symbol_of op) before two place →
     Comes (λ m. (readers m).level (suc (level_of op)) two) right after →
-    Comes (λ m. (readers m).climb level (level_of op) (expression 0 place (binary op left right)) after) tree rest →
+    Comes (λ m. (readers m).climb level (level_of op) (expression place (binary op left right)) after) tree rest →
     Comes (λ m. (readers m).climb level top left before) tree rest
 unfolding readers
 climbs level top op left {before} h k t r c =
@@ -225,7 +224,7 @@ unfolding readers
 level_from level before u c = later (λ m. (readers m).level level before) (then_reads _ u c)
 
 pub unary_operated : (op : UnaryOp) {before one after : List Placed} {arg : PlainExpr} {place : Place} →
-    TakesSymbol (unary_symbol op) before one place → Comes (λ m. (readers m).unary one) arg after → Comes (λ m. (readers m).unary before) (expression 0 place (unary op arg)) after
+    TakesSymbol (unary_symbol op) before one place → Comes (λ m. (readers m).unary one) arg after → Comes (λ m. (readers m).unary before) (expression place (unary op arg)) after
 unfolding readers
 unary_operated unary_op.Neg {before} t c = later (λ m. (readers m).unary before) (rw t.first (then_reads _ c (at_once refl)))
 unary_operated unary_op.Not {before} t c = later (λ m. (readers m).unary before) (rw t.first (then_reads _ c (at_once refl)))
@@ -256,7 +255,7 @@ suffix_no_paren before after tree (suffix o c d) = rw o.first refl
 pub unary_array : {before one two three four five six after : List Placed} {start : BaseTree} {suffixes : List Suffix} {len : PlainExpr} {own : Suffix} {place open_at close_at : Place} →
     TakesKeyword Keyword.New before one place → DerivesBase one two start → Many DerivesSuffix two three suffixes → TakesSymbol Symbol.OpenBracket three four open_at →
     starts is_close_bracket four ≡ false → Comes (λ m. (readers m).level 0 four) len five → TakesSymbol Symbol.CloseBracket five six close_at → DerivesBehind six after own →
-    Comes (λ m. (readers m).unary before) (expression 0 place (create_array (bare_base start) (map bare_suffix suffixes) len (option_map bare_path own.rpl) own.index)) after
+    Comes (λ m. (readers m).unary before) (expression place (create_array start suffixes len own.rpl own.index)) after
 unfolding readers
 unary_array {before} t b ss o closed l c d =
     later (λ m. (readers m).unary before) (rw t.first (then_reads _ (base_once b (no_less_behind ss (rw o.first refl)))
@@ -270,21 +269,21 @@ postfix_from before p c = later (λ m. (readers m).postfix before) (then_reads _
 
 pub selects_field : (e : PlainExpr) {before two after rest : List Placed} {named : Named} {dot : Place} {tree : PlainExpr} →
     TakesSymbol Symbol.Dot before two dot → TakesName two after named → starts is_open_paren after ≡ false →
-    Comes (λ m. (readers m).selectors (expression 0 named.place (field e named.name)) after) tree rest → Comes (λ m. (readers m).selectors e before) tree rest
+    Comes (λ m. (readers m).selectors (expression named.place (field e named.name)) after) tree rest → Comes (λ m. (readers m).selectors e before) tree rest
 unfolding readers
 selects_field e {before} dot n closed c =
     later (λ m. (readers m).selectors e before) (rw dot.first (then_reads _ (args_once DerivesArgs.no_args (rw n.first refl)) (rw n.first (off _ closed c))))
 
 pub selects_call : (e : PlainExpr) {before two three four after rest : List Placed} {regions : List RplTree} {named : Named} {actuals : PlainExprs} {dot : Place} {tree : PlainExpr} →
     TakesSymbol Symbol.Dot before two dot → DerivesArgs two three regions → TakesName three four named → starts is_open_paren four ≡ true → Comes (λ m. (readers m).actuals four) actuals after →
-    Comes (λ m. (readers m).selectors (expression 0 named.place (call e (map bare_path regions) named.name actuals)) after) tree rest → Comes (λ m. (readers m).selectors e before) tree rest
+    Comes (λ m. (readers m).selectors (expression named.place (call e regions named.name actuals)) after) tree rest → Comes (λ m. (readers m).selectors e before) tree rest
 unfolding readers
 selects_call e {before} dot r n paren a c =
     later (λ m. (readers m).selectors e before) (rw dot.first (then_reads _ (args_once r (rw n.first refl)) (rw n.first (on _ paren (then_reads _ a c)))))
 
 pub selects_element : (e : PlainExpr) {before two three after rest : List Placed} {at : PlainExpr} {place close_at : Place} {tree : PlainExpr} →
     TakesSymbol Symbol.OpenBracket before two place → Comes (λ m. (readers m).level 0 two) at three → TakesSymbol Symbol.CloseBracket three after close_at →
-    Comes (λ m. (readers m).selectors (expression 0 place (element e at)) after) tree rest → Comes (λ m. (readers m).selectors e before) tree rest
+    Comes (λ m. (readers m).selectors (expression place (element e at)) after) tree rest → Comes (λ m. (readers m).selectors e before) tree rest
 unfolding readers
 selects_element e {before} o l c s = later (λ m. (readers m).selectors e before) (rw o.first (then_reads _ l (rw c.first s)))
 

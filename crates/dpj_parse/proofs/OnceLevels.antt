@@ -13,7 +13,6 @@ use Rattle.dpj_tree.specs.declared.expr.BinaryOp.TheVariants as binary_op
 use Rattle.dpj_tree.specs.Plain.{PlainExpr, PlainExprs}
 use Rattle.dpj_parse.specs.Types.{DerivesBase}
 use Rattle.dpj_parse.specs.Expressions.{unary_symbol, level_of, left_level, Ending, DerivesLevel, operand, operation, DerivesUnary, operator, postfix, new_array, DerivesPostfix, primary, behind_dot, called, indexed, DerivesPrimary, number, yes, no, nothing, receiver, name, parenthesised, creation, DerivesNewArray, array, DerivesActuals, no_actuals, actuals, DerivesFurther, end, further}
-use Rattle.dpj_parse.specs.Unnumbered.{bare_base, bare_expr, bare_exprs}
 use Rattle.dpj_parse.proofs.OnceReader.{Comes, at_once, then_reads, starts, is_comma}
 use Rattle.dpj_parse.proofs.OncePaths.{is_less, is_close_bracket, args_once, base_once}
 use Rattle.dpj_parse.proofs.OnceExprs.{is_open_paren, is_close_paren, is_selector, primary_by, readers, Ends, ends_at, ends_at_op, ends_looser, no_selector, stops, climbs, level_from, unary_operated, BeginsPostfix, unary_postfix, unary_array, postfix_from, selects_field, selects_call, selects_element, selects_no_more, actuals_none, actuals_some, further_none, further_some}
@@ -99,7 +98,7 @@ mutual
   primary_kind (name t) = rw t.first (record { minus = refl; not = refl; new = inl refl })
   primary_kind (parenthesised o l c) = rw o.first (record { minus = refl; not = refl; new = inl refl })
   primary_kind (creation {three = three} {class = class} {regions = regions} t n r a) =
-      rw t.first (record { minus = refl; not = refl; new = inr (refl, record { start = bare_base (base.Class class regions); one = three; comes = base_once (DerivesBase.class n r) (actuals_start a is_less); paren = actuals_start a is_open_paren }) })
+      rw t.first (record { minus = refl; not = refl; new = inr (refl, record { start = (base.Class class regions); one = three; comes = base_once (DerivesBase.class n r) (actuals_start a is_less); paren = actuals_start a is_open_paren }) })
 
 -- the level of the loosest operator
 abbrev pub top_of : {level : ℕ} {before after : List Placed} {e : PlainExpr} → DerivesLevel level before after e → ℕ
@@ -129,7 +128,7 @@ further_ends (further t l f) ends = ends_at t refl refl
 
 mutual
   pub level_once : {level : ℕ} {before after : List Placed} {e : PlainExpr} (d : DerivesLevel level before after e) (low : ℕ) {tree : PlainExpr} {rest : List Placed} →
-      low ≤ level → level ≤ 6 → Ends (suc (top_of d)) after → Comes (λ m. (readers m).climb low (top_of d) (bare_expr e) after) tree rest → Comes (λ m. (readers m).level low before) tree rest
+      low ≤ level → level ≤ 6 → Ends (suc (top_of d)) after → Comes (λ m. (readers m).climb low (top_of d) e after) tree rest → Comes (λ m. (readers m).level low before) tree rest
   level_once {before = before} (operand d) low h k ends c = level_from low before (unary_once d ends.selector) c
   level_once {level = level} {after = after} (operation {op = op} {two = two} {left = left} {right = right} k l t r) low h high ends c =
       let low_enough = level_low op in
@@ -138,23 +137,23 @@ mutual
       let left_top = top_high l (omega arith) in
       let right_top = top_high r (omega arith) in
       level_once l low (omega arith) (omega arith) (ends_at_op op t (omega arith))
-      (climbs low (top_of l) op (bare_expr left) (omega arith) left_top t
-      (level_once r (suc (level_of op)) (omega arith) (omega arith) (ends_looser ends (omega arith)) (stops (suc (level_of op)) (top_of r) (bare_expr right) ends)) c)
+      (climbs low (top_of l) op left (omega arith) left_top t
+      (level_once r (suc (level_of op)) (omega arith) (omega arith) (ends_looser ends (omega arith)) (stops (suc (level_of op)) (top_of r) right ends)) c)
 
-  unary_once : {before after : List Placed} {e : PlainExpr} → DerivesUnary before after e → starts is_selector after ≡ false → Comes (λ m. (readers m).unary before) (bare_expr e) after
+  unary_once : {before after : List Placed} {e : PlainExpr} → DerivesUnary before after e → starts is_selector after ≡ false → Comes (λ m. (readers m).unary before) e after
   unary_once (operator {op = op} t d) closed = unary_operated op t (unary_once d closed)
-  unary_once {after = after} {e = e} (postfix d) closed = unary_postfix (postfix_kind d) (postfix_once d (no_selector after closed).2 (selects_no_more (bare_expr e) closed))
+  unary_once {after = after} {e = e} (postfix d) closed = unary_postfix (postfix_kind d) (postfix_once d (no_selector after closed).2 (selects_no_more e closed))
   unary_once (new_array d) closed = array_once d
 
   pub postfix_once : {ending : Ending} {before after : List Placed} {e : PlainExpr} → DerivesPostfix ending before after e → {tree : PlainExpr} {rest : List Placed} →
-      starts is_open_paren after ≡ false → Comes (λ m. (readers m).selectors (bare_expr e) after) tree rest → Comes (λ m. (readers m).postfix before) tree rest
+      starts is_open_paren after ≡ false → Comes (λ m. (readers m).selectors e after) tree rest → Comes (λ m. (readers m).postfix before) tree rest
   postfix_once {before = before} (primary d) closed c = postfix_from before (primary_once d) c
-  postfix_once (behind_dot {of = of} d dot n) closed c = postfix_once d (rw dot.first refl) (selects_field (bare_expr of) dot n closed c)
-  postfix_once (called {of = of} d dot r n a) closed c = postfix_once d (rw dot.first refl) (selects_call (bare_expr of) dot r n (actuals_start a is_open_paren) (actuals_once a) c)
+  postfix_once (behind_dot {of = of} d dot n) closed c = postfix_once d (rw dot.first refl) (selects_field of dot n closed c)
+  postfix_once (called {of = of} d dot r n a) closed c = postfix_once d (rw dot.first refl) (selects_call of dot r n (actuals_start a is_open_paren) (actuals_once a) c)
   postfix_once (indexed {array = whole} {at = at} d o l e) closed c =
-      postfix_once d (rw o.first refl) (selects_element (bare_expr whole) o (level_once l 0 (omega arith) (omega arith) (ends_at e refl refl) (stops 0 (top_of l) (bare_expr at) (ends_at e refl refl))) e c)
+      postfix_once d (rw o.first refl) (selects_element whole o (level_once l 0 (omega arith) (omega arith) (ends_at e refl refl) (stops 0 (top_of l) at (ends_at e refl refl))) e c)
 
-  primary_once : {ending : Ending} {before after : List Placed} {e : PlainExpr} → DerivesPrimary ending before after e → Comes (λ m. primary_by m (readers m) before) (bare_expr e) after
+  primary_once : {ending : Ending} {before after : List Placed} {e : PlainExpr} → DerivesPrimary ending before after e → Comes (λ m. primary_by m (readers m) before) e after
   primary_once (number t) = rw t.first (at_once refl)
   primary_once (yes t) = rw t.first (at_once refl)
   primary_once (no t) = rw t.first (at_once refl)
@@ -162,30 +161,30 @@ mutual
   primary_once (receiver t) = rw t.first (at_once refl)
   primary_once (name t) = rw t.first (at_once refl)
   primary_once (parenthesised {e = e} o l c) =
-      rw o.first (then_reads _ (level_once l 0 (omega arith) (omega arith) (ends_at c refl refl) (stops 0 (top_of l) (bare_expr e) (ends_at c refl refl))) (rw c.first (at_once refl)))
+      rw o.first (then_reads _ (level_once l 0 (omega arith) (omega arith) (ends_at c refl refl) (stops 0 (top_of l) e (ends_at c refl refl))) (rw c.first (at_once refl)))
   primary_once (creation t n r a) = rw t.first (rw n.first (then_reads _ (args_once r (actuals_start a is_less)) (then_reads _ (actuals_once a) (at_once refl))))
 
-  array_once : {before after : List Placed} {e : PlainExpr} → DerivesNewArray before after e → Comes (λ m. (readers m).unary before) (bare_expr e) after
+  array_once : {before after : List Placed} {e : PlainExpr} → DerivesNewArray before after e → Comes (λ m. (readers m).unary before) e after
   array_once (array {four = four} {len = len} t b ss o l c d) =
       unary_array t b ss o (expr_begins_not is_close_bracket no_close_bracket four (level_begins l))
-      (level_once l 0 (omega arith) (omega arith) (ends_at c refl refl) (stops 0 (top_of l) (bare_expr len) (ends_at c refl refl))) c d
+      (level_once l 0 (omega arith) (omega arith) (ends_at c refl refl) (stops 0 (top_of l) len (ends_at c refl refl))) c d
 
-  actuals_once : {before after : List Placed} {es : PlainExprs} → DerivesActuals before after es → Comes (λ m. (readers m).actuals before) (bare_exprs es) after
+  actuals_once : {before after : List Placed} {es : PlainExprs} → DerivesActuals before after es → Comes (λ m. (readers m).actuals before) es after
   actuals_once (no_actuals o c) = actuals_none o c
   actuals_once (actuals {one = one} {e = e} o l f c) =
       actuals_some o (expr_begins_not is_close_paren no_close_paren one (level_begins l))
-      (level_once l 0 (omega arith) (omega arith) (further_ends f (ends_at c refl refl)) (stops 0 (top_of l) (bare_expr e) (further_ends f (ends_at c refl refl))))
+      (level_once l 0 (omega arith) (omega arith) (further_ends f (ends_at c refl refl)) (stops 0 (top_of l) e (further_ends f (ends_at c refl refl))))
       (further_once f (ends_at c refl refl) (rw c.first refl)) c
 
-  further_once : {before after : List Placed} {es : PlainExprs} → DerivesFurther before after es → Ends 0 after → starts is_comma after ≡ false → Comes (λ m. (readers m).further before) (bare_exprs es) after
+  further_once : {before after : List Placed} {es : PlainExprs} → DerivesFurther before after es → Ends 0 after → starts is_comma after ≡ false → Comes (λ m. (readers m).further before) es after
   further_once end ends closed = further_none closed
   further_once (further {e = e} t l f) ends closed =
-      further_some t (level_once l 0 (omega arith) (omega arith) (ends_looser (further_ends f ends) (omega arith)) (stops 0 (top_of l) (bare_expr e) (further_ends f ends))) (further_once f ends closed)
+      further_some t (level_once l 0 (omega arith) (omega arith) (ends_looser (further_ends f ends) (omega arith)) (stops 0 (top_of l) e (further_ends f ends))) (further_once f ends closed)
 
 -- an expression is read, where nothing that could go on with it stands behind it
-pub expr_once : {before after : List Placed} {e : PlainExpr} → DerivesLevel 0 before after e → Ends 0 after → Comes (λ m. (readers m).level 0 before) (bare_expr e) after
-expr_once {e = e} d ends = level_once d 0 (omega arith) (omega arith) (ends_looser ends (omega arith)) (stops 0 (top_of d) (bare_expr e) ends)
+pub expr_once : {before after : List Placed} {e : PlainExpr} → DerivesLevel 0 before after e → Ends 0 after → Comes (λ m. (readers m).level 0 before) e after
+expr_once {e = e} d ends = level_once d 0 (omega arith) (omega arith) (ends_looser ends (omega arith)) (stops 0 (top_of d) e ends)
 
 -- a Postfix, behind which nothing that could go on with it stands
-pub selected_once : {ending : Ending} {before after : List Placed} {e : PlainExpr} → DerivesPostfix ending before after e → starts is_selector after ≡ false → Comes (λ m. (readers m).postfix before) (bare_expr e) after
-selected_once {after = after} {e = e} d closed = postfix_once d (no_selector after closed).2 (selects_no_more (bare_expr e) closed)
+pub selected_once : {ending : Ending} {before after : List Placed} {e : PlainExpr} → DerivesPostfix ending before after e → starts is_selector after ≡ false → Comes (λ m. (readers m).postfix before) e after
+selected_once {after = after} {e = e} d closed = postfix_once d (no_selector after closed).2 (selects_no_more e closed)

@@ -1,5 +1,5 @@
 -- The parts of members are read in one way.
-use Rattle.std.proofs.Common.{◌≡◌, ℕ, zero, suc, List, [], ◌∷◌, map, Bool, true, false, cond, ◌||◌, Option, Some, None, option_map, refl}
+use Rattle.std.proofs.Common.{◌≡◌, ℕ, zero, suc, List, [], ◌∷◌, Bool, true, false, cond, ◌||◌, Option, Some, None, refl}
 use Rattle.dpj_base.specs.declared.place.Place.{Place}
 use Rattle.dpj_tokens.specs.declared.token.Symbol.{Symbol}
 use Rattle.dpj_tokens.specs.declared.token.Keyword.{Keyword}
@@ -18,7 +18,6 @@ use Rattle.dpj_parse.specs.Taking.{TakesSymbol}
 use Rattle.dpj_parse.specs.Paths.{DerivesRpl, DerivesHead, one_name, two_names}
 use Rattle.dpj_parse.specs.Types.{DerivesBase, DerivesType, type_of}
 use Rattle.dpj_parse.specs.Classes.{DerivesAtomic, DerivesKind, DerivesParam, DerivesKindOr, DerivesParamsBehind, DerivesDeclared, DerivesConstr, DerivesGiven, DerivesParams, DerivesFormal, DerivesFormalList, DerivesFormals, DerivesItem, DerivesItems, DerivesSummary, DerivesIn}
-use Rattle.dpj_parse.specs.Unnumbered.{bare_path, bare_param, bare_constr, bare_params, bare_formal, bare_item, bare_summary}
 use Rattle.dpj_parse.proofs.OnceReader.{Out, into, Comes, at_once, then_reads, later, on, off, starts, tail, named, is_comma, listed, listed_read, listed_first}
 use Rattle.dpj_parse.proofs.OncePaths.{is_dot, is_colon, is_less, rpl_read, rpl_once, goes_on_path, nothing_goes_on, type_read, type_once}
 use Rattle.dpj_parse.proofs.OnceExprs.{is_close_paren}
@@ -83,9 +82,9 @@ kind_starts (DerivesKind.kind (DerivesAtomic.atomic a) t) = rw a.first refl
 
 -- Kind Name { "," [ Kind ] Name }
 abbrev param_read : Bool → List Placed → Out ParamTree
-param_read found before = into (named before) (λ name left. Some (record { node = 0; place = name.place; name = name.name; atomic = found }, left))
+param_read found before = into (named before) (λ name left. Some (record { place = name.place; name = name.name; atomic = found }, left))
 
-param_once : {found : Bool} {before after : List Placed} {tree : ParamTree} → DerivesParam found before after tree → param_read found before ≡ Some (bare_param tree, after)
+param_once : {found : Bool} {before after : List Placed} {tree : ParamTree} → DerivesParam found before after tree → param_read found before ≡ Some (tree, after)
 param_once (DerivesParam.param t) = rw t.first refl
 
 abbrev kind_or_read : Bool → List Placed → Out Bool
@@ -103,7 +102,7 @@ params_behind_read (suc m) earlier before =
     (Some ([], before))
 
 params_behind_once : {earlier : Bool} {before after : List Placed} {trees : List ParamTree} → DerivesParamsBehind earlier before after trees → starts is_comma after ≡ false →
-    Comes (λ m. params_behind_read m earlier before) (map bare_param trees) after
+    Comes (λ m. params_behind_read m earlier before) trees after
 unfolding params_behind_read
 params_behind_once {earlier} {before} DerivesParamsBehind.no_more closed = later (λ m. params_behind_read m earlier before) (off _ closed (at_once refl))
 params_behind_once {earlier} {before} (DerivesParamsBehind.behind t k p ds) closed =
@@ -112,7 +111,7 @@ params_behind_once {earlier} {before} (DerivesParamsBehind.behind t k p ds) clos
 declared_read : ℕ → List Placed → Out (List ParamTree)
 declared_read m before = into (kind_read before) (λ found one. into (param_read found one) (λ tree two. into (params_behind_read m found two) (λ others left. Some (tree ∷ others, left))))
 
-declared_once : {before after : List Placed} {trees : List ParamTree} → DerivesDeclared before after trees → starts is_comma after ≡ false → Comes (λ m. declared_read m before) (map bare_param trees) after
+declared_once : {before after : List Placed} {trees : List ParamTree} → DerivesDeclared before after trees → starts is_comma after ≡ false → Comes (λ m. declared_read m before) trees after
 unfolding declared_read
 declared_once (DerivesDeclared.declared k p ds) closed = then_reads _ (at_once (kind_once k)) (then_reads _ (at_once (param_once p)) (then_reads _ (params_behind_once ds closed) (at_once refl)))
 
@@ -120,7 +119,7 @@ declared_once (DerivesDeclared.declared k p ds) closed = then_reads _ (at_once (
 constr_read : ℕ → List Placed → Out ConstrTree
 constr_read m before = into (rpl_read m before) (λ first one. into (rpl_read m (tail one)) (λ second left. Some (record { left = first; right = second }, left)))
 
-constr_once : (before after : List Placed) (tree : ConstrTree) → DerivesConstr before after tree → goes_on_path after ≡ false → Comes (λ m. constr_read m before) (bare_constr tree) after
+constr_once : (before after : List Placed) (tree : ConstrTree) → DerivesConstr before after tree → goes_on_path after ≡ false → Comes (λ m. constr_read m before) tree after
 unfolding constr_read
 constr_once before after tree (DerivesConstr.constraint {one = one} {two = two} {left = first} {right = second} l h r) closed =
     then_reads _ (rpl_once before one first l (rw h.first refl)) (rw h.first (then_reads _ (rpl_once two after second r closed) (at_once refl)))
@@ -128,10 +127,10 @@ constr_once before after tree (DerivesConstr.constraint {one = one} {two = two} 
 given_read : ℕ → List Placed → Out (List ConstrTree)
 given_read m before = cond (starts is_bar before) (listed constr_read m (tail before)) (Some ([], before))
 
-given_once : {before after rest : List Placed} {all : List ConstrTree} {close_at : Place} → DerivesGiven before after all → TakesSymbol Symbol.Greater after rest close_at → Comes (λ m. given_read m before) (map bare_constr all) after
+given_once : {before after rest : List Placed} {all : List ConstrTree} {close_at : Place} → DerivesGiven before after all → TakesSymbol Symbol.Greater after rest close_at → Comes (λ m. given_read m before) all after
 unfolding given_read
 given_once DerivesGiven.nothing_given c = rw c.first (at_once refl)
-given_once (DerivesGiven.given t l) c = rw t.first (listed_read goes_on_path bare_constr constr_read constr_once (λ place rest. refl) l (rw c.first refl) (rw c.first refl))
+given_once (DerivesGiven.given t l) c = rw t.first (listed_read goes_on_path constr_read constr_once (λ place rest. refl) l (rw c.first refl) (rw c.first refl))
 
 given_no_comma : {before after rest : List Placed} {all : List ConstrTree} {close_at : Place} → DerivesGiven before after all → TakesSymbol Symbol.Greater after rest close_at → starts is_comma before ≡ false
 given_no_comma DerivesGiven.nothing_given c = rw c.first refl
@@ -144,16 +143,16 @@ params_read m before =
     (into (declared_read m (tail before)) (λ list two. into (given_read m two) (λ all three. Some (record { list = list; given = all }, tail three))))
     (Some (record { list = []; given = [] }, before))
 
-pub params_once : {before after : List Placed} {params : Params} → DerivesParams before after params → starts is_less after ≡ false → Comes (λ m. params_read m before) (bare_params params) after
+pub params_once : {before after : List Placed} {params : Params} → DerivesParams before after params → starts is_less after ≡ false → Comes (λ m. params_read m before) params after
 unfolding params_read
 params_once DerivesParams.no_params closed = off _ closed (at_once refl)
 params_once (DerivesParams.params o d g c) closed = rw o.first (then_reads _ (declared_once d (given_no_comma g c)) (then_reads _ (given_once g c) (rw c.first (at_once refl))))
 
 -- "(" [ Formals ] ")", where Formals = Type Name { "," Type Name }
 formal_read : ℕ → List Placed → Out Formal
-formal_read m before = into (type_read m before) (λ ty one. into (named one) (λ name left. Some (record { node = 0; place = name.place; name = name.name; ty = ty }, left)))
+formal_read m before = into (type_read m before) (λ ty one. into (named one) (λ name left. Some (record { place = name.place; name = name.name; ty = ty }, left)))
 
-formal_once : (before after : List Placed) (tree : Formal) → DerivesFormal before after tree → nothing_goes_on after ≡ false → Comes (λ m. formal_read m before) (bare_formal tree) after
+formal_once : (before after : List Placed) (tree : Formal) → DerivesFormal before after tree → nothing_goes_on after ≡ false → Comes (λ m. formal_read m before) tree after
 unfolding formal_read
 formal_once before after tree (DerivesFormal.formal d n) closed = then_reads _ (type_once d (rw n.first refl) (rw n.first refl)) (rw n.first (at_once refl))
 
@@ -163,12 +162,12 @@ formal_no_paren before after tree (DerivesFormal.formal d n) = type_not is_close
 pub formals_read : ℕ → List Placed → Out (List Formal)
 formals_read m before = cond (starts is_close_paren (tail before)) (Some ([], tail (tail before))) (into (listed formal_read m (tail before)) (λ all two. Some (all, tail two)))
 
-pub formals_once : {before after : List Placed} {all : List Formal} → DerivesFormals before after all → Comes (λ m. formals_read m before) (map bare_formal all) after
+pub formals_once : {before after : List Placed} {all : List Formal} → DerivesFormals before after all → Comes (λ m. formals_read m before) all after
 unfolding formals_read
 formals_once (DerivesFormals.parenthesised o DerivesFormalList.no_formals c) = rw (o.first, c.first) (at_once refl)
 formals_once (DerivesFormals.parenthesised o (DerivesFormalList.formals l) c) =
     rw o.first (off _ (listed_first (λ here. starts is_close_paren here ≡ false) formal_no_paren l)
-    (then_reads _ (listed_read nothing_goes_on bare_formal formal_read formal_once (λ place rest. refl) l (rw c.first refl) refl) (rw c.first (at_once refl))))
+    (then_reads _ (listed_read nothing_goes_on formal_read formal_once (λ place rest. refl) l (rw c.first refl) refl) (rw c.first (at_once refl))))
 
 pub formals_start : {before after : List Placed} {all : List Formal} → DerivesFormals before after all → (test : Terminal → Bool) → starts test before ≡ test (terminal.Symbol Symbol.OpenParen)
 formals_start (DerivesFormals.parenthesised o l c) test = rw o.first refl
@@ -180,7 +179,7 @@ item_read m before = into (atomic_read before) (λ found one. into (rpl_read m o
 not_atomic : {before : List Placed} → starts is_atomic before ≡ false → atomic_read before ≡ Some (false, before)
 not_atomic e = rw e refl
 
-item_once : (before after : List Placed) (tree : Item) → DerivesItem before after tree → goes_on_path after ≡ false → Comes (λ m. item_read m before) (bare_item tree) after
+item_once : (before after : List Placed) (tree : Item) → DerivesItem before after tree → goes_on_path after ≡ false → Comes (λ m. item_read m before) tree after
 unfolding item_read
 item_once before after tree (DerivesItem.item {path = path} DerivesAtomic.plain d) closed =
     then_reads _ (at_once (not_atomic (rpl_not is_atomic refl (λ n. refl) d))) (then_reads _ (rpl_once before after path d closed) (at_once refl))
@@ -190,9 +189,9 @@ items_read : ℕ → List Placed → Out (List Item)
 items_read m before = listed item_read m (tail before)
 
 items_once : {keyword : Keyword} {before after : List Placed} {all : List Item} → DerivesItems keyword before after all → starts is_comma after ≡ false → goes_on_path after ≡ false →
-    Comes (λ m. items_read m before) (map bare_item all) after
+    Comes (λ m. items_read m before) all after
 unfolding items_read
-items_once (DerivesItems.items t l) no_comma closed = rw t.first (listed_read goes_on_path bare_item item_read item_once (λ place rest. refl) l no_comma closed)
+items_once (DerivesItems.items t l) no_comma closed = rw t.first (listed_read goes_on_path item_read item_once (λ place rest. refl) l no_comma closed)
 
 items_start : {keyword : Keyword} {before after : List Placed} {all : List Item} → DerivesItems keyword before after all → (test : Terminal → Bool) → starts test before ≡ test (terminal.Keyword keyword)
 items_start (DerivesItems.items t l) test = rw t.first refl
@@ -213,7 +212,7 @@ summary_read m before =
 
 -- behind it stands a block
 pub summary_once : {before after : List Placed} {summary : Option SummaryTree} → DerivesSummary before after summary →
-    ((test : Terminal → Bool) → starts test after ≡ test (terminal.Symbol Symbol.OpenBrace)) → Comes (λ m. summary_read m before) (option_map bare_summary summary) after
+    ((test : Terminal → Bool) → starts test after ≡ test (terminal.Symbol Symbol.OpenBrace)) → Comes (λ m. summary_read m before) summary after
 unfolding summary_read
 summary_once DerivesSummary.no_summary block = off _ (block is_pure) (off _ (block is_reads) (off _ (block is_writes) (at_once refl)))
 summary_once (DerivesSummary.pure t) block = rw t.first (at_once refl)
@@ -230,7 +229,7 @@ pub in_read : ℕ → List Placed → Out (Option RplTree)
 in_read m before = cond (starts is_in before) (into (rpl_read m (tail before)) (λ path left. Some (Some path, left))) (Some (None, before))
 
 pub in_once : {before after rest : List Placed} {region : Option RplTree} {ends_at : Place} → DerivesIn before after region → TakesSymbol Symbol.Semicolon after rest ends_at →
-    Comes (λ m. in_read m before) (option_map bare_path region) after
+    Comes (λ m. in_read m before) region after
 unfolding in_read
 in_once DerivesIn.nowhere c = rw c.first (at_once refl)
 in_once {after = after} (DerivesIn.in_region {one = one} {path = path} t d) c = rw t.first (then_reads _ (rpl_once one after path d (rw c.first refl)) (at_once refl))

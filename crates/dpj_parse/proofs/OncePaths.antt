@@ -1,5 +1,5 @@
 -- Region paths and types are read in one way.
-use Rattle.std.proofs.Common.{◌≡◌, ℕ, List, [], ◌∷◌, map, ◌⊎◌, inl, inr, Bool, true, false, cond, ◌&&◌, ◌||◌, Option, Some, None, option_map, map-id, refl}
+use Rattle.std.proofs.Common.{◌≡◌, ℕ, List, [], ◌∷◌, ◌⊎◌, inl, inr, Bool, true, false, cond, ◌&&◌, ◌||◌, Option, Some, None, refl}
 use Rattle.dpj_base.specs.declared.place.Place.{Place}
 use Rattle.dpj_tokens.specs.declared.token.Symbol.{Symbol}
 use Rattle.dpj_tokens.specs.declared.token.Keyword.{Keyword}
@@ -20,7 +20,6 @@ use Rattle.dpj_tree.specs.declared.region.TypeTree.{TypeTree}
 use Rattle.dpj_parse.specs.Taking.{Many}
 use Rattle.dpj_parse.specs.Paths.{DerivesRName, one_name, two_names, DerivesHead, DerivesWithin, DerivesElem, star, within, DerivesNext, next, DerivesRpl, path, DerivesArgs, no_args, args}
 use Rattle.dpj_parse.specs.Types.{DerivesBase, DerivesRegion, no_region, region, DerivesIndex, no_index, index, DerivesBehind, behind, DerivesSuffix, suffix, DerivesType, type_of}
-use Rattle.dpj_parse.specs.Unnumbered.{bare_path, bare_base, bare_suffix, bare_type}
 use Rattle.dpj_parse.proofs.OnceReader.{or_left, or_right, not_next, Out, into, Comes, at_once, then_reads, off, starts, tail, place_at, stands, named, many, many_read, many_first, listed, listed_read}
 
 -- the terminals that decide
@@ -129,31 +128,31 @@ next_elem m before = elem_read (tail before)
 
 pub rpl_read : ℕ → List Placed → Out RplTree
 rpl_read m before =
-    into (head_read before) (λ start one. into (many (starts is_colon) next_elem m one) (λ elems left. Some (record { node = 0; place = place_at before; head = start; elems = elems }, left)))
+    into (head_read before) (λ start one. into (many (starts is_colon) next_elem m one) (λ elems left. Some (record { place = place_at before; head = start; elems = elems }, left)))
 
 head_here : {before after : List Placed} {tree : RplHead} → DerivesHead before after tree → before ≡ [] → ⊥
 head_here (DerivesHead.root t) e = let f = t.first in cc
 head_here (DerivesHead.name (one_name t)) e = let f = t.first in cc
 head_here (DerivesHead.name (two_names t d s)) e = let f = t.first in cc
 
-pub rpl_once : (before after : List Placed) (tree : RplTree) → DerivesRpl before after tree → goes_on_path after ≡ false → Comes (λ m. rpl_read m before) (bare_path tree) after
+pub rpl_once : (before after : List Placed) (tree : RplTree) → DerivesRpl before after tree → goes_on_path after ≡ false → Comes (λ m. rpl_read m before) tree after
 unfolding rpl_read
 rpl_once before after tree (path {one = one} {elems = elems} s h es) closed =
     let closed_here = many_first (λ here. starts is_dot here ≡ false) (λ b a t d. (next_starts b a t d).1) es (or_left (starts is_dot after) (starts is_colon after) closed) in
     then_reads _ (at_once (head_once h closed_here))
     (rw (stands before (head_here h) s)
-    (then_reads _ (many_read (starts is_dot) (λ (t : ElemTree). t) (starts is_colon) next_elem (λ b a t d c. at_once (next_once d c)) next_starts es (or_right (starts is_dot after) (starts is_colon after) closed) (or_left (starts is_dot after) (starts is_colon after) closed))
-    (rw map-id (at_once refl))))
+    (then_reads _ (many_read (starts is_dot) (starts is_colon) next_elem (λ b a t d c. at_once (next_once d c)) next_starts es (or_right (starts is_dot after) (starts is_colon after) closed) (or_left (starts is_dot after) (starts is_colon after) closed))
+    (at_once refl)))
 
 -- [ "<" Rpl { "," Rpl } ">" ]
 pub args_read : ℕ → List Placed → Out (List RplTree)
 args_read m before = cond (starts is_less before) (into (listed rpl_read m (tail before)) (λ paths left. Some (paths, tail left))) (Some ([], before))
 
-pub args_once : {before after : List Placed} {paths : List RplTree} → DerivesArgs before after paths → starts is_less after ≡ false → Comes (λ m. args_read m before) (map bare_path paths) after
+pub args_once : {before after : List Placed} {paths : List RplTree} → DerivesArgs before after paths → starts is_less after ≡ false → Comes (λ m. args_read m before) paths after
 unfolding args_read
 args_once no_args closed = off _ closed (at_once refl)
 args_once (args o ps c) closed =
-    rw o.first (then_reads _ (listed_read goes_on_path bare_path rpl_read rpl_once (λ place rest. refl) ps (rw c.first refl) (rw c.first refl)) (rw c.first (at_once refl)))
+    rw o.first (then_reads _ (listed_read goes_on_path rpl_read rpl_once (λ place rest. refl) ps (rw c.first refl) (rw c.first refl)) (rw c.first (at_once refl)))
 
 -- Base = "int" | "boolean" | Name [ Args ]
 pub base_read : ℕ → List Placed → Out BaseTree
@@ -162,7 +161,7 @@ base_read m before =
     (cond (starts is_boolean before) (Some (base.Bool, tail before))
     (into (named before) (λ name one. into (args_read m one) (λ paths left. Some (base.Class name paths, left)))))
 
-pub base_once : {before after : List Placed} {tree : BaseTree} → DerivesBase before after tree → starts is_less after ≡ false → Comes (λ m. base_read m before) (bare_base tree) after
+pub base_once : {before after : List Placed} {tree : BaseTree} → DerivesBase before after tree → starts is_less after ≡ false → Comes (λ m. base_read m before) tree after
 unfolding base_read
 base_once (DerivesBase.int t) closed = rw t.first (at_once refl)
 base_once (DerivesBase.boolean t) closed = rw t.first (at_once refl)
@@ -185,7 +184,7 @@ hash_or_not : (t : Terminal) → (t ≡ terminal.Symbol Symbol.Hash) ⊎ (is_has
 hash_or_not (terminal.Symbol Symbol.Hash) = inl refl
 hash_or_not _ = inr refl
 
-region_once : {before after : List Placed} {tree : Option RplTree} → DerivesRegion before after tree → Comes (λ m. region_read m before) (option_map bare_path tree) after
+region_once : {before after : List Placed} {tree : Option RplTree} → DerivesRegion before after tree → Comes (λ m. region_read m before) tree after
 region_once {before} (no_region n) = off _ (not_next before is_less n less_or_not) (at_once refl)
 region_once (region {one = one} {two = two} {path = p} o d c) = rw o.first (then_reads _ (rpl_once one two p d (rw c.first refl)) (rw c.first (at_once refl)))
 
@@ -199,7 +198,7 @@ index_once (index h t) = rw (h.first, t.first) refl
 pub behind_read : ℕ → List Placed → Out Suffix
 behind_read m before = into (region_read m before) (λ region one. into (index_read one) (λ index left. Some (record { rpl = region; index = index }, left)))
 
-pub behind_once : {before after : List Placed} {tree : Suffix} → DerivesBehind before after tree → Comes (λ m. behind_read m before) (bare_suffix tree) after
+pub behind_once : {before after : List Placed} {tree : Suffix} → DerivesBehind before after tree → Comes (λ m. behind_read m before) tree after
 unfolding behind_read
 behind_once (behind r i) = then_reads _ (region_once r) (then_reads _ (at_once (index_once i)) (at_once refl))
 
@@ -213,7 +212,7 @@ suffix_read m before = behind_read m (tail (tail before))
 abbrev pub nothing_goes_on : List Placed → Bool
 nothing_goes_on after = false
 
-pub suffix_once : (before after : List Placed) (tree : Suffix) → DerivesSuffix before after tree → nothing_goes_on after ≡ false → Comes (λ m. suffix_read m before) (bare_suffix tree) after
+pub suffix_once : (before after : List Placed) (tree : Suffix) → DerivesSuffix before after tree → nothing_goes_on after ≡ false → Comes (λ m. suffix_read m before) tree after
 suffix_once before after tree (suffix o c d) closed = rw (o.first, c.first) (behind_once d)
 
 pub suffix_starts : (before after : List Placed) (tree : Suffix) → DerivesSuffix before after tree → (begins_suffix before ≡ true) × (nothing_goes_on before ≡ false)
@@ -223,8 +222,8 @@ suffix_no_less : (before after : List Placed) (tree : Suffix) → DerivesSuffix 
 suffix_no_less before after tree (suffix o c d) = rw o.first refl
 
 pub suffixes_once : {before after : List Placed} {trees : List Suffix} → Many DerivesSuffix before after trees → begins_suffix after ≡ false →
-    Comes (λ m. many begins_suffix suffix_read m before) (map bare_suffix trees) after
-suffixes_once ds closed = many_read nothing_goes_on bare_suffix begins_suffix suffix_read suffix_once suffix_starts ds closed refl
+    Comes (λ m. many begins_suffix suffix_read m before) trees after
+suffixes_once ds closed = many_read nothing_goes_on begins_suffix suffix_read suffix_once suffix_starts ds closed refl
 
 -- behind a base stand suffixes, or what doesn't go on
 pub no_less_behind : {before after : List Placed} {trees : List Suffix} → Many DerivesSuffix before after trees → starts is_less after ≡ false → starts is_less before ≡ false
@@ -233,9 +232,9 @@ no_less_behind ds closed = many_first (λ here. starts is_less here ≡ false) s
 -- Type = Base { "[" "]" [ "<" Rpl ">" ] [ "#" Name ] }
 pub type_read : ℕ → List Placed → Out TypeTree
 type_read m before =
-    into (base_read m before) (λ start one. into (many begins_suffix suffix_read m one) (λ suffixes left. Some (record { node = 0; place = place_at before; base = start; suffixes = suffixes }, left)))
+    into (base_read m before) (λ start one. into (many begins_suffix suffix_read m one) (λ suffixes left. Some (record { place = place_at before; base = start; suffixes = suffixes }, left)))
 
-pub type_once : {before after : List Placed} {tree : TypeTree} → DerivesType before after tree → starts is_less after ≡ false → begins_suffix after ≡ false → Comes (λ m. type_read m before) (bare_type tree) after
+pub type_once : {before after : List Placed} {tree : TypeTree} → DerivesType before after tree → starts is_less after ≡ false → begins_suffix after ≡ false → Comes (λ m. type_read m before) tree after
 unfolding type_read
 type_once {before} (type_of s b ss) less closed =
     then_reads _ (base_once b (no_less_behind ss less)) (rw (stands before (base_here b) s) (then_reads _ (suffixes_once ss closed) (at_once refl)))

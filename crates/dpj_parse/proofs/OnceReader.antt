@@ -1,6 +1,6 @@
 -- A reader goes through terminals with as many steps as it is given, and leaves no choice. What derivations say is
 -- what it reads, given enough steps: so two derivations say the same. Nothing is said here of what isn't derived.
-use Rattle.std.proofs.Common.{◌≡◌, ℕ, zero, suc, ◌+◌, ◌≤◌, ◌⊎◌, inl, inr, List, [], ◌∷◌, map, Bool, true, false, cond, ◌||◌, Option, Some, None, refl, sym, ap, arith}
+use Rattle.std.proofs.Common.{◌≡◌, ℕ, zero, suc, ◌+◌, ◌≤◌, ◌⊎◌, inl, inr, List, [], ◌∷◌, Bool, true, false, cond, ◌||◌, Option, Some, None, refl, sym, ap, arith}
 use Rattle.dpj_base.specs.declared.place.Place.{Place}
 use Rattle.dpj_tokens.specs.declared.token.Symbol.{Symbol}
 use Rattle.dpj_terminals.specs.declared.terminal.Placed.{Placed}
@@ -112,16 +112,16 @@ pub many_first : {A : Type 0} {Derives : List Placed → List Placed → A → T
 many_first P first none p = p
 many_first P first {before} (some {one = here} {item = item} d ds) p = first before here item d
 
-pub many_read : {A B : Type 0} {Derives : List Placed → List Placed → A → Type 0} (goes_on : List Placed → Bool) (bare : A → B) (begins : List Placed → Bool) (one : ℕ → List Placed → Out B) →
-    ((before after : List Placed) (item : A) → Derives before after item → goes_on after ≡ false → Comes (λ m. one m before) (bare item) after) →
+pub many_read : {A : Type 0} {Derives : List Placed → List Placed → A → Type 0} (goes_on : List Placed → Bool) (begins : List Placed → Bool) (one : ℕ → List Placed → Out A) →
+    ((before after : List Placed) (item : A) → Derives before after item → goes_on after ≡ false → Comes (λ m. one m before) item after) →
     ((before after : List Placed) (item : A) → Derives before after item → (begins before ≡ true) × (goes_on before ≡ false)) →
     {before after : List Placed} {items : List A} → Many Derives before after items → begins after ≡ false → goes_on after ≡ false →
-    Comes (λ m. many begins one m before) (map bare items) after
+    Comes (λ m. many begins one m before) items after
 unfolding many
-many_read goes_on bare begins one each first {before} none ends closed = later (λ m. many begins one m before) (off _ ends (at_once refl))
-many_read goes_on bare begins one each first {before} {after} {items} (some {one = here} {item = item} d ds) ends closed =
+many_read goes_on begins one each first {before} none ends closed = later (λ m. many begins one m before) (off _ ends (at_once refl))
+many_read goes_on begins one each first {before} {after} {items} (some {one = here} {item = item} d ds) ends closed =
     later (λ m. many begins one m before) (on _ (first before here item d).0 (then_reads _ (each before here item d (many_first (λ here'. goes_on here' ≡ false) (λ b a i d'. (first b a i d').1) ds closed))
-    (then_reads _ (many_read goes_on bare begins one each first ds ends closed) (at_once refl))))
+    (then_reads _ (many_read goes_on begins one each first ds ends closed) (at_once refl))))
 
 -- X { "," X }
 abbrev pub is_comma : Terminal → Bool
@@ -138,14 +138,14 @@ pub listed_first : {A : Type 0} {Derives : List Placed → List Placed → A →
 listed_first P first {before} {after} (last {item = item} d) = first before after item d
 listed_first P first {before} (more {one = here} {item = item} d t ds) = first before here item d
 
-pub listed_read : {A B : Type 0} {Derives : List Placed → List Placed → A → Type 0} (goes_on : List Placed → Bool) (bare : A → B) (one : ℕ → List Placed → Out B) →
-    ((before after : List Placed) (item : A) → Derives before after item → goes_on after ≡ false → Comes (λ m. one m before) (bare item) after) →
+pub listed_read : {A : Type 0} {Derives : List Placed → List Placed → A → Type 0} (goes_on : List Placed → Bool) (one : ℕ → List Placed → Out A) →
+    ((before after : List Placed) (item : A) → Derives before after item → goes_on after ≡ false → Comes (λ m. one m before) item after) →
     ((place : Place) (after : List Placed) → goes_on (record { terminal = terminal.Symbol Symbol.Comma; place = place } ∷ after) ≡ false) →
     {before after : List Placed} {items : List A} → Listed Derives before after items → starts is_comma after ≡ false → goes_on after ≡ false →
-    Comes (λ m. listed one m before) (map bare items) after
+    Comes (λ m. listed one m before) items after
 unfolding listed
-listed_read goes_on bare one each comma {before} {after} (last {item = item} d) ends closed =
+listed_read goes_on one each comma {before} {after} (last {item = item} d) ends closed =
     later (λ m. listed one m before) (then_reads _ (each before after item d closed) (off _ ends (at_once refl)))
-listed_read goes_on bare one each comma {before} {after} (more {one = here} {two = two} {item = item} {comma = at} d t ds) ends closed =
+listed_read goes_on one each comma {before} {after} (more {one = here} {two = two} {item = item} {comma = at} d t ds) ends closed =
     later (λ m. listed one m before) (then_reads _ (each before here item d (rw t.first (comma at two)))
-    (rw t.first (then_reads _ (listed_read goes_on bare one each comma ds ends closed) (at_once refl))))
+    (rw t.first (then_reads _ (listed_read goes_on one each comma ds ends closed) (at_once refl))))

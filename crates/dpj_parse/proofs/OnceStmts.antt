@@ -1,5 +1,5 @@
 -- Statements are read in one way.
-use Rattle.std.proofs.Common.{◌≡◌, ℕ, zero, suc, List, [], ◌∷◌, map, map-id, ◌⊎◌, inl, inr, Bool, true, false, cond, ◌&&◌, ◌||◌, Some, None, refl, ap}
+use Rattle.std.proofs.Common.{◌≡◌, ℕ, zero, suc, List, [], ◌∷◌, ◌⊎◌, inl, inr, Bool, true, false, cond, ◌&&◌, ◌||◌, Some, None, refl, ap}
 use Rattle.dpj_base.specs.declared.place.Place.{Place}
 use Rattle.dpj_tokens.specs.declared.token.Symbol.{Symbol}
 use Rattle.dpj_tokens.specs.declared.token.Keyword.{Keyword}
@@ -15,7 +15,6 @@ use Rattle.dpj_parse.specs.Paths.{no_args, args}
 use Rattle.dpj_parse.specs.Types.{DerivesBase, DerivesSuffix, suffix, DerivesType, type_of}
 use Rattle.dpj_parse.specs.Expressions.{Ending, as_field, as_element, DerivesPostfix, primary, behind_dot, called, indexed, DerivesPrimary, number, yes, no, nothing, receiver, name, parenthesised, creation}
 use Rattle.dpj_parse.specs.Statements.{DerivesFinal, not_final, final, DerivesCondition, condition, DerivesValue, value, DerivesRange, range, DerivesBlock, braces, DerivesStmts, DerivesStmt, at_first, declaration, local_assignment, field_assignment, element_assignment, performed, DerivesForm, blocked, if_alone, if_else, turning, bare_return, return_with, printed, printed_text, branching, spreading, parting, in_one, new_regions}
-use Rattle.dpj_parse.specs.Unnumbered.{bare_type, bare_expr, bare_form, bare_stmt, bare_stmt_form, bare_stmts}
 use Rattle.dpj_parse.proofs.OnceReader.{Out, into, Comes, at_once, then_reads, later, on, off, starts, tail, not_next, place_at, stands, named, is_comma, listed, listed_read}
 use Rattle.dpj_parse.proofs.OncePaths.{is_less, is_close_bracket, begins_suffix, nothing_goes_on, type_read, type_once}
 use Rattle.dpj_parse.proofs.OnceExprs.{readers, ends_at}
@@ -83,14 +82,14 @@ declares before = starts is_type_word before || (starts is_name before && names_
 condition_read : ℕ → List Placed → Out PlainExpr
 condition_read m before = into ((readers m).level 0 (tail before)) (λ test two. Some (test, tail two))
 
-condition_once : {before after : List Placed} {test : PlainExpr} → DerivesCondition before after test → Comes (λ m. condition_read m before) (bare_expr test) after
+condition_once : {before after : List Placed} {test : PlainExpr} → DerivesCondition before after test → Comes (λ m. condition_read m before) test after
 unfolding condition_read
 condition_once (condition o d c) = rw o.first (then_reads _ (expr_once d (ends_at c refl refl)) (rw c.first (at_once refl)))
 
 value_read : ℕ → List Placed → Out PlainExpr
 value_read m before = into ((readers m).level 0 before) (λ e one. Some (e, tail one))
 
-value_once : {before after : List Placed} {e : PlainExpr} → DerivesValue before after e → Comes (λ m. value_read m before) (bare_expr e) after
+value_once : {before after : List Placed} {e : PlainExpr} → DerivesValue before after e → Comes (λ m. value_read m before) e after
 unfolding value_read
 value_once (value d c) = then_reads _ (expr_once d (ends_at c refl refl)) (rw c.first (at_once refl))
 
@@ -98,16 +97,13 @@ range_read : ℕ → List Placed → Out (Named × PlainExpr × PlainExpr)
 range_read m before =
     into (named (tail before)) (λ var two. into ((readers m).level 0 (tail two)) (λ first four. into ((readers m).level 0 (tail four)) (λ second six. Some ((var, first, second), tail six))))
 
-range_once : {before after : List Placed} {var : Named} {first second : PlainExpr} → DerivesRange before after var first second → Comes (λ m. range_read m before) (var, bare_expr first, bare_expr second) after
+range_once : {before after : List Placed} {var : Named} {first second : PlainExpr} → DerivesRange before after var first second → Comes (λ m. range_read m before) (var, first, second) after
 unfolding range_read
 range_once (range int n is_in d comma e c) =
     rw int.first (rw n.first (rw is_in.first (then_reads _ (expr_once d (ends_at comma refl refl)) (rw comma.first (then_reads _ (expr_once e (ends_at c refl refl)) (rw c.first (at_once refl)))))))
 
 pub names_once : {before after : List Placed} {names : List Named} → Listed TakesName before after names → starts is_comma after ≡ false → Comes (λ m. listed (λ k. named) m before) names after
-names_once {before} {after} {names} d closed =
-    let c : Comes (λ m. listed (λ k. named) m before) (map (λ (n : Named). n) names) after =
-    listed_read nothing_goes_on (λ n. n) (λ k. named) (λ b a n t h. at_once (rw t.first refl)) (λ place rest. refl) d closed refl in
-    rw map-id at c
+names_once d closed = listed_read nothing_goes_on (λ k. named) (λ b a n t h. at_once (rw t.first refl)) (λ place rest. refl) d closed refl
 
 abbrev final_read : List Placed → Out Bool
 final_read before = cond (starts is_final before) (Some (true, tail before)) (Some (false, before))
@@ -115,16 +111,16 @@ final_read before = cond (starts is_final before) (Some (true, tail before)) (So
 declared_read : ℕ → List Placed → Out PlainStmt
 declared_read m before =
     into (final_read before) (λ is_final one. into (type_read m one) (λ ty two. into (named two) (λ name three. into (value_read m (tail three)) (λ value left.
-    Some (statement 0 name.place (declare is_final ty name.name value), left)))))
+    Some (statement name.place (declare is_final ty name.name value), left)))))
 
 -- what is assigned to, or performed
 abbrev assigned : Place → PlainExpr → PlainExpr → PlainStmt
-assigned place (expression node at (local id)) given = statement 0 place (assign_local (record { name = id; place = at }) given)
-assigned place (expression node at (field of id)) given = statement 0 place (assign_field (expression node at (field of id)) given)
-assigned place target given = statement 0 place (assign_element target given)
+assigned place (expression at (local id)) given = statement place (assign_local (record { name = id; place = at }) given)
+assigned place (expression at (field of id)) given = statement place (assign_field (expression at (field of id)) given)
+assigned place target given = statement place (assign_element target given)
 
 abbrev does : PlainExpr → PlainStmt
-does (expression node place form) = statement 0 place (perform (expression node place form))
+does (expression place form) = statement place (perform (expression place form))
 
 assigned_read : ℕ → List Placed → Out PlainStmt
 assigned_read m before =
@@ -179,7 +175,7 @@ readers_of zero = record { stmts = λ before. None; stmt = λ before. None }
 readers_of (suc m) = record {
   stmts = λ before. cond (starts is_close_brace before) (Some (no_stmts, before)) (into ((readers_of m).stmt before) (λ s one. into ((readers_of m).stmts one) (λ ss left. Some (more_stmts s ss, left))));
   stmt = λ before.
-      cond (starts is_form before) (into (form_by m (readers_of m) before) (λ form left. Some (statement 0 (place_at before) form, left)))
+      cond (starts is_form before) (into (form_by m (readers_of m) before) (λ form left. Some (statement (place_at before) form, left)))
       (cond (declares before) (declared_read m before) (assigned_read m before));
 }
 
@@ -298,7 +294,7 @@ final_once (final t) d = rw t.first refl
 
 declared_once : {before one two three four after : List Placed} {is_final_one : Bool} {ty : TypeTree} {named : Named} {given : PlainExpr} {equals_at : Place} →
     DerivesFinal before one is_final_one → DerivesType one two ty → TakesName two three named → Takes (terminal.Symbol Symbol.Assign) three four equals_at → DerivesValue four after given →
-    Comes (λ m. declared_read m before) (statement 0 named.place (declare is_final_one (bare_type ty) named.name (bare_expr given))) after
+    Comes (λ m. declared_read m before) (statement named.place (declare is_final_one ty named.name given)) after
 unfolding declared_read
 declared_once f d n t v =
     then_reads _ (at_once (final_once f d)) (then_reads _ (type_once d (rw n.first refl) (rw n.first refl)) (rw n.first (rw t.first (then_reads _ (value_once v) (at_once refl)))))
@@ -315,21 +311,21 @@ primary_no_target (parenthesised o l c) = elim [ inl e ↦ cc | inr e ↦ cc ]
 primary_no_target (creation t n r a) = elim [ inl e ↦ cc | inr e ↦ cc ]
 
 field_target : {ending : Ending} {before after : List Placed} {e : PlainExpr} (place : Place) (given : PlainExpr) → DerivesPostfix ending before after e → ending ≡ as_field →
-    assigned place (bare_expr e) given ≡ statement 0 place (assign_field (bare_expr e) given)
+    assigned place e given ≡ statement place (assign_field e given)
 field_target place given (primary d) e = absurd (primary_no_target d (inl e))
 field_target place given (behind_dot d dot n) e = refl
 field_target place given (called d dot r n a) e = cc
 field_target place given (indexed d o l c) e = cc
 
 element_target : {ending : Ending} {before after : List Placed} {e : PlainExpr} (place : Place) (given : PlainExpr) → DerivesPostfix ending before after e → ending ≡ as_element →
-    assigned place (bare_expr e) given ≡ statement 0 place (assign_element (bare_expr e) given)
+    assigned place e given ≡ statement place (assign_element e given)
 element_target place given (primary d) e = absurd (primary_no_target d (inr e))
 element_target place given (behind_dot d dot n) e = cc
 element_target place given (called d dot r n a) e = cc
 element_target place given (indexed d o l c) e = refl
 
 assigned_once : {ending : Ending} {before one two after : List Placed} {target given : PlainExpr} {place : Place} {s : PlainStmt} →
-    DerivesPostfix ending before one target → Takes (terminal.Symbol Symbol.Assign) one two place → DerivesValue two after given → assigned place (bare_expr target) (bare_expr given) ≡ s →
+    DerivesPostfix ending before one target → Takes (terminal.Symbol Symbol.Assign) one two place → DerivesValue two after given → assigned place target given ≡ s →
     Comes (λ m. (readers_of m).stmt before) s after
 unfolding readers_of assigned_read
 assigned_once {before = before} {after = after} d t v is =
@@ -337,9 +333,9 @@ assigned_once {before = before} {after = after} d t v is =
     (off _ (expr_begins_not is_form expr_no_form before (postfix_begins d)) (off _ (postfix_declares d (rw t.first refl))
     (then_reads _ (selected_once d (rw t.first refl)) (rw t.first (then_reads _ (value_once v) (at_once (ap (λ (x : PlainStmt). Some (x, after)) is)))))))
 
-performed_once : {ending : Ending} {before one after : List Placed} {inner : ℕ} {form : ExprForm} {place ends_at : Place} →
-    DerivesPostfix ending before one (expression inner place form) → Takes (terminal.Symbol Symbol.Semicolon) one after ends_at →
-    Comes (λ m. (readers_of m).stmt before) (statement 0 place (perform (expression 0 place (bare_form form)))) after
+performed_once : {ending : Ending} {before one after : List Placed} {form : ExprForm} {place ends_at : Place} →
+    DerivesPostfix ending before one (expression place form) → Takes (terminal.Symbol Symbol.Semicolon) one after ends_at →
+    Comes (λ m. (readers_of m).stmt before) (statement place (perform (expression place form))) after
 unfolding readers_of assigned_read
 performed_once {before = before} d t =
     later (λ m. (readers_of m).stmt before)
@@ -349,25 +345,25 @@ performed_once {before = before} d t =
 mutual
   unfolding readers_of
 
-  braces_once : {before after : List Placed} {all : PlainStmts} → DerivesBlock before after all → Comes (λ m. block_by (readers_of m) before) (bare_stmts all) after
+  braces_once : {before after : List Placed} {all : PlainStmts} → DerivesBlock before after all → Comes (λ m. block_by (readers_of m) before) all after
   braces_once (braces o ss c) = rw o.first (then_reads _ (stmts_once ss (rw c.first refl)) (rw c.first (at_once refl)))
 
-  stmts_once : {before after : List Placed} {all : PlainStmts} → DerivesStmts before after all → starts is_close_brace after ≡ true → Comes (λ m. (readers_of m).stmts before) (bare_stmts all) after
+  stmts_once : {before after : List Placed} {all : PlainStmts} → DerivesStmts before after all → starts is_close_brace after ≡ true → Comes (λ m. (readers_of m).stmts before) all after
   stmts_once {before} DerivesStmts.none closed = later (λ m. (readers_of m).stmts before) (on _ closed (at_once refl))
   stmts_once {before} (DerivesStmts.some d ds) closed =
       later (λ m. (readers_of m).stmts before) (off _ (stmt_not_brace d) (then_reads _ (stmt_once d) (then_reads _ (stmts_once ds closed) (at_once refl))))
 
-  stmt_once : {before after : List Placed} {s : PlainStmt} → DerivesStmt before after s → Comes (λ m. (readers_of m).stmt before) (bare_stmt s) after
+  stmt_once : {before after : List Placed} {s : PlainStmt} → DerivesStmt before after s → Comes (λ m. (readers_of m).stmt before) s after
   stmt_once {before} (at_first s f) =
       later (λ m. (readers_of m).stmt before) (on _ (form_starts f) (rw (stands before (starts_here is_form before (form_starts f)) s) (then_reads _ (form_once f) (at_once refl))))
   stmt_once {before} (declaration f d n t v) =
       later (λ m. (readers_of m).stmt before) (off _ (declaration_starts f d n).0 (on _ (declaration_starts f d n).1 (declared_once f d n t v)))
-  stmt_once (local_assignment n t v) = assigned_once (primary (name {node = 0} n)) t v refl
-  stmt_once (field_assignment {value = given} {place = place} d t v) = assigned_once d t v (field_target place (bare_expr given) d refl)
-  stmt_once (element_assignment {value = given} {place = place} d t v) = assigned_once d t v (element_target place (bare_expr given) d refl)
+  stmt_once (local_assignment n t v) = assigned_once (primary (name n)) t v refl
+  stmt_once (field_assignment {value = given} {place = place} d t v) = assigned_once d t v (field_target place given d refl)
+  stmt_once (element_assignment {value = given} {place = place} d t v) = assigned_once d t v (element_target place given d refl)
   stmt_once (performed p d t) = performed_once d t
 
-  form_once : {before after : List Placed} {form : StmtForm} → DerivesForm before after form → Comes (λ m. form_by m (readers_of m) before) (bare_stmt_form form) after
+  form_once : {before after : List Placed} {form : StmtForm} → DerivesForm before after form → Comes (λ m. form_by m (readers_of m) before) form after
   form_once (blocked (braces o ss c)) = rw o.first (then_reads _ (stmts_once ss (rw c.first refl)) (rw c.first (at_once refl)))
   form_once {after = after} (if_alone t c s n) =
       rw t.first (then_reads _ (condition_once c) (then_reads _ (stmt_once s) (off _ (not_next after is_else n else_or_not) (at_once refl))))
@@ -389,6 +385,6 @@ mutual
 pub block_read : ℕ → List Placed → Out PlainStmts
 block_read m before = block_by (readers_of m) before
 
-pub block_once : {before after : List Placed} {all : PlainStmts} → DerivesBlock before after all → Comes (λ m. block_read m before) (bare_stmts all) after
+pub block_once : {before after : List Placed} {all : PlainStmts} → DerivesBlock before after all → Comes (λ m. block_read m before) all after
 unfolding block_read
 block_once d = braces_once d

@@ -1,5 +1,5 @@
 -- Tokens say one list of terminals, since the names of a text are distinct.
-use Rattle.std.proofs.Common.{◌≡◌, ◌∙◌, ℕ, zero, suc, List, [], ◌∷◌, ◌++◌, map, length, ◌⊎◌, inl, inr, Bool, true, false, cond, Some, slice_get, pos, refl, sym, ap, subst}
+use Rattle.std.proofs.Common.{◌≡◌, ◌∙◌, ℕ, zero, suc, List, [], ◌∷◌, ◌++◌, length, ◌⊎◌, inl, inr, Bool, true, false, cond, Some, slice_get, pos, refl, sym, ap, subst}
 use Rattle.std.specs.List.{list_any}
 use Rattle.std.specs.Str.{bytes_eq}
 use Rattle.std.proofs.lemmas.Slice.Eq.{bytes_eq-Decides}
@@ -14,10 +14,10 @@ use Rattle.dpj_terminals.specs.declared.terminal.Placed.{Placed}
 use Rattle.dpj_terminals.specs.declared.terminal.Terminal.{Terminal}
 use Rattle.dpj_terminals.specs.declared.terminal.Terminal.TheVariants as terminal
 use Rattle.dpj_terminals.specs.Says.{with_token, names_with, distinct_names, token_text, unescaped_bytes, inside_of, Means, MeanAll}
+use Rattle.dpj_tree.specs.declared.class.Class.{Class}
 use Rattle.dpj_tree.specs.declared.class.Program.{Program}
 use Rattle.dpj_parse.specs.Classes.{DerivesProgram}
 use Rattle.dpj_parse.specs.Program.{IsProgram}
-use Rattle.dpj_parse.specs.Unnumbered.{bare_class}
 use Rattle.dpj_parse.proofs.OnceReader.{or_left, or_right}
 use Rattle.dpj_parse.proofs.OnceClasses.{one_program}
 
@@ -107,11 +107,13 @@ mean_all_once names d bytes (token ∷ tokens) (a ∷ left) (b ∷ right) l r =
     same_first a b left right (means_once names d token.kind (token_text bytes token) a.terminal b.terminal l.1 r.1) (l.0 ∙ sym r.0) (mean_all_once names d bytes tokens left right l.2 r.2)
 
 pub text_once : (bytes : List ℕ) (tokens : List Token) (left right : Program) → IsProgram bytes tokens left → IsProgram bytes tokens right →
-    (left.names ≡ right.names) × (map bare_class left.classes ≡ map bare_class right.classes)
+    left ≡ right
 text_once bytes tokens left right l r =
     let names = distinct_names bytes tokens in
     let distinct = all_distinct bytes [] tokens (record { once = λ i j text a b. absurd cc }) in
     let said = subst (λ (n : List (List ℕ)). MeanAll n bytes tokens l.list) l.names l.said in
     let said_too = subst (λ (n : List (List ℕ)). MeanAll n bytes tokens r.list) r.names r.said in
     let same = mean_all_once names distinct bytes tokens l.list r.list said said_too in
-    (l.names ∙ sym r.names, one_program r.list left.classes right.classes (subst (λ (list : List Placed). DerivesProgram list left.classes) same l.derived) r.derived)
+    let names_same : left.names ≡ right.names = l.names ∙ sym r.names in
+    let classes_same : left.classes ≡ right.classes = one_program r.list left.classes right.classes (subst (λ (list : List Placed). DerivesProgram list left.classes) same l.derived) r.derived in
+    ap (λ (n : List (List ℕ)). record { classes = left.classes; names = n }) names_same ∙ ap (λ (c : List Class). record { classes = c; names = right.names }) classes_same

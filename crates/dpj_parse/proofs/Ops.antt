@@ -41,15 +41,15 @@ pub record Grouped (least most : ℕ) (before after : List Placed) (e : PlainExp
 pub grouped_unary : {before after : List Placed} {e : PlainExpr} (least most : ℕ) → DerivesUnary before after e → Grouped least most before after e
 grouped_unary least most d = record { whole = operand d; left = λ op h. operand d }
 
-pub grouped_operation : {least most behind node bound : ℕ} {op : BinaryOp} {before one two three after : List Placed} {left right e : PlainExpr} {place : Place} →
+pub grouped_operation : {least most behind bound : ℕ} {op : BinaryOp} {before one two after : List Placed} {left right e : PlainExpr} {place : Place} →
     Grouped least most before one left → least ≤ level_of op → level_of op ≤ most →
-    TakesSymbol (symbol_of op) one two place → bound ≡ level_of op → DerivesLevel (bound + 1) two three right →
+    TakesSymbol (symbol_of op) one two place → bound ≡ level_of op → DerivesLevel (bound + 1) two after right →
     ((next : BinaryOp) → level_of next ≤ behind → left_level next ≤ level_of op) →
-    e ≡ expression node place (binary op left right) → after ≡ three → Grouped least behind before after e
-grouped_operation {bound = bound} {op = op} {two = two} {three = three} {right = right} grouped low high takes binds d tight is rest =
+    e ≡ expression place (binary op left right) → Grouped least behind before after e
+grouped_operation {bound = bound} {op = op} {two = two} {after = after} {right = right} grouped low high takes binds d tight is =
     let higher : suc (level_of op) ≡ bound + 1 = sym (add-one bound ∙ ap suc binds) in
-    let r : DerivesLevel (suc (level_of op)) two three right = rw higher d in
-    rw (is, rest) (record {
+    let r : DerivesLevel (suc (level_of op)) two after right = rw higher d in
+    rw is (record {
       whole = operation low (grouped.left op high) takes r;
       left = λ next h. operation (tight next h) (grouped.left op high) takes r;
     })

@@ -1,5 +1,5 @@
 -- What every program that is derived by the grammar is.
-use Rattle.std.proofs.Common.{◌≡◌, ◌∙◌, ℕ, suc, ◌<◌, ◌≤◌, List, [], ◌∷◌, ◌++◌, length, All, refl, ap, sym, subst, arith, length-append}
+use Rattle.std.proofs.Common.{◌≡◌, ◌∙◌, ℕ, suc, ◌<◌, ◌≤◌, List, [], ◌∷◌, length, All, refl, ap, sym, subst, arith}
 use Rattle.std.proofs.lemmas.List.{append-nil}
 use Rattle.std.specs.List.{flat_map, IsDistinct}
 use Rattle.std.specs.Str.{bytes_eq}
@@ -16,12 +16,14 @@ use Rattle.dpj_terminals.specs.Says.{token_text, Means, MeanAll}
 use Rattle.dpj_terminals.proofs.Order.{order-count}
 use Rattle.dpj_tree.specs.declared.class.Class.{Class}
 use Rattle.dpj_tree.specs.declared.class.Program.{Program}
-use Rattle.dpj_tree.specs.Names.{params_names, parent_names, member_names, class_names, program_names}
+use Rattle.dpj_tree.specs.Names.{class_names, program_names}
+use Rattle.dpj_tree.specs.Size.{program_size}
 use Rattle.dpj_tree.specs.Shaped.{MemberHasTargets}
 use Rattle.dpj_parse.specs.Classes.{DerivesProgram}
 use Rattle.dpj_parse.specs.Program.{IsProgram}
 use Rattle.dpj_parse.proofs.Distinct.{all_distinct}
 use Rattle.dpj_parse.proofs.Held.{name_said, names_said, program_held}
+use Rattle.dpj_parse.proofs.Sized.{program_paid}
 use Rattle.dpj_parse.proofs.Targeted.{program_targets}
 
 -- a name that a terminal says is a position among the names
@@ -48,24 +50,6 @@ all_below names bytes (token ∷ tokens) (said ∷ list) (place, means, all) =
 said_in : {list : List Placed} {classes : List Class} → DerivesProgram list classes → names_said list ≡ flat_map class_names classes
 said_in d = (program_held d).is ∙ append-nil _
 
--- each class has a name
-few_classes : (classes : List Class) → length classes ≤ length (flat_map class_names classes)
-few_classes [] = omega arith
-few_classes (class ∷ classes) =
-    let others = params_names class.params ++ parent_names class.parent ++ flat_map member_names class.members in
-    omega (arith, few_classes classes, length-append others (flat_map class_names classes))
-
-one_name : (said : Terminal) → length (name_said said) ≤ 1
-one_name (terminal.Name name) = omega arith
-one_name (terminal.Int n) = omega arith
-one_name (terminal.Text text) = omega arith
-one_name (terminal.Symbol symbol) = omega arith
-one_name (terminal.Keyword keyword) = omega arith
-
-few_names : (list : List Placed) → length (names_said list) ≤ length list
-few_names [] = omega arith
-few_names (said ∷ list) = omega (arith, few_names list, one_name said.terminal, length-append (name_said said.terminal) (names_said list))
-
 each_said : (names : List (List ℕ)) (bytes : List ℕ) (tokens : List Token) (list : List Placed) → MeanAll names bytes tokens list → length list ≡ length tokens
 each_said names bytes [] [] all = refl
 each_said names bytes [] (said ∷ list) all = absurd all
@@ -82,8 +66,7 @@ distinct_in {bytes} {tokens} p = subst (λ names. IsDistinct bytes_eq names) (sy
 pub targets_in : {bytes : List ℕ} {tokens : List Token} {program : Program} → IsProgram bytes tokens program → All (λ class. All MemberHasTargets class.members) program.classes
 targets_in p = program_targets p.derived
 
--- each class takes a name of the text, which has no more than bytes
-pub few_in : {bytes : List ℕ} {tokens : List Token} {program : Program} → StandInOrder bytes 0 tokens → IsProgram bytes tokens program → length program.classes ≤ length bytes
-few_in {bytes} {tokens} {program} stand p =
-    let said : length (flat_map class_names program.classes) ≤ length p.list = subst (λ names. length names ≤ length p.list) (said_in p.derived) (few_names p.list) in
-    omega (arith, few_classes program.classes, each_said program.names bytes tokens p.list p.said, order-count bytes 0 tokens (omega arith) stand)
+-- each node takes a token of the text, which has no more of them than bytes
+pub sized_in : {bytes : List ℕ} {tokens : List Token} {program : Program} → StandInOrder bytes 0 tokens → IsProgram bytes tokens program → program_size program ≤ length bytes
+sized_in {bytes} {tokens} {program} stand p =
+    omega (arith, program_paid p.derived, each_said program.names bytes tokens p.list p.said, order-count bytes 0 tokens (omega arith) stand)

@@ -36,9 +36,9 @@ takes_none false takes is = takes
 stands : {wanted : Terminal} {before after : List Placed} {place : Place} → Takes wanted before after place → StandsAt before place
 stands takes = record { first = λ next after is. cc (takes.first, is) }
 
-pub stmt_form : {before after behind : List Placed} {form : StmtForm} {s : PlainStmt} {node : ℕ} {place : Place} →
-    StandsAt before place → DerivesForm before after form → s ≡ statement node place form → behind ≡ after → DerivesStmt before behind s
-stmt_form at d is rest = rw (is, rest) (DerivesStmt.at_first at d)
+pub stmt_form : {before after : List Placed} {form : StmtForm} {s : PlainStmt} {place : Place} →
+    StandsAt before place → DerivesForm before after form → s ≡ statement place form → DerivesStmt before after s
+stmt_form at d is = rw is (DerivesStmt.at_first at d)
 
 pub stmt_stays : (old new : Cursor) {after : List Placed} {s : PlainStmt} → new ≡ old → DerivesStmt new.rest.now after s → DerivesStmt old.rest.now after s
 stmt_stays old new is d = rw is at d
@@ -118,18 +118,18 @@ pub made_range : {before one two three four five six after : List Placed} {var :
     DerivesRange before after var first second
 made_range int name in_word first comma second close = DerivesRange.range int name in_word first comma second close.takes
 
-pub return_alone : {found : Bool} {before one after behind : List Placed} {s : PlainStmt} {node : ℕ} {place : Place} →
+pub return_alone : {found : Bool} {before one after : List Placed} {s : PlainStmt} {place : Place} →
     TakesKeyword Keyword.Return before one place → TakesIf (terminal.Symbol Symbol.Semicolon) found one after → found ≡ true →
-    s ≡ statement node place (plain_stmt_kind (kind.Return None)) → behind ≡ after → DerivesStmt before behind s
-return_alone {found = found} takes semicolon found_it is rest =
-    rw (is, kind_Return_nothing, rest) (DerivesStmt.at_first (stands takes) (DerivesForm.bare_return takes (takes_found found semicolon found_it).takes))
+    s ≡ statement place (plain_stmt_kind (kind.Return None)) → DerivesStmt before after s
+return_alone {found = found} takes semicolon found_it is =
+    rw (is, kind_Return_nothing) (DerivesStmt.at_first (stands takes) (DerivesForm.bare_return takes (takes_found found semicolon found_it).takes))
 
-pub return_with : (value : Expr) {found : Bool} {before one two after behind : List Placed} {s : PlainStmt} {node : ℕ} {place : Place} →
+pub return_with : (value : Expr) {found : Bool} {before one two after : List Placed} {s : PlainStmt} {place : Place} →
     TakesKeyword Keyword.Return before one place → TakesIf (terminal.Symbol Symbol.Semicolon) found one two → found ≡ false → DerivesValue two after (plain_expr value) →
-    s ≡ statement node place (plain_stmt_kind (kind.Return (Some value))) → behind ≡ after → DerivesStmt before behind s
-return_with value {found = found} {one = one} {after = after} takes semicolon none d is rest =
+    s ≡ statement place (plain_stmt_kind (kind.Return (Some value))) → DerivesStmt before after s
+return_with value {found = found} {one = one} {after = after} takes semicolon none d is =
     let here : DerivesValue one after (plain_expr value) = rw (takes_none found semicolon none).1 at d in
-    rw (is, kind_Return_value value, rest) (DerivesStmt.at_first (stands takes) (DerivesForm.return_with takes here))
+    rw (is, kind_Return_value value) (DerivesStmt.at_first (stands takes) (DerivesForm.return_with takes here))
 
 pub shown_value : (value : Expr) {before after : List Placed} → DerivesExpr before after (plain_expr value) → DerivesPrinted before after (plain_stmt_kind (kind.Print value))
 shown_value value d = rw (kind_Print value) (DerivesPrinted.value d)
@@ -138,35 +138,35 @@ pub shown_text : (text bytes : List ℕ) {before after : List Placed} {place : P
     Next (terminal.Text text) before → TakesNext before after place → bytes ≡ text → DerivesPrinted before after (plain_stmt_kind (kind.PrintText bytes))
 shown_text text bytes next takes same = rw (kind_PrintText bytes, same) (DerivesPrinted.text (next-takes takes next))
 
-pub made_print : {before one two three four after behind : List Placed} {form : StmtForm} {s : PlainStmt} {node : ℕ} {place open_at ends_at : Place} →
+pub made_print : {before one two three four after : List Placed} {form : StmtForm} {s : PlainStmt} {place open_at ends_at : Place} →
     TakesKeyword Keyword.Print before one place → TakesSymbol Symbol.OpenParen one two open_at → DerivesPrinted two three form →
     TakesOne (terminal.Symbol Symbol.CloseParen) three four → TakesSymbol Symbol.Semicolon four after ends_at →
-    s ≡ statement node place form → behind ≡ after → DerivesStmt before behind s
-made_print takes start (DerivesPrinted.value d) close semicolon is rest =
-    rw (is, rest) (DerivesStmt.at_first (stands takes) (DerivesForm.printed takes (DerivesCondition.condition start d close.takes) semicolon))
-made_print takes start (DerivesPrinted.text text) close semicolon is rest =
-    rw (is, rest) (DerivesStmt.at_first (stands takes) (DerivesForm.printed_text takes start text close.takes semicolon))
+    s ≡ statement place form → DerivesStmt before after s
+made_print takes start (DerivesPrinted.value d) close semicolon is =
+    rw is (DerivesStmt.at_first (stands takes) (DerivesForm.printed takes (DerivesCondition.condition start d close.takes) semicolon))
+made_print takes start (DerivesPrinted.text text) close semicolon is =
+    rw is (DerivesStmt.at_first (stands takes) (DerivesForm.printed_text takes start text close.takes semicolon))
 
-pub made_regions : (names : List Named) {before one two after : List Placed} {s : PlainStmt} {node : ℕ} {place ends_at : Place} →
+pub made_regions : (names : List Named) {before one two after : List Placed} {s : PlainStmt} {place ends_at : Place} →
     TakesKeyword Keyword.Region before one place → Listed TakesName one two names → TakesSymbol Symbol.Semicolon two after ends_at →
-    s ≡ statement node place (plain_stmt_kind (kind.Region names)) → {behind : List Placed} → behind ≡ after → DerivesStmt before behind s
-made_regions names takes listed semicolon is rest =
-    rw (is, kind_Region names, rest) (DerivesStmt.at_first (stands takes) (DerivesForm.new_regions takes listed semicolon))
+    s ≡ statement place (plain_stmt_kind (kind.Region names)) → DerivesStmt before after s
+made_regions names takes listed semicolon is =
+    rw (is, kind_Region names) (DerivesStmt.at_first (stands takes) (DerivesForm.new_regions takes listed semicolon))
 
 final_if : (found : Bool) {before after : List Placed} → TakesIf (terminal.Keyword Keyword.Final) found before after → DerivesFinal before after found
 final_if true takes = DerivesFinal.final takes.takes
 final_if false none = rw none.1 DerivesFinal.not_final
 
-pub made_declaration : (is_final : Bool) (ty : TypeTree) (named : Named) (value : Expr) {before one two three four after behind : List Placed} {s : PlainStmt} {node : ℕ} {place : Place} →
+pub made_declaration : (is_final : Bool) (ty : TypeTree) (named : Named) (value : Expr) {before one two three four after : List Placed} {s : PlainStmt} {place : Place} →
     TakesIf (terminal.Keyword Keyword.Final) is_final before one → DerivesType one two ty → TakesName two three named → TakesSymbol Symbol.Assign three four place → DerivesValue four after (plain_expr value) →
-    s ≡ statement node named.place (plain_stmt_kind (kind.Declare is_final ty named.name value)) → behind ≡ after → DerivesStmt before behind s
-made_declaration is_final ty named value final type name equals d is rest =
-    rw (is, kind_Declare is_final ty named.name value, rest) (DerivesStmt.declaration (final_if is_final final) type name equals d)
+    s ≡ statement named.place (plain_stmt_kind (kind.Declare is_final ty named.name value)) → DerivesStmt before after s
+made_declaration is_final ty named value final type name equals d is =
+    rw (is, kind_Declare is_final ty named.name value) (DerivesStmt.declaration (final_if is_final final) type name equals d)
 
-pub made_assignment : (target : Named) (value : Expr) {before one two after behind : List Placed} {s : PlainStmt} {node : ℕ} {place : Place} →
+pub made_assignment : (target : Named) (value : Expr) {before one two after : List Placed} {s : PlainStmt} {place : Place} →
     TakesName before one target → TakesSymbol Symbol.Assign one two place → DerivesValue two after (plain_expr value) →
-    s ≡ statement node place (plain_stmt_kind (kind.AssignLocal target value)) → behind ≡ after → DerivesStmt before behind s
-made_assignment target value name equals d is rest = rw (is, kind_AssignLocal target value, rest) (DerivesStmt.local_assignment name equals d)
+    s ≡ statement place (plain_stmt_kind (kind.AssignLocal target value)) → DerivesStmt before after s
+made_assignment target value name equals d is = rw (is, kind_AssignLocal target value) (DerivesStmt.local_assignment name equals d)
 
 ending_is : (target : Expr) → ending_of (plain_expr target) ≡ form_ending (plain_kind target.kind)
 ending_is target = ap ending_of (plain_node target)
@@ -183,34 +183,34 @@ call_ending target of regions name all is = ending_is target ∙ (ap (λ k. form
 new_ending : (target : Expr) (name : Named) (regions : List RplTree) (all : List Expr) → target.kind ≡ expr_kind.New name regions all → ending_of (plain_expr target) ≡ as_creation
 new_ending target name regions all is = ending_is target ∙ (ap (λ k. form_ending (plain_kind k)) is ∙ ap form_ending (kind_New name regions all))
 
-pub made_field_assignment : (target value of : Expr) (name : ℕ) {before one two after behind : List Placed} {s : PlainStmt} {node : ℕ} {place : Place} →
+pub made_field_assignment : (target value of : Expr) (name : ℕ) {before one two after : List Placed} {s : PlainStmt} {place : Place} →
     DerivesPostfix (ending_of (plain_expr target)) before one (plain_expr target) → target.kind ≡ expr_kind.Field of name → TakesSymbol Symbol.Assign one two place → DerivesValue two after (plain_expr value) →
-    s ≡ statement node place (plain_stmt_kind (kind.AssignField target value)) → behind ≡ after → DerivesStmt before behind s
-made_field_assignment target value of name {before = before} {one = one} postfix field equals d is rest =
+    s ≡ statement place (plain_stmt_kind (kind.AssignField target value)) → DerivesStmt before after s
+made_field_assignment target value of name {before = before} {one = one} postfix field equals d is =
     let left = subst (λ e. DerivesPostfix e before one (plain_expr target)) (field_ending target of name field) postfix in
-    rw (is, kind_AssignField target value, rest) (DerivesStmt.field_assignment left equals d)
+    rw (is, kind_AssignField target value) (DerivesStmt.field_assignment left equals d)
 
-pub made_element_assignment : (target value of at : Expr) {before one two after behind : List Placed} {s : PlainStmt} {node : ℕ} {place : Place} →
+pub made_element_assignment : (target value of at : Expr) {before one two after : List Placed} {s : PlainStmt} {place : Place} →
     DerivesPostfix (ending_of (plain_expr target)) before one (plain_expr target) → target.kind ≡ expr_kind.Element of at → TakesSymbol Symbol.Assign one two place → DerivesValue two after (plain_expr value) →
-    s ≡ statement node place (plain_stmt_kind (kind.AssignElement target value)) → behind ≡ after → DerivesStmt before behind s
-made_element_assignment target value of at {before = before} {one = one} postfix element equals d is rest =
+    s ≡ statement place (plain_stmt_kind (kind.AssignElement target value)) → DerivesStmt before after s
+made_element_assignment target value of at {before = before} {one = one} postfix element equals d is =
     let left = subst (λ e. DerivesPostfix e before one (plain_expr target)) (element_ending target of at element) postfix in
-    rw (is, kind_AssignElement target value, rest) (DerivesStmt.element_assignment left equals d)
+    rw (is, kind_AssignElement target value) (DerivesStmt.element_assignment left equals d)
 
-performed : (target : Expr) {before one after behind : List Placed} {s : PlainStmt} {node : ℕ} {ends_at : Place} →
+performed : (target : Expr) {before one after : List Placed} {s : PlainStmt} {ends_at : Place} →
     IsPerformed (ending_of (plain_expr target)) → DerivesPostfix (ending_of (plain_expr target)) before one (plain_expr target) → TakesSymbol Symbol.Semicolon one after ends_at →
-    s ≡ statement node target.place (plain_stmt_kind (kind.Do target)) → behind ≡ after → DerivesStmt before behind s
-performed target {before = before} {one = one} ends postfix semicolon is rest =
+    s ≡ statement target.place (plain_stmt_kind (kind.Do target)) → DerivesStmt before after s
+performed target {before = before} {one = one} ends postfix semicolon is =
     let opened = subst (λ e. DerivesPostfix (ending_of (plain_expr target)) before one e) (plain_node target) postfix in
-    let it : plain_stmt_kind (kind.Do target) ≡ perform (expression target.node target.place (plain_kind target.kind)) = kind_Do target ∙ ap perform (plain_node target) in
-    rw (is, it, rest) (DerivesStmt.performed ends opened semicolon)
+    let it : plain_stmt_kind (kind.Do target) ≡ perform (expression target.place (plain_kind target.kind)) = kind_Do target ∙ ap perform (plain_node target) in
+    rw (is, it) (DerivesStmt.performed ends opened semicolon)
 
-pub call_performed : (target of : Expr) (regions : List RplTree) (name : ℕ) (all : List Expr) {before one after behind : List Placed} {s : PlainStmt} {node : ℕ} {ends_at : Place} →
+pub call_performed : (target of : Expr) (regions : List RplTree) (name : ℕ) (all : List Expr) {before one after : List Placed} {s : PlainStmt} {ends_at : Place} →
     target.kind ≡ expr_kind.Call of regions name all → DerivesPostfix (ending_of (plain_expr target)) before one (plain_expr target) → TakesSymbol Symbol.Semicolon one after ends_at →
-    s ≡ statement node target.place (plain_stmt_kind (kind.Do target)) → behind ≡ after → DerivesStmt before behind s
-call_performed target of regions name all call postfix semicolon is rest = performed target (inl (call_ending target of regions name all call)) postfix semicolon is rest
+    s ≡ statement target.place (plain_stmt_kind (kind.Do target)) → DerivesStmt before after s
+call_performed target of regions name all call postfix semicolon is = performed target (inl (call_ending target of regions name all call)) postfix semicolon is
 
-pub new_performed : (target : Expr) (name : Named) (regions : List RplTree) (all : List Expr) {before one after behind : List Placed} {s : PlainStmt} {node : ℕ} {ends_at : Place} →
+pub new_performed : (target : Expr) (name : Named) (regions : List RplTree) (all : List Expr) {before one after : List Placed} {s : PlainStmt} {ends_at : Place} →
     target.kind ≡ expr_kind.New name regions all → DerivesPostfix (ending_of (plain_expr target)) before one (plain_expr target) → TakesSymbol Symbol.Semicolon one after ends_at →
-    s ≡ statement node target.place (plain_stmt_kind (kind.Do target)) → behind ≡ after → DerivesStmt before behind s
-new_performed target name regions all new postfix semicolon is rest = performed target (inr (new_ending target name regions all new)) postfix semicolon is rest
+    s ≡ statement target.place (plain_stmt_kind (kind.Do target)) → DerivesStmt before after s
+new_performed target name regions all new postfix semicolon is = performed target (inr (new_ending target name regions all new)) postfix semicolon is

@@ -12,7 +12,7 @@ use Rattle.dpj_tree.specs.declared.expr.ExprKind.TheVariants as kind
 use Rattle.dpj_tree.specs.Plain.{expression, int, boolean, null, this, local, field, element, call, create, create_array, unary, binary, plain_expr, plain_exprs}
 use Rattle.dpj_parse.specs.Reading.{plain_kind}
 
-pub plain_node : (e : Expr) → plain_expr e ≡ expression e.node e.place (plain_kind e.kind)
+pub plain_node : (e : Expr) → plain_expr e ≡ expression e.place (plain_kind e.kind)
 plain_node e = search (rules, the_lemmas)
 
 pub kind_Int : (n : ℤ) → plain_kind (kind.Int n) ≡ int n

@@ -1,5 +1,5 @@
 -- The grammar of a program, its classes and their members, with their trees.
-use Rattle.std.specs.Prelude.{◌⊎◌, ℕ, List, [], ◌∷◌, map, Bool, true, false, Option, Some, None}
+use Rattle.std.specs.Prelude.{◌⊎◌, List, [], ◌∷◌, map, Bool, true, false, Option, Some, None}
 use Rattle.dpj_base.specs.declared.place.Place.{Place}
 use Rattle.dpj_tokens.specs.declared.token.Symbol.{Symbol}
 use Rattle.dpj_tokens.specs.declared.token.Keyword.{Keyword}
@@ -39,9 +39,9 @@ pub data DerivesKind : List Placed → List Placed → Bool → Type 0 where
 
 -- Name, as a parameter of a kind
 pub data DerivesParam : Bool → List Placed → List Placed → ParamTree → Type 0 where
-  param : {is_atomic : Bool} {before after : List Placed} {named : Named} {node : ℕ} →
+  param : {is_atomic : Bool} {before after : List Placed} {named : Named} →
       TakesName before after named →
-      DerivesParam is_atomic before after (record { node = node; place = named.place; name = named.name; atomic = is_atomic })
+      DerivesParam is_atomic before after (record { place = named.place; name = named.name; atomic = is_atomic })
 
 -- [ Kind ], behind a parameter of a kind: a bare name has the kind of the one before it
 pub data DerivesKindOr : Bool → List Placed → List Placed → Bool → Type 0 where
@@ -82,9 +82,9 @@ pub data DerivesParams : List Placed → List Placed → Params → Type 0 where
 
 -- Type Name
 pub data DerivesFormal : List Placed → List Placed → Formal → Type 0 where
-  formal : {before one after : List Placed} {ty : TypeTree} {named : Named} {node : ℕ} →
+  formal : {before one after : List Placed} {ty : TypeTree} {named : Named} →
       DerivesType before one ty → TakesName one after named →
-      DerivesFormal before after (record { node = node; place = named.place; name = named.name; ty = ty })
+      DerivesFormal before after (record { place = named.place; name = named.name; ty = ty })
 
 -- [ Formals ], where Formals = Type Name { "," Type Name }
 pub data DerivesFormalList : List Placed → List Placed → List Formal → Type 0 where
@@ -147,15 +147,15 @@ pub data DerivesFront : List Placed → List Placed → Params → MethodResult 
 
 -- [ "in" Rpl ] ";", behind the type and the name of a field
 pub data DerivesField : TypeTree → Named → List Placed → List Placed → Member → Type 0 where
-  field : {ty : TypeTree} {named : Named} {before one after : List Placed} {region : Option RplTree} {node : ℕ} {ends_at : Place} →
+  field : {ty : TypeTree} {named : Named} {before one after : List Placed} {region : Option RplTree} {ends_at : Place} →
       DerivesIn before one region → TakesSymbol Symbol.Semicolon one after ends_at →
-      DerivesField ty named before after (member.Field (record { node = node; place = named.place; name = named.name; ty = ty; region = region }))
+      DerivesField ty named before after (member.Field (record { place = named.place; name = named.name; ty = ty; region = region }))
 
 -- "(" [ Formals ] ")" Summary Block, behind the name of a method and what stands in front of it
 pub data DerivesMethod : Params → MethodResult → Named → List Placed → List Placed → Member → Type 0 where
-  method : {params : Params} {answer : MethodResult} {named : Named} {before one two after : List Placed} {formals : List Formal} {summary : Option SummaryTree} {body : List Stmt} {node : ℕ} →
+  method : {params : Params} {answer : MethodResult} {named : Named} {before one two after : List Placed} {formals : List Formal} {summary : Option SummaryTree} {body : List Stmt} →
       DerivesFormals before one formals → DerivesSummary one two summary → DerivesBlock two after (plain_stmts (map plain_stmt body)) →
-      DerivesMethod params answer named before after (member.Method (record { node = node; place = named.place; name = named.name; params = params; result = answer; formals = formals; summary = summary; body = body }))
+      DerivesMethod params answer named before after (member.Method (record { place = named.place; name = named.name; params = params; result = answer; formals = formals; summary = summary; body = body }))
 
 -- Name "(" [ Formals ] ")" Summary Block, behind what stands in front of the name of a method
 pub data DerivesNamed : Params → MethodResult → List Placed → List Placed → Member → Type 0 where
@@ -188,9 +188,9 @@ pub data DerivesMembers : List Placed → List Placed → List Member → Type 0
 
 -- Class = "class" Name [ Params ] [ "extends" Name [ Args ] ] "{" { Member } "}"
 pub data DerivesClass : List Placed → List Placed → Class → Type 0 where
-  class : {before one two three four after : List Placed} {named : Named} {params : Params} {parent : Option Parent} {all : List Member} {node : ℕ} {at : Place} →
+  class : {before one two three four after : List Placed} {named : Named} {params : Params} {parent : Option Parent} {all : List Member} {at : Place} →
       TakesKeyword Keyword.Class before one at → TakesName one two named → DerivesParams two three params → DerivesParent three four parent → DerivesMembers four after all →
-      DerivesClass before after (record { node = node; place = named.place; name = named.name; params = params; parent = parent; members = all })
+      DerivesClass before after (record { place = named.place; name = named.name; params = params; parent = parent; members = all })
 
 -- Program = Class { Class }, and nothing behind it
 pub data DerivesProgram : List Placed → List Class → Type 0 where

@@ -83,59 +83,59 @@ mutual
   -- Expr, And, Equal, Compare, Sum and Product, by their levels
   pub data DerivesLevel : ℕ → List Placed → List Placed → PlainExpr → Type 0 where
     operand : {level : ℕ} {before after : List Placed} {e : PlainExpr} → DerivesUnary before after e → DerivesLevel level before after e
-    operation : {level : ℕ} {op : BinaryOp} {before one two after : List Placed} {left right : PlainExpr} {node : ℕ} {place : Place} →
+    operation : {level : ℕ} {op : BinaryOp} {before one two after : List Placed} {left right : PlainExpr} {place : Place} →
         level ≤ level_of op →
         DerivesLevel (left_level op) before one left → TakesSymbol (symbol_of op) one two place → DerivesLevel (suc (level_of op)) two after right →
-        DerivesLevel level before after (expression node place (binary op left right))
+        DerivesLevel level before after (expression place (binary op left right))
 
   -- Unary = ( "-" | "!" ) Unary | Postfix | NewArray
   pub data DerivesUnary : List Placed → List Placed → PlainExpr → Type 0 where
-    operator : {op : UnaryOp} {before one after : List Placed} {arg : PlainExpr} {node : ℕ} {place : Place} →
-        TakesSymbol (unary_symbol op) before one place → DerivesUnary one after arg → DerivesUnary before after (expression node place (unary op arg))
+    operator : {op : UnaryOp} {before one after : List Placed} {arg : PlainExpr} {place : Place} →
+        TakesSymbol (unary_symbol op) before one place → DerivesUnary one after arg → DerivesUnary before after (expression place (unary op arg))
     postfix : {ending : Ending} {before after : List Placed} {e : PlainExpr} → DerivesPostfix ending before after e → DerivesUnary before after e
     new_array : {before after : List Placed} {e : PlainExpr} → DerivesNewArray before after e → DerivesUnary before after e
 
   -- Postfix = Primary { "." Name | "." [ Args ] Name "(" [ Actuals ] ")" | "[" Expr "]" }
   pub data DerivesPostfix : Ending → List Placed → List Placed → PlainExpr → Type 0 where
     primary : {ending : Ending} {before after : List Placed} {e : PlainExpr} → DerivesPrimary ending before after e → DerivesPostfix ending before after e
-    behind_dot : {ending : Ending} {before one two after : List Placed} {of : PlainExpr} {named : Named} {node : ℕ} {dot : Place} →
+    behind_dot : {ending : Ending} {before one two after : List Placed} {of : PlainExpr} {named : Named} {dot : Place} →
         DerivesPostfix ending before one of → TakesSymbol Symbol.Dot one two dot → TakesName two after named →
-        DerivesPostfix as_field before after (expression node named.place (field of named.name))
-    called : {ending : Ending} {before one two three four after : List Placed} {of : PlainExpr} {regions : List RplTree} {named : Named} {actuals : PlainExprs} {node : ℕ} {dot : Place} →
+        DerivesPostfix as_field before after (expression named.place (field of named.name))
+    called : {ending : Ending} {before one two three four after : List Placed} {of : PlainExpr} {regions : List RplTree} {named : Named} {actuals : PlainExprs} {dot : Place} →
         DerivesPostfix ending before one of → TakesSymbol Symbol.Dot one two dot → DerivesArgs two three regions → TakesName three four named → DerivesActuals four after actuals →
-        DerivesPostfix as_call before after (expression node named.place (call of regions named.name actuals))
-    indexed : {ending : Ending} {before one two three after : List Placed} {array at : PlainExpr} {node : ℕ} {place close_at : Place} →
+        DerivesPostfix as_call before after (expression named.place (call of regions named.name actuals))
+    indexed : {ending : Ending} {before one two three after : List Placed} {array at : PlainExpr} {place close_at : Place} →
         DerivesPostfix ending before one array → TakesSymbol Symbol.OpenBracket one two place → DerivesLevel 0 two three at → TakesSymbol Symbol.CloseBracket three after close_at →
-        DerivesPostfix as_element before after (expression node place (element array at))
+        DerivesPostfix as_element before after (expression place (element array at))
 
   -- what stands in parentheses ends as a value, so that it is neither assigned to nor a statement
   -- Primary = Int | "true" | "false" | "null" | "this" | Name | "(" Expr ")" | "new" Name [ Args ] "(" [ Actuals ] ")"
   pub data DerivesPrimary : Ending → List Placed → List Placed → PlainExpr → Type 0 where
-    number : {before after : List Placed} {n : ℤ} {node : ℕ} {place : Place} →
-        Takes (terminal.Int n) before after place → DerivesPrimary as_value before after (expression node place (int n))
-    yes : {before after : List Placed} {node : ℕ} {place : Place} →
-        TakesKeyword Keyword.True before after place → DerivesPrimary as_value before after (expression node place (boolean true))
-    no : {before after : List Placed} {node : ℕ} {place : Place} →
-        TakesKeyword Keyword.False before after place → DerivesPrimary as_value before after (expression node place (boolean false))
-    nothing : {before after : List Placed} {node : ℕ} {place : Place} →
-        TakesKeyword Keyword.Null before after place → DerivesPrimary as_value before after (expression node place null)
-    receiver : {before after : List Placed} {node : ℕ} {place : Place} →
-        TakesKeyword Keyword.This before after place → DerivesPrimary as_value before after (expression node place this)
-    name : {before after : List Placed} {named : Named} {node : ℕ} →
-        TakesName before after named → DerivesPrimary as_name before after (expression node named.place (local named.name))
+    number : {before after : List Placed} {n : ℤ} {place : Place} →
+        Takes (terminal.Int n) before after place → DerivesPrimary as_value before after (expression place (int n))
+    yes : {before after : List Placed} {place : Place} →
+        TakesKeyword Keyword.True before after place → DerivesPrimary as_value before after (expression place (boolean true))
+    no : {before after : List Placed} {place : Place} →
+        TakesKeyword Keyword.False before after place → DerivesPrimary as_value before after (expression place (boolean false))
+    nothing : {before after : List Placed} {place : Place} →
+        TakesKeyword Keyword.Null before after place → DerivesPrimary as_value before after (expression place null)
+    receiver : {before after : List Placed} {place : Place} →
+        TakesKeyword Keyword.This before after place → DerivesPrimary as_value before after (expression place this)
+    name : {before after : List Placed} {named : Named} →
+        TakesName before after named → DerivesPrimary as_name before after (expression named.place (local named.name))
     parenthesised : {before one two after : List Placed} {e : PlainExpr} {open_at close_at : Place} →
         TakesSymbol Symbol.OpenParen before one open_at → DerivesLevel 0 one two e → TakesSymbol Symbol.CloseParen two after close_at →
         DerivesPrimary as_value before after e
-    creation : {before one two three after : List Placed} {class : Named} {regions : List RplTree} {actuals : PlainExprs} {node : ℕ} {place : Place} →
+    creation : {before one two three after : List Placed} {class : Named} {regions : List RplTree} {actuals : PlainExprs} {place : Place} →
         TakesKeyword Keyword.New before one place → TakesName one two class → DerivesArgs two three regions → DerivesActuals three after actuals →
-        DerivesPrimary as_creation before after (expression node place (create class regions actuals))
+        DerivesPrimary as_creation before after (expression place (create class regions actuals))
 
   -- NewArray = "new" Base { "[" "]" [ "<" Rpl ">" ] [ "#" Name ] } "[" Expr "]" [ "<" Rpl ">" ] [ "#" Name ]
   pub data DerivesNewArray : List Placed → List Placed → PlainExpr → Type 0 where
-    array : {before one two three four five six after : List Placed} {start : BaseTree} {suffixes : List Suffix} {len : PlainExpr} {own : Suffix} {node : ℕ} {place open_at close_at : Place} →
+    array : {before one two three four five six after : List Placed} {start : BaseTree} {suffixes : List Suffix} {len : PlainExpr} {own : Suffix} {place open_at close_at : Place} →
         TakesKeyword Keyword.New before one place → DerivesBase one two start → Many DerivesSuffix two three suffixes →
         TakesSymbol Symbol.OpenBracket three four open_at → DerivesLevel 0 four five len → TakesSymbol Symbol.CloseBracket five six close_at → DerivesBehind six after own →
-        DerivesNewArray before after (expression node place (create_array start suffixes len own.rpl own.index))
+        DerivesNewArray before after (expression place (create_array start suffixes len own.rpl own.index))
 
   -- "(" [ Actuals ] ")", where Actuals = Expr { "," Expr }
   pub data DerivesActuals : List Placed → List Placed → PlainExprs → Type 0 where

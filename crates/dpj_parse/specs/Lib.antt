@@ -8,6 +8,5 @@ pub mod Reading
 pub mod Fault
 pub mod Progress
 pub mod Program
-pub mod Unnumbered
 pub mod OneTree
 pub mod OneProgram

@@ -1,11 +1,9 @@
 -- A text says one program at most.
-use Rattle.std.specs.Prelude.{◌≡◌, ℕ, List, map}
+use Rattle.std.specs.Prelude.{◌≡◌, ℕ, List}
 use Rattle.dpj_tokens.specs.declared.token.Token.{Token}
 use Rattle.dpj_tree.specs.declared.class.Program.{Program}
 use Rattle.dpj_parse.specs.Program.{IsProgram}
-use Rattle.dpj_parse.specs.Unnumbered.{bare_class}
 
--- the tokens of a text say one program at most, but for the numbers of its nodes
+-- the tokens of a text say one program at most
 abbrev pub OneProgram : Type 0
-OneProgram = (bytes : List ℕ) (tokens : List Token) (left right : Program) → IsProgram bytes tokens left → IsProgram bytes tokens right →
-    (left.names ≡ right.names) × (map bare_class left.classes ≡ map bare_class right.classes)
+OneProgram = (bytes : List ℕ) (tokens : List Token) (left right : Program) → IsProgram bytes tokens left → IsProgram bytes tokens right → left ≡ right

@@ -1,5 +1,5 @@
 -- The grammar of region paths, with their trees.
-use Rattle.std.specs.Prelude.{ℕ, ℤ, List, [], Some, None}
+use Rattle.std.specs.Prelude.{ℤ, List, [], Some, None}
 use Rattle.dpj_base.specs.declared.place.Place.{Place}
 use Rattle.dpj_tokens.specs.declared.token.Symbol.{Symbol}
 use Rattle.dpj_tokens.specs.declared.token.Keyword.{Keyword}
@@ -48,9 +48,9 @@ pub data DerivesNext : List Placed → List Placed → ElemTree → Type 0 where
 
 -- Rpl = ( "Root" | RName ) { ":" Elem }, at its first terminal
 pub data DerivesRpl : List Placed → List Placed → RplTree → Type 0 where
-  path : {before one after : List Placed} {start : RplHead} {elems : List ElemTree} {node : ℕ} {place : Place} →
+  path : {before one after : List Placed} {start : RplHead} {elems : List ElemTree} {place : Place} →
       StandsAt before place → DerivesHead before one start → Many DerivesNext one after elems →
-      DerivesRpl before after (record { node = node; place = place; head = start; elems = elems })
+      DerivesRpl before after (record { place = place; head = start; elems = elems })
 
 -- [ Args ], where Args = "<" Rpl { "," Rpl } ">"
 pub data DerivesArgs : List Placed → List Placed → List RplTree → Type 0 where

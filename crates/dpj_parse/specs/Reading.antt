@@ -51,7 +51,7 @@ form_ending (unary op arg) = as_value
 form_ending (binary op left right) = as_value
 
 abbrev pub ending_of : PlainExpr → Ending
-ending_of (expression node place form) = form_ending form
+ending_of (expression place form) = form_ending form
 
 -- the form of an expression of one terminal
 pub data Spells : Terminal → ExprForm → Type 0 where
@@ -70,15 +70,15 @@ pub record NextSpells (before : List Placed) (form : ExprForm) : Type 0 where
 
 -- "." Name | "." [ Args ] Name "(" [ Actuals ] ")" | "[" Expr "]", behind an expression
 pub data DerivesSelection : PlainExpr → List Placed → List Placed → PlainExpr → Type 0 where
-  behind_dot : {of : PlainExpr} {before one after : List Placed} {named : Named} {node : ℕ} {dot : Place} →
+  behind_dot : {of : PlainExpr} {before one after : List Placed} {named : Named} {dot : Place} →
       TakesSymbol Symbol.Dot before one dot → TakesName one after named →
-      DerivesSelection of before after (expression node named.place (field of named.name))
-  called : {of : PlainExpr} {before one two three after : List Placed} {regions : List RplTree} {named : Named} {actuals : PlainExprs} {node : ℕ} {dot : Place} →
+      DerivesSelection of before after (expression named.place (field of named.name))
+  called : {of : PlainExpr} {before one two three after : List Placed} {regions : List RplTree} {named : Named} {actuals : PlainExprs} {dot : Place} →
       TakesSymbol Symbol.Dot before one dot → DerivesArgs one two regions → TakesName two three named → DerivesActuals three after actuals →
-      DerivesSelection of before after (expression node named.place (call of regions named.name actuals))
-  indexed : {of : PlainExpr} {before one two after : List Placed} {at : PlainExpr} {node : ℕ} {place close_at : Place} →
+      DerivesSelection of before after (expression named.place (call of regions named.name actuals))
+  indexed : {of : PlainExpr} {before one two after : List Placed} {at : PlainExpr} {place close_at : Place} →
       TakesSymbol Symbol.OpenBracket before one place → DerivesExpr one two at → TakesSymbol Symbol.CloseBracket two after close_at →
-      DerivesSelection of before after (expression node place (element of at))
+      DerivesSelection of before after (expression place (element of at))
 
 -- any number of them
 pub data DerivesSelections : PlainExpr → List Placed → List Placed → PlainExpr → Type 0 where
@@ -99,9 +99,9 @@ pub data DerivesOpenSuffixes : List Placed → List Placed → List Suffix → T
 
 -- what stands behind the base of a new array
 pub data DerivesLengths : BaseTree → Place → List Placed → List Placed → PlainExpr → Type 0 where
-  lengths : {base : BaseTree} {before one two three after : List Placed} {suffixes : List Suffix} {len : PlainExpr} {own : Suffix} {node : ℕ} {place close_at : Place} →
+  lengths : {base : BaseTree} {before one two three after : List Placed} {suffixes : List Suffix} {len : PlainExpr} {own : Suffix} {place close_at : Place} →
       DerivesOpenSuffixes before one suffixes → DerivesExpr one two len → TakesSymbol Symbol.CloseBracket two three close_at → DerivesBehind three after own →
-      DerivesLengths base place before after (expression node place (create_array base suffixes len own.rpl own.index))
+      DerivesLengths base place before after (expression place (create_array base suffixes len own.rpl own.index))
 
 -- Expr | Text, as what is printed
 pub data DerivesPrinted : List Placed → List Placed → StmtForm → Type 0 where

@@ -64,26 +64,26 @@ mutual
 
   pub data DerivesStmt : List Placed → List Placed → PlainStmt → Type 0 where
     -- any but the next five, at its first terminal
-    at_first : {before after : List Placed} {form : StmtForm} {node : ℕ} {place : Place} →
-        StandsAt before place → DerivesForm before after form → DerivesStmt before after (statement node place form)
+    at_first : {before after : List Placed} {form : StmtForm} {place : Place} →
+        StandsAt before place → DerivesForm before after form → DerivesStmt before after (statement place form)
     -- [ "final" ] Type Name "=" Expr ";"
-    declaration : {before one two three four after : List Placed} {is_final : Bool} {ty : TypeTree} {named : Named} {value : PlainExpr} {node : ℕ} {equals_at : Place} →
+    declaration : {before one two three four after : List Placed} {is_final : Bool} {ty : TypeTree} {named : Named} {value : PlainExpr} {equals_at : Place} →
         DerivesFinal before one is_final → DerivesType one two ty → TakesName two three named → TakesSymbol Symbol.Assign three four equals_at → DerivesValue four after value →
-        DerivesStmt before after (statement node named.place (declare is_final ty named.name value))
+        DerivesStmt before after (statement named.place (declare is_final ty named.name value))
     -- Postfix "=" Expr ";", where the Postfix ends as a name, field or element
-    local_assignment : {before one two after : List Placed} {target : Named} {value : PlainExpr} {node : ℕ} {place : Place} →
+    local_assignment : {before one two after : List Placed} {target : Named} {value : PlainExpr} {place : Place} →
         TakesName before one target → TakesSymbol Symbol.Assign one two place → DerivesValue two after value →
-        DerivesStmt before after (statement node place (assign_local target value))
-    field_assignment : {before one two after : List Placed} {target value : PlainExpr} {node : ℕ} {place : Place} →
+        DerivesStmt before after (statement place (assign_local target value))
+    field_assignment : {before one two after : List Placed} {target value : PlainExpr} {place : Place} →
         DerivesPostfix as_field before one target → TakesSymbol Symbol.Assign one two place → DerivesValue two after value →
-        DerivesStmt before after (statement node place (assign_field target value))
-    element_assignment : {before one two after : List Placed} {target value : PlainExpr} {node : ℕ} {place : Place} →
+        DerivesStmt before after (statement place (assign_field target value))
+    element_assignment : {before one two after : List Placed} {target value : PlainExpr} {place : Place} →
         DerivesPostfix as_element before one target → TakesSymbol Symbol.Assign one two place → DerivesValue two after value →
-        DerivesStmt before after (statement node place (assign_element target value))
+        DerivesStmt before after (statement place (assign_element target value))
     -- Postfix ";", where the Postfix ends as a call or object creation
-    performed : {ending : Ending} {before one after : List Placed} {node inner : ℕ} {place ends_at : Place} {form : ExprForm} →
-        IsPerformed ending → DerivesPostfix ending before one (expression inner place form) → TakesSymbol Symbol.Semicolon one after ends_at →
-        DerivesStmt before after (statement node place (perform (expression inner place form)))
+    performed : {ending : Ending} {before one after : List Placed} {place ends_at : Place} {form : ExprForm} →
+        IsPerformed ending → DerivesPostfix ending before one (expression place form) → TakesSymbol Symbol.Semicolon one after ends_at →
+        DerivesStmt before after (statement place (perform (expression place form)))
 
   pub data DerivesForm : List Placed → List Placed → StmtForm → Type 0 where
     -- Block

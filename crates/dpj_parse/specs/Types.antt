@@ -1,5 +1,5 @@
 -- The grammar of types, with their trees.
-use Rattle.std.specs.Prelude.{ℕ, List, Option, Some, None}
+use Rattle.std.specs.Prelude.{List, Option, Some, None}
 use Rattle.dpj_base.specs.declared.place.Place.{Place}
 use Rattle.dpj_tokens.specs.declared.token.Symbol.{Symbol}
 use Rattle.dpj_tokens.specs.declared.token.Keyword.{Keyword}
@@ -47,6 +47,6 @@ pub data DerivesSuffix : List Placed → List Placed → Suffix → Type 0 where
 
 -- Type = Base { "[" "]" [ "<" Rpl ">" ] [ "#" Name ] }, at its first terminal
 pub data DerivesType : List Placed → List Placed → TypeTree → Type 0 where
-  type_of : {before one after : List Placed} {start : BaseTree} {suffixes : List Suffix} {node : ℕ} {place : Place} →
+  type_of : {before one after : List Placed} {start : BaseTree} {suffixes : List Suffix} {place : Place} →
       StandsAt before place → DerivesBase before one start → Many DerivesSuffix one after suffixes →
-      DerivesType before after (record { node = node; place = place; base = start; suffixes = suffixes })
+      DerivesType before after (record { place = place; base = start; suffixes = suffixes })

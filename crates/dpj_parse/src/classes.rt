@@ -15,7 +15,7 @@ use std::alloc::Global;
 /// `Class { Class }` up to the end of the text
 #[tactic(auto, using(crate::proofs::Lists::many_more, crate::proofs::Lists::many_one, crate::proofs::MemberForms::program_of))]
 pub fn classes(alloc: Global, cursor: &mut Cursor) -> Result<Items<Class>, Stop>
-    ensures pays { OnOk result (Reads 0 cursor.old cursor.new) }
+    ensures moves { OnOk result (Reads cursor.old cursor.new) }
     ensures fault { IfErr result (λ stop. IsFault cursor.old.text stop) }
     ensures derives { IfOk result (λ classes. DerivesProgram cursor.old.rest.now classes) }
 {
@@ -30,10 +30,9 @@ pub fn classes(alloc: Global, cursor: &mut Cursor) -> Result<Items<Class>, Stop>
 /// `Class = "class" Name [ Params ] [ "extends" Name [ Args ] ] "{" { Member } "}"`
 #[tactic(auto, using(crate::specs::Classes::class))]
 fn class(alloc: Global, cursor: &mut Cursor) -> Result<Class, Stop>
-    ensures pays { OnOk result (Reads 0 cursor.old cursor.new) }
+    ensures moves { OnOk result (Reads cursor.old cursor.new) }
     ensures fault { IfErr result (λ stop. IsFault cursor.old.text stop) }
     ensures derives { IfOk result (λ tree. DerivesClass cursor.old.rest.now cursor.new.rest.now tree) }
-    ensures last { IfOk result (λ tree. tree.node + 1 ≡ cursor.new.node) }
 {
     cursor.keyword(Keyword::Class)?;
     let named = cursor.name()?;
@@ -41,7 +40,6 @@ fn class(alloc: Global, cursor: &mut Cursor) -> Result<Class, Stop>
     let parent = parent(alloc, cursor)?;
     let members = members(alloc, cursor)?;
     Ok(Class {
-        node: cursor.number(),
         place: named.place,
         name: named.name,
         params,
@@ -53,7 +51,7 @@ fn class(alloc: Global, cursor: &mut Cursor) -> Result<Class, Stop>
 /// `[ "extends" Name [ Args ] ]`
 #[tactic(auto, using(crate::specs::Classes::no_parent, crate::proofs::MemberForms::parent_of))]
 fn parent(alloc: Global, cursor: &mut Cursor) -> Result<Option<Parent>, Stop>
-    ensures pays { OnOk result (Keeps cursor.old cursor.new) }
+    ensures moves { OnOk result (Keeps cursor.old cursor.new) }
     ensures fault { IfErr result (λ stop. IsFault cursor.old.text stop) }
     ensures derives { IfOk result (λ parent. DerivesParent cursor.old.rest.now cursor.new.rest.now parent) }
 {
@@ -68,7 +66,7 @@ fn parent(alloc: Global, cursor: &mut Cursor) -> Result<Option<Parent>, Stop>
 /// `"{" { Member } "}"`
 #[tactic(auto, using(crate::proofs::MemberForms::members_of))]
 fn members(alloc: Global, cursor: &mut Cursor) -> Result<Items<Member>, Stop>
-    ensures pays { OnOk result (Reads 1 cursor.old cursor.new) }
+    ensures moves { OnOk result (Reads cursor.old cursor.new) }
     ensures fault { IfErr result (λ stop. IsFault cursor.old.text stop) }
     ensures derives { IfOk result (λ members. DerivesMembers cursor.old.rest.now cursor.new.rest.now members) }
 {
@@ -81,7 +79,7 @@ fn members(alloc: Global, cursor: &mut Cursor) -> Result<Items<Member>, Stop>
 /// `{ Member }`
 #[tactic(auto, using(crate::proofs::Lists::many_more, crate::specs::Taking::none))]
 fn member_list(alloc: Global, cursor: &mut Cursor) -> Result<Items<Member>, Stop>
-    ensures pays { OnOk result (Keeps cursor.old cursor.new) }
+    ensures moves { OnOk result (Keeps cursor.old cursor.new) }
     ensures fault { IfErr result (λ stop. IsFault cursor.old.text stop) }
     ensures derives { IfOk result (λ members. Many DerivesMember cursor.old.rest.now cursor.new.rest.now members) }
 {

@@ -23,15 +23,10 @@ pub struct Cursor<'a> {
     pub text: Text<'a>,
     /// The terminals that are still to come.
     pub rest: &'a [Placed],
-    /// The number of the next node.
-    pub node: u32,
     /// How many brackets are open, and how many bodies without braces we stand in.
     pub level: u32,
     /// How many operators, dots and brackets the expression level has so far.
     pub joined: u32,
-
-    /// A text has at most one node a token.
-    pub ghost room: { node + length rest.now < 2097152 },
 
     /// What is to come is the end of the text.
     pub ghost tail: { drop (length text.terminals.now - length rest.now) text.terminals.now ≡ rest.now },
@@ -43,7 +38,7 @@ pub struct Cursor<'a> {
 impl<'a> Cursor<'a> {
     ghost use Rattle.dpj_base.specs.Refused.{IfRefused};
     ghost use Rattle.dpj_parse.specs.Fault.{IsFault};
-    ghost use Rattle.dpj_parse.specs.Progress.{Advances, Closes, Joins, Numbers, Opens, Reads, ReadsIf};
+    ghost use Rattle.dpj_parse.specs.Progress.{Advances, Closes, Joins, Opens, Reads, ReadsIf};
     ghost use Rattle.dpj_parse.specs.Taking.{Next, StandsAt, TakesIf, TakesKeyword, TakesName, TakesNext, TakesOne, TakesSymbol, place_of};
 
     /// The next terminal.
@@ -130,7 +125,7 @@ impl<'a> Cursor<'a> {
 
     /// Takes the next terminal, which the grammar has here.
     pub fn accept(&mut self) -> Result<(), Stop>
-        ensures pays { OnOk result (Reads 1 self.old self.new) }
+        ensures moves { OnOk result (Reads self.old self.new) }
         ensures fault { IfErr result (λ stop. IsFault self.old.text stop) }
         ensures takes { OnOk result (TakesNext self.old.rest.now self.new.rest.now (place_of self.old.rest.now self.old.text.end)) }
         ensures stays { OnOk result (Advances self.old self.new) }
@@ -149,10 +144,9 @@ impl<'a> Cursor<'a> {
 
     /// Takes a symbol, and tells where it stands.
     pub fn symbol(&mut self, symbol: Symbol) -> Result<Place, Stop>
-        ensures pays { OnOk result (Reads 1 self.old self.new) }
+        ensures moves { OnOk result (Reads self.old self.new) }
         ensures fault { IfErr result (λ stop. IsFault self.old.text stop) }
         ensures takes { IfOk result (λ place. TakesSymbol symbol self.old.rest.now self.new.rest.now place) }
-        ensures unnumbered { OnOk result (self.new.node ≡ self.old.node) }
     {
         if !self.is_symbol(symbol) {
             return Err(self.unexpected());
@@ -164,7 +158,7 @@ impl<'a> Cursor<'a> {
 
     /// Takes a keyword, and tells where it stands.
     pub fn keyword(&mut self, keyword: Keyword) -> Result<Place, Stop>
-        ensures pays { OnOk result (Reads 1 self.old self.new) }
+        ensures moves { OnOk result (Reads self.old self.new) }
         ensures fault { IfErr result (λ stop. IsFault self.old.text stop) }
         ensures takes { IfOk result (λ place. TakesKeyword keyword self.old.rest.now self.new.rest.now place) }
     {
@@ -178,7 +172,7 @@ impl<'a> Cursor<'a> {
 
     /// Takes a symbol where it comes next.
     pub fn symbol_if(&mut self, symbol: Symbol) -> Result<bool, Stop>
-        ensures pays { IfOk result (λ found. ReadsIf found self.old self.new) }
+        ensures moves { IfOk result (λ found. ReadsIf found self.old self.new) }
         ensures fault { IfErr result (λ stop. IsFault self.old.text stop) }
         ensures takes { IfOk result (λ found. TakesIf (Terminal.Symbol symbol) found self.old.rest.now self.new.rest.now) }
     {
@@ -191,7 +185,7 @@ impl<'a> Cursor<'a> {
 
     /// Takes a keyword where it comes next.
     pub fn keyword_if(&mut self, keyword: Keyword) -> Result<bool, Stop>
-        ensures pays { IfOk result (λ found. ReadsIf found self.old self.new) }
+        ensures moves { IfOk result (λ found. ReadsIf found self.old self.new) }
         ensures fault { IfErr result (λ stop. IsFault self.old.text stop) }
         ensures takes { IfOk result (λ found. TakesIf (Terminal.Keyword keyword) found self.old.rest.now self.new.rest.now) }
     {
@@ -204,7 +198,7 @@ impl<'a> Cursor<'a> {
 
     /// Takes a name.
     pub fn name(&mut self) -> Result<Named, Stop>
-        ensures pays { OnOk result (Reads 1 self.old self.new) }
+        ensures moves { OnOk result (Reads self.old self.new) }
         ensures fault { IfErr result (λ stop. IsFault self.old.text stop) }
         ensures takes { IfOk result (λ named. TakesName self.old.rest.now self.new.rest.now named) }
     {
@@ -218,7 +212,7 @@ impl<'a> Cursor<'a> {
 
     /// Takes a bracket, and tells where it stands. What follows is a level deeper.
     pub fn open(&mut self, bracket: Symbol) -> Result<Place, Stop>
-        ensures pays { OnOk result (Opens self.old self.new) }
+        ensures moves { OnOk result (Opens self.old self.new) }
         ensures fault { IfErr result (λ stop. IsFault self.old.text stop) }
         ensures takes { IfOk result (λ place. TakesSymbol bracket self.old.rest.now self.new.rest.now place) }
     {
@@ -230,10 +224,9 @@ impl<'a> Cursor<'a> {
     /// Takes the bracket that closes the level.
     pub fn close(&mut self, bracket: Symbol) -> Result<(), Stop>
         requires { 1 ≤ self.old.level }
-        ensures pays { OnOk result (Closes self.old self.new) }
+        ensures moves { OnOk result (Closes self.old self.new) }
         ensures fault { IfErr result (λ stop. IsFault self.old.text stop) }
         ensures takes { OnOk result (TakesOne (Terminal.Symbol bracket) self.old.rest.now self.new.rest.now) }
-        ensures unnumbered { OnOk result (self.new.node ≡ self.old.node) }
     {
         self.symbol(bracket)?;
         self.level -= 1;
@@ -242,7 +235,7 @@ impl<'a> Cursor<'a> {
 
     /// Takes an operator, a dot or a bracket of an expression, and tells where it stands.
     pub fn join(&mut self) -> Result<Place, Stop>
-        ensures pays { OnOk result (Reads 1 self.old self.new) }
+        ensures moves { OnOk result (Reads self.old self.new) }
         ensures fault { IfErr result (λ stop. IsFault self.old.text stop) }
         ensures takes { IfOk result (λ place. TakesNext self.old.rest.now self.new.rest.now place) }
         ensures joins { OnOk result (Joins self.old self.new) }
@@ -258,7 +251,7 @@ impl<'a> Cursor<'a> {
 
     /// Takes a `[` of an expression, and tells where it stands. What follows is a level deeper.
     pub fn join_open(&mut self) -> Result<Place, Stop>
-        ensures pays { OnOk result (Opens self.old self.new) }
+        ensures moves { OnOk result (Opens self.old self.new) }
         ensures fault { IfErr result (λ stop. IsFault self.old.text stop) }
         ensures takes { IfOk result (λ place. TakesSymbol Symbol.OpenBracket self.old.rest.now self.new.rest.now place) }
     {
@@ -268,17 +261,5 @@ impl<'a> Cursor<'a> {
         let place = self.join()?;
         self.level += 1;
         Ok(place)
-    }
-
-    /// The number of a node that is complete.
-    pub fn number(&mut self) -> u32
-        requires { self.old.node + length self.old.rest.now + 1 < 2097152 }
-        ensures counts { Numbers self.old self.new }
-        ensures given { result ≡ self.old.node }
-        ensures stays { self.new.rest.now ≡ self.old.rest.now }
-    {
-        let node = self.node;
-        self.node += 1;
-        node
     }
 }

@@ -1,6 +1,6 @@
 ghost use Rattle.std.specs.Prelude.{◌≡◌, ◌+◌, ◌<◌, ◌≤◌, length, map, OnOk, IfOk, IfSome, IfErr};
 ghost use Rattle.dpj_parse.specs.Fault.{IsFault};
-ghost use Rattle.dpj_parse.specs.Progress.{Keeps, Numbers, Opens, Reads};
+ghost use Rattle.dpj_parse.specs.Progress.{Keeps, Opens, Reads};
 ghost use Rattle.dpj_parse.specs.Taking.{Next, Listed};
 ghost use Rattle.dpj_parse.specs.Expressions.{DerivesActuals, DerivesExpr, DerivesLevel, DerivesPostfix, DerivesPrimary, DerivesUnary, as_creation, level_of, symbol_of, unary_symbol};
 ghost use Rattle.dpj_parse.specs.Reading.{DerivesExprTree, DerivesInner, DerivesLengths, DerivesOpenSuffixes, DerivesSelection, DerivesSelections, NextSpells, ending_of, plain_kind};
@@ -10,34 +10,25 @@ use crate::cursor::Cursor;
 use crate::operator::{LOOSEST, TIGHTEST, binary_of, binding, tightest_behind, unary_of};
 use crate::region::args_if;
 use crate::types::{base, behind_brackets};
-use dpj_base::{Boxed, Items, Place, Stop};
+use dpj_base::{Boxed, Items, NoMemory, Place, Stop};
 use dpj_terminals::Terminal;
 use dpj_tokens::{Keyword, Symbol};
 use dpj_tree::{BaseTree, BinaryOp, Expr, ExprKind, Named, RplTree, Suffix, UnaryOp};
 use std::alloc::Global;
 
-/// A complete expression gets its number.
-fn made(cursor: &mut Cursor, place: Place, kind: ExprKind) -> Expr
-    requires { cursor.old.node + length cursor.old.rest.now + 1 < 2097152 }
-    ensures pays { Numbers cursor.old cursor.new }
-    ensures takes { cursor.new.rest.now ≡ cursor.old.rest.now }
-    ensures plain { plain_expr result ≡ expression cursor.old.node place (plain_kind kind) }
-    ensures last { result.node + 1 ≡ cursor.new.node }
+/// An expression of this kind at a place.
+fn made(place: Place, kind: ExprKind) -> Expr
+    ensures { plain_expr result ≡ expression place (plain_kind kind) }
 {
-    Expr {
-        node: cursor.number(),
-        place,
-        kind,
-    }
+    Expr { place, kind }
 }
 
 /// `Expr`: an expression level of its own.
 #[cycle(exprs)]
 pub fn expr(alloc: Global, cursor: &mut Cursor) -> Result<Expr, Stop>
-    ensures pays { OnOk result (Reads 0 cursor.old cursor.new) }
+    ensures moves { OnOk result (Reads cursor.old cursor.new) }
     ensures fault { IfErr result (λ stop. IsFault cursor.old.text stop) }
     ensures derives { IfOk result (λ e. DerivesExpr cursor.old.rest.now cursor.new.rest.now (plain_expr e)) }
-    ensures last { IfOk result (λ e. e.node + 1 ≡ cursor.new.node) }
 {
     let outer = cursor.joined;
     cursor.joined = 0;
@@ -49,17 +40,16 @@ pub fn expr(alloc: Global, cursor: &mut Cursor) -> Result<Expr, Stop>
 /// `Unary { operator Unary }`, with operators that bind at least so tightly.
 #[cycle(exprs)]
 fn operators(alloc: Global, cursor: &mut Cursor, least: u32) -> Result<Expr, Stop>
-    ensures pays { OnOk result (Reads 0 cursor.old cursor.new) }
+    ensures moves { OnOk result (Reads cursor.old cursor.new) }
     ensures fault { IfErr result (λ stop. IsFault cursor.old.text stop) }
     ensures derives { IfOk result (λ e. DerivesLevel least cursor.old.rest.now cursor.new.rest.now (plain_expr e)) }
-    ensures last { IfOk result (λ e. e.node + 1 ≡ cursor.new.node) }
 {
     let mut left = unary(alloc, cursor)?;
     let mut most = TIGHTEST;
     while let Some(op) = operator_within(cursor, least, most) {
         let place = cursor.join()?;
         let right = operators(alloc, cursor, binding(op) + 1)?;
-        left = joined(alloc, cursor, place, op, left, right)?;
+        left = joined(alloc, place, op, left, right)?;
         most = tightest_behind(op);
     }
     Ok(left)
@@ -83,37 +73,30 @@ fn operator_within(cursor: &Cursor, least: u32, most: u32) -> Option<BinaryOp>
 #[tactic(auto, using(crate::proofs::Trees::kind_Binary))]
 fn joined(
     alloc: Global,
-    cursor: &mut Cursor,
     place: Place,
     op: BinaryOp,
     left: Expr,
     right: Expr,
-) -> Result<Expr, Stop>
-    requires { cursor.old.node + length cursor.old.rest.now + 1 < 2097152 }
-    ensures pays { OnOk result (Numbers cursor.old cursor.new) }
-    ensures fault { IfErr result (λ stop. IsFault cursor.old.text stop) }
-    ensures takes { OnOk result (cursor.new.rest.now ≡ cursor.old.rest.now) }
-    ensures plain { IfOk result (λ e. plain_expr e ≡ expression cursor.old.node place (binary op (plain_expr left) (plain_expr right))) }
-    ensures last { IfOk result (λ e. e.node + 1 ≡ cursor.new.node) }
+) -> Result<Expr, NoMemory>
+    ensures { IfOk result (λ e. plain_expr e ≡ expression place (binary op (plain_expr left) (plain_expr right))) }
 {
     let left = Boxed::new(alloc, left)?;
     let right = Boxed::new(alloc, right)?;
-    Ok(made(cursor, place, ExprKind::Binary { op, left, right }))
+    Ok(made(place, ExprKind::Binary { op, left, right }))
 }
 
 /// `Unary = ( "-" | "!" ) Unary | Postfix | NewArray`
 #[tactic(auto, using(crate::proofs::Making::made_operator, crate::proofs::Making::inner_selected, crate::proofs::Making::primary_selected))]
 #[cycle(exprs)]
 fn unary(alloc: Global, cursor: &mut Cursor) -> Result<Expr, Stop>
-    ensures pays { OnOk result (Reads 0 cursor.old cursor.new) }
+    ensures moves { OnOk result (Reads cursor.old cursor.new) }
     ensures fault { IfErr result (λ stop. IsFault cursor.old.text stop) }
     ensures derives { IfOk result (λ e. DerivesUnary cursor.old.rest.now cursor.new.rest.now (plain_expr e)) }
-    ensures last { IfOk result (λ e. e.node + 1 ≡ cursor.new.node) }
 {
     if let Some(op) = operator_before(cursor) {
         let place = cursor.join()?;
         let arg = Boxed::new(alloc, unary(alloc, cursor)?)?;
-        return Ok(made(cursor, place, ExprKind::Unary { op, arg }));
+        return Ok(made(place, ExprKind::Unary { op, arg }));
     }
     if cursor.is_keyword(Keyword::New) {
         return created(alloc, cursor);
@@ -140,53 +123,41 @@ fn operator_before(cursor: &Cursor) -> Option<UnaryOp>
 #[tactic(auto, using(crate::proofs::Making::made_object, crate::proofs::Making::made_array))]
 #[cycle(exprs)]
 fn created(alloc: Global, cursor: &mut Cursor) -> Result<Expr, Stop>
-    ensures pays { OnOk result (Reads 0 cursor.old cursor.new) }
+    ensures moves { OnOk result (Reads cursor.old cursor.new) }
     ensures fault { IfErr result (λ stop. IsFault cursor.old.text stop) }
     ensures derives { IfOk result (λ e. DerivesUnary cursor.old.rest.now cursor.new.rest.now (plain_expr e)) }
-    ensures last { IfOk result (λ e. e.node + 1 ≡ cursor.new.node) }
 {
     let place = cursor.keyword(Keyword::New)?;
     match base(alloc, cursor)? {
         BaseTree::Class { name, args } if cursor.is_symbol(Symbol::OpenParen) => {
             let actuals = actuals(alloc, cursor)?;
-            let object = object(cursor, place, name, args, actuals);
+            let object = object(place, name, args, actuals);
             selected(alloc, cursor, object)
         }
         base => array(alloc, cursor, place, base),
     }
 }
 
-/// The creation of an object, behind its actuals.
+/// The creation of an object, after its actuals.
 #[tactic(auto, using(crate::proofs::Trees::kind_New))]
-fn object(
-    cursor: &mut Cursor,
-    place: Place,
-    class: Named,
-    regions: Items<RplTree>,
-    actuals: Items<Expr>,
-) -> Expr
-    requires { cursor.old.node + length cursor.old.rest.now + 1 < 2097152 }
-    ensures pays { Numbers cursor.old cursor.new }
-    ensures takes { cursor.new.rest.now ≡ cursor.old.rest.now }
-    ensures plain { plain_expr result ≡ expression cursor.old.node place (create class regions (plain_exprs (map plain_expr actuals))) }
-    ensures last { result.node + 1 ≡ cursor.new.node }
+fn object(place: Place, class: Named, regions: Items<RplTree>, actuals: Items<Expr>) -> Expr
+    ensures { plain_expr result ≡ expression place (create class regions (plain_exprs (map plain_expr actuals))) }
 {
     let kind = ExprKind::New {
         class,
         regions,
         actuals,
     };
-    made(cursor, place, kind)
+    made(place, kind)
 }
 
 /// `NewArray` behind its base: `{ "[" "]" [ "<" Rpl ">" ] [ "#" Name ] } "[" Expr "]" [ "<" Rpl ">" ] [ "#" Name ]`
 #[tactic(auto, using(crate::proofs::Making::made_lengths))]
 #[cycle(exprs)]
 fn array(alloc: Global, cursor: &mut Cursor, place: Place, base: BaseTree) -> Result<Expr, Stop>
-    ensures pays { OnOk result (Reads 0 cursor.old cursor.new) }
+    ensures moves { OnOk result (Reads cursor.old cursor.new) }
     ensures fault { IfErr result (λ stop. IsFault cursor.old.text stop) }
     ensures derives { IfOk result (λ e. DerivesLengths base place cursor.old.rest.now cursor.new.rest.now (plain_expr e)) }
-    ensures last { IfOk result (λ e. e.node + 1 ≡ cursor.new.node) }
 {
     let suffixes = open_suffixes(alloc, cursor)?;
     let length = Boxed::new(alloc, expr(alloc, cursor)?)?;
@@ -199,13 +170,13 @@ fn array(alloc: Global, cursor: &mut Cursor, place: Place, base: BaseTree) -> Re
         rpl: own.rpl,
         index: own.index,
     };
-    Ok(made(cursor, place, kind))
+    Ok(made(place, kind))
 }
 
 /// The suffixes before the length of an array, and the `[` in front of the length.
 #[tactic(auto, using(crate::proofs::Making::first_opened, crate::proofs::Making::more_opened))]
 fn open_suffixes(alloc: Global, cursor: &mut Cursor) -> Result<Items<Suffix>, Stop>
-    ensures pays { OnOk result (Opens cursor.old cursor.new) }
+    ensures moves { OnOk result (Opens cursor.old cursor.new) }
     ensures fault { IfErr result (λ stop. IsFault cursor.old.text stop) }
     ensures derives { IfOk result (λ suffixes. DerivesOpenSuffixes cursor.old.rest.now cursor.new.rest.now suffixes) }
 {
@@ -223,10 +194,9 @@ fn open_suffixes(alloc: Global, cursor: &mut Cursor) -> Result<Items<Suffix>, St
 #[tactic(auto, using(crate::proofs::Making::made_inner))]
 #[cycle(exprs)]
 fn inner(alloc: Global, cursor: &mut Cursor) -> Result<Expr, Stop>
-    ensures pays { OnOk result (Reads 0 cursor.old cursor.new) }
+    ensures moves { OnOk result (Reads cursor.old cursor.new) }
     ensures fault { IfErr result (λ stop. IsFault cursor.old.text stop) }
     ensures derives { IfOk result (λ e. DerivesInner cursor.old.rest.now cursor.new.rest.now (plain_expr e)) }
-    ensures last { IfOk result (λ e. e.node + 1 ≡ cursor.new.node) }
 {
     cursor.open(Symbol::OpenParen)?;
     let inner = expr(alloc, cursor)?;
@@ -237,15 +207,14 @@ fn inner(alloc: Global, cursor: &mut Cursor) -> Result<Expr, Stop>
 /// `Int | "true" | "false" | "null" | "this" | Name`
 #[tactic(auto, using(crate::proofs::Making::made_literal))]
 fn literal(cursor: &mut Cursor) -> Result<Expr, Stop>
-    ensures pays { OnOk result (Reads 0 cursor.old cursor.new) }
+    ensures moves { OnOk result (Reads cursor.old cursor.new) }
     ensures fault { IfErr result (λ stop. IsFault cursor.old.text stop) }
     ensures derives { IfOk result (λ e. DerivesPrimary (ending_of (plain_expr e)) cursor.old.rest.now cursor.new.rest.now (plain_expr e)) }
-    ensures last { IfOk result (λ e. e.node + 1 ≡ cursor.new.node) }
 {
     let kind = spelled(cursor)?;
     let place = cursor.place();
     cursor.accept()?;
-    Ok(made(cursor, place, kind))
+    Ok(made(place, kind))
 }
 
 /// The expression that the next terminal is.
@@ -274,11 +243,9 @@ fn selects(cursor: &Cursor) -> bool {
 #[tactic(auto, using(crate::specs::Reading::none, crate::specs::Reading::more))]
 #[cycle(exprs)]
 fn selected(alloc: Global, cursor: &mut Cursor, first: Expr) -> Result<Expr, Stop>
-    requires { first.node + 1 ≡ cursor.old.node }
-    ensures pays { OnOk result (Keeps cursor.old cursor.new) }
+    ensures moves { OnOk result (Keeps cursor.old cursor.new) }
     ensures fault { IfErr result (λ stop. IsFault cursor.old.text stop) }
     ensures derives { IfOk result (λ e. DerivesSelections (plain_expr first) cursor.old.rest.now cursor.new.rest.now (plain_expr e)) }
-    ensures last { IfOk result (λ e. e.node + 1 ≡ cursor.new.node) }
 {
     let mut found = first;
     while selects(cursor) {
@@ -290,10 +257,9 @@ fn selected(alloc: Global, cursor: &mut Cursor, first: Expr) -> Result<Expr, Sto
 /// `"." Name | "." [ Args ] Name "(" [ Actuals ] ")" | "[" Expr "]"`
 #[cycle(exprs)]
 fn selection(alloc: Global, cursor: &mut Cursor, of: Expr) -> Result<Expr, Stop>
-    ensures pays { OnOk result (Reads 0 cursor.old cursor.new) }
+    ensures moves { OnOk result (Reads cursor.old cursor.new) }
     ensures fault { IfErr result (λ stop. IsFault cursor.old.text stop) }
     ensures derives { IfOk result (λ e. DerivesSelection (plain_expr of) cursor.old.rest.now cursor.new.rest.now (plain_expr e)) }
-    ensures last { IfOk result (λ e. e.node + 1 ≡ cursor.new.node) }
 {
     if cursor.is_symbol(Symbol::Dot) {
         return member(alloc, cursor, of);
@@ -305,16 +271,15 @@ fn selection(alloc: Global, cursor: &mut Cursor, of: Expr) -> Result<Expr, Stop>
 #[tactic(auto, using(crate::proofs::Making::made_element))]
 #[cycle(exprs)]
 fn element(alloc: Global, cursor: &mut Cursor, of: Expr) -> Result<Expr, Stop>
-    ensures pays { OnOk result (Reads 0 cursor.old cursor.new) }
+    ensures moves { OnOk result (Reads cursor.old cursor.new) }
     ensures fault { IfErr result (λ stop. IsFault cursor.old.text stop) }
     ensures derives { IfOk result (λ e. DerivesSelection (plain_expr of) cursor.old.rest.now cursor.new.rest.now (plain_expr e)) }
-    ensures last { IfOk result (λ e. e.node + 1 ≡ cursor.new.node) }
 {
     let array = Boxed::new(alloc, of)?;
     let place = cursor.join_open()?;
     let index = Boxed::new(alloc, expr(alloc, cursor)?)?;
     cursor.close(Symbol::CloseBracket)?;
-    Ok(made(cursor, place, ExprKind::Element { array, index }))
+    Ok(made(place, ExprKind::Element { array, index }))
 }
 
 /// `"." Name | "." [ Args ] Name "(" [ Actuals ] ")"`
@@ -322,10 +287,9 @@ fn element(alloc: Global, cursor: &mut Cursor, of: Expr) -> Result<Expr, Stop>
 #[cycle(exprs)]
 fn member(alloc: Global, cursor: &mut Cursor, of: Expr) -> Result<Expr, Stop>
     requires { Next (Terminal.Symbol Symbol.Dot) cursor.old.rest.now }
-    ensures pays { OnOk result (Reads 0 cursor.old cursor.new) }
+    ensures moves { OnOk result (Reads cursor.old cursor.new) }
     ensures fault { IfErr result (λ stop. IsFault cursor.old.text stop) }
     ensures derives { IfOk result (λ e. DerivesSelection (plain_expr of) cursor.old.rest.now cursor.new.rest.now (plain_expr e)) }
-    ensures last { IfOk result (λ e. e.node + 1 ≡ cursor.new.node) }
 {
     let of = Boxed::new(alloc, of)?;
     cursor.join()?;
@@ -334,7 +298,7 @@ fn member(alloc: Global, cursor: &mut Cursor, of: Expr) -> Result<Expr, Stop>
     let named = cursor.name()?;
     if !has_args && !cursor.is_symbol(Symbol::OpenParen) {
         let name = named.name;
-        return Ok(made(cursor, named.place, ExprKind::Field { of, name }));
+        return Ok(made(named.place, ExprKind::Field { of, name }));
     }
     let kind = ExprKind::Call {
         of,
@@ -342,14 +306,14 @@ fn member(alloc: Global, cursor: &mut Cursor, of: Expr) -> Result<Expr, Stop>
         name: named.name,
         actuals: actuals(alloc, cursor)?,
     };
-    Ok(made(cursor, named.place, kind))
+    Ok(made(named.place, kind))
 }
 
 /// `"(" [ Actuals ] ")"`
 #[tactic(auto, using(crate::proofs::Making::made_no_actuals, crate::proofs::Making::made_actuals))]
 #[cycle(exprs)]
 fn actuals(alloc: Global, cursor: &mut Cursor) -> Result<Items<Expr>, Stop>
-    ensures pays { OnOk result (Reads 1 cursor.old cursor.new) }
+    ensures moves { OnOk result (Reads cursor.old cursor.new) }
     ensures fault { IfErr result (λ stop. IsFault cursor.old.text stop) }
     ensures derives { IfOk result (λ all. DerivesActuals cursor.old.rest.now cursor.new.rest.now (plain_exprs (map plain_expr all))) }
 {
@@ -367,7 +331,7 @@ fn actuals(alloc: Global, cursor: &mut Cursor) -> Result<Items<Expr>, Stop>
 #[tactic(auto, using(crate::proofs::Making::first_listed, crate::proofs::Making::more_listed))]
 #[cycle(exprs)]
 fn listed(alloc: Global, cursor: &mut Cursor) -> Result<Items<Expr>, Stop>
-    ensures pays { OnOk result (Reads 0 cursor.old cursor.new) }
+    ensures moves { OnOk result (Reads cursor.old cursor.new) }
     ensures fault { IfErr result (λ stop. IsFault cursor.old.text stop) }
     ensures derives { IfOk result (λ all. Listed DerivesExprTree cursor.old.rest.now cursor.new.rest.now all) }
 {
@@ -383,10 +347,9 @@ fn listed(alloc: Global, cursor: &mut Cursor) -> Result<Items<Expr>, Stop>
 /// field, a call or an element behind it.
 #[tactic(auto, using(crate::proofs::Selecting::selections_postfix))]
 pub fn target(alloc: Global, cursor: &mut Cursor) -> Result<Expr, Stop>
-    ensures pays { OnOk result (Reads 0 cursor.old cursor.new) }
+    ensures moves { OnOk result (Reads cursor.old cursor.new) }
     ensures fault { IfErr result (λ stop. IsFault cursor.old.text stop) }
     ensures derives { IfOk result (λ e. DerivesPostfix (ending_of (plain_expr e)) cursor.old.rest.now cursor.new.rest.now (plain_expr e)) }
-    ensures last { IfOk result (λ e. e.node + 1 ≡ cursor.new.node) }
 {
     cursor.joined = 0;
     let first = target_first(alloc, cursor)?;
@@ -396,10 +359,9 @@ pub fn target(alloc: Global, cursor: &mut Cursor) -> Result<Expr, Stop>
 /// The shortest such Postfix.
 #[tactic(auto, using(crate::proofs::Making::inner_selection, crate::proofs::Making::primary_target))]
 fn target_first(alloc: Global, cursor: &mut Cursor) -> Result<Expr, Stop>
-    ensures pays { OnOk result (Reads 0 cursor.old cursor.new) }
+    ensures moves { OnOk result (Reads cursor.old cursor.new) }
     ensures fault { IfErr result (λ stop. IsFault cursor.old.text stop) }
     ensures derives { IfOk result (λ e. DerivesPostfix (ending_of (plain_expr e)) cursor.old.rest.now cursor.new.rest.now (plain_expr e)) }
-    ensures last { IfOk result (λ e. e.node + 1 ≡ cursor.new.node) }
 {
     if cursor.is_keyword(Keyword::New) {
         return new_object(alloc, cursor);
@@ -413,14 +375,13 @@ fn target_first(alloc: Global, cursor: &mut Cursor) -> Result<Expr, Stop>
 
 /// `"new" Name [ Args ] "(" [ Actuals ] ")"`
 fn new_object(alloc: Global, cursor: &mut Cursor) -> Result<Expr, Stop>
-    ensures pays { OnOk result (Reads 0 cursor.old cursor.new) }
+    ensures moves { OnOk result (Reads cursor.old cursor.new) }
     ensures fault { IfErr result (λ stop. IsFault cursor.old.text stop) }
     ensures derives { IfOk result (λ e. DerivesPostfix (ending_of (plain_expr e)) cursor.old.rest.now cursor.new.rest.now (plain_expr e)) }
-    ensures last { IfOk result (λ e. e.node + 1 ≡ cursor.new.node) }
 {
     let place = cursor.keyword(Keyword::New)?;
     let class = cursor.name()?;
     let regions = args_if(alloc, cursor)?;
     let actuals = actuals(alloc, cursor)?;
-    Ok(object(cursor, place, class, regions, actuals))
+    Ok(object(place, class, regions, actuals))
 }

@@ -3,8 +3,9 @@
 //! A fault is `syntax` where no program begins with the tokens up to and including one, and `nest` where the
 //! text nests deeper, joins longer or suffixes more than 32 times. The time is linear.
 //!
-//! Proved: the tree that is answered is derived by the grammar, from as many terminals as there are tokens and with
-//! none of them left, and reading ends. Not proved: that a text that has a tree gets it, and which fault is told.
+//! Proved: the tree that is answered is the one that the grammar derives, from as many terminals as there are tokens
+//! and with none of them left; it has at most as many nodes as the text has bytes; and reading ends. Not proved: that a
+//! text that has a tree gets it, and which fault is told.
 #![tactic(auto)]
 
 mod classes;

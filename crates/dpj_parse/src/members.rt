@@ -1,7 +1,7 @@
 ghost use Rattle.std.specs.Prelude.{◌≡◌, ◌+◌, ◌↔◌, IfOk, IsTrue, OnOk, IfErr};
 ghost use Rattle.dpj_parse.specs.Fault.{IsFault};
 ghost use Rattle.dpj_parse.specs.Classes.{BeginsEffects, DerivesField, DerivesFormal, DerivesFormalList, DerivesFormals, DerivesIn, DerivesItem, DerivesItemsIf, DerivesMember, DerivesMethod, DerivesNamed, DerivesResult, DerivesSummary};
-ghost use Rattle.dpj_parse.specs.Progress.{IsNumberedLast, Keeps, Reads};
+ghost use Rattle.dpj_parse.specs.Progress.{Keeps, Reads};
 ghost use Rattle.dpj_parse.specs.Taking.{Listed};
 
 use crate::cursor::Cursor;
@@ -20,10 +20,9 @@ use std::alloc::Global;
 /// `Member`
 #[tactic(auto, using(crate::proofs::MemberForms::method_of, crate::proofs::MemberForms::constructor_of))]
 pub fn member(alloc: Global, cursor: &mut Cursor) -> Result<Member, Stop>
-    ensures pays { OnOk result (Reads 0 cursor.old cursor.new) }
+    ensures moves { OnOk result (Reads cursor.old cursor.new) }
     ensures fault { IfErr result (λ stop. IsFault cursor.old.text stop) }
     ensures derives { IfOk result (λ tree. DerivesMember cursor.old.rest.now cursor.new.rest.now tree) }
-    ensures last { IfOk result (λ tree. IsNumberedLast tree cursor.new.node) }
 {
     if begins_kind(cursor) {
         return regions(alloc, cursor);
@@ -42,10 +41,9 @@ pub fn member(alloc: Global, cursor: &mut Cursor) -> Result<Member, Stop>
 /// `Kind Name { "," Name } ";"`
 #[tactic(auto, using(crate::proofs::MemberForms::regions_of))]
 fn regions(alloc: Global, cursor: &mut Cursor) -> Result<Member, Stop>
-    ensures pays { OnOk result (Reads 0 cursor.old cursor.new) }
+    ensures moves { OnOk result (Reads cursor.old cursor.new) }
     ensures fault { IfErr result (λ stop. IsFault cursor.old.text stop) }
     ensures derives { IfOk result (λ tree. DerivesMember cursor.old.rest.now cursor.new.rest.now tree) }
-    ensures last { IfOk result (λ tree. IsNumberedLast tree cursor.new.node) }
 {
     let atomic = kind(cursor)?;
     let names = names(alloc, cursor)?;
@@ -67,7 +65,7 @@ fn constructs(cursor: &Cursor) -> bool {
 /// `Type | "void"`
 #[tactic(auto, using(crate::proofs::MemberForms::result_void, crate::proofs::MemberForms::result_value))]
 fn result(alloc: Global, cursor: &mut Cursor) -> Result<MethodResult, Stop>
-    ensures pays { OnOk result (Reads 0 cursor.old cursor.new) }
+    ensures moves { OnOk result (Reads cursor.old cursor.new) }
     ensures fault { IfErr result (λ stop. IsFault cursor.old.text stop) }
     ensures derives { IfOk result (λ answer. DerivesResult cursor.old.rest.now cursor.new.rest.now answer) }
 {
@@ -80,10 +78,9 @@ fn result(alloc: Global, cursor: &mut Cursor) -> Result<MethodResult, Stop>
 /// A field, or a method with a result and without region parameters.
 #[tactic(auto, using(crate::proofs::MemberForms::typed_field, crate::proofs::MemberForms::typed_method))]
 fn typed(alloc: Global, cursor: &mut Cursor) -> Result<Member, Stop>
-    ensures pays { OnOk result (Reads 0 cursor.old cursor.new) }
+    ensures moves { OnOk result (Reads cursor.old cursor.new) }
     ensures fault { IfErr result (λ stop. IsFault cursor.old.text stop) }
     ensures derives { IfOk result (λ tree. DerivesMember cursor.old.rest.now cursor.new.rest.now tree) }
-    ensures last { IfOk result (λ tree. IsNumberedLast tree cursor.new.node) }
 {
     let ty = ty(alloc, cursor)?;
     let named = cursor.name()?;
@@ -102,15 +99,13 @@ fn typed(alloc: Global, cursor: &mut Cursor) -> Result<Member, Stop>
 /// `[ "in" Rpl ] ";"`
 #[tactic(auto, using(crate::proofs::MemberForms::field_of))]
 fn field(alloc: Global, cursor: &mut Cursor, ty: TypeTree, named: Named) -> Result<Member, Stop>
-    ensures pays { OnOk result (Reads 0 cursor.old cursor.new) }
+    ensures moves { OnOk result (Reads cursor.old cursor.new) }
     ensures fault { IfErr result (λ stop. IsFault cursor.old.text stop) }
     ensures derives { IfOk result (λ tree. DerivesField ty named cursor.old.rest.now cursor.new.rest.now tree) }
-    ensures last { IfOk result (λ tree. IsNumberedLast tree cursor.new.node) }
 {
     let region = region_if(alloc, cursor)?;
     cursor.symbol(Symbol::Semicolon)?;
     Ok(Member::Field(Field {
-        node: cursor.number(),
         place: named.place,
         name: named.name,
         ty,
@@ -121,7 +116,7 @@ fn field(alloc: Global, cursor: &mut Cursor, ty: TypeTree, named: Named) -> Resu
 /// `[ "in" Rpl ]`
 #[tactic(auto, using(crate::specs::Classes::nowhere, crate::proofs::MemberForms::in_region_of))]
 fn region_if(alloc: Global, cursor: &mut Cursor) -> Result<Option<RplTree>, Stop>
-    ensures pays { OnOk result (Keeps cursor.old cursor.new) }
+    ensures moves { OnOk result (Keeps cursor.old cursor.new) }
     ensures fault { IfErr result (λ stop. IsFault cursor.old.text stop) }
     ensures derives { IfOk result (λ region. DerivesIn cursor.old.rest.now cursor.new.rest.now region) }
 {
@@ -139,10 +134,9 @@ fn method(
     params: Params,
     returns: MethodResult,
 ) -> Result<Member, Stop>
-    ensures pays { OnOk result (Reads 0 cursor.old cursor.new) }
+    ensures moves { OnOk result (Reads cursor.old cursor.new) }
     ensures fault { IfErr result (λ stop. IsFault cursor.old.text stop) }
     ensures derives { IfOk result (λ tree. DerivesNamed params returns cursor.old.rest.now cursor.new.rest.now tree) }
-    ensures last { IfOk result (λ tree. IsNumberedLast tree cursor.new.node) }
 {
     let named = cursor.name()?;
     behind_name(alloc, cursor, params, returns, named)
@@ -157,16 +151,14 @@ fn behind_name(
     returns: MethodResult,
     named: Named,
 ) -> Result<Member, Stop>
-    ensures pays { OnOk result (Reads 0 cursor.old cursor.new) }
+    ensures moves { OnOk result (Reads cursor.old cursor.new) }
     ensures fault { IfErr result (λ stop. IsFault cursor.old.text stop) }
     ensures derives { IfOk result (λ tree. DerivesMethod params returns named cursor.old.rest.now cursor.new.rest.now tree) }
-    ensures last { IfOk result (λ tree. IsNumberedLast tree cursor.new.node) }
 {
     let formals = formals(alloc, cursor)?;
     let summary = summary(alloc, cursor)?;
     let body = block(alloc, cursor)?;
     Ok(Member::Method(Method {
-        node: cursor.number(),
         place: named.place,
         name: named.name,
         params,
@@ -180,7 +172,7 @@ fn behind_name(
 /// `"(" [ Formals ] ")"`
 #[tactic(auto, using(crate::proofs::MemberForms::formals_of))]
 fn formals(alloc: Global, cursor: &mut Cursor) -> Result<Items<Formal>, Stop>
-    ensures pays { OnOk result (Reads 1 cursor.old cursor.new) }
+    ensures moves { OnOk result (Reads cursor.old cursor.new) }
     ensures fault { IfErr result (λ stop. IsFault cursor.old.text stop) }
     ensures derives { IfOk result (λ formals. DerivesFormals cursor.old.rest.now cursor.new.rest.now formals) }
 {
@@ -193,7 +185,7 @@ fn formals(alloc: Global, cursor: &mut Cursor) -> Result<Items<Formal>, Stop>
 /// `[ Formals ]` with `Formals = Type Name { "," Type Name }`
 #[tactic(auto, using(crate::specs::Classes::no_formals, crate::specs::Classes::formals, crate::proofs::Lists::listed_more, crate::specs::Taking::last))]
 fn formal_list(alloc: Global, cursor: &mut Cursor) -> Result<Items<Formal>, Stop>
-    ensures pays { OnOk result (Keeps cursor.old cursor.new) }
+    ensures moves { OnOk result (Keeps cursor.old cursor.new) }
     ensures fault { IfErr result (λ stop. IsFault cursor.old.text stop) }
     ensures derives { IfOk result (λ formals. DerivesFormalList cursor.old.rest.now cursor.new.rest.now formals) }
 {
@@ -211,15 +203,13 @@ fn formal_list(alloc: Global, cursor: &mut Cursor) -> Result<Items<Formal>, Stop
 /// `Type Name`
 #[tactic(auto, using(crate::specs::Classes::formal))]
 fn formal(alloc: Global, cursor: &mut Cursor) -> Result<Formal, Stop>
-    ensures pays { OnOk result (Reads 0 cursor.old cursor.new) }
+    ensures moves { OnOk result (Reads cursor.old cursor.new) }
     ensures fault { IfErr result (λ stop. IsFault cursor.old.text stop) }
     ensures derives { IfOk result (λ tree. DerivesFormal cursor.old.rest.now cursor.new.rest.now tree) }
-    ensures last { IfOk result (λ tree. tree.node + 1 ≡ cursor.new.node) }
 {
     let ty = ty(alloc, cursor)?;
     let named = cursor.name()?;
     Ok(Formal {
-        node: cursor.number(),
         place: named.place,
         name: named.name,
         ty,
@@ -229,7 +219,7 @@ fn formal(alloc: Global, cursor: &mut Cursor) -> Result<Formal, Stop>
 /// `Summary = [ "pure" | "reads" Items [ "writes" Items ] | "writes" Items ]`
 #[tactic(auto, using(crate::specs::Classes::no_summary, crate::proofs::MemberForms::summary_pure, crate::proofs::MemberForms::summary_effects))]
 fn summary(alloc: Global, cursor: &mut Cursor) -> Result<Option<SummaryTree>, Stop>
-    ensures pays { OnOk result (Keeps cursor.old cursor.new) }
+    ensures moves { OnOk result (Keeps cursor.old cursor.new) }
     ensures fault { IfErr result (λ stop. IsFault cursor.old.text stop) }
     ensures derives { IfOk result (λ summary. DerivesSummary cursor.old.rest.now cursor.new.rest.now summary) }
 {
@@ -257,7 +247,7 @@ fn begins_effects(cursor: &Cursor) -> bool
 /// A keyword and Items, or neither.
 #[tactic(auto, using(crate::proofs::MemberForms::items_none, crate::proofs::MemberForms::items_some))]
 fn items_if(alloc: Global, cursor: &mut Cursor, keyword: Keyword) -> Result<Items<Item>, Stop>
-    ensures pays { OnOk result (Keeps cursor.old cursor.new) }
+    ensures moves { OnOk result (Keeps cursor.old cursor.new) }
     ensures fault { IfErr result (λ stop. IsFault cursor.old.text stop) }
     ensures derives { IfOk result (λ items. DerivesItemsIf keyword cursor.old.rest.now cursor.new.rest.now items) }
 {
@@ -270,7 +260,7 @@ fn items_if(alloc: Global, cursor: &mut Cursor, keyword: Keyword) -> Result<Item
 /// `Items = [ "atomic" ] Rpl { "," [ "atomic" ] Rpl }`
 #[tactic(auto, using(crate::proofs::Lists::listed_more, crate::specs::Taking::last))]
 fn items(alloc: Global, cursor: &mut Cursor) -> Result<Items<Item>, Stop>
-    ensures pays { OnOk result (Reads 0 cursor.old cursor.new) }
+    ensures moves { OnOk result (Reads cursor.old cursor.new) }
     ensures fault { IfErr result (λ stop. IsFault cursor.old.text stop) }
     ensures derives { IfOk result (λ items. Listed DerivesItem cursor.old.rest.now cursor.new.rest.now items) }
 {
@@ -285,7 +275,7 @@ fn items(alloc: Global, cursor: &mut Cursor) -> Result<Items<Item>, Stop>
 /// `[ "atomic" ] Rpl`
 #[tactic(auto, using(crate::proofs::MemberForms::item_of))]
 fn item(alloc: Global, cursor: &mut Cursor) -> Result<Item, Stop>
-    ensures pays { OnOk result (Reads 0 cursor.old cursor.new) }
+    ensures moves { OnOk result (Reads cursor.old cursor.new) }
     ensures fault { IfErr result (λ stop. IsFault cursor.old.text stop) }
     ensures derives { IfOk result (λ tree. DerivesItem cursor.old.rest.now cursor.new.rest.now tree) }
 {

@@ -3,6 +3,7 @@ ghost use Rattle.std.specs.List.{IsDistinct};
 ghost use Rattle.std.specs.Str.{bytes_eq};
 ghost use Rattle.dpj_tokens.specs.Cutting.{StandInOrder};
 ghost use Rattle.dpj_tree.specs.Names.{program_names};
+ghost use Rattle.dpj_tree.specs.Size.{program_size};
 ghost use Rattle.dpj_tree.specs.Shaped.{MemberHasTargets};
 ghost use Rattle.dpj_base.specs.Refused.{IfRefused};
 ghost use Rattle.dpj_parse.specs.Program.{IsGrammarFault, IsProgram};
@@ -23,7 +24,7 @@ pub fn parse(alloc: Global, bytes: &[u8], tokens: &Tokens) -> Result<Program, St
     ensures named { IfOk result (λ program. All (λ name. name < length program.names) (program_names program)) }
     ensures distinct { IfOk result (λ program. IsDistinct bytes_eq program.names) }
     ensures targets { IfOk result (λ program. All (λ class. All MemberHasTargets class.members) program.classes) }
-    ensures counted { IfOk result (λ program. length program.classes < 4294967295) }
+    ensures sized { IfOk result (λ program. program_size program ≤ length bytes.now) }
     ensures fault { IfErr result (λ stop. IfRefused stop (IsGrammarFault bytes.now tokens.now.list tokens.now.end)) }
 {
     let Terminals { list, names } = terminals(alloc, bytes, tokens)?;
@@ -33,7 +34,6 @@ pub fn parse(alloc: Global, bytes: &[u8], tokens: &Tokens) -> Result<Program, St
             end: tokens.end,
         },
         rest: list.as_slice(),
-        node: 0,
         level: 0,
         joined: 0,
     };

@@ -15,7 +15,7 @@ use std::alloc::Global;
 /// `Name { "," Name }`
 #[tactic(auto, using(crate::proofs::Lists::listed_more, crate::specs::Taking::last))]
 pub fn names(alloc: Global, cursor: &mut Cursor) -> Result<Items<Named>, Stop>
-    ensures pays { OnOk result (Reads 1 cursor.old cursor.new) }
+    ensures moves { OnOk result (Reads cursor.old cursor.new) }
     ensures fault { IfErr result (λ stop. IsFault cursor.old.text stop) }
     ensures derives { IfOk result (λ names. Listed TakesName cursor.old.rest.now cursor.new.rest.now names) }
 {
@@ -30,7 +30,7 @@ pub fn names(alloc: Global, cursor: &mut Cursor) -> Result<Items<Named>, Stop>
 /// `RName = Name [ "." Name ]`
 #[tactic(auto, using(crate::specs::Paths::one_name, crate::proofs::Regions::second_name))]
 fn region_name(cursor: &mut Cursor) -> Result<RName, Stop>
-    ensures pays { OnOk result (Reads 1 cursor.old cursor.new) }
+    ensures moves { OnOk result (Reads cursor.old cursor.new) }
     ensures fault { IfErr result (λ stop. IsFault cursor.old.text stop) }
     ensures derives { IfOk result (λ name. DerivesRName cursor.old.rest.now cursor.new.rest.now name) }
 {
@@ -46,25 +46,19 @@ fn region_name(cursor: &mut Cursor) -> Result<RName, Stop>
 /// `Rpl = ( "Root" | RName ) { ":" Elem }`
 #[tactic(auto, using(crate::specs::Paths::path))]
 pub fn rpl(alloc: Global, cursor: &mut Cursor) -> Result<RplTree, Stop>
-    ensures pays { OnOk result (Reads 0 cursor.old cursor.new) }
+    ensures moves { OnOk result (Reads cursor.old cursor.new) }
     ensures fault { IfErr result (λ stop. IsFault cursor.old.text stop) }
     ensures derives { IfOk result (λ path. DerivesRpl cursor.old.rest.now cursor.new.rest.now path) }
-    ensures last { IfOk result (λ path. path.node + 1 ≡ cursor.new.node) }
 {
     let place = cursor.place();
     let head = head(cursor)?;
     let elems = elems(alloc, cursor)?;
-    Ok(RplTree {
-        node: cursor.number(),
-        place,
-        head,
-        elems,
-    })
+    Ok(RplTree { place, head, elems })
 }
 
 #[tactic(auto, using(crate::proofs::Regions::head_root, crate::proofs::Regions::head_name))]
 fn head(cursor: &mut Cursor) -> Result<RplHead, Stop>
-    ensures pays { OnOk result (Reads 1 cursor.old cursor.new) }
+    ensures moves { OnOk result (Reads cursor.old cursor.new) }
     ensures fault { IfErr result (λ stop. IsFault cursor.old.text stop) }
     ensures derives { IfOk result (λ start. DerivesHead cursor.old.rest.now cursor.new.rest.now start) }
 {
@@ -77,7 +71,7 @@ fn head(cursor: &mut Cursor) -> Result<RplHead, Stop>
 /// `{ ":" Elem }`
 #[tactic(auto, using(crate::proofs::Lists::many_more, crate::proofs::Lists::few_more, crate::specs::Taking::none, crate::proofs::Regions::next_elem))]
 fn elems(alloc: Global, cursor: &mut Cursor) -> Result<Items<ElemTree>, Stop>
-    ensures pays { OnOk result (Keeps cursor.old cursor.new) }
+    ensures moves { OnOk result (Keeps cursor.old cursor.new) }
     ensures fault { IfErr result (λ stop. IsFault cursor.old.text stop) }
     ensures derives { IfOk result (λ elems. Many DerivesNext cursor.old.rest.now cursor.new.rest.now elems) }
     ensures few { IfOk result (λ elems. length elems ≤ 32) }
@@ -115,7 +109,7 @@ fn begins_elem(cursor: &Cursor) -> bool {
 /// `Elem = RName | "*" | "[" ( Int | Name | "?" ) "]"`
 #[tactic(auto, using(crate::proofs::Regions::elem_star, crate::proofs::Regions::elem_name))]
 fn elem(cursor: &mut Cursor) -> Result<ElemTree, Stop>
-    ensures pays { OnOk result (Reads 1 cursor.old cursor.new) }
+    ensures moves { OnOk result (Reads cursor.old cursor.new) }
     ensures fault { IfErr result (λ stop. IsFault cursor.old.text stop) }
     ensures derives { IfOk result (λ tree. DerivesElem cursor.old.rest.now cursor.new.rest.now tree) }
 {
@@ -132,7 +126,7 @@ fn elem(cursor: &mut Cursor) -> Result<ElemTree, Stop>
 /// `"[" ( Int | Name | "?" ) "]"`
 #[tactic(auto, using(crate::proofs::Regions::elem_within))]
 fn index(cursor: &mut Cursor) -> Result<ElemTree, Stop>
-    ensures pays { OnOk result (Reads 1 cursor.old cursor.new) }
+    ensures moves { OnOk result (Reads cursor.old cursor.new) }
     ensures fault { IfErr result (λ stop. IsFault cursor.old.text stop) }
     ensures derives { IfOk result (λ tree. DerivesElem cursor.old.rest.now cursor.new.rest.now tree) }
 {
@@ -145,7 +139,7 @@ fn index(cursor: &mut Cursor) -> Result<ElemTree, Stop>
 /// `Int | Name | "?"`
 #[tactic(auto, using(crate::specs::Paths::index, crate::proofs::Regions::within_number, crate::proofs::Regions::within_any))]
 fn within(cursor: &mut Cursor) -> Result<ElemTree, Stop>
-    ensures pays { OnOk result (Reads 1 cursor.old cursor.new) }
+    ensures moves { OnOk result (Reads cursor.old cursor.new) }
     ensures fault { IfErr result (λ stop. IsFault cursor.old.text stop) }
     ensures derives { IfOk result (λ tree. DerivesWithin cursor.old.rest.now cursor.new.rest.now tree) }
 {
@@ -165,7 +159,7 @@ fn within(cursor: &mut Cursor) -> Result<ElemTree, Stop>
 /// `[ Args ]`
 #[tactic(auto, using(crate::specs::Paths::no_args))]
 pub fn args_if(alloc: Global, cursor: &mut Cursor) -> Result<Items<RplTree>, Stop>
-    ensures pays { OnOk result (Keeps cursor.old cursor.new) }
+    ensures moves { OnOk result (Keeps cursor.old cursor.new) }
     ensures fault { IfErr result (λ stop. IsFault cursor.old.text stop) }
     ensures derives { IfOk result (λ paths. DerivesArgs cursor.old.rest.now cursor.new.rest.now paths) }
 {
@@ -178,7 +172,7 @@ pub fn args_if(alloc: Global, cursor: &mut Cursor) -> Result<Items<RplTree>, Sto
 /// `Args = "<" Rpl { "," Rpl } ">"`
 #[tactic(auto, using(crate::specs::Paths::args))]
 pub fn args(alloc: Global, cursor: &mut Cursor) -> Result<Items<RplTree>, Stop>
-    ensures pays { OnOk result (Reads 1 cursor.old cursor.new) }
+    ensures moves { OnOk result (Reads cursor.old cursor.new) }
     ensures fault { IfErr result (λ stop. IsFault cursor.old.text stop) }
     ensures derives { IfOk result (λ paths. DerivesArgs cursor.old.rest.now cursor.new.rest.now paths) }
 {
@@ -191,7 +185,7 @@ pub fn args(alloc: Global, cursor: &mut Cursor) -> Result<Items<RplTree>, Stop>
 /// `Rpl { "," Rpl }`
 #[tactic(auto, using(crate::proofs::Lists::listed_more, crate::specs::Taking::last))]
 fn paths(alloc: Global, cursor: &mut Cursor) -> Result<Items<RplTree>, Stop>
-    ensures pays { OnOk result (Reads 0 cursor.old cursor.new) }
+    ensures moves { OnOk result (Reads cursor.old cursor.new) }
     ensures fault { IfErr result (λ stop. IsFault cursor.old.text stop) }
     ensures derives { IfOk result (λ paths. Listed DerivesRpl cursor.old.rest.now cursor.new.rest.now paths) }
 {
@@ -206,7 +200,7 @@ fn paths(alloc: Global, cursor: &mut Cursor) -> Result<Items<RplTree>, Stop>
 /// `[ Params ]`
 #[tactic(auto, using(crate::specs::Classes::no_params))]
 pub fn params_if(alloc: Global, cursor: &mut Cursor) -> Result<Params, Stop>
-    ensures pays { OnOk result (Keeps cursor.old cursor.new) }
+    ensures moves { OnOk result (Keeps cursor.old cursor.new) }
     ensures fault { IfErr result (λ stop. IsFault cursor.old.text stop) }
     ensures derives { IfOk result (λ params. DerivesParams cursor.old.rest.now cursor.new.rest.now params) }
 {
@@ -229,7 +223,7 @@ pub fn no_params(alloc: Global) -> Params
 /// `Params = "<" Kind Name { "," [ Kind ] Name } [ "|" Constr { "," Constr } ] ">"`
 #[tactic(auto, using(crate::specs::Classes::params))]
 fn params(alloc: Global, cursor: &mut Cursor) -> Result<Params, Stop>
-    ensures pays { OnOk result (Reads 0 cursor.old cursor.new) }
+    ensures moves { OnOk result (Reads cursor.old cursor.new) }
     ensures fault { IfErr result (λ stop. IsFault cursor.old.text stop) }
     ensures derives { IfOk result (λ params. DerivesParams cursor.old.rest.now cursor.new.rest.now params) }
 {
@@ -243,7 +237,7 @@ fn params(alloc: Global, cursor: &mut Cursor) -> Result<Params, Stop>
 /// `Kind Name { "," [ Kind ] Name }`: a bare name has the kind of the one before it.
 #[tactic(auto, using(crate::proofs::Regions::declares_first, crate::proofs::Regions::declares_more, crate::proofs::Regions::declares_done))]
 fn declared(alloc: Global, cursor: &mut Cursor) -> Result<Items<ParamTree>, Stop>
-    ensures pays { OnOk result (Reads 0 cursor.old cursor.new) }
+    ensures moves { OnOk result (Reads cursor.old cursor.new) }
     ensures fault { IfErr result (λ stop. IsFault cursor.old.text stop) }
     ensures derives { IfOk result (λ list. DerivesDeclared cursor.old.rest.now cursor.new.rest.now list) }
 {
@@ -259,14 +253,12 @@ fn declared(alloc: Global, cursor: &mut Cursor) -> Result<Items<ParamTree>, Stop
 
 #[tactic(auto, using(crate::specs::Classes::param))]
 fn param(cursor: &mut Cursor, atomic: bool) -> Result<ParamTree, Stop>
-    ensures pays { OnOk result (Reads 0 cursor.old cursor.new) }
+    ensures moves { OnOk result (Reads cursor.old cursor.new) }
     ensures fault { IfErr result (λ stop. IsFault cursor.old.text stop) }
     ensures derives { IfOk result (λ tree. DerivesParam atomic cursor.old.rest.now cursor.new.rest.now tree) }
-    ensures last { IfOk result (λ tree. tree.node + 1 ≡ cursor.new.node) }
 {
     let named = cursor.name()?;
     Ok(ParamTree {
-        node: cursor.number(),
         place: named.place,
         name: named.name,
         atomic,
@@ -281,7 +273,7 @@ pub fn begins_kind(cursor: &Cursor) -> bool {
 /// `Kind = [ "atomic" ] "region"`: whether it is atomic.
 #[tactic(auto, using(crate::proofs::Regions::kind_of))]
 pub fn kind(cursor: &mut Cursor) -> Result<bool, Stop>
-    ensures pays { OnOk result (Reads 1 cursor.old cursor.new) }
+    ensures moves { OnOk result (Reads cursor.old cursor.new) }
     ensures fault { IfErr result (λ stop. IsFault cursor.old.text stop) }
     ensures derives { IfOk result (λ atomic. DerivesKind cursor.old.rest.now cursor.new.rest.now atomic) }
 {
@@ -293,7 +285,7 @@ pub fn kind(cursor: &mut Cursor) -> Result<bool, Stop>
 /// `[ Kind ]`: whether it is atomic, or the one before it.
 #[tactic(auto, using(crate::specs::Classes::same, crate::specs::Classes::other))]
 fn kind_or(cursor: &mut Cursor, earlier: bool) -> Result<bool, Stop>
-    ensures pays { OnOk result (Keeps cursor.old cursor.new) }
+    ensures moves { OnOk result (Keeps cursor.old cursor.new) }
     ensures fault { IfErr result (λ stop. IsFault cursor.old.text stop) }
     ensures derives { IfOk result (λ atomic. DerivesKindOr earlier cursor.old.rest.now cursor.new.rest.now atomic) }
 {
@@ -306,7 +298,7 @@ fn kind_or(cursor: &mut Cursor, earlier: bool) -> Result<bool, Stop>
 /// `[ "|" Constr { "," Constr } ]`
 #[tactic(auto, using(crate::specs::Classes::nothing_given, crate::proofs::Regions::given_behind))]
 fn given(alloc: Global, cursor: &mut Cursor) -> Result<Items<ConstrTree>, Stop>
-    ensures pays { OnOk result (Keeps cursor.old cursor.new) }
+    ensures moves { OnOk result (Keeps cursor.old cursor.new) }
     ensures fault { IfErr result (λ stop. IsFault cursor.old.text stop) }
     ensures derives { IfOk result (λ given. DerivesGiven cursor.old.rest.now cursor.new.rest.now given) }
 {
@@ -319,7 +311,7 @@ fn given(alloc: Global, cursor: &mut Cursor) -> Result<Items<ConstrTree>, Stop>
 /// `Constr { "," Constr }`
 #[tactic(auto, using(crate::proofs::Lists::listed_more, crate::specs::Taking::last))]
 fn constraints(alloc: Global, cursor: &mut Cursor) -> Result<Items<ConstrTree>, Stop>
-    ensures pays { OnOk result (Reads 0 cursor.old cursor.new) }
+    ensures moves { OnOk result (Reads cursor.old cursor.new) }
     ensures fault { IfErr result (λ stop. IsFault cursor.old.text stop) }
     ensures derives { IfOk result (λ given. Listed DerivesConstr cursor.old.rest.now cursor.new.rest.now given) }
 {
@@ -334,7 +326,7 @@ fn constraints(alloc: Global, cursor: &mut Cursor) -> Result<Items<ConstrTree>, 
 /// `Constr = Rpl "#" Rpl`
 #[tactic(auto, using(crate::specs::Classes::constraint))]
 fn constraint(alloc: Global, cursor: &mut Cursor) -> Result<ConstrTree, Stop>
-    ensures pays { OnOk result (Reads 0 cursor.old cursor.new) }
+    ensures moves { OnOk result (Reads cursor.old cursor.new) }
     ensures fault { IfErr result (λ stop. IsFault cursor.old.text stop) }
     ensures derives { IfOk result (λ tree. DerivesConstr cursor.old.rest.now cursor.new.rest.now tree) }
 {

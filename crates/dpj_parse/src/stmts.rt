@@ -1,6 +1,6 @@
 ghost use Rattle.std.specs.Prelude.{◌≡◌, ◌≤◌, ◌+◌, ◌<◌, length, map, OnOk, IfOk, IfSome, MatchOption, IfErr};
 ghost use Rattle.dpj_parse.specs.Fault.{IsFault};
-ghost use Rattle.dpj_parse.specs.Progress.{Closes, Keeps, Numbers, Reads};
+ghost use Rattle.dpj_parse.specs.Progress.{Closes, Keeps, Reads};
 ghost use Rattle.dpj_parse.specs.Taking.{Many, Next};
 ghost use Rattle.dpj_parse.specs.Statements.{DerivesBlock, DerivesCondition, DerivesForm, DerivesRange, DerivesStmt, DerivesValue, cobegin_word, foreach_word};
 ghost use Rattle.dpj_parse.specs.Reading.{DerivesPrinted, DerivesStmtTree, plain_stmt_kind};
@@ -16,42 +16,33 @@ use dpj_tokens::{Keyword, Symbol};
 use dpj_tree::{Expr, ExprKind, Named, Stmt, StmtKind};
 use std::alloc::Global;
 
-/// A complete statement gets its number.
-fn made(cursor: &mut Cursor, place: Place, kind: StmtKind) -> Stmt
-    requires { cursor.old.node + length cursor.old.rest.now + 1 < 2097152 }
-    ensures pays { Numbers cursor.old cursor.new }
-    ensures takes { cursor.new.rest.now ≡ cursor.old.rest.now }
-    ensures plain { plain_stmt result ≡ statement cursor.old.node place (plain_stmt_kind kind) }
-    ensures last { result.node + 1 ≡ cursor.new.node }
+/// A statement of this kind at a place.
+fn made(place: Place, kind: StmtKind) -> Stmt
+    ensures { plain_stmt result ≡ statement place (plain_stmt_kind kind) }
 {
-    Stmt {
-        node: cursor.number(),
-        place,
-        kind,
-    }
+    Stmt { place, kind }
 }
 
 /// `Stmt`
 #[tactic(auto, using(crate::proofs::Stating::stmt_form, crate::proofs::Stating::stmt_stays))]
 #[cycle(stmts)]
 fn stmt(alloc: Global, cursor: &mut Cursor) -> Result<Stmt, Stop>
-    ensures pays { OnOk result (Reads 0 cursor.old cursor.new) }
+    ensures moves { OnOk result (Reads cursor.old cursor.new) }
     ensures fault { IfErr result (λ stop. IsFault cursor.old.text stop) }
     ensures derives { IfOk result (λ s. DerivesStmt cursor.old.rest.now cursor.new.rest.now (plain_stmt s)) }
-    ensures last { IfOk result (λ s. s.node + 1 ≡ cursor.new.node) }
 {
     let place = cursor.place();
     match form(alloc, cursor)? {
-        Some(kind) => Ok(made(cursor, place, kind)),
+        Some(kind) => Ok(made(place, kind)),
         None => simple(alloc, cursor),
     }
 }
 
-/// A statement that holds other ones, but for its number and place; None where one begins that holds none.
+/// A statement that holds other ones, but for its place; None where one begins that holds none.
 #[tactic(auto, using(crate::proofs::Stating::block_form))]
 #[cycle(stmts)]
 fn form(alloc: Global, cursor: &mut Cursor) -> Result<Option<StmtKind>, Stop>
-    ensures pays { IfOk result (λ found. MatchOption found (cursor.new ≡ cursor.old) (λ kind. Reads 1 cursor.old cursor.new)) }
+    ensures moves { IfOk result (λ found. MatchOption found (cursor.new ≡ cursor.old) (λ kind. Reads cursor.old cursor.new)) }
     ensures fault { IfErr result (λ stop. IsFault cursor.old.text stop) }
     ensures derives { IfOk result (λ found. IfSome found (λ kind. DerivesForm cursor.old.rest.now cursor.new.rest.now (plain_stmt_kind kind))) }
 {
@@ -75,7 +66,7 @@ fn form(alloc: Global, cursor: &mut Cursor) -> Result<Option<StmtKind>, Stop>
 #[tactic(auto, using(crate::proofs::Stating::block_braces))]
 #[cycle(stmts)]
 pub fn block(alloc: Global, cursor: &mut Cursor) -> Result<Items<Stmt>, Stop>
-    ensures pays { OnOk result (Reads 1 cursor.old cursor.new) }
+    ensures moves { OnOk result (Reads cursor.old cursor.new) }
     ensures fault { IfErr result (λ stop. IsFault cursor.old.text stop) }
     ensures derives { IfOk result (λ all. DerivesBlock cursor.old.rest.now cursor.new.rest.now (plain_stmts (map plain_stmt all))) }
 {
@@ -89,7 +80,7 @@ pub fn block(alloc: Global, cursor: &mut Cursor) -> Result<Items<Stmt>, Stop>
 #[tactic(auto, using(crate::proofs::Stating::first_stmts, crate::proofs::Stating::more_stmts))]
 #[cycle(stmts)]
 fn stmts(alloc: Global, cursor: &mut Cursor) -> Result<Items<Stmt>, Stop>
-    ensures pays { OnOk result (Keeps cursor.old cursor.new) }
+    ensures moves { OnOk result (Keeps cursor.old cursor.new) }
     ensures fault { IfErr result (λ stop. IsFault cursor.old.text stop) }
     ensures derives { IfOk result (λ all. Many DerivesStmtTree cursor.old.rest.now cursor.new.rest.now all) }
 {
@@ -104,7 +95,7 @@ fn stmts(alloc: Global, cursor: &mut Cursor) -> Result<Items<Stmt>, Stop>
 #[cycle(stmts)]
 fn body(alloc: Global, cursor: &mut Cursor) -> Result<Boxed<Stmt>, Stop>
     requires { cursor.old.level ≤ 32 }
-    ensures pays { OnOk result (Reads 0 cursor.old cursor.new) }
+    ensures moves { OnOk result (Reads cursor.old cursor.new) }
     ensures fault { IfErr result (λ stop. IsFault cursor.old.text stop) }
     ensures derives { IfOk result (λ s. DerivesStmt cursor.old.rest.now cursor.new.rest.now (plain_stmt s)) }
 {
@@ -121,7 +112,7 @@ fn body(alloc: Global, cursor: &mut Cursor) -> Result<Boxed<Stmt>, Stop>
 #[tactic(auto, using(crate::proofs::Stating::if_form, crate::proofs::Stating::else_form))]
 #[cycle(stmts)]
 fn choice(alloc: Global, cursor: &mut Cursor) -> Result<StmtKind, Stop>
-    ensures pays { OnOk result (Reads 1 cursor.old cursor.new) }
+    ensures moves { OnOk result (Reads cursor.old cursor.new) }
     ensures fault { IfErr result (λ stop. IsFault cursor.old.text stop) }
     ensures derives { IfOk result (λ kind. DerivesForm cursor.old.rest.now cursor.new.rest.now (plain_stmt_kind kind)) }
 {
@@ -143,7 +134,7 @@ fn choice(alloc: Global, cursor: &mut Cursor) -> Result<StmtKind, Stop>
 #[tactic(auto, using(crate::proofs::Stating::while_form))]
 #[cycle(stmts)]
 fn while_loop(alloc: Global, cursor: &mut Cursor) -> Result<StmtKind, Stop>
-    ensures pays { OnOk result (Reads 1 cursor.old cursor.new) }
+    ensures moves { OnOk result (Reads cursor.old cursor.new) }
     ensures fault { IfErr result (λ stop. IsFault cursor.old.text stop) }
     ensures derives { IfOk result (λ kind. DerivesForm cursor.old.rest.now cursor.new.rest.now (plain_stmt_kind kind)) }
 {
@@ -156,7 +147,7 @@ fn while_loop(alloc: Global, cursor: &mut Cursor) -> Result<StmtKind, Stop>
 /// `"(" Expr ")"`
 #[tactic(auto, using(crate::proofs::Stating::made_condition))]
 fn condition(alloc: Global, cursor: &mut Cursor) -> Result<Expr, Stop>
-    ensures pays { OnOk result (Reads 1 cursor.old cursor.new) }
+    ensures moves { OnOk result (Reads cursor.old cursor.new) }
     ensures fault { IfErr result (λ stop. IsFault cursor.old.text stop) }
     ensures derives { IfOk result (λ e. DerivesCondition cursor.old.rest.now cursor.new.rest.now (plain_expr e)) }
 {
@@ -171,7 +162,7 @@ fn condition(alloc: Global, cursor: &mut Cursor) -> Result<Expr, Stop>
 #[cycle(stmts)]
 fn cobegin(alloc: Global, cursor: &mut Cursor, nd: bool) -> Result<StmtKind, Stop>
     requires { Next (Terminal.Keyword (cobegin_word nd)) cursor.old.rest.now }
-    ensures pays { OnOk result (Reads 1 cursor.old cursor.new) }
+    ensures moves { OnOk result (Reads cursor.old cursor.new) }
     ensures fault { IfErr result (λ stop. IsFault cursor.old.text stop) }
     ensures derives { IfOk result (λ kind. DerivesForm cursor.old.rest.now cursor.new.rest.now (plain_stmt_kind kind)) }
 {
@@ -184,7 +175,7 @@ fn cobegin(alloc: Global, cursor: &mut Cursor, nd: bool) -> Result<StmtKind, Sto
 #[tactic(auto, using(crate::proofs::Stating::atomic_form))]
 #[cycle(stmts)]
 fn atomic(alloc: Global, cursor: &mut Cursor) -> Result<StmtKind, Stop>
-    ensures pays { OnOk result (Reads 1 cursor.old cursor.new) }
+    ensures moves { OnOk result (Reads cursor.old cursor.new) }
     ensures fault { IfErr result (λ stop. IsFault cursor.old.text stop) }
     ensures derives { IfOk result (λ kind. DerivesForm cursor.old.rest.now cursor.new.rest.now (plain_stmt_kind kind)) }
 {
@@ -196,7 +187,7 @@ fn atomic(alloc: Global, cursor: &mut Cursor) -> Result<StmtKind, Stop>
 #[cycle(stmts)]
 fn foreach(alloc: Global, cursor: &mut Cursor, nd: bool) -> Result<StmtKind, Stop>
     requires { Next (Terminal.Keyword (foreach_word nd)) cursor.old.rest.now }
-    ensures pays { OnOk result (Reads 1 cursor.old cursor.new) }
+    ensures moves { OnOk result (Reads cursor.old cursor.new) }
     ensures fault { IfErr result (λ stop. IsFault cursor.old.text stop) }
     ensures derives { IfOk result (λ kind. DerivesForm cursor.old.rest.now cursor.new.rest.now (plain_stmt_kind kind)) }
 {
@@ -216,7 +207,7 @@ fn foreach(alloc: Global, cursor: &mut Cursor, nd: bool) -> Result<StmtKind, Sto
 /// `"foreach_parts" "(" Name "," "int" Name "in" Expr "," Expr ")" Stmt`
 #[cycle(stmts)]
 fn foreach_parts(alloc: Global, cursor: &mut Cursor) -> Result<StmtKind, Stop>
-    ensures pays { OnOk result (Reads 1 cursor.old cursor.new) }
+    ensures moves { OnOk result (Reads cursor.old cursor.new) }
     ensures fault { IfErr result (λ stop. IsFault cursor.old.text stop) }
     ensures derives { IfOk result (λ kind. DerivesForm cursor.old.rest.now cursor.new.rest.now (plain_stmt_kind kind)) }
 {
@@ -246,7 +237,7 @@ struct Span {
 /// `"int" Name "in" Expr "," Expr ")"`
 fn range(alloc: Global, cursor: &mut Cursor) -> Result<Span, Stop>
     requires { 1 ≤ cursor.old.level }
-    ensures pays { OnOk result (Closes cursor.old cursor.new) }
+    ensures moves { OnOk result (Closes cursor.old cursor.new) }
     ensures fault { IfErr result (λ stop. IsFault cursor.old.text stop) }
     ensures derives { IfOk result (λ span. DerivesRange cursor.old.rest.now cursor.new.rest.now span.var (plain_expr span.first) (plain_expr span.second)) }
 {
@@ -262,10 +253,9 @@ fn range(alloc: Global, cursor: &mut Cursor) -> Result<Span, Stop>
 
 /// A statement that holds no other one.
 fn simple(alloc: Global, cursor: &mut Cursor) -> Result<Stmt, Stop>
-    ensures pays { OnOk result (Reads 0 cursor.old cursor.new) }
+    ensures moves { OnOk result (Reads cursor.old cursor.new) }
     ensures fault { IfErr result (λ stop. IsFault cursor.old.text stop) }
     ensures derives { IfOk result (λ s. DerivesStmt cursor.old.rest.now cursor.new.rest.now (plain_stmt s)) }
-    ensures last { IfOk result (λ s. s.node + 1 ≡ cursor.new.node) }
 {
     match cursor.next() {
         Some(Terminal::Keyword(Keyword::Return)) => returned(alloc, cursor),
@@ -280,38 +270,36 @@ fn simple(alloc: Global, cursor: &mut Cursor) -> Result<Stmt, Stop>
 /// `"return" [ Expr ] ";"`
 #[tactic(auto, using(crate::proofs::Stating::return_alone, crate::proofs::Stating::return_with))]
 fn returned(alloc: Global, cursor: &mut Cursor) -> Result<Stmt, Stop>
-    ensures pays { OnOk result (Reads 0 cursor.old cursor.new) }
+    ensures moves { OnOk result (Reads cursor.old cursor.new) }
     ensures fault { IfErr result (λ stop. IsFault cursor.old.text stop) }
     ensures derives { IfOk result (λ s. DerivesStmt cursor.old.rest.now cursor.new.rest.now (plain_stmt s)) }
-    ensures last { IfOk result (λ s. s.node + 1 ≡ cursor.new.node) }
 {
     let place = cursor.keyword(Keyword::Return)?;
     if cursor.symbol_if(Symbol::Semicolon)? {
-        return Ok(made(cursor, place, StmtKind::Return(None)));
+        return Ok(made(place, StmtKind::Return(None)));
     }
     let value = value(alloc, cursor)?;
-    Ok(made(cursor, place, StmtKind::Return(Some(value))))
+    Ok(made(place, StmtKind::Return(Some(value))))
 }
 
 /// `"print" "(" ( Expr | Text ) ")" ";"`
 fn printed(alloc: Global, cursor: &mut Cursor) -> Result<Stmt, Stop>
-    ensures pays { OnOk result (Reads 0 cursor.old cursor.new) }
+    ensures moves { OnOk result (Reads cursor.old cursor.new) }
     ensures fault { IfErr result (λ stop. IsFault cursor.old.text stop) }
     ensures derives { IfOk result (λ s. DerivesStmt cursor.old.rest.now cursor.new.rest.now (plain_stmt s)) }
-    ensures last { IfOk result (λ s. s.node + 1 ≡ cursor.new.node) }
 {
     let place = cursor.keyword(Keyword::Print)?;
     cursor.open(Symbol::OpenParen)?;
     let kind = shown(alloc, cursor)?;
     cursor.close(Symbol::CloseParen)?;
     cursor.symbol(Symbol::Semicolon)?;
-    Ok(made(cursor, place, kind))
+    Ok(made(place, kind))
 }
 
 /// `Expr | Text`
 #[tactic(auto, using(crate::proofs::Stating::shown_value, crate::proofs::Stating::shown_text))]
 fn shown(alloc: Global, cursor: &mut Cursor) -> Result<StmtKind, Stop>
-    ensures pays { OnOk result (Reads 0 cursor.old cursor.new) }
+    ensures moves { OnOk result (Reads cursor.old cursor.new) }
     ensures fault { IfErr result (λ stop. IsFault cursor.old.text stop) }
     ensures derives { IfOk result (λ kind. DerivesPrinted cursor.old.rest.now cursor.new.rest.now (plain_stmt_kind kind)) }
 {
@@ -326,15 +314,14 @@ fn shown(alloc: Global, cursor: &mut Cursor) -> Result<StmtKind, Stop>
 /// `"region" Name { "," Name } ";"`
 #[tactic(auto, using(crate::proofs::Stating::made_regions))]
 fn regions(alloc: Global, cursor: &mut Cursor) -> Result<Stmt, Stop>
-    ensures pays { OnOk result (Reads 0 cursor.old cursor.new) }
+    ensures moves { OnOk result (Reads cursor.old cursor.new) }
     ensures fault { IfErr result (λ stop. IsFault cursor.old.text stop) }
     ensures derives { IfOk result (λ s. DerivesStmt cursor.old.rest.now cursor.new.rest.now (plain_stmt s)) }
-    ensures last { IfOk result (λ s. s.node + 1 ≡ cursor.new.node) }
 {
     let place = cursor.keyword(Keyword::Region)?;
     let names = names(alloc, cursor)?;
     cursor.symbol(Symbol::Semicolon)?;
-    Ok(made(cursor, place, StmtKind::Region { names }))
+    Ok(made(place, StmtKind::Region { names }))
 }
 
 /// Whether the statement is a declaration: it begins with `int`, `boolean`, `final`, or a name followed by a
@@ -361,10 +348,9 @@ fn closes_third(cursor: &Cursor) -> bool {
 
 /// `[ "final" ] Type Name "=" Expr ";"`
 fn declaration(alloc: Global, cursor: &mut Cursor) -> Result<Stmt, Stop>
-    ensures pays { OnOk result (Reads 0 cursor.old cursor.new) }
+    ensures moves { OnOk result (Reads cursor.old cursor.new) }
     ensures fault { IfErr result (λ stop. IsFault cursor.old.text stop) }
     ensures derives { IfOk result (λ s. DerivesStmt cursor.old.rest.now cursor.new.rest.now (plain_stmt s)) }
-    ensures last { IfOk result (λ s. s.node + 1 ≡ cursor.new.node) }
 {
     let is_final = cursor.keyword_if(Keyword::Final)?;
     let ty = ty(alloc, cursor)?;
@@ -377,13 +363,13 @@ fn declaration(alloc: Global, cursor: &mut Cursor) -> Result<Stmt, Stop>
         name: named.name,
         value,
     };
-    Ok(made(cursor, named.place, kind))
+    Ok(made(named.place, kind))
 }
 
 /// `Expr ";"`
 #[tactic(auto, using(crate::proofs::Stating::made_value))]
 fn value(alloc: Global, cursor: &mut Cursor) -> Result<Expr, Stop>
-    ensures pays { OnOk result (Reads 0 cursor.old cursor.new) }
+    ensures moves { OnOk result (Reads cursor.old cursor.new) }
     ensures fault { IfErr result (λ stop. IsFault cursor.old.text stop) }
     ensures derives { IfOk result (λ e. DerivesValue cursor.old.rest.now cursor.new.rest.now (plain_expr e)) }
 {
@@ -405,41 +391,39 @@ fn assigns(cursor: &Cursor) -> bool {
 
 /// `Name "=" Expr ";"`
 fn assignment(alloc: Global, cursor: &mut Cursor) -> Result<Stmt, Stop>
-    ensures pays { OnOk result (Reads 0 cursor.old cursor.new) }
+    ensures moves { OnOk result (Reads cursor.old cursor.new) }
     ensures fault { IfErr result (λ stop. IsFault cursor.old.text stop) }
     ensures derives { IfOk result (λ s. DerivesStmt cursor.old.rest.now cursor.new.rest.now (plain_stmt s)) }
-    ensures last { IfOk result (λ s. s.node + 1 ≡ cursor.new.node) }
 {
     let target = cursor.name()?;
     let place = cursor.symbol(Symbol::Assign)?;
     let value = value(alloc, cursor)?;
-    Ok(made(cursor, place, StmtKind::AssignLocal { target, value }))
+    Ok(made(place, StmtKind::AssignLocal { target, value }))
 }
 
 /// `Postfix "=" Expr ";"` where it ends as a field or element, and `Postfix ";"` where as a call or creation.
 #[tactic(auto, using(crate::proofs::Stating::made_field_assignment, crate::proofs::Stating::made_element_assignment, crate::proofs::Stating::call_performed, crate::proofs::Stating::new_performed))]
 fn performed(alloc: Global, cursor: &mut Cursor) -> Result<Stmt, Stop>
-    ensures pays { OnOk result (Reads 0 cursor.old cursor.new) }
+    ensures moves { OnOk result (Reads cursor.old cursor.new) }
     ensures fault { IfErr result (λ stop. IsFault cursor.old.text stop) }
     ensures derives { IfOk result (λ s. DerivesStmt cursor.old.rest.now cursor.new.rest.now (plain_stmt s)) }
-    ensures last { IfOk result (λ s. s.node + 1 ≡ cursor.new.node) }
 {
     let target = target(alloc, cursor)?;
     match &target.kind {
         ExprKind::Field { .. } => {
             let place = cursor.symbol(Symbol::Assign)?;
             let value = value(alloc, cursor)?;
-            Ok(made(cursor, place, StmtKind::AssignField { target, value }))
+            Ok(made(place, StmtKind::AssignField { target, value }))
         }
         ExprKind::Element { .. } => {
             let place = cursor.symbol(Symbol::Assign)?;
             let value = value(alloc, cursor)?;
-            Ok(made(cursor, place, StmtKind::AssignElement { target, value }))
+            Ok(made(place, StmtKind::AssignElement { target, value }))
         }
         ExprKind::Call { .. } | ExprKind::New { .. } => {
             cursor.symbol(Symbol::Semicolon)?;
             let place = target.place;
-            Ok(made(cursor, place, StmtKind::Do(target)))
+            Ok(made(place, StmtKind::Do(target)))
         }
         _ => Err(cursor.unexpected()),
     }

@@ -15,16 +15,14 @@ use std::alloc::Global;
 /// `Type = Base { "[" "]" [ "<" Rpl ">" ] [ "#" Name ] }`
 #[tactic(auto, using(crate::specs::Types::type_of))]
 pub fn ty(alloc: Global, cursor: &mut Cursor) -> Result<TypeTree, Stop>
-    ensures pays { OnOk result (Reads 0 cursor.old cursor.new) }
+    ensures moves { OnOk result (Reads cursor.old cursor.new) }
     ensures fault { IfErr result (λ stop. IsFault cursor.old.text stop) }
     ensures derives { IfOk result (λ tree. DerivesType cursor.old.rest.now cursor.new.rest.now tree) }
-    ensures last { IfOk result (λ tree. tree.node + 1 ≡ cursor.new.node) }
 {
     let place = cursor.place();
     let base = base(alloc, cursor)?;
     let suffixes = suffixes(alloc, cursor)?;
     Ok(TypeTree {
-        node: cursor.number(),
         place,
         base,
         suffixes,
@@ -34,7 +32,7 @@ pub fn ty(alloc: Global, cursor: &mut Cursor) -> Result<TypeTree, Stop>
 /// `Base = "int" | "boolean" | Name [ Args ]`
 #[tactic(auto, using(crate::proofs::TypeForms::base_int, crate::proofs::TypeForms::base_boolean, crate::specs::Types::class))]
 pub fn base(alloc: Global, cursor: &mut Cursor) -> Result<BaseTree, Stop>
-    ensures pays { OnOk result (Reads 1 cursor.old cursor.new) }
+    ensures moves { OnOk result (Reads cursor.old cursor.new) }
     ensures fault { IfErr result (λ stop. IsFault cursor.old.text stop) }
     ensures derives { IfOk result (λ start. DerivesBase cursor.old.rest.now cursor.new.rest.now start) }
 {
@@ -58,7 +56,7 @@ pub fn base(alloc: Global, cursor: &mut Cursor) -> Result<BaseTree, Stop>
 /// `{ "[" "]" [ "<" Rpl ">" ] [ "#" Name ] }`
 #[tactic(auto, using(crate::proofs::Lists::many_more, crate::proofs::Lists::few_more, crate::specs::Taking::none, crate::proofs::TypeForms::suffix_of))]
 fn suffixes(alloc: Global, cursor: &mut Cursor) -> Result<Items<Suffix>, Stop>
-    ensures pays { OnOk result (Keeps cursor.old cursor.new) }
+    ensures moves { OnOk result (Keeps cursor.old cursor.new) }
     ensures fault { IfErr result (λ stop. IsFault cursor.old.text stop) }
     ensures derives { IfOk result (λ suffixes. Many DerivesSuffix cursor.old.rest.now cursor.new.rest.now suffixes) }
     ensures few { IfOk result (λ suffixes. length suffixes ≤ 32) }
@@ -78,7 +76,7 @@ fn suffixes(alloc: Global, cursor: &mut Cursor) -> Result<Items<Suffix>, Stop>
 /// `[ "<" Rpl ">" ] [ "#" Name ]`
 #[tactic(auto, using(crate::specs::Types::behind))]
 pub fn behind_brackets(alloc: Global, cursor: &mut Cursor) -> Result<Suffix, Stop>
-    ensures pays { OnOk result (Keeps cursor.old cursor.new) }
+    ensures moves { OnOk result (Keeps cursor.old cursor.new) }
     ensures fault { IfErr result (λ stop. IsFault cursor.old.text stop) }
     ensures derives { IfOk result (λ tree. DerivesBehind cursor.old.rest.now cursor.new.rest.now tree) }
 {
@@ -90,7 +88,7 @@ pub fn behind_brackets(alloc: Global, cursor: &mut Cursor) -> Result<Suffix, Sto
 /// `[ "<" Rpl ">" ]`
 #[tactic(auto, using(crate::proofs::TypeForms::region_none, crate::proofs::TypeForms::region_some))]
 fn region_if(alloc: Global, cursor: &mut Cursor) -> Result<Option<RplTree>, Stop>
-    ensures pays { OnOk result (Keeps cursor.old cursor.new) }
+    ensures moves { OnOk result (Keeps cursor.old cursor.new) }
     ensures fault { IfErr result (λ stop. IsFault cursor.old.text stop) }
     ensures derives { IfOk result (λ region. DerivesRegion cursor.old.rest.now cursor.new.rest.now region) }
 {
@@ -105,7 +103,7 @@ fn region_if(alloc: Global, cursor: &mut Cursor) -> Result<Option<RplTree>, Stop
 /// `[ "#" Name ]`
 #[tactic(auto, using(crate::proofs::TypeForms::index_none, crate::proofs::TypeForms::index_some))]
 fn index_if(cursor: &mut Cursor) -> Result<Option<Named>, Stop>
-    ensures pays { OnOk result (Keeps cursor.old cursor.new) }
+    ensures moves { OnOk result (Keeps cursor.old cursor.new) }
     ensures fault { IfErr result (λ stop. IsFault cursor.old.text stop) }
     ensures derives { IfOk result (λ index. DerivesIndex cursor.old.rest.now cursor.new.rest.now index) }
 {

@@ -1,5 +1,5 @@
 -- Concrete regions: what is matched is one, and one that lies in a path with the environment put in is matched.
-use Rattle.std.proofs.Common.{◌≡◌, ℕ, ℤ, pos, Bool, true, false, ◌&&◌, List, [], ◌∷◌, ◌++◌, map, refl, sym, ap, ◌∙◌, subst}
+use Rattle.std.proofs.Common.{◌≡◌, pos, true, List, [], ◌∷◌, ◌++◌, map, refl, ap, ◌∙◌}
 use Rattle.std.proofs.lemmas.Bool.{and_parts, and_from, false≢true}
 use Rattle.dpj_base.specs.declared.elems.Elem.{Elem}
 use Rattle.dpj_base.specs.declared.elems.Elem.TheVariants.{Name, At, Any, Star, Local}
@@ -8,9 +8,9 @@ use Rattle.dpj_base.specs.declared.region.Head.{Head}
 use Rattle.dpj_base.specs.declared.region.Head.TheVariants.{Root, Param}
 use Rattle.dpj_base.specs.declared.region.Rpl.{Rpl}
 use Rattle.dpj_base.specs.declared.effect.Constraint.{Constraint}
-use Rattle.dpj_base.specs.Regions.{covers_elems, within}
+use Rattle.dpj_base.specs.Regions.{within}
 use Rattle.dpj_base.specs.Matching.{is_plain, all_plain, is_concrete, all_concrete, Env, IsEnv, put_elem, put_in, head_region, Fits, FitsAll, Matches}
-use Rattle.dpj_regions.proofs.Inclusion.{Covers, Covers-from}
+use Rattle.dpj_regions.proofs.Inclusion.{Covers-from}
 use Rattle.dpj_regions.proofs.Fitting.{FitsAll-within}
 use Rattle.dpj_regions.proofs.Putting.{FitsAll-split}
 
@@ -90,7 +90,8 @@ region-plain : (given : List Constraint) (env : Env) → IsEnv given env → (h 
 region-plain given env v Root = refl
 region-plain given env v (Param p) = v.regions p
 
-pub within_matches : (given : List Constraint) (env : Env) → IsEnv given env → (a : Rpl) (r : List Elem) → all_concrete r ≡ true → within (record { head = Root; elems = r }) (put_in env a) ≡ true → Matches env a r
+pub within_matches : (given : List Constraint) (env : Env) → IsEnv given env → (a : Rpl) (r : List Elem) → all_concrete r ≡ true →
+    within (record { head = Root; elems = r }) (put_in env a) ≡ true → Matches env a r
 unfolding within put_in Matches
 within_matches given env v a r c w =
     let reg = head_region env a.head in

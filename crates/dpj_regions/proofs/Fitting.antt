@@ -50,7 +50,8 @@ starred [] h = absurd (false≢true h)
 starred (x ∷ c) h = (c, ap (λ z. z ∷ c) (star_is x h))
 
 -- the same with the heads before the lists
-heads_match : (given : List Constraint) (env : Env) → IsEnv given env → (h k : Head) (b rest : List Elem) → heads_within h k b ≡ true → FitsAll env b rest → (more : List Elem) × (head_region env h ++ rest ≡ head_region env k ++ more) × FitsAll env b more
+heads_match : (given : List Constraint) (env : Env) → IsEnv given env → (h k : Head) (b rest : List Elem) → heads_within h k b ≡ true → FitsAll env b rest →
+    (more : List Elem) × (head_region env h ++ rest ≡ head_region env k ++ more) × FitsAll env b more
 heads_match given env v Root Root b rest e f = (rest, refl, f)
 heads_match given env v (Param p) (Param q) b rest e f = (rest, ap (λ z. env.region z ++ rest) (eqb-true p q e), f)
 heads_match given env v (Param p) Root b rest e f =

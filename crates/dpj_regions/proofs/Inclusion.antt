@@ -1,8 +1,8 @@
 -- Inclusion of lists of elements as a derivation, and what it keeps.
-use Rattle.std.proofs.Common.{◌≡◌, true, false, not, eqb, List, [], ◌∷◌, ◌++◌, refl, sym, ap, ◌∙◌, subst, inl, inr, ◌⊎◌, ⊎_elim}
+use Rattle.std.proofs.Common.{◌≡◌, true, false, not, List, [], ◌∷◌, ◌++◌, refl, sym, ap, ◌∙◌, subst, inl, inr, ◌⊎◌, ⊎_elim}
 use Rattle.std.proofs.lemmas.Bool.{cases_Bool, and_parts, or_cases, or_right, or_left, and_from, false≢true, not-true, cond-true, cond-false, eqb-true, eq-eqb}
 use Rattle.dpj_base.specs.declared.elems.Elem.{Elem}
-use Rattle.dpj_base.specs.declared.elems.Elem.TheVariants.{Name, At, Any, Star, Local}
+use Rattle.dpj_base.specs.declared.elems.Elem.TheVariants.{Any, Star}
 use Rattle.dpj_base.specs.declared.region.Head.{Head}
 use Rattle.dpj_base.specs.declared.region.Head.TheVariants.{Root, Param}
 use Rattle.dpj_base.specs.declared.region.Rpl.{Rpl}
@@ -138,7 +138,8 @@ starts-within (y ∷ b) (x ∷ a) h k =
     absurd (false≢true (sym (elem_within-star x y p.0 s) ∙ h)))
     (cases_Bool (is_star y))
 
-heads_within-trans : (h k m : Head) (b c : List Elem) → heads_within h k b ≡ true → heads_within k m c ≡ true → covers_elems c b ≡ true → heads_within h m c ≡ true
+heads_within-trans : (h k m : Head) (b c : List Elem) → heads_within h k b ≡ true → heads_within k m c ≡ true → covers_elems c b ≡ true →
+    heads_within h m c ≡ true
 heads_within-trans Root Root m b c e f w = f
 heads_within-trans Root (Param q) m b c e f w = absurd (false≢true e)
 heads_within-trans (Param p) (Param q) Root b c e f w = f

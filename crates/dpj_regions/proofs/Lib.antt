@@ -3,5 +3,6 @@ pub mod Fitting
 pub mod Inclusion
 pub mod Missing
 pub mod Putting
+pub mod Reading
 pub mod Same
 pub mod Segments

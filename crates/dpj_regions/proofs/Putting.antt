@@ -1,5 +1,6 @@
 -- What putting arguments in and making a variable general say of matching.
-use Rattle.std.proofs.Common.{◌≡◌, ◌↔◌, ◌≤◌, ◌+◌, ℕ, ℤ, pos, Bool, true, false, cond, eqb, List, [], ◌∷◌, ◌++◌, map, refl, sym, ap, ◌∙◌, subst, ⊎_elim, append_assoc, arith}
+use Rattle.std.proofs.Common.{◌≡◌, ◌↔◌, ◌≤◌, ◌+◌, ℕ, ℤ, pos, Bool, true, false, cond, eqb, List, [], ◌∷◌, ◌++◌, map, refl, sym, ap, ◌∙◌, subst, ⊎_elim}
+use Rattle.std.proofs.Common.{append_assoc, arith}
 use Rattle.std.specs.Prelude.{count_by}
 use Rattle.std.proofs.lemmas.Bool.{and_parts, and_from, false≢true, cases_Bool, eqb-true, eq-eqb, ne_eqb, cond-true, cond-false, false_from_ne_true}
 use Rattle.std.proofs.lemmas.List.{map-append}
@@ -11,7 +12,8 @@ use Rattle.dpj_base.specs.declared.elems.Index.TheVariants.{Literal, Variable, R
 use Rattle.dpj_base.specs.declared.region.Head.{Head}
 use Rattle.dpj_base.specs.declared.region.Head.TheVariants.{Root, Param}
 use Rattle.dpj_base.specs.declared.region.Rpl.{Rpl}
-use Rattle.dpj_base.specs.Regions.{is_star, is_specified, all_specified, same_elem, elem_within, within, argument, put_at, substituted, general_elem, generalised}
+use Rattle.dpj_base.specs.Regions.{is_star, is_specified, all_specified, same_elem, elem_within, within, argument, put_at, substituted, general_elem}
+use Rattle.dpj_base.specs.Regions.{generalised}
 use Rattle.dpj_base.specs.Matching.{Env, IsEnv, number_of, put_elem, put_in, head_region, Fits, FitsAll, Matches, with_regions, with_index}
 use Rattle.dpj_regions.proofs.Inclusion.{Covers, none, one, stop, skip, Covers-to, star_is, elem_within-refl, heads_within-same}
 use Rattle.dpj_regions.proofs.Same.{same_elem-is}
@@ -75,7 +77,7 @@ module _ (env : Env) (g : ℕ → List Elem) where
   FitsAll-no_regions [] r f = f
   FitsAll-no_regions (x ∷ a) r f = (f.0, f.1, f.2, fits-no_regions x f.0 f.3, FitsAll-no_regions a f.1 f.4)
 
-  put_elem-regions : (x : Elem) → put_elem env x ≡ put_elem (with_regions env g) x
+  pub put_elem-regions : (x : Elem) → put_elem env x ≡ put_elem (with_regions env g) x
   put_elem-regions (Name n) = refl
   put_elem-regions (At i) = ap (λ k. At (Literal k)) (number-regions i)
   put_elem-regions Any = refl
@@ -94,7 +96,8 @@ chosen-at : (env : Env) (args : List Rpl) (p : ℕ) (q : List Elem) → chosen e
 unfolding chosen
 chosen-at env args p q = cond-true (eqb p p) _ _ (eq-eqb p p refl)
 
-chosen-match : (env : Env) (args : List Rpl) (p : ℕ) (q : List Elem) → Matches env (argument args p) q → (x : ℕ) → Matches env (argument args x) (chosen env args p q x)
+chosen-match : (env : Env) (args : List Rpl) (p : ℕ) (q : List Elem) → Matches env (argument args p) q → (x : ℕ) →
+    Matches env (argument args x) (chosen env args p q x)
 unfolding chosen
 chosen-match env args p q m x =
     ⊎_elim
@@ -119,7 +122,8 @@ bound_from env args (Param p) e r m =
       chosen-match env args p q (s.0, refl, s.3),
       (
         s.1,
-        m.1 ∙ ap (λ z. head_region env arg.head ++ z) s.2 ∙ sym (append_assoc (head_region env arg.head) s.0 s.1) ∙ ap (λ z. z ++ s.1) (sym (chosen-at env args p q)),
+        m.1 ∙ ap (λ z. head_region env arg.head ++ z) s.2 ∙ sym (append_assoc (head_region env arg.head) s.0 s.1)
+            ∙ ap (λ z. z ++ s.1) (sym (chosen-at env args p q)),
         FitsAll-regions env regions e s.1 s.4,
       ),
     )
@@ -136,14 +140,16 @@ bound_to env args (Param p) e r b =
       FitsAll-append env arg.elems e n.0 m.0 n.2 (FitsAll-no_regions env b.0 e m.0 m.2),
     )
 
-pub substitution_matches : (env : Env) (args : List Rpl) (a : Rpl) (r : List Elem) → Matches env (substituted args a) r ↔ ((regions : ℕ → List Elem) × ((p : ℕ) → Matches env (argument args p) (regions p)) × Matches (with_regions env regions) a r)
+pub substitution_matches : (env : Env) (args : List Rpl) (a : Rpl) (r : List Elem) →
+    Matches env (substituted args a) r ↔ ((regions : ℕ → List Elem) × ((p : ℕ) → Matches env (argument args p) (regions p)) × Matches (with_regions env regions) a r)
 unfolding substituted Bound
 substitution_matches env args a r = (λ m. bound_from env args a.head a.elems r m, λ b. bound_to env args a.head a.elems r b)
 
 argument_regions : Env → List Rpl → ℕ → List Elem
 argument_regions env args p = (put_in env (argument args p)).elems
 
-puts_in : (env : Env) (args : List Rpl) (h : Head) (e : List Elem) → put_in env (put_at h e args) ≡ put_in (with_regions env (argument_regions env args)) (record { head = h; elems = e })
+puts_in : (env : Env) (args : List Rpl) (h : Head) (e : List Elem) →
+    put_in env (put_at h e args) ≡ put_in (with_regions env (argument_regions env args)) (record { head = h; elems = e })
 unfolding put_in argument_regions
 puts_in env args Root e = ap (λ z. record { head = Root; elems = z }) (map_put-regions env (argument_regions env args) e)
 puts_in env args (Param p) e =
@@ -153,13 +159,15 @@ puts_in env args (Param p) e =
     (ap (λ z. reg ++ z) (map-append (put_elem env) arg.elems e) ∙ sym (append_assoc reg _ _)
     ∙ ap (λ z. (reg ++ map (put_elem env) arg.elems) ++ z) (map_put-regions env (argument_regions env args) e))
 
-pub substitution_puts_in : (env : Env) (args : List Rpl) (a : Rpl) → put_in env (substituted args a) ≡ put_in (with_regions env (λ p. (put_in env (argument args p)).elems)) a
+pub substitution_puts_in : (env : Env) (args : List Rpl) (a : Rpl) →
+    put_in env (substituted args a) ≡ put_in (with_regions env (λ p. (put_in env (argument args p)).elems)) a
 unfolding substituted argument_regions
 substitution_puts_in env args a = puts_in env args a.head a.elems
 
 -- a variable made general
 
-general_fits : (env : Env) (v w : ℕ) (k : ℤ) (r : List Elem) (b : Bool) → r ≡ At (Literal (cond b k (env.index w))) ∷ [] → Fits env (cond b Any (At (Variable w))) r
+general_fits : (env : Env) (v w : ℕ) (k : ℤ) (r : List Elem) (b : Bool) → r ≡ At (Literal (cond b k (env.index w))) ∷ [] →
+    Fits env (cond b Any (At (Variable w))) r
 general_fits env v w k r true f = (k, f)
 general_fits env v w k r false f = f
 
@@ -227,7 +235,8 @@ pub included_in_general : (a : Rpl) (v : ℕ) → within a (generalised v a) ≡
 unfolding within generalised
 included_in_general a v = and_from _ _ (heads_within-same a.head _) (Covers-to (Covers-general v a.elems))
 
-general_var-index : (env : Env) (v w : ℕ) (k : ℤ) (r : List Elem) (b : Bool) → eqb v w ≡ b → Fits env (cond b Any (At (Variable w))) r ↔ Fits (with_index env v k) (cond b Any (At (Variable w))) r
+general_var-index : (env : Env) (v w : ℕ) (k : ℤ) (r : List Elem) (b : Bool) → eqb v w ≡ b →
+    Fits env (cond b Any (At (Variable w))) r ↔ Fits (with_index env v k) (cond b Any (At (Variable w))) r
 general_var-index env v w k r true e = (λ f. f, λ f. f)
 general_var-index env v w k r false e =
     let s : cond (eqb v w) k (env.index w) ≡ env.index w = cond-false (eqb v w) _ _ e in
@@ -243,7 +252,8 @@ fits_general-index env v k Any r = (λ f. f, λ f. f)
 fits_general-index env v k Star r = (λ f. f, λ f. f)
 fits_general-index env v k (Local a b) r = (λ f. f, λ f. f)
 
-FitsAll_general-index : (env : Env) (v : ℕ) (k : ℤ) (a r : List Elem) → FitsAll env (map (general_elem v) a) r ↔ FitsAll (with_index env v k) (map (general_elem v) a) r
+FitsAll_general-index : (env : Env) (v : ℕ) (k : ℤ) (a r : List Elem) →
+    FitsAll env (map (general_elem v) a) r ↔ FitsAll (with_index env v k) (map (general_elem v) a) r
 FitsAll_general-index env v k [] r = (λ f. f, λ f. f)
 FitsAll_general-index env v k (x ∷ a) r = (
   λ f. (f.0, f.1, f.2, (fits_general-index env v k x f.0).0 f.3, (FitsAll_general-index env v k a f.1).0 f.4),
@@ -259,7 +269,8 @@ general_forgets env a v k r = (
 
 -- where the variable stands at most once
 
-fits-not_var : (env : Env) (v : ℕ) (k : ℤ) (x : Elem) (r : List Elem) → same_elem x (At (Variable v)) ≡ false → Fits env (general_elem v x) r → Fits (with_index env v k) x r
+fits-not_var : (env : Env) (v : ℕ) (k : ℤ) (x : Elem) (r : List Elem) → same_elem x (At (Variable v)) ≡ false → Fits env (general_elem v x) r →
+    Fits (with_index env v k) x r
 fits-not_var env v k (Name n) r e f = f
 fits-not_var env v k (At (Literal j)) r e f = f
 fits-not_var env v k (At (Renamed w)) r e f = f
@@ -276,7 +287,9 @@ stands v a = count_by (λ x. same_elem x (At (Variable v))) a
 
 stands-cons : (v : ℕ) (x : Elem) (a : List Elem) → stands v (x ∷ a) ≡ cond (same_elem x (At (Variable v))) 1 0 + stands v a
 unfolding stands
-stands-cons v x a = sum_by-append (λ y. cond (same_elem y (At (Variable v))) 1 0) (x ∷ []) a ∙ ap (λ z. z + stands v a) (let e : 0 + cond {A = ℕ} (same_elem x (At (Variable v))) 1 0 ≡ cond (same_elem x (At (Variable v))) 1 0 = omega arith in e)
+stands-cons v x a =
+    sum_by-append (λ y. cond (same_elem y (At (Variable v))) 1 0) (x ∷ []) a
+    ∙ ap (λ z. z + stands v a) (let e : 0 + cond {A = ℕ} (same_elem x (At (Variable v))) 1 0 ≡ cond (same_elem x (At (Variable v))) 1 0 = omega arith in e)
 
 no_stand : (n : ℕ) (b : Bool) (m : ℕ) → cond b 1 0 + n ≤ m → b ≡ true → n + 1 ≤ m
 no_stand n true m h e = omega arith
@@ -291,7 +304,8 @@ unfolding stands
 FitsAll-no_var env v k [] r h f = f
 FitsAll-no_var env v k (x ∷ a) r h0 f =
     let h = subst (λ z. z ≤ 0) (stands-cons v x a) h0 in
-    let e : same_elem x (At (Variable v)) ≡ false = false_from_ne_true _ (λ t. absurd (omega (arith, no_stand (stands v a) (same_elem x (At (Variable v))) 0 h t))) in
+    let e : same_elem x (At (Variable v)) ≡ false =
+    false_from_ne_true _ (λ t. absurd (omega (arith, no_stand (stands v a) (same_elem x (At (Variable v))) 0 h t))) in
     (f.0, f.1, f.2, fits-not_var env v k x f.0 e f.3, FitsAll-no_var env v k a f.1 (fewer (stands v a) (same_elem x (At (Variable v))) 0 h) f.4)
 
 FitsAll-one_var : (env : Env) (v : ℕ) (a r : List Elem) → stands v a ≤ 1 → FitsAll env (map (general_elem v) a) r → (k : ℤ) × FitsAll (with_index env v k) a r
@@ -303,14 +317,16 @@ FitsAll-one_var env v (x ∷ a) r h0 f =
     (λ t. let same = same_elem-is x (At (Variable v)) t in
     let i = subst (λ z. Fits env (general_elem v z) f.0) same f.3 in
     let any : Fits env Any f.0 = subst (λ z. Fits env z f.0) (cond-true (eqb v v) Any (At (Variable v)) (eq-eqb v v refl)) i in
-    let here : Fits (with_index env v any.0) (At (Variable v)) f.0 = any.1 ∙ ap (λ z. At (Literal z) ∷ []) (sym (cond-true (eqb v v) any.0 (env.index v) (eq-eqb v v refl))) in
+    let here : Fits (with_index env v any.0) (At (Variable v)) f.0 =
+    any.1 ∙ ap (λ z. At (Literal z) ∷ []) (sym (cond-true (eqb v v) any.0 (env.index v) (eq-eqb v v refl))) in
     let none_left : stands v a ≤ 0 = omega (arith, no_stand (stands v a) (same_elem x (At (Variable v))) 1 h t) in
     (any.0, (f.0, f.1, f.2, subst (λ z. Fits (with_index env v any.0) z f.0) (sym same) here, FitsAll-no_var env v any.0 a f.1 none_left f.4)))
     (λ e. let g = FitsAll-one_var env v a f.1 (fewer (stands v a) (same_elem x (At (Variable v))) 1 h) f.4 in
     (g.0, (f.0, f.1, f.2, fits-not_var env v g.0 x f.0 e f.3, g.1)))
     (cases_Bool (same_elem x (At (Variable v))))
 
-pub general_matches_no_more : (env : Env) (a : Rpl) (v : ℕ) → count_by (λ x. same_elem x (At (Variable v))) a.elems ≤ 1 → (r : List Elem) → Matches env (generalised v a) r → (k : ℤ) × Matches (with_index env v k) a r
+pub general_matches_no_more : (env : Env) (a : Rpl) (v : ℕ) → count_by (λ x. same_elem x (At (Variable v))) a.elems ≤ 1 → (r : List Elem) →
+    Matches env (generalised v a) r → (k : ℤ) × Matches (with_index env v k) a r
 unfolding Matches generalised stands
 general_matches_no_more env a v h r m =
     let f = FitsAll-one_var env v a.elems m.0 h m.2 in

@@ -1,5 +1,5 @@
 -- What the tests of sameness say: of indices, elements, heads and whole paths.
-use Rattle.std.proofs.Common.{◌≡◌, true, ◌&&◌, eqb, List, [], ◌∷◌, refl, ap, ◌∙◌, subst}
+use Rattle.std.proofs.Common.{◌≡◌, true, eqb, List, [], ◌∷◌, refl, ap, ◌∙◌, subst}
 use Rattle.std.proofs.lemmas.Bool.{and_parts, and_from, false≢true, eqb-true, eq-eqb}
 use Rattle.std.proofs.lemmas.Bool.Decides.{Decides-int_eq}
 use Rattle.dpj_base.specs.declared.elems.Elem.{Elem}

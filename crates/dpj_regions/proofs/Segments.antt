@@ -1,6 +1,8 @@
 -- What the tests of a segment say of inclusion.
-use Rattle.std.proofs.Common.{◌≡◌, ℕ, suc, zero, ◌+◌, ◌<◌, ◌≤◌, Bool, true, false, not, cond, ◌&&◌, ◌||◌, eqb, List, [], ◌∷◌, ◌++◌, length, drop, take, get_or, Option, Some, None, refl, sym, ap, ◌∙◌, arith, ne_eqb, eq-eqb, ⊎_elim, add-one}
-use Rattle.std.proofs.lemmas.Bool.{and_right, and_left, cases_Bool, and_parts, or_cases, or_right, and_from, false≢true, not-true, cases_eq, eqb-true, cond-false, false_from_ne_true}
+use Rattle.std.proofs.Common.{◌≡◌, ℕ, suc, zero, ◌+◌, ◌<◌, ◌≤◌, Bool, true, false, not, cond, ◌&&◌, ◌||◌, eqb, List, [], ◌∷◌, ◌++◌, length, drop, take, get_or}
+use Rattle.std.proofs.Common.{Option, Some, None, refl, sym, ap, ◌∙◌, arith, ne_eqb, eq-eqb, ⊎_elim, add-one}
+use Rattle.std.proofs.lemmas.Bool.{and_right, and_left, cases_Bool, and_parts, or_cases, or_right, and_from, false≢true, not-true, cases_eq, eqb-true}
+use Rattle.std.proofs.lemmas.Bool.{cond-false, false_from_ne_true}
 use Rattle.std.proofs.lemmas.Bool.Decides.{nat_tests}
 use Rattle.std.proofs.lemmas.List.{get_or-drop, drop-drop}
 use Rattle.dpj_base.specs.declared.elems.Elem.{Elem}
@@ -87,7 +89,8 @@ skip_free (suc n) t (x ∷ m) f h =
     or_right (covers_elems t (x ∷ m)) _ (and_from _ _ (ap not (f 0 (omega arith))) (skip_free n t m (λ q lt. f (suc q) (omega arith)) h))
 
 -- where `*` and a segment cover a list, the `*` ends at some place that it reaches
-reached : (s t l : List Elem) → NoStar s → covers_elems (Star ∷ (s ++ Star ∷ t)) l ≡ true → (k : ℕ) × Free k l × (begins_within s (drop k l) ≡ true) × (covers_elems (Star ∷ t) (drop (length s) (drop k l)) ≡ true)
+reached : (s t l : List Elem) → NoStar s → covers_elems (Star ∷ (s ++ Star ∷ t)) l ≡ true →
+    (k : ℕ) × Free k l × (begins_within s (drop k l) ≡ true) × (covers_elems (Star ∷ t) (drop (length s) (drop k l)) ≡ true)
 unfolding Free
 reached s t [] n h =
     let p = and_parts (begins_within s []) _ (sym (covers_segment s t [] n) ∙ h) in
@@ -106,7 +109,8 @@ reached s t (x ∷ l) n h =
     free_more x l k e f (suc q) lt = f q (omega arith)
 
 -- a segment that fits here serves what follows as well as one that fits further on
-greedy : (s t : List Elem) (x : Elem) (l : List Elem) → NoStar s → begins_within s (x ∷ l) ≡ true → is_local x ≡ false → covers_elems (Star ∷ (s ++ Star ∷ t)) l ≡ true → covers_elems (Star ∷ t) (drop (length s) (x ∷ l)) ≡ true
+greedy : (s t : List Elem) (x : Elem) (l : List Elem) → NoStar s → begins_within s (x ∷ l) ≡ true → is_local x ≡ false →
+    covers_elems (Star ∷ (s ++ Star ∷ t)) l ≡ true → covers_elems (Star ∷ t) (drop (length s) (x ∷ l)) ≡ true
 unfolding Free
 greedy s t x l n h e w =
     let r = reached s t l n w in
@@ -115,7 +119,8 @@ greedy s t x l n h e w =
     let far : Free k m = λ q lt. free_at q lt r.1 in
     let free = free_on s m k (omega arith) h r.2 far (length s) (omega arith) in
     let rest : Free k (drop (length s) m) = λ q lt. ap is_local (get_or-drop (length s) m q Star) ∙ free (length s + q) (omega arith) in
-    let same : drop (length s) (drop k m) ≡ drop k (drop (length s) m) = drop-drop (length s) k m ∙ ap (λ i. drop i m) (let c : k + length s ≡ length s + k = omega arith in c) ∙ sym (drop-drop k (length s) m) in
+    let same : drop (length s) (drop k m) ≡ drop k (drop (length s) m) =
+    drop-drop (length s) k m ∙ ap (λ i. drop i m) (let c : k + length s ≡ length s + k = omega arith in c) ∙ sym (drop-drop k (length s) m) in
     skip_free k t (drop (length s) m) rest (ap (λ a. covers_elems (Star ∷ t) a) (sym same) ∙ r.3)
   where
     free_at : (q : ℕ) → q < suc (reached s t l n w).0 → Free (reached s t l n w).0 l → is_local (get_or (x ∷ l) q Star) ≡ false
@@ -139,7 +144,9 @@ continues-cond t false r = refl
 pub covers_behind : (s t l : List Elem) → NoStar s → covers_elems (s ++ Star ∷ t) l ≡ continues t (behind s l)
 covers_behind s t l n = covers_segment s t l n ∙ continues-cond t (begins_within s l) (drop (length s) l)
 
-first_step : (t : List Elem) (b c w : Bool) (r : List Elem) (o : Option (List Elem)) → w ≡ continues t o → (b ≡ true → c ≡ false → w ≡ true → covers_elems (Star ∷ t) r ≡ true) → ((b && covers_elems (Star ∷ t) r) || (not c && w)) ≡ continues t (cond b (Some r) (cond c None o))
+first_step : (t : List Elem) (b c w : Bool) (r : List Elem) (o : Option (List Elem)) → w ≡ continues t o →
+    (b ≡ true → c ≡ false → w ≡ true → covers_elems (Star ∷ t) r ≡ true) →
+    ((b && covers_elems (Star ∷ t) r) || (not c && w)) ≡ continues t (cond b (Some r) (cond c None o))
 first_step t true c w r o e h = or_absorb _ _ (λ k. let p = and_parts (not c) w k in h refl (not-true c p.0) p.1)
 first_step t false true w r o e h = refl
 first_step t false false w r o e h = e

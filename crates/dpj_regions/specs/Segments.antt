@@ -13,11 +13,11 @@ begins_within [] l = true
 begins_within (y ∷ s) [] = false
 begins_within (y ∷ s) (x ∷ l) = elem_within x y && begins_within s l
 
--- what is left behind those elements
+-- what is left after those elements
 abbrev pub behind : List Elem → List Elem → Option (List Elem)
 behind s l = cond (begins_within s l) (Some (drop (length s) l)) None
 
--- what is left behind the first place where the segment fits, with no local region before that place
+-- what is left after the first place where the segment fits, with no local region before that place
 abbrev pub behind_first : List Elem → List Elem → Option (List Elem)
 behind_first s [] = behind s []
 behind_first s (x ∷ l) = cond (begins_within s (x ∷ l)) (Some (drop (length s) (x ∷ l))) (cond (is_local x) None (behind_first s l))

@@ -22,7 +22,7 @@ fn elem_within(inner: Elem, outer: Elem) -> bool
     inner == outer || (outer == Elem::Any && matches!(inner, Elem::At(_) | Elem::Any))
 }
 
-/// What stands before the first `*` and what behind it.
+/// What comes before the first `*` and what after it.
 fn at_star(path: &[Elem]) -> Option<(&[Elem], &[Elem])>
     ensures { MatchOption result (NoStar path.now) (λ parts. NoStar parts.0.now × (path.now ≡ parts.0.now ++ Elem.Star ∷ parts.1.now)) }
 {
@@ -49,7 +49,7 @@ fn begins(segment: &[Elem], list: &[Elem]) -> bool
     true
 }
 
-/// What is left of the list behind the segment, where it begins with it.
+/// What is left of the list after the segment, where it begins with it.
 fn behind<'a>(segment: &[Elem], list: &'a [Elem]) -> Option<&'a [Elem]>
     ensures { option_map (λ rest. rest.now) result ≡ behind segment.now list.now }
 {
@@ -60,7 +60,7 @@ fn behind<'a>(segment: &[Elem], list: &'a [Elem]) -> Option<&'a [Elem]>
     }
 }
 
-/// What is left behind the first place of the list where the segment fits, if a `*` reaches it.
+/// What is left after the first place of the list where the segment fits, if a `*` reaches it.
 fn skip_to<'a>(segment: &[Elem], list: &'a [Elem]) -> Option<&'a [Elem]>
     ensures { option_map (λ rest. rest.now) result ≡ behind_first segment.now list.now }
 {
@@ -91,7 +91,7 @@ fn ends(segment: &[Elem], list: &[Elem]) -> bool
 }
 
 /// Whether the elements of one path lie in those of another. Each `*` takes up as few elements as the
-/// segment behind it allows: taking up more never helps what follows.
+/// segment after it allows: taking up more never helps what follows.
 pub fn covers(outer: &[Elem], inner: &[Elem]) -> bool
     ensures { result ≡ covers_elems outer.now inner.now }
 {

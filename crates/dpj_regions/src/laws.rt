@@ -1,12 +1,22 @@
 //! Laws of region paths, each the clause of a function that does nothing.
 
-ghost use Rattle.dpj_regions.specs.Laws.{EnvironmentsExist, MatchedIsConcrete, SpecifiedMatchesOne, IncludedMatchesLess, InclusionIsReflexive, InclusionIsTransitive, SubstitutionMatches, SubstitutionPutsIn, GeneralMatchesMore, GeneralMatchesNoMore, GeneralForgets, IncludedInGeneral};
+ghost use Rattle.dpj_regions.specs.Laws.{EnvironmentsExist, MatchedIsConcrete, SpecifiedMatchesOne, IncludedMatchesLess, InclusionIsReflexive};
+ghost use Rattle.dpj_regions.specs.Laws.{InclusionIsTransitive, SubstitutionMatches, SubstitutionPutsIn, GeneralMatchesMore, GeneralMatchesNoMore};
+ghost use Rattle.dpj_regions.specs.Laws.{GeneralForgets, IncludedInGeneral, MatchesByWhatOccurs, OwnIndexMatchesMore, OwnIndexPutsIn, RenamedMatches};
+ghost use Rattle.dpj_regions.specs.Laws.{KnownArgumentMatches, ParameterMatchesItself, OwnParametersPutIn, CopiesExist};
 
-/// What paths match are concrete regions, a fully specified path matches one, and there are environments.
+/// What paths match are concrete regions, a fully specified path matches one, and it depends on what occurs in the
+/// path alone.
 pub fn law_matching()
     ensures one { SpecifiedMatchesOne }
     ensures concrete { MatchedIsConcrete }
+    ensures occurs { MatchesByWhatOccurs }
+{}
+
+/// There are environments, and one for two different iterations of a loop.
+pub fn law_environments()
     ensures exist { EnvironmentsExist }
+    ensures copies { CopiesExist }
 {}
 
 /// Inclusion is sound over what paths mean, and an order.
@@ -20,6 +30,20 @@ pub fn law_inclusion()
 pub fn law_substitution()
     ensures matches { SubstitutionMatches }
     ensures puts_in { SubstitutionPutsIn }
+    ensures known { KnownArgumentMatches }
+{}
+
+/// A parameter matches its own region, and parameters put in for themselves change nothing.
+pub fn law_parameters()
+    ensures matches { ParameterMatchesItself }
+    ensures own { OwnParametersPutIn }
+{}
+
+/// Putting an index in, for the own index of an array type or by renaming, agrees with what paths match.
+pub fn law_indices()
+    ensures more { OwnIndexMatchesMore }
+    ensures puts_in { OwnIndexPutsIn }
+    ensures renamed { RenamedMatches }
 {}
 
 /// Making a variable general agrees with what paths match.

@@ -1,5 +1,5 @@
-mod Missing
+pub mod Around
+mod Roots
 pub mod Naming
 pub mod Told
 pub mod Whole
-pub mod Wrapping

@@ -9,7 +9,8 @@ use Rattle.dpj_tree.specs.declared.region.Suffix.{Suffix}
 use Rattle.dpj_tree.specs.declared.region.TypeTree.{TypeTree}
 use Rattle.dpj_resolve.specs.declared.base.ReadType.{ReadType}
 use Rattle.dpj_resolve.specs.declared.scope.Site.{Site}
-use Rattle.dpj_resolve.specs.Scopes.{PlainScope, PlainIndex}
+use Rattle.dpj_resolve.specs.Index.{PlainIndex}
+use Rattle.dpj_resolve.specs.Scopes.{PlainScope}
 use Rattle.dpj_resolve.specs.Telling.{told_at, parts_told, parts_noted}
 use Rattle.dpj_resolve.specs.Written.{type_index, type_parts, type_read, judged_faults, type_faults}
 use Rattle.dpj_resolve.proofs.Told.{told_one, parts_later, refused_first}

@@ -1,34 +1,36 @@
--- Index names of written array types: their numbers, and which one a name means.
-use Rattle.std.specs.Prelude.{ℕ, ◌+◌, ◌*◌, ◌%◌, ◌^◌, Bool, false, ◌==◌, cond, List, [], ◌∷◌, drop, length, Option, Some, None}
+-- Index names of written array types: which array type around a place a name means. They are counted from the inside.
+use Rattle.std.specs.Prelude.{ℕ, Bool, false, ◌==◌, List, [], ◌∷◌, ◌++◌, drop, map, Option, None, option_map}
+use Rattle.std.specs.List.{position_from}
 use Rattle.std.specs.Option.{option_map_or}
+use Rattle.dpj_base.specs.declared.elems.Index.{Index}
+use Rattle.dpj_base.specs.declared.elems.Index.TheVariants.{Own}
 use Rattle.dpj_headers.specs.Numbers.{as_number}
 use Rattle.dpj_tree.specs.declared.region.Named.{Named}
 use Rattle.dpj_tree.specs.declared.region.Suffix.{Suffix}
+use Rattle.dpj_resolve.specs.declared.index.IndexNames.{IndexNames}
 
--- the index name of a suffix of a node has a number beyond those of all nodes; in the end they begin anew
-abbrev pub number_at : ℕ → ℕ → ℕ
-number_at node suffix = (2097152 * (suffix + 1) + node) % 2 ^ 32
+-- the index names in scope at a place of an array type or an array creation
+pub record PlainIndex : Type 0 where
+  pub suffixes : List Suffix
+  -- so many of the suffixes stand inside the place
+  pub inside : ℕ
+  -- the index name of the array that a creation makes, which is around all its suffixes
+  pub made : Option Named
 
--- the number of the index name of the suffix at a position
-abbrev pub number_of : ℕ → ℕ → ℕ
-number_of node position = number_at node (as_number position)
+abbrev pub plain_index : IndexNames → PlainIndex
+plain_index around = record { suffixes = around.suffixes.now; inside = around.inside; made = around.made }
 
-abbrev pub is_named : Option Named → ℕ → Bool
-is_named None name = false
-is_named (Some index) name = index.name == name
+-- no index names around a place
+abbrev pub no_index : PlainIndex
+no_index = record { suffixes = []; inside = 0; made = None }
 
--- the first of the suffixes, counted on from a number, whose index name this is
-abbrev pub suffix_named : ℕ → ℕ → List Suffix → Option ℕ
-suffix_named name at [] = None
-suffix_named name at (s ∷ ss) = cond (is_named s.index name) (Some at) (suffix_named name (at + 1) ss)
+abbrev pub is_named : ℕ → Option Named → Bool
+is_named name index = option_map_or (λ named. named.name == name) index false
 
--- the number of the index name of the array that a creation makes, where this is it
-abbrev pub made_named : ℕ → ℕ → Option Named → ℕ → Option ℕ
-made_named name node index suffixes = cond (is_named index name) (Some (number_of node suffixes)) None
+-- the index names of the array types around a place, the innermost first
+abbrev pub names_around : PlainIndex → List (Option Named)
+names_around around = map (λ suffix. suffix.index) (drop around.inside around.suffixes) ++ around.made ∷ []
 
--- the number of an index name at a place inside which so many of a node's suffixes stand: the innermost one of that
--- name
-abbrev pub index_meant : ℕ → ℕ → List Suffix → ℕ → Option Named → Option ℕ
-index_meant name node suffixes inside made =
-    option_map_or (λ at. Some (number_of node at)) (suffix_named name inside (drop inside suffixes))
-    (made_named name node made (length suffixes))
+-- the index that a name means: that of the innermost array type around with this index name
+abbrev pub index_name : PlainIndex → ℕ → Option Index
+index_name around name = option_map (λ depth. Own (as_number depth)) (position_from (is_named name) 0 (names_around around))

@@ -3,7 +3,9 @@ use Rattle.std.specs.Prelude.{ℕ, ◌+◌, Bool, true, false, ◌&&◌, ◌==�
 use Rattle.std.specs.List.{list_any, flat_map, filter_map}
 use Rattle.std.specs.Option.{option_map_or, option_or, option_flatten}
 use Rattle.dpj_base.specs.declared.elems.Elem.{Elem}
-use Rattle.dpj_base.specs.declared.elems.Elem.TheVariants.{Name, Lit, Var, Any, Star, Local}
+use Rattle.dpj_base.specs.declared.elems.Elem.TheVariants.{Name, At, Any, Star, Local}
+use Rattle.dpj_base.specs.declared.elems.Index.{Index}
+use Rattle.dpj_base.specs.declared.elems.Index.TheVariants.{Literal, Variable}
 use Rattle.dpj_base.specs.declared.place.Place.{Place}
 use Rattle.dpj_base.specs.declared.refusal.Kind.TheVariants as kind
 use Rattle.dpj_base.specs.declared.refusal.Refusal.{Refusal}
@@ -21,32 +23,28 @@ use Rattle.dpj_resolve.specs.declared.args.ReadArgs.{ReadArgs}
 use Rattle.dpj_resolve.specs.declared.paths.Need.{Need}
 use Rattle.dpj_resolve.specs.declared.scope.ParamFound.{ParamFound}
 use Rattle.dpj_resolve.specs.Args.{root_path, first_local}
-use Rattle.dpj_resolve.specs.Index.{index_meant}
+use Rattle.dpj_resolve.specs.Index.{PlainIndex, index_name}
 use Rattle.dpj_resolve.specs.Paths.{misfits, region_meant, region_faults, is_atomic_region}
 use Rattle.dpj_resolve.specs.Scoped.{value_in}
-use Rattle.dpj_resolve.specs.Scopes.{PlainScope, PlainIndex, is_atomic_at, param_meant}
-
--- the number of the index name that a name means, where it means one
-abbrev pub index_name : PlainIndex → ℕ → Option ℕ
-index_name around name = index_meant name around.node around.suffixes around.inside around.made
+use Rattle.dpj_resolve.specs.Scopes.{PlainScope, is_atomic_at, param_meant}
 
 -- a local, a formal or a foreach variable that isn't an index variable
 abbrev pub is_barred : Option (Option ℕ) → Bool
 is_barred None = false
 is_barred (Some None) = true
-is_barred (Some (Some var)) = false
+is_barred (Some (Some slot)) = false
 
--- the variable of an index `[v]`: the index name, else the index variable
-abbrev pub index_var : PlainScope → PlainIndex → ℕ → Option ℕ
-index_var scope around name = option_or (index_name around name) (option_flatten (value_in scope.variables name))
+-- what a name means in an index `[v]`: the index name, else the index variable
+abbrev pub index_meant : PlainScope → PlainIndex → ℕ → Option Index
+index_meant scope around name = option_or (index_name around name) (option_map (λ slot. Variable slot) (option_flatten (value_in scope.variables name)))
 
 -- what an element means; none where a name isn't known, or an index isn't a variable that may stand there
 abbrev pub elem_meant : PlainScope → PlainIndex → ElemTree → Option Elem
 elem_meant scope around (elem.Name name) = option_map (λ number. Name number) (region_meant scope.headers scope.class name)
 elem_meant scope around elem.Star = Some Star
 elem_meant scope around elem.Any = Some Any
-elem_meant scope around (elem.Lit k) = Some (Lit k)
-elem_meant scope around (elem.Index named) = option_map (λ var. Var var) (index_var scope around named.name)
+elem_meant scope around (elem.Lit k) = Some (At (Literal k))
+elem_meant scope around (elem.Index named) = option_map (λ index. At index) (index_meant scope around named.name)
 
 -- a name of the element isn't there
 abbrev pub elem_faults : PlainScope → PlainIndex → ElemTree → List Refusal

@@ -1,14 +1,11 @@
 -- What is around a place of the text, as plain data, and which region parameter a name means there.
-use Rattle.std.specs.Prelude.{ℕ, ◌+◌, Bool, false, List, [], length, slice_get, Option, None, Some, option_map, option_and_then}
+use Rattle.std.specs.Prelude.{ℕ, ◌+◌, Bool, false, List, length, slice_get, Option, Some, option_map, option_and_then}
 use Rattle.std.specs.Option.{option_map_or}
 use Rattle.dpj_base.specs.declared.effect.Constraint.{Constraint}
 use Rattle.dpj_headers.specs.declared.header.Headers.{Headers}
 use Rattle.dpj_headers.specs.declared.header.ParamRow.{ParamRow}
 use Rattle.dpj_headers.specs.Headers.{param_of}
 use Rattle.dpj_headers.specs.Numbers.{as_number}
-use Rattle.dpj_tree.specs.declared.region.Named.{Named}
-use Rattle.dpj_tree.specs.declared.region.Suffix.{Suffix}
-use Rattle.dpj_resolve.specs.declared.index.IndexNames.{IndexNames}
 use Rattle.dpj_resolve.specs.declared.scope.ParamFound.{ParamFound}
 use Rattle.dpj_resolve.specs.declared.scope.Scope.{Scope}
 use Rattle.dpj_resolve.specs.declared.scope.Site.{Site}
@@ -22,7 +19,7 @@ pub record PlainScope : Type 0 where
   pub class : ℕ
   -- the region parameters of the method, with whether each is atomic
   pub params : Names Bool
-  -- the locals, formals and foreach variables, with the number of each that may stand in an index
+  -- the locals, formals and foreach variables, with the slot of each that may stand in an index
   pub variables : Names (Option ℕ)
   -- the local regions, with the numbers of their declarations
   pub regions : Names ℕ
@@ -42,26 +39,6 @@ plain_scope scope = record {
   classes_given = scope.classes_given.now;
   site = scope.site;
 }
-
--- the index names in scope at a place of an array type or an array creation
-pub record PlainIndex : Type 0 where
-  pub node : ℕ
-  pub suffixes : List Suffix
-  -- so many of the suffixes stand inside the place
-  pub inside : ℕ
-  pub made : Option Named
-
-abbrev pub plain_index : IndexNames → PlainIndex
-plain_index around = record {
-  node = around.node;
-  suffixes = around.suffixes.now;
-  inside = around.inside;
-  made = around.made;
-}
-
--- no index names around a place
-abbrev pub no_index : PlainIndex
-no_index = record { node = 0; suffixes = []; inside = 0; made = None }
 
 -- the parameter at a position is declared atomic
 abbrev pub is_atomic_at : List ParamRow → ℕ → Bool

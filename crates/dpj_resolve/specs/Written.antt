@@ -1,5 +1,5 @@
 -- A type where it is written, and the type of a created array: what it is, and what is wrong in it.
-use Rattle.std.specs.Prelude.{ℕ, ◌+◌, Bool, true, false, ◌&&◌, ◌==◌, nat_le, cond, List, [], ◌∷◌, ◌++◌, length, slice_get, Option, None, Some, option_map, option_and_then}
+use Rattle.std.specs.Prelude.{ℕ, ◌+◌, Bool, true, false, ◌&&◌, ◌==◌, nat_le, cond, List, [], ◌∷◌, ◌++◌, length, slice_get, is_some, Option, None, Some, option_map}
 use Rattle.std.specs.List.{cons_option}
 use Rattle.std.specs.Option.{option_map_or}
 use Rattle.dpj_base.specs.declared.place.Place.{Place}
@@ -18,9 +18,9 @@ use Rattle.dpj_resolve.specs.declared.base.ReadType.{ReadType}
 use Rattle.dpj_resolve.specs.declared.paths.Need.{Need}
 use Rattle.dpj_resolve.specs.Args.{root_path, begins_local, local_fault}
 use Rattle.dpj_resolve.specs.Classes.{params_in, class_faults, class_type}
-use Rattle.dpj_resolve.specs.Index.{number_of}
+use Rattle.dpj_resolve.specs.Index.{PlainIndex}
 use Rattle.dpj_resolve.specs.Reading.{path_meant, path_faults, arg_faults, local_with, args_read}
-use Rattle.dpj_resolve.specs.Scopes.{PlainScope, PlainIndex}
+use Rattle.dpj_resolve.specs.Scopes.{PlainScope}
 
 -- nothing is asked of the paths in a type
 abbrev pub no_need : Need
@@ -99,15 +99,14 @@ base_faults scope read.Bool place = []
 base_faults scope (read.Class name class args) place =
     class_faults scope.headers scope.classes_given scope.given name class args place
 
--- the number of the index name of a suffix that has one
-abbrev pub own_index : PlainIndex → ℕ → Option ℕ
-own_index around at =
-    option_and_then (λ suffix. option_map (λ named. number_of around.node at) suffix.index) (slice_get around.suffixes at)
+-- an index name is written at a suffix
+abbrev pub is_indexed : PlainIndex → ℕ → Bool
+is_indexed around at = option_map_or (λ suffix. is_some suffix.index) (slice_get around.suffixes at) false
 
 -- an array of arrays, one for each path, the first innermost; their suffixes are counted on from a position
 abbrev pub arrays_from : PlainIndex → ℕ → PlainType → List Rpl → PlainType
 arrays_from around at elem [] = elem
-arrays_from around at elem (rpl ∷ rpls) = arrays_from around (at + 1) (array elem rpl (own_index around at)) rpls
+arrays_from around at elem (rpl ∷ rpls) = arrays_from around (at + 1) (array elem rpl (is_indexed around at)) rpls
 
 -- the type of a base and of paths, of which each suffix has one; none where the base or one of these isn't known
 abbrev pub with_suffixes : PlainIndex → Option PlainType → List Rpl → Option PlainType
@@ -125,7 +124,7 @@ judged_faults scope around ty place =
 
 -- the index names of a type: those of its own suffixes
 abbrev pub type_index : TypeTree → PlainIndex
-type_index tree = record { node = tree.node; suffixes = tree.suffixes; inside = 0; made = None }
+type_index tree = record { suffixes = tree.suffixes; inside = 0; made = None }
 
 -- the type that is written
 abbrev pub type_meant : PlainScope → TypeTree → Option PlainType
@@ -137,13 +136,9 @@ type_faults scope tree =
     type_parts scope (type_index tree) tree.base
     ++ judged_faults scope (type_index tree) (type_read scope (type_index tree) tree.base) tree.place ∷ []
 
--- the number of the index name of a created array, which counts as one suffix more
-abbrev pub made_index : PlainIndex → Option ℕ
-made_index around = option_map (λ named. number_of around.node (length around.suffixes)) around.made
-
 -- the array that a creation makes: of the type that is read in front of its length, with its own path
 abbrev pub array_meant : PlainScope → PlainIndex → ReadType → Rpl → Option PlainType
-array_meant scope around ty own = option_map (λ elem. array elem own (made_index around)) (judged_type scope around ty)
+array_meant scope around ty own = option_map (λ elem. array elem own (is_some around.made)) (judged_type scope around ty)
 
 -- a local region begins the own path
 abbrev pub own_fault : ReadBase → PlainIndex → Rpl → Place → List Refusal

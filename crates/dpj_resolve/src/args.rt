@@ -4,8 +4,9 @@ ghost use Rattle.std.specs.Option.{option_to_list};
 ghost use Rattle.dpj_base.specs.Refused.{IfRefused};
 ghost use Rattle.dpj_headers.specs.Faults.{all_noted};
 ghost use Rattle.dpj_resolve.specs.Args.{root_path, roots, args_given, begins_local, first_local, local_fault, is_unfit, args_faults};
+ghost use Rattle.dpj_resolve.specs.Index.{plain_index};
 ghost use Rattle.dpj_resolve.specs.Reading.{path_meant, path_faults, arg_need, arg_faults, local_with, args_read};
-ghost use Rattle.dpj_resolve.specs.Scopes.{plain_scope, plain_index};
+ghost use Rattle.dpj_resolve.specs.Scopes.{plain_scope};
 ghost use Rattle.dpj_resolve.specs.Telling.{told_at, parts_noted, parts_told};
 
 use crate::index::IndexNames;
@@ -198,7 +199,7 @@ fn has_atomic(params: &[ParamRow]) -> bool
     params.iter().any(|param| param.atomic)
 }
 
-#[tactic(auto, using(crate::proofs::Missing::roots_more))]
+#[tactic(auto, using(crate::proofs::Roots::roots_more))]
 fn roots(alloc: Global, params: &[ParamRow]) -> Result<Items<Rpl>, NoMemory>
     ensures { IfOk result (λ made. made ≡ roots params.now) }
 {

@@ -58,7 +58,7 @@ pub fn base_made(
 
 /// The type of a class with region arguments that stands at a place: the class is there, there are as many
 /// arguments as parameters, and the constraints of the class hold.
-pub fn class_made(
+fn class_made(
     alloc: Global,
     scope: &Scope,
     faults: &mut Faults,

@@ -1,47 +1,26 @@
-ghost use Rattle.std.specs.Prelude.{◌≡◌, ◌<◌, length, drop, IfSome};
-ghost use Rattle.dpj_resolve.specs.Index.{number_at, number_of, is_named, suffix_named};
+ghost use Rattle.std.specs.Prelude.{◌≡◌, drop};
+ghost use Rattle.std.specs.List.{position_from};
+ghost use Rattle.dpj_resolve.specs.Index.{is_named};
 
+use dpj_base::Index;
 use dpj_headers::number_at;
 use dpj_tree::{Named, Suffix};
-
-/// Nodes have numbers below this one.
-const NODES: u32 = 2097152;
-
-/// The number of the index name of a written array suffix: no local, no formal, no foreach variable and no other
-/// suffix has it. Suffixes are counted from 0 in the type or creation that is the node.
-#[tactic(auto, using(crate::proofs::Wrapping::wrapped))]
-pub fn index_number(node: u32, suffix: u32) -> u32
-    ensures { result ≡ number_at node suffix }
-{
-    NODES
-        .wrapping_mul(suffix.wrapping_add(1))
-        .wrapping_add(node)
-}
-
-/// The number of the index name of the suffix at a position.
-pub fn index_at(node: u32, position: usize) -> u32
-    ensures { result ≡ number_of node position }
-{
-    index_number(node, number_at(position))
-}
 
 /// The index names that are in scope at a place of an array type or an array creation.
 #[derive(Clone, Copy)]
 pub struct IndexNames<'a> {
-    /// The number of the type or the creation.
-    pub node: u32,
-    /// All its written suffixes.
+    /// All suffixes of the type or the creation.
     pub suffixes: &'a [Suffix],
     /// How many of them stand inside the place: their index names aren't in scope.
     pub inside: usize,
-    /// The index name of the array that a creation makes. It counts as that of one suffix more.
+    /// The index name of the array that a creation makes, which is around all its suffixes.
     pub made: Option<Named>,
 }
 
 impl<'a> IndexNames<'a> {
     ghost use Rattle.std.specs.Prelude.{◌≡◌};
-    ghost use Rattle.dpj_resolve.specs.Reading.{index_name};
-    ghost use Rattle.dpj_resolve.specs.Scopes.{no_index, plain_index};
+    ghost use Rattle.std.specs.List.{position_from};
+    ghost use Rattle.dpj_resolve.specs.Index.{index_name, is_named, names_around, no_index, plain_index};
     ghost use Rattle.dpj_resolve.specs.Written.{at_suffix};
 
     /// No index names around a place.
@@ -49,22 +28,29 @@ impl<'a> IndexNames<'a> {
         ensures { plain_index result ≡ no_index }
     {
         IndexNames {
-            node: 0,
             suffixes: &[],
             inside: 0,
             made: None,
         }
     }
 
-    /// The number of an index name: the innermost one of that name.
-    pub fn find(&self, name: u32) -> Option<u32>
+    /// The index that a name means: that of the innermost array type with this index name.
+    pub fn find(&self, name: u32) -> Option<Index>
         ensures { result ≡ index_name (plain_index self.now) name }
     {
-        if let Some(at) = suffix_named(self.suffixes, self.inside, name) {
-            return Some(index_at(self.node, at));
+        Some(Index::Own(number_at(self.depth(name)?)))
+    }
+
+    /// How many array types are inside that one, from the place on.
+    #[tactic(auto, using(crate::proofs::Around::depth_found))]
+    fn depth(&self, name: u32) -> Option<usize>
+        ensures { result ≡ position_from (is_named name) 0 (names_around (plain_index self.now)) }
+    {
+        if let Some(depth) = suffix_named(self.suffixes, self.inside, name) {
+            return Some(depth);
         }
-        if is_named(self.made, name) {
-            return Some(index_at(self.node, self.suffixes.len()));
+        if is_named(name, self.made) {
+            return Some(self.suffixes.len().saturating_sub(self.inside));
         }
         None
     }
@@ -80,21 +66,18 @@ impl<'a> IndexNames<'a> {
     }
 }
 
-/// The first suffix from a place on whose index name this is.
+/// How many suffixes stand between a place, inside which some stand, and the next one that has this index name.
 fn suffix_named(suffixes: &[Suffix], inside: usize, name: u32) -> Option<usize>
-    ensures meant { result ≡ suffix_named name inside (drop inside suffixes.now) }
-    ensures within { IfSome result (λ at. at < length suffixes.now) }
+    ensures { result ≡ position_from (λ suffix. is_named name suffix.index) 0 (drop inside suffixes.now) }
 {
-    for at in inside..suffixes.len() {
-        if is_named(suffixes[at].index, name) {
-            return Some(at);
-        }
-    }
-    None
+    suffixes
+        .iter()
+        .skip(inside)
+        .position(|suffix| is_named(name, suffix.index))
 }
 
-fn is_named(index: Option<Named>, name: u32) -> bool
-    ensures { result ≡ is_named index name }
+fn is_named(name: u32, index: Option<Named>) -> bool
+    ensures { result ≡ is_named name index }
 {
     match index {
         Some(named) => named.name == name,

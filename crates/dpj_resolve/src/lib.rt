@@ -22,9 +22,9 @@ mod scoped;
 mod types;
 
 pub use args::{ReadArgs, fit_args, read_args, root};
-pub use base::{ReadBase, ReadType, class_made};
-pub use constraints::{constraints_hold, put_in};
-pub use index::{IndexNames, index_at, index_number};
+pub use base::{ReadBase, ReadType};
+pub use constraints::constraints_hold;
+pub use index::IndexNames;
 pub use paths::{Need, path};
 pub use scope::{ParamFound, Scope, Site};
 pub use scoped::Scoped;

@@ -6,12 +6,13 @@ ghost use Rattle.dpj_headers.specs.Faults.{all_noted};
 ghost use Rattle.dpj_resolve.specs.Paths.{is_specified, is_plain, misfits};
 ghost use Rattle.dpj_resolve.specs.Begun.{meant};
 ghost use Rattle.dpj_resolve.specs.Reading.{head_param, head_local, head_meant, head_faults, head_atomic, path_meant, path_faults};
-ghost use Rattle.dpj_resolve.specs.Scopes.{plain_scope, plain_index};
+ghost use Rattle.dpj_resolve.specs.Index.{plain_index};
+ghost use Rattle.dpj_resolve.specs.Scopes.{plain_scope};
 ghost use Rattle.dpj_resolve.specs.Telling.{told_at};
 
 use crate::index::IndexNames;
 use crate::scope::{ParamFound, Scope};
-use dpj_base::{Elem, Elems, Head, Kind, NoMemory, Rpl, Stop};
+use dpj_base::{Elem, Elems, Head, Index, Kind, NoMemory, Rpl, Stop};
 use dpj_headers::Faults;
 use dpj_tree::{ElemTree, Named, RName, RplHead, RplTree};
 use std::alloc::Global;
@@ -143,12 +144,13 @@ fn is_plain(atomic: Option<bool>) -> bool
 impl Reading {
     ghost use Rattle.std.specs.Prelude.{◌≡◌, ◌||◌, false, [], None, Some, option_map, OnOk};
     ghost use Rattle.std.specs.List.{list_any, flat_map, fold};
-    ghost use Rattle.dpj_base.specs.declared.elems.Elem.TheVariants.{Name, Var};
+    ghost use Rattle.dpj_base.specs.declared.elems.Elem.TheVariants.{Name, At};
     ghost use Rattle.dpj_headers.specs.Faults.{all_noted};
     ghost use Rattle.dpj_resolve.specs.Begun.{meant};
     ghost use Rattle.dpj_resolve.specs.Paths.{misfits, region_meant, region_faults};
-    ghost use Rattle.dpj_resolve.specs.Reading.{region_atomic, atomic_with, index_var, elem_meant, elem_faults, is_misplaced, longer_if, goes_on};
-    ghost use Rattle.dpj_resolve.specs.Scopes.{plain_scope, plain_index};
+    ghost use Rattle.dpj_resolve.specs.Reading.{region_atomic, atomic_with, index_meant, elem_meant, elem_faults, is_misplaced, longer_if, goes_on};
+    ghost use Rattle.dpj_resolve.specs.Index.{plain_index};
+    ghost use Rattle.dpj_resolve.specs.Scopes.{plain_scope};
 
     fn new(alloc: Global, head: Head, atomic: bool) -> Reading
         ensures meant { meant result ≡ Some (record { head = head; elems = [] }) }
@@ -218,7 +220,7 @@ impl Reading {
                 self.push(Elem::Star)
             }
             ElemTree::Any => self.push(Elem::Any),
-            ElemTree::Lit(k) => self.push(Elem::Lit(k)),
+            ElemTree::Lit(k) => self.push(Elem::At(Index::Literal(k))),
             ElemTree::Index(named) => self.index(scope, faults, named, around),
         }
     }
@@ -258,16 +260,16 @@ impl Reading {
         named: Named,
         around: &IndexNames,
     ) -> Result<(), NoMemory>
-        ensures meant { OnOk result (meant self.new ≡ longer_if (meant self.old) (option_map (λ var. Var var) (index_var (plain_scope scope.now) (plain_index around.now) named.name))) }
+        ensures meant { OnOk result (meant self.new ≡ longer_if (meant self.old) (option_map (λ index. At index) (index_meant (plain_scope scope.now) (plain_index around.now) named.name))) }
         ensures atomic { self.new.atomic ≡ self.old.atomic }
         ensures misplaced { self.new.misplaced ≡ (self.old.misplaced || is_misplaced (plain_scope scope.now) (plain_index around.now) (ElemTree.Index named)) }
         ensures faults { faults.new ≡ all_noted faults.old (elem_faults (plain_scope scope.now) (plain_index around.now) (ElemTree.Index named)) }
     {
-        if let Some(var) = around.find(named.name) {
-            return self.push(Elem::Var(var));
+        if let Some(index) = around.find(named.name) {
+            return self.push(Elem::At(index));
         }
         match scope.variables.get(named.name).copied() {
-            Some(Some(var)) => self.push(Elem::Var(var)),
+            Some(Some(slot)) => self.push(Elem::At(Index::Variable(slot))),
             Some(None) => {
                 self.misplaced = true;
                 self.known = false;

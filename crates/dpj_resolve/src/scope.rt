@@ -22,7 +22,7 @@ pub struct Scope<'a> {
     pub class: u32,
     /// The region parameters of the method, with whether each is atomic. They are numbered behind those of the class.
     pub params: &'a Scoped<bool>,
-    /// The locals, formals and foreach variables, with the number of each that may stand in an index.
+    /// The locals, formals and foreach variables, with the slot of each that may stand in an index.
     pub variables: &'a Scoped<Option<u32>>,
     /// The local regions, with the numbers of their declarations.
     pub regions: &'a Scoped<u32>,

@@ -3,13 +3,14 @@ ghost use Rattle.std.specs.Option.{option_to_list};
 ghost use Rattle.dpj_base.specs.Refused.{IfRefused};
 ghost use Rattle.dpj_base.specs.Types.{plain_type};
 ghost use Rattle.dpj_headers.specs.Faults.{all_noted};
-ghost use Rattle.dpj_resolve.specs.Scopes.{plain_scope, plain_index};
+ghost use Rattle.dpj_resolve.specs.Index.{plain_index};
+ghost use Rattle.dpj_resolve.specs.Scopes.{plain_scope};
 ghost use Rattle.dpj_resolve.specs.Telling.{told_at, parts_noted, parts_told};
-ghost use Rattle.dpj_resolve.specs.Written.{base_read, base_parts, suffix_meant, suffix_parts, suffix_local, paths_from, local_from, parts_from, type_read, type_parts, is_flat, own_fault, own_index, made_index, with_suffixes, arrays_from, judged_type, judged_faults, type_meant, type_faults, array_meant, array_faults};
+ghost use Rattle.dpj_resolve.specs.Written.{base_read, base_parts, suffix_meant, suffix_parts, suffix_local, paths_from, local_from, parts_from, type_read, type_parts, is_flat, own_fault, is_indexed, with_suffixes, arrays_from, judged_type, judged_faults, type_meant, type_faults, array_meant, array_faults};
 
 use crate::args::{ReadPaths, begins_local, note_local, read_args, root};
 use crate::base::{ReadBase, ReadType, base_made};
-use crate::index::{IndexNames, index_at};
+use crate::index::IndexNames;
 use crate::paths::Need;
 use crate::scope::Scope;
 use dpj_base::{Boxed, Items, NoMemory, Place, Rpl, Stop, Ty};
@@ -30,7 +31,6 @@ pub fn ty(
     ensures told { IfErr result (λ stop. IfRefused stop (λ refusal. parts_told scope.now.site faults.old (type_faults (plain_scope scope.now) tree.now) ≡ Some refusal)) }
 {
     let around = IndexNames {
-        node: tree.node,
         suffixes: tree.suffixes.as_slice(),
         inside: 0,
         made: None,
@@ -203,7 +203,7 @@ pub fn array_made(
     Ok(Some(Ty::Array {
         elem: Boxed::new(alloc, elem)?,
         rpl: own,
-        index: made_index(&around),
+        named: around.made.is_some(),
     }))
 }
 
@@ -251,30 +251,19 @@ fn arrays(alloc: Global, base: Ty, paths: Items<Rpl>, around: &IndexNames) -> Re
         made = Ty::Array {
             elem: Boxed::new(alloc, made)?,
             rpl,
-            index: own_index(around, at),
+            named: is_indexed(around, at),
         };
         at += 1;
     }
     Ok(made)
 }
 
-/// The number of the index name of a created array, where it has one.
-fn made_index(around: &IndexNames) -> Option<u32>
-    ensures { result ≡ made_index (plain_index around.now) }
+/// Whether an index name is written at the suffix at a position.
+fn is_indexed(around: &IndexNames, at: usize) -> bool
+    ensures { result ≡ is_indexed (plain_index around.now) at }
 {
-    match around.made {
-        Some(_) => Some(index_at(around.node, around.suffixes.len())),
-        None => None,
+    match around.suffixes.get(at) {
+        Some(suffix) => suffix.index.is_some(),
+        None => false,
     }
-}
-
-/// The number of a suffix's index name, where it has one.
-fn own_index(around: &IndexNames, at: usize) -> Option<u32>
-    ensures { result ≡ own_index (plain_index around.now) at }
-{
-    let suffix = around.suffixes.get(at)?;
-    if suffix.index.is_none() {
-        return None;
-    }
-    Some(index_at(around.node, at))
 }

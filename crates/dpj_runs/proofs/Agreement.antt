@@ -1,23 +1,22 @@
 -- Two legal runs without conflicts agree.
-use Rattle.std.proofs.Common.{append-nil, ◌≡◌, ◌≢◌, ℕ, ℤ, pos, Option, Some, None, suc, ◌<◌, ◌≤◌, ◌⊎◌, inl, inr, ⊎_elim, [], ◌∷◌, ◌++◌, length, refl, sym, ap, ◌∙◌, subst, arith}
+use Rattle.std.proofs.Common.{append-nil, ◌≡◌, ℕ, ℤ, pos, Option, Some, None, suc, ◌<◌, ◌≤◌, ◌⊎◌, inl, inr, ⊎_elim, [], ◌∷◌, ◌++◌, length, refl, sym, ap}
+use Rattle.std.proofs.Common.{◌∙◌, subst, arith}
 use Rattle.std.proofs.lemmas.Bool.{cases_lt}
 use Rattle.std.proofs.Common.{◌+◌, length-append}
-use Rattle.dpj_runs.specs.Actions.{Action, Answer, Begin, Do, End, Ending, Enter, Exit, Fork, Got, Join, Look, Named, New, Out, Own, Print, Program, Read, Rest, Write}
+use Rattle.dpj_runs.specs.Actions.{Action, Answer, Begin, Do, End, Ending, Enter, Exit, Fork, Got, Join, Look, Named, New, Own, Print, Program, Read, Rest}
+use Rattle.dpj_runs.specs.Actions.{Write}
 use Rattle.dpj_runs.specs.Meaning.{Disciplined}
-use Rattle.dpj_runs.specs.Objects.{Cell, Name, Path, Thing, Value, first_value, or_else, size, slot_of}
+use Rattle.dpj_runs.specs.Objects.{Cell, Name, Path, Thing, first_value, or_else, size, slot_of}
 use Rattle.dpj_runs.specs.Order.{Agree, Free, Reads}
-use Rattle.dpj_runs.specs.Runs.{Ended, Event, Faithful, Joins, Right, Run, Upto, answered_by, at_start, count, joined, later, mine, now, read_at, reply, seen, thing_of, things, value_in, wrote_at}
-use Rattle.dpj_runs.specs.Schedules.{ended}
+use Rattle.dpj_runs.specs.Runs.{Ended, Event, Faithful, Joins, Right, Run, Upto, answered_by, at_start, count, joined, later, mine, now, read_at, reply, seen}
+use Rattle.dpj_runs.specs.Runs.{thing_of, things, value_in, wrote_at}
 use Rattle.dpj_runs.proofs.Upto.{upto_all, upto_trans, upto_length, upto_next, upto_same, upto_tail}
 use Rattle.dpj_runs.proofs.Mine.{path_cases, mine_nil, mine_step, mine_same, mine_other, mine_at, Found, found, same_of, number_of, numbered}
 use Rattle.dpj_runs.proofs.Faithful.{one_fork, agree_self, carry, same_act, faithful_upto, none_after_end}
 use Rattle.dpj_runs.proofs.Between.{agree_back, ended_longer, complete}
 use Rattle.dpj_runs.proofs.Things.{answering, same_some, same_thing}
-use Rattle.dpj_runs.proofs.Cells.{slot_is}
+use Rattle.dpj_runs.proofs.Cells.{got_in, slot_is}
 use Rattle.dpj_runs.proofs.Compare.{free_upto, agree_upto, same_last, same_list}
-
-got_in : (v : Value) → Got v ≢ Out
-got_in v e = cc
 
 pub same_event : (e f : Event) → e.path ≡ f.path → e.turns ≡ f.turns → e.act ≡ f.act → e.ans ≡ f.ans → e ≡ f
 same_event e f a n b c = λ i. record { path = a i; turns = n i; act = b i; ans = c i }
@@ -50,16 +49,19 @@ module _ (P : Program) (D : Disciplined P) where
       one = one_fork P D p j.tasks m c.stands c.path j.act now (let u = own_count j in let s = sizes in let v = ap length c.mine_is in omega arith) k
 
       tasks : length j.tasks.tasks ≡ length k.tasks.tasks
-      tasks = let t : Fork j.tasks ≡ Fork k.tasks = sym j.act ∙ ap (λ e. e.act) (sym one.0) ∙ k.act in let u : j.tasks ≡ k.tasks = cc in ap (λ b. length b.tasks) u
+      tasks = let t : Fork j.tasks ≡ Fork k.tasks = sym j.act ∙ ap (λ e. e.act) (sym one.0) ∙ k.act in let u : j.tasks ≡ k.tasks =
+          cc in ap (λ b. length b.tasks) u
 
       number : count j.before p ≡ count k.before p
       number = sym (ap length c.mine_is) ∙ ap (λ B. count B p) (sym one.1)
 
       ends : j.ends ≡ k.ends
-      ends = same_list j.ends k.ends (j.each ∙ tasks ∙ sym k.each) (λ n x y u v. same_end ((count j.before p, n) ∷ p) l m ag (j.ended (count j.before p, n) x refl u) (k.ended (count j.before p, n) y number v))
+      ends = same_list j.ends k.ends (j.each ∙ tasks ∙ sym k.each)
+          (λ n x y u v. same_end ((count j.before p, n) ∷ p) l m ag (j.ended (count j.before p, n) x refl u) (k.ended (count j.before p, n) y number v))
 
   -- the next event of a task is one
-  pub next_event : {R T : Run} {e f : Event} → Faithful P (e ∷ R) → Faithful P (f ∷ T) → Free (e ∷ R) → Free (f ∷ T) → Agree R T → e.path ≡ f.path → mine R f.path ≡ mine T f.path → e ≡ f
+  pub next_event : {R T : Run} {e f : Event} → Faithful P (e ∷ R) → Faithful P (f ∷ T) → Free (e ∷ R) → Free (f ∷ T) → Agree R T → e.path ≡ f.path
+      → mine R f.path ≡ mine T f.path → e ≡ f
   next_event {R} {T} {e} {f} l m fr ft ag pe ms = same_event e f pe both.0 act (answer e.act refl)
     where
       both : (e.turns ≡ f.turns) × (e.act ≡ f.act)
@@ -79,7 +81,7 @@ module _ (P : Program) (D : Disciplined P) where
 
       -- of what has a name in both
       by_thing : (n : Name) (g h : Thing → Answer) → answered_by (thing_of P R n) g ≡ Some e.ans → answered_by (thing_of P T n) h ≡ Some f.ans
-        → ((t : Thing) → thing_of P R n ≡ Some t → thing_of P T n ≡ Some t → e.ans ≡ g t → f.ans ≡ h t → e.ans ≡ f.ans) → e.ans ≡ f.ans
+          → ((t : Thing) → thing_of P R n ≡ Some t → thing_of P T n ≡ Some t → e.ans ≡ g t → f.ans ≡ h t → e.ans ≡ f.ans) → e.ans ≡ f.ans
       by_thing n g h a b each =
           let x = answering g (thing_of P R n) e.ans a in
           let y = answering h (thing_of P T n) f.ans b in
@@ -87,7 +89,7 @@ module _ (P : Program) (D : Disciplined P) where
           each x.thing x.is_there (subst (λ t. thing_of P T n ≡ Some t) s y.is_there) x.answer (y.answer ∙ ap h s)
 
       read_same : (n : Name) (i : ℤ) → e.act ≡ Do (Read n i) → (t : Thing) → thing_of P R n ≡ Some t → thing_of P T n ≡ Some t
-        → (o : Option ℕ) → slot_of i (size t) ≡ o → e.ans ≡ read_at R t n o → f.ans ≡ read_at T t n o → e.ans ≡ f.ans
+          → (o : Option ℕ) → slot_of i (size t) ≡ o → e.ans ≡ read_at R t n o → f.ans ≡ read_at T t n o → e.ans ≡ f.ans
       read_same n i k t tr ts None h a b = a ∙ sym b
       read_same n i k t tr ts (Some slot) h a b =
           a ∙ ap (λ v. Got (or_else v (first_value t slot))) (same_last P D l m fr ft ag pe ms act c reads_e reads_f) ∙ sym b
@@ -106,9 +108,11 @@ module _ (P : Program) (D : Disciplined P) where
 
       answer : (a : Action) → e.act ≡ a → e.ans ≡ f.ans
       answer (Do Rest) k = same_own Rest k refl
-      answer (Do (Read n i)) k = by_thing n (λ t. read_at R t n (slot_of i (size t))) (λ t. read_at T t n (slot_of i (size t))) (right_e (Do (Read n i)) k) (right_f (Do (Read n i)) k)
+      answer (Do (Read n i)) k = by_thing n (λ t. read_at R t n (slot_of i (size t))) (λ t. read_at T t n (slot_of i (size t))) (right_e (Do (Read n i)) k)
+          (right_f (Do (Read n i)) k)
           (λ t tr ts a b. read_same n i k t tr ts (slot_of i (size t)) refl a b)
-      answer (Do (Write n i v)) k = by_thing n (λ t. wrote_at (slot_of i (size t))) (λ t. wrote_at (slot_of i (size t))) (right_e (Do (Write n i v)) k) (right_f (Do (Write n i v)) k) (λ t tr ts a b. a ∙ sym b)
+      answer (Do (Write n i v)) k = by_thing n (λ t. wrote_at (slot_of i (size t))) (λ t. wrote_at (slot_of i (size t))) (right_e (Do (Write n i v)) k)
+          (right_f (Do (Write n i v)) k) (λ t tr ts a b. a ∙ sym b)
       answer (Do (Look n)) k = by_thing n seen seen (right_e (Do (Look n)) k) (right_f (Do (Look n)) k) (λ t tr ts a b. a ∙ sym b)
       answer (Do (New t c)) k = same_own (New t c) k (ap (λ es. Some (Named (record { maker = f.path; count = length (at_start P f.path ++ things es) }))) ms)
       answer (Do (Print l)) k = same_own (Print l) k refl
@@ -132,12 +136,14 @@ module _ (P : Program) (D : Disciplined P) where
 
           one_more : (p : Path) (f : Event) → e.path ≡ p → Found S p f (mine R p) → Upto (mine (e ∷ R) p) (mine S p)
           one_more p f k h =
-              let fe : e ≡ f = next_event l (faithful_upto P h.stands m) fr (free_upto h.stands fs) (agree_upto (upto_tail h.stands) ag) (k ∙ sym h.path) (subst (λ q. mine R q ≡ mine h.before q) (sym h.path) (sym h.mine_is)) in
+              let fe : e ≡ f = next_event l (faithful_upto P h.stands m) fr (free_upto h.stands fs) (agree_upto (upto_tail h.stands) ag) (k ∙ sym h.path)
+              (subst (λ q. mine R q ≡ mine h.before q) (sym h.path) (sym h.mine_is)) in
               let u = mine_at p h.stands h.path in
               let v : f ∷ mine h.before p ≡ mine (e ∷ R) p = ap (λ g. g ∷ mine h.before p) (sym fe) ∙ ap (λ r. e ∷ r) h.mine_is ∙ sym (mine_same e R p k) in
               subst (λ r. Upto r (mine S p)) v u
 
-          longer : (p : Path) → e.path ≡ p → Upto (mine R p) (mine S p) → (count R p < count S p) ⊎ (count S p ≤ count R p) → Upto (mine (e ∷ R) p) (mine S p) ⊎ Upto (mine S p) (mine (e ∷ R) p)
+          longer : (p : Path) → e.path ≡ p → Upto (mine R p) (mine S p) → (count R p < count S p) ⊎ (count S p ≤ count R p)
+              → Upto (mine (e ∷ R) p) (mine S p) ⊎ Upto (mine S p) (mine (e ∷ R) p)
           longer p k u (inl n) = let f = upto_next u n in inl (one_more p f.0 k (found S p f.1))
           longer p k u (inr n) = let g = upto_length u in let s = upto_same u (omega arith) in inr (subst (λ r. Upto r (mine (e ∷ R) p)) s (mine_step e R p))
 
@@ -149,7 +155,8 @@ module _ (P : Program) (D : Disciplined P) where
   end_count {R} p l g = ⊎_elim far (λ h. (let n = number_of p g.stands g.path in omega arith)) (cases_lt (suc (count g.before p)) (count R p))
     where
       far : suc (count g.before p) < count R p → count R p ≡ suc (count g.before p)
-      far h = let z = numbered R p (suc (count g.before p)) h in let k = none_after_end P D p l g.stands g.path g.act z.2 z.3 in let n = z.4 in absurd (omega arith)
+      far h = let z = numbered R p (suc (count g.before p)) h in let k = none_after_end P D p l g.stands g.path g.act z.2 z.3 in let n =
+          z.4 in absurd (omega arith)
 
   both_ended : {R S : Run} {x y : Ending} (p : Path) → Faithful P R → Faithful P S → Agree R S → Ended R p x → Ended S p y → mine R p ≡ mine S p
   both_ended {R} {S} p l m ag g h =

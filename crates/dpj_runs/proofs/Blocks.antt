@@ -10,7 +10,7 @@ use Rattle.dpj_runs.proofs.Mine.{mine_at, mine_upto, found}
 in_same : (n m : ℕ) (E F : List Effect) → In_block n E ≡ In_block m F → E ≡ F
 in_same n m E F e = cc
 
--- where a block is open behind an action, it was open in front of it, or the action is the outermost entry
+-- where a block is open after an action, it was open in front of it, or the action is the outermost entry
 pub data Opened (a : Action) (h : Hold) (E : List Effect) : Type 0 where
   was : (m : ℕ) → h ≡ In_block m E → Opened a h E
   enters : h ≡ Out_of → a ≡ Do (Enter E) → Opened a h E
@@ -55,7 +55,14 @@ entry (x ∷ L) n E e = go (λ m k. entry L m E k) (opened x.act (hold L) n E e)
 
     go : ((m : ℕ) → hold L ≡ In_block m E → Entry L E) → Opened x.act (hold L) E → Entry (x ∷ L) E
     go rec (enters o a) = record { before = L; event = x; stands = now; outside = o; act = a; open_since = first_here o a }
-    go rec (was m k) = let r = rec m k in record { before = r.before; event = r.event; stands = later r.stands; outside = r.outside; act = r.act; open_since = still r }
+    go rec (was m k) = let r = rec m k in record {
+      before = r.before;
+      event = r.event;
+      stands = later r.stands;
+      outside = r.outside;
+      act = r.act;
+      open_since = still r;
+    }
 
 -- the same, in the run
 pub record EntryAt (R : Run) (p : Path) (E : List Effect) : Type 0 where
@@ -83,7 +90,7 @@ entry_at R p n E e = make (entry (mine R p) n E e)
           open_since = λ Z h k. r.open_since (mine Z p) (mine_upto p h) (subst (λ l. Upto (r.event ∷ l) (mine Z p)) f.mine_is (mine_at p k f.path));
         }
 
--- behind an action of an open block it is open with the same effects, or shut
+-- after an action of an open block it is open with the same effects, or shut
 pub stays : (a : Action) (n m : ℕ) (E F : List Effect) → hold_after a (In_block n E) ≡ In_block m F → E ≡ F
 stays a n m E F e = go (opened a (In_block n E) m F e)
   where

@@ -1,17 +1,19 @@
 -- How long a run is: each task makes one event more that costs nothing than it makes entries, at most.
-use Rattle.std.proofs.Common.{◌≡◌, ℕ, zero, suc, ◌+◌, ◌-◌, ◌*◌, ◌<◌, ◌≤◌, ◌⊎◌, inl, inr, ⊎_elim, Bool, true, false, List, [], ◌∷◌, length, refl, sym, ap, ◌∙◌, subst, arith, nat_lt, true≢false, if◌then◌else◌}
-use Rattle.std.proofs.lemmas.Bool.{cond-true, cond-false, cases_lt, lt-ltb, ltb-true, false_from_ne_true, cases_eq}
-use Rattle.dpj_runs.specs.Actions.{Action, Begin, Do, End, Ending, Enter, Exit, Fork, Join, Look, New, Next, Own, Print, Program, Read, Rest, Task, Write, steps}
+use Rattle.std.proofs.Common.{◌≡◌, ℕ, zero, suc, ◌+◌, ◌-◌, ◌*◌, ◌<◌, ◌≤◌, ◌⊎◌, inl, inr, ⊎_elim, Bool, true, false, List, [], ◌∷◌, length, refl, sym, ap, ◌∙◌}
+use Rattle.std.proofs.Common.{subst, arith, nat_lt, if◌then◌else◌}
+use Rattle.std.proofs.lemmas.Bool.{cond-true, cond-false, cases_lt, lt-ltb, ltb-true}
+use Rattle.dpj_runs.specs.Actions.{Action, Begin, Do, End, Ending, Enter, Exit, Fork, Join, Look, New, Next, Own, Print, Program, Read, Rest, Task, Write}
+use Rattle.dpj_runs.specs.Actions.{steps}
 use Rattle.dpj_runs.specs.Meaning.{Disciplined, Paced}
 use Rattle.dpj_runs.specs.Objects.{Path}
 use Rattle.dpj_runs.specs.Order.{Outcome}
 use Rattle.dpj_runs.specs.Runs.{Begun, Event, Faithful, Run, Upto, answers, branch, count, event_steps, later, mine, now, root, steps_of, total}
 use Rattle.dpj_runs.specs.Schedules.{Finished, Limits, Ran, begins, ended, no_room, one_begin, over}
-use Rattle.dpj_runs.proofs.Upto.{upto_trans, upto_tail, upto_split, upto_length}
-use Rattle.dpj_runs.proofs.Mine.{Found, path_cases, mine_same, mine_other, mine_nil, number_of, found}
+use Rattle.dpj_runs.proofs.Upto.{upto_tail, upto_split, upto_length}
+use Rattle.dpj_runs.proofs.Mine.{Found, mine_same, mine_other, mine_nil, number_of, found}
 use Rattle.dpj_runs.proofs.Faithful.{agree_self, begun_upto, follows_at, next_same, same_task, none_after_end}
 use Rattle.dpj_runs.proofs.Cost.{total_nil, total_step}
-use Rattle.dpj_runs.proofs.Numbers.{begins_step, begins_nil, same_begin}
+use Rattle.dpj_runs.proofs.Numbers.{begins_step, begins_nil}
 use Rattle.dpj_runs.proofs.Schedules.{ran_faithful, ran_length}
 
 -- whether so many steps are some
@@ -92,20 +94,24 @@ one_or_none Join = omega arith
 one_or_none (End x) = omega arith
 
 paid_marks : (n : ℕ) (a : Action) → one_entry a + one_begin a ≤ paid (n + steps a)
-paid_marks n a = ⊎_elim (λ h. (let k = paid_one (n + steps a) h in let m = one_or_none a in omega arith)) (λ h. (let c = costs a in omega arith)) (cases_lt 0 (n + steps a))
+paid_marks n a = ⊎_elim (λ h. (let k = paid_one (n + steps a) h in let m = one_or_none a in omega arith)) (λ h. (let c = costs a in omega arith))
+    (cases_lt 0 (n + steps a))
 
 -- the sums over a run
 marks_paid : (R : Run) → total by_entry R + begins R ≤ total by_paid R
 marks_paid [] = let a = total_nil by_entry in let b = begins_nil in omega arith
-marks_paid (e ∷ R) = let r = marks_paid R in let a = total_step by_entry e R in let b = begins_step e R in let c = total_step by_paid e R in let d = paid_marks e.turns e.act in omega arith
+marks_paid (e ∷ R) = let r = marks_paid R in let a = total_step by_entry e R in let b = begins_step e R in let c = total_step by_paid e R in let d =
+    paid_marks e.turns e.act in omega arith
 
 paid_steps : (R : Run) → total by_paid R ≤ total event_steps R
 paid_steps [] = let a = total_nil by_paid in omega arith
-paid_steps (e ∷ R) = let r = paid_steps R in let a = total_step by_paid e R in let b = total_step event_steps e R in let c = paid_most (event_steps e) in omega arith
+paid_steps (e ∷ R) = let r = paid_steps R in let a = total_step by_paid e R in let b = total_step event_steps e R in let c =
+    paid_most (event_steps e) in omega arith
 
 all_events : (R : Run) → length R ≡ total by_paid R + total by_free R
 all_events [] = let a = total_nil by_paid in let b = total_nil by_free in omega arith
-all_events (e ∷ R) = let r = all_events R in let a = total_step by_paid e R in let b = total_step by_free e R in let c = paid_or_free (event_steps e) in omega arith
+all_events (e ∷ R) = let r = all_events R in let a = total_step by_paid e R in let b = total_step by_free e R in let c =
+    paid_or_free (event_steps e) in omega arith
 
 -- whether a task may make an event that costs nothing before its next entry: its latest event wasn't one
 abbrev spare : Run → ℕ
@@ -157,13 +163,15 @@ only_begin S q n (End x) = omega arith
 
 module _ (R : Run) (e : Event) where
   -- another task than that of the event, begun by this action
-  same_begun : (q : Path) (n : ℕ) (a : Action) → ((u : ℕ × ℕ) → e.path ≡ u ∷ q → a ≡ Begin u.1 → n ≡ suc (u.0 + u.1) → ⊥) → spare_begun (e ∷ R) q n a ≡ spare_begun R q n a
+  same_begun : (q : Path) (n : ℕ) (a : Action) → ((u : ℕ × ℕ) → e.path ≡ u ∷ q → a ≡ Begin u.1 → n ≡ suc (u.0 + u.1) → ⊥)
+      → spare_begun (e ∷ R) q n a ≡ spare_begun R q n a
   same_begun q n (Begin b) f = go (nat_lt b n) refl
     where
       go : (t : Bool) → nat_lt b n ≡ t → spare_begun (e ∷ R) q n (Begin b) ≡ spare_begun R q n (Begin b)
       go true h =
           let l = ltb-true b n h in
-          cond-true (nat_lt b n) _ _ h ∙ ap spare (mine_other e R ((n - suc b, b) ∷ q) (λ k. f (n - suc b, b) k refl (omega arith))) ∙ sym (cond-true (nat_lt b n) _ _ h)
+          cond-true (nat_lt b n) _ _ h ∙ ap spare (mine_other e R ((n - suc b, b) ∷ q) (λ k. f (n - suc b, b) k refl (omega arith)))
+          ∙ sym (cond-true (nat_lt b n) _ _ h)
       go false h = cond-false (nat_lt b n) _ _ h ∙ sym (cond-false (nat_lt b n) _ _ h)
   same_begun q n (Do o) f = refl
   same_begun q n (Fork ts) f = refl
@@ -171,7 +179,8 @@ module _ (R : Run) (e : Event) where
   same_begun q n (End x) f = refl
 
   -- the task of the event is begun by no event of G
-  spares_same : (G : Run) → ((g : Event) (B : Run) (u : ℕ × ℕ) → Upto (g ∷ B) G → e.path ≡ u ∷ g.path → g.act ≡ Begin u.1 → count B g.path ≡ suc (u.0 + u.1) → ⊥) → spares (e ∷ R) G ≡ spares R G
+  spares_same : (G : Run) → ((g : Event) (B : Run) (u : ℕ × ℕ) → Upto (g ∷ B) G → e.path ≡ u ∷ g.path → g.act ≡ Begin u.1 → count B g.path ≡ suc (u.0 + u.1)
+      → ⊥) → spares (e ∷ R) G ≡ spares R G
   spares_same [] f = spares_nil (e ∷ R) ∙ sym (spares_nil R)
   spares_same (g ∷ G) f =
       let r = spares_same G (λ x B u h. f x B u (later h)) in
@@ -181,23 +190,27 @@ module _ (R : Run) (e : Event) where
       omega arith
 
   -- it is begun by one
-  spares_one : {g : Event} {B : Run} (G : Run) (q : Path) (u : ℕ × ℕ) → Upto (g ∷ B) G → g.path ≡ q → g.act ≡ Begin u.1 → count B q ≡ suc (u.0 + u.1) → e.path ≡ u ∷ q
-    → spares (e ∷ R) G + spare (mine R e.path) ≡ spares R G + spare (mine (e ∷ R) e.path)
+  spares_one : {g : Event} {B : Run} (G : Run) (q : Path) (u : ℕ × ℕ) → Upto (g ∷ B) G → g.path ≡ q → g.act ≡ Begin u.1 → count B q ≡ suc (u.0 + u.1)
+      → e.path ≡ u ∷ q
+      → spares (e ∷ R) G + spare (mine R e.path) ≡ spares R G + spare (mine (e ∷ R) e.path)
   spares_one [] q u h gq ga n k = absurd (let l = upto_length h in omega arith)
   spares_one {g} {B} (x ∷ G) q u h gq ga n k = go (spares_one {g = g} {B = B} G q u) (upto_split h)
     where
       head : (S : Run) → g ≡ x → B ≡ G → spare_begun S x.path (count G x.path) x.act ≡ spare (mine S e.path)
       head S a b =
-          let c1 : spare_begun S x.path (count G x.path) x.act ≡ spare_begun S q (count B q) (Begin u.1) = (λ i. spare_begun S ((sym (ap (λ z. z.path) a) ∙ gq) i) (count (b' i) ((sym (ap (λ z. z.path) a) ∙ gq) i)) ((sym (ap (λ z. z.act) a) ∙ ga) i)) in
-          let c2 : spare_begun S q (count B q) (Begin u.1) ≡ spare (mine S ((count B q - suc u.1, u.1) ∷ q)) = cond-true (nat_lt u.1 (count B q)) _ _ (lt-ltb u.1 (count B q) (omega arith)) in
+          let c1 : spare_begun S x.path (count G x.path) x.act ≡ spare_begun S q (count B q) (Begin u.1) =
+          (λ i. spare_begun S ((sym (ap (λ z. z.path) a) ∙ gq) i) (count (b' i) ((sym (ap (λ z. z.path) a) ∙ gq) i)) ((sym (ap (λ z. z.act) a) ∙ ga) i)) in
+          let c2 : spare_begun S q (count B q) (Begin u.1) ≡ spare (mine S ((count B q - suc u.1, u.1) ∷ q)) =
+          cond-true (nat_lt u.1 (count B q)) _ _ (lt-ltb u.1 (count B q) (omega arith)) in
           let u0 : count B q - suc u.1 ≡ u.0 = omega arith in
           c1 ∙ c2 ∙ (λ i. spare (mine S ((u0 i, u.1) ∷ q))) ∙ ap (λ p. spare (mine S p)) (sym k)
         where
           b' : G ≡ B
           b' = sym b
 
-      go : (Upto (g ∷ B) G → g.path ≡ q → g.act ≡ Begin u.1 → count B q ≡ suc (u.0 + u.1) → e.path ≡ u ∷ q → spares (e ∷ R) G + spare (mine R e.path) ≡ spares R G + spare (mine (e ∷ R) e.path))
-        → ((g ≡ x) × (B ≡ G)) ⊎ Upto (g ∷ B) G → spares (e ∷ R) (x ∷ G) + spare (mine R e.path) ≡ spares R (x ∷ G) + spare (mine (e ∷ R) e.path)
+      go : (Upto (g ∷ B) G → g.path ≡ q → g.act ≡ Begin u.1 → count B q ≡ suc (u.0 + u.1) → e.path ≡ u ∷ q
+          → spares (e ∷ R) G + spare (mine R e.path) ≡ spares R G + spare (mine (e ∷ R) e.path))
+          → ((g ≡ x) × (B ≡ G)) ⊎ Upto (g ∷ B) G → spares (e ∷ R) (x ∷ G) + spare (mine R e.path) ≡ spares R (x ∷ G) + spare (mine (e ∷ R) e.path)
       go rec (inl w) =
           let r = spares_same G (λ y Y v hy p a m. none y Y v hy p a m) in
           let a = spares_step (e ∷ R) x G in
@@ -263,9 +276,13 @@ module _ (P : Program) (D : Disciplined P) (C : Paced P) where
           let at_rest = enters_next w.turns w.act z (λ x k. no_end x k) in
           let a = follows_at P f.stands l.1 in
           let b = l.0 in
-          let t : a.task ≡ b.task = same_task (agree_self R) (begun_upto (upto_tail f.stands) (subst (λ q. Begun P f.before q a.task) f.path a.begun)) b.begun in
-          let k1 : P.meaning e.path a.task (answers (mine f.before e.path)) ≡ Next w.turns w.act = subst (λ q. P.meaning q a.task (answers (mine f.before q)) ≡ Next w.turns w.act) f.path a.asks in
-          let k2 : P.meaning e.path b.task (answers L) ≡ Next 0 (Do Rest) = ap (λ s. P.meaning e.path s (answers L)) (sym t) ∙ ap (λ es. P.meaning e.path a.task (answers es)) (sym f.mine_is) ∙ k1 ∙ (λ i. Next (at_rest.0 i) (at_rest.1 i)) in
+          let t : a.task ≡ b.task = same_task (agree_self R)
+          (begun_upto (upto_tail f.stands) (subst (λ q. Begun P f.before q a.task) f.path a.begun)) b.begun in
+          let k1 : P.meaning e.path a.task (answers (mine f.before e.path)) ≡ Next w.turns w.act =
+          subst (λ q. P.meaning q a.task (answers (mine f.before q)) ≡ Next w.turns w.act) f.path a.asks in
+          let k2 : P.meaning e.path b.task (answers L) ≡ Next 0 (Do Rest) =
+          ap (λ s. P.meaning e.path s (answers L)) (sym t) ∙ ap (λ es. P.meaning e.path a.task (answers es)) (sym f.mine_is) ∙ k1
+          ∙ (λ i. Next (at_rest.0 i) (at_rest.1 i)) in
           let c = C.enters e.path b.task (answers L) w.ans k2 in
           let k3 : P.meaning e.path b.task (w.ans ∷ answers L) ≡ Next e.turns e.act = ap (λ es. P.meaning e.path b.task (answers es)) (sym m) ∙ b.asks in
           let same = next_same e.turns c.1.0 e.act (Do (Enter c.0)) (sym k3 ∙ c.1.1) in
@@ -278,10 +295,12 @@ module _ (P : Program) (D : Disciplined P) (C : Paced P) where
               omega arith
 
   -- what all tasks that have begun have to spare, before and after an event
-  step_spares : {R : Run} {e : Event} → Faithful P (e ∷ R) → (spare (mine (e ∷ R) []) + spares (e ∷ R) R) + spare (mine R e.path) ≡ (spare (mine R []) + spares R R) + spare (mine (e ∷ R) e.path)
+  step_spares : {R : Run} {e : Event} → Faithful P (e ∷ R) → (spare (mine (e ∷ R) []) + spares (e ∷ R) R) + spare (mine R e.path) ≡
+      (spare (mine R []) + spares R R) + spare (mine (e ∷ R) e.path)
   step_spares {R} {e} l = go l.0.begun
     where
-      go : {t : Task} → Begun P R e.path t → (spare (mine (e ∷ R) []) + spares (e ∷ R) R) + spare (mine R e.path) ≡ (spare (mine R []) + spares R R) + spare (mine (e ∷ R) e.path)
+      go : {t : Task} → Begun P R e.path t → (spare (mine (e ∷ R) []) + spares (e ∷ R) R) + spare (mine R e.path) ≡ (spare (mine R []) + spares R R) + spare
+          (mine (e ∷ R) e.path)
       go (root a b) =
           let r = spares_same R e R (λ g B u h k. absurd (let z : [] ≡ u ∷ g.path = sym a ∙ k in cc)) in
           let x = ap (λ p. spare (mine R p)) a in
@@ -296,7 +315,8 @@ module _ (P : Program) (D : Disciplined P) (C : Paced P) where
   few_free [] l = let a = total_nil by_free in let b = ap spare (mine_nil []) in let c = spares_nil [] in omega arith
   few_free (e ∷ R) l = go (few_free R l.1) (was_spare l (mine R e.path) refl)
     where
-      go : total by_free R + (spare (mine R []) + spares R R) ≤ suc (total by_entry R + begins R) → (spare (mine R e.path) ≡ 1) ⊎ (one_entry e.act ≡ 1) → total by_free (e ∷ R) + (spare (mine (e ∷ R) []) + spares (e ∷ R) (e ∷ R)) ≤ suc (total by_entry (e ∷ R) + begins (e ∷ R))
+      go : total by_free R + (spare (mine R []) + spares R R) ≤ suc (total by_entry R + begins R) → (spare (mine R e.path) ≡ 1) ⊎ (one_entry e.act ≡ 1)
+          → total by_free (e ∷ R) + (spare (mine (e ∷ R) []) + spares (e ∷ R) (e ∷ R)) ≤ suc (total by_entry (e ∷ R) + begins (e ∷ R))
       go r c =
           let s = step_spares l in
           let f = total_step by_free e R in

@@ -5,7 +5,6 @@ use Rattle.dpj_runs.specs.Blocks.{In_block, hold}
 use Rattle.dpj_runs.specs.Objects.{Effect, Path}
 use Rattle.dpj_runs.specs.Order.{Agree}
 use Rattle.dpj_runs.specs.Runs.{Begun, Ended, Event, Faithful, Joins, Run, Upto, branch, mine, now, root}
-use Rattle.dpj_runs.specs.Schedules.{ended}
 use Rattle.dpj_runs.proofs.Upto.{upto_trans, upto_tail}
 use Rattle.dpj_runs.proofs.Mine.{mine_at, mine_upto, Found, found}
 use Rattle.dpj_runs.proofs.Faithful.{begun_upto, follows_at}

@@ -1,10 +1,12 @@
 -- Which events write to a cell, and the last that does.
-use Rattle.std.proofs.Common.{◌≡◌, ◌≢◌, ℕ, ℤ, pos, negsuc, ◌<◌, ◌⊎◌, inl, inr, ⊎_elim, Bool, true, false, ◌&&◌, List, [], ◌∷◌, length, refl, sym, ap, ap₂, ◌∙◌, subst, arith, Option, Some, None, eq-eqb, eqb-true, true≢false, nat_lt}
+use Rattle.std.proofs.Common.{◌≡◌, ◌≢◌, ℕ, ℤ, pos, negsuc, Bool, true, false, [], ◌∷◌, refl, sym, ap, ap₂, ◌∙◌}
+use Rattle.std.proofs.Common.{subst, arith, Option, Some, None, eq-eqb, eqb-true, true≢false, nat_lt}
 use Rattle.std.proofs.lemmas.Bool.{and_from, and_parts, cond-true, cond-false}
-use Rattle.dpj_runs.specs.Actions.{Action, Answer, Begin, Class, Do, End, Enter, Exit, Fell, Fork, Got, Join, Joined, Length, Look, Named, New, Out, Own, Print, Read, Rest, Went, Write}
+use Rattle.dpj_runs.specs.Actions.{Action, Answer, Begin, Class, Do, End, Enter, Exit, Fell, Fork, Got, Join, Joined, Length, Look, Named, New, Out, Own, Print}
+use Rattle.dpj_runs.specs.Actions.{Read, Rest, Went, Write}
 use Rattle.dpj_runs.specs.Objects.{Cell, Name, Value, is_cell, is_slot, same_name, slot_of}
 use Rattle.dpj_runs.specs.Order.{Conflict, IsPlain, Writes, read_write, write_read, write_write}
-use Rattle.dpj_runs.specs.Runs.{Event, Run, Upto, count, first_some, last_written, later, now, unless_out, written, written_by}
+use Rattle.dpj_runs.specs.Runs.{Event, Run, Upto, first_some, last_written, later, now, unless_out, written, written_by}
 use Rattle.dpj_runs.proofs.Upto.{upto_length}
 use Rattle.dpj_runs.proofs.Mine.{same_path_eq, test_same}
 
@@ -15,7 +17,7 @@ write_of c v = Do (Write c.object (pos c.slot) v)
 name_eq : (n m : Name) → n.maker ≡ m.maker → n.count ≡ m.count → n ≡ m
 name_eq n m a b = λ i. record { maker = a i; count = b i }
 
-same_name_eq : (n m : Name) → same_name n m ≡ true → n ≡ m
+pub same_name_eq : (n m : Name) → same_name n m ≡ true → n ≡ m
 same_name_eq n m e = let a = and_parts _ _ e in name_eq n m (same_path_eq n.maker m.maker a.0) (eqb-true _ _ a.1)
 
 is_slot_eq : (i : ℤ) (k : ℕ) → is_slot i k ≡ true → i ≡ pos k
@@ -26,7 +28,8 @@ is_cell_eq : (n : Name) (i : ℤ) (c : Cell) → is_cell n i c ≡ true → (n �
 is_cell_eq n i c e = let a = and_parts _ _ e in (same_name_eq n c.object a.0, is_slot_eq i c.slot a.1)
 
 is_its_cell : (c : Cell) → is_cell c.object (pos c.slot) c ≡ true
-is_its_cell c = and_from _ _ (and_from _ _ (test_same c.object.maker c.object.maker refl) (eq-eqb c.object.count c.object.count refl)) (eq-eqb c.slot c.slot refl)
+is_its_cell c = and_from _ _ (and_from _ _ (test_same c.object.maker c.object.maker refl) (eq-eqb c.object.count c.object.count refl))
+    (eq-eqb c.slot c.slot refl)
 
 -- whether an event writes to a cell
 pub data Written (c : Cell) (e : Event) : Type 0 where
@@ -101,7 +104,7 @@ last_step e R c = refl
 pub data LastWrite (R : Run) (c : Cell) : Type 0 where
   none : ((w : Event) (W : Run) → Upto (w ∷ W) R → Writes c w → ⊥) → last_written R c ≡ None → LastWrite R c
   some : (w : Event) (W : Run) → Upto (w ∷ W) R → (wr : Writes c w) → last_written R c ≡ Some wr.value
-    → ((x : Event) (X : Run) → Upto (x ∷ X) R → Writes c x → Upto (x ∷ X) (w ∷ W)) → LastWrite R c
+      → ((x : Event) (X : Run) → Upto (x ∷ X) R → Writes c x → Upto (x ∷ X) (w ∷ W)) → LastWrite R c
 
 pub last_write : (R : Run) (c : Cell) → LastWrite R c
 last_write [] c = none (λ w W h e. (let n = upto_length h in absurd (omega arith))) (last_nil c)
@@ -127,6 +130,9 @@ slot_is (pos j) n k e = go (nat_lt j n) refl
     go true h = let s : Some j ≡ Some k = sym (cond-true (nat_lt j n) (Some j) None h) ∙ e in let m : j ≡ k = cc in ap pos m
     go false h = absurd (let s : None ≡ Some k = sym (cond-false (nat_lt j n) (Some j) None h) ∙ e in cc)
 slot_is (negsuc j) n k e = absurd (let s : None ≡ Some k = e in cc)
+
+pub got_in : (v : Value) → ◌≢◌ {A = Answer} (Got v) Out
+got_in v e = cc
 
 -- conflicts are of plain actions
 pub left_plain : {x y : Event} → Conflict x y → IsPlain x.act

@@ -1,11 +1,12 @@
 -- What stands before an action in the one of two runs stands in the other too, so a read gets the same value in both.
-use Rattle.std.proofs.Common.{◌≡◌, ℕ, suc, pos, ◌<◌, ◌⊎◌, inl, inr, ⊎_elim, List, [], ◌∷◌, ◌++◌, length, refl, sym, ap, ◌∙◌, subst, arith, Some, None, slice_get, eq-eqb, ne_eqb}
+use Rattle.std.proofs.Common.{◌≡◌, ℕ, suc, ◌<◌, ◌⊎◌, inl, inr, ⊎_elim, List, [], ◌∷◌, ◌++◌, length, refl, sym, ap, ◌∙◌, subst, arith, Some}
+use Rattle.std.proofs.Common.{slice_get}
 use Rattle.dpj_runs.specs.Actions.{Program}
 use Rattle.dpj_runs.specs.Meaning.{Disciplined}
 use Rattle.dpj_runs.specs.Objects.{Cell, Path}
-use Rattle.dpj_runs.specs.Order.{Agree, Before, Conflict, Free, IsPlain, Passes, Reads, Related, Unordered, Writes, above_fork, across, below_join, first, in_task, neither, one, second, write_read, write_write}
+use Rattle.dpj_runs.specs.Order.{Agree, Before, Conflict, Free, IsPlain, Passes, Reads, Related, Unordered, Writes, above_fork, across, below_join, first}
+use Rattle.dpj_runs.specs.Order.{in_task, neither, one, second, write_read, write_write}
 use Rattle.dpj_runs.specs.Runs.{Event, Faithful, Run, Upto, count, last_written, later, mine, now}
-use Rattle.dpj_runs.specs.Standing.{above}
 use Rattle.dpj_runs.proofs.Upto.{upto_trans, upto_length, upto_tail, upto_two}
 use Rattle.dpj_runs.proofs.Mine.{mine_upto, Found, same_of, number_of}
 use Rattle.dpj_runs.proofs.Cells.{write_of, LastWrite, none, some, last_write, left_plain, right_plain}
@@ -18,7 +19,8 @@ free_upto h f = record { no = λ Y X y x hy hx u c. f.no Y X y x (upto_trans hy 
 pub agree_upto : {R S T : Run} → Upto T S → Agree R S → Agree R T
 agree_upto h ag = record { both = λ p. ⊎_elim (λ k. upto_two k (mine_upto p h)) (λ k. inr (upto_trans (mine_upto p h) k)) (ag.both p) }
 
-pub same_list : {A : Type 0} (xs ys : List A) → length xs ≡ length ys → ((n : ℕ) (x y : A) → slice_get xs n ≡ Some x → slice_get ys n ≡ Some y → x ≡ y) → xs ≡ ys
+pub same_list : {A : Type 0} (xs ys : List A) → length xs ≡ length ys → ((n : ℕ) (x y : A) → slice_get xs n ≡ Some x → slice_get ys n ≡ Some y → x ≡ y)
+    → xs ≡ ys
 same_list [] [] e f = refl
 same_list [] (y ∷ ys) e f = absurd (omega arith)
 same_list (x ∷ xs) [] e f = absurd (omega arith)
@@ -29,7 +31,8 @@ same_list (x ∷ xs) (y ∷ ys) e f =
 
 module _ (P : Program) (D : Disciplined P) where
   -- what was done in a branch of the one run before a task went on was done in the other
-  present_below : {R S T W Y : Run} {w y : Event} (xs q : Path) (u : ℕ × ℕ) → Faithful P R → Faithful P S → Faithful P T → Upto S T → Agree R S → Upto (w ∷ W) R → w.path ≡ xs ++ u ∷ q → Upto (y ∷ Y) T → Upto Y S → y.path ≡ q → u.0 < count Y q → Passes y.act → Found S w.path w (mine W w.path)
+  present_below : {R S T W Y : Run} {w y : Event} (xs q : Path) (u : ℕ × ℕ) → Faithful P R → Faithful P S → Faithful P T → Upto S T → Agree R S
+      → Upto (w ∷ W) R → w.path ≡ xs ++ u ∷ q → Upto (y ∷ Y) T → Upto Y S → y.path ≡ q → u.0 < count Y q → Passes y.act → Found S w.path w (mine W w.path)
   present_below {R} {S} {T} {W} {Y} {w} {y} xs q u l m n hST ag hw wq hy hY yq lt never =
       let g = fork_above P D xs q u l hw wq in
       let gs = upto_trans g.stands (upto_tail hw) in
@@ -45,7 +48,8 @@ module _ (P : Program) (D : Disciplined P) where
       carry w.path ag hw refl (subst (λ p. count W p < count S p) (sym wq) le)
 
   -- what stands before an action in the static order was done in the other run too
-  pub present : {R S W : Run} {w f : Event} → Faithful P R → Faithful P (f ∷ S) → Agree R S → Upto (w ∷ W) R → Passes f.act → Before w.path (count W w.path) f.path (count S f.path) → Found S w.path w (mine W w.path)
+  pub present : {R S W : Run} {w f : Event} → Faithful P R → Faithful P (f ∷ S) → Agree R S → Upto (w ∷ W) R → Passes f.act
+      → Before w.path (count W w.path) f.path (count S f.path) → Found S w.path w (mine W w.path)
   present {S = S} {W = W} {w = w} l m ag hw af (in_task e n) = carry w.path ag hw refl (subst (λ p. count W w.path < count S p) (sym e) n)
   present {S = S} {W = W} {w = w} {f = f} l m ag hw af (above_fork xs u e n) =
       let g = fork_above P D xs w.path u m now e in
@@ -60,7 +64,8 @@ module _ (P : Program) (D : Disciplined P) where
       present_below xs r u l m.1 m (later now) ag hw d (later g.stands) (upto_tail g.stands) g.path (omega arith) never
 
   -- a write that is in conflict with the next action was done in the other run too
-  pub carry_write : {R S W : Run} {e f w : Event} → Faithful P (e ∷ R) → Faithful P (f ∷ S) → Free (e ∷ R) → Agree R S → e.path ≡ f.path → mine R f.path ≡ mine S f.path → e.act ≡ f.act → Upto (w ∷ W) R → Conflict w e → Found S w.path w (mine W w.path)
+  pub carry_write : {R S W : Run} {e f w : Event} → Faithful P (e ∷ R) → Faithful P (f ∷ S) → Free (e ∷ R) → Agree R S → e.path ≡ f.path
+      → mine R f.path ≡ mine S f.path → e.act ≡ f.act → Upto (w ∷ W) R → Conflict w e → Found S w.path w (mine W w.path)
   carry_write {R} {S} {W} {e} {f} {w} l m free ag pe ms ae hw cf = go (order_of P D l (later hw) now (left_plain cf) (right_plain cf))
     where
       go : Related w.path (count W w.path) e.path (count R e.path) → Found S w.path w (mine W w.path)
@@ -74,7 +79,7 @@ module _ (P : Program) (D : Disciplined P) where
 
   -- a read gets the value of the same last write in both runs
   module _ {R S : Run} {e f : Event} (l : Faithful P (e ∷ R)) (m : Faithful P (f ∷ S)) (fr : Free (e ∷ R)) (fs : Free (f ∷ S)) (ag : Agree R S)
-    (pe : e.path ≡ f.path) (ms : mine R f.path ≡ mine S f.path) (ae : e.act ≡ f.act) (c : Cell) (re : Reads c e) (rf : Reads c f) where
+      (pe : e.path ≡ f.path) (ms : mine R f.path ≡ mine S f.path) (ae : e.act ≡ f.act) (c : Cell) (re : Reads c e) (rf : Reads c f) where
     over : {w : Event} {W : Run} → Upto (w ∷ W) R → Writes c w → Found S w.path w (mine W w.path)
     over {w} h k = carry_write l m fr ag pe ms ae h (write_read c k re)
 
@@ -86,7 +91,7 @@ module _ (P : Program) (D : Disciplined P) where
 
     -- two last writes, of which each is before the other
     two : {w x : Event} {W W' X X' : Run} → (a : Writes c w) → (b : Writes c x) → Upto (w ∷ W) R → Upto (x ∷ X') R → Upto (w ∷ W') S → Upto (x ∷ X) S
-      → count W' w.path ≡ count W w.path → count X' x.path ≡ count X x.path → Upto (x ∷ X') W → Upto (w ∷ W') X → a.value ≡ b.value
+        → count W' w.path ≡ count W w.path → count X' x.path ≡ count X x.path → Upto (x ∷ X') W → Upto (w ∷ W') X → a.value ≡ b.value
     two {w} {x} {W} {W'} {X} {X'} a b hw hx' hw' hx nw nx xw wx = order (order_of P D l.1 hw hx' (left_plain clash) (right_plain clash))
       where
         clash : Conflict w x
@@ -104,13 +109,24 @@ module _ (P : Program) (D : Disciplined P) where
         order (neither n) = absurd ((free_upto (later now) fr).no W X' w x hw xw (flip n) (write_write c b a))
           where
             flip : {p q : Path} → Unordered p q → Unordered q p
-            flip u = record { below_p = u.below_q; below_q = u.below_p; above = u.above; u = u.v; v = u.u; one_fork = sym u.one_fork; apart = λ h. u.apart (sym h); p_is = u.q_is; q_is = u.p_is }
+            flip u = record {
+              below_p = u.below_q;
+              below_q = u.below_p;
+              above = u.above;
+              u = u.v;
+              v = u.u;
+              one_fork = sym u.one_fork;
+              apart = λ h. u.apart (sym h);
+              p_is = u.q_is;
+              q_is = u.p_is;
+            }
 
     same_written : LastWrite R c → LastWrite S c → last_written R c ≡ last_written S c
     same_written (none n z) (none n' z') = z ∙ sym z'
     same_written (none n z) (some x X h k i g) = let b = back h k in absurd (n x b.before b.stands k)
     same_written (some w W h k i g) (none n z) = let b = over h k in absurd (n w b.before b.stands k)
-    same_written (some w W h k i g) (some x X h' k' i' g') = i ∙ ap Some (meet (which_of (g' w a.before a.stands k)) (which_of (g x b.before b.stands k'))) ∙ sym i'
+    same_written (some w W h k i g) (some x X h' k' i' g') =
+        i ∙ ap Some (meet (which_of (g' w a.before a.stands k)) (which_of (g x b.before b.stands k'))) ∙ sym i'
       where
         a : Found S w.path w (mine W w.path)
         a = over h k

@@ -40,7 +40,8 @@ without c (x ∷ R) p y ys e = go (without c R p y ys) (path_cases x.path p)
           run = x ∷ w.run;
           costs = (let a = w.costs in let b = total_step c x R in let d = total_step c x w.run in omega arith);
           here = mine_other x w.run p k ∙ w.here;
-          other = λ q n. ⊎_elim (λ h. mine_same x w.run q h ∙ ap (λ l. x ∷ l) (w.other q n) ∙ sym (mine_same x R q h)) (λ h. mine_other x w.run q h ∙ w.other q n ∙ sym (mine_other x R q h)) (path_cases x.path q);
+          other = λ q n. ⊎_elim (λ h. mine_same x w.run q h ∙ ap (λ l. x ∷ l) (w.other q n) ∙ sym (mine_same x R q h))
+              (λ h. mine_other x w.run q h ∙ w.other q n ∙ sym (mine_other x R q h)) (path_cases x.path q);
         }
 
 upto_cases : {A : Type 0} {y : A} {xs ys : List A} → Upto xs (y ∷ ys) → (xs ≡ y ∷ ys) ⊎ Upto xs ys
@@ -49,26 +50,30 @@ upto_cases (later h) = inr h
 
 pub total_le : (c : Event → ℕ) (S R : Run) → ((p : Path) → Upto (mine R p) (mine S p)) → total c R ≤ total c S
 total_le c [] [] h = omega arith
-total_le c [] (e ∷ R) h = absurd (upto_none (subst (Upto (e ∷ mine R e.path)) (mine_nil e.path) (subst (λ l. Upto l (mine [] e.path)) (mine_same e R e.path refl) (h e.path))))
+total_le c [] (e ∷ R) h = absurd (upto_none (subst (Upto (e ∷ mine R e.path)) (mine_nil e.path)
+    (subst (λ l. Upto l (mine [] e.path)) (mine_same e R e.path refl) (h e.path))))
 total_le c (y ∷ S) R h = go (total_le c S) (upto_cases (subst (Upto (mine R y.path)) (mine_same y S y.path refl) (h y.path)))
   where
     at_other : (q : Path) → (q ≡ y.path → ⊥) → Upto (mine R q) (mine S q)
     at_other q n = subst (Upto (mine R q)) (mine_other y S q (λ e. n (sym e))) (h q)
 
-    go : ((Q : Run) → ((p : Path) → Upto (mine Q p) (mine S p)) → total c Q ≤ total c S) → (mine R y.path ≡ y ∷ mine S y.path) ⊎ Upto (mine R y.path) (mine S y.path) → total c R ≤ total c (y ∷ S)
+    go : ((Q : Run) → ((p : Path) → Upto (mine Q p) (mine S p)) → total c Q ≤ total c S) → (mine R y.path ≡ y ∷ mine S y.path)
+        ⊎ Upto (mine R y.path) (mine S y.path) → total c R ≤ total c (y ∷ S)
     go rec (inr u) =
         let a = rec R (λ q. ⊎_elim (λ e. subst (λ p. Upto (mine R p) (mine S p)) (sym e) u) (at_other q) (path_cases q y.path)) in
         let b = total_step c y S in
         omega arith
     go rec (inl e) =
         let w = without c R y.path y (mine S y.path) e in
-        let a = rec w.run (λ q. ⊎_elim (λ k. subst (λ p. Upto (mine w.run p) (mine S p)) (sym k) (subst (λ l. Upto l (mine S y.path)) (sym w.here) now)) (λ n. subst (λ l. Upto l (mine S q)) (sym (w.other q n)) (at_other q n)) (path_cases q y.path)) in
+        let a = rec w.run (λ q. ⊎_elim (λ k. subst (λ p. Upto (mine w.run p) (mine S p)) (sym k) (subst (λ l. Upto l (mine S y.path)) (sym w.here) now))
+        (λ n. subst (λ l. Upto l (mine S q)) (sym (w.other q n)) (at_other q n)) (path_cases q y.path)) in
         let b = total_step c y S in
         let d = w.costs in
         omega arith
 
 -- in a run whose root has ended each task has made all that it makes in any run
-pub most_events : (P : Program) (D : Disciplined P) {R S : Run} {x : Ending} → Faithful P R → Faithful P S → Agree R S → Ended S [] x → (p : Path) → Upto (mine R p) (mine S p)
+pub most_events : (P : Program) (D : Disciplined P) {R S : Run} {x : Ending} → Faithful P R → Faithful P S → Agree R S → Ended S [] x → (p : Path)
+    → Upto (mine R p) (mine S p)
 most_events P D {R} {S} l m ag g p = go (cases_lt 0 (count R p))
   where
     none : (xs : Run) → length xs ≤ 0 → Upto xs (mine S p)

@@ -22,3 +22,8 @@ pub mod Sorting
 pub mod Replies
 pub mod Scripts
 pub mod Play
+pub mod Tests
+pub mod Samples
+pub mod Finishing
+pub mod Greatest
+pub mod ForkSince

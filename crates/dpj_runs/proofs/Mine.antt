@@ -4,14 +4,12 @@ use Rattle.std.proofs.Common.{ap₂, ⊎_elim, true≢false, eq-eqb, eqb-true}
 use Rattle.std.proofs.lemmas.Bool.{and_from, and_parts, cond-true, cond-false, false_from_ne_true, cases_eq}
 use Rattle.dpj_runs.specs.Objects.{Path, same_path}
 use Rattle.dpj_runs.specs.Runs.{Event, Run, Upto, count, later, mine, now}
+use Rattle.dpj_runs.proofs.Places.{pair_eq}
 use Rattle.dpj_runs.proofs.Upto.{upto_trans, upto_length, upto_split, upto_none, which, Which, same_one, before, after}
 
 same_path_refl : (p : Path) → same_path p p ≡ true
 same_path_refl [] = refl
 same_path_refl (x ∷ p) = and_from _ _ (eq-eqb x.0 x.0 refl) (and_from _ _ (eq-eqb x.1 x.1 refl) (same_path_refl p))
-
-pair_eq : (x y : ℕ × ℕ) → x.0 ≡ y.0 → x.1 ≡ y.1 → x ≡ y
-pair_eq x y a b = λ i. (a i, b i)
 
 pub same_path_eq : (p q : Path) → same_path p q ≡ true → p ≡ q
 same_path_eq [] [] e = refl
@@ -48,7 +46,8 @@ unfolding mine
 mine_nil p = refl
 
 pub mine_step : (e : Event) (R : Run) (p : Path) → Upto (mine R p) (mine (e ∷ R) p)
-mine_step e R p = ⊎_elim (λ h. subst (Upto (mine R p)) (sym (mine_same e R p h)) (later now)) (λ h. subst (Upto (mine R p)) (sym (mine_other e R p h)) now) (path_cases e.path p)
+mine_step e R p = ⊎_elim (λ h. subst (Upto (mine R p)) (sym (mine_same e R p h)) (later now)) (λ h. subst (Upto (mine R p)) (sym (mine_other e R p h)) now)
+    (path_cases e.path p)
 
 pub mine_upto : {B R : Run} (p : Path) → Upto B R → Upto (mine B p) (mine R p)
 mine_upto p now = now

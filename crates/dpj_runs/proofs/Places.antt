@@ -3,7 +3,6 @@ use Rattle.std.proofs.Common.{◌≡◌, ℕ, ◌<◌, ◌⊎◌, inl, inr, ⊎_
 use Rattle.std.proofs.lemmas.Bool.{cases_order, cases_eq}
 use Rattle.dpj_runs.specs.Objects.{Path}
 use Rattle.dpj_runs.specs.Order.{Unordered}
-use Rattle.dpj_runs.specs.Standing.{above}
 
 pub data Place (p q : Path) : Type 0 where
   equal : p ≡ q → Place p q
@@ -18,7 +17,7 @@ pub snoc : (x : ℕ × ℕ) (xs : Path) → (ys : Path) × (y : ℕ × ℕ) × (
 snoc x [] = ([], x, refl)
 snoc x (z ∷ xs) = let r = snoc z xs in (x ∷ r.0, r.1, ap (λ l. x ∷ l) r.2)
 
-pair_eq : (x y : ℕ × ℕ) → x.0 ≡ y.0 → x.1 ≡ y.1 → x ≡ y
+pub pair_eq : (x y : ℕ × ℕ) → x.0 ≡ y.0 → x.1 ≡ y.1 → x ≡ y
 pair_eq x y a b = λ i. (a i, b i)
 
 apart : (x z : ℕ × ℕ) (xs p q : Path) → q ≡ xs ++ z ∷ p → (z.1 ≡ x.1 → ⊥) → x.0 ≡ z.0 → Place (x ∷ p) q
@@ -39,7 +38,17 @@ cons_place x p q (over xs z e) = go (cases_order x.0 z.0)
     go (inr (inr l)) = right_of [] xs p x z refl e l
 cons_place x p q (left_of xs ys r u v d e l) = left_of (x ∷ xs) ys r u v (ap (λ l. x ∷ l) d) e l
 cons_place x p q (right_of xs ys r u v d e l) = right_of (x ∷ xs) ys r u v (ap (λ l. x ∷ l) d) e l
-cons_place x p q (beside n) = beside (record { below_p = x ∷ n.below_p; below_q = n.below_q; above = n.above; u = n.u; v = n.v; one_fork = n.one_fork; apart = n.apart; p_is = ap (λ l. x ∷ l) n.p_is; q_is = n.q_is })
+cons_place x p q (beside n) = beside (record {
+  below_p = x ∷ n.below_p;
+  below_q = n.below_q;
+  above = n.above;
+  u = n.u;
+  v = n.v;
+  one_fork = n.one_fork;
+  apart = n.apart;
+  p_is = ap (λ l. x ∷ l) n.p_is;
+  q_is = n.q_is;
+})
 
 nil_place : (q : Path) → Place [] q
 nil_place [] = equal refl

@@ -1,15 +1,15 @@
 -- Legal runs for samples, computed from the names of the tasks that go on, and checked as they are made.
-use Rattle.std.proofs.Common.{◌≡◌, ℕ, zero, suc, ◌+◌, ◌<◌, ◌≤◌, ◌⊎◌, inl, inr, ⊎_elim, Bool, true, false, true≢false, ◌&&◌, ◌==◌, if◌then◌else◌, List, [], ◌∷◌, ◌++◌, length, refl, sym, ap, ◌∙◌, subst, arith, Option, Some, None, slice_get, eqb-true}
-use Rattle.std.proofs.lemmas.Bool.{and_parts, cond-true, cond-false, cases_lt}
+use Rattle.std.proofs.Common.{◌≡◌, ℕ, zero, suc, ◌+◌, ◌⊎◌, inl, inr, Bool, true, false, true≢false, ◌&&◌, ◌==◌, if◌then◌else◌, List, [], ◌∷◌}
+use Rattle.std.proofs.Common.{◌++◌, length, refl, sym, ap, ◌∙◌, subst, arith, Option, Some, None, slice_get, eqb-true}
+use Rattle.std.proofs.lemmas.Bool.{and_parts, cond-true, cond-false}
 use Rattle.std.proofs.lemmas.Option.{slice_get_past}
-use Rattle.dpj_runs.specs.Actions.{Action, Answer, Begin, Branches, Do, End, Ending, Enter, Fork, Join, Next, Over, Program, Reply, Rule, Task, Went}
-use Rattle.dpj_runs.specs.Objects.{Effect, Path}
-use Rattle.dpj_runs.specs.Runs.{Begun, Ended, Event, Joins, Right, Run, Upto, answers, branch, joined, later, made, mine, now, reply, root}
+use Rattle.dpj_runs.specs.Actions.{Action, Answer, Begin, Branches, Do, End, Ending, Enter, Fork, Join, Next, Over, Program, Reply, Rule, Task, Unknown, Went}
+use Rattle.dpj_runs.specs.Objects.{Effect, Path, same_path}
+use Rattle.dpj_runs.specs.Runs.{Begun, Ended, Event, Joins, Right, Run, Upto, answers, branch, joined, later, mine, now, reply, root}
 use Rattle.dpj_runs.specs.Standing.{Admitted, CanEnter, Inside, Outside, Standing, Valid, standing}
-use Rattle.dpj_runs.proofs.Upto.{upto_trans, upto_length, upto_split, upto_none}
-use Rattle.dpj_runs.proofs.Mine.{mine_at, Found, found}
+use Rattle.dpj_runs.proofs.Upto.{upto_since, upto_split, upto_none}
+use Rattle.dpj_runs.proofs.Mine.{test_same, found}
 use Rattle.dpj_runs.proofs.Faithful.{some_same}
-use Rattle.dpj_runs.proofs.Blocks.{entry_at}
 use Rattle.dpj_runs.proofs.Standing.{Opener, opener_of}
 use Rattle.dpj_runs.proofs.Carry.{has_event}
 
@@ -44,7 +44,8 @@ nth_stands : (es : Run) (n : ℕ) (x : Event) → nth es n ≡ Some x → (xs : 
 nth_stands [] n x e = absurd (let k : None ≡ Some x = e in cc)
 nth_stands (y ∷ ys) n x e = go (length ys == n) refl (nth_stands ys n x)
   where
-    go : (t : Bool) → (length ys == n) ≡ t → (nth ys n ≡ Some x → (xs : Run) × Upto (x ∷ xs) ys × (length xs ≡ n)) → (xs : Run) × Upto (x ∷ xs) (y ∷ ys) × (length xs ≡ n)
+    go : (t : Bool) → (length ys == n) ≡ t → (nth ys n ≡ Some x → (xs : Run) × Upto (x ∷ xs) ys × (length xs ≡ n)) → (xs : Run) × Upto (x ∷ xs) (y ∷ ys)
+        × (length xs ≡ n)
     go true h rec =
         let k = some_same y x (sym (cond-true (length ys == n) (Some y) (nth ys n) h) ∙ e) in
         (ys, subst (λ z. Upto (z ∷ ys) (y ∷ ys)) k now, eqb-true (length ys) n h)
@@ -81,13 +82,16 @@ begin_is n (End x) e = absurd (true≢false (sym e))
 -- what a task that has begun is to do
 abbrev pub task_of : Program → Run → Path → Option Task
 task_of P R [] = Some P.root
-task_of P R (u ∷ q) = let_some (nth (mine R q) u.0) (λ f. let_some (fork_of f.act) (λ ts. let_some (nth (mine R q) (suc (u.0 + u.1))) (λ g. when (is_begin u.1 g.act) (slice_get ts.tasks u.1))))
+task_of P R (u ∷ q) = let_some (nth (mine R q) u.0) (λ f. let_some (fork_of f.act)
+    (λ ts. let_some (nth (mine R q) (suc (u.0 + u.1))) (λ g. when (is_begin u.1 g.act) (slice_get ts.tasks u.1))))
 
-task_begun : (P : Program) (R : Run) (p : Path) (t : Task) → task_of P R p ≡ Some t → Begun P R p t
+pub task_begun : (P : Program) (R : Run) (p : Path) (t : Task) → task_of P R p ≡ Some t → Begun P R p t
 task_begun P R [] t e = root refl (sym (some_same P.root t e))
 task_begun P R (u ∷ q) t e =
-    let a = let_parts (nth (mine R q) u.0) (λ f. let_some (fork_of f.act) (λ ts. let_some (nth (mine R q) (suc (u.0 + u.1))) (λ g. when (is_begin u.1 g.act) (slice_get ts.tasks u.1)))) t e in
-    let b = let_parts (fork_of a.value.act) (λ ts. let_some (nth (mine R q) (suc (u.0 + u.1))) (λ g. when (is_begin u.1 g.act) (slice_get ts.tasks u.1))) t a.then_is in
+    let a = let_parts (nth (mine R q) u.0) (λ f. let_some (fork_of f.act)
+    (λ ts. let_some (nth (mine R q) (suc (u.0 + u.1))) (λ g. when (is_begin u.1 g.act) (slice_get ts.tasks u.1)))) t e in
+    let b = let_parts (fork_of a.value.act) (λ ts. let_some (nth (mine R q) (suc (u.0 + u.1)))
+    (λ g. when (is_begin u.1 g.act) (slice_get ts.tasks u.1))) t a.then_is in
     let ts : Branches = b.value in
     let c = let_parts (nth (mine R q) (suc (u.0 + u.1))) (λ g. when (is_begin u.1 g.act) (slice_get ts.tasks u.1)) t b.then_is in
     let d = when_parts (is_begin u.1 c.value.act) (slice_get ts.tasks u.1) t c.then_is in
@@ -95,7 +99,8 @@ task_begun P R (u ∷ q) t e =
     let g = nth_stands (mine R q) (suc (u.0 + u.1)) c.value c.is in
     let ff = found R q f.1 in
     let gg = found R q g.1 in
-    branch q u ff.before a.value ts gg.before c.value refl ff.stands ff.path (ap length ff.mine_is ∙ f.2) (fork_is a.value.act ts b.is) d.1 gg.stands gg.path (begin_is u.1 c.value.act d.0) (ap length gg.mine_is ∙ g.2)
+    branch q u ff.before a.value ts gg.before c.value refl ff.stands ff.path (ap length ff.mine_is ∙ f.2) (fork_is a.value.act ts b.is) d.1 gg.stands gg.path
+    (begin_is u.1 c.value.act d.0) (ap length gg.mine_is ∙ g.2)
 
 abbrev ending_of_act : Action → Option Ending
 ending_of_act (End x) = Some x
@@ -121,7 +126,8 @@ has_ended_with R p x e = go (mine R p) refl e
   where
     go : (es : Run) → mine R p ≡ es → latest_end es ≡ Some x → Ended R p x
     go [] m h = absurd (let k : None ≡ Some x = h in cc)
-    go (w ∷ es) m h = let f = found R p (subst (λ l. Upto (w ∷ es) l) (sym m) now) in record { before = f.before; event = w; stands = f.stands; path = f.path; act = act_is w.act x h }
+    go (w ∷ es) m h = let f = found R p (subst (λ l. Upto (w ∷ es) l) (sym m) now) in
+        record { before = f.before; event = w; stands = f.stands; path = f.path; act = act_is w.act x h }
 
 -- how the branches from number b on have ended, as many as are left
 abbrev ends_from : Run → Path → ℕ → ℕ → ℕ → Option (List Ending)
@@ -136,8 +142,10 @@ ends_length R p k b (suc n) xs e =
     let c = let_parts (ends_from R p k (suc b) n) (λ xs. Some (x ∷ xs)) xs a.then_is in
     ap length (sym (some_same (x ∷ c.value) xs c.then_is)) ∙ ap (λ m. suc m) (ends_length R p k (suc b) n c.value c.is)
 
-ends_ended : (R : Run) (p : Path) (k b n : ℕ) (xs : List Ending) → ends_from R p k b n ≡ Some xs → (i : ℕ) (y : Ending) → slice_get xs i ≡ Some y → Ended R ((k, b + i) ∷ p) y
-ends_ended R p k b zero xs e i y g = absurd (let l = ap length (sym (some_same [] xs e)) in let z : None ≡ Some y = sym (slice_get_past xs i (omega arith)) ∙ g in cc)
+ends_ended : (R : Run) (p : Path) (k b n : ℕ) (xs : List Ending) → ends_from R p k b n ≡ Some xs → (i : ℕ) (y : Ending) → slice_get xs i ≡ Some y
+    → Ended R ((k, b + i) ∷ p) y
+ends_ended R p k b zero xs e i y g = absurd (let l = ap length (sym (some_same [] xs e)) in
+    let z : None ≡ Some y = sym (slice_get_past xs i (omega arith)) ∙ g in cc)
 ends_ended R p k b (suc n) xs e i y g =
     let a = let_parts (latest_end (mine R ((k, b) ∷ p))) (λ x. let_some (ends_from R p k (suc b) n) (λ xs. Some (x ∷ xs))) xs e in
     let x : Ending = a.value in
@@ -145,7 +153,8 @@ ends_ended R p k b (suc n) xs e i y g =
     let s = some_same (x ∷ c.value) xs c.then_is in
     at i x c.value a.is (ends_ended R p k (suc b) n c.value c.is) (ap (λ l. slice_get l i) s ∙ g)
   where
-    at : (i : ℕ) (x : Ending) (ys : List Ending) → latest_end (mine R ((k, b) ∷ p)) ≡ Some x → ((j : ℕ) (z : Ending) → slice_get ys j ≡ Some z → Ended R ((k, suc b + j) ∷ p) z) → slice_get (x ∷ ys) i ≡ Some y → Ended R ((k, b + i) ∷ p) y
+    at : (i : ℕ) (x : Ending) (ys : List Ending) → latest_end (mine R ((k, b) ∷ p)) ≡ Some x
+        → ((j : ℕ) (z : Ending) → slice_get ys j ≡ Some z → Ended R ((k, suc b + j) ∷ p) z) → slice_get (x ∷ ys) i ≡ Some y → Ended R ((k, b + i) ∷ p) y
     at zero x ys h rec j =
         let m : b ≡ b + 0 = omega arith in
         has_ended_with R ((k, b + 0) ∷ p) y (subst (λ c. latest_end (mine R ((k, c) ∷ p)) ≡ Some y) m (h ∙ j))
@@ -153,7 +162,7 @@ ends_ended R p k b (suc n) xs e i y g =
         let m : suc b + i ≡ b + suc i = omega arith in
         subst (λ c. Ended R ((k, c) ∷ p) y) m (rec i y j)
 
--- the fork behind which stand begins alone, so many: how many events stand before it, and its branches
+-- the fork after which stand begins alone, so many: how many events stand before it, and its branches
 abbrev at_fork : Action → ℕ → Run → Option (ℕ × Branches) → Option (ℕ × Branches)
 at_fork (Fork ts) n es o = when (n == length ts.tasks) (Some (length es, ts))
 at_fork (Begin b) n es o = o
@@ -182,11 +191,11 @@ open_is (x ∷ L) n k ts e = go x.act refl (open_is L (suc n) k ts)
     go (Fork us) h rec =
         let w = when_parts (n == length us.tasks) (Some (length L, us)) (k, ts) (sym (ap (λ a. at_fork a n L (open_fork (suc n) L)) h) ∙ e) in
         let s : (length L, us) ≡ (k, ts) = some_same (length L, us) (k, ts) w.1 in
-        let ts_is : us ≡ ts = ap (λ z. z.1) s in
-        let k_is : length L ≡ k = ap (λ z. z.0) s in
+        let ts_is : us ≡ ts = ap (λ (z : ℕ × Branches). z.1) s in
+        let k_is : length L ≡ k = ap (λ (z : ℕ × Branches). z.0) s in
         let m = eqb-true n (length us.tasks) w.0 in
-        let l = ap (λ b. length b.tasks) ts_is in
-        record { since = []; fork = x; before = L; is = refl; act = h ∙ ap Fork ts_is; number = k_is; many = omega arith }
+        let l : length us.tasks ≡ length ts.tasks = ap (λ (b : Branches). length b.tasks) ts_is in
+        record { since = []; fork = x; before = L; is = refl; act = h ∙ ap Fork ts_is; number = k_is; many = omega (arith, m, l) }
     go (Begin b) h rec =
         let r = rec (sym (ap (λ a. at_fork a n L (open_fork (suc n) L)) h) ∙ e) in
         let m = r.many in
@@ -198,10 +207,6 @@ open_is (x ∷ L) n k ts e = go x.act refl (open_is L (suc n) k ts)
 abbrev join_answer : Run → Path → Option Answer
 join_answer R p = let_some (open_fork 0 (mine R p)) (λ f. let_some (ends_from R p f.0 0 (length f.1.tasks)) (λ xs. Some (joined xs)))
 
-upto_behind : (since : Run) (f : Event) (before : Run) → Upto (f ∷ before) (since ++ f ∷ before)
-upto_behind [] f before = now
-upto_behind (x ∷ since) f before = later (upto_behind since f before)
-
 joins_now : (R : Run) (p : Path) (a : Answer) → join_answer R p ≡ Some a → Joins R p a
 joins_now R p a e =
     let c = let_parts (open_fork 0 (mine R p)) (λ f. let_some (ends_from R p f.0 0 (length f.1.tasks)) (λ xs. Some (joined xs))) a e in
@@ -210,7 +215,7 @@ joins_now R p a e =
     let d = let_parts (ends_from R p k 0 (length ts.tasks)) (λ xs. Some (joined xs)) a c.then_is in
     let xs : List Ending = d.value in
     let o = open_is (mine R p) 0 k ts c.is in
-    let f = found R p (subst (λ l. Upto (o.fork ∷ o.before) l) (sym o.is) (upto_behind o.since o.fork o.before)) in
+    let f = found R p (subst (λ l. Upto (o.fork ∷ o.before) l) (sym o.is) (upto_since o.since o.fork o.before)) in
     let m = o.many in
     record {
       before = f.before;
@@ -249,21 +254,22 @@ answer_right P R p (Begin b) x e = sym (some_same Went x e)
 answer_right P R p Join x e = joins_now R p x e
 answer_right P R p (End y) x e = sym (some_same Went x e)
 
--- whether an entry may come now: no task that has made an event stands in a block that the rule keeps apart from it
+-- whether an entry may come now: no task that has made an event stands in a block of its own that the rule keeps apart from it
 abbrev lets_by : Rule → Standing → Path → List Effect → Bool
 lets_by rule Outside q E = true
-lets_by rule (Inside o F) q E = rule F E
+lets_by rule (Inside o F) q E = if same_path o q then rule F E else true
 
 abbrev all_let_by : Rule → Run → Run → List Effect → Bool
 all_let_by rule R [] E = true
 all_let_by rule R (w ∷ W) E = lets_by rule (standing R w.path) w.path E && all_let_by rule R W E
 
-all_let_at : (rule : Rule) (R W : Run) (E : List Effect) → all_let_by rule R W E ≡ true → (w : Event) (V : Run) → Upto (w ∷ V) W → lets_by rule (standing R w.path) w.path E ≡ true
+all_let_at : (rule : Rule) (R W : Run) (E : List Effect) → all_let_by rule R W E ≡ true → (w : Event) (V : Run) → Upto (w ∷ V) W
+    → lets_by rule (standing R w.path) w.path E ≡ true
 all_let_at rule R [] E e w V h = absurd (upto_none h)
 all_let_at rule R (x ∷ W) E e w V h = go (and_parts _ _ e) (upto_split h) (λ k. all_let_at rule R W E k w V)
   where
     go : (lets_by rule (standing R x.path) x.path E ≡ true) × (all_let_by rule R W E ≡ true) → ((w ≡ x) × (V ≡ W)) ⊎ Upto (w ∷ V) W
-      → (all_let_by rule R W E ≡ true → Upto (w ∷ V) W → lets_by rule (standing R w.path) w.path E ≡ true) → lets_by rule (standing R w.path) w.path E ≡ true
+        → (all_let_by rule R W E ≡ true → Upto (w ∷ V) W → lets_by rule (standing R w.path) w.path E ≡ true) → lets_by rule (standing R w.path) w.path E ≡ true
     go p (inl k) rec = subst (λ (z : Event). lets_by rule (standing R z.path) z.path E ≡ true) (sym k.0) p.0
     go p (inr k) rec = rec p.1 k
 
@@ -285,11 +291,12 @@ enter_ok rule R p E e = record { clear = λ w q F h. at w q F h (opener_of R q F
         let all : all_let_by rule R R E ≡ true = sym (ap (λ s. if_inside s (all_let_by rule R R E)) w) ∙ e in
         let l = all_let_at rule R R E all x.0 f.before f.stands in
         let s : standing R x.0.path ≡ Inside q F = ap (λ r. standing R r) f.path ∙ h in
-        sym (ap (λ t. lets_by rule t x.0.path E) s) ∙ l
+        sym (cond-true (same_path q x.0.path) (rule F E) true (test_same q x.0.path (sym f.path))) ∙ sym (ap (λ t. lets_by rule t x.0.path E) s) ∙ l
 
 -- the next event of a task, where it has one that may come now
 abbrev event_for : Program → Run → Path → Reply → Option Event
 event_for P R p Over = None
+event_for P R p Unknown = None
 event_for P R p (Next n a) = when (may_come P.rule R p a) (let_some (answer_to P R p a) (λ x. Some (record { path = p; turns = n; act = a; ans = x })))
 
 abbrev pub next_of : Program → Run → Path → Option Event
@@ -300,8 +307,10 @@ admitted_next P R p e h =
     let a = let_parts (task_of P R p) (λ t. event_for P R p (P.meaning p t (answers (mine R p)))) e h in
     go a.value (task_begun P R p a.value a.is) (P.meaning p a.value (answers (mine R p))) refl a.then_is
   where
-    go : (t : Task) → Begun P R p t → (r : Reply) → P.meaning p t (answers (mine R p)) ≡ r → event_for P R p (P.meaning p t (answers (mine R p))) ≡ Some e → Admitted P R e
+    go : (t : Task) → Begun P R p t → (r : Reply) → P.meaning p t (answers (mine R p)) ≡ r → event_for P R p (P.meaning p t (answers (mine R p))) ≡ Some e
+        → Admitted P R e
     go t b Over m k = absurd (let z : None ≡ Some e = sym (ap (event_for P R p) m) ∙ k in cc)
+    go t b Unknown m k = absurd (let z : None ≡ Some e = sym (ap (event_for P R p) m) ∙ k in cc)
     go t b (Next n a) m k =
         let k1 = sym (ap (event_for P R p) m) ∙ k in
         let w = when_parts (may_come P.rule R p a) (let_some (answer_to P R p a) (λ x. Some (record { path = p; turns = n; act = a; ans = x }))) e k1 in
@@ -328,3 +337,7 @@ played P (p ∷ ps) R e =
     let x : Event = b.value in
     let v : Valid P (x ∷ S) = (admitted_next P S p x b.is, played P ps S a.is) in
     subst (λ R. Valid P R) (some_same (x ∷ S) R b.then_is) v
+
+abbrev pub run_of : Option Run → Run
+run_of None = []
+run_of (Some R) = R

@@ -1,16 +1,17 @@
 -- Some task is ready: where a block is open, one of those in it; else one on the way down from the root.
-use Rattle.std.proofs.Common.{◌≡◌, ℕ, zero, suc, ◌+◌, ◌-◌, ◌<◌, ◌≤◌, ◌⊎◌, inl, inr, ⊎_elim, List, [], ◌∷◌, ◌++◌, length, refl, sym, ap, ◌∙◌, subst, arith, Option, Some, None, slice_get, length-append}
-use Rattle.dpj_runs.specs.Actions.{Action, Answer, Asks, Begin, Branches, Do, End, Ending, Fork, Join, Next, Over, Own, Program, Reply, Task, Went}
+use Rattle.std.proofs.Common.{◌≡◌, ℕ, zero, suc, ◌+◌, ◌-◌, ◌<◌, ◌≤◌, ◌⊎◌, inl, inr, ⊎_elim, List, [], ◌∷◌, ◌++◌, length, refl, sym, ap, ◌∙◌, subst, arith}
+use Rattle.std.proofs.Common.{Some, slice_get, length-append}
+use Rattle.dpj_runs.specs.Actions.{Action, Answer, Asks, Begin, Branches, Do, End, Ending, Fork, Join, Next, Over, Own, Program, Reply, Task, Unknown, Went}
 use Rattle.dpj_runs.specs.Blocks.{In_block, Out_of, hold, hold_after}
 use Rattle.dpj_runs.specs.Meaning.{Disciplined, Lively}
 use Rattle.dpj_runs.specs.Objects.{Effect, Path}
 use Rattle.dpj_runs.specs.Runs.{Begun, Ended, Event, Faithful, Right, Run, Upto, answers, branch, count, joined, later, mine, now, reply, root}
-use Rattle.dpj_runs.specs.Schedules.{ended}
 use Rattle.dpj_runs.specs.Standing.{Admitted, CanEnter, Inside, Outside, Standing, above, first_of, joined_by, standing}
 use Rattle.dpj_runs.proofs.Upto.{upto_trans, upto_length, upto_tail, upto_split, upto_none}
 use Rattle.dpj_runs.proofs.Mine.{path_cases, mine_at, found, same_of, number_of, numbered}
-use Rattle.dpj_runs.proofs.Faithful.{agree_self, next_same, same_task, begun_upto, some_same, follows_at, fork_above, begin_after, none_after_end}
+use Rattle.dpj_runs.proofs.Faithful.{some_same, fork_above, begin_after, none_after_end}
 use Rattle.dpj_runs.proofs.Standing.{first_is, above_step, hold_since, opener_of}
+use Rattle.dpj_runs.proofs.ForkSince.{fork_since, asked}
 use Rattle.dpj_runs.proofs.Carry.{has_event, begun_held}
 
 is_end : (a : Action) → ((x : Ending) × (a ≡ End x)) ⊎ ((x : Ending) → a ≡ End x → ⊥)
@@ -21,11 +22,11 @@ is_end (Begin b) = inr (λ x e. cc)
 is_end Join = inr (λ x e. cc)
 
 -- whether a task has ended
-data HasEnded (R : Run) (p : Path) : Type 0 where
+pub data HasEnded (R : Run) (p : Path) : Type 0 where
   it_has : (x : Ending) → Ended R p x → HasEnded R p
   it_has_not : ((x : Ending) → Ended R p x → ⊥) → HasEnded R p
 
-has_ended : (R : Run) (p : Path) → HasEnded R p
+pub has_ended : (R : Run) (p : Path) → HasEnded R p
 has_ended [] p = it_has_not (λ x e. upto_none e.stands)
 has_ended (e ∷ R) p = go (has_ended R p) (path_cases e.path p) (is_end e.act)
   where
@@ -33,7 +34,8 @@ has_ended (e ∷ R) p = go (has_ended R p) (path_cases e.path p) (is_end e.act)
     older x h = record { before = h.before; event = h.event; stands = later h.stands; path = h.path; act = h.act }
 
     never : ((x : Ending) → Ended R p x → ⊥) → ((x : Ending) → e.path ≡ p → e.act ≡ End x → ⊥) → (x : Ending) → Ended (e ∷ R) p x → ⊥
-    never f n x h = ⊎_elim (λ q. n x (ap (λ z. z.path) (sym q.0) ∙ h.path) (ap (λ z. z.act) (sym q.0) ∙ h.act)) (λ u. f x (record { before = h.before; event = h.event; stands = u; path = h.path; act = h.act })) (upto_split h.stands)
+    never f n x h = ⊎_elim (λ q. n x (ap (λ z. z.path) (sym q.0) ∙ h.path) (ap (λ z. z.act) (sym q.0) ∙ h.act))
+        (λ u. f x (record { before = h.before; event = h.event; stands = u; path = h.path; act = h.act })) (upto_split h.stands)
 
     go : HasEnded R p → (e.path ≡ p) ⊎ (e.path ≡ p → ⊥) → ((x : Ending) × (e.act ≡ End x)) ⊎ ((x : Ending) → e.act ≡ End x → ⊥) → HasEnded (e ∷ R) p
     go (it_has x h) a b = it_has x (older x h)
@@ -69,38 +71,8 @@ ends_of R p n b (t ∷ ts) = go (has_ended R ((n, b) ∷ p)) (ends_of R p n (suc
         each zero y e = subst (λ z. Ended R ((n, b + 0) ∷ p) z) (some_same x y e) (subst (λ i. Ended R ((n, i) ∷ p) x) zero_is h)
         each (suc k) y e = subst (λ i. Ended R ((n, i) ∷ p) y) (suc_is k) (f k y e)
 
--- a list of answers is split as its events are
-record Parted (L : Run) (xs : List Answer) (a : Answer) (ys : List Answer) : Type 0 where
-  since : Run
-  event : Event
-  before : Run
-  is : L ≡ since ++ event ∷ before
-  many : length since ≡ length xs
-  rest : answers before ≡ ys
-
-parted : (L : Run) (xs : List Answer) (a : Answer) (ys : List Answer) → answers L ≡ xs ++ a ∷ ys → Parted L xs a ys
-parted [] [] a ys e = absurd (cc)
-parted [] (x ∷ xs) a ys e = absurd (cc)
-parted (e ∷ L) [] a ys h = let k : answers L ≡ ys = cc in record { since = []; event = e; before = L; is = refl; many = refl; rest = k }
-parted (e ∷ L) (x ∷ xs) a ys h =
-    let k : answers L ≡ xs ++ a ∷ ys = cc in
-    let r = parted L xs a ys k in
-    record { since = e ∷ r.since; event = r.event; before = r.before; is = ap (λ l. e ∷ l) r.is; many = ap (λ n. suc n) r.many; rest = r.rest }
-
-upto_behind : (since : Run) (f : Event) (before : Run) → Upto (f ∷ before) (since ++ f ∷ before)
-upto_behind [] f before = now
-upto_behind (x ∷ since) f before = later (upto_behind since f before)
-
 module _ (P : Program) (D : Disciplined P) (V : Lively P) (R : Run) (l : Faithful P R)
-  (known : (p : Path) (t : Task) → Begun P R p t → (o : Own) → Asks P p t (answers (mine R p)) (Do o) → (a : Answer) × (reply P R p o ≡ Some a)) where
-  -- what a task that has begun was to do when it made an event
-  asked : (p : Path) (t : Task) → Begun P R p t → {w : Event} {W : Run} → Upto (w ∷ W) R → w.path ≡ p → Asks P p t (answers (mine W p)) w.act
-  asked p t b {w} {W} h e =
-      let a = follows_at P h l in
-      let same : a.task ≡ t = same_task (agree_self R) (begun_upto (upto_tail h) (subst (λ q. Begun P W q a.task) e a.begun)) b in
-      let k : P.meaning p a.task (answers (mine W p)) ≡ Next w.turns w.act = subst (λ q. P.meaning q a.task (answers (mine W q)) ≡ Next w.turns w.act) e a.asks in
-      (w.turns, subst (λ s. P.meaning p s (answers (mine W p)) ≡ Next w.turns w.act) same k)
-
+    (known : (p : Path) (t : Task) → Begun P R p t → (o : Own) → Asks P p t (answers (mine R p)) (Do o) → (a : Answer) × (reply P R p o ≡ Some a)) where
   -- a task that has not ended has a next action
   next_action : (p : Path) (t : Task) → Begun P R p t → ((x : Ending) → Ended R p x → ⊥) → (a : Action) × Asks P p t (answers (mine R p)) a
   next_action p t b live = go (P.meaning p t (answers (mine R p))) refl
@@ -109,12 +81,13 @@ module _ (P : Program) (D : Disciplined P) (V : Lively P) (R : Run) (l : Faithfu
       none [] e k = V.starts p t k
       none (w ∷ L) e k =
           let f = found R p (subst (λ m. Upto (w ∷ L) m) (sym e) now) in
-          let k1 = subst (λ m. Asks P p t (answers m) w.act) f.mine_is (asked p t b f.stands f.path) in
+          let k1 = subst (λ m. Asks P p t (answers m) w.act) f.mine_is (asked P R l p t b f.stands f.path) in
           let x = V.goes_on p t (answers L) w.ans w.act k1 k in
           live x.0 (record { before = f.before; event = w; stands = f.stands; path = f.path; act = x.1 })
 
       go : (r : Reply) → P.meaning p t (answers (mine R p)) ≡ r → (a : Action) × Asks P p t (answers (mine R p)) a
       go Over k = absurd (none (mine R p) refl k)
+      go Unknown k = absurd (V.known p t (answers (mine R p)) k)
       go (Next n a) k = (a, (n, k))
 
   -- no block is open, or this task stands inside one
@@ -126,40 +99,32 @@ module _ (P : Program) (D : Disciplined P) (V : Lively P) (R : Run) (l : Faithfu
   may_enter p E (no_block f) = record { clear = λ s q F h. absurd (f q F h) }
   may_enter p E (in_block o F k) = record { clear = λ s q G h. absurd (let z : Inside o F ≡ Outside = sym k ∙ s in cc) }
 
-  -- an action that a task asks for, rightly answered, is ready; an entry where no block is open or its task stands inside one
-  make : (p : Path) (t : Task) (c : Action) (a : Answer) → Begun P R p t → Asks P p t (answers (mine R p)) c → Right P R p c a → Free_or p → (e : Event) × Admitted P R e
-  make p t c a b k r fr = (record { path = p; turns = k.0; act = c; ans = a }, record { follows = record { task = t; begun = b; asks = k.1; right = r }; enters = λ E i. may_enter p E fr })
+  -- an action that a task asks for, rightly answered, is ready, where an entry may come
+  make : (p : Path) (t : Task) (c : Action) (a : Answer) → Begun P R p t → Asks P p t (answers (mine R p)) c → Right P R p c a
+      → ((E : List Effect) → CanEnter P.rule R p E) → (e : Event) × (e.path ≡ p) × Admitted P R e
+  make p t c a b k r may = (
+    record { path = p; turns = k.0; act = c; ans = a },
+    refl,
+    record { follows = record { task = t; begun = b; asks = k.1; right = r }; enters = λ E i. may E },
+  )
 
   -- the fork in front of whose join a task stands
-  record AtJoin (p : Path) (t : Task) : Type 0 where
-    since : Run
-    fork : Event
-    before : Run
-    stands : Upto (fork ∷ before) R
-    path : fork.path ≡ p
-    last : mine R p ≡ since ++ fork ∷ mine before p
-    tasks : Branches
-    act : fork.act ≡ Fork tasks
-    many : length since ≡ length tasks.tasks
+  pub record AtJoin (p : Path) (t : Task) : Type 0 where
+    pub since : Run
+    pub fork : Event
+    pub before : Run
+    pub stands : Upto (fork ∷ before) R
+    pub path : fork.path ≡ p
+    pub last : mine R p ≡ since ++ fork ∷ mine before p
+    pub tasks : Branches
+    pub act : fork.act ≡ Fork tasks
+    pub many : length since ≡ length tasks.tasks
 
   at_join : (p : Path) (t : Task) → Begun P R p t → Asks P p t (answers (mine R p)) Join → AtJoin p t
   at_join p t b k =
       let j = V.joins_forked p t (answers (mine R p)) k in
-      let d = parted (mine R p) j.1 j.2 j.3 j.4 in
-      let f = found R p (subst (λ m. Upto (d.event ∷ d.before) m) (sym d.is) (upto_behind d.since d.event d.before)) in
-      let k1 = subst (λ got. Asks P p t got d.event.act) (ap (λ m. answers m) f.mine_is ∙ d.rest) (asked p t b f.stands f.path) in
-      let same = next_same k1.0 j.6.0 d.event.act (Fork j.0) (sym k1.1 ∙ j.6.1) in
-      record {
-        since = d.since;
-        fork = d.event;
-        before = f.before;
-        stands = f.stands;
-        path = f.path;
-        last = d.is ∙ ap (λ m. d.since ++ d.event ∷ m) (sym f.mine_is);
-        tasks = j.0;
-        act = same.1;
-        many = d.many ∙ j.5;
-      }
+      let f = fork_since P R l p t j.0 (length j.0.tasks) b j.1 in
+      record { since = f.since; fork = f.fork; before = f.before; stands = f.stands; path = f.path; last = f.last; tasks = j.0; act = f.act; many = f.many }
 
   -- the number of a task's events at its join
   events_at_join : (p : Path) (t : Task) (j : AtJoin p t) → count R p ≡ suc (count j.before p + length j.tasks.tasks)
@@ -180,8 +145,11 @@ module _ (P : Program) (D : Disciplined P) (V : Lively P) (R : Run) (l : Faithfu
           let w = found R p h in
           let wn = ap length w.mine_is in
           let s = upto_length h in
-          let z = events_at_join p t j in
-          (count w.before p - suc (count j.before p), begin_after P D p j.tasks (count w.before p - suc (count j.before p)) l j.stands j.path j.act w.stands w.path (omega (arith, wn, m)) (omega (arith, wn, m, s, z)))
+          let z = events_at_join p t j in (
+            count w.before p - suc (count j.before p),
+            begin_after P D p j.tasks
+                (count w.before p - suc (count j.before p)) l j.stands j.path j.act w.stands w.path (omega (arith, wn, m)) (omega (arith, wn, m, s, z)),
+          )
 
       same : hold (mine R p) ≡ hold (mine j.before p)
       same = hold_since since begins ∙ ap (λ c. hold_after c (hold (mine j.before p))) j.act
@@ -190,12 +158,18 @@ module _ (P : Program) (D : Disciplined P) (V : Lively P) (R : Run) (l : Faithfu
   pair u n k a b = λ i. (a i, b i)
 
   -- a task that has not ended is ready, or a branch in front of whose join it stands has not ended
-  ready_or : (p : Path) (t : Task) → Begun P R p t → ((x : Ending) → Ended R p x → ⊥) → Free_or p → ((j : AtJoin p t) (i : ℕ) (s : Task) → Begun P R ((count j.before p, 0 + i) ∷ p) s → ((x : Ending) → Ended R ((count j.before p, 0 + i) ∷ p) x → ⊥) → (e : Event) × Admitted P R e) → (e : Event) × Admitted P R e
-  ready_or p t b live fr down = let x = next_action p t b live in at_act x.0 x.1
+  pub ready_or : (Q : Type 0) (p : Path) (t : Task) → Begun P R p t → ((x : Ending) → Ended R p x → ⊥) → ((E : List Effect) → CanEnter P.rule R p E)
+      → ((e : Event) → e.path ≡ p → Admitted P R e → Q)
+      → ((j : AtJoin p t) (i : ℕ) (s : Task) → Begun P R ((count j.before p, 0 + i) ∷ p) s → ((x : Ending) → Ended R ((count j.before p, 0 + i) ∷ p) x → ⊥)
+      → Q) → Q
+  ready_or Q p t b live may done down = let x = next_action p t b live in at_act x.0 x.1
     where
-      at_join_of : (j : AtJoin p t) → Asks P p t (answers (mine R p)) Join → Ends R p (count j.before p) 0 j.tasks.tasks → (e : Event) × Admitted P R e
+      ready : (e : Event) × (e.path ≡ p) × Admitted P R e → Q
+      ready z = done z.0 z.1 z.2
+
+      at_join_of : (j : AtJoin p t) → Asks P p t (answers (mine R p)) Join → Ends R p (count j.before p) 0 j.tasks.tasks → Q
       at_join_of j e (all_ended ends n f) =
-          make p t Join (joined ends) b e
+          ready (make p t Join (joined ends) b e
           (record {
             before = j.before;
             fork = j.fork;
@@ -211,7 +185,7 @@ module _ (P : Program) (D : Disciplined P) (V : Lively P) (R : Run) (l : Faithfu
             ended = λ u x a g. subst (λ v. Ended R (v ∷ p) x) (pair u (count j.before p) (0 + u.1) (sym a) (omega arith)) (f u.1 x g);
             answer = refl;
           })
-          fr
+          may)
       at_join_of j e (one_open i s n g f) =
           let z = events_at_join p t j in
           let w = numbered R p (suc (count j.before p + (0 + i))) (omega arith) in
@@ -219,21 +193,26 @@ module _ (P : Program) (D : Disciplined P) (V : Lively P) (R : Run) (l : Faithfu
           let there : slice_get j.tasks.tasks (0 + i) ≡ Some s = subst (λ k. slice_get j.tasks.tasks k ≡ Some s) (omega arith) g in
           down j i s (branch p (count j.before p, 0 + i) j.before j.fork j.tasks w.1 w.0 refl j.stands j.path refl j.act there w.2 w.3 wb w.4) f
 
-      at_act : (a : Action) → Asks P p t (answers (mine R p)) a → (e : Event) × Admitted P R e
-      at_act (Do o) e = let z = known p t b o e in make p t (Do o) z.0 b e z.1 fr
-      at_act (Fork ts) e = make p t (Fork ts) Went b e refl fr
-      at_act (Begin i) e = make p t (Begin i) Went b e refl fr
-      at_act (End x) e = make p t (End x) Went b e refl fr
+      at_act : (a : Action) → Asks P p t (answers (mine R p)) a → Q
+      at_act (Do o) e = let z = known p t b o e in ready (make p t (Do o) z.0 b e z.1 may)
+      at_act (Fork ts) e = ready (make p t (Fork ts) Went b e refl may)
+      at_act (Begin i) e = ready (make p t (Begin i) Went b e refl may)
+      at_act (End x) e = ready (make p t (End x) Went b e refl may)
       at_act Join e = let j = at_join p t b e in at_join_of j e (ends_of R p (count j.before p) 0 j.tasks.tasks)
 
-  -- from a task that has not ended down to one that is ready; each fork on the way stands further behind in the run
-  descend : (n : ℕ) (p : Path) (t : Task) → Begun P R p t → ((x : Ending) → Ended R p x → ⊥) → Free_or p → (k : ℕ) → ((W : Run) (w : Event) → Upto (w ∷ W) R → w.path ≡ p → k ≤ length W) → length R ≤ n + k → (e : Event) × Admitted P R e
-  descend zero p t b live fr k low fuel = ready_or p t b live fr (λ j i s c f. (let a = low j.before j.fork j.stands j.path in let d = upto_length j.stands in absurd (omega arith)))
-  descend (suc n) p t b live fr k low fuel = ready_or p t b live fr (λ j i s c f. descend n ((count j.before p, 0 + i) ∷ p) s c f (child_free j i fr) (suc (length j.before)) (child_low j i) (let a = low j.before j.fork j.stands j.path in omega arith))
+  -- from a task that has not ended down to one that is ready; each fork on the way stands further after in the run
+  descend : (n : ℕ) (p : Path) (t : Task) → Begun P R p t → ((x : Ending) → Ended R p x → ⊥) → Free_or p → (k : ℕ)
+      → ((W : Run) (w : Event) → Upto (w ∷ W) R → w.path ≡ p → k ≤ length W) → length R ≤ n + k → (e : Event) × Admitted P R e
+  descend zero p t b live fr k low fuel = ready_or ((e : Event) × Admitted P R e) p t b live (λ E. may_enter p E fr) (λ e q a. (e, a))
+      (λ j i s c f. (let a = low j.before j.fork j.stands j.path in let d = upto_length j.stands in absurd (omega arith)))
+  descend (suc n) p t b live fr k low fuel = ready_or ((e : Event) × Admitted P R e) p t b live (λ E. may_enter p E fr) (λ e q a. (e, a))
+      (λ j i s c f. descend n ((count j.before p, 0 + i) ∷ p) s c f (child_free j i fr) (suc (length j.before)) (child_low j i)
+      (let a = low j.before j.fork j.stands j.path in omega arith))
     where
       child_free : (j : AtJoin p t) (i : ℕ) → Free_or p → Free_or ((count j.before p, 0 + i) ∷ p)
       child_free j i (no_block f) = no_block f
-      child_free j i (in_block o F h) = in_block o F (ap (λ s. joined_by s ((count j.before p, 0 + i) ∷ p) (hold (mine R ((count j.before p, 0 + i) ∷ p)))) (child_stands p t j (count j.before p, 0 + i) refl ∙ h))
+      child_free j i (in_block o F h) = in_block o F (ap (λ s. joined_by s ((count j.before p, 0 + i) ∷ p) (hold (mine R ((count j.before p, 0 + i) ∷ p))))
+          (child_stands p t j (count j.before p, 0 + i) refl ∙ h))
 
       child_low : (j : AtJoin p t) (i : ℕ) (W : Run) (w : Event) → Upto (w ∷ W) R → w.path ≡ (count j.before p, 0 + i) ∷ p → suc (length j.before) ≤ length W
       child_low j i W w hw e =
@@ -244,7 +223,7 @@ module _ (P : Program) (D : Disciplined P) (V : Lively P) (R : Run) (l : Faithfu
           omega arith
 
   -- an opener has not ended
-  held_live : (q : Path) (n : ℕ) (F : List Effect) → hold (mine R q) ≡ In_block n F → (x : Ending) → Ended R q x → ⊥
+  pub held_live : (q : Path) (n : ℕ) (F : List Effect) → hold (mine R q) ≡ In_block n F → (x : Ending) → Ended R q x → ⊥
   held_live q n F h x g =
       let y = has_event (mine R q) n F h in
       let f = found R q (subst (λ m. Upto (y.0 ∷ y.1) m) (sym y.2) now) in
@@ -257,16 +236,22 @@ module _ (P : Program) (D : Disciplined P) (V : Lively P) (R : Run) (l : Faithfu
       let z : Out_of ≡ In_block n F = sym (ap (λ c. hold_after c (hold y.1)) ya) ∙ sym (ap hold y.2) ∙ h in
       absurd (cc)
 
-  scan : (L : Run) → ((q : Path) × (F : List Effect) × (standing R q ≡ Inside q F)) ⊎ ((w : Event) (W : Run) → Upto (w ∷ W) L → (F : List Effect) → standing R w.path ≡ Inside w.path F → ⊥)
+  scan : (L : Run) → ((q : Path) × (F : List Effect) × (standing R q ≡ Inside q F))
+      ⊎ ((w : Event) (W : Run) → Upto (w ∷ W) L → (F : List Effect) → standing R w.path ≡ Inside w.path F → ⊥)
   scan [] = inr (λ w W h F k. upto_none h)
   scan (e ∷ L) = ⊎_elim (λ f. inl f) (λ f. here f (standing R e.path) refl) (scan L)
     where
-      more : ((w : Event) (W : Run) → Upto (w ∷ W) L → (F : List Effect) → standing R w.path ≡ Inside w.path F → ⊥) → ((F : List Effect) → standing R e.path ≡ Inside e.path F → ⊥) → (w : Event) (W : Run) → Upto (w ∷ W) (e ∷ L) → (F : List Effect) → standing R w.path ≡ Inside w.path F → ⊥
+      more : ((w : Event) (W : Run) → Upto (w ∷ W) L → (F : List Effect) → standing R w.path ≡ Inside w.path F → ⊥)
+          → ((F : List Effect) → standing R e.path ≡ Inside e.path F → ⊥) → (w : Event) (W : Run) → Upto (w ∷ W) (e ∷ L) → (F : List Effect)
+          → standing R w.path ≡ Inside w.path F → ⊥
       more f n w W h F k = ⊎_elim (λ q. n F (subst (λ (z : Event). standing R z.path ≡ Inside z.path F) q.0 k)) (λ u. f w W u F k) (upto_split h)
 
-      here : ((w : Event) (W : Run) → Upto (w ∷ W) L → (F : List Effect) → standing R w.path ≡ Inside w.path F → ⊥) → (h : Standing) → standing R e.path ≡ h → ((q : Path) × (F : List Effect) × (standing R q ≡ Inside q F)) ⊎ ((w : Event) (W : Run) → Upto (w ∷ W) (e ∷ L) → (F : List Effect) → standing R w.path ≡ Inside w.path F → ⊥)
+      here : ((w : Event) (W : Run) → Upto (w ∷ W) L → (F : List Effect) → standing R w.path ≡ Inside w.path F → ⊥) → (h : Standing) → standing R e.path ≡ h
+          → ((q : Path) × (F : List Effect) × (standing R q ≡ Inside q F))
+          ⊎ ((w : Event) (W : Run) → Upto (w ∷ W) (e ∷ L) → (F : List Effect) → standing R w.path ≡ Inside w.path F → ⊥)
       here f Outside k = inr (more f (λ F z. (let c : Outside ≡ Inside e.path F = sym k ∙ z in cc)))
-      here f (Inside o E) k = ⊎_elim (λ p. inl (e.path, E, k ∙ ap (λ q. Inside q E) p)) (λ n. inr (more f (λ F z. (let c : Inside o E ≡ Inside e.path F = sym k ∙ z in n (opener_same o e.path E F c))))) (path_cases o e.path)
+      here f (Inside o E) k = ⊎_elim (λ p. inl (e.path, E, k ∙ ap (λ q. Inside q E) p))
+          (λ n. inr (more f (λ F z. (let c : Inside o E ≡ Inside e.path F = sym k ∙ z in n (opener_same o e.path E F c))))) (path_cases o e.path)
         where
           opener_same : (p q : Path) (E F : List Effect) → Inside p E ≡ Inside q F → p ≡ q
           opener_same p q E F k = cc

@@ -1,19 +1,17 @@
 -- What a task does by itself is answered alike in a run in which all tasks have at least the same events.
-use Rattle.std.proofs.Common.{◌≡◌, ◌≢◌, ℕ, ℤ, pos, List, [], ◌∷◌, ◌++◌, length, refl, sym, ap, ◌∙◌, subst, Option, Some, None}
-use Rattle.dpj_runs.specs.Actions.{Answer, Do, Enter, Exit, Got, Look, Named, New, Out, Own, Print, Program, Read, Rest, Write}
-use Rattle.dpj_runs.specs.Objects.{Cell, Path, Thing, Value, first_value, or_else, size, slot_of}
+use Rattle.std.proofs.Common.{◌≡◌, ℕ, pos, ◌++◌, length, refl, sym, ap, ◌∙◌, subst, Option, Some, None}
+use Rattle.dpj_runs.specs.Actions.{Answer, Do, Enter, Exit, Got, Look, Named, New, Own, Print, Program, Read, Rest, Write}
+use Rattle.dpj_runs.specs.Objects.{Cell, Path, Thing, first_value, or_else, size, slot_of}
 use Rattle.dpj_runs.specs.Order.{Reads}
-use Rattle.dpj_runs.specs.Runs.{Event, Right, Run, answered_by, at_start, count, last_written, mine, read_at, reply, seen, thing_of, things, value_in, wrote_at}
+use Rattle.dpj_runs.specs.Runs.{Event, Right, Run, answered_by, at_start, last_written, mine, read_at, reply, seen, thing_of, things, value_in, wrote_at}
 use Rattle.dpj_runs.proofs.Things.{answering, same_some, thing_upto}
-use Rattle.dpj_runs.proofs.Cells.{slot_is}
+use Rattle.dpj_runs.proofs.Cells.{got_in, slot_is}
 use Rattle.dpj_runs.proofs.Standing.{Grows}
 
-got_in : (v : Value) → Got v ≢ Out
-got_in v e = cc
-
 pub reply_grows : (P : Program) {G H : Run} (p : Path) (o : Own) (a : Answer) → Grows G H → mine G p ≡ mine H p
-  → ((c : Cell) (t : Thing) → o ≡ Read c.object (pos c.slot) → thing_of P G c.object ≡ Some t → slot_of (pos c.slot) (size t) ≡ Some c.slot → last_written G c ≡ last_written H c)
-  → reply P G p o ≡ Some a → reply P H p o ≡ Some a
+    → ((c : Cell) (t : Thing) → o ≡ Read c.object (pos c.slot) → thing_of P G c.object ≡ Some t → slot_of (pos c.slot) (size t) ≡ Some c.slot
+    → last_written G c ≡ last_written H c)
+    → reply P G p o ≡ Some a → reply P H p o ≡ Some a
 reply_grows P p Rest a g m f h = h
 reply_grows P p (Print l) a g m f h = h
 reply_grows P p (Enter E) a g m f h = h
@@ -39,13 +37,14 @@ reply_grows P {G} {H} p (Read n i) a g m f h =
 
 -- a read of a slot that the object has is an access
 pub reads_of : (P : Program) (R : Run) {e : Event} (c : Cell) (t : Thing) → e.act ≡ Do (Read c.object (pos c.slot)) → thing_of P R c.object ≡ Some t
-  → slot_of (pos c.slot) (size t) ≡ Some c.slot → Right P R e.path e.act e.ans → Reads c e
+    → slot_of (pos c.slot) (size t) ≡ Some c.slot → Right P R e.path e.act e.ans → Reads c e
 reads_of P R {e} c t k th s r = record {
   act = k;
   in_bounds = λ out. (
       let h : reply P R e.path (Read c.object (pos c.slot)) ≡ Some e.ans = subst (λ a. Right P R e.path a e.ans) k r in
       let a = answering (λ x. read_at R x c.object (slot_of (pos c.slot) (size x))) (thing_of P R c.object) e.ans h in
       let same : a.thing ≡ t = same_some a.is_there th in
-      let got : e.ans ≡ Got (value_in R t (record { object = c.object; slot = c.slot })) = a.answer ∙ ap (λ x. read_at R x c.object (slot_of (pos c.slot) (size x))) same ∙ ap (λ o. read_at R t c.object o) s in
+      let got : e.ans ≡ Got (value_in R t (record { object = c.object; slot = c.slot })) =
+      a.answer ∙ ap (λ x. read_at R x c.object (slot_of (pos c.slot) (size x))) same ∙ ap (λ o. read_at R t c.object o) s in
       got_in (value_in R t (record { object = c.object; slot = c.slot })) (sym got ∙ out));
 }

@@ -1,14 +1,17 @@
--- A schedule records one run.
-use Rattle.std.proofs.Common.{◌≡◌, ℕ, suc, List, [], ◌∷◌, length, refl, sym, ap, ◌∙◌, subst}
+-- A schedule records one run, and each legal run is recorded.
+use Rattle.std.proofs.Common.{◌≡◌, ℕ, suc, List, [], ◌∷◌, length, refl, sym, ap, ◌∙◌, subst, ◌≤◌, arith}
 use Rattle.dpj_runs.specs.Actions.{Action, Begin, Do, End, Fork, Join, Program}
 use Rattle.dpj_runs.specs.Blocks.{Legal}
 use Rattle.dpj_runs.specs.Meaning.{Disciplined}
-use Rattle.dpj_runs.specs.Runs.{Event, Faithful, Follows, Right, Run, now}
-use Rattle.dpj_runs.specs.Schedules.{Limits, Ran, Ready}
+use Rattle.dpj_runs.specs.Runs.{Event, Faithful, Follows, Right, Run, Upto, entry_step, event_cells, event_steps, mine, now}
+use Rattle.dpj_runs.specs.Schedules.{Limits, Ran, Ready, Within}
 use Rattle.dpj_runs.proofs.Faithful.{agree_self, same_act}
 use Rattle.dpj_runs.proofs.Agreement.{same_event, same_joins}
 use Rattle.dpj_runs.proofs.Things.{same_some}
-use Rattle.dpj_runs.proofs.Numbers.{number_one}
+use Rattle.dpj_runs.proofs.Numbers.{number_one, number_of_begun}
+use Rattle.dpj_runs.proofs.Upto.{upto_none}
+use Rattle.dpj_runs.proofs.Mine.{mine_step}
+use Rattle.dpj_runs.proofs.Cost.{total_step}
 
 pub ran_faithful : (P : Program) (L : Limits) (ks : List ℕ) (R : Run) → Ran P L ks R → Faithful P R
 ran_faithful P L [] [] r = tt
@@ -27,6 +30,26 @@ ran_length P L [] [] r = refl
 ran_length P L [] (e ∷ R) r = absurd r
 ran_length P L (k ∷ ks) [] r = absurd r
 ran_length P L (k ∷ ks) (e ∷ R) r = ap (λ n. suc n) (ran_length P L ks R r.0)
+
+entry_more : (es fs : Run) → Upto es fs → entry_step es ≤ entry_step fs
+entry_more [] [] h = omega arith
+entry_more [] (f ∷ fs) h = omega arith
+entry_more (e ∷ es) [] h = absurd (upto_none h)
+entry_more (e ∷ es) (f ∷ fs) h = omega arith
+
+pub within_less : (P : Program) (L : Limits) (e : Event) (R : Run) → Within P L (e ∷ R) → Within P L R
+within_less P L e R w = record {
+  steps = (let a = w.steps in let b = total_step event_steps e R in let c = entry_more (mine R []) (mine (e ∷ R) []) (mine_step e R []) in omega arith);
+  cells = (let a = w.cells in let b = total_step event_cells e R in omega arith);
+}
+
+-- each legal run within limits is recorded by a schedule
+pub recorded : (P : Program) (L : Limits) (R : Run) → Legal P R → Within P L R → (ks : List ℕ) × Ran P L ks R
+recorded P L [] l w = ([], w)
+recorded P L (e ∷ R) l w =
+    let r = recorded P L R l.1 (within_less P L e R w) in
+    let n = number_of_begun l.0.follows.begun in
+    (n.0 ∷ r.0, (r.1, record { allowed = l.0; number = n.1 }, w))
 
 module _ (P : Program) (D : Disciplined P) where
   -- the next event of a task in one run is one, conflicts or not

@@ -1,16 +1,18 @@
 -- Programs for samples: each task goes through a list of what it does, whatever it is answered.
-use Rattle.std.proofs.Common.{◌≡◌, ℕ, zero, suc, ◌+◌, ◌<◌, ◌≤◌, ◌⊎◌, inl, inr, ⊎_elim, Bool, true, false, ◌&&◌, List, [], ◌∷◌, ◌++◌, length, refl, sym, ap, ◌∙◌, subst, arith, Option, Some, None, slice_get, length-append}
-use Rattle.std.proofs.lemmas.Bool.{and_parts, cases_lt}
-use Rattle.dpj_runs.specs.Actions.{Action, Answer, Asks, Begin, Branches, Do, End, Ending, Fork, Join, Next, Over, Own, Program, Reply, Returned, Rule, Task}
-use Rattle.dpj_runs.specs.Meaning.{Disciplined, Lively}
-use Rattle.dpj_runs.specs.Objects.{An_object, Null, Thing, Value}
+use Rattle.std.proofs.Common.{◌≡◌, ℕ, pos, zero, suc, ◌+◌, ◌<◌, ◌≤◌, ◌⊎◌, inl, inr, ⊎_elim, List, [], ◌∷◌, ◌++◌, length, refl, sym, ap}
+use Rattle.std.proofs.Common.{false, ◌∙◌, arith, Option, Some, None, slice_get, length-append}
+use Rattle.std.proofs.lemmas.Bool.{cases_lt}
+use Rattle.dpj_typed.specs.Plain.{no_stmts}
+use Rattle.dpj_runs.specs.Actions.{Action, Answer, Begin, Branches, Do, End, Ending, Fork, Join, Next, Over, Own, Program, Reply, Returned, Rule, Task, Unknown}
+use Rattle.dpj_runs.specs.Meaning.{AfterFork, Disciplined, InTurn, Lively}
+use Rattle.dpj_runs.specs.Objects.{An_object, Int, Name, Null, Path, Thing, Value}
 
 pub data Item : Type 0 where
   does : (turns : ℕ) (own : Own) → Item
   forks : (turns : ℕ) (branches : Branches) → Item
 
 -- after a fork: the begins from branch b on, as many as are left, the join, and what follows
-abbrev after_fork : ℕ → ℕ → (ℕ → Reply) → ℕ → Reply
+abbrev pub after_fork : ℕ → ℕ → (ℕ → Reply) → ℕ → Reply
 after_fork b zero rest zero = Next 0 Join
 after_fork b zero rest (suc n) = rest n
 after_fork b (suc k) rest zero = Next 0 (Begin b)
@@ -29,20 +31,33 @@ pub record Body : Type 0 where
   pub items : List Item
   pub ending : Ending
 
-abbrev body_of : Option Body → Body
+abbrev pub body_of : Option Body → Body
 body_of None = record { items = []; ending = Returned Null }
 body_of (Some b) = b
 
+-- the task that does the body of this number, which is kept where its depth would be
 abbrev pub task : ℕ → Task
-task n = record { body = n; frame = record { values = []; regions = []; locals = []; depth = 0 } }
+task n = record {
+  work = record { is_root = false; takes = None; copies = []; stmts = no_stmts };
+  frame = record { values = []; regions = []; locals = []; left = n };
+}
 
--- the object that stands at the start, of some fields
+abbrev pub number_of : Task → ℕ
+number_of t = t.frame.left
+
+-- the object that stands at the start, and its name
+abbrev pub main : Name
+main = record { maker = []; count = 0 }
+
 abbrev pub main_object : List Value → Thing
 main_object fields = An_object 0 [] fields
 
+abbrev pub int : ℕ → Value
+int n = Int (pos n)
+
 abbrev pub scripted : List Body → List Value → Rule → Program
 scripted bodies fields rule = record {
-  meaning = λ p t got. after (body_of (slice_get bodies t.body)).items (body_of (slice_get bodies t.body)).ending (length got);
+  meaning = λ p t got. after (body_of (slice_get bodies (number_of t))).items (body_of (slice_get bodies (number_of t))).ending (length got);
   root = task 0;
   object = main_object fields;
   rule = rule;
@@ -50,7 +65,7 @@ scripted bodies fields rule = record {
 
 -- Over a rest that keeps to it, so does what stands after a fork
 over_fork : (rest : ℕ → Reply) → ((n t : ℕ) (y : Ending) → rest n ≡ Next t (End y) → rest (suc n) ≡ Over) → (b k n t : ℕ) (y : Ending)
-  → after_fork b k rest n ≡ Next t (End y) → after_fork b k rest (suc n) ≡ Over
+    → after_fork b k rest n ≡ Next t (End y) → after_fork b k rest (suc n) ≡ Over
 over_fork rest f b zero zero t y e = absurd (cc)
 over_fork rest f b zero (suc n) t y e = f n t y e
 over_fork rest f b (suc k) zero t y e = absurd (cc)
@@ -73,45 +88,48 @@ join_at : (rest : ℕ → Reply) (b k : ℕ) → after_fork b k rest k ≡ Next 
 join_at rest b zero = refl
 join_at rest b (suc k) = join_at rest (suc b) k
 
--- what stands behind a fork
-record Behind (f : ℕ → Reply) (n : ℕ) (ts : Branches) : Type 0 where
+-- what stands after a fork
+record SinceFork (f : ℕ → Reply) (n : ℕ) (ts : Branches) : Type 0 where
   rest : ℕ → Reply
   is : (m j : ℕ) → j ≡ n + m → f (suc j) ≡ after_fork 0 (length ts.tasks) rest m
 
-behind_fork : (rest : ℕ → Reply) → ((n t : ℕ) (ts : Branches) → rest n ≡ Next t (Fork ts) → Behind rest n ts) → (b k n t : ℕ) (ts : Branches)
-  → after_fork b k rest n ≡ Next t (Fork ts) → Behind (λ m. after_fork b k rest m) n ts
-behind_fork rest f b zero zero t ts e = absurd (cc)
-behind_fork rest f b zero (suc n) t ts e = let r = f n t ts e in record { rest = r.rest; is = each r }
+rest_fork : (rest : ℕ → Reply) → ((n t : ℕ) (ts : Branches) → rest n ≡ Next t (Fork ts) → SinceFork rest n ts) → (b k n t : ℕ) (ts : Branches)
+    → after_fork b k rest n ≡ Next t (Fork ts) → SinceFork (λ m. after_fork b k rest m) n ts
+rest_fork rest f b zero zero t ts e = absurd (cc)
+rest_fork rest f b zero (suc n) t ts e = let r = f n t ts e in record { rest = r.rest; is = each r }
   where
-    each : (r : Behind rest n ts) (m j : ℕ) → j ≡ suc n + m → after_fork b zero rest (suc j) ≡ after_fork 0 (length ts.tasks) r.rest m
+    each : (r : SinceFork rest n ts) (m j : ℕ) → j ≡ suc n + m → after_fork b zero rest (suc j) ≡ after_fork 0 (length ts.tasks) r.rest m
     each r m zero h = absurd (omega arith)
     each r m (suc j) h = r.is m j (omega arith)
-behind_fork rest f b (suc k) zero t ts e = absurd (cc)
-behind_fork rest f b (suc k) (suc n) t ts e = let r = behind_fork rest f (suc b) k n t ts e in record { rest = r.rest; is = each r }
+rest_fork rest f b (suc k) zero t ts e = absurd (cc)
+rest_fork rest f b (suc k) (suc n) t ts e = let r = rest_fork rest f (suc b) k n t ts e in record { rest = r.rest; is = each r }
   where
-    each : (r : Behind (λ m. after_fork (suc b) k rest m) n ts) (m j : ℕ) → j ≡ suc n + m → after_fork b (suc k) rest (suc j) ≡ after_fork 0 (length ts.tasks) r.rest m
+    each : (r : SinceFork (λ m. after_fork (suc b) k rest m) n ts) (m j : ℕ) → j ≡ suc n + m
+        → after_fork b (suc k) rest (suc j) ≡ after_fork 0 (length ts.tasks) r.rest m
     each r m zero h = absurd (omega arith)
     each r m (suc j) h = r.is m j (omega arith)
 
-behind_after : (is : List Item) (x : Ending) (n t : ℕ) (ts : Branches) → after is x n ≡ Next t (Fork ts) → Behind (λ m. after is x m) n ts
-behind_after [] x zero t ts e = absurd (cc)
-behind_after [] x (suc n) t ts e = absurd (cc)
-behind_after (does s o ∷ is) x zero t ts e = absurd (cc)
-behind_after (does s o ∷ is) x (suc n) t ts e = let r = behind_after is x n t ts e in record { rest = r.rest; is = each r }
+rest_after : (is : List Item) (x : Ending) (n t : ℕ) (ts : Branches) → after is x n ≡ Next t (Fork ts) → SinceFork (λ m. after is x m) n ts
+rest_after [] x zero t ts e = absurd (cc)
+rest_after [] x (suc n) t ts e = absurd (cc)
+rest_after (does s o ∷ is) x zero t ts e = absurd (cc)
+rest_after (does s o ∷ is) x (suc n) t ts e = let r = rest_after is x n t ts e in record { rest = r.rest; is = each r }
   where
-    each : (r : Behind (λ m. after is x m) n ts) (m j : ℕ) → j ≡ suc n + m → after (does s o ∷ is) x (suc j) ≡ after_fork 0 (length ts.tasks) r.rest m
+    each : (r : SinceFork (λ m. after is x m) n ts) (m j : ℕ) → j ≡ suc n + m → after (does s o ∷ is) x (suc j) ≡ after_fork 0 (length ts.tasks) r.rest m
     each r m zero h = absurd (omega arith)
     each r m (suc j) h = r.is m j (omega arith)
-behind_after (forks s us ∷ is) x zero t ts e = record { rest = λ m. after is x m; is = each }
+rest_after (forks s us ∷ is) x zero t ts e = record { rest = λ m. after is x m; is = each }
   where
     us_is : us ≡ ts
     us_is = cc
 
     each : (m j : ℕ) → j ≡ 0 + m → after_fork 0 (length us.tasks) (λ m. after is x m) j ≡ after_fork 0 (length ts.tasks) (λ m. after is x m) m
     each m j h = (let k : j ≡ m = omega arith in λ i. after_fork 0 (length (us_is i).tasks) (λ m. after is x m) (k i))
-behind_after (forks s us ∷ is) x (suc n) t ts e = let r = behind_fork (λ m. after is x m) (λ m a b h. behind_after is x m a b h) 0 (length us.tasks) n t ts e in record { rest = r.rest; is = each r }
+rest_after (forks s us ∷ is) x (suc n) t ts e = let r = rest_fork (λ m. after is x m) (λ m a b h. rest_after is x m a b h) 0
+    (length us.tasks) n t ts e in record { rest = r.rest; is = each r }
   where
-    each : (r : Behind (λ m. after_fork 0 (length us.tasks) (λ m. after is x m) m) n ts) (m j : ℕ) → j ≡ suc n + m → after (forks s us ∷ is) x (suc j) ≡ after_fork 0 (length ts.tasks) r.rest m
+    each : (r : SinceFork (λ m. after_fork 0 (length us.tasks) (λ m. after is x m) m) n ts) (m j : ℕ) → j ≡ suc n + m
+        → after (forks s us ∷ is) x (suc j) ≡ after_fork 0 (length ts.tasks) r.rest m
     each r m zero h = absurd (omega arith)
     each r m (suc j) h = r.is m j (omega arith)
 
@@ -119,20 +137,41 @@ pub script_disciplined : (bodies : List Body) (fields : List Value) (rule : Rule
 script_disciplined bodies fields rule = record {
   over = λ p t got x a e. over_after (items t) (ending t) (length got) e.0 x e.1;
   begins = λ p t got since ts k e n l. (
-      let r = behind_after (items t) (ending t) (length got) e.0 ts e.1 in
-      let j = length-append since got in
-      (0, ap (λ m. after (items t) (ending t) m) (let z : length (since ++ got) ≡ suc (length got + k) = omega arith in z) ∙ r.is k (length got + k) refl ∙ begin_at r.rest 0 (length ts.tasks) k k l (omega arith)));
+      let r = rest_after (items t) (ending t) (length got) e.0 ts e.1 in
+      let j = length-append since got in (
+        0,
+        ap (λ m. after (items t) (ending t) m) (let z : length (since ++ got) ≡ suc (length got + k) = omega arith in z) ∙ r.is k (length got + k) refl
+            ∙ begin_at r.rest 0 (length ts.tasks) k k l (omega arith),
+      ));
   joins = λ p t got since ts e n. (
-      let r = behind_after (items t) (ending t) (length got) e.0 ts e.1 in
-      let j = length-append since got in
-      (0, ap (λ m. after (items t) (ending t) m) (let z : length (since ++ got) ≡ suc (length got + length ts.tasks) = omega arith in z) ∙ r.is (length ts.tasks) (length got + length ts.tasks) refl ∙ join_at r.rest 0 (length ts.tasks)));
+      let r = rest_after (items t) (ending t) (length got) e.0 ts e.1 in
+      let j = length-append since got in (
+        0,
+        ap (λ m. after (items t) (ending t) m) (let z : length (since ++ got) ≡ suc (length got + length ts.tasks) = omega arith in z)
+            ∙ r.is (length ts.tasks) (length got + length ts.tasks) refl ∙ join_at r.rest 0 (length ts.tasks),
+      ));
 }
   where
     items : Task → List Item
-    items t = (body_of (slice_get bodies t.body)).items
+    items t = (body_of (slice_get bodies (number_of t))).items
 
     ending : Task → Ending
-    ending t = (body_of (slice_get bodies t.body)).ending
+    ending t = (body_of (slice_get bodies (number_of t))).ending
+
+-- it is known
+known_fork : (rest : ℕ → Reply) → ((n : ℕ) → rest n ≡ Unknown → ⊥) → (b k n : ℕ) → after_fork b k rest n ≡ Unknown → ⊥
+known_fork rest f b zero zero e = cc
+known_fork rest f b zero (suc n) e = f n e
+known_fork rest f b (suc k) zero e = cc
+known_fork rest f b (suc k) (suc n) e = known_fork rest f (suc b) k n e
+
+known_after : (is : List Item) (x : Ending) (n : ℕ) → after is x n ≡ Unknown → ⊥
+known_after [] x zero e = cc
+known_after [] x (suc n) e = cc
+known_after (does t o ∷ is) x zero e = cc
+known_after (does t o ∷ is) x (suc n) e = known_after is x n e
+known_after (forks t ts ∷ is) x zero e = cc
+known_after (forks t ts ∷ is) x (suc n) e = known_fork (λ m. after is x m) (known_after is x) 0 (length ts.tasks) n e
 
 -- it starts, and goes on until its end
 starts_after : (is : List Item) (x : Ending) → after is x 0 ≡ Over → ⊥
@@ -140,8 +179,9 @@ starts_after [] x e = cc
 starts_after (does t o ∷ is) x e = cc
 starts_after (forks t ts ∷ is) x e = cc
 
-goes_fork : (rest : ℕ → Reply) → (rest 0 ≡ Over → ⊥) → ((n t : ℕ) (c : Action) → rest n ≡ Next t c → rest (suc n) ≡ Over → (y : Ending) × (c ≡ End y)) → (b k n t : ℕ) (c : Action)
-  → after_fork b k rest n ≡ Next t c → after_fork b k rest (suc n) ≡ Over → (y : Ending) × (c ≡ End y)
+goes_fork : (rest : ℕ → Reply) → (rest 0 ≡ Over → ⊥) → ((n t : ℕ) (c : Action) → rest n ≡ Next t c → rest (suc n) ≡ Over → (y : Ending) × (c ≡ End y))
+    → (b k n t : ℕ) (c : Action)
+    → after_fork b k rest n ≡ Next t c → after_fork b k rest (suc n) ≡ Over → (y : Ending) × (c ≡ End y)
 goes_fork rest s f b zero zero t c e h = absurd (s h)
 goes_fork rest s f b zero (suc n) t c e h = f n t c e h
 goes_fork rest s f b (suc zero) zero t c e h = absurd (cc)
@@ -158,9 +198,10 @@ goes_after [] x (suc n) t c e h = absurd (cc)
 goes_after (does s o ∷ is) x zero t c e h = absurd (starts_after is x h)
 goes_after (does s o ∷ is) x (suc n) t c e h = goes_after is x n t c e h
 goes_after (forks s ts ∷ is) x zero t c e h = absurd (fork_starts (λ m. after is x m) 0 (length ts.tasks) h)
-goes_after (forks s ts ∷ is) x (suc n) t c e h = goes_fork (λ m. after is x m) (starts_after is x) (λ m u d p q. goes_after is x m u d p q) 0 (length ts.tasks) n t c e h
+goes_after (forks s ts ∷ is) x (suc n) t c e h = goes_fork (λ m. after is x m) (starts_after is x) (λ m u d p q. goes_after is x m u d p q) 0
+    (length ts.tasks) n t c e h
 
--- a join stands behind its fork
+-- a join stands after its fork
 record Forked (f : ℕ → Reply) (n : ℕ) : Type 0 where
   branches : Branches
   at : ℕ
@@ -191,7 +232,8 @@ join_after (does s o ∷ is) x (suc n) t e =
 join_after (forks s ts ∷ is) x zero t e = absurd (cc)
 join_after (forks s ts ∷ is) x (suc n) t e = go (join_after is x) (join_fork (λ m. after is x m) 0 (length ts.tasks) n t e)
   where
-    go : ((m u : ℕ) → after is x m ≡ Next u Join → Forked (λ m. after is x m) m) → (n ≡ length ts.tasks) ⊎ ((m : ℕ) × (n ≡ suc (length ts.tasks + m)) × (after is x m ≡ Next t Join)) → Forked (λ m. after (forks s ts ∷ is) x m) (suc n)
+    go : ((m u : ℕ) → after is x m ≡ Next u Join → Forked (λ m. after is x m) m) → (n ≡ length ts.tasks)
+        ⊎ ((m : ℕ) × (n ≡ suc (length ts.tasks + m)) × (after is x m ≡ Next t Join)) → Forked (λ m. after (forks s ts ∷ is) x m) (suc n)
     go rec (inl h) = record { branches = ts; at = 0; turns = s; number = omega arith; is = refl }
     go rec (inr h) =
         let r = rec h.0 t h.2 in
@@ -205,7 +247,52 @@ join_after (forks s ts ∷ is) x (suc n) t e = go (join_after is x) (join_fork (
           is = past_fork (λ m. after is x m) 0 (length ts.tasks) r.at (suc (length ts.tasks + r.at)) (omega arith) ∙ r.is;
         }
 
--- a list is split behind so many
+-- a begin stands after its fork too
+record Beginning (f : ℕ → Reply) (n b : ℕ) : Type 0 where
+  branches : Branches
+  at : ℕ
+  turns : ℕ
+  number : n ≡ suc (at + b)
+  there : b < length branches.tasks
+  is : f at ≡ Next turns (Fork branches)
+
+begin_fork : (rest : ℕ → Reply) (b k n t c : ℕ) → after_fork b k rest n ≡ Next t (Begin c) → ((n < k) × (c ≡ b + n))
+    ⊎ ((m : ℕ) × (n ≡ suc (k + m)) × (rest m ≡ Next t (Begin c)))
+begin_fork rest b zero zero t c e = absurd (cc)
+begin_fork rest b zero (suc n) t c e = inr (n, omega arith, e)
+begin_fork rest b (suc k) zero t c e = let h : b ≡ c = cc in inl (omega arith, omega arith)
+begin_fork rest b (suc k) (suc n) t c e = ⊎_elim (λ h. (let i = h.0 in let j = h.1 in inl (omega arith, omega arith)))
+    (λ h. (let i = h.1 in inr (h.0, omega arith, h.2))) (begin_fork rest (suc b) k n t c e)
+
+begin_after : (is : List Item) (x : Ending) (n t c : ℕ) → after is x n ≡ Next t (Begin c) → Beginning (λ m. after is x m) n c
+begin_after [] x zero t c e = absurd (cc)
+begin_after [] x (suc n) t c e = absurd (cc)
+begin_after (does s o ∷ is) x zero t c e = absurd (cc)
+begin_after (does s o ∷ is) x (suc n) t c e =
+    let r = begin_after is x n t c e in
+    let i = r.number in
+    record { branches = r.branches; at = suc r.at; turns = r.turns; number = omega arith; there = r.there; is = r.is }
+begin_after (forks s ts ∷ is) x zero t c e = absurd (cc)
+begin_after (forks s ts ∷ is) x (suc n) t c e = go (begin_after is x) (begin_fork (λ m. after is x m) 0 (length ts.tasks) n t c e)
+  where
+    go : ((m u d : ℕ) → after is x m ≡ Next u (Begin d) → Beginning (λ m. after is x m) m d)
+        → ((n < length ts.tasks) × (c ≡ 0 + n)) ⊎ ((m : ℕ) × (n ≡ suc (length ts.tasks + m)) × (after is x m ≡ Next t (Begin c)))
+        → Beginning (λ m. after (forks s ts ∷ is) x m) (suc n) c
+    go rec (inl h) = let i = h.0 in let j = h.1 in record { branches = ts; at = 0; turns = s; number = omega arith; there = omega arith; is = refl }
+    go rec (inr h) =
+        let r = rec h.0 t c h.2 in
+        let i = r.number in
+        let j = h.1 in
+        record {
+          branches = r.branches;
+          at = suc (suc (length ts.tasks + r.at));
+          turns = r.turns;
+          number = omega arith;
+          there = r.there;
+          is = past_fork (λ m. after is x m) 0 (length ts.tasks) r.at (suc (length ts.tasks + r.at)) (omega arith) ∙ r.is;
+        }
+
+-- a list is split after so many
 record SplitAt (got : List Answer) (m : ℕ) : Type 0 where
   later_ones : List Answer
   earlier : List Answer
@@ -214,35 +301,52 @@ record SplitAt (got : List Answer) (m : ℕ) : Type 0 where
 
 split_at : (got : List Answer) (m : ℕ) → m ≤ length got → SplitAt got m
 split_at [] m l = record { later_ones = []; earlier = []; is = refl; many = omega arith }
-split_at (a ∷ got) m l = ⊎_elim (λ h. (let r = split_at got m (omega arith) in record { later_ones = a ∷ r.later_ones; earlier = r.earlier; is = ap (λ l. a ∷ l) r.is; many = r.many })) (λ h. record { later_ones = []; earlier = a ∷ got; is = refl; many = omega arith }) (cases_lt m (length (a ∷ got)))
+split_at (a ∷ got) m l = ⊎_elim (λ h. (let r = split_at got m (omega arith) in
+    record { later_ones = a ∷ r.later_ones; earlier = r.earlier; is = ap (λ l. a ∷ l) r.is; many = r.many }))
+    (λ h. record { later_ones = []; earlier = a ∷ got; is = refl; many = omega arith }) (cases_lt m (length (a ∷ got)))
+
+abbrev items_of : List Body → Task → List Item
+items_of bodies t = (body_of (slice_get bodies (number_of t))).items
+
+abbrev ending_of : List Body → Task → Ending
+ending_of bodies t = (body_of (slice_get bodies (number_of t))).ending
+
+forked : (bodies : List Body) (fields : List Value) (rule : Rule) (p : Path) (t : Task) (got : List Answer) (ts : Branches) (at turns n : ℕ)
+    → length got ≡ suc (at + n) → after (items_of bodies t) (ending_of bodies t) at ≡ Next turns (Fork ts)
+    → AfterFork (scripted bodies fields rule) p t got ts n
+forked bodies fields rule p t got ts at turns n num is = go (split_at got (suc at) (omega arith))
+  where
+    go : SplitAt got (suc at) → AfterFork (scripted bodies fields rule) p t got ts n
+    go s = by s.earlier s.is s.many
+      where
+        by : (es : List Answer) → got ≡ s.later_ones ++ es → length es ≡ suc at → AfterFork (scripted bodies fields rule) p t got ts n
+        by [] e m = absurd (omega arith)
+        by (a ∷ es) e m =
+            let j = ap length e in
+            let k = length-append s.later_ones (a ∷ es) in
+            let i : length es ≡ at = omega arith in
+            record {
+              since = s.later_ones;
+              answer = a;
+              earlier = es;
+              is = e;
+              number = omega arith;
+              forks = (turns, ap (λ q. after (items_of bodies t) (ending_of bodies t) q) i ∙ is);
+            }
 
 pub script_lively : (bodies : List Body) (fields : List Value) (rule : Rule) → Lively (scripted bodies fields rule)
 script_lively bodies fields rule = record {
-  starts = λ p t e. starts_after (items t) (ending t) e;
-  goes_on = λ p t got a c e h. goes_after (items t) (ending t) (length got) e.0 c e.1 h;
-  joins_forked = λ p t got e. forked t got (join_after (items t) (ending t) (length got) e.0 e.1);
+  known = λ p t got e. known_after (items_of bodies t) (ending_of bodies t) (length got) e;
+  starts = λ p t e. starts_after (items_of bodies t) (ending_of bodies t) e;
+  goes_on = λ p t got a c e h. goes_after (items_of bodies t) (ending_of bodies t) (length got) e.0 c e.1 h;
+  joins_forked = λ p t got e. (
+      let r = join_after (items_of bodies t) (ending_of bodies t) (length got) e.0 e.1 in
+      (r.branches, forked bodies fields rule p t got r.branches r.at r.turns (length r.branches.tasks) r.number r.is));
 }
-  where
-    items : Task → List Item
-    items t = (body_of (slice_get bodies t.body)).items
 
-    ending : Task → Ending
-    ending t = (body_of (slice_get bodies t.body)).ending
-
-    forked : (t : Task) (got : List Answer) → Forked (λ m. after (items t) (ending t) m) (length got) → (ts : Branches) × (later : List Answer) × (a : Answer)
-      × (earlier : List Answer) × (got ≡ later ++ a ∷ earlier) × (length later ≡ length ts.tasks) × Asks (scripted bodies fields rule) [] t earlier (Fork ts)
-    forked t got r = go (split_at got (suc r.at) (let i = r.number in omega arith))
-      where
-        go : SplitAt got (suc r.at) → (ts : Branches) × (later : List Answer) × (a : Answer)
-          × (earlier : List Answer) × (got ≡ later ++ a ∷ earlier) × (length later ≡ length ts.tasks) × Asks (scripted bodies fields rule) [] t earlier (Fork ts)
-        go s = by s.earlier s.is s.many
-          where
-            by : (es : List Answer) → got ≡ s.later_ones ++ es → length es ≡ suc r.at → (ts : Branches) × (later : List Answer) × (a : Answer)
-              × (earlier : List Answer) × (got ≡ later ++ a ∷ earlier) × (length later ≡ length ts.tasks) × Asks (scripted bodies fields rule) [] t earlier (Fork ts)
-            by [] e n = absurd (omega arith)
-            by (a ∷ es) e n =
-                let i = r.number in
-                let j = ap length e in
-                let k = length-append s.later_ones (a ∷ es) in
-                let m : length es ≡ r.at = omega arith in
-                (r.branches, s.later_ones, a, es, e, omega arith, (r.turns, ap (λ q. after (items t) (ending t) q) m ∙ r.is))
+pub script_in_turn : (bodies : List Body) (fields : List Value) (rule : Rule) → InTurn (scripted bodies fields rule)
+script_in_turn bodies fields rule = record {
+  begins_forked = λ p t got b e. (
+      let r = begin_after (items_of bodies t) (ending_of bodies t) (length got) e.0 b e.1 in
+      (r.branches, r.there, forked bodies fields rule p t got r.branches r.at r.turns b r.number r.is));
+}

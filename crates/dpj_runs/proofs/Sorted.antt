@@ -20,19 +20,21 @@ lex_differ (lower {x = x} {y = y} h) e = let k : x ≡ y = cc in absurd (omega a
 lex_differ (level_with {xs = xs} {ys = ys} h) e = lex_differ h (let k : xs ≡ ys = cc in k)
 
 -- the latest event of the one run stands in the other: it is the latest there, or stands before it
-latest_in : (e y : Event) (R S : Run) → InOrder (y ∷ S) → mine (e ∷ R) e.path ≡ mine (y ∷ S) e.path → (e ≡ y) ⊎ Lex (position e.path (count R e.path)) (position y.path (count S y.path))
+latest_in : (e y : Event) (R S : Run) → InOrder (y ∷ S) → mine (e ∷ R) e.path ≡ mine (y ∷ S) e.path → (e ≡ y)
+    ⊎ Lex (position e.path (count R e.path)) (position y.path (count S y.path))
 latest_in e y R S o m = go (found (y ∷ S) e.path (subst (λ l. Upto (e ∷ mine R e.path) l) (sym (mine_same e R e.path refl) ∙ m) now))
   where
     go : Found (y ∷ S) e.path e (mine R e.path) → (e ≡ y) ⊎ Lex (position e.path (count R e.path)) (position y.path (count S y.path))
-    go f = ⊎_elim (λ k. inl k.0) (λ u. inr (subst (λ k. Lex (position e.path k) (position y.path (count S y.path))) (ap length f.mine_is) (o.each y e S f.before now u))) (upto_split f.stands)
+    go f = ⊎_elim (λ k. inl k.0) (λ u. inr (subst (λ k. Lex (position e.path k) (position y.path (count S y.path))) (ap length f.mine_is)
+        (o.each y e S f.before now u))) (upto_split f.stands)
 
 pub order_tail : {e : Event} {R : Run} → InOrder (e ∷ R) → InOrder R
 order_tail o = record { each = λ y x Y X h k. o.each y x Y X (later h) k }
 
-no_events : (e : Event) (R : Run) → mine (e ∷ R) e.path ≡ mine [] e.path → ⊥
+pub no_events : (e : Event) (R : Run) → mine (e ∷ R) e.path ≡ mine [] e.path → ⊥
 no_events e R m = upto_none (subst (λ l. Upto (e ∷ mine R e.path) l) (sym (mine_same e R e.path refl) ∙ m ∙ mine_nil e.path) now)
 
-same_tail : (e : Event) (R S : Run) → ((p : Path) → mine (e ∷ R) p ≡ mine (e ∷ S) p) → (p : Path) → mine R p ≡ mine S p
+pub same_tail : (e : Event) (R S : Run) → ((p : Path) → mine (e ∷ R) p ≡ mine (e ∷ S) p) → (p : Path) → mine R p ≡ mine S p
 same_tail e R S m p = ⊎_elim here (λ h. sym (mine_other e R p h) ∙ m p ∙ mine_other e S p h) (path_cases e.path p)
   where
     here : e.path ≡ p → mine R p ≡ mine S p
@@ -49,7 +51,8 @@ one_order (e ∷ R) (y ∷ S) o q m = go (one_order R S (order_tail o) (order_ta
         let t : R ≡ S = rec (same_tail e R S (λ p. m p ∙ ap (λ z. mine (z ∷ S) p) (sym k))) in
         cc
 
-    go : (((p : Path) → mine R p ≡ mine S p) → R ≡ S) → (e ≡ y) ⊎ Lex (position e.path (count R e.path)) (position y.path (count S y.path)) → (y ≡ e) ⊎ Lex (position y.path (count S y.path)) (position e.path (count R e.path)) → e ∷ R ≡ y ∷ S
+    go : (((p : Path) → mine R p ≡ mine S p) → R ≡ S) → (e ≡ y) ⊎ Lex (position e.path (count R e.path)) (position y.path (count S y.path)) → (y ≡ e)
+        ⊎ Lex (position y.path (count S y.path)) (position e.path (count R e.path)) → e ∷ R ≡ y ∷ S
     go rec (inl k) b = same rec k
     go rec (inr h) (inl k) = same rec (sym k)
     go rec (inr h) (inr k) = absurd (lex_differ (lex_trans h k) refl)

@@ -1,11 +1,10 @@
 -- Each faithful run can be put into the order of elision, by inserting its events one by one.
-use Rattle.std.proofs.Common.{◌≡◌, ℕ, zero, suc, ◌+◌, ◌<◌, ◌⊎◌, inl, inr, ⊎_elim, List, [], ◌∷◌, ◌++◌, length, refl, sym, ap, ◌∙◌, subst, arith}
+use Rattle.std.proofs.Common.{◌≡◌, ℕ, suc, ◌+◌, ◌<◌, ◌⊎◌, inl, inr, ⊎_elim, List, [], ◌∷◌, ◌++◌, length, refl, sym, ap, ◌∙◌, subst, arith}
 use Rattle.std.proofs.lemmas.Bool.{cases_order}
 use Rattle.dpj_runs.specs.Actions.{Begin, Program, Task}
 use Rattle.dpj_runs.specs.Objects.{Path}
 use Rattle.dpj_runs.specs.Order.{InOrder, Lex, level_with, lower, position, shorter, way}
 use Rattle.dpj_runs.specs.Runs.{Begun, Event, Faithful, Run, Upto, branch, count, later, mine, now, root}
-use Rattle.dpj_runs.proofs.Upto.{upto_trans, upto_tail, upto_length}
 use Rattle.dpj_runs.proofs.Mine.{path_cases, mine_same, mine_other, mine_at, found, same_of}
 use Rattle.dpj_runs.proofs.Carry.{begun_at}
 use Rattle.dpj_runs.proofs.Numbers.{same_begin}
@@ -44,7 +43,7 @@ snoc_same (x ∷ xs) (y ∷ ys) a b e =
     let r = snoc_same xs ys a b t in
     ((λ i. k i ∷ r.0 i), r.1)
 
-lex_snoc : (xs : List ℕ) (a b : ℕ) → a < b → Lex (xs ++ a ∷ []) (xs ++ b ∷ [])
+pub lex_snoc : (xs : List ℕ) (a b : ℕ) → a < b → Lex (xs ++ a ∷ []) (xs ++ b ∷ [])
 lex_snoc [] a b h = lower h
 lex_snoc (x ∷ xs) a b h = level_with (lex_snoc xs a b h)
 
@@ -78,29 +77,30 @@ one_way P {R} {t} {s} (u ∷ p) (v ∷ q) l b c e = go b c (λ x y k. one_way P 
         let n1 : count B p ≡ suc (u.0 + u.1) = ap (λ r. count B r) (sym pp) ∙ g4 ∙ ap (λ (w : ℕ × ℕ). suc (w.0 + w.1)) uu in
         let n2 : count C p ≡ suc (v.0 + v.1) = ap (λ r. count C r) (pq ∙ sym qq) ∙ k4 ∙ ap (λ (w : ℕ × ℕ). suc (w.0 + w.1)) vv in
         let o = same_of p g1 k1 gp (kq ∙ sym pq) (n1 ∙ parts.1 ∙ sym n2) in
-        let s1 : u.1 ≡ v.1 = same_begin u.1 v.1 (ap (λ (w : ℕ × ℕ). Begin w.1) (sym uu) ∙ sym g3 ∙ ap (λ w. w.act) o.0 ∙ k3 ∙ ap (λ (w : ℕ × ℕ). Begin w.1) vv) in
+        let s1 : u.1 ≡ v.1 = same_begin u.1 v.1 (ap (λ (w : ℕ × ℕ). Begin w.1) (sym uu) ∙ sym g3 ∙ ap (λ w. w.act) o.0 ∙ k3
+        ∙ ap (λ (w : ℕ × ℕ). Begin w.1) vv) in
         let p1 = parts.1 in
         let s0 : u.0 ≡ v.0 = omega arith in
         λ i. (s0 i, s1 i) ∷ pq i
 
-abbrev place_of : Event → Run → List ℕ
+abbrev pub place_of : Event → Run → List ℕ
 place_of e R = position e.path (count R e.path)
 
 -- all events of a run stand before a place
-record AllBefore (R : Run) (l : List ℕ) : Type 0 where
-  each : (x : Event) (X : Run) → Upto (x ∷ X) R → Lex (place_of x X) l
+pub record AllBefore (R : Run) (l : List ℕ) : Type 0 where
+  pub each : (x : Event) (X : Run) → Upto (x ∷ X) R → Lex (place_of x X) l
 
-before_nil : (l : List ℕ) → AllBefore [] l
+pub before_nil : (l : List ℕ) → AllBefore [] l
 before_nil l = record { each = λ x X h. elim h [ ] }
 
-before_more : {R : Run} {l : List ℕ} (e : Event) → AllBefore R l → Lex (place_of e R) l → AllBefore (e ∷ R) l
+pub before_more : {R : Run} {l : List ℕ} (e : Event) → AllBefore R l → Lex (place_of e R) l → AllBefore (e ∷ R) l
 before_more {R} {l} e a h = record { each = each }
   where
     each : (x : Event) (X : Run) → Upto (x ∷ X) (e ∷ R) → Lex (place_of x X) l
     each x X now = h
     each x X (later u) = a.each x X u
 
-order_more : {R : Run} (e : Event) → InOrder R → AllBefore R (place_of e R) → InOrder (e ∷ R)
+pub order_more : {R : Run} (e : Event) → InOrder R → AllBefore R (place_of e R) → InOrder (e ∷ R)
 order_more {R} e o a = record { each = each }
   where
     each : (y x : Event) (Y X : Run) → Upto (y ∷ Y) (e ∷ R) → Upto (x ∷ X) Y → Lex (place_of x X) (place_of y Y)
@@ -110,7 +110,7 @@ order_more {R} e o a = record { each = each }
 below_top : {R : Run} {y : Event} → InOrder (y ∷ R) → AllBefore R (place_of y R)
 below_top {R} {y} o = record { each = λ x X h. o.each y x R X now h }
 
--- a sorted run with one more event of a task, behind that task's others
+-- a sorted run with one more event of a task, after that task's others
 record Inserted (e : Event) (S : Run) : Type 0 where
   run : Run
   in_order : InOrder run
@@ -151,13 +151,17 @@ insert e (y ∷ S) o apart = go (lex_cases (place_of e (y ∷ S)) (place_of y S)
       run = y ∷ r.run;
       in_order = order_more y r.in_order (subst (λ n. AllBefore r.run (position y.path n)) (sym number) (r.low (place_of y S) (below_top o) first));
       here = mine_other y r.run e.path differ ∙ r.here ∙ ap (λ l. e ∷ l) (sym (mine_other y S e.path differ));
-      other = λ q n. ⊎_elim (λ k. mine_same y r.run q k ∙ ap (λ l. y ∷ l) (r.other q n) ∙ sym (mine_same y S q k)) (λ k. mine_other y r.run q k ∙ r.other q n ∙ sym (mine_other y S q k)) (path_cases y.path q);
-      low = λ l a k. before_more y (r.low l (record { each = λ x X u. a.each x X (later u) }) (subst (λ n. Lex (position e.path n) l) fewer k)) (subst (λ n. Lex (position y.path n) l) (sym number) (a.each y S now));
+      other = λ q n. ⊎_elim (λ k. mine_same y r.run q k ∙ ap (λ l. y ∷ l) (r.other q n) ∙ sym (mine_same y S q k))
+          (λ k. mine_other y r.run q k ∙ r.other q n ∙ sym (mine_other y S q k)) (path_cases y.path q);
+      low = λ l a k. before_more y (r.low l (record { each = λ x X u. a.each x X (later u) }) (subst (λ n. Lex (position e.path n) l) fewer k))
+          (subst (λ n. Lex (position y.path n) l) (sym number) (a.each y S now));
     }
       where
         differ : y.path ≡ e.path → ⊥
         differ k =
-            let a : Lex (place_of y S) (place_of e (y ∷ S)) = subst (λ p. Lex (position p (count S y.path)) (place_of e (y ∷ S))) (sym k) (lex_snoc (way e.path) (count S y.path) (count (y ∷ S) e.path) (lower_number k)) in
+            let a : Lex (place_of y S) (place_of e (y ∷ S)) =
+            subst (λ p. Lex (position p (count S y.path)) (place_of e (y ∷ S))) (sym k)
+            (lex_snoc (way e.path) (count S y.path) (count (y ∷ S) e.path) (lower_number k)) in
             lex_differ (lex_trans a h) refl
 
         fewer : count (y ∷ S) e.path ≡ count S e.path

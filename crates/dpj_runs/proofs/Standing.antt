@@ -1,5 +1,6 @@
 -- Where a task stands: what of it is fixed by the forks above it, and that a block stays open as long as a task in it goes on.
-use Rattle.std.proofs.Common.{◌≡◌, ℕ, suc, ◌+◌, ◌-◌, ◌<◌, ◌≤◌, ◌⊎◌, inl, inr, List, [], ◌∷◌, ◌++◌, length, refl, sym, ap, ◌∙◌, subst, arith, nat_lt, append_assoc, slice_get}
+use Rattle.std.proofs.Common.{◌≡◌, ℕ, suc, ◌+◌, ◌-◌, ◌<◌, ◌≤◌, ◌⊎◌, inl, inr, List, [], ◌∷◌, ◌++◌, length, refl, sym, ap, ◌∙◌, subst, arith, nat_lt}
+use Rattle.std.proofs.Common.{append_assoc, slice_get}
 use Rattle.std.proofs.lemmas.Bool.{cond-true, cond-false, cases_lt, lt-ltb, ltb-true, false_from_ne_true}
 use Rattle.dpj_runs.specs.Actions.{Begin, Join, Program, Task}
 use Rattle.dpj_runs.specs.Blocks.{Hold, In_block, Out_of, hold, hold_after}
@@ -38,7 +39,8 @@ above_step R u q = refl
 -- with the same events of each task
 pub above_mine : (G R : Run) → ((p : Path) → mine G p ≡ mine R p) → (p : Path) → above G p ≡ above R p
 above_mine G R h [] = above_nil G ∙ sym (above_nil R)
-above_mine G R h (u ∷ q) = above_step G u q ∙ ap (λ s. joined_by s q (hold (first_of u.0 (mine G q)))) (above_mine G R h q) ∙ ap (λ l. joined_by (above R q) q (hold (first_of u.0 l))) (h q) ∙ sym (above_step R u q)
+above_mine G R h (u ∷ q) = above_step G u q ∙ ap (λ s. joined_by s q (hold (first_of u.0 (mine G q)))) (above_mine G R h q)
+    ∙ ap (λ l. joined_by (above R q) q (hold (first_of u.0 l))) (h q) ∙ sym (above_step R u q)
 
 -- each task has in the one run the events of the other, and maybe more
 pub record Grows (T S : Run) : Type 0 where
@@ -68,8 +70,22 @@ adopted R [] o E e = absurd (let k : Outside ≡ Inside o E = sym (above_nil R) 
 adopted R (u ∷ q) o E e = go (adopted R q o E) (joined_cases (above R q) q (hold (first_of u.0 (mine R q))) o E (sym (above_step R u q) ∙ e))
   where
     go : (above R q ≡ Inside o E → Adopted R q o E) → Joined_by (above R q) q (hold (first_of u.0 (mine R q))) o E → Adopted R (u ∷ q) o E
-    go rec (from_above k) = let a = rec k in record { below = u ∷ a.below; fork = a.fork; path = ap (λ l. u ∷ l) a.path; outside = a.outside; depth = a.depth; held = a.held }
-    go rec (own n k s h) = record { below = []; fork = u; path = ap (λ l. u ∷ l) s; outside = subst (λ r. above R r ≡ Outside) s k; depth = n; held = subst (λ r. hold (first_of u.0 (mine R r)) ≡ In_block n E) s h }
+    go rec (from_above k) = let a = rec k in record {
+      below = u ∷ a.below;
+      fork = a.fork;
+      path = ap (λ l. u ∷ l) a.path;
+      outside = a.outside;
+      depth = a.depth;
+      held = a.held;
+    }
+    go rec (own n k s h) = record {
+      below = [];
+      fork = u;
+      path = ap (λ l. u ∷ l) s;
+      outside = subst (λ r. above R r ≡ Outside) s k;
+      depth = n;
+      held = subst (λ r. hold (first_of u.0 (mine R r)) ≡ In_block n E) s h;
+    }
 
 -- who stands in a block of its own was begun in none, and has entries open
 pub record Opener (R : Run) (q : Path) (F : List Effect) : Type 0 where
@@ -115,11 +131,13 @@ module _ (P : Program) where
           let ms : first_of u.0 (mine S q) ≡ mine F q = subst (λ k. first_of k (mine S q) ≡ mine F q) n (first_is (upto_trans (upto_tail m) (h.each q))) in
           let al = follows_at P b l in
           let r = rec al.task (begun_upto (upto_tail b) (subst (λ r. Begun P F r al.task) fq al.begun)) in
-          above_step T u q ∙ ap (λ s. joined_by s q (hold (first_of u.0 (mine T q)))) r ∙ ap (λ l. joined_by (above S q) q (hold l)) (mt ∙ sym ms) ∙ sym (above_step S u q)
+          above_step T u q ∙ ap (λ s. joined_by s q (hold (first_of u.0 (mine T q)))) r ∙ ap (λ l. joined_by (above S q) q (hold l)) (mt ∙ sym ms)
+          ∙ sym (above_step S u q)
 
   module _ (D : Disciplined P) where
     -- since a fork of a task below which another goes on, it has begun branches and nothing else
-    pub only_begins_so : {y : Event} {Y : Run} (xs a : Path) (u : ℕ × ℕ) → Faithful P (y ∷ Y) → y.path ≡ xs ++ u ∷ a → (X : Run) (x : Event) → Upto (x ∷ X) (mine Y a) → u.0 < length X → x.act ≡ Begin (length X - suc u.0)
+    pub only_begins_so : {y : Event} {Y : Run} (xs a : Path) (u : ℕ × ℕ) → Faithful P (y ∷ Y) → y.path ≡ xs ++ u ∷ a → (X : Run) (x : Event)
+        → Upto (x ∷ X) (mine Y a) → u.0 < length X → x.act ≡ Begin (length X - suc u.0)
     only_begins_so {y} {Y} xs a u l e X x h n = go (cases_lt (length X) (suc (u.0 + length f.tasks.tasks)))
       where
         f : ForkAt Y a u
@@ -135,22 +153,26 @@ module _ (P : Program) where
         wn = ap length w.mine_is
 
         go : (length X < suc (u.0 + length f.tasks.tasks)) ⊎ (suc (u.0 + length f.tasks.tasks) ≤ length X) → x.act ≡ Begin (length X - suc u.0)
-        go (inl lt) = begin_after P D a f.tasks (length X - suc u.0) l.1 f.stands f.path f.act w.stands w.path (omega (arith, fn, wn, n)) (omega (arith, fn, n, lt))
+        go (inl lt) = begin_after P D a f.tasks (length X - suc u.0) l.1 f.stands f.path f.act w.stands w.path (omega (arith, fn, wn, n))
+            (omega (arith, fn, n, lt))
         go (inr ge) =
             let s = upto_length h in
             let z = numbered Y a (suc (u.0 + length f.tasks.tasks)) (omega arith) in
             let zn = z.4 in
             let k : z.0.act ≡ Join = join_after P D a f.tasks l.1 f.stands f.path f.act z.2 z.3 (omega (arith, fn, zn)) in
-            let j : JoinAt P D (y ∷ Y) a (count f.before a) (length f.tasks.tasks) = record { before = z.1; event = z.0; stands = later z.2; path = z.3; number = omega (arith, fn, zn); act = k } in
+            let j : JoinAt P D (y ∷ Y) a (count f.before a) (length f.tasks.tasks) =
+            record { before = z.1; event = z.0; stands = later z.2; path = z.3; number = omega (arith, fn, zn); act = k } in
             let i = upto_length (in_join P D xs a u f.tasks f.task l (later f.stands) f.path f.act (sym f.number) f.is_there j now e) in
             let d = upto_length z.2 in
             absurd (omega arith)
 
-    pub only_begins : {y : Event} {Y : Run} (xs a : Path) (u : ℕ × ℕ) → Faithful P (y ∷ Y) → y.path ≡ xs ++ u ∷ a → (X : Run) (x : Event) → Upto (x ∷ X) (mine Y a) → u.0 < length X → (b : ℕ) × (x.act ≡ Begin b)
+    pub only_begins : {y : Event} {Y : Run} (xs a : Path) (u : ℕ × ℕ) → Faithful P (y ∷ Y) → y.path ≡ xs ++ u ∷ a → (X : Run) (x : Event)
+        → Upto (x ∷ X) (mine Y a) → u.0 < length X → (b : ℕ) × (x.act ≡ Begin b)
     only_begins xs a u l e X x h n = (length X - suc u.0, only_begins_so xs a u l e X x h n)
 
     pub waits : {y : Event} {Y : Run} (xs a : Path) (u : ℕ × ℕ) → Faithful P (y ∷ Y) → y.path ≡ xs ++ u ∷ a → hold (mine Y a) ≡ hold (first_of u.0 (mine Y a))
-    waits {y} {Y} xs a u l e = hold_since since (λ X x h n. only_begins xs a u l e X x h (let fn = f.number in omega arith)) ∙ ap (λ c. hold_after c (hold (mine f.before a))) f.act ∙ ap hold (sym firsts)
+    waits {y} {Y} xs a u l e = hold_since since (λ X x h n. only_begins xs a u l e X x h (let fn = f.number in omega arith))
+        ∙ ap (λ c. hold_after c (hold (mine f.before a))) f.act ∙ ap hold (sym firsts)
       where
         f : ForkAt Y a u
         f = fork_above P D xs a u l now e
@@ -173,7 +195,13 @@ module _ (P : Program) where
     stands {e} {R} o E l s = go (joined_cases (above R e.path) e.path (hold (mine R e.path)) o E s)
       where
         go : Joined_by (above R e.path) e.path (hold (mine R e.path)) o E → Stands R e.path o E
-        go (own n k p h) = record { below = []; path = p; outside = subst (λ r. above R r ≡ Outside) p k; depth = n; held = subst (λ r. hold (mine R r) ≡ In_block n E) p h }
+        go (own n k p h) = record {
+          below = [];
+          path = p;
+          outside = subst (λ r. above R r ≡ Outside) p k;
+          depth = n;
+          held = subst (λ r. hold (mine R r) ≡ In_block n E) p h;
+        }
         go (from_above k) =
             let a = adopted R e.path o E k in
             record {
@@ -212,7 +240,25 @@ module _ (P : Program) (D : Disciplined P) where
       let k : u ∷ q ≡ u' ∷ q' = sym e ∙ a in
       let uu : u' ≡ u = cc in
       let qq : q' ≡ q = cc in
-      record { before = F; event = f; stands = b; path = c ∙ qq; number = ap (λ r. count F r) (sym qq) ∙ d ∙ ap (λ w. w.0) uu; tasks = ts; act = g; task = t; is_there = ap (λ w. slice_get ts.tasks w.1) (sym uu) ∙ h; began = B; begin = k1; begin_stands = b1; begin_path = c1 ∙ qq; begin_act = e1 ∙ ap (λ w. Begin w.1) uu; begin_number = ap (λ r. count B r) (sym qq) ∙ d1 ∙ ap (λ w. suc (w.0 + w.1)) uu }
+      record {
+        before = F;
+        event = f;
+        stands = b;
+        path = c ∙ qq;
+        number = ap (λ r. count F r) (sym qq) ∙ d
+            ∙ ap (λ w. w.0) uu;
+        tasks = ts;
+        act = g;
+        task = t;
+        is_there = ap (λ w. slice_get ts.tasks w.1) (sym uu) ∙ h;
+        began = B;
+        begin = k1;
+        begin_stands =
+            b1;
+        begin_path = c1 ∙ qq;
+        begin_act = e1 ∙ ap (λ w. Begin w.1) uu;
+        begin_number = ap (λ r. count B r) (sym qq) ∙ d1 ∙ ap (λ w. suc (w.0 + w.1)) uu;
+      }
   begun_fork {S} {t} (x ∷ xs) p q u l (branch q' u' F f ts B k1 a b c d g h b1 c1 e1 d1) e =
       let k : x ∷ (xs ++ u ∷ q) ≡ u' ∷ q' = sym e ∙ a in
       let qq : q' ≡ xs ++ u ∷ q = cc in
@@ -220,8 +266,11 @@ module _ (P : Program) (D : Disciplined P) where
 
   -- as long as a task goes on, those above it have made begins alone since the fork, in each run that has the fork and no more
   -- events than this one
-  pub waits_in : {y : Event} {Y S : Run} {t : Task} (xs a : Path) (u : ℕ × ℕ) → Faithful P (y ∷ Y) → y.path ≡ xs ++ u ∷ a → Faithful P S → Grows S Y → Begun P S y.path t → hold (mine S a) ≡ hold (first_of u.0 (mine S a))
-  waits_in {y} {Y} {S} xs a u l e ls grows b = hold_since since (λ X x h n. only_begins P D xs a u l e X x (upto_trans h (grows.each a)) (let fn = f.number in omega arith)) ∙ ap (λ c. hold_after c (hold (mine f.before a))) f.act ∙ ap hold (sym firsts)
+  pub waits_in : {y : Event} {Y S : Run} {t : Task} (xs a : Path) (u : ℕ × ℕ) → Faithful P (y ∷ Y) → y.path ≡ xs ++ u ∷ a → Faithful P S → Grows S Y
+      → Begun P S y.path t → hold (mine S a) ≡ hold (first_of u.0 (mine S a))
+  waits_in {y} {Y} {S} xs a u l e ls grows b = hold_since since
+      (λ X x h n. only_begins P D xs a u l e X x (upto_trans h (grows.each a)) (let fn = f.number in omega arith))
+      ∙ ap (λ c. hold_after c (hold (mine f.before a))) f.act ∙ ap hold (sym firsts)
     where
       f : ForkAt S a u
       f = begun_fork xs y.path a u ls b e

@@ -1,11 +1,10 @@
 -- The laws, from the lemmas.
-use Rattle.std.proofs.Common.{◌≡◌, ◌≤◌, ◌+◌, ℕ, suc, List, [], ◌∷◌, length, refl, sym, ap, ◌∙◌, subst, arith, inr, append-nil}
-use Rattle.dpj_runs.specs.Actions.{cells, steps}
-use Rattle.dpj_runs.specs.Laws.{BlocksByStanding, Comparison, EachComesOut, NoneCostsMore, NothingAfter, OneNext, OneOutcome, OrderOf, Present, Respects, SameEvents, SameOutcome, SomeReady}
+use Rattle.std.proofs.Common.{◌≡◌, ◌+◌, ℕ, suc, [], ◌∷◌, refl, sym, ap, ◌∙◌, subst, arith, inr, append-nil}
+use Rattle.dpj_runs.specs.Laws.{BlocksByStanding, Comparison, EachComesOut, GreatestFirst, NoneCostsMore, NothingAfter, OneNext, OneOutcome, OrderOf, Present}
+use Rattle.dpj_runs.specs.Laws.{Respects, SameEvents, SameOutcome, SomeReady}
 use Rattle.dpj_runs.specs.Objects.{Path, size}
 use Rattle.dpj_runs.specs.Order.{Agree, Came, ending_of, printed, trapped}
 use Rattle.dpj_runs.specs.Runs.{Ended, Event, Faithful, Run, Upto, cells_of, entry_step, event_cells, event_steps, later, mine, now, steps_of, total}
-use Rattle.dpj_runs.specs.Schedules.{ended}
 use Rattle.dpj_runs.proofs.Mine.{mine_step, number_of}
 use Rattle.dpj_runs.proofs.Faithful.{agree_self, none_after_end}
 use Rattle.dpj_runs.proofs.Written.{allowed_from, legal_faithful, valid_from, legal_from}
@@ -14,6 +13,7 @@ use Rattle.dpj_runs.proofs.Compare.{present}
 use Rattle.dpj_runs.proofs.Agreement.{agree, same_all, same_end}
 use Rattle.dpj_runs.proofs.Sorting.{sort}
 use Rattle.dpj_runs.proofs.Ready.{some_ready}
+use Rattle.dpj_runs.proofs.Greatest.{greatest_order}
 use Rattle.dpj_runs.proofs.Numbers.{number_one, number_of_begun}
 use Rattle.dpj_runs.proofs.Schedules.{same_step}
 use Rattle.dpj_runs.proofs.Cost.{total_le, most_events}
@@ -29,7 +29,8 @@ pub order_of_events : OrderOf
 order_of_events P D R X Y x y l hx hy a b = order_of P D (legal_faithful P R l) hx hy a b
 
 pub present_before : Present
-present_before P D R S W w f l m ag hw n b = let c = present P D (legal_faithful P R l) (legal_faithful P (f ∷ S) m) ag hw n b in (c.before, c.stands, c.mine_is)
+present_before P D R S W w f l m ag hw n b = let c = present P D (legal_faithful P R l) (legal_faithful P (f ∷ S) m) ag hw n b in
+    (c.before, c.stands, c.mine_is)
 
 pub comparison : Comparison
 comparison P D R S l m fr fs = agree P D R S (legal_faithful P R l) (legal_faithful P S m) fr fs
@@ -65,8 +66,10 @@ none_costs_more P D R S x l m fr fs g w =
 
 pub each_comes_out : EachComesOut
 each_comes_out P R x l g =
-    let s = sort P R (legal_faithful P R l) in
-    (Came (ending_of (trapped s.sorted) x) (printed s.sorted) (steps_of R) (cells_of P R), record { end = x; ended = g; sorted = s.sorted; in_order = s.in_order; events = s.events; outcome = refl })
+    let s = sort P R (legal_faithful P R l) in (
+      Came (ending_of (trapped s.sorted) x) (printed s.sorted) (steps_of R) (cells_of P R),
+      record { end = x; ended = g; sorted = s.sorted; in_order = s.in_order; events = s.events; outcome = refl },
+    )
 
 pub comes_one_way : OneOutcome
 comes_one_way P D R o q l c d =
@@ -95,3 +98,6 @@ some_ready_event P D V K R l live =
 
 pub one_next : OneNext
 one_next P D R k e f l a b = same_step P D (legal_faithful P R l) a.allowed.follows b.allowed.follows (number_one a.number b.number)
+
+pub greatest_first : GreatestFirst
+greatest_first P D V T K R l g = (greatest_order P D V T K R l g).0

@@ -1,6 +1,7 @@
 -- What has a name: it stays the same from its making on, and is the same in all runs that agree.
-use Rattle.std.proofs.Common.{◌≡◌, ℕ, zero, suc, ◌⊎◌, ⊎_elim, List, [], ◌∷◌, ◌++◌, length, refl, sym, ap, ◌∙◌, subst, Option, Some, None, slice_get, append_assoc, append-nil}
-use Rattle.dpj_runs.specs.Objects.{Name, Path, Thing}
+use Rattle.std.proofs.Common.{◌≡◌, ℕ, zero, suc, ⊎_elim, List, [], ◌∷◌, ◌++◌, refl, sym, ap, ◌∙◌, Option, Some, None, slice_get}
+use Rattle.std.proofs.Common.{append_assoc, append-nil}
+use Rattle.dpj_runs.specs.Objects.{Name, Thing}
 use Rattle.dpj_runs.specs.Actions.{Answer, Program}
 use Rattle.dpj_runs.specs.Order.{Agree}
 use Rattle.dpj_runs.specs.Runs.{Event, Run, Upto, answered_by, at_start, later, made, made_by, mine, now, thing_of, things}
@@ -10,7 +11,7 @@ things_step : (e : Event) (es : Run) → things (e ∷ es) ≡ things es ++ made
 unfolding things
 things_step e es = refl
 
--- what a task makes later comes behind
+-- what a task makes later comes after
 things_upto : {es fs : Run} → Upto es fs → (rest : List Thing) × (things fs ≡ things es ++ rest)
 things_upto {es} now = ([], sym (append-nil (things es)))
 things_upto {es} (later {y = e} {ys = fs} h) =

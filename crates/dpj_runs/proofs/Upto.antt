@@ -73,3 +73,7 @@ upto_rest (later {y = y} h) = let r = upto_rest h in (y ∷ r.0, ap (λ l. y ∷
 pub upto_less : {A : Type 0} {y : A} {xs ys : List A} → Upto xs (y ∷ ys) → (xs ≡ y ∷ ys → ⊥) → Upto xs ys
 upto_less now n = absurd (n refl)
 upto_less (later h) n = h
+
+pub upto_since : {A : Type 0} (since : List A) (x : A) (xs : List A) → Upto (x ∷ xs) (since ++ x ∷ xs)
+upto_since [] x xs = now
+upto_since (y ∷ since) x xs = later (upto_since since x xs)

@@ -11,7 +11,8 @@ use Rattle.dpj_runs.proofs.Upto.{upto_trans, upto_tail}
 use Rattle.dpj_runs.proofs.Mine.{mine_at, mine_upto, earlier_of, same_of}
 use Rattle.dpj_runs.proofs.Faithful.{faithful_upto, fork_above}
 use Rattle.dpj_runs.proofs.Blocks.{EntryAt, entry_at}
-use Rattle.dpj_runs.proofs.Standing.{Grows, first_is, above_step, above_same, Adopted, adopted, Joined_by, from_above, own, joined_cases, Opener, opener_of, opener_stands, stands_outside, Stands, stands, only_begins}
+use Rattle.dpj_runs.proofs.Standing.{Grows, first_is, above_step, above_same, Adopted, adopted, Joined_by, from_above, own, joined_cases, Opener, opener_of}
+use Rattle.dpj_runs.proofs.Standing.{opener_stands, stands_outside, Stands, stands, only_begins}
 
 is_block_at : {A : Run} {a : Event} {R : Run} (E : List Effect) → Upto (a ∷ A) R → a.act ≡ Do (Enter E) → Outermost A a.path → IsBlock R A a E
 is_block_at E now p o = inl (refl, refl, p, o)
@@ -37,7 +38,8 @@ out_parts Outside p Out_of e = (refl, refl)
 out_parts Outside p (In_block n E) e = absurd (cc)
 
 -- inside an open block a task stands in one, by the other definition
-not_out : {R B : Run} {b : Event} {F0 : Run} {p : Path} (E : List Effect) → IsOpen B b E R → StandsIn B b F0 p → Upto F0 R → above R p ≡ Outside → hold (mine F0 p) ≡ Out_of → ⊥
+not_out : {R B : Run} {b : Event} {F0 : Run} {p : Path} (E : List Effect) → IsOpen B b E R → StandsIn B b F0 p → Upto F0 R → above R p ≡ Outside
+    → hold (mine F0 p) ≡ Out_of → ⊥
 not_out {R} {B} {b} {F0} {p} E o (opened h q) up a z =
     let m = o.still F0 up h in
     let k : In_block m.0 E ≡ Out_of = sym m.1 ∙ ap (λ r. hold (mine F0 r)) q ∙ z in
@@ -84,11 +86,14 @@ module _ (P : Program) where
           }
 
   module _ (D : Disciplined P) where
-    -- a task below a fork of the opener that stands behind the entry
-    chain_down : {R A : Run} {a : Event} (o : Path) (u : ℕ × ℕ) → Faithful P R → a.path ≡ o → ((F : Run) (f : Event) (ts : Branches) → Upto (f ∷ F) R → f.path ≡ o → count F o ≡ u.0 → f.act ≡ Fork ts → Upto (a ∷ A) F) → (xs : Path) (W : Run) (w : Event) → Upto (w ∷ W) R → w.path ≡ xs ++ u ∷ o → StandsIn A a W w.path
+    -- a task below a fork of the opener that stands after the entry
+    chain_down : {R A : Run} {a : Event} (o : Path) (u : ℕ × ℕ) → Faithful P R → a.path ≡ o
+        → ((F : Run) (f : Event) (ts : Branches) → Upto (f ∷ F) R → f.path ≡ o → count F o ≡ u.0 → f.act ≡ Fork ts → Upto (a ∷ A) F)
+        → (xs : Path) (W : Run) (w : Event) → Upto (w ∷ W) R → w.path ≡ xs ++ u ∷ o → StandsIn A a W w.path
     chain_down {A = A} {a = a} o u l ap_ before_fork [] W w hw e =
         let f = fork_above P D [] o u l hw e in
-        begun_in o u f.before f.event f.tasks e f.stands f.path f.number f.act (opened (before_fork f.before f.event f.tasks (upto_trans f.stands (upto_tail hw)) f.path f.number f.act) ap_)
+        begun_in o u f.before f.event f.tasks e f.stands f.path f.number f.act
+        (opened (before_fork f.before f.event f.tasks (upto_trans f.stands (upto_tail hw)) f.path f.number f.act) ap_)
     chain_down {A = A} {a = a} o u l ap_ before_fork (v ∷ xs) W w hw e =
         let f = fork_above P D [] (xs ++ u ∷ o) v l hw e in
         let s = chain_down o u l ap_ before_fork xs f.before f.event (upto_trans f.stands (upto_tail hw)) f.path in
@@ -114,7 +119,8 @@ module _ (P : Program) where
                 c : Adopted R e.path o E
                 c = adopted R e.path o E z
 
-                before_fork : (F : Run) (f : Event) (ts : Branches) → Upto (f ∷ F) (e ∷ R) → f.path ≡ o → count F o ≡ c.fork.0 → f.act ≡ Fork ts → Upto (b.event ∷ b.before) F
+                before_fork : (F : Run) (f : Event) (ts : Branches) → Upto (f ∷ F) (e ∷ R) → f.path ≡ o → count F o ≡ c.fork.0 → f.act ≡ Fork ts
+                    → Upto (b.event ∷ b.before) F
                 before_fork F f ts fs fp fn fa = by_number (cases_order (count b.before o) c.fork.0)
                   where
                     by_number : (count b.before o ≡ c.fork.0) ⊎ ((count b.before o < c.fork.0) ⊎ (c.fork.0 < count b.before o)) → Upto (b.event ∷ b.before) F
@@ -142,7 +148,10 @@ module _ (P : Program) where
             ce.clear (outermost_to R e l out) b.path F (opener_stands R b.path F m.0 up m.1)
 
   can_from : (R : Run) (p : Path) (E : List Effect) → Faithful P R → MayEnter P.rule R p E → CanEnter P.rule R p E
-  can_from R p E l me = record { clear = λ st q F h. (let b = block_of R q F l (opener_of R q F h) in me.clear (outermost_from R p st) b.before b.event F b.is_block b.is_open) }
+  can_from R p E l me = record {
+    clear = λ st q F h. (let b = block_of R q F l (opener_of R q F h) in
+        me.clear (outermost_from R p st) b.before b.event F b.is_block b.is_open);
+  }
 
 pub faithful_of : (P : Program) (R : Run) → Valid P R → Faithful P R
 faithful_of P [] l = tt

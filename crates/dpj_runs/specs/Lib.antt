@@ -7,3 +7,4 @@ pub mod Order
 pub mod Schedules
 pub mod Meaning
 pub mod Laws
+pub mod Samples

@@ -1,9 +1,9 @@
 -- Unordered events, conflicts, the order of elision, and how a run comes out.
-use Rattle.std.specs.Prelude.{ℕ, suc, pos, ◌+◌, ◌<◌, ◌≤◌, ◌≡◌, ◌≢◌, ◌⊎◌, List, [], ◌∷◌, ◌++◌, Option, Some, None}
+use Rattle.std.specs.Prelude.{ℕ, suc, pos, ◌+◌, ◌<◌, ◌≡◌, ◌≢◌, ◌⊎◌, List, [], ◌∷◌, ◌++◌, Option, Some, None}
 use Rattle.dpj_base.specs.declared.value.Trap.{Trap}
 use Rattle.dpj_base.specs.declared.place.Place.{Place}
 use Rattle.dpj_runs.specs.Objects.{Path, Value, Cell}
-use Rattle.dpj_runs.specs.Actions.{Ending, Returned, Assigned, Trapped, Own, Rest, Read, Write, Look, New, Print, Enter, Exit}
+use Rattle.dpj_runs.specs.Actions.{Ending, Trapped, Own, Rest, Read, Write, Look, New, Print, Enter, Exit}
 use Rattle.dpj_runs.specs.Actions.{Action, Do, Fork, Begin, Join, End, Out, Program}
 use Rattle.dpj_runs.specs.Runs.{Event, Run, Upto, mine, count, Ended, trap_of, steps_of, cells_of}
 
@@ -20,7 +20,7 @@ pub record Unordered (p q : Path) : Type 0 where
   pub q_is : q ≡ below_q ++ v ∷ above
 
 -- where the events numbered k and l of tasks p and q stand to each other in every run: the one is before the other in their
--- task, above a fork that the other is below, below a join that the other is behind, or below an earlier fork of one task
+-- task, above a fork that the other is below, below a join that the other is after, or below an earlier fork of one task
 pub data Before (p : Path) (k : ℕ) (q : Path) (l : ℕ) : Type 0 where
   in_task : p ≡ q → k < l → Before p k q l
   above_fork : (xs : Path) (u : ℕ × ℕ) → q ≡ xs ++ u ∷ p → k < u.0 → Before p k q l
@@ -85,7 +85,7 @@ pub data Lex : List ℕ → List ℕ → Type 0 where
   lower : {x y : ℕ} {xs ys : List ℕ} → x < y → Lex (x ∷ xs) (y ∷ ys)
   level_with : {x : ℕ} {xs ys : List ℕ} → Lex xs ys → Lex (x ∷ xs) (x ∷ ys)
 
--- the run stands in the order of elision: a task's events up to a fork, then each branch behind its begin, then what follows
+-- the run stands in the order of elision: a task's events up to a fork, then each branch after its begin, then what follows
 pub record InOrder (R : Run) : Type 0 where
   pub each : (y x : Event) (Y X : Run) → Upto (y ∷ Y) R → Upto (x ∷ X) Y → Lex (position x.path (count X x.path)) (position y.path (count Y y.path))
 

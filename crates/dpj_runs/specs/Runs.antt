@@ -1,5 +1,5 @@
 -- Runs of a program: what each task has made, and how each event is answered by those before it. Blocks are left aside.
-use Rattle.std.specs.Prelude.{ℕ, suc, pos, ◌+◌, ◌<◌, ◌≡◌, ◌⊎◌, if◌then◌else◌, List, [], ◌∷◌, ◌++◌, length, map, Option, Some, None, slice_get}
+use Rattle.std.specs.Prelude.{ℕ, suc, ◌+◌, ◌≡◌, if◌then◌else◌, List, [], ◌∷◌, ◌++◌, length, map, Option, Some, None, slice_get}
 use Rattle.dpj_base.specs.declared.value.Trap.{Trap}
 use Rattle.dpj_base.specs.declared.place.Place.{Place}
 use Rattle.dpj_runs.specs.Objects.{Path, same_path, Name, Value, Thing, An_object, An_array, size, or_else, first_value, Cell, slot_of, is_cell}
@@ -34,13 +34,13 @@ answers R = map (λ e. e.ans) R
 abbrev pub count : Run → Path → ℕ
 count R p = length (mine R p)
 
--- the task of this name has begun, and this is what it is to do: the root; or a branch of a fork behind its begin. The begin
+-- the task of this name has begun, and this is what it is to do: the root; or a branch of a fork after its begin. The begin
 -- of branch b of the fork numbered k is numbered k + 1 + b
 pub data Begun (P : Program) (R : Run) (p : Path) (t : Task) : Type 0 where
   root : p ≡ [] → t ≡ P.root → Begun P R p t
   branch : (q : Path) (u : ℕ × ℕ) (F : Run) (f : Event) (ts : Branches) (B : Run) (g : Event) → p ≡ u ∷ q
-    → Upto (f ∷ F) R → f.path ≡ q → count F q ≡ u.0 → f.act ≡ Fork ts → slice_get ts.tasks u.1 ≡ Some t
-    → Upto (g ∷ B) R → g.path ≡ q → g.act ≡ Begin u.1 → count B q ≡ suc (u.0 + u.1) → Begun P R p t
+      → Upto (f ∷ F) R → f.path ≡ q → count F q ≡ u.0 → f.act ≡ Fork ts → slice_get ts.tasks u.1 ≡ Some t
+      → Upto (g ∷ B) R → g.path ≡ q → g.act ≡ Begin u.1 → count B q ≡ suc (u.0 + u.1) → Begun P R p t
 
 -- the things that some events of one task made, in order
 abbrev pub own_made : Own → List Thing
@@ -131,7 +131,7 @@ wrote_at (Some slot) = Went
 
 abbrev pub seen : Thing → Answer
 seen (An_object class regions fields) = Class class regions
-seen (An_array pattern len element) = Length len
+seen (An_array region len element) = Length len
 
 abbrev pub answered_by : Option Thing → (Thing → Answer) → Option Answer
 answered_by None f = None
@@ -184,8 +184,8 @@ joined_or None ls = Joined ls
 abbrev pub joined : List Ending → Answer
 joined xs = joined_or (first_trap xs) (all_locals xs)
 
--- the task has made nothing but begins since a fork, all branches of that fork have begun and ended, and this is the answer
--- to the join
+-- since a fork the task has made as many events as the fork has branches, which are their begins; all branches have ended; and
+-- this is the answer to the join
 pub record Joins (R : Run) (p : Path) (a : Answer) : Type 0 where
   pub before : Run
   pub fork : Event

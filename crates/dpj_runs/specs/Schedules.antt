@@ -4,7 +4,7 @@ use Rattle.dpj_runs.specs.Objects.{Path}
 use Rattle.dpj_runs.specs.Actions.{Action, Do, Fork, Begin, Join, End, Program}
 use Rattle.dpj_runs.specs.Runs.{Event, Run, Upto, count, steps_of, cells_of}
 use Rattle.dpj_runs.specs.Blocks.{Allowed}
-use Rattle.dpj_runs.specs.Order.{Outcome, Came, Limited, Comes}
+use Rattle.dpj_runs.specs.Order.{Outcome, Limited, Comes}
 
 pub record Limits : Type 0 where
   pub steps : ℕ
@@ -30,12 +30,21 @@ begins (e ∷ R) = one_begin e.act + begins R
 pub data Numbered (R : Run) (k : ℕ) (p : Path) : Type 0 where
   root_is : p ≡ [] → k ≡ 0 → Numbered R k p
   branch_is : (q : Path) (u : ℕ × ℕ) (G : Run) (g : Event) → p ≡ u ∷ q → Upto (g ∷ G) R → g.path ≡ q → g.act ≡ Begin u.1
-    → count G q ≡ suc (u.0 + u.1) → k ≡ suc (begins G) → Numbered R k p
+      → count G q ≡ suc (u.0 + u.1) → k ≡ suc (begins G) → Numbered R k p
 
 -- this event of the task of this number may come next
 pub record Ready (P : Program) (R : Run) (k : ℕ) (e : Event) : Type 0 where
   pub allowed : Allowed P R e
   pub number : Numbered R k e.path
+
+-- no task with a greater number could make an event
+pub record Greatest (P : Program) (R : Run) (e : Event) : Type 0 where
+  pub none : (f : Event) (j k : ℕ) → Allowed P R f → Numbered R j f.path → Numbered R k e.path → j ≤ k
+
+-- each event was made by the ready task with the greatest number
+abbrev pub Greedy : Program → Run → Type 0
+Greedy P [] = Unit {0}
+Greedy P (e ∷ R) = Greatest P R e × Greedy P R
 
 -- the run that a schedule records, the latest number first: each number lets its task make its next event, within the limits
 abbrev pub Ran : Program → Limits → List ℕ → Run → Type 0

@@ -1,6 +1,6 @@
 -- The rule of open blocks once more, by paths and by each task's own events alone. It never asks in which order tasks acted, nor
 -- whether a block in which a task was begun is still open.
-use Rattle.std.specs.Prelude.{ℕ, ◌≡◌, Bool, true, if◌then◌else◌, nat_lt, List, [], ◌∷◌, length}
+use Rattle.std.specs.Prelude.{ℕ, ◌≡◌, true, if◌then◌else◌, nat_lt, List, [], ◌∷◌, length}
 use Rattle.dpj_runs.specs.Objects.{Path, Effect}
 use Rattle.dpj_runs.specs.Actions.{Enter, Do, Rule, Program}
 use Rattle.dpj_runs.specs.Runs.{Event, Run, mine, Follows}

@@ -1,11 +1,15 @@
 //! The laws of runs, each the clause of a function that does nothing.
 
-ghost use Rattle.dpj_runs.specs.Laws.{BlocksByStanding, Respects, OrderOf, Present, Comparison, SameEvents, SameOutcome, NoneCostsMore};
-ghost use Rattle.dpj_runs.specs.Laws.{EachComesOut, OneOutcome, NothingAfter, SomeReady, OneNext, OneRun, RanIsLegal, ScheduleIsBounded, FinishedIsBounded};
+ghost use Rattle.dpj_runs.specs.Laws.{BlocksByStanding, LegalIsFaithful, Respects, OrderOf, Present, Comparison, SameEvents, SameOutcome, NoneCostsMore};
+ghost use Rattle.dpj_runs.specs.Laws.{EachComesOut, OneOutcome, NothingAfter, SomeReady, OneNext, OneRun, RanIsLegal, EachRecorded};
+ghost use Rattle.dpj_runs.specs.Laws.{ScheduleIsBounded, FinishedIsBounded, SchedulesAgree, EachFinishes, GreatestFirst, GreatestFinishes};
+ghost use Rattle.dpj_runs.specs.Samples.{ComparisonApplies, ComparisonNeedsFree, RespectsNeedsPassing, ReadyApplies, ReadyNeedsKnown};
+ghost use Rattle.dpj_runs.specs.Samples.{BoundApplies, BoundNeedsPaced, DeterminismApplies};
 
 /// Who stands inside which block is known from paths and from each task's own events.
 pub fn law_blocks()
     ensures by_standing { BlocksByStanding }
+    ensures faithful { LegalIsFaithful }
 {}
 
 /// Which of two events comes first is the same in every legal run, but for those of different branches of one fork.
@@ -36,10 +40,37 @@ pub fn law_ready()
     ensures one_next { OneNext }
 {}
 
-/// A schedule records one legal run, and the limit of steps bounds its length.
+/// A schedule records one legal run, each legal run has a schedule, the limit of steps bounds its length, and each can be
+/// carried on to a finished one.
 pub fn law_schedule()
     ensures one_run { OneRun }
     ensures legal { RanIsLegal }
+    ensures recorded { EachRecorded }
     ensures bounded { ScheduleIsBounded }
     ensures finished { FinishedIsBounded }
+    ensures finishes { EachFinishes }
+{}
+
+/// Where the ready task with the greatest number always goes on, the run stands in the order of elision, and comes to an end
+/// within limits.
+pub fn law_greatest()
+    ensures in_order { GreatestFirst }
+    ensures finishes { GreatestFinishes }
+{}
+
+/// Where no legal run has unordered conflicts, all finished schedules come out the same, limits included.
+pub fn law_determinism()
+    ensures schedules { SchedulesAgree }
+{}
+
+/// The laws say something of some programs, and what they ask is needed.
+pub fn law_samples()
+    ensures comparison { ComparisonApplies }
+    ensures conflict { ComparisonNeedsFree }
+    ensures begin { RespectsNeedsPassing }
+    ensures ready { ReadyApplies }
+    ensures unknown { ReadyNeedsKnown }
+    ensures bound { BoundApplies }
+    ensures rests { BoundNeedsPaced }
+    ensures determinism { DeterminismApplies }
 {}

@@ -1,7 +1,6 @@
 -- Whether a program uses nd: whether its text holds a `cobegin_nd` or a `foreach_nd`.
-use Rattle.std.specs.Prelude.{Bool, true, false, ◌||◌, map}
+use Rattle.std.specs.Prelude.{Bool, false, ◌||◌, map}
 use Rattle.std.specs.List.{list_any}
-use Rattle.dpj_tree.specs.declared.class.Class.{Class}
 use Rattle.dpj_tree.specs.declared.class.Member.{Member}
 use Rattle.dpj_tree.specs.declared.class.Member.TheVariants as member
 use Rattle.dpj_tree.specs.declared.class.Program.{Program}

@@ -1,5 +1,5 @@
 -- What the targets of assignments and the expressions of expression statements are.
-use Rattle.dpj_tree.specs.Plain.{PlainExpr, expression, ExprForm, int, boolean, null, this, local, field, element, call, create, create_array, unary, binary, PlainStmt, statement, StmtForm, block, declare, assign_local, assign_field, assign_element, perform, choice, choice_else, while_loop, return_nothing, return_value, print, print_text, cobegin, foreach, foreach_parts, atomic, local_regions, PlainStmts, no_stmts, more_stmts}
+use Rattle.dpj_tree.specs.Plain.{PlainExpr, expression, field, element, call, create, PlainStmt, statement, StmtForm, block, declare, assign_local, assign_field, assign_element, perform, choice, choice_else, while_loop, return_nothing, return_value, print, print_text, cobegin, foreach, foreach_parts, atomic, local_regions, PlainStmts, no_stmts, more_stmts}
 
 abbrev pub IsField : PlainExpr → Type 0
 IsField (expression place (field of name)) = Unit {0}

@@ -1,10 +1,13 @@
-use dpj_arrays::{IndexKind, element};
-use dpj_base::{Boxed, Elem, Elems, Head, Items, NoMemory, Plain, Rpl, Ty};
+use dpj_arrays::element;
+use dpj_base::{Boxed, Elem, Elems, Head, Index, Items, NoMemory, Plain, Rpl, Ty};
 use std::alloc::Global;
 use std::test::Fail;
 
-/// The index name of the arrays below.
-const I: u32 = 7;
+/// The own index of an array type, in its region and directly in its element type.
+const OWN: Elem = Elem::At(Index::Own(0));
+
+/// The own index of an array type, one array type further in.
+const OUTER: Elem = Elem::At(Index::Own(1));
 
 fn path(alloc: Global, elem: Elem) -> Result<Rpl, NoMemory> {
     Ok(Rpl {
@@ -20,11 +23,11 @@ fn class_at(alloc: Global, elem: Elem) -> Result<Ty, NoMemory> {
     Ok(Ty::Class { class: 3, args })
 }
 
-fn array_of(alloc: Global, elem: Ty, at: Elem, index: Option<u32>) -> Result<Ty, NoMemory> {
+fn array_of(alloc: Global, elem: Ty, at: Elem) -> Result<Ty, NoMemory> {
     Ok(Ty::Array {
         elem: Boxed::new(alloc, elem)?,
         rpl: path(alloc, at)?,
-        index,
+        named: true,
     })
 }
 
@@ -33,14 +36,16 @@ fn array_of(alloc: Global, elem: Ty, at: Elem, index: Option<u32>) -> Result<Ty,
 #[test]
 fn an_element_at_each_kind_of_index(rt: HostRuntime) -> Result<(), Fail> {
     let alloc = rt.alloc();
-    let array = array_of(alloc, class_at(alloc, Elem::Var(I))?, Elem::Var(I), Some(I))?;
-    let kinds = [
-        (IndexKind::Lit(4), Elem::Lit(4), true),
-        (IndexKind::Var(9), Elem::Var(9), true),
-        (IndexKind::Other, Elem::Any, false),
+    let array = array_of(alloc, class_at(alloc, OWN)?, OWN)?;
+    let four = Index::Literal(4);
+    let nine = Index::Variable(9);
+    let cases = [
+        (Some(four), Elem::At(four), true),
+        (Some(nine), Elem::At(nine), true),
+        (None, Elem::Any, false),
     ];
-    for (index, at, may_write) in kinds {
-        let found = element(alloc, &array, &index)?;
+    for (index, at, may_write) in cases {
+        let found = element(alloc, &array, index)?;
         assert!(rt; found.is_some());
         if let Some(found) = found {
             assert!(rt; found.ty.same(&class_at(alloc, at)?));
@@ -52,20 +57,20 @@ fn an_element_at_each_kind_of_index(rt: HostRuntime) -> Result<(), Fail> {
     Ok(())
 }
 
-/// `C<Root:[i]>[]<Root>[]<Root>#i` is rigid in i. The type of an inner array with the same index name isn't.
+/// `C<Root:[i]>[]<Root>#j[]<Root>#i` is rigid in i, and with `[j]` for `[i]` it isn't.
 #[test]
 fn elements_that_are_arrays(rt: HostRuntime) -> Result<(), Fail> {
     let alloc = rt.alloc();
-    for (name, may_read) in [(None, false), (Some(I), true)] {
-        let inner = array_of(alloc, class_at(alloc, Elem::Var(I))?, Elem::Name(0), name)?;
-        let array = array_of(alloc, inner, Elem::Name(0), Some(I))?;
-        let found = element(alloc, &array, &IndexKind::Other)?;
+    for (index, may_read) in [(OUTER, false), (OWN, true)] {
+        let inner = array_of(alloc, class_at(alloc, index)?, Elem::Name(0))?;
+        let array = array_of(alloc, inner, Elem::Name(0))?;
+        let found = element(alloc, &array, None)?;
         assert!(rt; found.is_some());
         if let Some(found) = found {
             assert_eq!(rt; found.may_read, may_read);
             assert_eq!(rt; found.may_write, may_read);
         }
     }
-    assert!(rt; element(alloc, &Ty::Int, &IndexKind::Lit(0))?.is_none());
+    assert!(rt; element(alloc, &Ty::Int, Some(Index::Literal(0)))?.is_none());
     Ok(())
 }

@@ -1,6 +1,6 @@
 use dpj_base::{
-    Boxed, Bytes, Elem, Elems, Head, Items, Kind, NoMemory, Part, Place, Plain, Refusal, Rpl, Ty,
-    part,
+    Boxed, Bytes, Elem, Elems, Head, Index, Items, Kind, NoMemory, Part, Place, Plain, Refusal,
+    Rpl, Ty, part,
 };
 use std::alloc::Global;
 use std::test::Fail;
@@ -12,14 +12,18 @@ fn path(alloc: Global, head: Head, elems: &[Elem]) -> Result<Rpl, NoMemory> {
     })
 }
 
-/// `C<P0:[7]>[]<Root:n3:[?]>#i9`, with `class` for `C`.
+/// `C<P0:[7]>[]<Root:n3:[?]>#i`, with `class` for `C`.
 fn array_of(alloc: Global, class: u32) -> Result<Ty, NoMemory> {
     let mut args = Items::new(alloc);
-    args.push(path(alloc, Head::Param(0), [Elem::Lit(7)].as_slice())?)?;
+    args.push(path(
+        alloc,
+        Head::Param(0),
+        [Elem::At(Index::Literal(7))].as_slice(),
+    )?)?;
     Ok(Ty::Array {
         elem: Boxed::new(alloc, Ty::Class { class, args })?,
         rpl: path(alloc, Head::Root, [Elem::Name(3), Elem::Any].as_slice())?,
-        index: Some(9),
+        named: true,
     })
 }
 

@@ -1,10 +1,13 @@
-use dpj_base::{Constraint, Elem, Elems, Head, NoMemory, Rpl};
-use dpj_disjoint::{disjoint, dyn_disjoint};
+use dpj_base::{Constraint, Elem, Elems, Head, Index, NoMemory, Rpl};
+use dpj_disjoint::disjoint;
 use dpj_regions::includes;
 use std::alloc::Global;
 use std::test::Fail;
 
-/// Pairs of paths, made by `tests/algebra.py` at the top of the repository, which says how to read them.
+/// Pairs of paths, made by `tests/algebra.py` at the top of the repository: two paths, the number of the constraints in
+/// force, and the answers. R is `Root`, p and q are parameters, A to C names, 0 and 1 literals, u and v index variables,
+/// w the renamed copy of v, l and m local regions. I and D say what the paths mean (the first lies in the second, they
+/// have no region in common), i and d what the rules say of it.
 const TABLE: &str = "\
     RA* RAB 0 -; RAu RAv 0 -; RAv RAw 0 Dd; p RA 0 -; p R* 0 Ii; pA R*A 0 Ii; RA? RA0 0 -; RA*B RA*C 0 Dd; \
     R*AB R*CB 0 Dd; pAB RA 0 Dd; RA pAB 0 Dd; Rl R* 0 D; Rl0 Rm* 0 Dd; Rl* R* 0 D; RlA Rl* 0 Ii; p*A q*B 0 Dd; \
@@ -77,11 +80,11 @@ fn elem(letter: u8) -> Elem {
         b'A' => Elem::Name(0),
         b'B' => Elem::Name(1),
         b'C' => Elem::Name(2),
-        b'0' => Elem::Lit(0),
-        b'1' => Elem::Lit(1),
-        b'u' => Elem::Var(3),
-        b'v' => Elem::Var(5),
-        b'w' => Elem::Var(2147483653),
+        b'0' => Elem::At(Index::Literal(0)),
+        b'1' => Elem::At(Index::Literal(1)),
+        b'u' => Elem::At(Index::Variable(3)),
+        b'v' => Elem::At(Index::Variable(5)),
+        b'w' => Elem::At(Index::Renamed(5)),
         b'l' => Elem::Local(0, 0),
         b'm' => Elem::Local(1, 0),
         b'?' => Elem::Any,
@@ -128,7 +131,7 @@ fn given(alloc: Global, number: &str) -> Result<Vec<Constraint>, NoMemory> {
     Ok(all)
 }
 
-/// What the two tests answer at each pair is what the rules' words say, and never more than the paths mean.
+/// What the two calls answer at each pair is what the rules say, and never more than the paths mean.
 #[test]
 fn pairs_of_paths(rt: HostRuntime) -> Result<(), Fail> {
     let alloc = rt.alloc();
@@ -156,7 +159,7 @@ fn paths_of_a_run(rt: HostRuntime) -> Result<(), Fail> {
     let alloc = rt.alloc();
     let made = Rpl {
         head: Head::Root,
-        elems: Elems::from_slice(alloc, &[Elem::Local(3, 1), Elem::Lit(-2)])?,
+        elems: Elems::from_slice(alloc, &[Elem::Local(3, 1), Elem::At(Index::Literal(-2))])?,
     };
     let any = Rpl {
         head: Head::Root,
@@ -166,7 +169,7 @@ fn paths_of_a_run(rt: HostRuntime) -> Result<(), Fail> {
         head: Head::Root,
         elems: Elems::from_slice(alloc, &[Elem::Local(3, 2), Elem::Star])?,
     };
-    assert!(rt; !dyn_disjoint(&made, &any));
-    assert!(rt; dyn_disjoint(&made, &other));
+    assert!(rt; !disjoint(&made, &any, &[]));
+    assert!(rt; disjoint(&made, &other, &[]));
     Ok(())
 }

@@ -1,11 +1,12 @@
-use dpj_base::{Effect, Elem, Elems, Head, NoMemory, Rpl};
+use dpj_base::Access::{Read, Write};
+use dpj_base::{Access, Effect, Elem, Elems, Head, Index, NoMemory, Rpl};
 use dpj_effects::{EffectSet, covers, interferes};
 use std::alloc::Global;
 use std::test::Fail;
 
-fn effect(alloc: Global, write: bool, atomic: bool, elems: &[Elem]) -> Result<Effect, NoMemory> {
+fn effect(alloc: Global, access: Access, atomic: bool, elems: &[Elem]) -> Result<Effect, NoMemory> {
     Ok(Effect {
-        write,
+        access,
         atomic,
         rpl: Rpl {
             head: Head::Root,
@@ -17,13 +18,13 @@ fn effect(alloc: Global, write: bool, atomic: bool, elems: &[Elem]) -> Result<Ef
 #[test]
 fn two_effects(rt: HostRuntime) -> Result<(), Fail> {
     let alloc = rt.alloc();
-    let index = [Elem::Name(0), Elem::Var(5)];
-    let copy = [Elem::Name(0), Elem::Var(2147483653)];
-    let all = effect(alloc, true, false, &[Elem::Star])?;
-    let read = effect(alloc, false, false, &index)?;
-    let write = effect(alloc, true, false, &index)?;
-    let marked = effect(alloc, true, true, &index)?;
-    let renamed = effect(alloc, true, false, &copy)?;
+    let index = [Elem::Name(0), Elem::At(Index::Variable(5))];
+    let copy = [Elem::Name(0), Elem::At(Index::Renamed(5))];
+    let all = effect(alloc, Write, false, &[Elem::Star])?;
+    let read = effect(alloc, Read, false, &index)?;
+    let write = effect(alloc, Write, false, &index)?;
+    let marked = effect(alloc, Write, true, &index)?;
+    let renamed = effect(alloc, Write, false, &copy)?;
     assert!(rt; covers(&all, &marked));
     assert!(rt; covers(&write, &read));
     assert!(rt; !covers(&read, &write));
@@ -39,15 +40,14 @@ fn two_effects(rt: HostRuntime) -> Result<(), Fail> {
 fn a_set(rt: HostRuntime) -> Result<(), Fail> {
     let alloc = rt.alloc();
     let mut set = EffectSet::new(alloc);
-    set.add(effect(alloc, true, true, &[Elem::Name(0)])?)?;
-    set.add(effect(alloc, true, false, &[Elem::Name(0)])?)?;
-    set.add(effect(alloc, true, true, &[Elem::Name(0)])?)?;
+    set.add(effect(alloc, Write, true, &[Elem::Name(0)])?)?;
+    set.add(effect(alloc, Write, false, &[Elem::Name(0)])?)?;
+    set.add(effect(alloc, Write, true, &[Elem::Name(0)])?)?;
     assert_eq!(rt; set.len(), 2);
     let marked = set.marked(alloc)?;
     assert_eq!(rt; marked.len(), 1);
     assert!(rt; set.set_covers(&marked));
     assert!(rt; !marked.set_covers(&set));
-    assert_eq!(rt; set.unmarked(alloc)?.len(), 1);
     Ok(())
 }
 
@@ -58,7 +58,7 @@ fn many_effects(rt: HostRuntime) -> Result<(), Fail> {
     let mut set = EffectSet::new(alloc);
     for _ in 0..2 {
         for k in 0..20000u32 {
-            set.add(effect(alloc, true, false, &[Elem::Name(k)])?)?;
+            set.add(effect(alloc, Write, false, &[Elem::Name(k)])?)?;
         }
     }
     assert_eq!(rt; set.len(), 20000);

@@ -1,5 +1,5 @@
-//! The tests of the small types, of the algebra of regions, effects, types, locals and array parts, and of names in scope. Inclusion and disjointness
-//! are tried on paths whose answers come from outside.
+//! The tests of the small types, of the algebra of regions, effects, types, locals and array parts, and of names in
+//! scope. Inclusion and disjointness are tried on paths whose answers come from outside.
 //!
 //! They stand here and not in their crates, since a crate with tests is proved twice. They show too that memory
 //! suffices, which no contract can say.
@@ -17,8 +17,6 @@ mod effects;
 mod interfere;
 #[cfg(test)]
 mod locals;
-#[cfg(test)]
-mod nd;
 #[cfg(test)]
 mod parts;
 #[cfg(test)]

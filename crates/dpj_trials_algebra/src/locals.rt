@@ -46,16 +46,11 @@ fn a_local_is_assigned_beside_its_uses(rt: HostRuntime) -> Result<(), Fail> {
 }
 
 fn stmt(kind: StmtKind) -> Stmt {
-    Stmt {
-        node: 0,
-        place: PLACE,
-        kind,
-    }
+    Stmt { place: PLACE, kind }
 }
 
 fn local(name: u32) -> Expr {
     Expr {
-        node: 0,
         place: PLACE,
         kind: ExprKind::Local(name),
     }
@@ -76,7 +71,6 @@ fn assign(target: u32, value: u32) -> Stmt {
 /// `int name = value;`
 fn declare(alloc: Global, name: u32, value: u32) -> Stmt {
     let ty = TypeTree {
-        node: 0,
         place: PLACE,
         base: BaseTree::Int,
         suffixes: Items::new(alloc),

@@ -1,4 +1,4 @@
-use dpj_base::{Effect, Elem, Elems, Head, NoMemory, PartUse, Rpl};
+use dpj_base::{Access, Effect, Elem, Elems, Head, NoMemory, PartUse, Rpl};
 use dpj_effects::EffectSet;
 use dpj_parts::check_parts;
 use std::alloc::Global;
@@ -12,23 +12,23 @@ fn region(alloc: Global, name: u32) -> Result<Rpl, NoMemory> {
 }
 
 /// Whether a body passes that writes through its part of an array in region 1, through a part of another
-/// construct in the region `other`, and has an effect on the region `beside`.
-fn passes(alloc: Global, other: u32, beside: u32, write: bool) -> Result<bool, Fail> {
+/// construct in the region `other`, and has this access to the region `beside`.
+fn passes(alloc: Global, other: u32, beside: u32, access: Access) -> Result<bool, Fail> {
     let uses = vec![in alloc;
         PartUse {
             view: 9,
             rpl: region(alloc, 1)?,
-            write: true
+            access: Access::Write
         },
         PartUse {
             view: 8,
             rpl: region(alloc, other)?,
-            write: false
+            access: Access::Read
         },
     ]?;
     let mut body = EffectSet::new(alloc);
     body.add(Effect {
-        write,
+        access,
         atomic: false,
         rpl: region(alloc, beside)?,
     })?;
@@ -39,13 +39,13 @@ fn passes(alloc: Global, other: u32, beside: u32, write: bool) -> Result<bool, F
 fn a_part_is_used_alone(rt: HostRuntime) -> Result<(), Fail> {
     let alloc = rt.alloc();
     let told = [
-        (2, 3, false, true),
-        (2, 1, false, false),
-        (1, 3, false, false),
-        (2, 3, true, false),
+        (2, 3, Access::Read, true),
+        (2, 1, Access::Read, false),
+        (1, 3, Access::Read, false),
+        (2, 3, Access::Write, false),
     ];
-    for (other, beside, write, passed) in told {
-        assert_eq!(rt; passes(alloc, other, beside, write)?, passed);
+    for (other, beside, access, passed) in told {
+        assert_eq!(rt; passes(alloc, other, beside, access)?, passed);
     }
     Ok(())
 }

@@ -1,4 +1,4 @@
-use dpj_base::{Elem, Elems, Head, NoMemory, Plain, Rpl};
+use dpj_base::{Elem, Elems, Head, Index, NoMemory, Plain, Rpl};
 use dpj_regions::{generalise, includes, is_full, subst};
 use std::alloc::Global;
 use std::test::Fail;
@@ -37,9 +37,21 @@ fn an_argument_put_in(rt: HostRuntime) -> Result<(), Fail> {
 #[test]
 fn a_variable_made_general(rt: HostRuntime) -> Result<(), Fail> {
     let alloc = rt.alloc();
-    let rpl = path(alloc, Head::Root, &[Elem::Var(5), A, Elem::Var(6)])?;
+    let rpl = path(
+        alloc,
+        Head::Root,
+        &[
+            Elem::At(Index::Variable(5)),
+            A,
+            Elem::At(Index::Variable(6)),
+        ],
+    )?;
     let general = generalise(alloc, &rpl, 5)?;
-    let wanted = path(alloc, Head::Root, &[Elem::Any, A, Elem::Var(6)])?;
+    let wanted = path(
+        alloc,
+        Head::Root,
+        &[Elem::Any, A, Elem::At(Index::Variable(6))],
+    )?;
     assert!(rt; general.same(&wanted));
     assert!(rt; includes(&general, &rpl));
     Ok(())

@@ -1,4 +1,6 @@
-use dpj_base::{Constraint, Elem, Elems, Head, Items, Kind, NoMemory, Place, Refusal, Rpl, Stop};
+use dpj_base::{
+    Constraint, Elem, Elems, Head, Index, Items, Kind, NoMemory, Place, Refusal, Rpl, Stop,
+};
 use dpj_headers::{Faults, ParamRow};
 use dpj_resolve::{IndexNames, ReadArgs, Scoped, constraints_hold, fit_args};
 use dpj_tree::{Named, Suffix};
@@ -40,7 +42,7 @@ fn the_last_of_a_name_is_meant(rt: HostRuntime) -> Result<(), Fail> {
     Ok(())
 }
 
-/// Names 1, 2 and 1 for the suffixes of node 5, and 2 for the array that is made.
+/// Index names 1, 2 and 1 of the suffixes, and 2 of the array that is made.
 #[test]
 fn the_innermost_index_name_is_meant(rt: HostRuntime) -> Result<(), Fail> {
     let mut suffixes = Items::new(rt.alloc());
@@ -50,20 +52,19 @@ fn the_innermost_index_name_is_meant(rt: HostRuntime) -> Result<(), Fail> {
             index: named(name),
         })?;
     }
-    for (inside, name, number) in [
-        (0, 1, Some(2097157)),
-        (1, 1, Some(6291461)),
-        (0, 2, Some(4194309)),
-        (2, 2, Some(8388613)),
+    for (inside, name, index) in [
+        (0, 1, Some(Index::Own(0))),
+        (1, 1, Some(Index::Own(1))),
+        (0, 2, Some(Index::Own(1))),
+        (2, 2, Some(Index::Own(1))),
         (0, 3, None),
     ] {
         let around = IndexNames {
-            node: 5,
             suffixes: suffixes.as_slice(),
             inside,
             made: named(2),
         };
-        assert_eq!(rt; around.find(name), number);
+        assert_eq!(rt; around.find(name), index);
     }
     Ok(())
 }

@@ -1,6 +1,7 @@
-use dpj_base::{Boxed, Elem, Elems, Head, Items, NoMemory, Plain, Rpl, Super, Ty};
+use dpj_base::{Boxed, Elem, Elems, Head, Index, Items, NoMemory, Plain, Rpl, Super, Ty};
 use dpj_types::{
-    is_ordered, mentions, mentions_index, rigid, rigid_in_index, subst_type, subtype, type_at,
+    is_ordered, mentions, mentions_index, rigid, rigid_in_index, same_type, subst_type, subtype,
+    type_at,
 };
 use std::alloc::Global;
 use std::test::Fail;
@@ -9,10 +10,11 @@ const A: Elem = Elem::Name(0);
 
 const B: Elem = Elem::Name(1);
 
-/// The index variables that the arrays below have for their index names.
-const I: Elem = Elem::Var(7);
+/// The own index of an array type, in its region and directly in its element type.
+const OWN: Elem = Elem::At(Index::Own(0));
 
-const J: Elem = Elem::Var(9);
+/// The own index of an array type, one array type further in.
+const OUTER: Elem = Elem::At(Index::Own(1));
 
 fn path(alloc: Global, head: Head, elems: &[Elem]) -> Result<Rpl, NoMemory> {
     Ok(Rpl {
@@ -36,11 +38,11 @@ fn pair(alloc: Global, first: &[Elem], second: &[Elem]) -> Result<Ty, NoMemory> 
     Ok(Ty::Class { class: 1, args })
 }
 
-fn array(alloc: Global, elem: Ty, at: &[Elem], index: Option<u32>) -> Result<Ty, NoMemory> {
+fn array(alloc: Global, elem: Ty, at: &[Elem], named: bool) -> Result<Ty, NoMemory> {
     Ok(Ty::Array {
         elem: Boxed::new(alloc, elem)?,
         rpl: path(alloc, Head::Root, at)?,
-        index,
+        named,
     })
 }
 
@@ -88,39 +90,67 @@ fn classes_lie_below_their_superclasses(rt: HostRuntime) -> Result<(), Fail> {
     Ok(())
 }
 
-/// `0<Root:[i]>[]<Root:A:[i]>#i` against `0<Root:elem>[]<Root:at>#j`.
+/// `0<Root:[i]>[]<Root:A:[i]>#i` against `0<Root:elem>[]<Root:at>#i`.
 #[test]
 fn arrays_lie_below_wider_ones(rt: HostRuntime) -> Result<(), Fail> {
     let alloc = rt.alloc();
-    let elem = class(alloc, 0, Head::Root, &[I])?;
-    let lower = array(alloc, elem, &[A, I], Some(7))?;
-    let asked = [
-        (J, [A, J], Some(9), true),
-        (J, [Elem::Star, J], Some(9), true),
-        (J, [A, Elem::Any], Some(9), true),
-        (Elem::Any, [A, J], Some(9), false),
-        (J, [A, J], None, false),
-        (I, [A, I], Some(9), false),
+    let lower = array(alloc, class(alloc, 0, Head::Root, &[OWN])?, &[A, OWN], true)?;
+    let variable = Elem::At(Index::Variable(7));
+    let cases = [
+        (OWN, [A, OWN], true),
+        (OWN, [Elem::Star, OWN], true),
+        (OWN, [A, Elem::Any], true),
+        (Elem::Any, [A, OWN], false),
+        (OWN, [B, OWN], false),
+        (variable, [A, OWN], false),
+        (OWN, [A, variable], false),
     ];
-    for (elem, at, index, wanted) in asked {
+    for (elem, at, wanted) in cases {
         let elem = class(alloc, 0, Head::Root, &[elem])?;
-        let upper = array(alloc, elem, at.as_slice(), index)?;
+        let upper = array(alloc, elem, at.as_slice(), true)?;
         assert_eq!(rt; subtype(alloc, &lower, &upper, &[])?, wanted);
     }
     Ok(())
 }
 
-/// `0<P:[i]>[]<Root:[i]>`: what it mentions, and with `Root:A` for P and 5 for the index.
+/// It doesn't matter whether an index name that is mentioned nowhere is written.
+#[test]
+fn types_are_the_same_but_for_names_that_are_not_mentioned(rt: HostRuntime) -> Result<(), Fail> {
+    let alloc = rt.alloc();
+    let named = array(alloc, Ty::Int, &[A], true)?;
+    let nameless = array(alloc, Ty::Int, &[A], false)?;
+    assert!(rt; same_type(&named, &nameless) && subtype(alloc, &named, &nameless, &[])?);
+    assert!(rt; !same_type(&named, &array(alloc, Ty::Int, &[B], true)?));
+    assert!(rt; !same_type(&named, &array(alloc, Ty::Bool, &[A], true)?));
+    assert!(rt; !same_type(&named, &Ty::Int));
+    Ok(())
+}
+
+/// `0<P:[i]>[]<Root:[i]>#j`, where i is the index name of an array type around: what it mentions, and with
+/// `Root:A` for P and 5 for i.
 #[test]
 fn what_types_mention_is_put_in(rt: HostRuntime) -> Result<(), Fail> {
     let alloc = rt.alloc();
-    let t = array(alloc, class(alloc, 0, Head::Param(0), &[I])?, &[I], None)?;
+    let t = array(
+        alloc,
+        class(alloc, 0, Head::Param(0), &[OUTER])?,
+        &[OUTER],
+        true,
+    )?;
     assert!(rt; mentions(&t, 0) && !mentions(&t, 1) && rigid(&t, 0));
-    assert!(rt; mentions_index(&t, 7) && !mentions_index(&t, 9) && rigid_in_index(&t, 7));
+    assert!(rt; mentions_index(&t) && rigid_in_index(&t));
+    let inner = array(
+        alloc,
+        class(alloc, 0, Head::Param(0), &[OWN])?,
+        &[OWN],
+        true,
+    )?;
+    assert!(rt; !mentions_index(&inner) && !rigid_in_index(&inner));
     let arg = [path(alloc, Head::Root, &[A])?];
-    let five = Elem::Lit(5);
-    let made = type_at(alloc, &subst_type(alloc, &t, arg.as_slice())?, 7, five)?;
+    let five = Elem::At(Index::Literal(5));
+    let made = type_at(alloc, &subst_type(alloc, &t, arg.as_slice())?, five)?;
     let elem = class(alloc, 0, Head::Root, &[A, five])?;
-    assert!(rt; made.same(&array(alloc, elem, &[five], None)?));
+    assert!(rt; made.same(&array(alloc, elem, &[five], true)?));
+    assert!(rt; type_at(alloc, &inner, five)?.same(&inner));
     Ok(())
 }

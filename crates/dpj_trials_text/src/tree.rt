@@ -7,25 +7,19 @@ use std::test::Fail;
 
 const PLACE: Place = Place { line: 1, col: 1 };
 
-fn stmt(node: u32, kind: StmtKind) -> Stmt {
-    Stmt {
-        node,
-        place: PLACE,
-        kind,
-    }
+fn stmt(kind: StmtKind) -> Stmt {
+    Stmt { place: PLACE, kind }
 }
 
 /// `class Main { Main() { while (true) { KIND } } }` without its names.
 fn program_of(alloc: Global, kind: StmtKind) -> Result<Program, NoMemory> {
     let test = Expr {
-        node: 0,
         place: PLACE,
         kind: ExprKind::Bool(true),
     };
-    let inner = Boxed::new(alloc, stmt(1, kind))?;
-    let turn = stmt(2, StmtKind::While { test, body: inner });
+    let inner = Boxed::new(alloc, stmt(kind))?;
+    let turn = stmt(StmtKind::While { test, body: inner });
     let method = Method {
-        node: 3,
         place: PLACE,
         name: 0,
         params: no_params(alloc),
@@ -35,7 +29,6 @@ fn program_of(alloc: Global, kind: StmtKind) -> Result<Program, NoMemory> {
         body: Items::from_vec(vec![in alloc; turn]?),
     };
     let class = Class {
-        node: 4,
         place: PLACE,
         name: 0,
         params: no_params(alloc),

@@ -6,7 +6,7 @@ use Rattle.dpj_base.specs.declared.elems.Index.TheVariants.{Literal, Variable}
 use Rattle.dpj_base.specs.declared.place.Place.{Place}
 use Rattle.dpj_base.specs.declared.region.Rpl.{Rpl}
 use Rattle.dpj_base.specs.Regions.{is_any, substituted, fully_specified}
-use Rattle.dpj_base.specs.Types.{PlainType, int, boolean, null, class, array, type_with, path_at, type_at, rigid_in_index}
+use Rattle.dpj_base.specs.Types.{PlainType, int, boolean, void, null, class, array, type_with, path_at, type_at, rigid_in_index}
 use Rattle.dpj_typed.specs.declared.expr.BinaryOp.{BinaryOp}
 use Rattle.dpj_typed.specs.declared.expr.BinaryOp.TheVariants as op
 use Rattle.dpj_typed.specs.declared.expr.UnaryOp.TheVariants.{Negate, Not}
@@ -34,16 +34,29 @@ abbrev pub IsReference : PlainType → Type 0
 IsReference (class c args) = Unit {0}
 IsReference (array t a named) = Unit {0}
 IsReference null = Unit {0}
-IsReference _ = ⊥
+IsReference int = ⊥
+IsReference boolean = ⊥
+IsReference void = ⊥
+
+abbrev pub BothInts : PlainType → PlainType → Type 0
+BothInts t u = (t ≡ int) × (u ≡ int)
 
 -- what can be told from each other
 abbrev pub Comparable : PlainType → PlainType → Type 0
-Comparable t u = ((t ≡ int) × (u ≡ int)) ⊎ ((t ≡ boolean) × (u ≡ boolean)) ⊎ (IsReference t × IsReference u)
+Comparable t u = BothInts t u ⊎ ((t ≡ boolean) × (u ≡ boolean)) ⊎ (IsReference t × IsReference u)
 
 abbrev pub Operands : BinaryOp → PlainType → PlainType → Type 0
 Operands op.Equal t u = Comparable t u
 Operands op.NotEqual t u = Comparable t u
-Operands _ t u = (t ≡ int) × (u ≡ int)
+Operands op.Add t u = BothInts t u
+Operands op.Subtract t u = BothInts t u
+Operands op.Multiply t u = BothInts t u
+Operands op.Divide t u = BothInts t u
+Operands op.Remainder t u = BothInts t u
+Operands op.Less t u = BothInts t u
+Operands op.AtMost t u = BothInts t u
+Operands op.Greater t u = BothInts t u
+Operands op.AtLeast t u = BothInts t u
 
 abbrev pub result_of : BinaryOp → PlainType
 result_of op.Add = int
@@ -51,7 +64,12 @@ result_of op.Subtract = int
 result_of op.Multiply = int
 result_of op.Divide = int
 result_of op.Remainder = int
-result_of _ = boolean
+result_of op.Equal = boolean
+result_of op.NotEqual = boolean
+result_of op.Less = boolean
+result_of op.AtMost = boolean
+result_of op.Greater = boolean
+result_of op.AtLeast = boolean
 
 -- where nothing may reach an nd construct, no member does that the call may reach, by any class below
 abbrev pub StaysCalm : PlainProgram → Scope → ℕ → ℕ → Type 0

@@ -1,5 +1,5 @@
 -- Region arguments that lie in others, put into the same path, and class types that lie in others.
-use Rattle.std.proofs.Common.{◌≡◌, ◌==◌, ℕ, zero, suc, true, ◌&&◌, List, [], ◌∷◌, ◌++◌, get_or, map, refl, ap, ◌∙◌, subst}
+use Rattle.std.proofs.Common.{◌≡◌, ◌==◌, ℕ, zero, suc, true, List, [], ◌∷◌, ◌++◌, get_or, map, refl, ◌∙◌}
 use Rattle.std.proofs.lemmas.Bool.{and_parts, and_from, false≢true, eqb-true, eq-eqb}
 use Rattle.dpj_base.specs.declared.elems.Elem.{Elem}
 use Rattle.dpj_base.specs.declared.region.Head.{Head}
@@ -42,7 +42,8 @@ substituted-within : (rs ss : List Rpl) → all_within rs ss ≡ true → (a : R
 unfolding substituted
 substituted-within rs ss w a = put-within rs ss w a.head a.elems
 
-all_substituted : (rs ss : List Rpl) → all_within rs ss ≡ true → (paths : List Rpl) → all_within (map (substituted rs) paths) (map (substituted ss) paths) ≡ true
+all_substituted : (rs ss : List Rpl) → all_within rs ss ≡ true → (paths : List Rpl) →
+    all_within (map (substituted rs) paths) (map (substituted ss) paths) ≡ true
 all_substituted rs ss w [] = refl
 all_substituted rs ss w (a ∷ paths) = and_from _ _ (substituted-within rs ss w a) (all_substituted rs ss w paths)
 
@@ -80,7 +81,8 @@ class_of-within (class c rs) b h = (c, rs, refl)
 class_of-within a b h = absurd (false≢true h)
 
 -- a superclass with arguments put in that lie in others
-pub parent-within : (rs ss : List Rpl) → all_within rs ss ≡ true → (t : PlainType) → IsClass (type_with ss t) → class_within (type_with rs t) (type_with ss t) ≡ true
+pub parent-within : (rs ss : List Rpl) → all_within rs ss ≡ true → (t : PlainType) → IsClass (type_with ss t) →
+    class_within (type_with rs t) (type_with ss t) ≡ true
 parent-within rs ss w (class c paths) is = and_from _ _ (eq-eqb c c refl) (all_substituted rs ss w paths)
 parent-within rs ss w int is = let e = is.2 in absurd (cc)
 parent-within rs ss w boolean is = let e = is.2 in absurd (cc)

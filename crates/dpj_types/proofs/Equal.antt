@@ -10,7 +10,9 @@ use Rattle.dpj_regions.proofs.Same.{same_rpl-is, same_rpl-from}
 use Rattle.dpj_types.specs.Same.{same_paths, same_type}
 
 -- lists of different lengths fail a test of their members side by side
-pub unequal : {A B : Type 0} (F : List A → List B → Bool) (p : A → B → Bool) → ((y : B) (b : List B) → F [] (y ∷ b) ≡ false) → ((x : A) (a : List A) → F (x ∷ a) [] ≡ false) → ((x : A) (y : B) (a : List A) (b : List B) → F (x ∷ a) (y ∷ b) ≡ (p x y && F a b)) → (a : List A) (b : List B) → (length a ≡ length b → ⊥) → F a b ≡ false
+pub unequal : {A B : Type 0} (F : List A → List B → Bool) (p : A → B → Bool) → ((y : B) (b : List B) → F [] (y ∷ b) ≡ false) →
+    ((x : A) (a : List A) → F (x ∷ a) [] ≡ false) → ((x : A) (y : B) (a : List A) (b : List B) → F (x ∷ a) (y ∷ b) ≡ (p x y && F a b)) →
+    (a : List A) (b : List B) → (length a ≡ length b → ⊥) → F a b ≡ false
 unequal F p l r s [] [] ne = absurd (ne refl)
 unequal F p l r s [] (y ∷ b) ne = l y b
 unequal F p l r s (x ∷ a) [] ne = r x a

@@ -1,5 +1,6 @@
 -- Subtyping is an order.
-use Rattle.std.proofs.Common.{◌≡◌, ◌==◌, ℕ, zero, suc, ◌<◌, ◌≤◌, Bool, true, false, ◌||◌, List, [], ◌∷◌, length, Option, Some, None, option_map, refl, sym, ap, ◌∙◌, subst, ⊎_elim, arith}
+use Rattle.std.proofs.Common.{◌≡◌, ◌==◌, ℕ, zero, suc, ◌<◌, ◌≤◌, Bool, true, false, List, [], ◌∷◌, length, Option, Some, None, option_map, refl, sym, ap}
+use Rattle.std.proofs.Common.{◌∙◌, subst, ⊎_elim, arith}
 use Rattle.std.proofs.lemmas.Bool.{and_parts, or_cases, or_right, false≢true, eqb-true, cases_lt}
 use Rattle.std.specs.Option.{option_and_then, option_map_or}
 use Rattle.dpj_base.specs.declared.region.Rpl.{Rpl}
@@ -33,7 +34,8 @@ reached supers (suc n) a b h =
     (suc r.0, r.1, up c.1 r.2, r.3))
     (or_cases (class_within a b) _ h)
 
-from_reached : (supers : List Super) {a t : PlainType} {k : ℕ} → Up supers a k t → (b : PlainType) → class_within t b ≡ true → (n : ℕ) → k ≤ n → below_class supers n a b ≡ true
+from_reached : (supers : List Super) {a t : PlainType} {k : ℕ} → Up supers a k t → (b : PlainType) → class_within t b ≡ true → (n : ℕ) → k ≤ n →
+    below_class supers n a b ≡ true
 from_reached supers (here {t = a}) b h n le = below-here supers n a b h
 from_reached supers (up e r) b h zero le = absurd (omega arith)
 from_reached supers (up {t = a} e r) b h (suc n) le =
@@ -81,7 +83,8 @@ mapped : (ss : List Rpl) (o : Option PlainType) (q : PlainType) → option_map (
 mapped ss None q e = absurd (cc)
 mapped ss (Some t) q e = (t, refl, cc)
 
-parent-carried : (supers : List Super) (u v q : PlainType) → parent_of supers v ≡ Some q → class_within u v ≡ true → IsClass q → (p : PlainType) × (parent_of supers u ≡ Some p) × (class_within p q ≡ true)
+parent-carried : (supers : List Super) (u v q : PlainType) → parent_of supers v ≡ Some q → class_within u v ≡ true → IsClass q →
+    (p : PlainType) × (parent_of supers u ≡ Some p) × (class_within p q ≡ true)
 parent-carried supers (class c rs) (class d ss) q e h is =
     let w = and_parts (c == d) _ h in
     let m = mapped ss (superclass supers d) q e in (
@@ -91,14 +94,16 @@ parent-carried supers (class c rs) (class d ss) q e h is =
     )
 parent-carried supers u v q e h is = absurd (false≢true h)
 
-carried : (supers : List Super) {v t : PlainType} {n : ℕ} → Up supers v n t → (u b : PlainType) → class_within u v ≡ true → class_within t b ≡ true → (x : PlainType) × Up supers u n x × (class_within x b ≡ true)
+carried : (supers : List Super) {v t : PlainType} {n : ℕ} → Up supers v n t → (u b : PlainType) → class_within u v ≡ true → class_within t b ≡ true →
+    (x : PlainType) × Up supers u n x × (class_within x b ≡ true)
 carried supers (here {t = v}) u b h k = (u, here, class_within-trans u v b h k)
 carried supers (up {t = v} {p = q} e r) u b h k =
     let m = parent-carried supers u v q e h (is_class supers r b k) in
     let x = carried supers r m.0 b m.2 k in
     (x.0, up m.1 x.1, x.2)
 
-below-trans : (supers : List Super) → NoCycle supers → (a b c : PlainType) → below_class supers (length supers) a b ≡ true → below_class supers (length supers) b c ≡ true → below_class supers (length supers) a c ≡ true
+below-trans : (supers : List Super) → NoCycle supers → (a b c : PlainType) → below_class supers (length supers) a b ≡ true →
+    below_class supers (length supers) b c ≡ true → below_class supers (length supers) a c ≡ true
 below-trans supers free a b c h k =
     let x = reached supers (length supers) a b h in
     let y = reached supers (length supers) b c k in
@@ -130,7 +135,8 @@ subtype-trans supers free (class c rs) (class d ss) t h k = absurd k
 subtype-trans supers free (array s a i) (array t b j) c h k = absurd k
 subtype-trans supers free a b c h k = absurd h
 
-pub subtype-parent : (supers : List Super) (c d : ℕ) (args params : List Rpl) → parent_of supers (class c args) ≡ Some (class d params) → Subtype supers (class c args) (class d params)
+pub subtype-parent : (supers : List Super) (c d : ℕ) (args params : List Rpl) → parent_of supers (class c args) ≡ Some (class d params) →
+    Subtype supers (class c args) (class d params)
 subtype-parent [] c d args params e = absurd (cc)
 subtype-parent (row ∷ rows) c d args params e =
     let supers = row ∷ rows in

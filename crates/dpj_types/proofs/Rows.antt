@@ -1,5 +1,6 @@
 -- The rows of superclasses, in the order of their class numbers.
-use Rattle.std.proofs.Common.{◌≡◌, ◌==◌, ℕ, zero, suc, ◌+◌, ◌-◌, ◌<◌, ◌≤◌, List, [], ◌∷◌, length, get_or, Some, None, Ok, Err, refl, sym, ◌∙◌, subst, ⊎_elim, arith}
+use Rattle.std.proofs.Common.{◌≡◌, ◌==◌, ℕ, zero, suc, ◌+◌, ◌-◌, ◌<◌, ◌≤◌, List, [], ◌∷◌, length, get_or, Some, None, Ok, Err, refl, sym, ◌∙◌, subst, ⊎_elim}
+use Rattle.std.proofs.Common.{arith}
 use Rattle.std.proofs.lemmas.Bool.{eq-eqb, ne_eqb, cond-false, cases_eq, cases_lt}
 use Rattle.std.specs.List.{AllAdjacentBelow}
 use Rattle.std.specs.List.Sorted.{IsBinarySearchResult, IsNonDecreasingBy}
@@ -14,7 +15,8 @@ use Rattle.dpj_base.specs.Types.{plain_type, Ordered, superclass}
 abbrev pub Rising : List Super → ℕ → Type 0
 Rising supers high = AllAdjacentBelow (λ row next. row.class < next.class) supers high
 
-far : (supers : List Super) (i n : ℕ) (d : Super) → Rising supers (length supers) → i + suc n < length supers → (get_or supers i d).class < (get_or supers (i + suc n) d).class
+far : (supers : List Super) (i n : ℕ) (d : Super) → Rising supers (length supers) → i + suc n < length supers →
+    (get_or supers i d).class < (get_or supers (i + suc n) d).class
 far supers i zero d up lt = subst (λ k. (get_or supers i d).class < (get_or supers k d).class) {x = i + 1} (omega arith) (up i d (omega arith))
 far supers i (suc n) d up lt =
     let before = far supers i n d up (omega arith) in
@@ -40,7 +42,8 @@ comparisons_rise supers ordered c i j d le lt =
     (λ ne. index_rises (get_or supers i d).class (get_or supers j d).class c (omega (arith, ordered i j d (omega arith) lt)))
     (cases_eq i j)
 
-pub row_found : (supers : List Super) → Ordered supers → (c at : ℕ) (d : Super) → at < length supers → IsBinarySearchResult (λ row. nat_cmp row.class c) supers (Ok at) → superclass supers c ≡ Some (plain_type (get_or supers at d).parent)
+pub row_found : (supers : List Super) → Ordered supers → (c at : ℕ) (d : Super) → at < length supers →
+    IsBinarySearchResult (λ row. nat_cmp row.class c) supers (Ok at) → superclass supers c ≡ Some (plain_type (get_or supers at d).parent)
 row_found supers ordered c at d lt found =
     let is : (get_or supers at d).class ≡ c = ranked _ c _ (sym (found d)) in
     found_at
@@ -57,7 +60,8 @@ row_found supers ordered c at d lt found =
     (λ k below. ne_eqb _ c (λ e. absurd (omega (arith, ordered k at d below lt))))
     (eq-eqb _ c is)
 
-pub row_missing : (supers : List Super) → Ordered supers → (c at : ℕ) → at ≤ length supers → IsBinarySearchResult (λ row. nat_cmp row.class c) supers (Err at) → superclass supers c ≡ None
+pub row_missing : (supers : List Super) → Ordered supers → (c at : ℕ) → at ≤ length supers →
+    IsBinarySearchResult (λ row. nat_cmp row.class c) supers (Err at) → superclass supers c ≡ None
 row_missing supers ordered c at within parted =
     no_row supers c (λ k d lt e.
     let parts = parted (comparisons_rise supers ordered c) in

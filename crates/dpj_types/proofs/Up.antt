@@ -1,5 +1,5 @@
 -- The way up from a class type to its superclasses.
-use Rattle.std.proofs.Common.{◌≡◌, ℕ, zero, suc, Bool, true, false, ◌||◌, List, Option, Some, None, refl, sym, ap, ◌∙◌, subst, arith}
+use Rattle.std.proofs.Common.{◌≡◌, ℕ, zero, suc, true, false, ◌||◌, List, Some, None, ap, ◌∙◌}
 use Rattle.std.proofs.lemmas.Bool.{or_left, or_from}
 use Rattle.std.specs.Option.{option_map_or}
 use Rattle.dpj_base.specs.declared.ty.Super.{Super}
@@ -16,5 +16,8 @@ below-top supers zero a b h e = h
 below-top supers (suc n) a b h e = or_from _ _ h (ap (λ o. option_map_or (λ t. below_class supers n t b) o false) e)
 
 -- it doesn't, and its superclass goes on
-pub below-up : (supers : List Super) (n : ℕ) (a b t : PlainType) → class_within a b ≡ false → parent_of supers a ≡ Some t → below_class supers (suc n) a b ≡ below_class supers n t b
-below-up supers n a b t h e = ap (λ z. z || option_map_or (λ t. below_class supers n t b) (parent_of supers a) false) h ∙ ap (λ o. option_map_or (λ t. below_class supers n t b) o false) e
+pub below-up : (supers : List Super) (n : ℕ) (a b t : PlainType) → class_within a b ≡ false → parent_of supers a ≡ Some t →
+    below_class supers (suc n) a b ≡ below_class supers n t b
+below-up supers n a b t h e =
+    ap (λ z. z || option_map_or (λ t. below_class supers n t b) (parent_of supers a) false) h
+    ∙ ap (λ o. option_map_or (λ t. below_class supers n t b) o false) e

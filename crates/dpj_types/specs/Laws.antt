@@ -15,4 +15,5 @@ SubtypingIsTransitive = (supers : List Super) → NoCycle supers → (a b c : Pl
 
 -- a class type is a subtype of its superclass with its region arguments put in
 abbrev pub ClassIsBelowSuperclass : Type 0
-ClassIsBelowSuperclass = (supers : List Super) (c d : ℕ) (args params : List Rpl) → parent_of supers (class c args) ≡ Some (class d params) → Subtype supers (class c args) (class d params)
+ClassIsBelowSuperclass = (supers : List Super) (c d : ℕ) (args params : List Rpl) → parent_of supers (class c args) ≡ Some (class d params) →
+    Subtype supers (class c args) (class d params)

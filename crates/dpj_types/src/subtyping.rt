@@ -7,7 +7,7 @@ use dpj_base::{NoMemory, Plain, Rpl, Super, Ty};
 use dpj_regions::includes;
 use std::alloc::Global;
 
-/// Whether a value of the first type may stand where one of the second is asked for.
+/// Whether a value of the first type may be used where one of the second is asked for.
 pub fn subtype(alloc: Global, a: &Ty, b: &Ty, supers: &[Super]) -> Result<bool, NoMemory>
     requires { Ordered supers.now }
     ensures { IfOk result (λ yes. IsTrue yes ↔ Subtype supers.now (plain_type a.now) (plain_type b.now)) }

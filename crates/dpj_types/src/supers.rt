@@ -5,7 +5,7 @@ use crate::put_in::subst_type;
 use dpj_base::{NoMemory, Super, Ty};
 use std::alloc::Global;
 
-/// Whether the rows stand in the order of their class numbers, one for a class at most.
+/// Whether the rows are in the order of their class numbers, one for a class at most.
 pub fn is_ordered(supers: &[Super]) -> bool
     ensures { IsTrue result ↔ Ordered supers.now }
 {

@@ -1,474 +1,649 @@
-use Rattle.std.proofs.Common.{◌≡◌, ◌∙◌, ◌&&◌, Bool, true, false, not, map, refl, sym, ap, subst, ◌||◌}
+use Rattle.std.proofs.Common.{◌≡◌, ◌∙◌, ◌+◌, ◌&&◌, ◌||◌, Bool, true, false, not, map, refl, sym, ap, subst}
 use Rattle.std.proofs.lemmas.List.{drop_all}
 use Rattle.std.specs.Option.{option_copied}
+use Rattle.dpj_tree.specs.Nd.{holds_nd, some_holds_nd}
 use Rattle.dpj_tree.specs.Plain.{plain_expr, plain_stmt, plain_stmts, return_form}
 use Rattle.dpj_tree.specs.Plain.{StmtForm as form}
 use Rattle.dpj_tree.specs.declared.stmt.StmtKind.TheVariants as tree
 use Rattle.dpj_exprs.specs.Answer.{refused}
 use Rattle.dpj_exprs.specs.Typed.{plain_typed}
 use Rattle.dpj_exprs.specs.Typing.{Typing}
-use Rattle.dpj_check.specs.Checking.{form_of, Checking, Standing, InScope, in_scope, InBlock, InOrder, Forking, Turning, Parting, all_pass, Branching, ClashIs}
+use Rattle.dpj_check.specs.Checking.{form_of, Checking, Standing, InScope, in_scope, InBlock, InOrder, Forking, Iterating, Parting, all_pass, Branching, ClashIs, opened, not_opened, Opening}
 use Rattle.dpj_check.specs.Checking.{Checking as rule}
+use Rattle.dpj_check.specs.Keeping.{inside}
 use Rattle.dpj_check.specs.Noting.{fault_of}
-use Rattle.dpj_check.specs.Walks.{walk_of, passes, judged}
+use Rattle.dpj_check.specs.Walks.{walk_of, passes, judged, home_of}
 use Rattle.dpj_check.specs.Walks.{Verdict as verdict}
-use Rattle.dpj_check.proofs.Forks.{piece_stopped, settle_stopped, atomic_nd, atomic_refused, atomic_told, atomic_passes, turn_begun, turn_stopped, turn_told, turns_told, turns_pass, turns_nd, or_then, or_else, reaching, reached_is, number_is, params_kept, Turn, TurnsMet, range_stopped, part_begun, part_stopped, Part, part_told, PartsMet, parts_told, parts_passes, parts_nd, fork_more, fork_all, fork_keeps, fork_nd, fork_stopped, fork_told, fork_ends, clash_is}
-use Rattle.dpj_check.proofs.Passing.{says_all, settled_says, stopped}
+use Rattle.dpj_check.proofs.Atomics.{atomic_refused, atomic_told, atomic_passes}
+use Rattle.dpj_check.proofs.Forks.{Branch, BranchesMet, fork_more, fork_all, fork_stopped, fork_told, fork_ends, clash_is}
+use Rattle.dpj_check.proofs.Homes.{home_params, piece_begun}
+use Rattle.dpj_check.proofs.Iterations.{iteration_in, iteration_stopped, iteration_told, iterations_told, iterations_pass, second_noted, Iterated, IterationsMet}
+use Rattle.dpj_check.proofs.Orders.{next_refused, next_passes, none_after, and_then_so, and_else_so, complete_step, keep_step, fork_keeps}
+use Rattle.dpj_check.proofs.Parting.{range_stopped, part_stopped, Part, part_told, PartsMet, parts_told, parts_pass}
+use Rattle.dpj_check.proofs.Passing.{says_all, settled_says, stopped, settle_stopped}
+use Rattle.dpj_check.proofs.Reaching.{begun_nd, taken_nd, iterations_nd, parts_nd, fork_nd, nd_step, or_then, or_else, reaching, reached_is}
 use Rattle.dpj_check.proofs.Stands.{as_form, as_statement, at_Cobegin, at_Return}
-use Rattle.dpj_check.proofs.Walking.{block_stops, block_closes, scope_passes, block_stands, then_told, then_none, next_refused, next_passes, none_behind, same_params, test_stops, first_stops, choice_stands, either_stands, noted_told, walk_same, construct_stands, while_test_stops, while_so, start_stops, count_stops, foreach_so, parts_so, and_then_so, and_else_so, complete_step, keep_step, nd_step}
+use Rattle.dpj_check.proofs.Walking.{block_stops, block_closes, scope_passes, block_stands, then_told, then_none, test_stops, first_stops, choice_stands, either_stands, noted_told, construct_stands, while_test_stops, while_so, start_stops, count_stops, foreach_so, parts_so, walk_same}
 use Rattle.dpj_check.proofs.+statements.Goals as goal
 use Rattle.dpj_check.proofs.+statements.Goals.{statements::statement-in-Some+in_ok-second-in-Some, statements::statement-in-None, statements::statements-then-completes, statements::statements-else-completes, constructs::foreach-then-inner, constructs::foreach-else-inner, constructs::cobegin-then-out, constructs::cobegin-else-out}
-use Rattle.dpj_tree.specs.Nd.{holds_nd, some_holds_nd}
-use Rattle.dpj_check.specs.declared.leaving.Marks.TheVariants as marks
-use Rattle.dpj_check.specs.Keeping.{inside}
-use Rattle.dpj_check.specs.Leaving.{nothing_leaves, variable_leaves}
-use Rattle.dpj_check.specs.declared.body.Body.{Body}
 
 pub statements::block-returns-in_err-completes-clause-checks :
     goal.statements::block-returns-in_err-completes-clause-checks
 statements::block-returns-in_err-completes-clause-checks t c =
-    piece_stopped Bool (InOrder c.args.body.now.atomic_params c.args.around true (plain_stmts (map plain_stmt c.args.stmts.now)) (walk_of c.args.body.now c.new-inner.result)) (InBlock c.args.body.now.atomic_params c.args.around (plain_stmts (map plain_stmt c.args.stmts.now)) (walk_of c.args.body.now c.args.out.now)) c.from_residual.result c.in_err-completes.field-0.0 (walk_of c.statements.new.body c.statements.new.out) _ c.from_residual.ensures.1
+    stopped (λ q. InOrder c.args.body.now.atomic_params c.args.around true (plain_stmts (map plain_stmt c.args.stmts.now)) (walk_of c.args.body.now c.new-inner.result) (verdict.refused q))
+    (InBlock c.args.body.now.atomic_params c.args.around (plain_stmts (map plain_stmt c.args.stmts.now)) (walk_of c.args.body.now c.args.out.now)) c.from_residual.result _ c.in_err-completes.field-0.0 c.from_residual.ensures.1
     (λ q d. block_stops c.args.body.now.atomic_params c.args.around (plain_stmts (map plain_stmt c.args.stmts.now)) c.args.body.now c.args.out.now c.new-inner.result q c.new-inner.ensures d)
     c.in_err-completes.ensures.checks
 
-pub statements::block-returns-clause-checks :
-    goal.statements::block-returns-clause-checks
+pub statements::block-returns-clause-checks : goal.statements::block-returns-clause-checks
 statements::block-returns-clause-checks t c =
-    block_closes c.args.body.now.atomic_params c.args.around (plain_stmts (map plain_stmt c.args.stmts.now)) c.args.body.now c.statements.new.body c.args.out.now c.new-inner.result c.statements.new.out c.take_in.new.out c.leave.new.self c.mark-scope.result c.first_region.result c.in_ok-leaving.leaving c.new-inner.ensures
-    c.in_ok-completes.ensures.checks c.mark-scope.ensures c.first_region.ensures c.in_ok-leaving.ensures c.leave.ensures.whole c.in_ok-take_in.ensures.whole
+    block_closes c.args.body.now.atomic_params c.args.around (plain_stmts (map plain_stmt c.args.stmts.now)) c.args.body.now c.statements.new.body c.args.out.now c.new-inner.result
+    c.statements.new.out c.take_in.new.out c.leave.new.self c.mark-scope.result c.from_here-leaving.result c.new-inner.ensures
+    c.in_ok-completes.ensures.checks c.mark-scope.ensures c.leave.ensures.whole c.from_here-leaving.ensures c.in_ok-take_in.ensures
 
-pub statements::construct-returns-in-Cobegin-clause-checks :
-    goal.statements::construct-returns-in-Cobegin-clause-checks
+pub statements::construct-returns-in-Cobegin-clause-checks : goal.statements::construct-returns-in-Cobegin-clause-checks
 statements::construct-returns-in-Cobegin-clause-checks t c =
-    says_all (Forking c.args.body.now.atomic_params c.args.around c.args.node c.in-Cobegin.nd (plain_stmts (map plain_stmt c.as_slice.result.now)) (walk_of c.args.body.now c.args.out.now)) (Checking c.args.body.now.atomic_params c.args.around c.args.node (form_of (plain_stmt c.args.stmt.now)) (walk_of c.args.body.now c.args.out.now)) c.cobegin.result (walk_of c.cobegin.new.body c.cobegin.new.out)
-    (λ v d. as_form c.args.body.now.atomic_params c.args.around c.args.node c.args.stmt.now (form.cobegin c.in-Cobegin.nd (plain_stmts (map plain_stmt c.in-Cobegin.branches))) (walk_of c.args.body.now c.args.out.now) v (at_Cobegin c.args.stmt.now c.in-Cobegin.nd c.in-Cobegin.branches c.in-Cobegin.is)
-    (rule.of_cobegin (subst (λ bs. Forking c.args.body.now.atomic_params c.args.around c.args.node c.in-Cobegin.nd (plain_stmts (map plain_stmt bs)) (walk_of c.args.body.now c.args.out.now) v) c.as_slice.ensures d)))
+    says_all (Forking c.args.body.now.atomic_params c.args.around c.args.node c.in-Cobegin.nd (plain_stmts (map plain_stmt c.as_slice.result.now)) (walk_of c.args.body.now c.args.out.now))
+    (Checking c.args.body.now.atomic_params c.args.around c.args.node (form_of (plain_stmt c.args.stmt.now)) (walk_of c.args.body.now c.args.out.now))
+    c.cobegin.result (walk_of c.cobegin.new.body c.cobegin.new.out)
+    (λ v d.
+    as_form c.args.body.now.atomic_params c.args.around c.args.node c.args.stmt.now (form.cobegin c.in-Cobegin.nd (plain_stmts (map plain_stmt c.in-Cobegin.branches)))
+    (walk_of c.args.body.now c.args.out.now) v (at_Cobegin c.args.stmt.now c.in-Cobegin.nd c.in-Cobegin.branches c.in-Cobegin.is)
+    (rule.of_cobegin
+    (subst (λ bs. Forking c.args.body.now.atomic_params c.args.around c.args.node c.in-Cobegin.nd (plain_stmts (map plain_stmt bs)) (walk_of c.args.body.now c.args.out.now) v)
+    c.as_slice.ensures d)))
     c.cobegin.ensures.checks
 
 pub statements::scoped-returns-in_err-completes-clause-checks :
     goal.statements::scoped-returns-in_err-completes-clause-checks
 statements::scoped-returns-in_err-completes-clause-checks t c =
-    piece_stopped Bool (Standing c.args.body.now.atomic_params c.args.around false (plain_stmt c.args.stmt.now) (walk_of c.args.body.now c.args.out.now)) (InScope c.args.body.now.atomic_params c.args.around (plain_stmt c.args.stmt.now) (walk_of c.args.body.now c.args.out.now)) c.from_residual.result c.in_err-completes.field-0.0 (walk_of c.statement.new.body c.statement.new.out) _ c.from_residual.ensures.1
-    (λ q d. in_scope d refl)
-    c.in_err-completes.ensures.checks
+    stopped (λ q. Standing c.args.body.now.atomic_params c.args.around false (plain_stmt c.args.stmt.now) (walk_of c.args.body.now c.args.out.now) (verdict.refused q))
+    (InScope c.args.body.now.atomic_params c.args.around (plain_stmt c.args.stmt.now) (walk_of c.args.body.now c.args.out.now))
+    c.from_residual.result _ c.in_err-completes.field-0.0 c.from_residual.ensures.1 (λ q d. in_scope d refl) c.in_err-completes.ensures.checks
 
-pub statements::scoped-returns-clause-checks :
-    goal.statements::scoped-returns-clause-checks
+pub statements::scoped-returns-clause-checks : goal.statements::scoped-returns-clause-checks
 statements::scoped-returns-clause-checks t c =
-    scope_passes c.args.body.now.atomic_params c.args.around (plain_stmt c.args.stmt.now) c.args.body.now c.statement.new.body c.args.out.now c.statement.new.out c.leave.new.self c.mark-scope.result c.in_ok-completes.ensures.checks c.mark-scope.ensures c.leave.ensures.whole
+    scope_passes c.args.body.now.atomic_params c.args.around (plain_stmt c.args.stmt.now) c.args.body.now c.statement.new.body c.args.out.now
+    c.statement.new.out c.leave.new.self c.mark-scope.result c.in_ok-completes.ensures.checks c.mark-scope.ensures c.leave.ensures.whole
 
 pub statements::statement-returns-in_err-completes-in-Block-clause-checks :
     goal.statements::statement-returns-in_err-completes-in-Block-clause-checks
 statements::statement-returns-in_err-completes-in-Block-clause-checks t c =
-    piece_stopped Bool (InBlock c.args.body.now.atomic_params c.args.around (plain_stmts (map plain_stmt c.as_slice.result.now)) (walk_of c.args.body.now c.args.out.now)) (Standing c.args.body.now.atomic_params c.args.around c.args.follows (plain_stmt c.args.stmt.now) (walk_of c.args.body.now c.args.out.now)) c.from_residual.result c.in_err-completes-in-Block.field-0.0 (walk_of c.block.new.body c.block.new.out) _ c.from_residual.ensures.1
-    (λ q d. block_stands c.args.body.now.atomic_params c.args.around c.args.follows c.of-node.result c.args.stmt.now c.in-Block.all c.as_slice.result.now (walk_of c.args.body.now c.args.out.now) (verdict.refused q) (verdict.refused q) c.in-Block.is c.as_slice.ensures c.of-node.ensures.node d refl)
+    stopped (λ q. InBlock c.args.body.now.atomic_params c.args.around (plain_stmts (map plain_stmt c.as_slice.result.now)) (walk_of c.args.body.now c.args.out.now) (verdict.refused q))
+    (Standing c.args.body.now.atomic_params c.args.around c.args.follows (plain_stmt c.args.stmt.now) (walk_of c.args.body.now c.args.out.now))
+    c.from_residual.result _ c.in_err-completes-in-Block.field-0.0 c.from_residual.ensures.1
+    (λ q d.
+    block_stands c.args.body.now.atomic_params c.args.around c.args.follows c.of-node.result c.args.stmt.now c.in-Block.all c.as_slice.result.now
+    (walk_of c.args.body.now c.args.out.now) (verdict.refused q) (verdict.refused q) c.in-Block.is c.as_slice.ensures c.of-node.ensures.node d
+    refl)
     c.in_err-completes-in-Block.ensures.checks
 
 pub statements::statement-returns-in_err-settle-in-Block-clause-checks :
     goal.statements::statement-returns-in_err-settle-in-Block-clause-checks
 statements::statement-returns-in_err-settle-in-Block-clause-checks t c =
-    settle_stopped (Standing c.args.body.now.atomic_params c.args.around c.args.follows (plain_stmt c.args.stmt.now) (walk_of c.args.body.now c.args.out.now)) (fault_of c.of-node.result) c.from_residual-in_err-settle-in-Block.result c.in_err-settle-in-Block.field-0.0 _ c.from_residual-in_err-settle-in-Block.ensures.1 c.in_err-settle-in-Block.ensures.result
-    (λ q told. block_stands c.args.body.now.atomic_params c.args.around c.args.follows c.of-node.result c.args.stmt.now c.in-Block.all c.as_slice.result.now (walk_of c.args.body.now c.args.out.now) (passes (walk_of c.block.new.body c.block.new.out)) (verdict.refused q) c.in-Block.is c.as_slice.ensures c.of-node.ensures.node c.in_ok-completes-in-Block.ensures.checks
+    settle_stopped (Standing c.args.body.now.atomic_params c.args.around c.args.follows (plain_stmt c.args.stmt.now) (walk_of c.args.body.now c.args.out.now))
+    (fault_of c.of-node.result) c.from_residual-in_err-settle-in-Block.result c.in_err-settle-in-Block.field-0.0 _
+    c.from_residual-in_err-settle-in-Block.ensures.1 c.in_err-settle-in-Block.ensures.result
+    (λ q told.
+    block_stands c.args.body.now.atomic_params c.args.around c.args.follows c.of-node.result c.args.stmt.now c.in-Block.all c.as_slice.result.now
+    (walk_of c.args.body.now c.args.out.now) (passes (walk_of c.block.new.body c.block.new.out)) (verdict.refused q) c.in-Block.is c.as_slice.ensures c.of-node.ensures.node c.in_ok-completes-in-Block.ensures.checks
     (then_told (fault_of c.of-node.result) (walk_of c.block.new.body c.block.new.out) q told))
 
 pub statements::statement-returns-in_ok-settle-in-Block-clause-checks :
     goal.statements::statement-returns-in_ok-settle-in-Block-clause-checks
 statements::statement-returns-in_ok-settle-in-Block-clause-checks t c =
-    block_stands c.args.body.now.atomic_params c.args.around c.args.follows c.of-node.result c.args.stmt.now c.in-Block.all c.as_slice.result.now (walk_of c.args.body.now c.args.out.now) (passes (walk_of c.block.new.body c.block.new.out)) (passes (walk_of c.block.new.body c.block.new.out)) c.in-Block.is c.as_slice.ensures c.of-node.ensures.node c.in_ok-completes-in-Block.ensures.checks
+    block_stands c.args.body.now.atomic_params c.args.around c.args.follows c.of-node.result c.args.stmt.now c.in-Block.all c.as_slice.result.now
+    (walk_of c.args.body.now c.args.out.now) (passes (walk_of c.block.new.body c.block.new.out)) (passes (walk_of c.block.new.body c.block.new.out)) c.in-Block.is c.as_slice.ensures c.of-node.ensures.node c.in_ok-completes-in-Block.ensures.checks
     (then_none (fault_of c.of-node.result) (walk_of c.block.new.body c.block.new.out) c.in_ok-settle-in-Block.ensures.clean)
 
 pub statements::statement-returns-in_err-_test-in-If-clause-checks :
     goal.statements::statement-returns-in_err-_test-in-If-clause-checks
 statements::statement-returns-in_err-_test-in-If-clause-checks t c =
-    stopped (λ q. Typing c.args.body.now.env (plain_expr c.in-If.test) c.args.out.now (refused q)) (Standing c.args.body.now.atomic_params c.args.around c.args.follows (plain_stmt c.args.stmt.now) (walk_of c.args.body.now c.args.out.now)) c.from_residual-in_err-_test-in-If.result _ c.in_err-_test-in-If.field-0.0 c.from_residual-in_err-_test-in-If.ensures.1
-    (λ q d. test_stops c.args.body.now.atomic_params c.args.around c.args.follows c.of-node.result c.args.stmt.now c.in-If.test c.in-If.test c.in-If.then c.in-If.other c.args.body.now c.args.out.now q c.in-If.is c.of-node.ensures.node d)
-    c.in_err-_test-in-If.ensures.fault
+    stopped (λ q. Typing c.args.body.now.env (plain_expr c.in-If.test) c.args.out.now (refused q))
+    (Standing c.args.body.now.atomic_params c.args.around c.args.follows (plain_stmt c.args.stmt.now) (walk_of c.args.body.now c.args.out.now))
+    c.from_residual-in_err-_test-in-If.result _ c.in_err-_test-in-If.field-0.0 c.from_residual-in_err-_test-in-If.ensures.1
+    (λ q d.
+    test_stops c.args.body.now.atomic_params c.args.around c.args.follows c.of-node.result c.args.stmt.now c.in-If.test c.in-If.then c.in-If.other c.args.body.now c.args.out.now q
+    c.in-If.is c.of-node.ensures.node d)
+    c.in_err-_test-in-If.ensures.answer
 
 pub statements::statement-returns-in_err-first-in-If-clause-checks :
     goal.statements::statement-returns-in_err-first-in-If-clause-checks
 statements::statement-returns-in_err-first-in-If-clause-checks t c =
-    piece_stopped Bool (InScope c.boolean.new.self.atomic_params c.args.around (plain_stmt c.get.result.now) (walk_of c.boolean.new.self c.boolean.new.out)) (Standing c.args.body.now.atomic_params c.args.around c.args.follows (plain_stmt c.args.stmt.now) (walk_of c.args.body.now c.args.out.now)) c.from_residual-in_err-first-in-If.result c.in_err-first-in-If.field-0.0 (walk_of c.scoped.new.body c.scoped.new.out) _ c.from_residual-in_err-first-in-If.ensures.1
-    (λ q d. first_stops c.args.body.now.atomic_params c.args.around c.args.follows c.of-node.result c.args.stmt.now c.in-If.test c.in-If.then c.get.result.now c.in-If.other c.args.body.now c.boolean.new.self c.args.out.now c.boolean.new.out (plain_typed c.in_ok-_test-in-If._test) q
-    c.in-If.is c.of-node.ensures.node refl c.in_ok-_test-in-If.ensures.ok c.boolean.ensures.same c.get.ensures d)
+    stopped (λ q. InScope c.args.body.now.atomic_params c.args.around (plain_stmt c.get.result.now) (walk_of c.args.body.now c.boolean.new.out) (verdict.refused q))
+    (Standing c.args.body.now.atomic_params c.args.around c.args.follows (plain_stmt c.args.stmt.now) (walk_of c.args.body.now c.args.out.now))
+    c.from_residual-in_err-first-in-If.result _ c.in_err-first-in-If.field-0.0 c.from_residual-in_err-first-in-If.ensures.1
+    (λ q d.
+    first_stops c.args.around c.args.follows c.of-node.result c.args.stmt.now c.in-If.test c.in-If.then c.get.result.now c.in-If.other c.args.body.now
+    c.args.out.now c.boolean.new.out (plain_typed c.in_ok-_test-in-If._test) q c.in-If.is c.of-node.ensures.node
+    c.in_ok-_test-in-If.ensures.answer c.get.ensures d)
     c.in_err-first-in-If.ensures.checks
 
 pub statements::statement-returns-in_err-second-in-Some-clause-checks :
     goal.statements::statement-returns-in_err-second-in-Some-clause-checks
 statements::statement-returns-in_err-second-in-Some-clause-checks t c =
-    piece_stopped Bool (InScope c.scoped.new.body.atomic_params c.args.around (plain_stmt c.get-in-Some.result.now) (walk_of c.scoped.new.body c.scoped.new.out)) (Standing c.args.body.now.atomic_params c.args.around c.args.follows (plain_stmt c.args.stmt.now) (walk_of c.args.body.now c.args.out.now)) c.from_residual-in_err-second-in-Some.result c.in_err-second-in-Some.field-0.0 (walk_of c.scoped-in-Some.new.body c.scoped-in-Some.new.out) _ c.from_residual-in_err-second-in-Some.ensures.1
-    (λ q d. either_stands c.args.body.now.atomic_params c.args.around c.args.follows c.of-node.result c.args.stmt.now c.in-If.test c.in-If.then c.get.result.now c.in-If.other c.in-Some.other c.get-in-Some.result.now c.args.body.now c.boolean.new.self c.scoped.new.body c.args.out.now c.boolean.new.out c.scoped.new.out (plain_typed c.in_ok-_test-in-If._test) (verdict.refused q) (verdict.refused q)
-    c.in-If.is c.in-Some.is c.of-node.ensures.node refl c.in_ok-_test-in-If.ensures.ok c.boolean.ensures.same c.get.ensures c.in_ok-first-in-If.ensures.checks c.in_ok-first-in-If.ensures.home c.get-in-Some.ensures d refl)
+    stopped
+    (λ q. InScope c.scoped.new.body.atomic_params c.args.around (plain_stmt c.get-in-Some.result.now) (walk_of c.scoped.new.body c.scoped.new.out) (verdict.refused q))
+    (Standing c.args.body.now.atomic_params c.args.around c.args.follows (plain_stmt c.args.stmt.now) (walk_of c.args.body.now c.args.out.now))
+    c.from_residual-in_err-second-in-Some.result _ c.in_err-second-in-Some.field-0.0 c.from_residual-in_err-second-in-Some.ensures.1
+    (λ q d.
+    either_stands c.args.around c.args.follows c.of-node.result c.args.stmt.now c.in-If.test c.in-If.then c.get.result.now c.in-If.other
+    c.in-Some.other c.get-in-Some.result.now c.args.body.now c.scoped.new.body c.args.out.now c.boolean.new.out c.scoped.new.out
+    (plain_typed c.in_ok-_test-in-If._test) (verdict.refused q) (verdict.refused q) c.in-If.is c.in-Some.is c.of-node.ensures.node
+    c.in_ok-_test-in-If.ensures.answer c.get.ensures c.in_ok-first-in-If.ensures.checks c.in_ok-first-in-If.ensures.home
+    c.get-in-Some.ensures d refl)
     c.in_err-second-in-Some.ensures.checks
 
 pub statements::statement-returns-in_err-settle-in-If-clause-checks :
     goal.statements::statement-returns-in_err-settle-in-If-clause-checks
 statements::statement-returns-in_err-settle-in-If-clause-checks t c =
-    settle_stopped (Standing c.args.body.now.atomic_params c.args.around c.args.follows (plain_stmt c.args.stmt.now) (walk_of c.args.body.now c.args.out.now)) (fault_of c.boolean.new.node) c.from_residual-in_err-settle-in-If.result c.in_err-settle-in-If.field-0.0 _ c.from_residual-in_err-settle-in-If.ensures.1 c.in_err-settle-in-If.ensures.result
+    settle_stopped (Standing c.args.body.now.atomic_params c.args.around c.args.follows (plain_stmt c.args.stmt.now) (walk_of c.args.body.now c.args.out.now))
+    (fault_of c.boolean.new.node) c.from_residual-in_err-settle-in-If.result c.in_err-settle-in-If.field-0.0 _
+    c.from_residual-in_err-settle-in-If.ensures.1 c.in_err-settle-in-If.ensures.result
     (λ q told. elim c.match-other.branch [
-      | statements::statement-in-Some+in_ok-second-in-Some w ↦ either_stands c.args.body.now.atomic_params c.args.around c.args.follows c.of-node.result c.args.stmt.now c.in-If.test c.in-If.then c.get.result.now c.in-If.other w.in-Some.other w.get-in-Some.result.now c.args.body.now c.boolean.new.self c.scoped.new.body c.args.out.now c.boolean.new.out c.scoped.new.out (plain_typed c.in_ok-_test-in-If._test) (passes (walk_of w.scoped-in-Some.new.body w.scoped-in-Some.new.out)) (verdict.refused q)
-          c.in-If.is w.in-Some.is c.of-node.ensures.node refl c.in_ok-_test-in-If.ensures.ok c.boolean.ensures.same c.get.ensures c.in_ok-first-in-If.ensures.checks c.in_ok-first-in-If.ensures.home w.get-in-Some.ensures w.in_ok-second-in-Some.ensures.checks (noted_told c.of-node.result c.boolean.new.node _ (passes (walk_of w.scoped-in-Some.new.body w.scoped-in-Some.new.out)) (verdict.refused q) c.in_ok-_test-in-If.ensures.node (then_told (fault_of c.boolean.new.node) (walk_of w.scoped-in-Some.new.body w.scoped-in-Some.new.out) q told))
-      | statements::statement-in-None w ↦ choice_stands c.args.body.now.atomic_params c.args.around c.args.follows c.of-node.result c.boolean.new.node c.args.stmt.now c.in-If.test c.in-If.then c.get.result.now c.in-If.other c.args.body.now c.boolean.new.self c.args.out.now c.boolean.new.out (plain_typed c.in_ok-_test-in-If._test) (walk_of c.scoped.new.body c.scoped.new.out) (verdict.refused q)
-          c.in-If.is w.in-None.is c.of-node.ensures.node refl c.in_ok-_test-in-If.ensures.ok c.boolean.ensures.same c.get.ensures c.in_ok-_test-in-If.ensures.node c.in_ok-first-in-If.ensures.checks (then_told (fault_of c.boolean.new.node) (walk_of c.scoped.new.body c.scoped.new.out) q told)
+      | statements::statement-in-Some+in_ok-second-in-Some w ↦ either_stands c.args.around c.args.follows c.of-node.result c.args.stmt.now c.in-If.test c.in-If.then c.get.result.now c.in-If.other
+    w.in-Some.other w.get-in-Some.result.now c.args.body.now c.scoped.new.body c.args.out.now c.boolean.new.out c.scoped.new.out
+    (plain_typed c.in_ok-_test-in-If._test) (passes (walk_of w.scoped-in-Some.new.body w.scoped-in-Some.new.out)) (verdict.refused q) c.in-If.is w.in-Some.is c.of-node.ensures.node
+    c.in_ok-_test-in-If.ensures.answer c.get.ensures c.in_ok-first-in-If.ensures.checks c.in_ok-first-in-If.ensures.home
+    w.get-in-Some.ensures w.in_ok-second-in-Some.ensures.checks 
+    (noted_told c.of-node.result c.boolean.new.node _ (passes (walk_of w.scoped-in-Some.new.body w.scoped-in-Some.new.out)) (verdict.refused q) c.in_ok-_test-in-If.ensures.node
+    (then_told (fault_of c.boolean.new.node) (walk_of w.scoped-in-Some.new.body w.scoped-in-Some.new.out) q told))
+      | statements::statement-in-None w ↦ choice_stands c.args.around c.args.follows c.of-node.result c.boolean.new.node c.args.stmt.now c.in-If.test c.in-If.then
+    c.get.result.now c.in-If.other c.args.body.now c.args.out.now c.boolean.new.out (plain_typed c.in_ok-_test-in-If._test) (walk_of c.scoped.new.body c.scoped.new.out)
+    (verdict.refused q) c.in-If.is w.in-None.is c.of-node.ensures.node c.in_ok-_test-in-If.ensures.answer c.get.ensures
+    c.in_ok-_test-in-If.ensures.node c.in_ok-first-in-If.ensures.checks (then_told (fault_of c.boolean.new.node) (walk_of c.scoped.new.body c.scoped.new.out) q told)
     ])
 
 pub statements::statement-returns-after-first-clause-checks :
     goal.statements::statement-returns-after-first-clause-checks
 statements::statement-returns-after-first-clause-checks t c =
     elim c.match-other.branch [
-      | statements::statement-in-Some+in_ok-second-in-Some w ↦ either_stands c.args.body.now.atomic_params c.args.around c.args.follows c.of-node.result c.args.stmt.now c.in-If.test c.in-If.then c.get.result.now c.in-If.other w.in-Some.other w.get-in-Some.result.now c.args.body.now c.boolean.new.self c.scoped.new.body c.args.out.now c.boolean.new.out c.scoped.new.out (plain_typed c.in_ok-_test-in-If._test) (passes (walk_of w.scoped-in-Some.new.body w.scoped-in-Some.new.out)) (passes (walk_of c.match-other.body c.match-other.out))
-          c.in-If.is w.in-Some.is c.of-node.ensures.node refl c.in_ok-_test-in-If.ensures.ok c.boolean.ensures.same c.get.ensures c.in_ok-first-in-If.ensures.checks c.in_ok-first-in-If.ensures.home w.get-in-Some.ensures w.in_ok-second-in-Some.ensures.checks (noted_told c.of-node.result c.boolean.new.node _ (passes (walk_of w.scoped-in-Some.new.body w.scoped-in-Some.new.out)) (passes (walk_of c.match-other.body c.match-other.out)) c.in_ok-_test-in-If.ensures.node (then_none (fault_of c.boolean.new.node) (walk_of w.scoped-in-Some.new.body w.scoped-in-Some.new.out) c.in_ok-settle-in-If.ensures.clean ∙ ap passes (walk_same w.scoped-in-Some.new.body c.match-other.body w.scoped-in-Some.new.out c.match-other.out w.body-is w.out-is)))
-      | statements::statement-in-None w ↦ choice_stands c.args.body.now.atomic_params c.args.around c.args.follows c.of-node.result c.boolean.new.node c.args.stmt.now c.in-If.test c.in-If.then c.get.result.now c.in-If.other c.args.body.now c.boolean.new.self c.args.out.now c.boolean.new.out (plain_typed c.in_ok-_test-in-If._test) (walk_of c.scoped.new.body c.scoped.new.out) (passes (walk_of c.match-other.body c.match-other.out))
-          c.in-If.is w.in-None.is c.of-node.ensures.node refl c.in_ok-_test-in-If.ensures.ok c.boolean.ensures.same c.get.ensures c.in_ok-_test-in-If.ensures.node c.in_ok-first-in-If.ensures.checks (then_none (fault_of c.boolean.new.node) (walk_of c.scoped.new.body c.scoped.new.out) c.in_ok-settle-in-If.ensures.clean ∙ ap passes (walk_same c.scoped.new.body c.match-other.body c.scoped.new.out c.match-other.out w.body-is w.out-is))
+      | statements::statement-in-Some+in_ok-second-in-Some w ↦ either_stands c.args.around c.args.follows c.of-node.result c.args.stmt.now c.in-If.test c.in-If.then c.get.result.now c.in-If.other
+    w.in-Some.other w.get-in-Some.result.now c.args.body.now c.scoped.new.body c.args.out.now c.boolean.new.out c.scoped.new.out
+    (plain_typed c.in_ok-_test-in-If._test) (passes (walk_of w.scoped-in-Some.new.body w.scoped-in-Some.new.out)) (passes (walk_of c.match-other.body c.match-other.out)) c.in-If.is w.in-Some.is c.of-node.ensures.node
+    c.in_ok-_test-in-If.ensures.answer c.get.ensures c.in_ok-first-in-If.ensures.checks c.in_ok-first-in-If.ensures.home
+    w.get-in-Some.ensures w.in_ok-second-in-Some.ensures.checks 
+    (noted_told c.of-node.result c.boolean.new.node _ (passes (walk_of w.scoped-in-Some.new.body w.scoped-in-Some.new.out)) (passes (walk_of c.match-other.body c.match-other.out)) c.in_ok-_test-in-If.ensures.node
+    (then_none (fault_of c.boolean.new.node) (walk_of w.scoped-in-Some.new.body w.scoped-in-Some.new.out) c.in_ok-settle-in-If.ensures.clean
+    ∙ ap passes (walk_same w.scoped-in-Some.new.body c.match-other.body w.scoped-in-Some.new.out c.match-other.out w.body-is w.out-is)))
+      | statements::statement-in-None w ↦ choice_stands c.args.around c.args.follows c.of-node.result c.boolean.new.node c.args.stmt.now c.in-If.test c.in-If.then
+    c.get.result.now c.in-If.other c.args.body.now c.args.out.now c.boolean.new.out (plain_typed c.in_ok-_test-in-If._test) (walk_of c.scoped.new.body c.scoped.new.out)
+    (passes (walk_of c.match-other.body c.match-other.out)) c.in-If.is w.in-None.is c.of-node.ensures.node c.in_ok-_test-in-If.ensures.answer c.get.ensures
+    c.in_ok-_test-in-If.ensures.node c.in_ok-first-in-If.ensures.checks 
+    (then_none (fault_of c.boolean.new.node) (walk_of c.scoped.new.body c.scoped.new.out) c.in_ok-settle-in-If.ensures.clean
+    ∙ ap passes (walk_same c.scoped.new.body c.match-other.body c.scoped.new.out c.match-other.out w.body-is w.out-is))
     ]
 
 pub statements::statement-returns-in_err-returns-in-Return-clause-checks :
     goal.statements::statement-returns-in_err-returns-in-Return-clause-checks
 statements::statement-returns-in_err-returns-in-Return-clause-checks t c =
-    piece_stopped (Unit {0}) (Checking c.args.body.now.atomic_params c.args.around c.of-node.result (return_form (option_copied c.as_ref.result)) (walk_of c.args.body.now c.args.out.now)) (Standing c.args.body.now.atomic_params c.args.around c.args.follows (plain_stmt c.args.stmt.now) (walk_of c.args.body.now c.args.out.now)) c.from_residual-in_err-returns-in-Return.result c.in_err-returns-in-Return.field-0.0 (walk_of c.returns.new.body c.returns.new.out) _ c.from_residual-in_err-returns-in-Return.ensures.1
-    (λ q d. as_statement c.args.body.now.atomic_params c.args.around c.args.follows c.of-node.result c.args.stmt.now (return_form (option_copied c.as_ref.result)) (walk_of c.args.body.now c.args.out.now) (verdict.refused q) (at_Return c.args.stmt.now (option_copied c.as_ref.result) (c.in-Return.is ∙ ap tree.Return (sym c.as_ref.ensures.value))) c.of-node.ensures.node d)
+    stopped (λ q. Checking c.args.body.now.atomic_params c.args.around c.of-node.result (return_form (option_copied c.as_ref.result)) (walk_of c.args.body.now c.args.out.now) (verdict.refused q))
+    (Standing c.args.body.now.atomic_params c.args.around c.args.follows (plain_stmt c.args.stmt.now) (walk_of c.args.body.now c.args.out.now))
+    c.from_residual-in_err-returns-in-Return.result _ c.in_err-returns-in-Return.field-0.0 c.from_residual-in_err-returns-in-Return.ensures.1
+    (λ q d.
+    as_statement c.args.body.now.atomic_params c.args.around c.args.follows c.of-node.result c.args.stmt.now (return_form (option_copied c.as_ref.result))
+    (walk_of c.args.body.now c.args.out.now) (verdict.refused q)
+    (at_Return c.args.stmt.now (option_copied c.as_ref.result) (c.in-Return.is ∙ ap tree.Return (sym c.as_ref.ensures.value)))
+    c.of-node.ensures.node d)
     (c.in_err-returns-in-Return.ensures.checks c.args.body.now.atomic_params)
 
 pub statements::statement-returns-in_ok-returns-in-Return-clause-checks :
     goal.statements::statement-returns-in_ok-returns-in-Return-clause-checks
 statements::statement-returns-in_ok-returns-in-Return-clause-checks t c =
-    as_statement c.args.body.now.atomic_params c.args.around c.args.follows c.of-node.result c.args.stmt.now (return_form (option_copied c.as_ref.result)) (walk_of c.args.body.now c.args.out.now) (passes (walk_of c.returns.new.body c.returns.new.out)) (at_Return c.args.stmt.now (option_copied c.as_ref.result) (c.in-Return.is ∙ ap tree.Return (sym c.as_ref.ensures.value))) c.of-node.ensures.node
-    (c.in_ok-returns-in-Return.ensures.checks c.args.body.now.atomic_params)
+    as_statement c.args.body.now.atomic_params c.args.around c.args.follows c.of-node.result c.args.stmt.now (return_form (option_copied c.as_ref.result))
+    (walk_of c.args.body.now c.args.out.now) (passes (walk_of c.args.body.now c.returns.new.out))
+    (at_Return c.args.stmt.now (option_copied c.as_ref.result) (c.in-Return.is ∙ ap tree.Return (sym c.as_ref.ensures.value)))
+    c.of-node.ensures.node (c.in_ok-returns-in-Return.ensures.checks c.args.body.now.atomic_params)
 
-pub statements::statement-returns-in_default-clause-checks :
-    goal.statements::statement-returns-in_default-clause-checks
+pub statements::statement-returns-in_default-clause-checks : goal.statements::statement-returns-in_default-clause-checks
 statements::statement-returns-in_default-clause-checks t c =
-    says_all (Checking c.args.body.now.atomic_params c.args.around c.of-node.result (form_of (plain_stmt c.args.stmt.now)) (walk_of c.args.body.now c.args.out.now)) (Standing c.args.body.now.atomic_params c.args.around c.args.follows (plain_stmt c.args.stmt.now) (walk_of c.args.body.now c.args.out.now)) c.completing.result (walk_of c.completing.new.body c.completing.new.out)
-    (λ v d. construct_stands c.args.body.now.atomic_params c.args.around c.args.follows c.of-node.result c.args.stmt.now (walk_of c.args.body.now c.args.out.now) v c.of-node.ensures.node d)
+    says_all (Checking c.args.body.now.atomic_params c.args.around c.of-node.result (form_of (plain_stmt c.args.stmt.now)) (walk_of c.args.body.now c.args.out.now))
+    (Standing c.args.body.now.atomic_params c.args.around c.args.follows (plain_stmt c.args.stmt.now) (walk_of c.args.body.now c.args.out.now))
+    c.completing.result (walk_of c.completing.new.body c.completing.new.out)
+    (λ v d.
+    construct_stands c.args.body.now.atomic_params c.args.around c.args.follows c.of-node.result c.args.stmt.now (walk_of c.args.body.now c.args.out.now) v c.of-node.ensures.node d)
     c.completing.ensures.checks
 
 pub statements::completing-returns-in_err-construct-clause-checks :
     goal.statements::completing-returns-in_err-construct-clause-checks
 statements::completing-returns-in_err-construct-clause-checks t c =
-    piece_stopped (Unit {0}) (Checking c.args.body.now.atomic_params c.args.around c.args.node (form_of (plain_stmt c.args.stmt.now)) (walk_of c.args.body.now c.args.out.now)) (Checking c.args.body.now.atomic_params c.args.around c.args.node (form_of (plain_stmt c.args.stmt.now)) (walk_of c.args.body.now c.args.out.now)) c.from_residual.result c.in_err-construct.field-0.0 (walk_of c.construct.new.body c.construct.new.out) _ c.from_residual.ensures.1
-    (λ q d. d)
-    c.in_err-construct.ensures.checks
+    stopped (λ q. Checking c.args.body.now.atomic_params c.args.around c.args.node (form_of (plain_stmt c.args.stmt.now)) (walk_of c.args.body.now c.args.out.now) (verdict.refused q))
+    (Checking c.args.body.now.atomic_params c.args.around c.args.node (form_of (plain_stmt c.args.stmt.now)) (walk_of c.args.body.now c.args.out.now))
+    c.from_residual.result _ c.in_err-construct.field-0.0 c.from_residual.ensures.1 (λ q d. d) c.in_err-construct.ensures.checks
 
 pub statements::statements-returns-in_err-done-clause-checks :
     goal.statements::statements-returns-in_err-done-clause-checks
 statements::statements-returns-in_err-done-clause-checks t c =
-    piece_stopped Bool (Standing c.loop-stmt.body.atomic_params c.args.around (not c.loop-stmt.completes) (plain_stmt c.stmt-item.result) (walk_of c.loop-stmt.body c.loop-stmt.out)) (InOrder c.args.body.now.atomic_params c.args.around true (plain_stmts (map plain_stmt c.args.stmts.now)) (walk_of c.args.body.now c.args.out.now)) c.from_residual.result c.in_err-done.field-0.0 (walk_of c.statement.new.body c.statement.new.out) _ c.from_residual.ensures.1
-    (λ q d. c.loop-stmt.invariant.goes_on (verdict.refused q)
-    (next_refused c.args.body.now.atomic_params c.loop-stmt.body.atomic_params c.args.around c.loop-stmt.completes (not c.loop-stmt.completes) c.args.stmts.now c.loop-stmt.stmt-index c.stmt-item.result (walk_of c.loop-stmt.body c.loop-stmt.out) q
-    (same_params c.args.body.now c.loop-stmt.body c.loop-stmt.invariant.home) refl c.loop-stmt-test.true c.stmt-item.is d))
+    stopped
+    (λ q. Standing c.loop-stmt.body.atomic_params c.args.around (not c.loop-stmt.completes) (plain_stmt c.stmt-item.result) (walk_of c.loop-stmt.body c.loop-stmt.out) (verdict.refused q))
+    (InOrder c.args.body.now.atomic_params c.args.around true (plain_stmts (map plain_stmt c.args.stmts.now)) (walk_of c.args.body.now c.args.out.now))
+    c.from_residual.result _ c.in_err-done.field-0.0 c.from_residual.ensures.1
+    (λ q d.
+    c.loop-stmt.invariant.goes_on (verdict.refused q)
+    (next_refused c.args.body.now.atomic_params c.loop-stmt.body.atomic_params c.args.around c.loop-stmt.completes c.args.stmts.now c.loop-stmt.stmt-index c.stmt-item.result
+    (walk_of c.loop-stmt.body c.loop-stmt.out) q (home_params c.args.body.now c.loop-stmt.body c.loop-stmt.invariant.home) c.loop-stmt-test.true c.stmt-item.is d))
     c.in_err-done.ensures.checks
 
-pub statements::statements-loop-stmt-preserved :
-    goal.statements::statements-loop-stmt-preserved
+pub statements::statements-loop-stmt-preserved : goal.statements::statements-loop-stmt-preserved
 statements::statements-loop-stmt-preserved t c =
     let next_so : c.if-completes.completes ≡ (c.loop-stmt.completes && c.in_ok-done.done) = (elim c.if-completes.branch [
-      | statements::statements-then-completes w ↦ and_then_so c.loop-stmt.completes c.in_ok-done.done c.if-completes.completes w.if-completes.true w.completes-is
-      | statements::statements-else-completes w ↦ and_else_so c.loop-stmt.completes c.in_ok-done.done c.if-completes.completes w.if-completes.false (w.completes-is ∙ w.if-completes.false)
+      | statements::statements-then-completes w ↦
+          and_then_so c.loop-stmt.completes c.in_ok-done.done c.if-completes.completes w.if-completes.true w.completes-is
+      | statements::statements-else-completes w ↦
+          and_else_so c.loop-stmt.completes c.in_ok-done.done c.if-completes.completes w.if-completes.false (w.completes-is ∙ w.if-completes.false)
     ]) in
     record {
-      completes = complete_step c.args.stmts.now c.loop-stmt.stmt-index c.stmt-item.result c.loop-stmt.completes c.in_ok-done.done c.if-completes.completes c.loop-stmt-test.true c.stmt-item.is c.in_ok-done.ensures.completes next_so c.loop-stmt.invariant.completes;
-      keeps = keep_step c.args.around c.args.stmts.now c.loop-stmt.stmt-index c.stmt-item.result c.loop-stmt.completes c.in_ok-done.done c.if-completes.completes c.loop-stmt-test.true c.stmt-item.is c.in_ok-done.ensures.behind c.in_ok-done.ensures.keeps c.in_ok-done.ensures.completes next_so c.loop-stmt.invariant.keeps;
-      nd = nd_step c.args.stmts.now c.loop-stmt.stmt-index c.stmt-item.result c.args.out.now.reaches_nd c.loop-stmt.out.reaches_nd c.statement.new.out.reaches_nd c.loop-stmt-test.true c.stmt-item.is c.in_ok-done.ensures.nd c.loop-stmt.invariant.nd;
+      completes =
+          complete_step c.args.stmts.now c.loop-stmt.stmt-index c.stmt-item.result c.loop-stmt.completes c.in_ok-done.done c.if-completes.completes c.loop-stmt-test.true
+          c.stmt-item.is c.in_ok-done.ensures.completes next_so c.loop-stmt.invariant.completes;
+      keeps =
+          keep_step c.args.around c.args.stmts.now c.loop-stmt.stmt-index c.stmt-item.result c.loop-stmt.completes c.in_ok-done.done c.if-completes.completes
+          c.loop-stmt-test.true c.stmt-item.is c.in_ok-done.ensures.after c.in_ok-done.ensures.keeps c.in_ok-done.ensures.completes next_so
+          c.loop-stmt.invariant.keeps;
+      nd =
+          nd_step c.args.stmts.now c.loop-stmt.stmt-index c.stmt-item.result c.args.out.now.reaches_nd c.loop-stmt.out.reaches_nd
+          c.statement.new.out.reaches_nd c.loop-stmt-test.true c.stmt-item.is c.in_ok-done.ensures.nd c.loop-stmt.invariant.nd;
       home = c.in_ok-done.ensures.home ∙ c.loop-stmt.invariant.home;
       goes_on = λ v rest. c.loop-stmt.invariant.goes_on v
-          (next_passes c.args.body.now.atomic_params c.loop-stmt.body.atomic_params c.args.around c.loop-stmt.completes (not c.loop-stmt.completes) c.in_ok-done.done c.if-completes.completes c.args.stmts.now c.loop-stmt.stmt-index c.stmt-item.result (walk_of c.loop-stmt.body c.loop-stmt.out) (walk_of c.statement.new.body c.statement.new.out) v
-          (same_params c.args.body.now c.loop-stmt.body c.loop-stmt.invariant.home) refl c.loop-stmt-test.true c.stmt-item.is c.in_ok-done.ensures.checks c.in_ok-done.ensures.completes next_so rest);
+          (next_passes c.args.body.now.atomic_params c.loop-stmt.body.atomic_params c.args.around c.loop-stmt.completes c.in_ok-done.done c.if-completes.completes
+          c.args.stmts.now c.loop-stmt.stmt-index c.stmt-item.result (walk_of c.loop-stmt.body c.loop-stmt.out)
+          (walk_of c.statement.new.body c.statement.new.out) v (home_params c.args.body.now c.loop-stmt.body c.loop-stmt.invariant.home) c.loop-stmt-test.true
+          c.stmt-item.is c.in_ok-done.ensures.checks c.in_ok-done.ensures.completes next_so rest);
     }
 
-pub statements::statements-returns-clause-checks :
-    goal.statements::statements-returns-clause-checks
+pub statements::statements-returns-clause-checks : goal.statements::statements-returns-clause-checks
 statements::statements-returns-clause-checks t c =
     c.loop-stmt.invariant.goes_on (passes (walk_of c.loop-stmt.body c.loop-stmt.out))
-    (none_behind c.args.body.now.atomic_params c.args.around c.loop-stmt.completes c.args.stmts.now c.loop-stmt.stmt-index (walk_of c.loop-stmt.body c.loop-stmt.out) (drop_all c.loop-stmt.stmt-index c.args.stmts.now c.loop-stmt-test.false))
+    (none_after c.args.body.now.atomic_params c.args.around c.loop-stmt.completes c.args.stmts.now c.loop-stmt.stmt-index (walk_of c.loop-stmt.body c.loop-stmt.out)
+    (drop_all c.loop-stmt.stmt-index c.args.stmts.now c.loop-stmt-test.false))
 
-pub statements::turns-returns-in_err-_test-in-While-clause-checks :
-    goal.statements::turns-returns-in_err-_test-in-While-clause-checks
-statements::turns-returns-in_err-_test-in-While-clause-checks t c =
-    stopped (λ q. Typing c.args.body.now.env (plain_expr c.in-While.test) c.args.out.now (refused q)) (Checking c.args.body.now.atomic_params c.args.around c.args.node (form_of (plain_stmt c.args.stmt.now)) (walk_of c.args.body.now c.args.out.now)) c.from_residual.result _ c.in_err-_test-in-While.field-0.0 c.from_residual.ensures.1
-    (λ q d. while_test_stops c.args.body.now.atomic_params c.args.around c.args.node c.args.stmt.now c.in-While.test c.in-While.turn c.args.body.now c.args.out.now q c.in-While.is d)
-    c.in_err-_test-in-While.ensures.fault
+pub statements::repeated-returns-in_err-_test-in-While-clause-checks :
+    goal.statements::repeated-returns-in_err-_test-in-While-clause-checks
+statements::repeated-returns-in_err-_test-in-While-clause-checks t c =
+    stopped (λ q. Typing c.args.body.now.env (plain_expr c.in-While.test) c.args.out.now (refused q))
+    (Checking c.args.body.now.atomic_params c.args.around c.args.node (form_of (plain_stmt c.args.stmt.now)) (walk_of c.args.body.now c.args.out.now))
+    c.from_residual.result _ c.in_err-_test-in-While.field-0.0 c.from_residual.ensures.1
+    (λ q d.
+    while_test_stops c.args.body.now.atomic_params c.args.around c.args.node c.args.stmt.now c.in-While.test c.in-While.iteration c.args.body.now c.args.out.now q c.in-While.is d)
+    c.in_err-_test-in-While.ensures.answer
 
-pub statements::turns-returns-in_err-scoped-in-While-clause-checks :
-    goal.statements::turns-returns-in_err-scoped-in-While-clause-checks
-statements::turns-returns-in_err-scoped-in-While-clause-checks t c =
-    piece_stopped Bool (InScope c.boolean.new.self.atomic_params c.args.around (plain_stmt c.get.result.now) (walk_of c.boolean.new.self c.boolean.new.out)) (Checking c.args.body.now.atomic_params c.args.around c.args.node (form_of (plain_stmt c.args.stmt.now)) (walk_of c.args.body.now c.args.out.now)) c.from_residual-in_err-scoped-in-While.result c.in_err-scoped-in-While.field-0.0 (walk_of c.scoped.new.body c.scoped.new.out) _ c.from_residual-in_err-scoped-in-While.ensures.1
-    (λ q d. while_so c.args.body.now.atomic_params c.args.around c.args.node c.args.stmt.now c.in-While.test c.in-While.turn c.get.result.now c.args.body.now c.boolean.new.self c.args.out.now c.boolean.new.out (plain_typed c.in_ok-_test-in-While._test) (verdict.refused q) (verdict.refused q) c.in-While.is refl c.in_ok-_test-in-While.ensures.ok c.boolean.ensures.same c.get.ensures d refl)
+pub statements::repeated-returns-in_err-scoped-in-While-clause-checks :
+    goal.statements::repeated-returns-in_err-scoped-in-While-clause-checks
+statements::repeated-returns-in_err-scoped-in-While-clause-checks t c =
+    stopped (λ q. InScope c.args.body.now.atomic_params c.args.around (plain_stmt c.get.result.now) (walk_of c.args.body.now c.boolean.new.out) (verdict.refused q))
+    (Checking c.args.body.now.atomic_params c.args.around c.args.node (form_of (plain_stmt c.args.stmt.now)) (walk_of c.args.body.now c.args.out.now))
+    c.from_residual-in_err-scoped-in-While.result _ c.in_err-scoped-in-While.field-0.0 c.from_residual-in_err-scoped-in-While.ensures.1
+    (λ q d.
+    while_so c.args.around c.args.node c.args.stmt.now c.in-While.test c.in-While.iteration c.get.result.now c.args.body.now c.args.out.now
+    c.boolean.new.out (plain_typed c.in_ok-_test-in-While._test) (verdict.refused q) (verdict.refused q)
+    c.in-While.is c.in_ok-_test-in-While.ensures.answer c.get.ensures d refl)
     c.in_err-scoped-in-While.ensures.checks
 
-pub statements::turns-returns-in_ok-scoped-in-While-clause-checks :
-    goal.statements::turns-returns-in_ok-scoped-in-While-clause-checks
-statements::turns-returns-in_ok-scoped-in-While-clause-checks t c =
-    settled_says (fault_of c.boolean.new.node) c.settle.result (walk_of c.scoped.new.body c.scoped.new.out) (Checking c.args.body.now.atomic_params c.args.around c.args.node (form_of (plain_stmt c.args.stmt.now)) (walk_of c.args.body.now c.args.out.now)) c.settle.ensures.result
-    (while_so c.args.body.now.atomic_params c.args.around c.args.node c.args.stmt.now c.in-While.test c.in-While.turn c.get.result.now c.args.body.now c.boolean.new.self c.args.out.now c.boolean.new.out (plain_typed c.in_ok-_test-in-While._test) (passes (walk_of c.scoped.new.body c.scoped.new.out)) (judged (fault_of c.boolean.new.node) (walk_of c.scoped.new.body c.scoped.new.out)) c.in-While.is refl c.in_ok-_test-in-While.ensures.ok c.boolean.ensures.same c.get.ensures c.in_ok-scoped-in-While.ensures.checks
+pub statements::repeated-returns-in_ok-scoped-in-While-clause-checks :
+    goal.statements::repeated-returns-in_ok-scoped-in-While-clause-checks
+statements::repeated-returns-in_ok-scoped-in-While-clause-checks t c =
+    settled_says (fault_of c.boolean.new.node) c.settle.result (walk_of c.scoped.new.body c.scoped.new.out)
+    (Checking c.args.body.now.atomic_params c.args.around c.args.node (form_of (plain_stmt c.args.stmt.now)) (walk_of c.args.body.now c.args.out.now))
+    c.settle.ensures.result
+    (while_so c.args.around c.args.node c.args.stmt.now c.in-While.test c.in-While.iteration c.get.result.now c.args.body.now c.args.out.now
+    c.boolean.new.out (plain_typed c.in_ok-_test-in-While._test) (passes (walk_of c.scoped.new.body c.scoped.new.out)) (judged (fault_of c.boolean.new.node) (walk_of c.scoped.new.body c.scoped.new.out))
+    c.in-While.is c.in_ok-_test-in-While.ensures.answer c.get.ensures c.in_ok-scoped-in-While.ensures.checks 
     (noted_told c.args.node c.boolean.new.node _ (passes (walk_of c.scoped.new.body c.scoped.new.out)) _ c.in_ok-_test-in-While.ensures.node refl))
 
-pub statements::turns-returns-in_err-_start-in-Foreach-clause-checks :
-    goal.statements::turns-returns-in_err-_start-in-Foreach-clause-checks
-statements::turns-returns-in_err-_start-in-Foreach-clause-checks t c =
-    stopped (λ q. Typing c.args.body.now.env (plain_expr c.in-Foreach.start) c.args.out.now (refused q)) (Checking c.args.body.now.atomic_params c.args.around c.args.node (form_of (plain_stmt c.args.stmt.now)) (walk_of c.args.body.now c.args.out.now)) c.from_residual-in_err-_start-in-Foreach.result _ c.in_err-_start-in-Foreach.field-0.0 c.from_residual-in_err-_start-in-Foreach.ensures.1
-    (λ q d. start_stops c.args.body.now.atomic_params c.args.around c.args.node c.args.stmt.now c.in-Foreach.nd c.in-Foreach.var c.in-Foreach.start c.in-Foreach.count c.in-Foreach.turn c.args.body.now c.args.out.now q c.in-Foreach.is d)
-    c.in_err-_start-in-Foreach.ensures.fault
+pub statements::repeated-returns-in_err-_start-in-Foreach-clause-checks :
+    goal.statements::repeated-returns-in_err-_start-in-Foreach-clause-checks
+statements::repeated-returns-in_err-_start-in-Foreach-clause-checks t c =
+    stopped (λ q. Typing c.args.body.now.env (plain_expr c.in-Foreach.start) c.args.out.now (refused q))
+    (Checking c.args.body.now.atomic_params c.args.around c.args.node (form_of (plain_stmt c.args.stmt.now)) (walk_of c.args.body.now c.args.out.now))
+    c.from_residual-in_err-_start-in-Foreach.result _ c.in_err-_start-in-Foreach.field-0.0 c.from_residual-in_err-_start-in-Foreach.ensures.1
+    (λ q d.
+    start_stops c.args.body.now.atomic_params c.args.around c.args.node c.args.stmt.now c.in-Foreach.nd c.in-Foreach.var c.in-Foreach.start c.in-Foreach.count c.in-Foreach.iteration
+    c.args.body.now c.args.out.now q c.in-Foreach.is d)
+    c.in_err-_start-in-Foreach.ensures.answer
 
-pub statements::turns-returns-in_err-_count-in-Foreach-clause-checks :
-    goal.statements::turns-returns-in_err-_count-in-Foreach-clause-checks
-statements::turns-returns-in_err-_count-in-Foreach-clause-checks t c =
-    stopped (λ q. Typing c.int.new.self.env (plain_expr c.in-Foreach.count) c.int.new.out (refused q)) (Checking c.args.body.now.atomic_params c.args.around c.args.node (form_of (plain_stmt c.args.stmt.now)) (walk_of c.args.body.now c.args.out.now)) c.from_residual-in_err-_count-in-Foreach.result _ c.in_err-_count-in-Foreach.field-0.0 c.from_residual-in_err-_count-in-Foreach.ensures.1
-    (λ q d. count_stops c.args.body.now.atomic_params c.args.around c.args.node c.args.stmt.now c.in-Foreach.nd c.in-Foreach.var c.in-Foreach.start c.in-Foreach.count c.in-Foreach.turn c.args.body.now c.int.new.self c.args.out.now c.int.new.out (plain_typed c.in_ok-_start-in-Foreach._start) q c.in-Foreach.is c.in_ok-_start-in-Foreach.ensures.ok c.int.ensures.same d)
-    c.in_err-_count-in-Foreach.ensures.fault
+pub statements::repeated-returns-in_err-_count-in-Foreach-clause-checks :
+    goal.statements::repeated-returns-in_err-_count-in-Foreach-clause-checks
+statements::repeated-returns-in_err-_count-in-Foreach-clause-checks t c =
+    stopped (λ q. Typing c.args.body.now.env (plain_expr c.in-Foreach.count) c.int.new.out (refused q))
+    (Checking c.args.body.now.atomic_params c.args.around c.args.node (form_of (plain_stmt c.args.stmt.now)) (walk_of c.args.body.now c.args.out.now))
+    c.from_residual-in_err-_count-in-Foreach.result _ c.in_err-_count-in-Foreach.field-0.0 c.from_residual-in_err-_count-in-Foreach.ensures.1
+    (λ q d.
+    count_stops c.args.body.now.atomic_params c.args.around c.args.node c.args.stmt.now c.in-Foreach.nd c.in-Foreach.var c.in-Foreach.start c.in-Foreach.count c.in-Foreach.iteration
+    c.args.body.now c.args.out.now c.int.new.out (plain_typed c.in_ok-_start-in-Foreach._start) q c.in-Foreach.is
+    c.in_ok-_start-in-Foreach.ensures.answer d)
+    c.in_err-_count-in-Foreach.ensures.answer
 
-pub statements::turns-returns-in_ok-_count-in-Foreach-clause-checks :
-    goal.statements::turns-returns-in_ok-_count-in-Foreach-clause-checks
-statements::turns-returns-in_ok-_count-in-Foreach-clause-checks t c =
-    says_all (Turning c.int-in-Foreach.new.self.atomic_params c.args.around c.int-in-Foreach.new.node c.in-Foreach.nd c.in-Foreach.var (plain_stmt c.get-in-Foreach.result.now) (walk_of c.int-in-Foreach.new.self c.int-in-Foreach.new.out)) (Checking c.args.body.now.atomic_params c.args.around c.args.node (form_of (plain_stmt c.args.stmt.now)) (walk_of c.args.body.now c.args.out.now)) c.foreach.result (walk_of c.foreach.new.body c.foreach.new.out)
-    (λ v d. foreach_so c.args.body.now.atomic_params c.args.around c.args.node c.int.new.node c.int-in-Foreach.new.node c.args.stmt.now c.in-Foreach.nd c.in-Foreach.var c.in-Foreach.start c.in-Foreach.count c.in-Foreach.turn c.get-in-Foreach.result.now c.args.body.now c.int.new.self c.int-in-Foreach.new.self c.args.out.now c.int.new.out c.int-in-Foreach.new.out (plain_typed c.in_ok-_start-in-Foreach._start) (plain_typed c.in_ok-_count-in-Foreach._count) v
-    c.in-Foreach.is refl c.in_ok-_start-in-Foreach.ensures.ok c.int.ensures.same c.in_ok-_start-in-Foreach.ensures.node c.in_ok-_count-in-Foreach.ensures.ok c.int-in-Foreach.ensures.same c.in_ok-_count-in-Foreach.ensures.node c.get-in-Foreach.ensures d)
+pub statements::repeated-returns-in_ok-_count-in-Foreach-clause-checks :
+    goal.statements::repeated-returns-in_ok-_count-in-Foreach-clause-checks
+statements::repeated-returns-in_ok-_count-in-Foreach-clause-checks t c =
+    says_all
+    (Iterating c.args.body.now.atomic_params c.args.around c.int-in-Foreach.new.node c.in-Foreach.nd c.in-Foreach.var (plain_stmt c.get-in-Foreach.result.now)
+    (walk_of c.args.body.now c.int-in-Foreach.new.out))
+    (Checking c.args.body.now.atomic_params c.args.around c.args.node (form_of (plain_stmt c.args.stmt.now)) (walk_of c.args.body.now c.args.out.now))
+    c.foreach.result (walk_of c.foreach.new.body c.foreach.new.out)
+    (λ v d.
+    foreach_so c.args.around c.args.node c.int.new.node c.int-in-Foreach.new.node c.args.stmt.now c.in-Foreach.nd c.in-Foreach.var c.in-Foreach.start c.in-Foreach.count c.in-Foreach.iteration
+    c.get-in-Foreach.result.now c.args.body.now c.args.out.now c.int.new.out c.int-in-Foreach.new.out
+    (plain_typed c.in_ok-_start-in-Foreach._start) (plain_typed c.in_ok-_count-in-Foreach._count) v c.in-Foreach.is
+    c.in_ok-_start-in-Foreach.ensures.answer c.in_ok-_start-in-Foreach.ensures.node c.in_ok-_count-in-Foreach.ensures.answer
+    c.in_ok-_count-in-Foreach.ensures.node c.get-in-Foreach.ensures d)
     c.foreach.ensures.checks
 
-pub statements::turns-returns-in-ForeachParts-clause-checks :
-    goal.statements::turns-returns-in-ForeachParts-clause-checks
-statements::turns-returns-in-ForeachParts-clause-checks t c =
-    says_all (Parting c.args.body.now.atomic_params c.args.around c.args.node c.in-ForeachParts.view c.in-ForeachParts.var (plain_expr c.in-ForeachParts.array) (plain_expr c.in-ForeachParts.count) (plain_stmt c.get-in-ForeachParts.result.now) (walk_of c.args.body.now c.args.out.now)) (Checking c.args.body.now.atomic_params c.args.around c.args.node (form_of (plain_stmt c.args.stmt.now)) (walk_of c.args.body.now c.args.out.now)) c.foreach_parts.result (walk_of c.foreach_parts.new.body c.foreach_parts.new.out)
-    (λ v d. parts_so c.args.body.now.atomic_params c.args.around c.args.node c.args.stmt.now c.in-ForeachParts.view c.in-ForeachParts.var c.in-ForeachParts.array c.in-ForeachParts.count c.in-ForeachParts.turn c.get-in-ForeachParts.result.now (walk_of c.args.body.now c.args.out.now) v c.in-ForeachParts.is c.get-in-ForeachParts.ensures d)
+pub statements::repeated-returns-in-ForeachParts-clause-checks :
+    goal.statements::repeated-returns-in-ForeachParts-clause-checks
+statements::repeated-returns-in-ForeachParts-clause-checks t c =
+    says_all
+    (Parting c.args.body.now.atomic_params c.args.around c.args.node c.in-ForeachParts.view c.in-ForeachParts.var (plain_expr c.in-ForeachParts.array) (plain_expr c.in-ForeachParts.count)
+    (plain_stmt c.get-in-ForeachParts.result.now) (walk_of c.args.body.now c.args.out.now))
+    (Checking c.args.body.now.atomic_params c.args.around c.args.node (form_of (plain_stmt c.args.stmt.now)) (walk_of c.args.body.now c.args.out.now))
+    c.foreach_parts.result (walk_of c.foreach_parts.new.body c.foreach_parts.new.out)
+    (λ v d.
+    parts_so c.args.body.now.atomic_params c.args.around c.args.node c.args.stmt.now c.in-ForeachParts.view c.in-ForeachParts.var c.in-ForeachParts.array c.in-ForeachParts.count
+    c.in-ForeachParts.iteration c.get-in-ForeachParts.result.now (walk_of c.args.body.now c.args.out.now) v c.in-ForeachParts.is c.get-in-ForeachParts.ensures d)
     c.foreach_parts.ensures.checks
 
-pub constructs::atomic-returns-in_err-block-clause-checks :
-    goal.constructs::atomic-returns-in_err-block-clause-checks
+pub constructs::atomic-returns-in_err-block-clause-checks : goal.constructs::atomic-returns-in_err-block-clause-checks
 constructs::atomic-returns-in_err-block-clause-checks t c =
-    atomic_refused c.args.body.now.atomic_params c.args.body.now c.args.around c.inside.result c.args.node (plain_stmts (map plain_stmt c.args.stmts.now)) c.args.out.now c.new-inner.result (walk_of c.block.new.body c.block.new.out) _
-    c.from_residual.result c.in_err-block.field-0.0 c.from_residual.ensures.1 c.inside.ensures c.new-inner.ensures c.in_err-block.ensures.checks
+    atomic_refused c.args.body.now.atomic_params c.args.body.now c.args.around c.inside.result c.args.node (plain_stmts (map plain_stmt c.args.stmts.now)) c.args.out.now c.new-inner.result
+    _ c.from_residual.result c.in_err-block.field-0.0 c.from_residual.ensures.1 c.inside.ensures
+    c.new-inner.ensures c.in_err-block.ensures.checks
 
-pub constructs::atomic-returns-in_err-settle-clause-checks :
-    goal.constructs::atomic-returns-in_err-settle-clause-checks
+pub constructs::atomic-returns-in_err-settle-clause-checks : goal.constructs::atomic-returns-in_err-settle-clause-checks
 constructs::atomic-returns-in_err-settle-clause-checks t c =
-    atomic_told c.args.body.now.atomic_params c.args.body.now c.block.new.body c.args.around c.inside.result c.args.node c.note_if.new.self (plain_stmts (map plain_stmt c.args.stmts.now)) c.args.out.now c.new-inner.result c.block.new.out _
-    c.from_residual-in_err-settle.result c.in_err-settle.field-0.0 c.from_residual-in_err-settle.ensures.1 c.inside.ensures c.new-inner.ensures c.in_ok-block.ensures.checks c.note_if.ensures.node c.in_err-settle.ensures.result
+    atomic_told c.args.body.now.atomic_params c.args.body.now c.block.new.body c.args.around c.inside.result c.args.node c.note_if.new.self (plain_stmts (map plain_stmt c.args.stmts.now))
+    c.args.out.now c.new-inner.result c.block.new.out _ c.from_residual-in_err-settle.result c.in_err-settle.field-0.0
+    c.from_residual-in_err-settle.ensures.1 c.inside.ensures c.new-inner.ensures c.in_ok-block.ensures.checks c.note_if.ensures.node
+    c.in_err-settle.ensures.result
 
 pub constructs::atomic-returns-clause-nd : goal.constructs::atomic-returns-clause-nd
 constructs::atomic-returns-clause-nd t c =
-    atomic_nd (nothing_leaves marks.Set) c.args.out.now c.block.new.out c.new-inner.result c.take_in.new.out (some_holds_nd (plain_stmts (map plain_stmt c.args.stmts.now))) c.new-inner.ensures
-    (c.in_ok-take_in.ensures.whole (nothing_leaves marks.Set) c.nothing-leaving.ensures) c.in_ok-block.ensures.nd
+    taken_nd c.from_here-leaving.result c.args.out.now c.block.new.out c.take_in.new.out (some_holds_nd (plain_stmts (map plain_stmt c.args.stmts.now)))
+    c.in_ok-take_in.ensures (begun_nd c.new-inner.result c.block.new.out (some_holds_nd (plain_stmts (map plain_stmt c.args.stmts.now))) c.new-inner.ensures c.in_ok-block.ensures.nd)
 
 pub constructs::atomic-returns-clause-checks : goal.constructs::atomic-returns-clause-checks
 constructs::atomic-returns-clause-checks t c =
-    atomic_passes c.args.body.now.atomic_params c.args.body.now c.block.new.body c.args.around c.inside.result c.args.node c.note_if.new.self (plain_stmts (map plain_stmt c.args.stmts.now)) c.args.out.now c.new-inner.result c.block.new.out
-    c.take_in.new.out c.in_ok-entered.field-0 c.push.new.self c.nothing-leaving.result c.inside.ensures c.new-inner.ensures c.in_ok-block.ensures.checks c.note_if.ensures.node c.in_ok-settle.ensures.clean c.in_ok-entered.ensures
-    c.in_ok-push.ensures.ok c.nothing-leaving.ensures c.in_ok-take_in.ensures.whole
+    atomic_passes c.args.body.now.atomic_params c.args.body.now c.block.new.body c.args.around c.inside.result c.args.node c.note_if.new.self (plain_stmts (map plain_stmt c.args.stmts.now))
+    c.args.out.now c.new-inner.result c.block.new.out c.take_in.new.out c.in_ok-entered.field-0 c.push.new.self c.from_here-leaving.result
+    c.inside.ensures c.new-inner.ensures c.in_ok-block.ensures.checks c.note_if.ensures.node c.in_ok-settle.ensures.clean
+    c.in_ok-entered.ensures c.in_ok-push.ensures.ok c.from_here-leaving.ensures c.in_ok-take_in.ensures
 
 pub constructs::foreach-returns-in_err-scoped-clause-checks :
     goal.constructs::foreach-returns-in_err-scoped-clause-checks
 constructs::foreach-returns-in_err-scoped-clause-checks t c =
-    turn_stopped c.args.body.now c.declare_variable.new.self c.args.around c.inside.result c.args.node c.note_duplicate.new.node c.args.nd c.args.var c.variable-number.result (plain_stmt c.args.turn.now) c.args.out.now c.new-inner.result
-    (walk_of c.scoped.new.body c.scoped.new.out) _ c.from_residual-in_err-scoped.result c.in_err-scoped.field-0.0 c.from_residual-in_err-scoped.ensures.1 c.note_duplicate.ensures.node c.variable-number.ensures.value c.new-inner.ensures
-    c.in_ok-declare_variable.ensures c.inside.ensures c.in_err-scoped.ensures.checks
+    iteration_stopped c.args.body.now c.declare_variable.new.self c.args.around c.inside.result c.args.node c.args.nd c.args.var (plain_stmt c.args.iteration.now)
+    c.args.out.now c.new-inner.result _ c.from_residual-in_err-scoped.result c.in_err-scoped.field-0.0
+    c.from_residual-in_err-scoped.ensures.1 c.new-inner.ensures c.in_ok-declare_variable.ensures.whole c.inside.ensures c.in_err-scoped.ensures.checks
 
 pub constructs::foreach-returns-in_err-settle-clause-checks :
     goal.constructs::foreach-returns-in_err-settle-clause-checks
 constructs::foreach-returns-in_err-settle-clause-checks t c =
-    let turn : Turn c.args.body.now c.scoped.new.body c.args.around c.args.node c.note_duplicate.new.node c.note_if.new.self c.args.var (plain_stmt c.args.turn.now) c.args.out.now c.scoped.new.out c.in_ok-assigns_outer.field-0 = record {
-      first_is = c.note_duplicate.ensures.node;
-      second_is = c.note_if.ensures.node;
+    let passed : Iterated c.args.body.now c.scoped.new.body c.args.around c.args.node c.note_if.new.self c.args.var (plain_stmt c.args.iteration.now) c.args.out.now
+    c.scoped.new.out c.in_ok-assigns_outer.field-0 = record {
+      second_is =
+          second_noted c.args.body.now.env c.args.var c.args.node c.note_declaration.new.node c.note_if.new.self c.in_ok-assigns_outer.field-0
+          c.note_declaration.ensures.node c.note_if.ensures.node;
       in_scope =
-          turn_begun c.args.body.now c.declare_variable.new.self c.args.around c.inside.result c.args.node c.note_duplicate.new.node c.args.var c.variable-number.result (plain_stmt c.args.turn.now) c.args.out.now c.new-inner.result
-          (passes (walk_of c.scoped.new.body c.scoped.new.out)) c.note_duplicate.ensures.node c.variable-number.ensures.value c.new-inner.ensures c.in_ok-declare_variable.ensures c.inside.ensures c.in_ok-scoped.ensures.checks;
+          iteration_in c.args.body.now c.declare_variable.new.self c.args.around c.inside.result c.args.var (plain_stmt c.args.iteration.now) c.args.out.now
+          c.new-inner.result (passes (walk_of c.scoped.new.body c.scoped.new.out)) c.new-inner.ensures c.in_ok-declare_variable.ensures.whole
+          c.inside.ensures c.in_ok-scoped.ensures.checks;
       assigning = c.in_ok-assigns_outer.ensures;
     } in
-    turn_told c.args.body.now c.scoped.new.body c.args.around c.args.node c.note_duplicate.new.node c.note_if.new.self c.args.nd c.args.var (plain_stmt c.args.turn.now) c.args.out.now c.scoped.new.out c.in_ok-assigns_outer.field-0 _
-    c.from_residual-in_err-settle.result c.in_err-settle.field-0.0 c.from_residual-in_err-settle.ensures.1 turn c.in_err-settle.ensures.result
+    iteration_told c.args.body.now c.scoped.new.body c.args.around c.args.node c.note_if.new.self c.args.nd c.args.var (plain_stmt c.args.iteration.now)
+    c.args.out.now c.scoped.new.out c.in_ok-assigns_outer.field-0 _ c.from_residual-in_err-settle.result c.in_err-settle.field-0.0
+    c.from_residual-in_err-settle.ensures.1 passed c.in_err-settle.ensures.result
 
 pub constructs::foreach-returns-in_err-settle-2-clause-checks :
     goal.constructs::foreach-returns-in_err-settle-2-clause-checks
 constructs::foreach-returns-in_err-settle-2-clause-checks t c =
-    let turn : Turn c.args.body.now c.scoped.new.body c.args.around c.args.node c.note_duplicate.new.node c.note_if.new.self c.args.var (plain_stmt c.args.turn.now) c.args.out.now c.scoped.new.out c.in_ok-assigns_outer.field-0 = record {
-      first_is = c.note_duplicate.ensures.node;
-      second_is = c.note_if.ensures.node;
+    let passed : Iterated c.args.body.now c.scoped.new.body c.args.around c.args.node c.note_if.new.self c.args.var (plain_stmt c.args.iteration.now) c.args.out.now
+    c.scoped.new.out c.in_ok-assigns_outer.field-0 = record {
+      second_is =
+          second_noted c.args.body.now.env c.args.var c.args.node c.note_declaration.new.node c.note_if.new.self c.in_ok-assigns_outer.field-0
+          c.note_declaration.ensures.node c.note_if.ensures.node;
       in_scope =
-          turn_begun c.args.body.now c.declare_variable.new.self c.args.around c.inside.result c.args.node c.note_duplicate.new.node c.args.var c.variable-number.result (plain_stmt c.args.turn.now) c.args.out.now c.new-inner.result
-          (passes (walk_of c.scoped.new.body c.scoped.new.out)) c.note_duplicate.ensures.node c.variable-number.ensures.value c.new-inner.ensures c.in_ok-declare_variable.ensures c.inside.ensures c.in_ok-scoped.ensures.checks;
+          iteration_in c.args.body.now c.declare_variable.new.self c.args.around c.inside.result c.args.var (plain_stmt c.args.iteration.now) c.args.out.now
+          c.new-inner.result (passes (walk_of c.scoped.new.body c.scoped.new.out)) c.new-inner.ensures c.in_ok-declare_variable.ensures.whole
+          c.inside.ensures c.in_ok-scoped.ensures.checks;
       assigning = c.in_ok-assigns_outer.ensures;
     } in
-    let reached : c.if-inner.inner ≡ (c.scoped.new.out.reaches_nd || c.args.nd) =
-    elim c.if-inner.branch [ constructs::foreach-then-inner w ↦ or_then c.scoped.new.out.reaches_nd c.args.nd c.if-inner.inner w.if-inner.true w.inner-is | constructs::foreach-else-inner w ↦ or_else c.scoped.new.out.reaches_nd c.args.nd c.if-inner.inner w.if-inner.false w.inner-is ] in
-    let met : TurnsMet c.args.body.now c.scoped.new.body c.args.node c.note_if.new.self c.settle.new.self c.note_if-2.new.self c.args.nd c.in_ok-passes.passes c.variable-number.result c.scoped.new.body.atomic_params c.leave.new.self
-    c.scoped.new.out (reaching c.scoped.new.out c.if-inner.inner) c.mark-scope.result c.interference.result = record {
-      number_is = number_is c.args.body.now.env c.args.var c.args.node c.note_duplicate.new.node c.variable-number.result c.note_duplicate.ensures.node c.variable-number.ensures.value;
-      params_are = params_kept c.args.body.now c.declare_variable.new.self c.scoped.new.body (ap (λ (z : Body). z.atomic_params) c.in_ok-declare_variable.ensures) c.in_ok-scoped.ensures.home;
+    let reached : c.if-inner.inner ≡ (c.scoped.new.out.reaches_nd || c.args.nd) = (elim c.if-inner.branch [
+      | constructs::foreach-then-inner w ↦ or_then c.scoped.new.out.reaches_nd c.args.nd c.if-inner.inner w.if-inner.true w.inner-is
+      | constructs::foreach-else-inner w ↦ or_else c.scoped.new.out.reaches_nd c.args.nd c.if-inner.inner w.if-inner.false w.inner-is
+    ]) in
+    let met : IterationsMet c.args.body.now c.scoped.new.body c.note_if.new.self c.settle.new.self c.note_if-2.new.self c.args.nd c.in_ok-clash.clash
+    c.slots-slot.result c.leave.new.self c.mark-scope.result c.scoped.new.out (reaching c.scoped.new.out c.if-inner.inner) c.interference.result = record {
+      home = c.in_ok-scoped.ensures.home ∙ c.in_ok-declare_variable.ensures.home;
       scope_is = c.mark-scope.ensures;
       env_is = c.leave.ensures.whole;
-      turn_is = reached_is c.scoped.new.out c.args.nd c.if-inner.inner reached;
-      pass_is = c.in_ok-passes.ensures;
+      slot_is = c.slots-slot.ensures;
+      iteration_is = reached_is c.scoped.new.out c.args.nd c.if-inner.inner reached;
+      clash_is = c.in_ok-clash.ensures;
       settle_is = c.settle.ensures.forgotten;
       reason_is = c.interference.ensures;
       third_is = c.note_if-2.ensures.node;
     } in
-    turns_told c.args.body.now c.scoped.new.body c.args.around c.args.node c.note_duplicate.new.node c.note_if.new.self c.settle.new.self c.note_if-2.new.self c.args.nd c.in_ok-assigns_outer.field-0 c.in_ok-passes.passes c.args.var
-    (plain_stmt c.args.turn.now) c.variable-number.result c.scoped.new.body.atomic_params c.leave.new.self c.args.out.now c.scoped.new.out (reaching c.scoped.new.out c.if-inner.inner) c.mark-scope.result c.interference.result _
-    c.from_residual-in_err-settle-2.result c.in_err-settle-2.field-0.0 c.from_residual-in_err-settle-2.ensures.1 turn met c.in_ok-settle.ensures.clean c.in_err-settle-2.ensures.result
+    iterations_told c.args.body.now c.scoped.new.body c.args.around c.args.node c.note_if.new.self c.settle.new.self c.note_if-2.new.self c.args.nd
+    c.in_ok-assigns_outer.field-0 c.in_ok-clash.clash c.args.var (plain_stmt c.args.iteration.now) c.slots-slot.result c.leave.new.self c.mark-scope.result
+    c.args.out.now c.scoped.new.out (reaching c.scoped.new.out c.if-inner.inner) c.interference.result _ c.from_residual-in_err-settle-2.result
+    c.in_err-settle-2.field-0.0 c.from_residual-in_err-settle-2.ensures.1 passed met c.in_ok-settle.ensures.clean c.in_err-settle-2.ensures.result
 
 pub constructs::foreach-returns-clause-nd : goal.constructs::foreach-returns-clause-nd
 constructs::foreach-returns-clause-nd t c =
-    let reached : c.if-inner.inner ≡ (c.scoped.new.out.reaches_nd || c.args.nd) =
-    elim c.if-inner.branch [ constructs::foreach-then-inner w ↦ or_then c.scoped.new.out.reaches_nd c.args.nd c.if-inner.inner w.if-inner.true w.inner-is | constructs::foreach-else-inner w ↦ or_else c.scoped.new.out.reaches_nd c.args.nd c.if-inner.inner w.if-inner.false w.inner-is ] in
-    turns_nd (variable_leaves c.variable-number.result c.marks_behind.result) c.args.out.now c.scoped.new.out c.new-inner.result (reaching c.scoped.new.out c.if-inner.inner) c.take_in.new.out c.args.nd
-    (holds_nd (plain_stmt c.args.turn.now)) c.new-inner.ensures (reached_is c.scoped.new.out c.args.nd c.if-inner.inner reached)
-    (c.in_ok-take_in.ensures.whole (variable_leaves c.variable-number.result c.marks_behind.result) c.in_ok-leaving.ensures) c.in_ok-scoped.ensures.nd
+    let reached : c.if-inner.inner ≡ (c.scoped.new.out.reaches_nd || c.args.nd) = (elim c.if-inner.branch [
+      | constructs::foreach-then-inner w ↦ or_then c.scoped.new.out.reaches_nd c.args.nd c.if-inner.inner w.if-inner.true w.inner-is
+      | constructs::foreach-else-inner w ↦ or_else c.scoped.new.out.reaches_nd c.args.nd c.if-inner.inner w.if-inner.false w.inner-is
+    ]) in
+    iterations_nd c.from_here-leaving.result c.args.out.now c.scoped.new.out c.new-inner.result (reaching c.scoped.new.out c.if-inner.inner) c.take_in.new.out
+    c.args.nd (holds_nd (plain_stmt c.args.iteration.now)) c.new-inner.ensures (reached_is c.scoped.new.out c.args.nd c.if-inner.inner reached)
+    c.in_ok-take_in.ensures c.in_ok-scoped.ensures.nd
 
 pub constructs::foreach-returns-clause-checks : goal.constructs::foreach-returns-clause-checks
 constructs::foreach-returns-clause-checks t c =
-    let turn : Turn c.args.body.now c.scoped.new.body c.args.around c.args.node c.note_duplicate.new.node c.note_if.new.self c.args.var (plain_stmt c.args.turn.now) c.args.out.now c.scoped.new.out c.in_ok-assigns_outer.field-0 = record {
-      first_is = c.note_duplicate.ensures.node;
-      second_is = c.note_if.ensures.node;
+    let passed : Iterated c.args.body.now c.scoped.new.body c.args.around c.args.node c.note_if.new.self c.args.var (plain_stmt c.args.iteration.now) c.args.out.now
+    c.scoped.new.out c.in_ok-assigns_outer.field-0 = record {
+      second_is =
+          second_noted c.args.body.now.env c.args.var c.args.node c.note_declaration.new.node c.note_if.new.self c.in_ok-assigns_outer.field-0
+          c.note_declaration.ensures.node c.note_if.ensures.node;
       in_scope =
-          turn_begun c.args.body.now c.declare_variable.new.self c.args.around c.inside.result c.args.node c.note_duplicate.new.node c.args.var c.variable-number.result (plain_stmt c.args.turn.now) c.args.out.now c.new-inner.result
-          (passes (walk_of c.scoped.new.body c.scoped.new.out)) c.note_duplicate.ensures.node c.variable-number.ensures.value c.new-inner.ensures c.in_ok-declare_variable.ensures c.inside.ensures c.in_ok-scoped.ensures.checks;
+          iteration_in c.args.body.now c.declare_variable.new.self c.args.around c.inside.result c.args.var (plain_stmt c.args.iteration.now) c.args.out.now
+          c.new-inner.result (passes (walk_of c.scoped.new.body c.scoped.new.out)) c.new-inner.ensures c.in_ok-declare_variable.ensures.whole
+          c.inside.ensures c.in_ok-scoped.ensures.checks;
       assigning = c.in_ok-assigns_outer.ensures;
     } in
-    let reached : c.if-inner.inner ≡ (c.scoped.new.out.reaches_nd || c.args.nd) =
-    elim c.if-inner.branch [ constructs::foreach-then-inner w ↦ or_then c.scoped.new.out.reaches_nd c.args.nd c.if-inner.inner w.if-inner.true w.inner-is | constructs::foreach-else-inner w ↦ or_else c.scoped.new.out.reaches_nd c.args.nd c.if-inner.inner w.if-inner.false w.inner-is ] in
-    let met : TurnsMet c.args.body.now c.scoped.new.body c.args.node c.note_if.new.self c.settle.new.self c.note_if-2.new.self c.args.nd c.in_ok-passes.passes c.variable-number.result c.scoped.new.body.atomic_params c.leave.new.self
-    c.scoped.new.out (reaching c.scoped.new.out c.if-inner.inner) c.mark-scope.result c.interference.result = record {
-      number_is = number_is c.args.body.now.env c.args.var c.args.node c.note_duplicate.new.node c.variable-number.result c.note_duplicate.ensures.node c.variable-number.ensures.value;
-      params_are = params_kept c.args.body.now c.declare_variable.new.self c.scoped.new.body (ap (λ (z : Body). z.atomic_params) c.in_ok-declare_variable.ensures) c.in_ok-scoped.ensures.home;
+    let reached : c.if-inner.inner ≡ (c.scoped.new.out.reaches_nd || c.args.nd) = (elim c.if-inner.branch [
+      | constructs::foreach-then-inner w ↦ or_then c.scoped.new.out.reaches_nd c.args.nd c.if-inner.inner w.if-inner.true w.inner-is
+      | constructs::foreach-else-inner w ↦ or_else c.scoped.new.out.reaches_nd c.args.nd c.if-inner.inner w.if-inner.false w.inner-is
+    ]) in
+    let met : IterationsMet c.args.body.now c.scoped.new.body c.note_if.new.self c.settle.new.self c.note_if-2.new.self c.args.nd c.in_ok-clash.clash
+    c.slots-slot.result c.leave.new.self c.mark-scope.result c.scoped.new.out (reaching c.scoped.new.out c.if-inner.inner) c.interference.result = record {
+      home = c.in_ok-scoped.ensures.home ∙ c.in_ok-declare_variable.ensures.home;
       scope_is = c.mark-scope.ensures;
       env_is = c.leave.ensures.whole;
-      turn_is = reached_is c.scoped.new.out c.args.nd c.if-inner.inner reached;
-      pass_is = c.in_ok-passes.ensures;
+      slot_is = c.slots-slot.ensures;
+      iteration_is = reached_is c.scoped.new.out c.args.nd c.if-inner.inner reached;
+      clash_is = c.in_ok-clash.ensures;
       settle_is = c.settle.ensures.forgotten;
       reason_is = c.interference.ensures;
       third_is = c.note_if-2.ensures.node;
     } in
-    turns_pass c.args.body.now c.scoped.new.body c.args.around c.args.node c.note_duplicate.new.node c.note_if.new.self c.settle.new.self c.note_if-2.new.self c.args.nd c.in_ok-assigns_outer.field-0 c.in_ok-passes.passes c.args.var
-    (plain_stmt c.args.turn.now) c.variable-number.result c.scoped.new.body.atomic_params c.leave.new.self c.args.out.now c.scoped.new.out (reaching c.scoped.new.out c.if-inner.inner) c.take_in.new.out c.mark-scope.result
-    c.interference.result c.marks_behind.result c.in_ok-leaving.leaving turn met c.in_ok-settle.ensures.clean c.in_ok-settle-2.ensures.clean c.marks_behind.ensures c.in_ok-leaving.ensures c.in_ok-take_in.ensures.whole
+    iterations_pass c.args.body.now c.scoped.new.body c.args.around c.args.node c.note_if.new.self c.settle.new.self c.note_if-2.new.self c.args.nd
+    c.in_ok-assigns_outer.field-0 c.in_ok-clash.clash c.args.var (plain_stmt c.args.iteration.now) c.slots-slot.result c.leave.new.self c.mark-scope.result
+    c.args.out.now c.scoped.new.out (reaching c.scoped.new.out c.if-inner.inner) c.take_in.new.out c.interference.result c.marks_after.result
+    c.from_here-leaving.result passed met c.in_ok-settle.ensures.clean c.in_ok-settle-2.ensures.clean c.marks_after.ensures
+    c.from_here-leaving.ensures c.in_ok-take_in.ensures
 
 pub parts::foreach_parts-returns-in_err-outer-clause-checks :
     goal.parts::foreach_parts-returns-in_err-outer-clause-checks
 parts::foreach_parts-returns-in_err-outer-clause-checks t c =
-    range_stopped c.args.body.now c.args.around c.args.node c.variable-number.result c.args.names.0 c.args.names.1 (plain_expr c.args.range.0.now) (plain_expr c.args.range.1.now) (plain_stmt c.args.turn.now) c.args.out.now _
-    c.from_residual.result c.in_err-outer.field-0.0 c.from_residual.ensures.1 c.variable-number.ensures.value c.in_err-outer.ensures.fault
+    range_stopped c.args.body.now c.args.around c.args.node c.args.names.0 c.args.names.1 (plain_expr c.args.range.0.now) (plain_expr c.args.range.1.now) (plain_stmt c.args.iteration.now)
+    c.args.out.now _ c.from_residual.result c.in_err-outer.field-0.0 c.from_residual.ensures.1 c.in_err-outer.ensures.opening
 
 pub parts::foreach_parts-returns-in_err-scoped-clause-checks :
     goal.parts::foreach_parts-returns-in_err-scoped-clause-checks
 parts::foreach_parts-returns-in_err-scoped-clause-checks t c =
-    part_stopped c.args.body.now c.open.new.body c.args.around c.inside.result c.args.node c.open.new.node c.variable-number.result c.args.names.0 c.args.names.1 (plain_expr c.args.range.0.now) (plain_expr c.args.range.1.now) (plain_stmt c.args.turn.now) c.args.out.now
-    c.open.new.out c.new-inner.result c.in_ok-outer.outer (walk_of c.scoped.new.body c.scoped.new.out) _ c.from_residual-in_err-scoped.result c.in_err-scoped.field-0.0 c.from_residual-in_err-scoped.ensures.1 c.variable-number.ensures.value
-    c.in_ok-outer.ensures.ok c.in_ok-outer.ensures.home c.inside.ensures c.new-inner.ensures c.in_err-scoped.ensures.checks
+    part_stopped c.args.body.now c.open.new.body c.args.around c.inside.result c.args.node c.open.new.node c.args.names.0 c.args.names.1 (plain_expr c.args.range.0.now) (plain_expr c.args.range.1.now)
+    (plain_stmt c.args.iteration.now) c.args.out.now c.open.new.out c.new-inner.result c.in_ok-outer.outer _
+    c.from_residual-in_err-scoped.result c.in_err-scoped.field-0.0 c.from_residual-in_err-scoped.ensures.1 c.in_ok-outer.ensures.opening
+    c.in_ok-outer.ensures.home c.inside.ensures c.new-inner.ensures c.in_err-scoped.ensures.checks
 
 pub parts::foreach_parts-returns-in_err-settle-clause-checks :
     goal.parts::foreach_parts-returns-in_err-settle-clause-checks
 parts::foreach_parts-returns-in_err-settle-clause-checks t c =
-    let part : Part c.args.body.now c.open.new.body c.scoped.new.body c.args.around c.args.node c.open.new.node c.note_if.new.self c.variable-number.result c.args.names.0 c.args.names.1 (plain_expr c.args.range.0.now) (plain_expr c.args.range.1.now) (plain_stmt c.args.turn.now) c.args.out.now
-    c.open.new.out c.scoped.new.out c.in_ok-outer.outer c.in_ok-assigns_outer.field-0 = record {
-      number_is = c.variable-number.ensures.value;
-      opening = c.in_ok-outer.ensures.ok;
+    let part : Part c.args.body.now c.open.new.body c.scoped.new.body c.args.around c.args.node c.open.new.node c.note_if.new.self c.args.names.0 c.args.names.1 (plain_expr c.args.range.0.now) (plain_expr c.args.range.1.now)
+    (plain_stmt c.args.iteration.now) c.args.out.now c.open.new.out c.scoped.new.out c.in_ok-outer.outer c.in_ok-assigns_outer.field-0 = record {
+      opening = c.in_ok-outer.ensures.opening;
       second_is = c.note_if.ensures.node;
       in_scope =
-          part_begun c.args.body.now c.open.new.body c.args.around c.inside.result (plain_stmt c.args.turn.now) c.open.new.out c.new-inner.result (passes (walk_of c.scoped.new.body c.scoped.new.out)) c.in_ok-outer.ensures.home c.inside.ensures
-          c.new-inner.ensures c.in_ok-scoped.ensures.checks;
+          piece_begun c.args.body.now c.open.new.body c.args.around c.inside.result (plain_stmt c.args.iteration.now) c.open.new.out c.new-inner.result
+          (passes (walk_of c.scoped.new.body c.scoped.new.out)) c.in_ok-outer.ensures.home c.inside.ensures c.new-inner.ensures
+          c.in_ok-scoped.ensures.checks;
       assigning = c.in_ok-assigns_outer.ensures;
     } in
-    part_told c.args.body.now c.open.new.body c.scoped.new.body c.args.around c.args.node c.open.new.node c.note_if.new.self c.variable-number.result c.args.names.0 c.args.names.1 (plain_expr c.args.range.0.now) (plain_expr c.args.range.1.now) (plain_stmt c.args.turn.now)
-    c.args.out.now c.open.new.out c.scoped.new.out c.in_ok-outer.outer c.in_ok-assigns_outer.field-0 _ c.from_residual-in_err-settle.result c.in_err-settle.field-0.0 c.from_residual-in_err-settle.ensures.1 part c.in_err-settle.ensures.result
+    part_told c.args.body.now c.open.new.body c.scoped.new.body c.args.around c.args.node c.open.new.node c.note_if.new.self c.args.names.0 c.args.names.1 (plain_expr c.args.range.0.now) (plain_expr c.args.range.1.now)
+    (plain_stmt c.args.iteration.now) c.args.out.now c.open.new.out c.scoped.new.out c.in_ok-outer.outer c.in_ok-assigns_outer.field-0 _
+    c.from_residual-in_err-settle.result c.in_err-settle.field-0.0 c.from_residual-in_err-settle.ensures.1 part c.in_err-settle.ensures.result
 
 pub parts::foreach_parts-returns-in_err-settle-2-clause-checks :
     goal.parts::foreach_parts-returns-in_err-settle-2-clause-checks
 parts::foreach_parts-returns-in_err-settle-2-clause-checks t c =
-    let part : Part c.args.body.now c.open.new.body c.scoped.new.body c.args.around c.args.node c.open.new.node c.note_if.new.self c.variable-number.result c.args.names.0 c.args.names.1 (plain_expr c.args.range.0.now) (plain_expr c.args.range.1.now) (plain_stmt c.args.turn.now) c.args.out.now
-    c.open.new.out c.scoped.new.out c.in_ok-outer.outer c.in_ok-assigns_outer.field-0 = record {
-      number_is = c.variable-number.ensures.value;
-      opening = c.in_ok-outer.ensures.ok;
+    let part : Part c.args.body.now c.open.new.body c.scoped.new.body c.args.around c.args.node c.open.new.node c.note_if.new.self c.args.names.0 c.args.names.1 (plain_expr c.args.range.0.now) (plain_expr c.args.range.1.now)
+    (plain_stmt c.args.iteration.now) c.args.out.now c.open.new.out c.scoped.new.out c.in_ok-outer.outer c.in_ok-assigns_outer.field-0 = record {
+      opening = c.in_ok-outer.ensures.opening;
       second_is = c.note_if.ensures.node;
       in_scope =
-          part_begun c.args.body.now c.open.new.body c.args.around c.inside.result (plain_stmt c.args.turn.now) c.open.new.out c.new-inner.result (passes (walk_of c.scoped.new.body c.scoped.new.out)) c.in_ok-outer.ensures.home c.inside.ensures
-          c.new-inner.ensures c.in_ok-scoped.ensures.checks;
+          piece_begun c.args.body.now c.open.new.body c.args.around c.inside.result (plain_stmt c.args.iteration.now) c.open.new.out c.new-inner.result
+          (passes (walk_of c.scoped.new.body c.scoped.new.out)) c.in_ok-outer.ensures.home c.inside.ensures c.new-inner.ensures
+          c.in_ok-scoped.ensures.checks;
       assigning = c.in_ok-assigns_outer.ensures;
     } in
-    let met : PartsMet c.args.body.now c.scoped.new.body c.note_if.new.self c.settle.new.self c.note_if-2.new.self c.in_ok-passes.passes c.variable-number.result c.leave.new.self c.scoped.new.out c.mark-scope.result = record {
+    let met : PartsMet c.args.body.now c.scoped.new.body c.note_if.new.self c.settle.new.self c.note_if-2.new.self c.in_ok-passes.passes c.slots-part.result
+    (c.slots-part.result + 4) c.leave.new.self c.mark-scope.result c.scoped.new.out = record {
+      home = c.in_ok-scoped.ensures.home ∙ c.in_ok-outer.ensures.home;
       scope_is = c.mark-scope.ensures;
       env_is = c.leave.ensures.whole;
+      part_is = c.slots-part.ensures;
+      variable_is = refl;
       pass_is = c.in_ok-passes.ensures;
       settle_is = c.settle.ensures.forgotten;
       third_is = c.note_if-2.ensures.node;
     } in
-    parts_told c.args.body.now c.open.new.body c.scoped.new.body c.args.around c.args.node c.open.new.node c.note_if.new.self c.settle.new.self c.note_if-2.new.self c.variable-number.result c.args.names.0 c.args.names.1 (plain_expr c.args.range.0.now) (plain_expr c.args.range.1.now) (plain_stmt c.args.turn.now)
-    c.args.out.now c.open.new.out c.scoped.new.out c.in_ok-outer.outer c.in_ok-assigns_outer.field-0 c.in_ok-passes.passes c.leave.new.self c.mark-scope.result _ c.from_residual-in_err-settle-2.result c.in_err-settle-2.field-0.0
-    c.from_residual-in_err-settle-2.ensures.1 part met c.in_ok-settle.ensures.clean c.in_err-settle-2.ensures.result
+    parts_told c.args.body.now c.open.new.body c.scoped.new.body c.args.around c.args.node c.open.new.node c.note_if.new.self c.settle.new.self c.note_if-2.new.self
+    c.args.names.0 c.args.names.1 (plain_expr c.args.range.0.now) (plain_expr c.args.range.1.now) (plain_stmt c.args.iteration.now) c.args.out.now c.open.new.out c.scoped.new.out
+    c.in_ok-outer.outer c.in_ok-assigns_outer.field-0 c.in_ok-passes.passes c.slots-part.result (c.slots-part.result + 4) c.leave.new.self
+    c.mark-scope.result _ c.from_residual-in_err-settle-2.result c.in_err-settle-2.field-0.0 c.from_residual-in_err-settle-2.ensures.1 part met
+    c.in_ok-settle.ensures.clean c.in_err-settle-2.ensures.result
 
 pub parts::foreach_parts-returns-clause-nd : goal.parts::foreach_parts-returns-clause-nd
 parts::foreach_parts-returns-clause-nd t c =
-    parts_nd (variable_leaves c.variable-number.result marks.Dropped) c.args.out.now c.open.new.out c.scoped.new.out c.new-inner.result c.in_ok-inner.inner c.take_in.new.out c.variable-number.result c.in_ok-outer.outer
-    (holds_nd (plain_stmt c.args.turn.now)) c.new-inner.ensures c.in_ok-inner.ensures (c.in_ok-take_in.ensures.whole (variable_leaves c.variable-number.result marks.Dropped) c.in_ok-leaving.ensures) c.in_ok-outer.ensures.nd
-    c.in_ok-scoped.ensures.nd
+    parts_nd c.from_here-leaving.result c.args.out.now c.open.new.out c.scoped.new.out c.new-inner.result c.in_ok-inner.inner c.take_in.new.out
+    c.slots-part.result c.in_ok-outer.outer (holds_nd (plain_stmt c.args.iteration.now)) c.new-inner.ensures c.in_ok-inner.ensures c.in_ok-take_in.ensures
+    c.in_ok-outer.ensures.nd c.in_ok-scoped.ensures.nd
 
 pub parts::foreach_parts-returns-clause-checks : goal.parts::foreach_parts-returns-clause-checks
 parts::foreach_parts-returns-clause-checks t c =
-    let part : Part c.args.body.now c.open.new.body c.scoped.new.body c.args.around c.args.node c.open.new.node c.note_if.new.self c.variable-number.result c.args.names.0 c.args.names.1 (plain_expr c.args.range.0.now) (plain_expr c.args.range.1.now) (plain_stmt c.args.turn.now) c.args.out.now
-    c.open.new.out c.scoped.new.out c.in_ok-outer.outer c.in_ok-assigns_outer.field-0 = record {
-      number_is = c.variable-number.ensures.value;
-      opening = c.in_ok-outer.ensures.ok;
+    let part : Part c.args.body.now c.open.new.body c.scoped.new.body c.args.around c.args.node c.open.new.node c.note_if.new.self c.args.names.0 c.args.names.1 (plain_expr c.args.range.0.now) (plain_expr c.args.range.1.now)
+    (plain_stmt c.args.iteration.now) c.args.out.now c.open.new.out c.scoped.new.out c.in_ok-outer.outer c.in_ok-assigns_outer.field-0 = record {
+      opening = c.in_ok-outer.ensures.opening;
       second_is = c.note_if.ensures.node;
       in_scope =
-          part_begun c.args.body.now c.open.new.body c.args.around c.inside.result (plain_stmt c.args.turn.now) c.open.new.out c.new-inner.result (passes (walk_of c.scoped.new.body c.scoped.new.out)) c.in_ok-outer.ensures.home c.inside.ensures
-          c.new-inner.ensures c.in_ok-scoped.ensures.checks;
+          piece_begun c.args.body.now c.open.new.body c.args.around c.inside.result (plain_stmt c.args.iteration.now) c.open.new.out c.new-inner.result
+          (passes (walk_of c.scoped.new.body c.scoped.new.out)) c.in_ok-outer.ensures.home c.inside.ensures c.new-inner.ensures
+          c.in_ok-scoped.ensures.checks;
       assigning = c.in_ok-assigns_outer.ensures;
     } in
-    let met : PartsMet c.args.body.now c.scoped.new.body c.note_if.new.self c.settle.new.self c.note_if-2.new.self c.in_ok-passes.passes c.variable-number.result c.leave.new.self c.scoped.new.out c.mark-scope.result = record {
+    let met : PartsMet c.args.body.now c.scoped.new.body c.note_if.new.self c.settle.new.self c.note_if-2.new.self c.in_ok-passes.passes c.slots-part.result
+    (c.slots-part.result + 4) c.leave.new.self c.mark-scope.result c.scoped.new.out = record {
+      home = c.in_ok-scoped.ensures.home ∙ c.in_ok-outer.ensures.home;
       scope_is = c.mark-scope.ensures;
       env_is = c.leave.ensures.whole;
+      part_is = c.slots-part.ensures;
+      variable_is = refl;
       pass_is = c.in_ok-passes.ensures;
       settle_is = c.settle.ensures.forgotten;
       third_is = c.note_if-2.ensures.node;
     } in
-    parts_passes c.args.body.now c.open.new.body c.scoped.new.body c.args.around c.args.node c.open.new.node c.note_if.new.self c.settle.new.self c.note_if-2.new.self c.variable-number.result c.args.names.0 c.args.names.1 (plain_expr c.args.range.0.now) (plain_expr c.args.range.1.now) (plain_stmt c.args.turn.now)
-    c.args.out.now c.open.new.out c.scoped.new.out c.in_ok-outer.outer c.in_ok-assigns_outer.field-0 c.in_ok-passes.passes c.leave.new.self c.mark-scope.result c.in_ok-inner.inner c.take_in.new.out c.in_ok-leaving.leaving part met
-    c.in_ok-settle.ensures.clean c.in_ok-settle-2.ensures.clean c.in_ok-inner.ensures c.in_ok-leaving.ensures c.in_ok-take_in.ensures.whole
+    parts_pass c.args.body.now c.open.new.body c.scoped.new.body c.args.around c.args.node c.open.new.node c.note_if.new.self c.settle.new.self c.note_if-2.new.self
+    c.args.names.0 c.args.names.1 (plain_expr c.args.range.0.now) (plain_expr c.args.range.1.now) (plain_stmt c.args.iteration.now) c.args.out.now c.open.new.out c.scoped.new.out
+    c.in_ok-inner.inner c.take_in.new.out c.in_ok-outer.outer c.in_ok-assigns_outer.field-0 c.in_ok-passes.passes c.slots-part.result
+    (c.slots-part.result + 4) c.leave.new.self c.mark-scope.result c.from_here-leaving.result part met c.in_ok-settle.ensures.clean
+    c.in_ok-settle-2.ensures.clean c.in_ok-inner.ensures c.from_here-leaving.ensures c.in_ok-take_in.ensures
 
 pub constructs::cobegin-returns-in_err-scoped-clause-checks :
     goal.constructs::cobegin-returns-in_err-scoped-clause-checks
 constructs::cobegin-returns-in_err-scoped-clause-checks t c =
-    fork_stopped c.args.body.now c.loop-branch.body c.args.around c.inside.result c.args.node c.args.nd c.args.branches.now c.loop-branch.branch-index c.loop-branch.effects c.loop-branch.locals c.args.out.now c.loop-branch.out
-    c.new-inner.result c.branch-item.result (walk_of c.scoped.new.body c.scoped.new.out) _ c.from_residual.result c.in_err-scoped.field-0.0 c.from_residual.ensures.1 c.loop-branch.invariant.forks c.loop-branch-test.true c.branch-item.is
-    c.loop-branch.invariant.home c.inside.ensures c.new-inner.ensures c.in_err-scoped.ensures.checks
+    fork_stopped c.args.body.now c.loop-branch.body c.args.around c.inside.result c.args.node c.args.nd c.args.branches.now c.loop-branch.branch-index c.loop-branch.effects c.loop-branch.locals
+    c.args.out.now c.loop-branch.out c.new-inner.result c.branch-item.result _ c.from_residual.result
+    c.in_err-scoped.field-0.0 c.from_residual.ensures.1 c.loop-branch.invariant.forks c.loop-branch-test.true c.branch-item.is c.loop-branch.invariant.home c.inside.ensures
+    c.new-inner.ensures c.in_err-scoped.ensures.checks
 
 pub constructs::cobegin-loop-branch-preserved : goal.constructs::cobegin-loop-branch-preserved
-constructs::cobegin-loop-branch-preserved t c = record {
-  keeps =
-      fork_keeps c.args.around c.inside.result c.args.branches.now c.loop-branch.branch-index c.branch-item.result c.loop-branch-test.true c.branch-item.is c.inside.ensures c.in_ok-scoped.ensures.keeps c.loop-branch.invariant.keeps;
-  nd =
-      fork_nd (nothing_leaves c.marks_behind.result) c.args.branches.now c.loop-branch.branch-index c.branch-item.result (c.args.out.now.reaches_nd || some_holds_nd (plain_stmts (map plain_stmt c.args.branches.now))) c.loop-branch.out
-      c.scoped.new.out c.new-inner.result c.take_in.new.out c.loop-branch-test.true c.branch-item.is c.new-inner.ensures (c.in_ok-take_in.ensures.whole (nothing_leaves c.marks_behind.result) c.nothing-leaving.ensures)
-      c.in_ok-scoped.ensures.nd c.loop-branch.invariant.nd;
-  forks =
-      fork_more c.args.body.now.atomic_params (inside c.args.around) c.args.nd c.args.branches.now (walk_of c.args.body.now c.args.out.now) c.loop-branch.branch-index c.loop-branch.effects c.push-in-loop-branch.new.self
-      c.loop-branch.locals c.push.new.self c.loop-branch.body c.scoped.new.body c.loop-branch.out c.scoped.new.out c.take_in.new.out c.branch-item.result c.in_ok-all_effects.field-0 c.in_ok-touched.field-0 c.marks_behind.result
-      c.nothing-leaving.result c.loop-branch.invariant.forks c.loop-branch-test.true c.branch-item.is
-      (part_begun c.args.body.now c.loop-branch.body c.args.around c.inside.result (plain_stmt c.branch-item.result) c.loop-branch.out c.new-inner.result (passes (walk_of c.scoped.new.body c.scoped.new.out))
-      c.loop-branch.invariant.home c.inside.ensures c.new-inner.ensures c.in_ok-scoped.ensures.checks)
-      (record { reads = c.in_ok-touched.ensures.reads; assigns = c.in_ok-touched.ensures.writes }) c.in_ok-all_effects.ensures c.in_ok-push-2.ensures.ok c.in_ok-push.ensures.ok c.marks_behind.ensures c.nothing-leaving.ensures
-      c.in_ok-take_in.ensures.whole;
-  home = c.in_ok-scoped.ensures.home ∙ c.loop-branch.invariant.home;
-}
+constructs::cobegin-loop-branch-preserved t c =
+    let found : Branch c.args.body.now.atomic_params (inside c.args.around) c.args.nd c.loop-branch.body c.scoped.new.body c.loop-branch.out c.scoped.new.out c.take_in.new.out c.branch-item.result
+    c.in_ok-all_effects.field-0 c.in_ok-touched.field-0 c.marks_after.result c.from_here-leaving.result = record {
+      in_scope =
+          piece_begun c.args.body.now c.loop-branch.body c.args.around c.inside.result (plain_stmt c.branch-item.result) c.loop-branch.out c.new-inner.result
+          (passes (walk_of c.scoped.new.body c.scoped.new.out)) c.loop-branch.invariant.home c.inside.ensures c.new-inner.ensures c.in_ok-scoped.ensures.checks;
+      touched = record { reads = c.in_ok-touched.ensures.reads; assigns = c.in_ok-touched.ensures.writes };
+      set_is = c.in_ok-all_effects.ensures;
+      kept_is = c.marks_after.ensures;
+      leaving_is = c.from_here-leaving.ensures;
+      out_is = c.in_ok-take_in.ensures;
+    } in
+    record {
+      keeps =
+          fork_keeps c.args.around c.inside.result c.args.branches.now c.loop-branch.branch-index c.branch-item.result c.loop-branch-test.true c.branch-item.is
+          c.inside.ensures c.in_ok-scoped.ensures.keeps c.loop-branch.invariant.keeps;
+      nd =
+          fork_nd c.from_here-leaving.result c.args.branches.now c.loop-branch.branch-index c.branch-item.result
+          (c.args.out.now.reaches_nd || some_holds_nd (plain_stmts (map plain_stmt c.args.branches.now))) c.loop-branch.out c.scoped.new.out c.new-inner.result
+          c.take_in.new.out c.loop-branch-test.true c.branch-item.is c.new-inner.ensures c.in_ok-take_in.ensures c.in_ok-scoped.ensures.nd c.loop-branch.invariant.nd;
+      forks =
+          fork_more c.args.body.now.atomic_params (inside c.args.around) c.args.nd c.args.branches.now (walk_of c.args.body.now c.args.out.now) c.loop-branch.branch-index
+          c.loop-branch.effects c.push-in-loop-branch.new.self c.loop-branch.locals c.push.new.self c.loop-branch.body c.scoped.new.body c.loop-branch.out
+          c.scoped.new.out c.take_in.new.out c.branch-item.result c.in_ok-all_effects.field-0 c.in_ok-touched.field-0 c.marks_after.result
+          c.from_here-leaving.result c.loop-branch.invariant.forks c.loop-branch-test.true c.branch-item.is found c.in_ok-push-2.ensures.ok c.in_ok-push.ensures.ok;
+      home = c.in_ok-scoped.ensures.home ∙ c.loop-branch.invariant.home;
+    }
 
 pub constructs::cobegin-returns-in_err-settle-clause-checks :
     goal.constructs::cobegin-returns-in_err-settle-clause-checks
 constructs::cobegin-returns-in_err-settle-clause-checks t c =
     let all : Branching c.args.body.now.atomic_params (inside c.args.around) c.args.nd (plain_stmts (map plain_stmt c.args.branches.now)) (walk_of c.args.body.now c.args.out.now)
     (all_pass c.loop-branch.effects c.loop-branch.locals (walk_of c.loop-branch.body c.loop-branch.out)) =
-    fork_all c.args.body.now.atomic_params (inside c.args.around) c.args.nd c.args.branches.now (walk_of c.args.body.now c.args.out.now) c.loop-branch.branch-index c.loop-branch.effects c.loop-branch.locals
-    (walk_of c.loop-branch.body c.loop-branch.out) c.loop-branch.invariant.forks (drop_all c.loop-branch.branch-index c.args.branches.now c.loop-branch-test.false) in
-    let met : ClashIs c.loop-branch.locals c.in_ok-has_clash.field-0 = clash_is c.loop-branch.locals c.as_slice.result.now c.in_ok-has_clash.field-0 c.as_slice.ensures c.in_ok-has_clash.ensures.none c.in_ok-has_clash.ensures.some in
-    fork_told c.args.body.now.atomic_params c.args.around c.args.node c.note_if.new.self c.args.nd c.in_ok-has_clash.field-0 (plain_stmts (map plain_stmt c.args.branches.now)) c.loop-branch.effects c.loop-branch.locals
-    (walk_of c.args.body.now c.args.out.now) (walk_of c.loop-branch.body c.loop-branch.out) (walk_of c.loop-branch.body (reaching c.loop-branch.out c.if-out.out))
-    c.from_residual-in_err-settle.result c.in_err-settle.field-0.0 c.from_residual-in_err-settle.ensures.1 all met c.note_if.ensures.node
+    fork_all c.args.body.now.atomic_params (inside c.args.around) c.args.nd c.args.branches.now (walk_of c.args.body.now c.args.out.now) c.loop-branch.branch-index
+    c.loop-branch.effects c.loop-branch.locals (walk_of c.loop-branch.body c.loop-branch.out) c.loop-branch.invariant.forks (drop_all c.loop-branch.branch-index c.args.branches.now c.loop-branch-test.false) in
+    let clash : ClashIs c.loop-branch.locals c.in_ok-has_clash.field-0 =
+    clash_is c.loop-branch.locals c.as_slice.result.now c.in_ok-has_clash.field-0 c.as_slice.ensures c.in_ok-has_clash.ensures.none
+    c.in_ok-has_clash.ensures.some in
+    fork_told c.args.body.now.atomic_params c.args.around c.args.node c.note_if.new.self c.args.nd c.in_ok-has_clash.field-0 (plain_stmts (map plain_stmt c.args.branches.now))
+    c.loop-branch.effects c.loop-branch.locals (walk_of c.args.body.now c.args.out.now) (walk_of c.loop-branch.body c.loop-branch.out) (walk_of c.loop-branch.body (reaching c.loop-branch.out c.if-out.out))
+    c.from_residual-in_err-settle.result c.in_err-settle.field-0.0 c.from_residual-in_err-settle.ensures.1 all clash c.note_if.ensures.node
     c.in_err-settle.ensures.result
 
 pub constructs::cobegin-returns-clause-checks : goal.constructs::cobegin-returns-clause-checks
 constructs::cobegin-returns-clause-checks t c =
     let all : Branching c.args.body.now.atomic_params (inside c.args.around) c.args.nd (plain_stmts (map plain_stmt c.args.branches.now)) (walk_of c.args.body.now c.args.out.now)
     (all_pass c.loop-branch.effects c.loop-branch.locals (walk_of c.loop-branch.body c.loop-branch.out)) =
-    fork_all c.args.body.now.atomic_params (inside c.args.around) c.args.nd c.args.branches.now (walk_of c.args.body.now c.args.out.now) c.loop-branch.branch-index c.loop-branch.effects c.loop-branch.locals
-    (walk_of c.loop-branch.body c.loop-branch.out) c.loop-branch.invariant.forks (drop_all c.loop-branch.branch-index c.args.branches.now c.loop-branch-test.false) in
-    let met : ClashIs c.loop-branch.locals c.in_ok-has_clash.field-0 = clash_is c.loop-branch.locals c.as_slice.result.now c.in_ok-has_clash.field-0 c.as_slice.ensures c.in_ok-has_clash.ensures.none c.in_ok-has_clash.ensures.some in
-    let reached : c.if-out.out ≡ (c.loop-branch.out.reaches_nd || c.args.nd) =
-    elim c.if-out.branch [ constructs::cobegin-then-out w ↦ or_then c.loop-branch.out.reaches_nd c.args.nd c.if-out.out w.if-out.true w.out-is | constructs::cobegin-else-out w ↦ or_else c.loop-branch.out.reaches_nd c.args.nd c.if-out.out w.if-out.false w.out-is ] in
-    fork_ends c.args.body.now c.loop-branch.body c.args.around c.args.node c.note_if.new.self c.settle.new.self c.note_if-2.new.self c.args.nd c.in_ok-has_clash.field-0 c.in_ok-passes.passes c.if-out.out
-    (plain_stmts (map plain_stmt c.args.branches.now)) c.loop-branch.effects c.as_slice-2.result.now c.loop-branch.locals c.args.out.now c.loop-branch.out c.interference.result c.settle-2.result all met c.note_if.ensures.node
-    c.in_ok-settle.ensures.clean c.loop-branch.invariant.home c.as_slice-2.ensures c.in_ok-passes.ensures c.settle.ensures.forgotten c.interference.ensures c.note_if-2.ensures.node reached c.settle-2.ensures.result
+    fork_all c.args.body.now.atomic_params (inside c.args.around) c.args.nd c.args.branches.now (walk_of c.args.body.now c.args.out.now) c.loop-branch.branch-index
+    c.loop-branch.effects c.loop-branch.locals (walk_of c.loop-branch.body c.loop-branch.out) c.loop-branch.invariant.forks (drop_all c.loop-branch.branch-index c.args.branches.now c.loop-branch-test.false) in
+    let clash : ClashIs c.loop-branch.locals c.in_ok-has_clash.field-0 =
+    clash_is c.loop-branch.locals c.as_slice.result.now c.in_ok-has_clash.field-0 c.as_slice.ensures c.in_ok-has_clash.ensures.none
+    c.in_ok-has_clash.ensures.some in
+    let reached : c.if-out.out ≡ (c.loop-branch.out.reaches_nd || c.args.nd) = (elim c.if-out.branch [
+      | constructs::cobegin-then-out w ↦ or_then c.loop-branch.out.reaches_nd c.args.nd c.if-out.out w.if-out.true w.out-is
+      | constructs::cobegin-else-out w ↦ or_else c.loop-branch.out.reaches_nd c.args.nd c.if-out.out w.if-out.false w.out-is
+    ]) in
+    let met : BranchesMet c.args.body.now c.loop-branch.body c.args.node c.note_if.new.self c.settle.new.self c.note_if-2.new.self c.args.nd c.in_ok-has_clash.field-0
+    c.in_ok-passes.passes c.if-out.out c.loop-branch.effects c.as_slice-2.result.now c.loop-branch.out c.interference.result = record {
+      home = c.loop-branch.invariant.home;
+      second_is = c.note_if.ensures.node;
+      read_is = c.as_slice-2.ensures;
+      apart = c.in_ok-passes.ensures;
+      settle_is = c.settle.ensures.forgotten;
+      reason_is = c.interference.ensures;
+      third_is = c.note_if-2.ensures.node;
+      reached_by = reached;
+    } in
+    fork_ends c.args.body.now c.loop-branch.body c.args.around c.args.node c.note_if.new.self c.settle.new.self c.note_if-2.new.self c.args.nd c.in_ok-has_clash.field-0
+    c.in_ok-passes.passes c.if-out.out (plain_stmts (map plain_stmt c.args.branches.now)) c.loop-branch.effects c.as_slice-2.result.now c.loop-branch.locals
+    c.args.out.now c.loop-branch.out c.interference.result c.settle-2.result all clash met c.in_ok-settle.ensures.clean c.settle-2.ensures.result

@@ -1,9 +1,10 @@
 use Rattle.std.proofs.Common.{inl, inr, ⊎_elim}
-use Rattle.dpj_check.specs.Methods.{all_locals, formal_rows}
-use Rattle.dpj_check.proofs.Methodic.{formals_declared}
+use Rattle.dpj_check.specs.Methods.{formals_declared}
+use Rattle.dpj_check.proofs.Methodic.{formals_end}
 use Rattle.dpj_check.proofs.bodies.declare_formals.Goals as goal
 
-pub returns : goal.returns
-returns c =
-    formals_declared c.args.body.now c.loop-formal.body c.loop-formal.formal-iterator.a.rest.now c.loop-formal.formal-iterator.b.rest.now (all_locals c.args.body.now.env (formal_rows c.args.formals.now c.args.types.now)) c.loop-formal.invariant.others c.loop-formal.invariant.rows
+pub returns-clause-whole : goal.returns-clause-whole
+returns-clause-whole c =
+    formals_end c.args.body.now c.loop-formal.body c.loop-formal.formal-iterator.a.rest.now c.loop-formal.formal-iterator.b.rest.now
+    (formals_declared c.args.body.now.env c.args.formals.now c.args.types.now) c.loop-formal.invariant.others c.loop-formal.invariant.rest
     (⊎_elim (λ h. inl h.1.0) (λ h. inr h.1.0) c.in-None.ensures.steps)

@@ -10,5 +10,5 @@ invariant-loop-named l = record {
   home : home_of l.body ≡ home_of l.fn.body;
   noted : regions_noted l.body.env l.node (drop l.named-index l.names) ≡ regions_noted l.fn.body.env l.fn.node l.names;
   scope : with_regions l.body.env (drop l.named-index l.names) ≡ with_regions l.fn.body.env l.names;
-  blocks : l.body.known.blocks ≡ l.fn.body.known.blocks;
+  blocks : l.body.blocks ≡ l.fn.body.blocks;
 }

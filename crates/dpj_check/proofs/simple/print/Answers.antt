@@ -2,21 +2,23 @@ use Rattle.dpj_tree.specs.Plain.{plain_expr}
 use Rattle.dpj_exprs.specs.Answer.{refused}
 use Rattle.dpj_exprs.specs.Typed.{plain_typed}
 use Rattle.dpj_exprs.specs.Typing.{Typing}
-use Rattle.dpj_check.specs.Noting.{fault_of}
 use Rattle.dpj_check.specs.Simple.{Printing}
 use Rattle.dpj_check.specs.Simple.{Printing as rule}
 use Rattle.dpj_check.specs.Walks.{walk_of}
-use Rattle.dpj_check.proofs.Leaves.{printed_judged}
-use Rattle.dpj_check.proofs.Passing.{stopped, settled_says}
+use Rattle.dpj_check.proofs.Leaves.{printed_says}
+use Rattle.dpj_check.proofs.Passing.{stopped}
 use Rattle.dpj_check.proofs.simple.print.Goals as goal
 
 pub returns-in_err-value-clause-checks : goal.returns-in_err-value-clause-checks
 returns-in_err-value-clause-checks c =
-    stopped (λ q. Typing c.args.body.now.env (plain_expr c.args.value.now) c.args.out.now (refused q)) (Printing c.args.node (plain_expr c.args.value.now) (walk_of c.args.body.now c.args.out.now)) c.from_residual.result _ c.in_err-value.field-0.0 c.from_residual.ensures.1
+    stopped (λ q. Typing c.args.body.now.env (plain_expr c.args.value.now) c.args.out.now (refused q))
+    (Printing c.args.node (plain_expr c.args.value.now) (walk_of c.args.body.now c.args.out.now))
+    c.from_residual.result _ c.in_err-value.field-0.0 c.from_residual.ensures.1
     (λ q d. rule.value_refused d)
-    c.in_err-value.ensures.fault
+    c.in_err-value.ensures.answer
 
 pub returns-clause-checks : goal.returns-clause-checks
 returns-clause-checks c =
-    settled_says (fault_of c.note_if.new.self) c.settle.result (walk_of c.typed.new.self c.typed.new.out) (Printing c.args.node (plain_expr c.args.value.now) (walk_of c.args.body.now c.args.out.now)) c.settle.ensures.result
-    (rule.printed c.in_ok-value.ensures.ok (printed_judged c.args.node c.note_if.new.self c.may_print.result (plain_typed c.in_ok-value.value) c.args.body.now c.typed.new.self c.args.out.now c.typed.new.out c.typed.ensures.same c.note_if.ensures.node c.may_print.ensures))
+    printed_says c.args.node c.note_if.new.self (plain_expr c.args.value.now) c.args.body.now c.args.out.now c.typed.new.out
+    (plain_typed c.in_ok-value.value) c.may_print.result c.settle.result c.in_ok-value.ensures.answer c.may_print.ensures c.note_if.ensures.node
+    c.settle.ensures.result

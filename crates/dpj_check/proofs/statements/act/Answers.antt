@@ -12,13 +12,13 @@ use Rattle.dpj_check.proofs.statements.act.Goals as goal
 
 pub returns-in-Do-clause-checks : goal.returns-in-Do-clause-checks
 returns-in-Do-clause-checks c params around =
-    says_all (Performing c.args.node (plain_expr c.in-Do.value) (walk_of c.args.body.now c.args.out.now)) (Checking params around c.args.node (form_of (plain_stmt c.args.stmt.now)) (walk_of c.args.body.now c.args.out.now)) c.perform.result (walk_of c.perform.new.body c.perform.new.out)
+    says_all (Performing c.args.node (plain_expr c.in-Do.value) (walk_of c.args.body.now c.args.out.now)) (Checking params around c.args.node (form_of (plain_stmt c.args.stmt.now)) (walk_of c.args.body.now c.args.out.now)) c.perform.result (walk_of c.args.body.now c.perform.new.out)
     (λ v d. as_form params around c.args.node c.args.stmt.now (form.perform (plain_expr c.in-Do.value)) (walk_of c.args.body.now c.args.out.now) v (at_Do c.args.stmt.now c.in-Do.value c.in-Do.is) (rule.of_call d))
     c.perform.ensures.checks
 
 pub returns-in-Print-clause-checks : goal.returns-in-Print-clause-checks
 returns-in-Print-clause-checks c params around =
-    says_all (Printing c.args.node (plain_expr c.in-Print.value) (walk_of c.args.body.now c.args.out.now)) (Checking params around c.args.node (form_of (plain_stmt c.args.stmt.now)) (walk_of c.args.body.now c.args.out.now)) c.print.result (walk_of c.print.new.body c.print.new.out)
+    says_all (Printing c.args.node (plain_expr c.in-Print.value) (walk_of c.args.body.now c.args.out.now)) (Checking params around c.args.node (form_of (plain_stmt c.args.stmt.now)) (walk_of c.args.body.now c.args.out.now)) c.print.result (walk_of c.args.body.now c.print.new.out)
     (λ v d. as_form params around c.args.node c.args.stmt.now (form.print (plain_expr c.in-Print.value)) (walk_of c.args.body.now c.args.out.now) v (at_Print c.args.stmt.now c.in-Print.value c.in-Print.is) (rule.of_print d))
     c.print.ensures.checks
 

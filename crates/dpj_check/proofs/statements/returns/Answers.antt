@@ -19,6 +19,6 @@ returns-in-None-clause-checks c params =
 
 pub returns-in-Some-clause-checks : goal.returns-in-Some-clause-checks
 returns-in-Some-clause-checks c params =
-    says_all (Returning c.args.around c.args.node (plain_expr c.in-Some.value.now) (walk_of c.args.body.now c.args.out.now)) (Checking params c.args.around c.args.node (return_form (option_copied c.args.value)) (walk_of c.args.body.now c.args.out.now)) c.leave_with.result (walk_of c.leave_with.new.body c.leave_with.new.out)
+    says_all (Returning c.args.around c.args.node (plain_expr c.in-Some.value.now) (walk_of c.args.body.now c.args.out.now)) (Checking params c.args.around c.args.node (return_form (option_copied c.args.value)) (walk_of c.args.body.now c.args.out.now)) c.leave_with.result (walk_of c.args.body.now c.leave_with.new.out)
     (λ v d. subst (λ o. Checking params c.args.around c.args.node (return_form (option_copied o)) (walk_of c.args.body.now c.args.out.now) v) (sym c.in-Some.is) (rule.of_return_value d))
     c.leave_with.ensures.checks

@@ -1,23 +1,18 @@
 use Rattle.std.proofs.Common.{◌∙◌, map, ap}
 use Rattle.dpj_classes.specs.Table.{headers_of}
 use Rattle.dpj_exprs.specs.Typed.{plain_typed}
-use Rattle.dpj_exprs.proofs.Creating.{class_for, of_class, of_class_faulty, of_no_class}
+use Rattle.dpj_exprs.proofs.Creating.{class_for, of_class, of_no_class}
 use Rattle.dpj_exprs.proofs.creations.creation.Goals as goal
 
-pub returns-in-Some-clause-ok : goal.returns-in-Some-clause-ok
-returns-in-Some-clause-ok c =
-    of_class c.args.env.now c.args.class c.in-Some.number c.args.regions (map plain_typed c.args.actuals.now) c.args.place c.args.found.now c.creation_of.new.found c.creation_of.result
+pub returns-in-Some-clause-answer : goal.returns-in-Some-clause-answer
+returns-in-Some-clause-answer c =
+    of_class c.args.env.now c.args.class c.in-Some.number c.args.regions (map plain_typed c.args.actuals.now) c.args.place c.args.found.now
+    c.creation_of.new.found c.creation_of.result
     (class_for c.headers.result.now _ c.args.class.name c.class.result _ c.class.ensures (c.headers.ensures ∙ ap headers_of c.table.ensures) c.in-Some.is)
-    c.creation_of.ensures.ok
+    c.creation_of.ensures.answer
 
-pub returns-in-Some-clause-fault : goal.returns-in-Some-clause-fault
-returns-in-Some-clause-fault c =
-    of_class_faulty c.args.env.now c.args.class c.in-Some.number c.args.regions (map plain_typed c.args.actuals.now) c.args.place c.args.found.now c.creation_of.result
-    (class_for c.headers.result.now _ c.args.class.name c.class.result _ c.class.ensures (c.headers.ensures ∙ ap headers_of c.table.ensures) c.in-Some.is)
-    c.creation_of.ensures.fault
-
-pub returns-in-None-clause-fault : goal.returns-in-None-clause-fault
-returns-in-None-clause-fault c =
+pub returns-in-None-clause-answer : goal.returns-in-None-clause-answer
+returns-in-None-clause-answer c =
     of_no_class c.args.env.now c.args.class c.args.regions (map plain_typed c.args.actuals.now) c.args.place c.args.found.now c.refused.result
     (class_for c.headers.result.now _ c.args.class.name c.class.result _ c.class.ensures (c.headers.ensures ∙ ap headers_of c.table.ensures) c.in-None.is)
     c.refused.ensures

@@ -1,7 +1,6 @@
-use Rattle.std.proofs.Common.{◌≡◌, Some, Ok, Err, map}
+use Rattle.std.proofs.Common.{◌≡◌, ◌∙◌, Some, Ok, Err, map, sym}
 use Rattle.std.specs.Option.{option_copied}
 use Rattle.std.proofs.lemmas.List.{drop_all}
-use Rattle.dpj_exprs.specs.Shape.{form_of}
 use Rattle.dpj_base.specs.Types.{plain_type}
 use Rattle.dpj_tree.specs.Plain.{plain_expr, plain_exprs}
 use Rattle.dpj_exprs.specs.Answer.{gives, refused}
@@ -9,212 +8,234 @@ use Rattle.dpj_exprs.specs.Arrays.{made_names, front_told, created_array}
 use Rattle.dpj_exprs.specs.Elements.{read_element, read_part}
 use Rattle.dpj_exprs.specs.Env.{table_of}
 use Rattle.dpj_exprs.specs.Fields.{read_field}
+use Rattle.dpj_exprs.specs.Operations.{unary_typed, binary_typed}
+use Rattle.dpj_exprs.specs.Shape.{form_of}
 use Rattle.dpj_exprs.specs.Typed.{plain_typed}
-use Rattle.dpj_exprs.specs.Typing.{one_refused, leaf_type, TypingAll}
+use Rattle.dpj_exprs.specs.Typing.{all_give, one_refused, leaf_type, TypingAll}
 use Rattle.dpj_exprs.specs.Uses.{args_told, callee_params, created_params, Call, Creation}
-use Rattle.dpj_exprs.proofs.Constructs.{Gives, Refuses, at_place, length_typed, receiver_refused, field_typed, part_index_refused, part_element_typed, array_refused, index_refused, element_typed, operand_refused, operand_mistyped, operation_typed, left_refused, right_refused, operands_mistyped, operations_typed, front_refused, length_refused, array_typed, call_receiver_refused, call_args_refused, call_actual_refused, call_typed, new_args_refused, new_actual_refused, new_typed, leaf_typed}
-use Rattle.dpj_exprs.proofs.Passing.{ok_map, err_map, passed_on}
+use Rattle.dpj_exprs.proofs.Constructs.{Refuses, exits, ends, length_typed, receiver_refused, field_typed, part_index_refused, part_element_typed, array_refused, index_refused, element_typed, operand_refused, operation_typed, left_refused, right_refused, operations_typed, front_refused, length_refused, array_typed, call_receiver_refused, call_args_refused, call_actual_refused, call_typed, new_args_refused, new_actual_refused, new_typed, leaf_typed}
+use Rattle.dpj_exprs.proofs.Passing.{passed_on}
 use Rattle.dpj_exprs.proofs.Several.{one_so_far, one_stopped, all_so_far}
 use Rattle.dpj_exprs.proofs.typing.+exprs.Goals as goal
 
-pub access-returns-in_err-of-in-None-clause-fault : goal.access-returns-in_err-of-in-None-clause-fault
-access-returns-in_err-of-in-None-clause-fault t c =
-    passed_on (Refuses c.args.env.now c.get-in-None.result.now c.args.found.now) (Refuses c.args.env.now c.args.e.now c.args.found.now) c.from_residual-in_err-of-in-None.result c.in_err-of-in-None.field-0.0 c.from_residual-in_err-of-in-None.ensures.1
-    (λ q d. receiver_refused c.args.env.now c.args.e.now c.in-Field.of c.get.result.now c.get-in-None.result.now c.in-Field.name c.args.found.now q c.in-Field.is c.get.ensures c.in-None.ensures c.get-in-None.ensures d)
-    c.in_err-of-in-None.ensures.fault
+pub expr-returns-then-is_part_length-clause-answer : goal.expr-returns-then-is_part_length-clause-answer
+expr-returns-then-is_part_length-clause-answer t c =
+    length_typed c.args.env.now c.args.e.now c.in-Field.of c.get.result.now c.in-Field.name c.args.found.now c.in-Field.is c.get.ensures (sym c.if-is_part_length.true ∙ c.is_part_length.ensures)
 
-pub access-returns-in_ok-note_part-in-Some-clause-ok : goal.access-returns-in_ok-note_part-in-Some-clause-ok
-access-returns-in_ok-note_part-in-Some-clause-ok t c =
-    length_typed c.args.env.now c.args.e.now c.in-Field.of c.get.result.now c.in-Field.name c.args.found.now c.in-Field.is c.get.ensures c.in-Some.ensures
+pub expr-returns-in_err-of-in-Field-clause-answer : goal.expr-returns-in_err-of-in-Field-clause-answer
+expr-returns-in_err-of-in-Field-clause-answer t c =
+    exits c.args.env.now c.args.e.now c.args.found.now _ (Refuses c.args.env.now c.get-in-Field.result.now c.args.found.now)
+    c.from_residual.result c.in_err-of-in-Field.field-0.0 c.from_residual.ensures.1
+    (λ q d. receiver_refused c.args.env.now c.args.e.now c.in-Field.of c.get.result.now c.get-in-Field.result.now c.in-Field.name c.args.found.now q c.in-Field.is c.get.ensures (sym c.if-is_part_length.false ∙ c.is_part_length.ensures) c.get-in-Field.ensures d)
+    c.in_err-of-in-Field.ensures.answer
 
-pub access-returns-in_ok-of-in-None-clause-ok : goal.access-returns-in_ok-of-in-None-clause-ok
-access-returns-in_ok-of-in-None-clause-ok t c =
-    ok_map (λ u. read_field c.args.env.now (plain_typed c.in_ok-of-in-None.of) c.in-Field.name c.args.e.now.place c.expr.new.found ≡ gives (plain_typed u) c.read_field.new.found) (Gives c.args.env.now c.args.e.now c.args.found.now c.read_field.new.found) c.read_field.result
-    (λ u d. field_typed c.args.env.now c.args.e.now c.in-Field.of c.get.result.now c.get-in-None.result.now c.in-Field.name c.args.found.now c.expr.new.found (plain_typed c.in_ok-of-in-None.of) (gives (plain_typed u) c.read_field.new.found) c.in-Field.is c.get.ensures c.in-None.ensures c.get-in-None.ensures c.in_ok-of-in-None.ensures.ok d)
-    c.read_field.ensures.ok
+pub expr-returns-in_ok-of-in-Field-clause-answer : goal.expr-returns-in_ok-of-in-Field-clause-answer
+expr-returns-in_ok-of-in-Field-clause-answer t c =
+    ends c.args.env.now c.args.e.now c.args.found.now _ (λ a. read_field c.args.env.now (plain_typed c.in_ok-of-in-Field.of) c.in-Field.name c.args.e.now.place c.expr.new.found ≡ a) c.read_field.result
+    (λ a d. field_typed c.args.env.now c.args.e.now c.in-Field.of c.get.result.now c.get-in-Field.result.now c.in-Field.name c.args.found.now c.expr.new.found (plain_typed c.in_ok-of-in-Field.of) a
+    c.in-Field.is c.get.ensures (sym c.if-is_part_length.false ∙ c.is_part_length.ensures) c.get-in-Field.ensures c.in_ok-of-in-Field.ensures.answer d)
+    c.read_field.ensures.answer
 
-pub access-returns-in_ok-of-in-None-clause-fault : goal.access-returns-in_ok-of-in-None-clause-fault
-access-returns-in_ok-of-in-None-clause-fault t c =
-    err_map (λ q. read_field c.args.env.now (plain_typed c.in_ok-of-in-None.of) c.in-Field.name c.args.e.now.place c.expr.new.found ≡ refused q) (Refuses c.args.env.now c.args.e.now c.args.found.now) c.read_field.result
-    (λ q d. field_typed c.args.env.now c.args.e.now c.in-Field.of c.get.result.now c.get-in-None.result.now c.in-Field.name c.args.found.now c.expr.new.found (plain_typed c.in_ok-of-in-None.of) (refused q) c.in-Field.is c.get.ensures c.in-None.ensures c.get-in-None.ensures c.in_ok-of-in-None.ensures.ok d)
-    c.read_field.ensures.fault
+pub expr-returns-in_err-index-in-Some-clause-answer : goal.expr-returns-in_err-index-in-Some-clause-answer
+expr-returns-in_err-index-in-Some-clause-answer t c =
+    exits c.args.env.now c.args.e.now c.args.found.now _ (Refuses c.args.env.now c.get-in-Some.result.now c.args.found.now)
+    c.from_residual-in_err-index-in-Some.result c.in_err-index-in-Some.field-0.0 c.from_residual-in_err-index-in-Some.ensures.1
+    (λ q d. part_index_refused c.args.env.now c.args.e.now c.in-Element.array c.in-Element.index c.get-in-Element.result.now c.get-in-Some.result.now c.in-Some.row.now c.args.found.now q c.in-Element.is c.get-in-Element.ensures c.in-Some.ensures c.get-in-Some.ensures d)
+    c.in_err-index-in-Some.ensures.answer
 
-pub access-returns-in_err-index-in-Some-part-clause-fault : goal.access-returns-in_err-index-in-Some-part-clause-fault
-access-returns-in_err-index-in-Some-part-clause-fault t c =
-    passed_on (Refuses c.args.env.now c.get-in-Some-part-2.result.now c.args.found.now) (Refuses c.args.env.now c.args.e.now c.args.found.now) c.from_residual-in_err-index-in-Some-part.result c.in_err-index-in-Some-part.field-0.0 c.from_residual-in_err-index-in-Some-part.ensures.1
-    (λ q d. part_index_refused c.args.env.now c.args.e.now c.in-Element.array c.in-Element.index c.get-in-Element.result.now c.get-in-Some-part-2.result.now c.in-Some-part.row.now c.args.found.now q c.in-Element.is c.get-in-Element.ensures c.in-Some-part.ensures c.get-in-Some-part-2.ensures d)
-    c.in_err-index-in-Some-part.ensures.fault
+pub expr-returns-in_ok-index-in-Some-clause-answer : goal.expr-returns-in_ok-index-in-Some-clause-answer
+expr-returns-in_ok-index-in-Some-clause-answer t c =
+    ends c.args.env.now c.args.e.now c.args.found.now _ (λ a. read_part c.in-Some.row.now (plain_typed c.in_ok-index-in-Some.index) c.args.e.now.place c.expr-in-Some.new.found ≡ a) c.read_part.result
+    (λ a d. part_element_typed c.args.env.now c.args.e.now c.in-Element.array c.in-Element.index c.get-in-Element.result.now c.get-in-Some.result.now c.in-Some.row.now c.args.found.now c.expr-in-Some.new.found (plain_typed c.in_ok-index-in-Some.index) a
+    c.in-Element.is c.get-in-Element.ensures c.in-Some.ensures c.get-in-Some.ensures c.in_ok-index-in-Some.ensures.answer d)
+    c.read_part.ensures.answer
 
-pub access-returns-in_ok-index-in-Some-part-clause-ok : goal.access-returns-in_ok-index-in-Some-part-clause-ok
-access-returns-in_ok-index-in-Some-part-clause-ok t c =
-    ok_map (λ u. read_part c.in-Some-part.row.now (plain_typed c.in_ok-index-in-Some-part.index) c.args.e.now.place c.expr-in-Some-part.new.found ≡ gives (plain_typed u) c.read_part.new.found) (Gives c.args.env.now c.args.e.now c.args.found.now c.read_part.new.found) c.read_part.result
-    (λ u d. part_element_typed c.args.env.now c.args.e.now c.in-Element.array c.in-Element.index c.get-in-Element.result.now c.get-in-Some-part-2.result.now c.in-Some-part.row.now c.args.found.now c.expr-in-Some-part.new.found (plain_typed c.in_ok-index-in-Some-part.index) (gives (plain_typed u) c.read_part.new.found) c.in-Element.is c.get-in-Element.ensures c.in-Some-part.ensures c.get-in-Some-part-2.ensures c.in_ok-index-in-Some-part.ensures.ok d)
-    c.read_part.ensures.ok
+pub expr-returns-in_err-array-in-None-clause-answer : goal.expr-returns-in_err-array-in-None-clause-answer
+expr-returns-in_err-array-in-None-clause-answer t c =
+    exits c.args.env.now c.args.e.now c.args.found.now _ (Refuses c.args.env.now c.get-in-None.result.now c.args.found.now)
+    c.from_residual-in_err-array-in-None.result c.in_err-array-in-None.field-0.0 c.from_residual-in_err-array-in-None.ensures.1
+    (λ q d. array_refused c.args.env.now c.args.e.now c.in-Element.array c.in-Element.index c.get-in-Element.result.now c.get-in-None.result.now c.args.found.now q c.in-Element.is c.get-in-Element.ensures c.in-None.ensures c.get-in-None.ensures d)
+    c.in_err-array-in-None.ensures.answer
 
-pub access-returns-in_ok-index-in-Some-part-clause-fault : goal.access-returns-in_ok-index-in-Some-part-clause-fault
-access-returns-in_ok-index-in-Some-part-clause-fault t c =
-    err_map (λ q. read_part c.in-Some-part.row.now (plain_typed c.in_ok-index-in-Some-part.index) c.args.e.now.place c.expr-in-Some-part.new.found ≡ refused q) (Refuses c.args.env.now c.args.e.now c.args.found.now) c.read_part.result
-    (λ q d. part_element_typed c.args.env.now c.args.e.now c.in-Element.array c.in-Element.index c.get-in-Element.result.now c.get-in-Some-part-2.result.now c.in-Some-part.row.now c.args.found.now c.expr-in-Some-part.new.found (plain_typed c.in_ok-index-in-Some-part.index) (refused q) c.in-Element.is c.get-in-Element.ensures c.in-Some-part.ensures c.get-in-Some-part-2.ensures c.in_ok-index-in-Some-part.ensures.ok d)
-    c.read_part.ensures.fault
+pub expr-returns-in_err-index_ty-in-None-clause-answer : goal.expr-returns-in_err-index_ty-in-None-clause-answer
+expr-returns-in_err-index_ty-in-None-clause-answer t c =
+    exits c.args.env.now c.args.e.now c.args.found.now _ (Refuses c.args.env.now c.get-in-None-2.result.now c.expr-in-None.new.found)
+    c.from_residual-in_err-index_ty-in-None.result c.in_err-index_ty-in-None.field-0.0 c.from_residual-in_err-index_ty-in-None.ensures.1
+    (λ q d. index_refused c.args.env.now c.args.e.now c.in-Element.array c.in-Element.index c.get-in-Element.result.now c.get-in-None.result.now c.get-in-None-2.result.now c.args.found.now c.expr-in-None.new.found (plain_typed c.in_ok-array-in-None.array) q
+    c.in-Element.is c.get-in-Element.ensures c.in-None.ensures c.get-in-None.ensures c.get-in-None-2.ensures c.in_ok-array-in-None.ensures.answer d)
+    c.in_err-index_ty-in-None.ensures.answer
 
-pub access-returns-in_err-array-in-None-part-clause-fault : goal.access-returns-in_err-array-in-None-part-clause-fault
-access-returns-in_err-array-in-None-part-clause-fault t c =
-    passed_on (Refuses c.args.env.now c.get-in-None-part.result.now c.args.found.now) (Refuses c.args.env.now c.args.e.now c.args.found.now) c.from_residual-in_err-array-in-None-part.result c.in_err-array-in-None-part.field-0.0 c.from_residual-in_err-array-in-None-part.ensures.1
-    (λ q d. array_refused c.args.env.now c.args.e.now c.in-Element.array c.in-Element.index c.get-in-Element.result.now c.get-in-None-part.result.now c.args.found.now q c.in-Element.is c.get-in-Element.ensures c.in-None-part.ensures c.get-in-None-part.ensures d)
-    c.in_err-array-in-None-part.ensures.fault
+pub expr-returns-in_ok-index_ty-in-None-clause-answer : goal.expr-returns-in_ok-index_ty-in-None-clause-answer
+expr-returns-in_ok-index_ty-in-None-clause-answer t c =
+    ends c.args.env.now c.args.e.now c.args.found.now _ (λ a. read_element c.args.env.now (plain_typed c.in_ok-array-in-None.array) (plain_expr c.get-in-None-3.result.now) (plain_typed c.in_ok-index_ty-in-None.index_ty) c.args.e.now.place c.expr-in-None-2.new.found ≡ a) c.read_element.result
+    (λ a d. element_typed c.args.env.now c.args.e.now c.in-Element.array c.in-Element.index c.get-in-Element.result.now c.get-in-None.result.now c.get-in-None-2.result.now c.get-in-None-3.result.now c.args.found.now c.expr-in-None.new.found c.expr-in-None-2.new.found
+    (plain_typed c.in_ok-array-in-None.array) (plain_typed c.in_ok-index_ty-in-None.index_ty) a c.in-Element.is c.get-in-Element.ensures c.in-None.ensures c.get-in-None.ensures c.get-in-None-2.ensures c.get-in-None-3.ensures
+    c.in_ok-array-in-None.ensures.answer c.in_ok-index_ty-in-None.ensures.answer d)
+    c.read_element.ensures.answer
 
-pub access-returns-in_err-index_ty-in-None-part-clause-fault : goal.access-returns-in_err-index_ty-in-None-part-clause-fault
-access-returns-in_err-index_ty-in-None-part-clause-fault t c =
-    passed_on (Refuses c.args.env.now c.get-in-None-part-2.result.now c.expr-in-None-part.new.found) (Refuses c.args.env.now c.args.e.now c.args.found.now) c.from_residual-in_err-index_ty-in-None-part.result c.in_err-index_ty-in-None-part.field-0.0 c.from_residual-in_err-index_ty-in-None-part.ensures.1
-    (λ q d. index_refused c.args.env.now c.args.e.now c.in-Element.array c.in-Element.index c.get-in-Element.result.now c.get-in-None-part.result.now c.get-in-None-part-2.result.now c.args.found.now c.expr-in-None-part.new.found (plain_typed c.in_ok-array-in-None-part.array) q c.in-Element.is c.get-in-Element.ensures c.in-None-part.ensures c.get-in-None-part.ensures c.get-in-None-part-2.ensures c.in_ok-array-in-None-part.ensures.ok d)
-    c.in_err-index_ty-in-None-part.ensures.fault
-
-pub access-returns-in_ok-index_ty-in-None-part-clause-ok : goal.access-returns-in_ok-index_ty-in-None-part-clause-ok
-access-returns-in_ok-index_ty-in-None-part-clause-ok t c =
-    ok_map (λ u. read_element c.args.env.now (plain_typed c.in_ok-array-in-None-part.array) (plain_expr c.get-in-None-part-3.result.now) (plain_typed c.in_ok-index_ty-in-None-part.index_ty) c.args.e.now.place c.expr-in-None-part-2.new.found ≡ gives (plain_typed u) c.read_element.new.found) (Gives c.args.env.now c.args.e.now c.args.found.now c.read_element.new.found) c.read_element.result
-    (λ u d. element_typed c.args.env.now c.args.e.now c.in-Element.array c.in-Element.index c.get-in-Element.result.now c.get-in-None-part.result.now c.get-in-None-part-2.result.now c.get-in-None-part-3.result.now c.args.found.now c.expr-in-None-part.new.found c.expr-in-None-part-2.new.found (plain_typed c.in_ok-array-in-None-part.array) (plain_typed c.in_ok-index_ty-in-None-part.index_ty) (gives (plain_typed u) c.read_element.new.found) c.in-Element.is c.get-in-Element.ensures c.in-None-part.ensures c.get-in-None-part.ensures c.get-in-None-part-2.ensures c.get-in-None-part-3.ensures c.in_ok-array-in-None-part.ensures.ok c.in_ok-index_ty-in-None-part.ensures.ok d)
-    c.read_element.ensures.ok
-
-pub access-returns-in_ok-index_ty-in-None-part-clause-fault : goal.access-returns-in_ok-index_ty-in-None-part-clause-fault
-access-returns-in_ok-index_ty-in-None-part-clause-fault t c =
-    err_map (λ q. read_element c.args.env.now (plain_typed c.in_ok-array-in-None-part.array) (plain_expr c.get-in-None-part-3.result.now) (plain_typed c.in_ok-index_ty-in-None-part.index_ty) c.args.e.now.place c.expr-in-None-part-2.new.found ≡ refused q) (Refuses c.args.env.now c.args.e.now c.args.found.now) c.read_element.result
-    (λ q d. element_typed c.args.env.now c.args.e.now c.in-Element.array c.in-Element.index c.get-in-Element.result.now c.get-in-None-part.result.now c.get-in-None-part-2.result.now c.get-in-None-part-3.result.now c.args.found.now c.expr-in-None-part.new.found c.expr-in-None-part-2.new.found (plain_typed c.in_ok-array-in-None-part.array) (plain_typed c.in_ok-index_ty-in-None-part.index_ty) (refused q) c.in-Element.is c.get-in-Element.ensures c.in-None-part.ensures c.get-in-None-part.ensures c.get-in-None-part-2.ensures c.get-in-None-part-3.ensures c.in_ok-array-in-None-part.ensures.ok c.in_ok-index_ty-in-None-part.ensures.ok d)
-    c.read_element.ensures.fault
-
-pub exprs-returns-in_err-expr-clause-fault : goal.exprs-returns-in_err-expr-clause-fault
-exprs-returns-in_err-expr-clause-fault t c =
-    passed_on (Refuses c.args.env.now c.e-item.result c.loop-e.found) (λ q. TypingAll c.args.env.now (plain_exprs (map plain_expr c.args.all.now)) c.args.found.now (one_refused q)) c.from_residual.result c.in_err-expr.field-0.0 c.from_residual.ensures.1
+pub exprs-returns-in_err-expr-clause-answer : goal.exprs-returns-in_err-expr-clause-answer
+exprs-returns-in_err-expr-clause-answer t c =
+    passed_on (Refuses c.args.env.now c.e-item.result c.loop-e.found) (TypingAll c.args.env.now (plain_exprs (map plain_expr c.args.all.now)) c.args.found.now)
+    (λ made. all_give (map plain_typed made) c.expr.new.found) one_refused c.from_residual.result c.in_err-expr.field-0.0 c.from_residual.ensures.1
     (λ q d. one_stopped c.args.env.now c.args.all.now c.args.found.now c.loop-e.e-index c.loop-e.made c.loop-e.found c.e-item.result q c.loop-e.invariant c.loop-e-test.true c.e-item.is d)
-    c.in_err-expr.ensures.fault
+    c.in_err-expr.ensures.answer
 
 pub exprs-loop-e-preserved : goal.exprs-loop-e-preserved
 exprs-loop-e-preserved t c =
-    one_so_far c.args.env.now c.args.all.now c.args.found.now c.loop-e.e-index c.loop-e.made c.loop-e.found c.expr.new.found c.e-item.result c.in_ok-expr.field-0 c.push.new.self c.loop-e.invariant c.loop-e-test.true c.e-item.is c.in_ok-expr.ensures.ok c.in_ok-push.ensures.ok c.in_ok-expr.ensures.nd
+    one_so_far c.args.env.now c.args.all.now c.args.found.now c.loop-e.e-index c.loop-e.made c.loop-e.found c.expr.new.found c.e-item.result c.in_ok-expr.field-0 c.push.new.self
+    c.loop-e.invariant c.loop-e-test.true c.e-item.is c.in_ok-expr.ensures.answer c.in_ok-push.ensures.ok c.in_ok-expr.ensures.nd
 
-pub exprs-returns-clause-ok : goal.exprs-returns-clause-ok
-exprs-returns-clause-ok t c =
-    all_so_far c.args.env.now c.args.all.now c.args.found.now c.loop-e.e-index c.loop-e.made c.loop-e.found c.loop-e.invariant (drop_all c.loop-e.e-index c.args.all.now c.loop-e-test.false)
+pub exprs-returns-clause-answer : goal.exprs-returns-clause-answer
+exprs-returns-clause-answer t c =
+    all_so_far c.args.env.now c.args.all.now c.args.found.now c.loop-e.e-index c.loop-e.made c.loop-e.found c.loop-e.invariant
+    (drop_all c.loop-e.e-index c.args.all.now c.loop-e-test.false)
 
-pub invocation-returns-in_err-of-in-Call-clause-fault : goal.invocation-returns-in_err-of-in-Call-clause-fault
-invocation-returns-in_err-of-in-Call-clause-fault t c =
-    passed_on (Refuses c.args.env.now c.get.result.now c.args.found.now) (Refuses c.args.env.now c.args.e.now c.args.found.now) c.from_residual.result c.in_err-of-in-Call.field-0.0 c.from_residual.ensures.1
+pub invocation-returns-in_err-of-in-Call-clause-answer : goal.invocation-returns-in_err-of-in-Call-clause-answer
+invocation-returns-in_err-of-in-Call-clause-answer t c =
+    exits c.args.env.now c.args.e.now c.args.found.now _ (Refuses c.args.env.now c.get.result.now c.args.found.now)
+    c.from_residual.result c.in_err-of-in-Call.field-0.0 c.from_residual.ensures.1
     (λ q d. call_receiver_refused c.args.env.now c.args.e.now c.in-Call.of c.get.result.now c.in-Call.regions c.in-Call.name c.in-Call.actuals c.args.found.now q c.in-Call.is c.get.ensures d)
-    c.in_err-of-in-Call.ensures.fault
+    c.in_err-of-in-Call.ensures.answer
 
-pub invocation-returns-in_err-regions-in-Call-clause-fault : goal.invocation-returns-in_err-regions-in-Call-clause-fault
-invocation-returns-in_err-regions-in-Call-clause-fault t c =
-    passed_on (λ q. args_told c.args.env.now (callee_params (table_of c.args.env.now) (plain_typed c.in_ok-of-in-Call.of) c.in-Call.name) c.as_slice.result.now ≡ Some q) (Refuses c.args.env.now c.args.e.now c.args.found.now) c.from_residual-in_err-regions-in-Call.result c.in_err-regions-in-Call.field-0.0 c.from_residual-in_err-regions-in-Call.ensures.1
-    (λ q d. call_args_refused c.args.env.now c.args.e.now c.in-Call.of c.get.result.now c.in-Call.regions c.as_slice.result.now c.in-Call.name c.in-Call.actuals c.args.found.now c.expr.new.found (plain_typed c.in_ok-of-in-Call.of) q c.in-Call.is c.get.ensures c.as_slice.ensures c.in_ok-of-in-Call.ensures.ok d)
+pub invocation-returns-in_err-regions-in-Call-clause-answer : goal.invocation-returns-in_err-regions-in-Call-clause-answer
+invocation-returns-in_err-regions-in-Call-clause-answer t c =
+    exits c.args.env.now c.args.e.now c.args.found.now _ (λ q. args_told c.args.env.now (callee_params (table_of c.args.env.now) (plain_typed c.in_ok-of-in-Call.of) c.in-Call.name) c.as_slice.result.now ≡ Some q)
+    c.from_residual-in_err-regions-in-Call.result c.in_err-regions-in-Call.field-0.0 c.from_residual-in_err-regions-in-Call.ensures.1
+    (λ q d. call_args_refused c.args.env.now c.args.e.now c.in-Call.of c.get.result.now c.in-Call.regions c.as_slice.result.now c.in-Call.name c.in-Call.actuals c.args.found.now c.expr.new.found (plain_typed c.in_ok-of-in-Call.of) q
+    c.in-Call.is c.get.ensures c.as_slice.ensures c.in_ok-of-in-Call.ensures.answer d)
     c.in_err-regions-in-Call.ensures.told
 
-pub invocation-returns-in_err-actuals-in-Call-clause-fault : goal.invocation-returns-in_err-actuals-in-Call-clause-fault
-invocation-returns-in_err-actuals-in-Call-clause-fault t c =
-    passed_on (λ q. TypingAll c.args.env.now (plain_exprs (map plain_expr c.as_slice-in-Call.result.now)) c.expr.new.found (one_refused q)) (Refuses c.args.env.now c.args.e.now c.args.found.now) c.from_residual-in_err-actuals-in-Call.result c.in_err-actuals-in-Call.field-0.0 c.from_residual-in_err-actuals-in-Call.ensures.1
-    (λ q d. call_actual_refused c.args.env.now c.args.e.now c.in-Call.of c.get.result.now c.in-Call.regions c.as_slice.result.now c.in-Call.name c.in-Call.actuals c.as_slice-in-Call.result.now c.args.found.now c.expr.new.found (plain_typed c.in_ok-of-in-Call.of) q c.in-Call.is c.get.ensures c.as_slice.ensures c.as_slice-in-Call.ensures c.in_ok-of-in-Call.ensures.ok c.in_ok-regions-in-Call.ensures.untold d)
-    c.in_err-actuals-in-Call.ensures.fault
+pub invocation-returns-in_err-actuals-in-Call-clause-answer : goal.invocation-returns-in_err-actuals-in-Call-clause-answer
+invocation-returns-in_err-actuals-in-Call-clause-answer t c =
+    exits c.args.env.now c.args.e.now c.args.found.now _ (λ q. TypingAll c.args.env.now (plain_exprs (map plain_expr c.as_slice-in-Call.result.now)) c.expr.new.found (one_refused q))
+    c.from_residual-in_err-actuals-in-Call.result c.in_err-actuals-in-Call.field-0.0 c.from_residual-in_err-actuals-in-Call.ensures.1
+    (λ q d. call_actual_refused c.args.env.now c.args.e.now c.in-Call.of c.get.result.now c.in-Call.regions c.as_slice.result.now c.in-Call.name c.in-Call.actuals c.as_slice-in-Call.result.now c.args.found.now c.expr.new.found (plain_typed c.in_ok-of-in-Call.of) q
+    c.in-Call.is c.get.ensures c.as_slice.ensures c.as_slice-in-Call.ensures c.in_ok-of-in-Call.ensures.answer c.in_ok-regions-in-Call.ensures.told d)
+    c.in_err-actuals-in-Call.ensures.answer
 
-pub invocation-returns-in_ok-actuals-in-Call-clause-ok : goal.invocation-returns-in_ok-actuals-in-Call-clause-ok
-invocation-returns-in_ok-actuals-in-Call-clause-ok t c =
-    ok_map (λ u. Call c.args.env.now (plain_typed c.in_ok-of-in-Call.of) c.in-Call.name c.in_ok-regions-in-Call.regions (map plain_typed c.as_slice-actuals.result.now) c.args.e.now.place c.exprs.new.found (gives (plain_typed u) c.call.new.found)) (Gives c.args.env.now c.args.e.now c.args.found.now c.call.new.found) c.call.result
-    (λ u d. call_typed c.args.env.now c.args.e.now c.in-Call.of c.get.result.now c.in-Call.regions c.as_slice.result.now c.in-Call.name c.in-Call.actuals c.as_slice-in-Call.result.now c.in_ok-actuals-in-Call.actuals c.as_slice-actuals.result.now c.args.found.now c.expr.new.found c.exprs.new.found (plain_typed c.in_ok-of-in-Call.of) c.in_ok-regions-in-Call.regions (gives (plain_typed u) c.call.new.found) c.in-Call.is c.get.ensures c.as_slice.ensures c.as_slice-in-Call.ensures c.as_slice-actuals.ensures c.in_ok-of-in-Call.ensures.ok c.in_ok-regions-in-Call.ensures.ok c.in_ok-regions-in-Call.ensures.untold c.in_ok-actuals-in-Call.ensures.ok d)
-    c.call.ensures.ok
+pub invocation-returns-in_ok-actuals-in-Call-clause-answer : goal.invocation-returns-in_ok-actuals-in-Call-clause-answer
+invocation-returns-in_ok-actuals-in-Call-clause-answer t c =
+    ends c.args.env.now c.args.e.now c.args.found.now _ (Call c.args.env.now (plain_typed c.in_ok-of-in-Call.of) c.in-Call.name c.in_ok-regions-in-Call.regions (map plain_typed c.as_slice-actuals.result.now) c.args.e.now.place c.exprs.new.found) c.call.result
+    (λ a d. call_typed c.args.env.now c.args.e.now c.in-Call.of c.get.result.now c.in-Call.regions c.as_slice.result.now c.in-Call.name c.in-Call.actuals c.as_slice-in-Call.result.now c.in_ok-actuals-in-Call.actuals c.as_slice-actuals.result.now
+    c.args.found.now c.expr.new.found c.exprs.new.found (plain_typed c.in_ok-of-in-Call.of) c.in_ok-regions-in-Call.regions a c.in-Call.is c.get.ensures c.as_slice.ensures c.as_slice-in-Call.ensures c.as_slice-actuals.ensures
+    c.in_ok-of-in-Call.ensures.answer c.in_ok-regions-in-Call.ensures.read c.in_ok-regions-in-Call.ensures.told c.in_ok-actuals-in-Call.ensures.answer d)
+    c.call.ensures.answer
 
-pub invocation-returns-in_ok-actuals-in-Call-clause-fault : goal.invocation-returns-in_ok-actuals-in-Call-clause-fault
-invocation-returns-in_ok-actuals-in-Call-clause-fault t c =
-    err_map (λ q. Call c.args.env.now (plain_typed c.in_ok-of-in-Call.of) c.in-Call.name c.in_ok-regions-in-Call.regions (map plain_typed c.as_slice-actuals.result.now) c.args.e.now.place c.exprs.new.found (refused q)) (Refuses c.args.env.now c.args.e.now c.args.found.now) c.call.result
-    (λ q d. call_typed c.args.env.now c.args.e.now c.in-Call.of c.get.result.now c.in-Call.regions c.as_slice.result.now c.in-Call.name c.in-Call.actuals c.as_slice-in-Call.result.now c.in_ok-actuals-in-Call.actuals c.as_slice-actuals.result.now c.args.found.now c.expr.new.found c.exprs.new.found (plain_typed c.in_ok-of-in-Call.of) c.in_ok-regions-in-Call.regions (refused q) c.in-Call.is c.get.ensures c.as_slice.ensures c.as_slice-in-Call.ensures c.as_slice-actuals.ensures c.in_ok-of-in-Call.ensures.ok c.in_ok-regions-in-Call.ensures.ok c.in_ok-regions-in-Call.ensures.untold c.in_ok-actuals-in-Call.ensures.ok d)
-    c.call.ensures.fault
-
-pub invocation-returns-in_err-regions-in-New-clause-fault : goal.invocation-returns-in_err-regions-in-New-clause-fault
-invocation-returns-in_err-regions-in-New-clause-fault t c =
-    passed_on (λ q. args_told c.args.env.now (created_params (table_of c.args.env.now) c.in-New.class) c.as_slice-in-New.result.now ≡ Some q) (Refuses c.args.env.now c.args.e.now c.args.found.now) c.from_residual-in_err-regions-in-New.result c.in_err-regions-in-New.field-0.0 c.from_residual-in_err-regions-in-New.ensures.1
+pub invocation-returns-in_err-regions-in-New-clause-answer : goal.invocation-returns-in_err-regions-in-New-clause-answer
+invocation-returns-in_err-regions-in-New-clause-answer t c =
+    exits c.args.env.now c.args.e.now c.args.found.now _ (λ q. args_told c.args.env.now (created_params (table_of c.args.env.now) c.in-New.class) c.as_slice-in-New.result.now ≡ Some q)
+    c.from_residual-in_err-regions-in-New.result c.in_err-regions-in-New.field-0.0 c.from_residual-in_err-regions-in-New.ensures.1
     (λ q d. new_args_refused c.args.env.now c.args.e.now c.in-New.class c.in-New.regions c.as_slice-in-New.result.now c.in-New.actuals c.args.found.now q c.in-New.is c.as_slice-in-New.ensures d)
     c.in_err-regions-in-New.ensures.told
 
-pub invocation-returns-in_err-actuals-in-New-clause-fault : goal.invocation-returns-in_err-actuals-in-New-clause-fault
-invocation-returns-in_err-actuals-in-New-clause-fault t c =
-    passed_on (λ q. TypingAll c.args.env.now (plain_exprs (map plain_expr c.as_slice-in-New-2.result.now)) c.args.found.now (one_refused q)) (Refuses c.args.env.now c.args.e.now c.args.found.now) c.from_residual-in_err-actuals-in-New.result c.in_err-actuals-in-New.field-0.0 c.from_residual-in_err-actuals-in-New.ensures.1
-    (λ q d. new_actual_refused c.args.env.now c.args.e.now c.in-New.class c.in-New.regions c.as_slice-in-New.result.now c.in-New.actuals c.as_slice-in-New-2.result.now c.args.found.now q c.in-New.is c.as_slice-in-New.ensures c.as_slice-in-New-2.ensures c.in_ok-regions-in-New.ensures.untold d)
-    c.in_err-actuals-in-New.ensures.fault
+pub invocation-returns-in_err-actuals-in-New-clause-answer : goal.invocation-returns-in_err-actuals-in-New-clause-answer
+invocation-returns-in_err-actuals-in-New-clause-answer t c =
+    exits c.args.env.now c.args.e.now c.args.found.now _ (λ q. TypingAll c.args.env.now (plain_exprs (map plain_expr c.as_slice-in-New-2.result.now)) c.args.found.now (one_refused q))
+    c.from_residual-in_err-actuals-in-New.result c.in_err-actuals-in-New.field-0.0 c.from_residual-in_err-actuals-in-New.ensures.1
+    (λ q d. new_actual_refused c.args.env.now c.args.e.now c.in-New.class c.in-New.regions c.as_slice-in-New.result.now c.in-New.actuals c.as_slice-in-New-2.result.now c.args.found.now q c.in-New.is c.as_slice-in-New.ensures c.as_slice-in-New-2.ensures c.in_ok-regions-in-New.ensures.told d)
+    c.in_err-actuals-in-New.ensures.answer
 
-pub invocation-returns-in_err-ty-in-New-clause-fault : goal.invocation-returns-in_err-ty-in-New-clause-fault
-invocation-returns-in_err-ty-in-New-clause-fault t c =
-    passed_on (λ q. Creation c.args.env.now c.in-New.class c.in_ok-regions-in-New.regions (map plain_typed c.as_slice-actuals-in-New.result.now) c.args.e.now.place c.exprs-in-New.new.found (refused q)) (Refuses c.args.env.now c.args.e.now c.args.found.now) c.from_residual-in_err-ty-in-New.result c.in_err-ty-in-New.field-0.0 c.from_residual-in_err-ty-in-New.ensures.1
-    (λ q d. new_typed c.args.env.now c.args.e.now c.in-New.class c.in-New.regions c.as_slice-in-New.result.now c.in-New.actuals c.as_slice-in-New-2.result.now c.in_ok-actuals-in-New.actuals c.as_slice-actuals-in-New.result.now c.args.found.now c.exprs-in-New.new.found c.in_ok-regions-in-New.regions (refused q) c.in-New.is c.as_slice-in-New.ensures c.as_slice-in-New-2.ensures c.as_slice-actuals-in-New.ensures c.in_ok-regions-in-New.ensures.ok c.in_ok-regions-in-New.ensures.untold c.in_ok-actuals-in-New.ensures.ok d)
-    c.in_err-ty-in-New.ensures.fault
+pub invocation-returns-in_err-ty-in-New-clause-answer : goal.invocation-returns-in_err-ty-in-New-clause-answer
+invocation-returns-in_err-ty-in-New-clause-answer t c =
+    exits c.args.env.now c.args.e.now c.args.found.now _ (λ q. Creation c.args.env.now c.in-New.class c.in_ok-regions-in-New.regions (map plain_typed c.as_slice-actuals-in-New.result.now) c.args.e.now.place c.exprs-in-New.new.found (refused q))
+    c.from_residual-in_err-ty-in-New.result c.in_err-ty-in-New.field-0.0 c.from_residual-in_err-ty-in-New.ensures.1
+    (λ q d. new_typed c.args.env.now c.args.e.now c.in-New.class c.in-New.regions c.as_slice-in-New.result.now c.in-New.actuals c.as_slice-in-New-2.result.now c.in_ok-actuals-in-New.actuals c.as_slice-actuals-in-New.result.now
+    c.args.found.now c.exprs-in-New.new.found c.in_ok-regions-in-New.regions (refused q) c.in-New.is c.as_slice-in-New.ensures c.as_slice-in-New-2.ensures c.as_slice-actuals-in-New.ensures
+    c.in_ok-regions-in-New.ensures.read c.in_ok-regions-in-New.ensures.told c.in_ok-actuals-in-New.ensures.answer d)
+    c.in_err-ty-in-New.ensures.answer
 
-pub invocation-returns-in_ok-ty-in-New-clause-ok : goal.invocation-returns-in_ok-ty-in-New-clause-ok
-invocation-returns-in_ok-ty-in-New-clause-ok t c =
-    new_typed c.args.env.now c.args.e.now c.in-New.class c.in-New.regions c.as_slice-in-New.result.now c.in-New.actuals c.as_slice-in-New-2.result.now c.in_ok-actuals-in-New.actuals c.as_slice-actuals-in-New.result.now c.args.found.now c.exprs-in-New.new.found c.in_ok-regions-in-New.regions (gives (Some (plain_type c.in_ok-ty-in-New.ty)) c.creation.new.found) c.in-New.is c.as_slice-in-New.ensures c.as_slice-in-New-2.ensures c.as_slice-actuals-in-New.ensures c.in_ok-regions-in-New.ensures.ok c.in_ok-regions-in-New.ensures.untold c.in_ok-actuals-in-New.ensures.ok c.in_ok-ty-in-New.ensures.ok
+pub invocation-returns-in_ok-ty-in-New-clause-answer : goal.invocation-returns-in_ok-ty-in-New-clause-answer
+invocation-returns-in_ok-ty-in-New-clause-answer t c =
+    new_typed c.args.env.now c.args.e.now c.in-New.class c.in-New.regions c.as_slice-in-New.result.now c.in-New.actuals c.as_slice-in-New-2.result.now c.in_ok-actuals-in-New.actuals c.as_slice-actuals-in-New.result.now
+    c.args.found.now c.exprs-in-New.new.found c.in_ok-regions-in-New.regions (gives (Some (plain_type c.in_ok-ty-in-New.ty)) c.creation.new.found) c.in-New.is c.as_slice-in-New.ensures c.as_slice-in-New-2.ensures c.as_slice-actuals-in-New.ensures
+    c.in_ok-regions-in-New.ensures.read c.in_ok-regions-in-New.ensures.told c.in_ok-actuals-in-New.ensures.answer c.in_ok-ty-in-New.ensures.answer
 
-pub invocation-returns-in_err-leaf-in_default-clause-fault : goal.invocation-returns-in_err-leaf-in_default-clause-fault
-invocation-returns-in_err-leaf-in_default-clause-fault t c =
-    passed_on (λ q. leaf_type c.args.env.now c.args.e.now.place (form_of (plain_expr c.args.e.now)) ≡ Some (Err q)) (Refuses c.args.env.now c.args.e.now c.args.found.now) c.from_residual-in_err-leaf-in_default.result c.in_err-leaf-in_default.field-0.0 c.from_residual-in_err-leaf-in_default.ensures.1
+pub invocation-returns-in_err-leaf-in_default-clause-answer : goal.invocation-returns-in_err-leaf-in_default-clause-answer
+invocation-returns-in_err-leaf-in_default-clause-answer t c =
+    exits c.args.env.now c.args.e.now c.args.found.now _ (λ q. leaf_type c.args.env.now c.args.e.now.place (form_of (plain_expr c.args.e.now)) ≡ Some (Err q))
+    c.from_residual-in_err-leaf-in_default.result c.in_err-leaf-in_default.field-0.0 c.from_residual-in_err-leaf-in_default.ensures.1
     (λ q d. leaf_typed c.args.env.now c.args.e.now c.args.found.now (Err q) d)
-    c.in_err-leaf-in_default.ensures.fault
+    c.in_err-leaf-in_default.ensures
 
-pub invocation-returns-in_ok-leaf-in_default-clause-ok : goal.invocation-returns-in_ok-leaf-in_default-clause-ok
-invocation-returns-in_ok-leaf-in_default-clause-ok t c =
-    leaf_typed c.args.env.now c.args.e.now c.args.found.now (Ok (plain_type c.in_ok-leaf-in_default.field-0)) c.in_ok-leaf-in_default.ensures.ok
+pub invocation-returns-in_ok-leaf-in_default-clause-answer : goal.invocation-returns-in_ok-leaf-in_default-clause-answer
+invocation-returns-in_ok-leaf-in_default-clause-answer t c =
+    leaf_typed c.args.env.now c.args.e.now c.args.found.now (Ok (plain_type c.in_ok-leaf-in_default.field-0)) c.in_ok-leaf-in_default.ensures
 
-pub operation-returns-in_err-arg-in-Unary-clause-fault : goal.operation-returns-in_err-arg-in-Unary-clause-fault
-operation-returns-in_err-arg-in-Unary-clause-fault t c =
-    passed_on (Refuses c.args.env.now c.get.result.now c.args.found.now) (Refuses c.args.env.now c.args.e.now c.args.found.now) c.from_residual.result c.in_err-arg-in-Unary.field-0.0 c.from_residual.ensures.1
+pub operation-returns-in_err-arg-in-Unary-clause-answer : goal.operation-returns-in_err-arg-in-Unary-clause-answer
+operation-returns-in_err-arg-in-Unary-clause-answer t c =
+    exits c.args.env.now c.args.e.now c.args.found.now _ (Refuses c.args.env.now c.get.result.now c.args.found.now)
+    c.from_residual.result c.in_err-arg-in-Unary.field-0.0 c.from_residual.ensures.1
     (λ q d. operand_refused c.args.env.now c.args.e.now c.in-Unary.arg c.get.result.now c.in-Unary.op c.args.found.now q c.in-Unary.is c.get.ensures d)
-    c.in_err-arg-in-Unary.ensures.fault
+    c.in_err-arg-in-Unary.ensures.answer
 
-pub operation-returns-in_err-unary-in-Unary-clause-fault : goal.operation-returns-in_err-unary-in-Unary-clause-fault
-operation-returns-in_err-unary-in-Unary-clause-fault t c =
-    passed_on (Refuses c.args.env.now c.args.e.now c.args.found.now) (Refuses c.args.env.now c.args.e.now c.args.found.now) c.from_residual-in_err-unary-in-Unary.result c.in_err-unary-in-Unary.field-0.0 c.from_residual-in_err-unary-in-Unary.ensures.1
-    (λ q d. d)
-    (at_place c.args.env.now c.args.e.now c.args.found.now c.in_err-unary-in-Unary.field-0.0 c.args.e.now.place c.in_err-unary-in-Unary.ensures.fault
-    (operand_mistyped c.args.env.now c.args.e.now c.in-Unary.arg c.get.result.now c.in-Unary.op c.args.found.now c.expr.new.found (plain_typed c.in_ok-arg-in-Unary.arg) c.in-Unary.is c.get.ensures c.in_ok-arg-in-Unary.ensures.ok c.in_err-unary-in-Unary.ensures.refuses))
+pub operation-returns-in_err-unary-in-Unary-clause-answer : goal.operation-returns-in_err-unary-in-Unary-clause-answer
+operation-returns-in_err-unary-in-Unary-clause-answer t c =
+    exits c.args.env.now c.args.e.now c.args.found.now _ (λ q. unary_typed c.in-Unary.op (plain_typed c.in_ok-arg-in-Unary.arg) c.args.e.now.place ≡ Err q)
+    c.from_residual-in_err-unary-in-Unary.result c.in_err-unary-in-Unary.field-0.0 c.from_residual-in_err-unary-in-Unary.ensures.1
+    (λ q d. operation_typed c.args.env.now c.args.e.now c.in-Unary.arg c.get.result.now c.in-Unary.op c.args.found.now c.expr.new.found (plain_typed c.in_ok-arg-in-Unary.arg) (Err q) c.in-Unary.is c.get.ensures c.in_ok-arg-in-Unary.ensures.answer d)
+    c.in_err-unary-in-Unary.ensures
 
-pub operation-returns-in_ok-unary-in-Unary-clause-ok : goal.operation-returns-in_ok-unary-in-Unary-clause-ok
-operation-returns-in_ok-unary-in-Unary-clause-ok t c =
-    operation_typed c.args.env.now c.args.e.now c.in-Unary.arg c.get.result.now c.in-Unary.op c.args.found.now c.expr.new.found (plain_typed c.in_ok-arg-in-Unary.arg) (plain_type c.in_ok-unary-in-Unary.field-0) c.in-Unary.is c.get.ensures c.in_ok-arg-in-Unary.ensures.ok c.in_ok-unary-in-Unary.ensures.takes c.in_ok-unary-in-Unary.ensures.gives
+pub operation-returns-in_ok-unary-in-Unary-clause-answer : goal.operation-returns-in_ok-unary-in-Unary-clause-answer
+operation-returns-in_ok-unary-in-Unary-clause-answer t c =
+    operation_typed c.args.env.now c.args.e.now c.in-Unary.arg c.get.result.now c.in-Unary.op c.args.found.now c.expr.new.found (plain_typed c.in_ok-arg-in-Unary.arg) (Ok (plain_type c.in_ok-unary-in-Unary.field-0)) c.in-Unary.is c.get.ensures c.in_ok-arg-in-Unary.ensures.answer c.in_ok-unary-in-Unary.ensures
 
-pub operation-returns-in_err-left-in-Binary-clause-fault : goal.operation-returns-in_err-left-in-Binary-clause-fault
-operation-returns-in_err-left-in-Binary-clause-fault t c =
-    passed_on (Refuses c.args.env.now c.get-in-Binary.result.now c.args.found.now) (Refuses c.args.env.now c.args.e.now c.args.found.now) c.from_residual-in_err-left-in-Binary.result c.in_err-left-in-Binary.field-0.0 c.from_residual-in_err-left-in-Binary.ensures.1
+pub operation-returns-in_err-left-in-Binary-clause-answer : goal.operation-returns-in_err-left-in-Binary-clause-answer
+operation-returns-in_err-left-in-Binary-clause-answer t c =
+    exits c.args.env.now c.args.e.now c.args.found.now _ (Refuses c.args.env.now c.get-in-Binary.result.now c.args.found.now)
+    c.from_residual-in_err-left-in-Binary.result c.in_err-left-in-Binary.field-0.0 c.from_residual-in_err-left-in-Binary.ensures.1
     (λ q d. left_refused c.args.env.now c.args.e.now c.in-Binary.left c.in-Binary.right c.get-in-Binary.result.now c.in-Binary.op c.args.found.now q c.in-Binary.is c.get-in-Binary.ensures d)
-    c.in_err-left-in-Binary.ensures.fault
+    c.in_err-left-in-Binary.ensures.answer
 
-pub operation-returns-in_err-right-in-Binary-clause-fault : goal.operation-returns-in_err-right-in-Binary-clause-fault
-operation-returns-in_err-right-in-Binary-clause-fault t c =
-    passed_on (Refuses c.args.env.now c.get-in-Binary-2.result.now c.expr-in-Binary.new.found) (Refuses c.args.env.now c.args.e.now c.args.found.now) c.from_residual-in_err-right-in-Binary.result c.in_err-right-in-Binary.field-0.0 c.from_residual-in_err-right-in-Binary.ensures.1
-    (λ q d. right_refused c.args.env.now c.args.e.now c.in-Binary.left c.in-Binary.right c.get-in-Binary.result.now c.get-in-Binary-2.result.now c.in-Binary.op c.args.found.now c.expr-in-Binary.new.found (plain_typed c.in_ok-left-in-Binary.left) q c.in-Binary.is c.get-in-Binary.ensures c.get-in-Binary-2.ensures c.in_ok-left-in-Binary.ensures.ok d)
-    c.in_err-right-in-Binary.ensures.fault
+pub operation-returns-in_err-right-in-Binary-clause-answer : goal.operation-returns-in_err-right-in-Binary-clause-answer
+operation-returns-in_err-right-in-Binary-clause-answer t c =
+    exits c.args.env.now c.args.e.now c.args.found.now _ (Refuses c.args.env.now c.get-in-Binary-2.result.now c.expr-in-Binary.new.found)
+    c.from_residual-in_err-right-in-Binary.result c.in_err-right-in-Binary.field-0.0 c.from_residual-in_err-right-in-Binary.ensures.1
+    (λ q d. right_refused c.args.env.now c.args.e.now c.in-Binary.left c.in-Binary.right c.get-in-Binary.result.now c.get-in-Binary-2.result.now c.in-Binary.op c.args.found.now c.expr-in-Binary.new.found (plain_typed c.in_ok-left-in-Binary.left) q
+    c.in-Binary.is c.get-in-Binary.ensures c.get-in-Binary-2.ensures c.in_ok-left-in-Binary.ensures.answer d)
+    c.in_err-right-in-Binary.ensures.answer
 
-pub operation-returns-in_err-binary-in-Binary-clause-fault : goal.operation-returns-in_err-binary-in-Binary-clause-fault
-operation-returns-in_err-binary-in-Binary-clause-fault t c =
-    passed_on (Refuses c.args.env.now c.args.e.now c.args.found.now) (Refuses c.args.env.now c.args.e.now c.args.found.now) c.from_residual-in_err-binary-in-Binary.result c.in_err-binary-in-Binary.field-0.0 c.from_residual-in_err-binary-in-Binary.ensures.1
-    (λ q d. d)
-    (at_place c.args.env.now c.args.e.now c.args.found.now c.in_err-binary-in-Binary.field-0.0 c.args.e.now.place c.in_err-binary-in-Binary.ensures.fault
-    (operands_mistyped c.args.env.now c.args.e.now c.in-Binary.left c.in-Binary.right c.get-in-Binary.result.now c.get-in-Binary-2.result.now c.in-Binary.op c.args.found.now c.expr-in-Binary.new.found c.expr-in-Binary-2.new.found (plain_typed c.in_ok-left-in-Binary.left) (plain_typed c.in_ok-right-in-Binary.right) c.in-Binary.is c.get-in-Binary.ensures c.get-in-Binary-2.ensures c.in_ok-left-in-Binary.ensures.ok c.in_ok-right-in-Binary.ensures.ok c.in_err-binary-in-Binary.ensures.refuses))
+pub operation-returns-in_err-binary-in-Binary-clause-answer : goal.operation-returns-in_err-binary-in-Binary-clause-answer
+operation-returns-in_err-binary-in-Binary-clause-answer t c =
+    exits c.args.env.now c.args.e.now c.args.found.now _ (λ q. binary_typed c.in-Binary.op (plain_typed c.in_ok-left-in-Binary.left) (plain_typed c.in_ok-right-in-Binary.right) c.args.e.now.place ≡ Err q)
+    c.from_residual-in_err-binary-in-Binary.result c.in_err-binary-in-Binary.field-0.0 c.from_residual-in_err-binary-in-Binary.ensures.1
+    (λ q d. operations_typed c.args.env.now c.args.e.now c.in-Binary.left c.in-Binary.right c.get-in-Binary.result.now c.get-in-Binary-2.result.now c.in-Binary.op c.args.found.now c.expr-in-Binary.new.found c.expr-in-Binary-2.new.found
+    (plain_typed c.in_ok-left-in-Binary.left) (plain_typed c.in_ok-right-in-Binary.right) (Err q) c.in-Binary.is c.get-in-Binary.ensures c.get-in-Binary-2.ensures
+    c.in_ok-left-in-Binary.ensures.answer c.in_ok-right-in-Binary.ensures.answer d)
+    c.in_err-binary-in-Binary.ensures
 
-pub operation-returns-in_ok-binary-in-Binary-clause-ok : goal.operation-returns-in_ok-binary-in-Binary-clause-ok
-operation-returns-in_ok-binary-in-Binary-clause-ok t c =
-    operations_typed c.args.env.now c.args.e.now c.in-Binary.left c.in-Binary.right c.get-in-Binary.result.now c.get-in-Binary-2.result.now c.in-Binary.op c.args.found.now c.expr-in-Binary.new.found c.expr-in-Binary-2.new.found (plain_typed c.in_ok-left-in-Binary.left) (plain_typed c.in_ok-right-in-Binary.right) (plain_type c.in_ok-binary-in-Binary.field-0) c.in-Binary.is c.get-in-Binary.ensures c.get-in-Binary-2.ensures c.in_ok-left-in-Binary.ensures.ok c.in_ok-right-in-Binary.ensures.ok c.in_ok-binary-in-Binary.ensures.takes c.in_ok-binary-in-Binary.ensures.gives
+pub operation-returns-in_ok-binary-in-Binary-clause-answer : goal.operation-returns-in_ok-binary-in-Binary-clause-answer
+operation-returns-in_ok-binary-in-Binary-clause-answer t c =
+    operations_typed c.args.env.now c.args.e.now c.in-Binary.left c.in-Binary.right c.get-in-Binary.result.now c.get-in-Binary-2.result.now c.in-Binary.op c.args.found.now c.expr-in-Binary.new.found c.expr-in-Binary-2.new.found
+    (plain_typed c.in_ok-left-in-Binary.left) (plain_typed c.in_ok-right-in-Binary.right) (Ok (plain_type c.in_ok-binary-in-Binary.field-0)) c.in-Binary.is c.get-in-Binary.ensures c.get-in-Binary-2.ensures
+    c.in_ok-left-in-Binary.ensures.answer c.in_ok-right-in-Binary.ensures.answer c.in_ok-binary-in-Binary.ensures
 
-pub operation-returns-in_err-read-in-NewArray-clause-fault : goal.operation-returns-in_err-read-in-NewArray-clause-fault
-operation-returns-in_err-read-in-NewArray-clause-fault t c =
-    passed_on (λ q. front_told c.args.env.now (made_names c.args.e.now.node c.as_slice.result.now c.in-NewArray.index) c.in-NewArray.base ≡ Some q) (Refuses c.args.env.now c.args.e.now c.args.found.now) c.from_residual-in_err-read-in-NewArray.result c.in_err-read-in-NewArray.field-0.0 c.from_residual-in_err-read-in-NewArray.ensures.1
-    (λ q d. front_refused c.args.env.now c.args.e.now c.in-NewArray.length c.in-NewArray.base c.in-NewArray.suffixes c.as_slice.result.now c.in-NewArray.rpl c.in-NewArray.index c.args.found.now q c.in-NewArray.is c.as_slice.ensures d)
+pub operation-returns-in_err-read-in-NewArray-clause-answer : goal.operation-returns-in_err-read-in-NewArray-clause-answer
+operation-returns-in_err-read-in-NewArray-clause-answer t c =
+    exits c.args.env.now c.args.e.now c.args.found.now _ (λ q. front_told c.args.env.now (made_names c.as_slice.result.now c.in-NewArray.index) c.in-NewArray.base ≡ Some q)
+    c.from_residual-in_err-read-in-NewArray.result c.in_err-read-in-NewArray.field-0.0 c.from_residual-in_err-read-in-NewArray.ensures.1
+    (λ q d. front_refused c.args.env.now c.args.e.now c.in-NewArray.length c.in-NewArray.base c.in-NewArray.suffixes c.as_slice.result.now c.in-NewArray.rpl c.in-NewArray.index c.args.found.now q
+    c.in-NewArray.is c.as_slice.ensures d)
     c.in_err-read-in-NewArray.ensures.told
 
-pub operation-returns-in_err-length-in-NewArray-clause-fault : goal.operation-returns-in_err-length-in-NewArray-clause-fault
-operation-returns-in_err-length-in-NewArray-clause-fault t c =
-    passed_on (Refuses c.args.env.now c.get-in-NewArray.result.now c.args.found.now) (Refuses c.args.env.now c.args.e.now c.args.found.now) c.from_residual-in_err-length-in-NewArray.result c.in_err-length-in-NewArray.field-0.0 c.from_residual-in_err-length-in-NewArray.ensures.1
-    (λ q d. length_refused c.args.env.now c.args.e.now c.in-NewArray.length c.get-in-NewArray.result.now c.in-NewArray.base c.in-NewArray.suffixes c.as_slice.result.now c.in-NewArray.rpl c.in-NewArray.index c.args.found.now q c.in-NewArray.is c.as_slice.ensures c.get-in-NewArray.ensures c.in_ok-read-in-NewArray.ensures.untold d)
-    c.in_err-length-in-NewArray.ensures.fault
+pub operation-returns-in_err-length-in-NewArray-clause-answer : goal.operation-returns-in_err-length-in-NewArray-clause-answer
+operation-returns-in_err-length-in-NewArray-clause-answer t c =
+    exits c.args.env.now c.args.e.now c.args.found.now _ (Refuses c.args.env.now c.get-in-NewArray.result.now c.args.found.now)
+    c.from_residual-in_err-length-in-NewArray.result c.in_err-length-in-NewArray.field-0.0 c.from_residual-in_err-length-in-NewArray.ensures.1
+    (λ q d. length_refused c.args.env.now c.args.e.now c.in-NewArray.length c.get-in-NewArray.result.now c.in-NewArray.base c.in-NewArray.suffixes c.as_slice.result.now c.in-NewArray.rpl c.in-NewArray.index c.args.found.now q
+    c.in-NewArray.is c.as_slice.ensures c.get-in-NewArray.ensures c.in_ok-read-in-NewArray.ensures.told d)
+    c.in_err-length-in-NewArray.ensures.answer
 
-pub operation-returns-in_err-ty-in-NewArray-clause-fault : goal.operation-returns-in_err-ty-in-NewArray-clause-fault
-operation-returns-in_err-ty-in-NewArray-clause-fault t c =
-    passed_on (λ q. created_array c.args.env.now (made_names c.args.e.now.node c.as_slice.result.now c.in-NewArray.index) c.in_ok-read-in-NewArray.read (plain_typed c.in_ok-length-in-NewArray.length) (option_copied c.as_ref.result) c.args.e.now.place ≡ Err q) (Refuses c.args.env.now c.args.e.now c.args.found.now) c.from_residual-in_err-ty-in-NewArray.result c.in_err-ty-in-NewArray.field-0.0 c.from_residual-in_err-ty-in-NewArray.ensures.1
-    (λ q d. array_typed c.args.env.now c.args.e.now c.in-NewArray.length c.get-in-NewArray.result.now c.in-NewArray.base c.in-NewArray.suffixes c.as_slice.result.now c.in-NewArray.rpl (option_copied c.as_ref.result) c.in-NewArray.index c.args.found.now c.expr-in-NewArray.new.found (plain_typed c.in_ok-length-in-NewArray.length) c.in_ok-read-in-NewArray.read (Err q) c.in-NewArray.is c.as_slice.ensures c.get-in-NewArray.ensures c.as_ref.ensures.value c.in_ok-read-in-NewArray.ensures.untold c.in_ok-length-in-NewArray.ensures.ok c.in_ok-read-in-NewArray.ensures.ok d)
-    c.in_err-ty-in-NewArray.ensures.fault
+pub operation-returns-in_err-ty-in-NewArray-clause-answer : goal.operation-returns-in_err-ty-in-NewArray-clause-answer
+operation-returns-in_err-ty-in-NewArray-clause-answer t c =
+    exits c.args.env.now c.args.e.now c.args.found.now _ (λ q. created_array c.args.env.now (made_names c.as_slice.result.now c.in-NewArray.index) c.in_ok-read-in-NewArray.read (plain_typed c.in_ok-length-in-NewArray.length) (option_copied c.as_ref.result) c.args.e.now.place ≡ Err q)
+    c.from_residual-in_err-ty-in-NewArray.result c.in_err-ty-in-NewArray.field-0.0 c.from_residual-in_err-ty-in-NewArray.ensures.1
+    (λ q d. array_typed c.args.env.now c.args.e.now c.in-NewArray.length c.get-in-NewArray.result.now c.in-NewArray.base c.in-NewArray.suffixes c.as_slice.result.now c.in-NewArray.rpl (option_copied c.as_ref.result) c.in-NewArray.index
+    c.args.found.now c.expr-in-NewArray.new.found (plain_typed c.in_ok-length-in-NewArray.length) c.in_ok-read-in-NewArray.read (Err q) c.in-NewArray.is c.as_slice.ensures c.get-in-NewArray.ensures c.as_ref.ensures.value
+    c.in_ok-read-in-NewArray.ensures.told c.in_ok-length-in-NewArray.ensures.answer c.in_ok-read-in-NewArray.ensures.read d)
+    c.in_err-ty-in-NewArray.ensures.answer
 
-pub operation-returns-in_ok-ty-in-NewArray-clause-ok : goal.operation-returns-in_ok-ty-in-NewArray-clause-ok
-operation-returns-in_ok-ty-in-NewArray-clause-ok t c =
-    array_typed c.args.env.now c.args.e.now c.in-NewArray.length c.get-in-NewArray.result.now c.in-NewArray.base c.in-NewArray.suffixes c.as_slice.result.now c.in-NewArray.rpl (option_copied c.as_ref.result) c.in-NewArray.index c.args.found.now c.expr-in-NewArray.new.found (plain_typed c.in_ok-length-in-NewArray.length) c.in_ok-read-in-NewArray.read (Ok (plain_type c.in_ok-ty-in-NewArray.ty)) c.in-NewArray.is c.as_slice.ensures c.get-in-NewArray.ensures c.as_ref.ensures.value c.in_ok-read-in-NewArray.ensures.untold c.in_ok-length-in-NewArray.ensures.ok c.in_ok-read-in-NewArray.ensures.ok c.in_ok-ty-in-NewArray.ensures.ok
+pub operation-returns-in_ok-ty-in-NewArray-clause-answer : goal.operation-returns-in_ok-ty-in-NewArray-clause-answer
+operation-returns-in_ok-ty-in-NewArray-clause-answer t c =
+    array_typed c.args.env.now c.args.e.now c.in-NewArray.length c.get-in-NewArray.result.now c.in-NewArray.base c.in-NewArray.suffixes c.as_slice.result.now c.in-NewArray.rpl (option_copied c.as_ref.result) c.in-NewArray.index
+    c.args.found.now c.expr-in-NewArray.new.found (plain_typed c.in_ok-length-in-NewArray.length) c.in_ok-read-in-NewArray.read (Ok (plain_type c.in_ok-ty-in-NewArray.ty)) c.in-NewArray.is c.as_slice.ensures c.get-in-NewArray.ensures c.as_ref.ensures.value
+    c.in_ok-read-in-NewArray.ensures.told c.in_ok-length-in-NewArray.ensures.answer c.in_ok-read-in-NewArray.ensures.read c.in_ok-ty-in-NewArray.ensures.answer

@@ -5,7 +5,7 @@ use Rattle.dpj_parse.specs.Taking.{Many}
 use Rattle.dpj_parse.proofs.classes.classes.Given as goal
 
 abbrev pub invariant-loop-alloc : goal.invariant-loop-alloc
-invariant-loop-alloc l = record { pays : Reads 0 l.fn.cursor l.cursor; derives : Many DerivesClass l.fn.cursor.rest.now l.cursor.rest.now l.classes; one : 1 ≤ length l.classes }
+invariant-loop-alloc l = record { moves : Reads l.fn.cursor l.cursor; derives : Many DerivesClass l.fn.cursor.rest.now l.cursor.rest.now l.classes; one : 1 ≤ length l.classes }
 
 abbrev pub decreases-loop-alloc : goal.decreases-loop-alloc
 decreases-loop-alloc l = length l.cursor.rest.now

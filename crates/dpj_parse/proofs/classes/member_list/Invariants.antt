@@ -5,7 +5,7 @@ use Rattle.dpj_parse.specs.Taking.{Many}
 use Rattle.dpj_parse.proofs.classes.member_list.Given as goal
 
 abbrev pub invariant-loop-alloc : goal.invariant-loop-alloc
-invariant-loop-alloc l = record { pays : Keeps l.fn.cursor l.cursor; derives : Many DerivesMember l.fn.cursor.rest.now l.cursor.rest.now l.members }
+invariant-loop-alloc l = record { moves : Keeps l.fn.cursor l.cursor; derives : Many DerivesMember l.fn.cursor.rest.now l.cursor.rest.now l.members }
 
 abbrev pub decreases-loop-alloc : goal.decreases-loop-alloc
 decreases-loop-alloc l = length l.cursor.rest.now

@@ -5,14 +5,13 @@ use Rattle.dpj_parse.proofs.exprs.+exprs.Goals as goal
 
 pub operators-loop-op-init : goal.operators-loop-op-init
 operators-loop-op-init t c = record {
-  pays = c.in_ok-left.ensures.pays;
+  moves = c.in_ok-left.ensures.moves;
   groups = grouped_unary c.args.least 5 c.in_ok-left.ensures.derives;
-  last = c.in_ok-left.ensures.last;
 }
 
 pub operators-loop-op-preserved : goal.operators-loop-op-preserved
 operators-loop-op-preserved t c = record {
-  pays = search rules;
+  moves = search rules;
   groups =
       grouped_operation
       c.loop-op.invariant.groups
@@ -22,7 +21,5 @@ operators-loop-op-preserved t c = record {
       c.binding.ensures.level
       c.in_ok-right.ensures.derives
       c.tightest_behind-most.ensures.left
-      c.in_ok-left-2.ensures.plain
-      c.in_ok-left-2.ensures.takes;
-  last = c.in_ok-left-2.ensures.last;
+      c.in_ok-left-2.ensures;
 }

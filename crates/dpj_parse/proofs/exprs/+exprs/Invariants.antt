@@ -1,4 +1,4 @@
-use Rattle.std.proofs.Common.{◌+◌, ◌*◌, ◌≡◌, length}
+use Rattle.std.proofs.Common.{◌+◌, ◌*◌, length}
 use Rattle.dpj_tree.specs.Plain.{plain_expr}
 use Rattle.dpj_parse.specs.Progress.{Reads, Keeps}
 use Rattle.dpj_parse.specs.Taking.{Listed}
@@ -44,7 +44,7 @@ decreases-actuals l = 6 * length l.cursor.now.rest.now
 
 abbrev pub invariant-listed-loop-all : goal.invariant-listed-loop-all
 invariant-listed-loop-all l = record {
-  pays : Reads 0 l.fn.cursor l.cursor;
+  moves : Reads l.fn.cursor l.cursor;
   derives : Listed DerivesExprTree l.fn.cursor.rest.now l.cursor.rest.now l.all;
 }
 
@@ -53,9 +53,8 @@ decreases-listed-loop-all l = length l.cursor.rest.now
 
 abbrev pub invariant-operators-loop-op : goal.invariant-operators-loop-op
 invariant-operators-loop-op l = record {
-  pays : Reads 0 l.fn.cursor l.cursor;
+  moves : Reads l.fn.cursor l.cursor;
   groups : Grouped l.least l.most l.fn.cursor.rest.now l.cursor.rest.now (plain_expr l.left);
-  last : l.left.node + 1 ≡ l.cursor.node;
 }
 
 abbrev pub decreases-operators-loop-op : goal.decreases-operators-loop-op
@@ -63,9 +62,8 @@ decreases-operators-loop-op l = length l.cursor.rest.now
 
 abbrev pub invariant-selected-loop-alloc : goal.invariant-selected-loop-alloc
 invariant-selected-loop-alloc l = record {
-  pays : Keeps l.fn.cursor l.cursor;
+  moves : Keeps l.fn.cursor l.cursor;
   derives : DerivesSelections (plain_expr l.fn.first) l.fn.cursor.rest.now l.cursor.rest.now (plain_expr l.found);
-  last : l.found.node + 1 ≡ l.cursor.node;
 }
 
 abbrev pub decreases-selected-loop-alloc : goal.decreases-selected-loop-alloc

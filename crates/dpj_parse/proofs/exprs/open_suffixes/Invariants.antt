@@ -5,7 +5,7 @@ use Rattle.dpj_parse.proofs.exprs.open_suffixes.Given as goal
 
 abbrev pub invariant-loop-alloc : goal.invariant-loop-alloc
 invariant-loop-alloc l = record {
-  pays : Opens l.fn.cursor l.cursor;
+  moves : Opens l.fn.cursor l.cursor;
   derives : DerivesOpenSuffixes l.fn.cursor.rest.now l.cursor.rest.now l.suffixes;
 }
 

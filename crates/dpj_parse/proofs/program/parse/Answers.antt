@@ -1,7 +1,7 @@
-use Rattle.std.proofs.Common.{arith, rules}
+use Rattle.std.proofs.Common.{rules}
 use Rattle.dpj_tree.specs.declared.class.Program.{Program}
 use Rattle.dpj_parse.specs.Program.{IsProgram}
-use Rattle.dpj_parse.proofs.Promised.{named_in, distinct_in, targets_in, few_in}
+use Rattle.dpj_parse.proofs.Promised.{named_in, distinct_in, targets_in, sized_in}
 use Rattle.dpj_parse.proofs.program.parse.Goals as goal
 
 pub returns-clause-named : goal.returns-clause-named
@@ -22,8 +22,8 @@ returns-clause-targets c =
     let derived : IsProgram c.args.bytes.now c.args.tokens.now.list program = search rules in
     targets_in derived
 
-pub returns-clause-counted : goal.returns-clause-counted
-returns-clause-counted c =
+pub returns-clause-sized : goal.returns-clause-sized
+returns-clause-sized c =
     let program : Program = record { classes = c.in_ok-classes.classes; names = c.in_ok-list.field-0.names } in
     let derived : IsProgram c.args.bytes.now c.args.tokens.now.list program = search rules in
-    omega (arith, few_in c.requires.stand derived)
+    sized_in c.requires.stand derived

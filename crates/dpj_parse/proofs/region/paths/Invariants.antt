@@ -5,7 +5,7 @@ use Rattle.dpj_parse.specs.Taking.{Listed}
 use Rattle.dpj_parse.proofs.region.paths.Given as goal
 
 abbrev pub invariant-loop-paths : goal.invariant-loop-paths
-invariant-loop-paths l = record { pays : Reads 0 l.fn.cursor l.cursor; derives : Listed DerivesRpl l.fn.cursor.rest.now l.cursor.rest.now l.paths }
+invariant-loop-paths l = record { moves : Reads l.fn.cursor l.cursor; derives : Listed DerivesRpl l.fn.cursor.rest.now l.cursor.rest.now l.paths }
 
 abbrev pub decreases-loop-paths : goal.decreases-loop-paths
 decreases-loop-paths l = length l.cursor.rest.now

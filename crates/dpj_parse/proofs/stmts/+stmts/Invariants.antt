@@ -39,7 +39,7 @@ decreases-foreach_parts l = 5 * length l.cursor.now.rest.now
 
 abbrev pub invariant-stmts-loop-alloc : goal.invariant-stmts-loop-alloc
 invariant-stmts-loop-alloc l = record {
-  pays : Keeps l.fn.cursor l.cursor;
+  moves : Keeps l.fn.cursor l.cursor;
   derives : Many DerivesStmtTree l.fn.cursor.rest.now l.cursor.rest.now l.all;
 }
 

@@ -9,5 +9,4 @@ returns-clause-derives c =
     c.in_ok-target.ensures.takes
     c.in_ok-place.ensures.takes
     c.in_ok-value.ensures.derives
-    c.made.ensures.plain
-    c.made.ensures.takes
+    c.made.ensures

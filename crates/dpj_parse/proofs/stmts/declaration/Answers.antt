@@ -13,5 +13,4 @@ returns-clause-derives c =
     c.in_ok-named.ensures.takes
     c.in_ok-symbol.ensures.takes
     c.in_ok-value.ensures.derives
-    c.made.ensures.plain
-    c.made.ensures.takes
+    c.made.ensures

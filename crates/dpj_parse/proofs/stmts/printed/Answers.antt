@@ -9,5 +9,4 @@ returns-clause-derives c =
     c.in_ok-kind.ensures.derives
     c.in_ok-close.ensures.takes
     c.in_ok-symbol.ensures.takes
-    c.made.ensures.plain
-    c.made.ensures.takes
+    c.made.ensures

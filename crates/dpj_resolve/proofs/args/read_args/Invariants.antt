@@ -1,7 +1,8 @@
 use Rattle.std.proofs.Common.{◌≡◌, ◌++◌, None, length, drop, fold}
 use Rattle.std.specs.List.{filter_map}
 use Rattle.dpj_resolve.specs.Reading.{path_meant, local_with, arg_need, each_faults}
-use Rattle.dpj_resolve.specs.Scopes.{plain_scope, plain_index}
+use Rattle.dpj_resolve.specs.Index.{plain_index}
+use Rattle.dpj_resolve.specs.Scopes.{plain_scope}
 use Rattle.dpj_resolve.specs.Telling.{parts_noted, parts_told}
 use Rattle.dpj_resolve.proofs.args.read_args.Given as goal
 

@@ -1,7 +1,7 @@
 use Rattle.std.proofs.Common.{◌≡◌, ◌+◌, length}
 use Rattle.std.specs.Vec.Iter.{into_iter_items, into_iter_len}
 use Rattle.dpj_base.specs.Types.{plain_type}
-use Rattle.dpj_resolve.specs.Scopes.{plain_index}
+use Rattle.dpj_resolve.specs.Index.{plain_index}
 use Rattle.dpj_resolve.specs.Written.{arrays_from}
 use Rattle.dpj_resolve.proofs.types.arrays.Given as goal
 

@@ -1,5 +1,6 @@
 use Rattle.std.proofs.Common.{◌≡◌, ◌++◌, None, drop}
-use Rattle.dpj_resolve.specs.Scopes.{plain_scope, plain_index}
+use Rattle.dpj_resolve.specs.Index.{plain_index}
+use Rattle.dpj_resolve.specs.Scopes.{plain_scope}
 use Rattle.dpj_resolve.specs.Telling.{parts_noted, parts_told}
 use Rattle.dpj_resolve.specs.Written.{paths_from, local_from, parts_from}
 use Rattle.dpj_resolve.proofs.types.read_suffixes.Given as goal

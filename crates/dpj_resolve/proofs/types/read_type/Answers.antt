@@ -1,6 +1,7 @@
 use Rattle.std.proofs.Common.{◌≡◌, Some}
 use Rattle.dpj_base.specs.Refused.{IfRefused}
-use Rattle.dpj_resolve.specs.Scopes.{plain_scope, plain_index}
+use Rattle.dpj_resolve.specs.Index.{plain_index}
+use Rattle.dpj_resolve.specs.Scopes.{plain_scope}
 use Rattle.dpj_resolve.specs.Telling.{parts_told}
 use Rattle.dpj_resolve.specs.Written.{base_parts, parts_from, type_parts}
 use Rattle.dpj_resolve.proofs.Told.{refused_first, refused_later, passed_on, untold_parts}

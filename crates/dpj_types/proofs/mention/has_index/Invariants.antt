@@ -7,4 +7,5 @@ use Rattle.dpj_types.specs.Depth.{IsDepth}
 use Rattle.dpj_types.proofs.mention.has_index.Given as goal
 
 abbrev pub invariant-loop-elem : goal.invariant-loop-elem
-invariant-loop-elem l = (n : ℕ) → IsDepth l.depth n → list_any (λ x. same_elem x (At (Own n))) (drop l.elem-index l.elem-items) ≡ list_any (λ x. same_elem x (At (Own n))) l.elem-items
+invariant-loop-elem l =
+    (n : ℕ) → IsDepth l.depth n → list_any (λ x. same_elem x (At (Own n))) (drop l.elem-index l.elem-items) ≡ list_any (λ x. same_elem x (At (Own n))) l.elem-items

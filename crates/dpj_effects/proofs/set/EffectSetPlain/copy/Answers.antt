@@ -8,4 +8,5 @@ pub returns : goal.returns
 returns c =
     let items = c.as_slice-e-items.result.now in
     sym (at_drop_all (λ z. gathered c.loop-e.set z) items c.loop-e.e-index (omega arith)) ∙ c.loop-e.invariant
-    ∙ gathered-distinct items (subst (λ z. all_distinct z ≡ true) (sym c.as_slice-e-items.ensures) c.self.invariant.0) ∙ c.as_slice-e-items.ensures ∙ c.self.view_is
+    ∙ gathered-distinct items (subst (λ z. all_distinct z ≡ true) (sym c.as_slice-e-items.ensures) c.self.invariant.0) ∙ c.as_slice-e-items.ensures
+    ∙ c.self.view_is

@@ -3,7 +3,8 @@ use Rattle.std.specs.List.{list_any, flat_map}
 use Rattle.dpj_headers.specs.Faults.{all_noted}
 use Rattle.dpj_resolve.specs.Begun.{meant}
 use Rattle.dpj_resolve.specs.Reading.{atomic_with, is_misplaced, elem_faults, goes_on}
-use Rattle.dpj_resolve.specs.Scopes.{plain_scope, plain_index}
+use Rattle.dpj_resolve.specs.Index.{plain_index}
+use Rattle.dpj_resolve.specs.Scopes.{plain_scope}
 use Rattle.dpj_resolve.proofs.paths.Reading.read_all.Given as goal
 
 abbrev pub invariant-loop-elem : goal.invariant-loop-elem

@@ -1,0 +1,88 @@
+-- Statements one after the other: what is said of each step of the loop over them.
+use Rattle.std.proofs.Common.{◌≡◌, ◌∙◌, ℕ, suc, ◌+◌, ◌<◌, ◌&&◌, IsTrue, Bool, true, false, not, List, [], ◌∷◌, map, length, get_or, drop, drop-cons, add-one, refl, sym, ap, subst}
+use Rattle.dpj_base.specs.declared.refusal.Refusal.{Refusal}
+use Rattle.dpj_tree.specs.declared.stmt.Stmt.{Stmt}
+use Rattle.dpj_tree.specs.Plain.{PlainStmts, plain_stmt, plain_stmts}
+use Rattle.dpj_check.specs.declared.node.Around.{Around}
+use Rattle.dpj_check.specs.Checking.{Standing, InOrder, none_left, statement_refused, then_others}
+use Rattle.dpj_check.specs.Completes.{completes, all_complete}
+use Rattle.dpj_check.specs.Keeping.{Keeps, MayFollow, AllKeep, BranchesKeep, inside}
+use Rattle.dpj_check.specs.Walks.{Walk, Verdict, passes, refused}
+
+-- the next statement stands first in what is left
+pub next_is : (all : List Stmt) (i : ℕ) (s : Stmt) → i < length all → s ≡ get_or all i s → drop i all ≡ s ∷ drop (i + 1) all
+next_is all i s below is = drop-cons all i s below ∙ ap (λ x. x ∷ drop (suc i) all) (sym is) ∙ ap (λ k. s ∷ drop k all) (sym (add-one i))
+
+pub next_refused : (params own : List Bool) (around : Around) (complete : Bool) (all : List Stmt) (i : ℕ) (s : Stmt) (w : Walk) (q : Refusal) →
+    own ≡ params → i < length all → s ≡ get_or all i s → Standing own around (not complete) (plain_stmt s) w (refused q) →
+    InOrder params around complete (plain_stmts (map plain_stmt (drop i all))) w (refused q)
+next_refused params own around complete all i s w q same below is d =
+    subst (λ ss. InOrder params around complete (plain_stmts (map plain_stmt ss)) w (refused q)) (sym (next_is all i s below is))
+    (statement_refused (subst (λ (z : List Bool). Standing z around (not complete) (plain_stmt s) w (refused q)) same d))
+
+pub next_passes : (params own : List Bool) (around : Around) (complete done next : Bool) (all : List Stmt) (i : ℕ) (s : Stmt) (w u : Walk) (v : Verdict) →
+    own ≡ params → i < length all → s ≡ get_or all i s → Standing own around (not complete) (plain_stmt s) w (passes u) →
+    done ≡ completes (plain_stmt s) → next ≡ (complete && done) →
+    InOrder params around next (plain_stmts (map plain_stmt (drop (i + 1) all))) u v →
+    InOrder params around complete (plain_stmts (map plain_stmt (drop i all))) w v
+next_passes params own around complete done next all i s w u v same below is d done_is next_so rest =
+    subst (λ ss. InOrder params around complete (plain_stmts (map plain_stmt ss)) w v) (sym (next_is all i s below is))
+    (then_others (subst (λ (z : List Bool). Standing z around (not complete) (plain_stmt s) w (passes u)) same d)
+    (subst (λ (z : Bool). InOrder params around z (plain_stmts (map plain_stmt (drop (i + 1) all))) u v)
+    (next_so ∙ ap (λ (z : Bool). complete && z) done_is) rest))
+
+pub none_after : (params : List Bool) (around : Around) (complete : Bool) (all : List Stmt) (i : ℕ) (w : Walk) → drop i all ≡ [] →
+    InOrder params around complete (plain_stmts (map plain_stmt (drop i all))) w (passes w)
+none_after params around complete all i w none =
+    subst (λ ss. InOrder params around complete (plain_stmts (map plain_stmt ss)) w (passes w)) (sym none) none_left
+
+-- what else a step through the statements keeps
+and_step : (c d : Bool) (a : Bool) → ((c && d) && a) ≡ (c && (d && a))
+and_step true d a = refl
+and_step false d a = refl
+
+pub and_then_so : (c d o : Bool) → c ≡ true → o ≡ d → o ≡ (c && d)
+and_then_so c d o holds is = is ∙ ap (λ (z : Bool). z && d) (sym holds)
+
+pub and_else_so : (c d o : Bool) → c ≡ false → o ≡ false → o ≡ (c && d)
+and_else_so c d o fails is = is ∙ ap (λ (z : Bool). z && d) (sym fails)
+
+pub complete_step : (all : List Stmt) (i : ℕ) (s : Stmt) (complete done next : Bool) → i < length all → s ≡ get_or all i s →
+    done ≡ completes (plain_stmt s) → next ≡ (complete && done) →
+    (complete && all_complete (plain_stmts (map plain_stmt (drop i all)))) ≡ all_complete (plain_stmts (map plain_stmt all)) →
+    (next && all_complete (plain_stmts (map plain_stmt (drop (i + 1) all)))) ≡ all_complete (plain_stmts (map plain_stmt all))
+complete_step all i s complete done next below is done_is next_so so_far =
+    ap (λ (z : Bool). z && all_complete (plain_stmts (map plain_stmt (drop (i + 1) all)))) (next_so ∙ ap (λ (z : Bool). complete && z) done_is)
+    ∙ and_step complete (completes (plain_stmt s)) (all_complete (plain_stmts (map plain_stmt (drop (i + 1) all))))
+    ∙ ap (λ ss. complete && all_complete (plain_stmts (map plain_stmt ss))) (sym (next_is all i s below is))
+    ∙ so_far
+
+follow_so : (complete done next : Bool) (rest : PlainStmts) → not complete ≡ false → next ≡ (complete && done) → MayFollow next rest → MayFollow done rest
+follow_so true done next rest on next_so h = subst (λ (z : Bool). MayFollow z rest) next_so h
+follow_so false done next rest on next_so h = cc
+
+was_true : (complete : Bool) → not complete ≡ false → IsTrue complete
+was_true true on = refl
+was_true false on = cc
+
+pub keep_step : (around : Around) (all : List Stmt) (i : ℕ) (s : Stmt) (complete done next : Bool) → i < length all → s ≡ get_or all i s →
+    not complete ≡ false → Keeps around (plain_stmt s) → done ≡ completes (plain_stmt s) → next ≡ (complete && done) →
+    (MayFollow complete (plain_stmts (map plain_stmt (drop i all))) → AllKeep around (plain_stmts (map plain_stmt (drop i all))) →
+    AllKeep around (plain_stmts (map plain_stmt all))) →
+    MayFollow next (plain_stmts (map plain_stmt (drop (i + 1) all))) → AllKeep around (plain_stmts (map plain_stmt (drop (i + 1) all))) →
+    AllKeep around (plain_stmts (map plain_stmt all))
+keep_step around all i s complete done next below is on keeps done_is next_so so_far follows rest =
+    let may : MayFollow done (plain_stmts (map plain_stmt (drop (i + 1) all))) =
+    follow_so complete done next (plain_stmts (map plain_stmt (drop (i + 1) all))) on next_so follows in
+    so_far (subst (λ ss. MayFollow complete (plain_stmts (map plain_stmt ss))) (sym (next_is all i s below is)) (was_true complete on))
+    (subst (λ ss. AllKeep around (plain_stmts (map plain_stmt ss))) (sym (next_is all i s below is))
+    (keeps, subst (λ (z : Bool). MayFollow z (plain_stmts (map plain_stmt (drop (i + 1) all)))) done_is may, rest))
+
+-- one branch more
+pub fork_keeps : (around within : Around) (all : List Stmt) (i : ℕ) (branch : Stmt) → i < length all → branch ≡ get_or all i branch →
+    within ≡ inside around → Keeps within (plain_stmt branch) →
+    (BranchesKeep (inside around) (plain_stmts (map plain_stmt (drop i all))) → BranchesKeep (inside around) (plain_stmts (map plain_stmt all))) →
+    BranchesKeep (inside around) (plain_stmts (map plain_stmt (drop (i + 1) all))) → BranchesKeep (inside around) (plain_stmts (map plain_stmt all))
+fork_keeps around within all i branch below is within_is keeps before rest =
+    let here : BranchesKeep (inside around) (plain_stmts (map plain_stmt (branch ∷ drop (i + 1) all))) = (subst (λ (z : Around). Keeps z (plain_stmt branch)) within_is keeps, rest) in
+    before (subst (λ (z : List Stmt). BranchesKeep (inside around) (plain_stmts (map plain_stmt z))) (sym (next_is all i branch below is)) here)

@@ -1,0 +1,128 @@
+-- The parts of a `foreach_parts`: what is said of each way through the code that checks one.
+use Rattle.std.proofs.Common.{◌≡◌, ◌∙◌, ◌+◌, ℕ, Bool, true, false, not, Option, Some, None, Result, Err, refl, sym, ap}
+use Rattle.std.specs.Result.{IsErrAnd}
+use Rattle.dpj_base.specs.declared.refusal.Kind.TheVariants as kind
+use Rattle.dpj_base.specs.declared.refusal.Refusal.{Refusal}
+use Rattle.dpj_base.specs.declared.refusal.Stop.{Stop}
+use Rattle.dpj_base.specs.Refused.{IfRefused}
+use Rattle.dpj_headers.specs.Faults.{settled}
+use Rattle.dpj_parts.specs.Uses.{parts_interfere}
+use Rattle.dpj_tree.specs.declared.region.Named.{Named}
+use Rattle.dpj_tree.specs.Plain.{PlainExpr, PlainStmt}
+use Rattle.dpj_exprs.specs.declared.env.Env.{Env}
+use Rattle.dpj_exprs.specs.declared.env.Mark.{Mark}
+use Rattle.dpj_exprs.specs.declared.found.Found.{Found}
+use Rattle.dpj_exprs.specs.Env.{bare, given_in, slots_in, left_to, mark_of}
+use Rattle.dpj_check.specs.declared.body.Body.{Body}
+use Rattle.dpj_check.specs.declared.leaving.Leaving.{Leaving}
+use Rattle.dpj_check.specs.declared.leaving.Marks.TheVariants as marks
+use Rattle.dpj_check.specs.declared.node.Around.{Around}
+use Rattle.dpj_check.specs.declared.node.Node.{Node}
+use Rattle.dpj_check.specs.Checking.{InScope, opened, not_opened, Opening, Parting, range_refused, part_refused, part_assigning, parted, AssignsIs, part_slot, part_variable}
+use Rattle.dpj_check.specs.Gathering.{taken_in, handed_on}
+use Rattle.dpj_check.specs.Keeping.{inside}
+use Rattle.dpj_check.specs.Leaving.{from_here}
+use Rattle.dpj_check.specs.Noting.{fault_of, settled_node, with_fault_if}
+use Rattle.dpj_check.specs.Walks.{Walk, Verdict, passes, refused, apart_from, nothing_found, walk_of, home_of, Says}
+use Rattle.dpj_check.proofs.Homes.{parts_at_home, piece_begun}
+use Rattle.dpj_check.proofs.Passing.{stopped, settle_stopped, judged_none, judged_some, noted_twice, walk_from, closed_is}
+
+pub range_stopped : {T : Type 0} (b : Body) (around : Around) (node : Node) (view var : Named) (array count : PlainExpr) (body : PlainStmt) (f : Found)
+    (x : Walk) (r : Result T Stop) (s : Stop) → IsErrAnd r (λ z. z ≡ s) →
+    IfRefused s (λ q. Opening node view var array count (walk_of b f) (not_opened q)) →
+    Says r x (Parting b.atomic_params around node view var array count body (walk_of b f))
+range_stopped b around node view var array count body f x r s is h =
+    stopped (λ q. Opening node view var array count (walk_of b f) (not_opened q))
+    (Parting b.atomic_params around node view var array count body (walk_of b f)) r x s is (λ q d. range_refused d) h
+
+pub part_stopped : {T : Type 0} (b o : Body) (around within : Around) (node first : Node) (view var : Named) (array count : PlainExpr)
+    (body : PlainStmt) (f g begun : Found) (outer : Option ℕ) (x : Walk) (r : Result T Stop) (s : Stop) → IsErrAnd r (λ z. z ≡ s) →
+    Opening node view var array count (walk_of b f) (opened outer first (walk_of o g)) → home_of o ≡ home_of b → within ≡ inside around →
+    begun ≡ nothing_found → IfRefused s (λ q. InScope o.atomic_params within body (walk_of o begun) (refused q)) →
+    Says r x (Parting b.atomic_params around node view var array count body (walk_of b f))
+part_stopped b o around within node first view var array count body f g begun outer x r s is opening home within_is none h =
+    stopped (λ q. InScope o.atomic_params within body (walk_of o begun) (refused q))
+    (Parting b.atomic_params around node view var array count body (walk_of b f)) r x s is
+    (λ q k. part_refused opening (piece_begun b o around within body g begun (refused q) home within_is none k)) h
+
+-- the body of a part that passed, as it was found
+pub record Part (b o s : Body) (around : Around) (node first second : Node) (view var : Named) (array count : PlainExpr) (body : PlainStmt)
+    (f g inner : Found) (outer : Option ℕ) (assigns : Bool) : Type 0 where
+  pub opening : Opening node view var array count (walk_of b f) (opened outer first (walk_of o g))
+  pub second_is : second ≡ with_fault_if first kind.Assign assigns
+  pub in_scope : InScope b.atomic_params (inside around) body (apart_from (walk_of o g)) (passes (walk_of s inner))
+  pub assigning : AssignsIs body assigns
+
+pub part_told : {T : Type 0} (b o s : Body) (around : Around) (node first second : Node) (view var : Named) (array count : PlainExpr) (body : PlainStmt)
+    (f g inner : Found) (outer : Option ℕ) (assigns : Bool) (x : Walk) (r : Result T Stop) (p : Stop) → IsErrAnd r (λ z. z ≡ p) →
+    Part b o s around node first second view var array count body f g inner outer assigns → Err p ≡ settled (fault_of second) →
+    Says r x (Parting b.atomic_params around node view var array count body (walk_of b f))
+part_told b o s around node first second view var array count body f g inner outer assigns x r p is part settle =
+    settle_stopped (Parting b.atomic_params around node view var array count body (walk_of b f)) (fault_of second) r p x is settle
+    (λ q told. part_assigning assigns part.opening part.in_scope part.assigning (ap fault_of (sym part.second_is) ∙ told))
+
+-- what the second test of a `foreach_parts` found
+pub record PartsMet (b s : Body) (second settle third : Node) (pass : Bool) (part variable : ℕ) (env : Env) (scope : Mark) (inner : Found) : Type 0 where
+  pub home : home_of s ≡ home_of b
+  pub scope_is : scope ≡ mark_of b.env
+  pub env_is : env ≡ left_to s.env scope
+  pub part_is : part ≡ slots_in b.env
+  pub variable_is : variable ≡ part + 4
+  pub pass_is : pass ≡ not (parts_interfere (given_in env) part variable inner.effects inner.uses)
+  pub settle_is : settle ≡ settled_node second
+  pub third_is : third ≡ with_fault_if settle kind.Interferes (not pass)
+
+not_not : (x y : Bool) → x ≡ not y → not x ≡ y
+not_not x true is = ap not is
+not_not x false is = ap not is
+
+abbrev met_in : Body → ℕ → ℕ → Found → Bool
+met_in b part variable found = parts_interfere (given_in b.env) part variable found.effects found.uses
+
+pass_at : (b s : Body) (second settle third : Node) (pass : Bool) (part variable : ℕ) (env : Env) (scope : Mark) (inner : Found) →
+    PartsMet b s second settle third pass part variable env scope inner → pass ≡ not (met_in b (part_slot b.env) (part_variable b.env) inner)
+pass_at b s second settle third pass part variable env scope inner m =
+    m.pass_is ∙ ap not (parts_at_home b s env part variable inner.effects inner.uses m.home (ap bare m.env_is))
+    ∙ ap (λ (z : ℕ). not (met_in b part z inner)) m.variable_is ∙ ap (λ (z : ℕ). not (met_in b z (z + 4) inner)) m.part_is
+
+parts_fault : (b o s : Body) (around : Around) (node first second settle third : Node) (view var : Named) (array count : PlainExpr) (body : PlainStmt)
+    (f g inner : Found) (outer : Option ℕ) (assigns pass : Bool) (part variable : ℕ) (env : Env) (scope : Mark) →
+    Part b o s around node first second view var array count body f g inner outer assigns →
+    PartsMet b s second settle third pass part variable env scope inner →
+    fault_of (with_fault_if (settled_node (with_fault_if first kind.Assign assigns)) kind.Interferes
+    (met_in b (part_slot b.env) (part_variable b.env) inner)) ≡ fault_of third
+parts_fault b o s around node first second settle third view var array count body f g inner outer assigns pass part variable env scope k m =
+    ap fault_of
+    (sym
+    (noted_twice second (with_fault_if first kind.Assign assigns) settle third kind.Interferes kind.Interferes (not pass)
+    (met_in b (part_slot b.env) (part_variable b.env) inner) k.second_is m.settle_is refl
+    (not_not pass _ (pass_at b s second settle third pass part variable env scope inner m)) m.third_is))
+
+pub parts_told : {T : Type 0} (b o s : Body) (around : Around) (node first second settle third : Node) (view var : Named) (array count : PlainExpr)
+    (body : PlainStmt) (f g inner : Found) (outer : Option ℕ) (assigns pass : Bool) (part variable : ℕ) (env : Env) (scope : Mark) (x : Walk)
+    (r : Result T Stop) (p : Stop) → IsErrAnd r (λ z. z ≡ p) →
+    Part b o s around node first second view var array count body f g inner outer assigns →
+    PartsMet b s second settle third pass part variable env scope inner → fault_of second ≡ None → Err p ≡ settled (fault_of third) →
+    Says r x (Parting b.atomic_params around node view var array count body (walk_of b f))
+parts_told b o s around node first second settle third view var array count body f g inner outer assigns pass part variable env scope x r p is k m clean
+    told_is =
+    settle_stopped (Parting b.atomic_params around node view var array count body (walk_of b f)) (fault_of third) r p x is told_is
+    (λ q told.
+    parted assigns k.opening k.in_scope k.assigning (ap fault_of (sym k.second_is) ∙ clean)
+    (judged_some _ _ q
+    (parts_fault b o s around node first second settle third view var array count body f g inner outer assigns pass part variable env scope k m ∙ told)))
+
+pub parts_pass : (b o s : Body) (around : Around) (node first second settle third : Node) (view var : Named) (array count : PlainExpr) (body : PlainStmt)
+    (f g inner handed out : Found) (outer : Option ℕ) (assigns pass : Bool) (part variable : ℕ) (env : Env) (scope : Mark) (leaving : Leaving) →
+    Part b o s around node first second view var array count body f g inner outer assigns →
+    PartsMet b s second settle third pass part variable env scope inner → fault_of second ≡ None → fault_of third ≡ None →
+    handed ≡ handed_on part outer inner → leaving ≡ from_here b.env marks.Dropped → out ≡ taken_in leaving g handed →
+    Parting b.atomic_params around node view var array count body (walk_of b f) (passes (walk_from env out s.blocks))
+parts_pass b o s around node first second settle third view var array count body f g inner handed out outer assigns pass part variable env scope leaving k
+    m clean clean2 handed_is leaving_is out_is =
+    parted assigns k.opening k.in_scope k.assigning (ap fault_of (sym k.second_is) ∙ clean)
+    (judged_none _ _
+    (parts_fault b o s around node first second settle third view var array count body f g inner outer assigns pass part variable env scope k m ∙ clean2)
+    ∙ ap passes
+    (closed_is b s env scope leaving marks.Dropped marks.Dropped f g handed (handed_on (part_slot b.env) outer inner) inner out m.scope_is m.env_is
+    leaving_is refl (handed_is ∙ ap (λ (z : ℕ). handed_on z outer inner) m.part_is) out_is))

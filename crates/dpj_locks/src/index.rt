@@ -1,0 +1,88 @@
+ghost use Rattle.std.specs.Prelude.{◌≡◌, ◌≢◌, ℕ, true, OnOk};
+ghost use Rattle.dpj_base.specs.Matching.{is_concrete};
+ghost use Rattle.dpj_locks.specs.Index.{has, first_number, mixed, NotedFrom};
+
+use crate::sets::{Sets, add, take_out};
+use dpj_base::{Elem, Index as ElemIndex, NoMemory};
+use dpj_effects::elem_number;
+use std::alloc::Global;
+use std::collections::BTreeMap;
+
+/// The number of the path without elements.
+pub const FIRST_NUMBER: u32 = 7;
+
+/// Under which numbers tasks are found, by the paths of effects that they hold.
+#[derive(Drop)]
+pub struct Index {
+    /// Under the numbers of all fixed fronts of a path: its first elements as long as each is a name, a whole number
+    /// or a local region.
+    pub under: Sets,
+    /// Under the number of its longest fixed front.
+    pub ending: Sets,
+}
+
+/// Whether an element stands for itself alone.
+pub fn is_fixed(elem: Elem) -> bool
+    ensures { result ≡ is_concrete elem }
+{
+    matches!(
+        elem,
+        Elem::Name(_) | Elem::At(ElemIndex::Literal(_)) | Elem::Local(_, _)
+    )
+}
+
+/// The number of a path that is longer by one element.
+pub fn mixed(number: u32, elem: Elem) -> u32
+    ensures { result ≡ mixed number elem }
+{
+    number
+        .wrapping_mul(16777619)
+        .wrapping_add(elem_number(elem))
+}
+
+impl Index {
+    pub fn new(alloc: Global) -> Index {
+        Index {
+            under: BTreeMap::new(alloc),
+            ending: BTreeMap::new(alloc),
+        }
+    }
+}
+
+/// Notes a task under the fronts of a path that it holds. Whatever was noted stays.
+pub fn note(alloc: Global, index: &mut Index, task: u32, elems: &[Elem]) -> Result<(), NoMemory>
+    ensures there { OnOk result (NotedFrom index.new.under index.new.ending task first_number elems.now) }
+    ensures under { (k : ℕ) (q : ℕ) → has index.old.under k q ≡ true → has index.new.under k q ≡ true }
+    ensures ending { (k : ℕ) (q : ℕ) → has index.old.ending k q ≡ true → has index.new.ending k q ≡ true }
+{
+    let mut number = FIRST_NUMBER;
+    for elem in elems {
+        add(alloc, &mut index.under, number, task)?;
+        if !is_fixed(*elem) {
+            add(alloc, &mut index.ending, number, task)?;
+            return Ok(());
+        }
+        number = mixed(number, *elem);
+    }
+    add(alloc, &mut index.under, number, task)?;
+    add(alloc, &mut index.ending, number, task)?;
+    Ok(())
+}
+
+/// Takes a task out from under the fronts of a path. Other tasks stay.
+pub fn forget(index: &mut Index, task: u32, elems: &[Elem])
+    ensures under { (k : ℕ) (q : ℕ) → q ≢ task → has index.old.under k q ≡ true → has index.new.under k q ≡ true }
+    ensures ending { (k : ℕ) (q : ℕ) → q ≢ task → has index.old.ending k q ≡ true → has index.new.ending k q ≡ true }
+{
+    let mut number = FIRST_NUMBER;
+    for elem in elems {
+        take_out(&mut index.under, number, task);
+        if !is_fixed(*elem) {
+            take_out(&mut index.ending, number, task);
+            return;
+        }
+        number = mixed(number, *elem);
+    }
+    take_out(&mut index.under, number, task);
+    take_out(&mut index.ending, number, task);
+}

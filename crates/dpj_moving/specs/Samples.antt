@@ -1,0 +1,43 @@
+-- Samples: the laws of gathering and moving say something, and their premises are needed.
+use Rattle.std.specs.Prelude.{◌≡◌, [], ◌∷◌}
+use Rattle.dpj_runs.specs.Actions.{Ending, Program}
+use Rattle.dpj_runs.specs.Runs.{Ended, Event, Run, Upto}
+use Rattle.dpj_runs.specs.Blocks.{Legal, leaving_locals, with_rule}
+use Rattle.dpj_runs.specs.Order.{Conflict, Unordered}
+use Rattle.dpj_runs.specs.Meaning.{Disciplined, Known}
+use Rattle.dpj_moving.specs.Gathered.{gather}
+use Rattle.dpj_moving.specs.Moved.{inner, move}
+use Rattle.dpj_moving.specs.Guarded.{ConflictsGuarded, LevelsGuarded}
+use Rattle.dpj_moving.specs.Laws.{Weaker}
+
+-- two events of a run that conflict
+pub record SomeConflict (R : Run) : Type 0 where
+  pub after : Run
+  pub later_one : Event
+  pub before : Run
+  pub earlier : Event
+  pub stands : Upto (later_one ∷ after) R
+  pub under : Upto (earlier ∷ before) after
+  pub unordered : Unordered earlier.path later_one.path
+  pub conflict : Conflict earlier later_one
+  -- each in another branch of a deterministic construct, or in none
+  pub levels : inner before earlier.path ≡ inner after later_one.path → ⊥
+
+-- a run whose root has ended, with a guarded conflict of a task begun inside a block, and blocks that overlap, which gathering
+-- and moving change
+abbrev pub BothApply : Type 0
+BothApply = (P : Program) × Disciplined P × Known P × (R : Run) × Legal P R × ((x : Ending) × Ended R [] x) × ConflictsGuarded P.rule R × LevelsGuarded P.rule R
+    × SomeConflict R × (gather R ≡ R → ⊥) × (move R ≡ R → ⊥)
+
+-- where a conflict isn't guarded, the gathered run may not be legal
+abbrev pub GatheringNeedsGuarded : Type 0
+GatheringNeedsGuarded = (P : Program) × Disciplined P × Known P × (R : Run) × Legal P R × (Legal P (gather R) → ⊥)
+
+-- nor where a task looks at an object whose name nobody gave it
+abbrev pub GatheringNeedsKnown : Type 0
+GatheringNeedsKnown = (P : Program) × Disciplined P × (R : Run) × Legal P R × ConflictsGuarded P.rule R × (Legal P (gather R) → ⊥)
+
+-- a moved run may be legal by the weaker rule alone
+abbrev pub MovingNeedsWeaker : Type 0
+MovingNeedsWeaker = (P : Program) × Weaker (leaving_locals P.rule) P.rule × Disciplined P × Known (with_rule (leaving_locals P.rule) P) × (R : Run) × Legal P R
+    × LevelsGuarded (leaving_locals P.rule) R × ((x : Ending) × Ended R [] x) × (Legal P (move R) → ⊥)

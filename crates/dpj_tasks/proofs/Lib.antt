@@ -1,0 +1,6 @@
+pub mod Joining
+pub mod Maps
+pub mod Scopes
+pub mod Numbers
+pub mod Paths
+pub mod Ranges

@@ -1,0 +1,33 @@
+-- What a join makes of the ends of its branches.
+use Rattle.std.specs.Prelude.{◌≡◌, ℕ, List, [], ◌∷◌, ◌++◌, Option, Some, None}
+use Rattle.dpj_base.specs.declared.place.Place.{Place}
+use Rattle.dpj_base.specs.declared.value.Trap.{Trap}
+use Rattle.dpj_tasks.specs.declared.end.TaskEnd.{TaskEnd}
+use Rattle.dpj_tasks.specs.declared.end.Joined.{Joined}
+
+-- nothing more once there is a trap
+abbrev pub unless_trapped : Option (Trap × Place) → List ℕ → List ℕ
+unless_trapped None more = more
+unless_trapped (Some trap) more = []
+
+-- the outputs in branch order, of the branches that have ended; behind one that trapped they are dropped
+abbrev pub joined_out : List (Option TaskEnd) → List ℕ
+joined_out [] = []
+joined_out (None ∷ ends) = joined_out ends
+joined_out (Some e ∷ ends) = e.out ++ unless_trapped e.trap (joined_out ends)
+
+abbrev pub or_else : Option (Trap × Place) → Option (Trap × Place) → Option (Trap × Place)
+or_else None other = other
+or_else (Some trap) other = Some trap
+
+-- the trap of the first branch in branch order that has one
+abbrev pub first_trap : List (Option TaskEnd) → Option (Trap × Place)
+first_trap [] = None
+first_trap (None ∷ ends) = first_trap ends
+first_trap (Some e ∷ ends) = or_else e.trap (first_trap ends)
+
+-- what branches that have all ended came to
+pub record JoinsTo (ends : List (Option TaskEnd)) (joined : Joined) : Type 0 where
+  pub ends_are : joined.ends ≡ ends
+  pub out_is : joined.out ≡ joined_out ends
+  pub trap_is : joined.trap ≡ first_trap ends

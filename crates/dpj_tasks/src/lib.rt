@@ -1,0 +1,23 @@
+//! The tasks of a run: which have begun, from which branch of which fork, and how they ended.
+//!
+//! `TaskTree` is exact against the tree of branches: each live task with its step from its parent and, where it has an
+//! open scope, the branches of that scope that have begun and how they ended. `join` puts the outputs of the branches
+//! together in branch order, up to the first branch that trapped, whatever the order in which they ended.
+//!
+//! Tasks are numbered in the order in which they begin, from 0 for the root. A task that has ended is forgotten, and
+//! its end stays with its parent's scope until that is joined, so memory grows with the live tasks. Each call takes at
+//! most the logarithm of the live tasks, and besides: `join` the length of what it puts together, `path` the depth of
+//! the task, and `ready_below` the tasks that it passes over, which stand in front of their joins while branches of
+//! theirs run. The greatest live task is never one of these.
+#![tactic(auto)]
+
+mod end;
+mod live;
+mod scope;
+mod task;
+mod tree;
+
+pub use end::{Joined, TaskEnd};
+pub use scope::Scope;
+pub use task::{Origin, State, Task};
+pub use tree::TaskTree;

@@ -1,0 +1,96 @@
+ghost use Rattle.std.specs.Prelude.{◌≡◌, ◌<◌, length, IsTrue, IfOk, OnOk, OnErr};
+
+use crate::end::{Joined, TaskEnd};
+use crate::scope::Scope;
+use dpj_base::{NoMemory, PathStep};
+use std::alloc::Global;
+
+/// Where a task came from.
+#[derive(Clone, Copy, Debug, PartialEq, Eq)]
+pub struct Origin {
+    /// The number of the task that forked.
+    pub parent: u32,
+    pub step: PathStep,
+}
+
+/// How far a live task is.
+#[derive(Debug, Drop)]
+pub enum State {
+    /// It has no open scope.
+    Running,
+    /// It stands behind a fork and in front of the join.
+    Forked(Scope),
+}
+
+/// A live task.
+#[derive(Debug, Drop)]
+pub struct Task {
+    /// None for the root.
+    pub origin: Option<Origin>,
+    /// How many forks it has made.
+    pub forks: u32,
+    pub state: State,
+}
+
+impl State {
+    ghost use Rattle.dpj_tasks.specs.Join.{JoinsTo};
+    ghost use Rattle.dpj_tasks.specs.Scope.{with_branch, with_end, all_begun, all_ended};
+    ghost use Rattle.dpj_tasks.specs.Tree.{OfScope, in_scope, state_ready, branches_begun, scope_ends};
+
+    /// Whether there is no open scope, or a branch of it can begin, or it can be joined.
+    pub fn is_ready(&self) -> bool
+        ensures { result ≡ state_ready self.now }
+    {
+        match self {
+            State::Running => true,
+            State::Forked(scope) => scope.can_go_on(),
+        }
+    }
+
+    /// How many branches of the open scope have begun.
+    pub fn branches_begun(&self) -> u32
+        ensures { result ≡ branches_begun self.now }
+    {
+        match self {
+            State::Running => 0,
+            State::Forked(scope) => scope.begun(),
+        }
+    }
+
+    /// Begins the next branch of the open scope.
+    pub fn begin(&mut self) -> Result<(), NoMemory>
+        requires { OfScope self.old (λ scope. length scope.ends < scope.count) }
+        ensures ok { OnOk result (self.new ≡ in_scope with_branch self.old) }
+        ensures err { OnErr result (self.new ≡ self.old) }
+    {
+        match self {
+            State::Running => Ok(()),
+            State::Forked(scope) => scope.begin(),
+        }
+    }
+
+    /// Notes in the open scope, if there is one, how a branch ended.
+    pub fn end(&mut self, branch: u32, how: TaskEnd)
+        ensures { self.new ≡ in_scope (λ scope. with_end scope branch how) self.old }
+    {
+        match self {
+            State::Running => {}
+            State::Forked(scope) => scope.end(branch, how),
+        }
+    }
+
+    /// Joins the open scope.
+    pub fn join(&mut self, alloc: Global) -> Result<Joined, NoMemory>
+        requires { OfScope self.old (λ scope. IsTrue (all_begun scope) × IsTrue (all_ended scope)) }
+        ensures ok { IfOk result (JoinsTo (scope_ends self.old)) }
+        ensures joined { OnOk result (self.new ≡ State.Running) }
+        ensures err { OnErr result (self.new ≡ self.old) }
+    {
+        let State::Forked(scope) = self else {
+            unreachable!()
+        };
+        let joined = scope.join(alloc)?;
+        *self = State::Running;
+        Ok(joined)
+    }
+}

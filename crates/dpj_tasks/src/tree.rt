@@ -1,0 +1,185 @@
+ghost use Rattle.std.specs.Prelude.{◌≡◌, ◌<◌, IsTrue, IfOk, OnOk, OnErr, MatchOption, Some, false, ℕ};
+ghost use Rattle.std.specs.Option.{option_copied};
+ghost use Rattle.dpj_tasks.specs.Tree.{fresh, next_origin};
+
+use crate::end::{Joined, TaskEnd};
+use crate::live::Live;
+use crate::task::{Origin, State, Task};
+use dpj_base::{Items, NoMemory, Path, PathStep};
+use std::alloc::Global;
+use std::marker::Model;
+
+/// The tasks that have begun and not ended, by number, with the ends of those whose scope hasn't been joined.
+#[derive(Drop)]
+pub struct TaskTree {
+    tasks: Live,
+    begun: u32,
+    root_end: Option<TaskEnd>,
+    alloc: Global,
+}
+
+impl Model for TaskTree {
+    ghost use Rattle.dpj_tasks.specs.Tree.{Tree, tree_code, IsNumbered};
+    ghost use Rattle.dpj_tasks.specs.contracts.task.Task as task;
+    ghost use Rattle.dpj_tasks.specs.contracts.end.TaskEnd as task_end;
+
+    ghost Value = { Tree };
+
+    ghost coded = { tree_code task.the_row.coded task_end.the_row.coded };
+
+    ghost view = { λ t. record { tasks = t.tasks; begun = t.begun; root_end = t.root_end } };
+
+    ghost invariant = { λ t. IsNumbered t.tasks t.begun };
+}
+
+impl TaskTree {
+    ghost use Rattle.dpj_tasks.specs.Join.{JoinsTo};
+    ghost use Rattle.dpj_tasks.specs.Tree.{only_root, task_at, Runs, CanBegin, CanJoin, is_ready, forked, with_task, without_task, joined, ends_in, IsPath, IsGreatestReady, NoneReady};
+
+    /// The root alone, which has begun.
+    pub fn open(alloc: Global) -> Result<TaskTree, NoMemory>
+        ensures { IfOk result (λ tree. tree ≡ only_root) }
+    {
+        let mut tasks = Live::new(alloc);
+        tasks.insert(0, fresh(None))?;
+        Ok(TaskTree {
+            tasks,
+            begun: 1,
+            root_end: None,
+            alloc,
+        })
+    }
+
+    /// How many tasks have begun: the number of the next.
+    pub fn begun(&self) -> u32
+        ensures { result ≡ self.now.begun }
+    {
+        self.begun
+    }
+
+    /// How the root ended, once it has.
+    pub fn root_end(&self) -> Option<&TaskEnd>
+        ensures { option_copied result ≡ self.now.root_end }
+    {
+        self.root_end.as_ref()
+    }
+
+    /// A task that has begun and not ended.
+    pub fn get(&self, task: u32) -> Option<&Task>
+        ensures { option_copied result ≡ task_at self.now task }
+    {
+        self.tasks.get(task)
+    }
+
+    /// Whether a task has begun, hasn't ended and can go on: it has no open scope, or a branch of it can begin, or the
+    /// scope can be joined.
+    pub fn is_ready(&self, task: u32) -> bool
+        ensures { result ≡ is_ready self.now task }
+    {
+        match self.tasks.get(task) {
+            None => false,
+            Some(found) => found.state.is_ready(),
+        }
+    }
+
+    /// The greatest number below a bound of a task that can go on. With `begun` for a bound that is the task that the
+    /// order of the elision has next, and a caller for whom a task has to wait takes the next below it.
+    pub fn ready_below(&self, bound: u32) -> Option<u32>
+        ensures { MatchOption result (NoneReady self.now.tasks bound) (IsGreatestReady self.now.tasks bound) }
+    {
+        self.tasks.ready_below(bound)
+    }
+
+    /// Opens a scope of so many branches, of which none has begun. It takes no memory.
+    pub fn fork(&mut self, task: u32, branches: u32)
+        requires { Runs self.old.tasks task }
+        ensures { self.new ≡ forked self.old task branches }
+    {
+        self.tasks.fork(task, branches);
+    }
+
+    /// Begins the next branch of the open scope of a task, as a task with the next number, which is answered.
+    pub fn begin(&mut self, task: u32) -> Result<u32, NoMemory>
+        requires branch { CanBegin self.old.tasks task }
+        requires number { self.old.begun < 4294967295 }
+        ensures number { IfOk result (λ number. number ≡ self.old.begun) }
+        ensures ok { OnOk result (self.new ≡ with_task self.old task) }
+        ensures err { OnErr result (self.new ≡ self.old) }
+    {
+        let number = self.begun;
+        let child = fresh(next_origin(task, self.tasks.get(task)));
+        self.tasks.insert(number, child)?;
+        if let Err(stop) = self.tasks.begin(task) {
+            let _ = self.tasks.remove(number);
+            return Err(stop);
+        }
+        self.begun += 1;
+        Ok(number)
+    }
+
+    /// Ends a task, which is forgotten. Its end stays with the scope of its parent, or with the tree for the root. It
+    /// takes no memory.
+    pub fn end(&mut self, task: u32, how: TaskEnd)
+        requires { Runs self.old.tasks task }
+        ensures { self.new ≡ without_task self.old task how }
+    {
+        let Some(ended) = self.tasks.remove(task) else {
+            unreachable!()
+        };
+        match ended.origin {
+            None => self.root_end = Some(how),
+            Some(origin) => self.tasks.end(origin.parent, origin.step.branch, how),
+        }
+    }
+
+    /// Joins the open scope of a task, whose branches have all begun and ended.
+    pub fn join(&mut self, task: u32) -> Result<Joined, NoMemory>
+        requires { CanJoin self.old.tasks task }
+        ensures ok { IfOk result (JoinsTo (ends_in (task_at self.old task))) }
+        ensures joined { OnOk result (self.new ≡ joined self.old task) }
+        ensures err { OnErr result (self.new ≡ self.old) }
+    {
+        let joined = self.tasks.join(task)?;
+        Ok(joined)
+    }
+
+    /// The path of a live task: the steps from the root to it.
+    pub fn path(&self, task: u32) -> Result<Path, NoMemory>
+        ensures { IfOk result (λ path. IsPath self.now.tasks task path.steps) }
+    {
+        let mut upwards = Vec::new(self.alloc);
+        let mut at = task;
+        while let Some(origin) = self.tasks.origin(at) {
+            upwards.push(origin.step)?;
+            at = origin.parent;
+        }
+        upwards.reverse();
+        Ok(Path {
+            steps: Items::from_vec(upwards),
+        })
+    }
+}
+
+fn fresh(origin: Option<Origin>) -> Task
+    ensures { result ≡ fresh origin }
+{
+    Task {
+        origin,
+        forks: 0,
+        state: State::Running,
+    }
+}
+
+/// Where the next branch of a task comes from.
+fn next_origin(number: u32, task: Option<&Task>) -> Option<Origin>
+    ensures { result ≡ next_origin number (option_copied task.entry) }
+{
+    let task = task?;
+    Some(Origin {
+        parent: number,
+        step: PathStep {
+            scope: task.forks.saturating_sub(1),
+            branch: task.state.branches_begun(),
+        },
+    })
+}
