@@ -48,4 +48,5 @@ said Dead = Unknown
 
 -- a task that gets its answers one at a time stands each time where its solo run does
 abbrev pub LegsAreSolo : Type 0 → Type 0 → Type 0
-LegsAreSolo N M = (names : Naming N M) (C : PlainCode) (b : Start N M) (got : List (Answer N M)) (h : Halt N M) → Halts names C b got h → Solo names C b got (said h)
+LegsAreSolo N M = (names : Naming N M) (C : PlainCode) (b : Start N M) (got : List (Answer N M)) (h : Halt N M) → Halts names C b got h →
+    Solo names C b got (said h)

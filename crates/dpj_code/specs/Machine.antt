@@ -122,16 +122,19 @@ entered names C j vs regions g fs =
     }) (g ∷ fs)
 
 -- the body in the row of a class: its region parameters are those of its class, as the object has them, and then its own
-abbrev pub calls_method : {N M : Type 0} → Naming N M → PlainCode → Option Method → ℕ × List (Region M) → List (Value N) → List (Region M) → Level N M → List (Level N M) → State N M
+abbrev pub calls_method : {N M : Type 0} → Naming N M → PlainCode → Option Method → ℕ × List (Region M) → List (Value N) → List (Region M) → Level N M →
+    List (Level N M) → State N M
 calls_method names C None seen vs own g fs = Nowhere
 calls_method names C (Some m) seen vs own g fs =
     entered names C m.body vs (regions_above names (parent_of C) (length C.classes) seen.0 seen.1 m.owner ++ own) g fs
 
-abbrev pub enters : {N M : Type 0} → Naming N M → PlainCode → ℕ × List (Region M) → ℕ → List (Value N) → List (Region M) → Level N M → List (Level N M) → State N M
+abbrev pub enters : {N M : Type 0} → Naming N M → PlainCode → ℕ × List (Region M) → ℕ → List (Value N) → List (Region M) → Level N M → List (Level N M) →
+    State N M
 enters names C seen r vs own g fs = calls_method names C (method_at C seen.0 r) seen vs own g fs
 
 -- a call, by its site
-abbrev pub calls : {N M : Type 0} → Naming N M → PlainCode → Place → ℕ → ℕ → List (Region M) → N → List (Value N) → Level N M → List (Value N) → List (Level N M) → Stand N M
+abbrev pub calls : {N M : Type 0} → Naming N M → PlainCode → Place → ℕ → ℕ → List (Region M) → N → List (Value N) → Level N M → List (Value N) →
+    List (Level N M) → Stand N M
 calls names C at c r own n vs g st fs =
     deeper g.frame.left at (unless_long (some_long own) at (Waits (Do (Look n)) (λ a.
     enters names C (class_entered (parent_of C) (length C.classes) c (class_seen a)) r (Object n ∷ vs) own (record g { at = suc g.at; stack = st }) fs)))
@@ -149,7 +152,8 @@ first_value (constant.Bool b) = Boolean b
 first_value constant.Null = Null
 first_value (constant.Obj n) = Null
 
-abbrev pub creates : {N M : Type 0} → Naming N M → PlainCode → Place → ℕ → List (Region M) → List (Value N) → Option ℕ → Level N M → List (Value N) → List (Level N M) → Stand N M
+abbrev pub creates : {N M : Type 0} → Naming N M → PlainCode → Place → ℕ → List (Region M) → List (Value N) → Option ℕ → Level N M → List (Value N) →
+    List (Level N M) → Stand N M
 creates names C at c regions vs None g st fs =
     Waits (Do (New (An_object c regions (map first_value (fields_of (class_at C c)))) false)) (λ a. next g (name_made a ∷ st) fs)
 creates names C at c regions vs (Some j) g st fs =
@@ -191,7 +195,7 @@ started js f = map (λ j. record { body = j; frame = below f }) js
 
 abbrev pub forked : {N M : Type 0} → Place → Option Site → Level N M → List (Level N M) → Stand N M
 forked at (Some (fork_site forking js copies)) g fs =
-    deeper g.frame.left at (Waits (Fork forking (started js g.frame)) (λ a. next g (Int (pos (length js)) ∷ g.stack) fs))
+    deeper g.frame.left at (Waits (Fork (record { kind = forking; tasks = started js g.frame })) (λ a. next g (Int (pos (length js)) ∷ g.stack) fs))
 forked at site g fs = Stuck
 
 -- a branch for each number
@@ -206,7 +210,7 @@ waiting left next total st = Int (pos left) ∷ Int next ∷ Int (pos total) ∷
 abbrev pub spread : {N M : Type 0} → Place → Option Site → Level N M → List (Level N M) → Stand N M
 spread at (Some (spread_site forking j x)) g fs =
     two g.stack (λ start count st. deeper g.frame.left at
-    (Waits (Fork forking (each_started j x g.frame (number start) 0 (how_many (number count))))
+    (Waits (Fork (record { kind = forking; tasks = each_started j x g.frame (number start) 0 (how_many (number count)) }))
     (λ a. next g (waiting (how_many (number count)) (number start) (how_many (number count)) st) fs)))
 spread at site g fs = Stuck
 
@@ -350,7 +354,8 @@ abbrev pub Solos : Type 0 → Type 0 → Type 0
 Solos N M = ℕ → ℕ → State N M → List (Answer N M) → Option (Reply N M (Start N M))
 
 -- an action, and what follows its answer
-abbrev pub answered : {N M : Type 0} → Solos N M → ℕ → ℕ → Action N M (Start N M) → (Answer N M → State N M) → List (Answer N M) → Option (Reply N M (Start N M))
+abbrev pub answered : {N M : Type 0} → Solos N M → ℕ → ℕ → Action N M (Start N M) → (Answer N M → State N M) → List (Answer N M) →
+    Option (Reply N M (Start N M))
 answered more turns made a k [] = Some (Next turns a)
 answered more turns made a k (x ∷ xs) = more 0 made (k x) xs
 
@@ -373,12 +378,25 @@ abbrev pub solo : {N M : Type 0} → Naming N M → PlainCode → ℕ → Solos 
 solo names C zero turns made s xs = None
 solo names C (suc fuel) turns made s xs = stood names (λ n m t ys. solo names C fuel n m t ys) turns made (step names C s) xs
 
--- at the beginning of a body
+-- at work in a body, at a place
 abbrev pub spot : {N M : Type 0} → ℕ → List (Level N M) → ℕ → List (Value N) → Frame N M → State N M
 spot b fs p st f = On (record { body = b; at = p; frame = f; stack = st }) fs
 
+-- at the beginning of a body
 abbrev pub begins_at : {N M : Type 0} → Start N M → State N M
 begins_at b = spot b.body [] 0 [] b.frame
+
+-- the start of a run: `main` on an object and its argument, at the first of 500 depths
+abbrev pub root_start : {N M : Type 0} → Naming N M → PlainCode → N → ℤ → Start N M
+root_start names C object argument = record {
+  body = C.main_body;
+  frame = record {
+    values = padded (body_at C C.main_body).slots (Object object ∷ Int argument ∷ []);
+    regions = [];
+    locals = unmade_from names 0 (body_at C C.main_body).local_regions;
+    left = 499;
+  };
+}
 
 -- on these answers, of which the latest stands first, the task's solo run stands at this reply; unknown, where it is stuck
 pub record Solo {N M : Type 0} (names : Naming N M) (C : PlainCode) (b : Start N M) (got : List (Answer N M)) (r : Reply N M (Start N M)) : Type 0 where

@@ -1,7 +1,7 @@
 -- Each body of the code, of a member or a branch, is some task's.
-use Rattle.std.proofs.Common.{◌≡◌, ◌<◌, ◌≤◌, ◌⊎◌, inl, inr, ℕ, zero, suc, ◌+◌, ◌-◌, Bool, true, false, not, List, [], ◌∷◌, ◌++◌, length, map, refl, sym, ap, ◌∙◌, subst, arith, Option, Some, None, cond, slice_get, length-append}
+use Rattle.std.proofs.Common.{◌≡◌, ◌<◌, ◌≤◌, ◌⊎◌, inl, inr, ℕ, zero, suc, ◌+◌, Bool, true, false, List, [], ◌∷◌, ◌++◌, length, refl, subst, arith, Option, Some, None, slice_get, length-append}
 use Rattle.dpj_base.specs.declared.place.Place.{Place}
-use Rattle.dpj_typed.specs.Plain.{TypedExpr, TypedExprs, of_array, of_part, TypedStmt, statement, TypedStmts, no_stmts, more_stmts, TypedBranches, no_branches, more_branches, PlainMember, PlainProgram}
+use Rattle.dpj_typed.specs.Plain.{of_array, of_part, TypedStmt, statement, TypedStmts, no_stmts, more_stmts, TypedBranches, no_branches, more_branches, PlainMember, PlainProgram}
 use Rattle.dpj_typed.specs.Plain.{StmtForm as form}
 use Rattle.dpj_typed.specs.Scope.{member_at}
 use Rattle.dpj_meaning.specs.Actions.{Frame, Work}
@@ -9,14 +9,14 @@ use Rattle.dpj_code.specs.declared.instr.Instr.{Instr}
 use Rattle.dpj_code.specs.Plain.{Site, PlainCode, body_at}
 use Rattle.dpj_code.specs.Machine.{copies_of}
 use Rattle.dpj_gen.specs.Pieces.{Branch, Piece, Next, past, nothing, line, with_site, with_branches, beside}
-use Rattle.dpj_gen.specs.Scheme.{is_void, stmt_piece, stmts_piece, branches_of}
+use Rattle.dpj_gen.specs.Scheme.{closes, stmt_piece, stmts_piece, branches_of}
 use Rattle.dpj_gen.specs.Stands.{BodyIs}
 use Rattle.dpj_gen.specs.Resolved.{gives_value, StmtFits, StmtsFit, BranchesFit, Resolved}
 use Rattle.dpj_gen.specs.Compiled.{Compiled}
-use Rattle.dpj_gen.specs.Whole.{weight, weight_all, place_of, branch_piece_of, branch_piece, closing, member_piece, generate, in_member, member_output, past_output, members_output, first, number_in, compiled}
+use Rattle.dpj_gen.specs.Whole.{weight_all, place_of, branch_piece_of, branch_piece, closing, member_piece, generate, in_member, member_output, past_output, members_output, first, compiled}
 use Rattle.dpj_gen.specs.Laws.{work_of}
-use Rattle.dpj_gen.proofs.Pieces.{split, BranchStands, queued, Queued}
-use Rattle.dpj_gen.proofs.Whole.{need, need_on, Needs, expr_needs, exprs_needs, stmt_needs, stmts_needs, branch_needs, OutputAt, generated, member_queued, first_output, bodies_at, member_needs, member_is, root_is}
+use Rattle.dpj_gen.proofs.Pieces.{split, BranchStands}
+use Rattle.dpj_gen.proofs.Whole.{need, need_on, Needs, expr_needs, stmt_needs, branch_needs, OutputAt, generated, first_output, bodies_at, member_needs, member_is, root_is}
 
 module _ (P : PlainProgram) (y : Bool) where
   -- the statements of branches fit
@@ -112,10 +112,12 @@ branch_known C P y j b ok s = record {
   fits = (ok, inr refl, tt);
 }
 
-queue_known : (C : PlainCode) (P : PlainProgram) (y : Bool) (n j : ℕ) (m : PlainMember) (k : Next) (todo : List Branch) → need todo ≤ n → j + length todo ≡ k.body → OutputAt C k j (generate n m k todo) → AllFit P y todo → (i : ℕ) → i < length (generate n m k todo).bodies → Known C P (j + i)
+queue_known : (C : PlainCode) (P : PlainProgram) (y : Bool) (n j : ℕ) (m : PlainMember) (k : Next) (todo : List Branch) → need todo ≤ n →
+    j + length todo ≡ k.body → OutputAt C k j (generate n m k todo) → AllFit P y todo → (i : ℕ) → i < length (generate n m k todo).bodies → Known C P (j + i)
 queue_known C P y zero j m k todo l e h f i lt = absurd (omega arith)
 queue_known C P y (suc n) j m k [] l e h f i lt = absurd (omega arith)
-queue_known C P y (suc n) j m k (b ∷ todo) l e h f zero lt = subst (λ z. Known C P z) (omega arith) (branch_known C P y j b f.0 (generated C (suc n) j m k (b ∷ todo) l e h).0)
+queue_known C P y (suc n) j m k (b ∷ todo) l e h f zero lt =
+    subst (λ z. Known C P z) (omega arith) (branch_known C P y j b f.0 (generated C (suc n) j m k (b ∷ todo) l e h).0)
 queue_known C P y (suc n) j m k (b ∷ todo) l e h f (suc i) lt =
     let a = branch_piece k b in
     let rest = generate n m (past k a) (todo ++ a.branches) in
@@ -124,7 +126,12 @@ queue_known C P y (suc n) j m k (b ∷ todo) l e h f (suc i) lt =
     let c = length-append todo a.branches in
     let s = split C.sites a.sites rest.sites k.site h.sites in
     let t = split C.texts a.texts rest.texts k.text h.texts in
-    let r = queue_known C P y n (suc j) m (past k a) (todo ++ a.branches) (omega arith) (omega arith) (record { bodies = h.bodies.1; sites = s.1; texts = t.1 }) (fit_on P y todo a.branches f.1 (branch_fit P y k (place_of b.stmt) b.stmt b.takes f.0).is) i (omega arith) in
+    let r = queue_known C P y n (suc j) m (past k a) (todo ++ a.branches) (omega arith) (omega arith) (record {
+      bodies = h.bodies.1;
+      sites = s.1;
+      texts =
+          t.1;
+    }) (fit_on P y todo a.branches f.1 (branch_fit P y k (place_of b.stmt) b.stmt b.takes f.0).is) i (omega arith) in
     subst (λ z. Known C P z) (omega arith) r
 
 -- a place is before n, or so far after it
@@ -138,27 +145,43 @@ splits (suc n) m (suc i) l = go (splits n m i (omega arith))
     go (inr h) = inr (h.0, (let e = h.1 in omega arith), h.2)
 
 module _ (P : PlainProgram) (resolved : Resolved P) where
-  member_known : (k : Next) (m : PlainMember) (n : ℕ) → member_at P n ≡ Some m → OutputAt (compiled P) k k.body (member_output k m) → (i : ℕ) → i < length (member_output k m).bodies → Known (compiled P) P (k.body + i)
+  member_known : (k : Next) (m : PlainMember) (n : ℕ) → member_at P n ≡ Some m → OutputAt (compiled P) k k.body (member_output k m) → (i : ℕ) →
+      i < length (member_output k m).bodies → Known (compiled P) P (k.body + i)
   member_known k m n e h zero l =
-      subst (λ z. Known (compiled P) P z) (omega arith) (record { work = work_of m; gives = gives_value m; body = root_is P resolved n m e (body_at (compiled P) k.body) (member_is (compiled P) k m h); fits = resolved.bodies n m e })
+      subst (λ z. Known (compiled P) P z) (omega arith) (record {
+        work = work_of m;
+        gives = gives_value m;
+        body =
+            root_is P resolved n m e (body_at (compiled P) k.body) (member_is (compiled P) k m h);
+        fits = resolved.bodies n m e;
+      })
   member_known k m n e h (suc i) l =
       let a = member_piece (in_member k) m in
       let rest = generate (weight_all m.body) m (past (in_member k) a) a.branches in
-      let w = (member_needs (in_member k) m.body (is_void m.result)).is in
+      let w = (member_needs (in_member k) m.body (closes m)).is in
       let s = split (compiled P).sites a.sites rest.sites k.site h.sites in
       let t = split (compiled P).texts a.texts rest.texts k.text h.texts in
-      let r = queue_known (compiled P) P (gives_value m) (weight_all m.body) (suc k.body) m (past (in_member k) a) a.branches (omega arith) refl (record { bodies = h.bodies.1; sites = s.1; texts = t.1 }) (member_fit P (gives_value m) (in_member k) m.body (is_void m.result) (resolved.bodies n m e)).is i (omega arith) in
+      let r = queue_known (compiled P) P (gives_value m) (weight_all m.body) (suc k.body) m (past (in_member k) a) a.branches (omega arith) refl
+      (record { bodies = h.bodies.1; sites = s.1; texts = t.1 })
+      (member_fit P (gives_value m) (in_member k) m.body (closes m) (resolved.bodies n m e)).is i (omega arith) in
       subst (λ z. Known (compiled P) P z) (omega arith) r
 
-  members_known : (ms : List PlainMember) (k : Next) → OutputAt (compiled P) k k.body (members_output k ms) → ((n : ℕ) (m : PlainMember) → slice_get ms n ≡ Some m → (q : ℕ) × (member_at P q ≡ Some m)) → (i : ℕ) → i < length (members_output k ms).bodies → Known (compiled P) P (k.body + i)
+  members_known : (ms : List PlainMember) (k : Next) → OutputAt (compiled P) k k.body (members_output k ms) →
+      ((n : ℕ) (m : PlainMember) → slice_get ms n ≡ Some m → (q : ℕ) × (member_at P q ≡ Some m)) → (i : ℕ) → i < length (members_output k ms).bodies →
+      Known (compiled P) P (k.body + i)
   members_known [] k h is i l = absurd (omega arith)
   members_known (m ∷ ms) k h is i l =
       let a = member_output k m in
       let rest = members_output (past_output k a) ms in
       let c = length-append a.bodies rest.bodies in
-      go (λ r lt. members_known ms (past_output k a) (first_output (compiled P) k m ms h).1 (λ n x e. is (suc n) x e) r lt) (splits (length a.bodies) (length rest.bodies) i (omega arith))
+      go (λ r lt. members_known ms (past_output k a) (first_output (compiled P) k m ms h).1 (λ n x e. is (suc n) x e) r lt)
+      (splits (length a.bodies) (length rest.bodies) i (omega arith))
     where
-      go : ((r : ℕ) → r < length (members_output (past_output k (member_output k m)) ms).bodies → Known (compiled P) P (k.body + length (member_output k m).bodies + r)) → (i < length (member_output k m).bodies) ⊎ ((r : ℕ) × (i ≡ length (member_output k m).bodies + r) × (r < length (members_output (past_output k (member_output k m)) ms).bodies)) → Known (compiled P) P (k.body + i)
+      go : ((r : ℕ) → r < length (members_output (past_output k (member_output k m)) ms).bodies →
+          Known (compiled P) P (k.body + length (member_output k m).bodies + r)) →
+          (i < length (member_output k m).bodies) ⊎
+          ((r : ℕ) × (i ≡ length (member_output k m).bodies + r) × (r < length (members_output (past_output k (member_output k m)) ms).bodies)) →
+          Known (compiled P) P (k.body + i)
       go more (inl lt) = let q = is 0 m refl in member_known k m q.0 q.1 (first_output (compiled P) k m ms h).0 i lt
       go more (inr x) = let e = x.1 in subst (λ z. Known (compiled P) P z) (omega arith) (more x.0 x.2)
 
@@ -170,7 +193,8 @@ module _ (P : PlainProgram) (resolved : Resolved P) where
   bodies_many = refl
 
   -- each body is some task's, in each frame
-  pub bodies_are_compiled : {N M : Type 0} (j : ℕ) → j < length (compiled P).bodies → (w : Work) × ((f : Frame N M) → Compiled (compiled P) P (record { body = j; frame = f }) (record { work = w; frame = f }))
+  pub bodies_are_compiled : {N M : Type 0} (j : ℕ) → j < length (compiled P).bodies →
+      (w : Work) × ((f : Frame N M) → Compiled (compiled P) P (record { body = j; frame = f }) (record { work = w; frame = f }))
   bodies_are_compiled j l =
       let k = body_known j (let e = bodies_many in omega arith) in
       (k.work, λ f. record { body = k.body; frame = refl; gives = k.gives; fits = k.fits })

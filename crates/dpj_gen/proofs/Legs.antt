@@ -1,5 +1,5 @@
 -- The legs of compiled tasks.
-use Rattle.std.proofs.Common.{◌≡◌, ℕ, List, [], ◌∷◌, ◌++◌, reverse, subst}
+use Rattle.std.proofs.Common.{ℕ, List, [], ◌∷◌, reverse, subst}
 use Rattle.std.proofs.lemmas.List.{reverse-append}
 use Rattle.dpj_typed.specs.Plain.{PlainProgram}
 use Rattle.dpj_meaning.specs.Values.{Naming}
@@ -28,7 +28,8 @@ module _ {N M : Type 0} (names : Naming N M) (P : PlainProgram) (resolved : Reso
       let l = leg_ends names (compiled P) x.fuel 0 0 (begins_at b) [] _ x.stands in
       (l.0, record { fuel = x.fuel; runs = l.1 })
 
-  later_ends : (got : List (Answer N M)) (n m : ℕ) (a : Action N M (Start N M)) (k : Answer N M → State N M) → Halts names (compiled P) b got (Asks n m a k) → (x : Answer N M) → (h : Halt N M) × Leg names (compiled P) m (k x) h
+  later_ends : (got : List (Answer N M)) (n m : ℕ) (a : Action N M (Start N M)) (k : Answer N M → State N M) → Halts names (compiled P) b got (Asks n m a k) →
+      (x : Answer N M) → (h : Halt N M) × Leg names (compiled P) m (k x) h
   later_ends got n m a k s x =
       let q = code_is_right names (compiled P) P (number_in P) (laid_out P) resolved b t c (x ∷ got) in
       let r : Run names (compiled P) 0 0 (begins_at b) (reverse (x ∷ got)) q.reply = record { fuel = q.runs.fuel; stands = q.runs.stands } in

@@ -1,12 +1,12 @@
 -- Where a piece stands in a code, and how it is cut.
-use Rattle.std.proofs.Common.{◌≡◌, ℕ, zero, suc, ◌+◌, List, [], ◌∷◌, ◌++◌, length, refl, sym, ap, ◌∙◌, subst, arith, Some, slice_get, slice_index_or, length-append, append_assoc}
+use Rattle.std.proofs.Common.{◌≡◌, ℕ, suc, ◌+◌, List, [], ◌∷◌, ◌++◌, length, refl, sym, ap, ◌∙◌, subst, arith, Some, slice_get, length-append, append_assoc}
 use Rattle.dpj_base.specs.declared.place.Place.{Place}
 use Rattle.dpj_code.specs.declared.instr.Instr.{Instr}
 use Rattle.dpj_code.specs.declared.instr.Instr.TheVariants as i
 use Rattle.dpj_code.specs.Plain.{Line, Site, PlainCode, body_at}
 use Rattle.dpj_gen.specs.Pieces.{Branch, Piece, Next, past, nothing, line, with_site, with_text, with_branches, beside}
 use Rattle.dpj_gen.specs.Scheme.{after_stmt}
-use Rattle.dpj_gen.specs.Stands.{LineAt, SitedAt, BeginsAt, first_place, StmtAt}
+use Rattle.dpj_gen.specs.Stands.{LineAt, BeginsAt, first_place, StmtAt}
 
 -- in c, xs stands from p on
 abbrev pub Holds : {A : Type 0} → List A → ℕ → List A → Type 0
@@ -23,7 +23,11 @@ get_behind (x ∷ xs) ys y = get_behind xs ys y
 
 whole : {A : Type 0} (xs ys c : List A) → c ≡ xs ++ ys → Holds c (length xs) ys
 whole xs [] c e = tt
-whole xs (y ∷ ys) c e = (ap (λ l. slice_get l (length xs)) e ∙ get_behind xs ys y, subst (λ n. Holds c n ys) (let l = length-append xs (y ∷ []) in omega arith) (whole (xs ++ y ∷ []) ys c (e ∙ sym (append_assoc xs (y ∷ []) ys))))
+whole xs (y ∷ ys) c e = (
+  ap (λ l. slice_get l (length xs)) e ∙ get_behind xs ys y,
+  subst (λ n. Holds c n ys) (let l = length-append xs (y ∷ []) in
+      omega arith) (whole (xs ++ y ∷ []) ys c (e ∙ sym (append_assoc xs (y ∷ []) ys))),
+)
 
 pub all_of : {A : Type 0} (c : List A) → Holds c 0 c
 all_of c = whole [] c c refl
@@ -85,22 +89,33 @@ module _ (C : PlainCode) where
       let l = split c a.lines b.lines p h.lines in
       let s = split C.sites a.sites b.sites k.site h.sites in
       let t = split C.texts a.texts b.texts k.text h.texts in
-      let r = queued a.branches b.branches k.body h.branches in
-      (record { lines = l.0; sites = s.0; texts = t.0; branches = r.0 }, record { lines = subst (λ z. Holds c z b.lines) e.is l.1; sites = s.1; texts = t.1; branches = r.1 })
+      let r = queued a.branches b.branches k.body h.branches in (
+        record { lines = l.0; sites = s.0; texts = t.0; branches = r.0 },
+        record {
+          lines = subst (λ z. Holds c z b.lines) e.is l.1;
+          sites = s.1;
+          texts =
+              t.1;
+          branches = r.1;
+        },
+      )
 
   pub here : {c : List Line} {k : Next} {p : ℕ} {x : Instr} {at : Place} {a : Piece} → Laid c k p (line x at a) → LineAt c p x at × Laid c k (suc p) a
   unfolding line
   here h = (h.lines.0, record { lines = h.lines.1; sites = h.sites; texts = h.texts; branches = h.branches })
 
-  pub here_sited : {c : List Line} {k : Next} {p : ℕ} {s : Site} (a : Piece) → Laid c k p (with_site s a) → (slice_get C.sites k.site ≡ Some s) × Holds c p a.lines
+  pub here_sited : {c : List Line} {k : Next} {p : ℕ} {s : Site} (a : Piece) → Laid c k p (with_site s a) →
+      (slice_get C.sites k.site ≡ Some s) × Holds c p a.lines
   unfolding with_site
   here_sited a h = (h.sites.0, h.lines)
 
-  pub here_texted : {c : List Line} {k : Next} {p : ℕ} {t : List ℕ} (a : Piece) → Laid c k p (with_text t a) → (slice_get C.texts k.text ≡ Some t) × Holds c p a.lines
+  pub here_texted : {c : List Line} {k : Next} {p : ℕ} {t : List ℕ} (a : Piece) → Laid c k p (with_text t a) →
+      (slice_get C.texts k.text ≡ Some t) × Holds c p a.lines
   unfolding with_text
   here_texted a h = (h.texts.0, h.lines)
 
-  pub here_branched : {c : List Line} {k : Next} {p : ℕ} {s : Site} (bs : List Branch) (a : Piece) → Laid c k p (with_branches bs (with_site s a)) → Queued k.body bs × (slice_get C.sites k.site ≡ Some s) × Holds c p a.lines
+  pub here_branched : {c : List Line} {k : Next} {p : ℕ} {s : Site} (bs : List Branch) (a : Piece) → Laid c k p (with_branches bs (with_site s a)) →
+      Queued k.body bs × (slice_get C.sites k.site ≡ Some s) × Holds c p a.lines
   unfolding with_branches with_site
   here_branched bs a h = (h.branches, h.sites.0, h.lines)
 

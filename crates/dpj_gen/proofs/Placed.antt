@@ -1,5 +1,5 @@
 -- Generated pieces stand where the scheme says.
-use Rattle.std.proofs.Common.{◌≡◌, ℕ, zero, suc, ◌+◌, Bool, true, false, List, [], ◌∷◌, ◌++◌, length, refl, sym, ap, ◌∙◌, subst, arith, Option, Some, None, cond, slice_get, slice_index_or}
+use Rattle.std.proofs.Common.{◌≡◌, ℕ, zero, suc, ◌+◌, Bool, true, false, List, [], ◌∷◌, refl, ap, ◌∙◌, Option, Some, None, cond, slice_get, slice_index_or}
 use Rattle.dpj_base.specs.declared.place.Place.{Place}
 use Rattle.dpj_typed.specs.Plain.{TypedExpr, typed, type_of, TypedExprs, no_exprs, more_exprs, of_array, of_part, TypedStmt, statement, TypedStmts, no_stmts, more_stmts, TypedBranches, no_branches, more_branches}
 use Rattle.dpj_typed.specs.Plain.{ExprForm as expr}
@@ -10,9 +10,9 @@ use Rattle.dpj_code.specs.declared.instr.Instr.{Instr}
 use Rattle.dpj_code.specs.declared.instr.Instr.TheVariants as i
 use Rattle.dpj_code.specs.Plain.{Line, Site, fork_site, spread_site, of_branch, PlainCode, body_at}
 use Rattle.dpj_code.specs.Machine.{copies_at, copies_of}
-use Rattle.dpj_gen.specs.Pieces.{Branch, Piece, Next, past, nothing, line, with_site, with_text, with_branches, beside}
+use Rattle.dpj_gen.specs.Pieces.{Next, nothing, line, with_site}
 use Rattle.dpj_gen.specs.Scheme.{is_void, after_expr, after_exprs, after_stmt, after_stmts, after_regions, expr_piece, exprs_piece, stmt_piece, stmts_piece, regions_piece, numbers, copy_lists, branches_of, spread_piece}
-use Rattle.dpj_gen.specs.Stands.{LineAt, SitedAt, ExprAt, ExprsAt, PoppedAt, RegionsAt, ArrayAt, PartsAt, first_place, BranchEnds, SpreadAt, StmtAt, StmtsAt, BranchesAt}
+use Rattle.dpj_gen.specs.Stands.{SitedAt, ExprAt, ExprsAt, PoppedAt, RegionsAt, first_place, BranchEnds, SpreadAt, StmtAt, StmtsAt, BranchesAt}
 use Rattle.dpj_gen.proofs.Pieces.{Holds, all_of, BranchStands, Far, far, next, stop, sited, texted, branched, Queued, Laid, cut, here, here_sited, here_texted, here_branched, one_line}
 
 -- how far the code of each construct reaches
@@ -67,7 +67,8 @@ mutual
   stmt_far k p (statement at (form.local_regions rs)) = regions_far p at rs
   stmt_far k p (statement at (form.atomic effects ss)) = far (sited _ (next _ _ stop)) (far (stmts_far _ _ ss) (next _ _ stop))
   stmt_far k p (statement at (form.cobegin forking bs)) = branched _ (sited _ (next _ _ (next _ _ stop)))
-  stmt_far k p (statement at (form.foreach forking x start count s)) = far (expr_far k p start) (far (expr_far _ _ count) (branched _ (sited _ (next _ _ (next _ _ stop)))))
+  stmt_far k p (statement at (form.foreach forking x start count s)) =
+      far (expr_far k p start) (far (expr_far _ _ count) (branched _ (sited _ (next _ _ (next _ _ stop)))))
   stmt_far k p (statement at (form.foreach_parts x (of_array a) count s)) =
       far (expr_far k p a) (next _ _ (next _ _ (next _ _ (far (expr_far _ _ count)
       (next _ _ (next _ _ (next _ _ (next _ _ (next _ _ (next _ _ (branched _ (sited _ (next _ _ (next _ _ stop))))))))))))))
@@ -85,7 +86,8 @@ get_or_is (y ∷ ys) zero d x e = cc
 get_or_is (y ∷ ys) (suc n) d x e = get_or_is ys n d x e
 
 module _ (C : PlainCode) where
-  site_at : {c : List Line} {k : Next} {p : ℕ} (x : ℕ → Instr) (at : Place) (s : Site) → Laid C c k p (with_site s (line (x k.site) at nothing)) → SitedAt C c p x at s
+  site_at : {c : List Line} {k : Next} {p : ℕ} (x : ℕ → Instr) (at : Place) (s : Site) → Laid C c k p (with_site s (line (x k.site) at nothing)) →
+      SitedAt C c p x at s
   site_at {c} {k} {p} x at s h = let g = here_sited C _ h in record { number = k.site; stands = (one_line c p nothing g.1).0; site_is = g.0 }
 
   mutual
@@ -127,19 +129,44 @@ module _ (C : PlainCode) where
   regions_at c k p at (r ∷ rs) h = let x = here C h in (x.0, regions_at c k (suc p) at rs x.1)
 
   -- the branches of a fork, from the n-th on
-  branches_at : (forking : Forking) (site : ℕ) (js : List ℕ) (copies : List (List ℕ)) → slice_get C.sites site ≡ Some (fork_site forking js copies) → (bs : TypedBranches) (n j : ℕ) → Holds copies n (copy_lists bs) → Queued C j (branches_of site n bs) → BranchesAt C bs (numbers j bs)
+  branches_at : (forking : Forking) (site : ℕ) (js : List ℕ) (copies : List (List ℕ)) → slice_get C.sites site ≡ Some (fork_site forking js copies) →
+      (bs : TypedBranches) (n j : ℕ) → Holds copies n (copy_lists bs) → Queued C j (branches_of site n bs) → BranchesAt C bs (numbers j bs)
   branches_at forking site js copies e no_branches n j h q = refl
   branches_at forking site js copies e (more_branches own s bs) n j h q =
-      let g = q.0 in
-      (j, numbers (suc j) bs, refl, (g.stmt, record { place = g.place; stands = g.ends; gives = ap (λ t. copies_of C t) g.title ∙ (ap (λ s. copies_at s n) e ∙ get_or_is copies n [] own h.0) }), branches_at forking site js copies e bs (suc n) (suc j) h.1 q.1)
+      let g = q.0 in (
+        j,
+        numbers (suc j) bs,
+        refl,
+        (
+          g.stmt,
+          record {
+            place = g.place;
+            stands = g.ends;
+            gives = ap (λ t. copies_of C t) g.title ∙
+                (ap (λ s. copies_at s n) e ∙ get_or_is copies n [] own h.0);
+          },
+        ),
+        branches_at forking site js copies e bs (suc n) (suc j) h.1 q.1,
+      )
 
   -- a spread, and the body of its branches
-  spread_at : (c : List Line) (k : Next) (p : ℕ) (at : Place) (forking : Forking) (x : ℕ) (takes : Option ℕ) (s : TypedStmt) → Laid C c k p (spread_piece k at forking x takes s) → SpreadAt C c p at (spread_site forking k.body x) × BranchStands C k.body (record { title = of_branch k.site 0; takes = takes; stmt = s }) × BranchEnds C (body_at C k.body) (after_stmt (first_place takes) s) []
+  spread_at : (c : List Line) (k : Next) (p : ℕ) (at : Place) (forking : Forking) (x : ℕ) (takes : Option ℕ) (s : TypedStmt) →
+      Laid C c k p (spread_piece k at forking x takes s) →
+      SpreadAt C c p at (spread_site forking k.body x) × BranchStands C k.body (record { title = of_branch k.site 0; takes = takes; stmt = s }) × BranchEnds C
+      (body_at C k.body) (after_stmt (first_place takes) s) []
   spread_at c k p at forking x takes s h =
       let g = here_branched C _ _ h in
       let a = one_line c p _ g.2 in
-      let b = one_line c (suc p) nothing a.1 in
-      (record { spreads = record { number = k.site; stands = a.0; site_is = g.1 }; joins = b.0 }, g.0.0, record { place = g.0.0.place; stands = g.0.0.ends; gives = ap (λ t. copies_of C t) g.0.0.title ∙ ap (λ s. copies_at s 0) g.1 })
+      let b = one_line c (suc p) nothing a.1 in (
+        record { spreads = record { number = k.site; stands = a.0; site_is = g.1 }; joins = b.0 },
+        g.0.0,
+        record {
+          place = g.0.0.place;
+          stands =
+              g.0.0.ends;
+          gives = ap (λ t. copies_of C t) g.0.0.title ∙ ap (λ s. copies_at s 0) g.1;
+        },
+      )
 
   mutual
     pub stmt_at : (c : List Line) (k : Next) (p : ℕ) (s : TypedStmt) → Laid C c k p (stmt_piece k p s) → StmtAt C c p s
@@ -174,8 +201,15 @@ module _ (C : PlainCode) where
         let x = cut C (sited _ (next _ _ stop)) h in let y = cut C (stmts_far _ _ ss) x.1 in
         (site_at i.Enter at _ x.0, stmts_at c _ _ ss y.0, (here C y.1).0)
     stmt_at c k p (statement at (form.cobegin forking bs)) h =
-        let g = here_branched C _ _ h in let a = one_line c p _ g.2 in let b = one_line c (suc p) nothing a.1 in
-        (numbers k.body bs, record { forks = record { number = k.site; stands = a.0; site_is = g.1 }; joins = b.0 }, branches_at forking k.site (numbers k.body bs) (copy_lists bs) g.1 bs 0 k.body (all_of (copy_lists bs)) g.0)
+        let g = here_branched C _ _ h in let a = one_line c p _ g.2 in let b = one_line c (suc p) nothing a.1 in (
+          numbers k.body bs,
+          record {
+            forks = record { number = k.site; stands = a.0; site_is = g.1 };
+            joins =
+                b.0;
+          },
+          branches_at forking k.site (numbers k.body bs) (copy_lists bs) g.1 bs 0 k.body (all_of (copy_lists bs)) g.0,
+        )
     stmt_at c k p (statement at (form.foreach forking x start count s)) h =
         let a = cut C (expr_far k p start) h in let b = cut C (expr_far _ _ count) a.1 in let g = spread_at c _ _ at forking x None s b.1 in
         (_, expr_at c k p start a.0, expr_at c _ _ count b.0, g.0, (g.1.stmt, g.2))

@@ -1,10 +1,10 @@
 -- A well-typed program gives what the code asks of it.
-use Rattle.std.proofs.Common.{◌≡◌, ◌⊎◌, inl, inr, ℕ, Bool, true, false, not, IsTrue, List, map, refl, sym, ap, ◌∙◌, subst, Option, Some, None, slice_get, option_and_then}
+use Rattle.std.proofs.Common.{◌≡◌, ◌⊎◌, inl, inr, ℕ, Bool, true, false, not, List, refl, sym, ap, ◌∙◌, Option, Some, None, slice_get, option_and_then}
 use Rattle.dpj_base.specs.declared.region.Rpl.{Rpl}
 use Rattle.dpj_base.specs.Types.{PlainType, int, boolean, void, null, class, array, type_with, unnamed, SameType}
-use Rattle.dpj_typed.specs.Plain.{PlainProgram, PlainClass, PlainParent, PlainMember, TypedExpr, typed, type_of, form_of, ExprForm, TypedExprs, Source, TypedStmt, TypedStmts, no_stmts, more_stmts, TypedBranches}
+use Rattle.dpj_typed.specs.Plain.{PlainProgram, PlainClass, PlainParent, PlainMember, TypedExpr, type_of, form_of, ExprForm, TypedExprs, TypedStmt, TypedStmts, TypedBranches}
 use Rattle.dpj_typed.specs.Plain.{ExprForm as form}
-use Rattle.dpj_typed.specs.Scope.{Scope, class_at, member_at, row_at, constructor_of, parent_of}
+use Rattle.dpj_typed.specs.Scope.{Scope, class_at, member_at, constructor_of, parent_of}
 use Rattle.dpj_typed.specs.Types.{Subtype, ints, booleans, null_object, null_array, objects, arrays, inherits}
 use Rattle.dpj_typed.specs.Effects.{Own}
 use Rattle.dpj_typed.specs.declared.expr.BinaryOp.{BinaryOp}
@@ -12,11 +12,11 @@ use Rattle.dpj_typed.specs.declared.expr.BinaryOp.TheVariants as op
 use Rattle.dpj_typed.specs.Typing.{Has, Fit, IsReference, Comparable, Operands}
 use Rattle.dpj_typed.specs.Typing.{Has as has}
 use Rattle.dpj_typed.specs.Typing.{Fit as fit}
-use Rattle.dpj_typed.specs.Statements.{completes, all_complete, IsPerformed, Cuts, cuts_array, cuts_part, Passes, AllPass, BranchesPass}
+use Rattle.dpj_typed.specs.Statements.{all_complete, IsPerformed, cuts_array, cuts_part, Passes, AllPass, BranchesPass}
 use Rattle.dpj_typed.specs.Statements.{Passes as passes}
 use Rattle.dpj_typed.specs.Statements.{AllPass as all}
 use Rattle.dpj_typed.specs.Statements.{BranchesPass as branches}
-use Rattle.dpj_typed.specs.Table.{GoodClass, GoodMember, Extends, KeepsRow, IsConstructor, Overrides}
+use Rattle.dpj_typed.specs.Table.{KeepsRow}
 use Rattle.dpj_typed.specs.WellTyped.{WellTyped}
 use Rattle.dpj_gen.specs.Scheme.{is_void}
 use Rattle.dpj_gen.specs.Resolved.{gives_value, RowGives, ExprFits, ExprsFit, VoidCall, PerformFits, StmtFits, StmtsFit, BranchesFit, Resolved}
@@ -103,8 +103,18 @@ module _ (P : PlainProgram) where
     expr_fits (has.read_field h q f r t) z = expr_fits h (ap is_void q)
     expr_fits (has.read_element h q i s r t) z = (expr_fits h (ap is_void q), expr_fits i (ap is_void s))
     expr_fits (has.length_of_array h q) z = expr_fits h (ap is_void q)
-    expr_fits (has.call_method {n = n} {m = m} h q row member above good full known readable actuals calm t) z =
-        (expr_fits h (ap is_void q), exprs_fit actuals, record { number = n; member = m; row = row; is_there = member; kind = ap not (sym (with_void _ m.result) ∙ (sym (ap is_void t) ∙ z)) })
+    expr_fits (has.call_method {n = n} {m = m} h q row member above good full known readable actuals calm t) z = (
+      expr_fits h (ap is_void q),
+      exprs_fit actuals,
+      record {
+        number = n;
+        member = m;
+        row = row;
+        is_there = member;
+        kind =
+            ap not (sym (with_void _ m.result) ∙ (sym (ap is_void t) ∙ z));
+      },
+    )
     expr_fits (has.create_object k g a n) z = tt
     expr_fits (has.construct_object k g a n m f c) z = exprs_fit f
     expr_fits (has.make_array g a h q) z = (expr_fits h (ap is_void q), tt)
@@ -121,8 +131,18 @@ module _ (P : PlainProgram) where
     exprs_fit (fit.one_more h s f) = (expr_fits h (sub_left s), exprs_fit f)
 
   perform_void : {L : Scope} {e : TypedExpr} {E : List Own} → Has P L e E → is_performed (form_of e) ≡ true → is_void (type_of e) ≡ true → VoidCall P e
-  perform_void (has.call_method {n = n} {m = m} h q row member above good full known readable actuals calm t) p z =
-      (expr_fits h (ap is_void q), exprs_fit actuals, record { number = n; member = m; row = row; is_there = member; kind = ap not (sym (with_void _ m.result) ∙ (sym (ap is_void t) ∙ z)) })
+  perform_void (has.call_method {n = n} {m = m} h q row member above good full known readable actuals calm t) p z = (
+    expr_fits h (ap is_void q),
+    exprs_fit actuals,
+    record {
+      number = n;
+      member = m;
+      row = row;
+      is_there = member;
+      kind =
+          ap not (sym (with_void _ m.result) ∙ (sym (ap is_void t) ∙ z));
+    },
+  )
   perform_void h p z = absurd (cc)
 
   perform_fits : {L : Scope} {e : TypedExpr} {E : List Own} → Has P L e E → IsPerformed e → (z : Bool) → is_void (type_of e) ≡ z → PerformFits P e z
@@ -156,7 +176,8 @@ module _ (P : PlainProgram) where
       passes_fit (passes.atomic a s) r = all_fit a (λ t q. no_result t q)
       passes_fit (passes.cobegin n b c) r = branches_fit b
       passes_fit (passes.foreach n h q i s f a c) r = (expr_fits h (ap is_void q), expr_fits i (ap is_void s), (all_fit a (λ t q. no_result t q)).0)
-      passes_fit (passes.foreach_parts (cuts_array h q w) i s f a c d) r = (expr_fits h (ap is_void q), expr_fits i (ap is_void s), (all_fit a (λ t q. no_result t q)).0)
+      passes_fit (passes.foreach_parts (cuts_array h q w) i s f a c d) r =
+          (expr_fits h (ap is_void q), expr_fits i (ap is_void s), (all_fit a (λ t q. no_result t q)).0)
       passes_fit (passes.foreach_parts (cuts_part l) i s f a c d) r = (expr_fits i (ap is_void s), (all_fit a (λ t q. no_result t q)).0)
 
       all_fit : {L : Scope} {ss : TypedStmts} {E : List Own} → AllPass P L ss E → ResultFits L → StmtsFit P y ss
@@ -177,14 +198,23 @@ twice true = refl
 twice false = refl
 
 -- what a class has that is found through its number
-through : {A : Type 0} (k : Option PlainClass) (f : PlainClass → Option A) (x : A) → option_and_then f k ≡ Some x → (c : PlainClass) × (k ≡ Some c) × (f c ≡ Some x)
+through : {A : Type 0} (k : Option PlainClass) (f : PlainClass → Option A) (x : A) → option_and_then f k ≡ Some x →
+    (c : PlainClass) × (k ≡ Some c) × (f c ≡ Some x)
 through None f x e = absurd (cc)
 through (Some c) f x e = (c, refl, e)
 
 module _ (P : PlainProgram) (W : WellTyped P) where
-  kept_row : (c r n m : ℕ) (k : PlainClass) (gives : Bool) (member : PlainMember) → class_at P c ≡ Some k → slice_get k.rows r ≡ Some m → member_at P n ≡ Some member → gives_value member ≡ gives → KeepsRow P c k n m → RowGives P c r gives
+  kept_row : (c r n m : ℕ) (k : PlainClass) (gives : Bool) (member : PlainMember) → class_at P c ≡ Some k → slice_get k.rows r ≡ Some m →
+      member_at P n ≡ Some member → gives_value member ≡ gives → KeepsRow P c k n m → RowGives P c r gives
   kept_row c r n m k gives member e row there kind (inl same) =
-      record { number = m; member = member; row = ap (λ z. option_and_then (λ x. slice_get x.rows r) z) e ∙ row; is_there = ap (λ z. member_at P z) same ∙ there; kind = kind }
+      record {
+        number = m;
+        member = member;
+        row = ap (λ z. option_and_then (λ x. slice_get x.rows r) z) e ∙ row;
+        is_there =
+            ap (λ z. member_at P z) same ∙ there;
+        kind = kind;
+      }
   kept_row c r n m k gives member e row there kind (inr own) =
       let o = own.4 in
       let same : own.1 ≡ member = let a = own.3 in cc in

@@ -1,23 +1,24 @@
 -- The whole code is laid out by the scheme.
-use Rattle.std.proofs.Common.{◌≡◌, ◌<◌, ◌≤◌, ◌⊎◌, inl, inr, ℕ, zero, suc, ◌+◌, Bool, true, false, not, List, [], ◌∷◌, ◌++◌, length, map, refl, sym, ap, ◌∙◌, subst, arith, Option, Some, None, cond, slice_get, slice_index_or, length-append}
+use Rattle.std.proofs.Common.{◌≡◌, ◌≤◌, inl, inr, ℕ, zero, suc, ◌+◌, Bool, true, false, not, List, [], ◌∷◌, ◌++◌, length, map, refl, sym, ap, subst, arith, Option, Some, None, cond, slice_get, slice_index_or, length-append}
 use Rattle.dpj_base.specs.declared.place.Place.{Place}
-use Rattle.dpj_typed.specs.declared.stmt.Forking.{Forking}
 use Rattle.dpj_typed.specs.Plain.{TypedExpr, typed, type_of, TypedExprs, no_exprs, more_exprs, of_array, of_part, TypedStmt, statement, TypedStmts, no_stmts, more_stmts, TypedBranches, no_branches, more_branches, PlainMember, PlainProgram}
 use Rattle.dpj_typed.specs.Plain.{ExprForm as expr}
 use Rattle.dpj_typed.specs.Plain.{StmtForm as form}
 use Rattle.dpj_typed.specs.Scope.{member_at}
+use Rattle.dpj_typed.specs.Statements.{all_complete}
 use Rattle.dpj_code.specs.declared.instr.Instr.{Instr}
 use Rattle.dpj_code.specs.declared.instr.Instr.TheVariants as i
-use Rattle.dpj_code.specs.Plain.{Line, Title, of_member, of_branch, Site, PlainBody, body_or_none, PlainCode, body_at}
+use Rattle.dpj_code.specs.Plain.{Line, Title, Site, PlainBody, body_or_none, PlainCode, body_at}
 use Rattle.dpj_gen.specs.Pieces.{Branch, Piece, Next, past, nothing, line, with_site, with_text, with_branches, beside}
-use Rattle.dpj_gen.specs.Scheme.{is_void, after_expr, after_exprs, after_stmt, after_stmts, after_regions, expr_piece, exprs_piece, stmt_piece, stmts_piece, regions_piece, branches_of, class_code}
-use Rattle.dpj_gen.specs.Stands.{LineAt, StmtAt, StmtsAt, MemberEnds, MemberIs, EndsAt, BodyIs, LaidOut, first_place}
+use Rattle.dpj_gen.specs.Scheme.{is_void, closes, after_expr, after_stmt, after_stmts, expr_piece, exprs_piece, stmt_piece, stmts_piece, regions_piece, branches_of, class_code}
+use Rattle.dpj_gen.specs.Stands.{LineAt, StmtAt, StmtsAt, MemberEnds, MemberIs, EndsAt, BodyIs, LaidOut}
 use Rattle.dpj_gen.specs.Resolved.{gives_value, Resolved}
 use Rattle.dpj_gen.specs.Compiled.{Compiled}
 use Rattle.dpj_gen.specs.Laws.{work_of}
 use Rattle.dpj_meaning.specs.Actions.{Frame}
-use Rattle.dpj_gen.specs.Whole.{weight, weight_all, weight_branches, no_place, place_of, branch_piece_of, branch_piece, closing, member_piece, body_of, Output, no_output, followed_by, then_output, generate, in_member, member_output, past_output, members_output, member_numbers, first, number_in, compiled}
-use Rattle.dpj_gen.proofs.Pieces.{Holds, split, all_of, Far, far, next, stop, BranchStands, Queued, queued, Laid, cut, here}
+use Rattle.dpj_gen.specs.Whole.{weight, weight_all, weight_branches, no_place, place_of, branch_piece_of, branch_piece, closing, member_piece, body_of, Output, generate, in_member, member_output, past_output, members_output, member_numbers, first, number_in, compiled}
+use Rattle.dpj_gen.proofs.Closing.{never_ends}
+use Rattle.dpj_gen.proofs.Pieces.{Holds, split, all_of, BranchStands, Queued, queued, Laid, cut, here}
 use Rattle.dpj_gen.proofs.Placed.{stmt_far, stmts_far, stmt_at, stmts_at}
 
 -- how many bodies a queue leads to
@@ -108,7 +109,8 @@ mutual
   stmt_needs k p (statement at (form.block ss)) = stmts_needs k p ss
   stmt_needs k p (statement at (form.choice e s)) = clear (expr_needs k p e) (skip _ _ (stmt_needs _ _ s))
   stmt_needs k p (statement at (form.choice_else e s t)) = clear (expr_needs k p e) (skip _ _ (both (stmt_needs _ _ s) (skip _ _ (stmt_needs _ _ t)) refl))
-  stmt_needs k p (statement at (form.while_loop e s)) = clear (expr_needs k p e) (skip _ _ (skip _ _ (both (stmt_needs _ _ s) (skip _ _ stop_here) (omega arith))))
+  stmt_needs k p (statement at (form.while_loop e s)) =
+      clear (expr_needs k p e) (skip _ _ (skip _ _ (both (stmt_needs _ _ s) (skip _ _ stop_here) (omega arith))))
   stmt_needs k p (statement at form.return_nothing) = skip _ _ stop_here
   stmt_needs k p (statement at (form.return_value e)) = clear (expr_needs k p e) (skip _ _ stop_here)
   stmt_needs k p (statement at (form.print_int e)) = clear (expr_needs k p e) (skip _ _ stop_here)
@@ -117,7 +119,8 @@ mutual
   stmt_needs k p (statement at (form.local_regions rs)) = regions_needs p at rs
   stmt_needs k p (statement at (form.atomic effects ss)) = clear (site _ (skip _ _ stop_here)) (both (stmts_needs _ _ ss) (skip _ _ stop_here) (omega arith))
   stmt_needs k p (statement at (form.cobegin forking bs)) = branch _ _ (many_branches _ 0 bs)
-  stmt_needs k p (statement at (form.foreach forking x start count s)) = clear (expr_needs k p start) (clear (expr_needs _ _ count) (branch _ _ (one_more (weight s))))
+  stmt_needs k p (statement at (form.foreach forking x start count s)) =
+      clear (expr_needs k p start) (clear (expr_needs _ _ count) (branch _ _ (one_more (weight s))))
   stmt_needs k p (statement at (form.foreach_parts x (of_array a) count s)) =
       clear (expr_needs k p a) (skip _ _ (skip _ _ (skip _ _ (clear (expr_needs _ _ count)
       (skip _ _ (skip _ _ (skip _ _ (skip _ _ (skip _ _ (skip _ _ (branch _ _ (one_more (weight s)))))))))))))
@@ -147,7 +150,9 @@ module _ (C : PlainCode) where
     pub sites : Holds C.sites k.site a.sites
     pub texts : Holds C.texts k.text a.texts
 
-  branch_stands : (j : ℕ) (k : Next) (m : PlainMember) (t : Title) (s : TypedStmt) (takes : Option ℕ) (at : Place) → slice_get C.bodies j ≡ Some (body_of t m (branch_piece_of k at s takes)) → Laid C (branch_piece_of k at s takes).lines k 0 (branch_piece_of k at s takes) → BranchStands C j (record { title = t; takes = takes; stmt = s })
+  branch_stands : (j : ℕ) (k : Next) (m : PlainMember) (t : Title) (s : TypedStmt) (takes : Option ℕ) (at : Place) →
+      slice_get C.bodies j ≡ Some (body_of t m (branch_piece_of k at s takes)) →
+      Laid C (branch_piece_of k at s takes).lines k 0 (branch_piece_of k at s takes) → BranchStands C j (record { title = t; takes = takes; stmt = s })
   branch_stands j k m t s None at e h =
       let x = cut C (stmt_far k 0 s) h in
       let z = stmt_at C _ k 0 s x.0 in
@@ -171,7 +176,8 @@ module _ (C : PlainCode) where
       }
 
   -- what stands from j on where the queue's first is numbered j, and the next after the queue is numbered by k
-  pub generated : (n j : ℕ) (m : PlainMember) (k : Next) (todo : List Branch) → need todo ≤ n → j + length todo ≡ k.body → OutputAt k j (generate n m k todo) → Queued C j todo
+  pub generated : (n j : ℕ) (m : PlainMember) (k : Next) (todo : List Branch) → need todo ≤ n → j + length todo ≡ k.body →
+      OutputAt k j (generate n m k todo) → Queued C j todo
   generated zero j m k [] l e h = tt
   generated zero j m k (b ∷ todo) l e h = absurd (omega arith)
   generated (suc n) j m k [] l e h = tt
@@ -185,22 +191,26 @@ module _ (C : PlainCode) where
       let t = split C.texts a.texts rest.texts k.text h.texts in
       let r = generated n (suc j) m (past k a) (todo ++ a.branches) (omega arith) (omega arith) (record { bodies = h.bodies.1; sites = s.1; texts = t.1 }) in
       let q = queued C todo a.branches (suc j) r in
-      let own : Queued C k.body a.branches = subst (λ z. Queued C z a.branches) (omega arith) q.1 in
-      (branch_stands j k m b.title b.stmt b.takes (place_of b.stmt) h.bodies.0 (record { lines = all_of a.lines; sites = s.0; texts = t.0; branches = own }), q.0)
+      let own : Queued C k.body a.branches = subst (λ z. Queued C z a.branches) (omega arith) q.1 in (
+        branch_stands j k m b.title b.stmt b.takes (place_of b.stmt) h.bodies.0 (record { lines = all_of a.lines; sites = s.0; texts = t.0; branches = own }),
+        q.0,
+      )
 
   -- a member and its branches
-  pub member_queued : (k : Next) (m : PlainMember) → OutputAt k k.body (member_output k m) → Laid C (member_piece (in_member k) m).lines (in_member k) 0 (member_piece (in_member k) m)
+  pub member_queued : (k : Next) (m : PlainMember) → OutputAt k k.body (member_output k m) →
+      Laid C (member_piece (in_member k) m).lines (in_member k) 0 (member_piece (in_member k) m)
   member_queued k m h =
       let a = member_piece (in_member k) m in
       let rest = generate (weight_all m.body) m (past (in_member k) a) a.branches in
-      let w = (member_needs (in_member k) m.body (is_void m.result)).is in
+      let w = (member_needs (in_member k) m.body (closes m)).is in
       let s = split C.sites a.sites rest.sites k.site h.sites in
       let t = split C.texts a.texts rest.texts k.text h.texts in
       record {
         lines = all_of a.lines;
         sites = s.0;
         texts = t.0;
-        branches = generated (weight_all m.body) (suc k.body) m (past (in_member k) a) a.branches (omega arith) refl (record { bodies = h.bodies.1; sites = s.1; texts = t.1 });
+        branches = generated (weight_all m.body) (suc k.body) m (past (in_member k) a) a.branches (omega arith) refl
+            (record { bodies = h.bodies.1; sites = s.1; texts = t.1 });
       }
 
   closing_at : (c : List Line) (k : Next) (p : ℕ) (z : Bool) → Laid C c k p (closing z) → MemberEnds C c p z
@@ -213,15 +223,17 @@ module _ (C : PlainCode) where
       let e = h.bodies.0 in
       let x = cut C (stmts_far (in_member k) 0 m.body) (member_queued k m h) in
       let z = stmts_at C _ (in_member k) 0 m.body x.0 in
-      let y = closing_at _ _ _ (is_void m.result) x.1 in
+      let y = closing_at _ _ _ (closes m) x.1 in
       record {
         slots = ap (λ b. b.slots) (is_body k.body e);
         local_regions = ap (λ b. b.local_regions) (is_body k.body e);
         stmts = subst (λ b. StmtsAt C b.lines 0 m.body) (sym (is_body k.body e)) z;
-        ends = subst (λ b. MemberEnds C b.lines (after_stmts 0 m.body) (is_void m.result)) (sym (is_body k.body e)) y;
+        ends = subst (λ b. MemberEnds C b.lines (after_stmts 0 m.body) (closes m)) (sym (is_body k.body e)) y;
       }
 
-  pub first_output : (k : Next) (m : PlainMember) (ms : List PlainMember) → OutputAt k k.body (members_output k (m ∷ ms)) → OutputAt k k.body (member_output k m) × OutputAt (past_output k (member_output k m)) (past_output k (member_output k m)).body (members_output (past_output k (member_output k m)) ms)
+  pub first_output : (k : Next) (m : PlainMember) (ms : List PlainMember) → OutputAt k k.body (members_output k (m ∷ ms)) →
+      OutputAt k k.body (member_output k m) × OutputAt (past_output k (member_output k m)) (past_output k (member_output k m)).body
+      (members_output (past_output k (member_output k m)) ms)
   first_output k m ms h =
       let a = member_output k m in
       let rest = members_output (past_output k a) ms in
@@ -230,7 +242,8 @@ module _ (C : PlainCode) where
       let t = split C.texts a.texts rest.texts k.text h.texts in
       (record { bodies = b.0; sites = s.0; texts = t.0 }, record { bodies = b.1; sites = s.1; texts = t.1 })
 
-  members_are : (ms : List PlainMember) (k : Next) → OutputAt k k.body (members_output k ms) → (n : ℕ) (m : PlainMember) → slice_get ms n ≡ Some m → MemberIs C (body_at C (slice_index_or (member_numbers k ms) n 0)) m
+  members_are : (ms : List PlainMember) (k : Next) → OutputAt k k.body (members_output k ms) → (n : ℕ) (m : PlainMember) → slice_get ms n ≡ Some m →
+      MemberIs C (body_at C (slice_index_or (member_numbers k ms) n 0)) m
   members_are [] k h n m e = absurd (cc)
   members_are (x ∷ ms) k h zero m e = let r : x ≡ m = cc in subst (λ y. MemberIs C (body_at C k.body) y) r (member_is k x (first_output k x ms h).0)
   members_are (x ∷ ms) k h (suc n) m e = members_are ms (past_output k (member_output k x)) (first_output k x ms h).1 n m e
@@ -252,12 +265,21 @@ pub laid_out : (P : PlainProgram) → LaidOut (compiled P) P (number_in P)
 laid_out P = record { classes = classes_are P; members = members_at P }
 
 -- each member is compiled
-pub root_is : (P : PlainProgram) (resolved : Resolved P) (n : ℕ) (m : PlainMember) → member_at P n ≡ Some m → (b : PlainBody) → MemberIs (compiled P) b m → BodyIs (compiled P) b (work_of m)
-root_is P resolved n m e b is = record { begins = tt; stmts = is.stmts; ends = go (is_void m.result) refl is.ends }
+pub root_is : (P : PlainProgram) (resolved : Resolved P) (n : ℕ) (m : PlainMember) → member_at P n ≡ Some m → (b : PlainBody) → MemberIs (compiled P) b m →
+    BodyIs (compiled P) b (work_of m)
+root_is P resolved n m e b is = record { begins = tt; stmts = is.stmts; ends = go (closes m) refl is.ends }
   where
-    go : (z : Bool) → is_void m.result ≡ z → MemberEnds (compiled P) b.lines (after_stmts 0 m.body) z → EndsAt (compiled P) b (after_stmts 0 m.body) (work_of m) true
+    go : (z : Bool) → closes m ≡ z → MemberEnds (compiled P) b.lines (after_stmts 0 m.body) z →
+        EndsAt (compiled P) b (after_stmts 0 m.body) (work_of m) true
     go true q h = inl h
-    go false q h = inr (resolved.ends n m e (ap not q))
+    go false q h = inr (never_ends (is_void m.result) (all_complete m.body) q (λ v. resolved.ends n m e (ap not v)))
 
-pub members_are_compiled : {N M : Type 0} (P : PlainProgram) → Resolved P → (n : ℕ) (m : PlainMember) → member_at P n ≡ Some m → (f : Frame N M) → Compiled (compiled P) P (record { body = number_in P n; frame = f }) (record { work = work_of m; frame = f })
-members_are_compiled P resolved n m e f = record { body = root_is P resolved n m e _ (members_at P n m e); frame = refl; gives = gives_value m; fits = resolved.bodies n m e }
+pub members_are_compiled : {N M : Type 0} (P : PlainProgram) → Resolved P → (n : ℕ) (m : PlainMember) → member_at P n ≡ Some m → (f : Frame N M) →
+    Compiled (compiled P) P (record { body = number_in P n; frame = f }) (record { work = work_of m; frame = f })
+members_are_compiled P resolved n m e f = record {
+  body = root_is P resolved n m e _ (members_at P n m e);
+  frame = refl;
+  gives = gives_value m;
+  fits =
+      resolved.bodies n m e;
+}

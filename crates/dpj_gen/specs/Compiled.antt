@@ -1,5 +1,5 @@
 -- When a start in a code is that of a task, and what it means that the code does what the task's meaning says.
-use Rattle.std.specs.Prelude.{◌≡◌, ℕ, Bool, List, [], ◌∷◌}
+use Rattle.std.specs.Prelude.{◌≡◌, Bool, List, [], ◌∷◌}
 use Rattle.dpj_typed.specs.Plain.{PlainProgram}
 use Rattle.dpj_meaning.specs.Values.{Naming}
 use Rattle.dpj_meaning.specs.Actions.{Task, Action, Do, Fork, Begin, Join, End, Answer, Reply, Next, Over, Unknown}
@@ -24,7 +24,7 @@ AllCompiled C P (b ∷ bs) (t ∷ ts) = Compiled C P b t × AllCompiled C P bs t
 -- the same action; of a fork, with starts of its tasks
 abbrev pub SameAct : {N M : Type 0} → PlainCode → PlainProgram → Action N M (Task N M) → Action N M (Start N M) → Type 0
 SameAct C P (Do o) a = a ≡ Do o
-SameAct {N} {M} C P (Fork forking ts) a = (bs : List (Start N M)) × (a ≡ Fork forking bs) × AllCompiled C P bs ts
+SameAct {N} {M} C P (Fork ts) a = (bs : List (Start N M)) × (a ≡ Fork (record { kind = ts.kind; tasks = bs })) × AllCompiled C P bs ts.tasks
 SameAct C P (Begin b) a = a ≡ Begin b
 SameAct C P Join a = a ≡ Join
 SameAct C P (End e) a = a ≡ End e
@@ -36,7 +36,8 @@ SameReply C P Over r = r ≡ Over
 SameReply C P Unknown r = ⊥
 
 -- the solo run stands at what is asked
-pub record Right {N M : Type 0} (names : Naming N M) (C : PlainCode) (P : PlainProgram) (b : Start N M) (got : List (Answer N M)) (asked : Reply N M (Task N M)) : Type 0 where
+pub record Right {N M : Type 0} (names : Naming N M) (C : PlainCode) (P : PlainProgram) (b : Start N M) (got : List (Answer N M))
+    (asked : Reply N M (Task N M)) : Type 0 where
   pub reply : Reply N M (Start N M)
   pub runs : Solo names C b got reply
   pub same : SameReply C P asked reply

@@ -1,17 +1,16 @@
 -- What the code of a program promises. N names objects, and M made local regions.
-use Rattle.std.specs.Prelude.{◌≡◌, ◌<◌, ℕ, Bool, true, List, [], length, Some, None}
+use Rattle.std.specs.Prelude.{◌≡◌, ◌<◌, ℕ, true, List, [], length, Some, None}
 use Rattle.dpj_typed.specs.Plain.{PlainProgram, PlainMember}
 use Rattle.dpj_typed.specs.Scope.{member_at}
 use Rattle.dpj_typed.specs.WellTyped.{WellTyped}
 use Rattle.dpj_meaning.specs.Values.{Naming}
 use Rattle.dpj_meaning.specs.Actions.{Frame, Work, Task, Action, Answer, Reply, Unknown}
 use Rattle.dpj_meaning.specs.Asking.{ask}
-use Rattle.dpj_code.specs.Plain.{PlainCode, body_at}
+use Rattle.dpj_code.specs.Plain.{PlainCode}
 use Rattle.dpj_code.specs.Legs.{Halt, Asks, Leg, Halts, said}
 use Rattle.dpj_code.specs.Machine.{Start, State, begins_at, Solo}
 use Rattle.dpj_gen.specs.Whole.{number_in, compiled}
-use Rattle.dpj_gen.specs.Stands.{BodyIs}
-use Rattle.dpj_gen.specs.Resolved.{StmtsFit, Resolved}
+use Rattle.dpj_gen.specs.Resolved.{Resolved}
 use Rattle.dpj_gen.specs.Compiled.{Compiled, SameReply, Right}
 
 -- of each task whose start is compiled, whatever it is answered, the solo run stands at the action, after as many turns, that

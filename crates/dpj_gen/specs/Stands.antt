@@ -13,7 +13,7 @@ use Rattle.dpj_code.specs.declared.instr.Instr.{Instr}
 use Rattle.dpj_code.specs.declared.instr.Instr.TheVariants as i
 use Rattle.dpj_code.specs.Plain.{Line, PlainBody, Site, fork_site, spread_site, block_site, call_site, new_site, PlainCode, body_at}
 use Rattle.dpj_code.specs.Machine.{copies_of}
-use Rattle.dpj_gen.specs.Scheme.{is_void, many, after_expr, after_exprs, after_stmt, after_stmts, instr_of, unary_instr, site_of_array, copy_lists, class_code}
+use Rattle.dpj_gen.specs.Scheme.{is_void, closes, many, after_expr, after_exprs, after_stmt, after_stmts, instr_of, unary_instr, site_of_array, copy_lists, class_code}
 
 -- at p stands this instruction
 abbrev pub LineAt : List Line → ℕ → Instr → Place → Type 0
@@ -94,7 +94,8 @@ module _ (C : PlainCode) where
 
   -- the count is kept, and the array's length
   abbrev pub ArrayAt : List Line → ℕ → Place → ℕ → Type 0
-  ArrayAt c p at x = LineAt c p (i.Store (x + 3)) at × LineAt c (suc p) (i.Load x) at × LineAt c (suc (suc p)) i.Length at × LineAt c (suc (suc (suc p))) (i.Store (x + 2)) at
+  ArrayAt c p at x = LineAt c p (i.Store (x + 3)) at × LineAt c (suc p) (i.Load x) at × LineAt c (suc (suc p)) i.Length at × LineAt c (suc (suc (suc p)))
+      (i.Store (x + 2)) at
 
   -- a branch for each part
   abbrev pub PartsAt : List Line → ℕ → Place → ℕ → ℕ → Type 0
@@ -106,9 +107,11 @@ module _ (C : PlainCode) where
     StmtAt c p (statement at (form.store x e)) = ExprAt c p e × LineAt c (after_expr p e) (i.Store x) at
     StmtAt c p (statement at (form.store_field o d f e)) = ExprAt c p o × ExprAt c (after_expr p o) e × LineAt c (after_expr (after_expr p o) e) (i.Put f) at
     StmtAt c p (statement at (form.store_element a j e)) =
-        ExprAt c p a × ExprAt c (after_expr p a) j × ExprAt c (after_expr (after_expr p a) j) e × LineAt c (after_expr (after_expr (after_expr p a) j) e) i.PutElem at
+        ExprAt c p a × ExprAt c (after_expr p a) j × ExprAt c (after_expr (after_expr p a) j) e × LineAt c
+        (after_expr (after_expr (after_expr p a) j) e) i.PutElem at
     StmtAt c p (statement at (form.store_part x j e)) =
-        ExprAt c p j × ExprAt c (after_expr p j) e × LineAt c (after_expr (after_expr p j) e) (i.InParts x) at × LineAt c (suc (after_expr (after_expr p j) e)) i.PutElem at
+        ExprAt c p j × ExprAt c (after_expr p j) e × LineAt c (after_expr (after_expr p j) e) (i.InParts x) at × LineAt c
+        (suc (after_expr (after_expr p j) e)) i.PutElem at
     StmtAt c p (statement at (form.perform e)) = ExprAt c p e × PoppedAt c (after_expr p e) (is_void (type_of e)) at
     StmtAt c p (statement at (form.block ss)) = StmtsAt c p ss
     StmtAt c p (statement at (form.choice e s)) =
@@ -159,7 +162,7 @@ module _ (C : PlainCode) where
     BranchesAt (more_branches copies s bs) js =
         (j : ℕ) × (rest : List ℕ) × (js ≡ j ∷ rest) × (StmtAt (body_at C j).lines 0 s × BranchEnds (body_at C j) (after_stmt 0 s) copies) × BranchesAt bs rest
 
-  -- the body of a member: one that gives no value has an end
+  -- the end of the body of a member, where it leaves
   abbrev pub MemberEnds : List Line → ℕ → Bool → Type 0
   MemberEnds c p true = (at : Place) × LineAt c p i.Leave at
   MemberEnds c p false = Unit {0}
@@ -168,7 +171,7 @@ module _ (C : PlainCode) where
     pub slots : b.slots ≡ m.slots
     pub local_regions : b.local_regions ≡ m.local_regions
     pub stmts : StmtsAt b.lines 0 m.body
-    pub ends : MemberEnds b.lines (after_stmts 0 m.body) (is_void m.result)
+    pub ends : MemberEnds b.lines (after_stmts 0 m.body) (closes m)
 
   -- how the body of a task ends where it comes to its end
   abbrev pub EndsAt : PlainBody → ℕ → Work → Bool → Type 0

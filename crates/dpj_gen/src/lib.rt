@@ -1,7 +1,13 @@
 //! The code of a typed program.
 //!
-//! `specs/Scheme.antt` says which instructions stand where: one equation a construct. The laws of this crate say that the
-//! solo run of that code does what the meaning of the program says, whatever a task is answered.
+//! No executable compiler stands here yet: the crate says which code it is to give, and what that code is worth.
+//! `specs/Scheme.antt` has one equation a construct, and `specs/Whole.antt` puts members and branches in their order.
+//! `specs/Resolved.antt` is what the code asks of a program: rows and members are there, and what is called as a value
+//! gives one. Every well-typed program has that.
+//!
+//! The laws say that the solo run of the code does what the meaning of the program says, whatever its tasks are answered.
+//! They are proved over `specs/Stands.antt`, which says what stands where in a code without saying how it was made: code
+//! that is made in another way and meets it has the same laws.
 #![tactic(auto)]
 
 pub mod laws;

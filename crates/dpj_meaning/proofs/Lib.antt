@@ -1,5 +1,5 @@
 mod Entries
 mod Modes
 mod Samples
-mod Tasks
+pub mod Tasks
 mod Turns

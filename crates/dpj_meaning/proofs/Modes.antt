@@ -3,7 +3,7 @@ use Rattle.std.proofs.Common.{◌≡◌, ℕ, zero, suc, ◌+◌, ◌-◌, ◌*�
 use Rattle.std.proofs.Common.{arith, ◌==◌}
 use Rattle.std.proofs.lemmas.Bool.{eqb-false, eqb-true}
 use Rattle.dpj_meaning.specs.Values.{Naming}
-use Rattle.dpj_meaning.specs.Actions.{Frame, Task, Effect, Own, Rest, Read, Write, Look, New, Print, Enter, Exit, Action, Do, Fork, Begin, Join, End, Ending}
+use Rattle.dpj_meaning.specs.Actions.{Frame, Task, Branches, Effect, Own, Rest, Read, Write, Look, New, Print, Enter, Exit, Action, Do, Fork, Begin, Join, End, Ending}
 use Rattle.dpj_meaning.specs.Actions.{Answer, Reply, Next, Over, Unknown}
 use Rattle.dpj_meaning.specs.Actions.{Ending as ends}
 use Rattle.dpj_meaning.specs.Counts.{truth, Brought, brought}
@@ -18,7 +18,7 @@ use Rattle.dpj_meaning.proofs.Entries.{IsEntry, Enters, Steady}
 -- or at its end
 pub data Mode (N M : Type 0) : Type 0 where
   Free : Mode N M
-  Forked : (ts : List (Task N M)) (begun : ℕ) → Mode N M
+  Forked : (ts : Branches (Task N M)) (begun : ℕ) → Mode N M
   Rested : Mode N M
   Ended : Mode N M
 
@@ -52,7 +52,7 @@ module _ {N M : Type 0} where
 
   abbrev pub behind : Mode N M → Reply N M (Task N M) → Mode N M
   behind g (Next n (Do o)) = behind_own n o
-  behind g (Next n (Fork forking ts)) = Forked ts 0
+  behind g (Next n (Fork ts)) = Forked ts 0
   behind g (Next n (Begin b)) = behind_begin g
   behind g (Next n Join) = Free
   behind g (Next n (End x)) = Ended
@@ -65,7 +65,7 @@ module _ {N M : Type 0} where
 
   abbrev pub MayFree : Reply N M (Task N M) → Type 0
   MayFree (Next n (Do o)) = InTime n (Do o)
-  MayFree (Next n (Fork forking ts)) = n < most_turns
+  MayFree (Next n (Fork ts)) = n < most_turns
   MayFree (Next n (Begin b)) = ⊥
   MayFree (Next n Join) = ⊥
   MayFree (Next n (End x)) = n < most_turns
@@ -74,7 +74,7 @@ module _ {N M : Type 0} where
 
   abbrev pub May : Mode N M → Reply N M (Task N M) → Type 0
   May Free r = MayFree r
-  May (Forked ts b) r = ((b < length ts) × (r ≡ Next 0 (Begin b))) ⊎ ((b ≡ length ts) × (r ≡ Next 0 Join))
+  May (Forked ts b) r = ((b < length ts.tasks) × (r ≡ Next 0 (Begin b))) ⊎ ((b ≡ length ts.tasks) × (r ≡ Next 0 Join))
   May Rested r = (E : List (Effect M)) × (r ≡ Next 0 (Do (Enter E)))
   May Ended r = r ≡ Over
 
@@ -207,8 +207,8 @@ module _ {N M : Type 0} where
   good_own names (Print bytes) k K e h = good_act Free _ _ K (λ t l f. inl l) (λ t x. h x)
   good_own names Exit k K e h = good_act Free _ _ K (λ t l f. inl l) (λ t x. h x)
 
-  good_begins : {n : ℕ} (ts : List (Task N M)) (b m : ℕ) (k : Brought N → Told N M → Out N M (Result N M) (Told N M)) (K : Rests N M (Result N M))
-      → b + m ≡ length ts
+  good_begins : {n : ℕ} (ts : Branches (Task N M)) (b m : ℕ) (k : Brought N → Told N M → Out N M (Result N M) (Told N M)) (K : Rests N M (Result N M))
+      → b + m ≡ length ts.tasks
       → ((x : Brought N) → Good n Free (λ w. finish (k x w) K)) → Good n (Forked ts b) (λ w. finish (bind (begins_then b m told_join w) k) K)
   good_begins ts b zero k K e h =
       good_same (λ w l. ap (λ o. finish o K) (sym (bind_bind (asked Join w) (λ a v. Done (brought a) v) k)))
@@ -269,7 +269,7 @@ module _ {N M : Type 0} where
     all_fine (Split forking ts bs k) s = record {
       good = λ n K h.
           good_same (λ w l. ap (λ o. finish o K)
-          (sym (bind_bind (asked (Fork forking ts) w) (λ a v. begins_then 0 (length ts) told_join v) (λ x v. run (told names) (k x) v))))
-          (good_act Free (Fork forking ts) (λ a v. bind (begins_then 0 (length ts) told_join v) (λ x v. run (told names) (k x) v)) K (λ t l f. l)
-          (λ t x. good_begins ts 0 (length ts) _ K (omega arith) (λ y. (all_fine (k y) (s y)).good n K h)));
+          (sym (bind_bind (asked (Fork (record { kind = forking; tasks = ts })) w) (λ a v. begins_then 0 (length ts) told_join v) (λ x v. run (told names) (k x) v))))
+          (good_act Free (Fork (record { kind = forking; tasks = ts })) (λ a v. bind (begins_then 0 (length ts) told_join v) (λ x v. run (told names) (k x) v)) K (λ t l f. l)
+          (λ t x. good_begins (record { kind = forking; tasks = ts }) 0 (length ts) _ K (omega arith) (λ y. (all_fine (k y) (s y)).good n K h)));
     }

@@ -4,12 +4,12 @@ use Rattle.std.proofs.lemmas.List.{reverse-append}
 use Rattle.dpj_typed.specs.declared.stmt.Forking.{Forking}
 use Rattle.dpj_typed.specs.Plain.{PlainProgram}
 use Rattle.dpj_meaning.specs.Values.{Naming}
-use Rattle.dpj_meaning.specs.Actions.{Work, Task, Own, Rest, Read, Write, Look, New, Print, Enter, Exit, Action, Do, Fork, Begin, Join, End, Ending, Answer}
+use Rattle.dpj_meaning.specs.Actions.{Work, Task, Branches, Own, Rest, Read, Write, Look, New, Print, Enter, Exit, Action, Do, Fork, Begin, Join, End, Ending, Answer}
 use Rattle.dpj_meaning.specs.Actions.{Reply, Next, Over, Unknown}
 use Rattle.dpj_meaning.specs.Core.{Result, Out, Done, Trapped, Stopped, Lost, run}
 use Rattle.dpj_meaning.specs.Asking.{most_turns, Told, told, ended, ending, replied, meaning, ask}
 use Rattle.dpj_meaning.specs.Statements.{begun}
-use Rattle.dpj_meaning.specs.Tasks.{Replies, Asks, Disciplined, AfterFork, Lively, Paced, IsDisciplined, IsLively, IsPaced}
+use Rattle.dpj_meaning.specs.Tasks.{Replies, Asks, Disciplined, AfterFork, Lively, InTurn, Paced, IsDisciplined, IsLively, IsInTurn, IsPaced}
 use Rattle.dpj_meaning.proofs.Turns.{most_pos}
 use Rattle.dpj_meaning.proofs.Entries.{steady_meaning}
 use Rattle.dpj_meaning.proofs.Modes.{Mode, Free, Forked, Rested, Ended, behind, May, Goes, Good, good_end, good_same, finish, all_fine}
@@ -82,13 +82,13 @@ module _ {N M : Type 0} where
 
   ended_by : (g : Mode N M) (n : ℕ) (c : Action N M (Task N M)) → behind g (Next n c) ≡ Ended → (x : Ending N) × (c ≡ End x)
   ended_by g n (Do o) e = absurd (own_goes_on g n o e)
-  ended_by g n (Fork forking ts) e = absurd (cc)
+  ended_by g n (Fork ts) e = absurd (cc)
   ended_by g n (Begin b) e = absurd (begin_goes_on g n b e)
   ended_by g n Join e = absurd (cc)
   ended_by g n (End x) e = (x, refl)
 
   -- and a fork alone is in front of its branches
-  own_forks : (g : Mode N M) (n : ℕ) (o : Own N M) (ts : List (Task N M)) (b : ℕ) → behind g (Next n (Do o)) ≡ Forked ts b → ⊥
+  own_forks : (g : Mode N M) (n : ℕ) (o : Own N M) (ts : Branches (Task N M)) (b : ℕ) → behind g (Next n (Do o)) ≡ Forked ts b → ⊥
   own_forks g zero Rest ts b e = cc
   own_forks g (suc n) Rest ts b e = cc
   own_forks g n (Enter E) ts b e = cc
@@ -99,23 +99,23 @@ module _ {N M : Type 0} where
   own_forks g n (Print bytes) ts b e = cc
   own_forks g n Exit ts b e = cc
 
-  begins_behind : (g : Mode N M) (n k : ℕ) (ts : List (Task N M)) (b : ℕ) → behind g (Next n (Begin k)) ≡ Forked ts b
+  begins_behind : (g : Mode N M) (n k : ℕ) (ts : Branches (Task N M)) (b : ℕ) → behind g (Next n (Begin k)) ≡ Forked ts b
       → (c : ℕ) × (b ≡ suc c) × (g ≡ Forked ts c)
   begins_behind Free n k ts b e = absurd (cc)
   begins_behind (Forked us c) n k ts b e = let i : us ≡ ts = cc in (c, cc, ap (λ vs. Forked vs c) i)
   begins_behind Rested n k ts b e = absurd (cc)
   begins_behind Ended n k ts b e = absurd (cc)
 
-  join_mode : (g : Mode N M) (n : ℕ) → May g (Next n Join) → (ts : List (Task N M)) × (g ≡ Forked ts (length ts))
+  join_mode : (g : Mode N M) (n : ℕ) → May g (Next n Join) → (ts : Branches (Task N M)) × (g ≡ Forked ts (length ts.tasks))
   join_mode Free n h = absurd h
   join_mode (Forked ts b) n (inl h) = let e = h.1 in absurd (cc)
   join_mode (Forked ts b) n (inr h) = (ts, ap (λ c. Forked ts c) h.0)
   join_mode Rested n h = let e = h.1 in absurd (cc)
   join_mode Ended n h = absurd (cc)
 
-  begin_mode : (g : Mode N M) (n b : ℕ) → May g (Next n (Begin b)) → (ts : List (Task N M)) × (b < length ts) × (g ≡ Forked ts b)
+  begin_mode : (g : Mode N M) (n b : ℕ) → May g (Next n (Begin b)) → (ts : Branches (Task N M)) × (b < length ts.tasks) × (g ≡ Forked ts b)
   begin_mode Free n b h = absurd h
-  begin_mode (Forked ts c) n b (inl h) = let e = h.1 in let i : c ≡ b = cc in (ts, subst (λ k. k < length ts) i h.0, ap (λ k. Forked ts k) i)
+  begin_mode (Forked ts c) n b (inl h) = let e = h.1 in let i : c ≡ b = cc in (ts, subst (λ k. k < length ts.tasks) i h.0, ap (λ k. Forked ts k) i)
   begin_mode (Forked ts c) n b (inr h) = let e = h.1 in absurd (cc)
   begin_mode Rested n b h = let e = h.1 in absurd (cc)
   begin_mode Ended n b h = absurd (cc)
@@ -123,7 +123,7 @@ module _ {N M : Type 0} where
   few_of : (g : Mode N M) (n : ℕ) (a : Action N M (Task N M)) → May g (Next n a) → n ≤ most_turns
   few_of Free n (Do o) (inl l) = omega arith
   few_of Free n (Do o) (inr h) = omega (arith, h.0)
-  few_of Free n (Fork forking ts) l = omega arith
+  few_of Free n (Fork ts) l = omega arith
   few_of Free n (Begin b) h = absurd h
   few_of Free n Join h = absurd h
   few_of Free n (End x) l = omega arith
@@ -135,7 +135,7 @@ module _ {N M : Type 0} where
   rest_of : (g : Mode N M) (a : Action N M (Task N M)) → May g (Next most_turns a) → a ≡ Do Rest
   rest_of Free (Do o) (inl l) = absurd (omega arith)
   rest_of Free (Do o) (inr h) = h.1
-  rest_of Free (Fork forking ts) l = absurd (omega arith)
+  rest_of Free (Fork ts) l = absurd (omega arith)
   rest_of Free (Begin b) h = absurd h
   rest_of Free Join h = absurd h
   rest_of Free (End x) l = absurd (omega arith)
@@ -149,22 +149,22 @@ module _ {N M : Type 0} where
     then_may : (got : List (Answer N M)) (a : Answer N M) (r : Reply N M (Task N M)) → m got ≡ r → May (behind (mode m got) r) (m (a ∷ got))
     then_may got a r e = subst (λ s. May (behind (mode m got) s) (m (a ∷ got))) e (may (a ∷ got))
 
-    begins_or_joins : (got : List (Answer N M)) (ts : List (Task N M)) (k : ℕ) → mode m got ≡ Forked ts k
-        → ((k < length ts) × (m got ≡ Next 0 (Begin k))) ⊎ ((k ≡ length ts) × (m got ≡ Next 0 Join))
+    begins_or_joins : (got : List (Answer N M)) (ts : Branches (Task N M)) (k : ℕ) → mode m got ≡ Forked ts k
+        → ((k < length ts.tasks) × (m got ≡ Next 0 (Begin k))) ⊎ ((k ≡ length ts.tasks) × (m got ≡ Next 0 Join))
     begins_or_joins got ts k e = subst (λ g. May g (m got)) e (may got)
 
-    forked_since : (since got : List (Answer N M)) (forking : Forking) (ts : List (Task N M)) (k : ℕ) → Asks m got (Fork forking ts) → length since ≡ suc k
-        → k ≤ length ts
+    forked_since : (since got : List (Answer N M)) (ts : Branches (Task N M)) (k : ℕ) → Asks m got (Fork ts) → length since ≡ suc k
+        → k ≤ length ts.tasks
         → mode m (since ++ got) ≡ Forked ts k
-    forked_since [] got forking ts k a l h = absurd (omega arith)
-    forked_since (x ∷ []) got forking ts zero a l h = ap (λ r. behind (mode m got) r) a.1
-    forked_since (x ∷ []) got forking ts (suc k) a l h = absurd (omega arith)
-    forked_since (x ∷ (y ∷ ys)) got forking ts zero a l h = absurd (omega arith)
-    forked_since (x ∷ (y ∷ ys)) got forking ts (suc k) a l h =
-        (let e = forked_since (y ∷ ys) got forking ts k a (omega arith) (omega arith) in at e (begins_or_joins ((y ∷ ys) ++ got) ts k e))
+    forked_since [] got ts k a l h = absurd (omega arith)
+    forked_since (x ∷ []) got ts zero a l h = ap (λ r. behind (mode m got) r) a.1
+    forked_since (x ∷ []) got ts (suc k) a l h = absurd (omega arith)
+    forked_since (x ∷ (y ∷ ys)) got ts zero a l h = absurd (omega arith)
+    forked_since (x ∷ (y ∷ ys)) got ts (suc k) a l h =
+        (let e = forked_since (y ∷ ys) got ts k a (omega arith) (omega arith) in at e (begins_or_joins ((y ∷ ys) ++ got) ts k e))
       where
         at : mode m ((y ∷ ys) ++ got) ≡ Forked ts k
-            → ((k < length ts) × (m ((y ∷ ys) ++ got) ≡ Next 0 (Begin k))) ⊎ ((k ≡ length ts) × (m ((y ∷ ys) ++ got) ≡ Next 0 Join))
+            → ((k < length ts.tasks) × (m ((y ∷ ys) ++ got) ≡ Next 0 (Begin k))) ⊎ ((k ≡ length ts.tasks) × (m ((y ∷ ys) ++ got) ≡ Next 0 Join))
             → behind (mode m ((y ∷ ys) ++ got)) (m ((y ∷ ys) ++ got)) ≡ Forked ts (suc k)
         at e (inl b) = ap (λ g. behind g (m ((y ∷ ys) ++ got))) e ∙ ap (λ r. behind (Forked ts k) r) b.1
         at e (inr j) = let i = j.0 in absurd (omega arith)
@@ -172,8 +172,8 @@ module _ {N M : Type 0} where
     pub disciplined : Disciplined m
     disciplined = record {
       over = λ got x a e. then_may got a (Next e.0 (End x)) e.1;
-      begins = λ got since forking ts k a l h. at_begin _ _ h (begins_or_joins _ ts k (forked_since since got forking ts k a l (omega arith)));
-      joins = λ got since forking ts a l. at_join _ (begins_or_joins _ ts (length ts) (forked_since since got forking ts (length ts) a l (omega arith)));
+      begins = λ got since ts k a l h. at_begin _ _ h (begins_or_joins _ ts k (forked_since since got ts k a l (omega arith)));
+      joins = λ got since ts a l. at_join _ (begins_or_joins _ ts (length ts.tasks) (forked_since since got ts (length ts.tasks) a l (omega arith)));
     }
       where
         at_begin : (k n : ℕ) {X Y : Type 0} → k < n → ((k < n) × X) ⊎ ((k ≡ n) × Y) → X
@@ -185,7 +185,7 @@ module _ {N M : Type 0} where
         at_join n (inr j) = j.1
 
     -- a task that stands behind a fork has come by it
-    after_fork : (got : List (Answer N M)) (ts : List (Task N M)) (b : ℕ) → mode m got ≡ Forked ts b → AfterFork m got ts b
+    after_fork : (got : List (Answer N M)) (ts : Branches (Task N M)) (b : ℕ) → mode m got ≡ Forked ts b → AfterFork m got ts b
     after_fork [] ts b e = absurd (cc)
     after_fork (x ∷ got) ts b e = at (λ c i. after_fork got ts c i) (m got) refl e
       where
@@ -197,17 +197,16 @@ module _ {N M : Type 0} where
           earlier = a.earlier;
           is = ap (λ l. x ∷ l) a.is;
           number = ap suc a.number ∙ sym i;
-          forking = a.forking;
           forks = a.forks;
         }
 
         at : ((c : ℕ) → mode m got ≡ Forked ts c → AfterFork m got ts c) → (r : Reply N M (Task N M)) → m got ≡ r → behind (mode m got) r ≡ Forked ts b
             → AfterFork m (x ∷ got) ts b
         at more (Next n (Do o)) i h = absurd (own_forks (mode m got) n o ts b h)
-        at more (Next n (Fork forking us)) i h =
+        at more (Next n (Fork us)) i h =
             let j : us ≡ ts = cc in
             let k : 0 ≡ b = cc in
-            record { since = []; answer = x; earlier = got; is = refl; number = k; forking = forking; forks = (n, i ∙ ap (λ vs. Next n (Fork forking vs)) j) }
+            record { since = []; answer = x; earlier = got; is = refl; number = k; forks = (n, i ∙ ap (λ vs. Next n (Fork vs)) j) }
         at more (Next n (Begin k)) i h = let c = begins_behind (mode m got) n k ts b h in later c.0 c.1 (more c.0 c.2)
         at more (Next n Join) i h = absurd (cc)
         at more (Next n (End y)) i h = absurd (cc)
@@ -223,7 +222,11 @@ module _ {N M : Type 0} where
       starts = λ e. asked_at [] Over e;
       goes_on = λ got a c e o.
           ended_by (mode m got) e.0 c (over_ended _ (subst (λ r. May (behind (mode m got) (Next e.0 c)) r) o (then_may got a (Next e.0 c) e.1)));
-      joins_forked = λ got e. (let j = join_mode (mode m got) e.0 (asked_at got (Next e.0 Join) e.1) in (j.0, after_fork got j.0 (length j.0) j.1));
+      joins_forked = λ got e. (let j = join_mode (mode m got) e.0 (asked_at got (Next e.0 Join) e.1) in (j.0, after_fork got j.0 (length j.0.tasks) j.1));
+    }
+
+    pub in_turn : InTurn m
+    in_turn = record {
       begins_forked = λ got b e. (let j = begin_mode (mode m got) e.0 b (asked_at got (Next e.0 (Begin b)) e.1) in (j.0, j.1, after_fork got j.0 b j.2));
     }
 
@@ -270,6 +273,9 @@ module _ {N M : Type 0} where
 
   pub asks_lively : IsLively N M
   asks_lively names P t = lively (ask names P t) (ask_keeps names P t)
+
+  pub asks_in_turn : IsInTurn N M
+  asks_in_turn names P t = in_turn (ask names P t) (ask_keeps names P t)
 
   pub asks_paced : IsPaced N M
   asks_paced names P t = paced (ask names P t) (ask_keeps names P t)

@@ -211,7 +211,7 @@ module _ {N M : Type 0} (names : Naming N M) where
       (λ x v lv. run_fits (k x) v lv)
   run_fits (Split forking ts bs k) w l =
       then_fits _ _ (room w)
-      (bind_fits _ _ (room w) (asked_fits (Fork forking ts) w) (λ a v lv rv. fits_less _ (room v) (room w) rv (begins_fits 0 (length ts) v)))
+      (bind_fits _ _ (room w) (asked_fits (Fork (record { kind = forking; tasks = ts })) w) (λ a v lv rv. fits_less _ (room v) (room w) rv (begins_fits 0 (length ts) v)))
       (λ x v lv. run_fits (k x) v lv)
 
   pub loops_again : (t b : Frame N M → Prog N M) (f : Frame N M) (w : Told N M) → w.since < most_turns

@@ -50,10 +50,14 @@ pub data Own (N M : Type 0) : Type 0 where
   Enter : (effects : List (Effect M)) → Own N M
   Exit : Own N M
 
--- T says what a branch is to do
+-- the branches of a parallel construct, in order. T says what each is to do
+pub record Branches (T : Type 0) : Type 0 where
+  pub kind : Forking
+  pub tasks : List T
+
 pub data Action (N M T : Type 0) : Type 0 where
   Do : (own : Own N M) → Action N M T
-  Fork : (forking : Forking) (tasks : List T) → Action N M T
+  Fork : (branches : Branches T) → Action N M T
   -- of the branch of this number
   Begin : (branch : ℕ) → Action N M T
   Join : Action N M T

@@ -52,7 +52,7 @@ abbrev pub told_join : {N M : Type 0} → Told N M → Out N M (Brought N) (Told
 told_join w = bind (asked Join w) (λ a v. Done (brought a) v)
 
 abbrev pub told_fork : {N M : Type 0} → Forking → List (Task N M) → Told N M → Out N M (Brought N) (Told N M)
-told_fork forking ts w = bind (asked (Fork forking ts) w) (λ a v. begins_then 0 (length ts) told_join v)
+told_fork forking ts w = bind (asked (Fork (record { kind = forking; tasks = ts })) w) (λ a v. begins_then 0 (length ts) told_join v)
 
 abbrev pub told : {N M : Type 0} → Naming N M → World N M (Told N M)
 told names = record {

@@ -1,9 +1,8 @@
 -- What each task keeps to, whatever it is answered: stated of a task's replies to lists of answers, the latest first.
 use Rattle.std.specs.Prelude.{ℕ, suc, ◌≡◌, ◌<◌, ◌≤◌, List, [], ◌∷◌, ◌++◌, length}
-use Rattle.dpj_typed.specs.declared.stmt.Forking.{Forking}
 use Rattle.dpj_typed.specs.Plain.{PlainProgram}
 use Rattle.dpj_meaning.specs.Values.{Naming}
-use Rattle.dpj_meaning.specs.Actions.{Frame, Task, Effect, Ending, Rest, Enter, Action, Do, Fork, Begin, Join, End, Answer, Reply, Next, Over, Unknown}
+use Rattle.dpj_meaning.specs.Actions.{Frame, Task, Branches, Effect, Ending, Rest, Enter, Action, Do, Fork, Begin, Join, End, Answer, Reply, Next, Over, Unknown}
 use Rattle.dpj_meaning.specs.Core.{Result, Prog, Ret, Again, Out, bind, tested, run}
 use Rattle.dpj_meaning.specs.Asking.{most_turns, Told, turned, told, ask}
 
@@ -18,29 +17,30 @@ Asks m got a = (turns : ℕ) × (m got ≡ Next turns a)
 -- without a turn
 pub record Disciplined {N M : Type 0} (m : Replies N M) : Type 0 where
   pub over : (got : List (Answer N M)) (x : Ending N) (a : Answer N M) → Asks m got (End x) → m (a ∷ got) ≡ Over
-  pub begins : (got since : List (Answer N M)) (forking : Forking) (ts : List (Task N M)) (k : ℕ)
-      → Asks m got (Fork forking ts) → length since ≡ suc k → k < length ts → m (since ++ got) ≡ Next 0 (Begin k)
-  pub joins : (got since : List (Answer N M)) (forking : Forking) (ts : List (Task N M))
-      → Asks m got (Fork forking ts) → length since ≡ suc (length ts) → m (since ++ got) ≡ Next 0 Join
+  pub begins : (got since : List (Answer N M)) (ts : Branches (Task N M)) (k : ℕ)
+      → Asks m got (Fork ts) → length since ≡ suc k → k < length ts.tasks → m (since ++ got) ≡ Next 0 (Begin k)
+  pub joins : (got since : List (Answer N M)) (ts : Branches (Task N M))
+      → Asks m got (Fork ts) → length since ≡ suc (length ts.tasks) → m (since ++ got) ≡ Next 0 Join
 
 -- it has got so many answers since that to a fork of these branches
-pub record AfterFork {N M : Type 0} (m : Replies N M) (got : List (Answer N M)) (ts : List (Task N M)) (many : ℕ) : Type 0 where
+pub record AfterFork {N M : Type 0} (m : Replies N M) (got : List (Answer N M)) (ts : Branches (Task N M)) (many : ℕ) : Type 0 where
   pub since : List (Answer N M)
   pub answer : Answer N M
   pub earlier : List (Answer N M)
   pub is : got ≡ since ++ answer ∷ earlier
   pub number : length since ≡ many
-  pub forking : Forking
-  pub forks : Asks m earlier (Fork forking ts)
+  pub forks : Asks m earlier (Fork ts)
 
--- it is known what comes next, and something does until the task has ended; it joins only after a fork and its begins, and
--- begins a branch only after the fork, in turn
+-- it is known what comes next, and something does until the task has ended; and it joins only after a fork and its begins
 pub record Lively {N M : Type 0} (m : Replies N M) : Type 0 where
   pub known : (got : List (Answer N M)) → m got ≡ Unknown → ⊥
   pub starts : m [] ≡ Over → ⊥
   pub goes_on : (got : List (Answer N M)) (a : Answer N M) (c : Action N M (Task N M)) → Asks m got c → m (a ∷ got) ≡ Over → (x : Ending N) × (c ≡ End x)
-  pub joins_forked : (got : List (Answer N M)) → Asks m got Join → (ts : List (Task N M)) × AfterFork m got ts (length ts)
-  pub begins_forked : (got : List (Answer N M)) (b : ℕ) → Asks m got (Begin b) → (ts : List (Task N M)) × (b < length ts) × AfterFork m got ts b
+  pub joins_forked : (got : List (Answer N M)) → Asks m got Join → (ts : Branches (Task N M)) × AfterFork m got ts (length ts.tasks)
+
+-- it begins a branch only after the fork, in turn
+pub record InTurn {N M : Type 0} (m : Replies N M) : Type 0 where
+  pub begins_forked : (got : List (Answer N M)) (b : ℕ) → Asks m got (Begin b) → (ts : Branches (Task N M)) × (b < length ts.tasks) × AfterFork m got ts b
 
 -- a rest that no turns stand before stands in front of an entry, which no turns stand before either; and no more turns than
 -- may be stand before an action, and so many before a rest alone
@@ -55,6 +55,9 @@ IsDisciplined N M = (names : Naming N M) (P : PlainProgram) (t : Task N M) → D
 
 abbrev pub IsLively : Type 0 → Type 0 → Type 0
 IsLively N M = (names : Naming N M) (P : PlainProgram) (t : Task N M) → Lively (ask names P t)
+
+abbrev pub IsInTurn : Type 0 → Type 0 → Type 0
+IsInTurn N M = (names : Naming N M) (P : PlainProgram) (t : Task N M) → InTurn (ask names P t)
 
 abbrev pub IsPaced : Type 0 → Type 0 → Type 0
 IsPaced N M = (names : Naming N M) (P : PlainProgram) (t : Task N M) → Paced (ask names P t)

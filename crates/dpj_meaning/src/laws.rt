@@ -1,6 +1,6 @@
 //! Laws of the meaning, each the clause of a function that does nothing.
 
-ghost use Rattle.dpj_meaning.specs.Tasks.{IsDisciplined, IsLively, IsPaced, LoopsAgain};
+ghost use Rattle.dpj_meaning.specs.Tasks.{IsDisciplined, IsLively, IsInTurn, IsPaced, LoopsAgain};
 ghost use Rattle.dpj_meaning.specs.Laws.{PrintsSum, RestsOnce, BeginsEach, BranchesInOrder, CountsFromFive, ReadsWritten, RunsLoops};
 
 /// Small programs ask what their texts say.
@@ -24,6 +24,7 @@ pub fn law_elision()
 pub fn law_tasks<N, M>()
     ensures disciplined { IsDisciplined N M }
     ensures lively { IsLively N M }
+    ensures in_turn { IsInTurn N M }
     ensures paced { IsPaced N M }
     ensures loops { LoopsAgain N M }
 {}

@@ -1,11 +1,13 @@
 -- The samples.
 use Rattle.std.proofs.Common.{◌≡◌, ◌≢◌, ℕ, pos, Bool, true, false, true≢false, not, ◌||◌, ◌==◌, List, [], ◌∷◌}
 use Rattle.std.proofs.Common.{refl, sym, ap, ◌∙◌, subst, arith, Option, Some, None, slice_get}
+use Rattle.dpj_base.specs.declared.effect.Access.TheVariants as access
 use Rattle.dpj_runs.specs.Actions.{Answer, Assigned, Branches, Deterministic, Do, Enter, Exit, Got, Length, Look, New, Nondeterministic, Out, Program, Read}
+use Rattle.dpj_base.specs.declared.effect.Access.TheVariants as access
 use Rattle.dpj_runs.specs.Actions.{Rest, Returned, Rule, Went, Write}
 use Rattle.dpj_runs.specs.Blocks.{Legal, leaving_locals, without_locals}
 use Rattle.dpj_runs.specs.Meaning.{Disciplined, Known}
-use Rattle.dpj_runs.specs.Objects.{An_array, Effect, Exactly, Int, Local, Name, Path, PatternPart, Reading, Region_name, Star, Value, Writing, same_path}
+use Rattle.dpj_runs.specs.Objects.{An_array, Any_parts, Effect, Int, Local, Made, Name, Part, Path, Region_name, Value, same_path}
 use Rattle.dpj_runs.specs.Order.{write_write}
 use Rattle.dpj_runs.specs.Runs.{Ended, Event, Run, Upto, last_written, mine, reply, things}
 use Rattle.dpj_runs.specs.Standing.{Inside, Outside, Valid, above, first_of, standing}
@@ -26,11 +28,11 @@ use Rattle.dpj_moving.proofs.Insertion.{valid_upto}
 use Rattle.dpj_moving.proofs.Tests.{conflicts_guarded, levels_guarded, without, upto_without}
 
 abbrev writes_to : ℕ → List Effect
-writes_to n = record { access = Writing; region = Exactly (Region_name n) ∷ [] } ∷ []
+writes_to n = record { access = access.Write; region = Region_name n ∷ [] } ∷ []
 
 -- the rule lets a block by where it writes to another region
-abbrev region_name : PatternPart → ℕ
-region_name (Exactly (Region_name n)) = n
+abbrev region_name : Part → ℕ
+region_name (Region_name n) = n
 region_name p = 0
 
 abbrev name_of : List Effect → ℕ
@@ -125,7 +127,7 @@ two_levels : inner (without 15 run) pd ≡ inner (without 7 run) pb → ⊥
 unfolding mine last_written things above first_of inner
 two_levels e = let z : Branch_of (2, 0) pa ≡ All_of [] = e in cc
 
-went_in : Went ≢ Out
+went_in : ◌≢◌ {A = Answer} Went Out
 went_in e = cc
 
 some_conflict : SomeConflict run
@@ -284,10 +286,10 @@ gathering_needs_known =
 
 -- A block in a branch of a deterministic construct waits for a block outside, for an effect on a local region alone
 abbrev wide : List Effect
-wide = record { access = Reading; region = Star ∷ [] } ∷ []
+wide = record { access = access.Read; region = Any_parts ∷ [] } ∷ []
 
 abbrev narrow : List Effect
-narrow = record { access = Writing; region = Exactly (Local (record { maker = pb; count = 0 })) ∷ [] } ∷ []
+narrow = record { access = access.Write; region = Local (Made pb 0) ∷ [] } ∷ []
 
 abbrev is_nil : List Effect → Bool
 is_nil [] = true

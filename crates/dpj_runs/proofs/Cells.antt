@@ -131,7 +131,7 @@ slot_is (pos j) n k e = go (nat_lt j n) refl
     go false h = absurd (let s : None ≡ Some k = sym (cond-false (nat_lt j n) (Some j) None h) ∙ e in cc)
 slot_is (negsuc j) n k e = absurd (let s : None ≡ Some k = e in cc)
 
-pub got_in : (v : Value) → Got v ≢ Out
+pub got_in : (v : Value) → ◌≢◌ {A = Answer} (Got v) Out
 got_in v e = cc
 
 -- conflicts are of plain actions

@@ -1,6 +1,6 @@
 -- The numbers of tasks in a schedule.
 use Rattle.std.proofs.Common.{◌≡◌, ℕ, suc, ◌+◌, ◌<◌, ◌≤◌, [], ◌∷◌, refl, sym, ap, ◌∙◌, arith, ◌++◌, subst}
-use Rattle.dpj_runs.specs.Actions.{Begin, Program, Task}
+use Rattle.dpj_runs.specs.Actions.{Action, Begin, Program, Task}
 use Rattle.dpj_runs.specs.Objects.{Path}
 use Rattle.dpj_runs.specs.Runs.{Begun, Event, Faithful, Run, Upto, branch, count, later, now, root}
 use Rattle.dpj_runs.specs.Schedules.{Numbered, begins, branch_is, one_begin, root_is}
@@ -24,7 +24,7 @@ begins_upto {A} (later {y = e} {ys = R} h) = let a = begins_upto h in let b = be
 begins_less : {G B : Run} {g : Event} (b : ℕ) → Upto (g ∷ G) B → g.act ≡ Begin b → begins G < begins B
 begins_less {G} {B} {g} b h e = let a = begins_upto h in let s = begins_step g G in let o = ap one_begin e in omega arith
 
-pub same_begin : (b c : ℕ) → Begin b ≡ Begin c → b ≡ c
+pub same_begin : (b c : ℕ) → ◌≡◌ {A = Action} (Begin b) (Begin c) → b ≡ c
 same_begin b c e = cc
 
 -- one task to a number

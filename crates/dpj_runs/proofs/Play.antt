@@ -3,7 +3,7 @@ use Rattle.std.proofs.Common.{◌≡◌, ℕ, zero, suc, ◌+◌, ◌⊎◌, inl
 use Rattle.std.proofs.Common.{◌++◌, length, refl, sym, ap, ◌∙◌, subst, arith, Option, Some, None, slice_get, eqb-true}
 use Rattle.std.proofs.lemmas.Bool.{and_parts, cond-true, cond-false}
 use Rattle.std.proofs.lemmas.Option.{slice_get_past}
-use Rattle.dpj_runs.specs.Actions.{Action, Answer, Begin, Branches, Do, End, Ending, Enter, Fork, Join, Next, Over, Program, Reply, Rule, Task, Went}
+use Rattle.dpj_runs.specs.Actions.{Action, Answer, Begin, Branches, Do, End, Ending, Enter, Fork, Join, Next, Over, Program, Reply, Rule, Task, Unknown, Went}
 use Rattle.dpj_runs.specs.Objects.{Effect, Path, same_path}
 use Rattle.dpj_runs.specs.Runs.{Begun, Ended, Event, Joins, Right, Run, Upto, answers, branch, joined, later, mine, now, reply, root}
 use Rattle.dpj_runs.specs.Standing.{Admitted, CanEnter, Inside, Outside, Standing, Valid, standing}
@@ -296,6 +296,7 @@ enter_ok rule R p E e = record { clear = λ w q F h. at w q F h (opener_of R q F
 -- the next event of a task, where it has one that may come now
 abbrev event_for : Program → Run → Path → Reply → Option Event
 event_for P R p Over = None
+event_for P R p Unknown = None
 event_for P R p (Next n a) = when (may_come P.rule R p a) (let_some (answer_to P R p a) (λ x. Some (record { path = p; turns = n; act = a; ans = x })))
 
 abbrev pub next_of : Program → Run → Path → Option Event
@@ -309,6 +310,7 @@ admitted_next P R p e h =
     go : (t : Task) → Begun P R p t → (r : Reply) → P.meaning p t (answers (mine R p)) ≡ r → event_for P R p (P.meaning p t (answers (mine R p))) ≡ Some e
         → Admitted P R e
     go t b Over m k = absurd (let z : None ≡ Some e = sym (ap (event_for P R p) m) ∙ k in cc)
+    go t b Unknown m k = absurd (let z : None ≡ Some e = sym (ap (event_for P R p) m) ∙ k in cc)
     go t b (Next n a) m k =
         let k1 = sym (ap (event_for P R p) m) ∙ k in
         let w = when_parts (may_come P.rule R p a) (let_some (answer_to P R p a) (λ x. Some (record { path = p; turns = n; act = a; ans = x }))) e k1 in

@@ -1,7 +1,7 @@
 -- Some task is ready: where a block is open, one of those in it; else one on the way down from the root.
 use Rattle.std.proofs.Common.{◌≡◌, ℕ, zero, suc, ◌+◌, ◌-◌, ◌<◌, ◌≤◌, ◌⊎◌, inl, inr, ⊎_elim, List, [], ◌∷◌, ◌++◌, length, refl, sym, ap, ◌∙◌, subst, arith}
 use Rattle.std.proofs.Common.{Some, slice_get, length-append}
-use Rattle.dpj_runs.specs.Actions.{Action, Answer, Asks, Begin, Branches, Do, End, Ending, Fork, Join, Next, Over, Own, Program, Reply, Task, Went}
+use Rattle.dpj_runs.specs.Actions.{Action, Answer, Asks, Begin, Branches, Do, End, Ending, Fork, Join, Next, Over, Own, Program, Reply, Task, Unknown, Went}
 use Rattle.dpj_runs.specs.Blocks.{In_block, Out_of, hold, hold_after}
 use Rattle.dpj_runs.specs.Meaning.{Disciplined, Lively}
 use Rattle.dpj_runs.specs.Objects.{Effect, Path}
@@ -87,6 +87,7 @@ module _ (P : Program) (D : Disciplined P) (V : Lively P) (R : Run) (l : Faithfu
 
       go : (r : Reply) → P.meaning p t (answers (mine R p)) ≡ r → (a : Action) × Asks P p t (answers (mine R p)) a
       go Over k = absurd (none (mine R p) refl k)
+      go Unknown k = absurd (V.known p t (answers (mine R p)) k)
       go (Next n a) k = (a, (n, k))
 
   -- no block is open, or this task stands inside one

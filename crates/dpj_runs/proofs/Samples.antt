@@ -1,11 +1,13 @@
 -- The samples.
 use Rattle.std.proofs.Common.{◌≡◌, ℕ, pos, zero, suc, ◌⊎◌, inl, inr, ⊎_elim, Bool, true, false, cond, true≢false, ◌==◌, List}
 use Rattle.std.proofs.Common.{[], ◌∷◌, length, map, refl, sym, ap, ◌∙◌, subst, arith, Option, Some, None, slice_get}
-use Rattle.dpj_runs.specs.Actions.{Action, Answer, Assigned, Begin, Branches, Deterministic, Do, End, Ending, Enter, Exit, Got, Kind, Look, New, Next}
+use Rattle.dpj_base.specs.declared.effect.Access.TheVariants as access
+use Rattle.dpj_typed.specs.declared.stmt.Forking.{Forking}
+use Rattle.dpj_runs.specs.Actions.{Action, Answer, Assigned, Begin, Branches, Deterministic, Do, End, Ending, Enter, Exit, Got, Look, New, Next}
 use Rattle.dpj_runs.specs.Actions.{Nondeterministic, Print, Program, Read, Reply, Rest, Returned, Rule, Went, Write}
 use Rattle.dpj_runs.specs.Blocks.{Allowed, Legal}
 use Rattle.dpj_runs.specs.Meaning.{Paced}
-use Rattle.dpj_runs.specs.Objects.{An_array, Effect, Int, Name, Path, Star, Value, Writing, same_path}
+use Rattle.dpj_runs.specs.Objects.{An_array, Effect, Int, Name, Path, Any_parts, Value, same_path}
 use Rattle.dpj_runs.specs.Order.{Comes, Free, below_join}
 use Rattle.dpj_runs.specs.Runs.{Begun, Ended, Event, Follows, Right, Run, Upto, answers, branch, cells_of, count, last_written, later, mine, now, reply, root}
 use Rattle.dpj_runs.specs.Runs.{steps_of, things, total}
@@ -18,12 +20,12 @@ use Rattle.dpj_runs.proofs.Faithful.{agree_self, next_same, same_task}
 use Rattle.dpj_runs.proofs.Written.{legal_from, admitted_from, legal_faithful}
 use Rattle.dpj_runs.proofs.Schedules.{one_run, recorded, ran_length}
 use Rattle.dpj_runs.proofs.Theorems.{each_comes_out, same_outcome}
-use Rattle.dpj_runs.proofs.Scripts.{main, int, does, forks, Body, body_of, after, task, scripted, script_disciplined, script_lively}
+use Rattle.dpj_runs.proofs.Scripts.{number_of, main, int, does, forks, Body, body_of, after, task, scripted, script_disciplined, script_lively}
 use Rattle.dpj_runs.proofs.Play.{run_of, play, played, task_begun, has_ended_with}
 use Rattle.dpj_runs.proofs.Tests.{is_free, script_free, script_known}
 use Rattle.dpj_runs.proofs.Finishing.{schedules_agree}
 
-abbrev two : Kind → Branches
+abbrev two : Forking → Branches
 two k = record { kind = k; tasks = task 1 ∷ task 2 ∷ [] }
 
 abbrev pa : Path
@@ -311,7 +313,7 @@ determinism_applies =
 
 -- two branches with blocks that the rule keeps apart
 abbrev any_effect : List Effect
-any_effect = record { access = Writing; region = Star ∷ [] } ∷ []
+any_effect = record { access = access.Write; region = Any_parts ∷ [] } ∷ []
 
 abbrev block : Body
 block = record { items = does 0 Rest ∷ does 0 (Enter any_effect) ∷ does 0 (Write main (pos 0) (int 1)) ∷ does 0 Exit ∷ []; ending = Assigned [] }
@@ -463,7 +465,7 @@ rest_paced (suc (suc (suc (suc zero)))) e = absurd (cc)
 rest_paced (suc (suc (suc (suc (suc n))))) e = absurd (cc)
 
 rests_paced : Paced rests
-rests_paced = record { enters = λ p t got a e. by t.body (length got) e }
+rests_paced = record { enters = λ p t got a e. by (number_of t) (length got) e }
   where
     by : (b n : ℕ) → after (body_of (slice_get rested b)).items (body_of (slice_get rested b)).ending n ≡ Next 0 (Do Rest)
         → (E : List Effect) × ((u : ℕ) × (after (body_of (slice_get rested b)).items (body_of (slice_get rested b)).ending (suc n) ≡ Next u (Do (Enter E))))

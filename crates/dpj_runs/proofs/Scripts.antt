@@ -1,8 +1,9 @@
 -- Programs for samples: each task goes through a list of what it does, whatever it is answered.
 use Rattle.std.proofs.Common.{◌≡◌, ℕ, pos, zero, suc, ◌+◌, ◌<◌, ◌≤◌, ◌⊎◌, inl, inr, ⊎_elim, List, [], ◌∷◌, ◌++◌, length, refl, sym, ap}
-use Rattle.std.proofs.Common.{◌∙◌, arith, Option, Some, None, slice_get, length-append}
+use Rattle.std.proofs.Common.{false, ◌∙◌, arith, Option, Some, None, slice_get, length-append}
 use Rattle.std.proofs.lemmas.Bool.{cases_lt}
-use Rattle.dpj_runs.specs.Actions.{Action, Answer, Begin, Branches, Do, End, Ending, Fork, Join, Next, Over, Own, Program, Reply, Returned, Rule, Task}
+use Rattle.dpj_typed.specs.Plain.{no_stmts}
+use Rattle.dpj_runs.specs.Actions.{Action, Answer, Begin, Branches, Do, End, Ending, Fork, Join, Next, Over, Own, Program, Reply, Returned, Rule, Task, Unknown}
 use Rattle.dpj_runs.specs.Meaning.{AfterFork, Disciplined, InTurn, Lively}
 use Rattle.dpj_runs.specs.Objects.{An_object, Int, Name, Null, Path, Thing, Value}
 
@@ -34,8 +35,15 @@ abbrev pub body_of : Option Body → Body
 body_of None = record { items = []; ending = Returned Null }
 body_of (Some b) = b
 
+-- the task that does the body of this number, which is kept where its depth would be
 abbrev pub task : ℕ → Task
-task n = record { body = n; frame = record { values = []; regions = []; locals = []; depth = 0 } }
+task n = record {
+  work = record { is_root = false; takes = None; copies = []; stmts = no_stmts };
+  frame = record { values = []; regions = []; locals = []; left = n };
+}
+
+abbrev pub number_of : Task → ℕ
+number_of t = t.frame.left
 
 -- the object that stands at the start, and its name
 abbrev pub main : Name
@@ -49,7 +57,7 @@ int n = Int (pos n)
 
 abbrev pub scripted : List Body → List Value → Rule → Program
 scripted bodies fields rule = record {
-  meaning = λ p t got. after (body_of (slice_get bodies t.body)).items (body_of (slice_get bodies t.body)).ending (length got);
+  meaning = λ p t got. after (body_of (slice_get bodies (number_of t))).items (body_of (slice_get bodies (number_of t))).ending (length got);
   root = task 0;
   object = main_object fields;
   rule = rule;
@@ -145,10 +153,25 @@ script_disciplined bodies fields rule = record {
 }
   where
     items : Task → List Item
-    items t = (body_of (slice_get bodies t.body)).items
+    items t = (body_of (slice_get bodies (number_of t))).items
 
     ending : Task → Ending
-    ending t = (body_of (slice_get bodies t.body)).ending
+    ending t = (body_of (slice_get bodies (number_of t))).ending
+
+-- it is known
+known_fork : (rest : ℕ → Reply) → ((n : ℕ) → rest n ≡ Unknown → ⊥) → (b k n : ℕ) → after_fork b k rest n ≡ Unknown → ⊥
+known_fork rest f b zero zero e = cc
+known_fork rest f b zero (suc n) e = f n e
+known_fork rest f b (suc k) zero e = cc
+known_fork rest f b (suc k) (suc n) e = known_fork rest f (suc b) k n e
+
+known_after : (is : List Item) (x : Ending) (n : ℕ) → after is x n ≡ Unknown → ⊥
+known_after [] x zero e = cc
+known_after [] x (suc n) e = cc
+known_after (does t o ∷ is) x zero e = cc
+known_after (does t o ∷ is) x (suc n) e = known_after is x n e
+known_after (forks t ts ∷ is) x zero e = cc
+known_after (forks t ts ∷ is) x (suc n) e = known_fork (λ m. after is x m) (known_after is x) 0 (length ts.tasks) n e
 
 -- it starts, and goes on until its end
 starts_after : (is : List Item) (x : Ending) → after is x 0 ≡ Over → ⊥
@@ -283,10 +306,10 @@ split_at (a ∷ got) m l = ⊎_elim (λ h. (let r = split_at got m (omega arith)
     (λ h. record { later_ones = []; earlier = a ∷ got; is = refl; many = omega arith }) (cases_lt m (length (a ∷ got)))
 
 abbrev items_of : List Body → Task → List Item
-items_of bodies t = (body_of (slice_get bodies t.body)).items
+items_of bodies t = (body_of (slice_get bodies (number_of t))).items
 
 abbrev ending_of : List Body → Task → Ending
-ending_of bodies t = (body_of (slice_get bodies t.body)).ending
+ending_of bodies t = (body_of (slice_get bodies (number_of t))).ending
 
 forked : (bodies : List Body) (fields : List Value) (rule : Rule) (p : Path) (t : Task) (got : List Answer) (ts : Branches) (at turns n : ℕ)
     → length got ≡ suc (at + n) → after (items_of bodies t) (ending_of bodies t) at ≡ Next turns (Fork ts)
@@ -313,6 +336,7 @@ forked bodies fields rule p t got ts at turns n num is = go (split_at got (suc a
 
 pub script_lively : (bodies : List Body) (fields : List Value) (rule : Rule) → Lively (scripted bodies fields rule)
 script_lively bodies fields rule = record {
+  known = λ p t got e. known_after (items_of bodies t) (ending_of bodies t) (length got) e;
   starts = λ p t e. starts_after (items_of bodies t) (ending_of bodies t) e;
   goes_on = λ p t got a c e h. goes_after (items_of bodies t) (ending_of bodies t) (length got) e.0 c e.1 h;
   joins_forked = λ p t got e. (

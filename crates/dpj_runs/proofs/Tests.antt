@@ -16,7 +16,7 @@ use Rattle.dpj_runs.proofs.Mine.{test_same, test_other}
 use Rattle.dpj_runs.proofs.Faithful.{follows_at}
 use Rattle.dpj_runs.proofs.Written.{legal_faithful}
 use Rattle.dpj_runs.proofs.Cells.{same_name_eq}
-use Rattle.dpj_runs.proofs.Scripts.{Item, does, forks, Body, body_of, after, after_fork, scripted}
+use Rattle.dpj_runs.proofs.Scripts.{number_of, Item, does, forks, Body, body_of, after, after_fork, scripted}
 
 abbrev same_index : ℤ → ℤ → Bool
 same_index (pos a) (pos b) = a == b
@@ -163,7 +163,7 @@ body_main (b ∷ bs) (suc i) h = body_main bs i (and_parts (items_main b.items) 
 pub script_known : (bodies : List Body) (fields : List Value) (rule : Rule) → bodies_main bodies ≡ true → Known (scripted bodies fields rule)
 script_known bodies fields rule h = record {
   replies = λ R l p t b o e. own_known (scripted bodies fields rule) R p o
-      (after_main (body_of (slice_get bodies t.body)).items (body_of (slice_get bodies t.body)).ending (body_main bodies t.body h)
+      (after_main (body_of (slice_get bodies (number_of t))).items (body_of (slice_get bodies (number_of t))).ending (body_main bodies (number_of t) h)
       (length (answers (mine R p))) e.0 o e.1);
 }
 
@@ -180,7 +180,7 @@ items_quiet (forks t ts ∷ is) = items_quiet is
 
 abbrev no_roots : List Task → Bool
 no_roots [] = true
-no_roots (t ∷ ts) = not (t.body == 0) && no_roots ts
+no_roots (t ∷ ts) = not ((number_of t) == 0) && no_roots ts
 
 abbrev items_below : List Item → Bool
 items_below [] = true
@@ -231,15 +231,15 @@ after_below (forks s ts ∷ is) x h zero t us e = let k : ts ≡ us =
 after_below (forks s ts ∷ is) x h (suc n) t us e = below_fork (λ m. after is x m)
     (λ m u c k. after_below is x (and_parts (no_roots ts.tasks) (items_below is) h).1 m u c k) 0 (length ts.tasks) n t us e
 
-not_root : (ts : List Task) (i : ℕ) (t : Task) → no_roots ts ≡ true → slice_get ts i ≡ Some t → (m : ℕ) × (t.body ≡ suc m)
+not_root : (ts : List Task) (i : ℕ) (t : Task) → no_roots ts ≡ true → slice_get ts i ≡ Some t → (m : ℕ) × ((number_of t) ≡ suc m)
 not_root [] i t h e = absurd (let k : None ≡ Some t = sym (slice_get_past [] i (omega arith)) ∙ e in cc)
-not_root (s ∷ ts) zero t h e = let k : s ≡ t = cc in by t.body
-    (ap (λ (w : Task). not (w.body == 0)) (sym k) ∙ (and_parts (not (s.body == 0)) (no_roots ts) h).0)
+not_root (s ∷ ts) zero t h e = let k : s ≡ t = cc in by (number_of t)
+    (ap (λ (w : Task). not ((number_of w) == 0)) (sym k) ∙ (and_parts (not ((number_of s) == 0)) (no_roots ts) h).0)
   where
     by : (b : ℕ) → not (b == 0) ≡ true → (m : ℕ) × (b ≡ suc m)
     by zero n = absurd (true≢false (sym n))
     by (suc m) n = (m, refl)
-not_root (s ∷ ts) (suc i) t h e = not_root ts i t (and_parts (not (s.body == 0)) (no_roots ts) h).1 e
+not_root (s ∷ ts) (suc i) t h e = not_root ts i t (and_parts (not ((number_of s) == 0)) (no_roots ts) h).1 e
 
 all_below_at : (bodies : List Body) (i : ℕ) → all_below bodies ≡ true → items_below (body_of (slice_get bodies i)).items ≡ true
 all_below_at [] i h = ap (λ b. items_below (body_of b).items) (slice_get_past [] i (omega arith))
@@ -274,14 +274,14 @@ module _ (body : Body) (bodies : List Body) (fields : List Value) (rule : Rule) 
       go (root p t) = absurd (true≢false (sym b ∙ ap below_root p))
       go (branch q u F f ts B g p hf fq fn fa there hg gq ga gn) =
           let s = follows_at its (upto_trans hf (upto_tail hy)) l in
-          let asks : after (body_of (slice_get (body ∷ bodies) s.task.body)).items (body_of (slice_get (body ∷ bodies) s.task.body)).ending
+          let asks : after (body_of (slice_get (body ∷ bodies) (number_of s.task))).items (body_of (slice_get (body ∷ bodies) (number_of s.task))).ending
           (length (answers (mine F f.path))) ≡ Next f.turns (Fork ts) = s.asks ∙ ap (λ c. Next f.turns c) fa in
-          let none = after_below (body_of (slice_get (body ∷ bodies) s.task.body)).items (body_of (slice_get (body ∷ bodies) s.task.body)).ending
-          (all_below_at (body ∷ bodies) s.task.body parts_of.0) (length (answers (mine F f.path))) f.turns ts asks in
+          let none = after_below (body_of (slice_get (body ∷ bodies) (number_of s.task))).items (body_of (slice_get (body ∷ bodies) (number_of s.task))).ending
+          (all_below_at (body ∷ bodies) (number_of s.task) parts_of.0) (length (answers (mine F f.path))) f.turns ts asks in
           let m = not_root ts.tasks u.1 a.task none there in
-          let quiet : items_quiet (body_of (slice_get (body ∷ bodies) a.task.body)).items ≡ true =
+          let quiet : items_quiet (body_of (slice_get (body ∷ bodies) (number_of a.task))).items ≡ true =
           ap (λ n. items_quiet (body_of (slice_get (body ∷ bodies) n)).items) m.1 ∙ all_quiet_at bodies m.0 parts_of.1 in
-          after_quiet (body_of (slice_get (body ∷ bodies) a.task.body)).items (body_of (slice_get (body ∷ bodies) a.task.body)).ending quiet
+          after_quiet (body_of (slice_get (body ∷ bodies) (number_of a.task))).items (body_of (slice_get (body ∷ bodies) (number_of a.task))).ending quiet
           (length (answers (mine Y y.path))) y.turns o (a.asks ∙ ap (λ c. Next y.turns c) k)
 
   pub script_free : AllFree its

@@ -1,6 +1,6 @@
 -- Atomic blocks: who stands inside one, how long it is open, when it may be entered; and with them the legal runs.
 use Rattle.std.specs.Prelude.{ℕ, zero, suc, ◌≡◌, ◌⊎◌, Bool, true, false, List, [], ◌∷◌}
-use Rattle.dpj_runs.specs.Objects.{Path, Part, Region_name, Number, Local, Exactly, Own_index, Any_index, Star, Pattern, Effect}
+use Rattle.dpj_runs.specs.Objects.{Path, Region, Region_name, Number, Local, Own_index, Any_index, Any_parts, Effect}
 use Rattle.dpj_runs.specs.Actions.{Branches, Own, Rest, Read, Write, Look, New, Print, Enter, Exit, Action, Do, Fork, Begin, Join, End, Rule, Program}
 use Rattle.dpj_runs.specs.Runs.{Event, Run, Upto, mine, count, Follows}
 
@@ -70,16 +70,13 @@ Legal P [] = Unit {0}
 Legal P (e ∷ R) = Allowed P R e × Legal P R
 
 -- a rule read more weakly: it leaves aside effects on regions that begin with a made local region
-abbrev pub is_local_part : Part → Bool
-is_local_part (Local r) = true
-is_local_part (Region_name n) = false
-is_local_part (Number k) = false
-
-abbrev pub begins_local : Pattern → Bool
-begins_local (Exactly part ∷ rest) = is_local_part part
+abbrev pub begins_local : Region → Bool
+begins_local (Local r ∷ rest) = true
+begins_local (Region_name n ∷ rest) = false
+begins_local (Number k ∷ rest) = false
 begins_local (Own_index ∷ rest) = false
 begins_local (Any_index ∷ rest) = false
-begins_local (Star ∷ rest) = false
+begins_local (Any_parts ∷ rest) = false
 begins_local [] = false
 
 abbrev pub is_local : Effect → Bool

@@ -1,7 +1,7 @@
 -- What the laws ask of a program, and nothing else.
 use Rattle.std.specs.Prelude.{ℕ, suc, ◌≡◌, ◌<◌, List, [], ◌∷◌, ◌++◌, length, Some}
 use Rattle.dpj_runs.specs.Objects.{Path, Effect}
-use Rattle.dpj_runs.specs.Actions.{Task, Branches, Ending, Own, Rest, Enter, Action, Do, Fork, Begin, Join, End, Answer, Next, Over, Program, Asks}
+use Rattle.dpj_runs.specs.Actions.{Task, Branches, Ending, Own, Rest, Enter, Action, Do, Fork, Begin, Join, End, Answer, Next, Over, Unknown, Program, Asks}
 use Rattle.dpj_runs.specs.Runs.{Run, mine, answers, Begun, reply}
 use Rattle.dpj_runs.specs.Blocks.{Legal}
 
@@ -22,8 +22,9 @@ pub record AfterFork (P : Program) (p : Path) (t : Task) (got : List Answer) (ts
   pub number : length since ≡ many
   pub forks : Asks P p t earlier (Fork ts)
 
--- a task does something next until it has ended, and joins only after a fork and its begins
+-- it is known what a task does next, and it does something until it has ended; it joins only after a fork and its begins
 pub record Lively (P : Program) : Type 0 where
+  pub known : (p : Path) (t : Task) (got : List Answer) → P.meaning p t got ≡ Unknown → ⊥
   pub starts : (p : Path) (t : Task) → P.meaning p t [] ≡ Over → ⊥
   pub goes_on : (p : Path) (t : Task) (got : List Answer) (a : Answer) (c : Action) → Asks P p t got c → P.meaning p t (a ∷ got) ≡ Over
       → (x : Ending) × (c ≡ End x)

@@ -1,5 +1,10 @@
--- What a run speaks of: tasks by their paths, objects by their makers, regions, effects and values.
+-- What a run speaks of: tasks by their paths, objects and local regions by their makers; and with these names the values, regions
+-- and things of the meaning.
 use Rattle.std.specs.Prelude.{ℕ, ℤ, pos, negsuc, Bool, true, false, ◌&&◌, ◌==◌, if◌then◌else◌, nat_lt, List, [], ◌∷◌, length, Option, Some, None, slice_get}
+use Rattle.dpj_meaning.specs.Actions.{Effect as EffectOf}
+use Rattle.dpj_meaning.specs.Values.{Value as ValueOf, Part as PartOf, Region as RegionOf, Thing as ThingOf}
+pub use Rattle.dpj_meaning.specs.Values.{Int, Boolean, Null, Object, Region_name, Number, Local, Own_index, Any_index, Any_parts, An_object, An_array}
+pub use Rattle.dpj_meaning.specs.Costs.{size}
 
 -- A task's name: for each fork above it the number of the event that forked, in the task that forked, and the branch. The
 -- innermost pair stands first, and the root's name is empty.
@@ -20,55 +25,26 @@ pub record Name : Type 0 where
 abbrev pub same_name : Name → Name → Bool
 same_name n m = same_path n.maker m.maker && (n.count == m.count)
 
--- a made local region: the task that made it, and how many this task had made before
-pub record LocalRegion : Type 0 where
-  pub maker : Path
-  pub count : ℕ
+-- a local region: the task that made it, and how many this task had made before; or one that is declared and not made yet
+pub data LocalRegion : Type 0 where
+  Made : (maker : Path) (count : ℕ) → LocalRegion
+  Unmade : (declaration : ℕ) → LocalRegion
 
--- a concrete region is a list of names, whole numbers and made local regions
-pub data Part : Type 0 where
-  Region_name : (name : ℕ) → Part
-  Number : (number : ℤ) → Part
-  Local : (region : LocalRegion) → Part
+abbrev pub Value : Type 0
+Value = ValueOf Name
+
+abbrev pub Part : Type 0
+Part = PartOf LocalRegion
 
 abbrev pub Region : Type 0
-Region = List Part
-
--- a pattern of regions: in an array's, its own index stands for the number of an element
-pub data PatternPart : Type 0 where
-  Exactly : (part : Part) → PatternPart
-  Own_index : PatternPart
-  Any_index : PatternPart
-  Star : PatternPart
-
-abbrev pub Pattern : Type 0
-Pattern = List PatternPart
-
-pub data Access : Type 0 where
-  Reading : Access
-  Writing : Access
+Region = RegionOf LocalRegion
 
 -- an effect with which a block is entered
-pub record Effect : Type 0 where
-  pub access : Access
-  pub region : Pattern
+abbrev pub Effect : Type 0
+Effect = EffectOf LocalRegion
 
-pub data Value : Type 0 where
-  Int : (number : ℤ) → Value
-  Boolean : (truth : Bool) → Value
-  Null : Value
-  Object : (name : Name) → Value
-
--- what is made: an object of a class with its region arguments and the first values of its fields, or an array with the
--- pattern of its regions, its length and the first value of each element
-pub data Thing : Type 0 where
-  An_object : (class : ℕ) (regions : List Region) (fields : List Value) → Thing
-  An_array : (pattern : Pattern) (len : ℕ) (element : Value) → Thing
-
--- how many cells it has
-abbrev pub size : Thing → ℕ
-size (An_object class regions fields) = length fields
-size (An_array pattern len element) = len
+abbrev pub Thing : Type 0
+Thing = ThingOf Name LocalRegion
 
 abbrev pub or_else : {A : Type 0} → Option A → A → A
 or_else None a = a
@@ -76,7 +52,7 @@ or_else (Some v) a = v
 
 abbrev pub first_value : Thing → ℕ → Value
 first_value (An_object class regions fields) slot = or_else (slice_get fields slot) Null
-first_value (An_array pattern len element) slot = element
+first_value (An_array region len element) slot = element
 
 -- a cell of an object or an array, by its slot or index
 pub record Cell : Type 0 where

@@ -131,7 +131,7 @@ wrote_at (Some slot) = Went
 
 abbrev pub seen : Thing → Answer
 seen (An_object class regions fields) = Class class regions
-seen (An_array pattern len element) = Length len
+seen (An_array region len element) = Length len
 
 abbrev pub answered_by : Option Thing → (Thing → Answer) → Option Answer
 answered_by None f = None

@@ -1,0 +1,3 @@
+pub mod Interfering
+pub mod Laws
+pub mod Steps

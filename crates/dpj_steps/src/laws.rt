@@ -1,0 +1,16 @@
+//! The laws of typed programs' runs, each the clause of a function that does nothing.
+
+ghost use Rattle.dpj_steps.specs.Laws.{EachKeeps, RunsAgree, RunsCostNoMore, OutcomesAgree, SchedulesAreBounded, SchedulesComeOutTheSame};
+ghost use Rattle.dpj_steps.specs.Laws.{SchedulesFinish, GreatestInOrder};
+
+/// Each typed program keeps to what the laws of runs ask of a program, so they hold of its runs.
+pub fn law_steps()
+    ensures keeps { EachKeeps }
+    ensures agree { RunsAgree }
+    ensures cost { RunsCostNoMore }
+    ensures outcome { OutcomesAgree }
+    ensures bounded { SchedulesAreBounded }
+    ensures schedules { SchedulesComeOutTheSame }
+    ensures finish { SchedulesFinish }
+    ensures greatest { GreatestInOrder }
+{}
