@@ -253,8 +253,6 @@ module _ {N M : Type 0} (names : Naming N M) (C : PlainCode) (P : PlainProgram) 
           ])
         ]
       ])
-    ]
-  ])
   right_created d dp dh at c own vs b p fs more st f l None is e =
       sim_act (e ∙ ap (λ t. Waits (Do (New (An_object c own t) false)) (λ a. spot b fs (suc p) (name_made a ∷ st) f)) (fields_are C P body_of laid c))
       (λ a. sim_here (name_made a) f l)
