@@ -24,3 +24,9 @@ pub mod OnceMembers
 pub mod OnceClasses
 pub mod OnceText
 pub mod Told
+pub mod Words
+pub mod Expecting
+pub mod ExpectedPaths
+pub mod ExpectedExprs
+pub mod ExpectedStmts
+pub mod ExpectedClasses
