@@ -27,9 +27,10 @@ use Rattle.dpj_parse.proofs.OnceReader.{starts, listed_first}
 use Rattle.dpj_parse.proofs.OncePaths.{goes_on_path, nothing_goes_on}
 use Rattle.dpj_parse.proofs.OnceMembers.{rpl_not, type_not, formals_start, items_start, path_ends}
 use Rattle.dpj_parse.proofs.OnceClasses.{block_starts, members_start, parent_no_less, result_begins}
-use Rattle.dpj_parse.proofs.Words.{is_name, is_less, is_comma, is_semicolon, is_open_paren, is_close_paren, is_open_brace, is_close_brace, is_open_bracket, is_class, is_extends, is_atomic, is_in, is_reads, is_writes, is_pure, is_void}
-use Rattle.dpj_parse.proofs.Expecting.{Expected, one, part, next_of, choose, Steps, pick, stay, Passes, nothing, rule, on_next, took, link, two, is_next, IsLost, lost_not_read, alike, lost_alike}
-use Rattle.dpj_parse.proofs.Expecting.{Part as p}
+use Rattle.dpj_parse.specs.Words.{is_name, is_less, is_comma, is_semicolon, is_open_paren, is_close_paren, is_open_brace, is_close_brace, is_open_bracket, is_class, is_extends, is_atomic, is_in, is_reads, is_writes, is_pure, is_void}
+use Rattle.dpj_parse.specs.Expecting.{Expected, one, part, next_of, choose, Steps, pick, stay, Passes, IsLost}
+use Rattle.dpj_parse.proofs.Expected.{nothing, rule, on_next, took, link, two, is_next, lost_not_read, alike, lost_alike}
+use Rattle.dpj_parse.specs.Expecting.{Part as p}
 use Rattle.dpj_parse.proofs.ExpectedPaths.{unless, where_next, listed_passes, path_passes, args_pass, kind_passes, params_pass, type_passes, class_behind}
 use Rattle.dpj_parse.proofs.ExpectedStmts.{names_pass, block_passes}
 

@@ -19,10 +19,11 @@ use Rattle.dpj_parse.specs.Expressions.{symbol_of, unary_symbol, level_of, left_
 use Rattle.dpj_parse.proofs.OnceReader.{starts, many_first}
 use Rattle.dpj_parse.proofs.OnceExprs.{is_selector, op_next, op_of_symbol, not_leb, suffix_no_paren, Ends, ends_at, ends_at_op, ends_looser, no_selector}
 use Rattle.dpj_parse.proofs.OnceLevels.{level_begins, expr_begins_not, no_close_bracket, no_close_paren, actuals_start, top_of, level_low, left_low, level_left, top_high, further_ends}
-use Rattle.dpj_parse.proofs.Words.{is_any, is_name, is_dot, is_open_bracket, is_close_bracket, is_less, is_comma, is_open_paren, is_close_paren, is_new, is_int, is_boolean}
-use Rattle.dpj_parse.proofs.Expecting.{Expected, one, part, next_of, op_of, climb_parts, choose, Steps, pick, picked, step_next, taken, pass, Passes, rule, on_next, took, link, two, is_next}
-use Rattle.dpj_parse.proofs.Expecting.{Part as p}
-use Rattle.dpj_parse.proofs.Expecting.{nothing as no_more}
+use Rattle.dpj_parse.specs.Words.{is_any, is_name, is_dot, is_open_bracket, is_close_bracket, is_less, is_comma, is_open_paren, is_close_paren, is_new, is_int, is_boolean}
+use Rattle.dpj_parse.specs.Expecting.{Expected, one, part, next_of, op_of, climb_parts, choose, Steps, pick, pass, Passes}
+use Rattle.dpj_parse.proofs.Expected.{picked, step_next, taken, rule, on_next, took, link, two, is_next}
+use Rattle.dpj_parse.specs.Expecting.{Part as p}
+use Rattle.dpj_parse.proofs.Expected.{nothing as no_more}
 use Rattle.dpj_parse.proofs.ExpectedPaths.{unless, where_next, listed_passes, path_passes, args_pass, behind_passes, suffix_no_less}
 use Rattle.dpj_parse.proofs.OncePaths.{goes_on_path}
 

@@ -23,9 +23,10 @@ use Rattle.dpj_parse.specs.Classes.{DerivesAtomic, DerivesKind, DerivesParam, De
 use Rattle.dpj_parse.proofs.OnceReader.{starts, or_left, or_right, not_next, many_first}
 use Rattle.dpj_parse.proofs.OncePaths.{name_starts, goes_on_path, less_or_not, hash_or_not}
 use Rattle.dpj_parse.proofs.OnceMembers.{rpl_not}
-use Rattle.dpj_parse.proofs.Words.{is_name, is_number, is_dot, is_colon, is_star, is_open_bracket, is_close_bracket, is_less, is_greater, is_hash, is_question, is_bar, is_comma, is_region, is_atomic, is_root, is_int, is_boolean}
-use Rattle.dpj_parse.proofs.Expecting.{Part, Expected, one, part, next_of, choose, Passes, nothing, rule, on_next, took, link, two, is_next, next_is}
-use Rattle.dpj_parse.proofs.Expecting.{Part as p}
+use Rattle.dpj_parse.specs.Words.{is_name, is_number, is_dot, is_colon, is_star, is_open_bracket, is_close_bracket, is_less, is_greater, is_hash, is_question, is_bar, is_comma, is_region, is_atomic, is_root, is_int, is_boolean}
+use Rattle.dpj_parse.specs.Expecting.{Part, Expected, one, part, next_of, choose, Passes, next_is}
+use Rattle.dpj_parse.proofs.Expected.{nothing, rule, on_next, took, link, two, is_next}
+use Rattle.dpj_parse.specs.Expecting.{Part as p}
 
 -- a part that a test turns down is read as another one, mostly as nothing
 pub unless : {n : Part} (this : List Expected) {that : List Expected} (test : Terminal → Bool) {before after : List Placed} →

@@ -19,9 +19,10 @@ use Rattle.dpj_parse.proofs.OnceReader.{starts, not_next}
 use Rattle.dpj_parse.proofs.OnceExprs.{ends_at}
 use Rattle.dpj_parse.proofs.OnceLevels.{level_begins, expr_begins_not, no_close_bracket, actuals_start, top_of}
 use Rattle.dpj_parse.proofs.OnceStmts.{expr_no_text, value_no_semicolon, else_or_not, stmt_not_brace, primary_no_target}
-use Rattle.dpj_parse.proofs.Words.{is_name, is_text, is_dot, is_open_bracket, is_close_bracket, is_less, is_comma, is_semicolon, is_assign, is_open_paren, is_close_paren, is_close_brace, is_else}
-use Rattle.dpj_parse.proofs.Expecting.{Part, Expected, one, part, next_of, choose, Steps, pick, picked, step_next, taken, pass, Passes, nothing, rule, on_next, took, link, two, is_next}
-use Rattle.dpj_parse.proofs.Expecting.{Part as p}
+use Rattle.dpj_parse.specs.Words.{is_name, is_text, is_dot, is_open_bracket, is_close_bracket, is_less, is_comma, is_semicolon, is_assign, is_open_paren, is_close_paren, is_close_brace, is_else}
+use Rattle.dpj_parse.specs.Expecting.{Part, Expected, one, part, next_of, choose, Steps, pick, pass, Passes}
+use Rattle.dpj_parse.proofs.Expected.{picked, step_next, taken, nothing, rule, on_next, took, link, two, is_next}
+use Rattle.dpj_parse.specs.Expecting.{Part as p}
 use Rattle.dpj_parse.proofs.ExpectedPaths.{unless, where_next, class_behind, type_passes, suffixes_pass, behind_passes, args_pass}
 use Rattle.dpj_parse.proofs.ExpectedExprs.{args_alone, stops, level_steps, actuals_pass, expr_passes}
 

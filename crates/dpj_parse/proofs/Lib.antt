@@ -24,8 +24,8 @@ pub mod OnceMembers
 pub mod OnceClasses
 pub mod OnceText
 pub mod Told
-pub mod Words
-pub mod Expecting
+pub mod Tested
+pub mod Expected
 pub mod ExpectedPaths
 pub mod ExpectedExprs
 pub mod ExpectedStmts

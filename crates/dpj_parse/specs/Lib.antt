@@ -10,3 +10,5 @@ pub mod Progress
 pub mod Program
 pub mod OneTree
 pub mod OneProgram
+pub mod Words
+pub mod Expecting

@@ -1,19 +1,18 @@
 -- What is expected of a text, as a list of what is still to come: terminals and parts of the grammar. The next terminal
 -- alone says what becomes of the first of them: a part is replaced by what it begins with, a terminal is passed. Where neither
 -- can be, the text is lost.
-use Rattle.std.proofs.Common.{◌≡◌, ◌∙◌, ℕ, suc, List, [], ◌∷◌, ◌++◌, Bool, true, false, cond, ◌&&◌, ◌||◌, leb, Option, Some, None, refl, sym, ap, subst}
-use Rattle.dpj_base.specs.declared.place.Place.{Place}
+use Rattle.std.specs.Prelude.{◌≡◌, ℕ, suc, List, [], ◌∷◌, ◌++◌, Bool, true, false, cond, ◌&&◌, ◌||◌, nat_le, Option, Some, None, Result, Ok, Err}
 use Rattle.dpj_tokens.specs.declared.token.Symbol.{Symbol}
 use Rattle.dpj_tokens.specs.declared.token.Keyword.{Keyword}
 use Rattle.dpj_terminals.specs.declared.terminal.Placed.{Placed}
 use Rattle.dpj_terminals.specs.declared.terminal.Terminal.{Terminal}
 use Rattle.dpj_terminals.specs.declared.terminal.Terminal.TheVariants as terminal
 use Rattle.dpj_tree.specs.declared.expr.BinaryOp.{BinaryOp}
-use Rattle.dpj_parse.specs.Taking.{Takes}
+use Rattle.dpj_parse.specs.Words.{op_at, is_any, is_assign, is_atomic, is_bar, is_boolean, is_class, is_close_brace, is_close_bracket, is_close_paren, is_colon, is_comma, is_dot, is_else, is_extends, is_final, is_foreach_parts, is_greater, is_hash, is_if, is_in, is_int, is_less, is_name, is_new, is_number, is_open_brace, is_open_bracket, is_open_paren, is_print, is_pure, is_question, is_reads, is_region, is_return, is_root, is_semicolon, is_star, is_text, is_void, is_while, is_writes}
+use Rattle.dpj_base.specs.Refused.{IfRefused}
+use Rattle.dpj_base.specs.declared.refusal.Kind.TheVariants as refusal_kind
+use Rattle.dpj_base.specs.declared.refusal.Stop.{Stop}
 use Rattle.dpj_parse.specs.Expressions.{level_of, left_level, Ending, as_value, as_name, as_field, as_element, as_call, as_creation}
-use Rattle.dpj_parse.proofs.OnceReader.{starts}
-use Rattle.dpj_parse.proofs.OnceExprs.{op_at}
-use Rattle.dpj_parse.proofs.Words.{is_any, is_name, is_number, is_text, is_dot, is_colon, is_star, is_open_bracket, is_close_bracket, is_less, is_greater, is_hash, is_question, is_bar, is_comma, is_semicolon, is_assign, is_open_paren, is_close_paren, is_open_brace, is_close_brace, is_minus, is_not, is_class, is_extends, is_atomic, is_region, is_root, is_in, is_reads, is_writes, is_pure, is_void, is_int, is_boolean, is_final, is_if, is_else, is_while, is_return, is_print, is_cobegin, is_cobegin_nd, is_foreach, is_foreach_nd, is_foreach_parts, is_new}
 
 -- the parts of the grammar, as they are read; where one is named for what follows, it may be nothing
 pub data Part : Type 0 where
@@ -128,7 +127,7 @@ op_of (Some next) = op_at next.terminal
 abbrev pub climb_parts : ℕ → ℕ → Option BinaryOp → List Expected
 climb_parts level top None = []
 climb_parts level top (Some op) =
-    cond (leb level (level_of op) && leb (left_level op) top) (one is_any ∷ part (expr (suc (level_of op))) ∷ part (climb level (level_of op)) ∷ []) []
+    cond (nat_le level (level_of op) && nat_le (left_level op) top) (one is_any ∷ part (expr (suc (level_of op))) ∷ part (climb level (level_of op)) ∷ []) []
 
 abbrev pub base_parts : Terminal → List Expected
 base_parts (terminal.Keyword Keyword.Int) = one is_int ∷ []
@@ -316,90 +315,42 @@ pub data Steps (to : List Expected) (left : List Placed) : List Expected → Lis
   pass : {test : Terminal → Bool} {others : List Expected} {next : Placed} {after : List Placed} →
       test next.terminal ≡ true → Steps to left others after → Steps to left (one test ∷ others) (next ∷ after)
 
-pub picked : {to : List Expected} {left : List Placed} {n : Part} {xs others : List Expected} {here : List Placed} →
-    choose n (next_of here) ≡ Some xs → Steps to left (xs ++ others) here → Steps to left (part n ∷ others) here
-picked e s = pick e s
-
-pub step_next : {to : List Expected} {left : List Placed} {n : Part} {xs others : List Expected} {wanted : Terminal} {before between : List Placed} {place : Place} →
-    Takes wanted before between place → choose n (Some (record { terminal = wanted; place = place })) ≡ Some xs → Steps to left (xs ++ others) before → Steps to left (part n ∷ others) before
-step_next {n = n} t e s = pick (ap (λ (l : List Placed). choose n (next_of l)) t.first ∙ e) s
-
-pub taken : {to : List Expected} {left : List Placed} {test : Terminal → Bool} {others : List Expected} {wanted : Terminal} {before after : List Placed} {place : Place} →
-    Takes wanted before after place → test wanted ≡ true → Steps to left others after → Steps to left (one test ∷ others) before
-taken t e s = rw t.first (pass e s)
-
 -- nothing is reached from here
 pub data IsLost : List Expected → List Placed → Type 0 where
   no_part : {n : Part} {others : List Expected} {here : List Placed} → choose n (next_of here) ≡ None → IsLost (part n ∷ others) here
   no_terminal : {test : Terminal → Bool} {others : List Expected} {here : List Placed} → next_is test (next_of here) ≡ false → IsLost (one test ∷ others) here
   too_many : {next : Placed} {after : List Placed} → IsLost [] (next ∷ after)
 
--- the text that a part expects is lost at a terminal or at its end
-pub record IsLostAt (expected : List Expected) (before here : List Placed) : Type 0 where
-  pub to : List Expected
-  pub reached : Steps to here expected before
-  pub lost : IsLost to here
-
--- what is lost isn't read to its end
-pub lost_not_read : {to : List Expected} {here : List Placed} {expected : List Expected} {before : List Placed} → Steps to here expected before → IsLost to here → Steps [] [] expected before → ⊥
-lost_not_read stay (too_many {next = next} {after = after}) x = elim x [ ]
-lost_not_read stay (no_part none) (pick some s) = cc (none, some)
-lost_not_read stay (no_terminal turned) (pass taken s) = cc (turned, taken)
-lost_not_read (pick {xs = xs} {others = others} {here = at} e s) lost (pick f t) =
-    let same : xs ≡ _ = cc (e, f) in
-    lost_not_read s lost (subst (λ (x : List Expected). Steps [] [] (x ++ others) at) (sym same) t)
-lost_not_read (pass e s) lost (pass f t) = lost_not_read s lost t
-
--- what is reached depends on no terminal behind the next one
-pub record Alike (to expected : List Expected) (before here : List Placed) : Type 0 where
-  pub read : List Placed
-  pub is : before ≡ read ++ here
-  pub same : (other : List Placed) → next_of other ≡ next_of here → Steps to other expected (read ++ other)
-
-next_same : (read here other : List Placed) → next_of other ≡ next_of here → next_of (read ++ other) ≡ next_of (read ++ here)
-next_same [] here other e = e
-next_same (next ∷ read) here other e = refl
-
-pub alike : {to : List Expected} {here : List Placed} {expected : List Expected} {before : List Placed} → Steps to here expected before → Alike to expected before here
-alike stay = record { read = []; is = refl; same = λ other e. stay }
-alike (pick {n = n} {xs = xs} {here = before} e s) =
-    let a = alike s in
-    record {
-      read = a.read;
-      is = a.is;
-      same = λ other is. pick (ap (choose n) (next_same a.read _ other is ∙ ap next_of (sym a.is)) ∙ e) (a.same other is);
-    }
-alike (pass {next = next} e s) = let a = alike s in record { read = next ∷ a.read; is = ap (λ (l : List Placed). next ∷ l) a.is; same = λ other is. pass e (a.same other is) }
-
-pub lost_alike : {to : List Expected} {here other : List Placed} → IsLost to here → next_of other ≡ next_of here → IsLost to other
-lost_alike (no_part {n = n} e) is = no_part (ap (choose n) is ∙ e)
-lost_alike (no_terminal {test = test} e) is = no_terminal (ap (next_is test) is ∙ e)
-lost_alike {other = []} too_many is = cc
-lost_alike {other = next ∷ after} too_many is = too_many
-
--- a list is read as these, and another is left
+-- between two places of a text, all that is expected first is read, whatever is expected behind it
 pub record Passes (xs : List Expected) (before after : List Placed) : Type 0 where
   pub goes : {to : List Expected} {left : List Placed} {others : List Expected} → Steps to left others after → Steps to left (xs ++ others) before
 
-pub nothing : {here : List Placed} → Passes [] here here
-nothing = record { goes = λ s. s }
+-- the same, but something else is expected then
+pub record Leads (xs : List Expected) (before : List Placed) (ys : List Expected) (after : List Placed) : Type 0 where
+  pub goes : (others to : List Expected) (left : List Placed) → Steps to left (ys ++ others) after → Steps to left (xs ++ others) before
 
-pub rule : {n : Part} {xs : List Expected} {before after : List Placed} → choose n (next_of before) ≡ Some xs → Passes xs before after → Passes (part n ∷ []) before after
-rule e p = record { goes = λ s. pick e (p.goes s) }
+-- what is expected first is lost on the way, whatever is expected behind it
+pub record LostIn (xs : List Expected) (before here : List Placed) : Type 0 where
+  pub lost : (others : List Expected) → (to : List Expected) × Steps to here (xs ++ others) before × IsLost to here
 
-pub on_next : {n : Part} {xs : List Expected} {wanted : Terminal} {before between after : List Placed} {place : Place} →
-    Takes wanted before between place → choose n (Some (record { terminal = wanted; place = place })) ≡ Some xs → Passes xs before after → Passes (part n ∷ []) before after
-on_next {n} t e p = record { goes = λ s. pick (ap (λ (l : List Placed). choose n (next_of l)) t.first ∙ e) (p.goes s) }
+-- a fact of a refusal that tells a fault of syntax
+abbrev pub IfSyntax : Stop → Type 0 → Type 0
+IfSyntax stop P = IfRefused stop (λ refusal. refusal.kind ≡ refusal_kind.Syntax → P)
 
-pub took : {test : Terminal → Bool} {wanted : Terminal} {before after : List Placed} {place : Place} → Takes wanted before after place → test wanted ≡ true → Passes (one test ∷ []) before after
-took t e = record { goes = λ s. rw t.first (pass e s) }
+-- reading leads on to its end, or a fault of syntax is told where what is expected is lost
+abbrev pub Tells : {A : Type 0} → List Expected → List Placed → Result A Stop → List Placed → Type 0
+Tells xs before (Ok tree) after = Passes xs before after
+Tells xs before (Err stop) here = IfSyntax stop (LostIn xs before here)
 
-pub link : {x : Expected} {xs : List Expected} {before one_after after : List Placed} → Passes (x ∷ []) before one_after → Passes xs one_after after → Passes (x ∷ xs) before after
-link p q = record { goes = λ s. p.goes (q.goes s) }
+-- the same, where something else is expected in the end
+abbrev pub TellsOn : {A : Type 0} → List Expected → List Expected → List Placed → Result A Stop → List Placed → Type 0
+TellsOn xs ys before (Ok tree) after = Leads xs before ys after
+TellsOn xs ys before (Err stop) here = IfSyntax stop (LostIn xs before here)
 
-pub two : {x y : Expected} {xs : List Expected} {before between after : List Placed} → Passes (x ∷ y ∷ []) before between → Passes xs between after → Passes (x ∷ y ∷ xs) before after
-two p q = record { goes = λ s. p.goes (q.goes s) }
+abbrev pub unwrapped : Option (List Expected) → List Expected
+unwrapped None = []
+unwrapped (Some xs) = xs
 
-pub is_next : (test : Terminal → Bool) (before : List Placed) {b : Bool} → starts test before ≡ b → next_is test (next_of before) ≡ b
-is_next test [] e = e
-is_next test (next ∷ after) e = e
+-- what a part begins with in front of these terminals
+abbrev pub begin_of : Part → List Placed → List Expected
+begin_of n here = unwrapped (choose n (next_of here))
