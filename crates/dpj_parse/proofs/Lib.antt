@@ -30,3 +30,4 @@ pub mod ExpectedPaths
 pub mod ExpectedExprs
 pub mod ExpectedStmts
 pub mod ExpectedClasses
+pub mod OneFault

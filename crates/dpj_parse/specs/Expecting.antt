@@ -252,11 +252,13 @@ choose created next = Some (with_next (one is_name ∷ []) created_parts next)
 choose created_rest next = if_next is_open_paren next (part actuals ∷ part selected ∷ []) (part array ∷ [])
 choose array next = Some (one is_open_bracket ∷ part array_open ∷ [])
 choose array_open next =
-    if_next is_close_bracket next (one is_close_bracket ∷ part brackets_behind ∷ part array ∷ []) (part (expr 0) ∷ one is_close_bracket ∷ part brackets_behind ∷ [])
+    if_next is_close_bracket next (one is_close_bracket ∷ part brackets_behind ∷ part array ∷ []) (part
+    (expr 0) ∷ one is_close_bracket ∷ part brackets_behind ∷ [])
 choose inner next = Some (one is_open_paren ∷ part (expr 0) ∷ one is_close_paren ∷ [])
 choose literal next = with_next None literal_parts next
 choose selected next =
-    Some (cond (next_is is_dot next) (one is_dot ∷ part dotted_rest ∷ part selected ∷ []) (cond (next_is is_open_bracket next) (part element ∷ part selected ∷ []) []))
+    Some (cond (next_is is_dot next) (one is_dot ∷ part dotted_rest ∷ part selected ∷ []) (cond (next_is is_open_bracket next)
+    (part element ∷ part selected ∷ []) []))
 choose element next = Some (one is_open_bracket ∷ part (expr 0) ∷ one is_close_bracket ∷ [])
 choose dotted_rest next = if_next is_less next (part args ∷ one is_name ∷ part actuals ∷ []) (one is_name ∷ part actuals_if ∷ [])
 choose actuals_if next = if_next is_open_paren next (part actuals ∷ []) []
@@ -280,7 +282,8 @@ choose after_bracket next =
 choose declared_name next = Some (one is_name ∷ one is_assign ∷ part value ∷ [])
 choose (selected_then ending) next = with_next (ending_parts ending) (selection_parts (ending_parts ending)) next
 choose selection_then next = with_next None (selection_parts None) next
-choose dotted_then next = if_next is_less next (part args ∷ one is_name ∷ part actuals ∷ part (selected_then as_call) ∷ []) (one is_name ∷ part dotted_rest_then ∷ [])
+choose dotted_then next =
+    if_next is_less next (part args ∷ one is_name ∷ part actuals ∷ part (selected_then as_call) ∷ []) (one is_name ∷ part dotted_rest_then ∷ [])
 choose dotted_rest_then next = if_next is_open_paren next (part actuals ∷ part (selected_then as_call) ∷ []) (part (selected_then as_field) ∷ [])
 choose performed next = Some (with_next (part literal ∷ []) performed_parts next)
 choose member next = Some (with_next (part type ∷ []) member_parts next)
@@ -311,7 +314,8 @@ choose more_classes (Some next) = Some (part class ∷ part more_classes ∷ [])
 -- from an expectation and the terminals that are to come, others are reached
 pub data Steps (to : List Expected) (left : List Placed) : List Expected → List Placed → Type 0 where
   stay : Steps to left to left
-  pick : {n : Part} {xs others : List Expected} {here : List Placed} → choose n (next_of here) ≡ Some xs → Steps to left (xs ++ others) here → Steps to left (part n ∷ others) here
+  pick : {n : Part} {xs others : List Expected} {here : List Placed} → choose n (next_of here) ≡ Some xs → Steps to left (xs ++ others) here →
+      Steps to left (part n ∷ others) here
   pass : {test : Terminal → Bool} {others : List Expected} {next : Placed} {after : List Placed} →
       test next.terminal ≡ true → Steps to left others after → Steps to left (one test ∷ others) (next ∷ after)
 

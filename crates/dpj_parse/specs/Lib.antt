@@ -12,3 +12,5 @@ pub mod OneTree
 pub mod OneProgram
 pub mod Words
 pub mod Expecting
+pub mod Viable
+pub mod ExpectedText

@@ -43,10 +43,12 @@ ExprBack = (e : Expr) × (code_expr (plain_expr e) ≡ e)
 
 exprs_back : (es : List ExprBack) → code_exprs (plain_exprs (map plain_expr (map (λ (e : ExprBack). e.0) es))) ≡ map (λ (e : ExprBack). e.0) es
 exprs_back [] = refl
-exprs_back (e ∷ es) = ap (λ (x : Expr). x ∷ code_exprs (plain_exprs (map plain_expr (map (λ (e : ExprBack). e.0) es)))) e.1 ∙ ap (λ (xs : List Expr). e.0 ∷ xs) (exprs_back es)
+exprs_back (e ∷ es) =
+    ap (λ (x : Expr). x ∷ code_exprs (plain_exprs (map plain_expr (map (λ (e : ExprBack). e.0) es)))) e.1 ∙ ap (λ (xs : List Expr). e.0 ∷ xs) (exprs_back es)
 
 kind_back : (y : ExprKind-F KindBack ExprBack) →
-    code_form (expr_form (map-ExprKind ExprKind Expr ExprForm PlainExpr plain_kind plain_expr (map-ExprKind KindBack ExprBack ExprKind Expr (λ k. k.0) (λ e. e.0) y)))
+    code_form (expr_form (map-ExprKind ExprKind Expr ExprForm PlainExpr plain_kind plain_expr (map-ExprKind KindBack ExprBack ExprKind Expr (λ k. k.0)
+    (λ e. e.0) y)))
     ≡ roll-ExprKind (map-ExprKind KindBack ExprBack ExprKind Expr (λ k. k.0) (λ e. e.0) y)
 kind_back (ExprKind-F.Int n) = refl
 kind_back (ExprKind-F.Bool b) = refl
@@ -74,9 +76,11 @@ pub expr_came_back : (e : Expr) → code_expr (plain_expr e) ≡ e
 expr_came_back =
     ind-Expr (λ k. code_form (plain_kind k) ≡ k) (λ e. code_expr (plain_expr e) ≡ e)
     (λ x y is. ap code_form (fold-roll-ExprKind ExprForm PlainExpr expr_form expr_node x)
-    ∙ subst (λ (z : ExprKind-F ExprKind Expr). code_form (expr_form (map-ExprKind ExprKind Expr ExprForm PlainExpr plain_kind plain_expr z)) ≡ roll-ExprKind z) is (kind_back y))
+    ∙ subst (λ (z : ExprKind-F ExprKind Expr). code_form (expr_form
+    (map-ExprKind ExprKind Expr ExprForm PlainExpr plain_kind plain_expr z)) ≡ roll-ExprKind z) is (kind_back y))
     (λ x y is. ap code_expr (fold-roll-Expr ExprForm PlainExpr expr_form expr_node x)
-    ∙ subst (λ (z : Expr-F ExprKind Expr). code_expr (expr_node (map-Expr ExprKind Expr ExprForm PlainExpr plain_kind plain_expr z)) ≡ roll-Expr z) is (expr_back y))
+    ∙ subst (λ (z : Expr-F ExprKind Expr). code_expr (expr_node (map-Expr ExprKind Expr ExprForm PlainExpr plain_kind plain_expr z)) ≡ roll-Expr z) is
+    (expr_back y))
 
 abbrev mutual
   -- the statement that a plain one is of
@@ -99,7 +103,8 @@ abbrev mutual
   code_stmt_form (print_text text) = roll-StmtKind (StmtKind-F.PrintText text)
   code_stmt_form (cobegin nd branches) = roll-StmtKind (StmtKind-F.Cobegin nd (code_stmts branches))
   code_stmt_form (foreach nd var start count body) = roll-StmtKind (StmtKind-F.Foreach nd var (code_expr start) (code_expr count) (code_stmt body))
-  code_stmt_form (foreach_parts view var array count body) = roll-StmtKind (StmtKind-F.ForeachParts view var (code_expr array) (code_expr count) (code_stmt body))
+  code_stmt_form (foreach_parts view var array count body) =
+      roll-StmtKind (StmtKind-F.ForeachParts view var (code_expr array) (code_expr count) (code_stmt body))
   code_stmt_form (atomic all) = roll-StmtKind (StmtKind-F.Atomic (code_stmts all))
   code_stmt_form (local_regions names) = roll-StmtKind (StmtKind-F.Region names)
 
@@ -118,27 +123,33 @@ StmtBack = (s : Stmt) × (code_stmt (plain_stmt s) ≡ s)
 
 stmts_back : (ss : List StmtBack) → code_stmts (plain_stmts (map plain_stmt (map (λ (s : StmtBack). s.0) ss))) ≡ map (λ (s : StmtBack). s.0) ss
 stmts_back [] = refl
-stmts_back (s ∷ ss) = ap (λ (x : Stmt). x ∷ code_stmts (plain_stmts (map plain_stmt (map (λ (s : StmtBack). s.0) ss)))) s.1 ∙ ap (λ (xs : List Stmt). s.0 ∷ xs) (stmts_back ss)
+stmts_back (s ∷ ss) =
+    ap (λ (x : Stmt). x ∷ code_stmts (plain_stmts (map plain_stmt (map (λ (s : StmtBack). s.0) ss)))) s.1 ∙ ap (λ (xs : List Stmt). s.0 ∷ xs) (stmts_back ss)
 
 stmt_kind_back : (y : StmtKind-F StmtKindBack StmtBack) →
-    code_stmt_form (stmt_form (map-StmtKind StmtKind Stmt StmtForm PlainStmt plain_stmt_kind plain_stmt (map-StmtKind StmtKindBack StmtBack StmtKind Stmt (λ k. k.0) (λ s. s.0) y)))
+    code_stmt_form (stmt_form (map-StmtKind StmtKind Stmt StmtForm PlainStmt plain_stmt_kind plain_stmt (map-StmtKind StmtKindBack StmtBack StmtKind Stmt
+    (λ k. k.0) (λ s. s.0) y)))
     ≡ roll-StmtKind (map-StmtKind StmtKindBack StmtBack StmtKind Stmt (λ k. k.0) (λ s. s.0) y)
 stmt_kind_back (StmtKind-F.Block all) = ap (λ x. roll-StmtKind (StmtKind-F.Block x)) (stmts_back all)
 stmt_kind_back (StmtKind-F.Declare is_final ty name value) = ap (λ x. roll-StmtKind (StmtKind-F.Declare is_final ty name x)) (expr_came_back value)
 stmt_kind_back (StmtKind-F.AssignLocal target value) = ap (λ x. roll-StmtKind (StmtKind-F.AssignLocal target x)) (expr_came_back value)
 stmt_kind_back (StmtKind-F.AssignField target value) =
-    ap (λ x. roll-StmtKind (StmtKind-F.AssignField x (code_expr (plain_expr value)))) (expr_came_back target) ∙ ap (λ x. roll-StmtKind (StmtKind-F.AssignField target x)) (expr_came_back value)
+    ap (λ x. roll-StmtKind (StmtKind-F.AssignField x (code_expr (plain_expr value)))) (expr_came_back target)
+    ∙ ap (λ x. roll-StmtKind (StmtKind-F.AssignField target x)) (expr_came_back value)
 stmt_kind_back (StmtKind-F.AssignElement target value) =
-    ap (λ x. roll-StmtKind (StmtKind-F.AssignElement x (code_expr (plain_expr value)))) (expr_came_back target) ∙ ap (λ x. roll-StmtKind (StmtKind-F.AssignElement target x)) (expr_came_back value)
+    ap (λ x. roll-StmtKind (StmtKind-F.AssignElement x (code_expr (plain_expr value)))) (expr_came_back target)
+    ∙ ap (λ x. roll-StmtKind (StmtKind-F.AssignElement target x)) (expr_came_back value)
 stmt_kind_back (StmtKind-F.Do performed) = ap (λ x. roll-StmtKind (StmtKind-F.Do x)) (expr_came_back performed)
 stmt_kind_back (StmtKind-F.If test then_part None) =
-    ap (λ x. roll-StmtKind (StmtKind-F.If x (code_stmt (plain_stmt then_part.0)) None)) (expr_came_back test) ∙ ap (λ x. roll-StmtKind (StmtKind-F.If test x None)) then_part.1
+    ap (λ x. roll-StmtKind (StmtKind-F.If x (code_stmt (plain_stmt then_part.0)) None)) (expr_came_back test)
+    ∙ ap (λ x. roll-StmtKind (StmtKind-F.If test x None)) then_part.1
 stmt_kind_back (StmtKind-F.If test then_part (Some else_part)) =
     ap (λ x. roll-StmtKind (StmtKind-F.If x (code_stmt (plain_stmt then_part.0)) (Some (code_stmt (plain_stmt else_part.0))))) (expr_came_back test)
     ∙ ap (λ x. roll-StmtKind (StmtKind-F.If test x (Some (code_stmt (plain_stmt else_part.0))))) then_part.1
     ∙ ap (λ x. roll-StmtKind (StmtKind-F.If test then_part.0 (Some x))) else_part.1
 stmt_kind_back (StmtKind-F.While test body) =
-    ap (λ x. roll-StmtKind (StmtKind-F.While x (code_stmt (plain_stmt body.0)))) (expr_came_back test) ∙ ap (λ x. roll-StmtKind (StmtKind-F.While test x)) body.1
+    ap (λ x. roll-StmtKind (StmtKind-F.While x (code_stmt (plain_stmt body.0)))) (expr_came_back test)
+    ∙ ap (λ x. roll-StmtKind (StmtKind-F.While test x)) body.1
 stmt_kind_back (StmtKind-F.Return None) = refl
 stmt_kind_back (StmtKind-F.Return (Some value)) = ap (λ x. roll-StmtKind (StmtKind-F.Return (Some x))) (expr_came_back value)
 stmt_kind_back (StmtKind-F.Print value) = ap (λ x. roll-StmtKind (StmtKind-F.Print x)) (expr_came_back value)
@@ -156,7 +167,8 @@ stmt_kind_back (StmtKind-F.Atomic all) = ap (λ x. roll-StmtKind (StmtKind-F.Ato
 stmt_kind_back (StmtKind-F.Region names) = refl
 
 stmt_back : (y : Stmt-F StmtKindBack StmtBack) →
-    code_stmt (stmt_node (map-Stmt StmtKind Stmt StmtForm PlainStmt plain_stmt_kind plain_stmt (map-Stmt StmtKindBack StmtBack StmtKind Stmt (λ k. k.0) (λ s. s.0) y)))
+    code_stmt (stmt_node (map-Stmt StmtKind Stmt StmtForm PlainStmt plain_stmt_kind plain_stmt (map-Stmt StmtKindBack StmtBack StmtKind Stmt (λ k. k.0)
+    (λ s. s.0) y)))
     ≡ roll-Stmt (map-Stmt StmtKindBack StmtBack StmtKind Stmt (λ k. k.0) (λ s. s.0) y)
 stmt_back y = ap (λ x. roll-Stmt (record { place = y.place; kind = x })) y.kind.1
 
@@ -164,10 +176,13 @@ pub stmt_came_back : (s : Stmt) → code_stmt (plain_stmt s) ≡ s
 stmt_came_back =
     ind-Stmt (λ k. code_stmt_form (plain_stmt_kind k) ≡ k) (λ s. code_stmt (plain_stmt s) ≡ s)
     (λ x y is. ap code_stmt_form (fold-roll-StmtKind StmtForm PlainStmt stmt_form stmt_node x)
-    ∙ subst (λ (z : StmtKind-F StmtKind Stmt). code_stmt_form (stmt_form (map-StmtKind StmtKind Stmt StmtForm PlainStmt plain_stmt_kind plain_stmt z)) ≡ roll-StmtKind z) is (stmt_kind_back y))
+    ∙ subst (λ (z : StmtKind-F StmtKind Stmt). code_stmt_form (stmt_form
+    (map-StmtKind StmtKind Stmt StmtForm PlainStmt plain_stmt_kind plain_stmt z)) ≡ roll-StmtKind z) is (stmt_kind_back y))
     (λ x y is. ap code_stmt (fold-roll-Stmt StmtForm PlainStmt stmt_form stmt_node x)
-    ∙ subst (λ (z : Stmt-F StmtKind Stmt). code_stmt (stmt_node (map-Stmt StmtKind Stmt StmtForm PlainStmt plain_stmt_kind plain_stmt z)) ≡ roll-Stmt z) is (stmt_back y))
+    ∙ subst (λ (z : Stmt-F StmtKind Stmt). code_stmt (stmt_node (map-Stmt StmtKind Stmt StmtForm PlainStmt plain_stmt_kind plain_stmt z)) ≡ roll-Stmt z) is
+    (stmt_back y))
 
 pub stmts_came_back : (ss : List Stmt) → code_stmts (plain_stmts (map plain_stmt ss)) ≡ ss
 stmts_came_back [] = refl
-stmts_came_back (s ∷ ss) = ap (λ (x : Stmt). x ∷ code_stmts (plain_stmts (map plain_stmt ss))) (stmt_came_back s) ∙ ap (λ (xs : List Stmt). s ∷ xs) (stmts_came_back ss)
+stmts_came_back (s ∷ ss) =
+    ap (λ (x : Stmt). x ∷ code_stmts (plain_stmts (map plain_stmt ss))) (stmt_came_back s) ∙ ap (λ (xs : List Stmt). s ∷ xs) (stmts_came_back ss)
