@@ -25,7 +25,7 @@ use Rattle.dpj_check.specs.declared.node.Node.{Node}
 use Rattle.dpj_check.specs.Deciding.{local_fault, is_misplaced, Returned}
 use Rattle.dpj_check.specs.Noting.{fault_of, with_fault, with_found, with_fault_if}
 use Rattle.dpj_check.specs.Simple.{may_print, target_fault, declared_type, declared_told, declaration_noted, local_declared, FitIs, AssigningLocal, AssigningPlace, Declaring, Printing, Returning}
-use Rattle.dpj_check.specs.Walks.{Verdict, passes, refused, judged, found_so, scope_so, walk_of, with_env, Says}
+use Rattle.dpj_check.specs.Walks.{Verdict, passes, refused, judged, scope_so, walk_of, with_env, Says}
 use Rattle.dpj_check.proofs.Passing.{settled_says, judged_at, judged_none, judged_some}
 
 pub printed_says : (node noted : Node) (e : PlainExpr) (b : Body) (f g : Found) (t : Option PlainType) (may : Bool) (r : Result (Unit {0}) Stop) →

@@ -1,8 +1,7 @@
 -- The parts of a `foreach_parts`: what is said of each way through the code that checks one.
-use Rattle.std.proofs.Common.{◌≡◌, ◌∙◌, ◌+◌, ℕ, Bool, true, false, not, Option, Some, None, Result, Err, refl, sym, ap}
+use Rattle.std.proofs.Common.{◌≡◌, ◌∙◌, ◌+◌, ℕ, Bool, true, false, not, Option, None, Result, Err, refl, sym, ap}
 use Rattle.std.specs.Result.{IsErrAnd}
 use Rattle.dpj_base.specs.declared.refusal.Kind.TheVariants as kind
-use Rattle.dpj_base.specs.declared.refusal.Refusal.{Refusal}
 use Rattle.dpj_base.specs.declared.refusal.Stop.{Stop}
 use Rattle.dpj_base.specs.Refused.{IfRefused}
 use Rattle.dpj_headers.specs.Faults.{settled}
@@ -23,7 +22,7 @@ use Rattle.dpj_check.specs.Gathering.{taken_in, handed_on}
 use Rattle.dpj_check.specs.Keeping.{inside}
 use Rattle.dpj_check.specs.Leaving.{from_here}
 use Rattle.dpj_check.specs.Noting.{fault_of, settled_node, with_fault_if}
-use Rattle.dpj_check.specs.Walks.{Walk, Verdict, passes, refused, apart_from, nothing_found, walk_of, home_of, Says}
+use Rattle.dpj_check.specs.Walks.{Walk, passes, refused, apart_from, nothing_found, walk_of, home_of, Says}
 use Rattle.dpj_check.proofs.Homes.{parts_at_home, piece_begun}
 use Rattle.dpj_check.proofs.Passing.{stopped, settle_stopped, judged_none, judged_some, noted_twice, walk_from, closed_is}
 

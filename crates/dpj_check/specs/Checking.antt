@@ -159,13 +159,18 @@ mutual
         AssigningPlace node target value w v → Checking params around node (form.assign_field target value) w v
     of_element_assignment : {around : Around} {node : Node} {target value : PlainExpr} {w : Walk} {v : Verdict} →
         AssigningPlace node target value w v → Checking params around node (form.assign_element target value) w v
-    of_call : {around : Around} {node : Node} {value : PlainExpr} {w : Walk} {v : Verdict} → Performing node value w v → Checking params around node (form.perform value) w v
+    of_call : {around : Around} {node : Node} {value : PlainExpr} {w : Walk} {v : Verdict} → Performing node value w v →
+        Checking params around node (form.perform value) w v
     of_return : {around : Around} {node : Node} {w : Walk} {v : Verdict} →
         judged (fault_of (with_fault_if node kind.Return (is_misplaced around false))) w ≡ v → Checking params around node form.return_nothing w v
-    of_return_value : {around : Around} {node : Node} {value : PlainExpr} {w : Walk} {v : Verdict} → Returning around node value w v → Checking params around node (form.return_value value) w v
-    of_print : {around : Around} {node : Node} {value : PlainExpr} {w : Walk} {v : Verdict} → Printing node value w v → Checking params around node (form.print value) w v
-    of_text : {around : Around} {node : Node} {text : List ℕ} {w : Walk} {v : Verdict} → judged (fault_of node) w ≡ v → Checking params around node (form.print_text text) w v
-    of_regions : {around : Around} {node : Node} {names : List Named} {w : Walk} {v : Verdict} → regions_declared node names w ≡ v → Checking params around node (form.local_regions names) w v
+    of_return_value : {around : Around} {node : Node} {value : PlainExpr} {w : Walk} {v : Verdict} → Returning around node value w v →
+        Checking params around node (form.return_value value) w v
+    of_print : {around : Around} {node : Node} {value : PlainExpr} {w : Walk} {v : Verdict} → Printing node value w v →
+        Checking params around node (form.print value) w v
+    of_text : {around : Around} {node : Node} {text : List ℕ} {w : Walk} {v : Verdict} → judged (fault_of node) w ≡ v →
+        Checking params around node (form.print_text text) w v
+    of_regions : {around : Around} {node : Node} {names : List Named} {w : Walk} {v : Verdict} → regions_declared node names w ≡ v →
+        Checking params around node (form.local_regions names) w v
     -- the condition, then the part that depends on it
     test_refused : {around : Around} {node : Node} {test : PlainExpr} {part : PlainStmt} {w : Walk} {refusal : Refusal} →
         Typing w.env test w.found (answer.refused refusal) → Checking params around node (form.choice test part) w (refused refusal)
@@ -175,11 +180,14 @@ mutual
     -- the condition, then both parts, one after the other
     either_test_refused : {around : Around} {node : Node} {test : PlainExpr} {first second : PlainStmt} {w : Walk} {refusal : Refusal} →
         Typing w.env test w.found (answer.refused refusal) → Checking params around node (form.choice_else test first second) w (refused refusal)
-    first_refused : {around : Around} {node : Node} {test : PlainExpr} {first second : PlainStmt} {w : Walk} {t : Option PlainType} {g : Found} {refusal : Refusal} →
-        Typing w.env test w.found (gives t g) → InScope params around first (found_so w g) (refused refusal) → Checking params around node (form.choice_else test first second) w (refused refusal)
+    first_refused : {around : Around} {node : Node} {test : PlainExpr} {first second : PlainStmt} {w : Walk} {t : Option PlainType} {g : Found}
+        {refusal : Refusal} →
+        Typing w.env test w.found (gives t g) → InScope params around first (found_so w g) (refused refusal) →
+        Checking params around node (form.choice_else test first second) w (refused refusal)
     of_either : {around : Around} {node : Node} {test : PlainExpr} {first second : PlainStmt} {w x : Walk} {t : Option PlainType} {g : Found} {u v : Verdict} →
         Typing w.env test w.found (gives t g) → InScope params around first (found_so w g) (passes x) → InScope params around second x u →
-        behind (fault_of (with_fault_if node kind.Type (not (may_be is_boolean t)))) u ≡ v → Checking params around node (form.choice_else test first second) w v
+        behind (fault_of (with_fault_if node kind.Type (not (may_be is_boolean t)))) u ≡ v →
+        Checking params around node (form.choice_else test first second) w v
     -- the condition, then the body
     while_refused : {around : Around} {node : Node} {test : PlainExpr} {body : PlainStmt} {w : Walk} {refusal : Refusal} →
         Typing w.env test w.found (answer.refused refusal) → Checking params around node (form.while_loop test body) w (refused refusal)
@@ -187,15 +195,20 @@ mutual
         Typing w.env test w.found (gives t g) → InScope params around body (found_so w g) u →
         behind (fault_of (with_fault_if node kind.Type (not (may_be is_boolean t)))) u ≡ v → Checking params around node (form.while_loop test body) w v
     -- the branches
-    of_cobegin : {around : Around} {node : Node} {nd : Bool} {branches : PlainStmts} {w : Walk} {v : Verdict} → Forking params around node nd branches w v → Checking params around node (form.cobegin nd branches) w v
+    of_cobegin : {around : Around} {node : Node} {nd : Bool} {branches : PlainStmts} {w : Walk} {v : Verdict} → Forking params around node nd branches w v →
+        Checking params around node (form.cobegin nd branches) w v
     -- start and count, then the body
     start_refused : {around : Around} {node : Node} {nd : Bool} {var : Named} {start count : PlainExpr} {body : PlainStmt} {w : Walk} {refusal : Refusal} →
         Typing w.env start w.found (answer.refused refusal) → Checking params around node (form.foreach nd var start count body) w (refused refusal)
-    count_refused : {around : Around} {node : Node} {nd : Bool} {var : Named} {start count : PlainExpr} {body : PlainStmt} {w : Walk} {t : Option PlainType} {g : Found} {refusal : Refusal} →
-        Typing w.env start w.found (gives t g) → Typing w.env count g (answer.refused refusal) → Checking params around node (form.foreach nd var start count body) w (refused refusal)
-    of_foreach : {around : Around} {node : Node} {nd : Bool} {var : Named} {start count : PlainExpr} {body : PlainStmt} {w : Walk} {t u : Option PlainType} {g h : Found} {v : Verdict} →
+    count_refused : {around : Around} {node : Node} {nd : Bool} {var : Named} {start count : PlainExpr} {body : PlainStmt} {w : Walk} {t : Option PlainType}
+        {g : Found} {refusal : Refusal} →
+        Typing w.env start w.found (gives t g) → Typing w.env count g (answer.refused refusal) →
+        Checking params around node (form.foreach nd var start count body) w (refused refusal)
+    of_foreach : {around : Around} {node : Node} {nd : Bool} {var : Named} {start count : PlainExpr} {body : PlainStmt} {w : Walk} {t u : Option PlainType}
+        {g h : Found} {v : Verdict} →
         Typing w.env start w.found (gives t g) → Typing w.env count g (gives u h) →
-        Iterating params around (with_fault_if (with_fault_if node kind.Type (not (may_be is_int t))) kind.Type (not (may_be is_int u))) nd var body (found_so w h) v →
+        Iterating params around (with_fault_if (with_fault_if node kind.Type (not (may_be is_int t))) kind.Type (not (may_be is_int u))) nd var body
+        (found_so w h) v →
         Checking params around node (form.foreach nd var start count body) w v
     -- array and count, then the body
     of_parts : {around : Around} {node : Node} {view var : Named} {array count : PlainExpr} {body : PlainStmt} {w : Walk} {v : Verdict} →
@@ -216,11 +229,13 @@ mutual
 
   -- a branch or a body, which has a scope of its own
   pub data InScope (params : List Bool) : Around → PlainStmt → Walk → Verdict → Type 0 where
-    in_scope : {around : Around} {s : PlainStmt} {w : Walk} {u v : Verdict} → Standing params around false s w u → left_scope w u ≡ v → InScope params around s w v
+    in_scope : {around : Around} {s : PlainStmt} {w : Walk} {u v : Verdict} → Standing params around false s w u → left_scope w u ≡ v →
+        InScope params around s w v
 
   -- the statements of a block, in a scope of their own
   pub data InBlock (params : List Bool) : Around → PlainStmts → Walk → Verdict → Type 0 where
-    in_block : {around : Around} {all : PlainStmts} {w : Walk} {u v : Verdict} → InOrder params around true all (apart_from w) u → block_left w u ≡ v → InBlock params around all w v
+    in_block : {around : Around} {all : PlainStmts} {w : Walk} {u v : Verdict} → InOrder params around true all (apart_from w) u → block_left w u ≡ v →
+        InBlock params around all w v
 
   -- statements one after the other, where those before them complete or not
   pub data InOrder (params : List Bool) : Around → Bool → PlainStmts → Walk → Verdict → Type 0 where
@@ -228,7 +243,8 @@ mutual
     statement_refused : {around : Around} {complete : Bool} {s : PlainStmt} {ss : PlainStmts} {w : Walk} {refusal : Refusal} →
         Standing params around (not complete) s w (refused refusal) → InOrder params around complete (more_stmts s ss) w (refused refusal)
     then_others : {around : Around} {complete : Bool} {s : PlainStmt} {ss : PlainStmts} {w u : Walk} {v : Verdict} →
-        Standing params around (not complete) s w (passes u) → InOrder params around (complete && completes s) ss u v → InOrder params around complete (more_stmts s ss) w v
+        Standing params around (not complete) s w (passes u) → InOrder params around (complete && completes s) ss u v →
+        InOrder params around complete (more_stmts s ss) w v
 
   -- the branches of a `cobegin`, each of which is gathered by itself
   pub data Branching (params : List Bool) : Around → Bool → PlainStmts → Walk → BranchesVerdict → Type 0 where
@@ -244,13 +260,16 @@ mutual
   pub data Forking (params : List Bool) : Around → Node → Bool → PlainStmts → Walk → Verdict → Type 0 where
     some_refused : {around : Around} {node : Node} {nd : Bool} {branches : PlainStmts} {w : Walk} {refusal : Refusal} →
         Branching params (inside around) nd branches w (one_refused refusal) → Forking params around node nd branches w (refused refusal)
-    clashing : {around : Around} {node : Node} {nd : Bool} {branches : PlainStmts} {w u : Walk} (effects : List (List Effect)) (touched : List Touched) (clash : Bool) {refusal : Refusal} →
+    clashing : {around : Around} {node : Node} {nd : Bool} {branches : PlainStmts} {w u : Walk} (effects : List (List Effect)) (touched : List Touched)
+        (clash : Bool) {refusal : Refusal} →
         Branching params (inside around) nd branches w (all_pass effects touched u) → ClashIs touched clash →
         fault_of (with_fault_if node kind.Assign clash) ≡ Some refusal → Forking params around node nd branches w (refused refusal)
-    forked : {around : Around} {node : Node} {nd : Bool} {branches : PlainStmts} {w u : Walk} (effects : List (List Effect)) (touched : List Touched) (clash apart : Bool) {v : Verdict} →
+    forked : {around : Around} {node : Node} {nd : Bool} {branches : PlainStmts} {w u : Walk} (effects : List (List Effect)) (touched : List Touched)
+        (clash apart : Bool) {v : Verdict} →
         Branching params (inside around) nd branches w (all_pass effects touched u) → ClashIs touched clash →
         fault_of (with_fault_if node kind.Assign clash) ≡ None → BranchesApart params nd w.env effects apart →
-        judged (fault_of (with_fault_if (settled_node (with_fault_if node kind.Assign clash)) (interference nd) (not apart))) (gathers (with_nd nd u.found) u) ≡ v →
+        judged (fault_of (with_fault_if (settled_node (with_fault_if node kind.Assign clash)) (interference nd) (not apart)))
+        (gathers (with_nd nd u.found) u) ≡ v →
         Forking params around node nd branches w v
 
   -- a `foreach` after its start and count: the variable, the body, whether this assigns outer locals, then whether its
@@ -275,13 +294,16 @@ mutual
   pub data Parting (params : List Bool) : Around → Node → Named → Named → PlainExpr → PlainExpr → PlainStmt → Walk → Verdict → Type 0 where
     range_refused : {around : Around} {node : Node} {view var : Named} {array count : PlainExpr} {body : PlainStmt} {w : Walk} {refusal : Refusal} →
         Opening node view var array count w (not_opened refusal) → Parting params around node view var array count body w (refused refusal)
-    part_refused : {around : Around} {node : Node} {view var : Named} {array count : PlainExpr} {body : PlainStmt} {w x : Walk} {outer : Option ℕ} {noted : Node} {refusal : Refusal} →
+    part_refused : {around : Around} {node : Node} {view var : Named} {array count : PlainExpr} {body : PlainStmt} {w x : Walk} {outer : Option ℕ}
+        {noted : Node} {refusal : Refusal} →
         Opening node view var array count w (opened outer noted x) → InScope params (inside around) body (apart_from x) (refused refusal) →
         Parting params around node view var array count body w (refused refusal)
-    part_assigning : {around : Around} {node : Node} {view var : Named} {array count : PlainExpr} {body : PlainStmt} {w x u : Walk} {outer : Option ℕ} {noted : Node} (assigns : Bool) {refusal : Refusal} →
+    part_assigning : {around : Around} {node : Node} {view var : Named} {array count : PlainExpr} {body : PlainStmt} {w x u : Walk} {outer : Option ℕ}
+        {noted : Node} (assigns : Bool) {refusal : Refusal} →
         Opening node view var array count w (opened outer noted x) → InScope params (inside around) body (apart_from x) (passes u) → AssignsIs body assigns →
         fault_of (with_fault_if noted kind.Assign assigns) ≡ Some refusal → Parting params around node view var array count body w (refused refusal)
-    parted : {around : Around} {node : Node} {view var : Named} {array count : PlainExpr} {body : PlainStmt} {w x u : Walk} {outer : Option ℕ} {noted : Node} (assigns : Bool) {v : Verdict} →
+    parted : {around : Around} {node : Node} {view var : Named} {array count : PlainExpr} {body : PlainStmt} {w x u : Walk} {outer : Option ℕ} {noted : Node}
+        (assigns : Bool) {v : Verdict} →
         Opening node view var array count w (opened outer noted x) → InScope params (inside around) body (apart_from x) (passes u) → AssignsIs body assigns →
         fault_of (with_fault_if noted kind.Assign assigns) ≡ None →
         judged (fault_of (with_fault_if (settled_node (with_fault_if noted kind.Assign assigns)) kind.Interferes

@@ -150,7 +150,10 @@ fn repeated(
 {
     let mut node = node;
     match &stmt.kind {
-        StmtKind::While { test, body: iteration } => {
+        StmtKind::While {
+            test,
+            body: iteration,
+        } => {
             let _test = body.boolean(test, out, &mut node)?;
             scoped(body, around, iteration.get(), out)?;
             node.settle()

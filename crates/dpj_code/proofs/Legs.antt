@@ -6,7 +6,7 @@ use Rattle.dpj_meaning.specs.Actions.{Rest, Action, Do, End, Answer, Reply, Next
 use Rattle.dpj_meaning.specs.Asking.{most_turns}
 use Rattle.dpj_code.specs.Plain.{PlainCode}
 use Rattle.dpj_code.specs.Machine.{Start, State, Stand, Goes, Turns, Makes, Waits, Ends, Stuck, answered, turned, stood, step, solo, begins_at, Solo}
-use Rattle.dpj_code.specs.Legs.{Halt, Asks, Finished, Dead, legged_turn, legged, leg, Leg, Halts, said}
+use Rattle.dpj_code.specs.Legs.{Halt, Asks, Finished, Dead, legged_turn, legged, leg, Halts, said}
 
 pub record Run {N M : Type 0} (names : Naming N M) (C : PlainCode) (n m : ℕ) (s : State N M) (xs : List (Answer N M)) (r : Reply N M (Start N M)) : Type 0 where
   pub fuel : ℕ

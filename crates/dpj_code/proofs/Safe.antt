@@ -1,7 +1,6 @@
 -- Fit code never gets stuck, and its local steps end.
-use Rattle.std.proofs.Common.{◌≡◌, ◌<◌, ◌≤◌, ℕ, zero, suc, ◌+◌, ◌-◌, ℤ, pos, negsuc, Bool, true, false, cond, List, [], ◌∷◌, ◌++◌, map, length, reverse, refl, sym, ap, ◌∙◌, subst, arith, Option, Some, None, slice_get, slice_set, ◌==◌, option_and_then}
+use Rattle.std.proofs.Common.{◌≡◌, ◌<◌, ◌≤◌, ℕ, zero, suc, ◌+◌, ℤ, pos, negsuc, Bool, true, false, cond, List, [], ◌∷◌, map, length, reverse, refl, sym, ap, ◌∙◌, subst, arith, Option, Some, None, slice_get, slice_set, ◌==◌}
 use Rattle.std.proofs.lemmas.List.{length-set}
-use Rattle.std.proofs.lemmas.Bool.{eqb-true}
 use Rattle.std.specs.List.{list_any}
 use Rattle.dpj_base.specs.declared.place.Place.{Place}
 use Rattle.dpj_base.specs.declared.region.Rpl.{Rpl}
@@ -11,19 +10,19 @@ use Rattle.dpj_base.specs.declared.value.Value.{Value as Constant}
 use Rattle.dpj_typed.specs.declared.expr.BinaryOp.{BinaryOp}
 use Rattle.dpj_typed.specs.declared.expr.BinaryOp.TheVariants as op
 use Rattle.dpj_typed.specs.declared.stmt.Forking.{Forking}
-use Rattle.dpj_typed.specs.Plain.{PlainParent}
 use Rattle.dpj_meaning.specs.Values.{Value, Int, Region, Naming}
-use Rattle.dpj_meaning.specs.Actions.{Frame, Answer}
-use Rattle.dpj_meaning.specs.Counts.{number, truth, reference, value_read, is_out, name_made, is_below, class_entered, operated, part_place, class_seen, length_seen, slot_value, how_many, padded, part_taken, part_first, part_length, copied, copied_one, Brought, Back, Trap_of_branch, brought}
+use Rattle.dpj_meaning.specs.Actions.{Frame}
+use Rattle.dpj_meaning.specs.Counts.{number, truth, reference, value_read, is_out, name_made, class_entered, operated, part_place, class_seen, length_seen, slot_value, how_many, padded, part_taken, part_first, part_length, copied, copied_one, Brought, Back, Trap_of_branch, brought}
 use Rattle.dpj_meaning.specs.Regions.{around, concrete, is_long, some_long, unmade_from}
 use Rattle.dpj_meaning.specs.Expressions.{none}
 use Rattle.dpj_meaning.specs.Statements.{numbered_frame}
 use Rattle.dpj_code.specs.declared.instr.Instr.{Instr}
 use Rattle.dpj_code.specs.declared.instr.Instr.TheVariants as i
-use Rattle.dpj_code.specs.Plain.{Line, PlainBody, Site, fork_site, spread_site, block_site, call_site, new_site, array_site, PlainCode, body_at, parent_of, constructor_of}
+use Rattle.dpj_code.specs.Plain.{PlainBody, Site, fork_site, spread_site, block_site, call_site, new_site, array_site, PlainCode, body_at, parent_of, constructor_of}
 use Rattle.dpj_code.specs.Machine.{Level, Start, State, On, Rested, Off, Nowhere, Stand, Goes, Turns, Makes, Waits, Ends, Stuck, one, two, three, taken, or_trap, deeper, unless_long, cell_read, cell_written, entered, enters, calls_method, joined, joins, joins_site, started, each_started, below, returned, left_with, exec, exec_line, rested_line, step, begins_at, site_of, line_before}
 use Rattle.dpj_code.specs.Machine as machine
-use Rattle.dpj_code.specs.Fit.{Mark, Path_to, Falls_to, is_branch, puts_of, MemberBody, RowIs, BranchBody, AllBranches, left_by, site_at, Local, CodeFit}
+use Rattle.dpj_code.specs.Fit.{Path_to, Falls_to, is_branch, puts_of, MemberBody, RowIs, BranchBody, AllBranches, left_by, site_at, Local, CodeFit}
+use Rattle.dpj_code.proofs.Below.{entered_has}
 use Rattle.dpj_code.specs.Safe.{At, Callers, SafeOn, Safe, AllSafe, SafeStand}
 
 padded_length : {N : Type 0} (n : ℕ) (vs : List (Value N)) → length (padded n vs) ≡ n
@@ -43,31 +42,10 @@ copied_length slots (l ∷ ls) vs = copied_length slots ls (copied_one slots l.0
     go true = length-set vs l.0 l.1
     go false = refl
 
-module _ (C : PlainCode) (F : CodeFit C) where
-  -- the row that is entered is there, and of the same kind
-  below_is : (k a c r : ℕ) (y : Bool) → is_below (parent_of C) k a c ≡ true → RowIs C F.gives c r y → RowIs C F.gives a r y
-  below_is zero a c r y e h = subst (λ z. RowIs C F.gives z r y) (sym (eqb-true a c e)) h
-  below_is (suc k) a c r y e h = here (λ p f. below_is k p c r y f h) (a == c) refl e
-    where
-      above : ((p : ℕ) → is_below (parent_of C) k p c ≡ true → RowIs C F.gives p r y) → (p : Option PlainParent) → parent_of C a ≡ p →
-          elim p as (λ z. Bool) [ None ↦ false | Some q ↦ is_below (parent_of C) k q.class c ] ≡ true → RowIs C F.gives a r y
-      above more None q f = absurd (cc)
-      above more (Some p) q f = F.rows a r p y q (more p.class f)
-
-      here : ((p : ℕ) → is_below (parent_of C) k p c ≡ true → RowIs C F.gives p r y) → (t : Bool) → (a == c) ≡ t →
-          cond t true (elim (parent_of C a) as (λ z. Bool) [ None ↦ false | Some q ↦ is_below (parent_of C) k q.class c ]) ≡ true → RowIs C F.gives a r y
-      here more true q f = subst (λ z. RowIs C F.gives z r y) (sym (eqb-true a c q)) h
-      here more false q f = above more (parent_of C a) refl f
-
-  entered_is : {M : Type 0} (k c r : ℕ) (y : Bool) (seen : Option (ℕ × List (Region M))) → RowIs C F.gives c r y →
-      RowIs C F.gives (class_entered (parent_of C) k c seen).0 r y
-  entered_is k c r y None h = h
-  entered_is k c r y (Some seen) h = go (is_below (parent_of C) k seen.0 c) refl
-    where
-      go : (t : Bool) → is_below (parent_of C) k seen.0 c ≡ t → RowIs C F.gives (cond t seen (c, seen.1)).0 r y
-      go true q = below_is k seen.0 c r y q h
-      go false q = h
-
+-- the row that is entered is there, and of the same kind
+entered_is : {M : Type 0} (C : PlainCode) (F : CodeFit C) (k c r : ℕ) (y : Bool) (seen : Option (ℕ × List (Region M))) → RowIs C F.gives c r y →
+    RowIs C F.gives (class_entered (parent_of C) k c seen).0 r y
+entered_is C F k c r y seen h = entered_has (parent_of C) (λ a. RowIs C F.gives a r y) (λ a p q g. F.rows a r p y q g) k c seen h
 
 -- what a state leads to is safe
 record Fine {N M : Type 0} (C : PlainCode) (F : CodeFit C) (r : ℕ) (z : Stand N M) : Type 0 where
@@ -105,8 +83,25 @@ module _ {N M : Type 0} (C : PlainCode) (F : CodeFit C) where
 
     -- the same place, with a stack as high
     here : (st : List (Value N)) → length st ≡ length g.stack → (x : ℕ) × SafeOn C F x (record g { stack = st }) fs
-    here st e = (r, (s.0, s.1, s.2, record { slots = s.3.slots; local_regions = s.3.local_regions; mark = s.3.mark; marked = s.3.marked; height =
-        s.3.height ∙ sym e; ranked = s.3.ranked }, s.4, s.5))
+    here st e = (
+      r,
+      (
+        s.0,
+        s.1,
+        s.2,
+        record {
+          slots = s.3.slots;
+          local_regions = s.3.local_regions;
+          mark = s.3.mark;
+          marked = s.3.marked;
+          height =
+              s.3.height ∙ sym e;
+          ranked = s.3.ranked;
+        },
+        s.4,
+        s.5,
+      ),
+    )
 
     -- a callee that gives a value or none, with where the caller goes on
     callee : (names : Naming N M) (y : Bool) (j : ℕ) (vs : List (Value N)) (regions : List (Region M)) (rest : List (Value N)) {q takes puts opens closes : ℕ}
@@ -116,13 +111,26 @@ module _ {N M : Type 0} (C : PlainCode) (F : CodeFit C) where
     callee names y j vs regions rest {q} t h e =
         let o = F.first j h.is_there in
         let outer : At C F (record { body = g.body; at = q; frame = g.frame; stack = rest }) (puts_of y + length rest) t.there.rank =
-            moved t g.frame rest (puts_of y + length rest) refl refl e in
-        (suc o.0.rank + (suc t.there.rank + s.1), (o.0.rank, suc t.there.rank + s.1, refl,
-          record { slots = padded_length (body_at C j).slots vs; local_regions = unmade_length names 0 (body_at C j).local_regions; mark = o.0; marked =
-              o.1; height = o.2; ranked = refl },
-          (λ i. absurd (differ (is_branch (body_at C j).title) i h.member)),
-          subst (λ z. Callers C F z (suc t.there.rank + s.1) (record { body = g.body; at = q; frame = g.frame; stack = rest } ∷ fs)) (sym h.kind)
-              (t.there.rank, s.1, refl, outer, s.4, s.5)))
+        moved t g.frame rest (puts_of y + length rest) refl refl e in (
+          suc o.0.rank + (suc t.there.rank + s.1),
+          (
+            o.0.rank,
+            suc t.there.rank + s.1,
+            refl,
+            record {
+              slots = padded_length (body_at C j).slots vs;
+              local_regions = unmade_length names 0 (body_at C j).local_regions;
+              mark = o.0;
+              marked =
+                  o.1;
+              height = o.2;
+              ranked = refl;
+            },
+            (λ i. absurd (differ (is_branch (body_at C j).title) i h.member)),
+            subst (λ z. Callers C F z (suc t.there.rank + s.1) (record { body = g.body; at = q; frame = g.frame; stack = rest } ∷ fs)) (sym h.kind)
+                (t.there.rank, s.1, refl, outer, s.4, s.5),
+          ),
+        )
       where
         differ : (z : Bool) → z ≡ true → z ≡ false → ⊥
         differ z i j = cc
@@ -164,9 +172,25 @@ module _ {N M : Type 0} (C : PlainCode) (F : CodeFit C) where
   start_safe : (j : ℕ) (b : PlainBody) (f : Frame N M) → length f.values ≡ b.slots → length f.locals ≡ b.local_regions → BranchBody C b j →
       (r : ℕ) × Safe C F r (begins_at (record { body = j; frame = below f }))
   start_safe j b f l k h =
-      let o = F.first j h.is_there in
-      (suc o.0.rank + 0, (o.0.rank, 0, refl, record { slots = l ∙ sym h.slots; local_regions = k ∙ sym h.local_regions; mark = o.0; marked = o.1; height =
-          o.2; ranked = refl }, (λ e. refl), tt))
+      let o = F.first j h.is_there in (
+        suc o.0.rank + 0,
+        (
+          o.0.rank,
+          0,
+          refl,
+          record {
+            slots = l ∙ sym h.slots;
+            local_regions = k ∙ sym h.local_regions;
+            mark = o.0;
+            marked = o.1;
+            height =
+                o.2;
+            ranked = refl;
+          },
+          (λ e. refl),
+          tt,
+        ),
+      )
 
   started_safe : (js : List ℕ) (b : PlainBody) (f : Frame N M) → length f.values ≡ b.slots → length f.locals ≡ b.local_regions → AllBranches C b js →
       AllSafe C F (started js f)
@@ -183,15 +207,55 @@ module _ {N M : Type 0} (C : PlainCode) (F : CodeFit C) where
   returned_safe v y [] r c e l h = record { is = (0, omega arith, tt) }
   returned_safe v y (g ∷ fs) r c e l h =
       let a = h.3 in
-      record { is = (c, l, (h.0, h.1, h.2, record { slots = a.slots; local_regions = a.local_regions; mark = a.mark; marked = a.marked; height =
-          a.height ∙ (ap (λ z. puts_of z + length g.stack) e ∙ omega arith); ranked = a.ranked }, h.4, h.5)) }
+      record {
+        is = (
+          c,
+          l,
+          (
+            h.0,
+            h.1,
+            h.2,
+            record {
+              slots = a.slots;
+              local_regions = a.local_regions;
+              mark = a.mark;
+              marked = a.marked;
+              height =
+                  a.height ∙ (ap (λ z. puts_of z + length g.stack) e ∙ omega arith);
+              ranked = a.ranked;
+            },
+            h.4,
+            h.5,
+          ),
+        );
+      }
 
   left_safe : (v : Value N) (y : Bool) (fs : List (Level N M)) (r c : ℕ) → y ≡ false → c < r → Callers C F y c fs → Fine C F r (Goes (left_with v fs))
   left_safe v y [] r c e l h = record { is = (0, omega arith, tt) }
   left_safe v y (g ∷ fs) r c e l h =
       let a = h.3 in
-      record { is = (c, l, (h.0, h.1, h.2, record { slots = a.slots; local_regions = a.local_regions; mark = a.mark; marked = a.marked; height =
-          a.height ∙ (ap (λ z. puts_of z + length g.stack) e ∙ omega arith); ranked = a.ranked }, h.4, h.5)) }
+      record {
+        is = (
+          c,
+          l,
+          (
+            h.0,
+            h.1,
+            h.2,
+            record {
+              slots = a.slots;
+              local_regions = a.local_regions;
+              mark = a.mark;
+              marked = a.marked;
+              height =
+                  a.height ∙ (ap (λ z. puts_of z + length g.stack) e ∙ omega arith);
+              ranked = a.ranked;
+            },
+            h.4,
+            h.5,
+          ),
+        );
+      }
 
   module _ (names : Naming N M) (r : ℕ) (g : Level N M) (fs : List (Level N M)) (s : SafeOn C F r g fs) where
     some_rank : 0 < r
@@ -233,7 +297,7 @@ module _ {N M : Type 0} (C : PlainCode) (F : CodeFit C) where
     site_safe (Some (spread_site forking j x)) n e t =
         let q : n ≡ 3 = cc in let l = enough r g fs s t.path in
         one_safe r g.stack _ (omega arith)
-            (λ left more h. two_safe r more _ (omega arith) (λ total nxt st h'. go nxt (how_many (number total)) (how_many (number left)) st (omega arith)))
+        (λ left more h. two_safe r more _ (omega arith) (λ total nxt st h'. go nxt (how_many (number total)) (how_many (number left)) st (omega arith)))
       where
         go : (nxt : Value N) (total k : ℕ) (st : List (Value N)) → length g.stack ≡ length st + n → Fine C F r (machine.joins_spread nxt total k g st fs)
         go nxt total zero st h = record { is = ((λ x. join_safe [] (brought x) st t.path h), tt) }
@@ -246,8 +310,8 @@ module _ {N M : Type 0} (C : PlainCode) (F : CodeFit C) where
     operates_safe : (at : Place) (o : BinaryOp) → Falls_to (F.marks g.body) s.3.mark (suc g.at) 2 1 0 0 → Fine C F r (machine.operates names at o g fs)
     operates_safe at o t =
         two_safe r g.stack _ (enough r g fs s t.path)
-            (λ v u st e. or_safe r trap.Divide at (operated names.same o v u) _ some_rank
-            (λ w. record { is = falls r g fs s t g.frame (w ∷ st) refl refl (omega arith) }))
+        (λ v u st e. or_safe r trap.Divide at (operated names.same o v u) _ some_rank
+        (λ w. record { is = falls r g fs s t g.frame (w ∷ st) refl refl (omega arith) }))
 
     -- a call, by its row
     enters_safe : (y : Bool) (seen : ℕ × List (Region M)) (row : ℕ) → RowIs C F.gives seen.0 row y →
@@ -283,10 +347,13 @@ module _ {N M : Type 0} (C : PlainCode) (F : CodeFit C) where
         let l = enough r g fs s t.path in
         subst (λ z. Fine C F r (machine.called names C at z g fs)) (sym e)
         (taken_safe r n g.stack _ (omega arith) (λ vs more q. one_safe r more _ (omega arith) (λ v st q'. or_safe r trap.Null at (reference v) _ some_rank (λ o.
-          deeper_safe r g.frame.left at _ some_rank (long_safe r (some_long (map (concrete names (around g.frame)) regions)) at _ some_rank (record {
-            is = ((λ a. enters_safe y (class_entered (parent_of C) (length C.classes) c (class_seen a)) row
-                (entered_is C F (length C.classes) c row y (class_seen a) h) _ _ st t.path (omega arith)), tt);
-          }))))))
+        deeper_safe r g.frame.left at _ some_rank (long_safe r (some_long (map (concrete names (around g.frame)) regions)) at _ some_rank (record {
+          is = (
+            (λ a. enters_safe y (class_entered (parent_of C) (length C.classes) c (class_seen a)) row
+                (entered_is C F (length C.classes) c row y (class_seen a) h) _ _ st t.path (omega arith)),
+            tt,
+          );
+        }))))))
 
     creates_safe : (at : Place) (c : ℕ) (own : List (Region M)) (vs : List (Value N)) (x : Option ℕ) → constructor_of C c ≡ x →
         (st : List (Value N)) {takes : ℕ} → Path_to (F.marks g.body) s.3.mark (suc g.at) takes 1 0 0 → length g.stack ≡ length st + takes →
@@ -294,7 +361,7 @@ module _ {N M : Type 0} (C : PlainCode) (F : CodeFit C) where
     creates_safe at c own vs None q st t e = record { is = ((λ a. stays r g fs s t g.frame (name_made a ∷ st) refl refl (omega arith)), tt) }
     creates_safe at c own vs (Some j) q st t e =
         deeper_safe r g.frame.left at _ some_rank
-            (record { is = ((λ a. callee r g fs s names false j _ own (name_made a ∷ st) t (F.constructors c j q) (omega arith)), tt) })
+        (record { is = ((λ a. callee r g fs s names false j _ own (name_made a ∷ st) t (F.constructors c j q) (omega arith)), tt) })
 
     create_safe : (at : Place) (x : Option Site) (c n : ℕ) (regions : List Rpl) → x ≡ Some (new_site c n regions) →
         Falls_to (F.marks g.body) s.3.mark (suc g.at) n 1 0 0 → Fine C F r (machine.created names C at x g fs)
@@ -302,7 +369,7 @@ module _ {N M : Type 0} (C : PlainCode) (F : CodeFit C) where
         let l = enough r g fs s t.path in
         subst (λ z. Fine C F r (machine.created names C at z g fs)) (sym e)
         (taken_safe r n g.stack _ (omega arith) (λ vs st q. long_safe r (some_long (map (concrete names (around g.frame)) regions)) at _ some_rank
-          (creates_safe at c (map (concrete names (around g.frame)) regions) (reverse vs) (constructor_of C c) refl st t.path (omega arith))))
+        (creates_safe at c (map (concrete names (around g.frame)) regions) (reverse vs) (constructor_of C c) refl st t.path (omega arith))))
 
     array_safe : (at : Place) (region : Region M) (v : Constant) (len : ℤ) (st : List (Value N)) {takes : ℕ} →
         Path_to (F.marks g.body) s.3.mark (suc g.at) takes 1 0 0 → length g.stack ≡ length st + takes → Fine C F r (machine.array_of at region v len g st fs)
@@ -321,16 +388,23 @@ module _ {N M : Type 0} (C : PlainCode) (F : CodeFit C) where
     fork_safe at x forking js copies e h t =
         subst (λ z. Fine C F r (machine.forked at z g fs)) (sym e)
         (deeper_safe r g.frame.left at _ some_rank
-            (record { is = ((λ a. stays r g fs s t.path g.frame (Int (pos (length js)) ∷ g.stack) refl refl (omega arith)),
-            started_safe js (body_at C g.body) g.frame s.3.slots s.3.local_regions h) }))
+        (record {
+          is = (
+            (λ a. stays r g fs s t.path g.frame (Int (pos (length js)) ∷ g.stack) refl refl (omega arith)),
+            started_safe js (body_at C g.body) g.frame s.3.slots s.3.local_regions h,
+          );
+        }))
 
     spread_safe : (at : Place) (x : Option Site) (forking : Forking) (j v : ℕ) → x ≡ Some (spread_site forking j v) → BranchBody C (body_at C g.body) j →
         Falls_to (F.marks g.body) s.3.mark (suc g.at) 2 3 0 0 → Fine C F r (machine.spread at x g fs)
     spread_safe at x forking j v e h t =
         subst (λ z. Fine C F r (machine.spread at z g fs)) (sym e)
         (two_safe r g.stack _ (enough r g fs s t.path) (λ start count st q. deeper_safe r g.frame.left at _ some_rank (record {
-          is = ((λ a. stays r g fs s t.path g.frame _ refl refl (omega arith)), each_safe j v (body_at C g.body) g.frame (number start) 0
-              (how_many (number count)) s.3.slots s.3.local_regions h);
+          is = (
+            (λ a. stays r g fs s t.path g.frame _ refl refl (omega arith)),
+            each_safe j v (body_at C g.body) g.frame (number start) 0
+                (how_many (number count)) s.3.slots s.3.local_regions h,
+          );
         })))
 
     end_safe : is_branch (body_at C g.body).title ≡ true → Fine C F r (machine.ends_branch C g fs)
@@ -354,8 +428,10 @@ module _ {N M : Type 0} (C : PlainCode) (F : CodeFit C) where
     exec_safe at (i.Load k) w h = next_safe h.1 _ (omega arith)
     exec_safe at (i.Store k) w h =
         one_safe r g.stack _ (enough r g fs s h.1.path)
-            (λ v st e. record { is =
-            falls r g fs s h.1 (record g.frame { values = slice_set g.frame.values k v }) st (length-set g.frame.values k v) refl (omega arith) })
+        (λ v st e. record {
+          is =
+              falls r g fs s h.1 (record g.frame { values = slice_set g.frame.values k v }) st (length-set g.frame.values k v) refl (omega arith);
+        })
     exec_safe at i.Pop w h = one_safe r g.stack _ (enough r g fs s h.path) (λ v st e. next_safe h st (omega arith))
     exec_safe at i.Neg w h = one_safe r g.stack _ (enough r g fs s h.path) (λ v st e. next_safe h _ (omega arith))
     exec_safe at i.Not w h = one_safe r g.stack _ (enough r g fs s h.path) (λ v st e. next_safe h _ (omega arith))
@@ -379,8 +455,8 @@ module _ {N M : Type 0} (C : PlainCode) (F : CodeFit C) where
     exec_safe at i.PutElem w h = three_safe r g.stack _ (enough r g fs s h.path) (λ v j u st e. writes_safe at v (number j) u st h.path (omega arith))
     exec_safe at i.Length w h =
         one_safe r g.stack _ (enough r g fs s h.path)
-            (λ v st e. or_safe r trap.Null at (reference v) _ some_rank
-            (λ n. record { is = ((λ a. stays r g fs s h.path g.frame (Int (pos (length_seen a)) ∷ st) refl refl (omega arith)), tt) }))
+        (λ v st e. or_safe r trap.Null at (reference v) _ some_rank
+        (λ n. record { is = ((λ a. stays r g fs s h.path g.frame (Int (pos (length_seen a)) ∷ st) refl refl (omega arith)), tt) }))
     exec_safe at (i.Call x) w h = call_safe at (slice_get C.sites x) h.0 h.1 h.2 h.3 h.4 h.5 h.6 h.7
     exec_safe at (i.New x) w h = create_safe at (slice_get C.sites x) h.0 h.1 h.2 h.3 h.4
     exec_safe at (i.Array x) w h = makes_array_safe at (slice_get C.sites x) h.0 h.1 h.2 h.3
@@ -397,12 +473,16 @@ module _ {N M : Type 0} (C : PlainCode) (F : CodeFit C) where
     exec_safe at i.Exit w h = record { is = ((λ a. stays r g fs s h.path g.frame g.stack refl refl (omega arith)), tt) }
     exec_safe at i.End w h = end_safe h
     exec_safe at (i.Region k) w h =
-        record { is = (λ m. stays r g fs s h.1.path (record g.frame { locals = slice_set g.frame.locals k m }) g.stack refl (length-set g.frame.locals k m)
-        (omega arith)) }
+        record {
+          is = (λ m. stays r g fs s h.1.path (record g.frame { locals = slice_set g.frame.locals k m }) g.stack refl (length-set g.frame.locals k m)
+              (omega arith));
+        }
     exec_safe at (i.Part k) w h =
-        record { is = falls r g fs s h.1 (record g.frame { values = part_taken k g.frame.values }) g.stack
-            (length-set (slice_set g.frame.values (k + 1) (Int (part_first k g.frame.values))) (k + 2) (Int (part_length k g.frame.values)) ∙
-            length-set g.frame.values (k + 1) (Int (part_first k g.frame.values))) refl (omega arith) }
+        record {
+          is = falls r g fs s h.1 (record g.frame { values = part_taken k g.frame.values }) g.stack
+              (length-set (slice_set g.frame.values (k + 1) (Int (part_first k g.frame.values))) (k + 2) (Int (part_length k g.frame.values)) ∙
+              length-set g.frame.values (k + 1) (Int (part_first k g.frame.values))) refl (omega arith);
+        }
     exec_safe at (i.InPart k) w h =
         one_safe r g.stack _ (enough r g fs s h.1.path) (λ v st e. part_safe at k v (v ∷ v ∷ st) st h.1 (omega arith) (λ p a. Int p ∷ a ∷ st) (λ p a. refl))
     exec_safe at (i.InParts k) w h =
@@ -420,7 +500,7 @@ module _ {N M : Type 0} (C : PlainCode) (F : CodeFit C) where
       let h = subst (λ z. Local C F.marks F.gives g.body g.at x.3.mark z.instr) same l.2 in
       subst (λ o. Fine C F r (rested_line names C o g fs)) (sym s.2)
       (subst (λ o. Fine C F r (machine.enters_block names o g fs)) (sym h.1)
-          (record { is = ((λ a. stays r g fs x h.2.path g.frame g.stack refl refl (omega arith)), tt) }))
+      (record { is = ((λ a. stays r g fs x h.2.path g.frame g.stack refl refl (omega arith)), tt) }))
   step_safe names r (On g fs) s =
       let l = F.line g.body g.at s.3.mark s.3.marked in
       subst (λ o. Fine C F r (exec_line names C o g fs)) (sym l.1) (exec_safe names r g fs s l.0.place l.0.instr l.1 l.2)

@@ -1,7 +1,6 @@
 -- When a code is fit: its instructions fit each other in each body, and its bodies fit each other.
 use Rattle.std.specs.Prelude.{◌≡◌, ◌<◌, ◌≤◌, ℕ, suc, ◌+◌, Bool, true, false, List, [], ◌∷◌, length, Option, Some, None, slice_get}
 use Rattle.dpj_base.specs.declared.effect.Effect.{Effect}
-use Rattle.dpj_base.specs.declared.place.Place.{Place}
 use Rattle.dpj_base.specs.declared.region.Rpl.{Rpl}
 use Rattle.dpj_base.specs.declared.value.Value.{Value}
 use Rattle.dpj_typed.specs.declared.stmt.Forking.{Forking}
@@ -107,7 +106,7 @@ module _ (C : PlainCode) (marks : ℕ → ℕ → Option Mark) (gives : ℕ → 
   Local i.Length = straight 1 1
   Local (i.Call s) =
       (c r n : ℕ) × (regions : List Rpl) × (y : Bool) × (slice_get C.sites s ≡ Some (call_site c r n regions)) × RowIs C gives c r y × straight (suc n)
-          (puts_of y)
+      (puts_of y)
   Local (i.New s) = (c n : ℕ) × (regions : List Rpl) × (slice_get C.sites s ≡ Some (new_site c n regions)) × straight n 1
   Local (i.Array s) = (a : Rpl) × (first : Value) × (slice_get C.sites s ≡ Some (array_site a first)) × straight 1 1
   Local i.Return = (1 ≤ m.height) × (gives j ≡ true)
@@ -116,7 +115,7 @@ module _ (C : PlainCode) (marks : ℕ → ℕ → Option Mark) (gives : ℕ → 
   Local (i.Text t) = (t < length C.texts) × straight 0 0
   Local (i.Fork s) =
       (forking : Forking) × (js : List ℕ) × (copies : List (List ℕ)) × (slice_get C.sites s ≡ Some (fork_site forking js copies)) ×
-          (length copies ≡ length js) × AllBranches C (body_at C j) js × straight 0 1
+      (length copies ≡ length js) × AllBranches C (body_at C j) js × straight 0 1
   Local (i.Spread s) = (forking : Forking) × (b x : ℕ) × (slice_get C.sites s ≡ Some (spread_site forking b x)) × BranchBody C (body_at C j) b × straight 2 3
   Local i.Join = (n : ℕ) × (left_by (site_at C (site_of (line_before (body_at C j).lines p))) ≡ Some n) × straight n 0
   Local (i.Enter s) = (effects : List Effect) × (slice_get C.sites s ≡ Some (block_site effects)) × Falls_to (marks j) m (suc p) 0 0 1 0

@@ -137,12 +137,12 @@ abbrev pub calls : {N M : Type 0} → Naming N M → PlainCode → Place → ℕ
     List (Level N M) → Stand N M
 calls names C at c r own n vs g st fs =
     deeper g.frame.left at (unless_long (some_long own) at (Waits (Do (Look n)) (λ a.
-      enters names C (class_entered (parent_of C) (length C.classes) c (class_seen a)) r (Object n ∷ vs) own (record g { at = suc g.at; stack = st }) fs)))
+    enters names C (class_entered (parent_of C) (length C.classes) c (class_seen a)) r (Object n ∷ vs) own (record g { at = suc g.at; stack = st }) fs)))
 
 abbrev pub called : {N M : Type 0} → Naming N M → PlainCode → Place → Option Site → Level N M → List (Level N M) → Stand N M
 called names C at (Some (call_site c r formals regions)) g fs =
     taken formals g.stack (λ vs rest. one rest (λ v st. unless_null at v (λ n.
-      calls names C at c r (map (concrete names (around g.frame)) regions) n (reverse vs) g st fs)))
+    calls names C at c r (map (concrete names (around g.frame)) regions) n (reverse vs) g st fs)))
 called names C at site g fs = Stuck
 
 -- a creation, by its site: the object stands on the caller's stack while its constructor runs
@@ -158,12 +158,12 @@ creates names C at c regions vs None g st fs =
     Waits (Do (New (An_object c regions (map first_value (fields_of (class_at C c)))) false)) (λ a. next g (name_made a ∷ st) fs)
 creates names C at c regions vs (Some j) g st fs =
     deeper g.frame.left at (Waits (Do (New (An_object c regions (map first_value (fields_of (class_at C c)))) true)) (λ a.
-      entered names C j (name_made a ∷ vs) regions (record g { at = suc g.at; stack = name_made a ∷ st }) fs))
+    entered names C j (name_made a ∷ vs) regions (record g { at = suc g.at; stack = name_made a ∷ st }) fs))
 
 abbrev pub created : {N M : Type 0} → Naming N M → PlainCode → Place → Option Site → Level N M → List (Level N M) → Stand N M
 created names C at (Some (new_site c formals regions)) g fs =
     taken formals g.stack (λ vs st. (let own = map (concrete names (around g.frame)) regions in
-      unless_long (some_long own) at (creates names C at c own (reverse vs) (constructor_of C c) g st fs)))
+    unless_long (some_long own) at (creates names C at c own (reverse vs) (constructor_of C c) g st fs)))
 created names C at site g fs = Stuck
 
 -- the creation of an array, by its site
@@ -210,8 +210,8 @@ waiting left next total st = Int (pos left) ∷ Int next ∷ Int (pos total) ∷
 abbrev pub spread : {N M : Type 0} → Place → Option Site → Level N M → List (Level N M) → Stand N M
 spread at (Some (spread_site forking j x)) g fs =
     two g.stack (λ start count st. deeper g.frame.left at
-      (Waits (Fork (record { kind = forking; tasks = each_started j x g.frame (number start) 0 (how_many (number count)) }))
-      (λ a. next g (waiting (how_many (number count)) (number start) (how_many (number count)) st) fs)))
+    (Waits (Fork (record { kind = forking; tasks = each_started j x g.frame (number start) 0 (how_many (number count)) }))
+    (λ a. next g (waiting (how_many (number count)) (number start) (how_many (number count)) st) fs)))
 spread at site g fs = Stuck
 
 -- after a join

@@ -1,8 +1,8 @@
 -- What fit code promises of the states that run it, whatever they are answered.
-use Rattle.std.specs.Prelude.{◌≡◌, ◌<◌, ℕ, suc, ◌+◌, Bool, true, false, List, [], ◌∷◌, length, Some, slice_get}
+use Rattle.std.specs.Prelude.{◌≡◌, ◌<◌, ℕ, suc, ◌+◌, Bool, true, List, [], ◌∷◌, length, Some, slice_get}
 use Rattle.dpj_base.specs.declared.place.Place.{Place}
 use Rattle.dpj_meaning.specs.Values.{Naming}
-use Rattle.dpj_meaning.specs.Actions.{Frame, Action, Do, Fork, Begin, Join, End, Answer}
+use Rattle.dpj_meaning.specs.Actions.{Frame, Action, Fork, Answer}
 use Rattle.dpj_code.specs.declared.instr.Instr.TheVariants as i
 use Rattle.dpj_code.specs.Plain.{PlainCode, body_at}
 use Rattle.dpj_code.specs.Machine.{Level, Start, State, On, Rested, Off, Nowhere, Stand, Goes, Turns, Makes, Waits, Ends, Stuck, step, begins_at}

@@ -9,7 +9,7 @@ use Rattle.dpj_code.specs.declared.instr.Instr.{Instr}
 use Rattle.dpj_code.specs.Plain.{Site, PlainCode, body_at}
 use Rattle.dpj_code.specs.Machine.{copies_of}
 use Rattle.dpj_gen.specs.Pieces.{Branch, Piece, Next, past, nothing, line, with_site, with_branches, beside}
-use Rattle.dpj_gen.specs.Scheme.{is_void, stmt_piece, stmts_piece, branches_of}
+use Rattle.dpj_gen.specs.Scheme.{closes, stmt_piece, stmts_piece, branches_of}
 use Rattle.dpj_gen.specs.Stands.{BodyIs}
 use Rattle.dpj_gen.specs.Resolved.{gives_value, StmtFits, StmtsFit, BranchesFit, Resolved}
 use Rattle.dpj_gen.specs.Compiled.{Compiled}
@@ -158,12 +158,12 @@ module _ (P : PlainProgram) (resolved : Resolved P) where
   member_known k m n e h (suc i) l =
       let a = member_piece (in_member k) m in
       let rest = generate (weight_all m.body) m (past (in_member k) a) a.branches in
-      let w = (member_needs (in_member k) m.body (is_void m.result)).is in
+      let w = (member_needs (in_member k) m.body (closes m)).is in
       let s = split (compiled P).sites a.sites rest.sites k.site h.sites in
       let t = split (compiled P).texts a.texts rest.texts k.text h.texts in
       let r = queue_known (compiled P) P (gives_value m) (weight_all m.body) (suc k.body) m (past (in_member k) a) a.branches (omega arith) refl
       (record { bodies = h.bodies.1; sites = s.1; texts = t.1 })
-      (member_fit P (gives_value m) (in_member k) m.body (is_void m.result) (resolved.bodies n m e)).is i (omega arith) in
+      (member_fit P (gives_value m) (in_member k) m.body (closes m) (resolved.bodies n m e)).is i (omega arith) in
       subst (λ z. Known (compiled P) P z) (omega arith) r
 
   members_known : (ms : List PlainMember) (k : Next) → OutputAt (compiled P) k k.body (members_output k ms) →

@@ -1,3 +1,4 @@
+pub mod Closing
 pub mod Does
 pub mod Sim
 pub mod Tables

@@ -187,7 +187,8 @@ module _ {N M : Type 0} (names : Naming N M) (C : PlainCode) (P : PlainProgram) 
             (λ z. Prog N M) [
               | None ↦ gives none f
               | Some m ↦ on
-                  (deep m.body (meaning.entered names m vs (regions_above names (program.parent_of P) (length P.classes) seen.0 seen.1 m.class ++ own) (f.left - 1)))
+                  (deep m.body (meaning.entered names m vs (regions_above names (program.parent_of P) (length P.classes) seen.0 seen.1 m.class ++ own)
+                  (f.left - 1)))
                   (meaning.back f)
             ]
       ])) (sym row.row)

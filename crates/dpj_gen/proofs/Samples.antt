@@ -6,4 +6,4 @@ use Rattle.dpj_gen.specs.Whole.{compiled}
 
 pub samples_stand : SamplesStand
 unfolding compiled line with_site with_text with_branches beside
-samples_stand = record { sum = refl; loop = refl; branches = refl; site = refl }
+samples_stand = record { sum = refl; loop = refl; branches = refl; site = refl; whole = refl; parts = refl }

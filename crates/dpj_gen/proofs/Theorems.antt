@@ -1,6 +1,7 @@
 -- Code that is laid out by the scheme does what its program means, stands at one reply and is never stuck.
 use Rattle.std.proofs.Common.{◌≡◌, inl, inr, ℕ, zero, suc, Bool, true, false, not, if◌then◌else◌, ◌==◌, List, [], ◌∷◌, reverse, refl, sym, ap, ◌∙◌, subst, arith, Option, Some, None}
 use Rattle.dpj_typed.specs.Plain.{PlainProgram}
+use Rattle.dpj_typed.specs.Statements.{all_complete}
 use Rattle.dpj_meaning.specs.Values.{Value, Naming}
 use Rattle.dpj_meaning.specs.Actions.{Frame, Task, Work, Returned, Assigned, Action, Do, Rest, Answer, Reply, Next, Over, Unknown}
 use Rattle.dpj_meaning.specs.Core.{Result, Goes_on, Out, Done, Stopped, Lost}
@@ -11,10 +12,11 @@ use Rattle.dpj_meaning.specs.Statements.{begun, of_stmts}
 use Rattle.dpj_meaning.specs.Asking.{meaning, most_turns, Told, ended, ending, replied, ask}
 use Rattle.dpj_code.specs.Plain.{PlainCode, body_at}
 use Rattle.dpj_code.specs.Machine.{State, Off, Start, Stand, Goes, Turns, Makes, Waits, Ends, Stuck, Solos, answered, turned, stood, step, solo, spot, begins_at, Solo}
-use Rattle.dpj_gen.specs.Scheme.{is_void, after_stmts}
+use Rattle.dpj_gen.specs.Scheme.{is_void, closes, after_stmts}
 use Rattle.dpj_gen.specs.Stands.{MemberEnds, EndsAt, StmtsAt, BodyIs, first_place, BeginsAt, LaidOut}
 use Rattle.dpj_gen.specs.Resolved.{gives_value, StmtsFit, Resolved}
 use Rattle.dpj_gen.specs.Compiled.{Compiled, SameReply, Right}
+use Rattle.dpj_gen.proofs.Closing.{leaves_nothing, never_ends}
 use Rattle.dpj_gen.proofs.Does.{after, room, most_pos, Does, does_end}
 use Rattle.dpj_gen.proofs.Sim.{Sim, sim_step, sim_last}
 use Rattle.dpj_gen.proofs.Right.{gone}
@@ -30,17 +32,18 @@ replied_is k (Lost w) = refl
 module _ {N M : Type 0} (names : Naming N M) (C : PlainCode) (P : PlainProgram) (body_of : ℕ → ℕ) (laid : LaidOut C P body_of) (resolved : Resolved P) where
   right_member : (d : ℕ) (dp : Option (Deeper N M)) → right.Right_deeper names C P body_of laid resolved d dp →
       right.Right_body names C P body_of laid resolved d (of_stmts names P dp)
-  right_member d dp dh n m im fs f l = go (is_void m.result) refl (laid.members n m im).ends
+  right_member d dp dh n m im fs f l = go (closes m) refl (laid.members n m im).ends
     where
-      go : (z : Bool) → is_void m.result ≡ z → MemberEnds C (body_at C (body_of n)).lines (after_stmts 0 m.body) z →
+      go : (z : Bool) → closes m ≡ z → MemberEnds C (body_at C (body_of n)).lines (after_stmts 0 m.body) z →
           Sim names C P d (spot (body_of n) fs 0 [] f) (λ v g. gone (gives_value m) none fs) (λ v. gone (gives_value m) v fs) (of_stmts names P dp m.body f)
       go true q h =
-          sim_last (λ v g. right.at_line names C P body_of laid resolved (body_of n) _ fs [] g h.1 ∙ ap (λ z. Goes (gone (not z) none fs)) (sym q))
+          sim_last (λ v g. right.at_line names C P body_of laid resolved (body_of n) _ fs [] g h.1 ∙
+          ap (λ z. Goes (gone (not z) none fs)) (sym (leaves_nothing (is_void m.result) (all_complete m.body) q)))
           (right_stmts names C P body_of laid resolved d (gives_value m) (body_of n) fs dp dh m.body (resolved.bodies n m im) 0 []
           (laid.members n m im).stmts f l)
       go false q h =
           right_none names C P body_of laid resolved d (gives_value m) (body_of n) fs dp dh m.body (resolved.bodies n m im)
-          (resolved.ends n m im (ap not q)) 0 [] (laid.members n m im).stmts _ f l
+          (never_ends (is_void m.result) (all_complete m.body) q (λ v. resolved.ends n m im (ap not v))) 0 [] (laid.members n m im).stmts _ f l
 
   right_meaning : (d : ℕ) → right.Right_body names C P body_of laid resolved d (meaning names P d)
   unfolding meaning

@@ -5,17 +5,19 @@ use Rattle.dpj_typed.specs.Plain.{TypedExpr, typed, type_of, TypedExprs, no_expr
 use Rattle.dpj_typed.specs.Plain.{ExprForm as expr}
 use Rattle.dpj_typed.specs.Plain.{StmtForm as form}
 use Rattle.dpj_typed.specs.Scope.{member_at}
+use Rattle.dpj_typed.specs.Statements.{all_complete}
 use Rattle.dpj_code.specs.declared.instr.Instr.{Instr}
 use Rattle.dpj_code.specs.declared.instr.Instr.TheVariants as i
 use Rattle.dpj_code.specs.Plain.{Line, Title, Site, PlainBody, body_or_none, PlainCode, body_at}
 use Rattle.dpj_gen.specs.Pieces.{Branch, Piece, Next, past, nothing, line, with_site, with_text, with_branches, beside}
-use Rattle.dpj_gen.specs.Scheme.{is_void, after_expr, after_stmt, after_stmts, expr_piece, exprs_piece, stmt_piece, stmts_piece, regions_piece, branches_of, class_code}
+use Rattle.dpj_gen.specs.Scheme.{is_void, closes, after_expr, after_stmt, after_stmts, expr_piece, exprs_piece, stmt_piece, stmts_piece, regions_piece, branches_of, class_code}
 use Rattle.dpj_gen.specs.Stands.{LineAt, StmtAt, StmtsAt, MemberEnds, MemberIs, EndsAt, BodyIs, LaidOut}
 use Rattle.dpj_gen.specs.Resolved.{gives_value, Resolved}
 use Rattle.dpj_gen.specs.Compiled.{Compiled}
 use Rattle.dpj_gen.specs.Laws.{work_of}
 use Rattle.dpj_meaning.specs.Actions.{Frame}
 use Rattle.dpj_gen.specs.Whole.{weight, weight_all, weight_branches, no_place, place_of, branch_piece_of, branch_piece, closing, member_piece, body_of, Output, generate, in_member, member_output, past_output, members_output, member_numbers, first, number_in, compiled}
+use Rattle.dpj_gen.proofs.Closing.{never_ends}
 use Rattle.dpj_gen.proofs.Pieces.{Holds, split, all_of, BranchStands, Queued, queued, Laid, cut, here}
 use Rattle.dpj_gen.proofs.Placed.{stmt_far, stmts_far, stmt_at, stmts_at}
 
@@ -200,7 +202,7 @@ module _ (C : PlainCode) where
   member_queued k m h =
       let a = member_piece (in_member k) m in
       let rest = generate (weight_all m.body) m (past (in_member k) a) a.branches in
-      let w = (member_needs (in_member k) m.body (is_void m.result)).is in
+      let w = (member_needs (in_member k) m.body (closes m)).is in
       let s = split C.sites a.sites rest.sites k.site h.sites in
       let t = split C.texts a.texts rest.texts k.text h.texts in
       record {
@@ -221,12 +223,12 @@ module _ (C : PlainCode) where
       let e = h.bodies.0 in
       let x = cut C (stmts_far (in_member k) 0 m.body) (member_queued k m h) in
       let z = stmts_at C _ (in_member k) 0 m.body x.0 in
-      let y = closing_at _ _ _ (is_void m.result) x.1 in
+      let y = closing_at _ _ _ (closes m) x.1 in
       record {
         slots = ap (λ b. b.slots) (is_body k.body e);
         local_regions = ap (λ b. b.local_regions) (is_body k.body e);
         stmts = subst (λ b. StmtsAt C b.lines 0 m.body) (sym (is_body k.body e)) z;
-        ends = subst (λ b. MemberEnds C b.lines (after_stmts 0 m.body) (is_void m.result)) (sym (is_body k.body e)) y;
+        ends = subst (λ b. MemberEnds C b.lines (after_stmts 0 m.body) (closes m)) (sym (is_body k.body e)) y;
       }
 
   pub first_output : (k : Next) (m : PlainMember) (ms : List PlainMember) → OutputAt k k.body (members_output k (m ∷ ms)) →
@@ -265,12 +267,12 @@ laid_out P = record { classes = classes_are P; members = members_at P }
 -- each member is compiled
 pub root_is : (P : PlainProgram) (resolved : Resolved P) (n : ℕ) (m : PlainMember) → member_at P n ≡ Some m → (b : PlainBody) → MemberIs (compiled P) b m →
     BodyIs (compiled P) b (work_of m)
-root_is P resolved n m e b is = record { begins = tt; stmts = is.stmts; ends = go (is_void m.result) refl is.ends }
+root_is P resolved n m e b is = record { begins = tt; stmts = is.stmts; ends = go (closes m) refl is.ends }
   where
-    go : (z : Bool) → is_void m.result ≡ z → MemberEnds (compiled P) b.lines (after_stmts 0 m.body) z →
+    go : (z : Bool) → closes m ≡ z → MemberEnds (compiled P) b.lines (after_stmts 0 m.body) z →
         EndsAt (compiled P) b (after_stmts 0 m.body) (work_of m) true
     go true q h = inl h
-    go false q h = inr (resolved.ends n m e (ap not q))
+    go false q h = inr (never_ends (is_void m.result) (all_complete m.body) q (λ v. resolved.ends n m e (ap not v)))
 
 pub members_are_compiled : {N M : Type 0} (P : PlainProgram) → Resolved P → (n : ℕ) (m : PlainMember) → member_at P n ≡ Some m → (f : Frame N M) →
     Compiled (compiled P) P (record { body = number_in P n; frame = f }) (record { work = work_of m; frame = f })

@@ -1,5 +1,5 @@
 -- The scheme of code: one equation a construct. `k` says which numbers are next, and `p` where the code begins.
-use Rattle.std.specs.Prelude.{ℕ, suc, ◌+◌, Bool, true, false, cond, pos, List, [], ◌∷◌, map, Option, Some, None, option_map}
+use Rattle.std.specs.Prelude.{◌&&◌, ℕ, suc, ◌+◌, Bool, true, false, cond, pos, List, [], ◌∷◌, map, Option, Some, None, option_map}
 use Rattle.dpj_base.specs.declared.place.Place.{Place}
 use Rattle.dpj_base.specs.declared.region.Head.TheVariants.{Root}
 use Rattle.dpj_base.specs.declared.value.Value.{Value}
@@ -16,6 +16,7 @@ use Rattle.dpj_typed.specs.Plain.{TypedExpr, typed, type_of, TypedExprs, no_expr
 use Rattle.dpj_typed.specs.Plain.{ExprForm as expr}
 use Rattle.dpj_typed.specs.Plain.{StmtForm as form}
 use Rattle.dpj_typed.specs.Scope.{member_at}
+use Rattle.dpj_typed.specs.Statements.{all_complete}
 use Rattle.dpj_meaning.specs.Expressions.{class_in}
 use Rattle.dpj_code.specs.declared.instr.Instr.{Instr}
 use Rattle.dpj_code.specs.declared.instr.Instr.TheVariants as i
@@ -25,6 +26,10 @@ use Rattle.dpj_gen.specs.Pieces.{Branch, Piece, Next, nothing, line, with_site, 
 abbrev pub is_void : PlainType → Bool
 is_void ty.void = true
 is_void t = false
+
+-- a body that gives no value leaves where it completes
+abbrev pub closes : PlainMember → Bool
+closes m = is_void m.result && all_complete m.body
 
 abbrev pub many : TypedExprs → ℕ
 many no_exprs = 0

@@ -13,7 +13,7 @@ use Rattle.dpj_code.specs.declared.instr.Instr.{Instr}
 use Rattle.dpj_code.specs.declared.instr.Instr.TheVariants as i
 use Rattle.dpj_code.specs.Plain.{Line, PlainBody, Site, fork_site, spread_site, block_site, call_site, new_site, PlainCode, body_at}
 use Rattle.dpj_code.specs.Machine.{copies_of}
-use Rattle.dpj_gen.specs.Scheme.{is_void, many, after_expr, after_exprs, after_stmt, after_stmts, instr_of, unary_instr, site_of_array, copy_lists, class_code}
+use Rattle.dpj_gen.specs.Scheme.{is_void, closes, many, after_expr, after_exprs, after_stmt, after_stmts, instr_of, unary_instr, site_of_array, copy_lists, class_code}
 
 -- at p stands this instruction
 abbrev pub LineAt : List Line → ℕ → Instr → Place → Type 0
@@ -162,7 +162,7 @@ module _ (C : PlainCode) where
     BranchesAt (more_branches copies s bs) js =
         (j : ℕ) × (rest : List ℕ) × (js ≡ j ∷ rest) × (StmtAt (body_at C j).lines 0 s × BranchEnds (body_at C j) (after_stmt 0 s) copies) × BranchesAt bs rest
 
-  -- the body of a member: one that gives no value has an end
+  -- the end of the body of a member, where it leaves
   abbrev pub MemberEnds : List Line → ℕ → Bool → Type 0
   MemberEnds c p true = (at : Place) × LineAt c p i.Leave at
   MemberEnds c p false = Unit {0}
@@ -171,7 +171,7 @@ module _ (C : PlainCode) where
     pub slots : b.slots ≡ m.slots
     pub local_regions : b.local_regions ≡ m.local_regions
     pub stmts : StmtsAt b.lines 0 m.body
-    pub ends : MemberEnds b.lines (after_stmts 0 m.body) (is_void m.result)
+    pub ends : MemberEnds b.lines (after_stmts 0 m.body) (closes m)
 
   -- how the body of a task ends where it comes to its end
   abbrev pub EndsAt : PlainBody → ℕ → Work → Bool → Type 0

@@ -6,7 +6,7 @@ use Rattle.dpj_typed.specs.Plain.{StmtForm as form}
 use Rattle.dpj_code.specs.declared.instr.Instr.TheVariants as i
 use Rattle.dpj_code.specs.Plain.{Title, of_member, PlainBody, Site, PlainCode}
 use Rattle.dpj_gen.specs.Pieces.{Branch, Piece, Next, past, nothing, line, then_next}
-use Rattle.dpj_gen.specs.Scheme.{is_void, stmt_piece, stmts_piece, class_code}
+use Rattle.dpj_gen.specs.Scheme.{closes, stmt_piece, stmts_piece, class_code}
 
 -- how many branches there are in a statement, with those in branches
 abbrev mutual
@@ -44,13 +44,13 @@ branch_piece_of k at s (Some x) = line (i.Part x) at (then_next k (stmt_piece k 
 abbrev pub branch_piece : Next → Branch → Piece
 branch_piece k b = branch_piece_of k (place_of b.stmt) b.stmt b.takes
 
--- a body that gives no value leaves where it completes
+-- what stands at the end of the body of a member
 abbrev pub closing : Bool → Piece
 closing true = line i.Leave no_place nothing
 closing false = nothing
 
 abbrev pub member_piece : Next → PlainMember → Piece
-member_piece k m = then_next k (stmts_piece k 0 m.body) (λ k. closing (is_void m.result))
+member_piece k m = then_next k (stmts_piece k 0 m.body) (λ k. closing (closes m))
 
 abbrev pub body_of : Title → PlainMember → Piece → PlainBody
 body_of title m a = record { title = title; lines = a.lines; slots = m.slots; local_regions = m.local_regions }

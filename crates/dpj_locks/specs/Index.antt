@@ -1,5 +1,5 @@
 -- How the blocks are found that may interfere: by numbers of the fixed elements at the front of a path.
-use Rattle.std.specs.Prelude.{◌≡◌, ℕ, ◌+◌, ◌*◌, ◌%◌, ◌^◌, ◌≤◌, ◌≢◌, min, ◌⊎◌, Bool, true, false, List, [], ◌∷◌, Option, Some, None, MatchBool}
+use Rattle.std.specs.Prelude.{◌≡◌, ℕ, ◌+◌, ◌*◌, ◌%◌, ◌^◌, ◌≤◌, ◌≢◌, ◌⊎◌, cond, nat_lt, Bool, true, false, List, [], ◌∷◌, Option, Some, None, MatchBool}
 use Rattle.std.specs.Ordering.{nat_cmp}
 use Rattle.std.specs.BTreeMap.{get}
 use Rattle.std.specs.BTreeSet.{contains}
@@ -13,7 +13,7 @@ use Rattle.dpj_base.specs.declared.effect.Effect.{Effect}
 use Rattle.dpj_base.specs.Matching.{is_concrete}
 use Rattle.dpj_locks.specs.declared.index.Index.{Index}
 use Rattle.dpj_locks.specs.declared.standing.Standing.{Standing}
-use Rattle.dpj_locks.specs.declared.standing.Standing.TheVariants.{Opener, Adopted}
+use Rattle.dpj_locks.specs.declared.standing.Standing.TheVariants.{Opener}
 use Rattle.dpj_locks.specs.Locks.{Standings, AllRoot}
 use Rattle.std.specs.FinMap as map
 use Rattle.dpj_effects.specs.Index.{elem_number}
@@ -82,7 +82,7 @@ pub record KeepsOthers (task : ℕ) (old new : Index) : Type 0 where
 abbrev pub lesser : Option ℕ → Option ℕ → Option ℕ
 lesser None other = other
 lesser (Some a) None = Some a
-lesser (Some a) (Some b) = Some (min a b)
+lesser (Some a) (Some b) = cond (nat_lt b a) (Some b) (Some a)
 
 abbrev pub AtMost : Option ℕ → ℕ → Type 0
 AtMost None q = ⊥

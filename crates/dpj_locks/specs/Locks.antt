@@ -1,5 +1,5 @@
 -- The open blocks, and who stands inside them.
-use Rattle.std.specs.Prelude.{◌≡◌, ◌≢◌, ℕ, ◌+◌, ◌-◌, ◌<◌, ◌≤◌, min, ◌⊎◌, Bool, true, false, not, ◌&&◌, ◌||◌, ◌==◌, cond, nat_lt, List, [], ◌∷◌, IsTrue, is_some, IsSome, Option, Some, None}
+use Rattle.std.specs.Prelude.{◌≡◌, ℕ, ◌+◌, ◌-◌, ◌<◌, min, ◌⊎◌, Bool, true, false, not, ◌&&◌, ◌||◌, ◌==◌, cond, nat_lt, List, [], ◌∷◌, IsTrue, is_some, Option, Some, None}
 use Rattle.std.specs.Ordering.{nat_cmp}
 use Rattle.std.specs.FinMap.{FinMap, get, insert, remove}
 use Rattle.dpj_base.specs.declared.effect.Effect.{Effect}
@@ -25,6 +25,10 @@ lists_interfere (e ∷ es) fs = some_interferes e fs || lists_interfere es fs
 abbrev pub AllRoot : List Effect → Type 0
 AllRoot [] = Unit {0}
 AllRoot (e ∷ es) = (e.rpl.head ≡ Root) × AllRoot es
+
+abbrev pub effects_of : Option Standing → List Effect
+effects_of (Some (Opener effects depth)) = effects
+effects_of standing = []
 
 -- the task is the opener of the block that another was adopted into
 abbrev pub opened_for : Option Standing → ℕ → Bool

@@ -1,9 +1,9 @@
 ghost use Rattle.std.specs.Prelude.{◌≡◌, ◌≢◌, ℕ, true, OnOk};
 ghost use Rattle.dpj_base.specs.Matching.{is_concrete};
-ghost use Rattle.dpj_locks.specs.Index.{has, first_number, mixed, NotedFrom};
+ghost use Rattle.dpj_locks.specs.Index.{has, first_number, mixed, NotedFrom, NotedBy, AllNoted, IsGrown, KeepsOthers};
 
 use crate::sets::{Sets, add, take_out};
-use dpj_base::{Elem, Index as ElemIndex, NoMemory};
+use dpj_base::{Access, Effect, Elem, Index as ElemIndex, NoMemory};
 use dpj_effects::elem_number;
 use std::alloc::Global;
 use std::collections::BTreeMap;
@@ -85,4 +85,54 @@ pub fn forget(index: &mut Index, task: u32, elems: &[Elem])
     }
     take_out(&mut index.under, number, task);
     take_out(&mut index.ending, number, task);
+}
+
+/// Notes a task under one effect: reads and writes apart.
+fn note_effect(
+    alloc: Global,
+    reads: &mut Index,
+    writes: &mut Index,
+    task: u32,
+    e: &Effect,
+) -> Result<(), NoMemory>
+    ensures there { OnOk result (NotedBy reads.new writes.new task e.now.access e.now.rpl.elems) }
+    ensures reads { IsGrown reads.old reads.new }
+    ensures writes { IsGrown writes.old writes.new }
+{
+    match e.access {
+        Access::Read => note(alloc, reads, task, e.rpl.elems.as_slice()),
+        Access::Write => note(alloc, writes, task, e.rpl.elems.as_slice()),
+    }
+}
+
+/// Notes a task under each of its effects. Whatever was noted stays.
+pub fn note_all(
+    alloc: Global,
+    reads: &mut Index,
+    writes: &mut Index,
+    task: u32,
+    effects: &[Effect],
+) -> Result<(), NoMemory>
+    ensures there { OnOk result (AllNoted reads.new writes.new task effects.now) }
+    ensures reads { IsGrown reads.old reads.new }
+    ensures writes { IsGrown writes.old writes.new }
+{
+    for e in effects {
+        note_effect(alloc, reads, writes, task, e)?;
+    }
+    Ok(())
+}
+
+/// Takes a task out from under its effects. Other tasks stay.
+pub fn forget_all(reads: &mut Index, writes: &mut Index, task: u32, effects: &[Effect])
+    ensures reads { KeepsOthers task reads.old reads.new }
+    ensures writes { KeepsOthers task writes.old writes.new }
+{
+    for e in effects {
+        let elems = e.rpl.elems.as_slice();
+        match e.access {
+            Access::Read => forget(reads, task, elems),
+            Access::Write => forget(writes, task, elems),
+        }
+    }
 }

@@ -13,6 +13,7 @@
 
 mod index;
 mod locks;
+mod search;
 mod sets;
 mod standing;
 mod standings;

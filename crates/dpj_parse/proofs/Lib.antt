@@ -24,3 +24,10 @@ pub mod OnceMembers
 pub mod OnceClasses
 pub mod OnceText
 pub mod Told
+pub mod Tested
+pub mod Expected
+pub mod ExpectedPaths
+pub mod ExpectedExprs
+pub mod ExpectedStmts
+pub mod ExpectedClasses
+pub mod OneFault

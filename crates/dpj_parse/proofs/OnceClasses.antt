@@ -64,7 +64,7 @@ result_once (DerivesResult.void t) n = rw t.first (at_once refl)
 result_once (DerivesResult.value d) n = off _ (type_not is_void refl refl (λ n. refl) d) (then_reads _ (type_once d (rw n.first refl) (rw n.first refl)) (at_once refl))
 
 -- a constructor stands here
-abbrev constructs : List Placed → Bool
+abbrev pub constructs : List Placed → Bool
 constructs before = starts is_name before && starts is_open_paren (tail before)
 
 suffix_no_paren : {before two three : List Placed} {name : Named} {suffixes : List Suffix} → Many DerivesSuffix before two suffixes → TakesName two three name → starts is_open_paren before ≡ false
@@ -78,15 +78,15 @@ type_constructs_no (type_of s (DerivesBase.class t DerivesArgs.no_args) ss) n = 
 type_constructs_no (type_of s (DerivesBase.class t (DerivesArgs.args o ps c)) ss) n = rw (t.first, o.first) refl
 
 -- where a result stands, no other member begins
-record BeginsResult (before : List Placed) : Type 0 where
-  kind : starts is_kind before ≡ false
-  constructor : constructs before ≡ false
-  less : starts is_less before ≡ false
+pub record BeginsResult (before : List Placed) : Type 0 where
+  pub kind : starts is_kind before ≡ false
+  pub constructor : constructs before ≡ false
+  pub less : starts is_less before ≡ false
 
 type_begins : {before after three : List Placed} {ty : TypeTree} {name : Named} → DerivesType before after ty → TakesName after three name → BeginsResult before
 type_begins d n = record { kind = type_not is_kind refl refl (λ n. refl) d; constructor = type_constructs_no d n; less = type_not is_less refl refl (λ n. refl) d }
 
-result_begins : {before after three : List Placed} {answer : MethodResult} {name : Named} → DerivesResult before after answer → TakesName after three name → BeginsResult before
+pub result_begins : {before after three : List Placed} {answer : MethodResult} {name : Named} → DerivesResult before after answer → TakesName after three name → BeginsResult before
 result_begins (DerivesResult.void t) n = rw t.first (record { kind = refl; constructor = refl; less = refl })
 result_begins (DerivesResult.value d) n = type_begins d n
 
@@ -104,7 +104,7 @@ method_read m params answer name before =
     into (formals_read m before) (λ formals one. into (summary_read m one) (λ summary two. into (block_read m two) (λ body left.
     Some (member.Method (record { place = name.place; name = name.name; params = params; result = answer; formals = formals; summary = summary; body = code_stmts body }), left))))
 
-block_starts : {before after : List Placed} {all : PlainStmts} → DerivesBlock before after all → (test : Terminal → Bool) → starts test before ≡ test (terminal.Symbol Symbol.OpenBrace)
+pub block_starts : {before after : List Placed} {all : PlainStmts} → DerivesBlock before after all → (test : Terminal → Bool) → starts test before ≡ test (terminal.Symbol Symbol.OpenBrace)
 block_starts (braces o ss c) test = rw o.first refl
 
 method_once : {params : Params} {answer : MethodResult} {name : Named} {before after : List Placed} {tree : Member} → DerivesMethod params answer name before after tree →
@@ -171,7 +171,7 @@ member_starts before after tree (DerivesMember.method (DerivesFront.answers Deri
 parent_read : ℕ → List Placed → Out (Option Parent)
 parent_read m before = cond (starts is_extends before) (into (named (tail before)) (λ name two. into (args_read m two) (λ paths left. Some (Some (record { name = name; args = paths }), left)))) (Some (None, before))
 
-members_start : {before after : List Placed} {all : List Member} → DerivesMembers before after all → (test : Terminal → Bool) → starts test before ≡ test (terminal.Symbol Symbol.OpenBrace)
+pub members_start : {before after : List Placed} {all : List Member} → DerivesMembers before after all → (test : Terminal → Bool) → starts test before ≡ test (terminal.Symbol Symbol.OpenBrace)
 members_start (DerivesMembers.members o ds c) test = rw o.first refl
 
 parent_once : {before after rest : List Placed} {parent : Option Parent} {all : List Member} → DerivesParent before after parent → DerivesMembers after rest all → Comes (λ m. parent_read m before) parent after
@@ -179,7 +179,7 @@ unfolding parent_read
 parent_once DerivesParent.no_parent d = off _ (members_start d is_extends) (at_once refl)
 parent_once (DerivesParent.extends t n a) d = rw t.first (rw n.first (then_reads _ (args_once a (members_start d is_less)) (at_once refl)))
 
-parent_no_less : {before after rest : List Placed} {parent : Option Parent} {all : List Member} → DerivesParent before after parent → DerivesMembers after rest all → starts is_less before ≡ false
+pub parent_no_less : {before after rest : List Placed} {parent : Option Parent} {all : List Member} → DerivesParent before after parent → DerivesMembers after rest all → starts is_less before ≡ false
 parent_no_less DerivesParent.no_parent d = members_start d is_less
 parent_no_less (DerivesParent.extends t n a) d = rw t.first refl
 

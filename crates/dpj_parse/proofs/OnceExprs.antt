@@ -72,7 +72,7 @@ abbrev pub op_next : List Placed → Option BinaryOp
 op_next [] = None
 op_next (here ∷ after) = op_at here.terminal
 
-op_of_symbol : (op : BinaryOp) → op_at (terminal.Symbol (symbol_of op)) ≡ Some op
+pub op_of_symbol : (op : BinaryOp) → op_at (terminal.Symbol (symbol_of op)) ≡ Some op
 op_of_symbol binary_op.Or = refl
 op_of_symbol _ = refl
 
@@ -197,7 +197,7 @@ pub no_selector : (after : List Placed) → starts is_selector after ≡ false �
 no_selector [] e = (refl, refl, refl)
 no_selector (here ∷ after) e = no_dot here.terminal e
 
-not_leb : (a b : ℕ) → b < a → leb a b ≡ false
+pub not_leb : (a b : ℕ) → b < a → leb a b ≡ false
 not_leb a b h = elim (leb_tells a b) [ inl y ↦ absurd (omega (arith, y.1)) | inr n ↦ n.0 ]
 
 climb_stops : (r : Readers) (level top : ℕ) (e : PlainExpr) (after : List Placed) (o : Option BinaryOp) → ((op : BinaryOp) → o ≡ Some op → level_of op < level) → climb_by r level top e after o ≡ Some (e, after)
@@ -249,7 +249,7 @@ unary_postfix {before} b c = later (λ m. (readers m).unary before) (off _ b.min
   | inr n ↦ on _ n.0 (then_reads _ n.1.comes (on _ n.1.paren c))
 ])))
 
-suffix_no_paren : (before after : List Placed) (tree : Suffix) → DerivesSuffix before after tree → starts is_open_paren before ≡ false
+pub suffix_no_paren : (before after : List Placed) (tree : Suffix) → DerivesSuffix before after tree → starts is_open_paren before ≡ false
 suffix_no_paren before after tree (suffix o c d) = rw o.first refl
 
 pub unary_array : {before one two three four five six after : List Placed} {start : BaseTree} {suffixes : List Suffix} {len : PlainExpr} {own : Suffix} {place open_at close_at : Place} →

@@ -78,7 +78,7 @@ no_close_paren (terminal.Symbol Symbol.CloseParen) e = cc
 no_close_paren _ e = refl
 
 -- "(" comes first
-actuals_start : {before after : List Placed} {es : PlainExprs} → DerivesActuals before after es → (test : Terminal → Bool) → starts test before ≡ test (terminal.Symbol Symbol.OpenParen)
+pub actuals_start : {before after : List Placed} {es : PlainExprs} → DerivesActuals before after es → (test : Terminal → Bool) → starts test before ≡ test (terminal.Symbol Symbol.OpenParen)
 actuals_start (no_actuals o c) test = rw o.first refl
 actuals_start (actuals o l f c) test = rw o.first refl
 
@@ -105,15 +105,15 @@ abbrev pub top_of : {level : ℕ} {before after : List Placed} {e : PlainExpr} �
 top_of (operand d) = 6
 top_of (operation {op = op} h l t r) = level_of op
 
-level_low : (op : BinaryOp) → level_of op ≤ 5
+pub level_low : (op : BinaryOp) → level_of op ≤ 5
 level_low binary_op.Or = omega arith
 level_low _ = omega arith
 
-left_low : (op : BinaryOp) → left_level op ≤ 5
+pub left_low : (op : BinaryOp) → left_level op ≤ 5
 left_low binary_op.Or = omega arith
 left_low _ = omega arith
 
-level_left : (op : BinaryOp) → level_of op ≤ left_level op
+pub level_left : (op : BinaryOp) → level_of op ≤ left_level op
 level_left binary_op.Or = omega arith
 level_left _ = omega arith
 
@@ -122,7 +122,7 @@ top_high (operand d) h = h
 top_high (operation k l t r) h = k
 
 -- behind an expression in a list stands a comma, or what stands behind the list
-further_ends : {level : ℕ} {before after : List Placed} {es : PlainExprs} → DerivesFurther before after es → Ends level after → Ends level before
+pub further_ends : {level : ℕ} {before after : List Placed} {es : PlainExprs} → DerivesFurther before after es → Ends level after → Ends level before
 further_ends end ends = ends
 further_ends (further t l f) ends = ends_at t refl refl
 

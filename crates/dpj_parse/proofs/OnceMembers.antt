@@ -193,11 +193,11 @@ items_once : {keyword : Keyword} {before after : List Placed} {all : List Item} 
 unfolding items_read
 items_once (DerivesItems.items t l) no_comma closed = rw t.first (listed_read goes_on_path item_read item_once (λ place rest. refl) l no_comma closed)
 
-items_start : {keyword : Keyword} {before after : List Placed} {all : List Item} → DerivesItems keyword before after all → (test : Terminal → Bool) → starts test before ≡ test (terminal.Keyword keyword)
+pub items_start : {keyword : Keyword} {before after : List Placed} {all : List Item} → DerivesItems keyword before after all → (test : Terminal → Bool) → starts test before ≡ test (terminal.Keyword keyword)
 items_start (DerivesItems.items t l) test = rw t.first refl
 
 -- no path goes on with such a terminal
-path_ends : (after : List Placed) (t : Terminal) → ((test : Terminal → Bool) → starts test after ≡ test t) → (is_dot t || is_colon t) ≡ false → goes_on_path after ≡ false
+pub path_ends : (after : List Placed) (t : Terminal) → ((test : Terminal → Bool) → starts test after ≡ test t) → (is_dot t || is_colon t) ≡ false → goes_on_path after ≡ false
 path_ends after t begins h = rw (begins is_dot, begins is_colon) h
 
 pub summary_read : ℕ → List Placed → Out (Option SummaryTree)

@@ -176,11 +176,11 @@ base_here (DerivesBase.class t d) e = let f = t.first in cc
 abbrev pub region_read : ℕ → List Placed → Out (Option RplTree)
 region_read m before = cond (starts is_less before) (into (rpl_read m (tail before)) (λ path left. Some (Some path, tail left))) (Some (None, before))
 
-less_or_not : (t : Terminal) → (t ≡ terminal.Symbol Symbol.Less) ⊎ (is_less t ≡ false)
+pub less_or_not : (t : Terminal) → (t ≡ terminal.Symbol Symbol.Less) ⊎ (is_less t ≡ false)
 less_or_not (terminal.Symbol Symbol.Less) = inl refl
 less_or_not _ = inr refl
 
-hash_or_not : (t : Terminal) → (t ≡ terminal.Symbol Symbol.Hash) ⊎ (is_hash t ≡ false)
+pub hash_or_not : (t : Terminal) → (t ≡ terminal.Symbol Symbol.Hash) ⊎ (is_hash t ≡ false)
 hash_or_not (terminal.Symbol Symbol.Hash) = inl refl
 hash_or_not _ = inr refl
 

@@ -237,7 +237,7 @@ expr_no_form (terminal.Symbol Symbol.OpenBrace) e = cc
 expr_no_form (terminal.Keyword Keyword.If) e = cc
 expr_no_form _ e = cc
 
-expr_no_text : (t : Terminal) → begins_expr t ≡ true → is_text t ≡ false
+pub expr_no_text : (t : Terminal) → begins_expr t ≡ true → is_text t ≡ false
 expr_no_text (terminal.Text text) e = cc
 expr_no_text _ e = refl
 
@@ -265,7 +265,7 @@ declared_not_brace : (before : List Placed) → declares before ≡ true → sta
 declared_not_brace [] e = refl
 declared_not_brace (here ∷ after) e = declared_no_brace here.terminal after e
 
-stmt_not_brace : {before after : List Placed} {s : PlainStmt} → DerivesStmt before after s → starts is_close_brace before ≡ false
+pub stmt_not_brace : {before after : List Placed} {s : PlainStmt} → DerivesStmt before after s → starts is_close_brace before ≡ false
 stmt_not_brace {before} (at_first s f) = form_not_brace before (form_starts f)
 stmt_not_brace {before} (declaration f ty n t v) = declared_not_brace before (declaration_starts f ty n).1
 stmt_not_brace (local_assignment n t v) = rw n.first refl
@@ -273,13 +273,13 @@ stmt_not_brace {before} (field_assignment d t v) = expr_begins_not is_close_brac
 stmt_not_brace {before} (element_assignment d t v) = expr_begins_not is_close_brace expr_no_brace before (postfix_begins d)
 stmt_not_brace {before} (performed p d t) = expr_begins_not is_close_brace expr_no_brace before (postfix_begins d)
 
-value_no_semicolon : {before after : List Placed} {e : PlainExpr} → DerivesValue before after e → starts is_semicolon before ≡ false
+pub value_no_semicolon : {before after : List Placed} {e : PlainExpr} → DerivesValue before after e → starts is_semicolon before ≡ false
 value_no_semicolon {before} (value d c) = expr_begins_not is_semicolon expr_no_semicolon before (level_begins d)
 
 condition_no_text : {before after : List Placed} {e : PlainExpr} → DerivesCondition before after e → starts is_text (tail before) ≡ false
 condition_no_text (condition {one = one} o d c) = rw o.first (expr_begins_not is_text expr_no_text one (level_begins d))
 
-else_or_not : (t : Terminal) → (t ≡ terminal.Keyword Keyword.Else) ⊎ (is_else t ≡ false)
+pub else_or_not : (t : Terminal) → (t ≡ terminal.Keyword Keyword.Else) ⊎ (is_else t ≡ false)
 else_or_not (terminal.Keyword Keyword.Else) = inl refl
 else_or_not _ = inr refl
 
@@ -300,7 +300,7 @@ declared_once f d n t v =
     then_reads _ (at_once (final_once f d)) (then_reads _ (type_once d (rw n.first refl) (rw n.first refl)) (rw n.first (rw t.first (then_reads _ (value_once v) (at_once refl)))))
 
 -- which form an assignment has
-primary_no_target : {ending : Ending} {before after : List Placed} {e : PlainExpr} → DerivesPrimary ending before after e → (ending ≡ as_field) ⊎ (ending ≡ as_element) → ⊥
+pub primary_no_target : {ending : Ending} {before after : List Placed} {e : PlainExpr} → DerivesPrimary ending before after e → (ending ≡ as_field) ⊎ (ending ≡ as_element) → ⊥
 primary_no_target (number t) = elim [ inl e ↦ cc | inr e ↦ cc ]
 primary_no_target (yes t) = elim [ inl e ↦ cc | inr e ↦ cc ]
 primary_no_target (no t) = elim [ inl e ↦ cc | inr e ↦ cc ]

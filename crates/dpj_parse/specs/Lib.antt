@@ -10,3 +10,7 @@ pub mod Progress
 pub mod Program
 pub mod OneTree
 pub mod OneProgram
+pub mod Words
+pub mod Expecting
+pub mod Viable
+pub mod ExpectedText

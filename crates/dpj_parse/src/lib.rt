@@ -4,8 +4,10 @@
 //! text nests deeper, joins longer or suffixes more than 32 times. The time is linear.
 //!
 //! Proved: the tree that is answered is the one that the grammar derives, from as many terminals as there are tokens
-//! and with none of them left; it has at most as many nodes as the text has bytes; and reading ends. Not proved: that a
-//! text that has a tree gets it, and which fault is told.
+//! and with none of them left; it has at most as many nodes as the text has bytes; and reading ends. As laws: tokens
+//! derive one program at most; a text has one fault of syntax at most, and a program none; and what is expected after
+//! each terminal (`specs/Expecting.antt`) is what the grammar says. Not proved: that the functions read as is expected,
+//! so that a text that has a tree gets it, and which fault is told.
 #![tactic(auto)]
 
 mod classes;
@@ -19,5 +21,5 @@ mod region;
 mod stmts;
 mod types;
 
-pub use laws::{one_program, one_tree};
+pub use laws::{expected_text, one_fault, one_program, one_tree};
 pub use program::parse;

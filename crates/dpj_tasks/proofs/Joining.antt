@@ -1,5 +1,5 @@
 -- The steps of putting outputs together and of looking for the first trap.
-use Rattle.std.proofs.Common.{◌≡◌, ℕ, ◌+◌, ◌<◌, List, [], ◌∷◌, ◌++◌, length, drop, get_or, refl, sym, ap, ◌∙◌, Option, Some, None, append_assoc, Bool, true, false, is_some}
+use Rattle.std.proofs.Common.{◌≡◌, ℕ, ◌+◌, ◌<◌, List, [], ◌∷◌, ◌++◌, length, drop, get_or, refl, sym, ap, ◌∙◌, Option, Some, None, append_assoc, true, false, is_some}
 use Rattle.std.proofs.lemmas.List.{drop_more, append-nil}
 use Rattle.dpj_base.specs.declared.place.Place.{Place}
 use Rattle.dpj_base.specs.declared.value.Trap.{Trap}
@@ -40,7 +40,8 @@ out_more out all ends i x e lt at is none inv =
 pub out_last : (out all : List ℕ) (ends : List (Option TaskEnd)) (i : ℕ) (x : Option TaskEnd) (e : TaskEnd) → i < length ends → x ≡ get_or ends i x
     → x ≡ Some e → is_some e.trap ≡ true → out ++ joined_out (drop i ends) ≡ all → out ++ e.out ≡ all
 out_last out all ends i x e lt at is some inv =
-    sym (append-nil (out ++ e.out)) ∙ ap (λ o. (out ++ e.out) ++ o) (sym (with_trap e.trap (joined_out (drop (i + 1) ends)) some)) ∙ step_out out all ends i x e lt at is inv
+    sym (append-nil (out ++ e.out)) ∙ ap (λ o. (out ++ e.out) ++ o) (sym (with_trap e.trap (joined_out (drop (i + 1) ends)) some))
+    ∙ step_out out all ends i x e lt at is inv
 
 split_trap : (all : Option (Trap × Place)) (ends : List (Option TaskEnd)) (i : ℕ) (x : Option TaskEnd) → i < length ends → x ≡ get_or ends i x
     → first_trap (drop i ends) ≡ all → first_trap (x ∷ drop (i + 1) ends) ≡ all

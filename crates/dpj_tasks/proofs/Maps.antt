@@ -1,8 +1,8 @@
 -- A map of tasks seen as a finite map.
-use Rattle.std.proofs.Common.{◌≡◌, ℕ, List, [], ◌∷◌, refl, sym, ap, ◌∙◌, Option, Some, None, Bool, true, false, cond, subst, IsSome, Result, Ok, Err, OnErr}
+use Rattle.std.proofs.Common.{◌≡◌, ℕ, List, [], ◌∷◌, refl, sym, ap, ◌∙◌, Some, None, Bool, true, false, cond, subst, IsSome, Result, Ok, Err, OnErr}
 use Rattle.std.specs.Ordering.{nat_cmp, is_eq, eq_by_cmp}
 use Rattle.std.specs.Cmp.{nat_cmp_total, eq_by_cmp_equiv, Equal-is}
-use Rattle.std.specs.FinMap.{FinMap, from_entries, find, get, insert, remove, empty, get-from_entries, get-insert, get-remove, get_tied, same_map, nat_cmp-IsAntisymmetric}
+use Rattle.std.specs.FinMap.{from_entries, find, get, insert, remove, get-from_entries, get-insert, get-remove, get_tied, same_map, nat_cmp-IsAntisymmetric}
 use Rattle.std.specs.Map.{lookup}
 use Rattle.std.specs.BTreeMap as tree
 use Rattle.std.specs.BTreeMap.{is_at, Updates, WritesThrough}
@@ -40,7 +40,8 @@ seen_removed m n k u = same_tasks (seen n) (remove (seen m) k) (λ q.
     get_seen n q ∙ u.0 q ∙ ap (λ b. cond b None (tree.get nat_cmp m q)) (symmetric k q)
     ∙ ap (cond (eq_by_cmp nat_cmp q k) None) (sym (get_seen m q)) ∙ sym (get-remove nat_cmp_total (seen m) k q))
 
-pub seen_changed : (m n : Map) (k : ℕ) (t : Task) (change : Task → Task) → tree.get nat_cmp m k ≡ Some t → Updates nat_cmp m n k (Some (change t)) → seen n ≡ changed (seen m) k change
+pub seen_changed : (m n : Map) (k : ℕ) (t : Task) (change : Task → Task) → tree.get nat_cmp m k ≡ Some t → Updates nat_cmp m n k (Some (change t))
+    → seen n ≡ changed (seen m) k change
 seen_changed m n k t change at u =
     seen_put m n k (change t) u ∙ ap (λ o. changed_to (seen m) k o change) (sym (get_seen m k ∙ at))
 

@@ -1,11 +1,10 @@
 -- Facts of each task of a map through its changes, and the numbers of a tree.
 use Rattle.std.proofs.Common.{◌≡◌, ◌≢◌, ℕ, ◌+◌, ◌<◌, refl, sym, ap, subst, ◌∙◌, Option, Some, None, Bool, true, false, cond, arith, true≢false}
-use Rattle.std.specs.Ordering.{nat_cmp, eq_by_cmp, is_eq}
+use Rattle.std.specs.Ordering.{nat_cmp, eq_by_cmp}
 use Rattle.std.specs.Cmp.{nat_cmp_total, Equal-is, tied_itself}
 use Rattle.std.specs.FinMap.{get, insert, remove, empty, get-insert, get-remove, get-empty, nat_cmp-IsAntisymmetric}
 use Rattle.dpj_tasks.specs.declared.task.Task.{Task}
-use Rattle.dpj_tasks.specs.declared.task.Origin.{Origin}
-use Rattle.dpj_tasks.specs.Tree.{Tasks, changed, changed_to, OfEach, OfTask, OfOrigin, OfScope, IsNumbered, CanBegin, fresh, next_origin}
+use Rattle.dpj_tasks.specs.Tree.{Tasks, changed, changed_to, OfEach, OfTask, OfOrigin, IsNumbered, fresh, next_origin}
 use Rattle.dpj_tasks.proofs.Maps.{same_tasks}
 
 same_number : (q k : ℕ) → eq_by_cmp nat_cmp q k ≡ true → q ≡ k
@@ -49,7 +48,8 @@ module _ (P : ℕ → Task → Type 0) where
   without false x q there = there
 
   pub each_removed : (tasks : Tasks) (k : ℕ) → ((q : ℕ) → OfEach (get tasks q) (P q)) → (q : ℕ) → OfEach (get (remove tasks k) q) (P q)
-  each_removed tasks k each q = subst (λ o. OfEach o (P q)) (sym (get-remove nat_cmp_total tasks k q)) (without (eq_by_cmp nat_cmp q k) (get tasks q) q (each q))
+  each_removed tasks k each q = subst (λ o. OfEach o (P q)) (sym (get-remove nat_cmp_total tasks k q)) (without (eq_by_cmp nat_cmp q k)
+      (get tasks q) q (each q))
 
   changed_at : (tasks : Tasks) (k : ℕ) (o : Option Task) (change : Task → Task) → get tasks k ≡ o → ((t : Task) → P k t → P k (change t))
       → ((q : ℕ) → OfEach (get tasks q) (P q)) → (q : ℕ) → OfEach (get (changed_to tasks k o change) q) (P q)
@@ -67,14 +67,18 @@ abbrev Rises : ℕ → Task → Type 0
 Rises q task = OfOrigin task.origin (λ origin. origin.parent < q)
 
 -- a change that keeps where the task came from
-pub numbered_changed : (tasks : Tasks) (begun k : ℕ) (change : Task → Task) → ((t : Task) → (change t).origin ≡ t.origin) → IsNumbered tasks begun → IsNumbered (changed tasks k change) begun
+pub numbered_changed : (tasks : Tasks) (begun k : ℕ) (change : Task → Task) → ((t : Task) → (change t).origin ≡ t.origin) → IsNumbered tasks begun
+    → IsNumbered (changed tasks k change) begun
 numbered_changed tasks begun k change keeps numbered = record {
-    below = each_changed (Below begun) tasks k change (λ t h. h) numbered.below;
-    rising = each_changed Rises tasks k change (λ t h. subst (λ o. OfOrigin o (λ origin. origin.parent < k)) (sym (keeps t)) h) numbered.rising
-  }
+  below = each_changed (Below begun) tasks k change (λ t h. h) numbered.below;
+  rising = each_changed Rises tasks k change (λ t h. subst (λ o. OfOrigin o (λ origin. origin.parent < k)) (sym (keeps t)) h) numbered.rising;
+}
 
 pub numbered_removed : (tasks : Tasks) (begun k : ℕ) → IsNumbered tasks begun → IsNumbered (remove tasks k) begun
-numbered_removed tasks begun k numbered = record { below = each_removed (Below begun) tasks k numbered.below; rising = each_removed Rises tasks k numbered.rising }
+numbered_removed tasks begun k numbered = record {
+  below = each_removed (Below begun) tasks k numbered.below;
+  rising = each_removed Rises tasks k numbered.rising;
+}
 
 weaker : (P Q : Task → Type 0) (o : Option Task) → ((t : Task) → P t → Q t) → OfEach o P → OfEach o Q
 weaker P Q None all each = tt
@@ -82,9 +86,10 @@ weaker P Q (Some t) all each = all t each
 
 pub numbered_inserted : (tasks : Tasks) (begun : ℕ) (t : Task) → Rises begun t → IsNumbered tasks begun → IsNumbered (insert tasks begun t) (begun + 1)
 numbered_inserted tasks begun t rises numbered = record {
-    below = each_inserted (Below (begun + 1)) tasks begun t (λ q. weaker (Below begun q) (Below (begun + 1) q) (get tasks q) (λ u h. omega arith) (numbered.below q)) (omega arith);
-    rising = each_inserted Rises tasks begun t numbered.rising rises
-  }
+  below = each_inserted (Below (begun + 1)) tasks begun t (λ q. weaker (Below begun q) (Below (begun + 1) q) (get tasks q) (λ u h. omega arith)
+      (numbered.below q)) (omega arith);
+  rising = each_inserted Rises tasks begun t numbered.rising rises;
+}
 
 -- a task that has begun has a number below the count
 pub number_below : (tasks : Tasks) (begun k : ℕ) (P : Task → Type 0) → IsNumbered tasks begun → OfTask (get tasks k) P → k < begun
@@ -107,6 +112,6 @@ next_rises begun n (Some t) lt = lt
 
 pub numbered_empty : IsNumbered empty 0
 numbered_empty = record {
-    below = λ q. subst (λ o. OfEach o (Below 0 q)) (sym (get-empty nat_cmp q)) tt;
-    rising = λ q. subst (λ o. OfEach o (Rises q)) (sym (get-empty nat_cmp q)) tt
-  }
+  below = λ q. subst (λ o. OfEach o (Below 0 q)) (sym (get-empty nat_cmp q)) tt;
+  rising = λ q. subst (λ o. OfEach o (Rises q)) (sym (get-empty nat_cmp q)) tt;
+}

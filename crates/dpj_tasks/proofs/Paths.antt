@@ -1,5 +1,5 @@
 -- A path put together from a task upwards.
-use Rattle.std.proofs.Common.{◌≡◌, ℕ, ◌<◌, List, [], ◌∷◌, ◌++◌, refl, sym, ap, subst, ◌∙◌, Option, Some, None, append_assoc, append-nil, reverse}
+use Rattle.std.proofs.Common.{◌≡◌, ℕ, ◌<◌, List, [], ◌∷◌, ◌++◌, sym, ap, subst, ◌∙◌, Option, Some, None, append_assoc, append-nil, reverse}
 use Rattle.std.proofs.lemmas.List.{reverse-append}
 use Rattle.std.specs.FinMap.{get}
 use Rattle.dpj_base.specs.declared.path.PathStep.{PathStep}
@@ -14,13 +14,16 @@ LeadsTo tasks at task upwards = (steps : List PathStep) → IsPath tasks at step
 pub leads_nowhere : (tasks : Tasks) (task : ℕ) → LeadsTo tasks task task []
 leads_nowhere tasks task steps is = subst (IsPath tasks task) (sym (append-nil steps)) is
 
-pub leads_up : (tasks : Tasks) (at task : ℕ) (upwards new : List PathStep) (origin : Origin) → new ≡ upwards ++ origin.step ∷ [] → Some origin ≡ origin_of (get tasks at)
+pub leads_up : (tasks : Tasks) (at task : ℕ) (upwards new : List PathStep) (origin : Origin) → new ≡ upwards ++ origin.step ∷ []
+    → Some origin ≡ origin_of (get tasks at)
     → LeadsTo tasks at task upwards → LeadsTo tasks origin.parent task new
 leads_up tasks at task upwards new origin pushed from leads steps is =
     subst (λ rest. IsPath tasks task (steps ++ rest)) (sym (ap reverse pushed ∙ reverse-append upwards (origin.step ∷ [])))
-      (subst (IsPath tasks task) (append_assoc steps (origin.step ∷ []) (reverse upwards)) (leads (steps ++ origin.step ∷ []) (step at origin steps (sym from) is)))
+    (subst (IsPath tasks task) (append_assoc steps (origin.step ∷ []) (reverse upwards)) (leads (steps ++ origin.step ∷ [])
+    (step at origin steps (sym from) is)))
 
-pub path_made : (tasks : Tasks) (at task : ℕ) (upwards made : List PathStep) → made ≡ reverse upwards → None ≡ origin_of (get tasks at) → LeadsTo tasks at task upwards → IsPath tasks task made
+pub path_made : (tasks : Tasks) (at task : ℕ) (upwards made : List PathStep) → made ≡ reverse upwards → None ≡ origin_of (get tasks at)
+    → LeadsTo tasks at task upwards → IsPath tasks task made
 path_made tasks at task upwards made is none leads = subst (IsPath tasks task) (sym is) (leads [] (root at (sym none)))
 
 -- a parent's number is below its child's
@@ -33,6 +36,7 @@ goes_down tasks begun at origin numbered from = found (get tasks at) (sym from) 
       where
         same : (a : Origin) → Some a ≡ Some origin → a ≡ origin
         same a e = cc
+
     found : (o : Option Task) → origin_of o ≡ Some origin → OfEach o (λ task. OfOrigin task.origin (λ above. above.parent < at)) → origin.parent < at
     found None is h = cc
     found (Some task) is h = risen task.origin is h

@@ -1,5 +1,5 @@
 -- Ends put into a scope, and how many of its branches run.
-use Rattle.std.proofs.Common.{◌≡◌, ℕ, zero, suc, ◌+◌, ◌-◌, ◌<◌, ◌≤◌, List, [], ◌∷◌, length, get_or, refl, sym, ap, ◌∙◌, Option, Some, None, Bool, true, false, is_some, arith, ◌++◌, ◌≢◌, ◌||◌, inl, inr}
+use Rattle.std.proofs.Common.{◌≡◌, ℕ, zero, suc, ◌+◌, ◌<◌, ◌≤◌, List, [], ◌∷◌, length, get_or, refl, sym, ap, ◌∙◌, Option, Some, None, true, false, is_some, arith, ◌++◌, ◌≢◌, ◌||◌, inl, inr}
 use Rattle.std.proofs.lemmas.Bool.{le-ltb}
 use Rattle.std.proofs.lemmas.Bool.Decides.{eqb_tells}
 use Rattle.std.proofs.Math.Dec.{eqb}
@@ -8,7 +8,8 @@ use Rattle.std.specs.List.{list_all}
 use Rattle.dpj_tasks.specs.Scope.{put_end, running_in, can_go_on}
 use Rattle.dpj_tasks.specs.declared.end.TaskEnd.{TaskEnd}
 
-pub put_running : (ends : List (Option TaskEnd)) (b : ℕ) (how : TaskEnd) (x : Option TaskEnd) → b < length ends → x ≡ get_or ends b x → is_some x ≡ false → set ends b (Some how) ≡ put_end ends b how
+pub put_running : (ends : List (Option TaskEnd)) (b : ℕ) (how : TaskEnd) (x : Option TaskEnd) → b < length ends → x ≡ get_or ends b x → is_some x ≡ false
+    → set ends b (Some how) ≡ put_end ends b how
 put_running [] b how x lt at none = absurd (omega arith)
 put_running (None ∷ ends) zero how x lt at none = refl
 put_running (Some e ∷ ends) zero how x lt at none = cc
@@ -21,7 +22,8 @@ put_past (x ∷ ends) zero how le = absurd (omega arith)
 put_past (None ∷ ends) (suc b) how le = ap (λ es. None ∷ es) (put_past ends b how (omega arith))
 put_past (Some e ∷ ends) (suc b) how le = ap (λ es. Some e ∷ es) (put_past ends b how (omega arith))
 
-pub put_ended : (ends : List (Option TaskEnd)) (b : ℕ) (how : TaskEnd) (x : Option TaskEnd) → b < length ends → x ≡ get_or ends b x → is_some x ≡ true → ends ≡ put_end ends b how
+pub put_ended : (ends : List (Option TaskEnd)) (b : ℕ) (how : TaskEnd) (x : Option TaskEnd) → b < length ends → x ≡ get_or ends b x → is_some x ≡ true
+    → ends ≡ put_end ends b how
 put_ended [] b how x lt at some = absurd (omega arith)
 put_ended (None ∷ ends) zero how x lt at some = cc
 put_ended (Some e ∷ ends) zero how x lt at some = refl

@@ -1,5 +1,5 @@
 -- A scope: how many branches its fork has, and those that have begun, in branch order, each with its end once it has ended.
-use Rattle.std.specs.Prelude.{◌≡◌, ℕ, zero, suc, ◌+◌, ◌<◌, ◌≤◌, Bool, true, false, not, ◌||◌, nat_lt, List, [], ◌∷◌, ◌++◌, length, is_some, Option, Some, None}
+use Rattle.std.specs.Prelude.{◌≡◌, ℕ, zero, suc, ◌+◌, ◌<◌, ◌≤◌, Bool, not, ◌||◌, nat_lt, List, [], ◌∷◌, ◌++◌, length, is_some, Option, Some, None}
 use Rattle.std.specs.List.{list_all}
 use Rattle.dpj_tasks.specs.declared.end.TaskEnd.{TaskEnd}
 

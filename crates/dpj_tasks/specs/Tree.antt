@@ -25,7 +25,7 @@ pub record Tree : Type 0 where
 abbrev pub tree_code : Coded Task → Coded TaskEnd → Coded Tree
 tree_code task end =
     code_by (Tasks × (ℕ × Option TaskEnd)) (coded× (code coded_ℕ task) (coded× coded_ℕ (coded_option end)))
-      (λ t. (t.tasks, (t.begun, t.root_end))) (λ p. record { tasks = p.0; begun = p.1.0; root_end = p.1.1 }) (λ _. refl)
+    (λ t. (t.tasks, (t.begun, t.root_end))) (λ p. record { tasks = p.0; begun = p.1.0; root_end = p.1.1 }) (λ _. refl)
 
 abbrev pub task_at : Tree → ℕ → Option Task
 task_at tree n = get tree.tasks n
@@ -111,18 +111,18 @@ forked tree n count = record { tasks = changed tree.tasks n (forked_task count);
 -- the next branch of the task's scope has begun, as a task of its own
 abbrev pub with_task : Tree → ℕ → Tree
 with_task tree n = record {
-    tasks = changed (insert tree.tasks tree.begun (fresh (next_origin n (task_at tree n)))) n (with_scope with_branch);
-    begun = tree.begun + 1;
-    root_end = tree.root_end
-  }
+  tasks = changed (insert tree.tasks tree.begun (fresh (next_origin n (task_at tree n)))) n (with_scope with_branch);
+  begun = tree.begun + 1;
+  root_end = tree.root_end;
+}
 
 abbrev pub end_noted : Tree → ℕ → Option Origin → TaskEnd → Tree
 end_noted tree n None how = record { tasks = remove tree.tasks n; begun = tree.begun; root_end = Some how }
 end_noted tree n (Some origin) how = record {
-    tasks = changed (remove tree.tasks n) origin.parent (with_scope (λ scope. with_end scope origin.step.branch how));
-    begun = tree.begun;
-    root_end = tree.root_end
-  }
+  tasks = changed (remove tree.tasks n) origin.parent (with_scope (λ scope. with_end scope origin.step.branch how));
+  begun = tree.begun;
+  root_end = tree.root_end;
+}
 
 abbrev pub origin_of : Option Task → Option Origin
 origin_of None = None
@@ -148,7 +148,8 @@ ends_in (Some task) = scope_ends task.state
 -- a path: the steps from the root to a task
 pub data IsPath (tasks : Tasks) : ℕ → List PathStep → Type 0 where
   root : (n : ℕ) → origin_of (get tasks n) ≡ None → IsPath tasks n []
-  step : (n : ℕ) (origin : Origin) (steps : List PathStep) → origin_of (get tasks n) ≡ Some origin → IsPath tasks origin.parent steps → IsPath tasks n (steps ++ origin.step ∷ [])
+  step : (n : ℕ) (origin : Origin) (steps : List PathStep) → origin_of (get tasks n) ≡ Some origin → IsPath tasks origin.parent steps
+      → IsPath tasks n (steps ++ origin.step ∷ [])
 
 -- the task is the last with a number below the bound
 pub record IsLastBelow (tasks : Tasks) (bound n : ℕ) : Type 0 where

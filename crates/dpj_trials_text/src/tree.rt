@@ -62,7 +62,7 @@ fn only_nd_constructs_make_a_program_nd(rt: HostRuntime) -> Result<(), Fail> {
         nd: true,
         branches: Items::new(alloc),
     };
-    let atomic = StmtKind::Atomic(Items::from_vec(vec![in alloc; stmt(0, inside)]?));
+    let atomic = StmtKind::Atomic(Items::from_vec(vec![in alloc; stmt(inside)]?));
     assert!(rt; uses_nd(&program_of(alloc, atomic)?));
     assert!(rt; !uses_nd(&program_of(alloc, StmtKind::Return(None))?));
     Ok(())

@@ -1,5 +1,4 @@
 use Rattle.dpj_tree.specs.Plain.{plain_expr}
-use Rattle.dpj_check.specs.Checking.{opened}
 use Rattle.dpj_check.specs.Walks.{walk_of}
 use Rattle.dpj_check.proofs.Cuts.{array_stops, count_stops, opens}
 use Rattle.dpj_check.proofs.parts.open.Goals as goal

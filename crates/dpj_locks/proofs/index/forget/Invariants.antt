@@ -4,6 +4,6 @@ use Rattle.dpj_locks.proofs.index.forget.Given as goal
 
 abbrev pub invariant-loop-elem : goal.invariant-loop-elem
 invariant-loop-elem l = record {
-    under : (k q : ℕ) → q ≢ l.task → has l.initial.index.under k q ≡ true → has l.index.under k q ≡ true;
-    ending : (k q : ℕ) → q ≢ l.task → has l.initial.index.ending k q ≡ true → has l.index.ending k q ≡ true
-  }
+  under : (k q : ℕ) → q ≢ l.task → has l.initial.index.under k q ≡ true → has l.index.under k q ≡ true;
+  ending : (k q : ℕ) → q ≢ l.task → has l.initial.index.ending k q ≡ true → has l.index.ending k q ≡ true;
+}

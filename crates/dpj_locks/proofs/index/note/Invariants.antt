@@ -5,7 +5,7 @@ use Rattle.dpj_locks.proofs.index.note.Given as goal
 
 abbrev pub invariant-loop-elem : goal.invariant-loop-elem
 invariant-loop-elem l = record {
-    leads : Leads l.index.under l.task l.number (drop l.elem-index l.elems) l.elems;
-    under : (k q : ℕ) → has l.initial.index.under k q ≡ true → has l.index.under k q ≡ true;
-    ending : (k q : ℕ) → has l.initial.index.ending k q ≡ true → has l.index.ending k q ≡ true
-  }
+  leads : Leads l.index.under l.task l.number (drop l.elem-index l.elems) l.elems;
+  under : (k q : ℕ) → has l.initial.index.under k q ≡ true → has l.index.under k q ≡ true;
+  ending : (k q : ℕ) → has l.initial.index.ending k q ≡ true → has l.index.ending k q ≡ true;
+}

@@ -1,7 +1,6 @@
 -- An entry more in the map.
 use Rattle.std.proofs.Common.{ap, sym, ◌∙◌, is_some, None, Some}
-use Rattle.std.specs.FinMap.{get}
-use Rattle.dpj_locks.specs.Locks.{Standings, deepened_from}
+use Rattle.dpj_locks.specs.Locks.{deepened_from}
 use Rattle.dpj_locks.proofs.Maps.{seen}
 use Rattle.dpj_locks.proofs.Changes.{at_key, entry_more}
 use Rattle.dpj_locks.proofs.standings.StandingMap.deepen.Goals as goal
@@ -15,9 +14,11 @@ returns-in_default-clause-deeper c =
     ∙ ap (deepened_from c.args.self.now c.args.task) (sym (at_key c.self.inside.map c.args.task None c.args.self.now c.in_default.ensures.value c.self.view_is))
 
 pub returns-clause-inside : goal.returns-clause-inside
-returns-clause-inside c = sym (ap is_some (at_key c.self.inside.map c.args.task (Some c.in-Some.standing.now) c.args.self.now c.in-Some.ensures.value c.self.view_is))
+returns-clause-inside c = sym (ap is_some (at_key c.self.inside.map c.args.task
+    (Some c.in-Some.standing.now) c.args.self.now c.in-Some.ensures.value c.self.view_is))
 
 pub returns-clause-deeper : goal.returns-clause-deeper
 returns-clause-deeper c =
-    entry_more c.self.inside.map c.get_mut.follows.lender c.args.task c.deepen.new.self c.in-Some.standing.now c.args.self.now c.in-Some.ensures.value c.get_mut.follows.holds
-      c.deepen.ensures c.self.view_is
+    entry_more c.self.inside.map c.get_mut.follows.lender c.args.task c.deepen.new.self c.in-Some.standing.now c.args.self.now c.in-Some.ensures.value
+    c.get_mut.follows.holds
+    c.deepen.ensures c.self.view_is

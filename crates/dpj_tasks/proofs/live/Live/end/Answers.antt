@@ -7,11 +7,13 @@ use Rattle.dpj_tasks.proofs.live.Live.end.Goals as goal
 
 pub returns-in_default : goal.returns-in_default
 returns-in_default c =
-    not_written c.self.inside.tasks c.get_mut.follows.lender-at-none c.args.number (with_scope (λ scope. with_end scope c.args.branch c.args.how)) c.in_default.ensures.value c.get_mut.follows.holds-at-none
+    not_written c.self.inside.tasks c.get_mut.follows.lender-at-none c.args.number (with_scope
+    (λ scope. with_end scope c.args.branch c.args.how)) c.in_default.ensures.value c.get_mut.follows.holds-at-none
     ∙ ap (λ (tasks : Tasks). changed tasks c.args.number (with_scope (λ scope. with_end scope c.args.branch c.args.how))) c.self.view_is
 
 pub returns : goal.returns
 returns c =
-    written c.self.inside.tasks c.get_mut.follows.lender c.args.number _ c.in-Some.task.now (with_scope (λ scope. with_end scope c.args.branch c.args.how)) c.in-Some.ensures.value c.get_mut.follows.holds
-      (ap (λ state. record { origin = c.in-Some.task.now.origin; forks = c.in-Some.task.now.forks; state = state }) c.end.ensures)
+    written c.self.inside.tasks c.get_mut.follows.lender c.args.number _ c.in-Some.task.now (with_scope
+    (λ scope. with_end scope c.args.branch c.args.how)) c.in-Some.ensures.value c.get_mut.follows.holds
+    (ap (λ state. record { origin = c.in-Some.task.now.origin; forks = c.in-Some.task.now.forks; state = state }) c.end.ensures)
     ∙ ap (λ (tasks : Tasks). changed tasks c.args.number (with_scope (λ scope. with_end scope c.args.branch c.args.how))) c.self.view_is

@@ -15,17 +15,18 @@ join-requires c = of_found c.self.inside.tasks c.args.number c.in-Some.task.now 
 pub returns-clause-joined : goal.returns-clause-joined
 returns-clause-joined c =
     written c.self.inside.tasks c.get_mut.follows.lender c.args.number _ c.in-Some.task.now (joined_task) c.in-Some.ensures.value c.get_mut.follows.holds
-      (ap (λ state. record { origin = c.in-Some.task.now.origin; forks = c.in-Some.task.now.forks; state = state }) c.in_ok-joined.ensures.joined)
+    (ap (λ state. record { origin = c.in-Some.task.now.origin; forks = c.in-Some.task.now.forks; state = state }) c.in_ok-joined.ensures.joined)
     ∙ ap (λ (tasks : Tasks). changed tasks c.args.number (joined_task)) c.self.view_is
 
 pub returns-clause-ok : goal.returns-clause-ok
 returns-clause-ok c =
     subst (λ o. JoinsTo (ends_in o) c.in_ok-joined.joined)
-      (c.in-Some.ensures.value ∙ sym (get_seen c.self.inside.tasks c.args.number) ∙ ap (λ (tasks : Tasks). get tasks c.args.number) c.self.view_is) c.in_ok-joined.ensures.ok
+    (c.in-Some.ensures.value ∙ sym (get_seen c.self.inside.tasks c.args.number)
+    ∙ ap (λ (tasks : Tasks). get tasks c.args.number) c.self.view_is) c.in_ok-joined.ensures.ok
 
 pub returns-in_err-joined-clause-err : goal.returns-in_err-joined-clause-err
 returns-in_err-joined-clause-err c =
     on_err c.from_residual.result _
-      (written_same c.self.inside.tasks c.get_mut.follows.lender c.args.number _ c.in-Some.task.now c.in-Some.ensures.value c.get_mut.follows.holds
-        (ap (λ state. record { origin = c.in-Some.task.now.origin; forks = c.in-Some.task.now.forks; state = state }) c.in_err-joined.ensures.err)
-        ∙ c.self.view_is)
+    (written_same c.self.inside.tasks c.get_mut.follows.lender c.args.number _ c.in-Some.task.now c.in-Some.ensures.value c.get_mut.follows.holds
+    (ap (λ state. record { origin = c.in-Some.task.now.origin; forks = c.in-Some.task.now.forks; state = state }) c.in_err-joined.ensures.err)
+    ∙ c.self.view_is)

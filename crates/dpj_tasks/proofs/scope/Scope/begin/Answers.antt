@@ -1,5 +1,5 @@
 -- One branch more runs.
-use Rattle.std.proofs.Common.{◌≡◌, ◌+◌, ◌∷◌, [], length, ap, sym, ◌∙◌, arith, None, length-append}
+use Rattle.std.proofs.Common.{◌+◌, ◌∷◌, [], length, ap, sym, ◌∙◌, arith, None, length-append}
 use Rattle.dpj_tasks.specs.Scope.{Branches, running_in}
 use Rattle.dpj_tasks.proofs.Scopes.{running_more, running_within}
 use Rattle.dpj_tasks.proofs.scope.Scope.begin.Goals as goal
@@ -18,5 +18,5 @@ invariant_of-self-2 c =
     record {
       running = ap (λ n. n + 1) c.self.invariant.running ∙ sym (ap running_in items ∙ running_more c.self.inside.ends.items);
       within = omega (arith, ap length items, length-append c.self.inside.ends.items (None ∷ []), c.requires, room, limit);
-      small = c.self.invariant.small
+      small = c.self.invariant.small;
     }

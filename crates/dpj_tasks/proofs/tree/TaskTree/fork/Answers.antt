@@ -7,4 +7,4 @@ use Rattle.dpj_tasks.proofs.tree.TaskTree.fork.Goals as goal
 pub invariant_of-self : goal.invariant_of-self
 invariant_of-self c =
     subst (λ tasks. IsNumbered tasks c.self.inside.begun) (sym c.fork.ensures)
-      (numbered_changed c.self.inside.tasks c.self.inside.begun c.args.task (forked_task c.args.branches) (λ t. refl) c.self.invariant)
+    (numbered_changed c.self.inside.tasks c.self.inside.begun c.args.task (forked_task c.args.branches) (λ t. refl) c.self.invariant)

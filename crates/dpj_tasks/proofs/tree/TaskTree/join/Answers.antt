@@ -7,4 +7,4 @@ use Rattle.dpj_tasks.proofs.tree.TaskTree.join.Goals as goal
 pub invariant_of-self-2 : goal.invariant_of-self-2
 invariant_of-self-2 c =
     subst (λ tasks. IsNumbered tasks c.self.inside.begun) (sym c.in_ok-joined.ensures.joined)
-      (numbered_changed c.self.inside.tasks c.self.inside.begun c.args.task joined_task (λ t. refl) c.self.invariant)
+    (numbered_changed c.self.inside.tasks c.self.inside.begun c.args.task joined_task (λ t. refl) c.self.invariant)

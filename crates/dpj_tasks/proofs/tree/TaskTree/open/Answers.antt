@@ -8,5 +8,5 @@ use Rattle.dpj_tasks.proofs.tree.TaskTree.open.Goals as goal
 pub invariant_of-result : goal.invariant_of-result
 invariant_of-result c =
     subst (λ tasks. IsNumbered tasks 1)
-      (sym (c.in_ok-insert.ensures.ok ∙ ap (λ tasks. insert tasks 0 c.fresh.result) c.new-tasks.ensures ∙ ap (insert empty 0) c.fresh.ensures))
-      (numbered_inserted empty 0 (fresh None) tt numbered_empty)
+    (sym (c.in_ok-insert.ensures.ok ∙ ap (λ tasks. insert tasks 0 c.fresh.result) c.new-tasks.ensures ∙ ap (insert empty 0) c.fresh.ensures))
+    (numbered_inserted empty 0 (fresh None) tt numbered_empty)

@@ -1,0 +1,5 @@
+use Rattle.dpj_parse.proofs.OneFault.{one_place, no_place}
+use Rattle.dpj_parse.proofs.laws.one_fault.Goals as goal
+
+pub returns : goal.returns
+returns c = record { one = one_place; none = no_place }

@@ -1,0 +1,13 @@
+-- What is expected of a text is what the grammar says of it.
+use Rattle.std.specs.Prelude.{List, [], ◌∷◌, ◌++◌}
+use Rattle.dpj_terminals.specs.declared.terminal.Placed.{Placed}
+use Rattle.dpj_tree.specs.declared.class.Class.{Class}
+use Rattle.dpj_parse.specs.Classes.{DerivesProgram}
+use Rattle.dpj_parse.specs.Expecting.{Part, Expected, part, Steps, IsLost}
+use Rattle.dpj_parse.specs.Viable.{IsLostBefore}
+
+pub record ExpectedText : Type 0 where
+  -- what derives a program is read to its end
+  pub read : (list : List Placed) (classes : List Class) → DerivesProgram list classes → Steps [] [] (part Part.program ∷ []) list
+  -- where a text is lost, no program goes on so
+  pub lost : (read here : List Placed) (to : List Expected) → Steps to here (part Part.program ∷ []) (read ++ here) → IsLost to here → IsLostBefore read here
