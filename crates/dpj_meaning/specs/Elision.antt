@@ -6,13 +6,13 @@ use Rattle.dpj_base.specs.declared.value.Trap.{Trap}
 use Rattle.dpj_typed.specs.Plain.{PlainProgram, PlainMember, no_stmts}
 use Rattle.dpj_typed.specs.Scope.{member_at}
 use Rattle.dpj_meaning.specs.Values.{Value, Int, Object, Thing, An_object, An_array, Naming}
-use Rattle.dpj_meaning.specs.Actions.{Work, Task, Ending, Returned, Assigned, Trapped, Own, Rest, Read, Write, Look, New, Print, Enter, Exit}
+use Rattle.dpj_meaning.specs.Actions.{Work, Task, Ending, Trapped, Own, Rest, Read, Write, Look, New, Print, Enter, Exit}
 use Rattle.dpj_meaning.specs.Actions.{Answer, Went, Got, Out, Class, Length, Named}
 use Rattle.dpj_meaning.specs.Asking.{ended, does}
 use Rattle.dpj_meaning.specs.Core.{Result, Done, Stopped, Lost, bind, World, run}
 use Rattle.dpj_meaning.specs.Core.{Out as out}
 use Rattle.dpj_meaning.specs.Costs.{size, own_steps, own_cells}
-use Rattle.dpj_meaning.specs.Counts.{Brought, brought}
+use Rattle.dpj_meaning.specs.Counts.{brought}
 use Rattle.dpj_meaning.specs.Expressions.{entered, new_object}
 use Rattle.dpj_meaning.specs.Outcomes.{joined, Limits, Outcome, Came, Limited}
 

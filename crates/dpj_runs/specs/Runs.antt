@@ -1,9 +1,7 @@
 -- Runs of a program: what each task has made, and how each event is answered by those before it. Blocks are left aside.
 use Rattle.std.specs.Prelude.{ℕ, suc, ◌+◌, ◌≡◌, if◌then◌else◌, List, [], ◌∷◌, ◌++◌, length, map, Option, Some, None, slice_get}
-use Rattle.dpj_base.specs.declared.value.Trap.{Trap}
-use Rattle.dpj_base.specs.declared.place.Place.{Place}
 use Rattle.dpj_runs.specs.Objects.{Path, same_path, Name, Value, Thing, An_object, An_array, size, or_else, first_value, Cell, slot_of, is_cell}
-use Rattle.dpj_runs.specs.Actions.{Task, Branches, Ending, Returned, Assigned, Trapped, Own, Rest, Read, Write, Look, New, Print, Enter, Exit}
+use Rattle.dpj_runs.specs.Actions.{Task, Branches, Ending, Own, Rest, Read, Write, Look, New, Print, Enter, Exit}
 use Rattle.dpj_runs.specs.Actions.{Action, Do, Fork, Begin, Join, End, Answer, Went, Got, Out, Class, Length, Named, Joined, Fell, Next, Program, steps, cells}
 pub use Rattle.dpj_meaning.specs.Outcomes.{trap_of, first_trap, locals_of, all_locals, joined_or, joined}
 

@@ -4,4 +4,11 @@ use Rattle.dpj_meaning.proofs.Turns.{loops_again}
 use Rattle.dpj_meaning.proofs.laws.law_tasks.Goals as goal
 
 pub returns : goal.returns
-returns g c = record { disciplined = asks_disciplined; lively = asks_lively; in_turn = asks_in_turn; paced = asks_paced; loops = loops_again; coherent = each_coherent }
+returns g c = record {
+  disciplined = asks_disciplined;
+  lively = asks_lively;
+  in_turn = asks_in_turn;
+  paced = asks_paced;
+  loops = loops_again;
+  coherent = each_coherent;
+}
