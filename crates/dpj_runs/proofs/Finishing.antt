@@ -40,7 +40,7 @@ entry_some (e ∷ es) h = refl
 
 module _ (P : Program) (D : Disciplined P) (free : AllFree P) where
   -- a run that costs no more than one within the limits is within them
-  none_over : (L : Limits) (R S : Run) (x : Ending) → Legal P R → Within P L R → Ended R [] x → Legal P S → Within P L S
+  pub none_over : (L : Limits) (R S : Run) (x : Ending) → Legal P R → Within P L R → Ended R [] x → Legal P S → Within P L S
   none_over L R S x l w g m =
       let a = none_costs_more P D S R x m l (free S m) (free R l) g event_steps in
       let b = none_costs_more P D S R x m l (free S m) (free R l) g event_cells in

@@ -1,29 +1,33 @@
 -- The samples.
-use Rattle.std.proofs.Common.{◌≡◌, ℕ, pos, zero, suc, ◌⊎◌, inl, inr, ⊎_elim, Bool, true, false, cond, true≢false, ◌==◌, List}
+use Rattle.std.proofs.Common.{◌≡◌, ℕ, pos, zero, suc, ◌+◌, ◌⊎◌, inl, inr, ⊎_elim, Bool, true, false, cond, true≢false, ◌==◌, List}
 use Rattle.std.proofs.Common.{[], ◌∷◌, length, map, refl, sym, ap, ◌∙◌, subst, arith, Option, Some, None, slice_get}
 use Rattle.dpj_base.specs.declared.effect.Access.TheVariants as access
 use Rattle.dpj_typed.specs.declared.stmt.Forking.{Forking}
 use Rattle.dpj_runs.specs.Actions.{Action, Answer, Assigned, Begin, Branches, Deterministic, Do, End, Ending, Enter, Exit, Got, Look, New, Next}
 use Rattle.dpj_runs.specs.Actions.{Nondeterministic, Print, Program, Read, Reply, Rest, Returned, Rule, Went, Write}
 use Rattle.dpj_runs.specs.Blocks.{Allowed, Legal}
-use Rattle.dpj_runs.specs.Meaning.{Paced}
+use Rattle.dpj_runs.specs.Laws.{AllFree}
+use Rattle.dpj_runs.specs.Meaning.{Disciplined, InTurn, Known, Lively, Paced}
 use Rattle.dpj_runs.specs.Objects.{An_array, Effect, Int, Name, Path, Any_parts, Value, same_path}
 use Rattle.dpj_runs.specs.Order.{Comes, Free, below_join}
 use Rattle.dpj_runs.specs.Runs.{Begun, Ended, Event, Follows, Right, Run, Upto, answers, branch, cells_of, count, last_written, later, mine, now, reply, root}
 use Rattle.dpj_runs.specs.Runs.{steps_of, things, total}
-use Rattle.dpj_runs.specs.Samples.{BoundApplies, BoundNeedsPaced, ComparisonApplies, ComparisonNeedsFree, DeterminismApplies, ReadyApplies, ReadyNeedsKnown}
-use Rattle.dpj_runs.specs.Samples.{RespectsNeedsPassing}
-use Rattle.dpj_runs.specs.Schedules.{Finished, Limits, Ran, Within, ended}
+use Rattle.dpj_runs.specs.Samples.{BoundApplies, BoundNeedsPaced, ComparisonApplies, ComparisonNeedsFree, DeterminismApplies, GreatestApplies, ReadyApplies}
+use Rattle.dpj_runs.specs.Samples.{ReadyNeedsKnown, RespectsNeedsPassing}
+use Rattle.dpj_runs.specs.Schedules.{Finished, Greatest, Greedy, Limits, Ran, Ready, Within, begins, ended, one_begin}
 use Rattle.dpj_runs.specs.Standing.{Inside, Outside, above, first_of, standing}
 use Rattle.dpj_runs.proofs.Upto.{upto_none, upto_same, upto_length, upto_split}
 use Rattle.dpj_runs.proofs.Faithful.{agree_self, next_same, same_task}
 use Rattle.dpj_runs.proofs.Written.{legal_from, admitted_from, legal_faithful}
-use Rattle.dpj_runs.proofs.Schedules.{one_run, recorded, ran_length}
-use Rattle.dpj_runs.proofs.Theorems.{each_comes_out, same_outcome}
-use Rattle.dpj_runs.proofs.Scripts.{number_of, main, int, does, forks, Body, body_of, after, task, scripted, script_disciplined, script_lively}
+use Rattle.dpj_runs.proofs.Cost.{total_nil, total_step}
+use Rattle.dpj_runs.proofs.Numbers.{begins_nil, begins_step}
+use Rattle.dpj_runs.proofs.Schedules.{one_run, ran_legal, recorded, ran_length}
+use Rattle.dpj_runs.proofs.Theorems.{each_comes_out, same_events, same_outcome}
+use Rattle.dpj_runs.proofs.Scripts.{number_of, main, int, does, forks, Body, body_of, after, task, scripted, script_disciplined, script_in_turn}
+use Rattle.dpj_runs.proofs.Scripts.{script_lively}
 use Rattle.dpj_runs.proofs.Play.{run_of, play, played, task_begun, has_ended_with}
 use Rattle.dpj_runs.proofs.Tests.{is_free, script_free, script_known}
-use Rattle.dpj_runs.proofs.Finishing.{schedules_agree}
+use Rattle.dpj_runs.proofs.Finishing.{greatest_finishes, none_over, schedules_agree}
 
 abbrev two : Forking → Branches
 two k = record { kind = k; tasks = task 1 ∷ task 2 ∷ [] }
@@ -310,6 +314,86 @@ determinism_applies =
       f,
       subst (λ o. Finished prints L s.0 o) (sym same) g,
     )
+
+abbrev one_begun : Event → ℕ
+one_begun e = one_begin e.act
+
+begins_total : (R : Run) → begins R ≡ total one_begun R
+begins_total [] = begins_nil ∙ sym (total_nil one_begun)
+begins_total (e ∷ R) = begins_step e R ∙ ap (λ n. one_begin e.act + n) (begins_total R) ∙ sym (total_step one_begun e R)
+
+two_begun : total one_begun turn_run ≡ 2
+unfolding mine last_written things above first_of total
+two_begun = refl
+
+-- none of them rests
+no_rest : (b n : ℕ) → after (body_of (slice_get (first_body ∷ printers) b)).items (body_of (slice_get (first_body ∷ printers) b)).ending n ≡ Next 0 (Do Rest) → ⊥
+no_rest zero zero e = cc
+no_rest zero (suc zero) e = cc
+no_rest zero (suc (suc zero)) e = cc
+no_rest zero (suc (suc (suc zero))) e = cc
+no_rest zero (suc (suc (suc (suc zero)))) e = cc
+no_rest zero (suc (suc (suc (suc (suc zero))))) e = cc
+no_rest zero (suc (suc (suc (suc (suc (suc zero)))))) e = cc
+no_rest zero (suc (suc (suc (suc (suc (suc (suc n))))))) e = cc
+no_rest (suc zero) zero e = cc
+no_rest (suc zero) (suc zero) e = cc
+no_rest (suc zero) (suc (suc n)) e = cc
+no_rest (suc (suc zero)) zero e = cc
+no_rest (suc (suc zero)) (suc zero) e = cc
+no_rest (suc (suc zero)) (suc (suc n)) e = cc
+no_rest (suc (suc (suc b))) zero e = cc
+no_rest (suc (suc (suc b))) (suc n) e = cc
+
+prints_paced : Paced prints
+prints_paced = record { enters = λ p t got a e. absurd (no_rest (number_of t) (length got) e) }
+
+empty_costs : (steps_of [] ≡ 0) × (cells_of prints [] ≡ 2)
+unfolding mine last_written things above first_of total
+empty_costs = (refl, refl)
+
+pub greatest_applies : GreatestApplies
+greatest_applies = go (greatest_finishes prints D V T K prints_paced L w)
+  where
+    D : Disciplined prints
+    D = script_disciplined (first_body ∷ printers) (int 0 ∷ []) never
+
+    V : Lively prints
+    V = script_lively (first_body ∷ printers) (int 0 ∷ []) never
+
+    T : InTurn prints
+    T = script_in_turn (first_body ∷ printers) (int 0 ∷ []) never
+
+    K : Known prints
+    K = script_known (first_body ∷ printers) (int 0 ∷ []) never refl
+
+    free : AllFree prints
+    free = script_free first_body printers (int 0 ∷ []) never refl
+
+    L : Limits
+    L = record { steps = 9; cells = 6 }
+
+    w : Within prints L []
+    w = record { steps = (let n = empty_costs.0 in omega arith); cells = (let n = empty_costs.1 in omega arith) }
+
+    l : Legal prints turn_run
+    l = legal_play (first_body ∷ printers) (int 0 ∷ []) never one_by_one turn_run turn_played
+
+    v : Within prints L turn_run
+    v = record { steps = (let n = turn_costs.0 in omega arith); cells = (let n = turn_costs.1 in omega arith) }
+
+    go : (ks : List ℕ) × (R : Run) × Ran prints L ks R × Greedy prints R
+        × (((x : Ending) × Ended R [] x) ⊎ ((e : Event) × (k : ℕ) × Ready prints R k e × Greatest prints R e × (Within prints L (e ∷ R) → ⊥))) → GreatestApplies
+    go z = ⊎_elim done (λ h. absurd (h.4 (none_over prints D free L turn_run (h.0 ∷ z.1) (Returned (int 5)) l v turn_ended (h.2.allowed, m)))) z.4
+      where
+        m : Legal prints z.1
+        m = ran_legal prints L z.0 z.1 z.2
+
+        done : (x : Ending) × Ended z.1 [] x → GreatestApplies
+        done h =
+            let s = same_events prints D turn_run z.1 (Returned (int 5)) h.0 l m (free turn_run l) (free z.1 m) turn_ended h.1 in
+            let n = begins_total z.1 ∙ sym (s.2 one_begun) ∙ two_begun in
+            (prints, D, V, T, K, z.1, m, z.3, h.0, h.1, omega arith)
 
 -- two branches with blocks that the rule keeps apart
 abbrev any_effect : List Effect

@@ -5,8 +5,8 @@ use Rattle.dpj_runs.specs.Actions.{Ending, Program, Task}
 use Rattle.dpj_runs.specs.Runs.{Begun, Ended, Event, Run, Upto, count}
 use Rattle.dpj_runs.specs.Blocks.{Allowed, Legal}
 use Rattle.dpj_runs.specs.Order.{Agree, Before, Comes, Free, Outcome}
-use Rattle.dpj_runs.specs.Meaning.{Disciplined, Known, Lively, Paced}
-use Rattle.dpj_runs.specs.Schedules.{Finished, Limits, Ran}
+use Rattle.dpj_runs.specs.Meaning.{Disciplined, InTurn, Known, Lively, Paced}
+use Rattle.dpj_runs.specs.Schedules.{Finished, Greedy, Limits, Ran, begins}
 use Rattle.dpj_runs.specs.Laws.{AllFree}
 
 -- two legal runs without unordered conflicts, in different orders, that come out the same
@@ -45,3 +45,8 @@ BoundNeedsPaced = (P : Program) × Disciplined P × (L : Limits) × (ks : List �
 abbrev pub DeterminismApplies : Type 0
 DeterminismApplies = (P : Program) × Disciplined P × AllFree P × (L : Limits) × (ks : List ℕ) × (js : List ℕ) × (ks ≡ js → ⊥)
     × (o : Outcome) × Finished P L ks o × Finished P L js o
+
+-- a run with branches in which the greatest number always goes on, whose root has ended
+abbrev pub GreatestApplies : Type 0
+GreatestApplies = (P : Program) × Disciplined P × Lively P × InTurn P × Known P × (R : Run) × Legal P R × Greedy P R × (x : Ending) × Ended R [] x
+    × (0 < begins R)

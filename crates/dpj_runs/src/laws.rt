@@ -4,7 +4,7 @@ ghost use Rattle.dpj_runs.specs.Laws.{BlocksByStanding, LegalIsFaithful, Respect
 ghost use Rattle.dpj_runs.specs.Laws.{EachComesOut, OneOutcome, NothingAfter, SomeReady, OneNext, OneRun, RanIsLegal, EachRecorded};
 ghost use Rattle.dpj_runs.specs.Laws.{ScheduleIsBounded, FinishedIsBounded, SchedulesAgree, EachFinishes, GreatestFirst, GreatestFinishes};
 ghost use Rattle.dpj_runs.specs.Samples.{ComparisonApplies, ComparisonNeedsFree, RespectsNeedsPassing, ReadyApplies, ReadyNeedsKnown};
-ghost use Rattle.dpj_runs.specs.Samples.{BoundApplies, BoundNeedsPaced, DeterminismApplies};
+ghost use Rattle.dpj_runs.specs.Samples.{BoundApplies, BoundNeedsPaced, DeterminismApplies, GreatestApplies};
 
 /// Who stands inside which block is known from paths and from each task's own events.
 pub fn law_blocks()
@@ -73,4 +73,5 @@ pub fn law_samples()
     ensures bound { BoundApplies }
     ensures rests { BoundNeedsPaced }
     ensures determinism { DeterminismApplies }
+    ensures greatest { GreatestApplies }
 {}

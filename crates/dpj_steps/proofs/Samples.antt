@@ -1,16 +1,23 @@
 -- The sample runs, by playing them.
-use Rattle.std.proofs.Common.{◌≡◌, ℕ, ℤ, pos, List, [], ◌∷◌, refl, Some}
+use Rattle.std.proofs.Common.{◌≡◌, ℕ, ℤ, pos, List, [], ◌∷◌, refl, sym, ap, ◌∙◌, arith, Some}
 use Rattle.std.specs.Fmt.{digits}
 use Rattle.dpj_typed.specs.Plain.{PlainProgram}
 use Rattle.dpj_meaning.specs.Asking.{ask, meaning}
 use Rattle.dpj_meaning.specs.Samples.{divides, fills_and_reads}
+use Rattle.dpj_meaning.specs.Outcomes.{Came, Limited}
+use Rattle.dpj_meaning.specs.Values.{Int}
+use Rattle.dpj_runs.specs.Actions.{Program, Returned}
 use Rattle.dpj_runs.specs.Blocks.{Legal}
 use Rattle.dpj_runs.specs.Objects.{Path}
-use Rattle.dpj_runs.specs.Runs.{Run, last_written, mine, things, total}
+use Rattle.dpj_runs.specs.Order.{Outcome}
+use Rattle.dpj_runs.specs.Runs.{Ended, Run, cells_of, last_written, mine, steps_of, things, total}
+use Rattle.dpj_runs.specs.Schedules.{Limits, Within, ended}
 use Rattle.dpj_runs.specs.Standing.{above, first_of}
 use Rattle.dpj_runs.proofs.Play.{run_of, play, played, has_ended_with}
 use Rattle.dpj_runs.proofs.Written.{legal_from}
-use Rattle.dpj_steps.specs.Samples.{DividesRuns, FillsRun}
+use Rattle.dpj_runs.proofs.Schedules.{recorded}
+use Rattle.dpj_runs.proofs.Theorems.{each_comes_out}
+use Rattle.dpj_steps.specs.Samples.{DividesRuns, FillsRun, SchedulesNeedFree, races}
 use Rattle.dpj_steps.specs.Steps.{stepped}
 use Rattle.dpj_steps.proofs.Steps.{each_keeps}
 
@@ -62,3 +69,68 @@ fills_run = record {
   steps_are = refl;
   cells_are = refl;
 }
+
+abbrev race : Program
+race = stepped races (pos 0)
+
+-- the second branch writes last, or the first one does
+abbrev second_last : List Path
+second_last = [] ∷ [] ∷ [] ∷ first_fork 1 ∷ first_fork 1 ∷ first_fork 0 ∷ first_fork 0 ∷ [] ∷ [] ∷ [] ∷ []
+
+abbrev first_last : List Path
+first_last = [] ∷ [] ∷ [] ∷ [] ∷ first_fork 0 ∷ first_fork 0 ∷ first_fork 1 ∷ first_fork 1 ∷ [] ∷ [] ∷ [] ∷ []
+
+abbrev without_print : Run
+without_print = run_of (play race second_last)
+
+abbrev with_print : Run
+with_print = run_of (play race first_last)
+
+without_played : play race second_last ≡ Some without_print
+unfolding ask meaning digits mine last_written things above first_of total
+without_played = refl
+
+with_played : play race first_last ≡ Some with_print
+unfolding ask meaning digits mine last_written things above first_of total
+with_played = refl
+
+without_ended : Ended without_print [] (Returned (Int (pos 0)))
+unfolding ask meaning digits mine last_written things above first_of total
+without_ended = has_ended_with without_print [] (Returned (Int (pos 0))) refl
+
+with_ended : Ended with_print [] (Returned (Int (pos 0)))
+unfolding ask meaning digits mine last_written things above first_of total
+with_ended = has_ended_with with_print [] (Returned (Int (pos 0))) refl
+
+without_costs : (steps_of without_print ≡ 8) × (cells_of race without_print ≡ 3)
+unfolding ask meaning digits mine last_written things above first_of total
+without_costs = (refl, refl)
+
+with_costs : (steps_of with_print ≡ 9) × (cells_of race with_print ≡ 5)
+unfolding ask meaning digits mine last_written things above first_of total
+with_costs = (refl, refl)
+
+abbrev steps_in : Outcome → ℕ
+steps_in (Came x out steps cells) = steps
+steps_in (Limited steps cells) = steps
+
+pub schedules_need_free : SchedulesNeedFree
+schedules_need_free =
+    let L : Limits = record { steps = 100; cells = 100 } in
+    let l = legal_play races (pos 0) second_last without_print without_played in
+    let m = legal_play races (pos 0) first_last with_print with_played in
+    let v : Within race L without_print = record { steps = (let n = without_costs.0 in omega arith); cells = (let n = without_costs.1 in omega arith) } in
+    let w : Within race L with_print = record { steps = (let n = with_costs.0 in omega arith); cells = (let n = with_costs.1 in omega arith) } in
+    let r = recorded race L without_print l v in
+    let s = recorded race L with_print m w in
+    let c = each_comes_out race without_print (Returned (Int (pos 0))) l without_ended in
+    let d = each_comes_out race with_print (Returned (Int (pos 0))) m with_ended in (
+      L,
+      r.0,
+      s.0,
+      c.0,
+      d.0,
+      ended without_print r.1 c.1,
+      ended with_print s.1 d.1,
+      (λ e. (let i = sym (ap steps_in c.1.outcome) ∙ ap steps_in e ∙ ap steps_in d.1.outcome in let j = without_costs.0 in let k = with_costs.0 in absurd (omega arith))),
+    )

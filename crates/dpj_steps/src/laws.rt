@@ -2,7 +2,7 @@
 
 ghost use Rattle.dpj_steps.specs.Laws.{EachKeeps, RunsAgree, RunsCostNoMore, OutcomesAgree, SchedulesAreBounded, SchedulesComeOutTheSame};
 ghost use Rattle.dpj_steps.specs.Laws.{SchedulesFinish, GreatestInOrder};
-ghost use Rattle.dpj_steps.specs.Samples.{DividesRuns, FillsRun};
+ghost use Rattle.dpj_steps.specs.Samples.{DividesRuns, FillsRun, SchedulesNeedFree};
 
 /// Each typed program keeps to what the laws of runs ask of a program, so they hold of its runs.
 pub fn law_steps()
@@ -16,8 +16,10 @@ pub fn law_steps()
     ensures greatest { GreatestInOrder }
 {}
 
-/// Small programs have runs in other orders that come out and cost as in sequence.
+/// Small programs have runs in other orders that come out and cost as in sequence; and a racy one has schedules that come out
+/// in two ways.
 pub fn law_samples()
     ensures divides { DividesRuns }
     ensures fills { FillsRun }
+    ensures race { SchedulesNeedFree }
 {}

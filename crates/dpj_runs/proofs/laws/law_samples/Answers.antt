@@ -1,5 +1,5 @@
 use Rattle.dpj_runs.proofs.Samples.{comparison_applies, comparison_needs_free, respects_needs_passing, ready_applies, ready_needs_known, bound_applies}
-use Rattle.dpj_runs.proofs.Samples.{bound_needs_paced, determinism_applies}
+use Rattle.dpj_runs.proofs.Samples.{bound_needs_paced, determinism_applies, greatest_applies}
 use Rattle.dpj_runs.proofs.laws.law_samples.Goals as goal
 
 pub returns : goal.returns
@@ -12,4 +12,5 @@ returns c = record {
   bound = bound_applies;
   rests = bound_needs_paced;
   determinism = determinism_applies;
+  greatest = greatest_applies;
 }
