@@ -1,5 +1,6 @@
 pub mod Around
 pub mod Faults
+pub mod Finding
 pub mod First
 pub mod Gathered
 pub mod Headers

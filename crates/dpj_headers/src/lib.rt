@@ -16,6 +16,7 @@ mod header;
 mod members;
 mod numbering;
 mod numbers;
+mod regions;
 mod rounds;
 mod supers;
 
