@@ -14,8 +14,8 @@ use Rattle.dpj_classes.specs.Table.{overridden_by}
 
 -- the statement is a `foreach_nd`, or a foreach or a `foreach_parts` in whose body nd is
 abbrev pub foreach_holds_nd : PlainStmt → Bool
-foreach_holds_nd (statement node place (foreach nd var start count body)) = nd || holds_nd body
-foreach_holds_nd (statement node place (foreach_parts view var array count body)) = holds_nd body
+foreach_holds_nd (statement place (foreach nd var start count body)) = nd || holds_nd body
+foreach_holds_nd (statement place (foreach_parts view var array count body)) = holds_nd body
 foreach_holds_nd s = false
 
 -- whether the body of a method or a constructor holds nd; what is neither has none

@@ -17,7 +17,7 @@ use Rattle.dpj_classes.specs.Table.{headers_of}
 -- the shape of the value of an expression in a class, where these locals and formals are in scope
 abbrev mutual
   pub shape_of : Table → ℕ → Names Shape → PlainExpr → Shape
-  shape_of table class locals (expression node place form) = form_shape table class locals form
+  shape_of table class locals (expression place form) = form_shape table class locals form
 
   pub form_shape : Table → ℕ → Names Shape → ExprForm → Shape
   form_shape table class locals (int n) = no_class
@@ -40,7 +40,7 @@ id_of row = option_map_or (λ found. found.id ∷ []) row []
 -- the calls and creations of an expression, in the order in which they happen
 abbrev mutual
   pub calls_of : Table → ℕ → Names Shape → PlainExpr → List ℕ
-  calls_of table class locals (expression node place form) = form_calls table class locals form
+  calls_of table class locals (expression place form) = form_calls table class locals form
 
   pub form_calls : Table → ℕ → Names Shape → ExprForm → List ℕ
   form_calls table class locals (int n) = []
@@ -63,16 +63,16 @@ abbrev mutual
 
 -- the same of a call, a creation or an array creation; any other expression is none
 abbrev pub invocation_shape : Table → ℕ → Names Shape → PlainExpr → Shape
-invocation_shape table class locals (expression node place (call of regions name actuals)) = call_shape table (shape_of table class locals of) name
-invocation_shape table class locals (expression node place (create named regions actuals)) = create_shape table named.name
-invocation_shape table class locals (expression node place (create_array base suffixes len rpl index)) = written_shape (headers_of table) base (length suffixes + 1)
+invocation_shape table class locals (expression place (call of regions name actuals)) = call_shape table (shape_of table class locals of) name
+invocation_shape table class locals (expression place (create named regions actuals)) = create_shape table named.name
+invocation_shape table class locals (expression place (create_array base suffixes len rpl index)) = written_shape (headers_of table) base (length suffixes + 1)
 invocation_shape table class locals e = no_class
 
 abbrev pub invocation_calls : Table → ℕ → Names Shape → PlainExpr → List ℕ
-invocation_calls table class locals (expression node place (call of regions name actuals)) =
+invocation_calls table class locals (expression place (call of regions name actuals)) =
     calls_of table class locals of ++ all_calls table class locals actuals ++ id_of (called_row table (shape_of table class locals of) name)
-invocation_calls table class locals (expression node place (create named regions actuals)) = all_calls table class locals actuals ++ id_of (run_row table named.name)
-invocation_calls table class locals (expression node place (create_array base suffixes len rpl index)) = calls_of table class locals len
+invocation_calls table class locals (expression place (create named regions actuals)) = all_calls table class locals actuals ++ id_of (run_row table named.name)
+invocation_calls table class locals (expression place (create_array base suffixes len rpl index)) = calls_of table class locals len
 invocation_calls table class locals e = []
 
 -- each name has its value
@@ -81,7 +81,7 @@ IsPaired locals = length (names_in locals) ≡ length (values_in locals)
 
 -- the local that a statement declares, with its type
 abbrev pub declared_by : PlainStmt → Option (ℕ × TypeTree)
-declared_by (statement node place (declare is_final ty name value)) = Some (name, ty)
+declared_by (statement place (declare is_final ty name value)) = Some (name, ty)
 declared_by s = None
 
 -- the locals behind a statement
@@ -91,7 +91,7 @@ behind headers locals s = option_map_or (λ local. with_name locals local.0 (tre
 -- the calls and creations of a statement
 abbrev mutual
   pub stmt_calls : Table → ℕ → Names Shape → PlainStmt → List ℕ
-  stmt_calls table class locals (statement node place form) = stmt_form_calls table class locals form
+  stmt_calls table class locals (statement place form) = stmt_form_calls table class locals form
 
   pub stmt_form_calls : Table → ℕ → Names Shape → StmtForm → List ℕ
   stmt_form_calls table class locals (block all) = block_calls table class locals all
@@ -129,22 +129,22 @@ abbrev mutual
 
 -- the same of a foreach or a `foreach_parts`; any other statement is none
 abbrev pub foreach_calls : Table → ℕ → Names Shape → PlainStmt → List ℕ
-foreach_calls table class locals (statement node place (foreach nd var start count body)) =
+foreach_calls table class locals (statement place (foreach nd var start count body)) =
     calls_of table class locals start ++ calls_of table class locals count ++ stmt_calls table class (with_name locals var.name no_class) body
-foreach_calls table class locals (statement node place (foreach_parts view var array count body)) =
+foreach_calls table class locals (statement place (foreach_parts view var array count body)) =
     calls_of table class locals array ++ calls_of table class locals count
     ++ stmt_calls table class (with_name (with_name locals view.name (shape_of table class locals array)) var.name no_class) body
 foreach_calls table class locals s = []
 
 -- the same of a statement without statements in it
 abbrev pub simple_calls : Table → ℕ → Names Shape → PlainStmt → List ℕ
-simple_calls table class locals (statement node place (declare is_final ty name value)) = calls_of table class locals value
-simple_calls table class locals (statement node place (assign_local target value)) = calls_of table class locals value
-simple_calls table class locals (statement node place (assign_field target value)) = calls_of table class locals target ++ calls_of table class locals value
-simple_calls table class locals (statement node place (assign_element target value)) = calls_of table class locals target ++ calls_of table class locals value
-simple_calls table class locals (statement node place (perform performed)) = calls_of table class locals performed
-simple_calls table class locals (statement node place (return_value value)) = calls_of table class locals value
-simple_calls table class locals (statement node place (print value)) = calls_of table class locals value
+simple_calls table class locals (statement place (declare is_final ty name value)) = calls_of table class locals value
+simple_calls table class locals (statement place (assign_local target value)) = calls_of table class locals value
+simple_calls table class locals (statement place (assign_field target value)) = calls_of table class locals target ++ calls_of table class locals value
+simple_calls table class locals (statement place (assign_element target value)) = calls_of table class locals target ++ calls_of table class locals value
+simple_calls table class locals (statement place (perform performed)) = calls_of table class locals performed
+simple_calls table class locals (statement place (return_value value)) = calls_of table class locals value
+simple_calls table class locals (statement place (print value)) = calls_of table class locals value
 simple_calls table class locals s = []
 
 -- the formals of a method

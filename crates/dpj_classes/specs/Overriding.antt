@@ -10,8 +10,8 @@ use Rattle.dpj_base.specs.declared.region.Rpl.{Rpl}
 use Rattle.dpj_base.specs.declared.ty.Ty.{Ty}
 use Rattle.dpj_base.specs.Effects.{same_bool, same_rpl, set_covers, gathered}
 use Rattle.dpj_base.specs.Regions.{substituted}
-use Rattle.dpj_base.specs.Types.{plain_type, nameless_path, type_with}
-use Rattle.dpj_types.specs.Same.{same_under}
+use Rattle.dpj_base.specs.Types.{plain_type, type_with}
+use Rattle.dpj_types.specs.Same.{same_type}
 use Rattle.dpj_headers.specs.declared.header.Headers.{Headers}
 use Rattle.dpj_headers.specs.declared.header.ParamRow.{ParamRow}
 use Rattle.dpj_headers.specs.Headers.{header_of}
@@ -30,7 +30,7 @@ same_kinds (a ∷ as_) (b ∷ bs) = same_bool a.atomic b.atomic && same_kinds as
 
 -- a path is the other one with the arguments put in
 abbrev pub same_path_with : List Rpl → Rpl → Rpl → Bool
-same_path_with args a b = same_rpl (nameless_path [] a) (nameless_path [] (substituted args b))
+same_path_with args a b = same_rpl a (substituted args b)
 
 -- as many constraints, and each is the other with the arguments put in
 abbrev pub same_constraints : List Rpl → List Constraint → List Constraint → Bool
@@ -40,9 +40,9 @@ same_constraints args (a ∷ as_) [] = false
 same_constraints args (a ∷ as_) (b ∷ bs) =
     (same_path_with args a.left b.left && same_path_with args a.right b.right) && same_constraints args as_ bs
 
--- a type is the other one with the arguments put in, up to index names
+-- a type is the other one with the arguments put in
 abbrev pub same_with : List Rpl → Ty → Ty → Bool
-same_with args a b = same_under [] [] (plain_type a) (type_with args (plain_type b))
+same_with args a b = same_type (plain_type a) (type_with args (plain_type b))
 
 -- as many types, and each is the other with the arguments put in
 abbrev pub same_types : List Rpl → List Ty → List Ty → Bool

@@ -16,6 +16,7 @@ use Rattle.dpj_tree.specs.declared.class.Member.TheVariants as member
 use Rattle.dpj_tree.specs.declared.class.Method.{Method}
 use Rattle.dpj_headers.specs.declared.header.Headers.{Headers}
 use Rattle.dpj_headers.specs.declared.header.ParamRow.{ParamRow}
+use Rattle.dpj_headers.specs.Gathered.{param_row}
 use Rattle.dpj_headers.specs.Headers.{header_of, parent_of}
 use Rattle.dpj_headers.specs.Numbers.{as_number}
 use Rattle.dpj_headers.specs.Passes.{is_constructor_result}
@@ -23,7 +24,7 @@ use Rattle.dpj_resolve.specs.Scopes.{PlainScope}
 use Rattle.dpj_classes.specs.declared.rows.FieldRow.{FieldRow}
 use Rattle.dpj_classes.specs.declared.rows.MethodRow.{MethodRow}
 use Rattle.dpj_classes.specs.Around.{method_names, class_scope, with_names, with_given}
-use Rattle.dpj_classes.specs.Signatures.{constraints_meant, constraints_faults, known_type, known_type_faults, region_of_field, field_region_faults, formal_types, formal_faults, result_type, result_faults, summary_meant, summary_faults, parent_meant, parent_faults, param_rows}
+use Rattle.dpj_classes.specs.Signatures.{constraints_meant, constraints_faults, known_type, known_type_faults, region_of_field, field_region_faults, formal_types, formal_faults, result_type, result_faults, summary_meant, summary_faults, parent_meant, parent_faults}
 
 -- a superclass with its region arguments, a field and a method, with plain types
 pub record PlainSuper : Type 0 where
@@ -102,7 +103,7 @@ method_row scope id method = record {
   name = method.name;
   place = method.place;
   is_constructor = is_constructor_result method.result;
-  regions = param_rows method.params.list;
+  regions = map param_row method.params.list;
   given = method_given scope method;
   params = formal_types (said_scope scope method) method.formals;
   result = result_type (said_scope scope method) method.result;

@@ -39,7 +39,7 @@ in_array shape = record shape { arrays = min (shape.arrays + 1) 1844674407370955
 
 abbrev pub type_shape : PlainType → Shape
 type_shape (class number args) = object_shape number
-type_shape (array elem rpl index) = in_array (type_shape elem)
+type_shape (array elem rpl named) = in_array (type_shape elem)
 type_shape t = no_class
 
 -- the shape of an element of an array

@@ -2,6 +2,8 @@
 use Rattle.std.specs.Prelude.{ℕ, Bool, true, false, List, [], ◌∷◌, ◌++◌, map, unwrap_or, Option, None, Some, option_map, option_and_then}
 use Rattle.std.specs.List.{filter_map, flat_map}
 use Rattle.std.specs.Option.{option_map_or}
+use Rattle.dpj_base.specs.declared.effect.Access.{Access}
+use Rattle.dpj_base.specs.declared.effect.Access.TheVariants.{Read, Write}
 use Rattle.dpj_base.specs.declared.effect.Constraint.{Constraint}
 use Rattle.dpj_base.specs.declared.effect.Effect.{Effect}
 use Rattle.dpj_base.specs.declared.refusal.Refusal.{Refusal}
@@ -16,15 +18,14 @@ use Rattle.dpj_tree.specs.declared.class.MethodResult.TheVariants as outcome
 use Rattle.dpj_tree.specs.declared.class.Parent.{Parent}
 use Rattle.dpj_tree.specs.declared.class.SummaryTree.{SummaryTree}
 use Rattle.dpj_tree.specs.declared.region.ConstrTree.{ConstrTree}
-use Rattle.dpj_tree.specs.declared.region.ParamTree.{ParamTree}
 use Rattle.dpj_tree.specs.declared.region.RplTree.{RplTree}
 use Rattle.dpj_tree.specs.declared.region.TypeTree.{TypeTree}
-use Rattle.dpj_headers.specs.declared.header.ParamRow.{ParamRow}
 use Rattle.dpj_resolve.specs.declared.args.ReadArgs.{ReadArgs}
 use Rattle.dpj_resolve.specs.Args.{root_path}
 use Rattle.dpj_resolve.specs.Classes.{params_in, class_args, class_faults}
+use Rattle.dpj_resolve.specs.Index.{no_index}
 use Rattle.dpj_resolve.specs.Reading.{path_meant, path_faults, args_read, arg_faults}
-use Rattle.dpj_resolve.specs.Scopes.{PlainScope, no_index}
+use Rattle.dpj_resolve.specs.Scopes.{PlainScope}
 use Rattle.dpj_resolve.specs.Written.{type_meant, type_faults}
 use Rattle.dpj_classes.specs.Summary.{anything}
 
@@ -89,11 +90,11 @@ result_faults scope outcome.Void = []
 result_faults scope (outcome.Value tree) = known_type_faults scope tree
 
 -- an item of a summary as an effect, where its path is known
-abbrev pub effect_meant : PlainScope → Bool → Item → Option Effect
-effect_meant scope write item = option_map (λ rpl. record { write = write; atomic = item.atomic; rpl = rpl }) (rpl_meant scope item.rpl)
+abbrev pub effect_meant : PlainScope → Access → Item → Option Effect
+effect_meant scope access item = option_map (λ rpl. record { access = access; atomic = item.atomic; rpl = rpl }) (rpl_meant scope item.rpl)
 
-abbrev pub effects_meant : PlainScope → Bool → List Item → List Effect
-effects_meant scope write items = filter_map (effect_meant scope write) items
+abbrev pub effects_meant : PlainScope → Access → List Item → List Effect
+effects_meant scope access items = filter_map (effect_meant scope access) items
 
 abbrev pub item_faults : PlainScope → List Item → List Refusal
 item_faults scope items = flat_map (λ item. rpl_faults scope false item.rpl) items
@@ -101,7 +102,7 @@ item_faults scope items = flat_map (λ item. rpl_faults scope false item.rpl) it
 -- a summary: `writes Root:*` where none is written, else its reads and its writes, each effect once
 abbrev pub summary_meant : PlainScope → Option SummaryTree → List Effect
 summary_meant scope None = anything ∷ []
-summary_meant scope (Some tree) = gathered (gathered [] (effects_meant scope false tree.reads)) (effects_meant scope true tree.writes)
+summary_meant scope (Some tree) = gathered (gathered [] (effects_meant scope Read tree.reads)) (effects_meant scope Write tree.writes)
 
 abbrev pub summary_faults : PlainScope → Option SummaryTree → List Refusal
 summary_faults scope None = []
@@ -125,7 +126,3 @@ fit_faults scope read tree parent = class_faults scope.headers scope.classes_giv
 
 abbrev pub parent_faults : PlainScope → Parent → ℕ → List Refusal
 parent_faults scope tree parent = parent_arg_faults scope tree.args parent ++ fit_faults scope (args_read scope no_index tree.args) tree parent
-
--- region parameters as rows
-abbrev pub param_rows : List ParamTree → List ParamRow
-param_rows params = map (λ param. record { name = param.name; atomic = param.atomic }) params

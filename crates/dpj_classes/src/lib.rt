@@ -35,7 +35,6 @@ mod summary;
 mod table;
 mod written;
 
-pub use dpj_types::same_type;
 pub use laws::one_fault;
 pub use make::build;
 pub use rows::{FieldRow, MethodRow};

@@ -10,7 +10,7 @@ use crate::table::Table;
 use dpj_base::{Constraint, Effect, Elems, Head, Items, Kind, NoMemory, Rpl, Ty};
 use dpj_effects::EffectSet;
 use dpj_headers::{Faults, Headers, ParamRow, number_at};
-use dpj_resolve::put_in;
+use dpj_regions::subst;
 use dpj_types::{same_path, same_type, subst_type};
 use std::alloc::Global;
 
@@ -185,9 +185,9 @@ fn same_constraint(
 ) -> Result<bool, NoMemory>
     ensures { IfOk result (λ same. same ≡ (same_path_with args.now own.now.left other.now.left && same_path_with args.now own.now.right other.now.right)) }
 {
-    let left = put_in(alloc, &other.left, args)?;
-    let right = put_in(alloc, &other.right, args)?;
-    Ok(same_path(&own.left, &left, &[]) && same_path(&own.right, &right, &[]))
+    let left = subst(alloc, &other.left, args)?;
+    let right = subst(alloc, &other.right, args)?;
+    Ok(same_path(&own.left, &left) && same_path(&own.right, &right))
 }
 
 fn same_types(alloc: Global, own: &[Ty], others: &[Ty], args: &[Rpl]) -> Result<bool, NoMemory>
@@ -208,7 +208,7 @@ fn same_types(alloc: Global, own: &[Ty], others: &[Ty], args: &[Rpl]) -> Result<
 fn same_with(alloc: Global, own: &Ty, other: &Ty, args: &[Rpl]) -> Result<bool, NoMemory>
     ensures { IfOk result (λ same. same ≡ same_with args.now own.now other.now) }
 {
-    same_type(alloc, own, &subst_type(alloc, other, args)?)
+    Ok(same_type(own, &subst_type(alloc, other, args)?))
 }
 
 /// Whether the summary of a method is covered by that of the one that it overrides.
@@ -231,9 +231,9 @@ fn summary_with(alloc: Global, summary: &EffectSet, args: &[Rpl]) -> Result<Effe
     let mut made = EffectSet::new(alloc);
     for effect in summary.as_slice() {
         made.add(Effect {
-            write: effect.write,
+            access: effect.access,
             atomic: effect.atomic,
-            rpl: put_in(alloc, &effect.rpl, args)?,
+            rpl: subst(alloc, &effect.rpl, args)?,
         })?;
     }
     Ok(made)

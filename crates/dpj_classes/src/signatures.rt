@@ -13,10 +13,10 @@ ghost use Rattle.dpj_classes.specs.Supers.{classes_in, extending, all_extending}
 use crate::around::{Names, read_constraints};
 use crate::rows::{FieldRow, MethodRow};
 use crate::summary::read_summary;
-use crate::written::{param_rows, read_field, read_formals, read_parent, read_result};
+use crate::written::{read_field, read_formals, read_parent, read_result};
 use dpj_base::{Constraint, Items, NoMemory, Plain, Super, Ty};
 use dpj_effects::EffectSet;
-use dpj_headers::{Faults, Headers, ParamRow, number_at};
+use dpj_headers::{Faults, Headers, ParamRow, number_at, param_rows};
 use dpj_tree::{Class, Field, Member, Method, MethodResult, Parent};
 use std::alloc::Global;
 

@@ -7,7 +7,7 @@ ghost use Rattle.dpj_classes.specs.Signatures.{effects_meant, item_faults, summa
 ghost use Rattle.dpj_classes.specs.Summary.{anything};
 
 use crate::around::read_path;
-use dpj_base::{Effect, Elem, Elems, Head, NoMemory, Rpl};
+use dpj_base::{Access, Effect, Elem, Elems, Head, NoMemory, Rpl};
 use dpj_effects::EffectSet;
 use dpj_headers::Faults;
 use dpj_resolve::Scope;
@@ -32,8 +32,8 @@ pub fn read_summary(
         None => summary.add(anything(alloc)?)?,
         Some(tree) => {
             let (reads, writes) = (tree.reads.as_slice(), tree.writes.as_slice());
-            read_items(alloc, scope, faults, reads, false, &mut summary)?;
-            read_items(alloc, scope, faults, writes, true, &mut summary)?;
+            read_items(alloc, scope, faults, reads, Access::Read, &mut summary)?;
+            read_items(alloc, scope, faults, writes, Access::Write, &mut summary)?;
         }
     }
     Ok(summary)
@@ -46,7 +46,7 @@ fn anything(alloc: Global) -> Result<Effect, NoMemory>
     let mut elems = Elems::new(alloc);
     elems.push(Elem::Star)?;
     Ok(Effect {
-        write: true,
+        access: Access::Write,
         atomic: false,
         rpl: Rpl {
             head: Head::Root,
@@ -61,17 +61,17 @@ fn read_items(
     scope: &Scope,
     faults: &mut Faults,
     items: &[Item],
-    write: bool,
+    access: Access,
     summary: &mut EffectSet,
 ) -> Result<(), NoMemory>
     requires { scope.now.site ≡ InSignature }
-    ensures meant { OnOk result (summary.new ≡ gathered summary.old (effects_meant (plain_scope scope.now) write items.now)) }
+    ensures meant { OnOk result (summary.new ≡ gathered summary.old (effects_meant (plain_scope scope.now) access items.now)) }
     ensures noted { OnOk result (faults.new ≡ all_noted faults.old (item_faults (plain_scope scope.now) items.now)) }
 {
     for item in items {
         if let Some(rpl) = read_path(alloc, scope, faults, &item.rpl, false)? {
             summary.add(Effect {
-                write,
+                access,
                 atomic: item.atomic,
                 rpl,
             })?;

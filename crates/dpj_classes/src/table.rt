@@ -7,7 +7,7 @@ ghost use Rattle.dpj_classes.specs.Table.{headers_of, field_of, method_of, metho
 use crate::rows::{FieldRow, MethodRow};
 use dpj_base::{Constraint, Items, NoMemory, Plain, Rpl, Super, Ty};
 use dpj_headers::{Headers, OwnedNumbers};
-use dpj_resolve::put_in;
+use dpj_regions::subst;
 use std::alloc::Global;
 
 /// The classes of a program with their members. Classes and methods are known by their positions in the text.
@@ -205,7 +205,7 @@ fn put_in_all(alloc: Global, paths: &[Rpl], args: &[Rpl]) -> Result<Items<Rpl>, 
 {
     let mut made = Items::new(alloc);
     for path in paths {
-        made.push(put_in(alloc, path, args)?)?;
+        made.push(subst(alloc, path, args)?)?;
     }
     Ok(made)
 }

@@ -4,16 +4,17 @@ ghost use Rattle.dpj_headers.specs.Faults.{all_noted};
 ghost use Rattle.dpj_resolve.specs.declared.scope.Site.TheVariants.{Signature as InSignature};
 ghost use Rattle.dpj_resolve.specs.Classes.{class_args};
 ghost use Rattle.dpj_resolve.specs.Reading.{args_read};
-ghost use Rattle.dpj_resolve.specs.Scopes.{plain_scope, no_index};
+ghost use Rattle.dpj_resolve.specs.Index.{no_index};
+ghost use Rattle.dpj_resolve.specs.Scopes.{plain_scope};
 ghost use Rattle.dpj_classes.specs.Rows.{plain_field, field_row, field_faults};
-ghost use Rattle.dpj_classes.specs.Signatures.{known_type, known_type_faults, region_of_field, field_region_faults, formal_types, formal_faults, result_type, result_faults, parent_arg_faults, fit_faults, parent_meant, parent_faults, param_rows};
+ghost use Rattle.dpj_classes.specs.Signatures.{known_type, known_type_faults, region_of_field, field_region_faults, formal_types, formal_faults, result_type, result_faults, parent_arg_faults, fit_faults, parent_meant, parent_faults};
 
 use crate::around::read_path;
 use crate::rows::FieldRow;
 use dpj_base::{Items, Kind, NoMemory, Rpl, Stop, Ty};
-use dpj_headers::{Faults, ParamRow};
+use dpj_headers::Faults;
 use dpj_resolve::{IndexNames, ReadArgs, Scope, constraints_hold, fit_args, read_args, root, ty};
-use dpj_tree::{Field, Formal, MethodResult, ParamTree, Parent, RplTree, TypeTree};
+use dpj_tree::{Field, Formal, MethodResult, Parent, RplTree, TypeTree};
 use std::alloc::Global;
 
 /// Reads a type. `void` where it isn't known.
@@ -189,18 +190,4 @@ fn fit_parent(
         }
     }
     Ok(fit)
-}
-
-/// Region parameters as rows.
-pub fn param_rows(alloc: Global, params: &[ParamTree]) -> Result<Items<ParamRow>, NoMemory>
-    ensures { IfOk result (λ rows. rows ≡ param_rows params.now) }
-{
-    let mut rows = Items::new(alloc);
-    for param in params {
-        rows.push(ParamRow {
-            name: param.name,
-            atomic: param.atomic,
-        })?;
-    }
-    Ok(rows)
 }

@@ -9,6 +9,6 @@ abbrev pub invariant-loop-item : goal.invariant-loop-item
 invariant-loop-item l =
     let scope = plain_scope l.scope in
     record {
-      summary : gathered l.summary (effects_meant scope l.write (drop l.item-index l.items)) ≡ gathered l.initial.summary (effects_meant scope l.write l.items);
+      summary : gathered l.summary (effects_meant scope l.access (drop l.item-index l.items)) ≡ gathered l.initial.summary (effects_meant scope l.access l.items);
       noted : all_noted l.faults (item_faults scope (drop l.item-index l.items)) ≡ all_noted l.initial.faults (item_faults scope l.items);
     }

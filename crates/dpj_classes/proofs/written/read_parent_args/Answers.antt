@@ -1,6 +1,7 @@
 use Rattle.std.proofs.Common.{true}
 use Rattle.dpj_resolve.specs.Reading.{arg_faults}
-use Rattle.dpj_resolve.specs.Scopes.{plain_scope, plain_index}
+use Rattle.dpj_resolve.specs.Scopes.{plain_scope}
+use Rattle.dpj_resolve.specs.Index.{plain_index}
 use Rattle.dpj_classes.proofs.Parts.{never_told}
 use Rattle.dpj_classes.proofs.written.read_parent_args.Goals as goal
 
