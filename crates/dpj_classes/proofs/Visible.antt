@@ -20,7 +20,7 @@ use Rattle.dpj_headers.proofs.Walks.{Sound, superclasses_step, inside, insides, 
 use Rattle.dpj_classes.specs.declared.overridden.Own.{Own}
 use Rattle.dpj_classes.specs.declared.rows.MethodRow.{MethodRow}
 use Rattle.dpj_classes.specs.Places.{last_from, by_id, is_method_of, method_number}
-use Rattle.dpj_classes.specs.Table.{entry_at}
+use Rattle.dpj_classes.specs.Places.{entry_at}
 use Rattle.dpj_classes.specs.Visible.{own_row, with_own, all_own, all_overriding, all_in_front, all_behind, Seen, none_seen, after_step, after_way, overridden_on_way}
 
 append_nil : {A : Type 0} (xs : List A) → xs ++ [] ≡ xs

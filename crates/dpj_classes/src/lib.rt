@@ -28,6 +28,7 @@ mod overridden;
 mod overriding;
 mod places;
 mod reach;
+mod row_numbers;
 mod rows;
 mod shape;
 mod signatures;
@@ -35,7 +36,7 @@ mod summary;
 mod table;
 mod written;
 
-pub use laws::one_fault;
+pub use laws::{one_fault, one_table};
 pub use make::build;
 pub use rows::{FieldRow, MethodRow};
 pub use table::Table;

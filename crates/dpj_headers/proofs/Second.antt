@@ -106,7 +106,7 @@ sound_from classes counted h = record {
 }
 
 -- names below a count
-and_true : (a b : Bool) → (a && b) ≡ true → (a ≡ true) × (b ≡ true)
+pub and_true : (a b : Bool) → (a && b) ≡ true → (a ≡ true) × (b ≡ true)
 and_true true b h = (refl, h)
 and_true false b h = absurd (false≢true h)
 
@@ -116,7 +116,7 @@ all_below count (named ∷ names) h =
     let w = and_true (ltb named.name count) _ h in
     ((Decides-ltb named.name count).0 w.0, all_below count names w.1)
 
-below_split : (count : ℕ) (xs ys : List Named) → are_below count (xs ++ ys) ≡ true → (are_below count xs ≡ true) × (are_below count ys ≡ true)
+pub below_split : (count : ℕ) (xs ys : List Named) → are_below count (xs ++ ys) ≡ true → (are_below count xs ≡ true) × (are_below count ys ≡ true)
 below_split count [] ys h = (refl, h)
 below_split count (x ∷ xs) ys h =
     let w = and_true (ltb x.name count) _ h in
