@@ -126,7 +126,8 @@ opens node view var array count b p v f g h whole t first second third fourth cu
     let body_is : v ≡ with_env b (parts_declared b.env view var whole.ty) =
     var_is ∙ ap (λ (z : Body). with_env z (variable_declared z.env var)) part_is in
     let walk : walk_of v h ≡ scope_so (walk_of b h) (parts_declared b.env view var whole.ty) = ap (λ (z : Body). walk_of z h) body_is in
-    let noted = parts_noted_is b.env p.env view var whole.ty whole.fault (not (may_be is_int (plain_typed t))) node first second third fourth env_is n1 n2 n3 n4 in
+    let noted = parts_noted_is b.env p.env view var whole.ty whole.fault (not (may_be is_int (plain_typed t))) node first second third fourth env_is n1 n2 n3
+    n4 in
     subst (λ (n : Node). Opening node view var array count (walk_of b f) (opened whole.part n (walk_of v h))) (sym noted)
     (subst
     (λ (x : Walk).

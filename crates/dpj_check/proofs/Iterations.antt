@@ -41,7 +41,8 @@ iteration_in b d around within var body f begun v none d_is within_is h =
 pub iteration_stopped : {T : Type 0} (b d : Body) (around within : Around) (node : Node) (nd : Bool) (var : Named) (body : PlainStmt) (f begun : Found)
     (x : Walk) (r : Result T Stop) (s : Stop) → IsErrAnd r (λ z. z ≡ s) →
     begun ≡ nothing_found → d ≡ with_env b (variable_declared b.env var) → within ≡ inside around →
-    IfRefused s (λ q. InScope d.atomic_params within body (walk_of d begun) (refused q)) → Says r x (Iterating b.atomic_params around node nd var body (walk_of b f))
+    IfRefused s (λ q. InScope d.atomic_params within body (walk_of d begun) (refused q)) →
+    Says r x (Iterating b.atomic_params around node nd var body (walk_of b f))
 iteration_stopped b d around within node nd var body f begun x r s is none d_is within_is h =
     stopped (λ q. InScope d.atomic_params within body (walk_of d begun) (refused q)) (Iterating b.atomic_params around node nd var body (walk_of b f)) r x s is
     (λ q k. iteration_refused (iteration_in b d around within var body f begun (refused q) none d_is within_is k)) h

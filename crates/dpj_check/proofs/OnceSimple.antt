@@ -53,7 +53,8 @@ fit_once : (env : Env) {t u : Option PlainType} {p q : PlainType} {a b : Bool} �
 fit_once env {t} {u} {p} {q} {a} {b} same alike x y =
     one_truth a b x (subst (λ (z : Option PlainType). FitIs env z p b) (sym same) (subst (λ (z : PlainType). FitIs env u z b) (sym alike) y))
 
-pub declaring_once : OneTyping → {node : Node} {is_final : Bool} {tree : TypeTree} {name : ℕ} {value : PlainExpr} {w : Walk} {u v : Verdict} → Declaring node is_final tree name value w u → Declaring node is_final tree name value w v → u ≡ v
+pub declaring_once : OneTyping → {node : Node} {is_final : Bool} {tree : TypeTree} {name : ℕ} {value : PlainExpr} {w : Walk} {u v : Verdict} →
+    Declaring node is_final tree name value w u → Declaring node is_final tree name value w v → u ≡ v
 declaring_once one (Declaring.type_refused l) (Declaring.type_refused l') = cc
 declaring_once one (Declaring.type_refused l) (Declaring.value_refused l' d') = cc
 declaring_once one (Declaring.type_refused l) (Declaring.declared made' l' k' d' f' j') = cc
@@ -64,10 +65,12 @@ declaring_once one (Declaring.declared made l k d f j) (Declaring.type_refused l
 declaring_once one (Declaring.declared made l k d f j) (Declaring.value_refused l' d') = let e = said one d d' in cc
 declaring_once one {node} {is_final} {tree} {name} {value} {w} (Declaring.declared made l k d f j) (Declaring.declared made' l' k' d' f' j') =
     let e = said one d d' in
-    by_three (λ (t : Ty) b g. judged (fault_of (with_fault_if (declaration_noted w.env name node.place node) kind.Type (not b))) (scope_so (found_so w g) (local_declared w.env name t is_final)))
+    by_three (λ (t : Ty) b g. judged (fault_of (with_fault_if (declaration_noted w.env name node.place node) kind.Type (not b)))
+    (scope_so (found_so w g) (local_declared w.env name t is_final)))
     (one_type made made' (k ∙ sym k')) (fit_once w.env (same_type e) refl f f') (same_found e) j j'
 
-pub local_once : OneTyping → {node : Node} {target : Named} {value : PlainExpr} {w : Walk} {u v : Verdict} → AssigningLocal node target value w u → AssigningLocal node target value w v → u ≡ v
+pub local_once : OneTyping → {node : Node} {target : Named} {value : PlainExpr} {w : Walk} {u v : Verdict} → AssigningLocal node target value w u →
+    AssigningLocal node target value w v → u ≡ v
 local_once one (AssigningLocal.value_refused d) (AssigningLocal.value_refused d') = let e = said one d d' in cc
 local_once one (AssigningLocal.value_refused d) (AssigningLocal.no_local d' l' j') = let e = said one d d' in cc
 local_once one (AssigningLocal.value_refused d) (AssigningLocal.assigned d' l' f' j') = let e = said one d d' in cc
@@ -85,7 +88,8 @@ local_once one {node} {target} {value} {w} (AssigningLocal.assigned {row = row} 
     by_three (λ (r : LocalRow) b g. judged (fault_of (with_found node (local_fault b r.is_final))) (found_so w g))
     same (fit_once w.env (same_type e) (ap (λ (r : LocalRow). plain_type r.ty) same) f f') (same_found e) j j'
 
-pub place_once : OneTyping → {node : Node} {target value : PlainExpr} {w : Walk} {u v : Verdict} → AssigningPlace node target value w u → AssigningPlace node target value w v → u ≡ v
+pub place_once : OneTyping → {node : Node} {target value : PlainExpr} {w : Walk} {u v : Verdict} → AssigningPlace node target value w u →
+    AssigningPlace node target value w v → u ≡ v
 place_once one (AssigningPlace.target_refused d) (AssigningPlace.target_refused d') = let e = aimed one d d' in cc
 place_once one (AssigningPlace.target_refused d) (AssigningPlace.value_refused d' i') = let e = aimed one d d' in cc
 place_once one (AssigningPlace.target_refused d) (AssigningPlace.anything_assigned d' i' j') = let e = aimed one d d' in cc
@@ -119,12 +123,15 @@ performing_once one {node} {value} {w} (Performing.performed d j) (Performing.pe
     sym j ∙ ap (λ g. judged (fault_of node) (found_so w g)) (same_found (said one d d')) ∙ j'
 
 -- a value may be returned or not
-may_once : (env : Env) (around : Around) {t u : Option PlainType} {a b : Bool} → t ≡ u → IsTrue a ↔ Returned (supers_of env) around.has_result (numbered (table_of env) env.method) t →
+may_once : (env : Env) (around : Around) {t u : Option PlainType} {a b : Bool} → t ≡ u →
+    IsTrue a ↔ Returned (supers_of env) around.has_result (numbered (table_of env) env.method) t →
     IsTrue b ↔ Returned (supers_of env) around.has_result (numbered (table_of env) env.method) u → a ≡ b
 may_once env around {t} {u} {a} {b} same x y =
-    one_truth a b x (subst (λ (z : Option PlainType). IsTrue b ↔ Returned (supers_of env) around.has_result (numbered (table_of env) env.method) z) (sym same) y)
+    one_truth a b x (subst (λ (z : Option PlainType). IsTrue b ↔ Returned (supers_of env) around.has_result (numbered (table_of env) env.method) z)
+    (sym same) y)
 
-pub returning_once : OneTyping → {around : Around} {node : Node} {value : PlainExpr} {w : Walk} {u v : Verdict} → Returning around node value w u → Returning around node value w v → u ≡ v
+pub returning_once : OneTyping → {around : Around} {node : Node} {value : PlainExpr} {w : Walk} {u v : Verdict} → Returning around node value w u →
+    Returning around node value w v → u ≡ v
 returning_once one (Returning.value_refused d) (Returning.value_refused d') = let e = said one d d' in cc
 returning_once one (Returning.value_refused d) (Returning.returned d' f' j') = let e = said one d d' in cc
 returning_once one (Returning.returned d f j) (Returning.value_refused d') = let e = said one d d' in cc

@@ -28,7 +28,8 @@ step_back (Ty-F.Array elem rpl named) = ap (λ z. roll-Ty (Ty-F.Array z rpl name
 
 came_back : (t : Ty) → of_plain (plain_type t) ≡ t
 came_back = ind-Ty (λ t. of_plain (plain_type t) ≡ t)
-    (λ x y is. ap of_plain (fold-roll-Ty PlainType type_step x) ∙ subst (λ (z : Ty-F Ty). of_plain (type_step (map-Ty Ty PlainType plain_type z)) ≡ roll-Ty z) is (step_back y))
+    (λ x y is. ap of_plain (fold-roll-Ty PlainType type_step x) ∙
+    subst (λ (z : Ty-F Ty). of_plain (type_step (map-Ty Ty PlainType plain_type z)) ≡ roll-Ty z) is (step_back y))
 
 pub one_type : (t u : Ty) → plain_type t ≡ plain_type u → t ≡ u
 one_type t u same = sym (came_back t) ∙ ap of_plain same ∙ came_back u

@@ -84,5 +84,6 @@ pub fork_keeps : (around within : Around) (all : List Stmt) (i : ℕ) (branch : 
     (BranchesKeep (inside around) (plain_stmts (map plain_stmt (drop i all))) → BranchesKeep (inside around) (plain_stmts (map plain_stmt all))) →
     BranchesKeep (inside around) (plain_stmts (map plain_stmt (drop (i + 1) all))) → BranchesKeep (inside around) (plain_stmts (map plain_stmt all))
 fork_keeps around within all i branch below is within_is keeps before rest =
-    let here : BranchesKeep (inside around) (plain_stmts (map plain_stmt (branch ∷ drop (i + 1) all))) = (subst (λ (z : Around). Keeps z (plain_stmt branch)) within_is keeps, rest) in
+    let here : BranchesKeep (inside around)
+    (plain_stmts (map plain_stmt (branch ∷ drop (i + 1) all))) = (subst (λ (z : Around). Keeps z (plain_stmt branch)) within_is keeps, rest) in
     before (subst (λ (z : List Stmt). BranchesKeep (inside around) (plain_stmts (map plain_stmt z))) (sym (next_is all i branch below is)) here)

@@ -29,29 +29,37 @@ kind_Block all = search (rules, the_lemmas)
 pub at_Block : (s : Stmt) (all : List Stmt) → s.kind ≡ kind.Block all → plain_stmt s ≡ statement s.place (form.block (plain_stmts (map plain_stmt all)))
 at_Block s all is = of_kind s (kind.Block all) (form.block (plain_stmts (map plain_stmt all))) is (kind_Block all)
 
-kind_Declare : (is_final : Bool) (t : TypeTree) (name : ℕ) (value : Expr) → plain_kind (kind.Declare is_final t name value) ≡ form.declare is_final t name (plain_expr value)
+kind_Declare : (is_final : Bool) (t : TypeTree) (name : ℕ) (value : Expr) →
+    plain_kind (kind.Declare is_final t name value) ≡ form.declare is_final t name (plain_expr value)
 kind_Declare is_final t name value = search (rules, the_lemmas)
 
-pub at_Declare : (s : Stmt) (is_final : Bool) (t : TypeTree) (name : ℕ) (value : Expr) → s.kind ≡ kind.Declare is_final t name value → plain_stmt s ≡ statement s.place (form.declare is_final t name (plain_expr value))
-at_Declare s is_final t name value is = of_kind s (kind.Declare is_final t name value) (form.declare is_final t name (plain_expr value)) is (kind_Declare is_final t name value)
+pub at_Declare : (s : Stmt) (is_final : Bool) (t : TypeTree) (name : ℕ) (value : Expr) → s.kind ≡ kind.Declare is_final t name value →
+    plain_stmt s ≡ statement s.place (form.declare is_final t name (plain_expr value))
+at_Declare s is_final t name value is = of_kind s (kind.Declare is_final t name value) (form.declare is_final t name (plain_expr value)) is
+    (kind_Declare is_final t name value)
 
 kind_AssignLocal : (target : Named) (value : Expr) → plain_kind (kind.AssignLocal target value) ≡ form.assign_local target (plain_expr value)
 kind_AssignLocal target value = search (rules, the_lemmas)
 
-pub at_AssignLocal : (s : Stmt) (target : Named) (value : Expr) → s.kind ≡ kind.AssignLocal target value → plain_stmt s ≡ statement s.place (form.assign_local target (plain_expr value))
+pub at_AssignLocal : (s : Stmt) (target : Named) (value : Expr) → s.kind ≡ kind.AssignLocal target value →
+    plain_stmt s ≡ statement s.place (form.assign_local target (plain_expr value))
 at_AssignLocal s target value is = of_kind s (kind.AssignLocal target value) (form.assign_local target (plain_expr value)) is (kind_AssignLocal target value)
 
 kind_AssignField : (target value : Expr) → plain_kind (kind.AssignField target value) ≡ form.assign_field (plain_expr target) (plain_expr value)
 kind_AssignField target value = search (rules, the_lemmas)
 
-pub at_AssignField : (s : Stmt) (target value : Expr) → s.kind ≡ kind.AssignField target value → plain_stmt s ≡ statement s.place (form.assign_field (plain_expr target) (plain_expr value))
-at_AssignField s target value is = of_kind s (kind.AssignField target value) (form.assign_field (plain_expr target) (plain_expr value)) is (kind_AssignField target value)
+pub at_AssignField : (s : Stmt) (target value : Expr) → s.kind ≡ kind.AssignField target value →
+    plain_stmt s ≡ statement s.place (form.assign_field (plain_expr target) (plain_expr value))
+at_AssignField s target value is = of_kind s (kind.AssignField target value) (form.assign_field (plain_expr target) (plain_expr value)) is
+    (kind_AssignField target value)
 
 kind_AssignElement : (target value : Expr) → plain_kind (kind.AssignElement target value) ≡ form.assign_element (plain_expr target) (plain_expr value)
 kind_AssignElement target value = search (rules, the_lemmas)
 
-pub at_AssignElement : (s : Stmt) (target value : Expr) → s.kind ≡ kind.AssignElement target value → plain_stmt s ≡ statement s.place (form.assign_element (plain_expr target) (plain_expr value))
-at_AssignElement s target value is = of_kind s (kind.AssignElement target value) (form.assign_element (plain_expr target) (plain_expr value)) is (kind_AssignElement target value)
+pub at_AssignElement : (s : Stmt) (target value : Expr) → s.kind ≡ kind.AssignElement target value →
+    plain_stmt s ≡ statement s.place (form.assign_element (plain_expr target) (plain_expr value))
+at_AssignElement s target value is = of_kind s (kind.AssignElement target value) (form.assign_element (plain_expr target) (plain_expr value)) is
+    (kind_AssignElement target value)
 
 kind_Do : (value : Expr) → plain_kind (kind.Do value) ≡ form.perform (plain_expr value)
 kind_Do value = search (rules, the_lemmas)
@@ -80,35 +88,42 @@ at_Region s names is = of_kind s (kind.Region names) (form.local_regions names) 
 kind_Cobegin : (nd : Bool) (branches : List Stmt) → plain_kind (kind.Cobegin nd branches) ≡ form.cobegin nd (plain_stmts (map plain_stmt branches))
 kind_Cobegin nd branches = search (rules, the_lemmas)
 
-pub at_Cobegin : (s : Stmt) (nd : Bool) (branches : List Stmt) → s.kind ≡ kind.Cobegin nd branches → plain_stmt s ≡ statement s.place (form.cobegin nd (plain_stmts (map plain_stmt branches)))
+pub at_Cobegin : (s : Stmt) (nd : Bool) (branches : List Stmt) → s.kind ≡ kind.Cobegin nd branches →
+    plain_stmt s ≡ statement s.place (form.cobegin nd (plain_stmts (map plain_stmt branches)))
 at_Cobegin s nd branches is = of_kind s (kind.Cobegin nd branches) (form.cobegin nd (plain_stmts (map plain_stmt branches))) is (kind_Cobegin nd branches)
 
 kind_If : (test : Expr) (part : Stmt) → plain_kind (kind.If test part None) ≡ form.choice (plain_expr test) (plain_stmt part)
 kind_If test part = search (rules, the_lemmas)
 
-pub at_If : (s : Stmt) (test : Expr) (part : Stmt) → s.kind ≡ kind.If test part None → plain_stmt s ≡ statement s.place (form.choice (plain_expr test) (plain_stmt part))
+pub at_If : (s : Stmt) (test : Expr) (part : Stmt) → s.kind ≡ kind.If test part None →
+    plain_stmt s ≡ statement s.place (form.choice (plain_expr test) (plain_stmt part))
 at_If s test part is = of_kind s (kind.If test part None) (form.choice (plain_expr test) (plain_stmt part)) is (kind_If test part)
 
-kind_Else : (test : Expr) (first second : Stmt) → plain_kind (kind.If test first (Some second)) ≡ form.choice_else (plain_expr test) (plain_stmt first) (plain_stmt second)
+kind_Else : (test : Expr) (first second : Stmt) →
+    plain_kind (kind.If test first (Some second)) ≡ form.choice_else (plain_expr test) (plain_stmt first) (plain_stmt second)
 kind_Else test first second = search (rules, the_lemmas)
 
 pub at_Else : (s : Stmt) (test : Expr) (first second : Stmt) → s.kind ≡ kind.If test first (Some second) →
     plain_stmt s ≡ statement s.place (form.choice_else (plain_expr test) (plain_stmt first) (plain_stmt second))
-at_Else s test first second is = of_kind s (kind.If test first (Some second)) (form.choice_else (plain_expr test) (plain_stmt first) (plain_stmt second)) is (kind_Else test first second)
+at_Else s test first second is = of_kind s (kind.If test first (Some second)) (form.choice_else (plain_expr test) (plain_stmt first) (plain_stmt second)) is
+    (kind_Else test first second)
 
 kind_While : (test : Expr) (body : Stmt) → plain_kind (kind.While test body) ≡ form.while_loop (plain_expr test) (plain_stmt body)
 kind_While test body = search (rules, the_lemmas)
 
-pub at_While : (s : Stmt) (test : Expr) (body : Stmt) → s.kind ≡ kind.While test body → plain_stmt s ≡ statement s.place (form.while_loop (plain_expr test) (plain_stmt body))
+pub at_While : (s : Stmt) (test : Expr) (body : Stmt) → s.kind ≡ kind.While test body →
+    plain_stmt s ≡ statement s.place (form.while_loop (plain_expr test) (plain_stmt body))
 at_While s test body is = of_kind s (kind.While test body) (form.while_loop (plain_expr test) (plain_stmt body)) is (kind_While test body)
 
-kind_Foreach : (nd : Bool) (var : Named) (start count : Expr) (body : Stmt) → plain_kind (kind.Foreach nd var start count body) ≡ form.foreach nd var (plain_expr start) (plain_expr count) (plain_stmt body)
+kind_Foreach : (nd : Bool) (var : Named) (start count : Expr) (body : Stmt) →
+    plain_kind (kind.Foreach nd var start count body) ≡ form.foreach nd var (plain_expr start) (plain_expr count) (plain_stmt body)
 kind_Foreach nd var start count body = search (rules, the_lemmas)
 
 pub at_Foreach : (s : Stmt) (nd : Bool) (var : Named) (start count : Expr) (body : Stmt) → s.kind ≡ kind.Foreach nd var start count body →
     plain_stmt s ≡ statement s.place (form.foreach nd var (plain_expr start) (plain_expr count) (plain_stmt body))
 at_Foreach s nd var start count body is =
-    of_kind s (kind.Foreach nd var start count body) (form.foreach nd var (plain_expr start) (plain_expr count) (plain_stmt body)) is (kind_Foreach nd var start count body)
+    of_kind s (kind.Foreach nd var start count body) (form.foreach nd var (plain_expr start) (plain_expr count) (plain_stmt body)) is
+    (kind_Foreach nd var start count body)
 
 kind_Parts : (view var : Named) (array count : Expr) (body : Stmt) →
     plain_kind (kind.ForeachParts view var array count body) ≡ form.foreach_parts view var (plain_expr array) (plain_expr count) (plain_stmt body)
@@ -117,7 +132,8 @@ kind_Parts view var array count body = search (rules, the_lemmas)
 pub at_Parts : (s : Stmt) (view var : Named) (array count : Expr) (body : Stmt) → s.kind ≡ kind.ForeachParts view var array count body →
     plain_stmt s ≡ statement s.place (form.foreach_parts view var (plain_expr array) (plain_expr count) (plain_stmt body))
 at_Parts s view var array count body is =
-    of_kind s (kind.ForeachParts view var array count body) (form.foreach_parts view var (plain_expr array) (plain_expr count) (plain_stmt body)) is (kind_Parts view var array count body)
+    of_kind s (kind.ForeachParts view var array count body) (form.foreach_parts view var (plain_expr array) (plain_expr count) (plain_stmt body)) is
+    (kind_Parts view var array count body)
 
 kind_Return : (value : Option Expr) → plain_kind (kind.Return value) ≡ return_form value
 kind_Return value = search (rules, the_lemmas)
@@ -131,7 +147,8 @@ pub as_form : (params : List Bool) (around : Around) (node : Node) (s : Stmt) (f
 as_form params around node s f w v is d = subst (λ (z : PlainStmt). Checking params around node (form_of z) w v) (sym is) d
 
 -- a statement of this form, with the node that the code made of it
-pub as_statement : (params : List Bool) (around : Around) (follows : Bool) (node : Node) (s : Stmt) (f : StmtForm) (w : Walk) (v : Verdict) → plain_stmt s ≡ statement s.place f →
+pub as_statement : (params : List Bool) (around : Around) (follows : Bool) (node : Node) (s : Stmt) (f : StmtForm) (w : Walk) (v : Verdict) →
+    plain_stmt s ≡ statement s.place f →
     node ≡ node_at s.place follows → Checking params around node f w v → Standing params around follows (plain_stmt s) w v
 as_statement params around follows node s f w v is made d =
     subst (λ (z : PlainStmt). Standing params around follows z w v) (sym is) (standing (subst (λ (z : Node). Checking params around z f w v) made d))

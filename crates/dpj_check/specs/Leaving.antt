@@ -1,5 +1,5 @@
 -- What is left of effects after the scope of index variables and local regions.
-use Rattle.std.specs.Prelude.{ℕ, Bool, true, false, cond, List, [], ◌∷◌, map, Option, Some, None, nat_le}
+use Rattle.std.specs.Prelude.{ℕ, Bool, true, false, cond, List, ◌∷◌, map, Option, Some, None, nat_le}
 use Rattle.dpj_base.specs.declared.elems.Elem.{Elem}
 use Rattle.dpj_base.specs.declared.elems.Elem.TheVariants.{At, Any, Local}
 use Rattle.dpj_base.specs.declared.elems.Index.TheVariants.{Variable}

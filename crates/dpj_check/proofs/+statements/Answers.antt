@@ -30,34 +30,42 @@ use Rattle.dpj_check.proofs.+statements.Goals.{statements::statement-in-Some+in_
 pub statements::block-returns-in_err-completes-clause-checks :
     goal.statements::block-returns-in_err-completes-clause-checks
 statements::block-returns-in_err-completes-clause-checks t c =
-    stopped (λ q. InOrder c.args.body.now.atomic_params c.args.around true (plain_stmts (map plain_stmt c.args.stmts.now)) (walk_of c.args.body.now c.new-inner.result) (verdict.refused q))
-    (InBlock c.args.body.now.atomic_params c.args.around (plain_stmts (map plain_stmt c.args.stmts.now)) (walk_of c.args.body.now c.args.out.now)) c.from_residual.result _ c.in_err-completes.field-0.0 c.from_residual.ensures.1
-    (λ q d. block_stops c.args.body.now.atomic_params c.args.around (plain_stmts (map plain_stmt c.args.stmts.now)) c.args.body.now c.args.out.now c.new-inner.result q c.new-inner.ensures d)
+    stopped (λ q. InOrder c.args.body.now.atomic_params c.args.around true (plain_stmts (map plain_stmt c.args.stmts.now))
+    (walk_of c.args.body.now c.new-inner.result) (verdict.refused q))
+    (InBlock c.args.body.now.atomic_params c.args.around (plain_stmts (map plain_stmt c.args.stmts.now)) (walk_of c.args.body.now c.args.out.now))
+    c.from_residual.result _ c.in_err-completes.field-0.0 c.from_residual.ensures.1
+    (λ q d. block_stops c.args.body.now.atomic_params c.args.around (plain_stmts (map plain_stmt c.args.stmts.now)) c.args.body.now c.args.out.now
+    c.new-inner.result q c.new-inner.ensures d)
     c.in_err-completes.ensures.checks
 
 pub statements::block-returns-clause-checks : goal.statements::block-returns-clause-checks
 statements::block-returns-clause-checks t c =
-    block_closes c.args.body.now.atomic_params c.args.around (plain_stmts (map plain_stmt c.args.stmts.now)) c.args.body.now c.statements.new.body c.args.out.now c.new-inner.result
+    block_closes c.args.body.now.atomic_params c.args.around (plain_stmts (map plain_stmt c.args.stmts.now)) c.args.body.now c.statements.new.body
+    c.args.out.now c.new-inner.result
     c.statements.new.out c.take_in.new.out c.leave.new.self c.mark-scope.result c.from_here-leaving.result c.new-inner.ensures
     c.in_ok-completes.ensures.checks c.mark-scope.ensures c.leave.ensures.whole c.from_here-leaving.ensures c.in_ok-take_in.ensures
 
 pub statements::construct-returns-in-Cobegin-clause-checks : goal.statements::construct-returns-in-Cobegin-clause-checks
 statements::construct-returns-in-Cobegin-clause-checks t c =
-    says_all (Forking c.args.body.now.atomic_params c.args.around c.args.node c.in-Cobegin.nd (plain_stmts (map plain_stmt c.as_slice.result.now)) (walk_of c.args.body.now c.args.out.now))
+    says_all (Forking c.args.body.now.atomic_params c.args.around c.args.node c.in-Cobegin.nd (plain_stmts (map plain_stmt c.as_slice.result.now))
+    (walk_of c.args.body.now c.args.out.now))
     (Checking c.args.body.now.atomic_params c.args.around c.args.node (form_of (plain_stmt c.args.stmt.now)) (walk_of c.args.body.now c.args.out.now))
     c.cobegin.result (walk_of c.cobegin.new.body c.cobegin.new.out)
     (λ v d.
-    as_form c.args.body.now.atomic_params c.args.around c.args.node c.args.stmt.now (form.cobegin c.in-Cobegin.nd (plain_stmts (map plain_stmt c.in-Cobegin.branches)))
+    as_form c.args.body.now.atomic_params c.args.around c.args.node c.args.stmt.now
+    (form.cobegin c.in-Cobegin.nd (plain_stmts (map plain_stmt c.in-Cobegin.branches)))
     (walk_of c.args.body.now c.args.out.now) v (at_Cobegin c.args.stmt.now c.in-Cobegin.nd c.in-Cobegin.branches c.in-Cobegin.is)
     (rule.of_cobegin
-    (subst (λ bs. Forking c.args.body.now.atomic_params c.args.around c.args.node c.in-Cobegin.nd (plain_stmts (map plain_stmt bs)) (walk_of c.args.body.now c.args.out.now) v)
+    (subst (λ bs. Forking c.args.body.now.atomic_params c.args.around c.args.node c.in-Cobegin.nd (plain_stmts (map plain_stmt bs))
+    (walk_of c.args.body.now c.args.out.now) v)
     c.as_slice.ensures d)))
     c.cobegin.ensures.checks
 
 pub statements::scoped-returns-in_err-completes-clause-checks :
     goal.statements::scoped-returns-in_err-completes-clause-checks
 statements::scoped-returns-in_err-completes-clause-checks t c =
-    stopped (λ q. Standing c.args.body.now.atomic_params c.args.around false (plain_stmt c.args.stmt.now) (walk_of c.args.body.now c.args.out.now) (verdict.refused q))
+    stopped (λ q. Standing c.args.body.now.atomic_params c.args.around false (plain_stmt c.args.stmt.now) (walk_of c.args.body.now c.args.out.now)
+    (verdict.refused q))
     (InScope c.args.body.now.atomic_params c.args.around (plain_stmt c.args.stmt.now) (walk_of c.args.body.now c.args.out.now))
     c.from_residual.result _ c.in_err-completes.field-0.0 c.from_residual.ensures.1 (λ q d. in_scope d refl) c.in_err-completes.ensures.checks
 
@@ -69,7 +77,8 @@ statements::scoped-returns-clause-checks t c =
 pub statements::statement-returns-in_err-completes-in-Block-clause-checks :
     goal.statements::statement-returns-in_err-completes-in-Block-clause-checks
 statements::statement-returns-in_err-completes-in-Block-clause-checks t c =
-    stopped (λ q. InBlock c.args.body.now.atomic_params c.args.around (plain_stmts (map plain_stmt c.as_slice.result.now)) (walk_of c.args.body.now c.args.out.now) (verdict.refused q))
+    stopped (λ q. InBlock c.args.body.now.atomic_params c.args.around (plain_stmts (map plain_stmt c.as_slice.result.now))
+    (walk_of c.args.body.now c.args.out.now) (verdict.refused q))
     (Standing c.args.body.now.atomic_params c.args.around c.args.follows (plain_stmt c.args.stmt.now) (walk_of c.args.body.now c.args.out.now))
     c.from_residual.result _ c.in_err-completes-in-Block.field-0.0 c.from_residual.ensures.1
     (λ q d.
@@ -86,14 +95,16 @@ statements::statement-returns-in_err-settle-in-Block-clause-checks t c =
     c.from_residual-in_err-settle-in-Block.ensures.1 c.in_err-settle-in-Block.ensures.result
     (λ q told.
     block_stands c.args.body.now.atomic_params c.args.around c.args.follows c.of-node.result c.args.stmt.now c.in-Block.all c.as_slice.result.now
-    (walk_of c.args.body.now c.args.out.now) (passes (walk_of c.block.new.body c.block.new.out)) (verdict.refused q) c.in-Block.is c.as_slice.ensures c.of-node.ensures.node c.in_ok-completes-in-Block.ensures.checks
+    (walk_of c.args.body.now c.args.out.now) (passes (walk_of c.block.new.body c.block.new.out)) (verdict.refused q) c.in-Block.is c.as_slice.ensures
+    c.of-node.ensures.node c.in_ok-completes-in-Block.ensures.checks
     (then_told (fault_of c.of-node.result) (walk_of c.block.new.body c.block.new.out) q told))
 
 pub statements::statement-returns-in_ok-settle-in-Block-clause-checks :
     goal.statements::statement-returns-in_ok-settle-in-Block-clause-checks
 statements::statement-returns-in_ok-settle-in-Block-clause-checks t c =
     block_stands c.args.body.now.atomic_params c.args.around c.args.follows c.of-node.result c.args.stmt.now c.in-Block.all c.as_slice.result.now
-    (walk_of c.args.body.now c.args.out.now) (passes (walk_of c.block.new.body c.block.new.out)) (passes (walk_of c.block.new.body c.block.new.out)) c.in-Block.is c.as_slice.ensures c.of-node.ensures.node c.in_ok-completes-in-Block.ensures.checks
+    (walk_of c.args.body.now c.args.out.now) (passes (walk_of c.block.new.body c.block.new.out)) (passes (walk_of c.block.new.body c.block.new.out))
+    c.in-Block.is c.as_slice.ensures c.of-node.ensures.node c.in_ok-completes-in-Block.ensures.checks
     (then_none (fault_of c.of-node.result) (walk_of c.block.new.body c.block.new.out) c.in_ok-settle-in-Block.ensures.clean)
 
 pub statements::statement-returns-in_err-_test-in-If-clause-checks :
@@ -103,14 +114,16 @@ statements::statement-returns-in_err-_test-in-If-clause-checks t c =
     (Standing c.args.body.now.atomic_params c.args.around c.args.follows (plain_stmt c.args.stmt.now) (walk_of c.args.body.now c.args.out.now))
     c.from_residual-in_err-_test-in-If.result _ c.in_err-_test-in-If.field-0.0 c.from_residual-in_err-_test-in-If.ensures.1
     (λ q d.
-    test_stops c.args.body.now.atomic_params c.args.around c.args.follows c.of-node.result c.args.stmt.now c.in-If.test c.in-If.then c.in-If.other c.args.body.now c.args.out.now q
+    test_stops c.args.body.now.atomic_params c.args.around c.args.follows c.of-node.result c.args.stmt.now c.in-If.test c.in-If.then c.in-If.other
+    c.args.body.now c.args.out.now q
     c.in-If.is c.of-node.ensures.node d)
     c.in_err-_test-in-If.ensures.answer
 
 pub statements::statement-returns-in_err-first-in-If-clause-checks :
     goal.statements::statement-returns-in_err-first-in-If-clause-checks
 statements::statement-returns-in_err-first-in-If-clause-checks t c =
-    stopped (λ q. InScope c.args.body.now.atomic_params c.args.around (plain_stmt c.get.result.now) (walk_of c.args.body.now c.boolean.new.out) (verdict.refused q))
+    stopped (λ q. InScope c.args.body.now.atomic_params c.args.around (plain_stmt c.get.result.now) (walk_of c.args.body.now c.boolean.new.out)
+    (verdict.refused q))
     (Standing c.args.body.now.atomic_params c.args.around c.args.follows (plain_stmt c.args.stmt.now) (walk_of c.args.body.now c.args.out.now))
     c.from_residual-in_err-first-in-If.result _ c.in_err-first-in-If.field-0.0 c.from_residual-in_err-first-in-If.ensures.1
     (λ q d.
@@ -123,7 +136,8 @@ pub statements::statement-returns-in_err-second-in-Some-clause-checks :
     goal.statements::statement-returns-in_err-second-in-Some-clause-checks
 statements::statement-returns-in_err-second-in-Some-clause-checks t c =
     stopped
-    (λ q. InScope c.scoped.new.body.atomic_params c.args.around (plain_stmt c.get-in-Some.result.now) (walk_of c.scoped.new.body c.scoped.new.out) (verdict.refused q))
+    (λ q. InScope c.scoped.new.body.atomic_params c.args.around (plain_stmt c.get-in-Some.result.now) (walk_of c.scoped.new.body c.scoped.new.out)
+    (verdict.refused q))
     (Standing c.args.body.now.atomic_params c.args.around c.args.follows (plain_stmt c.args.stmt.now) (walk_of c.args.body.now c.args.out.now))
     c.from_residual-in_err-second-in-Some.result _ c.in_err-second-in-Some.field-0.0 c.from_residual-in_err-second-in-Some.ensures.1
     (λ q d.
@@ -141,43 +155,55 @@ statements::statement-returns-in_err-settle-in-If-clause-checks t c =
     (fault_of c.boolean.new.node) c.from_residual-in_err-settle-in-If.result c.in_err-settle-in-If.field-0.0 _
     c.from_residual-in_err-settle-in-If.ensures.1 c.in_err-settle-in-If.ensures.result
     (λ q told. elim c.match-other.branch [
-      | statements::statement-in-Some+in_ok-second-in-Some w ↦ either_stands c.args.around c.args.follows c.of-node.result c.args.stmt.now c.in-If.test c.in-If.then c.get.result.now c.in-If.other
-    w.in-Some.other w.get-in-Some.result.now c.args.body.now c.scoped.new.body c.args.out.now c.boolean.new.out c.scoped.new.out
-    (plain_typed c.in_ok-_test-in-If._test) (passes (walk_of w.scoped-in-Some.new.body w.scoped-in-Some.new.out)) (verdict.refused q) c.in-If.is w.in-Some.is c.of-node.ensures.node
-    c.in_ok-_test-in-If.ensures.answer c.get.ensures c.in_ok-first-in-If.ensures.checks c.in_ok-first-in-If.ensures.home
-    w.get-in-Some.ensures w.in_ok-second-in-Some.ensures.checks 
-    (noted_told c.of-node.result c.boolean.new.node _ (passes (walk_of w.scoped-in-Some.new.body w.scoped-in-Some.new.out)) (verdict.refused q) c.in_ok-_test-in-If.ensures.node
-    (then_told (fault_of c.boolean.new.node) (walk_of w.scoped-in-Some.new.body w.scoped-in-Some.new.out) q told))
-      | statements::statement-in-None w ↦ choice_stands c.args.around c.args.follows c.of-node.result c.boolean.new.node c.args.stmt.now c.in-If.test c.in-If.then
-    c.get.result.now c.in-If.other c.args.body.now c.args.out.now c.boolean.new.out (plain_typed c.in_ok-_test-in-If._test) (walk_of c.scoped.new.body c.scoped.new.out)
-    (verdict.refused q) c.in-If.is w.in-None.is c.of-node.ensures.node c.in_ok-_test-in-If.ensures.answer c.get.ensures
-    c.in_ok-_test-in-If.ensures.node c.in_ok-first-in-If.ensures.checks (then_told (fault_of c.boolean.new.node) (walk_of c.scoped.new.body c.scoped.new.out) q told)
+      | statements::statement-in-Some+in_ok-second-in-Some w ↦ either_stands c.args.around c.args.follows c.of-node.result c.args.stmt.now c.in-If.test
+          c.in-If.then c.get.result.now c.in-If.other
+          w.in-Some.other w.get-in-Some.result.now c.args.body.now c.scoped.new.body c.args.out.now c.boolean.new.out c.scoped.new.out
+          (plain_typed c.in_ok-_test-in-If._test) (passes (walk_of w.scoped-in-Some.new.body w.scoped-in-Some.new.out)) (verdict.refused q) c.in-If.is w.in-Some.is
+          c.of-node.ensures.node
+          c.in_ok-_test-in-If.ensures.answer c.get.ensures c.in_ok-first-in-If.ensures.checks c.in_ok-first-in-If.ensures.home
+          w.get-in-Some.ensures w.in_ok-second-in-Some.ensures.checks
+          (noted_told c.of-node.result c.boolean.new.node _ (passes (walk_of w.scoped-in-Some.new.body w.scoped-in-Some.new.out)) (verdict.refused q)
+          c.in_ok-_test-in-If.ensures.node
+          (then_told (fault_of c.boolean.new.node) (walk_of w.scoped-in-Some.new.body w.scoped-in-Some.new.out) q told))
+      | statements::statement-in-None w ↦ choice_stands c.args.around c.args.follows c.of-node.result c.boolean.new.node c.args.stmt.now c.in-If.test
+          c.in-If.then
+          c.get.result.now c.in-If.other c.args.body.now c.args.out.now c.boolean.new.out (plain_typed c.in_ok-_test-in-If._test)
+          (walk_of c.scoped.new.body c.scoped.new.out)
+          (verdict.refused q) c.in-If.is w.in-None.is c.of-node.ensures.node c.in_ok-_test-in-If.ensures.answer c.get.ensures
+          c.in_ok-_test-in-If.ensures.node c.in_ok-first-in-If.ensures.checks
+          (then_told (fault_of c.boolean.new.node) (walk_of c.scoped.new.body c.scoped.new.out) q told)
     ])
 
 pub statements::statement-returns-after-first-clause-checks :
     goal.statements::statement-returns-after-first-clause-checks
 statements::statement-returns-after-first-clause-checks t c =
     elim c.match-other.branch [
-      | statements::statement-in-Some+in_ok-second-in-Some w ↦ either_stands c.args.around c.args.follows c.of-node.result c.args.stmt.now c.in-If.test c.in-If.then c.get.result.now c.in-If.other
-    w.in-Some.other w.get-in-Some.result.now c.args.body.now c.scoped.new.body c.args.out.now c.boolean.new.out c.scoped.new.out
-    (plain_typed c.in_ok-_test-in-If._test) (passes (walk_of w.scoped-in-Some.new.body w.scoped-in-Some.new.out)) (passes (walk_of c.match-other.body c.match-other.out)) c.in-If.is w.in-Some.is c.of-node.ensures.node
-    c.in_ok-_test-in-If.ensures.answer c.get.ensures c.in_ok-first-in-If.ensures.checks c.in_ok-first-in-If.ensures.home
-    w.get-in-Some.ensures w.in_ok-second-in-Some.ensures.checks 
-    (noted_told c.of-node.result c.boolean.new.node _ (passes (walk_of w.scoped-in-Some.new.body w.scoped-in-Some.new.out)) (passes (walk_of c.match-other.body c.match-other.out)) c.in_ok-_test-in-If.ensures.node
-    (then_none (fault_of c.boolean.new.node) (walk_of w.scoped-in-Some.new.body w.scoped-in-Some.new.out) c.in_ok-settle-in-If.ensures.clean
-    ∙ ap passes (walk_same w.scoped-in-Some.new.body c.match-other.body w.scoped-in-Some.new.out c.match-other.out w.body-is w.out-is)))
-      | statements::statement-in-None w ↦ choice_stands c.args.around c.args.follows c.of-node.result c.boolean.new.node c.args.stmt.now c.in-If.test c.in-If.then
-    c.get.result.now c.in-If.other c.args.body.now c.args.out.now c.boolean.new.out (plain_typed c.in_ok-_test-in-If._test) (walk_of c.scoped.new.body c.scoped.new.out)
-    (passes (walk_of c.match-other.body c.match-other.out)) c.in-If.is w.in-None.is c.of-node.ensures.node c.in_ok-_test-in-If.ensures.answer c.get.ensures
-    c.in_ok-_test-in-If.ensures.node c.in_ok-first-in-If.ensures.checks 
-    (then_none (fault_of c.boolean.new.node) (walk_of c.scoped.new.body c.scoped.new.out) c.in_ok-settle-in-If.ensures.clean
-    ∙ ap passes (walk_same c.scoped.new.body c.match-other.body c.scoped.new.out c.match-other.out w.body-is w.out-is))
+      | statements::statement-in-Some+in_ok-second-in-Some w ↦ either_stands c.args.around c.args.follows c.of-node.result c.args.stmt.now c.in-If.test
+          c.in-If.then c.get.result.now c.in-If.other
+          w.in-Some.other w.get-in-Some.result.now c.args.body.now c.scoped.new.body c.args.out.now c.boolean.new.out c.scoped.new.out
+          (plain_typed c.in_ok-_test-in-If._test) (passes (walk_of w.scoped-in-Some.new.body w.scoped-in-Some.new.out))
+          (passes (walk_of c.match-other.body c.match-other.out)) c.in-If.is w.in-Some.is c.of-node.ensures.node
+          c.in_ok-_test-in-If.ensures.answer c.get.ensures c.in_ok-first-in-If.ensures.checks c.in_ok-first-in-If.ensures.home
+          w.get-in-Some.ensures w.in_ok-second-in-Some.ensures.checks
+          (noted_told c.of-node.result c.boolean.new.node _ (passes (walk_of w.scoped-in-Some.new.body w.scoped-in-Some.new.out))
+          (passes (walk_of c.match-other.body c.match-other.out)) c.in_ok-_test-in-If.ensures.node
+          (then_none (fault_of c.boolean.new.node) (walk_of w.scoped-in-Some.new.body w.scoped-in-Some.new.out) c.in_ok-settle-in-If.ensures.clean
+          ∙ ap passes (walk_same w.scoped-in-Some.new.body c.match-other.body w.scoped-in-Some.new.out c.match-other.out w.body-is w.out-is)))
+      | statements::statement-in-None w ↦ choice_stands c.args.around c.args.follows c.of-node.result c.boolean.new.node c.args.stmt.now c.in-If.test
+          c.in-If.then
+          c.get.result.now c.in-If.other c.args.body.now c.args.out.now c.boolean.new.out (plain_typed c.in_ok-_test-in-If._test)
+          (walk_of c.scoped.new.body c.scoped.new.out)
+          (passes (walk_of c.match-other.body c.match-other.out)) c.in-If.is w.in-None.is c.of-node.ensures.node c.in_ok-_test-in-If.ensures.answer c.get.ensures
+          c.in_ok-_test-in-If.ensures.node c.in_ok-first-in-If.ensures.checks
+          (then_none (fault_of c.boolean.new.node) (walk_of c.scoped.new.body c.scoped.new.out) c.in_ok-settle-in-If.ensures.clean
+          ∙ ap passes (walk_same c.scoped.new.body c.match-other.body c.scoped.new.out c.match-other.out w.body-is w.out-is))
     ]
 
 pub statements::statement-returns-in_err-returns-in-Return-clause-checks :
     goal.statements::statement-returns-in_err-returns-in-Return-clause-checks
 statements::statement-returns-in_err-returns-in-Return-clause-checks t c =
-    stopped (λ q. Checking c.args.body.now.atomic_params c.args.around c.of-node.result (return_form (option_copied c.as_ref.result)) (walk_of c.args.body.now c.args.out.now) (verdict.refused q))
+    stopped (λ q. Checking c.args.body.now.atomic_params c.args.around c.of-node.result (return_form (option_copied c.as_ref.result))
+    (walk_of c.args.body.now c.args.out.now) (verdict.refused q))
     (Standing c.args.body.now.atomic_params c.args.around c.args.follows (plain_stmt c.args.stmt.now) (walk_of c.args.body.now c.args.out.now))
     c.from_residual-in_err-returns-in-Return.result _ c.in_err-returns-in-Return.field-0.0 c.from_residual-in_err-returns-in-Return.ensures.1
     (λ q d.
@@ -197,17 +223,20 @@ statements::statement-returns-in_ok-returns-in-Return-clause-checks t c =
 
 pub statements::statement-returns-in_default-clause-checks : goal.statements::statement-returns-in_default-clause-checks
 statements::statement-returns-in_default-clause-checks t c =
-    says_all (Checking c.args.body.now.atomic_params c.args.around c.of-node.result (form_of (plain_stmt c.args.stmt.now)) (walk_of c.args.body.now c.args.out.now))
+    says_all (Checking c.args.body.now.atomic_params c.args.around c.of-node.result (form_of (plain_stmt c.args.stmt.now))
+    (walk_of c.args.body.now c.args.out.now))
     (Standing c.args.body.now.atomic_params c.args.around c.args.follows (plain_stmt c.args.stmt.now) (walk_of c.args.body.now c.args.out.now))
     c.completing.result (walk_of c.completing.new.body c.completing.new.out)
     (λ v d.
-    construct_stands c.args.body.now.atomic_params c.args.around c.args.follows c.of-node.result c.args.stmt.now (walk_of c.args.body.now c.args.out.now) v c.of-node.ensures.node d)
+    construct_stands c.args.body.now.atomic_params c.args.around c.args.follows c.of-node.result c.args.stmt.now (walk_of c.args.body.now c.args.out.now) v
+    c.of-node.ensures.node d)
     c.completing.ensures.checks
 
 pub statements::completing-returns-in_err-construct-clause-checks :
     goal.statements::completing-returns-in_err-construct-clause-checks
 statements::completing-returns-in_err-construct-clause-checks t c =
-    stopped (λ q. Checking c.args.body.now.atomic_params c.args.around c.args.node (form_of (plain_stmt c.args.stmt.now)) (walk_of c.args.body.now c.args.out.now) (verdict.refused q))
+    stopped (λ q. Checking c.args.body.now.atomic_params c.args.around c.args.node (form_of (plain_stmt c.args.stmt.now))
+    (walk_of c.args.body.now c.args.out.now) (verdict.refused q))
     (Checking c.args.body.now.atomic_params c.args.around c.args.node (form_of (plain_stmt c.args.stmt.now)) (walk_of c.args.body.now c.args.out.now))
     c.from_residual.result _ c.in_err-construct.field-0.0 c.from_residual.ensures.1 (λ q d. d) c.in_err-construct.ensures.checks
 
@@ -215,13 +244,16 @@ pub statements::statements-returns-in_err-done-clause-checks :
     goal.statements::statements-returns-in_err-done-clause-checks
 statements::statements-returns-in_err-done-clause-checks t c =
     stopped
-    (λ q. Standing c.loop-stmt.body.atomic_params c.args.around (not c.loop-stmt.completes) (plain_stmt c.stmt-item.result) (walk_of c.loop-stmt.body c.loop-stmt.out) (verdict.refused q))
+    (λ q. Standing c.loop-stmt.body.atomic_params c.args.around (not c.loop-stmt.completes) (plain_stmt c.stmt-item.result)
+    (walk_of c.loop-stmt.body c.loop-stmt.out) (verdict.refused q))
     (InOrder c.args.body.now.atomic_params c.args.around true (plain_stmts (map plain_stmt c.args.stmts.now)) (walk_of c.args.body.now c.args.out.now))
     c.from_residual.result _ c.in_err-done.field-0.0 c.from_residual.ensures.1
     (λ q d.
     c.loop-stmt.invariant.goes_on (verdict.refused q)
-    (next_refused c.args.body.now.atomic_params c.loop-stmt.body.atomic_params c.args.around c.loop-stmt.completes c.args.stmts.now c.loop-stmt.stmt-index c.stmt-item.result
-    (walk_of c.loop-stmt.body c.loop-stmt.out) q (home_params c.args.body.now c.loop-stmt.body c.loop-stmt.invariant.home) c.loop-stmt-test.true c.stmt-item.is d))
+    (next_refused c.args.body.now.atomic_params c.loop-stmt.body.atomic_params c.args.around c.loop-stmt.completes c.args.stmts.now c.loop-stmt.stmt-index
+    c.stmt-item.result
+    (walk_of c.loop-stmt.body c.loop-stmt.out) q (home_params c.args.body.now c.loop-stmt.body c.loop-stmt.invariant.home) c.loop-stmt-test.true
+    c.stmt-item.is d))
     c.in_err-done.ensures.checks
 
 pub statements::statements-loop-stmt-preserved : goal.statements::statements-loop-stmt-preserved
@@ -234,7 +266,8 @@ statements::statements-loop-stmt-preserved t c =
     ]) in
     record {
       completes =
-          complete_step c.args.stmts.now c.loop-stmt.stmt-index c.stmt-item.result c.loop-stmt.completes c.in_ok-done.done c.if-completes.completes c.loop-stmt-test.true
+          complete_step c.args.stmts.now c.loop-stmt.stmt-index c.stmt-item.result c.loop-stmt.completes c.in_ok-done.done c.if-completes.completes
+          c.loop-stmt-test.true
           c.stmt-item.is c.in_ok-done.ensures.completes next_so c.loop-stmt.invariant.completes;
       keeps =
           keep_step c.args.around c.args.stmts.now c.loop-stmt.stmt-index c.stmt-item.result c.loop-stmt.completes c.in_ok-done.done c.if-completes.completes
@@ -245,7 +278,8 @@ statements::statements-loop-stmt-preserved t c =
           c.statement.new.out.reaches_nd c.loop-stmt-test.true c.stmt-item.is c.in_ok-done.ensures.nd c.loop-stmt.invariant.nd;
       home = c.in_ok-done.ensures.home ∙ c.loop-stmt.invariant.home;
       goes_on = λ v rest. c.loop-stmt.invariant.goes_on v
-          (next_passes c.args.body.now.atomic_params c.loop-stmt.body.atomic_params c.args.around c.loop-stmt.completes c.in_ok-done.done c.if-completes.completes
+          (next_passes c.args.body.now.atomic_params c.loop-stmt.body.atomic_params c.args.around c.loop-stmt.completes c.in_ok-done.done
+          c.if-completes.completes
           c.args.stmts.now c.loop-stmt.stmt-index c.stmt-item.result (walk_of c.loop-stmt.body c.loop-stmt.out)
           (walk_of c.statement.new.body c.statement.new.out) v (home_params c.args.body.now c.loop-stmt.body c.loop-stmt.invariant.home) c.loop-stmt-test.true
           c.stmt-item.is c.in_ok-done.ensures.checks c.in_ok-done.ensures.completes next_so rest);
@@ -254,7 +288,8 @@ statements::statements-loop-stmt-preserved t c =
 pub statements::statements-returns-clause-checks : goal.statements::statements-returns-clause-checks
 statements::statements-returns-clause-checks t c =
     c.loop-stmt.invariant.goes_on (passes (walk_of c.loop-stmt.body c.loop-stmt.out))
-    (none_after c.args.body.now.atomic_params c.args.around c.loop-stmt.completes c.args.stmts.now c.loop-stmt.stmt-index (walk_of c.loop-stmt.body c.loop-stmt.out)
+    (none_after c.args.body.now.atomic_params c.args.around c.loop-stmt.completes c.args.stmts.now c.loop-stmt.stmt-index
+    (walk_of c.loop-stmt.body c.loop-stmt.out)
     (drop_all c.loop-stmt.stmt-index c.args.stmts.now c.loop-stmt-test.false))
 
 pub statements::repeated-returns-in_err-_test-in-While-clause-checks :
@@ -264,13 +299,15 @@ statements::repeated-returns-in_err-_test-in-While-clause-checks t c =
     (Checking c.args.body.now.atomic_params c.args.around c.args.node (form_of (plain_stmt c.args.stmt.now)) (walk_of c.args.body.now c.args.out.now))
     c.from_residual.result _ c.in_err-_test-in-While.field-0.0 c.from_residual.ensures.1
     (λ q d.
-    while_test_stops c.args.body.now.atomic_params c.args.around c.args.node c.args.stmt.now c.in-While.test c.in-While.iteration c.args.body.now c.args.out.now q c.in-While.is d)
+    while_test_stops c.args.body.now.atomic_params c.args.around c.args.node c.args.stmt.now c.in-While.test c.in-While.iteration c.args.body.now
+    c.args.out.now q c.in-While.is d)
     c.in_err-_test-in-While.ensures.answer
 
 pub statements::repeated-returns-in_err-scoped-in-While-clause-checks :
     goal.statements::repeated-returns-in_err-scoped-in-While-clause-checks
 statements::repeated-returns-in_err-scoped-in-While-clause-checks t c =
-    stopped (λ q. InScope c.args.body.now.atomic_params c.args.around (plain_stmt c.get.result.now) (walk_of c.args.body.now c.boolean.new.out) (verdict.refused q))
+    stopped (λ q. InScope c.args.body.now.atomic_params c.args.around (plain_stmt c.get.result.now) (walk_of c.args.body.now c.boolean.new.out)
+    (verdict.refused q))
     (Checking c.args.body.now.atomic_params c.args.around c.args.node (form_of (plain_stmt c.args.stmt.now)) (walk_of c.args.body.now c.args.out.now))
     c.from_residual-in_err-scoped-in-While.result _ c.in_err-scoped-in-While.field-0.0 c.from_residual-in_err-scoped-in-While.ensures.1
     (λ q d.
@@ -286,8 +323,9 @@ statements::repeated-returns-in_ok-scoped-in-While-clause-checks t c =
     (Checking c.args.body.now.atomic_params c.args.around c.args.node (form_of (plain_stmt c.args.stmt.now)) (walk_of c.args.body.now c.args.out.now))
     c.settle.ensures.result
     (while_so c.args.around c.args.node c.args.stmt.now c.in-While.test c.in-While.iteration c.get.result.now c.args.body.now c.args.out.now
-    c.boolean.new.out (plain_typed c.in_ok-_test-in-While._test) (passes (walk_of c.scoped.new.body c.scoped.new.out)) (judged (fault_of c.boolean.new.node) (walk_of c.scoped.new.body c.scoped.new.out))
-    c.in-While.is c.in_ok-_test-in-While.ensures.answer c.get.ensures c.in_ok-scoped-in-While.ensures.checks 
+    c.boolean.new.out (plain_typed c.in_ok-_test-in-While._test) (passes (walk_of c.scoped.new.body c.scoped.new.out))
+    (judged (fault_of c.boolean.new.node) (walk_of c.scoped.new.body c.scoped.new.out))
+    c.in-While.is c.in_ok-_test-in-While.ensures.answer c.get.ensures c.in_ok-scoped-in-While.ensures.checks
     (noted_told c.args.node c.boolean.new.node _ (passes (walk_of c.scoped.new.body c.scoped.new.out)) _ c.in_ok-_test-in-While.ensures.node refl))
 
 pub statements::repeated-returns-in_err-_start-in-Foreach-clause-checks :
@@ -297,7 +335,8 @@ statements::repeated-returns-in_err-_start-in-Foreach-clause-checks t c =
     (Checking c.args.body.now.atomic_params c.args.around c.args.node (form_of (plain_stmt c.args.stmt.now)) (walk_of c.args.body.now c.args.out.now))
     c.from_residual-in_err-_start-in-Foreach.result _ c.in_err-_start-in-Foreach.field-0.0 c.from_residual-in_err-_start-in-Foreach.ensures.1
     (λ q d.
-    start_stops c.args.body.now.atomic_params c.args.around c.args.node c.args.stmt.now c.in-Foreach.nd c.in-Foreach.var c.in-Foreach.start c.in-Foreach.count c.in-Foreach.iteration
+    start_stops c.args.body.now.atomic_params c.args.around c.args.node c.args.stmt.now c.in-Foreach.nd c.in-Foreach.var c.in-Foreach.start
+    c.in-Foreach.count c.in-Foreach.iteration
     c.args.body.now c.args.out.now q c.in-Foreach.is d)
     c.in_err-_start-in-Foreach.ensures.answer
 
@@ -308,7 +347,8 @@ statements::repeated-returns-in_err-_count-in-Foreach-clause-checks t c =
     (Checking c.args.body.now.atomic_params c.args.around c.args.node (form_of (plain_stmt c.args.stmt.now)) (walk_of c.args.body.now c.args.out.now))
     c.from_residual-in_err-_count-in-Foreach.result _ c.in_err-_count-in-Foreach.field-0.0 c.from_residual-in_err-_count-in-Foreach.ensures.1
     (λ q d.
-    count_stops c.args.body.now.atomic_params c.args.around c.args.node c.args.stmt.now c.in-Foreach.nd c.in-Foreach.var c.in-Foreach.start c.in-Foreach.count c.in-Foreach.iteration
+    count_stops c.args.body.now.atomic_params c.args.around c.args.node c.args.stmt.now c.in-Foreach.nd c.in-Foreach.var c.in-Foreach.start
+    c.in-Foreach.count c.in-Foreach.iteration
     c.args.body.now c.args.out.now c.int.new.out (plain_typed c.in_ok-_start-in-Foreach._start) q c.in-Foreach.is
     c.in_ok-_start-in-Foreach.ensures.answer d)
     c.in_err-_count-in-Foreach.ensures.answer
@@ -322,7 +362,8 @@ statements::repeated-returns-in_ok-_count-in-Foreach-clause-checks t c =
     (Checking c.args.body.now.atomic_params c.args.around c.args.node (form_of (plain_stmt c.args.stmt.now)) (walk_of c.args.body.now c.args.out.now))
     c.foreach.result (walk_of c.foreach.new.body c.foreach.new.out)
     (λ v d.
-    foreach_so c.args.around c.args.node c.int.new.node c.int-in-Foreach.new.node c.args.stmt.now c.in-Foreach.nd c.in-Foreach.var c.in-Foreach.start c.in-Foreach.count c.in-Foreach.iteration
+    foreach_so c.args.around c.args.node c.int.new.node c.int-in-Foreach.new.node c.args.stmt.now c.in-Foreach.nd c.in-Foreach.var c.in-Foreach.start
+    c.in-Foreach.count c.in-Foreach.iteration
     c.get-in-Foreach.result.now c.args.body.now c.args.out.now c.int.new.out c.int-in-Foreach.new.out
     (plain_typed c.in_ok-_start-in-Foreach._start) (plain_typed c.in_ok-_count-in-Foreach._count) v c.in-Foreach.is
     c.in_ok-_start-in-Foreach.ensures.answer c.in_ok-_start-in-Foreach.ensures.node c.in_ok-_count-in-Foreach.ensures.answer
@@ -333,24 +374,29 @@ pub statements::repeated-returns-in-ForeachParts-clause-checks :
     goal.statements::repeated-returns-in-ForeachParts-clause-checks
 statements::repeated-returns-in-ForeachParts-clause-checks t c =
     says_all
-    (Parting c.args.body.now.atomic_params c.args.around c.args.node c.in-ForeachParts.view c.in-ForeachParts.var (plain_expr c.in-ForeachParts.array) (plain_expr c.in-ForeachParts.count)
+    (Parting c.args.body.now.atomic_params c.args.around c.args.node c.in-ForeachParts.view c.in-ForeachParts.var (plain_expr c.in-ForeachParts.array)
+    (plain_expr c.in-ForeachParts.count)
     (plain_stmt c.get-in-ForeachParts.result.now) (walk_of c.args.body.now c.args.out.now))
     (Checking c.args.body.now.atomic_params c.args.around c.args.node (form_of (plain_stmt c.args.stmt.now)) (walk_of c.args.body.now c.args.out.now))
     c.foreach_parts.result (walk_of c.foreach_parts.new.body c.foreach_parts.new.out)
     (λ v d.
-    parts_so c.args.body.now.atomic_params c.args.around c.args.node c.args.stmt.now c.in-ForeachParts.view c.in-ForeachParts.var c.in-ForeachParts.array c.in-ForeachParts.count
-    c.in-ForeachParts.iteration c.get-in-ForeachParts.result.now (walk_of c.args.body.now c.args.out.now) v c.in-ForeachParts.is c.get-in-ForeachParts.ensures d)
+    parts_so c.args.body.now.atomic_params c.args.around c.args.node c.args.stmt.now c.in-ForeachParts.view c.in-ForeachParts.var c.in-ForeachParts.array
+    c.in-ForeachParts.count
+    c.in-ForeachParts.iteration c.get-in-ForeachParts.result.now (walk_of c.args.body.now c.args.out.now) v c.in-ForeachParts.is
+    c.get-in-ForeachParts.ensures d)
     c.foreach_parts.ensures.checks
 
 pub constructs::atomic-returns-in_err-block-clause-checks : goal.constructs::atomic-returns-in_err-block-clause-checks
 constructs::atomic-returns-in_err-block-clause-checks t c =
-    atomic_refused c.args.body.now.atomic_params c.args.body.now c.args.around c.inside.result c.args.node (plain_stmts (map plain_stmt c.args.stmts.now)) c.args.out.now c.new-inner.result
+    atomic_refused c.args.body.now.atomic_params c.args.body.now c.args.around c.inside.result c.args.node (plain_stmts (map plain_stmt c.args.stmts.now))
+    c.args.out.now c.new-inner.result
     _ c.from_residual.result c.in_err-block.field-0.0 c.from_residual.ensures.1 c.inside.ensures
     c.new-inner.ensures c.in_err-block.ensures.checks
 
 pub constructs::atomic-returns-in_err-settle-clause-checks : goal.constructs::atomic-returns-in_err-settle-clause-checks
 constructs::atomic-returns-in_err-settle-clause-checks t c =
-    atomic_told c.args.body.now.atomic_params c.args.body.now c.block.new.body c.args.around c.inside.result c.args.node c.note_if.new.self (plain_stmts (map plain_stmt c.args.stmts.now))
+    atomic_told c.args.body.now.atomic_params c.args.body.now c.block.new.body c.args.around c.inside.result c.args.node c.note_if.new.self
+    (plain_stmts (map plain_stmt c.args.stmts.now))
     c.args.out.now c.new-inner.result c.block.new.out _ c.from_residual-in_err-settle.result c.in_err-settle.field-0.0
     c.from_residual-in_err-settle.ensures.1 c.inside.ensures c.new-inner.ensures c.in_ok-block.ensures.checks c.note_if.ensures.node
     c.in_err-settle.ensures.result
@@ -358,11 +404,13 @@ constructs::atomic-returns-in_err-settle-clause-checks t c =
 pub constructs::atomic-returns-clause-nd : goal.constructs::atomic-returns-clause-nd
 constructs::atomic-returns-clause-nd t c =
     taken_nd c.from_here-leaving.result c.args.out.now c.block.new.out c.take_in.new.out (some_holds_nd (plain_stmts (map plain_stmt c.args.stmts.now)))
-    c.in_ok-take_in.ensures (begun_nd c.new-inner.result c.block.new.out (some_holds_nd (plain_stmts (map plain_stmt c.args.stmts.now))) c.new-inner.ensures c.in_ok-block.ensures.nd)
+    c.in_ok-take_in.ensures (begun_nd c.new-inner.result c.block.new.out (some_holds_nd (plain_stmts (map plain_stmt c.args.stmts.now))) c.new-inner.ensures
+    c.in_ok-block.ensures.nd)
 
 pub constructs::atomic-returns-clause-checks : goal.constructs::atomic-returns-clause-checks
 constructs::atomic-returns-clause-checks t c =
-    atomic_passes c.args.body.now.atomic_params c.args.body.now c.block.new.body c.args.around c.inside.result c.args.node c.note_if.new.self (plain_stmts (map plain_stmt c.args.stmts.now))
+    atomic_passes c.args.body.now.atomic_params c.args.body.now c.block.new.body c.args.around c.inside.result c.args.node c.note_if.new.self
+    (plain_stmts (map plain_stmt c.args.stmts.now))
     c.args.out.now c.new-inner.result c.block.new.out c.take_in.new.out c.in_ok-entered.field-0 c.push.new.self c.from_here-leaving.result
     c.inside.ensures c.new-inner.ensures c.in_ok-block.ensures.checks c.note_if.ensures.node c.in_ok-settle.ensures.clean
     c.in_ok-entered.ensures c.in_ok-push.ensures.ok c.from_here-leaving.ensures c.in_ok-take_in.ensures
@@ -370,14 +418,16 @@ constructs::atomic-returns-clause-checks t c =
 pub constructs::foreach-returns-in_err-scoped-clause-checks :
     goal.constructs::foreach-returns-in_err-scoped-clause-checks
 constructs::foreach-returns-in_err-scoped-clause-checks t c =
-    iteration_stopped c.args.body.now c.declare_variable.new.self c.args.around c.inside.result c.args.node c.args.nd c.args.var (plain_stmt c.args.iteration.now)
+    iteration_stopped c.args.body.now c.declare_variable.new.self c.args.around c.inside.result c.args.node c.args.nd c.args.var
+    (plain_stmt c.args.iteration.now)
     c.args.out.now c.new-inner.result _ c.from_residual-in_err-scoped.result c.in_err-scoped.field-0.0
     c.from_residual-in_err-scoped.ensures.1 c.new-inner.ensures c.in_ok-declare_variable.ensures.whole c.inside.ensures c.in_err-scoped.ensures.checks
 
 pub constructs::foreach-returns-in_err-settle-clause-checks :
     goal.constructs::foreach-returns-in_err-settle-clause-checks
 constructs::foreach-returns-in_err-settle-clause-checks t c =
-    let passed : Iterated c.args.body.now c.scoped.new.body c.args.around c.args.node c.note_if.new.self c.args.var (plain_stmt c.args.iteration.now) c.args.out.now
+    let passed : Iterated c.args.body.now c.scoped.new.body c.args.around c.args.node c.note_if.new.self c.args.var (plain_stmt c.args.iteration.now)
+    c.args.out.now
     c.scoped.new.out c.in_ok-assigns_outer.field-0 = record {
       second_is =
           second_noted c.args.body.now.env c.args.var c.args.node c.note_declaration.new.node c.note_if.new.self c.in_ok-assigns_outer.field-0
@@ -395,7 +445,8 @@ constructs::foreach-returns-in_err-settle-clause-checks t c =
 pub constructs::foreach-returns-in_err-settle-2-clause-checks :
     goal.constructs::foreach-returns-in_err-settle-2-clause-checks
 constructs::foreach-returns-in_err-settle-2-clause-checks t c =
-    let passed : Iterated c.args.body.now c.scoped.new.body c.args.around c.args.node c.note_if.new.self c.args.var (plain_stmt c.args.iteration.now) c.args.out.now
+    let passed : Iterated c.args.body.now c.scoped.new.body c.args.around c.args.node c.note_if.new.self c.args.var (plain_stmt c.args.iteration.now)
+    c.args.out.now
     c.scoped.new.out c.in_ok-assigns_outer.field-0 = record {
       second_is =
           second_noted c.args.body.now.env c.args.var c.args.node c.note_declaration.new.node c.note_if.new.self c.in_ok-assigns_outer.field-0
@@ -439,7 +490,8 @@ constructs::foreach-returns-clause-nd t c =
 
 pub constructs::foreach-returns-clause-checks : goal.constructs::foreach-returns-clause-checks
 constructs::foreach-returns-clause-checks t c =
-    let passed : Iterated c.args.body.now c.scoped.new.body c.args.around c.args.node c.note_if.new.self c.args.var (plain_stmt c.args.iteration.now) c.args.out.now
+    let passed : Iterated c.args.body.now c.scoped.new.body c.args.around c.args.node c.note_if.new.self c.args.var (plain_stmt c.args.iteration.now)
+    c.args.out.now
     c.scoped.new.out c.in_ok-assigns_outer.field-0 = record {
       second_is =
           second_noted c.args.body.now.env c.args.var c.args.node c.note_declaration.new.node c.note_if.new.self c.in_ok-assigns_outer.field-0
@@ -475,13 +527,15 @@ constructs::foreach-returns-clause-checks t c =
 pub parts::foreach_parts-returns-in_err-outer-clause-checks :
     goal.parts::foreach_parts-returns-in_err-outer-clause-checks
 parts::foreach_parts-returns-in_err-outer-clause-checks t c =
-    range_stopped c.args.body.now c.args.around c.args.node c.args.names.0 c.args.names.1 (plain_expr c.args.range.0.now) (plain_expr c.args.range.1.now) (plain_stmt c.args.iteration.now)
+    range_stopped c.args.body.now c.args.around c.args.node c.args.names.0 c.args.names.1 (plain_expr c.args.range.0.now) (plain_expr c.args.range.1.now)
+    (plain_stmt c.args.iteration.now)
     c.args.out.now _ c.from_residual.result c.in_err-outer.field-0.0 c.from_residual.ensures.1 c.in_err-outer.ensures.opening
 
 pub parts::foreach_parts-returns-in_err-scoped-clause-checks :
     goal.parts::foreach_parts-returns-in_err-scoped-clause-checks
 parts::foreach_parts-returns-in_err-scoped-clause-checks t c =
-    part_stopped c.args.body.now c.open.new.body c.args.around c.inside.result c.args.node c.open.new.node c.args.names.0 c.args.names.1 (plain_expr c.args.range.0.now) (plain_expr c.args.range.1.now)
+    part_stopped c.args.body.now c.open.new.body c.args.around c.inside.result c.args.node c.open.new.node c.args.names.0 c.args.names.1
+    (plain_expr c.args.range.0.now) (plain_expr c.args.range.1.now)
     (plain_stmt c.args.iteration.now) c.args.out.now c.open.new.out c.new-inner.result c.in_ok-outer.outer _
     c.from_residual-in_err-scoped.result c.in_err-scoped.field-0.0 c.from_residual-in_err-scoped.ensures.1 c.in_ok-outer.ensures.opening
     c.in_ok-outer.ensures.home c.inside.ensures c.new-inner.ensures c.in_err-scoped.ensures.checks
@@ -489,7 +543,8 @@ parts::foreach_parts-returns-in_err-scoped-clause-checks t c =
 pub parts::foreach_parts-returns-in_err-settle-clause-checks :
     goal.parts::foreach_parts-returns-in_err-settle-clause-checks
 parts::foreach_parts-returns-in_err-settle-clause-checks t c =
-    let part : Part c.args.body.now c.open.new.body c.scoped.new.body c.args.around c.args.node c.open.new.node c.note_if.new.self c.args.names.0 c.args.names.1 (plain_expr c.args.range.0.now) (plain_expr c.args.range.1.now)
+    let part : Part c.args.body.now c.open.new.body c.scoped.new.body c.args.around c.args.node c.open.new.node c.note_if.new.self c.args.names.0
+    c.args.names.1 (plain_expr c.args.range.0.now) (plain_expr c.args.range.1.now)
     (plain_stmt c.args.iteration.now) c.args.out.now c.open.new.out c.scoped.new.out c.in_ok-outer.outer c.in_ok-assigns_outer.field-0 = record {
       opening = c.in_ok-outer.ensures.opening;
       second_is = c.note_if.ensures.node;
@@ -499,14 +554,16 @@ parts::foreach_parts-returns-in_err-settle-clause-checks t c =
           c.in_ok-scoped.ensures.checks;
       assigning = c.in_ok-assigns_outer.ensures;
     } in
-    part_told c.args.body.now c.open.new.body c.scoped.new.body c.args.around c.args.node c.open.new.node c.note_if.new.self c.args.names.0 c.args.names.1 (plain_expr c.args.range.0.now) (plain_expr c.args.range.1.now)
+    part_told c.args.body.now c.open.new.body c.scoped.new.body c.args.around c.args.node c.open.new.node c.note_if.new.self c.args.names.0 c.args.names.1
+    (plain_expr c.args.range.0.now) (plain_expr c.args.range.1.now)
     (plain_stmt c.args.iteration.now) c.args.out.now c.open.new.out c.scoped.new.out c.in_ok-outer.outer c.in_ok-assigns_outer.field-0 _
     c.from_residual-in_err-settle.result c.in_err-settle.field-0.0 c.from_residual-in_err-settle.ensures.1 part c.in_err-settle.ensures.result
 
 pub parts::foreach_parts-returns-in_err-settle-2-clause-checks :
     goal.parts::foreach_parts-returns-in_err-settle-2-clause-checks
 parts::foreach_parts-returns-in_err-settle-2-clause-checks t c =
-    let part : Part c.args.body.now c.open.new.body c.scoped.new.body c.args.around c.args.node c.open.new.node c.note_if.new.self c.args.names.0 c.args.names.1 (plain_expr c.args.range.0.now) (plain_expr c.args.range.1.now)
+    let part : Part c.args.body.now c.open.new.body c.scoped.new.body c.args.around c.args.node c.open.new.node c.note_if.new.self c.args.names.0
+    c.args.names.1 (plain_expr c.args.range.0.now) (plain_expr c.args.range.1.now)
     (plain_stmt c.args.iteration.now) c.args.out.now c.open.new.out c.scoped.new.out c.in_ok-outer.outer c.in_ok-assigns_outer.field-0 = record {
       opening = c.in_ok-outer.ensures.opening;
       second_is = c.note_if.ensures.node;
@@ -527,8 +584,10 @@ parts::foreach_parts-returns-in_err-settle-2-clause-checks t c =
       settle_is = c.settle.ensures.forgotten;
       third_is = c.note_if-2.ensures.node;
     } in
-    parts_told c.args.body.now c.open.new.body c.scoped.new.body c.args.around c.args.node c.open.new.node c.note_if.new.self c.settle.new.self c.note_if-2.new.self
-    c.args.names.0 c.args.names.1 (plain_expr c.args.range.0.now) (plain_expr c.args.range.1.now) (plain_stmt c.args.iteration.now) c.args.out.now c.open.new.out c.scoped.new.out
+    parts_told c.args.body.now c.open.new.body c.scoped.new.body c.args.around c.args.node c.open.new.node c.note_if.new.self c.settle.new.self
+    c.note_if-2.new.self
+    c.args.names.0 c.args.names.1 (plain_expr c.args.range.0.now) (plain_expr c.args.range.1.now) (plain_stmt c.args.iteration.now) c.args.out.now
+    c.open.new.out c.scoped.new.out
     c.in_ok-outer.outer c.in_ok-assigns_outer.field-0 c.in_ok-passes.passes c.slots-part.result (c.slots-part.result + 4) c.leave.new.self
     c.mark-scope.result _ c.from_residual-in_err-settle-2.result c.in_err-settle-2.field-0.0 c.from_residual-in_err-settle-2.ensures.1 part met
     c.in_ok-settle.ensures.clean c.in_err-settle-2.ensures.result
@@ -541,7 +600,8 @@ parts::foreach_parts-returns-clause-nd t c =
 
 pub parts::foreach_parts-returns-clause-checks : goal.parts::foreach_parts-returns-clause-checks
 parts::foreach_parts-returns-clause-checks t c =
-    let part : Part c.args.body.now c.open.new.body c.scoped.new.body c.args.around c.args.node c.open.new.node c.note_if.new.self c.args.names.0 c.args.names.1 (plain_expr c.args.range.0.now) (plain_expr c.args.range.1.now)
+    let part : Part c.args.body.now c.open.new.body c.scoped.new.body c.args.around c.args.node c.open.new.node c.note_if.new.self c.args.names.0
+    c.args.names.1 (plain_expr c.args.range.0.now) (plain_expr c.args.range.1.now)
     (plain_stmt c.args.iteration.now) c.args.out.now c.open.new.out c.scoped.new.out c.in_ok-outer.outer c.in_ok-assigns_outer.field-0 = record {
       opening = c.in_ok-outer.ensures.opening;
       second_is = c.note_if.ensures.node;
@@ -562,8 +622,10 @@ parts::foreach_parts-returns-clause-checks t c =
       settle_is = c.settle.ensures.forgotten;
       third_is = c.note_if-2.ensures.node;
     } in
-    parts_pass c.args.body.now c.open.new.body c.scoped.new.body c.args.around c.args.node c.open.new.node c.note_if.new.self c.settle.new.self c.note_if-2.new.self
-    c.args.names.0 c.args.names.1 (plain_expr c.args.range.0.now) (plain_expr c.args.range.1.now) (plain_stmt c.args.iteration.now) c.args.out.now c.open.new.out c.scoped.new.out
+    parts_pass c.args.body.now c.open.new.body c.scoped.new.body c.args.around c.args.node c.open.new.node c.note_if.new.self c.settle.new.self
+    c.note_if-2.new.self
+    c.args.names.0 c.args.names.1 (plain_expr c.args.range.0.now) (plain_expr c.args.range.1.now) (plain_stmt c.args.iteration.now) c.args.out.now
+    c.open.new.out c.scoped.new.out
     c.in_ok-inner.inner c.take_in.new.out c.in_ok-outer.outer c.in_ok-assigns_outer.field-0 c.in_ok-passes.passes c.slots-part.result
     (c.slots-part.result + 4) c.leave.new.self c.mark-scope.result c.from_here-leaving.result part met c.in_ok-settle.ensures.clean
     c.in_ok-settle-2.ensures.clean c.in_ok-inner.ensures c.from_here-leaving.ensures c.in_ok-take_in.ensures
@@ -571,14 +633,17 @@ parts::foreach_parts-returns-clause-checks t c =
 pub constructs::cobegin-returns-in_err-scoped-clause-checks :
     goal.constructs::cobegin-returns-in_err-scoped-clause-checks
 constructs::cobegin-returns-in_err-scoped-clause-checks t c =
-    fork_stopped c.args.body.now c.loop-branch.body c.args.around c.inside.result c.args.node c.args.nd c.args.branches.now c.loop-branch.branch-index c.loop-branch.effects c.loop-branch.locals
+    fork_stopped c.args.body.now c.loop-branch.body c.args.around c.inside.result c.args.node c.args.nd c.args.branches.now c.loop-branch.branch-index
+    c.loop-branch.effects c.loop-branch.locals
     c.args.out.now c.loop-branch.out c.new-inner.result c.branch-item.result _ c.from_residual.result
-    c.in_err-scoped.field-0.0 c.from_residual.ensures.1 c.loop-branch.invariant.forks c.loop-branch-test.true c.branch-item.is c.loop-branch.invariant.home c.inside.ensures
+    c.in_err-scoped.field-0.0 c.from_residual.ensures.1 c.loop-branch.invariant.forks c.loop-branch-test.true c.branch-item.is c.loop-branch.invariant.home
+    c.inside.ensures
     c.new-inner.ensures c.in_err-scoped.ensures.checks
 
 pub constructs::cobegin-loop-branch-preserved : goal.constructs::cobegin-loop-branch-preserved
 constructs::cobegin-loop-branch-preserved t c =
-    let found : Branch c.args.body.now.atomic_params (inside c.args.around) c.args.nd c.loop-branch.body c.scoped.new.body c.loop-branch.out c.scoped.new.out c.take_in.new.out c.branch-item.result
+    let found : Branch c.args.body.now.atomic_params (inside c.args.around) c.args.nd c.loop-branch.body c.scoped.new.body c.loop-branch.out c.scoped.new.out
+    c.take_in.new.out c.branch-item.result
     c.in_ok-all_effects.field-0 c.in_ok-touched.field-0 c.marks_after.result c.from_here-leaving.result = record {
       in_scope =
           piece_begun c.args.body.now c.loop-branch.body c.args.around c.inside.result (plain_stmt c.branch-item.result) c.loop-branch.out c.new-inner.result
@@ -596,36 +661,47 @@ constructs::cobegin-loop-branch-preserved t c =
       nd =
           fork_nd c.from_here-leaving.result c.args.branches.now c.loop-branch.branch-index c.branch-item.result
           (c.args.out.now.reaches_nd || some_holds_nd (plain_stmts (map plain_stmt c.args.branches.now))) c.loop-branch.out c.scoped.new.out c.new-inner.result
-          c.take_in.new.out c.loop-branch-test.true c.branch-item.is c.new-inner.ensures c.in_ok-take_in.ensures c.in_ok-scoped.ensures.nd c.loop-branch.invariant.nd;
+          c.take_in.new.out c.loop-branch-test.true c.branch-item.is c.new-inner.ensures c.in_ok-take_in.ensures c.in_ok-scoped.ensures.nd
+          c.loop-branch.invariant.nd;
       forks =
-          fork_more c.args.body.now.atomic_params (inside c.args.around) c.args.nd c.args.branches.now (walk_of c.args.body.now c.args.out.now) c.loop-branch.branch-index
+          fork_more c.args.body.now.atomic_params (inside c.args.around) c.args.nd c.args.branches.now (walk_of c.args.body.now c.args.out.now)
+          c.loop-branch.branch-index
           c.loop-branch.effects c.push-in-loop-branch.new.self c.loop-branch.locals c.push.new.self c.loop-branch.body c.scoped.new.body c.loop-branch.out
           c.scoped.new.out c.take_in.new.out c.branch-item.result c.in_ok-all_effects.field-0 c.in_ok-touched.field-0 c.marks_after.result
-          c.from_here-leaving.result c.loop-branch.invariant.forks c.loop-branch-test.true c.branch-item.is found c.in_ok-push-2.ensures.ok c.in_ok-push.ensures.ok;
+          c.from_here-leaving.result c.loop-branch.invariant.forks c.loop-branch-test.true c.branch-item.is found c.in_ok-push-2.ensures.ok
+          c.in_ok-push.ensures.ok;
       home = c.in_ok-scoped.ensures.home ∙ c.loop-branch.invariant.home;
     }
 
 pub constructs::cobegin-returns-in_err-settle-clause-checks :
     goal.constructs::cobegin-returns-in_err-settle-clause-checks
 constructs::cobegin-returns-in_err-settle-clause-checks t c =
-    let all : Branching c.args.body.now.atomic_params (inside c.args.around) c.args.nd (plain_stmts (map plain_stmt c.args.branches.now)) (walk_of c.args.body.now c.args.out.now)
+    let all : Branching c.args.body.now.atomic_params (inside c.args.around) c.args.nd (plain_stmts (map plain_stmt c.args.branches.now))
+    (walk_of c.args.body.now c.args.out.now)
     (all_pass c.loop-branch.effects c.loop-branch.locals (walk_of c.loop-branch.body c.loop-branch.out)) =
-    fork_all c.args.body.now.atomic_params (inside c.args.around) c.args.nd c.args.branches.now (walk_of c.args.body.now c.args.out.now) c.loop-branch.branch-index
-    c.loop-branch.effects c.loop-branch.locals (walk_of c.loop-branch.body c.loop-branch.out) c.loop-branch.invariant.forks (drop_all c.loop-branch.branch-index c.args.branches.now c.loop-branch-test.false) in
+    fork_all c.args.body.now.atomic_params (inside c.args.around) c.args.nd c.args.branches.now (walk_of c.args.body.now c.args.out.now)
+    c.loop-branch.branch-index
+    c.loop-branch.effects c.loop-branch.locals (walk_of c.loop-branch.body c.loop-branch.out) c.loop-branch.invariant.forks
+    (drop_all c.loop-branch.branch-index c.args.branches.now c.loop-branch-test.false) in
     let clash : ClashIs c.loop-branch.locals c.in_ok-has_clash.field-0 =
     clash_is c.loop-branch.locals c.as_slice.result.now c.in_ok-has_clash.field-0 c.as_slice.ensures c.in_ok-has_clash.ensures.none
     c.in_ok-has_clash.ensures.some in
-    fork_told c.args.body.now.atomic_params c.args.around c.args.node c.note_if.new.self c.args.nd c.in_ok-has_clash.field-0 (plain_stmts (map plain_stmt c.args.branches.now))
-    c.loop-branch.effects c.loop-branch.locals (walk_of c.args.body.now c.args.out.now) (walk_of c.loop-branch.body c.loop-branch.out) (walk_of c.loop-branch.body (reaching c.loop-branch.out c.if-out.out))
+    fork_told c.args.body.now.atomic_params c.args.around c.args.node c.note_if.new.self c.args.nd c.in_ok-has_clash.field-0
+    (plain_stmts (map plain_stmt c.args.branches.now))
+    c.loop-branch.effects c.loop-branch.locals (walk_of c.args.body.now c.args.out.now) (walk_of c.loop-branch.body c.loop-branch.out)
+    (walk_of c.loop-branch.body (reaching c.loop-branch.out c.if-out.out))
     c.from_residual-in_err-settle.result c.in_err-settle.field-0.0 c.from_residual-in_err-settle.ensures.1 all clash c.note_if.ensures.node
     c.in_err-settle.ensures.result
 
 pub constructs::cobegin-returns-clause-checks : goal.constructs::cobegin-returns-clause-checks
 constructs::cobegin-returns-clause-checks t c =
-    let all : Branching c.args.body.now.atomic_params (inside c.args.around) c.args.nd (plain_stmts (map plain_stmt c.args.branches.now)) (walk_of c.args.body.now c.args.out.now)
+    let all : Branching c.args.body.now.atomic_params (inside c.args.around) c.args.nd (plain_stmts (map plain_stmt c.args.branches.now))
+    (walk_of c.args.body.now c.args.out.now)
     (all_pass c.loop-branch.effects c.loop-branch.locals (walk_of c.loop-branch.body c.loop-branch.out)) =
-    fork_all c.args.body.now.atomic_params (inside c.args.around) c.args.nd c.args.branches.now (walk_of c.args.body.now c.args.out.now) c.loop-branch.branch-index
-    c.loop-branch.effects c.loop-branch.locals (walk_of c.loop-branch.body c.loop-branch.out) c.loop-branch.invariant.forks (drop_all c.loop-branch.branch-index c.args.branches.now c.loop-branch-test.false) in
+    fork_all c.args.body.now.atomic_params (inside c.args.around) c.args.nd c.args.branches.now (walk_of c.args.body.now c.args.out.now)
+    c.loop-branch.branch-index
+    c.loop-branch.effects c.loop-branch.locals (walk_of c.loop-branch.body c.loop-branch.out) c.loop-branch.invariant.forks
+    (drop_all c.loop-branch.branch-index c.args.branches.now c.loop-branch-test.false) in
     let clash : ClashIs c.loop-branch.locals c.in_ok-has_clash.field-0 =
     clash_is c.loop-branch.locals c.as_slice.result.now c.in_ok-has_clash.field-0 c.as_slice.ensures c.in_ok-has_clash.ensures.none
     c.in_ok-has_clash.ensures.some in
@@ -633,7 +709,8 @@ constructs::cobegin-returns-clause-checks t c =
       | constructs::cobegin-then-out w ↦ or_then c.loop-branch.out.reaches_nd c.args.nd c.if-out.out w.if-out.true w.out-is
       | constructs::cobegin-else-out w ↦ or_else c.loop-branch.out.reaches_nd c.args.nd c.if-out.out w.if-out.false w.out-is
     ]) in
-    let met : BranchesMet c.args.body.now c.loop-branch.body c.args.node c.note_if.new.self c.settle.new.self c.note_if-2.new.self c.args.nd c.in_ok-has_clash.field-0
+    let met : BranchesMet c.args.body.now c.loop-branch.body c.args.node c.note_if.new.self c.settle.new.self c.note_if-2.new.self c.args.nd
+    c.in_ok-has_clash.field-0
     c.in_ok-passes.passes c.if-out.out c.loop-branch.effects c.as_slice-2.result.now c.loop-branch.out c.interference.result = record {
       home = c.loop-branch.invariant.home;
       second_is = c.note_if.ensures.node;
@@ -644,6 +721,7 @@ constructs::cobegin-returns-clause-checks t c =
       third_is = c.note_if-2.ensures.node;
       reached_by = reached;
     } in
-    fork_ends c.args.body.now c.loop-branch.body c.args.around c.args.node c.note_if.new.self c.settle.new.self c.note_if-2.new.self c.args.nd c.in_ok-has_clash.field-0
+    fork_ends c.args.body.now c.loop-branch.body c.args.around c.args.node c.note_if.new.self c.settle.new.self c.note_if-2.new.self c.args.nd
+    c.in_ok-has_clash.field-0
     c.in_ok-passes.passes c.if-out.out (plain_stmts (map plain_stmt c.args.branches.now)) c.loop-branch.effects c.as_slice-2.result.now c.loop-branch.locals
     c.args.out.now c.loop-branch.out c.interference.result c.settle-2.result all clash met c.in_ok-settle.ensures.clean c.settle-2.ensures.result

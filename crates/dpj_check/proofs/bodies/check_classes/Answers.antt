@@ -8,7 +8,8 @@ use Rattle.dpj_check.proofs.bodies.check_classes.Goals as goal
 pub returns-in_err-methods-clause-fault : goal.returns-in_err-methods-clause-fault
 returns-in_err-methods-clause-fault c =
     fault_passed
-    (λ q. Members c.loop-number.body.env c.number_at.result c.index-classes-number.result.members c.loop-number.methods c.loop-number.body.blocks (one_refused q))
+    (λ q. Members c.loop-number.body.env c.number_at.result c.index-classes-number.result.members c.loop-number.methods c.loop-number.body.blocks
+    (one_refused q))
     (λ q. ClassesChecking c.args.body.now.env 0 c.args.classes.now 0 c.args.body.now.blocks (rejected q)) c.from_residual.result c.in_err-methods.field-0.0
     c.from_residual.ensures.1
     (λ q d.
@@ -20,7 +21,8 @@ returns-in_err-methods-clause-fault c =
 pub returns-clause-ok : goal.returns-clause-ok
 returns-clause-ok c =
     c.loop-number.invariant.so_far.goes_on (accepted c.loop-number.body.blocks)
-    (subst (λ cs. ClassesChecking c.args.body.now.env c.loop-number.number cs c.loop-number.methods c.loop-number.body.blocks (accepted c.loop-number.body.blocks))
+    (subst (λ cs. ClassesChecking c.args.body.now.env c.loop-number.number cs c.loop-number.methods c.loop-number.body.blocks
+    (accepted c.loop-number.body.blocks))
     (sym (drop_all c.loop-number.number c.args.classes.now c.loop-number-test.false)) no_classes)
 
 pub loop-number-preserved : goal.loop-number-preserved

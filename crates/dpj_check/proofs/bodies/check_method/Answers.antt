@@ -9,7 +9,8 @@ use Rattle.dpj_check.proofs.bodies.check_method.Goals as goal
 
 pub returns-in_err-completes-clause-fault : goal.returns-in_err-completes-clause-fault
 returns-in_err-completes-clause-fault c around is =
-    let begun : Begun around c.args.number c.args.method.now (option_copied c.numbered-row.result) c.types_of.result.now c.args.body.now c.declare_formals.new.body = record {
+    let begun : Begun around c.args.number c.args.method.now (option_copied c.numbered-row.result) c.types_of.result.now c.args.body.now
+    c.declare_formals.new.body = record {
       env_is = is;
       row_is = c.numbered-row.ensures ∙ ap (λ t. numbered t c.args.number) c.table.ensures;
       types_are = c.types_of.ensures;
@@ -18,18 +19,21 @@ returns-in_err-completes-clause-fault c around is =
           ∙ ap (λ fs. with_env c.args.body.now (formals_declared c.args.body.now.env fs c.types_of.result.now)) c.as_slice.ensures;
     } in
     fault_passed
-    (λ q. InBlock c.declare_formals.new.body.atomic_params (around_of c.args.method.now) (method_stmts c.args.method.now) (walk_of c.declare_formals.new.body c.new-done.result) (refused q))
+    (λ q. InBlock c.declare_formals.new.body.atomic_params (around_of c.args.method.now) (method_stmts c.args.method.now)
+    (walk_of c.declare_formals.new.body c.new-done.result) (refused q))
     _ c.from_residual-in_err-completes.result c.in_err-completes.field-0.0 c.from_residual-in_err-completes.ensures.1
     (λ q d.
     of_method
-    (body_from around c.args.number c.args.method.now (option_copied c.numbered-row.result) c.types_of.result.now c.args.body.now c.declare_formals.new.body c.new-done.result
+    (body_from around c.args.number c.args.method.now (option_copied c.numbered-row.result) c.types_of.result.now c.args.body.now c.declare_formals.new.body
+    c.new-done.result
     (refused q) begun c.new-done.ensures d)
     refl)
     c.in_err-completes.ensures.checks
 
 pub returns-clause-ok : goal.returns-clause-ok
 returns-clause-ok c around is =
-    let begun : Begun around c.args.number c.args.method.now (option_copied c.numbered-row.result) c.types_of.result.now c.args.body.now c.declare_formals.new.body = record {
+    let begun : Begun around c.args.number c.args.method.now (option_copied c.numbered-row.result) c.types_of.result.now c.args.body.now
+    c.declare_formals.new.body = record {
       env_is = is;
       row_is = c.numbered-row.ensures ∙ ap (λ t. numbered t c.args.number) c.table.ensures;
       types_are = c.types_of.ensures;
@@ -38,16 +42,19 @@ returns-clause-ok c around is =
           ∙ ap (λ fs. with_env c.args.body.now (formals_declared c.args.body.now.env fs c.types_of.result.now)) c.as_slice.ensures;
     } in
     ok_said c.settle_method.result c.check_body.new.body c.check_body.new.done _
-    (method_says around c.args.number c.args.method.now (option_copied c.numbered-row.result) c.types_of.result.now c.summary_of.result.now c.args.body.now c.declare_formals.new.body
+    (method_says around c.args.number c.args.method.now (option_copied c.numbered-row.result) c.types_of.result.now c.summary_of.result.now c.args.body.now
+    c.declare_formals.new.body
     c.check_body.new.body c.check_body.new.done c.in_ok-completes.completes c.set_covers-covered.result c.has_room-has_slots.result
     c.settle_method.result begun (c.summary_of.ensures c.new-nothing.ensures) c.in_ok-completes.ensures.completes c.set_covers-covered.ensures
     c.has_room-has_slots.ensures c.settle_method.ensures
-    (body_from around c.args.number c.args.method.now (option_copied c.numbered-row.result) c.types_of.result.now c.args.body.now c.declare_formals.new.body c.new-done.result
+    (body_from around c.args.number c.args.method.now (option_copied c.numbered-row.result) c.types_of.result.now c.args.body.now c.declare_formals.new.body
+    c.new-done.result
     (passes (walk_of c.check_body.new.body c.check_body.new.done)) begun c.new-done.ensures c.in_ok-completes.ensures.checks))
 
 pub returns-clause-fault : goal.returns-clause-fault
 returns-clause-fault c around is =
-    let begun : Begun around c.args.number c.args.method.now (option_copied c.numbered-row.result) c.types_of.result.now c.args.body.now c.declare_formals.new.body = record {
+    let begun : Begun around c.args.number c.args.method.now (option_copied c.numbered-row.result) c.types_of.result.now c.args.body.now
+    c.declare_formals.new.body = record {
       env_is = is;
       row_is = c.numbered-row.ensures ∙ ap (λ t. numbered t c.args.number) c.table.ensures;
       types_are = c.types_of.ensures;
@@ -56,9 +63,11 @@ returns-clause-fault c around is =
           ∙ ap (λ fs. with_env c.args.body.now (formals_declared c.args.body.now.env fs c.types_of.result.now)) c.as_slice.ensures;
     } in
     fault_said c.settle_method.result (walk_of c.check_body.new.body c.check_body.new.done) _
-    (method_says around c.args.number c.args.method.now (option_copied c.numbered-row.result) c.types_of.result.now c.summary_of.result.now c.args.body.now c.declare_formals.new.body
+    (method_says around c.args.number c.args.method.now (option_copied c.numbered-row.result) c.types_of.result.now c.summary_of.result.now c.args.body.now
+    c.declare_formals.new.body
     c.check_body.new.body c.check_body.new.done c.in_ok-completes.completes c.set_covers-covered.result c.has_room-has_slots.result
     c.settle_method.result begun (c.summary_of.ensures c.new-nothing.ensures) c.in_ok-completes.ensures.completes c.set_covers-covered.ensures
     c.has_room-has_slots.ensures c.settle_method.ensures
-    (body_from around c.args.number c.args.method.now (option_copied c.numbered-row.result) c.types_of.result.now c.args.body.now c.declare_formals.new.body c.new-done.result
+    (body_from around c.args.number c.args.method.now (option_copied c.numbered-row.result) c.types_of.result.now c.args.body.now c.declare_formals.new.body
+    c.new-done.result
     (passes (walk_of c.check_body.new.body c.check_body.new.done)) begun c.new-done.ensures c.in_ok-completes.ensures.checks))

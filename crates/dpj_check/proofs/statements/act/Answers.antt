@@ -12,24 +12,36 @@ use Rattle.dpj_check.proofs.statements.act.Goals as goal
 
 pub returns-in-Do-clause-checks : goal.returns-in-Do-clause-checks
 returns-in-Do-clause-checks c params around =
-    says_all (Performing c.args.node (plain_expr c.in-Do.value) (walk_of c.args.body.now c.args.out.now)) (Checking params around c.args.node (form_of (plain_stmt c.args.stmt.now)) (walk_of c.args.body.now c.args.out.now)) c.perform.result (walk_of c.args.body.now c.perform.new.out)
-    (λ v d. as_form params around c.args.node c.args.stmt.now (form.perform (plain_expr c.in-Do.value)) (walk_of c.args.body.now c.args.out.now) v (at_Do c.args.stmt.now c.in-Do.value c.in-Do.is) (rule.of_call d))
+    says_all (Performing c.args.node (plain_expr c.in-Do.value) (walk_of c.args.body.now c.args.out.now))
+    (Checking params around c.args.node (form_of (plain_stmt c.args.stmt.now)) (walk_of c.args.body.now c.args.out.now)) c.perform.result
+    (walk_of c.args.body.now c.perform.new.out)
+    (λ v d. as_form params around c.args.node c.args.stmt.now (form.perform (plain_expr c.in-Do.value)) (walk_of c.args.body.now c.args.out.now) v
+    (at_Do c.args.stmt.now c.in-Do.value c.in-Do.is) (rule.of_call d))
     c.perform.ensures.checks
 
 pub returns-in-Print-clause-checks : goal.returns-in-Print-clause-checks
 returns-in-Print-clause-checks c params around =
-    says_all (Printing c.args.node (plain_expr c.in-Print.value) (walk_of c.args.body.now c.args.out.now)) (Checking params around c.args.node (form_of (plain_stmt c.args.stmt.now)) (walk_of c.args.body.now c.args.out.now)) c.print.result (walk_of c.args.body.now c.print.new.out)
-    (λ v d. as_form params around c.args.node c.args.stmt.now (form.print (plain_expr c.in-Print.value)) (walk_of c.args.body.now c.args.out.now) v (at_Print c.args.stmt.now c.in-Print.value c.in-Print.is) (rule.of_print d))
+    says_all (Printing c.args.node (plain_expr c.in-Print.value) (walk_of c.args.body.now c.args.out.now))
+    (Checking params around c.args.node (form_of (plain_stmt c.args.stmt.now)) (walk_of c.args.body.now c.args.out.now)) c.print.result
+    (walk_of c.args.body.now c.print.new.out)
+    (λ v d. as_form params around c.args.node c.args.stmt.now (form.print (plain_expr c.in-Print.value)) (walk_of c.args.body.now c.args.out.now) v
+    (at_Print c.args.stmt.now c.in-Print.value c.in-Print.is) (rule.of_print d))
     c.print.ensures.checks
 
 pub returns-in-Region-clause-checks : goal.returns-in-Region-clause-checks
 returns-in-Region-clause-checks c params around =
-    says_all (λ v. regions_declared c.args.node c.as_slice.result.now (walk_of c.args.body.now c.args.out.now) ≡ v) (Checking params around c.args.node (form_of (plain_stmt c.args.stmt.now)) (walk_of c.args.body.now c.args.out.now)) c.declare_regions.result (walk_of c.declare_regions.new.body c.args.out.now)
-    (λ v d. as_form params around c.args.node c.args.stmt.now (form.local_regions c.in-Region.names) (walk_of c.args.body.now c.args.out.now) v (at_Region c.args.stmt.now c.in-Region.names c.in-Region.is)
+    says_all (λ v. regions_declared c.args.node c.as_slice.result.now (walk_of c.args.body.now c.args.out.now) ≡ v)
+    (Checking params around c.args.node (form_of (plain_stmt c.args.stmt.now)) (walk_of c.args.body.now c.args.out.now)) c.declare_regions.result
+    (walk_of c.declare_regions.new.body c.args.out.now)
+    (λ v d. as_form params around c.args.node c.args.stmt.now (form.local_regions c.in-Region.names) (walk_of c.args.body.now c.args.out.now) v
+    (at_Region c.args.stmt.now c.in-Region.names c.in-Region.is)
     (rule.of_regions (subst (λ ns. regions_declared c.args.node ns (walk_of c.args.body.now c.args.out.now) ≡ v) c.as_slice.ensures d)))
     (c.declare_regions.ensures.checks c.args.out.now)
 
 pub returns-in-PrintText-clause-checks : goal.returns-in-PrintText-clause-checks
 returns-in-PrintText-clause-checks c params around =
-    settled_says (fault_of c.args.node) c.settle.result (walk_of c.args.body.now c.args.out.now) (Checking params around c.args.node (form_of (plain_stmt c.args.stmt.now)) (walk_of c.args.body.now c.args.out.now)) c.settle.ensures.result
-    (as_form params around c.args.node c.args.stmt.now (form.print_text c.in-PrintText.field-0) (walk_of c.args.body.now c.args.out.now) (judged (fault_of c.args.node) (walk_of c.args.body.now c.args.out.now)) (at_PrintText c.args.stmt.now c.in-PrintText.field-0 c.in-PrintText.is) (rule.of_text refl))
+    settled_says (fault_of c.args.node) c.settle.result (walk_of c.args.body.now c.args.out.now)
+    (Checking params around c.args.node (form_of (plain_stmt c.args.stmt.now)) (walk_of c.args.body.now c.args.out.now)) c.settle.ensures.result
+    (as_form params around c.args.node c.args.stmt.now (form.print_text c.in-PrintText.field-0) (walk_of c.args.body.now c.args.out.now)
+    (judged (fault_of c.args.node) (walk_of c.args.body.now c.args.out.now)) (at_PrintText c.args.stmt.now c.in-PrintText.field-0 c.in-PrintText.is)
+    (rule.of_text refl))

@@ -13,12 +13,18 @@ use Rattle.dpj_check.proofs.statements.returns.Goals as goal
 
 pub returns-in-None-clause-checks : goal.returns-in-None-clause-checks
 returns-in-None-clause-checks c params =
-    says_all (λ v. judged (fault_of (with_fault_if c.args.node kind.Return (is_misplaced c.args.around false))) (walk_of c.args.body.now c.args.out.now) ≡ v) (Checking params c.args.around c.args.node (return_form (option_copied c.args.value)) (walk_of c.args.body.now c.args.out.now)) c.leave.result (walk_of c.args.body.now c.args.out.now)
-    (λ v d. subst (λ o. Checking params c.args.around c.args.node (return_form (option_copied o)) (walk_of c.args.body.now c.args.out.now) v) (sym c.in-None.is) (rule.of_return d))
+    says_all (λ v. judged (fault_of (with_fault_if c.args.node kind.Return (is_misplaced c.args.around false))) (walk_of c.args.body.now c.args.out.now) ≡ v)
+    (Checking params c.args.around c.args.node (return_form (option_copied c.args.value)) (walk_of c.args.body.now c.args.out.now)) c.leave.result
+    (walk_of c.args.body.now c.args.out.now)
+    (λ v d. subst (λ o. Checking params c.args.around c.args.node (return_form (option_copied o)) (walk_of c.args.body.now c.args.out.now) v)
+    (sym c.in-None.is) (rule.of_return d))
     (c.leave.ensures.checks c.args.out.now)
 
 pub returns-in-Some-clause-checks : goal.returns-in-Some-clause-checks
 returns-in-Some-clause-checks c params =
-    says_all (Returning c.args.around c.args.node (plain_expr c.in-Some.value.now) (walk_of c.args.body.now c.args.out.now)) (Checking params c.args.around c.args.node (return_form (option_copied c.args.value)) (walk_of c.args.body.now c.args.out.now)) c.leave_with.result (walk_of c.args.body.now c.leave_with.new.out)
-    (λ v d. subst (λ o. Checking params c.args.around c.args.node (return_form (option_copied o)) (walk_of c.args.body.now c.args.out.now) v) (sym c.in-Some.is) (rule.of_return_value d))
+    says_all (Returning c.args.around c.args.node (plain_expr c.in-Some.value.now) (walk_of c.args.body.now c.args.out.now))
+    (Checking params c.args.around c.args.node (return_form (option_copied c.args.value)) (walk_of c.args.body.now c.args.out.now)) c.leave_with.result
+    (walk_of c.args.body.now c.leave_with.new.out)
+    (λ v d. subst (λ o. Checking params c.args.around c.args.node (return_form (option_copied o)) (walk_of c.args.body.now c.args.out.now) v)
+    (sym c.in-Some.is) (rule.of_return_value d))
     c.leave_with.ensures.checks
