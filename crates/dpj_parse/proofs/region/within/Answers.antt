@@ -1,0 +1,5 @@
+use Rattle.dpj_parse.proofs.Regions.{within_number}
+use Rattle.dpj_parse.proofs.region.within.Goals as goal
+
+pub returns-in-Some-clause-derives : goal.returns-in-Some-clause-derives
+returns-in-Some-clause-derives c = within_number c.in-Some.ensures c.in_ok-accept.ensures.takes
