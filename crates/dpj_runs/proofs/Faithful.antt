@@ -222,36 +222,34 @@ module _ (P : Program) where
             let z = numbered R q (suc (count G q)) (omega arith) in
             next_after_end q l hg gq ga z.2 z.3 z.4
 
+    -- the fork of a task that has begun
+    pub own_fork : {S : Run} {t : Task} (p q : Path) (u : ℕ × ℕ) → Begun P S p t → p ≡ u ∷ q → ForkAt S q u
+    own_fork p q u (root a b) e = absurd (let k : u ∷ q ≡ [] = sym e ∙ a in cc)
+    own_fork {S} {t} p q u (branch q' u' F f ts B k1 a b c d g h b1 c1 e1 d1) e =
+        let k : u ∷ q ≡ u' ∷ q' = sym e ∙ a in
+        let uu : u' ≡ u = cc in
+        let qq : q' ≡ q = cc in
+        record {
+          before = F;
+          event = f;
+          stands = b;
+          path = c ∙ qq;
+          number = ap (λ r. count F r) (sym qq) ∙ d ∙ ap (λ w. w.0) uu;
+          tasks = ts;
+          act = g;
+          task = t;
+          is_there = ap (λ w. slice_get ts.tasks w.1) (sym uu) ∙ h;
+          began = B;
+          begin = k1;
+          begin_stands = b1;
+          begin_path = c1 ∙ qq;
+          begin_act = e1 ∙ ap (λ w. Begin w.1) uu;
+          begin_number = ap (λ r. count B r) (sym qq) ∙ d1 ∙ ap (λ w. suc (w.0 + w.1)) uu;
+        }
+
     -- the fork above a task that has made an event
     pub fork_above : {R Y : Run} {y : Event} (xs q : Path) (u : ℕ × ℕ) → Faithful P R → Upto (y ∷ Y) R → y.path ≡ xs ++ u ∷ q → ForkAt Y q u
-    fork_above {R} {Y} {y} [] q u l hy e = go (follows_at hy l).begun
-      where
-        go : {t : Task} → Begun P Y y.path t → ForkAt Y q u
-        go (root a b) = absurd (let k : u ∷ q ≡ [] = sym e ∙ a in cc)
-        go {t} (branch q' u' F f ts B k1 a b c d g h b1 c1 e1 d1) =
-            let k : u ∷ q ≡ u' ∷ q' = sym e ∙ a in
-            let uu : u' ≡ u = cc in
-            let qq : q' ≡ q = cc in
-            record {
-              before = F;
-              event = f;
-              stands = b;
-              path = c ∙ qq;
-              number = ap (λ r. count F r) (sym qq) ∙ d
-                  ∙ ap (λ w. w.0) uu;
-              tasks = ts;
-              act = g;
-              task = t;
-              is_there = ap (λ w. slice_get ts.tasks w.1) (sym uu) ∙ h;
-              began = B;
-              begin =
-                  k1;
-              begin_stands = b1;
-              begin_path = c1 ∙ qq;
-              begin_act = e1 ∙ ap (λ w. Begin w.1) uu;
-              begin_number =
-                  ap (λ r. count B r) (sym qq) ∙ d1 ∙ ap (λ w. suc (w.0 + w.1)) uu;
-            }
+    fork_above {R} {Y} {y} [] q u l hy e = own_fork y.path q u (follows_at hy l).begun e
     fork_above {R} {Y} {y} (x ∷ xs) q u l hy e = go (follows_at hy l).begun (λ F f h k. fork_above xs q u (faithful_upto (upto_tail hy) l) h k)
       where
         go : {t : Task} → Begun P Y y.path t → ((F : Run) (f : Event) → Upto (f ∷ F) Y → f.path ≡ xs ++ u ∷ q → ForkAt F q u) → ForkAt Y q u

@@ -1,6 +1,6 @@
 -- Where a task stands: what of it is fixed by the forks above it, and that a block stays open as long as a task in it goes on.
 use Rattle.std.proofs.Common.{◌≡◌, ℕ, suc, ◌+◌, ◌-◌, ◌<◌, ◌≤◌, ◌⊎◌, inl, inr, List, [], ◌∷◌, ◌++◌, length, refl, sym, ap, ◌∙◌, subst, arith, nat_lt}
-use Rattle.std.proofs.Common.{append_assoc, slice_get}
+use Rattle.std.proofs.Common.{append_assoc}
 use Rattle.std.proofs.lemmas.Bool.{cond-true, cond-false, cases_lt, lt-ltb, ltb-true, false_from_ne_true}
 use Rattle.dpj_runs.specs.Actions.{Begin, Join, Program, Task}
 use Rattle.dpj_runs.specs.Blocks.{Hold, In_block, Out_of, hold, hold_after}
@@ -11,7 +11,7 @@ use Rattle.dpj_runs.specs.Standing.{Inside, Outside, Standing, above, first_of, 
 use Rattle.dpj_runs.proofs.Upto.{upto_trans, upto_length, upto_tail}
 use Rattle.dpj_runs.proofs.Mine.{mine_at, Found, found, numbered}
 use Rattle.dpj_runs.proofs.Places.{not_below_self}
-use Rattle.dpj_runs.proofs.Faithful.{begun_upto, follows_at, ForkAt, fork_upto, fork_above, begin_after, join_after, JoinAt}
+use Rattle.dpj_runs.proofs.Faithful.{begun_upto, follows_at, ForkAt, fork_upto, fork_above, own_fork, begin_after, join_after, JoinAt}
 use Rattle.dpj_runs.proofs.Between.{in_join}
 
 first_step : (n : ℕ) (x : Event) (xs : Run) → n ≤ length xs → first_of n (x ∷ xs) ≡ first_of n xs
@@ -237,28 +237,7 @@ module _ (P : Program) (D : Disciplined P) where
       none [] k = cc
       none (x ∷ xs) k = cc
   begun_fork {S} {t} [] p q u l (branch q' u' F f ts B k1 a b c d g h b1 c1 e1 d1) e =
-      let k : u ∷ q ≡ u' ∷ q' = sym e ∙ a in
-      let uu : u' ≡ u = cc in
-      let qq : q' ≡ q = cc in
-      record {
-        before = F;
-        event = f;
-        stands = b;
-        path = c ∙ qq;
-        number = ap (λ r. count F r) (sym qq) ∙ d
-            ∙ ap (λ w. w.0) uu;
-        tasks = ts;
-        act = g;
-        task = t;
-        is_there = ap (λ w. slice_get ts.tasks w.1) (sym uu) ∙ h;
-        began = B;
-        begin = k1;
-        begin_stands =
-            b1;
-        begin_path = c1 ∙ qq;
-        begin_act = e1 ∙ ap (λ w. Begin w.1) uu;
-        begin_number = ap (λ r. count B r) (sym qq) ∙ d1 ∙ ap (λ w. suc (w.0 + w.1)) uu;
-      }
+      own_fork P D p q u (branch q' u' F f ts B k1 a b c d g h b1 c1 e1 d1) e
   begun_fork {S} {t} (x ∷ xs) p q u l (branch q' u' F f ts B k1 a b c d g h b1 c1 e1 d1) e =
       let k : x ∷ (xs ++ u ∷ q) ≡ u' ∷ q' = sym e ∙ a in
       let qq : q' ≡ xs ++ u ∷ q = cc in
