@@ -1,9 +1,9 @@
 -- Rows that are looked at one after the other, where the last that is meant is found.
-use Rattle.std.proofs.Common.{◌≡◌, ◌∙◌, ℕ, zero, suc, ◌+◌, ◌<◌, ◌≤◌, ◌==◌, Bool, cond, List, [], ◌∷◌, length, slice_set, Option, Some, refl, ap, sym, ⊎_elim, arith}
+use Rattle.std.proofs.Common.{◌≡◌, ◌∙◌, ℕ, zero, suc, ◌+◌, ◌<◌, ◌==◌, Bool, cond, List, [], ◌∷◌, length, slice_set, Option, Some, refl, ap, sym, ⊎_elim, arith}
 use Rattle.std.proofs.lemmas.Bool.{eq-eqb, ne_eqb}
 use Rattle.std.proofs.lemmas.Bool.Decides.{eqb_tells}
 use Rattle.dpj_classes.specs.Places.{last_from}
-use Rattle.dpj_classes.specs.Table.{entry_at}
+use Rattle.dpj_classes.specs.Places.{entry_at}
 
 -- one row more
 pub last_step : {A : Type 0} (is_meant : A → Bool) (number : ℕ → A → ℕ) (at : ℕ) (old new whole : Option ℕ) (row : A) (left rest : List A)
@@ -31,12 +31,4 @@ entered_at (entry ∷ entries) (suc at) number zero within = other_entry (suc at
 entered_at (entry ∷ entries) (suc at) number (suc other) within =
     entered_at entries at number other (omega arith) ∙ ap (λ same. cond same (Some number) (entry_at entries other)) (further at other)
 
--- one beyond the entries changes none of them
-pub entered_past : (entries : List (Option ℕ)) (at number other : ℕ) → length entries ≤ at → other < length entries → entry_at entries other ≡ cond (at == other) (Some number) (entry_at entries other)
-entered_past [] at number other past within = absurd (omega arith)
-entered_past (entry ∷ entries) zero number other past within = absurd (omega arith)
-entered_past (entry ∷ entries) (suc at) number zero past within = other_entry (suc at) 0 entry number (λ e. omega arith)
-entered_past (entry ∷ entries) (suc at) number (suc other) past within =
-    entered_past entries at number other (omega arith) (omega arith) ∙ ap (λ same. cond same (Some number) (entry_at entries other)) (further at other)
-
-pub ruleset entering = (entered_at, entered_past)
+pub ruleset entering = (entered_at)

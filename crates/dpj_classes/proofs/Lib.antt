@@ -1,10 +1,10 @@
 pub mod Above
 pub mod Counted
+pub mod Declared
 pub mod Finding
 pub mod Joined
 pub mod Locals
 pub mod Marking
-pub mod Numbered
 pub mod Once
 pub mod Overrides
 pub mod Params
@@ -12,3 +12,5 @@ pub mod Parts
 pub mod Rising
 pub mod Visible
 pub mod Whole
+pub mod Back
+pub mod Tables

@@ -1,5 +1,5 @@
--- Where a fault of the classes by themselves or of their members is told, no other is.
-use Rattle.std.proofs.Common.{◌≡◌, ◌∙◌, ◌++◌, ℕ, ◌+◌, Bool, true, false, List, [], ◌∷◌, map, Option, None, Some, refl, ap, sym}
+-- One fault is told of a program at most.
+use Rattle.std.proofs.Common.{◌≡◌, ◌∙◌, ◌++◌, ℕ, ◌+◌, Bool, false, List, [], ◌∷◌, map, Option, None, Some, refl, ap, sym}
 use Rattle.std.specs.Prelude.{slice_index_or}
 use Rattle.dpj_base.specs.declared.refusal.Kind.TheVariants as kind
 use Rattle.dpj_base.specs.declared.refusal.Refusal.{Refusal}
@@ -11,13 +11,11 @@ use Rattle.dpj_headers.specs.First.{class_named, parents_in, first_faults, IsTol
 use Rattle.dpj_headers.specs.Passes.{fault_if, extends_place, second_classes, unknown_parents, has_constructor, cycles, closed_parents}
 use Rattle.dpj_headers.specs.Rounds.{TellRounds}
 use Rattle.dpj_headers.specs.Second.{told_second}
-use Rattle.dpj_classes.specs.Build.{IsTold}
+use Rattle.dpj_headers.specs.Gathered.{headers_in}
+use Rattle.dpj_classes.specs.declared.table.Table.{Table}
+use Rattle.dpj_classes.specs.Build.{first_of, text_faults, table_faults, AreWellNamed, IsTable, IsTold}
+use Rattle.dpj_classes.proofs.Tables.{both_ways, one_table}
 use Rattle.dpj_classes.specs.Build.IsTold.{in_classes, in_members, in_signatures, in_table}
-
-both_ways : (a b : Bool) → (a ≡ true → b ≡ true) → (b ≡ true → a ≡ true) → a ≡ b
-both_ways true b f g = sym (f refl)
-both_ways false true f g = g refl
-both_ways false false f g = refl
 
 -- which classes are their own superclasses is told in one way
 rounds_once : (parents : List (Option ℕ)) (a b : List Bool) → TellRounds parents a → TellRounds parents b → (at : ℕ) → slice_index_or a at false ≡ slice_index_or b at false
@@ -46,14 +44,40 @@ some_once a b e = cc
 none_once : (a : Refusal) → None ≡ Some a → ⊥
 none_once a e = cc
 
-pub alone_first : (program : Program) (fault found : Refusal) → IsToldFirst program.classes (Some fault) → IsTold program found → found ≡ fault
-alone_first program fault found h (in_classes first) = some_once found fault (first_once program.classes (Some found) (Some fault) first h)
-alone_first program fault found h (in_members none second) = absurd (none_once fault (first_once program.classes None (Some fault) none h))
-alone_first program fault found h (in_signatures headers named are first) = absurd (none_once fault (first_once program.classes None (Some fault) named.first h))
-alone_first program fault found h (in_table table named is first) = absurd (none_once fault (first_once program.classes None (Some fault) named.first h))
+-- nothing is wrong by name, where the first two passes find nothing
+none_first : (program : Program) (fault : Refusal) → AreWellNamed program.classes → IsToldFirst program.classes (Some fault) → ⊥
+none_first program fault named first = none_once fault (first_once program.classes None (Some fault) named.first first)
 
-pub alone_second : (program : Program) (fault found : Refusal) → IsToldFirst program.classes None → told_second program.classes ≡ Some fault → IsTold program found → found ≡ fault
-alone_second program fault found none h (in_classes first) = absurd (none_once found (first_once program.classes None (Some found) none first))
-alone_second program fault found none h (in_members first second) = some_once found fault (sym second ∙ h)
-alone_second program fault found none h (in_signatures headers named are first) = absurd (none_once fault (sym named.second ∙ h))
-alone_second program fault found none h (in_table table named is first) = absurd (none_once fault (sym named.second ∙ h))
+none_second : (program : Program) (fault : Refusal) → AreWellNamed program.classes → told_second program.classes ≡ Some fault → ⊥
+none_second program fault named second = none_once fault (sym named.second ∙ second)
+
+-- a program with a table has no fault in its signatures
+none_in_text : (program : Program) (table : Table) (fault : Refusal) → IsTable program table → first_of (text_faults (headers_in program) program.classes) ≡ Some fault → ⊥
+none_in_text program table fault is text =
+    none_once fault (sym is.read.free ∙ ap (λ headers. first_of (text_faults headers program.classes)) is.headers ∙ text)
+
+pub no_fault : (program : Program) (table : Table) (fault : Refusal) → AreWellNamed program.classes → IsTable program table → first_of (table_faults table program.names) ≡ None → IsTold program fault → ⊥
+no_fault program table fault named is whole (in_classes first) = none_first program fault named first
+no_fault program table fault named is whole (in_members first second) = none_second program fault named second
+no_fault program table fault named is whole (in_signatures _ text) = none_in_text program table fault is text
+no_fault program table fault named is whole (in_table other _ are told) =
+    none_once fault (sym whole ∙ ap (λ t. first_of (table_faults t program.names)) (one_table program table other is are) ∙ told)
+
+pub one_fault : (program : Program) (left right : Refusal) → IsTold program left → IsTold program right → left ≡ right
+one_fault program left right (in_classes a) (in_classes b) = some_once left right (first_once program.classes (Some left) (Some right) a b)
+one_fault program left right (in_classes a) (in_members none _) = absurd (none_once left (first_once program.classes None (Some left) none a))
+one_fault program left right (in_classes a) (in_signatures named _) = absurd (none_first program left named a)
+one_fault program left right (in_classes a) (in_table _ named _ _) = absurd (none_first program left named a)
+one_fault program left right (in_members none _) (in_classes b) = absurd (none_once right (first_once program.classes None (Some right) none b))
+one_fault program left right (in_members _ a) (in_members _ b) = some_once left right (sym a ∙ b)
+one_fault program left right (in_members _ a) (in_signatures named _) = absurd (none_second program left named a)
+one_fault program left right (in_members _ a) (in_table _ named _ _) = absurd (none_second program left named a)
+one_fault program left right (in_signatures named _) (in_classes b) = absurd (none_first program right named b)
+one_fault program left right (in_signatures named _) (in_members _ b) = absurd (none_second program right named b)
+one_fault program left right (in_signatures _ a) (in_signatures _ b) = some_once left right (sym a ∙ b)
+one_fault program left right (in_signatures _ a) (in_table table _ is _) = absurd (none_in_text program table left is a)
+one_fault program left right (in_table _ named _ _) (in_classes b) = absurd (none_first program right named b)
+one_fault program left right (in_table _ named _ _) (in_members _ b) = absurd (none_second program right named b)
+one_fault program left right (in_table table _ is _) (in_signatures _ b) = absurd (none_in_text program table right is b)
+one_fault program left right (in_table table _ is a) (in_table other _ are b) =
+    some_once left right (sym a ∙ ap (λ t. first_of (table_faults t program.names)) (one_table program table other is are) ∙ b)

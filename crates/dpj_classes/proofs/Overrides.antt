@@ -1,7 +1,8 @@
 -- What the table says that each method overrides is what it overrides.
-use Rattle.std.proofs.Common.{◌≡◌, ◌∙◌, ℕ, zero, suc, ◌+◌, ◌<◌, ◌≤◌, Bool, true, false, ◌&&◌, cond, ltb, List, [], ◌∷◌, ◌++◌, length, map, inl, inr, Option, None, Some, refl, ap, sym, subst, arith}
+use Rattle.std.proofs.Common.{◌≡◌, ◌∙◌, ℕ, zero, suc, ◌+◌, ◌<◌, ◌≤◌, true, false, cond, ltb, List, [], ◌∷◌, length, get_or, set, length-set, replicate, map, inl, inr, Option, None, Some, refl, ap, sym, subst, arith}
 use Rattle.std.proofs.lemmas.Bool.Decides.{Decides-ltb}
-use Rattle.std.proofs.lemmas.List.{length-map}
+use Rattle.std.proofs.lemmas.List.{length-map, length-replicate}
+use Rattle.std.proofs.lemmas.Option.{slice_get-get_or}
 use Rattle.std.specs.List.{flat_map}
 use Rattle.std.specs.Option.{option_and_then, option_map_or}
 use Rattle.std.specs.Prelude.{slice_get}
@@ -10,42 +11,33 @@ use Rattle.dpj_tree.specs.declared.class.Class.{Class}
 use Rattle.dpj_tree.specs.declared.class.Member.{Member}
 use Rattle.dpj_tree.specs.declared.class.Member.TheVariants as member
 use Rattle.dpj_tree.specs.declared.class.Program.{Program}
-use Rattle.dpj_tree.specs.declared.region.Named.{Named}
 use Rattle.dpj_headers.specs.declared.header.Header.{Header}
 use Rattle.dpj_headers.specs.declared.header.Headers.{Headers}
-use Rattle.dpj_headers.specs.First.{IsToldFirst}
-use Rattle.dpj_headers.specs.Gathered.{AreHeaders}
+use Rattle.dpj_headers.specs.declared.forest.Step.{Step}
+use Rattle.dpj_headers.specs.declared.forest.Step.TheVariants as step
+use Rattle.dpj_headers.specs.First.{IsToldFirst, parents_in}
+use Rattle.dpj_headers.specs.Gathered.{headers_in}
 use Rattle.dpj_headers.specs.Headers.{chain, nearest, parent_of, parents_of, class_count}
 use Rattle.dpj_headers.specs.Numbers.{as_number}
 use Rattle.dpj_headers.specs.Rounds.{entry_of}
 use Rattle.dpj_headers.specs.Second.{own_params, own_regions, own_fields, own_methods, method_in, are_below, declared_in_method, declared_in, AreNamed, AreCounted}
-use Rattle.dpj_headers.specs.Way.{IsCounted}
+use Rattle.dpj_headers.specs.Way.{IsForest, way_of}
+use Rattle.dpj_headers.proofs.Gathered.{parents_gathered}
 use Rattle.dpj_headers.proofs.Among.{among_either}
 use Rattle.dpj_headers.proofs.Order.{Among}
-use Rattle.dpj_headers.proofs.Second.{sound_from, length_parents}
-use Rattle.dpj_headers.proofs.Walks.{Sound}
+use Rattle.dpj_headers.proofs.Second.{and_true, below_split, sound_from, length_parents}
 use Rattle.dpj_resolve.specs.Scopes.{PlainScope}
+use Rattle.dpj_classes.specs.declared.overridden.Own.{Own}
 use Rattle.dpj_classes.specs.declared.rows.MethodRow.{MethodRow}
 use Rattle.dpj_classes.specs.declared.table.Table.{Table}
 use Rattle.dpj_classes.specs.Around.{class_scope}
 use Rattle.dpj_classes.specs.Build.{IsReadOf}
-use Rattle.dpj_classes.specs.Overridden.{overridden_in, FindsOverridden}
-use Rattle.dpj_classes.specs.Places.{FindsRows, method_number}
+use Rattle.dpj_classes.specs.Overridden.{overridden_in}
+use Rattle.dpj_classes.specs.Places.{entry_at, method_number}
 use Rattle.dpj_classes.specs.Rows.{PlainMethod, plain_method, methods_from, methods_meant}
-use Rattle.dpj_classes.specs.Table.{headers_of, all_given, methods_of, own_method}
-use Rattle.dpj_classes.specs.Visible.{overridden_on_way}
+use Rattle.dpj_classes.specs.Table.{headers_of, all_given, methods_of}
+use Rattle.dpj_classes.specs.Visible.{all_own, all_overriding, Seen, none_seen, after_step, after_way, overridden_on_way}
 use Rattle.dpj_classes.proofs.Visible.{AreRows, overriding, overridden_found}
-
-and_true : (a b : Bool) → (a && b) ≡ true → (a ≡ true) × (b ≡ true)
-and_true true b h = (refl, h)
-and_true false b h = cc
-
-below_split : (count : ℕ) (xs ys : List Named) → are_below count (xs ++ ys) ≡ true → (are_below count xs ≡ true) × (are_below count ys ≡ true)
-below_split count [] ys h = (refl, h)
-below_split count (x ∷ xs) ys h =
-    let w = and_true (ltb x.name count) _ h in
-    let r = below_split count xs ys w.1 in
-    (ap (λ b. b && are_below count xs) w.0 ∙ r.0, r.1)
 
 -- the names of a class's methods are counted, and the class is theirs
 from_counted : (names : ℕ) (scope : PlainScope) (count : ℕ) (members : List Member) (row : PlainMethod) → are_below names (flat_map declared_in_method (flat_map method_in members)) ≡ true → Among row (methods_from scope count members) → (row.name < names) × (row.owner ≡ scope.class)
@@ -109,11 +101,11 @@ nearest_same f g same (class ∷ classes) =
     ∙ ap (option_map_or (λ number. Some number) (g class)) (nearest_same f g same classes)
 
 -- what a row overrides, said of the table
-overriding_said : (table : Table) (count : ℕ) (row : MethodRow) → FindsRows count table → overriding (methods_of table) (parents_of (headers_of table)) row ≡ overridden_in table row
-overriding_said table count row finds =
-    elim row.is_constructor as (λ b. cond b None (nearest meant (superclasses_of (entry_of parents row.owner))) ≡ cond b None (option_and_then (λ above. nearest said (chain (parent_of headers) (class_count headers) above)) (parent_of headers row.owner))) [
+overriding_said : (table : Table) (row : MethodRow) → overriding (methods_of table) (parents_of (headers_of table)) row ≡ overridden_in table row
+overriding_said table row =
+    elim row.is_constructor as (λ b. cond b None (nearest meant (superclasses_of (entry_of parents row.owner))) ≡ cond b None (option_and_then (λ above. nearest meant (chain (parent_of headers) (class_count headers) above)) (parent_of headers row.owner))) [
       | true ↦ refl
-      | false ↦ by (entry_of parents row.owner) ∙ ap (option_and_then (λ above. nearest said (chain (parent_of headers) (class_count headers) above))) (sym (parent_is headers.rows row.owner))
+      | false ↦ by (entry_of parents row.owner) ∙ ap (option_and_then (λ above. nearest meant (chain (parent_of headers) (class_count headers) above))) (sym (parent_is headers.rows row.owner))
     ]
   where
     headers : Headers
@@ -125,47 +117,77 @@ overriding_said table count row finds =
     meant : ℕ → Option ℕ
     meant at = method_number (methods_of table) at row.name
 
-    said : ℕ → Option ℕ
-    said at = own_method table at row.name
-
     superclasses_of : Option ℕ → List ℕ
     superclasses_of o = option_map_or (λ above. chain (entry_of parents) (length parents) above) o []
 
-    by : (o : Option ℕ) → nearest meant (superclasses_of o) ≡ option_and_then (λ above. nearest said (chain (parent_of headers) (class_count headers) above)) o
+    by : (o : Option ℕ) → nearest meant (superclasses_of o) ≡ option_and_then (λ above. nearest meant (chain (parent_of headers) (class_count headers) above)) o
     by None = refl
     by (Some above) =
         ap (λ n. nearest meant (chain (entry_of parents) n above)) (length-map headers.rows (λ row. row.parent))
         ∙ ap (nearest meant) (chain_same (entry_of parents) (parent_of headers) (λ at. sym (parent_is headers.rows at)) (class_count headers) above)
-        ∙ nearest_same meant said (λ at. sym (finds.methods at row.name)) (chain (parent_of headers) (class_count headers) above)
+
+-- the superclasses in the headers of a program are those of its classes
+parents_same : (program : Program) (headers : Headers) → headers ≡ headers_in program → parents_of headers ≡ parents_in program.classes
+parents_same program headers are = ap parents_of are ∙ parents_gathered program.classes (headers_in program).rows _ refl
+
+-- each row is counted
+pub row_counted : (program : Program) (headers : Headers) (all : List (List Constraint)) (rows : List MethodRow) → AreCounted (length program.names) program.classes → map plain_method rows ≡ methods_meant headers all 0 0 program.classes
+    → (at : ℕ) (row : MethodRow) → slice_get rows at ≡ Some row → (row.name < length program.names) × (row.owner < length program.classes)
+row_counted program headers all rows counted read at row is =
+    let k = meant_counted (length program.names) headers all 0 0 program.classes (plain_method row) (let l = counted.0 in omega arith) counted.1 (subst (Among (plain_method row)) read (row_meant rows at row is)) in
+    (k.0, let l = k.1 in omega arith)
+
+pub row_owned : (program : Program) (headers : Headers) (all : List (List Constraint)) (rows : List MethodRow) → AreCounted (length program.names) program.classes → map plain_method rows ≡ methods_meant headers all 0 0 program.classes
+    → (at : ℕ) (row : MethodRow) → at < length rows → (get_or rows at row).owner < length program.classes
+row_owned program headers all rows counted read at row below = (row_counted program headers all rows counted read at (get_or rows at row) (slice_get-get_or rows at row below)).1
 
 -- the rows of a table are counted
-rows_counted : (program : Program) (table : Table) → AreCounted (length program.names) program.classes → IsToldFirst program.classes None → AreHeaders program (headers_of table) → IsReadOf program.classes table →
+rows_counted : (program : Program) (table : Table) → AreCounted (length program.names) program.classes → IsToldFirst program.classes None → headers_of table ≡ headers_in program → IsReadOf program.classes table →
     AreRows (length program.names) (methods_of table) (parents_of (headers_of table))
 rows_counted program table counted first are read = record {
-  sound = subst Sound (sym are.parents) (sound_from program.classes counted.0 first);
-  named = λ at row is. (each at row is).0;
-  owned = λ at row is. let l = (each at row is).1 in omega (arith, as_many);
+  sound = subst IsForest (sym same) (sound_from program.classes counted.0 first);
+  named = λ at row is. (row_counted program (headers_of table) (all_given table) (methods_of table) counted read.methods at row is).0;
+  owned = λ at row is. let l = (row_counted program (headers_of table) (all_given table) (methods_of table) counted read.methods at row is).1 in omega (arith, as_many);
 }
   where
-    as_many : length (parents_of (headers_of table)) ≡ length program.classes
-    as_many = ap length are.parents ∙ length_parents program.classes
+    same : parents_of (headers_of table) ≡ parents_in program.classes
+    same = parents_same program (headers_of table) are
 
-    each : (at : ℕ) (row : MethodRow) → slice_get (methods_of table) at ≡ Some row → (row.name < length program.names) × (row.owner < 0 + length program.classes)
-    each at row is =
-        meant_counted (length program.names) (headers_of table) (all_given table) 0 0 program.classes (plain_method row) (let l = counted.0 in omega arith) counted.1
-        (subst (Among (plain_method row)) read.methods (row_meant (methods_of table) at row is))
+    as_many : length (parents_of (headers_of table)) ≡ length program.classes
+    as_many = ap length same ∙ length_parents program.classes
+
+-- as many entries as rows, on the whole way
+overriding_length : (visible overridden : List (Option ℕ)) (own : List Own) → length (all_overriding visible overridden own) ≡ length overridden
+overriding_length visible overridden [] = refl
+overriding_length visible overridden (one ∷ own) =
+    overriding_length visible (set overridden one.row (entry_at visible one.name)) own ∙ length-set overridden one.row (entry_at visible one.name)
+
+way_length : (lists : List (List Own)) (seen : Seen) (steps : List Step) → length (after_way lists seen steps).overridden ≡ length seen.overridden
+way_length lists seen [] = refl
+way_length lists seen (step.Enter class ∷ steps) =
+    way_length lists (after_step lists seen (step.Enter class)) steps ∙ overriding_length seen.visible seen.overridden (get_or lists class [])
+way_length lists seen (step.Leave class ∷ steps) = way_length lists (after_step lists seen (step.Leave class)) steps
+
+-- entries that are found one by one are the list
+entries_are : (entries : List (Option ℕ)) (rows : List MethodRow) (f : MethodRow → Option ℕ) → length entries ≡ length rows → ((at : ℕ) → entry_at entries at ≡ option_and_then f (slice_get rows at)) → entries ≡ map f rows
+entries_are [] [] f same each = refl
+entries_are [] (row ∷ rows) f same each = absurd (omega (arith, same))
+entries_are (entry ∷ entries) [] f same each = absurd (omega (arith, same))
+entries_are (entry ∷ entries) (row ∷ rows) f same each =
+    ap (λ one. one ∷ entries) (each 0) ∙ ap (λ more. f row ∷ more) (entries_are entries rows f (omega (arith, same)) (λ at. each (suc at)))
 
 -- it is found on the way through the classes
-pub finds_overridden : (program : Program) (table : Table) → AreCounted (length program.names) program.classes → IsToldFirst program.classes None → AreHeaders program (headers_of table) → IsReadOf program.classes table → FindsRows (length program.classes) table →
-    (IsCounted (headers_of table).rows → table.overrides ≡ overridden_on_way (parents_of (headers_of table)) (methods_of table) (length program.names)) → FindsOverridden table
-finds_overridden program table counted first are read finds found id l =
+pub finds_overridden : (program : Program) (table : Table) → AreCounted (length program.names) program.classes → IsToldFirst program.classes None → headers_of table ≡ headers_in program → IsReadOf program.classes table →
+    table.overrides ≡ overridden_on_way (parents_of (headers_of table)) (methods_of table) (length program.names) → table.overrides ≡ map (overridden_in table) (methods_of table)
+finds_overridden program table counted first are read found =
     let rows = methods_of table in
     let parents = parents_of (headers_of table) in
-    let few : IsCounted (headers_of table).rows = (let k = counted.0 in omega (arith, sym (length-map (headers_of table).rows (λ row. row.parent)) ∙ ap length are.parents ∙ length_parents program.classes)) in
-    ap (λ entries. option_and_then (λ entry. entry) (slice_get entries id)) (found few)
-    ∙ overridden_found (length program.names) rows parents id (rows_counted program table counted first are read)
-    ∙ by (slice_get rows id)
+    let names = length program.names in
+    found
+    ∙ entries_are (overridden_on_way parents rows names) rows (overridden_in table)
+    (way_length (all_own (replicate (length parents) []) 0 rows) (none_seen names (length rows)) (way_of parents) ∙ length-replicate {A = Option ℕ} (length rows) None)
+    (λ id. overridden_found names rows parents id (rows_counted program table counted first are read) ∙ by (slice_get rows id))
   where
     by : (o : Option MethodRow) → option_and_then (overriding (methods_of table) (parents_of (headers_of table))) o ≡ option_and_then (overridden_in table) o
     by None = refl
-    by (Some row) = overriding_said table (length program.classes) row finds
+    by (Some row) = overriding_said table row

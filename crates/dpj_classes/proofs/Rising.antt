@@ -40,6 +40,30 @@ all_rise headers at (class ∷ classes) few i j d lt below =
       | false ↦ λ h. all_rise headers (at + 1) classes (omega arith) i j d lt h
     ] below
 
+cons_below : (n end : ℕ) (more : List ℕ) → n < end → ((k d : ℕ) → k < length more → get_or more k d < end) → (k d : ℕ) → k < length (n ∷ more) → get_or (n ∷ more) k d < end
+cons_below n end more le above zero d below = le
+cons_below n end more le above (suc k) d below = above k d (omega arith)
+
+all_below : (headers : Headers) (at : ℕ) (classes : List Class) → at + length classes ≤ 4294967296 → (k d : ℕ) → k < length (all_extending headers at classes) → get_or (all_extending headers at classes) k d < at + length classes
+all_below headers at [] few k d below = absurd (omega arith)
+all_below headers at (class ∷ classes) few k d below =
+    let more = all_extending headers (at + 1) classes in
+    let end : ℕ = at + length (class ∷ classes) in
+    let rest : (i e : ℕ) → i < length more → get_or more i e < end = λ i e h. omega (arith, all_below headers (at + 1) classes (omega arith) i e h) in
+    let here : as_number at < end = omega arith in
+    elim (is_some class.parent && is_some (parent_of headers (as_number at))) as (λ b. k < length (cond b (as_number at ∷ []) [] ++ more) → get_or (cond b (as_number at ∷ []) [] ++ more) k d < end) [
+      | true ↦ λ h. cons_below (as_number at) end more here rest k d h
+      | false ↦ λ h. rest k d h
+    ] below
+
+-- each is the row of a class that is there
+pub extending_within : (headers : Headers) (classes : List Class) (supers : List Super) → classes_in supers ≡ all_extending headers 0 classes → length classes ≤ 4294967296 → (at : ℕ) (row : Super) → at < length supers → (get_or supers at row).class < length classes
+extending_within headers classes supers e few at row below =
+    let within : at < length (classes_in supers) = omega (arith, length-map supers (λ row. row.class)) in
+    let bound = subst (λ ns. at < length ns → get_or ns at row.class < 0 + length classes) (sym e) (all_below headers 0 classes (omega arith) at row.class) within in
+    let here : get_or (classes_in supers) at row.class ≡ (get_or supers at row).class = get_or-map (λ row. row.class) supers at row row.class below in
+    omega (arith, bound, here)
+
 -- rows of these classes are in order
 pub extending_ordered : (headers : Headers) (classes : List Class) (supers : List Super) → classes_in supers ≡ all_extending headers 0 classes → length classes ≤ 4294967296 → Ordered supers
 extending_ordered headers classes supers e few i j d lt below =

@@ -11,16 +11,16 @@ use Rattle.dpj_headers.specs.declared.forest.Step.TheVariants as step
 use Rattle.dpj_headers.specs.Headers.{chain, nearest}
 use Rattle.dpj_headers.specs.Rounds.{entry_of}
 use Rattle.dpj_headers.specs.Second.{superclasses}
-use Rattle.dpj_headers.specs.Way.{extensions, extending, roots, last_first, walk, walks, way_of, deep}
+use Rattle.dpj_headers.specs.Way.{IsForest, extensions, extending, roots, last_first, walk, walks, way_of, deep}
 use Rattle.dpj_headers.proofs.Among.{among_either}
 use Rattle.dpj_headers.proofs.Cycles.{entry_within}
 use Rattle.dpj_headers.proofs.Order.{Among}
 use Rattle.dpj_headers.proofs.Trees.{child_up, root_is}
-use Rattle.dpj_headers.proofs.Walks.{Sound, superclasses_step, inside, insides, all_inside}
+use Rattle.dpj_headers.proofs.Walks.{superclasses_step, inside, insides, all_inside}
 use Rattle.dpj_classes.specs.declared.overridden.Own.{Own}
 use Rattle.dpj_classes.specs.declared.rows.MethodRow.{MethodRow}
 use Rattle.dpj_classes.specs.Places.{last_from, by_id, is_method_of, method_number}
-use Rattle.dpj_classes.specs.Table.{entry_at}
+use Rattle.dpj_classes.specs.Places.{entry_at}
 use Rattle.dpj_classes.specs.Visible.{own_row, with_own, all_own, all_overriding, all_in_front, all_behind, Seen, none_seen, after_step, after_way, overridden_on_way}
 
 append_nil : {A : Type 0} (xs : List A) → xs ++ [] ≡ xs
@@ -45,12 +45,12 @@ none_put (suc count) zero = refl
 none_put (suc count) (suc at) = none_put count at
 
 -- the methods that a class itself declares, of rows counted on from a place
-abbrev own_from : ℕ → ℕ → List MethodRow → List Own
+abbrev pub own_from : ℕ → ℕ → List MethodRow → List Own
 own_from class at [] = []
 own_from class at (row ∷ rows) =
     cond (not row.is_constructor && (row.owner == class)) (own_row at row ∷ own_from class (at + 1) rows) (own_from class (at + 1) rows)
 
-own_length : (lists : List (List Own)) (at : ℕ) (row : MethodRow) → length (with_own lists at row) ≡ length lists
+pub own_length : (lists : List (List Own)) (at : ℕ) (row : MethodRow) → length (with_own lists at row) ≡ length lists
 own_length lists at row =
     elim row.is_constructor as (λ b. length (cond b lists (slice_set lists row.owner (slice_index_or lists row.owner [] ++ own_row at row ∷ []))) ≡ length lists) [
       | true ↦ refl
@@ -88,7 +88,7 @@ own_filed lists at (row ∷ rows) class l =
     ∙ own_step lists at row class (own_from class (at + 1) rows) l
 
 -- of each class the methods that it declares are listed
-own_listed : (count : ℕ) (rows : List MethodRow) (class : ℕ) → class < count → slice_index_or (all_own (replicate count []) 0 rows) class [] ≡ own_from class 0 rows
+pub own_listed : (count : ℕ) (rows : List MethodRow) (class : ℕ) → class < count → slice_index_or (all_own (replicate count []) 0 rows) class [] ≡ own_from class 0 rows
 own_listed count rows class l =
     own_filed (replicate count []) 0 rows class (omega (arith, length-replicate {A = List Own} count []))
     ∙ ap (λ z. z ++ own_from class 0 rows) (none count class)
@@ -316,7 +316,7 @@ behind_shows names rows class classes overridden visible h owned = record {
 
 -- the rows, whose names and classes are counted
 pub record AreRows (names : ℕ) (rows : List MethodRow) (parents : List (Option ℕ)) : Type 0 where
-  pub sound : Sound parents
+  pub sound : IsForest parents
   pub named : (at : ℕ) (row : MethodRow) → slice_get rows at ≡ Some row → row.name < names
   pub owned : (at : ℕ) (row : MethodRow) → slice_get rows at ≡ Some row → row.owner < length parents
 

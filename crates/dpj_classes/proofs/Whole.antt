@@ -1,13 +1,12 @@
 -- What is told of names, before signatures are read.
 use Rattle.std.proofs.Common.{inl, inr}
-use Rattle.std.specs.Prelude.{length}
 use Rattle.dpj_base.specs.declared.refusal.Refusal.{Refusal}
 use Rattle.dpj_tree.specs.declared.class.Program.{Program}
-use Rattle.dpj_headers.specs.Second.{AreCounted, IsToldOf}
+use Rattle.dpj_headers.specs.Second.{IsToldOf}
 use Rattle.dpj_classes.specs.Build.{IsTold}
 use Rattle.dpj_classes.specs.Build.IsTold.{in_classes, in_members}
 
 -- a fault of the headers is one of the classes by themselves or one of their members
-pub told_by_names : (program : Program) (fault : Refusal) → IsToldOf (length program.names) program.classes fault → AreCounted (length program.names) program.classes → IsTold program fault
-told_by_names program fault (inl first) counted = in_classes first
-told_by_names program fault (inr second) counted = in_members second.0 (second.1 counted)
+pub told_by_names : (program : Program) (fault : Refusal) → IsToldOf program.classes fault → IsTold program fault
+told_by_names program fault (inl first) = in_classes first
+told_by_names program fault (inr second) = in_members second.0 second.1

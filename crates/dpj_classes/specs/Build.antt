@@ -8,16 +8,16 @@ use Rattle.dpj_headers.specs.declared.faults.Order.TheVariants as order
 use Rattle.dpj_headers.specs.declared.header.Headers.{Headers}
 use Rattle.dpj_headers.specs.Faults.{told, none_by, all_noted}
 use Rattle.dpj_headers.specs.First.{IsToldFirst}
-use Rattle.dpj_headers.specs.Gathered.{AreHeaders}
+use Rattle.dpj_headers.specs.Gathered.{headers_in}
 use Rattle.dpj_headers.specs.Second.{told_second}
 use Rattle.dpj_classes.specs.declared.table.Table.{Table}
 use Rattle.dpj_classes.specs.Bodies.{class_marks, override_edges}
 use Rattle.dpj_classes.specs.Edges.{call_edges, without_forks}
 use Rattle.dpj_classes.specs.Main.{main_faults}
-use Rattle.dpj_classes.specs.Overridden.{FindsOverridden}
+use Rattle.dpj_classes.specs.Overridden.{overridden_in}
 use Rattle.dpj_classes.specs.Overriding.{override_faults}
-use Rattle.dpj_classes.specs.Places.{FindsRows}
 use Rattle.dpj_classes.specs.Reach.{IsBehind}
+use Rattle.dpj_classes.specs.RowNumbers.{rows_on_way}
 use Rattle.dpj_classes.specs.Rows.{plain_super, plain_field, plain_method, all_constraints, all_constraint_faults, supers_meant, fields_meant, methods_meant, signature_faults}
 use Rattle.dpj_classes.specs.Table.{headers_of, all_given, supers_of, fields_of, methods_of, is_forking}
 
@@ -43,16 +43,16 @@ pub record IsReadOf (classes : List Class) (table : Table) : Type 0 where
 
 -- the table tells of each method and constructor whether an nd construct is reached through it: one is in its body,
 -- or a call, a creation or an overriding method leads from it to one of which that is so
-abbrev pub TellsForking : List Class → Table → Type 0
-TellsForking classes table =
-    (id : ℕ) → IsTrue (is_forking table id) ↔ IsBehind (flat_map class_marks classes) (call_edges (without_forks table) 0 0 classes ++ override_edges table (methods_of table)) id
+pub record TellsForking (classes : List Class) (table : Table) : Type 0 where
+  pub as_many : length table.forks ≡ length (flat_map class_marks classes)
+  pub each : (id : ℕ) → IsTrue (is_forking table id) ↔ IsBehind (flat_map class_marks classes) (call_edges (without_forks table) 0 0 classes ++ override_edges table (methods_of table)) id
 
--- the table is that of the program
+-- the table is that of the program: there is one such table
 pub record IsTable (program : Program) (table : Table) : Type 0 where
-  pub headers : AreHeaders program (headers_of table)
+  pub headers : headers_of table ≡ headers_in program
   pub read : IsReadOf program.classes table
-  pub found : FindsRows (length program.classes) table
-  pub overridden : FindsOverridden table
+  pub overridden : table.overrides ≡ map (overridden_in table) (methods_of table)
+  pub rows : table.rows ≡ rows_on_way (headers_of table) (methods_of table) table.overrides
   pub reached : TellsForking program.classes table
 
 -- nothing is wrong in the classes by themselves, nor in their members
@@ -65,5 +65,5 @@ pub record AreWellNamed (classes : List Class) : Type 0 where
 pub data IsTold (program : Program) (fault : Refusal) : Type 0 where
   in_classes : IsToldFirst program.classes (Some fault) → IsTold program fault
   in_members : IsToldFirst program.classes None → told_second program.classes ≡ Some fault → IsTold program fault
-  in_signatures : (headers : Headers) → AreWellNamed program.classes → AreHeaders program headers → first_of (text_faults headers program.classes) ≡ Some fault → IsTold program fault
+  in_signatures : AreWellNamed program.classes → first_of (text_faults (headers_in program) program.classes) ≡ Some fault → IsTold program fault
   in_table : (table : Table) → AreWellNamed program.classes → IsTable program table → first_of (table_faults table program.names) ≡ Some fault → IsTold program fault

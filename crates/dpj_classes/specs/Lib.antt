@@ -3,6 +3,8 @@ pub mod Bodies
 pub mod Build
 pub mod Calls
 pub mod Edges
+pub mod Finding
+pub mod Inherited
 pub mod Main
 pub mod Marking
 pub mod Once
@@ -18,3 +20,4 @@ pub mod Summary
 pub mod Supers
 pub mod Table
 pub mod Visible
+pub mod RowNumbers

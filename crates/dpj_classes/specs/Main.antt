@@ -1,7 +1,7 @@
 -- The class with which a run begins.
 use Rattle.std.specs.Prelude.{ℕ, Bool, true, false, not, ◌&&◌, ◌==◌, is_none, List, [], ◌∷◌, length, slice_get, codes, Option, option_and_then}
-use Rattle.std.specs.List.{list_any}
-use Rattle.std.specs.Option.{option_map_or}
+use Rattle.std.specs.List.{find, list_any}
+use Rattle.std.specs.Option.{option_map, option_map_or}
 use Rattle.std.specs.Str.{bytes_eq}
 use Rattle.dpj_base.specs.declared.place.Place.{Place}
 use Rattle.dpj_base.specs.declared.refusal.Kind.TheVariants as kind
@@ -49,6 +49,11 @@ start = record { line = 1; col = 1 }
 -- the class `Main`
 abbrev pub main_class : Table → Option ℕ
 main_class table = option_and_then (class_of (headers_of table)) (main_of (headers_of table))
+
+-- its method `main`, by its number
+abbrev pub main_method : Table → List (List ℕ) → Option ℕ
+main_method table names =
+    option_and_then (λ at. option_map (λ row. row.id) (find (λ row. (row.owner == at) && is_main names row) (methods_of table))) (main_class table)
 
 -- there is no class `Main`, or a run can't begin with it
 abbrev pub main_faults : Table → List (List ℕ) → List Refusal

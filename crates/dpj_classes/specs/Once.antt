@@ -1,13 +1,15 @@
--- How many faults can be told of a program.
-use Rattle.std.specs.Prelude.{◌≡◌, None, Some}
+-- How many class tables a program has, and how many faults can be told of it.
+use Rattle.std.specs.Prelude.{◌≡◌, None}
 use Rattle.dpj_base.specs.declared.refusal.Refusal.{Refusal}
 use Rattle.dpj_tree.specs.declared.class.Program.{Program}
-use Rattle.dpj_headers.specs.First.{IsToldFirst}
-use Rattle.dpj_headers.specs.Second.{told_second}
-use Rattle.dpj_classes.specs.Build.{IsTold}
+use Rattle.dpj_classes.specs.declared.table.Table.{Table}
+use Rattle.dpj_classes.specs.Build.{AreWellNamed, IsTable, IsTold, first_of, table_faults}
 
--- where one is told of the classes by themselves, it alone is told; and so where there is none of these and one is told
--- of their members
+-- a program has one class table at most
+abbrev pub OneTable : Type 0
+OneTable = (program : Program) (left right : Table) → IsTable program left → IsTable program right → left ≡ right
+
+-- one fault is told of it at most, and none where names and signatures are free of faults and so is the table as a whole
 pub record OneFault : Type 0 where
-  pub first : (program : Program) (fault told : Refusal) → IsToldFirst program.classes (Some fault) → IsTold program told → told ≡ fault
-  pub second : (program : Program) (fault told : Refusal) → IsToldFirst program.classes None → told_second program.classes ≡ Some fault → IsTold program told → told ≡ fault
+  pub one : (program : Program) (left right : Refusal) → IsTold program left → IsTold program right → left ≡ right
+  pub none : (program : Program) (table : Table) (fault : Refusal) → AreWellNamed program.classes → IsTable program table → first_of (table_faults table program.names) ≡ None → IsTold program fault → ⊥

@@ -1,11 +1,9 @@
--- Where the rows of a class stand among all rows: what is looked for in the table is the last of them that is meant.
-use Rattle.std.specs.Prelude.{◌≡◌, ℕ, ◌+◌, ◌<◌, Bool, not, ◌&&◌, ◌==◌, cond, List, [], ◌∷◌, length, Option, None, Some}
+-- Where the row of a class and a name stands among all rows: what is looked for is the last of them that is meant.
+use Rattle.std.specs.Prelude.{ℕ, ◌+◌, Bool, not, ◌&&◌, ◌==◌, cond, List, [], ◌∷◌, slice_get, Option, None, Some, option_and_then}
 use Rattle.dpj_base.specs.declared.ty.Super.{Super}
 use Rattle.dpj_headers.specs.Numbers.{as_number}
 use Rattle.dpj_classes.specs.declared.rows.FieldRow.{FieldRow}
 use Rattle.dpj_classes.specs.declared.rows.MethodRow.{MethodRow}
-use Rattle.dpj_classes.specs.declared.table.Table.{Table}
-use Rattle.dpj_classes.specs.Table.{entry_at, fields_of, methods_of, supers_of, own_field, own_method}
 
 -- the number of the last of the rows that is meant, where they are counted on from a place; this one, where none is
 abbrev pub last_from : {A : Type 0} → (A → Bool) → (ℕ → A → ℕ) → ℕ → Option ℕ → List A → Option ℕ
@@ -50,14 +48,6 @@ constructor_number rows number = last_from (is_constructor_of number) by_id 0 No
 abbrev pub super_place : List Super → ℕ → Option ℕ
 super_place rows number = last_from (is_super_of number) by_place 0 None rows
 
--- one entry is another number, and every other entry what it was
-pub record IsEntered (at number : ℕ) (old new : List (Option ℕ)) : Type 0 where
-  pub as_many : length new ≡ length old
-  pub entries : (other : ℕ) → other < length old → entry_at new other ≡ cond (at == other) (Some number) (entry_at old other)
-
--- the table finds the rows of each of so many classes
-pub record FindsRows (count : ℕ) (table : Table) : Type 0 where
-  pub fields : (number name : ℕ) → own_field table number name ≡ field_place (fields_of table) number name
-  pub methods : (number name : ℕ) → own_method table number name ≡ method_number (methods_of table) number name
-  pub constructors : (number : ℕ) → number < count → entry_at table.constructors number ≡ constructor_number (methods_of table) number
-  pub supers : (number : ℕ) → number < count → entry_at table.super_places number ≡ super_place (supers_of table) number
+-- what a list has at a place, where it has something there
+abbrev pub entry_at : {A : Type 0} → List (Option A) → ℕ → Option A
+entry_at entries at = option_and_then (λ entry. entry) (slice_get entries at)

@@ -1,5 +1,5 @@
 -- The rows of the class table, as the text says them, and what is wrong in what they are read from.
-use Rattle.std.specs.Prelude.{ℕ, zero, suc, ◌+◌, Bool, List, [], ◌∷◌, ◌++◌, map, length}
+use Rattle.std.specs.Prelude.{ℕ, ◌+◌, Bool, List, [], ◌∷◌, ◌++◌, map, length}
 use Rattle.std.specs.List.{flat_map}
 use Rattle.std.specs.Option.{option_map_or}
 use Rattle.dpj_base.specs.declared.effect.Constraint.{Constraint}
@@ -150,11 +150,6 @@ methods_from scope count [] = []
 methods_from scope count (member ∷ members) =
     let own = own_methods scope (as_number count) member in
     own ++ methods_from scope (count + length own) members
-
--- so many numbers, counted on from one
-abbrev pub numbers_from : ℕ → ℕ → List ℕ
-numbers_from from zero = []
-numbers_from from (suc n) = as_number from ∷ numbers_from (from + 1) n
 
 -- the slot of the first field that a class itself declares: as many come before it as its superclass has
 abbrev pub first_slot : Headers → ℕ → ℕ

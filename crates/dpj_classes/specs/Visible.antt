@@ -6,7 +6,7 @@ use Rattle.dpj_headers.specs.declared.forest.Step.TheVariants as step
 use Rattle.dpj_headers.specs.Way.{way_of}
 use Rattle.dpj_classes.specs.declared.overridden.Own.{Own}
 use Rattle.dpj_classes.specs.declared.rows.MethodRow.{MethodRow}
-use Rattle.dpj_classes.specs.Table.{entry_at}
+use Rattle.dpj_classes.specs.Places.{entry_at}
 
 -- a method which its class itself declares, with the place of its row
 abbrev pub own_row : ℕ → MethodRow → Own

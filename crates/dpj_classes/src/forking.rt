@@ -16,7 +16,8 @@ use std::alloc::Global;
 
 /// Of each method and constructor, whether an nd construct is reached through it.
 pub fn find_forks(alloc: Global, table: &Table, classes: &[Class]) -> Result<Items<bool>, NoMemory>
-    ensures { IfOk result (λ forks. (at : ℕ) → (is_marked forks at ≡ true) ↔ IsBehind (flat_map class_marks classes.now) (call_edges table.now 0 0 classes.now ++ override_edges table.now (methods_of table.now)) at) }
+    ensures as_many { IfOk result (λ forks. length forks ≡ length (flat_map class_marks classes.now)) }
+    ensures each { IfOk result (λ forks. (at : ℕ) → (is_marked forks at ≡ true) ↔ IsBehind (flat_map class_marks classes.now) (call_edges table.now 0 0 classes.now ++ override_edges table.now (methods_of table.now)) at) }
 {
     let mut edges = Items::new(alloc);
     let mut marks = Vec::new(alloc);

@@ -1,6 +1,11 @@
-ghost use Rattle.dpj_classes.specs.Once.{OneFault};
+ghost use Rattle.dpj_classes.specs.Once.{OneTable, OneFault};
 
-/// Where a fault of the classes by themselves is told, or else one of their members, no other is told.
+/// A program has one class table at most.
+pub fn one_table()
+    ensures { OneTable }
+{}
+
+/// One fault is told of a program at most, and none where there is a table without faults.
 pub fn one_fault()
     ensures { OneFault }
 {}

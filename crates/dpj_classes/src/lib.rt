@@ -9,6 +9,8 @@
 //! row says is said over the region parameters of the class that declares it; `args_at` gives what to put in for
 //! them.
 //!
+//! `all_fields` and `all_rows` give of each class what it has together with what it inherits: `specs/Inherited.antt`.
+//!
 //! `specs/Build.antt` says what makes a table that of a program and which fault is told where there is none: its rows
 //! are those of `specs/Rows.antt`, and what a part of a signature means, with its faults, is said by
 //! `specs/Signatures.antt`. `specs/Places.antt` says which row a look-up finds, `specs/Overridden.antt` which method
@@ -19,15 +21,18 @@
 #![tactic(auto)]
 
 mod around;
+mod beginning;
 mod calls;
+mod class_fields;
+mod class_rows;
 mod forking;
 mod laws;
-mod main_class;
 mod make;
 mod overridden;
 mod overriding;
 mod places;
 mod reach;
+mod row_numbers;
 mod rows;
 mod shape;
 mod signatures;
@@ -35,7 +40,10 @@ mod summary;
 mod table;
 mod written;
 
-pub use laws::one_fault;
+pub use beginning::{main_class, main_method};
+pub use class_fields::all_fields;
+pub use class_rows::all_rows;
+pub use laws::{one_fault, one_table};
 pub use make::build;
 pub use rows::{FieldRow, MethodRow};
 pub use table::Table;

@@ -1,7 +1,6 @@
 ghost use Rattle.std.specs.Prelude.{◌≡◌, [], length, replicate, slice_set, slice_index_or, IfOk, OnOk};
 ghost use Rattle.dpj_headers.specs.Headers.{parents_of};
-ghost use Rattle.dpj_headers.specs.Way.{IsCounted};
-ghost use Rattle.dpj_classes.specs.Table.{entry_at};
+ghost use Rattle.dpj_classes.specs.Places.{entry_at};
 ghost use Rattle.dpj_classes.specs.Visible.{with_own, all_own, all_overriding, all_in_front, all_behind, none_seen, after_step, after_way, overridden_on_way};
 
 use crate::rows::MethodRow;
@@ -11,11 +10,11 @@ use std::alloc::Global;
 
 /// A method which its class itself declares.
 #[derive(Clone, Copy, Debug, PartialEq, Eq)]
-struct Own {
+pub struct Own {
     /// The position of its row.
-    row: usize,
-    name: u32,
-    id: u32,
+    pub row: usize,
+    pub name: u32,
+    pub id: u32,
 }
 
 /// Of each row the method that it overrides. Names are positions below a count.
@@ -25,7 +24,7 @@ pub fn find_overridden(
     methods: &[MethodRow],
     names: usize,
 ) -> Result<Items<Option<u32>>, NoMemory>
-    ensures { IfOk result (λ overridden. IsCounted headers.now.rows → overridden ≡ overridden_on_way (parents_of headers.now) methods.now names) }
+    ensures { IfOk result (λ overridden. overridden ≡ overridden_on_way (parents_of headers.now) methods.now names) }
 {
     let lists = own_methods(alloc, headers.len(), methods)?;
     let way = headers.way(alloc)?;
@@ -39,7 +38,7 @@ pub fn find_overridden(
 }
 
 /// Of each class, the methods that it declares.
-fn own_methods(
+pub fn own_methods(
     alloc: Global,
     classes: usize,
     methods: &[MethodRow],
@@ -121,7 +120,8 @@ fn take_step(
     }
 }
 
-fn own_of(lists: &[Items<Own>], class: usize) -> &[Own]
+/// The methods of a class.
+pub fn own_of(lists: &[Items<Own>], class: usize) -> &[Own]
     ensures { result.now ≡ slice_index_or lists.now class [] }
 {
     match lists.get(class) {

@@ -1,54 +1,48 @@
-ghost use Rattle.std.specs.Prelude.{◌≡◌, ℕ, ◌<◌, length, cond, Some, IfOk, OnOk};
-ghost use Rattle.dpj_headers.specs.Headers.{parents_of};
+ghost use Rattle.std.specs.Prelude.{◌≡◌, ℕ, ◌<◌, length, slice_index_or, cond, Some, IfOk, OnOk};
+ghost use Rattle.dpj_base.specs.declared.ty.Super.{Super as SuperRow};
 ghost use Rattle.dpj_headers.specs.Numbers.{owned_number};
-ghost use Rattle.dpj_headers.specs.Way.{IsCounted};
-ghost use Rattle.dpj_classes.specs.Places.{is_method_of, is_constructor_of, field_place, method_number, constructor_number, super_place, IsEntered};
-ghost use Rattle.dpj_classes.specs.Table.{entry_at};
-ghost use Rattle.dpj_classes.specs.Visible.{overridden_on_way};
+ghost use Rattle.dpj_classes.specs.declared.rows.MethodRow.{MethodRow as Row};
+ghost use Rattle.dpj_classes.specs.Finding.{Finds, FindsConstructors, FindsSupers, IsEntered};
+ghost use Rattle.dpj_classes.specs.Places.{entry_at, is_method_of, is_constructor_of, field_place, method_number};
 
-use crate::overridden::find_overridden;
 use crate::rows::{FieldRow, MethodRow};
 use crate::signatures::Signatures;
 use dpj_base::{Items, NoMemory, Super};
-use dpj_headers::{Headers, OwnedNumbers, number_at};
+use dpj_headers::{OwnedNumbers, number_at};
 use std::alloc::Global;
 
-/// Where the rows of each class and name stand.
+/// Where the row of each class and name stands.
 #[derive(Drop)]
 pub struct Places {
     pub supers: Items<Option<u32>>,
     pub fields: OwnedNumbers,
     pub methods: OwnedNumbers,
     pub constructors: Items<Option<u32>>,
-    pub overrides: Items<Option<u32>>,
 }
 
-/// Finds the rows of so many classes. Names are positions below a count.
-pub fn find_places(
-    alloc: Global,
-    headers: &Headers,
-    classes: usize,
-    made: &Signatures,
-    names: usize,
-) -> Result<Places, NoMemory>
-    ensures fields { IfOk result (λ places. (number : ℕ) (name : ℕ) → owned_number places.fields number name ≡ field_place made.now.fields number name) }
-    ensures methods { IfOk result (λ places. (number : ℕ) (name : ℕ) → owned_number places.methods number name ≡ method_number made.now.methods number name) }
-    ensures constructors { IfOk result (λ places. (number : ℕ) → number < classes → entry_at places.constructors number ≡ constructor_number made.now.methods number) }
-    ensures supers { IfOk result (λ places. (number : ℕ) → number < classes → entry_at places.supers number ≡ super_place made.now.supers number) }
-    ensures overrides { IfOk result (λ places. IsCounted headers.now.rows → places.overrides ≡ overridden_on_way (parents_of headers.now) made.now.methods names) }
+/// Finds the rows of so many classes.
+pub fn find_places(alloc: Global, classes: usize, made: &Signatures) -> Result<Places, NoMemory>
+    requires owned { (at : ℕ) (row : Row) → at < length made.now.methods → (slice_index_or made.now.methods at row).owner < classes }
+    requires extending { (at : ℕ) (row : SuperRow) → at < length made.now.supers → (slice_index_or made.now.supers at row).class < classes }
+    ensures { IfOk result (λ places. Finds made.now.supers made.now.fields made.now.methods places) }
 {
     let supers = super_places(alloc, classes, made.supers.as_slice())?;
     let fields = field_places(alloc, made.fields.as_slice())?;
     let methods = method_places(alloc, made.methods.as_slice())?;
     let constructors = constructors(alloc, classes, made.methods.as_slice())?;
-    let overrides = find_overridden(alloc, headers, made.methods.as_slice(), names)?;
     Ok(Places {
         supers,
         fields,
         methods,
         constructors,
-        overrides,
     })
+}
+
+/// What the list has for a class.
+pub fn entry_at(entries: &[Option<u32>], class: u32) -> Option<u32>
+    ensures { result ≡ entry_at entries.now class }
+{
+    entries.get(class as usize).copied().flatten()
 }
 
 /// The position of each class among the rows of superclasses.
@@ -57,7 +51,8 @@ fn super_places(
     classes: usize,
     supers: &[Super],
 ) -> Result<Items<Option<u32>>, NoMemory>
-    ensures { IfOk result (λ places. (number : ℕ) → number < classes → entry_at places number ≡ super_place supers.now number) }
+    requires { (at : ℕ) (row : SuperRow) → at < length supers.now → (slice_index_or supers.now at row).class < classes }
+    ensures { IfOk result (λ places. FindsSupers supers.now places) }
 {
     let mut places = vec![in alloc; None; classes]?;
     for (at, row) in supers.iter().enumerate() {
@@ -66,15 +61,13 @@ fn super_places(
     Ok(Items::from_vec(places))
 }
 
-/// Puts a number in the place of an entry that is there.
+/// Puts a number in the place of an entry.
 #[tactic(auto, using(crate::proofs::Finding::entering))]
 fn enter(entries: &mut [Option<u32>], at: u32, number: u32)
+    requires { at < length entries.old }
     ensures { IsEntered at number entries.old entries.new }
 {
-    let at = at as usize;
-    if at < entries.len() {
-        entries[at] = Some(number);
-    }
+    entries[at as usize] = Some(number);
 }
 
 fn field_places(alloc: Global, fields: &[FieldRow]) -> Result<OwnedNumbers, NoMemory>
@@ -113,7 +106,8 @@ fn constructors(
     classes: usize,
     methods: &[MethodRow],
 ) -> Result<Items<Option<u32>>, NoMemory>
-    ensures { IfOk result (λ found. (number : ℕ) → number < classes → entry_at found number ≡ constructor_number methods.now number) }
+    requires { (at : ℕ) (row : Row) → at < length methods.now → (slice_index_or methods.now at row).owner < classes }
+    ensures { IfOk result (λ found. FindsConstructors methods.now found) }
 {
     let mut found = vec![in alloc; None; classes]?;
     for row in methods {
@@ -124,8 +118,9 @@ fn constructors(
 
 /// Puts the number of a constructor at its class.
 fn put_constructor(found: &mut [Option<u32>], row: &MethodRow)
+    requires { row.now.owner < length found.old }
     ensures as_many { length found.new ≡ length found.old }
-    ensures entries { (number : ℕ) → number < length found.old → entry_at found.new number ≡ cond (is_constructor_of number row.now) (Some row.now.id) (entry_at found.old number) }
+    ensures entries { (number : ℕ) → entry_at found.new number ≡ cond (is_constructor_of number row.now) (Some row.now.id) (entry_at found.old number) }
 {
     if row.is_constructor {
         enter(found, row.owner, row.id);

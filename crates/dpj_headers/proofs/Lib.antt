@@ -6,14 +6,15 @@ pub mod Marks
 pub mod Named
 pub mod Noting
 pub mod Order
-pub mod Passed
 pub mod Same
 pub mod Ways
 pub mod Among
 pub mod Trees
 pub mod Walks
+pub mod Declared
 pub mod Second
-pub mod Numbered
+pub mod Settled
+pub mod Inheriting
 pub mod Counting
 pub mod Gathered
 pub mod Shaped

@@ -1,5 +1,5 @@
 -- Where the first pass finds nothing, the way through the classes tells what is wrong in their members.
-use Rattle.std.proofs.Common.{◌≡◌, ℕ, zero, suc, ◌+◌, ◌<◌, Bool, true, false, ◌&&◌, ◌==◌, cond, ltb, List, [], ◌∷◌, ◌++◌, length, get_or, map, inl, inr, Option, Some, None, Result, Ok, Err, IfOk, OnOk, IfErr, refl, sym, ap, subst, ◌∙◌, arith}
+use Rattle.std.proofs.Common.{◌≡◌, ℕ, zero, suc, ◌+◌, ◌<◌, Bool, true, false, ◌&&◌, ◌==◌, cond, ltb, List, [], ◌∷◌, ◌++◌, length, get_or, map, inl, inr, Option, Some, None, Result, Ok, Err, OnOk, IfErr, refl, sym, ap, subst, ◌∙◌, arith}
 use Rattle.std.proofs.lemmas.Bool.{false≢true}
 use Rattle.std.proofs.lemmas.Bool.Decides.{Decides-ltb}
 use Rattle.std.proofs.lemmas.List.{length-map}
@@ -28,11 +28,11 @@ use Rattle.dpj_headers.specs.Numbers.{as_number}
 use Rattle.dpj_headers.specs.Passes.{fault_if, first_named, second_classes, named_parent, unknown_parents, extends_place, cycles, is_constructor_result}
 use Rattle.dpj_headers.specs.Rounds.{entry_of, IsRound}
 use Rattle.dpj_headers.specs.Second.{own_params, own_regions, own_fields, own_methods, method_name, method_names, constructor_names, are_below, declared_in_method, declared_in, AreNamed, AreCounted, told_second, IsToldOf}
-use Rattle.dpj_headers.specs.Way.{IsCounted, way_of}
+use Rattle.dpj_headers.specs.Way.{IsForest, IsCounted, way_of}
 use Rattle.dpj_headers.proofs.Cycles.{up_within}
 use Rattle.dpj_headers.proofs.Inside.{InnerBelow, Below}
 use Rattle.dpj_headers.proofs.Marks.{AllBelow}
-use Rattle.dpj_headers.proofs.Walks.{Sound, way_second}
+use Rattle.dpj_headers.proofs.Walks.{way_second}
 
 -- where no fault is told none is noted
 one_kept : (faults : Faults) (one : Refusal) → told (noted faults one) ≡ None → ⊥
@@ -96,7 +96,7 @@ parent_within named n (class ∷ classes) zero above within h = by class.parent 
     by (Some parent) k = within parent.name.name above k
 parent_within named n (class ∷ classes) (suc at) above within h = parent_within named n classes at above within h
 
-pub sound_from : (classes : List Class) → IsCounted classes → IsToldFirst classes None → Sound (parents_in classes)
+pub sound_from : (classes : List Class) → IsCounted classes → IsToldFirst classes None → IsForest (parents_in classes)
 sound_from classes counted h = record {
   counted = omega (arith, length_parents classes);
   straight = straight_from classes h;
@@ -106,7 +106,7 @@ sound_from classes counted h = record {
 }
 
 -- names below a count
-and_true : (a b : Bool) → (a && b) ≡ true → (a ≡ true) × (b ≡ true)
+pub and_true : (a b : Bool) → (a && b) ≡ true → (a ≡ true) × (b ≡ true)
 and_true true b h = (refl, h)
 and_true false b h = absurd (false≢true h)
 
@@ -116,7 +116,7 @@ all_below count (named ∷ names) h =
     let w = and_true (ltb named.name count) _ h in
     ((Decides-ltb named.name count).0 w.0, all_below count names w.1)
 
-below_split : (count : ℕ) (xs ys : List Named) → are_below count (xs ++ ys) ≡ true → (are_below count xs ≡ true) × (are_below count ys ≡ true)
+pub below_split : (count : ℕ) (xs ys : List Named) → are_below count (xs ++ ys) ≡ true → (are_below count xs ≡ true) × (are_below count ys ≡ true)
 below_split count [] ys h = (refl, h)
 below_split count (x ∷ xs) ys h =
     let w = and_true (ltb x.name count) _ h in
@@ -173,25 +173,25 @@ told_way : (count : ℕ) (classes : List Class) → AreCounted count classes →
 told_way count classes fits first =
     ap told ((way_second count classes (parents_in classes) (sound_from classes fits.0 first) (length_parents classes) (classes_below count classes fits.1)).noted (none_by order.Place))
 
-abbrev Counted : List Class → Type 0
-Counted classes = IsCounted (parents_in classes)
+-- as many superclasses as classes
+pub parents_counted : (classes : List Class) → IsCounted classes → IsCounted (parents_in classes)
+parents_counted classes fits = omega (arith, fits, length_parents classes)
 
-counted_too : (count : ℕ) (classes : List Class) → AreCounted count classes → Counted classes
-counted_too count classes fits = let l = fits.0 in omega (arith, length_parents classes)
+pub accepted_second : {T : Type 0} (result : Result T Stop) (count : ℕ) (classes : List Class) → AreCounted count classes → IsToldFirst classes None →
+    OnOk result (told_on_way count classes (way_of (parents_in classes)) ≡ None) → OnOk result (told_second classes ≡ None)
+accepted_second (Ok value) count classes fits first h = sym (told_way count classes fits first) ∙ h
+accepted_second (Err found) count classes fits first h = tt
 
-pub accepted_second : {T : Type 0} (result : Result T Stop) (count : ℕ) (classes : List Class) (parents : List (Option ℕ)) → parents ≡ parents_in classes → IsToldFirst classes None →
-    OnOk result (IsCounted parents → told_on_way count classes (way_of parents) ≡ None) → IfOk result (λ value. AreCounted count classes → told_second classes ≡ None)
-accepted_second (Ok value) count classes parents are first h =
-    λ fits. sym (told_way count classes fits first) ∙ ap (λ ps. told_on_way count classes (way_of ps)) (sym are) ∙ h (subst IsCounted (sym are) (counted_too count classes fits))
-accepted_second (Err found) count classes parents are first h = tt
+pub refused_second : {T : Type 0} (result : Result T Stop) (count : ℕ) (classes : List Class) → AreCounted count classes → IsToldFirst classes None →
+    IfErr result (λ found. IfRefused found (λ fault. told_on_way count classes (way_of (parents_in classes)) ≡ Some fault)) → IfErr result (λ found. IfRefused found (IsToldOf classes))
+refused_second (Ok value) count classes fits first h = tt
+refused_second (Err stop.NoMemory) count classes fits first h = tt
+refused_second (Err (stop.Refused fault)) count classes fits first h = inr (first, sym (told_way count classes fits first) ∙ h)
 
-pub refused_second : {T : Type 0} (result : Result T Stop) (count : ℕ) (classes : List Class) (parents : List (Option ℕ)) → parents ≡ parents_in classes → IsToldFirst classes None →
-    IfErr result (λ found. IfRefused found (λ fault. IsCounted parents → told_on_way count classes (way_of parents) ≡ Some fault)) → IfErr result (λ found. IfRefused found (IsToldOf count classes))
-refused_second (Ok value) count classes parents are first h = tt
-refused_second (Err stop.NoMemory) count classes parents are first h = tt
-refused_second (Err (stop.Refused fault)) count classes parents are first h =
-    inr (first, λ fits. sym (told_way count classes fits first) ∙ ap (λ ps. told_on_way count classes (way_of ps)) (sym are) ∙ h (subst IsCounted (sym are) (counted_too count classes fits)))
+pub refused_first : (classes : List Class) (found : Stop) → IfRefused found (λ fault. IsToldFirst classes (Some fault)) → IfRefused found (IsToldOf classes)
+refused_first classes (stop.Refused fault) h = inl h
+refused_first classes stop.NoMemory h = h
 
-pub refused_first : (count : ℕ) (classes : List Class) (found : Stop) → IfRefused found (λ fault. IsToldFirst classes (Some fault)) → IfRefused found (IsToldOf count classes)
-refused_first count classes (stop.Refused fault) h = inl h
-refused_first count classes stop.NoMemory h = h
+pub ok_later : {T : Type 0} (result : Result T Stop) (P : Type 0) → P → OnOk result P
+ok_later (Ok value) P h = h
+ok_later (Err found) P h = tt

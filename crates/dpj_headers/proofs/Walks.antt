@@ -14,9 +14,9 @@ use Rattle.dpj_headers.specs.declared.forest.Step.TheVariants as step
 use Rattle.dpj_headers.specs.Around.{Around, none_around, class_entered, class_faults, class_left, after_step, step_faults, way_faults}
 use Rattle.dpj_headers.specs.Headers.{chain}
 use Rattle.dpj_headers.specs.Members.{mark_of, all_entered}
-use Rattle.dpj_headers.specs.Rounds.{entry_of, up, IsRound}
+use Rattle.dpj_headers.specs.Rounds.{entry_of, up}
 use Rattle.dpj_headers.specs.Second.{own_regions, own_fields, names_of, names_in, superclasses, wrong_in_class, wrong_at, second_faults}
-use Rattle.dpj_headers.specs.Way.{IsCounted, extensions, extending, roots, last_first, walk, walks, way_of, deep}
+use Rattle.dpj_headers.specs.Way.{IsForest, extensions, extending, roots, last_first, walk, walks, way_of, deep}
 use Rattle.dpj_headers.proofs.Among.{among_flat, from_flat, among_last, from_last, among_range, range_below}
 use Rattle.dpj_headers.proofs.Cycles.{up-first, up-then, entry_within, far_round}
 use Rattle.dpj_headers.proofs.Inside.{Clean, Below, class_declared, class_passed, class_second}
@@ -25,14 +25,8 @@ use Rattle.dpj_headers.proofs.Order.{Among, same_noted}
 use Rattle.dpj_headers.proofs.Same.{Same, same_list, same_then, same_append}
 use Rattle.dpj_headers.proofs.Trees.{child_up, up_child, root_is, is_root}
 
--- the superclasses of a program whose first pass found nothing
-pub record Sound (parents : List (Option ℕ)) : Type 0 where
-  pub counted : IsCounted parents
-  pub straight : (at : ℕ) → IsRound parents at → ⊥
-  pub within : (at above : ℕ) → entry_of parents at ≡ Some above → above < length parents
-
 -- nothing is higher above a class than there are classes
-top_none : (parents : List (Option ℕ)) (n at : ℕ) → Sound parents → length parents < n → up parents n at ≡ None
+pub top_none : (parents : List (Option ℕ)) (n at : ℕ) → IsForest parents → length parents < n → up parents n at ≡ None
 top_none parents n at sound far = by (up parents n at) refl
   where
     by : (o : Option ℕ) → up parents n at ≡ o → o ≡ None
@@ -52,7 +46,7 @@ chain_longer parents (suc n) at h = by (entry_of parents at) refl (λ above. cha
         ap (λ z. at ∷ z) (more above (sym (ap (λ k. up parents k at) one ∙ up-then parents n 1 at above e) ∙ h))
 
 -- above a class stands its superclass, and then what stands above that
-pub superclasses_step : (parents : List (Option ℕ)) (at above : ℕ) → Sound parents → entry_of parents at ≡ Some above → superclasses parents at ≡ above ∷ superclasses parents above
+pub superclasses_step : (parents : List (Option ℕ)) (at above : ℕ) → IsForest parents → entry_of parents at ≡ Some above → superclasses parents at ≡ above ∷ superclasses parents above
 superclasses_step parents at above sound e = by (length parents) refl (entry_of parents above) refl
   where
     by : (n : ℕ) → length parents ≡ n → (o : Option ℕ) → entry_of parents above ≡ o → superclasses parents at ≡ above ∷ option_map_or (λ top. chain (entry_of parents) (length parents) top) o []
@@ -76,7 +70,7 @@ abbrev AboveOwn : List (Option ℕ) → List ℕ → ℕ → Type 0
 AboveOwn parents owners class = (x : ℕ) → (get_or owners x 0 ≡ 0) ⊎ ((owner : ℕ) × (d : ℕ) × (up parents (suc d) class ≡ Some owner) × (get_or owners x 0 ≡ mark_of owner))
 
 -- so the class itself declares nothing yet
-not_own : (parents : List (Option ℕ)) (owners : List ℕ) (class : ℕ) → Sound parents → class < length parents → AboveOwn parents owners class → IsNoOwner owners class
+not_own : (parents : List (Option ℕ)) (owners : List ℕ) (class : ℕ) → IsForest parents → class < length parents → AboveOwn parents owners class → IsNoOwner owners class
 not_own parents owners class sound below own x =
     elim (eqb_tells (get_or owners x 0) (mark_of class)) [
       | inr q ↦ q.0
@@ -108,13 +102,13 @@ record Ready (count : ℕ) (classes : List Class) (parents : List (Option ℕ)) 
   region_owners : AboveOwn parents seen.regions class
   field_owners : AboveOwn parents seen.fields class
 
-handed_down : (own : Class → List Named) (classes : List Class) (parents : List (Option ℕ)) (number below : ℕ) (class : Class) → Sound parents → entry_of parents below ≡ Some number → slice_get classes number ≡ Some class →
+handed_down : (own : Class → List Named) (classes : List Class) (parents : List (Option ℕ)) (number below : ℕ) (class : Class) → IsForest parents → entry_of parents below ≡ Some number → slice_get classes number ≡ Some class →
     names_in own classes (superclasses parents below) ≡ names_of (own class) ++ names_in own classes (superclasses parents number)
 handed_down own classes parents number below class sound e is =
     ap (names_in own classes) (superclasses_step parents below number sound e)
     ∙ ap (λ o. option_map_or (λ one. names_of (own one)) o [] ++ names_in own classes (superclasses parents number)) is
 
-ready_below : (count : ℕ) (classes : List Class) (parents : List (Option ℕ)) (seen : Around) (number below : ℕ) (class : Class) → Sound parents → slice_get classes number ≡ Some class → entry_of parents below ≡ Some number → Ready count classes parents seen number → Ready count classes parents (class_entered seen number class) below
+ready_below : (count : ℕ) (classes : List Class) (parents : List (Option ℕ)) (seen : Around) (number below : ℕ) (class : Class) → IsForest parents → slice_get classes number ≡ Some class → entry_of parents below ≡ Some number → Ready count classes parents seen number → Ready count classes parents (class_entered seen number class) below
 ready_below count classes parents seen number below class sound is e ready =
     subst (λ s. Ready count classes parents s below) (sym (class_declared count seen number class ready.clean)) (record {
       clean = record { methods = ready.clean.methods; constructors = ready.clean.constructors; params = ready.clean.params; formals = ready.clean.formals };
@@ -126,7 +120,7 @@ ready_below count classes parents seen number below class sound is e ready =
 
 -- the classes, as many as there are superclasses told, each with names below a count
 record Whole (count : ℕ) (classes : List Class) (parents : List (Option ℕ)) : Type 0 where
-  sound : Sound parents
+  sound : IsForest parents
   each : length parents ≡ length classes
   below : (at : ℕ) (class : Class) → slice_get classes at ≡ Some class → Below count class
 
@@ -250,14 +244,14 @@ walks_told count classes parents n (one ∷ numbers) whole all =
     (walks_told count classes parents n numbers whole (λ other k. all other (inr k)))
 
 -- every class is inside a class without a superclass, and no other numbers are
-inside_within : (parents : List (Option ℕ)) (n class one : ℕ) → Sound parents → class < length parents → Among one (inside (extensions parents) n class) → one < length parents
+inside_within : (parents : List (Option ℕ)) (n class one : ℕ) → IsForest parents → class < length parents → Among one (inside (extensions parents) n class) → one < length parents
 inside_within parents zero class one sound l h = absurd h
 inside_within parents (suc n) class one sound l (inl e) = subst (λ k. k < length parents) (sym e) l
 inside_within parents (suc n) class one sound l (inr h) =
     let w = from_last (λ below. inside (extensions parents) n below) one (extending (extensions parents) class) h in
     inside_within parents n w.0 one sound (entry_within parents w.0 class (child_up parents class w.0 sound.counted w.1)) w.2
 
-inside_into : (parents : List (Option ℕ)) (d n class one : ℕ) → Sound parents → class < length parents → d < n → up parents d one ≡ Some class → Among one (inside (extensions parents) n class)
+inside_into : (parents : List (Option ℕ)) (d n class one : ℕ) → IsForest parents → class < length parents → d < n → up parents d one ≡ Some class → Among one (inside (extensions parents) n class)
 inside_into parents zero zero class one sound l deep h = absurd (omega arith)
 inside_into parents zero (suc n) class one sound l deep h = inl cc
 inside_into parents (suc d) zero class one sound l deep h = absurd (omega arith)
@@ -278,14 +272,14 @@ topmost parents (suc n) at h = by (up parents n at) refl (λ e. topmost parents 
     by None e more = let w = more e in let l = w.1 in (w.0, omega arith, w.2, w.3, w.4)
     by (Some top) e more = (n, omega arith, top, e, sym (ap (option_and_then (entry_of parents)) e) ∙ h)
 
-up_inside : (parents : List (Option ℕ)) (d at top : ℕ) → Sound parents → at < length parents → up parents d at ≡ Some top → top < length parents
+up_inside : (parents : List (Option ℕ)) (d at top : ℕ) → IsForest parents → at < length parents → up parents d at ≡ Some top → top < length parents
 up_inside parents zero at top sound l h = let same : at ≡ top = cc in subst (λ k. k < length parents) same l
 up_inside parents (suc d) at top sound l h =
     let one : suc d ≡ 1 + d = omega arith in
     let f = up-first parents 1 d at top (ap (λ k. up parents k at) (sym one) ∙ h) in
     sound.within f.0 top f.2
 
-pub all_inside : (parents : List (Option ℕ)) (at : ℕ) → Sound parents → at < length parents → Among at (insides (extensions parents) (deep parents) (roots 0 parents))
+pub all_inside : (parents : List (Option ℕ)) (at : ℕ) → IsForest parents → at < length parents → Among at (insides (extensions parents) (deep parents) (roots 0 parents))
 all_inside parents at sound l =
     let w = topmost parents (suc (length parents)) at (top_none parents (suc (length parents)) at sound (omega arith)) in
     let below = w.1 in
@@ -293,13 +287,13 @@ all_inside parents at sound l =
     among_flat (inside (extensions parents) (deep parents)) at w.2 (roots 0 parents) (is_root parents w.2 sound.counted in_range w.4)
     (inside_into parents w.0 (deep parents) w.2 at sound in_range (omega arith) w.3)
 
-only_inside : (parents : List (Option ℕ)) (at : ℕ) → Sound parents → Among at (insides (extensions parents) (deep parents) (roots 0 parents)) → at < length parents
+only_inside : (parents : List (Option ℕ)) (at : ℕ) → IsForest parents → Among at (insides (extensions parents) (deep parents) (roots 0 parents)) → at < length parents
 only_inside parents at sound h =
     let w = from_flat (inside (extensions parents) (deep parents)) at (roots 0 parents) h in
     inside_within parents (deep parents) w.0 at sound (root_is parents w.0 sound.counted w.1).0 w.2
 
 -- what the way through the classes notes is what is wrong in them
-pub way_second : (count : ℕ) (classes : List Class) (parents : List (Option ℕ)) → Sound parents → length parents ≡ length classes → ((at : ℕ) (class : Class) → slice_get classes at ≡ Some class → Below count class) →
+pub way_second : (count : ℕ) (classes : List Class) (parents : List (Option ℕ)) → IsForest parents → length parents ≡ length classes → ((at : ℕ) (class : Class) → slice_get classes at ≡ Some class → Below count class) →
     Same (way_faults classes (none_around count) (way_of parents)) (second_faults classes parents)
 way_second count classes parents sound each below =
     let whole : Whole count classes parents = record { sound = sound; each = each; below = below } in

@@ -1,5 +1,5 @@
 -- What the headers of a program are.
-use Rattle.std.specs.Prelude.{◌≡◌, ℕ, ◌+◌, ◌==◌, ◌&&◌, Bool, true, false, cond, List, [], ◌∷◌, ◌++◌, map, count_by, codes, slice_get, Option, None, Some, option_and_then}
+use Rattle.std.specs.Prelude.{ℕ, ◌+◌, Bool, true, false, List, [], ◌∷◌, ◌++◌, map, count_by, codes, slice_get, Option}
 use Rattle.std.specs.List.{flat_map, position_from}
 use Rattle.std.specs.Option.{option_map, option_map_or}
 use Rattle.std.specs.Str.{bytes_eq}
@@ -10,10 +10,10 @@ use Rattle.dpj_tree.specs.declared.class.Program.{Program}
 use Rattle.dpj_tree.specs.declared.region.Named.{Named}
 use Rattle.dpj_tree.specs.declared.region.ParamTree.{ParamTree}
 use Rattle.dpj_headers.specs.declared.header.Header.{Header}
-use Rattle.dpj_headers.specs.declared.header.Headers.{Headers}
 use Rattle.dpj_headers.specs.declared.header.ParamRow.{ParamRow}
-use Rattle.dpj_headers.specs.First.{class_named, parents_in}
-use Rattle.dpj_headers.specs.Headers.{class_of, parents_of, param_of, own_region, atomic_regions, main_of}
+use Rattle.dpj_headers.specs.declared.header.RegionRow.{RegionRow}
+use Rattle.dpj_headers.specs.First.{parents_in}
+use Rattle.dpj_headers.specs.Headers.{PlainHeaders}
 use Rattle.dpj_headers.specs.Numbers.{as_number}
 use Rattle.dpj_headers.specs.Rounds.{entry_of}
 use Rattle.dpj_headers.specs.Second.{superclasses}
@@ -53,22 +53,7 @@ abbrev pub header_rows : List (Option ℕ) → (ℕ → ℕ) → ℕ → List Cl
 header_rows parents fields at [] = []
 header_rows parents fields at (class ∷ classes) = header_row parents fields at class ∷ header_rows parents fields (at + 1) classes
 
--- the last place, counted on from a number, that passes a test; else what was found before
-abbrev pub last_place : {A : Type 0} → (A → Bool) → ℕ → List A → Option ℕ → Option ℕ
-last_place test at [] found = found
-last_place test at (x ∷ xs) found = last_place test (at + 1) xs (cond (test x) (Some (as_number at)) found)
-
--- the region parameter of that name, by its position among those of the class
-abbrev pub param_number : List Class → ℕ → ℕ → Option ℕ
-param_number classes at name =
-    option_and_then (λ class. last_place (λ param. param.name == name) 0 class.params.list None) (slice_get classes at)
-
--- a region name where it is declared
-pub record RegionRow : Type 0 where
-  pub owner : ℕ
-  pub name : ℕ
-  pub is_atomic : Bool
-
+-- region names where they are declared
 abbrev pub region_rows : ℕ → Bool → List Named → List RegionRow
 region_rows owner is_atomic names = map (λ named. record { owner = owner; name = named.name; is_atomic = is_atomic }) names
 
@@ -82,23 +67,14 @@ abbrev pub all_regions : ℕ → List Class → List RegionRow
 all_regions at [] = []
 all_regions at (class ∷ classes) = flat_map (member_regions (as_number at)) class.members ++ all_regions (at + 1) classes
 
-abbrev pub is_region : ℕ → ℕ → RegionRow → Bool
-is_region owner name row = (row.owner == owner) && (row.name == name)
-
--- the region name of a class, by its position among all region names
-abbrev pub region_number : List Class → ℕ → ℕ → Option ℕ
-region_number classes owner name = last_place (is_region owner name) 0 (all_regions 0 classes) None
-
 -- the number of a text among the names
 abbrev pub name_number : List (List ℕ) → List ℕ → Option ℕ
 name_number names text = option_map as_number (position_from (λ name. bytes_eq name text) 0 names)
 
--- the headers are those of the program; a name means the class, region parameter or region name that it is the name of
-pub record AreHeaders (program : Program) (headers : Headers) : Type 0 where
-  pub rows : headers.rows ≡ header_rows (parents_in program.classes) (object_fields program.classes (parents_in program.classes)) 0 program.classes
-  pub parents : parents_of headers ≡ parents_in program.classes
-  pub classes : (name : ℕ) → class_of headers name ≡ class_named program.classes name
-  pub params : (class name : ℕ) → param_of headers class name ≡ param_number program.classes class name
-  pub regions : (class name : ℕ) → own_region headers class name ≡ region_number program.classes class name
-  pub atomic : atomic_regions headers ≡ map (λ row. row.is_atomic) (all_regions 0 program.classes)
-  pub main : main_of headers ≡ name_number program.names (codes "Main")
+-- the headers of a program
+abbrev pub headers_in : Program → PlainHeaders
+headers_in program = record {
+  rows = header_rows (parents_in program.classes) (object_fields program.classes (parents_in program.classes)) 0 program.classes;
+  regions = all_regions 0 program.classes;
+  main = name_number program.names (codes "Main");
+}

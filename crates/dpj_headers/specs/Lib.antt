@@ -1,8 +1,10 @@
 pub mod Around
 pub mod Faults
+pub mod Finding
 pub mod First
 pub mod Gathered
 pub mod Headers
+pub mod Inheriting
 pub mod Members
 pub mod Numbering
 pub mod Numbers

@@ -1,5 +1,5 @@
 -- Numbers under names, and under names that belong to something.
-use Rattle.std.specs.Prelude.{◌≡◌, ℕ, ◌&&◌, ◌==◌, nat_eq, cond, min, Option, Some}
+use Rattle.std.specs.Prelude.{◌≡◌, ℕ, ◌+◌, ◌&&◌, ◌==◌, nat_eq, Bool, cond, min, List, [], ◌∷◌, Option, Some}
 use Rattle.indexmap.specs.IndexMap.{get, get_by}
 use Rattle.dpj_headers.specs.declared.numbers.NameNumbers.{NameNumbers}
 use Rattle.dpj_headers.specs.declared.numbers.OwnedNumbers.{OwnedNumbers}
@@ -7,6 +7,11 @@ use Rattle.dpj_headers.specs.declared.numbers.OwnedNumbers.{OwnedNumbers}
 -- a position as a number: the position itself, where a number holds it
 abbrev pub as_number : ℕ → ℕ
 as_number position = min position 4294967295
+
+-- the last place, counted on from a number, that passes a test; else what was found before
+abbrev pub last_place : {A : Type 0} → (A → Bool) → ℕ → List A → Option ℕ → Option ℕ
+last_place test at [] found = found
+last_place test at (x ∷ xs) found = last_place test (at + 1) xs (cond (test x) (Some (as_number at)) found)
 
 -- the number under a name
 abbrev pub number_of : NameNumbers → ℕ → Option ℕ

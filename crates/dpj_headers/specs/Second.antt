@@ -125,6 +125,5 @@ abbrev pub told_second : List Class → Option Refusal
 told_second classes = told (all_noted (none_by order.Place) (second_faults classes (parents_in classes)))
 
 -- a refusal is that of the first pass, or where there is none that of the second
-abbrev pub IsToldOf : ℕ → List Class → Refusal → Type 0
-IsToldOf count classes fault =
-    IsToldFirst classes (Some fault) ⊎ (IsToldFirst classes None × (AreCounted count classes → told_second classes ≡ Some fault))
+abbrev pub IsToldOf : List Class → Refusal → Type 0
+IsToldOf classes fault = IsToldFirst classes (Some fault) ⊎ (IsToldFirst classes None × (told_second classes ≡ Some fault))

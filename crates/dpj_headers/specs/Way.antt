@@ -1,8 +1,9 @@
 -- The way through all classes: a class is entered behind its superclass, and left behind all that extends it.
-use Rattle.std.specs.Prelude.{ℕ, zero, suc, ◌+◌, ◌<◌, List, [], ◌∷◌, ◌++◌, map, length, replicate, slice_set, slice_index_or, Option, None, Some}
+use Rattle.std.specs.Prelude.{◌≡◌, ℕ, zero, suc, ◌+◌, ◌<◌, List, [], ◌∷◌, ◌++◌, map, length, replicate, slice_set, slice_index_or, Option, None, Some}
 use Rattle.dpj_headers.specs.declared.forest.Step.{Step}
 use Rattle.dpj_headers.specs.declared.forest.Step.TheVariants as step
 use Rattle.dpj_headers.specs.Numbers.{as_number}
+use Rattle.dpj_headers.specs.Rounds.{entry_of, IsRound}
 
 -- a further class stands under its superclass
 abbrev pub with_filed : List (List ℕ) → ℕ → ℕ → List (List ℕ)
@@ -70,3 +71,18 @@ entered_below classes = map (λ class. step.Enter class) classes
 abbrev pub behind : List (List ℕ) → Step → List Step
 behind lists (step.Enter class) = step.Leave class ∷ entered_below (extending lists class)
 behind lists (step.Leave class) = []
+
+-- the superclasses of classes: there are fewer classes than numbers, each superclass is there, and no class is its own
+pub record IsForest (parents : List (Option ℕ)) : Type 0 where
+  pub counted : IsCounted parents
+  pub straight : (at : ℕ) → IsRound parents at → ⊥
+  pub within : (at above : ℕ) → entry_of parents at ≡ Some above → above < length parents
+
+-- what each class has, where it is made on entering the class from what other classes have
+abbrev pub entered : {A : Type 0} → (List A → ℕ → A) → List A → Step → List A
+entered make made (step.Enter class) = slice_set made class (make made class)
+entered make made (step.Leave class) = made
+
+abbrev pub entered_on : {A : Type 0} → (List A → ℕ → A) → List A → List Step → List A
+entered_on make made [] = made
+entered_on make made (s ∷ steps) = entered_on make (entered make made s) steps

@@ -1,9 +1,10 @@
 ghost use Rattle.std.specs.Prelude.{◌≡◌, replicate, length, slice_set, IfOk};
 ghost use Rattle.std.specs.Option.{option_map_or};
 ghost use Rattle.dpj_headers.specs.Gathered.{is_field, field_count};
-ghost use Rattle.dpj_headers.specs.Numbering.{counted_at, counted_step, counted_way};
+ghost use Rattle.dpj_headers.specs.Numbering.{counted_at, counted_way};
 ghost use Rattle.dpj_headers.specs.Numbers.{as_number};
 ghost use Rattle.dpj_headers.specs.Rounds.{entry_of};
+ghost use Rattle.dpj_headers.specs.Way.{entered};
 
 use crate::forest::Step;
 use crate::numbers::number_at;
@@ -47,7 +48,7 @@ pub fn count_fields(
 }
 
 fn count_step(classes: &[Class], parents: &[Option<u32>], counts: &mut [u32], step: Step)
-    ensures { counts.new ≡ counted_step classes.now parents.now counts.old step }
+    ensures { counts.new ≡ entered (counted_at classes.now parents.now) counts.old step }
 {
     if let Step::Enter(number) = step {
         let count = count_at(classes, parents, counts, number);

@@ -1,10 +1,9 @@
-ghost use Rattle.std.specs.Prelude.{◌≡◌, ◌⊎◌, ℕ, map, codes, length, slice_index_or, None, Some, IfOk, IfErr, OnOk};
+ghost use Rattle.std.specs.Prelude.{◌≡◌, ℕ, map, codes, length, slice_index_or, None, Some, IfOk, IfErr, OnOk};
 ghost use Rattle.dpj_base.specs.Refused.{IfRefused};
 ghost use Rattle.dpj_headers.specs.Around.{told_on_way};
 ghost use Rattle.dpj_headers.specs.First.{IsToldFirst, IsNotedFirst, parents_in, class_named};
-ghost use Rattle.dpj_headers.specs.Gathered.{param_row, header_row, header_rows, name_number, all_regions, region_number, AreHeaders};
-ghost use Rattle.dpj_headers.specs.Headers.{param_of, own_region};
-ghost use Rattle.dpj_headers.specs.Numbering.{with_all_params, counted_rows};
+ghost use Rattle.dpj_headers.specs.Gathered.{param_row, header_row, header_rows, name_number, all_regions, headers_in};
+ghost use Rattle.dpj_headers.specs.Numbering.{counted_rows};
 ghost use Rattle.dpj_headers.specs.Numbers.{number_of};
 ghost use Rattle.dpj_headers.specs.Second.{AreCounted, told_second, IsToldOf};
 ghost use Rattle.dpj_headers.specs.Way.{IsCounted, way_of};
@@ -14,8 +13,8 @@ use crate::fields::count_fields;
 use crate::forest::{Step, way};
 use crate::header::{Header, Headers, ParamRow};
 use crate::members::check_members;
-use crate::numbering::{number_params, number_regions};
 use crate::numbers::{NameNumbers, number_at};
+use crate::regions::all_regions;
 use crate::supers::{check_cycles, check_extended, find_parents, number_classes};
 use dpj_base::{Bytes, Items, NoMemory, Stop};
 use dpj_tree::{Class, ParamTree, Program};
@@ -26,11 +25,11 @@ use std::alloc::Global;
 /// parameters or formals of one kind and one name, inherited ones included, and a constructor that isn't named as
 /// its class. Of these two groups the first comes first, and in a group the fault with the least place.
 pub fn headers(alloc: Global, program: &Program) -> Result<Headers, Stop>
-    ensures accepted { IfOk result (λ headers. IsToldFirst program.now.classes None) }
-    ensures fault { IfErr result (λ stop. IfRefused stop (λ fault. IsToldFirst program.now.classes (Some fault) ⊎ IsToldFirst program.now.classes None)) }
-    ensures members { IfOk result (λ headers. AreCounted (length program.now.names) program.now.classes → told_second program.now.classes ≡ None) }
-    ensures gathered { IfOk result (λ headers. IsCounted program.now.classes → AreHeaders program.now headers) }
-    ensures second { IfErr result (λ stop. IfRefused stop (IsToldOf (length program.now.names) program.now.classes)) }
+    requires { AreCounted (length program.now.names) program.now.classes }
+    ensures first { OnOk result (IsToldFirst program.now.classes None) }
+    ensures second { OnOk result (told_second program.now.classes ≡ None) }
+    ensures made { IfOk result (λ headers. headers ≡ headers_in program.now) }
+    ensures refused { IfErr result (λ stop. IfRefused stop (IsToldOf program.now.classes)) }
 {
     let linked = link_classes(alloc, program.classes.as_slice())?;
     of_linked(alloc, program, linked)
@@ -90,29 +89,22 @@ fn look_at_members(
 
 /// The headers, or the first fault of members.
 fn of_linked(alloc: Global, program: &Program, linked: Linked) -> Result<Headers, Stop>
-    ensures rows { IfOk result (λ headers. IsCounted linked.parents → headers.rows ≡ counted_rows program.now.classes linked.parents (way_of linked.parents)) }
-    ensures classes { IfOk result (λ headers. headers.classes ≡ linked.numbers) }
-    ensures params { IfOk result (λ headers. (owner : ℕ) (name : ℕ) → param_of headers owner name ≡ with_all_params 0 program.now.classes owner name None) }
-    ensures regions { IfOk result (λ headers. (owner : ℕ) (name : ℕ) → own_region headers owner name ≡ region_number program.now.classes owner name) }
-    ensures atomic { IfOk result (λ headers. headers.atomic ≡ map (λ row. row.is_atomic) (all_regions 0 program.now.classes)) }
-    ensures main { IfOk result (λ headers. headers.main_name ≡ name_number program.now.names (codes "Main")) }
-    ensures accepted { OnOk result (IsCounted linked.parents → told_on_way (length program.now.names) program.now.classes (way_of linked.parents) ≡ None) }
-    ensures fault { IfErr result (λ stop. IfRefused stop (λ fault. IsCounted linked.parents → told_on_way (length program.now.names) program.now.classes (way_of linked.parents) ≡ Some fault)) }
+    requires counted { IsCounted program.now.classes }
+    requires first { IsToldFirst program.now.classes None }
+    requires parents { linked.parents ≡ parents_in program.now.classes }
+    requires named { (name : ℕ) → number_of linked.numbers name ≡ class_named program.now.classes name }
+    ensures made { IfOk result (λ headers. headers ≡ record { rows = counted_rows program.now.classes (parents_in program.now.classes) (way_of (parents_in program.now.classes)); regions = all_regions 0 program.now.classes; main = name_number program.now.names (codes "Main") }) }
+    ensures accepted { OnOk result (told_on_way (length program.now.names) program.now.classes (way_of (parents_in program.now.classes)) ≡ None) }
+    ensures fault { IfErr result (λ stop. IfRefused stop (λ fault. told_on_way (length program.now.names) program.now.classes (way_of (parents_in program.now.classes)) ≡ Some fault)) }
 {
     let Linked { numbers, parents } = linked;
     let classes = program.classes.as_slice();
     let steps = way(alloc, parents.as_slice())?;
     look_at_members(alloc, classes, program.names.len(), steps.as_slice())?;
     let rows = count_rows(alloc, classes, parents.as_slice(), steps.as_slice())?;
-    let (regions, atomic) = number_regions(alloc, classes)?;
-    Ok(Headers {
-        rows,
-        classes: numbers,
-        params: number_params(alloc, classes)?,
-        regions,
-        atomic,
-        main_name: name_of(program.names.as_slice(), b"Main".as_slice()),
-    })
+    let regions = all_regions(alloc, classes)?;
+    let main_name = name_of(program.names.as_slice(), b"Main".as_slice());
+    Ok(Headers::of_rows(alloc, rows, regions, numbers, main_name)?)
 }
 
 /// Region parameters as rows.

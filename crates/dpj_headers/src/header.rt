@@ -1,12 +1,15 @@
-ghost use Rattle.std.specs.Prelude.{◌≡◌, ◌↔◌, [], IsTrue, IfOk, length};
+ghost use Rattle.std.specs.Prelude.{◌≡◌, ◌↔◌, [], IsTrue, IfOk, length, map};
 ghost use Rattle.std.specs.Option.{option_copied};
-ghost use Rattle.dpj_headers.specs.Headers.{class_of, header_of, parent_of, class_count, param_of, own_region, region_of, atomic_regions, is_below, main_of, parents_of};
-ghost use Rattle.dpj_headers.specs.Way.{IsCounted, way_of};
+ghost use Rattle.dpj_headers.specs.Finding.{FindsClasses};
+ghost use Rattle.dpj_headers.specs.Headers.{class_of, header_of, parent_of, class_count, param_of, own_region, region_of, regions_of, atomic_regions, is_below, main_of, parents_of};
+ghost use Rattle.dpj_headers.specs.Way.{IsCounted, IsForest, way_of};
 
 use crate::forest::{Step, way};
+use crate::numbering::{atomic_marks, number_params, number_regions};
 use crate::numbers::{NameNumbers, OwnedNumbers};
 use dpj_base::{Items, NoMemory, Place, Plain};
 use std::alloc::Global;
+use std::marker::Model;
 
 /// A region parameter of a class or a method.
 #[derive(Clone, Copy, Debug, PartialEq, Eq)]
@@ -27,18 +30,69 @@ pub struct Header {
     pub fields: u32,
 }
 
-/// The headers of all classes of a program. A class is known by its position in the text.
+/// A region name, where a class declares it.
+#[derive(Clone, Copy, Debug, PartialEq, Eq)]
+pub struct RegionRow {
+    /// The class.
+    pub owner: u32,
+    pub name: u32,
+    pub is_atomic: bool,
+}
+
+/// The headers of all classes of a program. A class is known by its position in the text, and so is a region name.
+/// A contract sees the rows, and not the maps by which they are found.
 #[derive(Drop)]
 pub struct Headers {
-    pub(crate) rows: Items<Header>,
-    pub(crate) classes: NameNumbers,
-    pub(crate) params: OwnedNumbers,
-    pub(crate) regions: OwnedNumbers,
-    pub(crate) atomic: Items<bool>,
-    pub(crate) main_name: Option<u32>,
+    rows: Items<Header>,
+    regions: Items<RegionRow>,
+    main_name: Option<u32>,
+    classes: NameNumbers,
+    params: OwnedNumbers,
+    region_numbers: OwnedNumbers,
+    atomic: Items<bool>,
+}
+
+impl Model for Headers {
+    ghost use Rattle.dpj_headers.specs.Headers.{PlainHeaders};
+
+    ghost Value = { PlainHeaders };
+
+    ghost use Rattle.dpj_headers.specs.Finding.{Finds};
+    ghost use Rattle.dpj_headers.specs.Way.{IsForest};
+    ghost use Rattle.std.specs.Prelude.{map};
+
+    ghost view = { λ h. record { rows = h.rows; regions = h.regions; main = h.main_name } };
+
+    ghost invariant = { λ h. Finds h.rows h.regions h.classes h.params h.region_numbers h.atomic × IsForest (map (λ row. row.parent) h.rows) };
 }
 
 impl Headers {
+    /// The headers of these rows, of which `classes` has the first of each name. No class is its own superclass.
+    pub fn of_rows(
+        alloc: Global,
+        rows: Items<Header>,
+        regions: Items<RegionRow>,
+        classes: NameNumbers,
+        main_name: Option<u32>,
+    ) -> Result<Headers, NoMemory>
+        requires forest { IsForest (map (λ row. row.parent) rows) }
+        requires found { FindsClasses rows classes }
+        ensures { IfOk result (λ headers. headers ≡ record { rows = rows; regions = regions; main = main_name }) }
+    {
+        let params = number_params(alloc, rows.as_slice())?;
+        let region_numbers = number_regions(alloc, regions.as_slice())?;
+        let atomic = atomic_marks(alloc, regions.as_slice())?;
+        Ok(Headers {
+            rows,
+            regions,
+            main_name,
+            classes,
+            params,
+            region_numbers,
+            atomic,
+        })
+    }
+
     /// How many classes there are.
     pub fn len(&self) -> usize
         ensures { result ≡ class_count self.now }
@@ -84,8 +138,8 @@ impl Headers {
         ensures { result ≡ region_of self.now class name }
     {
         let mut at = class;
-        for _step in 0..self.rows.len() {
-            if let Some(id) = self.regions.get(at, name) {
+        for _step in 0..self.len() {
+            if let Some(id) = self.own_region(at, name) {
                 return Some(id);
             }
             at = self.parent(at)?;
@@ -94,10 +148,17 @@ impl Headers {
     }
 
     /// The region name's number, where the class itself declares it.
-    pub fn region_own(&self, class: u32, name: u32) -> Option<u32>
+    fn own_region(&self, class: u32, name: u32) -> Option<u32>
         ensures { result ≡ own_region self.now class name }
     {
-        self.regions.get(class, name)
+        self.region_numbers.get(class, name)
+    }
+
+    /// All region names, by their numbers.
+    pub fn region_rows(&self) -> &[RegionRow]
+        ensures { result.now ≡ regions_of self.now }
+    {
+        self.regions.as_slice()
     }
 
     /// Of each region name, by its number, whether it is declared atomic.
@@ -112,7 +173,7 @@ impl Headers {
         ensures { result ≡ is_below self.now class other }
     {
         let mut at = class;
-        for _step in 0..self.rows.len() {
+        for _step in 0..self.len() {
             if at == other {
                 return true;
             }
@@ -126,7 +187,8 @@ impl Headers {
 
     /// The way through all classes, each entered behind its superclass and left behind all that extends it.
     pub fn way(&self, alloc: Global) -> Result<Items<Step>, NoMemory>
-        ensures { IfOk result (λ steps. IsCounted self.now.rows → steps ≡ way_of (parents_of self.now)) }
+        ensures forest { IsForest (parents_of self.now) }
+        ensures steps { IfOk result (λ steps. steps ≡ way_of (parents_of self.now)) }
     {
         let mut parents = Items::new(alloc);
         for row in self.rows.as_slice() {

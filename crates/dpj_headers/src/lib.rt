@@ -16,11 +16,12 @@ mod header;
 mod members;
 mod numbering;
 mod numbers;
+mod regions;
 mod rounds;
 mod supers;
 
 pub use faults::Faults;
 pub use forest::Step;
 pub use gather::{headers, param_rows};
-pub use header::{Header, Headers, ParamRow};
+pub use header::{Header, Headers, ParamRow, RegionRow};
 pub use numbers::{NameNumbers, OwnedNumbers, number_at};

@@ -1,28 +1,40 @@
-use Rattle.std.proofs.Common.{◌∙◌, ℕ, ◌<◌, List, length, ap, sym, subst}
+use Rattle.std.proofs.Common.{◌≡◌, ◌∙◌, ◌<◌, ◌≤◌, List, Some, length, get_or, ap, sym, subst, arith}
+use Rattle.dpj_base.specs.declared.refusal.Stop.{Stop}
+use Rattle.dpj_base.specs.declared.refusal.Stop.TheVariants as stop
+use Rattle.dpj_base.specs.Refused.{IfRefused}
 use Rattle.dpj_tree.specs.declared.class.Class.{Class}
-use Rattle.dpj_headers.specs.Headers.{parents_of}
-use Rattle.dpj_headers.specs.Numbers.{owned_number}
-use Rattle.dpj_classes.specs.Places.{field_place, method_number, constructor_number, super_place}
-use Rattle.dpj_classes.specs.Table.{entry_at}
-use Rattle.dpj_classes.specs.Visible.{overridden_on_way}
+use Rattle.dpj_tree.specs.declared.class.Program.{Program}
+use Rattle.dpj_headers.specs.declared.header.Headers.{Headers}
+use Rattle.dpj_resolve.proofs.Told.{passed_on}
+use Rattle.dpj_classes.specs.Build.{first_of, text_faults}
+use Rattle.dpj_classes.specs.Rows.{all_constraints, methods_meant}
+use Rattle.dpj_classes.proofs.Overrides.{row_owned}
+use Rattle.dpj_classes.proofs.Rising.{extending_within}
 use Rattle.dpj_classes.proofs.make.of_signatures.Goals as goal
 
-pub returns-clause-found : goal.returns-clause-found
-returns-clause-found c =
-    let found = c.in_ok-places.ensures in
-    let made = c.together.ensures in
-    let within = λ (number : ℕ) (l : number < length c.args.program.now.classes). subst (λ (classes : List Class). number < length classes) (sym c.as_slice-classes.ensures) l in
-    record {
-      fields = λ number name. ap (λ places. owned_number places number name) made.places.1 ∙ found.fields number name ∙ ap (λ rows. field_place rows number name) (sym made.fields);
-      methods = λ number name. ap (λ places. owned_number places number name) made.places.2 ∙ found.methods number name ∙ ap (λ rows. method_number rows number name) (sym made.methods);
-      constructors = λ number l. ap (λ entries. entry_at entries number) made.places.3 ∙ found.constructors number (within number l) ∙ ap (λ rows. constructor_number rows number) (sym made.methods);
-      supers = λ number l. ap (λ entries. entry_at entries number) made.places.0 ∙ found.supers number (within number l) ∙ ap (λ rows. super_place rows number) (sym made.supers);
-    }
+abbrev Refuses : Headers → Program → Stop → Type 0
+Refuses headers program e = IfRefused e (λ fault. first_of (text_faults headers program.classes) ≡ Some fault)
 
-pub returns-clause-overrides : goal.returns-clause-overrides
-returns-clause-overrides c =
-    let made = c.together.ensures in
-    λ counted.
-    made.overrides ∙ c.in_ok-places.ensures.overrides counted
-    ∙ ap (λ rows. overridden_on_way (parents_of c.args.headers) rows c.len.result) (sym made.methods)
-    ∙ ap (overridden_on_way (parents_of c.args.headers) c.together.result.methods) c.len.ensures
+pub find_places-requires-clause-owned : goal.find_places-requires-clause-owned
+find_places-requires-clause-owned c =
+    let program = c.args.program.now in
+    let headers = c.args.headers in
+    let rows = c.in_ok-given.field-0.made.methods in
+    λ at row below.
+    subst (λ (cs : List Class). (get_or rows at row).owner < length cs) (sym c.as_slice-classes.ensures)
+    (row_owned program headers (all_constraints headers 0 program.classes) rows c.requires.counted
+    (c.in_ok-given.ensures.methods ∙ ap (λ (cs : List Class). methods_meant headers (all_constraints headers 0 cs) 0 0 cs) c.as_slice-classes.ensures) at row below)
+
+pub find_places-requires-clause-extending : goal.find_places-requires-clause-extending
+find_places-requires-clause-extending c =
+    let classes = c.as_slice-classes.result.now in
+    let few : length classes ≤ 4294967296 = omega (arith, c.requires.counted.0, ap length c.as_slice-classes.ensures) in
+    extending_within c.args.headers classes c.in_ok-given.field-0.made.supers c.in_ok-given.ensures.extending few
+
+pub returns-in_err-overrides-clause-refused : goal.returns-in_err-overrides-clause-refused
+returns-in_err-overrides-clause-refused c =
+    passed_on c.from_residual-in_err-overrides.result stop.NoMemory (Refuses c.args.headers c.args.program.now) c.from_residual-in_err-overrides.ensures.1 tt
+
+pub returns-in_err-rows-clause-refused : goal.returns-in_err-rows-clause-refused
+returns-in_err-rows-clause-refused c =
+    passed_on c.from_residual-in_err-rows.result stop.NoMemory (Refuses c.args.headers c.args.program.now) c.from_residual-in_err-rows.ensures.1 tt
