@@ -1,0 +1,12 @@
+use Rattle.std.proofs.Common.{drop}
+use Rattle.dpj_typed.specs.Plain.{plain_member}
+use Rattle.dpj_gen.proofs.Whole.{need}
+use Rattle.dpj_compile.specs.Emitted.{emitted_of}
+use Rattle.dpj_compile.proofs.Generating.{Underway}
+use Rattle.dpj_compile.proofs.bodies.member.Given as goal
+
+abbrev pub invariant-loop-next : goal.invariant-loop-next
+invariant-loop-next l = Underway (emitted_of l.fn.out) l.fn.bodies (plain_member l.member) l.next (emitted_of l.out) l.bodies
+
+abbrev pub decreases-loop-next : goal.decreases-loop-next
+decreases-loop-next l = need (drop l.next (emitted_of l.out).piece.branches)

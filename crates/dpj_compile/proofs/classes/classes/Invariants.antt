@@ -1,0 +1,10 @@
+use Rattle.std.proofs.Common.{◌≡◌, ◌++◌, map, drop}
+use Rattle.dpj_base.specs.Types.{plain_type}
+use Rattle.dpj_typed.specs.Plain.{plain_class, plain_program}
+use Rattle.dpj_code.specs.Plain.{plain_class as plain_class_code, plain_method}
+use Rattle.dpj_gen.specs.Scheme.{class_code, method_code, first_constant}
+use Rattle.dpj_compile.specs.Classes.{number_from}
+use Rattle.dpj_compile.proofs.classes.classes.Given as goal
+
+abbrev pub invariant-loop-class : goal.invariant-loop-class
+invariant-loop-class l = map plain_class_code l.made ++ map (class_code (plain_program l.program) (number_from l.numbers)) (map plain_class (drop l.class-index l.class-items)) ≡ map (class_code (plain_program l.program) (number_from l.numbers)) (map plain_class l.class-items)

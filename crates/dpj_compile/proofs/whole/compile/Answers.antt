@@ -1,0 +1,12 @@
+use Rattle.std.proofs.Common.{map}
+use Rattle.dpj_typed.specs.Plain.{plain_program}
+use Rattle.dpj_code.specs.Plain.{plain_class}
+use Rattle.dpj_compile.specs.Emitted.{emitted_of}
+use Rattle.dpj_compile.specs.Bodies.{output_of}
+use Rattle.dpj_compile.proofs.Members.{code_is}
+use Rattle.dpj_compile.proofs.whole.compile.Goals as goal
+
+pub returns : goal.returns
+returns c =
+    code_is (plain_program c.args.program.now) (map plain_class c.in_ok-classes.classes) (output_of (emitted_of c.members.new.out) c.members.new.bodies) c.in_ok-numbers.numbers
+    c.number_of.result c.in_ok-numbers.ensures.numbers c.in_ok-classes.ensures c.in_ok-numbers.ensures.output c.number_of.ensures

@@ -1,0 +1,6 @@
+use Rattle.dpj_compile.specs.Emitted.{emitted_of}
+use Rattle.dpj_compile.proofs.Members.{SoFar}
+use Rattle.dpj_compile.proofs.whole.members.Given as goal
+
+abbrev pub invariant-loop-m : goal.invariant-loop-m
+invariant-loop-m l = SoFar (emitted_of l.out) l.bodies l.numbers l.m-index l.m-items

@@ -1,0 +1,25 @@
+//! The compiler: from a typed program to its code.
+//!
+//! `compile` gives exactly the code that the scheme of `dpj_gen` says, and with it all that the laws of `dpj_gen` say of that
+//! code: each task that runs it does what the program means.
+//!
+//! Code is emitted in one pass: the lines of a body one after another, a jump forward as soon as its target is known. The
+//! branches of parallel constructs wait in a queue until the body around them is done. Statements and expressions are
+//! walked as deep as the program is nested, which the parser limits.
+#![tactic(auto)]
+
+mod bodies;
+mod classes;
+mod emitter;
+mod exprs;
+mod forks;
+mod instrs;
+mod line;
+mod parts;
+mod pending;
+mod sites;
+mod stmts;
+mod titles;
+mod whole;
+
+pub use whole::compile;

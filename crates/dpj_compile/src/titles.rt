@@ -1,0 +1,26 @@
+ghost use Rattle.std.specs.Prelude.{◌≡◌, ◌∷◌, ◌++◌, IfOk};
+ghost use Rattle.std.specs.Option.{option_copied};
+ghost use Rattle.dpj_code.specs.declared.code.Title.TheVariants as title;
+ghost use Rattle.dpj_compile.specs.Titles.{class_name};
+
+use dpj_base::{Bytes, NoMemory, Plain};
+use dpj_code::Title;
+use dpj_typed::{Class, Member};
+use std::alloc::Global;
+
+/// What the listing says in front of a member: its class and its name, with a dot between them.
+pub fn member_title(
+    alloc: Global,
+    owner: Option<&Class>,
+    member: &Member,
+) -> Result<Title, NoMemory>
+    ensures { IfOk result (λ made. made ≡ title.Member (class_name (option_copied owner.entry) ++ 46 ∷ member.now.name)) }
+{
+    let mut text = match owner {
+        None => Bytes::new(alloc),
+        Some(class) => class.name.copy(alloc)?,
+    };
+    text.push(b'.')?;
+    text.extend(member.name.as_slice())?;
+    Ok(Title::Member(text))
+}

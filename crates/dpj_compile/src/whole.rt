@@ -1,0 +1,60 @@
+ghost use Rattle.std.specs.Prelude.{◌≡◌, IfOk, OnOk, map};
+ghost use Rattle.dpj_typed.specs.Plain.{plain_program, plain_member};
+ghost use Rattle.dpj_code.specs.Plain.{plain_code};
+ghost use Rattle.dpj_gen.specs.Whole.{compiled, first, member_numbers, members_output};
+ghost use Rattle.dpj_compile.specs.Emitted.{emitted_of};
+ghost use Rattle.dpj_compile.specs.Bodies.{IsNew, output_of};
+
+use crate::bodies::member;
+use crate::classes::{classes, number_of};
+use crate::emitter::Emitter;
+use dpj_base::{Items, NoMemory};
+use dpj_code::{Body, Code};
+use dpj_typed::{Class, Member, Program};
+use std::alloc::Global;
+
+/// Compiles a typed program to the code that the scheme of `dpj_gen` says.
+pub fn compile(alloc: Global, program: &Program) -> Result<Code, NoMemory>
+    ensures { IfOk result (λ code. plain_code code ≡ compiled (plain_program program.now)) }
+{
+    let mut out = Emitter::new(alloc);
+    let mut bodies = Items::new(alloc);
+    let numbers = members(
+        alloc,
+        &mut out,
+        &mut bodies,
+        &program.classes,
+        &program.members,
+    )?;
+    let classes = classes(alloc, program, &numbers)?;
+    let Emitter { sites, texts, .. } = out;
+    Ok(Code {
+        classes,
+        bodies,
+        sites,
+        texts,
+        main_class: program.main_class.number,
+        main_body: number_of(&numbers, program.main_member),
+    })
+}
+
+/// Emits all members, and answers the number of the body of each.
+fn members<'p>(
+    alloc: Global,
+    out: &mut Emitter<'p>,
+    bodies: &mut Items<Body>,
+    classes: &Items<Class>,
+    all: &'p Items<Member>,
+) -> Result<Items<usize>, NoMemory>
+    requires { IsNew (emitted_of out.old) bodies.old }
+    ensures numbers { IfOk result (λ numbers. numbers ≡ member_numbers first (map plain_member all.now)) }
+    ensures output { OnOk result (output_of (emitted_of out.new) bodies.new ≡ members_output first (map plain_member all.now)) }
+{
+    let mut numbers = Items::new(alloc);
+    for m in all.as_slice() {
+        numbers.push(bodies.len())?;
+        let owner = classes.get(m.class.number as usize);
+        member(alloc, out, bodies, owner, m)?;
+    }
+    Ok(numbers)
+}
