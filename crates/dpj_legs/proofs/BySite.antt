@@ -1,0 +1,53 @@
+-- What calls and creations come to, by their sites.
+use Rattle.std.proofs.Common.{◌≡◌, ℕ, suc, ◌<◌, ◌≤◌, List, map, length, reverse, take, drop, sym, ap, ◌∙◌, subst, Some, None}
+use Rattle.std.specs.Prelude.{slice_get, option_map}
+use Rattle.std.proofs.lemmas.Option.{slice_get-map}
+use Rattle.dpj_base.specs.declared.place.Place.{Place}
+use Rattle.dpj_base.specs.declared.region.Rpl.{Rpl}
+use Rattle.dpj_base.specs.declared.value.Value.{Value as Constant}
+use Rattle.dpj_meaning.specs.Regions.{around, concrete, some_long}
+use Rattle.dpj_code.specs.declared.code.Site.{Site}
+use Rattle.dpj_code.specs.declared.code.Site.TheVariants as site
+use Rattle.dpj_code.specs.Machine.{Stuck, unless_null, unless_long, calls, creates, called, created}
+use Rattle.dpj_code.specs.Plain.{PlainCode, plain_site, constructor_of}
+use Rattle.dpj_legs.specs.declared.step.Step.{Step}
+use Rattle.dpj_legs.specs.declared.task.Level.{Level}
+use Rattle.dpj_legs.specs.Names.{names_of, plain_value}
+use Rattle.dpj_legs.specs.Steps.{Comes, Acts, Looks, Creates}
+use Rattle.dpj_legs.specs.Tasks.{plain_frame, plain_level}
+use Rattle.dpj_legs.proofs.Taken.{taken_short, taken_all, taken_none, taken_one}
+
+pub site_found : (sites : List Site) (i : ℕ) (x : Site) → slice_get sites i ≡ Some x → slice_get (map plain_site sites) i ≡ Some (plain_site x)
+site_found sites i x e = slice_get-map plain_site sites i ∙ ap (option_map plain_site) e
+
+module _ (C : PlainCode) (at : Place) (sites : List Site) (i : ℕ) (g : Level) where
+  pub call_short : (c r n : ℕ) (regions : List Rpl) → slice_get sites i ≡ Some (site.Call c r n regions) → slice_get g.stack n ≡ None
+      → (task : ℕ) (fs : List Level) → called (names_of task) C at (slice_get (map plain_site sites) i) (plain_level g) (map plain_level fs) ≡ Stuck
+  call_short c r n regions e h task fs =
+      ap (λ o. called (names_of task) C at o (plain_level g) (map plain_level fs)) (site_found sites i (site.Call c r n regions) e)
+      ∙ taken_none n g.stack (λ vs v st. unless_null at v (λ m.
+      calls (names_of task) C at c r (map (concrete (names_of task) (around (plain_frame g.frame))) regions) m (reverse vs) (plain_level g) st (map plain_level fs))) h
+
+  pub call_looks : (c r n : ℕ) (regions : List Rpl) (v : Constant) (s : Step) → slice_get sites i ≡ Some (site.Call c r n regions) → slice_get g.stack n ≡ Some v
+      → Looks at v regions g s → Acts C (λ names fs. called names C at (slice_get (map plain_site sites) i) (plain_level g) fs) g s
+  call_looks c r n regions v s e h l task fs =
+      let is = ap (λ o. called (names_of task) C at o (plain_level g) (map plain_level fs)) (site_found sites i (site.Call c r n regions) e)
+      ∙ taken_one n g.stack v (λ vs v st. unless_null at v (λ m.
+      calls (names_of task) C at c r (map (concrete (names_of task) (around (plain_frame g.frame))) regions) m (reverse vs) (plain_level g) st (map plain_level fs))) h in
+      subst (λ o. Comes C o g fs s g fs) (sym is)
+      (l task C c r (reverse (take n (map plain_value g.stack))) (map plain_value (drop (suc n) g.stack)) fs)
+
+  pub create_short : (c n : ℕ) (regions : List Rpl) → slice_get sites i ≡ Some (site.New c n regions) → length (map plain_value g.stack) < n
+      → (task : ℕ) (fs : List Level) → created (names_of task) C at (slice_get (map plain_site sites) i) (plain_level g) (map plain_level fs) ≡ Stuck
+  create_short c n regions e h task fs =
+      ap (λ o. created (names_of task) C at o (plain_level g) (map plain_level fs)) (site_found sites i (site.New c n regions) e)
+      ∙ taken_short n (map plain_value g.stack) _ h
+
+  pub create_makes : (c n : ℕ) (regions : List Rpl) (s : Step) → slice_get sites i ≡ Some (site.New c n regions) → n ≤ length (map plain_value g.stack)
+      → Creates C at c regions g s → Acts C (λ names fs. created names C at (slice_get (map plain_site sites) i) (plain_level g) fs) g s
+  create_makes c n regions s e h m task fs =
+      let is = ap (λ o. created (names_of task) C at o (plain_level g) (map plain_level fs)) (site_found sites i (site.New c n regions) e)
+      ∙ taken_all n (map plain_value g.stack) (λ vs st. unless_long (some_long (map (concrete (names_of task) (around (plain_frame g.frame))) regions)) at
+      (creates (names_of task) C at c (map (concrete (names_of task) (around (plain_frame g.frame))) regions) (reverse vs) (constructor_of C c) (plain_level g) st
+      (map plain_level fs))) h in
+      subst (λ o. Comes C o g fs s g fs) (sym is) (m task (reverse (take n (map plain_value g.stack))) (drop n (map plain_value g.stack)) fs)

@@ -1,0 +1,14 @@
+pub mod Lists
+pub mod Above
+pub mod Taken
+pub mod BySite
+pub mod Bodies
+pub mod Branching
+pub mod Starting
+pub mod Stepping
+pub mod Resuming
+pub mod Walking
+pub mod Padding
+pub mod Dropped
+pub mod Leading
+pub mod Idle

@@ -1,0 +1,9 @@
+pub mod Names
+pub mod Tasks
+pub mod Halts
+pub mod Branches
+pub mod Steps
+pub mod Advances
+pub mod Fuel
+pub mod Frames
+pub mod Answers

@@ -1,0 +1,125 @@
+ghost use Rattle.std.specs.Prelude.{◌≡◌, ◌<◌, ◌^◌, ◌-◌, pos, IfOk, Some, length, slice_get};
+ghost use Rattle.std.specs.Int.{w32, int_wrapping_add, int_wrapping_sub};
+ghost use Rattle.dpj_code.specs.Fit.{site_at};
+ghost use Rattle.dpj_code.specs.Machine.{below, site_of, line_before};
+ghost use Rattle.dpj_code.specs.Plain.{plain_code, plain_site, body_at};
+ghost use Rattle.dpj_meaning.specs.Counts.{number, how_many};
+ghost use Rattle.dpj_legs.specs.Names.{plain_value};
+ghost use Rattle.dpj_legs.specs.Branches.{starts_at, starts_of, spread_starts};
+ghost use Rattle.dpj_legs.specs.Tasks.{state_of, plain_start, plain_frame, plain_level};
+
+use crate::frame::Frame;
+use crate::joins::site_before;
+use crate::task::{Level, Standing, Start, Task};
+use crate::values::{how_many, number, set_slot};
+use dpj_base::{Items, NoMemory, Plain, Value};
+use dpj_code::{Code, Site};
+use std::alloc::Global;
+
+impl Frame {
+    /// An equal frame, one call deeper.
+    fn deeper(&self, alloc: Global) -> Result<Frame, NoMemory>
+        ensures { IfOk result (λ frame. plain_frame frame ≡ below (plain_frame self.now)) }
+    {
+        Ok(Frame {
+            values: copied(alloc, self.values.as_slice())?,
+            regions: self.regions.copy(alloc)?,
+            locals: copied(alloc, self.locals.as_slice())?,
+            left: self.left.saturating_sub(1),
+        })
+    }
+}
+
+/// The same items.
+fn copied<T: Copy + Drop>(alloc: Global, items: &[T]) -> Result<Items<T>, NoMemory>
+    ensures { IfOk result (λ copies. copies ≡ items.now) }
+{
+    let mut copies = Items::new(alloc);
+    for item in items {
+        copies.push(*item)?;
+    }
+    Ok(copies)
+}
+
+impl Task {
+    /// How a branch starts of a task that stands in front of its join.
+    pub fn branch_start(&self, alloc: Global, code: &Code, branch: usize) -> Result<Start, NoMemory>
+        requires { branch < length (starts_at (plain_code code.now) (state_of self.now)) }
+        ensures { IfOk result (λ start. slice_get (starts_at (plain_code code.now) (state_of self.now)) branch ≡ Some (plain_start start)) }
+    {
+        match self.standing {
+            Standing::At => self.level.start_at(alloc, code, branch),
+            Standing::Rested | Standing::Ended(_) | Standing::Nowhere => unreachable!(),
+        }
+    }
+}
+
+impl Level {
+    /// The same, where the task stands at an instruction.
+    fn start_at(&self, alloc: Global, code: &Code, branch: usize) -> Result<Start, NoMemory>
+        requires { branch < length (starts_of (site_at (plain_code code.now) (site_of (line_before (body_at (plain_code code.now) self.now.body).lines self.now.at))) (plain_level self.now)) }
+        ensures { IfOk result (λ start. slice_get (starts_of (site_at (plain_code code.now) (site_of (line_before (body_at (plain_code code.now) self.now.body).lines self.now.at))) (plain_level self.now)) branch ≡ Some (plain_start start)) }
+    {
+        let Some(site) = site_before(code, self.body, self.at) else {
+            unreachable!()
+        };
+        let Some(site) = code.sites.get(site) else {
+            unreachable!()
+        };
+        self.start_of(alloc, site, branch)
+    }
+
+    /// The same, by the site.
+    fn start_of(&self, alloc: Global, site: &Site, branch: usize) -> Result<Start, NoMemory>
+        requires { branch < length (starts_of (Some (plain_site site.now)) (plain_level self.now)) }
+        ensures { IfOk result (λ start. slice_get (starts_of (Some (plain_site site.now)) (plain_level self.now)) branch ≡ Some (plain_start start)) }
+    {
+        match site {
+            Site::Fork { bodies, .. } => Ok(Start {
+                body: bodies.as_slice()[branch],
+                frame: self.frame.deeper(alloc)?,
+            }),
+            Site::Spread { body, slot, .. } => self.spread_start(alloc, *body, *slot, branch),
+            Site::Block { .. } | Site::Call { .. } | Site::New { .. } | Site::Array { .. } => {
+                unreachable!()
+            }
+        }
+    }
+
+    /// How a branch starts that has a number.
+    fn spread_start(
+        &self,
+        alloc: Global,
+        body: usize,
+        slot: usize,
+        branch: usize,
+    ) -> Result<Start, NoMemory>
+        requires { branch < length (spread_starts body slot (plain_level self.now).frame (plain_level self.now).stack) }
+        ensures { IfOk result (λ start. slice_get (spread_starts body slot (plain_level self.now).frame (plain_level self.now).stack) branch ≡ Some (plain_start start)) }
+    {
+        let Some((total, next, left)) = self.stack.top_three() else {
+            unreachable!()
+        };
+        let first = first_number(total, next, left);
+        let mut frame = self.frame.deeper(alloc)?;
+        set_slot(&mut frame.values, slot, Value::Int(plus(first, branch)));
+        Ok(Start { body, frame })
+    }
+}
+
+/// A number and so many more.
+fn plus(number: i32, more: usize) -> i32
+    requires { more < 2 ^ 31 }
+    ensures { result ≡ int_wrapping_add w32 number (pos more) }
+{
+    number.wrapping_add(more as i32)
+}
+
+/// The number of the first branch, where so many are left of all, and the next has this number.
+fn first_number(total: Value, next: Value, left: Value) -> i32
+    ensures few { how_many (number (plain_value total)) < 2 ^ 31 }
+    ensures first { result ≡ int_wrapping_sub w32 (number (plain_value next)) (pos (how_many (number (plain_value total)) - how_many (number (plain_value left)))) }
+{
+    let begun = how_many(number(total)).saturating_sub(how_many(number(left)));
+    number(next).wrapping_sub(begun as i32)
+}

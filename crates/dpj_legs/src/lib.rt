@@ -1,0 +1,47 @@
+//! A task that runs code, executed: what `dpj_code` says of it, step by step.
+//!
+//! `leg` takes a task up to its next action, and `answer` goes on from there. Both are exact against the machine of one task,
+//! whose objects and local regions have numbers for names (`specs/Names.antt`): where a leg halts, what the task does there and
+//! how it goes on. A failed growth leaves the task on its way to the same halt.
+//!
+//! A value stays where it is: an instruction works on the top of its level's stack, and a call puts its level on those of
+//! its callers.
+#![tactic(auto)]
+
+mod acting;
+mod action;
+mod advance;
+mod answers;
+mod branches;
+mod calls;
+mod classes;
+mod entries;
+mod exec;
+mod frame;
+mod frames;
+mod going_on;
+mod joins;
+mod leg;
+mod lines;
+mod local;
+mod operations;
+mod parts;
+mod prints;
+mod regions;
+mod rejoins;
+mod resume;
+mod sites;
+mod stack;
+mod starts;
+mod step;
+mod task;
+mod values;
+mod walk;
+mod way;
+
+pub use action::{Action, Answer, Ending, SlotValue};
+pub use frame::Frame;
+pub use regions::{concrete, concrete_effect};
+pub use stack::Stack;
+pub use starts::main_start;
+pub use task::{Level, Standing, Start, Task};

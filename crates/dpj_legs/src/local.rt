@@ -1,0 +1,233 @@
+ghost use Rattle.std.specs.Prelude.{◌≡◌, ◌∷◌, suc, cond, map, IfOk, OnErr};
+ghost use Rattle.dpj_meaning.specs.Counts.{unary, truth, slot_value, part_taken};
+ghost use Rattle.dpj_meaning.specs.Statements.{with_value, with_values};
+ghost use Rattle.dpj_meaning.specs.Expressions.{none};
+ghost use Rattle.dpj_meaning.specs.Values.{Int};
+ghost use Rattle.dpj_typed.specs.declared.expr.UnaryOp.TheVariants.{Negate, Not};
+ghost use Rattle.dpj_code.specs.Machine.{pushes, one, two, next, operates, in_part, returned, left_with, Goes, Turns, On};
+ghost use Rattle.dpj_code.specs.Plain.{PlainCode};
+ghost use Rattle.dpj_legs.specs.Names.{names_of, plain_value};
+ghost use Rattle.dpj_legs.specs.Steps.{Comes, Local, HasNext};
+ghost use Rattle.dpj_legs.specs.Tasks.{plain_level};
+
+use crate::action::Ending;
+use crate::operations::{inverted, negated, operated};
+use crate::parts::{part_place, take_part};
+use crate::stack::Stack;
+use crate::step::Step;
+use crate::task::Level;
+use crate::values::{number, set_slot, slot, truth};
+use dpj_base::{NoMemory, Place, Trap, Value};
+use dpj_typed::BinaryOp;
+
+impl Level {
+    /// Puts a value on the stack.
+    pub fn push(&mut self, value: Value) -> Result<Step, NoMemory>
+        requires { HasNext self.old }
+        ensures ok { IfOk result (λ s. Local (pushes (plain_value value) (plain_level self.old)) self.old s self.new) }
+        ensures err { OnErr result (self.new ≡ self.old) }
+    {
+        if self.stack.push(value).is_err() {
+            return Err(NoMemory);
+        }
+        self.at += 1;
+        Ok(Step::Goes)
+    }
+
+    /// Puts the value of a slot on the stack.
+    pub fn load(&mut self, at: usize) -> Result<Step, NoMemory>
+        requires { HasNext self.old }
+        ensures ok { IfOk result (λ s. Local (pushes (slot_value (map plain_value self.old.frame.values) at) (plain_level self.old)) self.old s self.new) }
+        ensures err { OnErr result (self.new ≡ self.old) }
+    {
+        let value = slot(&self.frame.values, at);
+        self.push(value)
+    }
+
+    /// Takes a value into a slot.
+    pub fn store(&mut self, slot: usize) -> Step
+        requires { HasNext self.old }
+        ensures { Local (λ fs. one (plain_level self.old).stack (λ v st. Goes (On (record (plain_level self.old) { at = suc self.old.at; frame = with_value (plain_level self.old).frame slot v; stack = st }) fs))) self.old result self.new }
+    {
+        let Some(value) = self.stack.pop() else {
+            return Step::Stuck;
+        };
+        set_slot(&mut self.frame.values, slot, value);
+        self.at += 1;
+        Step::Goes
+    }
+
+    /// An operation on the two values on top.
+    pub fn operate(&mut self, place: Place, op: BinaryOp) -> Step
+        requires { HasNext self.old }
+        ensures { Local (operates (names_of 0) place op (plain_level self.old)) self.old result self.new }
+    {
+        let Some(right) = self.stack.pop() else {
+            return Step::Stuck;
+        };
+        let Some(left) = self.stack.top() else {
+            return Step::Stuck;
+        };
+        let Some(value) = operated(op, left, right) else {
+            return Step::Ends(Ending::Trapped(Trap::Divide, place));
+        };
+        self.stack.set_top(value);
+        self.at += 1;
+        Step::Goes
+    }
+
+    /// Takes a value off.
+    pub fn discard(&mut self) -> Step
+        requires { HasNext self.old }
+        ensures { Local (λ fs. one (plain_level self.old).stack (λ v st. Goes (next (plain_level self.old) st fs))) self.old result self.new }
+    {
+        if self.stack.pop().is_none() {
+            return Step::Stuck;
+        }
+        self.at += 1;
+        Step::Goes
+    }
+
+    /// The number on top with its sign turned.
+    pub fn negate(&mut self) -> Step
+        requires { HasNext self.old }
+        ensures { Local (λ fs. one (plain_level self.old).stack (λ v st. Goes (next (plain_level self.old) (unary Negate v ∷ st) fs))) self.old result self.new }
+    {
+        let Some(value) = self.stack.top() else {
+            return Step::Stuck;
+        };
+        self.stack.set_top(negated(value));
+        self.at += 1;
+        Step::Goes
+    }
+
+    /// The other truth on top.
+    pub fn invert(&mut self) -> Step
+        requires { HasNext self.old }
+        ensures { Local (λ fs. one (plain_level self.old).stack (λ v st. Goes (next (plain_level self.old) (unary Not v ∷ st) fs))) self.old result self.new }
+    {
+        let Some(value) = self.stack.top() else {
+            return Step::Stuck;
+        };
+        self.stack.set_top(inverted(value));
+        self.at += 1;
+        Step::Goes
+    }
+
+    /// To another position.
+    pub fn jump(&mut self, at: usize) -> Step
+        ensures { Local (λ fs. Goes (On (record (plain_level self.old) { at = at }) fs)) self.old result self.new }
+    {
+        self.at = at;
+        Step::Goes
+    }
+
+    /// To another position, where the value on top is false.
+    pub fn jump_unless(&mut self, at: usize) -> Step
+        requires { HasNext self.old }
+        ensures { Local (λ fs. one (plain_level self.old).stack (λ v st. Goes (On (record (plain_level self.old) { at = cond (truth v) (suc self.old.at) at; stack = st }) fs))) self.old result self.new }
+    {
+        let Some(value) = self.stack.pop() else {
+            return Step::Stuck;
+        };
+        if truth(value) {
+            self.at += 1;
+        } else {
+            self.at = at;
+        }
+        Step::Goes
+    }
+
+    /// Takes the part of an array that the branch has.
+    pub fn take_part(&mut self, part: usize) -> Step
+        requires { HasNext self.old }
+        ensures { Local (λ fs. Goes (On (record (plain_level self.old) { at = suc self.old.at; frame = with_values (plain_level self.old).frame (part_taken part (plain_level self.old).frame.values) }) fs)) self.old result self.new }
+    {
+        take_part(&mut self.frame.values, part);
+        self.at += 1;
+        Step::Goes
+    }
+
+    /// The index on top becomes the array of a part and the place in it.
+    pub fn in_part(&mut self, place: Place, part: usize) -> Result<Step, NoMemory>
+        requires { HasNext self.old }
+        ensures ok { IfOk result (λ s. Local (λ fs. one (plain_level self.old).stack (λ v st. in_part place part v (plain_level self.old) (λ p a. Goes (next (plain_level self.old) (Int p ∷ a ∷ st) fs)))) self.old s self.new) }
+        ensures err { OnErr result (self.new ≡ self.old) }
+    {
+        let Some(index) = self.stack.top() else {
+            return Ok(Step::Stuck);
+        };
+        let Some(at) = part_place(&self.frame.values, part, number(index)) else {
+            return Ok(Step::Ends(Ending::Trapped(Trap::Index, place)));
+        };
+        let array = slot(&self.frame.values, part);
+        if self.stack.push(Value::Int(at)).is_err() {
+            return Err(NoMemory);
+        }
+        self.stack.set(1, array);
+        self.at += 1;
+        Ok(Step::Goes)
+    }
+
+    /// The same with the index below the top; the value on top stays there.
+    pub fn in_parts(&mut self, place: Place, part: usize) -> Result<Step, NoMemory>
+        requires { HasNext self.old }
+        ensures ok { IfOk result (λ s. Local (λ fs. two (plain_level self.old).stack (λ v u st. in_part place part v (plain_level self.old) (λ p a. Goes (next (plain_level self.old) (u ∷ Int p ∷ a ∷ st) fs)))) self.old s self.new) }
+        ensures err { OnErr result (self.new ≡ self.old) }
+    {
+        let Some((index, above)) = self.stack.top_two() else {
+            return Ok(Step::Stuck);
+        };
+        let Some(at) = part_place(&self.frame.values, part, number(index)) else {
+            return Ok(Step::Ends(Ending::Trapped(Trap::Index, place)));
+        };
+        let array = slot(&self.frame.values, part);
+        if self.stack.push(above).is_err() {
+            return Err(NoMemory);
+        }
+        self.stack.set(1, Value::Int(at));
+        self.stack.set(2, array);
+        self.at += 1;
+        Ok(Step::Goes)
+    }
+
+    /// A turn of a loop.
+    pub fn turn(&mut self) -> Step
+        requires { HasNext self.old }
+        ensures { Local (λ fs. Turns (next (plain_level self.old) (plain_level self.old).stack fs)) self.old result self.new }
+    {
+        self.at += 1;
+        Step::Turns
+    }
+}
+
+/// Back to the caller with a value; the first body ends the task with it.
+pub fn return_value(level: &mut Level, callers: &mut Stack<Level>) -> Result<Step, NoMemory>
+    ensures ok { IfOk result (λ s. (C : PlainCode) → Comes C (one (plain_level level.old).stack (λ v st. Goes (returned v (map plain_level callers.old)))) level.old callers.old s level.new callers.new) }
+    ensures err { OnErr result ((level.new ≡ level.old) × (callers.new ≡ callers.old)) }
+{
+    let Some(value) = level.stack.top() else {
+        return Ok(Step::Stuck);
+    };
+    if callers.len() == 0 {
+        return Ok(Step::Ends(Ending::Returned(value)));
+    }
+    callers.swap_top(level);
+    if level.stack.push(value).is_err() {
+        callers.swap_top(level);
+        return Err(NoMemory);
+    }
+    callers.drop_top(1);
+    Ok(Step::Goes)
+}
+
+/// Back to the caller without a value.
+pub fn leave(level: &mut Level, callers: &mut Stack<Level>) -> Step
+    ensures { (C : PlainCode) → Comes C (Goes (left_with none (map plain_level callers.old))) level.old callers.old result level.new callers.new }
+{
+    let Some(caller) = callers.pop() else {
+        return Step::Ends(Ending::Returned(Value::Null));
+    };
+    *level = caller;
+    Step::Goes
+}

@@ -1,0 +1,144 @@
+ghost use Rattle.std.specs.Prelude.{◌≡◌, ◌<◌, ◌^◌, ◌∷◌, ◌==◌, ℕ, map, pos, Some, IfOk, OnErr};
+ghost use Rattle.std.specs.List.{list_any};
+ghost use Rattle.dpj_base.specs.declared.place.Place.{Place};
+ghost use Rattle.dpj_typed.specs.declared.stmt.Forking.{Forking};
+ghost use Rattle.dpj_meaning.specs.Actions as meaning;
+ghost use Rattle.dpj_meaning.specs.Counts.{number, copied, how_many, brought};
+ghost use Rattle.dpj_meaning.specs.Values.{Int};
+ghost use Rattle.dpj_code.specs.Machine.{one, two, next, all_copied, joined, joins_fork, joins_spread, spread};
+ghost use Rattle.dpj_code.specs.Plain.{spread_site};
+ghost use Rattle.dpj_legs.specs.Answers.{IsIn, Leads, below_top};
+ghost use Rattle.dpj_legs.specs.Names.{plain_value};
+ghost use Rattle.dpj_legs.specs.Steps.{HasNext};
+ghost use Rattle.dpj_legs.specs.Tasks.{plain_level, plain_answer, plain_slot};
+
+use crate::action::{Answer, SlotValue};
+use crate::answers::trapped;
+use crate::task::{Level, Standing};
+use crate::values::{counted, number, set_slot};
+use dpj_base::{Items, NoMemory, Value};
+use dpj_code::BranchCopies;
+
+/// Whether a join copies a slot back.
+fn is_copied(copies: &[BranchCopies], slot: u32) -> bool
+    ensures { result ≡ list_any (λ y. slot == y) (all_copied (map (λ c. c.slots) copies.now)) }
+{
+    for copied in copies {
+        if is_among(copied.slots.as_slice(), slot) {
+            return true;
+        }
+    }
+    false
+}
+
+fn is_among(slots: &[u32], slot: u32) -> bool
+    ensures { result ≡ list_any (λ y. slot == y) slots.now }
+{
+    for other in slots {
+        if slot == *other {
+            return true;
+        }
+    }
+    false
+}
+
+/// Copies the slots back that a join does copy back.
+fn copy_back(values: &mut Items<Value>, copies: &[BranchCopies], slots: &[SlotValue])
+    ensures { map plain_value values.new ≡ copied (all_copied (map (λ c. c.slots) copies.now)) (map plain_slot slots.now) (map plain_value values.old) }
+{
+    for copied in slots {
+        if is_copied(copies, copied.slot) {
+            set_slot(values, copied.slot as usize, copied.value);
+        }
+    }
+}
+
+impl Level {
+    /// After the join of all branches, with so many values less.
+    pub fn after_joining(
+        &mut self,
+        taken: usize,
+        copies: &[BranchCopies],
+        answer: &Answer,
+    ) -> Standing
+        requires { HasNext self.old }
+        ensures { IsIn (joined (all_copied (map (λ c. c.slots) copies.now)) (brought (plain_answer answer.now)) (record (plain_level self.old) { stack = below_top taken (plain_level self.old) })) result self.new }
+    {
+        match answer {
+            Answer::Fell(trap, place) => return trapped(*trap, *place),
+            Answer::Joined(slots) => copy_back(&mut self.frame.values, copies, slots.as_slice()),
+            _ => (),
+        }
+        self.pass(taken);
+        Standing::At
+    }
+
+    /// After the begin of a branch, or the join of all, of a fork.
+    pub fn after_join_fork(
+        &mut self,
+        total: usize,
+        copies: &[BranchCopies],
+        answer: &Answer,
+    ) -> Standing
+        requires { HasNext self.old }
+        ensures { Leads (λ fs. one (plain_level self.old).stack (λ left st. joins_fork total (all_copied (map (λ c. c.slots) copies.now)) (how_many (number left)) (plain_level self.old) st fs)) (plain_answer answer.now) result self.new }
+    {
+        let Some(left) = self.stack.top() else {
+            return Standing::Nowhere;
+        };
+        let left = counted(number(left));
+        if left == 0 {
+            return self.after_joining(1, copies, answer);
+        }
+        self.stack.set_top(Value::Int(left - 1));
+        Standing::At
+    }
+
+    /// After the begin of a branch, or the join of all, of a spread.
+    pub fn after_join_spread(&mut self, answer: &Answer) -> Standing
+        requires { HasNext self.old }
+        ensures { Leads (λ fs. one (plain_level self.old).stack (λ left more. two more (λ total next st. joins_spread next (how_many (number total)) (how_many (number left)) (plain_level self.old) st fs))) (plain_answer answer.now) result self.new }
+    {
+        let Some((total, next, left)) = self.stack.top_three() else {
+            return Standing::Nowhere;
+        };
+        let left = counted(number(left));
+        if left == 0 {
+            return self.after_joining(3, &[], answer);
+        }
+        self.stack.set(0, Value::Int(left - 1));
+        self.stack.set(1, Value::Int(number(next).wrapping_add(1)));
+        self.stack.set(2, Value::Int(counted(number(total))));
+        Standing::At
+    }
+
+    /// After a fork of so many branches.
+    pub fn after_fork(&mut self, branches: usize) -> Result<Standing, NoMemory>
+        requires next { HasNext self.old }
+        requires few { branches < 2 ^ 31 }
+        ensures ok { IfOk result (λ s. IsIn (next (plain_level self.old) (Int (pos branches) ∷ (plain_level self.old).stack)) s self.new) }
+        ensures err { OnErr result (self.new ≡ self.old) }
+    {
+        self.pass_with(0, Value::Int(branches as i32))?;
+        Ok(Standing::At)
+    }
+
+    /// After the fork of a branch for each number.
+    pub fn after_spread(&mut self) -> Result<Standing, NoMemory>
+        requires { HasNext self.old }
+        ensures ok { IfOk result (λ s. (place : Place) (forking : Forking) (j x : ℕ) (a : meaning.Answer ℕ (ℕ × ℕ)) → Leads (spread place (Some (spread_site forking j x)) (plain_level self.old)) a s self.new) }
+        ensures err { OnErr result (self.new ≡ self.old) }
+    {
+        let Some((start, count)) = self.stack.top_two() else {
+            return Ok(Standing::Nowhere);
+        };
+        let count = counted(number(count));
+        if self.stack.push(Value::Int(count)).is_err() {
+            return Err(NoMemory);
+        }
+        self.stack.set(1, Value::Int(number(start)));
+        self.stack.set(2, Value::Int(count));
+        self.at += 1;
+        Ok(Standing::At)
+    }
+}
