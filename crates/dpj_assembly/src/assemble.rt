@@ -1,0 +1,59 @@
+ghost use Rattle.std.specs.Prelude.{◌≡◌, map, IfOk};
+ghost use Rattle.dpj_headers.specs.Headers.{regions_of};
+ghost use Rattle.dpj_typed.specs.Plain.{plain_program};
+ghost use Rattle.dpj_assembly.specs.Assembled.{plain_body, program_of};
+
+use crate::body::MemberBody;
+use crate::classes::classes;
+use crate::members::members;
+use crate::texts::text;
+use dpj_base::{Bytes, Items, NoMemory};
+use dpj_classes::{Table, main_class, main_method};
+use dpj_headers::RegionRow;
+use dpj_typed::{ClassId, MemberId, Program, RegionName};
+use std::alloc::Global;
+
+/// The typed program of a class table, whose members have these bodies. `names` are the names of the text.
+pub fn program(
+    alloc: Global,
+    names: &[Bytes],
+    table: &Table,
+    uses_nd: bool,
+    bodies: Items<MemberBody>,
+) -> Result<Program, NoMemory>
+    ensures { IfOk result (λ made. plain_program made ≡ program_of table.now names.now uses_nd (map plain_body bodies)) }
+{
+    let main_class = main_class(table).unwrap_or(0);
+    let main_member = main_method(table, names).unwrap_or(0);
+    Ok(Program {
+        classes: classes(alloc, names, table)?,
+        members: members(alloc, names, table.methods(), bodies)?,
+        region_names: region_names(alloc, names, table.headers().region_rows())?,
+        main_class: ClassId { number: main_class },
+        main_member: MemberId {
+            number: main_member,
+        },
+        uses_nd,
+    })
+}
+
+fn region_names(
+    alloc: Global,
+    names: &[Bytes],
+    rows: &[RegionRow],
+) -> Result<Items<RegionName>, NoMemory>
+    ensures { IfOk result (λ made. map (λ name. name.atomic) made ≡ map (λ row. row.is_atomic) rows.now) }
+{
+    let mut made = Items::new(alloc);
+    for row in rows {
+        let class = ClassId { number: row.owner };
+        let text = text(alloc, names, row.name)?;
+        let atomic = row.is_atomic;
+        made.push(RegionName {
+            class,
+            text,
+            atomic,
+        })?;
+    }
+    Ok(made)
+}

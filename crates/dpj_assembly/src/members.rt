@@ -1,0 +1,54 @@
+ghost use Rattle.std.specs.Prelude.{◌≡◌, map, IfOk};
+ghost use Rattle.dpj_typed.specs.Plain.{plain_member};
+ghost use Rattle.dpj_assembly.specs.Assembled.{PlainBody, plain_body, member_of, members_of};
+
+use crate::body::MemberBody;
+use crate::texts::{copies, params, text};
+use dpj_base::{Bytes, Items, NoMemory, Plain};
+use dpj_classes::MethodRow;
+use dpj_typed::{ClassId, Member};
+use std::alloc::Global;
+
+/// All members, each with the body at its position.
+pub fn members(
+    alloc: Global,
+    names: &[Bytes],
+    rows: &[MethodRow],
+    bodies: Items<MemberBody>,
+) -> Result<Items<Member>, NoMemory>
+    ensures { IfOk result (λ made. map plain_member made ≡ members_of rows.now (map plain_body bodies)) }
+{
+    let mut made = Items::new(alloc);
+    let mut left = rows;
+    for body in bodies.into_vec() {
+        let Some((row, rest)) = left.split_first() else {
+            return Ok(made);
+        };
+        made.push(member(alloc, names, row, body)?)?;
+        left = rest;
+    }
+    Ok(made)
+}
+
+/// A member of this signature, with its body.
+fn member(
+    alloc: Global,
+    names: &[Bytes],
+    row: &MethodRow,
+    body: MemberBody,
+) -> Result<Member, NoMemory>
+    ensures { IfOk result (λ made. plain_member made ≡ member_of row.now (plain_body body)) }
+{
+    Ok(Member {
+        class: ClassId { number: row.owner },
+        name: text(alloc, names, row.name)?,
+        params: params(alloc, names, row.regions.as_slice())?,
+        given: row.given.copy(alloc)?,
+        formals: row.params.copy(alloc)?,
+        result: row.result.copy(alloc)?,
+        summary: copies(alloc, row.summary.as_slice())?,
+        slots: body.slots,
+        local_regions: body.local_regions,
+        body: body.stmts,
+    })
+}
