@@ -1,2 +1,3 @@
 pub mod Verdicts
 pub mod Told
+pub mod Judgements

@@ -32,3 +32,8 @@ pub record IsAccepted (program : Program) : Type 0 where
 pub data IsFaulty (program : Program) (refusal : Refusal) : Type 0 where
   of_table : IsTold program refusal → IsFaulty program refusal
   of_bodies : (table : Table) → HasTable program table → BodiesChecking program table (rejected refusal) → IsFaulty program refusal
+
+-- a program has one verdict at most: it is accepted, or it has one fault
+pub record OneJudgement : Type 0 where
+  pub one_fault : (program : Program) (first second : Refusal) → IsFaulty program first → IsFaulty program second → first ≡ second
+  pub not_both : (program : Program) (refusal : Refusal) → IsAccepted program → IsFaulty program refusal → ⊥

@@ -1,6 +1,9 @@
 //! What the definitions of the answer say of themselves.
 ghost use Rattle.dpj_top.specs.Answer.{OneAnswer};
+ghost use Rattle.dpj_top.specs.Judging.{OneJudgement};
 
+use dpj_check::one_checking;
+use dpj_classes::{one_fault, one_table};
 use dpj_first::one_reading;
 use dpj_tokens::one_cutting;
 
@@ -11,4 +14,13 @@ pub fn one_answer()
 {
     one_reading();
     one_cutting();
+}
+
+/// A program is accepted, or it has one fault, and not both.
+pub fn one_judgement()
+    ensures { OneJudgement }
+{
+    one_table();
+    one_fault();
+    one_checking();
 }

@@ -12,4 +12,4 @@ mod laws;
 
 pub use answers::{MAX_TEXT, answer};
 pub use call::{Ended, dpj};
-pub use laws::one_answer;
+pub use laws::{one_answer, one_judgement};
