@@ -11,7 +11,7 @@ pub struct Code {
     pub sites: Items<Site>,
     pub texts: Items<Bytes>,
     pub main_class: u32,
-    pub main_body: u32,
+    pub main_body: usize,
 }
 
 /// A class at run time.
@@ -23,7 +23,7 @@ pub struct ClassCode {
     /// The first values of all fields.
     pub fields: Items<Value>,
     /// The body of its constructor.
-    pub constructor: Option<u32>,
+    pub constructor: Option<usize>,
     pub methods: Items<MethodCode>,
 }
 
@@ -31,7 +31,7 @@ pub struct ClassCode {
 #[derive(Clone, Copy, Debug, PartialEq, Eq)]
 pub struct MethodCode {
     pub owner: u32,
-    pub body: u32,
+    pub body: usize,
 }
 
 /// A body.
@@ -41,12 +41,8 @@ pub struct Body {
     pub instrs: Items<Instr>,
     /// The place at which the trap of each instruction is reported.
     pub places: Items<Place>,
-    /// A rank for each instruction, which falls along every step that isn't out of a `Turn`: so that a task comes to a
-    /// shared action or a turn.
-    pub ranks: Items<u32>,
+    /// How many slots its frames have.
     pub slots: u32,
-    /// The greatest height of its stack.
-    pub depth: u32,
     /// How many local regions it declares.
     pub locals: u32,
 }
@@ -56,7 +52,7 @@ pub struct Body {
 pub enum Title {
     Member(Bytes),
     /// A branch, by its site and its number there.
-    Branch(u32, u32),
+    Branch(usize, usize),
 }
 
 /// The slots that the join copies back from a branch.
@@ -71,14 +67,14 @@ pub enum Site {
     /// Branches: their bodies, and what is copied back from each.
     Fork {
         forking: Forking,
-        bodies: Items<u32>,
+        bodies: Items<usize>,
         copies: Items<BranchCopies>,
     },
     /// A branch for each number: its body, and the slot of the number.
     Spread {
         forking: Forking,
-        body: u32,
-        slot: u32,
+        body: usize,
+        slot: usize,
     },
     /// The effects with which an atomic block is entered.
     Block {
@@ -88,13 +84,13 @@ pub enum Site {
     Call {
         class: u32,
         row: u32,
-        formals: u32,
+        formals: usize,
         regions: Items<Rpl>,
     },
     /// The creation of an object, with so many actuals and with region arguments.
     New {
         class: u32,
-        formals: u32,
+        formals: usize,
         regions: Items<Rpl>,
     },
     /// The creation of an array: the region of its elements, and the first value of each.

@@ -5,8 +5,8 @@ pub enum Instr {
     Bool(bool),
     Null,
     /// The value of a slot, and a value into a slot.
-    Load(u32),
-    Store(u32),
+    Load(usize),
+    Store(usize),
     Pop,
     Neg,
     Not,
@@ -22,8 +22,8 @@ pub enum Instr {
     Gt,
     Ge,
     /// To another position of the body; and there where the value is false.
-    Jump(u32),
-    Unless(u32),
+    Jump(usize),
+    Unless(usize),
     /// One turn of a while loop.
     Turn,
     /// A field, by its slot in the object; and a value into one.
@@ -35,29 +35,29 @@ pub enum Instr {
     /// The length of an array.
     Length,
     /// A call, a creation of an object, and one of an array, by their sites.
-    Call(u32),
-    New(u32),
-    Array(u32),
+    Call(usize),
+    New(usize),
+    Array(usize),
     /// The end of a body with a result, and of one without.
     Return,
     Leave,
     /// A printed value, and a printed text.
     Print,
-    Text(u32),
+    Text(usize),
     /// Branches, by their site; after either a `Join` stands, which begins them and then joins them.
-    Fork(u32),
-    Spread(u32),
+    Fork(usize),
+    Spread(usize),
     Join,
     /// An atomic block, by its site, and its end.
-    Enter(u32),
+    Enter(usize),
     Exit,
     /// The end of a branch.
     End,
     /// A new local region, by its declaration.
     Region(u32),
     /// The part of an array that a branch has, by the part's first slot.
-    Part(u32),
+    Part(usize),
     /// An index of a part becomes the array and the place in it; the second keeps the value above the index.
-    InPart(u32),
-    InParts(u32),
+    InPart(usize),
+    InParts(usize),
 }

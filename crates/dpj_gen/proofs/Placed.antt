@@ -17,7 +17,7 @@ use Rattle.dpj_gen.proofs.Pieces.{Holds, all_of, BranchStands, Far, far, next, s
 
 -- how far the code of each construct reaches
 mutual
-  expr_far : (k : Next) (p : ℕ) (e : TypedExpr) → Far p (expr_piece k p e) (after_expr p e)
+  pub expr_far : (k : Next) (p : ℕ) (e : TypedExpr) → Far p (expr_piece k p e) (after_expr p e)
   expr_far k p (typed at t (expr.int n)) = next _ _ stop
   expr_far k p (typed at t (expr.boolean b)) = next _ _ stop
   expr_far k p (typed at t expr.null) = next _ _ stop
@@ -35,15 +35,15 @@ mutual
   expr_far k p (typed at t (expr.part_length x)) = next _ _ stop
   expr_far k p (typed at t (expr.part_element x j)) = far (expr_far k p j) (next _ _ (next _ _ stop))
 
-  exprs_far : (k : Next) (p : ℕ) (es : TypedExprs) → Far p (exprs_piece k p es) (after_exprs p es)
+  pub exprs_far : (k : Next) (p : ℕ) (es : TypedExprs) → Far p (exprs_piece k p es) (after_exprs p es)
   exprs_far k p no_exprs = stop
   exprs_far k p (more_exprs e es) = far (expr_far k p e) (exprs_far _ _ es)
 
-popped_far : (z : Bool) (at : Place) (p : ℕ) → Far p (cond z nothing (line i.Pop at nothing)) (cond z p (suc p))
+pub popped_far : (z : Bool) (at : Place) (p : ℕ) → Far p (cond z nothing (line i.Pop at nothing)) (cond z p (suc p))
 popped_far true at p = stop
 popped_far false at p = next _ _ stop
 
-regions_far : (p : ℕ) (at : Place) (rs : List ℕ) → Far p (regions_piece at rs) (after_regions p rs)
+pub regions_far : (p : ℕ) (at : Place) (rs : List ℕ) → Far p (regions_piece at rs) (after_regions p rs)
 regions_far p at [] = stop
 regions_far p at (r ∷ rs) = next _ _ (regions_far (suc p) at rs)
 
