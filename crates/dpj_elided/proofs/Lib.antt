@@ -1,0 +1,3 @@
+mod Worlds
+mod Counts
+mod Meaning
