@@ -1,3 +1,5 @@
 mod Worlds
 mod Counts
 mod Meaning
+mod Working
+mod Memory
