@@ -5,12 +5,14 @@ use Rattle.std.proofs.Common.{append-nil, append_assoc}
 use Rattle.dpj_base.specs.declared.place.Place.{Place}
 use Rattle.dpj_base.specs.declared.value.Trap.{Trap}
 use Rattle.dpj_typed.specs.declared.stmt.Forking.{Forking}
+use Rattle.dpj_typed.specs.Plain.{PlainProgram}
 use Rattle.dpj_meaning.specs.Values.{Value, Int, Boolean, Null, Object, Region, Thing, An_object, An_array}
 use Rattle.dpj_meaning.specs.Actions.{Frame, Task, Ending, Returned, Assigned, Trapped, Own, Rest, Read, Write, Look, New, Print, Enter, Exit, Effect}
 use Rattle.dpj_meaning.specs.Actions.{Answer, Went, Got, Out, Class, Length, Named, Joined, Fell}
 use Rattle.dpj_meaning.specs.Core.{Result, Goes_on, Returns, Prog, Ret, Traps, Act, Makes, Again, Split}
 use Rattle.dpj_meaning.specs.Counts.{Brought, Back, Trap_of_branch}
-use Rattle.dpj_meaning.specs.Elision.{LocalRegion as Counted}
+use Rattle.dpj_meaning.specs.Asking.{does}
+use Rattle.dpj_meaning.specs.Elision.{LocalRegion as Counted, in_order}
 use Rattle.dpj_runs.specs.Objects.{Name, LocalRegion}
 
 -- the names of the objects that were made, in order
@@ -155,24 +157,25 @@ pub result_distinct : {c : ℕ} {ns : Names} {r : Result ℕ Counted} {s : Resul
 result_distinct (goes_on_like v f) = f.distinct
 result_distinct (returns_like d v) = d
 
--- what two tasks do is like: the same actions, and then the same whatever more objects there are
-pub data Alike : ℕ → Names → Prog ℕ Counted → Prog Name LocalRegion → Type 0 where
-  alike_ret : {c : ℕ} {ns : Names} {r : Result ℕ Counted} {s : Result Name LocalRegion} → ResultLike c ns r s → Alike c ns (Ret r) (Ret s)
-  alike_traps : {c : ℕ} {ns : Names} (trap : Trap) (p : Place) → Alike c ns (Traps trap p) (Traps trap p)
+-- what two tasks do is like: the same actions, and then the same whatever more objects there are; and each branch of the elision
+-- does what its task is to do
+pub data Alike (P : PlainProgram) : ℕ → Names → Prog ℕ Counted → Prog Name LocalRegion → Type 0 where
+  alike_ret : {c : ℕ} {ns : Names} {r : Result ℕ Counted} {s : Result Name LocalRegion} → ResultLike c ns r s → Alike P c ns (Ret r) (Ret s)
+  alike_traps : {c : ℕ} {ns : Names} (trap : Trap) (p : Place) → Alike P c ns (Traps trap p) (Traps trap p)
   alike_act : {c : ℕ} {ns : Names} {o : Own ℕ Counted} {q : Own Name LocalRegion} {k : Answer ℕ Counted → Prog ℕ Counted}
       {j : Answer Name LocalRegion → Prog Name LocalRegion} → OwnLike ns o q
-      → ((ms : Names) (x : Answer ℕ Counted) (y : Answer Name LocalRegion) → Later ns ms → AnswerLike ms x y → Alike c ms (k x) (j y))
-      → Alike c ns (Act o k) (Act q j)
+      → ((ms : Names) (x : Answer ℕ Counted) (y : Answer Name LocalRegion) → Later ns ms → AnswerLike ms x y → Alike P c ms (k x) (j y))
+      → Alike P c ns (Act o k) (Act q j)
   alike_makes : {c : ℕ} {ns : Names} {k : Counted → Prog ℕ Counted} {j : LocalRegion → Prog Name LocalRegion}
-      → ((m : Counted) (l : LocalRegion) → Alike c ns (k m) (j l)) → Alike c ns (Makes k) (Makes j)
+      → ((m : Counted) (l : LocalRegion) → Alike P c ns (k m) (j l)) → Alike P c ns (Makes k) (Makes j)
   alike_again : {c : ℕ} {ns : Names} (d : ℕ) {t b : Frame ℕ Counted → Prog ℕ Counted} {s a : Frame Name LocalRegion → Prog Name LocalRegion}
       {f : Frame ℕ Counted} {g : Frame Name LocalRegion} {k : Result ℕ Counted → Prog ℕ Counted} {j : Result Name LocalRegion → Prog Name LocalRegion}
-      → ((ms : Names) (x : Frame ℕ Counted) (y : Frame Name LocalRegion) → Later ns ms → FrameLike d ms x y → Alike d ms (t x) (s y))
-      → ((ms : Names) (x : Frame ℕ Counted) (y : Frame Name LocalRegion) → Later ns ms → FrameLike d ms x y → Alike d ms (b x) (a y))
+      → ((ms : Names) (x : Frame ℕ Counted) (y : Frame Name LocalRegion) → Later ns ms → FrameLike d ms x y → Alike P d ms (t x) (s y))
+      → ((ms : Names) (x : Frame ℕ Counted) (y : Frame Name LocalRegion) → Later ns ms → FrameLike d ms x y → Alike P d ms (b x) (a y))
       → FrameLike d ns f g
-      → ((ms : Names) (x : Result ℕ Counted) (y : Result Name LocalRegion) → Later ns ms → ResultLike d ms x y → Alike c ms (k x) (j y))
-      → Alike c ns (Again t b f k) (Again s a g j)
+      → ((ms : Names) (x : Result ℕ Counted) (y : Result Name LocalRegion) → Later ns ms → ResultLike d ms x y → Alike P c ms (k x) (j y))
+      → Alike P c ns (Again t b f k) (Again s a g j)
   alike_split : {c : ℕ} {ns : Names} (forking : Forking) {ts : List (Task ℕ Counted)} {ss : List (Task Name LocalRegion)} {bs : ℕ → Prog ℕ Counted}
       {as' : ℕ → Prog Name LocalRegion} {k : Brought ℕ → Prog ℕ Counted} {j : Brought Name → Prog Name LocalRegion} → TasksLike ns ts ss
-      → ((ms : Names) (x : Brought ℕ) (y : Brought Name) → Later ns ms → BroughtLike ms x y → Alike c ms (k x) (j y))
-      → Alike c ns (Split forking ts bs k) (Split forking ss as' j)
+      → ((i : ℕ) (t : Task ℕ Counted) → slice_get ts i ≡ Some t → bs i ≡ does in_order P t) → ((ms : Names) (x : Brought ℕ) (y : Brought Name) → Later ns ms → BroughtLike ms x y → Alike P c ms (k x) (j y))
+      → Alike P c ns (Split forking ts bs k) (Split forking ss as' j)
