@@ -4,7 +4,9 @@ use Rattle.std.proofs.Common.{refl, sym, ap, ap₂, ◌∙◌, subst, arith, Opt
 use Rattle.std.proofs.lemmas.List.{length-map, reverse-append}
 use Rattle.std.specs.Prelude.{int_lt, slice_set, slice_index_or}
 use Rattle.std.specs.Int.{w32, int_wrapping_add, int_wrapping_sub, int_wrapping_mul, int_wrapping_neg, int_wrapping_div}
-use Rattle.std.specs.Prelude.{int_rem, nat_lt, ◌+ℤ◌}
+use Rattle.std.specs.Prelude.{int_rem, nat_lt, ◌+ℤ◌, if◌then◌else◌}
+use Rattle.dpj_base.specs.declared.place.Place.{Place}
+use Rattle.dpj_base.specs.declared.value.Trap.{Trap}
 use Rattle.std.specs.Ordering.{int_eq}
 use Rattle.std.specs.List.{list_any}
 use Rattle.std.proofs.lemmas.Bool.{and_from, false_from_ne_true}
@@ -18,10 +20,14 @@ use Rattle.dpj_typed.specs.declared.expr.UnaryOp.{UnaryOp}
 use Rattle.dpj_typed.specs.declared.expr.UnaryOp.TheVariants.{Negate, Not}
 use Rattle.dpj_typed.specs.Plain.{PlainParent}
 use Rattle.dpj_meaning.specs.Values.{Value, Int, Boolean, Null, Object, Region, Naming}
-use Rattle.dpj_meaning.specs.Actions.{Frame, Answer, Went, Got, Out, Class, Length, Named}
+use Rattle.dpj_meaning.specs.Actions.{Frame, Answer, Went, Got, Out, Class, Length, Named, Ending, Returned, Assigned, Work}
+use Rattle.dpj_meaning.specs.Asking.{ended}
+use Rattle.dpj_meaning.specs.Core.{Result}
+use Rattle.dpj_meaning.specs.Expressions.{none}
+use Rattle.dpj_meaning.specs.Outcomes.{trap_of, first_trap, locals_of, all_locals, joined, joined_or}
 use Rattle.dpj_meaning.specs.Counts.{number, truth, reference, value_read, is_out, length_seen, name_made, class_seen, class_entered, is_below, operated, divided}
 use Rattle.dpj_meaning.specs.Counts.{unary, same_value, slot_value, padded, part_place, part_first, part_length, part_taken, part_begin, is_part, numbered}
-use Rattle.dpj_meaning.specs.Counts.{assigned, copied, copied_one, text_of}
+use Rattle.dpj_meaning.specs.Counts.{assigned, copied, copied_one, text_of, brought}
 use Rattle.dpj_meaning.specs.Elision.{LocalRegion as Counted}
 use Rattle.dpj_meaning.specs.Regions.{Around, head_region, concrete, part_of, is_long, some_long, handed_up, regions_above, most_parts}
 use Rattle.dpj_runs.specs.Objects.{Name, LocalRegion, same_name}
@@ -29,6 +35,8 @@ use Rattle.dpj_runs.proofs.Cells.{same_name_eq}
 use Rattle.dpj_runs.proofs.Mine.{test_same}
 use Rattle.dpj_elided.proofs.Worlds.{Names, Distinct, ValueLike, int_like, boolean_like, null_like, object_like, ValuesLike, no_values, more_values, LocalsLike}
 use Rattle.dpj_elided.proofs.Worlds.{no_locals, more_locals, RegionsLike, no_regions, AnswerLike, went_like, got_like, out_like, class_like, length_like, named_like}
+use Rattle.dpj_elided.proofs.Worlds.{BroughtLike, back_like, trap_like, EndingLike, returned_like, assigned_like, trapped_like, EndingsLike, no_endings}
+use Rattle.dpj_elided.proofs.Worlds.{more_endings, ResultLike, goes_on_like, returns_like}
 
 pub number_like : {ns : Names} {v : Value ℕ} {u : Value Name} → ValueLike ns v u → number v ≡ number u
 number_like (int_like k) = refl
@@ -313,3 +321,51 @@ some_long_is (r ∷ rs) = ap (λ b. is_long r || b) (some_long_is rs)
 
 pub some_long_like : (rs : List (Region Counted)) (qs : List (Region LocalRegion)) → RegionsLike rs qs → some_long rs ≡ some_long qs
 some_long_like rs qs e = some_long_is rs ∙ ap (λ l. list_any (λ n. nat_lt most_parts n) l) e.lengths ∙ sym (some_long_is qs)
+
+-- how branches join
+trap_alike : {ns : Names} {x : Ending ℕ} {y : Ending Name} (o : Option (Trap × Place)) → EndingLike ns x y → trap_of x o ≡ trap_of y o
+trap_alike o (returned_like v) = refl
+trap_alike o (assigned_like v) = refl
+trap_alike o (trapped_like trap p) = refl
+
+first_trap_alike : {ns : Names} {xs : List (Ending ℕ)} {ys : List (Ending Name)} → EndingsLike ns xs ys → first_trap xs ≡ first_trap ys
+first_trap_alike no_endings = refl
+first_trap_alike (more_endings {x} {y} {xs} {ys} h k) = ap (λ o. trap_of x o) (first_trap_alike k) ∙ trap_alike (first_trap ys) h
+
+locals_append : {ns : Names} {ls ks : List (ℕ × Value ℕ)} {ms os : List (ℕ × Value Name)} → LocalsLike ns ls ms → LocalsLike ns ks os
+    → LocalsLike ns (ls ++ ks) (ms ++ os)
+locals_append no_locals k = k
+locals_append (more_locals x a b) k = more_locals x a (locals_append b k)
+
+locals_alike : {ns : Names} {x : Ending ℕ} {y : Ending Name} → EndingLike ns x y → LocalsLike ns (locals_of x) (locals_of y)
+locals_alike (returned_like v) = no_locals
+locals_alike (assigned_like v) = v
+locals_alike (trapped_like trap p) = no_locals
+
+all_locals_alike : {ns : Names} {xs : List (Ending ℕ)} {ys : List (Ending Name)} → EndingsLike ns xs ys → LocalsLike ns (all_locals xs) (all_locals ys)
+all_locals_alike no_endings = no_locals
+all_locals_alike (more_endings h k) = locals_append (locals_alike h) (all_locals_alike k)
+
+pub joined_alike : {ns : Names} {xs : List (Ending ℕ)} {ys : List (Ending Name)} → EndingsLike ns xs ys
+    → BroughtLike ns (brought {M = Counted} (joined xs)) (brought {M = LocalRegion} (joined ys))
+joined_alike {ns} {xs} {ys} h =
+    subst (λ (o : Option (Trap × Place)). BroughtLike ns (brought {M = Counted} (joined xs)) (brought {M = LocalRegion} (joined_or o (all_locals ys)))) (first_trap_alike h)
+    (go (first_trap xs))
+  where
+    go : (o : Option (Trap × Place))
+        → BroughtLike ns (brought {M = Counted} (joined_or o (all_locals xs))) (brought {M = LocalRegion} (joined_or o (all_locals ys)))
+    go None = back_like (all_locals_alike h)
+    go (Some fell) = trap_like fell.0 fell.1
+
+-- how tasks end
+pub ended_alike : {c : ℕ} {ns : Names} {j k : Work} {r : Result ℕ Counted} {s : Result Name LocalRegion} → j ≡ k → ResultLike c ns r s
+    → EndingLike ns (ended j r) (ended k s)
+ended_alike {c} {ns} {j} {k} {r} {s} e h = subst (λ (z : Work). EndingLike ns (ended j r) (ended z s)) e (go h)
+  where
+    go : {r : Result ℕ Counted} {s : Result Name LocalRegion} → ResultLike c ns r s → EndingLike ns (ended j r) (ended j s)
+    go (returns_like d v) = returned_like v
+    go (goes_on_like {f = f} {g = g} v w) = at (j.is_root)
+      where
+        at : (b : Bool) → EndingLike ns (if b then Returned none else Assigned (assigned j.copies f.values)) (if b then Returned none else Assigned (assigned j.copies g.values))
+        at true = returned_like null_like
+        at false = assigned_like (assigned_alike j.copies w.values)

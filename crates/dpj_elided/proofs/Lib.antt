@@ -3,3 +3,4 @@ mod Counts
 mod Meaning
 mod Working
 mod Memory
+mod Turns

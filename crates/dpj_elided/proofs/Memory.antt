@@ -22,7 +22,7 @@ use Rattle.dpj_runs.proofs.Cost.{total_step}
 use Rattle.dpj_runs.proofs.Mine.{mine_same, mine_other, path_cases, test_same}
 use Rattle.dpj_runs.proofs.Things.{thing_later}
 use Rattle.dpj_elided.proofs.Worlds.{Names, Distinct, Later, later_none, name_later, still_there, ValueLike, value_later, ValuesLike, no_values, more_values}
-use Rattle.dpj_elided.proofs.Worlds.{values_later, RegionsLike, ThingLike, an_object_like, an_array_like, OwnLike, rest_like, read_like, write_like, look_like}
+use Rattle.dpj_elided.proofs.Worlds.{thing_later as thing_like_later, RegionsLike, ThingLike, an_object_like, an_array_like, OwnLike, rest_like, read_like, write_like, look_like}
 use Rattle.dpj_elided.proofs.Worlds.{new_like, print_like, enter_like, exit_like, AnswerLike, went_like, got_like, out_like, class_like, length_like, named_like}
 use Rattle.dpj_elided.proofs.Worlds.{EndingLike, returned_like, assigned_like, trapped_like}
 use Rattle.dpj_elided.proofs.Counts.{MaybeLike, none_like, some_like}
@@ -36,10 +36,6 @@ ValueIn = ValueOver ℕ
 maybe_later : {ns ms : Names} {o : Option ValueIn} {r : Option Value} → Later ns ms → MaybeLike ns o r → MaybeLike ms o r
 maybe_later l none_like = none_like
 maybe_later l (some_like h) = some_like (value_later l h)
-
-thing_alike : {ns ms : Names} {t : ThingIn} {s : Thing} → Later ns ms → ThingLike ns t s → ThingLike ms t s
-thing_alike l (an_object_like c r v) = an_object_like c r (values_later l v)
-thing_alike l (an_array_like len v) = an_array_like len (value_later l v)
 
 values_length : {ns : Names} {vs : List ValueIn} {us : List Value} → ValuesLike ns vs us → length vs ≡ length us
 values_length no_values = refl
@@ -129,7 +125,7 @@ module _ (P : Program) where
     is_held = still_there heap more n h.held h.is_held;
     thing = h.thing;
     is_thing = h.is_thing;
-    like = thing_alike l h.like;
+    like = thing_like_later l h.like;
     values = λ k. maybe_later l (h.values k);
   }
 
@@ -421,7 +417,7 @@ module _ (P : Program) {R : Run} {ns : Names} {since : ℕ} {w : Store} (h : Hol
     is_held = ap (λ n. slice_get (w.heap ++ held t ∷ []) n) h.many ∙ last_there w.heap (held t);
     thing = s;
     is_thing = has_one;
-    like = thing_alike now_later (held_thing like);
+    like = thing_like_later now_later (held_thing like);
     values = λ k. maybe_later now_later (subst (λ (r : Option Value). MaybeLike ns (slice_get (held t).values k) r) (firsts (slot_of (pos k) (size s))) (held_like like k));
   }
     where

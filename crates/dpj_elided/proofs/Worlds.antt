@@ -109,6 +109,10 @@ pub data TasksLike (ns : Names) : List (Task ℕ Counted) → List (Task Name Lo
   more_tasks : {t : Task ℕ Counted} {s : Task Name LocalRegion} {ts : List (Task ℕ Counted)} {ss : List (Task Name LocalRegion)} → TaskLike ns t s
       → TasksLike ns ts ss → TasksLike ns (t ∷ ts) (s ∷ ss)
 
+pub tasks_later : {ns ms : Names} {ts : List (Task ℕ Counted)} {ss : List (Task Name LocalRegion)} → Later ns ms → TasksLike ns ts ss → TasksLike ms ts ss
+tasks_later l no_tasks = no_tasks
+tasks_later l (more_tasks h k) = more_tasks (task_later l h) (tasks_later l k)
+
 pub data ThingLike (ns : Names) : Thing ℕ Counted → Thing Name LocalRegion → Type 0 where
   an_object_like : (c : ℕ) {rs : List (Region Counted)} {qs : List (Region LocalRegion)} {vs : List (Value ℕ)} {us : List (Value Name)} → RegionsLike rs qs
       → ValuesLike ns vs us → ThingLike ns (An_object c rs vs) (An_object c qs us)
@@ -125,6 +129,20 @@ pub data OwnLike (ns : Names) : Own ℕ Counted → Own Name LocalRegion → Typ
   print_like : (bytes : List ℕ) → OwnLike ns (Print bytes) (Print bytes)
   enter_like : (E : List (Effect Counted)) (F : List (Effect LocalRegion)) → OwnLike ns (Enter E) (Enter F)
   exit_like : OwnLike ns Exit Exit
+
+pub thing_later : {ns ms : Names} {t : Thing ℕ Counted} {s : Thing Name LocalRegion} → Later ns ms → ThingLike ns t s → ThingLike ms t s
+thing_later l (an_object_like c r v) = an_object_like c r (values_later l v)
+thing_later l (an_array_like len v) = an_array_like len (value_later l v)
+
+pub own_later : {ns ms : Names} {o : Own ℕ Counted} {q : Own Name LocalRegion} → Later ns ms → OwnLike ns o q → OwnLike ms o q
+own_later l rest_like = rest_like
+own_later l (read_like n x i h) = read_like n x i (name_later n x l h)
+own_later l (write_like n x i h v) = write_like n x i (name_later n x l h) (value_later l v)
+own_later l (look_like n x h) = look_like n x (name_later n x l h)
+own_later l (new_like c t) = new_like c (thing_later l t)
+own_later l (print_like bytes) = print_like bytes
+own_later l (enter_like E F) = enter_like E F
+own_later l exit_like = exit_like
 
 pub data AnswerLike (ns : Names) : Answer ℕ Counted → Answer Name LocalRegion → Type 0 where
   went_like : AnswerLike ns Went Went
@@ -148,10 +166,19 @@ ending_later l (returned_like h) = returned_like (value_later l h)
 ending_later l (assigned_like h) = assigned_like (locals_later l h)
 ending_later l (trapped_like trap p) = trapped_like trap p
 
+pub data EndingsLike (ns : Names) : List (Ending ℕ) → List (Ending Name) → Type 0 where
+  no_endings : EndingsLike ns [] []
+  more_endings : {x : Ending ℕ} {y : Ending Name} {xs : List (Ending ℕ)} {ys : List (Ending Name)} → EndingLike ns x y → EndingsLike ns xs ys
+      → EndingsLike ns (x ∷ xs) (y ∷ ys)
+
 pub data ResultLike (c : ℕ) (ns : Names) : Result ℕ Counted → Result Name LocalRegion → Type 0 where
   goes_on_like : {v : Value ℕ} {u : Value Name} {f : Frame ℕ Counted} {g : Frame Name LocalRegion} → ValueLike ns v u → FrameLike c ns f g
       → ResultLike c ns (Goes_on v f) (Goes_on u g)
   returns_like : {v : Value ℕ} {u : Value Name} → Distinct ns → ValueLike ns v u → ResultLike c ns (Returns v) (Returns u)
+
+pub result_later : {c : ℕ} {ns ms : Names} {r : Result ℕ Counted} {s : Result Name LocalRegion} → Later ns ms → ResultLike c ns r s → ResultLike c ms r s
+result_later l (goes_on_like v f) = goes_on_like (value_later l v) (frame_later l f)
+result_later l (returns_like d v) = returns_like l.distinct (value_later l v)
 
 pub result_distinct : {c : ℕ} {ns : Names} {r : Result ℕ Counted} {s : Result Name LocalRegion} → ResultLike c ns r s → Distinct ns
 result_distinct (goes_on_like v f) = f.distinct
