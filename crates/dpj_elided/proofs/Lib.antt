@@ -4,3 +4,4 @@ mod Meaning
 mod Working
 mod Memory
 mod Turns
+mod Sim
