@@ -9,13 +9,15 @@ use Rattle.dpj_base.specs.declared.place.Place.{Place}
 use Rattle.dpj_base.specs.declared.value.Trap.{Trap}
 use Rattle.dpj_typed.specs.declared.stmt.Forking.{Forking}
 use Rattle.dpj_typed.specs.Plain.{PlainProgram}
-use Rattle.dpj_meaning.specs.Values.{Naming}
+use Rattle.dpj_meaning.specs.Values.{Value}
 use Rattle.dpj_meaning.specs.Actions.{Frame as FrameOver, Task as TaskOver, Ending as EndingOver, Own as OwnOver, Answer as AnswerOver}
 use Rattle.dpj_meaning.specs.Asking.{most_turns, Told, take_answer, asked, turned, made_region, begins_then, told_join, told_fork, told, ended, ending, replied, does, ask}
 use Rattle.dpj_meaning.specs.Core.{Result, Goes_on, Returns, Prog, Ret, Traps, Act, Makes, Again, Split, Done, Stopped, Lost, bind, loop, tested, rounded, each_from, run}
 use Rattle.dpj_meaning.specs.Core.{Out as out}
-use Rattle.dpj_meaning.specs.Counts.{Brought, brought, truth}
+use Rattle.dpj_meaning.specs.Counts.{Brought, assigned, brought, truth}
+use Rattle.dpj_meaning.specs.Expressions.{none}
 use Rattle.dpj_meaning.specs.Elision.{LocalRegion as Counted, in_order, Store, answer, after, one_turn, new_region, one_step, first_of, at_end, one_by_one, sequential}
+use Rattle.dpj_meaning.specs.Outcomes.{joined as joined_in}
 use Rattle.dpj_meaning.specs.Tasks.{again}
 use Rattle.dpj_meaning.proofs.Tasks.{asks_disciplined}
 use Rattle.dpj_runs.specs.Actions.{Action, Answer, Begin, Branches, Do, End, Ending, Enter, Fork, Join, Next, Own, Program, Rest, Task, Trapped, Returned, Assigned, Went}
@@ -426,3 +428,470 @@ module _ (P : PlainProgram) (arg : ℤ) where
             resid = r.resid;
             holds = holds_regions (suc w.regions) r.holds;
           }
+
+  -- a loop
+  abbrev looped : (t b : FrameOver ℕ Counted → Prog ℕ Counted) → ℕ → FrameOver ℕ Counted → Store → OutIn ResultIn
+  looped t b n f w = loop (λ v. one_turn v.turns v) (λ g v. run sequential (t g) v) (λ g v. run sequential (b g) v) n f w
+
+  module _ (path : Path) (d : ℕ) (t b : FrameOver ℕ Counted → Prog ℕ Counted) (s a : FrameOver Name LocalRegion → Prog Name LocalRegion) (ns : Names)
+      (ht : (c : ℕ) (ms : Names) (f : FrameOver ℕ Counted) (g : FrameOver Name LocalRegion) → Later ns ms → FrameLike d ms f g
+      → Sim (ResultLike d) c ms (λ u. run (told (named_by path)) (s g) u) (λ w. run sequential (t f) w))
+      (hb : (c : ℕ) (ms : Names) (f : FrameOver ℕ Counted) (g : FrameOver Name LocalRegion) → Later ns ms → FrameLike d ms f g
+      → Sim (ResultLike d) c ms (λ u. run (told (named_by path)) (a g) u) (λ w. run sequential (b f) w)) where
+    abbrev again_told : FrameOver Name LocalRegion → ToldOf → OutOf ResultOf
+    again_told g u = again (named_by path) s a g u
+
+    abbrev Loops : ℕ → Type 0
+    Loops n = (ms : Names) (f : FrameOver ℕ Counted) (g : FrameOver Name LocalRegion) → Later ns ms → FrameLike d ms f g
+        → Sim (ResultLike d) n ms (λ u. again_told g u) (λ w. looped t b n f w)
+
+    at_round : (n : ℕ) → Loops n → (ms : Names) (x : ResultIn) (y : ResultOf) → Later ns ms → ResultLike d ms x y
+        → Sim (ResultLike d) n ms (λ u. rounded (λ g v. again_told g v) y u) (λ w. rounded (λ g v. looped t b n g v) x w)
+    at_round n h ms _ _ l (returns_like {v = v} {u = u} e z) = sim_done (Returns v) (Returns u) (λ ls l'. result_later l' (returns_like e z))
+    at_round n h ms _ _ l (goes_on_like {f = f} {g = g} z k) = h ms f g l k
+
+    at_truth : (n : ℕ) → Loops n → (ms : Names) → Later ns ms → (x y : Bool) → x ≡ y → (v : Value ℕ)
+        (u : Value Name) (f : FrameOver ℕ Counted) (g : FrameOver Name LocalRegion) → ResultLike d ms (Goes_on v f) (Goes_on u g)
+        → FrameLike d ms f g
+        → Sim (ResultLike d) (suc n) ms
+        (λ w. elim y as (λ b. OutOf ResultOf) [ false ↦ Done (Goes_on u g) w
+        | true ↦ bind (turned w) (λ u w'. bind (run (told (named_by path)) (a g) w') (λ r w''. rounded (λ g v. again_told g v) r w'')) ])
+        (λ w. elim x as (λ b. OutIn ResultIn) [ false ↦ Done (Goes_on v f) w
+        | true ↦ bind (one_turn w.turns w) (λ u w'. bind (run sequential (b f) w') (λ r w''. rounded (λ g v. looped t b n g v) r w'')) ])
+    at_truth n h ms l true true e v u f g z k = sim_turn (sim_bind (hb n ms f g l k) (λ ls x y l' r. at_round n h ls x y (later_then l l') r))
+    at_truth n h ms l true false e v u f g z k = absurd (cc)
+    at_truth n h ms l false true e v u f g z k = absurd (cc)
+    at_truth n h ms l false false e v u f g z k = sim_done (Goes_on v f) (Goes_on u g) (λ ls l'. result_later l' z)
+
+    at_test : (n : ℕ) → Loops n → (ms : Names) (x : ResultIn) (y : ResultOf) → Later ns ms → ResultLike d ms x y
+        → Sim (ResultLike d) (suc n) ms (λ u. tested turned (λ g v. run (told (named_by path)) (a g) v) (λ g v. again_told g v) y u)
+        (λ w. tested (λ v. one_turn v.turns v) (λ g v. run sequential (b g) v) (λ g v. looped t b n g v) x w)
+    at_test n h ms _ _ l (returns_like {v = v} {u = u} e z) = sim_done (Returns v) (Returns u) (λ ls l'. result_later l' (returns_like e z))
+    at_test n h ms _ _ l (goes_on_like {v = v} {u = u} {f = f} {g = g} z k) =
+        at_truth n h ms l (truth v) (truth u) (truth_like z) v u f g (goes_on_like z k) k
+
+    sim_loop : (n : ℕ) → Loops n
+    sim_loop zero ms f g l k = record { from = λ g' w t' K l' lt r. absurd (omega arith) }
+    sim_loop (suc n) ms f g l k =
+        sim_same (λ u lw. loops_again (named_by path) s a g u lw)
+        (sim_bind (ht (suc n) ms f g l k) (λ ls x y l' r. at_test n (sim_loop n) ls x y (later_then l l') r))
+
+    sim_again : (c : ℕ) (f : FrameOver ℕ Counted) (g : FrameOver Name LocalRegion) → Distinct ns → FrameLike d ns f g
+        → Sim (ResultLike d) c ns (λ u. again_told g u) (λ w. looped t b (suc w.turns) f w)
+    sim_again c f g e k = record {
+      from = λ h w t' K l lt r. (sim_loop (suc w.turns) ns f g (later_none e) k).from h w t' K l (omega arith) r;
+    }
+
+  -- one branch: what a task of the elision does is simulated in each run in which its like begins
+  abbrev BranchSim : TaskOver ℕ Counted → (Store → OutIn ResultIn) → Type 0
+  BranchSim t m = (ns : Names) (s : Task) (q : Path) (h : TaskLike ns t s) (b : ℕ)
+      → Sim (ResultLike h.left) b ns (λ u. run (told (named_by q)) (does (named_by q) P s) u) m
+
+  -- it has run to its end
+  pub record One (q : Path) (R : Run) (ns : Names) (w v : Store) (x : EndingOver ℕ) : Type 0 where
+    pub before : Run
+    pub event : Event
+    pub names : Names
+    pub ending : Ending
+    pub like : EndingLike names x ending
+    pub legal : Legal Q (event ∷ before)
+    pub order : InOrder (event ∷ before)
+    pub working : Working Q before q
+    pub path : event.path ≡ q
+    pub act : event.act ≡ End ending
+    pub grown : Upto R before
+    pub kept : (r : Path) → (r ≡ q → ⊥) → length r ≤ length q → mine (event ∷ before) r ≡ mine R r
+    pub later : Later ns names
+    pub holds : Holds Q (event ∷ before) names 0 v
+    pub turns : v.turns ≤ w.turns
+    pub spent : w.steps + w.turns ≤ v.steps + v.turns
+
+  abbrev pub PostOne : Path → Run → Names → Store → OutIn (EndingOver ℕ) → Type 0
+  PostOne q R ns w (Done x v) = One q R ns w v x
+  PostOne q R ns w (out.Trapped trap p v) = ⊥
+  PostOne q R ns w (Stopped n a) = ⊥
+  PostOne q R ns w (Lost v) = RanOut R w v
+
+  abbrev begun_at : Path → Run → Names → Ghost
+  begun_at q R ns = record { path = q; log = R; since = 0; made = 0; names = ns }
+
+  end_one : (q : Path) (R : Run) (ns : Names) (w v v' : Store) (s : Task) (h : Ghost) (m : ToldOf → OutOf ResultOf) (x : EndingOver ℕ) (y : Ending)
+      → After (begun_at q R ns) h w v → Ready h v s m → replied s.work (m (told_on h.since h.made [])) ≡ Next h.since (End y) → EndingLike h.names x y
+      → v'.heap ≡ v.heap → v'.output ≡ v.output → v'.trap ≡ trap_in (End y) v.trap → v'.cells ≡ v.cells → v'.steps ≡ v.steps → v'.turns ≡ v.turns
+      → One q R ns w v' x
+  end_one q R ns w v v' s h m x y a r e like h1 h2 h3 h4 h5 h6 = record {
+    before = h.log;
+    event = ev;
+    names = h.names;
+    ending = y;
+    like = like;
+    legal = (allowed_next h.since (End y) Went r e refl, r.legal);
+    order = in_order_after Q D (allowed_next h.since (End y) Went r e refl, r.legal) r.working refl r.order;
+    working = subst (λ p. Working Q h.log p) a.path r.working;
+    path = a.path;
+    act = refl;
+    grown = a.grown;
+    kept = λ p n l. mine_other ev h.log p (λ k. n (sym k ∙ a.path)) ∙ a.kept p n l;
+    later = a.names;
+    holds = structure_step Q r.holds h.path ev refl (λ c. refl) (λ f. end_prints f) refl v' h1 h2 h3 h4 (omega (arith, h5));
+    turns = (let z = a.turns in omega arith);
+    spent = (let z = a.spent in omega arith);
+  }
+    where
+      ev : Event
+      ev = record { path = h.path; turns = h.since; act = End y; ans = Went }
+
+      end_prints : (f : Option (Trap × Place)) → printed_by (End y) f ≡ []
+      end_prints f = refl
+
+  goes_on_end : (t : TaskOver ℕ Counted) (s : Task) (c : ℕ) (ns : Names) (r : ResultIn) (y : ResultOf) (f : Option (Trap × Place)) → trap_in (End (ended s.work y)) f ≡ f
+  goes_on_end t s c ns r (Returns v) None = refl
+  goes_on_end t s c ns r (Returns v) (Some f) = refl
+  goes_on_end t s c ns r (Goes_on v g) (Some f) = refl
+  goes_on_end t s c ns r (Goes_on v g) None = at s.work.is_root
+    where
+      at : (b : Bool) → trap_of (if b then Returned none else Assigned (assigned s.work.copies g.values)) None ≡ None
+      at true = refl
+      at false = refl
+
+  trap_end : (trap : Trap) (p : Place) (f : Option (Trap × Place)) → first_of f (trap, p) ≡ trap_in (End (Trapped trap p)) f
+  trap_end trap p None = refl
+  trap_end trap p (Some f) = refl
+
+  one_branch : (q : Path) (R : Run) (ns : Names) (w : Store) (t : TaskOver ℕ Counted) (s : Task) (m : Store → OutIn ResultIn) → TaskLike ns t s → BranchSim t m
+      → Legal Q R → InOrder R → Working Q R q → Begun Q R q s → mine R q ≡ [] → Holds Q R ns 0 w → PostOne q R ns w (at_end t.work (m w))
+  one_branch q R ns w t s m tl sim legal order working begun none_yet holds =
+      go (m w) ((sim ns s q tl (suc w.turns)).from (begun_at q R ns) w s (λ v u. Done v u) (later_none holds.distinct) (omega arith) start)
+    where
+      start : Ready (begun_at q R ns) w s (λ u. bind (run (told (named_by q)) (does (named_by q) P s) u) (λ v u. Done v u))
+      start = record {
+        legal = legal;
+        order = order;
+        working = working;
+        begun = begun;
+        low = most_pos;
+        resid = λ xs. ap (λ es. replied s.work (run (told (named_by q)) (does (named_by q) P s) (told_on 0 0 (reverse (answers es) ++ xs)))) none_yet
+            ∙ ap (replied s.work) (sym (bind_done (run (told (named_by q)) (does (named_by q) P s) (told_on 0 0 xs))));
+        holds = holds;
+      }
+
+      go : (o : OutIn ResultIn) → Post (ResultLike tl.left) (begun_at q R ns) w s (λ v u. Done v u) o → PostOne q R ns w (at_end t.work o)
+      go (Done r v) p =
+          end_one q R ns w v v s p.0 (λ u. Done p.1 u) (ended t.work r) (ended s.work p.1) p.3 p.4 refl (ended_alike tl.work p.2)
+          refl refl (sym (goes_on_end t s tl.left ns r p.1 v.trap)) refl refl refl
+      go (out.Trapped trap x v) p =
+          end_one q R ns w v (record v { trap = first_of v.trap (trap, x) }) s p.0 (λ u. out.Trapped trap x u) (Trapped trap x) (Trapped trap x) p.1 p.2 refl (trapped_like trap x)
+          refl refl (trap_end trap x v.trap) refl refl refl
+      go (Stopped n a) p = p
+      go (Lost v) p = p
+
+  -- after some branches of one fork: each has ended, and the task above has made its begins alone
+  abbrev forked_at : Path → ℕ → Run → Names → Ghost
+  forked_at p made R ns = record { path = p; log = R; since = 0; made = made; names = ns }
+
+  record Branched (t : Task) (K : Brought Name → ToldOf → OutOf ResultOf) (p : Path) (i b made : ℕ) (R : Run) (ns : Names) (w v : Store) (n : ℕ) (xs : List (EndingOver ℕ)) :
+      Type 0 where
+    log : Run
+    names : Names
+    ends : List Ending
+    like : EndingsLike names xs ends
+    ready : Ready (forked_at p made log names) v t (λ u. bind (told_join u) K)
+    grown : Upto R log
+    kept : (q : Path) → (q ≡ p → ⊥) → length q ≤ length p → mine log q ≡ mine R q
+    begins : Run
+    since : mine log p ≡ begins ++ mine R p
+    number : length begins ≡ n
+    each : length ends ≡ n
+    ended : (k : ℕ) (x : Ending) → slice_get ends k ≡ Some x → Ended log ((i, b + k) ∷ p) x
+    later : Later ns names
+    turns : v.turns ≤ w.turns
+    spent : w.steps + w.turns ≤ v.steps + v.turns
+
+  abbrev PostBranches : Task → (Brought Name → ToldOf → OutOf ResultOf) → Path → ℕ → ℕ → ℕ → Run → Names → Store → ℕ → OutIn (List (EndingOver ℕ)) → Type 0
+  PostBranches t K p i b made R ns w n (Done xs v) = Branched t K p i b made R ns w v n xs
+  PostBranches t K p i b made R ns w n (out.Trapped trap q v) = ⊥
+  PostBranches t K p i b made R ns w n (Stopped k a) = ⊥
+  PostBranches t K p i b made R ns w n (Lost v) = RanOut R w v
+
+  -- each branch is simulated
+  abbrev AllSim : List (TaskOver ℕ Counted) → List (Store → OutIn ResultIn) → Type 0
+  AllSim [] [] = Unit {0}
+  AllSim [] (m ∷ ms) = ⊥
+  AllSim (t ∷ ts) [] = ⊥
+  AllSim (t ∷ ts) (m ∷ ms) = BranchSim t m × AllSim ts ms
+
+  begin_prints : (b : ℕ) (f : Option (Trap × Place)) → printed_by (Begin b) f ≡ []
+  begin_prints b f = refl
+
+  -- the branches of one fork, from the one numbered b on
+  module _ (t : Task) (K : Brought Name → ToldOf → OutOf ResultOf) (p : Path) (i made : ℕ) (all : Branches) (F : Run) (f : Event) (fp : f.path ≡ p) (fa : f.act ≡ Fork all)
+      (fn : count F p ≡ i) where
+    -- the begin of one
+    module _ (b n : ℕ) (R : Run) (ns : Names) (w : Store) (r : Ready (forked_at p made R ns) w t (λ u. bind (begins_then b (suc n) told_join u) K)) (st : Upto (f ∷ F) R)
+        (s : Task) (there : slice_get all.tasks b ≡ Some s) (num : count R p ≡ suc (i + b)) where
+      abbrev begin : Event
+      begin = record { path = p; turns = 0; act = Begin b; ans = Went }
+
+      abbrev child : Path
+      child = (i, b) ∷ p
+
+      begin_legal : Legal Q (begin ∷ R)
+      begin_legal = (allowed_next 0 (Begin b) Went r refl refl, r.legal)
+
+      begin_working : Working Q (begin ∷ R) child
+      begin_working = goes_into Q D begin_legal r.working refl b refl F f all s st fp fa there i fn num
+
+      begin_begun : Begun Q (begin ∷ R) child s
+      begin_begun = branch p (i, b) F f all R begin refl (later st) fp fn fa there now refl refl num
+
+      begin_order : InOrder (begin ∷ R)
+      begin_order = in_order_after Q D begin_legal r.working refl r.order
+
+      longer : (k : ℕ) → p ≡ (i, k) ∷ p → ⊥
+      longer k e = let n = ap length e in absurd (omega arith)
+
+      begin_none : mine (begin ∷ R) child ≡ []
+      begin_none = mine_other begin R child (longer b) ∙ not_begun Q D R p i b (legal_faithful Q R r.legal) num
+
+      begin_holds : Holds Q (begin ∷ R) ns 0 (one_step w)
+      begin_holds = structure_step Q r.holds p begin refl (λ c. refl) (begin_prints b) refl (one_step w) refl refl refl refl (omega arith)
+
+      -- and what the task above does behind its end
+      next_ready : {v : Store} {x : EndingOver ℕ} (o : One child (begin ∷ R) ns (one_step w) v x)
+          → Ready (forked_at p made (o.event ∷ o.before) o.names) v t (λ u. bind (begins_then (suc b) n told_join u) K)
+      next_ready o = record {
+        legal = o.legal;
+        order = o.order;
+        working = goes_up Q D o.legal o.working o.path o.ending o.act p (i, b) refl t (begun_upto (upto_trans (later now) o.grown) r.begun);
+        begun = begun_upto (upto_trans (later now) (upto_trans o.grown (later now))) r.begun;
+        low = most_pos;
+        resid = λ ys. ap (λ es. replied t.work (run (told (named_by p)) (does (named_by p) P t) (told_on 0 0 (reverse (answers es) ++ ys)))) (o.kept p (longer b) (omega arith))
+            ∙ resid_next p t R (λ u. bind (begins_then b (suc n) told_join u) K) (λ u. bind (begins_then (suc b) n told_join u) K) 0 made made 0 (Begin b) Went r.resid (λ xs. refl) ys;
+        holds = o.holds;
+      }
+
+      mine_now : {v : Store} {x : EndingOver ℕ} (o : One child (begin ∷ R) ns (one_step w) v x) → mine (o.event ∷ o.before) p ≡ begin ∷ mine R p
+      mine_now o = o.kept p (longer b) (omega arith) ∙ mine_same begin R p refl
+
+      one_more : {v u : Store} {x : EndingOver ℕ} {xs : List (EndingOver ℕ)} (o : One child (begin ∷ R) ns (one_step w) v x)
+          → Branched t K p i (suc b) made (o.event ∷ o.before) o.names v u n xs → Branched t K p i b made R ns w u (suc n) (x ∷ xs)
+      one_more {v} {u} {x} {xs} o h = record {
+        log = h.log;
+        names = h.names;
+        ends = o.ending ∷ h.ends;
+        like = more_endings (ending_later h.later o.like) h.like;
+        ready = h.ready;
+        grown = upto_trans (later now) (upto_trans o.grown (upto_trans (later now) h.grown));
+        kept = λ q ne l. h.kept q ne l ∙ o.kept q (λ e. (let k = ap length e in absurd (omega arith))) (omega arith) ∙ mine_other begin R q (λ e. ne (sym e));
+        begins = h.begins ++ begin ∷ [];
+        since = h.since ∙ ap (λ l. h.begins ++ l) (mine_now o) ∙ sym (append_assoc h.begins (begin ∷ []) (mine R p));
+        number = omega (arith, length-append h.begins (begin ∷ []), h.number);
+        each = ap (λ k. suc k) h.each;
+        ended = all_ended;
+        later = later_then o.later h.later;
+        turns = (let a = o.turns in let c = h.turns in omega arith);
+        spent = (let a = o.spent in let c = h.spent in omega arith);
+      }
+        where
+          here : Ended h.log ((i, b) ∷ p) o.ending
+          here = ended_upto h.grown (record { before = o.before; event = o.event; stands = now; path = o.path; act = o.act })
+
+          all_ended : (k : ℕ) (y : Ending) → slice_get (o.ending ∷ h.ends) k ≡ Some y → Ended h.log ((i, b + k) ∷ p) y
+          all_ended zero y e =
+              let m : b ≡ b + 0 = omega arith in
+              let xy : o.ending ≡ y = cc in
+              subst (λ k. Ended h.log ((i, k) ∷ p) y) m (subst (λ z. Ended h.log ((i, b) ∷ p) z) xy here)
+          all_ended (suc k) y e = let m : suc b + k ≡ b + suc k = omega arith in subst (λ z. Ended h.log ((i, z) ∷ p) y) m (h.ended k y e)
+
+      out_more : {u : Store} → RanOut (begin ∷ R) (one_step w) u → RanOut R w u
+      out_more o = record {
+        log = o.log;
+        names = o.names;
+        since = o.since;
+        legal = o.legal;
+        order = o.order;
+        low = o.low;
+        empty = o.empty;
+        grown = upto_trans (later now) o.grown;
+        holds = o.holds;
+        spent = (let x = o.spent in omega arith);
+      }
+
+      out_later : {v u : Store} {x : EndingOver ℕ} (o : One child (begin ∷ R) ns (one_step w) v x) → RanOut (o.event ∷ o.before) v u → RanOut R w u
+      out_later o h = record {
+        log = h.log;
+        names = h.names;
+        since = h.since;
+        legal = h.legal;
+        order = h.order;
+        low = h.low;
+        empty = h.empty;
+        grown = upto_trans (later now) (upto_trans o.grown (upto_trans (later now) h.grown));
+        holds = h.holds;
+        spent = (let a = o.spent in let c = h.spent in omega arith);
+      }
+
+    -- the branch of this number has been begun and has ended
+    abbrev First : ℕ → Run → Names → Store → Store → EndingOver ℕ → Type 0
+    First b R ns w v x = One ((i, b) ∷ p) (record { path = p; turns = 0; act = Begin b; ans = Went } ∷ R) ns (one_step w) v x
+
+    sim_branches : {ks : Names} {ts : List (TaskOver ℕ Counted)} {ss : List Task} → TasksLike ks ts ss → (ms : List (Store → OutIn ResultIn)) → AllSim ts ms → (b : ℕ) (R : Run)
+        (ns : Names) (w : Store) → Later ks ns → Ready (forked_at p made R ns) w t (λ u. bind (begins_then b (length ss) told_join u) K) → Upto (f ∷ F) R
+        → ((k : ℕ) (s : Task) → slice_get ss k ≡ Some s → slice_get all.tasks (b + k) ≡ Some s) → count R p ≡ suc (i + b)
+        → PostBranches t K p i b made R ns w (length ss) (one_by_one ts ms w)
+    sim_branches no_tasks [] sims b R ns w l r st at num = record {
+      log = R;
+      names = ns;
+      ends = [];
+      like = no_endings;
+      ready = r;
+      grown = now;
+      kept = λ q n l. refl;
+      begins = [];
+      since = refl;
+      number = refl;
+      each = refl;
+      ended = λ k x e. absurd (let z : None ≡ Some x = e in cc);
+      later = later_none r.holds.distinct;
+      turns = omega arith;
+      spent = omega arith;
+    }
+    sim_branches no_tasks (m ∷ ms) sims b R ns w l r st at num = absurd sims
+    sim_branches (more_tasks h hs) [] sims b R ns w l r st at num = absurd sims
+    sim_branches (more_tasks {t = t'} {s = s} {ts = ts} {ss = ss} h hs) (m ∷ ms) sims b R ns w l r st at num =
+        go (at_end t'.work (m (one_step w)))
+        (one_branch ((i, b) ∷ p) (record { path = p; turns = 0; act = Begin b; ans = Went } ∷ R) ns (one_step w) t' s m (task_later l h) sims.0
+        (begin_legal b (length ss) R ns w r st s there num) (begin_order b (length ss) R ns w r st s there num) (begin_working b (length ss) R ns w r st s there num)
+        (begin_begun b (length ss) R ns w r st s there num) (begin_none b (length ss) R ns w r st s there num) (begin_holds b (length ss) R ns w r st s there num))
+        (λ v x o. sim_branches hs ms sims.1 (suc b) (o.event ∷ o.before) o.names v (later_then l o.later) (next_ready b (length ss) R ns w r st s there num o)
+        (upto_trans (later st) (upto_trans o.grown (later now))) next_at (next_num v x o))
+      where
+        there : slice_get all.tasks b ≡ Some s
+        there = let e : b + 0 ≡ b = omega arith in subst (λ n. slice_get all.tasks n ≡ Some s) e (at 0 s refl)
+
+        next_at : (k : ℕ) (y : Task) → slice_get ss k ≡ Some y → slice_get all.tasks (suc b + k) ≡ Some y
+        next_at k y e = let n : b + suc k ≡ suc b + k = omega arith in subst (λ n. slice_get all.tasks n ≡ Some y) n (at (suc k) y e)
+
+        next_num : (v : Store) (x : EndingOver ℕ) (o : First b R ns w v x) → count (o.event ∷ o.before) p ≡ suc (i + suc b)
+        next_num v x o = let e = ap length (mine_now b (length ss) R ns w r st s there num o) in omega arith
+
+        rest : (v : Store) (x : EndingOver ℕ) (o : First b R ns w v x) (u : OutIn (List (EndingOver ℕ)))
+            → PostBranches t K p i (suc b) made (o.event ∷ o.before) o.names v (length ss) u
+            → PostBranches t K p i b made R ns w (suc (length ss)) (bind u (λ xs u. Done (x ∷ xs) u))
+        rest v x o (Done xs u) g = one_more b (length ss) R ns w r st s there num o g
+        rest v x o (out.Trapped trap q u) g = g
+        rest v x o (Stopped k a) g = g
+        rest v x o (Lost u) g = out_later b (length ss) R ns w r st s there num o g
+
+        go : (o : OutIn (EndingOver ℕ)) → PostOne ((i, b) ∷ p) (record { path = p; turns = 0; act = Begin b; ans = Went } ∷ R) ns (one_step w) o
+            → ((v : Store) (x : EndingOver ℕ) (o : First b R ns w v x) → PostBranches t K p i (suc b) made (o.event ∷ o.before) o.names v (length ss) (one_by_one ts ms v))
+            → PostBranches t K p i b made R ns w (suc (length ss)) (bind o (λ x v. bind (one_by_one ts ms v) (λ xs u. Done (x ∷ xs) u)))
+        go (Done x v) g rec = rest v x g (one_by_one ts ms v) (rec v x g)
+        go (out.Trapped trap q v) g rec = g
+        go (Stopped k a) g rec = g
+        go (Lost v) g rec = out_more b (length ss) R ns w r st s there num g
+
+  sim_fork : {c : ℕ} {ns : Names} (forking : Forking) {ts : List (TaskOver ℕ Counted)} {ss : List Task} → TasksLike ns ts ss → (ms : List (Store → OutIn ResultIn))
+      → AllSim ts ms → Sim BroughtLike c ns (λ u. told_fork forking ss u)
+      (λ w. bind (one_by_one ts ms (one_step w)) (λ xs v. Done (brought {M = Counted} (joined_in xs)) (one_step v)))
+  sim_fork {c} {ns} forking {ts} {ss} tl ms sims = record { from = λ g w t K l lt r. at g w t K l r }
+    where
+      all : Branches
+      all = record { kind = forking; tasks = ss }
+
+      at : (g : Ghost) (w : Store) (t : Task) (K : Brought Name → ToldOf → OutOf ResultOf) → Later ns g.names → Ready g w t (λ u. bind (told_fork forking ss u) K)
+          → Post BroughtLike g w t K (bind (one_by_one ts ms (one_step w)) (λ xs v. Done (brought {M = Counted} (joined_in xs)) (one_step v)))
+      at g w t K l r =
+          go (one_by_one ts ms (one_step w))
+          (sim_branches t K g.path (count g.log g.path) g.made (record { kind = forking; tasks = ss }) g.log fork refl refl refl tl ms sims 0 (fork ∷ g.log) g.names (one_step w) l r1 now
+          (λ k s e. subst (λ n. slice_get ss n ≡ Some s) (sym (zero-add k)) e) (let e = ap length (mine_same fork g.log g.path refl) in omega arith))
+        where
+          fork : Event
+          fork = record { path = g.path; turns = g.since; act = Fork (record { kind = forking; tasks = ss }); ans = Went }
+
+          fork_prints : (f : Option (Trap × Place)) → printed_by (Fork (record { kind = forking; tasks = ss })) f ≡ []
+          fork_prints f = refl
+
+          r1 : Ready (forked_at g.path g.made (record { path = g.path; turns = g.since; act = Fork (record { kind = forking; tasks = ss }); ans = Went } ∷ g.log) g.names) (one_step w) t
+              (λ u. bind (begins_then 0 (length ss) told_join u) K)
+          r1 = ready_next (λ u. bind (begins_then 0 (length ss) told_join u) K) g.since (Fork (record { kind = forking; tasks = ss })) Went g.made (one_step w) g.names (fork_stays _) r refl refl
+              (structure_step Q r.holds g.path fork refl (λ c. refl) fork_prints refl (one_step w) refl refl refl refl (omega arith)) (λ xs. refl)
+
+          join_prints : (f : Option (Trap × Place)) → printed_by Join f ≡ []
+          join_prints f = refl
+
+          a1 : After g (forked_at g.path g.made (record { path = g.path; turns = g.since; act = Fork (record { kind = forking; tasks = ss }); ans = Went } ∷ g.log) g.names) w (one_step w)
+          a1 = after_noted g w (one_step w) g.made g.since (Fork (record { kind = forking; tasks = ss })) Went g.names (later_none r.holds.distinct) (omega arith) (omega arith)
+
+          joins : {v : Store} {xs : List (EndingOver ℕ)} (h : Branched t K g.path (count g.log g.path) 0 g.made (fork ∷ g.log) g.names (one_step w) v (length ss) xs)
+              → Joins h.log g.path (joined h.ends)
+          joins h = record {
+            before = g.log;
+            fork = fork;
+            stands = h.grown;
+            path = refl;
+            since = h.begins;
+            last = h.since ∙ ap (λ l. h.begins ++ l) (mine_same fork g.log g.path refl);
+            tasks = record { kind = forking; tasks = ss };
+            act = refl;
+            all_begun = h.number;
+            ends = h.ends;
+            each = h.each;
+            ended = λ u x e k. (let n : 0 + u.1 ≡ u.1 = omega arith in subst (λ m. Ended h.log ((m, u.1) ∷ g.path) x) (sym e)
+                (subst (λ m. Ended h.log ((count g.log g.path, m) ∷ g.path) x) n (h.ended u.1 x k)));
+            answer = refl;
+          }
+
+          go : (o : OutIn (List (EndingOver ℕ))) → PostBranches t K g.path (count g.log g.path) 0 g.made (fork ∷ g.log) g.names (one_step w) (length ss) o
+              → Post BroughtLike g w t K (bind o (λ xs v. Done (brought {M = Counted} (joined_in xs)) (one_step v)))
+          go (out.Trapped trap q v) h = absurd h
+          go (Stopped n a) h = h
+          go (Lost v) h = out_after a1 h
+          go (Done xs v) h = (
+            noted (forked_at g.path g.made h.log h.names) g.made 0 Join (joined h.ends) h.names,
+            brought {M = LocalRegion} (joined h.ends),
+            joined_alike h.like,
+            after_then a1 (after_then a2 a3),
+            ready_next (K (brought {M = LocalRegion} (joined h.ends))) 0 Join (joined h.ends) g.made (one_step v) h.names join_stays h.ready refl (joins h)
+                (structure_step Q h.ready.holds g.path (record { path = g.path; turns = 0; act = Join; ans = joined h.ends }) refl (λ c. refl) join_prints refl (one_step v) refl refl refl refl (omega arith))
+                (λ ys. refl),
+          )
+            where
+              a2 : After (forked_at g.path g.made (fork ∷ g.log) g.names) (forked_at g.path g.made h.log h.names) (one_step w) v
+              a2 = record { path = refl; grown = h.grown; kept = h.kept; names = h.later; turns = h.turns; spent = h.spent }
+
+              a3 : After (forked_at g.path g.made h.log h.names) (noted (forked_at g.path g.made h.log h.names) g.made 0 Join (joined h.ends) h.names) v (one_step v)
+              a3 = after_noted (forked_at g.path g.made h.log h.names) v (one_step v) g.made 0 Join (joined h.ends) h.names (later_none h.ready.holds.distinct) (omega arith) (omega arith)
+
+  -- what a task of the elision does, and what its like does in a run
+  abbrev AllAlike : Prog ℕ Counted → Type 0
+  AllAlike p = (c : ℕ) (ns : Names) (q : Prog Name LocalRegion) (path : Path) → Distinct ns → Alike P c ns p q → (b : ℕ)
+      → Sim (ResultLike c) b ns (λ u. run (told (named_by path)) q u) (λ w. run sequential p w)
+
+  all_sim : (bs : ℕ → Prog ℕ Counted) → ((i : ℕ) → AllAlike (bs i)) → (ts : List (TaskOver ℕ Counted)) (j : ℕ)
+      → ((k : ℕ) (t : TaskOver ℕ Counted) → slice_get ts k ≡ Some t → bs (j + k) ≡ does in_order P t) → AllSim ts (each_from (λ i v. run sequential (bs i) v) j ts)
+  all_sim bs h [] j e = tt
+  all_sim bs h (t ∷ ts) j e = (here, all_sim bs h ts (suc j) (λ k t q. (let n : suc j + k ≡ j + suc k = omega arith in ap bs n ∙ e (suc k) t q)))
+    where
+      here : BranchSim t (λ v. run sequential (bs j) v)
+      here ns s q tl b =
+          let n : j ≡ j + 0 = omega arith in
+          let same : bs j ≡ does in_order P t = ap bs n ∙ e 0 t refl in
+          h j tl.left ns (does (named_by q) P s) q tl.frame.distinct
+          (subst (λ (x : Prog ℕ Counted). Alike P tl.left ns x (does (named_by q) P s)) (sym same) (does_alike q P tl)) b
+
+  prog_sim : (p : Prog ℕ Counted) → AllAlike p
+  prog_sim (Ret r) c ns _ path d (alike_ret {s = s} h) b = sim_done r s (λ ms l. result_later l h)
+  prog_sim (Traps trap x) c ns _ path d (alike_traps trap' x') b = sim_trapped trap x
+  prog_sim (Act o k) c ns _ path d (alike_act {j = j} like h) b = sim_bind (sim_act like) (λ ms x y l a. prog_sim (k x) c ms (j y) path l.distinct (h ms x y l a) b)
+  prog_sim (Makes k) c ns _ path d (alike_makes {j = j} h) b =
+      sim_bind (sim_make path) (λ ms m l l' a. sim_later l' (prog_sim (k m) c ns (j l) path d (h m l) b))
+  prog_sim (Again t a f k) c ns _ path d (alike_again e {s = s} {a = z} {g = g} {j = j} ht hb hf h) b =
+      sim_same (λ u lw. ap (λ o. bind o (λ r v. run (told (named_by path)) (j r) v)) (sym (bind_done _)))
+      (sim_bind (sim_again path e t a s z ns
+      (λ c' ms x y l m. prog_sim (t x) e ms (s y) path l.distinct (ht ms x y l m) c')
+      (λ c' ms x y l m. prog_sim (a x) e ms (z y) path l.distinct (hb ms x y l m) c') b f g d hf)
+      (λ ms x y l m. prog_sim (k x) c ms (j y) path l.distinct (h ms x y l m) b))
+  prog_sim (Split forking ts bs k) c ns _ path d (alike_split forking' {j = j} tl coh h) b =
+      sim_bind (sim_fork forking tl _ (all_sim bs (λ i. prog_sim (bs i)) ts 0 (λ i t e. (let n : 0 + i ≡ i = omega arith in ap bs n ∙ coh i t e))))
+      (λ ms x y l m. prog_sim (k x) c ms (j y) path l.distinct (h ms x y l m) b)
