@@ -57,7 +57,7 @@ alike_on k j (alike_traps trap p) f = alike_traps trap p
 alike_on k j (alike_act o h) f = alike_act o (λ ms x y l a. alike_on k j (h ms x y l a) (λ ls r s m b. f ls r s (later_then l m) b))
 alike_on k j (alike_makes h) f = alike_makes (λ m l. alike_on k j (h m l) f)
 alike_on k j (alike_again d t b g h) f = alike_again d t b g (λ ms r s l a. alike_on k j (h ms r s l a) (λ ls u v m e. f ls u v (later_then l m) e))
-alike_on k j (alike_split forking ts b h) f = alike_split forking ts b (λ ms x y l a. alike_on k j (h ms x y l a) (λ ls r s m b. f ls r s (later_then l m) b))
+alike_on k j (alike_split forking ts b e h) f = alike_split forking ts b (λ trap p. ap (λ q. on q k) (e trap p)) (λ ms x y l a. alike_on k j (h ms x y l a) (λ ls r s m b. f ls r s (later_then l m) b))
 
 abbrev Next : PlainProgram → ℕ → Names → (Value ℕ → FrameIn → In) → (Value Name → FrameOf → Of) → Type 0
 Next P c ns k j = (ms : Names) (v : Value ℕ) (u : Value Name) (f : FrameIn) (g : FrameOf) → Later ns ms → ValueLike ms v u → FrameLike c ms f g
@@ -363,7 +363,7 @@ module _ (path : Path) (P : PlainProgram) where
       go None None h = alike_traps trap.Stack at
       go None (Some q) h = absurd h
       go (Some p) None h = absurd h
-      go (Some p) (Some q) h = alike_split forking (iterations_like takes x s start 0 (how_many count) h.1 w) (λ i t e. do_iteration p q h i t e) (λ ms y z l a. alike_joined [] (frame_later l w) a)
+      go (Some p) (Some q) h = alike_split forking (iterations_like takes x s start 0 (how_many count) h.1 w) (λ i t e. do_iteration p q h i t e) (λ trap p. refl) (λ ms y z l a. alike_joined [] (frame_later l w) a)
 
   alike_cobegin : {c : ℕ} {ns : Names} (p : Option DeeperIn) (q : Option DeeperOf) → DeeperLike p q c → (at : Place) (forking : Forking) (bs : TypedBranches)
       {f : FrameIn} {g : FrameOf} → FrameLike c ns f g
@@ -372,7 +372,7 @@ module _ (path : Path) (P : PlainProgram) where
   alike_cobegin None (Some q) h at forking bs w = absurd h
   alike_cobegin (Some p) None h at forking bs w = absurd h
   alike_cobegin (Some p) (Some q) h at forking bs {f} w =
-      alike_split forking (branches_like bs h.1 w) (λ i t e. at_depth p q h w (branch_at bs i) (record f { left = f.left - 1 }) ∙ sym (branches_do bs f i t e)) (λ ms y z l a. alike_joined _ (frame_later l w) a)
+      alike_split forking (branches_like bs h.1 w) (λ i t e. at_depth p q h w (branch_at bs i) (record f { left = f.left - 1 }) ∙ sym (branches_do bs f i t e)) (λ trap p. refl) (λ ms y z l a. alike_joined _ (frame_later l w) a)
 
   alike_parts : {c : ℕ} {ns : Names} (p : Option DeeperIn) (q : Option DeeperOf) → DeeperLike p q c → (at : Place) (k : ℕ) (s : TypedStmt) {f : FrameIn} {g : FrameOf}
       → FrameLike c ns f g → Alike P c ns (parts p at k s f) (parts q at k s g)

@@ -10,14 +10,14 @@ use Rattle.dpj_base.specs.declared.value.Trap.{Trap}
 use Rattle.dpj_typed.specs.declared.stmt.Forking.{Forking}
 use Rattle.dpj_typed.specs.Plain.{PlainProgram}
 use Rattle.dpj_meaning.specs.Values.{Value}
-use Rattle.dpj_meaning.specs.Actions.{Frame as FrameOver, Task as TaskOver, Ending as EndingOver, Own as OwnOver, Answer as AnswerOver}
+use Rattle.dpj_meaning.specs.Actions.{Frame as FrameOver, Task as TaskOver, Ending as EndingOver, Own as OwnOver, Answer as AnswerOver, Work}
 use Rattle.dpj_meaning.specs.Asking.{most_turns, Told, take_answer, asked, turned, made_region, begins_then, told_join, told_fork, told, ended, ending, replied, does, ask}
 use Rattle.dpj_meaning.specs.Core.{Result, Goes_on, Returns, Prog, Ret, Traps, Act, Makes, Again, Split, Done, Stopped, Lost, bind, loop, tested, rounded, each_from, run}
 use Rattle.dpj_meaning.specs.Core.{Out as out}
-use Rattle.dpj_meaning.specs.Counts.{Brought, assigned, brought, truth}
+use Rattle.dpj_meaning.specs.Counts.{Brought, Back, Trap_of_branch, assigned, brought, truth}
 use Rattle.dpj_meaning.specs.Expressions.{none}
 use Rattle.dpj_meaning.specs.Elision.{LocalRegion as Counted, in_order, Store, answer, after, one_turn, new_region, one_step, first_of, at_end, one_by_one, sequential}
-use Rattle.dpj_meaning.specs.Outcomes.{joined as joined_in}
+use Rattle.dpj_meaning.specs.Outcomes.{joined as joined_in, joined_or, first_trap, all_locals}
 use Rattle.dpj_meaning.specs.Tasks.{again}
 use Rattle.dpj_meaning.proofs.Tasks.{asks_disciplined}
 use Rattle.dpj_runs.specs.Actions.{Action, Answer, Begin, Branches, Do, End, Ending, Enter, Fork, Join, Next, Own, Program, Rest, Task, Trapped, Returned, Assigned, Went}
@@ -166,8 +166,9 @@ module _ (P : PlainProgram) (arg : ℤ) where
   }
 
   abbrev Post : {V X : Type 0} → (Names → V → X → Type 0) → Ghost → Store → Task → (X → ToldOf → OutOf ResultOf) → OutIn V → Type 0
-  Post {V} {X} VR g w t K (Done v u) = (h : Ghost) × (x : X) × VR h.names v x × After g h w u × Ready h u t (K x)
+  Post {V} {X} VR g w t K (Done v u) = (h : Ghost) × (x : X) × VR h.names v x × After g h w u × Ready h u t (K x) × (u.trap ≡ w.trap)
   Post VR g w t K (out.Trapped trap p u) = (h : Ghost) × After g h w u × Ready h u t (λ y. out.Trapped trap p y)
+      × (first_of u.trap (trap, p) ≡ first_of w.trap (trap, p))
   Post VR g w t K (Stopped n a) = ⊥
   Post VR g w t K (Lost u) = RanOut g.log w u
 
@@ -269,19 +270,19 @@ module _ (P : PlainProgram) (arg : ℤ) where
   }
 
   post_after : {V X : Type 0} (VR : Names → V → X → Type 0) {g h : Ghost} {w v : Store} (t : Task) (K : X → ToldOf → OutOf ResultOf) (o : OutIn V) → After g h w v
-      → Post VR h v t K o → Post VR g w t K o
-  post_after VR t K (Done x u) a p = (p.0, p.1, p.2, after_then a p.3, p.4)
-  post_after VR t K (out.Trapped trap q u) a p = (p.0, after_then a p.1, p.2)
-  post_after VR t K (Stopped n b) a p = p
-  post_after VR t K (Lost u) a p = out_after a p
+      → v.trap ≡ w.trap → Post VR h v t K o → Post VR g w t K o
+  post_after VR t K (Done x u) a e p = (p.0, p.1, p.2, after_then a p.3, p.4, p.5 ∙ e)
+  post_after VR t K (out.Trapped trap q u) a e p = (p.0, after_then a p.1, p.2, p.3 ∙ ap (λ d. first_of d (trap, q)) e)
+  post_after VR t K (Stopped n b) a e p = p
+  post_after VR t K (Lost u) a e p = out_after a p
 
   sim_done : {V X : Type 0} {VR : Names → V → X → Type 0} {b : ℕ} {ns : Names} (v : V) (x : X) → ((ms : Names) → Later ns ms → VR ms v x)
       → Sim VR b ns (λ u. Done x u) (λ w. Done v w)
-  sim_done v x h = record { from = λ g w t K l lt r. (g, x, h g.names l, after_none g w r.holds.distinct, r) }
+  sim_done v x h = record { from = λ g w t K l lt r. (g, x, h g.names l, after_none g w r.holds.distinct, r, refl) }
 
   sim_trapped : {V X : Type 0} {VR : Names → V → X → Type 0} {b : ℕ} {ns : Names} (trap : Trap) (p : Place)
       → Sim VR b ns (λ u. out.Trapped trap p u) (λ w. out.Trapped trap p w)
-  sim_trapped trap p = record { from = λ g w t K l lt r. (g, after_none g w r.holds.distinct, r) }
+  sim_trapped trap p = record { from = λ g w t K l lt r. (g, after_none g w r.holds.distinct, r, refl) }
 
   sim_later : {V X : Type 0} {VR : Names → V → X → Type 0} {b : ℕ} {ns ms : Names} {m : ToldOf → OutOf X} {n : Store → OutIn V} → Later ns ms
       → Sim VR b ns m n → Sim VR b ms m n
@@ -304,7 +305,7 @@ module _ (P : PlainProgram) (arg : ℤ) where
           → Post VR g w t (λ x u. bind (j x u) K) o → Post UR g w t K (bind o k)
       go g w t K l lt (Done v u) p =
           let a = p.3.turns in
-          post_after UR t K (k v u) p.3 ((h p.0.names v p.1 (later_then l p.3.names) p.2).from p.0 u t K (later_none p.4.holds.distinct) (omega arith) p.4)
+          post_after UR t K (k v u) p.3 p.5 ((h p.0.names v p.1 (later_then l p.3.names) p.2).from p.0 u t K (later_none p.4.holds.distinct) (omega arith) p.4)
       go g w t K l lt (out.Trapped trap q u) p = p
       go g w t K l lt (Stopped i a) p = p
       go g w t K l lt (Lost u) p = p
@@ -322,6 +323,7 @@ module _ (P : PlainProgram) (arg : ℤ) where
             a.like,
             after_noted g w (after o w) g.made g.since (Do q) a.answer a.names a.later (omega arith) (omega arith),
             ready_next (K a.answer) g.since (Do q) a.answer g.made (after o w) a.names (do_stays q) r refl a.replies a.holds (λ xs. refl),
+            refl,
           )
 
   -- a turn, behind which the task has made so many local regions
@@ -398,7 +400,7 @@ module _ (P : PlainProgram) (arg : ℤ) where
       go g w t K l lt r (suc n) e =
           let z = turn_from g w t g.made (λ u. bind (bind (turned u) (λ a v. j v)) K) (λ v. bind (j v) K) r
               (λ xs. ap (replied t.work) (bind_assoc (turned (told_on g.since g.made xs)) (λ a v. j v) K)) n e in
-          post_after VR t K (k (turn_now w n)) z.2 (s.from z.0 (turn_now w n) t K (later_then l z.2.names) (omega arith) z.3)
+          post_after VR t K (k (turn_now w n)) z.2 refl (s.from z.0 (turn_now w n) t K (later_then l z.2.names) (omega arith) z.3)
 
   abbrev AnyRegion : Names → Counted → LocalRegion → Type 0
   AnyRegion ns m l = Unit {0}
@@ -413,7 +415,7 @@ module _ (P : PlainProgram) (arg : ℤ) where
           let x : LocalRegion = (named_by path).made g.made in
           let z = turn_from g w t (suc g.made) (λ u. bind (made_region (named_by path) u) K) (K x) r
               (λ xs. ap (replied t.work) (bind_assoc (turned (told_on g.since (suc g.made) xs)) (λ u v. Done x v) K)) n e in
-          (z.0, x, tt, other_regions z.2, ready_regions z.3)
+          (z.0, x, tt, other_regions z.2, ready_regions z.3, refl)
         where
           other_regions : {h : Ghost} → After g h w (turn_now w n) → After g h w (record (turn_now w n) { regions = suc w.regions })
           other_regions a = record { path = a.path; grown = a.grown; kept = a.kept; names = a.names; turns = a.turns; spent = a.spent }
@@ -482,6 +484,30 @@ module _ (P : PlainProgram) (arg : ℤ) where
       from = λ h w t' K l lt r. (sim_loop (suc w.turns) ns f g (later_none e) k).from h w t' K l (omega arith) r;
     }
 
+  -- the first trap, after a task that ended so, after some of them, and behind their join
+  abbrev pub fallen : EndingOver ℕ → Option (Trap × Place) → Option (Trap × Place)
+  fallen (Trapped trap p) f = first_of f (trap, p)
+  fallen (Returned v) f = f
+  fallen (Assigned ls) f = f
+
+  abbrev all_fallen : List (EndingOver ℕ) → Option (Trap × Place) → Option (Trap × Place)
+  all_fallen [] f = f
+  all_fallen (x ∷ xs) f = all_fallen xs (fallen x f)
+
+  abbrev brought_down : Brought ℕ → Option (Trap × Place) → Option (Trap × Place)
+  brought_down (Back ls) f = f
+  brought_down (Trap_of_branch trap p) f = first_of f (trap, p)
+
+  stays_fallen : (xs : List (EndingOver ℕ)) (e : Trap × Place) → all_fallen xs (Some e) ≡ Some e
+  stays_fallen [] e = refl
+  stays_fallen (Trapped trap p ∷ xs) e = stays_fallen xs e
+  stays_fallen (Returned v ∷ xs) e = stays_fallen xs e
+  stays_fallen (Assigned ls ∷ xs) e = stays_fallen xs e
+
+  abbrev down_or : Option (Trap × Place) → Option (Trap × Place) → Option (Trap × Place)
+  down_or None f = f
+  down_or (Some e) f = first_of f e
+
   -- one branch: what a task of the elision does is simulated in each run in which its like begins
   abbrev BranchSim : TaskOver ℕ Counted → (Store → OutIn ResultIn) → Type 0
   BranchSim t m = (ns : Names) (s : Task) (q : Path) (h : TaskLike ns t s) (b : ℕ)
@@ -505,6 +531,7 @@ module _ (P : PlainProgram) (arg : ℤ) where
     pub holds : Holds Q (event ∷ before) names 0 v
     pub turns : v.turns ≤ w.turns
     pub spent : w.steps + w.turns ≤ v.steps + v.turns
+    pub trap : v.trap ≡ fallen x w.trap
 
   abbrev pub PostOne : Path → Run → Names → Store → OutIn (EndingOver ℕ) → Type 0
   PostOne q R ns w (Done x v) = One q R ns w v x
@@ -518,8 +545,8 @@ module _ (P : PlainProgram) (arg : ℤ) where
   end_one : (q : Path) (R : Run) (ns : Names) (w v v' : Store) (s : Task) (h : Ghost) (m : ToldOf → OutOf ResultOf) (x : EndingOver ℕ) (y : Ending)
       → After (begun_at q R ns) h w v → Ready h v s m → replied s.work (m (told_on h.since h.made [])) ≡ Next h.since (End y) → EndingLike h.names x y
       → v'.heap ≡ v.heap → v'.output ≡ v.output → v'.trap ≡ trap_in (End y) v.trap → v'.cells ≡ v.cells → v'.steps ≡ v.steps → v'.turns ≡ v.turns
-      → One q R ns w v' x
-  end_one q R ns w v v' s h m x y a r e like h1 h2 h3 h4 h5 h6 = record {
+      → v'.trap ≡ fallen x w.trap → One q R ns w v' x
+  end_one q R ns w v v' s h m x y a r e like h1 h2 h3 h4 h5 h6 h7 = record {
     before = h.log;
     event = ev;
     names = h.names;
@@ -536,6 +563,7 @@ module _ (P : PlainProgram) (arg : ℤ) where
     holds = structure_step Q r.holds h.path ev refl (λ c. refl) (λ f. end_prints f) refl v' h1 h2 h3 h4 (omega (arith, h5));
     turns = (let z = a.turns in omega arith);
     spent = (let z = a.spent in omega arith);
+    trap = h7;
   }
     where
       ev : Event
@@ -551,6 +579,14 @@ module _ (P : PlainProgram) (arg : ℤ) where
   goes_on_end t s c ns r (Goes_on v g) None = at s.work.is_root
     where
       at : (b : Bool) → trap_of (if b then Returned none else Assigned (assigned s.work.copies g.values)) None ≡ None
+      at true = refl
+      at false = refl
+
+  end_falls : (k : Work) (r : ResultIn) (f : Option (Trap × Place)) → fallen (ended k r) f ≡ f
+  end_falls k (Returns v) f = refl
+  end_falls k (Goes_on v g) f = at k.is_root
+    where
+      at : (b : Bool) → fallen (if b then Returned none else Assigned (assigned k.copies g.values)) f ≡ f
       at true = refl
       at false = refl
 
@@ -578,10 +614,10 @@ module _ (P : PlainProgram) (arg : ℤ) where
       go : (o : OutIn ResultIn) → Post (ResultLike tl.left) (begun_at q R ns) w s (λ v u. Done v u) o → PostOne q R ns w (at_end t.work o)
       go (Done r v) p =
           end_one q R ns w v v s p.0 (λ u. Done p.1 u) (ended t.work r) (ended s.work p.1) p.3 p.4 refl (ended_alike tl.work p.2)
-          refl refl (sym (goes_on_end t s tl.left ns r p.1 v.trap)) refl refl refl
+          refl refl (sym (goes_on_end t s tl.left ns r p.1 v.trap)) refl refl refl (p.5 ∙ sym (end_falls t.work r w.trap))
       go (out.Trapped trap x v) p =
           end_one q R ns w v (record v { trap = first_of v.trap (trap, x) }) s p.0 (λ u. out.Trapped trap x u) (Trapped trap x) (Trapped trap x) p.1 p.2 refl (trapped_like trap x)
-          refl refl (trap_end trap x v.trap) refl refl refl
+          refl refl (trap_end trap x v.trap) refl refl refl p.3
       go (Stopped n a) p = p
       go (Lost v) p = p
 
@@ -606,6 +642,7 @@ module _ (P : PlainProgram) (arg : ℤ) where
     later : Later ns names
     turns : v.turns ≤ w.turns
     spent : w.steps + w.turns ≤ v.steps + v.turns
+    trap : v.trap ≡ all_fallen xs w.trap
 
   abbrev PostBranches : Task → (Brought Name → ToldOf → OutOf ResultOf) → Path → ℕ → ℕ → ℕ → Run → Names → Store → ℕ → OutIn (List (EndingOver ℕ)) → Type 0
   PostBranches t K p i b made R ns w n (Done xs v) = Branched t K p i b made R ns w v n xs
@@ -691,6 +728,7 @@ module _ (P : PlainProgram) (arg : ℤ) where
         later = later_then o.later h.later;
         turns = (let a = o.turns in let c = h.turns in omega arith);
         spent = (let a = o.spent in let c = h.spent in omega arith);
+        trap = h.trap ∙ ap (λ f. all_fallen xs f) o.trap;
       }
         where
           here : Ended h.log ((i, b) ∷ p) o.ending
@@ -755,6 +793,7 @@ module _ (P : PlainProgram) (arg : ℤ) where
       later = later_none r.holds.distinct;
       turns = omega arith;
       spent = omega arith;
+      trap = refl;
     }
     sim_branches no_tasks (m ∷ ms) sims b R ns w l r st at num = absurd sims
     sim_branches (more_tasks h hs) [] sims b R ns w l r st at num = absurd sims
@@ -791,77 +830,123 @@ module _ (P : PlainProgram) (arg : ℤ) where
         go (Stopped k a) g rec = g
         go (Lost v) g rec = out_more b (length ss) R ns w r st s there num g
 
-  sim_fork : {c : ℕ} {ns : Names} (forking : Forking) {ts : List (TaskOver ℕ Counted)} {ss : List Task} → TasksLike ns ts ss → (ms : List (Store → OutIn ResultIn))
-      → AllSim ts ms → Sim BroughtLike c ns (λ u. told_fork forking ss u)
-      (λ w. bind (one_by_one ts ms (one_step w)) (λ xs v. Done (brought {M = Counted} (joined_in xs)) (one_step v)))
-  sim_fork {c} {ns} forking {ts} {ss} tl ms sims = record { from = λ g w t K l lt r. at g w t K l r }
-    where
-      all : Branches
-      all = record { kind = forking; tasks = ss }
+  module _ (path : Path) {c b : ℕ} {ns : Names} (forking : Forking) {ts : List (TaskOver ℕ Counted)} {ss : List Task} (tl : TasksLike ns ts ss)
+      (ms : List (Store → OutIn ResultIn)) (sims : AllSim ts ms) (k : Brought ℕ → Prog ℕ Counted) (j : Brought Name → Prog Name LocalRegion)
+      (falls : (trap : Trap) (p : Place) → k (Trap_of_branch trap p) ≡ Traps trap p)
+      (hk : (ls : Names) (x : Brought ℕ) (y : Brought Name) → Later ns ls → BroughtLike ls x y
+      → Sim (ResultLike c) b ls (λ u. run (told (named_by path)) (j y) u) (λ w. run sequential (k x) w)) where
+    abbrev all_forked : Branches
+    all_forked = record { kind = forking; tasks = ss }
 
-      at : (g : Ghost) (w : Store) (t : Task) (K : Brought Name → ToldOf → OutOf ResultOf) → Later ns g.names → Ready g w t (λ u. bind (told_fork forking ss u) K)
-          → Post BroughtLike g w t K (bind (one_by_one ts ms (one_step w)) (λ xs v. Done (brought {M = Counted} (joined_in xs)) (one_step v)))
-      at g w t K l r =
-          go (one_by_one ts ms (one_step w))
-          (sim_branches t K g.path (count g.log g.path) g.made (record { kind = forking; tasks = ss }) g.log fork refl refl refl tl ms sims 0 (fork ∷ g.log) g.names (one_step w) l r1 now
-          (λ k s e. subst (λ n. slice_get ss n ≡ Some s) (sym (zero-add k)) e) (let e = ap length (mine_same fork g.log g.path refl) in omega arith))
-        where
-          fork : Event
-          fork = record { path = g.path; turns = g.since; act = Fork (record { kind = forking; tasks = ss }); ans = Went }
+    abbrev then_told : Brought Name → ToldOf → OutOf ResultOf
+    then_told y u = run (told (named_by path)) (j y) u
 
-          fork_prints : (f : Option (Trap × Place)) → printed_by (Fork (record { kind = forking; tasks = ss })) f ≡ []
-          fork_prints f = refl
+    -- behind the join, where the branches brought this
+    behind : (g h : Ghost) (w v : Store) (t : Task) (K : ResultOf → ToldOf → OutOf ResultOf) (x : Brought ℕ) (y : Brought Name) → Later ns h.names → BroughtLike h.names x y
+        → v.turns < b → After g h w v → v.trap ≡ brought_down x w.trap → Ready h v t (λ u. bind (then_told y u) K)
+        → Post (ResultLike c) g w t K (run sequential (k x) v)
+    behind g h w v t K (Back ls) y l like lt a e r =
+        post_after (ResultLike c) t K (run sequential (k (Back ls)) v) a e ((hk h.names (Back ls) y l like).from h v t K (later_none r.holds.distinct) lt r)
+    behind g h w v t K (Trap_of_branch trap p) y l like lt a e r = done (subst (λ (q : Prog ℕ Counted). Post (ResultLike c) h v t K (run sequential q v)) (falls trap p)
+        ((hk h.names (Trap_of_branch trap p) y l like).from h v t K (later_none r.holds.distinct) lt r))
+      where
+        twice : (f : Option (Trap × Place)) → first_of (first_of f (trap, p)) (trap, p) ≡ first_of f (trap, p)
+        twice None = refl
+        twice (Some f) = refl
 
-          r1 : Ready (forked_at g.path g.made (record { path = g.path; turns = g.since; act = Fork (record { kind = forking; tasks = ss }); ans = Went } ∷ g.log) g.names) (one_step w) t
-              (λ u. bind (begins_then 0 (length ss) told_join u) K)
-          r1 = ready_next (λ u. bind (begins_then 0 (length ss) told_join u) K) g.since (Fork (record { kind = forking; tasks = ss })) Went g.made (one_step w) g.names (fork_stays _) r refl refl
-              (structure_step Q r.holds g.path fork refl (λ c. refl) fork_prints refl (one_step w) refl refl refl refl (omega arith)) (λ xs. refl)
+        done : Post (ResultLike c) h v t K (out.Trapped trap p v) → Post (ResultLike c) g w t K (run sequential (k (Trap_of_branch trap p)) v)
+        done z = subst (λ (q : Prog ℕ Counted). Post (ResultLike c) g w t K (run sequential q v)) (sym (falls trap p))
+            (z.0, after_then a z.1, z.2, z.3 ∙ ap (λ f. first_of f (trap, p)) e ∙ twice w.trap)
 
-          join_prints : (f : Option (Trap × Place)) → printed_by Join f ≡ []
-          join_prints f = refl
+    -- the first trap in the order of the branches
+    falls_joined : (xs : List (EndingOver ℕ)) (f : Option (Trap × Place)) → all_fallen xs f ≡ brought_down (brought {M = Counted} (joined_in xs)) f
+    falls_joined xs f = all_down xs f ∙ sym (down_brought (first_trap xs))
+      where
+        all_down : (xs : List (EndingOver ℕ)) (f : Option (Trap × Place)) → all_fallen xs f ≡ down_or (first_trap xs) f
+        all_down [] f = refl
+        all_down (Returned v ∷ xs) f = all_down xs f
+        all_down (Assigned ls ∷ xs) f = all_down xs f
+        all_down (Trapped trap p ∷ xs) None = stays_fallen xs (trap, p)
+        all_down (Trapped trap p ∷ xs) (Some e) = stays_fallen xs e
 
-          a1 : After g (forked_at g.path g.made (record { path = g.path; turns = g.since; act = Fork (record { kind = forking; tasks = ss }); ans = Went } ∷ g.log) g.names) w (one_step w)
-          a1 = after_noted g w (one_step w) g.made g.since (Fork (record { kind = forking; tasks = ss })) Went g.names (later_none r.holds.distinct) (omega arith) (omega arith)
+        down_brought : (o : Option (Trap × Place)) → brought_down (brought {M = Counted} (joined_or o (all_locals xs))) f ≡ down_or o f
+        down_brought None = refl
+        down_brought (Some e) = refl
 
-          joins : {v : Store} {xs : List (EndingOver ℕ)} (h : Branched t K g.path (count g.log g.path) 0 g.made (fork ∷ g.log) g.names (one_step w) v (length ss) xs)
-              → Joins h.log g.path (joined h.ends)
-          joins h = record {
-            before = g.log;
-            fork = fork;
-            stands = h.grown;
-            path = refl;
-            since = h.begins;
-            last = h.since ∙ ap (λ l. h.begins ++ l) (mine_same fork g.log g.path refl);
-            tasks = record { kind = forking; tasks = ss };
-            act = refl;
-            all_begun = h.number;
-            ends = h.ends;
-            each = h.each;
-            ended = λ u x e k. (let n : 0 + u.1 ≡ u.1 = omega arith in subst (λ m. Ended h.log ((m, u.1) ∷ g.path) x) (sym e)
-                (subst (λ m. Ended h.log ((count g.log g.path, m) ∷ g.path) x) n (h.ended u.1 x k)));
-            answer = refl;
-          }
+    sim_split : Sim (ResultLike c) b ns (λ u. bind (told_fork forking ss u) then_told)
+        (λ w. bind (bind (one_by_one ts ms (one_step w)) (λ xs v. Done (brought {M = Counted} (joined_in xs)) (one_step v))) (λ x v. run sequential (k x) v))
+    sim_split = record {
+      from = λ g w t K l lt r. at g w t K l lt (ready_same r (λ xs. ap (replied t.work) (bind_assoc (told_fork forking ss (told_on g.since g.made xs)) then_told K)));
+    }
+      where
+        at : (g : Ghost) (w : Store) (t : Task) (K : ResultOf → ToldOf → OutOf ResultOf) → Later ns g.names → w.turns < b
+            → Ready g w t (λ u. bind (told_fork forking ss u) (λ y v. bind (then_told y v) K))
+            → Post (ResultLike c) g w t K (bind (bind (one_by_one ts ms (one_step w)) (λ xs v. Done (brought {M = Counted} (joined_in xs)) (one_step v)))
+            (λ x v. run sequential (k x) v))
+        at g w t K l lt r =
+            go (one_by_one ts ms (one_step w))
+            (sim_branches t next g.path (count g.log g.path) g.made all_forked g.log fork refl refl refl tl ms sims 0 (fork ∷ g.log) g.names (one_step w) l r1 now
+            (λ k s e. subst (λ n. slice_get ss n ≡ Some s) (sym (zero-add k)) e) (let e = ap length (mine_same fork g.log g.path refl) in omega arith))
+          where
+            next : Brought Name → ToldOf → OutOf ResultOf
+            next y v = bind (then_told y v) K
 
-          go : (o : OutIn (List (EndingOver ℕ))) → PostBranches t K g.path (count g.log g.path) 0 g.made (fork ∷ g.log) g.names (one_step w) (length ss) o
-              → Post BroughtLike g w t K (bind o (λ xs v. Done (brought {M = Counted} (joined_in xs)) (one_step v)))
-          go (out.Trapped trap q v) h = absurd h
-          go (Stopped n a) h = h
-          go (Lost v) h = out_after a1 h
-          go (Done xs v) h = (
-            noted (forked_at g.path g.made h.log h.names) g.made 0 Join (joined h.ends) h.names,
-            brought {M = LocalRegion} (joined h.ends),
-            joined_alike h.like,
-            after_then a1 (after_then a2 a3),
-            ready_next (K (brought {M = LocalRegion} (joined h.ends))) 0 Join (joined h.ends) g.made (one_step v) h.names join_stays h.ready refl (joins h)
+            fork : Event
+            fork = record { path = g.path; turns = g.since; act = Fork (record { kind = forking; tasks = ss }); ans = Went }
+
+            fork_prints : (f : Option (Trap × Place)) → printed_by (Fork all_forked) f ≡ []
+            fork_prints f = refl
+
+            r1 : Ready (forked_at g.path g.made (record { path = g.path; turns = g.since; act = Fork all_forked; ans = Went } ∷ g.log) g.names) (one_step w) t
+                (λ u. bind (begins_then 0 (length ss) told_join u) (λ y v. bind (then_told y v) K))
+            r1 = ready_next (λ u. bind (begins_then 0 (length ss) told_join u) (λ y v. bind (then_told y v) K)) g.since (Fork all_forked) Went g.made (one_step w) g.names (fork_stays _) r refl refl
+                (structure_step Q r.holds g.path fork refl (λ c. refl) fork_prints refl (one_step w) refl refl refl refl (omega arith)) (λ xs. refl)
+
+            join_prints : (f : Option (Trap × Place)) → printed_by Join f ≡ []
+            join_prints f = refl
+
+            a1 : After g (forked_at g.path g.made (record { path = g.path; turns = g.since; act = Fork all_forked; ans = Went } ∷ g.log) g.names) w (one_step w)
+            a1 = after_noted g w (one_step w) g.made g.since (Fork all_forked) Went g.names (later_none r.holds.distinct) (omega arith) (omega arith)
+
+            joins : {v : Store} {xs : List (EndingOver ℕ)}
+                (h : Branched t (λ y v. bind (then_told y v) K) g.path (count g.log g.path) 0 g.made (fork ∷ g.log) g.names (one_step w) v (length ss) xs)
+                → Joins h.log g.path (joined h.ends)
+            joins h = record {
+              before = g.log;
+              fork = fork;
+              stands = h.grown;
+              path = refl;
+              since = h.begins;
+              last = h.since ∙ ap (λ l. h.begins ++ l) (mine_same fork g.log g.path refl);
+              tasks = all_forked;
+              act = refl;
+              all_begun = h.number;
+              ends = h.ends;
+              each = h.each;
+              ended = λ u x e k. (let n : 0 + u.1 ≡ u.1 = omega arith in subst (λ m. Ended h.log ((m, u.1) ∷ g.path) x) (sym e)
+                  (subst (λ m. Ended h.log ((count g.log g.path, m) ∷ g.path) x) n (h.ended u.1 x k)));
+              answer = refl;
+            }
+
+            go : (o : OutIn (List (EndingOver ℕ)))
+                → PostBranches t (λ y v. bind (then_told y v) K) g.path (count g.log g.path) 0 g.made (fork ∷ g.log) g.names (one_step w) (length ss) o
+                → Post (ResultLike c) g w t K (bind (bind o (λ xs v. Done (brought {M = Counted} (joined_in xs)) (one_step v))) (λ x v. run sequential (k x) v))
+            go (out.Trapped trap q v) h = absurd h
+            go (Stopped n a) h = h
+            go (Lost v) h = out_after a1 h
+            go (Done xs v) h =
+                behind g (noted (forked_at g.path g.made h.log h.names) g.made 0 Join (joined h.ends) h.names) w (one_step v) t K
+                (brought {M = Counted} (joined_in xs)) (brought {M = LocalRegion} (joined h.ends)) (later_then l h.later) (joined_alike h.like) (let z = h.turns in omega arith)
+                (after_then a1 (after_then a2 a3)) (h.trap ∙ falls_joined xs w.trap)
+                (ready_next (λ v. bind (then_told (brought {M = LocalRegion} (joined h.ends)) v) K) 0 Join (joined h.ends) g.made (one_step v) h.names join_stays h.ready refl (joins h)
                 (structure_step Q h.ready.holds g.path (record { path = g.path; turns = 0; act = Join; ans = joined h.ends }) refl (λ c. refl) join_prints refl (one_step v) refl refl refl refl (omega arith))
-                (λ ys. refl),
-          )
-            where
-              a2 : After (forked_at g.path g.made (fork ∷ g.log) g.names) (forked_at g.path g.made h.log h.names) (one_step w) v
-              a2 = record { path = refl; grown = h.grown; kept = h.kept; names = h.later; turns = h.turns; spent = h.spent }
+                (λ ys. refl))
+              where
+                a2 : After (forked_at g.path g.made (fork ∷ g.log) g.names) (forked_at g.path g.made h.log h.names) (one_step w) v
+                a2 = record { path = refl; grown = h.grown; kept = h.kept; names = h.later; turns = h.turns; spent = h.spent }
 
-              a3 : After (forked_at g.path g.made h.log h.names) (noted (forked_at g.path g.made h.log h.names) g.made 0 Join (joined h.ends) h.names) v (one_step v)
-              a3 = after_noted (forked_at g.path g.made h.log h.names) v (one_step v) g.made 0 Join (joined h.ends) h.names (later_none h.ready.holds.distinct) (omega arith) (omega arith)
+                a3 : After (forked_at g.path g.made h.log h.names) (noted (forked_at g.path g.made h.log h.names) g.made 0 Join (joined h.ends) h.names) v (one_step v)
+                a3 = after_noted (forked_at g.path g.made h.log h.names) v (one_step v) g.made 0 Join (joined h.ends) h.names (later_none h.ready.holds.distinct) (omega arith) (omega arith)
 
   -- what a task of the elision does, and what its like does in a run
   abbrev AllAlike : Prog ℕ Counted → Type 0
@@ -892,6 +977,6 @@ module _ (P : PlainProgram) (arg : ℤ) where
       (λ c' ms x y l m. prog_sim (t x) e ms (s y) path l.distinct (ht ms x y l m) c')
       (λ c' ms x y l m. prog_sim (a x) e ms (z y) path l.distinct (hb ms x y l m) c') b f g d hf)
       (λ ms x y l m. prog_sim (k x) c ms (j y) path l.distinct (h ms x y l m) b))
-  prog_sim (Split forking ts bs k) c ns _ path d (alike_split forking' {j = j} tl coh h) b =
-      sim_bind (sim_fork forking tl _ (all_sim bs (λ i. prog_sim (bs i)) ts 0 (λ i t e. (let n : 0 + i ≡ i = omega arith in ap bs n ∙ coh i t e))))
+  prog_sim (Split forking ts bs k) c ns _ path d (alike_split forking' {j = j} tl coh falls h) b =
+      sim_split path forking tl _ (all_sim bs (λ i. prog_sim (bs i)) ts 0 (λ i t e. (let n : 0 + i ≡ i = omega arith in ap bs n ∙ coh i t e))) k j falls
       (λ ms x y l m. prog_sim (k x) c ms (j y) path l.distinct (h ms x y l m) b)

@@ -185,7 +185,7 @@ result_distinct (goes_on_like v f) = f.distinct
 result_distinct (returns_like d v) = d
 
 -- what two tasks do is like: the same actions, and then the same whatever more objects there are; and each branch of the elision
--- does what its task is to do
+-- does what its task is to do, and the first branch's trap goes on behind the join
 pub data Alike (P : PlainProgram) : ℕ → Names → Prog ℕ Counted → Prog Name LocalRegion → Type 0 where
   alike_ret : {c : ℕ} {ns : Names} {r : Result ℕ Counted} {s : Result Name LocalRegion} → ResultLike c ns r s → Alike P c ns (Ret r) (Ret s)
   alike_traps : {c : ℕ} {ns : Names} (trap : Trap) (p : Place) → Alike P c ns (Traps trap p) (Traps trap p)
@@ -204,5 +204,6 @@ pub data Alike (P : PlainProgram) : ℕ → Names → Prog ℕ Counted → Prog 
       → Alike P c ns (Again t b f k) (Again s a g j)
   alike_split : {c : ℕ} {ns : Names} (forking : Forking) {ts : List (Task ℕ Counted)} {ss : List (Task Name LocalRegion)} {bs : ℕ → Prog ℕ Counted}
       {as' : ℕ → Prog Name LocalRegion} {k : Brought ℕ → Prog ℕ Counted} {j : Brought Name → Prog Name LocalRegion} → TasksLike ns ts ss
-      → ((i : ℕ) (t : Task ℕ Counted) → slice_get ts i ≡ Some t → bs i ≡ does in_order P t) → ((ms : Names) (x : Brought ℕ) (y : Brought Name) → Later ns ms → BroughtLike ms x y → Alike P c ms (k x) (j y))
+      → ((i : ℕ) (t : Task ℕ Counted) → slice_get ts i ≡ Some t → bs i ≡ does in_order P t)
+      → ((trap : Trap) (p : Place) → k (Trap_of_branch trap p) ≡ Traps trap p) → ((ms : Names) (x : Brought ℕ) (y : Brought Name) → Later ns ms → BroughtLike ms x y → Alike P c ms (k x) (j y))
       → Alike P c ns (Split forking ts bs k) (Split forking ss as' j)
