@@ -5,3 +5,5 @@ mod Working
 mod Memory
 mod Turns
 mod Sim
+mod Fuel
+mod Theorems

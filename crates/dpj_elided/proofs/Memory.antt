@@ -41,7 +41,7 @@ values_length : {ns : Names} {vs : List ValueIn} {us : List Value} → ValuesLik
 values_length no_values = refl
 values_length (more_values h k) = ap (λ n. suc n) (values_length k)
 
-size_like : {ns : Names} {t : ThingIn} {s : Thing} → ThingLike ns t s → size t ≡ size s
+pub size_like : {ns : Names} {t : ThingIn} {s : Thing} → ThingLike ns t s → size t ≡ size s
 size_like (an_object_like c r v) = values_length v
 size_like (an_array_like len v) = refl
 
@@ -323,7 +323,7 @@ module _ (P : Program) {R : Run} {ns : Names} {heap : Heap} (d : Distinct ns) {n
       cell_is c ne = ap (λ b. b && is_slot i c.slot) (false_from_ne_true _ (λ t. ne (same_name_eq x c.object t)))
 
 -- a new object or array
-abbrev first_cell : Thing → Option ℕ → Option Value
+abbrev pub first_cell : Thing → Option ℕ → Option Value
 first_cell t None = None
 first_cell t (Some k) = Some (first_value t k)
 
@@ -342,7 +342,7 @@ replicate_past zero x k l = refl
 replicate_past (suc n) x zero l = absurd (omega arith)
 replicate_past (suc n) x (suc k) l = replicate_past n x k (omega arith)
 
-held_like : {ns : Names} {t : ThingIn} {s : Thing} → ThingLike ns t s → (k : ℕ) → MaybeLike ns (slice_get (held t).values k) (first_cell s (slot_of (pos k) (size s)))
+pub held_like : {ns : Names} {t : ThingIn} {s : Thing} → ThingLike ns t s → (k : ℕ) → MaybeLike ns (slice_get (held t).values k) (first_cell s (slot_of (pos k) (size s)))
 held_like {ns} (an_object_like c {rs} {qs} {vs} {us} r h) k = go (nat_lt k (length us)) refl (slice_get us k) refl (fields_like h k)
   where
     go : (b : Bool) → nat_lt k (length us) ≡ b → (o : Option Value) → slice_get us k ≡ o → MaybeLike ns (slice_get vs k) o
@@ -364,7 +364,7 @@ held_like {ns} (an_array_like {r} {q} len {v} {u} h) k = go (nat_lt k len) refl
         (sym (replicate_past len v k (⊎_elim (λ l. absurd (true≢false (sym (lt-ltb k len l) ∙ e))) (λ l. l) (cases_lt k len))))
         (subst (λ (r : Option Value). MaybeLike ns None r) (sym (ap (λ b. first_cell (An_array q len u) (if b then Some k else None)) e)) none_like)
 
-held_thing : {ns : Names} {t : ThingIn} {s : Thing} → ThingLike ns t s → ThingLike ns (held t).thing s
+pub held_thing : {ns : Names} {t : ThingIn} {s : Thing} → ThingLike ns t s → ThingLike ns (held t).thing s
 held_thing (an_object_like c r v) = an_object_like c r v
 held_thing (an_array_like len v) = an_array_like len v
 

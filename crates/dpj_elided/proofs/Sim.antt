@@ -594,7 +594,7 @@ module _ (P : PlainProgram) (arg : ℤ) where
   trap_end trap p None = refl
   trap_end trap p (Some f) = refl
 
-  one_branch : (q : Path) (R : Run) (ns : Names) (w : Store) (t : TaskOver ℕ Counted) (s : Task) (m : Store → OutIn ResultIn) → TaskLike ns t s → BranchSim t m
+  pub one_branch : (q : Path) (R : Run) (ns : Names) (w : Store) (t : TaskOver ℕ Counted) (s : Task) (m : Store → OutIn ResultIn) → TaskLike ns t s → BranchSim t m
       → Legal Q R → InOrder R → Working Q R q → Begun Q R q s → mine R q ≡ [] → Holds Q R ns 0 w → PostOne q R ns w (at_end t.work (m w))
   one_branch q R ns w t s m tl sim legal order working begun none_yet holds =
       go (m w) ((sim ns s q tl (suc w.turns)).from (begun_at q R ns) w s (λ v u. Done v u) (later_none holds.distinct) (omega arith) start)
@@ -965,7 +965,7 @@ module _ (P : PlainProgram) (arg : ℤ) where
           h j tl.left ns (does (named_by q) P s) q tl.frame.distinct
           (subst (λ (x : Prog ℕ Counted). Alike P tl.left ns x (does (named_by q) P s)) (sym same) (does_alike q P tl)) b
 
-  prog_sim : (p : Prog ℕ Counted) → AllAlike p
+  pub prog_sim : (p : Prog ℕ Counted) → AllAlike p
   prog_sim (Ret r) c ns _ path d (alike_ret {s = s} h) b = sim_done r s (λ ms l. result_later l h)
   prog_sim (Traps trap x) c ns _ path d (alike_traps trap' x') b = sim_trapped trap x
   prog_sim (Act o k) c ns _ path d (alike_act {j = j} like h) b = sim_bind (sim_act like) (λ ms x y l a. prog_sim (k x) c ms (j y) path l.distinct (h ms x y l a) b)

@@ -14,14 +14,11 @@ use Rattle.dpj_meaning.specs.Counts.{Brought, Back, Trap_of_branch}
 use Rattle.dpj_meaning.specs.Asking.{does}
 use Rattle.dpj_meaning.specs.Elision.{LocalRegion as Counted, in_order}
 use Rattle.dpj_runs.specs.Objects.{Name, LocalRegion}
+pub use Rattle.dpj_elided.specs.Renamed.{Distinct}
 
 -- the names of the objects that were made, in order
 abbrev pub Names : Type 0
 Names = List Name
-
--- no two objects have one name
-pub record Distinct (ns : Names) : Type 0 where
-  pub one : (n m : ℕ) (x : Name) → slice_get ns n ≡ Some x → slice_get ns m ≡ Some x → n ≡ m
 
 -- after more objects were made
 pub record Later (ns ms : Names) : Type 0 where

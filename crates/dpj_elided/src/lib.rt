@@ -4,3 +4,5 @@
 //! the events which it makes are a legal run of the program, in the order of elision, that comes out and costs as the elision
 //! says; so what is proved of all legal runs holds of the elision.
 #![tactic(auto)]
+
+pub mod laws;

@@ -1,0 +1,16 @@
+//! The laws of the sequential elision, each the clause of a function that does nothing.
+
+ghost use Rattle.dpj_elided.specs.Laws.{ElisionIsLegal, NoneCostsMoreThanElision, RunsAreElided, SchedulesAreElided};
+
+/// The sequential elision of each typed program is one of its legal runs, with the same ending, output, steps and cells.
+pub fn law_elision()
+    ensures legal { ElisionIsLegal }
+{}
+
+/// Where no legal run of a typed program has unordered conflicts, every legal run whose root has ended, and every finished
+/// schedule, comes out as the sequential elision, limits included.
+pub fn law_determinism()
+    ensures runs { RunsAreElided }
+    ensures schedules { SchedulesAreElided }
+    ensures cost { NoneCostsMoreThanElision }
+{}
