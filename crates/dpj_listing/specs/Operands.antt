@@ -1,5 +1,5 @@
 -- What stands behind the name of an instruction.
-use Rattle.std.specs.Prelude.{ℕ, true, false, List, [], ◌∷◌, ◌++◌, codes}
+use Rattle.std.specs.Prelude.{ℕ, true, false, List, [], ◌++◌, codes}
 use Rattle.std.specs.Fmt.{decimal, signed_decimal}
 use Rattle.dpj_listing.specs.declared.instr.Operand.{Operand}
 use Rattle.dpj_listing.specs.declared.instr.Operand.TheVariants as operand
