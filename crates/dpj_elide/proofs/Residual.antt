@@ -8,7 +8,7 @@ use Rattle.dpj_meaning.specs.Core.{Result, Goes_on, Returns, Prog, Ret, Act, Aga
 use Rattle.dpj_meaning.specs.Core.{Out as out}
 use Rattle.dpj_meaning.specs.Counts.{slot_value, brought}
 use Rattle.dpj_meaning.specs.Elision.{LocalRegion, in_order, Store, one_turn, at_end, one_by_one, one_step, sequential}
-use Rattle.dpj_meaning.specs.Expressions.{gives, of_expr}
+use Rattle.dpj_meaning.specs.Expressions.{gives, none, of_expr}
 use Rattle.dpj_meaning.specs.Outcomes.{joined_or, first_trap, all_locals}
 use Rattle.dpj_meaning.specs.Statements.{joined, of_stmt, of_stmts, begun}
 use Rattle.dpj_elide.specs.Agenda.{Item, evaluate, operate, carry_out, finish, counted, goes_on, test, turn, leave, deeper_at, operands_of, count, applied, needs, finished, parted}
@@ -32,7 +32,7 @@ item_run P d (goes_on ss) vs f w = run sequential (of_stmts in_order P (deeper_a
 item_run P d (test e s) vs f w = again P d e s f w
 item_run P d (turn e s) vs f w =
     tested (λ v. one_turn v.turns v) (λ g v. run sequential (of_stmt in_order P (deeper_at P d) s g) v) (λ g v. again P d e s g v) (Goes_on (slot_value vs 0) f) w
-item_run P d leave vs f w = run sequential (Act Exit (λ c. gives (slot_value vs 0) f)) w
+item_run P d leave vs f w = run sequential (Act Exit (λ c. gives none f)) w
 
 -- the operands behind it, where it gives a value
 abbrev pub stacked : Item → List (Value ℕ) → Value ℕ → List (Value ℕ)
@@ -46,12 +46,8 @@ stacked (test e s) vs v = vs
 stacked (turn e s) vs v = drop 1 vs
 stacked leave vs v = vs
 
--- a level that has done all
-abbrev pub all_done : Value ℕ → Frame ℕ LocalRegion → Store → Ran
-all_done v f w = Done (Goes_on v f) w
-
 abbrev pub items_run : PlainProgram → ℕ → List Item → List (Value ℕ) → Frame ℕ LocalRegion → Store → Ran
-items_run P d [] vs f w = Done (Goes_on (slot_value [] 0) f) w
+items_run P d [] vs f w = Done (Goes_on none f) w
 items_run P d (i ∷ is) vs f w = bind (item_run P d i vs f w) (λ r u. proceeds (λ v g x. items_run P d is (stacked i vs v) g x) r u)
 
 abbrev pub level_run : PlainProgram → Level → Store → Ran
