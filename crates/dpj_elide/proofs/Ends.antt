@@ -34,7 +34,7 @@ no_other None = refl
 no_other (Some fell) = refl
 
 -- what a branch ends with doesn't depend on the value of its last statement
-end_same : (k : Work) (o : Ran) → at_end k (bind o (λ r u. proceeds (λ v g x. Done (Goes_on none g) x) r u)) ≡ at_end k o
+pub end_same : (k : Work) (o : Ran) → at_end k (bind o (λ r u. proceeds (λ v g x. Done (Goes_on none g) x) r u)) ≡ at_end k o
 end_same k (Done (Goes_on v f) w) = refl
 end_same k (Done (Returns v) w) = refl
 end_same k (out.Trapped t p w) = refl

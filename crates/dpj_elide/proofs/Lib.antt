@@ -6,3 +6,5 @@ pub mod Loops
 pub mod Forks
 pub mod Calls
 pub mod Keeps
+pub mod Costs
+pub mod Theorems

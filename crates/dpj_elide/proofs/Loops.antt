@@ -3,7 +3,7 @@ use Rattle.std.proofs.Common.{◌≡◌, ◌<◌, ◌≤◌, ℕ, zero, suc, ◌
 use Rattle.dpj_base.specs.declared.place.Place.{Place}
 use Rattle.dpj_base.specs.declared.value.Trap.{Trap}
 use Rattle.dpj_meaning.specs.Values.{Value}
-use Rattle.dpj_meaning.specs.Actions.{Frame, Task, Ending, Own}
+use Rattle.dpj_meaning.specs.Actions.{Frame, Work, Task, Ending, Own}
 use Rattle.dpj_meaning.specs.Core.{Result, Goes_on, Returns, Prog, Ret, Traps, Act, Makes, Again, Split, Done, Stopped, Lost, bind, rounded, tested, loop, each_from, run}
 use Rattle.dpj_meaning.specs.Core.{Out as out}
 use Rattle.dpj_meaning.specs.Costs.{own_steps, own_cells}
@@ -52,7 +52,7 @@ turn_leaves (suc n) w e = record { turns = omega arith; steps = omega arith; cel
 region_leaves : (w : Store) → Leaves w (new_region w)
 region_leaves w = leaves_bind w (one_turn w.turns w) _ (turn_leaves w.turns w refl) (λ u v h. record { turns = omega arith; steps = omega arith; cells = omega arith })
 
-end_leaves : (k : _) (w : Store) (o : out ℕ LocalRegion (Result ℕ LocalRegion) Store) → Leaves w o → Leaves w (at_end k o)
+pub end_leaves : (k : Work) (w : Store) (o : out ℕ LocalRegion (Result ℕ LocalRegion) Store) → Leaves w o → Leaves w (at_end k o)
 end_leaves k w (Done r v) h = h
 end_leaves k w (out.Trapped t p v) h = record { turns = h.turns; steps = h.steps; cells = h.cells }
 end_leaves k w (Stopped n a) h = tt
@@ -69,7 +69,7 @@ rounded_leaves : (again : Step) → ((f : Frame ℕ LocalRegion) (w : Store) →
 rounded_leaves again h (Goes_on x g) v = h g v
 rounded_leaves again h (Returns x) v = now v
 
-tested_leaves : (B again : Step) → ((f : Frame ℕ LocalRegion) (w : Store) → Leaves w (B f w)) → ((f : Frame ℕ LocalRegion) (w : Store) → Leaves w (again f w))
+pub tested_leaves : (B again : Step) → ((f : Frame ℕ LocalRegion) (w : Store) → Leaves w (B f w)) → ((f : Frame ℕ LocalRegion) (w : Store) → Leaves w (again f w))
     → (r : Result ℕ LocalRegion) (v : Store) → Leaves v (tested One_turn B again r v)
 tested_leaves B again hb h (Returns x) v = now v
 tested_leaves B again hb h (Goes_on x g) v = by_truth (truth x)
@@ -133,20 +133,19 @@ loop_same T B ht hb (suc n) (suc m) f w h k =
     bind_later w (T f w) _ _ (ht f w) (λ r v l. tested_same B (λ g u. loop One_turn T B n g u) (λ g u. loop One_turn T B m g u) hb r v
     (λ g z i. loop_same T B ht hb n m g z (let q : v.turns ≤ w.turns = l.turns in omega (arith, q)) (let q : v.turns ≤ w.turns = l.turns in omega (arith, q))))
 
+-- behind a step
+pub stepped : {V : Type 0} (w : Store) (o : out ℕ LocalRegion V Store) → Leaves (one_step w) o → Leaves w o
+stepped w (Done x v) k = record { turns = k.turns; steps = omega arith; cells = k.cells }
+stepped w (out.Trapped t p v) k = record { turns = k.turns; steps = omega arith; cells = k.cells }
+stepped w (Stopped n a) k = tt
+stepped w (Lost v) k = record { turns = k.turns; steps = omega arith; cells = k.cells }
+
 branches_leave : (F : ℕ → Store → out ℕ LocalRegion (Result ℕ LocalRegion) Store) → ((i : ℕ) (w : Store) → Leaves w (F i w))
     → (i : ℕ) (ts : List (Task ℕ LocalRegion)) (w : Store) → Leaves w (one_by_one ts (each_from F i ts) w)
 branches_leave F h i [] w = now w
 branches_leave F h i (t ∷ ts) w =
-    leaves_bind w (at_end t.work (F i (one_step w))) _ (begun t)
+    leaves_bind w (at_end t.work (F i (one_step w))) _ (stepped w _ (end_leaves t.work (one_step w) (F i (one_step w)) (h i (one_step w))))
     (λ x v k. leaves_bind v (one_by_one ts (each_from F (suc i) ts) v) _ (branches_leave F h (suc i) ts v) (λ xs u l. now u))
-  where
-    stepped : (o : out ℕ LocalRegion (Ending ℕ) Store) → Leaves (one_step w) o → Leaves w o
-    stepped (Done x v) k = record { turns = k.turns; steps = omega arith; cells = k.cells }
-    stepped (out.Trapped t p v) k = record { turns = k.turns; steps = omega arith; cells = k.cells }
-    stepped (Stopped n a) k = tt
-    stepped (Lost v) k = record { turns = k.turns; steps = omega arith; cells = k.cells }
-    begun : (t : Task ℕ LocalRegion) → Leaves w (at_end t.work (F i (one_step w)))
-    begun t = stepped (at_end t.work (F i (one_step w))) (end_leaves t.work (one_step w) (F i (one_step w)) (h i (one_step w)))
 
 pub run_leaves : (p : Prog ℕ LocalRegion) (w : Store) → Leaves w (run sequential p w)
 run_leaves (Ret r) w = now w
@@ -158,14 +157,8 @@ run_leaves (Again t b f k) w =
     (loop_leaves (λ g v. run sequential (t g) v) (λ g v. run sequential (b g) v) (λ g v. run_leaves (t g) v) (λ g v. run_leaves (b g) v) (suc w.turns) f w) (λ r v h. run_leaves (k r) v)
 run_leaves (Split forking ts bs k) w =
     leaves_bind w (sequential.fork forking ts (each_from (λ i v. run sequential (bs i) v) 0 ts) w) _
-    (leaves_bind w (one_by_one ts (each_from (λ i v. run sequential (bs i) v) 0 ts) (one_step w)) _ (stepped _ (branches_leave _ (λ i v. run_leaves (bs i) v) 0 ts (one_step w)))
+    (leaves_bind w (one_by_one ts (each_from (λ i v. run sequential (bs i) v) 0 ts) (one_step w)) _ (stepped w _ (branches_leave _ (λ i v. run_leaves (bs i) v) 0 ts (one_step w)))
     (λ xs v h. record { turns = omega arith; steps = omega arith; cells = omega arith })) (λ x v h. run_leaves (k x) v)
-  where
-    stepped : (o : out ℕ LocalRegion (List (Ending ℕ)) Store) → Leaves (one_step w) o → Leaves w o
-    stepped (Done x v) k = record { turns = k.turns; steps = omega arith; cells = k.cells }
-    stepped (out.Trapped t p v) k = record { turns = k.turns; steps = omega arith; cells = k.cells }
-    stepped (Stopped n a) k = tt
-    stepped (Lost v) k = record { turns = k.turns; steps = omega arith; cells = k.cells }
 
 done_again : (o : out ℕ LocalRegion (Result ℕ LocalRegion) Store) → bind o (λ r v. run sequential (Ret r) v) ≡ o
 done_again (Done r v) = refl
