@@ -1,1 +1,5 @@
-
+pub mod Closed
+pub mod Codes
+pub mod Indices
+pub mod Types
+pub mod Work
