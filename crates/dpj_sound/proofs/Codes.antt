@@ -66,5 +66,5 @@ ground_env given g plain one hold = record {
   constraints = hold;
 }
 
-unmade_one : (r q : ℕ) → Unmade r ≡ Unmade q → r ≡ q
+pub unmade_one : (r q : ℕ) → Unmade r ≡ Unmade q → r ≡ q
 unmade_one r q e = cc
