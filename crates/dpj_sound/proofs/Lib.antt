@@ -1,6 +1,10 @@
 pub mod Classes
 pub mod Closed
 pub mod Codes
+pub mod Expressions
+pub mod Frames
+pub mod InScope
 pub mod Indices
+pub mod Making
 pub mod Types
 pub mod Work
