@@ -1,3 +1,4 @@
+pub mod Chains
 pub mod Classes
 pub mod Closed
 pub mod Codes
