@@ -36,7 +36,7 @@ module _ (P : PlainProgram) (wt : WellTyped P) where
   is_lower same = omega arith
   is_lower (up e h) = let a = parent_lower e in let b = is_lower h in omega (arith, a, b)
 
-  above_lower : {c d : ℕ} {args owned : List Rpl} → Above P c args d owned → wt.rank d ≤ wt.rank c
+  pub above_lower : {c d : ℕ} {args owned : List Rpl} → Above P c args d owned → wt.rank d ≤ wt.rank c
   above_lower itself = omega arith
   above_lower (through_parent e h) = let a = parent_lower e in let b = above_lower h in omega (arith, a, b)
 
@@ -111,7 +111,7 @@ module _ (P : PlainProgram) (wt : WellTyped P) where
   is_from_below below_case.same rs = (rs, same)
   is_from_below (below_case.below {p = p} e h) rs = let z = is_from_below h (regions_of_parent rs p) in (z.0, up e z.1)
 
-  same_parent : (c : ℕ) {p q : PlainParent} → parent_of P c ≡ Some p → parent_of P c ≡ Some q → p ≡ q
+  pub same_parent : (c : ℕ) {p q : PlainParent} → parent_of P c ≡ Some p → parent_of P c ≡ Some q → p ≡ q
   same_parent c {p} {q} e f = let z : Some p ≡ Some q = sym e ∙ f in cc
 
   -- arguments that match the regions of a class match those of a class above it
