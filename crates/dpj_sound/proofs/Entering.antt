@@ -1,0 +1,210 @@
+-- A member that is entered at an object begins in a frame that fits, and does what its caller's types and effects say.
+use Rattle.std.proofs.Common.{◌≡◌, ◌<◌, ◌≤◌, ⊎_elim, inl, inr, ℕ, zero, suc, ◌+◌, ◌-◌, Bool, true, false, cond, List, [], ◌∷◌, ◌++◌, map, length, refl, sym, ap, ◌∙◌, subst, arith, Option, Some, None, IsTrue, slice_get, slice_index_or, append_assoc}
+use Rattle.std.specs.Prelude.{All, option_and_then, option_map, pos}
+use Rattle.std.specs.List.{AllZip}
+use Rattle.std.proofs.lemmas.List.{length-map, map-append, length-append, get_or_append_left}
+use Rattle.std.proofs.lemmas.List.Elements.{All-head, All-tail, All-cons, All-append}
+use Rattle.std.proofs.lemmas.Bool.{false≢true}
+use Rattle.std.proofs.lemmas.Option.{get_or_from_slice_get, slice_get_within}
+use Rattle.dpj_base.specs.declared.effect.Constraint.{Constraint}
+use Rattle.dpj_base.specs.declared.effect.Effect.{Effect}
+use Rattle.dpj_base.specs.declared.elems.Elem.{Elem}
+use Rattle.dpj_base.specs.declared.elems.Elem.TheVariants.{At, Any, Star, Local}
+use Rattle.dpj_base.specs.declared.elems.Elem.TheVariants as elem
+use Rattle.dpj_base.specs.declared.elems.Index.TheVariants.{Literal, Variable, Renamed, Own}
+use Rattle.dpj_base.specs.declared.region.Head.{Head}
+use Rattle.dpj_base.specs.declared.region.Head.TheVariants.{Root, Param}
+use Rattle.dpj_base.specs.declared.region.Rpl.{Rpl}
+use Rattle.dpj_base.specs.Apart.{apart}
+use Rattle.dpj_base.specs.Matching.{Env, IsEnv, Holds, put_elem, put_in, Matches}
+use Rattle.dpj_base.specs.Matching.{head_region as env_region}
+use Rattle.dpj_base.specs.Regions.{within, covers_elems, fully_specified, argument, put_at, substituted}
+use Rattle.dpj_base.specs.Types.{PlainType, int, boolean, void, null, class, array}
+use Rattle.dpj_typed.specs.Plain.{PlainProgram, PlainClass, PlainMember}
+use Rattle.dpj_typed.specs.Scope.{Scope, variable, frozen, constant, class_at, member_at}
+use Rattle.dpj_typed.specs.Scope.{Local as ScopeLocal}
+use Rattle.dpj_typed.specs.Table.{params_from, own_paths, class_scope, member_scope, first_locals, body_scope, GoodMember}
+use Rattle.dpj_typed.specs.Types.{GoodType}
+use Rattle.dpj_typed.specs.WellTyped.{WellTyped}
+use Rattle.dpj_meaning.specs.Counts.{number, slot_value, padded}
+use Rattle.dpj_meaning.specs.Expressions.{entered}
+use Rattle.dpj_meaning.specs.Regions.{unmade_from}
+use Rattle.dpj_regions.proofs.Inclusion.{Covers-from, Covers-to, Covers-append, Covers-refl, within-refl}
+use Rattle.dpj_regions.proofs.Putting.{specified_matches_one}
+use Rattle.dpj_disjoint.proofs.Envs.{matches-within, stays_apart}
+use Rattle.dpj_runs.specs.Objects.{Path, LocalRegion, Unmade, Value, Null, Object, Region}
+use Rattle.dpj_runs.specs.Objects.{Name as ObjectName}
+use Rattle.dpj_steps.specs.Steps.{named_by}
+use Rattle.dpj_sound.specs.Grounds.{elems_of, Ground, region_in, ArePlain, env_of, class_ground, class_env}
+use Rattle.dpj_sound.specs.Shapes.{object, Shapes, Is, AllMatch, GoodObject, Instance, FitsIn}
+use Rattle.dpj_sound.specs.Frames.{Frame, State, LocalFits, FrameFits}
+use Rattle.dpj_sound.specs.Scopes.{InScope, PathInScope, TypeInScope, LocalInScope, GoodScope}
+use Rattle.dpj_sound.proofs.Closed.{ClosedPath, closed_put, closed_holds, closed_path, map_agree}
+use Rattle.dpj_sound.proofs.Codes.{unmade_one}
+use Rattle.dpj_sound.proofs.Types.{Stands}
+use Rattle.dpj_sound.proofs.Classes.{all_get}
+use Rattle.dpj_sound.proofs.InScope.{good_type}
+use Rattle.dpj_sound.proofs.Members.{Shown, class_params, plain_both}
+
+-- what stands for a path lies in the path with arguments put in
+
+root_put : (env inner : Env) (a : List Elem) → (n : ℕ) (h : Head) → ClosedPath n 0 (record { head = h; elems = a }) → put_in inner (record { head = Root; elems = a }) ≡ put_in env (record { head = Root; elems = a })
+root_put env inner a n h c =
+    closed_put 0 0 inner env (record { region = λ p l. absurd (omega (arith, l)); own = λ d l. absurd (omega (arith, l)) }) (record { head = Root; elems = a })
+    (record { head = λ p e. (let q : Root ≡ Param p = e in absurd (cc)); elems = c.elems })
+
+within_at : (n : ℕ) (env inner : Env) (args : List Rpl) → IsEnv [] env → Stands n 0 env inner args → (h : Head) (a : List Elem) → ClosedPath n 0 (record { head = h; elems = a }) →
+    within (put_in inner (record { head = h; elems = a })) (put_in env (put_at h a args)) ≡ true
+unfolding within put_in
+within_at n env inner args v s Root a c = subst (λ z. within z (put_in env (record { head = Root; elems = a })) ≡ true) (sym (root_put env inner a n Root c)) (within-refl (put_in env (record { head = Root; elems = a })))
+within_at n env inner args v s (Param p) a c =
+    let arg = argument args p in
+    let w = matches-within [] env v arg (inner.region p) (s.match p (c.head p refl)) in
+    let both = Covers-to (Covers-append (Covers-from (put_in env arg).elems (inner.region p) w) (Covers-refl (map (put_elem env) a))) in
+    let e : map (put_elem inner) a ≡ map (put_elem env) a = ap (λ (z : Rpl). z.elems) (root_put env inner a n (Param p) c) in
+    let k : (put_in env arg).elems ++ map (put_elem env) a ≡ env_region env arg.head ++ map (put_elem env) (arg.elems ++ a) =
+        append_assoc (env_region env arg.head) (map (put_elem env) arg.elems) (map (put_elem env) a) ∙ ap (λ z. env_region env arg.head ++ z) (sym (map-append (put_elem env) arg.elems a)) in
+    subst (λ z. covers_elems z (inner.region p ++ map (put_elem inner) a) ≡ true) k (subst (λ z. covers_elems ((put_in env arg).elems ++ map (put_elem env) a) (inner.region p ++ z) ≡ true) (sym e) both)
+
+pub within_put : (n : ℕ) (env inner : Env) (args : List Rpl) → IsEnv [] env → Stands n 0 env inner args → (a : Rpl) → ClosedPath n 0 a → within (put_in inner a) (put_in env (substituted args a)) ≡ true
+unfolding substituted
+within_put n env inner args v s a c = within_at n env inner args v s a.head a.elems c
+
+-- constraints that hold with arguments put in hold of the regions that these match
+pub given_holds : (n : ℕ) (given : List Constraint) (env inner : Env) (args : List Rpl) → IsEnv given env → IsEnv [] env → Stands n 0 env inner args → (cs : List Constraint) →
+    All (λ (c : Constraint). ClosedPath n 0 c.left × ClosedPath n 0 c.right) cs → All (λ (c : Constraint). IsTrue (apart given (substituted args c.left) (substituted args c.right))) cs → All (Holds inner) cs
+given_holds n given env inner args v v0 s cs cl h = λ k c l.
+    (let z = cl k c l in
+    let x = slice_index_or cs k c in
+    stays_apart given env v (substituted args x.left) (substituted args x.right) (put_in inner x.left) (put_in inner x.right) (h k c l) (within_put n env inner args v0 s x.left z.0) (within_put n env inner args v0 s x.right z.1))
+
+-- the slots of a frame
+
+padded_at : (n x : ℕ) (vs : List Value) → x < n → slice_index_or (padded n vs) x Null ≡ slice_index_or vs x Null
+padded_at zero x vs l = absurd (omega (arith, l))
+padded_at (suc n) zero [] l = refl
+padded_at (suc n) zero (v ∷ vs) l = refl
+padded_at (suc n) (suc x) [] l = padded_at n x [] (omega (arith, l))
+padded_at (suc n) (suc x) (v ∷ vs) l = padded_at n x vs (omega (arith, l))
+
+padded_length : (n : ℕ) (vs : List Value) → length (padded n vs) ≡ n
+padded_length zero vs = refl
+padded_length (suc n) [] = ap (λ k. suc k) (padded_length n [])
+padded_length (suc n) (v ∷ vs) = ap (λ k. suc k) (padded_length n vs)
+
+unmade_length : (p : Path) (r n : ℕ) → length (unmade_from (named_by p) r n) ≡ n
+unmade_length p r zero = refl
+unmade_length p r (suc n) = ap (λ k. suc k) (unmade_length p (suc r) n)
+
+shown_match : (env : Env) (args : List Rpl) (rs : List Region) → Shown env args rs → AllMatch env args rs
+shown_match env args rs s = go args rs s.puts s.full
+  where
+    go : (args : List Rpl) (rs : List Region) → AllZip (λ a r. elems_of r ≡ (put_in env a).elems) args rs → All (λ a. IsTrue (fully_specified a)) args → AllMatch env args rs
+    go [] [] p f = tt
+    go [] (r ∷ rs) p f = p
+    go (a ∷ args) [] p f = p
+    go (a ∷ args) (r ∷ rs) p f =
+        ((specified_matches_one env a (All-head (λ a. IsTrue (fully_specified a)) a args f) (elems_of r)).1 p.0, go args rs p.1 (All-tail (λ a. IsTrue (fully_specified a)) a args f))
+
+-- in another scope, where nothing but region parameters is spoken of
+module _ (M L : Scope) (none : (x : ℕ) → M.local x ≡ None) (no_region : (r : ℕ) → M.regions r ≡ true → ⊥) where
+  other_elem : (D : ℕ) (x : Elem) → InScope M D x → InScope L D x
+  other_elem D (elem.Name n) g = tt
+  other_elem D (At (Literal k)) g = tt
+  other_elem D (At (Variable x)) g = absurd (let e : None ≡ Some (constant int) = sym (none x) ∙ g in cc)
+  other_elem D (At (Renamed x)) g = g
+  other_elem D (At (Own d)) g = g
+  other_elem D Any g = tt
+  other_elem D Star g = tt
+  other_elem D (Local r n) g = absurd (no_region r g.1)
+
+  pub other_type : (D : ℕ) (t : PlainType) → TypeInScope M D t → TypeInScope L D t
+  other_type D int g = tt
+  other_type D boolean g = tt
+  other_type D void g = tt
+  other_type D null g = tt
+  other_type D (class c args) g = λ k d l j e m. other_elem D _ (g k d l j e m)
+  other_type D (array t a named) g = (λ j e m. other_elem (suc D) _ (g.0 j e m), other_type (suc D) t g.1, g.2)
+
+module _ (P : PlainProgram) (wt : WellTyped P) (n : ℕ) (m : PlainMember) (there : member_at P n ≡ Some m) where
+  abbrev good : GoodMember P wt.never_nd n m
+  good = wt.members n m there
+
+  abbrev pub scope : Scope
+  scope = body_scope good.class wt.never_nd n m
+
+  formal_local : (x : ℕ) (o : Option PlainType) (l : ScopeLocal) → option_map variable o ≡ Some l → (t : PlainType) × (o ≡ Some t) × (l ≡ variable t)
+  formal_local x None l e = absurd (let z : None ≡ Some l = e in cc)
+  formal_local x (Some t) l e = (t, refl, (let z : Some (variable t) ≡ Some l = e in cc))
+
+  params_in : (L : Scope) (j k : ℕ) → All (PathInScope L 0) (params_from j k)
+  params_in L j zero = λ i d l. absurd (omega (arith, l))
+  params_in L j (suc k) = All-cons (PathInScope L 0) (record { head = Param j; elems = [] }) (params_from (suc j) k) (λ i d l. absurd (omega (arith, l))) (params_in L (suc j) k)
+
+  pub body_good : GoodScope scope
+  body_good = record { each = go }
+    where
+      go : (x : ℕ) (l : ScopeLocal) → first_locals good.class m x ≡ Some l → LocalInScope scope l
+      go zero l e = let z : frozen (class m.class (own_paths good.class)) ≡ l = cc in subst (LocalInScope scope) z (params_in scope 0 (length good.class.params))
+      go (suc x) l e =
+          let z = formal_local x (slice_get m.formals x) l e in
+          subst (LocalInScope scope) (sym z.2)
+          (other_type (member_scope good.class m) scope (λ y. refl) (λ r t. false≢true t) 0 z.0
+          (good_type P (member_scope good.class m) 0 z.0 (all_get (GoodType P (member_scope good.class m) 0) m.formals x z.0 good.formals z.1)))
+
+  -- the frame in which it begins, at an object or as its constructor
+  pub entered_fits : (path : Path) (st : State) (zs own : List Region) (left : ℕ) → GoodObject P m.class zs → ArePlain own → All (Holds (class_env (zs ++ own))) m.given →
+      (o : ObjectName) → (d : ℕ) (made : List Region) → st.shapes o ≡ Some (object d made) → GoodObject P d made → Is P d made m.class zs →
+      (vs : List Value) → ((x : ℕ) (t : PlainType) → slice_get m.formals x ≡ Some t → FitsIn P st.shapes (class_env (zs ++ own)) t (slice_index_or vs x Null)) →
+      FrameFits P path st (class_ground (zs ++ own)) scope (entered (named_by path) m (Object o ∷ vs) (zs ++ own) left)
+  entered_fits path st zs own left gz plain given o d made shape gd is_one vs fits = record {
+    regions = refl;
+    plain = plain_both P wt zs own gz.plain plain;
+    given = All-append (Holds (class_env (zs ++ own))) good.class.given m.given class_given given;
+    index = λ x e. absurd (no_constant x e);
+    made = λ r e. absurd (false≢true e);
+    distinct = unmade_one;
+    old = λ r. refl;
+    slots = padded_length m.slots (Object o ∷ vs);
+    local_regions = unmade_length path 0 m.local_regions;
+    each = each;
+  }
+    where
+      same_class : gz.class ≡ good.class
+      same_class = let z : Some gz.class ≡ Some good.class = sym gz.is ∙ good.is in cc
+
+      arity : length zs ≡ length good.class.params
+      arity = gz.arity ∙ ap (λ (k : PlainClass). length k.params) same_class
+
+      class_given : All (Holds (class_env (zs ++ own))) good.class.given
+      class_given = λ k c l.
+          (let z = (wt.classes m.class good.class good.is).given k c l in
+          closed_holds (length good.class.params) (class_env zs) (class_env (zs ++ own))
+          (record { region = λ p h. ap elems_of (sym (get_or_append_left zs own [] p (omega (arith, h, arity)))); own = λ d h. refl }) _
+          (closed_path P (class_scope good.class) (λ y. refl) 0 _ z.0) (closed_path P (class_scope good.class) (λ y. refl) 0 _ z.1)
+          (subst (λ (q : PlainClass). All (Holds (class_env zs)) q.given) same_class gz.given k c l))
+
+      no_constant : (x : ℕ) → first_locals good.class m x ≡ Some (constant int) → ⊥
+      no_constant zero e = let z : Some (frozen (class m.class (own_paths good.class))) ≡ Some (constant int) = e in cc
+      no_constant (suc x) e = let z = formal_local x (slice_get m.formals x) (constant int) e in let q : constant int ≡ variable z.0 = z.2 in cc
+
+      this : Instance P st.shapes (class_env (zs ++ own)) m.class (own_paths good.class) o
+      this = record {
+        class = d; made_with = made; regions = zs; shape = shape; good = gd; is_one = is_one;
+        matches = subst (λ k. AllMatch (class_env (zs ++ own)) (params_from 0 k) zs) arity (shown_match (class_env (zs ++ own)) (params_from 0 (length zs)) zs (class_params zs own));
+      }
+
+      values : List Value
+      values = padded m.slots (Object o ∷ vs)
+
+      each : (x : ℕ) (l : ScopeLocal) → first_locals good.class m x ≡ Some l → LocalFits P st.shapes (class_ground (zs ++ own)) (padded m.slots (Object o ∷ vs)) x l
+      each zero l e =
+          let z : frozen (class m.class (own_paths good.class)) ≡ l = cc in
+          let s = padded_at m.slots zero (Object o ∷ vs) (let r = good.room in omega (arith, r)) in
+          subst (λ l. LocalFits P st.shapes (class_ground (zs ++ own)) (padded m.slots (Object o ∷ vs)) zero l) z
+          (subst (FitsIn P st.shapes (class_env (zs ++ own)) (class m.class (own_paths good.class))) (sym s) this)
+      each (suc x) l e =
+          let z = formal_local x (slice_get m.formals x) l e in
+          let s = padded_at m.slots (suc x) (Object o ∷ vs) (let r = good.room in let w = slice_get_within m.formals x z.0 z.1 in omega (arith, r, w)) in
+          subst (λ l. LocalFits P st.shapes (class_ground (zs ++ own)) (padded m.slots (Object o ∷ vs)) (suc x) l) (sym z.2)
+          (subst (FitsIn P st.shapes (class_env (zs ++ own)) z.0) (sym s) (fits x z.0 z.1))

@@ -1,0 +1,165 @@
+-- Expressions of a well-typed program are in order: one case a construct.
+use Rattle.std.proofs.Common.{◌≡◌, ◌<◌, ◌⊎◌, ⊎_elim, inl, inr, ℕ, ℤ, zero, suc, pos, negsuc, ◌+◌, Bool, true, false, cond, List, [], ◌∷◌, ◌++◌, map, length, reverse, refl, sym, ap, ◌∙◌, subst, arith, Option, Some, None, IsTrue, slice_get, slice_index_or}
+use Rattle.std.specs.Prelude.{All, option_and_then}
+use Rattle.std.proofs.lemmas.List.Elements.{All-head, All-tail}
+use Rattle.std.proofs.lemmas.List.{length-map}
+use Rattle.std.proofs.lemmas.Bool.{false≢true}
+use Rattle.std.proofs.lemmas.Option.{option_and_then_some}
+use Rattle.dpj_base.specs.declared.elems.Elem.{Elem}
+use Rattle.dpj_base.specs.declared.elems.Elem.TheVariants.{At, Any}
+use Rattle.dpj_base.specs.declared.elems.Index.TheVariants.{Literal}
+use Rattle.dpj_base.specs.declared.place.Place.{Place}
+use Rattle.dpj_base.specs.declared.region.Rpl.{Rpl}
+use Rattle.dpj_base.specs.declared.value.Trap.{Trap}
+use Rattle.dpj_base.specs.declared.value.Trap.TheVariants as trap
+use Rattle.dpj_base.specs.Matching.{Env, Fits, Matches, put_in}
+use Rattle.dpj_base.specs.Regions.{substituted, is_any}
+use Rattle.dpj_base.specs.Types.{PlainType, int, boolean, void, null, class, array, type_with, path_at, type_at, rigid_in_index}
+use Rattle.dpj_typed.specs.declared.expr.BinaryOp.{BinaryOp}
+use Rattle.dpj_typed.specs.declared.expr.BinaryOp.TheVariants as op
+use Rattle.dpj_typed.specs.Effects.{reads, does, uses}
+use Rattle.dpj_typed.specs.Effects.{Own as EffectOwn}
+use Rattle.dpj_typed.specs.Plain.{PlainProgram, PlainClass, PlainField, PlainMember, TypedExpr, typed, type_of}
+use Rattle.dpj_typed.specs.Plain.{ExprForm as form}
+use Rattle.dpj_typed.specs.Scope.{Scope, constant, variable, frozen, part, class_at, field_at}
+use Rattle.dpj_typed.specs.Scope.{Local as ScopeLocal}
+use Rattle.dpj_typed.specs.Table.{class_scope}
+use Rattle.dpj_typed.specs.Types.{Readable}
+use Rattle.dpj_typed.specs.Typing.{variable_elem, index_elem, result_of}
+use Rattle.dpj_typed.specs.WellTyped.{WellTyped}
+use Rattle.dpj_meaning.specs.Core.{Goes_on, Returns, Ret, Traps, Act}
+use Rattle.dpj_meaning.specs.Counts.{number, truth, reference, value_read, length_seen, operated, slot_value}
+use Rattle.dpj_meaning.specs.Expressions.{gives, operation, unless_null, read_cell}
+use Rattle.dpj_regions.proofs.Putting.{specified_matches_one}
+use Rattle.dpj_runs.specs.Actions.{Rest, Read, Write, Look, New, Answer, Went, Got, Out, Class, Length, Named, Joined, Fell}
+use Rattle.dpj_runs.specs.Objects.{Name, Value, Int, Boolean, Null, Object, Region}
+use Rattle.dpj_steps.specs.Steps.{named_by}
+use Rattle.dpj_sound.specs.Grounds.{Ground, env_of, class_env, under}
+use Rattle.dpj_sound.specs.Shapes.{Shape, object, elements, Shapes, Instance, ArrayInstance, IsNullOr, FitsIn, of_object, of_array}
+use Rattle.dpj_sound.specs.Accesses.{Access, Speaks, LiesIn, Bounds, Allowed, Within}
+use Rattle.dpj_sound.specs.Frames.{Frame, State, Since, FrameFits}
+use Rattle.dpj_sound.specs.Scopes.{PathInScope, GoodScope}
+use Rattle.dpj_sound.specs.Work.{Result, Prog, Touches, Reaches, access_of, ReadFits, After, InOrder}
+use Rattle.dpj_sound.specs.Laws.{Yields}
+use Rattle.dpj_sound.proofs.Closed.{closed_path, closed_type}
+use Rattle.dpj_sound.proofs.Types.{fits_same, fits_grows, same_sym, fits_with_up, path_up}
+use Rattle.dpj_sound.proofs.Indices.{IsIndexElem, fits_at_up, region_at_up}
+use Rattle.dpj_sound.proofs.Classes.{good_is, field_good, FieldAt, field_is, stands_args}
+use Rattle.dpj_sound.proofs.InScope.{paths_alone, index_in}
+use Rattle.dpj_sound.proofs.Work.{since_now, since_since, since_after, order_ret}
+
+-- an effect that is no mark of a block speaks of a read
+pub speaks_read : (g : Ground) (rpl : Rpl) (a : Access) → a.write ≡ false → Matches (env_of g) rpl a.region → Speaks g (reads rpl) a
+speaks_read g rpl a w m = record { matches = m; writes = λ e. absurd (false≢true (sym w ∙ e)); guarded = λ e. absurd (false≢true e) }
+
+module _ (P : PlainProgram) (b : Bounds) where
+  pub order_unless : (R : State → Result → Type 0) (st : State) (at : Place) (A : Name → Type 0) (k : Name → Prog) → ((n : Name) → A n → InOrder P b R st (k n)) → (v : Value) → IsNullOr A v →
+      InOrder P b R st (unless_null at v k)
+  unfolding InOrder
+  order_unless R st at A k i Null h = tt
+  order_unless R st at A k i (Object n) h = i n h
+  order_unless R st at A k i (Int j) h = absurd h
+  order_unless R st at A k i (Boolean c) h = absurd h
+
+  pub order_choose : (R : State → Result → Type 0) (st : State) (c : Bool) (p q : Prog) → InOrder P b R st p → InOrder P b R st q → InOrder P b R st (elim c as (λ z. Prog) [ false ↦ p | true ↦ q ])
+  order_choose R st false p q h k = h
+  order_choose R st true p q h k = k
+
+  pub order_cond : (R : State → Result → Type 0) (st : State) (c : Bool) (p q : Prog) → InOrder P b R st p → InOrder P b R st q → InOrder P b R st (cond c p q)
+  order_cond R st false p q h k = k
+  order_cond R st true p q h k = h
+
+  pub order_trap : (R : State → Result → Type 0) (st : State) (t : Trap) (at : Place) → InOrder P b R st (Traps t at)
+  unfolding InOrder
+  order_trap R st t at = tt
+
+  -- a read that is allowed, of a cell that is there
+  pub order_read : (R : State → Result → Type 0) (st : State) (at : Place) (n : Name) (i : ℤ) (f : Frame) (r : Reaches P b st n i false) →
+      ((v : Value) (u : State) → Since st u → FitsIn P u.shapes r.cell.env r.cell.ty v → R u (Goes_on v f)) → InOrder P b R st (read_cell at n i f)
+  unfolding InOrder
+  order_read R st at n i f r k = (r, λ x u after fits. go x u (since_after (Read n i) refl after) fits)
+    where
+      go : (x : Answer) (u : State) → Since st u → ReadFits r.cell u.shapes x → InOrder P b R u (elim (value_read x) as (λ z. Prog) [ None ↦ Traps trap.Index at | Some v ↦ gives v f ])
+      go (Got v) u s h = k v u s h
+      go Out u s h = tt
+      go Went u s h = absurd h
+      go (Class d rs) u s h = absurd h
+      go (Length len) u s h = absurd h
+      go (Named m) u s h = absurd h
+      go (Joined ls) u s h = absurd h
+      go (Fell t p) u s h = absurd h
+
+  pub order_length : (R : State → Result → Type 0) (st : State) (n : Name) (f : Frame) (s : Shape) → st.shapes n ≡ Some s →
+      ((v : ℕ) (u : State) → Since st u → R u (Goes_on (Int (pos v)) f)) → InOrder P b R st (Act (Look n) (λ x. gives (Int (pos (length_seen x))) f))
+  unfolding InOrder
+  order_length R st n f s e k = ((s, e), λ x u after fits. k (length_seen x) u (since_after (Look n) refl after))
+
+  -- an operation gives a value of its result's type, or traps
+  abbrev after_operation : Place → Frame → Option Value → Prog
+  after_operation at f o = elim o as (λ z. Prog) [ None ↦ Traps trap.Divide at | Some w ↦ gives w f ]
+
+  order_divided : (R : State → Result → Type 0) (st : State) (at : Place) (f : Frame) (z : ℤ) → R st (Goes_on (Int z) f) → (c : Bool) → InOrder P b R st (after_operation at f (cond c None (Some (Int z))))
+  unfolding InOrder
+  order_divided R st at f z r true = tt
+  order_divided R st at f z r false = r
+
+  pub order_operation : (R : State → Result → Type 0) (st : State) (same : Name → Name → Bool) (at : Place) (o : BinaryOp) (v u : Value) (f : Frame) →
+      ((w : Value) → FitsIn P st.shapes (class_env []) (result_of o) w → R st (Goes_on w f)) → InOrder P b R st (operation same at o v u f)
+  unfolding InOrder
+  order_operation R st same at op.Add v u f k = k _ tt
+  order_operation R st same at op.Subtract v u f k = k _ tt
+  order_operation R st same at op.Multiply v u f k = k _ tt
+  order_operation R st same at op.Divide v u f k = order_divided R st at f _ (k _ tt) _
+  order_operation R st same at op.Remainder v u f k = order_divided R st at f _ (k _ tt) _
+  order_operation R st same at op.Equal v u f k = k _ tt
+  order_operation R st same at op.NotEqual v u f k = k _ tt
+  order_operation R st same at op.Less v u f k = k _ tt
+  order_operation R st same at op.AtMost v u f k = k _ tt
+  order_operation R st same at op.Greater v u f k = k _ tt
+  order_operation R st same at op.AtLeast v u f k = k _ tt
+
+  module _ (wt : WellTyped P) (L : Scope) (g : Ground) where
+    -- a local's value, and its number where it stands in paths
+    pub local_index : {st : State} {f : Frame} → FrameFits P b.path st g L f → (x : ℕ) (l : Option ScopeLocal) → L.local x ≡ l →
+        Fits (env_of g) (variable_elem x l) (At (Literal (number (slot_value f.values x))) ∷ [])
+    local_index ff x (Some (constant int)) e = ap (λ z. At (Literal z) ∷ []) (ff.index x e)
+    local_index {st} {f} ff x _ e = (number (slot_value f.values x), refl)
+
+    -- a read of a field, or the trap at null
+    pub field_order : (R : State → Result → Type 0) (st : State) (at : Place) (f : Frame) (c k : ℕ) (args : List Rpl) (fd : PlainField) → field_at P c k ≡ Some fd → Readable args fd.ty →
+        All (PathInScope L 0) args → Within b st.entries g (does (reads (substituted args fd.region)) ∷ []) → (v : Value) → FitsIn P st.shapes (env_of g) (class c args) v →
+        ((w : Value) (u : State) → Since st u → FitsIn P u.shapes (env_of g) (type_with args fd.ty) w → R u (Goes_on w f)) →
+        InOrder P b R st (unless_null at v (λ n. read_cell at n (pos k) f))
+    field_order R st at f c k args fd e rd al w v fv next = order_unless R st at (Instance P st.shapes (env_of g) c args) (λ n. read_cell at n (pos k) f) go v fv
+      where
+        go : (n : Name) → Instance P st.shapes (env_of g) c args n → InOrder P b R st (read_cell at n (pos k) f)
+        go n i =
+            let good = good_is P wt i.is_one i.good in
+            let fa = field_is P wt k fd i.is_one i.good e in
+            let gf = field_good P wt c good.class k fd good.is e in
+            let m = length good.class.params in
+            let st' = stands_args m (env_of g) args i.regions i.matches good.arity (paths_alone L args al) refl in
+            let path = closed_path P (class_scope good.class) (λ y. refl) 0 fd.region gf.path in
+            let own = (specified_matches_one (class_env i.regions) fd.region gf.full _).1 fa.region in
+            let cell : Touches P st.shapes n (pos k) = record { shape = object i.class i.made_with; is = i.shape; env = class_env i.made_with; ty = fa.field.ty; rpl = fa.field.region; cell = of_object fa.there } in
+            let region = (put_in (class_env i.made_with) fa.field.region).elems in
+            order_read R st at n (pos k) f
+            (record { cell = cell; allowed = w (access_of b st n (pos k) false region) refl (inl (speaks_read g (substituted args fd.region) (access_of b st n (pos k) false region) refl (path_up m 0 (env_of g) (class_env i.regions) args st' fd.region path region own))) })
+            (λ x u s h. next x u s (fits_with_up P u.shapes m (env_of g) (class_env i.regions) args st' fd.ty (closed_type P (class_scope good.class) (λ y. refl) (λ r t. false≢true t) 0 fd.ty gf.ty) rd x
+            (fits_same P u.shapes (class_env i.made_with) fa.field.ty (class_env i.regions) fd.ty fa.types x h)))
+
+    -- a read of an element
+    pub element_order : (R : State → Result → Type 0) (st : State) (at : Place) (f : Frame) (t : PlainType) (a : Rpl) (named : Bool) (x : Elem) (k : ℤ) → IsIndexElem x →
+        Fits (env_of g) x (At (Literal k) ∷ []) → (IsTrue (is_any x) → rigid_in_index 0 t ≡ false) →
+        Within b st.entries g (does (reads (path_at 0 x a)) ∷ []) → (v : Value) → FitsIn P st.shapes (env_of g) (array t a named) v →
+        ((w : Value) (u : State) → Since st u → FitsIn P u.shapes (env_of g) (type_at 0 x t) w → R u (Goes_on w f)) →
+        InOrder P b R st (unless_null at v (λ n. read_cell at n k f))
+    element_order R st at f t a named x k ix fx rg w v fv next = order_unless R st at (ArrayInstance st.shapes (env_of g) t a) (λ n. read_cell at n k f) go v fv
+      where
+        go : (n : Name) → ArrayInstance st.shapes (env_of g) t a n → InOrder P b R st (read_cell at n k f)
+        go n i =
+            let cell : Touches P st.shapes n k = record { shape = elements i.ground i.element i.rpl; is = i.shape; env = under k (env_of i.ground); ty = i.element; rpl = i.rpl; cell = of_array } in
+            let region = (put_in (under k (env_of i.ground)) i.rpl).elems in
+            order_read R st at n k f
+            (record { cell = cell; allowed = w (access_of b st n k false region) refl (inl (speaks_read g (path_at 0 x a) (access_of b st n k false region) refl (region_at_up g x k fx a region (i.region k)))) })
+            (λ y u s h. next y u s (fits_at_up P u.shapes g x ix k fx t rg y (fits_same P u.shapes (under k (env_of i.ground)) i.element (under k (env_of g)) t (same_sym (under k (env_of g)) t (under k (env_of i.ground)) i.element (i.same k)) y h)))

@@ -1,0 +1,14 @@
+pub mod Chains
+pub mod Classes
+pub mod Closed
+pub mod Codes
+pub mod Effects
+pub mod Entering
+pub mod Expressions
+pub mod Frames
+pub mod InScope
+pub mod Indices
+pub mod Making
+pub mod Members
+pub mod Types
+pub mod Work

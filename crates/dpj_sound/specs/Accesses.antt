@@ -1,0 +1,92 @@
+-- Accesses of cells, and which of them an effect, the effects of a task and the entries of atomic blocks speak of.
+use Rattle.std.specs.Prelude.{◌≡◌, ◌⊎◌, ℕ, ℤ, pos, Bool, true, false, ◌||◌, int_lt, List, [], ◌∷◌, ◌++◌}
+use Rattle.std.specs.Int.{w32, int_wrapping_add}
+use Rattle.dpj_base.specs.declared.effect.Effect.{Effect as PathEffect}
+use Rattle.dpj_base.specs.declared.elems.Elem.{Elem}
+use Rattle.dpj_base.specs.declared.elems.Elem.TheVariants.{Local}
+use Rattle.dpj_base.specs.declared.region.Head.TheVariants.{Root}
+use Rattle.dpj_base.specs.declared.region.Rpl.{Rpl}
+use Rattle.dpj_base.specs.Effects.{is_write}
+use Rattle.dpj_base.specs.Matching.{Env, Matches}
+use Rattle.dpj_typed.specs.Effects.{Own, does, uses}
+use Rattle.dpj_runs.specs.Objects.{Path, Name, Made, Object, Region, Effect}
+use Rattle.dpj_sound.specs.Grounds.{local_code, elems_of, Places, Ground, env_of}
+
+-- an access of a cell of an object or an array, whether it stands inside an atomic block, and the region of the cell
+pub record Access : Type 0 where
+  pub object : Name
+  pub index : ℤ
+  pub write : Bool
+  pub guarded : Bool
+  pub region : List Elem
+
+-- an effect speaks of it: its path matches the region, a read speaks of no write, and a marked effect of what stands inside a
+-- block alone
+pub record Speaks (g : Ground) (e : PathEffect) (a : Access) : Type 0 where
+  pub matches : Matches (env_of g) e.rpl a.region
+  pub writes : a.write ≡ true → is_write e.access ≡ true
+  pub guarded : e.atomic ≡ true → a.guarded ≡ true
+
+-- of an element of the part
+pub record Through (p : Places) (a : Access) : Type 0 where
+  pub array : p.array ≡ Object a.object
+  pub index : ℤ
+  pub from_first : int_lt index (pos 0) ≡ false
+  pub below_last : int_lt index p.len ≡ true
+  pub place : a.index ≡ int_wrapping_add w32 p.first index
+
+abbrev pub Covers : Ground → Own → Access → Type 0
+Covers g (does e) a = Speaks g e a
+Covers g (uses k e) a = Speaks g e a × Through (g.part k) a
+
+-- some of these effects does
+abbrev pub LiesIn : Ground → List Own → Access → Type 0
+LiesIn g [] a = ⊥
+LiesIn g (o ∷ E) a = Covers g o a ⊎ LiesIn g E a
+
+-- the region begins with a local region that this task or one below it has made
+pub record InOwnRegion (p : Path) (r : List Elem) : Type 0 where
+  pub below : Path
+  pub count : ℕ
+  pub rest : List Elem
+  pub is : r ≡ Local (local_code (Made (below ++ p) count)).0 (local_code (Made (below ++ p) count)).1 ∷ rest
+
+-- the region of an effect with which a block is entered, as a path of its own
+abbrev pub as_path : Region → Rpl
+as_path r = record { head = Root; elems = elems_of r }
+
+abbrev pub run_env : Env
+run_env = record { region = λ p. []; index = λ x. pos 0; renamed = λ x. pos 1; own = λ d. pos 0; made = λ a b. (a, b) }
+
+-- some effect with which a block was entered speaks of the access
+abbrev pub LiesInEntry : List Effect → Access → Type 0
+LiesInEntry [] a = ⊥
+LiesInEntry (e ∷ E) a = (Matches run_env (as_path e.region) a.region × (a.write ≡ true → is_write e.access ≡ true)) ⊎ LiesInEntry E a
+
+-- what a task keeps to: its name, what it may do, in the ground in which it began, and whether it began inside a block
+pub record Bounds : Type 0 where
+  pub path : Path
+  pub ground : Ground
+  pub effects : List Own
+  pub inside : Bool
+
+abbrev pub is_entered : List (List Effect) → Bool
+is_entered [] = false
+is_entered (E ∷ Es) = true
+
+-- where it stands inside blocks with these entries
+abbrev pub is_guarded : Bounds → List (List Effect) → Bool
+is_guarded b entries = b.inside || is_entered entries
+
+abbrev pub InEachEntry : Path → List (List Effect) → Access → Type 0
+InEachEntry p [] a = Unit {0}
+InEachEntry p (E ∷ Es) a = (LiesInEntry E a ⊎ InOwnRegion p a.region) × InEachEntry p Es a
+
+-- the access lies in the task's effects and in those of each block that it stands inside, or in a local region made inside
+pub record Allowed (b : Bounds) (entries : List (List Effect)) (a : Access) : Type 0 where
+  pub effects : LiesIn b.ground b.effects a ⊎ InOwnRegion b.path a.region
+  pub blocks : InEachEntry b.path entries a
+
+-- what these effects speak of, in this ground, is allowed
+abbrev pub Within : Bounds → List (List Effect) → Ground → List Own → Type 0
+Within b entries g E = (a : Access) → a.guarded ≡ is_guarded b entries → LiesIn g E a → Allowed b entries a

@@ -1,0 +1,66 @@
+-- Branches that are in order at their fork: each is typed and its frame fits, what its effects speak of is allowed, and no two
+-- of them touch one cell in a way that shows.
+use Rattle.std.specs.Prelude.{◌≡◌, ◌≢◌, ◌<◌, ℕ, Bool, true, false, ◌||◌, List, [], ◌∷◌, All, length, Option, Some, slice_get, Contains}
+use Rattle.dpj_base.specs.declared.elems.Elem.{Elem}
+use Rattle.dpj_base.specs.Branches.{ends_atomic}
+use Rattle.dpj_base.specs.Types.{PlainType}
+use Rattle.dpj_typed.specs.declared.stmt.Forking.{Forking}
+use Rattle.dpj_typed.specs.declared.stmt.Forking.TheVariants.{Deterministic, Nondeterministic}
+use Rattle.dpj_typed.specs.Plain.{PlainProgram}
+use Rattle.dpj_typed.specs.Effects.{Own}
+use Rattle.dpj_typed.specs.Scope.{Scope, variable}
+use Rattle.dpj_typed.specs.Statements.{AllPass, IsVariable}
+use Rattle.dpj_meaning.specs.Counts.{Brought as BroughtOf, Back, Trap_of_branch}
+use Rattle.dpj_meaning.specs.Statements.{begun}
+use Rattle.dpj_runs.specs.Actions.{Task}
+use Rattle.dpj_runs.specs.Objects.{Name, Value}
+use Rattle.dpj_sound.specs.Grounds.{Ground, env_of}
+use Rattle.dpj_sound.specs.Shapes.{FitsIn}
+use Rattle.dpj_sound.specs.Accesses.{Access, LiesIn, Bounds, is_guarded, Allowed}
+use Rattle.dpj_sound.specs.Frames.{State, FrameFits}
+use Rattle.dpj_sound.specs.Scopes.{GoodScope}
+
+-- accesses of one cell, of which one is a write
+pub record Meet (a c : Access) : Type 0 where
+  pub object : a.object ≡ c.object
+  pub index : a.index ≡ c.index
+  pub region : a.region ≡ c.region
+  pub write : (a.write || c.write) ≡ true
+
+-- what is left where they meet: nothing, or in branches of an nd construct that both stand in atomic blocks, in an atomic region
+abbrev pub MayMeet : PlainProgram → Forking → Access → Access → Type 0
+MayMeet P Deterministic a c = ⊥
+MayMeet P Nondeterministic a c = (a.guarded ≡ true) × (c.guarded ≡ true) × (ends_atomic P.region_names a.region ≡ true)
+
+abbrev pub Quiet : PlainProgram → Forking → Ground → List Own → Ground → List Own → Type 0
+Quiet P forking g E k F = (a c : Access) → Meet a c → LiesIn g E a → LiesIn k F c → MayMeet P forking a c
+
+-- the branch of this number
+pub record BranchFits (P : PlainProgram) (b : Bounds) (st : State) (i : ℕ) (t : Task) (M : Scope) (k : Ground) (F : List Own) : Type 0 where
+  pub is_branch : t.work.is_root ≡ false
+  pub passes : AllPass P M t.work.stmts F
+  pub scope : GoodScope M
+  pub fits : (u : ℕ) → FrameFits P ((u, i) ∷ b.path) (record { shapes = st.shapes; made = 0; entries = [] }) k M (begun t.work.takes t.frame)
+  pub copies : All (IsVariable M) t.work.copies
+  pub within : (a : Access) → LiesIn k F a → Allowed b st.entries a
+
+pub record Forks (P : PlainProgram) (b : Bounds) (st : State) (forking : Forking) (ts : List Task) : Type 0 where
+  pub scope : ℕ → Scope
+  pub ground : ℕ → Ground
+  pub effects : ℕ → List Own
+  pub branch : (i : ℕ) (t : Task) → slice_get ts i ≡ Some t → BranchFits P b st i t (scope i) (ground i) (effects i)
+  pub apart : (i j : ℕ) → i ≢ j → i < length ts → j < length ts → Quiet P forking (ground i) (effects i) (ground j) (effects j)
+
+-- a local that a join copies back: one that the branch of this number assigns, and its value fits there
+pub record Returned (P : PlainProgram) (b : Bounds) (st : State) (forking : Forking) (ts : List Task) (forks : Forks P b st forking ts) (h : State) (x : ℕ) (v : Value) : Type 0 where
+  pub number : ℕ
+  pub task : Task
+  pub is : slice_get ts number ≡ Some task
+  pub copied : Contains task.work.copies x
+  pub ty : PlainType
+  pub local : (forks.scope number).local x ≡ Some (variable ty)
+  pub fits : FitsIn P h.shapes (env_of (forks.ground number)) ty v
+
+abbrev pub Brings : (P : PlainProgram) (b : Bounds) (st : State) (forking : Forking) (ts : List Task) → Forks P b st forking ts → State → BroughtOf Name → Type 0
+Brings P b st forking ts forks h (Back ls) = (x : ℕ) (v : Value) → Contains ls (x, v) → Returned P b st forking ts forks h x v
+Brings P b st forking ts forks h (Trap_of_branch trap place) = Unit {0}

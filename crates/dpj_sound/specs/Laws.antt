@@ -1,0 +1,49 @@
+-- What a well-typed program keeps to, as statements.
+use Rattle.std.specs.Prelude.{◌≡◌, ◌⊎◌, ℕ, Bool, true, IsTrue, List, [], ◌∷◌, Option, Some, None}
+use Rattle.dpj_base.specs.declared.elems.Elem.TheVariants.{At}
+use Rattle.dpj_base.specs.declared.elems.Index.TheVariants.{Literal}
+use Rattle.dpj_base.specs.Matching.{Fits}
+use Rattle.dpj_typed.specs.Plain.{PlainProgram, TypedExpr, type_of, TypedStmts}
+use Rattle.dpj_typed.specs.Effects.{Own}
+use Rattle.dpj_typed.specs.Scope.{Scope}
+use Rattle.dpj_typed.specs.Statements.{AllPass, all_complete}
+use Rattle.dpj_typed.specs.Typing.{Has, index_elem}
+use Rattle.dpj_typed.specs.WellTyped.{WellTyped}
+use Rattle.dpj_meaning.specs.Core.{Goes_on, Returns}
+use Rattle.dpj_meaning.specs.Counts.{number}
+use Rattle.dpj_meaning.specs.Expressions.{Deeper as DeeperOf, of_expr}
+use Rattle.dpj_runs.specs.Objects.{Name, LocalRegion}
+use Rattle.dpj_steps.specs.Steps.{named_by}
+use Rattle.dpj_sound.specs.Grounds.{Ground, env_of}
+use Rattle.dpj_sound.specs.Shapes.{FitsIn}
+use Rattle.dpj_sound.specs.Accesses.{Bounds, Within}
+use Rattle.dpj_sound.specs.Frames.{Frame, State, Since, FrameFits}
+use Rattle.dpj_sound.specs.Scopes.{GoodScope}
+use Rattle.dpj_sound.specs.Work.{Result, Prog, GoesFitting, InOrder}
+
+abbrev pub Deeper : Type 0
+Deeper = DeeperOf Name LocalRegion
+
+-- behind an expression that began in this state and frame: the same locals, a value of its type, and where it stands as an
+-- index in paths, the number that they have for it
+abbrev pub Yields : PlainProgram → Scope → Ground → TypedExpr → State → Frame → State → Result → Type 0
+Yields P L g e st f h (Goes_on v c) = Since st h × (c ≡ f) × FitsIn P h.shapes (env_of g) (type_of e) v × Fits (env_of g) (index_elem L e) (At (Literal (number v)) ∷ [])
+Yields P L g e st f h (Returns v) = ⊥
+
+-- behind statements: locals that fit, unless none can complete; or a value of the type that a `return` gives
+abbrev pub Leaves : PlainProgram → Bounds → Scope → Ground → TypedStmts → State → State → Result → Type 0
+Leaves P b L g ss st h (Goes_on v f) = IsTrue (all_complete ss) × Since st h × GoesFitting P b.path g L h (Goes_on v f)
+Leaves P b L g ss st h (Returns v) = Since st h × GoesFitting P b.path g L h (Returns v)
+
+-- statements that pass are in order one call deeper, from each state in which their locals fit and their effects are allowed
+abbrev pub DeeperInOrder : PlainProgram → Bounds → Option Deeper → Type 0
+DeeperInOrder P b None = Unit {0}
+DeeperInOrder P b (Some deeper) = (L : Scope) (ss : TypedStmts) (E : List Own) → AllPass P L ss E → GoodScope L → (g : Ground) (st : State) (f : Frame) →
+    FrameFits P b.path st g L f → Within b st.entries g E → InOrder P b (Leaves P b L g ss st) st (deeper ss f)
+
+-- an expression of a well-typed program is in order: from locals that fit it makes only accesses that its effects speak of, and
+-- gives a value of its type; where the bodies that it enters are in order
+abbrev pub ExpressionsInOrder : Type 0
+ExpressionsInOrder = (P : PlainProgram) → WellTyped P → (b : Bounds) (dp : Option Deeper) → DeeperInOrder P b dp →
+    (L : Scope) (e : TypedExpr) (E : List Own) → Has P L e E → GoodScope L → (g : Ground) (st : State) (f : Frame) → FrameFits P b.path st g L f → Within b st.entries g E →
+    InOrder P b (Yields P L g e st f) st (of_expr (named_by b.path) P dp e f)

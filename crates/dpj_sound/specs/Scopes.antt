@@ -1,0 +1,42 @@
+-- Scopes whose types speak of nothing but what is in scope.
+use Rattle.std.specs.Prelude.{◌≡◌, ◌<◌, ℕ, suc, Bool, false, IsTrue, All, Option, Some}
+use Rattle.dpj_base.specs.declared.elems.Elem.{Elem}
+use Rattle.dpj_base.specs.declared.elems.Elem.TheVariants.{Name, At, Any, Star, Local}
+use Rattle.dpj_base.specs.declared.elems.Index.TheVariants.{Literal, Variable, Renamed, Own}
+use Rattle.dpj_base.specs.declared.region.Rpl.{Rpl}
+use Rattle.dpj_base.specs.Types.{PlainType, int, boolean, void, null, class, array}
+use Rattle.dpj_typed.specs.Scope.{Scope, variable, frozen, constant, part, reserved}
+use Rattle.dpj_typed.specs.Scope.{Local as ScopeLocal}
+use Rattle.dpj_typed.specs.Types.{SpeaksOfNone}
+
+-- an index is a number, a local that keeps its value, or that of an array type around; and a local region is in scope
+abbrev pub InScope : Scope → ℕ → Elem → Type 0
+InScope L depth (Name n) = Unit {0}
+InScope L depth (At (Literal k)) = Unit {0}
+InScope L depth (At (Variable x)) = L.local x ≡ Some (constant int)
+InScope L depth (At (Renamed x)) = ⊥
+InScope L depth (At (Own d)) = d < depth
+InScope L depth Any = Unit {0}
+InScope L depth Star = Unit {0}
+InScope L depth (Local r n) = (n ≡ 0) × IsTrue (L.regions r)
+
+abbrev pub PathInScope : Scope → ℕ → Rpl → Type 0
+PathInScope L depth a = All (InScope L depth) a.elems
+
+abbrev pub TypeInScope : Scope → ℕ → PlainType → Type 0
+TypeInScope L depth (class c args) = All (PathInScope L depth) args
+TypeInScope L depth (array t a named) = PathInScope L (suc depth) a × TypeInScope L (suc depth) t × (named ≡ false → SpeaksOfNone a t)
+TypeInScope L depth int = Unit {0}
+TypeInScope L depth boolean = Unit {0}
+TypeInScope L depth void = Unit {0}
+TypeInScope L depth null = Unit {0}
+
+abbrev pub LocalInScope : Scope → ScopeLocal → Type 0
+LocalInScope L (variable t) = TypeInScope L 0 t
+LocalInScope L (frozen t) = TypeInScope L 0 t
+LocalInScope L (constant t) = TypeInScope L 0 t
+LocalInScope L (part t a) = TypeInScope L 0 (array t a false)
+LocalInScope L reserved = Unit {0}
+
+pub record GoodScope (L : Scope) : Type 0 where
+  pub each : (x : ℕ) (l : ScopeLocal) → L.local x ≡ Some l → LocalInScope L l
