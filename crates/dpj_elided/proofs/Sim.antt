@@ -26,6 +26,7 @@ use Rattle.dpj_runs.specs.Meaning.{Disciplined}
 use Rattle.dpj_runs.specs.Objects.{LocalRegion, Name, Path}
 use Rattle.dpj_runs.specs.Order.{InOrder, printed_by, trap_in}
 use Rattle.dpj_runs.specs.Runs.{Begun, Ended, Event, Faithful, Joins, Right, Run, Upto, answers, branch, count, joined, later, mine, now, trap_of}
+use Rattle.dpj_runs.specs.Schedules.{Greedy}
 use Rattle.dpj_runs.proofs.Faithful.{begun_upto, ended_upto}
 use Rattle.dpj_runs.proofs.Greatest.{Working}
 use Rattle.dpj_runs.proofs.Mine.{mine_same, mine_other}
@@ -40,7 +41,7 @@ use Rattle.dpj_elided.proofs.Counts.{truth_like, joined_alike, ended_alike}
 use Rattle.dpj_elided.proofs.Meaning.{does_alike}
 use Rattle.dpj_elided.proofs.Memory.{Holds, Answered, own_step, structure_step, turn_step}
 use Rattle.dpj_elided.proofs.Turns.{most_pos, turned_if, loops_again, bind_done}
-use Rattle.dpj_elided.proofs.Working.{not_begun, may, stays, goes_up, goes_into, in_order_after}
+use Rattle.dpj_elided.proofs.Working.{greatest_now, not_begun, may, stays, goes_up, goes_into, in_order_after}
 
 abbrev pub ToldOf : Type 0
 ToldOf = Told Name LocalRegion
@@ -127,6 +128,7 @@ module _ (P : PlainProgram) (arg : ℤ) where
   pub record Ready (g : Ghost) (w : Store) (t : Task) (m : ToldOf → OutOf ResultOf) : Type 0 where
     pub legal : Legal Q g.log
     pub order : InOrder g.log
+    pub greedy : Greedy Q g.log
     pub working : Working Q g.log g.path
     pub begun : Begun Q g.log g.path t
     pub low : g.since < most_turns
@@ -140,6 +142,7 @@ module _ (P : PlainProgram) (arg : ℤ) where
     pub since : ℕ
     pub legal : Legal Q log
     pub order : InOrder log
+    pub greedy : Greedy Q log
     pub low : since < most_turns
     pub empty : v.turns ≡ 0
     pub grown : Upto R log
@@ -182,6 +185,7 @@ module _ (P : PlainProgram) (arg : ℤ) where
   ready_same r h = record {
     legal = r.legal;
     order = r.order;
+    greedy = r.greedy;
     working = r.working;
     begun = r.begun;
     low = r.low;
@@ -231,6 +235,7 @@ module _ (P : PlainProgram) (arg : ℤ) where
   ready_next {g} {w} {t} {m} m' n a x made v ns st r e h hd nx = record {
     legal = legal;
     order = in_order_after Q D legal r.working refl r.order;
+    greedy = (greatest_now Q D r.legal r.working (record { path = g.path; turns = n; act = a; ans = x }) refl, r.greedy);
     working = stays Q D legal r.working refl st.no_end st.no_begin;
     begun = begun_upto (later now) r.begun;
     low = most_pos;
@@ -262,6 +267,7 @@ module _ (P : PlainProgram) (arg : ℤ) where
     since = o.since;
     legal = o.legal;
     order = o.order;
+    greedy = o.greedy;
     low = o.low;
     empty = o.empty;
     grown = upto_trans a.grown o.grown;
@@ -345,7 +351,7 @@ module _ (P : PlainProgram) (arg : ℤ) where
           let k1 : Holds Q (ev ∷ g.log) g.names 0 (turn_now w n) =
               structure_step Q k0 g.path ev refl (λ c. refl) (λ f. rest_prints f) refl (turn_now w n) refl refl refl refl (omega arith) in
           let mm : ToldOf → OutOf ResultOf = (λ u. bind (turned_if true (told_on g.since made u.to_come)) (λ a v. next v)) in
-          let r1 : Ready g w t mm = record { legal = r.legal; order = r.order; working = r.working; begun = r.begun; low = r.low; resid = k; holds = r.holds } in
+          let r1 : Ready g w t mm = record { legal = r.legal; order = r.order; greedy = r.greedy; working = r.working; begun = r.begun; low = r.low; resid = k; holds = r.holds } in
           (
             noted g made (suc g.since) (Do Rest) Went g.names,
             refl,
@@ -368,6 +374,7 @@ module _ (P : PlainProgram) (arg : ℤ) where
             record {
               legal = r.legal;
               order = r.order;
+              greedy = r.greedy;
               working = r.working;
               begun = r.begun;
               low = lt;
@@ -383,6 +390,7 @@ module _ (P : PlainProgram) (arg : ℤ) where
     since = g.since;
     legal = r.legal;
     order = r.order;
+    greedy = r.greedy;
     low = r.low;
     empty = e;
     grown = now;
@@ -424,6 +432,7 @@ module _ (P : PlainProgram) (arg : ℤ) where
           ready_regions r = record {
             legal = r.legal;
             order = r.order;
+            greedy = r.greedy;
             working = r.working;
             begun = r.begun;
             low = r.low;
@@ -522,6 +531,7 @@ module _ (P : PlainProgram) (arg : ℤ) where
     pub like : EndingLike names x ending
     pub legal : Legal Q (event ∷ before)
     pub order : InOrder (event ∷ before)
+    pub greedy : Greedy Q (event ∷ before)
     pub working : Working Q before q
     pub path : event.path ≡ q
     pub act : event.act ≡ End ending
@@ -554,6 +564,7 @@ module _ (P : PlainProgram) (arg : ℤ) where
     like = like;
     legal = (allowed_next h.since (End y) Went r e refl, r.legal);
     order = in_order_after Q D (allowed_next h.since (End y) Went r e refl, r.legal) r.working refl r.order;
+    greedy = (greatest_now Q D r.legal r.working ev refl, r.greedy);
     working = subst (λ p. Working Q h.log p) a.path r.working;
     path = a.path;
     act = refl;
@@ -595,14 +606,15 @@ module _ (P : PlainProgram) (arg : ℤ) where
   trap_end trap p (Some f) = refl
 
   pub one_branch : (q : Path) (R : Run) (ns : Names) (w : Store) (t : TaskOver ℕ Counted) (s : Task) (m : Store → OutIn ResultIn) → TaskLike ns t s → BranchSim t m
-      → Legal Q R → InOrder R → Working Q R q → Begun Q R q s → mine R q ≡ [] → Holds Q R ns 0 w → PostOne q R ns w (at_end t.work (m w))
-  one_branch q R ns w t s m tl sim legal order working begun none_yet holds =
+      → Legal Q R → InOrder R → Greedy Q R → Working Q R q → Begun Q R q s → mine R q ≡ [] → Holds Q R ns 0 w → PostOne q R ns w (at_end t.work (m w))
+  one_branch q R ns w t s m tl sim legal order greedy working begun none_yet holds =
       go (m w) ((sim ns s q tl (suc w.turns)).from (begun_at q R ns) w s (λ v u. Done v u) (later_none holds.distinct) (omega arith) start)
     where
       start : Ready (begun_at q R ns) w s (λ u. bind (run (told (named_by q)) (does (named_by q) P s) u) (λ v u. Done v u))
       start = record {
         legal = legal;
         order = order;
+        greedy = greedy;
         working = working;
         begun = begun;
         low = most_pos;
@@ -684,6 +696,9 @@ module _ (P : PlainProgram) (arg : ℤ) where
       begin_order : InOrder (begin ∷ R)
       begin_order = in_order_after Q D begin_legal r.working refl r.order
 
+      begin_greedy : Greedy Q (begin ∷ R)
+      begin_greedy = (greatest_now Q D r.legal r.working begin refl, r.greedy)
+
       longer : (k : ℕ) → p ≡ (i, k) ∷ p → ⊥
       longer k e = let n = ap length e in absurd (omega arith)
 
@@ -699,6 +714,7 @@ module _ (P : PlainProgram) (arg : ℤ) where
       next_ready o = record {
         legal = o.legal;
         order = o.order;
+        greedy = o.greedy;
         working = goes_up Q D o.legal o.working o.path o.ending o.act p (i, b) refl t (begun_upto (upto_trans (later now) o.grown) r.begun);
         begun = begun_upto (upto_trans (later now) (upto_trans o.grown (later now))) r.begun;
         low = most_pos;
@@ -748,6 +764,7 @@ module _ (P : PlainProgram) (arg : ℤ) where
         since = o.since;
         legal = o.legal;
         order = o.order;
+        greedy = o.greedy;
         low = o.low;
         empty = o.empty;
         grown = upto_trans (later now) o.grown;
@@ -762,6 +779,7 @@ module _ (P : PlainProgram) (arg : ℤ) where
         since = h.since;
         legal = h.legal;
         order = h.order;
+        greedy = h.greedy;
         low = h.low;
         empty = h.empty;
         grown = upto_trans (later now) (upto_trans o.grown (upto_trans (later now) h.grown));
@@ -800,7 +818,7 @@ module _ (P : PlainProgram) (arg : ℤ) where
     sim_branches (more_tasks {t = t'} {s = s} {ts = ts} {ss = ss} h hs) (m ∷ ms) sims b R ns w l r st at num =
         go (at_end t'.work (m (one_step w)))
         (one_branch ((i, b) ∷ p) (record { path = p; turns = 0; act = Begin b; ans = Went } ∷ R) ns (one_step w) t' s m (task_later l h) sims.0
-        (begin_legal b (length ss) R ns w r st s there num) (begin_order b (length ss) R ns w r st s there num) (begin_working b (length ss) R ns w r st s there num)
+        (begin_legal b (length ss) R ns w r st s there num) (begin_order b (length ss) R ns w r st s there num) (begin_greedy b (length ss) R ns w r st s there num) (begin_working b (length ss) R ns w r st s there num)
         (begin_begun b (length ss) R ns w r st s there num) (begin_none b (length ss) R ns w r st s there num) (begin_holds b (length ss) R ns w r st s there num))
         (λ v x o. sim_branches hs ms sims.1 (suc b) (o.event ∷ o.before) o.names v (later_then l o.later) (next_ready b (length ss) R ns w r st s there num o)
         (upto_trans (later st) (upto_trans o.grown (later now))) next_at (next_num v x o))

@@ -155,7 +155,7 @@ module _ (P : PlainProgram) (arg : ℤ) where
       let t : TaskOver ℕ Counted = root_task in_order P 0 arg in
       one_branch P arg [] [] first_names (at_start P n) t (root_task (named_by []) P first_name arg) (λ w. run sequential (does in_order P t) w) root_like
       (λ ns s q h b. prog_sim P arg (does in_order P t) h.left ns (does (named_by q) P s) q h.frame.distinct (does_alike q P h) b)
-      tt (record { each = λ y x Y X h k. elim h [ ] }) (starts QP DP) (root refl refl) (mine_nil []) (holds_first n)
+      tt (record { each = λ y x Y X h k. elim h [ ] }) tt (starts QP DP) (root refl refl) (mine_nil []) (holds_first n)
 
   -- how it comes out where it is done
   module _ (n : ℕ) {v : Store} {x : EndingOver ℕ} (o : One P arg [] [] first_names (at_start P n) v x) where
