@@ -22,7 +22,7 @@ use Rattle.dpj_runs.specs.Meaning.{Disciplined}
 use Rattle.dpj_runs.specs.Objects.{Cell, Name, Path, Thing, Value, first_value, or_else, size, slot_of}
 use Rattle.dpj_runs.specs.Order.{Comes, InOrder, Outcome, ending_of, printed, trapped}
 use Rattle.dpj_runs.specs.Runs.{Begun, Ended, Event, Run, Upto, cells_of, entry_step, event_cells, event_steps, last_written, later, mine, now, root, steps_of, thing_of, total}
-use Rattle.dpj_runs.specs.Schedules.{Finished, Limits, Ran, Ready, Within, ended, no_room, over}
+use Rattle.dpj_runs.specs.Schedules.{Finished, Greedy, Limits, Ran, Ready, Within, ended, no_room, over}
 use Rattle.dpj_runs.proofs.Cells.{last_nil}
 use Rattle.dpj_runs.proofs.Cost.{total_nil}
 use Rattle.dpj_runs.proofs.Finishing.{none_over}
@@ -36,9 +36,12 @@ use Rattle.dpj_elided.proofs.Worlds.{EndingLike, FrameLike, LocalsLike, Names, T
 use Rattle.dpj_elided.proofs.Worlds.{more_values, no_locals, no_regions, no_values, null_like, object_like, returned_like, trapped_like}
 use Rattle.dpj_elided.proofs.Counts.{MaybeLike, padded_like}
 use Rattle.dpj_elided.proofs.Meaning.{does_alike, object_alike}
-use Rattle.dpj_elided.proofs.Memory.{Holds, Stands, cell_value, first_cell, held_like, held_thing, size_like}
+use Rattle.dpj_elided.proofs.Memory.{Holds, Stands, cell_value, size_like}
+use Rattle.dpj_elided.proofs.NewThings.{first_cell, held_like, held_thing}
 use Rattle.dpj_elided.proofs.Fuel.{Left, Same, same_through}
-use Rattle.dpj_elided.proofs.Sim.{D, One, PostOne, Q, RanOut, fallen, one_branch, prog_sim}
+use Rattle.dpj_elided.proofs.Simulation.{D, RanOut}
+use Rattle.dpj_elided.proofs.Branches.{One, PostOne, fallen, one_branch}
+use Rattle.dpj_elided.proofs.Programs.{prog_sim}
 use Rattle.dpj_elided.proofs.Turns.{most_pos}
 use Rattle.dpj_elided.proofs.Working.{starts}
 
@@ -59,10 +62,10 @@ ending_renamed (assigned_like h) = ap Assigned (locals_renamed h)
 ending_renamed (trapped_like trap p) = refl
 
 -- the root's end is its first trap
-end_is_first : (P : PlainProgram) (arg : ℤ) {ns : Names} {x : EndingOver ℕ} {y : Ending} → EndingLike ns x y → ending_of (fallen P arg x None) y ≡ y
-end_is_first P arg (returned_like h) = refl
-end_is_first P arg (assigned_like h) = refl
-end_is_first P arg (trapped_like trap p) = refl
+end_is_first : {ns : Names} {x : EndingOver ℕ} {y : Ending} → EndingLike ns x y → ending_of (fallen x None) y ≡ y
+end_is_first (returned_like h) = refl
+end_is_first (assigned_like h) = refl
+end_is_first (trapped_like trap p) = refl
 
 elided_is : (P : PlainProgram) (arg : ℤ) (L : Limits) → elided P arg L ≡ judged L (ran_through P arg (suc L.steps))
 unfolding elided
@@ -182,7 +185,7 @@ module _ (P : PlainProgram) (arg : ℤ) where
     }
       where
         ending : renamed_ending o.names x ≡ ending_of (trapped whole) o.ending
-        ending = sym (ending_renamed o.like) ∙ sym (end_is_first P arg o.like) ∙ ap (λ f. ending_of f o.ending) (sym o.trap ∙ o.holds.trap)
+        ending = sym (ending_renamed o.like) ∙ sym (end_is_first o.like) ∙ ap (λ f. ending_of f o.ending) (sym o.trap ∙ o.holds.trap)
 
     -- it is judged by its costs
     done_judged : (L : Limits) → elided P arg L ≡ judged L (Done x v) → ComesOutAsElided P arg L whole
@@ -205,20 +208,20 @@ module _ (P : PlainProgram) (arg : ℤ) where
             })
 
   abbrev Result_of : Limits → Type 0
-  Result_of L = (R : Run) × Legal QP R × InOrder R × ComesOutAsElided P arg L R
+  Result_of L = (R : Run) × Legal QP R × InOrder R × Greedy QP R × ComesOutAsElided P arg L R
 
   -- it comes to its end, or its turns run out and with more of them it is over the limit of steps
   comes_out : (L : Limits) (o q : out ℕ Counted (EndingOver ℕ) Store) → elided P arg L ≡ judged L o → Same most_turns (suc L.steps) o q
       → PostOne P arg [] [] first_names (at_start P (suc L.steps)) o → PostOne P arg [] [] first_names (at_start P (suc L.steps + most_turns)) q → Result_of L
-  comes_out L (Done x v) q e s a b = (a.event ∷ a.before, a.legal, a.order, done_judged (suc L.steps) a L e)
+  comes_out L (Done x v) q e s a b = (a.event ∷ a.before, a.legal, a.order, a.greedy, done_judged (suc L.steps) a L e)
   comes_out L (out.Trapped trap p v) q e s a b = absurd a
   comes_out L (Stopped n c) q e s a b = absurd a
   comes_out L (Lost v) (Done x u) e s a b =
-      (b.event ∷ b.before, b.legal, b.order, over_limits (λ w. (let i = w.steps in let j = steps_are (suc L.steps + most_turns) b in let k = b.spent in let m = s in omega arith)) e)
+      (b.event ∷ b.before, b.legal, b.order, b.greedy, over_limits (λ w. (let i = w.steps in let j = steps_are (suc L.steps + most_turns) b in let k = b.spent in let m = s in omega arith)) e)
   comes_out L (Lost v) (out.Trapped trap p u) e s a b = absurd b
   comes_out L (Lost v) (Stopped n c) e s a b = absurd b
   comes_out L (Lost v) (Lost u) e s a b =
-      (b.log, b.legal, b.order,
+      (b.log, b.legal, b.order, b.greedy,
       over_limits (λ w. (let i = w.steps in let j = b.holds.steps in let k = b.spent in let m = b.low in let n = b.empty in omega arith)) e)
 
 pub elision_is_legal : ElisionIsLegal
@@ -261,7 +264,7 @@ module _ (P : PlainProgram) (arg : ℤ) (free : AllFree (stepped P arg)) (L : Li
   DF : Disciplined (stepped P arg)
   DF = D P arg
 
-  E : (R : Run) × Legal QF R × InOrder R × ComesOutAsElided P arg L R
+  E : (R : Run) × Legal QF R × InOrder R × Greedy QF R × ComesOutAsElided P arg L R
   E = elision_is_legal P arg L
 
   as_elided : (R : Run) (x : Ending) (S : Run) → Legal QF R → Ended R [] x → Legal QF S → ComesOutAsElided P arg L S → ComesOutAsElided P arg L R
@@ -272,7 +275,7 @@ module _ (P : PlainProgram) (arg : ℤ) (free : AllFree (stepped P arg)) (L : Li
   as_elided R x S l g m (over_limits n e) = over_limits (λ w. n (none_over QF DF free L R S x l w g m)) e
 
   finished_elided : (ks : List ℕ) (o : Outcome) → Finished QF L ks o → IsElided P arg L o
-  finished_elided ks o (ended R r c) = at (as_elided R c.end E.0 (ran_legal QF L ks R r) c.ended E.1 E.3)
+  finished_elided ks o (ended R r c) = at (as_elided R c.end E.0 (ran_legal QF L ks R r) c.ended E.1 E.4)
     where
       at : ComesOutAsElided P arg L R → IsElided P arg L o
       at (in_limits q d w i) =
@@ -280,12 +283,12 @@ module _ (P : PlainProgram) (arg : ℤ) (free : AllFree (stepped P arg)) (L : Li
           let same : o ≡ q = same_outcome QF DF R R o q l l (free R l) (free R l) c d in
           record { names = i.names; distinct = i.distinct; is = same ∙ i.is }
       at (over_limits n e) = absurd (n (ran_within QF L ks R r))
-  finished_elided _ _ (over k ks R e r ready n) = at E.3
+  finished_elided _ _ (over k ks R e r ready n) = at E.4
     where
       at : ComesOutAsElided P arg L E.0 → IsElided P arg L (Limited L.steps L.cells)
       at (in_limits q d w i) = absurd (n (none_over QF DF free L E.0 (e ∷ R) d.end E.1 w d.ended (ready.allowed, ran_legal QF L ks R r)))
       at (over_limits m h) = limited P arg L h
-  finished_elided _ _ (no_room n) = at E.3
+  finished_elided _ _ (no_room n) = at E.4
     where
       at : ComesOutAsElided P arg L E.0 → IsElided P arg L (Limited L.steps L.cells)
       at (in_limits q d w i) = absurd (n (starts_within QF L E.0 w))
@@ -293,7 +296,7 @@ module _ (P : PlainProgram) (arg : ℤ) (free : AllFree (stepped P arg)) (L : Li
 
   costs_no_more : (x : EndingOver ℕ) (output : List ℕ) (steps cells : ℕ) → elided P arg L ≡ Came x output steps cells → (R : Run) → Legal QF R
       → (steps_of R ≤ steps) × (cells_of QF R ≤ cells)
-  costs_no_more x output steps cells e R l = at E.3
+  costs_no_more x output steps cells e R l = at E.4
     where
       came_steps : (o q : Outcome) → o ≡ q → (a b : Ending) (s t : List ℕ) (i j m n : ℕ) → o ≡ Came a s i j → q ≡ Came b t m n → (i ≡ m) × (j ≡ n)
       came_steps o q h a b s t i j m n k y = let z : Came a s i j ≡ Came b t m n = sym k ∙ h ∙ y in (cc, cc)
@@ -311,7 +314,7 @@ module _ (P : PlainProgram) (arg : ℤ) (free : AllFree (stepped P arg)) (L : Li
           let uc = u.cells in (omega arith, omega arith)
 
 pub runs_are_elided : RunsAreElided
-runs_are_elided P arg free L R x l g = (let e = elision_is_legal P arg L in as_elided P arg free L R x e.0 l g e.1 e.3)
+runs_are_elided P arg free L R x l g = (let e = elision_is_legal P arg L in as_elided P arg free L R x e.0 l g e.1 e.4)
 
 pub schedules_are_elided : SchedulesAreElided
 schedules_are_elided P arg free L ks o f = finished_elided P arg free L ks o f
