@@ -1,6 +1,6 @@
 -- What is read off like values, answers and regions is the same, or like.
 use Rattle.std.proofs.Common.{◌≡◌, ℕ, zero, suc, ◌+◌, ◌-◌, ℤ, pos, Bool, true, false, cond, not, ◌==◌, ◌||◌, List, [], ◌∷◌, ◌++◌, map, length, reverse}
-use Rattle.std.proofs.Common.{refl, sym, ap, ap₂, ◌∙◌, subst, arith, Option, Some, None, slice_get, eq-eqb, eqb-true, length-append}
+use Rattle.std.proofs.Common.{refl, sym, ap, ap₂, ◌∙◌, subst, Option, Some, None, slice_get, eq-eqb, eqb-true, length-append}
 use Rattle.std.proofs.lemmas.List.{length-map, reverse-append}
 use Rattle.std.specs.Prelude.{int_lt, slice_set, slice_index_or}
 use Rattle.std.specs.Int.{w32, int_wrapping_add, int_wrapping_sub, int_wrapping_mul, int_wrapping_neg, int_wrapping_div}
@@ -10,7 +10,6 @@ use Rattle.dpj_base.specs.declared.value.Trap.{Trap}
 use Rattle.std.specs.Ordering.{int_eq}
 use Rattle.std.specs.List.{list_any}
 use Rattle.std.proofs.lemmas.Bool.{and_from, false_from_ne_true}
-use Rattle.dpj_base.specs.declared.elems.Elem.{Elem}
 use Rattle.dpj_base.specs.declared.region.Head.TheVariants as head
 use Rattle.dpj_base.specs.declared.region.Head.{Head}
 use Rattle.dpj_base.specs.declared.region.Rpl.{Rpl}
@@ -19,15 +18,15 @@ use Rattle.dpj_typed.specs.declared.expr.BinaryOp.TheVariants as op
 use Rattle.dpj_typed.specs.declared.expr.UnaryOp.{UnaryOp}
 use Rattle.dpj_typed.specs.declared.expr.UnaryOp.TheVariants.{Negate, Not}
 use Rattle.dpj_typed.specs.Plain.{PlainParent}
-use Rattle.dpj_meaning.specs.Values.{Value, Int, Boolean, Null, Object, Region, Naming}
-use Rattle.dpj_meaning.specs.Actions.{Frame, Answer, Went, Got, Out, Class, Length, Named, Ending, Returned, Assigned, Work}
+use Rattle.dpj_meaning.specs.Values.{Value, Int, Boolean, Region, Naming}
+use Rattle.dpj_meaning.specs.Actions.{Answer, Ending, Returned, Assigned, Work}
 use Rattle.dpj_meaning.specs.Asking.{ended}
 use Rattle.dpj_meaning.specs.Core.{Result}
 use Rattle.dpj_meaning.specs.Expressions.{none}
 use Rattle.dpj_meaning.specs.Outcomes.{trap_of, first_trap, locals_of, all_locals, joined, joined_or}
-use Rattle.dpj_meaning.specs.Counts.{number, truth, reference, value_read, is_out, length_seen, name_made, class_seen, class_entered, is_below, operated, divided}
+use Rattle.dpj_meaning.specs.Counts.{number, truth, value_read, is_out, length_seen, name_made, class_seen, class_entered, is_below, operated, divided}
 use Rattle.dpj_meaning.specs.Counts.{unary, same_value, slot_value, padded, part_place, part_first, part_length, part_taken, part_begin, is_part, numbered}
-use Rattle.dpj_meaning.specs.Counts.{assigned, copied, copied_one, text_of, brought}
+use Rattle.dpj_meaning.specs.Counts.{assigned, copied, text_of, brought}
 use Rattle.dpj_meaning.specs.Elision.{LocalRegion as Counted}
 use Rattle.dpj_meaning.specs.Regions.{Around, head_region, concrete, part_of, is_long, some_long, handed_up, regions_above, most_parts}
 use Rattle.dpj_runs.specs.Objects.{Name, LocalRegion, same_name}

@@ -1,33 +1,24 @@
 -- What the elision answers to what a task does, and keeps then, is what the run does.
-use Rattle.std.proofs.Common.{◌≡◌, ℕ, zero, suc, ◌+◌, ◌<◌, ◌≤◌, ◌⊎◌, inl, inr, ⊎_elim, ℤ, pos, negsuc, Bool, true, false, cond, List, [], ◌∷◌, ◌++◌, length}
-use Rattle.std.proofs.Common.{map, refl, sym, ap, ap₂, ◌∙◌, subst, arith, Option, Some, None, slice_get, append-nil, append_assoc, length-append, nat_lt, ◌==◌, ◌&&◌}
-use Rattle.std.proofs.Common.{true≢false, eq-eqb, eqb-true}
-use Rattle.std.specs.Prelude.{slice_set, slice_index_or, replicate, if◌then◌else◌}
-use Rattle.std.proofs.lemmas.Bool.{cond-true, cond-false, eqb-false, ltb-true, lt-ltb, false_from_ne_true, cases_eq, cases_lt, and_parts, and_from}
-use Rattle.std.proofs.lemmas.Option.{slice_get_past, slice_get_within, slice_get-get_or}
+use Rattle.std.proofs.Common.{◌≡◌, ℕ, suc, ◌+◌, true, false, [], ◌∷◌, ◌++◌, length}
+use Rattle.std.proofs.Common.{refl, sym, ap, ◌∙◌, subst, arith, Option, Some, None, slice_get, append-nil, length-append}
+use Rattle.std.specs.Prelude.{slice_set}
 use Rattle.dpj_base.specs.declared.place.Place.{Place}
 use Rattle.dpj_base.specs.declared.value.Trap.{Trap}
-use Rattle.dpj_meaning.specs.Values.{Value as ValueOver, Thing as ThingOver, Region as RegionOver}
-use Rattle.dpj_meaning.specs.Actions.{Own as OwnOver, Answer as AnswerOver}
-use Rattle.dpj_meaning.specs.Elision.{LocalRegion as Counted, Held, held, Heap, Store, at_index, set_at, read_of, write_of, answer as elided_answer, written as heap_written}
-use Rattle.dpj_meaning.specs.Elision.{heap_after, after, printed as elided_printed, seen as elided_seen, look_of, one_step, first_of as first_fall}
-use Rattle.dpj_runs.specs.Actions.{Action, Answer, Begin, Branches, Class, Do, End, Ending, Enter, Exit, Fell, Fork, Got, Join, Joined, Length, Look, Named, New, Out, Own}
-use Rattle.dpj_runs.specs.Actions.{Print, Program, Read, Rest, Went, Write, Trapped, Returned, Assigned, steps, cells, own_steps, own_cells}
-use Rattle.dpj_runs.specs.Objects.{An_array, An_object, Cell, Name, Path, Thing, Value, first_value, Null, is_cell, is_slot, or_else, same_name, size, slot_of}
-use Rattle.dpj_runs.specs.Order.{own_printed, printed, printed_by, trap_in, trapped}
-use Rattle.dpj_runs.specs.Runs.{Event, Run, Upto, answered_by, at_start, cells_of, event_cells, event_steps, first_some, last_written, later, made, made_by, mine, now}
-use Rattle.dpj_runs.specs.Runs.{own_made, own_written, read_at, reply, seen, thing_of, things, total, trap_of, unless_out, value_in, wrote_at, written, written_by}
-use Rattle.dpj_runs.proofs.Cells.{last_step, same_name_eq, slot_is}
+use Rattle.dpj_meaning.specs.Actions.{Own as OwnOver}
+use Rattle.dpj_meaning.specs.Elision.{LocalRegion as Counted, Held, held, Heap, Store, set_at, read_of, write_of, answer as elided_answer, written as heap_written}
+use Rattle.dpj_meaning.specs.Elision.{heap_after, after, printed as elided_printed, look_of}
+use Rattle.dpj_runs.specs.Actions.{Answer, Do, Named, Own}
+use Rattle.dpj_runs.specs.Actions.{Program, Went, Write, steps, cells, own_steps, own_cells}
+use Rattle.dpj_runs.specs.Objects.{Cell, Name, Path, size, slot_of}
+use Rattle.dpj_runs.specs.Order.{printed, printed_by, trap_in, trapped}
+use Rattle.dpj_runs.specs.Runs.{Event, Run, answered_by, event_cells, event_steps, last_written}
+use Rattle.dpj_runs.specs.Runs.{read_at, reply, seen, thing_of, wrote_at, written_by}
 use Rattle.dpj_runs.proofs.Cost.{total_step}
-use Rattle.dpj_runs.proofs.Mine.{mine_same, mine_other, path_cases, test_same}
-use Rattle.dpj_runs.proofs.Things.{thing_later}
-use Rattle.dpj_elided.proofs.Worlds.{Names, Distinct, Later, later_none, name_later, still_there, ValueLike, value_later, ValuesLike, no_values, more_values}
-use Rattle.dpj_elided.proofs.Worlds.{thing_later as thing_like_later, RegionsLike, ThingLike, an_object_like, an_array_like, OwnLike, rest_like, read_like, write_like, look_like}
-use Rattle.dpj_elided.proofs.Worlds.{new_like, print_like, enter_like, exit_like, AnswerLike, went_like, got_like, out_like, class_like, length_like, named_like}
-use Rattle.dpj_elided.proofs.Worlds.{EndingLike, returned_like, assigned_like, trapped_like}
-use Rattle.dpj_elided.proofs.Counts.{MaybeLike, none_like, some_like}
-use Rattle.dpj_elided.proofs.Memory.{ThingIn, ValueIn, Stands, Holds, maybe_later, values_length, size_like, cell_value, unless_none, last_quiet, cell_same, still_none, stands_quiet, stands_later, read_answer, write_answer, seen_answer, at_cell}
-use Rattle.dpj_elided.proofs.Writes.{set_length, last_there, snoc_cases, stands_written, unwritten_still}
+use Rattle.dpj_elided.proofs.Worlds.{Names, Distinct, Later, later_none}
+use Rattle.dpj_elided.proofs.Worlds.{OwnLike, rest_like, read_like, write_like, look_like}
+use Rattle.dpj_elided.proofs.Worlds.{new_like, print_like, enter_like, exit_like, AnswerLike, went_like, named_like}
+use Rattle.dpj_elided.proofs.Memory.{Stands, Holds, size_like, last_quiet, still_none, stands_quiet, read_answer, write_answer, seen_answer, at_cell}
+use Rattle.dpj_elided.proofs.Writes.{set_length, last_there, stands_written, unwritten_still}
 use Rattle.dpj_elided.proofs.NewThings.{name, newly, names_now, now_later, distinct_now, there_now}
 
 -- printing

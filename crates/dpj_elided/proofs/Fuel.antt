@@ -1,18 +1,16 @@
 -- With more turns the elision does the same, as long as it has turns left.
-use Rattle.std.proofs.Common.{◌≡◌, ℕ, zero, suc, ◌+◌, ◌<◌, ◌≤◌, ℤ, Bool, true, false, List, [], ◌∷◌, refl, sym, ap, ◌∙◌, subst, arith, Option, Some, None}
+use Rattle.std.proofs.Common.{◌≡◌, ℕ, zero, suc, ◌+◌, ◌<◌, ◌≤◌, ℤ, Bool, true, false, List, [], ◌∷◌, refl, sym, ap, subst, arith}
 use Rattle.dpj_base.specs.declared.place.Place.{Place}
 use Rattle.dpj_base.specs.declared.value.Trap.{Trap}
 use Rattle.dpj_typed.specs.declared.stmt.Forking.{Forking}
 use Rattle.dpj_typed.specs.Plain.{PlainProgram}
-use Rattle.dpj_meaning.specs.Actions.{Frame, Task, Ending, Own, Answer, Trapped, Work, Action}
+use Rattle.dpj_meaning.specs.Actions.{Frame, Task, Ending, Own, Work}
 use Rattle.dpj_meaning.specs.Asking.{does, ended}
 use Rattle.dpj_meaning.specs.Core.{Result, Goes_on, Returns, Prog, Ret, Traps, Act, Makes, Again, Split, Done, Stopped, Lost, bind, loop, tested, rounded, each_from, run}
 use Rattle.dpj_meaning.specs.Core.{Out as out}
-use Rattle.dpj_meaning.specs.Counts.{Brought, brought, truth}
-use Rattle.dpj_meaning.specs.Values.{Value}
+use Rattle.dpj_meaning.specs.Counts.{truth}
 use Rattle.dpj_meaning.specs.Elision.{LocalRegion as Counted, in_order, Store, answer, after, one_turn, new_region, one_step, first_of, at_end, at_start, one_by_one}
 use Rattle.dpj_meaning.specs.Elision.{root_task, ran_through, sequential}
-use Rattle.dpj_meaning.specs.Outcomes.{joined}
 
 abbrev pub OutIn : Type 0 → Type 0
 OutIn V = out ℕ Counted V Store

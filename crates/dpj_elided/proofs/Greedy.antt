@@ -1,5 +1,5 @@
 -- The run in which the ready task with the greatest number always goes on is that of the elision.
-use Rattle.std.proofs.Common.{◌≡◌, ℕ, suc, ◌+◌, ◌<◌, ◌≤◌, ◌⊎◌, inl, inr, ⊎_elim, ℤ, List, [], ◌∷◌, length, refl, sym, ap, ◌∙◌, subst, arith}
+use Rattle.std.proofs.Common.{◌≡◌, ℕ, ◌≤◌, ◌⊎◌, inl, inr, ⊎_elim, ℤ, [], ◌∷◌, refl, sym, subst, arith}
 use Rattle.dpj_typed.specs.Plain.{PlainProgram}
 use Rattle.dpj_meaning.specs.Elision.{elided}
 use Rattle.dpj_meaning.specs.Outcomes.{Limited}
@@ -7,15 +7,14 @@ use Rattle.dpj_runs.specs.Actions.{Ending, Program}
 use Rattle.dpj_runs.specs.Blocks.{Allowed, Legal}
 use Rattle.dpj_runs.specs.Meaning.{Disciplined}
 use Rattle.dpj_runs.specs.Order.{InOrder}
-use Rattle.dpj_runs.specs.Runs.{Ended, Event, Run, Upto, cells_of, entry_step, event_cells, event_steps, later, mine, now, steps_of, total}
+use Rattle.dpj_runs.specs.Runs.{Ended, Event, Run, Upto, entry_step, event_cells, event_steps, later, mine, now, total}
 use Rattle.dpj_runs.specs.Schedules.{Greedy, Limits, Numbered, Within}
 use Rattle.dpj_runs.proofs.Cost.{total_step}
-use Rattle.dpj_runs.proofs.Faithful.{ended_upto, none_after_end}
-use Rattle.dpj_runs.proofs.Mine.{mine_upto, number_of}
+use Rattle.dpj_runs.proofs.Mine.{mine_upto}
 use Rattle.dpj_runs.proofs.Numbers.{number_of_begun, number_one}
 use Rattle.dpj_runs.proofs.Schedules.{same_step}
 use Rattle.dpj_runs.proofs.Theorems.{nothing_after}
-use Rattle.dpj_runs.proofs.Upto.{upto_all, upto_length, upto_tail, upto_trans}
+use Rattle.dpj_runs.proofs.Upto.{upto_all, upto_length}
 use Rattle.dpj_runs.proofs.Written.{legal_faithful}
 use Rattle.dpj_steps.specs.Steps.{stepped}
 use Rattle.dpj_elided.specs.Laws.{ComesOutAsElided, GreedyIsElided, GreedyOverIsLimited, in_limits, over_limits}

@@ -1,10 +1,9 @@
 -- What a task does is like in the elision and in a run, whatever names objects and local regions.
-use Rattle.std.proofs.Common.{◌≡◌, ℕ, zero, suc, ◌+◌, ◌-◌, ℤ, pos, negsuc, Bool, true, false, cond, List, [], ◌∷◌, ◌++◌, map, length, reverse, refl, sym}
-use Rattle.std.proofs.Common.{ap, ap₂, ◌∙◌, subst, arith, Option, Some, None}
-use Rattle.std.specs.Prelude.{slice_set, slice_get, nat_lt}
+use Rattle.std.proofs.Common.{◌≡◌, ℕ, zero, suc, ◌+◌, ◌-◌, ℤ, pos, negsuc, Bool, true, false, cond, List, [], ◌∷◌, map, length, refl, sym}
+use Rattle.std.proofs.Common.{ap, ◌∙◌, subst, arith, Option, Some, None}
+use Rattle.std.specs.Prelude.{slice_get, nat_lt}
 use Rattle.dpj_base.specs.declared.place.Place.{Place}
 use Rattle.dpj_base.specs.declared.value.Trap.TheVariants as trap
-use Rattle.dpj_base.specs.declared.value.Trap.{Trap}
 use Rattle.dpj_base.specs.Types.{PlainType}
 use Rattle.dpj_base.specs.Types.{PlainType as ty}
 use Rattle.dpj_typed.specs.declared.stmt.Forking.{Forking}
@@ -13,24 +12,24 @@ use Rattle.dpj_typed.specs.Plain.{TypedStmts, no_stmts, more_stmts, TypedBranche
 use Rattle.dpj_typed.specs.Plain.{ExprForm as form}
 use Rattle.dpj_typed.specs.Plain.{StmtForm as stmt}
 use Rattle.dpj_typed.specs.Scope.{row_at, member_at, constructor_of, parent_of}
-use Rattle.dpj_meaning.specs.Values.{Value, Int, Null, Region, Object, Naming, Thing}
-use Rattle.dpj_meaning.specs.Actions.{Frame, Task, Answer, New, Look}
+use Rattle.dpj_meaning.specs.Values.{Value, Region, Naming}
+use Rattle.dpj_meaning.specs.Actions.{Frame, Task, New}
 use Rattle.dpj_meaning.specs.Asking.{meaning, does}
-use Rattle.dpj_meaning.specs.Counts.{number, truth, reference, value_read, is_out, name_made, class_seen, class_entered, operated, slot_value, part_place}
-use Rattle.dpj_meaning.specs.Counts.{Brought, how_many, length_seen, text_of, line}
-use Rattle.dpj_meaning.specs.Core.{Result, Prog, Ret, Traps, Act, Makes, Again, Split, on, next_of, and_then}
+use Rattle.dpj_meaning.specs.Counts.{number, name_made, part_place}
+use Rattle.dpj_meaning.specs.Counts.{Brought, how_many, line}
+use Rattle.dpj_meaning.specs.Core.{Result, Prog, Traps, Act, on, next_of, and_then}
 use Rattle.dpj_meaning.specs.Elision.{LocalRegion as Counted, in_order}
-use Rattle.dpj_meaning.specs.Regions.{around, concrete, some_long, is_long, regions_above, most_parts}
+use Rattle.dpj_meaning.specs.Regions.{around, most_parts}
 use Rattle.dpj_meaning.specs.Expressions.{Deeper, gives, unless_null, read_cell, entered, back, enter, called, created, new_object, made_array, class_in}
-use Rattle.dpj_meaning.specs.Expressions.{part_element, of_expr, of_exprs, operation, first_of, class_fields}
+use Rattle.dpj_meaning.specs.Expressions.{part_element, of_expr, of_exprs, first_of, class_fields}
 use Rattle.dpj_meaning.specs.Statements.{with_value, write_cell, prints, makes, joined, tasks_of, branch_at, branch_of, begun, iterations, numbered_frame, forks}
-use Rattle.dpj_meaning.specs.Statements.{part_begun, part_taken_over, parts, parts_of_array, of_stmt, of_stmts, all_copies}
+use Rattle.dpj_meaning.specs.Statements.{part_taken_over, parts, parts_of_array, of_stmt, of_stmts}
 use Rattle.dpj_runs.specs.Objects.{Path, Name, LocalRegion}
 use Rattle.dpj_steps.specs.Steps.{named_by}
-use Rattle.dpj_elided.proofs.Worlds.{Names, Distinct, Later, later_none, later_then, name_later, ValueLike, int_like, boolean_like, null_like, object_like}
-use Rattle.dpj_elided.proofs.Worlds.{value_later, ValuesLike, no_values, more_values, values_later, LocalsLike, RegionsLike, FrameLike, frame_later, TaskLike}
-use Rattle.dpj_elided.proofs.Worlds.{TasksLike, no_tasks, more_tasks, ThingLike, an_object_like, an_array_like, OwnLike, rest_like, read_like, write_like}
-use Rattle.dpj_elided.proofs.Worlds.{look_like, new_like, print_like, enter_like, exit_like, AnswerLike, BroughtLike, back_like, trap_like, ResultLike}
+use Rattle.dpj_elided.proofs.Worlds.{Names, Later, later_none, later_then, name_later, ValueLike, int_like, boolean_like, null_like, object_like}
+use Rattle.dpj_elided.proofs.Worlds.{value_later, ValuesLike, no_values, more_values, values_later, RegionsLike, FrameLike, frame_later, TaskLike}
+use Rattle.dpj_elided.proofs.Worlds.{TasksLike, no_tasks, more_tasks, ThingLike, an_object_like, an_array_like, rest_like, read_like, write_like}
+use Rattle.dpj_elided.proofs.Worlds.{look_like, new_like, print_like, enter_like, exit_like, BroughtLike, back_like, trap_like, ResultLike}
 use Rattle.dpj_elided.proofs.Worlds.{goes_on_like, returns_like, result_distinct, Alike, alike_ret, alike_traps, alike_act, alike_makes, alike_again, alike_split}
 use Rattle.dpj_elided.proofs.Counts.{number_like, truth_like, text_like, int_of, slot_like, set_like, padded_like, reverse_like, copied_like, part_place_like}
 use Rattle.dpj_elided.proofs.Counts.{part_taken_like, numbered_like, MaybeLike, none_like, some_like, operated_like, unary_like, read_alike, out_alike}

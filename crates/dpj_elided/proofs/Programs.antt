@@ -1,52 +1,37 @@
 -- What each task of the elision does is done in a legal run.
-use Rattle.std.proofs.Common.{◌≡◌, ℕ, zero, suc, ◌+◌, ◌-◌, ◌<◌, ◌≤◌, ◌⊎◌, ⊎_elim, Bool, true, false, List, [], ◌∷◌, ◌++◌, length, reverse, refl, sym, ap, ◌∙◌}
-use Rattle.std.proofs.Common.{subst, arith, Option, Some, None, slice_get, append-nil, append_assoc, length-append, ◌==◌, zero-add}
-use Rattle.std.specs.Prelude.{if◌then◌else◌, ℤ}
-use Rattle.std.proofs.lemmas.Bool.{eqb-false, eqb-true}
-use Rattle.std.proofs.lemmas.List.{reverse-append}
+use Rattle.std.proofs.Common.{◌≡◌, ℕ, suc, ◌+◌, ◌<◌, List, [], ◌∷◌, ◌++◌, length, refl, sym, ap, ◌∙◌}
+use Rattle.std.proofs.Common.{subst, arith, Option, Some, None, slice_get, zero-add}
+use Rattle.std.specs.Prelude.{ℤ}
 use Rattle.dpj_base.specs.declared.place.Place.{Place}
 use Rattle.dpj_base.specs.declared.value.Trap.{Trap}
 use Rattle.dpj_typed.specs.declared.stmt.Forking.{Forking}
 use Rattle.dpj_typed.specs.Plain.{PlainProgram}
-use Rattle.dpj_meaning.specs.Values.{Value}
-use Rattle.dpj_meaning.specs.Actions.{Frame as FrameOver, Task as TaskOver, Ending as EndingOver, Own as OwnOver, Answer as AnswerOver, Work}
-use Rattle.dpj_meaning.specs.Asking.{most_turns, Told, take_answer, asked, turned, made_region, begins_then, told_join, told_fork, told, ended, ending, replied, does, ask}
-use Rattle.dpj_meaning.specs.Core.{Result, Goes_on, Returns, Prog, Ret, Traps, Act, Makes, Again, Split, Done, Stopped, Lost, bind, loop, tested, rounded, each_from, run}
+use Rattle.dpj_meaning.specs.Actions.{Task as TaskOver, Ending as EndingOver}
+use Rattle.dpj_meaning.specs.Asking.{begins_then, told_join, told_fork, told, replied, does}
+use Rattle.dpj_meaning.specs.Core.{Prog, Ret, Traps, Act, Makes, Again, Split, Done, Stopped, Lost, bind, each_from, run}
 use Rattle.dpj_meaning.specs.Core.{Out as out}
-use Rattle.dpj_meaning.specs.Counts.{Brought, Back, Trap_of_branch, assigned, brought, truth}
-use Rattle.dpj_meaning.specs.Expressions.{none}
-use Rattle.dpj_meaning.specs.Elision.{LocalRegion as Counted, in_order, Store, answer, after, one_turn, new_region, one_step, first_of, at_end, one_by_one, sequential}
+use Rattle.dpj_meaning.specs.Counts.{Brought, Back, Trap_of_branch, brought}
+use Rattle.dpj_meaning.specs.Elision.{LocalRegion as Counted, in_order, Store, one_step, first_of, one_by_one, sequential}
 use Rattle.dpj_meaning.specs.Outcomes.{joined as joined_in, joined_or, first_trap, all_locals}
-use Rattle.dpj_meaning.specs.Tasks.{again}
-use Rattle.dpj_meaning.proofs.Tasks.{asks_disciplined}
-use Rattle.dpj_runs.specs.Actions.{Action, Answer, Begin, Branches, Do, End, Ending, Enter, Fork, Join, Next, Own, Program, Rest, Task, Trapped, Returned, Assigned, Went}
-use Rattle.dpj_runs.specs.Blocks.{Allowed, Legal}
-use Rattle.dpj_runs.specs.Meaning.{Disciplined}
+use Rattle.dpj_runs.specs.Actions.{Branches, Fork, Join, Program, Task, Trapped, Returned, Assigned, Went}
 use Rattle.dpj_runs.specs.Objects.{LocalRegion, Name, Path}
-use Rattle.dpj_runs.specs.Order.{InOrder, printed_by, trap_in}
-use Rattle.dpj_runs.specs.Runs.{Begun, Ended, Event, Faithful, Joins, Right, Run, Upto, answers, branch, count, joined, later, mine, now, trap_of}
-use Rattle.dpj_runs.specs.Schedules.{Greedy}
-use Rattle.dpj_runs.proofs.Faithful.{begun_upto, ended_upto}
-use Rattle.dpj_runs.proofs.Greatest.{Working}
-use Rattle.dpj_runs.proofs.Mine.{mine_same, mine_other}
-use Rattle.dpj_runs.proofs.Upto.{upto_trans}
-use Rattle.dpj_runs.proofs.Written.{allowed_from, legal_faithful}
+use Rattle.dpj_runs.specs.Order.{printed_by}
+use Rattle.dpj_runs.specs.Runs.{Ended, Event, Joins, count, joined, now}
+use Rattle.dpj_runs.proofs.Mine.{mine_same}
 use Rattle.dpj_steps.specs.Steps.{named_by, stepped}
-use Rattle.dpj_elided.proofs.Worlds.{Names, Distinct, Later, later_none, later_then, FrameLike, frame_later, TaskLike, task_later, TasksLike, no_tasks, more_tasks}
-use Rattle.dpj_elided.proofs.Worlds.{tasks_later, OwnLike, own_later, AnswerLike, BroughtLike, EndingLike, trapped_like, ending_later, EndingsLike, no_endings}
-use Rattle.dpj_elided.proofs.Worlds.{more_endings, ResultLike, goes_on_like, returns_like, result_later, Alike, alike_ret, alike_traps, alike_act, alike_makes}
+use Rattle.dpj_elided.proofs.Worlds.{Names, Distinct, Later, later_none, later_then, TasksLike}
+use Rattle.dpj_elided.proofs.Worlds.{BroughtLike}
+use Rattle.dpj_elided.proofs.Worlds.{ResultLike, result_later, Alike, alike_ret, alike_traps, alike_act, alike_makes}
 use Rattle.dpj_elided.proofs.Worlds.{alike_again, alike_split}
-use Rattle.dpj_elided.proofs.Counts.{truth_like, joined_alike, ended_alike}
+use Rattle.dpj_elided.proofs.Counts.{joined_alike}
 use Rattle.dpj_elided.proofs.Meaning.{does_alike}
-use Rattle.dpj_elided.proofs.Memory.{Holds}
-use Rattle.dpj_elided.proofs.Doing.{Answered, own_step, structure_step, turn_step}
-use Rattle.dpj_elided.proofs.Turns.{most_pos, turned_if, loops_again, bind_done}
-use Rattle.dpj_elided.proofs.Working.{greatest_now, not_begun, may, stays, goes_up, goes_into, in_order_after}
+use Rattle.dpj_elided.proofs.Doing.{structure_step}
+use Rattle.dpj_elided.proofs.Turns.{bind_done}
 
-use Rattle.dpj_elided.proofs.Simulation.{ToldOf, ResultOf, ResultIn, OutOf, OutIn, told_on, Ghost, noted, turn_now, AnyRegion, bind_assoc, Stays, do_stays, fork_stays, join_stays, D}
-use Rattle.dpj_elided.proofs.Simulation.{Ready, RanOut, After, after_then, Post, Sim, ready_same, allowed_next, resid_next, ready_next, after_noted, after_none, out_after, post_after, sim_done, sim_trapped, sim_later, sim_same, sim_bind, sim_act, turn_from, ran_out, sim_turn, sim_make}
+use Rattle.dpj_elided.proofs.Simulation.{ToldOf, ResultOf, ResultIn, OutOf, OutIn, told_on, Ghost, noted, bind_assoc, fork_stays, join_stays}
+use Rattle.dpj_elided.proofs.Simulation.{Ready, After, after_then, Post, Sim, ready_same, ready_next, after_noted, out_after, post_after, sim_done, sim_trapped, sim_later, sim_same, sim_bind, sim_act, sim_make}
 use Rattle.dpj_elided.proofs.Loops.{sim_again}
-use Rattle.dpj_elided.proofs.Branches.{fallen, all_fallen, brought_down, stays_fallen, down_or, begun_at, forked_at, BranchSim, One, PostOne, one_branch, Branched, PostBranches, AllSim, sim_branches}
+use Rattle.dpj_elided.proofs.Branches.{all_fallen, brought_down, stays_fallen, down_or, forked_at, BranchSim, Branched, PostBranches, AllSim, sim_branches}
 
 module _ (P : PlainProgram) (arg : ℤ) where
   abbrev Q : Program

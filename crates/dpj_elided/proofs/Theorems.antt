@@ -1,48 +1,44 @@
 -- The elision is a legal run, and all legal runs come out as it does.
-use Rattle.std.proofs.Common.{◌≡◌, ℕ, zero, suc, ◌+◌, ◌<◌, ◌≤◌, ◌⊎◌, inl, inr, ⊎_elim, ℤ, pos, Bool, true, false, cond, List, [], ◌∷◌, map, length, refl, sym, ap}
+use Rattle.std.proofs.Common.{◌≡◌, ℕ, zero, suc, ◌+◌, ◌<◌, ◌≤◌, ◌⊎◌, inl, inr, ⊎_elim, ℤ, pos, Bool, true, false, cond, List, [], ◌∷◌, map, refl, sym, ap}
 use Rattle.std.proofs.Common.{◌∙◌, subst, arith, Option, Some, None, slice_get, nat_lt, ◌||◌, true≢false}
-use Rattle.std.specs.Prelude.{slice_set}
 use Rattle.std.proofs.lemmas.Bool.{ltb-true, lt-ltb, cases_lt}
-use Rattle.dpj_base.specs.declared.place.Place.{Place}
-use Rattle.dpj_base.specs.declared.value.Trap.{Trap}
 use Rattle.dpj_typed.specs.Plain.{PlainMember, PlainProgram}
 use Rattle.dpj_typed.specs.Scope.{member_at}
 use Rattle.dpj_meaning.specs.Actions.{Ending as EndingOver, Task as TaskOver}
-use Rattle.dpj_meaning.specs.Asking.{does, most_turns, told}
+use Rattle.dpj_meaning.specs.Asking.{does, most_turns}
 use Rattle.dpj_meaning.specs.Core.{Done, Stopped, Lost, run}
 use Rattle.dpj_meaning.specs.Core.{Out as out}
-use Rattle.dpj_meaning.specs.Elision.{LocalRegion as Counted, Store, at_start, elided, enters_main, first_of, held, in_order, judged, main_object, ran_through, root_task}
+use Rattle.dpj_meaning.specs.Elision.{LocalRegion as Counted, Store, at_start, elided, enters_main, held, in_order, judged, main_object, ran_through, root_task}
 use Rattle.dpj_meaning.specs.Elision.{sequential}
-use Rattle.dpj_meaning.specs.Outcomes.{Outcome as OutcomeOver, Came, Limited}
+use Rattle.dpj_meaning.specs.Outcomes.{Came, Limited}
 use Rattle.dpj_meaning.specs.Values.{Value as ValueOver}
-use Rattle.dpj_runs.specs.Actions.{Assigned, Ending, Program, Returned, Task, Trapped}
+use Rattle.dpj_runs.specs.Actions.{Assigned, Ending, Program, Returned}
 use Rattle.dpj_runs.specs.Blocks.{Legal}
 use Rattle.dpj_runs.specs.Laws.{AllFree}
 use Rattle.dpj_runs.specs.Meaning.{Disciplined}
-use Rattle.dpj_runs.specs.Objects.{Cell, Name, Path, Thing, Value, first_value, or_else, size, slot_of}
+use Rattle.dpj_runs.specs.Objects.{Name, Value, first_value, or_else, size, slot_of}
 use Rattle.dpj_runs.specs.Order.{Comes, InOrder, Outcome, ending_of, printed, trapped}
-use Rattle.dpj_runs.specs.Runs.{Begun, Ended, Event, Run, Upto, cells_of, entry_step, event_cells, event_steps, last_written, later, mine, now, root, steps_of, thing_of, total}
-use Rattle.dpj_runs.specs.Schedules.{Finished, Greedy, Limits, Ran, Ready, Within, ended, no_room, over}
+use Rattle.dpj_runs.specs.Runs.{Ended, Run, cells_of, entry_step, event_cells, event_steps, mine, now, root, steps_of}
+use Rattle.dpj_runs.specs.Schedules.{Finished, Greedy, Limits, Ran, Within, ended, no_room, over}
 use Rattle.dpj_runs.proofs.Cells.{last_nil}
 use Rattle.dpj_runs.proofs.Cost.{total_nil}
 use Rattle.dpj_runs.proofs.Finishing.{none_over}
 use Rattle.dpj_runs.proofs.Mine.{mine_nil, mine_same}
 use Rattle.dpj_runs.proofs.Schedules.{ran_legal}
-use Rattle.dpj_runs.proofs.Theorems.{each_comes_out, none_costs_more, same_events, same_outcome}
+use Rattle.dpj_runs.proofs.Theorems.{each_comes_out, same_outcome}
 use Rattle.dpj_steps.specs.Steps.{first_name, named_by, stepped}
 use Rattle.dpj_elided.specs.Laws.{ComesOutAsElided, ElisionIsLegal, IsElided, NoneCostsMoreThanElision, RunsAreElided, SchedulesAreElided, in_limits, over_limits}
 use Rattle.dpj_elided.specs.Renamed.{Distinct, object_named, renamed, renamed_ending, renamed_value}
-use Rattle.dpj_elided.proofs.Worlds.{EndingLike, FrameLike, LocalsLike, Names, TaskLike, ThingLike, ValueLike, assigned_like, boolean_like, int_like, more_locals}
+use Rattle.dpj_elided.proofs.Worlds.{EndingLike, LocalsLike, Names, TaskLike, ThingLike, ValueLike, assigned_like, boolean_like, int_like, more_locals}
 use Rattle.dpj_elided.proofs.Worlds.{more_values, no_locals, no_regions, no_values, null_like, object_like, returned_like, trapped_like}
 use Rattle.dpj_elided.proofs.Counts.{MaybeLike, padded_like}
 use Rattle.dpj_elided.proofs.Meaning.{does_alike, object_alike}
 use Rattle.dpj_elided.proofs.Memory.{Holds, Stands, cell_value, size_like}
 use Rattle.dpj_elided.proofs.NewThings.{first_cell, held_like, held_thing}
-use Rattle.dpj_elided.proofs.Fuel.{Left, Same, same_through}
-use Rattle.dpj_elided.proofs.Simulation.{D, RanOut}
+use Rattle.dpj_elided.proofs.Fuel.{Same, same_through}
+use Rattle.dpj_elided.proofs.Simulation.{D}
 use Rattle.dpj_elided.proofs.Branches.{One, PostOne, fallen, one_branch}
 use Rattle.dpj_elided.proofs.Programs.{prog_sim}
-use Rattle.dpj_elided.proofs.Turns.{most_pos}
 use Rattle.dpj_elided.proofs.Working.{starts}
 
 -- values under their names

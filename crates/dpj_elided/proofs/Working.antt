@@ -1,5 +1,5 @@
 -- The task at work in the order of elision: what holds of it after each of its events, and that no entry of it waits.
-use Rattle.std.proofs.Common.{◌≡◌, ℕ, zero, suc, ◌+◌, ◌-◌, ◌<◌, ◌≤◌, ◌⊎◌, inl, inr, ⊎_elim, List, [], ◌∷◌, ◌++◌, length, refl, sym, ap, ◌∙◌, subst, arith, Some}
+use Rattle.std.proofs.Common.{◌≡◌, ℕ, suc, ◌+◌, ◌-◌, ◌≤◌, ◌⊎◌, inl, inr, ⊎_elim, List, [], ◌∷◌, ◌++◌, length, refl, sym, ap, ◌∙◌, subst, arith, Some}
 use Rattle.std.proofs.Common.{slice_get, append_assoc}
 use Rattle.std.proofs.lemmas.Option.{slice_get_within}
 use Rattle.dpj_runs.specs.Actions.{Begin, Branches, End, Ending, Fork, Program, Task}
