@@ -32,7 +32,6 @@ use Rattle.dpj_elided.proofs.Memory.{Holds}
 use Rattle.dpj_elided.proofs.Doing.{structure_step}
 use Rattle.dpj_elided.proofs.Turns.{most_pos, bind_done}
 use Rattle.dpj_elided.proofs.Working.{greatest_now, not_begun, goes_up, goes_into, in_order_after}
-
 use Rattle.dpj_elided.proofs.Simulation.{ToldOf, ResultOf, ResultIn, OutOf, OutIn, told_on, Ghost, D}
 use Rattle.dpj_elided.proofs.Simulation.{Ready, RanOut, After, Post, Sim, allowed_next, resid_next}
 
@@ -394,4 +393,3 @@ module _ (P : PlainProgram) (arg : ℤ) where
         go (out.Trapped trap q v) g rec = g
         go (Stopped k a) g rec = g
         go (Lost v) g rec = out_more b (length ss) R ns w r st s there num g
-

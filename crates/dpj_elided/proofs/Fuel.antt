@@ -142,8 +142,10 @@ module _ (t b : FrameIn → Store → OutIn ResultIn) (ht : (f : FrameIn) → Fu
   left_test n h (Returns v) w = omega arith
   left_test n h (Goes_on v f) w = go (truth v)
     where
-      go : (c : Bool) → Left w.turns (elim c as (λ c. OutIn ResultIn) [ false ↦ Done (Goes_on v f) w
-          | true ↦ bind (one_turn w.turns w) (λ u w'. bind (b f w') (λ r w''. rounded (λ g v. looped n g v) r w'')) ])
+      go : (c : Bool) → Left w.turns (elim c as (λ c. OutIn ResultIn) [
+        | false ↦ Done (Goes_on v f) w
+        | true ↦ bind (one_turn w.turns w) (λ u w'. bind (b f w') (λ r w''. rounded (λ g v. looped n g v) r w''))
+      ])
       go false = omega arith
       go true = left_turn w.turns w.turns w (λ w'. bind (b f w') (λ r w''. rounded (λ g v. looped n g v) r w'')) (omega arith)
           (λ u. left_bind u.turns (b f u) _ ((hb f).falls u) (λ r z. left_round n h r z))
@@ -166,10 +168,14 @@ module _ (t b : FrameIn → Store → OutIn ResultIn) (ht : (f : FrameIn) → Fu
   same_test n m k h (Goes_on v f) w l l' = go (truth v)
     where
       go : (c : Bool) → Same k w.turns
-          (elim c as (λ c. OutIn ResultIn) [ false ↦ Done (Goes_on v f) w
-          | true ↦ bind (one_turn w.turns w) (λ u w'. bind (b f w') (λ r w''. rounded (λ g v. looped n g v) r w'')) ])
-          (elim c as (λ c. OutIn ResultIn) [ false ↦ Done (Goes_on v f) (more k w)
-          | true ↦ bind (one_turn (w.turns + k) (more k w)) (λ u w'. bind (b f w') (λ r w''. rounded (λ g v. looped m g v) r w'')) ])
+          (elim c as (λ c. OutIn ResultIn) [
+            | false ↦ Done (Goes_on v f) w
+            | true ↦ bind (one_turn w.turns w) (λ u w'. bind (b f w') (λ r w''. rounded (λ g v. looped n g v) r w''))
+          ])
+          (elim c as (λ c. OutIn ResultIn) [
+            | false ↦ Done (Goes_on v f) (more k w)
+            | true ↦ bind (one_turn (w.turns + k) (more k w)) (λ u w'. bind (b f w') (λ r w''. rounded (λ g v. looped m g v) r w''))
+          ])
       go false = (refl, refl, omega arith)
       go true = same_turn k w (λ w'. bind (b f w') (λ r w''. rounded (λ g v. looped n g v) r w'')) (λ w'. bind (b f w') (λ r w''. rounded (λ g v. looped m g v) r w''))
           (λ u lu. same_bind k u.turns (b f u) (b f (more k u)) _ _ ((hb f).same k u) (λ r z lz. same_round n m k h r z (omega arith) (omega arith)) (λ r z. left_round m (left_loop m) r z))

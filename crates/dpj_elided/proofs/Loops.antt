@@ -17,7 +17,6 @@ use Rattle.dpj_elided.proofs.Worlds.{Names, Distinct, Later, later_none, later_t
 use Rattle.dpj_elided.proofs.Worlds.{ResultLike, goes_on_like, returns_like, result_later}
 use Rattle.dpj_elided.proofs.Counts.{truth_like}
 use Rattle.dpj_elided.proofs.Turns.{loops_again}
-
 use Rattle.dpj_elided.proofs.Simulation.{ToldOf, ResultOf, ResultIn, OutOf, OutIn}
 use Rattle.dpj_elided.proofs.Simulation.{Sim, sim_done, sim_same, sim_bind, sim_turn}
 
@@ -50,10 +49,14 @@ module _ (P : PlainProgram) (arg : ℤ) where
         (u : Value Name) (f : FrameOver ℕ Counted) (g : FrameOver Name LocalRegion) → ResultLike d ms (Goes_on v f) (Goes_on u g)
         → FrameLike d ms f g
         → Sim P arg (ResultLike d) (suc n) ms
-        (λ w. elim y as (λ b. OutOf ResultOf) [ false ↦ Done (Goes_on u g) w
-        | true ↦ bind (turned w) (λ u w'. bind (run (told (named_by path)) (a g) w') (λ r w''. rounded (λ g v. again_told g v) r w'')) ])
-        (λ w. elim x as (λ b. OutIn ResultIn) [ false ↦ Done (Goes_on v f) w
-        | true ↦ bind (one_turn w.turns w) (λ u w'. bind (run sequential (b f) w') (λ r w''. rounded (λ g v. looped t b n g v) r w'')) ])
+        (λ w. elim y as (λ b. OutOf ResultOf) [
+          | false ↦ Done (Goes_on u g) w
+          | true ↦ bind (turned w) (λ u w'. bind (run (told (named_by path)) (a g) w') (λ r w''. rounded (λ g v. again_told g v) r w''))
+        ])
+        (λ w. elim x as (λ b. OutIn ResultIn) [
+          | false ↦ Done (Goes_on v f) w
+          | true ↦ bind (one_turn w.turns w) (λ u w'. bind (run sequential (b f) w') (λ r w''. rounded (λ g v. looped t b n g v) r w''))
+        ])
     at_truth n h ms l true true e v u f g z k = sim_turn P arg (sim_bind P arg (hb n ms f g l k) (λ ls x y l' r. at_round n h ls x y (later_then l l') r))
     at_truth n h ms l true false e v u f g z k = absurd (cc)
     at_truth n h ms l false true e v u f g z k = absurd (cc)
@@ -77,4 +80,3 @@ module _ (P : PlainProgram) (arg : ℤ) where
     sim_again c f g e k = record {
       from = λ h w t' K l lt r. (sim_loop (suc w.turns) ns f g (later_none e) k).from h w t' K l (omega arith) r;
     }
-

@@ -263,18 +263,18 @@ module _ (path : Path) (P : PlainProgram) where
       {qs : List (Region LocalRegion)} {vs : List (Value ℕ)} {us : List (Value Name)} {f : FrameIn} {g : FrameOf} → RegionsLike rs qs → ValuesLike ns vs us
       → FrameLike c ns f g
       → Alike P c ns (elim p as (λ o. In) [
-          | None ↦ Traps trap.Stack at
-          | Some deeper ↦ Act (New (new_object P k rs) true) (λ a. elim (member_at P n) [
-            | None ↦ gives (name_made a) f
-            | Some m ↦ on (deeper m.body (entered in_order m (name_made a ∷ vs) rs (f.left - 1))) (λ r. gives (name_made a) f)
-          ])
-        ]) (elim q as (λ o. Of) [
-          | None ↦ Traps trap.Stack at
-          | Some deeper ↦ Act (New (new_object P k qs) true) (λ a. elim (member_at P n) [
-            | None ↦ gives (name_made a) g
-            | Some m ↦ on (deeper m.body (entered others m (name_made a ∷ us) qs (g.left - 1))) (λ r. gives (name_made a) g)
-          ])
+        | None ↦ Traps trap.Stack at
+        | Some deeper ↦ Act (New (new_object P k rs) true) (λ a. elim (member_at P n) [
+          | None ↦ gives (name_made a) f
+          | Some m ↦ on (deeper m.body (entered in_order m (name_made a ∷ vs) rs (f.left - 1))) (λ r. gives (name_made a) f)
         ])
+      ]) (elim q as (λ o. Of) [
+        | None ↦ Traps trap.Stack at
+        | Some deeper ↦ Act (New (new_object P k qs) true) (λ a. elim (member_at P n) [
+          | None ↦ gives (name_made a) g
+          | Some m ↦ on (deeper m.body (entered others m (name_made a ∷ us) qs (g.left - 1))) (λ r. gives (name_made a) g)
+        ])
+      ])
   alike_made None None h at k n b a w = alike_traps trap.Stack at
   alike_made None (Some q) h at k n b a w = absurd h
   alike_made (Some p) None h at k n b a w = absurd h
@@ -486,7 +486,7 @@ module _ (path : Path) (P : PlainProgram) where
   pub does_alike : {ns : Names} {t : Task ℕ Counted} {s : Task Name LocalRegion} (h : TaskLike ns t s) → Alike P h.left ns (does in_order P t) (does others P s)
   does_alike {ns} {t} {s} h =
       let m = meaning_alike h.left ns t.work.stmts (begun t.work.takes t.frame) (begun s.work.takes s.frame)
-          (subst (λ (o : Option ℕ). FrameLike h.left ns (begun t.work.takes t.frame) (begun o s.frame)) (ap (λ z. z.takes) h.work) (begun_like t.work.takes h.frame)) in
+      (subst (λ (o : Option ℕ). FrameLike h.left ns (begun t.work.takes t.frame) (begun o s.frame)) (ap (λ z. z.takes) h.work) (begun_like t.work.takes h.frame)) in
       subst (λ (n : ℕ). Alike P h.left ns (meaning in_order P n t.work.stmts (begun t.work.takes t.frame)) (does others P s)) (sym h.frame.left)
       (subst (λ (n : ℕ). Alike P h.left ns (meaning in_order P h.left t.work.stmts (begun t.work.takes t.frame)) (meaning others P n s.work.stmts (begun s.work.takes s.frame)))
       (sym h.frame.left_too)

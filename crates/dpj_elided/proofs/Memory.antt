@@ -157,4 +157,3 @@ pub at_cell : {P : Program} {R : Run} {ns : Names} {heap : Heap} {n : ℕ} {x : 
     → MaybeLike ns (at_index h.held.values i) (cell_value R h.thing x (slot_of i (size h.thing)))
 at_cell h (pos k) = h.values k
 at_cell h (negsuc k) = none_like
-

@@ -126,4 +126,3 @@ module _ (P : Program) {R : Run} {ns : Names} {since : ℕ} {w : Store} (h : Hol
   there_now n x a = ⊎_elim (λ b. stands_later P (held t ∷ []) now_later (stands_quiet P newly no_writes (h.there n x b)))
       (λ b. subst (λ (m : ℕ). Stands P (newly ∷ R) names_now (w.heap ++ held t ∷ []) m x) (sym b.0)
       (subst (λ (y : Name). Stands P (newly ∷ R) names_now (w.heap ++ held t ∷ []) (length ns) y) b.1 stands_new)) (snoc_cases ns name x n a)
-

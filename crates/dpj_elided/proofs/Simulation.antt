@@ -293,8 +293,10 @@ module _ (P : PlainProgram) (arg : ℤ) where
 
   pub sim_same : {V X : Type 0} {VR : Names → V → X → Type 0} {b : ℕ} {ns : Names} {m m' : ToldOf → OutOf X} {n : Store → OutIn V}
       → ((u : ToldOf) → u.since < most_turns → m' u ≡ m u) → Sim VR b ns m n → Sim VR b ns m' n
-  sim_same h s = record { from = λ g w t K l lt r. s.from g w t K l lt
-      (ready_same r (λ xs. ap (λ o. replied t.work (bind o K)) (h (told_on g.since g.made xs) r.low))) }
+  sim_same h s = record {
+    from = λ g w t K l lt r. s.from g w t K l lt
+        (ready_same r (λ xs. ap (λ o. replied t.work (bind o K)) (h (told_on g.since g.made xs) r.low)));
+  }
 
   pub sim_bind : {V X U Y : Type 0} {VR : Names → V → X → Type 0} {UR : Names → U → Y → Type 0} {b : ℕ} {ns : Names} {m : ToldOf → OutOf X} {n : Store → OutIn V}
       {j : X → ToldOf → OutOf Y} {k : V → Store → OutIn U} → Sim VR b ns m n
@@ -342,10 +344,9 @@ module _ (P : PlainProgram) (arg : ℤ) where
           let ev : Event = record { path = g.path; turns = suc g.since; act = Do Rest; ans = Went } in
           let k0 : Holds Q g.log g.names (suc g.since) (turn_now w n) = turn_step Q r.holds g.path (turn_now w n) refl refl refl refl refl in
           let k1 : Holds Q (ev ∷ g.log) g.names 0 (turn_now w n) =
-              structure_step Q k0 g.path ev refl (λ c. refl) (λ f. rest_prints f) refl (turn_now w n) refl refl refl refl (omega arith) in
+          structure_step Q k0 g.path ev refl (λ c. refl) (λ f. rest_prints f) refl (turn_now w n) refl refl refl refl (omega arith) in
           let mm : ToldOf → OutOf ResultOf = (λ u. bind (turned_if true (told_on g.since made u.to_come)) (λ a v. next v)) in
-          let r1 : Ready g w t mm = record { legal = r.legal; order = r.order; greedy = r.greedy; working = r.working; begun = r.begun; low = r.low; resid = k; holds = r.holds } in
-          (
+          let r1 : Ready g w t mm = record { legal = r.legal; order = r.order; greedy = r.greedy; working = r.working; begun = r.begun; low = r.low; resid = k; holds = r.holds } in (
             noted g made (suc g.since) (Do Rest) Went g.names,
             refl,
             after_noted g w (turn_now w n) made (suc g.since) (Do Rest) Went g.names (later_none r.holds.distinct) (omega arith) (omega arith),
@@ -359,8 +360,7 @@ module _ (P : PlainProgram) (arg : ℤ) where
           let ne = eqb-false (suc g.since) most_turns q in
           let lw = r.low in
           let lt : suc g.since < most_turns = grind arith in
-          let g1 : Ghost = record { path = g.path; log = g.log; since = suc g.since; made = made; names = g.names } in
-          (
+          let g1 : Ghost = record { path = g.path; log = g.log; since = suc g.since; made = made; names = g.names } in (
             g1,
             refl,
             record { path = refl; grown = now; kept = λ q n l. refl; names = later_none r.holds.distinct; turns = omega arith; spent = omega arith },
@@ -400,7 +400,7 @@ module _ (P : PlainProgram) (arg : ℤ) where
       go g w t K l lt r zero e = ran_out g w t (λ u. bind (bind (turned u) (λ a v. j v)) K) r e
       go g w t K l lt r (suc n) e =
           let z = turn_from g w t g.made (λ u. bind (bind (turned u) (λ a v. j v)) K) (λ v. bind (j v) K) r
-              (λ xs. ap (replied t.work) (bind_assoc (turned (told_on g.since g.made xs)) (λ a v. j v) K)) n e in
+          (λ xs. ap (replied t.work) (bind_assoc (turned (told_on g.since g.made xs)) (λ a v. j v) K)) n e in
           post_after VR t K (k (turn_now w n)) z.2 refl (s.from z.0 (turn_now w n) t K (later_then l z.2.names) (omega arith) z.3)
 
   pub sim_make : (path : Path) {b : ℕ} {ns : Names} → Sim AnyRegion b ns (λ u. made_region (named_by path) u) new_region
@@ -412,7 +412,7 @@ module _ (P : PlainProgram) (arg : ℤ) where
       go g w t K r (suc n) e =
           let x : LocalRegion = (named_by path).made g.made in
           let z = turn_from g w t (suc g.made) (λ u. bind (made_region (named_by path) u) K) (K x) r
-              (λ xs. ap (replied t.work) (bind_assoc (turned (told_on g.since (suc g.made) xs)) (λ u v. Done x v) K)) n e in
+          (λ xs. ap (replied t.work) (bind_assoc (turned (told_on g.since (suc g.made) xs)) (λ u v. Done x v) K)) n e in
           (z.0, x, tt, other_regions z.2, ready_regions z.3, refl)
         where
           other_regions : {h : Ghost} → After g h w (turn_now w n) → After g h w (record (turn_now w n) { regions = suc w.regions })
@@ -429,4 +429,3 @@ module _ (P : PlainProgram) (arg : ℤ) where
             resid = r.resid;
             holds = holds_regions (suc w.regions) r.holds;
           }
-

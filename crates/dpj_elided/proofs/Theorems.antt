@@ -216,9 +216,13 @@ module _ (P : PlainProgram) (arg : ℤ) where
       (b.event ∷ b.before, b.legal, b.order, b.greedy, over_limits (λ w. (let i = w.steps in let j = steps_are (suc L.steps + most_turns) b in let k = b.spent in let m = s in omega arith)) e)
   comes_out L (Lost v) (out.Trapped trap p u) e s a b = absurd b
   comes_out L (Lost v) (Stopped n c) e s a b = absurd b
-  comes_out L (Lost v) (Lost u) e s a b =
-      (b.log, b.legal, b.order, b.greedy,
-      over_limits (λ w. (let i = w.steps in let j = b.holds.steps in let k = b.spent in let m = b.low in let n = b.empty in omega arith)) e)
+  comes_out L (Lost v) (Lost u) e s a b = (
+    b.log,
+    b.legal,
+    b.order,
+    b.greedy,
+    over_limits (λ w. (let i = w.steps in let j = b.holds.steps in let k = b.spent in let m = b.low in let n = b.empty in omega arith)) e,
+  )
 
 pub elision_is_legal : ElisionIsLegal
 elision_is_legal P arg L =

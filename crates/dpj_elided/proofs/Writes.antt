@@ -172,4 +172,3 @@ module _ (P : Program) {R : Run} {ns : Names} {heap : Heap} (d : Distinct ns) {n
     where
       cell_is : (c : Cell) → (x ≡ c.object → ⊥) → is_cell x i c ≡ false
       cell_is c ne = ap (λ b. b && is_slot i c.slot) (false_from_ne_true _ (λ t. ne (same_name_eq x c.object t)))
-
