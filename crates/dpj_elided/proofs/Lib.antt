@@ -14,3 +14,4 @@ mod Programs
 mod Fuel
 mod Theorems
 mod Greedy
+mod Samples

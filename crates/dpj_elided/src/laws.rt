@@ -1,6 +1,7 @@
 //! The laws of the sequential elision, each the clause of a function that does nothing.
 
 ghost use Rattle.dpj_elided.specs.Laws.{ElisionIsLegal, GreedyIsElided, GreedyOverIsLimited, NoneCostsMoreThanElision, RunsAreElided, SchedulesAreElided};
+ghost use Rattle.dpj_elided.specs.Samples.{DeterminismNeedsFree, DividesElided, SumsElided};
 
 /// The sequential elision of each typed program is one of its legal runs, with the same ending, output, steps and cells.
 pub fn law_elision()
@@ -20,4 +21,11 @@ pub fn law_determinism()
     ensures runs { RunsAreElided }
     ensures schedules { SchedulesAreElided }
     ensures cost { NoneCostsMoreThanElision }
+{}
+
+/// Of small programs the laws say how they come out; and where branches conflict determinism fails.
+pub fn law_samples()
+    ensures divides { DividesElided }
+    ensures sums { SumsElided }
+    ensures race { DeterminismNeedsFree }
 {}
