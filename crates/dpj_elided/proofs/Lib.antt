@@ -14,4 +14,5 @@ mod Programs
 mod Fuel
 mod Theorems
 mod Greedy
+mod Scheduled
 mod Samples

@@ -5,30 +5,29 @@ use Rattle.std.specs.Fmt.{digits}
 use Rattle.dpj_base.specs.declared.value.Trap.TheVariants.{Divide}
 use Rattle.dpj_typed.specs.Plain.{PlainProgram}
 use Rattle.dpj_typed.specs.Samples.{here}
-use Rattle.dpj_meaning.specs.Actions.{Ending as EndingOver, Answer as AnswerOver}
+use Rattle.dpj_meaning.specs.Actions.{Ending as EndingOver}
 use Rattle.dpj_meaning.specs.Asking.{ask, does, meaning, replied, told}
 use Rattle.dpj_meaning.specs.Core.{run}
-use Rattle.dpj_meaning.specs.Elision.{elided, ran_through, root_task}
+use Rattle.dpj_meaning.specs.Elision.{elided, ran_through}
 use Rattle.dpj_meaning.specs.Outcomes.{Came, Limited}
 use Rattle.dpj_meaning.specs.Samples.{divides}
 use Rattle.dpj_meaning.specs.Values.{Int}
 use Rattle.dpj_runs.specs.Actions.{Answer, Begin, Branches, Do, End, Ending, Fork, Join, Next, Over, Program, Reply, Returned, Trapped, Unknown}
-use Rattle.dpj_runs.specs.Blocks.{Legal}
 use Rattle.dpj_runs.specs.Laws.{AllFree}
 use Rattle.dpj_runs.specs.Objects.{Name, Path}
-use Rattle.dpj_runs.specs.Order.{Comes, InOrder, Outcome}
-use Rattle.dpj_runs.specs.Runs.{Begun, Ended, Event, Faithful, Follows, Run, Upto, answers, branch, cells_of, last_written, later, mine, now, root, steps_of, things, total}
+use Rattle.dpj_runs.specs.Order.{Comes, Outcome}
+use Rattle.dpj_runs.specs.Runs.{Begun, Ended, Event, Faithful, Follows, Run, Upto, answers, branch, cells_of, last_written, mine, root, steps_of, things, total}
 use Rattle.dpj_runs.specs.Schedules.{Limits, Within, ended}
 use Rattle.dpj_runs.specs.Standing.{above, first_of}
-use Rattle.dpj_runs.proofs.Faithful.{begun_upto, follows_at}
+use Rattle.dpj_runs.proofs.Faithful.{follows_at}
 use Rattle.dpj_runs.proofs.Play.{has_ended_with, play, played, run_of}
 use Rattle.dpj_runs.proofs.Schedules.{recorded}
 use Rattle.dpj_runs.proofs.Theorems.{each_comes_out}
 use Rattle.dpj_runs.proofs.Upto.{upto_none, upto_split, upto_tail, upto_trans}
 use Rattle.dpj_runs.proofs.Written.{legal_faithful, legal_from}
 use Rattle.dpj_steps.specs.Samples.{races}
-use Rattle.dpj_steps.specs.Steps.{first_name, named_by, stepped}
-use Rattle.dpj_elided.specs.Laws.{ComesOutAsElided, IsElided, in_limits, over_limits}
+use Rattle.dpj_steps.specs.Steps.{named_by, stepped}
+use Rattle.dpj_elided.specs.Laws.{ComesOutAsElided, in_limits, over_limits}
 use Rattle.dpj_elided.specs.Renamed.{renamed, renamed_ending}
 use Rattle.dpj_elided.specs.Samples.{DeterminismNeedsFree, DividesElided, SumsElided, sums}
 use Rattle.dpj_elided.proofs.Simulation.{D}

@@ -230,7 +230,7 @@ elision_is_legal P arg L =
     (same_through P arg (suc L.steps) most_turns) (made_run P arg (suc L.steps)) (made_run P arg (suc L.steps + most_turns))
 
 -- within the limits, or not
-within_cases : (P : Program) (L : Limits) (R : Run) → Within P L R ⊎ (Within P L R → ⊥)
+pub within_cases : (P : Program) (L : Limits) (R : Run) → Within P L R ⊎ (Within P L R → ⊥)
 within_cases P L R = go (cases_lt L.steps (steps_of R)) (cases_lt L.cells (cells_of P R))
   where
     go : (L.steps < steps_of R) ⊎ (steps_of R ≤ L.steps) → (L.cells < cells_of P R) ⊎ (cells_of P R ≤ L.cells) → Within P L R ⊎ (Within P L R → ⊥)
@@ -254,7 +254,7 @@ starts_within P L R w = record {
     none_entered : entry_step (mine [] []) ≡ 0
     none_entered = ap entry_step (mine_nil [])
 
-limited : (P : PlainProgram) (arg : ℤ) (L : Limits) → elided P arg L ≡ Limited L.steps L.cells → IsElided P arg L (Limited L.steps L.cells)
+pub limited : (P : PlainProgram) (arg : ℤ) (L : Limits) → elided P arg L ≡ Limited L.steps L.cells → IsElided P arg L (Limited L.steps L.cells)
 limited P arg L e = record { names = []; distinct = record { one = λ n m x h k. absurd (let z : None ≡ Some x = h in cc) }; is = ap (renamed []) (sym e) }
 
 module _ (P : PlainProgram) (arg : ℤ) (free : AllFree (stepped P arg)) (L : Limits) where

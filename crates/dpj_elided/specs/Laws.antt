@@ -31,6 +31,10 @@ abbrev pub ElisionIsLegal : Type 0
 ElisionIsLegal = (P : PlainProgram) (arg : ℤ) (L : Limits) → (R : Run) × Legal (stepped P arg) R × InOrder R × Greedy (stepped P arg) R
     × ComesOutAsElided P arg L R
 
+-- taken as a schedule it is a finished one, limits included
+abbrev pub ElisionIsScheduled : Type 0
+ElisionIsScheduled = (P : PlainProgram) (arg : ℤ) (L : Limits) → (ks : List ℕ) × (o : Outcome) × Finished (stepped P arg) L ks o × IsElided P arg L o
+
 -- it is the run in which the ready task with the greatest number always goes on, in any program: each such run whose root has
 -- ended comes out as the elision
 abbrev pub GreedyIsElided : Type 0

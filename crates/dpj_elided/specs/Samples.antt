@@ -1,5 +1,5 @@
 -- What the laws say of small programs, and that determinism needs what it asks.
-use Rattle.std.specs.Prelude.{ℕ, pos, ◌≡◌, codes, List, []}
+use Rattle.std.specs.Prelude.{ℕ, pos, codes, List, []}
 use Rattle.dpj_base.specs.declared.value.Trap.TheVariants.{Divide}
 use Rattle.dpj_typed.specs.Plain.{PlainProgram}
 use Rattle.dpj_typed.specs.Samples.{here, program_of}

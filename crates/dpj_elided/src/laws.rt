@@ -1,11 +1,12 @@
 //! The laws of the sequential elision, each the clause of a function that does nothing.
 
-ghost use Rattle.dpj_elided.specs.Laws.{ElisionIsLegal, GreedyIsElided, GreedyOverIsLimited, NoneCostsMoreThanElision, RunsAreElided, SchedulesAreElided};
+ghost use Rattle.dpj_elided.specs.Laws.{ElisionIsLegal, ElisionIsScheduled, GreedyIsElided, GreedyOverIsLimited, NoneCostsMoreThanElision, RunsAreElided, SchedulesAreElided};
 ghost use Rattle.dpj_elided.specs.Samples.{DeterminismNeedsFree, DividesElided, SumsElided};
 
 /// The sequential elision of each typed program is one of its legal runs, with the same ending, output, steps and cells.
 pub fn law_elision()
     ensures legal { ElisionIsLegal }
+    ensures scheduled { ElisionIsScheduled }
 {}
 
 /// In every program the run in which the ready task with the greatest number always goes on comes out as the sequential elision,
