@@ -89,7 +89,7 @@ never_forked F f ts a fp fa = go a.begun
     go : Begun Sum F f.path a.task → ⊥
     go (root h k) =
         let e : Sum.meaning [] Sum.root (answers (mine F [])) ≡ Next f.turns (Fork ts) =
-            (λ z. Sum.meaning (sym fp z) (sym k z) (answers (mine F (sym fp z)))) ∙ a.asks ∙ ap (λ c. Next f.turns c) fa in
+        (λ z. Sum.meaning (sym fp z) (sym k z) (answers (mine F (sym fp z)))) ∙ a.asks ∙ ap (λ c. Next f.turns c) fa in
         subst NotFork e (no_fork (answers (mine F [])))
     go (branch q u G g us B b h g1 g2 g3 g4 g5 b1 b2 b3 b4) = let k : [] ≡ u ∷ q = sym fp ∙ h in cc
 
@@ -159,8 +159,7 @@ determinism_needs_free =
     let l = legal_from race (D races (pos 0)) with_print (played race first_last with_print with_played) in
     let w : Within race roomy with_print = record { steps = (let n = with_costs.0 in omega arith); cells = (let n = with_costs.1 in omega arith) } in
     let r = recorded race roomy with_print l w in
-    let c = each_comes_out race with_print (Returned (Int (pos 0))) l with_ended in
-    (
+    let c = each_comes_out race with_print (Returned (Int (pos 0))) l with_ended in (
       roomy,
       r.0,
       c.0,

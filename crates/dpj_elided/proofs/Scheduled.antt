@@ -1,6 +1,5 @@
 -- The elision as a schedule: the tasks of its events, up to the first that is over a limit.
-use Rattle.std.proofs.Common.{◌≡◌, ℕ, ◌⊎◌, inl, inr, ⊎_elim, ℤ, List, [], ◌∷◌}
-use Rattle.dpj_typed.specs.Plain.{PlainProgram}
+use Rattle.std.proofs.Common.{ℕ, ◌⊎◌, inl, inr, ⊎_elim, List, [], ◌∷◌}
 use Rattle.dpj_meaning.specs.Outcomes.{Limited}
 use Rattle.dpj_runs.specs.Actions.{Program}
 use Rattle.dpj_runs.specs.Blocks.{Legal}
