@@ -102,7 +102,8 @@ module _ (P : PlainProgram) (arg : ℤ) where
   PostOne q R ns w (Lost v) = RanOut P arg R w v
 
   end_one : (q : Path) (R : Run) (ns : Names) (w v v' : Store) (s : Task) (h : Ghost) (m : ToldOf → OutOf ResultOf) (x : EndingOver ℕ) (y : Ending)
-      → After P arg (begun_at q R ns) h w v → Ready P arg h v s m → replied s.work (m (told_on h.since h.made [])) ≡ Next h.since (End y) → EndingLike h.names x y
+      → After P arg (begun_at q R ns) h w v → Ready P arg h v s m → replied s.work (m (told_on h.since h.made [])) ≡ Next h.since (End y)
+          → EndingLike h.names x y
       → v'.heap ≡ v.heap → v'.output ≡ v.output → v'.trap ≡ trap_in (End y) v.trap → v'.cells ≡ v.cells → v'.steps ≡ v.steps → v'.turns ≡ v.turns
       → v'.trap ≡ fallen x w.trap → One q R ns w v' x
   end_one q R ns w v v' s h m x y a r e like h1 h2 h3 h4 h5 h6 h7 = record {
@@ -132,11 +133,12 @@ module _ (P : PlainProgram) (arg : ℤ) where
       end_prints : (f : Option (Trap × Place)) → printed_by (End y) f ≡ []
       end_prints f = refl
 
-  goes_on_end : (t : TaskOver ℕ Counted) (s : Task) (c : ℕ) (ns : Names) (r : ResultIn) (y : ResultOf) (f : Option (Trap × Place)) → trap_in (End (ended s.work y)) f ≡ f
-  goes_on_end t s c ns r (Returns v) None = refl
-  goes_on_end t s c ns r (Returns v) (Some f) = refl
-  goes_on_end t s c ns r (Goes_on v g) (Some f) = refl
-  goes_on_end t s c ns r (Goes_on v g) None = at s.work.is_root
+  -- the trap of an end is that of its task
+  goes_on_end : (s : Task) (y : ResultOf) (f : Option (Trap × Place)) → trap_in (End (ended s.work y)) f ≡ f
+  goes_on_end s (Returns v) None = refl
+  goes_on_end s (Returns v) (Some f) = refl
+  goes_on_end s (Goes_on v g) (Some f) = refl
+  goes_on_end s (Goes_on v g) None = at s.work.is_root
     where
       at : (b : Bool) → trap_of (if b then Returned none else Assigned (assigned s.work.copies g.values)) None ≡ None
       at true = refl
@@ -154,7 +156,8 @@ module _ (P : PlainProgram) (arg : ℤ) where
   trap_end trap p None = refl
   trap_end trap p (Some f) = refl
 
-  pub one_branch : (q : Path) (R : Run) (ns : Names) (w : Store) (t : TaskOver ℕ Counted) (s : Task) (m : Store → OutIn ResultIn) → TaskLike ns t s → BranchSim t m
+  pub one_branch : (q : Path) (R : Run) (ns : Names) (w : Store) (t : TaskOver ℕ Counted) (s : Task) (m : Store → OutIn ResultIn) → TaskLike ns t s
+      → BranchSim t m
       → Legal Q R → InOrder R → Greedy Q R → Working Q R q → Begun Q R q s → mine R q ≡ [] → Holds Q R ns 0 w → PostOne q R ns w (at_end t.work (m w))
   one_branch q R ns w t s m tl sim legal order greedy working begun none_yet holds =
       go (m w) ((sim ns s q tl (suc w.turns)).from (begun_at q R ns) w s (λ v u. Done v u) (later_none holds.distinct) (omega arith) start)
@@ -175,15 +178,17 @@ module _ (P : PlainProgram) (arg : ℤ) where
       go : (o : OutIn ResultIn) → Post P arg (ResultLike tl.left) (begun_at q R ns) w s (λ v u. Done v u) o → PostOne q R ns w (at_end t.work o)
       go (Done r v) p =
           end_one q R ns w v v s p.0 (λ u. Done p.1 u) (ended t.work r) (ended s.work p.1) p.3 p.4 refl (ended_alike tl.work p.2)
-          refl refl (sym (goes_on_end t s tl.left ns r p.1 v.trap)) refl refl refl (p.5 ∙ sym (end_falls t.work r w.trap))
+          refl refl (sym (goes_on_end s p.1 v.trap)) refl refl refl (p.5 ∙ sym (end_falls t.work r w.trap))
       go (out.Trapped trap x v) p =
-          end_one q R ns w v (record v { trap = first_of v.trap (trap, x) }) s p.0 (λ u. out.Trapped trap x u) (Trapped trap x) (Trapped trap x) p.1 p.2 refl (trapped_like trap x)
+          end_one q R ns w v (record v { trap = first_of v.trap (trap, x) }) s p.0 (λ u. out.Trapped trap x u) (Trapped trap x) (Trapped trap x) p.1 p.2 refl
+              (trapped_like trap x)
           refl refl (trap_end trap x v.trap) refl refl refl p.3
       go (Stopped n a) p = p
       go (Lost v) p = p
 
   -- after some branches of one fork: each has ended, and the task above has made its begins alone
-  pub record Branched (t : Task) (K : Brought Name → ToldOf → OutOf ResultOf) (p : Path) (i b made : ℕ) (R : Run) (ns : Names) (w v : Store) (n : ℕ) (xs : List (EndingOver ℕ)) :
+  pub record Branched (t : Task) (K : Brought Name → ToldOf
+      → OutOf ResultOf) (p : Path) (i b made : ℕ) (R : Run) (ns : Names) (w v : Store) (n : ℕ) (xs : List (EndingOver ℕ)) :
       Type 0 where
     pub log : Run
     pub names : Names
@@ -219,10 +224,12 @@ module _ (P : PlainProgram) (arg : ℤ) where
   begin_prints b f = refl
 
   -- the branches of one fork, from the one numbered b on
-  module _ (t : Task) (K : Brought Name → ToldOf → OutOf ResultOf) (p : Path) (i made : ℕ) (all : Branches) (F : Run) (f : Event) (fp : f.path ≡ p) (fa : f.act ≡ Fork all)
+  module _ (t : Task) (K : Brought Name → ToldOf
+      → OutOf ResultOf) (p : Path) (i made : ℕ) (all : Branches) (F : Run) (f : Event) (fp : f.path ≡ p) (fa : f.act ≡ Fork all)
       (fn : count F p ≡ i) where
     -- the begin of one
-    module _ (b n : ℕ) (R : Run) (ns : Names) (w : Store) (r : Ready P arg (forked_at p made R ns) w t (λ u. bind (begins_then b (suc n) told_join u) K)) (st : Upto (f ∷ F) R)
+    module _ (b n : ℕ) (R : Run) (ns : Names) (w : Store) (r : Ready P arg (forked_at p made R ns) w t (λ u. bind (begins_then b (suc n) told_join u) K))
+        (st : Upto (f ∷ F) R)
         (s : Task) (there : slice_get all.tasks b ≡ Some s) (num : count R p ≡ suc (i + b)) where
       abbrev begin : Event
       begin = record { path = p; turns = 0; act = Begin b; ans = Went }
@@ -264,8 +271,10 @@ module _ (P : PlainProgram) (arg : ℤ) where
         working = goes_up Q (D P arg) o.legal o.working o.path o.ending o.act p (i, b) refl t (begun_upto (upto_trans (later now) o.grown) r.begun);
         begun = begun_upto (upto_trans (later now) (upto_trans o.grown (later now))) r.begun;
         low = most_pos;
-        resid = λ ys. ap (λ es. replied t.work (run (told (named_by p)) (does (named_by p) P t) (told_on 0 0 (reverse (answers es) ++ ys)))) (o.kept p (longer b) (omega arith))
-            ∙ resid_next P arg p t R (λ u. bind (begins_then b (suc n) told_join u) K) (λ u. bind (begins_then (suc b) n told_join u) K) 0 made made 0 (Begin b) Went r.resid (λ xs. refl) ys;
+        resid = λ ys. ap (λ es. replied t.work (run (told (named_by p)) (does (named_by p) P t) (told_on 0 0 (reverse (answers es) ++ ys)))) (o.kept p
+            (longer b) (omega arith))
+            ∙ resid_next P arg p t R (λ u. bind (begins_then b (suc n) told_join u) K) (λ u. bind (begins_then (suc b) n told_join u) K) 0 made made 0
+                (Begin b) Went r.resid (λ xs. refl) ys;
         holds = o.holds;
       }
 
@@ -337,7 +346,8 @@ module _ (P : PlainProgram) (arg : ℤ) where
     abbrev First : ℕ → Run → Names → Store → Store → EndingOver ℕ → Type 0
     First b R ns w v x = One ((i, b) ∷ p) (record { path = p; turns = 0; act = Begin b; ans = Went } ∷ R) ns (one_step w) v x
 
-    pub sim_branches : {ks : Names} {ts : List (TaskOver ℕ Counted)} {ss : List Task} → TasksLike ks ts ss → (ms : List (Store → OutIn ResultIn)) → AllSim ts ms → (b : ℕ) (R : Run)
+    pub sim_branches : {ks : Names} {ts : List (TaskOver ℕ Counted)} {ss : List Task} → TasksLike ks ts ss → (ms : List (Store → OutIn ResultIn))
+        → AllSim ts ms → (b : ℕ) (R : Run)
         (ns : Names) (w : Store) → Later ks ns → Ready P arg (forked_at p made R ns) w t (λ u. bind (begins_then b (length ss) told_join u) K) → Upto (f ∷ F) R
         → ((k : ℕ) (s : Task) → slice_get ss k ≡ Some s → slice_get all.tasks (b + k) ≡ Some s) → count R p ≡ suc (i + b)
         → PostBranches t K p i b made R ns w (length ss) (one_by_one ts ms w)
@@ -364,8 +374,10 @@ module _ (P : PlainProgram) (arg : ℤ) where
     sim_branches (more_tasks {t = t'} {s = s} {ts = ts} {ss = ss} h hs) (m ∷ ms) sims b R ns w l r st at num =
         go (at_end t'.work (m (one_step w)))
         (one_branch ((i, b) ∷ p) (record { path = p; turns = 0; act = Begin b; ans = Went } ∷ R) ns (one_step w) t' s m (task_later l h) sims.0
-        (begin_legal b (length ss) R ns w r st s there num) (begin_order b (length ss) R ns w r st s there num) (begin_greedy b (length ss) R ns w r st s there num) (begin_working b (length ss) R ns w r st s there num)
-        (begin_begun b (length ss) R ns w r st s there num) (begin_none b (length ss) R ns w r st s there num) (begin_holds b (length ss) R ns w r st s there num))
+        (begin_legal b (length ss) R ns w r st s there num) (begin_order b (length ss) R ns w r st s there num) (begin_greedy b
+            (length ss) R ns w r st s there num) (begin_working b (length ss) R ns w r st s there num)
+        (begin_begun b (length ss) R ns w r st s there num) (begin_none b (length ss) R ns w r st s there num) (begin_holds b
+            (length ss) R ns w r st s there num))
         (λ v x o. sim_branches hs ms sims.1 (suc b) (o.event ∷ o.before) o.names v (later_then l o.later) (next_ready b (length ss) R ns w r st s there num o)
         (upto_trans (later st) (upto_trans o.grown (later now))) next_at (next_num v x o))
       where
@@ -387,7 +399,8 @@ module _ (P : PlainProgram) (arg : ℤ) where
         rest v x o (Lost u) g = out_later b (length ss) R ns w r st s there num o g
 
         go : (o : OutIn (EndingOver ℕ)) → PostOne ((i, b) ∷ p) (record { path = p; turns = 0; act = Begin b; ans = Went } ∷ R) ns (one_step w) o
-            → ((v : Store) (x : EndingOver ℕ) (o : First b R ns w v x) → PostBranches t K p i (suc b) made (o.event ∷ o.before) o.names v (length ss) (one_by_one ts ms v))
+            → ((v : Store) (x : EndingOver ℕ) (o : First b R ns w v x)
+                → PostBranches t K p i (suc b) made (o.event ∷ o.before) o.names v (length ss) (one_by_one ts ms v))
             → PostBranches t K p i b made R ns w (suc (length ss)) (bind o (λ x v. bind (one_by_one ts ms v) (λ xs u. Done (x ∷ xs) u)))
         go (Done x v) g rec = rest v x g (one_by_one ts ms v) (rec v x g)
         go (out.Trapped trap q v) g rec = g

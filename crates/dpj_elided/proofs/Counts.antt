@@ -33,7 +33,8 @@ use Rattle.dpj_runs.specs.Objects.{Name, LocalRegion, same_name}
 use Rattle.dpj_runs.proofs.Cells.{same_name_eq}
 use Rattle.dpj_runs.proofs.Mine.{test_same}
 use Rattle.dpj_elided.proofs.Worlds.{Names, Distinct, ValueLike, int_like, boolean_like, null_like, object_like, ValuesLike, no_values, more_values, LocalsLike}
-use Rattle.dpj_elided.proofs.Worlds.{no_locals, more_locals, RegionsLike, no_regions, AnswerLike, went_like, got_like, out_like, class_like, length_like, named_like}
+use Rattle.dpj_elided.proofs.Worlds.{no_locals, more_locals, RegionsLike, no_regions, AnswerLike, went_like, got_like, out_like, class_like, length_like}
+use Rattle.dpj_elided.proofs.Worlds.{named_like}
 use Rattle.dpj_elided.proofs.Worlds.{BroughtLike, back_like, trap_like, EndingLike, returned_like, assigned_like, trapped_like, EndingsLike, no_endings}
 use Rattle.dpj_elided.proofs.Worlds.{more_endings, ResultLike, goes_on_like, returns_like}
 
@@ -67,7 +68,8 @@ slot_like no_values x = null_like
 slot_like (more_values h k) zero = h
 slot_like (more_values h k) (suc x) = slot_like k x
 
-pub number_at : {ns : Names} {vs : List (Value ℕ)} {us : List (Value Name)} → ValuesLike ns vs us → (x : ℕ) → number (slot_value vs x) ≡ number (slot_value us x)
+pub number_at : {ns : Names} {vs : List (Value ℕ)} {us : List (Value Name)} → ValuesLike ns vs us → (x : ℕ)
+    → number (slot_value vs x) ≡ number (slot_value us x)
 number_at h x = number_like (slot_like h x)
 
 pub set_like : {ns : Names} {vs : List (Value ℕ)} {us : List (Value Name)} {v : Value ℕ} {u : Value Name} → ValuesLike ns vs us → (x : ℕ)
@@ -293,14 +295,16 @@ module _ (names : Naming ℕ Counted) (others : Naming Name LocalRegion) where
       go (c == d) (λ p. regions_above_like parent k p.class (handed_up names rs p.args) (handed_up others qs p.args) (handed rs qs e p.args) d)
     where
       at : (o : Option PlainParent) → ((p : PlainParent)
-          → RegionsLike (regions_above names parent k p.class (handed_up names rs p.args) d) (regions_above others parent k p.class (handed_up others qs p.args) d))
+          → RegionsLike (regions_above names parent k p.class (handed_up names rs p.args) d) (regions_above others parent k p.class
+              (handed_up others qs p.args) d))
           → RegionsLike (elim o [ None ↦ rs | Some p ↦ regions_above names parent k p.class (handed_up names rs p.args) d ])
           (elim o [ None ↦ qs | Some p ↦ regions_above others parent k p.class (handed_up others qs p.args) d ])
       at None rec = e
       at (Some p) rec = rec p
 
       go : (b : Bool) → ((p : PlainParent)
-          → RegionsLike (regions_above names parent k p.class (handed_up names rs p.args) d) (regions_above others parent k p.class (handed_up others qs p.args) d))
+          → RegionsLike (regions_above names parent k p.class (handed_up names rs p.args) d) (regions_above others parent k p.class
+              (handed_up others qs p.args) d))
           → RegionsLike (cond b rs (elim (parent c) [ None ↦ rs | Some p ↦ regions_above names parent k p.class (handed_up names rs p.args) d ]))
           (cond b qs (elim (parent c) [ None ↦ qs | Some p ↦ regions_above others parent k p.class (handed_up others qs p.args) d ]))
       go true rec = e
@@ -348,7 +352,8 @@ all_locals_alike (more_endings h k) = locals_append (locals_alike h) (all_locals
 pub joined_alike : {ns : Names} {xs : List (Ending ℕ)} {ys : List (Ending Name)} → EndingsLike ns xs ys
     → BroughtLike ns (brought {M = Counted} (joined xs)) (brought {M = LocalRegion} (joined ys))
 joined_alike {ns} {xs} {ys} h =
-    subst (λ (o : Option (Trap × Place)). BroughtLike ns (brought {M = Counted} (joined xs)) (brought {M = LocalRegion} (joined_or o (all_locals ys)))) (first_trap_alike h)
+    subst (λ (o : Option (Trap
+        × Place)). BroughtLike ns (brought {M = Counted} (joined xs)) (brought {M = LocalRegion} (joined_or o (all_locals ys)))) (first_trap_alike h)
     (go (first_trap xs))
   where
     go : (o : Option (Trap × Place))
@@ -365,6 +370,7 @@ ended_alike {c} {ns} {j} {k} {r} {s} e h = subst (λ (z : Work). EndingLike ns (
     go (returns_like d v) = returned_like v
     go (goes_on_like {f = f} {g = g} v w) = at (j.is_root)
       where
-        at : (b : Bool) → EndingLike ns (if b then Returned none else Assigned (assigned j.copies f.values)) (if b then Returned none else Assigned (assigned j.copies g.values))
+        at : (b : Bool) → EndingLike ns (if b then Returned none else Assigned (assigned j.copies f.values)) (if b then Returned none else Assigned
+            (assigned j.copies g.values))
         at true = returned_like null_like
         at false = assigned_like (assigned_alike j.copies w.values)

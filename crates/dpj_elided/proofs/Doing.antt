@@ -4,8 +4,9 @@ use Rattle.std.proofs.Common.{refl, sym, ap, ◌∙◌, subst, arith, Option, So
 use Rattle.std.specs.Prelude.{slice_set}
 use Rattle.dpj_base.specs.declared.place.Place.{Place}
 use Rattle.dpj_base.specs.declared.value.Trap.{Trap}
-use Rattle.dpj_meaning.specs.Actions.{Own as OwnOver}
-use Rattle.dpj_meaning.specs.Elision.{LocalRegion as Counted, Held, held, Heap, Store, set_at, read_of, write_of, answer as elided_answer, written as heap_written}
+use Rattle.dpj_meaning.specs.Actions.{Own as OwnOver, Answer as AnswerOver}
+use Rattle.dpj_meaning.specs.Elision.{LocalRegion as Counted, Held, held, Heap, Store, set_at, read_of, write_of, answer as elided_answer}
+use Rattle.dpj_meaning.specs.Elision.{written as heap_written}
 use Rattle.dpj_meaning.specs.Elision.{heap_after, after, printed as elided_printed, look_of}
 use Rattle.dpj_runs.specs.Actions.{Answer, Do, Named, Own}
 use Rattle.dpj_runs.specs.Actions.{Program, Went, Write, steps, cells, own_steps, own_cells}
@@ -104,13 +105,23 @@ module _ (P : Program) {R : Run} {ns : Names} {since : ℕ} {w : Store} (h : Hol
       (λ m x b. subst (λ (l : Heap). Stands P (event q a ∷ R) ns l m x) (sym e) (stands_quiet P (event q a) n (h.there m x b)))
       (λ c b. last_quiet (event q a) R c (n c) ∙ h.unwritten c (still_none P (event q a) R c.object b))
 
+  -- an action that changes nothing and is answered by itself
+  went_step : {o : OwnOver ℕ Counted} {q : Own} → OwnLike ns o q → heap_after o w.heap ≡ w.heap → ((c : Cell) → written_by c (Do q) ≡ None)
+      → (elided_answer w.heap o ≡ Went) × (reply P R p q ≡ Some Went) → Answered P R ns since w p o q
+  went_step {o} like e n a = record {
+    answer = Went;
+    names = ns;
+    later = later_none h.distinct;
+    replies = a.1;
+    like = subst (λ (x : AnswerOver ℕ Counted). AnswerLike ns x Went) (sym a.0) went_like;
+    holds = holds_quiet like Went e n;
+  }
+
   pub own_step : {o : OwnOver ℕ Counted} {q : Own} → OwnLike ns o q → Answered P R ns since w p o q
-  own_step rest_like = record { answer = Went; names = ns; later = later_none h.distinct; replies = refl; like = went_like; holds = holds_quiet rest_like Went refl (λ c. refl) }
-  own_step (print_like bytes) =
-      record { answer = Went; names = ns; later = later_none h.distinct; replies = refl; like = went_like; holds = holds_quiet (print_like bytes) Went refl (λ c. refl) }
-  own_step (enter_like E F) =
-      record { answer = Went; names = ns; later = later_none h.distinct; replies = refl; like = went_like; holds = holds_quiet (enter_like E F) Went refl (λ c. refl) }
-  own_step exit_like = record { answer = Went; names = ns; later = later_none h.distinct; replies = refl; like = went_like; holds = holds_quiet exit_like Went refl (λ c. refl) }
+  own_step rest_like = went_step rest_like refl (λ c. refl) (refl, refl)
+  own_step (print_like bytes) = went_step (print_like bytes) refl (λ c. refl) (refl, refl)
+  own_step (enter_like E F) = went_step (enter_like E F) refl (λ c. refl) (refl, refl)
+  own_step exit_like = went_step exit_like refl (λ c. refl) (refl, refl)
   own_step (read_like n x i e) =
       let g = h.there n x e in
       record {
@@ -134,7 +145,8 @@ module _ (P : Program) {R : Run} {ns : Names} {since : ℕ} {w : Store} (h : Hol
       }
   own_step (write_like n x i {v} {u} e k) =
       let g = h.there n x e in
-      let heap : heap_after (Write n i v) w.heap ≡ slice_set w.heap n (record g.held { values = set_at g.held.values i v }) = ap (λ o. heap_written w.heap n o i v) g.is_held in
+      let heap : heap_after (Write n i v) w.heap ≡ slice_set w.heap n (record g.held { values = set_at g.held.values i v }) = ap
+          (λ o. heap_written w.heap n o i v) g.is_held in
       record {
         answer = wrote_at (slot_of i (size g.thing));
         names = ns;
@@ -162,7 +174,8 @@ module _ (P : Program) {R : Run} {ns : Names} {since : ℕ} {w : Store} (h : Hol
       }
 
   -- an event of which the heap knows nothing
-  module _ (e : Event) (turns : e.turns ≡ since) (writes : (c : Cell) → written_by c e.act ≡ None) (prints : (f : Option (Trap × Place)) → printed_by e.act f ≡ [])
+  module _ (e : Event) (turns : e.turns ≡ since) (writes : (c : Cell) → written_by c e.act ≡ None) (prints : (f : Option (Trap × Place))
+      → printed_by e.act f ≡ [])
       (free : cells e.act ≡ 0) where
     pub structure_step : (v : Store) → v.heap ≡ w.heap → v.output ≡ w.output → v.trap ≡ trap_in e.act w.trap → v.cells ≡ w.cells
         → v.steps ≡ w.steps + steps e.act → Holds P (e ∷ R) ns 0 v

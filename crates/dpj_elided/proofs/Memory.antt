@@ -78,7 +78,8 @@ unless_none (Joined ls) = refl
 unless_none (Fell t p) = refl
 
 pub last_quiet : (e : Event) (R : Run) (c : Cell) → written_by c e.act ≡ None → last_written (e ∷ R) c ≡ last_written R c
-last_quiet e R c h = last_step e R c ∙ ap (λ o. first_some (unless_out e.ans o) (last_written R c)) h ∙ ap (λ o. first_some o (last_written R c)) (unless_none e.ans)
+last_quiet e R c h = last_step e R c ∙ ap (λ o. first_some (unless_out e.ans o) (last_written R c)) h
+    ∙ ap (λ o. first_some o (last_written R c)) (unless_none e.ans)
 
 pub cell_same : (e : Event) (R : Run) (t : Thing) (x : Name) (s : Option ℕ)
     → ((slot : ℕ) → last_written (e ∷ R) (record { object = x; slot = slot }) ≡ last_written R (record { object = x; slot = slot }))
@@ -107,11 +108,13 @@ module _ (P : Program) where
     is_thing = later_thing e R x h.thing h.is_thing;
     like = h.like;
     values = λ k. subst (λ (r : Option Value). MaybeLike ns (slice_get h.held.values k) r)
-        (cell_same e R h.thing x (slot_of (pos k) (size h.thing)) (λ slot. last_quiet e R (record { object = x; slot = slot }) (q (record { object = x; slot = slot }))))
+        (cell_same e R h.thing x (slot_of (pos k) (size h.thing)) (λ slot. last_quiet e R (record { object = x; slot = slot }) (q
+            (record { object = x; slot = slot }))))
         (h.values k);
   }
 
-  pub stands_later : {R : Run} {ns ms : Names} {heap : Heap} {n : ℕ} {x : Name} (more : Heap) → Later ns ms → Stands P R ns heap n x → Stands P R ms (heap ++ more) n x
+  pub stands_later : {R : Run} {ns ms : Names} {heap : Heap} {n : ℕ} {x : Name} (more : Heap) → Later ns ms → Stands P R ns heap n x
+      → Stands P R ms (heap ++ more) n x
   stands_later {heap = heap} {n = n} more l h = record {
     held = h.held;
     is_held = still_there heap more n h.held h.is_held;

@@ -38,16 +38,19 @@ replicate_past zero x k l = refl
 replicate_past (suc n) x zero l = absurd (omega arith)
 replicate_past (suc n) x (suc k) l = replicate_past n x k (omega arith)
 
-pub held_like : {ns : Names} {t : ThingIn} {s : Thing} → ThingLike ns t s → (k : ℕ) → MaybeLike ns (slice_get (held t).values k) (first_cell s (slot_of (pos k) (size s)))
+pub held_like : {ns : Names} {t : ThingIn} {s : Thing} → ThingLike ns t s → (k : ℕ)
+    → MaybeLike ns (slice_get (held t).values k) (first_cell s (slot_of (pos k) (size s)))
 held_like {ns} (an_object_like c {rs} {qs} {vs} {us} r h) k = go (nat_lt k (length us)) refl (slice_get us k) refl (fields_like h k)
   where
     go : (b : Bool) → nat_lt k (length us) ≡ b → (o : Option Value) → slice_get us k ≡ o → MaybeLike ns (slice_get vs k) o
         → MaybeLike ns (slice_get vs k) (first_cell (An_object c qs us) (if nat_lt k (length us) then Some k else None))
     go true e (Some u) g m = subst (λ (r : Option Value). MaybeLike ns (slice_get vs k) r)
         (sym (ap (λ b. first_cell (An_object c qs us) (if b then Some k else None)) e ∙ ap (λ o. Some (or_else o Null)) g)) m
-    go true e None g m = absurd (let l = ltb-true k (length us) e in let z : None ≡ Some (slice_index_or us k Null) = sym g ∙ slice_get-get_or us k Null l in cc)
+    go true e None g m = absurd (let l = ltb-true k (length us) e in let z : None ≡ Some (slice_index_or us k Null) = sym g
+        ∙ slice_get-get_or us k Null l in cc)
     go false e (Some u) g m = absurd (let l = slice_get_within us k u g in true≢false (sym (lt-ltb k (length us) l) ∙ e))
-    go false e None g m = subst (λ (r : Option Value). MaybeLike ns (slice_get vs k) r) (sym (ap (λ b. first_cell (An_object c qs us) (if b then Some k else None)) e)) m
+    go false e None g m = subst (λ (r : Option Value). MaybeLike ns (slice_get vs k) r) (sym (ap (λ b. first_cell (An_object c qs us)
+        (if b then Some k else None)) e)) m
 held_like {ns} (an_array_like {r} {q} len {v} {u} h) k = go (nat_lt k len) refl
   where
     go : (b : Bool) → nat_lt k len ≡ b → MaybeLike ns (slice_get (replicate len v) k) (first_cell (An_array q len u) (if nat_lt k len then Some k else None))
@@ -68,7 +71,8 @@ things_step : (e : Event) (es : Run) → things (e ∷ es) ≡ things es ++ made
 unfolding things
 things_step e es = refl
 
-module _ (P : Program) {R : Run} {ns : Names} {since : ℕ} {w : Store} (h : Holds P R ns since w) (p : Path) {t : ThingIn} {s : Thing} (c : Bool) (like : ThingLike ns t s)
+module _ (P : Program) {R : Run} {ns : Names} {since : ℕ} {w : Store} (h : Holds P R ns since w) (p : Path) {t : ThingIn} {s : Thing} (c : Bool)
+    (like : ThingLike ns t s)
     (turns : ℕ) where
   abbrev pub name : Name
   name = record { maker = p; count = length (made P R p) }
@@ -95,7 +99,8 @@ module _ (P : Program) {R : Run} {ns : Names} {since : ℕ} {w : Store} (h : Hol
       mixed : (n : ℕ) (x : Name) → slice_get ns n ≡ Some x → name ≡ x → ⊥
       mixed n x a e = let g = h.there n x a in let z : None ≡ Some g.thing = sym has_none ∙ ap (λ y. thing_of P R y) e ∙ g.is_thing in cc
 
-      go : (n m : ℕ) (x : Name) → (slice_get ns n ≡ Some x) ⊎ ((n ≡ length ns) × (name ≡ x)) → (slice_get ns m ≡ Some x) ⊎ ((m ≡ length ns) × (name ≡ x)) → n ≡ m
+      go : (n m : ℕ) (x : Name) → (slice_get ns n ≡ Some x) ⊎ ((n ≡ length ns) × (name ≡ x)) → (slice_get ns m ≡ Some x) ⊎ ((m ≡ length ns) × (name ≡ x))
+          → n ≡ m
       go n m x (inl a) (inl b) = h.distinct.one n m x a b
       go n m x (inl a) (inr b) = absurd (mixed n x a b.1)
       go n m x (inr a) (inl b) = absurd (mixed m x b a.1)
@@ -114,7 +119,8 @@ module _ (P : Program) {R : Run} {ns : Names} {since : ℕ} {w : Store} (h : Hol
     thing = s;
     is_thing = has_one;
     like = thing_like_later now_later (held_thing like);
-    values = λ k. maybe_later now_later (subst (λ (r : Option Value). MaybeLike ns (slice_get (held t).values k) r) (firsts (slot_of (pos k) (size s))) (held_like like k));
+    values = λ k. maybe_later now_later (subst (λ (r : Option Value). MaybeLike ns (slice_get (held t).values k) r) (firsts (slot_of (pos k) (size s)))
+        (held_like like k));
   }
     where
       firsts : (o : Option ℕ) → first_cell s o ≡ cell_value (newly ∷ R) s name o

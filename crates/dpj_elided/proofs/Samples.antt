@@ -164,5 +164,6 @@ determinism_needs_free =
       r.0,
       c.0,
       ended with_print r.1 c.1,
-      (λ i. (let e = sym (ap steps_in c.1.outcome) ∙ ap steps_in i.is ∙ ap (λ o. steps_in (renamed i.names o)) race_elided in let k = with_costs.0 in absurd (omega arith))),
+      (λ i. (let e = sym (ap steps_in c.1.outcome) ∙ ap steps_in i.is
+          ∙ ap (λ o. steps_in (renamed i.names o)) race_elided in let k = with_costs.0 in absurd (omega arith))),
     )

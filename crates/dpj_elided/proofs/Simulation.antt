@@ -61,7 +61,8 @@ pub record Ghost : Type 0 where
   pub made : ℕ
   pub names : Names
 
-pub bind_assoc : {N M V U T W : Type 0} (o : out N M V W) (k : V → W → out N M U W) (j : U → W → out N M T W) → bind (bind o k) j ≡ bind o (λ v u. bind (k v u) j)
+pub bind_assoc : {N M V U T W : Type 0} (o : out N M V W) (k : V → W → out N M U W) (j : U → W → out N M T W)
+    → bind (bind o k) j ≡ bind o (λ v u. bind (k v u) j)
 bind_assoc (Done v w) k j = refl
 bind_assoc (out.Trapped trap p w) k j = refl
 bind_assoc (Stopped n a) k j = refl
@@ -203,7 +204,8 @@ module _ (P : PlainProgram) (arg : ℤ) where
           task = t;
           begun = r.begun;
           asks = ask_is g.path P t (answers (mine g.log g.path))
-              ∙ ap (λ l. replied t.work (run (told (named_by g.path)) (does (named_by g.path) P t) (told_on 0 0 l))) (sym (append-nil (reverse (answers (mine g.log g.path)))))
+              ∙ ap (λ l. replied t.work (run (told (named_by g.path)) (does (named_by g.path) P t) (told_on 0 0 l))) (sym (append-nil (reverse (answers
+                  (mine g.log g.path)))))
               ∙ r.resid [] ∙ e;
           right = h;
         };
@@ -211,7 +213,8 @@ module _ (P : PlainProgram) (arg : ℤ) where
       })
 
   -- what is left to do behind it
-  pub resid_next : (p : Path) (t : Task) (R : Run) (m m' : ToldOf → OutOf ResultOf) (n k k' i : ℕ) (a : Action) (x : Answer) → Residual p t (answers (mine R p)) m n k
+  pub resid_next : (p : Path) (t : Task) (R : Run) (m m' : ToldOf → OutOf ResultOf) (n k k' i : ℕ) (a : Action) (x : Answer)
+      → Residual p t (answers (mine R p)) m n k
       → ((xs : List Answer) → replied t.work (m (told_on n k (x ∷ xs))) ≡ replied t.work (m' (told_on 0 k' xs)))
       → Residual p t (answers (mine (record { path = p; turns = i; act = a; ans = x } ∷ R) p)) m' 0 k'
   resid_next p t R m m' n k k' i a x r h xs =
@@ -224,7 +227,8 @@ module _ (P : PlainProgram) (arg : ℤ) where
       list = ap (λ l. reverse (answers l) ++ xs) (mine_same (record { path = p; turns = i; act = a; ans = x }) R p refl)
           ∙ ap (λ l. l ++ xs) (reverse-append (x ∷ []) got) ∙ append_assoc (reverse got) (x ∷ []) xs
 
-  pub ready_next : {g : Ghost} {w : Store} {t : Task} {m : ToldOf → OutOf ResultOf} (m' : ToldOf → OutOf ResultOf) (n : ℕ) (a : Action) (x : Answer) (made : ℕ) (v : Store)
+  pub ready_next : {g : Ghost} {w : Store} {t : Task} {m : ToldOf → OutOf ResultOf} (m' : ToldOf
+      → OutOf ResultOf) (n : ℕ) (a : Action) (x : Answer) (made : ℕ) (v : Store)
       (ns : Names) → Stays a → Ready g w t m → replied t.work (m (told_on g.since g.made [])) ≡ Next n a → Right Q g.log g.path a x
       → Holds Q (record { path = g.path; turns = n; act = a; ans = x } ∷ g.log) ns 0 v
       → ((xs : List Answer) → replied t.work (m (told_on g.since g.made (x ∷ xs))) ≡ replied t.work (m' (told_on 0 made xs)))
@@ -272,7 +276,8 @@ module _ (P : PlainProgram) (arg : ℤ) where
     spent = (let x = a.spent in let y = o.spent in omega arith);
   }
 
-  pub post_after : {V X : Type 0} (VR : Names → V → X → Type 0) {g h : Ghost} {w v : Store} (t : Task) (K : X → ToldOf → OutOf ResultOf) (o : OutIn V) → After g h w v
+  pub post_after : {V X : Type 0} (VR : Names → V → X → Type 0) {g h : Ghost} {w v : Store} (t : Task) (K : X → ToldOf → OutOf ResultOf) (o : OutIn V)
+      → After g h w v
       → v.trap ≡ w.trap → Post VR h v t K o → Post VR g w t K o
   post_after VR t K (Done x u) a e p = (p.0, p.1, p.2, after_then a p.3, p.4, p.5 ∙ e)
   post_after VR t K (out.Trapped trap q u) a e p = (p.0, after_then a p.1, p.2, p.3 ∙ ap (λ d. first_of d (trap, q)) e)
@@ -298,7 +303,8 @@ module _ (P : PlainProgram) (arg : ℤ) where
         (ready_same r (λ xs. ap (λ o. replied t.work (bind o K)) (h (told_on g.since g.made xs) r.low)));
   }
 
-  pub sim_bind : {V X U Y : Type 0} {VR : Names → V → X → Type 0} {UR : Names → U → Y → Type 0} {b : ℕ} {ns : Names} {m : ToldOf → OutOf X} {n : Store → OutIn V}
+  pub sim_bind : {V X U Y : Type 0} {VR : Names → V → X → Type 0} {UR : Names → U → Y → Type 0} {b : ℕ} {ns : Names} {m : ToldOf → OutOf X} {n : Store
+      → OutIn V}
       {j : X → ToldOf → OutOf Y} {k : V → Store → OutIn U} → Sim VR b ns m n
       → ((ms : Names) (v : V) (x : X) → Later ns ms → VR ms v x → Sim UR b ms (j x) (k v)) → Sim UR b ns (λ u. bind (m u) j) (λ w. bind (n w) k)
   sim_bind {V} {X} {U} {Y} {VR} {UR} {b} {ns} {m} {n} {j} {k} s h = record {
@@ -319,7 +325,8 @@ module _ (P : PlainProgram) (arg : ℤ) where
       → Sim AnswerLike b ns (λ u. asked (Do q) u) (λ w. Done (answer w.heap o) (after o w))
   sim_act {b} {ns} {o} {q} like = record { from = from }
     where
-      from : (g : Ghost) (w : Store) (t : Task) (K : Answer → ToldOf → OutOf ResultOf) → Later ns g.names → w.turns < b → Ready g w t (λ u. bind (asked (Do q) u) K)
+      from : (g : Ghost) (w : Store) (t : Task) (K : Answer → ToldOf → OutOf ResultOf) → Later ns g.names → w.turns < b
+          → Ready g w t (λ u. bind (asked (Do q) u) K)
           → Post AnswerLike g w t K (Done (answer w.heap o) (after o w))
       from g w t K l lt r =
           let a = own_step Q r.holds g.path (own_later l like) in (
@@ -346,7 +353,16 @@ module _ (P : PlainProgram) (arg : ℤ) where
           let k1 : Holds Q (ev ∷ g.log) g.names 0 (turn_now w n) =
           structure_step Q k0 g.path ev refl (λ c. refl) (λ f. rest_prints f) refl (turn_now w n) refl refl refl refl (omega arith) in
           let mm : ToldOf → OutOf ResultOf = (λ u. bind (turned_if true (told_on g.since made u.to_come)) (λ a v. next v)) in
-          let r1 : Ready g w t mm = record { legal = r.legal; order = r.order; greedy = r.greedy; working = r.working; begun = r.begun; low = r.low; resid = k; holds = r.holds } in (
+          let r1 : Ready g w t mm = record {
+            legal = r.legal;
+            order = r.order;
+            greedy = r.greedy;
+            working = r.working;
+            begun = r.begun;
+            low = r.low;
+            resid = k;
+            holds = r.holds;
+          } in (
             noted g made (suc g.since) (Do Rest) Went g.names,
             refl,
             after_noted g w (turn_now w n) made (suc g.since) (Do Rest) Went g.names (later_none r.holds.distinct) (omega arith) (omega arith),
@@ -418,7 +434,8 @@ module _ (P : PlainProgram) (arg : ℤ) where
           other_regions : {h : Ghost} → After g h w (turn_now w n) → After g h w (record (turn_now w n) { regions = suc w.regions })
           other_regions a = record { path = a.path; grown = a.grown; kept = a.kept; names = a.names; turns = a.turns; spent = a.spent }
 
-          ready_regions : {h : Ghost} {m : ToldOf → OutOf ResultOf} → Ready h (turn_now w n) t m → Ready h (record (turn_now w n) { regions = suc w.regions }) t m
+          ready_regions : {h : Ghost} {m : ToldOf → OutOf ResultOf} → Ready h (turn_now w n) t m
+              → Ready h (record (turn_now w n) { regions = suc w.regions }) t m
           ready_regions r = record {
             legal = r.legal;
             order = r.order;

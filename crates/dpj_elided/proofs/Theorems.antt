@@ -27,7 +27,8 @@ use Rattle.dpj_runs.proofs.Mine.{mine_nil, mine_same}
 use Rattle.dpj_runs.proofs.Schedules.{ran_legal}
 use Rattle.dpj_runs.proofs.Theorems.{each_comes_out, same_outcome}
 use Rattle.dpj_steps.specs.Steps.{first_name, named_by, stepped}
-use Rattle.dpj_elided.specs.Laws.{ComesOutAsElided, ElisionIsLegal, IsElided, NoneCostsMoreThanElision, RunsAreElided, SchedulesAreElided, in_limits, over_limits}
+use Rattle.dpj_elided.specs.Laws.{ComesOutAsElided, ElisionIsLegal, IsElided, NoneCostsMoreThanElision, RunsAreElided, SchedulesAreElided, in_limits}
+use Rattle.dpj_elided.specs.Laws.{over_limits}
 use Rattle.dpj_elided.specs.Renamed.{Distinct, object_named, renamed, renamed_ending, renamed_value}
 use Rattle.dpj_elided.proofs.Worlds.{EndingLike, LocalsLike, Names, TaskLike, ThingLike, ValueLike, assigned_like, boolean_like, int_like, more_locals}
 use Rattle.dpj_elided.proofs.Worlds.{more_values, no_locals, no_regions, no_values, null_like, object_like, returned_like, trapped_like}
@@ -116,7 +117,8 @@ module _ (P : PlainProgram) (arg : ℤ) where
     thing = QP.object;
     is_thing = refl;
     like = held_thing main_like;
-    values = λ k. subst (λ (r : Option Value). MaybeLike first_names (slice_get (held (main_object P)).values k) r) (firsts (slot_of (pos k) (size QP.object))) (held_like main_like k);
+    values = λ k. subst (λ (r : Option Value). MaybeLike first_names (slice_get (held (main_object P)).values k) r) (firsts (slot_of (pos k)
+        (size QP.object))) (held_like main_like k);
   }
     where
       firsts : (o : Option ℕ) → first_cell QP.object o ≡ cell_value [] QP.object first_name o
@@ -194,8 +196,10 @@ module _ (P : PlainProgram) (arg : ℤ) where
             (e ∙ (λ z. cond (ea z || eb z) (Limited L.steps L.cells) (Came x v.output v.steps v.cells)))
         go false ea false eb = in_limits (renamed o.names (Came x v.output v.steps v.cells)) comes
             (record {
-              steps = (let j = steps_are in ⊎_elim (λ l. absurd (true≢false (sym (lt-ltb L.steps v.steps l) ∙ ea))) (λ l. omega arith) (cases_lt L.steps v.steps));
-              cells = (let j = o.holds.cells in ⊎_elim (λ l. absurd (true≢false (sym (lt-ltb L.cells v.cells l) ∙ eb))) (λ l. omega arith) (cases_lt L.cells v.cells));
+              steps = (let j = steps_are in ⊎_elim (λ l. absurd (true≢false (sym (lt-ltb L.steps v.steps l)
+                  ∙ ea))) (λ l. omega arith) (cases_lt L.steps v.steps));
+              cells = (let j = o.holds.cells in ⊎_elim (λ l. absurd (true≢false (sym (lt-ltb L.cells v.cells l)
+                  ∙ eb))) (λ l. omega arith) (cases_lt L.cells v.cells));
             })
             (record {
               names = o.names;
@@ -213,7 +217,8 @@ module _ (P : PlainProgram) (arg : ℤ) where
   comes_out L (out.Trapped trap p v) q e s a b = absurd a
   comes_out L (Stopped n c) q e s a b = absurd a
   comes_out L (Lost v) (Done x u) e s a b =
-      (b.event ∷ b.before, b.legal, b.order, b.greedy, over_limits (λ w. (let i = w.steps in let j = steps_are (suc L.steps + most_turns) b in let k = b.spent in let m = s in omega arith)) e)
+      (b.event ∷ b.before, b.legal, b.order, b.greedy, over_limits (λ w. (let i = w.steps in let j = steps_are
+          (suc L.steps + most_turns) b in let k = b.spent in let m = s in omega arith)) e)
   comes_out L (Lost v) (out.Trapped trap p u) e s a b = absurd b
   comes_out L (Lost v) (Stopped n c) e s a b = absurd b
   comes_out L (Lost v) (Lost u) e s a b = (
