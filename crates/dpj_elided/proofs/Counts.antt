@@ -1,6 +1,6 @@
 -- What is read off like values, answers and regions is the same, or like.
 use Rattle.std.proofs.Common.{◌≡◌, ℕ, zero, suc, ◌+◌, ◌-◌, ℤ, pos, Bool, true, false, cond, not, ◌==◌, ◌||◌, List, [], ◌∷◌, ◌++◌, map, length, reverse}
-use Rattle.std.proofs.Common.{refl, sym, ap, ap₂, ◌∙◌, subst, arith, Option, Some, None, slice_get, eq-eqb, eqb-true, length-append}
+use Rattle.std.proofs.Common.{refl, sym, ap, ap₂, ◌∙◌, subst, Option, Some, None, slice_get, eq-eqb, eqb-true, length-append}
 use Rattle.std.proofs.lemmas.List.{length-map, reverse-append}
 use Rattle.std.specs.Prelude.{int_lt, slice_set, slice_index_or}
 use Rattle.std.specs.Int.{w32, int_wrapping_add, int_wrapping_sub, int_wrapping_mul, int_wrapping_neg, int_wrapping_div}
@@ -10,7 +10,6 @@ use Rattle.dpj_base.specs.declared.value.Trap.{Trap}
 use Rattle.std.specs.Ordering.{int_eq}
 use Rattle.std.specs.List.{list_any}
 use Rattle.std.proofs.lemmas.Bool.{and_from, false_from_ne_true}
-use Rattle.dpj_base.specs.declared.elems.Elem.{Elem}
 use Rattle.dpj_base.specs.declared.region.Head.TheVariants as head
 use Rattle.dpj_base.specs.declared.region.Head.{Head}
 use Rattle.dpj_base.specs.declared.region.Rpl.{Rpl}
@@ -19,22 +18,23 @@ use Rattle.dpj_typed.specs.declared.expr.BinaryOp.TheVariants as op
 use Rattle.dpj_typed.specs.declared.expr.UnaryOp.{UnaryOp}
 use Rattle.dpj_typed.specs.declared.expr.UnaryOp.TheVariants.{Negate, Not}
 use Rattle.dpj_typed.specs.Plain.{PlainParent}
-use Rattle.dpj_meaning.specs.Values.{Value, Int, Boolean, Null, Object, Region, Naming}
-use Rattle.dpj_meaning.specs.Actions.{Frame, Answer, Went, Got, Out, Class, Length, Named, Ending, Returned, Assigned, Work}
+use Rattle.dpj_meaning.specs.Values.{Value, Int, Boolean, Region, Naming}
+use Rattle.dpj_meaning.specs.Actions.{Answer, Ending, Returned, Assigned, Work}
 use Rattle.dpj_meaning.specs.Asking.{ended}
 use Rattle.dpj_meaning.specs.Core.{Result}
 use Rattle.dpj_meaning.specs.Expressions.{none}
 use Rattle.dpj_meaning.specs.Outcomes.{trap_of, first_trap, locals_of, all_locals, joined, joined_or}
-use Rattle.dpj_meaning.specs.Counts.{number, truth, reference, value_read, is_out, length_seen, name_made, class_seen, class_entered, is_below, operated, divided}
+use Rattle.dpj_meaning.specs.Counts.{number, truth, value_read, is_out, length_seen, name_made, class_seen, class_entered, is_below, operated, divided}
 use Rattle.dpj_meaning.specs.Counts.{unary, same_value, slot_value, padded, part_place, part_first, part_length, part_taken, part_begin, is_part, numbered}
-use Rattle.dpj_meaning.specs.Counts.{assigned, copied, copied_one, text_of, brought}
+use Rattle.dpj_meaning.specs.Counts.{assigned, copied, text_of, brought}
 use Rattle.dpj_meaning.specs.Elision.{LocalRegion as Counted}
 use Rattle.dpj_meaning.specs.Regions.{Around, head_region, concrete, part_of, is_long, some_long, handed_up, regions_above, most_parts}
 use Rattle.dpj_runs.specs.Objects.{Name, LocalRegion, same_name}
 use Rattle.dpj_runs.proofs.Cells.{same_name_eq}
 use Rattle.dpj_runs.proofs.Mine.{test_same}
 use Rattle.dpj_elided.proofs.Worlds.{Names, Distinct, ValueLike, int_like, boolean_like, null_like, object_like, ValuesLike, no_values, more_values, LocalsLike}
-use Rattle.dpj_elided.proofs.Worlds.{no_locals, more_locals, RegionsLike, no_regions, AnswerLike, went_like, got_like, out_like, class_like, length_like, named_like}
+use Rattle.dpj_elided.proofs.Worlds.{no_locals, more_locals, RegionsLike, no_regions, AnswerLike, went_like, got_like, out_like, class_like, length_like}
+use Rattle.dpj_elided.proofs.Worlds.{named_like}
 use Rattle.dpj_elided.proofs.Worlds.{BroughtLike, back_like, trap_like, EndingLike, returned_like, assigned_like, trapped_like, EndingsLike, no_endings}
 use Rattle.dpj_elided.proofs.Worlds.{more_endings, ResultLike, goes_on_like, returns_like}
 
@@ -68,7 +68,8 @@ slot_like no_values x = null_like
 slot_like (more_values h k) zero = h
 slot_like (more_values h k) (suc x) = slot_like k x
 
-pub number_at : {ns : Names} {vs : List (Value ℕ)} {us : List (Value Name)} → ValuesLike ns vs us → (x : ℕ) → number (slot_value vs x) ≡ number (slot_value us x)
+pub number_at : {ns : Names} {vs : List (Value ℕ)} {us : List (Value Name)} → ValuesLike ns vs us → (x : ℕ)
+    → number (slot_value vs x) ≡ number (slot_value us x)
 number_at h x = number_like (slot_like h x)
 
 pub set_like : {ns : Names} {vs : List (Value ℕ)} {us : List (Value Name)} {v : Value ℕ} {u : Value Name} → ValuesLike ns vs us → (x : ℕ)
@@ -294,14 +295,16 @@ module _ (names : Naming ℕ Counted) (others : Naming Name LocalRegion) where
       go (c == d) (λ p. regions_above_like parent k p.class (handed_up names rs p.args) (handed_up others qs p.args) (handed rs qs e p.args) d)
     where
       at : (o : Option PlainParent) → ((p : PlainParent)
-          → RegionsLike (regions_above names parent k p.class (handed_up names rs p.args) d) (regions_above others parent k p.class (handed_up others qs p.args) d))
+          → RegionsLike (regions_above names parent k p.class (handed_up names rs p.args) d) (regions_above others parent k p.class
+              (handed_up others qs p.args) d))
           → RegionsLike (elim o [ None ↦ rs | Some p ↦ regions_above names parent k p.class (handed_up names rs p.args) d ])
           (elim o [ None ↦ qs | Some p ↦ regions_above others parent k p.class (handed_up others qs p.args) d ])
       at None rec = e
       at (Some p) rec = rec p
 
       go : (b : Bool) → ((p : PlainParent)
-          → RegionsLike (regions_above names parent k p.class (handed_up names rs p.args) d) (regions_above others parent k p.class (handed_up others qs p.args) d))
+          → RegionsLike (regions_above names parent k p.class (handed_up names rs p.args) d) (regions_above others parent k p.class
+              (handed_up others qs p.args) d))
           → RegionsLike (cond b rs (elim (parent c) [ None ↦ rs | Some p ↦ regions_above names parent k p.class (handed_up names rs p.args) d ]))
           (cond b qs (elim (parent c) [ None ↦ qs | Some p ↦ regions_above others parent k p.class (handed_up others qs p.args) d ]))
       go true rec = e
@@ -349,7 +352,8 @@ all_locals_alike (more_endings h k) = locals_append (locals_alike h) (all_locals
 pub joined_alike : {ns : Names} {xs : List (Ending ℕ)} {ys : List (Ending Name)} → EndingsLike ns xs ys
     → BroughtLike ns (brought {M = Counted} (joined xs)) (brought {M = LocalRegion} (joined ys))
 joined_alike {ns} {xs} {ys} h =
-    subst (λ (o : Option (Trap × Place)). BroughtLike ns (brought {M = Counted} (joined xs)) (brought {M = LocalRegion} (joined_or o (all_locals ys)))) (first_trap_alike h)
+    subst (λ (o : Option (Trap
+        × Place)). BroughtLike ns (brought {M = Counted} (joined xs)) (brought {M = LocalRegion} (joined_or o (all_locals ys)))) (first_trap_alike h)
     (go (first_trap xs))
   where
     go : (o : Option (Trap × Place))
@@ -366,6 +370,7 @@ ended_alike {c} {ns} {j} {k} {r} {s} e h = subst (λ (z : Work). EndingLike ns (
     go (returns_like d v) = returned_like v
     go (goes_on_like {f = f} {g = g} v w) = at (j.is_root)
       where
-        at : (b : Bool) → EndingLike ns (if b then Returned none else Assigned (assigned j.copies f.values)) (if b then Returned none else Assigned (assigned j.copies g.values))
+        at : (b : Bool) → EndingLike ns (if b then Returned none else Assigned (assigned j.copies f.values)) (if b then Returned none else Assigned
+            (assigned j.copies g.values))
         at true = returned_like null_like
         at false = assigned_like (assigned_alike j.copies w.values)

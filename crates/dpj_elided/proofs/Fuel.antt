@@ -1,18 +1,18 @@
 -- With more turns the elision does the same, as long as it has turns left.
-use Rattle.std.proofs.Common.{◌≡◌, ℕ, zero, suc, ◌+◌, ◌<◌, ◌≤◌, ℤ, Bool, true, false, List, [], ◌∷◌, refl, sym, ap, ◌∙◌, subst, arith, Option, Some, None}
+use Rattle.std.proofs.Common.{◌≡◌, ℕ, zero, suc, ◌+◌, ◌<◌, ◌≤◌, ℤ, Bool, true, false, List, [], ◌∷◌, refl, sym, ap, subst, arith}
 use Rattle.dpj_base.specs.declared.place.Place.{Place}
 use Rattle.dpj_base.specs.declared.value.Trap.{Trap}
 use Rattle.dpj_typed.specs.declared.stmt.Forking.{Forking}
 use Rattle.dpj_typed.specs.Plain.{PlainProgram}
-use Rattle.dpj_meaning.specs.Actions.{Frame, Task, Ending, Own, Answer, Trapped, Work, Action}
+use Rattle.dpj_meaning.specs.Actions.{Frame, Task, Ending, Own, Work}
 use Rattle.dpj_meaning.specs.Asking.{does, ended}
-use Rattle.dpj_meaning.specs.Core.{Result, Goes_on, Returns, Prog, Ret, Traps, Act, Makes, Again, Split, Done, Stopped, Lost, bind, loop, tested, rounded, each_from, run}
+use Rattle.dpj_meaning.specs.Core.{Result, Goes_on, Returns, Prog, Ret, Traps, Act, Makes, Again, Split, Done, Stopped, Lost, bind, loop, tested, rounded}
+use Rattle.dpj_meaning.specs.Core.{each_from, run}
 use Rattle.dpj_meaning.specs.Core.{Out as out}
-use Rattle.dpj_meaning.specs.Counts.{Brought, brought, truth}
-use Rattle.dpj_meaning.specs.Values.{Value}
-use Rattle.dpj_meaning.specs.Elision.{LocalRegion as Counted, in_order, Store, answer, after, one_turn, new_region, one_step, first_of, at_end, at_start, one_by_one}
+use Rattle.dpj_meaning.specs.Counts.{truth}
+use Rattle.dpj_meaning.specs.Elision.{LocalRegion as Counted, in_order, Store, answer, after, one_turn, new_region, one_step, first_of, at_end, at_start}
+use Rattle.dpj_meaning.specs.Elision.{one_by_one}
 use Rattle.dpj_meaning.specs.Elision.{root_task, ran_through, sequential}
-use Rattle.dpj_meaning.specs.Outcomes.{joined}
 
 abbrev pub OutIn : Type 0 → Type 0
 OutIn V = out ℕ Counted V Store
@@ -76,9 +76,11 @@ same_less k n m (Stopped i a) q l h = tt
 same_less k n m (Lost u) q l h = h
 
 same_bind : {V U : Type 0} (k n : ℕ) (o q : OutIn V) (i j : V → Store → OutIn U) → Same k n o q
-    → ((v : V) (u : Store) → u.turns ≤ n → Same k u.turns (i v u) (j v (more k u))) → ((v : V) (u : Store) → Left u.turns (j v u)) → Same k n (bind o i) (bind q j)
+    → ((v : V) (u : Store) → u.turns ≤ n → Same k u.turns (i v u) (j v (more k u))) → ((v : V) (u : Store) → Left u.turns (j v u))
+        → Same k n (bind o i) (bind q j)
 same_bind {V} {U} k n (Done v u) (Done x z) i j h r f =
-    subst (λ (y : V). Same k n (i v u) (j y z)) h.0 (subst (λ (y : Store). Same k n (i v u) (j v y)) (sym h.1) (same_less k u.turns n (i v u) (j v (more k u)) h.2 (r v u h.2)))
+    subst (λ (y : V). Same k n (i v u) (j y z)) h.0 (subst (λ (y : Store). Same k n (i v u) (j v y)) (sym h.1) (same_less k u.turns n (i v u) (j v
+        (more k u)) h.2 (r v u h.2)))
 same_bind k n (Done v u) (out.Trapped trap p z) i j h r f = absurd h
 same_bind k n (Done v u) (Stopped m a) i j h r f = absurd h
 same_bind k n (Done v u) (Lost z) i j h r f = absurd h
@@ -105,7 +107,8 @@ fuel_act : (o : Own ℕ Counted) → Fuel (λ w. Done (answer w.heap o) (after o
 fuel_act o = record { falls = λ w. omega arith; same = λ k w. (refl, refl, omega arith) }
 
 -- one turn, and what follows
-left_turn : {U : Type 0} (n m : ℕ) (w : Store) (j : Store → OutIn U) → n ≤ suc m → ((u : Store) → Left u.turns (j u)) → Left m (bind (one_turn n w) (λ a v. j v))
+left_turn : {U : Type 0} (n m : ℕ) (w : Store) (j : Store → OutIn U) → n ≤ suc m → ((u : Store) → Left u.turns (j u))
+    → Left m (bind (one_turn n w) (λ a v. j v))
 left_turn zero m w j l h = tt
 left_turn (suc n) m w j l h = left_less n m (j (record w { steps = suc w.steps; turns = n })) (omega arith) (h (record w { steps = suc w.steps; turns = n }))
 
@@ -135,7 +138,8 @@ module _ (t b : FrameIn → Store → OutIn ResultIn) (ht : (f : FrameIn) → Fu
   abbrev looped : ℕ → FrameIn → Store → OutIn ResultIn
   looped n f w = loop (λ v. one_turn v.turns v) t b n f w
 
-  left_round : (n : ℕ) → ((f : FrameIn) (w : Store) → Left w.turns (looped n f w)) → (r : ResultIn) (w : Store) → Left w.turns (rounded (λ g v. looped n g v) r w)
+  left_round : (n : ℕ) → ((f : FrameIn) (w : Store) → Left w.turns (looped n f w)) → (r : ResultIn) (w : Store)
+      → Left w.turns (rounded (λ g v. looped n g v) r w)
   left_round n h (Returns v) w = omega arith
   left_round n h (Goes_on v f) w = h f w
 
@@ -144,8 +148,10 @@ module _ (t b : FrameIn → Store → OutIn ResultIn) (ht : (f : FrameIn) → Fu
   left_test n h (Returns v) w = omega arith
   left_test n h (Goes_on v f) w = go (truth v)
     where
-      go : (c : Bool) → Left w.turns (elim c as (λ c. OutIn ResultIn) [ false ↦ Done (Goes_on v f) w
-          | true ↦ bind (one_turn w.turns w) (λ u w'. bind (b f w') (λ r w''. rounded (λ g v. looped n g v) r w'')) ])
+      go : (c : Bool) → Left w.turns (elim c as (λ c. OutIn ResultIn) [
+        | false ↦ Done (Goes_on v f) w
+        | true ↦ bind (one_turn w.turns w) (λ u w'. bind (b f w') (λ r w''. rounded (λ g v. looped n g v) r w''))
+      ])
       go false = omega arith
       go true = left_turn w.turns w.turns w (λ w'. bind (b f w') (λ r w''. rounded (λ g v. looped n g v) r w'')) (omega arith)
           (λ u. left_bind u.turns (b f u) _ ((hb f).falls u) (λ r z. left_round n h r z))
@@ -168,13 +174,19 @@ module _ (t b : FrameIn → Store → OutIn ResultIn) (ht : (f : FrameIn) → Fu
   same_test n m k h (Goes_on v f) w l l' = go (truth v)
     where
       go : (c : Bool) → Same k w.turns
-          (elim c as (λ c. OutIn ResultIn) [ false ↦ Done (Goes_on v f) w
-          | true ↦ bind (one_turn w.turns w) (λ u w'. bind (b f w') (λ r w''. rounded (λ g v. looped n g v) r w'')) ])
-          (elim c as (λ c. OutIn ResultIn) [ false ↦ Done (Goes_on v f) (more k w)
-          | true ↦ bind (one_turn (w.turns + k) (more k w)) (λ u w'. bind (b f w') (λ r w''. rounded (λ g v. looped m g v) r w'')) ])
+          (elim c as (λ c. OutIn ResultIn) [
+            | false ↦ Done (Goes_on v f) w
+            | true ↦ bind (one_turn w.turns w) (λ u w'. bind (b f w') (λ r w''. rounded (λ g v. looped n g v) r w''))
+          ])
+          (elim c as (λ c. OutIn ResultIn) [
+            | false ↦ Done (Goes_on v f) (more k w)
+            | true ↦ bind (one_turn (w.turns + k) (more k w)) (λ u w'. bind (b f w') (λ r w''. rounded (λ g v. looped m g v) r w''))
+          ])
       go false = (refl, refl, omega arith)
-      go true = same_turn k w (λ w'. bind (b f w') (λ r w''. rounded (λ g v. looped n g v) r w'')) (λ w'. bind (b f w') (λ r w''. rounded (λ g v. looped m g v) r w''))
-          (λ u lu. same_bind k u.turns (b f u) (b f (more k u)) _ _ ((hb f).same k u) (λ r z lz. same_round n m k h r z (omega arith) (omega arith)) (λ r z. left_round m (left_loop m) r z))
+      go true = same_turn k w (λ w'. bind (b f w') (λ r w''. rounded (λ g v. looped n g v) r w'')) (λ w'. bind (b f w') (λ r w''. rounded
+          (λ g v. looped m g v) r w''))
+          (λ u lu. same_bind k u.turns (b f u) (b f (more k u)) _ _ ((hb f).same k u) (λ r z lz. same_round n m k h r z (omega arith) (omega arith))
+              (λ r z. left_round m (left_loop m) r z))
           (λ u. left_bind u.turns (b f u) _ ((hb f).falls u) (λ r z. left_round m (left_loop m) r z))
 
   same_loop : (n : ℕ) → LoopSame n
@@ -238,7 +250,8 @@ fuel_run (Ret r) = fuel_done r
 fuel_run (Traps trap p) = fuel_trapped trap p
 fuel_run (Act o k) = fuel_bind (fuel_act o) (λ x. fuel_run (k x))
 fuel_run (Makes k) = fuel_bind fuel_region (λ m. fuel_run (k m))
-fuel_run (Again t b f k) = fuel_bind (fuel_loop (λ g v. run sequential (t g) v) (λ g v. run sequential (b g) v) (λ g. fuel_run (t g)) (λ g. fuel_run (b g)) f) (λ r. fuel_run (k r))
+fuel_run (Again t b f k) = fuel_bind (fuel_loop (λ g v. run sequential (t g) v) (λ g v. run sequential (b g) v) (λ g. fuel_run (t g)) (λ g. fuel_run (b g)) f)
+    (λ r. fuel_run (k r))
 fuel_run (Split forking ts bs k) = fuel_bind (fuel_fork forking ts _ (all_fuel bs (λ i. fuel_run (bs i)) ts 0)) (λ x. fuel_run (k x))
 
 -- the elision with more turns

@@ -3,7 +3,16 @@ mod Counts
 mod Meaning
 mod Working
 mod Memory
+mod Writes
+mod NewThings
+mod Doing
 mod Turns
-mod Sim
+mod Simulation
+mod Loops
+mod Branches
+mod Programs
 mod Fuel
 mod Theorems
+mod Greedy
+mod Scheduled
+mod Samples

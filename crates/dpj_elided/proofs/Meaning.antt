@@ -1,40 +1,43 @@
 -- What a task does is like in the elision and in a run, whatever names objects and local regions.
-use Rattle.std.proofs.Common.{◌≡◌, ℕ, zero, suc, ◌+◌, ◌-◌, ℤ, pos, negsuc, Bool, true, false, cond, List, [], ◌∷◌, ◌++◌, map, length, reverse, refl, sym}
-use Rattle.std.proofs.Common.{ap, ap₂, ◌∙◌, subst, arith, Option, Some, None}
-use Rattle.std.specs.Prelude.{slice_set, slice_get, nat_lt}
+use Rattle.std.proofs.Common.{◌≡◌, ℕ, zero, suc, ◌+◌, ◌-◌, ℤ, pos, negsuc, Bool, true, false, cond, List, [], ◌∷◌, map, length, refl, sym}
+use Rattle.std.proofs.Common.{ap, ◌∙◌, subst, arith, Option, Some, None}
+use Rattle.std.specs.Prelude.{slice_get, nat_lt}
 use Rattle.dpj_base.specs.declared.place.Place.{Place}
 use Rattle.dpj_base.specs.declared.value.Trap.TheVariants as trap
-use Rattle.dpj_base.specs.declared.value.Trap.{Trap}
 use Rattle.dpj_base.specs.Types.{PlainType}
 use Rattle.dpj_base.specs.Types.{PlainType as ty}
 use Rattle.dpj_typed.specs.declared.stmt.Forking.{Forking}
-use Rattle.dpj_typed.specs.Plain.{PlainProgram, PlainMember, PlainField, of_array, of_part, TypedExpr, typed, TypedExprs, no_exprs, more_exprs, TypedStmt, statement}
+use Rattle.dpj_typed.specs.Plain.{PlainProgram, PlainMember, PlainField, of_array, of_part, TypedExpr, typed, TypedExprs, no_exprs, more_exprs, TypedStmt}
+use Rattle.dpj_typed.specs.Plain.{statement}
 use Rattle.dpj_typed.specs.Plain.{TypedStmts, no_stmts, more_stmts, TypedBranches, no_branches, more_branches}
 use Rattle.dpj_typed.specs.Plain.{ExprForm as form}
 use Rattle.dpj_typed.specs.Plain.{StmtForm as stmt}
 use Rattle.dpj_typed.specs.Scope.{row_at, member_at, constructor_of, parent_of}
-use Rattle.dpj_meaning.specs.Values.{Value, Int, Null, Region, Object, Naming, Thing}
-use Rattle.dpj_meaning.specs.Actions.{Frame, Task, Answer, New, Look}
+use Rattle.dpj_meaning.specs.Values.{Value, Region, Naming}
+use Rattle.dpj_meaning.specs.Actions.{Frame, Task, New}
 use Rattle.dpj_meaning.specs.Asking.{meaning, does}
-use Rattle.dpj_meaning.specs.Counts.{number, truth, reference, value_read, is_out, name_made, class_seen, class_entered, operated, slot_value, part_place}
-use Rattle.dpj_meaning.specs.Counts.{Brought, how_many, length_seen, text_of, line}
-use Rattle.dpj_meaning.specs.Core.{Result, Prog, Ret, Traps, Act, Makes, Again, Split, on, next_of, and_then}
+use Rattle.dpj_meaning.specs.Counts.{number, name_made, part_place}
+use Rattle.dpj_meaning.specs.Counts.{Brought, how_many, line}
+use Rattle.dpj_meaning.specs.Core.{Result, Prog, Traps, Act, on, next_of, and_then}
 use Rattle.dpj_meaning.specs.Elision.{LocalRegion as Counted, in_order}
-use Rattle.dpj_meaning.specs.Regions.{around, concrete, some_long, is_long, regions_above, most_parts}
+use Rattle.dpj_meaning.specs.Regions.{around, most_parts}
 use Rattle.dpj_meaning.specs.Expressions.{Deeper, gives, unless_null, read_cell, entered, back, enter, called, created, new_object, made_array, class_in}
-use Rattle.dpj_meaning.specs.Expressions.{part_element, of_expr, of_exprs, operation, first_of, class_fields}
-use Rattle.dpj_meaning.specs.Statements.{with_value, write_cell, prints, makes, joined, tasks_of, branch_at, branch_of, begun, iterations, numbered_frame, forks}
-use Rattle.dpj_meaning.specs.Statements.{part_begun, part_taken_over, parts, parts_of_array, of_stmt, of_stmts, all_copies}
+use Rattle.dpj_meaning.specs.Expressions.{part_element, of_expr, of_exprs, first_of, class_fields}
+use Rattle.dpj_meaning.specs.Statements.{with_value, write_cell, prints, makes, joined, tasks_of, branch_at, branch_of, begun, iterations, numbered_frame}
+use Rattle.dpj_meaning.specs.Statements.{forks}
+use Rattle.dpj_meaning.specs.Statements.{part_taken_over, parts, parts_of_array, of_stmt, of_stmts}
 use Rattle.dpj_runs.specs.Objects.{Path, Name, LocalRegion}
 use Rattle.dpj_steps.specs.Steps.{named_by}
-use Rattle.dpj_elided.proofs.Worlds.{Names, Distinct, Later, later_none, later_then, name_later, ValueLike, int_like, boolean_like, null_like, object_like}
-use Rattle.dpj_elided.proofs.Worlds.{value_later, ValuesLike, no_values, more_values, values_later, LocalsLike, RegionsLike, FrameLike, frame_later, TaskLike}
-use Rattle.dpj_elided.proofs.Worlds.{TasksLike, no_tasks, more_tasks, ThingLike, an_object_like, an_array_like, OwnLike, rest_like, read_like, write_like}
-use Rattle.dpj_elided.proofs.Worlds.{look_like, new_like, print_like, enter_like, exit_like, AnswerLike, BroughtLike, back_like, trap_like, ResultLike}
-use Rattle.dpj_elided.proofs.Worlds.{goes_on_like, returns_like, result_distinct, Alike, alike_ret, alike_traps, alike_act, alike_makes, alike_again, alike_split}
+use Rattle.dpj_elided.proofs.Worlds.{Names, Later, later_none, later_then, name_later, ValueLike, int_like, boolean_like, null_like, object_like}
+use Rattle.dpj_elided.proofs.Worlds.{value_later, ValuesLike, no_values, more_values, values_later, RegionsLike, FrameLike, frame_later, TaskLike}
+use Rattle.dpj_elided.proofs.Worlds.{TasksLike, no_tasks, more_tasks, ThingLike, an_object_like, an_array_like, rest_like, read_like, write_like}
+use Rattle.dpj_elided.proofs.Worlds.{look_like, new_like, print_like, enter_like, exit_like, BroughtLike, back_like, trap_like, ResultLike}
+use Rattle.dpj_elided.proofs.Worlds.{goes_on_like, returns_like, result_distinct, Alike, alike_ret, alike_traps, alike_act, alike_makes, alike_again}
+use Rattle.dpj_elided.proofs.Worlds.{alike_split}
 use Rattle.dpj_elided.proofs.Counts.{number_like, truth_like, text_like, int_of, slot_like, set_like, padded_like, reverse_like, copied_like, part_place_like}
 use Rattle.dpj_elided.proofs.Counts.{part_taken_like, numbered_like, MaybeLike, none_like, some_like, operated_like, unary_like, read_alike, out_alike}
-use Rattle.dpj_elided.proofs.Counts.{length_alike, name_alike, SeenLike, seen_like, entered_alike, concrete_length, concretes, regions_above_like, regions_append}
+use Rattle.dpj_elided.proofs.Counts.{length_alike, name_alike, SeenLike, seen_like, entered_alike, concrete_length, concretes, regions_above_like}
+use Rattle.dpj_elided.proofs.Counts.{regions_append}
 use Rattle.dpj_elided.proofs.Counts.{some_long_like, number_at}
 
 abbrev pub In : Type 0
@@ -57,13 +60,15 @@ alike_on k j (alike_traps trap p) f = alike_traps trap p
 alike_on k j (alike_act o h) f = alike_act o (λ ms x y l a. alike_on k j (h ms x y l a) (λ ls r s m b. f ls r s (later_then l m) b))
 alike_on k j (alike_makes h) f = alike_makes (λ m l. alike_on k j (h m l) f)
 alike_on k j (alike_again d t b g h) f = alike_again d t b g (λ ms r s l a. alike_on k j (h ms r s l a) (λ ls u v m e. f ls u v (later_then l m) e))
-alike_on k j (alike_split forking ts b e h) f = alike_split forking ts b (λ trap p. ap (λ q. on q k) (e trap p)) (λ ms x y l a. alike_on k j (h ms x y l a) (λ ls r s m b. f ls r s (later_then l m) b))
+alike_on k j (alike_split forking ts b e h) f = alike_split forking ts b (λ trap p. ap (λ q. on q k) (e trap p)) (λ ms x y l a. alike_on k j (h ms x y l a)
+    (λ ls r s m b. f ls r s (later_then l m) b))
 
 abbrev Next : PlainProgram → ℕ → Names → (Value ℕ → FrameIn → In) → (Value Name → FrameOf → Of) → Type 0
 Next P c ns k j = (ms : Names) (v : Value ℕ) (u : Value Name) (f : FrameIn) (g : FrameOf) → Later ns ms → ValueLike ms v u → FrameLike c ms f g
     → Alike P c ms (k v f) (j u g)
 
-alike_then : {P : PlainProgram} {c : ℕ} {ns : Names} {p : In} {q : Of} {k : Value ℕ → FrameIn → In} {j : Value Name → FrameOf → Of} → Alike P c ns p q → Next P c ns k j
+alike_then : {P : PlainProgram} {c : ℕ} {ns : Names} {p : In} {q : Of} {k : Value ℕ → FrameIn → In} {j : Value Name → FrameOf → Of} → Alike P c ns p q
+    → Next P c ns k j
     → Alike P c ns (and_then p k) (and_then q j)
 alike_then {P} {c} {ns} {p} {q} {k} {j} h f = alike_on (next_of k) (next_of j) h next
   where
@@ -75,18 +80,21 @@ alike_gives : {P : PlainProgram} {c : ℕ} {ns : Names} {v : Value ℕ} {u : Val
     → Alike P c ns (gives v f) (gives u g)
 alike_gives h k = alike_ret (goes_on_like h k)
 
-alike_or : {P : PlainProgram} {c : ℕ} {ns : Names} {A : Type 0} (o : Option A) {p : In} {q : Of} {k : A → In} {j : A → Of} → Alike P c ns p q → ((x : A) → Alike P c ns (k x) (j x))
+alike_or : {P : PlainProgram} {c : ℕ} {ns : Names} {A : Type 0} (o : Option A) {p : In} {q : Of} {k : A → In} {j : A → Of} → Alike P c ns p q → ((x : A)
+    → Alike P c ns (k x) (j x))
     → Alike P c ns (elim o as (λ o. In) [ None ↦ p | Some x ↦ k x ]) (elim o as (λ o. Of) [ None ↦ q | Some x ↦ j x ])
 alike_or None h f = h
 alike_or (Some x) h f = f x
 
-alike_maybe : {P : PlainProgram} {c : ℕ} {ns : Names} {o : Option (Value ℕ)} {r : Option (Value Name)} {p : In} {q : Of} {k : Value ℕ → In} {j : Value Name → Of}
+alike_maybe : {P : PlainProgram} {c : ℕ} {ns : Names} {o : Option (Value ℕ)} {r : Option (Value Name)} {p : In} {q : Of} {k : Value ℕ → In} {j : Value Name
+    → Of}
     → MaybeLike ns o r → Alike P c ns p q → ((v : Value ℕ) (u : Value Name) → ValueLike ns v u → Alike P c ns (k v) (j u))
     → Alike P c ns (elim o as (λ o. In) [ None ↦ p | Some x ↦ k x ]) (elim r as (λ o. Of) [ None ↦ q | Some x ↦ j x ])
 alike_maybe none_like h f = h
 alike_maybe (some_like {v} {u} a) h f = f v u a
 
-alike_cond : {P : PlainProgram} {c : ℕ} {ns : Names} (a b : Bool) → a ≡ b → {p r : In} {q s : Of} → Alike P c ns p q → Alike P c ns r s → Alike P c ns (cond a p r) (cond b q s)
+alike_cond : {P : PlainProgram} {c : ℕ} {ns : Names} (a b : Bool) → a ≡ b → {p r : In} {q s : Of} → Alike P c ns p q → Alike P c ns r s
+    → Alike P c ns (cond a p r) (cond b q s)
 alike_cond true true e h k = h
 alike_cond true false e h k = absurd (cc)
 alike_cond false true e h k = absurd (cc)
@@ -106,11 +114,14 @@ alike_unless at (boolean_like b) f = alike_traps trap.Null at
 alike_unless at null_like f = alike_traps trap.Null at
 alike_unless at (object_like n x h) f = f n x h
 
-alike_read : {P : PlainProgram} {c : ℕ} {ns : Names} (at : Place) (n : ℕ) (x : Name) (i : ℤ) {f : FrameIn} {g : FrameOf} → slice_get ns n ≡ Some x → FrameLike c ns f g
+alike_read : {P : PlainProgram} {c : ℕ} {ns : Names} (at : Place) (n : ℕ) (x : Name) (i : ℤ) {f : FrameIn} {g : FrameOf} → slice_get ns n ≡ Some x
+    → FrameLike c ns f g
     → Alike P c ns (read_cell at n i f) (read_cell at x i g)
-alike_read at n x i h k = alike_act (read_like n x i h) (λ ms a b l e. alike_maybe (read_alike e) (alike_traps trap.Index at) (λ v u m. alike_gives m (frame_later l k)))
+alike_read at n x i h k = alike_act (read_like n x i h) (λ ms a b l e. alike_maybe (read_alike e) (alike_traps trap.Index at) (λ v u m. alike_gives m
+    (frame_later l k)))
 
-alike_write : {P : PlainProgram} {c : ℕ} {ns : Names} (at : Place) (n : ℕ) (x : Name) (i : ℤ) {v : Value ℕ} {u : Value Name} {f : FrameIn} {g : FrameOf} → slice_get ns n ≡ Some x
+alike_write : {P : PlainProgram} {c : ℕ} {ns : Names} (at : Place) (n : ℕ) (x : Name) (i : ℤ) {v : Value ℕ} {u : Value Name} {f : FrameIn} {g : FrameOf}
+    → slice_get ns n ≡ Some x
     → ValueLike ns v u → FrameLike c ns f g → Alike P c ns (write_cell at n i v f) (write_cell at x i u g)
 alike_write at n x i h m k = alike_act (write_like n x i h m)
     (λ ms a b l e. alike_cond _ _ (out_alike e) (alike_traps trap.Index at) (alike_gives null_like (frame_later l k)))
@@ -121,12 +132,14 @@ alike_same {P} {c} {ns} at {o} {r} {k} {j} e f =
     subst (λ (z : Option ℤ). Alike P c ns (elim o as (λ o. In) [ None ↦ Traps trap.Index at | Some x ↦ k x ])
     (elim z as (λ o. Of) [ None ↦ Traps trap.Index at | Some x ↦ j x ])) e (alike_or o (alike_traps trap.Index at) f)
 
-alike_part : {P : PlainProgram} {c : ℕ} {ns : Names} (at : Place) (k : ℕ) {i l : ℤ} {f : FrameIn} {g : FrameOf} {m : ℕ → ℤ → In} {j : Name → ℤ → Of} → i ≡ l → FrameLike c ns f g
+alike_part : {P : PlainProgram} {c : ℕ} {ns : Names} (at : Place) (k : ℕ) {i l : ℤ} {f : FrameIn} {g : FrameOf} {m : ℕ → ℤ → In} {j : Name → ℤ → Of} → i ≡ l
+    → FrameLike c ns f g
     → ((n : ℕ) (x : Name) (p : ℤ) → slice_get ns n ≡ Some x → Alike P c ns (m n p) (j x p)) → Alike P c ns (part_element at k i f m) (part_element at k l g j)
 alike_part at k {i} {l} {f} {g} e h more =
     alike_same at (part_place_like k i h.values ∙ ap (λ z. part_place k z g.values) e) (λ p. alike_unless at (slot_like h.values k) (λ n x a. more n x p a))
 
-alike_prints : {P : PlainProgram} {c : ℕ} {ns : Names} {s t : List ℕ} {f : FrameIn} {g : FrameOf} → s ≡ t → FrameLike c ns f g → Alike P c ns (prints s f) (prints t g)
+alike_prints : {P : PlainProgram} {c : ℕ} {ns : Names} {s t : List ℕ} {f : FrameIn} {g : FrameOf} → s ≡ t → FrameLike c ns f g
+    → Alike P c ns (prints s f) (prints t g)
 alike_prints {P} {c} {ns} {s} {t} {f} {g} e h = subst (λ (z : List ℕ). Alike P c ns (prints s f) (prints z g)) e
     (alike_act (print_like (line s)) (λ ms a b l m. alike_gives null_like (frame_later l h)))
 
@@ -134,12 +147,14 @@ with_like : {c : ℕ} {ns : Names} {f : FrameIn} {g : FrameOf} {v : Value ℕ} {
     → FrameLike c ns (with_value f x v) (with_value g x u)
 with_like h x m = record { values = set_like h.values x m; regions = h.regions; left = h.left; left_too = h.left_too; distinct = h.distinct }
 
-alike_makes_all : {P : PlainProgram} {c : ℕ} {ns : Names} (rs : List ℕ) {f : FrameIn} {g : FrameOf} → FrameLike c ns f g → Alike P c ns (makes rs f) (makes rs g)
+alike_makes_all : {P : PlainProgram} {c : ℕ} {ns : Names} (rs : List ℕ) {f : FrameIn} {g : FrameOf} → FrameLike c ns f g
+    → Alike P c ns (makes rs f) (makes rs g)
 alike_makes_all [] h = alike_gives null_like h
 alike_makes_all (r ∷ rs) h = alike_makes (λ m l. alike_makes_all rs
     (record { values = h.values; regions = h.regions; left = h.left; left_too = h.left_too; distinct = h.distinct }))
 
-alike_joined : {P : PlainProgram} {c : ℕ} {ns : Names} (slots : List ℕ) {f : FrameIn} {g : FrameOf} {x : Brought ℕ} {y : Brought Name} → FrameLike c ns f g → BroughtLike ns x y
+alike_joined : {P : PlainProgram} {c : ℕ} {ns : Names} (slots : List ℕ) {f : FrameIn} {g : FrameOf} {x : Brought ℕ} {y : Brought Name} → FrameLike c ns f g
+    → BroughtLike ns x y
     → Alike P c ns (joined slots f x) (joined slots g y)
 alike_joined slots h (back_like m) = alike_gives null_like
     (record { values = copied_like slots m h.values; regions = h.regions; left = h.left; left_too = h.left_too; distinct = h.distinct })
@@ -164,7 +179,8 @@ branch_like : {c d : ℕ} {ns : Names} (takes : Option ℕ) (copies : List ℕ) 
     → TaskLike ns (branch_of takes copies s f) (branch_of takes copies s g)
 branch_like {d = d} takes copies s e h = record { left = d; work = refl; frame = less_left e h }
 
-branches_like : {c d : ℕ} {ns : Names} (bs : TypedBranches) {f : FrameIn} {g : FrameOf} → c ≡ suc d → FrameLike c ns f g → TasksLike ns (tasks_of bs f) (tasks_of bs g)
+branches_like : {c d : ℕ} {ns : Names} (bs : TypedBranches) {f : FrameIn} {g : FrameOf} → c ≡ suc d → FrameLike c ns f g
+    → TasksLike ns (tasks_of bs f) (tasks_of bs g)
 branches_like no_branches e h = no_tasks
 branches_like (more_branches copies s bs) e h = more_tasks (branch_like None copies s e h) (branches_like bs e h)
 
@@ -210,7 +226,8 @@ module _ (path : Path) (P : PlainProgram) where
   DeeperLike None None c = Unit {0}
   DeeperLike None (Some q) c = ⊥
   DeeperLike (Some p) None c = ⊥
-  DeeperLike (Some p) (Some q) c = (d : ℕ) × (c ≡ suc d) × (p ≡ meaning in_order P d) × ((ns : Names) (ss : TypedStmts) (f : FrameIn) (g : FrameOf) → FrameLike d ns f g
+  DeeperLike (Some p) (Some q) c = (d : ℕ) × (c ≡ suc d) × (p ≡ meaning in_order P d) × ((ns : Names) (ss : TypedStmts) (f : FrameIn) (g : FrameOf)
+      → FrameLike d ns f g
       → Alike P d ns (p ss f) (q ss g))
 
   frames_around : {c : ℕ} {ns : Names} {f : FrameIn} {g : FrameOf} → FrameLike c ns f g → (around f).regions ≡ f.regions
@@ -246,7 +263,8 @@ module _ (path : Path) (P : PlainProgram) where
       → Alike P c ns (enter in_order P p s r vs own f) (enter others P q t r us its g)
   alike_enter {c} {ns} p q h r {vs} {us} {own} {its} {f} {g} (seen_like k {rs} {qs} m) a b w =
       alike_or (row_at P k r) (alike_gives null_like w) (λ n. alike_or (member_at P n) (alike_gives null_like w) (λ m'.
-      alike_body p q h m'.body (λ d e. entered_like m' e w a (regions_append _ own _ its (regions_above_like in_order others (parent_of P) (length P.classes) k rs qs m m'.class) b))
+      alike_body p q h m'.body (λ d e. entered_like m' e w a (regions_append _ own _ its (regions_above_like in_order others (parent_of P)
+          (length P.classes) k rs qs m m'.class) b))
       (λ d ms x y l z. alike_back (frame_later l w) z)))
 
   alike_called : {c : ℕ} {ns : Names} (p : Option DeeperIn) (q : Option DeeperOf) → DeeperLike p q c → (at : Place) (k r : ℕ) {own : List (Region Counted)}
@@ -258,24 +276,25 @@ module _ (path : Path) (P : PlainProgram) where
   alike_called (Some p) None h at k r n x b e a w = absurd h
   alike_called (Some p) (Some q) h at k r {own} {its} n x b e a w =
       alike_cond _ _ (some_long_like own its b) (alike_traps trap.Stack at) (alike_act (look_like n x e) (λ ms y z l i.
-      alike_enter p q h r (entered_alike (parent_of P) (length P.classes) k i) (more_values (object_like n x (name_later n x l e)) (values_later l a)) b (frame_later l w)))
+      alike_enter p q h r (entered_alike (parent_of P) (length P.classes) k i) (more_values (object_like n x (name_later n x l e)) (values_later l a)) b
+          (frame_later l w)))
 
   alike_made : {c : ℕ} {ns : Names} (p : Option DeeperIn) (q : Option DeeperOf) → DeeperLike p q c → (at : Place) (k n : ℕ) {rs : List (Region Counted)}
       {qs : List (Region LocalRegion)} {vs : List (Value ℕ)} {us : List (Value Name)} {f : FrameIn} {g : FrameOf} → RegionsLike rs qs → ValuesLike ns vs us
       → FrameLike c ns f g
       → Alike P c ns (elim p as (λ o. In) [
-          | None ↦ Traps trap.Stack at
-          | Some deeper ↦ Act (New (new_object P k rs) true) (λ a. elim (member_at P n) [
-            | None ↦ gives (name_made a) f
-            | Some m ↦ on (deeper m.body (entered in_order m (name_made a ∷ vs) rs (f.left - 1))) (λ r. gives (name_made a) f)
-          ])
-        ]) (elim q as (λ o. Of) [
-          | None ↦ Traps trap.Stack at
-          | Some deeper ↦ Act (New (new_object P k qs) true) (λ a. elim (member_at P n) [
-            | None ↦ gives (name_made a) g
-            | Some m ↦ on (deeper m.body (entered others m (name_made a ∷ us) qs (g.left - 1))) (λ r. gives (name_made a) g)
-          ])
+        | None ↦ Traps trap.Stack at
+        | Some deeper ↦ Act (New (new_object P k rs) true) (λ a. elim (member_at P n) [
+          | None ↦ gives (name_made a) f
+          | Some m ↦ on (deeper m.body (entered in_order m (name_made a ∷ vs) rs (f.left - 1))) (λ r. gives (name_made a) f)
         ])
+      ]) (elim q as (λ o. Of) [
+        | None ↦ Traps trap.Stack at
+        | Some deeper ↦ Act (New (new_object P k qs) true) (λ a. elim (member_at P n) [
+          | None ↦ gives (name_made a) g
+          | Some m ↦ on (deeper m.body (entered others m (name_made a ∷ us) qs (g.left - 1))) (λ r. gives (name_made a) g)
+        ])
+      ])
   alike_made None None h at k n b a w = alike_traps trap.Stack at
   alike_made None (Some q) h at k n b a w = absurd h
   alike_made (Some p) None h at k n b a w = absurd h
@@ -319,7 +338,8 @@ module _ (path : Path) (P : PlainProgram) where
 
   iterations_do : (takes : Option ℕ) (x : ℕ) (s : TypedStmt) (f : FrameIn) (start : ℤ) (j m i : ℕ) (t : Task ℕ Counted)
       → slice_get (iterations takes x s f start j m) i ≡ Some t
-      → does in_order P t ≡ meaning in_order P (f.left - 1) (more_stmts s no_stmts) (begun takes (record (numbered_frame x start (j + i) f) { left = f.left - 1 }))
+      → does in_order P t ≡ meaning in_order P (f.left - 1) (more_stmts s no_stmts) (begun takes (record (numbered_frame x start
+          (j + i) f) { left = f.left - 1 }))
   iterations_do takes x s f start j zero i t e = absurd (none_some t e)
   iterations_do takes x s f start j (suc m) zero t e =
       let k : branch_of takes [] s (numbered_frame x start j f) ≡ t = cc in
@@ -340,7 +360,8 @@ module _ (path : Path) (P : PlainProgram) where
       let m : h.0 ≡ f.left - 1 = omega arith in
       ap (λ (r : DeeperIn). r ss x) h.2 ∙ ap (λ k. meaning in_order P k ss x) m
 
-  alike_forks : {c : ℕ} {ns : Names} (p : Option DeeperIn) (q : Option DeeperOf) → DeeperLike p q c → (at : Place) (forking : Forking) (takes : Option ℕ) (x : ℕ)
+  alike_forks : {c : ℕ} {ns : Names} (p : Option DeeperIn) (q : Option DeeperOf) → DeeperLike p q c
+      → (at : Place) (forking : Forking) (takes : Option ℕ) (x : ℕ)
       (s : TypedStmt) {start st count co : ℤ} {f : FrameIn} {g : FrameOf} → start ≡ st → count ≡ co → FrameLike c ns f g
       → Alike P c ns (forks p at forking takes x s start count f) (forks q at forking takes x s st co g)
   alike_forks {c} {ns} p q h at forking takes x s {start} {st} {count} {co} {f} {g} e i w =
@@ -355,7 +376,8 @@ module _ (path : Path) (P : PlainProgram) where
           → p (more_stmts s no_stmts) (begun takes (record (numbered_frame x start i f) { left = f.left - 1 })) ≡ does in_order P t
       do_iteration p q h i t e =
           at_depth p q h w (more_stmts s no_stmts) (begun takes (record (numbered_frame x start i f) { left = f.left - 1 }))
-          ∙ ap (λ y. meaning in_order P (f.left - 1) (more_stmts s no_stmts) (begun takes (record (numbered_frame x start y f) { left = f.left - 1 }))) (zero_first i)
+          ∙ ap (λ y. meaning in_order P (f.left - 1) (more_stmts s no_stmts) (begun takes (record (numbered_frame x start y f) { left = f.left - 1 })))
+              (zero_first i)
           ∙ sym (iterations_do takes x s f start 0 (how_many count) i t e)
 
       go : (p : Option DeeperIn) (q : Option DeeperOf) → DeeperLike p q c
@@ -363,7 +385,8 @@ module _ (path : Path) (P : PlainProgram) where
       go None None h = alike_traps trap.Stack at
       go None (Some q) h = absurd h
       go (Some p) None h = absurd h
-      go (Some p) (Some q) h = alike_split forking (iterations_like takes x s start 0 (how_many count) h.1 w) (λ i t e. do_iteration p q h i t e) (λ trap p. refl) (λ ms y z l a. alike_joined [] (frame_later l w) a)
+      go (Some p) (Some q) h = alike_split forking (iterations_like takes x s start 0 (how_many count) h.1 w) (λ i t e. do_iteration p q h i t e)
+          (λ trap p. refl) (λ ms y z l a. alike_joined [] (frame_later l w) a)
 
   alike_cobegin : {c : ℕ} {ns : Names} (p : Option DeeperIn) (q : Option DeeperOf) → DeeperLike p q c → (at : Place) (forking : Forking) (bs : TypedBranches)
       {f : FrameIn} {g : FrameOf} → FrameLike c ns f g
@@ -372,9 +395,11 @@ module _ (path : Path) (P : PlainProgram) where
   alike_cobegin None (Some q) h at forking bs w = absurd h
   alike_cobegin (Some p) None h at forking bs w = absurd h
   alike_cobegin (Some p) (Some q) h at forking bs {f} w =
-      alike_split forking (branches_like bs h.1 w) (λ i t e. at_depth p q h w (branch_at bs i) (record f { left = f.left - 1 }) ∙ sym (branches_do bs f i t e)) (λ trap p. refl) (λ ms y z l a. alike_joined _ (frame_later l w) a)
+      alike_split forking (branches_like bs h.1 w) (λ i t e. at_depth p q h w (branch_at bs i) (record f { left = f.left - 1 })
+          ∙ sym (branches_do bs f i t e)) (λ trap p. refl) (λ ms y z l a. alike_joined _ (frame_later l w) a)
 
-  alike_parts : {c : ℕ} {ns : Names} (p : Option DeeperIn) (q : Option DeeperOf) → DeeperLike p q c → (at : Place) (k : ℕ) (s : TypedStmt) {f : FrameIn} {g : FrameOf}
+  alike_parts : {c : ℕ} {ns : Names} (p : Option DeeperIn) (q : Option DeeperOf) → DeeperLike p q c
+      → (at : Place) (k : ℕ) (s : TypedStmt) {f : FrameIn} {g : FrameOf}
       → FrameLike c ns f g → Alike P c ns (parts p at k s f) (parts q at k s g)
   alike_parts p q h at k s w = alike_forks p q h at _ _ _ s refl (number_at w.values (k + 3)) w
 
@@ -386,7 +411,8 @@ module _ (path : Path) (P : PlainProgram) where
 
   module _ (dp : Option DeeperIn) (dq : Option DeeperOf) (c : ℕ) (deep : DeeperLike dp dq c) where
     mutual
-      alike_expr : (e : TypedExpr) {ns : Names} {f : FrameIn} {g : FrameOf} → FrameLike c ns f g → Alike P c ns (of_expr in_order P dp e f) (of_expr others P dq e g)
+      alike_expr : (e : TypedExpr) {ns : Names} {f : FrameIn} {g : FrameOf} → FrameLike c ns f g
+          → Alike P c ns (of_expr in_order P dp e f) (of_expr others P dq e g)
       alike_expr (typed at t (form.int k)) w = alike_gives (int_like k) w
       alike_expr (typed at t (form.boolean b)) w = alike_gives (boolean_like b) w
       alike_expr (typed at t form.null) w = alike_gives null_like w
@@ -402,7 +428,8 @@ module _ (path : Path) (P : PlainProgram) where
           alike_gives (int_of (ap pos (length_alike i))) (frame_later l' b))))
       alike_expr (typed at t (form.call e k r regions es)) w =
           alike_then (alike_expr e w) (λ ms v u f g l m b. alike_exprs es b no_values (λ ls vs us f' g' l' ms' b'.
-          alike_unless at (value_later l' m) (λ n x h. alike_called dp dq deep at k r n x (concretes in_order others (around f') (around g') b'.regions regions) h (reverse_like ms') b')))
+          alike_unless at (value_later l' m) (λ n x h. alike_called dp dq deep at k r n x (concretes in_order others (around f')
+              (around g') b'.regions regions) h (reverse_like ms') b')))
       alike_expr (typed at t (form.create es)) w =
           alike_exprs es w no_values (λ ls vs us f' g' l' ms' b'.
           alike_created dp dq deep at (class_in t).0 (concretes in_order others (around f') (around g') b'.regions (class_in t).1) (reverse_like ms') b')
@@ -429,7 +456,8 @@ module _ (path : Path) (P : PlainProgram) where
           more ls ws zs x y (later_then l l') h i))
 
     mutual
-      alike_stmt : (s : TypedStmt) {ns : Names} {f : FrameIn} {g : FrameOf} → FrameLike c ns f g → Alike P c ns (of_stmt in_order P dp s f) (of_stmt others P dq s g)
+      alike_stmt : (s : TypedStmt) {ns : Names} {f : FrameIn} {g : FrameOf} → FrameLike c ns f g
+          → Alike P c ns (of_stmt in_order P dp s f) (of_stmt others P dq s g)
       alike_stmt (statement at (stmt.declare x t is_final e)) w = alike_then (alike_expr e w) (λ ms v u f g l m b. alike_gives null_like (with_like b x m))
       alike_stmt (statement at (stmt.store x e)) w = alike_then (alike_expr e w) (λ ms v u f g l m b. alike_gives null_like (with_like b x m))
       alike_stmt (statement at (stmt.store_field o d k e)) w =
@@ -465,7 +493,8 @@ module _ (path : Path) (P : PlainProgram) where
           alike_then (alike_expr start w) (λ ms v u f g l m b. alike_then (alike_expr count b) (λ ls v' u' f' g' l' m' b'.
           alike_forks dp dq deep at forking None x s (number_like m) (number_like m') b'))
       alike_stmt (statement at (stmt.foreach_parts k (of_array a) count s)) w =
-          alike_then (alike_expr a w) (λ ms v u f g l m b. alike_then (alike_expr count (with_like (with_like b k m) (k + 1) (int_like (pos 0)))) (λ ls v' u' f' g' l' m' b'.
+          alike_then (alike_expr a w) (λ ms v u f g l m b. alike_then (alike_expr count (with_like (with_like b k m) (k + 1) (int_like (pos 0))))
+              (λ ls v' u' f' g' l' m' b'.
           alike_array_parts dp dq deep at k s (with_like b' (k + 3) m')))
       alike_stmt (statement at (stmt.foreach_parts k (of_part j) count s)) w =
           alike_then (alike_expr count (taken_over k j w)) (λ ms v u f g l m b.
@@ -474,7 +503,8 @@ module _ (path : Path) (P : PlainProgram) where
           taken_over : {ns : Names} {f : FrameIn} {g : FrameOf} (k j : ℕ) → FrameLike c ns f g → FrameLike c ns (part_taken_over k j f) (part_taken_over k j g)
           taken_over k j h = let i = with_like h k (slot_like h.values j) in with_like i (k + 1) (slot_like i.values (j + 1))
 
-      alike_stmts : (ss : TypedStmts) {ns : Names} {f : FrameIn} {g : FrameOf} → FrameLike c ns f g → Alike P c ns (of_stmts in_order P dp ss f) (of_stmts others P dq ss g)
+      alike_stmts : (ss : TypedStmts) {ns : Names} {f : FrameIn} {g : FrameOf} → FrameLike c ns f g
+          → Alike P c ns (of_stmts in_order P dp ss f) (of_stmts others P dq ss g)
       alike_stmts no_stmts w = alike_gives null_like w
       alike_stmts (more_stmts s ss) w = alike_then (alike_stmt s w) (λ ms v u f g l m b. alike_stmts ss b)
 
@@ -487,9 +517,12 @@ module _ (path : Path) (P : PlainProgram) where
   pub does_alike : {ns : Names} {t : Task ℕ Counted} {s : Task Name LocalRegion} (h : TaskLike ns t s) → Alike P h.left ns (does in_order P t) (does others P s)
   does_alike {ns} {t} {s} h =
       let m = meaning_alike h.left ns t.work.stmts (begun t.work.takes t.frame) (begun s.work.takes s.frame)
-          (subst (λ (o : Option ℕ). FrameLike h.left ns (begun t.work.takes t.frame) (begun o s.frame)) (ap (λ z. z.takes) h.work) (begun_like t.work.takes h.frame)) in
+      (subst (λ (o : Option ℕ). FrameLike h.left ns (begun t.work.takes t.frame) (begun o s.frame)) (ap (λ z. z.takes) h.work)
+          (begun_like t.work.takes h.frame)) in
       subst (λ (n : ℕ). Alike P h.left ns (meaning in_order P n t.work.stmts (begun t.work.takes t.frame)) (does others P s)) (sym h.frame.left)
-      (subst (λ (n : ℕ). Alike P h.left ns (meaning in_order P h.left t.work.stmts (begun t.work.takes t.frame)) (meaning others P n s.work.stmts (begun s.work.takes s.frame)))
+      (subst (λ (n : ℕ). Alike P h.left ns (meaning in_order P h.left t.work.stmts (begun t.work.takes t.frame)) (meaning others P n s.work.stmts
+          (begun s.work.takes s.frame)))
       (sym h.frame.left_too)
-      (subst (λ (ss : TypedStmts). Alike P h.left ns (meaning in_order P h.left t.work.stmts (begun t.work.takes t.frame)) (meaning others P h.left ss (begun s.work.takes s.frame)))
+      (subst (λ (ss : TypedStmts). Alike P h.left ns (meaning in_order P h.left t.work.stmts (begun t.work.takes t.frame)) (meaning others P h.left ss
+          (begun s.work.takes s.frame)))
       (ap (λ z. z.stmts) h.work) m))

@@ -1,45 +1,45 @@
 -- The elision is a legal run, and all legal runs come out as it does.
-use Rattle.std.proofs.Common.{◌≡◌, ℕ, zero, suc, ◌+◌, ◌<◌, ◌≤◌, ◌⊎◌, inl, inr, ⊎_elim, ℤ, pos, Bool, true, false, cond, List, [], ◌∷◌, map, length, refl, sym, ap}
+use Rattle.std.proofs.Common.{◌≡◌, ℕ, zero, suc, ◌+◌, ◌<◌, ◌≤◌, ◌⊎◌, inl, inr, ⊎_elim, ℤ, pos, Bool, true, false, cond, List, [], ◌∷◌, map, refl, sym, ap}
 use Rattle.std.proofs.Common.{◌∙◌, subst, arith, Option, Some, None, slice_get, nat_lt, ◌||◌, true≢false}
-use Rattle.std.specs.Prelude.{slice_set}
 use Rattle.std.proofs.lemmas.Bool.{ltb-true, lt-ltb, cases_lt}
-use Rattle.dpj_base.specs.declared.place.Place.{Place}
-use Rattle.dpj_base.specs.declared.value.Trap.{Trap}
 use Rattle.dpj_typed.specs.Plain.{PlainMember, PlainProgram}
 use Rattle.dpj_typed.specs.Scope.{member_at}
 use Rattle.dpj_meaning.specs.Actions.{Ending as EndingOver, Task as TaskOver}
-use Rattle.dpj_meaning.specs.Asking.{does, most_turns, told}
+use Rattle.dpj_meaning.specs.Asking.{does, most_turns}
 use Rattle.dpj_meaning.specs.Core.{Done, Stopped, Lost, run}
 use Rattle.dpj_meaning.specs.Core.{Out as out}
-use Rattle.dpj_meaning.specs.Elision.{LocalRegion as Counted, Store, at_start, elided, enters_main, first_of, held, in_order, judged, main_object, ran_through, root_task}
+use Rattle.dpj_meaning.specs.Elision.{LocalRegion as Counted, Store, at_start, elided, enters_main, held, in_order, judged, main_object, ran_through, root_task}
 use Rattle.dpj_meaning.specs.Elision.{sequential}
-use Rattle.dpj_meaning.specs.Outcomes.{Outcome as OutcomeOver, Came, Limited}
+use Rattle.dpj_meaning.specs.Outcomes.{Came, Limited}
 use Rattle.dpj_meaning.specs.Values.{Value as ValueOver}
-use Rattle.dpj_runs.specs.Actions.{Assigned, Ending, Program, Returned, Task, Trapped}
+use Rattle.dpj_runs.specs.Actions.{Assigned, Ending, Program, Returned}
 use Rattle.dpj_runs.specs.Blocks.{Legal}
 use Rattle.dpj_runs.specs.Laws.{AllFree}
 use Rattle.dpj_runs.specs.Meaning.{Disciplined}
-use Rattle.dpj_runs.specs.Objects.{Cell, Name, Path, Thing, Value, first_value, or_else, size, slot_of}
+use Rattle.dpj_runs.specs.Objects.{Name, Value, first_value, or_else, size, slot_of}
 use Rattle.dpj_runs.specs.Order.{Comes, InOrder, Outcome, ending_of, printed, trapped}
-use Rattle.dpj_runs.specs.Runs.{Begun, Ended, Event, Run, Upto, cells_of, entry_step, event_cells, event_steps, last_written, later, mine, now, root, steps_of, thing_of, total}
-use Rattle.dpj_runs.specs.Schedules.{Finished, Limits, Ran, Ready, Within, ended, no_room, over}
+use Rattle.dpj_runs.specs.Runs.{Ended, Run, cells_of, entry_step, event_cells, event_steps, mine, now, root, steps_of}
+use Rattle.dpj_runs.specs.Schedules.{Finished, Greedy, Limits, Ran, Within, ended, no_room, over}
 use Rattle.dpj_runs.proofs.Cells.{last_nil}
 use Rattle.dpj_runs.proofs.Cost.{total_nil}
 use Rattle.dpj_runs.proofs.Finishing.{none_over}
 use Rattle.dpj_runs.proofs.Mine.{mine_nil, mine_same}
 use Rattle.dpj_runs.proofs.Schedules.{ran_legal}
-use Rattle.dpj_runs.proofs.Theorems.{each_comes_out, none_costs_more, same_events, same_outcome}
+use Rattle.dpj_runs.proofs.Theorems.{each_comes_out, same_outcome}
 use Rattle.dpj_steps.specs.Steps.{first_name, named_by, stepped}
-use Rattle.dpj_elided.specs.Laws.{ComesOutAsElided, ElisionIsLegal, IsElided, NoneCostsMoreThanElision, RunsAreElided, SchedulesAreElided, in_limits, over_limits}
+use Rattle.dpj_elided.specs.Laws.{ComesOutAsElided, ElisionIsLegal, IsElided, NoneCostsMoreThanElision, RunsAreElided, SchedulesAreElided, in_limits}
+use Rattle.dpj_elided.specs.Laws.{over_limits}
 use Rattle.dpj_elided.specs.Renamed.{Distinct, object_named, renamed, renamed_ending, renamed_value}
-use Rattle.dpj_elided.proofs.Worlds.{EndingLike, FrameLike, LocalsLike, Names, TaskLike, ThingLike, ValueLike, assigned_like, boolean_like, int_like, more_locals}
+use Rattle.dpj_elided.proofs.Worlds.{EndingLike, LocalsLike, Names, TaskLike, ThingLike, ValueLike, assigned_like, boolean_like, int_like, more_locals}
 use Rattle.dpj_elided.proofs.Worlds.{more_values, no_locals, no_regions, no_values, null_like, object_like, returned_like, trapped_like}
 use Rattle.dpj_elided.proofs.Counts.{MaybeLike, padded_like}
 use Rattle.dpj_elided.proofs.Meaning.{does_alike, object_alike}
-use Rattle.dpj_elided.proofs.Memory.{Holds, Stands, cell_value, first_cell, held_like, held_thing, size_like}
-use Rattle.dpj_elided.proofs.Fuel.{Left, Same, same_through}
-use Rattle.dpj_elided.proofs.Sim.{D, One, PostOne, Q, RanOut, fallen, one_branch, prog_sim}
-use Rattle.dpj_elided.proofs.Turns.{most_pos}
+use Rattle.dpj_elided.proofs.Memory.{Holds, Stands, cell_value, size_like}
+use Rattle.dpj_elided.proofs.NewThings.{first_cell, held_like, held_thing}
+use Rattle.dpj_elided.proofs.Fuel.{Same, same_through}
+use Rattle.dpj_elided.proofs.Simulation.{D}
+use Rattle.dpj_elided.proofs.Branches.{One, PostOne, fallen, one_branch}
+use Rattle.dpj_elided.proofs.Programs.{prog_sim}
 use Rattle.dpj_elided.proofs.Working.{starts}
 
 -- values under their names
@@ -59,10 +59,10 @@ ending_renamed (assigned_like h) = ap Assigned (locals_renamed h)
 ending_renamed (trapped_like trap p) = refl
 
 -- the root's end is its first trap
-end_is_first : (P : PlainProgram) (arg : ℤ) {ns : Names} {x : EndingOver ℕ} {y : Ending} → EndingLike ns x y → ending_of (fallen P arg x None) y ≡ y
-end_is_first P arg (returned_like h) = refl
-end_is_first P arg (assigned_like h) = refl
-end_is_first P arg (trapped_like trap p) = refl
+end_is_first : {ns : Names} {x : EndingOver ℕ} {y : Ending} → EndingLike ns x y → ending_of (fallen x None) y ≡ y
+end_is_first (returned_like h) = refl
+end_is_first (assigned_like h) = refl
+end_is_first (trapped_like trap p) = refl
 
 elided_is : (P : PlainProgram) (arg : ℤ) (L : Limits) → elided P arg L ≡ judged L (ran_through P arg (suc L.steps))
 unfolding elided
@@ -117,7 +117,8 @@ module _ (P : PlainProgram) (arg : ℤ) where
     thing = QP.object;
     is_thing = refl;
     like = held_thing main_like;
-    values = λ k. subst (λ (r : Option Value). MaybeLike first_names (slice_get (held (main_object P)).values k) r) (firsts (slot_of (pos k) (size QP.object))) (held_like main_like k);
+    values = λ k. subst (λ (r : Option Value). MaybeLike first_names (slice_get (held (main_object P)).values k) r) (firsts (slot_of (pos k)
+        (size QP.object))) (held_like main_like k);
   }
     where
       firsts : (o : Option ℕ) → first_cell QP.object o ≡ cell_value [] QP.object first_name o
@@ -155,7 +156,7 @@ module _ (P : PlainProgram) (arg : ℤ) where
       let t : TaskOver ℕ Counted = root_task in_order P 0 arg in
       one_branch P arg [] [] first_names (at_start P n) t (root_task (named_by []) P first_name arg) (λ w. run sequential (does in_order P t) w) root_like
       (λ ns s q h b. prog_sim P arg (does in_order P t) h.left ns (does (named_by q) P s) q h.frame.distinct (does_alike q P h) b)
-      tt (record { each = λ y x Y X h k. elim h [ ] }) (starts QP DP) (root refl refl) (mine_nil []) (holds_first n)
+      tt (record { each = λ y x Y X h k. elim h [ ] }) tt (starts QP DP) (root refl refl) (mine_nil []) (holds_first n)
 
   -- how it comes out where it is done
   module _ (n : ℕ) {v : Store} {x : EndingOver ℕ} (o : One P arg [] [] first_names (at_start P n) v x) where
@@ -182,7 +183,7 @@ module _ (P : PlainProgram) (arg : ℤ) where
     }
       where
         ending : renamed_ending o.names x ≡ ending_of (trapped whole) o.ending
-        ending = sym (ending_renamed o.like) ∙ sym (end_is_first P arg o.like) ∙ ap (λ f. ending_of f o.ending) (sym o.trap ∙ o.holds.trap)
+        ending = sym (ending_renamed o.like) ∙ sym (end_is_first o.like) ∙ ap (λ f. ending_of f o.ending) (sym o.trap ∙ o.holds.trap)
 
     -- it is judged by its costs
     done_judged : (L : Limits) → elided P arg L ≡ judged L (Done x v) → ComesOutAsElided P arg L whole
@@ -195,8 +196,10 @@ module _ (P : PlainProgram) (arg : ℤ) where
             (e ∙ (λ z. cond (ea z || eb z) (Limited L.steps L.cells) (Came x v.output v.steps v.cells)))
         go false ea false eb = in_limits (renamed o.names (Came x v.output v.steps v.cells)) comes
             (record {
-              steps = (let j = steps_are in ⊎_elim (λ l. absurd (true≢false (sym (lt-ltb L.steps v.steps l) ∙ ea))) (λ l. omega arith) (cases_lt L.steps v.steps));
-              cells = (let j = o.holds.cells in ⊎_elim (λ l. absurd (true≢false (sym (lt-ltb L.cells v.cells l) ∙ eb))) (λ l. omega arith) (cases_lt L.cells v.cells));
+              steps = (let j = steps_are in ⊎_elim (λ l. absurd (true≢false (sym (lt-ltb L.steps v.steps l)
+                  ∙ ea))) (λ l. omega arith) (cases_lt L.steps v.steps));
+              cells = (let j = o.holds.cells in ⊎_elim (λ l. absurd (true≢false (sym (lt-ltb L.cells v.cells l)
+                  ∙ eb))) (λ l. omega arith) (cases_lt L.cells v.cells));
             })
             (record {
               names = o.names;
@@ -205,21 +208,26 @@ module _ (P : PlainProgram) (arg : ℤ) where
             })
 
   abbrev Result_of : Limits → Type 0
-  Result_of L = (R : Run) × Legal QP R × InOrder R × ComesOutAsElided P arg L R
+  Result_of L = (R : Run) × Legal QP R × InOrder R × Greedy QP R × ComesOutAsElided P arg L R
 
   -- it comes to its end, or its turns run out and with more of them it is over the limit of steps
   comes_out : (L : Limits) (o q : out ℕ Counted (EndingOver ℕ) Store) → elided P arg L ≡ judged L o → Same most_turns (suc L.steps) o q
       → PostOne P arg [] [] first_names (at_start P (suc L.steps)) o → PostOne P arg [] [] first_names (at_start P (suc L.steps + most_turns)) q → Result_of L
-  comes_out L (Done x v) q e s a b = (a.event ∷ a.before, a.legal, a.order, done_judged (suc L.steps) a L e)
+  comes_out L (Done x v) q e s a b = (a.event ∷ a.before, a.legal, a.order, a.greedy, done_judged (suc L.steps) a L e)
   comes_out L (out.Trapped trap p v) q e s a b = absurd a
   comes_out L (Stopped n c) q e s a b = absurd a
   comes_out L (Lost v) (Done x u) e s a b =
-      (b.event ∷ b.before, b.legal, b.order, over_limits (λ w. (let i = w.steps in let j = steps_are (suc L.steps + most_turns) b in let k = b.spent in let m = s in omega arith)) e)
+      (b.event ∷ b.before, b.legal, b.order, b.greedy, over_limits (λ w. (let i = w.steps in let j = steps_are
+          (suc L.steps + most_turns) b in let k = b.spent in let m = s in omega arith)) e)
   comes_out L (Lost v) (out.Trapped trap p u) e s a b = absurd b
   comes_out L (Lost v) (Stopped n c) e s a b = absurd b
-  comes_out L (Lost v) (Lost u) e s a b =
-      (b.log, b.legal, b.order,
-      over_limits (λ w. (let i = w.steps in let j = b.holds.steps in let k = b.spent in let m = b.low in let n = b.empty in omega arith)) e)
+  comes_out L (Lost v) (Lost u) e s a b = (
+    b.log,
+    b.legal,
+    b.order,
+    b.greedy,
+    over_limits (λ w. (let i = w.steps in let j = b.holds.steps in let k = b.spent in let m = b.low in let n = b.empty in omega arith)) e,
+  )
 
 pub elision_is_legal : ElisionIsLegal
 elision_is_legal P arg L =
@@ -227,7 +235,7 @@ elision_is_legal P arg L =
     (same_through P arg (suc L.steps) most_turns) (made_run P arg (suc L.steps)) (made_run P arg (suc L.steps + most_turns))
 
 -- within the limits, or not
-within_cases : (P : Program) (L : Limits) (R : Run) → Within P L R ⊎ (Within P L R → ⊥)
+pub within_cases : (P : Program) (L : Limits) (R : Run) → Within P L R ⊎ (Within P L R → ⊥)
 within_cases P L R = go (cases_lt L.steps (steps_of R)) (cases_lt L.cells (cells_of P R))
   where
     go : (L.steps < steps_of R) ⊎ (steps_of R ≤ L.steps) → (L.cells < cells_of P R) ⊎ (cells_of P R ≤ L.cells) → Within P L R ⊎ (Within P L R → ⊥)
@@ -251,7 +259,7 @@ starts_within P L R w = record {
     none_entered : entry_step (mine [] []) ≡ 0
     none_entered = ap entry_step (mine_nil [])
 
-limited : (P : PlainProgram) (arg : ℤ) (L : Limits) → elided P arg L ≡ Limited L.steps L.cells → IsElided P arg L (Limited L.steps L.cells)
+pub limited : (P : PlainProgram) (arg : ℤ) (L : Limits) → elided P arg L ≡ Limited L.steps L.cells → IsElided P arg L (Limited L.steps L.cells)
 limited P arg L e = record { names = []; distinct = record { one = λ n m x h k. absurd (let z : None ≡ Some x = h in cc) }; is = ap (renamed []) (sym e) }
 
 module _ (P : PlainProgram) (arg : ℤ) (free : AllFree (stepped P arg)) (L : Limits) where
@@ -261,7 +269,7 @@ module _ (P : PlainProgram) (arg : ℤ) (free : AllFree (stepped P arg)) (L : Li
   DF : Disciplined (stepped P arg)
   DF = D P arg
 
-  E : (R : Run) × Legal QF R × InOrder R × ComesOutAsElided P arg L R
+  E : (R : Run) × Legal QF R × InOrder R × Greedy QF R × ComesOutAsElided P arg L R
   E = elision_is_legal P arg L
 
   as_elided : (R : Run) (x : Ending) (S : Run) → Legal QF R → Ended R [] x → Legal QF S → ComesOutAsElided P arg L S → ComesOutAsElided P arg L R
@@ -272,7 +280,7 @@ module _ (P : PlainProgram) (arg : ℤ) (free : AllFree (stepped P arg)) (L : Li
   as_elided R x S l g m (over_limits n e) = over_limits (λ w. n (none_over QF DF free L R S x l w g m)) e
 
   finished_elided : (ks : List ℕ) (o : Outcome) → Finished QF L ks o → IsElided P arg L o
-  finished_elided ks o (ended R r c) = at (as_elided R c.end E.0 (ran_legal QF L ks R r) c.ended E.1 E.3)
+  finished_elided ks o (ended R r c) = at (as_elided R c.end E.0 (ran_legal QF L ks R r) c.ended E.1 E.4)
     where
       at : ComesOutAsElided P arg L R → IsElided P arg L o
       at (in_limits q d w i) =
@@ -280,12 +288,12 @@ module _ (P : PlainProgram) (arg : ℤ) (free : AllFree (stepped P arg)) (L : Li
           let same : o ≡ q = same_outcome QF DF R R o q l l (free R l) (free R l) c d in
           record { names = i.names; distinct = i.distinct; is = same ∙ i.is }
       at (over_limits n e) = absurd (n (ran_within QF L ks R r))
-  finished_elided _ _ (over k ks R e r ready n) = at E.3
+  finished_elided _ _ (over k ks R e r ready n) = at E.4
     where
       at : ComesOutAsElided P arg L E.0 → IsElided P arg L (Limited L.steps L.cells)
       at (in_limits q d w i) = absurd (n (none_over QF DF free L E.0 (e ∷ R) d.end E.1 w d.ended (ready.allowed, ran_legal QF L ks R r)))
       at (over_limits m h) = limited P arg L h
-  finished_elided _ _ (no_room n) = at E.3
+  finished_elided _ _ (no_room n) = at E.4
     where
       at : ComesOutAsElided P arg L E.0 → IsElided P arg L (Limited L.steps L.cells)
       at (in_limits q d w i) = absurd (n (starts_within QF L E.0 w))
@@ -293,7 +301,7 @@ module _ (P : PlainProgram) (arg : ℤ) (free : AllFree (stepped P arg)) (L : Li
 
   costs_no_more : (x : EndingOver ℕ) (output : List ℕ) (steps cells : ℕ) → elided P arg L ≡ Came x output steps cells → (R : Run) → Legal QF R
       → (steps_of R ≤ steps) × (cells_of QF R ≤ cells)
-  costs_no_more x output steps cells e R l = at E.3
+  costs_no_more x output steps cells e R l = at E.4
     where
       came_steps : (o q : Outcome) → o ≡ q → (a b : Ending) (s t : List ℕ) (i j m n : ℕ) → o ≡ Came a s i j → q ≡ Came b t m n → (i ≡ m) × (j ≡ n)
       came_steps o q h a b s t i j m n k y = let z : Came a s i j ≡ Came b t m n = sym k ∙ h ∙ y in (cc, cc)
@@ -311,7 +319,7 @@ module _ (P : PlainProgram) (arg : ℤ) (free : AllFree (stepped P arg)) (L : Li
           let uc = u.cells in (omega arith, omega arith)
 
 pub runs_are_elided : RunsAreElided
-runs_are_elided P arg free L R x l g = (let e = elision_is_legal P arg L in as_elided P arg free L R x e.0 l g e.1 e.3)
+runs_are_elided P arg free L R x l g = (let e = elision_is_legal P arg L in as_elided P arg free L R x e.0 l g e.1 e.4)
 
 pub schedules_are_elided : SchedulesAreElided
 schedules_are_elided P arg free L ks o f = finished_elided P arg free L ks o f

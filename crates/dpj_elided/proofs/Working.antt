@@ -1,13 +1,14 @@
 -- The task at work in the order of elision: what holds of it after each of its events, and that no entry of it waits.
-use Rattle.std.proofs.Common.{◌≡◌, ℕ, zero, suc, ◌+◌, ◌-◌, ◌<◌, ◌≤◌, ◌⊎◌, inl, inr, ⊎_elim, List, [], ◌∷◌, ◌++◌, length, refl, sym, ap, ◌∙◌, subst, arith, Some}
+use Rattle.std.proofs.Common.{◌≡◌, ℕ, suc, ◌+◌, ◌-◌, ◌≤◌, ◌⊎◌, inl, inr, ⊎_elim, List, [], ◌∷◌, ◌++◌, length, refl, sym, ap, ◌∙◌, subst, arith, Some}
 use Rattle.std.proofs.Common.{slice_get, append_assoc}
 use Rattle.std.proofs.lemmas.Option.{slice_get_within}
 use Rattle.dpj_runs.specs.Actions.{Begin, Branches, End, Ending, Fork, Program, Task}
-use Rattle.dpj_runs.specs.Blocks.{In_block, Legal, Out_of, hold, hold_after}
+use Rattle.dpj_runs.specs.Blocks.{Allowed, In_block, Legal, Out_of, hold, hold_after}
 use Rattle.dpj_runs.specs.Meaning.{Disciplined}
 use Rattle.dpj_runs.specs.Objects.{Effect, Path}
 use Rattle.dpj_runs.specs.Order.{Agree, InOrder, Lex, level_with, lower, position, shorter, way}
 use Rattle.dpj_runs.specs.Runs.{Begun, Ended, Event, Faithful, Run, Upto, branch, count, later, mine, now, root}
+use Rattle.dpj_runs.specs.Schedules.{Greatest, Numbered}
 use Rattle.dpj_runs.specs.Standing.{CanEnter, Inside, Outside, above, first_of, standing}
 use Rattle.dpj_runs.proofs.Upto.{upto_trans, upto_length, upto_split, upto_none, upto_tail}
 use Rattle.dpj_runs.proofs.Mine.{mine_same, mine_other, mine_step, mine_at, found, number_of, same_of}
@@ -17,7 +18,7 @@ use Rattle.dpj_runs.proofs.Between.{complete}
 use Rattle.dpj_runs.proofs.Standing.{Opener, opener_of, first_is, hold_since, outside_above, above_out, begun_fork}
 use Rattle.dpj_runs.proofs.Written.{legal_faithful}
 use Rattle.dpj_runs.proofs.Carry.{has_event, begun_held}
-use Rattle.dpj_runs.proofs.Numbers.{same_begin}
+use Rattle.dpj_runs.proofs.Numbers.{number_below, number_same, same_begin}
 use Rattle.dpj_runs.proofs.Sorted.{lex_trans}
 use Rattle.dpj_runs.proofs.Sorting.{AllBefore, before_nil, before_more, order_more, lex_snoc}
 use Rattle.dpj_runs.proofs.Greatest.{Held, has_ended, at_work, waits, Working}
@@ -130,6 +131,25 @@ module _ (P : Program) (D : Disciplined P) where
                 let out : above R (xs ++ u ∷ q) ≡ Outside = ap (λ r. above R r) (sym e) ∙ outside_above (above R w) w (hold (mine R w)) s in
                 let z : Out_of ≡ In_block o.depth F = sym (above_out R xs q u out) ∙ sym (same_hold xs q u e) ∙ o.held in
                 cc
+
+    -- and its event is that of the greatest number
+    pub greatest_now : (e : Event) → e.path ≡ w → Greatest P R e
+    greatest_now e own = record { none = none_greater }
+      where
+        none_greater : (f : Event) (j n : ℕ) → Allowed P R f → Numbered R j f.path → Numbered R n e.path → j ≤ n
+        none_greater f j n a nf ne = go (k.held f.path a.follows.task a.follows.begun)
+          where
+            nw : Numbered R n w
+            nw = subst (λ p. Numbered R n p) own ne
+
+            go : Held R w f.path → j ≤ n
+            go (at_work q) = let h = number_same nf (subst (λ p. Numbered R n p) (sym q) nw) in omega arith
+            go (has_ended x h) =
+                let fl : Faithful P (f ∷ R) = (a.follows, lf) in
+                let i = none_after_end P D f.path fl (later h.stands) h.path h.act now refl in
+                let c = number_of f.path h.stands h.path in
+                absurd (omega arith)
+            go (waits xs u q) = let b = number_below P xs f.path u n lf (subst (λ p. Numbered R n p) q nw) nf in omega arith
 
   -- one event of the task at work
   module _ {R : Run} {e : Event} (l : Legal P (e ∷ R)) {w : Path} (k : Working P R w) (own : e.path ≡ w) where

@@ -1,6 +1,6 @@
 -- Values, frames and actions of the elision and of a run, which name objects otherwise: by numbers in the order in which they are
 -- made, and by their makers. What is one in both: like. Of local regions nothing is compared, since no task looks into a region.
-use Rattle.std.proofs.Common.{◌≡◌, ℕ, zero, suc, ℤ, Bool, List, [], ◌∷◌, ◌++◌, map, length, refl, sym, ap, ◌∙◌, subst, arith, Option, Some, None, slice_get}
+use Rattle.std.proofs.Common.{◌≡◌, ℕ, zero, suc, ℤ, Bool, List, [], ◌∷◌, ◌++◌, map, length, refl, sym, ap, ◌∙◌, subst, Some, None, slice_get}
 use Rattle.std.proofs.Common.{append-nil, append_assoc}
 use Rattle.dpj_base.specs.declared.place.Place.{Place}
 use Rattle.dpj_base.specs.declared.value.Trap.{Trap}
@@ -8,7 +8,7 @@ use Rattle.dpj_typed.specs.declared.stmt.Forking.{Forking}
 use Rattle.dpj_typed.specs.Plain.{PlainProgram}
 use Rattle.dpj_meaning.specs.Values.{Value, Int, Boolean, Null, Object, Region, Thing, An_object, An_array}
 use Rattle.dpj_meaning.specs.Actions.{Frame, Task, Ending, Returned, Assigned, Trapped, Own, Rest, Read, Write, Look, New, Print, Enter, Exit, Effect}
-use Rattle.dpj_meaning.specs.Actions.{Answer, Went, Got, Out, Class, Length, Named, Joined, Fell}
+use Rattle.dpj_meaning.specs.Actions.{Answer, Went, Got, Out, Class, Length, Named}
 use Rattle.dpj_meaning.specs.Core.{Result, Goes_on, Returns, Prog, Ret, Traps, Act, Makes, Again, Split}
 use Rattle.dpj_meaning.specs.Counts.{Brought, Back, Trap_of_branch}
 use Rattle.dpj_meaning.specs.Asking.{does}
@@ -202,5 +202,6 @@ pub data Alike (P : PlainProgram) : ℕ → Names → Prog ℕ Counted → Prog 
   alike_split : {c : ℕ} {ns : Names} (forking : Forking) {ts : List (Task ℕ Counted)} {ss : List (Task Name LocalRegion)} {bs : ℕ → Prog ℕ Counted}
       {as' : ℕ → Prog Name LocalRegion} {k : Brought ℕ → Prog ℕ Counted} {j : Brought Name → Prog Name LocalRegion} → TasksLike ns ts ss
       → ((i : ℕ) (t : Task ℕ Counted) → slice_get ts i ≡ Some t → bs i ≡ does in_order P t)
-      → ((trap : Trap) (p : Place) → k (Trap_of_branch trap p) ≡ Traps trap p) → ((ms : Names) (x : Brought ℕ) (y : Brought Name) → Later ns ms → BroughtLike ms x y → Alike P c ms (k x) (j y))
+      → ((trap : Trap) (p : Place) → k (Trap_of_branch trap p) ≡ Traps trap p) → ((ms : Names) (x : Brought ℕ) (y : Brought Name) → Later ns ms
+          → BroughtLike ms x y → Alike P c ms (k x) (j y))
       → Alike P c ns (Split forking ts bs k) (Split forking ss as' j)

@@ -10,7 +10,7 @@ use Rattle.dpj_runs.specs.Laws.{AllFree}
 use Rattle.dpj_runs.specs.Objects.{Name}
 use Rattle.dpj_runs.specs.Order.{Comes, InOrder, Outcome}
 use Rattle.dpj_runs.specs.Runs.{Ended, Run, cells_of, steps_of}
-use Rattle.dpj_runs.specs.Schedules.{Finished, Limits, Within}
+use Rattle.dpj_runs.specs.Schedules.{Finished, Greedy, Limits, Within}
 use Rattle.dpj_steps.specs.Steps.{stepped}
 use Rattle.dpj_elided.specs.Renamed.{Distinct, renamed}
 
@@ -28,7 +28,23 @@ pub data ComesOutAsElided (P : PlainProgram) (arg : ℤ) (L : Limits) (R : Run) 
 -- the elision is a legal run, in the order of elision: its ending, its output up to the first trap, its steps and its cells
 -- are those of that run
 abbrev pub ElisionIsLegal : Type 0
-ElisionIsLegal = (P : PlainProgram) (arg : ℤ) (L : Limits) → (R : Run) × Legal (stepped P arg) R × InOrder R × ComesOutAsElided P arg L R
+ElisionIsLegal = (P : PlainProgram) (arg : ℤ) (L : Limits) → (R : Run) × Legal (stepped P arg) R × InOrder R × Greedy (stepped P arg) R
+    × ComesOutAsElided P arg L R
+
+-- taken as a schedule it is a finished one, limits included
+abbrev pub ElisionIsScheduled : Type 0
+ElisionIsScheduled = (P : PlainProgram) (arg : ℤ) (L : Limits) → (ks : List ℕ) × (o : Outcome) × Finished (stepped P arg) L ks o × IsElided P arg L o
+
+-- it is the run in which the ready task with the greatest number always goes on, in any program: each such run whose root has
+-- ended comes out as the elision
+abbrev pub GreedyIsElided : Type 0
+GreedyIsElided = (P : PlainProgram) (arg : ℤ) (L : Limits) (R : Run) (x : Ending) → Legal (stepped P arg) R → Greedy (stepped P arg) R → Ended R [] x
+    → ComesOutAsElided P arg L R
+
+-- and where such a run is over a limit so is the elision
+abbrev pub GreedyOverIsLimited : Type 0
+GreedyOverIsLimited = (P : PlainProgram) (arg : ℤ) (L : Limits) (R : Run) → Legal (stepped P arg) R → Greedy (stepped P arg) R
+    → (Within (stepped P arg) L R → ⊥) → elided P arg L ≡ LimitedIn L.steps L.cells
 
 -- where no legal run has unordered conflicts, each whose root has ended comes out as the elision
 abbrev pub RunsAreElided : Type 0

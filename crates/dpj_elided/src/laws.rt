@@ -1,10 +1,19 @@
 //! The laws of the sequential elision, each the clause of a function that does nothing.
 
-ghost use Rattle.dpj_elided.specs.Laws.{ElisionIsLegal, NoneCostsMoreThanElision, RunsAreElided, SchedulesAreElided};
+ghost use Rattle.dpj_elided.specs.Laws.{ElisionIsLegal, ElisionIsScheduled, GreedyIsElided, GreedyOverIsLimited, NoneCostsMoreThanElision, RunsAreElided, SchedulesAreElided};
+ghost use Rattle.dpj_elided.specs.Samples.{DeterminismNeedsFree, DividesElided, SumsElided};
 
 /// The sequential elision of each typed program is one of its legal runs, with the same ending, output, steps and cells.
 pub fn law_elision()
     ensures legal { ElisionIsLegal }
+    ensures scheduled { ElisionIsScheduled }
+{}
+
+/// In every program the run in which the ready task with the greatest number always goes on comes out as the sequential elision,
+/// limits included.
+pub fn law_greatest()
+    ensures ended { GreedyIsElided }
+    ensures over { GreedyOverIsLimited }
 {}
 
 /// Where no legal run of a typed program has unordered conflicts, every legal run whose root has ended, and every finished
@@ -13,4 +22,11 @@ pub fn law_determinism()
     ensures runs { RunsAreElided }
     ensures schedules { SchedulesAreElided }
     ensures cost { NoneCostsMoreThanElision }
+{}
+
+/// Of small programs the laws say how they come out; and where branches conflict determinism fails.
+pub fn law_samples()
+    ensures divides { DividesElided }
+    ensures sums { SumsElided }
+    ensures race { DeterminismNeedsFree }
 {}
