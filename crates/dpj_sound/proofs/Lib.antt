@@ -11,5 +11,6 @@ pub mod InScope
 pub mod Indices
 pub mod Making
 pub mod Members
+pub mod Typed
 pub mod Types
 pub mod Work
