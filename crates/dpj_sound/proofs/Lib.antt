@@ -1,3 +1,4 @@
+pub mod Alike
 pub mod Calls
 pub mod Chains
 pub mod Classes
@@ -9,6 +10,7 @@ pub mod Expressions
 pub mod Frames
 pub mod InScope
 pub mod Indices
+pub mod Locals
 pub mod Making
 pub mod Members
 pub mod Typed

@@ -101,7 +101,7 @@ module _ (P : PlainProgram) (b : Bounds) where
           let cell : Touches P st.shapes n p = record { shape = elements i'.ground i'.element i'.rpl; is = i'.shape; env = under p (env_of i'.ground); ty = i'.element; rpl = i'.rpl; cell = of_array } in
           let region = (put_in (under p (env_of i'.ground)) i'.rpl).elems in
           order_read P b R st at n p f
-          (record { cell = cell; allowed = w (access_of b st n p false region) refl (inl (
+          (record { cell = cell; allowed = w (access_of b st n p false region) (λ e. e) (inl (
             speaks_read g a (access_of b st n p false region) refl (region_alone g p a pf.no_index region (i'.region p)),
             record {
               array = ap (λ q. q.array) pf.places ∙ is;
