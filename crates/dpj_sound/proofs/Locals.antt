@@ -1,5 +1,5 @@
 -- Locals that are assigned and declared.
-use Rattle.std.proofs.Common.{◌≡◌, ◌≢◌, ◌<◌, ⊎_elim, inl, inr, ℕ, ℤ, zero, suc, ◌+◌, Bool, true, false, cond, ◌==◌, List, [], ◌∷◌, ◌++◌, map, length, refl, sym, ap, ◌∙◌, subst, arith, Option, Some, None, IsTrue, slice_set}
+use Rattle.std.proofs.Common.{◌≡◌, ◌≢◌, ◌<◌, ⊎_elim, inl, inr, ℕ, ℤ, zero, suc, ◌+◌, Bool, true, false, cond, ◌==◌, List, [], ◌∷◌, ◌++◌, map, length, refl, sym, ap, ◌∙◌, subst, arith, Option, Some, None, IsTrue, slice_set, slice_index_or}
 use Rattle.std.specs.Prelude.{All}
 use Rattle.std.proofs.lemmas.List.{length-set}
 use Rattle.std.proofs.lemmas.List.Elements.{All-head, All-tail}
@@ -84,7 +84,7 @@ number_alike L g x k n = record {
 }
 
 -- in the scope with it
-inner_local : (L : Scope) (x y : ℕ) (l m : ScopeLocal) → (y == x) ≡ false → (with_local x l L).local y ≡ Some m → L.local y ≡ Some m
+pub inner_local : (L : Scope) (x y : ℕ) (l m : ScopeLocal) → (y == x) ≡ false → (with_local x l L).local y ≡ Some m → L.local y ≡ Some m
 inner_local L x y l m h e = sym (cond-false (y == x) (Some l) (L.local y) h) ∙ e
 
 inner_is : (L : Scope) (x y : ℕ) (l m : ScopeLocal) → (y == x) ≡ true → (with_local x l L).local y ≡ Some m → l ≡ m
@@ -108,7 +108,7 @@ wider_type L x l n D int s = tt
 wider_type L x l n D boolean s = tt
 wider_type L x l n D void s = tt
 wider_type L x l n D null s = tt
-wider_type L x l n D (class c args) s = λ k d h. wider_path L x l n D _ (s k d h)
+wider_type L x l n D (class c args) s = λ k d h. wider_path L x l n D (slice_index_or args k d) (s k d h)
 wider_type L x l n D (array t a named) s = (wider_path L x l n (suc D) a s.0, wider_type L x l n (suc D) t s.1, s.2)
 
 wider_local : (L : Scope) (x : ℕ) (l : ScopeLocal) → L.local x ≡ None → (m : ScopeLocal) → LocalInScope L m → LocalInScope (with_local x l L) m
@@ -137,7 +137,7 @@ good_declare L good x is_final t free s = record {
       (λ h. absurd (no_part is_final t u a (inner_is L x y (declared_as is_final t) (part u a) h e)))
       (λ h. (let r = good.parts y u a (inner_local L x y (declared_as is_final t) (part u a) h e) in (kept (y + 1) reserved r.0, kept (y + 2) reserved r.1))) (cases_Bool (y == x));
   result = λ u e. wider_type L x (declared_as is_final t) free.0 0 u (good.result u e);
-  given = λ k c l. (let z = good.given k c l in (wider_path L x (declared_as is_final t) free.0 0 _ z.0, wider_path L x (declared_as is_final t) free.0 0 _ z.1));
+  given = λ k c l. (let z = good.given k c l in (wider_path L x (declared_as is_final t) free.0 0 (slice_index_or L.given k c).left z.0, wider_path L x (declared_as is_final t) free.0 0 (slice_index_or L.given k c).right z.1));
 }
   where
     kept : (y : ℕ) (m : ScopeLocal) → L.local y ≡ Some m → (with_local x (declared_as is_final t) L).local y ≡ Some m

@@ -46,7 +46,7 @@ use Rattle.dpj_sound.proofs.Making.{order_new_array}
 use Rattle.dpj_sound.proofs.Calls.{call_order, create_order, construct_order}
 use Rattle.dpj_sound.proofs.Work.{since_now, since_since, order_then, order_ret}
 
-type_alone : (L : Scope) (t : PlainType) → TypeInScope L 0 t → IsAlone t
+pub type_alone : (L : Scope) (t : PlainType) → TypeInScope L 0 t → IsAlone t
 type_alone L int h = tt
 type_alone L boolean h = tt
 type_alone L void h = tt
@@ -77,7 +77,7 @@ reverse_onto [] us = sym (append-nil (reverse us))
 reverse_onto (v ∷ vs) us = reverse_onto vs (v ∷ us) ∙ ap (λ z. z ++ vs) (reverse-append (v ∷ []) us) ∙ append_assoc (reverse us) (v ∷ []) vs
 
 -- where an index lies inside a part
-inside_part : (i len : ℤ) (place : ℤ) (p : ℤ) → cond (int_lt i (pos 0) || not (int_lt i len)) None (Some place) ≡ Some p → (int_lt i (pos 0) ≡ false) × (int_lt i len ≡ true) × (p ≡ place)
+pub inside_part : (i len : ℤ) (place : ℤ) (p : ℤ) → cond (int_lt i (pos 0) || not (int_lt i len)) None (Some place) ≡ Some p → (int_lt i (pos 0) ≡ false) × (int_lt i len ≡ true) × (p ≡ place)
 inside_part i len place p e = go (int_lt i (pos 0)) (int_lt i len) refl refl e
   where
     go : (x y : Bool) → int_lt i (pos 0) ≡ x → int_lt i len ≡ y → cond (x || not y) None (Some place) ≡ Some p → (int_lt i (pos 0) ≡ false) × (int_lt i len ≡ true) × (p ≡ place)
@@ -125,10 +125,10 @@ module _ (P : PlainProgram) (b : Bounds) where
       go (Some p) e = by_value p e (slot_value f.values k) refl pf.array
 
 -- what is to hold behind an expression, wherever it gives a value of its type
-abbrev Next : PlainProgram → Scope → Ground → (State → Result → Type 0) → TypedExpr → State → Frame → Type 0
+abbrev pub Next : PlainProgram → Scope → Ground → (State → Result → Type 0) → TypedExpr → State → Frame → Type 0
 Next P L g R e st f = (h : State) (v : Value) → Since st h → FitsIn P h.shapes (env_of g) (type_of e) v → Fits (env_of g) (index_elem L e) (At (Literal (number v)) ∷ []) → R h (Goes_on v f)
 
-yields : (P : PlainProgram) (L : Scope) (g : Ground) (e : TypedExpr) (st : State) (f : Frame) → Next P L g (Yields P L g e st f) e st f
+pub yields : (P : PlainProgram) (L : Scope) (g : Ground) (e : TypedExpr) (st : State) (f : Frame) → Next P L g (Yields P L g e st f) e st f
 yields P L g e st f h v s fv ix = (s, refl, fv, ix)
 
 module _ (P : PlainProgram) (wt : WellTyped P) (b : Bounds) (dp : Option Deeper) (dd : DeeperInOrder P b dp) (L : Scope) (good : GoodScope L) (g : Ground) where
