@@ -21,9 +21,9 @@ use Rattle.dpj_base.specs.Matching.{head_region as env_region}
 use Rattle.dpj_base.specs.Regions.{within, covers_elems, fully_specified, argument, put_at, substituted}
 use Rattle.dpj_base.specs.Types.{PlainType, int, boolean, void, null, class, array}
 use Rattle.dpj_typed.specs.Plain.{PlainProgram, PlainClass, PlainMember}
-use Rattle.dpj_typed.specs.Scope.{Scope, variable, frozen, constant, class_at, member_at}
+use Rattle.dpj_typed.specs.Scope.{Scope, variable, frozen, constant, part, class_at, member_at}
 use Rattle.dpj_typed.specs.Scope.{Local as ScopeLocal}
-use Rattle.dpj_typed.specs.Table.{params_from, own_paths, class_scope, member_scope, first_locals, body_scope, GoodMember}
+use Rattle.dpj_typed.specs.Table.{params_from, own_paths, class_scope, member_scope, first_locals, body_scope, GoodMember, GoodConstraint}
 use Rattle.dpj_typed.specs.Types.{GoodType}
 use Rattle.dpj_typed.specs.WellTyped.{WellTyped}
 use Rattle.dpj_meaning.specs.Counts.{number, slot_value, padded}
@@ -43,7 +43,7 @@ use Rattle.dpj_sound.proofs.Closed.{ClosedPath, closed_put, closed_holds, closed
 use Rattle.dpj_sound.proofs.Codes.{unmade_one}
 use Rattle.dpj_sound.proofs.Types.{Stands}
 use Rattle.dpj_sound.proofs.Classes.{all_get}
-use Rattle.dpj_sound.proofs.InScope.{good_type}
+use Rattle.dpj_sound.proofs.InScope.{good_type, good_path}
 use Rattle.dpj_sound.proofs.Members.{Shown, class_params, plain_both}
 
 -- what stands for a path lies in the path with arguments put in
@@ -141,8 +141,22 @@ module _ (P : PlainProgram) (wt : WellTyped P) (n : ℕ) (m : PlainMember) (ther
   params_in L j zero = λ i d l. absurd (omega (arith, l))
   params_in L j (suc k) = All-cons (PathInScope L 0) (record { head = Param j; elems = [] }) (params_from (suc j) k) (λ i d l. absurd (omega (arith, l))) (params_in L (suc j) k)
 
+  constraint_in : (M : Scope) → ((y : ℕ) → M.local y ≡ None) → ((r : ℕ) → M.regions r ≡ true → ⊥) → (c : Constraint) → GoodConstraint P M c → PathInScope scope 0 c.left × PathInScope scope 0 c.right
+  constraint_in M none nor c h = (λ k d l. other_elem M scope none nor 0 _ (good_path P M 0 c.left h.0 k d l), λ k d l. other_elem M scope none nor 0 _ (good_path P M 0 c.right h.1 k d l))
+
   pub body_good : GoodScope scope
-  body_good = record { each = go }
+  body_good = record {
+    each = go;
+    slots = slots;
+    parts = λ k t a e. absurd (no_part k t a e);
+    result = λ t e. (let z : m.result ≡ t = cc in subst (TypeInScope scope 0) z (elim good.result [
+      | inl v ↦ subst (TypeInScope scope 0) (sym v) tt
+      | inr r ↦ other_type (member_scope good.class m) scope (λ y. refl) (λ r t. false≢true t) 0 m.result (good_type P (member_scope good.class m) 0 m.result r)
+    ]));
+    given = All-append (λ (c : Constraint). PathInScope scope 0 c.left × PathInScope scope 0 c.right) good.class.given m.given
+        (λ k c l. constraint_in (class_scope good.class) (λ y. refl) (λ r t. false≢true t) _ ((wt.classes m.class good.class good.is).given k c l))
+        (λ k c l. constraint_in (member_scope good.class m) (λ y. refl) (λ r t. false≢true t) _ (good.given k c l));
+  }
     where
       go : (x : ℕ) (l : ScopeLocal) → first_locals good.class m x ≡ Some l → LocalInScope scope l
       go zero l e = let z : frozen (class m.class (own_paths good.class)) ≡ l = cc in subst (LocalInScope scope) z (params_in scope 0 (length good.class.params))
@@ -151,6 +165,14 @@ module _ (P : PlainProgram) (wt : WellTyped P) (n : ℕ) (m : PlainMember) (ther
           subst (LocalInScope scope) (sym z.2)
           (other_type (member_scope good.class m) scope (λ y. refl) (λ r t. false≢true t) 0 z.0
           (good_type P (member_scope good.class m) 0 z.0 (all_get (GoodType P (member_scope good.class m) 0) m.formals x z.0 good.formals z.1)))
+
+      slots : (x : ℕ) (l : ScopeLocal) → first_locals good.class m x ≡ Some l → x < m.slots
+      slots zero l e = let r = good.room in omega (arith, r)
+      slots (suc x) l e = let z = formal_local x (slice_get m.formals x) l e in let w = slice_get_within m.formals x z.0 z.1 in let r = good.room in omega (arith, r, w)
+
+      no_part : (x : ℕ) (t : PlainType) (a : Rpl) → first_locals good.class m x ≡ Some (part t a) → ⊥
+      no_part zero t a e = let z : Some (frozen (class m.class (own_paths good.class))) ≡ Some (part t a) = e in cc
+      no_part (suc x) t a e = let z = formal_local x (slice_get m.formals x) (part t a) e in let q : part t a ≡ variable z.0 = z.2 in cc
 
   -- the frame in which it begins, at an object or as its constructor
   pub entered_fits : (path : Path) (st : State) (zs own : List Region) (left : ℕ) → GoodObject P m.class zs → ArePlain own → All (Holds (class_env (zs ++ own))) m.given →

@@ -245,7 +245,7 @@ mentions_at x i d D (class c ps) h = any_map (path_at D x) d (has_at d D x i) ps
 mentions_at x i d D (array t a named) h =
     let p = or_parts (has_index (suc d) a) _ h in or_none _ _ (has_at (suc d) (suc D) x i a p.0) (mentions_at x i (suc d) (suc D) t p.1)
 
-at_path_in : (L : Scope) (D : ℕ) (x : Elem) → IsIndexElem x → InScope L D x → (a : Rpl) → PathInScope L (suc D) a → PathInScope L D (path_at D x a)
+pub at_path_in : (L : Scope) (D : ℕ) (x : Elem) → IsIndexElem x → InScope L D x → (a : Rpl) → PathInScope L (suc D) a → PathInScope L D (path_at D x a)
 at_path_in L D x i h a g = All-map (InScope L D) (elem_at D x) a.elems (λ k d l. at_elem L D x i h _ (g k d l))
 
 pub at_in : (L : Scope) (x : Elem) → IsIndexElem x → (D : ℕ) → InScope L D x → (t : PlainType) → TypeInScope L (suc D) t → TypeInScope L D (type_at D x t)

@@ -189,9 +189,32 @@ fits_at_down P S g (Local a b) i k e t h v f = absurd i
 pub region_at_up : (g : Ground) (x : Elem) (k : ℤ) → Fits (env_of g) x (At (Literal k) ∷ []) → (a : Rpl) (r : List Elem) → Matches (under k (env_of g)) a r → Matches (env_of g) (path_at 0 x a) r
 region_at_up g x k f a r m = own_index_matches_more (env_of g) a 0 x k f r (subst (λ z. Matches z a r) (under_top k g) m)
 
+paths_unmentioned : (D : ℕ) (y : Elem) (ps : List Rpl) → list_any (has_index D) ps ≡ false → map (path_at D y) ps ≡ ps
+paths_unmentioned D y [] h = refl
+paths_unmentioned D y (a ∷ ps) h =
+    let p = or_parts (has_index D a) _ h in
+    let e = elems_unmentioned D y a.elems p.0 in
+    let r = paths_unmentioned D y ps p.1 in
+    λ i. record { head = a.head; elems = e i } ∷ r i
+
+type_unmentioned : (D : ℕ) (y : Elem) (t : PlainType) → mentions_index D t ≡ false → type_at D y t ≡ t
+type_unmentioned D y int h = refl
+type_unmentioned D y boolean h = refl
+type_unmentioned D y void h = refl
+type_unmentioned D y null h = refl
+type_unmentioned D y (class c ps) h = ap (λ z. class c z) (paths_unmentioned D y ps h)
+type_unmentioned D y (array t a named) h =
+    let p = or_parts (has_index (suc D) a) _ h in
+    let e = elems_unmentioned (suc D) y a.elems p.0 in
+    let r = type_unmentioned (suc D) y t p.1 in
+    λ i. array (r i) (record { head = a.head; elems = e i }) named
+
 -- what speaks of no own index, at any index
-pub same_alone : (g : Ground) (k : ℤ) (t : PlainType) → mentions_index 0 t ≡ false → SameIn (env_of g) (type_at 0 Any t) (under k (env_of g)) t
-same_alone g k t h = subst (λ z. SameIn (env_of g) (type_at 0 Any t) z t) (sym (under_top k g)) (same_unmentioned (env_of g) 0 k Any t h)
+pub same_inside : (g : Ground) (k : ℤ) (t : PlainType) → mentions_index 0 t ≡ false → SameIn (under k (env_of g)) t (env_of g) t
+same_inside g k t h =
+    same_sym (env_of g) t (under k (env_of g)) t
+    (subst (λ z. SameIn (env_of g) z (under k (env_of g)) t) (type_unmentioned 0 Any t h)
+    (subst (λ z. SameIn (env_of g) (type_at 0 Any t) z t) (sym (under_top k g)) (same_unmentioned (env_of g) 0 k Any t h)))
 
 pub region_alone : (g : Ground) (k : ℤ) (a : Rpl) → has_index 0 a ≡ false → (r : List Elem) → Matches (under k (env_of g)) a r → Matches (env_of g) a r
 region_alone g k a h r m =

@@ -1,3 +1,5 @@
+pub mod Alike
+pub mod Calls
 pub mod Chains
 pub mod Classes
 pub mod Closed
@@ -6,9 +8,13 @@ pub mod Effects
 pub mod Entering
 pub mod Expressions
 pub mod Frames
+pub mod InEffects
 pub mod InScope
 pub mod Indices
+pub mod Locals
 pub mod Making
 pub mod Members
+pub mod Statements
+pub mod Typed
 pub mod Types
 pub mod Work

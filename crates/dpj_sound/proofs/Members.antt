@@ -273,7 +273,7 @@ module _ (P : PlainProgram) (wt : WellTyped P) where
     pub at : MemberAt d rs number
     pub stands : StandsFor own m qs at.member at.regions
 
-  same_member : (m w : PlainMember) (n : ℕ) → member_at P n ≡ Some m → member_at P n ≡ Some w → m ≡ w
+  pub same_member : (m w : PlainMember) (n : ℕ) → member_at P n ≡ Some m → member_at P n ≡ Some w → m ≡ w
   same_member m w n e f = let z : Some m ≡ Some w = sym e ∙ f in cc
 
   pub plain_both : (rs own : List Region) → ArePlain rs → ArePlain own → ArePlain (rs ++ own)

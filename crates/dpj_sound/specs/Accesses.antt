@@ -87,6 +87,6 @@ pub record Allowed (b : Bounds) (entries : List (List Effect)) (a : Access) : Ty
   pub effects : LiesIn b.ground b.effects a ⊎ InOwnRegion b.path a.region
   pub blocks : InEachEntry b.path entries a
 
--- what these effects speak of, in this ground, is allowed
+-- what these effects speak of, in this ground, is allowed, also inside further blocks
 abbrev pub Within : Bounds → List (List Effect) → Ground → List Own → Type 0
-Within b entries g E = (a : Access) → a.guarded ≡ is_guarded b entries → LiesIn g E a → Allowed b entries a
+Within b entries g E = (a : Access) → (is_guarded b entries ≡ true → a.guarded ≡ true) → LiesIn g E a → Allowed b entries a

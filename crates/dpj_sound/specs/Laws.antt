@@ -12,6 +12,7 @@ use Rattle.dpj_typed.specs.WellTyped.{WellTyped}
 use Rattle.dpj_meaning.specs.Core.{Goes_on, Returns}
 use Rattle.dpj_meaning.specs.Counts.{number}
 use Rattle.dpj_meaning.specs.Expressions.{Deeper as DeeperOf, of_expr}
+use Rattle.dpj_meaning.specs.Statements.{of_stmts}
 use Rattle.dpj_runs.specs.Objects.{Name, LocalRegion}
 use Rattle.dpj_steps.specs.Steps.{named_by}
 use Rattle.dpj_sound.specs.Grounds.{Ground, env_of}
@@ -19,6 +20,7 @@ use Rattle.dpj_sound.specs.Shapes.{FitsIn}
 use Rattle.dpj_sound.specs.Accesses.{Bounds, Within}
 use Rattle.dpj_sound.specs.Frames.{Frame, State, Since, FrameFits}
 use Rattle.dpj_sound.specs.Scopes.{GoodScope}
+use Rattle.dpj_sound.specs.Sequential.{AreSequential}
 use Rattle.dpj_sound.specs.Work.{Result, Prog, GoesFitting, InOrder}
 
 abbrev pub Deeper : Type 0
@@ -47,3 +49,10 @@ abbrev pub ExpressionsInOrder : Type 0
 ExpressionsInOrder = (P : PlainProgram) → WellTyped P → (b : Bounds) (dp : Option Deeper) → DeeperInOrder P b dp →
     (L : Scope) (e : TypedExpr) (E : List Own) → Has P L e E → GoodScope L → (g : Ground) (st : State) (f : Frame) → FrameFits P b.path st g L f → Within b st.entries g E →
     InOrder P b (Yields P L g e st f) st (of_expr (named_by b.path) P dp e f)
+
+-- statements without parallel constructs, atomic blocks and local regions are in order: from locals that fit they make only
+-- accesses that their effects speak of, and leave locals that fit, or give a value of the type that a `return` gives
+abbrev pub SequentialInOrder : Type 0
+SequentialInOrder = (P : PlainProgram) → WellTyped P → (b : Bounds) (dp : Option Deeper) → DeeperInOrder P b dp →
+    (L : Scope) (ss : TypedStmts) (E : List Own) → AllPass P L ss E → AreSequential ss → GoodScope L → (g : Ground) (st : State) (f : Frame) →
+    FrameFits P b.path st g L f → Within b st.entries g E → InOrder P b (Leaves P b L g ss st) st (of_stmts (named_by b.path) P dp ss f)

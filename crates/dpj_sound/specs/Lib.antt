@@ -4,5 +4,6 @@ pub mod Frames
 pub mod Grounds
 pub mod Laws
 pub mod Scopes
+pub mod Sequential
 pub mod Shapes
 pub mod Work

@@ -1,5 +1,6 @@
 -- Scopes whose types speak of nothing but what is in scope.
-use Rattle.std.specs.Prelude.{◌≡◌, ◌<◌, ℕ, suc, Bool, false, IsTrue, All, Option, Some}
+use Rattle.std.specs.Prelude.{◌≡◌, ◌<◌, ℕ, suc, ◌+◌, Bool, false, IsTrue, All, Option, Some}
+use Rattle.dpj_base.specs.declared.effect.Constraint.{Constraint}
 use Rattle.dpj_base.specs.declared.elems.Elem.{Elem}
 use Rattle.dpj_base.specs.declared.elems.Elem.TheVariants.{Name, At, Any, Star, Local}
 use Rattle.dpj_base.specs.declared.elems.Index.TheVariants.{Literal, Variable, Renamed, Own}
@@ -38,5 +39,10 @@ LocalInScope L (constant t) = TypeInScope L 0 t
 LocalInScope L (part t a) = TypeInScope L 0 (array t a false)
 LocalInScope L reserved = Unit {0}
 
+-- slots are those of the member, and those behind a part are reserved; so is what a `return` gives, and the constraints
 pub record GoodScope (L : Scope) : Type 0 where
   pub each : (x : ℕ) (l : ScopeLocal) → L.local x ≡ Some l → LocalInScope L l
+  pub slots : (x : ℕ) (l : ScopeLocal) → L.local x ≡ Some l → x < L.slots
+  pub parts : (k : ℕ) (t : PlainType) (a : Rpl) → L.local k ≡ Some (part t a) → (L.local (k + 1) ≡ Some reserved) × (L.local (k + 2) ≡ Some reserved)
+  pub result : (t : PlainType) → L.result ≡ Some t → TypeInScope L 0 t
+  pub given : All (λ (c : Constraint). PathInScope L 0 c.left × PathInScope L 0 c.right) L.given
