@@ -1,5 +1,5 @@
 -- A call and a creation enter a body, and what called waits for it.
-use Rattle.std.proofs.Common.{◌≡◌, ℕ, zero, suc, ◌-◌, Bool, true, false, cond, length, List, [], ◌∷◌, ◌++◌, refl, ap, ◌∙◌, sym, Option, Some, None}
+use Rattle.std.proofs.Common.{◌≡◌, ℕ, zero, suc, ◌-◌, Bool, true, false, cond, length, List, ◌∷◌, ◌++◌, refl, ap, ◌∙◌, sym, Option, Some, None}
 use Rattle.dpj_base.specs.declared.place.Place.{Place}
 use Rattle.dpj_base.specs.declared.value.Trap.TheVariants as trap
 use Rattle.dpj_typed.specs.Plain.{PlainProgram, PlainMember}
@@ -11,11 +11,11 @@ use Rattle.dpj_meaning.specs.Core.{Result, Goes_on, Returns, Prog, Traps, Act, D
 use Rattle.dpj_meaning.specs.Core.{Out as out}
 use Rattle.dpj_meaning.specs.Counts.{reference, name_made}
 use Rattle.dpj_meaning.specs.Elision.{LocalRegion, in_order, Store, answer, after, sequential}
-use Rattle.dpj_meaning.specs.Expressions.{Deeper, gives, none, unless_null, entered, back, enter, called, created, new_object}
+use Rattle.dpj_meaning.specs.Expressions.{gives, none, unless_null, entered, back, called, created, new_object}
 use Rattle.dpj_meaning.specs.Regions.{some_long, regions_above}
 use Rattle.dpj_meaning.specs.Statements.{of_stmts}
-use Rattle.dpj_walk.specs.Agenda.{goes_on, deeper_at}
-use Rattle.dpj_walk.specs.Walk.{Level, Waiting, for_value, for_object, State, At, value_of, pushed, beginning, falls, enters, row_member, seen_at, calls, constructs, creates_with, creates, or_null}
+use Rattle.dpj_walk.specs.Agenda.{deeper_at}
+use Rattle.dpj_walk.specs.Walk.{Level, Waiting, State, value_of, beginning, falls, enters, row_member, seen_at, calls, constructs, creates, or_null}
 use Rattle.dpj_walk.proofs.Runs.{proceeds, bind_assoc, bind_same, run_on}
 use Rattle.dpj_walk.proofs.Residual.{Ran, items_run, level_run, with_operand, whole, state_run}
 use Rattle.dpj_walk.proofs.Ends.{meaning_is, fell_kept}

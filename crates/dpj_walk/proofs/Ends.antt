@@ -9,14 +9,14 @@ use Rattle.dpj_meaning.specs.Asking.{meaning}
 use Rattle.dpj_meaning.specs.Core.{Result, Goes_on, Returns, Done, Stopped, Lost, bind, run}
 use Rattle.dpj_meaning.specs.Core.{Out as out}
 use Rattle.dpj_meaning.specs.Counts.{Brought, Back, Trap_of_branch, brought}
-use Rattle.dpj_meaning.specs.Elision.{LocalRegion, in_order, Store, at_end, one_by_one, one_step, sequential}
+use Rattle.dpj_meaning.specs.Elision.{LocalRegion, in_order, Store, at_end, one_step, sequential}
 use Rattle.dpj_meaning.specs.Expressions.{none}
 use Rattle.dpj_meaning.specs.Outcomes.{joined_or, first_trap, all_locals, trap_of, locals_of}
 use Rattle.dpj_meaning.specs.Statements.{joined, of_stmts, begun}
 use Rattle.dpj_walk.specs.Agenda.{deeper_at}
-use Rattle.dpj_walk.specs.Walk.{Level, Construct, Waiting, for_value, for_object, for_branch, State, At, Off, root_work, value_of, first_or, noted, fallen, earlier, begins, falls, rejoins, branches, ends, lands}
+use Rattle.dpj_walk.specs.Walk.{Level, Construct, Waiting, for_value, for_object, for_branch, first_or, noted, fallen, earlier, begins, falls, rejoins, branches, ends, lands}
 use Rattle.dpj_walk.proofs.Runs.{proceeds, bind_assoc, bind_same}
-use Rattle.dpj_walk.proofs.Residual.{Ran, items_run, branch_runs, rest_run, joins_run, whole, state_run}
+use Rattle.dpj_walk.proofs.Residual.{Ran, items_run, rest_run, joins_run, whole, state_run}
 
 pub meaning_is : (P : PlainProgram) (d : ℕ) (ss : TypedStmts) (f : Frame ℕ LocalRegion) → meaning in_order P d ss f ≡ of_stmts in_order P (deeper_at P d) ss f
 unfolding meaning
@@ -63,14 +63,14 @@ module _ (P : PlainProgram) where
   begins_kept c t rest ws w =
       ap (whole P ws)
       (bind_assoc (at_end t.work (run sequential (meaning in_order P c.left t.work.stmts (begun t.work.takes t.frame)) (one_step w)))
-          (λ x v. bind (rest_run P c.left rest v) (λ xs u. Done (x ∷ xs) u)) (λ xs v. joins_run P c xs (one_step v))
+      (λ x v. bind (rest_run P c.left rest v) (λ xs u. Done (x ∷ xs) u)) (λ xs v. joins_run P c xs (one_step v))
       ∙ bind_same (at_end t.work (run sequential (meaning in_order P c.left t.work.stmts (begun t.work.takes t.frame)) (one_step w)))
-          (λ x v. bind (bind (rest_run P c.left rest v) (λ xs u. Done (x ∷ xs) u)) (λ xs v. joins_run P c xs (one_step v)))
-          (λ x v. bind (rest_run P c.left rest v) (λ xs u. joins_run P c (x ∷ xs) (one_step u)))
-          (λ x v. bind_assoc (rest_run P c.left rest v) (λ xs u. Done (x ∷ xs) u) (λ xs v. joins_run P c xs (one_step v)))
+      (λ x v. bind (bind (rest_run P c.left rest v) (λ xs u. Done (x ∷ xs) u)) (λ xs v. joins_run P c xs (one_step v)))
+      (λ x v. bind (rest_run P c.left rest v) (λ xs u. joins_run P c (x ∷ xs) (one_step u)))
+      (λ x v. bind_assoc (rest_run P c.left rest v) (λ xs u. Done (x ∷ xs) u) (λ xs v. joins_run P c xs (one_step v)))
       ∙ ap (λ o. bind o (λ x v. bind (rest_run P c.left rest v) (λ xs u. joins_run P c (x ∷ xs) (one_step u))))
-          (ap (λ p. at_end t.work (run sequential p (one_step w))) (meaning_is P c.left t.work.stmts (begun t.work.takes t.frame))
-          ∙ sym (end_same t.work (run sequential (of_stmts in_order P (deeper_at P c.left) t.work.stmts (begun t.work.takes t.frame)) (one_step w)))))
+      (ap (λ p. at_end t.work (run sequential p (one_step w))) (meaning_is P c.left t.work.stmts (begun t.work.takes t.frame))
+      ∙ sym (end_same t.work (run sequential (of_stmts in_order P (deeper_at P c.left) t.work.stmts (begun t.work.takes t.frame)) (one_step w)))))
 
   trapped_join : (c : Construct) (o : Option (Trap × Place)) (t : Trap) (p : Place) (back : List (ℕ × Value ℕ)) (w : Store) →
       joining c (first_or o (Some (t, p))) back w ≡ out.Trapped (earlier o (t, p)).0 (earlier o (t, p)).1 w

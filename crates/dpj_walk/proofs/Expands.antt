@@ -1,24 +1,22 @@
 -- An item that wants operands is its operands and then the operation over them.
-use Rattle.std.proofs.Common.{◌≡◌, ℕ, zero, suc, ◌+◌, pos, true, false, List, [], ◌∷◌, ◌++◌, map, reverse, length, take, drop, refl, ap, ◌∙◌, sym, arith, Option, Some, None}
-use Rattle.std.specs.Prelude.{slice_index_or}
+use Rattle.std.proofs.Common.{◌≡◌, ℕ, suc, ◌+◌, List, [], ◌∷◌, ◌++◌, map, reverse, length, take, drop, refl, ap, ◌∙◌, sym, arith}
 use Rattle.dpj_base.specs.declared.place.Place.{Place}
 use Rattle.dpj_base.specs.Types.{PlainType}
 use Rattle.dpj_base.specs.declared.region.Rpl.{Rpl}
 use Rattle.dpj_typed.specs.Plain.{PlainProgram, of_array, of_part, TypedExpr, typed, TypedExprs, no_exprs, more_exprs, TypedStmt, statement}
 use Rattle.dpj_typed.specs.Plain.{ExprForm as form}
 use Rattle.dpj_typed.specs.Plain.{StmtForm as stmt}
-use Rattle.dpj_meaning.specs.Values.{Value, Int, Boolean}
-use Rattle.dpj_meaning.specs.Actions.{Frame, Look}
-use Rattle.dpj_meaning.specs.Core.{Result, Goes_on, Returns, Prog, Ret, Act, and_then, bind, run}
-use Rattle.dpj_meaning.specs.Counts.{number, truth, slot_value, unary, length_seen, text_of}
+use Rattle.dpj_meaning.specs.Values.{Value}
+use Rattle.dpj_meaning.specs.Actions.{Frame}
+use Rattle.dpj_meaning.specs.Core.{Prog, and_then, bind, run}
+use Rattle.dpj_meaning.specs.Counts.{slot_value}
 use Rattle.dpj_meaning.specs.Elision.{LocalRegion, in_order, Store, sequential}
-use Rattle.dpj_meaning.specs.Expressions.{gives, none, operation, unless_null, read_cell, called, created, made_array, class_in, part_element, of_expr, of_exprs}
+use Rattle.dpj_meaning.specs.Expressions.{unless_null, called, created, class_in, of_expr, of_exprs}
 use Rattle.dpj_meaning.specs.Regions.{around, concrete}
-use Rattle.dpj_meaning.specs.Statements.{with_value, write_cell, prints, forks, part_begun, parts_of_array, of_stmt}
-use Rattle.dpj_walk.specs.Agenda.{Item, evaluate, operate, carry_out, finish, deeper_at, operands_of, one, two, count, applied, needs, finished}
+use Rattle.dpj_walk.specs.Agenda.{Item, evaluate, operate, carry_out, finish, deeper_at, operands_of, count, needs}
 use Rattle.dpj_walk.specs.Walk.{each}
-use Rattle.dpj_walk.proofs.Runs.{proceeds, bind_same, behind, then_run}
-use Rattle.dpj_walk.proofs.Residual.{Ran, items_run, stacked}
+use Rattle.dpj_walk.proofs.Runs.{proceeds, behind, then_run}
+use Rattle.dpj_walk.proofs.Residual.{Ran, items_run}
 
 -- operands above others
 slot_above : (us vs : List (Value ℕ)) (v : Value ℕ) → slot_value (us ++ v ∷ vs) (length us) ≡ v
@@ -53,7 +51,7 @@ module _ (P : PlainProgram) (d : ℕ) where
   -- actuals, behind those that have these values, above other operands
   actuals : (es : TypedExprs) (i : Item) (is : List Item) (J : List (Value ℕ) → Frame ℕ LocalRegion → Prog ℕ LocalRegion) (K : Follows) (us vs : List (Value ℕ)) (f : Frame ℕ LocalRegion) (w : Store)
       → ((xs : List (Value ℕ)) (g : Frame ℕ LocalRegion) (x : Store) → length xs ≡ count es + length us
-          → bind (run sequential (J xs g) x) (λ r u. proceeds K r u) ≡ items_run P d (i ∷ is) (xs ++ vs) g x)
+      → bind (run sequential (J xs g) x) (λ r u. proceeds K r u) ≡ items_run P d (i ∷ is) (xs ++ vs) g x)
       → bind (run sequential (of_exprs in_order P (deeper_at P d) es f us J) w) (λ r u. proceeds K r u) ≡ items_run P d (each es (i ∷ is)) (us ++ vs) f w
   actuals no_exprs i is J K us vs f w h = h us f w (omega arith)
   actuals (more_exprs e es) i is J K us vs f w h =
@@ -70,14 +68,18 @@ module _ (P : PlainProgram) (d : ℕ) where
     where
       E : Item
       E = operate (typed at t (form.call e c r regions es))
+
       J : Value ℕ → List (Value ℕ) → Frame ℕ LocalRegion → Prog ℕ LocalRegion
       J v us h = unless_null at v (λ n. called in_order P (deeper_at P d) at c r (map (concrete in_order (around h)) regions) n (reverse us) h)
+
       G : Frame ℕ LocalRegion → Store → Value ℕ → List (Value ℕ) → List (Value ℕ) → Ran
       G h y x xs rest =
           bind (run sequential (unless_null at x (λ n. called in_order P (deeper_at P d) at c r (map (concrete in_order (around h)) regions) n (reverse xs) h)) y)
           (λ r u. proceeds (λ v g x. items_run P d is (v ∷ rest) g x) r u)
+
       zero_more : (n : ℕ) → n + 0 ≡ n
       zero_more n = omega arith
+
       same : (v : Value ℕ) (us : List (Value ℕ)) (h : Frame ℕ LocalRegion) (y : Store) → length us ≡ count es
           → bind (run sequential (J v us h) y) (λ r u. proceeds (λ v g x. items_run P d is (v ∷ vs) g x) r u) ≡ items_run P d (E ∷ is) (us ++ v ∷ vs) h y
       same v us h y n = sym (
@@ -92,14 +94,18 @@ module _ (P : PlainProgram) (d : ℕ) where
     where
       E : Item
       E = operate (typed at t (form.create es))
+
       J : List (Value ℕ) → Frame ℕ LocalRegion → Prog ℕ LocalRegion
       J us g = created in_order P (deeper_at P d) at (class_in t).0 (map (concrete in_order (around g)) (class_in t).1) (reverse us) g
+
       G : Frame ℕ LocalRegion → Store → List (Value ℕ) → List (Value ℕ) → Ran
       G h y xs rest =
           bind (run sequential (created in_order P (deeper_at P d) at (class_in t).0 (map (concrete in_order (around h)) (class_in t).1) (reverse xs) h) y)
           (λ r u. proceeds (λ v g x. items_run P d is (v ∷ rest) g x) r u)
+
       zero_more : (n : ℕ) → n + 0 ≡ n
       zero_more n = omega arith
+
       same : (us : List (Value ℕ)) (h : Frame ℕ LocalRegion) (y : Store) → length us ≡ count es
           → bind (run sequential (J us h) y) (λ r u. proceeds (λ v g x. items_run P d is (v ∷ vs) g x) r u) ≡ items_run P d (E ∷ is) (us ++ vs) h y
       same us h y n = sym (

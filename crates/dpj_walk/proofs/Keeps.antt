@@ -1,27 +1,24 @@
 -- A step keeps what is left of the meaning.
-use Rattle.std.proofs.Common.{◌≡◌, ℕ, zero, suc, ◌+◌, pos, Bool, true, false, cond, List, [], ◌∷◌, map, reverse, take, drop, refl, ap, ◌∙◌, sym, Option, Some, None}
+use Rattle.std.proofs.Common.{◌≡◌, ℕ, zero, suc, ◌+◌, pos, Bool, true, false, cond, List, [], ◌∷◌, map, reverse, take, drop, refl, ap, ◌∙◌, Some, None}
 use Rattle.dpj_base.specs.declared.effect.Effect.{Effect}
 use Rattle.dpj_base.specs.declared.place.Place.{Place}
-use Rattle.dpj_base.specs.declared.value.Trap.TheVariants as trap
 use Rattle.dpj_typed.specs.declared.stmt.Forking.TheVariants.{Deterministic}
 use Rattle.dpj_typed.specs.Plain.{PlainProgram, of_array, of_part, TypedExpr, typed, TypedStmt, statement, TypedStmts, no_stmts, more_stmts}
 use Rattle.dpj_typed.specs.Plain.{ExprForm as form}
 use Rattle.dpj_typed.specs.Plain.{StmtForm as stmt}
-use Rattle.dpj_typed.specs.Scope.{constructor_of}
-use Rattle.dpj_meaning.specs.Values.{Value, Int, Boolean}
+use Rattle.dpj_meaning.specs.Values.{Value, Boolean}
 use Rattle.dpj_meaning.specs.Actions.{Frame, Look, Rest, Enter, Exit}
-use Rattle.dpj_meaning.specs.Core.{Result, Goes_on, Returns, Prog, Act, Done, Lost, bind, rounded, tested, run}
-use Rattle.dpj_meaning.specs.Core.{Out as out}
-use Rattle.dpj_meaning.specs.Counts.{number, truth, reference, slot_value, length_seen, how_many}
-use Rattle.dpj_meaning.specs.Elision.{LocalRegion, in_order, Store, answer, after, one_turn, sequential}
+use Rattle.dpj_meaning.specs.Core.{Result, Goes_on, Returns, Prog, Act, Done, bind, rounded, tested, run}
+use Rattle.dpj_meaning.specs.Counts.{number, truth, reference, slot_value}
+use Rattle.dpj_meaning.specs.Elision.{LocalRegion, in_order, Store, after, one_turn, sequential}
 use Rattle.dpj_meaning.specs.Expressions.{gives, none, class_in, of_expr}
 use Rattle.dpj_meaning.specs.Regions.{around, concrete, concrete_effect}
 use Rattle.dpj_meaning.specs.Statements.{with_value, part_begun, part_taken_over, parts, parts_of_array, of_stmt, of_stmts}
-use Rattle.dpj_walk.specs.Agenda.{Item, evaluate, operate, carry_out, finish, counted, goes_on, test, turn, leave, deeper_at, operands_of, count, applied, needs, finished, counts_to, parted}
-use Rattle.dpj_walk.specs.Walk.{Level, Waiting, State, At, Off, pushed, without, doing, each, operates, finishes, parts_at, counts, turns, does_item, next_item, step, walk, falls, lands, or_null, with_length}
-use Rattle.dpj_walk.proofs.Runs.{proceeds, bind_assoc, bind_same, behind, then_run, proceeds_same}
-use Rattle.dpj_walk.proofs.Residual.{Ran, again, items_run, stacked, whole, state_run}
-use Rattle.dpj_walk.proofs.Ends.{fell_kept, ends_kept, lost_kept, lands_kept}
+use Rattle.dpj_walk.specs.Agenda.{Item, evaluate, operate, carry_out, finish, counted, goes_on, test, turn, leave, deeper_at, operands_of, count, applied, needs, finished, counts_to}
+use Rattle.dpj_walk.specs.Walk.{Level, Waiting, State, At, Off, pushed, without, doing, operates, finishes, parts_at, turns, does_item, next_item, step, walk, lands, with_length}
+use Rattle.dpj_walk.proofs.Runs.{proceeds, bind_assoc, bind_same, then_run}
+use Rattle.dpj_walk.proofs.Residual.{Ran, again, items_run, whole, state_run}
+use Rattle.dpj_walk.proofs.Ends.{ends_kept, lost_kept, lands_kept}
 use Rattle.dpj_walk.proofs.Expands.{expands, expands_stmt}
 use Rattle.dpj_walk.proofs.Loops.{again_is}
 use Rattle.dpj_walk.proofs.Forks.{cobegin_kept, forks_kept}
@@ -148,16 +145,19 @@ module _ (P : PlainProgram) where
   test_kept : (e : TypedExpr) (s : TypedStmt) (g : Level) (ws : List Waiting) (w : Store) → Stands (test e s) g ws w (does_item P (test e s) g ws w)
   test_kept e s g ws w =
       ap (whole P ws) (
-        ap (λ o. bind o K) (again_is T B g.frame w)
-        ∙ bind_assoc (run sequential (T g.frame) w) (λ r v. tested (λ v. one_turn v.turns v) (λ h u. run sequential (B h) u) (λ h u. again P g.left e s h u) r v) K
-        ∙ bind_same (run sequential (T g.frame) w) _ _ each_result)
+      ap (λ o. bind o K) (again_is T B g.frame w)
+      ∙ bind_assoc (run sequential (T g.frame) w) (λ r v. tested (λ v. one_turn v.turns v) (λ h u. run sequential (B h) u) (λ h u. again P g.left e s h u) r v) K
+      ∙ bind_same (run sequential (T g.frame) w) _ _ each_result)
     where
       T : Frame ℕ LocalRegion → Prog ℕ LocalRegion
       T h = of_expr in_order P (deeper_at P g.left) e h
+
       B : Frame ℕ LocalRegion → Prog ℕ LocalRegion
       B h = of_stmt in_order P (deeper_at P g.left) s h
+
       K : Result ℕ LocalRegion → Store → Ran
       K r u = proceeds (λ v f x. items_run P g.left g.items g.operands f x) r u
+
       each_result : (r : Result ℕ LocalRegion) (u : Store)
           → bind (tested (λ v. one_turn v.turns v) (λ h u. run sequential (B h) u) (λ h u. again P g.left e s h u) r u) K
           ≡ proceeds (λ v f x. items_run P g.left (turn e s ∷ g.items) (v ∷ g.operands) f x) r u
@@ -166,18 +166,20 @@ module _ (P : PlainProgram) where
 
   turns_kept : (n : ℕ) (e : TypedExpr) (s : TypedStmt) (g : Level) (ws : List Waiting) (w : Store)
       → whole P ws (bind (bind (one_turn n w) (λ u w'. bind (run sequential (of_stmt in_order P (deeper_at P g.left) s g.frame) w') (λ r w''. rounded (λ h v. again P g.left e s h v) r w'')))
-          (λ r u. proceeds (λ v f x. items_run P g.left g.items g.operands f x) r u))
+      (λ r u. proceeds (λ v f x. items_run P g.left g.items g.operands f x) r u))
       ≡ state_run P (turns n e s g ws w)
   turns_kept zero e s g ws w = lost_kept P ws w
   turns_kept (suc n) e s g ws w =
       ap (whole P ws) (
-        bind_assoc (run sequential (of_stmt in_order P (deeper_at P g.left) s g.frame) v) (λ r u. rounded (λ h v. again P g.left e s h v) r u) K
-        ∙ bind_same (run sequential (of_stmt in_order P (deeper_at P g.left) s g.frame) v) _ _ each_result)
+      bind_assoc (run sequential (of_stmt in_order P (deeper_at P g.left) s g.frame) v) (λ r u. rounded (λ h v. again P g.left e s h v) r u) K
+      ∙ bind_same (run sequential (of_stmt in_order P (deeper_at P g.left) s g.frame) v) _ _ each_result)
     where
       v : Store
       v = record w { steps = suc w.steps; turns = n }
+
       K : Result ℕ LocalRegion → Store → Ran
       K r u = proceeds (λ v f x. items_run P g.left g.items g.operands f x) r u
+
       each_result : (r : Result ℕ LocalRegion) (u : Store)
           → bind (rounded (λ h v. again P g.left e s h v) r u) K ≡ proceeds (λ v f x. items_run P g.left (test e s ∷ g.items) g.operands f x) r u
       each_result (Goes_on v f) u = refl
@@ -185,9 +187,9 @@ module _ (P : PlainProgram) where
 
   turn_kept : (b : Bool) (e : TypedExpr) (s : TypedStmt) (g : Level) (ws : List Waiting) (w : Store) (x : Value ℕ)
       → whole P ws (bind (elim b as (λ b. Ran) [
-            false ↦ Done (Goes_on x g.frame) w
-          | true ↦ bind (one_turn w.turns w) (λ u w'. bind (run sequential (of_stmt in_order P (deeper_at P g.left) s g.frame) w') (λ r w''. rounded (λ h v. again P g.left e s h v) r w''))
-          ]) (λ r u. proceeds (λ v f x. items_run P g.left g.items g.operands f x) r u))
+        | false ↦ Done (Goes_on x g.frame) w
+        | true ↦ bind (one_turn w.turns w) (λ u w'. bind (run sequential (of_stmt in_order P (deeper_at P g.left) s g.frame) w') (λ r w''. rounded (λ h v. again P g.left e s h v) r w''))
+      ]) (λ r u. proceeds (λ v f x. items_run P g.left g.items g.operands f x) r u))
       ≡ state_run P (cond b (turns w.turns e s g ws w) (At g ws w))
   turn_kept true e s g ws w x = turns_kept w.turns e s g ws w
   turn_kept false e s g ws w x = refl

@@ -1,15 +1,10 @@
 -- A store that comes later: no turns are won back and no costs given back. So no bound of a loop runs out before the turns do.
-use Rattle.std.proofs.Common.{◌≡◌, ◌<◌, ◌≤◌, ℕ, zero, suc, ◌+◌, Bool, true, false, List, [], ◌∷◌, refl, ap, ◌∙◌, sym, arith}
-use Rattle.dpj_base.specs.declared.place.Place.{Place}
-use Rattle.dpj_base.specs.declared.value.Trap.{Trap}
-use Rattle.dpj_meaning.specs.Values.{Value}
-use Rattle.dpj_meaning.specs.Actions.{Frame, Work, Task, Ending, Own}
+use Rattle.std.proofs.Common.{◌≡◌, ◌<◌, ◌≤◌, ℕ, zero, suc, Bool, true, false, List, [], ◌∷◌, refl, ◌∙◌, sym, arith}
+use Rattle.dpj_meaning.specs.Actions.{Frame, Work, Task, Own}
 use Rattle.dpj_meaning.specs.Core.{Result, Goes_on, Returns, Prog, Ret, Traps, Act, Makes, Again, Split, Done, Stopped, Lost, bind, rounded, tested, loop, each_from, run}
 use Rattle.dpj_meaning.specs.Core.{Out as out}
-use Rattle.dpj_meaning.specs.Costs.{own_steps, own_cells}
 use Rattle.dpj_meaning.specs.Counts.{truth}
 use Rattle.dpj_meaning.specs.Elision.{LocalRegion, Store, after, one_turn, one_step, at_end, one_by_one, new_region, sequential}
-use Rattle.dpj_walk.proofs.Runs.{bind_assoc}
 
 pub record Later (w v : Store) : Type 0 where
   pub turns : v.turns ≤ w.turns
@@ -75,9 +70,9 @@ tested_leaves B again hb h (Returns x) v = now v
 tested_leaves B again hb h (Goes_on x g) v = by_truth (truth x)
   where
     by_truth : (b : Bool) → Leaves v (elim b as (λ b. out ℕ LocalRegion (Result ℕ LocalRegion) Store) [
-        false ↦ Done (Goes_on x g) v
+      | false ↦ Done (Goes_on x g) v
       | true ↦ bind (One_turn v) (λ u w'. bind (B g w') (λ r w''. rounded again r w''))
-      ])
+    ])
     by_truth false = now v
     by_truth true = leaves_bind v (One_turn v) _ (turn_leaves v.turns v refl) (λ u y k. leaves_bind y (B g y) _ (hb g y) (λ r z l. rounded_leaves again h r z))
 
@@ -115,12 +110,12 @@ tested_same B a b hb (Returns x) v h = refl
 tested_same B a b hb (Goes_on x g) v h = by_truth (truth x)
   where
     by_truth : (c : Bool) → elim c as (λ c. out ℕ LocalRegion (Result ℕ LocalRegion) Store) [
-        false ↦ Done (Goes_on x g) v
+      | false ↦ Done (Goes_on x g) v
       | true ↦ bind (One_turn v) (λ u w'. bind (B g w') (λ r w''. rounded a r w''))
-      ] ≡ elim c as (λ c. out ℕ LocalRegion (Result ℕ LocalRegion) Store) [
-        false ↦ Done (Goes_on x g) v
+    ] ≡ elim c as (λ c. out ℕ LocalRegion (Result ℕ LocalRegion) Store) [
+      | false ↦ Done (Goes_on x g) v
       | true ↦ bind (One_turn v) (λ u w'. bind (B g w') (λ r w''. rounded b r w''))
-      ]
+    ]
     by_truth false = refl
     by_truth true = turned_same B a b hb g v v.turns refl h
 
@@ -178,5 +173,6 @@ again_is t b f w =
   where
     T : Step
     T g u = run sequential (t g) u
+
     B : Step
     B g u = run sequential (b g) u

@@ -1,10 +1,10 @@
 -- What a state of the walk stands for: what is left of the meaning.
-use Rattle.std.proofs.Common.{◌≡◌, ℕ, zero, suc, List, [], ◌∷◌, ◌++◌, map, drop, refl, ap, ◌∙◌, sym}
+use Rattle.std.proofs.Common.{ℕ, List, [], ◌∷◌, ◌++◌, drop}
 use Rattle.dpj_typed.specs.Plain.{PlainProgram, TypedExpr, TypedStmt}
 use Rattle.dpj_meaning.specs.Values.{Value}
 use Rattle.dpj_meaning.specs.Actions.{Frame, Task, Ending, Exit}
 use Rattle.dpj_meaning.specs.Asking.{meaning}
-use Rattle.dpj_meaning.specs.Core.{Result, Goes_on, Returns, Prog, Ret, Act, Again, Done, bind, tested, run}
+use Rattle.dpj_meaning.specs.Core.{Result, Goes_on, Ret, Act, Again, Done, bind, tested, run}
 use Rattle.dpj_meaning.specs.Core.{Out as out}
 use Rattle.dpj_meaning.specs.Counts.{slot_value, brought}
 use Rattle.dpj_meaning.specs.Elision.{LocalRegion, in_order, Store, one_turn, at_end, one_by_one, one_step, sequential}

@@ -1,17 +1,16 @@
 -- The laws of the walk.
-use Rattle.std.proofs.Common.{◌≡◌, ℕ, suc, ℤ, true, [], ◌∷◌, refl, ap, ◌∙◌, sym, Option, Some, None}
+use Rattle.std.proofs.Common.{◌≡◌, ℕ, suc, ℤ, true, [], refl, ap, ◌∙◌, sym, Option, Some, None}
 use Rattle.dpj_typed.specs.Plain.{PlainProgram, PlainMember, TypedStmts, no_stmts}
 use Rattle.dpj_typed.specs.Scope.{member_at}
 use Rattle.dpj_meaning.specs.Actions.{Task, Work}
 use Rattle.dpj_meaning.specs.Asking.{meaning, does}
 use Rattle.dpj_meaning.specs.Core.{Goes_on, Returns, Done, Stopped, Lost, run}
 use Rattle.dpj_meaning.specs.Core.{Out as out}
-use Rattle.dpj_meaning.specs.Elision.{LocalRegion, in_order, Store, at_end, at_start, sequential, enters_main, root_task, ran_through, elided, judged}
-use Rattle.dpj_meaning.specs.Outcomes.{Limits}
+use Rattle.dpj_meaning.specs.Elision.{LocalRegion, in_order, Store, at_end, at_start, sequential, enters_main, ran_through, elided, judged}
 use Rattle.dpj_meaning.specs.Statements.{of_stmts}
 use Rattle.dpj_walk.specs.Agenda.{deeper_at}
 use Rattle.dpj_walk.specs.Laws.{TellsElision, StaysOver}
-use Rattle.dpj_walk.specs.Walk.{State, At, Off, root_work, root_level, start, walk}
+use Rattle.dpj_walk.specs.Walk.{At, root_work, root_level, start}
 use Rattle.dpj_walk.proofs.Residual.{Ran, state_run}
 use Rattle.dpj_walk.proofs.Ends.{meaning_is, end_same}
 use Rattle.dpj_walk.proofs.Keeps.{walk_kept}

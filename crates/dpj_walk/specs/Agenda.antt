@@ -1,5 +1,5 @@
 -- What a body at work has to do, item by item, and what each item needs of the operands before it.
-use Rattle.std.specs.Prelude.{ℕ, zero, suc, ◌+◌, pos, false, true, List, [], ◌∷◌, ◌++◌, map, reverse, take, drop, Option, Some, None}
+use Rattle.std.specs.Prelude.{ℕ, zero, suc, ◌+◌, pos, false, true, List, map, reverse, take, Option, Some, None}
 use Rattle.dpj_typed.specs.Plain.{PlainProgram, of_array, of_part, TypedExpr, typed, TypedExprs, no_exprs, more_exprs, TypedStmt, statement, TypedStmts}
 use Rattle.dpj_typed.specs.Plain.{ExprForm as form}
 use Rattle.dpj_typed.specs.Plain.{StmtForm as stmt}
