@@ -1,0 +1,29 @@
+//! The walker: the sequential elision of a typed program, carried out.
+//!
+//! `elide` takes the steps of `dpj_walk` over a heap of its own. Its pending work stands on stacks, and nothing recurses: a body
+//! at work has an agenda and operands, and calls, creations and constructs of branches wait for it.
+//!
+//! What it promises: the outcome is that of the sequential elision at full cost, the branches behind a trap included, or memory
+//! ran out.
+#![tactic(auto)]
+
+mod bodies;
+mod branches;
+mod calls;
+mod cells;
+mod creations;
+mod elide;
+mod ends;
+mod expressions;
+mod item;
+mod level;
+mod loops;
+mod operations;
+mod statements;
+mod store;
+mod walker;
+mod waiting;
+#[cfg(test)]
+mod trials;
+
+pub use elide::elide;
