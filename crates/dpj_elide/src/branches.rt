@@ -1,131 +1,106 @@
-use crate::bodies::{no_frame, numbered, one_deeper};
+use crate::bodies::{numbered, one_deeper};
 use crate::level::Level;
 use crate::store::Halt;
-use crate::waiting::{Construct, Rest, Waiting};
+use crate::waiting::{Awaited, Fork, Waiting};
 use crate::walker::{Standing, Walker};
-use dpj_base::{Items, Place, Trap};
-use dpj_frames::{Frame, Stack, set_slot, take_part};
-use dpj_typed::{Branch, Slot, Stmt};
-use std::mem;
-use std::slice;
+use dpj_base::{Items, Trap};
+use dpj_frames::{set_slot, take_part};
+use dpj_typed::{Slot, Stmt, StmtForm};
+use std::{mem, slice};
 
 impl<'p> Walker<'p> {
-    /// A construct of branches begins.
-    pub fn fork(
-        &mut self,
-        place: Place,
-        branches: &'p [Branch],
-        rest: Rest<'p>,
-    ) -> Result<(), Halt> {
+    /// A construct of so many branches begins.
+    pub fn fork(&mut self, stmt: &'p Stmt, total: usize, start: i32) -> Result<(), Halt> {
         if self.level.frame.left == 0 {
-            self.fall(Trap::Stack, place);
+            self.fall(Trap::Stack, stmt.place);
             return Ok(());
         }
         self.store.count(1)?;
-        let absent = Level {
-            items: Stack::new(self.alloc),
-            operands: Stack::new(self.alloc),
-            frame: no_frame(self.alloc),
-        };
-        let outer = mem::replace(&mut self.level, absent);
-        self.next_branch(Construct {
-            outer,
-            branches,
-            rest,
+        self.next_branch(Fork {
+            stmt,
+            begun: 0,
+            total,
+            start,
             back: Items::new(self.alloc),
             fell: None,
         })
     }
 
-    /// The next branch begins, or the construct joins.
-    pub fn next_branch(&mut self, construct: Construct<'p>) -> Result<(), Halt> {
-        match construct.rest {
-            Rest::Branches(branches) => self.next_of(construct, branches),
-            Rest::Numbers { begun, total, .. } if begun < total => self.next_number(construct),
-            Rest::Numbers { .. } => self.join(construct),
+    /// The next branch of the construct in which the body at work stands begins, or the construct joins.
+    pub fn next_branch(&mut self, fork: Fork<'p>) -> Result<(), Halt> {
+        if fork.begun == fork.total {
+            return self.join(fork);
         }
-    }
-
-    fn next_of(
-        &mut self,
-        mut construct: Construct<'p>,
-        branches: &'p [Branch],
-    ) -> Result<(), Halt> {
-        let Some((branch, rest)) = branches.split_first() else {
-            return self.join(construct);
-        };
-        construct.rest = Rest::Branches(rest);
-        let frame = one_deeper(self.alloc, &construct.outer.frame)?;
-        self.begin(construct, &branch.body, branch.copies.as_slice(), frame)
-    }
-
-    fn next_number(&mut self, mut construct: Construct<'p>) -> Result<(), Halt> {
-        let Rest::Numbers {
-            body,
-            slot,
-            takes,
-            start,
-            begun,
-            total,
-        } = construct.rest
-        else {
-            return self.join(construct);
-        };
-        construct.rest = Rest::Numbers {
-            body,
-            slot,
-            takes,
-            start,
-            begun: begun + 1,
-            total,
-        };
-        let mut frame = numbered(self.alloc, &construct.outer.frame, slot, start, begun)?;
-        if let Some(part) = takes {
-            take_part(&mut frame.values, part);
-        }
-        self.begin(construct, body, &[], frame)
-    }
-
-    fn begin(
-        &mut self,
-        construct: Construct<'p>,
-        body: &'p Stmt,
-        copies: &'p [Slot],
-        frame: Frame,
-    ) -> Result<(), Halt> {
         self.store.count(1)?;
-        self.level = Level::beginning(self.alloc, slice::from_ref(body), frame)?;
+        let branch = self.branch(&fork)?;
+        let level = mem::replace(&mut self.level, branch);
         self.standing = Standing::AtWork;
-        self.wait(Waiting::ForBranch(construct, copies))
+        let begun = fork.begun + 1;
+        self.wait(Waiting {
+            level,
+            awaited: Awaited::Branch(Fork { begun, ..fork }),
+        })
     }
 
-    fn join(&mut self, construct: Construct<'p>) -> Result<(), Halt> {
+    /// The branch that begins next.
+    fn branch(&self, fork: &Fork<'p>) -> Result<Level<'p>, Halt> {
+        let (start, begun) = (fork.start, fork.begun);
+        let frame = &self.level.frame;
+        match &fork.stmt.form {
+            StmtForm::Cobegin { branches, .. } if begun < branches.len() => {
+                let body = slice::from_ref(&branches.as_slice()[begun].body);
+                Ok(Level::beginning(self.alloc, body, one_deeper(self.alloc, frame)?)?)
+            }
+            StmtForm::Foreach { slot, body, .. } => {
+                let frame = numbered(self.alloc, frame, slot.number as usize, 0, start, begun)?;
+                Ok(Level::beginning(self.alloc, slice::from_ref(body.get()), frame)?)
+            }
+            StmtForm::ForeachParts { part, body, .. } => {
+                let part = part.number as usize;
+                let mut frame = numbered(self.alloc, frame, part, 4, start, begun)?;
+                take_part(&mut frame.values, part);
+                Ok(Level::beginning(self.alloc, slice::from_ref(body.get()), frame)?)
+            }
+            _ => Ok(Level::beginning(self.alloc, &[], one_deeper(self.alloc, frame)?)?),
+        }
+    }
+
+    fn join(&mut self, fork: Fork<'p>) -> Result<(), Halt> {
         self.store.count(1)?;
-        let Construct {
-            outer,
-            branches,
-            back,
-            fell,
-            ..
-        } = construct;
-        self.level = outer;
-        if let Some((trap, place)) = fell {
+        if let Some((trap, place)) = fork.fell {
             self.fall(trap, place);
             return Ok(());
         }
         self.standing = Standing::AtWork;
-        for given in back.as_slice() {
-            if is_copied(branches, given.slot) {
-                set_slot(&mut self.level.frame.values, given.slot as usize, given.value);
+        for given in fork.back.as_slice() {
+            if is_copied(fork.stmt, given.slot) {
+                set_slot(
+                    &mut self.level.frame.values,
+                    given.slot as usize,
+                    given.value,
+                );
             }
         }
         Ok(())
     }
 }
 
-/// Whether the join of these branches copies a slot back.
-fn is_copied(branches: &[Branch], slot: u32) -> bool {
-    for branch in branches {
+/// The slots that a branch of a construct gives back.
+pub fn copies_of(stmt: &Stmt, branch: usize) -> &[Slot] {
+    match &stmt.form {
+        StmtForm::Cobegin { branches, .. } if branch < branches.len() => {
+            branches.as_slice()[branch].copies.as_slice()
+        }
+        _ => &[],
+    }
+}
+
+/// Whether the join of a construct copies a slot back.
+fn is_copied(stmt: &Stmt, slot: u32) -> bool {
+    let StmtForm::Cobegin { branches, .. } = &stmt.form else {
+        return false;
+    };
+    for branch in branches.as_slice() {
         if is_among(branch.copies.as_slice(), slot) {
             return true;
         }

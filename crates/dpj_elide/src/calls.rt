@@ -1,6 +1,6 @@
 use crate::level::Level;
 use crate::store::Halt;
-use crate::waiting::Waiting;
+use crate::waiting::{Awaited, Waiting};
 use crate::walker::Walker;
 use dpj_base::{Items, NoMemory, Plain, Region, Trap, Value};
 use dpj_frames::{Seen, class_entered, concrete_all, entered, reference, regions_above, some_long};
@@ -21,7 +21,9 @@ impl<'p> Walker<'p> {
         else {
             return Ok(());
         };
-        let values = self.level.take_many(Items::new(self.alloc), actuals.len() + 1)?;
+        let values = self
+            .level
+            .take_many(Items::new(self.alloc), actuals.len() + 1)?;
         let Some(object) = receiver(&values) else {
             self.fall(Trap::Null, e.place);
             return Ok(());
@@ -74,26 +76,32 @@ impl<'p> Walker<'p> {
             return Ok(self.level.give(Value::Null)?);
         };
         let Seen { class, regions } = seen;
-        let regions = regions_above(self.alloc, self.program, class, regions, member.class.number)?;
+        let regions = regions_above(
+            self.alloc,
+            self.program,
+            class,
+            regions,
+            member.class.number,
+        )?;
         let regions = appended(self.alloc, regions, &own)?;
-        let outer = self.enter(member, values, regions)?;
-        self.wait(Waiting::ForValue(outer))
+        self.enter(member, values, regions, Awaited::Value)
     }
 
-    /// A member is entered; it answers the body that was at work.
+    /// A member is entered, and the body that was at work waits for it.
     pub fn enter(
         &mut self,
         member: &'p Member,
         values: Items<Value>,
         regions: Items<Region>,
-    ) -> Result<Level<'p>, NoMemory> {
+        awaited: Awaited<'p>,
+    ) -> Result<(), Halt> {
         let left = self.level.frame.left.saturating_sub(1);
         let frame = entered(self.alloc, member, values, regions, left)?;
         let inner = Level::beginning(self.alloc, member.body.as_slice(), frame)?;
-        Ok(mem::replace(&mut self.level, inner))
+        let level = mem::replace(&mut self.level, inner);
+        self.wait(Waiting { level, awaited })
     }
 
-    /// This waits for the body at work.
     pub fn wait(&mut self, waiting: Waiting<'p>) -> Result<(), Halt> {
         if self.waiting.push(waiting).is_err() {
             return Err(Halt::NoMemory);

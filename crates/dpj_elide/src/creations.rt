@@ -1,5 +1,5 @@
 use crate::store::Halt;
-use crate::waiting::Waiting;
+use crate::waiting::Awaited;
 use crate::walker::Walker;
 use dpj_base::{Items, NoMemory, Place, Plain, Region, Trap, Ty, Value};
 use dpj_frames::{concrete, concrete_all, constructor_of, is_long, number, some_long};
@@ -16,7 +16,11 @@ pub fn first_of(ty: &Ty) -> Value {
 }
 
 /// The first values of the fields of a class.
-pub fn first_values(alloc: Global, program: &Program, class: u32) -> Result<Items<Value>, NoMemory> {
+pub fn first_values(
+    alloc: Global,
+    program: &Program,
+    class: u32,
+) -> Result<Items<Value>, NoMemory> {
     let mut values = Items::new(alloc);
     let Some(row) = program.classes.get(class as usize) else {
         return Ok(values);
@@ -84,8 +88,7 @@ impl<'p> Walker<'p> {
         let Some(member) = self.program.members.get(member as usize) else {
             return Ok(self.level.give(object)?);
         };
-        let outer = self.enter(member, values, regions)?;
-        self.wait(Waiting::ForObject(object, outer))
+        self.enter(member, values, regions, Awaited::Object(object))
     }
 
     /// A new array, whose length is on top.
@@ -104,7 +107,9 @@ impl<'p> Walker<'p> {
             return Ok(());
         }
         self.store.count(1)?;
-        let array = self.store.make_array(len as u32, first_of(elem.get()), region)?;
+        let array = self
+            .store
+            .make_array(len as u32, first_of(elem.get()), region)?;
         Ok(self.level.give(array)?)
     }
 }

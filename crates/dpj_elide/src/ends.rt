@@ -1,42 +1,42 @@
+use crate::branches::copies_of;
 use crate::store::Halt;
-use crate::waiting::{Given, Waiting};
+use crate::waiting::{Awaited, Fork, Given, Waiting};
 use crate::walker::{Over, Standing, Walker};
-use dpj_base::{Items, NoMemory, Place, Trap, Value};
+use dpj_base::{NoMemory, Place, Trap, Value};
 use dpj_frames::slot;
-use dpj_typed::Slot;
 
 impl<'p> Walker<'p> {
-    /// The body at work has ended: what waits for it goes on.
+    /// The body at work has ended: the one that waits for it goes on.
     pub fn end(&mut self, value: Option<Value>) -> Result<Option<Over>, Halt> {
-        let Some(waiting) = self.waiting.pop() else {
+        let Some(Waiting { level, awaited }) = self.waiting.pop() else {
             return Ok(Some(Over::Returned(value)));
         };
-        match waiting {
-            Waiting::ForValue(level) => {
+        self.standing = Standing::AtWork;
+        match awaited {
+            Awaited::Value => {
                 self.level = level;
-                self.standing = Standing::AtWork;
                 self.level.give(value.unwrap_or(Value::Null))?;
             }
-            Waiting::ForObject(object, level) => {
+            Awaited::Object(object) => {
                 self.level = level;
-                self.standing = Standing::AtWork;
                 self.level.give(object)?;
             }
-            Waiting::ForBranch(mut construct, copies) => {
+            Awaited::Branch(mut fork) => {
                 if value.is_none() {
-                    self.give_back(&mut construct.back, copies)?;
+                    self.give_back(&mut fork)?;
                 }
-                self.next_branch(construct)?;
+                self.level = level;
+                self.next_branch(fork)?;
             }
         }
         Ok(None)
     }
 
-    /// The locals that a branch gives back.
-    fn give_back(&self, back: &mut Items<Given>, copies: &[Slot]) -> Result<(), NoMemory> {
-        for copied in copies {
+    /// The locals that the branch at work gives back.
+    fn give_back(&self, fork: &mut Fork) -> Result<(), NoMemory> {
+        for copied in copies_of(fork.stmt, fork.begun.saturating_sub(1)) {
             let value = slot(&self.level.frame.values, copied.number as usize);
-            back.push(Given {
+            fork.back.push(Given {
                 slot: copied.number,
                 value,
             })?;
@@ -44,18 +44,19 @@ impl<'p> Walker<'p> {
         Ok(())
     }
 
-    /// A trap goes up by one: a branch ends with it, and all else that waits is given up.
+    /// A trap goes up by one: a branch ends with it, and what else waits is given up.
     pub fn fall_on(&mut self, trap: Trap, place: Place) -> Result<Option<Over>, Halt> {
-        let Some(waiting) = self.waiting.pop() else {
+        let Some(Waiting { level, awaited }) = self.waiting.pop() else {
             self.store.note(trap, place);
             return Ok(Some(Over::Trapped(trap, place)));
         };
-        if let Waiting::ForBranch(mut construct, _) = waiting {
+        self.level = level;
+        if let Awaited::Branch(mut fork) = awaited {
             self.store.note(trap, place);
-            if construct.fell.is_none() {
-                construct.fell = Some((trap, place));
+            if fork.fell.is_none() {
+                fork.fell = Some((trap, place));
             }
-            self.next_branch(construct)?;
+            self.next_branch(fork)?;
         }
         Ok(None)
     }

@@ -1,4 +1,4 @@
-use crate::item::Item;
+use crate::item::{ExprStage, Item};
 use crate::level::Level;
 use crate::store::Halt;
 use crate::walker::Walker;
@@ -10,7 +10,7 @@ impl<'p> Level<'p> {
     /// The values of expressions come next, from the first on.
     pub fn will_evaluate(&mut self, all: &'p Items<Expr>) -> Result<(), NoMemory> {
         for e in all.as_slice().iter().rev() {
-            self.will(Item::Evaluate(e))?;
+            self.will(Item::Expr(ExprStage::Evaluate, e))?;
         }
         Ok(())
     }
@@ -19,30 +19,41 @@ impl<'p> Level<'p> {
 impl<'p> Walker<'p> {
     /// The operands of an expression come next, and then its operation.
     pub fn evaluate(&mut self, e: &'p Expr) -> Result<(), Halt> {
-        self.level.will(Item::Operate(e))?;
+        self.level.will(Item::Expr(ExprStage::Operate, e))?;
         match &e.form {
-            ExprForm::Field { of, .. } => self.level.will(Item::Evaluate(of.get()))?,
+            ExprForm::Field { of, .. } => self
+                .level
+                .will(Item::Expr(ExprStage::Evaluate, of.get()))?,
             ExprForm::Element { array, index } => {
-                self.level.will(Item::Evaluate(index.get()))?;
-                self.level.will(Item::Evaluate(array.get()))?;
+                self.level
+                    .will(Item::Expr(ExprStage::Evaluate, index.get()))?;
+                self.level
+                    .will(Item::Expr(ExprStage::Evaluate, array.get()))?;
             }
             ExprForm::Length(of) | ExprForm::NewArray(of) => {
-                self.level.will(Item::Evaluate(of.get()))?;
+                self.level.will(Item::Expr(ExprStage::Evaluate, of.get()))?;
             }
             ExprForm::Call { of, actuals, .. } => {
                 self.level.will_evaluate(actuals)?;
-                self.level.will(Item::Evaluate(of.get()))?;
+                self.level.will(Item::Expr(ExprStage::Evaluate, of.get()))?;
             }
             ExprForm::New(actuals) => self.level.will_evaluate(actuals)?,
-            ExprForm::Unary { arg, .. } => self.level.will(Item::Evaluate(arg.get()))?,
+            ExprForm::Unary { arg, .. } => self
+                .level
+                .will(Item::Expr(ExprStage::Evaluate, arg.get()))?,
             ExprForm::Binary { left, right, .. } => {
-                self.level.will(Item::Evaluate(right.get()))?;
-                self.level.will(Item::Evaluate(left.get()))?;
+                self.level
+                    .will(Item::Expr(ExprStage::Evaluate, right.get()))?;
+                self.level
+                    .will(Item::Expr(ExprStage::Evaluate, left.get()))?;
             }
             ExprForm::And { left, .. } | ExprForm::Or { left, .. } => {
-                self.level.will(Item::Evaluate(left.get()))?;
+                self.level
+                    .will(Item::Expr(ExprStage::Evaluate, left.get()))?;
             }
-            ExprForm::PartElement { index, .. } => self.level.will(Item::Evaluate(index.get()))?,
+            ExprForm::PartElement { index, .. } => self
+                .level
+                .will(Item::Expr(ExprStage::Evaluate, index.get()))?,
             ExprForm::Int(_)
             | ExprForm::Bool(_)
             | ExprForm::Null
@@ -84,7 +95,7 @@ impl<'p> Walker<'p> {
     /// The second operand, where the first is this; else the first stands for the whole.
     fn second(&mut self, asked: bool, right: &'p Expr) -> Result<(), Halt> {
         if truth(self.level.take()) == asked {
-            return Ok(self.level.will(Item::Evaluate(right))?);
+            return Ok(self.level.will(Item::Expr(ExprStage::Evaluate, right))?);
         }
         Ok(self.level.give(Value::Bool(!asked))?)
     }

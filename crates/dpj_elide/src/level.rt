@@ -14,11 +14,7 @@ pub struct Level<'p> {
 
 impl<'p> Level<'p> {
     /// A body that begins.
-    pub fn beginning(
-        alloc: Global,
-        body: &'p [Stmt],
-        frame: Frame,
-    ) -> Result<Level<'p>, NoMemory> {
+    pub fn beginning(alloc: Global, body: &'p [Stmt], frame: Frame) -> Result<Level<'p>, NoMemory> {
         let mut level = Level {
             items: Stack::new(alloc),
             operands: Stack::new(alloc),

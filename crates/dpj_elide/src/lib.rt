@@ -21,9 +21,9 @@ mod loops;
 mod operations;
 mod statements;
 mod store;
-mod walker;
-mod waiting;
 #[cfg(test)]
 mod trials;
+mod waiting;
+mod walker;
 
 pub use elide::elide;

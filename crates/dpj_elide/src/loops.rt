@@ -1,20 +1,31 @@
-use crate::item::Item;
+use crate::item::{ExprStage, Item, StmtStage};
 use crate::store::Halt;
-use crate::waiting::Rest;
 use crate::walker::Walker;
-use dpj_base::{Items, Place, Trap, Value};
+use dpj_base::{Items, Trap, Value};
 use dpj_frames::{how_many, number, reference, set_slot_after, slot, slot_after, truth};
-use dpj_typed::{Expr, LocalRegion, PartSource, Stmt, StmtForm};
+use dpj_typed::{LocalRegion, PartSource, Stmt, StmtForm};
 
 impl<'p> Walker<'p> {
-    /// Behind the test of a while loop: a turn and the body, where it is true.
-    pub fn turn(&mut self, test: &'p Expr, body: &'p Stmt) -> Result<(), Halt> {
-        if !truth(self.level.take()) {
-            return Ok(());
+    /// A while loop in front of its test.
+    pub fn test(&mut self, s: &'p Stmt) -> Result<(), Halt> {
+        if let StmtForm::While { test, .. } = &s.form {
+            self.level.will(Item::Stmt(StmtStage::Turn, s))?;
+            self.level.will(Item::Expr(ExprStage::Evaluate, test))?;
         }
-        self.store.count(1)?;
-        self.level.will(Item::Test(test, body))?;
-        Ok(self.level.will(Item::CarryOut(body))?)
+        Ok(())
+    }
+
+    /// Behind the test: a turn and the body, where it is true.
+    pub fn turn(&mut self, s: &'p Stmt) -> Result<(), Halt> {
+        if truth(self.level.take())
+            && let StmtForm::While { body, .. } = &s.form
+        {
+            self.store.count(1)?;
+            self.level.will(Item::Stmt(StmtStage::Test, s))?;
+            self.level
+                .will(Item::Stmt(StmtStage::CarryOut, body.get()))?;
+        }
+        Ok(())
     }
 
     /// New local regions, each of which costs a turn.
@@ -31,21 +42,10 @@ impl<'p> Walker<'p> {
     }
 
     /// A branch for each number: the count is on top, and the start below it.
-    pub fn foreach(&mut self, place: Place, slot: usize, body: &'p Stmt) -> Result<(), Halt> {
+    pub fn foreach(&mut self, s: &'p Stmt) -> Result<(), Halt> {
         let total = how_many(number(self.level.take()));
         let start = number(self.level.take());
-        self.fork(
-            place,
-            &[],
-            Rest::Numbers {
-                body,
-                slot,
-                takes: None,
-                start,
-                begun: 0,
-                total,
-            },
-        )
+        self.fork(s, total, start)
     }
 
     /// The slots of a part, up to its count, which is evaluated next.
@@ -70,10 +70,7 @@ impl<'p> Walker<'p> {
 
     /// The count of a loop over parts is on top.
     pub fn counted(&mut self, s: &'p Stmt) -> Result<(), Halt> {
-        let StmtForm::ForeachParts {
-            part, source, body, ..
-        } = &s.form
-        else {
+        let StmtForm::ForeachParts { part, source, .. } = &s.form else {
             self.level.take();
             return Ok(());
         };
@@ -81,40 +78,34 @@ impl<'p> Walker<'p> {
         let count = self.level.take();
         set_slot_after(&mut self.level.frame.values, part, 3, count);
         match source {
-            PartSource::Array(_) => self.parts_of_array(s.place, part, body.get()),
+            PartSource::Array(_) => self.parts_of_array(s, part),
             PartSource::Part(whole) => {
                 let len = slot_after(&self.level.frame.values, whole.number as usize, 2);
                 set_slot_after(&mut self.level.frame.values, part, 2, len);
-                self.parts(s.place, part, body.get())
+                self.parts(s, part)
             }
         }
     }
 
-    fn parts_of_array(&mut self, place: Place, part: usize, body: &'p Stmt) -> Result<(), Halt> {
+    fn parts_of_array(&mut self, s: &'p Stmt, part: usize) -> Result<(), Halt> {
         let Some(array) = reference(slot(&self.level.frame.values, part)) else {
-            self.fall(Trap::Null, place);
+            self.fall(Trap::Null, s.place);
             return Ok(());
         };
         self.store.count(1)?;
         let len = self.store.array_length(array);
-        set_slot_after(&mut self.level.frame.values, part, 2, Value::Int(len as i32));
-        self.parts(place, part, body)
+        set_slot_after(
+            &mut self.level.frame.values,
+            part,
+            2,
+            Value::Int(len as i32),
+        );
+        self.parts(s, part)
     }
 
     /// A branch for each part.
-    fn parts(&mut self, place: Place, part: usize, body: &'p Stmt) -> Result<(), Halt> {
+    fn parts(&mut self, s: &'p Stmt, part: usize) -> Result<(), Halt> {
         let total = how_many(number(slot_after(&self.level.frame.values, part, 3)));
-        self.fork(
-            place,
-            &[],
-            Rest::Numbers {
-                body,
-                slot: part.saturating_add(4),
-                takes: Some(part),
-                start: 0,
-                begun: 0,
-                total,
-            },
-        )
+        self.fork(s, total, 0)
     }
 }

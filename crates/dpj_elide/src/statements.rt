@@ -1,6 +1,5 @@
-use crate::item::Item;
+use crate::item::{ExprStage, Item, StmtStage};
 use crate::store::Halt;
-use crate::waiting::Rest;
 use crate::walker::{Standing, Walker};
 use dpj_base::Value;
 use dpj_frames::{set_slot, text_line, truth, value_line};
@@ -11,14 +10,14 @@ impl<'p> Walker<'p> {
     pub fn go_on(&mut self, stmts: &'p [Stmt]) -> Result<(), Halt> {
         if let Some((first, rest)) = stmts.split_first() {
             self.level.will(Item::GoesOn(rest))?;
-            self.level.will(Item::CarryOut(first))?;
+            self.level.will(Item::Stmt(StmtStage::CarryOut, first))?;
         }
         Ok(())
     }
 
     /// The operands of a statement come next, and then the statement.
     pub fn carry_out(&mut self, s: &'p Stmt) -> Result<(), Halt> {
-        self.level.will(Item::Finish(s))?;
+        self.level.will(Item::Stmt(StmtStage::Finish, s))?;
         match &s.form {
             StmtForm::Declare { value, .. }
             | StmtForm::Store { value, .. }
@@ -30,27 +29,27 @@ impl<'p> Walker<'p> {
             | StmtForm::ForeachParts {
                 source: PartSource::Array(value),
                 ..
-            } => self.level.will(Item::Evaluate(value))?,
+            } => self.level.will(Item::Expr(ExprStage::Evaluate, value))?,
             StmtForm::StoreField { of, value, .. } => {
-                self.level.will(Item::Evaluate(value))?;
-                self.level.will(Item::Evaluate(of))?;
+                self.level.will(Item::Expr(ExprStage::Evaluate, value))?;
+                self.level.will(Item::Expr(ExprStage::Evaluate, of))?;
             }
             StmtForm::StoreElement {
                 array,
                 index,
                 value,
             } => {
-                self.level.will(Item::Evaluate(value))?;
-                self.level.will(Item::Evaluate(index))?;
-                self.level.will(Item::Evaluate(array))?;
+                self.level.will(Item::Expr(ExprStage::Evaluate, value))?;
+                self.level.will(Item::Expr(ExprStage::Evaluate, index))?;
+                self.level.will(Item::Expr(ExprStage::Evaluate, array))?;
             }
             StmtForm::StorePart { index, value, .. } => {
-                self.level.will(Item::Evaluate(value))?;
-                self.level.will(Item::Evaluate(index))?;
+                self.level.will(Item::Expr(ExprStage::Evaluate, value))?;
+                self.level.will(Item::Expr(ExprStage::Evaluate, index))?;
             }
             StmtForm::Foreach { start, count, .. } => {
-                self.level.will(Item::Evaluate(count))?;
-                self.level.will(Item::Evaluate(start))?;
+                self.level.will(Item::Expr(ExprStage::Evaluate, count))?;
+                self.level.will(Item::Expr(ExprStage::Evaluate, start))?;
             }
             _ => (),
         }
@@ -63,25 +62,22 @@ impl<'p> Walker<'p> {
             StmtForm::Block(all) => Ok(self.level.will(Item::GoesOn(all.as_slice()))?),
             StmtForm::If { then, other, .. } => {
                 if truth(self.level.take()) {
-                    self.level.will(Item::CarryOut(then.get()))?;
+                    self.level
+                        .will(Item::Stmt(StmtStage::CarryOut, then.get()))?;
                 } else if let Some(other) = other {
-                    self.level.will(Item::CarryOut(other.get()))?;
+                    self.level
+                        .will(Item::Stmt(StmtStage::CarryOut, other.get()))?;
                 }
                 Ok(())
             }
-            StmtForm::While { test, body } => Ok(self.level.will(Item::Test(test, body.get()))?),
+            StmtForm::While { .. } => Ok(self.level.will(Item::Stmt(StmtStage::Test, s))?),
             StmtForm::Atomic { body, .. } => {
                 self.store.count(1)?;
                 self.level.will(Item::Leave)?;
                 Ok(self.level.will(Item::GoesOn(body.as_slice()))?)
             }
-            StmtForm::Cobegin { branches, .. } => {
-                let branches = branches.as_slice();
-                self.fork(s.place, branches, Rest::Branches(branches))
-            }
-            StmtForm::Foreach { slot, body, .. } => {
-                self.foreach(s.place, slot.number as usize, body.get())
-            }
+            StmtForm::Cobegin { branches, .. } => self.fork(s, branches.len(), 0),
+            StmtForm::Foreach { .. } => self.foreach(s),
             StmtForm::ForeachParts {
                 part,
                 source,
@@ -89,8 +85,8 @@ impl<'p> Walker<'p> {
                 ..
             } => {
                 self.fill_part(part.number as usize, source);
-                self.level.will(Item::Counted(s))?;
-                Ok(self.level.will(Item::Evaluate(count))?)
+                self.level.will(Item::Stmt(StmtStage::Counted, s))?;
+                Ok(self.level.will(Item::Expr(ExprStage::Evaluate, count))?)
             }
             _ => self.do_simple(s),
         }

@@ -1,4 +1,4 @@
-use dpj_base::{Bytes, NoMemory, Place, Region, Items, Trap, Value};
+use dpj_base::{Bytes, Items, NoMemory, Place, Region, Trap, Value};
 use dpj_heap::{Heap, HeapStop};
 use std::alloc::Global;
 use thiserror::Error;

@@ -124,7 +124,14 @@ fn programs_come_out_as_their_texts_say(rt: HostRuntime) -> Result<(), Fail> {
     let alloc = rt.alloc();
     let (divides, counts) = (divides(alloc)?, counts(alloc)?);
     let told = [
-        (&divides, 0, (10000, 100), Ending::Trapped(Trap::Divide, HERE), "", (6, 3)),
+        (
+            &divides,
+            0,
+            (10000, 100),
+            Ending::Trapped(Trap::Divide, HERE),
+            "",
+            (6, 3),
+        ),
         (&divides, 1, (10000, 100), Ending::Done(0), "1\n2\n", (7, 5)),
         (&divides, 1, (7, 5), Ending::Done(0), "1\n2\n", (7, 5)),
         (&divides, 1, (6, 5), Ending::Limited, "", (6, 5)),

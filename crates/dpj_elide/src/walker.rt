@@ -1,4 +1,4 @@
-use crate::item::Item;
+use crate::item::{ExprStage, Item, StmtStage};
 use crate::level::Level;
 use crate::store::{Halt, Store};
 use crate::waiting::Waiting;
@@ -59,17 +59,14 @@ impl<'p> Walker<'p> {
 
     fn do_item(&mut self, item: Item<'p>) -> Result<(), Halt> {
         match item {
-            Item::Evaluate(e) => self.evaluate(e),
-            Item::Operate(e) => self.operate(e),
-            Item::CarryOut(s) => self.carry_out(s),
-            Item::Finish(s) => self.finish(s),
-            Item::Counted(s) => self.counted(s),
+            Item::Expr(ExprStage::Evaluate, e) => self.evaluate(e),
+            Item::Expr(ExprStage::Operate, e) => self.operate(e),
+            Item::Stmt(StmtStage::CarryOut, s) => self.carry_out(s),
+            Item::Stmt(StmtStage::Finish, s) => self.finish(s),
+            Item::Stmt(StmtStage::Counted, s) => self.counted(s),
+            Item::Stmt(StmtStage::Test, s) => self.test(s),
+            Item::Stmt(StmtStage::Turn, s) => self.turn(s),
             Item::GoesOn(stmts) => self.go_on(stmts),
-            Item::Test(test, body) => {
-                self.level.will(Item::Turn(test, body))?;
-                Ok(self.level.will(Item::Evaluate(test))?)
-            }
-            Item::Turn(test, body) => self.turn(test, body),
             Item::Leave => self.store.count(1),
         }
     }
