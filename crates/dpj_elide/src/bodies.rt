@@ -34,11 +34,9 @@ pub fn numbered(
     frame: &Frame,
     slot: usize,
     after: usize,
-    start: i32,
-    number: usize,
+    number: i32,
 ) -> Result<Frame, NoMemory> {
     let mut frame = one_deeper(alloc, frame)?;
-    let value = Value::Int(start.wrapping_add(number as i32));
-    set_slot_after(&mut frame.values, slot, after, value);
+    set_slot_after(&mut frame.values, slot, after, Value::Int(number));
     Ok(frame)
 }

@@ -20,7 +20,7 @@ impl<'p> Walker<'p> {
             stmt,
             begun: 0,
             total,
-            start,
+            number: start,
             back: Items::new(self.alloc),
             fell: None,
         })
@@ -28,23 +28,25 @@ impl<'p> Walker<'p> {
 
     /// The next branch of the construct in which the body at work stands begins, or the construct joins.
     pub fn next_branch(&mut self, fork: Fork<'p>) -> Result<(), Halt> {
-        if fork.begun == fork.total {
+        if fork.begun >= fork.total {
             return self.join(fork);
         }
         self.store.count(1)?;
         let branch = self.branch(&fork)?;
         let level = mem::replace(&mut self.level, branch);
         self.standing = Standing::AtWork;
-        let begun = fork.begun + 1;
+        let mut fork = fork;
+        fork.begun += 1;
+        fork.number = fork.number.wrapping_add(1);
         self.wait(Waiting {
             level,
-            awaited: Awaited::Branch(Fork { begun, ..fork }),
+            awaited: Awaited::Branch(fork),
         })
     }
 
     /// The branch that begins next.
     fn branch(&self, fork: &Fork<'p>) -> Result<Level<'p>, Halt> {
-        let (start, begun) = (fork.start, fork.begun);
+        let (number, begun) = (fork.number, fork.begun);
         let frame = &self.level.frame;
         match &fork.stmt.form {
             StmtForm::Cobegin { branches, .. } if begun < branches.len() => {
@@ -52,12 +54,12 @@ impl<'p> Walker<'p> {
                 Ok(Level::beginning(self.alloc, body, one_deeper(self.alloc, frame)?)?)
             }
             StmtForm::Foreach { slot, body, .. } => {
-                let frame = numbered(self.alloc, frame, slot.number as usize, 0, start, begun)?;
+                let frame = numbered(self.alloc, frame, slot.number as usize, 0, number)?;
                 Ok(Level::beginning(self.alloc, slice::from_ref(body.get()), frame)?)
             }
             StmtForm::ForeachParts { part, body, .. } => {
                 let part = part.number as usize;
-                let mut frame = numbered(self.alloc, frame, part, 4, start, begun)?;
+                let mut frame = numbered(self.alloc, frame, part, 4, number)?;
                 take_part(&mut frame.values, part);
                 Ok(Level::beginning(self.alloc, slice::from_ref(body.get()), frame)?)
             }

@@ -21,10 +21,12 @@ impl<'p> Walker<'p> {
         else {
             return Ok(());
         };
-        let values = self
-            .level
-            .take_many(Items::new(self.alloc), actuals.len() + 1)?;
-        let Some(object) = receiver(&values) else {
+        let receiver = self.level.operand(actuals.len());
+        let mut values = Items::new(self.alloc);
+        values.push(receiver)?;
+        self.level.take_many(&mut values, actuals.len())?;
+        self.level.take();
+        let Some(object) = reference(receiver) else {
             self.fall(Trap::Null, e.place);
             return Ok(());
         };
@@ -108,10 +110,6 @@ impl<'p> Walker<'p> {
         }
         Ok(())
     }
-}
-
-fn receiver(values: &Items<Value>) -> Option<u32> {
-    reference(*values.get(0)?)
 }
 
 fn appended(

@@ -7,14 +7,14 @@ impl<'p> Walker<'p> {
     /// The field of an object that is on top.
     pub fn read_field(&mut self, place: Place, field: u32) -> Result<(), Halt> {
         let object = self.level.take();
-        self.read(place, object, field as i32)
+        self.read(place, object, i64::from(field))
     }
 
     /// The element of an array, at the index on top.
     pub fn read_element(&mut self, place: Place) -> Result<(), Halt> {
         let index = number(self.level.take());
         let array = self.level.take();
-        self.read(place, array, index)
+        self.read(place, array, i64::from(index))
     }
 
     /// The element of a part, at the index on top.
@@ -23,7 +23,7 @@ impl<'p> Walker<'p> {
         match part_place(&self.level.frame.values, part, index) {
             Some(at) => {
                 let array = slot(&self.level.frame.values, part);
-                self.read(place, array, at)
+                self.read(place, array, i64::from(at))
             }
             None => {
                 self.fall(Trap::Index, place);
@@ -32,7 +32,7 @@ impl<'p> Walker<'p> {
         }
     }
 
-    fn read(&mut self, place: Place, of: Value, index: i32) -> Result<(), Halt> {
+    fn read(&mut self, place: Place, of: Value, index: i64) -> Result<(), Halt> {
         let Some(object) = reference(of) else {
             self.fall(Trap::Null, place);
             return Ok(());
@@ -56,14 +56,14 @@ impl<'p> Walker<'p> {
         };
         self.store.count(1)?;
         let len = self.store.array_length(object);
-        Ok(self.level.give(Value::Int(len as i32))?)
+        Ok(self.level.give(Value::Int(len))?)
     }
 
     /// A value into a field of an object below it.
     pub fn write_field(&mut self, place: Place, field: u32) -> Result<(), Halt> {
         let value = self.level.take();
         let object = self.level.take();
-        self.write(place, object, field as i32, value)
+        self.write(place, object, i64::from(field), value)
     }
 
     /// A value into an element: the value is on top, then the index, then the array.
@@ -71,7 +71,7 @@ impl<'p> Walker<'p> {
         let value = self.level.take();
         let index = number(self.level.take());
         let array = self.level.take();
-        self.write(place, array, index, value)
+        self.write(place, array, i64::from(index), value)
     }
 
     /// A value into an element of a part, whose index is below it.
@@ -81,7 +81,7 @@ impl<'p> Walker<'p> {
         match part_place(&self.level.frame.values, part, index) {
             Some(at) => {
                 let array = slot(&self.level.frame.values, part);
-                self.write(place, array, at, value)
+                self.write(place, array, i64::from(at), value)
             }
             None => {
                 self.fall(Trap::Index, place);
@@ -90,7 +90,7 @@ impl<'p> Walker<'p> {
         }
     }
 
-    fn write(&mut self, place: Place, of: Value, index: i32, value: Value) -> Result<(), Halt> {
+    fn write(&mut self, place: Place, of: Value, index: i64, value: Value) -> Result<(), Halt> {
         let Some(object) = reference(of) else {
             self.fall(Trap::Null, place);
             return Ok(());

@@ -84,7 +84,7 @@ impl<'p> Walker<'p> {
         let object = self.make(class, own)?;
         let mut values = Items::new(self.alloc);
         values.push(object)?;
-        let values = self.level.take_many(values, actuals)?;
+        self.level.take_many(&mut values, actuals)?;
         let Some(member) = self.program.members.get(member as usize) else {
             return Ok(self.level.give(object)?);
         };

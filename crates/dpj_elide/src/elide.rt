@@ -1,3 +1,6 @@
+ghost use Rattle.std.specs.Prelude.{◌≡◌, ◌<◌, ◌≤◌, ◌^◌, [], IfOk};
+ghost use Rattle.dpj_base.specs.declared.outcome.Ending.TheVariants.{Limited};
+
 use crate::creations::first_values;
 use crate::level::Level;
 use crate::store::{Halt, Store};
@@ -16,7 +19,11 @@ pub fn elide(
     program: &Program,
     arg: i32,
     limits: Limits,
-) -> Result<Outcome, NoMemory> {
+) -> Result<Outcome, NoMemory>
+    requires steps { limits.steps < 2 ^ 32 }
+    requires cells { limits.cells ≤ 16777216 }
+    ensures limited { IfOk result (λ o. o.ending ≡ Limited → o ≡ record { ending = Limited; out = []; steps = limits.steps; cells = limits.cells }) }
+{
     let mut walker = match begun(alloc, program, arg, limits) {
         Ok(walker) => walker,
         Err(Halt::Limited) => return Ok(limited(alloc, limits)),
@@ -39,7 +46,10 @@ fn begun<'p>(
     program: &'p Program,
     arg: i32,
     limits: Limits,
-) -> Result<Walker<'p>, Halt> {
+) -> Result<Walker<'p>, Halt>
+    requires steps { limits.steps < 2 ^ 32 }
+    requires cells { limits.cells ≤ 16777216 }
+{
     let mut store = Store::new(alloc, limits.steps, limits.cells);
     store.count(1)?;
     let class = program.main_class.number;
@@ -81,7 +91,9 @@ fn main_level<'p>(
     Level::beginning(alloc, member.body.as_slice(), frame)
 }
 
-fn outcome(walker: Walker, over: Over) -> Outcome {
+fn outcome(walker: Walker, over: Over) -> Outcome
+    ensures { result.ending ≡ Limited → ⊥ }
+{
     let Walker { store, .. } = walker;
     let steps = store.steps;
     let cells = store.heap.cells();
@@ -98,7 +110,9 @@ fn outcome(walker: Walker, over: Over) -> Outcome {
     }
 }
 
-fn limited(alloc: Global, limits: Limits) -> Outcome {
+fn limited(alloc: Global, limits: Limits) -> Outcome
+    ensures { result ≡ record { ending = Limited; out = []; steps = limits.steps; cells = limits.cells } }
+{
     Outcome {
         ending: Ending::Limited,
         out: Bytes::new(alloc),

@@ -48,20 +48,21 @@ impl<'p> Level<'p> {
         }
     }
 
-    /// Takes so many operands off, of which the last was on top, in front of others in a list.
-    pub fn take_many(
-        &mut self,
-        mut values: Items<Value>,
-        many: usize,
-    ) -> Result<Items<Value>, NoMemory> {
-        for below in 0..many {
-            let value = match self.operands.get(many - 1 - below) {
-                Some(value) => *value,
-                None => Value::Null,
-            };
-            values.push(value)?;
+    /// The operand so many below the top; null, where there is none.
+    pub fn operand(&self, below: usize) -> Value {
+        match self.operands.get(below) {
+            Some(value) => *value,
+            None => Value::Null,
+        }
+    }
+
+    /// Takes so many operands off, and puts them behind values, that on top last.
+    pub fn take_many(&mut self, values: &mut Items<Value>, many: usize) -> Result<(), NoMemory> {
+        let there = many.min(self.operands.len());
+        for taken in 0..there {
+            values.push(self.operand(there - 1 - taken))?;
         }
         self.operands.drop_top(many);
-        Ok(values)
+        Ok(())
     }
 }

@@ -31,12 +31,11 @@ impl<'p> Walker<'p> {
     /// New local regions, each of which costs a turn.
     pub fn make_regions(&mut self, made: &Items<LocalRegion>) -> Result<(), Halt> {
         for region in made.as_slice() {
-            self.store.count(1)?;
+            let made = self.store.make_region()?;
             let at = region.number as usize;
             if at < self.level.frame.locals.len() {
-                self.level.frame.locals.set(at, (self.store.regions, 1));
+                self.level.frame.locals.set(at, (made, 1));
             }
-            self.store.regions += 1;
         }
         Ok(())
     }
@@ -94,12 +93,7 @@ impl<'p> Walker<'p> {
         };
         self.store.count(1)?;
         let len = self.store.array_length(array);
-        set_slot_after(
-            &mut self.level.frame.values,
-            part,
-            2,
-            Value::Int(len as i32),
-        );
+        set_slot_after(&mut self.level.frame.values, part, 2, Value::Int(len));
         self.parts(s, part)
     }
 

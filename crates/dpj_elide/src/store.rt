@@ -1,3 +1,5 @@
+ghost use Rattle.std.specs.Prelude.{◌<◌, ◌≤◌, ◌^◌};
+
 use dpj_base::{Bytes, Items, NoMemory, Place, Region, Trap, Value};
 use dpj_heap::{Heap, HeapStop};
 use std::alloc::Global;
@@ -39,10 +41,16 @@ pub struct Store {
     pub regions: u32,
     /// The most steps.
     pub limit: u64,
+    ghost within: { steps ≤ limit },
+    ghost few: { regions ≤ steps },
+    ghost small: { limit < 2 ^ 32 },
 }
 
 impl Store {
-    pub fn new(alloc: Global, steps: u64, cells: u64) -> Store {
+    pub fn new(alloc: Global, steps: u64, cells: u64) -> Store
+        requires steps { steps < 2 ^ 32 }
+        requires cells { cells ≤ 16777216 }
+    {
         Store {
             heap: Heap::new(alloc, cells),
             output: Bytes::new(alloc),
@@ -62,31 +70,46 @@ impl Store {
         Ok(())
     }
 
+    /// The number of a new local region, which costs a step.
+    pub fn make_region(&mut self) -> Result<u32, Halt> {
+        if self.steps == self.limit {
+            return Err(Halt::Limited);
+        }
+        let number = self.regions;
+        self.steps += 1;
+        self.regions += 1;
+        Ok(number)
+    }
+
     /// The value at an index; None where it is out of bounds. Under a number that nothing has stands null.
-    pub fn read(&self, object: u32, index: i32) -> Option<Value> {
+    pub fn read(&self, object: u32, index: i64) -> Option<Value> {
         if object >= self.heap.count() {
             return Some(Value::Null);
         }
-        if index < 0 {
-            return None;
+        match u32::try_from(index) {
+            Ok(index) => self.heap.read(object, index),
+            Err(_) => None,
         }
-        self.heap.read(object, index as u32)
     }
 
     /// Writes a value at an index, and answers whether that is within bounds.
-    pub fn write(&mut self, object: u32, index: i32, value: Value) -> bool {
+    pub fn write(&mut self, object: u32, index: i64, value: Value) -> bool {
         if object >= self.heap.count() {
             return true;
         }
-        index >= 0 && self.heap.write(object, index as u32, value)
+        match u32::try_from(index) {
+            Ok(index) => self.heap.write(object, index, value),
+            Err(_) => false,
+        }
     }
 
     /// The length of an array; 0 of anything else.
-    pub fn array_length(&self, object: u32) -> u32 {
+    pub fn array_length(&self, object: u32) -> i32 {
         if object >= self.heap.count() || self.heap.class(object).is_some() {
             return 0;
         }
-        self.heap.length(object)
+        // A heap has fewer cells than that.
+        i32::try_from(self.heap.length(object)).unwrap_or(i32::MAX)
     }
 
     pub fn make_object(

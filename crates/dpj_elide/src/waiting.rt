@@ -17,8 +17,8 @@ pub struct Fork<'p> {
     /// How many branches have begun, and how many there are.
     pub begun: usize,
     pub total: usize,
-    /// The number of the first branch of a loop.
-    pub start: i32,
+    /// The number of the next branch of a loop.
+    pub number: i32,
     /// What the branches give back that have ended, and the first trap among them.
     pub back: Items<Given>,
     pub fell: Option<(Trap, Place)>,
