@@ -79,14 +79,14 @@ module _ (P : PlainProgram) (arg : ℤ) where
   abbrev first_names : Names
   first_names = first_name ∷ []
 
-  one_name : Distinct first_names
+  pub one_name : Distinct first_names
   one_name = record { one = λ n m x h k. zero_is n x h ∙ sym (zero_is m x k) }
     where
       zero_is : (n : ℕ) (x : Name) → slice_get (first_name ∷ []) n ≡ Some x → n ≡ 0
       zero_is zero x h = refl
       zero_is (suc n) x h = absurd (let k : None ≡ Some x = h in cc)
 
-  root_like : TaskLike first_names (root_task in_order P 0 arg) (root_task (named_by []) P first_name arg)
+  pub root_like : TaskLike first_names (root_task in_order P 0 arg) (root_task (named_by []) P first_name arg)
   root_like = at (member_at P P.main_member)
     where
       at : (o : Option PlainMember) → TaskLike first_names (enters_main in_order 0 arg o) (enters_main (named_by []) first_name arg o)
@@ -107,7 +107,7 @@ module _ (P : PlainProgram) (arg : ℤ) where
         };
       }
 
-  main_like : ThingLike first_names (main_object P) QP.object
+  pub main_like : ThingLike first_names (main_object P) QP.object
   main_like = object_alike P P.main_class no_regions
 
   stands_first : (n : ℕ) → Stands QP [] first_names (at_start P n).heap 0 first_name

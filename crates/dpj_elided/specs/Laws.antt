@@ -7,6 +7,7 @@ use Rattle.dpj_meaning.specs.Outcomes.{Came as CameIn, Limited as LimitedIn}
 use Rattle.dpj_runs.specs.Actions.{Ending}
 use Rattle.dpj_runs.specs.Blocks.{Legal}
 use Rattle.dpj_runs.specs.Laws.{AllFree}
+use Rattle.dpj_runs.specs.Meaning.{Known}
 use Rattle.dpj_runs.specs.Objects.{Name}
 use Rattle.dpj_runs.specs.Order.{Comes, InOrder, Outcome}
 use Rattle.dpj_runs.specs.Runs.{Ended, Run, cells_of, steps_of}
@@ -60,3 +61,7 @@ SchedulesAreElided = (P : PlainProgram) (arg : ℤ) → AllFree (stepped P arg) 
 abbrev pub NoneCostsMoreThanElision : Type 0
 NoneCostsMoreThanElision = (P : PlainProgram) (arg : ℤ) → AllFree (stepped P arg) → (L : Limits) (x : EndingOf ℕ) (output : List ℕ) (steps cells : ℕ)
     → elided P arg L ≡ CameIn x output steps cells → (R : Run) → Legal (stepped P arg) R → (steps_of R ≤ steps) × (cells_of (stepped P arg) R ≤ cells)
+
+-- in a legal run of any typed program, what a task next acts on is there
+abbrev pub NamesAreKnown : Type 0
+NamesAreKnown = (P : PlainProgram) (arg : ℤ) → Known (stepped P arg)
