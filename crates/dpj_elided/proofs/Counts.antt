@@ -307,7 +307,7 @@ module _ (names : Naming ℕ Counted) (others : Naming Name LocalRegion) where
     where
       at : (o : Option PlainParent) → ((p : PlainParent)
           → RegionsLike (regions_above names parent k p.class (handed_up names rs p.args) d) (regions_above others parent k p.class
-              (handed_up others qs p.args) d))
+          (handed_up others qs p.args) d))
           → RegionsLike (elim o [ None ↦ rs | Some p ↦ regions_above names parent k p.class (handed_up names rs p.args) d ])
           (elim o [ None ↦ qs | Some p ↦ regions_above others parent k p.class (handed_up others qs p.args) d ])
       at None rec = e
@@ -315,7 +315,7 @@ module _ (names : Naming ℕ Counted) (others : Naming Name LocalRegion) where
 
       go : (b : Bool) → ((p : PlainParent)
           → RegionsLike (regions_above names parent k p.class (handed_up names rs p.args) d) (regions_above others parent k p.class
-              (handed_up others qs p.args) d))
+          (handed_up others qs p.args) d))
           → RegionsLike (cond b rs (elim (parent c) [ None ↦ rs | Some p ↦ regions_above names parent k p.class (handed_up names rs p.args) d ]))
           (cond b qs (elim (parent c) [ None ↦ qs | Some p ↦ regions_above others parent k p.class (handed_up others qs p.args) d ]))
       go true rec = e

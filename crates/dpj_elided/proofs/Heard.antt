@@ -5,7 +5,8 @@ use Rattle.std.proofs.lemmas.List.{reverse-append}
 use Rattle.dpj_typed.specs.declared.stmt.Forking.{Forking}
 use Rattle.dpj_typed.specs.Plain.{PlainProgram}
 use Rattle.dpj_meaning.specs.Actions.{Answer as AnswerOver, Ending as EndingOver, Frame as FrameOver, Own as OwnOver, Task as TaskOver, Work}
-use Rattle.dpj_meaning.specs.Asking.{most_turns, ask, asked, begins_then, does, ended, ending, made_region, replied, take_answer, told, told_fork, told_join, turned}
+use Rattle.dpj_meaning.specs.Asking.{most_turns, ask, asked, begins_then, does, ended, ending, made_region, replied, take_answer, told, told_fork, told_join}
+use Rattle.dpj_meaning.specs.Asking.{turned}
 use Rattle.dpj_meaning.specs.Core.{Done, Goes_on, Lost, Prog, Returns, Stopped, bind, loop, rounded, run, tested}
 use Rattle.dpj_meaning.specs.Core.{Out as out}
 use Rattle.dpj_meaning.specs.Counts.{Brought, brought, truth}
@@ -13,8 +14,10 @@ use Rattle.dpj_meaning.specs.Elision.{LocalRegion as Counted}
 use Rattle.dpj_runs.specs.Actions.{Action, Answer, Begin, Do, End, Fork, Join, Next, Over, Reply, Rest, Task, Trapped, Unknown}
 use Rattle.dpj_runs.specs.Objects.{LocalRegion, Name, Path}
 use Rattle.dpj_steps.specs.Steps.{named_by}
-use Rattle.dpj_elided.proofs.Worlds.{Names, Distinct, later_none, FrameLike, TaskLike, TasksLike, OwnLike, AnswerLike, BroughtLike, EndingLike, ResultLike, Alike}
-use Rattle.dpj_elided.proofs.Worlds.{rest_like, trapped_like, goes_on_like, returns_like, alike_ret, alike_traps, alike_act, alike_makes, alike_again, alike_split}
+use Rattle.dpj_elided.proofs.Worlds.{Names, Distinct, later_none, FrameLike, TaskLike, TasksLike, OwnLike, AnswerLike, BroughtLike, EndingLike, ResultLike}
+use Rattle.dpj_elided.proofs.Worlds.{Alike}
+use Rattle.dpj_elided.proofs.Worlds.{rest_like, trapped_like, goes_on_like, returns_like, alike_ret, alike_traps, alike_act, alike_makes, alike_again}
+use Rattle.dpj_elided.proofs.Worlds.{alike_split}
 use Rattle.dpj_elided.proofs.Counts.{brought_alike, ended_alike}
 use Rattle.dpj_elided.proofs.Meaning.{does_alike}
 use Rattle.dpj_elided.proofs.Simulation.{ToldOf, OutOf, ResultOf, ResultIn, told_on}
@@ -98,7 +101,8 @@ module _ (P : PlainProgram) (ns : Names) (d : Distinct ns) where
   Body = FrameOver Name LocalRegion → ToldOf → OutOf ResultOf
 
   abbrev BodyHeard : ℕ → Body → Type 0
-  BodyHeard c m = (f : FrameOver ℕ Counted) (g : FrameOver Name LocalRegion) → FrameLike c ns f g → (w : ToldOf) → AnswersHave ns w.to_come → Heard (ResultHas c) (m g w)
+  BodyHeard c m = (f : FrameOver ℕ Counted) (g : FrameOver Name LocalRegion) → FrameLike c ns f g → (w : ToldOf) → AnswersHave ns w.to_come
+      → Heard (ResultHas c) (m g w)
 
   module _ (c : ℕ) (s a : Body) (hs : BodyHeard c s) (ha : BodyHeard c a) where
     heard_round : (m : Body) → BodyHeard c m → (x : ResultIn) (r : ResultOf) → ResultLike c ns x r → (w : ToldOf) → AnswersHave ns w.to_come
@@ -111,8 +115,10 @@ module _ (P : PlainProgram) (ns : Names) (d : Distinct ns) where
     heard_test m hm x _ (returns_like {v = v} {u = u} e z) w k = ((Returns v, returns_like e z), k)
     heard_test m hm x _ (goes_on_like {v = v} {u = u} {f = f} {g = g} z h) w k = go (truth u)
       where
-        go : (b : Bool) → Heard (ResultHas c) (elim b as (λ b. OutOf ResultOf) [ false ↦ Done (Goes_on u g) w
-            | true ↦ bind (turned w) (λ u w'. bind (a g w') (λ r w''. rounded m r w'')) ])
+        go : (b : Bool) → Heard (ResultHas c) (elim b as (λ b. OutOf ResultOf) [
+          | false ↦ Done (Goes_on u g) w
+          | true ↦ bind (turned w) (λ u w'. bind (a g w') (λ r w''. rounded m r w''))
+        ])
         go false = ((Goes_on v f, goes_on_like z h), k)
         go true = heard_bind (Any {X = Unit {0}}) (ResultHas c) (turned w) _ (heard_turn w k) (λ y v' i l.
             heard_bind (ResultHas c) (ResultHas c) (a g v') _ (ha f g h v' l) (λ r z' rr l'. heard_round m hm rr.0 r rr.1 z' l'))
@@ -130,7 +136,8 @@ module _ (P : PlainProgram) (ns : Names) (d : Distinct ns) where
   heard_begins : (b n : ℕ) (w : ToldOf) → AnswersHave ns w.to_come → Heard BroughtHas (begins_then b n told_join w)
   heard_begins b zero w k = heard_join w k
   heard_begins b (suc n) w k =
-      heard_bind (AnswerHas ns) BroughtHas (asked (Begin b) w) (λ a v. begins_then (suc b) n told_join v) (heard_ask (Begin b) w tt k) (λ a v h l. heard_begins (suc b) n v l)
+      heard_bind (AnswerHas ns) BroughtHas (asked (Begin b) w) (λ a v. begins_then (suc b) n told_join v) (heard_ask (Begin b) w tt k)
+      (λ a v h l. heard_begins (suc b) n v l)
 
   heard_fork : (forking : Forking) (us : List (TaskOver ℕ Counted)) (ts : List Task) → TasksLike ns us ts → (w : ToldOf) → AnswersHave ns w.to_come
       → Heard BroughtHas (told_fork forking ts w)
@@ -143,16 +150,21 @@ module _ (P : PlainProgram) (ns : Names) (d : Distinct ns) where
   heard_run path (alike_ret {r = r} h) w k = ((r, h), k)
   heard_run path (alike_traps trap p) w k = tt
   heard_run path {c} (alike_act {o = o} {q = q} {j = j} like h) w k =
-      heard_bind (AnswerHas ns) (ResultHas c) (asked (Do q) w) _ (heard_ask (Do q) w (o, like) k) (λ y u a l. heard_run path (h ns a.0 y (later_none d) a.1) u l)
+      heard_bind (AnswerHas ns) (ResultHas c) (asked (Do q) w) _ (heard_ask (Do q) w (o, like) k) (λ y u a l. heard_run path (h ns a.0 y
+      (later_none d) a.1) u l)
   heard_run path {c} (alike_makes {j = j} h) w k =
-      heard_bind (Any {X = LocalRegion}) (ResultHas c) (made_region (named_by path) w) _ (heard_region path w k) (λ m u a l. heard_run path (h (Counted.Unmade 0) m) u l)
+      heard_bind (Any {X = LocalRegion}) (ResultHas c) (made_region (named_by path) w) _ (heard_region path w k) (λ m u a l. heard_run path (h
+      (Counted.Unmade 0) m) u l)
   heard_run path {c} (alike_again e {s = s} {a = z} {f = f} {g = g} {j = j} ht hb hf h) w k =
-      heard_bind (ResultHas e) (ResultHas c) (loop turned (λ x v. run (told (named_by path)) (s x) v) (λ x v. run (told (named_by path)) (z x) v) ((told (named_by path)).turns w) g w) _
+      heard_bind (ResultHas e) (ResultHas c) (loop turned (λ x v. run (told (named_by path)) (s x) v) (λ x v. run (told (named_by path)) (z x) v) ((told
+      (named_by path)).turns w) g w) _
       (heard_loop e (λ x v. run (told (named_by path)) (s x) v) (λ x v. run (told (named_by path)) (z x) v)
-      (λ x y i v l. heard_run path (ht ns x y (later_none d) i) v l) (λ x y i v l. heard_run path (hb ns x y (later_none d) i) v l) ((told (named_by path)).turns w) f g hf w k)
+      (λ x y i v l. heard_run path (ht ns x y (later_none d) i) v l) (λ x y i v l. heard_run path (hb ns x y (later_none d) i) v l) ((told
+      (named_by path)).turns w) f g hf w k)
       (λ r u a l. heard_run path (h ns a.0 r (later_none d) a.1) u l)
   heard_run path {c} (alike_split forking {ts = ts} {ss = ss} {j = j} tl coh falls h) w k =
-      heard_bind BroughtHas (ResultHas c) (told_fork forking ss w) _ (heard_fork forking ts ss tl w k) (λ y u a l. heard_run path (h ns a.0 y (later_none d) a.1) u l)
+      heard_bind BroughtHas (ResultHas c) (told_fork forking ss w) _ (heard_fork forking ts ss tl w k) (λ y u a l. heard_run path (h ns a.0 y
+      (later_none d) a.1) u l)
 
   heard_reply : (c : ℕ) (k : Work) (o : OutOf ResultOf) → Heard (ResultHas c) o → ReplyHas ns (replied k o)
   heard_reply c k (Done r u) h = go u.to_come
@@ -168,7 +180,8 @@ module _ (P : PlainProgram) (ns : Names) (d : Distinct ns) where
   heard_reply c k (Stopped n a) h = h
   heard_reply c k (Lost u) h = tt
 
-  pub asks_heard : (path : Path) {t : TaskOver ℕ Counted} (s : Task) → TaskLike ns t s → (got : List Answer) → AnswersHave ns got → ReplyHas ns (ask (named_by path) P s got)
+  pub asks_heard : (path : Path) {t : TaskOver ℕ Counted} (s : Task) → TaskLike ns t s → (got : List Answer) → AnswersHave ns got
+      → ReplyHas ns (ask (named_by path) P s got)
   unfolding ask
   asks_heard path s h got k =
       heard_reply h.left s.work (run (told (named_by path)) (does (named_by path) P s) (told_on 0 0 (reverse got)))

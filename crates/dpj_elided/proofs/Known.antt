@@ -8,7 +8,8 @@ use Rattle.dpj_meaning.specs.Elision.{LocalRegion as Counted, in_order, root_tas
 use Rattle.dpj_meaning.specs.Values.{Value as ValueOver, Thing as ThingOver}
 use Rattle.dpj_runs.specs.Actions.{Action, Answer, Begin, Do, End, Ending, Fork, Join, Named, New, Next, Own, Program, Task, Went, Write}
 use Rattle.dpj_runs.specs.Objects.{Cell, Name, Path, Thing, Value, Null, first_value, or_else, size, slot_of}
-use Rattle.dpj_runs.specs.Runs.{Begun, Event, Faithful, Follows, Joins, Right, Run, Upto, answered_by, answers, at_start, branch, count, later, made, made_by, mine, now}
+use Rattle.dpj_runs.specs.Runs.{Begun, Event, Faithful, Follows, Joins, Right, Run, Upto, answered_by, answers, at_start, branch, count, later, made, made_by}
+use Rattle.dpj_runs.specs.Runs.{mine, now}
 use Rattle.dpj_runs.specs.Runs.{read_at, reply, root, seen, thing_of, things, value_in, wrote_at}
 use Rattle.dpj_runs.proofs.Cells.{LastWrite, last_write, none, some}
 use Rattle.dpj_runs.proofs.Mine.{found, mine_same}
@@ -16,10 +17,13 @@ use Rattle.dpj_runs.proofs.Things.{thing_later}
 use Rattle.dpj_runs.proofs.Upto.{upto_none, upto_split}
 use Rattle.dpj_runs.proofs.Written.{legal_faithful}
 use Rattle.dpj_steps.specs.Steps.{first_name, stepped}
-use Rattle.dpj_elided.proofs.Worlds.{Names, Distinct, Later, later_none, later_then, ValueLike, value_later, null_like, ValuesLike, no_values, more_values, locals_later}
+use Rattle.dpj_elided.proofs.Worlds.{Names, Distinct, Later, later_none, later_then, ValueLike, value_later, null_like, ValuesLike, no_values, more_values}
+use Rattle.dpj_elided.proofs.Worlds.{locals_later}
 use Rattle.dpj_elided.proofs.Worlds.{TaskLike, task_later, TasksLike, no_tasks, more_tasks, tasks_later, ThingLike, thing_later as like_later, an_object_like}
-use Rattle.dpj_elided.proofs.Worlds.{an_array_like, OwnLike, rest_like, read_like, write_like, look_like, new_like, print_like, enter_like, exit_like, own_later, AnswerLike}
-use Rattle.dpj_elided.proofs.Worlds.{went_like, got_like, out_like, class_like, length_like, named_like, joined_like, fell_like, name_later, EndingLike, ending_later}
+use Rattle.dpj_elided.proofs.Worlds.{an_array_like, OwnLike, rest_like, read_like, write_like, look_like, new_like, print_like, enter_like, exit_like}
+use Rattle.dpj_elided.proofs.Worlds.{own_later, AnswerLike}
+use Rattle.dpj_elided.proofs.Worlds.{went_like, got_like, out_like, class_like, length_like, named_like, joined_like, fell_like, name_later, EndingLike}
+use Rattle.dpj_elided.proofs.Worlds.{ending_later}
 use Rattle.dpj_elided.proofs.Worlds.{EndingsLike, no_endings, more_endings}
 use Rattle.dpj_elided.proofs.Counts.{answer_alike}
 use Rattle.dpj_elided.proofs.Heard.{ActionHas, AnswerHas, AnswersHave, ReplyHas, asks_heard}
@@ -190,7 +194,8 @@ module _ (P : PlainProgram) (arg : ℤ) where
         distinct : Distinct (ns ++ name ∷ [])
         distinct = record { one = λ n m x a b. go n m x (snoc_cases ns name x n a) (snoc_cases ns name x m b) }
           where
-            go : (n m : ℕ) (x : Name) → (slice_get ns n ≡ Some x) ⊎ ((n ≡ length ns) × (name ≡ x)) → (slice_get ns m ≡ Some x) ⊎ ((m ≡ length ns) × (name ≡ x)) → n ≡ m
+            go : (n m : ℕ) (x : Name) → (slice_get ns n ≡ Some x) ⊎ ((n ≡ length ns) × (name ≡ x))
+                → (slice_get ns m ≡ Some x) ⊎ ((m ≡ length ns) × (name ≡ x)) → n ≡ m
             go n m x (inl a) (inl b) = s.start.distinct.one n m x a b
             go n m x (inl a) (inr b) = absurd (mixed n x a b.1)
             go n m x (inr a) (inl b) = absurd (mixed m x b a.1)
@@ -201,9 +206,14 @@ module _ (P : PlainProgram) (arg : ℤ) where
 
         each : (f : Event) (B : Run) → Upto (f ∷ B) (e ∷ R) → ActionHas (ns ++ name ∷ []) f.act × AnswerHas (ns ++ name ∷ []) f.ans
         each f B v = ⊎_elim (λ q. (
-            subst (λ (y : Event). ActionHas (ns ++ name ∷ []) y.act) (sym q.0) (subst (λ (a : Action). ActionHas (ns ++ name ∷ []) a) (sym act) (_, new_like c (like_later now_later h))),
-            subst (λ (y : Event). AnswerHas (ns ++ name ∷ []) y.ans) (sym q.0)
-                (subst (λ (a : Answer). AnswerHas (ns ++ name ∷ []) a) (sym ans) (_, named_like (length ns) name (last_there ns name)))))
+          subst (λ (y : Event). ActionHas (ns ++ name ∷ []) y.act) (sym q.0) (subst (λ (a : Action). ActionHas (ns ++ name ∷ []) a) (sym act) (
+            _,
+            new_like c
+                (like_later now_later h),
+          )),
+          subst (λ (y : Event). AnswerHas (ns ++ name ∷ []) y.ans) (sym q.0)
+              (subst (λ (a : Answer). AnswerHas (ns ++ name ∷ []) a) (sym ans) (_, named_like (length ns) name (last_there ns name))),
+        ))
             (λ w. (let z = s.each f B w in (action_later now_later f.act z.0, answer_later f.ans now_later z.1))) (upto_split v)
 
         known : (n : ℕ) (x : Name) → slice_get (ns ++ name ∷ []) n ≡ Some x → (y : Thing) × (thing_of Q (e ∷ R) x ≡ Some y) × ThingHas (ns ++ name ∷ []) y
@@ -224,11 +234,12 @@ module _ (P : PlainProgram) (arg : ℤ) where
         join : ActionHas ns e.act → Joins R e.path e.ans → (ms : Names) × Sane (e ∷ R) ms
         join h j =
             let r = endings_have {ns = ns} j.ends (λ k x i. (let g = j.ended (count j.before e.path, k) x refl i in
-                subst (λ (c : Action). ActionHas ns c) g.act (s.each g.event g.before g.stands).0)) in
+            subst (λ (c : Action). ActionHas ns c) g.act (s.each g.event g.before g.stands).0)) in
             (ns, sane_same e h (subst (λ (x : Answer). AnswerHas ns x) (sym j.answer) (_, answer_alike r.1)))
 
         go : (c : Action) → e.act ≡ c → ActionHas ns e.act → Right Q R e.path e.act e.ans → (ms : Names) × Sane (e ∷ R) ms
-        go (Do o) i h r = (let k = subst (λ (c : Action). ActionHas ns c) i h in own o i h (subst (λ (c : Action). Right Q R e.path c e.ans) i r) (replied e.path k.1))
+        go (Do o) i h r = (let k = subst (λ (c : Action). ActionHas ns c) i h in own o i h (subst (λ (c : Action). Right Q R e.path c e.ans) i r)
+            (replied e.path k.1))
         go (Fork ts) i h r = went h (subst (λ (c : Action). Right Q R e.path c e.ans) i r)
         go (Begin b) i h r = went h (subst (λ (c : Action). Right Q R e.path c e.ans) i r)
         go Join i h r = join h (subst (λ (c : Action). Right Q R e.path c e.ans) i r)

@@ -205,5 +205,5 @@ pub data Alike (P : PlainProgram) : ℕ → Names → Prog ℕ Counted → Prog 
       {as' : ℕ → Prog Name LocalRegion} {k : Brought ℕ → Prog ℕ Counted} {j : Brought Name → Prog Name LocalRegion} → TasksLike ns ts ss
       → ((i : ℕ) (t : Task ℕ Counted) → slice_get ts i ≡ Some t → bs i ≡ does in_order P t)
       → ((trap : Trap) (p : Place) → k (Trap_of_branch trap p) ≡ Traps trap p) → ((ms : Names) (x : Brought ℕ) (y : Brought Name) → Later ns ms
-          → BroughtLike ms x y → Alike P c ms (k x) (j y))
+      → BroughtLike ms x y → Alike P c ms (k x) (j y))
       → Alike P c ns (Split forking ts bs k) (Split forking ss as' j)

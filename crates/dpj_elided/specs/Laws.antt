@@ -13,12 +13,13 @@ use Rattle.dpj_runs.specs.Order.{Comes, InOrder, Outcome}
 use Rattle.dpj_runs.specs.Runs.{Ended, Run, cells_of, steps_of}
 use Rattle.dpj_runs.specs.Schedules.{Finished, Greedy, Limits, Within}
 use Rattle.dpj_steps.specs.Steps.{stepped}
-use Rattle.dpj_elided.specs.Renamed.{Distinct, renamed}
+use Rattle.dpj_elided.specs.Renamed.{Distinct, HasNames, renamed}
 
--- this is the outcome of the elision, with names for its objects
+-- this is the outcome of the elision, with a name for each of its objects
 pub record IsElided (P : PlainProgram) (arg : ℤ) (L : Limits) (o : Outcome) : Type 0 where
   pub names : List Name
   pub distinct : Distinct names
+  pub named : HasNames names (elided P arg L)
   pub is : o ≡ renamed names (elided P arg L)
 
 -- a run comes out within the limits, as the elision does; or it is over a limit, and so is the elision

@@ -1,6 +1,7 @@
 //! The laws of the sequential elision, each the clause of a function that does nothing.
 
-ghost use Rattle.dpj_elided.specs.Laws.{ElisionIsLegal, ElisionIsScheduled, GreedyIsElided, GreedyOverIsLimited, NamesAreKnown, NoneCostsMoreThanElision, RunsAreElided, SchedulesAreElided};
+ghost use Rattle.dpj_elided.specs.Laws.{ElisionIsLegal, ElisionIsScheduled, GreedyIsElided, GreedyOverIsLimited, NamesAreKnown};
+ghost use Rattle.dpj_elided.specs.Laws.{NoneCostsMoreThanElision, RunsAreElided, SchedulesAreElided};
 ghost use Rattle.dpj_elided.specs.Samples.{DeterminismNeedsFree, DividesElided, SumsElided};
 
 /// The sequential elision of each typed program is one of its legal runs, with the same ending, output, steps and cells.
