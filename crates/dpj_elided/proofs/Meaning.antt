@@ -230,9 +230,6 @@ module _ (path : Path) (P : PlainProgram) where
       → FrameLike d ns f g
       → Alike P d ns (p ss f) (q ss g))
 
-  frames_around : {c : ℕ} {ns : Names} {f : FrameIn} {g : FrameOf} → FrameLike c ns f g → (around f).regions ≡ f.regions
-  frames_around h = refl
-
   entered_like : {c d : ℕ} {ns : Names} (m : PlainMember) {vs : List (Value ℕ)} {us : List (Value Name)} {rs : List (Region Counted)}
       {qs : List (Region LocalRegion)} {f : FrameIn} {g : FrameOf} → c ≡ suc d → FrameLike c ns f g → ValuesLike ns vs us → RegionsLike rs qs
       → FrameLike d ns (entered in_order m vs rs (f.left - 1)) (entered others m us qs (g.left - 1))
