@@ -103,7 +103,7 @@ module _ (P : PlainProgram) (arg : ℤ) where
 
   end_one : (q : Path) (R : Run) (ns : Names) (w v v' : Store) (s : Task) (h : Ghost) (m : ToldOf → OutOf ResultOf) (x : EndingOver ℕ) (y : Ending)
       → After P arg (begun_at q R ns) h w v → Ready P arg h v s m → replied s.work (m (told_on h.since h.made [])) ≡ Next h.since (End y)
-          → EndingLike h.names x y
+      → EndingLike h.names x y
       → v'.heap ≡ v.heap → v'.output ≡ v.output → v'.trap ≡ trap_in (End y) v.trap → v'.cells ≡ v.cells → v'.steps ≡ v.steps → v'.turns ≡ v.turns
       → v'.trap ≡ fallen x w.trap → One q R ns w v' x
   end_one q R ns w v v' s h m x y a r e like h1 h2 h3 h4 h5 h6 h7 = record {
@@ -181,7 +181,7 @@ module _ (P : PlainProgram) (arg : ℤ) where
           refl refl (sym (goes_on_end s p.1 v.trap)) refl refl refl (p.5 ∙ sym (end_falls t.work r w.trap))
       go (out.Trapped trap x v) p =
           end_one q R ns w v (record v { trap = first_of v.trap (trap, x) }) s p.0 (λ u. out.Trapped trap x u) (Trapped trap x) (Trapped trap x) p.1 p.2 refl
-              (trapped_like trap x)
+          (trapped_like trap x)
           refl refl (trap_end trap x v.trap) refl refl refl p.3
       go (Stopped n a) p = p
       go (Lost v) p = p
@@ -274,7 +274,7 @@ module _ (P : PlainProgram) (arg : ℤ) where
         resid = λ ys. ap (λ es. replied t.work (run (told (named_by p)) (does (named_by p) P t) (told_on 0 0 (reverse (answers es) ++ ys)))) (o.kept p
             (longer b) (omega arith))
             ∙ resid_next P arg p t R (λ u. bind (begins_then b (suc n) told_join u) K) (λ u. bind (begins_then (suc b) n told_join u) K) 0 made made 0
-                (Begin b) Went r.resid (λ xs. refl) ys;
+            (Begin b) Went r.resid (λ xs. refl) ys;
         holds = o.holds;
       }
 
@@ -375,9 +375,9 @@ module _ (P : PlainProgram) (arg : ℤ) where
         go (at_end t'.work (m (one_step w)))
         (one_branch ((i, b) ∷ p) (record { path = p; turns = 0; act = Begin b; ans = Went } ∷ R) ns (one_step w) t' s m (task_later l h) sims.0
         (begin_legal b (length ss) R ns w r st s there num) (begin_order b (length ss) R ns w r st s there num) (begin_greedy b
-            (length ss) R ns w r st s there num) (begin_working b (length ss) R ns w r st s there num)
+        (length ss) R ns w r st s there num) (begin_working b (length ss) R ns w r st s there num)
         (begin_begun b (length ss) R ns w r st s there num) (begin_none b (length ss) R ns w r st s there num) (begin_holds b
-            (length ss) R ns w r st s there num))
+        (length ss) R ns w r st s there num))
         (λ v x o. sim_branches hs ms sims.1 (suc b) (o.event ∷ o.before) o.names v (later_then l o.later) (next_ready b (length ss) R ns w r st s there num o)
         (upto_trans (later st) (upto_trans o.grown (later now))) next_at (next_num v x o))
       where
@@ -400,7 +400,7 @@ module _ (P : PlainProgram) (arg : ℤ) where
 
         go : (o : OutIn (EndingOver ℕ)) → PostOne ((i, b) ∷ p) (record { path = p; turns = 0; act = Begin b; ans = Went } ∷ R) ns (one_step w) o
             → ((v : Store) (x : EndingOver ℕ) (o : First b R ns w v x)
-                → PostBranches t K p i (suc b) made (o.event ∷ o.before) o.names v (length ss) (one_by_one ts ms v))
+            → PostBranches t K p i (suc b) made (o.event ∷ o.before) o.names v (length ss) (one_by_one ts ms v))
             → PostBranches t K p i b made R ns w (suc (length ss)) (bind o (λ x v. bind (one_by_one ts ms v) (λ xs u. Done (x ∷ xs) u)))
         go (Done x v) g rec = rest v x g (one_by_one ts ms v) (rec v x g)
         go (out.Trapped trap q v) g rec = g

@@ -35,6 +35,7 @@ use Rattle.dpj_runs.proofs.Mine.{test_same}
 use Rattle.dpj_elided.proofs.Worlds.{Names, Distinct, ValueLike, int_like, boolean_like, null_like, object_like, ValuesLike, no_values, more_values, LocalsLike}
 use Rattle.dpj_elided.proofs.Worlds.{no_locals, more_locals, RegionsLike, no_regions, AnswerLike, went_like, got_like, out_like, class_like, length_like}
 use Rattle.dpj_elided.proofs.Worlds.{named_like}
+use Rattle.dpj_elided.proofs.Worlds.{joined_like, fell_like}
 use Rattle.dpj_elided.proofs.Worlds.{BroughtLike, back_like, trap_like, EndingLike, returned_like, assigned_like, trapped_like, EndingsLike, no_endings}
 use Rattle.dpj_elided.proofs.Worlds.{more_endings, ResultLike, goes_on_like, returns_like}
 
@@ -214,6 +215,8 @@ read_alike out_like = none_like
 read_alike (class_like c h) = some_like null_like
 read_alike (length_like len) = some_like null_like
 read_alike (named_like n x h) = some_like null_like
+read_alike (joined_like h) = some_like null_like
+read_alike (fell_like trap p) = some_like null_like
 
 pub out_alike : {ns : Names} {a : Answer ℕ Counted} {b : Answer Name LocalRegion} → AnswerLike ns a b → is_out a ≡ is_out b
 out_alike went_like = refl
@@ -222,6 +225,8 @@ out_alike out_like = refl
 out_alike (class_like c h) = refl
 out_alike (length_like len) = refl
 out_alike (named_like n x h) = refl
+out_alike (joined_like h) = refl
+out_alike (fell_like trap p) = refl
 
 pub length_alike : {ns : Names} {a : Answer ℕ Counted} {b : Answer Name LocalRegion} → AnswerLike ns a b → length_seen a ≡ length_seen b
 length_alike went_like = refl
@@ -230,6 +235,8 @@ length_alike out_like = refl
 length_alike (class_like c h) = refl
 length_alike (length_like len) = refl
 length_alike (named_like n x h) = refl
+length_alike (joined_like h) = refl
+length_alike (fell_like trap p) = refl
 
 pub name_alike : {ns : Names} {a : Answer ℕ Counted} {b : Answer Name LocalRegion} → AnswerLike ns a b → ValueLike ns (name_made a) (name_made b)
 name_alike went_like = null_like
@@ -238,6 +245,8 @@ name_alike out_like = null_like
 name_alike (class_like c h) = null_like
 name_alike (length_like len) = null_like
 name_alike (named_like n x h) = object_like n x h
+name_alike (joined_like h) = null_like
+name_alike (fell_like trap p) = null_like
 
 -- a class with its region arguments
 pub data SeenLike : ℕ × List (Region Counted) → ℕ × List (Region LocalRegion) → Type 0 where
@@ -255,6 +264,8 @@ entered_alike parent classes c out_like = seen_like c no_regions
 entered_alike parent classes c (class_like k h) = seen_if (is_below parent classes k c) (seen_like k h) (seen_like c h)
 entered_alike parent classes c (length_like len) = seen_like c no_regions
 entered_alike parent classes c (named_like n x h) = seen_like c no_regions
+entered_alike parent classes c (joined_like h) = seen_like c no_regions
+entered_alike parent classes c (fell_like trap p) = seen_like c no_regions
 
 -- regions
 length_at : {M : Type 0} (rs : List (Region M)) (p : ℕ) → length (slice_index_or rs p []) ≡ slice_index_or (map length rs) p 0
@@ -296,7 +307,7 @@ module _ (names : Naming ℕ Counted) (others : Naming Name LocalRegion) where
     where
       at : (o : Option PlainParent) → ((p : PlainParent)
           → RegionsLike (regions_above names parent k p.class (handed_up names rs p.args) d) (regions_above others parent k p.class
-              (handed_up others qs p.args) d))
+          (handed_up others qs p.args) d))
           → RegionsLike (elim o [ None ↦ rs | Some p ↦ regions_above names parent k p.class (handed_up names rs p.args) d ])
           (elim o [ None ↦ qs | Some p ↦ regions_above others parent k p.class (handed_up others qs p.args) d ])
       at None rec = e
@@ -304,7 +315,7 @@ module _ (names : Naming ℕ Counted) (others : Naming Name LocalRegion) where
 
       go : (b : Bool) → ((p : PlainParent)
           → RegionsLike (regions_above names parent k p.class (handed_up names rs p.args) d) (regions_above others parent k p.class
-              (handed_up others qs p.args) d))
+          (handed_up others qs p.args) d))
           → RegionsLike (cond b rs (elim (parent c) [ None ↦ rs | Some p ↦ regions_above names parent k p.class (handed_up names rs p.args) d ]))
           (cond b qs (elim (parent c) [ None ↦ qs | Some p ↦ regions_above others parent k p.class (handed_up others qs p.args) d ]))
       go true rec = e
@@ -324,6 +335,17 @@ some_long_is (r ∷ rs) = ap (λ b. is_long r || b) (some_long_is rs)
 
 pub some_long_like : (rs : List (Region Counted)) (qs : List (Region LocalRegion)) → RegionsLike rs qs → some_long rs ≡ some_long qs
 some_long_like rs qs e = some_long_is rs ∙ ap (λ l. list_any (λ n. nat_lt most_parts n) l) e.lengths ∙ sym (some_long_is qs)
+
+-- what a join brings
+pub brought_alike : {ns : Names} {a : Answer ℕ Counted} {b : Answer Name LocalRegion} → AnswerLike ns a b → BroughtLike ns (brought a) (brought b)
+brought_alike went_like = back_like no_locals
+brought_alike (got_like h) = back_like no_locals
+brought_alike out_like = back_like no_locals
+brought_alike (class_like c h) = back_like no_locals
+brought_alike (length_like len) = back_like no_locals
+brought_alike (named_like n x h) = back_like no_locals
+brought_alike (joined_like h) = back_like h
+brought_alike (fell_like trap p) = trap_like trap p
 
 -- how branches join
 trap_alike : {ns : Names} {x : Ending ℕ} {y : Ending Name} (o : Option (Trap × Place)) → EndingLike ns x y → trap_of x o ≡ trap_of y o
@@ -349,17 +371,19 @@ all_locals_alike : {ns : Names} {xs : List (Ending ℕ)} {ys : List (Ending Name
 all_locals_alike no_endings = no_locals
 all_locals_alike (more_endings h k) = locals_append (locals_alike h) (all_locals_alike k)
 
-pub joined_alike : {ns : Names} {xs : List (Ending ℕ)} {ys : List (Ending Name)} → EndingsLike ns xs ys
-    → BroughtLike ns (brought {M = Counted} (joined xs)) (brought {M = LocalRegion} (joined ys))
-joined_alike {ns} {xs} {ys} h =
-    subst (λ (o : Option (Trap
-        × Place)). BroughtLike ns (brought {M = Counted} (joined xs)) (brought {M = LocalRegion} (joined_or o (all_locals ys)))) (first_trap_alike h)
+pub answer_alike : {ns : Names} {xs : List (Ending ℕ)} {ys : List (Ending Name)} → EndingsLike ns xs ys
+    → AnswerLike ns (joined {M = Counted} xs) (joined {M = LocalRegion} ys)
+answer_alike {ns} {xs} {ys} h =
+    subst (λ (o : Option (Trap × Place)). AnswerLike ns (joined {M = Counted} xs) (joined_or {M = LocalRegion} o (all_locals ys))) (first_trap_alike h)
     (go (first_trap xs))
   where
-    go : (o : Option (Trap × Place))
-        → BroughtLike ns (brought {M = Counted} (joined_or o (all_locals xs))) (brought {M = LocalRegion} (joined_or o (all_locals ys)))
-    go None = back_like (all_locals_alike h)
-    go (Some fell) = trap_like fell.0 fell.1
+    go : (o : Option (Trap × Place)) → AnswerLike ns (joined_or {M = Counted} o (all_locals xs)) (joined_or {M = LocalRegion} o (all_locals ys))
+    go None = joined_like (all_locals_alike h)
+    go (Some fell) = fell_like fell.0 fell.1
+
+pub joined_alike : {ns : Names} {xs : List (Ending ℕ)} {ys : List (Ending Name)} → EndingsLike ns xs ys
+    → BroughtLike ns (brought {M = Counted} (joined xs)) (brought {M = LocalRegion} (joined ys))
+joined_alike h = brought_alike (answer_alike h)
 
 -- how tasks end
 pub ended_alike : {c : ℕ} {ns : Names} {j k : Work} {r : Result ℕ Counted} {s : Result Name LocalRegion} → j ≡ k → ResultLike c ns r s

@@ -146,7 +146,7 @@ module _ (P : Program) {R : Run} {ns : Names} {since : ℕ} {w : Store} (h : Hol
   own_step (write_like n x i {v} {u} e k) =
       let g = h.there n x e in
       let heap : heap_after (Write n i v) w.heap ≡ slice_set w.heap n (record g.held { values = set_at g.held.values i v }) = ap
-          (λ o. heap_written w.heap n o i v) g.is_held in
+      (λ o. heap_written w.heap n o i v) g.is_held in
       record {
         answer = wrote_at (slot_of i (size g.thing));
         names = ns;

@@ -77,10 +77,10 @@ same_less k n m (Lost u) q l h = h
 
 same_bind : {V U : Type 0} (k n : ℕ) (o q : OutIn V) (i j : V → Store → OutIn U) → Same k n o q
     → ((v : V) (u : Store) → u.turns ≤ n → Same k u.turns (i v u) (j v (more k u))) → ((v : V) (u : Store) → Left u.turns (j v u))
-        → Same k n (bind o i) (bind q j)
+    → Same k n (bind o i) (bind q j)
 same_bind {V} {U} k n (Done v u) (Done x z) i j h r f =
     subst (λ (y : V). Same k n (i v u) (j y z)) h.0 (subst (λ (y : Store). Same k n (i v u) (j v y)) (sym h.1) (same_less k u.turns n (i v u) (j v
-        (more k u)) h.2 (r v u h.2)))
+    (more k u)) h.2 (r v u h.2)))
 same_bind k n (Done v u) (out.Trapped trap p z) i j h r f = absurd h
 same_bind k n (Done v u) (Stopped m a) i j h r f = absurd h
 same_bind k n (Done v u) (Lost z) i j h r f = absurd h
@@ -186,7 +186,7 @@ module _ (t b : FrameIn → Store → OutIn ResultIn) (ht : (f : FrameIn) → Fu
       go true = same_turn k w (λ w'. bind (b f w') (λ r w''. rounded (λ g v. looped n g v) r w'')) (λ w'. bind (b f w') (λ r w''. rounded
           (λ g v. looped m g v) r w''))
           (λ u lu. same_bind k u.turns (b f u) (b f (more k u)) _ _ ((hb f).same k u) (λ r z lz. same_round n m k h r z (omega arith) (omega arith))
-              (λ r z. left_round m (left_loop m) r z))
+          (λ r z. left_round m (left_loop m) r z))
           (λ u. left_bind u.turns (b f u) _ ((hb f).falls u) (λ r z. left_round m (left_loop m) r z))
 
   same_loop : (n : ℕ) → LoopSame n

@@ -13,6 +13,8 @@ mod Branches
 mod Programs
 mod Fuel
 mod Theorems
+mod Heard
+mod Known
 mod Greedy
 mod Scheduled
 mod Samples

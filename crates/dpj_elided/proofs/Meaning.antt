@@ -230,9 +230,6 @@ module _ (path : Path) (P : PlainProgram) where
       → FrameLike d ns f g
       → Alike P d ns (p ss f) (q ss g))
 
-  frames_around : {c : ℕ} {ns : Names} {f : FrameIn} {g : FrameOf} → FrameLike c ns f g → (around f).regions ≡ f.regions
-  frames_around h = refl
-
   entered_like : {c d : ℕ} {ns : Names} (m : PlainMember) {vs : List (Value ℕ)} {us : List (Value Name)} {rs : List (Region Counted)}
       {qs : List (Region LocalRegion)} {f : FrameIn} {g : FrameOf} → c ≡ suc d → FrameLike c ns f g → ValuesLike ns vs us → RegionsLike rs qs
       → FrameLike d ns (entered in_order m vs rs (f.left - 1)) (entered others m us qs (g.left - 1))
@@ -264,7 +261,7 @@ module _ (path : Path) (P : PlainProgram) where
   alike_enter {c} {ns} p q h r {vs} {us} {own} {its} {f} {g} (seen_like k {rs} {qs} m) a b w =
       alike_or (row_at P k r) (alike_gives null_like w) (λ n. alike_or (member_at P n) (alike_gives null_like w) (λ m'.
       alike_body p q h m'.body (λ d e. entered_like m' e w a (regions_append _ own _ its (regions_above_like in_order others (parent_of P)
-          (length P.classes) k rs qs m m'.class) b))
+      (length P.classes) k rs qs m m'.class) b))
       (λ d ms x y l z. alike_back (frame_later l w) z)))
 
   alike_called : {c : ℕ} {ns : Names} (p : Option DeeperIn) (q : Option DeeperOf) → DeeperLike p q c → (at : Place) (k r : ℕ) {own : List (Region Counted)}
@@ -277,7 +274,7 @@ module _ (path : Path) (P : PlainProgram) where
   alike_called (Some p) (Some q) h at k r {own} {its} n x b e a w =
       alike_cond _ _ (some_long_like own its b) (alike_traps trap.Stack at) (alike_act (look_like n x e) (λ ms y z l i.
       alike_enter p q h r (entered_alike (parent_of P) (length P.classes) k i) (more_values (object_like n x (name_later n x l e)) (values_later l a)) b
-          (frame_later l w)))
+      (frame_later l w)))
 
   alike_made : {c : ℕ} {ns : Names} (p : Option DeeperIn) (q : Option DeeperOf) → DeeperLike p q c → (at : Place) (k n : ℕ) {rs : List (Region Counted)}
       {qs : List (Region LocalRegion)} {vs : List (Value ℕ)} {us : List (Value Name)} {f : FrameIn} {g : FrameOf} → RegionsLike rs qs → ValuesLike ns vs us
@@ -339,7 +336,7 @@ module _ (path : Path) (P : PlainProgram) where
   iterations_do : (takes : Option ℕ) (x : ℕ) (s : TypedStmt) (f : FrameIn) (start : ℤ) (j m i : ℕ) (t : Task ℕ Counted)
       → slice_get (iterations takes x s f start j m) i ≡ Some t
       → does in_order P t ≡ meaning in_order P (f.left - 1) (more_stmts s no_stmts) (begun takes (record (numbered_frame x start
-          (j + i) f) { left = f.left - 1 }))
+      (j + i) f) { left = f.left - 1 }))
   iterations_do takes x s f start j zero i t e = absurd (none_some t e)
   iterations_do takes x s f start j (suc m) zero t e =
       let k : branch_of takes [] s (numbered_frame x start j f) ≡ t = cc in
@@ -377,7 +374,7 @@ module _ (path : Path) (P : PlainProgram) where
       do_iteration p q h i t e =
           at_depth p q h w (more_stmts s no_stmts) (begun takes (record (numbered_frame x start i f) { left = f.left - 1 }))
           ∙ ap (λ y. meaning in_order P (f.left - 1) (more_stmts s no_stmts) (begun takes (record (numbered_frame x start y f) { left = f.left - 1 })))
-              (zero_first i)
+          (zero_first i)
           ∙ sym (iterations_do takes x s f start 0 (how_many count) i t e)
 
       go : (p : Option DeeperIn) (q : Option DeeperOf) → DeeperLike p q c
@@ -396,7 +393,7 @@ module _ (path : Path) (P : PlainProgram) where
   alike_cobegin (Some p) None h at forking bs w = absurd h
   alike_cobegin (Some p) (Some q) h at forking bs {f} w =
       alike_split forking (branches_like bs h.1 w) (λ i t e. at_depth p q h w (branch_at bs i) (record f { left = f.left - 1 })
-          ∙ sym (branches_do bs f i t e)) (λ trap p. refl) (λ ms y z l a. alike_joined _ (frame_later l w) a)
+      ∙ sym (branches_do bs f i t e)) (λ trap p. refl) (λ ms y z l a. alike_joined _ (frame_later l w) a)
 
   alike_parts : {c : ℕ} {ns : Names} (p : Option DeeperIn) (q : Option DeeperOf) → DeeperLike p q c
       → (at : Place) (k : ℕ) (s : TypedStmt) {f : FrameIn} {g : FrameOf}
@@ -429,7 +426,7 @@ module _ (path : Path) (P : PlainProgram) where
       alike_expr (typed at t (form.call e k r regions es)) w =
           alike_then (alike_expr e w) (λ ms v u f g l m b. alike_exprs es b no_values (λ ls vs us f' g' l' ms' b'.
           alike_unless at (value_later l' m) (λ n x h. alike_called dp dq deep at k r n x (concretes in_order others (around f')
-              (around g') b'.regions regions) h (reverse_like ms') b')))
+          (around g') b'.regions regions) h (reverse_like ms') b')))
       alike_expr (typed at t (form.create es)) w =
           alike_exprs es w no_values (λ ls vs us f' g' l' ms' b'.
           alike_created dp dq deep at (class_in t).0 (concretes in_order others (around f') (around g') b'.regions (class_in t).1) (reverse_like ms') b')
@@ -494,7 +491,7 @@ module _ (path : Path) (P : PlainProgram) where
           alike_forks dp dq deep at forking None x s (number_like m) (number_like m') b'))
       alike_stmt (statement at (stmt.foreach_parts k (of_array a) count s)) w =
           alike_then (alike_expr a w) (λ ms v u f g l m b. alike_then (alike_expr count (with_like (with_like b k m) (k + 1) (int_like (pos 0))))
-              (λ ls v' u' f' g' l' m' b'.
+          (λ ls v' u' f' g' l' m' b'.
           alike_array_parts dp dq deep at k s (with_like b' (k + 3) m')))
       alike_stmt (statement at (stmt.foreach_parts k (of_part j) count s)) w =
           alike_then (alike_expr count (taken_over k j w)) (λ ms v u f g l m b.
@@ -518,11 +515,11 @@ module _ (path : Path) (P : PlainProgram) where
   does_alike {ns} {t} {s} h =
       let m = meaning_alike h.left ns t.work.stmts (begun t.work.takes t.frame) (begun s.work.takes s.frame)
       (subst (λ (o : Option ℕ). FrameLike h.left ns (begun t.work.takes t.frame) (begun o s.frame)) (ap (λ z. z.takes) h.work)
-          (begun_like t.work.takes h.frame)) in
+      (begun_like t.work.takes h.frame)) in
       subst (λ (n : ℕ). Alike P h.left ns (meaning in_order P n t.work.stmts (begun t.work.takes t.frame)) (does others P s)) (sym h.frame.left)
       (subst (λ (n : ℕ). Alike P h.left ns (meaning in_order P h.left t.work.stmts (begun t.work.takes t.frame)) (meaning others P n s.work.stmts
-          (begun s.work.takes s.frame)))
+      (begun s.work.takes s.frame)))
       (sym h.frame.left_too)
       (subst (λ (ss : TypedStmts). Alike P h.left ns (meaning in_order P h.left t.work.stmts (begun t.work.takes t.frame)) (meaning others P h.left ss
-          (begun s.work.takes s.frame)))
+      (begun s.work.takes s.frame)))
       (ap (λ z. z.stmts) h.work) m))

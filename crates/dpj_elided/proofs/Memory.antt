@@ -109,7 +109,7 @@ module _ (P : Program) where
     like = h.like;
     values = λ k. subst (λ (r : Option Value). MaybeLike ns (slice_get h.held.values k) r)
         (cell_same e R h.thing x (slot_of (pos k) (size h.thing)) (λ slot. last_quiet e R (record { object = x; slot = slot }) (q
-            (record { object = x; slot = slot }))))
+        (record { object = x; slot = slot }))))
         (h.values k);
   }
 

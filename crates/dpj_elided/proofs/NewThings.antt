@@ -67,7 +67,7 @@ pub held_thing : {ns : Names} {t : ThingIn} {s : Thing} → ThingLike ns t s →
 held_thing (an_object_like c r v) = an_object_like c r v
 held_thing (an_array_like len v) = an_array_like len v
 
-things_step : (e : Event) (es : Run) → things (e ∷ es) ≡ things es ++ made_by e.act
+pub things_step : (e : Event) (es : Run) → things (e ∷ es) ≡ things es ++ made_by e.act
 unfolding things
 things_step e es = refl
 

@@ -55,7 +55,7 @@ module _ (P : PlainProgram) (arg : ℤ) where
         → Post P arg (ResultLike c) g w t K (run sequential (k x) v)
     behind g h w v t K (Back ls) y l like lt a e r =
         post_after P arg (ResultLike c) t K (run sequential (k (Back ls)) v) a e ((hk h.names (Back ls) y l like).from h v t K
-            (later_none r.holds.distinct) lt r)
+        (later_none r.holds.distinct) lt r)
     behind g h w v t K (Trap_of_branch trap p) y l like lt a e r = done (subst (λ (q : Prog ℕ Counted). Post P arg (ResultLike c) h v t K
         (run sequential q v)) (falls trap p)
         ((hk h.names (Trap_of_branch trap p) y l like).from h v t K (later_none r.holds.distinct) lt r))
@@ -97,7 +97,7 @@ module _ (P : PlainProgram) (arg : ℤ) where
         at g w t K l lt r =
             go (one_by_one ts ms (one_step w))
             (sim_branches P arg t next g.path (count g.log g.path) g.made all_forked g.log fork refl refl refl tl ms sims 0 (fork ∷ g.log) g.names
-                (one_step w) l r1 now
+            (one_step w) l r1 now
             (λ k s e. subst (λ n. slice_get ss n ≡ Some s) (sym (zero-add k)) e) (let e = ap length (mine_same fork g.log g.path refl) in omega arith))
           where
             next : Brought Name → ToldOf → OutOf ResultOf
@@ -146,19 +146,19 @@ module _ (P : PlainProgram) (arg : ℤ) where
             go : (o : OutIn (List (EndingOver ℕ)))
                 → PostBranches P arg t (λ y v. bind (then_told y v) K) g.path (count g.log g.path) 0 g.made (fork ∷ g.log) g.names (one_step w) (length ss) o
                 → Post P arg (ResultLike c) g w t K (bind (bind o (λ xs v. Done (brought {M = Counted} (joined_in xs)) (one_step v))) (λ x v. run sequential
-                    (k x) v))
+                (k x) v))
             go (out.Trapped trap q v) h = absurd h
             go (Stopped n a) h = h
             go (Lost v) h = out_after P arg a1 h
             go (Done xs v) h =
                 behind g (noted (forked_at g.path g.made h.log h.names) g.made 0 Join (joined h.ends) h.names) w (one_step v) t K
                 (brought {M = Counted} (joined_in xs)) (brought {M = LocalRegion} (joined h.ends)) (later_then l h.later) (joined_alike h.like)
-                    (let z = h.turns in omega arith)
+                (let z = h.turns in omega arith)
                 (after_then P arg a1 (after_then P arg a2 a3)) (h.trap ∙ falls_joined xs w.trap)
                 (ready_next P arg (λ v. bind (then_told (brought {M = LocalRegion} (joined h.ends)) v) K) 0 Join (joined h.ends) g.made
-                    (one_step v) h.names join_stays h.ready refl (joins h)
+                (one_step v) h.names join_stays h.ready refl (joins h)
                 (structure_step Q h.ready.holds g.path (record { path = g.path; turns = 0; act = Join; ans = joined h.ends }) refl
-                    (λ c. refl) join_prints refl (one_step v) refl refl refl refl (omega arith))
+                (λ c. refl) join_prints refl (one_step v) refl refl refl refl (omega arith))
                 (λ ys. refl))
               where
                 a2 : After P arg (forked_at g.path g.made (fork ∷ g.log) g.names) (forked_at g.path g.made h.log h.names) (one_step w) v
@@ -176,7 +176,7 @@ module _ (P : PlainProgram) (arg : ℤ) where
 
   all_sim : (bs : ℕ → Prog ℕ Counted) → ((i : ℕ) → AllAlike (bs i)) → (ts : List (TaskOver ℕ Counted)) (j : ℕ)
       → ((k : ℕ) (t : TaskOver ℕ Counted) → slice_get ts k ≡ Some t → bs (j + k) ≡ does in_order P t)
-          → AllSim P arg ts (each_from (λ i v. run sequential (bs i) v) j ts)
+      → AllSim P arg ts (each_from (λ i v. run sequential (bs i) v) j ts)
   all_sim bs h [] j e = tt
   all_sim bs h (t ∷ ts) j e = (here, all_sim bs h ts (suc j) (λ k t q. (let n : suc j + k ≡ j + suc k = omega arith in ap bs n ∙ e (suc k) t q)))
     where

@@ -205,7 +205,7 @@ module _ (P : PlainProgram) (arg : ℤ) where
           begun = r.begun;
           asks = ask_is g.path P t (answers (mine g.log g.path))
               ∙ ap (λ l. replied t.work (run (told (named_by g.path)) (does (named_by g.path) P t) (told_on 0 0 l))) (sym (append-nil (reverse (answers
-                  (mine g.log g.path)))))
+              (mine g.log g.path)))))
               ∙ r.resid [] ∙ e;
           right = h;
         };

@@ -1,6 +1,7 @@
 -- The elision is a legal run, and all legal runs come out as it does.
 use Rattle.std.proofs.Common.{◌≡◌, ℕ, zero, suc, ◌+◌, ◌<◌, ◌≤◌, ◌⊎◌, inl, inr, ⊎_elim, ℤ, pos, Bool, true, false, cond, List, [], ◌∷◌, map, refl, sym, ap}
 use Rattle.std.proofs.Common.{◌∙◌, subst, arith, Option, Some, None, slice_get, nat_lt, ◌||◌, true≢false}
+use Rattle.std.proofs.lemmas.Option.{slice_get_within}
 use Rattle.std.proofs.lemmas.Bool.{ltb-true, lt-ltb, cases_lt}
 use Rattle.dpj_typed.specs.Plain.{PlainMember, PlainProgram}
 use Rattle.dpj_typed.specs.Scope.{member_at}
@@ -29,7 +30,7 @@ use Rattle.dpj_runs.proofs.Theorems.{each_comes_out, same_outcome}
 use Rattle.dpj_steps.specs.Steps.{first_name, named_by, stepped}
 use Rattle.dpj_elided.specs.Laws.{ComesOutAsElided, ElisionIsLegal, IsElided, NoneCostsMoreThanElision, RunsAreElided, SchedulesAreElided, in_limits}
 use Rattle.dpj_elided.specs.Laws.{over_limits}
-use Rattle.dpj_elided.specs.Renamed.{Distinct, object_named, renamed, renamed_ending, renamed_value}
+use Rattle.dpj_elided.specs.Renamed.{Distinct, EndingHasNames, HasName, HasNames, HaveNames, object_named, renamed, renamed_ending, renamed_value}
 use Rattle.dpj_elided.proofs.Worlds.{EndingLike, LocalsLike, Names, TaskLike, ThingLike, ValueLike, assigned_like, boolean_like, int_like, more_locals}
 use Rattle.dpj_elided.proofs.Worlds.{more_values, no_locals, no_regions, no_values, null_like, object_like, returned_like, trapped_like}
 use Rattle.dpj_elided.proofs.Counts.{MaybeLike, padded_like}
@@ -58,6 +59,22 @@ ending_renamed (returned_like h) = ap Returned (value_renamed h)
 ending_renamed (assigned_like h) = ap Assigned (locals_renamed h)
 ending_renamed (trapped_like trap p) = refl
 
+-- each of its objects has a name
+value_has : {ns : Names} {v : ValueOver ℕ} {u : Value} → ValueLike ns v u → HasName ns v
+value_has (int_like k) = tt
+value_has (boolean_like b) = tt
+value_has null_like = tt
+value_has {ns} (object_like n x h) = slice_get_within ns n x h
+
+locals_have : {ns : Names} {vs : List (ℕ × ValueOver ℕ)} {us : List (ℕ × Value)} → LocalsLike ns vs us → HaveNames ns vs
+locals_have no_locals = tt
+locals_have (more_locals x h k) = (value_has h, locals_have k)
+
+ending_has : {ns : Names} {x : EndingOver ℕ} {y : Ending} → EndingLike ns x y → EndingHasNames ns x
+ending_has (returned_like h) = value_has h
+ending_has (assigned_like h) = locals_have h
+ending_has (trapped_like trap p) = tt
+
 -- the root's end is its first trap
 end_is_first : {ns : Names} {x : EndingOver ℕ} {y : Ending} → EndingLike ns x y → ending_of (fallen x None) y ≡ y
 end_is_first (returned_like h) = refl
@@ -79,14 +96,14 @@ module _ (P : PlainProgram) (arg : ℤ) where
   abbrev first_names : Names
   first_names = first_name ∷ []
 
-  one_name : Distinct first_names
+  pub one_name : Distinct first_names
   one_name = record { one = λ n m x h k. zero_is n x h ∙ sym (zero_is m x k) }
     where
       zero_is : (n : ℕ) (x : Name) → slice_get (first_name ∷ []) n ≡ Some x → n ≡ 0
       zero_is zero x h = refl
       zero_is (suc n) x h = absurd (let k : None ≡ Some x = h in cc)
 
-  root_like : TaskLike first_names (root_task in_order P 0 arg) (root_task (named_by []) P first_name arg)
+  pub root_like : TaskLike first_names (root_task in_order P 0 arg) (root_task (named_by []) P first_name arg)
   root_like = at (member_at P P.main_member)
     where
       at : (o : Option PlainMember) → TaskLike first_names (enters_main in_order 0 arg o) (enters_main (named_by []) first_name arg o)
@@ -107,7 +124,7 @@ module _ (P : PlainProgram) (arg : ℤ) where
         };
       }
 
-  main_like : ThingLike first_names (main_object P) QP.object
+  pub main_like : ThingLike first_names (main_object P) QP.object
   main_like = object_alike P P.main_class no_regions
 
   stands_first : (n : ℕ) → Stands QP [] first_names (at_start P n).heap 0 first_name
@@ -204,6 +221,8 @@ module _ (P : PlainProgram) (arg : ℤ) where
             (record {
               names = o.names;
               distinct = o.holds.distinct;
+              named = subst (HasNames o.names)
+                  (sym (e ∙ (λ z. cond (ea z || eb z) (Limited L.steps L.cells) (Came x v.output v.steps v.cells)))) (ending_has o.like);
               is = sym (ap (renamed o.names) (e ∙ (λ z. cond (ea z || eb z) (Limited L.steps L.cells) (Came x v.output v.steps v.cells))));
             })
 
@@ -216,9 +235,14 @@ module _ (P : PlainProgram) (arg : ℤ) where
   comes_out L (Done x v) q e s a b = (a.event ∷ a.before, a.legal, a.order, a.greedy, done_judged (suc L.steps) a L e)
   comes_out L (out.Trapped trap p v) q e s a b = absurd a
   comes_out L (Stopped n c) q e s a b = absurd a
-  comes_out L (Lost v) (Done x u) e s a b =
-      (b.event ∷ b.before, b.legal, b.order, b.greedy, over_limits (λ w. (let i = w.steps in let j = steps_are
-          (suc L.steps + most_turns) b in let k = b.spent in let m = s in omega arith)) e)
+  comes_out L (Lost v) (Done x u) e s a b = (
+    b.event ∷ b.before,
+    b.legal,
+    b.order,
+    b.greedy,
+    over_limits (λ w. (let i = w.steps in let j = steps_are
+        (suc L.steps + most_turns) b in let k = b.spent in let m = s in omega arith)) e,
+  )
   comes_out L (Lost v) (out.Trapped trap p u) e s a b = absurd b
   comes_out L (Lost v) (Stopped n c) e s a b = absurd b
   comes_out L (Lost v) (Lost u) e s a b = (
@@ -260,7 +284,7 @@ starts_within P L R w = record {
     none_entered = ap entry_step (mine_nil [])
 
 pub limited : (P : PlainProgram) (arg : ℤ) (L : Limits) → elided P arg L ≡ Limited L.steps L.cells → IsElided P arg L (Limited L.steps L.cells)
-limited P arg L e = record { names = []; distinct = record { one = λ n m x h k. absurd (let z : None ≡ Some x = h in cc) }; is = ap (renamed []) (sym e) }
+limited P arg L e = record { names = []; distinct = record { one = λ n m x h k. absurd (let z : None ≡ Some x = h in cc) }; named = subst (HasNames []) (sym e) tt; is = ap (renamed []) (sym e) }
 
 module _ (P : PlainProgram) (arg : ℤ) (free : AllFree (stepped P arg)) (L : Limits) where
   abbrev QF : Program
@@ -276,7 +300,7 @@ module _ (P : PlainProgram) (arg : ℤ) (free : AllFree (stepped P arg)) (L : Li
   as_elided R x S l g m (in_limits o c w i) =
       let r = each_comes_out QF R x l g in
       let same : r.0 ≡ o = same_outcome QF DF R S r.0 o l m (free R l) (free S m) r.1 c in
-      in_limits r.0 r.1 (none_over QF DF free L S R c.end m w c.ended l) (record { names = i.names; distinct = i.distinct; is = same ∙ i.is })
+      in_limits r.0 r.1 (none_over QF DF free L S R c.end m w c.ended l) (record { names = i.names; distinct = i.distinct; named = i.named; is = same ∙ i.is })
   as_elided R x S l g m (over_limits n e) = over_limits (λ w. n (none_over QF DF free L R S x l w g m)) e
 
   finished_elided : (ks : List ℕ) (o : Outcome) → Finished QF L ks o → IsElided P arg L o
@@ -286,7 +310,7 @@ module _ (P : PlainProgram) (arg : ℤ) (free : AllFree (stepped P arg)) (L : Li
       at (in_limits q d w i) =
           let l = ran_legal QF L ks R r in
           let same : o ≡ q = same_outcome QF DF R R o q l l (free R l) (free R l) c d in
-          record { names = i.names; distinct = i.distinct; is = same ∙ i.is }
+          record { names = i.names; distinct = i.distinct; named = i.named; is = same ∙ i.is }
       at (over_limits n e) = absurd (n (ran_within QF L ks R r))
   finished_elided _ _ (over k ks R e r ready n) = at E.4
     where

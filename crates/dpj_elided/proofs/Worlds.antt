@@ -8,7 +8,7 @@ use Rattle.dpj_typed.specs.declared.stmt.Forking.{Forking}
 use Rattle.dpj_typed.specs.Plain.{PlainProgram}
 use Rattle.dpj_meaning.specs.Values.{Value, Int, Boolean, Null, Object, Region, Thing, An_object, An_array}
 use Rattle.dpj_meaning.specs.Actions.{Frame, Task, Ending, Returned, Assigned, Trapped, Own, Rest, Read, Write, Look, New, Print, Enter, Exit, Effect}
-use Rattle.dpj_meaning.specs.Actions.{Answer, Went, Got, Out, Class, Length, Named}
+use Rattle.dpj_meaning.specs.Actions.{Answer, Went, Got, Out, Class, Length, Named, Joined, Fell}
 use Rattle.dpj_meaning.specs.Core.{Result, Goes_on, Returns, Prog, Ret, Traps, Act, Makes, Again, Split}
 use Rattle.dpj_meaning.specs.Counts.{Brought, Back, Trap_of_branch}
 use Rattle.dpj_meaning.specs.Asking.{does}
@@ -148,6 +148,8 @@ pub data AnswerLike (ns : Names) : Answer ℕ Counted → Answer Name LocalRegio
   class_like : (c : ℕ) {rs : List (Region Counted)} {qs : List (Region LocalRegion)} → RegionsLike rs qs → AnswerLike ns (Class c rs) (Class c qs)
   length_like : (len : ℕ) → AnswerLike ns (Length len) (Length len)
   named_like : (n : ℕ) (x : Name) → slice_get ns n ≡ Some x → AnswerLike ns (Named n) (Named x)
+  joined_like : {vs : List (ℕ × Value ℕ)} {us : List (ℕ × Value Name)} → LocalsLike ns vs us → AnswerLike ns (Joined vs) (Joined us)
+  fell_like : (trap : Trap) (p : Place) → AnswerLike ns (Fell trap p) (Fell trap p)
 
 pub data BroughtLike (ns : Names) : Brought ℕ → Brought Name → Type 0 where
   back_like : {vs : List (ℕ × Value ℕ)} {us : List (ℕ × Value Name)} → LocalsLike ns vs us → BroughtLike ns (Back vs) (Back us)
@@ -203,5 +205,5 @@ pub data Alike (P : PlainProgram) : ℕ → Names → Prog ℕ Counted → Prog 
       {as' : ℕ → Prog Name LocalRegion} {k : Brought ℕ → Prog ℕ Counted} {j : Brought Name → Prog Name LocalRegion} → TasksLike ns ts ss
       → ((i : ℕ) (t : Task ℕ Counted) → slice_get ts i ≡ Some t → bs i ≡ does in_order P t)
       → ((trap : Trap) (p : Place) → k (Trap_of_branch trap p) ≡ Traps trap p) → ((ms : Names) (x : Brought ℕ) (y : Brought Name) → Later ns ms
-          → BroughtLike ms x y → Alike P c ms (k x) (j y))
+      → BroughtLike ms x y → Alike P c ms (k x) (j y))
       → Alike P c ns (Split forking ts bs k) (Split forking ss as' j)

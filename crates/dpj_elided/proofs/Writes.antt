@@ -89,7 +89,7 @@ module _ (P : Program) {R : Run} {ns : Names} {heap : Heap} (d : Distinct ns) {n
           subst (λ (o : Option ValueIn). MaybeLike ns o (cell_value (wrote ∷ R) h.thing x (slot_of (pos k) (size h.thing))))
           (sym (ap (λ z. slice_get (set_at h.held.values z v) k) ij ∙ g))
           (subst (λ (r : Option Value). MaybeLike ns (slice_get h.held.values k) r) (same (slot_of (pos k) (size h.thing)) (slot_here (nat_lt k
-              (size h.thing)))) (h.values k))
+          (size h.thing)))) (h.values k))
         where
           slot_here : (b : Bool) → (s : ℕ) → cond b (Some k) None ≡ Some s → s ≡ k
           slot_here true s e = let z : Some k ≡ Some s = e in let y : k ≡ s = cc in sym y
@@ -127,7 +127,7 @@ module _ (P : Program) {R : Run} {ns : Names} {heap : Heap} (d : Distinct ns) {n
           last_is : last_written (wrote ∷ R) (record { object = x; slot = s }) ≡ Some u
           last_is = last_step wrote R (record { object = x; slot = s })
               ∙ (λ z. first_some (unless_out (went z) (cond-true (is_cell x i (record { object = x; slot = s })) (Some u) None here z)) (last_written R
-                  (record { object = x; slot = s })))
+              (record { object = x; slot = s })))
 
           now_it : cell_value (wrote ∷ R) h.thing x (Some s) ≡ Some u
           now_it = ap (λ o. Some (or_else o (first_value h.thing s))) last_is
@@ -164,14 +164,14 @@ module _ (P : Program) {R : Run} {ns : Names} {heap : Heap} (d : Distinct ns) {n
         like = g.like;
         values = λ k. subst (λ (r : Option Value). MaybeLike ns (slice_get g.held.values k) r)
             (other_value g.thing y (slot_of (pos k) (size g.thing)) (λ j. cell_not y (λ xy. ne (d.one n m x at (my
-                ∙ ap (λ z. Some z) (sym xy)))) j)) (g.values k);
+            ∙ ap (λ z. Some z) (sym xy)))) j)) (g.values k);
       }
 
   pub unwritten_still : ((c : Cell) → thing_of P R c.object ≡ None → last_written R c ≡ None) → (c : Cell) → thing_of P (wrote ∷ R) c.object ≡ None
       → last_written (wrote ∷ R) c ≡ None
   unwritten_still f c e =
       last_not c (cell_is c (λ xy. (let z : None ≡ Some h.thing = sym e ∙ ap (λ z. thing_of P (wrote ∷ R) z) (sym xy)
-          ∙ thing_later P x h.thing (later now) h.is_thing in cc)))
+      ∙ thing_later P x h.thing (later now) h.is_thing in cc)))
       ∙ f c (still_none P wrote R c.object e)
     where
       cell_is : (c : Cell) → (x ≡ c.object → ⊥) → is_cell x i c ≡ false

@@ -7,17 +7,19 @@ use Rattle.dpj_meaning.specs.Outcomes.{Came as CameIn, Limited as LimitedIn}
 use Rattle.dpj_runs.specs.Actions.{Ending}
 use Rattle.dpj_runs.specs.Blocks.{Legal}
 use Rattle.dpj_runs.specs.Laws.{AllFree}
+use Rattle.dpj_runs.specs.Meaning.{Known}
 use Rattle.dpj_runs.specs.Objects.{Name}
 use Rattle.dpj_runs.specs.Order.{Comes, InOrder, Outcome}
 use Rattle.dpj_runs.specs.Runs.{Ended, Run, cells_of, steps_of}
 use Rattle.dpj_runs.specs.Schedules.{Finished, Greedy, Limits, Within}
 use Rattle.dpj_steps.specs.Steps.{stepped}
-use Rattle.dpj_elided.specs.Renamed.{Distinct, renamed}
+use Rattle.dpj_elided.specs.Renamed.{Distinct, HasNames, renamed}
 
--- this is the outcome of the elision, with names for its objects
+-- this is the outcome of the elision, with a name for each of its objects
 pub record IsElided (P : PlainProgram) (arg : ℤ) (L : Limits) (o : Outcome) : Type 0 where
   pub names : List Name
   pub distinct : Distinct names
+  pub named : HasNames names (elided P arg L)
   pub is : o ≡ renamed names (elided P arg L)
 
 -- a run comes out within the limits, as the elision does; or it is over a limit, and so is the elision
@@ -60,3 +62,7 @@ SchedulesAreElided = (P : PlainProgram) (arg : ℤ) → AllFree (stepped P arg) 
 abbrev pub NoneCostsMoreThanElision : Type 0
 NoneCostsMoreThanElision = (P : PlainProgram) (arg : ℤ) → AllFree (stepped P arg) → (L : Limits) (x : EndingOf ℕ) (output : List ℕ) (steps cells : ℕ)
     → elided P arg L ≡ CameIn x output steps cells → (R : Run) → Legal (stepped P arg) R → (steps_of R ≤ steps) × (cells_of (stepped P arg) R ≤ cells)
+
+-- in a legal run of any typed program, what a task next acts on is there
+abbrev pub NamesAreKnown : Type 0
+NamesAreKnown = (P : PlainProgram) (arg : ℤ) → Known (stepped P arg)

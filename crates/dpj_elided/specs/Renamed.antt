@@ -1,5 +1,5 @@
 -- The elision numbers objects as they are made, and a run names them by their makers: its outcome with such names.
-use Rattle.std.specs.Prelude.{ℕ, ◌≡◌, List, map, Option, Some, None, slice_get}
+use Rattle.std.specs.Prelude.{ℕ, ◌≡◌, ◌<◌, List, [], ◌∷◌, length, map, Option, Some, None, slice_get}
 use Rattle.dpj_meaning.specs.Actions.{Ending, Returned, Assigned, Trapped}
 use Rattle.dpj_meaning.specs.Outcomes.{Outcome, Came, Limited}
 use Rattle.dpj_meaning.specs.Values.{Value, Int, Boolean, Null, Object}
@@ -9,6 +9,27 @@ use Rattle.dpj_runs.specs.Objects.{Name}
 pub record Distinct (names : List Name) : Type 0 where
   pub one : (n m : ℕ) (x : Name) → slice_get names n ≡ Some x → slice_get names m ≡ Some x → n ≡ m
 
+-- each object of an outcome has a name
+abbrev pub HasName : List Name → Value ℕ → Type 0
+HasName names (Object n) = n < length names
+HasName names (Int k) = Unit {0}
+HasName names (Boolean b) = Unit {0}
+HasName names Null = Unit {0}
+
+abbrev pub HaveNames : List Name → List (ℕ × Value ℕ) → Type 0
+HaveNames names [] = Unit {0}
+HaveNames names (l ∷ ls) = HasName names l.1 × HaveNames names ls
+
+abbrev pub EndingHasNames : List Name → Ending ℕ → Type 0
+EndingHasNames names (Returned v) = HasName names v
+EndingHasNames names (Assigned ls) = HaveNames names ls
+EndingHasNames names (Trapped trap place) = Unit {0}
+
+abbrev pub HasNames : List Name → Outcome ℕ → Type 0
+HasNames names (Came x output steps cells) = EndingHasNames names x
+HasNames names (Limited steps cells) = Unit {0}
+
+-- and with these
 abbrev pub object_named : Option Name → Value Name
 object_named None = Null
 object_named (Some x) = Object x

@@ -1,6 +1,7 @@
 //! The laws of the sequential elision, each the clause of a function that does nothing.
 
-ghost use Rattle.dpj_elided.specs.Laws.{ElisionIsLegal, ElisionIsScheduled, GreedyIsElided, GreedyOverIsLimited, NoneCostsMoreThanElision, RunsAreElided, SchedulesAreElided};
+ghost use Rattle.dpj_elided.specs.Laws.{ElisionIsLegal, ElisionIsScheduled, GreedyIsElided, GreedyOverIsLimited, NamesAreKnown};
+ghost use Rattle.dpj_elided.specs.Laws.{NoneCostsMoreThanElision, RunsAreElided, SchedulesAreElided};
 ghost use Rattle.dpj_elided.specs.Samples.{DeterminismNeedsFree, DividesElided, SumsElided};
 
 /// The sequential elision of each typed program is one of its legal runs, with the same ending, output, steps and cells.
@@ -22,6 +23,11 @@ pub fn law_determinism()
     ensures runs { RunsAreElided }
     ensures schedules { SchedulesAreElided }
     ensures cost { NoneCostsMoreThanElision }
+{}
+
+/// In every legal run, whatever the order, a task acts on objects that are there.
+pub fn law_names()
+    ensures known { NamesAreKnown }
 {}
 
 /// Of small programs the laws say how they come out; and where branches conflict determinism fails.
