@@ -1,8 +1,6 @@
 -- Grounds that are alike in what a scope speaks of: its types have the same values, and its frames fit both.
-use Rattle.std.proofs.Common.{◌≡◌, ◌≢◌, ◌<◌, ◌↔◌, ⊎_elim, inl, inr, ℕ, ℤ, zero, suc, ◌+◌, pos, Bool, true, false, cond, ◌==◌, List, [], ◌∷◌, ◌++◌, map, length, refl, sym, ap, ◌∙◌, subst, arith, Option, Some, None, IsTrue, slice_set, slice_index_or}
-use Rattle.std.specs.Prelude.{All}
-use Rattle.std.proofs.lemmas.List.{get_or-set_same, get_or-set_other, length-set}
-use Rattle.std.proofs.lemmas.Bool.{cases_Bool, eqb-true, eq-eqb, eqb-false, cond-true, cond-false, false≢true}
+use Rattle.std.proofs.Common.{◌≡◌, ◌≢◌, ◌<◌, ℕ, ℤ, zero, suc, ◌+◌, false, List, [], length, refl, sym, ap, ◌∙◌, subst, arith, Some, IsTrue, slice_set}
+use Rattle.std.proofs.lemmas.List.{get_or-set_same, get_or-set_other}
 use Rattle.dpj_base.specs.declared.effect.Constraint.{Constraint}
 use Rattle.dpj_base.specs.declared.elems.Elem.{Elem}
 use Rattle.dpj_base.specs.declared.elems.Elem.TheVariants.{Name, At, Any, Star, Local}
@@ -20,12 +18,12 @@ use Rattle.dpj_meaning.specs.Counts.{number, slot_value}
 use Rattle.dpj_regions.specs.Laws.{AgreeOn}
 use Rattle.dpj_regions.proofs.Reading.{matches_by_what_occurs}
 use Rattle.dpj_runs.specs.Objects.{Value}
-use Rattle.dpj_sound.specs.Grounds.{Places, Ground, region_in, env_of, local_code, behind_own, under}
+use Rattle.dpj_sound.specs.Grounds.{Ground, region_in, env_of, local_code, behind_own, under}
 use Rattle.dpj_sound.specs.Shapes.{Shapes, SameIn, FitsIn}
-use Rattle.dpj_sound.specs.Frames.{PartFits, LocalFits}
-use Rattle.dpj_sound.specs.Scopes.{InScope, PathInScope, TypeInScope, LocalInScope, GoodScope}
+use Rattle.dpj_sound.specs.Frames.{LocalFits}
+use Rattle.dpj_sound.specs.Scopes.{InScope, PathInScope, TypeInScope, LocalInScope}
 use Rattle.dpj_sound.proofs.Closed.{put_agree}
-use Rattle.dpj_sound.proofs.Types.{match_same, fits_same, same_refl}
+use Rattle.dpj_sound.proofs.Types.{match_same, fits_same}
 
 -- environments that agree on what is in scope, with so many array types around
 pub record EnvAlike (L : Scope) (depth : ℕ) (env other : Env) : Type 0 where
@@ -79,9 +77,10 @@ alike_same L depth env other g void s = tt
 alike_same L depth env other g null s = tt
 alike_same L depth env other g (class c args) s =
     (refl, λ rs. (match_same env other args (λ k x l. alike_matches L depth env other g _ (s k x l)) rs, match_same other env args (λ k x l. alike_matches L depth other env (alike_back g) _ (s k x l)) rs))
-alike_same L depth env other g (array t a named) s =
-    (λ k r. (alike_matches L (suc depth) (under k env) (under k other) (alike_under k g) a s.0 r, alike_matches L (suc depth) (under k other) (under k env) (alike_back (alike_under k g)) a s.0 r),
-     λ k. alike_same L (suc depth) (under k env) (under k other) (alike_under k g) t s.1)
+alike_same L depth env other g (array t a named) s = (
+  λ k r. (alike_matches L (suc depth) (under k env) (under k other) (alike_under k g) a s.0 r, alike_matches L (suc depth) (under k other) (under k env) (alike_back (alike_under k g)) a s.0 r),
+  λ k. alike_same L (suc depth) (under k env) (under k other) (alike_under k g) t s.1,
+)
 
 -- grounds that agree on what is in scope
 pub record Alike (L : Scope) (g k : Ground) : Type 0 where
@@ -109,7 +108,8 @@ local_alike P S L g k a vs x (variable t) e s f = fits_alike P S L g k a t s (sl
 local_alike P S L g k a vs x (frozen t) e s f = fits_alike P S L g k a t s (slot_value vs x) f
 local_alike P S L g k a vs x (constant t) e s f = fits_alike P S L g k a t s (slot_value vs x) f
 local_alike P S L g k a vs x (part t b) e s f = record {
-  no_index = f.no_index; none_mentioned = f.none_mentioned;
+  no_index = f.no_index;
+  none_mentioned = f.none_mentioned;
   array = fits_alike P S L g k a (array t b false) s (slot_value vs x) f.array;
   len = f.len;
   places = sym (a.part x t b e) ∙ f.places;
@@ -136,7 +136,8 @@ local_kept P S g vs z v x (part t a) ne np f =
     let e1 = sym (set_other vs z (x + 1) v n.0) in
     let e2 = sym (set_other vs z (x + 2) v n.1) in
     record {
-      no_index = f.no_index; none_mentioned = f.none_mentioned;
+      no_index = f.no_index;
+      none_mentioned = f.none_mentioned;
       array = subst (FitsIn P S (env_of g) (array t a false)) e0 f.array;
       len = subst (FitsIn P S (env_of g) int) e2 f.len;
       places = f.places ∙ (λ i. record { array = e0 i; first = number (e1 i); len = number (e2 i) });

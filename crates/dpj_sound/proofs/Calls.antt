@@ -1,5 +1,5 @@
 -- Calls and creations are in order, where the bodies that they enter are.
-use Rattle.std.proofs.Common.{◌≡◌, ◌<◌, ⊎_elim, inl, inr, ℕ, zero, suc, ◌-◌, Bool, true, false, cond, List, [], ◌∷◌, ◌++◌, map, length, refl, sym, ap, ◌∙◌, subst, arith, Option, Some, None, IsTrue, slice_get, slice_index_or}
+use Rattle.std.proofs.Common.{◌≡◌, inl, inr, ℕ, zero, suc, ◌-◌, true, false, List, [], ◌∷◌, ◌++◌, map, length, refl, sym, ap, ◌∙◌, subst, arith, Option, Some, None, IsTrue, slice_get, slice_index_or}
 use Rattle.std.specs.Prelude.{All, option_and_then}
 use Rattle.std.specs.List.{AllZip}
 use Rattle.std.proofs.lemmas.List.{length-map, append-nil}
@@ -10,13 +10,12 @@ use Rattle.dpj_base.specs.declared.region.Rpl.{Rpl}
 use Rattle.dpj_base.specs.declared.value.Trap.TheVariants as trap
 use Rattle.dpj_base.specs.Matching.{Env, IsEnv, Holds}
 use Rattle.dpj_base.specs.Regions.{fully_specified}
-use Rattle.dpj_base.specs.Types.{PlainType, void, class, type_with}
+use Rattle.dpj_base.specs.Types.{PlainType, class, type_with}
 use Rattle.dpj_typed.specs.Effects.{summary_with}
 use Rattle.dpj_typed.specs.Plain.{PlainProgram, PlainClass, PlainMember}
 use Rattle.dpj_typed.specs.Scope.{Scope, class_at, member_at, row_at, constructor_of, parent_of, Above}
-use Rattle.dpj_typed.specs.Statements.{all_complete}
-use Rattle.dpj_typed.specs.Table.{GoodMember, IsConstructor}
-use Rattle.dpj_typed.specs.Types.{GoodPath, GoodArgs, Known, Readable}
+use Rattle.dpj_typed.specs.Table.{IsConstructor}
+use Rattle.dpj_typed.specs.Types.{GoodArgs, Known, Readable}
 use Rattle.dpj_typed.specs.WellTyped.{WellTyped}
 use Rattle.dpj_meaning.specs.Core.{Goes_on, Returns, Traps, Act, on}
 use Rattle.dpj_meaning.specs.Counts.{class_seen, class_entered, name_made, is_below}
@@ -30,7 +29,6 @@ use Rattle.dpj_sound.specs.Grounds.{Ground, ArePlain, env_of, class_ground, clas
 use Rattle.dpj_sound.specs.Shapes.{object, Shapes, Grows, Is, same, AllMatch, GoodObject, Instance, FitsIn}
 use Rattle.dpj_sound.specs.Accesses.{Bounds, Within}
 use Rattle.dpj_sound.specs.Frames.{Frame, State, Since, FrameFits}
-use Rattle.dpj_sound.specs.Scopes.{PathInScope}
 use Rattle.dpj_sound.specs.Work.{Result, Prog, InOrder}
 use Rattle.dpj_sound.specs.Laws.{Deeper, Leaves, DeeperInOrder}
 use Rattle.dpj_sound.proofs.Codes.{ground_env, unmade_one}
@@ -39,12 +37,12 @@ use Rattle.dpj_sound.proofs.Classes.{all_get, stands_args, good_is, env_alone}
 use Rattle.dpj_sound.proofs.Chains.{is_below_it, regions_are, above_match}
 use Rattle.dpj_sound.proofs.Effects.{body_lies, lies_up}
 use Rattle.dpj_sound.proofs.Entering.{given_holds, scope, body_good, entered_fits}
-use Rattle.dpj_sound.proofs.Expressions.{order_unless, order_cond, order_trap}
+use Rattle.dpj_sound.proofs.Expressions.{order_cond, order_trap}
 use Rattle.dpj_sound.proofs.Frames.{frame_since, frame_env}
 use Rattle.dpj_sound.proofs.InScope.{paths_alone, good_path}
 use Rattle.dpj_sound.proofs.Making.{put, args_plain, args_match, made_good, order_new}
 use Rattle.dpj_sound.proofs.Members.{full_arguments, MemberAt, row_there, same_member, Signature, signature_at, RowAt, row_is, plain_both}
-use Rattle.dpj_sound.proofs.Work.{since_now, since_since, since_after, order_on, order_ret}
+use Rattle.dpj_sound.proofs.Work.{since_since, since_after, order_on, order_ret}
 
 match_both : (env : Env) (as' bs : List Rpl) (rs qs : List Region) → AllMatch env as' rs → AllMatch env bs qs → AllMatch env (as' ++ bs) (rs ++ qs)
 match_both env [] bs [] qs m n = n
@@ -319,6 +317,6 @@ module _ (P : PlainProgram) (wt : WellTyped P) (b : Bounds) (L : Scope) (g : Gro
       go (Some deeper) dd =
           order_new P wt b L g st f ff R c k args true (λ a. constructed at c (map (put P wt b L g st f ff) args) vs f deeper (member_at P n) a) e ga fu
           (λ o h s i shape. subst (λ z. InOrder P b R h (constructed at c (map (put P wt b L g st f ff) args) vs f deeper z (Named o))) (sym there)
-              (constructor_order deeper dd R st f ff c n k m args vs e ga fu kn there h s o i shape (made_good P wt b L g st f ff c k args e ga fu)
-              (actuals_grow P st.shapes h.shapes s.grows (env_of g) (map (type_with args) m.formals) vs fits) (subst (λ z. Within b z g (summary_with args m.summary)) (sym s.entries) w)
-              (λ u s' . next (Object o) u (since_since s s') (instance_grows P h.shapes u.shapes s'.grows (env_of g) c args o i))))
+          (constructor_order deeper dd R st f ff c n k m args vs e ga fu kn there h s o i shape (made_good P wt b L g st f ff c k args e ga fu)
+          (actuals_grow P st.shapes h.shapes s.grows (env_of g) (map (type_with args) m.formals) vs fits) (subst (λ z. Within b z g (summary_with args m.summary)) (sym s.entries) w)
+          (λ u s'. next (Object o) u (since_since s s') (instance_grows P h.shapes u.shapes s'.grows (env_of g) c args o i))))

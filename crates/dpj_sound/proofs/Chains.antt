@@ -1,31 +1,28 @@
 -- Chains of superclasses: they are no longer than there are classes, and what they make of regions and of region arguments.
-use Rattle.std.proofs.Common.{◌≡◌, ◌<◌, ◌≤◌, ⊎_elim, inl, inr, ℕ, zero, suc, ◌+◌, ◌==◌, eqb, Bool, true, false, cond, List, [], ◌∷◌, ◌++◌, map, length, refl, sym, ap, ◌∙◌, subst, arith, Option, Some, None, IsTrue, slice_get, slice_index_or}
-use Rattle.std.specs.Prelude.{All, option_and_then, pos, ◌||◌}
-use Rattle.std.specs.List.{AllByRecursion, IsDistinct, AllZip, list_any}
-use Rattle.std.proofs.lemmas.List.{length-map, append-nil}
-use Rattle.std.proofs.lemmas.List.Elements.{All-head, All-tail, All-map, All-append}
+use Rattle.std.proofs.Common.{◌≡◌, ◌<◌, ◌≤◌, ⊎_elim, ℕ, zero, suc, ◌==◌, eqb, Bool, true, false, List, [], ◌∷◌, map, length, refl, sym, ap, ◌∙◌, subst, arith, Some, None, IsTrue}
+use Rattle.std.specs.Prelude.{All, pos, ◌||◌}
+use Rattle.std.specs.List.{AllByRecursion, IsDistinct, list_any}
+use Rattle.std.proofs.lemmas.List.Elements.{All-head, All-tail, All-map}
 use Rattle.std.proofs.lemmas.Bool.{cases_Bool, false≢true, eqb-true, eq-eqb, cond-true, cond-false, false_from_ne_true}
 use Rattle.std.proofs.lemmas.Map.Steps.{length-le_from_distinct_below}
 use Rattle.std.proofs.lemmas.Option.{option_and_then_some, slice_get_within}
-use Rattle.dpj_base.specs.declared.region.Head.TheVariants.{Param}
 use Rattle.dpj_base.specs.declared.region.Rpl.{Rpl}
-use Rattle.dpj_base.specs.Matching.{Env, put_in}
-use Rattle.dpj_base.specs.Regions.{fully_specified, argument, substituted}
+use Rattle.dpj_base.specs.Matching.{Env}
+use Rattle.dpj_base.specs.Regions.{fully_specified, substituted}
 use Rattle.dpj_typed.specs.Plain.{PlainProgram, PlainClass, PlainParent}
 use Rattle.dpj_typed.specs.Scope.{class_at, parent_of, Above, itself, through_parent, IsBelow}
 use Rattle.dpj_typed.specs.Scope.{IsBelow as below_case}
-use Rattle.dpj_typed.specs.Table.{Extends}
 use Rattle.dpj_typed.specs.WellTyped.{WellTyped}
 use Rattle.dpj_meaning.specs.Counts.{is_below}
 use Rattle.dpj_meaning.specs.Regions.{regions_above, concrete}
-use Rattle.dpj_regions.proofs.Putting.{specified_matches_one, substitution_puts_in}
+use Rattle.dpj_regions.proofs.Putting.{specified_matches_one}
 use Rattle.dpj_runs.specs.Objects.{Path, Region}
 use Rattle.dpj_steps.specs.Steps.{named_by}
-use Rattle.dpj_sound.specs.Grounds.{elems_of, class_env, region_in}
+use Rattle.dpj_sound.specs.Grounds.{class_env}
 use Rattle.dpj_sound.specs.Shapes.{regions_of_parent, Is, same, up, AllMatch, GoodObject}
-use Rattle.dpj_sound.proofs.Closed.{ClosedPath, closed_put}
+use Rattle.dpj_sound.proofs.Closed.{ClosedPath}
 use Rattle.dpj_sound.proofs.Types.{NoOwn, Stands, path_up}
-use Rattle.dpj_sound.proofs.Classes.{path_alone, class_concrete, alone_put, arguments_alone, stands_args, parent_extends, parent_closed, good_parent}
+use Rattle.dpj_sound.proofs.Classes.{path_alone, class_concrete, alone_put, stands_args, parent_extends, parent_closed, good_parent}
 
 module _ (P : PlainProgram) (wt : WellTyped P) where
   -- a superclass has a lower rank
@@ -132,7 +129,8 @@ module _ (P : PlainProgram) (wt : WellTyped P) where
           AllMatch env (map (substituted args) ps) (map (λ a. concrete (named_by []) (record { values = []; regions = rs; locals = [] }) a) ps)
       matched s [] cl fu = tt
       matched {n} s (b ∷ ps) cl fu =
-          let c0 = All-head (ClosedPath n 0) b ps cl in
-          (path_up n 0 env (class_env rs) args s b c0 _
-          ((specified_matches_one (class_env rs) b (All-head (λ a. IsTrue (fully_specified a)) b ps fu) _).1 (class_concrete n rs b c0)),
-          matched s ps (All-tail (ClosedPath n 0) b ps cl) (All-tail (λ a. IsTrue (fully_specified a)) b ps fu))
+          let c0 = All-head (ClosedPath n 0) b ps cl in (
+            path_up n 0 env (class_env rs) args s b c0 _
+                ((specified_matches_one (class_env rs) b (All-head (λ a. IsTrue (fully_specified a)) b ps fu) _).1 (class_concrete n rs b c0)),
+            matched s ps (All-tail (ClosedPath n 0) b ps cl) (All-tail (λ a. IsTrue (fully_specified a)) b ps fu),
+          )

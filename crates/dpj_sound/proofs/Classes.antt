@@ -1,5 +1,5 @@
 -- What a class table in order says of objects: their regions and fields, seen as those of a class above theirs.
-use Rattle.std.proofs.Common.{◌≡◌, ◌<◌, ℕ, ℤ, zero, suc, pos, Bool, true, false, ◌&&◌, List, [], ◌∷◌, ◌++◌, map, length, refl, sym, ap, ◌∙◌, subst, arith, Option, Some, None, IsTrue, slice_get, slice_index_or, inl, inr}
+use Rattle.std.proofs.Common.{◌≡◌, ◌<◌, ℕ, ℤ, zero, suc, pos, true, false, List, [], ◌∷◌, ◌++◌, map, length, refl, sym, ap, ◌∙◌, subst, arith, Option, Some, None, IsTrue, slice_get, slice_index_or}
 use Rattle.std.specs.Prelude.{All, option_and_then}
 use Rattle.std.proofs.lemmas.List.{get_or-map, length-map, map-append}
 use Rattle.std.proofs.lemmas.List.Elements.{All-head, All-tail, All-cons, All-map}
@@ -13,13 +13,13 @@ use Rattle.dpj_base.specs.declared.elems.Index.TheVariants.{Literal, Variable, R
 use Rattle.dpj_base.specs.declared.region.Head.{Head}
 use Rattle.dpj_base.specs.declared.region.Head.TheVariants.{Root, Param}
 use Rattle.dpj_base.specs.declared.region.Rpl.{Rpl}
-use Rattle.dpj_base.specs.Matching.{is_plain, all_plain, Env, IsEnv, Holds, put_elem, put_in, Matches, MatchesMore, with_regions}
+use Rattle.dpj_base.specs.Matching.{is_plain, all_plain, Env, IsEnv, Holds, put_elem, put_in, Matches}
 use Rattle.dpj_base.specs.Matching.{head_region as env_region}
 use Rattle.dpj_base.specs.Regions.{is_local, is_specified, all_specified, fully_specified, within, argument, put_at, substituted}
 use Rattle.dpj_base.specs.Types.{PlainType, int, boolean, void, null, class, array, type_with, all_within}
 use Rattle.dpj_typed.specs.Plain.{PlainProgram, PlainClass, PlainField, PlainParent}
 use Rattle.dpj_typed.specs.Scope.{class_at, field_at, parent_of}
-use Rattle.dpj_typed.specs.Table.{class_scope, field_with, GoodField, Extends, GoodClass}
+use Rattle.dpj_typed.specs.Table.{class_scope, field_with, GoodField, Extends}
 use Rattle.dpj_typed.specs.Types.{Subtype, ints, booleans, null_object, null_array, objects, arrays, inherits}
 use Rattle.dpj_typed.specs.WellTyped.{WellTyped}
 use Rattle.dpj_meaning.specs.Regions.{Around, part_of, head_region, concrete}
@@ -30,9 +30,9 @@ use Rattle.dpj_disjoint.proofs.Envs.{constraint_carried}
 use Rattle.dpj_runs.specs.Objects.{LocalRegion, Value, Int, Boolean, Null, Object, Region}
 use Rattle.dpj_runs.specs.Objects.{Name as ObjectName}
 use Rattle.dpj_steps.specs.Steps.{named_by}
-use Rattle.dpj_sound.specs.Grounds.{elem_of, elems_of, Ground, region_in, ArePlain, env_of, class_ground, class_env, under}
+use Rattle.dpj_sound.specs.Grounds.{elem_of, elems_of, region_in, ArePlain, class_ground, class_env, under}
 use Rattle.dpj_sound.specs.Shapes.{Shapes, regions_of_parent, Is, same, up, AllMatch, GoodObject, Instance, SameIn, ArrayInstance, FitsIn}
-use Rattle.dpj_sound.proofs.Closed.{IsClosed, ClosedPath, ClosedType, Agrees, closed_put, closed_holds, closed_path, closed_type}
+use Rattle.dpj_sound.proofs.Closed.{IsClosed, ClosedPath, closed_put, closed_holds, closed_path, closed_type}
 use Rattle.dpj_sound.proofs.Codes.{ground_env, unmade_one}
 use Rattle.dpj_sound.proofs.Types.{same_refl, same_sym, same_trans, same_type, null_or, array_onto, NoOwn, Stands, path_up, same_with}
 
@@ -321,7 +321,11 @@ module _ (P : PlainProgram) (wt : WellTyped P) where
       let g = good_is i.is_one i.good in
       let x = parent_extends g.is e in
       record {
-        class = i.class; made_with = i.made_with; regions = regions_of_parent i.regions p; shape = i.shape; good = i.good;
+        class = i.class;
+        made_with = i.made_with;
+        regions = regions_of_parent i.regions p;
+        shape = i.shape;
+        good = i.good;
         is_one = is_up i.is_one e;
         matches = go (stands_args (length g.class.params) env args i.regions i.matches g.arity al o) p.args (parent_closed c g.class p x) x.full;
       }
@@ -330,10 +334,11 @@ module _ (P : PlainProgram) (wt : WellTyped P) where
           AllMatch env (map (substituted args) ps) (map (λ a. concrete (named_by []) (record { values = []; regions = i.regions; locals = [] }) a) ps)
       go s [] cl fu = tt
       go {m} s (a ∷ ps) cl fu =
-          let c0 = All-head (ClosedPath m 0) a ps cl in
-          (path_up m 0 env (class_env i.regions) args s a c0 _
-          ((specified_matches_one (class_env i.regions) a (All-head (λ a. IsTrue (fully_specified a)) a ps fu) _).1 (class_concrete m i.regions a c0)),
-          go s ps (All-tail (ClosedPath m 0) a ps cl) (All-tail (λ a. IsTrue (fully_specified a)) a ps fu))
+          let c0 = All-head (ClosedPath m 0) a ps cl in (
+            path_up m 0 env (class_env i.regions) args s a c0 _
+                ((specified_matches_one (class_env i.regions) a (All-head (λ a. IsTrue (fully_specified a)) a ps fu) _).1 (class_concrete m i.regions a c0)),
+            go s ps (All-tail (ClosedPath m 0) a ps cl) (All-tail (λ a. IsTrue (fully_specified a)) a ps fu),
+          )
 
   null_subtype : (S : Shapes) (env : Env) {c : ℕ} {rs : List Rpl} {t : PlainType} → Subtype P (class c rs) t → FitsIn P S env t Null
   null_subtype S env (objects h) = tt

@@ -1,6 +1,6 @@
 -- Paths and types of a class speak of its region parameters, of names, numbers and own indices alone: what they match depends on
 -- the regions of these parameters.
-use Rattle.std.proofs.Common.{◌≡◌, ◌<◌, ◌↔◌, ℕ, ℤ, zero, suc, Bool, true, false, List, [], ◌∷◌, ◌++◌, map, length, refl, sym, ap, ◌∙◌, subst, arith, Some, None, IsTrue, slice_get, slice_index_or, inl, inr}
+use Rattle.std.proofs.Common.{◌≡◌, ◌<◌, ℕ, ℤ, zero, suc, true, List, [], ◌∷◌, ◌++◌, map, length, refl, sym, ap, ◌∙◌, subst, arith, Some, None, inl, inr}
 use Rattle.std.specs.Prelude.{All}
 use Rattle.std.proofs.lemmas.List.Elements.{All-head, All-tail}
 use Rattle.dpj_base.specs.declared.elems.Elem.{Elem}
@@ -13,9 +13,9 @@ use Rattle.dpj_base.specs.declared.effect.Constraint.{Constraint}
 use Rattle.dpj_base.specs.Apart.{apart}
 use Rattle.dpj_base.specs.Matching.{Env, Holds, put_elem, put_in, head_region, Matches}
 use Rattle.dpj_base.specs.Types.{PlainType, int, boolean, void, null, class, array}
-use Rattle.dpj_typed.specs.Plain.{PlainProgram, PlainClass}
+use Rattle.dpj_typed.specs.Plain.{PlainProgram}
 use Rattle.dpj_typed.specs.Scope.{Scope, constant}
-use Rattle.dpj_typed.specs.Types.{GoodElem, GoodHead, GoodPath, LocalPath, GoodArgs, GoodType}
+use Rattle.dpj_typed.specs.Types.{GoodElem, GoodHead, GoodPath, GoodType}
 use Rattle.dpj_regions.specs.Laws.{AgreeOn}
 use Rattle.dpj_regions.proofs.Reading.{matches_by_what_occurs}
 use Rattle.dpj_sound.specs.Grounds.{behind_own, under}

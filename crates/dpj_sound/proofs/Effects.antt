@@ -1,16 +1,15 @@
 -- What effects speak of, where one covers another, and where arguments are put in.
-use Rattle.std.proofs.Common.{◌≡◌, ◌<◌, ⊎_elim, inl, inr, ℕ, Bool, true, false, not, ◌&&◌, ◌||◌, List, [], ◌∷◌, ◌++◌, map, length, refl, sym, ap, ◌∙◌, subst, arith, IsTrue, slice_index_or}
+use Rattle.std.proofs.Common.{◌≡◌, ⊎_elim, inl, inr, ℕ, Bool, true, false, not, ◌&&◌, ◌||◌, List, [], ◌∷◌, map, refl, sym, ap, ◌∙◌, IsTrue}
 use Rattle.std.specs.Prelude.{All}
 use Rattle.std.proofs.lemmas.List.Elements.{All-head, All-tail}
 use Rattle.std.proofs.lemmas.Bool.{and_parts, cases_Bool, false≢true}
 use Rattle.dpj_base.specs.declared.effect.Access.{Access as EffectAccess}
 use Rattle.dpj_base.specs.declared.effect.Access.TheVariants.{Read, Write}
 use Rattle.dpj_base.specs.declared.effect.Effect.{Effect}
-use Rattle.dpj_base.specs.declared.region.Head.TheVariants.{Param}
 use Rattle.dpj_base.specs.declared.region.Rpl.{Rpl}
 use Rattle.dpj_base.specs.Effects.{is_write, covers_access, covers_effect, some_covers, set_covers}
 use Rattle.dpj_base.specs.Matching.{IsEnv}
-use Rattle.dpj_base.specs.Regions.{within, fully_specified, argument, substituted}
+use Rattle.dpj_base.specs.Regions.{within, fully_specified, argument}
 use Rattle.dpj_typed.specs.Effects.{Own, does, uses, effect_with, effect_of, as_effects, summary_with}
 use Rattle.dpj_regions.proofs.Fitting.{matches_more}
 use Rattle.dpj_sound.specs.Grounds.{Ground, env_of}

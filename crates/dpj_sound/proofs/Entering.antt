@@ -1,13 +1,12 @@
 -- A member that is entered at an object begins in a frame that fits, and does what its caller's types and effects say.
-use Rattle.std.proofs.Common.{◌≡◌, ◌<◌, ◌≤◌, ⊎_elim, inl, inr, ℕ, zero, suc, ◌+◌, ◌-◌, Bool, true, false, cond, List, [], ◌∷◌, ◌++◌, map, length, refl, sym, ap, ◌∙◌, subst, arith, Option, Some, None, IsTrue, slice_get, slice_index_or, append_assoc}
-use Rattle.std.specs.Prelude.{All, option_and_then, option_map, pos}
+use Rattle.std.proofs.Common.{◌≡◌, ◌<◌, inl, inr, ℕ, zero, suc, true, List, [], ◌∷◌, ◌++◌, map, length, refl, sym, ap, ◌∙◌, subst, arith, Option, Some, None, IsTrue, slice_get, slice_index_or, append_assoc}
+use Rattle.std.specs.Prelude.{All, option_map}
 use Rattle.std.specs.List.{AllZip}
-use Rattle.std.proofs.lemmas.List.{length-map, map-append, length-append, get_or_append_left}
+use Rattle.std.proofs.lemmas.List.{map-append, get_or_append_left}
 use Rattle.std.proofs.lemmas.List.Elements.{All-head, All-tail, All-cons, All-append}
 use Rattle.std.proofs.lemmas.Bool.{false≢true}
-use Rattle.std.proofs.lemmas.Option.{get_or_from_slice_get, slice_get_within}
+use Rattle.std.proofs.lemmas.Option.{slice_get_within}
 use Rattle.dpj_base.specs.declared.effect.Constraint.{Constraint}
-use Rattle.dpj_base.specs.declared.effect.Effect.{Effect}
 use Rattle.dpj_base.specs.declared.elems.Elem.{Elem}
 use Rattle.dpj_base.specs.declared.elems.Elem.TheVariants.{At, Any, Star, Local}
 use Rattle.dpj_base.specs.declared.elems.Elem.TheVariants as elem
@@ -16,30 +15,30 @@ use Rattle.dpj_base.specs.declared.region.Head.{Head}
 use Rattle.dpj_base.specs.declared.region.Head.TheVariants.{Root, Param}
 use Rattle.dpj_base.specs.declared.region.Rpl.{Rpl}
 use Rattle.dpj_base.specs.Apart.{apart}
-use Rattle.dpj_base.specs.Matching.{Env, IsEnv, Holds, put_elem, put_in, Matches}
+use Rattle.dpj_base.specs.Matching.{Env, IsEnv, Holds, put_elem, put_in}
 use Rattle.dpj_base.specs.Matching.{head_region as env_region}
 use Rattle.dpj_base.specs.Regions.{within, covers_elems, fully_specified, argument, put_at, substituted}
 use Rattle.dpj_base.specs.Types.{PlainType, int, boolean, void, null, class, array}
 use Rattle.dpj_typed.specs.Plain.{PlainProgram, PlainClass, PlainMember}
-use Rattle.dpj_typed.specs.Scope.{Scope, variable, frozen, constant, part, class_at, member_at}
+use Rattle.dpj_typed.specs.Scope.{Scope, variable, frozen, constant, part, member_at}
 use Rattle.dpj_typed.specs.Scope.{Local as ScopeLocal}
 use Rattle.dpj_typed.specs.Table.{params_from, own_paths, class_scope, member_scope, first_locals, body_scope, GoodMember, GoodConstraint}
 use Rattle.dpj_typed.specs.Types.{GoodType}
 use Rattle.dpj_typed.specs.WellTyped.{WellTyped}
-use Rattle.dpj_meaning.specs.Counts.{number, slot_value, padded}
+use Rattle.dpj_meaning.specs.Counts.{padded}
 use Rattle.dpj_meaning.specs.Expressions.{entered}
 use Rattle.dpj_meaning.specs.Regions.{unmade_from}
 use Rattle.dpj_regions.proofs.Inclusion.{Covers-from, Covers-to, Covers-append, Covers-refl, within-refl}
 use Rattle.dpj_regions.proofs.Putting.{specified_matches_one}
 use Rattle.dpj_disjoint.proofs.Envs.{matches-within, stays_apart}
-use Rattle.dpj_runs.specs.Objects.{Path, LocalRegion, Unmade, Value, Null, Object, Region}
+use Rattle.dpj_runs.specs.Objects.{Path, Value, Null, Object, Region}
 use Rattle.dpj_runs.specs.Objects.{Name as ObjectName}
 use Rattle.dpj_steps.specs.Steps.{named_by}
-use Rattle.dpj_sound.specs.Grounds.{elems_of, Ground, region_in, ArePlain, env_of, class_ground, class_env}
-use Rattle.dpj_sound.specs.Shapes.{object, Shapes, Is, AllMatch, GoodObject, Instance, FitsIn}
-use Rattle.dpj_sound.specs.Frames.{Frame, State, LocalFits, FrameFits}
+use Rattle.dpj_sound.specs.Grounds.{elems_of, ArePlain, class_ground, class_env}
+use Rattle.dpj_sound.specs.Shapes.{object, Is, AllMatch, GoodObject, Instance, FitsIn}
+use Rattle.dpj_sound.specs.Frames.{State, LocalFits, FrameFits}
 use Rattle.dpj_sound.specs.Scopes.{InScope, PathInScope, TypeInScope, LocalInScope, GoodScope}
-use Rattle.dpj_sound.proofs.Closed.{ClosedPath, closed_put, closed_holds, closed_path, map_agree}
+use Rattle.dpj_sound.proofs.Closed.{ClosedPath, closed_put, closed_holds, closed_path}
 use Rattle.dpj_sound.proofs.Codes.{unmade_one}
 use Rattle.dpj_sound.proofs.Types.{Stands}
 use Rattle.dpj_sound.proofs.Classes.{all_get}
@@ -63,7 +62,7 @@ within_at n env inner args v s (Param p) a c =
     let both = Covers-to (Covers-append (Covers-from (put_in env arg).elems (inner.region p) w) (Covers-refl (map (put_elem env) a))) in
     let e : map (put_elem inner) a ≡ map (put_elem env) a = ap (λ (z : Rpl). z.elems) (root_put env inner a n (Param p) c) in
     let k : (put_in env arg).elems ++ map (put_elem env) a ≡ env_region env arg.head ++ map (put_elem env) (arg.elems ++ a) =
-        append_assoc (env_region env arg.head) (map (put_elem env) arg.elems) (map (put_elem env) a) ∙ ap (λ z. env_region env arg.head ++ z) (sym (map-append (put_elem env) arg.elems a)) in
+    append_assoc (env_region env arg.head) (map (put_elem env) arg.elems) (map (put_elem env) a) ∙ ap (λ z. env_region env arg.head ++ z) (sym (map-append (put_elem env) arg.elems a)) in
     subst (λ z. covers_elems z (inner.region p ++ map (put_elem inner) a) ≡ true) k (subst (λ z. covers_elems ((put_in env arg).elems ++ map (put_elem env) a) (inner.region p ++ z) ≡ true) (sym e) both)
 
 pub within_put : (n : ℕ) (env inner : Env) (args : List Rpl) → IsEnv [] env → Stands n 0 env inner args → (a : Rpl) → ClosedPath n 0 a → within (put_in inner a) (put_in env (substituted args a)) ≡ true
@@ -212,7 +211,12 @@ module _ (P : PlainProgram) (wt : WellTyped P) (n : ℕ) (m : PlainMember) (ther
 
       this : Instance P st.shapes (class_env (zs ++ own)) m.class (own_paths good.class) o
       this = record {
-        class = d; made_with = made; regions = zs; shape = shape; good = gd; is_one = is_one;
+        class = d;
+        made_with = made;
+        regions = zs;
+        shape = shape;
+        good = gd;
+        is_one = is_one;
         matches = subst (λ k. AllMatch (class_env (zs ++ own)) (params_from 0 k) zs) arity (shown_match (class_env (zs ++ own)) (params_from 0 (length zs)) zs (class_params zs own));
       }
 

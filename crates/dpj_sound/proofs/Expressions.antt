@@ -1,52 +1,45 @@
 -- Expressions of a well-typed program are in order: one case a construct.
-use Rattle.std.proofs.Common.{◌≡◌, ◌<◌, ◌⊎◌, ⊎_elim, inl, inr, ℕ, ℤ, zero, suc, pos, negsuc, ◌+◌, Bool, true, false, cond, List, [], ◌∷◌, ◌++◌, map, length, reverse, refl, sym, ap, ◌∙◌, subst, arith, Option, Some, None, IsTrue, slice_get, slice_index_or}
-use Rattle.std.specs.Prelude.{All, option_and_then}
-use Rattle.std.proofs.lemmas.List.Elements.{All-head, All-tail}
-use Rattle.std.proofs.lemmas.List.{length-map}
+use Rattle.std.proofs.Common.{◌≡◌, inl, ℕ, ℤ, pos, Bool, true, false, cond, List, [], ◌∷◌, length, refl, sym, ap, ◌∙◌, Option, Some, None, IsTrue}
+use Rattle.std.specs.Prelude.{All}
 use Rattle.std.proofs.lemmas.Bool.{false≢true}
-use Rattle.std.proofs.lemmas.Option.{option_and_then_some}
 use Rattle.dpj_base.specs.declared.elems.Elem.{Elem}
-use Rattle.dpj_base.specs.declared.elems.Elem.TheVariants.{At, Any}
+use Rattle.dpj_base.specs.declared.elems.Elem.TheVariants.{At}
 use Rattle.dpj_base.specs.declared.elems.Index.TheVariants.{Literal}
 use Rattle.dpj_base.specs.declared.place.Place.{Place}
 use Rattle.dpj_base.specs.declared.region.Rpl.{Rpl}
 use Rattle.dpj_base.specs.declared.value.Trap.{Trap}
 use Rattle.dpj_base.specs.declared.value.Trap.TheVariants as trap
-use Rattle.dpj_base.specs.Matching.{Env, Fits, Matches, put_in}
+use Rattle.dpj_base.specs.Matching.{Fits, Matches, put_in}
 use Rattle.dpj_base.specs.Regions.{substituted, is_any}
-use Rattle.dpj_base.specs.Types.{PlainType, int, boolean, void, null, class, array, type_with, path_at, type_at, rigid_in_index}
+use Rattle.dpj_base.specs.Types.{PlainType, int, class, array, type_with, path_at, type_at, rigid_in_index}
 use Rattle.dpj_typed.specs.declared.expr.BinaryOp.{BinaryOp}
 use Rattle.dpj_typed.specs.declared.expr.BinaryOp.TheVariants as op
-use Rattle.dpj_typed.specs.Effects.{reads, does, uses}
-use Rattle.dpj_typed.specs.Effects.{Own as EffectOwn}
-use Rattle.dpj_typed.specs.Plain.{PlainProgram, PlainClass, PlainField, PlainMember, TypedExpr, typed, type_of}
-use Rattle.dpj_typed.specs.Plain.{ExprForm as form}
-use Rattle.dpj_typed.specs.Scope.{Scope, constant, variable, frozen, part, class_at, field_at}
+use Rattle.dpj_typed.specs.Effects.{reads, does}
+use Rattle.dpj_typed.specs.Plain.{PlainProgram, PlainField}
+use Rattle.dpj_typed.specs.Scope.{Scope, constant, field_at}
 use Rattle.dpj_typed.specs.Scope.{Local as ScopeLocal}
 use Rattle.dpj_typed.specs.Table.{class_scope}
 use Rattle.dpj_typed.specs.Types.{Readable}
-use Rattle.dpj_typed.specs.Typing.{variable_elem, index_elem, result_of}
+use Rattle.dpj_typed.specs.Typing.{variable_elem, result_of}
 use Rattle.dpj_typed.specs.WellTyped.{WellTyped}
-use Rattle.dpj_meaning.specs.Core.{Goes_on, Returns, Ret, Traps, Act}
-use Rattle.dpj_meaning.specs.Counts.{number, truth, reference, value_read, length_seen, operated, slot_value}
+use Rattle.dpj_meaning.specs.Core.{Goes_on, Traps, Act}
+use Rattle.dpj_meaning.specs.Counts.{number, value_read, length_seen, slot_value}
 use Rattle.dpj_meaning.specs.Expressions.{gives, operation, unless_null, read_cell}
 use Rattle.dpj_regions.proofs.Putting.{specified_matches_one}
-use Rattle.dpj_runs.specs.Actions.{Rest, Read, Write, Look, New, Answer, Went, Got, Out, Class, Length, Named, Joined, Fell}
-use Rattle.dpj_runs.specs.Objects.{Name, Value, Int, Boolean, Null, Object, Region}
-use Rattle.dpj_steps.specs.Steps.{named_by}
+use Rattle.dpj_runs.specs.Actions.{Read, Look, Answer, Went, Got, Out, Class, Length, Named, Joined, Fell}
+use Rattle.dpj_runs.specs.Objects.{Name, Value, Int, Boolean, Null, Object}
 use Rattle.dpj_sound.specs.Grounds.{Ground, env_of, class_env, under}
-use Rattle.dpj_sound.specs.Shapes.{Shape, object, elements, Shapes, Instance, ArrayInstance, IsNullOr, FitsIn, of_object, of_array}
-use Rattle.dpj_sound.specs.Accesses.{Access, Speaks, LiesIn, Bounds, Allowed, Within}
+use Rattle.dpj_sound.specs.Shapes.{Shape, object, elements, Instance, ArrayInstance, IsNullOr, FitsIn, of_object, of_array}
+use Rattle.dpj_sound.specs.Accesses.{Access, Speaks, Bounds, Within}
 use Rattle.dpj_sound.specs.Frames.{Frame, State, Since, FrameFits}
-use Rattle.dpj_sound.specs.Scopes.{PathInScope, GoodScope}
-use Rattle.dpj_sound.specs.Work.{Result, Prog, Touches, Reaches, access_of, ReadFits, After, InOrder}
-use Rattle.dpj_sound.specs.Laws.{Yields}
+use Rattle.dpj_sound.specs.Scopes.{PathInScope}
+use Rattle.dpj_sound.specs.Work.{Result, Prog, Touches, Reaches, access_of, ReadFits, InOrder}
 use Rattle.dpj_sound.proofs.Closed.{closed_path, closed_type}
-use Rattle.dpj_sound.proofs.Types.{fits_same, fits_grows, same_sym, fits_with_up, path_up}
+use Rattle.dpj_sound.proofs.Types.{fits_same, same_sym, fits_with_up, path_up}
 use Rattle.dpj_sound.proofs.Indices.{IsIndexElem, fits_at_up, region_at_up}
-use Rattle.dpj_sound.proofs.Classes.{good_is, field_good, FieldAt, field_is, stands_args}
-use Rattle.dpj_sound.proofs.InScope.{paths_alone, index_in}
-use Rattle.dpj_sound.proofs.Work.{since_now, since_since, since_after, order_ret}
+use Rattle.dpj_sound.proofs.Classes.{good_is, field_good, field_is, stands_args}
+use Rattle.dpj_sound.proofs.InScope.{paths_alone}
+use Rattle.dpj_sound.proofs.Work.{since_after}
 
 -- an effect that is no mark of a block speaks of a read
 pub speaks_read : (g : Ground) (rpl : Rpl) (a : Access) → a.write ≡ false → Matches (env_of g) rpl a.region → Speaks g (reads rpl) a

@@ -1,10 +1,9 @@
 -- The effects of expressions and statements speak of nothing but what is in scope.
-use Rattle.std.proofs.Common.{◌≡◌, inl, inr, ℕ, zero, suc, Bool, true, false, cond, ◌==◌, List, [], ◌∷◌, ◌++◌, map, length, refl, sym, ap, ◌∙◌, subst, arith, Option, Some, None, IsTrue, ⊎_elim, slice_get}
-use Rattle.std.specs.Prelude.{All, option_and_then}
-use Rattle.std.proofs.lemmas.List.Elements.{All-head, All-tail, All-cons, All-map, All-append}
-use Rattle.std.proofs.lemmas.Bool.{cases_Bool, cond-true, cond-false, eqb-true, eq-eqb, eqb-false, false≢true, false_from_ne_true}
+use Rattle.std.proofs.Common.{◌≡◌, ℕ, Bool, false, ◌==◌, List, [], ◌∷◌, ◌++◌, length, refl, sym, ◌∙◌, subst, arith, Some, ⊎_elim, slice_get}
+use Rattle.std.specs.Prelude.{All}
+use Rattle.std.proofs.lemmas.List.Elements.{All-cons, All-map, All-append}
+use Rattle.std.proofs.lemmas.Bool.{cases_Bool, cond-true, cond-false, eqb-true, eq-eqb, false≢true, false_from_ne_true}
 use Rattle.std.proofs.lemmas.Option.{option_and_then_some}
-use Rattle.dpj_base.specs.declared.effect.Effect.{Effect}
 use Rattle.dpj_base.specs.declared.elems.Elem.{Elem}
 use Rattle.dpj_base.specs.declared.elems.Elem.TheVariants.{Name, At, Any, Star, Local}
 use Rattle.dpj_base.specs.declared.elems.Index.TheVariants.{Literal, Variable, Renamed, Own}
@@ -12,17 +11,17 @@ use Rattle.dpj_base.specs.declared.region.Rpl.{Rpl}
 use Rattle.dpj_base.specs.Regions.{substituted, generalised, general_elem}
 use Rattle.dpj_base.specs.Types.{PlainType, class, array, int, path_at}
 use Rattle.dpj_typed.specs.Effects.{Own as EffectOwn, does, uses, effect_of, effect_with, mapped, outside_variable, summary_with}
-use Rattle.dpj_typed.specs.Plain.{PlainProgram, PlainClass, PlainField, PlainMember, TypedExpr, type_of, TypedExprs, TypedStmt, TypedStmts, no_stmts, more_stmts}
-use Rattle.dpj_typed.specs.Scope.{Scope, constant, variable, part, class_at, field_at, with_local}
+use Rattle.dpj_typed.specs.Plain.{PlainProgram, PlainClass, PlainField, PlainMember, TypedExpr, type_of, TypedExprs, TypedStmt, TypedStmts}
+use Rattle.dpj_typed.specs.Scope.{Scope, constant, part, class_at, field_at, with_local}
 use Rattle.dpj_typed.specs.Scope.{Local as ScopeLocal}
 use Rattle.dpj_typed.specs.Statements.{declared_as, Passes, AllPass, store, store_field, store_element, store_part, perform, nested, choice, choice_else, while_loop, return_nothing, return_value, print_int, print_boolean, print_text, atomic, cobegin, foreach, foreach_parts, no_more, then', declare, declare_regions}
-use Rattle.dpj_typed.specs.Table.{class_scope, member_scope, GoodMember}
+use Rattle.dpj_typed.specs.Table.{class_scope, member_scope}
 use Rattle.dpj_typed.specs.Typing.{Has, literal_int, literal_boolean, literal_null, read_local, read_field, read_element, length_of_array, call_method, create_object, construct_object, make_array, negative, negation, operation, conjunction, disjunction, length_of_part, read_part, index_elem, Fit}
 use Rattle.dpj_typed.specs.Typing.{Fit as fit}
 use Rattle.dpj_typed.specs.WellTyped.{WellTyped}
 use Rattle.dpj_sound.specs.Scopes.{InScope, PathInScope, TypeInScope, GoodScope}
 use Rattle.dpj_sound.specs.Sequential.{IsSequential, AreSequential}
-use Rattle.dpj_sound.proofs.Closed.{ClosedPath, closed_path}
+use Rattle.dpj_sound.proofs.Closed.{closed_path}
 use Rattle.dpj_sound.proofs.Classes.{field_good}
 use Rattle.dpj_sound.proofs.InScope.{good_path, good_type, substituted_in, at_path_in, index_in, out_path, above_in, typed_in}
 use Rattle.dpj_sound.proofs.Locals.{good_declare, inner_local}

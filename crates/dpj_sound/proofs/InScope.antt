@@ -1,10 +1,10 @@
 -- The types of expressions speak of nothing but what is in scope.
-use Rattle.std.proofs.Common.{◌≡◌, ◌<◌, ◌⊎◌, ℕ, ℤ, zero, suc, pos, Bool, true, false, cond, ◌==◌, ◌||◌, List, [], ◌∷◌, ◌++◌, map, length, refl, sym, ap, ◌∙◌, subst, arith, Option, Some, None, IsTrue, slice_get, slice_index_or, inl, inr, ⊎_elim}
-use Rattle.std.specs.Prelude.{All, option_and_then, option_map}
+use Rattle.std.proofs.Common.{◌≡◌, ℕ, zero, suc, Bool, true, false, ◌==◌, ◌||◌, List, [], ◌∷◌, ◌++◌, map, length, refl, sym, ap, ◌∙◌, subst, arith, Option, Some, None, slice_get, slice_index_or, inl, inr, ⊎_elim}
+use Rattle.std.specs.Prelude.{All}
 use Rattle.std.specs.List.{list_any}
 use Rattle.std.proofs.lemmas.List.Folds.{list_any-append}
 use Rattle.std.proofs.lemmas.List.Elements.{All-head, All-tail, All-cons, All-map, All-append}
-use Rattle.std.proofs.lemmas.Bool.{cases_Bool, false≢true, cond-true, cond-false, eqb-true, eq-eqb, eqb-false}
+use Rattle.std.proofs.lemmas.Bool.{cases_Bool, false≢true, cond-true, cond-false, eqb-false}
 use Rattle.std.proofs.lemmas.Option.{option_and_then_some}
 use Rattle.dpj_base.specs.declared.elems.Elem.{Elem}
 use Rattle.dpj_base.specs.declared.elems.Elem.TheVariants.{Name, At, Any, Star, Local}
@@ -15,22 +15,22 @@ use Rattle.dpj_base.specs.declared.region.Rpl.{Rpl}
 use Rattle.dpj_base.specs.Regions.{same_elem, argument, put_at, substituted}
 use Rattle.dpj_base.specs.Types.{PlainType, int, boolean, void, null, class, array, type_with, elem_at, path_at, type_at, has_index, mentions_index}
 use Rattle.dpj_typed.specs.Effects.{Own as EffectOwn}
-use Rattle.dpj_typed.specs.Plain.{PlainProgram, PlainClass, PlainField, PlainMember, PlainParent, TypedExpr, typed, type_of}
+use Rattle.dpj_typed.specs.Plain.{PlainProgram, PlainClass, PlainField, PlainMember, TypedExpr, typed, type_of}
 use Rattle.dpj_typed.specs.Plain.{ExprForm as form}
-use Rattle.dpj_typed.specs.Scope.{Scope, constant, variable, frozen, part, class_at, field_at, parent_of, Above, itself, through_parent}
+use Rattle.dpj_typed.specs.Scope.{Scope, constant, variable, frozen, part, class_at, field_at, Above, itself, through_parent}
 use Rattle.dpj_typed.specs.Scope.{Local as ScopeLocal}
 use Rattle.dpj_typed.specs.Table.{class_scope, member_scope}
-use Rattle.dpj_typed.specs.Types.{GoodElem, GoodPath, LocalPath, GoodType, SpeaksOfNone}
-use Rattle.dpj_typed.specs.Typing.{Holds, variable_elem, index_elem, Has, literal_int, literal_boolean, literal_null, read_local, read_field, read_element, length_of_array, call_method, create_object, construct_object, make_array, negative, negation, operation, conjunction, disjunction, length_of_part, read_part}
+use Rattle.dpj_typed.specs.Types.{GoodElem, GoodPath, LocalPath, GoodType}
+use Rattle.dpj_typed.specs.Typing.{variable_elem, index_elem, Has, literal_int, literal_boolean, literal_null, read_local, read_field, read_element, length_of_array, call_method, create_object, construct_object, make_array, negative, negation, operation, conjunction, disjunction, length_of_part, read_part}
 use Rattle.dpj_typed.specs.Typing.{result_of}
 use Rattle.dpj_typed.specs.declared.expr.BinaryOp.{BinaryOp}
 use Rattle.dpj_typed.specs.declared.expr.BinaryOp.TheVariants as op
 use Rattle.dpj_typed.specs.WellTyped.{WellTyped}
-use Rattle.dpj_sound.specs.Scopes.{InScope, PathInScope, TypeInScope, LocalInScope, GoodScope}
+use Rattle.dpj_sound.specs.Scopes.{InScope, PathInScope, TypeInScope, GoodScope}
 use Rattle.dpj_sound.proofs.Closed.{IsClosed, ClosedPath, closed_path}
 use Rattle.dpj_sound.proofs.Types.{NoOwn}
-use Rattle.dpj_sound.proofs.Indices.{IsSteady, IsIndexElem}
-use Rattle.dpj_sound.proofs.Classes.{parent_extends, parent_closed, all_get, field_good}
+use Rattle.dpj_sound.proofs.Indices.{IsIndexElem}
+use Rattle.dpj_sound.proofs.Classes.{parent_extends, parent_closed, field_good}
 
 or_parts : (x y : Bool) → (x || y) ≡ false → (x ≡ false) × (y ≡ false)
 or_parts false y e = (refl, e)
@@ -176,12 +176,14 @@ module _ (P : PlainProgram) (M : Scope) (none : (x : ℕ) → M.local x ≡ None
   with_in L args al D void g = tt
   with_in L args al D null g = tt
   with_in L args al D (class c ps) g = All-map (PathInScope L D) (substituted args) ps (λ k d l. substituted_in L D args al (length M.atomic) _ (closed_path P M none D _ (g.2.paths k d l)))
-  with_in L args al D (array t a named) g =
-      (elim g.0 [
-        | inl p ↦ substituted_in L (suc D) args al (length M.atomic) a (closed_path P M none (suc D) a p)
-        | inr q ↦ absurd (no_region q.0.region q.0.in_scope)
-      ], with_in L args al (suc D) t g.1,
-      λ e. (let s = g.2 e in (has_substituted L 0 args al a s.0, mentions_with L args al 0 t s.1)))
+  with_in L args al D (array t a named) g = (
+    elim g.0 [
+      | inl p ↦ substituted_in L (suc D) args al (length M.atomic) a (closed_path P M none (suc D) a p)
+      | inr q ↦ absurd (no_region q.0.region q.0.in_scope)
+    ],
+    with_in L args al (suc D) t g.1,
+    λ e. (let s = g.2 e in (has_substituted L 0 args al a s.0, mentions_with L args al 0 t s.1)),
+  )
 
 -- an index put in
 
@@ -254,9 +256,11 @@ at_in L x i D h boolean g = tt
 at_in L x i D h void g = tt
 at_in L x i D h null g = tt
 at_in L x i D h (class c ps) g = All-map (PathInScope L D) (path_at D x) ps (λ k d l. at_path_in L D x i h (slice_index_or ps k d) (g k d l))
-at_in L x i D h (array t a named) g =
-    (at_path_in L (suc D) x i (index_deeper L D x i h) a g.0, at_in L x i (suc D) (index_deeper L D x i h) t g.1,
-     λ e. (let s = g.2 e in (has_at 0 (suc D) x i a s.0, mentions_at x i 0 (suc D) t s.1)))
+at_in L x i D h (array t a named) g = (
+  at_path_in L (suc D) x i (index_deeper L D x i h) a g.0,
+  at_in L x i (suc D) (index_deeper L D x i h) t g.1,
+  λ e. (let s = g.2 e in (has_at 0 (suc D) x i a s.0, mentions_at x i 0 (suc D) t s.1)),
+)
 
 -- what doesn't mention an own index stands outside its array type
 

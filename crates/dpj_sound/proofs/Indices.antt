@@ -1,9 +1,9 @@
 -- Types of elements at an index.
-use Rattle.std.proofs.Common.{◌≡◌, ◌<◌, ◌↔◌, ℕ, ℤ, zero, suc, pos, Bool, true, false, cond, ◌==◌, ◌||◌, List, [], ◌∷◌, map, length, refl, sym, ap, ◌∙◌, subst, arith, IsTrue, slice_index_or, ⊎_elim}
+use Rattle.std.proofs.Common.{◌≡◌, ◌↔◌, ℕ, ℤ, zero, suc, pos, Bool, true, false, cond, ◌==◌, ◌||◌, List, [], ◌∷◌, map, refl, sym, ap, ◌∙◌, subst, arith, IsTrue, slice_index_or}
 use Rattle.std.specs.Prelude.{All}
 use Rattle.std.specs.List.{list_any}
-use Rattle.std.proofs.lemmas.List.Elements.{All-head, All-tail, All-cons}
-use Rattle.std.proofs.lemmas.Bool.{cases_Bool, eqb-true, eq-eqb, ne_eqb, false≢true, or_left, or_right, cond-true, cond-false, false_from_ne_true}
+use Rattle.std.proofs.lemmas.List.Elements.{All-cons}
+use Rattle.std.proofs.lemmas.Bool.{eqb-true, eq-eqb, false≢true, cond-false, false_from_ne_true}
 use Rattle.std.proofs.Math.Dec.{eqb-suc-zero, eqb-zero-suc, eqb-suc-suc}
 use Rattle.dpj_base.specs.declared.elems.Elem.{Elem}
 use Rattle.dpj_base.specs.declared.elems.Elem.TheVariants.{At, Any, Star, Local}
@@ -22,7 +22,7 @@ use Rattle.dpj_regions.proofs.Reading.{matches_by_what_occurs, own_index_matches
 use Rattle.dpj_runs.specs.Objects.{Value}
 use Rattle.dpj_sound.specs.Grounds.{Ground, env_of, behind_own, under}
 use Rattle.dpj_sound.specs.Shapes.{Shapes, Instance, SameIn, ArrayInstance, FitsIn}
-use Rattle.dpj_sound.proofs.Types.{match_onto, match_from, match_same, null_or, instance_onto, array_onto, fits_same, same_sym}
+use Rattle.dpj_sound.proofs.Types.{match_onto, match_from, null_or, instance_onto, array_onto, fits_same, same_sym}
 
 -- under one array type more, an own index is one further in
 own_further : (k m : ℤ) (f : ℕ → ℤ) (D d : ℕ) → behind_own k (λ e. cond (D == e) m (f e)) d ≡ cond (suc D == d) m (behind_own k f d)
@@ -62,12 +62,17 @@ same_at env x s m e D int = tt
 same_at env x s m e D boolean = tt
 same_at env x s m e D void = tt
 same_at env x s m e D null = tt
-same_at env x s m e D (class c ps) =
-    (refl, λ rs. (match_from (with_own env D m) env (path_at D (At x)) ps (λ k d l r. (at_path env x D (slice_index_or ps k d) m e r).0) rs,
-     match_onto (with_own env D m) env (path_at D (At x)) ps (λ k d l r. (at_path env x D (slice_index_or ps k d) m e r).1) rs))
-same_at env x s m e D (array t a named) =
-    (λ k r. subst (λ z. Matches (under k env) (path_at (suc D) (At x) a) r ↔ Matches z a r) (sym (under_with k m env D)) (at_path (under k env) x (suc D) a m (number_under k env x s ∙ e) r),
-     λ k. subst (λ z. SameIn (under k env) (type_at (suc D) (At x) t) z t) (sym (under_with k m env D)) (same_at (under k env) x s m (number_under k env x s ∙ e) (suc D) t))
+same_at env x s m e D (class c ps) = (
+  refl,
+  λ rs. (
+    match_from (with_own env D m) env (path_at D (At x)) ps (λ k d l r. (at_path env x D (slice_index_or ps k d) m e r).0) rs,
+    match_onto (with_own env D m) env (path_at D (At x)) ps (λ k d l r. (at_path env x D (slice_index_or ps k d) m e r).1) rs,
+  ),
+)
+same_at env x s m e D (array t a named) = (
+  λ k r. subst (λ z. Matches (under k env) (path_at (suc D) (At x) a) r ↔ Matches z a r) (sym (under_with k m env D)) (at_path (under k env) x (suc D) a m (number_under k env x s ∙ e) r),
+  λ k. subst (λ z. SameIn (under k env) (type_at (suc D) (At x) t) z t) (sym (under_with k m env D)) (same_at (under k env) x s m (number_under k env x s ∙ e) (suc D) t),
+)
 
 -- what doesn't mention an own index doesn't depend on it
 
@@ -128,13 +133,18 @@ same_unmentioned env D k y int h = tt
 same_unmentioned env D k y boolean h = tt
 same_unmentioned env D k y void h = tt
 same_unmentioned env D k y null h = tt
-same_unmentioned env D k y (class c ps) h =
-    (refl, λ rs. (match_from (with_own env D k) env (path_at D y) ps (λ j d l r. (path_unmentioned env D k y (slice_index_or ps j d) (any_none (has_index D) ps h j d l) r).0) rs,
-     match_onto (with_own env D k) env (path_at D y) ps (λ j d l r. (path_unmentioned env D k y (slice_index_or ps j d) (any_none (has_index D) ps h j d l) r).1) rs))
+same_unmentioned env D k y (class c ps) h = (
+  refl,
+  λ rs. (
+    match_from (with_own env D k) env (path_at D y) ps (λ j d l r. (path_unmentioned env D k y (slice_index_or ps j d) (any_none (has_index D) ps h j d l) r).0) rs,
+    match_onto (with_own env D k) env (path_at D y) ps (λ j d l r. (path_unmentioned env D k y (slice_index_or ps j d) (any_none (has_index D) ps h j d l) r).1) rs,
+  ),
+)
 same_unmentioned env D k y (array t a named) h =
-    let p = or_parts (has_index (suc D) a) _ h in
-    (λ j r. subst (λ z. Matches (under j env) (path_at (suc D) y a) r ↔ Matches z a r) (sym (under_with j k env D)) (path_unmentioned (under j env) (suc D) k y a p.0 r),
-     λ j. subst (λ z. SameIn (under j env) (type_at (suc D) y t) z t) (sym (under_with j k env D)) (same_unmentioned (under j env) (suc D) k y t p.1))
+    let p = or_parts (has_index (suc D) a) _ h in (
+      λ j r. subst (λ z. Matches (under j env) (path_at (suc D) y a) r ↔ Matches z a r) (sym (under_with j k env D)) (path_unmentioned (under j env) (suc D) k y a p.0 r),
+      λ j. subst (λ z. SameIn (under j env) (type_at (suc D) y t) z t) (sym (under_with j k env D)) (same_unmentioned (under j env) (suc D) k y t p.1),
+    )
 
 -- an element's value at an index that isn't known, of a type that isn't rigid in it
 pub fits_at_any : (P : PlainProgram) (S : Shapes) (env : Env) (k : ℤ) (D : ℕ) (t : PlainType) → rigid_in_index D t ≡ false → (v : Value) →

@@ -1,11 +1,10 @@
 -- The member that an object's own class has in a row stands in for that of its static class.
-use Rattle.std.proofs.Common.{◌≡◌, ◌<◌, ◌≤◌, ⊎_elim, inl, inr, ℕ, zero, suc, ◌+◌, Bool, true, false, ◌&&◌, List, [], ◌∷◌, ◌++◌, map, length, refl, sym, ap, ◌∙◌, subst, arith, Option, Some, None, IsTrue, slice_get, slice_index_or}
+use Rattle.std.proofs.Common.{◌≡◌, ◌<◌, inl, inr, ℕ, zero, suc, ◌+◌, true, List, [], ◌∷◌, ◌++◌, map, length, refl, sym, ap, ◌∙◌, subst, arith, Some, None, IsTrue, slice_get, slice_index_or}
 use Rattle.std.specs.Prelude.{All, option_and_then, pos}
 use Rattle.std.specs.List.{AllZip}
-use Rattle.std.proofs.lemmas.List.{length-map, append-nil, get_or_append_left, get_or-append-add, length-append}
+use Rattle.std.proofs.lemmas.List.{append-nil, get_or_append_left, get_or-append-add, length-append}
 use Rattle.std.proofs.lemmas.List.Elements.{All-head, All-tail, All-map, All-append, All-cons}
 use Rattle.std.proofs.lemmas.Bool.{and_parts, and_from, false≢true}
-use Rattle.std.proofs.lemmas.Option.{option_and_then_some}
 use Rattle.dpj_base.specs.declared.effect.Constraint.{Constraint}
 use Rattle.dpj_base.specs.declared.effect.Effect.{Effect}
 use Rattle.dpj_base.specs.declared.elems.Elem.{Elem}
@@ -13,21 +12,20 @@ use Rattle.dpj_base.specs.declared.region.Head.{Head}
 use Rattle.dpj_base.specs.declared.region.Head.TheVariants.{Root, Param}
 use Rattle.dpj_base.specs.declared.region.Rpl.{Rpl}
 use Rattle.dpj_base.specs.Apart.{apart}
-use Rattle.dpj_base.specs.Effects.{set_covers}
-use Rattle.dpj_base.specs.Matching.{Env, IsEnv, Holds, put_in, with_regions}
+use Rattle.dpj_base.specs.Matching.{Env, Holds, put_in}
 use Rattle.dpj_base.specs.Regions.{is_specified, all_specified, fully_specified, argument, put_at, substituted}
-use Rattle.dpj_base.specs.Types.{PlainType, void, type_with, SameType}
+use Rattle.dpj_base.specs.Types.{PlainType, type_with, SameType}
 use Rattle.dpj_typed.specs.Effects.{does, effect_with}
 use Rattle.dpj_typed.specs.Plain.{PlainProgram, PlainClass, PlainMember, PlainParent}
-use Rattle.dpj_typed.specs.Scope.{class_at, member_at, row_at, parent_of, Above, itself, through_parent}
-use Rattle.dpj_typed.specs.Table.{Extends, params_from, own_paths, method_paths, class_scope, member_scope, constraint_with, Overrides, KeepsRow, GoodMember, RowIsThere, GoodConstraint}
-use Rattle.dpj_typed.specs.Types.{GoodType, GoodPath}
+use Rattle.dpj_typed.specs.Scope.{member_at, row_at, parent_of, Above, itself, through_parent}
+use Rattle.dpj_typed.specs.Table.{Extends, params_from, method_paths, member_scope, constraint_with, Overrides, KeepsRow, GoodMember, RowIsThere}
+use Rattle.dpj_typed.specs.Types.{GoodType}
 use Rattle.dpj_typed.specs.WellTyped.{WellTyped}
 use Rattle.dpj_meaning.specs.Regions.{concrete}
 use Rattle.dpj_regions.proofs.Putting.{specified_matches_one, substitution_puts_in}
 use Rattle.dpj_runs.specs.Objects.{Region}
 use Rattle.dpj_steps.specs.Steps.{named_by}
-use Rattle.dpj_sound.specs.Grounds.{elems_of, Ground, region_in, ArePlain, env_of, class_ground, class_env}
+use Rattle.dpj_sound.specs.Grounds.{elems_of, region_in, ArePlain, class_ground, class_env}
 use Rattle.dpj_sound.specs.Shapes.{regions_of_parent, Is, same, up, GoodObject, SameIn}
 use Rattle.dpj_sound.specs.Accesses.{Access, LiesIn}
 use Rattle.dpj_sound.proofs.Closed.{ClosedPath, ClosedType, closed_put, closed_path, closed_type}
@@ -304,7 +302,8 @@ module _ (P : PlainProgram) (wt : WellTyped P) where
           let k = same_member above i.at.member i.number ea i.at.there in
           let o' = subst (λ m. Overrides P d g.class w m) k o in
           record {
-            number = z.0; row = row;
+            number = z.0;
+            row = row;
             at = record { member = w; there = ew; regions = rs; is_one = subst (λ y. Is P d rs y rs) (sym o'.own) same };
             stands = stands_trans i.stands (overrides d rs own g (plain_both rs own g.plain pl) i.number here w o' (lo ∙ ap length (sym i.stands.params)));
           }

@@ -1,5 +1,5 @@
 -- Statements of a well-typed program are in order: by recursion on their typing.
-use Rattle.std.proofs.Common.{◌≡◌, inl, inr, ℕ, ℤ, suc, ◌+◌, pos, Bool, true, false, cond, ◌&&◌, ◌||◌, List, [], ◌∷◌, ◌++◌, map, length, refl, sym, ap, ◌∙◌, subst, arith, Option, Some, None, IsTrue, le_trans}
+use Rattle.std.proofs.Common.{◌≡◌, inl, ℕ, ℤ, ◌+◌, pos, Bool, true, false, cond, ◌&&◌, ◌||◌, List, [], ◌∷◌, length, refl, sym, ap, ◌∙◌, subst, Option, Some, None, IsTrue}
 use Rattle.std.specs.Prelude.{All, int_lt}
 use Rattle.std.specs.Int.{w32, int_wrapping_add}
 use Rattle.std.proofs.lemmas.Bool.{and_from, false≢true, or_left, or_right}
@@ -7,32 +7,31 @@ use Rattle.dpj_base.specs.declared.elems.Elem.{Elem}
 use Rattle.dpj_base.specs.declared.place.Place.{Place}
 use Rattle.dpj_base.specs.declared.region.Rpl.{Rpl}
 use Rattle.dpj_base.specs.declared.value.Trap.TheVariants as trap
-use Rattle.dpj_base.specs.Effects.{is_write}
 use Rattle.dpj_base.specs.Matching.{Fits, Matches, put_in}
 use Rattle.dpj_base.specs.declared.elems.Elem.TheVariants.{At}
 use Rattle.dpj_base.specs.declared.elems.Index.TheVariants.{Literal}
 use Rattle.dpj_base.specs.Regions.{is_any, substituted}
-use Rattle.dpj_base.specs.Types.{PlainType, void, class, array, type_with, path_at, type_at, mentions_index}
-use Rattle.dpj_typed.specs.Effects.{Own as EffectOwn, does, uses, writes, outside_variable}
+use Rattle.dpj_base.specs.Types.{PlainType, class, array, type_with, path_at, type_at, mentions_index}
+use Rattle.dpj_typed.specs.Effects.{Own as EffectOwn, does, uses, writes}
 use Rattle.dpj_typed.specs.Plain.{PlainProgram, PlainField, TypedExpr, type_of, TypedStmt, TypedStmts, no_stmts, more_stmts}
-use Rattle.dpj_typed.specs.Scope.{Scope, variable, part, field_at, with_local}
+use Rattle.dpj_typed.specs.Scope.{Scope, part, field_at, with_local}
 use Rattle.dpj_typed.specs.Scope.{Local as ScopeLocal}
 use Rattle.dpj_typed.specs.Statements.{completes, all_complete, declared_as, Passes, AllPass, store, store_field, store_element, store_part, perform, nested, choice, choice_else, while_loop, return_nothing, return_value, print_int, print_boolean, print_text, atomic, cobegin, foreach, foreach_parts, no_more, then', declare, declare_regions}
 use Rattle.dpj_typed.specs.Table.{class_scope}
 use Rattle.dpj_typed.specs.Types.{Known, Subtype}
 use Rattle.dpj_typed.specs.Typing.{Has, index_elem}
 use Rattle.dpj_typed.specs.WellTyped.{WellTyped}
-use Rattle.dpj_meaning.specs.Core.{Goes_on, Returns, Ret, Traps, Act, next_of, and_then}
+use Rattle.dpj_meaning.specs.Core.{Goes_on, Returns, Traps, next_of, and_then}
 use Rattle.dpj_meaning.specs.Counts.{number, truth, slot_value, is_out, part_place, text_of}
 use Rattle.dpj_meaning.specs.Expressions.{gives, none, unless_null, part_element, of_expr}
 use Rattle.dpj_meaning.specs.Statements.{with_value, write_cell, prints, of_stmt, of_stmts}
 use Rattle.dpj_regions.proofs.Putting.{specified_matches_one}
-use Rattle.dpj_runs.specs.Actions.{Write, Print, Answer}
+use Rattle.dpj_runs.specs.Actions.{Write, Print}
 use Rattle.dpj_runs.specs.Objects.{Name, Value, Null, Object, Int, Boolean}
 use Rattle.dpj_steps.specs.Steps.{named_by}
 use Rattle.dpj_sound.specs.Grounds.{Ground, env_of, class_env, under}
 use Rattle.dpj_sound.specs.Shapes.{object, elements, Shapes, Instance, ArrayInstance, FitsIn, of_object, of_array}
-use Rattle.dpj_sound.specs.Accesses.{Access, Speaks, LiesIn, Bounds, Within}
+use Rattle.dpj_sound.specs.Accesses.{Access, Speaks, Bounds, Within}
 use Rattle.dpj_sound.specs.Frames.{Frame, State, Since, PartFits, FrameFits}
 use Rattle.dpj_sound.specs.Scopes.{PathInScope, TypeInScope, GoodScope}
 use Rattle.dpj_sound.specs.Sequential.{IsSequential, AreSequential}
@@ -41,7 +40,7 @@ use Rattle.dpj_sound.specs.Laws.{Deeper, Yields, Leaves, DeeperInOrder, Sequenti
 use Rattle.dpj_sound.proofs.Closed.{closed_path, closed_type}
 use Rattle.dpj_sound.proofs.Types.{fits_grows, fits_same, same_sym, fits_with_down, path_up}
 use Rattle.dpj_sound.proofs.Indices.{IsIndexElem, fits_at_down, region_at_up, same_inside, region_alone}
-use Rattle.dpj_sound.proofs.Classes.{env_alone, good_is, field_good, FieldAt, field_is, stands_args, subtype_fits}
+use Rattle.dpj_sound.proofs.Classes.{env_alone, good_is, field_good, field_is, stands_args, subtype_fits}
 use Rattle.dpj_sound.proofs.InScope.{good_type, paths_alone, index_in, typed_in}
 use Rattle.dpj_sound.proofs.InEffects.{stmts_effects_in}
 use Rattle.dpj_sound.proofs.Frames.{frame_since, frame_env, within_left, within_right, within_since}
@@ -93,16 +92,19 @@ module _ (P : PlainProgram) (b : Bounds) where
           let cell : Touches P st.shapes n p = record { shape = elements i'.ground i'.element i'.rpl; is = i'.shape; env = under p (env_of i'.ground); ty = i'.element; rpl = i'.rpl; cell = of_array } in
           let region = (put_in (under p (env_of i'.ground)) i'.rpl).elems in
           order_write R st at n p u f
-          (record { cell = cell; allowed = w (access_of b st n p true region) (λ e. e) (inl (
-            speaks_write g a (access_of b st n p true region) (region_alone g p a pf.no_index region (i'.region p)),
-            record {
-              array = ap (λ q. q.array) pf.places ∙ is;
-              index = i;
-              from_first = s.0;
-              below_last = ap (λ q. int_lt i q.len) pf.places ∙ s.1;
-              place = s.2 ∙ ap (λ q. int_wrapping_add w32 q.first i) (sym pf.places);
-            },
-          )) })
+          (record {
+            cell = cell;
+            allowed = w (access_of b st n p true region) (λ e. e) (inl (
+              speaks_write g a (access_of b st n p true region) (region_alone g p a pf.no_index region (i'.region p)),
+              record {
+                array = ap (λ q. q.array) pf.places ∙ is;
+                index = i;
+                from_first = s.0;
+                below_last = ap (λ q. int_lt i q.len) pf.places ∙ s.1;
+                place = s.2 ∙ ap (λ q. int_wrapping_add w32 q.first i) (sym pf.places);
+              },
+            ));
+          })
           (fits_same P st.shapes (under p (env_of g)) t (under p (env_of i'.ground)) i'.element (i'.same p) u
           (fits_same P st.shapes (env_of g) t (under p (env_of g)) t (same_sym (under p (env_of g)) t (env_of g) t (same_inside g p t pf.none_mentioned)) u fu))
           next
@@ -211,6 +213,7 @@ module _ (P : PlainProgram) (wt : WellTyped P) (b : Bounds) (dp : Option Deeper)
 
   mutual
     unfolding InOrder
+
     stmt_order : {L : Scope} {s : TypedStmt} {E : List EffectOwn} → Passes P L s E → IsSequential s → GoodScope L → (g : Ground) (st : State) (f : Frame) → FrameFits P b.path st g L f → Within b st.entries g E →
         InOrder P b (Left P b L g (completes s) st) st (of_stmt (named_by b.path) P dp s f)
     stmt_order {L} (store {x = x} {t = t} lx h sub) q good g st f ff w =
@@ -219,49 +222,52 @@ module _ (P : PlainProgram) (wt : WellTyped P) (b : Bounds) (dp : Option Deeper)
     stmt_order {L} (store_field {at = at} {o = o} {e = e} {c = c} {k = k} {args = args} {f = fd} {E = E} {F = F} ho ty fe kn he sub) q good g st f ff w =
         behind L good g ho _ _ st f ff (within_left b st.entries g E _ w)
         (λ h1 v s fv ix. behind L good g he _ _ h1 f (frame_since s ff) (within_since b s g _ (within_left b st.entries g F _ (within_right b st.entries g E _ w)))
-            (λ h2 u s2 fu iu. field_write P b wt L g (Left P b L g true st) h2 at f c k args fd fe kn (subst (TypeInScope L 0) ty (typed_in P wt L good ho))
-                (within_since b (since_since s s2) g (does (writes (substituted args fd.region)) ∷ []) (within_right b st.entries g F _ (within_right b st.entries g E _ w))) u
-                (sub_fits L good g he sub ff h2.shapes u fu) v
-                (fits_grows P h1.shapes h2.shapes s2.grows (env_of g) (class c args) v (subst (λ z. FitsIn P h1.shapes (env_of g) z v) ty fv))
-                (λ h3 s3. (refl, since_since (since_since s s2) s3, frame_since (since_since (since_since s s2) s3) ff))))
+        (λ h2 u s2 fu iu. field_write P b wt L g (Left P b L g true st) h2 at f c k args fd fe kn (subst (TypeInScope L 0) ty (typed_in P wt L good ho))
+        (within_since b (since_since s s2) g (does (writes (substituted args fd.region)) ∷ []) (within_right b st.entries g F _ (within_right b st.entries g E _ w))) u
+        (sub_fits L good g he sub ff h2.shapes u fu) v
+        (fits_grows P h1.shapes h2.shapes s2.grows (env_of g) (class c args) v (subst (λ z. FitsIn P h1.shapes (env_of g) z v) ty fv))
+        (λ h3 s3. (refl, since_since (since_since s s2) s3, frame_since (since_since (since_since s s2) s3) ff))))
     stmt_order {L} (store_element {at = at} {a = a} {i = i} {e = e} {t = t} {rpl = rpl} {named = named} {E = E} {F = F} {G = G} ha ty hi ti rg he sub) q good g st f ff w =
         behind L good g ha _ _ st f ff (within_left b st.entries g E _ w)
         (λ h1 v s fv ix. behind L good g hi _ _ h1 f (frame_since s ff) (within_since b s g _ (within_left b st.entries g F _ (within_right b st.entries g E _ w)))
-            (λ h2 j s2 fj ij. behind L good g he _ _ h2 f (frame_since (since_since s s2) ff) (within_since b (since_since s s2) g _ (within_left b st.entries g G _ (within_right b st.entries g F _ (within_right b st.entries g E _ w))))
-                (λ h3 u s3 fu iu. element_write P b wt L g (Left P b L g true st) h3 at f t rpl named (index_elem L i) (number j) (index_in L i).0 ij rg
-                    (within_since b (since_since (since_since s s2) s3) g (does (writes (path_at 0 (index_elem L i) rpl)) ∷ []) (within_right b st.entries g G _ (within_right b st.entries g F _ (within_right b st.entries g E _ w)))) u
-                    (sub_fits L good g he sub ff h3.shapes u fu) v
-                    (fits_grows P h1.shapes h3.shapes (since_since s2 s3).grows (env_of g) (array t rpl named) v (subst (λ z. FitsIn P h1.shapes (env_of g) z v) ty fv))
-                    (λ h4 s4. (refl, since_since (since_since (since_since s s2) s3) s4, frame_since (since_since (since_since (since_since s s2) s3) s4) ff)))))
+        (λ h2 j s2 fj ij. behind L good g he _ _ h2 f (frame_since (since_since s s2) ff) (within_since b (since_since s s2) g _ (within_left b st.entries g G _ (within_right b st.entries g F _ (within_right b st.entries g E _ w))))
+        (λ h3 u s3 fu iu. element_write P b wt L g (Left P b L g true st) h3 at f t rpl named (index_elem L i) (number j) (index_in L i).0 ij rg
+        (within_since b (since_since (since_since s s2) s3) g (does (writes (path_at 0 (index_elem L i) rpl)) ∷ []) (within_right b st.entries g G _ (within_right b st.entries g F _ (within_right b st.entries g E _ w)))) u
+        (sub_fits L good g he sub ff h3.shapes u fu) v
+        (fits_grows P h1.shapes h3.shapes (since_since s2 s3).grows (env_of g) (array t rpl named) v (subst (λ z. FitsIn P h1.shapes (env_of g) z v) ty fv))
+        (λ h4 s4. (refl, since_since (since_since (since_since s s2) s3) s4, frame_since (since_since (since_since (since_since s s2) s3) s4) ff)))))
     stmt_order {L} (store_part {at = at} {k = k} {t = t} {a = a} {i = i} {e = e} {E = E} {F = F} lk hi ti he sub) q good g st f ff w =
         behind L good g hi _ _ st f ff (within_left b st.entries g E _ w)
         (λ h1 j s fj ij. behind L good g he _ _ h1 f (frame_since s ff) (within_since b s g _ (within_left b st.entries g F _ (within_right b st.entries g E _ w)))
-            (λ h2 u s2 fu iu. part_write P b (Left P b L g true st) h2 at f g k t a (number j) u ((frame_since (since_since s s2) ff).each k (part t a) lk)
-                (within_since b (since_since s s2) g (uses k (writes a) ∷ []) (within_right b st.entries g F _ (within_right b st.entries g E _ w)))
-                (sub_fits L good g he sub ff h2.shapes u fu)
-                (λ h3 s3. (refl, since_since (since_since s s2) s3, frame_since (since_since (since_since s s2) s3) ff))))
+        (λ h2 u s2 fu iu. part_write P b (Left P b L g true st) h2 at f g k t a (number j) u ((frame_since (since_since s s2) ff).each k (part t a) lk)
+        (within_since b (since_since s s2) g (uses k (writes a) ∷ []) (within_right b st.entries g F _ (within_right b st.entries g E _ w)))
+        (sub_fits L good g he sub ff h2.shapes u fu)
+        (λ h3 s3. (refl, since_since (since_since s s2) s3, frame_since (since_since (since_since s s2) s3) ff))))
     stmt_order {L} (perform ip h) q good g st f ff w = behind L good g h _ _ st f ff w (λ h1 v s fv ix. (refl, s, frame_since s ff))
     stmt_order (nested p) q good g st f ff w = stmts_order p q good g st f ff w
     stmt_order {L} (choice {s = a} {E = E} {F = F} h ty p) q good g st f ff w =
         behind L good g h _ _ st f ff (within_left b st.entries g E F w)
         (λ h1 v s fv ix. order_choose P b (Left P b L g true st) h1 (truth v) (gives none f) (of_stmt (named_by b.path) P dp a f)
-            (order_ret P b (Left P b L g true st) h1 (Goes_on none f) (refl, s, frame_since s ff))
-            (order_post P b (Left P b L g (completes a) h1) (Left P b L g true st) (λ u r y. left_since P b L g (completes a) true st h1 u r s (λ e. refl) y) (of_stmt (named_by b.path) P dp a f) h1
-                (single_order p q good g h1 f (frame_since s ff) (within_since b s g F (within_right b st.entries g E F w)))))
+        (order_ret P b (Left P b L g true st) h1 (Goes_on none f) (refl, s, frame_since s ff))
+        (order_post P b (Left P b L g (completes a) h1) (Left P b L g true st) (λ u r y. left_since P b L g (completes a) true st h1 u r s (λ e. refl) y) (of_stmt (named_by b.path) P dp a f) h1
+        (single_order p q good g h1 f (frame_since s ff) (within_since b s g F (within_right b st.entries g E F w)))))
     stmt_order {L} (choice_else {s = a} {t = c} {E = E} {F = F} {G = G} h ty p r) q good g st f ff w =
         behind L good g h _ _ st f ff (within_left b st.entries g E _ w)
         (λ h1 v s fv ix. order_choose P b (Left P b L g (completes a || completes c) st) h1 (truth v) (of_stmt (named_by b.path) P dp c f) (of_stmt (named_by b.path) P dp a f)
-            (order_post P b (Left P b L g (completes c) h1) (Left P b L g (completes a || completes c) st)
-                (λ u x y. left_since P b L g (completes c) (completes a || completes c) st h1 u x s (or_right (completes a) (completes c)) y) (of_stmt (named_by b.path) P dp c f) h1
-                (single_order r q.1 good g h1 f (frame_since s ff) (within_since b s g G (within_right b st.entries g F G (within_right b st.entries g E _ w)))))
-            (order_post P b (Left P b L g (completes a) h1) (Left P b L g (completes a || completes c) st)
-                (λ u x y. left_since P b L g (completes a) (completes a || completes c) st h1 u x s (or_left (completes a) (completes c)) y) (of_stmt (named_by b.path) P dp a f) h1
-                (single_order p q.0 good g h1 f (frame_since s ff) (within_since b s g F (within_left b st.entries g F G (within_right b st.entries g E _ w))))))
-    stmt_order {L} (while_loop {e = e} {s = a} {E = E} {F = F} h ty p) q good g st f ff w =
-        (L, g, ff,
-         λ h1 f1 s ff1. order_post P b _ _ (λ u r y. tested L g e h1 f1 ff1 u r y) _ h1 (expr_order P wt b dp dd L good g h (Yields P L g e h1 f1) h1 f1 ff1 (within_since b s g E (within_left b st.entries g E F w)) (yields P L g e h1 f1)),
-         λ h1 f1 s ff1. order_post P b _ _ (λ u r y. rounded L g (completes a) h1 u r y) _ h1 (single_order p q good g h1 f1 ff1 (within_since b s g F (within_right b st.entries g E F w))),
-         λ h1 r y. looped L g st h1 r y)
+        (order_post P b (Left P b L g (completes c) h1) (Left P b L g (completes a || completes c) st)
+        (λ u x y. left_since P b L g (completes c) (completes a || completes c) st h1 u x s (or_right (completes a) (completes c)) y) (of_stmt (named_by b.path) P dp c f) h1
+        (single_order r q.1 good g h1 f (frame_since s ff) (within_since b s g G (within_right b st.entries g F G (within_right b st.entries g E _ w)))))
+        (order_post P b (Left P b L g (completes a) h1) (Left P b L g (completes a || completes c) st)
+        (λ u x y. left_since P b L g (completes a) (completes a || completes c) st h1 u x s (or_left (completes a) (completes c)) y) (of_stmt (named_by b.path) P dp a f) h1
+        (single_order p q.0 good g h1 f (frame_since s ff) (within_since b s g F (within_left b st.entries g F G (within_right b st.entries g E _ w))))))
+    stmt_order {L} (while_loop {e = e} {s = a} {E = E} {F = F} h ty p) q good g st f ff w = (
+      L,
+      g,
+      ff,
+      λ h1 f1 s ff1. order_post P b _ _ (λ u r y. tested L g e h1 f1 ff1 u r y) _ h1 (expr_order P wt b dp dd L good g h (Yields P L g e h1 f1) h1 f1 ff1 (within_since b s g E (within_left b st.entries g E F w)) (yields P L g e h1 f1)),
+      λ h1 f1 s ff1. order_post P b _ _ (λ u r y. rounded L g (completes a) h1 u r y) _ h1 (single_order p q good g h1 f1 ff1 (within_since b s g F (within_right b st.entries g E F w))),
+      λ h1 r y. looped L g st h1 r y,
+    )
     stmt_order {L} (return_nothing e) q good g st f ff w = (since_now st, subst (λ z. ReturnFits P st.shapes g z none) (sym e) tt)
     stmt_order {L} (return_value {e = e} {t = t} k h sub) q good g st f ff w =
         behind L good g h _ _ st f ff w (λ h1 v s fv ix. (s, subst (λ z. ReturnFits P h1.shapes g z v) (sym k) (sub_fits L good g h sub ff h1.shapes v fv)))
@@ -290,20 +296,20 @@ module _ (P : PlainProgram) (wt : WellTyped P) (b : Bounds) (dp : Option Deeper)
     stmts_order {L} (then' {s = s} {ss = ss} {E = E} {F = F} p c rest) q good g st f ff w =
         order_on P b (Left P b L g (completes s) st) _ (next_of (λ v h. of_stmts (named_by b.path) P dp ss h))
         (followed L g (completes s) (completes s && all_complete ss) st (λ v h. of_stmts (named_by b.path) P dp ss h)
-            (λ h c v cs s2 ffc. order_post P b (Left P b L g (all_complete ss) h) _ (λ u r y. left_since P b L g (all_complete ss) (completes s && all_complete ss) st h u r s2 (λ e. and_from _ _ cs e) y) _ h
-                (stmts_order rest q.1 good g h c ffc (within_since b s2 g F (within_right b st.entries g E F w)))))
+        (λ h c v cs s2 ffc. order_post P b (Left P b L g (all_complete ss) h) _ (λ u r y. left_since P b L g (all_complete ss) (completes s && all_complete ss) st h u r s2 (λ e. and_from _ _ cs e) y) _ h
+        (stmts_order rest q.1 good g h c ffc (within_since b s2 g F (within_right b st.entries g E F w)))))
         _ st (stmt_order p q.0 good g st f ff (within_left b st.entries g E F w))
     stmts_order {L} (declare {x = x} {t = t} {is_final = is_final} {e = e} {ss = ss} {E = E} {F = F} free gt h sub rest) q good g st f ff w =
         order_on P b (Declared g t x st f) _ (next_of (λ v h. of_stmts (named_by b.path) P dp ss h))
         (declared g t x st f (Left P b L g (all_complete ss) st) (λ v h. of_stmts (named_by b.path) P dp ss h)
-            (λ h1 v s2 fv.
-                order_post P b (Left P b (with_local x (declared_as is_final t) L) (with_number x (number v) g) (all_complete ss) h1) _
-                (λ u r y. left_leave L good g x (declared_as is_final t) (number v) free.0 (all_complete ss) st h1 u r s2 y) _ h1
-                (stmts_order rest q.1 (good_declare L good x is_final t free (good_type P L 0 t gt)) (with_number x (number v) g) h1 (with_value f x v)
-                    (frame_declare P b.path h1 g L good f x is_final t v free (good_type P L 0 t gt) fv (frame_since s2 ff))
-                    (λ a gu l. within_since b s2 g _ (within_right b st.entries g E _ w) a gu
-                        (lies_general g x (number v) (with_local x (declared_as is_final t) L) F a
-                        (stmts_effects_in P wt rest (good_declare L good x is_final t free (good_type P L 0 t gt)) q.1) l)))))
+        (λ h1 v s2 fv.
+        order_post P b (Left P b (with_local x (declared_as is_final t) L) (with_number x (number v) g) (all_complete ss) h1) _
+        (λ u r y. left_leave L good g x (declared_as is_final t) (number v) free.0 (all_complete ss) st h1 u r s2 y) _ h1
+        (stmts_order rest q.1 (good_declare L good x is_final t free (good_type P L 0 t gt)) (with_number x (number v) g) h1 (with_value f x v)
+        (frame_declare P b.path h1 g L good f x is_final t v free (good_type P L 0 t gt) fv (frame_since s2 ff))
+        (λ a gu l. within_since b s2 g _ (within_right b st.entries g E _ w) a gu
+        (lies_general g x (number v) (with_local x (declared_as is_final t) L) F a
+        (stmts_effects_in P wt rest (good_declare L good x is_final t free (good_type P L 0 t gt)) q.1) l)))))
         _ st (behind L good g h (Declared g t x st f) _ st f ff (within_left b st.entries g E _ w) (λ h1 v s2 fv ix. order_ret P b (Declared g t x st f) h1 (Goes_on none (with_value f x v)) (v, s2, sub_fits L good g h sub ff h1.shapes v fv, refl)))
     stmts_order (declare_regions fr rest) q good g st f ff w = absurd q.0
 

@@ -1,26 +1,23 @@
 -- Types of the same values, and values that fit a type in an environment.
-use Rattle.std.proofs.Common.{◌≡◌, ◌<◌, ◌↔◌, ℕ, ℤ, zero, suc, pos, Bool, true, false, cond, ◌==◌, ◌||◌, List, [], ◌∷◌, ◌++◌, map, length, refl, sym, ap, ◌∙◌, subst, arith, Some, None, IsTrue, slice_index_or, ⊎_elim, append_assoc}
+use Rattle.std.proofs.Common.{◌≡◌, ◌<◌, ℕ, ℤ, zero, suc, true, List, [], ◌∷◌, ◌++◌, map, refl, sym, ap, ◌∙◌, subst, arith, IsTrue, slice_index_or, append_assoc}
 use Rattle.std.specs.Prelude.{All}
-use Rattle.std.specs.List.{list_any}
 use Rattle.std.proofs.lemmas.List.Folds.{list_any_at}
 use Rattle.std.proofs.lemmas.List.Elements.{All-head, All-tail}
-use Rattle.std.proofs.lemmas.Bool.{cases_Bool, eqb-true, eq-eqb, ne_eqb, false≢true, or_left, or_right}
+use Rattle.std.proofs.lemmas.Bool.{eq-eqb, or_left, or_right}
 use Rattle.dpj_base.specs.declared.elems.Elem.{Elem}
 use Rattle.dpj_base.specs.declared.elems.Elem.TheVariants.{At, Any, Star, Local}
 use Rattle.dpj_base.specs.declared.elems.Elem.TheVariants as elem
-use Rattle.dpj_base.specs.declared.elems.Index.{Index}
 use Rattle.dpj_base.specs.declared.elems.Index.TheVariants.{Literal, Variable, Renamed, Own}
 use Rattle.dpj_base.specs.declared.region.Head.{Head}
 use Rattle.dpj_base.specs.declared.region.Head.TheVariants.{Root, Param}
 use Rattle.dpj_base.specs.declared.region.Rpl.{Rpl}
-use Rattle.dpj_base.specs.Matching.{Env, put_elem, put_in, head_region, number_of, Fits, FitsAll, Matches, with_regions}
-use Rattle.dpj_base.specs.Regions.{same_elem, fully_specified, argument, put_at, substituted, is_any}
-use Rattle.dpj_base.specs.Types.{PlainType, int, boolean, void, null, class, array, type_with, elem_at, path_at, type_at, has_param, mentions_param, rigid_in_param, has_index, mentions_index, rigid_in_index, unnamed, SameType}
+use Rattle.dpj_base.specs.Matching.{Env, put_elem, head_region, FitsAll, Matches, with_regions}
+use Rattle.dpj_base.specs.Regions.{fully_specified, argument, put_at, substituted}
+use Rattle.dpj_base.specs.Types.{PlainType, int, boolean, void, null, class, array, type_with, has_param, mentions_param, rigid_in_param, SameType}
 use Rattle.dpj_typed.specs.Plain.{PlainProgram}
-use Rattle.dpj_regions.specs.Laws.{AgreeOn, with_own}
-use Rattle.dpj_regions.proofs.Reading.{matches_by_what_occurs, own_index_matches_more, own_index_puts_in, known_argument_matches}
+use Rattle.dpj_regions.proofs.Reading.{matches_by_what_occurs, known_argument_matches}
 use Rattle.dpj_runs.specs.Objects.{Name, Value, Int, Boolean, Null, Object, Region}
-use Rattle.dpj_sound.specs.Grounds.{Ground, env_of, elems_of, behind_own, under}
+use Rattle.dpj_sound.specs.Grounds.{env_of, elems_of, behind_own, under}
 use Rattle.dpj_sound.specs.Shapes.{Shapes, Grows, AllMatch, Instance, SameIn, ArrayInstance, IsNullOr, FitsIn}
 use Rattle.dpj_sound.proofs.Closed.{IsClosed, ClosedPath, ClosedType, Agrees, agrees_back, agrees_under, closed_matches}
 
@@ -94,7 +91,10 @@ module _ (P : PlainProgram) (S : Shapes) where
   pub array_onto : (env other : Env) (t u : PlainType) (a b : Rpl) → ((k : ℤ) (r : List Elem) → Matches (under k env) a r → Matches (under k other) b r) →
       ((k : ℤ) → SameIn (under k other) u (under k env) t) → (n : Name) → ArrayInstance S env t a n → ArrayInstance S other u b n
   array_onto env other t u a b h s n i = record {
-    ground = i.ground; element = i.element; rpl = i.rpl; shape = i.shape;
+    ground = i.ground;
+    element = i.element;
+    rpl = i.rpl;
+    shape = i.shape;
     region = λ k. h k _ (i.region k);
     same = λ k. same_trans (under k other) u (under k env) t (under k (env_of i.ground)) i.element (s k) (i.same k);
   }
@@ -177,9 +177,10 @@ closed_same n depth env other g void c = tt
 closed_same n depth env other g null c = tt
 closed_same n depth env other g (class d args) c =
     (refl, λ rs. (match_same env other args (λ k x l. closed_matches n depth env other g _ (c k x l)) rs, match_same other env args (λ k x l. closed_matches n depth other env (agrees_back g) _ (c k x l)) rs))
-closed_same n depth env other g (array t a named) c =
-    (λ k r. (closed_matches n (suc depth) (under k env) (under k other) (agrees_under k g) a c.0 r, closed_matches n (suc depth) (under k other) (under k env) (agrees_back (agrees_under k g)) a c.0 r),
-     λ k. closed_same n (suc depth) (under k env) (under k other) (agrees_under k g) t c.1)
+closed_same n depth env other g (array t a named) c = (
+  λ k r. (closed_matches n (suc depth) (under k env) (under k other) (agrees_under k g) a c.0 r, closed_matches n (suc depth) (under k other) (under k env) (agrees_back (agrees_under k g)) a c.0 r),
+  λ k. closed_same n (suc depth) (under k env) (under k other) (agrees_under k g) t c.1,
+)
 
 -- arguments put in
 
@@ -254,10 +255,11 @@ unfolding Matches
 up_at n depth env inner args s Root a hd c r m = (m.0, m.1, fits_agree inner env a (λ k d l. put_inner depth env inner s.own _ (c k d l)) m.0 m.2)
 up_at n depth env inner args s (Param p) a hd c r m =
     let arg = argument args p in
-    let f = s.match p (hd p refl) in
-    (f.0 ++ m.0,
-     m.1 ∙ ap (λ z. z ++ m.0) f.1 ∙ append_assoc (head_region env arg.head) f.0 m.0,
-     fits_append env arg.elems a f.0 m.0 f.2 (fits_agree inner env a (λ k d l. put_inner depth env inner s.own _ (c k d l)) m.0 m.2))
+    let f = s.match p (hd p refl) in (
+      f.0 ++ m.0,
+      m.1 ∙ ap (λ z. z ++ m.0) f.1 ∙ append_assoc (head_region env arg.head) f.0 m.0,
+      fits_append env arg.elems a f.0 m.0 f.2 (fits_agree inner env a (λ k d l. put_inner depth env inner s.own _ (c k d l)) m.0 m.2),
+    )
 
 pub path_up : (n depth : ℕ) (env inner : Env) (args : List Rpl) → Stands n depth env inner args → (a : Rpl) → ClosedPath n depth a → (r : List Elem) → Matches inner a r → Matches env (substituted args a) r
 unfolding substituted
@@ -279,13 +281,20 @@ same_with n depth env inner args s int c full = tt
 same_with n depth env inner args s boolean c full = tt
 same_with n depth env inner args s void c full = tt
 same_with n depth env inner args s null c full = tt
-same_with n depth env inner args s (class d ps) c full =
-    (refl, λ rs. (match_from inner env (substituted args) ps (λ k x l. path_down n depth env inner args s _ (c k x l) (λ p e. full p (list_any_at (has_param p) ps k x l (has_own_param (slice_index_or ps k x) p e)))) rs,
-     match_onto inner env (substituted args) ps (λ k x l. path_up n depth env inner args s _ (c k x l)) rs))
-same_with n depth env inner args s (array t a named) c full =
-    (λ k r. (path_down n (suc depth) (under k env) (under k inner) args (stands_under k s) a c.0 (λ p e. full p (or_left _ _ (has_own_param a p e))) r,
-     path_up n (suc depth) (under k env) (under k inner) args (stands_under k s) a c.0 r),
-     λ k. same_with n (suc depth) (under k env) (under k inner) args (stands_under k s) t c.1 (λ p e. full p (or_right _ _ e)))
+same_with n depth env inner args s (class d ps) c full = (
+  refl,
+  λ rs. (
+    match_from inner env (substituted args) ps (λ k x l. path_down n depth env inner args s _ (c k x l) (λ p e. full p (list_any_at (has_param p) ps k x l (has_own_param (slice_index_or ps k x) p e)))) rs,
+    match_onto inner env (substituted args) ps (λ k x l. path_up n depth env inner args s _ (c k x l)) rs,
+  ),
+)
+same_with n depth env inner args s (array t a named) c full = (
+  λ k r. (
+    path_down n (suc depth) (under k env) (under k inner) args (stands_under k s) a c.0 (λ p e. full p (or_left _ _ (has_own_param a p e))) r,
+    path_up n (suc depth) (under k env) (under k inner) args (stands_under k s) a c.0 r,
+  ),
+  λ k. same_with n (suc depth) (under k env) (under k inner) args (stands_under k s) t c.1 (λ p e. full p (or_right _ _ e)),
+)
 
 -- a value of the class's type is one of the type with arguments, where the type isn't rigid in one that is known in part
 pub fits_with_up : (P : PlainProgram) (S : Shapes) (n : ℕ) (env inner : Env) (args : List Rpl) → Stands n 0 env inner args → (t : PlainType) → ClosedType n 0 t →

@@ -1,5 +1,5 @@
 -- Work in order, put together.
-use Rattle.std.proofs.Common.{◌≡◌, ◌≤◌, ℕ, List, [], ◌∷◌, refl, sym, ap, ◌∙◌, subst, arith, Some, None, le_trans}
+use Rattle.std.proofs.Common.{◌≡◌, [], ◌∷◌, refl, sym, ◌∙◌, subst, arith, le_trans}
 use Rattle.dpj_base.specs.declared.elems.Elem.TheVariants.{At}
 use Rattle.dpj_base.specs.declared.elems.Index.TheVariants.{Literal}
 use Rattle.dpj_base.specs.Matching.{Fits}

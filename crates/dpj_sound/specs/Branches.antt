@@ -1,7 +1,6 @@
 -- Branches that are in order at their fork: each is typed and its frame fits, what its effects speak of is allowed, and no two
 -- of them touch one cell in a way that shows.
-use Rattle.std.specs.Prelude.{◌≡◌, ◌≢◌, ◌<◌, ℕ, Bool, true, false, ◌||◌, List, [], ◌∷◌, All, length, Option, Some, slice_get, Contains}
-use Rattle.dpj_base.specs.declared.elems.Elem.{Elem}
+use Rattle.std.specs.Prelude.{◌≡◌, ◌≢◌, ◌<◌, ℕ, true, false, ◌||◌, List, [], ◌∷◌, All, length, Some, slice_get, Contains}
 use Rattle.dpj_base.specs.Branches.{ends_atomic}
 use Rattle.dpj_base.specs.Types.{PlainType}
 use Rattle.dpj_typed.specs.declared.stmt.Forking.{Forking}
@@ -16,7 +15,7 @@ use Rattle.dpj_runs.specs.Actions.{Task}
 use Rattle.dpj_runs.specs.Objects.{Name, Value}
 use Rattle.dpj_sound.specs.Grounds.{Ground, env_of}
 use Rattle.dpj_sound.specs.Shapes.{FitsIn}
-use Rattle.dpj_sound.specs.Accesses.{Access, LiesIn, Bounds, is_guarded, Allowed}
+use Rattle.dpj_sound.specs.Accesses.{Access, LiesIn, Bounds, Allowed}
 use Rattle.dpj_sound.specs.Frames.{State, FrameFits}
 use Rattle.dpj_sound.specs.Scopes.{GoodScope}
 

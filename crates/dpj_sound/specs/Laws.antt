@@ -1,5 +1,5 @@
 -- What a well-typed program keeps to, as statements.
-use Rattle.std.specs.Prelude.{◌≡◌, ◌⊎◌, ℕ, Bool, true, IsTrue, List, [], ◌∷◌, Option, Some, None}
+use Rattle.std.specs.Prelude.{◌≡◌, IsTrue, List, [], ◌∷◌, Option, Some, None}
 use Rattle.dpj_base.specs.declared.elems.Elem.TheVariants.{At}
 use Rattle.dpj_base.specs.declared.elems.Index.TheVariants.{Literal}
 use Rattle.dpj_base.specs.Matching.{Fits}
@@ -21,7 +21,7 @@ use Rattle.dpj_sound.specs.Accesses.{Bounds, Within}
 use Rattle.dpj_sound.specs.Frames.{Frame, State, Since, FrameFits}
 use Rattle.dpj_sound.specs.Scopes.{GoodScope}
 use Rattle.dpj_sound.specs.Sequential.{AreSequential}
-use Rattle.dpj_sound.specs.Work.{Result, Prog, GoesFitting, InOrder}
+use Rattle.dpj_sound.specs.Work.{Result, GoesFitting, InOrder}
 
 abbrev pub Deeper : Type 0
 Deeper = DeeperOf Name LocalRegion
