@@ -1,5 +1,5 @@
 -- The effects of expressions and statements speak of nothing but what is in scope.
-use Rattle.std.proofs.Common.{◌≡◌, ℕ, Bool, false, ◌==◌, List, [], ◌∷◌, ◌++◌, length, refl, sym, ◌∙◌, subst, arith, Some, ⊎_elim, slice_get}
+use Rattle.std.proofs.Common.{slice_index_or, true, ◌≡◌, ℕ, Bool, false, ◌==◌, List, [], ◌∷◌, ◌++◌, length, refl, sym, ◌∙◌, subst, arith, Some, ⊎_elim, slice_get}
 use Rattle.std.specs.Prelude.{All}
 use Rattle.std.proofs.lemmas.List.Elements.{All-cons, All-map, All-append}
 use Rattle.std.proofs.lemmas.Bool.{cases_Bool, cond-true, cond-false, eqb-true, eq-eqb, false≢true, false_from_ne_true}
@@ -10,7 +10,7 @@ use Rattle.dpj_base.specs.declared.elems.Index.TheVariants.{Literal, Variable, R
 use Rattle.dpj_base.specs.declared.region.Rpl.{Rpl}
 use Rattle.dpj_base.specs.Regions.{substituted, generalised, general_elem}
 use Rattle.dpj_base.specs.Types.{PlainType, class, array, int, path_at}
-use Rattle.dpj_typed.specs.Effects.{Own as EffectOwn, does, uses, effect_of, effect_with, mapped, outside_variable, summary_with}
+use Rattle.dpj_typed.specs.Effects.{Own as EffectOwn, does, uses, effect_of, effect_with, mapped, outside_variable, summary_with, marked, after_block}
 use Rattle.dpj_typed.specs.Plain.{PlainProgram, PlainClass, PlainField, PlainMember, TypedExpr, type_of, TypedExprs, TypedStmt, TypedStmts}
 use Rattle.dpj_typed.specs.Scope.{Scope, constant, part, class_at, field_at, with_local}
 use Rattle.dpj_typed.specs.Scope.{Local as ScopeLocal}
@@ -24,6 +24,7 @@ use Rattle.dpj_sound.specs.Sequential.{IsSequential, AreSequential}
 use Rattle.dpj_sound.proofs.Closed.{closed_path}
 use Rattle.dpj_sound.proofs.Classes.{field_good}
 use Rattle.dpj_sound.proofs.InScope.{good_path, good_type, substituted_in, at_path_in, index_in, out_path, above_in, typed_in}
+use Rattle.dpj_sound.proofs.Blocks.{good_block}
 use Rattle.dpj_sound.proofs.Locals.{good_declare, inner_local}
 
 abbrev pub OwnInScope : Scope → EffectOwn → Type 0
@@ -110,6 +111,13 @@ module _ (P : PlainProgram) (wt : WellTyped P) where
   pub outside_in : (L : Scope) (x : ℕ) (l : ScopeLocal) (F : List EffectOwn) → All (OwnInScope (with_local x l L)) F → All (OwnInScope L) (outside_variable x F)
   outside_in L x l F s = All-map (OwnInScope L) (mapped (λ e. record e { rpl = generalised x e.rpl })) F (λ k d h. general_in L x l _ (s k d h))
 
+  own_marked : (L : Scope) (c : Bool) (o : EffectOwn) → OwnInScope L o → OwnInScope L (marked c o)
+  own_marked L c (does e) h = h
+  own_marked L c (uses k e) h = h
+
+  pub marked_in : (L : Scope) (E : List EffectOwn) → All (OwnInScope L) E → All (OwnInScope L) (after_block E)
+  marked_in L E h = All-map (OwnInScope L) (marked true) E (λ k d l. own_marked L true (slice_index_or E k d) (h k d l))
+
   mutual
     stmt_effects_in : {L : Scope} {s : TypedStmt} {E : List EffectOwn} → Passes P L s E → GoodScope L → IsSequential s → All (OwnInScope L) E
     stmt_effects_in {L} (store lx h sub) good q = effects_in L good h
@@ -128,7 +136,7 @@ module _ (P : PlainProgram) (wt : WellTyped P) where
     stmt_effects_in {L} (print_int h ty) good q = effects_in L good h
     stmt_effects_in {L} (print_boolean h ty) good q = effects_in L good h
     stmt_effects_in {L} print_text good q = none_in L
-    stmt_effects_in (atomic p se) good q = absurd q
+    stmt_effects_in {L} (atomic {E = E} p se) good q = marked_in L E (stmts_effects_in p (good_block L good) q)
     stmt_effects_in (cobegin calm p nc) good q = absurd q
     stmt_effects_in (foreach calm hs ts hc tc fr p ic) good q = absurd q
     stmt_effects_in (foreach_parts cu hc tc fr p ic lc) good q = absurd q

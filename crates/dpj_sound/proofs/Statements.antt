@@ -1,5 +1,5 @@
 -- Statements of a well-typed program are in order: by recursion on their typing.
-use Rattle.std.proofs.Common.{◌≡◌, inl, ℕ, ℤ, ◌+◌, pos, Bool, true, false, cond, ◌&&◌, ◌||◌, List, [], ◌∷◌, length, refl, sym, ap, ◌∙◌, subst, Option, Some, None, IsTrue}
+use Rattle.std.proofs.Common.{arith, ◌≡◌, inl, ℕ, ℤ, ◌+◌, pos, Bool, true, false, cond, ◌&&◌, ◌||◌, List, [], ◌∷◌, length, refl, sym, ap, ◌∙◌, subst, Option, Some, None, IsTrue, ◌≤◌, map}
 use Rattle.std.specs.Prelude.{All, int_lt}
 use Rattle.std.specs.Int.{w32, int_wrapping_add}
 use Rattle.std.proofs.lemmas.Bool.{and_from, false≢true, or_left, or_right}
@@ -21,30 +21,34 @@ use Rattle.dpj_typed.specs.Table.{class_scope}
 use Rattle.dpj_typed.specs.Types.{Known, Subtype}
 use Rattle.dpj_typed.specs.Typing.{Has, index_elem}
 use Rattle.dpj_typed.specs.WellTyped.{WellTyped}
-use Rattle.dpj_meaning.specs.Core.{Goes_on, Returns, Traps, next_of, and_then}
+use Rattle.dpj_meaning.specs.Core.{Goes_on, Returns, Traps, next_of, and_then, Act}
 use Rattle.dpj_meaning.specs.Counts.{number, truth, slot_value, is_out, part_place, text_of}
 use Rattle.dpj_meaning.specs.Expressions.{gives, none, unless_null, part_element, of_expr}
 use Rattle.dpj_meaning.specs.Statements.{with_value, write_cell, prints, of_stmt, of_stmts}
 use Rattle.dpj_regions.proofs.Putting.{specified_matches_one}
-use Rattle.dpj_runs.specs.Actions.{Write, Print}
+use Rattle.dpj_runs.specs.Actions.{Write, Print, Rest, Enter, Exit}
 use Rattle.dpj_runs.specs.Objects.{Name, Value, Null, Object, Int, Boolean}
 use Rattle.dpj_steps.specs.Steps.{named_by}
 use Rattle.dpj_sound.specs.Grounds.{Ground, env_of, class_env, under}
-use Rattle.dpj_sound.specs.Shapes.{object, elements, Shapes, Instance, ArrayInstance, FitsIn, of_object, of_array}
+use Rattle.dpj_sound.specs.Shapes.{object, elements, Shapes, Instance, ArrayInstance, FitsIn, of_object, of_array, Grows}
 use Rattle.dpj_sound.specs.Accesses.{Access, Speaks, Bounds, Within}
 use Rattle.dpj_sound.specs.Frames.{Frame, State, Since, PartFits, FrameFits}
 use Rattle.dpj_sound.specs.Scopes.{PathInScope, TypeInScope, GoodScope}
 use Rattle.dpj_sound.specs.Sequential.{IsSequential, AreSequential}
-use Rattle.dpj_sound.specs.Work.{Result, Prog, Touches, Reaches, access_of, ReturnFits, Rounds, InOrder}
+use Rattle.dpj_sound.specs.Work.{Result, Prog, Touches, Reaches, access_of, ReturnFits, Rounds, InOrder, without_latest}
 use Rattle.dpj_sound.specs.Laws.{Deeper, Yields, Leaves, DeeperInOrder, SequentialInOrder}
 use Rattle.dpj_sound.proofs.Closed.{closed_path, closed_type}
 use Rattle.dpj_sound.proofs.Types.{fits_grows, fits_same, same_sym, fits_with_down, path_up}
 use Rattle.dpj_sound.proofs.Indices.{IsIndexElem, fits_at_down, region_at_up, same_inside, region_alone}
 use Rattle.dpj_sound.proofs.Classes.{env_alone, good_is, field_good, field_is, stands_args, subtype_fits}
 use Rattle.dpj_sound.proofs.InScope.{good_type, paths_alone, index_in, typed_in}
-use Rattle.dpj_sound.proofs.InEffects.{stmts_effects_in}
+use Rattle.dpj_sound.proofs.InEffects.{stmts_effects_in, marked_in}
 use Rattle.dpj_sound.proofs.Frames.{frame_since, frame_env, within_left, within_right, within_since}
 use Rattle.dpj_sound.proofs.Locals.{with_number, frame_outside, frame_store, frame_declare, frame_leave, good_declare, number_alike, lies_general}
+use Rattle.dpj_meaning.specs.Regions.{around, concrete_effect}
+use Rattle.dpj_typed.specs.Scope.{in_atomic_block}
+use Rattle.dpj_runs.specs.Objects.{Effect as RunEffect}
+use Rattle.dpj_sound.proofs.Blocks.{good_block, frame_later, frame_block, frame_unblock, within_block}
 use Rattle.dpj_sound.proofs.Alike.{fits_alike, ground_back}
 use Rattle.dpj_sound.proofs.Expressions.{order_unless, order_choose, order_trap}
 use Rattle.dpj_sound.proofs.Typed.{type_alone, inside_part, yields, expr_order}
@@ -184,6 +188,20 @@ module _ (P : PlainProgram) (wt : WellTyped P) (b : Bounds) (dp : Option Deeper)
   looped L g st u (Goes_on v f) y = (refl, y.0, y.1)
   looped L g st u (Returns v) y = y
 
+  -- behind the body of an atomic block
+  leaves_block : (L : Scope) (g : Ground) (c : Bool) (st u : State) (Es : List RunEffect) → Grows st.shapes u.shapes → st.made ≤ u.made → u.entries ≡ Es ∷ st.entries →
+      (h : State) (r : Result) → Left P b (in_atomic_block L) g c u h r → InOrder P b (Left P b L g true st) h (next_of (λ v k. Act Exit (λ c. gives none k)) r)
+  unfolding InOrder
+  leaves_block L g c st u Es grown made e h (Goes_on v k) y = (tt, λ x z after ans.
+      (refl,
+       record {
+         grows = λ n i q. after.grows n i (y.1.grows n i (grown n i q));
+         made = (let m1 = y.1.made in let m2 = after.made in omega (arith, made, m1, m2));
+         entries = after.entries ∙ ap without_latest (y.1.entries ∙ e);
+       },
+       frame_unblock L (frame_later after.grows (let m = after.made in omega (arith, m)) y.2)))
+  leaves_block L g c st u Es grown made e h (Returns v) y = absurd y.1
+
   -- where a statement goes on
   followed : (L : Scope) (g : Ground) (c d : Bool) (st : State) (j : Value → Frame → Prog) →
       ((h : State) (f : Frame) (v : Value) → c ≡ true → Since st h → FrameFits P b.path h g L f → InOrder P b (Left P b L g d st) h (j v f)) →
@@ -276,7 +294,16 @@ module _ (P : PlainProgram) (wt : WellTyped P) (b : Bounds) (dp : Option Deeper)
     stmt_order {L} (print_boolean h ty) q good g st f ff w =
         behind L good g h _ _ st f ff w (λ h1 v s fv ix. order_prints P b (Left P b L g true st) h1 (text_of v) f (λ u s2. (refl, since_since s s2, frame_since (since_since s s2) ff)))
     stmt_order {L} (print_text {text = text}) q good g st f ff w = order_prints P b (Left P b L g true st) st text f (λ u s. (refl, s, frame_since s ff))
-    stmt_order (atomic p se) q good g st f ff w = absurd q
+    stmt_order {L} (atomic {entry = entry} {ss = ss} {E = E} p se) q good g st f ff w =
+        (tt, λ x h after ans. (tt, λ y u enters ans'.
+            (let s : Since st h = since_after Rest refl after in
+            let e : u.entries ≡ map (concrete_effect (named_by b.path) (around f)) entry ∷ st.entries = enters.entries ∙ ap (λ z. map (concrete_effect (named_by b.path) (around f)) entry ∷ z) s.entries in
+            let grown : Grows st.shapes u.shapes = (λ n z i. enters.grows n z (s.grows n z i)) in
+            let made : st.made ≤ u.made = (let m = s.made in let n = enters.made in omega (arith, m, n)) in
+            order_on P b (Left P b (in_atomic_block L) g (all_complete ss) u) (Left P b L g true st) (next_of (λ v k. Act Exit (λ c. gives none k)))
+            (leaves_block L g (all_complete ss) st u (map (concrete_effect (named_by b.path) (around f)) entry) grown made e) (of_stmts (named_by b.path) P dp ss f) u
+            (stmts_order p q (good_block L good) g u f (frame_block L (frame_later grown made ff))
+                (subst (λ z. Within b z g E) (sym e) (within_block P b L g st f ff entry E st.entries se (marked_in P wt L E (stmts_effects_in P wt p (good_block L good) q)) w))))))
     stmt_order (cobegin calm p nc) q good g st f ff w = absurd q
     stmt_order (foreach calm hs ts hc tc fr p ic) q good g st f ff w = absurd q
     stmt_order (foreach_parts cu hc tc fr p ic lc) q good g st f ff w = absurd q

@@ -235,7 +235,7 @@ fits_agree env other a h r f =
     let m = (matches_by_what_occurs env other (record { head = Root; elems = a }) (record { head = refl; elems = h }) r).0 (r, refl, f) in
     subst (FitsAll other a) (sym m.1) m.2
 
-fits_append : (env : Env) (a b r q : List Elem) → FitsAll env a r → FitsAll env b q → FitsAll env (a ++ b) (r ++ q)
+pub fits_append : (env : Env) (a b r q : List Elem) → FitsAll env a r → FitsAll env b q → FitsAll env (a ++ b) (r ++ q)
 fits_append env [] b r q f g = subst (λ z. FitsAll env b (z ++ q)) (sym f) g
 fits_append env (x ∷ a) b r q f g = (f.0, f.1 ++ q, ap (λ z. z ++ q) f.2 ∙ append_assoc f.0 f.1 q, f.3, fits_append env a b f.1 q f.4 g)
 

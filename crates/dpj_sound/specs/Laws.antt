@@ -50,7 +50,7 @@ ExpressionsInOrder = (P : PlainProgram) → WellTyped P → (b : Bounds) (dp : O
     (L : Scope) (e : TypedExpr) (E : List Own) → Has P L e E → GoodScope L → (g : Ground) (st : State) (f : Frame) → FrameFits P b.path st g L f → Within b st.entries g E →
     InOrder P b (Yields P L g e st f) st (of_expr (named_by b.path) P dp e f)
 
--- statements without parallel constructs, atomic blocks and local regions are in order: from locals that fit they make only
+-- statements without parallel constructs and local regions are in order: from locals that fit they make only
 -- accesses that their effects speak of, and leave locals that fit, or give a value of the type that a `return` gives
 abbrev pub SequentialInOrder : Type 0
 SequentialInOrder = (P : PlainProgram) → WellTyped P → (b : Bounds) (dp : Option Deeper) → DeeperInOrder P b dp →

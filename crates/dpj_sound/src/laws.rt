@@ -7,7 +7,7 @@ pub fn law_expressions()
     ensures { ExpressionsInOrder }
 {}
 
-/// So are its statements, those with parallel constructs, atomic blocks and local regions left aside.
+/// So are its statements, those with parallel constructs and local regions left aside.
 pub fn law_statements()
     ensures { SequentialInOrder }
 {}
