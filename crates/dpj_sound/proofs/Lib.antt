@@ -15,6 +15,7 @@ pub mod Indices
 pub mod Locals
 pub mod Making
 pub mod Members
+pub mod Quiet
 pub mod Statements
 pub mod Typed
 pub mod Types

@@ -24,7 +24,7 @@ use Rattle.dpj_meaning.specs.Statements.{with_value}
 use Rattle.dpj_regions.proofs.Reading.{matches_by_what_occurs}
 use Rattle.dpj_regions.proofs.Putting.{general_matches_more}
 use Rattle.dpj_runs.specs.Objects.{Path, Value}
-use Rattle.dpj_sound.specs.Grounds.{Ground, env_of}
+use Rattle.dpj_sound.specs.Grounds.{with_number, Ground, env_of}
 use Rattle.dpj_sound.specs.Shapes.{Shapes, FitsIn}
 use Rattle.dpj_sound.specs.Accesses.{Access, Speaks, Covers, LiesIn}
 use Rattle.dpj_sound.specs.Frames.{Frame, State, LocalFits, FrameFits}
@@ -77,10 +77,6 @@ frame_store P p st g L good f x t v lx fv ff = record {
       (λ u a q. (let r = good.parts y u a (e ∙ ap (λ z. Some z) q) in (variable_not L x (y + 1) t reserved lx r.0 (λ q. cc), variable_not L x (y + 2) t reserved lx r.1 (λ q. cc)))) (ff.each y l e))
       (cases_Bool (y == x));
 }
-
--- the ground in which a declared local has its number
-abbrev pub with_number : ℕ → ℤ → Ground → Ground
-with_number x k g = record g { index = λ y. cond (x == y) k (g.index y) }
 
 -- it is alike in a scope where the local isn't
 pub number_alike : (L : Scope) (g : Ground) (x : ℕ) (k : ℤ) → L.local x ≡ None → Alike L g (with_number x k g)

@@ -29,7 +29,7 @@ use Rattle.dpj_regions.proofs.Putting.{specified_matches_one}
 use Rattle.dpj_runs.specs.Actions.{Write, Print, Rest, Enter, Exit}
 use Rattle.dpj_runs.specs.Objects.{Name, Value, Null, Object, Int, Boolean}
 use Rattle.dpj_steps.specs.Steps.{named_by}
-use Rattle.dpj_sound.specs.Grounds.{Ground, env_of, class_env, under}
+use Rattle.dpj_sound.specs.Grounds.{with_number, Ground, env_of, class_env, under}
 use Rattle.dpj_sound.specs.Shapes.{object, elements, Shapes, Instance, ArrayInstance, FitsIn, of_object, of_array, Grows}
 use Rattle.dpj_sound.specs.Accesses.{Access, Speaks, Bounds, Within}
 use Rattle.dpj_sound.specs.Frames.{Frame, State, Since, PartFits, FrameFits}
@@ -44,7 +44,7 @@ use Rattle.dpj_sound.proofs.Classes.{env_alone, good_is, field_good, field_is, s
 use Rattle.dpj_sound.proofs.InScope.{good_type, paths_alone, index_in, typed_in}
 use Rattle.dpj_sound.proofs.InEffects.{stmts_effects_in, marked_in}
 use Rattle.dpj_sound.proofs.Frames.{frame_since, frame_env, within_left, within_right, within_since}
-use Rattle.dpj_sound.proofs.Locals.{with_number, frame_outside, frame_store, frame_declare, frame_leave, good_declare, number_alike, lies_general}
+use Rattle.dpj_sound.proofs.Locals.{frame_outside, frame_store, frame_declare, frame_leave, good_declare, number_alike, lies_general}
 use Rattle.dpj_meaning.specs.Regions.{around, concrete_effect}
 use Rattle.dpj_typed.specs.Scope.{in_atomic_block}
 use Rattle.dpj_runs.specs.Objects.{Effect as RunEffect}

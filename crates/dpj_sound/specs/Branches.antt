@@ -15,7 +15,7 @@ use Rattle.dpj_runs.specs.Actions.{Task}
 use Rattle.dpj_runs.specs.Objects.{Name, Value}
 use Rattle.dpj_sound.specs.Grounds.{Ground, env_of}
 use Rattle.dpj_sound.specs.Shapes.{FitsIn}
-use Rattle.dpj_sound.specs.Accesses.{Access, LiesIn, Bounds, Allowed}
+use Rattle.dpj_sound.specs.Accesses.{Access, Bounds, LiesIn, Within}
 use Rattle.dpj_sound.specs.Frames.{State, FrameFits}
 use Rattle.dpj_sound.specs.Scopes.{GoodScope}
 
@@ -41,7 +41,7 @@ pub record BranchFits (P : PlainProgram) (b : Bounds) (st : State) (i : ℕ) (t 
   pub scope : GoodScope M
   pub fits : (u : ℕ) → FrameFits P ((u, i) ∷ b.path) (record { shapes = st.shapes; made = 0; entries = [] }) k M (begun t.work.takes t.frame)
   pub copies : All (IsVariable M) t.work.copies
-  pub within : (a : Access) → LiesIn k F a → Allowed b st.entries a
+  pub within : Within b st.entries k F
 
 pub record Forks (P : PlainProgram) (b : Bounds) (st : State) (forking : Forking) (ts : List Task) : Type 0 where
   pub scope : ℕ → Scope

@@ -1,10 +1,14 @@
 -- What a well-typed program keeps to, as statements.
-use Rattle.std.specs.Prelude.{◌≡◌, IsTrue, List, [], ◌∷◌, Option, Some, None}
+use Rattle.std.specs.Prelude.{◌≡◌, IsTrue, List, [], ◌∷◌, Option, Some, None, All, false, ℤ, ◌≢◌, ℕ}
 use Rattle.dpj_base.specs.declared.elems.Elem.TheVariants.{At}
 use Rattle.dpj_base.specs.declared.elems.Index.TheVariants.{Literal}
-use Rattle.dpj_base.specs.Matching.{Fits}
+use Rattle.dpj_base.specs.declared.effect.Constraint.{Constraint}
+use Rattle.dpj_base.specs.Branches.{lists_clash, iterations_clash}
+use Rattle.dpj_base.specs.Matching.{Fits, IsEnv}
+use Rattle.dpj_regions.specs.Laws.{HasNoCopies}
+use Rattle.dpj_typed.specs.declared.stmt.Forking.TheVariants.{Deterministic}
 use Rattle.dpj_typed.specs.Plain.{PlainProgram, TypedExpr, type_of, TypedStmts}
-use Rattle.dpj_typed.specs.Effects.{Own}
+use Rattle.dpj_typed.specs.Effects.{Own, effect_of, as_effects}
 use Rattle.dpj_typed.specs.Scope.{Scope}
 use Rattle.dpj_typed.specs.Statements.{AllPass, all_complete}
 use Rattle.dpj_typed.specs.Typing.{Has, index_elem}
@@ -15,11 +19,12 @@ use Rattle.dpj_meaning.specs.Expressions.{Deeper as DeeperOf, of_expr}
 use Rattle.dpj_meaning.specs.Statements.{of_stmts}
 use Rattle.dpj_runs.specs.Objects.{Name, LocalRegion}
 use Rattle.dpj_steps.specs.Steps.{named_by}
-use Rattle.dpj_sound.specs.Grounds.{Ground, env_of}
+use Rattle.dpj_sound.specs.Grounds.{Ground, env_of, with_number}
 use Rattle.dpj_sound.specs.Shapes.{FitsIn}
 use Rattle.dpj_sound.specs.Accesses.{Bounds, Within}
 use Rattle.dpj_sound.specs.Frames.{Frame, State, Since, FrameFits}
-use Rattle.dpj_sound.specs.Scopes.{GoodScope}
+use Rattle.dpj_sound.specs.Scopes.{PathInScope, GoodScope}
+use Rattle.dpj_sound.specs.Branches.{Quiet}
 use Rattle.dpj_sound.specs.Sequential.{AreSequential}
 use Rattle.dpj_sound.specs.Work.{Result, GoesFitting, InOrder}
 
@@ -56,3 +61,14 @@ abbrev pub SequentialInOrder : Type 0
 SequentialInOrder = (P : PlainProgram) → WellTyped P → (b : Bounds) (dp : Option Deeper) → DeeperInOrder P b dp →
     (L : Scope) (ss : TypedStmts) (E : List Own) → AllPass P L ss E → AreSequential ss → GoodScope L → (g : Ground) (st : State) (f : Frame) →
     FrameFits P b.path st g L f → Within b st.entries g E → InOrder P b (Leaves P b L g ss st) st (of_stmts (named_by b.path) P dp ss f)
+
+-- effects that don't clash speak of no two accesses that meet
+abbrev pub BranchesQuiet : Type 0
+BranchesQuiet = (P : PlainProgram) (given : List Constraint) (g : Ground) → IsEnv given (env_of g) → (E F : List Own) →
+    lists_clash given None (as_effects E) (as_effects F) ≡ false → Quiet P Deterministic g E g F
+
+-- nor do effects of two iterations of a loop, where none clashes with its copy
+abbrev pub IterationsQuiet : Type 0
+IterationsQuiet = (P : PlainProgram) (given : List Constraint) (L : Scope) (g : Ground) (x : ℕ) (j k : ℤ) → IsEnv given (env_of (with_number x j g)) → All HasNoCopies given →
+    (E : List Own) → All (λ o. PathInScope L 0 (effect_of o).rpl) E → iterations_clash given None x (as_effects E) ≡ false → j ≢ k →
+    Quiet P Deterministic (with_number x j g) E (with_number x k g) E
