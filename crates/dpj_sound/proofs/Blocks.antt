@@ -1,13 +1,11 @@
 -- Inside an atomic block: its scope, its frames, and that what its body does lies in the effects with which it was entered.
-use Rattle.std.proofs.Common.{◌≡◌, ◌<◌, ◌≤◌, inl, inr, ℕ, zero, suc, Bool, true, false, ◌||◌, List, [], ◌∷◌, ◌++◌, map, length, refl, sym, ap, ◌∙◌, subst, arith, Some, slice_index_or}
-use Rattle.std.specs.Prelude.{All, Contains, ◌↔◌}
-use Rattle.std.proofs.lemmas.List.{get_or-map, length-map}
+use Rattle.std.proofs.Common.{◌≡◌, ◌<◌, ◌≤◌, inl, inr, ℕ, zero, suc, true, List, [], ◌∷◌, ◌++◌, map, length, refl, sym, subst, arith, slice_index_or}
+use Rattle.std.specs.Prelude.{All, Contains}
 use Rattle.std.proofs.lemmas.List.Elements.{All-head, All-tail}
 use Rattle.std.proofs.lemmas.Bool.{and_parts, or_right, false≢true}
 use Rattle.dpj_base.specs.declared.effect.Effect.{Effect}
 use Rattle.dpj_base.specs.declared.elems.Elem.{Elem}
 use Rattle.dpj_base.specs.declared.elems.Elem.TheVariants.{Name, At, Any, Star, Local}
-use Rattle.dpj_base.specs.declared.elems.Index.{Index}
 use Rattle.dpj_base.specs.declared.elems.Index.TheVariants.{Literal, Variable, Renamed, Own}
 use Rattle.dpj_base.specs.declared.region.Head.{Head}
 use Rattle.dpj_base.specs.declared.region.Head.TheVariants.{Root, Param}
@@ -19,13 +17,13 @@ use Rattle.dpj_typed.specs.Plain.{PlainProgram}
 use Rattle.dpj_typed.specs.Scope.{Scope, in_atomic_block}
 use Rattle.dpj_typed.specs.Statements.{SameEffects}
 use Rattle.dpj_meaning.specs.Regions.{around, concrete, concrete_effect}
-use Rattle.dpj_runs.specs.Objects.{Path, Region}
+use Rattle.dpj_runs.specs.Objects.{Path}
 use Rattle.dpj_runs.specs.Objects.{Effect as RunEffect}
 use Rattle.dpj_steps.specs.Steps.{named_by}
-use Rattle.dpj_sound.specs.Grounds.{elems_of, Ground, env_of, region_in}
+use Rattle.dpj_sound.specs.Grounds.{Ground, env_of}
 use Rattle.dpj_sound.specs.Shapes.{Grows}
-use Rattle.dpj_sound.specs.Accesses.{Access, Speaks, Covers, LiesIn, as_path, run_env, LiesInEntry, Bounds, is_guarded, InEachEntry, Allowed, Within}
-use Rattle.dpj_sound.specs.Frames.{Frame, State, Since, FrameFits}
+use Rattle.dpj_sound.specs.Accesses.{Access, Speaks, Covers, LiesIn, as_path, run_env, LiesInEntry, Bounds, Within}
+use Rattle.dpj_sound.specs.Frames.{Frame, State, FrameFits}
 use Rattle.dpj_sound.specs.Scopes.{PathInScope, GoodScope}
 use Rattle.dpj_sound.proofs.Types.{fits_append}
 use Rattle.dpj_sound.proofs.Frames.{concrete_put, old_later, local_later}
@@ -36,22 +34,44 @@ good_block L good = record { each = good.each; slots = good.slots; parts = good.
 -- the same frame, in a later state and inside a block or outside it
 pub frame_later : {P : PlainProgram} {p : Path} {s t : State} {g : Ground} {L : Scope} {f : Frame} → Grows s.shapes t.shapes → s.made ≤ t.made → FrameFits P p s g L f → FrameFits P p t g L f
 frame_later {P} {p} {s} {t} {g} {L} {f} h m ff = record {
-  regions = ff.regions; plain = ff.plain; given = ff.given; index = ff.index; made = ff.made; distinct = ff.distinct;
+  regions = ff.regions;
+  plain = ff.plain;
+  given = ff.given;
+  index = ff.index;
+  made = ff.made;
+  distinct = ff.distinct;
   old = λ r. old_later p s.made t.made r m (g.made r) (ff.old r);
-  slots = ff.slots; local_regions = ff.local_regions;
+  slots = ff.slots;
+  local_regions = ff.local_regions;
   each = λ x l e. local_later P s.shapes t.shapes h g f.values x l (ff.each x l e);
 }
 
 pub frame_block : {P : PlainProgram} {p : Path} {s : State} {g : Ground} {f : Frame} (L : Scope) → FrameFits P p s g L f → FrameFits P p s g (in_atomic_block L) f
 frame_block L ff = record {
-  regions = ff.regions; plain = ff.plain; given = ff.given; index = ff.index; made = ff.made; distinct = ff.distinct; old = ff.old;
-  slots = ff.slots; local_regions = ff.local_regions; each = ff.each;
+  regions = ff.regions;
+  plain = ff.plain;
+  given = ff.given;
+  index = ff.index;
+  made = ff.made;
+  distinct = ff.distinct;
+  old = ff.old;
+  slots = ff.slots;
+  local_regions = ff.local_regions;
+  each = ff.each;
 }
 
 pub frame_unblock : {P : PlainProgram} {p : Path} {s : State} {g : Ground} {f : Frame} (L : Scope) → FrameFits P p s g (in_atomic_block L) f → FrameFits P p s g L f
 frame_unblock L ff = record {
-  regions = ff.regions; plain = ff.plain; given = ff.given; index = ff.index; made = ff.made; distinct = ff.distinct; old = ff.old;
-  slots = ff.slots; local_regions = ff.local_regions; each = ff.each;
+  regions = ff.regions;
+  plain = ff.plain;
+  given = ff.given;
+  index = ff.index;
+  made = ff.made;
+  distinct = ff.distinct;
+  old = ff.old;
+  slots = ff.slots;
+  local_regions = ff.local_regions;
+  each = ff.each;
 }
 
 -- a path with a ground put in matches what the path matches
@@ -87,9 +107,12 @@ head_plain env r (Param p) = r p
 
 put_matches : (env : Env) → ((p : ℕ) → all_plain (env.region p) ≡ true) → (a : Rpl) (r : List Elem) → Matches env a r → Matches run_env (record { head = Root; elems = (put_in env a).elems }) r
 unfolding Matches put_in
-put_matches env plain a r m =
-    (r, refl, subst (FitsAll run_env (head_region env a.head ++ map (put_elem env) a.elems)) (sym m.1)
-    (fits_append run_env (head_region env a.head) (map (put_elem env) a.elems) (head_region env a.head) m.0 (plain_selves (head_region env a.head) (head_plain env plain a.head)) (all_put env a.elems m.0 m.2)))
+put_matches env plain a r m = (
+  r,
+  refl,
+  subst (FitsAll run_env (head_region env a.head ++ map (put_elem env) a.elems)) (sym m.1)
+      (fits_append run_env (head_region env a.head) (map (put_elem env) a.elems) (head_region env a.head) m.0 (plain_selves (head_region env a.head) (head_plain env plain a.head)) (all_put env a.elems m.0 m.2)),
+)
 
 module _ (P : PlainProgram) (b : Bounds) (L : Scope) (g : Ground) (st : State) (f : Frame) (ff : FrameFits P b.path st g L f) where
   -- an effect of the entry speaks of what the effect speaks of

@@ -1,8 +1,8 @@
 -- Effects that don't clash speak of no two accesses that meet.
-use Rattle.std.proofs.Common.{◌≡◌, ◌≢◌, ◌⊎◌, inl, inr, ⊎_elim, ℕ, ℤ, Bool, true, false, not, cond, ◌==◌, ◌&&◌, ◌||◌, List, [], ◌∷◌, map, refl, sym, ap, ◌∙◌, subst, arith, None, IsTrue, slice_index_or}
+use Rattle.std.proofs.Common.{◌≡◌, ◌⊎◌, inl, inr, ⊎_elim, ℕ, ℤ, Bool, true, false, not, cond, ◌==◌, ◌&&◌, ◌||◌, List, [], ◌∷◌, map, refl, sym, ap, ◌∙◌, subst, None, slice_index_or}
 use Rattle.std.specs.Prelude.{All}
 use Rattle.std.proofs.lemmas.List.Elements.{All-head, All-tail}
-use Rattle.std.proofs.lemmas.Bool.{cases_Bool, cond-true, eq-eqb, false≢true, or_left, or_right}
+use Rattle.std.proofs.lemmas.Bool.{cond-true, eq-eqb, false≢true, or_left, or_right}
 use Rattle.dpj_base.specs.declared.effect.Constraint.{Constraint}
 use Rattle.dpj_base.specs.declared.effect.Effect.{Effect}
 use Rattle.dpj_base.specs.declared.elems.Elem.{Elem}
@@ -17,7 +17,7 @@ use Rattle.dpj_base.specs.Effects.{is_write, interferes}
 use Rattle.dpj_base.specs.Matching.{Env, IsEnv, put_elem, head_region, Matches, with_index}
 use Rattle.dpj_typed.specs.Effects.{Own as EffectOwn, does, uses, effect_of, as_effects}
 use Rattle.dpj_typed.specs.Scope.{Scope}
-use Rattle.dpj_regions.specs.Laws.{another, with_copy}
+use Rattle.dpj_regions.specs.Laws.{with_copy}
 use Rattle.dpj_regions.proofs.Reading.{matches_by_what_occurs, renamed_matches, copies_exist}
 use Rattle.dpj_disjoint.proofs.Envs.{no_common}
 use Rattle.dpj_sound.specs.Grounds.{Ground, env_of, with_number}

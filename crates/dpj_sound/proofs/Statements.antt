@@ -26,7 +26,7 @@ use Rattle.dpj_meaning.specs.Counts.{number, truth, slot_value, is_out, part_pla
 use Rattle.dpj_meaning.specs.Expressions.{gives, none, unless_null, part_element, of_expr}
 use Rattle.dpj_meaning.specs.Statements.{with_value, write_cell, prints, of_stmt, of_stmts}
 use Rattle.dpj_regions.proofs.Putting.{specified_matches_one}
-use Rattle.dpj_runs.specs.Actions.{Write, Print, Rest, Enter, Exit}
+use Rattle.dpj_runs.specs.Actions.{Write, Print, Rest, Exit}
 use Rattle.dpj_runs.specs.Objects.{Name, Value, Null, Object, Int, Boolean}
 use Rattle.dpj_steps.specs.Steps.{named_by}
 use Rattle.dpj_sound.specs.Grounds.{with_number, Ground, env_of, class_env, under}
@@ -192,14 +192,18 @@ module _ (P : PlainProgram) (wt : WellTyped P) (b : Bounds) (dp : Option Deeper)
   leaves_block : (L : Scope) (g : Ground) (c : Bool) (st u : State) (Es : List RunEffect) → Grows st.shapes u.shapes → st.made ≤ u.made → u.entries ≡ Es ∷ st.entries →
       (h : State) (r : Result) → Left P b (in_atomic_block L) g c u h r → InOrder P b (Left P b L g true st) h (next_of (λ v k. Act Exit (λ c. gives none k)) r)
   unfolding InOrder
-  leaves_block L g c st u Es grown made e h (Goes_on v k) y = (tt, λ x z after ans.
-      (refl,
-       record {
-         grows = λ n i q. after.grows n i (y.1.grows n i (grown n i q));
-         made = (let m1 = y.1.made in let m2 = after.made in omega (arith, made, m1, m2));
-         entries = after.entries ∙ ap without_latest (y.1.entries ∙ e);
-       },
-       frame_unblock L (frame_later after.grows (let m = after.made in omega (arith, m)) y.2)))
+  leaves_block L g c st u Es grown made e h (Goes_on v k) y = (
+    tt,
+    λ x z after ans. (
+      refl,
+      record {
+        grows = λ n i q. after.grows n i (y.1.grows n i (grown n i q));
+        made = (let m1 = y.1.made in let m2 = after.made in omega (arith, made, m1, m2));
+        entries = after.entries ∙ ap without_latest (y.1.entries ∙ e);
+      },
+      frame_unblock L (frame_later after.grows (let m = after.made in omega (arith, m)) y.2),
+    ),
+  )
   leaves_block L g c st u Es grown made e h (Returns v) y = absurd y.1
 
   -- where a statement goes on
@@ -294,8 +298,11 @@ module _ (P : PlainProgram) (wt : WellTyped P) (b : Bounds) (dp : Option Deeper)
     stmt_order {L} (print_boolean h ty) q good g st f ff w =
         behind L good g h _ _ st f ff w (λ h1 v s fv ix. order_prints P b (Left P b L g true st) h1 (text_of v) f (λ u s2. (refl, since_since s s2, frame_since (since_since s s2) ff)))
     stmt_order {L} (print_text {text = text}) q good g st f ff w = order_prints P b (Left P b L g true st) st text f (λ u s. (refl, s, frame_since s ff))
-    stmt_order {L} (atomic {entry = entry} {ss = ss} {E = E} p se) q good g st f ff w =
-        (tt, λ x h after ans. (tt, λ y u enters ans'.
+    stmt_order {L} (atomic {entry = entry} {ss = ss} {E = E} p se) q good g st f ff w = (
+      tt,
+      λ x h after ans. (
+        tt,
+        λ y u enters ans'.
             (let s : Since st h = since_after Rest refl after in
             let e : u.entries ≡ map (concrete_effect (named_by b.path) (around f)) entry ∷ st.entries = enters.entries ∙ ap (λ z. map (concrete_effect (named_by b.path) (around f)) entry ∷ z) s.entries in
             let grown : Grows st.shapes u.shapes = (λ n z i. enters.grows n z (s.grows n z i)) in
@@ -303,7 +310,9 @@ module _ (P : PlainProgram) (wt : WellTyped P) (b : Bounds) (dp : Option Deeper)
             order_on P b (Left P b (in_atomic_block L) g (all_complete ss) u) (Left P b L g true st) (next_of (λ v k. Act Exit (λ c. gives none k)))
             (leaves_block L g (all_complete ss) st u (map (concrete_effect (named_by b.path) (around f)) entry) grown made e) (of_stmts (named_by b.path) P dp ss f) u
             (stmts_order p q (good_block L good) g u f (frame_block L (frame_later grown made ff))
-                (subst (λ z. Within b z g E) (sym e) (within_block P b L g st f ff entry E st.entries se (marked_in P wt L E (stmts_effects_in P wt p (good_block L good) q)) w))))))
+            (subst (λ z. Within b z g E) (sym e) (within_block P b L g st f ff entry E st.entries se (marked_in P wt L E (stmts_effects_in P wt p (good_block L good) q)) w)))),
+      ),
+    )
     stmt_order (cobegin calm p nc) q good g st f ff w = absurd q
     stmt_order (foreach calm hs ts hc tc fr p ic) q good g st f ff w = absurd q
     stmt_order (foreach_parts cu hc tc fr p ic lc) q good g st f ff w = absurd q
