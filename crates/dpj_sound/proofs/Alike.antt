@@ -62,10 +62,12 @@ head_alike env other e (Param p) = e p
 pub alike_on : (L : Scope) (depth : ℕ) (env other : Env) → EnvAlike L depth env other → (a : Rpl) → PathInScope L depth a → AgreeOn env other a
 alike_on L depth env other g a s = record { head = head_alike env other g.region a.head; elems = λ k d l. elem_alike L depth env other g _ (s k d l) }
 
-pub alike_matches : (L : Scope) (depth : ℕ) (env other : Env) → EnvAlike L depth env other → (a : Rpl) → PathInScope L depth a → (r : List Elem) → Matches env a r → Matches other a r
+pub alike_matches : (L : Scope) (depth : ℕ) (env other : Env) → EnvAlike L depth env other → (a : Rpl) → PathInScope L depth a → (r : List Elem) →
+    Matches env a r → Matches other a r
 alike_matches L depth env other g a s r m = (matches_by_what_occurs env other a (alike_on L depth env other g a s) r).0 m
 
-pub alike_holds : (L : Scope) (env other : Env) → EnvAlike L 0 env other → (c : Constraint) → PathInScope L 0 c.left → PathInScope L 0 c.right → Holds env c → Holds other c
+pub alike_holds : (L : Scope) (env other : Env) → EnvAlike L 0 env other → (c : Constraint) → PathInScope L 0 c.left → PathInScope L 0 c.right →
+    Holds env c → Holds other c
 alike_holds L env other g c l r h =
     ap (λ z. apart [] z (put_in other c.right)) (sym (put_agree env other c.left (alike_on L 0 env other g c.left l)))
     ∙ ap (λ z. apart [] (put_in env c.left) z) (sym (put_agree env other c.right (alike_on L 0 env other g c.right r))) ∙ h
@@ -100,10 +102,12 @@ ground_alike {L} {g} {k} a = record {
   own = λ d l. refl;
 }
 
-pub fits_alike : (P : PlainProgram) (S : Shapes) (L : Scope) (g k : Ground) → Alike L g k → (t : PlainType) → TypeInScope L 0 t → (v : Value) → FitsIn P S (env_of g) t v → FitsIn P S (env_of k) t v
+pub fits_alike : (P : PlainProgram) (S : Shapes) (L : Scope) (g k : Ground) → Alike L g k → (t : PlainType) → TypeInScope L 0 t → (v : Value) →
+    FitsIn P S (env_of g) t v → FitsIn P S (env_of k) t v
 fits_alike P S L g k a t s v f = fits_same P S (env_of g) t (env_of k) t (alike_same L 0 (env_of g) (env_of k) (ground_alike a) t s) v f
 
-pub local_alike : (P : PlainProgram) (S : Shapes) (L : Scope) (g k : Ground) → Alike L g k → (vs : List Value) (x : ℕ) (l : ScopeLocal) → L.local x ≡ Some l → LocalInScope L l → LocalFits P S g vs x l → LocalFits P S k vs x l
+pub local_alike : (P : PlainProgram) (S : Shapes) (L : Scope) (g k : Ground) → Alike L g k → (vs : List Value) (x : ℕ) (l : ScopeLocal) →
+    L.local x ≡ Some l → LocalInScope L l → LocalFits P S g vs x l → LocalFits P S k vs x l
 local_alike P S L g k a vs x (variable t) e s f = fits_alike P S L g k a t s (slot_value vs x) f
 local_alike P S L g k a vs x (frozen t) e s f = fits_alike P S L g k a t s (slot_value vs x) f
 local_alike P S L g k a vs x (constant t) e s f = fits_alike P S L g k a t s (slot_value vs x) f
@@ -125,7 +129,8 @@ pub set_same : (vs : List Value) (x : ℕ) (v : Value) → x < length vs → slo
 set_same vs x v l = get_or-set_same vs x v _ l
 
 -- locals whose slots are left alone
-pub local_kept : (P : PlainProgram) (S : Shapes) (g : Ground) (vs : List Value) (z : ℕ) (v : Value) (x : ℕ) (l : ScopeLocal) → x ≢ z → ((t : PlainType) (a : Rpl) → l ≡ part t a → (x + 1 ≢ z) × (x + 2 ≢ z)) →
+pub local_kept : (P : PlainProgram) (S : Shapes) (g : Ground) (vs : List Value) (z : ℕ) (v : Value) (x : ℕ) (l : ScopeLocal) → x ≢ z →
+    ((t : PlainType) (a : Rpl) → l ≡ part t a → (x + 1 ≢ z) × (x + 2 ≢ z)) →
     LocalFits P S g vs x l → LocalFits P S g (slice_set vs z v) x l
 local_kept P S g vs z v x (variable t) ne np f = subst (FitsIn P S (env_of g) t) (sym (set_other vs z x v ne)) f
 local_kept P S g vs z v x (frozen t) ne np f = subst (FitsIn P S (env_of g) t) (sym (set_other vs z x v ne)) f

@@ -32,7 +32,8 @@ pub good_block : (L : Scope) → GoodScope L → GoodScope (in_atomic_block L)
 good_block L good = record { each = good.each; slots = good.slots; parts = good.parts; result = λ t e. absurd (cc); given = good.given }
 
 -- the same frame, in a later state and inside a block or outside it
-pub frame_later : {P : PlainProgram} {p : Path} {s t : State} {g : Ground} {L : Scope} {f : Frame} → Grows s.shapes t.shapes → s.made ≤ t.made → FrameFits P p s g L f → FrameFits P p t g L f
+pub frame_later : {P : PlainProgram} {p : Path} {s t : State} {g : Ground} {L : Scope} {f : Frame} → Grows s.shapes t.shapes → s.made ≤ t.made →
+    FrameFits P p s g L f → FrameFits P p t g L f
 frame_later {P} {p} {s} {t} {g} {L} {f} h m ff = record {
   regions = ff.regions;
   plain = ff.plain;
@@ -46,7 +47,8 @@ frame_later {P} {p} {s} {t} {g} {L} {f} h m ff = record {
   each = λ x l e. local_later P s.shapes t.shapes h g f.values x l (ff.each x l e);
 }
 
-pub frame_block : {P : PlainProgram} {p : Path} {s : State} {g : Ground} {f : Frame} (L : Scope) → FrameFits P p s g L f → FrameFits P p s g (in_atomic_block L) f
+pub frame_block : {P : PlainProgram} {p : Path} {s : State} {g : Ground} {f : Frame} (L : Scope) → FrameFits P p s g L f →
+    FrameFits P p s g (in_atomic_block L) f
 frame_block L ff = record {
   regions = ff.regions;
   plain = ff.plain;
@@ -60,7 +62,8 @@ frame_block L ff = record {
   each = ff.each;
 }
 
-pub frame_unblock : {P : PlainProgram} {p : Path} {s : State} {g : Ground} {f : Frame} (L : Scope) → FrameFits P p s g (in_atomic_block L) f → FrameFits P p s g L f
+pub frame_unblock : {P : PlainProgram} {p : Path} {s : State} {g : Ground} {f : Frame} (L : Scope) → FrameFits P p s g (in_atomic_block L) f →
+    FrameFits P p s g L f
 frame_unblock L ff = record {
   regions = ff.regions;
   plain = ff.plain;
@@ -121,7 +124,8 @@ module _ (P : PlainProgram) (b : Bounds) (L : Scope) (g : Ground) (st : State) (
   entry_speaks e a s h =
       (subst (λ z. Matches run_env (record { head = Root; elems = z }) a.region) (sym (concrete_put P b.path st g L f ff b.path e.rpl s)) (put_matches (env_of g) ff.plain e.rpl a.region h.matches), h.writes)
 
-  entry_at : (entry : List Effect) (e : Effect) (a : Access) → PathInScope L 0 e.rpl → Speaks g e a → (k : ℕ) → k < length entry → slice_index_or entry k e ≡ e →
+  entry_at : (entry : List Effect) (e : Effect) (a : Access) → PathInScope L 0 e.rpl → Speaks g e a → (k : ℕ) → k < length entry →
+      slice_index_or entry k e ≡ e →
       LiesInEntry (map (concrete_effect (named_by b.path) (around f)) entry) a
   entry_at [] e a s h k l q = absurd (omega (arith, l))
   entry_at (x ∷ entry) e a s h zero l q =
@@ -132,7 +136,8 @@ module _ (P : PlainProgram) (b : Bounds) (L : Scope) (g : Ground) (st : State) (
   own_speaks (does e) a c = c
   own_speaks (uses k e) a c = c.0
 
-  lies_entry : (entry : List Effect) (a : Access) (F : List EffectOwn) → ((e : Effect) → Contains (as_effects F) e → Contains entry e) → All (λ o. PathInScope L 0 (effect_of o).rpl) F → LiesIn g F a →
+  lies_entry : (entry : List Effect) (a : Access) (F : List EffectOwn) → ((e : Effect) → Contains (as_effects F) e → Contains entry e) →
+      All (λ o. PathInScope L 0 (effect_of o).rpl) F → LiesIn g F a →
       LiesInEntry (map (concrete_effect (named_by b.path) (around f)) entry) a
   lies_entry entry a [] i s h = absurd h
   lies_entry entry a (o ∷ F) i s h = elim h [
@@ -149,7 +154,8 @@ module _ (P : PlainProgram) (b : Bounds) (L : Scope) (g : Ground) (st : State) (
   lies_marked (o ∷ E) a u h = elim h [ inl c ↦ inl (mark_covers o a u c) | inr r ↦ inr (lies_marked E a u r) ]
 
   -- what the body does is allowed inside the block
-  pub within_block : (entry : List Effect) (E : List EffectOwn) (entries : List (List RunEffect)) → SameEffects entry (as_effects (after_block E)) → All (λ o. PathInScope L 0 (effect_of o).rpl) (after_block E) →
+  pub within_block : (entry : List Effect) (E : List EffectOwn) (entries : List (List RunEffect)) → SameEffects entry (as_effects (after_block E)) →
+      All (λ o. PathInScope L 0 (effect_of o).rpl) (after_block E) →
       Within b entries g (after_block E) → Within b (map (concrete_effect (named_by b.path) (around f)) entry ∷ entries) g E
   within_block entry E entries se s w a gu l =
       let u = gu (or_right b.inside true refl) in

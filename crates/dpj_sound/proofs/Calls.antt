@@ -51,20 +51,23 @@ match_both env (a ∷ as') bs [] qs m n = absurd m
 match_both env (a ∷ as') bs (r ∷ rs) qs m n = (m.0, match_both env as' bs rs qs m.1 n)
 
 -- the actual for a formal
-actual_at : (P : PlainProgram) (S : Shapes) (env : Env) (f : PlainType → PlainType) (ts : List PlainType) (vs : List Value) → AllZip (λ t v. FitsIn P S env t v) (map f ts) vs → (x : ℕ) (t : PlainType) →
+actual_at : (P : PlainProgram) (S : Shapes) (env : Env) (f : PlainType → PlainType) (ts : List PlainType) (vs : List Value) →
+    AllZip (λ t v. FitsIn P S env t v) (map f ts) vs → (x : ℕ) (t : PlainType) →
     slice_get ts x ≡ Some t → FitsIn P S env (f t) (slice_index_or vs x Null)
 actual_at P S env f [] vs h x t e = absurd (let q : None ≡ Some t = e in cc)
 actual_at P S env f (u ∷ ts) [] h x t e = absurd h
 actual_at P S env f (u ∷ ts) (v ∷ vs) h zero t e = let q : u ≡ t = cc in subst (λ z. FitsIn P S env (f z) v) q h.0
 actual_at P S env f (u ∷ ts) (v ∷ vs) h (suc x) t e = actual_at P S env f ts vs h.1 x t e
 
-pub actuals_grow : (P : PlainProgram) (S T : Shapes) → Grows S T → (env : Env) (ts : List PlainType) (vs : List Value) → AllZip (λ t v. FitsIn P S env t v) ts vs → AllZip (λ t v. FitsIn P T env t v) ts vs
+pub actuals_grow : (P : PlainProgram) (S T : Shapes) → Grows S T → (env : Env) (ts : List PlainType) (vs : List Value) →
+    AllZip (λ t v. FitsIn P S env t v) ts vs → AllZip (λ t v. FitsIn P T env t v) ts vs
 actuals_grow P S T g env [] [] h = h
 actuals_grow P S T g env [] (v ∷ vs) h = h
 actuals_grow P S T g env (t ∷ ts) [] h = h
 actuals_grow P S T g env (t ∷ ts) (v ∷ vs) h = (fits_grows P S T g env t v h.0, actuals_grow P S T g env ts vs h.1)
 
-pub instance_grows : (P : PlainProgram) (S T : Shapes) → Grows S T → (env : Env) (c : ℕ) (args : List Rpl) (n : ObjectName) → Instance P S env c args n → Instance P T env c args n
+pub instance_grows : (P : PlainProgram) (S T : Shapes) → Grows S T → (env : Env) (c : ℕ) (args : List Rpl) (n : ObjectName) →
+    Instance P S env c args n → Instance P T env c args n
 instance_grows P S T g env c args n i = fits_grows P S T g env (class c args) (Object n) i
 
 no_given : (env : Env) → All (Holds env) []
@@ -72,7 +75,8 @@ no_given env = λ k c l. absurd (omega (arith, l))
 
 module _ (P : PlainProgram) (wt : WellTyped P) (b : Bounds) (L : Scope) (g : Ground) where
   -- a body is in order in a frame that fits
-  body_order : (deeper : Deeper) → DeeperInOrder P b (Some deeper) → (n : ℕ) (m : PlainMember) (there : member_at P n ≡ Some m) (k : Ground) (u : State) (f : Frame) →
+  body_order : (deeper : Deeper) → DeeperInOrder P b (Some deeper) →
+      (n : ℕ) (m : PlainMember) (there : member_at P n ≡ Some m) (k : Ground) (u : State) (f : Frame) →
       FrameFits P b.path u k (scope P wt n m there) f → Within b u.entries k (wt.members n m there).effects → InOrder P b (Leaves P b (scope P wt n m there) k m.body u) u (deeper m.body f)
   body_order deeper dd n m there k u f ff w =
       dd (scope P wt n m there) m.body (wt.members n m there).effects (wt.members n m there).passes (body_good P wt n m there) k u f ff w
@@ -88,7 +92,8 @@ module _ (P : PlainProgram) (wt : WellTyped P) (b : Bounds) (L : Scope) (g : Gro
     abbrev entered_row : Option ℕ → List Value → List Region → List Region → ℕ → Prog
     entered_row o vs made own d = elim o as (λ z. Prog) [ None ↦ gives none f | Some n ↦ entered_member (member_at P n) vs made own d ]
 
-    enter_order : (R : State → Result → Type 0) (c r n : ℕ) (args owned regions : List Rpl) (m : PlainMember) → row_at P c r ≡ Some n → member_at P n ≡ Some m → Above P c args m.class owned →
+    enter_order : (R : State → Result → Type 0) (c r n : ℕ) (args owned regions : List Rpl) (m : PlainMember) → row_at P c r ≡ Some n →
+        member_at P n ≡ Some m → Above P c args m.class owned →
         GoodArgs P L 0 m.params m.given owned regions → All (λ a. IsTrue (fully_specified a)) regions → All (Known (owned ++ regions)) m.formals → Readable (owned ++ regions) m.result →
         All (λ a. All NoOwn a.elems) args → Within b u.entries g (summary_with (owned ++ regions) m.summary) → (vs : List Value) →
         AllZip (λ t v. FitsIn P u.shapes (env_of g) t v) (map (type_with (owned ++ regions)) m.formals) vs → (o : ObjectName) (i : Instance P u.shapes (env_of g) c args o) →
@@ -148,7 +153,8 @@ module _ (P : PlainProgram) (wt : WellTyped P) (b : Bounds) (L : Scope) (g : Gro
         given' : All (Holds (class_env (row.at.regions ++ map (put P wt b L g u f ff) regions))) row.at.member.given
         given' = row.stands.given (given_holds N L.given (env_of g) (class_env (A0.regions ++ map (put P wt b L g u f ff) regions)) (owned ++ regions) env (env_alone L.given (env_of g) env) st m.given sig.given ga.hold)
 
-        actuals : (x : ℕ) (t : PlainType) → slice_get row.at.member.formals x ≡ Some t → FitsIn P u.shapes (class_env (row.at.regions ++ map (put P wt b L g u f ff) regions)) t (slice_index_or vs x Null)
+        actuals : (x : ℕ) (t : PlainType) → slice_get row.at.member.formals x ≡ Some t →
+            FitsIn P u.shapes (class_env (row.at.regions ++ map (put P wt b L g u f ff) regions)) t (slice_index_or vs x Null)
         actuals x t h =
             let z = row.stands.formals x t h in
             fits_same P u.shapes (class_env (A0.regions ++ map (put P wt b L g u f ff) regions)) z.0 (class_env (row.at.regions ++ map (put P wt b L g u f ff) regions)) t z.2 (slice_index_or vs x Null)
@@ -180,7 +186,8 @@ module _ (P : PlainProgram) (wt : WellTyped P) (b : Bounds) (L : Scope) (g : Gro
         behind h (Returns v) y = order_ret P b R h (Goes_on v f) (next v h y.0 (result h v y.1))
 
   -- a call of what isn't null
-  pub call_order : (dp : Option Deeper) → DeeperInOrder P b dp → (R : State → Result → Type 0) (st : State) (at : Place) (f : Frame) → FrameFits P b.path st g L f → (c r n : ℕ) (args owned regions : List Rpl) (m : PlainMember) →
+  pub call_order : (dp : Option Deeper) → DeeperInOrder P b dp → (R : State → Result → Type 0) (st : State) (at : Place) (f : Frame) →
+      FrameFits P b.path st g L f → (c r n : ℕ) (args owned regions : List Rpl) (m : PlainMember) →
       row_at P c r ≡ Some n → member_at P n ≡ Some m → Above P c args m.class owned →
       GoodArgs P L 0 m.params m.given owned regions → All (λ a. IsTrue (fully_specified a)) regions → All (Known (owned ++ regions)) m.formals → Readable (owned ++ regions) m.result →
       All (λ a. All NoOwn a.elems) args → Within b st.entries g (summary_with (owned ++ regions) m.summary) → (vs : List Value) →
@@ -223,7 +230,8 @@ module _ (P : PlainProgram) (wt : WellTyped P) (b : Bounds) (L : Scope) (g : Gro
   ]
 
   -- a creation whose class declares no constructor
-  pub create_order : (dp : Option Deeper) (R : State → Result → Type 0) (st : State) (at : Place) (f : Frame) (ff : FrameFits P b.path st g L f) (c : ℕ) (k : PlainClass) (args : List Rpl) (vs : List Value) →
+  pub create_order : (dp : Option Deeper) (R : State → Result →
+      Type 0) (st : State) (at : Place) (f : Frame) (ff : FrameFits P b.path st g L f) (c : ℕ) (k : PlainClass) (args : List Rpl) (vs : List Value) →
       class_at P c ≡ Some k → GoodArgs P L 0 k.params k.given [] args → All (λ a. IsTrue (fully_specified a)) args → k.constructor ≡ None →
       ((v : Value) (h : State) → Since st h → FitsIn P h.shapes (env_of g) (class c args) v → R h (Goes_on v f)) →
       InOrder P b R st (created (named_by b.path) P dp at c (map (put P wt b L g st f ff) args) vs f)
@@ -233,9 +241,11 @@ module _ (P : PlainProgram) (wt : WellTyped P) (b : Bounds) (L : Scope) (g : Gro
       (order_new P wt b L g st f ff R c k args false (λ a. gives (name_made a) f) e ga fu (λ n h s i shape. order_ret P b R h (Goes_on (Object n) f) (next (Object n) h s i))))
 
   -- and of one that does: its body is entered, and gives nothing
-  constructor_order : (deeper : Deeper) → DeeperInOrder P b (Some deeper) → (R : State → Result → Type 0) (st : State) (f : Frame) (ff : FrameFits P b.path st g L f) (c n : ℕ) (k : PlainClass) (m : PlainMember) (args : List Rpl) (vs : List Value) →
+  constructor_order : (deeper : Deeper) → DeeperInOrder P b (Some deeper) →
+      (R : State → Result → Type 0) (st : State) (f : Frame) (ff : FrameFits P b.path st g L f) (c n : ℕ) (k : PlainClass) (m : PlainMember) (args : List Rpl) (vs : List Value) →
       class_at P c ≡ Some k → GoodArgs P L 0 k.params k.given [] args → All (λ a. IsTrue (fully_specified a)) args → k.constructor ≡ Some n → (there : member_at P n ≡ Some m) →
-      (h : State) → Since st h → (o : ObjectName) → Instance P h.shapes (env_of g) c args o → h.shapes o ≡ Some (object c (map (put P wt b L g st f ff) args)) → GoodObject P c (map (put P wt b L g st f ff) args) →
+      (h : State) → Since st h → (o : ObjectName) → Instance P h.shapes (env_of g) c args o →
+      h.shapes o ≡ Some (object c (map (put P wt b L g st f ff) args)) → GoodObject P c (map (put P wt b L g st f ff) args) →
       AllZip (λ t v. FitsIn P h.shapes (env_of g) t v) (map (type_with args) m.formals) vs → Within b h.entries g (summary_with args m.summary) →
       ((u : State) → Since h u → R u (Goes_on (Object o) f)) →
       InOrder P b R h (on (deeper m.body (entered (named_by b.path) m (Object o ∷ vs) (map (put P wt b L g st f ff) args) (f.left - 1))) (λ r. gives (Object o) f))
@@ -278,7 +288,8 @@ module _ (P : PlainProgram) (wt : WellTyped P) (b : Bounds) (L : Scope) (g : Gro
       nothing : ArePlain []
       nothing = λ p. refl
 
-      actuals : (x : ℕ) (t : PlainType) → slice_get m.formals x ≡ Some t → FitsIn P h.shapes (class_env (map (put P wt b L g st f ff) args ++ [])) t (slice_index_or vs x Null)
+      actuals : (x : ℕ) (t : PlainType) → slice_get m.formals x ≡ Some t →
+          FitsIn P h.shapes (class_env (map (put P wt b L g st f ff) args ++ [])) t (slice_index_or vs x Null)
       actuals x t z =
           fits_with_down P h.shapes N (env_of g) (class_env (map (put P wt b L g st f ff) args ++ [])) args st' t (sig.formals x t z) (λ p _. full_arguments args fu p) (slice_index_or vs x Null)
           (actual_at P h.shapes (env_of g) (type_with args) m.formals vs fits x t z)
@@ -299,11 +310,13 @@ module _ (P : PlainProgram) (wt : WellTyped P) (b : Bounds) (L : Scope) (g : Gro
       within' a gu l = w a gu (lies_up N g (class_ground (map (put P wt b L g st f ff) args ++ [])) args st' a m.summary sig.summary
           (body_lies (class_ground (map (put P wt b L g st f ff) args ++ [])) inner_env a m.summary (wt.members n m there).effects (wt.members n m there).covered l))
 
-      behind : (u : State) (y : Result) → Leaves P b (scope P wt n m there) (class_ground (map (put P wt b L g st f ff) args ++ [])) m.body h u y → InOrder P b R u (gives (Object o) f)
+      behind : (u : State) (y : Result) → Leaves P b (scope P wt n m there) (class_ground (map (put P wt b L g st f ff) args ++ [])) m.body h u y →
+          InOrder P b R u (gives (Object o) f)
       behind u (Goes_on v z) y = order_ret P b R u (Goes_on (Object o) f) (next u y.1)
       behind u (Returns v) y = order_ret P b R u (Goes_on (Object o) f) (next u y.0)
 
-  pub construct_order : (dp : Option Deeper) → DeeperInOrder P b dp → (R : State → Result → Type 0) (st : State) (at : Place) (f : Frame) (ff : FrameFits P b.path st g L f) (c n : ℕ) (k : PlainClass) (m : PlainMember) (args : List Rpl) (vs : List Value) →
+  pub construct_order : (dp : Option Deeper) → DeeperInOrder P b dp →
+      (R : State → Result → Type 0) (st : State) (at : Place) (f : Frame) (ff : FrameFits P b.path st g L f) (c n : ℕ) (k : PlainClass) (m : PlainMember) (args : List Rpl) (vs : List Value) →
       class_at P c ≡ Some k → GoodArgs P L 0 k.params k.given [] args → All (λ a. IsTrue (fully_specified a)) args → k.constructor ≡ Some n → member_at P n ≡ Some m →
       AllZip (λ t v. FitsIn P st.shapes (env_of g) t v) (map (type_with args) m.formals) vs → Within b st.entries g (summary_with args m.summary) →
       ((v : Value) (h : State) → Since st h → FitsIn P h.shapes (env_of g) (class c args) v → R h (Goes_on v f)) →

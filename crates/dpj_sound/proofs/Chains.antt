@@ -91,7 +91,8 @@ module _ (P : PlainProgram) (wt : WellTyped P) where
   is_below_it h = below_is h (length P.classes) (few_steps h)
 
   -- its regions as those of the class above are those that the meaning computes
-  above_is : (path : Path) {d c : ℕ} {rs qs : List Region} (h : Is P d rs c qs) (k : ℕ) → steps h ≤ k → regions_above (named_by path) (parent_of P) k d rs c ≡ qs
+  above_is : (path : Path) {d c : ℕ} {rs qs : List Region} (h : Is P d rs c qs) (k : ℕ) → steps h ≤ k →
+      regions_above (named_by path) (parent_of P) k d rs c ≡ qs
   unfolding steps members_of
   above_is path same zero l = refl
   above_is path {d} {c} {rs} same (suc k) l = cond-true (d == d) rs _ (eq-eqb d d refl)
@@ -101,7 +102,8 @@ module _ (P : PlainProgram) (wt : WellTyped P) where
       ∙ ap (λ o. elim o as (λ z. List Region) [ None ↦ rs | Some p ↦ regions_above (named_by path) (parent_of P) k p.class (regions_of_parent rs p) c ]) e
       ∙ above_is path h k (omega (arith, l))
 
-  pub regions_are : (path : Path) {d c : ℕ} {rs qs : List Region} → Is P d rs c qs → regions_above (named_by path) (parent_of P) (length P.classes) d rs c ≡ qs
+  pub regions_are : (path : Path) {d c : ℕ} {rs qs : List Region} → Is P d rs c qs →
+      regions_above (named_by path) (parent_of P) (length P.classes) d rs c ≡ qs
   regions_are path h = above_is path h (length P.classes) (few_steps h)
 
   pub is_from_below : {c d : ℕ} → IsBelow P c d → (rs : List Region) → (qs : List Region) × Is P c rs d qs
@@ -112,7 +114,8 @@ module _ (P : PlainProgram) (wt : WellTyped P) where
   same_parent c {p} {q} e f = let z : Some p ≡ Some q = sym e ∙ f in cc
 
   -- arguments that match the regions of a class match those of a class above it
-  pub above_match : (env : Env) → (env.own ≡ λ d. pos 0) → {c c' d d' : ℕ} {args owned : List Rpl} {rs qs : List Region} → Above P c args d owned → Is P c' rs d' qs → c ≡ c' → d ≡ d' →
+  pub above_match : (env : Env) → (env.own ≡ λ d. pos 0) → {c c' d d' : ℕ} {args owned : List Rpl} {rs qs : List Region} → Above P c args d owned →
+      Is P c' rs d' qs → c ≡ c' → d ≡ d' →
       GoodObject P c rs → All (λ a. All NoOwn a.elems) args → AllMatch env args rs → AllMatch env owned qs × All (λ a. All NoOwn a.elems) owned
   above_match env o itself same e1 e2 g al m = (m, al)
   above_match env o itself (up e h) e1 e2 g al m = absurd (let a = parent_lower e in let b = is_lower h in let c = ap wt.rank e1 in let d = ap wt.rank e2 in omega (arith, a, b, c, d))

@@ -107,7 +107,8 @@ plain_head : (env : Env) → ((p : ℕ) → all_plain (env.region p) ≡ true) �
 plain_head env r Root = refl
 plain_head env r (Param p) = r p
 
-pub plain_put : (env : Env) → ((p : ℕ) → all_plain (env.region p) ≡ true) → (a : Rpl) → fully_specified a ≡ true → All (λ x. is_local x ≡ false) a.elems → all_plain (put_in env a).elems ≡ true
+pub plain_put : (env : Env) → ((p : ℕ) → all_plain (env.region p) ≡ true) → (a : Rpl) → fully_specified a ≡ true →
+    All (λ x. is_local x ≡ false) a.elems → all_plain (put_in env a).elems ≡ true
 unfolding put_in
 plain_put env r a s l = all_plain-append (env_region env a.head) (map (put_elem env) a.elems) (plain_head env r a.head) (plain_elems env a.elems s l)
 
@@ -150,7 +151,8 @@ all_more env v (a ∷ as') (b ∷ bs) w (r ∷ rs) m =
     (matches_more [] env v a b p.0 (elems_of r) m.0, all_more env v as' bs p.1 rs m.1)
 
 -- the path at a place matches the region there
-match_at : (env : Env) (args : List Rpl) (rs : List Region) (p : ℕ) (b : Rpl) → AllMatch env args rs → p < length args → Matches env (slice_index_or args p b) (region_in rs p)
+match_at : (env : Env) (args : List Rpl) (rs : List Region) (p : ℕ) (b : Rpl) → AllMatch env args rs → p < length args →
+    Matches env (slice_index_or args p b) (region_in rs p)
 match_at env [] rs p b m l = absurd (omega (arith, l))
 match_at env (a ∷ args) [] p b m l = absurd m
 match_at env (a ∷ args) (r ∷ rs) zero b m l = m.0
@@ -195,7 +197,8 @@ IsAlone void = Unit {0}
 IsAlone null = Unit {0}
 
 -- arguments that match the regions of an object
-pub stands_args : (n : ℕ) (env : Env) (args : List Rpl) (rs : List Region) → AllMatch env args rs → length rs ≡ n → All (λ a. All NoOwn a.elems) args → (env.own ≡ λ d. pos 0) →
+pub stands_args : (n : ℕ) (env : Env) (args : List Rpl) (rs : List Region) → AllMatch env args rs → length rs ≡ n → All (λ a. All NoOwn a.elems) args →
+    (env.own ≡ λ d. pos 0) →
     Stands n 0 env (class_env rs) args
 stands_args n env args rs m e al o = record {
   match = λ p l. match_at env args rs p (record { head = Param p; elems = [] }) m (let k : length args ≡ length rs = match_length env args rs m in omega (arith, k, e, l));
@@ -221,7 +224,8 @@ module _ (P : PlainProgram) (wt : WellTyped P) where
     }
 
     -- with the parent's arguments put in, or seen from the parent
-    put_parent : (rs : List Region) (a : Rpl) → ClosedPath (length x.above.params) 0 a → put_in (class_env rs) (substituted p.args a) ≡ put_in (class_env (regions_of_parent rs p)) a
+    put_parent : (rs : List Region) (a : Rpl) → ClosedPath (length x.above.params) 0 a →
+        put_in (class_env rs) (substituted p.args a) ≡ put_in (class_env (regions_of_parent rs p)) a
     put_parent rs a cl =
         substitution_puts_in (class_env rs) p.args a
         ∙ closed_put (length x.above.params) 0 _ (class_env (regions_of_parent rs p))
@@ -309,13 +313,15 @@ module _ (P : PlainProgram) (wt : WellTyped P) where
       full_at : (args : List Rpl) → All (λ a. IsTrue (fully_specified a)) args → (q : ℕ) → fully_specified (argument args q) ≡ true
       full_at args h q = go args h q (record { head = Param q; elems = [] }) refl
         where
-          go : (args : List Rpl) → All (λ a. IsTrue (fully_specified a)) args → (q : ℕ) (b : Rpl) → fully_specified b ≡ true → fully_specified (slice_index_or args q b) ≡ true
+          go : (args : List Rpl) → All (λ a. IsTrue (fully_specified a)) args → (q : ℕ) (b : Rpl) → fully_specified b ≡ true →
+              fully_specified (slice_index_or args q b) ≡ true
           go [] h q b e = e
           go (a ∷ args) h zero b e = All-head (λ a. IsTrue (fully_specified a)) a args h
           go (a ∷ args) h (suc q) b e = go args (All-tail (λ a. IsTrue (fully_specified a)) a args h) q b e
 
   -- an object of a class is one of its superclass
-  pub instance_parent : (S : Shapes) (env : Env) → (env.own ≡ λ d. pos 0) → (c : ℕ) (args : List Rpl) (p : PlainParent) → All (λ a. All NoOwn a.elems) args → parent_of P c ≡ Some p →
+  pub instance_parent : (S : Shapes) (env : Env) → (env.own ≡ λ d. pos 0) → (c : ℕ) (args : List Rpl) (p : PlainParent) →
+      All (λ a. All NoOwn a.elems) args → parent_of P c ≡ Some p →
       (n : ObjectName) → Instance P S env c args n → Instance P S env p.class (map (substituted args) p.args) n
   instance_parent S env o c args p al e n i =
       let g = good_is i.is_one i.good in
@@ -344,7 +350,8 @@ module _ (P : PlainProgram) (wt : WellTyped P) where
   null_subtype S env (objects h) = tt
   null_subtype S env (inherits e h) = null_subtype S env h
 
-  pub subtype_fits : (S : Shapes) (env : Env) → IsEnv [] env → (env.own ≡ λ d. pos 0) → {t u : PlainType} → Subtype P t u → IsAlone t → (v : Value) → FitsIn P S env t v → FitsIn P S env u v
+  pub subtype_fits : (S : Shapes) (env : Env) → IsEnv [] env → (env.own ≡ λ d. pos 0) → {t u : PlainType} → Subtype P t u → IsAlone t → (v : Value) →
+      FitsIn P S env t v → FitsIn P S env u v
   subtype_fits S env w o ints al v f = f
   subtype_fits S env w o booleans al v f = f
   subtype_fits S env w o (null_object {c = c} {args = args}) al v f = null_or (λ n. ⊥) (Instance P S env c args) (λ n z. absurd z) v f

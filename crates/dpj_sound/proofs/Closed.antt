@@ -68,14 +68,16 @@ elem_agree n depth env other a Any c = refl
 elem_agree n depth env other a Star c = refl
 elem_agree n depth env other a (Local r m) c = absurd c
 
-head_agree : (n depth : ℕ) (env other : Env) → Agrees n depth env other → (h : Head) → ((p : ℕ) → h ≡ Param p → p < n) → head_region env h ≡ head_region other h
+head_agree : (n depth : ℕ) (env other : Env) → Agrees n depth env other → (h : Head) → ((p : ℕ) → h ≡ Param p → p < n) →
+    head_region env h ≡ head_region other h
 head_agree n depth env other a Root c = refl
 head_agree n depth env other a (Param p) c = a.region p (c p refl)
 
 pub agree_on : (n depth : ℕ) (env other : Env) → Agrees n depth env other → (a : Rpl) → ClosedPath n depth a → AgreeOn env other a
 agree_on n depth env other g a c = record { head = head_agree n depth env other g a.head c.head; elems = λ k d l. elem_agree n depth env other g _ (c.elems k d l) }
 
-pub closed_matches : (n depth : ℕ) (env other : Env) → Agrees n depth env other → (a : Rpl) → ClosedPath n depth a → (r : List Elem) → Matches env a r → Matches other a r
+pub closed_matches : (n depth : ℕ) (env other : Env) → Agrees n depth env other → (a : Rpl) → ClosedPath n depth a → (r : List Elem) →
+    Matches env a r → Matches other a r
 closed_matches n depth env other g a c r m = (matches_by_what_occurs env other a (agree_on n depth env other g a c) r).0 m
 
 pub map_agree : (env other : Env) (a : List Elem) → All (λ x. put_elem env x ≡ put_elem other x) a → map (put_elem env) a ≡ map (put_elem other) a
@@ -95,7 +97,8 @@ put_agree env other a g =
 pub closed_put : (n depth : ℕ) (env other : Env) → Agrees n depth env other → (a : Rpl) → ClosedPath n depth a → put_in env a ≡ put_in other a
 closed_put n depth env other g a c = put_agree env other a (agree_on n depth env other g a c)
 
-pub closed_holds : (n : ℕ) (env other : Env) → Agrees n 0 env other → (c : Constraint) → ClosedPath n 0 c.left → ClosedPath n 0 c.right → Holds env c → Holds other c
+pub closed_holds : (n : ℕ) (env other : Env) → Agrees n 0 env other → (c : Constraint) → ClosedPath n 0 c.left → ClosedPath n 0 c.right → Holds env c →
+    Holds other c
 closed_holds n env other g c l r h =
     ap (λ z. apart [] z (put_in other c.right)) (sym (closed_put n 0 env other g c.left l)) ∙ ap (λ z. apart [] (put_in env c.left) z) (sym (closed_put n 0 env other g c.right r)) ∙ h
 

@@ -71,7 +71,8 @@ module _ (g : Ground) (v : IsEnv [] (env_of g)) (a : Access) where
       elim l [ inl c ↦ some_lies es f p.0 c | inr r ↦ summary_lies es fs p.1 r ]
 
 -- arguments put in: a summary seen from outside, and from inside
-pub lies_up : (n : ℕ) (g inner : Ground) (args : List Rpl) → Stands n 0 (env_of g) (env_of inner) args → (a : Access) (es : List Effect) → All (λ (e : Effect). ClosedPath n 0 e.rpl) es →
+pub lies_up : (n : ℕ) (g inner : Ground) (args : List Rpl) → Stands n 0 (env_of g) (env_of inner) args → (a : Access) (es : List Effect) →
+    All (λ (e : Effect). ClosedPath n 0 e.rpl) es →
     LiesIn inner (map (λ e. does e) es) a → LiesIn g (summary_with args es) a
 lies_up n g inner args s a [] c l = absurd l
 lies_up n g inner args s a (e ∷ es) c l = elim l [
@@ -79,7 +80,8 @@ lies_up n g inner args s a (e ∷ es) c l = elim l [
   | inr r ↦ inr (lies_up n g inner args s a es (All-tail (λ (e : Effect). ClosedPath n 0 e.rpl) e es c) r)
 ]
 
-pub lies_down : (n : ℕ) (g inner : Ground) (args : List Rpl) → Stands n 0 (env_of g) (env_of inner) args → ((p : ℕ) → IsTrue (fully_specified (argument args p))) → (a : Access) (es : List Effect) →
+pub lies_down : (n : ℕ) (g inner : Ground) (args : List Rpl) → Stands n 0 (env_of g) (env_of inner) args →
+    ((p : ℕ) → IsTrue (fully_specified (argument args p))) → (a : Access) (es : List Effect) →
     All (λ (e : Effect). ClosedPath n 0 e.rpl) es → LiesIn g (map (λ e. does e) (map (effect_with args) es)) a → LiesIn inner (map (λ e. does e) es) a
 lies_down n g inner args s full a [] c l = absurd l
 lies_down n g inner args s full a (e ∷ es) c l = elim l [

@@ -65,12 +65,14 @@ within_at n env inner args v s (Param p) a c =
     append_assoc (env_region env arg.head) (map (put_elem env) arg.elems) (map (put_elem env) a) ∙ ap (λ z. env_region env arg.head ++ z) (sym (map-append (put_elem env) arg.elems a)) in
     subst (λ z. covers_elems z (inner.region p ++ map (put_elem inner) a) ≡ true) k (subst (λ z. covers_elems ((put_in env arg).elems ++ map (put_elem env) a) (inner.region p ++ z) ≡ true) (sym e) both)
 
-pub within_put : (n : ℕ) (env inner : Env) (args : List Rpl) → IsEnv [] env → Stands n 0 env inner args → (a : Rpl) → ClosedPath n 0 a → within (put_in inner a) (put_in env (substituted args a)) ≡ true
+pub within_put : (n : ℕ) (env inner : Env) (args : List Rpl) → IsEnv [] env → Stands n 0 env inner args → (a : Rpl) → ClosedPath n 0 a →
+    within (put_in inner a) (put_in env (substituted args a)) ≡ true
 unfolding substituted
 within_put n env inner args v s a c = within_at n env inner args v s a.head a.elems c
 
 -- constraints that hold with arguments put in hold of the regions that these match
-pub given_holds : (n : ℕ) (given : List Constraint) (env inner : Env) (args : List Rpl) → IsEnv given env → IsEnv [] env → Stands n 0 env inner args → (cs : List Constraint) →
+pub given_holds : (n : ℕ) (given : List Constraint) (env inner : Env) (args : List Rpl) → IsEnv given env → IsEnv [] env → Stands n 0 env inner args →
+    (cs : List Constraint) →
     All (λ (c : Constraint). ClosedPath n 0 c.left × ClosedPath n 0 c.right) cs → All (λ (c : Constraint). IsTrue (apart given (substituted args c.left) (substituted args c.right))) cs → All (Holds inner) cs
 given_holds n given env inner args v v0 s cs cl h = λ k c l.
     (let z = cl k c l in
@@ -98,7 +100,8 @@ unmade_length p r (suc n) = ap (λ k. suc k) (unmade_length p (suc r) n)
 shown_match : (env : Env) (args : List Rpl) (rs : List Region) → Shown env args rs → AllMatch env args rs
 shown_match env args rs s = go args rs s.puts s.full
   where
-    go : (args : List Rpl) (rs : List Region) → AllZip (λ a r. elems_of r ≡ (put_in env a).elems) args rs → All (λ a. IsTrue (fully_specified a)) args → AllMatch env args rs
+    go : (args : List Rpl) (rs : List Region) → AllZip (λ a r. elems_of r ≡ (put_in env a).elems) args rs →
+        All (λ a. IsTrue (fully_specified a)) args → AllMatch env args rs
     go [] [] p f = tt
     go [] (r ∷ rs) p f = p
     go (a ∷ args) [] p f = p
@@ -140,7 +143,8 @@ module _ (P : PlainProgram) (wt : WellTyped P) (n : ℕ) (m : PlainMember) (ther
   params_in L j zero = λ i d l. absurd (omega (arith, l))
   params_in L j (suc k) = All-cons (PathInScope L 0) (record { head = Param j; elems = [] }) (params_from (suc j) k) (λ i d l. absurd (omega (arith, l))) (params_in L (suc j) k)
 
-  constraint_in : (M : Scope) → ((y : ℕ) → M.local y ≡ None) → ((r : ℕ) → M.regions r ≡ true → ⊥) → (c : Constraint) → GoodConstraint P M c → PathInScope scope 0 c.left × PathInScope scope 0 c.right
+  constraint_in : (M : Scope) → ((y : ℕ) → M.local y ≡ None) → ((r : ℕ) → M.regions r ≡ true → ⊥) → (c : Constraint) → GoodConstraint P M c →
+      PathInScope scope 0 c.left × PathInScope scope 0 c.right
   constraint_in M none nor c h = (λ k d l. other_elem M scope none nor 0 _ (good_path P M 0 c.left h.0 k d l), λ k d l. other_elem M scope none nor 0 _ (good_path P M 0 c.right h.1 k d l))
 
   pub body_good : GoodScope scope
@@ -174,9 +178,11 @@ module _ (P : PlainProgram) (wt : WellTyped P) (n : ℕ) (m : PlainMember) (ther
       no_part (suc x) t a e = let z = formal_local x (slice_get m.formals x) (part t a) e in let q : part t a ≡ variable z.0 = z.2 in cc
 
   -- the frame in which it begins, at an object or as its constructor
-  pub entered_fits : (path : Path) (st : State) (zs own : List Region) (left : ℕ) → GoodObject P m.class zs → ArePlain own → All (Holds (class_env (zs ++ own))) m.given →
+  pub entered_fits : (path : Path) (st : State) (zs own : List Region) (left : ℕ) → GoodObject P m.class zs → ArePlain own →
+      All (Holds (class_env (zs ++ own))) m.given →
       (o : ObjectName) → (d : ℕ) (made : List Region) → st.shapes o ≡ Some (object d made) → GoodObject P d made → Is P d made m.class zs →
-      (vs : List Value) → ((x : ℕ) (t : PlainType) → slice_get m.formals x ≡ Some t → FitsIn P st.shapes (class_env (zs ++ own)) t (slice_index_or vs x Null)) →
+      (vs : List Value) → ((x : ℕ) (t : PlainType) → slice_get m.formals x ≡ Some t →
+      FitsIn P st.shapes (class_env (zs ++ own)) t (slice_index_or vs x Null)) →
       FrameFits P path st (class_ground (zs ++ own)) scope (entered (named_by path) m (Object o ∷ vs) (zs ++ own) left)
   entered_fits path st zs own left gz plain given o d made shape gd is_one vs fits = record {
     regions = refl;
@@ -223,7 +229,8 @@ module _ (P : PlainProgram) (wt : WellTyped P) (n : ℕ) (m : PlainMember) (ther
       values : List Value
       values = padded m.slots (Object o ∷ vs)
 
-      each : (x : ℕ) (l : ScopeLocal) → first_locals good.class m x ≡ Some l → LocalFits P st.shapes (class_ground (zs ++ own)) (padded m.slots (Object o ∷ vs)) x l
+      each : (x : ℕ) (l : ScopeLocal) → first_locals good.class m x ≡ Some l →
+          LocalFits P st.shapes (class_ground (zs ++ own)) (padded m.slots (Object o ∷ vs)) x l
       each zero l e =
           let z : frozen (class m.class (own_paths good.class)) ≡ l = cc in
           let s = padded_at m.slots zero (Object o ∷ vs) (let r = good.room in omega (arith, r)) in

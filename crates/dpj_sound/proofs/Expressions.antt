@@ -46,7 +46,8 @@ pub speaks_read : (g : Ground) (rpl : Rpl) (a : Access) → a.write ≡ false �
 speaks_read g rpl a w m = record { matches = m; writes = λ e. absurd (false≢true (sym w ∙ e)); guarded = λ e. absurd (false≢true e) }
 
 module _ (P : PlainProgram) (b : Bounds) where
-  pub order_unless : (R : State → Result → Type 0) (st : State) (at : Place) (A : Name → Type 0) (k : Name → Prog) → ((n : Name) → A n → InOrder P b R st (k n)) → (v : Value) → IsNullOr A v →
+  pub order_unless : (R : State → Result → Type 0) (st : State) (at : Place) (A : Name → Type 0) (k : Name → Prog) →
+      ((n : Name) → A n → InOrder P b R st (k n)) → (v : Value) → IsNullOr A v →
       InOrder P b R st (unless_null at v k)
   unfolding InOrder
   order_unless R st at A k i Null h = tt
@@ -54,11 +55,13 @@ module _ (P : PlainProgram) (b : Bounds) where
   order_unless R st at A k i (Int j) h = absurd h
   order_unless R st at A k i (Boolean c) h = absurd h
 
-  pub order_choose : (R : State → Result → Type 0) (st : State) (c : Bool) (p q : Prog) → InOrder P b R st p → InOrder P b R st q → InOrder P b R st (elim c as (λ z. Prog) [ false ↦ p | true ↦ q ])
+  pub order_choose : (R : State → Result → Type 0) (st : State) (c : Bool) (p q : Prog) → InOrder P b R st p → InOrder P b R st q →
+      InOrder P b R st (elim c as (λ z. Prog) [ false ↦ p | true ↦ q ])
   order_choose R st false p q h k = h
   order_choose R st true p q h k = k
 
-  pub order_cond : (R : State → Result → Type 0) (st : State) (c : Bool) (p q : Prog) → InOrder P b R st p → InOrder P b R st q → InOrder P b R st (cond c p q)
+  pub order_cond : (R : State → Result → Type 0) (st : State) (c : Bool) (p q : Prog) → InOrder P b R st p → InOrder P b R st q →
+      InOrder P b R st (cond c p q)
   order_cond R st false p q h k = k
   order_cond R st true p q h k = h
 
@@ -72,7 +75,8 @@ module _ (P : PlainProgram) (b : Bounds) where
   unfolding InOrder
   order_read R st at n i f r k = (r, λ x u after fits. go x u (since_after (Read n i) refl after) fits)
     where
-      go : (x : Answer) (u : State) → Since st u → ReadFits r.cell u.shapes x → InOrder P b R u (elim (value_read x) as (λ z. Prog) [ None ↦ Traps trap.Index at | Some v ↦ gives v f ])
+      go : (x : Answer) (u : State) → Since st u → ReadFits r.cell u.shapes x →
+          InOrder P b R u (elim (value_read x) as (λ z. Prog) [ None ↦ Traps trap.Index at | Some v ↦ gives v f ])
       go (Got v) u s h = k v u s h
       go Out u s h = tt
       go Went u s h = absurd h
@@ -91,7 +95,8 @@ module _ (P : PlainProgram) (b : Bounds) where
   abbrev after_operation : Place → Frame → Option Value → Prog
   after_operation at f o = elim o as (λ z. Prog) [ None ↦ Traps trap.Divide at | Some w ↦ gives w f ]
 
-  order_divided : (R : State → Result → Type 0) (st : State) (at : Place) (f : Frame) (z : ℤ) → R st (Goes_on (Int z) f) → (c : Bool) → InOrder P b R st (after_operation at f (cond c None (Some (Int z))))
+  order_divided : (R : State → Result → Type 0) (st : State) (at : Place) (f : Frame) (z : ℤ) → R st (Goes_on (Int z) f) → (c : Bool) →
+      InOrder P b R st (after_operation at f (cond c None (Some (Int z))))
   unfolding InOrder
   order_divided R st at f z r true = tt
   order_divided R st at f z r false = r
@@ -119,7 +124,8 @@ module _ (P : PlainProgram) (b : Bounds) where
     local_index {st} {f} ff x _ e = (number (slot_value f.values x), refl)
 
     -- a read of a field, or the trap at null
-    pub field_order : (R : State → Result → Type 0) (st : State) (at : Place) (f : Frame) (c k : ℕ) (args : List Rpl) (fd : PlainField) → field_at P c k ≡ Some fd → Readable args fd.ty →
+    pub field_order : (R : State → Result → Type 0) (st : State) (at : Place) (f : Frame) (c k : ℕ) (args : List Rpl) (fd : PlainField) →
+        field_at P c k ≡ Some fd → Readable args fd.ty →
         All (PathInScope L 0) args → Within b st.entries g (does (reads (substituted args fd.region)) ∷ []) → (v : Value) → FitsIn P st.shapes (env_of g) (class c args) v →
         ((w : Value) (u : State) → Since st u → FitsIn P u.shapes (env_of g) (type_with args fd.ty) w → R u (Goes_on w f)) →
         InOrder P b R st (unless_null at v (λ n. read_cell at n (pos k) f))

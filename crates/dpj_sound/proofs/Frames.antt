@@ -30,7 +30,8 @@ pub old_later : (p : Path) (m n r : ℕ) → m ≤ n → (l : LocalRegion) → I
 old_later p m n r h (Unmade k) o = o
 old_later p m n r h (Made q c) o = elim o [ inl a ↦ inl (a.0, (let l = a.1 in omega (arith, h, l))) | inr z ↦ inr z ]
 
-pub local_later : (P : PlainProgram) (S T : Shapes) → Grows S T → (g : Ground) (vs : List Value) (x : ℕ) (l : ScopeLocal) → LocalFits P S g vs x l → LocalFits P T g vs x l
+pub local_later : (P : PlainProgram) (S T : Shapes) → Grows S T → (g : Ground) (vs : List Value) (x : ℕ) (l : ScopeLocal) → LocalFits P S g vs x l →
+    LocalFits P T g vs x l
 local_later P S T h g vs x (variable t) f = fits_grows P S T h (env_of g) t _ f
 local_later P S T h g vs x (frozen t) f = fits_grows P S T h (env_of g) t _ f
 local_later P S T h g vs x (constant t) f = fits_grows P S T h (env_of g) t _ f

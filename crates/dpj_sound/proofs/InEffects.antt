@@ -40,12 +40,14 @@ both_in : (L : Scope) (E F : List EffectOwn) → All (OwnInScope L) E → All (O
 both_in L E F h k = All-append (OwnInScope L) E F h k
 
 module _ (P : PlainProgram) (wt : WellTyped P) where
-  region_in_scope : (L : Scope) (c j : ℕ) (args : List Rpl) (f : PlainField) → field_at P c j ≡ Some f → All (PathInScope L 0) args → PathInScope L 0 (substituted args f.region)
+  region_in_scope : (L : Scope) (c j : ℕ) (args : List Rpl) (f : PlainField) → field_at P c j ≡ Some f → All (PathInScope L 0) args →
+      PathInScope L 0 (substituted args f.region)
   region_in_scope L c j args f e h =
       option_and_then_some (λ (class : PlainClass). slice_get class.fields j) (class_at P c) f e
       (λ k q z. substituted_in L 0 args h (length k.params) f.region (closed_path P (class_scope k) (λ y. refl) 0 f.region (field_good P wt c k j f q e).path))
 
-  summary_in : (L : Scope) (n : ℕ) (m : PlainMember) (args : List Rpl) → slice_get P.members n ≡ Some m → All (PathInScope L 0) args → All (OwnInScope L) (summary_with args m.summary)
+  summary_in : (L : Scope) (n : ℕ) (m : PlainMember) (args : List Rpl) → slice_get P.members n ≡ Some m → All (PathInScope L 0) args →
+      All (OwnInScope L) (summary_with args m.summary)
   summary_in L n m args e h =
       let g = wt.members n m e in
       All-map (OwnInScope L) (λ e. does (effect_with args e)) m.summary
@@ -58,7 +60,8 @@ module _ (P : PlainProgram) (wt : WellTyped P) where
     args_in : {e : TypedExpr} {E : List EffectOwn} (c : ℕ) (args : List Rpl) → Has P L e E → type_of e ≡ class c args → All (PathInScope L 0) args
     args_in c args h ty = subst (TypeInScope L 0) ty (typed_in P wt L good h)
 
-    element_in : (i : TypedExpr) {a : TypedExpr} {E : List EffectOwn} {t : PlainType} {rpl : Rpl} {named : Bool} → Has P L a E → type_of a ≡ array t rpl named → PathInScope L 0 (path_at 0 (index_elem L i) rpl)
+    element_in : (i : TypedExpr) {a : TypedExpr} {E : List EffectOwn} {t : PlainType} {rpl : Rpl} {named : Bool} → Has P L a E →
+        type_of a ≡ array t rpl named → PathInScope L 0 (path_at 0 (index_elem L i) rpl)
     element_in i {rpl = rpl} h ty = let z = index_in L i in at_path_in L 0 (index_elem L i) z.0 z.1 rpl (subst (TypeInScope L 0) ty (typed_in P wt L good h)).0
 
     mutual
@@ -108,7 +111,8 @@ module _ (P : PlainProgram) (wt : WellTyped P) where
   general_in L x l (does e) s = All-map (InScope L 0) (general_elem x) e.rpl.elems (λ k d h. general_in_elem L x l _ (s k d h))
   general_in L x l (uses j e) s = All-map (InScope L 0) (general_elem x) e.rpl.elems (λ k d h. general_in_elem L x l _ (s k d h))
 
-  pub outside_in : (L : Scope) (x : ℕ) (l : ScopeLocal) (F : List EffectOwn) → All (OwnInScope (with_local x l L)) F → All (OwnInScope L) (outside_variable x F)
+  pub outside_in : (L : Scope) (x : ℕ) (l : ScopeLocal) (F : List EffectOwn) → All (OwnInScope (with_local x l L)) F →
+      All (OwnInScope L) (outside_variable x F)
   outside_in L x l F s = All-map (OwnInScope L) (mapped (λ e. record e { rpl = generalised x e.rpl })) F (λ k d h. general_in L x l _ (s k d h))
 
   own_marked : (L : Scope) (c : Bool) (o : EffectOwn) → OwnInScope L o → OwnInScope L (marked c o)

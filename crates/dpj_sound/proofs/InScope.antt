@@ -124,11 +124,13 @@ none_of Q = λ k d l. absurd (omega (arith, l))
 arguments_in : (L : Scope) (args : List Rpl) → All (PathInScope L 0) args → (p : ℕ) → PathInScope L 0 (argument args p)
 arguments_in L args h p = argument_in L args p (record { head = Param p; elems = [] }) (none_of (InScope L 0)) h
 
-put_in_scope : (L : Scope) (D : ℕ) (args : List Rpl) → All (PathInScope L 0) args → (h : Head) (a : List Elem) → All (InScope L D) a → All (InScope L D) (put_at h a args).elems
+put_in_scope : (L : Scope) (D : ℕ) (args : List Rpl) → All (PathInScope L 0) args → (h : Head) (a : List Elem) → All (InScope L D) a →
+    All (InScope L D) (put_at h a args).elems
 put_in_scope L D args al Root a h = h
 put_in_scope L D args al (Param p) a h = All-append (InScope L D) (argument args p).elems a (λ k d l. outer_elem L D _ (arguments_in L args al p k d l)) h
 
-pub substituted_in : (L : Scope) (D : ℕ) (args : List Rpl) → All (PathInScope L 0) args → (n : ℕ) (a : Rpl) → ClosedPath n D a → PathInScope L D (substituted args a)
+pub substituted_in : (L : Scope) (D : ℕ) (args : List Rpl) → All (PathInScope L 0) args → (n : ℕ) (a : Rpl) → ClosedPath n D a →
+    PathInScope L D (substituted args a)
 unfolding substituted
 substituted_in L D args al n a c = put_in_scope L D args al a.head a.elems (λ k d l. closed_elem_in L D _ (c.elems k d l))
 
@@ -146,20 +148,24 @@ any_own : (d : ℕ) (a : List Elem) → All NoOwn a → list_any (λ x. same_ele
 any_own d [] h = refl
 any_own d (x ∷ a) h = or_none _ _ (own_none d x (All-head NoOwn x a h)) (any_own d a (All-tail NoOwn x a h))
 
-has_put : (L : Scope) (d : ℕ) (args : List Rpl) → All (PathInScope L 0) args → (h : Head) (a : List Elem) → list_any (λ x. same_elem x (At (Own d))) a ≡ false → has_index d (put_at h a args) ≡ false
+has_put : (L : Scope) (d : ℕ) (args : List Rpl) → All (PathInScope L 0) args → (h : Head) (a : List Elem) →
+    list_any (λ x. same_elem x (At (Own d))) a ≡ false → has_index d (put_at h a args) ≡ false
 has_put L d args al Root a h = h
 has_put L d args al (Param p) a h =
     list_any-append (λ x. same_elem x (At (Own d))) (argument args p).elems a ∙ or_none _ _ (any_own d (argument args p).elems (λ k e l. scope_alone L _ (arguments_in L args al p k e l))) h
 
-has_substituted : (L : Scope) (d : ℕ) (args : List Rpl) → All (PathInScope L 0) args → (a : Rpl) → has_index d a ≡ false → has_index d (substituted args a) ≡ false
+has_substituted : (L : Scope) (d : ℕ) (args : List Rpl) → All (PathInScope L 0) args → (a : Rpl) → has_index d a ≡ false →
+    has_index d (substituted args a) ≡ false
 unfolding substituted
 has_substituted L d args al a h = has_put L d args al a.head a.elems h
 
-any_map : (f : Rpl → Rpl) (d : ℕ) → ((a : Rpl) → has_index d a ≡ false → has_index d (f a) ≡ false) → (ps : List Rpl) → list_any (has_index d) ps ≡ false → list_any (has_index d) (map f ps) ≡ false
+any_map : (f : Rpl → Rpl) (d : ℕ) → ((a : Rpl) → has_index d a ≡ false → has_index d (f a) ≡ false) → (ps : List Rpl) →
+    list_any (has_index d) ps ≡ false → list_any (has_index d) (map f ps) ≡ false
 any_map f d i [] h = refl
 any_map f d i (a ∷ ps) h = let p = or_parts (has_index d a) _ h in or_none _ _ (i a p.0) (any_map f d i ps p.1)
 
-mentions_with : (L : Scope) (args : List Rpl) → All (PathInScope L 0) args → (d : ℕ) (t : PlainType) → mentions_index d t ≡ false → mentions_index d (type_with args t) ≡ false
+mentions_with : (L : Scope) (args : List Rpl) → All (PathInScope L 0) args → (d : ℕ) (t : PlainType) → mentions_index d t ≡ false →
+    mentions_index d (type_with args t) ≡ false
 mentions_with L args al d int h = refl
 mentions_with L args al d boolean h = refl
 mentions_with L args al d void h = refl
@@ -231,7 +237,8 @@ has_at_elem d D x i Any g = refl
 has_at_elem d D x i Star g = refl
 has_at_elem d D x i (Local r n) g = refl
 
-has_at_elems : (d D : ℕ) (x : Elem) → IsIndexElem x → (a : List Elem) → list_any (λ x. same_elem x (At (Own d))) a ≡ false → list_any (λ x. same_elem x (At (Own d))) (map (elem_at D x) a) ≡ false
+has_at_elems : (d D : ℕ) (x : Elem) → IsIndexElem x → (a : List Elem) → list_any (λ x. same_elem x (At (Own d))) a ≡ false →
+    list_any (λ x. same_elem x (At (Own d))) (map (elem_at D x) a) ≡ false
 has_at_elems d D x i [] h = refl
 has_at_elems d D x i (y ∷ a) h = let p = or_parts (same_elem y (At (Own d))) _ h in or_none _ _ (has_at_elem d D x i y p.0) (has_at_elems d D x i a p.1)
 
@@ -325,7 +332,8 @@ module _ (P : PlainProgram) (wt : WellTyped P) (L : Scope) where
       option_and_then_some (λ (class : PlainClass). slice_get class.fields j) (class_at P c) f e
       (λ k q z. with_in P (class_scope k) (λ x. refl) (λ r t. false≢true t) L args h 0 f.ty (field_good P wt c k j f q e).ty)
 
-  result_with : (m : PlainMember) (n : ℕ) (args : List Rpl) → slice_get P.members n ≡ Some m → All (PathInScope L 0) args → TypeInScope L 0 (type_with args m.result)
+  result_with : (m : PlainMember) (n : ℕ) (args : List Rpl) → slice_get P.members n ≡ Some m → All (PathInScope L 0) args →
+      TypeInScope L 0 (type_with args m.result)
   result_with m n args e h =
       let g = wt.members n m e in
       elim g.result [

@@ -53,11 +53,13 @@ number_under k env (Variable v) s = refl
 number_under k env (Renamed v) s = refl
 number_under k env (Own d) s = absurd s
 
-at_path : (env : Env) (x : Index) (D : ℕ) (a : Rpl) (m : ℤ) → number_of env x ≡ m → (r : List Elem) → Matches env (path_at D (At x) a) r ↔ Matches (with_own env D m) a r
+at_path : (env : Env) (x : Index) (D : ℕ) (a : Rpl) (m : ℤ) → number_of env x ≡ m → (r : List Elem) →
+    Matches env (path_at D (At x) a) r ↔ Matches (with_own env D m) a r
 at_path env x D a m e r = subst (λ z. Matches env (path_at D (At x) a) r ↔ Matches (with_own env D z) a r) e (own_index_puts_in env a D x r)
 
 -- an index put in leaves the values as they are
-pub same_at : (env : Env) (x : Index) → IsSteady x → (m : ℤ) → number_of env x ≡ m → (D : ℕ) (t : PlainType) → SameIn env (type_at D (At x) t) (with_own env D m) t
+pub same_at : (env : Env) (x : Index) → IsSteady x → (m : ℤ) → number_of env x ≡ m → (D : ℕ) (t : PlainType) →
+    SameIn env (type_at D (At x) t) (with_own env D m) t
 same_at env x s m e D int = tt
 same_at env x s m e D boolean = tt
 same_at env x s m e D void = tt
@@ -108,7 +110,8 @@ elems_unmentioned D y (x ∷ a) h =
     let f = elems_unmentioned D y a p.1 in
     λ i. e i ∷ f i
 
-all_unmentioned : (env : Env) (D : ℕ) (k : ℤ) (a : List Elem) → list_any (λ x. same_elem x (At (Own D))) a ≡ false → All (λ x. put_elem env x ≡ put_elem (with_own env D k) x) a
+all_unmentioned : (env : Env) (D : ℕ) (k : ℤ) (a : List Elem) → list_any (λ x. same_elem x (At (Own D))) a ≡ false →
+    All (λ x. put_elem env x ≡ put_elem (with_own env D k) x) a
 all_unmentioned env D k [] h = λ j d l. absurd (omega (arith, l))
 all_unmentioned env D k (x ∷ a) h =
     let p = or_parts (same_elem x (At (Own D))) _ h in
@@ -118,7 +121,8 @@ head_own : (env : Env) (D : ℕ) (k : ℤ) (h : Head) → head_region env h ≡ 
 head_own env D k Root = refl
 head_own env D k (Param p) = refl
 
-path_unmentioned : (env : Env) (D : ℕ) (k : ℤ) (y : Elem) (a : Rpl) → has_index D a ≡ false → (r : List Elem) → Matches env (path_at D y a) r ↔ Matches (with_own env D k) a r
+path_unmentioned : (env : Env) (D : ℕ) (k : ℤ) (y : Elem) (a : Rpl) → has_index D a ≡ false → (r : List Elem) →
+    Matches env (path_at D y a) r ↔ Matches (with_own env D k) a r
 path_unmentioned env D k y a h r =
     let e = elems_unmentioned D y a.elems h in
     let m = matches_by_what_occurs env (with_own env D k) a (record { head = head_own env D k a.head; elems = all_unmentioned env D k a.elems h }) r in
@@ -171,7 +175,8 @@ IsIndexElem (elem.Name n) = ⊥
 IsIndexElem Star = ⊥
 IsIndexElem (Local a b) = ⊥
 
-pub fits_at_up : (P : PlainProgram) (S : Shapes) (g : Ground) (x : Elem) → IsIndexElem x → (k : ℤ) → Fits (env_of g) x (At (Literal k) ∷ []) → (t : PlainType) →
+pub fits_at_up : (P : PlainProgram) (S : Shapes) (g : Ground) (x : Elem) → IsIndexElem x → (k : ℤ) → Fits (env_of g) x (At (Literal k) ∷ []) →
+    (t : PlainType) →
     (IsTrue (is_any x) → rigid_in_index 0 t ≡ false) → (v : Value) → FitsIn P S (under k (env_of g)) t v → FitsIn P S (env_of g) (type_at 0 x t) v
 fits_at_up P S g (At x) i k e t h v f =
     let n : k ≡ number_of (env_of g) x = cc in
@@ -183,7 +188,8 @@ fits_at_up P S g Star i k e t h v f = absurd i
 fits_at_up P S g (Local a b) i k e t h v f = absurd i
 
 -- and back, at one that is known or that the type doesn't mention
-pub fits_at_down : (P : PlainProgram) (S : Shapes) (g : Ground) (x : Elem) → IsIndexElem x → (k : ℤ) → Fits (env_of g) x (At (Literal k) ∷ []) → (t : PlainType) →
+pub fits_at_down : (P : PlainProgram) (S : Shapes) (g : Ground) (x : Elem) → IsIndexElem x → (k : ℤ) → Fits (env_of g) x (At (Literal k) ∷ []) →
+    (t : PlainType) →
     (IsTrue (is_any x) → mentions_index 0 t ≡ false) → (v : Value) → FitsIn P S (env_of g) (type_at 0 x t) v → FitsIn P S (under k (env_of g)) t v
 fits_at_down P S g (At x) i k e t h v f =
     let n : k ≡ number_of (env_of g) x = cc in
@@ -196,7 +202,8 @@ fits_at_down P S g Star i k e t h v f = absurd i
 fits_at_down P S g (Local a b) i k e t h v f = absurd i
 
 -- the region of an element lies in the array's path at the index
-pub region_at_up : (g : Ground) (x : Elem) (k : ℤ) → Fits (env_of g) x (At (Literal k) ∷ []) → (a : Rpl) (r : List Elem) → Matches (under k (env_of g)) a r → Matches (env_of g) (path_at 0 x a) r
+pub region_at_up : (g : Ground) (x : Elem) (k : ℤ) → Fits (env_of g) x (At (Literal k) ∷ []) → (a : Rpl) (r : List Elem) →
+    Matches (under k (env_of g)) a r → Matches (env_of g) (path_at 0 x a) r
 region_at_up g x k f a r m = own_index_matches_more (env_of g) a 0 x k f r (subst (λ z. Matches z a r) (under_top k g) m)
 
 paths_unmentioned : (D : ℕ) (y : Elem) (ps : List Rpl) → list_any (has_index D) ps ≡ false → map (path_at D y) ps ≡ ps

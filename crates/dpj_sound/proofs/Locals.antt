@@ -36,7 +36,8 @@ other_than : (L : Scope) (x y : ℕ) (l : ScopeLocal) → L.local y ≡ Some l �
 other_than L x y l e n q = let z : None ≡ Some l = sym n ∙ ap L.local (sym q) ∙ e in cc
 
 -- a slot that isn't in scope may be set
-pub frame_outside : (P : PlainProgram) (p : Path) (st : State) (g : Ground) (L : Scope) → GoodScope L → (f : Frame) (x : ℕ) (v : Value) → L.local x ≡ None → FrameFits P p st g L f → FrameFits P p st g L (with_value f x v)
+pub frame_outside : (P : PlainProgram) (p : Path) (st : State) (g : Ground) (L : Scope) → GoodScope L → (f : Frame) (x : ℕ) (v : Value) →
+    L.local x ≡ None → FrameFits P p st g L f → FrameFits P p st g L (with_value f x v)
 frame_outside P p st g L good f x v n ff = record {
   regions = ff.regions;
   plain = ff.plain;
@@ -55,7 +56,8 @@ variable_not : (L : Scope) (x y : ℕ) (t : PlainType) (l : ScopeLocal) → L.lo
 variable_not L x y t l e k ne q = ne (let z : Some (variable t) ≡ Some l = sym e ∙ ap L.local (sym q) ∙ k in cc)
 
 -- a variable is assigned
-pub frame_store : (P : PlainProgram) (p : Path) (st : State) (g : Ground) (L : Scope) → GoodScope L → (f : Frame) (x : ℕ) (t : PlainType) (v : Value) → L.local x ≡ Some (variable t) → FitsIn P st.shapes (env_of g) t v →
+pub frame_store : (P : PlainProgram) (p : Path) (st : State) (g : Ground) (L : Scope) → GoodScope L → (f : Frame) (x : ℕ) (t : PlainType) (v : Value) →
+    L.local x ≡ Some (variable t) → FitsIn P st.shapes (env_of g) t v →
     FrameFits P p st g L f → FrameFits P p st g L (with_value f x v)
 frame_store P p st g L good f x t v lx fv ff = record {
   regions = ff.regions;
@@ -130,7 +132,8 @@ declared_in : (L : Scope) (is_final : Bool) (t : PlainType) → TypeInScope L 0 
 declared_in L true t s = s
 declared_in L false t s = s
 
-pub good_declare : (L : Scope) → GoodScope L → (x : ℕ) (is_final : Bool) (t : PlainType) → IsFree L x → TypeInScope L 0 t → GoodScope (with_local x (declared_as is_final t) L)
+pub good_declare : (L : Scope) → GoodScope L → (x : ℕ) (is_final : Bool) (t : PlainType) → IsFree L x → TypeInScope L 0 t →
+    GoodScope (with_local x (declared_as is_final t) L)
 good_declare L good x is_final t free s = record {
   each = λ y m e. ⊎_elim
       (λ h. subst (LocalInScope (with_local x (declared_as is_final t) L)) (inner_is L x y (declared_as is_final t) m h e)
@@ -147,12 +150,14 @@ good_declare L good x is_final t free s = record {
     kept : (y : ℕ) (m : ScopeLocal) → L.local y ≡ Some m → (with_local x (declared_as is_final t) L).local y ≡ Some m
     kept y m e = cond-false (y == x) (Some (declared_as is_final t)) (L.local y) (false_from_ne_true (y == x) (λ h. other_than L x y m e free.0 (eqb-true y x h))) ∙ e
 
-declared_fits : (P : PlainProgram) (S : Shapes) (g : Ground) (vs : List Value) (x : ℕ) (is_final : Bool) (t : PlainType) → FitsIn P S (env_of g) t (slot_value vs x) → LocalFits P S g vs x (declared_as is_final t)
+declared_fits : (P : PlainProgram) (S : Shapes) (g : Ground) (vs : List Value) (x : ℕ) (is_final : Bool) (t : PlainType) →
+    FitsIn P S (env_of g) t (slot_value vs x) → LocalFits P S g vs x (declared_as is_final t)
 declared_fits P S g vs x true t f = f
 declared_fits P S g vs x false t f = f
 
 -- a declared local: the frame fits the scope with it, in the ground with its number
-pub frame_declare : (P : PlainProgram) (p : Path) (st : State) (g : Ground) (L : Scope) → GoodScope L → (f : Frame) (x : ℕ) (is_final : Bool) (t : PlainType) (v : Value) → IsFree L x → TypeInScope L 0 t →
+pub frame_declare : (P : PlainProgram) (p : Path) (st : State) (g : Ground) (L : Scope) → GoodScope L →
+    (f : Frame) (x : ℕ) (is_final : Bool) (t : PlainType) (v : Value) → IsFree L x → TypeInScope L 0 t →
     FitsIn P st.shapes (env_of g) t v → FrameFits P p st g L f → FrameFits P p st (with_number x (number v) g) (with_local x (declared_as is_final t) L) (with_value f x v)
 frame_declare P p st g L good f x is_final t v free s fv ff = record {
   regions = ff.regions;
@@ -186,7 +191,8 @@ frame_declare P p st g L good f x is_final t v free s fv ff = record {
     same = set_same f.values x v (let b = free.1 in let d = ff.slots in omega (arith, b, d))
 
 -- behind the block that it stands in
-pub frame_leave : (P : PlainProgram) (p : Path) (st : State) (g : Ground) (L : Scope) → GoodScope L → (f : Frame) (x : ℕ) (l : ScopeLocal) (k : ℤ) → L.local x ≡ None →
+pub frame_leave : (P : PlainProgram) (p : Path) (st : State) (g : Ground) (L : Scope) → GoodScope L → (f : Frame) (x : ℕ) (l : ScopeLocal) (k : ℤ) →
+    L.local x ≡ None →
     FrameFits P p st (with_number x k g) (with_local x l L) f → FrameFits P p st g L f
 frame_leave P p st g L good f x l k n ff = record {
   regions = ff.regions;
@@ -209,7 +215,8 @@ frame_leave P p st g L good f x l k n ff = record {
 
 -- what effects speak of where the variable has its number they speak of outside, where it may be any
 
-put_number : (g : Ground) (x : ℕ) (k : ℤ) (L : Scope) (D : ℕ) (y : Elem) → InScope L D y → put_elem (env_of (with_number x k g)) y ≡ put_elem (with_index (env_of g) x k) y
+put_number : (g : Ground) (x : ℕ) (k : ℤ) (L : Scope) (D : ℕ) (y : Elem) → InScope L D y →
+    put_elem (env_of (with_number x k g)) y ≡ put_elem (with_index (env_of g) x k) y
 put_number g x k L D (Name m) s = refl
 put_number g x k L D (At (Literal j)) s = refl
 put_number g x k L D (At (Variable y)) s = refl
@@ -223,7 +230,8 @@ head_number : (g : Ground) (x : ℕ) (k : ℤ) (h : Head) → head_region (env_o
 head_number g x k Root = refl
 head_number g x k (Param p) = refl
 
-general_matches : (g : Ground) (x : ℕ) (k : ℤ) (L : Scope) (a : Rpl) → PathInScope L 0 a → (r : List Elem) → Matches (env_of (with_number x k g)) a r → Matches (env_of g) (generalised x a) r
+general_matches : (g : Ground) (x : ℕ) (k : ℤ) (L : Scope) (a : Rpl) → PathInScope L 0 a → (r : List Elem) → Matches (env_of (with_number x k g)) a r →
+    Matches (env_of g) (generalised x a) r
 general_matches g x k L a s r m =
     general_matches_more (env_of g) a x k r
     ((matches_by_what_occurs (env_of (with_number x k g)) (with_index (env_of g) x k) a (record { head = head_number g x k a.head; elems = λ j d l. put_number g x k L 0 _ (s j d l) }) r).0 m)
@@ -236,7 +244,8 @@ covers_general : (g : Ground) (x : ℕ) (k : ℤ) (L : Scope) (o : EffectOwn) (a
 covers_general g x k L (does e) a s h = speaks_general g x k L e a s h
 covers_general g x k L (uses j e) a s h = (speaks_general g x k L e a s h.0, h.1)
 
-pub lies_general : (g : Ground) (x : ℕ) (k : ℤ) (L : Scope) (E : List EffectOwn) (a : Access) → All (λ o. PathInScope L 0 (effect_of o).rpl) E → LiesIn (with_number x k g) E a → LiesIn g (outside_variable x E) a
+pub lies_general : (g : Ground) (x : ℕ) (k : ℤ) (L : Scope) (E : List EffectOwn) (a : Access) → All (λ o. PathInScope L 0 (effect_of o).rpl) E →
+    LiesIn (with_number x k g) E a → LiesIn g (outside_variable x E) a
 lies_general g x k L [] a s h = h
 lies_general g x k L (o ∷ E) a s h = elim h [
   | inl c ↦ inl (covers_general g x k L o a (All-head (λ o. PathInScope L 0 (effect_of o).rpl) o E s) c)

@@ -80,7 +80,8 @@ module _ (P : PlainProgram) (wt : WellTyped P) (b : Bounds) (L : Scope) (g : Gro
   pub put_is : (a : Rpl) → GoodPath P L 0 a → elems_of (put a) ≡ (put_in (env_of g) a).elems
   put_is a h = concrete_put P b.path st g L f ff b.path a (good_path P L 0 a h)
 
-  pub region_of_args : (args : List Rpl) → All (GoodPath P L 0) args → (p : ℕ) → p < length args → region_in (map put args) p ≡ (put_in (env_of g) (argument args p)).elems
+  pub region_of_args : (args : List Rpl) → All (GoodPath P L 0) args → (p : ℕ) → p < length args →
+      region_in (map put args) p ≡ (put_in (env_of g) (argument args p)).elems
   region_of_args args h p l =
       ap elems_of (get_or-map put args p (record { head = Param p; elems = [] }) [] l) ∙ put_is (argument args p) (h p (record { head = Param p; elems = [] }) l)
 
@@ -98,7 +99,8 @@ module _ (P : PlainProgram) (wt : WellTyped P) (b : Bounds) (L : Scope) (g : Gro
     args_match args (All-tail (GoodPath P L 0) a args h) (All-tail (λ a. IsTrue (fully_specified a)) a args u),
   )
 
-  pub made_good : (c : ℕ) (k : PlainClass) (args : List Rpl) → class_at P c ≡ Some k → GoodArgs P L 0 k.params k.given [] args → All (λ a. IsTrue (fully_specified a)) args → GoodObject P c (map put args)
+  pub made_good : (c : ℕ) (k : PlainClass) (args : List Rpl) → class_at P c ≡ Some k → GoodArgs P L 0 k.params k.given [] args →
+      All (λ a. IsTrue (fully_specified a)) args → GoodObject P c (map put args)
   made_good c k args e ga u = record {
     class = k;
     is = e;
@@ -113,9 +115,11 @@ module _ (P : PlainProgram) (wt : WellTyped P) (b : Bounds) (L : Scope) (g : Gro
   }
 
   -- a new object
-  pub order_new : (R : State → Result → Type 0) (c : ℕ) (k : PlainClass) (args : List Rpl) (constructor : Bool) (next : Answer → Prog) → class_at P c ≡ Some k →
+  pub order_new : (R : State → Result → Type 0) (c : ℕ) (k : PlainClass) (args : List Rpl) (constructor : Bool) (next : Answer → Prog) →
+      class_at P c ≡ Some k →
       GoodArgs P L 0 k.params k.given [] args → All (λ a. IsTrue (fully_specified a)) args →
-      ((n : ObjectName) (h : State) → Since st h → Instance P h.shapes (env_of g) c args n → h.shapes n ≡ Some (object c (map put args)) → InOrder P b R h (next (Named n))) →
+      ((n : ObjectName) (h : State) → Since st h → Instance P h.shapes (env_of g) c args n → h.shapes n ≡ Some (object c (map put args)) →
+      InOrder P b R h (next (Named n))) →
       InOrder P b R st (Act (New (new_object P c (map put args)) constructor) next)
   unfolding InOrder
   order_new R c k args constructor next e ga u i = (
@@ -141,7 +145,8 @@ module _ (P : PlainProgram) (wt : WellTyped P) (b : Bounds) (L : Scope) (g : Gro
       let z : n ≡ 0 = s.0 in
       subst (λ z. elem_of (element_part k (part_of (named_by b.path) (around f) (elem.Local r z))) ≡ put_elem (under k (env_of g)) (elem.Local r z)) (sym z) (λ i. elem.Local (e i).0 (e i).1)
 
-  element_elems : (k : ℤ) (xs : List Elem) → All (InScope L 1) xs → elems_of (element_region k (map (part_of (named_by b.path) (around f)) xs)) ≡ map (put_elem (under k (env_of g))) xs
+  element_elems : (k : ℤ) (xs : List Elem) → All (InScope L 1) xs →
+      elems_of (element_region k (map (part_of (named_by b.path) (around f)) xs)) ≡ map (put_elem (under k (env_of g))) xs
   element_elems k [] s = refl
   element_elems k (x ∷ xs) s =
       let e = element_elem 0 k x (All-head (InScope L 1) x xs s) in
@@ -163,7 +168,8 @@ module _ (P : PlainProgram) (wt : WellTyped P) (b : Bounds) (L : Scope) (g : Gro
       ∙ (λ i. e i ++ t i)
 
   -- a new array, or a trap
-  pub order_new_array : (R : State → Result → Type 0) (at : Place) (t : PlainType) (a : Rpl) (named : Bool) → GoodType P L 0 (array t a named) → fully_specified a ≡ true → (k : ℤ) →
+  pub order_new_array : (R : State → Result → Type 0) (at : Place) (t : PlainType) (a : Rpl) (named : Bool) → GoodType P L 0 (array t a named) →
+      fully_specified a ≡ true → (k : ℤ) →
       ((v : Value) (h : State) → Since st h → FitsIn P h.shapes (env_of g) (array t a named) v → R h (Goes_on v f)) →
       InOrder P b R st (made_array (named_by b.path) at (array t a named) k f)
   unfolding InOrder

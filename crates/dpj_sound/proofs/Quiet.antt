@@ -45,17 +45,20 @@ write_apart true true h e = refl
 write_apart true false h e = absurd (false≢true (sym h))
 write_apart false p h e = absurd (false≢true e)
 
-effects_apart : (given : List Constraint) (e f : Effect) → clashes given None e f ≡ false → (is_write e.access || is_write f.access) ≡ true → apart given e.rpl f.rpl ≡ true
+effects_apart : (given : List Constraint) (e f : Effect) → clashes given None e f ≡ false → (is_write e.access || is_write f.access) ≡ true →
+    apart given e.rpl f.rpl ≡ true
 unfolding clashes interferes
 effects_apart given e f h w = write_apart (is_write e.access || is_write f.access) (apart given e.rpl f.rpl) h w
 
 module _ (given : List Constraint) (env : Env) (v : IsEnv given env) (a c : Access) (meet : Meet a c) where
-  pair_quiet : (e f : Effect) → clashes given None e f ≡ false → Matches env e.rpl a.region × (a.write ≡ true → is_write e.access ≡ true) → Matches env f.rpl c.region × (c.write ≡ true → is_write f.access ≡ true) → ⊥
+  pair_quiet : (e f : Effect) → clashes given None e f ≡ false → Matches env e.rpl a.region × (a.write ≡ true → is_write e.access ≡ true) →
+      Matches env f.rpl c.region × (c.write ≡ true → is_write f.access ≡ true) → ⊥
   pair_quiet e f h x y =
       let w = ⊎_elim (λ t. or_left (is_write e.access) (is_write f.access) (x.1 t)) (λ t. or_right (is_write e.access) (is_write f.access) (y.1 t)) (or_cases a.write c.write meet.write) in
       no_common given env v e.rpl f.rpl (effects_apart given e f h w) a.region x.0 (subst (λ z. Matches env f.rpl z) (sym meet.region) y.0)
 
-  one_quiet : (e : Effect) (fs : List Effect) → some_clashes given None e fs ≡ false → Matches env e.rpl a.region × (a.write ≡ true → is_write e.access ≡ true) → Reaches env fs c → ⊥
+  one_quiet : (e : Effect) (fs : List Effect) → some_clashes given None e fs ≡ false →
+      Matches env e.rpl a.region × (a.write ≡ true → is_write e.access ≡ true) → Reaches env fs c → ⊥
   one_quiet e [] h x y = y
   one_quiet e (f ∷ fs) h x y = let p = or_parts (clashes given None e f) _ h in elim y [ inl z ↦ pair_quiet e f p.0 x z | inr z ↦ one_quiet e fs p.1 x z ]
 
@@ -141,10 +144,12 @@ iterations_quiet P given L g x j k v none E s h ne a c meet la lc =
     copy_is : (with_copy (env_of (with_number x j g)) x k).renamed x ≡ k
     copy_is = cond-true (x == x) k _ (eq-eqb x x refl)
 
-    first : (b : Rpl) → PathInScope L 0 b → (r : List Elem) → Matches (env_of (with_number x j g)) b r → Matches (with_copy (env_of (with_number x j g)) x k) b r
+    first : (b : Rpl) → PathInScope L 0 b → (r : List Elem) → Matches (env_of (with_number x j g)) b r →
+        Matches (with_copy (env_of (with_number x j g)) x k) b r
     first b t r m = (matches_by_what_occurs (env_of (with_number x j g)) (with_copy (env_of (with_number x j g)) x k) b (record { head = head_copy (env_of (with_number x j g)) x k b.head; elems = λ i d l. put_copy (env_of (with_number x j g)) x k L _ (t i d l) }) r).0 m
 
-    second : (b : Rpl) → PathInScope L 0 b → (r : List Elem) → Matches (env_of (with_number x k g)) b r → Matches (with_copy (env_of (with_number x j g)) x k) (renamed_rpl x b) r
+    second : (b : Rpl) → PathInScope L 0 b → (r : List Elem) → Matches (env_of (with_number x k g)) b r →
+        Matches (with_copy (env_of (with_number x j g)) x k) (renamed_rpl x b) r
     second b t r m =
         let n = (with_copy (env_of (with_number x j g)) x k).renamed x in
         (renamed_matches (with_copy (env_of (with_number x j g)) x k) b x r).1

@@ -62,13 +62,15 @@ abbrev pub Left : PlainProgram → Bounds → Scope → Ground → Bool → Stat
 Left P b L g c st h (Goes_on v f) = IsTrue c × Since st h × FrameFits P b.path h g L f
 Left P b L g c st h (Returns v) = Since st h × ReturnFits P h.shapes g L.result v
 
-left_since : (P : PlainProgram) (b : Bounds) (L : Scope) (g : Ground) (c d : Bool) (st h u : State) (r : Result) → Since st h → (c ≡ true → d ≡ true) → Left P b L g c h u r → Left P b L g d st u r
+left_since : (P : PlainProgram) (b : Bounds) (L : Scope) (g : Ground) (c d : Bool) (st h u : State) (r : Result) → Since st h → (c ≡ true → d ≡ true) →
+    Left P b L g c h u r → Left P b L g d st u r
 left_since P b L g c d st h u (Goes_on v f) s i y = (i y.0, since_since s y.1, y.2)
 left_since P b L g c d st h u (Returns v) s i y = (since_since s y.0, y.1)
 
 module _ (P : PlainProgram) (b : Bounds) where
   -- a write that is allowed, of a value of the cell's type
-  order_write : (R : State → Result → Type 0) (st : State) (at : Place) (n : Name) (i : ℤ) (v : Value) (f : Frame) (r : Reaches P b st n i true) → FitsIn P st.shapes r.cell.env r.cell.ty v →
+  order_write : (R : State → Result → Type 0) (st : State) (at : Place) (n : Name) (i : ℤ) (v : Value) (f : Frame) (r : Reaches P b st n i true) →
+      FitsIn P st.shapes r.cell.env r.cell.ty v →
       ((u : State) → Since st u → R u (Goes_on none f)) → InOrder P b R st (write_cell at n i v f)
   unfolding InOrder
   order_write R st at n i v f r fv k = ((r, fv), λ x u after fits. go (is_out x) u (since_after (Write n i v) refl after))
@@ -77,7 +79,8 @@ module _ (P : PlainProgram) (b : Bounds) where
       go true u s = tt
       go false u s = k u s
 
-  order_prints : (R : State → Result → Type 0) (st : State) (text : List ℕ) (f : Frame) → ((u : State) → Since st u → R u (Goes_on none f)) → InOrder P b R st (prints text f)
+  order_prints : (R : State → Result → Type 0) (st : State) (text : List ℕ) (f : Frame) → ((u : State) → Since st u → R u (Goes_on none f)) →
+      InOrder P b R st (prints text f)
   unfolding InOrder
   order_prints R st text f k = (tt, λ x u after fits. k u (since_after (Print _) refl after))
 
@@ -85,12 +88,14 @@ module _ (P : PlainProgram) (b : Bounds) where
   write_at at f v u o = elim o as (λ z. Prog) [ None ↦ Traps trap.Index at | Some p ↦ unless_null at v (λ n. write_cell at n p u f) ]
 
   -- a write of an element through a part
-  part_write : (R : State → Result → Type 0) (st : State) (at : Place) (f : Frame) (g : Ground) (k : ℕ) (t : PlainType) (a : Rpl) (i : ℤ) (u : Value) → PartFits P st.shapes g f.values k t a →
+  part_write : (R : State → Result → Type 0) (st : State) (at : Place) (f : Frame) (g : Ground) (k : ℕ) (t : PlainType) (a : Rpl) (i : ℤ) (u : Value) →
+      PartFits P st.shapes g f.values k t a →
       Within b st.entries g (uses k (writes a) ∷ []) → FitsIn P st.shapes (env_of g) t u → ((h : State) → Since st h → R h (Goes_on none f)) →
       InOrder P b R st (part_element at k i f (λ n l. write_cell at n l u f))
   part_write R st at f g k t a i u pf w fu next = go (part_place k i f.values) refl
     where
-      write : (p : ℤ) → part_place k i f.values ≡ Some p → (n : Name) → slot_value f.values k ≡ Object n → ArrayInstance st.shapes (env_of g) t a n → InOrder P b R st (write_cell at n p u f)
+      write : (p : ℤ) → part_place k i f.values ≡ Some p → (n : Name) → slot_value f.values k ≡ Object n → ArrayInstance st.shapes (env_of g) t a n →
+          InOrder P b R st (write_cell at n p u f)
       write p e n is i' =
           let s = inside_part i (number (slot_value f.values (k + 2))) _ p e in
           let cell : Touches P st.shapes n p = record { shape = elements i'.ground i'.element i'.rpl; is = i'.shape; env = under p (env_of i'.ground); ty = i'.element; rpl = i'.rpl; cell = of_array } in
@@ -113,7 +118,8 @@ module _ (P : PlainProgram) (b : Bounds) where
           (fits_same P st.shapes (env_of g) t (under p (env_of g)) t (same_sym (under p (env_of g)) t (env_of g) t (same_inside g p t pf.none_mentioned)) u fu))
           next
 
-      by_value : (p : ℤ) → part_place k i f.values ≡ Some p → (v : Value) → slot_value f.values k ≡ v → FitsIn P st.shapes (env_of g) (array t a false) v → InOrder P b R st (unless_null at v (λ n. write_cell at n p u f))
+      by_value : (p : ℤ) → part_place k i f.values ≡ Some p → (v : Value) → slot_value f.values k ≡ v →
+          FitsIn P st.shapes (env_of g) (array t a false) v → InOrder P b R st (unless_null at v (λ n. write_cell at n p u f))
       by_value p e Null is fv = order_trap P b R st trap.Null at
       by_value p e (Object n) is fv = write p e n is fv
       by_value p e (Int j) is fv = absurd fv
@@ -125,7 +131,8 @@ module _ (P : PlainProgram) (b : Bounds) where
 
   module _ (wt : WellTyped P) (L : Scope) (g : Ground) where
     -- a write of a field, or the trap at null
-    field_write : (R : State → Result → Type 0) (st : State) (at : Place) (f : Frame) (c k : ℕ) (args : List Rpl) (fd : PlainField) → field_at P c k ≡ Some fd → Known args fd.ty →
+    field_write : (R : State → Result → Type 0) (st : State) (at : Place) (f : Frame) (c k : ℕ) (args : List Rpl) (fd : PlainField) →
+        field_at P c k ≡ Some fd → Known args fd.ty →
         All (PathInScope L 0) args → Within b st.entries g (does (writes (substituted args fd.region)) ∷ []) → (u : Value) → FitsIn P st.shapes (env_of g) (type_with args fd.ty) u →
         (v : Value) → FitsIn P st.shapes (env_of g) (class c args) v → ((h : State) → Since st h → R h (Goes_on none f)) →
         InOrder P b R st (unless_null at v (λ n. write_cell at n (pos k) u f))
@@ -148,8 +155,10 @@ module _ (P : PlainProgram) (b : Bounds) where
             (fits_with_down P st.shapes m (env_of g) (class_env i.regions) args st' fd.ty (closed_type P (class_scope good.class) (λ y. refl) (λ r t. false≢true t) 0 fd.ty gf.ty) kn u fu))
             next
 
-    element_write : (R : State → Result → Type 0) (st : State) (at : Place) (f : Frame) (t : PlainType) (a : Rpl) (named : Bool) (x : Elem) (k : ℤ) → IsIndexElem x → Fits (env_of g) x (At (Literal k) ∷ []) →
-        (IsTrue (is_any x) → mentions_index 0 t ≡ false) → Within b st.entries g (does (writes (path_at 0 x a)) ∷ []) → (u : Value) → FitsIn P st.shapes (env_of g) (type_at 0 x t) u →
+    element_write : (R : State → Result → Type 0) (st : State) (at : Place) (f : Frame) (t : PlainType) (a : Rpl) (named : Bool) (x : Elem) (k : ℤ) →
+        IsIndexElem x → Fits (env_of g) x (At (Literal k) ∷ []) →
+        (IsTrue (is_any x) → mentions_index 0 t ≡ false) → Within b st.entries g (does (writes (path_at 0 x a)) ∷ []) → (u : Value) →
+        FitsIn P st.shapes (env_of g) (type_at 0 x t) u →
         (v : Value) → FitsIn P st.shapes (env_of g) (array t a named) v → ((h : State) → Since st h → R h (Goes_on none f)) →
         InOrder P b R st (unless_null at v (λ n. write_cell at n k u f))
     element_write R st at f t a named x k ix fx kn w u fu v fv next = order_unless P b R st at (ArrayInstance st.shapes (env_of g) t a) (λ n. write_cell at n k u f) go v fv
@@ -165,18 +174,22 @@ module _ (P : PlainProgram) (b : Bounds) where
 
 module _ (P : PlainProgram) (wt : WellTyped P) (b : Bounds) (dp : Option Deeper) (dd : DeeperInOrder P b dp) where
   -- behind an expression, which is in order
-  behind : (L : Scope) → GoodScope L → (g : Ground) {e : TypedExpr} {E : List EffectOwn} → Has P L e E → (R : State → Result → Type 0) (j : Value → Frame → Prog) (st : State) (f : Frame) → FrameFits P b.path st g L f → Within b st.entries g E →
-      ((h : State) (v : Value) → Since st h → FitsIn P h.shapes (env_of g) (type_of e) v → Fits (env_of g) (index_elem L e) (At (Literal (number v)) ∷ []) → InOrder P b R h (j v f)) →
+  behind : (L : Scope) → GoodScope L → (g : Ground) {e : TypedExpr} {E : List EffectOwn} → Has P L e E →
+      (R : State → Result → Type 0) (j : Value → Frame → Prog) (st : State) (f : Frame) → FrameFits P b.path st g L f → Within b st.entries g E →
+      ((h : State) (v : Value) → Since st h → FitsIn P h.shapes (env_of g) (type_of e) v →
+      Fits (env_of g) (index_elem L e) (At (Literal (number v)) ∷ []) → InOrder P b R h (j v f)) →
       InOrder P b R st (and_then (of_expr (named_by b.path) P dp e f) j)
   behind L good g {e = e} h R j st f ff w i = order_then P b L g e f R j st _ (expr_order P wt b dp dd L good g h (Yields P L g e st f) st f ff w (yields P L g e st f)) i
 
   -- a value of a subtype
-  sub_fits : (L : Scope) → GoodScope L → (g : Ground) {e : TypedExpr} {E : List EffectOwn} {t : PlainType} → Has P L e E → Subtype P (type_of e) t → {st : State} {f : Frame} → FrameFits P b.path st g L f → (S : Shapes) (v : Value) →
+  sub_fits : (L : Scope) → GoodScope L → (g : Ground) {e : TypedExpr} {E : List EffectOwn} {t : PlainType} → Has P L e E → Subtype P (type_of e) t →
+      {st : State} {f : Frame} → FrameFits P b.path st g L f → (S : Shapes) (v : Value) →
       FitsIn P S (env_of g) (type_of e) v → FitsIn P S (env_of g) t v
   sub_fits L good g {e = e} h sub ff S v fv = subtype_fits P wt S (env_of g) (env_alone L.given (env_of g) (frame_env ff)) refl sub (type_alone L (type_of e) (typed_in P wt L good h)) v fv
 
   -- behind the test of a loop, and its body
-  tested : (L : Scope) (g : Ground) (e : TypedExpr) (st : State) (f : Frame) → FrameFits P b.path st g L f → (u : State) (r : Result) → Yields P L g e st f u r → Rounds P b.path st g L u r
+  tested : (L : Scope) (g : Ground) (e : TypedExpr) (st : State) (f : Frame) → FrameFits P b.path st g L f → (u : State) (r : Result) →
+      Yields P L g e st f u r → Rounds P b.path st g L u r
   tested L g e st f ff u (Goes_on v c) y = (y.0, subst (FrameFits P b.path u g L) (sym y.1) (frame_since y.0 ff))
   tested L g e st f ff u (Returns v) y = absurd y
 
@@ -189,8 +202,10 @@ module _ (P : PlainProgram) (wt : WellTyped P) (b : Bounds) (dp : Option Deeper)
   looped L g st u (Returns v) y = y
 
   -- behind the body of an atomic block
-  leaves_block : (L : Scope) (g : Ground) (c : Bool) (st u : State) (Es : List RunEffect) → Grows st.shapes u.shapes → st.made ≤ u.made → u.entries ≡ Es ∷ st.entries →
-      (h : State) (r : Result) → Left P b (in_atomic_block L) g c u h r → InOrder P b (Left P b L g true st) h (next_of (λ v k. Act Exit (λ c. gives none k)) r)
+  leaves_block : (L : Scope) (g : Ground) (c : Bool) (st u : State) (Es : List RunEffect) → Grows st.shapes u.shapes → st.made ≤ u.made →
+      u.entries ≡ Es ∷ st.entries →
+      (h : State) (r : Result) → Left P b (in_atomic_block L) g c u h r →
+      InOrder P b (Left P b L g true st) h (next_of (λ v k. Act Exit (λ c. gives none k)) r)
   unfolding InOrder
   leaves_block L g c st u Es grown made e h (Goes_on v k) y = (
     tt,
@@ -225,18 +240,21 @@ module _ (P : PlainProgram) (wt : WellTyped P) (b : Bounds) (dp : Option Deeper)
   declared g t x st f R j k h (Returns v) y = absurd y
 
   -- behind the block of a declared local
-  return_leave : (L : Scope) → GoodScope L → (g : Ground) (x : ℕ) (k : ℤ) → L.local x ≡ None → (S : Shapes) (o : Option PlainType) → L.result ≡ o → (v : Value) → ReturnFits P S (with_number x k g) o v → ReturnFits P S g o v
+  return_leave : (L : Scope) → GoodScope L → (g : Ground) (x : ℕ) (k : ℤ) → L.local x ≡ None → (S : Shapes) (o : Option PlainType) → L.result ≡ o →
+      (v : Value) → ReturnFits P S (with_number x k g) o v → ReturnFits P S g o v
   return_leave L good g x k n S None e v f = f
   return_leave L good g x k n S (Some t) e v f = fits_alike P S L (with_number x k g) g (ground_back (number_alike L g x k n)) t (good.result t e) v f
 
-  left_leave : (L : Scope) → GoodScope L → (g : Ground) (x : ℕ) (l : ScopeLocal) (k : ℤ) → L.local x ≡ None → (c : Bool) (st h u : State) (r : Result) → Since st h → Left P b (with_local x l L) (with_number x k g) c h u r → Left P b L g c st u r
+  left_leave : (L : Scope) → GoodScope L → (g : Ground) (x : ℕ) (l : ScopeLocal) (k : ℤ) → L.local x ≡ None →
+      (c : Bool) (st h u : State) (r : Result) → Since st h → Left P b (with_local x l L) (with_number x k g) c h u r → Left P b L g c st u r
   left_leave L good g x l k n c st h u (Goes_on v f) s y = (y.0, since_since s y.1, frame_leave P b.path u g L good f x l k n y.2)
   left_leave L good g x l k n c st h u (Returns v) s y = (since_since s y.0, return_leave L good g x k n u.shapes L.result refl v y.1)
 
   mutual
     unfolding InOrder
 
-    stmt_order : {L : Scope} {s : TypedStmt} {E : List EffectOwn} → Passes P L s E → IsSequential s → GoodScope L → (g : Ground) (st : State) (f : Frame) → FrameFits P b.path st g L f → Within b st.entries g E →
+    stmt_order : {L : Scope} {s : TypedStmt} {E : List EffectOwn} → Passes P L s E → IsSequential s → GoodScope L →
+        (g : Ground) (st : State) (f : Frame) → FrameFits P b.path st g L f → Within b st.entries g E →
         InOrder P b (Left P b L g (completes s) st) st (of_stmt (named_by b.path) P dp s f)
     stmt_order {L} (store {x = x} {t = t} lx h sub) q good g st f ff w =
         behind L good g h _ _ st f ff w
@@ -318,7 +336,8 @@ module _ (P : PlainProgram) (wt : WellTyped P) (b : Bounds) (dp : Option Deeper)
     stmt_order (foreach_parts cu hc tc fr p ic lc) q good g st f ff w = absurd q
 
     -- a statement that is a block of its own
-    single_order : {L : Scope} {s : TypedStmt} {E : List EffectOwn} → AllPass P L (more_stmts s no_stmts) E → IsSequential s → GoodScope L → (g : Ground) (st : State) (f : Frame) → FrameFits P b.path st g L f → Within b st.entries g E →
+    single_order : {L : Scope} {s : TypedStmt} {E : List EffectOwn} → AllPass P L (more_stmts s no_stmts) E → IsSequential s → GoodScope L →
+        (g : Ground) (st : State) (f : Frame) → FrameFits P b.path st g L f → Within b st.entries g E →
         InOrder P b (Left P b L g (completes s) st) st (of_stmt (named_by b.path) P dp s f)
     single_order (then' {E = E} {F = F} p c rest) q good g st f ff w = stmt_order p q good g st f ff (within_left b st.entries g E F w)
     single_order {L} (declare {x = x} {t = t} {E = E} {F = F} free gt h sub rest) q good g st f ff w =
@@ -326,7 +345,8 @@ module _ (P : PlainProgram) (wt : WellTyped P) (b : Bounds) (dp : Option Deeper)
         (λ h1 v s fv ix. (refl, s, frame_outside P b.path h1 g L good f x v free.0 (frame_since s ff)))
     single_order (declare_regions fr rest) q good g st f ff w = absurd q
 
-    pub stmts_order : {L : Scope} {ss : TypedStmts} {E : List EffectOwn} → AllPass P L ss E → AreSequential ss → GoodScope L → (g : Ground) (st : State) (f : Frame) → FrameFits P b.path st g L f → Within b st.entries g E →
+    pub stmts_order : {L : Scope} {ss : TypedStmts} {E : List EffectOwn} → AllPass P L ss E → AreSequential ss → GoodScope L →
+        (g : Ground) (st : State) (f : Frame) → FrameFits P b.path st g L f → Within b st.entries g E →
         InOrder P b (Left P b L g (all_complete ss) st) st (of_stmts (named_by b.path) P dp ss f)
     stmts_order no_more q good g st f ff w = (refl, since_now st, ff)
     stmts_order {L} (then' {s = s} {ss = ss} {E = E} {F = F} p c rest) q good g st f ff w =
@@ -349,7 +369,8 @@ module _ (P : PlainProgram) (wt : WellTyped P) (b : Bounds) (dp : Option Deeper)
         _ st (behind L good g h (Declared g t x st f) _ st f ff (within_left b st.entries g E _ w) (λ h1 v s2 fv ix. order_ret P b (Declared g t x st f) h1 (Goes_on none (with_value f x v)) (v, s2, sub_fits L good g h sub ff h1.shapes v fv, refl)))
     stmts_order (declare_regions fr rest) q good g st f ff w = absurd q.0
 
-left_leaves : (P : PlainProgram) (b : Bounds) (L : Scope) (g : Ground) (ss : TypedStmts) (st h : State) (r : Result) → Left P b L g (all_complete ss) st h r → Leaves P b L g ss st h r
+left_leaves : (P : PlainProgram) (b : Bounds) (L : Scope) (g : Ground) (ss : TypedStmts) (st h : State) (r : Result) →
+    Left P b L g (all_complete ss) st h r → Leaves P b L g ss st h r
 left_leaves P b L g ss st h (Goes_on v f) y = y
 left_leaves P b L g ss st h (Returns v) y = y
 

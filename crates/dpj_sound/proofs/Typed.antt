@@ -53,7 +53,8 @@ type_alone L null h = tt
 type_alone L (class c args) h = paths_alone L args h
 type_alone L (array t a named) h = tt
 
-result_fits : (P : PlainProgram) (S T : Shapes) (g : Ground) (o : BinaryOp) (w : Value) → FitsIn P S (class_env []) (result_of o) w → FitsIn P T (env_of g) (result_of o) w
+result_fits : (P : PlainProgram) (S T : Shapes) (g : Ground) (o : BinaryOp) (w : Value) → FitsIn P S (class_env []) (result_of o) w →
+    FitsIn P T (env_of g) (result_of o) w
 result_fits P S T g op.Add w f = f
 result_fits P S T g op.Subtract w f = f
 result_fits P S T g op.Multiply w f = f
@@ -76,10 +77,12 @@ reverse_onto [] us = sym (append-nil (reverse us))
 reverse_onto (v ∷ vs) us = reverse_onto vs (v ∷ us) ∙ ap (λ z. z ++ vs) (reverse-append (v ∷ []) us) ∙ append_assoc (reverse us) (v ∷ []) vs
 
 -- where an index lies inside a part
-pub inside_part : (i len : ℤ) (place : ℤ) (p : ℤ) → cond (int_lt i (pos 0) || not (int_lt i len)) None (Some place) ≡ Some p → (int_lt i (pos 0) ≡ false) × (int_lt i len ≡ true) × (p ≡ place)
+pub inside_part : (i len : ℤ) (place : ℤ) (p : ℤ) → cond (int_lt i (pos 0) || not (int_lt i len)) None (Some place) ≡ Some p →
+    (int_lt i (pos 0) ≡ false) × (int_lt i len ≡ true) × (p ≡ place)
 inside_part i len place p e = go (int_lt i (pos 0)) (int_lt i len) refl refl e
   where
-    go : (x y : Bool) → int_lt i (pos 0) ≡ x → int_lt i len ≡ y → cond (x || not y) None (Some place) ≡ Some p → (int_lt i (pos 0) ≡ false) × (int_lt i len ≡ true) × (p ≡ place)
+    go : (x y : Bool) → int_lt i (pos 0) ≡ x → int_lt i len ≡ y → cond (x || not y) None (Some place) ≡ Some p →
+        (int_lt i (pos 0) ≡ false) × (int_lt i len ≡ true) × (p ≡ place)
     go false true a c h = (a, c, (let q : Some place ≡ Some p = h in cc))
     go false false a c h = absurd (let q : None ≡ Some p = h in cc)
     go true y a c h = absurd (let q : None ≡ Some p = h in cc)
@@ -89,12 +92,14 @@ module _ (P : PlainProgram) (b : Bounds) where
   at_place at f j v o = elim o as (λ z. Prog) [ None ↦ Traps trap.Index at | Some p ↦ unless_null at v (λ n. j n p) ]
 
   -- a read of an element through a part
-  part_order : (R : State → Result → Type 0) (st : State) (at : Place) (f : Frame) (g : Ground) (k : ℕ) (t : PlainType) (a : Rpl) (i : ℤ) → PartFits P st.shapes g f.values k t a →
+  part_order : (R : State → Result → Type 0) (st : State) (at : Place) (f : Frame) (g : Ground) (k : ℕ) (t : PlainType) (a : Rpl) (i : ℤ) →
+      PartFits P st.shapes g f.values k t a →
       Within b st.entries g (uses k (reads a) ∷ []) → ((w : Value) (u : State) → Since st u → FitsIn P u.shapes (env_of g) t w → R u (Goes_on w f)) →
       InOrder P b R st (part_element at k i f (λ n j. read_cell at n j f))
   part_order R st at f g k t a i pf w next = go (part_place k i f.values) refl
     where
-      read : (p : ℤ) → part_place k i f.values ≡ Some p → (n : Name) (v : Value) → slot_value f.values k ≡ Object n → ArrayInstance st.shapes (env_of g) t a n → InOrder P b R st (read_cell at n p f)
+      read : (p : ℤ) → part_place k i f.values ≡ Some p → (n : Name) (v : Value) → slot_value f.values k ≡ Object n →
+          ArrayInstance st.shapes (env_of g) t a n → InOrder P b R st (read_cell at n p f)
       read p e n v is i' =
           let s = inside_part i (number (slot_value f.values (k + 2))) (int_wrapping_add w32 (number (slot_value f.values (k + 1))) i) p e in
           let cell : Touches P st.shapes n p = record { shape = elements i'.ground i'.element i'.rpl; is = i'.shape; env = under p (env_of i'.ground); ty = i'.element; rpl = i'.rpl; cell = of_array } in
@@ -116,7 +121,8 @@ module _ (P : PlainProgram) (b : Bounds) where
           (λ y u h fy. next y u h (fits_same P u.shapes (under p (env_of g)) t (env_of g) t (same_inside g p t pf.none_mentioned) y
           (fits_same P u.shapes (under p (env_of i'.ground)) i'.element (under p (env_of g)) t (same_sym (under p (env_of g)) t (under p (env_of i'.ground)) i'.element (i'.same p)) y fy)))
 
-      by_value : (p : ℤ) → part_place k i f.values ≡ Some p → (v : Value) → slot_value f.values k ≡ v → FitsIn P st.shapes (env_of g) (array t a false) v → InOrder P b R st (unless_null at v (λ n. read_cell at n p f))
+      by_value : (p : ℤ) → part_place k i f.values ≡ Some p → (v : Value) → slot_value f.values k ≡ v →
+          FitsIn P st.shapes (env_of g) (array t a false) v → InOrder P b R st (unless_null at v (λ n. read_cell at n p f))
       by_value p e Null is fv = order_trap P b R st trap.Null at
       by_value p e (Object n) is fv = read p e n (Object n) is fv
       by_value p e (Int j) is fv = absurd fv
@@ -135,7 +141,8 @@ yields P L g e st f h v s fv ix = (s, refl, fv, ix)
 
 module _ (P : PlainProgram) (wt : WellTyped P) (b : Bounds) (dp : Option Deeper) (dd : DeeperInOrder P b dp) (L : Scope) (good : GoodScope L) (g : Ground) where
   mutual
-    pub expr_order : {e : TypedExpr} {E : List EffectOwn} → Has P L e E → (R : State → Result → Type 0) (st : State) (f : Frame) → FrameFits P b.path st g L f → Within b st.entries g E →
+    pub expr_order : {e : TypedExpr} {E : List EffectOwn} → Has P L e E → (R : State → Result → Type 0) (st : State) (f : Frame) →
+        FrameFits P b.path st g L f → Within b st.entries g E →
         Next P L g R e st f → InOrder P b R st (of_expr (named_by b.path) P dp e f)
     expr_order (literal_int {k = k}) R st f ff w next = order_ret P b R st (Goes_on (Int k) f) (next st (Int k) (since_now st) tt refl)
     expr_order (literal_boolean {b = c}) R st f ff w next = order_ret P b R st (Goes_on (Boolean c) f) (next st (Boolean c) (since_now st) tt (pos 0, refl))
@@ -211,7 +218,8 @@ module _ (P : PlainProgram) (wt : WellTyped P) (b : Bounds) (dp : Option Deeper)
         (λ h1 v s fv ix. part_order P b R h1 at f g k t a (number v) ((frame_since s ff).each k (part t a) e) (within_since b s g (uses k (reads a) ∷ []) (within_right b st.entries g E _ w))
         (λ x u s2 fx. next u x (since_since s s2) fx (number x, refl)))
 
-    actuals_order : {es : TypedExprs} {ts : List PlainType} {E : List EffectOwn} → Fit P L es ts E → (R : State → Result → Type 0) (st : State) (f : Frame) → FrameFits P b.path st g L f → Within b st.entries g E →
+    actuals_order : {es : TypedExprs} {ts : List PlainType} {E : List EffectOwn} → Fit P L es ts E →
+        (R : State → Result → Type 0) (st : State) (f : Frame) → FrameFits P b.path st g L f → Within b st.entries g E →
         (us : List Value) (j : List Value → Frame → Prog) → ((h : State) (vs : List Value) → Since st h → AllZip (λ t v. FitsIn P h.shapes (env_of g) t v) ts vs → InOrder P b R h (j (onto vs us) f)) →
         InOrder P b R st (of_exprs (named_by b.path) P dp es f us j)
     actuals_order fit.none R st f ff w us j next = next st [] (since_now st) tt

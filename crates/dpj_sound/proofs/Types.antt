@@ -23,21 +23,24 @@ use Rattle.dpj_sound.proofs.Closed.{IsClosed, ClosedPath, ClosedType, Agrees, ag
 
 -- each path of a list
 
-pub match_same : (env other : Env) (args : List Rpl) → All (λ a. (r : List Elem) → Matches env a r → Matches other a r) args → (rs : List Region) → AllMatch env args rs → AllMatch other args rs
+pub match_same : (env other : Env) (args : List Rpl) → All (λ a. (r : List Elem) → Matches env a r → Matches other a r) args → (rs : List Region) →
+    AllMatch env args rs → AllMatch other args rs
 match_same env other [] h [] m = m
 match_same env other [] h (r ∷ rs) m = absurd m
 match_same env other (a ∷ args) h [] m = absurd m
 match_same env other (a ∷ args) h (r ∷ rs) m =
     (All-head (λ a. (r : List Elem) → Matches env a r → Matches other a r) a args h (elems_of r) m.0, match_same env other args (All-tail (λ a. (r : List Elem) → Matches env a r → Matches other a r) a args h) rs m.1)
 
-pub match_onto : (env other : Env) (f : Rpl → Rpl) (args : List Rpl) → All (λ a. (r : List Elem) → Matches env a r → Matches other (f a) r) args → (rs : List Region) → AllMatch env args rs → AllMatch other (map f args) rs
+pub match_onto : (env other : Env) (f : Rpl → Rpl) (args : List Rpl) → All (λ a. (r : List Elem) → Matches env a r → Matches other (f a) r) args →
+    (rs : List Region) → AllMatch env args rs → AllMatch other (map f args) rs
 match_onto env other f [] h [] m = m
 match_onto env other f [] h (r ∷ rs) m = absurd m
 match_onto env other f (a ∷ args) h [] m = absurd m
 match_onto env other f (a ∷ args) h (r ∷ rs) m =
     (All-head (λ a. (r : List Elem) → Matches env a r → Matches other (f a) r) a args h (elems_of r) m.0, match_onto env other f args (All-tail (λ a. (r : List Elem) → Matches env a r → Matches other (f a) r) a args h) rs m.1)
 
-pub match_from : (env other : Env) (f : Rpl → Rpl) (args : List Rpl) → All (λ a. (r : List Elem) → Matches other (f a) r → Matches env a r) args → (rs : List Region) → AllMatch other (map f args) rs → AllMatch env args rs
+pub match_from : (env other : Env) (f : Rpl → Rpl) (args : List Rpl) → All (λ a. (r : List Elem) → Matches other (f a) r → Matches env a r) args →
+    (rs : List Region) → AllMatch other (map f args) rs → AllMatch env args rs
 match_from env other f [] h [] m = m
 match_from env other f [] h (r ∷ rs) m = absurd m
 match_from env other f (a ∷ args) h [] m = absurd m
@@ -63,7 +66,8 @@ same_sym env (class c args) other (class d args') s = (sym s.0, λ rs. ((s.1 rs)
 same_sym env (array t a named) other (array u b named') s = (λ k r. ((s.0 k r).1, (s.0 k r).0), λ k. same_sym (under k env) t (under k other) u (s.1 k))
 same_sym env _ other _ s = absurd s
 
-pub same_trans : (env : Env) (t : PlainType) (other : Env) (u : PlainType) (third : Env) (w : PlainType) → SameIn env t other u → SameIn other u third w → SameIn env t third w
+pub same_trans : (env : Env) (t : PlainType) (other : Env) (u : PlainType) (third : Env) (w : PlainType) → SameIn env t other u →
+    SameIn other u third w → SameIn env t third w
 same_trans env int other int third w s z = z
 same_trans env boolean other boolean third w s z = z
 same_trans env void other void third w s z = z
@@ -83,7 +87,8 @@ null_or A B h (Int k) f = f
 null_or A B h (Boolean c) f = f
 
 module _ (P : PlainProgram) (S : Shapes) where
-  pub instance_onto : (env other : Env) (c d : ℕ) (args args' : List Rpl) → c ≡ d → ((rs : List Region) → AllMatch env args rs → AllMatch other args' rs) → (n : Name) → Instance P S env c args n → Instance P S other d args' n
+  pub instance_onto : (env other : Env) (c d : ℕ) (args args' : List Rpl) → c ≡ d →
+      ((rs : List Region) → AllMatch env args rs → AllMatch other args' rs) → (n : Name) → Instance P S env c args n → Instance P S other d args' n
   instance_onto env other c d args args' e h n i =
       subst (λ d. Instance P S other d args' n) e
       (record { class = i.class; made_with = i.made_with; regions = i.regions; shape = i.shape; good = i.good; is_one = i.is_one; matches = h i.regions i.matches })
@@ -222,7 +227,8 @@ own_both : (depth : ℕ) (k : ℤ) (f g : ℕ → ℤ) → ((d : ℕ) → d < de
 own_both depth k f g h zero l = refl
 own_both depth k f g h (suc d) l = h d (omega (arith, l))
 
-pub stands_under : {n depth : ℕ} {env inner : Env} {args : List Rpl} (k : ℤ) → Stands n depth env inner args → Stands n (suc depth) (under k env) (under k inner) args
+pub stands_under : {n depth : ℕ} {env inner : Env} {args : List Rpl} (k : ℤ) → Stands n depth env inner args →
+    Stands n (suc depth) (under k env) (under k inner) args
 stands_under {n} {depth} {env} {inner} {args} k s = record {
   match = λ p l. alone_under k env (argument args p) (s.alone p l) (inner.region p) (s.match p l);
   alone = s.alone;
@@ -239,7 +245,8 @@ pub fits_append : (env : Env) (a b r q : List Elem) → FitsAll env a r → Fits
 fits_append env [] b r q f g = subst (λ z. FitsAll env b (z ++ q)) (sym f) g
 fits_append env (x ∷ a) b r q f g = (f.0, f.1 ++ q, ap (λ z. z ++ q) f.2 ∙ append_assoc f.0 f.1 q, f.3, fits_append env a b f.1 q f.4 g)
 
-put_inner : (depth : ℕ) (env inner : Env) → ((d : ℕ) → d < depth → env.own d ≡ inner.own d) → (x : Elem) → IsClosed depth x → put_elem inner x ≡ put_elem env x
+put_inner : (depth : ℕ) (env inner : Env) → ((d : ℕ) → d < depth → env.own d ≡ inner.own d) → (x : Elem) → IsClosed depth x →
+    put_elem inner x ≡ put_elem env x
 put_inner depth env inner h (elem.Name m) c = refl
 put_inner depth env inner h (At (Literal k)) c = refl
 put_inner depth env inner h (At (Own d)) c = ap (λ z. At (Literal z)) (sym (h d c))
@@ -249,7 +256,8 @@ put_inner depth env inner h Any c = refl
 put_inner depth env inner h Star c = refl
 put_inner depth env inner h (Local r m) c = absurd c
 
-up_at : (n depth : ℕ) (env inner : Env) (args : List Rpl) → Stands n depth env inner args → (h : Head) (a : List Elem) → ((p : ℕ) → h ≡ Param p → p < n) → All (IsClosed depth) a →
+up_at : (n depth : ℕ) (env inner : Env) (args : List Rpl) → Stands n depth env inner args → (h : Head) (a : List Elem) →
+    ((p : ℕ) → h ≡ Param p → p < n) → All (IsClosed depth) a →
     (r : List Elem) → Matches inner (record { head = h; elems = a }) r → Matches env (put_at h a args) r
 unfolding Matches
 up_at n depth env inner args s Root a hd c r m = (m.0, m.1, fits_agree inner env a (λ k d l. put_inner depth env inner s.own _ (c k d l)) m.0 m.2)
@@ -261,7 +269,8 @@ up_at n depth env inner args s (Param p) a hd c r m =
       fits_append env arg.elems a f.0 m.0 f.2 (fits_agree inner env a (λ k d l. put_inner depth env inner s.own _ (c k d l)) m.0 m.2),
     )
 
-pub path_up : (n depth : ℕ) (env inner : Env) (args : List Rpl) → Stands n depth env inner args → (a : Rpl) → ClosedPath n depth a → (r : List Elem) → Matches inner a r → Matches env (substituted args a) r
+pub path_up : (n depth : ℕ) (env inner : Env) (args : List Rpl) → Stands n depth env inner args → (a : Rpl) → ClosedPath n depth a → (r : List Elem) →
+    Matches inner a r → Matches env (substituted args a) r
 unfolding substituted
 path_up n depth env inner args s a c r m = up_at n depth env inner args s a.head a.elems c.head c.elems r m
 
@@ -297,8 +306,10 @@ same_with n depth env inner args s (array t a named) c full = (
 )
 
 -- a value of the class's type is one of the type with arguments, where the type isn't rigid in one that is known in part
-pub fits_with_up : (P : PlainProgram) (S : Shapes) (n : ℕ) (env inner : Env) (args : List Rpl) → Stands n 0 env inner args → (t : PlainType) → ClosedType n 0 t →
-    ((p : ℕ) → IsTrue (rigid_in_param p t) → IsTrue (fully_specified (argument args p))) → (v : Value) → FitsIn P S inner t v → FitsIn P S env (type_with args t) v
+pub fits_with_up : (P : PlainProgram) (S : Shapes) (n : ℕ) (env inner : Env) (args : List Rpl) → Stands n 0 env inner args → (t : PlainType) →
+    ClosedType n 0 t →
+    ((p : ℕ) → IsTrue (rigid_in_param p t) → IsTrue (fully_specified (argument args p))) → (v : Value) → FitsIn P S inner t v →
+    FitsIn P S env (type_with args t) v
 fits_with_up P S n env inner args s int c steady v f = f
 fits_with_up P S n env inner args s boolean c steady v f = f
 fits_with_up P S n env inner args s void c steady v f = f
@@ -312,6 +323,8 @@ fits_with_up P S n env inner args s (array t a named) c steady v f =
     (λ k. path_up n 1 (under k env) (under k inner) args (stands_under k s) a c.0)
     (λ k. same_with n 1 (under k env) (under k inner) args (stands_under k s) t c.1 steady)) v f
 
-pub fits_with_down : (P : PlainProgram) (S : Shapes) (n : ℕ) (env inner : Env) (args : List Rpl) → Stands n 0 env inner args → (t : PlainType) → ClosedType n 0 t →
-    ((p : ℕ) → IsTrue (mentions_param p t) → IsTrue (fully_specified (argument args p))) → (v : Value) → FitsIn P S env (type_with args t) v → FitsIn P S inner t v
+pub fits_with_down : (P : PlainProgram) (S : Shapes) (n : ℕ) (env inner : Env) (args : List Rpl) → Stands n 0 env inner args → (t : PlainType) →
+    ClosedType n 0 t →
+    ((p : ℕ) → IsTrue (mentions_param p t) → IsTrue (fully_specified (argument args p))) → (v : Value) → FitsIn P S env (type_with args t) v →
+    FitsIn P S inner t v
 fits_with_down P S n env inner args s t c known v f = fits_same P S env (type_with args t) inner t (same_with n 0 env inner args s t c known) v f

@@ -60,6 +60,7 @@ pub record Returned (P : PlainProgram) (b : Bounds) (st : State) (forking : Fork
   pub local : (forks.scope number).local x ≡ Some (variable ty)
   pub fits : FitsIn P h.shapes (env_of (forks.ground number)) ty v
 
-abbrev pub Brings : (P : PlainProgram) (b : Bounds) (st : State) (forking : Forking) (ts : List Task) → Forks P b st forking ts → State → BroughtOf Name → Type 0
+abbrev pub Brings : (P : PlainProgram) (b : Bounds) (st : State) (forking : Forking) (ts : List Task) → Forks P b st forking ts → State →
+    BroughtOf Name → Type 0
 Brings P b st forking ts forks h (Back ls) = (x : ℕ) (v : Value) → Contains ls (x, v) → Returned P b st forking ts forks h x v
 Brings P b st forking ts forks h (Trap_of_branch trap place) = Unit {0}

@@ -52,7 +52,8 @@ DeeperInOrder P b (Some deeper) = (L : Scope) (ss : TypedStmts) (E : List Own) �
 -- gives a value of its type; where the bodies that it enters are in order
 abbrev pub ExpressionsInOrder : Type 0
 ExpressionsInOrder = (P : PlainProgram) → WellTyped P → (b : Bounds) (dp : Option Deeper) → DeeperInOrder P b dp →
-    (L : Scope) (e : TypedExpr) (E : List Own) → Has P L e E → GoodScope L → (g : Ground) (st : State) (f : Frame) → FrameFits P b.path st g L f → Within b st.entries g E →
+    (L : Scope) (e : TypedExpr) (E : List Own) → Has P L e E → GoodScope L → (g : Ground) (st : State) (f : Frame) → FrameFits P b.path st g L f →
+    Within b st.entries g E →
     InOrder P b (Yields P L g e st f) st (of_expr (named_by b.path) P dp e f)
 
 -- statements without parallel constructs and local regions are in order: from locals that fit they make only
