@@ -75,13 +75,13 @@ no_given env = λ k c l. absurd (omega (arith, l))
 
 module _ (P : PlainProgram) (wt : WellTyped P) (b : Bounds) (L : Scope) (g : Ground) where
   -- a body is in order in a frame that fits
-  body_order : (deeper : Deeper) → DeeperInOrder P b (Some deeper) →
+  body_order : (deeper : Deeper) → DeeperInOrder P wt b (Some deeper) →
       (n : ℕ) (m : PlainMember) (there : member_at P n ≡ Some m) (k : Ground) (u : State) (f : Frame) →
       FrameFits P b.path u k (scope P wt n m there) f → Within b u.entries k (wt.members n m there).effects → InOrder P b (Leaves P b (scope P wt n m there) k m.body u) u (deeper m.body f)
   body_order deeper dd n m there k u f ff w =
-      dd (scope P wt n m there) m.body (wt.members n m there).effects (wt.members n m there).passes (body_good P wt n m there) k u f ff w
+      dd n m there k u f ff w
 
-  module _ (deeper : Deeper) (dd : DeeperInOrder P b (Some deeper)) (u : State) (f : Frame) (ff : FrameFits P b.path u g L f) where
+  module _ (deeper : Deeper) (dd : DeeperInOrder P wt b (Some deeper)) (u : State) (f : Frame) (ff : FrameFits P b.path u g L f) where
     -- the entry of the member in the row of an object's own class
     abbrev entered_member : Option PlainMember → List Value → List Region → List Region → ℕ → Prog
     entered_member o vs made own d = elim o as (λ z. Prog) [
@@ -186,7 +186,7 @@ module _ (P : PlainProgram) (wt : WellTyped P) (b : Bounds) (L : Scope) (g : Gro
         behind h (Returns v) y = order_ret P b R h (Goes_on v f) (next v h y.0 (result h v y.1))
 
   -- a call of what isn't null
-  pub call_order : (dp : Option Deeper) → DeeperInOrder P b dp → (R : State → Result → Type 0) (st : State) (at : Place) (f : Frame) →
+  pub call_order : (dp : Option Deeper) → DeeperInOrder P wt b dp → (R : State → Result → Type 0) (st : State) (at : Place) (f : Frame) →
       FrameFits P b.path st g L f → (c r n : ℕ) (args owned regions : List Rpl) (m : PlainMember) →
       row_at P c r ≡ Some n → member_at P n ≡ Some m → Above P c args m.class owned →
       GoodArgs P L 0 m.params m.given owned regions → All (λ a. IsTrue (fully_specified a)) regions → All (Known (owned ++ regions)) m.formals → Readable (owned ++ regions) m.result →
@@ -241,7 +241,7 @@ module _ (P : PlainProgram) (wt : WellTyped P) (b : Bounds) (L : Scope) (g : Gro
       (order_new P wt b L g st f ff R c k args false (λ a. gives (name_made a) f) e ga fu (λ n h s i shape. order_ret P b R h (Goes_on (Object n) f) (next (Object n) h s i))))
 
   -- and of one that does: its body is entered, and gives nothing
-  constructor_order : (deeper : Deeper) → DeeperInOrder P b (Some deeper) →
+  constructor_order : (deeper : Deeper) → DeeperInOrder P wt b (Some deeper) →
       (R : State → Result → Type 0) (st : State) (f : Frame) (ff : FrameFits P b.path st g L f) (c n : ℕ) (k : PlainClass) (m : PlainMember) (args : List Rpl) (vs : List Value) →
       class_at P c ≡ Some k → GoodArgs P L 0 k.params k.given [] args → All (λ a. IsTrue (fully_specified a)) args → k.constructor ≡ Some n → (there : member_at P n ≡ Some m) →
       (h : State) → Since st h → (o : ObjectName) → Instance P h.shapes (env_of g) c args o →
@@ -315,7 +315,7 @@ module _ (P : PlainProgram) (wt : WellTyped P) (b : Bounds) (L : Scope) (g : Gro
       behind u (Goes_on v z) y = order_ret P b R u (Goes_on (Object o) f) (next u y.1)
       behind u (Returns v) y = order_ret P b R u (Goes_on (Object o) f) (next u y.0)
 
-  pub construct_order : (dp : Option Deeper) → DeeperInOrder P b dp →
+  pub construct_order : (dp : Option Deeper) → DeeperInOrder P wt b dp →
       (R : State → Result → Type 0) (st : State) (at : Place) (f : Frame) (ff : FrameFits P b.path st g L f) (c n : ℕ) (k : PlainClass) (m : PlainMember) (args : List Rpl) (vs : List Value) →
       class_at P c ≡ Some k → GoodArgs P L 0 k.params k.given [] args → All (λ a. IsTrue (fully_specified a)) args → k.constructor ≡ Some n → member_at P n ≡ Some m →
       AllZip (λ t v. FitsIn P st.shapes (env_of g) t v) (map (type_with args) m.formals) vs → Within b st.entries g (summary_with args m.summary) →
@@ -325,7 +325,7 @@ module _ (P : PlainProgram) (wt : WellTyped P) (b : Bounds) (L : Scope) (g : Gro
       order_cond P b R st (some_long (map (put P wt b L g st f ff) args)) (Traps trap.Stack at) (created_by dp at c (map (put P wt b L g st f ff) args) vs f (constructor_of P c)) (order_trap P b R st trap.Stack at)
       (subst (λ z. InOrder P b R st (created_by dp at c (map (put P wt b L g st f ff) args) vs f z)) (sym (ap (λ z. option_and_then (λ (class : PlainClass). class.constructor) z) e ∙ kn)) (go dp dd))
     where
-      go : (dp : Option Deeper) → DeeperInOrder P b dp → InOrder P b R st (created_by dp at c (map (put P wt b L g st f ff) args) vs f (Some n))
+      go : (dp : Option Deeper) → DeeperInOrder P wt b dp → InOrder P b R st (created_by dp at c (map (put P wt b L g st f ff) args) vs f (Some n))
       go None dd = order_trap P b R st trap.Stack at
       go (Some deeper) dd =
           order_new P wt b L g st f ff R c k args true (λ a. constructed at c (map (put P wt b L g st f ff) args) vs f deeper (member_at P n) a) e ga fu

@@ -1,5 +1,5 @@
 -- Statements of a well-typed program are in order: by recursion on their typing.
-use Rattle.std.proofs.Common.{arith, ◌≡◌, inl, ℕ, ℤ, ◌+◌, pos, Bool, true, false, cond, ◌&&◌, ◌||◌, List, [], ◌∷◌, length, refl, sym, ap, ◌∙◌, subst, Option, Some, None, IsTrue, ◌≤◌, map}
+use Rattle.std.proofs.Common.{arith, ◌≡◌, inl, ℕ, ℤ, ◌+◌, pos, Bool, true, false, cond, ◌&&◌, ◌||◌, List, [], ◌∷◌, length, refl, sym, ap, ◌∙◌, subst, Option, Some, None, IsTrue, ◌≤◌, map, zero, suc}
 use Rattle.std.specs.Prelude.{All, int_lt}
 use Rattle.std.specs.Int.{w32, int_wrapping_add}
 use Rattle.std.proofs.lemmas.Bool.{and_from, false≢true, or_left, or_right}
@@ -13,8 +13,8 @@ use Rattle.dpj_base.specs.declared.elems.Index.TheVariants.{Literal}
 use Rattle.dpj_base.specs.Regions.{is_any, substituted}
 use Rattle.dpj_base.specs.Types.{PlainType, class, array, type_with, path_at, type_at, mentions_index}
 use Rattle.dpj_typed.specs.Effects.{Own as EffectOwn, does, uses, writes}
-use Rattle.dpj_typed.specs.Plain.{PlainProgram, PlainField, TypedExpr, type_of, TypedStmt, TypedStmts, no_stmts, more_stmts}
-use Rattle.dpj_typed.specs.Scope.{Scope, part, field_at, with_local}
+use Rattle.dpj_typed.specs.Plain.{PlainProgram, PlainField, TypedExpr, type_of, TypedStmt, TypedStmts, no_stmts, more_stmts, PlainMember}
+use Rattle.dpj_typed.specs.Scope.{Scope, part, field_at, with_local, member_at}
 use Rattle.dpj_typed.specs.Scope.{Local as ScopeLocal}
 use Rattle.dpj_typed.specs.Statements.{completes, all_complete, declared_as, Passes, AllPass, store, store_field, store_element, store_part, perform, nested, choice, choice_else, while_loop, return_nothing, return_value, print_int, print_boolean, print_text, atomic, cobegin, foreach, foreach_parts, no_more, then', declare, declare_regions}
 use Rattle.dpj_typed.specs.Table.{class_scope}
@@ -29,6 +29,8 @@ use Rattle.dpj_regions.proofs.Putting.{specified_matches_one}
 use Rattle.dpj_runs.specs.Actions.{Write, Print, Rest, Exit}
 use Rattle.dpj_runs.specs.Objects.{Name, Value, Null, Object, Int, Boolean}
 use Rattle.dpj_steps.specs.Steps.{named_by}
+use Rattle.dpj_meaning.specs.Asking.{meaning}
+use Rattle.dpj_sound.proofs.Entering.{body_good}
 use Rattle.dpj_sound.specs.Grounds.{with_number, Ground, env_of, class_env, under}
 use Rattle.dpj_sound.specs.Shapes.{object, elements, Shapes, Instance, ArrayInstance, FitsIn, of_object, of_array, Grows}
 use Rattle.dpj_sound.specs.Accesses.{Access, Speaks, Bounds, Within}
@@ -36,7 +38,7 @@ use Rattle.dpj_sound.specs.Frames.{Frame, State, Since, PartFits, FrameFits}
 use Rattle.dpj_sound.specs.Scopes.{PathInScope, TypeInScope, GoodScope}
 use Rattle.dpj_sound.specs.Sequential.{IsSequential, AreSequential}
 use Rattle.dpj_sound.specs.Work.{Result, Prog, Touches, Reaches, access_of, ReturnFits, Rounds, InOrder, without_latest}
-use Rattle.dpj_sound.specs.Laws.{Deeper, Yields, Leaves, DeeperInOrder, SequentialInOrder}
+use Rattle.dpj_sound.specs.Laws.{Deeper, Yields, Leaves, DeeperInOrder, SequentialInOrder, scope_of, SequentialTasks}
 use Rattle.dpj_sound.proofs.Closed.{closed_path, closed_type}
 use Rattle.dpj_sound.proofs.Types.{fits_grows, fits_same, same_sym, fits_with_down, path_up}
 use Rattle.dpj_sound.proofs.Indices.{IsIndexElem, fits_at_down, region_at_up, same_inside, region_alone}
@@ -172,7 +174,7 @@ module _ (P : PlainProgram) (b : Bounds) where
             (fits_same P st.shapes (under k (env_of g)) t (under k (env_of i.ground)) i.element (i.same k) u (fits_at_down P st.shapes g x ix k fx t kn u fu))
             next
 
-module _ (P : PlainProgram) (wt : WellTyped P) (b : Bounds) (dp : Option Deeper) (dd : DeeperInOrder P b dp) where
+module _ (P : PlainProgram) (wt : WellTyped P) (b : Bounds) (dp : Option Deeper) (dd : DeeperInOrder P wt b dp) where
   -- behind an expression, which is in order
   behind : (L : Scope) → GoodScope L → (g : Ground) {e : TypedExpr} {E : List EffectOwn} → Has P L e E →
       (R : State → Result → Type 0) (j : Value → Frame → Prog) (st : State) (f : Frame) → FrameFits P b.path st g L f → Within b st.entries g E →
@@ -376,3 +378,20 @@ left_leaves P b L g ss st h (Returns v) y = y
 
 pub sequential_in_order : SequentialInOrder
 sequential_in_order P wt b dp dd L ss E p q good g st f ff w = order_post P b (Left P b L g (all_complete ss) st) (Leaves P b L g ss st) (left_leaves P b L g ss st) _ st (stmts_order P wt b dp dd p q good g st f ff w)
+
+-- at each depth of calls, by recursion on it
+module _ (P : PlainProgram) (wt : WellTyped P) (plain : (n : ℕ) (m : PlainMember) → member_at P n ≡ Some m → AreSequential m.body) (b : Bounds) where
+  bodies_in_order : (left : ℕ) → DeeperInOrder P wt b (Some (meaning (named_by b.path) P left))
+  unfolding meaning
+  bodies_in_order zero n m there g st f ff w =
+      sequential_in_order P wt b None tt (scope_of P wt n m there) m.body (wt.members n m there).effects (wt.members n m there).passes (plain n m there)
+      (body_good P wt n m there) g st f ff w
+  bodies_in_order (suc left) n m there g st f ff w =
+      sequential_in_order P wt b (Some (meaning (named_by b.path) P left)) (bodies_in_order left) (scope_of P wt n m there) m.body (wt.members n m there).effects
+      (wt.members n m there).passes (plain n m there) (body_good P wt n m there) g st f ff w
+
+pub sequential_tasks : SequentialTasks
+unfolding meaning
+sequential_tasks P wt plain b L ss E p q good zero g st f ff w = sequential_in_order P wt b None tt L ss E p q good g st f ff w
+sequential_tasks P wt plain b L ss E p q good (suc left) g st f ff w =
+    sequential_in_order P wt b (Some (meaning (named_by b.path) P left)) (bodies_in_order P wt plain b left) L ss E p q good g st f ff w

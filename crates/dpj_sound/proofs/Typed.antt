@@ -139,7 +139,7 @@ Next P L g R e st f = (h : State) (v : Value) → Since st h → FitsIn P h.shap
 pub yields : (P : PlainProgram) (L : Scope) (g : Ground) (e : TypedExpr) (st : State) (f : Frame) → Next P L g (Yields P L g e st f) e st f
 yields P L g e st f h v s fv ix = (s, refl, fv, ix)
 
-module _ (P : PlainProgram) (wt : WellTyped P) (b : Bounds) (dp : Option Deeper) (dd : DeeperInOrder P b dp) (L : Scope) (good : GoodScope L) (g : Ground) where
+module _ (P : PlainProgram) (wt : WellTyped P) (b : Bounds) (dp : Option Deeper) (dd : DeeperInOrder P wt b dp) (L : Scope) (good : GoodScope L) (g : Ground) where
   mutual
     pub expr_order : {e : TypedExpr} {E : List EffectOwn} → Has P L e E → (R : State → Result → Type 0) (st : State) (f : Frame) →
         FrameFits P b.path st g L f → Within b st.entries g E →

@@ -7,9 +7,9 @@ use Rattle.dpj_base.specs.Branches.{lists_clash, iterations_clash}
 use Rattle.dpj_base.specs.Matching.{Fits, IsEnv}
 use Rattle.dpj_regions.specs.Laws.{HasNoCopies}
 use Rattle.dpj_typed.specs.declared.stmt.Forking.TheVariants.{Deterministic}
-use Rattle.dpj_typed.specs.Plain.{PlainProgram, TypedExpr, type_of, TypedStmts}
+use Rattle.dpj_typed.specs.Plain.{PlainProgram, TypedExpr, type_of, TypedStmts, PlainMember}
 use Rattle.dpj_typed.specs.Effects.{Own, effect_of, as_effects}
-use Rattle.dpj_typed.specs.Scope.{Scope}
+use Rattle.dpj_typed.specs.Scope.{Scope, member_at}
 use Rattle.dpj_typed.specs.Statements.{AllPass, all_complete}
 use Rattle.dpj_typed.specs.Typing.{Has, index_elem}
 use Rattle.dpj_typed.specs.WellTyped.{WellTyped}
@@ -19,6 +19,8 @@ use Rattle.dpj_meaning.specs.Expressions.{Deeper as DeeperOf, of_expr}
 use Rattle.dpj_meaning.specs.Statements.{of_stmts}
 use Rattle.dpj_runs.specs.Objects.{Name, LocalRegion}
 use Rattle.dpj_steps.specs.Steps.{named_by}
+use Rattle.dpj_typed.specs.Table.{body_scope}
+use Rattle.dpj_meaning.specs.Asking.{meaning}
 use Rattle.dpj_sound.specs.Grounds.{Ground, env_of, with_number}
 use Rattle.dpj_sound.specs.Shapes.{FitsIn}
 use Rattle.dpj_sound.specs.Accesses.{Bounds, Within}
@@ -42,16 +44,21 @@ abbrev pub Leaves : PlainProgram → Bounds → Scope → Ground → TypedStmts 
 Leaves P b L g ss st h (Goes_on v f) = IsTrue (all_complete ss) × Since st h × GoesFitting P b.path g L h (Goes_on v f)
 Leaves P b L g ss st h (Returns v) = Since st h × GoesFitting P b.path g L h (Returns v)
 
--- statements that pass are in order one call deeper, from each state in which their locals fit and their effects are allowed
-abbrev pub DeeperInOrder : PlainProgram → Bounds → Option Deeper → Type 0
-DeeperInOrder P b None = Unit {0}
-DeeperInOrder P b (Some deeper) = (L : Scope) (ss : TypedStmts) (E : List Own) → AllPass P L ss E → GoodScope L → (g : Ground) (st : State) (f : Frame) →
-    FrameFits P b.path st g L f → Within b st.entries g E → InOrder P b (Leaves P b L g ss st) st (deeper ss f)
+-- the scope in which the body of a member begins
+abbrev pub scope_of : (P : PlainProgram) (wt : WellTyped P) (n : ℕ) (m : PlainMember) → member_at P n ≡ Some m → Scope
+scope_of P wt n m there = body_scope (wt.members n m there).class wt.never_nd n m
+
+-- bodies are in order one call deeper, from each state in which their locals fit and their effects are allowed
+abbrev pub DeeperInOrder : (P : PlainProgram) → WellTyped P → Bounds → Option Deeper → Type 0
+DeeperInOrder P wt b None = Unit {0}
+DeeperInOrder P wt b (Some deeper) = (n : ℕ) (m : PlainMember) (there : member_at P n ≡ Some m) (g : Ground) (st : State) (f : Frame) →
+    FrameFits P b.path st g (scope_of P wt n m there) f → Within b st.entries g (wt.members n m there).effects →
+    InOrder P b (Leaves P b (scope_of P wt n m there) g m.body st) st (deeper m.body f)
 
 -- an expression of a well-typed program is in order: from locals that fit it makes only accesses that its effects speak of, and
 -- gives a value of its type; where the bodies that it enters are in order
 abbrev pub ExpressionsInOrder : Type 0
-ExpressionsInOrder = (P : PlainProgram) → WellTyped P → (b : Bounds) (dp : Option Deeper) → DeeperInOrder P b dp →
+ExpressionsInOrder = (P : PlainProgram) (wt : WellTyped P) (b : Bounds) (dp : Option Deeper) → DeeperInOrder P wt b dp →
     (L : Scope) (e : TypedExpr) (E : List Own) → Has P L e E → GoodScope L → (g : Ground) (st : State) (f : Frame) → FrameFits P b.path st g L f →
     Within b st.entries g E →
     InOrder P b (Yields P L g e st f) st (of_expr (named_by b.path) P dp e f)
@@ -59,9 +66,15 @@ ExpressionsInOrder = (P : PlainProgram) → WellTyped P → (b : Bounds) (dp : O
 -- statements without parallel constructs and local regions are in order: from locals that fit they make only
 -- accesses that their effects speak of, and leave locals that fit, or give a value of the type that a `return` gives
 abbrev pub SequentialInOrder : Type 0
-SequentialInOrder = (P : PlainProgram) → WellTyped P → (b : Bounds) (dp : Option Deeper) → DeeperInOrder P b dp →
+SequentialInOrder = (P : PlainProgram) (wt : WellTyped P) (b : Bounds) (dp : Option Deeper) → DeeperInOrder P wt b dp →
     (L : Scope) (ss : TypedStmts) (E : List Own) → AllPass P L ss E → AreSequential ss → GoodScope L → (g : Ground) (st : State) (f : Frame) →
     FrameFits P b.path st g L f → Within b st.entries g E → InOrder P b (Leaves P b L g ss st) st (of_stmts (named_by b.path) P dp ss f)
+
+-- where no body has a parallel construct or a local region, a task is in order to its end, with all calls that it makes
+abbrev pub SequentialTasks : Type 0
+SequentialTasks = (P : PlainProgram) (wt : WellTyped P) → ((n : ℕ) (m : PlainMember) → member_at P n ≡ Some m → AreSequential m.body) → (b : Bounds) →
+    (L : Scope) (ss : TypedStmts) (E : List Own) → AllPass P L ss E → AreSequential ss → GoodScope L → (left : ℕ) (g : Ground) (st : State) (f : Frame) →
+    FrameFits P b.path st g L f → Within b st.entries g E → InOrder P b (Leaves P b L g ss st) st (meaning (named_by b.path) P left ss f)
 
 -- effects that don't clash speak of no two accesses that meet
 abbrev pub BranchesQuiet : Type 0

@@ -1,6 +1,6 @@
 //! The laws of well-typed programs, each the clause of a function that does nothing.
 
-ghost use Rattle.dpj_sound.specs.Laws.{BranchesQuiet, ExpressionsInOrder, IterationsQuiet, SequentialInOrder};
+ghost use Rattle.dpj_sound.specs.Laws.{BranchesQuiet, ExpressionsInOrder, IterationsQuiet, SequentialInOrder, SequentialTasks};
 
 /// Each expression of a well-typed program is in order.
 pub fn law_expressions()
@@ -8,8 +8,10 @@ pub fn law_expressions()
 {}
 
 /// So are its statements, those with parallel constructs and local regions left aside.
+/// And so is a task of a program that has none of these, with all calls that it makes.
 pub fn law_statements()
-    ensures { SequentialInOrder }
+    ensures statements { SequentialInOrder }
+    ensures tasks { SequentialTasks }
 {}
 
 /// Branches and iterations of deterministic constructs whose effects don't clash touch no cell in a way that shows.
