@@ -16,6 +16,7 @@ pub mod Locals
 pub mod Making
 pub mod Members
 pub mod Quiet
+pub mod Root
 pub mod Statements
 pub mod Typed
 pub mod Types

@@ -1,5 +1,5 @@
 -- What a well-typed program keeps to, as statements.
-use Rattle.std.specs.Prelude.{◌≡◌, IsTrue, List, [], ◌∷◌, Option, Some, None, All, false, ℤ, ◌≢◌, ℕ}
+use Rattle.std.specs.Prelude.{◌≡◌, IsTrue, List, [], ◌∷◌, Option, Some, None, All, false, ℤ, ◌≢◌, ℕ, cond, true}
 use Rattle.dpj_base.specs.declared.elems.Elem.TheVariants.{At}
 use Rattle.dpj_base.specs.declared.elems.Index.TheVariants.{Literal}
 use Rattle.dpj_base.specs.declared.effect.Constraint.{Constraint}
@@ -17,12 +17,13 @@ use Rattle.dpj_meaning.specs.Core.{Goes_on, Returns}
 use Rattle.dpj_meaning.specs.Counts.{number}
 use Rattle.dpj_meaning.specs.Expressions.{Deeper as DeeperOf, of_expr}
 use Rattle.dpj_meaning.specs.Statements.{of_stmts}
-use Rattle.dpj_runs.specs.Objects.{Name, LocalRegion}
-use Rattle.dpj_steps.specs.Steps.{named_by}
+use Rattle.dpj_runs.specs.Objects.{Name, LocalRegion, same_name}
+use Rattle.dpj_steps.specs.Steps.{named_by, first_name}
 use Rattle.dpj_typed.specs.Table.{body_scope}
-use Rattle.dpj_meaning.specs.Asking.{meaning}
-use Rattle.dpj_sound.specs.Grounds.{Ground, env_of, with_number}
-use Rattle.dpj_sound.specs.Shapes.{FitsIn}
+use Rattle.dpj_meaning.specs.Asking.{meaning, does}
+use Rattle.dpj_meaning.specs.Elision.{root_task}
+use Rattle.dpj_sound.specs.Grounds.{Ground, env_of, with_number, class_ground}
+use Rattle.dpj_sound.specs.Shapes.{FitsIn, object}
 use Rattle.dpj_sound.specs.Accesses.{Bounds, Within}
 use Rattle.dpj_sound.specs.Frames.{Frame, State, Since, FrameFits}
 use Rattle.dpj_sound.specs.Scopes.{PathInScope, GoodScope}
@@ -75,6 +76,24 @@ abbrev pub SequentialTasks : Type 0
 SequentialTasks = (P : PlainProgram) (wt : WellTyped P) → ((n : ℕ) (m : PlainMember) → member_at P n ≡ Some m → AreSequential m.body) → (b : Bounds) →
     (L : Scope) (ss : TypedStmts) (E : List Own) → AllPass P L ss E → AreSequential ss → GoodScope L → (left : ℕ) (g : Ground) (st : State) (f : Frame) →
     FrameFits P b.path st g L f → Within b st.entries g E → InOrder P b (Leaves P b L g ss st) st (meaning (named_by b.path) P left ss f)
+
+-- at the start the first object stands alone
+abbrev pub start : PlainProgram → State
+start P = record { shapes = λ n. cond (same_name n first_name) (Some (object P.main_class [])) None; made = 0; entries = [] }
+
+-- and `main` may do what its body does
+abbrev pub main_scope : (P : PlainProgram) → WellTyped P → Scope
+main_scope P wt = scope_of P wt P.main_member wt.main.member wt.main.member_is
+
+abbrev pub main_bounds : (P : PlainProgram) → WellTyped P → Bounds
+main_bounds P wt = record { path = []; ground = class_ground []; effects = (wt.members P.main_member wt.main.member wt.main.member_is).effects; inside = false }
+
+-- the root of such a program is in order from the start, on each argument, where its class and `main` have no constraints
+abbrev pub RootInOrder : Type 0
+RootInOrder = (P : PlainProgram) (wt : WellTyped P) → ((n : ℕ) (m : PlainMember) → member_at P n ≡ Some m → AreSequential m.body) →
+    wt.main.class.given ≡ [] → wt.main.member.given ≡ [] → (arg : ℤ) →
+    InOrder P (main_bounds P wt) (Leaves P (main_bounds P wt) (main_scope P wt) (class_ground []) wt.main.member.body (start P)) (start P)
+    (does (named_by []) P (root_task (named_by []) P first_name arg))
 
 -- effects that don't clash speak of no two accesses that meet
 abbrev pub BranchesQuiet : Type 0

@@ -1,6 +1,6 @@
 //! The laws of well-typed programs, each the clause of a function that does nothing.
 
-ghost use Rattle.dpj_sound.specs.Laws.{BranchesQuiet, ExpressionsInOrder, IterationsQuiet, SequentialInOrder, SequentialTasks};
+ghost use Rattle.dpj_sound.specs.Laws.{BranchesQuiet, ExpressionsInOrder, IterationsQuiet, RootInOrder, SequentialInOrder, SequentialTasks};
 
 /// Each expression of a well-typed program is in order.
 pub fn law_expressions()
@@ -12,6 +12,7 @@ pub fn law_expressions()
 pub fn law_statements()
     ensures statements { SequentialInOrder }
     ensures tasks { SequentialTasks }
+    ensures root { RootInOrder }
 {}
 
 /// Branches and iterations of deterministic constructs whose effects don't clash touch no cell in a way that shows.
