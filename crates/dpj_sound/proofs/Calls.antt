@@ -36,7 +36,7 @@ use Rattle.dpj_sound.proofs.Types.{NoOwn, Stands, fits_same, fits_grows, fits_wi
 use Rattle.dpj_sound.proofs.Classes.{all_get, stands_args, good_is, env_alone}
 use Rattle.dpj_sound.proofs.Chains.{is_below_it, regions_are, above_match}
 use Rattle.dpj_sound.proofs.Effects.{body_lies, lies_up}
-use Rattle.dpj_sound.proofs.Entering.{given_holds, scope, body_good, entered_fits}
+use Rattle.dpj_sound.proofs.Entering.{given_holds, scope, entered_fits}
 use Rattle.dpj_sound.proofs.Expressions.{order_cond, order_trap}
 use Rattle.dpj_sound.proofs.Frames.{frame_since, frame_env}
 use Rattle.dpj_sound.proofs.InScope.{paths_alone, good_path}

@@ -1,15 +1,15 @@
 -- The root is in order from the start.
-use Rattle.std.proofs.Common.{◌≡◌, ◌<◌, ℕ, zero, suc, ℤ, true, false, cond, List, [], ◌∷◌, length, refl, sym, ap, ◌∙◌, subst, arith, Option, Some, None, slice_get, slice_index_or, inl}
+use Rattle.std.proofs.Common.{◌≡◌, ℕ, zero, suc, ℤ, List, [], ◌∷◌, length, refl, sym, ap, subst, arith, Some, None, slice_get, slice_index_or, inl}
 use Rattle.std.specs.Prelude.{All}
 use Rattle.dpj_base.specs.Matching.{Holds}
 use Rattle.dpj_base.specs.Types.{PlainType, int}
-use Rattle.dpj_typed.specs.Plain.{PlainProgram, PlainClass, PlainMember}
-use Rattle.dpj_typed.specs.Scope.{class_at, member_at}
+use Rattle.dpj_typed.specs.Plain.{PlainProgram, PlainMember}
+use Rattle.dpj_typed.specs.Scope.{member_at}
 use Rattle.dpj_typed.specs.WellTyped.{WellTyped}
 use Rattle.dpj_meaning.specs.Asking.{does}
 use Rattle.dpj_meaning.specs.Elision.{enters_main}
 use Rattle.dpj_meaning.specs.Expressions.{entered}
-use Rattle.dpj_runs.specs.Objects.{Value, Int, Null, Object}
+use Rattle.dpj_runs.specs.Objects.{Int, Null, Object}
 use Rattle.dpj_steps.specs.Steps.{named_by, first_name}
 use Rattle.dpj_sound.specs.Grounds.{class_ground, class_env}
 use Rattle.dpj_sound.specs.Shapes.{same, Is, GoodObject, FitsIn}
