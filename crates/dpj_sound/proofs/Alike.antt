@@ -77,10 +77,20 @@ alike_same L depth env other g int s = tt
 alike_same L depth env other g boolean s = tt
 alike_same L depth env other g void s = tt
 alike_same L depth env other g null s = tt
-alike_same L depth env other g (class c args) s =
-    (refl, λ rs. (match_same env other args (λ k x l. alike_matches L depth env other g _ (s k x l)) rs, match_same other env args (λ k x l. alike_matches L depth other env (alike_back g) _ (s k x l)) rs))
+alike_same L depth env other g (class c args) s = (
+  refl,
+  λ rs. (
+    match_same env other args (λ k x l. alike_matches L depth env other g _ (s k x l)) rs,
+    match_same other env args
+        (λ k x l. alike_matches L depth other env (alike_back g) _ (s k x l)) rs,
+  ),
+)
 alike_same L depth env other g (array t a named) s = (
-  λ k r. (alike_matches L (suc depth) (under k env) (under k other) (alike_under k g) a s.0 r, alike_matches L (suc depth) (under k other) (under k env) (alike_back (alike_under k g)) a s.0 r),
+  λ k r. (
+    alike_matches L (suc depth) (under k env) (under k other) (alike_under k g) a s.0 r,
+    alike_matches L (suc depth) (under k other)
+        (under k env) (alike_back (alike_under k g)) a s.0 r,
+  ),
   λ k. alike_same L (suc depth) (under k env) (under k other) (alike_under k g) t s.1,
 )
 

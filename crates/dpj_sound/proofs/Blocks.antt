@@ -114,22 +114,27 @@ put_matches env plain a r m = (
   r,
   refl,
   subst (FitsAll run_env (head_region env a.head ++ map (put_elem env) a.elems)) (sym m.1)
-      (fits_append run_env (head_region env a.head) (map (put_elem env) a.elems) (head_region env a.head) m.0 (plain_selves (head_region env a.head) (head_plain env plain a.head)) (all_put env a.elems m.0 m.2)),
+      (fits_append run_env (head_region env a.head) (map (put_elem env) a.elems) (head_region env a.head) m.0
+      (plain_selves (head_region env a.head) (head_plain env plain a.head)) (all_put env a.elems m.0 m.2)),
 )
 
 module _ (P : PlainProgram) (b : Bounds) (L : Scope) (g : Ground) (st : State) (f : Frame) (ff : FrameFits P b.path st g L f) where
   -- an effect of the entry speaks of what the effect speaks of
   entry_speaks : (e : Effect) (a : Access) → PathInScope L 0 e.rpl → Speaks g e a →
       Matches run_env (as_path (concrete (named_by b.path) (around f) e.rpl)) a.region × (a.write ≡ true → is_write e.access ≡ true)
-  entry_speaks e a s h =
-      (subst (λ z. Matches run_env (record { head = Root; elems = z }) a.region) (sym (concrete_put P b.path st g L f ff b.path e.rpl s)) (put_matches (env_of g) ff.plain e.rpl a.region h.matches), h.writes)
+  entry_speaks e a s h = (
+    subst (λ z. Matches run_env (record { head = Root; elems = z }) a.region) (sym (concrete_put P b.path st g L f ff b.path e.rpl s))
+        (put_matches (env_of g) ff.plain e.rpl a.region h.matches),
+    h.writes,
+  )
 
   entry_at : (entry : List Effect) (e : Effect) (a : Access) → PathInScope L 0 e.rpl → Speaks g e a → (k : ℕ) → k < length entry →
       slice_index_or entry k e ≡ e →
       LiesInEntry (map (concrete_effect (named_by b.path) (around f)) entry) a
   entry_at [] e a s h k l q = absurd (omega (arith, l))
   entry_at (x ∷ entry) e a s h zero l q =
-      inl (subst (λ (z : Effect). Matches run_env (as_path (concrete (named_by b.path) (around f) z.rpl)) a.region × (a.write ≡ true → is_write z.access ≡ true)) (sym q) (entry_speaks e a s h))
+      inl (subst (λ (z : Effect). Matches run_env (as_path (concrete (named_by b.path) (around f) z.rpl)) a.region ×
+      (a.write ≡ true → is_write z.access ≡ true)) (sym q) (entry_speaks e a s h))
   entry_at (x ∷ entry) e a s h (suc k) l q = inr (entry_at entry e a s h k (omega (arith, l)) q)
 
   own_speaks : (o : EffectOwn) (a : Access) → Covers g o a → Speaks g (effect_of o) a
@@ -141,7 +146,8 @@ module _ (P : PlainProgram) (b : Bounds) (L : Scope) (g : Ground) (st : State) (
       LiesInEntry (map (concrete_effect (named_by b.path) (around f)) entry) a
   lies_entry entry a [] i s h = absurd h
   lies_entry entry a (o ∷ F) i s h = elim h [
-    | inl c ↦ (let z = i (effect_of o) (0, omega arith, refl) in entry_at entry (effect_of o) a (All-head (λ o. PathInScope L 0 (effect_of o).rpl) o F s) (own_speaks o a c) z.0 z.1 z.2)
+    | inl c ↦ (let z = i (effect_of o) (0, omega arith, refl) in entry_at entry (effect_of o) a
+        (All-head (λ o. PathInScope L 0 (effect_of o).rpl) o F s) (own_speaks o a c) z.0 z.1 z.2)
     | inr r ↦ lies_entry entry a F (λ e z. i e (suc z.0, (let l = z.1 in omega (arith, l)), z.2)) (All-tail (λ o. PathInScope L 0 (effect_of o).rpl) o F s) r
   ]
 

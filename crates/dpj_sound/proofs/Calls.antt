@@ -77,7 +77,8 @@ module _ (P : PlainProgram) (wt : WellTyped P) (b : Bounds) (L : Scope) (g : Gro
   -- a body is in order in a frame that fits
   body_order : (deeper : Deeper) → DeeperInOrder P wt b (Some deeper) →
       (n : ℕ) (m : PlainMember) (there : member_at P n ≡ Some m) (k : Ground) (u : State) (f : Frame) →
-      FrameFits P b.path u k (scope P wt n m there) f → Within b u.entries k (wt.members n m there).effects → InOrder P b (Leaves P b (scope P wt n m there) k m.body u) u (deeper m.body f)
+      FrameFits P b.path u k (scope P wt n m there) f → Within b u.entries k (wt.members n m there).effects → InOrder P b
+      (Leaves P b (scope P wt n m there) k m.body u) u (deeper m.body f)
   body_order deeper dd n m there k u f ff w =
       dd n m there k u f ff w
 
@@ -94,9 +95,11 @@ module _ (P : PlainProgram) (wt : WellTyped P) (b : Bounds) (L : Scope) (g : Gro
 
     enter_order : (R : State → Result → Type 0) (c r n : ℕ) (args owned regions : List Rpl) (m : PlainMember) → row_at P c r ≡ Some n →
         member_at P n ≡ Some m → Above P c args m.class owned →
-        GoodArgs P L 0 m.params m.given owned regions → All (λ a. IsTrue (fully_specified a)) regions → All (Known (owned ++ regions)) m.formals → Readable (owned ++ regions) m.result →
+        GoodArgs P L 0 m.params m.given owned regions → All (λ a. IsTrue (fully_specified a)) regions → All
+        (Known (owned ++ regions)) m.formals → Readable (owned ++ regions) m.result →
         All (λ a. All NoOwn a.elems) args → Within b u.entries g (summary_with (owned ++ regions) m.summary) → (vs : List Value) →
-        AllZip (λ t v. FitsIn P u.shapes (env_of g) t v) (map (type_with (owned ++ regions)) m.formals) vs → (o : ObjectName) (i : Instance P u.shapes (env_of g) c args o) →
+        AllZip (λ t v. FitsIn P u.shapes (env_of g) t v) (map (type_with (owned ++ regions)) m.formals) vs → (o : ObjectName)
+        (i : Instance P u.shapes (env_of g) c args o) →
         ((v : Value) (h : State) → Since u h → FitsIn P h.shapes (env_of g) (type_with (owned ++ regions) m.result) v → R h (Goes_on v f)) →
         InOrder P b R u (enter (named_by b.path) P deeper (i.class, i.made_with) r (Object o ∷ vs) (map (put P wt b L g u f ff) regions) f)
     enter_order R c r n args owned regions m e mb ab ga fu kn rd al w vs fits o i next =
@@ -122,7 +125,13 @@ module _ (P : PlainProgram) (wt : WellTyped P) (b : Bounds) (L : Scope) (g : Gro
         zs = A0.regions
 
         A : MemberAt P wt c i.regions n
-        A = record { member = m; there = mb; regions = A0.regions; is_one = subst (λ (y : PlainMember). Is P c i.regions y.class A0.regions) (same_member P wt A0.member m n A0.there mb) A0.is_one }
+        A = record {
+          member = m;
+          there = mb;
+          regions = A0.regions;
+          is_one = subst (λ (y : PlainMember). Is P c i.regions y.class A0.regions)
+              (same_member P wt A0.member m n A0.there mb) A0.is_one;
+        }
 
         lo : length (map (put P wt b L g u f ff) regions) ≡ length m.params
         lo = length-map regions (put P wt b L g u f ff) ∙ ga.arity
@@ -151,32 +160,39 @@ module _ (P : PlainProgram) (wt : WellTyped P) (b : Bounds) (L : Scope) (g : Gro
         env = frame_env ff
 
         given' : All (Holds (class_env (row.at.regions ++ map (put P wt b L g u f ff) regions))) row.at.member.given
-        given' = row.stands.given (given_holds N L.given (env_of g) (class_env (A0.regions ++ map (put P wt b L g u f ff) regions)) (owned ++ regions) env (env_alone L.given (env_of g) env) st m.given sig.given ga.hold)
+        given' = row.stands.given (given_holds N L.given (env_of g) (class_env (A0.regions ++ map (put P wt b L g u f ff) regions))
+            (owned ++ regions) env (env_alone L.given (env_of g) env) st m.given sig.given ga.hold)
 
         actuals : (x : ℕ) (t : PlainType) → slice_get row.at.member.formals x ≡ Some t →
             FitsIn P u.shapes (class_env (row.at.regions ++ map (put P wt b L g u f ff) regions)) t (slice_index_or vs x Null)
         actuals x t h =
             let z = row.stands.formals x t h in
-            fits_same P u.shapes (class_env (A0.regions ++ map (put P wt b L g u f ff) regions)) z.0 (class_env (row.at.regions ++ map (put P wt b L g u f ff) regions)) t z.2 (slice_index_or vs x Null)
+            fits_same P u.shapes (class_env (A0.regions ++ map (put P wt b L g u f ff) regions)) z.0
+            (class_env (row.at.regions ++ map (put P wt b L g u f ff) regions)) t z.2 (slice_index_or vs x Null)
             (fits_with_down P u.shapes N (env_of g) (class_env (A0.regions ++ map (put P wt b L g u f ff) regions)) (owned ++ regions) st z.0 (sig.formals x z.0 z.1)
-            (all_get (Known (owned ++ regions)) m.formals x z.0 kn z.1) (slice_index_or vs x Null) (actual_at P u.shapes (env_of g) (type_with (owned ++ regions)) m.formals vs fits x z.0 z.1))
+            (all_get (Known (owned ++ regions)) m.formals x z.0 kn z.1) (slice_index_or vs x Null)
+            (actual_at P u.shapes (env_of g) (type_with (owned ++ regions)) m.formals vs fits x z.0 z.1))
 
         frame : FrameFits P b.path u (class_ground (row.at.regions ++ map (put P wt b L g u f ff) regions)) (scope P wt row.number row.at.member row.at.there)
             (entered (named_by b.path) row.at.member (Object o ∷ vs) (row.at.regions ++ map (put P wt b L g u f ff) regions) (f.left - 1))
-        frame = entered_fits P wt row.number row.at.member row.at.there b.path u row.at.regions (map (put P wt b L g u f ff) regions) (f.left - 1) (good_is P wt row.at.is_one i.good) plain given' o i.class i.made_with i.shape i.good
+        frame = entered_fits P wt row.number row.at.member row.at.there b.path u row.at.regions (map (put P wt b L g u f ff) regions) (f.left - 1)
+            (good_is P wt row.at.is_one i.good) plain given' o i.class i.made_with i.shape i.good
             row.at.is_one vs actuals
 
         inner_env : IsEnv [] (class_env (row.at.regions ++ map (put P wt b L g u f ff) regions))
-        inner_env = ground_env [] (class_ground (row.at.regions ++ map (put P wt b L g u f ff) regions)) (plain_both P wt row.at.regions (map (put P wt b L g u f ff) regions) (good_is P wt row.at.is_one i.good).plain plain) unmade_one (no_given _)
+        inner_env = ground_env [] (class_ground (row.at.regions ++ map (put P wt b L g u f ff) regions))
+            (plain_both P wt row.at.regions (map (put P wt b L g u f ff) regions) (good_is P wt row.at.is_one i.good).plain plain) unmade_one (no_given _)
 
         within' : Within b u.entries (class_ground (row.at.regions ++ map (put P wt b L g u f ff) regions)) (wt.members row.number row.at.member row.at.there).effects
         within' a gu l = w a gu (lies_up N g (class_ground (A0.regions ++ map (put P wt b L g u f ff) regions)) (owned ++ regions) st a m.summary sig.summary
-            (row.stands.effects a (body_lies (class_ground (row.at.regions ++ map (put P wt b L g u f ff) regions)) inner_env a row.at.member.summary (wt.members row.number row.at.member row.at.there).effects (wt.members row.number row.at.member row.at.there).covered l)))
+            (row.stands.effects a (body_lies (class_ground (row.at.regions ++ map (put P wt b L g u f ff) regions)) inner_env a row.at.member.summary
+            (wt.members row.number row.at.member row.at.there).effects (wt.members row.number row.at.member row.at.there).covered l)))
 
         result : (h : State) (v : Value) → FitsIn P h.shapes (class_env (row.at.regions ++ map (put P wt b L g u f ff) regions)) row.at.member.result v → FitsIn P h.shapes (env_of g) (type_with (owned ++ regions) m.result) v
         result h v fv =
             fits_with_up P h.shapes N (env_of g) (class_env (A0.regions ++ map (put P wt b L g u f ff) regions)) (owned ++ regions) st m.result sig.result rd v
-            (fits_same P h.shapes (class_env (row.at.regions ++ map (put P wt b L g u f ff) regions)) row.at.member.result (class_env (A0.regions ++ map (put P wt b L g u f ff) regions)) m.result row.stands.result v fv)
+            (fits_same P h.shapes (class_env (row.at.regions ++ map (put P wt b L g u f ff) regions)) row.at.member.result
+            (class_env (A0.regions ++ map (put P wt b L g u f ff) regions)) m.result row.stands.result v fv)
 
         behind : (h : State) (y : Result) → Leaves P b (scope P wt row.number row.at.member row.at.there) (class_ground (row.at.regions ++ map (put P wt b L g u f ff) regions)) row.at.member.body u h y → InOrder P b R h (back f y)
         behind h (Goes_on v c) y = order_ret P b R h (Goes_on none f) (next none h y.1 (result h none (elim (wt.members row.number row.at.member row.at.there).ends [
@@ -189,9 +205,11 @@ module _ (P : PlainProgram) (wt : WellTyped P) (b : Bounds) (L : Scope) (g : Gro
   pub call_order : (dp : Option Deeper) → DeeperInOrder P wt b dp → (R : State → Result → Type 0) (st : State) (at : Place) (f : Frame) →
       FrameFits P b.path st g L f → (c r n : ℕ) (args owned regions : List Rpl) (m : PlainMember) →
       row_at P c r ≡ Some n → member_at P n ≡ Some m → Above P c args m.class owned →
-      GoodArgs P L 0 m.params m.given owned regions → All (λ a. IsTrue (fully_specified a)) regions → All (Known (owned ++ regions)) m.formals → Readable (owned ++ regions) m.result →
+      GoodArgs P L 0 m.params m.given owned regions → All (λ a. IsTrue (fully_specified a)) regions → All
+      (Known (owned ++ regions)) m.formals → Readable (owned ++ regions) m.result →
       All (λ a. All NoOwn a.elems) args → Within b st.entries g (summary_with (owned ++ regions) m.summary) → (vs : List Value) →
-      AllZip (λ t v. FitsIn P st.shapes (env_of g) t v) (map (type_with (owned ++ regions)) m.formals) vs → (own : List Region) → ((q : FrameFits P b.path st g L f) → own ≡ map (put P wt b L g st f q) regions) →
+      AllZip (λ t v. FitsIn P st.shapes (env_of g) t v) (map (type_with (owned ++ regions)) m.formals) vs → (own : List Region) →
+      ((q : FrameFits P b.path st g L f) → own ≡ map (put P wt b L g st f q) regions) →
       (o : ObjectName) → Instance P st.shapes (env_of g) c args o →
       ((v : Value) (h : State) → Since st h → FitsIn P h.shapes (env_of g) (type_with (owned ++ regions) m.result) v → R h (Goes_on v f)) →
       InOrder P b R st (called (named_by b.path) P dp at c r own o vs f)
@@ -205,8 +223,10 @@ module _ (P : PlainProgram) (wt : WellTyped P) (b : Bounds) (L : Scope) (g : Gro
           InOrder P b R u (enter (named_by b.path) P deeper (class_entered (parent_of P) (length P.classes) c (class_seen x)) r (Object o ∷ vs) own f)
       looked x u s ans =
           let ff' = frame_since s ff in
-          subst (λ z. InOrder P b R u (enter (named_by b.path) P deeper (class_entered (parent_of P) (length P.classes) c (class_seen z)) r (Object o ∷ vs) own f)) (sym ans)
-          (subst (λ z. InOrder P b R u (enter (named_by b.path) P deeper z r (Object o ∷ vs) own f)) (sym (cond-true (is_below (parent_of P) (length P.classes) i.class c) (i.class, i.made_with) (c, i.made_with) (is_below_it P wt i.is_one)))
+          subst (λ z. InOrder P b R u (enter (named_by b.path) P deeper (class_entered (parent_of P) (length P.classes) c (class_seen z)) r
+          (Object o ∷ vs) own f)) (sym ans)
+          (subst (λ z. InOrder P b R u (enter (named_by b.path) P deeper z r (Object o ∷ vs) own f))
+          (sym (cond-true (is_below (parent_of P) (length P.classes) i.class c) (i.class, i.made_with) (c, i.made_with) (is_below_it P wt i.is_one)))
           (subst (λ z. InOrder P b R u (enter (named_by b.path) P deeper (i.class, i.made_with) r (Object o ∷ vs) z f)) (sym (own_is ff))
           (enter_order deeper dd u f ff' R c r n args owned regions m e mb ab ga fu kn rd al
           (subst (λ z. Within b z g (summary_with (owned ++ regions) m.summary)) (sym s.entries) w) vs
@@ -236,14 +256,18 @@ module _ (P : PlainProgram) (wt : WellTyped P) (b : Bounds) (L : Scope) (g : Gro
       ((v : Value) (h : State) → Since st h → FitsIn P h.shapes (env_of g) (class c args) v → R h (Goes_on v f)) →
       InOrder P b R st (created (named_by b.path) P dp at c (map (put P wt b L g st f ff) args) vs f)
   create_order dp R st at f ff c k args vs e ga fu kn next =
-      order_cond P b R st (some_long (map (put P wt b L g st f ff) args)) (Traps trap.Stack at) (created_by dp at c (map (put P wt b L g st f ff) args) vs f (constructor_of P c)) (order_trap P b R st trap.Stack at)
-      (subst (λ z. InOrder P b R st (created_by dp at c (map (put P wt b L g st f ff) args) vs f z)) (sym (ap (λ z. option_and_then (λ (class : PlainClass). class.constructor) z) e ∙ kn))
-      (order_new P wt b L g st f ff R c k args false (λ a. gives (name_made a) f) e ga fu (λ n h s i shape. order_ret P b R h (Goes_on (Object n) f) (next (Object n) h s i))))
+      order_cond P b R st (some_long (map (put P wt b L g st f ff) args)) (Traps trap.Stack at)
+      (created_by dp at c (map (put P wt b L g st f ff) args) vs f (constructor_of P c)) (order_trap P b R st trap.Stack at)
+      (subst (λ z. InOrder P b R st (created_by dp at c (map (put P wt b L g st f ff) args) vs f z))
+      (sym (ap (λ z. option_and_then (λ (class : PlainClass). class.constructor) z) e ∙ kn))
+      (order_new P wt b L g st f ff R c k args false (λ a. gives (name_made a) f) e ga fu
+      (λ n h s i shape. order_ret P b R h (Goes_on (Object n) f) (next (Object n) h s i))))
 
   -- and of one that does: its body is entered, and gives nothing
   constructor_order : (deeper : Deeper) → DeeperInOrder P wt b (Some deeper) →
       (R : State → Result → Type 0) (st : State) (f : Frame) (ff : FrameFits P b.path st g L f) (c n : ℕ) (k : PlainClass) (m : PlainMember) (args : List Rpl) (vs : List Value) →
-      class_at P c ≡ Some k → GoodArgs P L 0 k.params k.given [] args → All (λ a. IsTrue (fully_specified a)) args → k.constructor ≡ Some n → (there : member_at P n ≡ Some m) →
+      class_at P c ≡ Some k → GoodArgs P L 0 k.params k.given [] args → All (λ a. IsTrue (fully_specified a)) args → k.constructor ≡ Some n →
+      (there : member_at P n ≡ Some m) →
       (h : State) → Since st h → (o : ObjectName) → Instance P h.shapes (env_of g) c args o →
       h.shapes o ≡ Some (object c (map (put P wt b L g st f ff) args)) → GoodObject P c (map (put P wt b L g st f ff) args) →
       AllZip (λ t v. FitsIn P h.shapes (env_of g) t v) (map (type_with args) m.formals) vs → Within b h.entries g (summary_with args m.summary) →
@@ -251,7 +275,8 @@ module _ (P : PlainProgram) (wt : WellTyped P) (b : Bounds) (L : Scope) (g : Gro
       InOrder P b R h (on (deeper m.body (entered (named_by b.path) m (Object o ∷ vs) (map (put P wt b L g st f ff) args) (f.left - 1))) (λ r. gives (Object o) f))
   constructor_order deeper dd R st f ff c n k m args vs e ga fu kn there h s o i shape gd fits w next =
       order_on P b (Leaves P b (scope P wt n m there) inner m.body h) R (λ r. gives (Object o) f) behind _ h
-      (subst (λ z. InOrder P b (Leaves P b (scope P wt n m there) inner m.body h) h (deeper m.body (entered (named_by b.path) m (Object o ∷ vs) z (f.left - 1)))) (append-nil (map (put P wt b L g st f ff) args))
+      (subst (λ z. InOrder P b (Leaves P b (scope P wt n m there) inner m.body h) h
+      (deeper m.body (entered (named_by b.path) m (Object o ∷ vs) z (f.left - 1)))) (append-nil (map (put P wt b L g st f ff) args))
       (body_order deeper dd n m there inner h _ frame within'))
     where
       rs : List Region
@@ -283,7 +308,8 @@ module _ (P : PlainProgram) (wt : WellTyped P) (b : Bounds) (L : Scope) (g : Gro
 
       st' : Stands (length (map (put P wt b L g st f ff) args ++ [])) 0 (env_of g) (class_env (map (put P wt b L g st f ff) args ++ [])) args
       st' = subst (λ z. Stands (length z) 0 (env_of g) (class_env z) args) (sym (append-nil (map (put P wt b L g st f ff) args)))
-          (stands_args _ (env_of g) args (map (put P wt b L g st f ff) args) (args_match P wt b L g st f ff args ga.paths fu) refl (paths_alone L args (λ j d l. good_path P L 0 _ (ga.paths j d l))) refl)
+          (stands_args _ (env_of g) args (map (put P wt b L g st f ff) args) (args_match P wt b L g st f ff args ga.paths fu) refl
+          (paths_alone L args (λ j d l. good_path P L 0 _ (ga.paths j d l))) refl)
 
       nothing : ArePlain []
       nothing = λ p. refl
@@ -291,20 +317,24 @@ module _ (P : PlainProgram) (wt : WellTyped P) (b : Bounds) (L : Scope) (g : Gro
       actuals : (x : ℕ) (t : PlainType) → slice_get m.formals x ≡ Some t →
           FitsIn P h.shapes (class_env (map (put P wt b L g st f ff) args ++ [])) t (slice_index_or vs x Null)
       actuals x t z =
-          fits_with_down P h.shapes N (env_of g) (class_env (map (put P wt b L g st f ff) args ++ [])) args st' t (sig.formals x t z) (λ p _. full_arguments args fu p) (slice_index_or vs x Null)
+          fits_with_down P h.shapes N (env_of g) (class_env (map (put P wt b L g st f ff) args ++ [])) args st' t (sig.formals x t z)
+          (λ p _. full_arguments args fu p) (slice_index_or vs x Null)
           (actual_at P h.shapes (env_of g) (type_with args) m.formals vs fits x t z)
 
       none_given : All (Holds (class_env (map (put P wt b L g st f ff) args ++ []))) m.given
-      none_given = let z : m.given ≡ [] = ap (λ (y : PlainMember). y.given) (sym one) ∙ ic.given in subst (λ y. All (Holds (class_env (map (put P wt b L g st f ff) args ++ []))) y) (sym z) (no_given _)
+      none_given = let z : m.given ≡ [] = ap (λ (y : PlainMember). y.given) (sym one) ∙ ic.given in subst
+          (λ y. All (Holds (class_env (map (put P wt b L g st f ff) args ++ []))) y) (sym z) (no_given _)
 
       good_class : GoodObject P m.class (map (put P wt b L g st f ff) args)
       good_class = good_is P wt at_class gd
 
       frame : FrameFits P b.path h (class_ground (map (put P wt b L g st f ff) args ++ [])) (scope P wt n m there) (entered (named_by b.path) m (Object o ∷ vs) (map (put P wt b L g st f ff) args ++ []) (f.left - 1))
-      frame = entered_fits P wt n m there b.path h (map (put P wt b L g st f ff) args) [] (f.left - 1) good_class nothing none_given o c (map (put P wt b L g st f ff) args) shape gd at_class vs actuals
+      frame = entered_fits P wt n m there b.path h (map (put P wt b L g st f ff) args) [] (f.left - 1) good_class nothing none_given o c
+          (map (put P wt b L g st f ff) args) shape gd at_class vs actuals
 
       inner_env : IsEnv [] (class_env (map (put P wt b L g st f ff) args ++ []))
-      inner_env = ground_env [] (class_ground (map (put P wt b L g st f ff) args ++ [])) (plain_both P wt (map (put P wt b L g st f ff) args) [] gd.plain nothing) unmade_one (no_given _)
+      inner_env = ground_env [] (class_ground (map (put P wt b L g st f ff) args ++ []))
+          (plain_both P wt (map (put P wt b L g st f ff) args) [] gd.plain nothing) unmade_one (no_given _)
 
       within' : Within b h.entries (class_ground (map (put P wt b L g st f ff) args ++ [])) (wt.members n m there).effects
       within' a gu l = w a gu (lies_up N g (class_ground (map (put P wt b L g st f ff) args ++ [])) args st' a m.summary sig.summary
@@ -322,8 +352,10 @@ module _ (P : PlainProgram) (wt : WellTyped P) (b : Bounds) (L : Scope) (g : Gro
       ((v : Value) (h : State) → Since st h → FitsIn P h.shapes (env_of g) (class c args) v → R h (Goes_on v f)) →
       InOrder P b R st (created (named_by b.path) P dp at c (map (put P wt b L g st f ff) args) vs f)
   construct_order dp dd R st at f ff c n k m args vs e ga fu kn there fits w next =
-      order_cond P b R st (some_long (map (put P wt b L g st f ff) args)) (Traps trap.Stack at) (created_by dp at c (map (put P wt b L g st f ff) args) vs f (constructor_of P c)) (order_trap P b R st trap.Stack at)
-      (subst (λ z. InOrder P b R st (created_by dp at c (map (put P wt b L g st f ff) args) vs f z)) (sym (ap (λ z. option_and_then (λ (class : PlainClass). class.constructor) z) e ∙ kn)) (go dp dd))
+      order_cond P b R st (some_long (map (put P wt b L g st f ff) args)) (Traps trap.Stack at)
+      (created_by dp at c (map (put P wt b L g st f ff) args) vs f (constructor_of P c)) (order_trap P b R st trap.Stack at)
+      (subst (λ z. InOrder P b R st (created_by dp at c (map (put P wt b L g st f ff) args) vs f z))
+      (sym (ap (λ z. option_and_then (λ (class : PlainClass). class.constructor) z) e ∙ kn)) (go dp dd))
     where
       go : (dp : Option Deeper) → DeeperInOrder P wt b dp → InOrder P b R st (created_by dp at c (map (put P wt b L g st f ff) args) vs f (Some n))
       go None dd = order_trap P b R st trap.Stack at
@@ -331,5 +363,6 @@ module _ (P : PlainProgram) (wt : WellTyped P) (b : Bounds) (L : Scope) (g : Gro
           order_new P wt b L g st f ff R c k args true (λ a. constructed at c (map (put P wt b L g st f ff) args) vs f deeper (member_at P n) a) e ga fu
           (λ o h s i shape. subst (λ z. InOrder P b R h (constructed at c (map (put P wt b L g st f ff) args) vs f deeper z (Named o))) (sym there)
           (constructor_order deeper dd R st f ff c n k m args vs e ga fu kn there h s o i shape (made_good P wt b L g st f ff c k args e ga fu)
-          (actuals_grow P st.shapes h.shapes s.grows (env_of g) (map (type_with args) m.formals) vs fits) (subst (λ z. Within b z g (summary_with args m.summary)) (sym s.entries) w)
+          (actuals_grow P st.shapes h.shapes s.grows (env_of g) (map (type_with args) m.formals) vs fits)
+          (subst (λ z. Within b z g (summary_with args m.summary)) (sym s.entries) w)
           (λ u s'. next (Object o) u (since_since s s') (instance_grows P h.shapes u.shapes s'.grows (env_of g) c args o i))))

@@ -68,7 +68,8 @@ class_head rs (Param p) = refl
 
 pub class_concrete : (n : ℕ) (rs : List Region) (a : Rpl) → ClosedPath n 0 a →
     elems_of (concrete (named_by []) (record { values = []; regions = rs; locals = [] }) a) ≡ (put_in (class_env rs) a).elems
-class_concrete n rs a c = concrete_elems (named_by []) (record { values = []; regions = rs; locals = [] }) (class_env rs) a (class_head rs a.head) (λ k d l. class_elem rs _ (c.elems k d l))
+class_concrete n rs a c = concrete_elems (named_by []) (record { values = []; regions = rs; locals = [] }) (class_env rs) a (class_head rs a.head)
+    (λ k d l. class_elem rs _ (c.elems k d l))
 
 pub parent_region : (n : ℕ) (rs : List Region) (args : List Rpl) → All (ClosedPath n 0) args → (p : ℕ) → p < length args →
     region_in (map (λ a. concrete (named_by []) (record { values = []; regions = rs; locals = [] }) a) args) p ≡ (put_in (class_env rs) (argument args p)).elems
@@ -201,7 +202,8 @@ pub stands_args : (n : ℕ) (env : Env) (args : List Rpl) (rs : List Region) →
     (env.own ≡ λ d. pos 0) →
     Stands n 0 env (class_env rs) args
 stands_args n env args rs m e al o = record {
-  match = λ p l. match_at env args rs p (record { head = Param p; elems = [] }) m (let k : length args ≡ length rs = match_length env args rs m in omega (arith, k, e, l));
+  match = λ p l. match_at env args rs p (record { head = Param p; elems = [] }) m
+      (let k : length args ≡ length rs = match_length env args rs m in omega (arith, k, e, l));
   alone = λ p l. arguments_alone args al p;
   own = λ d l. absurd (omega (arith, l));
 }
@@ -237,7 +239,8 @@ module _ (P : PlainProgram) (wt : WellTyped P) where
         within' : (l : q < length p.args) → all_plain (region_in (regions_of_parent rs p) q) ≡ true
         within' l =
             ap all_plain (parent_region (length k.params) rs p.args parent_closed q l)
-            ∙ plain_put (class_env rs) plain (argument p.args q) (x.full q (record { head = Param q; elems = [] }) l) (λ j d h. closed_local _ ((parent_closed q (record { head = Param q; elems = [] }) l).elems j d h))
+            ∙ plain_put (class_env rs) plain (argument p.args q) (x.full q (record { head = Param q; elems = [] }) l)
+            (λ j d h. closed_local _ ((parent_closed q (record { head = Param q; elems = [] }) l).elems j d h))
 
         past : (args : List Rpl) (q : ℕ) → slice_get args q ≡ None → all_plain (region_in (map (λ a. concrete (named_by []) (record { values = []; regions = rs; locals = [] }) a) args) q) ≡ true
         past [] q e = refl
@@ -281,7 +284,8 @@ module _ (P : PlainProgram) (wt : WellTyped P) where
 
   -- a field is one of its class
   pub field_good : (c : ℕ) (k : PlainClass) (j : ℕ) (f : PlainField) → class_at P c ≡ Some k → field_at P c j ≡ Some f → GoodField P k f
-  field_good c k j f e q = all_get (GoodField P k) k.fields j f (wt.classes c k e).fields (sym (ap (λ z. option_and_then (λ (class : PlainClass). slice_get class.fields j) z) e) ∙ q)
+  field_good c k j f e q = all_get (GoodField P k) k.fields j f (wt.classes c k e).fields
+      (sym (ap (λ z. option_and_then (λ (class : PlainClass). slice_get class.fields j) z) e) ∙ q)
 
   -- a field of a class above, at the object's own class
   pub record FieldAt (d : ℕ) (rs qs : List Region) (j : ℕ) (f : PlainField) : Type 0 where
@@ -302,7 +306,8 @@ module _ (P : PlainProgram) (wt : WellTyped P) where
         field = field_with p.args i.field;
         there = ap (λ z. option_and_then (λ (class : PlainClass). slice_get class.fields j) z) g.is ∙ ap (λ z. slice_get z j) x.fields
             ∙ get_front (map (field_with p.args) x.above.fields) x.own_fields j (field_with p.args i.field) (get_map (field_with p.args) x.above.fields j i.field there);
-        region = ap (λ (z : Rpl). z.elems) (put_parent d g.class p x rs i.field.region (closed_path P (class_scope x.above) (λ y. refl) 0 i.field.region good.path)) ∙ i.region;
+        region = ap (λ (z : Rpl). z.elems) (put_parent d g.class p x rs i.field.region
+            (closed_path P (class_scope x.above) (λ y. refl) 0 i.field.region good.path)) ∙ i.region;
         types = same_trans (class_env rs) (type_with p.args i.field.ty) (class_env (regions_of_parent rs p)) i.field.ty (class_env qs) f.ty
             (same_with n 0 (class_env rs) (class_env (regions_of_parent rs p)) p.args (parent_stands d g.class p x 0 rs) i.field.ty
             (closed_type P (class_scope x.above) (λ y. refl) (λ r e. false≢true e) 0 i.field.ty good.ty)
@@ -361,7 +366,8 @@ module _ (P : PlainProgram) (wt : WellTyped P) where
       (λ n i. record { class = i.class; made_with = i.made_with; regions = i.regions; shape = i.shape; good = i.good; is_one = i.is_one; matches = all_more env w rs ss h i.regions i.matches }) v f
   subtype_fits S env w o (arrays {t = t} {u = u} {a = a} {b = b} h s) al v f =
       null_or (ArrayInstance S env t a) (ArrayInstance S env u b)
-      (array_onto P S env env t u a b (λ k r m. matches_more [] (under k env) (env_under k env w) a b h r m) (λ k. same_sym (under k env) t (under k env) u (same_type (under k env) t u s))) v f
+      (array_onto P S env env t u a b (λ k r m. matches_more [] (under k env) (env_under k env w) a b h r m)
+      (λ k. same_sym (under k env) t (under k env) u (same_type (under k env) t u s))) v f
   subtype_fits S env w o (inherits {c = c} {rs = rs} {p = p} {t = t} e h) al Null f = null_subtype S env h
   subtype_fits S env w o (inherits {c = c} {rs = rs} {p = p} {t = t} e h) al (Int k) f = absurd f
   subtype_fits S env w o (inherits {c = c} {rs = rs} {p = p} {t = t} e h) al (Boolean k) f = absurd f

@@ -100,7 +100,8 @@ closed_put n depth env other g a c = put_agree env other a (agree_on n depth env
 pub closed_holds : (n : ℕ) (env other : Env) → Agrees n 0 env other → (c : Constraint) → ClosedPath n 0 c.left → ClosedPath n 0 c.right → Holds env c →
     Holds other c
 closed_holds n env other g c l r h =
-    ap (λ z. apart [] z (put_in other c.right)) (sym (closed_put n 0 env other g c.left l)) ∙ ap (λ z. apart [] (put_in env c.left) z) (sym (closed_put n 0 env other g c.right r)) ∙ h
+    ap (λ z. apart [] z (put_in other c.right)) (sym (closed_put n 0 env other g c.left l)) ∙ ap (λ z. apart [] (put_in env c.left) z)
+    (sym (closed_put n 0 env other g c.right r)) ∙ h
 
 -- where no local and no local region is in scope, what is well formed is closed
 module _ (P : PlainProgram) (L : Scope) (none : (x : ℕ) → L.local x ≡ None) where
@@ -128,4 +129,11 @@ module _ (P : PlainProgram) (L : Scope) (none : (x : ℕ) → L.local x ≡ None
     closed_type depth void g = absurd g
     closed_type depth null g = absurd g
     closed_type depth (class c args) g = λ k d l. closed_path depth _ (g.2.paths k d l)
-    closed_type depth (array t a named) g = (elim g.0 [ inl p ↦ closed_path (suc depth) a p | inr q ↦ absurd (no_region q.0.region q.0.in_scope) ], closed_type (suc depth) t g.1)
+    closed_type depth (array t a named) g = (
+      elim g.0 [
+        | inl p ↦ closed_path (suc depth) a p
+        | inr q ↦ absurd
+            (no_region q.0.region q.0.in_scope)
+      ],
+      closed_type (suc depth) t g.1,
+    )

@@ -76,7 +76,12 @@ pub lies_up : (n : ℕ) (g inner : Ground) (args : List Rpl) → Stands n 0 (env
     LiesIn inner (map (λ e. does e) es) a → LiesIn g (summary_with args es) a
 lies_up n g inner args s a [] c l = absurd l
 lies_up n g inner args s a (e ∷ es) c l = elim l [
-  | inl h ↦ inl (record { matches = path_up n 0 (env_of g) (env_of inner) args s e.rpl (All-head (λ (e : Effect). ClosedPath n 0 e.rpl) e es c) a.region h.matches; writes = h.writes; guarded = h.guarded })
+  | inl h ↦ inl (record {
+    matches = path_up n 0 (env_of g) (env_of inner) args s e.rpl
+        (All-head (λ (e : Effect). ClosedPath n 0 e.rpl) e es c) a.region h.matches;
+    writes = h.writes;
+    guarded = h.guarded;
+  })
   | inr r ↦ inr (lies_up n g inner args s a es (All-tail (λ (e : Effect). ClosedPath n 0 e.rpl) e es c) r)
 ]
 
@@ -85,6 +90,11 @@ pub lies_down : (n : ℕ) (g inner : Ground) (args : List Rpl) → Stands n 0 (e
     All (λ (e : Effect). ClosedPath n 0 e.rpl) es → LiesIn g (map (λ e. does e) (map (effect_with args) es)) a → LiesIn inner (map (λ e. does e) es) a
 lies_down n g inner args s full a [] c l = absurd l
 lies_down n g inner args s full a (e ∷ es) c l = elim l [
-  | inl h ↦ inl (record { matches = path_down n 0 (env_of g) (env_of inner) args s e.rpl (All-head (λ (e : Effect). ClosedPath n 0 e.rpl) e es c) (λ p _. full p) a.region h.matches; writes = h.writes; guarded = h.guarded })
+  | inl h ↦ inl (record {
+    matches = path_down n 0 (env_of g) (env_of inner) args s e.rpl (All-head (λ (e : Effect). ClosedPath n 0 e.rpl) e es c)
+        (λ p _. full p) a.region h.matches;
+    writes = h.writes;
+    guarded = h.guarded;
+  })
   | inr r ↦ inr (lies_down n g inner args s full a es (All-tail (λ (e : Effect). ClosedPath n 0 e.rpl) e es c) r)
 ]

@@ -55,15 +55,18 @@ root_put env inner a n h c =
 within_at : (n : ℕ) (env inner : Env) (args : List Rpl) → IsEnv [] env → Stands n 0 env inner args → (h : Head) (a : List Elem) → ClosedPath n 0 (record { head = h; elems = a }) →
     within (put_in inner (record { head = h; elems = a })) (put_in env (put_at h a args)) ≡ true
 unfolding within put_in
-within_at n env inner args v s Root a c = subst (λ z. within z (put_in env (record { head = Root; elems = a })) ≡ true) (sym (root_put env inner a n Root c)) (within-refl (put_in env (record { head = Root; elems = a })))
+within_at n env inner args v s Root a c = subst (λ z. within z (put_in env (record { head = Root; elems = a })) ≡ true)
+    (sym (root_put env inner a n Root c)) (within-refl (put_in env (record { head = Root; elems = a })))
 within_at n env inner args v s (Param p) a c =
     let arg = argument args p in
     let w = matches-within [] env v arg (inner.region p) (s.match p (c.head p refl)) in
     let both = Covers-to (Covers-append (Covers-from (put_in env arg).elems (inner.region p) w) (Covers-refl (map (put_elem env) a))) in
     let e : map (put_elem inner) a ≡ map (put_elem env) a = ap (λ (z : Rpl). z.elems) (root_put env inner a n (Param p) c) in
     let k : (put_in env arg).elems ++ map (put_elem env) a ≡ env_region env arg.head ++ map (put_elem env) (arg.elems ++ a) =
-    append_assoc (env_region env arg.head) (map (put_elem env) arg.elems) (map (put_elem env) a) ∙ ap (λ z. env_region env arg.head ++ z) (sym (map-append (put_elem env) arg.elems a)) in
-    subst (λ z. covers_elems z (inner.region p ++ map (put_elem inner) a) ≡ true) k (subst (λ z. covers_elems ((put_in env arg).elems ++ map (put_elem env) a) (inner.region p ++ z) ≡ true) (sym e) both)
+    append_assoc (env_region env arg.head) (map (put_elem env) arg.elems) (map (put_elem env) a) ∙ ap (λ z. env_region env arg.head ++ z)
+    (sym (map-append (put_elem env) arg.elems a)) in
+    subst (λ z. covers_elems z (inner.region p ++ map (put_elem inner) a) ≡ true) k
+    (subst (λ z. covers_elems ((put_in env arg).elems ++ map (put_elem env) a) (inner.region p ++ z) ≡ true) (sym e) both)
 
 pub within_put : (n : ℕ) (env inner : Env) (args : List Rpl) → IsEnv [] env → Stands n 0 env inner args → (a : Rpl) → ClosedPath n 0 a →
     within (put_in inner a) (put_in env (substituted args a)) ≡ true
@@ -73,11 +76,13 @@ within_put n env inner args v s a c = within_at n env inner args v s a.head a.el
 -- constraints that hold with arguments put in hold of the regions that these match
 pub given_holds : (n : ℕ) (given : List Constraint) (env inner : Env) (args : List Rpl) → IsEnv given env → IsEnv [] env → Stands n 0 env inner args →
     (cs : List Constraint) →
-    All (λ (c : Constraint). ClosedPath n 0 c.left × ClosedPath n 0 c.right) cs → All (λ (c : Constraint). IsTrue (apart given (substituted args c.left) (substituted args c.right))) cs → All (Holds inner) cs
+    All (λ (c : Constraint). ClosedPath n 0 c.left × ClosedPath n 0 c.right) cs → All (λ (c : Constraint). IsTrue
+    (apart given (substituted args c.left) (substituted args c.right))) cs → All (Holds inner) cs
 given_holds n given env inner args v v0 s cs cl h = λ k c l.
     (let z = cl k c l in
     let x = slice_index_or cs k c in
-    stays_apart given env v (substituted args x.left) (substituted args x.right) (put_in inner x.left) (put_in inner x.right) (h k c l) (within_put n env inner args v0 s x.left z.0) (within_put n env inner args v0 s x.right z.1))
+    stays_apart given env v (substituted args x.left) (substituted args x.right) (put_in inner x.left) (put_in inner x.right) (h k c l)
+    (within_put n env inner args v0 s x.left z.0) (within_put n env inner args v0 s x.right z.1))
 
 -- the slots of a frame
 
@@ -105,8 +110,11 @@ shown_match env args rs s = go args rs s.puts s.full
     go [] [] p f = tt
     go [] (r ∷ rs) p f = p
     go (a ∷ args) [] p f = p
-    go (a ∷ args) (r ∷ rs) p f =
-        ((specified_matches_one env a (All-head (λ a. IsTrue (fully_specified a)) a args f) (elems_of r)).1 p.0, go args rs p.1 (All-tail (λ a. IsTrue (fully_specified a)) a args f))
+    go (a ∷ args) (r ∷ rs) p f = (
+      (specified_matches_one env a (All-head (λ a. IsTrue (fully_specified a)) a args f) (elems_of r)).1 p.0,
+      go args rs p.1
+          (All-tail (λ a. IsTrue (fully_specified a)) a args f),
+    )
 
 -- in another scope, where nothing but region parameters is spoken of
 module _ (M L : Scope) (none : (x : ℕ) → M.local x ≡ None) (no_region : (r : ℕ) → M.regions r ≡ true → ⊥) where
@@ -141,11 +149,16 @@ module _ (P : PlainProgram) (wt : WellTyped P) (n : ℕ) (m : PlainMember) (ther
 
   params_in : (L : Scope) (j k : ℕ) → All (PathInScope L 0) (params_from j k)
   params_in L j zero = λ i d l. absurd (omega (arith, l))
-  params_in L j (suc k) = All-cons (PathInScope L 0) (record { head = Param j; elems = [] }) (params_from (suc j) k) (λ i d l. absurd (omega (arith, l))) (params_in L (suc j) k)
+  params_in L j (suc k) = All-cons (PathInScope L 0) (record { head = Param j; elems = [] }) (params_from (suc j) k)
+      (λ i d l. absurd (omega (arith, l))) (params_in L (suc j) k)
 
   constraint_in : (M : Scope) → ((y : ℕ) → M.local y ≡ None) → ((r : ℕ) → M.regions r ≡ true → ⊥) → (c : Constraint) → GoodConstraint P M c →
       PathInScope scope 0 c.left × PathInScope scope 0 c.right
-  constraint_in M none nor c h = (λ k d l. other_elem M scope none nor 0 _ (good_path P M 0 c.left h.0 k d l), λ k d l. other_elem M scope none nor 0 _ (good_path P M 0 c.right h.1 k d l))
+  constraint_in M none nor c h = (
+    λ k d l. other_elem M scope none nor 0 _
+        (good_path P M 0 c.left h.0 k d l),
+    λ k d l. other_elem M scope none nor 0 _ (good_path P M 0 c.right h.1 k d l),
+  )
 
   pub body_good : GoodScope scope
   body_good = record {
@@ -223,7 +236,8 @@ module _ (P : PlainProgram) (wt : WellTyped P) (n : ℕ) (m : PlainMember) (ther
         shape = shape;
         good = gd;
         is_one = is_one;
-        matches = subst (λ k. AllMatch (class_env (zs ++ own)) (params_from 0 k) zs) arity (shown_match (class_env (zs ++ own)) (params_from 0 (length zs)) zs (class_params zs own));
+        matches = subst (λ k. AllMatch (class_env (zs ++ own)) (params_from 0 k) zs) arity
+            (shown_match (class_env (zs ++ own)) (params_from 0 (length zs)) zs (class_params zs own));
       }
 
       values : List Value

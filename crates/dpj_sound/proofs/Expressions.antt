@@ -126,7 +126,8 @@ module _ (P : PlainProgram) (b : Bounds) where
     -- a read of a field, or the trap at null
     pub field_order : (R : State → Result → Type 0) (st : State) (at : Place) (f : Frame) (c k : ℕ) (args : List Rpl) (fd : PlainField) →
         field_at P c k ≡ Some fd → Readable args fd.ty →
-        All (PathInScope L 0) args → Within b st.entries g (does (reads (substituted args fd.region)) ∷ []) → (v : Value) → FitsIn P st.shapes (env_of g) (class c args) v →
+        All (PathInScope L 0) args → Within b st.entries g (does (reads (substituted args fd.region)) ∷ []) → (v : Value) → FitsIn P st.shapes
+        (env_of g) (class c args) v →
         ((w : Value) (u : State) → Since st u → FitsIn P u.shapes (env_of g) (type_with args fd.ty) w → R u (Goes_on w f)) →
         InOrder P b R st (unless_null at v (λ n. read_cell at n (pos k) f))
     field_order R st at f c k args fd e rd al w v fv next = order_unless R st at (Instance P st.shapes (env_of g) c args) (λ n. read_cell at n (pos k) f) go v fv
@@ -143,8 +144,14 @@ module _ (P : PlainProgram) (b : Bounds) where
             let cell : Touches P st.shapes n (pos k) = record { shape = object i.class i.made_with; is = i.shape; env = class_env i.made_with; ty = fa.field.ty; rpl = fa.field.region; cell = of_object fa.there } in
             let region = (put_in (class_env i.made_with) fa.field.region).elems in
             order_read R st at n (pos k) f
-            (record { cell = cell; allowed = w (access_of b st n (pos k) false region) (λ e. e) (inl (speaks_read g (substituted args fd.region) (access_of b st n (pos k) false region) refl (path_up m 0 (env_of g) (class_env i.regions) args st' fd.region path region own))) })
-            (λ x u s h. next x u s (fits_with_up P u.shapes m (env_of g) (class_env i.regions) args st' fd.ty (closed_type P (class_scope good.class) (λ y. refl) (λ r t. false≢true t) 0 fd.ty gf.ty) rd x
+            (record {
+              cell = cell;
+              allowed = w (access_of b st n (pos k) false region) (λ e. e)
+                  (inl (speaks_read g (substituted args fd.region) (access_of b st n (pos k) false region) refl
+                  (path_up m 0 (env_of g) (class_env i.regions) args st' fd.region path region own)));
+            })
+            (λ x u s h. next x u s (fits_with_up P u.shapes m (env_of g) (class_env i.regions) args st' fd.ty
+            (closed_type P (class_scope good.class) (λ y. refl) (λ r t. false≢true t) 0 fd.ty gf.ty) rd x
             (fits_same P u.shapes (class_env i.made_with) fa.field.ty (class_env i.regions) fd.ty fa.types x h)))
 
     -- a read of an element
@@ -157,8 +164,22 @@ module _ (P : PlainProgram) (b : Bounds) where
       where
         go : (n : Name) → ArrayInstance st.shapes (env_of g) t a n → InOrder P b R st (read_cell at n k f)
         go n i =
-            let cell : Touches P st.shapes n k = record { shape = elements i.ground i.element i.rpl; is = i.shape; env = under k (env_of i.ground); ty = i.element; rpl = i.rpl; cell = of_array } in
+            let cell : Touches P st.shapes n k = record {
+              shape = elements i.ground i.element i.rpl;
+              is = i.shape;
+              env = under k
+                  (env_of i.ground);
+              ty = i.element;
+              rpl = i.rpl;
+              cell = of_array;
+            } in
             let region = (put_in (under k (env_of i.ground)) i.rpl).elems in
             order_read R st at n k f
-            (record { cell = cell; allowed = w (access_of b st n k false region) (λ e. e) (inl (speaks_read g (path_at 0 x a) (access_of b st n k false region) refl (region_at_up g x k fx a region (i.region k)))) })
-            (λ y u s h. next y u s (fits_at_up P u.shapes g x ix k fx t rg y (fits_same P u.shapes (under k (env_of i.ground)) i.element (under k (env_of g)) t (same_sym (under k (env_of g)) t (under k (env_of i.ground)) i.element (i.same k)) y h)))
+            (record {
+              cell = cell;
+              allowed = w (access_of b st n k false region) (λ e. e)
+                  (inl (speaks_read g (path_at 0 x a) (access_of b st n k false region) refl (region_at_up g x k fx a region (i.region k))));
+            })
+            (λ y u s h. next y u s (fits_at_up P u.shapes g x ix k fx t rg y
+            (fits_same P u.shapes (under k (env_of i.ground)) i.element (under k (env_of g)) t
+            (same_sym (under k (env_of g)) t (under k (env_of i.ground)) i.element (i.same k)) y h)))

@@ -70,14 +70,17 @@ module _ (P : PlainProgram) (wt : WellTyped P) where
       effects_in literal_boolean = none_in L
       effects_in literal_null = none_in L
       effects_in (read_local h) = none_in L
-      effects_in (read_field {c = c} {k = k} {args = args} {f = f} {E = E} h ty fe rd eq) = both_in L E _ (effects_in h) (one_in L _ (region_in_scope L c k args f fe (args_in c args h ty)))
-      effects_in (read_element {i = i} {E = E} {F = F} ha ty hi ti rg eq) = both_in L E _ (effects_in ha) (both_in L F _ (effects_in hi) (one_in L _ (element_in i ha ty)))
+      effects_in (read_field {c = c} {k = k} {args = args} {f = f} {E = E} h ty fe rd eq) = both_in L E _ (effects_in h)
+          (one_in L _ (region_in_scope L c k args f fe (args_in c args h ty)))
+      effects_in (read_element {i = i} {E = E} {F = F} ha ty hi ti rg eq) = both_in L E _ (effects_in ha)
+          (both_in L F _ (effects_in hi) (one_in L _ (element_in i ha ty)))
       effects_in (length_of_array h ty) = effects_in h
       effects_in (call_method {c = c} {n = n} {args = args} {owned = owned} {regions = regions} {m = m} {E = E} {F = F} h ty rw mb ab ga fu kn rd ft calm eq) =
           both_in L E _ (effects_in h) (both_in L F _ (actuals_in ft)
           (summary_in L n m (owned ++ regions) mb (All-append (PathInScope L 0) owned regions (above_in P wt L ab (args_in c args h ty)) (λ k d l. good_path P L 0 _ (ga.paths k d l)))))
       effects_in (create_object e ga fu kn) = none_in L
-      effects_in (construct_object {n = n} {args = args} {m = m} {F = F} e ga fu kn mb ft calm) = both_in L F _ (actuals_in ft) (summary_in L n m args mb (λ k d l. good_path P L 0 _ (ga.paths k d l)))
+      effects_in (construct_object {n = n} {args = args} {m = m} {F = F} e ga fu kn mb ft calm) = both_in L F _ (actuals_in ft)
+          (summary_in L n m args mb (λ k d l. good_path P L 0 _ (ga.paths k d l)))
       effects_in (make_array gt fu h ty) = effects_in h
       effects_in (negative h ty) = effects_in h
       effects_in (negation h ty) = effects_in h
@@ -129,11 +132,13 @@ module _ (P : PlainProgram) (wt : WellTyped P) where
         both_in L E _ (effects_in L good ho) (both_in L F _ (effects_in L good he) (one_in L _ (region_in_scope L c k args f fe (args_in L good c args ho ty))))
     stmt_effects_in {L} (store_element {i = i} {E = E} {F = F} {G = G} ha ty hi ti rg he sub) good q =
         both_in L E _ (effects_in L good ha) (both_in L F _ (effects_in L good hi) (both_in L G _ (effects_in L good he) (one_in L _ (element_in L good i ha ty))))
-    stmt_effects_in {L} (store_part {k = k} {t = t} {a = a} {E = E} {F = F} e hi ti he sub) good q = both_in L E _ (effects_in L good hi) (both_in L F _ (effects_in L good he) (one_in L _ (part_in L good k t a e)))
+    stmt_effects_in {L} (store_part {k = k} {t = t} {a = a} {E = E} {F = F} e hi ti he sub) good q = both_in L E _ (effects_in L good hi)
+        (both_in L F _ (effects_in L good he) (one_in L _ (part_in L good k t a e)))
     stmt_effects_in {L} (perform ip h) good q = effects_in L good h
     stmt_effects_in (nested p) good q = stmts_effects_in p good q
     stmt_effects_in {L} (choice {E = E} {F = F} h ty p) good q = both_in L E F (effects_in L good h) (stmts_effects_in p good (q, tt))
-    stmt_effects_in {L} (choice_else {E = E} {F = F} {G = G} h ty p r) good q = both_in L E _ (effects_in L good h) (both_in L F G (stmts_effects_in p good (q.0, tt)) (stmts_effects_in r good (q.1, tt)))
+    stmt_effects_in {L} (choice_else {E = E} {F = F} {G = G} h ty p r) good q = both_in L E _ (effects_in L good h)
+        (both_in L F G (stmts_effects_in p good (q.0, tt)) (stmts_effects_in r good (q.1, tt)))
     stmt_effects_in {L} (while_loop {E = E} {F = F} h ty p) good q = both_in L E F (effects_in L good h) (stmts_effects_in p good (q, tt))
     stmt_effects_in {L} (return_nothing e) good q = none_in L
     stmt_effects_in {L} (return_value e h sub) good q = effects_in L good h

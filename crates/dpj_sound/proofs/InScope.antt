@@ -152,7 +152,8 @@ has_put : (L : Scope) (d : ℕ) (args : List Rpl) → All (PathInScope L 0) args
     list_any (λ x. same_elem x (At (Own d))) a ≡ false → has_index d (put_at h a args) ≡ false
 has_put L d args al Root a h = h
 has_put L d args al (Param p) a h =
-    list_any-append (λ x. same_elem x (At (Own d))) (argument args p).elems a ∙ or_none _ _ (any_own d (argument args p).elems (λ k e l. scope_alone L _ (arguments_in L args al p k e l))) h
+    list_any-append (λ x. same_elem x (At (Own d))) (argument args p).elems a ∙ or_none _ _
+    (any_own d (argument args p).elems (λ k e l. scope_alone L _ (arguments_in L args al p k e l))) h
 
 has_substituted : (L : Scope) (d : ℕ) (args : List Rpl) → All (PathInScope L 0) args → (a : Rpl) → has_index d a ≡ false →
     has_index d (substituted args a) ≡ false
@@ -181,7 +182,8 @@ module _ (P : PlainProgram) (M : Scope) (none : (x : ℕ) → M.local x ≡ None
   with_in L args al D boolean g = tt
   with_in L args al D void g = tt
   with_in L args al D null g = tt
-  with_in L args al D (class c ps) g = All-map (PathInScope L D) (substituted args) ps (λ k d l. substituted_in L D args al (length M.atomic) _ (closed_path P M none D _ (g.2.paths k d l)))
+  with_in L args al D (class c ps) g = All-map (PathInScope L D) (substituted args) ps
+      (λ k d l. substituted_in L D args al (length M.atomic) _ (closed_path P M none D _ (g.2.paths k d l)))
   with_in L args al D (array t a named) g = (
     elim g.0 [
       | inl p ↦ substituted_in L (suc D) args al (length M.atomic) a (closed_path P M none (suc D) a p)
@@ -325,7 +327,8 @@ module _ (P : PlainProgram) (wt : WellTyped P) (L : Scope) where
   above_in itself h = h
   above_in {c} {d} {args} {owned} (through_parent {p = p} e a) h =
       above_in a (option_and_then_some (λ (class : PlainClass). class.parent) (class_at P c) p e (λ k q z.
-      (let x = parent_extends P wt q e in All-map (PathInScope L 0) (substituted args) p.args (λ i d l. substituted_in L 0 args h (length k.params) _ (parent_closed P wt c k p x i d l)))))
+      (let x = parent_extends P wt q e in All-map (PathInScope L 0) (substituted args) p.args
+      (λ i d l. substituted_in L 0 args h (length k.params) _ (parent_closed P wt c k p x i d l)))))
 
   field_in : (c j : ℕ) (args : List Rpl) (f : PlainField) → field_at P c j ≡ Some f → All (PathInScope L 0) args → TypeInScope L 0 (type_with args f.ty)
   field_in c j args f e h =
@@ -350,12 +353,14 @@ module _ (P : PlainProgram) (wt : WellTyped P) (L : Scope) where
       | inl a ↦ good.each x (variable t) a
       | inr b ↦ elim b [ inl a ↦ good.each x (frozen t) a | inr a ↦ good.each x (constant t) a ]
     ]
-    typed_in (read_field {c = c} {k = k} {args = args} {f = f} h ty fd rd e) = subst (TypeInScope L 0) (sym e) (field_in c k args f fd (subst (TypeInScope L 0) ty (typed_in h)))
+    typed_in (read_field {c = c} {k = k} {args = args} {f = f} h ty fd rd e) = subst (TypeInScope L 0) (sym e)
+        (field_in c k args f fd (subst (TypeInScope L 0) ty (typed_in h)))
     typed_in (read_element {i = i} {t = t} h ty hi ti rg e) =
         let z = index_in L i in subst (TypeInScope L 0) (sym e) (at_in L (index_elem L i) z.0 0 z.1 t (subst (TypeInScope L 0) ty (typed_in h)).1)
     typed_in (length_of_array h ty) = tt
     typed_in (call_method {n = n} {owned = owned} {regions = regions} {m = m} h ty rw mb ab ga fu kn rd ft st e) =
-        subst (TypeInScope L 0) (sym e) (result_with m n (owned ++ regions) mb (All-append (PathInScope L 0) owned regions (above_in ab (subst (TypeInScope L 0) ty (typed_in h))) (λ k d l. good_path P L 0 _ (ga.paths k d l))))
+        subst (TypeInScope L 0) (sym e) (result_with m n (owned ++ regions) mb
+        (All-append (PathInScope L 0) owned regions (above_in ab (subst (TypeInScope L 0) ty (typed_in h))) (λ k d l. good_path P L 0 _ (ga.paths k d l))))
     typed_in (create_object c ga fu n) = λ k d l. good_path P L 0 _ (ga.paths k d l)
     typed_in (construct_object c ga fu cn mb ft st) = λ k d l. good_path P L 0 _ (ga.paths k d l)
     typed_in (make_array {t = t} {a = a} {named = named} gt fu h ty) = good_type P L 0 (array t a named) gt

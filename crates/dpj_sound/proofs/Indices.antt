@@ -72,7 +72,8 @@ same_at env x s m e D (class c ps) = (
   ),
 )
 same_at env x s m e D (array t a named) = (
-  λ k r. subst (λ z. Matches (under k env) (path_at (suc D) (At x) a) r ↔ Matches z a r) (sym (under_with k m env D)) (at_path (under k env) x (suc D) a m (number_under k env x s ∙ e) r),
+  λ k r. subst (λ z. Matches (under k env) (path_at (suc D) (At x) a) r ↔ Matches z a r) (sym (under_with k m env D))
+      (at_path (under k env) x (suc D) a m (number_under k env x s ∙ e) r),
   λ k. subst (λ z. SameIn (under k env) (type_at (suc D) (At x) t) z t) (sym (under_with k m env D)) (same_at (under k env) x s m (number_under k env x s ∙ e) (suc D) t),
 )
 
@@ -125,8 +126,11 @@ path_unmentioned : (env : Env) (D : ℕ) (k : ℤ) (y : Elem) (a : Rpl) → has_
     Matches env (path_at D y a) r ↔ Matches (with_own env D k) a r
 path_unmentioned env D k y a h r =
     let e = elems_unmentioned D y a.elems h in
-    let m = matches_by_what_occurs env (with_own env D k) a (record { head = head_own env D k a.head; elems = all_unmentioned env D k a.elems h }) r in
-    (λ x. m.0 (subst (λ z. Matches env (record { head = a.head; elems = z }) r) e x), λ x. subst (λ z. Matches env (record { head = a.head; elems = z }) r) (sym e) (m.1 x))
+    let m = matches_by_what_occurs env (with_own env D k) a (record { head = head_own env D k a.head; elems = all_unmentioned env D k a.elems h }) r in (
+      λ x. m.0 (subst (λ z. Matches env (record { head = a.head; elems = z }) r) e x),
+      λ x. subst
+          (λ z. Matches env (record { head = a.head; elems = z }) r) (sym e) (m.1 x),
+    )
 
 any_none : {A : Type 0} (f : A → Bool) (xs : List A) → list_any f xs ≡ false → All (λ x. f x ≡ false) xs
 any_none f [] h = λ j d l. absurd (omega (arith, l))
@@ -180,7 +184,8 @@ pub fits_at_up : (P : PlainProgram) (S : Shapes) (g : Ground) (x : Elem) → IsI
     (IsTrue (is_any x) → rigid_in_index 0 t ≡ false) → (v : Value) → FitsIn P S (under k (env_of g)) t v → FitsIn P S (env_of g) (type_at 0 x t) v
 fits_at_up P S g (At x) i k e t h v f =
     let n : k ≡ number_of (env_of g) x = cc in
-    fits_same P S (with_own (env_of g) 0 k) t (env_of g) (type_at 0 (At x) t) (same_sym (env_of g) (type_at 0 (At x) t) (with_own (env_of g) 0 k) t (same_at (env_of g) x i k (sym n) 0 t)) v
+    fits_same P S (with_own (env_of g) 0 k) t (env_of g) (type_at 0 (At x) t)
+    (same_sym (env_of g) (type_at 0 (At x) t) (with_own (env_of g) 0 k) t (same_at (env_of g) x i k (sym n) 0 t)) v
     (subst (λ z. FitsIn P S z t v) (under_top k g) f)
 fits_at_up P S g Any i k e t h v f = fits_at_any P S (env_of g) k 0 t (h refl) v (subst (λ z. FitsIn P S z t v) (under_top k g) f)
 fits_at_up P S g (elem.Name n) i k e t h v f = absurd i

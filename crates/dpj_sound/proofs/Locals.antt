@@ -99,7 +99,8 @@ inner_is L x y l m h e = let z : Some l ≡ Some m = sym (cond-true (y == x) (So
 wider_elem : (L : Scope) (x : ℕ) (l : ScopeLocal) → L.local x ≡ None → (D : ℕ) (y : Elem) → InScope L D y → InScope (with_local x l L) D y
 wider_elem L x l n D (Name m) s = tt
 wider_elem L x l n D (At (Literal k)) s = tt
-wider_elem L x l n D (At (Variable y)) s = cond-false (y == x) (Some l) (L.local y) (false_from_ne_true (y == x) (λ t. other_than L x y (constant int) s n (eqb-true y x t))) ∙ s
+wider_elem L x l n D (At (Variable y)) s = cond-false (y == x) (Some l) (L.local y)
+    (false_from_ne_true (y == x) (λ t. other_than L x y (constant int) s n (eqb-true y x t))) ∙ s
 wider_elem L x l n D (At (Renamed y)) s = s
 wider_elem L x l n D (At (Own d)) s = s
 wider_elem L x l n D Any s = tt
@@ -139,12 +140,21 @@ good_declare L good x is_final t free s = record {
       (λ h. subst (LocalInScope (with_local x (declared_as is_final t) L)) (inner_is L x y (declared_as is_final t) m h e)
       (wider_local L x (declared_as is_final t) free.0 (declared_as is_final t) (declared_in L is_final t s)))
       (λ h. wider_local L x (declared_as is_final t) free.0 m (good.each y m (inner_local L x y (declared_as is_final t) m h e))) (cases_Bool (y == x));
-  slots = λ y m e. ⊎_elim (λ h. subst (λ z. z < L.slots) (sym (eqb-true y x h)) free.1) (λ h. good.slots y m (inner_local L x y (declared_as is_final t) m h e)) (cases_Bool (y == x));
+  slots = λ y m e. ⊎_elim (λ h. subst (λ z. z < L.slots) (sym (eqb-true y x h)) free.1)
+      (λ h. good.slots y m (inner_local L x y (declared_as is_final t) m h e)) (cases_Bool (y == x));
   parts = λ y u a e. ⊎_elim
       (λ h. absurd (no_part is_final t u a (inner_is L x y (declared_as is_final t) (part u a) h e)))
-      (λ h. (let r = good.parts y u a (inner_local L x y (declared_as is_final t) (part u a) h e) in (kept (y + 1) reserved r.0, kept (y + 2) reserved r.1))) (cases_Bool (y == x));
+      (λ h. (let r = good.parts y u a (inner_local L x y (declared_as is_final t) (part u a) h e) in (
+        kept (y + 1) reserved r.0,
+        kept
+            (y + 2) reserved r.1,
+      ))) (cases_Bool (y == x));
   result = λ u e. wider_type L x (declared_as is_final t) free.0 0 u (good.result u e);
-  given = λ k c l. (let z = good.given k c l in (wider_path L x (declared_as is_final t) free.0 0 (slice_index_or L.given k c).left z.0, wider_path L x (declared_as is_final t) free.0 0 (slice_index_or L.given k c).right z.1));
+  given = λ k c l. (let z = good.given k c l in (
+    wider_path L x (declared_as is_final t) free.0 0
+        (slice_index_or L.given k c).left z.0,
+    wider_path L x (declared_as is_final t) free.0 0 (slice_index_or L.given k c).right z.1,
+  ));
 }
   where
     kept : (y : ℕ) (m : ScopeLocal) → L.local y ≡ Some m → (with_local x (declared_as is_final t) L).local y ≡ Some m
@@ -158,7 +168,8 @@ declared_fits P S g vs x false t f = f
 -- a declared local: the frame fits the scope with it, in the ground with its number
 pub frame_declare : (P : PlainProgram) (p : Path) (st : State) (g : Ground) (L : Scope) → GoodScope L →
     (f : Frame) (x : ℕ) (is_final : Bool) (t : PlainType) (v : Value) → IsFree L x → TypeInScope L 0 t →
-    FitsIn P st.shapes (env_of g) t v → FrameFits P p st g L f → FrameFits P p st (with_number x (number v) g) (with_local x (declared_as is_final t) L) (with_value f x v)
+    FitsIn P st.shapes (env_of g) t v → FrameFits P p st g L f → FrameFits P p st (with_number x (number v) g)
+    (with_local x (declared_as is_final t) L) (with_value f x v)
 frame_declare P p st g L good f x is_final t v free s fv ff = record {
   regions = ff.regions;
   plain = ff.plain;
@@ -180,7 +191,8 @@ frame_declare P p st g L good f x is_final t v free s fv ff = record {
       (declared_fits P st.shapes (with_number x (number v) g) (slice_set f.values x v) x is_final t
       (subst (FitsIn P st.shapes (env_of (with_number x (number v) g)) t) (sym same) (fits_alike P st.shapes L g (with_number x (number v) g) al t s v fv)))))
       (λ h. (let k = inner_local L x y (declared_as is_final t) m h e in
-      local_alike P st.shapes L g (with_number x (number v) g) al (slice_set f.values x v) y m k (good.each y m k) ((frame_outside P p st g L good f x v free.0 ff).each y m k)))
+      local_alike P st.shapes L g (with_number x (number v) g) al (slice_set f.values x v) y m k (good.each y m k)
+      ((frame_outside P p st g L good f x v free.0 ff).each y m k)))
       (cases_Bool (y == x));
 }
   where
@@ -234,7 +246,8 @@ general_matches : (g : Ground) (x : ℕ) (k : ℤ) (L : Scope) (a : Rpl) → Pat
     Matches (env_of g) (generalised x a) r
 general_matches g x k L a s r m =
     general_matches_more (env_of g) a x k r
-    ((matches_by_what_occurs (env_of (with_number x k g)) (with_index (env_of g) x k) a (record { head = head_number g x k a.head; elems = λ j d l. put_number g x k L 0 _ (s j d l) }) r).0 m)
+    ((matches_by_what_occurs (env_of (with_number x k g)) (with_index (env_of g) x k) a
+    (record { head = head_number g x k a.head; elems = λ j d l. put_number g x k L 0 _ (s j d l) }) r).0 m)
 
 speaks_general : (g : Ground) (x : ℕ) (k : ℤ) (L : Scope) (e : Effect) (a : Access) → PathInScope L 0 e.rpl → Speaks (with_number x k g) e a → Speaks g (record e { rpl = generalised x e.rpl }) a
 speaks_general g x k L e a s h = record { matches = general_matches g x k L e.rpl s a.region h.matches; writes = h.writes; guarded = h.guarded }

@@ -89,7 +89,8 @@ module _ (P : PlainProgram) (wt : WellTyped P) (b : Bounds) (L : Scope) (g : Gro
   args_plain [] h u p = refl
   args_plain (a ∷ args) h u zero =
       ap all_plain (put_is a (All-head (GoodPath P L 0) a args h))
-      ∙ plain_put (env_of g) ff.plain a (All-head (λ a. IsTrue (fully_specified a)) a args u) (λ j d l. good_local P L 0 _ ((All-head (GoodPath P L 0) a args h).elems j d l))
+      ∙ plain_put (env_of g) ff.plain a (All-head (λ a. IsTrue (fully_specified a)) a args u)
+      (λ j d l. good_local P L 0 _ ((All-head (GoodPath P L 0) a args h).elems j d l))
   args_plain (a ∷ args) h u (suc p) = args_plain args (All-tail (GoodPath P L 0) a args h) (All-tail (λ a. IsTrue (fully_specified a)) a args u) p
 
   pub args_match : (args : List Rpl) → All (GoodPath P L 0) args → All (λ a. IsTrue (fully_specified a)) args → AllMatch (env_of g) args (map put args)
@@ -143,7 +144,8 @@ module _ (P : PlainProgram) (wt : WellTyped P) (b : Bounds) (L : Scope) (g : Gro
   element_elem D k (elem.Local r n) s =
       let e = ap local_code (ff.made r s.1) in
       let z : n ≡ 0 = s.0 in
-      subst (λ z. elem_of (element_part k (part_of (named_by b.path) (around f) (elem.Local r z))) ≡ put_elem (under k (env_of g)) (elem.Local r z)) (sym z) (λ i. elem.Local (e i).0 (e i).1)
+      subst (λ z. elem_of (element_part k (part_of (named_by b.path) (around f) (elem.Local r z))) ≡ put_elem (under k (env_of g)) (elem.Local r z))
+      (sym z) (λ i. elem.Local (e i).0 (e i).1)
 
   element_elems : (k : ℤ) (xs : List Elem) → All (InScope L 1) xs →
       elems_of (element_region k (map (part_of (named_by b.path) (around f)) xs)) ≡ map (put_elem (under k (env_of g))) xs
@@ -156,7 +158,8 @@ module _ (P : PlainProgram) (wt : WellTyped P) (b : Bounds) (L : Scope) (g : Gro
   element_head : (k : ℤ) (h : Head) → elems_of (element_region k (head_region f.regions h)) ≡ env_region (under k (env_of g)) h
   element_head k Root = refl
   element_head k (Param p) =
-      subst (λ z. elems_of (element_region k (slice_index_or z p [])) ≡ region_in g.regions p) (sym ff.regions) (plain_region k (slice_index_or g.regions p []) (ff.plain p))
+      subst (λ z. elems_of (element_region k (slice_index_or z p [])) ≡ region_in g.regions p) (sym ff.regions)
+      (plain_region k (slice_index_or g.regions p []) (ff.plain p))
 
   element_put : (k : ℤ) (a : Rpl) → PathInScope L 1 a → elems_of (element_region k (put a)) ≡ (put_in (under k (env_of g)) a).elems
   unfolding put_in
@@ -175,11 +178,20 @@ module _ (P : PlainProgram) (wt : WellTyped P) (b : Bounds) (L : Scope) (g : Gro
   unfolding InOrder
   order_new_array R at t a named gt u (negsuc k) i = tt
   order_new_array R at t a named gt u (pos k) i =
-      order_cond P b R st (is_long (put a)) (Traps trap.Stack at) (Act (New (An_array (put a) k (first_of t)) false) (λ x. gives (name_made x) f)) (order_trap P b R st trap.Stack at) (
+      order_cond P b R st (is_long (put a)) (Traps trap.Stack at) (Act (New (An_array (put a) k (first_of t)) false) (λ x. gives (name_made x) f))
+      (order_trap P b R st trap.Stack at) (
         (elements g t a, (λ j. element_put j a scope, refl)),
         λ x h after ans. subst (λ z. InOrder P b R h (gives (name_made z) f)) (sym ans.1)
             (i (Object ans.0) h (since_after (New (An_array (put a) k (first_of t)) false) refl after)
-            (record { ground = g; element = t; rpl = a; shape = ans.2; region = λ j. (specified_matches_one (under j (env_of g)) a u _).1 refl; same = λ j. same_refl (under j (env_of g)) t })),
+            (record {
+              ground = g;
+              element = t;
+              rpl = a;
+              shape = ans.2;
+              region = λ j. (specified_matches_one
+                  (under j (env_of g)) a u _).1 refl;
+              same = λ j. same_refl (under j (env_of g)) t;
+            })),
       )
     where
       scope : PathInScope L 1 a

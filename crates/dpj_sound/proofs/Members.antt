@@ -106,7 +106,11 @@ pub shown_put : {env : Env} {args : List Rpl} {rs : List Region} → Shown env a
 shown_put {env} {args} {rs} s a c =
     substitution_puts_in env args a
     ∙ closed_put (length rs) 0 _ (class_env rs)
-    (record { region = λ p l. sym (puts_at env args rs p (record { head = Param p; elems = [] }) s.puts (let e = puts_length env args rs s.puts in omega (arith, e, l))); own = λ d l. absurd (omega (arith, l)) }) a c
+    (record {
+      region = λ p l. sym (puts_at env args rs p (record { head = Param p; elems = [] }) s.puts
+          (let e = puts_length env args rs s.puts in omega (arith, e, l)));
+      own = λ d l. absurd (omega (arith, l));
+    }) a c
 
 -- parameters from one on are the regions that stand there
 params_shown : (whole : List Region) (j : ℕ) (ys : List Region) → ((i : ℕ) → i < length ys → slice_index_or whole (j + i) [] ≡ slice_index_or ys i []) →
@@ -149,7 +153,8 @@ module _ (P : PlainProgram) (wt : WellTyped P) where
       })
     where
       put : (ps : List Rpl) → All (ClosedPath (length rs) 0) ps →
-          AllZip (λ a r. elems_of r ≡ (put_in env a).elems) (map (substituted args) ps) (map (λ a. concrete (named_by []) (record { values = []; regions = rs; locals = [] }) a) ps)
+          AllZip (λ a r. elems_of r ≡ (put_in env a).elems) (map (substituted args) ps)
+          (map (λ a. concrete (named_by []) (record { values = []; regions = rs; locals = [] }) a) ps)
       put [] cl = tt
       put (b ∷ ps) cl =
           let c0 = All-head (ClosedPath (length rs) 0) b ps cl in
@@ -180,14 +185,26 @@ module _ (P : PlainProgram) (wt : WellTyped P) where
         LiesIn (class_ground (rs ++ own)) (map (λ e. does e) m.summary) a
 
   stands_refl : (own : List Region) (m : PlainMember) (rs : List Region) → StandsFor own m rs m rs
-  stands_refl own m rs = record { params = refl; given = λ h. h; formals = λ x t e. (t, e, same_refl (class_env (rs ++ own)) t); result = same_refl (class_env (rs ++ own)) m.result; effects = λ a l. l }
+  stands_refl own m rs = record {
+    params = refl;
+    given = λ h. h;
+    formals = λ x t e. (t, e, same_refl (class_env (rs ++ own)) t);
+    result = same_refl
+        (class_env (rs ++ own)) m.result;
+    effects = λ a l. l;
+  }
 
   stands_trans : {own : List Region} {m w u : PlainMember} {rs qs ps : List Region} → StandsFor own m rs w qs → StandsFor own w qs u ps →
       StandsFor own m rs u ps
   stands_trans {own} {m} {w} {u} {rs} {qs} {ps} s z = record {
     params = z.params ∙ s.params;
     given = λ h. z.given (s.given h);
-    formals = λ x t e. (let a = z.formals x t e in let b = s.formals x a.0 a.1 in (b.0, b.1, same_trans (class_env (rs ++ own)) b.0 (class_env (qs ++ own)) a.0 (class_env (ps ++ own)) t b.2 a.2));
+    formals = λ x t e. (let a = z.formals x t e in let b = s.formals x a.0 a.1 in (
+      b.0,
+      b.1,
+      same_trans (class_env (rs ++ own)) b.0
+          (class_env (qs ++ own)) a.0 (class_env (ps ++ own)) t b.2 a.2,
+    ));
     result = same_trans (class_env (ps ++ own)) u.result (class_env (qs ++ own)) w.result (class_env (rs ++ own)) m.result z.result s.result;
     effects = λ a l. s.effects a (z.effects a l);
   }
@@ -209,12 +226,17 @@ module _ (P : PlainProgram) (wt : WellTyped P) where
   pub signature_at : {c : ℕ} {rs : List Region} (n : ℕ) (A : MemberAt c rs n) (own : List Region) → GoodObject P c rs →
       length own ≡ length A.member.params → Signature A.member (length (A.regions ++ own))
   signature_at n A own g lo = subst (Signature A.member) (sym long) (record {
-    formals = λ x t e. closed_type P (member_scope gm.class A.member) (λ y. refl) (λ r z. false≢true z) 0 t (all_get (GoodType P (member_scope gm.class A.member) 0) A.member.formals x t gm.formals e);
+    formals = λ x t e. closed_type P (member_scope gm.class A.member) (λ y. refl) (λ r z. false≢true z) 0 t
+        (all_get (GoodType P (member_scope gm.class A.member) 0) A.member.formals x t gm.formals e);
     result = elim gm.result [
       | inl v ↦ subst (ClosedType (length (gm.class.params ++ A.member.params)) 0) (sym v) tt
       | inr r ↦ closed_type P (member_scope gm.class A.member) (λ y. refl) (λ r z. false≢true z) 0 A.member.result r
     ];
-    given = λ k d l. (let z = gm.given k d l in (closed_path P (member_scope gm.class A.member) (λ y. refl) 0 _ z.0, closed_path P (member_scope gm.class A.member) (λ y. refl) 0 _ z.1));
+    given = λ k d l. (let z = gm.given k d l in (
+      closed_path P (member_scope gm.class A.member) (λ y. refl) 0 _ z.0,
+      closed_path P
+          (member_scope gm.class A.member) (λ y. refl) 0 _ z.1,
+    ));
     summary = λ k d l. closed_path P (member_scope gm.class A.member) (λ y. refl) 0 _ (gm.summary k d l);
   })
     where
@@ -241,7 +263,8 @@ module _ (P : PlainProgram) (wt : WellTyped P) where
     result = same_trans outer w.result outer (type_with σ A.member.result) inner A.member.result (same_type outer w.result (type_with σ A.member.result) o.result)
         (same_with N 0 outer inner σ st A.member.result sig.result (λ p _. full p));
     effects = λ a l. lies_down N (class_ground (rs ++ own)) (class_ground (A.regions ++ own)) σ st full a A.member.summary sig.summary
-        (summary_lies (class_ground (rs ++ own)) (ground_env [] (class_ground (rs ++ own)) plain unmade_one (λ k c l. absurd (omega (arith, l)))) a (map (effect_with σ) A.member.summary) w.summary o.covered l);
+        (summary_lies (class_ground (rs ++ own)) (ground_env [] (class_ground (rs ++ own)) plain unmade_one (λ k c l. absurd (omega (arith, l)))) a
+        (map (effect_with σ) A.member.summary) w.summary o.covered l);
   }
     where
       outer : Env
@@ -261,8 +284,10 @@ module _ (P : PlainProgram) (wt : WellTyped P) where
 
       shown : Shown (class_env (rs ++ own)) (o.seen ++ method_paths g.class A.member) (A.regions ++ own)
       shown = shown_both
-          (above_shown (class_env (rs ++ own)) o.sees A.is_one refl refl g (subst (λ n. Shown (class_env (rs ++ own)) (params_from 0 n) rs) g.arity (class_params rs own)))
-          (subst (λ n. Shown (class_env (rs ++ own)) (params_from n (length A.member.params)) own) g.arity (subst (λ n. Shown (class_env (rs ++ own)) (params_from (length rs) n) own) lo (method_params rs own)))
+          (above_shown (class_env (rs ++ own)) o.sees A.is_one refl refl g
+          (subst (λ n. Shown (class_env (rs ++ own)) (params_from 0 n) rs) g.arity (class_params rs own)))
+          (subst (λ n. Shown (class_env (rs ++ own)) (params_from n (length A.member.params)) own) g.arity
+          (subst (λ n. Shown (class_env (rs ++ own)) (params_from (length rs) n) own) lo (method_params rs own)))
 
       st : Stands (length (A.regions ++ own)) 0 (class_env (rs ++ own)) (class_env (A.regions ++ own)) (o.seen ++ method_paths g.class A.member)
       st = shown_stands 0 shown refl

@@ -54,7 +54,8 @@ module _ (given : List Constraint) (env : Env) (v : IsEnv given env) (a c : Acce
   pair_quiet : (e f : Effect) → clashes given None e f ≡ false → Matches env e.rpl a.region × (a.write ≡ true → is_write e.access ≡ true) →
       Matches env f.rpl c.region × (c.write ≡ true → is_write f.access ≡ true) → ⊥
   pair_quiet e f h x y =
-      let w = ⊎_elim (λ t. or_left (is_write e.access) (is_write f.access) (x.1 t)) (λ t. or_right (is_write e.access) (is_write f.access) (y.1 t)) (or_cases a.write c.write meet.write) in
+      let w = ⊎_elim (λ t. or_left (is_write e.access) (is_write f.access) (x.1 t)) (λ t. or_right (is_write e.access) (is_write f.access) (y.1 t))
+      (or_cases a.write c.write meet.write) in
       no_common given env v e.rpl f.rpl (effects_apart given e f h w) a.region x.0 (subst (λ z. Matches env f.rpl z) (sym meet.region) y.0)
 
   one_quiet : (e : Effect) (fs : List Effect) → some_clashes given None e fs ≡ false →
@@ -72,11 +73,13 @@ own_speaks g (uses k e) a h = h.0
 
 -- what lies in effects is reached, in an environment in which they match the same
 reached : (g : Ground) (env : Env) (f : Effect → Effect) → (a : Access) (E : List EffectOwn) →
-    All (λ o. (r : List Elem) → Matches (env_of g) (effect_of o).rpl r → Matches env (f (effect_of o)).rpl r × ((f (effect_of o)).access ≡ (effect_of o).access)) E → LiesIn g E a → Reaches env (map f (as_effects E)) a
+    All (λ o. (r : List Elem) → Matches (env_of g) (effect_of o).rpl r → Matches env (f (effect_of o)).rpl r ×
+    ((f (effect_of o)).access ≡ (effect_of o).access)) E → LiesIn g E a → Reaches env (map f (as_effects E)) a
 reached g env f a [] s h = h
 reached g env f a (o ∷ E) s h = elim h [
   | inl c ↦ (let q = own_speaks g o a c in
-      let m = All-head (λ o. (r : List Elem) → Matches (env_of g) (effect_of o).rpl r → Matches env (f (effect_of o)).rpl r × ((f (effect_of o)).access ≡ (effect_of o).access)) o E s a.region q.matches in
+      let m = All-head (λ o. (r : List Elem) → Matches (env_of g) (effect_of o).rpl r → Matches env (f (effect_of o)).rpl r ×
+      ((f (effect_of o)).access ≡ (effect_of o).access)) o E s a.region q.matches in
       inl (m.0, λ w. ap is_write m.1 ∙ q.writes w))
   | inr r ↦ inr (reached g env f a E (All-tail (λ o. (r : List Elem) → Matches (env_of g) (effect_of o).rpl r → Matches env (f (effect_of o)).rpl r × ((f (effect_of o)).access ≡ (effect_of o).access)) o E s) r)
 ]
@@ -115,7 +118,8 @@ put_other : (g : Ground) (x : ℕ) (j k m : ℤ) → m ≡ k → (L : Scope) (y 
     put_elem (env_of (with_number x k g)) y ≡ put_elem (with_index (with_copy (env_of (with_number x j g)) x k) x m) y
 put_other g x j k m e L (Name n) s = refl
 put_other g x j k m e L (At (Literal i)) s = refl
-put_other g x j k m e L (At (Variable w)) s = ap (λ z. At (Literal z)) (index_twice x w j k (g.index w) (x == w) ∙ ap (λ z. cond (x == w) z (cond (x == w) j (g.index w))) (sym e))
+put_other g x j k m e L (At (Variable w)) s = ap (λ z. At (Literal z))
+    (index_twice x w j k (g.index w) (x == w) ∙ ap (λ z. cond (x == w) z (cond (x == w) j (g.index w))) (sym e))
 put_other g x j k m e L (At (Renamed w)) s = absurd s
 put_other g x j k m e L (At (Own d)) s = refl
 put_other g x j k m e L Any s = refl
@@ -146,7 +150,8 @@ iterations_quiet P given L g x j k v none E s h ne a c meet la lc =
 
     first : (b : Rpl) → PathInScope L 0 b → (r : List Elem) → Matches (env_of (with_number x j g)) b r →
         Matches (with_copy (env_of (with_number x j g)) x k) b r
-    first b t r m = (matches_by_what_occurs (env_of (with_number x j g)) (with_copy (env_of (with_number x j g)) x k) b (record { head = head_copy (env_of (with_number x j g)) x k b.head; elems = λ i d l. put_copy (env_of (with_number x j g)) x k L _ (t i d l) }) r).0 m
+    first b t r m = (matches_by_what_occurs (env_of (with_number x j g)) (with_copy (env_of (with_number x j g)) x k) b
+        (record { head = head_copy (env_of (with_number x j g)) x k b.head; elems = λ i d l. put_copy (env_of (with_number x j g)) x k L _ (t i d l) }) r).0 m
 
     second : (b : Rpl) → PathInScope L 0 b → (r : List Elem) → Matches (env_of (with_number x k g)) b r →
         Matches (with_copy (env_of (with_number x j g)) x k) (renamed_rpl x b) r

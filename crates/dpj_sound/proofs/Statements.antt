@@ -100,7 +100,15 @@ module _ (P : PlainProgram) (b : Bounds) where
           InOrder P b R st (write_cell at n p u f)
       write p e n is i' =
           let s = inside_part i (number (slot_value f.values (k + 2))) _ p e in
-          let cell : Touches P st.shapes n p = record { shape = elements i'.ground i'.element i'.rpl; is = i'.shape; env = under p (env_of i'.ground); ty = i'.element; rpl = i'.rpl; cell = of_array } in
+          let cell : Touches P st.shapes n p = record {
+            shape = elements i'.ground i'.element i'.rpl;
+            is = i'.shape;
+            env = under p
+                (env_of i'.ground);
+            ty = i'.element;
+            rpl = i'.rpl;
+            cell = of_array;
+          } in
           let region = (put_in (under p (env_of i'.ground)) i'.rpl).elems in
           order_write R st at n p u f
           (record {
@@ -135,10 +143,12 @@ module _ (P : PlainProgram) (b : Bounds) where
     -- a write of a field, or the trap at null
     field_write : (R : State → Result → Type 0) (st : State) (at : Place) (f : Frame) (c k : ℕ) (args : List Rpl) (fd : PlainField) →
         field_at P c k ≡ Some fd → Known args fd.ty →
-        All (PathInScope L 0) args → Within b st.entries g (does (writes (substituted args fd.region)) ∷ []) → (u : Value) → FitsIn P st.shapes (env_of g) (type_with args fd.ty) u →
+        All (PathInScope L 0) args → Within b st.entries g (does (writes (substituted args fd.region)) ∷ []) → (u : Value) → FitsIn P st.shapes
+        (env_of g) (type_with args fd.ty) u →
         (v : Value) → FitsIn P st.shapes (env_of g) (class c args) v → ((h : State) → Since st h → R h (Goes_on none f)) →
         InOrder P b R st (unless_null at v (λ n. write_cell at n (pos k) u f))
-    field_write R st at f c k args fd e kn al w u fu v fv next = order_unless P b R st at (Instance P st.shapes (env_of g) c args) (λ n. write_cell at n (pos k) u f) go v fv
+    field_write R st at f c k args fd e kn al w u fu v fv next = order_unless P b R st at (Instance P st.shapes (env_of g) c args)
+        (λ n. write_cell at n (pos k) u f) go v fv
       where
         go : (n : Name) → Instance P st.shapes (env_of g) c args n → InOrder P b R st (write_cell at n (pos k) u f)
         go n i =
@@ -152,9 +162,16 @@ module _ (P : PlainProgram) (b : Bounds) where
             let cell : Touches P st.shapes n (pos k) = record { shape = object i.class i.made_with; is = i.shape; env = class_env i.made_with; ty = fa.field.ty; rpl = fa.field.region; cell = of_object fa.there } in
             let region = (put_in (class_env i.made_with) fa.field.region).elems in
             order_write R st at n (pos k) u f
-            (record { cell = cell; allowed = w (access_of b st n (pos k) true region) (λ e. e) (inl (speaks_write g (substituted args fd.region) (access_of b st n (pos k) true region) (path_up m 0 (env_of g) (class_env i.regions) args st' fd.region path region own))) })
-            (fits_same P st.shapes (class_env i.regions) fd.ty (class_env i.made_with) fa.field.ty (same_sym (class_env i.made_with) fa.field.ty (class_env i.regions) fd.ty fa.types) u
-            (fits_with_down P st.shapes m (env_of g) (class_env i.regions) args st' fd.ty (closed_type P (class_scope good.class) (λ y. refl) (λ r t. false≢true t) 0 fd.ty gf.ty) kn u fu))
+            (record {
+              cell = cell;
+              allowed = w (access_of b st n (pos k) true region) (λ e. e)
+                  (inl (speaks_write g (substituted args fd.region) (access_of b st n (pos k) true region)
+                  (path_up m 0 (env_of g) (class_env i.regions) args st' fd.region path region own)));
+            })
+            (fits_same P st.shapes (class_env i.regions) fd.ty (class_env i.made_with) fa.field.ty
+            (same_sym (class_env i.made_with) fa.field.ty (class_env i.regions) fd.ty fa.types) u
+            (fits_with_down P st.shapes m (env_of g) (class_env i.regions) args st' fd.ty
+            (closed_type P (class_scope good.class) (λ y. refl) (λ r t. false≢true t) 0 fd.ty gf.ty) kn u fu))
             next
 
     element_write : (R : State → Result → Type 0) (st : State) (at : Place) (f : Frame) (t : PlainType) (a : Rpl) (named : Bool) (x : Elem) (k : ℤ) →
@@ -163,14 +180,27 @@ module _ (P : PlainProgram) (b : Bounds) where
         FitsIn P st.shapes (env_of g) (type_at 0 x t) u →
         (v : Value) → FitsIn P st.shapes (env_of g) (array t a named) v → ((h : State) → Since st h → R h (Goes_on none f)) →
         InOrder P b R st (unless_null at v (λ n. write_cell at n k u f))
-    element_write R st at f t a named x k ix fx kn w u fu v fv next = order_unless P b R st at (ArrayInstance st.shapes (env_of g) t a) (λ n. write_cell at n k u f) go v fv
+    element_write R st at f t a named x k ix fx kn w u fu v fv next = order_unless P b R st at (ArrayInstance st.shapes (env_of g) t a)
+        (λ n. write_cell at n k u f) go v fv
       where
         go : (n : Name) → ArrayInstance st.shapes (env_of g) t a n → InOrder P b R st (write_cell at n k u f)
         go n i =
-            let cell : Touches P st.shapes n k = record { shape = elements i.ground i.element i.rpl; is = i.shape; env = under k (env_of i.ground); ty = i.element; rpl = i.rpl; cell = of_array } in
+            let cell : Touches P st.shapes n k = record {
+              shape = elements i.ground i.element i.rpl;
+              is = i.shape;
+              env = under k
+                  (env_of i.ground);
+              ty = i.element;
+              rpl = i.rpl;
+              cell = of_array;
+            } in
             let region = (put_in (under k (env_of i.ground)) i.rpl).elems in
             order_write R st at n k u f
-            (record { cell = cell; allowed = w (access_of b st n k true region) (λ e. e) (inl (speaks_write g (path_at 0 x a) (access_of b st n k true region) (region_at_up g x k fx a region (i.region k)))) })
+            (record {
+              cell = cell;
+              allowed = w (access_of b st n k true region) (λ e. e)
+                  (inl (speaks_write g (path_at 0 x a) (access_of b st n k true region) (region_at_up g x k fx a region (i.region k))));
+            })
             (fits_same P st.shapes (under k (env_of g)) t (under k (env_of i.ground)) i.element (i.same k) u (fits_at_down P st.shapes g x ix k fx t kn u fu))
             next
 
@@ -187,7 +217,8 @@ module _ (P : PlainProgram) (wt : WellTyped P) (b : Bounds) (dp : Option Deeper)
   sub_fits : (L : Scope) → GoodScope L → (g : Ground) {e : TypedExpr} {E : List EffectOwn} {t : PlainType} → Has P L e E → Subtype P (type_of e) t →
       {st : State} {f : Frame} → FrameFits P b.path st g L f → (S : Shapes) (v : Value) →
       FitsIn P S (env_of g) (type_of e) v → FitsIn P S (env_of g) t v
-  sub_fits L good g {e = e} h sub ff S v fv = subtype_fits P wt S (env_of g) (env_alone L.given (env_of g) (frame_env ff)) refl sub (type_alone L (type_of e) (typed_in P wt L good h)) v fv
+  sub_fits L good g {e = e} h sub ff S v fv = subtype_fits P wt S (env_of g) (env_alone L.given (env_of g) (frame_env ff)) refl sub
+      (type_alone L (type_of e) (typed_in P wt L good h)) v fv
 
   -- behind the test of a loop, and its body
   tested : (L : Scope) (g : Ground) (e : TypedExpr) (st : State) (f : Frame) → FrameFits P b.path st g L f → (u : State) (r : Result) →
@@ -272,9 +303,11 @@ module _ (P : PlainProgram) (wt : WellTyped P) (b : Bounds) (dp : Option Deeper)
     stmt_order {L} (store_element {at = at} {a = a} {i = i} {e = e} {t = t} {rpl = rpl} {named = named} {E = E} {F = F} {G = G} ha ty hi ti rg he sub) q good g st f ff w =
         behind L good g ha _ _ st f ff (within_left b st.entries g E _ w)
         (λ h1 v s fv ix. behind L good g hi _ _ h1 f (frame_since s ff) (within_since b s g _ (within_left b st.entries g F _ (within_right b st.entries g E _ w)))
-        (λ h2 j s2 fj ij. behind L good g he _ _ h2 f (frame_since (since_since s s2) ff) (within_since b (since_since s s2) g _ (within_left b st.entries g G _ (within_right b st.entries g F _ (within_right b st.entries g E _ w))))
+        (λ h2 j s2 fj ij. behind L good g he _ _ h2 f (frame_since (since_since s s2) ff)
+        (within_since b (since_since s s2) g _ (within_left b st.entries g G _ (within_right b st.entries g F _ (within_right b st.entries g E _ w))))
         (λ h3 u s3 fu iu. element_write P b wt L g (Left P b L g true st) h3 at f t rpl named (index_elem L i) (number j) (index_in L i).0 ij rg
-        (within_since b (since_since (since_since s s2) s3) g (does (writes (path_at 0 (index_elem L i) rpl)) ∷ []) (within_right b st.entries g G _ (within_right b st.entries g F _ (within_right b st.entries g E _ w)))) u
+        (within_since b (since_since (since_since s s2) s3) g (does (writes (path_at 0 (index_elem L i) rpl)) ∷ [])
+        (within_right b st.entries g G _ (within_right b st.entries g F _ (within_right b st.entries g E _ w)))) u
         (sub_fits L good g he sub ff h3.shapes u fu) v
         (fits_grows P h1.shapes h3.shapes (since_since s2 s3).grows (env_of g) (array t rpl named) v (subst (λ z. FitsIn P h1.shapes (env_of g) z v) ty fv))
         (λ h4 s4. (refl, since_since (since_since (since_since s s2) s3) s4, frame_since (since_since (since_since (since_since s s2) s3) s4) ff)))))
@@ -291,32 +324,40 @@ module _ (P : PlainProgram) (wt : WellTyped P) (b : Bounds) (dp : Option Deeper)
         behind L good g h _ _ st f ff (within_left b st.entries g E F w)
         (λ h1 v s fv ix. order_choose P b (Left P b L g true st) h1 (truth v) (gives none f) (of_stmt (named_by b.path) P dp a f)
         (order_ret P b (Left P b L g true st) h1 (Goes_on none f) (refl, s, frame_since s ff))
-        (order_post P b (Left P b L g (completes a) h1) (Left P b L g true st) (λ u r y. left_since P b L g (completes a) true st h1 u r s (λ e. refl) y) (of_stmt (named_by b.path) P dp a f) h1
+        (order_post P b (Left P b L g (completes a) h1) (Left P b L g true st)
+        (λ u r y. left_since P b L g (completes a) true st h1 u r s (λ e. refl) y) (of_stmt (named_by b.path) P dp a f) h1
         (single_order p q good g h1 f (frame_since s ff) (within_since b s g F (within_right b st.entries g E F w)))))
     stmt_order {L} (choice_else {s = a} {t = c} {E = E} {F = F} {G = G} h ty p r) q good g st f ff w =
         behind L good g h _ _ st f ff (within_left b st.entries g E _ w)
-        (λ h1 v s fv ix. order_choose P b (Left P b L g (completes a || completes c) st) h1 (truth v) (of_stmt (named_by b.path) P dp c f) (of_stmt (named_by b.path) P dp a f)
+        (λ h1 v s fv ix. order_choose P b (Left P b L g (completes a || completes c) st) h1 (truth v) (of_stmt (named_by b.path) P dp c f)
+        (of_stmt (named_by b.path) P dp a f)
         (order_post P b (Left P b L g (completes c) h1) (Left P b L g (completes a || completes c) st)
-        (λ u x y. left_since P b L g (completes c) (completes a || completes c) st h1 u x s (or_right (completes a) (completes c)) y) (of_stmt (named_by b.path) P dp c f) h1
+        (λ u x y. left_since P b L g (completes c) (completes a || completes c) st h1 u x s (or_right (completes a) (completes c)) y)
+        (of_stmt (named_by b.path) P dp c f) h1
         (single_order r q.1 good g h1 f (frame_since s ff) (within_since b s g G (within_right b st.entries g F G (within_right b st.entries g E _ w)))))
         (order_post P b (Left P b L g (completes a) h1) (Left P b L g (completes a || completes c) st)
-        (λ u x y. left_since P b L g (completes a) (completes a || completes c) st h1 u x s (or_left (completes a) (completes c)) y) (of_stmt (named_by b.path) P dp a f) h1
+        (λ u x y. left_since P b L g (completes a) (completes a || completes c) st h1 u x s (or_left (completes a) (completes c)) y)
+        (of_stmt (named_by b.path) P dp a f) h1
         (single_order p q.0 good g h1 f (frame_since s ff) (within_since b s g F (within_left b st.entries g F G (within_right b st.entries g E _ w))))))
     stmt_order {L} (while_loop {e = e} {s = a} {E = E} {F = F} h ty p) q good g st f ff w = (
       L,
       g,
       ff,
-      λ h1 f1 s ff1. order_post P b _ _ (λ u r y. tested L g e h1 f1 ff1 u r y) _ h1 (expr_order P wt b dp dd L good g h (Yields P L g e h1 f1) h1 f1 ff1 (within_since b s g E (within_left b st.entries g E F w)) (yields P L g e h1 f1)),
-      λ h1 f1 s ff1. order_post P b _ _ (λ u r y. rounded L g (completes a) h1 u r y) _ h1 (single_order p q good g h1 f1 ff1 (within_since b s g F (within_right b st.entries g E F w))),
+      λ h1 f1 s ff1. order_post P b _ _ (λ u r y. tested L g e h1 f1 ff1 u r y) _ h1
+          (expr_order P wt b dp dd L good g h (Yields P L g e h1 f1) h1 f1 ff1 (within_since b s g E (within_left b st.entries g E F w)) (yields P L g e h1 f1)),
+      λ h1 f1 s ff1. order_post P b _ _ (λ u r y. rounded L g (completes a) h1 u r y) _ h1
+          (single_order p q good g h1 f1 ff1 (within_since b s g F (within_right b st.entries g E F w))),
       λ h1 r y. looped L g st h1 r y,
     )
     stmt_order {L} (return_nothing e) q good g st f ff w = (since_now st, subst (λ z. ReturnFits P st.shapes g z none) (sym e) tt)
     stmt_order {L} (return_value {e = e} {t = t} k h sub) q good g st f ff w =
         behind L good g h _ _ st f ff w (λ h1 v s fv ix. (s, subst (λ z. ReturnFits P h1.shapes g z v) (sym k) (sub_fits L good g h sub ff h1.shapes v fv)))
     stmt_order {L} (print_int h ty) q good g st f ff w =
-        behind L good g h _ _ st f ff w (λ h1 v s fv ix. order_prints P b (Left P b L g true st) h1 (text_of v) f (λ u s2. (refl, since_since s s2, frame_since (since_since s s2) ff)))
+        behind L good g h _ _ st f ff w (λ h1 v s fv ix. order_prints P b (Left P b L g true st) h1 (text_of v) f
+        (λ u s2. (refl, since_since s s2, frame_since (since_since s s2) ff)))
     stmt_order {L} (print_boolean h ty) q good g st f ff w =
-        behind L good g h _ _ st f ff w (λ h1 v s fv ix. order_prints P b (Left P b L g true st) h1 (text_of v) f (λ u s2. (refl, since_since s s2, frame_since (since_since s s2) ff)))
+        behind L good g h _ _ st f ff w (λ h1 v s fv ix. order_prints P b (Left P b L g true st) h1 (text_of v) f
+        (λ u s2. (refl, since_since s s2, frame_since (since_since s s2) ff)))
     stmt_order {L} (print_text {text = text}) q good g st f ff w = order_prints P b (Left P b L g true st) st text f (λ u s. (refl, s, frame_since s ff))
     stmt_order {L} (atomic {entry = entry} {ss = ss} {E = E} p se) q good g st f ff w = (
       tt,
@@ -324,7 +365,8 @@ module _ (P : PlainProgram) (wt : WellTyped P) (b : Bounds) (dp : Option Deeper)
         tt,
         λ y u enters ans'.
             (let s : Since st h = since_after Rest refl after in
-            let e : u.entries ≡ map (concrete_effect (named_by b.path) (around f)) entry ∷ st.entries = enters.entries ∙ ap (λ z. map (concrete_effect (named_by b.path) (around f)) entry ∷ z) s.entries in
+            let e : u.entries ≡ map (concrete_effect (named_by b.path) (around f)) entry ∷ st.entries = enters.entries ∙ ap
+            (λ z. map (concrete_effect (named_by b.path) (around f)) entry ∷ z) s.entries in
             let grown : Grows st.shapes u.shapes = (λ n z i. enters.grows n z (s.grows n z i)) in
             let made : st.made ≤ u.made = (let m = s.made in let n = enters.made in omega (arith, m, n)) in
             order_on P b (Left P b (in_atomic_block L) g (all_complete ss) u) (Left P b L g true st) (next_of (λ v k. Act Exit (λ c. gives none k)))
@@ -354,7 +396,8 @@ module _ (P : PlainProgram) (wt : WellTyped P) (b : Bounds) (dp : Option Deeper)
     stmts_order {L} (then' {s = s} {ss = ss} {E = E} {F = F} p c rest) q good g st f ff w =
         order_on P b (Left P b L g (completes s) st) _ (next_of (λ v h. of_stmts (named_by b.path) P dp ss h))
         (followed L g (completes s) (completes s && all_complete ss) st (λ v h. of_stmts (named_by b.path) P dp ss h)
-        (λ h c v cs s2 ffc. order_post P b (Left P b L g (all_complete ss) h) _ (λ u r y. left_since P b L g (all_complete ss) (completes s && all_complete ss) st h u r s2 (λ e. and_from _ _ cs e) y) _ h
+        (λ h c v cs s2 ffc. order_post P b (Left P b L g (all_complete ss) h) _
+        (λ u r y. left_since P b L g (all_complete ss) (completes s && all_complete ss) st h u r s2 (λ e. and_from _ _ cs e) y) _ h
         (stmts_order rest q.1 good g h c ffc (within_since b s2 g F (within_right b st.entries g E F w)))))
         _ st (stmt_order p q.0 good g st f ff (within_left b st.entries g E F w))
     stmts_order {L} (declare {x = x} {t = t} {is_final = is_final} {e = e} {ss = ss} {E = E} {F = F} free gt h sub rest) q good g st f ff w =
@@ -368,7 +411,8 @@ module _ (P : PlainProgram) (wt : WellTyped P) (b : Bounds) (dp : Option Deeper)
         (λ a gu l. within_since b s2 g _ (within_right b st.entries g E _ w) a gu
         (lies_general g x (number v) (with_local x (declared_as is_final t) L) F a
         (stmts_effects_in P wt rest (good_declare L good x is_final t free (good_type P L 0 t gt)) q.1) l)))))
-        _ st (behind L good g h (Declared g t x st f) _ st f ff (within_left b st.entries g E _ w) (λ h1 v s2 fv ix. order_ret P b (Declared g t x st f) h1 (Goes_on none (with_value f x v)) (v, s2, sub_fits L good g h sub ff h1.shapes v fv, refl)))
+        _ st (behind L good g h (Declared g t x st f) _ st f ff (within_left b st.entries g E _ w)
+        (λ h1 v s2 fv ix. order_ret P b (Declared g t x st f) h1 (Goes_on none (with_value f x v)) (v, s2, sub_fits L good g h sub ff h1.shapes v fv, refl)))
     stmts_order (declare_regions fr rest) q good g st f ff w = absurd q.0
 
 left_leaves : (P : PlainProgram) (b : Bounds) (L : Scope) (g : Ground) (ss : TypedStmts) (st h : State) (r : Result) →
@@ -377,7 +421,8 @@ left_leaves P b L g ss st h (Goes_on v f) y = y
 left_leaves P b L g ss st h (Returns v) y = y
 
 pub sequential_in_order : SequentialInOrder
-sequential_in_order P wt b dp dd L ss E p q good g st f ff w = order_post P b (Left P b L g (all_complete ss) st) (Leaves P b L g ss st) (left_leaves P b L g ss st) _ st (stmts_order P wt b dp dd p q good g st f ff w)
+sequential_in_order P wt b dp dd L ss E p q good g st f ff w = order_post P b (Left P b L g (all_complete ss) st) (Leaves P b L g ss st)
+    (left_leaves P b L g ss st) _ st (stmts_order P wt b dp dd p q good g st f ff w)
 
 -- at each depth of calls, by recursion on it
 module _ (P : PlainProgram) (wt : WellTyped P) (plain : (n : ℕ) (m : PlainMember) → member_at P n ≡ Some m → AreSequential m.body) (b : Bounds) where

@@ -102,7 +102,15 @@ module _ (P : PlainProgram) (b : Bounds) where
           ArrayInstance st.shapes (env_of g) t a n → InOrder P b R st (read_cell at n p f)
       read p e n v is i' =
           let s = inside_part i (number (slot_value f.values (k + 2))) (int_wrapping_add w32 (number (slot_value f.values (k + 1))) i) p e in
-          let cell : Touches P st.shapes n p = record { shape = elements i'.ground i'.element i'.rpl; is = i'.shape; env = under p (env_of i'.ground); ty = i'.element; rpl = i'.rpl; cell = of_array } in
+          let cell : Touches P st.shapes n p = record {
+            shape = elements i'.ground i'.element i'.rpl;
+            is = i'.shape;
+            env = under p
+                (env_of i'.ground);
+            ty = i'.element;
+            rpl = i'.rpl;
+            cell = of_array;
+          } in
           let region = (put_in (under p (env_of i'.ground)) i'.rpl).elems in
           order_read P b R st at n p f
           (record {
@@ -119,7 +127,8 @@ module _ (P : PlainProgram) (b : Bounds) where
             ));
           })
           (λ y u h fy. next y u h (fits_same P u.shapes (under p (env_of g)) t (env_of g) t (same_inside g p t pf.none_mentioned) y
-          (fits_same P u.shapes (under p (env_of i'.ground)) i'.element (under p (env_of g)) t (same_sym (under p (env_of g)) t (under p (env_of i'.ground)) i'.element (i'.same p)) y fy)))
+          (fits_same P u.shapes (under p (env_of i'.ground)) i'.element (under p (env_of g)) t
+          (same_sym (under p (env_of g)) t (under p (env_of i'.ground)) i'.element (i'.same p)) y fy)))
 
       by_value : (p : ℤ) → part_place k i f.values ≡ Some p → (v : Value) → slot_value f.values k ≡ v →
           FitsIn P st.shapes (env_of g) (array t a false) v → InOrder P b R st (unless_null at v (λ n. read_cell at n p f))
@@ -134,7 +143,8 @@ module _ (P : PlainProgram) (b : Bounds) where
 
 -- what is to hold behind an expression, wherever it gives a value of its type
 abbrev pub Next : PlainProgram → Scope → Ground → (State → Result → Type 0) → TypedExpr → State → Frame → Type 0
-Next P L g R e st f = (h : State) (v : Value) → Since st h → FitsIn P h.shapes (env_of g) (type_of e) v → Fits (env_of g) (index_elem L e) (At (Literal (number v)) ∷ []) → R h (Goes_on v f)
+Next P L g R e st f = (h : State) (v : Value) → Since st h → FitsIn P h.shapes (env_of g) (type_of e) v → Fits (env_of g) (index_elem L e)
+    (At (Literal (number v)) ∷ []) → R h (Goes_on v f)
 
 pub yields : (P : PlainProgram) (L : Scope) (g : Ground) (e : TypedExpr) (st : State) (f : Frame) → Next P L g (Yields P L g e st f) e st f
 yields P L g e st f h v s fv ix = (s, refl, fv, ix)
@@ -177,7 +187,8 @@ module _ (P : PlainProgram) (wt : WellTyped P) (b : Bounds) (dp : Option Deeper)
         (λ o i. call_order P wt b L g dp dd R h2 at f (frame_since (since_since s s2) ff) c r n args owned regions m rw mb ab ga fu kn rd
         (paths_alone L args (subst (TypeInScope L 0) ty (typed_in P wt L good h)))
         (within_since b (since_since s s2) g _ (within_right b st.entries g F _ (within_right b st.entries g E _ w))) (reverse (onto vs []))
-        (subst (λ z. AllZip (λ t v. FitsIn P h2.shapes (env_of g) t v) (map (type_with (owned ++ regions)) m.formals) z) (sym (reverse_onto vs [])) fits) _ (λ q. refl) o i
+        (subst (λ z. AllZip (λ t v. FitsIn P h2.shapes (env_of g) t v) (map (type_with (owned ++ regions)) m.formals) z)
+        (sym (reverse_onto vs [])) fits) _ (λ q. refl) o i
         (λ x u s3 fx. next u x (since_since (since_since s s2) s3) (subst (λ z. FitsIn P u.shapes (env_of g) z x) (sym eq) fx) (number x, refl)))
         v (fits_grows P h1.shapes h2.shapes s2.grows (env_of g) (class c args) v (subst (λ z. FitsIn P h1.shapes (env_of g) z v) ty fv))))
     expr_order (create_object {at = at} {c = c} {args = args} {k = k} e ga fu kn) R st f ff w next =
@@ -189,11 +200,14 @@ module _ (P : PlainProgram) (wt : WellTyped P) (b : Bounds) (dp : Option Deeper)
         (within_since b s g _ (within_right b st.entries g F _ w)) (λ v u s2 fv. next u v (since_since s s2) fv (number v, refl)))
     expr_order (make_array {at = at} {n = n} {t = t} {a = a} {named = named} gt fu h ty) R st f ff w next =
         order_then P b L g n f R _ st _ (expr_order h (Yields P L g n st f) st f ff w (yields P L g n st f))
-        (λ h1 v s fv ix. order_new_array P wt b L g h1 f (frame_since s ff) R at t a named gt fu (number v) (λ x u s2 fx. next u x (since_since s s2) fx (number x, refl)))
+        (λ h1 v s fv ix. order_new_array P wt b L g h1 f (frame_since s ff) R at t a named gt fu (number v)
+        (λ x u s2 fx. next u x (since_since s s2) fx (number x, refl)))
     expr_order (negative {e = e} h ty) R st f ff w next =
-        order_then P b L g e f R _ st _ (expr_order h (Yields P L g e st f) st f ff w (yields P L g e st f)) (λ h1 v s fv ix. order_ret P b R h1 _ (next h1 _ s tt (_, refl)))
+        order_then P b L g e f R _ st _ (expr_order h (Yields P L g e st f) st f ff w (yields P L g e st f))
+        (λ h1 v s fv ix. order_ret P b R h1 _ (next h1 _ s tt (_, refl)))
     expr_order (negation {e = e} h ty) R st f ff w next =
-        order_then P b L g e f R _ st _ (expr_order h (Yields P L g e st f) st f ff w (yields P L g e st f)) (λ h1 v s fv ix. order_ret P b R h1 _ (next h1 _ s tt (_, refl)))
+        order_then P b L g e f R _ st _ (expr_order h (Yields P L g e st f) st f ff w (yields P L g e st f))
+        (λ h1 v s fv ix. order_ret P b R h1 _ (next h1 _ s tt (_, refl)))
     expr_order (operation {at = at} {t = t} {o = o} {a = a} {b = c} {E = E} {F = F} ha hc ops eq) R st f ff w next =
         order_then P b L g a f R _ st _ (expr_order ha (Yields P L g a st f) st f ff (within_left b st.entries g E F w) (yields P L g a st f))
         (λ h1 v s fv ix. order_then P b L g c f R _ h1 _
@@ -215,7 +229,8 @@ module _ (P : PlainProgram) (wt : WellTyped P) (b : Bounds) (dp : Option Deeper)
         order_ret P b R st (Goes_on (slot_value f.values (k + 2)) f) (next st (slot_value f.values (k + 2)) (since_now st) (ff.each k (part t a) e).len (_, refl))
     expr_order (read_part {at = at} {k = k} {t = t} {a = a} {i = i} {E = E} e h ty) R st f ff w next =
         order_then P b L g i f R _ st _ (expr_order h (Yields P L g i st f) st f ff (within_left b st.entries g E _ w) (yields P L g i st f))
-        (λ h1 v s fv ix. part_order P b R h1 at f g k t a (number v) ((frame_since s ff).each k (part t a) e) (within_since b s g (uses k (reads a) ∷ []) (within_right b st.entries g E _ w))
+        (λ h1 v s fv ix. part_order P b R h1 at f g k t a (number v) ((frame_since s ff).each k (part t a) e)
+        (within_since b s g (uses k (reads a) ∷ []) (within_right b st.entries g E _ w))
         (λ x u s2 fx. next u x (since_since s s2) fx (number x, refl)))
 
     actuals_order : {es : TypedExprs} {ts : List PlainType} {E : List EffectOwn} → Fit P L es ts E →

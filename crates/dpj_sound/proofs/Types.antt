@@ -28,24 +28,33 @@ pub match_same : (env other : Env) (args : List Rpl) → All (λ a. (r : List El
 match_same env other [] h [] m = m
 match_same env other [] h (r ∷ rs) m = absurd m
 match_same env other (a ∷ args) h [] m = absurd m
-match_same env other (a ∷ args) h (r ∷ rs) m =
-    (All-head (λ a. (r : List Elem) → Matches env a r → Matches other a r) a args h (elems_of r) m.0, match_same env other args (All-tail (λ a. (r : List Elem) → Matches env a r → Matches other a r) a args h) rs m.1)
+match_same env other (a ∷ args) h (r ∷ rs) m = (
+  All-head (λ a. (r : List Elem) → Matches env a r → Matches other a r) a args h (elems_of r) m.0,
+  match_same env other args
+      (All-tail (λ a. (r : List Elem) → Matches env a r → Matches other a r) a args h) rs m.1,
+)
 
 pub match_onto : (env other : Env) (f : Rpl → Rpl) (args : List Rpl) → All (λ a. (r : List Elem) → Matches env a r → Matches other (f a) r) args →
     (rs : List Region) → AllMatch env args rs → AllMatch other (map f args) rs
 match_onto env other f [] h [] m = m
 match_onto env other f [] h (r ∷ rs) m = absurd m
 match_onto env other f (a ∷ args) h [] m = absurd m
-match_onto env other f (a ∷ args) h (r ∷ rs) m =
-    (All-head (λ a. (r : List Elem) → Matches env a r → Matches other (f a) r) a args h (elems_of r) m.0, match_onto env other f args (All-tail (λ a. (r : List Elem) → Matches env a r → Matches other (f a) r) a args h) rs m.1)
+match_onto env other f (a ∷ args) h (r ∷ rs) m = (
+  All-head (λ a. (r : List Elem) → Matches env a r → Matches other (f a) r) a args h (elems_of r) m.0,
+  match_onto env other f args
+      (All-tail (λ a. (r : List Elem) → Matches env a r → Matches other (f a) r) a args h) rs m.1,
+)
 
 pub match_from : (env other : Env) (f : Rpl → Rpl) (args : List Rpl) → All (λ a. (r : List Elem) → Matches other (f a) r → Matches env a r) args →
     (rs : List Region) → AllMatch other (map f args) rs → AllMatch env args rs
 match_from env other f [] h [] m = m
 match_from env other f [] h (r ∷ rs) m = absurd m
 match_from env other f (a ∷ args) h [] m = absurd m
-match_from env other f (a ∷ args) h (r ∷ rs) m =
-    (All-head (λ a. (r : List Elem) → Matches other (f a) r → Matches env a r) a args h (elems_of r) m.0, match_from env other f args (All-tail (λ a. (r : List Elem) → Matches other (f a) r → Matches env a r) a args h) rs m.1)
+match_from env other f (a ∷ args) h (r ∷ rs) m = (
+  All-head (λ a. (r : List Elem) → Matches other (f a) r → Matches env a r) a args h (elems_of r) m.0,
+  match_from env other f args
+      (All-tail (λ a. (r : List Elem) → Matches other (f a) r → Matches env a r) a args h) rs m.1,
+)
 
 -- types of the same values
 
@@ -137,7 +146,8 @@ same_type env boolean boolean e = tt
 same_type env void void e = tt
 same_type env null null e = tt
 same_type env (class c args) (class d args') e =
-    let h : c ≡ d = cc in let k : args ≡ args' = cc in subst (λ z. SameIn env (class c args) env (class z args')) h (subst (λ z. SameIn env (class c args) env (class c z)) k (same_refl env (class c args)))
+    let h : c ≡ d = cc in let k : args ≡ args' = cc in subst (λ z. SameIn env (class c args) env (class z args')) h
+    (subst (λ z. SameIn env (class c args) env (class c z)) k (same_refl env (class c args)))
 same_type env (array t a named) (array u b named') e =
     let h : SameType t u = cc in
     let k : a ≡ b = cc in
@@ -180,10 +190,20 @@ closed_same n depth env other g int c = tt
 closed_same n depth env other g boolean c = tt
 closed_same n depth env other g void c = tt
 closed_same n depth env other g null c = tt
-closed_same n depth env other g (class d args) c =
-    (refl, λ rs. (match_same env other args (λ k x l. closed_matches n depth env other g _ (c k x l)) rs, match_same other env args (λ k x l. closed_matches n depth other env (agrees_back g) _ (c k x l)) rs))
+closed_same n depth env other g (class d args) c = (
+  refl,
+  λ rs. (
+    match_same env other args (λ k x l. closed_matches n depth env other g _ (c k x l)) rs,
+    match_same other env args
+        (λ k x l. closed_matches n depth other env (agrees_back g) _ (c k x l)) rs,
+  ),
+)
 closed_same n depth env other g (array t a named) c = (
-  λ k r. (closed_matches n (suc depth) (under k env) (under k other) (agrees_under k g) a c.0 r, closed_matches n (suc depth) (under k other) (under k env) (agrees_back (agrees_under k g)) a c.0 r),
+  λ k r. (
+    closed_matches n (suc depth) (under k env) (under k other) (agrees_under k g) a c.0 r,
+    closed_matches n (suc depth) (under k other)
+        (under k env) (agrees_back (agrees_under k g)) a c.0 r,
+  ),
   λ k. closed_same n (suc depth) (under k env) (under k other) (agrees_under k g) t c.1,
 )
 
@@ -316,7 +336,8 @@ fits_with_up P S n env inner args s void c steady v f = f
 fits_with_up P S n env inner args s null c steady v f = f
 fits_with_up P S n env inner args s (class d ps) c steady v f =
     null_or (Instance P S inner d ps) (Instance P S env d (map (substituted args) ps))
-    (instance_onto P S inner env d d ps (map (substituted args) ps) refl (match_onto inner env (substituted args) ps (λ k x l. path_up n 0 env inner args s _ (c k x l)))) v f
+    (instance_onto P S inner env d d ps (map (substituted args) ps) refl
+    (match_onto inner env (substituted args) ps (λ k x l. path_up n 0 env inner args s _ (c k x l)))) v f
 fits_with_up P S n env inner args s (array t a named) c steady v f =
     null_or (ArrayInstance S inner t a) (ArrayInstance S env (type_with args t) (substituted args a))
     (array_onto P S inner env t (type_with args t) a (substituted args a)
