@@ -188,13 +188,16 @@ module _ (P : PlainProgram) (wt : WellTyped P) (b : Bounds) (L : Scope) (g : Gro
             (row.stands.effects a (body_lies (class_ground (row.at.regions ++ map (put P wt b L g u f ff) regions)) inner_env a row.at.member.summary
             (wt.members row.number row.at.member row.at.there).effects (wt.members row.number row.at.member row.at.there).covered l)))
 
-        result : (h : State) (v : Value) → FitsIn P h.shapes (class_env (row.at.regions ++ map (put P wt b L g u f ff) regions)) row.at.member.result v → FitsIn P h.shapes (env_of g) (type_with (owned ++ regions) m.result) v
+        result : (h : State) (v : Value) →
+            FitsIn P h.shapes (class_env (row.at.regions ++ map (put P wt b L g u f ff) regions)) row.at.member.result v →
+            FitsIn P h.shapes (env_of g) (type_with (owned ++ regions) m.result) v
         result h v fv =
             fits_with_up P h.shapes N (env_of g) (class_env (A0.regions ++ map (put P wt b L g u f ff) regions)) (owned ++ regions) st m.result sig.result rd v
             (fits_same P h.shapes (class_env (row.at.regions ++ map (put P wt b L g u f ff) regions)) row.at.member.result
             (class_env (A0.regions ++ map (put P wt b L g u f ff) regions)) m.result row.stands.result v fv)
 
-        behind : (h : State) (y : Result) → Leaves P b (scope P wt row.number row.at.member row.at.there) (class_ground (row.at.regions ++ map (put P wt b L g u f ff) regions)) row.at.member.body u h y → InOrder P b R h (back f y)
+        behind : (h : State) (y : Result) →
+            Leaves P b (scope P wt row.number row.at.member row.at.there) (class_ground (row.at.regions ++ map (put P wt b L g u f ff) regions)) row.at.member.body u h y → InOrder P b R h (back f y)
         behind h (Goes_on v c) y = order_ret P b R h (Goes_on none f) (next none h y.1 (result h none (elim (wt.members row.number row.at.member row.at.there).ends [
           | inl z ↦ subst (λ t. FitsIn P h.shapes (class_env (row.at.regions ++ map (put P wt b L g u f ff) regions)) t Null) (sym z) tt
           | inr z ↦ absurd (false≢true (sym z ∙ y.0))

@@ -126,7 +126,8 @@ put_other g x j k m e L Any s = refl
 put_other g x j k m e L Star s = refl
 put_other g x j k m e L (Local r n) s = refl
 
-head_other : (g : Ground) (x : ℕ) (j k m : ℤ) (h : Head) → head_region (env_of (with_number x k g)) h ≡ head_region (with_index (with_copy (env_of (with_number x j g)) x k) x m) h
+head_other : (g : Ground) (x : ℕ) (j k m : ℤ) (h : Head) →
+    head_region (env_of (with_number x k g)) h ≡ head_region (with_index (with_copy (env_of (with_number x j g)) x k) x m) h
 head_other g x j k m Root = refl
 head_other g x j k m (Param p) = refl
 

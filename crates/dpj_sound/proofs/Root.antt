@@ -31,7 +31,8 @@ module _ (P : PlainProgram) (wt : WellTyped P) (no_class : wt.main.class.given �
   }
 
   -- the only formal is an int
-  formal : (ts : List PlainType) → ts ≡ int ∷ [] → (x : ℕ) (t : PlainType) → slice_get ts x ≡ Some t → FitsIn P (start P).shapes (class_env []) t (slice_index_or (Int arg ∷ []) x Null)
+  formal : (ts : List PlainType) → ts ≡ int ∷ [] → (x : ℕ) (t : PlainType) → slice_get ts x ≡ Some t →
+      FitsIn P (start P).shapes (class_env []) t (slice_index_or (Int arg ∷ []) x Null)
   formal ts e x t h = one x t (subst (λ z. slice_get z x ≡ Some t) e h)
     where
       one : (x : ℕ) (t : PlainType) → slice_get (int ∷ []) x ≡ Some t → FitsIn P (start P).shapes (class_env []) t (slice_index_or (Int arg ∷ []) x Null)

@@ -235,7 +235,8 @@ module _ (P : PlainProgram) (wt : WellTyped P) (b : Bounds) (dp : Option Deeper)
 
     actuals_order : {es : TypedExprs} {ts : List PlainType} {E : List EffectOwn} → Fit P L es ts E →
         (R : State → Result → Type 0) (st : State) (f : Frame) → FrameFits P b.path st g L f → Within b st.entries g E →
-        (us : List Value) (j : List Value → Frame → Prog) → ((h : State) (vs : List Value) → Since st h → AllZip (λ t v. FitsIn P h.shapes (env_of g) t v) ts vs → InOrder P b R h (j (onto vs us) f)) →
+        (us : List Value) (j : List Value → Frame → Prog) →
+        ((h : State) (vs : List Value) → Since st h → AllZip (λ t v. FitsIn P h.shapes (env_of g) t v) ts vs → InOrder P b R h (j (onto vs us) f)) →
         InOrder P b R st (of_exprs (named_by b.path) P dp es f us j)
     actuals_order fit.none R st f ff w us j next = next st [] (since_now st) tt
     actuals_order (fit.one_more {e = e} {es = es} {t = t} {ts = ts} {E = E} {F = F} h sub rest) R st f ff w us j next =
