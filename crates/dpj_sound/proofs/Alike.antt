@@ -1,8 +1,6 @@
 -- Grounds that are alike in what a scope speaks of: its types have the same values, and its frames fit both.
-use Rattle.std.proofs.Common.{◌≡◌, ◌≢◌, ◌<◌, ◌↔◌, ⊎_elim, inl, inr, ℕ, ℤ, zero, suc, ◌+◌, pos, Bool, true, false, cond, ◌==◌, List, [], ◌∷◌, ◌++◌, map, length, refl, sym, ap, ◌∙◌, subst, arith, Option, Some, None, IsTrue, slice_set, slice_index_or}
-use Rattle.std.specs.Prelude.{All}
-use Rattle.std.proofs.lemmas.List.{get_or-set_same, get_or-set_other, length-set}
-use Rattle.std.proofs.lemmas.Bool.{cases_Bool, eqb-true, eq-eqb, eqb-false, cond-true, cond-false, false≢true}
+use Rattle.std.proofs.Common.{◌≡◌, ◌≢◌, ◌<◌, ℕ, ℤ, zero, suc, ◌+◌, false, List, [], length, refl, sym, ap, ◌∙◌, subst, arith, Some, IsTrue, slice_set}
+use Rattle.std.proofs.lemmas.List.{get_or-set_same, get_or-set_other}
 use Rattle.dpj_base.specs.declared.effect.Constraint.{Constraint}
 use Rattle.dpj_base.specs.declared.elems.Elem.{Elem}
 use Rattle.dpj_base.specs.declared.elems.Elem.TheVariants.{Name, At, Any, Star, Local}
@@ -20,12 +18,12 @@ use Rattle.dpj_meaning.specs.Counts.{number, slot_value}
 use Rattle.dpj_regions.specs.Laws.{AgreeOn}
 use Rattle.dpj_regions.proofs.Reading.{matches_by_what_occurs}
 use Rattle.dpj_runs.specs.Objects.{Value}
-use Rattle.dpj_sound.specs.Grounds.{Places, Ground, region_in, env_of, local_code, behind_own, under}
+use Rattle.dpj_sound.specs.Grounds.{Ground, region_in, env_of, local_code, behind_own, under}
 use Rattle.dpj_sound.specs.Shapes.{Shapes, SameIn, FitsIn}
-use Rattle.dpj_sound.specs.Frames.{PartFits, LocalFits}
-use Rattle.dpj_sound.specs.Scopes.{InScope, PathInScope, TypeInScope, LocalInScope, GoodScope}
+use Rattle.dpj_sound.specs.Frames.{LocalFits}
+use Rattle.dpj_sound.specs.Scopes.{InScope, PathInScope, TypeInScope, LocalInScope}
 use Rattle.dpj_sound.proofs.Closed.{put_agree}
-use Rattle.dpj_sound.proofs.Types.{match_same, fits_same, same_refl}
+use Rattle.dpj_sound.proofs.Types.{match_same, fits_same}
 
 -- environments that agree on what is in scope, with so many array types around
 pub record EnvAlike (L : Scope) (depth : ℕ) (env other : Env) : Type 0 where
@@ -64,10 +62,12 @@ head_alike env other e (Param p) = e p
 pub alike_on : (L : Scope) (depth : ℕ) (env other : Env) → EnvAlike L depth env other → (a : Rpl) → PathInScope L depth a → AgreeOn env other a
 alike_on L depth env other g a s = record { head = head_alike env other g.region a.head; elems = λ k d l. elem_alike L depth env other g _ (s k d l) }
 
-pub alike_matches : (L : Scope) (depth : ℕ) (env other : Env) → EnvAlike L depth env other → (a : Rpl) → PathInScope L depth a → (r : List Elem) → Matches env a r → Matches other a r
+pub alike_matches : (L : Scope) (depth : ℕ) (env other : Env) → EnvAlike L depth env other → (a : Rpl) → PathInScope L depth a → (r : List Elem) →
+    Matches env a r → Matches other a r
 alike_matches L depth env other g a s r m = (matches_by_what_occurs env other a (alike_on L depth env other g a s) r).0 m
 
-pub alike_holds : (L : Scope) (env other : Env) → EnvAlike L 0 env other → (c : Constraint) → PathInScope L 0 c.left → PathInScope L 0 c.right → Holds env c → Holds other c
+pub alike_holds : (L : Scope) (env other : Env) → EnvAlike L 0 env other → (c : Constraint) → PathInScope L 0 c.left → PathInScope L 0 c.right →
+    Holds env c → Holds other c
 alike_holds L env other g c l r h =
     ap (λ z. apart [] z (put_in other c.right)) (sym (put_agree env other c.left (alike_on L 0 env other g c.left l)))
     ∙ ap (λ z. apart [] (put_in env c.left) z) (sym (put_agree env other c.right (alike_on L 0 env other g c.right r))) ∙ h
@@ -77,11 +77,22 @@ alike_same L depth env other g int s = tt
 alike_same L depth env other g boolean s = tt
 alike_same L depth env other g void s = tt
 alike_same L depth env other g null s = tt
-alike_same L depth env other g (class c args) s =
-    (refl, λ rs. (match_same env other args (λ k x l. alike_matches L depth env other g _ (s k x l)) rs, match_same other env args (λ k x l. alike_matches L depth other env (alike_back g) _ (s k x l)) rs))
-alike_same L depth env other g (array t a named) s =
-    (λ k r. (alike_matches L (suc depth) (under k env) (under k other) (alike_under k g) a s.0 r, alike_matches L (suc depth) (under k other) (under k env) (alike_back (alike_under k g)) a s.0 r),
-     λ k. alike_same L (suc depth) (under k env) (under k other) (alike_under k g) t s.1)
+alike_same L depth env other g (class c args) s = (
+  refl,
+  λ rs. (
+    match_same env other args (λ k x l. alike_matches L depth env other g _ (s k x l)) rs,
+    match_same other env args
+        (λ k x l. alike_matches L depth other env (alike_back g) _ (s k x l)) rs,
+  ),
+)
+alike_same L depth env other g (array t a named) s = (
+  λ k r. (
+    alike_matches L (suc depth) (under k env) (under k other) (alike_under k g) a s.0 r,
+    alike_matches L (suc depth) (under k other)
+        (under k env) (alike_back (alike_under k g)) a s.0 r,
+  ),
+  λ k. alike_same L (suc depth) (under k env) (under k other) (alike_under k g) t s.1,
+)
 
 -- grounds that agree on what is in scope
 pub record Alike (L : Scope) (g k : Ground) : Type 0 where
@@ -101,15 +112,18 @@ ground_alike {L} {g} {k} a = record {
   own = λ d l. refl;
 }
 
-pub fits_alike : (P : PlainProgram) (S : Shapes) (L : Scope) (g k : Ground) → Alike L g k → (t : PlainType) → TypeInScope L 0 t → (v : Value) → FitsIn P S (env_of g) t v → FitsIn P S (env_of k) t v
+pub fits_alike : (P : PlainProgram) (S : Shapes) (L : Scope) (g k : Ground) → Alike L g k → (t : PlainType) → TypeInScope L 0 t → (v : Value) →
+    FitsIn P S (env_of g) t v → FitsIn P S (env_of k) t v
 fits_alike P S L g k a t s v f = fits_same P S (env_of g) t (env_of k) t (alike_same L 0 (env_of g) (env_of k) (ground_alike a) t s) v f
 
-pub local_alike : (P : PlainProgram) (S : Shapes) (L : Scope) (g k : Ground) → Alike L g k → (vs : List Value) (x : ℕ) (l : ScopeLocal) → L.local x ≡ Some l → LocalInScope L l → LocalFits P S g vs x l → LocalFits P S k vs x l
+pub local_alike : (P : PlainProgram) (S : Shapes) (L : Scope) (g k : Ground) → Alike L g k → (vs : List Value) (x : ℕ) (l : ScopeLocal) →
+    L.local x ≡ Some l → LocalInScope L l → LocalFits P S g vs x l → LocalFits P S k vs x l
 local_alike P S L g k a vs x (variable t) e s f = fits_alike P S L g k a t s (slot_value vs x) f
 local_alike P S L g k a vs x (frozen t) e s f = fits_alike P S L g k a t s (slot_value vs x) f
 local_alike P S L g k a vs x (constant t) e s f = fits_alike P S L g k a t s (slot_value vs x) f
 local_alike P S L g k a vs x (part t b) e s f = record {
-  no_index = f.no_index; none_mentioned = f.none_mentioned;
+  no_index = f.no_index;
+  none_mentioned = f.none_mentioned;
   array = fits_alike P S L g k a (array t b false) s (slot_value vs x) f.array;
   len = f.len;
   places = sym (a.part x t b e) ∙ f.places;
@@ -125,7 +139,8 @@ pub set_same : (vs : List Value) (x : ℕ) (v : Value) → x < length vs → slo
 set_same vs x v l = get_or-set_same vs x v _ l
 
 -- locals whose slots are left alone
-pub local_kept : (P : PlainProgram) (S : Shapes) (g : Ground) (vs : List Value) (z : ℕ) (v : Value) (x : ℕ) (l : ScopeLocal) → x ≢ z → ((t : PlainType) (a : Rpl) → l ≡ part t a → (x + 1 ≢ z) × (x + 2 ≢ z)) →
+pub local_kept : (P : PlainProgram) (S : Shapes) (g : Ground) (vs : List Value) (z : ℕ) (v : Value) (x : ℕ) (l : ScopeLocal) → x ≢ z →
+    ((t : PlainType) (a : Rpl) → l ≡ part t a → (x + 1 ≢ z) × (x + 2 ≢ z)) →
     LocalFits P S g vs x l → LocalFits P S g (slice_set vs z v) x l
 local_kept P S g vs z v x (variable t) ne np f = subst (FitsIn P S (env_of g) t) (sym (set_other vs z x v ne)) f
 local_kept P S g vs z v x (frozen t) ne np f = subst (FitsIn P S (env_of g) t) (sym (set_other vs z x v ne)) f
@@ -136,7 +151,8 @@ local_kept P S g vs z v x (part t a) ne np f =
     let e1 = sym (set_other vs z (x + 1) v n.0) in
     let e2 = sym (set_other vs z (x + 2) v n.1) in
     record {
-      no_index = f.no_index; none_mentioned = f.none_mentioned;
+      no_index = f.no_index;
+      none_mentioned = f.none_mentioned;
       array = subst (FitsIn P S (env_of g) (array t a false)) e0 f.array;
       len = subst (FitsIn P S (env_of g) int) e2 f.len;
       places = f.places ∙ (λ i. record { array = e0 i; first = number (e1 i); len = number (e2 i) });

@@ -1,5 +1,5 @@
 -- Calls and creations are in order, where the bodies that they enter are.
-use Rattle.std.proofs.Common.{◌≡◌, ◌<◌, ⊎_elim, inl, inr, ℕ, zero, suc, ◌-◌, Bool, true, false, cond, List, [], ◌∷◌, ◌++◌, map, length, refl, sym, ap, ◌∙◌, subst, arith, Option, Some, None, IsTrue, slice_get, slice_index_or}
+use Rattle.std.proofs.Common.{◌≡◌, inl, inr, ℕ, zero, suc, ◌-◌, true, false, List, [], ◌∷◌, ◌++◌, map, length, refl, sym, ap, ◌∙◌, subst, arith, Option, Some, None, IsTrue, slice_get, slice_index_or}
 use Rattle.std.specs.Prelude.{All, option_and_then}
 use Rattle.std.specs.List.{AllZip}
 use Rattle.std.proofs.lemmas.List.{length-map, append-nil}
@@ -10,13 +10,12 @@ use Rattle.dpj_base.specs.declared.region.Rpl.{Rpl}
 use Rattle.dpj_base.specs.declared.value.Trap.TheVariants as trap
 use Rattle.dpj_base.specs.Matching.{Env, IsEnv, Holds}
 use Rattle.dpj_base.specs.Regions.{fully_specified}
-use Rattle.dpj_base.specs.Types.{PlainType, void, class, type_with}
+use Rattle.dpj_base.specs.Types.{PlainType, class, type_with}
 use Rattle.dpj_typed.specs.Effects.{summary_with}
 use Rattle.dpj_typed.specs.Plain.{PlainProgram, PlainClass, PlainMember}
 use Rattle.dpj_typed.specs.Scope.{Scope, class_at, member_at, row_at, constructor_of, parent_of, Above}
-use Rattle.dpj_typed.specs.Statements.{all_complete}
-use Rattle.dpj_typed.specs.Table.{GoodMember, IsConstructor}
-use Rattle.dpj_typed.specs.Types.{GoodPath, GoodArgs, Known, Readable}
+use Rattle.dpj_typed.specs.Table.{IsConstructor}
+use Rattle.dpj_typed.specs.Types.{GoodArgs, Known, Readable}
 use Rattle.dpj_typed.specs.WellTyped.{WellTyped}
 use Rattle.dpj_meaning.specs.Core.{Goes_on, Returns, Traps, Act, on}
 use Rattle.dpj_meaning.specs.Counts.{class_seen, class_entered, name_made, is_below}
@@ -30,7 +29,6 @@ use Rattle.dpj_sound.specs.Grounds.{Ground, ArePlain, env_of, class_ground, clas
 use Rattle.dpj_sound.specs.Shapes.{object, Shapes, Grows, Is, same, AllMatch, GoodObject, Instance, FitsIn}
 use Rattle.dpj_sound.specs.Accesses.{Bounds, Within}
 use Rattle.dpj_sound.specs.Frames.{Frame, State, Since, FrameFits}
-use Rattle.dpj_sound.specs.Scopes.{PathInScope}
 use Rattle.dpj_sound.specs.Work.{Result, Prog, InOrder}
 use Rattle.dpj_sound.specs.Laws.{Deeper, Leaves, DeeperInOrder}
 use Rattle.dpj_sound.proofs.Codes.{ground_env, unmade_one}
@@ -38,13 +36,13 @@ use Rattle.dpj_sound.proofs.Types.{NoOwn, Stands, fits_same, fits_grows, fits_wi
 use Rattle.dpj_sound.proofs.Classes.{all_get, stands_args, good_is, env_alone}
 use Rattle.dpj_sound.proofs.Chains.{is_below_it, regions_are, above_match}
 use Rattle.dpj_sound.proofs.Effects.{body_lies, lies_up}
-use Rattle.dpj_sound.proofs.Entering.{given_holds, scope, body_good, entered_fits}
-use Rattle.dpj_sound.proofs.Expressions.{order_unless, order_cond, order_trap}
+use Rattle.dpj_sound.proofs.Entering.{given_holds, scope, entered_fits}
+use Rattle.dpj_sound.proofs.Expressions.{order_cond, order_trap}
 use Rattle.dpj_sound.proofs.Frames.{frame_since, frame_env}
 use Rattle.dpj_sound.proofs.InScope.{paths_alone, good_path}
 use Rattle.dpj_sound.proofs.Making.{put, args_plain, args_match, made_good, order_new}
 use Rattle.dpj_sound.proofs.Members.{full_arguments, MemberAt, row_there, same_member, Signature, signature_at, RowAt, row_is, plain_both}
-use Rattle.dpj_sound.proofs.Work.{since_now, since_since, since_after, order_on, order_ret}
+use Rattle.dpj_sound.proofs.Work.{since_since, since_after, order_on, order_ret}
 
 match_both : (env : Env) (as' bs : List Rpl) (rs qs : List Region) → AllMatch env as' rs → AllMatch env bs qs → AllMatch env (as' ++ bs) (rs ++ qs)
 match_both env [] bs [] qs m n = n
@@ -53,20 +51,23 @@ match_both env (a ∷ as') bs [] qs m n = absurd m
 match_both env (a ∷ as') bs (r ∷ rs) qs m n = (m.0, match_both env as' bs rs qs m.1 n)
 
 -- the actual for a formal
-actual_at : (P : PlainProgram) (S : Shapes) (env : Env) (f : PlainType → PlainType) (ts : List PlainType) (vs : List Value) → AllZip (λ t v. FitsIn P S env t v) (map f ts) vs → (x : ℕ) (t : PlainType) →
+actual_at : (P : PlainProgram) (S : Shapes) (env : Env) (f : PlainType → PlainType) (ts : List PlainType) (vs : List Value) →
+    AllZip (λ t v. FitsIn P S env t v) (map f ts) vs → (x : ℕ) (t : PlainType) →
     slice_get ts x ≡ Some t → FitsIn P S env (f t) (slice_index_or vs x Null)
 actual_at P S env f [] vs h x t e = absurd (let q : None ≡ Some t = e in cc)
 actual_at P S env f (u ∷ ts) [] h x t e = absurd h
 actual_at P S env f (u ∷ ts) (v ∷ vs) h zero t e = let q : u ≡ t = cc in subst (λ z. FitsIn P S env (f z) v) q h.0
 actual_at P S env f (u ∷ ts) (v ∷ vs) h (suc x) t e = actual_at P S env f ts vs h.1 x t e
 
-pub actuals_grow : (P : PlainProgram) (S T : Shapes) → Grows S T → (env : Env) (ts : List PlainType) (vs : List Value) → AllZip (λ t v. FitsIn P S env t v) ts vs → AllZip (λ t v. FitsIn P T env t v) ts vs
+pub actuals_grow : (P : PlainProgram) (S T : Shapes) → Grows S T → (env : Env) (ts : List PlainType) (vs : List Value) →
+    AllZip (λ t v. FitsIn P S env t v) ts vs → AllZip (λ t v. FitsIn P T env t v) ts vs
 actuals_grow P S T g env [] [] h = h
 actuals_grow P S T g env [] (v ∷ vs) h = h
 actuals_grow P S T g env (t ∷ ts) [] h = h
 actuals_grow P S T g env (t ∷ ts) (v ∷ vs) h = (fits_grows P S T g env t v h.0, actuals_grow P S T g env ts vs h.1)
 
-pub instance_grows : (P : PlainProgram) (S T : Shapes) → Grows S T → (env : Env) (c : ℕ) (args : List Rpl) (n : ObjectName) → Instance P S env c args n → Instance P T env c args n
+pub instance_grows : (P : PlainProgram) (S T : Shapes) → Grows S T → (env : Env) (c : ℕ) (args : List Rpl) (n : ObjectName) →
+    Instance P S env c args n → Instance P T env c args n
 instance_grows P S T g env c args n i = fits_grows P S T g env (class c args) (Object n) i
 
 no_given : (env : Env) → All (Holds env) []
@@ -74,12 +75,14 @@ no_given env = λ k c l. absurd (omega (arith, l))
 
 module _ (P : PlainProgram) (wt : WellTyped P) (b : Bounds) (L : Scope) (g : Ground) where
   -- a body is in order in a frame that fits
-  body_order : (deeper : Deeper) → DeeperInOrder P b (Some deeper) → (n : ℕ) (m : PlainMember) (there : member_at P n ≡ Some m) (k : Ground) (u : State) (f : Frame) →
-      FrameFits P b.path u k (scope P wt n m there) f → Within b u.entries k (wt.members n m there).effects → InOrder P b (Leaves P b (scope P wt n m there) k m.body u) u (deeper m.body f)
+  body_order : (deeper : Deeper) → DeeperInOrder P wt b (Some deeper) →
+      (n : ℕ) (m : PlainMember) (there : member_at P n ≡ Some m) (k : Ground) (u : State) (f : Frame) →
+      FrameFits P b.path u k (scope P wt n m there) f → Within b u.entries k (wt.members n m there).effects → InOrder P b
+      (Leaves P b (scope P wt n m there) k m.body u) u (deeper m.body f)
   body_order deeper dd n m there k u f ff w =
-      dd (scope P wt n m there) m.body (wt.members n m there).effects (wt.members n m there).passes (body_good P wt n m there) k u f ff w
+      dd n m there k u f ff w
 
-  module _ (deeper : Deeper) (dd : DeeperInOrder P b (Some deeper)) (u : State) (f : Frame) (ff : FrameFits P b.path u g L f) where
+  module _ (deeper : Deeper) (dd : DeeperInOrder P wt b (Some deeper)) (u : State) (f : Frame) (ff : FrameFits P b.path u g L f) where
     -- the entry of the member in the row of an object's own class
     abbrev entered_member : Option PlainMember → List Value → List Region → List Region → ℕ → Prog
     entered_member o vs made own d = elim o as (λ z. Prog) [
@@ -90,10 +93,13 @@ module _ (P : PlainProgram) (wt : WellTyped P) (b : Bounds) (L : Scope) (g : Gro
     abbrev entered_row : Option ℕ → List Value → List Region → List Region → ℕ → Prog
     entered_row o vs made own d = elim o as (λ z. Prog) [ None ↦ gives none f | Some n ↦ entered_member (member_at P n) vs made own d ]
 
-    enter_order : (R : State → Result → Type 0) (c r n : ℕ) (args owned regions : List Rpl) (m : PlainMember) → row_at P c r ≡ Some n → member_at P n ≡ Some m → Above P c args m.class owned →
-        GoodArgs P L 0 m.params m.given owned regions → All (λ a. IsTrue (fully_specified a)) regions → All (Known (owned ++ regions)) m.formals → Readable (owned ++ regions) m.result →
+    enter_order : (R : State → Result → Type 0) (c r n : ℕ) (args owned regions : List Rpl) (m : PlainMember) → row_at P c r ≡ Some n →
+        member_at P n ≡ Some m → Above P c args m.class owned →
+        GoodArgs P L 0 m.params m.given owned regions → All (λ a. IsTrue (fully_specified a)) regions → All
+        (Known (owned ++ regions)) m.formals → Readable (owned ++ regions) m.result →
         All (λ a. All NoOwn a.elems) args → Within b u.entries g (summary_with (owned ++ regions) m.summary) → (vs : List Value) →
-        AllZip (λ t v. FitsIn P u.shapes (env_of g) t v) (map (type_with (owned ++ regions)) m.formals) vs → (o : ObjectName) (i : Instance P u.shapes (env_of g) c args o) →
+        AllZip (λ t v. FitsIn P u.shapes (env_of g) t v) (map (type_with (owned ++ regions)) m.formals) vs → (o : ObjectName)
+        (i : Instance P u.shapes (env_of g) c args o) →
         ((v : Value) (h : State) → Since u h → FitsIn P h.shapes (env_of g) (type_with (owned ++ regions) m.result) v → R h (Goes_on v f)) →
         InOrder P b R u (enter (named_by b.path) P deeper (i.class, i.made_with) r (Object o ∷ vs) (map (put P wt b L g u f ff) regions) f)
     enter_order R c r n args owned regions m e mb ab ga fu kn rd al w vs fits o i next =
@@ -119,7 +125,13 @@ module _ (P : PlainProgram) (wt : WellTyped P) (b : Bounds) (L : Scope) (g : Gro
         zs = A0.regions
 
         A : MemberAt P wt c i.regions n
-        A = record { member = m; there = mb; regions = A0.regions; is_one = subst (λ (y : PlainMember). Is P c i.regions y.class A0.regions) (same_member P wt A0.member m n A0.there mb) A0.is_one }
+        A = record {
+          member = m;
+          there = mb;
+          regions = A0.regions;
+          is_one = subst (λ (y : PlainMember). Is P c i.regions y.class A0.regions)
+              (same_member P wt A0.member m n A0.there mb) A0.is_one;
+        }
 
         lo : length (map (put P wt b L g u f ff) regions) ≡ length m.params
         lo = length-map regions (put P wt b L g u f ff) ∙ ga.arity
@@ -148,33 +160,44 @@ module _ (P : PlainProgram) (wt : WellTyped P) (b : Bounds) (L : Scope) (g : Gro
         env = frame_env ff
 
         given' : All (Holds (class_env (row.at.regions ++ map (put P wt b L g u f ff) regions))) row.at.member.given
-        given' = row.stands.given (given_holds N L.given (env_of g) (class_env (A0.regions ++ map (put P wt b L g u f ff) regions)) (owned ++ regions) env (env_alone L.given (env_of g) env) st m.given sig.given ga.hold)
+        given' = row.stands.given (given_holds N L.given (env_of g) (class_env (A0.regions ++ map (put P wt b L g u f ff) regions))
+            (owned ++ regions) env (env_alone L.given (env_of g) env) st m.given sig.given ga.hold)
 
-        actuals : (x : ℕ) (t : PlainType) → slice_get row.at.member.formals x ≡ Some t → FitsIn P u.shapes (class_env (row.at.regions ++ map (put P wt b L g u f ff) regions)) t (slice_index_or vs x Null)
+        actuals : (x : ℕ) (t : PlainType) → slice_get row.at.member.formals x ≡ Some t →
+            FitsIn P u.shapes (class_env (row.at.regions ++ map (put P wt b L g u f ff) regions)) t (slice_index_or vs x Null)
         actuals x t h =
             let z = row.stands.formals x t h in
-            fits_same P u.shapes (class_env (A0.regions ++ map (put P wt b L g u f ff) regions)) z.0 (class_env (row.at.regions ++ map (put P wt b L g u f ff) regions)) t z.2 (slice_index_or vs x Null)
+            fits_same P u.shapes (class_env (A0.regions ++ map (put P wt b L g u f ff) regions)) z.0
+            (class_env (row.at.regions ++ map (put P wt b L g u f ff) regions)) t z.2 (slice_index_or vs x Null)
             (fits_with_down P u.shapes N (env_of g) (class_env (A0.regions ++ map (put P wt b L g u f ff) regions)) (owned ++ regions) st z.0 (sig.formals x z.0 z.1)
-            (all_get (Known (owned ++ regions)) m.formals x z.0 kn z.1) (slice_index_or vs x Null) (actual_at P u.shapes (env_of g) (type_with (owned ++ regions)) m.formals vs fits x z.0 z.1))
+            (all_get (Known (owned ++ regions)) m.formals x z.0 kn z.1) (slice_index_or vs x Null)
+            (actual_at P u.shapes (env_of g) (type_with (owned ++ regions)) m.formals vs fits x z.0 z.1))
 
         frame : FrameFits P b.path u (class_ground (row.at.regions ++ map (put P wt b L g u f ff) regions)) (scope P wt row.number row.at.member row.at.there)
             (entered (named_by b.path) row.at.member (Object o ∷ vs) (row.at.regions ++ map (put P wt b L g u f ff) regions) (f.left - 1))
-        frame = entered_fits P wt row.number row.at.member row.at.there b.path u row.at.regions (map (put P wt b L g u f ff) regions) (f.left - 1) (good_is P wt row.at.is_one i.good) plain given' o i.class i.made_with i.shape i.good
+        frame = entered_fits P wt row.number row.at.member row.at.there b.path u row.at.regions (map (put P wt b L g u f ff) regions) (f.left - 1)
+            (good_is P wt row.at.is_one i.good) plain given' o i.class i.made_with i.shape i.good
             row.at.is_one vs actuals
 
         inner_env : IsEnv [] (class_env (row.at.regions ++ map (put P wt b L g u f ff) regions))
-        inner_env = ground_env [] (class_ground (row.at.regions ++ map (put P wt b L g u f ff) regions)) (plain_both P wt row.at.regions (map (put P wt b L g u f ff) regions) (good_is P wt row.at.is_one i.good).plain plain) unmade_one (no_given _)
+        inner_env = ground_env [] (class_ground (row.at.regions ++ map (put P wt b L g u f ff) regions))
+            (plain_both P wt row.at.regions (map (put P wt b L g u f ff) regions) (good_is P wt row.at.is_one i.good).plain plain) unmade_one (no_given _)
 
         within' : Within b u.entries (class_ground (row.at.regions ++ map (put P wt b L g u f ff) regions)) (wt.members row.number row.at.member row.at.there).effects
         within' a gu l = w a gu (lies_up N g (class_ground (A0.regions ++ map (put P wt b L g u f ff) regions)) (owned ++ regions) st a m.summary sig.summary
-            (row.stands.effects a (body_lies (class_ground (row.at.regions ++ map (put P wt b L g u f ff) regions)) inner_env a row.at.member.summary (wt.members row.number row.at.member row.at.there).effects (wt.members row.number row.at.member row.at.there).covered l)))
+            (row.stands.effects a (body_lies (class_ground (row.at.regions ++ map (put P wt b L g u f ff) regions)) inner_env a row.at.member.summary
+            (wt.members row.number row.at.member row.at.there).effects (wt.members row.number row.at.member row.at.there).covered l)))
 
-        result : (h : State) (v : Value) → FitsIn P h.shapes (class_env (row.at.regions ++ map (put P wt b L g u f ff) regions)) row.at.member.result v → FitsIn P h.shapes (env_of g) (type_with (owned ++ regions) m.result) v
+        result : (h : State) (v : Value) →
+            FitsIn P h.shapes (class_env (row.at.regions ++ map (put P wt b L g u f ff) regions)) row.at.member.result v →
+            FitsIn P h.shapes (env_of g) (type_with (owned ++ regions) m.result) v
         result h v fv =
             fits_with_up P h.shapes N (env_of g) (class_env (A0.regions ++ map (put P wt b L g u f ff) regions)) (owned ++ regions) st m.result sig.result rd v
-            (fits_same P h.shapes (class_env (row.at.regions ++ map (put P wt b L g u f ff) regions)) row.at.member.result (class_env (A0.regions ++ map (put P wt b L g u f ff) regions)) m.result row.stands.result v fv)
+            (fits_same P h.shapes (class_env (row.at.regions ++ map (put P wt b L g u f ff) regions)) row.at.member.result
+            (class_env (A0.regions ++ map (put P wt b L g u f ff) regions)) m.result row.stands.result v fv)
 
-        behind : (h : State) (y : Result) → Leaves P b (scope P wt row.number row.at.member row.at.there) (class_ground (row.at.regions ++ map (put P wt b L g u f ff) regions)) row.at.member.body u h y → InOrder P b R h (back f y)
+        behind : (h : State) (y : Result) →
+            Leaves P b (scope P wt row.number row.at.member row.at.there) (class_ground (row.at.regions ++ map (put P wt b L g u f ff) regions)) row.at.member.body u h y → InOrder P b R h (back f y)
         behind h (Goes_on v c) y = order_ret P b R h (Goes_on none f) (next none h y.1 (result h none (elim (wt.members row.number row.at.member row.at.there).ends [
           | inl z ↦ subst (λ t. FitsIn P h.shapes (class_env (row.at.regions ++ map (put P wt b L g u f ff) regions)) t Null) (sym z) tt
           | inr z ↦ absurd (false≢true (sym z ∙ y.0))
@@ -182,11 +205,14 @@ module _ (P : PlainProgram) (wt : WellTyped P) (b : Bounds) (L : Scope) (g : Gro
         behind h (Returns v) y = order_ret P b R h (Goes_on v f) (next v h y.0 (result h v y.1))
 
   -- a call of what isn't null
-  pub call_order : (dp : Option Deeper) → DeeperInOrder P b dp → (R : State → Result → Type 0) (st : State) (at : Place) (f : Frame) → FrameFits P b.path st g L f → (c r n : ℕ) (args owned regions : List Rpl) (m : PlainMember) →
+  pub call_order : (dp : Option Deeper) → DeeperInOrder P wt b dp → (R : State → Result → Type 0) (st : State) (at : Place) (f : Frame) →
+      FrameFits P b.path st g L f → (c r n : ℕ) (args owned regions : List Rpl) (m : PlainMember) →
       row_at P c r ≡ Some n → member_at P n ≡ Some m → Above P c args m.class owned →
-      GoodArgs P L 0 m.params m.given owned regions → All (λ a. IsTrue (fully_specified a)) regions → All (Known (owned ++ regions)) m.formals → Readable (owned ++ regions) m.result →
+      GoodArgs P L 0 m.params m.given owned regions → All (λ a. IsTrue (fully_specified a)) regions → All
+      (Known (owned ++ regions)) m.formals → Readable (owned ++ regions) m.result →
       All (λ a. All NoOwn a.elems) args → Within b st.entries g (summary_with (owned ++ regions) m.summary) → (vs : List Value) →
-      AllZip (λ t v. FitsIn P st.shapes (env_of g) t v) (map (type_with (owned ++ regions)) m.formals) vs → (own : List Region) → ((q : FrameFits P b.path st g L f) → own ≡ map (put P wt b L g st f q) regions) →
+      AllZip (λ t v. FitsIn P st.shapes (env_of g) t v) (map (type_with (owned ++ regions)) m.formals) vs → (own : List Region) →
+      ((q : FrameFits P b.path st g L f) → own ≡ map (put P wt b L g st f q) regions) →
       (o : ObjectName) → Instance P st.shapes (env_of g) c args o →
       ((v : Value) (h : State) → Since st h → FitsIn P h.shapes (env_of g) (type_with (owned ++ regions) m.result) v → R h (Goes_on v f)) →
       InOrder P b R st (called (named_by b.path) P dp at c r own o vs f)
@@ -200,8 +226,10 @@ module _ (P : PlainProgram) (wt : WellTyped P) (b : Bounds) (L : Scope) (g : Gro
           InOrder P b R u (enter (named_by b.path) P deeper (class_entered (parent_of P) (length P.classes) c (class_seen x)) r (Object o ∷ vs) own f)
       looked x u s ans =
           let ff' = frame_since s ff in
-          subst (λ z. InOrder P b R u (enter (named_by b.path) P deeper (class_entered (parent_of P) (length P.classes) c (class_seen z)) r (Object o ∷ vs) own f)) (sym ans)
-          (subst (λ z. InOrder P b R u (enter (named_by b.path) P deeper z r (Object o ∷ vs) own f)) (sym (cond-true (is_below (parent_of P) (length P.classes) i.class c) (i.class, i.made_with) (c, i.made_with) (is_below_it P wt i.is_one)))
+          subst (λ z. InOrder P b R u (enter (named_by b.path) P deeper (class_entered (parent_of P) (length P.classes) c (class_seen z)) r
+          (Object o ∷ vs) own f)) (sym ans)
+          (subst (λ z. InOrder P b R u (enter (named_by b.path) P deeper z r (Object o ∷ vs) own f))
+          (sym (cond-true (is_below (parent_of P) (length P.classes) i.class c) (i.class, i.made_with) (c, i.made_with) (is_below_it P wt i.is_one)))
           (subst (λ z. InOrder P b R u (enter (named_by b.path) P deeper (i.class, i.made_with) r (Object o ∷ vs) z f)) (sym (own_is ff))
           (enter_order deeper dd u f ff' R c r n args owned regions m e mb ab ga fu kn rd al
           (subst (λ z. Within b z g (summary_with (owned ++ regions) m.summary)) (sym s.entries) w) vs
@@ -225,25 +253,33 @@ module _ (P : PlainProgram) (wt : WellTyped P) (b : Bounds) (L : Scope) (g : Gro
   ]
 
   -- a creation whose class declares no constructor
-  pub create_order : (dp : Option Deeper) (R : State → Result → Type 0) (st : State) (at : Place) (f : Frame) (ff : FrameFits P b.path st g L f) (c : ℕ) (k : PlainClass) (args : List Rpl) (vs : List Value) →
+  pub create_order : (dp : Option Deeper) (R : State → Result →
+      Type 0) (st : State) (at : Place) (f : Frame) (ff : FrameFits P b.path st g L f) (c : ℕ) (k : PlainClass) (args : List Rpl) (vs : List Value) →
       class_at P c ≡ Some k → GoodArgs P L 0 k.params k.given [] args → All (λ a. IsTrue (fully_specified a)) args → k.constructor ≡ None →
       ((v : Value) (h : State) → Since st h → FitsIn P h.shapes (env_of g) (class c args) v → R h (Goes_on v f)) →
       InOrder P b R st (created (named_by b.path) P dp at c (map (put P wt b L g st f ff) args) vs f)
   create_order dp R st at f ff c k args vs e ga fu kn next =
-      order_cond P b R st (some_long (map (put P wt b L g st f ff) args)) (Traps trap.Stack at) (created_by dp at c (map (put P wt b L g st f ff) args) vs f (constructor_of P c)) (order_trap P b R st trap.Stack at)
-      (subst (λ z. InOrder P b R st (created_by dp at c (map (put P wt b L g st f ff) args) vs f z)) (sym (ap (λ z. option_and_then (λ (class : PlainClass). class.constructor) z) e ∙ kn))
-      (order_new P wt b L g st f ff R c k args false (λ a. gives (name_made a) f) e ga fu (λ n h s i shape. order_ret P b R h (Goes_on (Object n) f) (next (Object n) h s i))))
+      order_cond P b R st (some_long (map (put P wt b L g st f ff) args)) (Traps trap.Stack at)
+      (created_by dp at c (map (put P wt b L g st f ff) args) vs f (constructor_of P c)) (order_trap P b R st trap.Stack at)
+      (subst (λ z. InOrder P b R st (created_by dp at c (map (put P wt b L g st f ff) args) vs f z))
+      (sym (ap (λ z. option_and_then (λ (class : PlainClass). class.constructor) z) e ∙ kn))
+      (order_new P wt b L g st f ff R c k args false (λ a. gives (name_made a) f) e ga fu
+      (λ n h s i shape. order_ret P b R h (Goes_on (Object n) f) (next (Object n) h s i))))
 
   -- and of one that does: its body is entered, and gives nothing
-  constructor_order : (deeper : Deeper) → DeeperInOrder P b (Some deeper) → (R : State → Result → Type 0) (st : State) (f : Frame) (ff : FrameFits P b.path st g L f) (c n : ℕ) (k : PlainClass) (m : PlainMember) (args : List Rpl) (vs : List Value) →
-      class_at P c ≡ Some k → GoodArgs P L 0 k.params k.given [] args → All (λ a. IsTrue (fully_specified a)) args → k.constructor ≡ Some n → (there : member_at P n ≡ Some m) →
-      (h : State) → Since st h → (o : ObjectName) → Instance P h.shapes (env_of g) c args o → h.shapes o ≡ Some (object c (map (put P wt b L g st f ff) args)) → GoodObject P c (map (put P wt b L g st f ff) args) →
+  constructor_order : (deeper : Deeper) → DeeperInOrder P wt b (Some deeper) →
+      (R : State → Result → Type 0) (st : State) (f : Frame) (ff : FrameFits P b.path st g L f) (c n : ℕ) (k : PlainClass) (m : PlainMember) (args : List Rpl) (vs : List Value) →
+      class_at P c ≡ Some k → GoodArgs P L 0 k.params k.given [] args → All (λ a. IsTrue (fully_specified a)) args → k.constructor ≡ Some n →
+      (there : member_at P n ≡ Some m) →
+      (h : State) → Since st h → (o : ObjectName) → Instance P h.shapes (env_of g) c args o →
+      h.shapes o ≡ Some (object c (map (put P wt b L g st f ff) args)) → GoodObject P c (map (put P wt b L g st f ff) args) →
       AllZip (λ t v. FitsIn P h.shapes (env_of g) t v) (map (type_with args) m.formals) vs → Within b h.entries g (summary_with args m.summary) →
       ((u : State) → Since h u → R u (Goes_on (Object o) f)) →
       InOrder P b R h (on (deeper m.body (entered (named_by b.path) m (Object o ∷ vs) (map (put P wt b L g st f ff) args) (f.left - 1))) (λ r. gives (Object o) f))
   constructor_order deeper dd R st f ff c n k m args vs e ga fu kn there h s o i shape gd fits w next =
       order_on P b (Leaves P b (scope P wt n m there) inner m.body h) R (λ r. gives (Object o) f) behind _ h
-      (subst (λ z. InOrder P b (Leaves P b (scope P wt n m there) inner m.body h) h (deeper m.body (entered (named_by b.path) m (Object o ∷ vs) z (f.left - 1)))) (append-nil (map (put P wt b L g st f ff) args))
+      (subst (λ z. InOrder P b (Leaves P b (scope P wt n m there) inner m.body h) h
+      (deeper m.body (entered (named_by b.path) m (Object o ∷ vs) z (f.left - 1)))) (append-nil (map (put P wt b L g st f ff) args))
       (body_order deeper dd n m there inner h _ frame within'))
     where
       rs : List Region
@@ -275,50 +311,61 @@ module _ (P : PlainProgram) (wt : WellTyped P) (b : Bounds) (L : Scope) (g : Gro
 
       st' : Stands (length (map (put P wt b L g st f ff) args ++ [])) 0 (env_of g) (class_env (map (put P wt b L g st f ff) args ++ [])) args
       st' = subst (λ z. Stands (length z) 0 (env_of g) (class_env z) args) (sym (append-nil (map (put P wt b L g st f ff) args)))
-          (stands_args _ (env_of g) args (map (put P wt b L g st f ff) args) (args_match P wt b L g st f ff args ga.paths fu) refl (paths_alone L args (λ j d l. good_path P L 0 _ (ga.paths j d l))) refl)
+          (stands_args _ (env_of g) args (map (put P wt b L g st f ff) args) (args_match P wt b L g st f ff args ga.paths fu) refl
+          (paths_alone L args (λ j d l. good_path P L 0 _ (ga.paths j d l))) refl)
 
       nothing : ArePlain []
       nothing = λ p. refl
 
-      actuals : (x : ℕ) (t : PlainType) → slice_get m.formals x ≡ Some t → FitsIn P h.shapes (class_env (map (put P wt b L g st f ff) args ++ [])) t (slice_index_or vs x Null)
+      actuals : (x : ℕ) (t : PlainType) → slice_get m.formals x ≡ Some t →
+          FitsIn P h.shapes (class_env (map (put P wt b L g st f ff) args ++ [])) t (slice_index_or vs x Null)
       actuals x t z =
-          fits_with_down P h.shapes N (env_of g) (class_env (map (put P wt b L g st f ff) args ++ [])) args st' t (sig.formals x t z) (λ p _. full_arguments args fu p) (slice_index_or vs x Null)
+          fits_with_down P h.shapes N (env_of g) (class_env (map (put P wt b L g st f ff) args ++ [])) args st' t (sig.formals x t z)
+          (λ p _. full_arguments args fu p) (slice_index_or vs x Null)
           (actual_at P h.shapes (env_of g) (type_with args) m.formals vs fits x t z)
 
       none_given : All (Holds (class_env (map (put P wt b L g st f ff) args ++ []))) m.given
-      none_given = let z : m.given ≡ [] = ap (λ (y : PlainMember). y.given) (sym one) ∙ ic.given in subst (λ y. All (Holds (class_env (map (put P wt b L g st f ff) args ++ []))) y) (sym z) (no_given _)
+      none_given = let z : m.given ≡ [] = ap (λ (y : PlainMember). y.given) (sym one) ∙ ic.given in subst
+          (λ y. All (Holds (class_env (map (put P wt b L g st f ff) args ++ []))) y) (sym z) (no_given _)
 
       good_class : GoodObject P m.class (map (put P wt b L g st f ff) args)
       good_class = good_is P wt at_class gd
 
       frame : FrameFits P b.path h (class_ground (map (put P wt b L g st f ff) args ++ [])) (scope P wt n m there) (entered (named_by b.path) m (Object o ∷ vs) (map (put P wt b L g st f ff) args ++ []) (f.left - 1))
-      frame = entered_fits P wt n m there b.path h (map (put P wt b L g st f ff) args) [] (f.left - 1) good_class nothing none_given o c (map (put P wt b L g st f ff) args) shape gd at_class vs actuals
+      frame = entered_fits P wt n m there b.path h (map (put P wt b L g st f ff) args) [] (f.left - 1) good_class nothing none_given o c
+          (map (put P wt b L g st f ff) args) shape gd at_class vs actuals
 
       inner_env : IsEnv [] (class_env (map (put P wt b L g st f ff) args ++ []))
-      inner_env = ground_env [] (class_ground (map (put P wt b L g st f ff) args ++ [])) (plain_both P wt (map (put P wt b L g st f ff) args) [] gd.plain nothing) unmade_one (no_given _)
+      inner_env = ground_env [] (class_ground (map (put P wt b L g st f ff) args ++ []))
+          (plain_both P wt (map (put P wt b L g st f ff) args) [] gd.plain nothing) unmade_one (no_given _)
 
       within' : Within b h.entries (class_ground (map (put P wt b L g st f ff) args ++ [])) (wt.members n m there).effects
       within' a gu l = w a gu (lies_up N g (class_ground (map (put P wt b L g st f ff) args ++ [])) args st' a m.summary sig.summary
           (body_lies (class_ground (map (put P wt b L g st f ff) args ++ [])) inner_env a m.summary (wt.members n m there).effects (wt.members n m there).covered l))
 
-      behind : (u : State) (y : Result) → Leaves P b (scope P wt n m there) (class_ground (map (put P wt b L g st f ff) args ++ [])) m.body h u y → InOrder P b R u (gives (Object o) f)
+      behind : (u : State) (y : Result) → Leaves P b (scope P wt n m there) (class_ground (map (put P wt b L g st f ff) args ++ [])) m.body h u y →
+          InOrder P b R u (gives (Object o) f)
       behind u (Goes_on v z) y = order_ret P b R u (Goes_on (Object o) f) (next u y.1)
       behind u (Returns v) y = order_ret P b R u (Goes_on (Object o) f) (next u y.0)
 
-  pub construct_order : (dp : Option Deeper) → DeeperInOrder P b dp → (R : State → Result → Type 0) (st : State) (at : Place) (f : Frame) (ff : FrameFits P b.path st g L f) (c n : ℕ) (k : PlainClass) (m : PlainMember) (args : List Rpl) (vs : List Value) →
+  pub construct_order : (dp : Option Deeper) → DeeperInOrder P wt b dp →
+      (R : State → Result → Type 0) (st : State) (at : Place) (f : Frame) (ff : FrameFits P b.path st g L f) (c n : ℕ) (k : PlainClass) (m : PlainMember) (args : List Rpl) (vs : List Value) →
       class_at P c ≡ Some k → GoodArgs P L 0 k.params k.given [] args → All (λ a. IsTrue (fully_specified a)) args → k.constructor ≡ Some n → member_at P n ≡ Some m →
       AllZip (λ t v. FitsIn P st.shapes (env_of g) t v) (map (type_with args) m.formals) vs → Within b st.entries g (summary_with args m.summary) →
       ((v : Value) (h : State) → Since st h → FitsIn P h.shapes (env_of g) (class c args) v → R h (Goes_on v f)) →
       InOrder P b R st (created (named_by b.path) P dp at c (map (put P wt b L g st f ff) args) vs f)
   construct_order dp dd R st at f ff c n k m args vs e ga fu kn there fits w next =
-      order_cond P b R st (some_long (map (put P wt b L g st f ff) args)) (Traps trap.Stack at) (created_by dp at c (map (put P wt b L g st f ff) args) vs f (constructor_of P c)) (order_trap P b R st trap.Stack at)
-      (subst (λ z. InOrder P b R st (created_by dp at c (map (put P wt b L g st f ff) args) vs f z)) (sym (ap (λ z. option_and_then (λ (class : PlainClass). class.constructor) z) e ∙ kn)) (go dp dd))
+      order_cond P b R st (some_long (map (put P wt b L g st f ff) args)) (Traps trap.Stack at)
+      (created_by dp at c (map (put P wt b L g st f ff) args) vs f (constructor_of P c)) (order_trap P b R st trap.Stack at)
+      (subst (λ z. InOrder P b R st (created_by dp at c (map (put P wt b L g st f ff) args) vs f z))
+      (sym (ap (λ z. option_and_then (λ (class : PlainClass). class.constructor) z) e ∙ kn)) (go dp dd))
     where
-      go : (dp : Option Deeper) → DeeperInOrder P b dp → InOrder P b R st (created_by dp at c (map (put P wt b L g st f ff) args) vs f (Some n))
+      go : (dp : Option Deeper) → DeeperInOrder P wt b dp → InOrder P b R st (created_by dp at c (map (put P wt b L g st f ff) args) vs f (Some n))
       go None dd = order_trap P b R st trap.Stack at
       go (Some deeper) dd =
           order_new P wt b L g st f ff R c k args true (λ a. constructed at c (map (put P wt b L g st f ff) args) vs f deeper (member_at P n) a) e ga fu
           (λ o h s i shape. subst (λ z. InOrder P b R h (constructed at c (map (put P wt b L g st f ff) args) vs f deeper z (Named o))) (sym there)
-              (constructor_order deeper dd R st f ff c n k m args vs e ga fu kn there h s o i shape (made_good P wt b L g st f ff c k args e ga fu)
-              (actuals_grow P st.shapes h.shapes s.grows (env_of g) (map (type_with args) m.formals) vs fits) (subst (λ z. Within b z g (summary_with args m.summary)) (sym s.entries) w)
-              (λ u s' . next (Object o) u (since_since s s') (instance_grows P h.shapes u.shapes s'.grows (env_of g) c args o i))))
+          (constructor_order deeper dd R st f ff c n k m args vs e ga fu kn there h s o i shape (made_good P wt b L g st f ff c k args e ga fu)
+          (actuals_grow P st.shapes h.shapes s.grows (env_of g) (map (type_with args) m.formals) vs fits)
+          (subst (λ z. Within b z g (summary_with args m.summary)) (sym s.entries) w)
+          (λ u s'. next (Object o) u (since_since s s') (instance_grows P h.shapes u.shapes s'.grows (env_of g) c args o i))))

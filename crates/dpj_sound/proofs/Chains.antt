@@ -1,31 +1,28 @@
 -- Chains of superclasses: they are no longer than there are classes, and what they make of regions and of region arguments.
-use Rattle.std.proofs.Common.{◌≡◌, ◌<◌, ◌≤◌, ⊎_elim, inl, inr, ℕ, zero, suc, ◌+◌, ◌==◌, eqb, Bool, true, false, cond, List, [], ◌∷◌, ◌++◌, map, length, refl, sym, ap, ◌∙◌, subst, arith, Option, Some, None, IsTrue, slice_get, slice_index_or}
-use Rattle.std.specs.Prelude.{All, option_and_then, pos, ◌||◌}
-use Rattle.std.specs.List.{AllByRecursion, IsDistinct, AllZip, list_any}
-use Rattle.std.proofs.lemmas.List.{length-map, append-nil}
-use Rattle.std.proofs.lemmas.List.Elements.{All-head, All-tail, All-map, All-append}
+use Rattle.std.proofs.Common.{◌≡◌, ◌<◌, ◌≤◌, ⊎_elim, ℕ, zero, suc, ◌==◌, eqb, Bool, true, false, List, [], ◌∷◌, map, length, refl, sym, ap, ◌∙◌, subst, arith, Some, None, IsTrue}
+use Rattle.std.specs.Prelude.{All, pos, ◌||◌}
+use Rattle.std.specs.List.{AllByRecursion, IsDistinct, list_any}
+use Rattle.std.proofs.lemmas.List.Elements.{All-head, All-tail, All-map}
 use Rattle.std.proofs.lemmas.Bool.{cases_Bool, false≢true, eqb-true, eq-eqb, cond-true, cond-false, false_from_ne_true}
 use Rattle.std.proofs.lemmas.Map.Steps.{length-le_from_distinct_below}
 use Rattle.std.proofs.lemmas.Option.{option_and_then_some, slice_get_within}
-use Rattle.dpj_base.specs.declared.region.Head.TheVariants.{Param}
 use Rattle.dpj_base.specs.declared.region.Rpl.{Rpl}
-use Rattle.dpj_base.specs.Matching.{Env, put_in}
-use Rattle.dpj_base.specs.Regions.{fully_specified, argument, substituted}
+use Rattle.dpj_base.specs.Matching.{Env}
+use Rattle.dpj_base.specs.Regions.{fully_specified, substituted}
 use Rattle.dpj_typed.specs.Plain.{PlainProgram, PlainClass, PlainParent}
 use Rattle.dpj_typed.specs.Scope.{class_at, parent_of, Above, itself, through_parent, IsBelow}
 use Rattle.dpj_typed.specs.Scope.{IsBelow as below_case}
-use Rattle.dpj_typed.specs.Table.{Extends}
 use Rattle.dpj_typed.specs.WellTyped.{WellTyped}
 use Rattle.dpj_meaning.specs.Counts.{is_below}
 use Rattle.dpj_meaning.specs.Regions.{regions_above, concrete}
-use Rattle.dpj_regions.proofs.Putting.{specified_matches_one, substitution_puts_in}
+use Rattle.dpj_regions.proofs.Putting.{specified_matches_one}
 use Rattle.dpj_runs.specs.Objects.{Path, Region}
 use Rattle.dpj_steps.specs.Steps.{named_by}
-use Rattle.dpj_sound.specs.Grounds.{elems_of, class_env, region_in}
+use Rattle.dpj_sound.specs.Grounds.{class_env}
 use Rattle.dpj_sound.specs.Shapes.{regions_of_parent, Is, same, up, AllMatch, GoodObject}
-use Rattle.dpj_sound.proofs.Closed.{ClosedPath, closed_put}
+use Rattle.dpj_sound.proofs.Closed.{ClosedPath}
 use Rattle.dpj_sound.proofs.Types.{NoOwn, Stands, path_up}
-use Rattle.dpj_sound.proofs.Classes.{path_alone, class_concrete, alone_put, arguments_alone, stands_args, parent_extends, parent_closed, good_parent}
+use Rattle.dpj_sound.proofs.Classes.{path_alone, class_concrete, alone_put, stands_args, parent_extends, parent_closed, good_parent}
 
 module _ (P : PlainProgram) (wt : WellTyped P) where
   -- a superclass has a lower rank
@@ -94,7 +91,8 @@ module _ (P : PlainProgram) (wt : WellTyped P) where
   is_below_it h = below_is h (length P.classes) (few_steps h)
 
   -- its regions as those of the class above are those that the meaning computes
-  above_is : (path : Path) {d c : ℕ} {rs qs : List Region} (h : Is P d rs c qs) (k : ℕ) → steps h ≤ k → regions_above (named_by path) (parent_of P) k d rs c ≡ qs
+  above_is : (path : Path) {d c : ℕ} {rs qs : List Region} (h : Is P d rs c qs) (k : ℕ) → steps h ≤ k →
+      regions_above (named_by path) (parent_of P) k d rs c ≡ qs
   unfolding steps members_of
   above_is path same zero l = refl
   above_is path {d} {c} {rs} same (suc k) l = cond-true (d == d) rs _ (eq-eqb d d refl)
@@ -104,7 +102,8 @@ module _ (P : PlainProgram) (wt : WellTyped P) where
       ∙ ap (λ o. elim o as (λ z. List Region) [ None ↦ rs | Some p ↦ regions_above (named_by path) (parent_of P) k p.class (regions_of_parent rs p) c ]) e
       ∙ above_is path h k (omega (arith, l))
 
-  pub regions_are : (path : Path) {d c : ℕ} {rs qs : List Region} → Is P d rs c qs → regions_above (named_by path) (parent_of P) (length P.classes) d rs c ≡ qs
+  pub regions_are : (path : Path) {d c : ℕ} {rs qs : List Region} → Is P d rs c qs →
+      regions_above (named_by path) (parent_of P) (length P.classes) d rs c ≡ qs
   regions_are path h = above_is path h (length P.classes) (few_steps h)
 
   pub is_from_below : {c d : ℕ} → IsBelow P c d → (rs : List Region) → (qs : List Region) × Is P c rs d qs
@@ -115,7 +114,8 @@ module _ (P : PlainProgram) (wt : WellTyped P) where
   same_parent c {p} {q} e f = let z : Some p ≡ Some q = sym e ∙ f in cc
 
   -- arguments that match the regions of a class match those of a class above it
-  pub above_match : (env : Env) → (env.own ≡ λ d. pos 0) → {c c' d d' : ℕ} {args owned : List Rpl} {rs qs : List Region} → Above P c args d owned → Is P c' rs d' qs → c ≡ c' → d ≡ d' →
+  pub above_match : (env : Env) → (env.own ≡ λ d. pos 0) → {c c' d d' : ℕ} {args owned : List Rpl} {rs qs : List Region} → Above P c args d owned →
+      Is P c' rs d' qs → c ≡ c' → d ≡ d' →
       GoodObject P c rs → All (λ a. All NoOwn a.elems) args → AllMatch env args rs → AllMatch env owned qs × All (λ a. All NoOwn a.elems) owned
   above_match env o itself same e1 e2 g al m = (m, al)
   above_match env o itself (up e h) e1 e2 g al m = absurd (let a = parent_lower e in let b = is_lower h in let c = ap wt.rank e1 in let d = ap wt.rank e2 in omega (arith, a, b, c, d))
@@ -132,7 +132,8 @@ module _ (P : PlainProgram) (wt : WellTyped P) where
           AllMatch env (map (substituted args) ps) (map (λ a. concrete (named_by []) (record { values = []; regions = rs; locals = [] }) a) ps)
       matched s [] cl fu = tt
       matched {n} s (b ∷ ps) cl fu =
-          let c0 = All-head (ClosedPath n 0) b ps cl in
-          (path_up n 0 env (class_env rs) args s b c0 _
-          ((specified_matches_one (class_env rs) b (All-head (λ a. IsTrue (fully_specified a)) b ps fu) _).1 (class_concrete n rs b c0)),
-          matched s ps (All-tail (ClosedPath n 0) b ps cl) (All-tail (λ a. IsTrue (fully_specified a)) b ps fu))
+          let c0 = All-head (ClosedPath n 0) b ps cl in (
+            path_up n 0 env (class_env rs) args s b c0 _
+                ((specified_matches_one (class_env rs) b (All-head (λ a. IsTrue (fully_specified a)) b ps fu) _).1 (class_concrete n rs b c0)),
+            matched s ps (All-tail (ClosedPath n 0) b ps cl) (All-tail (λ a. IsTrue (fully_specified a)) b ps fu),
+          )

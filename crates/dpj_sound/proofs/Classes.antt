@@ -1,5 +1,5 @@
 -- What a class table in order says of objects: their regions and fields, seen as those of a class above theirs.
-use Rattle.std.proofs.Common.{◌≡◌, ◌<◌, ℕ, ℤ, zero, suc, pos, Bool, true, false, ◌&&◌, List, [], ◌∷◌, ◌++◌, map, length, refl, sym, ap, ◌∙◌, subst, arith, Option, Some, None, IsTrue, slice_get, slice_index_or, inl, inr}
+use Rattle.std.proofs.Common.{◌≡◌, ◌<◌, ℕ, ℤ, zero, suc, pos, true, false, List, [], ◌∷◌, ◌++◌, map, length, refl, sym, ap, ◌∙◌, subst, arith, Option, Some, None, IsTrue, slice_get, slice_index_or}
 use Rattle.std.specs.Prelude.{All, option_and_then}
 use Rattle.std.proofs.lemmas.List.{get_or-map, length-map, map-append}
 use Rattle.std.proofs.lemmas.List.Elements.{All-head, All-tail, All-cons, All-map}
@@ -13,13 +13,13 @@ use Rattle.dpj_base.specs.declared.elems.Index.TheVariants.{Literal, Variable, R
 use Rattle.dpj_base.specs.declared.region.Head.{Head}
 use Rattle.dpj_base.specs.declared.region.Head.TheVariants.{Root, Param}
 use Rattle.dpj_base.specs.declared.region.Rpl.{Rpl}
-use Rattle.dpj_base.specs.Matching.{is_plain, all_plain, Env, IsEnv, Holds, put_elem, put_in, Matches, MatchesMore, with_regions}
+use Rattle.dpj_base.specs.Matching.{is_plain, all_plain, Env, IsEnv, Holds, put_elem, put_in, Matches}
 use Rattle.dpj_base.specs.Matching.{head_region as env_region}
 use Rattle.dpj_base.specs.Regions.{is_local, is_specified, all_specified, fully_specified, within, argument, put_at, substituted}
 use Rattle.dpj_base.specs.Types.{PlainType, int, boolean, void, null, class, array, type_with, all_within}
 use Rattle.dpj_typed.specs.Plain.{PlainProgram, PlainClass, PlainField, PlainParent}
 use Rattle.dpj_typed.specs.Scope.{class_at, field_at, parent_of}
-use Rattle.dpj_typed.specs.Table.{class_scope, field_with, GoodField, Extends, GoodClass}
+use Rattle.dpj_typed.specs.Table.{class_scope, field_with, GoodField, Extends}
 use Rattle.dpj_typed.specs.Types.{Subtype, ints, booleans, null_object, null_array, objects, arrays, inherits}
 use Rattle.dpj_typed.specs.WellTyped.{WellTyped}
 use Rattle.dpj_meaning.specs.Regions.{Around, part_of, head_region, concrete}
@@ -30,9 +30,9 @@ use Rattle.dpj_disjoint.proofs.Envs.{constraint_carried}
 use Rattle.dpj_runs.specs.Objects.{LocalRegion, Value, Int, Boolean, Null, Object, Region}
 use Rattle.dpj_runs.specs.Objects.{Name as ObjectName}
 use Rattle.dpj_steps.specs.Steps.{named_by}
-use Rattle.dpj_sound.specs.Grounds.{elem_of, elems_of, Ground, region_in, ArePlain, env_of, class_ground, class_env, under}
+use Rattle.dpj_sound.specs.Grounds.{elem_of, elems_of, region_in, ArePlain, class_ground, class_env, under}
 use Rattle.dpj_sound.specs.Shapes.{Shapes, regions_of_parent, Is, same, up, AllMatch, GoodObject, Instance, SameIn, ArrayInstance, FitsIn}
-use Rattle.dpj_sound.proofs.Closed.{IsClosed, ClosedPath, ClosedType, Agrees, closed_put, closed_holds, closed_path, closed_type}
+use Rattle.dpj_sound.proofs.Closed.{IsClosed, ClosedPath, closed_put, closed_holds, closed_path, closed_type}
 use Rattle.dpj_sound.proofs.Codes.{ground_env, unmade_one}
 use Rattle.dpj_sound.proofs.Types.{same_refl, same_sym, same_trans, same_type, null_or, array_onto, NoOwn, Stands, path_up, same_with}
 
@@ -68,7 +68,8 @@ class_head rs (Param p) = refl
 
 pub class_concrete : (n : ℕ) (rs : List Region) (a : Rpl) → ClosedPath n 0 a →
     elems_of (concrete (named_by []) (record { values = []; regions = rs; locals = [] }) a) ≡ (put_in (class_env rs) a).elems
-class_concrete n rs a c = concrete_elems (named_by []) (record { values = []; regions = rs; locals = [] }) (class_env rs) a (class_head rs a.head) (λ k d l. class_elem rs _ (c.elems k d l))
+class_concrete n rs a c = concrete_elems (named_by []) (record { values = []; regions = rs; locals = [] }) (class_env rs) a (class_head rs a.head)
+    (λ k d l. class_elem rs _ (c.elems k d l))
 
 pub parent_region : (n : ℕ) (rs : List Region) (args : List Rpl) → All (ClosedPath n 0) args → (p : ℕ) → p < length args →
     region_in (map (λ a. concrete (named_by []) (record { values = []; regions = rs; locals = [] }) a) args) p ≡ (put_in (class_env rs) (argument args p)).elems
@@ -107,7 +108,8 @@ plain_head : (env : Env) → ((p : ℕ) → all_plain (env.region p) ≡ true) �
 plain_head env r Root = refl
 plain_head env r (Param p) = r p
 
-pub plain_put : (env : Env) → ((p : ℕ) → all_plain (env.region p) ≡ true) → (a : Rpl) → fully_specified a ≡ true → All (λ x. is_local x ≡ false) a.elems → all_plain (put_in env a).elems ≡ true
+pub plain_put : (env : Env) → ((p : ℕ) → all_plain (env.region p) ≡ true) → (a : Rpl) → fully_specified a ≡ true →
+    All (λ x. is_local x ≡ false) a.elems → all_plain (put_in env a).elems ≡ true
 unfolding put_in
 plain_put env r a s l = all_plain-append (env_region env a.head) (map (put_elem env) a.elems) (plain_head env r a.head) (plain_elems env a.elems s l)
 
@@ -150,7 +152,8 @@ all_more env v (a ∷ as') (b ∷ bs) w (r ∷ rs) m =
     (matches_more [] env v a b p.0 (elems_of r) m.0, all_more env v as' bs p.1 rs m.1)
 
 -- the path at a place matches the region there
-match_at : (env : Env) (args : List Rpl) (rs : List Region) (p : ℕ) (b : Rpl) → AllMatch env args rs → p < length args → Matches env (slice_index_or args p b) (region_in rs p)
+match_at : (env : Env) (args : List Rpl) (rs : List Region) (p : ℕ) (b : Rpl) → AllMatch env args rs → p < length args →
+    Matches env (slice_index_or args p b) (region_in rs p)
 match_at env [] rs p b m l = absurd (omega (arith, l))
 match_at env (a ∷ args) [] p b m l = absurd m
 match_at env (a ∷ args) (r ∷ rs) zero b m l = m.0
@@ -195,10 +198,12 @@ IsAlone void = Unit {0}
 IsAlone null = Unit {0}
 
 -- arguments that match the regions of an object
-pub stands_args : (n : ℕ) (env : Env) (args : List Rpl) (rs : List Region) → AllMatch env args rs → length rs ≡ n → All (λ a. All NoOwn a.elems) args → (env.own ≡ λ d. pos 0) →
+pub stands_args : (n : ℕ) (env : Env) (args : List Rpl) (rs : List Region) → AllMatch env args rs → length rs ≡ n → All (λ a. All NoOwn a.elems) args →
+    (env.own ≡ λ d. pos 0) →
     Stands n 0 env (class_env rs) args
 stands_args n env args rs m e al o = record {
-  match = λ p l. match_at env args rs p (record { head = Param p; elems = [] }) m (let k : length args ≡ length rs = match_length env args rs m in omega (arith, k, e, l));
+  match = λ p l. match_at env args rs p (record { head = Param p; elems = [] }) m
+      (let k : length args ≡ length rs = match_length env args rs m in omega (arith, k, e, l));
   alone = λ p l. arguments_alone args al p;
   own = λ d l. absurd (omega (arith, l));
 }
@@ -221,7 +226,8 @@ module _ (P : PlainProgram) (wt : WellTyped P) where
     }
 
     -- with the parent's arguments put in, or seen from the parent
-    put_parent : (rs : List Region) (a : Rpl) → ClosedPath (length x.above.params) 0 a → put_in (class_env rs) (substituted p.args a) ≡ put_in (class_env (regions_of_parent rs p)) a
+    put_parent : (rs : List Region) (a : Rpl) → ClosedPath (length x.above.params) 0 a →
+        put_in (class_env rs) (substituted p.args a) ≡ put_in (class_env (regions_of_parent rs p)) a
     put_parent rs a cl =
         substitution_puts_in (class_env rs) p.args a
         ∙ closed_put (length x.above.params) 0 _ (class_env (regions_of_parent rs p))
@@ -233,7 +239,8 @@ module _ (P : PlainProgram) (wt : WellTyped P) where
         within' : (l : q < length p.args) → all_plain (region_in (regions_of_parent rs p) q) ≡ true
         within' l =
             ap all_plain (parent_region (length k.params) rs p.args parent_closed q l)
-            ∙ plain_put (class_env rs) plain (argument p.args q) (x.full q (record { head = Param q; elems = [] }) l) (λ j d h. closed_local _ ((parent_closed q (record { head = Param q; elems = [] }) l).elems j d h))
+            ∙ plain_put (class_env rs) plain (argument p.args q) (x.full q (record { head = Param q; elems = [] }) l)
+            (λ j d h. closed_local _ ((parent_closed q (record { head = Param q; elems = [] }) l).elems j d h))
 
         past : (args : List Rpl) (q : ℕ) → slice_get args q ≡ None → all_plain (region_in (map (λ a. concrete (named_by []) (record { values = []; regions = rs; locals = [] }) a) args) q) ≡ true
         past [] q e = refl
@@ -277,7 +284,8 @@ module _ (P : PlainProgram) (wt : WellTyped P) where
 
   -- a field is one of its class
   pub field_good : (c : ℕ) (k : PlainClass) (j : ℕ) (f : PlainField) → class_at P c ≡ Some k → field_at P c j ≡ Some f → GoodField P k f
-  field_good c k j f e q = all_get (GoodField P k) k.fields j f (wt.classes c k e).fields (sym (ap (λ z. option_and_then (λ (class : PlainClass). slice_get class.fields j) z) e) ∙ q)
+  field_good c k j f e q = all_get (GoodField P k) k.fields j f (wt.classes c k e).fields
+      (sym (ap (λ z. option_and_then (λ (class : PlainClass). slice_get class.fields j) z) e) ∙ q)
 
   -- a field of a class above, at the object's own class
   pub record FieldAt (d : ℕ) (rs qs : List Region) (j : ℕ) (f : PlainField) : Type 0 where
@@ -298,7 +306,8 @@ module _ (P : PlainProgram) (wt : WellTyped P) where
         field = field_with p.args i.field;
         there = ap (λ z. option_and_then (λ (class : PlainClass). slice_get class.fields j) z) g.is ∙ ap (λ z. slice_get z j) x.fields
             ∙ get_front (map (field_with p.args) x.above.fields) x.own_fields j (field_with p.args i.field) (get_map (field_with p.args) x.above.fields j i.field there);
-        region = ap (λ (z : Rpl). z.elems) (put_parent d g.class p x rs i.field.region (closed_path P (class_scope x.above) (λ y. refl) 0 i.field.region good.path)) ∙ i.region;
+        region = ap (λ (z : Rpl). z.elems) (put_parent d g.class p x rs i.field.region
+            (closed_path P (class_scope x.above) (λ y. refl) 0 i.field.region good.path)) ∙ i.region;
         types = same_trans (class_env rs) (type_with p.args i.field.ty) (class_env (regions_of_parent rs p)) i.field.ty (class_env qs) f.ty
             (same_with n 0 (class_env rs) (class_env (regions_of_parent rs p)) p.args (parent_stands d g.class p x 0 rs) i.field.ty
             (closed_type P (class_scope x.above) (λ y. refl) (λ r e. false≢true e) 0 i.field.ty good.ty)
@@ -309,19 +318,25 @@ module _ (P : PlainProgram) (wt : WellTyped P) where
       full_at : (args : List Rpl) → All (λ a. IsTrue (fully_specified a)) args → (q : ℕ) → fully_specified (argument args q) ≡ true
       full_at args h q = go args h q (record { head = Param q; elems = [] }) refl
         where
-          go : (args : List Rpl) → All (λ a. IsTrue (fully_specified a)) args → (q : ℕ) (b : Rpl) → fully_specified b ≡ true → fully_specified (slice_index_or args q b) ≡ true
+          go : (args : List Rpl) → All (λ a. IsTrue (fully_specified a)) args → (q : ℕ) (b : Rpl) → fully_specified b ≡ true →
+              fully_specified (slice_index_or args q b) ≡ true
           go [] h q b e = e
           go (a ∷ args) h zero b e = All-head (λ a. IsTrue (fully_specified a)) a args h
           go (a ∷ args) h (suc q) b e = go args (All-tail (λ a. IsTrue (fully_specified a)) a args h) q b e
 
   -- an object of a class is one of its superclass
-  pub instance_parent : (S : Shapes) (env : Env) → (env.own ≡ λ d. pos 0) → (c : ℕ) (args : List Rpl) (p : PlainParent) → All (λ a. All NoOwn a.elems) args → parent_of P c ≡ Some p →
+  pub instance_parent : (S : Shapes) (env : Env) → (env.own ≡ λ d. pos 0) → (c : ℕ) (args : List Rpl) (p : PlainParent) →
+      All (λ a. All NoOwn a.elems) args → parent_of P c ≡ Some p →
       (n : ObjectName) → Instance P S env c args n → Instance P S env p.class (map (substituted args) p.args) n
   instance_parent S env o c args p al e n i =
       let g = good_is i.is_one i.good in
       let x = parent_extends g.is e in
       record {
-        class = i.class; made_with = i.made_with; regions = regions_of_parent i.regions p; shape = i.shape; good = i.good;
+        class = i.class;
+        made_with = i.made_with;
+        regions = regions_of_parent i.regions p;
+        shape = i.shape;
+        good = i.good;
         is_one = is_up i.is_one e;
         matches = go (stands_args (length g.class.params) env args i.regions i.matches g.arity al o) p.args (parent_closed c g.class p x) x.full;
       }
@@ -330,16 +345,18 @@ module _ (P : PlainProgram) (wt : WellTyped P) where
           AllMatch env (map (substituted args) ps) (map (λ a. concrete (named_by []) (record { values = []; regions = i.regions; locals = [] }) a) ps)
       go s [] cl fu = tt
       go {m} s (a ∷ ps) cl fu =
-          let c0 = All-head (ClosedPath m 0) a ps cl in
-          (path_up m 0 env (class_env i.regions) args s a c0 _
-          ((specified_matches_one (class_env i.regions) a (All-head (λ a. IsTrue (fully_specified a)) a ps fu) _).1 (class_concrete m i.regions a c0)),
-          go s ps (All-tail (ClosedPath m 0) a ps cl) (All-tail (λ a. IsTrue (fully_specified a)) a ps fu))
+          let c0 = All-head (ClosedPath m 0) a ps cl in (
+            path_up m 0 env (class_env i.regions) args s a c0 _
+                ((specified_matches_one (class_env i.regions) a (All-head (λ a. IsTrue (fully_specified a)) a ps fu) _).1 (class_concrete m i.regions a c0)),
+            go s ps (All-tail (ClosedPath m 0) a ps cl) (All-tail (λ a. IsTrue (fully_specified a)) a ps fu),
+          )
 
   null_subtype : (S : Shapes) (env : Env) {c : ℕ} {rs : List Rpl} {t : PlainType} → Subtype P (class c rs) t → FitsIn P S env t Null
   null_subtype S env (objects h) = tt
   null_subtype S env (inherits e h) = null_subtype S env h
 
-  pub subtype_fits : (S : Shapes) (env : Env) → IsEnv [] env → (env.own ≡ λ d. pos 0) → {t u : PlainType} → Subtype P t u → IsAlone t → (v : Value) → FitsIn P S env t v → FitsIn P S env u v
+  pub subtype_fits : (S : Shapes) (env : Env) → IsEnv [] env → (env.own ≡ λ d. pos 0) → {t u : PlainType} → Subtype P t u → IsAlone t → (v : Value) →
+      FitsIn P S env t v → FitsIn P S env u v
   subtype_fits S env w o ints al v f = f
   subtype_fits S env w o booleans al v f = f
   subtype_fits S env w o (null_object {c = c} {args = args}) al v f = null_or (λ n. ⊥) (Instance P S env c args) (λ n z. absurd z) v f
@@ -349,7 +366,8 @@ module _ (P : PlainProgram) (wt : WellTyped P) where
       (λ n i. record { class = i.class; made_with = i.made_with; regions = i.regions; shape = i.shape; good = i.good; is_one = i.is_one; matches = all_more env w rs ss h i.regions i.matches }) v f
   subtype_fits S env w o (arrays {t = t} {u = u} {a = a} {b = b} h s) al v f =
       null_or (ArrayInstance S env t a) (ArrayInstance S env u b)
-      (array_onto P S env env t u a b (λ k r m. matches_more [] (under k env) (env_under k env w) a b h r m) (λ k. same_sym (under k env) t (under k env) u (same_type (under k env) t u s))) v f
+      (array_onto P S env env t u a b (λ k r m. matches_more [] (under k env) (env_under k env w) a b h r m)
+      (λ k. same_sym (under k env) t (under k env) u (same_type (under k env) t u s))) v f
   subtype_fits S env w o (inherits {c = c} {rs = rs} {p = p} {t = t} e h) al Null f = null_subtype S env h
   subtype_fits S env w o (inherits {c = c} {rs = rs} {p = p} {t = t} e h) al (Int k) f = absurd f
   subtype_fits S env w o (inherits {c = c} {rs = rs} {p = p} {t = t} e h) al (Boolean k) f = absurd f

@@ -1,6 +1,6 @@
 -- Paths and types of a class speak of its region parameters, of names, numbers and own indices alone: what they match depends on
 -- the regions of these parameters.
-use Rattle.std.proofs.Common.{◌≡◌, ◌<◌, ◌↔◌, ℕ, ℤ, zero, suc, Bool, true, false, List, [], ◌∷◌, ◌++◌, map, length, refl, sym, ap, ◌∙◌, subst, arith, Some, None, IsTrue, slice_get, slice_index_or, inl, inr}
+use Rattle.std.proofs.Common.{◌≡◌, ◌<◌, ℕ, ℤ, zero, suc, true, List, [], ◌∷◌, ◌++◌, map, length, refl, sym, ap, ◌∙◌, subst, arith, Some, None, inl, inr}
 use Rattle.std.specs.Prelude.{All}
 use Rattle.std.proofs.lemmas.List.Elements.{All-head, All-tail}
 use Rattle.dpj_base.specs.declared.elems.Elem.{Elem}
@@ -13,9 +13,9 @@ use Rattle.dpj_base.specs.declared.effect.Constraint.{Constraint}
 use Rattle.dpj_base.specs.Apart.{apart}
 use Rattle.dpj_base.specs.Matching.{Env, Holds, put_elem, put_in, head_region, Matches}
 use Rattle.dpj_base.specs.Types.{PlainType, int, boolean, void, null, class, array}
-use Rattle.dpj_typed.specs.Plain.{PlainProgram, PlainClass}
+use Rattle.dpj_typed.specs.Plain.{PlainProgram}
 use Rattle.dpj_typed.specs.Scope.{Scope, constant}
-use Rattle.dpj_typed.specs.Types.{GoodElem, GoodHead, GoodPath, LocalPath, GoodArgs, GoodType}
+use Rattle.dpj_typed.specs.Types.{GoodElem, GoodHead, GoodPath, GoodType}
 use Rattle.dpj_regions.specs.Laws.{AgreeOn}
 use Rattle.dpj_regions.proofs.Reading.{matches_by_what_occurs}
 use Rattle.dpj_sound.specs.Grounds.{behind_own, under}
@@ -68,14 +68,16 @@ elem_agree n depth env other a Any c = refl
 elem_agree n depth env other a Star c = refl
 elem_agree n depth env other a (Local r m) c = absurd c
 
-head_agree : (n depth : ℕ) (env other : Env) → Agrees n depth env other → (h : Head) → ((p : ℕ) → h ≡ Param p → p < n) → head_region env h ≡ head_region other h
+head_agree : (n depth : ℕ) (env other : Env) → Agrees n depth env other → (h : Head) → ((p : ℕ) → h ≡ Param p → p < n) →
+    head_region env h ≡ head_region other h
 head_agree n depth env other a Root c = refl
 head_agree n depth env other a (Param p) c = a.region p (c p refl)
 
 pub agree_on : (n depth : ℕ) (env other : Env) → Agrees n depth env other → (a : Rpl) → ClosedPath n depth a → AgreeOn env other a
 agree_on n depth env other g a c = record { head = head_agree n depth env other g a.head c.head; elems = λ k d l. elem_agree n depth env other g _ (c.elems k d l) }
 
-pub closed_matches : (n depth : ℕ) (env other : Env) → Agrees n depth env other → (a : Rpl) → ClosedPath n depth a → (r : List Elem) → Matches env a r → Matches other a r
+pub closed_matches : (n depth : ℕ) (env other : Env) → Agrees n depth env other → (a : Rpl) → ClosedPath n depth a → (r : List Elem) →
+    Matches env a r → Matches other a r
 closed_matches n depth env other g a c r m = (matches_by_what_occurs env other a (agree_on n depth env other g a c) r).0 m
 
 pub map_agree : (env other : Env) (a : List Elem) → All (λ x. put_elem env x ≡ put_elem other x) a → map (put_elem env) a ≡ map (put_elem other) a
@@ -95,9 +97,11 @@ put_agree env other a g =
 pub closed_put : (n depth : ℕ) (env other : Env) → Agrees n depth env other → (a : Rpl) → ClosedPath n depth a → put_in env a ≡ put_in other a
 closed_put n depth env other g a c = put_agree env other a (agree_on n depth env other g a c)
 
-pub closed_holds : (n : ℕ) (env other : Env) → Agrees n 0 env other → (c : Constraint) → ClosedPath n 0 c.left → ClosedPath n 0 c.right → Holds env c → Holds other c
+pub closed_holds : (n : ℕ) (env other : Env) → Agrees n 0 env other → (c : Constraint) → ClosedPath n 0 c.left → ClosedPath n 0 c.right → Holds env c →
+    Holds other c
 closed_holds n env other g c l r h =
-    ap (λ z. apart [] z (put_in other c.right)) (sym (closed_put n 0 env other g c.left l)) ∙ ap (λ z. apart [] (put_in env c.left) z) (sym (closed_put n 0 env other g c.right r)) ∙ h
+    ap (λ z. apart [] z (put_in other c.right)) (sym (closed_put n 0 env other g c.left l)) ∙ ap (λ z. apart [] (put_in env c.left) z)
+    (sym (closed_put n 0 env other g c.right r)) ∙ h
 
 -- where no local and no local region is in scope, what is well formed is closed
 module _ (P : PlainProgram) (L : Scope) (none : (x : ℕ) → L.local x ≡ None) where
@@ -125,4 +129,11 @@ module _ (P : PlainProgram) (L : Scope) (none : (x : ℕ) → L.local x ≡ None
     closed_type depth void g = absurd g
     closed_type depth null g = absurd g
     closed_type depth (class c args) g = λ k d l. closed_path depth _ (g.2.paths k d l)
-    closed_type depth (array t a named) g = (elim g.0 [ inl p ↦ closed_path (suc depth) a p | inr q ↦ absurd (no_region q.0.region q.0.in_scope) ], closed_type (suc depth) t g.1)
+    closed_type depth (array t a named) g = (
+      elim g.0 [
+        | inl p ↦ closed_path (suc depth) a p
+        | inr q ↦ absurd
+            (no_region q.0.region q.0.in_scope)
+      ],
+      closed_type (suc depth) t g.1,
+    )

@@ -1,11 +1,11 @@
 -- Different local regions of a run are different elements of region paths, so a ground gives an environment.
-use Rattle.std.proofs.Common.{◌≡◌, ◌≢◌, ℕ, ℤ, zero, suc, pos, negsuc, ◌+◌, ◌*◌, List, [], ◌∷◌, IsTrue, refl, sym, ap, ◌∙◌, subst, arith}
+use Rattle.std.proofs.Common.{◌≡◌, ℕ, ℤ, zero, suc, pos, negsuc, ◌+◌, ◌*◌, List, [], ◌∷◌, refl, sym, ap, arith}
 use Rattle.std.specs.Prelude.{All}
 use Rattle.dpj_base.specs.declared.effect.Constraint.{Constraint}
 use Rattle.dpj_base.specs.Matching.{IsEnv, Holds}
 use Rattle.dpj_regions.specs.Laws.{another}
 use Rattle.dpj_runs.specs.Objects.{Path, LocalRegion, Made, Unmade}
-use Rattle.dpj_sound.specs.Grounds.{pair, path_code, local_code, local_in, ArePlain, Ground, env_of, class_env}
+use Rattle.dpj_sound.specs.Grounds.{pair, path_code, local_code, local_in, ArePlain, Ground, env_of}
 
 pair_one : (a b c d : ℕ) → pair a b ≡ pair c d → (a ≡ c) × (b ≡ d)
 pair_one zero b zero d e = (refl, omega (arith, e))

@@ -1,16 +1,15 @@
 -- What effects speak of, where one covers another, and where arguments are put in.
-use Rattle.std.proofs.Common.{◌≡◌, ◌<◌, ⊎_elim, inl, inr, ℕ, Bool, true, false, not, ◌&&◌, ◌||◌, List, [], ◌∷◌, ◌++◌, map, length, refl, sym, ap, ◌∙◌, subst, arith, IsTrue, slice_index_or}
+use Rattle.std.proofs.Common.{◌≡◌, ⊎_elim, inl, inr, ℕ, Bool, true, false, not, ◌&&◌, ◌||◌, List, [], ◌∷◌, map, refl, sym, ap, ◌∙◌, IsTrue}
 use Rattle.std.specs.Prelude.{All}
 use Rattle.std.proofs.lemmas.List.Elements.{All-head, All-tail}
 use Rattle.std.proofs.lemmas.Bool.{and_parts, cases_Bool, false≢true}
 use Rattle.dpj_base.specs.declared.effect.Access.{Access as EffectAccess}
 use Rattle.dpj_base.specs.declared.effect.Access.TheVariants.{Read, Write}
 use Rattle.dpj_base.specs.declared.effect.Effect.{Effect}
-use Rattle.dpj_base.specs.declared.region.Head.TheVariants.{Param}
 use Rattle.dpj_base.specs.declared.region.Rpl.{Rpl}
 use Rattle.dpj_base.specs.Effects.{is_write, covers_access, covers_effect, some_covers, set_covers}
 use Rattle.dpj_base.specs.Matching.{IsEnv}
-use Rattle.dpj_base.specs.Regions.{within, fully_specified, argument, substituted}
+use Rattle.dpj_base.specs.Regions.{within, fully_specified, argument}
 use Rattle.dpj_typed.specs.Effects.{Own, does, uses, effect_with, effect_of, as_effects, summary_with}
 use Rattle.dpj_regions.proofs.Fitting.{matches_more}
 use Rattle.dpj_sound.specs.Grounds.{Ground, env_of}
@@ -72,18 +71,30 @@ module _ (g : Ground) (v : IsEnv [] (env_of g)) (a : Access) where
       elim l [ inl c ↦ some_lies es f p.0 c | inr r ↦ summary_lies es fs p.1 r ]
 
 -- arguments put in: a summary seen from outside, and from inside
-pub lies_up : (n : ℕ) (g inner : Ground) (args : List Rpl) → Stands n 0 (env_of g) (env_of inner) args → (a : Access) (es : List Effect) → All (λ (e : Effect). ClosedPath n 0 e.rpl) es →
+pub lies_up : (n : ℕ) (g inner : Ground) (args : List Rpl) → Stands n 0 (env_of g) (env_of inner) args → (a : Access) (es : List Effect) →
+    All (λ (e : Effect). ClosedPath n 0 e.rpl) es →
     LiesIn inner (map (λ e. does e) es) a → LiesIn g (summary_with args es) a
 lies_up n g inner args s a [] c l = absurd l
 lies_up n g inner args s a (e ∷ es) c l = elim l [
-  | inl h ↦ inl (record { matches = path_up n 0 (env_of g) (env_of inner) args s e.rpl (All-head (λ (e : Effect). ClosedPath n 0 e.rpl) e es c) a.region h.matches; writes = h.writes; guarded = h.guarded })
+  | inl h ↦ inl (record {
+    matches = path_up n 0 (env_of g) (env_of inner) args s e.rpl
+        (All-head (λ (e : Effect). ClosedPath n 0 e.rpl) e es c) a.region h.matches;
+    writes = h.writes;
+    guarded = h.guarded;
+  })
   | inr r ↦ inr (lies_up n g inner args s a es (All-tail (λ (e : Effect). ClosedPath n 0 e.rpl) e es c) r)
 ]
 
-pub lies_down : (n : ℕ) (g inner : Ground) (args : List Rpl) → Stands n 0 (env_of g) (env_of inner) args → ((p : ℕ) → IsTrue (fully_specified (argument args p))) → (a : Access) (es : List Effect) →
+pub lies_down : (n : ℕ) (g inner : Ground) (args : List Rpl) → Stands n 0 (env_of g) (env_of inner) args →
+    ((p : ℕ) → IsTrue (fully_specified (argument args p))) → (a : Access) (es : List Effect) →
     All (λ (e : Effect). ClosedPath n 0 e.rpl) es → LiesIn g (map (λ e. does e) (map (effect_with args) es)) a → LiesIn inner (map (λ e. does e) es) a
 lies_down n g inner args s full a [] c l = absurd l
 lies_down n g inner args s full a (e ∷ es) c l = elim l [
-  | inl h ↦ inl (record { matches = path_down n 0 (env_of g) (env_of inner) args s e.rpl (All-head (λ (e : Effect). ClosedPath n 0 e.rpl) e es c) (λ p _. full p) a.region h.matches; writes = h.writes; guarded = h.guarded })
+  | inl h ↦ inl (record {
+    matches = path_down n 0 (env_of g) (env_of inner) args s e.rpl (All-head (λ (e : Effect). ClosedPath n 0 e.rpl) e es c)
+        (λ p _. full p) a.region h.matches;
+    writes = h.writes;
+    guarded = h.guarded;
+  })
   | inr r ↦ inr (lies_down n g inner args s full a es (All-tail (λ (e : Effect). ClosedPath n 0 e.rpl) e es c) r)
 ]

@@ -1,13 +1,12 @@
 -- A member that is entered at an object begins in a frame that fits, and does what its caller's types and effects say.
-use Rattle.std.proofs.Common.{◌≡◌, ◌<◌, ◌≤◌, ⊎_elim, inl, inr, ℕ, zero, suc, ◌+◌, ◌-◌, Bool, true, false, cond, List, [], ◌∷◌, ◌++◌, map, length, refl, sym, ap, ◌∙◌, subst, arith, Option, Some, None, IsTrue, slice_get, slice_index_or, append_assoc}
-use Rattle.std.specs.Prelude.{All, option_and_then, option_map, pos}
+use Rattle.std.proofs.Common.{◌≡◌, ◌<◌, inl, inr, ℕ, zero, suc, true, List, [], ◌∷◌, ◌++◌, map, length, refl, sym, ap, ◌∙◌, subst, arith, Option, Some, None, IsTrue, slice_get, slice_index_or, append_assoc}
+use Rattle.std.specs.Prelude.{All, option_map}
 use Rattle.std.specs.List.{AllZip}
-use Rattle.std.proofs.lemmas.List.{length-map, map-append, length-append, get_or_append_left}
+use Rattle.std.proofs.lemmas.List.{map-append, get_or_append_left}
 use Rattle.std.proofs.lemmas.List.Elements.{All-head, All-tail, All-cons, All-append}
 use Rattle.std.proofs.lemmas.Bool.{false≢true}
-use Rattle.std.proofs.lemmas.Option.{get_or_from_slice_get, slice_get_within}
+use Rattle.std.proofs.lemmas.Option.{slice_get_within}
 use Rattle.dpj_base.specs.declared.effect.Constraint.{Constraint}
-use Rattle.dpj_base.specs.declared.effect.Effect.{Effect}
 use Rattle.dpj_base.specs.declared.elems.Elem.{Elem}
 use Rattle.dpj_base.specs.declared.elems.Elem.TheVariants.{At, Any, Star, Local}
 use Rattle.dpj_base.specs.declared.elems.Elem.TheVariants as elem
@@ -16,30 +15,30 @@ use Rattle.dpj_base.specs.declared.region.Head.{Head}
 use Rattle.dpj_base.specs.declared.region.Head.TheVariants.{Root, Param}
 use Rattle.dpj_base.specs.declared.region.Rpl.{Rpl}
 use Rattle.dpj_base.specs.Apart.{apart}
-use Rattle.dpj_base.specs.Matching.{Env, IsEnv, Holds, put_elem, put_in, Matches}
+use Rattle.dpj_base.specs.Matching.{Env, IsEnv, Holds, put_elem, put_in}
 use Rattle.dpj_base.specs.Matching.{head_region as env_region}
 use Rattle.dpj_base.specs.Regions.{within, covers_elems, fully_specified, argument, put_at, substituted}
 use Rattle.dpj_base.specs.Types.{PlainType, int, boolean, void, null, class, array}
 use Rattle.dpj_typed.specs.Plain.{PlainProgram, PlainClass, PlainMember}
-use Rattle.dpj_typed.specs.Scope.{Scope, variable, frozen, constant, part, class_at, member_at}
+use Rattle.dpj_typed.specs.Scope.{Scope, variable, frozen, constant, part, member_at}
 use Rattle.dpj_typed.specs.Scope.{Local as ScopeLocal}
 use Rattle.dpj_typed.specs.Table.{params_from, own_paths, class_scope, member_scope, first_locals, body_scope, GoodMember, GoodConstraint}
 use Rattle.dpj_typed.specs.Types.{GoodType}
 use Rattle.dpj_typed.specs.WellTyped.{WellTyped}
-use Rattle.dpj_meaning.specs.Counts.{number, slot_value, padded}
+use Rattle.dpj_meaning.specs.Counts.{padded}
 use Rattle.dpj_meaning.specs.Expressions.{entered}
 use Rattle.dpj_meaning.specs.Regions.{unmade_from}
 use Rattle.dpj_regions.proofs.Inclusion.{Covers-from, Covers-to, Covers-append, Covers-refl, within-refl}
 use Rattle.dpj_regions.proofs.Putting.{specified_matches_one}
 use Rattle.dpj_disjoint.proofs.Envs.{matches-within, stays_apart}
-use Rattle.dpj_runs.specs.Objects.{Path, LocalRegion, Unmade, Value, Null, Object, Region}
+use Rattle.dpj_runs.specs.Objects.{Path, Value, Null, Object, Region}
 use Rattle.dpj_runs.specs.Objects.{Name as ObjectName}
 use Rattle.dpj_steps.specs.Steps.{named_by}
-use Rattle.dpj_sound.specs.Grounds.{elems_of, Ground, region_in, ArePlain, env_of, class_ground, class_env}
-use Rattle.dpj_sound.specs.Shapes.{object, Shapes, Is, AllMatch, GoodObject, Instance, FitsIn}
-use Rattle.dpj_sound.specs.Frames.{Frame, State, LocalFits, FrameFits}
+use Rattle.dpj_sound.specs.Grounds.{elems_of, ArePlain, class_ground, class_env}
+use Rattle.dpj_sound.specs.Shapes.{object, Is, AllMatch, GoodObject, Instance, FitsIn}
+use Rattle.dpj_sound.specs.Frames.{State, LocalFits, FrameFits}
 use Rattle.dpj_sound.specs.Scopes.{InScope, PathInScope, TypeInScope, LocalInScope, GoodScope}
-use Rattle.dpj_sound.proofs.Closed.{ClosedPath, closed_put, closed_holds, closed_path, map_agree}
+use Rattle.dpj_sound.proofs.Closed.{ClosedPath, closed_put, closed_holds, closed_path}
 use Rattle.dpj_sound.proofs.Codes.{unmade_one}
 use Rattle.dpj_sound.proofs.Types.{Stands}
 use Rattle.dpj_sound.proofs.Classes.{all_get}
@@ -56,27 +55,34 @@ root_put env inner a n h c =
 within_at : (n : ℕ) (env inner : Env) (args : List Rpl) → IsEnv [] env → Stands n 0 env inner args → (h : Head) (a : List Elem) → ClosedPath n 0 (record { head = h; elems = a }) →
     within (put_in inner (record { head = h; elems = a })) (put_in env (put_at h a args)) ≡ true
 unfolding within put_in
-within_at n env inner args v s Root a c = subst (λ z. within z (put_in env (record { head = Root; elems = a })) ≡ true) (sym (root_put env inner a n Root c)) (within-refl (put_in env (record { head = Root; elems = a })))
+within_at n env inner args v s Root a c = subst (λ z. within z (put_in env (record { head = Root; elems = a })) ≡ true)
+    (sym (root_put env inner a n Root c)) (within-refl (put_in env (record { head = Root; elems = a })))
 within_at n env inner args v s (Param p) a c =
     let arg = argument args p in
     let w = matches-within [] env v arg (inner.region p) (s.match p (c.head p refl)) in
     let both = Covers-to (Covers-append (Covers-from (put_in env arg).elems (inner.region p) w) (Covers-refl (map (put_elem env) a))) in
     let e : map (put_elem inner) a ≡ map (put_elem env) a = ap (λ (z : Rpl). z.elems) (root_put env inner a n (Param p) c) in
     let k : (put_in env arg).elems ++ map (put_elem env) a ≡ env_region env arg.head ++ map (put_elem env) (arg.elems ++ a) =
-        append_assoc (env_region env arg.head) (map (put_elem env) arg.elems) (map (put_elem env) a) ∙ ap (λ z. env_region env arg.head ++ z) (sym (map-append (put_elem env) arg.elems a)) in
-    subst (λ z. covers_elems z (inner.region p ++ map (put_elem inner) a) ≡ true) k (subst (λ z. covers_elems ((put_in env arg).elems ++ map (put_elem env) a) (inner.region p ++ z) ≡ true) (sym e) both)
+    append_assoc (env_region env arg.head) (map (put_elem env) arg.elems) (map (put_elem env) a) ∙ ap (λ z. env_region env arg.head ++ z)
+    (sym (map-append (put_elem env) arg.elems a)) in
+    subst (λ z. covers_elems z (inner.region p ++ map (put_elem inner) a) ≡ true) k
+    (subst (λ z. covers_elems ((put_in env arg).elems ++ map (put_elem env) a) (inner.region p ++ z) ≡ true) (sym e) both)
 
-pub within_put : (n : ℕ) (env inner : Env) (args : List Rpl) → IsEnv [] env → Stands n 0 env inner args → (a : Rpl) → ClosedPath n 0 a → within (put_in inner a) (put_in env (substituted args a)) ≡ true
+pub within_put : (n : ℕ) (env inner : Env) (args : List Rpl) → IsEnv [] env → Stands n 0 env inner args → (a : Rpl) → ClosedPath n 0 a →
+    within (put_in inner a) (put_in env (substituted args a)) ≡ true
 unfolding substituted
 within_put n env inner args v s a c = within_at n env inner args v s a.head a.elems c
 
 -- constraints that hold with arguments put in hold of the regions that these match
-pub given_holds : (n : ℕ) (given : List Constraint) (env inner : Env) (args : List Rpl) → IsEnv given env → IsEnv [] env → Stands n 0 env inner args → (cs : List Constraint) →
-    All (λ (c : Constraint). ClosedPath n 0 c.left × ClosedPath n 0 c.right) cs → All (λ (c : Constraint). IsTrue (apart given (substituted args c.left) (substituted args c.right))) cs → All (Holds inner) cs
+pub given_holds : (n : ℕ) (given : List Constraint) (env inner : Env) (args : List Rpl) → IsEnv given env → IsEnv [] env → Stands n 0 env inner args →
+    (cs : List Constraint) →
+    All (λ (c : Constraint). ClosedPath n 0 c.left × ClosedPath n 0 c.right) cs → All (λ (c : Constraint). IsTrue
+    (apart given (substituted args c.left) (substituted args c.right))) cs → All (Holds inner) cs
 given_holds n given env inner args v v0 s cs cl h = λ k c l.
     (let z = cl k c l in
     let x = slice_index_or cs k c in
-    stays_apart given env v (substituted args x.left) (substituted args x.right) (put_in inner x.left) (put_in inner x.right) (h k c l) (within_put n env inner args v0 s x.left z.0) (within_put n env inner args v0 s x.right z.1))
+    stays_apart given env v (substituted args x.left) (substituted args x.right) (put_in inner x.left) (put_in inner x.right) (h k c l)
+    (within_put n env inner args v0 s x.left z.0) (within_put n env inner args v0 s x.right z.1))
 
 -- the slots of a frame
 
@@ -99,12 +105,16 @@ unmade_length p r (suc n) = ap (λ k. suc k) (unmade_length p (suc r) n)
 shown_match : (env : Env) (args : List Rpl) (rs : List Region) → Shown env args rs → AllMatch env args rs
 shown_match env args rs s = go args rs s.puts s.full
   where
-    go : (args : List Rpl) (rs : List Region) → AllZip (λ a r. elems_of r ≡ (put_in env a).elems) args rs → All (λ a. IsTrue (fully_specified a)) args → AllMatch env args rs
+    go : (args : List Rpl) (rs : List Region) → AllZip (λ a r. elems_of r ≡ (put_in env a).elems) args rs →
+        All (λ a. IsTrue (fully_specified a)) args → AllMatch env args rs
     go [] [] p f = tt
     go [] (r ∷ rs) p f = p
     go (a ∷ args) [] p f = p
-    go (a ∷ args) (r ∷ rs) p f =
-        ((specified_matches_one env a (All-head (λ a. IsTrue (fully_specified a)) a args f) (elems_of r)).1 p.0, go args rs p.1 (All-tail (λ a. IsTrue (fully_specified a)) a args f))
+    go (a ∷ args) (r ∷ rs) p f = (
+      (specified_matches_one env a (All-head (λ a. IsTrue (fully_specified a)) a args f) (elems_of r)).1 p.0,
+      go args rs p.1
+          (All-tail (λ a. IsTrue (fully_specified a)) a args f),
+    )
 
 -- in another scope, where nothing but region parameters is spoken of
 module _ (M L : Scope) (none : (x : ℕ) → M.local x ≡ None) (no_region : (r : ℕ) → M.regions r ≡ true → ⊥) where
@@ -139,10 +149,16 @@ module _ (P : PlainProgram) (wt : WellTyped P) (n : ℕ) (m : PlainMember) (ther
 
   params_in : (L : Scope) (j k : ℕ) → All (PathInScope L 0) (params_from j k)
   params_in L j zero = λ i d l. absurd (omega (arith, l))
-  params_in L j (suc k) = All-cons (PathInScope L 0) (record { head = Param j; elems = [] }) (params_from (suc j) k) (λ i d l. absurd (omega (arith, l))) (params_in L (suc j) k)
+  params_in L j (suc k) = All-cons (PathInScope L 0) (record { head = Param j; elems = [] }) (params_from (suc j) k)
+      (λ i d l. absurd (omega (arith, l))) (params_in L (suc j) k)
 
-  constraint_in : (M : Scope) → ((y : ℕ) → M.local y ≡ None) → ((r : ℕ) → M.regions r ≡ true → ⊥) → (c : Constraint) → GoodConstraint P M c → PathInScope scope 0 c.left × PathInScope scope 0 c.right
-  constraint_in M none nor c h = (λ k d l. other_elem M scope none nor 0 _ (good_path P M 0 c.left h.0 k d l), λ k d l. other_elem M scope none nor 0 _ (good_path P M 0 c.right h.1 k d l))
+  constraint_in : (M : Scope) → ((y : ℕ) → M.local y ≡ None) → ((r : ℕ) → M.regions r ≡ true → ⊥) → (c : Constraint) → GoodConstraint P M c →
+      PathInScope scope 0 c.left × PathInScope scope 0 c.right
+  constraint_in M none nor c h = (
+    λ k d l. other_elem M scope none nor 0 _
+        (good_path P M 0 c.left h.0 k d l),
+    λ k d l. other_elem M scope none nor 0 _ (good_path P M 0 c.right h.1 k d l),
+  )
 
   pub body_good : GoodScope scope
   body_good = record {
@@ -175,9 +191,11 @@ module _ (P : PlainProgram) (wt : WellTyped P) (n : ℕ) (m : PlainMember) (ther
       no_part (suc x) t a e = let z = formal_local x (slice_get m.formals x) (part t a) e in let q : part t a ≡ variable z.0 = z.2 in cc
 
   -- the frame in which it begins, at an object or as its constructor
-  pub entered_fits : (path : Path) (st : State) (zs own : List Region) (left : ℕ) → GoodObject P m.class zs → ArePlain own → All (Holds (class_env (zs ++ own))) m.given →
+  pub entered_fits : (path : Path) (st : State) (zs own : List Region) (left : ℕ) → GoodObject P m.class zs → ArePlain own →
+      All (Holds (class_env (zs ++ own))) m.given →
       (o : ObjectName) → (d : ℕ) (made : List Region) → st.shapes o ≡ Some (object d made) → GoodObject P d made → Is P d made m.class zs →
-      (vs : List Value) → ((x : ℕ) (t : PlainType) → slice_get m.formals x ≡ Some t → FitsIn P st.shapes (class_env (zs ++ own)) t (slice_index_or vs x Null)) →
+      (vs : List Value) → ((x : ℕ) (t : PlainType) → slice_get m.formals x ≡ Some t →
+      FitsIn P st.shapes (class_env (zs ++ own)) t (slice_index_or vs x Null)) →
       FrameFits P path st (class_ground (zs ++ own)) scope (entered (named_by path) m (Object o ∷ vs) (zs ++ own) left)
   entered_fits path st zs own left gz plain given o d made shape gd is_one vs fits = record {
     regions = refl;
@@ -212,14 +230,21 @@ module _ (P : PlainProgram) (wt : WellTyped P) (n : ℕ) (m : PlainMember) (ther
 
       this : Instance P st.shapes (class_env (zs ++ own)) m.class (own_paths good.class) o
       this = record {
-        class = d; made_with = made; regions = zs; shape = shape; good = gd; is_one = is_one;
-        matches = subst (λ k. AllMatch (class_env (zs ++ own)) (params_from 0 k) zs) arity (shown_match (class_env (zs ++ own)) (params_from 0 (length zs)) zs (class_params zs own));
+        class = d;
+        made_with = made;
+        regions = zs;
+        shape = shape;
+        good = gd;
+        is_one = is_one;
+        matches = subst (λ k. AllMatch (class_env (zs ++ own)) (params_from 0 k) zs) arity
+            (shown_match (class_env (zs ++ own)) (params_from 0 (length zs)) zs (class_params zs own));
       }
 
       values : List Value
       values = padded m.slots (Object o ∷ vs)
 
-      each : (x : ℕ) (l : ScopeLocal) → first_locals good.class m x ≡ Some l → LocalFits P st.shapes (class_ground (zs ++ own)) (padded m.slots (Object o ∷ vs)) x l
+      each : (x : ℕ) (l : ScopeLocal) → first_locals good.class m x ≡ Some l →
+          LocalFits P st.shapes (class_ground (zs ++ own)) (padded m.slots (Object o ∷ vs)) x l
       each zero l e =
           let z : frozen (class m.class (own_paths good.class)) ≡ l = cc in
           let s = padded_at m.slots zero (Object o ∷ vs) (let r = good.room in omega (arith, r)) in

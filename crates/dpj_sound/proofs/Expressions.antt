@@ -1,59 +1,53 @@
 -- Expressions of a well-typed program are in order: one case a construct.
-use Rattle.std.proofs.Common.{◌≡◌, ◌<◌, ◌⊎◌, ⊎_elim, inl, inr, ℕ, ℤ, zero, suc, pos, negsuc, ◌+◌, Bool, true, false, cond, List, [], ◌∷◌, ◌++◌, map, length, reverse, refl, sym, ap, ◌∙◌, subst, arith, Option, Some, None, IsTrue, slice_get, slice_index_or}
-use Rattle.std.specs.Prelude.{All, option_and_then}
-use Rattle.std.proofs.lemmas.List.Elements.{All-head, All-tail}
-use Rattle.std.proofs.lemmas.List.{length-map}
+use Rattle.std.proofs.Common.{◌≡◌, inl, ℕ, ℤ, pos, Bool, true, false, cond, List, [], ◌∷◌, length, refl, sym, ap, ◌∙◌, Option, Some, None, IsTrue}
+use Rattle.std.specs.Prelude.{All}
 use Rattle.std.proofs.lemmas.Bool.{false≢true}
-use Rattle.std.proofs.lemmas.Option.{option_and_then_some}
 use Rattle.dpj_base.specs.declared.elems.Elem.{Elem}
-use Rattle.dpj_base.specs.declared.elems.Elem.TheVariants.{At, Any}
+use Rattle.dpj_base.specs.declared.elems.Elem.TheVariants.{At}
 use Rattle.dpj_base.specs.declared.elems.Index.TheVariants.{Literal}
 use Rattle.dpj_base.specs.declared.place.Place.{Place}
 use Rattle.dpj_base.specs.declared.region.Rpl.{Rpl}
 use Rattle.dpj_base.specs.declared.value.Trap.{Trap}
 use Rattle.dpj_base.specs.declared.value.Trap.TheVariants as trap
-use Rattle.dpj_base.specs.Matching.{Env, Fits, Matches, put_in}
+use Rattle.dpj_base.specs.Matching.{Fits, Matches, put_in}
 use Rattle.dpj_base.specs.Regions.{substituted, is_any}
-use Rattle.dpj_base.specs.Types.{PlainType, int, boolean, void, null, class, array, type_with, path_at, type_at, rigid_in_index}
+use Rattle.dpj_base.specs.Types.{PlainType, int, class, array, type_with, path_at, type_at, rigid_in_index}
 use Rattle.dpj_typed.specs.declared.expr.BinaryOp.{BinaryOp}
 use Rattle.dpj_typed.specs.declared.expr.BinaryOp.TheVariants as op
-use Rattle.dpj_typed.specs.Effects.{reads, does, uses}
-use Rattle.dpj_typed.specs.Effects.{Own as EffectOwn}
-use Rattle.dpj_typed.specs.Plain.{PlainProgram, PlainClass, PlainField, PlainMember, TypedExpr, typed, type_of}
-use Rattle.dpj_typed.specs.Plain.{ExprForm as form}
-use Rattle.dpj_typed.specs.Scope.{Scope, constant, variable, frozen, part, class_at, field_at}
+use Rattle.dpj_typed.specs.Effects.{reads, does}
+use Rattle.dpj_typed.specs.Plain.{PlainProgram, PlainField}
+use Rattle.dpj_typed.specs.Scope.{Scope, constant, field_at}
 use Rattle.dpj_typed.specs.Scope.{Local as ScopeLocal}
 use Rattle.dpj_typed.specs.Table.{class_scope}
 use Rattle.dpj_typed.specs.Types.{Readable}
-use Rattle.dpj_typed.specs.Typing.{variable_elem, index_elem, result_of}
+use Rattle.dpj_typed.specs.Typing.{variable_elem, result_of}
 use Rattle.dpj_typed.specs.WellTyped.{WellTyped}
-use Rattle.dpj_meaning.specs.Core.{Goes_on, Returns, Ret, Traps, Act}
-use Rattle.dpj_meaning.specs.Counts.{number, truth, reference, value_read, length_seen, operated, slot_value}
+use Rattle.dpj_meaning.specs.Core.{Goes_on, Traps, Act}
+use Rattle.dpj_meaning.specs.Counts.{number, value_read, length_seen, slot_value}
 use Rattle.dpj_meaning.specs.Expressions.{gives, operation, unless_null, read_cell}
 use Rattle.dpj_regions.proofs.Putting.{specified_matches_one}
-use Rattle.dpj_runs.specs.Actions.{Rest, Read, Write, Look, New, Answer, Went, Got, Out, Class, Length, Named, Joined, Fell}
-use Rattle.dpj_runs.specs.Objects.{Name, Value, Int, Boolean, Null, Object, Region}
-use Rattle.dpj_steps.specs.Steps.{named_by}
+use Rattle.dpj_runs.specs.Actions.{Read, Look, Answer, Went, Got, Out, Class, Length, Named, Joined, Fell}
+use Rattle.dpj_runs.specs.Objects.{Name, Value, Int, Boolean, Null, Object}
 use Rattle.dpj_sound.specs.Grounds.{Ground, env_of, class_env, under}
-use Rattle.dpj_sound.specs.Shapes.{Shape, object, elements, Shapes, Instance, ArrayInstance, IsNullOr, FitsIn, of_object, of_array}
-use Rattle.dpj_sound.specs.Accesses.{Access, Speaks, LiesIn, Bounds, Allowed, Within}
+use Rattle.dpj_sound.specs.Shapes.{Shape, object, elements, Instance, ArrayInstance, IsNullOr, FitsIn, of_object, of_array}
+use Rattle.dpj_sound.specs.Accesses.{Access, Speaks, Bounds, Within}
 use Rattle.dpj_sound.specs.Frames.{Frame, State, Since, FrameFits}
-use Rattle.dpj_sound.specs.Scopes.{PathInScope, GoodScope}
-use Rattle.dpj_sound.specs.Work.{Result, Prog, Touches, Reaches, access_of, ReadFits, After, InOrder}
-use Rattle.dpj_sound.specs.Laws.{Yields}
+use Rattle.dpj_sound.specs.Scopes.{PathInScope}
+use Rattle.dpj_sound.specs.Work.{Result, Prog, Touches, Reaches, access_of, ReadFits, InOrder}
 use Rattle.dpj_sound.proofs.Closed.{closed_path, closed_type}
-use Rattle.dpj_sound.proofs.Types.{fits_same, fits_grows, same_sym, fits_with_up, path_up}
+use Rattle.dpj_sound.proofs.Types.{fits_same, same_sym, fits_with_up, path_up}
 use Rattle.dpj_sound.proofs.Indices.{IsIndexElem, fits_at_up, region_at_up}
-use Rattle.dpj_sound.proofs.Classes.{good_is, field_good, FieldAt, field_is, stands_args}
-use Rattle.dpj_sound.proofs.InScope.{paths_alone, index_in}
-use Rattle.dpj_sound.proofs.Work.{since_now, since_since, since_after, order_ret}
+use Rattle.dpj_sound.proofs.Classes.{good_is, field_good, field_is, stands_args}
+use Rattle.dpj_sound.proofs.InScope.{paths_alone}
+use Rattle.dpj_sound.proofs.Work.{since_after}
 
 -- an effect that is no mark of a block speaks of a read
 pub speaks_read : (g : Ground) (rpl : Rpl) (a : Access) → a.write ≡ false → Matches (env_of g) rpl a.region → Speaks g (reads rpl) a
 speaks_read g rpl a w m = record { matches = m; writes = λ e. absurd (false≢true (sym w ∙ e)); guarded = λ e. absurd (false≢true e) }
 
 module _ (P : PlainProgram) (b : Bounds) where
-  pub order_unless : (R : State → Result → Type 0) (st : State) (at : Place) (A : Name → Type 0) (k : Name → Prog) → ((n : Name) → A n → InOrder P b R st (k n)) → (v : Value) → IsNullOr A v →
+  pub order_unless : (R : State → Result → Type 0) (st : State) (at : Place) (A : Name → Type 0) (k : Name → Prog) →
+      ((n : Name) → A n → InOrder P b R st (k n)) → (v : Value) → IsNullOr A v →
       InOrder P b R st (unless_null at v k)
   unfolding InOrder
   order_unless R st at A k i Null h = tt
@@ -61,11 +55,13 @@ module _ (P : PlainProgram) (b : Bounds) where
   order_unless R st at A k i (Int j) h = absurd h
   order_unless R st at A k i (Boolean c) h = absurd h
 
-  pub order_choose : (R : State → Result → Type 0) (st : State) (c : Bool) (p q : Prog) → InOrder P b R st p → InOrder P b R st q → InOrder P b R st (elim c as (λ z. Prog) [ false ↦ p | true ↦ q ])
+  pub order_choose : (R : State → Result → Type 0) (st : State) (c : Bool) (p q : Prog) → InOrder P b R st p → InOrder P b R st q →
+      InOrder P b R st (elim c as (λ z. Prog) [ false ↦ p | true ↦ q ])
   order_choose R st false p q h k = h
   order_choose R st true p q h k = k
 
-  pub order_cond : (R : State → Result → Type 0) (st : State) (c : Bool) (p q : Prog) → InOrder P b R st p → InOrder P b R st q → InOrder P b R st (cond c p q)
+  pub order_cond : (R : State → Result → Type 0) (st : State) (c : Bool) (p q : Prog) → InOrder P b R st p → InOrder P b R st q →
+      InOrder P b R st (cond c p q)
   order_cond R st false p q h k = k
   order_cond R st true p q h k = h
 
@@ -79,7 +75,8 @@ module _ (P : PlainProgram) (b : Bounds) where
   unfolding InOrder
   order_read R st at n i f r k = (r, λ x u after fits. go x u (since_after (Read n i) refl after) fits)
     where
-      go : (x : Answer) (u : State) → Since st u → ReadFits r.cell u.shapes x → InOrder P b R u (elim (value_read x) as (λ z. Prog) [ None ↦ Traps trap.Index at | Some v ↦ gives v f ])
+      go : (x : Answer) (u : State) → Since st u → ReadFits r.cell u.shapes x →
+          InOrder P b R u (elim (value_read x) as (λ z. Prog) [ None ↦ Traps trap.Index at | Some v ↦ gives v f ])
       go (Got v) u s h = k v u s h
       go Out u s h = tt
       go Went u s h = absurd h
@@ -98,7 +95,8 @@ module _ (P : PlainProgram) (b : Bounds) where
   abbrev after_operation : Place → Frame → Option Value → Prog
   after_operation at f o = elim o as (λ z. Prog) [ None ↦ Traps trap.Divide at | Some w ↦ gives w f ]
 
-  order_divided : (R : State → Result → Type 0) (st : State) (at : Place) (f : Frame) (z : ℤ) → R st (Goes_on (Int z) f) → (c : Bool) → InOrder P b R st (after_operation at f (cond c None (Some (Int z))))
+  order_divided : (R : State → Result → Type 0) (st : State) (at : Place) (f : Frame) (z : ℤ) → R st (Goes_on (Int z) f) → (c : Bool) →
+      InOrder P b R st (after_operation at f (cond c None (Some (Int z))))
   unfolding InOrder
   order_divided R st at f z r true = tt
   order_divided R st at f z r false = r
@@ -126,8 +124,10 @@ module _ (P : PlainProgram) (b : Bounds) where
     local_index {st} {f} ff x _ e = (number (slot_value f.values x), refl)
 
     -- a read of a field, or the trap at null
-    pub field_order : (R : State → Result → Type 0) (st : State) (at : Place) (f : Frame) (c k : ℕ) (args : List Rpl) (fd : PlainField) → field_at P c k ≡ Some fd → Readable args fd.ty →
-        All (PathInScope L 0) args → Within b st.entries g (does (reads (substituted args fd.region)) ∷ []) → (v : Value) → FitsIn P st.shapes (env_of g) (class c args) v →
+    pub field_order : (R : State → Result → Type 0) (st : State) (at : Place) (f : Frame) (c k : ℕ) (args : List Rpl) (fd : PlainField) →
+        field_at P c k ≡ Some fd → Readable args fd.ty →
+        All (PathInScope L 0) args → Within b st.entries g (does (reads (substituted args fd.region)) ∷ []) → (v : Value) → FitsIn P st.shapes
+        (env_of g) (class c args) v →
         ((w : Value) (u : State) → Since st u → FitsIn P u.shapes (env_of g) (type_with args fd.ty) w → R u (Goes_on w f)) →
         InOrder P b R st (unless_null at v (λ n. read_cell at n (pos k) f))
     field_order R st at f c k args fd e rd al w v fv next = order_unless R st at (Instance P st.shapes (env_of g) c args) (λ n. read_cell at n (pos k) f) go v fv
@@ -144,8 +144,14 @@ module _ (P : PlainProgram) (b : Bounds) where
             let cell : Touches P st.shapes n (pos k) = record { shape = object i.class i.made_with; is = i.shape; env = class_env i.made_with; ty = fa.field.ty; rpl = fa.field.region; cell = of_object fa.there } in
             let region = (put_in (class_env i.made_with) fa.field.region).elems in
             order_read R st at n (pos k) f
-            (record { cell = cell; allowed = w (access_of b st n (pos k) false region) (λ e. e) (inl (speaks_read g (substituted args fd.region) (access_of b st n (pos k) false region) refl (path_up m 0 (env_of g) (class_env i.regions) args st' fd.region path region own))) })
-            (λ x u s h. next x u s (fits_with_up P u.shapes m (env_of g) (class_env i.regions) args st' fd.ty (closed_type P (class_scope good.class) (λ y. refl) (λ r t. false≢true t) 0 fd.ty gf.ty) rd x
+            (record {
+              cell = cell;
+              allowed = w (access_of b st n (pos k) false region) (λ e. e)
+                  (inl (speaks_read g (substituted args fd.region) (access_of b st n (pos k) false region) refl
+                  (path_up m 0 (env_of g) (class_env i.regions) args st' fd.region path region own)));
+            })
+            (λ x u s h. next x u s (fits_with_up P u.shapes m (env_of g) (class_env i.regions) args st' fd.ty
+            (closed_type P (class_scope good.class) (λ y. refl) (λ r t. false≢true t) 0 fd.ty gf.ty) rd x
             (fits_same P u.shapes (class_env i.made_with) fa.field.ty (class_env i.regions) fd.ty fa.types x h)))
 
     -- a read of an element
@@ -158,8 +164,22 @@ module _ (P : PlainProgram) (b : Bounds) where
       where
         go : (n : Name) → ArrayInstance st.shapes (env_of g) t a n → InOrder P b R st (read_cell at n k f)
         go n i =
-            let cell : Touches P st.shapes n k = record { shape = elements i.ground i.element i.rpl; is = i.shape; env = under k (env_of i.ground); ty = i.element; rpl = i.rpl; cell = of_array } in
+            let cell : Touches P st.shapes n k = record {
+              shape = elements i.ground i.element i.rpl;
+              is = i.shape;
+              env = under k
+                  (env_of i.ground);
+              ty = i.element;
+              rpl = i.rpl;
+              cell = of_array;
+            } in
             let region = (put_in (under k (env_of i.ground)) i.rpl).elems in
             order_read R st at n k f
-            (record { cell = cell; allowed = w (access_of b st n k false region) (λ e. e) (inl (speaks_read g (path_at 0 x a) (access_of b st n k false region) refl (region_at_up g x k fx a region (i.region k)))) })
-            (λ y u s h. next y u s (fits_at_up P u.shapes g x ix k fx t rg y (fits_same P u.shapes (under k (env_of i.ground)) i.element (under k (env_of g)) t (same_sym (under k (env_of g)) t (under k (env_of i.ground)) i.element (i.same k)) y h)))
+            (record {
+              cell = cell;
+              allowed = w (access_of b st n k false region) (λ e. e)
+                  (inl (speaks_read g (path_at 0 x a) (access_of b st n k false region) refl (region_at_up g x k fx a region (i.region k))));
+            })
+            (λ y u s h. next y u s (fits_at_up P u.shapes g x ix k fx t rg y
+            (fits_same P u.shapes (under k (env_of i.ground)) i.element (under k (env_of g)) t
+            (same_sym (under k (env_of g)) t (under k (env_of i.ground)) i.element (i.same k)) y h)))

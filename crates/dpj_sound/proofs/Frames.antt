@@ -1,44 +1,43 @@
 -- Frames that fit, later, and what effects speak of, in parts.
-use Rattle.std.proofs.Common.{◌≡◌, ◌≤◌, ◌<◌, ◌⊎◌, ⊎_elim, inl, inr, ℕ, ◌+◌, ℤ, pos, List, [], ◌∷◌, ◌++◌, map, length, refl, sym, ap, ◌∙◌, subst, arith, Option, Some, None, true, false, slice_index_or}
-use Rattle.std.specs.Prelude.{All}
-use Rattle.std.proofs.lemmas.List.{get_or-map, length-map}
-use Rattle.std.proofs.lemmas.Bool.{false≢true}
+use Rattle.std.proofs.Common.{◌≡◌, ◌≤◌, inl, inr, ℕ, ◌+◌, List, [], ◌∷◌, ◌++◌, refl, sym, ap, ◌∙◌, subst, arith, false, slice_index_or}
 use Rattle.dpj_base.specs.declared.elems.Elem.{Elem}
 use Rattle.dpj_base.specs.declared.elems.Elem.TheVariants.{Name, At, Any, Star, Local}
 use Rattle.dpj_base.specs.declared.elems.Index.TheVariants.{Literal, Variable, Renamed, Own}
 use Rattle.dpj_base.specs.declared.region.Head.{Head}
 use Rattle.dpj_base.specs.declared.region.Head.TheVariants.{Root, Param}
 use Rattle.dpj_base.specs.declared.region.Rpl.{Rpl}
-use Rattle.dpj_base.specs.Matching.{Env, IsEnv, put_elem, put_in}
+use Rattle.dpj_base.specs.Matching.{IsEnv, put_elem, put_in}
 use Rattle.dpj_base.specs.Matching.{head_region as env_region}
 use Rattle.dpj_base.specs.Types.{int, array}
 use Rattle.dpj_typed.specs.Effects.{Own as EffectOwn}
 use Rattle.dpj_typed.specs.Plain.{PlainProgram}
 use Rattle.dpj_typed.specs.Scope.{Scope, variable, frozen, constant, part, reserved}
 use Rattle.dpj_typed.specs.Scope.{Local as ScopeLocal}
-use Rattle.dpj_meaning.specs.Counts.{number, slot_value}
+use Rattle.dpj_meaning.specs.Counts.{slot_value}
 use Rattle.dpj_meaning.specs.Regions.{around, part_of, head_region, concrete}
 use Rattle.dpj_runs.specs.Objects.{Path, LocalRegion, Made, Unmade, Value, Effect, Region}
 use Rattle.dpj_steps.specs.Steps.{named_by}
-use Rattle.dpj_sound.specs.Grounds.{local_code, elem_of, elems_of, Ground, region_in, env_of, under, element_part, element_region}
+use Rattle.dpj_sound.specs.Grounds.{local_code, elem_of, elems_of, Ground, env_of}
 use Rattle.dpj_sound.specs.Shapes.{Shapes, Grows}
 use Rattle.dpj_sound.specs.Accesses.{Access, LiesIn, Bounds, Within}
-use Rattle.dpj_sound.specs.Frames.{Frame, State, Since, IsOld, PartFits, LocalFits, FrameFits}
+use Rattle.dpj_sound.specs.Frames.{Frame, State, Since, IsOld, LocalFits, FrameFits}
 use Rattle.dpj_sound.specs.Scopes.{InScope, PathInScope}
 use Rattle.dpj_sound.proofs.Codes.{ground_env}
 use Rattle.dpj_sound.proofs.Types.{fits_grows}
-use Rattle.dpj_sound.proofs.Classes.{concrete_elems, env_alone}
+use Rattle.dpj_sound.proofs.Classes.{concrete_elems}
 
-old_later : (p : Path) (m n r : ℕ) → m ≤ n → (l : LocalRegion) → IsOld p m r l → IsOld p n r l
+pub old_later : (p : Path) (m n r : ℕ) → m ≤ n → (l : LocalRegion) → IsOld p m r l → IsOld p n r l
 old_later p m n r h (Unmade k) o = o
 old_later p m n r h (Made q c) o = elim o [ inl a ↦ inl (a.0, (let l = a.1 in omega (arith, h, l))) | inr z ↦ inr z ]
 
-local_later : (P : PlainProgram) (S T : Shapes) → Grows S T → (g : Ground) (vs : List Value) (x : ℕ) (l : ScopeLocal) → LocalFits P S g vs x l → LocalFits P T g vs x l
+pub local_later : (P : PlainProgram) (S T : Shapes) → Grows S T → (g : Ground) (vs : List Value) (x : ℕ) (l : ScopeLocal) → LocalFits P S g vs x l →
+    LocalFits P T g vs x l
 local_later P S T h g vs x (variable t) f = fits_grows P S T h (env_of g) t _ f
 local_later P S T h g vs x (frozen t) f = fits_grows P S T h (env_of g) t _ f
 local_later P S T h g vs x (constant t) f = fits_grows P S T h (env_of g) t _ f
 local_later P S T h g vs x (part t a) f = record {
-  no_index = f.no_index; none_mentioned = f.none_mentioned;
+  no_index = f.no_index;
+  none_mentioned = f.none_mentioned;
   array = fits_grows P S T h (env_of g) (array t a false) (slot_value vs x) f.array;
   len = fits_grows P S T h (env_of g) int (slot_value vs (x + 2)) f.len;
   places = f.places;
@@ -47,9 +46,15 @@ local_later P S T h g vs x reserved f = tt
 
 pub frame_since : {P : PlainProgram} {p : Path} {s t : State} {g : Ground} {L : Scope} {f : Frame} → Since s t → FrameFits P p s g L f → FrameFits P p t g L f
 frame_since {P} {p} {s} {t} {g} {L} {f} h ff = record {
-  regions = ff.regions; plain = ff.plain; given = ff.given; index = ff.index; made = ff.made; distinct = ff.distinct;
+  regions = ff.regions;
+  plain = ff.plain;
+  given = ff.given;
+  index = ff.index;
+  made = ff.made;
+  distinct = ff.distinct;
   old = λ r. old_later p s.made t.made r h.made (g.made r) (ff.old r);
-  slots = ff.slots; local_regions = ff.local_regions;
+  slots = ff.slots;
+  local_regions = ff.local_regions;
   each = λ x l e. local_later P s.shapes t.shapes h.grows g f.values x l (ff.each x l e);
 }
 

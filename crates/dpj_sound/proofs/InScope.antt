@@ -1,10 +1,10 @@
 -- The types of expressions speak of nothing but what is in scope.
-use Rattle.std.proofs.Common.{◌≡◌, ◌<◌, ◌⊎◌, ℕ, ℤ, zero, suc, pos, Bool, true, false, cond, ◌==◌, ◌||◌, List, [], ◌∷◌, ◌++◌, map, length, refl, sym, ap, ◌∙◌, subst, arith, Option, Some, None, IsTrue, slice_get, slice_index_or, inl, inr, ⊎_elim}
-use Rattle.std.specs.Prelude.{All, option_and_then, option_map}
+use Rattle.std.proofs.Common.{◌≡◌, ℕ, zero, suc, Bool, true, false, ◌==◌, ◌||◌, List, [], ◌∷◌, ◌++◌, map, length, refl, sym, ap, ◌∙◌, subst, arith, Option, Some, None, slice_get, slice_index_or, inl, inr, ⊎_elim}
+use Rattle.std.specs.Prelude.{All}
 use Rattle.std.specs.List.{list_any}
 use Rattle.std.proofs.lemmas.List.Folds.{list_any-append}
 use Rattle.std.proofs.lemmas.List.Elements.{All-head, All-tail, All-cons, All-map, All-append}
-use Rattle.std.proofs.lemmas.Bool.{cases_Bool, false≢true, cond-true, cond-false, eqb-true, eq-eqb, eqb-false}
+use Rattle.std.proofs.lemmas.Bool.{cases_Bool, false≢true, cond-true, cond-false, eqb-false}
 use Rattle.std.proofs.lemmas.Option.{option_and_then_some}
 use Rattle.dpj_base.specs.declared.elems.Elem.{Elem}
 use Rattle.dpj_base.specs.declared.elems.Elem.TheVariants.{Name, At, Any, Star, Local}
@@ -15,22 +15,22 @@ use Rattle.dpj_base.specs.declared.region.Rpl.{Rpl}
 use Rattle.dpj_base.specs.Regions.{same_elem, argument, put_at, substituted}
 use Rattle.dpj_base.specs.Types.{PlainType, int, boolean, void, null, class, array, type_with, elem_at, path_at, type_at, has_index, mentions_index}
 use Rattle.dpj_typed.specs.Effects.{Own as EffectOwn}
-use Rattle.dpj_typed.specs.Plain.{PlainProgram, PlainClass, PlainField, PlainMember, PlainParent, TypedExpr, typed, type_of}
+use Rattle.dpj_typed.specs.Plain.{PlainProgram, PlainClass, PlainField, PlainMember, TypedExpr, typed, type_of}
 use Rattle.dpj_typed.specs.Plain.{ExprForm as form}
-use Rattle.dpj_typed.specs.Scope.{Scope, constant, variable, frozen, part, class_at, field_at, parent_of, Above, itself, through_parent}
+use Rattle.dpj_typed.specs.Scope.{Scope, constant, variable, frozen, part, class_at, field_at, Above, itself, through_parent}
 use Rattle.dpj_typed.specs.Scope.{Local as ScopeLocal}
 use Rattle.dpj_typed.specs.Table.{class_scope, member_scope}
-use Rattle.dpj_typed.specs.Types.{GoodElem, GoodPath, LocalPath, GoodType, SpeaksOfNone}
-use Rattle.dpj_typed.specs.Typing.{Holds, variable_elem, index_elem, Has, literal_int, literal_boolean, literal_null, read_local, read_field, read_element, length_of_array, call_method, create_object, construct_object, make_array, negative, negation, operation, conjunction, disjunction, length_of_part, read_part}
+use Rattle.dpj_typed.specs.Types.{GoodElem, GoodPath, LocalPath, GoodType}
+use Rattle.dpj_typed.specs.Typing.{variable_elem, index_elem, Has, literal_int, literal_boolean, literal_null, read_local, read_field, read_element, length_of_array, call_method, create_object, construct_object, make_array, negative, negation, operation, conjunction, disjunction, length_of_part, read_part}
 use Rattle.dpj_typed.specs.Typing.{result_of}
 use Rattle.dpj_typed.specs.declared.expr.BinaryOp.{BinaryOp}
 use Rattle.dpj_typed.specs.declared.expr.BinaryOp.TheVariants as op
 use Rattle.dpj_typed.specs.WellTyped.{WellTyped}
-use Rattle.dpj_sound.specs.Scopes.{InScope, PathInScope, TypeInScope, LocalInScope, GoodScope}
+use Rattle.dpj_sound.specs.Scopes.{InScope, PathInScope, TypeInScope, GoodScope}
 use Rattle.dpj_sound.proofs.Closed.{IsClosed, ClosedPath, closed_path}
 use Rattle.dpj_sound.proofs.Types.{NoOwn}
-use Rattle.dpj_sound.proofs.Indices.{IsSteady, IsIndexElem}
-use Rattle.dpj_sound.proofs.Classes.{parent_extends, parent_closed, all_get, field_good}
+use Rattle.dpj_sound.proofs.Indices.{IsIndexElem}
+use Rattle.dpj_sound.proofs.Classes.{parent_extends, parent_closed, field_good}
 
 or_parts : (x y : Bool) → (x || y) ≡ false → (x ≡ false) × (y ≡ false)
 or_parts false y e = (refl, e)
@@ -124,11 +124,13 @@ none_of Q = λ k d l. absurd (omega (arith, l))
 arguments_in : (L : Scope) (args : List Rpl) → All (PathInScope L 0) args → (p : ℕ) → PathInScope L 0 (argument args p)
 arguments_in L args h p = argument_in L args p (record { head = Param p; elems = [] }) (none_of (InScope L 0)) h
 
-put_in_scope : (L : Scope) (D : ℕ) (args : List Rpl) → All (PathInScope L 0) args → (h : Head) (a : List Elem) → All (InScope L D) a → All (InScope L D) (put_at h a args).elems
+put_in_scope : (L : Scope) (D : ℕ) (args : List Rpl) → All (PathInScope L 0) args → (h : Head) (a : List Elem) → All (InScope L D) a →
+    All (InScope L D) (put_at h a args).elems
 put_in_scope L D args al Root a h = h
 put_in_scope L D args al (Param p) a h = All-append (InScope L D) (argument args p).elems a (λ k d l. outer_elem L D _ (arguments_in L args al p k d l)) h
 
-pub substituted_in : (L : Scope) (D : ℕ) (args : List Rpl) → All (PathInScope L 0) args → (n : ℕ) (a : Rpl) → ClosedPath n D a → PathInScope L D (substituted args a)
+pub substituted_in : (L : Scope) (D : ℕ) (args : List Rpl) → All (PathInScope L 0) args → (n : ℕ) (a : Rpl) → ClosedPath n D a →
+    PathInScope L D (substituted args a)
 unfolding substituted
 substituted_in L D args al n a c = put_in_scope L D args al a.head a.elems (λ k d l. closed_elem_in L D _ (c.elems k d l))
 
@@ -146,20 +148,25 @@ any_own : (d : ℕ) (a : List Elem) → All NoOwn a → list_any (λ x. same_ele
 any_own d [] h = refl
 any_own d (x ∷ a) h = or_none _ _ (own_none d x (All-head NoOwn x a h)) (any_own d a (All-tail NoOwn x a h))
 
-has_put : (L : Scope) (d : ℕ) (args : List Rpl) → All (PathInScope L 0) args → (h : Head) (a : List Elem) → list_any (λ x. same_elem x (At (Own d))) a ≡ false → has_index d (put_at h a args) ≡ false
+has_put : (L : Scope) (d : ℕ) (args : List Rpl) → All (PathInScope L 0) args → (h : Head) (a : List Elem) →
+    list_any (λ x. same_elem x (At (Own d))) a ≡ false → has_index d (put_at h a args) ≡ false
 has_put L d args al Root a h = h
 has_put L d args al (Param p) a h =
-    list_any-append (λ x. same_elem x (At (Own d))) (argument args p).elems a ∙ or_none _ _ (any_own d (argument args p).elems (λ k e l. scope_alone L _ (arguments_in L args al p k e l))) h
+    list_any-append (λ x. same_elem x (At (Own d))) (argument args p).elems a ∙ or_none _ _
+    (any_own d (argument args p).elems (λ k e l. scope_alone L _ (arguments_in L args al p k e l))) h
 
-has_substituted : (L : Scope) (d : ℕ) (args : List Rpl) → All (PathInScope L 0) args → (a : Rpl) → has_index d a ≡ false → has_index d (substituted args a) ≡ false
+has_substituted : (L : Scope) (d : ℕ) (args : List Rpl) → All (PathInScope L 0) args → (a : Rpl) → has_index d a ≡ false →
+    has_index d (substituted args a) ≡ false
 unfolding substituted
 has_substituted L d args al a h = has_put L d args al a.head a.elems h
 
-any_map : (f : Rpl → Rpl) (d : ℕ) → ((a : Rpl) → has_index d a ≡ false → has_index d (f a) ≡ false) → (ps : List Rpl) → list_any (has_index d) ps ≡ false → list_any (has_index d) (map f ps) ≡ false
+any_map : (f : Rpl → Rpl) (d : ℕ) → ((a : Rpl) → has_index d a ≡ false → has_index d (f a) ≡ false) → (ps : List Rpl) →
+    list_any (has_index d) ps ≡ false → list_any (has_index d) (map f ps) ≡ false
 any_map f d i [] h = refl
 any_map f d i (a ∷ ps) h = let p = or_parts (has_index d a) _ h in or_none _ _ (i a p.0) (any_map f d i ps p.1)
 
-mentions_with : (L : Scope) (args : List Rpl) → All (PathInScope L 0) args → (d : ℕ) (t : PlainType) → mentions_index d t ≡ false → mentions_index d (type_with args t) ≡ false
+mentions_with : (L : Scope) (args : List Rpl) → All (PathInScope L 0) args → (d : ℕ) (t : PlainType) → mentions_index d t ≡ false →
+    mentions_index d (type_with args t) ≡ false
 mentions_with L args al d int h = refl
 mentions_with L args al d boolean h = refl
 mentions_with L args al d void h = refl
@@ -175,13 +182,16 @@ module _ (P : PlainProgram) (M : Scope) (none : (x : ℕ) → M.local x ≡ None
   with_in L args al D boolean g = tt
   with_in L args al D void g = tt
   with_in L args al D null g = tt
-  with_in L args al D (class c ps) g = All-map (PathInScope L D) (substituted args) ps (λ k d l. substituted_in L D args al (length M.atomic) _ (closed_path P M none D _ (g.2.paths k d l)))
-  with_in L args al D (array t a named) g =
-      (elim g.0 [
-        | inl p ↦ substituted_in L (suc D) args al (length M.atomic) a (closed_path P M none (suc D) a p)
-        | inr q ↦ absurd (no_region q.0.region q.0.in_scope)
-      ], with_in L args al (suc D) t g.1,
-      λ e. (let s = g.2 e in (has_substituted L 0 args al a s.0, mentions_with L args al 0 t s.1)))
+  with_in L args al D (class c ps) g = All-map (PathInScope L D) (substituted args) ps
+      (λ k d l. substituted_in L D args al (length M.atomic) _ (closed_path P M none D _ (g.2.paths k d l)))
+  with_in L args al D (array t a named) g = (
+    elim g.0 [
+      | inl p ↦ substituted_in L (suc D) args al (length M.atomic) a (closed_path P M none (suc D) a p)
+      | inr q ↦ absurd (no_region q.0.region q.0.in_scope)
+    ],
+    with_in L args al (suc D) t g.1,
+    λ e. (let s = g.2 e in (has_substituted L 0 args al a s.0, mentions_with L args al 0 t s.1)),
+  )
 
 -- an index put in
 
@@ -229,7 +239,8 @@ has_at_elem d D x i Any g = refl
 has_at_elem d D x i Star g = refl
 has_at_elem d D x i (Local r n) g = refl
 
-has_at_elems : (d D : ℕ) (x : Elem) → IsIndexElem x → (a : List Elem) → list_any (λ x. same_elem x (At (Own d))) a ≡ false → list_any (λ x. same_elem x (At (Own d))) (map (elem_at D x) a) ≡ false
+has_at_elems : (d D : ℕ) (x : Elem) → IsIndexElem x → (a : List Elem) → list_any (λ x. same_elem x (At (Own d))) a ≡ false →
+    list_any (λ x. same_elem x (At (Own d))) (map (elem_at D x) a) ≡ false
 has_at_elems d D x i [] h = refl
 has_at_elems d D x i (y ∷ a) h = let p = or_parts (same_elem y (At (Own d))) _ h in or_none _ _ (has_at_elem d D x i y p.0) (has_at_elems d D x i a p.1)
 
@@ -254,9 +265,11 @@ at_in L x i D h boolean g = tt
 at_in L x i D h void g = tt
 at_in L x i D h null g = tt
 at_in L x i D h (class c ps) g = All-map (PathInScope L D) (path_at D x) ps (λ k d l. at_path_in L D x i h (slice_index_or ps k d) (g k d l))
-at_in L x i D h (array t a named) g =
-    (at_path_in L (suc D) x i (index_deeper L D x i h) a g.0, at_in L x i (suc D) (index_deeper L D x i h) t g.1,
-     λ e. (let s = g.2 e in (has_at 0 (suc D) x i a s.0, mentions_at x i 0 (suc D) t s.1)))
+at_in L x i D h (array t a named) g = (
+  at_path_in L (suc D) x i (index_deeper L D x i h) a g.0,
+  at_in L x i (suc D) (index_deeper L D x i h) t g.1,
+  λ e. (let s = g.2 e in (has_at 0 (suc D) x i a s.0, mentions_at x i 0 (suc D) t s.1)),
+)
 
 -- what doesn't mention an own index stands outside its array type
 
@@ -314,14 +327,16 @@ module _ (P : PlainProgram) (wt : WellTyped P) (L : Scope) where
   above_in itself h = h
   above_in {c} {d} {args} {owned} (through_parent {p = p} e a) h =
       above_in a (option_and_then_some (λ (class : PlainClass). class.parent) (class_at P c) p e (λ k q z.
-      (let x = parent_extends P wt q e in All-map (PathInScope L 0) (substituted args) p.args (λ i d l. substituted_in L 0 args h (length k.params) _ (parent_closed P wt c k p x i d l)))))
+      (let x = parent_extends P wt q e in All-map (PathInScope L 0) (substituted args) p.args
+      (λ i d l. substituted_in L 0 args h (length k.params) _ (parent_closed P wt c k p x i d l)))))
 
   field_in : (c j : ℕ) (args : List Rpl) (f : PlainField) → field_at P c j ≡ Some f → All (PathInScope L 0) args → TypeInScope L 0 (type_with args f.ty)
   field_in c j args f e h =
       option_and_then_some (λ (class : PlainClass). slice_get class.fields j) (class_at P c) f e
       (λ k q z. with_in P (class_scope k) (λ x. refl) (λ r t. false≢true t) L args h 0 f.ty (field_good P wt c k j f q e).ty)
 
-  result_with : (m : PlainMember) (n : ℕ) (args : List Rpl) → slice_get P.members n ≡ Some m → All (PathInScope L 0) args → TypeInScope L 0 (type_with args m.result)
+  result_with : (m : PlainMember) (n : ℕ) (args : List Rpl) → slice_get P.members n ≡ Some m → All (PathInScope L 0) args →
+      TypeInScope L 0 (type_with args m.result)
   result_with m n args e h =
       let g = wt.members n m e in
       elim g.result [
@@ -338,12 +353,14 @@ module _ (P : PlainProgram) (wt : WellTyped P) (L : Scope) where
       | inl a ↦ good.each x (variable t) a
       | inr b ↦ elim b [ inl a ↦ good.each x (frozen t) a | inr a ↦ good.each x (constant t) a ]
     ]
-    typed_in (read_field {c = c} {k = k} {args = args} {f = f} h ty fd rd e) = subst (TypeInScope L 0) (sym e) (field_in c k args f fd (subst (TypeInScope L 0) ty (typed_in h)))
+    typed_in (read_field {c = c} {k = k} {args = args} {f = f} h ty fd rd e) = subst (TypeInScope L 0) (sym e)
+        (field_in c k args f fd (subst (TypeInScope L 0) ty (typed_in h)))
     typed_in (read_element {i = i} {t = t} h ty hi ti rg e) =
         let z = index_in L i in subst (TypeInScope L 0) (sym e) (at_in L (index_elem L i) z.0 0 z.1 t (subst (TypeInScope L 0) ty (typed_in h)).1)
     typed_in (length_of_array h ty) = tt
     typed_in (call_method {n = n} {owned = owned} {regions = regions} {m = m} h ty rw mb ab ga fu kn rd ft st e) =
-        subst (TypeInScope L 0) (sym e) (result_with m n (owned ++ regions) mb (All-append (PathInScope L 0) owned regions (above_in ab (subst (TypeInScope L 0) ty (typed_in h))) (λ k d l. good_path P L 0 _ (ga.paths k d l))))
+        subst (TypeInScope L 0) (sym e) (result_with m n (owned ++ regions) mb
+        (All-append (PathInScope L 0) owned regions (above_in ab (subst (TypeInScope L 0) ty (typed_in h))) (λ k d l. good_path P L 0 _ (ga.paths k d l))))
     typed_in (create_object c ga fu n) = λ k d l. good_path P L 0 _ (ga.paths k d l)
     typed_in (construct_object c ga fu cn mb ft st) = λ k d l. good_path P L 0 _ (ga.paths k d l)
     typed_in (make_array {t = t} {a = a} {named = named} gt fu h ty) = good_type P L 0 (array t a named) gt

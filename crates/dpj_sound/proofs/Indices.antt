@@ -1,9 +1,9 @@
 -- Types of elements at an index.
-use Rattle.std.proofs.Common.{◌≡◌, ◌<◌, ◌↔◌, ℕ, ℤ, zero, suc, pos, Bool, true, false, cond, ◌==◌, ◌||◌, List, [], ◌∷◌, map, length, refl, sym, ap, ◌∙◌, subst, arith, IsTrue, slice_index_or, ⊎_elim}
+use Rattle.std.proofs.Common.{◌≡◌, ◌↔◌, ℕ, ℤ, zero, suc, pos, Bool, true, false, cond, ◌==◌, ◌||◌, List, [], ◌∷◌, map, refl, sym, ap, ◌∙◌, subst, arith, IsTrue, slice_index_or}
 use Rattle.std.specs.Prelude.{All}
 use Rattle.std.specs.List.{list_any}
-use Rattle.std.proofs.lemmas.List.Elements.{All-head, All-tail, All-cons}
-use Rattle.std.proofs.lemmas.Bool.{cases_Bool, eqb-true, eq-eqb, ne_eqb, false≢true, or_left, or_right, cond-true, cond-false, false_from_ne_true}
+use Rattle.std.proofs.lemmas.List.Elements.{All-cons}
+use Rattle.std.proofs.lemmas.Bool.{eqb-true, eq-eqb, false≢true, cond-false, false_from_ne_true}
 use Rattle.std.proofs.Math.Dec.{eqb-suc-zero, eqb-zero-suc, eqb-suc-suc}
 use Rattle.dpj_base.specs.declared.elems.Elem.{Elem}
 use Rattle.dpj_base.specs.declared.elems.Elem.TheVariants.{At, Any, Star, Local}
@@ -22,7 +22,7 @@ use Rattle.dpj_regions.proofs.Reading.{matches_by_what_occurs, own_index_matches
 use Rattle.dpj_runs.specs.Objects.{Value}
 use Rattle.dpj_sound.specs.Grounds.{Ground, env_of, behind_own, under}
 use Rattle.dpj_sound.specs.Shapes.{Shapes, Instance, SameIn, ArrayInstance, FitsIn}
-use Rattle.dpj_sound.proofs.Types.{match_onto, match_from, match_same, null_or, instance_onto, array_onto, fits_same, same_sym}
+use Rattle.dpj_sound.proofs.Types.{match_onto, match_from, null_or, instance_onto, array_onto, fits_same, same_sym}
 
 -- under one array type more, an own index is one further in
 own_further : (k m : ℤ) (f : ℕ → ℤ) (D d : ℕ) → behind_own k (λ e. cond (D == e) m (f e)) d ≡ cond (suc D == d) m (behind_own k f d)
@@ -53,21 +53,29 @@ number_under k env (Variable v) s = refl
 number_under k env (Renamed v) s = refl
 number_under k env (Own d) s = absurd s
 
-at_path : (env : Env) (x : Index) (D : ℕ) (a : Rpl) (m : ℤ) → number_of env x ≡ m → (r : List Elem) → Matches env (path_at D (At x) a) r ↔ Matches (with_own env D m) a r
+at_path : (env : Env) (x : Index) (D : ℕ) (a : Rpl) (m : ℤ) → number_of env x ≡ m → (r : List Elem) →
+    Matches env (path_at D (At x) a) r ↔ Matches (with_own env D m) a r
 at_path env x D a m e r = subst (λ z. Matches env (path_at D (At x) a) r ↔ Matches (with_own env D z) a r) e (own_index_puts_in env a D x r)
 
 -- an index put in leaves the values as they are
-pub same_at : (env : Env) (x : Index) → IsSteady x → (m : ℤ) → number_of env x ≡ m → (D : ℕ) (t : PlainType) → SameIn env (type_at D (At x) t) (with_own env D m) t
+pub same_at : (env : Env) (x : Index) → IsSteady x → (m : ℤ) → number_of env x ≡ m → (D : ℕ) (t : PlainType) →
+    SameIn env (type_at D (At x) t) (with_own env D m) t
 same_at env x s m e D int = tt
 same_at env x s m e D boolean = tt
 same_at env x s m e D void = tt
 same_at env x s m e D null = tt
-same_at env x s m e D (class c ps) =
-    (refl, λ rs. (match_from (with_own env D m) env (path_at D (At x)) ps (λ k d l r. (at_path env x D (slice_index_or ps k d) m e r).0) rs,
-     match_onto (with_own env D m) env (path_at D (At x)) ps (λ k d l r. (at_path env x D (slice_index_or ps k d) m e r).1) rs))
-same_at env x s m e D (array t a named) =
-    (λ k r. subst (λ z. Matches (under k env) (path_at (suc D) (At x) a) r ↔ Matches z a r) (sym (under_with k m env D)) (at_path (under k env) x (suc D) a m (number_under k env x s ∙ e) r),
-     λ k. subst (λ z. SameIn (under k env) (type_at (suc D) (At x) t) z t) (sym (under_with k m env D)) (same_at (under k env) x s m (number_under k env x s ∙ e) (suc D) t))
+same_at env x s m e D (class c ps) = (
+  refl,
+  λ rs. (
+    match_from (with_own env D m) env (path_at D (At x)) ps (λ k d l r. (at_path env x D (slice_index_or ps k d) m e r).0) rs,
+    match_onto (with_own env D m) env (path_at D (At x)) ps (λ k d l r. (at_path env x D (slice_index_or ps k d) m e r).1) rs,
+  ),
+)
+same_at env x s m e D (array t a named) = (
+  λ k r. subst (λ z. Matches (under k env) (path_at (suc D) (At x) a) r ↔ Matches z a r) (sym (under_with k m env D))
+      (at_path (under k env) x (suc D) a m (number_under k env x s ∙ e) r),
+  λ k. subst (λ z. SameIn (under k env) (type_at (suc D) (At x) t) z t) (sym (under_with k m env D)) (same_at (under k env) x s m (number_under k env x s ∙ e) (suc D) t),
+)
 
 -- what doesn't mention an own index doesn't depend on it
 
@@ -103,7 +111,8 @@ elems_unmentioned D y (x ∷ a) h =
     let f = elems_unmentioned D y a p.1 in
     λ i. e i ∷ f i
 
-all_unmentioned : (env : Env) (D : ℕ) (k : ℤ) (a : List Elem) → list_any (λ x. same_elem x (At (Own D))) a ≡ false → All (λ x. put_elem env x ≡ put_elem (with_own env D k) x) a
+all_unmentioned : (env : Env) (D : ℕ) (k : ℤ) (a : List Elem) → list_any (λ x. same_elem x (At (Own D))) a ≡ false →
+    All (λ x. put_elem env x ≡ put_elem (with_own env D k) x) a
 all_unmentioned env D k [] h = λ j d l. absurd (omega (arith, l))
 all_unmentioned env D k (x ∷ a) h =
     let p = or_parts (same_elem x (At (Own D))) _ h in
@@ -113,11 +122,15 @@ head_own : (env : Env) (D : ℕ) (k : ℤ) (h : Head) → head_region env h ≡ 
 head_own env D k Root = refl
 head_own env D k (Param p) = refl
 
-path_unmentioned : (env : Env) (D : ℕ) (k : ℤ) (y : Elem) (a : Rpl) → has_index D a ≡ false → (r : List Elem) → Matches env (path_at D y a) r ↔ Matches (with_own env D k) a r
+path_unmentioned : (env : Env) (D : ℕ) (k : ℤ) (y : Elem) (a : Rpl) → has_index D a ≡ false → (r : List Elem) →
+    Matches env (path_at D y a) r ↔ Matches (with_own env D k) a r
 path_unmentioned env D k y a h r =
     let e = elems_unmentioned D y a.elems h in
-    let m = matches_by_what_occurs env (with_own env D k) a (record { head = head_own env D k a.head; elems = all_unmentioned env D k a.elems h }) r in
-    (λ x. m.0 (subst (λ z. Matches env (record { head = a.head; elems = z }) r) e x), λ x. subst (λ z. Matches env (record { head = a.head; elems = z }) r) (sym e) (m.1 x))
+    let m = matches_by_what_occurs env (with_own env D k) a (record { head = head_own env D k a.head; elems = all_unmentioned env D k a.elems h }) r in (
+      λ x. m.0 (subst (λ z. Matches env (record { head = a.head; elems = z }) r) e x),
+      λ x. subst
+          (λ z. Matches env (record { head = a.head; elems = z }) r) (sym e) (m.1 x),
+    )
 
 any_none : {A : Type 0} (f : A → Bool) (xs : List A) → list_any f xs ≡ false → All (λ x. f x ≡ false) xs
 any_none f [] h = λ j d l. absurd (omega (arith, l))
@@ -128,13 +141,18 @@ same_unmentioned env D k y int h = tt
 same_unmentioned env D k y boolean h = tt
 same_unmentioned env D k y void h = tt
 same_unmentioned env D k y null h = tt
-same_unmentioned env D k y (class c ps) h =
-    (refl, λ rs. (match_from (with_own env D k) env (path_at D y) ps (λ j d l r. (path_unmentioned env D k y (slice_index_or ps j d) (any_none (has_index D) ps h j d l) r).0) rs,
-     match_onto (with_own env D k) env (path_at D y) ps (λ j d l r. (path_unmentioned env D k y (slice_index_or ps j d) (any_none (has_index D) ps h j d l) r).1) rs))
+same_unmentioned env D k y (class c ps) h = (
+  refl,
+  λ rs. (
+    match_from (with_own env D k) env (path_at D y) ps (λ j d l r. (path_unmentioned env D k y (slice_index_or ps j d) (any_none (has_index D) ps h j d l) r).0) rs,
+    match_onto (with_own env D k) env (path_at D y) ps (λ j d l r. (path_unmentioned env D k y (slice_index_or ps j d) (any_none (has_index D) ps h j d l) r).1) rs,
+  ),
+)
 same_unmentioned env D k y (array t a named) h =
-    let p = or_parts (has_index (suc D) a) _ h in
-    (λ j r. subst (λ z. Matches (under j env) (path_at (suc D) y a) r ↔ Matches z a r) (sym (under_with j k env D)) (path_unmentioned (under j env) (suc D) k y a p.0 r),
-     λ j. subst (λ z. SameIn (under j env) (type_at (suc D) y t) z t) (sym (under_with j k env D)) (same_unmentioned (under j env) (suc D) k y t p.1))
+    let p = or_parts (has_index (suc D) a) _ h in (
+      λ j r. subst (λ z. Matches (under j env) (path_at (suc D) y a) r ↔ Matches z a r) (sym (under_with j k env D)) (path_unmentioned (under j env) (suc D) k y a p.0 r),
+      λ j. subst (λ z. SameIn (under j env) (type_at (suc D) y t) z t) (sym (under_with j k env D)) (same_unmentioned (under j env) (suc D) k y t p.1),
+    )
 
 -- an element's value at an index that isn't known, of a type that isn't rigid in it
 pub fits_at_any : (P : PlainProgram) (S : Shapes) (env : Env) (k : ℤ) (D : ℕ) (t : PlainType) → rigid_in_index D t ≡ false → (v : Value) →
@@ -161,11 +179,13 @@ IsIndexElem (elem.Name n) = ⊥
 IsIndexElem Star = ⊥
 IsIndexElem (Local a b) = ⊥
 
-pub fits_at_up : (P : PlainProgram) (S : Shapes) (g : Ground) (x : Elem) → IsIndexElem x → (k : ℤ) → Fits (env_of g) x (At (Literal k) ∷ []) → (t : PlainType) →
+pub fits_at_up : (P : PlainProgram) (S : Shapes) (g : Ground) (x : Elem) → IsIndexElem x → (k : ℤ) → Fits (env_of g) x (At (Literal k) ∷ []) →
+    (t : PlainType) →
     (IsTrue (is_any x) → rigid_in_index 0 t ≡ false) → (v : Value) → FitsIn P S (under k (env_of g)) t v → FitsIn P S (env_of g) (type_at 0 x t) v
 fits_at_up P S g (At x) i k e t h v f =
     let n : k ≡ number_of (env_of g) x = cc in
-    fits_same P S (with_own (env_of g) 0 k) t (env_of g) (type_at 0 (At x) t) (same_sym (env_of g) (type_at 0 (At x) t) (with_own (env_of g) 0 k) t (same_at (env_of g) x i k (sym n) 0 t)) v
+    fits_same P S (with_own (env_of g) 0 k) t (env_of g) (type_at 0 (At x) t)
+    (same_sym (env_of g) (type_at 0 (At x) t) (with_own (env_of g) 0 k) t (same_at (env_of g) x i k (sym n) 0 t)) v
     (subst (λ z. FitsIn P S z t v) (under_top k g) f)
 fits_at_up P S g Any i k e t h v f = fits_at_any P S (env_of g) k 0 t (h refl) v (subst (λ z. FitsIn P S z t v) (under_top k g) f)
 fits_at_up P S g (elem.Name n) i k e t h v f = absurd i
@@ -173,7 +193,8 @@ fits_at_up P S g Star i k e t h v f = absurd i
 fits_at_up P S g (Local a b) i k e t h v f = absurd i
 
 -- and back, at one that is known or that the type doesn't mention
-pub fits_at_down : (P : PlainProgram) (S : Shapes) (g : Ground) (x : Elem) → IsIndexElem x → (k : ℤ) → Fits (env_of g) x (At (Literal k) ∷ []) → (t : PlainType) →
+pub fits_at_down : (P : PlainProgram) (S : Shapes) (g : Ground) (x : Elem) → IsIndexElem x → (k : ℤ) → Fits (env_of g) x (At (Literal k) ∷ []) →
+    (t : PlainType) →
     (IsTrue (is_any x) → mentions_index 0 t ≡ false) → (v : Value) → FitsIn P S (env_of g) (type_at 0 x t) v → FitsIn P S (under k (env_of g)) t v
 fits_at_down P S g (At x) i k e t h v f =
     let n : k ≡ number_of (env_of g) x = cc in
@@ -186,7 +207,8 @@ fits_at_down P S g Star i k e t h v f = absurd i
 fits_at_down P S g (Local a b) i k e t h v f = absurd i
 
 -- the region of an element lies in the array's path at the index
-pub region_at_up : (g : Ground) (x : Elem) (k : ℤ) → Fits (env_of g) x (At (Literal k) ∷ []) → (a : Rpl) (r : List Elem) → Matches (under k (env_of g)) a r → Matches (env_of g) (path_at 0 x a) r
+pub region_at_up : (g : Ground) (x : Elem) (k : ℤ) → Fits (env_of g) x (At (Literal k) ∷ []) → (a : Rpl) (r : List Elem) →
+    Matches (under k (env_of g)) a r → Matches (env_of g) (path_at 0 x a) r
 region_at_up g x k f a r m = own_index_matches_more (env_of g) a 0 x k f r (subst (λ z. Matches z a r) (under_top k g) m)
 
 paths_unmentioned : (D : ℕ) (y : Elem) (ps : List Rpl) → list_any (has_index D) ps ≡ false → map (path_at D y) ps ≡ ps

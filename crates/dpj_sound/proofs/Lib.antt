@@ -1,4 +1,5 @@
 pub mod Alike
+pub mod Blocks
 pub mod Calls
 pub mod Chains
 pub mod Classes
@@ -14,6 +15,8 @@ pub mod Indices
 pub mod Locals
 pub mod Making
 pub mod Members
+pub mod Quiet
+pub mod Root
 pub mod Statements
 pub mod Typed
 pub mod Types

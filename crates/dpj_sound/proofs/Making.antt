@@ -1,10 +1,9 @@
 -- New objects and arrays are what their types say.
-use Rattle.std.proofs.Common.{◌≡◌, ◌<◌, ◌⊎◌, inl, inr, ℕ, ℤ, zero, suc, pos, negsuc, Bool, true, false, cond, List, [], ◌∷◌, ◌++◌, map, length, refl, sym, ap, ◌∙◌, subst, arith, Option, Some, None, IsTrue, slice_get, slice_index_or}
-use Rattle.std.specs.Prelude.{All, option_and_then}
+use Rattle.std.proofs.Common.{◌≡◌, ◌<◌, inl, inr, ℕ, ℤ, zero, suc, pos, negsuc, Bool, true, false, List, [], ◌∷◌, ◌++◌, map, length, refl, sym, ap, ◌∙◌, subst, arith, Some, IsTrue, slice_index_or}
+use Rattle.std.specs.Prelude.{All}
 use Rattle.std.proofs.lemmas.List.{get_or-map, length-map, map-append}
 use Rattle.std.proofs.lemmas.List.Elements.{All-head, All-tail}
 use Rattle.std.proofs.lemmas.Bool.{and_parts, false≢true}
-use Rattle.std.proofs.lemmas.Option.{slice_get_within}
 use Rattle.dpj_base.specs.declared.elems.Elem.{Elem}
 use Rattle.dpj_base.specs.declared.elems.Elem.TheVariants as elem
 use Rattle.dpj_base.specs.declared.elems.Elem.TheVariants.{At, Any, Star}
@@ -14,10 +13,10 @@ use Rattle.dpj_base.specs.declared.region.Head.{Head}
 use Rattle.dpj_base.specs.declared.region.Head.TheVariants.{Root, Param}
 use Rattle.dpj_base.specs.declared.region.Rpl.{Rpl}
 use Rattle.dpj_base.specs.declared.value.Trap.TheVariants as trap
-use Rattle.dpj_base.specs.Matching.{is_plain, all_plain, Env, Holds, put_elem, put_in, with_regions}
+use Rattle.dpj_base.specs.Matching.{is_plain, all_plain, put_elem, put_in}
 use Rattle.dpj_base.specs.Matching.{head_region as env_region}
 use Rattle.dpj_base.specs.Regions.{is_local, fully_specified, argument}
-use Rattle.dpj_base.specs.Types.{PlainType, class, array}
+use Rattle.dpj_base.specs.Types.{PlainType, array}
 use Rattle.dpj_typed.specs.Plain.{PlainProgram, PlainClass}
 use Rattle.dpj_typed.specs.Scope.{Scope, class_at}
 use Rattle.dpj_typed.specs.Table.{class_scope}
@@ -30,18 +29,18 @@ use Rattle.dpj_meaning.specs.Regions.{around, part_of, head_region, concrete, is
 use Rattle.dpj_regions.proofs.Putting.{specified_matches_one}
 use Rattle.dpj_disjoint.proofs.Envs.{constraint_carried}
 use Rattle.dpj_runs.specs.Actions.{New, Answer, Named}
-use Rattle.dpj_runs.specs.Objects.{Path, LocalRegion, Made, Unmade, Value, Int, Object, Part, Region_name, Number, Local, Own_index, Any_index, Any_parts, Region, An_object, An_array}
+use Rattle.dpj_runs.specs.Objects.{Value, Object, Part, Region_name, Number, Local, Own_index, Any_index, Any_parts, Region, An_array}
 use Rattle.dpj_runs.specs.Objects.{Name as ObjectName}
 use Rattle.dpj_steps.specs.Steps.{named_by}
 use Rattle.dpj_sound.specs.Grounds.{local_code, elem_of, elems_of, Ground, region_in, ArePlain, env_of, class_env, under, element_part, element_region}
-use Rattle.dpj_sound.specs.Shapes.{Shape, object, elements, same, AllMatch, GoodObject, Instance, ArrayInstance, FitsIn}
+use Rattle.dpj_sound.specs.Shapes.{object, elements, same, AllMatch, GoodObject, Instance, FitsIn}
 use Rattle.dpj_sound.specs.Accesses.{Bounds}
 use Rattle.dpj_sound.specs.Frames.{Frame, State, Since, FrameFits}
 use Rattle.dpj_sound.specs.Scopes.{InScope, PathInScope}
-use Rattle.dpj_sound.specs.Work.{Result, Prog, After, InOrder}
+use Rattle.dpj_sound.specs.Work.{Result, Prog, InOrder}
 use Rattle.dpj_sound.proofs.Closed.{closed_holds, closed_path}
 use Rattle.dpj_sound.proofs.Types.{same_refl}
-use Rattle.dpj_sound.proofs.Classes.{plain_put, concrete_elems}
+use Rattle.dpj_sound.proofs.Classes.{plain_put}
 use Rattle.dpj_sound.proofs.InScope.{good_path, local_path}
 use Rattle.dpj_sound.proofs.Frames.{frame_env, concrete_put}
 use Rattle.dpj_sound.proofs.Work.{since_after}
@@ -81,7 +80,8 @@ module _ (P : PlainProgram) (wt : WellTyped P) (b : Bounds) (L : Scope) (g : Gro
   pub put_is : (a : Rpl) → GoodPath P L 0 a → elems_of (put a) ≡ (put_in (env_of g) a).elems
   put_is a h = concrete_put P b.path st g L f ff b.path a (good_path P L 0 a h)
 
-  pub region_of_args : (args : List Rpl) → All (GoodPath P L 0) args → (p : ℕ) → p < length args → region_in (map put args) p ≡ (put_in (env_of g) (argument args p)).elems
+  pub region_of_args : (args : List Rpl) → All (GoodPath P L 0) args → (p : ℕ) → p < length args →
+      region_in (map put args) p ≡ (put_in (env_of g) (argument args p)).elems
   region_of_args args h p l =
       ap elems_of (get_or-map put args p (record { head = Param p; elems = [] }) [] l) ∙ put_is (argument args p) (h p (record { head = Param p; elems = [] }) l)
 
@@ -89,16 +89,19 @@ module _ (P : PlainProgram) (wt : WellTyped P) (b : Bounds) (L : Scope) (g : Gro
   args_plain [] h u p = refl
   args_plain (a ∷ args) h u zero =
       ap all_plain (put_is a (All-head (GoodPath P L 0) a args h))
-      ∙ plain_put (env_of g) ff.plain a (All-head (λ a. IsTrue (fully_specified a)) a args u) (λ j d l. good_local P L 0 _ ((All-head (GoodPath P L 0) a args h).elems j d l))
+      ∙ plain_put (env_of g) ff.plain a (All-head (λ a. IsTrue (fully_specified a)) a args u)
+      (λ j d l. good_local P L 0 _ ((All-head (GoodPath P L 0) a args h).elems j d l))
   args_plain (a ∷ args) h u (suc p) = args_plain args (All-tail (GoodPath P L 0) a args h) (All-tail (λ a. IsTrue (fully_specified a)) a args u) p
 
   pub args_match : (args : List Rpl) → All (GoodPath P L 0) args → All (λ a. IsTrue (fully_specified a)) args → AllMatch (env_of g) args (map put args)
   args_match [] h u = tt
-  args_match (a ∷ args) h u =
-      ((specified_matches_one (env_of g) a (All-head (λ a. IsTrue (fully_specified a)) a args u) _).1 (put_is a (All-head (GoodPath P L 0) a args h)),
-       args_match args (All-tail (GoodPath P L 0) a args h) (All-tail (λ a. IsTrue (fully_specified a)) a args u))
+  args_match (a ∷ args) h u = (
+    (specified_matches_one (env_of g) a (All-head (λ a. IsTrue (fully_specified a)) a args u) _).1 (put_is a (All-head (GoodPath P L 0) a args h)),
+    args_match args (All-tail (GoodPath P L 0) a args h) (All-tail (λ a. IsTrue (fully_specified a)) a args u),
+  )
 
-  pub made_good : (c : ℕ) (k : PlainClass) (args : List Rpl) → class_at P c ≡ Some k → GoodArgs P L 0 k.params k.given [] args → All (λ a. IsTrue (fully_specified a)) args → GoodObject P c (map put args)
+  pub made_good : (c : ℕ) (k : PlainClass) (args : List Rpl) → class_at P c ≡ Some k → GoodArgs P L 0 k.params k.given [] args →
+      All (λ a. IsTrue (fully_specified a)) args → GoodObject P c (map put args)
   made_good c k args e ga u = record {
     class = k;
     is = e;
@@ -113,16 +116,19 @@ module _ (P : PlainProgram) (wt : WellTyped P) (b : Bounds) (L : Scope) (g : Gro
   }
 
   -- a new object
-  pub order_new : (R : State → Result → Type 0) (c : ℕ) (k : PlainClass) (args : List Rpl) (constructor : Bool) (next : Answer → Prog) → class_at P c ≡ Some k →
+  pub order_new : (R : State → Result → Type 0) (c : ℕ) (k : PlainClass) (args : List Rpl) (constructor : Bool) (next : Answer → Prog) →
+      class_at P c ≡ Some k →
       GoodArgs P L 0 k.params k.given [] args → All (λ a. IsTrue (fully_specified a)) args →
-      ((n : ObjectName) (h : State) → Since st h → Instance P h.shapes (env_of g) c args n → h.shapes n ≡ Some (object c (map put args)) → InOrder P b R h (next (Named n))) →
+      ((n : ObjectName) (h : State) → Since st h → Instance P h.shapes (env_of g) c args n → h.shapes n ≡ Some (object c (map put args)) →
+      InOrder P b R h (next (Named n))) →
       InOrder P b R st (Act (New (new_object P c (map put args)) constructor) next)
   unfolding InOrder
-  order_new R c k args constructor next e ga u i =
-      ((object c (map put args), (refl, refl, made_good c k args e ga u, refl)),
-       λ x h after ans. subst (λ z. InOrder P b R h (next z)) (sym ans.1)
-           (i ans.0 h (since_after (New (new_object P c (map put args)) constructor) refl after)
-           (record { class = c; made_with = map put args; regions = map put args; shape = ans.2; good = made_good c k args e ga u; is_one = same; matches = args_match args ga.paths u }) ans.2))
+  order_new R c k args constructor next e ga u i = (
+    (object c (map put args), (refl, refl, made_good c k args e ga u, refl)),
+    λ x h after ans. subst (λ z. InOrder P b R h (next z)) (sym ans.1)
+        (i ans.0 h (since_after (New (new_object P c (map put args)) constructor) refl after)
+        (record { class = c; made_with = map put args; regions = map put args; shape = ans.2; good = made_good c k args e ga u; is_one = same; matches = args_match args ga.paths u }) ans.2),
+  )
 
   -- the region of an element of a new array
 
@@ -138,9 +144,11 @@ module _ (P : PlainProgram) (wt : WellTyped P) (b : Bounds) (L : Scope) (g : Gro
   element_elem D k (elem.Local r n) s =
       let e = ap local_code (ff.made r s.1) in
       let z : n ≡ 0 = s.0 in
-      subst (λ z. elem_of (element_part k (part_of (named_by b.path) (around f) (elem.Local r z))) ≡ put_elem (under k (env_of g)) (elem.Local r z)) (sym z) (λ i. elem.Local (e i).0 (e i).1)
+      subst (λ z. elem_of (element_part k (part_of (named_by b.path) (around f) (elem.Local r z))) ≡ put_elem (under k (env_of g)) (elem.Local r z))
+      (sym z) (λ i. elem.Local (e i).0 (e i).1)
 
-  element_elems : (k : ℤ) (xs : List Elem) → All (InScope L 1) xs → elems_of (element_region k (map (part_of (named_by b.path) (around f)) xs)) ≡ map (put_elem (under k (env_of g))) xs
+  element_elems : (k : ℤ) (xs : List Elem) → All (InScope L 1) xs →
+      elems_of (element_region k (map (part_of (named_by b.path) (around f)) xs)) ≡ map (put_elem (under k (env_of g))) xs
   element_elems k [] s = refl
   element_elems k (x ∷ xs) s =
       let e = element_elem 0 k x (All-head (InScope L 1) x xs s) in
@@ -150,7 +158,8 @@ module _ (P : PlainProgram) (wt : WellTyped P) (b : Bounds) (L : Scope) (g : Gro
   element_head : (k : ℤ) (h : Head) → elems_of (element_region k (head_region f.regions h)) ≡ env_region (under k (env_of g)) h
   element_head k Root = refl
   element_head k (Param p) =
-      subst (λ z. elems_of (element_region k (slice_index_or z p [])) ≡ region_in g.regions p) (sym ff.regions) (plain_region k (slice_index_or g.regions p []) (ff.plain p))
+      subst (λ z. elems_of (element_region k (slice_index_or z p [])) ≡ region_in g.regions p) (sym ff.regions)
+      (plain_region k (slice_index_or g.regions p []) (ff.plain p))
 
   element_put : (k : ℤ) (a : Rpl) → PathInScope L 1 a → elems_of (element_region k (put a)) ≡ (put_in (under k (env_of g)) a).elems
   unfolding put_in
@@ -162,17 +171,28 @@ module _ (P : PlainProgram) (wt : WellTyped P) (b : Bounds) (L : Scope) (g : Gro
       ∙ (λ i. e i ++ t i)
 
   -- a new array, or a trap
-  pub order_new_array : (R : State → Result → Type 0) (at : Place) (t : PlainType) (a : Rpl) (named : Bool) → GoodType P L 0 (array t a named) → fully_specified a ≡ true → (k : ℤ) →
+  pub order_new_array : (R : State → Result → Type 0) (at : Place) (t : PlainType) (a : Rpl) (named : Bool) → GoodType P L 0 (array t a named) →
+      fully_specified a ≡ true → (k : ℤ) →
       ((v : Value) (h : State) → Since st h → FitsIn P h.shapes (env_of g) (array t a named) v → R h (Goes_on v f)) →
       InOrder P b R st (made_array (named_by b.path) at (array t a named) k f)
   unfolding InOrder
   order_new_array R at t a named gt u (negsuc k) i = tt
   order_new_array R at t a named gt u (pos k) i =
-      order_cond P b R st (is_long (put a)) (Traps trap.Stack at) (Act (New (An_array (put a) k (first_of t)) false) (λ x. gives (name_made x) f)) (order_trap P b R st trap.Stack at)
-      ((elements g t a, (λ j. element_put j a scope, refl)),
-       λ x h after ans. subst (λ z. InOrder P b R h (gives (name_made z) f)) (sym ans.1)
-           (i (Object ans.0) h (since_after (New (An_array (put a) k (first_of t)) false) refl after)
-           (record { ground = g; element = t; rpl = a; shape = ans.2; region = λ j. (specified_matches_one (under j (env_of g)) a u _).1 refl; same = λ j. same_refl (under j (env_of g)) t })))
+      order_cond P b R st (is_long (put a)) (Traps trap.Stack at) (Act (New (An_array (put a) k (first_of t)) false) (λ x. gives (name_made x) f))
+      (order_trap P b R st trap.Stack at) (
+        (elements g t a, (λ j. element_put j a scope, refl)),
+        λ x h after ans. subst (λ z. InOrder P b R h (gives (name_made z) f)) (sym ans.1)
+            (i (Object ans.0) h (since_after (New (An_array (put a) k (first_of t)) false) refl after)
+            (record {
+              ground = g;
+              element = t;
+              rpl = a;
+              shape = ans.2;
+              region = λ j. (specified_matches_one
+                  (under j (env_of g)) a u _).1 refl;
+              same = λ j. same_refl (under j (env_of g)) t;
+            })),
+      )
     where
       scope : PathInScope L 1 a
       scope = elim gt.0 [ inl p ↦ good_path P L 1 a p | inr q ↦ local_path P L 1 a q.0 ]

@@ -1,11 +1,10 @@
 -- The member that an object's own class has in a row stands in for that of its static class.
-use Rattle.std.proofs.Common.{◌≡◌, ◌<◌, ◌≤◌, ⊎_elim, inl, inr, ℕ, zero, suc, ◌+◌, Bool, true, false, ◌&&◌, List, [], ◌∷◌, ◌++◌, map, length, refl, sym, ap, ◌∙◌, subst, arith, Option, Some, None, IsTrue, slice_get, slice_index_or}
+use Rattle.std.proofs.Common.{◌≡◌, ◌<◌, inl, inr, ℕ, zero, suc, ◌+◌, true, List, [], ◌∷◌, ◌++◌, map, length, refl, sym, ap, ◌∙◌, subst, arith, Some, None, IsTrue, slice_get, slice_index_or}
 use Rattle.std.specs.Prelude.{All, option_and_then, pos}
 use Rattle.std.specs.List.{AllZip}
-use Rattle.std.proofs.lemmas.List.{length-map, append-nil, get_or_append_left, get_or-append-add, length-append}
+use Rattle.std.proofs.lemmas.List.{append-nil, get_or_append_left, get_or-append-add, length-append}
 use Rattle.std.proofs.lemmas.List.Elements.{All-head, All-tail, All-map, All-append, All-cons}
 use Rattle.std.proofs.lemmas.Bool.{and_parts, and_from, false≢true}
-use Rattle.std.proofs.lemmas.Option.{option_and_then_some}
 use Rattle.dpj_base.specs.declared.effect.Constraint.{Constraint}
 use Rattle.dpj_base.specs.declared.effect.Effect.{Effect}
 use Rattle.dpj_base.specs.declared.elems.Elem.{Elem}
@@ -13,21 +12,20 @@ use Rattle.dpj_base.specs.declared.region.Head.{Head}
 use Rattle.dpj_base.specs.declared.region.Head.TheVariants.{Root, Param}
 use Rattle.dpj_base.specs.declared.region.Rpl.{Rpl}
 use Rattle.dpj_base.specs.Apart.{apart}
-use Rattle.dpj_base.specs.Effects.{set_covers}
-use Rattle.dpj_base.specs.Matching.{Env, IsEnv, Holds, put_in, with_regions}
+use Rattle.dpj_base.specs.Matching.{Env, Holds, put_in}
 use Rattle.dpj_base.specs.Regions.{is_specified, all_specified, fully_specified, argument, put_at, substituted}
-use Rattle.dpj_base.specs.Types.{PlainType, void, type_with, SameType}
+use Rattle.dpj_base.specs.Types.{PlainType, type_with, SameType}
 use Rattle.dpj_typed.specs.Effects.{does, effect_with}
 use Rattle.dpj_typed.specs.Plain.{PlainProgram, PlainClass, PlainMember, PlainParent}
-use Rattle.dpj_typed.specs.Scope.{class_at, member_at, row_at, parent_of, Above, itself, through_parent}
-use Rattle.dpj_typed.specs.Table.{Extends, params_from, own_paths, method_paths, class_scope, member_scope, constraint_with, Overrides, KeepsRow, GoodMember, RowIsThere, GoodConstraint}
-use Rattle.dpj_typed.specs.Types.{GoodType, GoodPath}
+use Rattle.dpj_typed.specs.Scope.{member_at, row_at, parent_of, Above, itself, through_parent}
+use Rattle.dpj_typed.specs.Table.{Extends, params_from, method_paths, member_scope, constraint_with, Overrides, KeepsRow, GoodMember, RowIsThere}
+use Rattle.dpj_typed.specs.Types.{GoodType}
 use Rattle.dpj_typed.specs.WellTyped.{WellTyped}
 use Rattle.dpj_meaning.specs.Regions.{concrete}
 use Rattle.dpj_regions.proofs.Putting.{specified_matches_one, substitution_puts_in}
 use Rattle.dpj_runs.specs.Objects.{Region}
 use Rattle.dpj_steps.specs.Steps.{named_by}
-use Rattle.dpj_sound.specs.Grounds.{elems_of, Ground, region_in, ArePlain, env_of, class_ground, class_env}
+use Rattle.dpj_sound.specs.Grounds.{elems_of, region_in, ArePlain, class_ground, class_env}
 use Rattle.dpj_sound.specs.Shapes.{regions_of_parent, Is, same, up, GoodObject, SameIn}
 use Rattle.dpj_sound.specs.Accesses.{Access, LiesIn}
 use Rattle.dpj_sound.proofs.Closed.{ClosedPath, ClosedType, closed_put, closed_path, closed_type}
@@ -56,7 +54,8 @@ puts_length env [] (r ∷ rs) m = absurd m
 puts_length env (a ∷ args) [] m = absurd m
 puts_length env (a ∷ args) (r ∷ rs) m = ap (λ n. suc n) (puts_length env args rs m.1)
 
-puts_both : (env : Env) (as' bs : List Rpl) (rs qs : List Region) → AllZip (λ a r. elems_of r ≡ (put_in env a).elems) as' rs → AllZip (λ a r. elems_of r ≡ (put_in env a).elems) bs qs →
+puts_both : (env : Env) (as' bs : List Rpl) (rs qs : List Region) → AllZip (λ a r. elems_of r ≡ (put_in env a).elems) as' rs →
+    AllZip (λ a r. elems_of r ≡ (put_in env a).elems) bs qs →
     AllZip (λ a r. elems_of r ≡ (put_in env a).elems) (as' ++ bs) (rs ++ qs)
 puts_both env [] bs [] qs m n = n
 puts_both env [] bs (r ∷ rs) qs m n = absurd m
@@ -70,7 +69,8 @@ shown_both {env} {as'} {bs} {rs} {qs} s t = record {
   full = All-append (λ a. IsTrue (fully_specified a)) as' bs s.full t.full;
 }
 
-full_argument : (args : List Rpl) → All (λ a. IsTrue (fully_specified a)) args → (p : ℕ) (b : Rpl) → fully_specified b ≡ true → fully_specified (slice_index_or args p b) ≡ true
+full_argument : (args : List Rpl) → All (λ a. IsTrue (fully_specified a)) args → (p : ℕ) (b : Rpl) → fully_specified b ≡ true →
+    fully_specified (slice_index_or args p b) ≡ true
 full_argument [] h p b e = e
 full_argument (a ∷ args) h zero b e = All-head (λ a. IsTrue (fully_specified a)) a args h
 full_argument (a ∷ args) h (suc p) b e = full_argument args (All-tail (λ a. IsTrue (fully_specified a)) a args h) p b e
@@ -82,7 +82,8 @@ specified_both : (xs ys : List Elem) → all_specified xs ≡ true → all_speci
 specified_both [] ys h k = k
 specified_both (x ∷ xs) ys h k = let p = and_parts (is_specified x) _ h in and_from _ _ p.0 (specified_both xs ys p.1 k)
 
-full_at : (args : List Rpl) → All (λ a. IsTrue (fully_specified a)) args → (h : Head) (a : List Elem) → all_specified a ≡ true → all_specified (put_at h a args).elems ≡ true
+full_at : (args : List Rpl) → All (λ a. IsTrue (fully_specified a)) args → (h : Head) (a : List Elem) → all_specified a ≡ true →
+    all_specified (put_at h a args).elems ≡ true
 full_at args f Root a s = s
 full_at args f (Param p) a s = specified_both (argument args p).elems a (full_arguments args f p) s
 
@@ -90,7 +91,8 @@ full_put : (args : List Rpl) → All (λ a. IsTrue (fully_specified a)) args →
 unfolding substituted
 full_put args f a s = full_at args f a.head a.elems s
 
-pub shown_stands : (depth : ℕ) {env : Env} {args : List Rpl} {rs : List Region} → Shown env args rs → (env.own ≡ λ d. pos 0) → Stands (length rs) depth env (class_env rs) args
+pub shown_stands : (depth : ℕ) {env : Env} {args : List Rpl} {rs : List Region} → Shown env args rs → (env.own ≡ λ d. pos 0) →
+    Stands (length rs) depth env (class_env rs) args
 shown_stands depth {env} {args} {rs} s o = record {
   match = λ p l. (specified_matches_one env (argument args p) (full_arguments args s.full p) _).1
       (puts_at env args rs p (record { head = Param p; elems = [] }) s.puts (let e = puts_length env args rs s.puts in omega (arith, e, l)));
@@ -99,11 +101,16 @@ shown_stands depth {env} {args} {rs} s o = record {
 }
 
 -- a path with the arguments put in is the same as with the regions
-pub shown_put : {env : Env} {args : List Rpl} {rs : List Region} → Shown env args rs → (a : Rpl) → ClosedPath (length rs) 0 a → put_in env (substituted args a) ≡ put_in (class_env rs) a
+pub shown_put : {env : Env} {args : List Rpl} {rs : List Region} → Shown env args rs → (a : Rpl) → ClosedPath (length rs) 0 a →
+    put_in env (substituted args a) ≡ put_in (class_env rs) a
 shown_put {env} {args} {rs} s a c =
     substitution_puts_in env args a
     ∙ closed_put (length rs) 0 _ (class_env rs)
-    (record { region = λ p l. sym (puts_at env args rs p (record { head = Param p; elems = [] }) s.puts (let e = puts_length env args rs s.puts in omega (arith, e, l))); own = λ d l. absurd (omega (arith, l)) }) a c
+    (record {
+      region = λ p l. sym (puts_at env args rs p (record { head = Param p; elems = [] }) s.puts
+          (let e = puts_length env args rs s.puts in omega (arith, e, l)));
+      own = λ d l. absurd (omega (arith, l));
+    }) a c
 
 -- parameters from one on are the regions that stand there
 params_shown : (whole : List Region) (j : ℕ) (ys : List Region) → ((i : ℕ) → i < length ys → slice_index_or whole (j + i) [] ≡ slice_index_or ys i []) →
@@ -127,7 +134,8 @@ method_params rs own = params_shown (rs ++ own) (length rs) own (λ i l. get_or-
 
 module _ (P : PlainProgram) (wt : WellTyped P) where
   -- what arguments are stays so in a class above
-  above_shown : (env : Env) {c c' d d' : ℕ} {args owned : List Rpl} {rs qs : List Region} → Above P c args d owned → Is P c' rs d' qs → c ≡ c' → d ≡ d' → GoodObject P c rs →
+  above_shown : (env : Env) {c c' d d' : ℕ} {args owned : List Rpl} {rs qs : List Region} → Above P c args d owned → Is P c' rs d' qs → c ≡ c' →
+      d ≡ d' → GoodObject P c rs →
       Shown env args rs → Shown env owned qs
   above_shown env itself same e1 e2 g s = s
   above_shown env itself (up e h) e1 e2 g s = absurd (let a = parent_lower P wt e in let b = is_lower P wt h in let c = ap wt.rank e1 in let d = ap wt.rank e2 in omega (arith, a, b, c, d))
@@ -145,7 +153,8 @@ module _ (P : PlainProgram) (wt : WellTyped P) where
       })
     where
       put : (ps : List Rpl) → All (ClosedPath (length rs) 0) ps →
-          AllZip (λ a r. elems_of r ≡ (put_in env a).elems) (map (substituted args) ps) (map (λ a. concrete (named_by []) (record { values = []; regions = rs; locals = [] }) a) ps)
+          AllZip (λ a r. elems_of r ≡ (put_in env a).elems) (map (substituted args) ps)
+          (map (λ a. concrete (named_by []) (record { values = []; regions = rs; locals = [] }) a) ps)
       put [] cl = tt
       put (b ∷ ps) cl =
           let c0 = All-head (ClosedPath (length rs) 0) b ps cl in
@@ -169,23 +178,39 @@ module _ (P : PlainProgram) (wt : WellTyped P) where
   pub record StandsFor (own : List Region) (m : PlainMember) (rs : List Region) (w : PlainMember) (qs : List Region) : Type 0 where
     pub params : w.params ≡ m.params
     pub given : All (Holds (class_env (rs ++ own))) m.given → All (Holds (class_env (qs ++ own))) w.given
-    pub formals : (x : ℕ) (t : PlainType) → slice_get w.formals x ≡ Some t → (u : PlainType) × (slice_get m.formals x ≡ Some u) × SameIn (class_env (rs ++ own)) u (class_env (qs ++ own)) t
+    pub formals : (x : ℕ) (t : PlainType) → slice_get w.formals x ≡ Some t →
+        (u : PlainType) × (slice_get m.formals x ≡ Some u) × SameIn (class_env (rs ++ own)) u (class_env (qs ++ own)) t
     pub result : SameIn (class_env (qs ++ own)) w.result (class_env (rs ++ own)) m.result
-    pub effects : (a : Access) → LiesIn (class_ground (qs ++ own)) (map (λ e. does e) w.summary) a → LiesIn (class_ground (rs ++ own)) (map (λ e. does e) m.summary) a
+    pub effects : (a : Access) → LiesIn (class_ground (qs ++ own)) (map (λ e. does e) w.summary) a →
+        LiesIn (class_ground (rs ++ own)) (map (λ e. does e) m.summary) a
 
   stands_refl : (own : List Region) (m : PlainMember) (rs : List Region) → StandsFor own m rs m rs
-  stands_refl own m rs = record { params = refl; given = λ h. h; formals = λ x t e. (t, e, same_refl (class_env (rs ++ own)) t); result = same_refl (class_env (rs ++ own)) m.result; effects = λ a l. l }
+  stands_refl own m rs = record {
+    params = refl;
+    given = λ h. h;
+    formals = λ x t e. (t, e, same_refl (class_env (rs ++ own)) t);
+    result = same_refl
+        (class_env (rs ++ own)) m.result;
+    effects = λ a l. l;
+  }
 
-  stands_trans : {own : List Region} {m w u : PlainMember} {rs qs ps : List Region} → StandsFor own m rs w qs → StandsFor own w qs u ps → StandsFor own m rs u ps
+  stands_trans : {own : List Region} {m w u : PlainMember} {rs qs ps : List Region} → StandsFor own m rs w qs → StandsFor own w qs u ps →
+      StandsFor own m rs u ps
   stands_trans {own} {m} {w} {u} {rs} {qs} {ps} s z = record {
     params = z.params ∙ s.params;
     given = λ h. z.given (s.given h);
-    formals = λ x t e. (let a = z.formals x t e in let b = s.formals x a.0 a.1 in (b.0, b.1, same_trans (class_env (rs ++ own)) b.0 (class_env (qs ++ own)) a.0 (class_env (ps ++ own)) t b.2 a.2));
+    formals = λ x t e. (let a = z.formals x t e in let b = s.formals x a.0 a.1 in (
+      b.0,
+      b.1,
+      same_trans (class_env (rs ++ own)) b.0
+          (class_env (qs ++ own)) a.0 (class_env (ps ++ own)) t b.2 a.2,
+    ));
     result = same_trans (class_env (ps ++ own)) u.result (class_env (qs ++ own)) w.result (class_env (rs ++ own)) m.result z.result s.result;
     effects = λ a l. s.effects a (z.effects a l);
   }
 
-  zip_at : (f : PlainType → PlainType) (ts us : List PlainType) → AllZip SameType ts (map f us) → (x : ℕ) (t : PlainType) → slice_get ts x ≡ Some t → (u : PlainType) × (slice_get us x ≡ Some u) × SameType t (f u)
+  zip_at : (f : PlainType → PlainType) (ts us : List PlainType) → AllZip SameType ts (map f us) → (x : ℕ) (t : PlainType) → slice_get ts x ≡ Some t →
+      (u : PlainType) × (slice_get us x ≡ Some u) × SameType t (f u)
   zip_at f [] us h x t e = absurd (let q : None ≡ Some t = e in cc)
   zip_at f (s ∷ ts) [] h x t e = absurd h
   zip_at f (s ∷ ts) (u ∷ us) h zero t e = let q : s ≡ t = cc in (u, refl, subst (λ z. SameType z (f u)) q h.0)
@@ -198,14 +223,20 @@ module _ (P : PlainProgram) (wt : WellTyped P) where
     pub given : All (λ (c : Constraint). ClosedPath n 0 c.left × ClosedPath n 0 c.right) m.given
     pub summary : All (λ (e : Effect). ClosedPath n 0 e.rpl) m.summary
 
-  pub signature_at : {c : ℕ} {rs : List Region} (n : ℕ) (A : MemberAt c rs n) (own : List Region) → GoodObject P c rs → length own ≡ length A.member.params → Signature A.member (length (A.regions ++ own))
+  pub signature_at : {c : ℕ} {rs : List Region} (n : ℕ) (A : MemberAt c rs n) (own : List Region) → GoodObject P c rs →
+      length own ≡ length A.member.params → Signature A.member (length (A.regions ++ own))
   signature_at n A own g lo = subst (Signature A.member) (sym long) (record {
-    formals = λ x t e. closed_type P (member_scope gm.class A.member) (λ y. refl) (λ r z. false≢true z) 0 t (all_get (GoodType P (member_scope gm.class A.member) 0) A.member.formals x t gm.formals e);
+    formals = λ x t e. closed_type P (member_scope gm.class A.member) (λ y. refl) (λ r z. false≢true z) 0 t
+        (all_get (GoodType P (member_scope gm.class A.member) 0) A.member.formals x t gm.formals e);
     result = elim gm.result [
       | inl v ↦ subst (ClosedType (length (gm.class.params ++ A.member.params)) 0) (sym v) tt
       | inr r ↦ closed_type P (member_scope gm.class A.member) (λ y. refl) (λ r z. false≢true z) 0 A.member.result r
     ];
-    given = λ k d l. (let z = gm.given k d l in (closed_path P (member_scope gm.class A.member) (λ y. refl) 0 _ z.0, closed_path P (member_scope gm.class A.member) (λ y. refl) 0 _ z.1));
+    given = λ k d l. (let z = gm.given k d l in (
+      closed_path P (member_scope gm.class A.member) (λ y. refl) 0 _ z.0,
+      closed_path P
+          (member_scope gm.class A.member) (λ y. refl) 0 _ z.1,
+    ));
     summary = λ k d l. closed_path P (member_scope gm.class A.member) (λ y. refl) 0 _ (gm.summary k d l);
   })
     where
@@ -221,7 +252,8 @@ module _ (P : PlainProgram) (wt : WellTyped P) where
           length-append A.regions own ∙ (λ i. a i + lo i) ∙ sym (length-append gm.class.params A.member.params)
 
   -- a member of the class that overrides one of a class above it
-  overrides : (d : ℕ) (rs own : List Region) (g : GoodObject P d rs) → ArePlain (rs ++ own) → (n : ℕ) (A : MemberAt d rs n) (w : PlainMember) → Overrides P d g.class w A.member → length own ≡ length A.member.params →
+  overrides : (d : ℕ) (rs own : List Region) (g : GoodObject P d rs) → ArePlain (rs ++ own) → (n : ℕ) (A : MemberAt d rs n) (w : PlainMember) →
+      Overrides P d g.class w A.member → length own ≡ length A.member.params →
       StandsFor own A.member A.regions w rs
   overrides d rs own g plain n A w o lo = record {
     params = o.params;
@@ -231,7 +263,8 @@ module _ (P : PlainProgram) (wt : WellTyped P) where
     result = same_trans outer w.result outer (type_with σ A.member.result) inner A.member.result (same_type outer w.result (type_with σ A.member.result) o.result)
         (same_with N 0 outer inner σ st A.member.result sig.result (λ p _. full p));
     effects = λ a l. lies_down N (class_ground (rs ++ own)) (class_ground (A.regions ++ own)) σ st full a A.member.summary sig.summary
-        (summary_lies (class_ground (rs ++ own)) (ground_env [] (class_ground (rs ++ own)) plain unmade_one (λ k c l. absurd (omega (arith, l)))) a (map (effect_with σ) A.member.summary) w.summary o.covered l);
+        (summary_lies (class_ground (rs ++ own)) (ground_env [] (class_ground (rs ++ own)) plain unmade_one (λ k c l. absurd (omega (arith, l)))) a
+        (map (effect_with σ) A.member.summary) w.summary o.covered l);
   }
     where
       outer : Env
@@ -251,8 +284,10 @@ module _ (P : PlainProgram) (wt : WellTyped P) where
 
       shown : Shown (class_env (rs ++ own)) (o.seen ++ method_paths g.class A.member) (A.regions ++ own)
       shown = shown_both
-          (above_shown (class_env (rs ++ own)) o.sees A.is_one refl refl g (subst (λ n. Shown (class_env (rs ++ own)) (params_from 0 n) rs) g.arity (class_params rs own)))
-          (subst (λ n. Shown (class_env (rs ++ own)) (params_from n (length A.member.params)) own) g.arity (subst (λ n. Shown (class_env (rs ++ own)) (params_from (length rs) n) own) lo (method_params rs own)))
+          (above_shown (class_env (rs ++ own)) o.sees A.is_one refl refl g
+          (subst (λ n. Shown (class_env (rs ++ own)) (params_from 0 n) rs) g.arity (class_params rs own)))
+          (subst (λ n. Shown (class_env (rs ++ own)) (params_from n (length A.member.params)) own) g.arity
+          (subst (λ n. Shown (class_env (rs ++ own)) (params_from (length rs) n) own) lo (method_params rs own)))
 
       st : Stands (length (A.regions ++ own)) 0 (class_env (rs ++ own)) (class_env (A.regions ++ own)) (o.seen ++ method_paths g.class A.member)
       st = shown_stands 0 shown refl
@@ -260,7 +295,8 @@ module _ (P : PlainProgram) (wt : WellTyped P) where
       full : (p : ℕ) → IsTrue (fully_specified (argument (o.seen ++ method_paths g.class A.member) p))
       full = full_arguments (o.seen ++ method_paths g.class A.member) shown.full
 
-      holds : (c : Constraint) → ClosedPath (length (A.regions ++ own)) 0 c.left × ClosedPath (length (A.regions ++ own)) 0 c.right → Holds (class_env (A.regions ++ own)) c →
+      holds : (c : Constraint) → ClosedPath (length (A.regions ++ own)) 0 c.left × ClosedPath (length (A.regions ++ own)) 0 c.right →
+          Holds (class_env (A.regions ++ own)) c →
           Holds (class_env (rs ++ own)) (constraint_with (o.seen ++ method_paths g.class A.member) c)
       holds c cl h =
           ap (λ z. apart [] z (put_in (class_env (rs ++ own)) (substituted (o.seen ++ method_paths g.class A.member) c.right))) (shown_put shown c.left cl.0)
@@ -282,7 +318,8 @@ module _ (P : PlainProgram) (wt : WellTyped P) where
   plain_both (r ∷ rs) own h k (suc p) = plain_both rs own (λ q. h (suc q)) k p
 
   -- one class further down
-  row_below : {d : ℕ} {rs : List Region} (own : List Region) (r : ℕ) (p : PlainParent) → parent_of P d ≡ Some p → (g : GoodObject P d rs) → ArePlain own → (m : PlainMember) (qs : List Region) → length own ≡ length m.params →
+  row_below : {d : ℕ} {rs : List Region} (own : List Region) (r : ℕ) (p : PlainParent) → parent_of P d ≡ Some p → (g : GoodObject P d rs) →
+      ArePlain own → (m : PlainMember) (qs : List Region) → length own ≡ length m.params →
       RowAt p.class r (regions_of_parent rs p) own m qs → RowAt d r rs own m qs
   row_below {d} {rs} own r p q g pl m qs lo i = kept z.2
     where
@@ -304,12 +341,14 @@ module _ (P : PlainProgram) (wt : WellTyped P) where
           let k = same_member above i.at.member i.number ea i.at.there in
           let o' = subst (λ m. Overrides P d g.class w m) k o in
           record {
-            number = z.0; row = row;
+            number = z.0;
+            row = row;
             at = record { member = w; there = ew; regions = rs; is_one = subst (λ y. Is P d rs y rs) (sym o'.own) same };
             stands = stands_trans i.stands (overrides d rs own g (plain_both rs own g.plain pl) i.number here w o' (lo ∙ ap length (sym i.stands.params)));
           }
 
-  pub row_is : {d c : ℕ} {rs qs : List Region} (own : List Region) (r n : ℕ) → Is P d rs c qs → GoodObject P d rs → ArePlain own → row_at P c r ≡ Some n → (A : MemberAt c qs n) → length own ≡ length A.member.params →
+  pub row_is : {d c : ℕ} {rs qs : List Region} (own : List Region) (r n : ℕ) → Is P d rs c qs → GoodObject P d rs → ArePlain own →
+      row_at P c r ≡ Some n → (A : MemberAt c qs n) → length own ≡ length A.member.params →
       RowAt d r rs own A.member A.regions
   row_is own r n same g pl e A lo = record { number = n; row = e; at = A; stands = stands_refl own A.member A.regions }
   row_is own r n (up {p = p} q h) g pl e A lo = row_below own r p q g pl A.member A.regions lo (row_is own r n h (good_parent P wt g q) pl e A lo)

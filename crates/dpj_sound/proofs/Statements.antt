@@ -1,5 +1,5 @@
 -- Statements of a well-typed program are in order: by recursion on their typing.
-use Rattle.std.proofs.Common.{◌≡◌, inl, inr, ℕ, ℤ, suc, ◌+◌, pos, Bool, true, false, cond, ◌&&◌, ◌||◌, List, [], ◌∷◌, ◌++◌, map, length, refl, sym, ap, ◌∙◌, subst, arith, Option, Some, None, IsTrue, le_trans}
+use Rattle.std.proofs.Common.{arith, ◌≡◌, inl, ℕ, ℤ, ◌+◌, pos, Bool, true, false, cond, ◌&&◌, ◌||◌, List, [], ◌∷◌, length, refl, sym, ap, ◌∙◌, subst, Option, Some, None, IsTrue, ◌≤◌, map, zero, suc}
 use Rattle.std.specs.Prelude.{All, int_lt}
 use Rattle.std.specs.Int.{w32, int_wrapping_add}
 use Rattle.std.proofs.lemmas.Bool.{and_from, false≢true, or_left, or_right}
@@ -7,45 +7,50 @@ use Rattle.dpj_base.specs.declared.elems.Elem.{Elem}
 use Rattle.dpj_base.specs.declared.place.Place.{Place}
 use Rattle.dpj_base.specs.declared.region.Rpl.{Rpl}
 use Rattle.dpj_base.specs.declared.value.Trap.TheVariants as trap
-use Rattle.dpj_base.specs.Effects.{is_write}
 use Rattle.dpj_base.specs.Matching.{Fits, Matches, put_in}
 use Rattle.dpj_base.specs.declared.elems.Elem.TheVariants.{At}
 use Rattle.dpj_base.specs.declared.elems.Index.TheVariants.{Literal}
 use Rattle.dpj_base.specs.Regions.{is_any, substituted}
-use Rattle.dpj_base.specs.Types.{PlainType, void, class, array, type_with, path_at, type_at, mentions_index}
-use Rattle.dpj_typed.specs.Effects.{Own as EffectOwn, does, uses, writes, outside_variable}
-use Rattle.dpj_typed.specs.Plain.{PlainProgram, PlainField, TypedExpr, type_of, TypedStmt, TypedStmts, no_stmts, more_stmts}
-use Rattle.dpj_typed.specs.Scope.{Scope, variable, part, field_at, with_local}
+use Rattle.dpj_base.specs.Types.{PlainType, class, array, type_with, path_at, type_at, mentions_index}
+use Rattle.dpj_typed.specs.Effects.{Own as EffectOwn, does, uses, writes}
+use Rattle.dpj_typed.specs.Plain.{PlainProgram, PlainField, TypedExpr, type_of, TypedStmt, TypedStmts, no_stmts, more_stmts, PlainMember}
+use Rattle.dpj_typed.specs.Scope.{Scope, part, field_at, with_local, member_at}
 use Rattle.dpj_typed.specs.Scope.{Local as ScopeLocal}
 use Rattle.dpj_typed.specs.Statements.{completes, all_complete, declared_as, Passes, AllPass, store, store_field, store_element, store_part, perform, nested, choice, choice_else, while_loop, return_nothing, return_value, print_int, print_boolean, print_text, atomic, cobegin, foreach, foreach_parts, no_more, then', declare, declare_regions}
 use Rattle.dpj_typed.specs.Table.{class_scope}
 use Rattle.dpj_typed.specs.Types.{Known, Subtype}
 use Rattle.dpj_typed.specs.Typing.{Has, index_elem}
 use Rattle.dpj_typed.specs.WellTyped.{WellTyped}
-use Rattle.dpj_meaning.specs.Core.{Goes_on, Returns, Ret, Traps, Act, next_of, and_then}
+use Rattle.dpj_meaning.specs.Core.{Goes_on, Returns, Traps, next_of, and_then, Act}
 use Rattle.dpj_meaning.specs.Counts.{number, truth, slot_value, is_out, part_place, text_of}
 use Rattle.dpj_meaning.specs.Expressions.{gives, none, unless_null, part_element, of_expr}
 use Rattle.dpj_meaning.specs.Statements.{with_value, write_cell, prints, of_stmt, of_stmts}
 use Rattle.dpj_regions.proofs.Putting.{specified_matches_one}
-use Rattle.dpj_runs.specs.Actions.{Write, Print, Answer}
+use Rattle.dpj_runs.specs.Actions.{Write, Print, Rest, Exit}
 use Rattle.dpj_runs.specs.Objects.{Name, Value, Null, Object, Int, Boolean}
 use Rattle.dpj_steps.specs.Steps.{named_by}
-use Rattle.dpj_sound.specs.Grounds.{Ground, env_of, class_env, under}
-use Rattle.dpj_sound.specs.Shapes.{object, elements, Shapes, Instance, ArrayInstance, FitsIn, of_object, of_array}
-use Rattle.dpj_sound.specs.Accesses.{Access, Speaks, LiesIn, Bounds, Within}
+use Rattle.dpj_meaning.specs.Asking.{meaning}
+use Rattle.dpj_sound.proofs.Entering.{body_good}
+use Rattle.dpj_sound.specs.Grounds.{with_number, Ground, env_of, class_env, under}
+use Rattle.dpj_sound.specs.Shapes.{object, elements, Shapes, Instance, ArrayInstance, FitsIn, of_object, of_array, Grows}
+use Rattle.dpj_sound.specs.Accesses.{Access, Speaks, Bounds, Within}
 use Rattle.dpj_sound.specs.Frames.{Frame, State, Since, PartFits, FrameFits}
 use Rattle.dpj_sound.specs.Scopes.{PathInScope, TypeInScope, GoodScope}
 use Rattle.dpj_sound.specs.Sequential.{IsSequential, AreSequential}
-use Rattle.dpj_sound.specs.Work.{Result, Prog, Touches, Reaches, access_of, ReturnFits, Rounds, InOrder}
-use Rattle.dpj_sound.specs.Laws.{Deeper, Yields, Leaves, DeeperInOrder, SequentialInOrder}
+use Rattle.dpj_sound.specs.Work.{Result, Prog, Touches, Reaches, access_of, ReturnFits, Rounds, InOrder, without_latest}
+use Rattle.dpj_sound.specs.Laws.{Deeper, Yields, Leaves, DeeperInOrder, SequentialInOrder, scope_of, SequentialTasks}
 use Rattle.dpj_sound.proofs.Closed.{closed_path, closed_type}
 use Rattle.dpj_sound.proofs.Types.{fits_grows, fits_same, same_sym, fits_with_down, path_up}
 use Rattle.dpj_sound.proofs.Indices.{IsIndexElem, fits_at_down, region_at_up, same_inside, region_alone}
-use Rattle.dpj_sound.proofs.Classes.{env_alone, good_is, field_good, FieldAt, field_is, stands_args, subtype_fits}
+use Rattle.dpj_sound.proofs.Classes.{env_alone, good_is, field_good, field_is, stands_args, subtype_fits}
 use Rattle.dpj_sound.proofs.InScope.{good_type, paths_alone, index_in, typed_in}
-use Rattle.dpj_sound.proofs.InEffects.{stmts_effects_in}
+use Rattle.dpj_sound.proofs.InEffects.{stmts_effects_in, marked_in}
 use Rattle.dpj_sound.proofs.Frames.{frame_since, frame_env, within_left, within_right, within_since}
-use Rattle.dpj_sound.proofs.Locals.{with_number, frame_outside, frame_store, frame_declare, frame_leave, good_declare, number_alike, lies_general}
+use Rattle.dpj_sound.proofs.Locals.{frame_outside, frame_store, frame_declare, frame_leave, good_declare, number_alike, lies_general}
+use Rattle.dpj_meaning.specs.Regions.{around, concrete_effect}
+use Rattle.dpj_typed.specs.Scope.{in_atomic_block}
+use Rattle.dpj_runs.specs.Objects.{Effect as RunEffect}
+use Rattle.dpj_sound.proofs.Blocks.{good_block, frame_later, frame_block, frame_unblock, within_block}
 use Rattle.dpj_sound.proofs.Alike.{fits_alike, ground_back}
 use Rattle.dpj_sound.proofs.Expressions.{order_unless, order_choose, order_trap}
 use Rattle.dpj_sound.proofs.Typed.{type_alone, inside_part, yields, expr_order}
@@ -59,13 +64,15 @@ abbrev pub Left : PlainProgram → Bounds → Scope → Ground → Bool → Stat
 Left P b L g c st h (Goes_on v f) = IsTrue c × Since st h × FrameFits P b.path h g L f
 Left P b L g c st h (Returns v) = Since st h × ReturnFits P h.shapes g L.result v
 
-left_since : (P : PlainProgram) (b : Bounds) (L : Scope) (g : Ground) (c d : Bool) (st h u : State) (r : Result) → Since st h → (c ≡ true → d ≡ true) → Left P b L g c h u r → Left P b L g d st u r
+left_since : (P : PlainProgram) (b : Bounds) (L : Scope) (g : Ground) (c d : Bool) (st h u : State) (r : Result) → Since st h → (c ≡ true → d ≡ true) →
+    Left P b L g c h u r → Left P b L g d st u r
 left_since P b L g c d st h u (Goes_on v f) s i y = (i y.0, since_since s y.1, y.2)
 left_since P b L g c d st h u (Returns v) s i y = (since_since s y.0, y.1)
 
 module _ (P : PlainProgram) (b : Bounds) where
   -- a write that is allowed, of a value of the cell's type
-  order_write : (R : State → Result → Type 0) (st : State) (at : Place) (n : Name) (i : ℤ) (v : Value) (f : Frame) (r : Reaches P b st n i true) → FitsIn P st.shapes r.cell.env r.cell.ty v →
+  order_write : (R : State → Result → Type 0) (st : State) (at : Place) (n : Name) (i : ℤ) (v : Value) (f : Frame) (r : Reaches P b st n i true) →
+      FitsIn P st.shapes r.cell.env r.cell.ty v →
       ((u : State) → Since st u → R u (Goes_on none f)) → InOrder P b R st (write_cell at n i v f)
   unfolding InOrder
   order_write R st at n i v f r fv k = ((r, fv), λ x u after fits. go (is_out x) u (since_after (Write n i v) refl after))
@@ -74,7 +81,8 @@ module _ (P : PlainProgram) (b : Bounds) where
       go true u s = tt
       go false u s = k u s
 
-  order_prints : (R : State → Result → Type 0) (st : State) (text : List ℕ) (f : Frame) → ((u : State) → Since st u → R u (Goes_on none f)) → InOrder P b R st (prints text f)
+  order_prints : (R : State → Result → Type 0) (st : State) (text : List ℕ) (f : Frame) → ((u : State) → Since st u → R u (Goes_on none f)) →
+      InOrder P b R st (prints text f)
   unfolding InOrder
   order_prints R st text f k = (tt, λ x u after fits. k u (since_after (Print _) refl after))
 
@@ -82,32 +90,46 @@ module _ (P : PlainProgram) (b : Bounds) where
   write_at at f v u o = elim o as (λ z. Prog) [ None ↦ Traps trap.Index at | Some p ↦ unless_null at v (λ n. write_cell at n p u f) ]
 
   -- a write of an element through a part
-  part_write : (R : State → Result → Type 0) (st : State) (at : Place) (f : Frame) (g : Ground) (k : ℕ) (t : PlainType) (a : Rpl) (i : ℤ) (u : Value) → PartFits P st.shapes g f.values k t a →
+  part_write : (R : State → Result → Type 0) (st : State) (at : Place) (f : Frame) (g : Ground) (k : ℕ) (t : PlainType) (a : Rpl) (i : ℤ) (u : Value) →
+      PartFits P st.shapes g f.values k t a →
       Within b st.entries g (uses k (writes a) ∷ []) → FitsIn P st.shapes (env_of g) t u → ((h : State) → Since st h → R h (Goes_on none f)) →
       InOrder P b R st (part_element at k i f (λ n l. write_cell at n l u f))
   part_write R st at f g k t a i u pf w fu next = go (part_place k i f.values) refl
     where
-      write : (p : ℤ) → part_place k i f.values ≡ Some p → (n : Name) → slot_value f.values k ≡ Object n → ArrayInstance st.shapes (env_of g) t a n → InOrder P b R st (write_cell at n p u f)
+      write : (p : ℤ) → part_place k i f.values ≡ Some p → (n : Name) → slot_value f.values k ≡ Object n → ArrayInstance st.shapes (env_of g) t a n →
+          InOrder P b R st (write_cell at n p u f)
       write p e n is i' =
           let s = inside_part i (number (slot_value f.values (k + 2))) _ p e in
-          let cell : Touches P st.shapes n p = record { shape = elements i'.ground i'.element i'.rpl; is = i'.shape; env = under p (env_of i'.ground); ty = i'.element; rpl = i'.rpl; cell = of_array } in
+          let cell : Touches P st.shapes n p = record {
+            shape = elements i'.ground i'.element i'.rpl;
+            is = i'.shape;
+            env = under p
+                (env_of i'.ground);
+            ty = i'.element;
+            rpl = i'.rpl;
+            cell = of_array;
+          } in
           let region = (put_in (under p (env_of i'.ground)) i'.rpl).elems in
           order_write R st at n p u f
-          (record { cell = cell; allowed = w (access_of b st n p true region) (λ e. e) (inl (
-            speaks_write g a (access_of b st n p true region) (region_alone g p a pf.no_index region (i'.region p)),
-            record {
-              array = ap (λ q. q.array) pf.places ∙ is;
-              index = i;
-              from_first = s.0;
-              below_last = ap (λ q. int_lt i q.len) pf.places ∙ s.1;
-              place = s.2 ∙ ap (λ q. int_wrapping_add w32 q.first i) (sym pf.places);
-            },
-          )) })
+          (record {
+            cell = cell;
+            allowed = w (access_of b st n p true region) (λ e. e) (inl (
+              speaks_write g a (access_of b st n p true region) (region_alone g p a pf.no_index region (i'.region p)),
+              record {
+                array = ap (λ q. q.array) pf.places ∙ is;
+                index = i;
+                from_first = s.0;
+                below_last = ap (λ q. int_lt i q.len) pf.places ∙ s.1;
+                place = s.2 ∙ ap (λ q. int_wrapping_add w32 q.first i) (sym pf.places);
+              },
+            ));
+          })
           (fits_same P st.shapes (under p (env_of g)) t (under p (env_of i'.ground)) i'.element (i'.same p) u
           (fits_same P st.shapes (env_of g) t (under p (env_of g)) t (same_sym (under p (env_of g)) t (env_of g) t (same_inside g p t pf.none_mentioned)) u fu))
           next
 
-      by_value : (p : ℤ) → part_place k i f.values ≡ Some p → (v : Value) → slot_value f.values k ≡ v → FitsIn P st.shapes (env_of g) (array t a false) v → InOrder P b R st (unless_null at v (λ n. write_cell at n p u f))
+      by_value : (p : ℤ) → part_place k i f.values ≡ Some p → (v : Value) → slot_value f.values k ≡ v →
+          FitsIn P st.shapes (env_of g) (array t a false) v → InOrder P b R st (unless_null at v (λ n. write_cell at n p u f))
       by_value p e Null is fv = order_trap P b R st trap.Null at
       by_value p e (Object n) is fv = write p e n is fv
       by_value p e (Int j) is fv = absurd fv
@@ -119,11 +141,14 @@ module _ (P : PlainProgram) (b : Bounds) where
 
   module _ (wt : WellTyped P) (L : Scope) (g : Ground) where
     -- a write of a field, or the trap at null
-    field_write : (R : State → Result → Type 0) (st : State) (at : Place) (f : Frame) (c k : ℕ) (args : List Rpl) (fd : PlainField) → field_at P c k ≡ Some fd → Known args fd.ty →
-        All (PathInScope L 0) args → Within b st.entries g (does (writes (substituted args fd.region)) ∷ []) → (u : Value) → FitsIn P st.shapes (env_of g) (type_with args fd.ty) u →
+    field_write : (R : State → Result → Type 0) (st : State) (at : Place) (f : Frame) (c k : ℕ) (args : List Rpl) (fd : PlainField) →
+        field_at P c k ≡ Some fd → Known args fd.ty →
+        All (PathInScope L 0) args → Within b st.entries g (does (writes (substituted args fd.region)) ∷ []) → (u : Value) → FitsIn P st.shapes
+        (env_of g) (type_with args fd.ty) u →
         (v : Value) → FitsIn P st.shapes (env_of g) (class c args) v → ((h : State) → Since st h → R h (Goes_on none f)) →
         InOrder P b R st (unless_null at v (λ n. write_cell at n (pos k) u f))
-    field_write R st at f c k args fd e kn al w u fu v fv next = order_unless P b R st at (Instance P st.shapes (env_of g) c args) (λ n. write_cell at n (pos k) u f) go v fv
+    field_write R st at f c k args fd e kn al w u fu v fv next = order_unless P b R st at (Instance P st.shapes (env_of g) c args)
+        (λ n. write_cell at n (pos k) u f) go v fv
       where
         go : (n : Name) → Instance P st.shapes (env_of g) c args n → InOrder P b R st (write_cell at n (pos k) u f)
         go n i =
@@ -137,40 +162,67 @@ module _ (P : PlainProgram) (b : Bounds) where
             let cell : Touches P st.shapes n (pos k) = record { shape = object i.class i.made_with; is = i.shape; env = class_env i.made_with; ty = fa.field.ty; rpl = fa.field.region; cell = of_object fa.there } in
             let region = (put_in (class_env i.made_with) fa.field.region).elems in
             order_write R st at n (pos k) u f
-            (record { cell = cell; allowed = w (access_of b st n (pos k) true region) (λ e. e) (inl (speaks_write g (substituted args fd.region) (access_of b st n (pos k) true region) (path_up m 0 (env_of g) (class_env i.regions) args st' fd.region path region own))) })
-            (fits_same P st.shapes (class_env i.regions) fd.ty (class_env i.made_with) fa.field.ty (same_sym (class_env i.made_with) fa.field.ty (class_env i.regions) fd.ty fa.types) u
-            (fits_with_down P st.shapes m (env_of g) (class_env i.regions) args st' fd.ty (closed_type P (class_scope good.class) (λ y. refl) (λ r t. false≢true t) 0 fd.ty gf.ty) kn u fu))
+            (record {
+              cell = cell;
+              allowed = w (access_of b st n (pos k) true region) (λ e. e)
+                  (inl (speaks_write g (substituted args fd.region) (access_of b st n (pos k) true region)
+                  (path_up m 0 (env_of g) (class_env i.regions) args st' fd.region path region own)));
+            })
+            (fits_same P st.shapes (class_env i.regions) fd.ty (class_env i.made_with) fa.field.ty
+            (same_sym (class_env i.made_with) fa.field.ty (class_env i.regions) fd.ty fa.types) u
+            (fits_with_down P st.shapes m (env_of g) (class_env i.regions) args st' fd.ty
+            (closed_type P (class_scope good.class) (λ y. refl) (λ r t. false≢true t) 0 fd.ty gf.ty) kn u fu))
             next
 
-    element_write : (R : State → Result → Type 0) (st : State) (at : Place) (f : Frame) (t : PlainType) (a : Rpl) (named : Bool) (x : Elem) (k : ℤ) → IsIndexElem x → Fits (env_of g) x (At (Literal k) ∷ []) →
-        (IsTrue (is_any x) → mentions_index 0 t ≡ false) → Within b st.entries g (does (writes (path_at 0 x a)) ∷ []) → (u : Value) → FitsIn P st.shapes (env_of g) (type_at 0 x t) u →
+    element_write : (R : State → Result → Type 0) (st : State) (at : Place) (f : Frame) (t : PlainType) (a : Rpl) (named : Bool) (x : Elem) (k : ℤ) →
+        IsIndexElem x → Fits (env_of g) x (At (Literal k) ∷ []) →
+        (IsTrue (is_any x) → mentions_index 0 t ≡ false) → Within b st.entries g (does (writes (path_at 0 x a)) ∷ []) → (u : Value) →
+        FitsIn P st.shapes (env_of g) (type_at 0 x t) u →
         (v : Value) → FitsIn P st.shapes (env_of g) (array t a named) v → ((h : State) → Since st h → R h (Goes_on none f)) →
         InOrder P b R st (unless_null at v (λ n. write_cell at n k u f))
-    element_write R st at f t a named x k ix fx kn w u fu v fv next = order_unless P b R st at (ArrayInstance st.shapes (env_of g) t a) (λ n. write_cell at n k u f) go v fv
+    element_write R st at f t a named x k ix fx kn w u fu v fv next = order_unless P b R st at (ArrayInstance st.shapes (env_of g) t a)
+        (λ n. write_cell at n k u f) go v fv
       where
         go : (n : Name) → ArrayInstance st.shapes (env_of g) t a n → InOrder P b R st (write_cell at n k u f)
         go n i =
-            let cell : Touches P st.shapes n k = record { shape = elements i.ground i.element i.rpl; is = i.shape; env = under k (env_of i.ground); ty = i.element; rpl = i.rpl; cell = of_array } in
+            let cell : Touches P st.shapes n k = record {
+              shape = elements i.ground i.element i.rpl;
+              is = i.shape;
+              env = under k
+                  (env_of i.ground);
+              ty = i.element;
+              rpl = i.rpl;
+              cell = of_array;
+            } in
             let region = (put_in (under k (env_of i.ground)) i.rpl).elems in
             order_write R st at n k u f
-            (record { cell = cell; allowed = w (access_of b st n k true region) (λ e. e) (inl (speaks_write g (path_at 0 x a) (access_of b st n k true region) (region_at_up g x k fx a region (i.region k)))) })
+            (record {
+              cell = cell;
+              allowed = w (access_of b st n k true region) (λ e. e)
+                  (inl (speaks_write g (path_at 0 x a) (access_of b st n k true region) (region_at_up g x k fx a region (i.region k))));
+            })
             (fits_same P st.shapes (under k (env_of g)) t (under k (env_of i.ground)) i.element (i.same k) u (fits_at_down P st.shapes g x ix k fx t kn u fu))
             next
 
-module _ (P : PlainProgram) (wt : WellTyped P) (b : Bounds) (dp : Option Deeper) (dd : DeeperInOrder P b dp) where
+module _ (P : PlainProgram) (wt : WellTyped P) (b : Bounds) (dp : Option Deeper) (dd : DeeperInOrder P wt b dp) where
   -- behind an expression, which is in order
-  behind : (L : Scope) → GoodScope L → (g : Ground) {e : TypedExpr} {E : List EffectOwn} → Has P L e E → (R : State → Result → Type 0) (j : Value → Frame → Prog) (st : State) (f : Frame) → FrameFits P b.path st g L f → Within b st.entries g E →
-      ((h : State) (v : Value) → Since st h → FitsIn P h.shapes (env_of g) (type_of e) v → Fits (env_of g) (index_elem L e) (At (Literal (number v)) ∷ []) → InOrder P b R h (j v f)) →
+  behind : (L : Scope) → GoodScope L → (g : Ground) {e : TypedExpr} {E : List EffectOwn} → Has P L e E →
+      (R : State → Result → Type 0) (j : Value → Frame → Prog) (st : State) (f : Frame) → FrameFits P b.path st g L f → Within b st.entries g E →
+      ((h : State) (v : Value) → Since st h → FitsIn P h.shapes (env_of g) (type_of e) v →
+      Fits (env_of g) (index_elem L e) (At (Literal (number v)) ∷ []) → InOrder P b R h (j v f)) →
       InOrder P b R st (and_then (of_expr (named_by b.path) P dp e f) j)
   behind L good g {e = e} h R j st f ff w i = order_then P b L g e f R j st _ (expr_order P wt b dp dd L good g h (Yields P L g e st f) st f ff w (yields P L g e st f)) i
 
   -- a value of a subtype
-  sub_fits : (L : Scope) → GoodScope L → (g : Ground) {e : TypedExpr} {E : List EffectOwn} {t : PlainType} → Has P L e E → Subtype P (type_of e) t → {st : State} {f : Frame} → FrameFits P b.path st g L f → (S : Shapes) (v : Value) →
+  sub_fits : (L : Scope) → GoodScope L → (g : Ground) {e : TypedExpr} {E : List EffectOwn} {t : PlainType} → Has P L e E → Subtype P (type_of e) t →
+      {st : State} {f : Frame} → FrameFits P b.path st g L f → (S : Shapes) (v : Value) →
       FitsIn P S (env_of g) (type_of e) v → FitsIn P S (env_of g) t v
-  sub_fits L good g {e = e} h sub ff S v fv = subtype_fits P wt S (env_of g) (env_alone L.given (env_of g) (frame_env ff)) refl sub (type_alone L (type_of e) (typed_in P wt L good h)) v fv
+  sub_fits L good g {e = e} h sub ff S v fv = subtype_fits P wt S (env_of g) (env_alone L.given (env_of g) (frame_env ff)) refl sub
+      (type_alone L (type_of e) (typed_in P wt L good h)) v fv
 
   -- behind the test of a loop, and its body
-  tested : (L : Scope) (g : Ground) (e : TypedExpr) (st : State) (f : Frame) → FrameFits P b.path st g L f → (u : State) (r : Result) → Yields P L g e st f u r → Rounds P b.path st g L u r
+  tested : (L : Scope) (g : Ground) (e : TypedExpr) (st : State) (f : Frame) → FrameFits P b.path st g L f → (u : State) (r : Result) →
+      Yields P L g e st f u r → Rounds P b.path st g L u r
   tested L g e st f ff u (Goes_on v c) y = (y.0, subst (FrameFits P b.path u g L) (sym y.1) (frame_since y.0 ff))
   tested L g e st f ff u (Returns v) y = absurd y
 
@@ -181,6 +233,26 @@ module _ (P : PlainProgram) (wt : WellTyped P) (b : Bounds) (dp : Option Deeper)
   looped : (L : Scope) (g : Ground) (st u : State) (r : Result) → Rounds P b.path st g L u r → Left P b L g true st u r
   looped L g st u (Goes_on v f) y = (refl, y.0, y.1)
   looped L g st u (Returns v) y = y
+
+  -- behind the body of an atomic block
+  leaves_block : (L : Scope) (g : Ground) (c : Bool) (st u : State) (Es : List RunEffect) → Grows st.shapes u.shapes → st.made ≤ u.made →
+      u.entries ≡ Es ∷ st.entries →
+      (h : State) (r : Result) → Left P b (in_atomic_block L) g c u h r →
+      InOrder P b (Left P b L g true st) h (next_of (λ v k. Act Exit (λ c. gives none k)) r)
+  unfolding InOrder
+  leaves_block L g c st u Es grown made e h (Goes_on v k) y = (
+    tt,
+    λ x z after ans. (
+      refl,
+      record {
+        grows = λ n i q. after.grows n i (y.1.grows n i (grown n i q));
+        made = (let m1 = y.1.made in let m2 = after.made in omega (arith, made, m1, m2));
+        entries = after.entries ∙ ap without_latest (y.1.entries ∙ e);
+      },
+      frame_unblock L (frame_later after.grows (let m = after.made in omega (arith, m)) y.2),
+    ),
+  )
+  leaves_block L g c st u Es grown made e h (Returns v) y = absurd y.1
 
   -- where a statement goes on
   followed : (L : Scope) (g : Ground) (c d : Bool) (st : State) (j : Value → Frame → Prog) →
@@ -201,17 +273,21 @@ module _ (P : PlainProgram) (wt : WellTyped P) (b : Bounds) (dp : Option Deeper)
   declared g t x st f R j k h (Returns v) y = absurd y
 
   -- behind the block of a declared local
-  return_leave : (L : Scope) → GoodScope L → (g : Ground) (x : ℕ) (k : ℤ) → L.local x ≡ None → (S : Shapes) (o : Option PlainType) → L.result ≡ o → (v : Value) → ReturnFits P S (with_number x k g) o v → ReturnFits P S g o v
+  return_leave : (L : Scope) → GoodScope L → (g : Ground) (x : ℕ) (k : ℤ) → L.local x ≡ None → (S : Shapes) (o : Option PlainType) → L.result ≡ o →
+      (v : Value) → ReturnFits P S (with_number x k g) o v → ReturnFits P S g o v
   return_leave L good g x k n S None e v f = f
   return_leave L good g x k n S (Some t) e v f = fits_alike P S L (with_number x k g) g (ground_back (number_alike L g x k n)) t (good.result t e) v f
 
-  left_leave : (L : Scope) → GoodScope L → (g : Ground) (x : ℕ) (l : ScopeLocal) (k : ℤ) → L.local x ≡ None → (c : Bool) (st h u : State) (r : Result) → Since st h → Left P b (with_local x l L) (with_number x k g) c h u r → Left P b L g c st u r
+  left_leave : (L : Scope) → GoodScope L → (g : Ground) (x : ℕ) (l : ScopeLocal) (k : ℤ) → L.local x ≡ None →
+      (c : Bool) (st h u : State) (r : Result) → Since st h → Left P b (with_local x l L) (with_number x k g) c h u r → Left P b L g c st u r
   left_leave L good g x l k n c st h u (Goes_on v f) s y = (y.0, since_since s y.1, frame_leave P b.path u g L good f x l k n y.2)
   left_leave L good g x l k n c st h u (Returns v) s y = (since_since s y.0, return_leave L good g x k n u.shapes L.result refl v y.1)
 
   mutual
     unfolding InOrder
-    stmt_order : {L : Scope} {s : TypedStmt} {E : List EffectOwn} → Passes P L s E → IsSequential s → GoodScope L → (g : Ground) (st : State) (f : Frame) → FrameFits P b.path st g L f → Within b st.entries g E →
+
+    stmt_order : {L : Scope} {s : TypedStmt} {E : List EffectOwn} → Passes P L s E → IsSequential s → GoodScope L →
+        (g : Ground) (st : State) (f : Frame) → FrameFits P b.path st g L f → Within b st.entries g E →
         InOrder P b (Left P b L g (completes s) st) st (of_stmt (named_by b.path) P dp s f)
     stmt_order {L} (store {x = x} {t = t} lx h sub) q good g st f ff w =
         behind L good g h _ _ st f ff w
@@ -219,64 +295,93 @@ module _ (P : PlainProgram) (wt : WellTyped P) (b : Bounds) (dp : Option Deeper)
     stmt_order {L} (store_field {at = at} {o = o} {e = e} {c = c} {k = k} {args = args} {f = fd} {E = E} {F = F} ho ty fe kn he sub) q good g st f ff w =
         behind L good g ho _ _ st f ff (within_left b st.entries g E _ w)
         (λ h1 v s fv ix. behind L good g he _ _ h1 f (frame_since s ff) (within_since b s g _ (within_left b st.entries g F _ (within_right b st.entries g E _ w)))
-            (λ h2 u s2 fu iu. field_write P b wt L g (Left P b L g true st) h2 at f c k args fd fe kn (subst (TypeInScope L 0) ty (typed_in P wt L good ho))
-                (within_since b (since_since s s2) g (does (writes (substituted args fd.region)) ∷ []) (within_right b st.entries g F _ (within_right b st.entries g E _ w))) u
-                (sub_fits L good g he sub ff h2.shapes u fu) v
-                (fits_grows P h1.shapes h2.shapes s2.grows (env_of g) (class c args) v (subst (λ z. FitsIn P h1.shapes (env_of g) z v) ty fv))
-                (λ h3 s3. (refl, since_since (since_since s s2) s3, frame_since (since_since (since_since s s2) s3) ff))))
+        (λ h2 u s2 fu iu. field_write P b wt L g (Left P b L g true st) h2 at f c k args fd fe kn (subst (TypeInScope L 0) ty (typed_in P wt L good ho))
+        (within_since b (since_since s s2) g (does (writes (substituted args fd.region)) ∷ []) (within_right b st.entries g F _ (within_right b st.entries g E _ w))) u
+        (sub_fits L good g he sub ff h2.shapes u fu) v
+        (fits_grows P h1.shapes h2.shapes s2.grows (env_of g) (class c args) v (subst (λ z. FitsIn P h1.shapes (env_of g) z v) ty fv))
+        (λ h3 s3. (refl, since_since (since_since s s2) s3, frame_since (since_since (since_since s s2) s3) ff))))
     stmt_order {L} (store_element {at = at} {a = a} {i = i} {e = e} {t = t} {rpl = rpl} {named = named} {E = E} {F = F} {G = G} ha ty hi ti rg he sub) q good g st f ff w =
         behind L good g ha _ _ st f ff (within_left b st.entries g E _ w)
         (λ h1 v s fv ix. behind L good g hi _ _ h1 f (frame_since s ff) (within_since b s g _ (within_left b st.entries g F _ (within_right b st.entries g E _ w)))
-            (λ h2 j s2 fj ij. behind L good g he _ _ h2 f (frame_since (since_since s s2) ff) (within_since b (since_since s s2) g _ (within_left b st.entries g G _ (within_right b st.entries g F _ (within_right b st.entries g E _ w))))
-                (λ h3 u s3 fu iu. element_write P b wt L g (Left P b L g true st) h3 at f t rpl named (index_elem L i) (number j) (index_in L i).0 ij rg
-                    (within_since b (since_since (since_since s s2) s3) g (does (writes (path_at 0 (index_elem L i) rpl)) ∷ []) (within_right b st.entries g G _ (within_right b st.entries g F _ (within_right b st.entries g E _ w)))) u
-                    (sub_fits L good g he sub ff h3.shapes u fu) v
-                    (fits_grows P h1.shapes h3.shapes (since_since s2 s3).grows (env_of g) (array t rpl named) v (subst (λ z. FitsIn P h1.shapes (env_of g) z v) ty fv))
-                    (λ h4 s4. (refl, since_since (since_since (since_since s s2) s3) s4, frame_since (since_since (since_since (since_since s s2) s3) s4) ff)))))
+        (λ h2 j s2 fj ij. behind L good g he _ _ h2 f (frame_since (since_since s s2) ff)
+        (within_since b (since_since s s2) g _ (within_left b st.entries g G _ (within_right b st.entries g F _ (within_right b st.entries g E _ w))))
+        (λ h3 u s3 fu iu. element_write P b wt L g (Left P b L g true st) h3 at f t rpl named (index_elem L i) (number j) (index_in L i).0 ij rg
+        (within_since b (since_since (since_since s s2) s3) g (does (writes (path_at 0 (index_elem L i) rpl)) ∷ [])
+        (within_right b st.entries g G _ (within_right b st.entries g F _ (within_right b st.entries g E _ w)))) u
+        (sub_fits L good g he sub ff h3.shapes u fu) v
+        (fits_grows P h1.shapes h3.shapes (since_since s2 s3).grows (env_of g) (array t rpl named) v (subst (λ z. FitsIn P h1.shapes (env_of g) z v) ty fv))
+        (λ h4 s4. (refl, since_since (since_since (since_since s s2) s3) s4, frame_since (since_since (since_since (since_since s s2) s3) s4) ff)))))
     stmt_order {L} (store_part {at = at} {k = k} {t = t} {a = a} {i = i} {e = e} {E = E} {F = F} lk hi ti he sub) q good g st f ff w =
         behind L good g hi _ _ st f ff (within_left b st.entries g E _ w)
         (λ h1 j s fj ij. behind L good g he _ _ h1 f (frame_since s ff) (within_since b s g _ (within_left b st.entries g F _ (within_right b st.entries g E _ w)))
-            (λ h2 u s2 fu iu. part_write P b (Left P b L g true st) h2 at f g k t a (number j) u ((frame_since (since_since s s2) ff).each k (part t a) lk)
-                (within_since b (since_since s s2) g (uses k (writes a) ∷ []) (within_right b st.entries g F _ (within_right b st.entries g E _ w)))
-                (sub_fits L good g he sub ff h2.shapes u fu)
-                (λ h3 s3. (refl, since_since (since_since s s2) s3, frame_since (since_since (since_since s s2) s3) ff))))
+        (λ h2 u s2 fu iu. part_write P b (Left P b L g true st) h2 at f g k t a (number j) u ((frame_since (since_since s s2) ff).each k (part t a) lk)
+        (within_since b (since_since s s2) g (uses k (writes a) ∷ []) (within_right b st.entries g F _ (within_right b st.entries g E _ w)))
+        (sub_fits L good g he sub ff h2.shapes u fu)
+        (λ h3 s3. (refl, since_since (since_since s s2) s3, frame_since (since_since (since_since s s2) s3) ff))))
     stmt_order {L} (perform ip h) q good g st f ff w = behind L good g h _ _ st f ff w (λ h1 v s fv ix. (refl, s, frame_since s ff))
     stmt_order (nested p) q good g st f ff w = stmts_order p q good g st f ff w
     stmt_order {L} (choice {s = a} {E = E} {F = F} h ty p) q good g st f ff w =
         behind L good g h _ _ st f ff (within_left b st.entries g E F w)
         (λ h1 v s fv ix. order_choose P b (Left P b L g true st) h1 (truth v) (gives none f) (of_stmt (named_by b.path) P dp a f)
-            (order_ret P b (Left P b L g true st) h1 (Goes_on none f) (refl, s, frame_since s ff))
-            (order_post P b (Left P b L g (completes a) h1) (Left P b L g true st) (λ u r y. left_since P b L g (completes a) true st h1 u r s (λ e. refl) y) (of_stmt (named_by b.path) P dp a f) h1
-                (single_order p q good g h1 f (frame_since s ff) (within_since b s g F (within_right b st.entries g E F w)))))
+        (order_ret P b (Left P b L g true st) h1 (Goes_on none f) (refl, s, frame_since s ff))
+        (order_post P b (Left P b L g (completes a) h1) (Left P b L g true st)
+        (λ u r y. left_since P b L g (completes a) true st h1 u r s (λ e. refl) y) (of_stmt (named_by b.path) P dp a f) h1
+        (single_order p q good g h1 f (frame_since s ff) (within_since b s g F (within_right b st.entries g E F w)))))
     stmt_order {L} (choice_else {s = a} {t = c} {E = E} {F = F} {G = G} h ty p r) q good g st f ff w =
         behind L good g h _ _ st f ff (within_left b st.entries g E _ w)
-        (λ h1 v s fv ix. order_choose P b (Left P b L g (completes a || completes c) st) h1 (truth v) (of_stmt (named_by b.path) P dp c f) (of_stmt (named_by b.path) P dp a f)
-            (order_post P b (Left P b L g (completes c) h1) (Left P b L g (completes a || completes c) st)
-                (λ u x y. left_since P b L g (completes c) (completes a || completes c) st h1 u x s (or_right (completes a) (completes c)) y) (of_stmt (named_by b.path) P dp c f) h1
-                (single_order r q.1 good g h1 f (frame_since s ff) (within_since b s g G (within_right b st.entries g F G (within_right b st.entries g E _ w)))))
-            (order_post P b (Left P b L g (completes a) h1) (Left P b L g (completes a || completes c) st)
-                (λ u x y. left_since P b L g (completes a) (completes a || completes c) st h1 u x s (or_left (completes a) (completes c)) y) (of_stmt (named_by b.path) P dp a f) h1
-                (single_order p q.0 good g h1 f (frame_since s ff) (within_since b s g F (within_left b st.entries g F G (within_right b st.entries g E _ w))))))
-    stmt_order {L} (while_loop {e = e} {s = a} {E = E} {F = F} h ty p) q good g st f ff w =
-        (L, g, ff,
-         λ h1 f1 s ff1. order_post P b _ _ (λ u r y. tested L g e h1 f1 ff1 u r y) _ h1 (expr_order P wt b dp dd L good g h (Yields P L g e h1 f1) h1 f1 ff1 (within_since b s g E (within_left b st.entries g E F w)) (yields P L g e h1 f1)),
-         λ h1 f1 s ff1. order_post P b _ _ (λ u r y. rounded L g (completes a) h1 u r y) _ h1 (single_order p q good g h1 f1 ff1 (within_since b s g F (within_right b st.entries g E F w))),
-         λ h1 r y. looped L g st h1 r y)
+        (λ h1 v s fv ix. order_choose P b (Left P b L g (completes a || completes c) st) h1 (truth v) (of_stmt (named_by b.path) P dp c f)
+        (of_stmt (named_by b.path) P dp a f)
+        (order_post P b (Left P b L g (completes c) h1) (Left P b L g (completes a || completes c) st)
+        (λ u x y. left_since P b L g (completes c) (completes a || completes c) st h1 u x s (or_right (completes a) (completes c)) y)
+        (of_stmt (named_by b.path) P dp c f) h1
+        (single_order r q.1 good g h1 f (frame_since s ff) (within_since b s g G (within_right b st.entries g F G (within_right b st.entries g E _ w)))))
+        (order_post P b (Left P b L g (completes a) h1) (Left P b L g (completes a || completes c) st)
+        (λ u x y. left_since P b L g (completes a) (completes a || completes c) st h1 u x s (or_left (completes a) (completes c)) y)
+        (of_stmt (named_by b.path) P dp a f) h1
+        (single_order p q.0 good g h1 f (frame_since s ff) (within_since b s g F (within_left b st.entries g F G (within_right b st.entries g E _ w))))))
+    stmt_order {L} (while_loop {e = e} {s = a} {E = E} {F = F} h ty p) q good g st f ff w = (
+      L,
+      g,
+      ff,
+      λ h1 f1 s ff1. order_post P b _ _ (λ u r y. tested L g e h1 f1 ff1 u r y) _ h1
+          (expr_order P wt b dp dd L good g h (Yields P L g e h1 f1) h1 f1 ff1 (within_since b s g E (within_left b st.entries g E F w)) (yields P L g e h1 f1)),
+      λ h1 f1 s ff1. order_post P b _ _ (λ u r y. rounded L g (completes a) h1 u r y) _ h1
+          (single_order p q good g h1 f1 ff1 (within_since b s g F (within_right b st.entries g E F w))),
+      λ h1 r y. looped L g st h1 r y,
+    )
     stmt_order {L} (return_nothing e) q good g st f ff w = (since_now st, subst (λ z. ReturnFits P st.shapes g z none) (sym e) tt)
     stmt_order {L} (return_value {e = e} {t = t} k h sub) q good g st f ff w =
         behind L good g h _ _ st f ff w (λ h1 v s fv ix. (s, subst (λ z. ReturnFits P h1.shapes g z v) (sym k) (sub_fits L good g h sub ff h1.shapes v fv)))
     stmt_order {L} (print_int h ty) q good g st f ff w =
-        behind L good g h _ _ st f ff w (λ h1 v s fv ix. order_prints P b (Left P b L g true st) h1 (text_of v) f (λ u s2. (refl, since_since s s2, frame_since (since_since s s2) ff)))
+        behind L good g h _ _ st f ff w (λ h1 v s fv ix. order_prints P b (Left P b L g true st) h1 (text_of v) f
+        (λ u s2. (refl, since_since s s2, frame_since (since_since s s2) ff)))
     stmt_order {L} (print_boolean h ty) q good g st f ff w =
-        behind L good g h _ _ st f ff w (λ h1 v s fv ix. order_prints P b (Left P b L g true st) h1 (text_of v) f (λ u s2. (refl, since_since s s2, frame_since (since_since s s2) ff)))
+        behind L good g h _ _ st f ff w (λ h1 v s fv ix. order_prints P b (Left P b L g true st) h1 (text_of v) f
+        (λ u s2. (refl, since_since s s2, frame_since (since_since s s2) ff)))
     stmt_order {L} (print_text {text = text}) q good g st f ff w = order_prints P b (Left P b L g true st) st text f (λ u s. (refl, s, frame_since s ff))
-    stmt_order (atomic p se) q good g st f ff w = absurd q
+    stmt_order {L} (atomic {entry = entry} {ss = ss} {E = E} p se) q good g st f ff w = (
+      tt,
+      λ x h after ans. (
+        tt,
+        λ y u enters ans'.
+            (let s : Since st h = since_after Rest refl after in
+            let e : u.entries ≡ map (concrete_effect (named_by b.path) (around f)) entry ∷ st.entries = enters.entries ∙ ap
+            (λ z. map (concrete_effect (named_by b.path) (around f)) entry ∷ z) s.entries in
+            let grown : Grows st.shapes u.shapes = (λ n z i. enters.grows n z (s.grows n z i)) in
+            let made : st.made ≤ u.made = (let m = s.made in let n = enters.made in omega (arith, m, n)) in
+            order_on P b (Left P b (in_atomic_block L) g (all_complete ss) u) (Left P b L g true st) (next_of (λ v k. Act Exit (λ c. gives none k)))
+            (leaves_block L g (all_complete ss) st u (map (concrete_effect (named_by b.path) (around f)) entry) grown made e) (of_stmts (named_by b.path) P dp ss f) u
+            (stmts_order p q (good_block L good) g u f (frame_block L (frame_later grown made ff))
+            (subst (λ z. Within b z g E) (sym e) (within_block P b L g st f ff entry E st.entries se (marked_in P wt L E (stmts_effects_in P wt p (good_block L good) q)) w)))),
+      ),
+    )
     stmt_order (cobegin calm p nc) q good g st f ff w = absurd q
     stmt_order (foreach calm hs ts hc tc fr p ic) q good g st f ff w = absurd q
     stmt_order (foreach_parts cu hc tc fr p ic lc) q good g st f ff w = absurd q
 
     -- a statement that is a block of its own
-    single_order : {L : Scope} {s : TypedStmt} {E : List EffectOwn} → AllPass P L (more_stmts s no_stmts) E → IsSequential s → GoodScope L → (g : Ground) (st : State) (f : Frame) → FrameFits P b.path st g L f → Within b st.entries g E →
+    single_order : {L : Scope} {s : TypedStmt} {E : List EffectOwn} → AllPass P L (more_stmts s no_stmts) E → IsSequential s → GoodScope L →
+        (g : Ground) (st : State) (f : Frame) → FrameFits P b.path st g L f → Within b st.entries g E →
         InOrder P b (Left P b L g (completes s) st) st (of_stmt (named_by b.path) P dp s f)
     single_order (then' {E = E} {F = F} p c rest) q good g st f ff w = stmt_order p q good g st f ff (within_left b st.entries g E F w)
     single_order {L} (declare {x = x} {t = t} {E = E} {F = F} free gt h sub rest) q good g st f ff w =
@@ -284,32 +389,54 @@ module _ (P : PlainProgram) (wt : WellTyped P) (b : Bounds) (dp : Option Deeper)
         (λ h1 v s fv ix. (refl, s, frame_outside P b.path h1 g L good f x v free.0 (frame_since s ff)))
     single_order (declare_regions fr rest) q good g st f ff w = absurd q
 
-    pub stmts_order : {L : Scope} {ss : TypedStmts} {E : List EffectOwn} → AllPass P L ss E → AreSequential ss → GoodScope L → (g : Ground) (st : State) (f : Frame) → FrameFits P b.path st g L f → Within b st.entries g E →
+    pub stmts_order : {L : Scope} {ss : TypedStmts} {E : List EffectOwn} → AllPass P L ss E → AreSequential ss → GoodScope L →
+        (g : Ground) (st : State) (f : Frame) → FrameFits P b.path st g L f → Within b st.entries g E →
         InOrder P b (Left P b L g (all_complete ss) st) st (of_stmts (named_by b.path) P dp ss f)
     stmts_order no_more q good g st f ff w = (refl, since_now st, ff)
     stmts_order {L} (then' {s = s} {ss = ss} {E = E} {F = F} p c rest) q good g st f ff w =
         order_on P b (Left P b L g (completes s) st) _ (next_of (λ v h. of_stmts (named_by b.path) P dp ss h))
         (followed L g (completes s) (completes s && all_complete ss) st (λ v h. of_stmts (named_by b.path) P dp ss h)
-            (λ h c v cs s2 ffc. order_post P b (Left P b L g (all_complete ss) h) _ (λ u r y. left_since P b L g (all_complete ss) (completes s && all_complete ss) st h u r s2 (λ e. and_from _ _ cs e) y) _ h
-                (stmts_order rest q.1 good g h c ffc (within_since b s2 g F (within_right b st.entries g E F w)))))
+        (λ h c v cs s2 ffc. order_post P b (Left P b L g (all_complete ss) h) _
+        (λ u r y. left_since P b L g (all_complete ss) (completes s && all_complete ss) st h u r s2 (λ e. and_from _ _ cs e) y) _ h
+        (stmts_order rest q.1 good g h c ffc (within_since b s2 g F (within_right b st.entries g E F w)))))
         _ st (stmt_order p q.0 good g st f ff (within_left b st.entries g E F w))
     stmts_order {L} (declare {x = x} {t = t} {is_final = is_final} {e = e} {ss = ss} {E = E} {F = F} free gt h sub rest) q good g st f ff w =
         order_on P b (Declared g t x st f) _ (next_of (λ v h. of_stmts (named_by b.path) P dp ss h))
         (declared g t x st f (Left P b L g (all_complete ss) st) (λ v h. of_stmts (named_by b.path) P dp ss h)
-            (λ h1 v s2 fv.
-                order_post P b (Left P b (with_local x (declared_as is_final t) L) (with_number x (number v) g) (all_complete ss) h1) _
-                (λ u r y. left_leave L good g x (declared_as is_final t) (number v) free.0 (all_complete ss) st h1 u r s2 y) _ h1
-                (stmts_order rest q.1 (good_declare L good x is_final t free (good_type P L 0 t gt)) (with_number x (number v) g) h1 (with_value f x v)
-                    (frame_declare P b.path h1 g L good f x is_final t v free (good_type P L 0 t gt) fv (frame_since s2 ff))
-                    (λ a gu l. within_since b s2 g _ (within_right b st.entries g E _ w) a gu
-                        (lies_general g x (number v) (with_local x (declared_as is_final t) L) F a
-                        (stmts_effects_in P wt rest (good_declare L good x is_final t free (good_type P L 0 t gt)) q.1) l)))))
-        _ st (behind L good g h (Declared g t x st f) _ st f ff (within_left b st.entries g E _ w) (λ h1 v s2 fv ix. order_ret P b (Declared g t x st f) h1 (Goes_on none (with_value f x v)) (v, s2, sub_fits L good g h sub ff h1.shapes v fv, refl)))
+        (λ h1 v s2 fv.
+        order_post P b (Left P b (with_local x (declared_as is_final t) L) (with_number x (number v) g) (all_complete ss) h1) _
+        (λ u r y. left_leave L good g x (declared_as is_final t) (number v) free.0 (all_complete ss) st h1 u r s2 y) _ h1
+        (stmts_order rest q.1 (good_declare L good x is_final t free (good_type P L 0 t gt)) (with_number x (number v) g) h1 (with_value f x v)
+        (frame_declare P b.path h1 g L good f x is_final t v free (good_type P L 0 t gt) fv (frame_since s2 ff))
+        (λ a gu l. within_since b s2 g _ (within_right b st.entries g E _ w) a gu
+        (lies_general g x (number v) (with_local x (declared_as is_final t) L) F a
+        (stmts_effects_in P wt rest (good_declare L good x is_final t free (good_type P L 0 t gt)) q.1) l)))))
+        _ st (behind L good g h (Declared g t x st f) _ st f ff (within_left b st.entries g E _ w)
+        (λ h1 v s2 fv ix. order_ret P b (Declared g t x st f) h1 (Goes_on none (with_value f x v)) (v, s2, sub_fits L good g h sub ff h1.shapes v fv, refl)))
     stmts_order (declare_regions fr rest) q good g st f ff w = absurd q.0
 
-left_leaves : (P : PlainProgram) (b : Bounds) (L : Scope) (g : Ground) (ss : TypedStmts) (st h : State) (r : Result) → Left P b L g (all_complete ss) st h r → Leaves P b L g ss st h r
+left_leaves : (P : PlainProgram) (b : Bounds) (L : Scope) (g : Ground) (ss : TypedStmts) (st h : State) (r : Result) →
+    Left P b L g (all_complete ss) st h r → Leaves P b L g ss st h r
 left_leaves P b L g ss st h (Goes_on v f) y = y
 left_leaves P b L g ss st h (Returns v) y = y
 
 pub sequential_in_order : SequentialInOrder
-sequential_in_order P wt b dp dd L ss E p q good g st f ff w = order_post P b (Left P b L g (all_complete ss) st) (Leaves P b L g ss st) (left_leaves P b L g ss st) _ st (stmts_order P wt b dp dd p q good g st f ff w)
+sequential_in_order P wt b dp dd L ss E p q good g st f ff w = order_post P b (Left P b L g (all_complete ss) st) (Leaves P b L g ss st)
+    (left_leaves P b L g ss st) _ st (stmts_order P wt b dp dd p q good g st f ff w)
+
+-- at each depth of calls, by recursion on it
+module _ (P : PlainProgram) (wt : WellTyped P) (plain : (n : ℕ) (m : PlainMember) → member_at P n ≡ Some m → AreSequential m.body) (b : Bounds) where
+  bodies_in_order : (left : ℕ) → DeeperInOrder P wt b (Some (meaning (named_by b.path) P left))
+  unfolding meaning
+  bodies_in_order zero n m there g st f ff w =
+      sequential_in_order P wt b None tt (scope_of P wt n m there) m.body (wt.members n m there).effects (wt.members n m there).passes (plain n m there)
+      (body_good P wt n m there) g st f ff w
+  bodies_in_order (suc left) n m there g st f ff w =
+      sequential_in_order P wt b (Some (meaning (named_by b.path) P left)) (bodies_in_order left) (scope_of P wt n m there) m.body (wt.members n m there).effects
+      (wt.members n m there).passes (plain n m there) (body_good P wt n m there) g st f ff w
+
+pub sequential_tasks : SequentialTasks
+unfolding meaning
+sequential_tasks P wt plain b L ss E p q good zero g st f ff w = sequential_in_order P wt b None tt L ss E p q good g st f ff w
+sequential_tasks P wt plain b L ss E p q good (suc left) g st f ff w =
+    sequential_in_order P wt b (Some (meaning (named_by b.path) P left)) (bodies_in_order P wt plain b left) L ss E p q good g st f ff w

@@ -1,51 +1,60 @@
 -- Types of the same values, and values that fit a type in an environment.
-use Rattle.std.proofs.Common.{◌≡◌, ◌<◌, ◌↔◌, ℕ, ℤ, zero, suc, pos, Bool, true, false, cond, ◌==◌, ◌||◌, List, [], ◌∷◌, ◌++◌, map, length, refl, sym, ap, ◌∙◌, subst, arith, Some, None, IsTrue, slice_index_or, ⊎_elim, append_assoc}
+use Rattle.std.proofs.Common.{◌≡◌, ◌<◌, ℕ, ℤ, zero, suc, true, List, [], ◌∷◌, ◌++◌, map, refl, sym, ap, ◌∙◌, subst, arith, IsTrue, slice_index_or, append_assoc}
 use Rattle.std.specs.Prelude.{All}
-use Rattle.std.specs.List.{list_any}
 use Rattle.std.proofs.lemmas.List.Folds.{list_any_at}
 use Rattle.std.proofs.lemmas.List.Elements.{All-head, All-tail}
-use Rattle.std.proofs.lemmas.Bool.{cases_Bool, eqb-true, eq-eqb, ne_eqb, false≢true, or_left, or_right}
+use Rattle.std.proofs.lemmas.Bool.{eq-eqb, or_left, or_right}
 use Rattle.dpj_base.specs.declared.elems.Elem.{Elem}
 use Rattle.dpj_base.specs.declared.elems.Elem.TheVariants.{At, Any, Star, Local}
 use Rattle.dpj_base.specs.declared.elems.Elem.TheVariants as elem
-use Rattle.dpj_base.specs.declared.elems.Index.{Index}
 use Rattle.dpj_base.specs.declared.elems.Index.TheVariants.{Literal, Variable, Renamed, Own}
 use Rattle.dpj_base.specs.declared.region.Head.{Head}
 use Rattle.dpj_base.specs.declared.region.Head.TheVariants.{Root, Param}
 use Rattle.dpj_base.specs.declared.region.Rpl.{Rpl}
-use Rattle.dpj_base.specs.Matching.{Env, put_elem, put_in, head_region, number_of, Fits, FitsAll, Matches, with_regions}
-use Rattle.dpj_base.specs.Regions.{same_elem, fully_specified, argument, put_at, substituted, is_any}
-use Rattle.dpj_base.specs.Types.{PlainType, int, boolean, void, null, class, array, type_with, elem_at, path_at, type_at, has_param, mentions_param, rigid_in_param, has_index, mentions_index, rigid_in_index, unnamed, SameType}
+use Rattle.dpj_base.specs.Matching.{Env, put_elem, head_region, FitsAll, Matches, with_regions}
+use Rattle.dpj_base.specs.Regions.{fully_specified, argument, put_at, substituted}
+use Rattle.dpj_base.specs.Types.{PlainType, int, boolean, void, null, class, array, type_with, has_param, mentions_param, rigid_in_param, SameType}
 use Rattle.dpj_typed.specs.Plain.{PlainProgram}
-use Rattle.dpj_regions.specs.Laws.{AgreeOn, with_own}
-use Rattle.dpj_regions.proofs.Reading.{matches_by_what_occurs, own_index_matches_more, own_index_puts_in, known_argument_matches}
+use Rattle.dpj_regions.proofs.Reading.{matches_by_what_occurs, known_argument_matches}
 use Rattle.dpj_runs.specs.Objects.{Name, Value, Int, Boolean, Null, Object, Region}
-use Rattle.dpj_sound.specs.Grounds.{Ground, env_of, elems_of, behind_own, under}
+use Rattle.dpj_sound.specs.Grounds.{env_of, elems_of, behind_own, under}
 use Rattle.dpj_sound.specs.Shapes.{Shapes, Grows, AllMatch, Instance, SameIn, ArrayInstance, IsNullOr, FitsIn}
 use Rattle.dpj_sound.proofs.Closed.{IsClosed, ClosedPath, ClosedType, Agrees, agrees_back, agrees_under, closed_matches}
 
 -- each path of a list
 
-pub match_same : (env other : Env) (args : List Rpl) → All (λ a. (r : List Elem) → Matches env a r → Matches other a r) args → (rs : List Region) → AllMatch env args rs → AllMatch other args rs
+pub match_same : (env other : Env) (args : List Rpl) → All (λ a. (r : List Elem) → Matches env a r → Matches other a r) args → (rs : List Region) →
+    AllMatch env args rs → AllMatch other args rs
 match_same env other [] h [] m = m
 match_same env other [] h (r ∷ rs) m = absurd m
 match_same env other (a ∷ args) h [] m = absurd m
-match_same env other (a ∷ args) h (r ∷ rs) m =
-    (All-head (λ a. (r : List Elem) → Matches env a r → Matches other a r) a args h (elems_of r) m.0, match_same env other args (All-tail (λ a. (r : List Elem) → Matches env a r → Matches other a r) a args h) rs m.1)
+match_same env other (a ∷ args) h (r ∷ rs) m = (
+  All-head (λ a. (r : List Elem) → Matches env a r → Matches other a r) a args h (elems_of r) m.0,
+  match_same env other args
+      (All-tail (λ a. (r : List Elem) → Matches env a r → Matches other a r) a args h) rs m.1,
+)
 
-pub match_onto : (env other : Env) (f : Rpl → Rpl) (args : List Rpl) → All (λ a. (r : List Elem) → Matches env a r → Matches other (f a) r) args → (rs : List Region) → AllMatch env args rs → AllMatch other (map f args) rs
+pub match_onto : (env other : Env) (f : Rpl → Rpl) (args : List Rpl) → All (λ a. (r : List Elem) → Matches env a r → Matches other (f a) r) args →
+    (rs : List Region) → AllMatch env args rs → AllMatch other (map f args) rs
 match_onto env other f [] h [] m = m
 match_onto env other f [] h (r ∷ rs) m = absurd m
 match_onto env other f (a ∷ args) h [] m = absurd m
-match_onto env other f (a ∷ args) h (r ∷ rs) m =
-    (All-head (λ a. (r : List Elem) → Matches env a r → Matches other (f a) r) a args h (elems_of r) m.0, match_onto env other f args (All-tail (λ a. (r : List Elem) → Matches env a r → Matches other (f a) r) a args h) rs m.1)
+match_onto env other f (a ∷ args) h (r ∷ rs) m = (
+  All-head (λ a. (r : List Elem) → Matches env a r → Matches other (f a) r) a args h (elems_of r) m.0,
+  match_onto env other f args
+      (All-tail (λ a. (r : List Elem) → Matches env a r → Matches other (f a) r) a args h) rs m.1,
+)
 
-pub match_from : (env other : Env) (f : Rpl → Rpl) (args : List Rpl) → All (λ a. (r : List Elem) → Matches other (f a) r → Matches env a r) args → (rs : List Region) → AllMatch other (map f args) rs → AllMatch env args rs
+pub match_from : (env other : Env) (f : Rpl → Rpl) (args : List Rpl) → All (λ a. (r : List Elem) → Matches other (f a) r → Matches env a r) args →
+    (rs : List Region) → AllMatch other (map f args) rs → AllMatch env args rs
 match_from env other f [] h [] m = m
 match_from env other f [] h (r ∷ rs) m = absurd m
 match_from env other f (a ∷ args) h [] m = absurd m
-match_from env other f (a ∷ args) h (r ∷ rs) m =
-    (All-head (λ a. (r : List Elem) → Matches other (f a) r → Matches env a r) a args h (elems_of r) m.0, match_from env other f args (All-tail (λ a. (r : List Elem) → Matches other (f a) r → Matches env a r) a args h) rs m.1)
+match_from env other f (a ∷ args) h (r ∷ rs) m = (
+  All-head (λ a. (r : List Elem) → Matches other (f a) r → Matches env a r) a args h (elems_of r) m.0,
+  match_from env other f args
+      (All-tail (λ a. (r : List Elem) → Matches other (f a) r → Matches env a r) a args h) rs m.1,
+)
 
 -- types of the same values
 
@@ -66,7 +75,8 @@ same_sym env (class c args) other (class d args') s = (sym s.0, λ rs. ((s.1 rs)
 same_sym env (array t a named) other (array u b named') s = (λ k r. ((s.0 k r).1, (s.0 k r).0), λ k. same_sym (under k env) t (under k other) u (s.1 k))
 same_sym env _ other _ s = absurd s
 
-pub same_trans : (env : Env) (t : PlainType) (other : Env) (u : PlainType) (third : Env) (w : PlainType) → SameIn env t other u → SameIn other u third w → SameIn env t third w
+pub same_trans : (env : Env) (t : PlainType) (other : Env) (u : PlainType) (third : Env) (w : PlainType) → SameIn env t other u →
+    SameIn other u third w → SameIn env t third w
 same_trans env int other int third w s z = z
 same_trans env boolean other boolean third w s z = z
 same_trans env void other void third w s z = z
@@ -86,7 +96,8 @@ null_or A B h (Int k) f = f
 null_or A B h (Boolean c) f = f
 
 module _ (P : PlainProgram) (S : Shapes) where
-  pub instance_onto : (env other : Env) (c d : ℕ) (args args' : List Rpl) → c ≡ d → ((rs : List Region) → AllMatch env args rs → AllMatch other args' rs) → (n : Name) → Instance P S env c args n → Instance P S other d args' n
+  pub instance_onto : (env other : Env) (c d : ℕ) (args args' : List Rpl) → c ≡ d →
+      ((rs : List Region) → AllMatch env args rs → AllMatch other args' rs) → (n : Name) → Instance P S env c args n → Instance P S other d args' n
   instance_onto env other c d args args' e h n i =
       subst (λ d. Instance P S other d args' n) e
       (record { class = i.class; made_with = i.made_with; regions = i.regions; shape = i.shape; good = i.good; is_one = i.is_one; matches = h i.regions i.matches })
@@ -94,7 +105,10 @@ module _ (P : PlainProgram) (S : Shapes) where
   pub array_onto : (env other : Env) (t u : PlainType) (a b : Rpl) → ((k : ℤ) (r : List Elem) → Matches (under k env) a r → Matches (under k other) b r) →
       ((k : ℤ) → SameIn (under k other) u (under k env) t) → (n : Name) → ArrayInstance S env t a n → ArrayInstance S other u b n
   array_onto env other t u a b h s n i = record {
-    ground = i.ground; element = i.element; rpl = i.rpl; shape = i.shape;
+    ground = i.ground;
+    element = i.element;
+    rpl = i.rpl;
+    shape = i.shape;
     region = λ k. h k _ (i.region k);
     same = λ k. same_trans (under k other) u (under k env) t (under k (env_of i.ground)) i.element (s k) (i.same k);
   }
@@ -132,7 +146,8 @@ same_type env boolean boolean e = tt
 same_type env void void e = tt
 same_type env null null e = tt
 same_type env (class c args) (class d args') e =
-    let h : c ≡ d = cc in let k : args ≡ args' = cc in subst (λ z. SameIn env (class c args) env (class z args')) h (subst (λ z. SameIn env (class c args) env (class c z)) k (same_refl env (class c args)))
+    let h : c ≡ d = cc in let k : args ≡ args' = cc in subst (λ z. SameIn env (class c args) env (class z args')) h
+    (subst (λ z. SameIn env (class c args) env (class c z)) k (same_refl env (class c args)))
 same_type env (array t a named) (array u b named') e =
     let h : SameType t u = cc in
     let k : a ≡ b = cc in
@@ -175,11 +190,22 @@ closed_same n depth env other g int c = tt
 closed_same n depth env other g boolean c = tt
 closed_same n depth env other g void c = tt
 closed_same n depth env other g null c = tt
-closed_same n depth env other g (class d args) c =
-    (refl, λ rs. (match_same env other args (λ k x l. closed_matches n depth env other g _ (c k x l)) rs, match_same other env args (λ k x l. closed_matches n depth other env (agrees_back g) _ (c k x l)) rs))
-closed_same n depth env other g (array t a named) c =
-    (λ k r. (closed_matches n (suc depth) (under k env) (under k other) (agrees_under k g) a c.0 r, closed_matches n (suc depth) (under k other) (under k env) (agrees_back (agrees_under k g)) a c.0 r),
-     λ k. closed_same n (suc depth) (under k env) (under k other) (agrees_under k g) t c.1)
+closed_same n depth env other g (class d args) c = (
+  refl,
+  λ rs. (
+    match_same env other args (λ k x l. closed_matches n depth env other g _ (c k x l)) rs,
+    match_same other env args
+        (λ k x l. closed_matches n depth other env (agrees_back g) _ (c k x l)) rs,
+  ),
+)
+closed_same n depth env other g (array t a named) c = (
+  λ k r. (
+    closed_matches n (suc depth) (under k env) (under k other) (agrees_under k g) a c.0 r,
+    closed_matches n (suc depth) (under k other)
+        (under k env) (agrees_back (agrees_under k g)) a c.0 r,
+  ),
+  λ k. closed_same n (suc depth) (under k env) (under k other) (agrees_under k g) t c.1,
+)
 
 -- arguments put in
 
@@ -221,7 +247,8 @@ own_both : (depth : ℕ) (k : ℤ) (f g : ℕ → ℤ) → ((d : ℕ) → d < de
 own_both depth k f g h zero l = refl
 own_both depth k f g h (suc d) l = h d (omega (arith, l))
 
-pub stands_under : {n depth : ℕ} {env inner : Env} {args : List Rpl} (k : ℤ) → Stands n depth env inner args → Stands n (suc depth) (under k env) (under k inner) args
+pub stands_under : {n depth : ℕ} {env inner : Env} {args : List Rpl} (k : ℤ) → Stands n depth env inner args →
+    Stands n (suc depth) (under k env) (under k inner) args
 stands_under {n} {depth} {env} {inner} {args} k s = record {
   match = λ p l. alone_under k env (argument args p) (s.alone p l) (inner.region p) (s.match p l);
   alone = s.alone;
@@ -234,11 +261,12 @@ fits_agree env other a h r f =
     let m = (matches_by_what_occurs env other (record { head = Root; elems = a }) (record { head = refl; elems = h }) r).0 (r, refl, f) in
     subst (FitsAll other a) (sym m.1) m.2
 
-fits_append : (env : Env) (a b r q : List Elem) → FitsAll env a r → FitsAll env b q → FitsAll env (a ++ b) (r ++ q)
+pub fits_append : (env : Env) (a b r q : List Elem) → FitsAll env a r → FitsAll env b q → FitsAll env (a ++ b) (r ++ q)
 fits_append env [] b r q f g = subst (λ z. FitsAll env b (z ++ q)) (sym f) g
 fits_append env (x ∷ a) b r q f g = (f.0, f.1 ++ q, ap (λ z. z ++ q) f.2 ∙ append_assoc f.0 f.1 q, f.3, fits_append env a b f.1 q f.4 g)
 
-put_inner : (depth : ℕ) (env inner : Env) → ((d : ℕ) → d < depth → env.own d ≡ inner.own d) → (x : Elem) → IsClosed depth x → put_elem inner x ≡ put_elem env x
+put_inner : (depth : ℕ) (env inner : Env) → ((d : ℕ) → d < depth → env.own d ≡ inner.own d) → (x : Elem) → IsClosed depth x →
+    put_elem inner x ≡ put_elem env x
 put_inner depth env inner h (elem.Name m) c = refl
 put_inner depth env inner h (At (Literal k)) c = refl
 put_inner depth env inner h (At (Own d)) c = ap (λ z. At (Literal z)) (sym (h d c))
@@ -248,18 +276,21 @@ put_inner depth env inner h Any c = refl
 put_inner depth env inner h Star c = refl
 put_inner depth env inner h (Local r m) c = absurd c
 
-up_at : (n depth : ℕ) (env inner : Env) (args : List Rpl) → Stands n depth env inner args → (h : Head) (a : List Elem) → ((p : ℕ) → h ≡ Param p → p < n) → All (IsClosed depth) a →
+up_at : (n depth : ℕ) (env inner : Env) (args : List Rpl) → Stands n depth env inner args → (h : Head) (a : List Elem) →
+    ((p : ℕ) → h ≡ Param p → p < n) → All (IsClosed depth) a →
     (r : List Elem) → Matches inner (record { head = h; elems = a }) r → Matches env (put_at h a args) r
 unfolding Matches
 up_at n depth env inner args s Root a hd c r m = (m.0, m.1, fits_agree inner env a (λ k d l. put_inner depth env inner s.own _ (c k d l)) m.0 m.2)
 up_at n depth env inner args s (Param p) a hd c r m =
     let arg = argument args p in
-    let f = s.match p (hd p refl) in
-    (f.0 ++ m.0,
-     m.1 ∙ ap (λ z. z ++ m.0) f.1 ∙ append_assoc (head_region env arg.head) f.0 m.0,
-     fits_append env arg.elems a f.0 m.0 f.2 (fits_agree inner env a (λ k d l. put_inner depth env inner s.own _ (c k d l)) m.0 m.2))
+    let f = s.match p (hd p refl) in (
+      f.0 ++ m.0,
+      m.1 ∙ ap (λ z. z ++ m.0) f.1 ∙ append_assoc (head_region env arg.head) f.0 m.0,
+      fits_append env arg.elems a f.0 m.0 f.2 (fits_agree inner env a (λ k d l. put_inner depth env inner s.own _ (c k d l)) m.0 m.2),
+    )
 
-pub path_up : (n depth : ℕ) (env inner : Env) (args : List Rpl) → Stands n depth env inner args → (a : Rpl) → ClosedPath n depth a → (r : List Elem) → Matches inner a r → Matches env (substituted args a) r
+pub path_up : (n depth : ℕ) (env inner : Env) (args : List Rpl) → Stands n depth env inner args → (a : Rpl) → ClosedPath n depth a → (r : List Elem) →
+    Matches inner a r → Matches env (substituted args a) r
 unfolding substituted
 path_up n depth env inner args s a c r m = up_at n depth env inner args s a.head a.elems c.head c.elems r m
 
@@ -279,30 +310,42 @@ same_with n depth env inner args s int c full = tt
 same_with n depth env inner args s boolean c full = tt
 same_with n depth env inner args s void c full = tt
 same_with n depth env inner args s null c full = tt
-same_with n depth env inner args s (class d ps) c full =
-    (refl, λ rs. (match_from inner env (substituted args) ps (λ k x l. path_down n depth env inner args s _ (c k x l) (λ p e. full p (list_any_at (has_param p) ps k x l (has_own_param (slice_index_or ps k x) p e)))) rs,
-     match_onto inner env (substituted args) ps (λ k x l. path_up n depth env inner args s _ (c k x l)) rs))
-same_with n depth env inner args s (array t a named) c full =
-    (λ k r. (path_down n (suc depth) (under k env) (under k inner) args (stands_under k s) a c.0 (λ p e. full p (or_left _ _ (has_own_param a p e))) r,
-     path_up n (suc depth) (under k env) (under k inner) args (stands_under k s) a c.0 r),
-     λ k. same_with n (suc depth) (under k env) (under k inner) args (stands_under k s) t c.1 (λ p e. full p (or_right _ _ e)))
+same_with n depth env inner args s (class d ps) c full = (
+  refl,
+  λ rs. (
+    match_from inner env (substituted args) ps (λ k x l. path_down n depth env inner args s _ (c k x l) (λ p e. full p (list_any_at (has_param p) ps k x l (has_own_param (slice_index_or ps k x) p e)))) rs,
+    match_onto inner env (substituted args) ps (λ k x l. path_up n depth env inner args s _ (c k x l)) rs,
+  ),
+)
+same_with n depth env inner args s (array t a named) c full = (
+  λ k r. (
+    path_down n (suc depth) (under k env) (under k inner) args (stands_under k s) a c.0 (λ p e. full p (or_left _ _ (has_own_param a p e))) r,
+    path_up n (suc depth) (under k env) (under k inner) args (stands_under k s) a c.0 r,
+  ),
+  λ k. same_with n (suc depth) (under k env) (under k inner) args (stands_under k s) t c.1 (λ p e. full p (or_right _ _ e)),
+)
 
 -- a value of the class's type is one of the type with arguments, where the type isn't rigid in one that is known in part
-pub fits_with_up : (P : PlainProgram) (S : Shapes) (n : ℕ) (env inner : Env) (args : List Rpl) → Stands n 0 env inner args → (t : PlainType) → ClosedType n 0 t →
-    ((p : ℕ) → IsTrue (rigid_in_param p t) → IsTrue (fully_specified (argument args p))) → (v : Value) → FitsIn P S inner t v → FitsIn P S env (type_with args t) v
+pub fits_with_up : (P : PlainProgram) (S : Shapes) (n : ℕ) (env inner : Env) (args : List Rpl) → Stands n 0 env inner args → (t : PlainType) →
+    ClosedType n 0 t →
+    ((p : ℕ) → IsTrue (rigid_in_param p t) → IsTrue (fully_specified (argument args p))) → (v : Value) → FitsIn P S inner t v →
+    FitsIn P S env (type_with args t) v
 fits_with_up P S n env inner args s int c steady v f = f
 fits_with_up P S n env inner args s boolean c steady v f = f
 fits_with_up P S n env inner args s void c steady v f = f
 fits_with_up P S n env inner args s null c steady v f = f
 fits_with_up P S n env inner args s (class d ps) c steady v f =
     null_or (Instance P S inner d ps) (Instance P S env d (map (substituted args) ps))
-    (instance_onto P S inner env d d ps (map (substituted args) ps) refl (match_onto inner env (substituted args) ps (λ k x l. path_up n 0 env inner args s _ (c k x l)))) v f
+    (instance_onto P S inner env d d ps (map (substituted args) ps) refl
+    (match_onto inner env (substituted args) ps (λ k x l. path_up n 0 env inner args s _ (c k x l)))) v f
 fits_with_up P S n env inner args s (array t a named) c steady v f =
     null_or (ArrayInstance S inner t a) (ArrayInstance S env (type_with args t) (substituted args a))
     (array_onto P S inner env t (type_with args t) a (substituted args a)
     (λ k. path_up n 1 (under k env) (under k inner) args (stands_under k s) a c.0)
     (λ k. same_with n 1 (under k env) (under k inner) args (stands_under k s) t c.1 steady)) v f
 
-pub fits_with_down : (P : PlainProgram) (S : Shapes) (n : ℕ) (env inner : Env) (args : List Rpl) → Stands n 0 env inner args → (t : PlainType) → ClosedType n 0 t →
-    ((p : ℕ) → IsTrue (mentions_param p t) → IsTrue (fully_specified (argument args p))) → (v : Value) → FitsIn P S env (type_with args t) v → FitsIn P S inner t v
+pub fits_with_down : (P : PlainProgram) (S : Shapes) (n : ℕ) (env inner : Env) (args : List Rpl) → Stands n 0 env inner args → (t : PlainType) →
+    ClosedType n 0 t →
+    ((p : ℕ) → IsTrue (mentions_param p t) → IsTrue (fully_specified (argument args p))) → (v : Value) → FitsIn P S env (type_with args t) v →
+    FitsIn P S inner t v
 fits_with_down P S n env inner args s t c known v f = fits_same P S env (type_with args t) inner t (same_with n 0 env inner args s t c known) v f

@@ -1,5 +1,5 @@
 -- Work in order, put together.
-use Rattle.std.proofs.Common.{◌≡◌, ◌≤◌, ℕ, List, [], ◌∷◌, refl, sym, ap, ◌∙◌, subst, arith, Some, None, le_trans}
+use Rattle.std.proofs.Common.{◌≡◌, [], ◌∷◌, refl, sym, ◌∙◌, subst, arith, le_trans}
 use Rattle.dpj_base.specs.declared.elems.Elem.TheVariants.{At}
 use Rattle.dpj_base.specs.declared.elems.Index.TheVariants.{Literal}
 use Rattle.dpj_base.specs.Matching.{Fits}
@@ -39,7 +39,8 @@ module _ (P : PlainProgram) (b : Bounds) where
   order_on Q R j i (Split forking ts does k) st o = (o.0, λ x h s z. order_on Q R j i (k x) h (o.1 x h s z))
 
   -- what holds at its end may be weakened
-  pub order_post : (Q R : State → Result → Type 0) → ((h : State) (r : Result) → Q h r → R h r) → (p : Prog) (st : State) → InOrder P b Q st p → InOrder P b R st p
+  pub order_post : (Q R : State → Result → Type 0) → ((h : State) (r : Result) → Q h r → R h r) → (p : Prog) (st : State) → InOrder P b Q st p →
+      InOrder P b R st p
   unfolding InOrder
   order_post Q R i (Ret r) st o = i st r o
   order_post Q R i (Traps trap place) st o = tt
@@ -55,7 +56,8 @@ module _ (P : PlainProgram) (b : Bounds) where
   -- behind an expression
   pub order_then : (L : Scope) (g : Ground) (e : TypedExpr) (f : Frame) (R : State → Result → Type 0) (j : Value → Frame → Prog) (st : State) (p : Prog) →
       InOrder P b (Yields P L g e st f) st p →
-      ((h : State) (v : Value) → Since st h → FitsIn P h.shapes (env_of g) (type_of e) v → Fits (env_of g) (index_elem L e) (At (Literal (number v)) ∷ []) → InOrder P b R h (j v f)) →
+      ((h : State) (v : Value) → Since st h → FitsIn P h.shapes (env_of g) (type_of e) v →
+      Fits (env_of g) (index_elem L e) (At (Literal (number v)) ∷ []) → InOrder P b R h (j v f)) →
       InOrder P b R st (and_then p j)
   order_then L g e f R j st p o i = order_on (Yields P L g e st f) R (next_of j) go p st o
     where

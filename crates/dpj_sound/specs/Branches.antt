@@ -1,7 +1,6 @@
 -- Branches that are in order at their fork: each is typed and its frame fits, what its effects speak of is allowed, and no two
 -- of them touch one cell in a way that shows.
-use Rattle.std.specs.Prelude.{◌≡◌, ◌≢◌, ◌<◌, ℕ, Bool, true, false, ◌||◌, List, [], ◌∷◌, All, length, Option, Some, slice_get, Contains}
-use Rattle.dpj_base.specs.declared.elems.Elem.{Elem}
+use Rattle.std.specs.Prelude.{◌≡◌, ◌≢◌, ◌<◌, ℕ, true, false, ◌||◌, List, [], ◌∷◌, All, length, Some, slice_get, Contains}
 use Rattle.dpj_base.specs.Branches.{ends_atomic}
 use Rattle.dpj_base.specs.Types.{PlainType}
 use Rattle.dpj_typed.specs.declared.stmt.Forking.{Forking}
@@ -16,7 +15,7 @@ use Rattle.dpj_runs.specs.Actions.{Task}
 use Rattle.dpj_runs.specs.Objects.{Name, Value}
 use Rattle.dpj_sound.specs.Grounds.{Ground, env_of}
 use Rattle.dpj_sound.specs.Shapes.{FitsIn}
-use Rattle.dpj_sound.specs.Accesses.{Access, LiesIn, Bounds, is_guarded, Allowed}
+use Rattle.dpj_sound.specs.Accesses.{Access, Bounds, LiesIn, Within}
 use Rattle.dpj_sound.specs.Frames.{State, FrameFits}
 use Rattle.dpj_sound.specs.Scopes.{GoodScope}
 
@@ -42,7 +41,7 @@ pub record BranchFits (P : PlainProgram) (b : Bounds) (st : State) (i : ℕ) (t 
   pub scope : GoodScope M
   pub fits : (u : ℕ) → FrameFits P ((u, i) ∷ b.path) (record { shapes = st.shapes; made = 0; entries = [] }) k M (begun t.work.takes t.frame)
   pub copies : All (IsVariable M) t.work.copies
-  pub within : (a : Access) → LiesIn k F a → Allowed b st.entries a
+  pub within : Within b st.entries k F
 
 pub record Forks (P : PlainProgram) (b : Bounds) (st : State) (forking : Forking) (ts : List Task) : Type 0 where
   pub scope : ℕ → Scope
@@ -61,6 +60,7 @@ pub record Returned (P : PlainProgram) (b : Bounds) (st : State) (forking : Fork
   pub local : (forks.scope number).local x ≡ Some (variable ty)
   pub fits : FitsIn P h.shapes (env_of (forks.ground number)) ty v
 
-abbrev pub Brings : (P : PlainProgram) (b : Bounds) (st : State) (forking : Forking) (ts : List Task) → Forks P b st forking ts → State → BroughtOf Name → Type 0
+abbrev pub Brings : (P : PlainProgram) (b : Bounds) (st : State) (forking : Forking) (ts : List Task) → Forks P b st forking ts → State →
+    BroughtOf Name → Type 0
 Brings P b st forking ts forks h (Back ls) = (x : ℕ) (v : Value) → Contains ls (x, v) → Returned P b st forking ts forks h x v
 Brings P b st forking ts forks h (Trap_of_branch trap place) = Unit {0}

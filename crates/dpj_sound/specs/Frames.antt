@@ -1,5 +1,5 @@
 -- Which locals fit the types of a scope.
-use Rattle.std.specs.Prelude.{◌≡◌, ◌⊎◌, ◌<◌, ◌≤◌, ℕ, ◌+◌, ℤ, false, IsTrue, List, [], ◌∷◌, ◌++◌, All, length, Option, Some, None, slice_index_or}
+use Rattle.std.specs.Prelude.{◌≡◌, ◌⊎◌, ◌<◌, ◌≤◌, ℕ, ◌+◌, false, IsTrue, List, ◌∷◌, ◌++◌, All, length, Some, slice_index_or}
 use Rattle.dpj_base.specs.declared.region.Rpl.{Rpl}
 use Rattle.dpj_base.specs.Matching.{Holds}
 use Rattle.dpj_base.specs.Types.{PlainType, int, array, has_index, mentions_index}
@@ -8,7 +8,7 @@ use Rattle.dpj_typed.specs.Scope.{Local, variable, frozen, constant, part, reser
 use Rattle.dpj_meaning.specs.Actions.{Frame as FrameOf}
 use Rattle.dpj_meaning.specs.Counts.{number, slot_value}
 use Rattle.dpj_runs.specs.Objects.{Path, Name, LocalRegion, Made, Unmade, Value, Effect}
-use Rattle.dpj_sound.specs.Grounds.{Ground, Places, env_of, class_env, ArePlain}
+use Rattle.dpj_sound.specs.Grounds.{Ground, env_of, ArePlain}
 use Rattle.dpj_sound.specs.Shapes.{Shapes, Grows, FitsIn}
 
 abbrev pub Frame : Type 0

@@ -1,5 +1,5 @@
 -- Regions of a run as elements of region paths, and what the region paths of a body stand for in a run.
-use Rattle.std.specs.Prelude.{ℕ, ℤ, pos, zero, suc, ◌+◌, ◌*◌, List, [], ◌∷◌, map, slice_index_or, IsTrue}
+use Rattle.std.specs.Prelude.{ℕ, ℤ, pos, zero, suc, ◌+◌, ◌*◌, ◌==◌, cond, List, [], ◌∷◌, map, slice_index_or, IsTrue}
 use Rattle.dpj_base.specs.declared.elems.Elem.{Elem}
 use Rattle.dpj_base.specs.declared.elems.Elem.TheVariants as elem
 use Rattle.dpj_base.specs.declared.elems.Index.TheVariants as index
@@ -60,6 +60,10 @@ ArePlain rs = (p : ℕ) → IsTrue (all_plain (region_in rs p))
 
 abbrev pub env_of : Ground → Env
 env_of g = record { region = region_in g.regions; index = g.index; renamed = λ x. another (g.index x); own = λ d. pos 0; made = local_in g.made }
+
+-- the ground in which an index variable has this number
+abbrev pub with_number : ℕ → ℤ → Ground → Ground
+with_number x k g = record g { index = λ y. cond (x == y) k (g.index y) }
 
 -- for what stands in a class there are region parameters alone
 abbrev pub class_ground : List Region → Ground

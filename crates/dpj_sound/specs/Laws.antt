@@ -1,11 +1,15 @@
 -- What a well-typed program keeps to, as statements.
-use Rattle.std.specs.Prelude.{◌≡◌, ◌⊎◌, ℕ, Bool, true, IsTrue, List, [], ◌∷◌, Option, Some, None}
+use Rattle.std.specs.Prelude.{◌≡◌, IsTrue, List, [], ◌∷◌, Option, Some, None, All, false, ℤ, ◌≢◌, ℕ, cond}
 use Rattle.dpj_base.specs.declared.elems.Elem.TheVariants.{At}
 use Rattle.dpj_base.specs.declared.elems.Index.TheVariants.{Literal}
-use Rattle.dpj_base.specs.Matching.{Fits}
-use Rattle.dpj_typed.specs.Plain.{PlainProgram, TypedExpr, type_of, TypedStmts}
-use Rattle.dpj_typed.specs.Effects.{Own}
-use Rattle.dpj_typed.specs.Scope.{Scope}
+use Rattle.dpj_base.specs.declared.effect.Constraint.{Constraint}
+use Rattle.dpj_base.specs.Branches.{lists_clash, iterations_clash}
+use Rattle.dpj_base.specs.Matching.{Fits, IsEnv}
+use Rattle.dpj_regions.specs.Laws.{HasNoCopies}
+use Rattle.dpj_typed.specs.declared.stmt.Forking.TheVariants.{Deterministic}
+use Rattle.dpj_typed.specs.Plain.{PlainProgram, TypedExpr, type_of, TypedStmts, PlainMember}
+use Rattle.dpj_typed.specs.Effects.{Own, effect_of, as_effects}
+use Rattle.dpj_typed.specs.Scope.{Scope, member_at}
 use Rattle.dpj_typed.specs.Statements.{AllPass, all_complete}
 use Rattle.dpj_typed.specs.Typing.{Has, index_elem}
 use Rattle.dpj_typed.specs.WellTyped.{WellTyped}
@@ -13,15 +17,19 @@ use Rattle.dpj_meaning.specs.Core.{Goes_on, Returns}
 use Rattle.dpj_meaning.specs.Counts.{number}
 use Rattle.dpj_meaning.specs.Expressions.{Deeper as DeeperOf, of_expr}
 use Rattle.dpj_meaning.specs.Statements.{of_stmts}
-use Rattle.dpj_runs.specs.Objects.{Name, LocalRegion}
-use Rattle.dpj_steps.specs.Steps.{named_by}
-use Rattle.dpj_sound.specs.Grounds.{Ground, env_of}
-use Rattle.dpj_sound.specs.Shapes.{FitsIn}
+use Rattle.dpj_runs.specs.Objects.{Name, LocalRegion, same_name}
+use Rattle.dpj_steps.specs.Steps.{named_by, first_name}
+use Rattle.dpj_typed.specs.Table.{body_scope}
+use Rattle.dpj_meaning.specs.Asking.{meaning, does}
+use Rattle.dpj_meaning.specs.Elision.{root_task}
+use Rattle.dpj_sound.specs.Grounds.{Ground, env_of, with_number, class_ground}
+use Rattle.dpj_sound.specs.Shapes.{FitsIn, object}
 use Rattle.dpj_sound.specs.Accesses.{Bounds, Within}
 use Rattle.dpj_sound.specs.Frames.{Frame, State, Since, FrameFits}
-use Rattle.dpj_sound.specs.Scopes.{GoodScope}
+use Rattle.dpj_sound.specs.Scopes.{PathInScope, GoodScope}
+use Rattle.dpj_sound.specs.Branches.{Quiet}
 use Rattle.dpj_sound.specs.Sequential.{AreSequential}
-use Rattle.dpj_sound.specs.Work.{Result, Prog, GoesFitting, InOrder}
+use Rattle.dpj_sound.specs.Work.{Result, GoesFitting, InOrder}
 
 abbrev pub Deeper : Type 0
 Deeper = DeeperOf Name LocalRegion
@@ -37,22 +45,63 @@ abbrev pub Leaves : PlainProgram → Bounds → Scope → Ground → TypedStmts 
 Leaves P b L g ss st h (Goes_on v f) = IsTrue (all_complete ss) × Since st h × GoesFitting P b.path g L h (Goes_on v f)
 Leaves P b L g ss st h (Returns v) = Since st h × GoesFitting P b.path g L h (Returns v)
 
--- statements that pass are in order one call deeper, from each state in which their locals fit and their effects are allowed
-abbrev pub DeeperInOrder : PlainProgram → Bounds → Option Deeper → Type 0
-DeeperInOrder P b None = Unit {0}
-DeeperInOrder P b (Some deeper) = (L : Scope) (ss : TypedStmts) (E : List Own) → AllPass P L ss E → GoodScope L → (g : Ground) (st : State) (f : Frame) →
-    FrameFits P b.path st g L f → Within b st.entries g E → InOrder P b (Leaves P b L g ss st) st (deeper ss f)
+-- the scope in which the body of a member begins
+abbrev pub scope_of : (P : PlainProgram) (wt : WellTyped P) (n : ℕ) (m : PlainMember) → member_at P n ≡ Some m → Scope
+scope_of P wt n m there = body_scope (wt.members n m there).class wt.never_nd n m
+
+-- bodies are in order one call deeper, from each state in which their locals fit and their effects are allowed
+abbrev pub DeeperInOrder : (P : PlainProgram) → WellTyped P → Bounds → Option Deeper → Type 0
+DeeperInOrder P wt b None = Unit {0}
+DeeperInOrder P wt b (Some deeper) = (n : ℕ) (m : PlainMember) (there : member_at P n ≡ Some m) (g : Ground) (st : State) (f : Frame) →
+    FrameFits P b.path st g (scope_of P wt n m there) f → Within b st.entries g (wt.members n m there).effects →
+    InOrder P b (Leaves P b (scope_of P wt n m there) g m.body st) st (deeper m.body f)
 
 -- an expression of a well-typed program is in order: from locals that fit it makes only accesses that its effects speak of, and
 -- gives a value of its type; where the bodies that it enters are in order
 abbrev pub ExpressionsInOrder : Type 0
-ExpressionsInOrder = (P : PlainProgram) → WellTyped P → (b : Bounds) (dp : Option Deeper) → DeeperInOrder P b dp →
-    (L : Scope) (e : TypedExpr) (E : List Own) → Has P L e E → GoodScope L → (g : Ground) (st : State) (f : Frame) → FrameFits P b.path st g L f → Within b st.entries g E →
+ExpressionsInOrder = (P : PlainProgram) (wt : WellTyped P) (b : Bounds) (dp : Option Deeper) → DeeperInOrder P wt b dp →
+    (L : Scope) (e : TypedExpr) (E : List Own) → Has P L e E → GoodScope L → (g : Ground) (st : State) (f : Frame) → FrameFits P b.path st g L f →
+    Within b st.entries g E →
     InOrder P b (Yields P L g e st f) st (of_expr (named_by b.path) P dp e f)
 
--- statements without parallel constructs, atomic blocks and local regions are in order: from locals that fit they make only
+-- statements without parallel constructs and local regions are in order: from locals that fit they make only
 -- accesses that their effects speak of, and leave locals that fit, or give a value of the type that a `return` gives
 abbrev pub SequentialInOrder : Type 0
-SequentialInOrder = (P : PlainProgram) → WellTyped P → (b : Bounds) (dp : Option Deeper) → DeeperInOrder P b dp →
+SequentialInOrder = (P : PlainProgram) (wt : WellTyped P) (b : Bounds) (dp : Option Deeper) → DeeperInOrder P wt b dp →
     (L : Scope) (ss : TypedStmts) (E : List Own) → AllPass P L ss E → AreSequential ss → GoodScope L → (g : Ground) (st : State) (f : Frame) →
     FrameFits P b.path st g L f → Within b st.entries g E → InOrder P b (Leaves P b L g ss st) st (of_stmts (named_by b.path) P dp ss f)
+
+-- where no body has a parallel construct or a local region, a task is in order to its end, with all calls that it makes
+abbrev pub SequentialTasks : Type 0
+SequentialTasks = (P : PlainProgram) (wt : WellTyped P) → ((n : ℕ) (m : PlainMember) → member_at P n ≡ Some m → AreSequential m.body) → (b : Bounds) →
+    (L : Scope) (ss : TypedStmts) (E : List Own) → AllPass P L ss E → AreSequential ss → GoodScope L → (left : ℕ) (g : Ground) (st : State) (f : Frame) →
+    FrameFits P b.path st g L f → Within b st.entries g E → InOrder P b (Leaves P b L g ss st) st (meaning (named_by b.path) P left ss f)
+
+-- at the start the first object stands alone
+abbrev pub start : PlainProgram → State
+start P = record { shapes = λ n. cond (same_name n first_name) (Some (object P.main_class [])) None; made = 0; entries = [] }
+
+-- and `main` may do what its body does
+abbrev pub main_scope : (P : PlainProgram) → WellTyped P → Scope
+main_scope P wt = scope_of P wt P.main_member wt.main.member wt.main.member_is
+
+abbrev pub main_bounds : (P : PlainProgram) → WellTyped P → Bounds
+main_bounds P wt = record { path = []; ground = class_ground []; effects = (wt.members P.main_member wt.main.member wt.main.member_is).effects; inside = false }
+
+-- the root of such a program is in order from the start, on each argument, where its class and `main` have no constraints
+abbrev pub RootInOrder : Type 0
+RootInOrder = (P : PlainProgram) (wt : WellTyped P) → ((n : ℕ) (m : PlainMember) → member_at P n ≡ Some m → AreSequential m.body) →
+    wt.main.class.given ≡ [] → wt.main.member.given ≡ [] → (arg : ℤ) →
+    InOrder P (main_bounds P wt) (Leaves P (main_bounds P wt) (main_scope P wt) (class_ground []) wt.main.member.body (start P)) (start P)
+    (does (named_by []) P (root_task (named_by []) P first_name arg))
+
+-- effects that don't clash speak of no two accesses that meet
+abbrev pub BranchesQuiet : Type 0
+BranchesQuiet = (P : PlainProgram) (given : List Constraint) (g : Ground) → IsEnv given (env_of g) → (E F : List Own) →
+    lists_clash given None (as_effects E) (as_effects F) ≡ false → Quiet P Deterministic g E g F
+
+-- nor do effects of two iterations of a loop, where none clashes with its copy
+abbrev pub IterationsQuiet : Type 0
+IterationsQuiet = (P : PlainProgram) (given : List Constraint) (L : Scope) (g : Ground) (x : ℕ) (j k : ℤ) → IsEnv given (env_of (with_number x j g)) → All HasNoCopies given →
+    (E : List Own) → All (λ o. PathInScope L 0 (effect_of o).rpl) E → iterations_clash given None x (as_effects E) ≡ false → j ≢ k →
+    Quiet P Deterministic (with_number x j g) E (with_number x k g) E

@@ -1,6 +1,6 @@
 -- What objects and arrays are, and which values have a type: a region argument and the region of an array's elements are upper
 -- bounds of those in the run, and the elements of an array have one type.
-use Rattle.std.specs.Prelude.{◌≡◌, ◌↔◌, ℕ, ℤ, pos, Bool, ◌⊎◌, List, [], ◌∷◌, All, map, length, Option, Some}
+use Rattle.std.specs.Prelude.{◌≡◌, ◌↔◌, ℕ, ℤ, pos, List, [], All, map, length, Option, Some}
 use Rattle.std.specs.List.{AllZip}
 use Rattle.dpj_base.specs.declared.elems.Elem.{Elem}
 use Rattle.dpj_base.specs.declared.region.Rpl.{Rpl}

@@ -1,17 +1,15 @@
 -- When the work of a task is in order: each of its actions, whatever fitting answers it gets.
-use Rattle.std.specs.Prelude.{◌≡◌, ◌≤◌, ℕ, suc, ℤ, Bool, true, false, List, [], ◌∷◌, length, Option, Some, None, slice_get}
+use Rattle.std.specs.Prelude.{◌≡◌, ℕ, suc, ℤ, Bool, true, false, List, [], ◌∷◌, Option, Some, None}
 use Rattle.dpj_base.specs.declared.elems.Elem.{Elem}
 use Rattle.dpj_base.specs.declared.region.Rpl.{Rpl}
 use Rattle.dpj_base.specs.Matching.{Env, put_in}
 use Rattle.dpj_base.specs.Types.{PlainType}
-use Rattle.dpj_typed.specs.declared.stmt.Forking.{Forking}
 use Rattle.dpj_typed.specs.Plain.{PlainProgram}
 use Rattle.dpj_typed.specs.Scope.{Scope}
-use Rattle.dpj_meaning.specs.Actions.{Task as TaskOf}
 use Rattle.dpj_meaning.specs.Core.{Result as ResultOf, Goes_on, Returns, Prog as ProgOf, Ret, Traps, Act, Makes, Again, Split}
 use Rattle.dpj_meaning.specs.Counts.{Brought as BroughtOf}
-use Rattle.dpj_runs.specs.Actions.{Own, Rest, Read, Write, Look, New, Print, Enter, Exit, Answer, Went, Got, Out, Class, Length, Named, Joined, Fell, Task}
-use Rattle.dpj_runs.specs.Objects.{Path, Name, LocalRegion, Made, Value, Effect, Thing}
+use Rattle.dpj_runs.specs.Actions.{Own, Rest, Read, Write, Look, New, Print, Enter, Exit, Answer, Went, Got, Out, Class, Length, Named, Joined, Fell}
+use Rattle.dpj_runs.specs.Objects.{Path, Name, LocalRegion, Made, Value, Effect}
 use Rattle.dpj_sound.specs.Grounds.{Ground, env_of}
 use Rattle.dpj_sound.specs.Shapes.{Shape, object, elements, Shapes, Grows, FitsIn, CellAt, Describes}
 use Rattle.dpj_sound.specs.Accesses.{Access, Bounds, is_guarded, Allowed}

@@ -1,0 +1,59 @@
+-- The root is in order from the start.
+use Rattle.std.proofs.Common.{◌≡◌, ℕ, zero, suc, ℤ, List, [], ◌∷◌, length, refl, sym, ap, subst, arith, Some, None, slice_get, slice_index_or, inl}
+use Rattle.std.specs.Prelude.{All}
+use Rattle.dpj_base.specs.Matching.{Holds}
+use Rattle.dpj_base.specs.Types.{PlainType, int}
+use Rattle.dpj_typed.specs.Plain.{PlainProgram, PlainMember}
+use Rattle.dpj_typed.specs.Scope.{member_at}
+use Rattle.dpj_typed.specs.WellTyped.{WellTyped}
+use Rattle.dpj_meaning.specs.Asking.{does}
+use Rattle.dpj_meaning.specs.Elision.{enters_main}
+use Rattle.dpj_meaning.specs.Expressions.{entered}
+use Rattle.dpj_runs.specs.Objects.{Int, Null, Object}
+use Rattle.dpj_steps.specs.Steps.{named_by, first_name}
+use Rattle.dpj_sound.specs.Grounds.{class_ground, class_env}
+use Rattle.dpj_sound.specs.Shapes.{same, Is, GoodObject, FitsIn}
+use Rattle.dpj_sound.specs.Frames.{FrameFits}
+use Rattle.dpj_sound.specs.Sequential.{AreSequential}
+use Rattle.dpj_sound.specs.Work.{InOrder}
+use Rattle.dpj_sound.specs.Laws.{Leaves, start, main_scope, main_bounds, RootInOrder}
+use Rattle.dpj_sound.proofs.Entering.{body_good, entered_fits}
+use Rattle.dpj_sound.proofs.Statements.{sequential_tasks}
+
+module _ (P : PlainProgram) (wt : WellTyped P) (no_class : wt.main.class.given ≡ []) (no_method : wt.main.member.given ≡ []) (arg : ℤ) where
+  first_good : GoodObject P P.main_class []
+  first_good = record {
+    class = wt.main.class;
+    is = wt.main.class_is;
+    arity = sym (ap length wt.main.no_class_params);
+    plain = λ p. refl;
+    given = subst (λ z. All (Holds (class_env [])) z) (sym no_class) (λ k c l. absurd (omega (arith, l)));
+  }
+
+  -- the only formal is an int
+  formal : (ts : List PlainType) → ts ≡ int ∷ [] → (x : ℕ) (t : PlainType) → slice_get ts x ≡ Some t →
+      FitsIn P (start P).shapes (class_env []) t (slice_index_or (Int arg ∷ []) x Null)
+  formal ts e x t h = one x t (subst (λ z. slice_get z x ≡ Some t) e h)
+    where
+      one : (x : ℕ) (t : PlainType) → slice_get (int ∷ []) x ≡ Some t → FitsIn P (start P).shapes (class_env []) t (slice_index_or (Int arg ∷ []) x Null)
+      one zero t h = let q : int ≡ t = cc in subst (λ z. FitsIn P (start P).shapes (class_env []) z (Int arg)) q tt
+      one (suc x) t h = absurd (let q : None ≡ Some t = h in cc)
+
+  first_frame : FrameFits P [] (start P) (class_ground []) (main_scope P wt) (entered (named_by []) wt.main.member (Object first_name ∷ Int arg ∷ []) [] 499)
+  first_frame =
+      entered_fits P wt P.main_member wt.main.member wt.main.member_is [] (start P) [] [] 499 (subst (λ c. GoodObject P c []) (sym wt.main.own) first_good) (λ p. refl)
+      (subst (λ z. All (Holds (class_env [])) z) (sym no_method) (λ k c l. absurd (omega (arith, l)))) first_name P.main_class [] refl first_good
+      (subst (λ c. Is P P.main_class [] c []) (sym wt.main.own) same) (Int arg ∷ []) (formal wt.main.member.formals wt.main.formals)
+
+  root_order : ((n : ℕ) (m : PlainMember) → member_at P n ≡ Some m → AreSequential m.body) →
+      InOrder P (main_bounds P wt) (Leaves P (main_bounds P wt) (main_scope P wt) (class_ground []) wt.main.member.body (start P)) (start P)
+      (does (named_by []) P (enters_main (named_by []) first_name arg (Some wt.main.member)))
+  root_order plain =
+      sequential_tasks P wt plain (main_bounds P wt) (main_scope P wt) wt.main.member.body (wt.members P.main_member wt.main.member wt.main.member_is).effects
+      (wt.members P.main_member wt.main.member wt.main.member_is).passes (plain P.main_member wt.main.member wt.main.member_is)
+      (body_good P wt P.main_member wt.main.member wt.main.member_is) 499 (class_ground []) (start P) _ first_frame (λ a u l. record { effects = inl l; blocks = tt })
+
+pub root_in_order : RootInOrder
+root_in_order P wt plain nc nm arg =
+    subst (λ z. InOrder P (main_bounds P wt) (Leaves P (main_bounds P wt) (main_scope P wt) (class_ground []) wt.main.member.body (start P)) (start P)
+    (does (named_by []) P (enters_main (named_by []) first_name arg z))) (sym wt.main.member_is) (root_order P wt nc nm arg plain)

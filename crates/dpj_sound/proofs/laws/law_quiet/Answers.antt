@@ -1,0 +1,5 @@
+use Rattle.dpj_sound.proofs.Quiet.{branches_quiet, iterations_quiet}
+use Rattle.dpj_sound.proofs.laws.law_quiet.Goals as goal
+
+pub returns : goal.returns
+returns c = record { branches = branches_quiet; iterations = iterations_quiet }
