@@ -13,8 +13,8 @@ use Rattle.dpj_meaning.specs.Elision.{LocalRegion, in_order, Store, at_end, one_
 use Rattle.dpj_meaning.specs.Expressions.{none}
 use Rattle.dpj_meaning.specs.Outcomes.{joined_or, first_trap, all_locals, trap_of, locals_of}
 use Rattle.dpj_meaning.specs.Statements.{joined, of_stmts, begun}
-use Rattle.dpj_walk.specs.Agenda.{deeper_at}
-use Rattle.dpj_walk.specs.Walk.{Level, Construct, Waiting, for_value, for_object, for_branch, first_or, noted, fallen, earlier, begins, falls, rejoins, branches, ends, lands}
+use Rattle.dpj_walk.specs.Agenda.{goes_on, deeper_at}
+use Rattle.dpj_walk.specs.Walk.{Level, Construct, Waiting, for_value, for_object, for_branch, first_or, noted, fallen, earlier, shortened, begins, falls, rejoins, branches, ends, lands}
 use Rattle.dpj_walk.proofs.Runs.{proceeds, bind_assoc, bind_same}
 use Rattle.dpj_walk.proofs.Residual.{Ran, items_run, rest_run, joins_run, whole, state_run}
 
@@ -40,6 +40,13 @@ end_same k (Done (Returns v) w) = refl
 end_same k (out.Trapped t p w) = refl
 end_same k (Stopped n a) = refl
 end_same k (Lost w) = refl
+
+shortened_ends : (k : Work) (o : Ran) → at_end (shortened k) o ≡ at_end k o
+shortened_ends k (Done (Goes_on v f) w) = refl
+shortened_ends k (Done (Returns v) w) = refl
+shortened_ends k (out.Trapped t p w) = refl
+shortened_ends k (Stopped n a) = refl
+shortened_ends k (Lost w) = refl
 
 module _ (P : PlainProgram) where
   -- the join, by what was noted
@@ -70,7 +77,8 @@ module _ (P : PlainProgram) where
       (λ x v. bind_assoc (rest_run P c.left rest v) (λ xs u. Done (x ∷ xs) u) (λ xs v. joins_run P c xs (one_step v)))
       ∙ ap (λ o. bind o (λ x v. bind (rest_run P c.left rest v) (λ xs u. joins_run P c (x ∷ xs) (one_step u))))
       (ap (λ p. at_end t.work (run sequential p (one_step w))) (meaning_is P c.left t.work.stmts (begun t.work.takes t.frame))
-      ∙ sym (end_same t.work (run sequential (of_stmts in_order P (deeper_at P c.left) t.work.stmts (begun t.work.takes t.frame)) (one_step w)))))
+      ∙ sym (end_same t.work (run sequential (of_stmts in_order P (deeper_at P c.left) t.work.stmts (begun t.work.takes t.frame)) (one_step w)))
+      ∙ sym (shortened_ends t.work (items_run P c.left (goes_on t.work.stmts ∷ []) [] (begun t.work.takes t.frame) (one_step w)))))
 
   trapped_join : (c : Construct) (o : Option (Trap × Place)) (t : Trap) (p : Place) (back : List (ℕ × Value ℕ)) (w : Store) →
       joining c (first_or o (Some (t, p))) back w ≡ out.Trapped (earlier o (t, p)).0 (earlier o (t, p)).1 w

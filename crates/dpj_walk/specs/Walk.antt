@@ -39,7 +39,7 @@ pub record Construct : Type 0 where
   pub left : ℕ
 
 -- what waits for the body at work: a call for its value, a creation with its object, a construct for its branch, with those
--- that come after it
+-- that come after it and what says how the branch ends
 pub data Waiting : Type 0 where
   for_value : (g : Level) → Waiting
   for_object : (object : Value ℕ) (g : Level) → Waiting
@@ -80,9 +80,13 @@ beginning ss f d = record { items = goes_on ss ∷ []; operands = []; frame = f;
 abbrev pub branch_level : Construct → Task ℕ LocalRegion → Level
 branch_level c t = beginning t.work.stmts (begun t.work.takes t.frame) c.left
 
+-- how a branch ends is said by its copies; what it was to do is no longer needed
+abbrev pub shortened : Work → Work
+shortened k = record { is_root = k.is_root; takes = None; copies = k.copies; stmts = no_stmts }
+
 -- the next branch, begun by a step
 abbrev pub begins : Construct → Task ℕ LocalRegion → List (Task ℕ LocalRegion) → List Waiting → Store → State
-begins c t rest ws w = At (branch_level c t) (for_branch c t.work rest ∷ ws) (one_step w)
+begins c t rest ws w = At (branch_level c t) (for_branch c (shortened t.work) rest ∷ ws) (one_step w)
 
 -- the first of an earlier trap and a later one
 abbrev pub earlier : Option (Trap × Place) → Trap × Place → Trap × Place
