@@ -2,8 +2,6 @@
 use Rattle.std.proofs.Common.{arith, ◌≡◌, ℕ, zero, suc, List, [], ◌∷◌, ◌++◌, map, length, take, refl, ap}
 use Rattle.dpj_meaning.specs.Values.{Value, Null}
 use Rattle.dpj_meaning.specs.Counts.{padded}
-use Rattle.dpj_meaning.specs.Regions.{unmade_from}
-use Rattle.dpj_meaning.specs.Elision.{in_order}
 
 pub pad_take : (n : ℕ) (vs : List (Value ℕ)) → padded n (take n vs) ≡ padded n vs
 pad_take zero vs = refl
