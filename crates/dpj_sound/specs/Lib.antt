@@ -1,7 +1,7 @@
 pub mod Accesses
 pub mod Branches
 pub mod Frames
-pub mod Grounds
+pub mod Settings
 pub mod Laws
 pub mod Scopes
 pub mod Sequential
