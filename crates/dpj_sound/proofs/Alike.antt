@@ -1,4 +1,4 @@
--- Grounds that are alike in what a scope speaks of: its types have the same values, and its frames fit both.
+-- Settings that are alike in what a scope speaks of: its types have the same values, and its frames fit both.
 use Rattle.std.proofs.Common.{◌≡◌, ◌≢◌, ◌<◌, ℕ, ℤ, zero, suc, ◌+◌, false, List, [], length, refl, sym, ap, ◌∙◌, subst, arith, Some, IsTrue, slice_set}
 use Rattle.std.proofs.lemmas.List.{get_or-set_same, get_or-set_other}
 use Rattle.dpj_base.specs.declared.effect.Constraint.{Constraint}
@@ -18,7 +18,7 @@ use Rattle.dpj_meaning.specs.Counts.{number, slot_value}
 use Rattle.dpj_regions.specs.Laws.{AgreeOn}
 use Rattle.dpj_regions.proofs.Reading.{matches_by_what_occurs}
 use Rattle.dpj_runs.specs.Objects.{Value}
-use Rattle.dpj_sound.specs.Grounds.{Ground, region_in, env_of, local_code, behind_own, under}
+use Rattle.dpj_sound.specs.Settings.{Setting, region_in, env_of, local_code, behind_own, under}
 use Rattle.dpj_sound.specs.Shapes.{Shapes, SameIn, FitsIn}
 use Rattle.dpj_sound.specs.Frames.{LocalFits}
 use Rattle.dpj_sound.specs.Scopes.{InScope, PathInScope, TypeInScope, LocalInScope}
@@ -94,29 +94,29 @@ alike_same L depth env other g (array t a named) s = (
   λ k. alike_same L (suc depth) (under k env) (under k other) (alike_under k g) t s.1,
 )
 
--- grounds that agree on what is in scope
-pub record Alike (L : Scope) (g k : Ground) : Type 0 where
+-- settings that agree on what is in scope
+pub record Alike (L : Scope) (g k : Setting) : Type 0 where
   pub regions : g.regions ≡ k.regions
   pub index : (x : ℕ) → L.local x ≡ Some (constant int) → g.index x ≡ k.index x
   pub made : (r : ℕ) → IsTrue (L.regions r) → g.made r ≡ k.made r
   pub part : (x : ℕ) (t : PlainType) (a : Rpl) → L.local x ≡ Some (part t a) → g.part x ≡ k.part x
 
-pub ground_back : {L : Scope} {g k : Ground} → Alike L g k → Alike L k g
-ground_back a = record { regions = sym a.regions; index = λ x e. sym (a.index x e); made = λ r i. sym (a.made r i); part = λ x t b e. sym (a.part x t b e) }
+pub setting_back : {L : Scope} {g k : Setting} → Alike L g k → Alike L k g
+setting_back a = record { regions = sym a.regions; index = λ x e. sym (a.index x e); made = λ r i. sym (a.made r i); part = λ x t b e. sym (a.part x t b e) }
 
-pub ground_alike : {L : Scope} {g k : Ground} → Alike L g k → EnvAlike L 0 (env_of g) (env_of k)
-ground_alike {L} {g} {k} a = record {
+pub setting_alike : {L : Scope} {g k : Setting} → Alike L g k → EnvAlike L 0 (env_of g) (env_of k)
+setting_alike {L} {g} {k} a = record {
   region = λ p. ap (λ rs. region_in rs p) a.regions;
   index = a.index;
   made = λ r i. ap local_code (a.made r i);
   own = λ d l. refl;
 }
 
-pub fits_alike : (P : PlainProgram) (S : Shapes) (L : Scope) (g k : Ground) → Alike L g k → (t : PlainType) → TypeInScope L 0 t → (v : Value) →
+pub fits_alike : (P : PlainProgram) (S : Shapes) (L : Scope) (g k : Setting) → Alike L g k → (t : PlainType) → TypeInScope L 0 t → (v : Value) →
     FitsIn P S (env_of g) t v → FitsIn P S (env_of k) t v
-fits_alike P S L g k a t s v f = fits_same P S (env_of g) t (env_of k) t (alike_same L 0 (env_of g) (env_of k) (ground_alike a) t s) v f
+fits_alike P S L g k a t s v f = fits_same P S (env_of g) t (env_of k) t (alike_same L 0 (env_of g) (env_of k) (setting_alike a) t s) v f
 
-pub local_alike : (P : PlainProgram) (S : Shapes) (L : Scope) (g k : Ground) → Alike L g k → (vs : List Value) (x : ℕ) (l : ScopeLocal) →
+pub local_alike : (P : PlainProgram) (S : Shapes) (L : Scope) (g k : Setting) → Alike L g k → (vs : List Value) (x : ℕ) (l : ScopeLocal) →
     L.local x ≡ Some l → LocalInScope L l → LocalFits P S g vs x l → LocalFits P S k vs x l
 local_alike P S L g k a vs x (variable t) e s f = fits_alike P S L g k a t s (slot_value vs x) f
 local_alike P S L g k a vs x (frozen t) e s f = fits_alike P S L g k a t s (slot_value vs x) f
@@ -139,7 +139,7 @@ pub set_same : (vs : List Value) (x : ℕ) (v : Value) → x < length vs → slo
 set_same vs x v l = get_or-set_same vs x v _ l
 
 -- locals whose slots are left alone
-pub local_kept : (P : PlainProgram) (S : Shapes) (g : Ground) (vs : List Value) (z : ℕ) (v : Value) (x : ℕ) (l : ScopeLocal) → x ≢ z →
+pub local_kept : (P : PlainProgram) (S : Shapes) (g : Setting) (vs : List Value) (z : ℕ) (v : Value) (x : ℕ) (l : ScopeLocal) → x ≢ z →
     ((t : PlainType) (a : Rpl) → l ≡ part t a → (x + 1 ≢ z) × (x + 2 ≢ z)) →
     LocalFits P S g vs x l → LocalFits P S g (slice_set vs z v) x l
 local_kept P S g vs z v x (variable t) ne np f = subst (FitsIn P S (env_of g) t) (sym (set_other vs z x v ne)) f

@@ -20,7 +20,7 @@ use Rattle.dpj_meaning.specs.Regions.{around, concrete, concrete_effect}
 use Rattle.dpj_runs.specs.Objects.{Path}
 use Rattle.dpj_runs.specs.Objects.{Effect as RunEffect}
 use Rattle.dpj_steps.specs.Steps.{named_by}
-use Rattle.dpj_sound.specs.Grounds.{Ground, env_of}
+use Rattle.dpj_sound.specs.Settings.{Setting, env_of}
 use Rattle.dpj_sound.specs.Shapes.{Grows}
 use Rattle.dpj_sound.specs.Accesses.{Access, Speaks, Covers, LiesIn, as_path, run_env, LiesInEntry, Bounds, Within}
 use Rattle.dpj_sound.specs.Frames.{Frame, State, FrameFits}
@@ -32,7 +32,7 @@ pub good_block : (L : Scope) → GoodScope L → GoodScope (in_atomic_block L)
 good_block L good = record { each = good.each; slots = good.slots; parts = good.parts; result = λ t e. absurd (cc); given = good.given }
 
 -- the same frame, in a later state and inside a block or outside it
-pub frame_later : {P : PlainProgram} {p : Path} {s t : State} {g : Ground} {L : Scope} {f : Frame} → Grows s.shapes t.shapes → s.made ≤ t.made →
+pub frame_later : {P : PlainProgram} {p : Path} {s t : State} {g : Setting} {L : Scope} {f : Frame} → Grows s.shapes t.shapes → s.made ≤ t.made →
     FrameFits P p s g L f → FrameFits P p t g L f
 frame_later {P} {p} {s} {t} {g} {L} {f} h m ff = record {
   regions = ff.regions;
@@ -47,7 +47,7 @@ frame_later {P} {p} {s} {t} {g} {L} {f} h m ff = record {
   each = λ x l e. local_later P s.shapes t.shapes h g f.values x l (ff.each x l e);
 }
 
-pub frame_block : {P : PlainProgram} {p : Path} {s : State} {g : Ground} {f : Frame} (L : Scope) → FrameFits P p s g L f →
+pub frame_block : {P : PlainProgram} {p : Path} {s : State} {g : Setting} {f : Frame} (L : Scope) → FrameFits P p s g L f →
     FrameFits P p s g (in_atomic_block L) f
 frame_block L ff = record {
   regions = ff.regions;
@@ -62,7 +62,7 @@ frame_block L ff = record {
   each = ff.each;
 }
 
-pub frame_unblock : {P : PlainProgram} {p : Path} {s : State} {g : Ground} {f : Frame} (L : Scope) → FrameFits P p s g (in_atomic_block L) f →
+pub frame_unblock : {P : PlainProgram} {p : Path} {s : State} {g : Setting} {f : Frame} (L : Scope) → FrameFits P p s g (in_atomic_block L) f →
     FrameFits P p s g L f
 frame_unblock L ff = record {
   regions = ff.regions;
@@ -77,7 +77,7 @@ frame_unblock L ff = record {
   each = ff.each;
 }
 
--- a path with a ground put in matches what the path matches
+-- a path with a setting put in matches what the path matches
 
 fits_put : (env : Env) (x : Elem) (r : List Elem) → Fits env x r → Fits run_env (put_elem env x) r
 fits_put env (Name n) r f = f
@@ -118,7 +118,7 @@ put_matches env plain a r m = (
       (plain_selves (head_region env a.head) (head_plain env plain a.head)) (all_put env a.elems m.0 m.2)),
 )
 
-module _ (P : PlainProgram) (b : Bounds) (L : Scope) (g : Ground) (st : State) (f : Frame) (ff : FrameFits P b.path st g L f) where
+module _ (P : PlainProgram) (b : Bounds) (L : Scope) (g : Setting) (st : State) (f : Frame) (ff : FrameFits P b.path st g L f) where
   -- an effect of the entry speaks of what the effect speaks of
   entry_speaks : (e : Effect) (a : Access) → PathInScope L 0 e.rpl → Speaks g e a →
       Matches run_env (as_path (concrete (named_by b.path) (around f) e.rpl)) a.region × (a.write ≡ true → is_write e.access ≡ true)

@@ -25,13 +25,13 @@ use Rattle.dpj_runs.specs.Actions.{Look, New, Class, Named, Answer}
 use Rattle.dpj_runs.specs.Objects.{Value, Null, Object, Region}
 use Rattle.dpj_runs.specs.Objects.{Name as ObjectName}
 use Rattle.dpj_steps.specs.Steps.{named_by}
-use Rattle.dpj_sound.specs.Grounds.{Ground, ArePlain, env_of, class_ground, class_env}
+use Rattle.dpj_sound.specs.Settings.{Setting, ArePlain, env_of, class_setting, class_env}
 use Rattle.dpj_sound.specs.Shapes.{object, Shapes, Grows, Is, same, AllMatch, GoodObject, Instance, FitsIn}
 use Rattle.dpj_sound.specs.Accesses.{Bounds, Within}
 use Rattle.dpj_sound.specs.Frames.{Frame, State, Since, FrameFits}
 use Rattle.dpj_sound.specs.Work.{Result, Prog, InOrder}
 use Rattle.dpj_sound.specs.Laws.{Deeper, Leaves, DeeperInOrder}
-use Rattle.dpj_sound.proofs.Codes.{ground_env, unmade_one}
+use Rattle.dpj_sound.proofs.Codes.{setting_env, unmade_one}
 use Rattle.dpj_sound.proofs.Types.{NoOwn, Stands, fits_same, fits_grows, fits_with_up, fits_with_down}
 use Rattle.dpj_sound.proofs.Classes.{all_get, stands_args, good_is, env_alone}
 use Rattle.dpj_sound.proofs.Chains.{is_below_it, regions_are, above_match}
@@ -73,10 +73,10 @@ instance_grows P S T g env c args n i = fits_grows P S T g env (class c args) (O
 no_given : (env : Env) → All (Holds env) []
 no_given env = λ k c l. absurd (omega (arith, l))
 
-module _ (P : PlainProgram) (wt : WellTyped P) (b : Bounds) (L : Scope) (g : Ground) where
+module _ (P : PlainProgram) (wt : WellTyped P) (b : Bounds) (L : Scope) (g : Setting) where
   -- a body is in order in a frame that fits
   body_order : (deeper : Deeper) → DeeperInOrder P wt b (Some deeper) →
-      (n : ℕ) (m : PlainMember) (there : member_at P n ≡ Some m) (k : Ground) (u : State) (f : Frame) →
+      (n : ℕ) (m : PlainMember) (there : member_at P n ≡ Some m) (k : Setting) (u : State) (f : Frame) →
       FrameFits P b.path u k (scope P wt n m there) f → Within b u.entries k (wt.members n m there).effects → InOrder P b
       (Leaves P b (scope P wt n m there) k m.body u) u (deeper m.body f)
   body_order deeper dd n m there k u f ff w =
@@ -139,8 +139,8 @@ module _ (P : PlainProgram) (wt : WellTyped P) (b : Bounds) (L : Scope) (g : Gro
         row : RowAt P wt i.class r i.made_with (map (put P wt b L g u f ff) regions) m A0.regions
         row = row_is P wt (map (put P wt b L g u f ff) regions) r n i.is_one i.good plain e A lo
 
-        inner : Ground
-        inner = class_ground (row.at.regions ++ map (put P wt b L g u f ff) regions)
+        inner : Setting
+        inner = class_setting (row.at.regions ++ map (put P wt b L g u f ff) regions)
 
         N : ℕ
         N = length (A0.regions ++ map (put P wt b L g u f ff) regions)
@@ -173,19 +173,19 @@ module _ (P : PlainProgram) (wt : WellTyped P) (b : Bounds) (L : Scope) (g : Gro
             (all_get (Known (owned ++ regions)) m.formals x z.0 kn z.1) (slice_index_or vs x Null)
             (actual_at P u.shapes (env_of g) (type_with (owned ++ regions)) m.formals vs fits x z.0 z.1))
 
-        frame : FrameFits P b.path u (class_ground (row.at.regions ++ map (put P wt b L g u f ff) regions)) (scope P wt row.number row.at.member row.at.there)
+        frame : FrameFits P b.path u (class_setting (row.at.regions ++ map (put P wt b L g u f ff) regions)) (scope P wt row.number row.at.member row.at.there)
             (entered (named_by b.path) row.at.member (Object o ∷ vs) (row.at.regions ++ map (put P wt b L g u f ff) regions) (f.left - 1))
         frame = entered_fits P wt row.number row.at.member row.at.there b.path u row.at.regions (map (put P wt b L g u f ff) regions) (f.left - 1)
             (good_is P wt row.at.is_one i.good) plain given' o i.class i.made_with i.shape i.good
             row.at.is_one vs actuals
 
         inner_env : IsEnv [] (class_env (row.at.regions ++ map (put P wt b L g u f ff) regions))
-        inner_env = ground_env [] (class_ground (row.at.regions ++ map (put P wt b L g u f ff) regions))
+        inner_env = setting_env [] (class_setting (row.at.regions ++ map (put P wt b L g u f ff) regions))
             (plain_both P wt row.at.regions (map (put P wt b L g u f ff) regions) (good_is P wt row.at.is_one i.good).plain plain) unmade_one (no_given _)
 
-        within' : Within b u.entries (class_ground (row.at.regions ++ map (put P wt b L g u f ff) regions)) (wt.members row.number row.at.member row.at.there).effects
-        within' a gu l = w a gu (lies_up N g (class_ground (A0.regions ++ map (put P wt b L g u f ff) regions)) (owned ++ regions) st a m.summary sig.summary
-            (row.stands.effects a (body_lies (class_ground (row.at.regions ++ map (put P wt b L g u f ff) regions)) inner_env a row.at.member.summary
+        within' : Within b u.entries (class_setting (row.at.regions ++ map (put P wt b L g u f ff) regions)) (wt.members row.number row.at.member row.at.there).effects
+        within' a gu l = w a gu (lies_up N g (class_setting (A0.regions ++ map (put P wt b L g u f ff) regions)) (owned ++ regions) st a m.summary sig.summary
+            (row.stands.effects a (body_lies (class_setting (row.at.regions ++ map (put P wt b L g u f ff) regions)) inner_env a row.at.member.summary
             (wt.members row.number row.at.member row.at.there).effects (wt.members row.number row.at.member row.at.there).covered l)))
 
         result : (h : State) (v : Value) →
@@ -197,7 +197,7 @@ module _ (P : PlainProgram) (wt : WellTyped P) (b : Bounds) (L : Scope) (g : Gro
             (class_env (A0.regions ++ map (put P wt b L g u f ff) regions)) m.result row.stands.result v fv)
 
         behind : (h : State) (y : Result) →
-            Leaves P b (scope P wt row.number row.at.member row.at.there) (class_ground (row.at.regions ++ map (put P wt b L g u f ff) regions)) row.at.member.body u h y → InOrder P b R h (back f y)
+            Leaves P b (scope P wt row.number row.at.member row.at.there) (class_setting (row.at.regions ++ map (put P wt b L g u f ff) regions)) row.at.member.body u h y → InOrder P b R h (back f y)
         behind h (Goes_on v c) y = order_ret P b R h (Goes_on none f) (next none h y.1 (result h none (elim (wt.members row.number row.at.member row.at.there).ends [
           | inl z ↦ subst (λ t. FitsIn P h.shapes (class_env (row.at.regions ++ map (put P wt b L g u f ff) regions)) t Null) (sym z) tt
           | inr z ↦ absurd (false≢true (sym z ∙ y.0))
@@ -285,8 +285,8 @@ module _ (P : PlainProgram) (wt : WellTyped P) (b : Bounds) (L : Scope) (g : Gro
       rs : List Region
       rs = map (put P wt b L g st f ff) args
 
-      inner : Ground
-      inner = class_ground (map (put P wt b L g st f ff) args ++ [])
+      inner : Setting
+      inner = class_setting (map (put P wt b L g st f ff) args ++ [])
 
       ic : IsConstructor P c n
       ic = (wt.classes c k e).constructor n kn
@@ -331,19 +331,19 @@ module _ (P : PlainProgram) (wt : WellTyped P) (b : Bounds) (L : Scope) (g : Gro
       good_class : GoodObject P m.class (map (put P wt b L g st f ff) args)
       good_class = good_is P wt at_class gd
 
-      frame : FrameFits P b.path h (class_ground (map (put P wt b L g st f ff) args ++ [])) (scope P wt n m there) (entered (named_by b.path) m (Object o ∷ vs) (map (put P wt b L g st f ff) args ++ []) (f.left - 1))
+      frame : FrameFits P b.path h (class_setting (map (put P wt b L g st f ff) args ++ [])) (scope P wt n m there) (entered (named_by b.path) m (Object o ∷ vs) (map (put P wt b L g st f ff) args ++ []) (f.left - 1))
       frame = entered_fits P wt n m there b.path h (map (put P wt b L g st f ff) args) [] (f.left - 1) good_class nothing none_given o c
           (map (put P wt b L g st f ff) args) shape gd at_class vs actuals
 
       inner_env : IsEnv [] (class_env (map (put P wt b L g st f ff) args ++ []))
-      inner_env = ground_env [] (class_ground (map (put P wt b L g st f ff) args ++ []))
+      inner_env = setting_env [] (class_setting (map (put P wt b L g st f ff) args ++ []))
           (plain_both P wt (map (put P wt b L g st f ff) args) [] gd.plain nothing) unmade_one (no_given _)
 
-      within' : Within b h.entries (class_ground (map (put P wt b L g st f ff) args ++ [])) (wt.members n m there).effects
-      within' a gu l = w a gu (lies_up N g (class_ground (map (put P wt b L g st f ff) args ++ [])) args st' a m.summary sig.summary
-          (body_lies (class_ground (map (put P wt b L g st f ff) args ++ [])) inner_env a m.summary (wt.members n m there).effects (wt.members n m there).covered l))
+      within' : Within b h.entries (class_setting (map (put P wt b L g st f ff) args ++ [])) (wt.members n m there).effects
+      within' a gu l = w a gu (lies_up N g (class_setting (map (put P wt b L g st f ff) args ++ [])) args st' a m.summary sig.summary
+          (body_lies (class_setting (map (put P wt b L g st f ff) args ++ [])) inner_env a m.summary (wt.members n m there).effects (wt.members n m there).covered l))
 
-      behind : (u : State) (y : Result) → Leaves P b (scope P wt n m there) (class_ground (map (put P wt b L g st f ff) args ++ [])) m.body h u y →
+      behind : (u : State) (y : Result) → Leaves P b (scope P wt n m there) (class_setting (map (put P wt b L g st f ff) args ++ [])) m.body h u y →
           InOrder P b R u (gives (Object o) f)
       behind u (Goes_on v z) y = order_ret P b R u (Goes_on (Object o) f) (next u y.1)
       behind u (Returns v) y = order_ret P b R u (Goes_on (Object o) f) (next u y.0)

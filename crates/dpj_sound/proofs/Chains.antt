@@ -18,7 +18,7 @@ use Rattle.dpj_meaning.specs.Regions.{regions_above, concrete}
 use Rattle.dpj_regions.proofs.Putting.{specified_matches_one}
 use Rattle.dpj_runs.specs.Objects.{Path, Region}
 use Rattle.dpj_steps.specs.Steps.{named_by}
-use Rattle.dpj_sound.specs.Grounds.{class_env}
+use Rattle.dpj_sound.specs.Settings.{class_env}
 use Rattle.dpj_sound.specs.Shapes.{regions_of_parent, Is, same, up, AllMatch, GoodObject}
 use Rattle.dpj_sound.proofs.Closed.{ClosedPath}
 use Rattle.dpj_sound.proofs.Types.{NoOwn, Stands, path_up}

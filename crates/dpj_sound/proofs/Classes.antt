@@ -30,10 +30,10 @@ use Rattle.dpj_disjoint.proofs.Envs.{constraint_carried}
 use Rattle.dpj_runs.specs.Objects.{LocalRegion, Value, Int, Boolean, Null, Object, Region}
 use Rattle.dpj_runs.specs.Objects.{Name as ObjectName}
 use Rattle.dpj_steps.specs.Steps.{named_by}
-use Rattle.dpj_sound.specs.Grounds.{elem_of, elems_of, region_in, ArePlain, class_ground, class_env, under}
+use Rattle.dpj_sound.specs.Settings.{elem_of, elems_of, region_in, ArePlain, class_setting, class_env, under}
 use Rattle.dpj_sound.specs.Shapes.{Shapes, regions_of_parent, Is, same, up, AllMatch, GoodObject, Instance, SameIn, ArrayInstance, FitsIn}
 use Rattle.dpj_sound.proofs.Closed.{IsClosed, ClosedPath, closed_put, closed_holds, closed_path, closed_type}
-use Rattle.dpj_sound.proofs.Codes.{ground_env, unmade_one}
+use Rattle.dpj_sound.proofs.Codes.{setting_env, unmade_one}
 use Rattle.dpj_sound.proofs.Types.{same_refl, same_sym, same_trans, same_type, null_or, array_onto, NoOwn, Stands, path_up, same_with}
 
 -- a path with a frame put in, as a path with an environment put in
@@ -257,7 +257,7 @@ module _ (P : PlainProgram) (wt : WellTyped P) where
         closed_holds (length x.above.params) _ (class_env (regions_of_parent rs p))
         (record { region = λ q l. sym (parent_region (length k.params) rs p.args parent_closed q (let z = x.args.arity in omega (arith, z, l))); own = λ d l. refl }) _
         (closed_path P (class_scope x.above) (λ y. refl) 0 _ good.0) (closed_path P (class_scope x.above) (λ y. refl) 0 _ good.1)
-        (constraint_carried k.given (class_env rs) (ground_env k.given (class_ground rs) plain unmade_one h) p.args _ (x.args.hold j d l)))
+        (constraint_carried k.given (class_env rs) (setting_env k.given (class_setting rs) plain unmade_one h) p.args _ (x.args.hold j d l)))
 
   pub good_parent : {c : ℕ} {rs : List Region} {p : PlainParent} → GoodObject P c rs → parent_of P c ≡ Some p → GoodObject P p.class (regions_of_parent rs p)
   good_parent {c} {rs} {p} g e =

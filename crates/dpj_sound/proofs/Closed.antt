@@ -18,7 +18,7 @@ use Rattle.dpj_typed.specs.Scope.{Scope, constant}
 use Rattle.dpj_typed.specs.Types.{GoodElem, GoodHead, GoodPath, GoodType}
 use Rattle.dpj_regions.specs.Laws.{AgreeOn}
 use Rattle.dpj_regions.proofs.Reading.{matches_by_what_occurs}
-use Rattle.dpj_sound.specs.Grounds.{behind_own, under}
+use Rattle.dpj_sound.specs.Settings.{behind_own, under}
 
 abbrev pub IsClosed : ℕ → Elem → Type 0
 IsClosed depth (Name n) = Unit {0}

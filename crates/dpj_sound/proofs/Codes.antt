@@ -1,11 +1,11 @@
--- Different local regions of a run are different elements of region paths, so a ground gives an environment.
+-- Different local regions of a run are different elements of region paths, so a setting gives an environment.
 use Rattle.std.proofs.Common.{◌≡◌, ℕ, ℤ, zero, suc, pos, negsuc, ◌+◌, ◌*◌, List, [], ◌∷◌, refl, sym, ap, arith}
 use Rattle.std.specs.Prelude.{All}
 use Rattle.dpj_base.specs.declared.effect.Constraint.{Constraint}
 use Rattle.dpj_base.specs.Matching.{IsEnv, Holds}
 use Rattle.dpj_regions.specs.Laws.{another}
 use Rattle.dpj_runs.specs.Objects.{Path, LocalRegion, Made, Unmade}
-use Rattle.dpj_sound.specs.Grounds.{pair, path_code, local_code, local_in, ArePlain, Ground, env_of}
+use Rattle.dpj_sound.specs.Settings.{pair, path_code, local_code, local_in, ArePlain, Setting, env_of}
 
 pair_one : (a b c d : ℕ) → pair a b ≡ pair c d → (a ≡ c) × (b ≡ d)
 pair_one zero b zero d e = (refl, omega (arith, e))
@@ -56,10 +56,10 @@ another_differs (pos zero) e = cc
 another_differs (pos (suc n)) e = cc
 another_differs (negsuc n) e = cc
 
--- a ground with plain regions and distinct local regions, of which the constraints hold
-pub ground_env : (given : List Constraint) (g : Ground) → ArePlain g.regions → ((r q : ℕ) → g.made r ≡ g.made q → r ≡ q) → All (Holds (env_of g)) given →
+-- a setting with plain regions and distinct local regions, of which the constraints hold
+pub setting_env : (given : List Constraint) (g : Setting) → ArePlain g.regions → ((r q : ℕ) → g.made r ≡ g.made q → r ≡ q) → All (Holds (env_of g)) given →
     IsEnv given (env_of g)
-ground_env given g plain one hold = record {
+setting_env given g plain one hold = record {
   regions = plain;
   copies = λ v e. another_differs (g.index v) e;
   locals = local_one g.made one;

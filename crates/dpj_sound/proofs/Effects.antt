@@ -12,7 +12,7 @@ use Rattle.dpj_base.specs.Matching.{IsEnv}
 use Rattle.dpj_base.specs.Regions.{within, fully_specified, argument}
 use Rattle.dpj_typed.specs.Effects.{Own, does, uses, effect_with, effect_of, as_effects, summary_with}
 use Rattle.dpj_regions.proofs.Fitting.{matches_more}
-use Rattle.dpj_sound.specs.Grounds.{Ground, env_of}
+use Rattle.dpj_sound.specs.Settings.{Setting, env_of}
 use Rattle.dpj_sound.specs.Accesses.{Access, Speaks, Covers, LiesIn}
 use Rattle.dpj_sound.proofs.Closed.{ClosedPath}
 use Rattle.dpj_sound.proofs.Types.{Stands, path_up, path_down}
@@ -38,7 +38,7 @@ cover_parts e f h =
     let q = and_parts (within f.rpl e.rpl) (covers_access e.access f.access) p.0 in
     record { path = q.0; access = q.1; mark = p.1 }
 
-module _ (g : Ground) (v : IsEnv [] (env_of g)) (a : Access) where
+module _ (g : Setting) (v : IsEnv [] (env_of g)) (a : Access) where
   speaks_covers : (e f : Effect) → covers_effect e f ≡ true → Speaks g f a → Speaks g e a
   speaks_covers e f h s =
       let p = cover_parts e f h in
@@ -71,7 +71,7 @@ module _ (g : Ground) (v : IsEnv [] (env_of g)) (a : Access) where
       elim l [ inl c ↦ some_lies es f p.0 c | inr r ↦ summary_lies es fs p.1 r ]
 
 -- arguments put in: a summary seen from outside, and from inside
-pub lies_up : (n : ℕ) (g inner : Ground) (args : List Rpl) → Stands n 0 (env_of g) (env_of inner) args → (a : Access) (es : List Effect) →
+pub lies_up : (n : ℕ) (g inner : Setting) (args : List Rpl) → Stands n 0 (env_of g) (env_of inner) args → (a : Access) (es : List Effect) →
     All (λ (e : Effect). ClosedPath n 0 e.rpl) es →
     LiesIn inner (map (λ e. does e) es) a → LiesIn g (summary_with args es) a
 lies_up n g inner args s a [] c l = absurd l
@@ -85,7 +85,7 @@ lies_up n g inner args s a (e ∷ es) c l = elim l [
   | inr r ↦ inr (lies_up n g inner args s a es (All-tail (λ (e : Effect). ClosedPath n 0 e.rpl) e es c) r)
 ]
 
-pub lies_down : (n : ℕ) (g inner : Ground) (args : List Rpl) → Stands n 0 (env_of g) (env_of inner) args →
+pub lies_down : (n : ℕ) (g inner : Setting) (args : List Rpl) → Stands n 0 (env_of g) (env_of inner) args →
     ((p : ℕ) → IsTrue (fully_specified (argument args p))) → (a : Access) (es : List Effect) →
     All (λ (e : Effect). ClosedPath n 0 e.rpl) es → LiesIn g (map (λ e. does e) (map (effect_with args) es)) a → LiesIn inner (map (λ e. does e) es) a
 lies_down n g inner args s full a [] c l = absurd l

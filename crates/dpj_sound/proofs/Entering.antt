@@ -34,7 +34,7 @@ use Rattle.dpj_disjoint.proofs.Envs.{matches-within, stays_apart}
 use Rattle.dpj_runs.specs.Objects.{Path, Value, Null, Object, Region}
 use Rattle.dpj_runs.specs.Objects.{Name as ObjectName}
 use Rattle.dpj_steps.specs.Steps.{named_by}
-use Rattle.dpj_sound.specs.Grounds.{elems_of, ArePlain, class_ground, class_env}
+use Rattle.dpj_sound.specs.Settings.{elems_of, ArePlain, class_setting, class_env}
 use Rattle.dpj_sound.specs.Shapes.{object, Is, AllMatch, GoodObject, Instance, FitsIn}
 use Rattle.dpj_sound.specs.Frames.{State, LocalFits, FrameFits}
 use Rattle.dpj_sound.specs.Scopes.{InScope, PathInScope, TypeInScope, LocalInScope, GoodScope}
@@ -196,7 +196,7 @@ module _ (P : PlainProgram) (wt : WellTyped P) (n : ℕ) (m : PlainMember) (ther
       (o : ObjectName) → (d : ℕ) (made : List Region) → st.shapes o ≡ Some (object d made) → GoodObject P d made → Is P d made m.class zs →
       (vs : List Value) → ((x : ℕ) (t : PlainType) → slice_get m.formals x ≡ Some t →
       FitsIn P st.shapes (class_env (zs ++ own)) t (slice_index_or vs x Null)) →
-      FrameFits P path st (class_ground (zs ++ own)) scope (entered (named_by path) m (Object o ∷ vs) (zs ++ own) left)
+      FrameFits P path st (class_setting (zs ++ own)) scope (entered (named_by path) m (Object o ∷ vs) (zs ++ own) left)
   entered_fits path st zs own left gz plain given o d made shape gd is_one vs fits = record {
     regions = refl;
     plain = plain_both P wt zs own gz.plain plain;
@@ -244,14 +244,14 @@ module _ (P : PlainProgram) (wt : WellTyped P) (n : ℕ) (m : PlainMember) (ther
       values = padded m.slots (Object o ∷ vs)
 
       each : (x : ℕ) (l : ScopeLocal) → first_locals good.class m x ≡ Some l →
-          LocalFits P st.shapes (class_ground (zs ++ own)) (padded m.slots (Object o ∷ vs)) x l
+          LocalFits P st.shapes (class_setting (zs ++ own)) (padded m.slots (Object o ∷ vs)) x l
       each zero l e =
           let z : frozen (class m.class (own_paths good.class)) ≡ l = cc in
           let s = padded_at m.slots zero (Object o ∷ vs) (let r = good.room in omega (arith, r)) in
-          subst (λ l. LocalFits P st.shapes (class_ground (zs ++ own)) (padded m.slots (Object o ∷ vs)) zero l) z
+          subst (λ l. LocalFits P st.shapes (class_setting (zs ++ own)) (padded m.slots (Object o ∷ vs)) zero l) z
           (subst (FitsIn P st.shapes (class_env (zs ++ own)) (class m.class (own_paths good.class))) (sym s) this)
       each (suc x) l e =
           let z = formal_local x (slice_get m.formals x) l e in
           let s = padded_at m.slots (suc x) (Object o ∷ vs) (let r = good.room in let w = slice_get_within m.formals x z.0 z.1 in omega (arith, r, w)) in
-          subst (λ l. LocalFits P st.shapes (class_ground (zs ++ own)) (padded m.slots (Object o ∷ vs)) (suc x) l) (sym z.2)
+          subst (λ l. LocalFits P st.shapes (class_setting (zs ++ own)) (padded m.slots (Object o ∷ vs)) (suc x) l) (sym z.2)
           (subst (FitsIn P st.shapes (class_env (zs ++ own)) z.0) (sym s) (fits x z.0 z.1))

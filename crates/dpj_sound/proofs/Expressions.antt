@@ -28,7 +28,7 @@ use Rattle.dpj_meaning.specs.Expressions.{gives, operation, unless_null, read_ce
 use Rattle.dpj_regions.proofs.Putting.{specified_matches_one}
 use Rattle.dpj_runs.specs.Actions.{Read, Look, Answer, Went, Got, Out, Class, Length, Named, Joined, Fell}
 use Rattle.dpj_runs.specs.Objects.{Name, Value, Int, Boolean, Null, Object}
-use Rattle.dpj_sound.specs.Grounds.{Ground, env_of, class_env, under}
+use Rattle.dpj_sound.specs.Settings.{Setting, env_of, class_env, under}
 use Rattle.dpj_sound.specs.Shapes.{Shape, object, elements, Instance, ArrayInstance, IsNullOr, FitsIn, of_object, of_array}
 use Rattle.dpj_sound.specs.Accesses.{Access, Speaks, Bounds, Within}
 use Rattle.dpj_sound.specs.Frames.{Frame, State, Since, FrameFits}
@@ -42,7 +42,7 @@ use Rattle.dpj_sound.proofs.InScope.{paths_alone}
 use Rattle.dpj_sound.proofs.Work.{since_after}
 
 -- an effect that is no mark of a block speaks of a read
-pub speaks_read : (g : Ground) (rpl : Rpl) (a : Access) → a.write ≡ false → Matches (env_of g) rpl a.region → Speaks g (reads rpl) a
+pub speaks_read : (g : Setting) (rpl : Rpl) (a : Access) → a.write ≡ false → Matches (env_of g) rpl a.region → Speaks g (reads rpl) a
 speaks_read g rpl a w m = record { matches = m; writes = λ e. absurd (false≢true (sym w ∙ e)); guarded = λ e. absurd (false≢true e) }
 
 module _ (P : PlainProgram) (b : Bounds) where
@@ -116,7 +116,7 @@ module _ (P : PlainProgram) (b : Bounds) where
   order_operation R st same at op.Greater v u f k = k _ tt
   order_operation R st same at op.AtLeast v u f k = k _ tt
 
-  module _ (wt : WellTyped P) (L : Scope) (g : Ground) where
+  module _ (wt : WellTyped P) (L : Scope) (g : Setting) where
     -- a local's value, and its number where it stands in paths
     pub local_index : {st : State} {f : Frame} → FrameFits P b.path st g L f → (x : ℕ) (l : Option ScopeLocal) → L.local x ≡ l →
         Fits (env_of g) (variable_elem x l) (At (Literal (number (slot_value f.values x))) ∷ [])
@@ -165,15 +165,15 @@ module _ (P : PlainProgram) (b : Bounds) where
         go : (n : Name) → ArrayInstance st.shapes (env_of g) t a n → InOrder P b R st (read_cell at n k f)
         go n i =
             let cell : Touches P st.shapes n k = record {
-              shape = elements i.ground i.element i.rpl;
+              shape = elements i.setting i.element i.rpl;
               is = i.shape;
               env = under k
-                  (env_of i.ground);
+                  (env_of i.setting);
               ty = i.element;
               rpl = i.rpl;
               cell = of_array;
             } in
-            let region = (put_in (under k (env_of i.ground)) i.rpl).elems in
+            let region = (put_in (under k (env_of i.setting)) i.rpl).elems in
             order_read R st at n k f
             (record {
               cell = cell;
@@ -181,5 +181,5 @@ module _ (P : PlainProgram) (b : Bounds) where
                   (inl (speaks_read g (path_at 0 x a) (access_of b st n k false region) refl (region_at_up g x k fx a region (i.region k))));
             })
             (λ y u s h. next y u s (fits_at_up P u.shapes g x ix k fx t rg y
-            (fits_same P u.shapes (under k (env_of i.ground)) i.element (under k (env_of g)) t
-            (same_sym (under k (env_of g)) t (under k (env_of i.ground)) i.element (i.same k)) y h)))
+            (fits_same P u.shapes (under k (env_of i.setting)) i.element (under k (env_of g)) t
+            (same_sym (under k (env_of g)) t (under k (env_of i.setting)) i.element (i.same k)) y h)))

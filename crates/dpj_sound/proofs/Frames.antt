@@ -17,12 +17,12 @@ use Rattle.dpj_meaning.specs.Counts.{slot_value}
 use Rattle.dpj_meaning.specs.Regions.{around, part_of, head_region, concrete}
 use Rattle.dpj_runs.specs.Objects.{Path, LocalRegion, Made, Unmade, Value, Effect, Region}
 use Rattle.dpj_steps.specs.Steps.{named_by}
-use Rattle.dpj_sound.specs.Grounds.{local_code, elem_of, elems_of, Ground, env_of}
+use Rattle.dpj_sound.specs.Settings.{local_code, elem_of, elems_of, Setting, env_of}
 use Rattle.dpj_sound.specs.Shapes.{Shapes, Grows}
 use Rattle.dpj_sound.specs.Accesses.{Access, LiesIn, Bounds, Within}
 use Rattle.dpj_sound.specs.Frames.{Frame, State, Since, IsOld, LocalFits, FrameFits}
 use Rattle.dpj_sound.specs.Scopes.{InScope, PathInScope}
-use Rattle.dpj_sound.proofs.Codes.{ground_env}
+use Rattle.dpj_sound.proofs.Codes.{setting_env}
 use Rattle.dpj_sound.proofs.Types.{fits_grows}
 use Rattle.dpj_sound.proofs.Classes.{concrete_elems}
 
@@ -30,7 +30,7 @@ pub old_later : (p : Path) (m n r : ℕ) → m ≤ n → (l : LocalRegion) → I
 old_later p m n r h (Unmade k) o = o
 old_later p m n r h (Made q c) o = elim o [ inl a ↦ inl (a.0, (let l = a.1 in omega (arith, h, l))) | inr z ↦ inr z ]
 
-pub local_later : (P : PlainProgram) (S T : Shapes) → Grows S T → (g : Ground) (vs : List Value) (x : ℕ) (l : ScopeLocal) → LocalFits P S g vs x l →
+pub local_later : (P : PlainProgram) (S T : Shapes) → Grows S T → (g : Setting) (vs : List Value) (x : ℕ) (l : ScopeLocal) → LocalFits P S g vs x l →
     LocalFits P T g vs x l
 local_later P S T h g vs x (variable t) f = fits_grows P S T h (env_of g) t _ f
 local_later P S T h g vs x (frozen t) f = fits_grows P S T h (env_of g) t _ f
@@ -44,7 +44,7 @@ local_later P S T h g vs x (part t a) f = record {
 }
 local_later P S T h g vs x reserved f = tt
 
-pub frame_since : {P : PlainProgram} {p : Path} {s t : State} {g : Ground} {L : Scope} {f : Frame} → Since s t → FrameFits P p s g L f → FrameFits P p t g L f
+pub frame_since : {P : PlainProgram} {p : Path} {s t : State} {g : Setting} {L : Scope} {f : Frame} → Since s t → FrameFits P p s g L f → FrameFits P p t g L f
 frame_since {P} {p} {s} {t} {g} {L} {f} h ff = record {
   regions = ff.regions;
   plain = ff.plain;
@@ -58,33 +58,33 @@ frame_since {P} {p} {s} {t} {g} {L} {f} h ff = record {
   each = λ x l e. local_later P s.shapes t.shapes h.grows g f.values x l (ff.each x l e);
 }
 
-pub frame_env : {P : PlainProgram} {p : Path} {s : State} {g : Ground} {L : Scope} {f : Frame} → FrameFits P p s g L f → IsEnv L.given (env_of g)
-frame_env {g = g} {L = L} ff = ground_env L.given g ff.plain ff.distinct ff.given
+pub frame_env : {P : PlainProgram} {p : Path} {s : State} {g : Setting} {L : Scope} {f : Frame} → FrameFits P p s g L f → IsEnv L.given (env_of g)
+frame_env {g = g} {L = L} ff = setting_env L.given g ff.plain ff.distinct ff.given
 
-pub lies_left : (g : Ground) (E F : List EffectOwn) (a : Access) → LiesIn g E a → LiesIn g (E ++ F) a
+pub lies_left : (g : Setting) (E F : List EffectOwn) (a : Access) → LiesIn g E a → LiesIn g (E ++ F) a
 lies_left g [] F a h = absurd h
 lies_left g (o ∷ E) F a h = elim h [ inl c ↦ inl c | inr r ↦ inr (lies_left g E F a r) ]
 
-pub lies_right : (g : Ground) (E F : List EffectOwn) (a : Access) → LiesIn g F a → LiesIn g (E ++ F) a
+pub lies_right : (g : Setting) (E F : List EffectOwn) (a : Access) → LiesIn g F a → LiesIn g (E ++ F) a
 lies_right g [] F a h = h
 lies_right g (o ∷ E) F a h = inr (lies_right g E F a h)
 
-pub within_left : (b : Bounds) (entries : List (List Effect)) (g : Ground) (E F : List EffectOwn) → Within b entries g (E ++ F) → Within b entries g E
+pub within_left : (b : Bounds) (entries : List (List Effect)) (g : Setting) (E F : List EffectOwn) → Within b entries g (E ++ F) → Within b entries g E
 within_left b entries g E F w a u h = w a u (lies_left g E F a h)
 
-pub within_right : (b : Bounds) (entries : List (List Effect)) (g : Ground) (E F : List EffectOwn) → Within b entries g (E ++ F) → Within b entries g F
+pub within_right : (b : Bounds) (entries : List (List Effect)) (g : Setting) (E F : List EffectOwn) → Within b entries g (E ++ F) → Within b entries g F
 within_right b entries g E F w a u h = w a u (lies_right g E F a h)
 
-pub within_since : (b : Bounds) {s t : State} → Since s t → (g : Ground) (E : List EffectOwn) → Within b s.entries g E → Within b t.entries g E
+pub within_since : (b : Bounds) {s t : State} → Since s t → (g : Setting) (E : List EffectOwn) → Within b s.entries g E → Within b t.entries g E
 within_since b h g E w = subst (λ z. Within b z g E) (sym h.entries) w
 
 -- a path in scope with the frame put in
 
-head_put : (rs qs : List Region) → rs ≡ qs → (g : Ground) → g.regions ≡ qs → (h : Head) → elems_of (head_region rs h) ≡ env_region (env_of g) h
+head_put : (rs qs : List Region) → rs ≡ qs → (g : Setting) → g.regions ≡ qs → (h : Head) → elems_of (head_region rs h) ≡ env_region (env_of g) h
 head_put rs qs e g k Root = refl
 head_put rs qs e g k (Param p) = ap (λ z. elems_of (slice_index_or z p [])) (e ∙ sym k)
 
-module _ (P : PlainProgram) (p : Path) (st : State) (g : Ground) (L : Scope) (f : Frame) (ff : FrameFits P p st g L f) where
+module _ (P : PlainProgram) (p : Path) (st : State) (g : Setting) (L : Scope) (f : Frame) (ff : FrameFits P p st g L f) where
   elem_put : (q : Path) (x : Elem) → InScope L 0 x → elem_of (part_of (named_by q) (around f) x) ≡ put_elem (env_of g) x
   elem_put q (Name n) s = refl
   elem_put q (At (Literal k)) s = refl

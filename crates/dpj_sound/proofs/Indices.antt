@@ -20,7 +20,7 @@ use Rattle.dpj_typed.specs.Plain.{PlainProgram}
 use Rattle.dpj_regions.specs.Laws.{with_own}
 use Rattle.dpj_regions.proofs.Reading.{matches_by_what_occurs, own_index_matches_more, own_index_puts_in}
 use Rattle.dpj_runs.specs.Objects.{Value}
-use Rattle.dpj_sound.specs.Grounds.{Ground, env_of, behind_own, under}
+use Rattle.dpj_sound.specs.Settings.{Setting, env_of, behind_own, under}
 use Rattle.dpj_sound.specs.Shapes.{Shapes, Instance, SameIn, ArrayInstance, FitsIn}
 use Rattle.dpj_sound.proofs.Types.{match_onto, match_from, null_or, instance_onto, array_onto, fits_same, same_sym}
 
@@ -37,7 +37,7 @@ own_top k zero = refl
 own_top k (suc d) = sym (cond-false (zero == suc d) k (pos 0) (eqb-zero-suc d))
 
 -- in a body, where no array type is around
-pub under_top : (k : ℤ) (g : Ground) → under k (env_of g) ≡ with_own (env_of g) 0 k
+pub under_top : (k : ℤ) (g : Setting) → under k (env_of g) ≡ with_own (env_of g) 0 k
 under_top k g = λ i. record { region = (env_of g).region; index = (env_of g).index; renamed = (env_of g).renamed; own = λ d. own_top k d i; made = (env_of g).made }
 
 -- an index that is the same inside array types
@@ -179,7 +179,7 @@ IsIndexElem (elem.Name n) = ⊥
 IsIndexElem Star = ⊥
 IsIndexElem (Local a b) = ⊥
 
-pub fits_at_up : (P : PlainProgram) (S : Shapes) (g : Ground) (x : Elem) → IsIndexElem x → (k : ℤ) → Fits (env_of g) x (At (Literal k) ∷ []) →
+pub fits_at_up : (P : PlainProgram) (S : Shapes) (g : Setting) (x : Elem) → IsIndexElem x → (k : ℤ) → Fits (env_of g) x (At (Literal k) ∷ []) →
     (t : PlainType) →
     (IsTrue (is_any x) → rigid_in_index 0 t ≡ false) → (v : Value) → FitsIn P S (under k (env_of g)) t v → FitsIn P S (env_of g) (type_at 0 x t) v
 fits_at_up P S g (At x) i k e t h v f =
@@ -193,7 +193,7 @@ fits_at_up P S g Star i k e t h v f = absurd i
 fits_at_up P S g (Local a b) i k e t h v f = absurd i
 
 -- and back, at one that is known or that the type doesn't mention
-pub fits_at_down : (P : PlainProgram) (S : Shapes) (g : Ground) (x : Elem) → IsIndexElem x → (k : ℤ) → Fits (env_of g) x (At (Literal k) ∷ []) →
+pub fits_at_down : (P : PlainProgram) (S : Shapes) (g : Setting) (x : Elem) → IsIndexElem x → (k : ℤ) → Fits (env_of g) x (At (Literal k) ∷ []) →
     (t : PlainType) →
     (IsTrue (is_any x) → mentions_index 0 t ≡ false) → (v : Value) → FitsIn P S (env_of g) (type_at 0 x t) v → FitsIn P S (under k (env_of g)) t v
 fits_at_down P S g (At x) i k e t h v f =
@@ -207,7 +207,7 @@ fits_at_down P S g Star i k e t h v f = absurd i
 fits_at_down P S g (Local a b) i k e t h v f = absurd i
 
 -- the region of an element lies in the array's path at the index
-pub region_at_up : (g : Ground) (x : Elem) (k : ℤ) → Fits (env_of g) x (At (Literal k) ∷ []) → (a : Rpl) (r : List Elem) →
+pub region_at_up : (g : Setting) (x : Elem) (k : ℤ) → Fits (env_of g) x (At (Literal k) ∷ []) → (a : Rpl) (r : List Elem) →
     Matches (under k (env_of g)) a r → Matches (env_of g) (path_at 0 x a) r
 region_at_up g x k f a r m = own_index_matches_more (env_of g) a 0 x k f r (subst (λ z. Matches z a r) (under_top k g) m)
 
@@ -232,13 +232,13 @@ type_unmentioned D y (array t a named) h =
     λ i. array (r i) (record { head = a.head; elems = e i }) named
 
 -- what speaks of no own index, at any index
-pub same_inside : (g : Ground) (k : ℤ) (t : PlainType) → mentions_index 0 t ≡ false → SameIn (under k (env_of g)) t (env_of g) t
+pub same_inside : (g : Setting) (k : ℤ) (t : PlainType) → mentions_index 0 t ≡ false → SameIn (under k (env_of g)) t (env_of g) t
 same_inside g k t h =
     same_sym (env_of g) t (under k (env_of g)) t
     (subst (λ z. SameIn (env_of g) z (under k (env_of g)) t) (type_unmentioned 0 Any t h)
     (subst (λ z. SameIn (env_of g) (type_at 0 Any t) z t) (sym (under_top k g)) (same_unmentioned (env_of g) 0 k Any t h)))
 
-pub region_alone : (g : Ground) (k : ℤ) (a : Rpl) → has_index 0 a ≡ false → (r : List Elem) → Matches (under k (env_of g)) a r → Matches (env_of g) a r
+pub region_alone : (g : Setting) (k : ℤ) (a : Rpl) → has_index 0 a ≡ false → (r : List Elem) → Matches (under k (env_of g)) a r → Matches (env_of g) a r
 region_alone g k a h r m =
     (matches_by_what_occurs (env_of g) (with_own (env_of g) 0 k) a (record { head = head_own (env_of g) 0 k a.head; elems = all_unmentioned (env_of g) 0 k a.elems h }) r).1
     (subst (λ z. Matches z a r) (under_top k g) m)

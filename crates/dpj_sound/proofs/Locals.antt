@@ -24,19 +24,19 @@ use Rattle.dpj_meaning.specs.Statements.{with_value}
 use Rattle.dpj_regions.proofs.Reading.{matches_by_what_occurs}
 use Rattle.dpj_regions.proofs.Putting.{general_matches_more}
 use Rattle.dpj_runs.specs.Objects.{Path, Value}
-use Rattle.dpj_sound.specs.Grounds.{with_number, Ground, env_of}
+use Rattle.dpj_sound.specs.Settings.{with_number, Setting, env_of}
 use Rattle.dpj_sound.specs.Shapes.{Shapes, FitsIn}
 use Rattle.dpj_sound.specs.Accesses.{Access, Speaks, Covers, LiesIn}
 use Rattle.dpj_sound.specs.Frames.{Frame, State, LocalFits, FrameFits}
 use Rattle.dpj_sound.specs.Scopes.{InScope, PathInScope, TypeInScope, LocalInScope, GoodScope}
-use Rattle.dpj_sound.proofs.Alike.{Alike, ground_back, ground_alike, alike_holds, fits_alike, local_alike, set_other, set_same, local_kept}
+use Rattle.dpj_sound.proofs.Alike.{Alike, setting_back, setting_alike, alike_holds, fits_alike, local_alike, set_other, set_same, local_kept}
 
 -- another local than one that isn't in scope, or that is of another kind
 other_than : (L : Scope) (x y : ℕ) (l : ScopeLocal) → L.local y ≡ Some l → L.local x ≡ None → y ≢ x
 other_than L x y l e n q = let z : None ≡ Some l = sym n ∙ ap L.local (sym q) ∙ e in cc
 
 -- a slot that isn't in scope may be set
-pub frame_outside : (P : PlainProgram) (p : Path) (st : State) (g : Ground) (L : Scope) → GoodScope L → (f : Frame) (x : ℕ) (v : Value) →
+pub frame_outside : (P : PlainProgram) (p : Path) (st : State) (g : Setting) (L : Scope) → GoodScope L → (f : Frame) (x : ℕ) (v : Value) →
     L.local x ≡ None → FrameFits P p st g L f → FrameFits P p st g L (with_value f x v)
 frame_outside P p st g L good f x v n ff = record {
   regions = ff.regions;
@@ -56,7 +56,7 @@ variable_not : (L : Scope) (x y : ℕ) (t : PlainType) (l : ScopeLocal) → L.lo
 variable_not L x y t l e k ne q = ne (let z : Some (variable t) ≡ Some l = sym e ∙ ap L.local (sym q) ∙ k in cc)
 
 -- a variable is assigned
-pub frame_store : (P : PlainProgram) (p : Path) (st : State) (g : Ground) (L : Scope) → GoodScope L → (f : Frame) (x : ℕ) (t : PlainType) (v : Value) →
+pub frame_store : (P : PlainProgram) (p : Path) (st : State) (g : Setting) (L : Scope) → GoodScope L → (f : Frame) (x : ℕ) (t : PlainType) (v : Value) →
     L.local x ≡ Some (variable t) → FitsIn P st.shapes (env_of g) t v →
     FrameFits P p st g L f → FrameFits P p st g L (with_value f x v)
 frame_store P p st g L good f x t v lx fv ff = record {
@@ -81,7 +81,7 @@ frame_store P p st g L good f x t v lx fv ff = record {
 }
 
 -- it is alike in a scope where the local isn't
-pub number_alike : (L : Scope) (g : Ground) (x : ℕ) (k : ℤ) → L.local x ≡ None → Alike L g (with_number x k g)
+pub number_alike : (L : Scope) (g : Setting) (x : ℕ) (k : ℤ) → L.local x ≡ None → Alike L g (with_number x k g)
 number_alike L g x k n = record {
   regions = refl;
   index = λ y e. sym (cond-false (x == y) k (g.index y) (false_from_ne_true (x == y) (λ t. other_than L x y (constant int) e n (sym (eqb-true x y t)))));
@@ -160,20 +160,20 @@ good_declare L good x is_final t free s = record {
     kept : (y : ℕ) (m : ScopeLocal) → L.local y ≡ Some m → (with_local x (declared_as is_final t) L).local y ≡ Some m
     kept y m e = cond-false (y == x) (Some (declared_as is_final t)) (L.local y) (false_from_ne_true (y == x) (λ h. other_than L x y m e free.0 (eqb-true y x h))) ∙ e
 
-declared_fits : (P : PlainProgram) (S : Shapes) (g : Ground) (vs : List Value) (x : ℕ) (is_final : Bool) (t : PlainType) →
+declared_fits : (P : PlainProgram) (S : Shapes) (g : Setting) (vs : List Value) (x : ℕ) (is_final : Bool) (t : PlainType) →
     FitsIn P S (env_of g) t (slot_value vs x) → LocalFits P S g vs x (declared_as is_final t)
 declared_fits P S g vs x true t f = f
 declared_fits P S g vs x false t f = f
 
--- a declared local: the frame fits the scope with it, in the ground with its number
-pub frame_declare : (P : PlainProgram) (p : Path) (st : State) (g : Ground) (L : Scope) → GoodScope L →
+-- a declared local: the frame fits the scope with it, in the setting with its number
+pub frame_declare : (P : PlainProgram) (p : Path) (st : State) (g : Setting) (L : Scope) → GoodScope L →
     (f : Frame) (x : ℕ) (is_final : Bool) (t : PlainType) (v : Value) → IsFree L x → TypeInScope L 0 t →
     FitsIn P st.shapes (env_of g) t v → FrameFits P p st g L f → FrameFits P p st (with_number x (number v) g)
     (with_local x (declared_as is_final t) L) (with_value f x v)
 frame_declare P p st g L good f x is_final t v free s fv ff = record {
   regions = ff.regions;
   plain = ff.plain;
-  given = λ k c l. (let z = good.given k c l in alike_holds L (env_of g) (env_of (with_number x (number v) g)) (ground_alike al) _ z.0 z.1 (ff.given k c l));
+  given = λ k c l. (let z = good.given k c l in alike_holds L (env_of g) (env_of (with_number x (number v) g)) (setting_alike al) _ z.0 z.1 (ff.given k c l));
   index = λ y e. ⊎_elim
       (λ h. (let q = eqb-true y x h in
       ap (λ z. number (slot_value (slice_set f.values x v) z)) q ∙ ap number same
@@ -203,20 +203,20 @@ frame_declare P p st g L good f x is_final t v free s fv ff = record {
     same = set_same f.values x v (let b = free.1 in let d = ff.slots in omega (arith, b, d))
 
 -- behind the block that it stands in
-pub frame_leave : (P : PlainProgram) (p : Path) (st : State) (g : Ground) (L : Scope) → GoodScope L → (f : Frame) (x : ℕ) (l : ScopeLocal) (k : ℤ) →
+pub frame_leave : (P : PlainProgram) (p : Path) (st : State) (g : Setting) (L : Scope) → GoodScope L → (f : Frame) (x : ℕ) (l : ScopeLocal) (k : ℤ) →
     L.local x ≡ None →
     FrameFits P p st (with_number x k g) (with_local x l L) f → FrameFits P p st g L f
 frame_leave P p st g L good f x l k n ff = record {
   regions = ff.regions;
   plain = ff.plain;
-  given = λ j c h. (let z = good.given j c h in alike_holds L (env_of (with_number x k g)) (env_of g) (ground_alike (ground_back al)) _ z.0 z.1 (ff.given j c h));
+  given = λ j c h. (let z = good.given j c h in alike_holds L (env_of (with_number x k g)) (env_of g) (setting_alike (setting_back al)) _ z.0 z.1 (ff.given j c h));
   index = λ y e. ff.index y (kept y (constant int) e) ∙ sym (al.index y e);
   made = ff.made;
   distinct = ff.distinct;
   old = ff.old;
   slots = ff.slots;
   local_regions = ff.local_regions;
-  each = λ y m e. local_alike P st.shapes L (with_number x k g) g (ground_back al) f.values y m e (good.each y m e) (ff.each y m (kept y m e));
+  each = λ y m e. local_alike P st.shapes L (with_number x k g) g (setting_back al) f.values y m e (good.each y m e) (ff.each y m (kept y m e));
 }
   where
     al : Alike L g (with_number x k g)
@@ -227,7 +227,7 @@ frame_leave P p st g L good f x l k n ff = record {
 
 -- what effects speak of where the variable has its number they speak of outside, where it may be any
 
-put_number : (g : Ground) (x : ℕ) (k : ℤ) (L : Scope) (D : ℕ) (y : Elem) → InScope L D y →
+put_number : (g : Setting) (x : ℕ) (k : ℤ) (L : Scope) (D : ℕ) (y : Elem) → InScope L D y →
     put_elem (env_of (with_number x k g)) y ≡ put_elem (with_index (env_of g) x k) y
 put_number g x k L D (Name m) s = refl
 put_number g x k L D (At (Literal j)) s = refl
@@ -238,26 +238,26 @@ put_number g x k L D Any s = refl
 put_number g x k L D Star s = refl
 put_number g x k L D (Local r m) s = refl
 
-head_number : (g : Ground) (x : ℕ) (k : ℤ) (h : Head) → head_region (env_of (with_number x k g)) h ≡ head_region (with_index (env_of g) x k) h
+head_number : (g : Setting) (x : ℕ) (k : ℤ) (h : Head) → head_region (env_of (with_number x k g)) h ≡ head_region (with_index (env_of g) x k) h
 head_number g x k Root = refl
 head_number g x k (Param p) = refl
 
-general_matches : (g : Ground) (x : ℕ) (k : ℤ) (L : Scope) (a : Rpl) → PathInScope L 0 a → (r : List Elem) → Matches (env_of (with_number x k g)) a r →
+general_matches : (g : Setting) (x : ℕ) (k : ℤ) (L : Scope) (a : Rpl) → PathInScope L 0 a → (r : List Elem) → Matches (env_of (with_number x k g)) a r →
     Matches (env_of g) (generalised x a) r
 general_matches g x k L a s r m =
     general_matches_more (env_of g) a x k r
     ((matches_by_what_occurs (env_of (with_number x k g)) (with_index (env_of g) x k) a
     (record { head = head_number g x k a.head; elems = λ j d l. put_number g x k L 0 _ (s j d l) }) r).0 m)
 
-speaks_general : (g : Ground) (x : ℕ) (k : ℤ) (L : Scope) (e : Effect) (a : Access) → PathInScope L 0 e.rpl → Speaks (with_number x k g) e a → Speaks g (record e { rpl = generalised x e.rpl }) a
+speaks_general : (g : Setting) (x : ℕ) (k : ℤ) (L : Scope) (e : Effect) (a : Access) → PathInScope L 0 e.rpl → Speaks (with_number x k g) e a → Speaks g (record e { rpl = generalised x e.rpl }) a
 speaks_general g x k L e a s h = record { matches = general_matches g x k L e.rpl s a.region h.matches; writes = h.writes; guarded = h.guarded }
 
-covers_general : (g : Ground) (x : ℕ) (k : ℤ) (L : Scope) (o : EffectOwn) (a : Access) → PathInScope L 0 (effect_of o).rpl → Covers (with_number x k g) o a →
+covers_general : (g : Setting) (x : ℕ) (k : ℤ) (L : Scope) (o : EffectOwn) (a : Access) → PathInScope L 0 (effect_of o).rpl → Covers (with_number x k g) o a →
     Covers g (mapped (λ e. record e { rpl = generalised x e.rpl }) o) a
 covers_general g x k L (does e) a s h = speaks_general g x k L e a s h
 covers_general g x k L (uses j e) a s h = (speaks_general g x k L e a s h.0, h.1)
 
-pub lies_general : (g : Ground) (x : ℕ) (k : ℤ) (L : Scope) (E : List EffectOwn) (a : Access) → All (λ o. PathInScope L 0 (effect_of o).rpl) E →
+pub lies_general : (g : Setting) (x : ℕ) (k : ℤ) (L : Scope) (E : List EffectOwn) (a : Access) → All (λ o. PathInScope L 0 (effect_of o).rpl) E →
     LiesIn (with_number x k g) E a → LiesIn g (outside_variable x E) a
 lies_general g x k L [] a s h = h
 lies_general g x k L (o ∷ E) a s h = elim h [

@@ -32,7 +32,7 @@ use Rattle.dpj_runs.specs.Actions.{New, Answer, Named}
 use Rattle.dpj_runs.specs.Objects.{Value, Object, Part, Region_name, Number, Local, Own_index, Any_index, Any_parts, Region, An_array}
 use Rattle.dpj_runs.specs.Objects.{Name as ObjectName}
 use Rattle.dpj_steps.specs.Steps.{named_by}
-use Rattle.dpj_sound.specs.Grounds.{local_code, elem_of, elems_of, Ground, region_in, ArePlain, env_of, class_env, under, element_part, element_region}
+use Rattle.dpj_sound.specs.Settings.{local_code, elem_of, elems_of, Setting, region_in, ArePlain, env_of, class_env, under, element_part, element_region}
 use Rattle.dpj_sound.specs.Shapes.{object, elements, same, AllMatch, GoodObject, Instance, FitsIn}
 use Rattle.dpj_sound.specs.Accesses.{Bounds}
 use Rattle.dpj_sound.specs.Frames.{Frame, State, Since, FrameFits}
@@ -73,7 +73,7 @@ plain_region k (x ∷ r) h =
     let f = plain_region k r p.1 in
     λ i. e i ∷ f i
 
-module _ (P : PlainProgram) (wt : WellTyped P) (b : Bounds) (L : Scope) (g : Ground) (st : State) (f : Frame) (ff : FrameFits P b.path st g L f) where
+module _ (P : PlainProgram) (wt : WellTyped P) (b : Bounds) (L : Scope) (g : Setting) (st : State) (f : Frame) (ff : FrameFits P b.path st g L f) where
   abbrev pub put : Rpl → Region
   put a = concrete (named_by b.path) (around f) a
 
@@ -184,7 +184,7 @@ module _ (P : PlainProgram) (wt : WellTyped P) (b : Bounds) (L : Scope) (g : Gro
         λ x h after ans. subst (λ z. InOrder P b R h (gives (name_made z) f)) (sym ans.1)
             (i (Object ans.0) h (since_after (New (An_array (put a) k (first_of t)) false) refl after)
             (record {
-              ground = g;
+              setting = g;
               element = t;
               rpl = a;
               shape = ans.2;

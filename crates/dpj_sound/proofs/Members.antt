@@ -25,11 +25,11 @@ use Rattle.dpj_meaning.specs.Regions.{concrete}
 use Rattle.dpj_regions.proofs.Putting.{specified_matches_one, substitution_puts_in}
 use Rattle.dpj_runs.specs.Objects.{Region}
 use Rattle.dpj_steps.specs.Steps.{named_by}
-use Rattle.dpj_sound.specs.Grounds.{elems_of, region_in, ArePlain, class_ground, class_env}
+use Rattle.dpj_sound.specs.Settings.{elems_of, region_in, ArePlain, class_setting, class_env}
 use Rattle.dpj_sound.specs.Shapes.{regions_of_parent, Is, same, up, GoodObject, SameIn}
 use Rattle.dpj_sound.specs.Accesses.{Access, LiesIn}
 use Rattle.dpj_sound.proofs.Closed.{ClosedPath, ClosedType, closed_put, closed_path, closed_type}
-use Rattle.dpj_sound.proofs.Codes.{ground_env, unmade_one}
+use Rattle.dpj_sound.proofs.Codes.{setting_env, unmade_one}
 use Rattle.dpj_sound.proofs.Types.{same_refl, same_sym, same_trans, same_type, NoOwn, Stands, same_with}
 use Rattle.dpj_sound.proofs.Classes.{path_alone, class_concrete, alone_put, arguments_alone, all_get, parent_extends, parent_closed, good_parent, good_is}
 use Rattle.dpj_sound.proofs.Chains.{parent_lower, is_lower, above_lower, same_parent, is_from_below}
@@ -181,8 +181,8 @@ module _ (P : PlainProgram) (wt : WellTyped P) where
     pub formals : (x : ℕ) (t : PlainType) → slice_get w.formals x ≡ Some t →
         (u : PlainType) × (slice_get m.formals x ≡ Some u) × SameIn (class_env (rs ++ own)) u (class_env (qs ++ own)) t
     pub result : SameIn (class_env (qs ++ own)) w.result (class_env (rs ++ own)) m.result
-    pub effects : (a : Access) → LiesIn (class_ground (qs ++ own)) (map (λ e. does e) w.summary) a →
-        LiesIn (class_ground (rs ++ own)) (map (λ e. does e) m.summary) a
+    pub effects : (a : Access) → LiesIn (class_setting (qs ++ own)) (map (λ e. does e) w.summary) a →
+        LiesIn (class_setting (rs ++ own)) (map (λ e. does e) m.summary) a
 
   stands_refl : (own : List Region) (m : PlainMember) (rs : List Region) → StandsFor own m rs m rs
   stands_refl own m rs = record {
@@ -262,8 +262,8 @@ module _ (P : PlainProgram) (wt : WellTyped P) where
         (z.0, z.1, same_sym outer t inner z.0 (same_trans outer t outer (type_with σ z.0) inner z.0 (same_type outer t (type_with σ z.0) z.2) (same_with N 0 outer inner σ st z.0 (sig.formals x z.0 z.1) (λ p _. full p)))));
     result = same_trans outer w.result outer (type_with σ A.member.result) inner A.member.result (same_type outer w.result (type_with σ A.member.result) o.result)
         (same_with N 0 outer inner σ st A.member.result sig.result (λ p _. full p));
-    effects = λ a l. lies_down N (class_ground (rs ++ own)) (class_ground (A.regions ++ own)) σ st full a A.member.summary sig.summary
-        (summary_lies (class_ground (rs ++ own)) (ground_env [] (class_ground (rs ++ own)) plain unmade_one (λ k c l. absurd (omega (arith, l)))) a
+    effects = λ a l. lies_down N (class_setting (rs ++ own)) (class_setting (A.regions ++ own)) σ st full a A.member.summary sig.summary
+        (summary_lies (class_setting (rs ++ own)) (setting_env [] (class_setting (rs ++ own)) plain unmade_one (λ k c l. absurd (omega (arith, l)))) a
         (map (effect_with σ) A.member.summary) w.summary o.covered l);
   }
     where

@@ -20,7 +20,7 @@ use Rattle.dpj_typed.specs.Scope.{Scope}
 use Rattle.dpj_regions.specs.Laws.{with_copy}
 use Rattle.dpj_regions.proofs.Reading.{matches_by_what_occurs, renamed_matches, copies_exist}
 use Rattle.dpj_disjoint.proofs.Envs.{no_common}
-use Rattle.dpj_sound.specs.Grounds.{Ground, env_of, with_number}
+use Rattle.dpj_sound.specs.Settings.{Setting, env_of, with_number}
 use Rattle.dpj_sound.specs.Accesses.{Access, Speaks, Covers, LiesIn}
 use Rattle.dpj_sound.specs.Branches.{Meet}
 use Rattle.dpj_sound.specs.Scopes.{InScope, PathInScope}
@@ -67,12 +67,12 @@ module _ (given : List Constraint) (env : Env) (v : IsEnv given env) (a c : Acce
   lists_quiet [] fs h x y = x
   lists_quiet (e ∷ es) fs h x y = let p = or_parts (some_clashes given None e fs) _ h in elim x [ inl z ↦ one_quiet e fs p.0 z y | inr z ↦ lists_quiet es fs p.1 z y ]
 
-own_speaks : (g : Ground) (o : EffectOwn) (a : Access) → Covers g o a → Speaks g (effect_of o) a
+own_speaks : (g : Setting) (o : EffectOwn) (a : Access) → Covers g o a → Speaks g (effect_of o) a
 own_speaks g (does e) a h = h
 own_speaks g (uses k e) a h = h.0
 
 -- what lies in effects is reached, in an environment in which they match the same
-reached : (g : Ground) (env : Env) (f : Effect → Effect) → (a : Access) (E : List EffectOwn) →
+reached : (g : Setting) (env : Env) (f : Effect → Effect) → (a : Access) (E : List EffectOwn) →
     All (λ o. (r : List Elem) → Matches (env_of g) (effect_of o).rpl r → Matches env (f (effect_of o)).rpl r ×
     ((f (effect_of o)).access ≡ (effect_of o).access)) E → LiesIn g E a → Reaches env (map f (as_effects E)) a
 reached g env f a [] s h = h
@@ -88,7 +88,7 @@ map_same : {A : Type 0} (xs : List A) → map (λ x. x) xs ≡ xs
 map_same [] = refl
 map_same (x ∷ xs) = ap (λ z. x ∷ z) (map_same xs)
 
-reached_same : (g : Ground) (a : Access) (E : List EffectOwn) → LiesIn g E a → Reaches (env_of g) (as_effects E) a
+reached_same : (g : Setting) (a : Access) (E : List EffectOwn) → LiesIn g E a → Reaches (env_of g) (as_effects E) a
 reached_same g a E h = subst (λ z. Reaches (env_of g) z a) (map_same (as_effects E)) (reached g (env_of g) (λ e. e) a E (λ k d l r m. (m, refl)) h)
 
 pub branches_quiet : BranchesQuiet
@@ -114,7 +114,7 @@ index_twice : (x y : ℕ) (j k i : ℤ) (b : Bool) → cond b k i ≡ cond b k (
 index_twice x y j k i true = refl
 index_twice x y j k i false = refl
 
-put_other : (g : Ground) (x : ℕ) (j k m : ℤ) → m ≡ k → (L : Scope) (y : Elem) → InScope L 0 y →
+put_other : (g : Setting) (x : ℕ) (j k m : ℤ) → m ≡ k → (L : Scope) (y : Elem) → InScope L 0 y →
     put_elem (env_of (with_number x k g)) y ≡ put_elem (with_index (with_copy (env_of (with_number x j g)) x k) x m) y
 put_other g x j k m e L (Name n) s = refl
 put_other g x j k m e L (At (Literal i)) s = refl
@@ -126,7 +126,7 @@ put_other g x j k m e L Any s = refl
 put_other g x j k m e L Star s = refl
 put_other g x j k m e L (Local r n) s = refl
 
-head_other : (g : Ground) (x : ℕ) (j k m : ℤ) (h : Head) →
+head_other : (g : Setting) (x : ℕ) (j k m : ℤ) (h : Head) →
     head_region (env_of (with_number x k g)) h ≡ head_region (with_index (with_copy (env_of (with_number x j g)) x k) x m) h
 head_other g x j k m Root = refl
 head_other g x j k m (Param p) = refl

@@ -11,7 +11,7 @@ use Rattle.dpj_meaning.specs.Elision.{enters_main}
 use Rattle.dpj_meaning.specs.Expressions.{entered}
 use Rattle.dpj_runs.specs.Objects.{Int, Null, Object}
 use Rattle.dpj_steps.specs.Steps.{named_by, first_name}
-use Rattle.dpj_sound.specs.Grounds.{class_ground, class_env}
+use Rattle.dpj_sound.specs.Settings.{class_setting, class_env}
 use Rattle.dpj_sound.specs.Shapes.{same, Is, GoodObject, FitsIn}
 use Rattle.dpj_sound.specs.Frames.{FrameFits}
 use Rattle.dpj_sound.specs.Sequential.{AreSequential}
@@ -39,21 +39,21 @@ module _ (P : PlainProgram) (wt : WellTyped P) (no_class : wt.main.class.given �
       one zero t h = let q : int ≡ t = cc in subst (λ z. FitsIn P (start P).shapes (class_env []) z (Int arg)) q tt
       one (suc x) t h = absurd (let q : None ≡ Some t = h in cc)
 
-  first_frame : FrameFits P [] (start P) (class_ground []) (main_scope P wt) (entered (named_by []) wt.main.member (Object first_name ∷ Int arg ∷ []) [] 499)
+  first_frame : FrameFits P [] (start P) (class_setting []) (main_scope P wt) (entered (named_by []) wt.main.member (Object first_name ∷ Int arg ∷ []) [] 499)
   first_frame =
       entered_fits P wt P.main_member wt.main.member wt.main.member_is [] (start P) [] [] 499 (subst (λ c. GoodObject P c []) (sym wt.main.own) first_good) (λ p. refl)
       (subst (λ z. All (Holds (class_env [])) z) (sym no_method) (λ k c l. absurd (omega (arith, l)))) first_name P.main_class [] refl first_good
       (subst (λ c. Is P P.main_class [] c []) (sym wt.main.own) same) (Int arg ∷ []) (formal wt.main.member.formals wt.main.formals)
 
   root_order : ((n : ℕ) (m : PlainMember) → member_at P n ≡ Some m → AreSequential m.body) →
-      InOrder P (main_bounds P wt) (Leaves P (main_bounds P wt) (main_scope P wt) (class_ground []) wt.main.member.body (start P)) (start P)
+      InOrder P (main_bounds P wt) (Leaves P (main_bounds P wt) (main_scope P wt) (class_setting []) wt.main.member.body (start P)) (start P)
       (does (named_by []) P (enters_main (named_by []) first_name arg (Some wt.main.member)))
   root_order plain =
       sequential_tasks P wt plain (main_bounds P wt) (main_scope P wt) wt.main.member.body (wt.members P.main_member wt.main.member wt.main.member_is).effects
       (wt.members P.main_member wt.main.member wt.main.member_is).passes (plain P.main_member wt.main.member wt.main.member_is)
-      (body_good P wt P.main_member wt.main.member wt.main.member_is) 499 (class_ground []) (start P) _ first_frame (λ a u l. record { effects = inl l; blocks = tt })
+      (body_good P wt P.main_member wt.main.member wt.main.member_is) 499 (class_setting []) (start P) _ first_frame (λ a u l. record { effects = inl l; blocks = tt })
 
 pub root_in_order : RootInOrder
 root_in_order P wt plain nc nm arg =
-    subst (λ z. InOrder P (main_bounds P wt) (Leaves P (main_bounds P wt) (main_scope P wt) (class_ground []) wt.main.member.body (start P)) (start P)
+    subst (λ z. InOrder P (main_bounds P wt) (Leaves P (main_bounds P wt) (main_scope P wt) (class_setting []) wt.main.member.body (start P)) (start P)
     (does (named_by []) P (enters_main (named_by []) first_name arg z))) (sym wt.main.member_is) (root_order P wt nc nm arg plain)

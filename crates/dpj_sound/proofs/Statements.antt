@@ -31,7 +31,7 @@ use Rattle.dpj_runs.specs.Objects.{Name, Value, Null, Object, Int, Boolean}
 use Rattle.dpj_steps.specs.Steps.{named_by}
 use Rattle.dpj_meaning.specs.Asking.{meaning}
 use Rattle.dpj_sound.proofs.Entering.{body_good}
-use Rattle.dpj_sound.specs.Grounds.{with_number, Ground, env_of, class_env, under}
+use Rattle.dpj_sound.specs.Settings.{with_number, Setting, env_of, class_env, under}
 use Rattle.dpj_sound.specs.Shapes.{object, elements, Shapes, Instance, ArrayInstance, FitsIn, of_object, of_array, Grows}
 use Rattle.dpj_sound.specs.Accesses.{Access, Speaks, Bounds, Within}
 use Rattle.dpj_sound.specs.Frames.{Frame, State, Since, PartFits, FrameFits}
@@ -51,20 +51,20 @@ use Rattle.dpj_meaning.specs.Regions.{around, concrete_effect}
 use Rattle.dpj_typed.specs.Scope.{in_atomic_block}
 use Rattle.dpj_runs.specs.Objects.{Effect as RunEffect}
 use Rattle.dpj_sound.proofs.Blocks.{good_block, frame_later, frame_block, frame_unblock, within_block}
-use Rattle.dpj_sound.proofs.Alike.{fits_alike, ground_back}
+use Rattle.dpj_sound.proofs.Alike.{fits_alike, setting_back}
 use Rattle.dpj_sound.proofs.Expressions.{order_unless, order_choose, order_trap}
 use Rattle.dpj_sound.proofs.Typed.{type_alone, inside_part, yields, expr_order}
 use Rattle.dpj_sound.proofs.Work.{since_now, since_since, since_after, order_then, order_on, order_post, order_ret}
 
-speaks_write : (g : Ground) (rpl : Rpl) (a : Access) → Matches (env_of g) rpl a.region → Speaks g (writes rpl) a
+speaks_write : (g : Setting) (rpl : Rpl) (a : Access) → Matches (env_of g) rpl a.region → Speaks g (writes rpl) a
 speaks_write g rpl a m = record { matches = m; writes = λ e. refl; guarded = λ e. absurd (false≢true e) }
 
 -- behind statements that began in this state: locals that fit, where they can complete; or a value that a `return` gives
-abbrev pub Left : PlainProgram → Bounds → Scope → Ground → Bool → State → State → Result → Type 0
+abbrev pub Left : PlainProgram → Bounds → Scope → Setting → Bool → State → State → Result → Type 0
 Left P b L g c st h (Goes_on v f) = IsTrue c × Since st h × FrameFits P b.path h g L f
 Left P b L g c st h (Returns v) = Since st h × ReturnFits P h.shapes g L.result v
 
-left_since : (P : PlainProgram) (b : Bounds) (L : Scope) (g : Ground) (c d : Bool) (st h u : State) (r : Result) → Since st h → (c ≡ true → d ≡ true) →
+left_since : (P : PlainProgram) (b : Bounds) (L : Scope) (g : Setting) (c d : Bool) (st h u : State) (r : Result) → Since st h → (c ≡ true → d ≡ true) →
     Left P b L g c h u r → Left P b L g d st u r
 left_since P b L g c d st h u (Goes_on v f) s i y = (i y.0, since_since s y.1, y.2)
 left_since P b L g c d st h u (Returns v) s i y = (since_since s y.0, y.1)
@@ -90,7 +90,7 @@ module _ (P : PlainProgram) (b : Bounds) where
   write_at at f v u o = elim o as (λ z. Prog) [ None ↦ Traps trap.Index at | Some p ↦ unless_null at v (λ n. write_cell at n p u f) ]
 
   -- a write of an element through a part
-  part_write : (R : State → Result → Type 0) (st : State) (at : Place) (f : Frame) (g : Ground) (k : ℕ) (t : PlainType) (a : Rpl) (i : ℤ) (u : Value) →
+  part_write : (R : State → Result → Type 0) (st : State) (at : Place) (f : Frame) (g : Setting) (k : ℕ) (t : PlainType) (a : Rpl) (i : ℤ) (u : Value) →
       PartFits P st.shapes g f.values k t a →
       Within b st.entries g (uses k (writes a) ∷ []) → FitsIn P st.shapes (env_of g) t u → ((h : State) → Since st h → R h (Goes_on none f)) →
       InOrder P b R st (part_element at k i f (λ n l. write_cell at n l u f))
@@ -101,15 +101,15 @@ module _ (P : PlainProgram) (b : Bounds) where
       write p e n is i' =
           let s = inside_part i (number (slot_value f.values (k + 2))) _ p e in
           let cell : Touches P st.shapes n p = record {
-            shape = elements i'.ground i'.element i'.rpl;
+            shape = elements i'.setting i'.element i'.rpl;
             is = i'.shape;
             env = under p
-                (env_of i'.ground);
+                (env_of i'.setting);
             ty = i'.element;
             rpl = i'.rpl;
             cell = of_array;
           } in
-          let region = (put_in (under p (env_of i'.ground)) i'.rpl).elems in
+          let region = (put_in (under p (env_of i'.setting)) i'.rpl).elems in
           order_write R st at n p u f
           (record {
             cell = cell;
@@ -124,7 +124,7 @@ module _ (P : PlainProgram) (b : Bounds) where
               },
             ));
           })
-          (fits_same P st.shapes (under p (env_of g)) t (under p (env_of i'.ground)) i'.element (i'.same p) u
+          (fits_same P st.shapes (under p (env_of g)) t (under p (env_of i'.setting)) i'.element (i'.same p) u
           (fits_same P st.shapes (env_of g) t (under p (env_of g)) t (same_sym (under p (env_of g)) t (env_of g) t (same_inside g p t pf.none_mentioned)) u fu))
           next
 
@@ -139,7 +139,7 @@ module _ (P : PlainProgram) (b : Bounds) where
       go None e = order_trap P b R st trap.Index at
       go (Some p) e = by_value p e (slot_value f.values k) refl pf.array
 
-  module _ (wt : WellTyped P) (L : Scope) (g : Ground) where
+  module _ (wt : WellTyped P) (L : Scope) (g : Setting) where
     -- a write of a field, or the trap at null
     field_write : (R : State → Result → Type 0) (st : State) (at : Place) (f : Frame) (c k : ℕ) (args : List Rpl) (fd : PlainField) →
         field_at P c k ≡ Some fd → Known args fd.ty →
@@ -186,27 +186,27 @@ module _ (P : PlainProgram) (b : Bounds) where
         go : (n : Name) → ArrayInstance st.shapes (env_of g) t a n → InOrder P b R st (write_cell at n k u f)
         go n i =
             let cell : Touches P st.shapes n k = record {
-              shape = elements i.ground i.element i.rpl;
+              shape = elements i.setting i.element i.rpl;
               is = i.shape;
               env = under k
-                  (env_of i.ground);
+                  (env_of i.setting);
               ty = i.element;
               rpl = i.rpl;
               cell = of_array;
             } in
-            let region = (put_in (under k (env_of i.ground)) i.rpl).elems in
+            let region = (put_in (under k (env_of i.setting)) i.rpl).elems in
             order_write R st at n k u f
             (record {
               cell = cell;
               allowed = w (access_of b st n k true region) (λ e. e)
                   (inl (speaks_write g (path_at 0 x a) (access_of b st n k true region) (region_at_up g x k fx a region (i.region k))));
             })
-            (fits_same P st.shapes (under k (env_of g)) t (under k (env_of i.ground)) i.element (i.same k) u (fits_at_down P st.shapes g x ix k fx t kn u fu))
+            (fits_same P st.shapes (under k (env_of g)) t (under k (env_of i.setting)) i.element (i.same k) u (fits_at_down P st.shapes g x ix k fx t kn u fu))
             next
 
 module _ (P : PlainProgram) (wt : WellTyped P) (b : Bounds) (dp : Option Deeper) (dd : DeeperInOrder P wt b dp) where
   -- behind an expression, which is in order
-  behind : (L : Scope) → GoodScope L → (g : Ground) {e : TypedExpr} {E : List EffectOwn} → Has P L e E →
+  behind : (L : Scope) → GoodScope L → (g : Setting) {e : TypedExpr} {E : List EffectOwn} → Has P L e E →
       (R : State → Result → Type 0) (j : Value → Frame → Prog) (st : State) (f : Frame) → FrameFits P b.path st g L f → Within b st.entries g E →
       ((h : State) (v : Value) → Since st h → FitsIn P h.shapes (env_of g) (type_of e) v →
       Fits (env_of g) (index_elem L e) (At (Literal (number v)) ∷ []) → InOrder P b R h (j v f)) →
@@ -214,28 +214,28 @@ module _ (P : PlainProgram) (wt : WellTyped P) (b : Bounds) (dp : Option Deeper)
   behind L good g {e = e} h R j st f ff w i = order_then P b L g e f R j st _ (expr_order P wt b dp dd L good g h (Yields P L g e st f) st f ff w (yields P L g e st f)) i
 
   -- a value of a subtype
-  sub_fits : (L : Scope) → GoodScope L → (g : Ground) {e : TypedExpr} {E : List EffectOwn} {t : PlainType} → Has P L e E → Subtype P (type_of e) t →
+  sub_fits : (L : Scope) → GoodScope L → (g : Setting) {e : TypedExpr} {E : List EffectOwn} {t : PlainType} → Has P L e E → Subtype P (type_of e) t →
       {st : State} {f : Frame} → FrameFits P b.path st g L f → (S : Shapes) (v : Value) →
       FitsIn P S (env_of g) (type_of e) v → FitsIn P S (env_of g) t v
   sub_fits L good g {e = e} h sub ff S v fv = subtype_fits P wt S (env_of g) (env_alone L.given (env_of g) (frame_env ff)) refl sub
       (type_alone L (type_of e) (typed_in P wt L good h)) v fv
 
   -- behind the test of a loop, and its body
-  tested : (L : Scope) (g : Ground) (e : TypedExpr) (st : State) (f : Frame) → FrameFits P b.path st g L f → (u : State) (r : Result) →
+  tested : (L : Scope) (g : Setting) (e : TypedExpr) (st : State) (f : Frame) → FrameFits P b.path st g L f → (u : State) (r : Result) →
       Yields P L g e st f u r → Rounds P b.path st g L u r
   tested L g e st f ff u (Goes_on v c) y = (y.0, subst (FrameFits P b.path u g L) (sym y.1) (frame_since y.0 ff))
   tested L g e st f ff u (Returns v) y = absurd y
 
-  rounded : (L : Scope) (g : Ground) (c : Bool) (st u : State) (r : Result) → Left P b L g c st u r → Rounds P b.path st g L u r
+  rounded : (L : Scope) (g : Setting) (c : Bool) (st u : State) (r : Result) → Left P b L g c st u r → Rounds P b.path st g L u r
   rounded L g c st u (Goes_on v f) y = (y.1, y.2)
   rounded L g c st u (Returns v) y = y
 
-  looped : (L : Scope) (g : Ground) (st u : State) (r : Result) → Rounds P b.path st g L u r → Left P b L g true st u r
+  looped : (L : Scope) (g : Setting) (st u : State) (r : Result) → Rounds P b.path st g L u r → Left P b L g true st u r
   looped L g st u (Goes_on v f) y = (refl, y.0, y.1)
   looped L g st u (Returns v) y = y
 
   -- behind the body of an atomic block
-  leaves_block : (L : Scope) (g : Ground) (c : Bool) (st u : State) (Es : List RunEffect) → Grows st.shapes u.shapes → st.made ≤ u.made →
+  leaves_block : (L : Scope) (g : Setting) (c : Bool) (st u : State) (Es : List RunEffect) → Grows st.shapes u.shapes → st.made ≤ u.made →
       u.entries ≡ Es ∷ st.entries →
       (h : State) (r : Result) → Left P b (in_atomic_block L) g c u h r →
       InOrder P b (Left P b L g true st) h (next_of (λ v k. Act Exit (λ c. gives none k)) r)
@@ -255,30 +255,30 @@ module _ (P : PlainProgram) (wt : WellTyped P) (b : Bounds) (dp : Option Deeper)
   leaves_block L g c st u Es grown made e h (Returns v) y = absurd y.1
 
   -- where a statement goes on
-  followed : (L : Scope) (g : Ground) (c d : Bool) (st : State) (j : Value → Frame → Prog) →
+  followed : (L : Scope) (g : Setting) (c d : Bool) (st : State) (j : Value → Frame → Prog) →
       ((h : State) (f : Frame) (v : Value) → c ≡ true → Since st h → FrameFits P b.path h g L f → InOrder P b (Left P b L g d st) h (j v f)) →
       (h : State) (r : Result) → Left P b L g c st h r → InOrder P b (Left P b L g d st) h (next_of j r)
   followed L g c d st j k h (Goes_on v f) y = k h f v y.0 y.1 y.2
   followed L g c d st j k h (Returns v) y = order_ret P b (Left P b L g d st) h (Returns v) y
 
   -- behind a declaration
-  abbrev Declared : Ground → PlainType → ℕ → State → Frame → State → Result → Type 0
+  abbrev Declared : Setting → PlainType → ℕ → State → Frame → State → Result → Type 0
   Declared g t x st f h (Goes_on u c) = (v : Value) × Since st h × FitsIn P h.shapes (env_of g) t v × (c ≡ with_value f x v)
   Declared g t x st f h (Returns v) = ⊥
 
-  declared : (g : Ground) (t : PlainType) (x : ℕ) (st : State) (f : Frame) (R : State → Result → Type 0) (j : Value → Frame → Prog) →
+  declared : (g : Setting) (t : PlainType) (x : ℕ) (st : State) (f : Frame) (R : State → Result → Type 0) (j : Value → Frame → Prog) →
       ((h : State) (v : Value) → Since st h → FitsIn P h.shapes (env_of g) t v → InOrder P b R h (j none (with_value f x v))) →
       (h : State) (r : Result) → Declared g t x st f h r → InOrder P b R h (next_of (λ u c. j none c) r)
   declared g t x st f R j k h (Goes_on u c) y = subst (λ z. InOrder P b R h (j none z)) (sym y.3) (k h y.0 y.1 y.2)
   declared g t x st f R j k h (Returns v) y = absurd y
 
   -- behind the block of a declared local
-  return_leave : (L : Scope) → GoodScope L → (g : Ground) (x : ℕ) (k : ℤ) → L.local x ≡ None → (S : Shapes) (o : Option PlainType) → L.result ≡ o →
+  return_leave : (L : Scope) → GoodScope L → (g : Setting) (x : ℕ) (k : ℤ) → L.local x ≡ None → (S : Shapes) (o : Option PlainType) → L.result ≡ o →
       (v : Value) → ReturnFits P S (with_number x k g) o v → ReturnFits P S g o v
   return_leave L good g x k n S None e v f = f
-  return_leave L good g x k n S (Some t) e v f = fits_alike P S L (with_number x k g) g (ground_back (number_alike L g x k n)) t (good.result t e) v f
+  return_leave L good g x k n S (Some t) e v f = fits_alike P S L (with_number x k g) g (setting_back (number_alike L g x k n)) t (good.result t e) v f
 
-  left_leave : (L : Scope) → GoodScope L → (g : Ground) (x : ℕ) (l : ScopeLocal) (k : ℤ) → L.local x ≡ None →
+  left_leave : (L : Scope) → GoodScope L → (g : Setting) (x : ℕ) (l : ScopeLocal) (k : ℤ) → L.local x ≡ None →
       (c : Bool) (st h u : State) (r : Result) → Since st h → Left P b (with_local x l L) (with_number x k g) c h u r → Left P b L g c st u r
   left_leave L good g x l k n c st h u (Goes_on v f) s y = (y.0, since_since s y.1, frame_leave P b.path u g L good f x l k n y.2)
   left_leave L good g x l k n c st h u (Returns v) s y = (since_since s y.0, return_leave L good g x k n u.shapes L.result refl v y.1)
@@ -287,7 +287,7 @@ module _ (P : PlainProgram) (wt : WellTyped P) (b : Bounds) (dp : Option Deeper)
     unfolding InOrder
 
     stmt_order : {L : Scope} {s : TypedStmt} {E : List EffectOwn} → Passes P L s E → IsSequential s → GoodScope L →
-        (g : Ground) (st : State) (f : Frame) → FrameFits P b.path st g L f → Within b st.entries g E →
+        (g : Setting) (st : State) (f : Frame) → FrameFits P b.path st g L f → Within b st.entries g E →
         InOrder P b (Left P b L g (completes s) st) st (of_stmt (named_by b.path) P dp s f)
     stmt_order {L} (store {x = x} {t = t} lx h sub) q good g st f ff w =
         behind L good g h _ _ st f ff w
@@ -381,7 +381,7 @@ module _ (P : PlainProgram) (wt : WellTyped P) (b : Bounds) (dp : Option Deeper)
 
     -- a statement that is a block of its own
     single_order : {L : Scope} {s : TypedStmt} {E : List EffectOwn} → AllPass P L (more_stmts s no_stmts) E → IsSequential s → GoodScope L →
-        (g : Ground) (st : State) (f : Frame) → FrameFits P b.path st g L f → Within b st.entries g E →
+        (g : Setting) (st : State) (f : Frame) → FrameFits P b.path st g L f → Within b st.entries g E →
         InOrder P b (Left P b L g (completes s) st) st (of_stmt (named_by b.path) P dp s f)
     single_order (then' {E = E} {F = F} p c rest) q good g st f ff w = stmt_order p q good g st f ff (within_left b st.entries g E F w)
     single_order {L} (declare {x = x} {t = t} {E = E} {F = F} free gt h sub rest) q good g st f ff w =
@@ -390,7 +390,7 @@ module _ (P : PlainProgram) (wt : WellTyped P) (b : Bounds) (dp : Option Deeper)
     single_order (declare_regions fr rest) q good g st f ff w = absurd q
 
     pub stmts_order : {L : Scope} {ss : TypedStmts} {E : List EffectOwn} → AllPass P L ss E → AreSequential ss → GoodScope L →
-        (g : Ground) (st : State) (f : Frame) → FrameFits P b.path st g L f → Within b st.entries g E →
+        (g : Setting) (st : State) (f : Frame) → FrameFits P b.path st g L f → Within b st.entries g E →
         InOrder P b (Left P b L g (all_complete ss) st) st (of_stmts (named_by b.path) P dp ss f)
     stmts_order no_more q good g st f ff w = (refl, since_now st, ff)
     stmts_order {L} (then' {s = s} {ss = ss} {E = E} {F = F} p c rest) q good g st f ff w =
@@ -415,7 +415,7 @@ module _ (P : PlainProgram) (wt : WellTyped P) (b : Bounds) (dp : Option Deeper)
         (λ h1 v s2 fv ix. order_ret P b (Declared g t x st f) h1 (Goes_on none (with_value f x v)) (v, s2, sub_fits L good g h sub ff h1.shapes v fv, refl)))
     stmts_order (declare_regions fr rest) q good g st f ff w = absurd q.0
 
-left_leaves : (P : PlainProgram) (b : Bounds) (L : Scope) (g : Ground) (ss : TypedStmts) (st h : State) (r : Result) →
+left_leaves : (P : PlainProgram) (b : Bounds) (L : Scope) (g : Setting) (ss : TypedStmts) (st h : State) (r : Result) →
     Left P b L g (all_complete ss) st h r → Leaves P b L g ss st h r
 left_leaves P b L g ss st h (Goes_on v f) y = y
 left_leaves P b L g ss st h (Returns v) y = y

@@ -28,7 +28,7 @@ use Rattle.dpj_meaning.specs.Counts.{number, slot_value, part_place}
 use Rattle.dpj_meaning.specs.Expressions.{unless_null, read_cell, part_element, of_expr, of_exprs}
 use Rattle.dpj_runs.specs.Objects.{Name, Value, Int, Boolean, Null, Object}
 use Rattle.dpj_steps.specs.Steps.{named_by}
-use Rattle.dpj_sound.specs.Grounds.{Ground, env_of, class_env, under}
+use Rattle.dpj_sound.specs.Settings.{Setting, env_of, class_env, under}
 use Rattle.dpj_sound.specs.Shapes.{Shapes, elements, Instance, ArrayInstance, FitsIn, of_array}
 use Rattle.dpj_sound.specs.Accesses.{Bounds, Within}
 use Rattle.dpj_sound.specs.Frames.{Frame, State, Since, PartFits, FrameFits}
@@ -53,7 +53,7 @@ type_alone L null h = tt
 type_alone L (class c args) h = paths_alone L args h
 type_alone L (array t a named) h = tt
 
-result_fits : (P : PlainProgram) (S T : Shapes) (g : Ground) (o : BinaryOp) (w : Value) → FitsIn P S (class_env []) (result_of o) w →
+result_fits : (P : PlainProgram) (S T : Shapes) (g : Setting) (o : BinaryOp) (w : Value) → FitsIn P S (class_env []) (result_of o) w →
     FitsIn P T (env_of g) (result_of o) w
 result_fits P S T g op.Add w f = f
 result_fits P S T g op.Subtract w f = f
@@ -92,7 +92,7 @@ module _ (P : PlainProgram) (b : Bounds) where
   at_place at f j v o = elim o as (λ z. Prog) [ None ↦ Traps trap.Index at | Some p ↦ unless_null at v (λ n. j n p) ]
 
   -- a read of an element through a part
-  part_order : (R : State → Result → Type 0) (st : State) (at : Place) (f : Frame) (g : Ground) (k : ℕ) (t : PlainType) (a : Rpl) (i : ℤ) →
+  part_order : (R : State → Result → Type 0) (st : State) (at : Place) (f : Frame) (g : Setting) (k : ℕ) (t : PlainType) (a : Rpl) (i : ℤ) →
       PartFits P st.shapes g f.values k t a →
       Within b st.entries g (uses k (reads a) ∷ []) → ((w : Value) (u : State) → Since st u → FitsIn P u.shapes (env_of g) t w → R u (Goes_on w f)) →
       InOrder P b R st (part_element at k i f (λ n j. read_cell at n j f))
@@ -103,15 +103,15 @@ module _ (P : PlainProgram) (b : Bounds) where
       read p e n v is i' =
           let s = inside_part i (number (slot_value f.values (k + 2))) (int_wrapping_add w32 (number (slot_value f.values (k + 1))) i) p e in
           let cell : Touches P st.shapes n p = record {
-            shape = elements i'.ground i'.element i'.rpl;
+            shape = elements i'.setting i'.element i'.rpl;
             is = i'.shape;
             env = under p
-                (env_of i'.ground);
+                (env_of i'.setting);
             ty = i'.element;
             rpl = i'.rpl;
             cell = of_array;
           } in
-          let region = (put_in (under p (env_of i'.ground)) i'.rpl).elems in
+          let region = (put_in (under p (env_of i'.setting)) i'.rpl).elems in
           order_read P b R st at n p f
           (record {
             cell = cell;
@@ -127,8 +127,8 @@ module _ (P : PlainProgram) (b : Bounds) where
             ));
           })
           (λ y u h fy. next y u h (fits_same P u.shapes (under p (env_of g)) t (env_of g) t (same_inside g p t pf.none_mentioned) y
-          (fits_same P u.shapes (under p (env_of i'.ground)) i'.element (under p (env_of g)) t
-          (same_sym (under p (env_of g)) t (under p (env_of i'.ground)) i'.element (i'.same p)) y fy)))
+          (fits_same P u.shapes (under p (env_of i'.setting)) i'.element (under p (env_of g)) t
+          (same_sym (under p (env_of g)) t (under p (env_of i'.setting)) i'.element (i'.same p)) y fy)))
 
       by_value : (p : ℤ) → part_place k i f.values ≡ Some p → (v : Value) → slot_value f.values k ≡ v →
           FitsIn P st.shapes (env_of g) (array t a false) v → InOrder P b R st (unless_null at v (λ n. read_cell at n p f))
@@ -142,14 +142,14 @@ module _ (P : PlainProgram) (b : Bounds) where
       go (Some p) e = by_value p e (slot_value f.values k) refl pf.array
 
 -- what is to hold behind an expression, wherever it gives a value of its type
-abbrev pub Next : PlainProgram → Scope → Ground → (State → Result → Type 0) → TypedExpr → State → Frame → Type 0
+abbrev pub Next : PlainProgram → Scope → Setting → (State → Result → Type 0) → TypedExpr → State → Frame → Type 0
 Next P L g R e st f = (h : State) (v : Value) → Since st h → FitsIn P h.shapes (env_of g) (type_of e) v → Fits (env_of g) (index_elem L e)
     (At (Literal (number v)) ∷ []) → R h (Goes_on v f)
 
-pub yields : (P : PlainProgram) (L : Scope) (g : Ground) (e : TypedExpr) (st : State) (f : Frame) → Next P L g (Yields P L g e st f) e st f
+pub yields : (P : PlainProgram) (L : Scope) (g : Setting) (e : TypedExpr) (st : State) (f : Frame) → Next P L g (Yields P L g e st f) e st f
 yields P L g e st f h v s fv ix = (s, refl, fv, ix)
 
-module _ (P : PlainProgram) (wt : WellTyped P) (b : Bounds) (dp : Option Deeper) (dd : DeeperInOrder P wt b dp) (L : Scope) (good : GoodScope L) (g : Ground) where
+module _ (P : PlainProgram) (wt : WellTyped P) (b : Bounds) (dp : Option Deeper) (dd : DeeperInOrder P wt b dp) (L : Scope) (good : GoodScope L) (g : Setting) where
   mutual
     pub expr_order : {e : TypedExpr} {E : List EffectOwn} → Has P L e E → (R : State → Result → Type 0) (st : State) (f : Frame) →
         FrameFits P b.path st g L f → Within b st.entries g E →
@@ -178,7 +178,7 @@ module _ (P : PlainProgram) (wt : WellTyped P) (b : Bounds) (dp : Option Deeper)
     expr_order (length_of_array {at = at} {a = a} {t = t} {rpl = rpl} {named = named} h ty) R st f ff w next =
         order_then P b L g a f R _ st _ (expr_order h (Yields P L g a st f) st f ff w (yields P L g a st f))
         (λ h1 v s fv ix. order_unless P b R h1 at (ArrayInstance h1.shapes (env_of g) t rpl) _
-        (λ n i. order_length P b R h1 n f (elements i.ground i.element i.rpl) i.shape (λ k u s2. next u (Int (pos k)) (since_since s s2) tt (pos k, refl)))
+        (λ n i. order_length P b R h1 n f (elements i.setting i.element i.rpl) i.shape (λ k u s2. next u (Int (pos k)) (since_since s s2) tt (pos k, refl)))
         v (subst (λ z. FitsIn P h1.shapes (env_of g) z v) ty fv))
     expr_order (call_method {at = at} {t = t} {e = e} {c = c} {r = r} {n = n} {args = args} {owned = owned} {regions = regions} {m = m} {es = es} {E = E} {F = F} h ty rw mb ab ga fu kn rd ft calm eq) R st f ff w next =
         order_then P b L g e f R _ st _ (expr_order h (Yields P L g e st f) st f ff (within_left b st.entries g E _ w) (yields P L g e st f))

@@ -17,7 +17,7 @@ use Rattle.dpj_base.specs.Types.{PlainType, int, boolean, void, null, class, arr
 use Rattle.dpj_typed.specs.Plain.{PlainProgram}
 use Rattle.dpj_regions.proofs.Reading.{matches_by_what_occurs, known_argument_matches}
 use Rattle.dpj_runs.specs.Objects.{Name, Value, Int, Boolean, Null, Object, Region}
-use Rattle.dpj_sound.specs.Grounds.{env_of, elems_of, behind_own, under}
+use Rattle.dpj_sound.specs.Settings.{env_of, elems_of, behind_own, under}
 use Rattle.dpj_sound.specs.Shapes.{Shapes, Grows, AllMatch, Instance, SameIn, ArrayInstance, IsNullOr, FitsIn}
 use Rattle.dpj_sound.proofs.Closed.{IsClosed, ClosedPath, ClosedType, Agrees, agrees_back, agrees_under, closed_matches}
 
@@ -105,12 +105,12 @@ module _ (P : PlainProgram) (S : Shapes) where
   pub array_onto : (env other : Env) (t u : PlainType) (a b : Rpl) → ((k : ℤ) (r : List Elem) → Matches (under k env) a r → Matches (under k other) b r) →
       ((k : ℤ) → SameIn (under k other) u (under k env) t) → (n : Name) → ArrayInstance S env t a n → ArrayInstance S other u b n
   array_onto env other t u a b h s n i = record {
-    ground = i.ground;
+    setting = i.setting;
     element = i.element;
     rpl = i.rpl;
     shape = i.shape;
     region = λ k. h k _ (i.region k);
-    same = λ k. same_trans (under k other) u (under k env) t (under k (env_of i.ground)) i.element (s k) (i.same k);
+    same = λ k. same_trans (under k other) u (under k env) t (under k (env_of i.setting)) i.element (s k) (i.same k);
   }
 
   pub fits_same : (env : Env) (t : PlainType) (other : Env) (u : PlainType) → SameIn env t other u → (v : Value) → FitsIn P S env t v → FitsIn P S other u v
@@ -136,7 +136,7 @@ fits_grows P S T g env (class c args) v f =
     (λ n i. record { class = i.class; made_with = i.made_with; regions = i.regions; shape = g n _ i.shape; good = i.good; is_one = i.is_one; matches = i.matches }) v f
 fits_grows P S T g env (array t a named) v f =
     null_or (ArrayInstance S env t a) (ArrayInstance T env t a)
-    (λ n i. record { ground = i.ground; element = i.element; rpl = i.rpl; shape = g n _ i.shape; region = i.region; same = i.same }) v f
+    (λ n i. record { setting = i.setting; element = i.element; rpl = i.rpl; shape = g n _ i.shape; region = i.region; same = i.same }) v f
 
 -- names of indices don't matter
 

@@ -10,7 +10,7 @@ use Rattle.dpj_meaning.specs.Core.{Goes_on, Returns, Ret, Traps, Act, Makes, Aga
 use Rattle.dpj_meaning.specs.Counts.{number}
 use Rattle.dpj_runs.specs.Actions.{Own}
 use Rattle.dpj_runs.specs.Objects.{Value, Made}
-use Rattle.dpj_sound.specs.Grounds.{Ground, env_of}
+use Rattle.dpj_sound.specs.Settings.{Setting, env_of}
 use Rattle.dpj_sound.specs.Shapes.{FitsIn}
 use Rattle.dpj_sound.specs.Accesses.{Bounds}
 use Rattle.dpj_sound.specs.Frames.{Frame, State, Since}
@@ -54,7 +54,7 @@ module _ (P : PlainProgram) (b : Bounds) where
   order_ret Q st r q = q
 
   -- behind an expression
-  pub order_then : (L : Scope) (g : Ground) (e : TypedExpr) (f : Frame) (R : State → Result → Type 0) (j : Value → Frame → Prog) (st : State) (p : Prog) →
+  pub order_then : (L : Scope) (g : Setting) (e : TypedExpr) (f : Frame) (R : State → Result → Type 0) (j : Value → Frame → Prog) (st : State) (p : Prog) →
       InOrder P b (Yields P L g e st f) st p →
       ((h : State) (v : Value) → Since st h → FitsIn P h.shapes (env_of g) (type_of e) v →
       Fits (env_of g) (index_elem L e) (At (Literal (number v)) ∷ []) → InOrder P b R h (j v f)) →

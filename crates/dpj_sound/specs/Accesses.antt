@@ -10,7 +10,7 @@ use Rattle.dpj_base.specs.Effects.{is_write}
 use Rattle.dpj_base.specs.Matching.{Env, Matches}
 use Rattle.dpj_typed.specs.Effects.{Own, does, uses}
 use Rattle.dpj_runs.specs.Objects.{Path, Name, Made, Object, Region, Effect}
-use Rattle.dpj_sound.specs.Grounds.{local_code, elems_of, Places, Ground, env_of}
+use Rattle.dpj_sound.specs.Settings.{local_code, elems_of, Places, Setting, env_of}
 
 -- an access of a cell of an object or an array, whether it stands inside an atomic block, and the region of the cell
 pub record Access : Type 0 where
@@ -22,7 +22,7 @@ pub record Access : Type 0 where
 
 -- an effect speaks of it: its path matches the region, a read speaks of no write, and a marked effect of what stands inside a
 -- block alone
-pub record Speaks (g : Ground) (e : PathEffect) (a : Access) : Type 0 where
+pub record Speaks (g : Setting) (e : PathEffect) (a : Access) : Type 0 where
   pub matches : Matches (env_of g) e.rpl a.region
   pub writes : a.write ≡ true → is_write e.access ≡ true
   pub guarded : e.atomic ≡ true → a.guarded ≡ true
@@ -35,12 +35,12 @@ pub record Through (p : Places) (a : Access) : Type 0 where
   pub below_last : int_lt index p.len ≡ true
   pub place : a.index ≡ int_wrapping_add w32 p.first index
 
-abbrev pub Covers : Ground → Own → Access → Type 0
+abbrev pub Covers : Setting → Own → Access → Type 0
 Covers g (does e) a = Speaks g e a
 Covers g (uses k e) a = Speaks g e a × Through (g.part k) a
 
 -- some of these effects does
-abbrev pub LiesIn : Ground → List Own → Access → Type 0
+abbrev pub LiesIn : Setting → List Own → Access → Type 0
 LiesIn g [] a = ⊥
 LiesIn g (o ∷ E) a = Covers g o a ⊎ LiesIn g E a
 
@@ -63,10 +63,10 @@ abbrev pub LiesInEntry : List Effect → Access → Type 0
 LiesInEntry [] a = ⊥
 LiesInEntry (e ∷ E) a = (Matches run_env (as_path e.region) a.region × (a.write ≡ true → is_write e.access ≡ true)) ⊎ LiesInEntry E a
 
--- what a task keeps to: its name, what it may do, in the ground in which it began, and whether it began inside a block
+-- what a task keeps to: its name, what it may do, in the setting in which it began, and whether it began inside a block
 pub record Bounds : Type 0 where
   pub path : Path
-  pub ground : Ground
+  pub setting : Setting
   pub effects : List Own
   pub inside : Bool
 
@@ -84,9 +84,9 @@ InEachEntry p (E ∷ Es) a = (LiesInEntry E a ⊎ InOwnRegion p a.region) × InE
 
 -- the access lies in the task's effects and in those of each block that it stands inside, or in a local region made inside
 pub record Allowed (b : Bounds) (entries : List (List Effect)) (a : Access) : Type 0 where
-  pub effects : LiesIn b.ground b.effects a ⊎ InOwnRegion b.path a.region
+  pub effects : LiesIn b.setting b.effects a ⊎ InOwnRegion b.path a.region
   pub blocks : InEachEntry b.path entries a
 
--- what these effects speak of, in this ground, is allowed, also inside further blocks
-abbrev pub Within : Bounds → List (List Effect) → Ground → List Own → Type 0
+-- what these effects speak of, in this setting, is allowed, also inside further blocks
+abbrev pub Within : Bounds → List (List Effect) → Setting → List Own → Type 0
 Within b entries g E = (a : Access) → (is_guarded b entries ≡ true → a.guarded ≡ true) → LiesIn g E a → Allowed b entries a

@@ -13,7 +13,7 @@ use Rattle.dpj_meaning.specs.Counts.{Brought as BroughtOf, Back, Trap_of_branch}
 use Rattle.dpj_meaning.specs.Statements.{begun}
 use Rattle.dpj_runs.specs.Actions.{Task}
 use Rattle.dpj_runs.specs.Objects.{Name, Value}
-use Rattle.dpj_sound.specs.Grounds.{Ground, env_of}
+use Rattle.dpj_sound.specs.Settings.{Setting, env_of}
 use Rattle.dpj_sound.specs.Shapes.{FitsIn}
 use Rattle.dpj_sound.specs.Accesses.{Access, Bounds, LiesIn, Within}
 use Rattle.dpj_sound.specs.Frames.{State, FrameFits}
@@ -31,11 +31,11 @@ abbrev pub MayMeet : PlainProgram → Forking → Access → Access → Type 0
 MayMeet P Deterministic a c = ⊥
 MayMeet P Nondeterministic a c = (a.guarded ≡ true) × (c.guarded ≡ true) × (ends_atomic P.region_names a.region ≡ true)
 
-abbrev pub Quiet : PlainProgram → Forking → Ground → List Own → Ground → List Own → Type 0
+abbrev pub Quiet : PlainProgram → Forking → Setting → List Own → Setting → List Own → Type 0
 Quiet P forking g E k F = (a c : Access) → Meet a c → LiesIn g E a → LiesIn k F c → MayMeet P forking a c
 
 -- the branch of this number
-pub record BranchFits (P : PlainProgram) (b : Bounds) (st : State) (i : ℕ) (t : Task) (M : Scope) (k : Ground) (F : List Own) : Type 0 where
+pub record BranchFits (P : PlainProgram) (b : Bounds) (st : State) (i : ℕ) (t : Task) (M : Scope) (k : Setting) (F : List Own) : Type 0 where
   pub is_branch : t.work.is_root ≡ false
   pub passes : AllPass P M t.work.stmts F
   pub scope : GoodScope M
@@ -45,10 +45,10 @@ pub record BranchFits (P : PlainProgram) (b : Bounds) (st : State) (i : ℕ) (t 
 
 pub record Forks (P : PlainProgram) (b : Bounds) (st : State) (forking : Forking) (ts : List Task) : Type 0 where
   pub scope : ℕ → Scope
-  pub ground : ℕ → Ground
+  pub setting : ℕ → Setting
   pub effects : ℕ → List Own
-  pub branch : (i : ℕ) (t : Task) → slice_get ts i ≡ Some t → BranchFits P b st i t (scope i) (ground i) (effects i)
-  pub apart : (i j : ℕ) → i ≢ j → i < length ts → j < length ts → Quiet P forking (ground i) (effects i) (ground j) (effects j)
+  pub branch : (i : ℕ) (t : Task) → slice_get ts i ≡ Some t → BranchFits P b st i t (scope i) (setting i) (effects i)
+  pub apart : (i j : ℕ) → i ≢ j → i < length ts → j < length ts → Quiet P forking (setting i) (effects i) (setting j) (effects j)
 
 -- a local that a join copies back: one that the branch of this number assigns, and its value fits there
 pub record Returned (P : PlainProgram) (b : Bounds) (st : State) (forking : Forking) (ts : List Task) (forks : Forks P b st forking ts) (h : State) (x : ℕ) (v : Value) : Type 0 where
@@ -58,7 +58,7 @@ pub record Returned (P : PlainProgram) (b : Bounds) (st : State) (forking : Fork
   pub copied : Contains task.work.copies x
   pub ty : PlainType
   pub local : (forks.scope number).local x ≡ Some (variable ty)
-  pub fits : FitsIn P h.shapes (env_of (forks.ground number)) ty v
+  pub fits : FitsIn P h.shapes (env_of (forks.setting number)) ty v
 
 abbrev pub Brings : (P : PlainProgram) (b : Bounds) (st : State) (forking : Forking) (ts : List Task) → Forks P b st forking ts → State →
     BroughtOf Name → Type 0

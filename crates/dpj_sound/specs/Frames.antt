@@ -8,7 +8,7 @@ use Rattle.dpj_typed.specs.Scope.{Local, variable, frozen, constant, part, reser
 use Rattle.dpj_meaning.specs.Actions.{Frame as FrameOf}
 use Rattle.dpj_meaning.specs.Counts.{number, slot_value}
 use Rattle.dpj_runs.specs.Objects.{Path, Name, LocalRegion, Made, Unmade, Value, Effect}
-use Rattle.dpj_sound.specs.Grounds.{Ground, env_of, ArePlain}
+use Rattle.dpj_sound.specs.Settings.{Setting, env_of, ArePlain}
 use Rattle.dpj_sound.specs.Shapes.{Shapes, Grows, FitsIn}
 
 abbrev pub Frame : Type 0
@@ -33,23 +33,23 @@ IsOld p made r (Unmade k) = k ≡ r
 IsOld p made r (Made q c) = ((q ≡ p) × (c < made)) ⊎ ((u : ℕ × ℕ) × (below : Path) × (p ≡ below ++ u ∷ q))
 
 -- a part is of an array of such elements, and its slots say where it stands
-pub record PartFits (P : PlainProgram) (S : Shapes) (g : Ground) (values : List Value) (k : ℕ) (t : PlainType) (a : Rpl) : Type 0 where
+pub record PartFits (P : PlainProgram) (S : Shapes) (g : Setting) (values : List Value) (k : ℕ) (t : PlainType) (a : Rpl) : Type 0 where
   pub no_index : has_index 0 a ≡ false
   pub none_mentioned : mentions_index 0 t ≡ false
   pub array : FitsIn P S (env_of g) (array t a false) (slot_value values k)
   pub len : FitsIn P S (env_of g) int (slot_value values (k + 2))
   pub places : g.part k ≡ record { array = slot_value values k; first = number (slot_value values (k + 1)); len = number (slot_value values (k + 2)) }
 
-abbrev pub LocalFits : PlainProgram → Shapes → Ground → List Value → ℕ → Local → Type 0
+abbrev pub LocalFits : PlainProgram → Shapes → Setting → List Value → ℕ → Local → Type 0
 LocalFits P S g values x (variable t) = FitsIn P S (env_of g) t (slot_value values x)
 LocalFits P S g values x (frozen t) = FitsIn P S (env_of g) t (slot_value values x)
 LocalFits P S g values x (constant t) = FitsIn P S (env_of g) t (slot_value values x)
 LocalFits P S g values x (part t a) = PartFits P S g values x t a
 LocalFits P S g values x reserved = Unit {0}
 
--- the ground is the frame's: its region parameters, the numbers of its index variables, and its local regions in scope; and
+-- the setting is the frame's: its region parameters, the numbers of its index variables, and its local regions in scope; and
 -- each local fits
-pub record FrameFits (P : PlainProgram) (p : Path) (st : State) (g : Ground) (L : Scope) (f : Frame) : Type 0 where
+pub record FrameFits (P : PlainProgram) (p : Path) (st : State) (g : Setting) (L : Scope) (f : Frame) : Type 0 where
   pub regions : f.regions ≡ g.regions
   pub plain : ArePlain g.regions
   pub given : All (Holds (env_of g)) L.given

@@ -22,7 +22,7 @@ use Rattle.dpj_steps.specs.Steps.{named_by, first_name}
 use Rattle.dpj_typed.specs.Table.{body_scope}
 use Rattle.dpj_meaning.specs.Asking.{meaning, does}
 use Rattle.dpj_meaning.specs.Elision.{root_task}
-use Rattle.dpj_sound.specs.Grounds.{Ground, env_of, with_number, class_ground}
+use Rattle.dpj_sound.specs.Settings.{Setting, env_of, with_number, class_setting}
 use Rattle.dpj_sound.specs.Shapes.{FitsIn, object}
 use Rattle.dpj_sound.specs.Accesses.{Bounds, Within}
 use Rattle.dpj_sound.specs.Frames.{Frame, State, Since, FrameFits}
@@ -36,12 +36,12 @@ Deeper = DeeperOf Name LocalRegion
 
 -- behind an expression that began in this state and frame: the same locals, a value of its type, and where it stands as an
 -- index in paths, the number that they have for it
-abbrev pub Yields : PlainProgram → Scope → Ground → TypedExpr → State → Frame → State → Result → Type 0
+abbrev pub Yields : PlainProgram → Scope → Setting → TypedExpr → State → Frame → State → Result → Type 0
 Yields P L g e st f h (Goes_on v c) = Since st h × (c ≡ f) × FitsIn P h.shapes (env_of g) (type_of e) v × Fits (env_of g) (index_elem L e) (At (Literal (number v)) ∷ [])
 Yields P L g e st f h (Returns v) = ⊥
 
 -- behind statements: locals that fit, unless none can complete; or a value of the type that a `return` gives
-abbrev pub Leaves : PlainProgram → Bounds → Scope → Ground → TypedStmts → State → State → Result → Type 0
+abbrev pub Leaves : PlainProgram → Bounds → Scope → Setting → TypedStmts → State → State → Result → Type 0
 Leaves P b L g ss st h (Goes_on v f) = IsTrue (all_complete ss) × Since st h × GoesFitting P b.path g L h (Goes_on v f)
 Leaves P b L g ss st h (Returns v) = Since st h × GoesFitting P b.path g L h (Returns v)
 
@@ -52,7 +52,7 @@ scope_of P wt n m there = body_scope (wt.members n m there).class wt.never_nd n 
 -- bodies are in order one call deeper, from each state in which their locals fit and their effects are allowed
 abbrev pub DeeperInOrder : (P : PlainProgram) → WellTyped P → Bounds → Option Deeper → Type 0
 DeeperInOrder P wt b None = Unit {0}
-DeeperInOrder P wt b (Some deeper) = (n : ℕ) (m : PlainMember) (there : member_at P n ≡ Some m) (g : Ground) (st : State) (f : Frame) →
+DeeperInOrder P wt b (Some deeper) = (n : ℕ) (m : PlainMember) (there : member_at P n ≡ Some m) (g : Setting) (st : State) (f : Frame) →
     FrameFits P b.path st g (scope_of P wt n m there) f → Within b st.entries g (wt.members n m there).effects →
     InOrder P b (Leaves P b (scope_of P wt n m there) g m.body st) st (deeper m.body f)
 
@@ -60,7 +60,7 @@ DeeperInOrder P wt b (Some deeper) = (n : ℕ) (m : PlainMember) (there : member
 -- gives a value of its type; where the bodies that it enters are in order
 abbrev pub ExpressionsInOrder : Type 0
 ExpressionsInOrder = (P : PlainProgram) (wt : WellTyped P) (b : Bounds) (dp : Option Deeper) → DeeperInOrder P wt b dp →
-    (L : Scope) (e : TypedExpr) (E : List Own) → Has P L e E → GoodScope L → (g : Ground) (st : State) (f : Frame) → FrameFits P b.path st g L f →
+    (L : Scope) (e : TypedExpr) (E : List Own) → Has P L e E → GoodScope L → (g : Setting) (st : State) (f : Frame) → FrameFits P b.path st g L f →
     Within b st.entries g E →
     InOrder P b (Yields P L g e st f) st (of_expr (named_by b.path) P dp e f)
 
@@ -68,13 +68,13 @@ ExpressionsInOrder = (P : PlainProgram) (wt : WellTyped P) (b : Bounds) (dp : Op
 -- accesses that their effects speak of, and leave locals that fit, or give a value of the type that a `return` gives
 abbrev pub SequentialInOrder : Type 0
 SequentialInOrder = (P : PlainProgram) (wt : WellTyped P) (b : Bounds) (dp : Option Deeper) → DeeperInOrder P wt b dp →
-    (L : Scope) (ss : TypedStmts) (E : List Own) → AllPass P L ss E → AreSequential ss → GoodScope L → (g : Ground) (st : State) (f : Frame) →
+    (L : Scope) (ss : TypedStmts) (E : List Own) → AllPass P L ss E → AreSequential ss → GoodScope L → (g : Setting) (st : State) (f : Frame) →
     FrameFits P b.path st g L f → Within b st.entries g E → InOrder P b (Leaves P b L g ss st) st (of_stmts (named_by b.path) P dp ss f)
 
 -- where no body has a parallel construct or a local region, a task is in order to its end, with all calls that it makes
 abbrev pub SequentialTasks : Type 0
 SequentialTasks = (P : PlainProgram) (wt : WellTyped P) → ((n : ℕ) (m : PlainMember) → member_at P n ≡ Some m → AreSequential m.body) → (b : Bounds) →
-    (L : Scope) (ss : TypedStmts) (E : List Own) → AllPass P L ss E → AreSequential ss → GoodScope L → (left : ℕ) (g : Ground) (st : State) (f : Frame) →
+    (L : Scope) (ss : TypedStmts) (E : List Own) → AllPass P L ss E → AreSequential ss → GoodScope L → (left : ℕ) (g : Setting) (st : State) (f : Frame) →
     FrameFits P b.path st g L f → Within b st.entries g E → InOrder P b (Leaves P b L g ss st) st (meaning (named_by b.path) P left ss f)
 
 -- at the start the first object stands alone
@@ -86,22 +86,22 @@ abbrev pub main_scope : (P : PlainProgram) → WellTyped P → Scope
 main_scope P wt = scope_of P wt P.main_member wt.main.member wt.main.member_is
 
 abbrev pub main_bounds : (P : PlainProgram) → WellTyped P → Bounds
-main_bounds P wt = record { path = []; ground = class_ground []; effects = (wt.members P.main_member wt.main.member wt.main.member_is).effects; inside = false }
+main_bounds P wt = record { path = []; setting = class_setting []; effects = (wt.members P.main_member wt.main.member wt.main.member_is).effects; inside = false }
 
 -- the root of such a program is in order from the start, on each argument, where its class and `main` have no constraints
 abbrev pub RootInOrder : Type 0
 RootInOrder = (P : PlainProgram) (wt : WellTyped P) → ((n : ℕ) (m : PlainMember) → member_at P n ≡ Some m → AreSequential m.body) →
     wt.main.class.given ≡ [] → wt.main.member.given ≡ [] → (arg : ℤ) →
-    InOrder P (main_bounds P wt) (Leaves P (main_bounds P wt) (main_scope P wt) (class_ground []) wt.main.member.body (start P)) (start P)
+    InOrder P (main_bounds P wt) (Leaves P (main_bounds P wt) (main_scope P wt) (class_setting []) wt.main.member.body (start P)) (start P)
     (does (named_by []) P (root_task (named_by []) P first_name arg))
 
 -- effects that don't clash speak of no two accesses that meet
 abbrev pub BranchesQuiet : Type 0
-BranchesQuiet = (P : PlainProgram) (given : List Constraint) (g : Ground) → IsEnv given (env_of g) → (E F : List Own) →
+BranchesQuiet = (P : PlainProgram) (given : List Constraint) (g : Setting) → IsEnv given (env_of g) → (E F : List Own) →
     lists_clash given None (as_effects E) (as_effects F) ≡ false → Quiet P Deterministic g E g F
 
 -- nor do effects of two iterations of a loop, where none clashes with its copy
 abbrev pub IterationsQuiet : Type 0
-IterationsQuiet = (P : PlainProgram) (given : List Constraint) (L : Scope) (g : Ground) (x : ℕ) (j k : ℤ) → IsEnv given (env_of (with_number x j g)) → All HasNoCopies given →
+IterationsQuiet = (P : PlainProgram) (given : List Constraint) (L : Scope) (g : Setting) (x : ℕ) (j k : ℤ) → IsEnv given (env_of (with_number x j g)) → All HasNoCopies given →
     (E : List Own) → All (λ o. PathInScope L 0 (effect_of o).rpl) E → iterations_clash given None x (as_effects E) ≡ false → j ≢ k →
     Quiet P Deterministic (with_number x j g) E (with_number x k g) E

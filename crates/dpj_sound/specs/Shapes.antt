@@ -12,13 +12,13 @@ use Rattle.dpj_meaning.specs.Expressions.{first_of, class_fields}
 use Rattle.dpj_meaning.specs.Regions.{handed_up}
 use Rattle.dpj_runs.specs.Objects.{Name, Value, Int, Boolean, Null, Object, Region, Thing, An_object, An_array}
 use Rattle.dpj_steps.specs.Steps.{named_by}
-use Rattle.dpj_sound.specs.Grounds.{Ground, env_of, class_env, elems_of, ArePlain, under, element_region}
+use Rattle.dpj_sound.specs.Settings.{Setting, env_of, class_env, elems_of, ArePlain, under, element_region}
 
 -- an object of a class with its region arguments; or an array of such elements in such a region, as they were written where
 -- it was made
 pub data Shape : Type 0 where
   object : (class : ℕ) (regions : List Region) → Shape
-  elements : (ground : Ground) (element : PlainType) (rpl : Rpl) → Shape
+  elements : (setting : Setting) (element : PlainType) (rpl : Rpl) → Shape
 
 -- what has been made
 abbrev pub Shapes : Type 0
@@ -72,12 +72,12 @@ SameIn env t env' u = ⊥
 
 -- an array whose elements each lie in the path at their index, and have the type there
 pub record ArrayInstance (S : Shapes) (env : Env) (t : PlainType) (a : Rpl) (n : Name) : Type 0 where
-  pub ground : Ground
+  pub setting : Setting
   pub element : PlainType
   pub rpl : Rpl
-  pub shape : S n ≡ Some (elements ground element rpl)
-  pub region : (k : ℤ) → Matches (under k env) a (put_in (under k (env_of ground)) rpl).elems
-  pub same : (k : ℤ) → SameIn (under k env) t (under k (env_of ground)) element
+  pub shape : S n ≡ Some (elements setting element rpl)
+  pub region : (k : ℤ) → Matches (under k env) a (put_in (under k (env_of setting)) rpl).elems
+  pub same : (k : ℤ) → SameIn (under k env) t (under k (env_of setting)) element
 
 abbrev pub IsInt : Value → Type 0
 IsInt (Int k) = Unit {0}
@@ -110,7 +110,7 @@ FitsIn P S env (array t a named) v = IsNullOr (ArrayInstance S env t a) v
 -- the cell at an index of what has this shape, with its type and its region path in an environment
 pub data CellAt (P : PlainProgram) : Shape → ℤ → Env → PlainType → Rpl → Type 0 where
   of_object : {c k : ℕ} {rs : List Region} {f : PlainField} → field_at P c k ≡ Some f → CellAt P (object c rs) (pos k) (class_env rs) f.ty f.region
-  of_array : {g : Ground} {t : PlainType} {a : Rpl} {i : ℤ} → CellAt P (elements g t a) i (under i (env_of g)) t a
+  of_array : {g : Setting} {t : PlainType} {a : Rpl} {i : ℤ} → CellAt P (elements g t a) i (under i (env_of g)) t a
 
 -- what is made has this shape
 abbrev pub Describes : PlainProgram → Shape → Thing → Type 0

@@ -10,7 +10,7 @@ use Rattle.dpj_meaning.specs.Core.{Result as ResultOf, Goes_on, Returns, Prog as
 use Rattle.dpj_meaning.specs.Counts.{Brought as BroughtOf}
 use Rattle.dpj_runs.specs.Actions.{Own, Rest, Read, Write, Look, New, Print, Enter, Exit, Answer, Went, Got, Out, Class, Length, Named, Joined, Fell}
 use Rattle.dpj_runs.specs.Objects.{Path, Name, LocalRegion, Made, Value, Effect}
-use Rattle.dpj_sound.specs.Grounds.{Ground, env_of}
+use Rattle.dpj_sound.specs.Settings.{Setting, env_of}
 use Rattle.dpj_sound.specs.Shapes.{Shape, object, elements, Shapes, Grows, FitsIn, CellAt, Describes}
 use Rattle.dpj_sound.specs.Accesses.{Access, Bounds, is_guarded, Allowed}
 use Rattle.dpj_sound.specs.Frames.{Frame, State, Since, FrameFits}
@@ -122,17 +122,17 @@ pub record AfterMaking (s t : State) : Type 0 where
   pub entries : t.entries ≡ s.entries
 
 -- a value that fits the type of what a `return` gives
-abbrev pub ReturnFits : PlainProgram → Shapes → Ground → Option PlainType → Value → Type 0
+abbrev pub ReturnFits : PlainProgram → Shapes → Setting → Option PlainType → Value → Type 0
 ReturnFits P S g None v = ⊥
 ReturnFits P S g (Some t) v = FitsIn P S (env_of g) t v
 
 -- locals that fit, or a value of the type that a `return` gives
-abbrev pub GoesFitting : PlainProgram → Path → Ground → Scope → State → Result → Type 0
+abbrev pub GoesFitting : PlainProgram → Path → Setting → Scope → State → Result → Type 0
 GoesFitting P p g L h (Goes_on v f) = FrameFits P p h g L f
 GoesFitting P p g L h (Returns v) = ReturnFits P h.shapes g L.result v
 
 -- what holds behind a part of a loop that began in this state
-abbrev pub Rounds : PlainProgram → Path → State → Ground → Scope → State → Result → Type 0
+abbrev pub Rounds : PlainProgram → Path → State → Setting → Scope → State → Result → Type 0
 Rounds P p st g L h r = Since st h × GoesFitting P p g L h r
 
 -- each action is in order, whatever fits as its answer; a loop keeps locals that fit; branches are in order at their fork; and
@@ -143,7 +143,7 @@ InOrder P b Q st (Traps trap place) = Unit {0}
 InOrder P b Q st (Act o k) = (m : Moves P b st o) × ((x : Answer) (h : State) → After o st h → Answers P b st o m x h → InOrder P b Q h (k x))
 InOrder P b Q st (Makes k) = (h : State) → AfterMaking st h → InOrder P b Q h (k (Made b.path st.made))
 InOrder P b Q st (Again test body f k) =
-    (L : Scope) × (g : Ground) × FrameFits P b.path st g L f
+    (L : Scope) × (g : Setting) × FrameFits P b.path st g L f
     × ((h : State) (e : Frame) → Since st h → FrameFits P b.path h g L e → InOrder P b (Rounds P b.path h g L) h (test e))
     × ((h : State) (e : Frame) → Since st h → FrameFits P b.path h g L e → InOrder P b (Rounds P b.path h g L) h (body e))
     × ((h : State) (r : Result) → Rounds P b.path st g L h r → InOrder P b Q h (k r))

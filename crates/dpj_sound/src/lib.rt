@@ -6,7 +6,7 @@
 //! don't clash speak of no two accesses that meet (`law_quiet`). Left aside are the parallel constructs themselves, local regions,
 //! and the step from one task to whole runs.
 //!
-//! To read in this order: `Grounds` (regions of a run as region paths, and what paths mean in a run), `Shapes` (which values have
+//! To read in this order: `Settings` (regions of a run as region paths, and what paths mean in a run), `Shapes` (which values have
 //! a type), `Accesses` (which accesses effects speak of), `Scopes` and `Frames` (which locals fit), `Branches` and `Work` (when the work
 //! of a task is in order), `Sequential` (what is left aside), `Laws`.
 #![tactic(auto)]

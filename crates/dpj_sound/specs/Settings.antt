@@ -44,7 +44,7 @@ pub record Places : Type 0 where
   pub len : ℤ
 
 -- what stands for the region parameters, the index variables, the local regions and the parts of a body
-pub record Ground : Type 0 where
+pub record Setting : Type 0 where
   pub regions : List Region
   pub index : ℕ → ℤ
   pub made : ℕ → LocalRegion
@@ -58,19 +58,19 @@ region_in rs p = elems_of (slice_index_or rs p [])
 abbrev pub ArePlain : List Region → Type 0
 ArePlain rs = (p : ℕ) → IsTrue (all_plain (region_in rs p))
 
-abbrev pub env_of : Ground → Env
+abbrev pub env_of : Setting → Env
 env_of g = record { region = region_in g.regions; index = g.index; renamed = λ x. another (g.index x); own = λ d. pos 0; made = local_in g.made }
 
--- the ground in which an index variable has this number
-abbrev pub with_number : ℕ → ℤ → Ground → Ground
+-- the setting in which an index variable has this number
+abbrev pub with_number : ℕ → ℤ → Setting → Setting
 with_number x k g = record g { index = λ y. cond (x == y) k (g.index y) }
 
 -- for what stands in a class there are region parameters alone
-abbrev pub class_ground : List Region → Ground
-class_ground rs = record { regions = rs; index = λ x. pos 0; made = Unmade; part = λ k. record { array = Null; first = pos 0; len = pos 0 } }
+abbrev pub class_setting : List Region → Setting
+class_setting rs = record { regions = rs; index = λ x. pos 0; made = Unmade; part = λ k. record { array = Null; first = pos 0; len = pos 0 } }
 
 abbrev pub class_env : List Region → Env
-class_env rs = env_of (class_ground rs)
+class_env rs = env_of (class_setting rs)
 
 -- inside an array type, at an index of the array
 abbrev pub behind_own : ℤ → (ℕ → ℤ) → ℕ → ℤ
