@@ -1,0 +1,156 @@
+ghost use Rattle.std.specs.Prelude.{◌≡◌};
+
+use crate::outcome::{came_to, limited};
+use crate::slot::Slot;
+use crate::slots::Slots;
+use crate::wants::wants_of;
+use dpj_base::{Bytes, Ending as Came, Items, Limits, NoMemory, Outcome, Plain};
+use dpj_code::Code;
+use dpj_legs::{Action, Answer, Start};
+use dpj_world::{Event, Stop, World};
+use std::alloc::Global;
+
+/// What a machine changes.
+#[derive(Drop)]
+pub struct Run {
+    pub world: World,
+    pub slots: Slots,
+    /// The tasks of all events, in their order.
+    pub schedule: Items<u32>,
+    pub outcome: Option<Outcome>,
+}
+
+/// What a run is of.
+#[derive(Clone, Copy)]
+pub struct Terms<'a> {
+    pub alloc: Global,
+    pub code: &'a Code,
+    pub limits: Limits,
+}
+
+impl Run {
+    /// Lets a task make its next event.
+    pub fn step(&mut self, terms: Terms<'_>, task: u32) -> Result<(), NoMemory> {
+        let action = self.slots.advance(terms.alloc, terms.code, task)?;
+        let Some(slot) = self.slots.get(task) else {
+            unreachable!()
+        };
+        let turns = slot.task.turns;
+        match action {
+            Action::Begin { branch } => {
+                let start = slot.task.branch_start(terms.alloc, terms.code, branch)?;
+                self.begin(terms, event(task, turns, action), start)
+            }
+            Action::End(_) => self.end(terms, event(task, turns, action)),
+            Action::Rest => {
+                let wants = wants_of(terms.alloc, terms.code, &slot.task)?;
+                self.go_on(
+                    terms,
+                    Event {
+                        task,
+                        turns,
+                        action,
+                        wants,
+                    },
+                )
+            }
+            _ => self.go_on(terms, event(task, turns, action)),
+        }
+    }
+
+    /// Notes an event in the schedule and makes it. It answers None where a limit is met, which finishes the run.
+    fn record(&mut self, terms: Terms<'_>, event: Event) -> Result<Option<Answer>, NoMemory> {
+        self.schedule.push(event.task)?;
+        match self.world.perform(terms.alloc, terms.code, event) {
+            Ok(answer) => Ok(Some(answer)),
+            Err(Stop::Limited) => {
+                self.outcome = Some(limited(terms.alloc, terms.limits));
+                Ok(None)
+            }
+            Err(Stop::NoMemory) => {
+                let _ = self.schedule.pop();
+                Err(NoMemory)
+            }
+        }
+    }
+
+    /// An event after which its task goes on.
+    fn go_on(&mut self, terms: Terms<'_>, event: Event) -> Result<(), NoMemory> {
+        let task = event.task;
+        if let Some(answer) = self.record(terms, event)? {
+            self.slots.settle(task, answer);
+        }
+        Ok(())
+    }
+
+    /// The begin of a branch, which starts so.
+    fn begin(&mut self, terms: Terms<'_>, event: Event, start: Start) -> Result<(), NoMemory> {
+        let number = self.world.tree.begun();
+        let task = event.task;
+        self.slots
+            .insert(number, Slot::start(terms.alloc, number, start))?;
+        match self.record(terms, event) {
+            Ok(Some(answer)) => {
+                self.slots.settle(task, answer);
+                Ok(())
+            }
+            Ok(None) => {
+                self.slots.remove(number);
+                Ok(())
+            }
+            Err(stop) => {
+                self.slots.remove(number);
+                Err(stop)
+            }
+        }
+    }
+
+    /// The end of a task, and of the run where it is the root.
+    fn end(&mut self, terms: Terms<'_>, event: Event) -> Result<(), NoMemory> {
+        let task = event.task;
+        let came = match &event.action {
+            Action::End(ending) => came_to(ending),
+            _ => unreachable!(),
+        };
+        // only the root's output is that of the run
+        let out = if task == 0 {
+            self.output(terms.alloc)?
+        } else {
+            Bytes::new(terms.alloc)
+        };
+        if self.record(terms, event)?.is_some() {
+            self.slots.remove(task);
+            if task == 0 {
+                self.finish(came, out);
+            }
+        }
+        Ok(())
+    }
+
+    /// What the root has printed.
+    fn output(&self, alloc: Global) -> Result<Bytes, NoMemory> {
+        match self.world.tree.get(0) {
+            Some(root) => root.out.copy(alloc),
+            None => Ok(Bytes::new(alloc)),
+        }
+    }
+
+    fn finish(&mut self, came: Came, out: Bytes) {
+        self.outcome = Some(Outcome {
+            ending: came,
+            out,
+            steps: self.world.steps,
+            cells: self.world.heap.cells(),
+        });
+    }
+}
+
+/// An event of a task that doesn't rest.
+fn event(task: u32, turns: u32, action: Action) -> Event {
+    Event {
+        task,
+        turns,
+        action,
+        wants: None,
+    }
+}
