@@ -7,6 +7,7 @@ use Rattle.dpj_code.specs.Plain.{PlainCode, plain_code}
 use Rattle.dpj_legs.specs.Branches.{starts_at}
 use Rattle.dpj_legs.specs.declared.action.Action.{Action}
 use Rattle.dpj_legs.specs.declared.action.Action.TheVariants as action
+use Rattle.dpj_world.specs.Ready.{IsReady}
 use Rattle.dpj_world.specs.World.{Fits}
 use Rattle.dpj_world.specs.declared.event.Event.{Event}
 use Rattle.dpj_machine.specs.Running.{Running, Goes}
@@ -17,8 +18,9 @@ abbrev pub HasStart : PlainCode → State ℕ (ℕ × ℕ) → Action → Type 0
 HasStart C z (action.Begin b) = b < length (starts_at C z)
 HasStart C z a = Unit {0}
 
--- at this moment each task goes on, and what a ready task does next can be done
+-- at this moment the ready tasks are there, each task goes on, and what a ready task does next can be done
 pub record GoesOn (C : PlainCode) (m : Moment) : Type 0 where
+  pub live : (k : ℕ) → IsReady m.world k → (t : Running) × (m.tasks k ≡ Some t)
   pub legs : (k : ℕ) (t : Running) → m.tasks k ≡ Some t → Goes C k t
   pub fits : (k : ℕ) (e : Event) → NextOf C m k e → Fits m.world e
   pub starts : (k : ℕ) (e : Event) (x : NextOf C m k e) → HasStart C x.stands.state e.action

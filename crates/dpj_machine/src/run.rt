@@ -1,4 +1,8 @@
-ghost use Rattle.std.specs.Prelude.{◌≡◌};
+ghost use Rattle.std.specs.Prelude.{◌≡◌, ◌∷◌, ◌++◌, [], All, OnOk, OnErr};
+ghost use Rattle.dpj_code.specs.Plain.{plain_code};
+ghost use Rattle.dpj_legs.specs.Halts.{IsFew};
+ghost use Rattle.dpj_machine.specs.Keeping.{Keeps, CanStep};
+ghost use Rattle.dpj_machine.specs.Replay.{Moment, Moves};
 
 use crate::outcome::{came_to, limited};
 use crate::slot::Slot;
@@ -20,32 +24,39 @@ pub struct Run {
     pub outcome: Option<Outcome>,
 }
 
-/// What a run is of.
-#[derive(Clone, Copy)]
-pub struct Terms<'a> {
-    pub alloc: Global,
-    pub code: &'a Code,
-    pub limits: Limits,
-}
-
 impl Run {
-    /// Lets a task make its next event.
-    pub fn step(&mut self, terms: Terms<'_>, task: u32) -> Result<(), NoMemory> {
-        let action = self.slots.advance(terms.alloc, terms.code, task)?;
+    /// Lets a ready task make its next event. After want of memory it may be further on its way to it.
+    pub fn step(
+        &mut self,
+        alloc: Global,
+        code: &Code,
+        limits: Limits,
+        task: u32,
+    ) -> Result<(), NoMemory>
+        requires few { All IsFew code.now.sites }
+        requires can { (m : Moment) × CanStep code.now self.old m task }
+        ensures moves { (m : Moment) → CanStep code.now self.old m task → OnOk result ((n : Moment) × Moves code.now limits m task n × Keeps (plain_code code.now) self.new n) }
+        ensures noted { OnOk result (self.new.schedule ≡ self.old.schedule ++ task ∷ []) }
+        ensures kept { (m : Moment) → CanStep code.now self.old m task → OnErr result (Keeps (plain_code code.now) self.new m) }
+        ensures err { OnErr result (self.new.schedule ≡ self.old.schedule) }
+    {
+        let action = self.slots.advance(alloc, code, task)?;
         let Some(slot) = self.slots.get(task) else {
             unreachable!()
         };
         let turns = slot.task.turns;
         match action {
             Action::Begin { branch } => {
-                let start = slot.task.branch_start(terms.alloc, terms.code, branch)?;
-                self.begin(terms, event(task, turns, action), start)
+                let start = slot.task.branch_start(alloc, code, branch)?;
+                self.begin(alloc, code, limits, event(task, turns, action), start)
             }
-            Action::End(_) => self.end(terms, event(task, turns, action)),
+            Action::End(_) => self.end(alloc, code, limits, event(task, turns, action)),
             Action::Rest => {
-                let wants = wants_of(terms.alloc, terms.code, &slot.task)?;
+                let wants = wants_of(alloc, code, &slot.task)?;
                 self.go_on(
-                    terms,
+                    alloc,
+                    code,
+                    limits,
                     Event {
                         task,
                         turns,
@@ -54,17 +65,17 @@ impl Run {
                     },
                 )
             }
-            _ => self.go_on(terms, event(task, turns, action)),
+            _ => self.go_on(alloc, code, limits, event(task, turns, action)),
         }
     }
 
     /// Notes an event in the schedule and makes it. It answers None where a limit is met, which finishes the run.
-    fn record(&mut self, terms: Terms<'_>, event: Event) -> Result<Option<Answer>, NoMemory> {
+    fn record(&mut self, alloc: Global, code: &Code, limits: Limits, event: Event) -> Result<Option<Answer>, NoMemory> {
         self.schedule.push(event.task)?;
-        match self.world.perform(terms.alloc, terms.code, event) {
+        match self.world.perform(alloc, code, event) {
             Ok(answer) => Ok(Some(answer)),
             Err(Stop::Limited) => {
-                self.outcome = Some(limited(terms.alloc, terms.limits));
+                self.outcome = Some(limited(alloc, limits));
                 Ok(None)
             }
             Err(Stop::NoMemory) => {
@@ -75,21 +86,21 @@ impl Run {
     }
 
     /// An event after which its task goes on.
-    fn go_on(&mut self, terms: Terms<'_>, event: Event) -> Result<(), NoMemory> {
+    fn go_on(&mut self, alloc: Global, code: &Code, limits: Limits, event: Event) -> Result<(), NoMemory> {
         let task = event.task;
-        if let Some(answer) = self.record(terms, event)? {
+        if let Some(answer) = self.record(alloc, code, limits, event)? {
             self.slots.settle(task, answer);
         }
         Ok(())
     }
 
     /// The begin of a branch, which starts so.
-    fn begin(&mut self, terms: Terms<'_>, event: Event, start: Start) -> Result<(), NoMemory> {
+    fn begin(&mut self, alloc: Global, code: &Code, limits: Limits, event: Event, start: Start) -> Result<(), NoMemory> {
         let number = self.world.tree.begun();
         let task = event.task;
         self.slots
-            .insert(number, Slot::start(terms.alloc, number, start))?;
-        match self.record(terms, event) {
+            .insert(number, Slot::start(alloc, number, start))?;
+        match self.record(alloc, code, limits, event) {
             Ok(Some(answer)) => {
                 self.slots.settle(task, answer);
                 Ok(())
@@ -106,7 +117,7 @@ impl Run {
     }
 
     /// The end of a task, and of the run where it is the root.
-    fn end(&mut self, terms: Terms<'_>, event: Event) -> Result<(), NoMemory> {
+    fn end(&mut self, alloc: Global, code: &Code, limits: Limits, event: Event) -> Result<(), NoMemory> {
         let task = event.task;
         let came = match &event.action {
             Action::End(ending) => came_to(ending),
@@ -114,11 +125,11 @@ impl Run {
         };
         // only the root's output is that of the run
         let out = if task == 0 {
-            self.output(terms.alloc)?
+            self.output(alloc)?
         } else {
-            Bytes::new(terms.alloc)
+            Bytes::new(alloc)
         };
-        if self.record(terms, event)?.is_some() {
+        if self.record(alloc, code, limits, event)?.is_some() {
             self.slots.remove(task);
             if task == 0 {
                 self.finish(came, out);

@@ -1,0 +1,70 @@
+-- What a machine keeps of its run.
+use Rattle.std.specs.Prelude.{◌≡◌, ℕ, ℤ, List, ◌∷◌, [], ◌++◌, All, reverse, Option, Some, None, refl}
+use Rattle.std.specs.Coded.{Coded, code_by, coded×, coded_ℕ, coded_ℤ, coded_list, coded_option}
+use Rattle.dpj_base.specs.declared.outcome.Limits.{Limits}
+use Rattle.dpj_base.specs.declared.outcome.Outcome.{Outcome}
+use Rattle.dpj_code.specs.declared.code.Code.{Code}
+use Rattle.dpj_code.specs.Plain.{PlainCode, plain_code}
+use Rattle.dpj_legs.specs.Halts.{IsFew}
+use Rattle.dpj_world.specs.declared.world.World.{World}
+use Rattle.dpj_world.specs.Ready.{IsReady}
+use Rattle.dpj_machine.specs.declared.run.Run.{Run}
+use Rattle.dpj_machine.specs.Running.{AllStand}
+use Rattle.dpj_machine.specs.Replay.{Moment, Moves, LeadsTo}
+use Rattle.dpj_machine.specs.Premise.{GoesOn, GoesOnAble}
+
+-- a moment, as it is kept
+pub record Keeps (C : PlainCode) (r : Run) (m : Moment) : Type 0 where
+  pub world : r.world ≡ m.world
+  pub outcome : r.outcome ≡ m.outcome
+  pub stand : AllStand C r.slots m.tasks
+
+-- a moment that is kept, in which a task can make its next event
+pub record CanStep (code : Code) (r : Run) (m : Moment) (k : ℕ) : Type 0 where
+  pub keeps : Keeps (plain_code code) r m
+  pub goes : GoesOn (plain_code code) m
+  pub unfinished : m.outcome ≡ None
+  pub ready : IsReady m.world k
+
+-- what a contract sees of a machine
+pub record Played : Type 0 where
+  pub code : Code
+  pub limits : Limits
+  pub argument : ℤ
+  pub schedule : List ℕ
+  pub world : World
+  pub outcome : Option Outcome
+
+abbrev pub played_code : Coded Code → Coded Limits → Coded World → Coded Outcome → Coded Played
+played_code code limits world outcome =
+    code_by (Code × (Limits × (ℤ × (List ℕ × (World × Option Outcome)))))
+    (coded× code (coded× limits (coded× coded_ℤ (coded× (coded_list coded_ℕ) (coded× world (coded_option outcome))))))
+    (λ p. (p.code, (p.limits, (p.argument, (p.schedule, (p.world, p.outcome))))))
+    (λ q. record { code = q.0; limits = q.1.0; argument = q.1.1.0; schedule = q.1.1.1.0; world = q.1.1.1.1.0; outcome = q.1.1.1.1.1 }) (λ _. refl)
+
+-- a moment to which the schedule of a machine leads, in which its world and its outcome are the machine's
+pub record IsReplayed (p : Played) : Type 0 where
+  pub moment : Moment
+  pub leads : LeadsTo p.code p.limits p.argument (reverse p.schedule) moment
+  pub world : p.world ≡ moment.world
+  pub outcome : p.outcome ≡ moment.outcome
+
+-- a task has made one event more
+pub record IsAfter (before : Played) (k : ℕ) (after : Played) : Type 0 where
+  pub code : after.code ≡ before.code
+  pub limits : after.limits ≡ before.limits
+  pub argument : after.argument ≡ before.argument
+  pub schedule : after.schedule ≡ before.schedule ++ k ∷ []
+  pub replayed : IsReplayed before
+  pub next : Moment
+  pub moves : Moves before.code before.limits replayed.moment k next
+  pub world : after.world ≡ next.world
+  pub outcome : after.outcome ≡ next.outcome
+
+-- the fields of a machine are the replay of its schedule, and its code goes on
+pub record Plays (code : Code) (limits : Limits) (argument : ℤ) (r : Run) : Type 0 where
+  pub moment : Moment
+  pub leads : LeadsTo code limits argument (reverse r.schedule) moment
+  pub keeps : Keeps (plain_code code) r moment
+  pub goes : GoesOnAble code limits argument
+  pub few : All IsFew code.sites
