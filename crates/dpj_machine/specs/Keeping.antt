@@ -1,16 +1,23 @@
 -- What a machine keeps of its run.
 use Rattle.std.specs.Prelude.{◌≡◌, ℕ, ℤ, List, ◌∷◌, [], ◌++◌, All, reverse, Option, Some, None, refl}
+use Rattle.std.specs.FinMap.{FinMap, insert}
+use Rattle.std.specs.Ordering.{nat_cmp}
 use Rattle.std.specs.Coded.{Coded, code_by, coded×, coded_ℕ, coded_ℤ, coded_list, coded_option}
 use Rattle.dpj_base.specs.declared.outcome.Limits.{Limits}
 use Rattle.dpj_base.specs.declared.outcome.Outcome.{Outcome}
 use Rattle.dpj_code.specs.declared.code.Code.{Code}
 use Rattle.dpj_code.specs.Plain.{PlainCode, plain_code}
 use Rattle.dpj_legs.specs.Halts.{IsFew}
+use Rattle.dpj_legs.specs.declared.action.Answer.{Answer}
+use Rattle.dpj_world.specs.Costs.{Within}
+use Rattle.dpj_world.specs.World.{answer_to, world_after}
+use Rattle.dpj_world.specs.declared.event.Event.{Event}
 use Rattle.dpj_world.specs.declared.world.World.{World}
 use Rattle.dpj_world.specs.Ready.{IsReady}
 use Rattle.dpj_machine.specs.declared.run.Run.{Run}
 use Rattle.dpj_machine.specs.Running.{AllStand}
-use Rattle.dpj_machine.specs.Replay.{Moment, Moves, LeadsTo}
+use Rattle.dpj_machine.specs.Replay.{Moment, Moves, LeadsTo, limited}
+use Rattle.dpj_machine.specs.declared.slot.Slot.{Slot}
 use Rattle.dpj_machine.specs.Premise.{GoesOn, GoesOnAble}
 
 -- a moment, as it is kept
@@ -25,6 +32,28 @@ pub record CanStep (code : Code) (r : Run) (m : Moment) (k : ℕ) : Type 0 where
   pub goes : GoesOn (plain_code code) m
   pub unfinished : m.outcome ≡ None
   pub ready : IsReady m.world k
+
+-- an event was noted and made, where it keeps to the limits, and then these tasks are kept, with this outcome; else the run is
+-- finished
+pub data Comes (code : Code) (L : Limits) (old : Run) (e : Event) (slots : FinMap nat_cmp Slot) (outcome : Option Outcome) (new : Run) : Type 0 where
+  made : Within code old.world e
+      → new ≡ record { world = world_after code old.world e; slots = slots; schedule = old.schedule ++ e.task ∷ []; outcome = outcome }
+      → Comes code L old e slots outcome new
+  over : (Within code old.world e → ⊥)
+      → new ≡ record { world = old.world; slots = old.slots; schedule = old.schedule ++ e.task ∷ []; outcome = Some (limited L) }
+      → Comes code L old e slots outcome new
+
+-- the same, with the answer where the event was made
+abbrev pub Recorded : Code → Limits → Run → Event → Option Answer → Run → Type 0
+Recorded code L old e None new =
+    (Within code old.world e → ⊥) × (new ≡ record { world = old.world; slots = old.slots; schedule = old.schedule ++ e.task ∷ []; outcome = Some (limited L) })
+Recorded code L old e (Some x) new =
+    Within code old.world e × (x ≡ answer_to old.world e)
+    × (new ≡ record { world = world_after code old.world e; slots = old.slots; schedule = old.schedule ++ e.task ∷ []; outcome = old.outcome })
+
+-- the tasks where one has an answer that it is to be given
+abbrev pub with_answer : FinMap nat_cmp Slot → ℕ → Slot → Answer → FinMap nat_cmp Slot
+with_answer slots k s x = insert slots k (record { task = s.task; pending = Some x })
 
 -- what a contract sees of a machine
 pub record Played : Type 0 where

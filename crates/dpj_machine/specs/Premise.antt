@@ -1,5 +1,5 @@
 -- What a machine asks of its code.
-use Rattle.std.specs.Prelude.{◌≡◌, ◌<◌, ℕ, ℤ, List, length, Option, Some}
+use Rattle.std.specs.Prelude.{◌≡◌, ◌<◌, ℕ, ℤ, List, length, Option, Some, None}
 use Rattle.dpj_base.specs.declared.outcome.Limits.{Limits}
 use Rattle.dpj_code.specs.declared.code.Code.{Code}
 use Rattle.dpj_code.specs.Machine.{State}
@@ -20,6 +20,8 @@ HasStart C z a = Unit {0}
 
 -- at this moment the ready tasks are there, each task goes on, and what a ready task does next can be done
 pub record GoesOn (C : PlainCode) (m : Moment) : Type 0 where
+  -- no task has the next number yet
+  pub next : m.tasks m.world.tree.begun ≡ None
   pub live : (k : ℕ) → IsReady m.world k → (t : Running) × (m.tasks k ≡ Some t)
   pub legs : (k : ℕ) (t : Running) → m.tasks k ≡ Some t → Goes C k t
   pub fits : (k : ℕ) (e : Event) → NextOf C m k e → Fits m.world e

@@ -10,7 +10,8 @@ use Rattle.dpj_code.specs.Plain.{PlainCode}
 use Rattle.dpj_legs.specs.Answers.{IsCounted}
 use Rattle.dpj_legs.specs.Halts.{Halts, stands, front_of, Tells, Ends, Paced}
 use Rattle.dpj_legs.specs.Names.{names_of}
-use Rattle.dpj_legs.specs.Tasks.{plain_answer}
+use Rattle.dpj_legs.specs.Tasks.{plain_answer, plain_start}
+use Rattle.dpj_legs.specs.declared.task.Start.{Start as DeclaredStart}
 use Rattle.dpj_legs.specs.declared.action.Action.{Action}
 use Rattle.dpj_legs.specs.declared.action.Answer.{Answer}
 use Rattle.dpj_legs.specs.declared.task.Task.{Task}
@@ -67,6 +68,10 @@ StandsForOne C k None None = Unit {0}
 StandsForOne C k (Some s) (Some t) = StandsFor C k s t
 StandsForOne C k None (Some t) = ⊥
 StandsForOne C k (Some s) None = ⊥
+
+-- what is kept of a branch that starts so, and goes on
+abbrev pub IsFirst : ℕ → DeclaredStart → Slot → Type 0
+IsFirst k b s = (C : PlainCode) → Goes C k (at_start (plain_start b)) → StandsFor C k s (at_start (plain_start b))
 
 -- a machine's tasks stand for those of a run
 abbrev pub AllStand : PlainCode → FinMap nat_cmp Slot → (ℕ → Option Running) → Type 0

@@ -1,8 +1,14 @@
-ghost use Rattle.std.specs.Prelude.{◌≡◌, ◌∷◌, ◌++◌, [], All, OnOk, OnErr};
+ghost use Rattle.std.specs.Prelude.{◌≡◌, ◌≢◌, ◌∷◌, ◌++◌, [], All, None, IfOk, OnOk, OnErr};
+ghost use Rattle.std.specs.FinMap.{get, insert, remove};
 ghost use Rattle.dpj_code.specs.Plain.{plain_code};
 ghost use Rattle.dpj_legs.specs.Halts.{IsFew};
-ghost use Rattle.dpj_machine.specs.Keeping.{Keeps, CanStep};
-ghost use Rattle.dpj_machine.specs.Replay.{Moment, Moves};
+ghost use Rattle.dpj_legs.specs.declared.action.Ending.{Ending};
+ghost use Rattle.dpj_tasks.specs.Tree.{task_at, out_of};
+ghost use Rattle.dpj_world.specs.World.{Fits, answer_to, world_after};
+ghost use Rattle.dpj_machine.specs.declared.slot.Slot.{Slot};
+ghost use Rattle.dpj_machine.specs.Keeping.{Keeps, CanStep, Recorded, Comes, with_answer};
+ghost use Rattle.dpj_machine.specs.Replay.{Moment, Moves, outcome_after};
+ghost use Rattle.dpj_machine.specs.Running.{OfSlot, IsFirst};
 
 use crate::outcome::{came_to, limited};
 use crate::slot::Slot;
@@ -70,7 +76,17 @@ impl Run {
     }
 
     /// Notes an event in the schedule and makes it. It answers None where a limit is met, which finishes the run.
-    fn record(&mut self, alloc: Global, code: &Code, limits: Limits, event: Event) -> Result<Option<Answer>, NoMemory> {
+    fn record(
+        &mut self,
+        alloc: Global,
+        code: &Code,
+        limits: Limits,
+        event: Event,
+    ) -> Result<Option<Answer>, NoMemory>
+        requires { Fits self.old.world event }
+        ensures ok { IfOk result (λ o. Recorded code.now limits self.old event o self.new) }
+        ensures err { OnErr result (self.new ≡ self.old) }
+    {
         self.schedule.push(event.task)?;
         match self.world.perform(alloc, code, event) {
             Ok(answer) => Ok(Some(answer)),
@@ -86,7 +102,18 @@ impl Run {
     }
 
     /// An event after which its task goes on.
-    fn go_on(&mut self, alloc: Global, code: &Code, limits: Limits, event: Event) -> Result<(), NoMemory> {
+    fn go_on(
+        &mut self,
+        alloc: Global,
+        code: &Code,
+        limits: Limits,
+        event: Event,
+    ) -> Result<(), NoMemory>
+        requires fits { Fits self.old.world event }
+        requires there { OfSlot (get self.old.slots event.task) (λ slot. Unit {0}) }
+        ensures ok { OnOk result (OfSlot (get self.old.slots event.task) (λ slot. Comes code.now limits self.old event (with_answer self.old.slots event.task slot (answer_to self.old.world event)) self.old.outcome self.new)) }
+        ensures err { OnErr result (self.new ≡ self.old) }
+    {
         let task = event.task;
         if let Some(answer) = self.record(alloc, code, limits, event)? {
             self.slots.settle(task, answer);
@@ -95,7 +122,21 @@ impl Run {
     }
 
     /// The begin of a branch, which starts so.
-    fn begin(&mut self, alloc: Global, code: &Code, limits: Limits, event: Event, start: Start) -> Result<(), NoMemory> {
+    fn begin(
+        &mut self,
+        alloc: Global,
+        code: &Code,
+        limits: Limits,
+        event: Event,
+        start: Start,
+    ) -> Result<(), NoMemory>
+        requires fits { Fits self.old.world event }
+        requires there { OfSlot (get self.old.slots event.task) (λ slot. Unit {0}) }
+        requires apart { event.task ≢ self.old.world.tree.begun }
+        requires next { get self.old.slots self.old.world.tree.begun ≡ None }
+        ensures ok { OnOk result (OfSlot (get self.old.slots event.task) (λ slot. (child : Slot) × IsFirst self.old.world.tree.begun start child × Comes code.now limits self.old event (with_answer (insert self.old.slots self.old.world.tree.begun child) event.task slot (answer_to self.old.world event)) self.old.outcome self.new)) }
+        ensures err { OnErr result (self.new ≡ self.old) }
+    {
         let number = self.world.tree.begun();
         let task = event.task;
         self.slots
@@ -117,7 +158,19 @@ impl Run {
     }
 
     /// The end of a task, and of the run where it is the root.
-    fn end(&mut self, alloc: Global, code: &Code, limits: Limits, event: Event) -> Result<(), NoMemory> {
+    fn end(
+        &mut self,
+        alloc: Global,
+        code: &Code,
+        limits: Limits,
+        event: Event,
+    ) -> Result<(), NoMemory>
+        requires fits { Fits self.old.world event }
+        requires ends { (x : Ending) × (event.action ≡ Action.End x) }
+        requires unfinished { self.old.outcome ≡ None }
+        ensures ok { OnOk result (Comes code.now limits self.old event (remove self.old.slots event.task) (outcome_after self.old.world (world_after code.now self.old.world event) event.task event.action) self.new) }
+        ensures err { OnErr result (self.new ≡ self.old) }
+    {
         let task = event.task;
         let came = match &event.action {
             Action::End(ending) => came_to(ending),
@@ -139,7 +192,9 @@ impl Run {
     }
 
     /// What the root has printed.
-    fn output(&self, alloc: Global) -> Result<Bytes, NoMemory> {
+    fn output(&self, alloc: Global) -> Result<Bytes, NoMemory>
+        ensures { IfOk result (λ out. out ≡ out_of (task_at self.now.world.tree 0)) }
+    {
         match self.world.tree.get(0) {
             Some(root) => root.out.copy(alloc),
             None => Ok(Bytes::new(alloc)),

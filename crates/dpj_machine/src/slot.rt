@@ -1,9 +1,8 @@
 ghost use Rattle.std.specs.Prelude.{◌≡◌, ℕ, All, None, IfOk, OnOk, IfSome};
-ghost use Rattle.dpj_code.specs.Plain.{PlainCode, plain_code};
+ghost use Rattle.dpj_code.specs.Plain.{plain_code};
 ghost use Rattle.dpj_legs.specs.Answers.{IsCounted};
 ghost use Rattle.dpj_legs.specs.Halts.{Halts, Tells, IsFew, front_of};
-ghost use Rattle.dpj_legs.specs.Tasks.{plain_start};
-ghost use Rattle.dpj_machine.specs.Running.{Running, Goes, StandsFor, at_start};
+ghost use Rattle.dpj_machine.specs.Running.{Running, Goes, StandsFor, IsFirst};
 
 use crate::answers::copied;
 use dpj_base::NoMemory;
@@ -22,7 +21,7 @@ pub struct Slot {
 impl Slot {
     /// A task of this number, at the start.
     pub fn start(alloc: Global, number: u32, start: Start) -> Slot
-        ensures { (C : PlainCode) → Goes C number (at_start (plain_start start)) → StandsFor C number result (at_start (plain_start start)) }
+        ensures { IsFirst number start result }
     {
         Slot {
             task: Task::start(alloc, number, start),
