@@ -1,2 +1,4 @@
 pub mod Delivering
 pub mod Maps
+pub mod Acting
+pub mod Tasks

@@ -41,30 +41,33 @@ pub record Moment : Type 0 where
   pub tasks : ℕ → Option Running
   pub outcome : Option Outcome
 
--- the effects of an entry, by its site and in the frame of a level
-abbrev pub effects_in : ℕ → Level ℕ (ℕ × ℕ) → Option Site → Option (List (EffectOf (ℕ × ℕ)))
-effects_in k g (Some (block_site accesses)) = Some (map (concrete_effect (names_of k) (around g.frame)) accesses)
-effects_in k g site = None
+-- the effects of an entry in the frame of a level, and by its site
+abbrev pub effects_of : Level ℕ (ℕ × ℕ) → Option (List Effect) → Option (List (EffectOf (ℕ × ℕ)))
+effects_of g accesses = option_map (map (concrete_effect (names_of 0) (around g.frame))) accesses
 
-abbrev pub entry_by : PlainCode → ℕ → Level ℕ (ℕ × ℕ) → Instr → Option (List (EffectOf (ℕ × ℕ)))
-entry_by C k g (i.Enter s) = effects_in k g (slice_get C.sites s)
-entry_by C k g x = None
+abbrev pub accesses_of : Option Site → Option (List Effect)
+accesses_of (Some (block_site accesses)) = Some accesses
+accesses_of site = None
 
-abbrev pub entry_of : PlainCode → ℕ → Level ℕ (ℕ × ℕ) → Option Line → Option (List (EffectOf (ℕ × ℕ)))
-entry_of C k g None = None
-entry_of C k g (Some l) = entry_by C k g l.instr
+abbrev pub entry_by : PlainCode → Level ℕ (ℕ × ℕ) → Instr → Option (List (EffectOf (ℕ × ℕ)))
+entry_by C g (i.Enter s) = effects_of g (accesses_of (slice_get C.sites s))
+entry_by C g x = None
+
+abbrev pub entry_of : PlainCode → Level ℕ (ℕ × ℕ) → Option Line → Option (List (EffectOf (ℕ × ℕ)))
+entry_of C g None = None
+entry_of C g (Some l) = entry_by C g l.instr
 
 -- the effects with which a task is to enter that rests here, if this is in front of an entry
-abbrev pub wants_at : PlainCode → ℕ → State ℕ (ℕ × ℕ) → Option (List (EffectOf (ℕ × ℕ)))
-wants_at C k (On g fs) = entry_of C k g (slice_get (body_at C g.body).lines g.at)
-wants_at C k (Rested g fs) = None
-wants_at C k (Off e) = None
-wants_at C k Nowhere = None
+abbrev pub wants_at : PlainCode → State ℕ (ℕ × ℕ) → Option (List (EffectOf (ℕ × ℕ)))
+wants_at C (On g fs) = entry_of C g (slice_get (body_at C g.body).lines g.at)
+wants_at C (Rested g fs) = None
+wants_at C (Off e) = None
+wants_at C Nowhere = None
 
 -- a task that rests in front of an entry wants its effects, and else nothing is wanted
-abbrev pub WantsRightly : PlainCode → ℕ → State ℕ (ℕ × ℕ) → Action → Option (List Effect) → Type 0
-WantsRightly C k z action.Rest wants = (option_map (map plain_effect) wants ≡ wants_at C k z) × AllRoot (wanted wants)
-WantsRightly C k z a wants = Unit {0}
+abbrev pub WantsRightly : PlainCode → State ℕ (ℕ × ℕ) → Action → Option (List Effect) → Type 0
+WantsRightly C z action.Rest wants = (option_map (map plain_effect) wants ≡ wants_at C z) × AllRoot (wanted wants)
+WantsRightly C z a wants = Unit {0}
 
 -- a task of a run stands here, at an action
 pub record Standing (C : PlainCode) (k : ℕ) (t : Running) (e : Event) : Type 0 where
@@ -73,7 +76,7 @@ pub record Standing (C : PlainCode) (k : ℕ) (t : Running) (e : Event) : Type 0
   pub leg : Leg (names_of k) C t.made t.state (front C k e.turns made state)
   pub tells : Tells C e.action (front C k e.turns made state)
   pub number : e.task ≡ k
-  pub wants : WantsRightly C k state e.action e.wants
+  pub wants : WantsRightly C state e.action e.wants
 
 -- tasks with one in the place of what was there
 abbrev pub with_task : (ℕ → Option Running) → ℕ → Option Running → ℕ → Option Running
@@ -161,8 +164,8 @@ pub record NextOf (C : PlainCode) (m : Moment) (k : ℕ) (e : Event) : Type 0 wh
 abbrev pub after : Code → Moment → (e : Event) → State ℕ (ℕ × ℕ) → ℕ → Moment
 after code m e z made = record {
   world = world_after code m.world e;
-  tasks = with_branch (plain_code code) z e.action m.world.tree.begun
-      (with_task m.tasks e.task (goes_on e.action (front (plain_code code) e.task e.turns made z) (answer_to m.world e)));
+  tasks = with_task (with_branch (plain_code code) z e.action m.world.tree.begun m.tasks) e.task
+      (goes_on e.action (front (plain_code code) e.task e.turns made z) (answer_to m.world e));
   outcome = outcome_after m.world (world_after code m.world e) e.task e.action;
 }
 

@@ -1,11 +1,13 @@
-ghost use Rattle.std.specs.Prelude.{◌≡◌, IfOk, option_map, map};
+ghost use Rattle.std.specs.Prelude.{◌≡◌, ℕ, IfOk, option_map, map, slice_get};
+ghost use Rattle.std.specs.Option.{option_copied};
 ghost use Rattle.dpj_locks.specs.Locks.{AllRoot};
-ghost use Rattle.dpj_legs.specs.Names.{plain_effect};
-ghost use Rattle.dpj_legs.specs.Tasks.{plain_level, state_of};
-ghost use Rattle.dpj_code.specs.Plain.{plain_code};
+ghost use Rattle.dpj_legs.specs.Names.{names_of, plain_effect};
+ghost use Rattle.dpj_legs.specs.Tasks.{plain_frame, state_of};
+ghost use Rattle.dpj_code.specs.Machine.{Level};
+ghost use Rattle.dpj_code.specs.Plain.{plain_code, body_at};
 ghost use Rattle.dpj_meaning.specs.Regions.{around, concrete_effect};
 ghost use Rattle.dpj_world.specs.Waits.{wanted};
-ghost use Rattle.dpj_machine.specs.Replay.{wants_at, effects_in};
+ghost use Rattle.dpj_machine.specs.Replay.{wants_at, effects_of, entry_of};
 
 use dpj_base::{Effect, Head, Items, NoMemory};
 use dpj_code::{Code, Instr, Site};
@@ -13,7 +15,9 @@ use dpj_legs::{Frame, Standing, Task, concrete_effect};
 use std::alloc::Global;
 
 /// The effects of the entry at a position of a body, if there is one.
-fn entry_at(code: &Code, body: usize, at: usize) -> Option<&Items<Effect>> {
+fn entry_at(code: &Code, body: usize, at: usize) -> Option<&Items<Effect>>
+    ensures { (g : Level ℕ (ℕ × ℕ)) → effects_of g (option_copied result) ≡ entry_of (plain_code code.now) g (slice_get (body_at (plain_code code.now) body).lines at) }
+{
     let Instr::Enter(site) = code.bodies.get(body)?.instrs.get(at)? else {
         return None;
     };
@@ -30,7 +34,7 @@ pub fn wants_of(
     task: &Task,
 ) -> Result<Option<Items<Effect>>, NoMemory>
     ensures roots { IfOk result (λ wants. AllRoot (wanted wants)) }
-    ensures wants { IfOk result (λ wants. option_map (map plain_effect) wants ≡ wants_at (plain_code code.now) task.now.number (state_of task.now)) }
+    ensures wants { IfOk result (λ wants. option_map (map plain_effect) wants ≡ wants_at (plain_code code.now) (state_of task.now)) }
 {
     let Standing::At = task.standing else {
         return Ok(None);
@@ -49,6 +53,7 @@ fn effects_of(
     accesses: &Items<Effect>,
 ) -> Result<Items<Effect>, NoMemory>
     ensures roots { IfOk result AllRoot }
+    ensures effects { IfOk result (λ effects. map plain_effect effects ≡ map (concrete_effect (names_of 0) (around (plain_frame frame.now))) accesses.now) }
 {
     let mut effects = Items::new(alloc);
     for access in accesses.as_slice() {
