@@ -1,5 +1,5 @@
 -- No task from the count on.
-use Rattle.std.proofs.Common.{◌≡◌, ◌≤◌, ℕ, subst, sym}
+use Rattle.std.proofs.Common.{◌≡◌, ◌≤◌, ℕ, subst, sym, None}
 use Rattle.dpj_tasks.specs.Tree.{Tree, task_at}
 use Rattle.dpj_tasks.proofs.Numbers.{absent_from}
 use Rattle.dpj_tasks.proofs.tree.TaskTree.begun.Goals as goal
