@@ -2,3 +2,4 @@ pub mod Delivering
 pub mod Maps
 pub mod Acting
 pub mod Tasks
+pub mod Stepping
