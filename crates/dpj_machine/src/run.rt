@@ -212,7 +212,9 @@ impl Run {
 }
 
 /// An event of a task that doesn't rest.
-fn event(task: u32, turns: u32, action: Action) -> Event {
+fn event(task: u32, turns: u32, action: Action) -> Event
+    ensures { result ≡ record { task = task; turns = turns; action = action; wants = None } }
+{
     Event {
         task,
         turns,

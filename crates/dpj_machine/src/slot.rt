@@ -39,8 +39,8 @@ impl Slot {
         let Some(answer) = &self.pending else {
             return Ok(());
         };
-        let answer = copied(alloc, answer)?;
-        self.task.answer(alloc, code, answer)?;
+        let copy = copied(alloc, answer)?;
+        self.task.answer(alloc, code, copy)?;
         self.pending = None;
         Ok(())
     }

@@ -29,9 +29,14 @@ impl World {
         ensures after { OnOk result (self.new ≡ acted code.now self.old event) }
         ensures err { OnErr result (self.new ≡ self.old) }
     {
-        let task = event.task;
-        match event.action {
-            Action::Rest => rest(&mut self.waits, task, event.wants),
+        let Event {
+            task,
+            action,
+            wants,
+            ..
+        } = event;
+        match action {
+            Action::Rest => rest(&mut self.waits, task, wants),
             Action::Read { object, index } => Ok(read(&self.heap, object, index)),
             Action::Write {
                 object,

@@ -1,7 +1,22 @@
-ghost use Rattle.std.specs.Prelude.{◌≡◌, IsTrue, MatchOption, false, ℕ, ◌<◌};
+ghost use Rattle.std.specs.Prelude.{◌≡◌, IsTrue, MatchOption, false};
+ghost use Rattle.dpj_locks.specs.Locks.{AllRoot, MayEnter};
 ghost use Rattle.dpj_world.specs.Ready.{IsFreeToEnter, IsReady, NoneReady, IsGreatestReady};
 
 use crate::world::World;
+use dpj_base::Effect;
+use dpj_locks::Locks;
+
+/// Whether a task may enter with these effects: inside a block always, and else where no block of another task hinders it.
+fn may_enter(locks: &Locks, task: u32, effects: &[Effect]) -> bool
+    requires { AllRoot effects.now }
+    ensures yes { IsTrue result → MayEnter locks.now task effects.now }
+    ensures no { result ≡ false → MayEnter locks.now task effects.now → ⊥ }
+{
+    if locks.inside(task) {
+        return true;
+    }
+    locks.conflicts(task, effects).is_none()
+}
 
 impl World {
     /// Whether no block of another task hinders this one, if it stands in front of an entry.
@@ -11,9 +26,7 @@ impl World {
     {
         match self.waits.get(task) {
             None => true,
-            Some(effects) => {
-                self.locks.inside(task) || self.locks.conflicts(task, effects.as_slice()).is_none()
-            }
+            Some(effects) => may_enter(&self.locks, task, effects.as_slice()),
         }
     }
 

@@ -1,6 +1,6 @@
 use Rattle.std.proofs.Common.{◌≤◌, ℕ}
 use Rattle.dpj_world.specs.Ready.{IsReady}
-use Rattle.dpj_world.proofs.ready.World.next_ready.Given as goal
+use Rattle.dpj_world.proofs.world.World.next_ready.Given as goal
 
 -- no task from the bound on is ready
 abbrev pub invariant-loop-task : goal.invariant-loop-task
