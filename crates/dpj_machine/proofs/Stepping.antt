@@ -1,5 +1,5 @@
 -- From what a machine does at an event to the move of its run.
-use Rattle.std.proofs.Common.{◌≡◌, ◌≢◌, ℕ, List, [], ◌∷◌, ◌++◌, refl, sym, ap, subst, ◌∙◌, Option, Some, None}
+use Rattle.std.proofs.Common.{◌≡◌, ◌≢◌, ℕ, slice_get, List, [], ◌∷◌, ◌++◌, refl, sym, ap, subst, ◌∙◌, Option, Some, None}
 use Rattle.std.specs.FinMap.{FinMap, get, insert, remove}
 use Rattle.std.specs.Ordering.{nat_cmp}
 use Rattle.dpj_base.specs.declared.effect.Effect.{Effect}
@@ -11,7 +11,9 @@ use Rattle.dpj_code.specs.Plain.{PlainCode, plain_code}
 use Rattle.dpj_legs.specs.Answers.{IsCounted}
 use Rattle.dpj_legs.specs.Halts.{Tells, front_of}
 use Rattle.dpj_legs.specs.Names.{names_of}
-use Rattle.dpj_legs.specs.Tasks.{state_of}
+use Rattle.dpj_legs.specs.Branches.{starts_at}
+use Rattle.dpj_legs.specs.Tasks.{state_of, plain_start}
+use Rattle.dpj_legs.specs.declared.task.Start.{Start}
 use Rattle.dpj_legs.specs.declared.action.Action.{Action}
 use Rattle.dpj_legs.specs.declared.action.Action.TheVariants as action
 use Rattle.dpj_legs.specs.declared.action.Answer.{Answer}
@@ -22,11 +24,12 @@ use Rattle.dpj_world.specs.declared.event.Event.{Event}
 use Rattle.dpj_world.specs.declared.world.World.{World}
 use Rattle.dpj_machine.specs.declared.run.Run.{Run}
 use Rattle.dpj_machine.specs.declared.slot.Slot.{Slot}
-use Rattle.dpj_machine.specs.Running.{Running, front, answered, OnItsWay, StandsWith, StandsFor, StandsForOne, AllStand, StandsAt}
-use Rattle.dpj_machine.specs.Replay.{Moment, Standing, NextOf, Moves, made, over, after, limited, with_task, with_branch, goes_on, outcome_after, WantsRightly}
+use Rattle.dpj_machine.specs.Running.{Running, front, answered, OnItsWay, StandsWith, StandsFor, StandsForOne, AllStand, StandsAt, IsFirst, at_start, Goes}
+use Rattle.dpj_machine.specs.Replay.{Moment, Standing, NextOf, Moves, made, over, after, limited, with_task, with_branch, goes_on, outcome_after, WantsRightly, begun}
+use Rattle.dpj_machine.specs.Premise.{GoesOn}
 use Rattle.dpj_machine.specs.Keeping.{Keeps, Comes, made as made_so, over as over_so, with_answer}
 use Rattle.dpj_machine.proofs.Acting.{IsOrdinary, goes_further}
-use Rattle.dpj_machine.proofs.Tasks.{stand_put, stand_taken}
+use Rattle.dpj_machine.proofs.Tasks.{stand_put, stand_taken, beside, placed}
 
 -- a task that stands at an action, as it is kept, stands there in the run
 pub stands_there : (C : PlainCode) (k : ℕ) (t : Running) (s : Slot) (a : Action) (wants : Option (List Effect)) → StandsForOne C k (Some s) (Some t)
@@ -99,4 +102,72 @@ went_on code L old new m e s keeps x number state made_is turns ord no_end count
           (sym (ord.branch C x.stands.state m.world.tree.begun m.tasks))
           (stand_put C old.slots m.tasks e.task (record { task = s.task; pending = Some (answer_to old.world e) })
           (goes_on e.action h (answer_to m.world e)) keeps.stand here));
+    }))
+
+-- the begin of a branch
+pub began : (code : Code) (L : Limits) (old new : Run) (m : Moment) (e : Event) (s child : Slot) (b : ℕ) (start : Start) → Keeps (plain_code code) old m
+    → ((n : Moment) → Moves code L m e.task n → GoesOn (plain_code code) n)
+    → (x : NextOf (plain_code code) m e.task e) → s.task.number ≡ e.task → x.stands.state ≡ state_of s.task → x.stands.made ≡ s.task.made → e.turns ≡ s.task.turns
+    → e.action ≡ action.Begin b → slice_get (starts_at (plain_code code) x.stands.state) b ≡ Some (plain_start start) → e.task ≢ m.world.tree.begun
+    → IsFirst m.world.tree.begun start child → IsCounted (answer_to old.world e)
+    → Comes code L old e (with_answer (insert old.slots m.world.tree.begun child) e.task s (answer_to old.world e)) old.outcome new
+    → (n : Moment) × Moves code L m e.task n × Keeps (plain_code code) new n
+began code L old new m e s child b start keeps later x number state made_is turns act starts apart first counted (over_so no is) =
+    finished code L old new m e keeps x no is
+began code L old new m e s child b start keeps later x number state made_is turns act starts apart first counted (made_so within is) =
+    let C : PlainCode = plain_code code in
+    let h : Halt ℕ (ℕ × ℕ) = front C e.task e.turns x.stands.made x.stands.state in
+    let no_end : (y : Ending) → e.action ≡ action.End y → ⊥ = λ y is_end. no_begin b y (sym act ∙ is_end) in
+    let further = goes_further C e.action h (answer_to m.world e) no_end x.stands.tells in
+    let same_answer : answer_to old.world e ≡ answer_to m.world e = ap (λ w. answer_to w e) keeps.world in
+    let on : goes_on e.action h (answer_to m.world e) ≡ answered h (answer_to m.world e) =
+    ap (λ a. goes_on a h (answer_to m.world e)) act in
+    let halt : front C e.task s.task.turns s.task.made (state_of s.task) ≡ h =
+    ap (λ n. front C e.task n s.task.made (state_of s.task)) (sym turns) ∙ ap (λ n. front C e.task e.turns n (state_of s.task)) (sym made_is)
+    ∙ ap (front C e.task e.turns x.stands.made) (sym state) in
+    let here : StandsForOne C e.task (Some (record { task = s.task; pending = Some (answer_to old.world e) })) (goes_on e.action h (answer_to m.world e)) =
+    answered_one C e.task s (answer_to old.world e) (goes_on e.action h (answer_to m.world e)) number counted
+    (ap (λ g. answered g (answer_to old.world e)) halt ∙ ap (answered h) same_answer ∙ sym on) further.0 (on ∙ further.1) in
+    let branch : with_branch C x.stands.state e.action m.world.tree.begun m.tasks ≡ with_task m.tasks m.world.tree.begun (Some (at_start (plain_start start))) =
+    ap (λ a. with_branch C x.stands.state a m.world.tree.begun m.tasks) act ∙ ap (λ o. with_task m.tasks m.world.tree.begun (begun o)) starts in
+    let n : Moment = after code m e x.stands.state x.stands.made in
+    let moves : Moves code L m e.task n = made e x (subst (λ v. Within code v e) keeps.world within) refl in
+    let goes : Goes C m.world.tree.begun (at_start (plain_start start)) =
+    (later n moves).legs m.world.tree.begun (at_start (plain_start start))
+    (beside (with_branch C x.stands.state e.action m.world.tree.begun m.tasks) e.task (goes_on e.action h (answer_to m.world e)) m.world.tree.begun (λ same. apart (sym same))
+    ∙ ap (λ (tasks : ℕ → Option Running). tasks m.world.tree.begun) branch ∙ placed m.tasks m.world.tree.begun (Some (at_start (plain_start start)))) in
+    let both : AllStand C (with_answer (insert old.slots m.world.tree.begun child) e.task s (answer_to old.world e))
+    (with_task (with_task m.tasks m.world.tree.begun (Some (at_start (plain_start start)))) e.task (goes_on e.action h (answer_to m.world e))) =
+    stand_put C (insert old.slots m.world.tree.begun child) (with_task m.tasks m.world.tree.begun (Some (at_start (plain_start start)))) e.task
+    (record { task = s.task; pending = Some (answer_to old.world e) }) (goes_on e.action h (answer_to m.world e))
+    (stand_put C old.slots m.tasks m.world.tree.begun child (Some (at_start (plain_start start))) keeps.stand (first C goes)) here in
+    (n, (moves,
+    record {
+      world = ap (λ r. r.world) is ∙ ap (λ w. world_after code w e) keeps.world;
+      outcome = ap (λ r. r.outcome) is ∙ keeps.outcome ∙ x.unfinished ∙ sym (ap (outcome_after m.world (world_after code m.world e) e.task) act);
+      stand = subst (λ slots. AllStand C slots n.tasks) (sym (ap (λ r. r.slots) is))
+          (subst (λ tasks. AllStand C (with_answer (insert old.slots m.world.tree.begun child) e.task s (answer_to old.world e))
+          (with_task tasks e.task (goes_on e.action h (answer_to m.world e)))) (sym branch) both);
+    }))
+  where
+    no_begin : (b : ℕ) (y : Ending) → action.Begin b ≡ action.End y → ⊥
+    no_begin b y e = cc
+
+-- the end of a task
+pub ended : (code : Code) (L : Limits) (old new : Run) (m : Moment) (e : Event) (y : Ending) → Keeps (plain_code code) old m
+    → NextOf (plain_code code) m e.task e → e.action ≡ action.End y
+    → Comes code L old e (remove old.slots e.task) (outcome_after old.world (world_after code old.world e) e.task e.action) new
+    → (n : Moment) × Moves code L m e.task n × Keeps (plain_code code) new n
+ended code L old new m e y keeps x act (over_so no is) = finished code L old new m e keeps x no is
+ended code L old new m e y keeps x act (made_so within is) =
+    let C : PlainCode = plain_code code in
+    let h : Halt ℕ (ℕ × ℕ) = front C e.task e.turns x.stands.made x.stands.state in
+    let n : Moment = after code m e x.stands.state x.stands.made in
+    (n, (made e x (subst (λ v. Within code v e) keeps.world within) refl,
+    record {
+      world = ap (λ r. r.world) is ∙ ap (λ w. world_after code w e) keeps.world;
+      outcome = ap (λ r. r.outcome) is ∙ ap (λ w. outcome_after w (world_after code w e) e.task e.action) keeps.world;
+      stand = subst (λ slots. AllStand C slots n.tasks) (sym (ap (λ r. r.slots) is))
+          (subst (λ a. AllStand C (remove old.slots e.task) (with_task (with_branch C x.stands.state a m.world.tree.begun m.tasks) e.task
+          (goes_on a h (answer_to m.world e)))) (sym act) (stand_taken C old.slots m.tasks e.task keeps.stand));
     }))

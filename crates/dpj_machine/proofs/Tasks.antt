@@ -30,6 +30,19 @@ one_test q k =
       | inr apart ↦ other_number q k apart.1 ∙ sym apart.0
     ]
 
+-- where a task was put, and beside it
+pub placed : (tasks : ℕ → Option Running) (k : ℕ) (x : Option Running) → with_task tasks k x k ≡ x
+placed tasks k x = elim (eqb_tells k k) [
+  | inl same ↦ ap (λ b. if b then x else tasks k) same.0
+  | inr apart ↦ absurd (apart.1 refl)
+]
+
+pub beside : (tasks : ℕ → Option Running) (k : ℕ) (x : Option Running) (q : ℕ) → q ≢ k → with_task tasks k x q ≡ tasks q
+beside tasks k x q apart = elim (eqb_tells q k) [
+  | inl same ↦ absurd (apart same.1)
+  | inr other ↦ ap (λ b. if b then x else tasks q) other.0
+]
+
 module _ (C : PlainCode) (slots : FinMap nat_cmp Slot) (tasks : ℕ → Option Running) (k : ℕ) where
   pub stand_put : (s : Slot) (x : Option Running) → AllStand C slots tasks → StandsForOne C k (Some s) x → AllStand C (insert slots k s) (with_task tasks k x)
   stand_put s x all here q =

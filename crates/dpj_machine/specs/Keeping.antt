@@ -26,10 +26,11 @@ pub record Keeps (C : PlainCode) (r : Run) (m : Moment) : Type 0 where
   pub outcome : r.outcome ≡ m.outcome
   pub stand : AllStand C r.slots m.tasks
 
--- a moment that is kept, in which a task can make its next event
-pub record CanStep (code : Code) (r : Run) (m : Moment) (k : ℕ) : Type 0 where
+-- a moment that is kept, in which a task can make its next event; the run goes on behind it too
+pub record CanStep (code : Code) (L : Limits) (r : Run) (m : Moment) (k : ℕ) : Type 0 where
   pub keeps : Keeps (plain_code code) r m
   pub goes : GoesOn (plain_code code) m
+  pub later : (n : Moment) → Moves code L m k n → GoesOn (plain_code code) n
   pub unfinished : m.outcome ≡ None
   pub ready : IsReady m.world k
 

@@ -40,10 +40,10 @@ impl Run {
         task: u32,
     ) -> Result<(), NoMemory>
         requires few { All IsFew code.now.sites }
-        requires can { (m : Moment) × CanStep code.now self.old m task }
-        ensures moves { (m : Moment) → CanStep code.now self.old m task → OnOk result ((n : Moment) × Moves code.now limits m task n × Keeps (plain_code code.now) self.new n) }
+        requires can { (m : Moment) × CanStep code.now limits self.old m task }
+        ensures moves { (m : Moment) → CanStep code.now limits self.old m task → OnOk result ((n : Moment) × Moves code.now limits m task n × Keeps (plain_code code.now) self.new n) }
         ensures noted { OnOk result (self.new.schedule ≡ self.old.schedule ++ task ∷ []) }
-        ensures kept { (m : Moment) → CanStep code.now self.old m task → OnErr result (Keeps (plain_code code.now) self.new m) }
+        ensures kept { (m : Moment) → CanStep code.now limits self.old m task → OnErr result (Keeps (plain_code code.now) self.new m) }
         ensures err { OnErr result (self.new.schedule ≡ self.old.schedule) }
     {
         let action = self.slots.advance(alloc, code, task)?;
