@@ -9,6 +9,9 @@ use Rattle.std.specs.BTreeMap.{is_at, Updates, WritesThrough}
 use Rattle.std.specs.declared.collections.BTreeMap.{BTreeMap}
 use Rattle.std.specs.declared.alloc.Global.{Global}
 
+symmetric : (k q : ℕ) → eq_by_cmp nat_cmp k q ≡ eq_by_cmp nat_cmp q k
+symmetric k q = (eq_by_cmp_equiv nat_cmp_total).symm k q
+
 module _ {A : Type 0} where
   abbrev pub seen : BTreeMap ℕ A Global → FinMap nat_cmp A
   seen m = from_entries m.entries
@@ -22,9 +25,6 @@ module _ {A : Type 0} where
 
   pub same_maps : (m n : FinMap nat_cmp A) → ((q : ℕ) → get m q ≡ get n q) → m ≡ n
   same_maps m n same = same_map nat_cmp_total nat_cmp-IsAntisymmetric m n same
-
-  symmetric : (k q : ℕ) → eq_by_cmp nat_cmp k q ≡ eq_by_cmp nat_cmp q k
-  symmetric k q = (eq_by_cmp_equiv nat_cmp_total).symm k q
 
   pub seen_put : (m n : BTreeMap ℕ A Global) (k : ℕ) (t : A) → Updates nat_cmp m n k (Some t) → seen n ≡ insert (seen m) k t
   seen_put m n k t u = same_maps (seen n) (insert (seen m) k t) (λ q.

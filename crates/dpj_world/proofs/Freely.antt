@@ -1,12 +1,12 @@
 -- When a task is hindered in front of an entry, and the greatest that isn't.
-use Rattle.std.proofs.Common.{arith, ◌≡◌, ◌<◌, ◌≤◌, ◌⊎◌, inl, inr, ℕ, List, Bool, true, false, IsTrue, is_none, Option, Some, None, MatchOption, sym, subst, ◌∙◌, true≢false}
+use Rattle.std.proofs.Common.{arith, ◌≡◌, ◌<◌, ◌≤◌, ◌⊎◌, inl, inr, ℕ, List, Bool, true, false, IsTrue, is_some, Option, Some, None, MatchOption, sym, subst, ◌∙◌, true≢false}
 use Rattle.std.specs.FinMap.{get}
 use Rattle.std.proofs.lemmas.Bool.{cases_lt, cases_order}
 use Rattle.dpj_base.specs.declared.effect.Effect.{Effect}
 use Rattle.dpj_locks.specs.Locks.{Standings, MayEnter, IsFree, IsLeastHolder, is_inside, hinders}
 use Rattle.dpj_tasks.specs.Tree.{is_ready, task_at, ready} 
 use Rattle.dpj_tasks.specs.Tree as tree
-use Rattle.dpj_world.specs.Ready.{IsFreeToEnter, IsFreeFor, IsReady, NoneReady}
+use Rattle.dpj_world.specs.Ready.{IsFreeToEnter, IsFreeFor, IsReady, NoneReady, IsGreatestReady}
 use Rattle.dpj_world.specs.declared.world.World.{World}
 
 clash : (b : Bool) → IsTrue b → b ≡ false → ⊥
@@ -14,13 +14,13 @@ clash true t e = true≢false e
 clash false t e = true≢false (sym t)
 
 pub free : (locks : Standings) (task : ℕ) (wants : List Effect) (o : Option ℕ) → MatchOption o (IsFree locks task wants) (IsLeastHolder locks task wants)
-    → is_none o ≡ true → MayEnter locks task wants
+    → is_some o ≡ false → MayEnter locks task wants
 free locks task wants None m e = inr m
-free locks task wants (Some h) m e = absurd (true≢false (sym e))
+free locks task wants (Some h) m e = absurd (true≢false e)
 
 pub hindered : (locks : Standings) (task : ℕ) (wants : List Effect) (o : Option ℕ) → MatchOption o (IsFree locks task wants) (IsLeastHolder locks task wants)
-    → is_none o ≡ false → is_inside locks task ≡ false → MayEnter locks task wants → ⊥
-hindered locks task wants None m e i may = true≢false e
+    → is_some o ≡ true → is_inside locks task ≡ false → MayEnter locks task wants → ⊥
+hindered locks task wants None m e i may = true≢false (sym e)
 hindered locks task wants (Some h) m e i (inl inside) = clash (is_inside locks task) inside i
 hindered locks task wants (Some h) m e i (inr none) = clash (hinders locks task wants h) m.itself (none h)
 
@@ -59,3 +59,12 @@ none_left w bound none above q r = by_case (cases_lt q bound)
     by_case : (q < bound) ⊎ (bound ≤ q) → ⊥
     by_case (inl below) = clash (is_ready w.tree q) r.0 (none q below)
     by_case (inr over) = above q over r
+
+-- the greatest that can go on below the bound is the greatest that is ready, if it isn't hindered
+pub greatest_is : (w : World) (bound task : ℕ) → tree.IsGreatestReady w.tree.tasks bound task → IsFreeToEnter w task
+    → ((q : ℕ) → bound ≤ q → IsReady w q → ⊥) → IsGreatestReady w task
+greatest_is w bound task great free above = record { itself = (great.goes_on, free); greatest = λ q lt r. by_case q lt r (cases_lt q bound) }
+  where
+    by_case : (q : ℕ) → task < q → IsReady w q → (q < bound) ⊎ (bound ≤ q) → ⊥
+    by_case q lt r (inl below) = clash (is_ready w.tree q) r.0 (great.greatest q lt below)
+    by_case q lt r (inr over) = above q over r

@@ -9,6 +9,15 @@ use Rattle.std.specs.BTreeMap.{is_at, Updates}
 use Rattle.std.specs.declared.collections.BTreeMap.{BTreeMap}
 use Rattle.std.specs.declared.alloc.Global.{Global}
 
+symmetric : (k q : ℕ) → eq_by_cmp nat_cmp k q ≡ eq_by_cmp nat_cmp q k
+symmetric k q = (eq_by_cmp_equiv nat_cmp_total).symm k q
+
+same_number : (q k : ℕ) → eq_by_cmp nat_cmp q k ≡ true → q ≡ k
+same_number q k e = nat_cmp-IsAntisymmetric q k ((Equal-is (nat_cmp q k)).0 e)
+
+itself : (k : ℕ) → eq_by_cmp nat_cmp k k ≡ true
+itself k = (Equal-is (nat_cmp k k)).1 (tied_itself nat_cmp_total k)
+
 module _ {A : Type 0} where
   abbrev pub seen : BTreeMap ℕ A Global → FinMap nat_cmp A
   seen m = from_entries m.entries
@@ -23,9 +32,6 @@ module _ {A : Type 0} where
   pub same_maps : (m n : FinMap nat_cmp A) → ((q : ℕ) → get m q ≡ get n q) → m ≡ n
   same_maps m n same = same_map nat_cmp_total nat_cmp-IsAntisymmetric m n same
 
-  symmetric : (k q : ℕ) → eq_by_cmp nat_cmp k q ≡ eq_by_cmp nat_cmp q k
-  symmetric k q = (eq_by_cmp_equiv nat_cmp_total).symm k q
-
   pub seen_put : (m n : BTreeMap ℕ A Global) (k : ℕ) (t : A) → Updates nat_cmp m n k (Some t) → seen n ≡ insert (seen m) k t
   seen_put m n k t u = same_maps (seen n) (insert (seen m) k t) (λ q.
       get_seen n q ∙ u.0 q ∙ ap (λ b. cond b (Some t) (tree.get nat_cmp m q)) (symmetric k q)
@@ -36,12 +42,6 @@ module _ {A : Type 0} where
       get_seen n q ∙ u.0 q ∙ ap (λ b. cond b None (tree.get nat_cmp m q)) (symmetric k q)
       ∙ ap (cond (eq_by_cmp nat_cmp q k) None) (sym (get_seen m q)) ∙ sym (get-remove nat_cmp_total (seen m) k q))
 
-  same_number : (q k : ℕ) → eq_by_cmp nat_cmp q k ≡ true → q ≡ k
-  same_number q k e = nat_cmp-IsAntisymmetric q k ((Equal-is (nat_cmp q k)).0 e)
-
-  itself : (k : ℕ) → eq_by_cmp nat_cmp k k ≡ true
-  itself k = (Equal-is (nat_cmp k k)).1 (tied_itself nat_cmp_total k)
-
   -- what is put in and taken out again leaves nothing
   pub taken_back : (m : FinMap nat_cmp A) (k : ℕ) (t : A) → get m k ≡ None → remove (insert m k t) k ≡ m
   taken_back m k t absent =
@@ -51,6 +51,9 @@ module _ {A : Type 0} where
       at : (q : ℕ) (b : Bool) → eq_by_cmp nat_cmp q k ≡ b → cond b None (cond b (Some t) (get m q)) ≡ get m q
       at q true e = sym absent ∙ ap (get m) (sym (same_number q k e))
       at q false e = refl
+
+  pub none_in : (m : BTreeMap ℕ A Global) → m.entries ≡ [] → (q : ℕ) → get (seen m) q ≡ None
+  none_in m e q = get_seen m q ∙ ap (lookup (is_at (nat_cmp q))) e
 
   module _ (P : Option A → Type 0) where
     -- a fact of each answer of a map, through its changes

@@ -210,16 +210,19 @@ fn begin(tree: &mut TaskTree, locks: &mut Locks, task: u32) -> Result<Answer, No
     ensures locks { OnOk result (locks.new ≡ adopted_by locks.old task tree.old.begun) }
     ensures err { OnErr result ((tree.new ≡ tree.old) × (locks.new ≡ locks.old)) }
 {
+    if !locks.inside(task) {
+        let _ = tree.begin(task)?;
+        return Ok(Answer::Went);
+    }
     let number = tree.begun();
-    let inside = locks.inside(task);
-    if inside {
-        locks.adopt(task, number)?;
+    locks.adopt(task, number)?;
+    match tree.begin(task) {
+        Ok(_) => Ok(Answer::Went),
+        Err(stop) => {
+            locks.release(number);
+            Err(stop)
+        }
     }
-    if tree.begin(task).is_err() {
-        locks.release(number);
-        return Err(NoMemory);
-    }
-    Ok(Answer::Went)
 }
 
 fn join(tree: &mut TaskTree, task: u32) -> Result<Answer, NoMemory>
