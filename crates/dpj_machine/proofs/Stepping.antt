@@ -63,14 +63,17 @@ pub finished : (code : Code) (L : Limits) (old new : Run) (m : Moment) (e : Even
     → (Within code old.world e → ⊥)
     → new ≡ record { world = old.world; slots = old.slots; schedule = old.schedule ++ e.task ∷ []; outcome = Some (limited L) }
     → (n : Moment) × Moves code L m e.task n × Keeps (plain_code code) new n
-finished code L old new m e keeps x no is =
-    (record { world = m.world; tasks = m.tasks; outcome = Some (limited L) },
-    (over e x (λ w. no (subst (λ v. Within code v e) (sym keeps.world) w)) refl,
+finished code L old new m e keeps x no is = (
+  record { world = m.world; tasks = m.tasks; outcome = Some (limited L) },
+  (
+    over e x (λ w. no (subst (λ v. Within code v e) (sym keeps.world) w)) refl,
     record {
       world = ap (λ r. r.world) is ∙ keeps.world;
       outcome = ap (λ r. r.outcome) is;
       stand = subst (λ slots. AllStand (plain_code code) slots m.tasks) (sym (ap (λ r. r.slots) is)) keeps.stand;
-    }))
+    },
+  ),
+)
 
 -- an event after which the task goes on
 pub went_on : (code : Code) (L : Limits) (old new : Run) (m : Moment) (e : Event) (s : Slot) → Keeps (plain_code code) old m
@@ -90,19 +93,22 @@ went_on code L old new m e s keeps x number state made_is turns ord no_end count
     let here : StandsForOne C e.task (Some (record { task = s.task; pending = Some (answer_to old.world e) })) (goes_on e.action h (answer_to m.world e)) =
     answered_one C e.task s (answer_to old.world e) (goes_on e.action h (answer_to m.world e)) number counted
     (ap (λ g. answered g (answer_to old.world e)) halt ∙ ap (answered h) same_answer ∙ sym (ord.on h (answer_to m.world e))) further.0
-    (ord.on h (answer_to m.world e) ∙ further.1) in
-    (after code m e x.stands.state x.stands.made,
-    (made e x (subst (λ v. Within code v e) keeps.world within) refl,
-    record {
-      world = ap (λ r. r.world) is ∙ ap (λ w. world_after code w e) keeps.world;
-      outcome = ap (λ r. r.outcome) is ∙ keeps.outcome ∙ x.unfinished ∙ sym (ord.out m.world (world_after code m.world e) e.task);
-      stand = subst (λ slots. AllStand C slots (with_task (with_branch C x.stands.state e.action m.world.tree.begun m.tasks) e.task (goes_on e.action h (answer_to m.world e))))
-          (sym (ap (λ r. r.slots) is))
-          (subst (λ tasks. AllStand C (with_answer old.slots e.task s (answer_to old.world e)) (with_task tasks e.task (goes_on e.action h (answer_to m.world e))))
-          (sym (ord.branch C x.stands.state m.world.tree.begun m.tasks))
-          (stand_put C old.slots m.tasks e.task (record { task = s.task; pending = Some (answer_to old.world e) })
-          (goes_on e.action h (answer_to m.world e)) keeps.stand here));
-    }))
+    (ord.on h (answer_to m.world e) ∙ further.1) in (
+      after code m e x.stands.state x.stands.made,
+      (
+        made e x (subst (λ v. Within code v e) keeps.world within) refl,
+        record {
+          world = ap (λ r. r.world) is ∙ ap (λ w. world_after code w e) keeps.world;
+          outcome = ap (λ r. r.outcome) is ∙ keeps.outcome ∙ x.unfinished ∙ sym (ord.out m.world (world_after code m.world e) e.task);
+          stand = subst (λ slots. AllStand C slots (with_task (with_branch C x.stands.state e.action m.world.tree.begun m.tasks) e.task (goes_on e.action h (answer_to m.world e))))
+              (sym (ap (λ r. r.slots) is))
+              (subst (λ tasks. AllStand C (with_answer old.slots e.task s (answer_to old.world e)) (with_task tasks e.task (goes_on e.action h (answer_to m.world e))))
+              (sym (ord.branch C x.stands.state m.world.tree.begun m.tasks))
+              (stand_put C old.slots m.tasks e.task (record { task = s.task; pending = Some (answer_to old.world e) })
+              (goes_on e.action h (answer_to m.world e)) keeps.stand here));
+        },
+      ),
+    )
 
 -- the begin of a branch
 pub began : (code : Code) (L : Limits) (old new : Run) (m : Moment) (e : Event) (s child : Slot) (b : ℕ) (start : Start) → Keeps (plain_code code) old m
@@ -140,15 +146,19 @@ began code L old new m e s child b start keeps later x number state made_is turn
     (with_task (with_task m.tasks m.world.tree.begun (Some (at_start (plain_start start)))) e.task (goes_on e.action h (answer_to m.world e))) =
     stand_put C (insert old.slots m.world.tree.begun child) (with_task m.tasks m.world.tree.begun (Some (at_start (plain_start start)))) e.task
     (record { task = s.task; pending = Some (answer_to old.world e) }) (goes_on e.action h (answer_to m.world e))
-    (stand_put C old.slots m.tasks m.world.tree.begun child (Some (at_start (plain_start start))) keeps.stand (first C goes)) here in
-    (n, (moves,
-    record {
-      world = ap (λ r. r.world) is ∙ ap (λ w. world_after code w e) keeps.world;
-      outcome = ap (λ r. r.outcome) is ∙ keeps.outcome ∙ x.unfinished ∙ sym (ap (outcome_after m.world (world_after code m.world e) e.task) act);
-      stand = subst (λ slots. AllStand C slots n.tasks) (sym (ap (λ r. r.slots) is))
-          (subst (λ tasks. AllStand C (with_answer (insert old.slots m.world.tree.begun child) e.task s (answer_to old.world e))
-          (with_task tasks e.task (goes_on e.action h (answer_to m.world e)))) (sym branch) both);
-    }))
+    (stand_put C old.slots m.tasks m.world.tree.begun child (Some (at_start (plain_start start))) keeps.stand (first C goes)) here in (
+      n,
+      (
+        moves,
+        record {
+          world = ap (λ r. r.world) is ∙ ap (λ w. world_after code w e) keeps.world;
+          outcome = ap (λ r. r.outcome) is ∙ keeps.outcome ∙ x.unfinished ∙ sym (ap (outcome_after m.world (world_after code m.world e) e.task) act);
+          stand = subst (λ slots. AllStand C slots n.tasks) (sym (ap (λ r. r.slots) is))
+              (subst (λ tasks. AllStand C (with_answer (insert old.slots m.world.tree.begun child) e.task s (answer_to old.world e))
+              (with_task tasks e.task (goes_on e.action h (answer_to m.world e)))) (sym branch) both);
+        },
+      ),
+    )
   where
     no_begin : (b : ℕ) (y : Ending) → action.Begin b ≡ action.End y → ⊥
     no_begin b y e = cc
@@ -162,12 +172,16 @@ ended code L old new m e y keeps x act (over_so no is) = finished code L old new
 ended code L old new m e y keeps x act (made_so within is) =
     let C : PlainCode = plain_code code in
     let h : Halt ℕ (ℕ × ℕ) = front C e.task e.turns x.stands.made x.stands.state in
-    let n : Moment = after code m e x.stands.state x.stands.made in
-    (n, (made e x (subst (λ v. Within code v e) keeps.world within) refl,
-    record {
-      world = ap (λ r. r.world) is ∙ ap (λ w. world_after code w e) keeps.world;
-      outcome = ap (λ r. r.outcome) is ∙ ap (λ w. outcome_after w (world_after code w e) e.task e.action) keeps.world;
-      stand = subst (λ slots. AllStand C slots n.tasks) (sym (ap (λ r. r.slots) is))
-          (subst (λ a. AllStand C (remove old.slots e.task) (with_task (with_branch C x.stands.state a m.world.tree.begun m.tasks) e.task
-          (goes_on a h (answer_to m.world e)))) (sym act) (stand_taken C old.slots m.tasks e.task keeps.stand));
-    }))
+    let n : Moment = after code m e x.stands.state x.stands.made in (
+      n,
+      (
+        made e x (subst (λ v. Within code v e) keeps.world within) refl,
+        record {
+          world = ap (λ r. r.world) is ∙ ap (λ w. world_after code w e) keeps.world;
+          outcome = ap (λ r. r.outcome) is ∙ ap (λ w. outcome_after w (world_after code w e) e.task e.action) keeps.world;
+          stand = subst (λ slots. AllStand C slots n.tasks) (sym (ap (λ r. r.slots) is))
+              (subst (λ a. AllStand C (remove old.slots e.task) (with_task (with_branch C x.stands.state a m.world.tree.begun m.tasks) e.task
+              (goes_on a h (answer_to m.world e)))) (sym act) (stand_taken C old.slots m.tasks e.task keeps.stand));
+        },
+      ),
+    )

@@ -49,7 +49,7 @@ module _ (C : PlainCode) (slots : FinMap nat_cmp Slot) (tasks : ℕ → Option R
       subst (λ o. StandsForOne C q o (with_task tasks k x q)) (sym (get-insert nat_cmp_total slots k s q ∙ ap (λ b. cond b (Some s) (get slots q)) (one_test q k)))
       (elim (eqb_tells q k) [
         | inl same ↦ subst (λ b. StandsForOne C q (cond b (Some s) (get slots q)) (if b then x else tasks q)) (sym same.0)
-          (subst (λ n. StandsForOne C n (Some s) x) (sym same.1) here)
+            (subst (λ n. StandsForOne C n (Some s) x) (sym same.1) here)
         | inr apart ↦ subst (λ b. StandsForOne C q (cond b (Some s) (get slots q)) (if b then x else tasks q)) (sym apart.0) (all q)
       ])
 

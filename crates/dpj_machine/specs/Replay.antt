@@ -183,9 +183,13 @@ pub data Opens (code : Code) (L : Limits) (argument : ℤ) (m : Moment) : Type 0
   opened : length (first_fields code code.main_class) + 1 ≤ L.cells → m ≡ record {
     world = with_heap (world_at_start L) (with_object (world_at_start L).heap (instance code.main_class [] (first_fields code code.main_class)));
     tasks = root_alone code argument;
-    outcome = None } → Opens code L argument m
+    outcome = None;
+  } → Opens code L argument m
   no_room : L.cells < length (first_fields code code.main_class) + 1 → m ≡ record {
-    world = world_at_start L; tasks = root_alone code argument; outcome = Some (limited L) } → Opens code L argument m
+    world = world_at_start L;
+    tasks = root_alone code argument;
+    outcome = Some (limited L);
+  } → Opens code L argument m
 
 -- where a schedule leads, of which the latest number stands first
 abbrev pub LeadsTo : Code → Limits → ℤ → List ℕ → Moment → Type 0

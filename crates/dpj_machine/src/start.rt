@@ -17,12 +17,7 @@ use std::alloc::Global;
 
 /// The run at its start: the object of `main` is made, and the root has begun. Where there aren't cells for the object the run
 /// is finished.
-pub fn start(
-    alloc: Global,
-    code: &Code,
-    limits: Limits,
-    argument: i32,
-) -> Result<Run, NoMemory>
+pub fn start(alloc: Global, code: &Code, limits: Limits, argument: i32) -> Result<Run, NoMemory>
     requires { limits.cells ≤ 16777216 }
     ensures opens { IfOk result (λ run. (m : Moment) × Opens code.now limits argument m × (AllGo (plain_code code.now) m.tasks → Keeps (plain_code code.now) run m)) }
     ensures nothing { IfOk result (λ run. run.schedule ≡ []) }

@@ -28,11 +28,7 @@ fn entry_at(code: &Code, body: usize, at: usize) -> Option<&Items<Effect>>
 }
 
 /// The effects with which a task is to enter that rests where it stands, if that is in front of an entry.
-pub fn wants_of(
-    alloc: Global,
-    code: &Code,
-    task: &Task,
-) -> Result<Option<Items<Effect>>, NoMemory>
+pub fn wants_of(alloc: Global, code: &Code, task: &Task) -> Result<Option<Items<Effect>>, NoMemory>
     ensures roots { IfOk result (λ wants. AllRoot (wanted wants)) }
     ensures wants { IfOk result (λ wants. option_map (map plain_effect) wants ≡ wants_at (plain_code code.now) (state_of task.now)) }
 {

@@ -65,12 +65,7 @@ pub fn quotient(alloc: Global) -> Result<Code, NoMemory> {
 
 /// A `cobegin` of two branches with these instructions; behind it `return 5;`.
 fn two_branches(alloc: Global, one: &[Instr], two: &[Instr]) -> Result<Code, NoMemory> {
-    let main = [
-        Instr::Fork(0),
-        Instr::Join,
-        Instr::Int(5),
-        Instr::Return,
-    ];
+    let main = [Instr::Fork(0), Instr::Join, Instr::Int(5), Instr::Return];
     let mut code = code(alloc, main.as_slice())?;
     code.bodies.push(body(alloc, Title::Branch(0, 0), one)?)?;
     code.bodies.push(body(alloc, Title::Branch(0, 1), two)?)?;

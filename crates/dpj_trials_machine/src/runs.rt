@@ -15,7 +15,14 @@ fn a_run_comes_to_its_value_or_trap(rt: HostRuntime) -> Result<(), Fail> {
         // an entry and a line; the object of `main`, its field and the bytes of the line
         (9, WIDE, Ending::Done(4), "9\n", 2, 4),
         (7, WIDE, trapped, "7\n", 2, 4),
-        (9, Limits { steps: 2, cells: 4 }, Ending::Done(4), "9\n", 2, 4),
+        (
+            9,
+            Limits { steps: 2, cells: 4 },
+            Ending::Done(4),
+            "9\n",
+            2,
+            4,
+        ),
         (9, Limits { steps: 1, cells: 4 }, Ending::Limited, "", 1, 4),
         (9, Limits { steps: 2, cells: 3 }, Ending::Limited, "", 2, 3),
     ];

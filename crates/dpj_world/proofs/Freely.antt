@@ -4,7 +4,7 @@ use Rattle.std.specs.FinMap.{get}
 use Rattle.std.proofs.lemmas.Bool.{cases_lt, cases_order}
 use Rattle.dpj_base.specs.declared.effect.Effect.{Effect}
 use Rattle.dpj_locks.specs.Locks.{Standings, MayEnter, IsFree, IsLeastHolder, is_inside, hinders}
-use Rattle.dpj_tasks.specs.Tree.{is_ready, task_at, ready} 
+use Rattle.dpj_tasks.specs.Tree.{is_ready, task_at, ready}
 use Rattle.dpj_tasks.specs.Tree as tree
 use Rattle.dpj_world.specs.Ready.{IsFreeToEnter, IsFreeFor, IsReady, NoneReady, IsGreatestReady}
 use Rattle.dpj_world.specs.declared.world.World.{World}

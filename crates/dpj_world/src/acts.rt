@@ -8,8 +8,8 @@ ghost use Rattle.dpj_world.specs.Costs.{cells_of};
 ghost use Rattle.dpj_world.specs.World.{Fits, CanEnter, rested, answer_to, acted, read_at, wrote_at, written_at, adopted_by, join_answer, trap_in, slots_in, IsOutside};
 
 use crate::cost::first_fields;
-use crate::seen::{answer_of, joined_answer};
 use crate::event::Event;
+use crate::seen::{answer_of, joined_answer};
 use crate::waits::Waits;
 use crate::world::World;
 use dpj_base::{Bytes, Effect, Items, NoMemory, Place, Plain, Region, Trap, Value};
@@ -73,11 +73,7 @@ impl World {
 }
 
 /// A task rests, in front of an entry where it wants something.
-fn rest(
-    waits: &mut Waits,
-    task: u32,
-    wants: Option<Items<Effect>>,
-) -> Result<Answer, NoMemory>
+fn rest(waits: &mut Waits, task: u32, wants: Option<Items<Effect>>) -> Result<Answer, NoMemory>
     requires { AllRoot (wanted wants) }
     ensures answer { IfOk result (λ answer. answer ≡ Answer.Went) }
     ensures after { OnOk result (waits.new ≡ rested waits.old task wants) }
@@ -90,12 +86,7 @@ fn rest(
 }
 
 /// A task enters the block in front of which it has rested.
-fn enter(
-    alloc: Global,
-    locks: &mut Locks,
-    waits: &mut Waits,
-    task: u32,
-) -> Result<Answer, NoMemory>
+fn enter(alloc: Global, locks: &mut Locks, waits: &mut Waits, task: u32) -> Result<Answer, NoMemory>
     requires { CanEnter locks.old task (get waits.old task) }
     ensures answer { IfOk result (λ answer. answer ≡ Answer.Went) }
     ensures locks { OnOk result (locks.new ≡ entered locks.old task (wanted (get waits.old task))) }
@@ -181,12 +172,7 @@ fn make_array(heap: &mut Heap, len: u32, first: Value, region: Region) -> Result
     }
 }
 
-fn print(
-    heap: &mut Heap,
-    tree: &mut TaskTree,
-    task: u32,
-    bytes: &Bytes,
-) -> Result<Answer, NoMemory>
+fn print(heap: &mut Heap, tree: &mut TaskTree, task: u32, bytes: &Bytes) -> Result<Answer, NoMemory>
     requires { heap.old.used + length bytes.now ≤ heap.old.limit }
     ensures answer { IfOk result (λ answer. answer ≡ Answer.Went) }
     ensures cells { OnOk result (heap.new ≡ charged heap.old (length bytes.now)) }

@@ -11,13 +11,7 @@ pub fn steps_of(action: &Action) -> u64
 {
     match action {
         Action::Rest | Action::End(_) => 0,
-        Action::NewObject { constructor, .. } => {
-            if *constructor {
-                2
-            } else {
-                1
-            }
-        }
+        Action::NewObject { constructor, .. } => { if *constructor { 2 } else { 1 } }
         _ => 1,
     }
 }

@@ -14,8 +14,9 @@ adopted_back : (locks : Standings) (by task : ℕ) → is_inside locks task ≡ 
 adopted_back locks by task out = taken_back locks task _ (absent (get locks task) out)
 
 pub returns-in-Err-clause-err : goal.returns-in-Err-clause-err
-returns-in-Err-clause-err c =
-    (c.in-Err.ensures.err,
-    c.release.ensures ∙ ap (λ (locks : Standings). remove locks c.begun-number.result) c.in_ok-adopt.ensures.ok
-    ∙ adopted_back c.args.locks.now c.args.task c.begun-number.result
-    (subst (λ n. is_inside c.args.locks.now n ≡ false) (sym c.begun-number.ensures.number) c.requires.outside))
+returns-in-Err-clause-err c = (
+  c.in-Err.ensures.err,
+  c.release.ensures ∙ ap (λ (locks : Standings). remove locks c.begun-number.result) c.in_ok-adopt.ensures.ok
+      ∙ adopted_back c.args.locks.now c.args.task c.begun-number.result
+      (subst (λ n. is_inside c.args.locks.now n ≡ false) (sym c.begun-number.ensures.number) c.requires.outside),
+)

@@ -6,4 +6,4 @@ use Rattle.dpj_world.proofs.Maps.{none_in}
 use Rattle.dpj_world.proofs.waits.Waits.new.Goals as goal
 
 pub invariant_of-result : goal.invariant_of-result
-invariant_of-result c = λ q. subst (λ o. AllRoot (wanted o)) (sym (none_in c.new.result c.new.ensures.entries q)) tt
+invariant_of-result c = λ q. subst (λ o. AllRoot (wanted o)) (sym (none_in c.new.result c.new.ensures.empty q)) tt

@@ -12,8 +12,8 @@ pub loop-task-preserved : goal.loop-task-preserved
 loop-task-preserved c =
     passed c.args.self.now c.loop-task.bound c.in-Some.task c.in-Some.ensures (c.is_free.ensures.no c.if-is_free.false) c.loop-task.invariant
 
-pub returns-in-loop-task : goal.returns-in-loop-task
-returns-in-loop-task c =
+pub returns-then-is_free : goal.returns-then-is_free
+returns-then-is_free c =
     greatest_is c.args.self.now c.loop-task.bound c.in-Some.task c.in-Some.ensures (c.is_free.ensures.yes c.if-is_free.true) c.loop-task.invariant
 
 pub returns : goal.returns
