@@ -1,5 +1,0 @@
-pub mod Delivering
-pub mod Maps
-pub mod Acting
-pub mod Tasks
-pub mod Stepping

@@ -1,4 +1,0 @@
-pub mod Running
-pub mod Replay
-pub mod Premise
-pub mod Keeping
