@@ -65,6 +65,13 @@ impl Heap {
         self.used
     }
 
+    /// Whether so many cells more are within the limit.
+    pub fn has_room(&self, cells: u64) -> bool
+        ensures { IsTrue result ↔ (self.now.used + cells ≤ self.now.limit) }
+    {
+        cells <= self.limit - self.used
+    }
+
     /// Counts cells for something that is no object. It takes no memory.
     pub fn charge(&mut self, cells: u64) -> Result<(), HeapFull>
         ensures full { IsErr result ↔ IsOver self.old cells }

@@ -1,5 +1,5 @@
 -- Facts of each task of a map through its changes, and the numbers of a tree.
-use Rattle.std.proofs.Common.{◌≡◌, ◌≢◌, ℕ, ◌+◌, ◌<◌, refl, sym, ap, subst, ◌∙◌, Option, Some, None, Bool, true, false, cond, arith, true≢false}
+use Rattle.std.proofs.Common.{◌≡◌, ◌≢◌, ℕ, ◌+◌, ◌<◌, ◌≤◌, refl, sym, ap, subst, ◌∙◌, Option, Some, None, Bool, true, false, cond, arith, true≢false}
 use Rattle.std.specs.Ordering.{nat_cmp, eq_by_cmp}
 use Rattle.std.specs.Cmp.{nat_cmp_total, Equal-is, tied_itself}
 use Rattle.std.specs.FinMap.{get, insert, remove, empty, get-insert, get-remove, get-empty, nat_cmp-IsAntisymmetric}
@@ -98,6 +98,14 @@ number_below tasks begun k P numbered has = at (get tasks k) has (numbered.below
     at : (o : Option Task) → OfTask o P → OfEach o (λ task. k < begun) → k < begun
     at None has below = absurd has
     at (Some t) has below = below
+
+-- no task has a number from the count on
+pub absent_from : (tasks : Tasks) (begun : ℕ) → IsNumbered tasks begun → (q : ℕ) → begun ≤ q → get tasks q ≡ None
+absent_from tasks begun numbered q from = at (get tasks q) refl (numbered.below q)
+  where
+    at : (o : Option Task) → get tasks q ≡ o → OfEach o (λ task. q < begun) → o ≡ None
+    at None is below = refl
+    at (Some t) is below = absurd (omega (arith, below, from))
 
 pub next_absent : (tasks : Tasks) (begun : ℕ) → IsNumbered tasks begun → get tasks begun ≡ None
 next_absent tasks begun numbered = at (get tasks begun) refl (numbered.below begun)

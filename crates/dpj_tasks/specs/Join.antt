@@ -2,6 +2,7 @@
 use Rattle.std.specs.Prelude.{◌≡◌, ℕ, List, [], ◌∷◌, ◌++◌, Option, Some, None}
 use Rattle.dpj_base.specs.declared.place.Place.{Place}
 use Rattle.dpj_base.specs.declared.value.Trap.{Trap}
+use Rattle.dpj_legs.specs.declared.action.SlotValue.{SlotValue}
 use Rattle.dpj_tasks.specs.declared.end.TaskEnd.{TaskEnd}
 use Rattle.dpj_tasks.specs.declared.end.Joined.{Joined}
 
@@ -26,8 +27,13 @@ first_trap [] = None
 first_trap (None ∷ ends) = first_trap ends
 first_trap (Some e ∷ ends) = or_else e.trap (first_trap ends)
 
--- what branches that have all ended came to
+-- the slots that the branches assigned, in branch order
+abbrev pub all_slots : List (Option TaskEnd) → List SlotValue
+all_slots [] = []
+all_slots (None ∷ ends) = all_slots ends
+all_slots (Some e ∷ ends) = e.slots ++ all_slots ends
+
+-- what branches came to
 pub record JoinsTo (ends : List (Option TaskEnd)) (joined : Joined) : Type 0 where
-  pub ends_are : joined.ends ≡ ends
-  pub out_is : joined.out ≡ joined_out ends
   pub trap_is : joined.trap ≡ first_trap ends
+  pub slots_are : joined.slots ≡ all_slots ends

@@ -5,6 +5,10 @@ use Rattle.std.specs.Ordering.{nat_cmp}
 use Rattle.std.specs.FinMap.{FinMap, code, empty, get, insert, remove}
 use Rattle.dpj_base.specs.declared.path.PathStep.{PathStep}
 use Rattle.dpj_tasks.specs.Scope.{Branches, no_branch_yet, with_branch, with_end, can_go_on, all_begun, all_ended}
+use Rattle.dpj_base.specs.declared.place.Place.{Place}
+use Rattle.dpj_base.specs.declared.value.Trap.{Trap}
+use Rattle.dpj_legs.specs.declared.action.SlotValue.{SlotValue}
+use Rattle.dpj_tasks.specs.Join.{joined_out}
 use Rattle.dpj_tasks.specs.declared.end.TaskEnd.{TaskEnd}
 use Rattle.dpj_tasks.specs.declared.task.Origin.{Origin}
 use Rattle.dpj_tasks.specs.declared.task.State.{State}
@@ -31,7 +35,7 @@ abbrev pub task_at : Tree → ℕ → Option Task
 task_at tree n = get tree.tasks n
 
 abbrev pub fresh : Option Origin → Task
-fresh origin = record { origin = origin; forks = 0; state = Running }
+fresh origin = record { origin = origin; forks = 0; out = []; state = Running }
 
 abbrev pub only_root : Tree
 only_root = record { tasks = insert empty 0 (fresh None); begun = 1; root_end = None }
@@ -83,17 +87,25 @@ abbrev pub next : ℕ → ℕ
 next n = min (n + 1) 4294967295
 
 abbrev pub forked_task : ℕ → Task → Task
-forked_task count task = record { origin = task.origin; forks = next task.forks; state = Forked (no_branch_yet count) }
+forked_task count task = record { origin = task.origin; forks = next task.forks; out = task.out; state = Forked (no_branch_yet count) }
 
 abbrev pub in_scope : (Branches → Branches) → State → State
 in_scope change Running = Running
 in_scope change (Forked scope) = Forked (change scope)
 
 abbrev pub with_scope : (Branches → Branches) → Task → Task
-with_scope change task = record { origin = task.origin; forks = task.forks; state = in_scope change task.state }
+with_scope change task = record { origin = task.origin; forks = task.forks; out = task.out; state = in_scope change task.state }
 
+abbrev pub scope_ends : State → List (Option TaskEnd)
+scope_ends Running = []
+scope_ends (Forked scope) = scope.ends
+
+-- the outputs of the branches come behind the task's own
 abbrev pub joined_task : Task → Task
-joined_task task = record { origin = task.origin; forks = task.forks; state = Running }
+joined_task task = record { origin = task.origin; forks = task.forks; out = task.out ++ joined_out (scope_ends task.state); state = Running }
+
+abbrev pub printed_task : List ℕ → Task → Task
+printed_task bytes task = record { origin = task.origin; forks = task.forks; out = task.out ++ bytes; state = task.state }
 
 abbrev pub branches_begun : State → ℕ
 branches_begun Running = 0
@@ -128,17 +140,25 @@ abbrev pub origin_of : Option Task → Option Origin
 origin_of None = None
 origin_of (Some task) = task.origin
 
+-- what a task has printed
+abbrev pub out_of : Option Task → List ℕ
+out_of None = []
+out_of (Some task) = task.out
+
+abbrev pub end_of : Option Task → Option (Trap × Place) → List SlotValue → TaskEnd
+end_of task trap slots = record { out = out_of task; trap = trap; slots = slots }
+
 -- the task has ended: it is forgotten, and its end stands in its parent's scope
-abbrev pub without_task : Tree → ℕ → TaskEnd → Tree
-without_task tree n how = end_noted tree n (origin_of (task_at tree n)) how
+abbrev pub without_task : Tree → ℕ → Option (Trap × Place) → List SlotValue → Tree
+without_task tree n trap slots = end_noted tree n (origin_of (task_at tree n)) (end_of (task_at tree n) trap slots)
+
+-- the task has printed these bytes
+abbrev pub printed : Tree → ℕ → List ℕ → Tree
+printed tree n bytes = record { tasks = changed tree.tasks n (printed_task bytes); begun = tree.begun; root_end = tree.root_end }
 
 -- the task has joined its scope
 abbrev pub joined : Tree → ℕ → Tree
 joined tree n = record { tasks = changed tree.tasks n joined_task; begun = tree.begun; root_end = tree.root_end }
-
-abbrev pub scope_ends : State → List (Option TaskEnd)
-scope_ends Running = []
-scope_ends (Forked scope) = scope.ends
 
 -- the ends in the open scope of a task
 abbrev pub ends_in : Option Task → List (Option TaskEnd)

@@ -1,4 +1,5 @@
-use dpj_base::{Bytes, Items, Place, Trap, Value};
+use dpj_base::{Bytes, Items, Place, Trap};
+use dpj_legs::SlotValue;
 
 /// How a task ended.
 #[derive(Debug, Drop)]
@@ -7,17 +8,15 @@ pub struct TaskEnd {
     pub out: Bytes,
     /// The trap that ended it, and where in the text.
     pub trap: Option<(Trap, Place)>,
-    /// What its locals held last.
-    pub slots: Items<Value>,
+    /// The slots that it assigned and that a join copies back.
+    pub slots: Items<SlotValue>,
 }
 
 /// What the branches of a scope came to.
 #[derive(Debug, Drop)]
 pub struct Joined {
-    /// Their outputs in branch order, up to that of the first branch that trapped.
-    pub out: Bytes,
     /// The trap of the first branch, in branch order, that has one.
     pub trap: Option<(Trap, Place)>,
-    /// How each branch ended, in branch order. None is missing.
-    pub ends: Items<Option<TaskEnd>>,
+    /// The slots that the branches assigned, in branch order.
+    pub slots: Items<SlotValue>,
 }

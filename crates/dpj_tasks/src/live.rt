@@ -3,7 +3,7 @@ ghost use Rattle.std.specs.Option.{option_copied};
 ghost use Rattle.std.specs.FinMap.{empty, get, insert, remove};
 ghost use Rattle.dpj_tasks.specs.Join.{JoinsTo};
 ghost use Rattle.dpj_tasks.specs.Scope.{with_branch, with_end};
-ghost use Rattle.dpj_tasks.specs.Tree.{CanBegin, CanJoin, origin_of, ready, IsLastBelow, IsGreatestReady, NoneReady, changed, forked_task, with_scope, joined_task, ends_in};
+ghost use Rattle.dpj_tasks.specs.Tree.{CanBegin, CanJoin, origin_of, printed_task, ready, IsLastBelow, IsGreatestReady, NoneReady, changed, forked_task, with_scope, joined_task, ends_in};
 
 use crate::end::{Joined, TaskEnd};
 use crate::scope::Scope;
@@ -142,7 +142,19 @@ impl Live {
         let Some(task) = self.tasks.get_mut(&number) else {
             unreachable!()
         };
-        let joined = task.state.join(self.alloc)?;
+        let joined = task.join(self.alloc)?;
         Ok(joined)
+    }
+
+    /// Puts bytes behind what a task has printed.
+    pub fn print(&mut self, number: u32, bytes: &[u8]) -> Result<(), NoMemory>
+        ensures ok { OnOk result (self.new ≡ changed self.old number (printed_task bytes.now)) }
+        ensures err { OnErr result (self.new ≡ self.old) }
+    {
+        let Some(task) = self.tasks.get_mut(&number) else {
+            return Ok(());
+        };
+        task.out.extend(bytes)?;
+        Ok(())
     }
 }

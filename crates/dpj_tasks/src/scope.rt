@@ -1,12 +1,12 @@
-ghost use Rattle.std.specs.Prelude.{◌≡◌, ◌<◌, ◌≤◌, length, IsTrue, IfOk, OnOk, OnErr};
-ghost use Rattle.dpj_tasks.specs.Join.{JoinsTo, joined_out, first_trap};
-ghost use Rattle.dpj_tasks.specs.Scope.{no_branch_yet, with_branch, with_end, all_ended, can_go_on};
+ghost use Rattle.std.specs.Prelude.{◌≡◌, ◌<◌, ◌≤◌, ◌++◌, length, IfOk, OnOk, OnErr};
+ghost use Rattle.dpj_tasks.specs.Join.{JoinsTo, joined_out, first_trap, all_slots};
+ghost use Rattle.dpj_tasks.specs.Scope.{no_branch_yet, with_branch, with_end, can_go_on};
 
 use crate::end::{Joined, TaskEnd};
 use dpj_base::{Bytes, Items, NoMemory, Place, Trap};
+use dpj_legs::SlotValue;
 use std::alloc::Global;
 use std::marker::Model;
-use std::mem;
 
 /// The branches of a fork, in branch order, with the ends of those that have ended. A contract sees how many there
 /// are, and the ends so far.
@@ -77,23 +77,50 @@ impl Scope {
         self.ends.len() < self.count as usize || self.left == 0
     }
 
-    /// What the branches came to, all of which have ended. After want of memory the scope is as it was; else its ends
-    /// have been given away.
-    pub fn join(&mut self, alloc: Global) -> Result<Joined, NoMemory>
-        requires { IsTrue (all_ended self.old) }
-        ensures ok { IfOk result (JoinsTo self.old.ends) }
-        ensures err { OnErr result (self.new ≡ self.old) }
+    /// What the branches came to.
+    pub fn joined(&self, alloc: Global) -> Result<Joined, NoMemory>
+        ensures { IfOk result (JoinsTo self.now.ends) }
     {
-        let out = joined_out(alloc, self.ends.as_slice())?;
-        let trap = first_trap(self.ends.as_slice());
-        let ends = mem::replace(&mut self.ends, Vec::new(alloc));
-        self.left = 0;
-        Ok(Joined {
-            out,
-            trap,
-            ends: Items::from_vec(ends),
-        })
+        joined(alloc, self.ends.as_slice())
     }
+
+    /// What the branches printed.
+    pub fn output(&self, alloc: Global) -> Result<Bytes, NoMemory>
+        ensures { IfOk result (λ out. out ≡ joined_out self.now.ends) }
+    {
+        joined_out(alloc, self.ends.as_slice())
+    }
+}
+
+/// What branches came to that ended so.
+pub fn joined(alloc: Global, ends: &[Option<TaskEnd>]) -> Result<Joined, NoMemory>
+    ensures { IfOk result (JoinsTo ends.now) }
+{
+    Ok(Joined {
+        trap: first_trap(ends),
+        slots: all_slots(alloc, ends)?,
+    })
+}
+
+fn all_slots(alloc: Global, ends: &[Option<TaskEnd>]) -> Result<Items<SlotValue>, NoMemory>
+    ensures { IfOk result (λ slots. slots ≡ all_slots ends.now) }
+{
+    let mut slots = Items::new(alloc);
+    for end in ends {
+        if let Some(end) = end {
+            append(&mut slots, end.slots.as_slice())?;
+        }
+    }
+    Ok(slots)
+}
+
+fn append(slots: &mut Items<SlotValue>, more: &[SlotValue]) -> Result<(), NoMemory>
+    ensures { OnOk result (slots.new ≡ slots.old ++ more.now) }
+{
+    for slot in more {
+        slots.push(*slot)?;
+    }
+    Ok(())
 }
 
 fn joined_out(alloc: Global, ends: &[Option<TaskEnd>]) -> Result<Bytes, NoMemory>

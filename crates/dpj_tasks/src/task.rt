@@ -1,8 +1,8 @@
 ghost use Rattle.std.specs.Prelude.{◌≡◌, ◌<◌, length, IsTrue, IfOk, OnOk, OnErr};
 
 use crate::end::{Joined, TaskEnd};
-use crate::scope::Scope;
-use dpj_base::{NoMemory, PathStep};
+use crate::scope::{Scope, joined};
+use dpj_base::{Bytes, NoMemory, PathStep};
 use std::alloc::Global;
 
 /// Where a task came from.
@@ -29,12 +29,14 @@ pub struct Task {
     pub origin: Option<Origin>,
     /// How many forks it has made.
     pub forks: u32,
+    /// What it has printed, with the output of what it joined.
+    pub out: Bytes,
     pub state: State,
 }
 
 impl State {
-    ghost use Rattle.dpj_tasks.specs.Join.{JoinsTo};
-    ghost use Rattle.dpj_tasks.specs.Scope.{with_branch, with_end, all_begun, all_ended};
+    ghost use Rattle.dpj_tasks.specs.Join.{JoinsTo, joined_out};
+    ghost use Rattle.dpj_tasks.specs.Scope.{with_branch, with_end};
     ghost use Rattle.dpj_tasks.specs.Tree.{OfScope, in_scope, state_ready, branches_begun, scope_ends};
 
     /// Whether there is no open scope, or a branch of it can begin, or it can be joined.
@@ -79,18 +81,41 @@ impl State {
         }
     }
 
-    /// Joins the open scope.
+    /// What the branches of the open scope came to.
+    fn joined(&self, alloc: Global) -> Result<Joined, NoMemory>
+        ensures { IfOk result (JoinsTo (scope_ends self.now)) }
+    {
+        match self {
+            State::Running => joined(alloc, &[]),
+            State::Forked(scope) => scope.joined(alloc),
+        }
+    }
+
+    /// What the branches of the open scope printed.
+    fn output(&self, alloc: Global) -> Result<Bytes, NoMemory>
+        ensures { IfOk result (λ out. out ≡ joined_out (scope_ends self.now)) }
+    {
+        match self {
+            State::Running => Ok(Bytes::new(alloc)),
+            State::Forked(scope) => scope.output(alloc),
+        }
+    }
+}
+
+impl Task {
+    ghost use Rattle.dpj_tasks.specs.Join.{JoinsTo};
+    ghost use Rattle.dpj_tasks.specs.Tree.{joined_task, scope_ends};
+
+    /// Joins the open scope. The outputs of its branches come behind the task's own.
     pub fn join(&mut self, alloc: Global) -> Result<Joined, NoMemory>
-        requires { OfScope self.old (λ scope. IsTrue (all_begun scope) × IsTrue (all_ended scope)) }
-        ensures ok { IfOk result (JoinsTo (scope_ends self.old)) }
-        ensures joined { OnOk result (self.new ≡ State.Running) }
+        ensures ok { IfOk result (JoinsTo (scope_ends self.old.state)) }
+        ensures joined { OnOk result (self.new ≡ joined_task self.old) }
         ensures err { OnErr result (self.new ≡ self.old) }
     {
-        let State::Forked(scope) = self else {
-            unreachable!()
-        };
-        let joined = scope.join(alloc)?;
-        *self = State::Running;
+        let joined = self.state.joined(alloc)?;
+        let more = self.state.output(alloc)?;
+        self.out.extend(more.as_slice())?;
+        self.state = State::Running;
         Ok(joined)
     }
 }

@@ -1,11 +1,12 @@
-ghost use Rattle.std.specs.Prelude.{◌≡◌, ◌<◌, IsTrue, IfOk, OnOk, OnErr, MatchOption, Some, false, ℕ};
+ghost use Rattle.std.specs.Prelude.{◌≡◌, ◌<◌, ◌≤◌, IfOk, OnOk, OnErr, MatchOption, None, ℕ};
 ghost use Rattle.std.specs.Option.{option_copied};
 ghost use Rattle.dpj_tasks.specs.Tree.{fresh, next_origin};
 
 use crate::end::{Joined, TaskEnd};
 use crate::live::Live;
 use crate::task::{Origin, State, Task};
-use dpj_base::{Items, NoMemory, Path, PathStep};
+use dpj_base::{Bytes, Items, NoMemory, Path, PathStep, Place, Trap};
+use dpj_legs::SlotValue;
 use std::alloc::Global;
 use std::marker::Model;
 
@@ -34,14 +35,14 @@ impl Model for TaskTree {
 
 impl TaskTree {
     ghost use Rattle.dpj_tasks.specs.Join.{JoinsTo};
-    ghost use Rattle.dpj_tasks.specs.Tree.{only_root, task_at, Runs, CanBegin, CanJoin, is_ready, forked, with_task, without_task, joined, ends_in, IsPath, IsGreatestReady, NoneReady};
+    ghost use Rattle.dpj_tasks.specs.Tree.{only_root, task_at, Runs, CanBegin, CanJoin, is_ready, forked, with_task, without_task, joined, printed, ends_in, IsPath, IsGreatestReady, NoneReady};
 
     /// The root alone, which has begun.
     pub fn open(alloc: Global) -> Result<TaskTree, NoMemory>
         ensures { IfOk result (λ tree. tree ≡ only_root) }
     {
         let mut tasks = Live::new(alloc);
-        tasks.insert(0, fresh(None))?;
+        tasks.insert(0, fresh(alloc, None))?;
         Ok(TaskTree {
             tasks,
             begun: 1,
@@ -52,8 +53,10 @@ impl TaskTree {
 
     /// How many tasks have begun: the number of the next.
     pub fn begun(&self) -> u32
-        ensures { result ≡ self.now.begun }
+        ensures number { result ≡ self.now.begun }
+        ensures all { (q : ℕ) → self.now.begun ≤ q → task_at self.now q ≡ None }
     {
+        let _ = &self.tasks;
         self.begun
     }
 
@@ -107,7 +110,7 @@ impl TaskTree {
         ensures err { OnErr result (self.new ≡ self.old) }
     {
         let number = self.begun;
-        let child = fresh(next_origin(task, self.tasks.get(task)));
+        let child = fresh(self.alloc, next_origin(task, self.tasks.get(task)));
         self.tasks.insert(number, child)?;
         if let Err(stop) = self.tasks.begin(task) {
             let _ = self.tasks.remove(number);
@@ -119,12 +122,17 @@ impl TaskTree {
 
     /// Ends a task, which is forgotten. Its end stays with the scope of its parent, or with the tree for the root. It
     /// takes no memory.
-    pub fn end(&mut self, task: u32, how: TaskEnd)
+    pub fn end(&mut self, task: u32, trap: Option<(Trap, Place)>, slots: Items<SlotValue>)
         requires { Runs self.old.tasks task }
-        ensures { self.new ≡ without_task self.old task how }
+        ensures { self.new ≡ without_task self.old task trap slots }
     {
         let Some(ended) = self.tasks.remove(task) else {
             unreachable!()
+        };
+        let how = TaskEnd {
+            out: ended.out,
+            trap,
+            slots,
         };
         match ended.origin {
             None => self.root_end = Some(how),
@@ -132,7 +140,16 @@ impl TaskTree {
         }
     }
 
-    /// Joins the open scope of a task, whose branches have all begun and ended.
+    /// Puts bytes behind what a task has printed.
+    pub fn print(&mut self, task: u32, bytes: &[u8]) -> Result<(), NoMemory>
+        ensures ok { OnOk result (self.new ≡ printed self.old task bytes.now) }
+        ensures err { OnErr result (self.new ≡ self.old) }
+    {
+        self.tasks.print(task, bytes)?;
+        Ok(())
+    }
+
+    /// Joins the open scope of a task, whose branches have all begun and ended. Their outputs come behind its own.
     pub fn join(&mut self, task: u32) -> Result<Joined, NoMemory>
         requires { CanJoin self.old.tasks task }
         ensures ok { IfOk result (JoinsTo (ends_in (task_at self.old task))) }
@@ -160,12 +177,13 @@ impl TaskTree {
     }
 }
 
-fn fresh(origin: Option<Origin>) -> Task
+fn fresh(alloc: Global, origin: Option<Origin>) -> Task
     ensures { result ≡ fresh origin }
 {
     Task {
         origin,
         forks: 0,
+        out: Bytes::new(alloc),
         state: State::Running,
     }
 }

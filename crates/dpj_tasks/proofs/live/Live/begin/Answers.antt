@@ -15,12 +15,12 @@ pub returns-clause-ok : goal.returns-clause-ok
 returns-clause-ok c =
     written c.self.inside.tasks c.get_mut.follows.lender c.args.number _ c.in-Some.task.now
     (with_scope with_branch) c.in-Some.ensures.value c.get_mut.follows.holds
-    (ap (λ state. record { origin = c.in-Some.task.now.origin; forks = c.in-Some.task.now.forks; state = state }) c.in_ok-begin.ensures.ok)
+    (ap (λ state. record { origin = c.in-Some.task.now.origin; forks = c.in-Some.task.now.forks; out = c.in-Some.task.now.out; state = state }) c.in_ok-begin.ensures.ok)
     ∙ ap (λ (tasks : Tasks). changed tasks c.args.number (with_scope with_branch)) c.self.view_is
 
 pub returns-in_err-begin-clause-err : goal.returns-in_err-begin-clause-err
 returns-in_err-begin-clause-err c =
     on_err c.from_residual.result _
     (written_same c.self.inside.tasks c.get_mut.follows.lender c.args.number _ c.in-Some.task.now c.in-Some.ensures.value c.get_mut.follows.holds
-    (ap (λ state. record { origin = c.in-Some.task.now.origin; forks = c.in-Some.task.now.forks; state = state }) c.in_err-begin.ensures.err)
+    (ap (λ state. record { origin = c.in-Some.task.now.origin; forks = c.in-Some.task.now.forks; out = c.in-Some.task.now.out; state = state }) c.in_err-begin.ensures.err)
     ∙ c.self.view_is)

@@ -3,19 +3,16 @@ use Rattle.std.proofs.Common.{ap, ◌∙◌, sym, subst}
 use Rattle.std.specs.FinMap.{get}
 use Rattle.dpj_tasks.specs.Join.{JoinsTo}
 use Rattle.dpj_tasks.specs.Tree.{Tasks, changed, joined_task, ends_in}
-use Rattle.dpj_tasks.proofs.Maps.{written, written_same, of_found, of_none, get_seen, on_err}
+use Rattle.dpj_tasks.proofs.Maps.{written, written_same, of_none, get_seen, on_err}
 use Rattle.dpj_tasks.proofs.live.Live.join.Goals as goal
 
 pub unreachable-requires : goal.unreachable-requires
 unreachable-requires c = of_none c.self.inside.tasks c.args.number c.args.self.now _ c.in_default.ensures.value c.self.view_is c.requires
 
-pub join-requires : goal.join-requires
-join-requires c = of_found c.self.inside.tasks c.args.number c.in-Some.task.now c.args.self.now _ c.in-Some.ensures.value c.self.view_is c.requires
-
 pub returns-clause-joined : goal.returns-clause-joined
 returns-clause-joined c =
     written c.self.inside.tasks c.get_mut.follows.lender c.args.number _ c.in-Some.task.now (joined_task) c.in-Some.ensures.value c.get_mut.follows.holds
-    (ap (λ state. record { origin = c.in-Some.task.now.origin; forks = c.in-Some.task.now.forks; state = state }) c.in_ok-joined.ensures.joined)
+    c.in_ok-joined.ensures.joined
     ∙ ap (λ (tasks : Tasks). changed tasks c.args.number (joined_task)) c.self.view_is
 
 pub returns-clause-ok : goal.returns-clause-ok
@@ -28,5 +25,5 @@ pub returns-in_err-joined-clause-err : goal.returns-in_err-joined-clause-err
 returns-in_err-joined-clause-err c =
     on_err c.from_residual.result _
     (written_same c.self.inside.tasks c.get_mut.follows.lender c.args.number _ c.in-Some.task.now c.in-Some.ensures.value c.get_mut.follows.holds
-    (ap (λ state. record { origin = c.in-Some.task.now.origin; forks = c.in-Some.task.now.forks; state = state }) c.in_err-joined.ensures.err)
+    c.in_err-joined.ensures.err
     ∙ c.self.view_is)

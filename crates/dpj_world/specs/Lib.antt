@@ -1,0 +1,4 @@
+pub mod Waits
+pub mod Costs
+pub mod World
+pub mod Ready
