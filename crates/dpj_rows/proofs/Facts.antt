@@ -34,12 +34,14 @@ use Rattle.dpj_rows.specs.Rows.{is_own, HasRows}
 
 -- an element of two lists one after the other
 pub got_either : {A : Type 0} (xs ys : List A) (i : ℕ) (x : A) → slice_get (xs ++ ys) i ≡ Some x → (slice_get xs i ≡ Some x) ⊎ ((j : ℕ) × (i ≡ length xs + j) × (slice_get ys j ≡ Some x))
-got_either [] ys i x e = inr (i, (refl, e))
+got_either [] ys i x e =
+    let here : i ≡ 0 + i = omega arith in
+    inr (i, here, e)
 got_either (y ∷ xs) ys zero x e = inl e
 got_either (y ∷ xs) ys (suc i) x e =
     elim (got_either xs ys i x e) [
       | inl l ↦ inl l
-      | inr r ↦ inr (r.0, (omega (arith, r.1.0), r.1.1))
+      | inr r ↦ inr (r.0, omega (arith, r.1), r.2)
     ]
 
 -- methods are numbered in the order of the text
@@ -73,8 +75,8 @@ meant_numbered headers all at count (class ∷ classes) i row e =
     elim (got_either own (methods_meant headers all (at + 1) (count + length own) classes) i row e) [
       | inl here ↦ from_numbered scope count class.members i row here
       | inr more ↦
-          let h = meant_numbered headers all (at + 1) (count + length own) classes more.0 row more.1.1 in
-          let on : count + length own + more.0 ≡ count + i = omega (arith, more.1.0) in
+          let h = meant_numbered headers all (at + 1) (count + length own) classes more.0 row more.2 in
+          let on : count + length own + more.0 ≡ count + i = omega (arith, more.1) in
           h ∙ ap as_number on
     ]
 
@@ -121,8 +123,8 @@ nearest_in f [] x e = cc
 nearest_in f (class ∷ classes) x e = by (f class) refl e (nearest_in f classes x)
   where
     by : (o : Option ℕ) → f class ≡ o → option_map_or (λ number. Some number) o (nearest f classes) ≡ Some x → (nearest f classes ≡ Some x → (one : ℕ) × Among one classes × (f one ≡ Some x)) → (one : ℕ) × Among one (class ∷ classes) × (f one ≡ Some x)
-    by None is found more = let w = more found in (w.0, (inr w.1.0, w.1.1))
-    by (Some y) is found more = (class, (inl refl, is ∙ found))
+    by None is found more = let w = more found in (w.0, inr w.1, w.2)
+    by (Some y) is found more = (class, inl refl, is ∙ found)
 
 -- a class and those above it, so many at most
 pub chain_up : (table : Table) (n at class : ℕ) → Among class (chain (parent_of (headers_of table)) n at) → (m : ℕ) × (up (parents_of (headers_of table)) m at ≡ Some class)
@@ -148,11 +150,11 @@ last_in class name at found [] id e = inl e
 last_in class name at found (row ∷ rows) id e =
     elim (last_in class name (at + 1) (cond (is_method_of class name row) (Some row.id) found) rows id e) [
       | inl now ↦ by (is_method_of class name row) refl now
-      | inr w ↦ inr (suc w.0, (w.1.0, (w.1.1.0, w.1.1.1)))
+      | inr w ↦ inr (suc w.0, w.1, w.2, w.3, w.4)
     ]
   where
     by : (b : Bool) → is_method_of class name row ≡ b → cond b (Some row.id) found ≡ Some id → (found ≡ Some id) ⊎ ((i : ℕ) × (one : MethodRow) × (slice_get (row ∷ rows) i ≡ Some one) × (is_method_of class name one ≡ true) × (one.id ≡ id))
-    by true is now = let same : row.id ≡ id = cc in inr (0, (row, (refl, (is, same))))
+    by true is now = let same : row.id ≡ id = cc in inr (0, row, refl, is, same)
     by false is now = inl now
 
 -- the method that a name means in one of the classes
@@ -160,13 +162,13 @@ pub record IsMethod (table : Table) (class name id : ℕ) : Type 0 where
   pub row : MethodRow
   pub there : slice_get (methods_of table) id ≡ Some row
   pub own : is_own class row ≡ true
-  pub name : row.name ≡ name
+  pub called : row.name ≡ name
 
 pub own_is : (table : Table) → Facts table → (class name id : ℕ) → method_number (methods_of table) class name ≡ Some id → IsMethod table class name id
 own_is table facts class name id e =
     elim (last_in class name 0 None (methods_of table) id e) [
       | inl none ↦ absurd (none-some id none)
-      | inr w ↦ of w.0 w.1.0 w.1.1.0 w.1.1.1.0 w.1.1.1.1
+      | inr w ↦ of w.0 w.1 w.2 w.3 w.4
     ]
   where
     of : (i : ℕ) (row : MethodRow) → slice_get (methods_of table) i ≡ Some row → is_method_of class name row ≡ true → row.id ≡ id → IsMethod table class name id
@@ -178,7 +180,7 @@ own_is table facts class name id e =
           row = row;
           there = subst (λ k. slice_get (methods_of table) k ≡ Some row) place there;
           own = ap (λ b. b && (row.owner == class)) first.0 ∙ second.0;
-          name = elim (eqb_tells row.name name) [ inl p ↦ p.1 | inr q ↦ absurd (true_false (second.1) (q.0)) ];
+          called = elim (eqb_tells row.name name) [ inl p ↦ p.1 | inr q ↦ absurd (true_false (second.1) (q.0)) ];
         }
       where
         true_false : {b : Bool} → b ≡ true → b ≡ false → ⊥
@@ -187,8 +189,8 @@ own_is table facts class name id e =
 pub named_is : (table : Table) → Facts table → (at name id : ℕ) → method_named table at name ≡ Some id → (class n : ℕ) × (up (parents_of (headers_of table)) n at ≡ Some class) × IsMethod table class name id
 named_is table facts at name id e =
     let w = nearest_in (λ class. method_number (methods_of table) class name) (chain (parent_of (headers_of table)) (class_count (headers_of table)) at) id e in
-    let u = chain_up table (class_count (headers_of table)) at w.0 w.1.0 in
-    (w.0, (u.0, (u.1, own_is table facts w.0 name id w.1.1)))
+    let u = chain_up table (class_count (headers_of table)) at w.0 w.1 in
+    (w.0, u.0, u.1, own_is table facts w.0 name id w.2)
 
 -- what a method overrides its name means in the superclass of its class
 pub over_is : (table : Table) → Facts table → (i above : ℕ) (row : MethodRow) → slice_get (methods_of table) i ≡ Some row → entry_at table.overrides i ≡ Some above →
@@ -199,4 +201,4 @@ over_is table facts i above row there e = by row.is_constructor (parent_of (head
         → (parent : ℕ) × (parent_of (headers_of table) row.owner ≡ Some parent) × (method_named table parent row.name ≡ Some above)
     by true o is found = cc
     by false None is found = cc
-    by false (Some p) is found = (p, (is, found))
+    by false (Some p) is found = (p, is, found)

@@ -1,5 +1,5 @@
 -- A class has no more members than there are methods.
-use Rattle.std.proofs.Common.{◌≡◌, ◌≢◌, ◌∙◌, ℕ, zero, suc, ◌+◌, ◌<◌, ◌≤◌, ◌==◌, ◌&&◌, ◌||◌, not, is_some, is_none, Bool, true, false, cond, List, [], ◌∷◌, ◌++◌, length, length-set, map, fold, slice_set, inl, inr, Option, None, Some, refl, ap, sym, subst, arith}
+use Rattle.std.proofs.Common.{◌≡◌, ◌≢◌, ◌⊎◌, ◌∙◌, ℕ, zero, suc, ◌+◌, ◌<◌, ◌≤◌, ◌==◌, ◌&&◌, ◌||◌, not, is_some, is_none, Bool, true, false, cond, List, [], ◌∷◌, ◌++◌, length, length-set, map, fold, slice_set, inl, inr, Option, None, Some, refl, ap, sym, subst, arith}
 use Rattle.std.proofs.lemmas.Bool.Decides.{eqb_tells}
 use Rattle.std.proofs.lemmas.List.{length-append, length-map}
 use Rattle.std.specs.List.{filter}
@@ -43,12 +43,12 @@ module _ (table : Table) (facts : Facts table)
         by : (b : Bool) → is_own class row ≡ b → ((some : List ℕ) → length (fold (with_member table) some more) ≡ length some + new_in table.overrides class (at + 1) rest) →
             length (fold (with_member table) rows (map (λ row. row.id) (cond b (row ∷ filter (λ row. not row.is_constructor && (row.owner == class)) rest) (filter (λ row. not row.is_constructor && (row.owner == class)) rest))))
             ≡ length rows + (one_new table.overrides class at row + new_in table.overrides class (at + 1) rest)
-        by false no h =
-            let none = ap (λ b. cond b (cond (is_none (entry_at table.overrides at)) 1 0) 0) no in
+        by false not_mine h =
+            let none = ap (λ b. cond b (cond (is_none (entry_at table.overrides at)) 1 0) 0) not_mine in
             let more = h rows in
             omega (arith, none, more)
-        by true yes h =
-            let one = ap (λ b. cond b (cond (is_none (entry_at table.overrides at)) 1 0) 0) yes in
+        by true is_mine h =
+            let one = ap (λ b. cond b (cond (is_none (entry_at table.overrides at)) 1 0) 0) is_mine in
             let same = ap (λ k. cond (is_none (entry_at table.overrides k)) 1 0) id in
             let more = h (with_member table rows row.id) in
             let grown = size (entry_at table.overrides row.id) refl in
@@ -125,7 +125,7 @@ tallied table facts (suc n) class e = by (parent_of (headers_of table) class) re
 
     none_kind : (rows : List MethodRow) → tally (λ c. false) rows ≡ 0
     none_kind [] = refl
-    none_kind (row ∷ rows) = none_kind rows
+    none_kind (row ∷ rows) = let h = none_kind rows in omega (arith, h)
 
     by : (o : Option ℕ) → parent_of (headers_of table) class ≡ o → ((above : ℕ) → up parents n above ≡ None → Tallied table above) → Tallied table class
     by None is more = record {

@@ -76,11 +76,11 @@ module _ (table : Table) (facts : Facts table) (few : length (methods_of table) 
       few = omega (arith, next, sized table facts class, members_few table facts class, few);
       above = λ j id row there own e.
           let w = over_is table facts j id row there e in
-          let p = named_is table facts w.0 row.name id w.1.1 in
-          let parent : parent_of (headers_of table) class ≡ Some w.0 = ap (parent_of (headers_of table)) (sym (owner_of class row own)) ∙ w.1.0 in
-          let m = p.1.1.1 in (
+          let p = named_is table facts w.0 row.name id w.2 in
+          let parent : parent_of (headers_of table) class ≡ Some w.0 = ap (parent_of (headers_of table)) (sym (owner_of class row own)) ∙ w.1 in
+          let m = p.3 in (
             (above_done s class w.0 holds parent p.1.0 p.0 p.1.1.0).rows id m.row m.there m.own,
-            λ k other is_there mine same. straight w.0 p.0 p.1.0 parent p.1.1.0 (owned_once k id other m.row is_there same m.there mine p.0 m.own),
+            λ k other is_there mine same. straight w.0 p.0 p.1 parent p.2 (owned_once k id other m.row is_there same m.there mine p.0 m.own),
           );
     }
       where
@@ -96,7 +96,8 @@ module _ (table : Table) (facts : Facts table) (few : length (methods_of table) 
 
         owned_once : (k id : ℕ) (other row : MethodRow) → slice_get (methods_of table) k ≡ Some other → 0 + k ≡ id → slice_get (methods_of table) id ≡ Some row → is_own class other ≡ true → (owner : ℕ) → is_own owner row ≡ true → owner ≡ class
         owned_once k id other row there same also mine owner own =
-            let one : other ≡ row = some_same (sym there ∙ ap (slice_get (methods_of table)) same ∙ also) in
+            let plain : k ≡ id = omega (arith, same) in
+            let one : other ≡ row = some_same (sym there ∙ ap (slice_get (methods_of table)) plain ∙ also) in
             sym (owner_of owner row own) ∙ ap (λ (r : MethodRow). r.owner) (sym one) ∙ owner_of class other mine
           where
             some_same : {A : Type 0} {x y : A} → Some x ≡ Some y → x ≡ y
@@ -131,8 +132,9 @@ module _ (table : Table) (facts : Facts table) (few : length (methods_of table) 
         starts_plain s class fine holds = let h = (starts s class fine holds).count in omega (arith, h)
 
         others : (i : ℕ) (row : MethodRow) (one : ℕ) → slice_get (methods_of table) i ≡ Some row → is_own one row ≡ true → (class : ℕ) → one ≢ class → (j : ℕ) (other : MethodRow) → slice_get (methods_of table) j ≡ Some other → is_own class other ≡ true → 0 + j ≡ i → ⊥
-        others i row one there own class apart j other also mine same = apart
-            (sym (owner_of one row own) ∙ ap (λ (r : MethodRow). r.owner) (some_same (sym there ∙ ap (slice_get (methods_of table)) (sym same) ∙ also)) ∙ owner_of class other mine)
+        others i row one there own class apart j other also mine same =
+            let plain : i ≡ j = omega (arith, same) in
+            apart (sym (owner_of one row own) ∙ ap (λ (r : MethodRow). r.owner) (some_same (sym there ∙ ap (slice_get (methods_of table)) plain ∙ also)) ∙ owner_of class other mine)
           where
             some_same : {A : Type 0} {x y : A} → Some x ≡ Some y → x ≡ y
             some_same h = cc

@@ -19,7 +19,8 @@ use Rattle.dpj_rows.specs.Rows.{is_own, one_new, new_in, RowIs, as_overridden, a
 pub new_append : (overrides : List (Option ℕ)) (class at : ℕ) (xs ys : List MethodRow) → new_in overrides class at (xs ++ ys) ≡ new_in overrides class at xs + new_in overrides class (at + length xs) ys
 new_append overrides class at [] ys =
     let here : at ≡ at + 0 = omega arith in
-    ap (λ k. new_in overrides class k ys) here
+    let e = ap (λ k. new_in overrides class k ys) here in
+    omega (arith, e)
 new_append overrides class at (x ∷ xs) ys =
     let h = new_append overrides class (at + 1) xs ys in
     let here : at + 1 + length xs ≡ at + suc (length xs) = omega arith in
@@ -37,12 +38,12 @@ method_own row method = elim (eqb_tells row.owner row.owner) [ inl p ↦ cc (p.0
 
 -- a method has one row
 pub one_row : (overrides : List (Option ℕ)) (methods : List MethodRow) (base : ℕ → ℕ) (id left right : ℕ) → RowIs overrides methods base id left → RowIs overrides methods base id right → left ≡ right
-one_row overrides methods base id left right (as_overridden id above left e h) (as_overridden id other right f k) =
+one_row overrides methods base id left right (as_overridden above e h) (as_overridden other f k) =
     let same : above ≡ other = cc in
     one_row overrides methods base above left right h (subst (λ n. RowIs overrides methods base n right) (sym same) k)
-one_row overrides methods base id left right (as_overridden id above left e h) (as_next id right m there none is) = cc (e, none)
-one_row overrides methods base id left right (as_next id left m there none is) (as_overridden id above right e h) = cc (e, none)
-one_row overrides methods base id left right (as_next id left m there none is) (as_next id right o also no be) =
+one_row overrides methods base id left right (as_overridden above e h) (as_next m there none is) = cc (e, none)
+one_row overrides methods base id left right (as_next m there none is) (as_overridden above e h) = cc (e, none)
+one_row overrides methods base id left right (as_next m there none is) (as_next o also free be) =
     let same : m ≡ o = cc in
     is ∙ ap (λ (r : MethodRow). base r.owner + new_in overrides r.owner 0 (take id methods)) same ∙ sym be
 
@@ -95,8 +96,8 @@ module _ (overrides : List (Option ℕ)) (methods : List MethodRow) (base : ℕ 
 
     -- no method of the class
     passed : (at : ℕ) (row : MethodRow) (rest : List MethodRow) (seen made : Numbering) → is_own class row ≡ false → Numbered (at + 1) rest seen made → Numbered at (row ∷ rest) seen made
-    passed at row rest seen made no n =
-        let none = ap (λ b. cond b (cond (is_none (entry_at overrides at)) 1 0) 0) no in
+    passed at row rest seen made not_mine n =
+        let none = ap (λ b. cond b (cond (is_none (entry_at overrides at)) 1 0) 0) not_mine in
         record {
           count = omega (arith, n.count, none);
           as_many = n.as_many;
@@ -108,7 +109,7 @@ module _ (overrides : List (Option ℕ)) (methods : List MethodRow) (base : ℕ 
         by zero other there own =
             let same : row ≡ other = cc in
             let both : is_own class row ≡ true = ap (is_own class) same ∙ own in
-            cc (both, no)
+            cc (both, not_mine)
         by (suc j) other there own =
             let on : at + 1 + j ≡ at + suc j = omega arith in
             subst (λ k. RowIs overrides methods base k (get_or made.rows k 0)) on (n.found j other there own)
@@ -116,11 +117,11 @@ module _ (overrides : List (Option ℕ)) (methods : List MethodRow) (base : ℕ 
     -- a method of the class, which gets this row
     given : (at value more : ℕ) (row : MethodRow) (rest : List MethodRow) (seen made : Numbering) → is_own class row ≡ true → at < length seen.rows → RowIs overrides methods base at value → more ≡ seen.next + one_new overrides class at row →
         Numbered (at + 1) rest (record { next = more; rows = slice_set seen.rows at value }) made → Numbered at (row ∷ rest) seen made
-    given at value more row rest seen made yes within is counted n = record {
+    given at value more row rest seen made is_mine within is counted n = record {
       count = omega (arith, n.count, counted);
       as_many = n.as_many ∙ length-set seen.rows at value;
       kept = λ i h.
-          let apart : i ≢ at = λ e. h 0 row refl yes (omega (arith, e)) in
+          let apart : i ≢ at = λ e. h 0 row refl is_mine (omega (arith, e)) in
           n.kept i (later at row rest i h) ∙ get_or-set_other seen.rows at i value 0 apart;
       found = λ j other there own. by j other there own;
     }
@@ -138,17 +139,17 @@ module _ (overrides : List (Option ℕ)) (methods : List MethodRow) (base : ℕ 
     -- one that overrides none
     new_one : (at : ℕ) (earlier : List MethodRow) (row : MethodRow) (rest : List MethodRow) (seen : Numbering) → is_own class row ≡ true → entry_at overrides at ≡ None → Starts at earlier (row ∷ rest) seen → FollowsIn (at + 1) (earlier ++ row ∷ []) rest →
         Numbered at (row ∷ rest) seen (with_all_rows overrides (record { next = as_number (seen.next + 1); rows = slice_set seen.rows at seen.next }) (own_from class (at + 1) rest))
-    new_one at earlier row rest seen yes none s more =
+    new_one at earlier row rest seen is_mine none s more =
         let mine : one_new overrides class at row ≡ 1 =
-        ap (λ b. cond b (cond (is_none (entry_at overrides at)) 1 0) 0) yes ∙ ap (λ o. cond (is_none o) 1 0) none in
+        ap (λ b. cond b (cond (is_none (entry_at overrides at)) 1 0) 0) is_mine ∙ ap (λ o. cond (is_none o) 1 0) none in
         let counted : as_number (seen.next + 1) ≡ seen.next + one_new overrides class at row = omega (arith, s.few, mine) in
         let behind : Numbering = record { next = as_number (seen.next + 1); rows = slice_set seen.rows at seen.next } in
-        given at seen.next (as_number (seen.next + 1)) row rest seen (with_all_rows overrides behind (own_from class (at + 1) rest)) yes (omega (arith, s.long)) is counted
+        given at seen.next (as_number (seen.next + 1)) row rest seen (with_all_rows overrides behind (own_from class (at + 1) rest)) is_mine (omega (arith, s.long)) is counted
         (more behind (starts_behind at earlier row rest seen behind s (length-set seen.rows at seen.next) counted
-        (λ i h. get_or-set_other seen.rows at i seen.next 0 (λ e. h 0 row refl yes (omega (arith, e))))))
+        (λ i h. get_or-set_other seen.rows at i seen.next 0 (λ e. h 0 row refl is_mine (omega (arith, e))))))
       where
         owner : row.owner ≡ class
-        owner = owner_of class row yes
+        owner = owner_of class row is_mine
 
         there : slice_get methods at ≡ Some row
         there = subst (λ (ms : List MethodRow). slice_get ms at ≡ Some row) (sym s.split) (subst (λ k. slice_get (earlier ++ row ∷ rest) k ≡ Some row) (sym s.place) (seam earlier))
@@ -161,23 +162,23 @@ module _ (overrides : List (Option ℕ)) (methods : List MethodRow) (base : ℕ 
         before = ap (take at) s.split ∙ ap (λ k. take k (earlier ++ row ∷ rest)) s.place ∙ take-append_seam earlier (row ∷ rest)
 
         is : RowIs overrides methods base at seen.next
-        is = as_next at seen.next row there none
+        is = as_next row there none
             (s.count ∙ ap (λ k. base k + new_in overrides k 0 earlier) (sym owner) ∙ ap (λ xs. base row.owner + new_in overrides row.owner 0 xs) (sym before))
 
     -- one that overrides another
     over_one : (at above : ℕ) (earlier : List MethodRow) (row : MethodRow) (rest : List MethodRow) (seen : Numbering) → is_own class row ≡ true → entry_at overrides at ≡ Some above → Starts at earlier (row ∷ rest) seen → FollowsIn (at + 1) (earlier ++ row ∷ []) rest →
         Numbered at (row ∷ rest) seen (with_all_rows overrides (record { next = seen.next; rows = slice_set seen.rows at (get_or seen.rows above 0) }) (own_from class (at + 1) rest))
-    over_one at above earlier row rest seen yes e s more =
+    over_one at above earlier row rest seen is_mine e s more =
         let mine : one_new overrides class at row ≡ 0 =
-        ap (λ b. cond b (cond (is_none (entry_at overrides at)) 1 0) 0) yes ∙ ap (λ o. cond (is_none o) 1 0) e in
+        ap (λ b. cond b (cond (is_none (entry_at overrides at)) 1 0) 0) is_mine ∙ ap (λ o. cond (is_none o) 1 0) e in
         let counted : seen.next ≡ seen.next + one_new overrides class at row = omega (arith, mine) in
         let value = get_or seen.rows above 0 in
         let behind : Numbering = record { next = seen.next; rows = slice_set seen.rows at value } in
         let here : at + 0 ≡ at = omega arith in
-        let known = s.above 0 above row refl yes (ap (entry_at overrides) here ∙ e) in
-        given at value seen.next row rest seen (with_all_rows overrides behind (own_from class (at + 1) rest)) yes (omega (arith, s.long)) (as_overridden at above value e known.0) counted
+        let known = s.above 0 above row refl is_mine (ap (entry_at overrides) here ∙ e) in
+        given at value seen.next row rest seen (with_all_rows overrides behind (own_from class (at + 1) rest)) is_mine (omega (arith, s.long)) (as_overridden above e known.0) counted
         (more behind (starts_behind at earlier row rest seen behind s (length-set seen.rows at value) counted
-        (λ i h. get_or-set_other seen.rows at i value 0 (λ e. h 0 row refl yes (omega (arith, e))))))
+        (λ i h. get_or-set_other seen.rows at i value 0 (λ e. h 0 row refl is_mine (omega (arith, e))))))
 
     -- the rest of the methods get their rows
     pub numbered : (at : ℕ) (earlier rest : List MethodRow) → FollowsIn at earlier rest
@@ -190,12 +191,12 @@ module _ (overrides : List (Option ℕ)) (methods : List MethodRow) (base : ℕ 
     numbered at earlier (row ∷ rest) seen s = by (is_own class row) refl (numbered (at + 1) (earlier ++ row ∷ []) rest)
       where
         over : (o : Option ℕ) → entry_at overrides at ≡ o → is_own class row ≡ true → FollowsIn (at + 1) (earlier ++ row ∷ []) rest → Numbered at (row ∷ rest) seen (with_all_rows overrides (option_map_or (λ above. record seen { rows = slice_set seen.rows at (get_or seen.rows above 0) }) o (record { next = as_number (seen.next + 1); rows = slice_set seen.rows at seen.next })) (own_from class (at + 1) rest))
-        over None e yes more = new_one at earlier row rest seen yes e s more
-        over (Some above) e yes more = over_one at above earlier row rest seen yes e s more
+        over None e is_mine more = new_one at earlier row rest seen is_mine e s more
+        over (Some above) e is_mine more = over_one at above earlier row rest seen is_mine e s more
 
         by : (b : Bool) → is_own class row ≡ b → FollowsIn (at + 1) (earlier ++ row ∷ []) rest → Numbered at (row ∷ rest) seen (with_all_rows overrides seen (cond b (own_row at row ∷ own_from class (at + 1) rest) (own_from class (at + 1) rest)))
-        by false no more =
-            let none = ap (λ b. cond b (cond (is_none (entry_at overrides at)) 1 0) 0) no in
-            passed at row rest seen (with_all_rows overrides seen (own_from class (at + 1) rest)) no
+        by false not_mine more =
+            let none = ap (λ b. cond b (cond (is_none (entry_at overrides at)) 1 0) 0) not_mine in
+            passed at row rest seen (with_all_rows overrides seen (own_from class (at + 1) rest)) not_mine
             (more seen (starts_behind at earlier row rest seen seen s refl (omega (arith, none)) (λ i h. refl)))
-        by true yes more = over (entry_at overrides at) refl yes more
+        by true is_mine more = over (entry_at overrides at) refl is_mine more

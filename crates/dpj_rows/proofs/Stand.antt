@@ -106,26 +106,26 @@ module _ (table : Table) (facts : Facts table) (given : (id : ℕ) (method : Met
       where
         by : (o : Option ℕ) → parent_of (headers_of table) class ≡ o → option_and_then (λ parent. method_named table parent name) o ≡ Some id → (parent : ℕ) × (parent_of (headers_of table) class ≡ Some parent) × (method_named table parent name ≡ Some id)
         by None is found = cc
-        by (Some parent) is found = (parent, (is, found))
+        by (Some parent) is found = (parent, is, found)
 
     is_method : (class name id : ℕ) → above_named class name ≡ Some id → (owner : ℕ) × IsMethod table owner name id
     is_method class name id e =
         let w = above_split class name id e in
-        let p = named_is table facts w.0 name id w.1.1 in
-        (p.0, p.1.1.1)
+        let p = named_is table facts w.0 name id w.2 in
+        (p.0, p.3)
 
     -- the row of a method that overrides none, and of one that overrides another
     next_row : (id row : ℕ) (method : MethodRow) → RowIs table.overrides (methods_of table) (inherited table) id row → slice_get (methods_of table) id ≡ Some method → entry_at table.overrides id ≡ None →
         row ≡ inherited table method.owner + new_in table.overrides method.owner 0 (take id (methods_of table))
-    next_row id row method (as_overridden id above row e h) there none = cc (e, none)
-    next_row id row method (as_next id row one also e is) there none =
+    next_row id row method (as_overridden above e h) there none = cc (e, none)
+    next_row id row method (as_next one also e is) there none =
         is ∙ ap (λ (m : MethodRow). inherited table m.owner + new_in table.overrides m.owner 0 (take id (methods_of table))) (some_same (sym also ∙ there))
 
     over_row : (id above row : ℕ) → RowIs table.overrides (methods_of table) (inherited table) id row → entry_at table.overrides id ≡ Some above → RowIs table.overrides (methods_of table) (inherited table) above row
-    over_row id above row (as_overridden id other row e h) is =
+    over_row id above row (as_overridden other e h) is =
         let same : other ≡ above = cc in
         subst (λ k. RowIs table.overrides (methods_of table) (inherited table) k row) same h
-    over_row id above row (as_next id row one also e be) is = cc (e, is)
+    over_row id above row (as_next one also e be) is = cc (e, is)
 
     module _ (class : ℕ) (start : List ℕ) (long : length start ≡ inherited table class) (first : (name id : ℕ) → above_named class name ≡ Some id → slice_get start (row_of table id) ≡ Some id)
       where
@@ -140,10 +140,10 @@ module _ (table : Table) (facts : Facts table) (given : (id : ℕ) (method : Met
         placed_first : Placed [] start (λ name. above_named class name)
         placed_first = record {
           stands = first;
-          named = λ name id e. let w = is_method class name id e in (w.1.row, (w.1.there, w.1.name));
+          named = λ name id e. let w = is_method class name id e in (w.1.row, w.1.there, w.1.called);
           size = omega arith;
-          above = λ name over e. (over, (e, refl));
-          kept = λ row id e. (id, (e, inl refl));
+          above = λ name over e. (over, e, refl);
+          kept = λ row id e. (id, e, inl refl);
         }
 
         abbrev meant_after : MethodRow → (ℕ → Option ℕ) → ℕ → Option ℕ
@@ -151,15 +151,15 @@ module _ (table : Table) (facts : Facts table) (given : (id : ℕ) (method : Met
 
         -- the row of a method of another class
         passed : (earlier : List MethodRow) (row : MethodRow) (rows : List ℕ) (meant : ℕ → Option ℕ) → is_own class row ≡ false → Placed earlier rows meant → Placed (earlier ++ row ∷ []) rows (meant_after row meant)
-        passed earlier row rows meant no p = record {
+        passed earlier row rows meant not_mine p = record {
           stands = λ name id e. p.stands name id (sym (same name) ∙ e);
           named = λ name id e. p.named name id (sym (same name) ∙ e);
           size =
               let grown = new_append table.overrides class 0 earlier (row ∷ []) in
-              let none = ap (λ b. cond b (cond (is_none (entry_at table.overrides (0 + length earlier))) 1 0) 0) no in
+              let none = ap (λ b. cond b (cond (is_none (entry_at table.overrides (0 + length earlier))) 1 0) 0) not_mine in
               let size = p.size in
               omega (arith, grown, none, size);
-          above = λ name over e. let w = p.above name over e in (w.0, (same name ∙ w.1.0, w.1.1));
+          above = λ name over e. let w = p.above name over e in (w.0, same name ∙ w.1, w.2);
           kept = p.kept;
         }
           where
@@ -169,7 +169,7 @@ module _ (table : Table) (facts : Facts table) (given : (id : ℕ) (method : Met
             both false false n h = refl
 
             same : (name : ℕ) → meant_after row meant name ≡ meant name
-            same name = ap (λ b. cond b (Some row.id) (meant name)) (both row.is_constructor (row.owner == class) (row.name == name) no)
+            same name = ap (λ b. cond b (Some row.id) (meant name)) (both row.is_constructor (row.owner == class) (row.name == name) not_mine)
 
         module _ (earlier : List MethodRow) (row : MethodRow) (rest : List MethodRow) (split : methods_of table ≡ earlier ++ row ∷ rest) (own : is_own class row ≡ true) (rows : List ℕ) (meant : ℕ → Option ℕ) (p : Placed earlier rows meant)
           where
@@ -221,7 +221,7 @@ module _ (table : Table) (facts : Facts table) (given : (id : ℕ) (method : Met
             named_after : (name id : ℕ) → meant_after row meant name ≡ Some id → (one : MethodRow) × (slice_get (methods_of table) id ≡ Some one) × (one.name ≡ name)
             named_after name id e =
                 elim (means name id e) [
-                  | inl q ↦ (row, (ap (slice_get (methods_of table)) (sym q.1) ∙ there_id, q.0))
+                  | inl q ↦ (row, ap (slice_get (methods_of table)) (sym q.1) ∙ there_id, q.0)
                   | inr q ↦ p.named name id q.1
                 ]
 
@@ -245,9 +245,9 @@ module _ (table : Table) (facts : Facts table) (given : (id : ℕ) (method : Met
                     | inl q ↦ absurd (none_some (sym (sym over_said ∙ none) ∙ ap (above_named class) q.1 ∙ e))
                     | inr q ↦
                         let w = p.above name over e in
-                        (w.0, (ap (λ b. cond b (Some row.id) (meant name)) (meant_is name ∙ q.0) ∙ w.1.0, w.1.1))
+                        (w.0, ap (λ b. cond b (Some row.id) (meant name)) (meant_is name ∙ q.0) ∙ w.1, w.2)
                   ];
-              kept = λ at id e. let w = p.kept at id e in (w.0, (more_there rows at w.0 row.id w.1.0, w.1.1));
+              kept = λ at id e. let w = p.kept at id e in (w.0, more_there rows at w.0 row.id w.1, w.2);
             }
               where
                 none_some : {y : ℕ} → None ≡ Some y → ⊥
@@ -287,17 +287,17 @@ module _ (table : Table) (facts : Facts table) (given : (id : ℕ) (method : Met
                   omega (arith, size, same, grown, none);
               above = λ name one e.
                   elim (eqb_tells row.name name) [
-                    | inl q ↦ (row.id, (ap (λ b. cond b (Some row.id) (meant name)) (meant_is name ∙ q.0), at_row ∙ ap (row_of table) (some_same (sym said ∙ ap (above_named class) q.1 ∙ e))))
+                    | inl q ↦ (row.id, ap (λ b. cond b (Some row.id) (meant name)) (meant_is name ∙ q.0), at_row ∙ ap (row_of table) (some_same (sym said ∙ ap (above_named class) q.1 ∙ e)))
                     | inr q ↦
                         let w = p.above name one e in
-                        (w.0, (ap (λ b. cond b (Some row.id) (meant name)) (meant_is name ∙ q.0) ∙ w.1.0, w.1.1))
+                        (w.0, ap (λ b. cond b (Some row.id) (meant name)) (meant_is name ∙ q.0) ∙ w.1, w.2)
                   ];
               kept = λ at id e.
                   elim (cases_eq at (row_of table row.id)) [
-                    | inl q ↦ (row.id, (ap (slice_get (slice_set rows (row_of table row.id) row.id)) q ∙ put_here rows (row_of table row.id) row.id within, inr (is ∙ ap Some (some_same (sym (first row.name over said) ∙ ap (slice_get start) (sym (q ∙ at_row)) ∙ e)))))
+                    | inl q ↦ (row.id, ap (slice_get (slice_set rows (row_of table row.id) row.id)) q ∙ put_here rows (row_of table row.id) row.id within, inr (is ∙ ap Some (some_same (sym (first row.name over said) ∙ ap (slice_get start) (sym (q ∙ at_row)) ∙ e))))
                     | inr q ↦
                         let w = p.kept at id e in
-                        (w.0, (put_there rows (row_of table row.id) at row.id q ∙ w.1.0, w.1.1))
+                        (w.0, put_there rows (row_of table row.id) at row.id q ∙ w.1, w.2)
                   ];
             }
               where
@@ -319,7 +319,7 @@ module _ (table : Table) (facts : Facts table) (given : (id : ℕ) (method : Met
                 now = p.above row.name over said
 
                 stood : slice_get rows (row_of table row.id) ≡ Some now.0
-                stood = ap (slice_get rows) (at_row ∙ sym now.1.1) ∙ p.stands row.name now.0 now.1.0
+                stood = ap (slice_get rows) (at_row ∙ sym now.2) ∙ p.stands row.name now.0 now.1
 
                 within : row_of table row.id < length rows
                 within = slice_get_within rows (row_of table row.id) now.0 stood
@@ -334,9 +334,9 @@ module _ (table : Table) (facts : Facts table) (given : (id : ℕ) (method : Met
                 apart name id differs e same =
                     let one : id ≡ now.0 = some_same (sym (p.stands name id e) ∙ ap (slice_get rows) same ∙ stood) in
                     let a = p.named name id e in
-                    let b = p.named row.name now.0 now.1.0 in
-                    let rows_same : a.0 ≡ b.0 = some_same (sym a.1.0 ∙ ap (slice_get (methods_of table)) one ∙ b.1.0) in
-                    differs (sym b.1.1 ∙ ap (λ (r : MethodRow). r.name) (sym rows_same) ∙ a.1.1)
+                    let b = p.named row.name now.0 now.1 in
+                    let rows_same : a.0 ≡ b.0 = some_same (sym a.1 ∙ ap (slice_get (methods_of table)) one ∙ b.1) in
+                    differs (sym b.2 ∙ ap (λ (r : MethodRow). r.name) (sym rows_same) ∙ a.2)
 
             own_placed : Placed (earlier ++ row ∷ []) (with_member table rows row.id) (meant_after row meant)
             own_placed = by (overridden_by table row.id) refl
@@ -360,7 +360,7 @@ module _ (table : Table) (facts : Facts table) (given : (id : ℕ) (method : Met
             by : (b : Bool) → is_own class row ≡ b →
                 ((some : List ℕ) (meaning : ℕ → Option ℕ) → Placed (earlier ++ row ∷ []) some meaning → Placed ((earlier ++ row ∷ []) ++ rest) (fold (with_member table) some (map (λ row. row.id) (filter (λ row. not row.is_constructor && (row.owner == class)) rest))) (λ name. last_from (is_method_of class name) by_id (at + 1) (meaning name) rest)) →
                 Placed ((earlier ++ row ∷ []) ++ rest) (fold (with_member table) rows (map (λ row. row.id) (cond b (row ∷ filter (λ row. not row.is_constructor && (row.owner == class)) rest) (filter (λ row. not row.is_constructor && (row.owner == class)) rest)))) (λ name. last_from (is_method_of class name) by_id at (meant name) (row ∷ rest))
-            by false no more = more rows (meant_after row meant) (passed earlier row rows meant no p)
+            by false not_mine more = more rows (meant_after row meant) (passed earlier row rows meant not_mine p)
             by true own more = more (with_member table rows row.id) (meant_after row meant) (own_placed earlier row rest split own rows meant p)
 
     abbrev start_of : ℕ → List ℕ
@@ -376,7 +376,7 @@ module _ (table : Table) (facts : Facts table) (given : (id : ℕ) (method : Met
     start_first : (class : ℕ) → ((parent : ℕ) → parent_of (headers_of table) class ≡ Some parent → Stands parent) → (name id : ℕ) → above_named class name ≡ Some id → slice_get (start_of class) (row_of table id) ≡ Some id
     start_first class higher name id e =
         let w = above_split class name id e in
-        ap (λ o. slice_get (unwrap_or (option_map (members_in table) o) []) (row_of table id)) w.1.0 ∙ higher w.0 w.1.0 name id w.1.1
+        ap (λ o. slice_get (unwrap_or (option_map (members_in table) o) []) (row_of table id)) w.1 ∙ higher w.0 w.1 name id w.2
 
     -- all methods of a class have their places, where those of the superclass have theirs
     whole : (class : ℕ) → (higher : (parent : ℕ) → parent_of (headers_of table) class ≡ Some parent → Stands parent) →

@@ -52,7 +52,7 @@ module _ {S : Type 0} (enter : S → ℕ → S) (parents : List (Option ℕ)) (F
     made enters s at l fine above (suc n) top e =
         let two : n + 1 ≡ suc n = omega arith in
         let first = up-first parents n 1 at top (ap (λ k. up parents k at) two ∙ e) in
-        one_kept enters s at top l fine above (above first.0 first.1.0 n top first.1.1)
+        one_kept enters s at top l fine above (above first.0 first.1 n top first.2)
 
     on-append : (s : S) (xs ys : List Step) → after s (xs ++ ys) ≡ after (after s xs) ys
     on-append s [] ys = refl

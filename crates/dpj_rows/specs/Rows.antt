@@ -26,8 +26,8 @@ new_in overrides class at (row ∷ rows) = one_new overrides class at row + new_
 -- A method has the row of the one that it overrides. Another has the next one: behind the rows of the superclass of its class,
 -- and behind those of the new methods of its class that stand before it. `base` tells how many rows come from the superclass
 pub data RowIs (overrides : List (Option ℕ)) (methods : List MethodRow) (base : ℕ → ℕ) : ℕ → ℕ → Type 0 where
-  as_overridden : (id above row : ℕ) → entry_at overrides id ≡ Some above → RowIs overrides methods base above row → RowIs overrides methods base id row
-  as_next : (id row : ℕ) (method : MethodRow) → slice_get methods id ≡ Some method → entry_at overrides id ≡ None
+  as_overridden : {id row : ℕ} (above : ℕ) → entry_at overrides id ≡ Some above → RowIs overrides methods base above row → RowIs overrides methods base id row
+  as_next : {id row : ℕ} (method : MethodRow) → slice_get methods id ≡ Some method → entry_at overrides id ≡ None
       → row ≡ base method.owner + new_in overrides method.owner 0 (take id methods) → RowIs overrides methods base id row
 
 -- how many rows a class has from its superclass
