@@ -79,7 +79,7 @@ module _ (table : Table) (facts : Facts table) (few : length (methods_of table) 
           let p = named_is table facts w.0 row.name id w.2 in
           let parent : parent_of (headers_of table) class ≡ Some w.0 = ap (parent_of (headers_of table)) (sym (owner_of class row own)) ∙ w.1 in
           let m = p.3 in (
-            (above_done s class w.0 holds parent p.1.0 p.0 p.1.1.0).rows id m.row m.there m.own,
+            (above_done s class w.0 holds parent p.1 p.0 p.2).rows id m.row m.there m.own,
             λ k other is_there mine same. straight w.0 p.0 p.1 parent p.2 (owned_once k id other m.row is_there same m.there mine p.0 m.own),
           );
     }
