@@ -44,12 +44,12 @@ module _ (table : Table) (facts : Facts table)
             length (fold (with_member table) rows (map (λ row. row.id) (cond b (row ∷ filter (λ row. not row.is_constructor && (row.owner == class)) rest) (filter (λ row. not row.is_constructor && (row.owner == class)) rest))))
             ≡ length rows + (one_new table.overrides class at row + new_in table.overrides class (at + 1) rest)
         by false not_mine h =
-            let none = ap (λ b. cond b (cond (is_none (entry_at table.overrides at)) 1 0) 0) not_mine in
+            let none = ap {A = Bool} {B = ℕ} (λ b. cond b (cond (is_none (entry_at table.overrides at)) 1 0) 0) not_mine in
             let more = h rows in
             omega (arith, none, more)
         by true is_mine h =
-            let one = ap (λ b. cond b (cond (is_none (entry_at table.overrides at)) 1 0) 0) is_mine in
-            let same = ap (λ k. cond (is_none (entry_at table.overrides k)) 1 0) id in
+            let one = ap {A = Bool} {B = ℕ} (λ b. cond b (cond (is_none (entry_at table.overrides at)) 1 0) 0) is_mine in
+            let same = ap {A = ℕ} {B = ℕ} (λ k. cond (is_none (entry_at table.overrides k)) 1 0) id in
             let more = h (with_member table rows row.id) in
             let grown = size (entry_at table.overrides row.id) refl in
             omega (arith, one, same, more, grown)
@@ -101,13 +101,13 @@ both_tallied overrides class at kind (row ∷ rows) other =
   where
     by : (((row.owner == class) ≡ true) × (row.owner ≡ class)) ⊎ (((row.owner == class) ≡ false) × (row.owner ≢ class)) → cond (row.owner == class) 1 0 + cond (kind row.owner) 1 0 ≤ cond ((row.owner == class) || kind row.owner) 1 0
     by (inl p) =
-        let none = ap (λ b. cond b 1 0) (ap kind p.1 ∙ other) in
-        let mine = ap (λ b. cond b 1 0) p.0 in
-        let all = ap (λ b. cond (b || kind row.owner) 1 0) p.0 in
+        let none = ap {A = Bool} {B = ℕ} (λ b. cond b 1 0) (ap kind p.1 ∙ other) in
+        let mine = ap {A = Bool} {B = ℕ} (λ b. cond b 1 0) p.0 in
+        let all = ap {A = Bool} {B = ℕ} (λ b. cond (b || kind row.owner) 1 0) p.0 in
         omega (arith, none, mine, all)
     by (inr q) =
-        let mine = ap (λ b. cond b 1 0) q.0 in
-        let all = ap (λ b. cond (b || kind row.owner) 1 0) q.0 in
+        let mine = ap {A = Bool} {B = ℕ} (λ b. cond b 1 0) q.0 in
+        let all = ap {A = Bool} {B = ℕ} (λ b. cond (b || kind row.owner) 1 0) q.0 in
         omega (arith, mine, all)
 
 -- the members of a class are methods of it and of classes above it

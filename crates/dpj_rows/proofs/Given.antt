@@ -71,11 +71,12 @@ module _ (table : Table) (facts : Facts table) (few : length (methods_of table) 
     starts s class fine holds = record {
       split = refl;
       place = refl;
-      long = fine.rows;
+      long = omega (arith, fine.rows);
       count = next ∙ plus;
       few = omega (arith, next, sized table facts class, members_few table facts class, few);
       above = λ j id row there own e.
-          let w = over_is table facts j id row there e in
+          let plain : 0 + j ≡ j = omega arith in
+          let w = over_is table facts j id row there (sym (ap (entry_at table.overrides) plain) ∙ e) in
           let p = named_is table facts w.0 row.name id w.2 in
           let parent : parent_of (headers_of table) class ≡ Some w.0 = ap (parent_of (headers_of table)) (sym (owner_of class row own)) ∙ w.1 in
           let m = p.3 in (
@@ -120,7 +121,9 @@ module _ (table : Table) (facts : Facts table) (few : length (methods_of table) 
       makes = λ s class l fine holds. subst (Done class) (sym (entered_as s class l)) (record {
         count = get_or-set_same s.counts class (seen_in s class).next 0 (omega (arith, l, fine.counts)) ∙ (done s class fine holds).count
             ∙ ap (λ n. n + new_in table.overrides class 0 (methods_of table)) (sym (starts_plain s class fine holds)) ∙ sym (sized table facts class);
-        rows = λ i row there own. (done s class fine holds).found i row there own;
+        rows = λ i row there own.
+            let plain : 0 + i ≡ i = omega arith in
+            subst (λ k. RowIs table.overrides (methods_of table) (inherited table) k (get_or (seen_in s class).rows k 0)) plain ((done s class fine holds).found i row there own);
       });
       keeps = λ s class one l fine holds apart was. subst (Done one) (sym (entered_as s class l)) (record {
         count = get_or-set_other s.counts class one (seen_in s class).next 0 apart ∙ was.count;

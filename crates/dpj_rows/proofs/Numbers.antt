@@ -97,7 +97,7 @@ module _ (overrides : List (Option ℕ)) (methods : List MethodRow) (base : ℕ 
     -- no method of the class
     passed : (at : ℕ) (row : MethodRow) (rest : List MethodRow) (seen made : Numbering) → is_own class row ≡ false → Numbered (at + 1) rest seen made → Numbered at (row ∷ rest) seen made
     passed at row rest seen made not_mine n =
-        let none = ap (λ b. cond b (cond (is_none (entry_at overrides at)) 1 0) 0) not_mine in
+        let none = ap {A = Bool} {B = ℕ} (λ b. cond b (cond (is_none (entry_at overrides at)) 1 0) 0) not_mine in
         record {
           count = omega (arith, n.count, none);
           as_many = n.as_many;
@@ -141,7 +141,7 @@ module _ (overrides : List (Option ℕ)) (methods : List MethodRow) (base : ℕ 
         Numbered at (row ∷ rest) seen (with_all_rows overrides (record { next = as_number (seen.next + 1); rows = slice_set seen.rows at seen.next }) (own_from class (at + 1) rest))
     new_one at earlier row rest seen is_mine none s more =
         let mine : one_new overrides class at row ≡ 1 =
-        ap (λ b. cond b (cond (is_none (entry_at overrides at)) 1 0) 0) is_mine ∙ ap (λ o. cond (is_none o) 1 0) none in
+        ap {A = Bool} {B = ℕ} (λ b. cond b (cond (is_none (entry_at overrides at)) 1 0) 0) is_mine ∙ ap {A = Option ℕ} {B = ℕ} (λ o. cond (is_none o) 1 0) none in
         let counted : as_number (seen.next + 1) ≡ seen.next + one_new overrides class at row = omega (arith, s.few, mine) in
         let behind : Numbering = record { next = as_number (seen.next + 1); rows = slice_set seen.rows at seen.next } in
         given at seen.next (as_number (seen.next + 1)) row rest seen (with_all_rows overrides behind (own_from class (at + 1) rest)) is_mine (omega (arith, s.long)) is counted
@@ -170,7 +170,7 @@ module _ (overrides : List (Option ℕ)) (methods : List MethodRow) (base : ℕ 
         Numbered at (row ∷ rest) seen (with_all_rows overrides (record { next = seen.next; rows = slice_set seen.rows at (get_or seen.rows above 0) }) (own_from class (at + 1) rest))
     over_one at above earlier row rest seen is_mine e s more =
         let mine : one_new overrides class at row ≡ 0 =
-        ap (λ b. cond b (cond (is_none (entry_at overrides at)) 1 0) 0) is_mine ∙ ap (λ o. cond (is_none o) 1 0) e in
+        ap {A = Bool} {B = ℕ} (λ b. cond b (cond (is_none (entry_at overrides at)) 1 0) 0) is_mine ∙ ap {A = Option ℕ} {B = ℕ} (λ o. cond (is_none o) 1 0) e in
         let counted : seen.next ≡ seen.next + one_new overrides class at row = omega (arith, mine) in
         let value = get_or seen.rows above 0 in
         let behind : Numbering = record { next = seen.next; rows = slice_set seen.rows at value } in
@@ -196,7 +196,7 @@ module _ (overrides : List (Option ℕ)) (methods : List MethodRow) (base : ℕ 
 
         by : (b : Bool) → is_own class row ≡ b → FollowsIn (at + 1) (earlier ++ row ∷ []) rest → Numbered at (row ∷ rest) seen (with_all_rows overrides seen (cond b (own_row at row ∷ own_from class (at + 1) rest) (own_from class (at + 1) rest)))
         by false not_mine more =
-            let none = ap (λ b. cond b (cond (is_none (entry_at overrides at)) 1 0) 0) not_mine in
+            let none = ap {A = Bool} {B = ℕ} (λ b. cond b (cond (is_none (entry_at overrides at)) 1 0) 0) not_mine in
             passed at row rest seen (with_all_rows overrides seen (own_from class (at + 1) rest)) not_mine
             (more seen (starts_behind at earlier row rest seen seen s refl (omega (arith, none)) (λ i h. refl)))
         by true is_mine more = over (entry_at overrides at) refl is_mine more

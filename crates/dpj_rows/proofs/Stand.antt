@@ -156,7 +156,7 @@ module _ (table : Table) (facts : Facts table) (given : (id : ℕ) (method : Met
           named = λ name id e. p.named name id (sym (same name) ∙ e);
           size =
               let grown = new_append table.overrides class 0 earlier (row ∷ []) in
-              let none = ap (λ b. cond b (cond (is_none (entry_at table.overrides (0 + length earlier))) 1 0) 0) not_mine in
+              let none = ap {A = Bool} {B = ℕ} (λ b. cond b (cond (is_none (entry_at table.overrides (0 + length earlier))) 1 0) 0) not_mine in
               let size = p.size in
               omega (arith, grown, none, size);
           above = λ name over e. let w = p.above name over e in (w.0, same name ∙ w.1, w.2);
@@ -255,9 +255,10 @@ module _ (table : Table) (facts : Facts table) (given : (id : ℕ) (method : Met
 
                 counted : one_new table.overrides class (0 + length earlier) row ≡ 1
                 counted =
-                    ap (λ b. cond b (cond (is_none (entry_at table.overrides (0 + length earlier))) 1 0) 0) own
-                    ∙ ap (λ k. cond (is_none (entry_at table.overrides k)) 1 0) (sym id_is)
-                    ∙ ap (λ o. cond (is_none o) 1 0) none
+                    let here : 0 + length earlier ≡ row.id = omega (arith, id_is) in
+                    ap {A = Bool} {B = ℕ} (λ b. cond b (cond (is_none (entry_at table.overrides (0 + length earlier))) 1 0) 0) own
+                    ∙ ap {A = ℕ} {B = ℕ} (λ k. cond (is_none (entry_at table.overrides k)) 1 0) here
+                    ∙ ap {A = Option ℕ} {B = ℕ} (λ o. cond (is_none o) 1 0) none
 
                 before : take row.id (methods_of table) ≡ earlier
                 before = ap (take row.id) split ∙ ap (λ k. take k (earlier ++ row ∷ rest)) id_is ∙ take-append_seam earlier (row ∷ rest)
@@ -326,9 +327,10 @@ module _ (table : Table) (facts : Facts table) (given : (id : ℕ) (method : Met
 
                 counted : one_new table.overrides class (0 + length earlier) row ≡ 0
                 counted =
-                    ap (λ b. cond b (cond (is_none (entry_at table.overrides (0 + length earlier))) 1 0) 0) own
-                    ∙ ap (λ k. cond (is_none (entry_at table.overrides k)) 1 0) (sym id_is)
-                    ∙ ap (λ o. cond (is_none o) 1 0) is
+                    let here : 0 + length earlier ≡ row.id = omega (arith, id_is) in
+                    ap {A = Bool} {B = ℕ} (λ b. cond b (cond (is_none (entry_at table.overrides (0 + length earlier))) 1 0) 0) own
+                    ∙ ap {A = ℕ} {B = ℕ} (λ k. cond (is_none (entry_at table.overrides k)) 1 0) here
+                    ∙ ap {A = Option ℕ} {B = ℕ} (λ o. cond (is_none o) 1 0) is
 
                 apart : (name id : ℕ) → row.name ≢ name → meant name ≡ Some id → row_of table id ≢ row_of table row.id
                 apart name id differs e same =
@@ -387,7 +389,7 @@ module _ (table : Table) (facts : Facts table) (given : (id : ℕ) (method : Met
         (placed_all class (start_of class) (start_long class) (start_first class higher) 0 [] (methods_of table) refl (start_of class) (λ name. above_named class name) (placed_first class (start_of class) (start_long class) (start_first class higher)))
 
     stands_up : (n class : ℕ) → up (parents_of (headers_of table)) n class ≡ None → Stands class
-    stands_up zero class e = cc
+    stands_up zero class e name id named = cc
     stands_up (suc n) class e name id named =
         (whole class (λ parent is. stands_up n parent (higher parent is))).stands name id (named_split class name id named)
       where
