@@ -57,7 +57,7 @@ module _ (table : Table) (facts : Facts table)
     pub sized : (class : ℕ) → length (members_in table class) ≡ inherited table class + new_in table.overrides class 0 (methods_of table)
     sized class =
         ap length (made_step (headers_of table) [] (members_after table) class facts.forest)
-        ∙ folded (unwrap_or (option_map (members_in table) (parent_of (headers_of table) class)) []) 0 (methods_of table) class (λ i row e. facts.numbered i row e)
+        ∙ folded (unwrap_or (option_map (members_in table) (parent_of (headers_of table) class)) []) 0 (methods_of table) class (λ i row e. let h = facts.numbered i row e in omega (arith, h))
         ∙ ap (λ n. n + new_in table.overrides class 0 (methods_of table)) (by (parent_of (headers_of table) class))
       where
         by : (o : Option ℕ) → length (unwrap_or (option_map (members_in table) o) []) ≡ option_map_or (λ above. length (members_in table above)) o 0
