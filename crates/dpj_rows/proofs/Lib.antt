@@ -1,0 +1,6 @@
+pub mod Facts
+pub mod Few
+pub mod Given
+pub mod Numbers
+pub mod Stand
+pub mod Way
