@@ -12,7 +12,6 @@ mod branches;
 mod calls;
 mod cells;
 mod creations;
-mod elide;
 mod ends;
 mod expressions;
 mod item;
@@ -25,5 +24,6 @@ mod store;
 mod trials;
 mod waiting;
 mod walker;
+mod whole;
 
-pub use elide::elide;
+pub use whole::elide;
