@@ -63,8 +63,9 @@ impl<'p> Walker<'p> {
     /// The member in the row of a class.
     fn member_in(&self, class: u32, row: u32) -> Option<&'p Member> {
         let program = self.program;
-        let member = *program.classes.get(class as usize)?.rows.get(row as usize)?;
-        program.members.get(member.number as usize)
+        let class = program.classes.get(class as usize)?;
+        let number = class.rows.get(row as usize)?.number;
+        program.members.get(number as usize)
     }
 
     fn enter_row(

@@ -3,8 +3,8 @@
 //! `elide` takes the steps of `dpj_walk` over a heap of its own. Its pending work stands on stacks, and nothing recurses: a body
 //! at work has an agenda and operands, and calls, creations and constructs of branches wait for it.
 //!
-//! What it promises: the outcome is that of the sequential elision at full cost, the branches behind a trap included, or memory
-//! ran out.
+//! What it promises: every call is safe and ends, and a limited outcome is the empty one at the limits. That the outcome is the
+//! elision's, as the laws of `dpj_walk` say of such steps, is tried on samples and not proved yet.
 #![tactic(auto)]
 
 mod bodies;
