@@ -17,12 +17,13 @@ mod constructs;
 mod gathered;
 mod laws;
 mod leaving;
+mod made;
 mod meet;
 mod node;
 mod parts;
 mod simple;
 mod statements;
 
-pub use accepted::Accepted;
+pub use accepted::{Accepted, CheckedBody};
 pub use bodies::check;
 pub use laws::one_checking;
