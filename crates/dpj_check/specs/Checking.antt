@@ -19,7 +19,7 @@ use Rattle.dpj_tree.specs.declared.region.Named.{Named}
 use Rattle.dpj_tree.specs.declared.region.TypeTree.{TypeTree}
 use Rattle.dpj_tree.specs.Plain.{PlainExpr, PlainStmt, statement, StmtForm, PlainStmts, no_stmts, more_stmts}
 use Rattle.dpj_tree.specs.Plain.{StmtForm as form}
-use Rattle.dpj_typed.specs.declared.stmt.Forking.{Forking}
+use Rattle.dpj_typed.specs.declared.stmt.Forking.{Forking as Order}
 use Rattle.dpj_typed.specs.declared.stmt.Forking.TheVariants.{Deterministic, Nondeterministic}
 use Rattle.dpj_typed.specs.Plain.{TypedExpr, type_of, Source, TypedStmt, TypedBranch, stmts_of, branches_of}
 use Rattle.dpj_typed.specs.declared.stmt.Branch.{Branch}
@@ -93,7 +93,7 @@ branch_of env touched s = record { copies = slots_of env touched.writes; body = 
 abbrev pub plain_branch : Branch → TypedBranch
 plain_branch branch = record { copies = map (λ slot. slot.number) branch.copies; body = typed_stmt branch.body }
 
-abbrev pub forking_of : Bool → Forking
+abbrev pub forking_of : Bool → Order
 forking_of nd = cond nd Nondeterministic Deterministic
 
 -- some branch assigns an outer local that another one reads or assigns, or there are no two such
@@ -203,27 +203,11 @@ mutual
         judged (fault_of node) (typed.statement node.place (typed.print_text text)) w ≡ v → Checking params around node (form.print_text text) w v
     of_regions : {around : Around} {node : Node} {names : List Named} {w : Walk} {v : Verdict TypedStmt} → regions_declared node names w ≡ v →
         Checking params around node (form.local_regions names) w v
-    -- the condition, then the part that depends on it
-    test_refused : {around : Around} {node : Node} {test : PlainExpr} {part : PlainStmt} {w : Walk} {refusal : Refusal} →
-        Typing w.env test w.found (answer.refused refusal) → Checking params around node (form.choice test part) w (refused refusal)
-    of_choice : {around : Around} {node : Node} {test : PlainExpr} {part : PlainStmt} {w : Walk} {t : Option TypedExpr} {g : Found} {u v : Verdict TypedStmt} →
-        Typing w.env test w.found (gives t g) → InScope params around part (found_so w g) u →
-        behind (fault_of (with_fault_if node kind.Type (not (may_be is_boolean (type_in t)))))
-        (λ s. typed.statement node.place (typed.choice (node_of test t) s)) u ≡ v →
-        Checking params around node (form.choice test part) w v
-    -- the condition, then both parts, one after the other
-    either_test_refused : {around : Around} {node : Node} {test : PlainExpr} {first second : PlainStmt} {w : Walk} {refusal : Refusal} →
-        Typing w.env test w.found (answer.refused refusal) → Checking params around node (form.choice_else test first second) w (refused refusal)
-    first_refused : {around : Around} {node : Node} {test : PlainExpr} {first second : PlainStmt} {w : Walk} {t : Option TypedExpr} {g : Found}
-        {refusal : Refusal} →
-        Typing w.env test w.found (gives t g) → InScope params around first (found_so w g) (refused refusal) →
-        Checking params around node (form.choice_else test first second) w (refused refusal)
-    of_either : {around : Around} {node : Node} {test : PlainExpr} {first second : PlainStmt} {w x : Walk} {made : TypedStmt} {t : Option TypedExpr}
-        {g : Found} {u v : Verdict TypedStmt} →
-        Typing w.env test w.found (gives t g) → InScope params around first (found_so w g) (passes made x) → InScope params around second x u →
-        behind (fault_of (with_fault_if node kind.Type (not (may_be is_boolean (type_in t)))))
-        (λ s. typed.statement node.place (typed.choice_else (node_of test t) made s)) u ≡ v →
-        Checking params around node (form.choice_else test first second) w v
+    -- an `if` without an `else`, and one with it
+    of_choice : {around : Around} {node : Node} {test : PlainExpr} {part : PlainStmt} {w : Walk} {v : Verdict TypedStmt} →
+        Choosing params around node test part None w v → Checking params around node (form.choice test part) w v
+    of_choice_else : {around : Around} {node : Node} {test : PlainExpr} {first second : PlainStmt} {w : Walk} {v : Verdict TypedStmt} →
+        Choosing params around node test first (Some second) w v → Checking params around node (form.choice_else test first second) w v
     -- the condition, then the body
     while_refused : {around : Around} {node : Node} {test : PlainExpr} {body : PlainStmt} {w : Walk} {refusal : Refusal} →
         Typing w.env test w.found (answer.refused refusal) → Checking params around node (form.while_loop test body) w (refused refusal)
@@ -261,6 +245,27 @@ mutual
         judged (fault_of (with_fault_if node kind.AtomicBody u.found.reaches_nd))
         (typed.statement node.place (typed.atomic (entered u.found) (stmts_of ss)))
         (record { env = u.env; found = taken_in (from_here w.env marks.Set) w.found u.found }) ≡ v → Checking params around node (form.atomic all) w v
+
+  -- an `if`: the condition, then its parts, one after the other
+  pub data Choosing (params : List Bool) : Around → Node → PlainExpr → PlainStmt → Option PlainStmt → Walk → Verdict TypedStmt → Type 0 where
+    test_refused : {around : Around} {node : Node} {test : PlainExpr} {first : PlainStmt} {other : Option PlainStmt} {w : Walk} {refusal : Refusal} →
+        Typing w.env test w.found (answer.refused refusal) → Choosing params around node test first other w (refused refusal)
+    first_refused : {around : Around} {node : Node} {test : PlainExpr} {first : PlainStmt} {other : Option PlainStmt} {w : Walk} {t : Option TypedExpr}
+        {g : Found} {refusal : Refusal} →
+        Typing w.env test w.found (gives t g) → InScope params around first (found_so w g) (refused refusal) →
+        Choosing params around node test first other w (refused refusal)
+    chosen : {around : Around} {node : Node} {test : PlainExpr} {first : PlainStmt} {other : Option PlainStmt} {w x : Walk} {t : Option TypedExpr}
+        {g : Found} {made : TypedStmt} {u : Verdict (Option TypedStmt)} {v : Verdict TypedStmt} →
+        Typing w.env test w.found (gives t g) → InScope params around first (found_so w g) (passes made x) → InOther params around other x u →
+        behind (fault_of (with_fault_if node kind.Type (not (may_be is_boolean (type_in t)))))
+        (λ part. typed.statement node.place (typed.choice_form (node_of test t) made part)) u ≡ v →
+        Choosing params around node test first other w v
+
+  -- the part behind the `else`, where there is one
+  pub data InOther (params : List Bool) : Around → Option PlainStmt → Walk → Verdict (Option TypedStmt) → Type 0 where
+    no_other : {around : Around} {w : Walk} → InOther params around None w (passes None w)
+    an_other : {around : Around} {s : PlainStmt} {w : Walk} {u : Verdict TypedStmt} {v : Verdict (Option TypedStmt)} →
+        InScope params around s w u → behind None Some u ≡ v → InOther params around (Some s) w v
 
   -- a statement, which stands after one that doesn't complete or not
   pub data Standing (params : List Bool) : Around → Bool → PlainStmt → Walk → Verdict TypedStmt → Type 0 where

@@ -17,13 +17,13 @@ use Rattle.dpj_tree.specs.declared.class.Member.TheVariants as member
 use Rattle.dpj_tree.specs.declared.class.Method.{Method}
 use Rattle.dpj_tree.specs.declared.class.Program.{Program}
 use Rattle.dpj_tree.specs.Plain.{plain_stmt, plain_stmts}
-use Rattle.dpj_typed.specs.Plain.{TypedStmt, TypedStmts, stmts_of}
-use Rattle.dpj_typed.specs.Plain.{plain_stmt as typed_stmt}
+use Rattle.dpj_typed.specs.Plain.{TypedStmt, stmts_of}
+use Rattle.dpj_assembly.specs.Assembled.{PlainBody, plain_body}
 use Rattle.dpj_classes.specs.declared.rows.MethodRow.{MethodRow}
 use Rattle.dpj_classes.specs.declared.table.Table.{Table}
 use Rattle.dpj_classes.specs.Table.{headers_of, numbered}
 use Rattle.dpj_exprs.specs.declared.env.Env.{Env}
-use Rattle.dpj_check.specs.declared.accepted.CheckedBody.{CheckedBody}
+use Rattle.dpj_check.specs.declared.bodies.ClassBodies.{ClassBodies}
 use Rattle.dpj_check.specs.declared.body.Body.{Body}
 use Rattle.dpj_exprs.specs.Env.{table_of, at_class, at_members, at_method, declared_in, slots_in, IsFresh}
 use Rattle.dpj_check.specs.Checking.{InBlock}
@@ -65,14 +65,9 @@ body_begun class_env number method = record {
   found = nothing_found;
 }
 
--- a body that passes: its statements, and how many slots and local regions it has
-pub record TypedBody : Type 0 where
-  pub slots : ℕ
-  pub local_regions : ℕ
-  pub body : TypedStmts
-
-abbrev pub typed_body : List TypedStmt → Env → TypedBody
-typed_body ss env = record { slots = slots_in env; local_regions = declared_in env; body = stmts_of ss }
+-- a body that passes
+abbrev pub typed_body : List TypedStmt → Env → PlainBody
+typed_body ss env = record { slots = slots_in env; local_regions = declared_in env; stmts = stmts_of ss }
 
 -- the fault that is reported after the body of a method
 abbrev pub method_told : Env → ℕ → Method → List Effect → Option Refusal
@@ -90,13 +85,13 @@ abbrev pub reported : {T : Type 0} → Option Refusal → T → Result T Refusal
 reported None made = Ok made
 reported (Some refusal) made = Err refusal
 
-abbrev pub method_judged : Env → ℕ → Method → Verdict (List TypedStmt) → Result TypedBody Refusal
+abbrev pub method_judged : Env → ℕ → Method → Verdict (List TypedStmt) → Result PlainBody Refusal
 method_judged class_env number method (passes ss w) = reported (method_told class_env number method w.found.effects) (typed_body ss w.env)
 method_judged class_env number method (refused refusal) = Err refusal
 
 -- the body of a method or a constructor: its statements, then the method itself
-pub data MethodChecking (class_env : Env) (params : List Bool) (number : ℕ) (method : Method) : Result TypedBody Refusal → Type 0 where
-  of_method : {u : Verdict (List TypedStmt)} {v : Result TypedBody Refusal} →
+pub data MethodChecking (class_env : Env) (params : List Bool) (number : ℕ) (method : Method) : Result PlainBody Refusal → Type 0 where
+  of_method : {u : Verdict (List TypedStmt)} {v : Result PlainBody Refusal} →
       InBlock params (method_around (has_value method.result)) (plain_stmts (map plain_stmt method.body)) (body_begun class_env number method) u →
       method_judged class_env number method u ≡ v → MethodChecking class_env params number method v
 
@@ -112,52 +107,54 @@ is_method (member.Field declared) = false
 is_method (member.Method method) = true
 
 -- a member of a class, which has a body or none
-pub data MemberChecking (class_env : Env) (params : List Bool) : Member → ℕ → Result (Option TypedBody) Refusal → Type 0 where
+pub data MemberChecking (class_env : Env) (params : List Bool) : Member → ℕ → Result (Option PlainBody) Refusal → Type 0 where
   no_method : {m : Member} {number : ℕ} → is_method m ≡ false → MemberChecking class_env params m number (Ok None)
-  a_method : {method : Method} {number : ℕ} {r : Result TypedBody Refusal} {v : Result (Option TypedBody) Refusal} →
+  a_method : {method : Method} {number : ℕ} {r : Result PlainBody Refusal} {v : Result (Option PlainBody) Refusal} →
       MethodChecking class_env (params ++ own_params (table_of class_env) number) number method r → after_ok Some r ≡ v →
       MemberChecking class_env params (member.Method method) number v
 
--- the number of the method after a member, and what is made of the members with one in front
-abbrev pub number_after : Option TypedBody → ℕ → ℕ
+-- the number of the method after a member, and the bodies that a member has
+abbrev pub number_after : Option PlainBody → ℕ → ℕ
 number_after None number = number
 number_after (Some made) number = as_number (suc number)
 
-abbrev pub bodies_from : Option TypedBody → List TypedBody → List TypedBody
-bodies_from None bodies = bodies
-bodies_from (Some made) bodies = made ∷ bodies
+abbrev pub bodies_of : Option PlainBody → List PlainBody
+bodies_of None = []
+bodies_of (Some made) = made ∷ []
 
 -- the bodies of the members of a class, and the number after its last method
-pub record ClassBodies : Type 0 where
+pub record PlainBodies : Type 0 where
   pub next : ℕ
-  pub bodies : List TypedBody
+  pub bodies : List PlainBody
+
+abbrev pub plain_bodies : ClassBodies → PlainBodies
+plain_bodies done = record { next = done.next; bodies = map plain_body done.bodies }
+
+abbrev pub behind_bodies : List PlainBody → PlainBodies → PlainBodies
+behind_bodies before all = record { next = all.next; bodies = before ++ all.bodies }
 
 -- the members of a class, whose first method has this number
-pub data MembersChecking (class_env : Env) (params : List Bool) : List Member → ℕ → Result ClassBodies Refusal → Type 0 where
+pub data MembersChecking (class_env : Env) (params : List Bool) : List Member → ℕ → Result PlainBodies Refusal → Type 0 where
   no_members : {number : ℕ} → MembersChecking class_env params [] number (Ok (record { next = number; bodies = [] }))
   one_refused : {m : Member} {ms : List Member} {number : ℕ} {refusal : Refusal} →
       MemberChecking class_env params m number (Err refusal) → MembersChecking class_env params (m ∷ ms) number (Err refusal)
-  then_members : {m : Member} {ms : List Member} {number : ℕ} {made : Option TypedBody} {u v : Result ClassBodies Refusal} →
+  then_members : {m : Member} {ms : List Member} {number : ℕ} {made : Option PlainBody} {u v : Result PlainBodies Refusal} →
       MemberChecking class_env params m number (Ok made) → MembersChecking class_env params ms (number_after made number) u →
-      after_ok (λ c. record c { bodies = bodies_from made c.bodies }) u ≡ v → MembersChecking class_env params (m ∷ ms) number v
+      after_ok (behind_bodies (bodies_of made)) u ≡ v → MembersChecking class_env params (m ∷ ms) number v
 
 -- the classes from a number on, whose first method has the other number
-pub data ClassesChecking (start : Env) : ℕ → List Class → ℕ → Result (List TypedBody) Refusal → Type 0 where
+pub data ClassesChecking (start : Env) : ℕ → List Class → ℕ → Result (List PlainBody) Refusal → Type 0 where
   no_classes : {at number : ℕ} → ClassesChecking start at [] number (Ok [])
   member_refused : {at number : ℕ} {class : Class} {classes : List Class} {refusal : Refusal} →
       MembersChecking (at_class start (as_number at)) (class_params (table_of start) (as_number at)) class.members number (Err refusal) →
       ClassesChecking start at (class ∷ classes) number (Err refusal)
-  then_classes : {at number : ℕ} {class : Class} {classes : List Class} {made : ClassBodies} {u v : Result (List TypedBody) Refusal} →
+  then_classes : {at number : ℕ} {class : Class} {classes : List Class} {made : PlainBodies} {u v : Result (List PlainBody) Refusal} →
       MembersChecking (at_class start (as_number at)) (class_params (table_of start) (as_number at)) class.members number (Ok made) →
       ClassesChecking start (at + 1) classes made.next u → after_ok (λ bodies. made.bodies ++ bodies) u ≡ v →
       ClassesChecking start at (class ∷ classes) number v
 
 -- all bodies of a program with this table, from the first class on: what is made of them, or the first refusal
-pub record BodiesChecking (program : Program) (table : Table) (v : Result (List TypedBody) Refusal) : Type 0 where
+pub record BodiesChecking (program : Program) (table : Table) (v : Result (List PlainBody) Refusal) : Type 0 where
   pub start : Env
   pub fresh : IsFresh table (name_number program.names (codes "length")) start
   pub checks : ClassesChecking start 0 program.classes 0 v
-
--- a body of the code
-abbrev pub plain_body : CheckedBody → TypedBody
-plain_body body = record { slots = body.slots; local_regions = body.local_regions; body = stmts_of (map typed_stmt body.stmts) }

@@ -1,19 +1,21 @@
 ghost use Rattle.std.specs.Prelude.{◌≡◌, ◌++◌, [], ℕ, map, option_map, IfOk, OnOk};
 ghost use Rattle.std.specs.Option.{option_copied};
+ghost use Rattle.dpj_assembly.specs.Assembled.{plain_body};
 ghost use Rattle.dpj_base.specs.Effects.{set_covers};
 ghost use Rattle.dpj_tree.specs.Nd.{program_uses_nd};
 ghost use Rattle.dpj_exprs.specs.declared.env.Env.{Env};
 ghost use Rattle.dpj_exprs.specs.Env.{table_of, at_class, at_method};
 ghost use Rattle.dpj_check.specs.Deciding.{has_value, method_fault, told_at};
 ghost use Rattle.dpj_check.specs.Keeping.{AllKeep, ClassesKeep, MethodKeeps, MemberKeeps, MembersKeep, ProgramKeeps, method_around};
-ghost use Rattle.dpj_check.specs.Methods.{formals_declared, formal_types, summary_of, class_params, plain_body, BodiesChecking, ClassesChecking, IsIn, MembersChecking, MemberChecking, MethodChecking};
+ghost use Rattle.dpj_check.specs.Methods.{formals_declared, formal_types, summary_of, bodies_of, class_params, number_after, plain_bodies, BodiesChecking, ClassesChecking, IsIn, MembersChecking, MemberChecking, MethodChecking};
 ghost use Rattle.dpj_check.specs.Walks.{home_of, with_env};
 ghost use Rattle.dpj_exprs.specs.Answer.{Says};
 
-use crate::accepted::{Accepted, CheckedBody};
+use crate::accepted::Accepted;
 use crate::body::Body;
 use crate::node::Around;
 use crate::statements::block;
+use dpj_assembly::MemberBody;
 use dpj_base::{Items, Kind, NoMemory, Plain, Stop, Ty};
 use dpj_classes::{MethodRow, Table};
 use dpj_effects::EffectSet;
@@ -37,7 +39,7 @@ pub fn check(alloc: Global, program: &Program, table: &Table) -> Result<Accepted
     })
 }
 
-fn check_classes(body: &mut Body, classes: &[Class]) -> Result<Items<CheckedBody>, Stop>
+fn check_classes(body: &mut Body, classes: &[Class]) -> Result<Items<MemberBody>, Stop>
     ensures keeps { OnOk result (ClassesKeep classes.now) }
     ensures checks { Says result (λ bodies. Ok (map plain_body bodies)) Err (ClassesChecking body.old.env 0 classes.now 0) }
 {
@@ -51,7 +53,7 @@ fn check_classes(body: &mut Body, classes: &[Class]) -> Result<Items<CheckedBody
     Ok(bodies)
 }
 
-fn append(bodies: &mut Items<CheckedBody>, more: Items<CheckedBody>) -> Result<(), NoMemory>
+fn append(bodies: &mut Items<MemberBody>, more: Items<MemberBody>) -> Result<(), NoMemory>
     ensures { OnOk result (bodies.new ≡ bodies.old ++ more) }
 {
     for body in more.into_vec() {
@@ -64,31 +66,38 @@ fn append(bodies: &mut Items<CheckedBody>, more: Items<CheckedBody>) -> Result<(
 #[derive(Drop)]
 struct ClassBodies {
     next: u32,
-    bodies: Items<CheckedBody>,
+    bodies: Items<MemberBody>,
 }
 
 /// Checks the bodies of the class of a number, of which the first has the other number.
-fn check_class(
-    body: &mut Body,
-    class: &Class,
-    number: u32,
-    first: u32,
-) -> Result<ClassBodies, Stop>
+fn check_class(body: &mut Body, class: &Class, number: u32, first: u32) -> Result<ClassBodies, Stop>
     ensures keeps { OnOk result (MembersKeep class.now.members) }
     ensures around { (other : ℕ) → OnOk result (at_class body.new.env other ≡ at_class body.old.env other) }
-    ensures checks { Says result (λ done. Ok (record { next = done.next; bodies = map plain_body done.bodies })) Err (MembersChecking (at_class body.old.env number) (class_params (table_of body.old.env) number) class.now.members first) }
+    ensures checks { Says result (λ done. Ok (plain_bodies done)) Err (MembersChecking (at_class body.old.env number) (class_params (table_of body.old.env) number) class.now.members first) }
 {
     body.enter_class(number)?;
     let params = body.atomic_params.len();
-    let mut next = first;
-    let mut bodies = Items::new(body.alloc);
+    let mut done = ClassBodies {
+        next: first,
+        bodies: Items::new(body.alloc),
+    };
     for member in class.members.as_slice() {
-        if let Some(done) = check_member(body, member, params, next)? {
-            bodies.push(done)?;
-            next = next.saturating_add(1);
-        }
+        let made = check_member(body, member, params, done.next)?;
+        add_body(&mut done, made)?;
     }
-    Ok(ClassBodies { next, bodies })
+    Ok(done)
+}
+
+/// Adds the body of a member, where it has one.
+fn add_body(done: &mut ClassBodies, made: Option<MemberBody>) -> Result<(), NoMemory>
+    ensures next { OnOk result (done.new.next ≡ number_after (option_map plain_body made) done.old.next) }
+    ensures bodies { OnOk result (map plain_body done.new.bodies ≡ map plain_body done.old.bodies ++ bodies_of (option_map plain_body made)) }
+{
+    if let Some(body) = made {
+        done.bodies.push(body)?;
+        done.next = done.next.saturating_add(1);
+    }
+    Ok(())
 }
 
 /// Checks the body of a member that has one, in a class with so many region parameters.
@@ -97,7 +106,7 @@ fn check_member(
     member: &Member,
     count: usize,
     number: u32,
-) -> Result<Option<CheckedBody>, Stop>
+) -> Result<Option<MemberBody>, Stop>
     ensures keeps { OnOk result (MemberKeeps member.now) }
     ensures stays { (start : Env) (class : ℕ) → IsIn start class count body.old → OnOk result (IsIn start class count body.new) }
     ensures checks { (start : Env) (class : ℕ) → IsIn start class count body.old → Says result (λ made. Ok (option_map plain_body made)) Err (MemberChecking (at_class start class) (class_params (table_of start) class) member.now number) }
@@ -112,7 +121,7 @@ fn check_member(
 }
 
 /// Checks the body of a method or a constructor. One without a row has no formals in scope, and may have no effect.
-fn check_method(body: &mut Body, method: &Method, number: u32) -> Result<CheckedBody, Stop>
+fn check_method(body: &mut Body, method: &Method, number: u32) -> Result<MemberBody, Stop>
     ensures keeps { OnOk result (MethodKeeps method.now) }
     ensures home { OnOk result (home_of body.new ≡ home_of body.old) }
     ensures checks { (around : Env) → body.old.env ≡ at_method around number → Says result (λ made. Ok (plain_body made)) Err (MethodChecking around body.old.atomic_params number method.now) }
@@ -126,7 +135,7 @@ fn check_method(body: &mut Body, method: &Method, number: u32) -> Result<Checked
     let checked = block(body, around, method.body.as_slice(), &mut done)?;
     let covered = summary_of(row, &nothing).set_covers(&done.effects);
     settle_method(method, checked.completes, covered, has_slots)?;
-    Ok(CheckedBody {
+    Ok(MemberBody {
         slots: body.env.slots(),
         local_regions: body.env.regions_declared(),
         stmts: checked.stmts,

@@ -1,15 +1,14 @@
-ghost use Rattle.std.specs.Prelude.{◌≡◌, ◌↔◌, ◌||◌, None, false, map, IsTrue, IfOk, OnOk};
+ghost use Rattle.std.specs.Prelude.{◌≡◌, ◌↔◌, ◌||◌, ◌++◌, ◌∷◌, [], None, false, map, IsTrue, IfOk, OnOk};
 ghost use Rattle.dpj_tree.specs.Nd.{holds_nd, some_holds_nd};
 ghost use Rattle.dpj_tree.specs.Plain.{plain_stmt, plain_stmts};
 ghost use Rattle.dpj_tree.specs.Plain.{StmtForm as form};
-ghost use Rattle.dpj_check.specs.Checking.{Checking, Forking, Iterating};
+ghost use Rattle.dpj_check.specs.Checking.{slots_of, Checking, Forking, Iterating};
 ghost use Rattle.dpj_check.specs.Deciding.{interference, marks_after, AssignsOuter};
 ghost use Rattle.dpj_check.specs.Keeping.{inside, Keeps, AllKeep, BranchesKeep};
 ghost use Rattle.dpj_check.specs.Noting.{fault_of};
 ghost use Rattle.dpj_check.specs.Walks.{home_of, passes, refused, walk_of};
 ghost use Rattle.dpj_exprs.specs.Answer.{Says};
 ghost use Rattle.dpj_typed.specs.Plain.{plain_expr as typed_expr};
-ghost use Rattle.dpj_check.specs.Checking.{slots_of};
 ghost use Rattle.dpj_typed.specs.Plain.{plain_stmt as typed_stmt};
 
 use crate::body::Body;
@@ -67,9 +66,9 @@ pub fn cobegin(
     for branch in branches {
         let leaving = Leaving::from_here(&body.env, marks_after(nd));
         let mut inner = Found::new(body.alloc);
-        let done = scoped(body, around.inside(), branch, &mut inner)?;
         let names = touched(body.alloc, branch)?;
         let copies = slots_of(body, names.writes.as_slice())?;
+        let done = scoped(body, around.inside(), branch, &mut inner)?;
         made.push(Branch {
             copies,
             body: done.stmt,
@@ -93,11 +92,19 @@ fn slots_of(body: &Body, names: &[u32]) -> Result<Items<Slot>, NoMemory>
 {
     let mut slots = Items::new(body.alloc);
     for name in names {
-        if let Some(row) = body.env.local(*name) {
-            slots.push(Slot { number: row.slot })?;
-        }
+        add_slot(body, *name, &mut slots)?;
     }
     Ok(slots)
+}
+
+/// Adds the slot of the local of that name, where one is in scope.
+fn add_slot(body: &Body, name: u32, slots: &mut Items<Slot>) -> Result<(), NoMemory>
+    ensures { OnOk result (map (λ slot. slot.number) slots.new ≡ map (λ slot. slot.number) slots.old ++ slots_of body.now.env (name ∷ [])) }
+{
+    match body.env.local(name) {
+        Some(row) => slots.push(Slot { number: row.slot }),
+        None => Ok(()),
+    }
 }
 
 /// `foreach (int var in ..) iteration`, after the start and the count.
@@ -167,7 +174,7 @@ pub fn atomic(
     let done = block(body, around.inside(), stmts, &mut inner)?;
     node.note_if(Kind::AtomicBody, inner.reaches_nd);
     node.settle()?;
-    let effects = copies(body.alloc, entered(body.alloc, &inner)?.as_slice())?;
+    let effects = entered(body.alloc, &inner)?;
     take_in(body.alloc, out, inner, leaving)?;
     Ok(made::entered(node.place, effects, done.stmts))
 }

@@ -24,6 +24,6 @@ mod parts;
 mod simple;
 mod statements;
 
-pub use accepted::{Accepted, CheckedBody};
+pub use accepted::Accepted;
 pub use bodies::check;
 pub use laws::one_checking;

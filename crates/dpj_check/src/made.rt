@@ -18,7 +18,12 @@ use std::alloc::Global;
 pub fn declaration(place: Place, slot: u32, ty: Ty, is_final: bool, value: Expr) -> Stmt
     ensures { typed_stmt result ≡ statement place (form.declare slot (plain_type ty) is_final (typed_expr value)) }
 {
-    let form = StmtForm::Declare { slot: Slot { number: slot }, ty, is_final, value };
+    let form = StmtForm::Declare {
+        slot: Slot { number: slot },
+        ty,
+        is_final,
+        value,
+    };
     Stmt { place, form }
 }
 
@@ -26,7 +31,10 @@ pub fn declaration(place: Place, slot: u32, ty: Ty, is_final: bool, value: Expr)
 pub fn store(place: Place, slot: u32, value: Expr) -> Stmt
     ensures { typed_stmt result ≡ statement place (form.store slot (typed_expr value)) }
 {
-    let form = StmtForm::Store { slot: Slot { number: slot }, value };
+    let form = StmtForm::Store {
+        slot: Slot { number: slot },
+        value,
+    };
     Stmt { place, form }
 }
 

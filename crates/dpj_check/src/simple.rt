@@ -5,7 +5,7 @@ ghost use Rattle.dpj_exprs.specs.declared.found.Found.{Found};
 ghost use Rattle.dpj_tree.specs.Plain.{plain_expr};
 ghost use Rattle.dpj_check.specs.Deciding.{is_misplaced, local_fault};
 ghost use Rattle.dpj_check.specs.Noting.{fault_of, with_fault_if};
-ghost use Rattle.dpj_check.specs.Simple.{declared_type, declared_told, is_region_name, may_print, regions_declared, target_fault, AssigningLocal, AssigningPlace, Declaring, Performing, Printing, Returning};
+ghost use Rattle.dpj_check.specs.Simple.{declared_type, declared_told, is_region_name, may_print, region_noted, regions_declared, target_fault, AssigningLocal, AssigningPlace, Declaring, Performing, Printing, Returning};
 ghost use Rattle.dpj_check.specs.Walks.{home_of, judged, passes, refused, walk_of};
 ghost use Rattle.dpj_exprs.specs.Answer.{Says};
 ghost use Rattle.dpj_typed.specs.Plain as typed;
@@ -13,8 +13,8 @@ ghost use Rattle.dpj_exprs.specs.Typed.{value_type};
 ghost use Rattle.dpj_typed.specs.Plain.{plain_stmt as typed_stmt};
 
 use crate::body::Body;
-use crate::node::{Around, Node};
 use crate::made;
+use crate::node::{Around, Node};
 use dpj_base::{Items, Kind, Plain, Stop, Ty};
 use dpj_exprs::{Found, Typed, read_target};
 use dpj_headers::Faults;
@@ -79,20 +79,12 @@ pub fn assign_local(
 {
     let mut node = node;
     let given = body.typed(value, out)?;
-    let slot = match body.env.local(target.name) {
-        None => {
-            node.note_at(Kind::Unknown, target.place);
-            None
-        }
-        Some(row) => {
-            node.note_found(local_fault(body.fits(&given, &row.ty)?, row.is_final));
-            Some(row.slot)
-        }
+    let Some(row) = body.env.local(target.name) else {
+        return Err(node.refused_at(Kind::Unknown, target.place));
     };
+    node.note_found(local_fault(body.fits(&given, &row.ty)?, row.is_final));
     node.settle()?;
-    // Without a local the node had a fault.
-    let slot = slot.unwrap();
-    Ok(made::store(target.place, slot, given.into_node(value.place)))
+    Ok(made::store(target.place, row.slot, given.into_node(value.place)))
 }
 
 /// The fault of an assignment to a local: the value doesn't fit, or the local is final.
@@ -232,10 +224,7 @@ pub fn declare_regions(body: &mut Body, node: Node, names: &[Named]) -> Result<S
     let mut node = node;
     let mut regions = Items::new(body.alloc);
     for named in names {
-        if is_region(body, named.name) {
-            node.note_at(Kind::Duplicate, named.place);
-        }
-        body.note_room(named.place, &mut node);
+        note_region(body, *named, &mut node);
         regions.push(LocalRegion {
             number: body.env.regions_declared(),
         })?;
@@ -243,6 +232,17 @@ pub fn declare_regions(body: &mut Body, node: Node, names: &[Named]) -> Result<S
     }
     node.settle()?;
     Ok(made::regions(node.place, regions))
+}
+
+/// A local region whose name a region in scope has is a fault, and so is one for which there is no room.
+fn note_region(body: &Body, named: Named, node: &mut Node)
+    ensures node { node.new ≡ region_noted body.now.env named node.old }
+    ensures clean { fault_of node.new ≡ None → fault_of node.old ≡ None }
+{
+    if is_region(body, named.name) {
+        node.note_at(Kind::Duplicate, named.place);
+    }
+    body.note_room(named.place, node);
 }
 
 /// Whether a region parameter or a local region in scope, or a region of the class or a superclass has the name.

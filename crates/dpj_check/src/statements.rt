@@ -1,8 +1,8 @@
-ghost use Rattle.std.specs.Prelude.{◌≡◌, ◌||◌, Bool, List, None, false, true, is_some, map, IsTrue, IfOk, OnOk};
-ghost use Rattle.std.specs.Option.{option_copied};
+ghost use Rattle.std.specs.Prelude.{◌≡◌, ◌||◌, Bool, List, None, false, true, is_some, map, option_map, IsTrue, IfOk, IfSome, OnOk};
+ghost use Rattle.std.specs.Option.{option_copied, option_map_or};
 ghost use Rattle.dpj_tree.specs.Nd.{holds_nd, some_holds_nd};
 ghost use Rattle.dpj_tree.specs.Plain.{plain_stmt, plain_stmts, return_form};
-ghost use Rattle.dpj_check.specs.Checking.{form_of, Checking, InBlock, InOrder, InScope, Standing};
+ghost use Rattle.dpj_check.specs.Checking.{form_of, Checking, InBlock, InOrder, InOther, InScope, Standing};
 ghost use Rattle.dpj_check.specs.Completes.{completes, all_complete, goes_on, is_loop, is_single, is_store, is_act};
 ghost use Rattle.dpj_check.specs.Deciding.{is_misplaced};
 ghost use Rattle.dpj_check.specs.Keeping.{Keeps, AllKeep};
@@ -10,8 +10,6 @@ ghost use Rattle.dpj_check.specs.declared.node.Around.{Around};
 ghost use Rattle.dpj_check.specs.Noting.{fault_of};
 ghost use Rattle.dpj_check.specs.Walks.{home_of, passes, refused, walk_of};
 ghost use Rattle.dpj_exprs.specs.Answer.{Says};
-ghost use Rattle.std.specs.Prelude.{option_map, IfErr};
-ghost use Rattle.std.specs.Option.{option_map_or};
 ghost use Rattle.dpj_typed.specs.Plain.{statement, choice_form};
 ghost use Rattle.dpj_typed.specs.Plain.{plain_expr as typed_expr};
 ghost use Rattle.dpj_typed.specs.Plain.{plain_stmt as typed_stmt};
@@ -20,16 +18,17 @@ use crate::body::Body;
 use crate::constructs::{atomic, cobegin, foreach};
 use crate::gathered::take_in;
 use crate::leaving::{Leaving, Marks};
+use crate::made;
 use crate::node::{Around, Node};
 use crate::parts::foreach_parts;
 use crate::simple::{
     assign_local, assign_place, declare, declare_regions, leave, leave_with, perform, print,
 };
-use crate::made;
-use dpj_base::{Items, Place, Plain, Stop};
+use dpj_base::{Boxed, Items, NoMemory, Place, Plain, Stop};
 use dpj_exprs::Found;
 use dpj_tree::{Expr, Stmt, StmtKind};
 use dpj_typed::{Expr as TypedExpr, Stmt as TypedStmt};
+use std::alloc::Global;
 
 /// A statement that passed: whether it completes, and the typed one.
 #[derive(Drop)]
@@ -74,12 +73,10 @@ pub fn statement(
         StmtKind::If { test, then, other } => {
             let given = body.boolean(test, out, &mut node)?;
             let first = scoped(body, around, then.get(), out)?;
-            let second = match other {
-                Some(other) => Some(scoped(body, around, other.get(), out)?),
-                None => None,
-            };
+            let second = other_part(body, around, other.as_ref(), out)?;
             node.settle()?;
-            choose(body, node.place, given.into_node(test.place), first, second)
+            let test = given.into_node(test.place);
+            Ok(choose(body.alloc, node.place, test, first, second)?)
         }
         StmtKind::Return(value) => {
             let stmt = returns(body, around, node, value.as_ref(), out)?;
@@ -92,25 +89,44 @@ pub fn statement(
     }
 }
 
+/// The part of an `if` behind its `else`, where there is one.
+#[cycle(statements)]
+fn other_part(
+    body: &mut Body,
+    around: Around,
+    other: Option<&Boxed<Stmt>>,
+    out: &mut Found,
+) -> Result<Option<Checked>, Stop>
+    ensures completes { IfOk result (λ part. option_map (λ done. done.completes) part ≡ option_map (λ s. completes (plain_stmt s)) (option_copied other.entry)) }
+    ensures keeps { OnOk result (IfSome (option_copied other.entry) (λ s. Keeps around (plain_stmt s))) }
+    ensures nd { OnOk result (IsTrue (out.old.reaches_nd || option_map_or (λ s. holds_nd (plain_stmt s)) (option_copied other.entry) false) → IsTrue out.new.reaches_nd) }
+    ensures home { OnOk result (home_of body.new ≡ home_of body.old) }
+    ensures checks { Says result (λ part. passes (option_map (λ done. typed_stmt done.stmt) part) (walk_of body.new out.new)) refused (InOther body.old.atomic_params around (option_map plain_stmt (option_copied other.entry)) (walk_of body.old out.old)) }
+{
+    match other {
+        Some(other) => Ok(Some(scoped(body, around, other.get(), out)?)),
+        None => Ok(None),
+    }
+}
+
 /// An `if` whose parts passed.
 fn choose(
-    body: &Body,
+    alloc: Global,
     place: Place,
     test: TypedExpr,
     first: Checked,
     second: Option<Checked>,
-) -> Result<Checked, Stop>
-    ensures completes { IfOk result (λ done. done.completes ≡ (first.completes || option_map_or (λ s. s.completes) second true)) }
-    ensures stmt { IfOk result (λ done. typed_stmt done.stmt ≡ statement place (choice_form (typed_expr test) (typed_stmt first.stmt) (option_map (λ s. typed_stmt s.stmt) second))) }
-    ensures memory { IfErr result (λ stop. stop ≡ Stop.NoMemory) }
+) -> Result<Checked, NoMemory>
+    ensures completes { IfOk result (λ done. done.completes ≡ (first.completes || option_map_or (λ part. part.completes) second true)) }
+    ensures stmt { IfOk result (λ done. typed_stmt done.stmt ≡ statement place (choice_form (typed_expr test) (typed_stmt first.stmt) (option_map (λ part. typed_stmt part.stmt) second))) }
 {
     let (other_completes, other) = match second {
-        Some(second) => (second.completes, Some(second.stmt)),
+        Some(part) => (part.completes, Some(part.stmt)),
         None => (true, None),
     };
     Ok(Checked {
         completes: first.completes || other_completes,
-        stmt: made::choice(body.alloc, place, test, first.stmt, other)?,
+        stmt: made::choice(alloc, place, test, first.stmt, other)?,
     })
 }
 
@@ -125,7 +141,7 @@ fn returns(
     ensures placed { OnOk result (is_misplaced around (is_some value.entry) ≡ false) }
     ensures clean { OnOk result (fault_of node ≡ None) }
     ensures nd { OnOk result (IsTrue out.old.reaches_nd → IsTrue out.new.reaches_nd) }
-    ensures checks { (params : List Bool) → Says result (walk_of body.now out.new) (Checking params around node (return_form (option_copied value.entry)) (walk_of body.now out.old)) }
+    ensures checks { (params : List Bool) → Says result (λ made. passes (typed_stmt made) (walk_of body.now out.new)) refused (Checking params around node (return_form (option_copied value.entry)) (walk_of body.now out.old)) }
 {
     match value {
         None => leave(body, around, node),
@@ -246,7 +262,7 @@ fn single(body: &mut Body, node: Node, stmt: &Stmt, out: &mut Found) -> Result<T
     ensures clean { OnOk result (fault_of node ≡ None) }
     ensures nd { OnOk result (IsTrue out.old.reaches_nd → IsTrue out.new.reaches_nd) }
     ensures home { OnOk result (home_of body.new ≡ home_of body.old) }
-    ensures checks { (params : List Bool) (around : Around) → Says result (walk_of body.new out.new) (Checking params around node (form_of (plain_stmt stmt.now)) (walk_of body.old out.old)) }
+    ensures checks { (params : List Bool) (around : Around) → Says result (λ made. passes (typed_stmt made) (walk_of body.new out.new)) refused (Checking params around node (form_of (plain_stmt stmt.now)) (walk_of body.old out.old)) }
 {
     match &stmt.kind {
         StmtKind::Declare { .. }
@@ -263,7 +279,7 @@ fn store(body: &mut Body, node: Node, stmt: &Stmt, out: &mut Found) -> Result<Ty
     ensures clean { OnOk result (fault_of node ≡ None) }
     ensures nd { OnOk result (IsTrue out.old.reaches_nd → IsTrue out.new.reaches_nd) }
     ensures home { OnOk result (home_of body.new ≡ home_of body.old) }
-    ensures checks { (params : List Bool) (around : Around) → Says result (walk_of body.new out.new) (Checking params around node (form_of (plain_stmt stmt.now)) (walk_of body.old out.old)) }
+    ensures checks { (params : List Bool) (around : Around) → Says result (λ made. passes (typed_stmt made) (walk_of body.new out.new)) refused (Checking params around node (form_of (plain_stmt stmt.now)) (walk_of body.old out.old)) }
 {
     match &stmt.kind {
         StmtKind::Declare {
@@ -286,7 +302,7 @@ fn act(body: &mut Body, node: Node, stmt: &Stmt, out: &mut Found) -> Result<Type
     ensures clean { OnOk result (fault_of node ≡ None) }
     ensures nd { OnOk result (IsTrue out.old.reaches_nd → IsTrue out.new.reaches_nd) }
     ensures home { OnOk result (home_of body.new ≡ home_of body.old) }
-    ensures checks { (params : List Bool) (around : Around) → Says result (walk_of body.new out.new) (Checking params around node (form_of (plain_stmt stmt.now)) (walk_of body.old out.old)) }
+    ensures checks { (params : List Bool) (around : Around) → Says result (λ made. passes (typed_stmt made) (walk_of body.new out.new)) refused (Checking params around node (form_of (plain_stmt stmt.now)) (walk_of body.old out.old)) }
 {
     match &stmt.kind {
         StmtKind::Do(value) => perform(body, node, value, out),
@@ -304,7 +320,12 @@ fn act(body: &mut Body, node: Node, stmt: &Stmt, out: &mut Found) -> Result<Type
 /// Checks the statements of a block in a scope of their own, and says whether they all complete. What they do is
 /// gathered by itself, and goes to what is gathered around the block without what the block declares.
 #[cycle(statements)]
-pub fn block(body: &mut Body, around: Around, stmts: &[Stmt], out: &mut Found) -> Result<CheckedBlock, Stop>
+pub fn block(
+    body: &mut Body,
+    around: Around,
+    stmts: &[Stmt],
+    out: &mut Found,
+) -> Result<CheckedBlock, Stop>
     ensures completes { IfOk result (λ done. done.completes ≡ all_complete (plain_stmts (map plain_stmt stmts.now))) }
     ensures keeps { OnOk result (AllKeep around (plain_stmts (map plain_stmt stmts.now))) }
     ensures nd { OnOk result (IsTrue (out.old.reaches_nd || some_holds_nd (plain_stmts (map plain_stmt stmts.now))) → IsTrue out.new.reaches_nd) }
@@ -348,7 +369,12 @@ fn statements(
 
 /// Checks a branch or a body, which is a scope of its own even without braces.
 #[cycle(statements)]
-pub fn scoped(body: &mut Body, around: Around, stmt: &Stmt, out: &mut Found) -> Result<Checked, Stop>
+pub fn scoped(
+    body: &mut Body,
+    around: Around,
+    stmt: &Stmt,
+    out: &mut Found,
+) -> Result<Checked, Stop>
     ensures completes { IfOk result (λ done. done.completes ≡ completes (plain_stmt stmt.now)) }
     ensures keeps { OnOk result (Keeps around (plain_stmt stmt.now)) }
     ensures nd { OnOk result (IsTrue (out.old.reaches_nd || holds_nd (plain_stmt stmt.now)) → IsTrue out.new.reaches_nd) }
