@@ -8,7 +8,7 @@ ghost use Rattle.dpj_check.specs.Keeping.{inside, Keeps, AllKeep, BranchesKeep};
 ghost use Rattle.dpj_check.specs.Noting.{fault_of};
 ghost use Rattle.dpj_check.specs.Walks.{home_of, passes, refused, walk_of};
 ghost use Rattle.dpj_exprs.specs.Answer.{Says};
-ghost use Rattle.dpj_typed.specs.Plain.{plain_expr as typed_expr};
+ghost use Rattle.dpj_exprs.specs.Typed.{plain_node as typed_expr};
 ghost use Rattle.dpj_typed.specs.Plain.{plain_stmt as typed_stmt};
 
 use crate::body::Body;
@@ -59,6 +59,7 @@ pub fn cobegin(
     ensures home { OnOk result (home_of body.new ≡ home_of body.old) }
     ensures checks { Says result (λ made. passes (typed_stmt made) (walk_of body.new out.new)) refused (Forking body.old.atomic_params around node nd (plain_stmts (map plain_stmt branches.now)) (walk_of body.old out.old)) }
 {
+    let place = node.place;
     let mut node = node;
     let mut effects = Items::new(body.alloc);
     let mut locals = Items::new(body.alloc);
@@ -83,7 +84,7 @@ pub fn cobegin(
     let passes = branches_pass(body, nd, effects.as_slice())?;
     node.note_if(interference(nd), !passes);
     node.settle()?;
-    Ok(made::forked(node.place, nd, made))
+    Ok(made::forked(place, nd, made))
 }
 
 /// The slots of the locals in scope with these names.
@@ -126,6 +127,7 @@ pub fn foreach(
     ensures home { OnOk result (home_of body.new ≡ home_of body.old) }
     ensures checks { Says result (λ made. passes (typed_stmt made) (walk_of body.new out.new)) refused (Iterating body.old.atomic_params around node nd var (typed_expr range.0) (typed_expr range.1) (plain_stmt iteration.now) (walk_of body.old out.old)) }
 {
+    let place = node.place;
     let mut node = node;
     body.note_declaration(var.name, var.place, &mut node);
     let slot = body.env.slots();
@@ -142,7 +144,7 @@ pub fn foreach(
     node.note_if(interference(nd), clash);
     node.settle()?;
     take_in(body.alloc, out, inner, leaving)?;
-    Ok(made::iterated(body.alloc, node.place, nd, slot, range, done.stmt)?)
+    Ok(made::iterated(body.alloc, place, nd, slot, range, done.stmt)?)
 }
 
 /// Whether a statement assigns a local that is declared outside of it.
@@ -168,6 +170,7 @@ pub fn atomic(
     ensures home { OnOk result (home_of body.new ≡ home_of body.old) }
     ensures checks { Says result (λ made. passes (typed_stmt made) (walk_of body.new out.new)) refused (Checking body.old.atomic_params around node (form.atomic (plain_stmts (map plain_stmt stmts.now))) (walk_of body.old out.old)) }
 {
+    let place = node.place;
     let mut node = node;
     let leaving = Leaving::from_here(&body.env, Marks::Set);
     let mut inner = Found::new(body.alloc);
@@ -176,5 +179,5 @@ pub fn atomic(
     node.settle()?;
     let effects = entered(body.alloc, &inner)?;
     take_in(body.alloc, out, inner, leaving)?;
-    Ok(made::entered(node.place, effects, done.stmts))
+    Ok(made::entered(place, effects, done.stmts))
 }

@@ -3,7 +3,7 @@ ghost use Rattle.std.specs.Prelude.{◌≡◌, map, option_map, IfOk};
 ghost use Rattle.dpj_base.specs.Types.{plain_type};
 ghost use Rattle.dpj_typed.specs.Plain.{statement, stmts_of, branches_of, choice_form, plain_source};
 ghost use Rattle.dpj_typed.specs.Plain.{StmtForm as form};
-ghost use Rattle.dpj_typed.specs.Plain.{plain_expr as typed_expr};
+ghost use Rattle.dpj_exprs.specs.Typed.{plain_node as typed_expr};
 ghost use Rattle.dpj_typed.specs.Plain.{plain_stmt as typed_stmt};
 ghost use Rattle.dpj_check.specs.Checking.{plain_branch, forking_of};
 ghost use Rattle.dpj_check.specs.Simple.{printed_form, stored};

@@ -7,7 +7,7 @@ ghost use Rattle.dpj_exprs.specs.Answer.{Answer as answer};
 ghost use Rattle.dpj_exprs.specs.Env.{part_of};
 ghost use Rattle.dpj_exprs.specs.Typing.{Typing};
 ghost use Rattle.dpj_typed.specs.Plain.{plain_source};
-ghost use Rattle.dpj_typed.specs.Plain.{plain_expr as typed_expr};
+ghost use Rattle.dpj_exprs.specs.Typed.{plain_node as typed_expr};
 ghost use Rattle.dpj_check.specs.Checking.{opened, not_opened, outer_part, Cutting, Opening, Parting};
 ghost use Rattle.dpj_check.specs.Deciding.{whole_fault, AssignsOuter};
 ghost use Rattle.dpj_check.specs.Keeping.{inside, Keeps};
@@ -57,6 +57,7 @@ pub fn foreach_parts(
     ensures home { OnOk result (home_of body.new ≡ home_of body.old) }
     ensures checks { Says result (λ made. passes (typed_stmt made) (walk_of body.new out.new)) refused (Parting body.old.atomic_params around node names.0 names.1 (plain_expr range.entry.0.now) (plain_expr range.entry.1.now) (plain_stmt iteration.now) (walk_of body.old out.old)) }
 {
+    let place = node.place;
     let mut node = node;
     let part = body.env.slots();
     let leaving = Leaving::from_here(&body.env, Marks::Dropped);
@@ -73,7 +74,7 @@ pub fn foreach_parts(
     node.settle()?;
     let inner = hand_on_uses(body.alloc, inner, part, outer_part(&source))?;
     take_in(body.alloc, out, inner, leaving)?;
-    Ok(made::parted(body.alloc, node.place, part, source, count, done.stmt)?)
+    Ok(made::parted(body.alloc, place, part, source, count, done.stmt)?)
 }
 
 /// Reads the array and the count, and puts the part and the variable in scope. Gives what is cut, and

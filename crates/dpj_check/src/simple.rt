@@ -15,7 +15,7 @@ ghost use Rattle.dpj_typed.specs.Plain.{plain_stmt as typed_stmt};
 use crate::body::Body;
 use crate::made;
 use crate::node::{Around, Node};
-use dpj_base::{Items, Kind, Plain, Stop, Ty};
+use dpj_base::{Bytes, Items, Kind, Plain, Stop, Ty};
 use dpj_exprs::{Found, Typed, read_target};
 use dpj_headers::Faults;
 use dpj_resolve::ty;
@@ -148,10 +148,11 @@ pub fn perform(body: &Body, node: Node, e: &Expr, out: &mut Found) -> Result<Stm
     ensures nd { OnOk result (IsTrue out.old.reaches_nd → IsTrue out.new.reaches_nd) }
     ensures checks { Says result (λ made. passes (typed_stmt made) (walk_of body.now out.new)) refused (Performing node (plain_expr e.now) (walk_of body.now out.old)) }
 {
+    let place = node.place;
     let mut node = node;
     let given = body.typed(e, out)?;
     node.settle()?;
-    Ok(made::performed(node.place, given.into_node(e.place)))
+    Ok(made::performed(place, given.into_node(e.place)))
 }
 
 /// `return;`
@@ -160,10 +161,11 @@ pub fn leave(body: &Body, around: Around, node: Node) -> Result<Stmt, Stop>
     ensures clean { OnOk result (fault_of node ≡ None) }
     ensures checks { (found : Found) → Says result (λ made. passes (typed_stmt made) (walk_of body.now found)) refused (λ v. judged (fault_of (with_fault_if node Kind.Return (is_misplaced around false))) (typed.statement node.place typed.return_nothing) (walk_of body.now found) ≡ v) }
 {
+    let place = node.place;
     let mut node = node;
     node.note_if(Kind::Return, is_misplaced(around, false));
     node.settle()?;
-    Ok(made::leaving(node.place))
+    Ok(made::leaving(place))
 }
 
 /// `return value;`
@@ -179,13 +181,14 @@ pub fn leave_with(
     ensures nd { OnOk result (IsTrue out.old.reaches_nd → IsTrue out.new.reaches_nd) }
     ensures checks { Says result (λ made. passes (typed_stmt made) (walk_of body.now out.new)) refused (Returning around node (plain_expr value.now) (walk_of body.now out.old)) }
 {
+    let place = node.place;
     let mut node = node;
     node.note_if(Kind::Return, is_misplaced(around, true));
     let given = body.typed(value, out)?;
     let fits = body.is_returned(around, &given)?;
     node.note_if(Kind::Type, !fits);
     node.settle()?;
-    Ok(made::leaving_with(node.place, given.into_node(value.place)))
+    Ok(made::leaving_with(place, given.into_node(value.place)))
 }
 
 /// A `return`, with or without a value, stands in a branch or an atomic block, or doesn't fit the method.
@@ -201,11 +204,23 @@ pub fn print(body: &Body, node: Node, value: &Expr, out: &mut Found) -> Result<S
     ensures nd { OnOk result (IsTrue out.old.reaches_nd → IsTrue out.new.reaches_nd) }
     ensures checks { Says result (λ made. passes (typed_stmt made) (walk_of body.now out.new)) refused (Printing node (plain_expr value.now) (walk_of body.now out.old)) }
 {
+    let place = node.place;
     let mut node = node;
     let given = body.typed(value, out)?;
     node.note_if(Kind::Type, !may_print(&given));
     node.settle()?;
-    Ok(made::printed(node.place, given.into_node(value.place)))
+    Ok(made::printed(place, given.into_node(value.place)))
+}
+
+/// `print` of a text.
+pub fn print_text(body: &Body, node: Node, text: &Bytes) -> Result<Stmt, Stop>
+    ensures clean { OnOk result (fault_of node ≡ None) }
+    ensures checks { (found : Found) → Says result (λ made. passes (typed_stmt made) (walk_of body.now found)) refused (λ v. judged (fault_of node) (typed.statement node.place (typed.print_text text.now)) (walk_of body.now found) ≡ v) }
+{
+    let place = node.place;
+    let mut node = node;
+    node.settle()?;
+    Ok(made::text(place, text.copy(body.alloc)?))
 }
 
 /// An int or a boolean is printed, and no reference.
@@ -221,6 +236,7 @@ pub fn declare_regions(body: &mut Body, node: Node, names: &[Named]) -> Result<S
     ensures home { OnOk result (home_of body.new ≡ home_of body.old) }
     ensures checks { (found : Found) → Says result (λ made. passes (typed_stmt made) (walk_of body.new found)) refused (λ v. regions_declared node names.now (walk_of body.old found) ≡ v) }
 {
+    let place = node.place;
     let mut node = node;
     let mut regions = Items::new(body.alloc);
     for named in names {
@@ -231,7 +247,7 @@ pub fn declare_regions(body: &mut Body, node: Node, names: &[Named]) -> Result<S
         body.declare_region(named.name)?;
     }
     node.settle()?;
-    Ok(made::regions(node.place, regions))
+    Ok(made::regions(place, regions))
 }
 
 /// A local region whose name a region in scope has is a fault, and so is one for which there is no room.

@@ -11,7 +11,7 @@ ghost use Rattle.dpj_check.specs.Noting.{fault_of};
 ghost use Rattle.dpj_check.specs.Walks.{home_of, passes, refused, walk_of};
 ghost use Rattle.dpj_exprs.specs.Answer.{Says};
 ghost use Rattle.dpj_typed.specs.Plain.{statement, choice_form};
-ghost use Rattle.dpj_typed.specs.Plain.{plain_expr as typed_expr};
+ghost use Rattle.dpj_exprs.specs.Typed.{plain_node as typed_expr};
 ghost use Rattle.dpj_typed.specs.Plain.{plain_stmt as typed_stmt};
 
 use crate::body::Body;
@@ -23,8 +23,9 @@ use crate::node::{Around, Node};
 use crate::parts::foreach_parts;
 use crate::simple::{
     assign_local, assign_place, declare, declare_regions, leave, leave_with, perform, print,
+    print_text,
 };
-use dpj_base::{Boxed, Items, NoMemory, Place, Plain, Stop};
+use dpj_base::{Boxed, Items, NoMemory, Place, Stop};
 use dpj_exprs::Found;
 use dpj_tree::{Expr, Stmt, StmtKind};
 use dpj_typed::{Expr as TypedExpr, Stmt as TypedStmt};
@@ -61,13 +62,14 @@ pub fn statement(
     ensures checks { Says result (λ made. passes (typed_stmt made.stmt) (walk_of body.new out.new)) refused (Standing body.old.atomic_params around follows (plain_stmt stmt.now) (walk_of body.old out.old)) }
 {
     let mut node = Node::of(stmt, follows);
+    let place = node.place;
     match &stmt.kind {
         StmtKind::Block(all) => {
             let done = block(body, around, all.as_slice(), out)?;
             node.settle()?;
             Ok(Checked {
                 completes: done.completes,
-                stmt: made::blocked(node.place, done.stmts),
+                stmt: made::blocked(place, done.stmts),
             })
         }
         StmtKind::If { test, then, other } => {
@@ -76,7 +78,7 @@ pub fn statement(
             let second = other_part(body, around, other.as_ref(), out)?;
             node.settle()?;
             let test = given.into_node(test.place);
-            Ok(choose(body.alloc, node.place, test, first, second)?)
+            Ok(choose(body.alloc, place, test, first, second)?)
         }
         StmtKind::Return(value) => {
             let stmt = returns(body, around, node, value.as_ref(), out)?;
@@ -217,6 +219,7 @@ fn repeated(
     ensures home { OnOk result (home_of body.new ≡ home_of body.old) }
     ensures checks { Says result (λ made. passes (typed_stmt made) (walk_of body.new out.new)) refused (Checking body.old.atomic_params around node (form_of (plain_stmt stmt.now)) (walk_of body.old out.old)) }
 {
+    let place = node.place;
     let mut node = node;
     match &stmt.kind {
         StmtKind::While {
@@ -227,7 +230,7 @@ fn repeated(
             let done = scoped(body, around, iteration.get(), out)?;
             node.settle()?;
             let test = given.into_node(test.place);
-            Ok(made::repeated(body.alloc, node.place, test, done.stmt)?)
+            Ok(made::repeated(body.alloc, place, test, done.stmt)?)
         }
         StmtKind::Foreach {
             nd,
@@ -308,11 +311,7 @@ fn act(body: &mut Body, node: Node, stmt: &Stmt, out: &mut Found) -> Result<Type
         StmtKind::Do(value) => perform(body, node, value, out),
         StmtKind::Print(value) => print(body, node, value, out),
         StmtKind::Region { names } => declare_regions(body, node, names.as_slice()),
-        StmtKind::PrintText(text) => {
-            let mut node = node;
-            node.settle()?;
-            Ok(made::text(node.place, text.copy(body.alloc)?))
-        }
+        StmtKind::PrintText(text) => print_text(body, node, text),
         _ => unreachable!(),
     }
 }
