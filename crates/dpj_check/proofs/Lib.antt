@@ -5,8 +5,10 @@ pub mod Forks
 pub mod Homes
 pub mod Iterations
 pub mod Leaves
+pub mod Making
 mod Meeting
 pub mod Methodic
+pub mod Nodes
 pub mod Noting
 mod Once
 mod OnceBodies

@@ -8,6 +8,7 @@ ghost use Rattle.dpj_typed.specs.Plain.{plain_stmt as typed_stmt};
 ghost use Rattle.dpj_check.specs.Checking.{plain_branch, forking_of};
 ghost use Rattle.dpj_check.specs.Simple.{printed_form, stored};
 ghost use Rattle.dpj_exprs.specs.Targeting.{plain_spot};
+ghost use Rattle.dpj_exprs.specs.Typed.{is_boolean};
 
 use dpj_base::{Boxed, Bytes, Effect, Items, NoMemory, Place, Ty};
 use dpj_exprs::Spot;
@@ -15,6 +16,7 @@ use dpj_typed::{Branch, Expr, Forking, LocalRegion, PartSource, Slot, Stmt, Stmt
 use std::alloc::Global;
 
 /// A declaration of a local in a slot.
+#[tactic(auto, using(crate::proofs::Making::made_Declare))]
 pub fn declaration(place: Place, slot: u32, ty: Ty, is_final: bool, value: Expr) -> Stmt
     ensures { typed_stmt result ≡ statement place (form.declare slot (plain_type ty) is_final (typed_expr value)) }
 {
@@ -28,6 +30,7 @@ pub fn declaration(place: Place, slot: u32, ty: Ty, is_final: bool, value: Expr)
 }
 
 /// An assignment to the local in a slot.
+#[tactic(auto, using(crate::proofs::Making::made_Store))]
 pub fn store(place: Place, slot: u32, value: Expr) -> Stmt
     ensures { typed_stmt result ≡ statement place (form.store slot (typed_expr value)) }
 {
@@ -39,6 +42,7 @@ pub fn store(place: Place, slot: u32, value: Expr) -> Stmt
 }
 
 /// A call or a creation.
+#[tactic(auto, using(crate::proofs::Making::made_Perform))]
 pub fn performed(place: Place, value: Expr) -> Stmt
     ensures { typed_stmt result ≡ statement place (form.perform (typed_expr value)) }
 {
@@ -47,6 +51,7 @@ pub fn performed(place: Place, value: Expr) -> Stmt
 }
 
 /// A block.
+#[tactic(auto, using(crate::proofs::Making::made_Block))]
 pub fn blocked(place: Place, stmts: Items<Stmt>) -> Stmt
     ensures { typed_stmt result ≡ statement place (form.block (stmts_of (map typed_stmt stmts))) }
 {
@@ -55,6 +60,7 @@ pub fn blocked(place: Place, stmts: Items<Stmt>) -> Stmt
 }
 
 /// `return;`
+#[tactic(auto, using(crate::proofs::Making::made_Return_nothing))]
 pub fn leaving(place: Place) -> Stmt
     ensures { typed_stmt result ≡ statement place (form.return_nothing) }
 {
@@ -63,6 +69,7 @@ pub fn leaving(place: Place) -> Stmt
 }
 
 /// `return value;`
+#[tactic(auto, using(crate::proofs::Making::made_Return_value))]
 pub fn leaving_with(place: Place, value: Expr) -> Stmt
     ensures { typed_stmt result ≡ statement place (form.return_value (typed_expr value)) }
 {
@@ -71,6 +78,7 @@ pub fn leaving_with(place: Place, value: Expr) -> Stmt
 }
 
 /// `print` of a text.
+#[tactic(auto, using(crate::proofs::Making::made_PrintText))]
 pub fn text(place: Place, text: Bytes) -> Stmt
     ensures { typed_stmt result ≡ statement place (form.print_text text) }
 {
@@ -79,6 +87,7 @@ pub fn text(place: Place, text: Bytes) -> Stmt
 }
 
 /// An atomic block, with the effects with which it is entered.
+#[tactic(auto, using(crate::proofs::Making::made_Atomic))]
 pub fn entered(place: Place, effects: Items<Effect>, body: Items<Stmt>) -> Stmt
     ensures { typed_stmt result ≡ statement place (form.atomic effects (stmts_of (map typed_stmt body))) }
 {
@@ -87,6 +96,7 @@ pub fn entered(place: Place, effects: Items<Effect>, body: Items<Stmt>) -> Stmt
 }
 
 /// `if (test) then`, with an `else` where there is one.
+#[tactic(auto, using(crate::proofs::Making::made_If))]
 pub fn choice(
     alloc: Global,
     place: Place,
@@ -97,15 +107,22 @@ pub fn choice(
     ensures { IfOk result (λ made. typed_stmt made ≡ statement place (choice_form (typed_expr test) (typed_stmt then) (option_map typed_stmt other))) }
 {
     let then = Boxed::new(alloc, then)?;
-    let other = match other {
-        Some(other) => Some(Boxed::new(alloc, other)?),
-        None => None,
-    };
+    let other = in_box(alloc, other)?;
     let form = StmtForm::If { test, then, other };
     Ok(Stmt { place, form })
 }
 
+fn in_box(alloc: Global, stmt: Option<Stmt>) -> Result<Option<Boxed<Stmt>>, NoMemory>
+    ensures { IfOk result (λ made. made ≡ stmt) }
+{
+    match stmt {
+        Some(stmt) => Ok(Some(Boxed::new(alloc, stmt)?)),
+        None => Ok(None),
+    }
+}
+
 /// `while (test) body`
+#[tactic(auto, using(crate::proofs::Making::made_While))]
 pub fn repeated(alloc: Global, place: Place, test: Expr, body: Stmt) -> Result<Stmt, NoMemory>
     ensures { IfOk result (λ made. typed_stmt made ≡ statement place (form.while_loop (typed_expr test) (typed_stmt body))) }
 {
@@ -115,39 +132,56 @@ pub fn repeated(alloc: Global, place: Place, test: Expr, body: Stmt) -> Result<S
 }
 
 /// `print` of an int or a boolean.
+#[tactic(auto, using(crate::proofs::Making::printed_boolean, crate::proofs::Making::printed_int))]
 pub fn printed(place: Place, value: Expr) -> Stmt
     ensures { typed_stmt result ≡ statement place (printed_form (typed_expr value)) }
 {
-    let form = if matches!(value.ty, Ty::Bool) {
-        StmtForm::PrintBool(value)
-    } else {
-        StmtForm::PrintInt(value)
-    };
+    if is_boolean(&value.ty) {
+        let form = StmtForm::PrintBool(value);
+        return Stmt { place, form };
+    }
+    let form = StmtForm::PrintInt(value);
     Stmt { place, form }
+}
+
+fn is_boolean(ty: &Ty) -> bool
+    ensures { result ≡ is_boolean (plain_type ty.now) }
+{
+    matches!(ty, Ty::Bool)
 }
 
 /// An assignment to a field, to an element, or to an element of a part.
+#[tactic(auto, using(crate::proofs::Making::stored_field, crate::proofs::Making::stored_element, crate::proofs::Making::stored_part))]
 pub fn stored(place: Place, spot: Spot, value: Expr) -> Stmt
     ensures { typed_stmt result ≡ statement place (stored (plain_spot spot) (typed_expr value)) }
 {
-    let form = match spot {
-        Spot::Field { of, class, field } => StmtForm::StoreField {
-            of,
-            class,
-            field,
-            value,
+    match spot {
+        Spot::Field { of, class, field } => Stmt {
+            place,
+            form: StmtForm::StoreField {
+                of,
+                class,
+                field,
+                value,
+            },
         },
-        Spot::Element { array, index } => StmtForm::StoreElement {
-            array,
-            index,
-            value,
+        Spot::Element { array, index } => Stmt {
+            place,
+            form: StmtForm::StoreElement {
+                array,
+                index,
+                value,
+            },
         },
-        Spot::Part { part, index } => StmtForm::StorePart { part, index, value },
-    };
-    Stmt { place, form }
+        Spot::Part { part, index } => Stmt {
+            place,
+            form: StmtForm::StorePart { part, index, value },
+        },
+    }
 }
 
 /// A `cobegin`.
+#[tactic(auto, using(crate::proofs::Making::made_Cobegin))]
 pub fn forked(place: Place, nd: bool, branches: Items<Branch>) -> Stmt
     ensures { typed_stmt result ≡ statement place (form.cobegin (forking_of nd) (branches_of (map plain_branch branches))) }
 {
@@ -169,6 +203,7 @@ fn forking(nd: bool) -> Forking
 }
 
 /// A `foreach`, whose variable has the slot.
+#[tactic(auto, using(crate::proofs::Making::made_Foreach))]
 pub fn iterated(
     alloc: Global,
     place: Place,
@@ -191,6 +226,7 @@ pub fn iterated(
 }
 
 /// A `foreach_parts`, whose part has the slot.
+#[tactic(auto, using(crate::proofs::Making::made_ForeachParts))]
 pub fn parted(
     alloc: Global,
     place: Place,
@@ -211,6 +247,7 @@ pub fn parted(
 }
 
 /// `region ..;`
+#[tactic(auto, using(crate::proofs::Making::made_Regions))]
 pub fn regions(place: Place, regions: Items<LocalRegion>) -> Stmt
     ensures { typed_stmt result ≡ statement place (form.local_regions (map (λ region. region.number) regions)) }
 {
