@@ -111,13 +111,20 @@ variable_declared env var = local_declared env var.name variant.Int true
 abbrev pub variable_noted : Env → Named → Node → Node
 variable_noted env var node = declaration_noted env var.name var.place node
 
+-- the type of what is cut, and what is wrong with it; what comes from a part of what is no array has none
+abbrev pub cut_type : Option TypedExpr → PlainType
+cut_type (Some e) = type_of e
+cut_type None = ty.void
+
+abbrev pub cut_fault : Option TypedExpr → Option Kind
+cut_fault (Some e) = whole_fault (type_of e)
+cut_fault None = None
+
 -- what a `foreach_parts` cuts: the type, and the part or the array expression, with what is wrong with it
 pub data Cutting (env : Env) (array : PlainExpr) (f : Found) : PlainType → Source → Option Kind → Found → Type 0 where
   a_part : {row : LocalRow} → part_of env array ≡ Some row → Cutting env array f (plain_type row.ty) (typed.of_part row.slot) None f
-  an_array : {e : TypedExpr} {g : Found} → part_of env array ≡ None → Typing env array f (gives (Some e) g) →
-      Cutting env array f (type_of e) (typed.of_array e) (whole_fault (type_of e)) g
-  nothing : {g : Found} → part_of env array ≡ None → Typing env array f (gives None g) →
-      Cutting env array f ty.void (typed.of_array (node_of array None)) None g
+  an_array : {t : Option TypedExpr} {g : Found} → part_of env array ≡ None → Typing env array f (gives t g) →
+      Cutting env array f (cut_type t) (typed.of_array (node_of array t)) (cut_fault t) g
 
 -- the slot of a part that is cut
 abbrev pub outer_part : Source → Option ℕ

@@ -6,9 +6,10 @@ ghost use Rattle.dpj_tree.specs.Plain.{plain_expr, plain_stmt};
 ghost use Rattle.dpj_exprs.specs.Answer.{Answer as answer};
 ghost use Rattle.dpj_exprs.specs.Env.{part_of};
 ghost use Rattle.dpj_exprs.specs.Typing.{Typing};
-ghost use Rattle.dpj_typed.specs.Plain.{plain_source};
+ghost use Rattle.dpj_typed.specs.Plain.{plain_source, of_array};
+ghost use Rattle.dpj_exprs.specs.Typed.{node_at, plain_typed};
 ghost use Rattle.dpj_exprs.specs.Typed.{plain_node as typed_expr};
-ghost use Rattle.dpj_check.specs.Checking.{opened, not_opened, outer_part, Cutting, Opening, Parting};
+ghost use Rattle.dpj_check.specs.Checking.{cut_fault, cut_type, opened, not_opened, outer_part, Cutting, Opening, Parting};
 ghost use Rattle.dpj_check.specs.Deciding.{whole_fault, AssignsOuter};
 ghost use Rattle.dpj_check.specs.Keeping.{inside, Keeps};
 ghost use Rattle.dpj_check.specs.Noting.{fault_of};
@@ -25,11 +26,12 @@ use crate::made;
 use crate::meet::parts_pass;
 use crate::node::{Around, Node};
 use crate::statements::scoped;
-use dpj_base::{Kind, NoMemory, Plain, Stop, Ty};
+use dpj_base::{Kind, NoMemory, Place, Plain, Stop, Ty};
 use dpj_exprs::{Found, Typed};
 use dpj_regions::is_full;
 use dpj_tree::{Expr, Named, Stmt};
 use dpj_typed::{Expr as TypedExpr, PartSource, Slot, Stmt as TypedStmt};
+use std::alloc::Global;
 
 /// What a `foreach_parts` cuts into parts.
 #[derive(Drop)]
@@ -126,13 +128,29 @@ fn whole_of(body: &Body, array: &Expr, out: &mut Found) -> Result<Whole, Stop>
         return Ok(whole);
     }
     let given = body.typed(array, out)?;
-    let (ty, fault) = match &given {
-        Typed::Known(made) => (made.ty.copy(body.alloc)?, whole_fault(&made.ty)),
+    Ok(array_whole(body.alloc, array.place, given)?)
+}
+
+/// What the array expression at a place is, which gives this.
+fn array_whole(alloc: Global, place: Place, given: Typed) -> Result<Whole, NoMemory>
+    ensures ty { IfOk result (λ whole. plain_type whole.ty ≡ cut_type (plain_typed given)) }
+    ensures source { IfOk result (λ whole. plain_source whole.source ≡ of_array (node_at place (plain_typed given))) }
+    ensures fault { IfOk result (λ whole. whole.fault ≡ cut_fault (plain_typed given)) }
+{
+    match given {
+        Typed::Known(made) => {
+            let ty = made.ty.copy(alloc)?;
+            let fault = whole_fault(&made.ty);
+            let source = PartSource::Array(made);
+            Ok(Whole { ty, source, fault })
+        }
         // It comes from a part of what is no array, and is none itself. That is reported at the outer construct.
-        Typed::Any => (Ty::Void, None),
-    };
-    let source = PartSource::Array(given.into_node(array.place));
-    Ok(Whole { ty, source, fault })
+        Typed::Any => Ok(Whole {
+            ty: Ty::Void,
+            source: PartSource::Array(Typed::Any.into_node(place)),
+            fault: None,
+        }),
+    }
 }
 
 /// What is wrong with what is cut into parts.

@@ -27,30 +27,31 @@ use Rattle.dpj_check.proofs.Walking.{block_stops, block_closes, scope_passes, bl
 use Rattle.dpj_check.proofs.+statements.Goals as goal
 use Rattle.dpj_check.proofs.+statements.Goals.{statements::statement-in-Some+in_ok-second-in-Some, statements::statement-in-None, statements::statements-then-completes, statements::statements-else-completes, constructs::foreach-then-inner, constructs::foreach-else-inner, constructs::cobegin-then-out, constructs::cobegin-else-out}
 
-pub statements::block-returns-in_err-completes-clause-checks :
-    goal.statements::block-returns-in_err-completes-clause-checks
-statements::block-returns-in_err-completes-clause-checks t c =
+pub statements::block-returns-in_err-done-clause-checks :
+    goal.statements::block-returns-in_err-done-clause-checks
+statements::block-returns-in_err-done-clause-checks t c =
     stopped (λ q. InOrder c.args.body.now.atomic_params c.args.around true (plain_stmts (map plain_stmt c.args.stmts.now))
     (walk_of c.args.body.now c.new-inner.result) (verdict.refused q))
     (InBlock c.args.body.now.atomic_params c.args.around (plain_stmts (map plain_stmt c.args.stmts.now)) (walk_of c.args.body.now c.args.out.now))
-    c.from_residual.result _ c.in_err-completes.field-0.0 c.from_residual.ensures.1
+    c.from_residual.result _ c.in_err-done.field-0.0 c.from_residual.ensures.1
     (λ q d. block_stops c.args.body.now.atomic_params c.args.around (plain_stmts (map plain_stmt c.args.stmts.now)) c.args.body.now c.args.out.now
     c.new-inner.result q c.new-inner.ensures d)
-    c.in_err-completes.ensures.checks
+    c.in_err-done.ensures.checks
 
 pub statements::block-returns-clause-checks : goal.statements::block-returns-clause-checks
 statements::block-returns-clause-checks t c =
     block_closes c.args.body.now.atomic_params c.args.around (plain_stmts (map plain_stmt c.args.stmts.now)) c.args.body.now c.statements.new.body
     c.args.out.now c.new-inner.result
-    c.statements.new.out c.take_in.new.out c.leave.new.self c.mark-scope.result c.from_here-leaving.result c.new-inner.ensures
-    c.in_ok-completes.ensures.checks c.mark-scope.ensures c.leave.ensures.whole c.from_here-leaving.ensures c.in_ok-take_in.ensures
+    c.statements.new.out c.take_in.new.out c.leave.new.self c.mark-scope.result c.from_here-leaving.result (map typed_stmt c.in_ok-done.done.stmts)
+    c.new-inner.ensures
+    c.in_ok-done.ensures.checks c.mark-scope.ensures c.leave.ensures.whole c.from_here-leaving.ensures c.in_ok-take_in.ensures
 
 pub statements::construct-returns-in-Cobegin-clause-checks : goal.statements::construct-returns-in-Cobegin-clause-checks
 statements::construct-returns-in-Cobegin-clause-checks t c =
     says_all (Forking c.args.body.now.atomic_params c.args.around c.args.node c.in-Cobegin.nd (plain_stmts (map plain_stmt c.as_slice.result.now))
     (walk_of c.args.body.now c.args.out.now))
     (Checking c.args.body.now.atomic_params c.args.around c.args.node (form_of (plain_stmt c.args.stmt.now)) (walk_of c.args.body.now c.args.out.now))
-    c.cobegin.result (walk_of c.cobegin.new.body c.cobegin.new.out)
+    c.cobegin.result _
     (λ v d.
     as_form c.args.body.now.atomic_params c.args.around c.args.node c.args.stmt.now
     (form.cobegin c.in-Cobegin.nd (plain_stmts (map plain_stmt c.in-Cobegin.branches)))
@@ -61,31 +62,30 @@ statements::construct-returns-in-Cobegin-clause-checks t c =
     c.as_slice.ensures d)))
     c.cobegin.ensures.checks
 
-pub statements::scoped-returns-in_err-completes-clause-checks :
-    goal.statements::scoped-returns-in_err-completes-clause-checks
-statements::scoped-returns-in_err-completes-clause-checks t c =
+pub statements::scoped-returns-in_err-done-clause-checks :
+    goal.statements::scoped-returns-in_err-done-clause-checks
+statements::scoped-returns-in_err-done-clause-checks t c =
     stopped (λ q. Standing c.args.body.now.atomic_params c.args.around false (plain_stmt c.args.stmt.now) (walk_of c.args.body.now c.args.out.now)
     (verdict.refused q))
     (InScope c.args.body.now.atomic_params c.args.around (plain_stmt c.args.stmt.now) (walk_of c.args.body.now c.args.out.now))
-    c.from_residual.result _ c.in_err-completes.field-0.0 c.from_residual.ensures.1 (λ q d. in_scope d refl) c.in_err-completes.ensures.checks
+    c.from_residual.result _ c.in_err-done.field-0.0 c.from_residual.ensures.1 (λ q d. in_scope d refl) c.in_err-done.ensures.checks
 
 pub statements::scoped-returns-clause-checks : goal.statements::scoped-returns-clause-checks
 statements::scoped-returns-clause-checks t c =
     scope_passes c.args.body.now.atomic_params c.args.around (plain_stmt c.args.stmt.now) c.args.body.now c.statement.new.body c.args.out.now
-    c.statement.new.out c.leave.new.self c.mark-scope.result c.in_ok-completes.ensures.checks c.mark-scope.ensures c.leave.ensures.whole
+    c.statement.new.out c.leave.new.self c.mark-scope.result (typed_stmt c.in_ok-done.done.stmt) c.in_ok-done.ensures.checks c.mark-scope.ensures c.leave.ensures.whole
 
-pub statements::statement-returns-in_err-completes-in-Block-clause-checks :
-    goal.statements::statement-returns-in_err-completes-in-Block-clause-checks
-statements::statement-returns-in_err-completes-in-Block-clause-checks t c =
+pub statements::statement-returns-in_err-done-in-Block-clause-checks :
+    goal.statements::statement-returns-in_err-done-in-Block-clause-checks
+statements::statement-returns-in_err-done-in-Block-clause-checks t c =
     stopped (λ q. InBlock c.args.body.now.atomic_params c.args.around (plain_stmts (map plain_stmt c.as_slice.result.now))
     (walk_of c.args.body.now c.args.out.now) (verdict.refused q))
     (Standing c.args.body.now.atomic_params c.args.around c.args.follows (plain_stmt c.args.stmt.now) (walk_of c.args.body.now c.args.out.now))
-    c.from_residual.result _ c.in_err-completes-in-Block.field-0.0 c.from_residual.ensures.1
+    c.from_residual.result _ c.in_err-done-in-Block.field-0.0 c.from_residual.ensures.1
     (λ q d.
     block_stands c.args.body.now.atomic_params c.args.around c.args.follows c.of-node.result c.args.stmt.now c.in-Block.all c.as_slice.result.now
-    (walk_of c.args.body.now c.args.out.now) (verdict.refused q) (verdict.refused q) c.in-Block.is c.as_slice.ensures c.of-node.ensures.node d
-    refl)
-    c.in_err-completes-in-Block.ensures.checks
+    (walk_of c.args.body.now c.args.out.now) (verdict.refused q) (verdict.refused q) c.in-Block.is c.as_slice.ensures c.of-node.ensures.node d refl)
+    c.in_err-done-in-Block.ensures.checks
 
 pub statements::statement-returns-in_err-settle-in-Block-clause-checks :
     goal.statements::statement-returns-in_err-settle-in-Block-clause-checks
@@ -95,29 +95,31 @@ statements::statement-returns-in_err-settle-in-Block-clause-checks t c =
     c.from_residual-in_err-settle-in-Block.ensures.1 c.in_err-settle-in-Block.ensures.result
     (λ q told.
     block_stands c.args.body.now.atomic_params c.args.around c.args.follows c.of-node.result c.args.stmt.now c.in-Block.all c.as_slice.result.now
-    (walk_of c.args.body.now c.args.out.now) (passes (walk_of c.block.new.body c.block.new.out)) (verdict.refused q) c.in-Block.is c.as_slice.ensures
-    c.of-node.ensures.node c.in_ok-completes-in-Block.ensures.checks
-    (then_told (fault_of c.of-node.result) (walk_of c.block.new.body c.block.new.out) q told))
+    (walk_of c.args.body.now c.args.out.now) (passes (map typed_stmt c.in_ok-done-in-Block.done.stmts) (walk_of c.block.new.body c.block.new.out))
+    (verdict.refused q) c.in-Block.is c.as_slice.ensures c.of-node.ensures.node c.in_ok-done-in-Block.ensures.checks
+    (then_told (fault_of c.of-node.result) _ (map typed_stmt c.in_ok-done-in-Block.done.stmts) (walk_of c.block.new.body c.block.new.out) q told))
 
 pub statements::statement-returns-in_ok-settle-in-Block-clause-checks :
     goal.statements::statement-returns-in_ok-settle-in-Block-clause-checks
 statements::statement-returns-in_ok-settle-in-Block-clause-checks t c =
     block_stands c.args.body.now.atomic_params c.args.around c.args.follows c.of-node.result c.args.stmt.now c.in-Block.all c.as_slice.result.now
-    (walk_of c.args.body.now c.args.out.now) (passes (walk_of c.block.new.body c.block.new.out)) (passes (walk_of c.block.new.body c.block.new.out))
-    c.in-Block.is c.as_slice.ensures c.of-node.ensures.node c.in_ok-completes-in-Block.ensures.checks
-    (then_none (fault_of c.of-node.result) (walk_of c.block.new.body c.block.new.out) c.in_ok-settle-in-Block.ensures.clean)
+    (walk_of c.args.body.now c.args.out.now) (passes (map typed_stmt c.in_ok-done-in-Block.done.stmts) (walk_of c.block.new.body c.block.new.out))
+    (passes (typed_stmt c.blocked.result) (walk_of c.block.new.body c.block.new.out)) c.in-Block.is c.as_slice.ensures c.of-node.ensures.node
+    c.in_ok-done-in-Block.ensures.checks
+    (then_made (fault_of c.of-node.result) _ (map typed_stmt c.in_ok-done-in-Block.done.stmts) (walk_of c.block.new.body c.block.new.out)
+    (typed_stmt c.blocked.result) c.in_ok-settle-in-Block.ensures.clean c.blocked.ensures)
 
-pub statements::statement-returns-in_err-_test-in-If-clause-checks :
-    goal.statements::statement-returns-in_err-_test-in-If-clause-checks
-statements::statement-returns-in_err-_test-in-If-clause-checks t c =
+pub statements::statement-returns-in_err-given-in-If-clause-checks :
+    goal.statements::statement-returns-in_err-given-in-If-clause-checks
+statements::statement-returns-in_err-given-in-If-clause-checks t c =
     stopped (λ q. Typing c.args.body.now.env (plain_expr c.in-If.test) c.args.out.now (refused q))
     (Standing c.args.body.now.atomic_params c.args.around c.args.follows (plain_stmt c.args.stmt.now) (walk_of c.args.body.now c.args.out.now))
-    c.from_residual-in_err-_test-in-If.result _ c.in_err-_test-in-If.field-0.0 c.from_residual-in_err-_test-in-If.ensures.1
+    c.from_residual-in_err-given-in-If.result _ c.in_err-given-in-If.field-0.0 c.from_residual-in_err-given-in-If.ensures.1
     (λ q d.
-    test_stops c.args.body.now.atomic_params c.args.around c.args.follows c.of-node.result c.args.stmt.now c.in-If.test c.in-If.then c.in-If.other
-    c.args.body.now c.args.out.now q
-    c.in-If.is c.of-node.ensures.node d)
-    c.in_err-_test-in-If.ensures.answer
+    choice_stands c.args.body.now.atomic_params c.args.around c.args.follows c.of-node.result c.args.stmt.now c.in-If.test c.in-If.then c.in-If.other
+    (walk_of c.args.body.now c.args.out.now) (verdict.refused q) c.in-If.is c.of-node.ensures.node
+    (choosing.test_refused d))
+    c.in_err-given-in-If.ensures.answer
 
 pub statements::statement-returns-in_err-first-in-If-clause-checks :
     goal.statements::statement-returns-in_err-first-in-If-clause-checks
@@ -127,118 +129,131 @@ statements::statement-returns-in_err-first-in-If-clause-checks t c =
     (Standing c.args.body.now.atomic_params c.args.around c.args.follows (plain_stmt c.args.stmt.now) (walk_of c.args.body.now c.args.out.now))
     c.from_residual-in_err-first-in-If.result _ c.in_err-first-in-If.field-0.0 c.from_residual-in_err-first-in-If.ensures.1
     (λ q d.
-    first_stops c.args.around c.args.follows c.of-node.result c.args.stmt.now c.in-If.test c.in-If.then c.get.result.now c.in-If.other c.args.body.now
-    c.args.out.now c.boolean.new.out (plain_typed c.in_ok-_test-in-If._test) q c.in-If.is c.of-node.ensures.node
-    c.in_ok-_test-in-If.ensures.answer c.get.ensures d)
+    choice_stands c.args.body.now.atomic_params c.args.around c.args.follows c.of-node.result c.args.stmt.now c.in-If.test c.in-If.then c.in-If.other
+    (walk_of c.args.body.now c.args.out.now) (verdict.refused q) c.in-If.is c.of-node.ensures.node
+    (first_stops c.args.body.now c.args.around c.of-node.result c.in-If.test c.in-If.then c.get.result.now (option_map plain_stmt c.in-If.other) c.args.out.now c.boolean.new.out (plain_typed c.in_ok-given-in-If.given) q c.in_ok-given-in-If.ensures.answer c.get.ensures d))
     c.in_err-first-in-If.ensures.checks
 
-pub statements::statement-returns-in_err-second-in-Some-clause-checks :
-    goal.statements::statement-returns-in_err-second-in-Some-clause-checks
-statements::statement-returns-in_err-second-in-Some-clause-checks t c =
-    stopped
-    (λ q. InScope c.scoped.new.body.atomic_params c.args.around (plain_stmt c.get-in-Some.result.now) (walk_of c.scoped.new.body c.scoped.new.out)
-    (verdict.refused q))
+pub statements::statement-returns-in_err-second-in-If-clause-checks :
+    goal.statements::statement-returns-in_err-second-in-If-clause-checks
+statements::statement-returns-in_err-second-in-If-clause-checks t c =
+    let met : FirstMet c.args.body.now c.scoped.new.body c.args.around c.of-node.result c.boolean.new.node c.in-If.test c.in-If.then c.get.result.now
+    c.args.out.now c.boolean.new.out c.scoped.new.out (plain_typed c.in_ok-given-in-If.given) (typed_stmt c.in_ok-first-in-If.first.stmt) = record {
+      typing = c.in_ok-given-in-If.ensures.answer;
+      noted_is = c.in_ok-given-in-If.ensures.node;
+      shows = c.get.ensures;
+      in_scope = c.in_ok-first-in-If.ensures.checks;
+      home = c.in_ok-first-in-If.ensures.home;
+    } in
+    stopped (λ q. InOther c.scoped.new.body.atomic_params c.args.around (option_map plain_stmt (option_copied c.as_ref.result))
+    (walk_of c.scoped.new.body c.scoped.new.out) (verdict.refused q))
     (Standing c.args.body.now.atomic_params c.args.around c.args.follows (plain_stmt c.args.stmt.now) (walk_of c.args.body.now c.args.out.now))
-    c.from_residual-in_err-second-in-Some.result _ c.in_err-second-in-Some.field-0.0 c.from_residual-in_err-second-in-Some.ensures.1
+    c.from_residual-in_err-second-in-If.result _ c.in_err-second-in-If.field-0.0 c.from_residual-in_err-second-in-If.ensures.1
     (λ q d.
-    either_stands c.args.around c.args.follows c.of-node.result c.args.stmt.now c.in-If.test c.in-If.then c.get.result.now c.in-If.other
-    c.in-Some.other c.get-in-Some.result.now c.args.body.now c.scoped.new.body c.args.out.now c.boolean.new.out c.scoped.new.out
-    (plain_typed c.in_ok-_test-in-If._test) (verdict.refused q) (verdict.refused q) c.in-If.is c.in-Some.is c.of-node.ensures.node
-    c.in_ok-_test-in-If.ensures.answer c.get.ensures c.in_ok-first-in-If.ensures.checks c.in_ok-first-in-If.ensures.home
-    c.get-in-Some.ensures d refl)
-    c.in_err-second-in-Some.ensures.checks
+    choice_stands c.args.body.now.atomic_params c.args.around c.args.follows c.of-node.result c.args.stmt.now c.in-If.test c.in-If.then c.in-If.other
+    (walk_of c.args.body.now c.args.out.now) (verdict.refused q) c.in-If.is c.of-node.ensures.node
+    (choice_so c.args.body.now c.scoped.new.body c.args.around c.of-node.result c.boolean.new.node c.in-If.test c.in-If.then c.get.result.now
+    (option_map plain_stmt c.in-If.other) c.args.out.now c.boolean.new.out c.scoped.new.out (plain_typed c.in_ok-given-in-If.given) (typed_stmt c.in_ok-first-in-If.first.stmt)
+    (verdict.refused q)
+    (verdict.refused q) met
+    (subst (λ o. InOther c.scoped.new.body.atomic_params c.args.around (option_map plain_stmt o) (walk_of c.scoped.new.body c.scoped.new.out) (verdict.refused q)) c.as_ref.ensures.value d)
+    (refl)))
+    c.in_err-second-in-If.ensures.checks
 
 pub statements::statement-returns-in_err-settle-in-If-clause-checks :
     goal.statements::statement-returns-in_err-settle-in-If-clause-checks
 statements::statement-returns-in_err-settle-in-If-clause-checks t c =
+    let met : FirstMet c.args.body.now c.scoped.new.body c.args.around c.of-node.result c.boolean.new.node c.in-If.test c.in-If.then c.get.result.now
+    c.args.out.now c.boolean.new.out c.scoped.new.out (plain_typed c.in_ok-given-in-If.given) (typed_stmt c.in_ok-first-in-If.first.stmt) = record {
+      typing = c.in_ok-given-in-If.ensures.answer;
+      noted_is = c.in_ok-given-in-If.ensures.node;
+      shows = c.get.ensures;
+      in_scope = c.in_ok-first-in-If.ensures.checks;
+      home = c.in_ok-first-in-If.ensures.home;
+    } in
     settle_stopped (Standing c.args.body.now.atomic_params c.args.around c.args.follows (plain_stmt c.args.stmt.now) (walk_of c.args.body.now c.args.out.now))
     (fault_of c.boolean.new.node) c.from_residual-in_err-settle-in-If.result c.in_err-settle-in-If.field-0.0 _
     c.from_residual-in_err-settle-in-If.ensures.1 c.in_err-settle-in-If.ensures.result
-    (λ q told. elim c.match-other.branch [
-      | statements::statement-in-Some+in_ok-second-in-Some w ↦ either_stands c.args.around c.args.follows c.of-node.result c.args.stmt.now c.in-If.test
-          c.in-If.then c.get.result.now c.in-If.other
-          w.in-Some.other w.get-in-Some.result.now c.args.body.now c.scoped.new.body c.args.out.now c.boolean.new.out c.scoped.new.out
-          (plain_typed c.in_ok-_test-in-If._test) (passes (walk_of w.scoped-in-Some.new.body w.scoped-in-Some.new.out)) (verdict.refused q) c.in-If.is w.in-Some.is
-          c.of-node.ensures.node
-          c.in_ok-_test-in-If.ensures.answer c.get.ensures c.in_ok-first-in-If.ensures.checks c.in_ok-first-in-If.ensures.home
-          w.get-in-Some.ensures w.in_ok-second-in-Some.ensures.checks
-          (noted_told c.of-node.result c.boolean.new.node _ (passes (walk_of w.scoped-in-Some.new.body w.scoped-in-Some.new.out)) (verdict.refused q)
-          c.in_ok-_test-in-If.ensures.node
-          (then_told (fault_of c.boolean.new.node) (walk_of w.scoped-in-Some.new.body w.scoped-in-Some.new.out) q told))
-      | statements::statement-in-None w ↦ choice_stands c.args.around c.args.follows c.of-node.result c.boolean.new.node c.args.stmt.now c.in-If.test
-          c.in-If.then
-          c.get.result.now c.in-If.other c.args.body.now c.args.out.now c.boolean.new.out (plain_typed c.in_ok-_test-in-If._test)
-          (walk_of c.scoped.new.body c.scoped.new.out)
-          (verdict.refused q) c.in-If.is w.in-None.is c.of-node.ensures.node c.in_ok-_test-in-If.ensures.answer c.get.ensures
-          c.in_ok-_test-in-If.ensures.node c.in_ok-first-in-If.ensures.checks
-          (then_told (fault_of c.boolean.new.node) (walk_of c.scoped.new.body c.scoped.new.out) q told)
-    ])
+    (λ q told.
+    choice_stands c.args.body.now.atomic_params c.args.around c.args.follows c.of-node.result c.args.stmt.now c.in-If.test c.in-If.then c.in-If.other
+    (walk_of c.args.body.now c.args.out.now) (verdict.refused q) c.in-If.is c.of-node.ensures.node
+    (choice_so c.args.body.now c.scoped.new.body c.args.around c.of-node.result c.boolean.new.node c.in-If.test c.in-If.then c.get.result.now
+    (option_map plain_stmt c.in-If.other) c.args.out.now c.boolean.new.out c.scoped.new.out (plain_typed c.in_ok-given-in-If.given) (typed_stmt c.in_ok-first-in-If.first.stmt)
+    (passes (option_map (λ z. typed_stmt z.stmt) c.in_ok-second-in-If.second) (walk_of c.other_part.new.body c.other_part.new.out))
+    (verdict.refused q) met
+    (subst (λ o. InOther c.scoped.new.body.atomic_params c.args.around (option_map plain_stmt o) (walk_of c.scoped.new.body c.scoped.new.out) (passes (option_map (λ z. typed_stmt z.stmt) c.in_ok-second-in-If.second) (walk_of c.other_part.new.body c.other_part.new.out))) c.as_ref.ensures.value c.in_ok-second-in-If.ensures.checks)
+    (then_told (fault_of c.boolean.new.node) _ (option_map (λ z. typed_stmt z.stmt) c.in_ok-second-in-If.second) (walk_of c.other_part.new.body c.other_part.new.out) q told)))
 
-pub statements::statement-returns-after-first-clause-checks :
-    goal.statements::statement-returns-after-first-clause-checks
-statements::statement-returns-after-first-clause-checks t c =
-    elim c.match-other.branch [
-      | statements::statement-in-Some+in_ok-second-in-Some w ↦ either_stands c.args.around c.args.follows c.of-node.result c.args.stmt.now c.in-If.test
-          c.in-If.then c.get.result.now c.in-If.other
-          w.in-Some.other w.get-in-Some.result.now c.args.body.now c.scoped.new.body c.args.out.now c.boolean.new.out c.scoped.new.out
-          (plain_typed c.in_ok-_test-in-If._test) (passes (walk_of w.scoped-in-Some.new.body w.scoped-in-Some.new.out))
-          (passes (walk_of c.match-other.body c.match-other.out)) c.in-If.is w.in-Some.is c.of-node.ensures.node
-          c.in_ok-_test-in-If.ensures.answer c.get.ensures c.in_ok-first-in-If.ensures.checks c.in_ok-first-in-If.ensures.home
-          w.get-in-Some.ensures w.in_ok-second-in-Some.ensures.checks
-          (noted_told c.of-node.result c.boolean.new.node _ (passes (walk_of w.scoped-in-Some.new.body w.scoped-in-Some.new.out))
-          (passes (walk_of c.match-other.body c.match-other.out)) c.in_ok-_test-in-If.ensures.node
-          (then_none (fault_of c.boolean.new.node) (walk_of w.scoped-in-Some.new.body w.scoped-in-Some.new.out) c.in_ok-settle-in-If.ensures.clean
-          ∙ ap passes (walk_same w.scoped-in-Some.new.body c.match-other.body w.scoped-in-Some.new.out c.match-other.out w.body-is w.out-is)))
-      | statements::statement-in-None w ↦ choice_stands c.args.around c.args.follows c.of-node.result c.boolean.new.node c.args.stmt.now c.in-If.test
-          c.in-If.then
-          c.get.result.now c.in-If.other c.args.body.now c.args.out.now c.boolean.new.out (plain_typed c.in_ok-_test-in-If._test)
-          (walk_of c.scoped.new.body c.scoped.new.out)
-          (passes (walk_of c.match-other.body c.match-other.out)) c.in-If.is w.in-None.is c.of-node.ensures.node c.in_ok-_test-in-If.ensures.answer c.get.ensures
-          c.in_ok-_test-in-If.ensures.node c.in_ok-first-in-If.ensures.checks
-          (then_none (fault_of c.boolean.new.node) (walk_of c.scoped.new.body c.scoped.new.out) c.in_ok-settle-in-If.ensures.clean
-          ∙ ap passes (walk_same c.scoped.new.body c.match-other.body c.scoped.new.out c.match-other.out w.body-is w.out-is))
-    ]
+pub statements::statement-returns-in_ok-choose-in-If-clause-checks :
+    goal.statements::statement-returns-in_ok-choose-in-If-clause-checks
+statements::statement-returns-in_ok-choose-in-If-clause-checks t c =
+    let met : FirstMet c.args.body.now c.scoped.new.body c.args.around c.of-node.result c.boolean.new.node c.in-If.test c.in-If.then c.get.result.now
+    c.args.out.now c.boolean.new.out c.scoped.new.out (plain_typed c.in_ok-given-in-If.given) (typed_stmt c.in_ok-first-in-If.first.stmt) = record {
+      typing = c.in_ok-given-in-If.ensures.answer;
+      noted_is = c.in_ok-given-in-If.ensures.node;
+      shows = c.get.ensures;
+      in_scope = c.in_ok-first-in-If.ensures.checks;
+      home = c.in_ok-first-in-If.ensures.home;
+    } in
+    choice_stands c.args.body.now.atomic_params c.args.around c.args.follows c.of-node.result c.args.stmt.now c.in-If.test c.in-If.then c.in-If.other
+    (walk_of c.args.body.now c.args.out.now) (passes (typed_stmt c.in_ok-choose-in-If.field-0.stmt) (walk_of c.other_part.new.body c.other_part.new.out)) c.in-If.is c.of-node.ensures.node
+    (choice_so c.args.body.now c.scoped.new.body c.args.around c.of-node.result c.boolean.new.node c.in-If.test c.in-If.then c.get.result.now
+    (option_map plain_stmt c.in-If.other) c.args.out.now c.boolean.new.out c.scoped.new.out (plain_typed c.in_ok-given-in-If.given) (typed_stmt c.in_ok-first-in-If.first.stmt)
+    (passes (option_map (λ z. typed_stmt z.stmt) c.in_ok-second-in-If.second) (walk_of c.other_part.new.body c.other_part.new.out))
+    (passes (typed_stmt c.in_ok-choose-in-If.field-0.stmt) (walk_of c.other_part.new.body c.other_part.new.out)) met
+    (subst (λ o. InOther c.scoped.new.body.atomic_params c.args.around (option_map plain_stmt o) (walk_of c.scoped.new.body c.scoped.new.out) (passes (option_map (λ z. typed_stmt z.stmt) c.in_ok-second-in-If.second) (walk_of c.other_part.new.body c.other_part.new.out))) c.as_ref.ensures.value c.in_ok-second-in-If.ensures.checks)
+    (then_made (fault_of c.boolean.new.node) (λ z. statement c.of-node.result.place (choice_form (node_of (plain_expr c.in-If.test) (plain_typed c.in_ok-given-in-If.given)) (typed_stmt c.in_ok-first-in-If.first.stmt) z)) (option_map (λ z. typed_stmt z.stmt) c.in_ok-second-in-If.second) (walk_of c.other_part.new.body c.other_part.new.out) (typed_stmt c.in_ok-choose-in-If.field-0.stmt) c.in_ok-settle-in-If.ensures.clean (c.in_ok-choose-in-If.ensures.stmt ∙ ap (λ e. statement c.of-node.result.place (choice_form e (typed_stmt c.in_ok-first-in-If.first.stmt) (option_map (λ z. typed_stmt z.stmt) c.in_ok-second-in-If.second))) (node_made c.in-If.test c.into_node.result (plain_typed c.in_ok-given-in-If.given) c.into_node.ensures))))
 
-pub statements::statement-returns-in_err-returns-in-Return-clause-checks :
-    goal.statements::statement-returns-in_err-returns-in-Return-clause-checks
-statements::statement-returns-in_err-returns-in-Return-clause-checks t c =
+pub statements::statement-returns-in_err-stmt-in-Return-clause-checks :
+    goal.statements::statement-returns-in_err-stmt-in-Return-clause-checks
+statements::statement-returns-in_err-stmt-in-Return-clause-checks t c =
     stopped (λ q. Checking c.args.body.now.atomic_params c.args.around c.of-node.result (return_form (option_copied c.as_ref.result))
     (walk_of c.args.body.now c.args.out.now) (verdict.refused q))
     (Standing c.args.body.now.atomic_params c.args.around c.args.follows (plain_stmt c.args.stmt.now) (walk_of c.args.body.now c.args.out.now))
-    c.from_residual-in_err-returns-in-Return.result _ c.in_err-returns-in-Return.field-0.0 c.from_residual-in_err-returns-in-Return.ensures.1
+    c.from_residual-in_err-stmt-in-Return.result _ c.in_err-stmt-in-Return.field-0.0 c.from_residual-in_err-stmt-in-Return.ensures.1
     (λ q d.
     as_statement c.args.body.now.atomic_params c.args.around c.args.follows c.of-node.result c.args.stmt.now (return_form (option_copied c.as_ref.result))
     (walk_of c.args.body.now c.args.out.now) (verdict.refused q)
     (at_Return c.args.stmt.now (option_copied c.as_ref.result) (c.in-Return.is ∙ ap tree.Return (sym c.as_ref.ensures.value)))
     c.of-node.ensures.node d)
-    (c.in_err-returns-in-Return.ensures.checks c.args.body.now.atomic_params)
+    (c.in_err-stmt-in-Return.ensures.checks c.args.body.now.atomic_params)
 
-pub statements::statement-returns-in_ok-returns-in-Return-clause-checks :
-    goal.statements::statement-returns-in_ok-returns-in-Return-clause-checks
-statements::statement-returns-in_ok-returns-in-Return-clause-checks t c =
+pub statements::statement-returns-in_ok-stmt-in-Return-clause-checks :
+    goal.statements::statement-returns-in_ok-stmt-in-Return-clause-checks
+statements::statement-returns-in_ok-stmt-in-Return-clause-checks t c =
     as_statement c.args.body.now.atomic_params c.args.around c.args.follows c.of-node.result c.args.stmt.now (return_form (option_copied c.as_ref.result))
-    (walk_of c.args.body.now c.args.out.now) (passes (walk_of c.args.body.now c.returns.new.out))
+    (walk_of c.args.body.now c.args.out.now) (passes (typed_stmt c.in_ok-stmt-in-Return.stmt) (walk_of c.args.body.now c.returns.new.out))
     (at_Return c.args.stmt.now (option_copied c.as_ref.result) (c.in-Return.is ∙ ap tree.Return (sym c.as_ref.ensures.value)))
-    c.of-node.ensures.node (c.in_ok-returns-in-Return.ensures.checks c.args.body.now.atomic_params)
+    c.of-node.ensures.node (c.in_ok-stmt-in-Return.ensures.checks c.args.body.now.atomic_params)
 
 pub statements::statement-returns-in_default-clause-checks : goal.statements::statement-returns-in_default-clause-checks
 statements::statement-returns-in_default-clause-checks t c =
     says_all (Checking c.args.body.now.atomic_params c.args.around c.of-node.result (form_of (plain_stmt c.args.stmt.now))
     (walk_of c.args.body.now c.args.out.now))
     (Standing c.args.body.now.atomic_params c.args.around c.args.follows (plain_stmt c.args.stmt.now) (walk_of c.args.body.now c.args.out.now))
-    c.completing.result (walk_of c.completing.new.body c.completing.new.out)
+    c.completing.result _
     (λ v d.
     construct_stands c.args.body.now.atomic_params c.args.around c.args.follows c.of-node.result c.args.stmt.now (walk_of c.args.body.now c.args.out.now) v
     c.of-node.ensures.node d)
     c.completing.ensures.checks
 
-pub statements::completing-returns-in_err-construct-clause-checks :
-    goal.statements::completing-returns-in_err-construct-clause-checks
-statements::completing-returns-in_err-construct-clause-checks t c =
+pub statements::completing-returns-in_err-stmt-clause-checks :
+    goal.statements::completing-returns-in_err-stmt-clause-checks
+statements::completing-returns-in_err-stmt-clause-checks t c =
     stopped (λ q. Checking c.args.body.now.atomic_params c.args.around c.args.node (form_of (plain_stmt c.args.stmt.now))
     (walk_of c.args.body.now c.args.out.now) (verdict.refused q))
     (Checking c.args.body.now.atomic_params c.args.around c.args.node (form_of (plain_stmt c.args.stmt.now)) (walk_of c.args.body.now c.args.out.now))
-    c.from_residual.result _ c.in_err-construct.field-0.0 c.from_residual.ensures.1 (λ q d. d) c.in_err-construct.ensures.checks
+    c.from_residual.result _ c.in_err-stmt.field-0.0 c.from_residual.ensures.1 (λ q d. d) c.in_err-stmt.ensures.checks
+
+pub statements::statements-loop-stmt-entered : goal.statements::statements-loop-stmt-entered
+statements::statements-loop-stmt-entered t c = record {
+  completes = refl;
+  keeps = λ follows rest. rest;
+  nd = λ held. held;
+  home = refl;
+  goes_on = order_none c.args.body.now.atomic_params c.args.around c.args.stmts.now (walk_of c.args.body.now c.args.out.now) (map typed_stmt c.new-made.result)
+      (ap (map typed_stmt) c.new-made.ensures);
+}
 
 pub statements::statements-returns-in_err-done-clause-checks :
     goal.statements::statements-returns-in_err-done-clause-checks
@@ -249,48 +264,47 @@ statements::statements-returns-in_err-done-clause-checks t c =
     (InOrder c.args.body.now.atomic_params c.args.around true (plain_stmts (map plain_stmt c.args.stmts.now)) (walk_of c.args.body.now c.args.out.now))
     c.from_residual.result _ c.in_err-done.field-0.0 c.from_residual.ensures.1
     (λ q d.
-    c.loop-stmt.invariant.goes_on (verdict.refused q)
-    (next_refused c.args.body.now.atomic_params c.loop-stmt.body.atomic_params c.args.around c.loop-stmt.completes c.args.stmts.now c.loop-stmt.stmt-index
-    c.stmt-item.result
-    (walk_of c.loop-stmt.body c.loop-stmt.out) q (home_params c.args.body.now c.loop-stmt.body c.loop-stmt.invariant.home) c.loop-stmt-test.true
-    c.stmt-item.is d))
+    order_refused c.args.body.now.atomic_params c.loop-stmt.body.atomic_params c.args.around c.args.stmts.now (walk_of c.args.body.now c.args.out.now)
+    c.loop-stmt.stmt-index c.loop-stmt.completes (map typed_stmt c.loop-stmt.made) c.stmt-item.result (walk_of c.loop-stmt.body c.loop-stmt.out) q
+    c.loop-stmt.invariant.goes_on (home_params c.args.body.now c.loop-stmt.body c.loop-stmt.invariant.home) c.loop-stmt-test.true c.stmt-item.is d)
     c.in_err-done.ensures.checks
 
 pub statements::statements-loop-stmt-preserved : goal.statements::statements-loop-stmt-preserved
 statements::statements-loop-stmt-preserved t c =
-    let next_so : c.if-completes.completes ≡ (c.loop-stmt.completes && c.in_ok-done.done) = (elim c.if-completes.branch [
+    let next_so : c.if-completes.completes ≡ (c.loop-stmt.completes && c.in_ok-done.done.completes) = (elim c.if-completes.branch [
       | statements::statements-then-completes w ↦
-          and_then_so c.loop-stmt.completes c.in_ok-done.done c.if-completes.completes w.if-completes.true w.completes-is
+          and_then_so c.loop-stmt.completes c.in_ok-done.done.completes c.if-completes.completes w.if-completes.true w.completes-is
       | statements::statements-else-completes w ↦
-          and_else_so c.loop-stmt.completes c.in_ok-done.done c.if-completes.completes w.if-completes.false (w.completes-is ∙ w.if-completes.false)
+          and_else_so c.loop-stmt.completes c.in_ok-done.done.completes c.if-completes.completes w.if-completes.false (w.completes-is ∙ w.if-completes.false)
     ]) in
     record {
       completes =
-          complete_step c.args.stmts.now c.loop-stmt.stmt-index c.stmt-item.result c.loop-stmt.completes c.in_ok-done.done c.if-completes.completes
+          complete_step c.args.stmts.now c.loop-stmt.stmt-index c.stmt-item.result c.loop-stmt.completes c.in_ok-done.done.completes c.if-completes.completes
           c.loop-stmt-test.true
           c.stmt-item.is c.in_ok-done.ensures.completes next_so c.loop-stmt.invariant.completes;
       keeps =
-          keep_step c.args.around c.args.stmts.now c.loop-stmt.stmt-index c.stmt-item.result c.loop-stmt.completes c.in_ok-done.done c.if-completes.completes
+          keep_step c.args.around c.args.stmts.now c.loop-stmt.stmt-index c.stmt-item.result c.loop-stmt.completes c.in_ok-done.done.completes
+          c.if-completes.completes
           c.loop-stmt-test.true c.stmt-item.is c.in_ok-done.ensures.after c.in_ok-done.ensures.keeps c.in_ok-done.ensures.completes next_so
           c.loop-stmt.invariant.keeps;
       nd =
           nd_step c.args.stmts.now c.loop-stmt.stmt-index c.stmt-item.result c.args.out.now.reaches_nd c.loop-stmt.out.reaches_nd
           c.statement.new.out.reaches_nd c.loop-stmt-test.true c.stmt-item.is c.in_ok-done.ensures.nd c.loop-stmt.invariant.nd;
       home = c.in_ok-done.ensures.home ∙ c.loop-stmt.invariant.home;
-      goes_on = λ v rest. c.loop-stmt.invariant.goes_on v
-          (next_passes c.args.body.now.atomic_params c.loop-stmt.body.atomic_params c.args.around c.loop-stmt.completes c.in_ok-done.done
-          c.if-completes.completes
-          c.args.stmts.now c.loop-stmt.stmt-index c.stmt-item.result (walk_of c.loop-stmt.body c.loop-stmt.out)
-          (walk_of c.statement.new.body c.statement.new.out) v (home_params c.args.body.now c.loop-stmt.body c.loop-stmt.invariant.home) c.loop-stmt-test.true
-          c.stmt-item.is c.in_ok-done.ensures.checks c.in_ok-done.ensures.completes next_so rest);
+      goes_on =
+          order_more c.args.body.now.atomic_params c.loop-stmt.body.atomic_params c.args.around c.loop-stmt.completes c.in_ok-done.done.completes
+          c.if-completes.completes c.args.stmts.now c.loop-stmt.stmt-index (map typed_stmt c.loop-stmt.made) (map typed_stmt c.push.new.self)
+          (typed_stmt c.in_ok-done.done.stmt) c.stmt-item.result (walk_of c.args.body.now c.args.out.now) (walk_of c.loop-stmt.body c.loop-stmt.out)
+          (walk_of c.statement.new.body c.statement.new.out) c.loop-stmt.invariant.goes_on
+          (home_params c.args.body.now c.loop-stmt.body c.loop-stmt.invariant.home) c.loop-stmt-test.true c.stmt-item.is c.in_ok-done.ensures.checks
+          c.in_ok-done.ensures.completes next_so (map_pushed typed_stmt c.loop-stmt.made c.push.new.self c.in_ok-done.done.stmt c.in_ok-push.ensures.ok);
     }
 
 pub statements::statements-returns-clause-checks : goal.statements::statements-returns-clause-checks
 statements::statements-returns-clause-checks t c =
-    c.loop-stmt.invariant.goes_on (passes (walk_of c.loop-stmt.body c.loop-stmt.out))
-    (none_after c.args.body.now.atomic_params c.args.around c.loop-stmt.completes c.args.stmts.now c.loop-stmt.stmt-index
-    (walk_of c.loop-stmt.body c.loop-stmt.out)
-    (drop_all c.loop-stmt.stmt-index c.args.stmts.now c.loop-stmt-test.false))
+    order_all c.args.body.now.atomic_params c.args.around c.loop-stmt.completes c.args.stmts.now c.loop-stmt.stmt-index (map typed_stmt c.loop-stmt.made)
+    (walk_of c.args.body.now c.args.out.now) (walk_of c.loop-stmt.body c.loop-stmt.out) c.loop-stmt.invariant.goes_on
+    (drop_all c.loop-stmt.stmt-index c.args.stmts.now c.loop-stmt-test.false)
 
 pub statements::repeated-returns-in_err-_test-in-While-clause-checks :
     goal.statements::repeated-returns-in_err-_test-in-While-clause-checks
@@ -360,7 +374,7 @@ statements::repeated-returns-in_ok-_count-in-Foreach-clause-checks t c =
     (Iterating c.args.body.now.atomic_params c.args.around c.int-in-Foreach.new.node c.in-Foreach.nd c.in-Foreach.var (plain_stmt c.get-in-Foreach.result.now)
     (walk_of c.args.body.now c.int-in-Foreach.new.out))
     (Checking c.args.body.now.atomic_params c.args.around c.args.node (form_of (plain_stmt c.args.stmt.now)) (walk_of c.args.body.now c.args.out.now))
-    c.foreach.result (walk_of c.foreach.new.body c.foreach.new.out)
+    c.foreach.result _
     (λ v d.
     foreach_so c.args.around c.args.node c.int.new.node c.int-in-Foreach.new.node c.args.stmt.now c.in-Foreach.nd c.in-Foreach.var c.in-Foreach.start
     c.in-Foreach.count c.in-Foreach.iteration
@@ -378,7 +392,7 @@ statements::repeated-returns-in-ForeachParts-clause-checks t c =
     (plain_expr c.in-ForeachParts.count)
     (plain_stmt c.get-in-ForeachParts.result.now) (walk_of c.args.body.now c.args.out.now))
     (Checking c.args.body.now.atomic_params c.args.around c.args.node (form_of (plain_stmt c.args.stmt.now)) (walk_of c.args.body.now c.args.out.now))
-    c.foreach_parts.result (walk_of c.foreach_parts.new.body c.foreach_parts.new.out)
+    c.foreach_parts.result _
     (λ v d.
     parts_so c.args.body.now.atomic_params c.args.around c.args.node c.args.stmt.now c.in-ForeachParts.view c.in-ForeachParts.var c.in-ForeachParts.array
     c.in-ForeachParts.count
