@@ -13,7 +13,11 @@ use Rattle.dpj_locals.specs.declared.branch.Touched.{Touched}
 use Rattle.dpj_locals.specs.Clash.{Clash}
 use Rattle.dpj_tree.specs.declared.stmt.Stmt.{Stmt}
 use Rattle.dpj_tree.specs.Plain.{PlainStmts, plain_stmt, plain_stmts}
+use Rattle.dpj_typed.specs.declared.ids.Slot.{Slot}
+use Rattle.dpj_typed.specs.declared.stmt.Stmt.{Stmt as Made}
 use Rattle.dpj_typed.specs.Plain.{TypedStmt, TypedBranch, branches_of}
+use Rattle.dpj_typed.specs.Plain.{plain_stmt as typed_stmt}
+use Rattle.dpj_exprs.specs.declared.env.Env.{Env}
 use Rattle.dpj_typed.specs.Plain as typed
 use Rattle.dpj_exprs.specs.declared.found.Found.{Found}
 use Rattle.dpj_exprs.specs.Answer.{Says}
@@ -22,7 +26,7 @@ use Rattle.dpj_check.specs.declared.leaving.Leaving.{Leaving}
 use Rattle.dpj_check.specs.declared.leaving.Marks.{Marks}
 use Rattle.dpj_check.specs.declared.node.Around.{Around}
 use Rattle.dpj_check.specs.declared.node.Node.{Node}
-use Rattle.dpj_check.specs.Checking.{InScope, with_nd, gathers, forking_of, branch_of, after_branch, BranchesVerdict, all_pass, one_refused, Branching, no_branches, branch_refused, then_branches, ClashIs, TouchedBy, Forking, some_refused, clashing, forked}
+use Rattle.dpj_check.specs.Checking.{InScope, with_nd, gathers, forking_of, slots_of, branch_of, plain_branch, after_branch, BranchesVerdict, all_pass, one_refused, Branching, no_branches, branch_refused, then_branches, ClashIs, TouchedBy, Forking, some_refused, clashing, forked}
 use Rattle.dpj_check.specs.Deciding.{interference, marks_after}
 use Rattle.dpj_check.specs.Gathering.{taken_in, with_uses}
 use Rattle.dpj_check.specs.Keeping.{inside}
@@ -94,6 +98,11 @@ pub record Branch (params : List Bool) (around : Around) (nd : Bool) (b s : Body
   pub kept_is : kept ≡ marks_after nd
   pub leaving_is : leaving ≡ from_here b.env kept
   pub out_is : out3 ≡ taken_in leaving out inner
+
+pub branch_made : (env : Env) (t : Touched) (writes : List ℕ) (copies : List Slot) (s : Made) → writes ≡ t.writes →
+    map (λ slot. slot.number) copies ≡ slots_of env writes → plain_branch (record { copies = copies; body = s }) ≡ branch_of env t (typed_stmt s)
+branch_made env t writes copies s same is =
+    ap (λ (z : List ℕ). record { copies = z; body = typed_stmt s }) (is ∙ ap (slots_of env) same)
 
 pub fork_more : (params : List Bool) (around : Around) (nd : Bool) (all : List Stmt) (w : Walk) (i : ℕ) (effects effects2 : List (List Effect))
     (touched touched2 : List Touched) (made made2 : List TypedBranch) (b s : Body) (out inner out3 : Found) (branch : Stmt) (set : List Effect)

@@ -21,11 +21,19 @@ next_refused params own around complete all i s w q same below is d =
     subst (λ ss. InOrder params around complete (plain_stmts (map plain_stmt ss)) w (refused q)) (sym (next_is all i s below is))
     (statement_refused (subst (λ (z : List Bool). Standing z around (not complete) (plain_stmt s) w (refused q)) same d))
 
+-- one more of what is made
+map_more : {X Y : Type 0} (f : X → Y) (xs : List X) (x : X) → map f (xs ++ x ∷ []) ≡ map f xs ++ f x ∷ []
+map_more f [] x = refl
+map_more f (y ∷ ys) x = ap (λ zs. f y ∷ zs) (map_more f ys x)
+
+pub map_pushed : {X Y : Type 0} (f : X → Y) (xs pushed : List X) (x : X) → pushed ≡ xs ++ x ∷ [] → map f pushed ≡ map f xs ++ f x ∷ []
+map_pushed f xs pushed x is = ap (map f) is ∙ map_more f xs x
+
 -- the statements so far, and what is made of the others
 abbrev pub behind_stmts : List TypedStmt → Verdict (List TypedStmt) → Verdict (List TypedStmt)
 behind_stmts made v = behind None (λ others. made ++ others) v
 
-pub behind_none : (v : Verdict (List TypedStmt)) → behind_stmts [] v ≡ v
+behind_none : (v : Verdict (List TypedStmt)) → behind_stmts [] v ≡ v
 behind_none (passes others w) = refl
 behind_none (refused q) = refl
 
@@ -34,7 +42,7 @@ behind_one : (made : List TypedStmt) (one : TypedStmt) (v : Verdict (List TypedS
 behind_one made one (passes others w) = ap (λ (z : List TypedStmt). passes z w) (sym (append_assoc made (one ∷ []) others))
 behind_one made one (refused q) = refl
 
-pub behind_all : (made : List TypedStmt) (w : Walk) → behind_stmts made (passes [] w) ≡ passes made w
+behind_all : (made : List TypedStmt) (w : Walk) → behind_stmts made (passes [] w) ≡ passes made w
 behind_all made w = ap (λ (z : List TypedStmt). passes z w) (append-nil made)
 
 -- the statements so far passed, and what is said of the others is said of all
@@ -42,6 +50,12 @@ abbrev pub OrderSoFar : List Bool → Around → List Stmt → Walk → ℕ → 
 OrderSoFar params around all w i complete made u =
     (v : Verdict (List TypedStmt)) → InOrder params around complete (plain_stmts (map plain_stmt (drop i all))) u v →
     InOrder params around true (plain_stmts (map plain_stmt all)) w (behind_stmts made v)
+
+pub order_none : (params : List Bool) (around : Around) (all : List Stmt) (w : Walk) (made : List TypedStmt) → made ≡ [] →
+    OrderSoFar params around all w 0 true made w
+order_none params around all w made none v d =
+    subst (λ (z : Verdict (List TypedStmt)). InOrder params around true (plain_stmts (map plain_stmt all)) w z)
+    (sym (behind_none v) ∙ ap (λ (z : List TypedStmt). behind_stmts z v) (sym none)) d
 
 pub order_refused : (params own : List Bool) (around : Around) (all : List Stmt) (w : Walk) (i : ℕ) (complete : Bool) (made : List TypedStmt) (s : Stmt)
     (u : Walk) (q : Refusal) → OrderSoFar params around all w i complete made u → own ≡ params → i < length all → s ≡ get_or all i s →
