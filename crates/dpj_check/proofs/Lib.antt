@@ -19,5 +19,6 @@ pub mod Orders
 pub mod Parting
 pub mod Passing
 pub mod Reaching
+pub mod Slots
 pub mod Stands
 pub mod Walking
