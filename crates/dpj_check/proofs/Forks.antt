@@ -99,10 +99,13 @@ pub record Branch (params : List Bool) (around : Around) (nd : Bool) (b s : Body
   pub leaving_is : leaving ≡ from_here b.env kept
   pub out_is : out3 ≡ taken_in leaving out inner
 
+abbrev branch_with : List ℕ → TypedStmt → TypedBranch
+branch_with copies s = record { copies = copies; body = s }
+
 pub branch_made : (env : Env) (t : Touched) (writes : List ℕ) (copies : List Slot) (s : Made) → writes ≡ t.writes →
     map (λ slot. slot.number) copies ≡ slots_of env writes → plain_branch (record { copies = copies; body = s }) ≡ branch_of env t (typed_stmt s)
 branch_made env t writes copies s same is =
-    ap (λ (z : List ℕ). record { copies = z; body = typed_stmt s }) (is ∙ ap (slots_of env) same)
+    ap (λ (z : List ℕ). branch_with z (typed_stmt s)) (is ∙ ap (slots_of env) same)
 
 pub fork_more : (params : List Bool) (around : Around) (nd : Bool) (all : List Stmt) (w : Walk) (i : ℕ) (effects effects2 : List (List Effect))
     (touched touched2 : List Touched) (made made2 : List TypedBranch) (b s : Body) (out inner out3 : Found) (branch : Stmt) (set : List Effect)

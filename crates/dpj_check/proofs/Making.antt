@@ -32,17 +32,17 @@ pub at_form : (s : Stmt) → plain_stmt s ≡ statement s.place (plain_form s.fo
 at_form s = search (rules, the_lemmas)
 
 -- a statement of the code, as its place and its form
-abbrev made : Place → StmtForm → Stmt
+abbrev pub made : Place → StmtForm → Stmt
 made place f = record { place = place; form = f }
 
 of_form : (place : Place) (k : StmtForm) (f : form) → plain_form k ≡ f → plain_stmt (made place k) ≡ statement place f
 of_form place k f is = at_form (made place k) ∙ ap (statement place) is
 
 -- with the typed expression in its place
-abbrev nodes : (f : TypedExpr → form) (e : Expr) → f (plain_expr e) ≡ f (plain_node e)
+nodes : (f : TypedExpr → form) (e : Expr) → f (plain_expr e) ≡ f (plain_node e)
 nodes f e = ap f (node_is e)
 
-abbrev two_nodes : (f : TypedExpr → TypedExpr → form) (e d : Expr) → f (plain_expr e) (plain_expr d) ≡ f (plain_node e) (plain_node d)
+two_nodes : (f : TypedExpr → TypedExpr → form) (e d : Expr) → f (plain_expr e) (plain_expr d) ≡ f (plain_node e) (plain_node d)
 two_nodes f e d = ap (λ (z : TypedExpr). f z (plain_expr d)) (node_is e) ∙ ap (f (plain_node e)) (node_is d)
 
 form_Declare : (slot : Slot) (ty : Ty) (is_final : Bool) (value : Expr) →

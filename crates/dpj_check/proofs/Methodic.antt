@@ -176,6 +176,9 @@ told_so around number method row types summary b d s done completes covered room
     room_at
     ∙ told_settled method.place _
 
+abbrev body_with : ℕ → ℕ → List TypedStmt → PlainBody
+body_with slots regions ss = record { slots = slots; local_regions = regions; stmts = stmts_of ss }
+
 reported_some : {M : Type 0} (told : Option Refusal) (made : M) (q : Refusal) → told ≡ Some q → reported told made ≡ Err q
 reported_some told made q is = ap (λ (z : Option Refusal). reported z made) is
 
@@ -208,8 +211,7 @@ method_passes around number method row types summary b d s done completes covere
     (reported_none _ _
     (nothing_told (method_told around number method done.effects)
     (sym (told_so around number method row types summary b d s done completes covered room ss m) ∙ told))
-    ∙ ap (λ (z : ℕ). Ok (record { slots = z; local_regions = declared_in s.env; stmts = stmts_of ss })) (sym slots_are)
-    ∙ ap (λ (z : ℕ). Ok (record { slots = slots; local_regions = z; stmts = stmts_of ss })) (sym regions_are))
+    ∙ ap (λ (z : ℕ). Ok (body_with z (declared_in s.env) ss)) (sym slots_are) ∙ ap (λ (z : ℕ). Ok (body_with slots z ss)) (sym regions_are))
 
 -- the members that are left
 pub left_is : {X : Type 0} (xs all : List X) (i : ℕ) (x : X) → xs ≡ all → i < length xs → x ≡ get_or xs i x → x ∷ drop (i + 1) all ≡ drop i all
@@ -220,12 +222,15 @@ left_is xs all i x same below is =
 abbrev pub behind_all : List PlainBody → Result PlainBodies Refusal → Result PlainBodies Refusal
 behind_all before v = after_ok (behind_bodies before) v
 
+abbrev bodies_with : ℕ → List PlainBody → PlainBodies
+bodies_with next bodies = record { next = next; bodies = bodies }
+
 behind_none : (v : Result PlainBodies Refusal) → behind_all [] v ≡ v
 behind_none (Ok all) = refl
 behind_none (Err q) = refl
 
 behind_more : (before more : List PlainBody) (v : Result PlainBodies Refusal) → behind_all before (behind_all more v) ≡ behind_all (before ++ more) v
-behind_more before more (Ok all) = ap (λ (z : List PlainBody). Ok (record { next = all.next; bodies = z })) (sym (append_assoc before more all.bodies))
+behind_more before more (Ok all) = ap (λ (z : List PlainBody). Ok (bodies_with all.next z)) (sym (append_assoc before more all.bodies))
 behind_more before more (Err q) = refl
 
 -- the members so far passed, and what is said of the others is said of all

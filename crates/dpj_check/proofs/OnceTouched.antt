@@ -55,13 +55,16 @@ same_sorted (x ∷ xs) (y ∷ ys) p q f g =
     Contains-tail x xs z (λ d. let above : y < z = above_first y ys z q held in omega (arith, e, d, above)) (g z (later_inside y ys z held))))
 
 -- the locals that a branch touches
+abbrev touching : List ℕ → List ℕ → Touched
+touching reads writes = record { reads = reads; writes = writes }
+
 pub touched_once : {s : PlainStmt} {a b : Touched} → TouchedBy s a → TouchedBy s b → a ≡ b
 touched_once {s} {a} {b} p q =
     let reads : a.reads ≡ b.reads =
     same_sorted a.reads b.reads p.once.0 q.once.0 (λ x c. (q.reads x).0 ((p.reads x).1 c)) (λ x c. (p.reads x).0 ((q.reads x).1 c)) in
     let writes : a.writes ≡ b.writes =
     same_sorted a.writes b.writes p.once.1 q.once.1 (λ x c. (q.assigns x).0 ((p.assigns x).1 c)) (λ x c. (p.assigns x).0 ((q.assigns x).1 c)) in
-    ap (λ (z : List ℕ). record { reads = z; writes = a.writes }) reads ∙ ap (λ (z : List ℕ). record { reads = b.reads; writes = z }) writes
+    ap (λ (z : List ℕ). touching z a.writes) reads ∙ ap (touching b.reads) writes
 
 pub clash_once : {xs ys : List Touched} (a b : Bool) → xs ≡ ys → ClashIs xs a → ClashIs ys b → a ≡ b
 clash_once true true same p q = refl
