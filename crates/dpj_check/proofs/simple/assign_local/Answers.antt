@@ -24,11 +24,11 @@ returns-in_err-given-clause-checks c =
     (λ q d. rule.value_refused d)
     c.in_err-given.ensures.answer
 
-pub returns-in-None-clause-checks : goal.returns-in-None-clause-checks
-returns-in-None-clause-checks c =
+pub returns-in_default-clause-checks : goal.returns-in_default-clause-checks
+returns-in_default-clause-checks c =
     said_of (λ q. fault_of (with_fault c.args.node kind.Unknown c.args.target.place) ≡ Some q)
     (λ q. AssigningLocal c.args.node c.args.target (plain_expr c.args.value.now) (walk_of c.args.body.now c.args.out.now) (verdict.refused q)) c.refused_at.result
-    (λ q told. rule.no_local c.in_ok-given.ensures.answer (sym c.local.ensures ∙ ap option_copied c.in-None.is) told) c.refused_at.ensures
+    (λ q told. rule.no_local c.in_ok-given.ensures.answer (sym c.local.ensures ∙ ap option_copied c.in_default.is) told) c.refused_at.ensures
 
 pub returns-in_err-settle-clause-checks : goal.returns-in_err-settle-clause-checks
 returns-in_err-settle-clause-checks c =
