@@ -26,6 +26,8 @@ pub mod OnceText
 pub mod Told
 pub mod Tested
 pub mod Expected
+pub mod Telling
+pub mod TellingPaths
 pub mod ExpectedPaths
 pub mod ExpectedExprs
 pub mod ExpectedStmts

@@ -337,9 +337,9 @@ pub record Leads (xs : List Expected) (before : List Placed) (ys : List Expected
 pub record LostIn (xs : List Expected) (before here : List Placed) : Type 0 where
   pub lost : (others : List Expected) → (to : List Expected) × Steps to here (xs ++ others) before × IsLost to here
 
--- a fact of a refusal that tells a fault of syntax
-abbrev pub IfSyntax : Stop → Type 0 → Type 0
-IfSyntax stop P = IfRefused stop (λ refusal. refusal.kind ≡ refusal_kind.Syntax → P)
+-- a fact that holds where a fault of syntax is told
+pub record IfSyntax (stop : Stop) (fact : Type 0) : Type 0 where
+  pub told : IfRefused stop (λ refusal. refusal.kind ≡ refusal_kind.Syntax → fact)
 
 -- reading leads on to its end, or a fault of syntax is told where what is expected is lost
 abbrev pub Tells : {A : Type 0} → List Expected → List Placed → Result A Stop → List Placed → Type 0
