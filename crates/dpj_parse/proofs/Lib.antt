@@ -28,6 +28,7 @@ pub mod Tested
 pub mod Expected
 pub mod Telling
 pub mod TellingPaths
+pub mod TellingExprs
 pub mod ExpectedPaths
 pub mod ExpectedExprs
 pub mod ExpectedStmts
