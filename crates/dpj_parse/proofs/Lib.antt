@@ -34,3 +34,13 @@ pub mod ExpectedExprs
 pub mod ExpectedStmts
 pub mod ExpectedClasses
 pub mod OneFault
+pub mod Meant
+pub mod MeantPaths
+pub mod MeantExprs
+pub mod MeantStmts
+pub mod Rebuilt
+pub mod MeantClasses
+pub mod Meaning
+pub mod Satisfied
+pub mod Completing
+pub mod Viability
