@@ -1,5 +1,5 @@
 -- Whatever is expected can be completed: each part derives something.
-use Rattle.std.proofs.Common.{◌≡◌, ℕ, pos, List, [], ◌∷◌, ◌++◌, map, Bool, true, false, ◌⊎◌, inl, inr, Option, Some, None, refl}
+use Rattle.std.proofs.Common.{◌≡◌, ℕ, pos, List, [], ◌∷◌, ◌++◌, map, Bool, true, false, ◌⊎◌, inl, inr, Option, Some, None, refl, subst}
 use Rattle.dpj_base.specs.declared.place.Place.{Place}
 use Rattle.dpj_tokens.specs.declared.token.Symbol.{Symbol}
 use Rattle.dpj_tokens.specs.declared.token.Keyword.{Keyword}
@@ -18,7 +18,7 @@ use Rattle.dpj_parse.specs.Expecting.{Part, Expected, one, part}
 use Rattle.dpj_parse.specs.Expecting.{Part as p}
 use Rattle.dpj_parse.proofs.Meant.{One, Meant, Means, All, Args, Range, no_item, joined}
 use Rattle.dpj_parse.proofs.MeantPaths.{stands, nowhere}
-use Rattle.dpj_parse.proofs.Satisfied.{Passed, Good}
+use Rattle.dpj_parse.proofs.Satisfied.{Good, nothing_next, passed, part_next}
 
 -- some terminals in front
 pub record Front (Makes : List Placed → Type 0) : Type 0 where
@@ -31,7 +31,7 @@ put t a = record { terminal = t; place = nowhere } ∷ a
 takes : {t : Terminal} {a : List Placed} → Takes t (record { terminal = t; place = nowhere } ∷ a) a nowhere
 takes = record { first = refl }
 
-some_name : Named
+abbrev some_name : Named
 some_name = record { name = 0; place = nowhere }
 
 front : {Makes : List Placed → Type 0} (before : List Placed) → Makes before → Front Makes
@@ -42,11 +42,11 @@ takes_name = record { first = refl }
 
 pub made : (n : Part) (a : List Placed) → Front (λ b. Meant n b a)
 made p.names a = front (record { terminal = terminal.Name 0; place = nowhere } ∷ a) (_, last (takes_name))
-made p.more_names a = front (a) (no_item refl)
-made p.more_paths a = front (a) (no_item refl)
-made p.more_constraints a = front (a) (no_item refl)
-made p.more_formals a = front (a) (no_item refl)
-made p.more_items a = front (a) (no_item refl)
+made p.more_names a = front (a) (no_item TakesName a a refl)
+made p.more_paths a = front (a) (no_item DerivesRpl a a refl)
+made p.more_constraints a = front (a) (no_item DerivesConstr a a refl)
+made p.more_formals a = front (a) (no_item DerivesFormal a a refl)
+made p.more_items a = front (a) (no_item DerivesItem a a refl)
 made p.region_name a = front (record { terminal = terminal.Name 0; place = nowhere } ∷ a) (_, one_name (takes_name))
 made p.second_name a = front (a) (λ s first t. (_, one_name t))
 made p.path a = front (record { terminal = terminal.Keyword Keyword.Root; place = nowhere } ∷ a) (_, (path (stands nowhere _) (DerivesHead.root takes) none))
@@ -129,17 +129,17 @@ made p.class a = front (record { terminal = terminal.Keyword Keyword.Class; plac
 made p.parent_if a = front (a) (None, DerivesParent.no_parent)
 made p.members a = front (record { terminal = terminal.Symbol Symbol.OpenBrace; place = nowhere } ∷ record { terminal = terminal.Symbol Symbol.CloseBrace; place = nowhere } ∷ a) (_, DerivesMembers.members takes none takes)
 made p.member_list a = front (a) ([], none)
-made p.program a = front (record { terminal = terminal.Keyword Keyword.Class; place = nowhere } ∷ record { terminal = terminal.Name 0; place = nowhere } ∷ record { terminal = terminal.Symbol Symbol.OpenBrace; place = nowhere } ∷ record { terminal = terminal.Symbol Symbol.CloseBrace; place = nowhere } ∷ a) (λ is. (_, DerivesProgram.program (DerivesClass.class takes (takes_name) DerivesParams.no_params DerivesParent.no_parent (DerivesMembers.members takes none takes)) (rw is none)))
+made p.program a = front (record { terminal = terminal.Keyword Keyword.Class; place = nowhere } ∷ record { terminal = terminal.Name 0; place = nowhere } ∷ record { terminal = terminal.Symbol Symbol.OpenBrace; place = nowhere } ∷ record { terminal = terminal.Symbol Symbol.CloseBrace; place = nowhere } ∷ a) (λ is. (_, DerivesProgram.program (DerivesClass.class takes (takes_name) DerivesParams.no_params DerivesParent.no_parent (DerivesMembers.members takes none takes)) (subst (λ (l : List Placed). Many DerivesClass a l []) is none)))
 made p.more_classes a = front (a) ([], none)
 
 -- what is expected can come
-pub completed : (xs : List Expected) → Good xs → (a : List Placed) → Front (λ b. All xs b a)
-completed [] good a = front a refl
-completed (one test ∷ xs) good a =
-    let others = completed xs good.1 a in
-    let next : Placed = record { terminal = good.0.terminal; place = nowhere } in
-    front (next ∷ others.before) (joined (one test) xs (record { next = next; is = refl; passes = good.0.passes }) others.holds)
-completed (part n ∷ xs) good a =
-    let others = completed xs good a in
+pub completed : {xs : List Expected} → Good xs → (a : List Placed) → Front (λ b. All xs b a)
+completed nothing_next a = front a refl
+completed (passed {test = test} {xs = xs} t e g) a =
+    let others = completed g a in
+    let next : Placed = record { terminal = t; place = nowhere } in
+    front (next ∷ others.before) (joined (one test) xs (next ∷ others.before) others.before a (record { next = next; is = refl; passes = e }) others.holds)
+completed (part_next {n = n} {xs = xs} g) a =
+    let others = completed g a in
     let first = made n others.before in
-    front first.before (joined (part n) xs first.holds others.holds)
+    front first.before (joined (part n) xs first.before others.before a first.holds others.holds)

@@ -1,6 +1,6 @@
 -- What each part of what is expected derives between two places of a text. A part that stands behind something derives, with
 -- whatever that was, the whole.
-use Rattle.std.proofs.Common.{◌≡◌, ◌∙◌, ℕ, ◌≤◌, List, [], ◌∷◌, ◌++◌, ◌⊎◌, inl, inr, Bool, true, false, cond, Option, Some, None, refl, sym, ap, subst}
+use Rattle.std.proofs.Common.{◌≡◌, ◌∙◌, ℕ, ℤ, ◌≤◌, List, [], ◌∷◌, ◌++◌, ◌⊎◌, inl, inr, Bool, true, false, cond, Option, Some, None, refl, sym, ap, subst}
 use Rattle.dpj_base.specs.declared.place.Place.{Place}
 use Rattle.dpj_tokens.specs.declared.token.Symbol.{Symbol}
 use Rattle.dpj_tokens.specs.declared.token.Keyword.{Keyword}
@@ -202,21 +202,24 @@ abbrev pub AllOf : Option (List Expected) → List Placed → List Placed → Ty
 AllOf None b a = ⊥
 AllOf (Some xs) b a = All xs b a
 
-pub split : (xs ys : List Expected) {b a : List Placed} → All (xs ++ ys) b a → Seq (λ m. All xs b m) (λ m. All ys m a)
-split [] ys {b} h = record { mid = b; first = refl; others = h }
-split (x ∷ []) [] {b} {a} h = record { mid = a; first = h; others = refl }
-split (x ∷ []) (y ∷ ys) h = record { mid = h.mid; first = h.first; others = h.others }
-split (x ∷ y ∷ xs) ys h =
-    let r = split (y ∷ xs) ys h.others in
+pub split : (xs ys : List Expected) (b a : List Placed) → All (xs ++ ys) b a → Seq (λ m. All xs b m) (λ m. All ys m a)
+split [] ys b a h = record { mid = b; first = refl; others = h }
+split (x ∷ []) [] b a h = record { mid = a; first = h; others = refl }
+split (x ∷ []) (y ∷ ys) b a h = record { mid = h.mid; first = h.first; others = h.others }
+split (x ∷ y ∷ xs) ys b a h =
+    let r = split (y ∷ xs) ys h.mid a h.others in
     record { mid = r.mid; first = record { mid = h.mid; first = h.first; others = r.first }; others = r.others }
 
-pub joined : (x : Expected) (xs : List Expected) {b m a : List Placed} → Means x b m → All xs m a → All (x ∷ xs) b a
-joined x [] {b} f o = subst (λ (l : List Placed). Means x b l) o f
-joined x (y ∷ xs) {m = m} f o = record { mid = m; first = f; others = o }
+pub joined : (x : Expected) (xs : List Expected) (b m a : List Placed) → Means x b m → All xs m a → All (x ∷ xs) b a
+joined x [] b m a f o = subst (λ (l : List Placed). Means x b l) o f
+joined x (y ∷ xs) b m a f o = record { mid = m; first = f; others = o }
 
 -- terminals
+abbrev put_at : Place → List Placed → Terminal → List Placed
+put_at place a t = record { terminal = t; place = place } ∷ a
+
 told : {test : Terminal → Bool} {b a : List Placed} (o : One test b a) (wanted : Terminal) → o.next.terminal ≡ wanted → Takes wanted b a o.next.place
-told {a = a} o wanted e = record { first = o.is ∙ ap (λ (t : Terminal). record { terminal = t; place = o.next.place } ∷ a) e }
+told {a = a} o wanted e = record { first = o.is ∙ ap (put_at o.next.place a) e }
 
 pub signed : (s : Symbol) {b a : List Placed} (o : One (sign s) b a) → TakesSymbol s b a o.next.place
 signed s o = told o (terminal.Symbol s) (elim (sign_or_not s o.next.terminal) [ inl e ↦ e | inr n ↦ let y = o.passes in cc ])
@@ -228,7 +231,7 @@ name_is : (t : Terminal) → is_name t ≡ true → (n : ℕ) × (t ≡ terminal
 name_is (terminal.Name n) e = (n, refl)
 name_is _ e = cc
 
-number_is : (t : Terminal) → is_number t ≡ true → (n : _) × (t ≡ terminal.Int n)
+number_is : (t : Terminal) → is_number t ≡ true → (n : ℤ) × (t ≡ terminal.Int n)
 number_is (terminal.Int n) e = (n, refl)
 number_is _ e = cc
 
@@ -239,7 +242,7 @@ text_is _ e = cc
 pub named : {b a : List Placed} → One is_name b a → (name : Named) × TakesName b a name
 named o = let n = name_is o.next.terminal o.passes in (record { name = n.0; place = o.next.place }, told o (terminal.Name n.0) n.1)
 
-pub numbered : {b a : List Placed} (o : One is_number b a) → (n : _) × Takes (terminal.Int n) b a o.next.place
+pub numbered : {b a : List Placed} (o : One is_number b a) → (n : ℤ) × Takes (terminal.Int n) b a o.next.place
 numbered o = let n = number_is o.next.terminal o.passes in (n.0, told o (terminal.Int n.0) n.1)
 
 pub texted : {b a : List Placed} (o : One is_text b a) → (n : List ℕ) × Takes (terminal.Text n) b a o.next.place
@@ -248,7 +251,7 @@ texted o = let n = text_is o.next.terminal o.passes in (n.0, told o (terminal.Te
 pub anyhow : (next : Placed) (rest : List Placed) {a : List Placed} (wanted : Terminal) → next.terminal ≡ wanted → One is_any (next ∷ rest) a → Takes wanted (next ∷ rest) a next.place
 anyhow next rest {a} wanted e o =
     let same : rest ≡ a = let i = o.is in cc in
-    record { first = ap (λ (l : List Placed). next ∷ l) same ∙ ap (λ (t : Terminal). record { terminal = t; place = next.place } ∷ a) e }
+    record { first = ap (λ (l : List Placed). next ∷ l) same ∙ ap (put_at next.place a) e }
 
 pub no_sign : (s : Symbol) {b : List Placed} → next_is (sign s) (next_of b) ≡ false → NoNext (terminal.Symbol s) b
 no_sign s {b} e n = let y : next_is (sign s) (next_of b) ≡ true = rw n.takes.takes.first (sign_own s) in cc
@@ -257,14 +260,14 @@ pub no_word : (k : Keyword) {b : List Placed} → next_is (word k) (next_of b) �
 no_word k {b} e n = let y : next_is (word k) (next_of b) ≡ true = rw n.takes.takes.first (word_own k) in cc
 
 -- a choice by a test
-pub either : (found : Bool) {xs ys : List Expected} {b a : List Placed} {P : Type 0} → (All xs b a → P) → (found ≡ false → All ys b a → P) → All (cond found xs ys) b a → P
-either true f g h = f h
-either false f g h = g refl h
+pub either : (found : Bool) (xs ys : List Expected) (b a : List Placed) (P : Type 0) → All (cond found xs ys) b a → (All xs b a → P) → (found ≡ false → All ys b a → P) → P
+either true xs ys b a P h f g = f h
+either false xs ys b a P h f g = g refl h
 
 -- items of a list
-pub item_behind : {A : Type 0} {Derives : List Placed → List Placed → A → Type 0} {b i j a : List Placed} {comma : Place} {item : A} →
+pub item_behind : {A : Type 0} (Derives : List Placed → List Placed → A → Type 0) (b i j a : List Placed) {comma : Place} (item : A) →
     TakesSymbol Symbol.Comma b i comma → Derives i j item → MoreOf Derives j a → MoreOf Derives b a
-item_behind {i = i} {item = item} comma d rest = λ s first e. let r = rest i item d in (first ∷ r.0, more e comma r.1)
+item_behind Derives b i j a item comma d rest = λ s first e. let r = rest i item d in (first ∷ r.0, more e comma r.1)
 
-pub no_item : {A : Type 0} {Derives : List Placed → List Placed → A → Type 0} {b a : List Placed} → b ≡ a → MoreOf Derives b a
-no_item {Derives = Derives} is = λ s item d. (item ∷ [], last (subst (λ (l : List Placed). Derives s l item) is d))
+pub no_item : {A : Type 0} (Derives : List Placed → List Placed → A → Type 0) (b a : List Placed) → b ≡ a → MoreOf Derives b a
+no_item Derives b a is = λ s item d. (item ∷ [], last (subst (λ (l : List Placed). Derives s l item) is d))

@@ -44,33 +44,36 @@ member_by (terminal.Name n) {b} h = let name = named h.first in h.others b name.
 member_by _ h = of_type h
 
 pub member_of : {b a : List Placed} → AllOf (choose p.member (next_of b)) b a → Meant p.member b a
-member_of {[]} h = of_type h
-member_of {first ∷ rest} h = member_by first.terminal h
+member_of {b = []} h = of_type h
+member_of {b = first ∷ rest} h = member_by first.terminal h
 
 pub after_member_name_of : {b a : List Placed} → AllOf (choose p.after_member_name (next_of b)) b a → Meant p.after_member_name b a
 after_member_name_of {b} {a} h =
-    either (next_is is_open_paren (next_of b)) {P = Meant p.after_member_name b a}
+    either (next_is is_open_paren (next_of b)) (part p.method_rest ∷ []) (part p.args_if ∷ part p.suffixes ∷ one is_name ∷ part p.field_or_method ∷ []) b a (Meant p.after_member_name b a) h
     (λ h s name n. let rest = h _ outcome.Constructor name in (rest.0, DerivesMember.method DerivesFront.constructs (DerivesNamed.named n rest.1)))
     (λ f h s name n.
       let field = named h.others.others.first in
-      h.others.others.others s _ _ field.0 (type_of (stands nowhere s) (DerivesBase.class n h.first.1) h.others.first.1) field.1) h
+      h.others.others.others s _ _ field.0 (type_of (stands nowhere s) (DerivesBase.class n h.first.1) h.others.first.1) field.1)
 
 pub field_or_method_of : {b a : List Placed} → AllOf (choose p.field_or_method (next_of b)) b a → Meant p.field_or_method b a
 field_or_method_of {b} {a} h =
-    either (next_is is_open_paren (next_of b)) {P = Meant p.field_or_method b a}
+    either (next_is is_open_paren (next_of b)) (part p.method_rest ∷ []) (part p.in_if ∷ one is_semicolon ∷ []) b a (Meant p.field_or_method b a) h
     (λ h s i ty name d n.
       let rest = h (record { list = []; given = [] }) (outcome.Value ty) name in
       (rest.0, DerivesMember.method (DerivesFront.answers DerivesParams.no_params (DerivesResult.value d)) (DerivesNamed.named n rest.1)))
-    (λ f h s i ty name d n. (_, DerivesMember.field d n (DerivesField.field h.first.1 (signed Symbol.Semicolon h.others)))) h
+    (λ f h s i ty name d n. (_, DerivesMember.field d n (DerivesField.field h.first.1 (signed Symbol.Semicolon h.others))))
 
 pub in_if_of : {b a : List Placed} → AllOf (choose p.in_if (next_of b)) b a → Meant p.in_if b a
 in_if_of {b} {a} h =
-    either (next_is is_in (next_of b)) {P = Meant p.in_if b a} (λ h. (_, DerivesIn.in_region (worded Keyword.In h.first) h.others.1))
-    (λ f is. (None, subst (λ (l : List Placed). DerivesIn b l None) is DerivesIn.nowhere)) h
+    either (next_is is_in (next_of b)) (one is_in ∷ part p.path ∷ []) [] b a (Meant p.in_if b a) h
+    (λ h. (_, DerivesIn.in_region (worded Keyword.In h.first) h.others.1))
+    (λ f is. (None, subst (λ (l : List Placed). DerivesIn b l None) is DerivesIn.nowhere))
 
 pub result_of : {b a : List Placed} → AllOf (choose p.result (next_of b)) b a → Meant p.result b a
 result_of {b} {a} h =
-    either (next_is is_void (next_of b)) {P = Meant p.result b a} (λ h. (_, DerivesResult.void (worded Keyword.Void h))) (λ f h. (_, DerivesResult.value h.1)) h
+    either (next_is is_void (next_of b)) (one is_void ∷ []) (part p.type ∷ []) b a (Meant p.result b a) h
+    (λ h. (_, DerivesResult.void (worded Keyword.Void h)))
+    (λ f h. (_, DerivesResult.value h.1))
 
 pub method_rest_of : {b a : List Placed} → AllOf (choose p.method_rest (next_of b)) b a → Meant p.method_rest b a
 method_rest_of {a = a} h params answer name =
@@ -83,35 +86,46 @@ formals_of h = (_, DerivesFormals.parenthesised (signed Symbol.OpenParen h.first
 
 pub formal_list_of : {b a : List Placed} → AllOf (choose p.formal_list (next_of b)) b a → Meant p.formal_list b a
 formal_list_of {b} {a} h =
-    either (next_is is_close_paren (next_of b)) {P = Meant p.formal_list b a} (λ is. ([], subst (λ (l : List Placed). DerivesFormalList b l []) is DerivesFormalList.no_formals))
-    (λ f h. let all = h.others b h.first.0 h.first.1 in (all.0, DerivesFormalList.formals all.1)) h
+    either (next_is is_close_paren (next_of b)) [] (part p.formal ∷ part p.more_formals ∷ []) b a (Meant p.formal_list b a) h
+    (λ is. ([], subst (λ (l : List Placed). DerivesFormalList b l []) is DerivesFormalList.no_formals))
+    (λ f h. let all = h.others b h.first.0 h.first.1 in (all.0, DerivesFormalList.formals all.1))
 
 pub formal_of : {b a : List Placed} → AllOf (choose p.formal (next_of b)) b a → Meant p.formal b a
 formal_of h = let n = named h.others in (_, DerivesFormal.formal h.first.1 n.1)
 
 pub more_formals_of : {b a : List Placed} → AllOf (choose p.more_formals (next_of b)) b a → Meant p.more_formals b a
 more_formals_of {b} {a} h =
-    either (next_is is_comma (next_of b)) {P = Meant p.more_formals b a} (λ h. item_behind (signed Symbol.Comma h.first) h.others.first.1 h.others.others) (λ f is. no_item is) h
+    either (next_is is_comma (next_of b)) (one is_comma ∷ part p.formal ∷ part p.more_formals ∷ []) [] b a (Meant p.more_formals b a) h
+    (λ h. item_behind DerivesFormal b h.mid h.others.mid a h.others.first.0 (signed Symbol.Comma h.first) h.others.first.1 h.others.others)
+    (λ f is. no_item DerivesFormal b a is)
 
 summary_by : {b m a : List Placed} → Meant p.reads_if b m → Meant p.writes_if m a → Meant p.summary b a
 summary_by {b} (inl r) (inl w) = (None, subst (λ (l : List Placed). DerivesSummary b l None) w (subst (λ (l : List Placed). DerivesSummary b l None) r DerivesSummary.no_summary))
-summary_by {b} {m} {a} (inl r) (inr w) = (_, subst (λ (l : List Placed). DerivesSummary l a _) (sym r) (DerivesSummary.writes w.1))
-summary_by {b} {m} {a} (inr r) (inl w) = (_, subst (λ (l : List Placed). DerivesSummary b l _) w (DerivesSummary.reads r.1))
+summary_by {a = a} (inl r) (inr w) =
+    (Some (record { reads = []; writes = w.0 }), subst (λ (l : List Placed). DerivesSummary l a (Some (record { reads = []; writes = w.0 }))) (sym r) (DerivesSummary.writes w.1))
+summary_by {b} (inr r) (inl w) =
+    (Some (record { reads = r.0; writes = [] }), subst (λ (l : List Placed). DerivesSummary b l (Some (record { reads = r.0; writes = [] }))) w (DerivesSummary.reads r.1))
 summary_by (inr r) (inr w) = (_, DerivesSummary.reads_and_writes r.1 w.1)
 
 pub summary_of : {b a : List Placed} → AllOf (choose p.summary (next_of b)) b a → Meant p.summary b a
 summary_of {b} {a} h =
-    either (next_is is_reads (next_of b) || next_is is_writes (next_of b)) {P = Meant p.summary b a} (λ h. summary_by h.first h.others)
-    (λ f h. either (next_is is_pure (next_of b)) {P = Meant p.summary b a} (λ h. (_, DerivesSummary.pure (worded Keyword.Pure h)))
-    (λ f is. (None, subst (λ (l : List Placed). DerivesSummary b l None) is DerivesSummary.no_summary)) h) h
+    either (next_is is_reads (next_of b) || next_is is_writes (next_of b)) (part p.reads_if ∷ part p.writes_if ∷ []) (cond (next_is is_pure (next_of b)) (one is_pure ∷ []) []) b a (Meant p.summary b a) h
+    (λ h. summary_by h.first h.others)
+    (λ f h. either (next_is is_pure (next_of b)) (one is_pure ∷ []) [] b a (Meant p.summary b a) h
+    (λ h. (_, DerivesSummary.pure (worded Keyword.Pure h)))
+    (λ f is. (None, subst (λ (l : List Placed). DerivesSummary b l None) is DerivesSummary.no_summary)))
 
 pub reads_if_of : {b a : List Placed} → AllOf (choose p.reads_if (next_of b)) b a → Meant p.reads_if b a
 reads_if_of {b} {a} h =
-    either (next_is is_reads (next_of b)) {P = Meant p.reads_if b a} (λ h. inr (_, DerivesItems.items (worded Keyword.Reads h.first) h.others.1)) (λ f is. inl is) h
+    either (next_is is_reads (next_of b)) (one is_reads ∷ part p.items ∷ []) [] b a (Meant p.reads_if b a) h
+    (λ h. inr (_, DerivesItems.items (worded Keyword.Reads h.first) h.others.1))
+    (λ f is. inl is)
 
 pub writes_if_of : {b a : List Placed} → AllOf (choose p.writes_if (next_of b)) b a → Meant p.writes_if b a
 writes_if_of {b} {a} h =
-    either (next_is is_writes (next_of b)) {P = Meant p.writes_if b a} (λ h. inr (_, DerivesItems.items (worded Keyword.Writes h.first) h.others.1)) (λ f is. inl is) h
+    either (next_is is_writes (next_of b)) (one is_writes ∷ part p.items ∷ []) [] b a (Meant p.writes_if b a) h
+    (λ h. inr (_, DerivesItems.items (worded Keyword.Writes h.first) h.others.1))
+    (λ f is. inl is)
 
 pub items_of : {b a : List Placed} → AllOf (choose p.items (next_of b)) b a → Meant p.items b a
 items_of {b} h = h.others b h.first.0 h.first.1
@@ -121,7 +135,9 @@ item_of h = (_, DerivesItem.item h.first.1 h.others.1)
 
 pub more_items_of : {b a : List Placed} → AllOf (choose p.more_items (next_of b)) b a → Meant p.more_items b a
 more_items_of {b} {a} h =
-    either (next_is is_comma (next_of b)) {P = Meant p.more_items b a} (λ h. item_behind (signed Symbol.Comma h.first) h.others.first.1 h.others.others) (λ f is. no_item is) h
+    either (next_is is_comma (next_of b)) (one is_comma ∷ part p.item ∷ part p.more_items ∷ []) [] b a (Meant p.more_items b a) h
+    (λ h. item_behind DerivesItem b h.mid h.others.mid a h.others.first.0 (signed Symbol.Comma h.first) h.others.first.1 h.others.others)
+    (λ f is. no_item DerivesItem b a is)
 
 pub class_means : {b a : List Placed} → AllOf (choose p.class (next_of b)) b a → Meant p.class b a
 class_means h =
@@ -130,21 +146,22 @@ class_means h =
 
 pub parent_if_of : {b a : List Placed} → AllOf (choose p.parent_if (next_of b)) b a → Meant p.parent_if b a
 parent_if_of {b} {a} h =
-    either (next_is is_extends (next_of b)) {P = Meant p.parent_if b a}
+    either (next_is is_extends (next_of b)) (one is_extends ∷ one is_name ∷ part p.args_if ∷ []) [] b a (Meant p.parent_if b a) h
     (λ h. let n = named h.others.first in (_, DerivesParent.extends (worded Keyword.Extends h.first) n.1 h.others.others.1))
-    (λ f is. (None, subst (λ (l : List Placed). DerivesParent b l None) is DerivesParent.no_parent)) h
+    (λ f is. (None, subst (λ (l : List Placed). DerivesParent b l None) is DerivesParent.no_parent))
 
 pub members_of : {b a : List Placed} → AllOf (choose p.members (next_of b)) b a → Meant p.members b a
 members_of h = (_, DerivesMembers.members (signed Symbol.OpenBrace h.first) h.others.first.1 (signed Symbol.CloseBrace h.others.others))
 
 pub member_list_of : {b a : List Placed} → AllOf (choose p.member_list (next_of b)) b a → Meant p.member_list b a
 member_list_of {b} {a} h =
-    either (next_is is_close_brace (next_of b)) {P = Meant p.member_list b a} (λ is. ([], subst (λ (l : List Placed). Many DerivesMember b l []) is none))
-    (λ f h. (_, some h.first.1 h.others.1)) h
+    either (next_is is_close_brace (next_of b)) [] (part p.member ∷ part p.member_list ∷ []) b a (Meant p.member_list b a) h
+    (λ is. ([], subst (λ (l : List Placed). Many DerivesMember b l []) is none))
+    (λ f h. (_, some h.first.1 h.others.1))
 
 pub program_of : {b a : List Placed} → AllOf (choose p.program (next_of b)) b a → Meant p.program b a
 program_of h ends = (_, DerivesProgram.program h.first.1 (subst (λ (l : List Placed). Many DerivesClass h.mid l h.others.0) ends h.others.1))
 
 pub more_classes_of : {b a : List Placed} → AllOf (choose p.more_classes (next_of b)) b a → Meant p.more_classes b a
-more_classes_of {[]} is = ([], subst (λ (l : List Placed). Many DerivesClass [] l []) is none)
-more_classes_of {first ∷ rest} h = (_, some h.first.1 h.others.1)
+more_classes_of {b = []} is = ([], subst (λ (l : List Placed). Many DerivesClass [] l []) is none)
+more_classes_of {b = first ∷ rest} h = (_, some h.first.1 h.others.1)

@@ -66,8 +66,8 @@ unary_by (terminal.Symbol Symbol.OpenParen) first rest e h = let r = h.others (f
 unary_by _ first rest e h = from_literal h
 
 pub unary_of : {b a : List Placed} → AllOf (choose p.unary (next_of b)) b a → Meant p.unary b a
-unary_of {[]} h = from_literal h
-unary_of {first ∷ rest} h = unary_by first.terminal first rest refl h
+unary_of {b = []} h = from_literal h
+unary_of {b = first ∷ rest} h = unary_by first.terminal first rest refl h
 
 of_base : {b a : List Placed} → All (part p.base ∷ part p.array ∷ []) b a → Meant p.created b a
 of_base {b} h s place t = h.others s b h.mid place h.first.0 [] t h.first.1 Many.none
@@ -81,23 +81,23 @@ created_by (terminal.Keyword Keyword.Boolean) h = of_base h
 created_by _ h = of_class h
 
 pub created_of : {b a : List Placed} → AllOf (choose p.created (next_of b)) b a → Meant p.created b a
-created_of {[]} h = of_class h
-created_of {first ∷ rest} h = created_by first.terminal h
+created_of {b = []} h = of_class h
+created_of {b = first ∷ rest} h = created_by first.terminal h
 
 pub created_rest_of : {b a : List Placed} → AllOf (choose p.created_rest (next_of b)) b a → Meant p.created_rest b a
 created_rest_of {b} {a} h =
-    either (next_is is_open_paren (next_of b)) {P = Meant p.created_rest b a}
+    either (next_is is_open_paren (next_of b)) (part p.actuals ∷ part p.selected ∷ []) (part p.array ∷ []) b a (Meant p.created_rest b a) h
     (λ h s i j place name paths t n d. let r = h.others s as_creation _ (primary (DerivesPrimary.creation t n d h.first.1)) in (r.1, postfix r.2))
-    (λ f h s i j place name paths t n d. h s i b place (base.Class name paths) [] t (DerivesBase.class n d) Many.none) h
+    (λ f h s i j place name paths t n d. h s i b place (base.Class name paths) [] t (DerivesBase.class n d) Many.none)
 
 pub array_of : {b a : List Placed} → AllOf (choose p.array (next_of b)) b a → Meant p.array b a
 array_of {b} h s i j place start suffixes t d ss = h.others s i j b place _ start suffixes t d ss (signed Symbol.OpenBracket h.first)
 
 pub array_open_of : {b a : List Placed} → AllOf (choose p.array_open (next_of b)) b a → Meant p.array_open b a
 array_open_of {b} {a} h =
-    either (next_is is_close_bracket (next_of b)) {P = Meant p.array_open b a}
+    either (next_is is_close_bracket (next_of b)) (one is_close_bracket ∷ part p.brackets_behind ∷ part p.array ∷ []) (part (p.expr 0) ∷ one is_close_bracket ∷ part p.brackets_behind ∷ []) b a (Meant p.array_open b a) h
     (λ h s i j k place at start suffixes t d ss o. h.others.others s i j place start _ t d (many_more ss (suffix o (signed Symbol.CloseBracket h.first) h.others.first.1)))
-    (λ f h s i j k place at start suffixes t d ss o. (_, new_array (array t d ss o h.first.1 (signed Symbol.CloseBracket h.others.first) h.others.others.1))) h
+    (λ f h s i j k place at start suffixes t d ss o. (_, new_array (array t d ss o h.first.1 (signed Symbol.CloseBracket h.others.first) h.others.others.1)))
 
 pub inner_of : {b a : List Placed} → AllOf (choose p.inner (next_of b)) b a → Meant p.inner b a
 inner_of h = (_, DerivesPrimary.parenthesised (signed Symbol.OpenParen h.first) h.others.first.1 (signed Symbol.CloseParen h.others.others))
@@ -112,50 +112,50 @@ literal_by (terminal.Keyword Keyword.This) first rest e h = (_, _, DerivesPrimar
 literal_by _ first rest e h = absurd h
 
 pub literal_of : {b a : List Placed} → AllOf (choose p.literal (next_of b)) b a → Meant p.literal b a
-literal_of {[]} h = absurd h
-literal_of {first ∷ rest} h = literal_by first.terminal first rest refl h
+literal_of {b = []} h = absurd h
+literal_of {b = first ∷ rest} h = literal_by first.terminal first rest refl h
 
 pub selected_of : {b a : List Placed} → AllOf (choose p.selected (next_of b)) b a → Meant p.selected b a
 selected_of {b} {a} h =
-    either (next_is is_dot (next_of b) || next_is is_open_bracket (next_of b)) {P = Meant p.selected b a}
+    either (next_is is_dot (next_of b) || next_is is_open_bracket (next_of b)) (part p.selection ∷ part p.selected ∷ []) [] b a (Meant p.selected b a) h
     (λ h s ending e d. let r = h.first s ending e d in h.others s r.0 r.1 r.2)
-    (λ f is s ending e d. (ending, e, subst (λ (l : List Placed). DerivesPostfix ending s l e) is d)) h
+    (λ f is s ending e d. (ending, e, subst (λ (l : List Placed). DerivesPostfix ending s l e) is d))
 
 pub selection_of : {b a : List Placed} → AllOf (choose p.selection (next_of b)) b a → Meant p.selection b a
 selection_of {b} {a} h =
-    either (next_is is_dot (next_of b)) {P = Meant p.selection b a}
+    either (next_is is_dot (next_of b)) (one is_dot ∷ part p.dotted_rest ∷ []) (part p.element ∷ []) b a (Meant p.selection b a) h
     (λ h s ending e d. h.others s b ending e _ d (signed Symbol.Dot h.first))
-    (λ f h s ending e d. let r = h s ending e d in (as_element, r.0, r.1)) h
+    (λ f h s ending e d. let r = h s ending e d in (as_element, r.0, r.1))
 
 pub element_of : {b a : List Placed} → AllOf (choose p.element (next_of b)) b a → Meant p.element b a
 element_of h s ending e d = (_, indexed d (signed Symbol.OpenBracket h.first) h.others.first.1 (signed Symbol.CloseBracket h.others.others))
 
 pub dotted_rest_of : {b a : List Placed} → AllOf (choose p.dotted_rest (next_of b)) b a → Meant p.dotted_rest b a
 dotted_rest_of {b} {a} h =
-    either (next_is is_less (next_of b)) {P = Meant p.dotted_rest b a}
+    either (next_is is_less (next_of b)) (part p.args ∷ one is_name ∷ part p.actuals ∷ []) (one is_name ∷ part p.actuals_if ∷ []) b a (Meant p.dotted_rest b a) h
     (λ h s i ending e dot d t. let n = named h.others.first in (as_call, _, called d t h.first.1 n.1 h.others.others.1))
-    (λ f h s i ending e dot d t. let n = named h.first in h.others s i b ending e dot n.0 d t n.1) h
+    (λ f h s i ending e dot d t. let n = named h.first in h.others s i b ending e dot n.0 d t n.1)
 
 pub actuals_if_of : {b a : List Placed} → AllOf (choose p.actuals_if (next_of b)) b a → Meant p.actuals_if b a
 actuals_if_of {b} {a} h =
-    either (next_is is_open_paren (next_of b)) {P = Meant p.actuals_if b a}
+    either (next_is is_open_paren (next_of b)) (part p.actuals ∷ []) [] b a (Meant p.actuals_if b a) h
     (λ h s i j ending e dot name d t n. (as_call, _, called d t no_args n h.1))
-    (λ f is s i j ending e dot name d t n. (as_field, _, behind_dot d t (subst (λ (l : List Placed). TakesName j l name) is n))) h
+    (λ f is s i j ending e dot name d t n. (as_field, _, behind_dot d t (subst (λ (l : List Placed). TakesName j l name) is n)))
 
 pub actuals_of : {b a : List Placed} → AllOf (choose p.actuals (next_of b)) b a → Meant p.actuals b a
 actuals_of {b} h = h.others b _ (signed Symbol.OpenParen h.first)
 
 pub actuals_rest_of : {b a : List Placed} → AllOf (choose p.actuals_rest (next_of b)) b a → Meant p.actuals_rest b a
 actuals_rest_of {b} {a} h =
-    either (next_is is_close_paren (next_of b)) {P = Meant p.actuals_rest b a}
+    either (next_is is_close_paren (next_of b)) (one is_close_paren ∷ []) (part p.listed ∷ one is_close_paren ∷ []) b a (Meant p.actuals_rest b a) h
     (λ h s place o. (no_exprs, no_actuals o (signed Symbol.CloseParen h)))
-    (λ f h s place o. (_, actuals o h.first.level h.first.further (signed Symbol.CloseParen h.others))) h
+    (λ f h s place o. (_, actuals o h.first.level h.first.further (signed Symbol.CloseParen h.others)))
 
 pub listed_of : {b a : List Placed} → AllOf (choose p.listed (next_of b)) b a → Meant p.listed b a
 listed_of h = record { mid = h.mid; first = h.first.0; others = h.others.0; level = h.first.1; further = h.others.1 }
 
 pub more_listed_of : {b a : List Placed} → AllOf (choose p.more_listed (next_of b)) b a → Meant p.more_listed b a
 more_listed_of {b} {a} h =
-    either (next_is is_comma (next_of b)) {P = Meant p.more_listed b a}
+    either (next_is is_comma (next_of b)) (one is_comma ∷ part (p.expr 0) ∷ part p.more_listed ∷ []) [] b a (Meant p.more_listed b a) h
     (λ h. (_, further (signed Symbol.Comma h.first) h.others.first.1 h.others.others.1))
-    (λ f is. (no_exprs, subst (λ (l : List Placed). DerivesFurther b l no_exprs) is end)) h
+    (λ f is. (no_exprs, subst (λ (l : List Placed). DerivesFurther b l no_exprs) is end))

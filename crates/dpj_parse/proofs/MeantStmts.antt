@@ -51,25 +51,26 @@ stmt_by (terminal.Name n) first rest e h = let name = named h.first in h.others 
 stmt_by _ first rest e h = h
 
 pub stmt_means : {b a : List Placed} → AllOf (choose p.stmt (next_of b)) b a → Meant p.stmt b a
-stmt_means {[]} h = h
-stmt_means {first ∷ rest} h = stmt_by first.terminal first rest refl h
+stmt_means {b = []} h = h
+stmt_means {b = first ∷ rest} h = stmt_by first.terminal first rest refl h
 
 pub block_of : {b a : List Placed} → AllOf (choose p.block (next_of b)) b a → Meant p.block b a
 block_of h = (_, braces (signed Symbol.OpenBrace h.first) h.others.first.1 (signed Symbol.CloseBrace h.others.others))
 
 pub stmts_of : {b a : List Placed} → AllOf (choose p.stmts (next_of b)) b a → Meant p.stmts b a
 stmts_of {b} {a} h =
-    either (next_is is_close_brace (next_of b)) {P = Meant p.stmts b a} (λ is. (no_stmts, subst (λ (l : List Placed). DerivesStmts b l no_stmts) is DerivesStmts.none))
-    (λ f h. (_, DerivesStmts.some h.first.1 h.others.1)) h
+    either (next_is is_close_brace (next_of b)) [] (part p.stmt ∷ part p.stmts ∷ []) b a (Meant p.stmts b a) h
+    (λ is. (no_stmts, subst (λ (l : List Placed). DerivesStmts b l no_stmts) is DerivesStmts.none))
+    (λ f h. (_, DerivesStmts.some h.first.1 h.others.1))
 
 pub condition_of : {b a : List Placed} → AllOf (choose p.condition (next_of b)) b a → Meant p.condition b a
 condition_of h = (_, condition (signed Symbol.OpenParen h.first) h.others.first.1 (signed Symbol.CloseParen h.others.others))
 
 pub else_if_of : {b a : List Placed} → AllOf (choose p.else_if (next_of b)) b a → Meant p.else_if b a
 else_if_of {b} {a} h =
-    either (next_is is_else (next_of b)) {P = Meant p.else_if b a}
+    either (next_is is_else (next_of b)) (one is_else ∷ part p.stmt ∷ []) [] b a (Meant p.else_if b a) h
     (λ h s i j place test body t c d. (_, if_else t c d (worded Keyword.Else h.first) h.others.1))
-    (λ f is s i j place test body t c d. subst (λ (l : List Placed). Formed s l) is (_, if_alone t c d (no_word Keyword.Else f))) h
+    (λ f is s i j place test body t c d. subst (λ (l : List Placed). Formed s l) is (_, if_alone t c d (no_word Keyword.Else f)))
 
 pub range_of : {b a : List Placed} → AllOf (choose p.range (next_of b)) b a → Meant p.range b a
 range_of h =
@@ -85,16 +86,18 @@ range_of h =
 
 pub return_rest_of : {b a : List Placed} → AllOf (choose p.return_rest (next_of b)) b a → Meant p.return_rest b a
 return_rest_of {b} {a} h =
-    either (next_is is_semicolon (next_of b)) {P = Meant p.return_rest b a} (λ h s place t. (_, bare_return t (signed Symbol.Semicolon h))) (λ f h s place t. (_, return_with t h.1)) h
+    either (next_is is_semicolon (next_of b)) (one is_semicolon ∷ []) (part p.value ∷ []) b a (Meant p.return_rest b a) h
+    (λ h s place t. (_, bare_return t (signed Symbol.Semicolon h)))
+    (λ f h s place t. (_, return_with t h.1))
 
 pub value_of : {b a : List Placed} → AllOf (choose p.value (next_of b)) b a → Meant p.value b a
 value_of h = (_, value h.first.1 (signed Symbol.Semicolon h.others))
 
 pub shown_of : {b a : List Placed} → AllOf (choose p.shown (next_of b)) b a → Meant p.shown b a
 shown_of {b} {a} h =
-    either (next_is is_text (next_of b)) {P = Meant p.shown b a}
+    either (next_is is_text (next_of b)) (one is_text ∷ []) (part (p.expr 0) ∷ []) b a (Meant p.shown b a) h
     (λ h s i j k place open_at close_at ends_at t o c e. let x = texted h in (_, printed_text t o x.1 c e))
-    (λ f h s i j k place open_at close_at ends_at t o c e. (_, printed t (condition o h.1 c) e)) h
+    (λ f h s i j k place open_at close_at ends_at t o c e. (_, printed t (condition o h.1 c) e))
 
 named_declaration : {b a : List Placed} → All (part p.args_if ∷ part p.suffixes ∷ part p.declared_name ∷ []) b a → Meant p.after_name b a
 named_declaration h s name n = h.others.others s s false _ not_final (type_of (stands nowhere s) (DerivesBase.class n h.first.1) h.others.first.1)
@@ -110,16 +113,16 @@ after_name_by (terminal.Symbol Symbol.Dot) {b} h = λ s name n. h.others s b as_
 after_name_by _ h = assigned_name h
 
 pub after_name_of : {b a : List Placed} → AllOf (choose p.after_name (next_of b)) b a → Meant p.after_name b a
-after_name_of {[]} h = assigned_name h
-after_name_of {first ∷ rest} h = after_name_by first.terminal h
+after_name_of {b = []} h = assigned_name h
+after_name_of {b = first ∷ rest} h = after_name_by first.terminal h
 
 pub after_bracket_of : {b a : List Placed} → AllOf (choose p.after_bracket (next_of b)) b a → Meant p.after_bracket b a
 after_bracket_of {b} {a} h =
-    either (next_is is_close_bracket (next_of b)) {P = Meant p.after_bracket b a}
+    either (next_is is_close_bracket (next_of b)) (one is_close_bracket ∷ part p.brackets_behind ∷ part p.suffixes ∷ part p.declared_name ∷ []) (part (p.expr 0) ∷ one is_close_bracket ∷ part (p.selected_then as_element) ∷ []) b a (Meant p.after_bracket b a) h
     (λ h s i name at n o.
       h.others.others.others s s false _ not_final
       (type_of (stands nowhere s) (DerivesBase.class n no_args) (some (suffix o (signed Symbol.CloseBracket h.first) h.others.first.1) h.others.others.first.1)))
-    (λ f h s i name at n o. h.others.others s _ (indexed (primary (DerivesPrimary.name n)) o h.first.1 (signed Symbol.CloseBracket h.others.first))) h
+    (λ f h s i name at n o. h.others.others s _ (indexed (primary (DerivesPrimary.name n)) o h.first.1 (signed Symbol.CloseBracket h.others.first)))
 
 pub declared_name_of : {b a : List Placed} → AllOf (choose p.declared_name (next_of b)) b a → Meant p.declared_name b a
 declared_name_of h s i is_final ty f d = let n = named h.first in (_, declaration f d n.1 (signed Symbol.Assign h.others.first) h.others.others.1)
@@ -156,32 +159,32 @@ value_then : (b : List Placed) {s a : List Placed} {ending : Ending} {e : PlainE
 value_then [] d h = absurd h
 value_then (first ∷ rest) {s} {a} d h = goes_on None first.terminal {P = Stated s a} (dot_behind d) (element_behind d) (λ f. absurd f) h
 
-value_ends : (b : List Placed) {a : List Placed} → AllOf (choose (p.selected_then as_value) (next_of b)) b a → AllOf (choose p.selection_then (next_of b)) b a
-value_ends [] h = h
-value_ends (first ∷ rest) h = h
+value_ends : (b a : List Placed) → AllOf (choose (p.selected_then as_value) (next_of b)) b a → AllOf (choose p.selection_then (next_of b)) b a
+value_ends [] a h = h
+value_ends (first ∷ rest) a h = h
 
-pub selected_then_of : (ending : Ending) {b a : List Placed} → AllOf (choose (p.selected_then ending) (next_of b)) b a → Meant (p.selected_then ending) b a
-selected_then_of as_value {b} h s ending e d = value_then b d (value_ends b h)
-selected_then_of as_name {b} h s e d = then_at as_name b e d h
-selected_then_of as_field {b} h s e d = then_at as_field b e d h
-selected_then_of as_element {b} h s e d = then_at as_element b e d h
-selected_then_of as_call {b} h s e d = then_at as_call b e d h
-selected_then_of as_creation {b} h s e d = then_at as_creation b e d h
+pub selected_then_of : (ending : Ending) (b a : List Placed) → AllOf (choose (p.selected_then ending) (next_of b)) b a → Meant (p.selected_then ending) b a
+selected_then_of as_value b a h = λ s ending e d. value_then b d (value_ends b a h)
+selected_then_of as_name b a h = λ s e d. then_at as_name b e d h
+selected_then_of as_field b a h = λ s e d. then_at as_field b e d h
+selected_then_of as_element b a h = λ s e d. then_at as_element b e d h
+selected_then_of as_call b a h = λ s e d. then_at as_call b e d h
+selected_then_of as_creation b a h = λ s e d. then_at as_creation b e d h
 
 pub selection_then_of : {b a : List Placed} → AllOf (choose p.selection_then (next_of b)) b a → Meant p.selection_then b a
 selection_then_of {b} h s ending e d = value_then b d h
 
 pub dotted_then_of : {b a : List Placed} → AllOf (choose p.dotted_then (next_of b)) b a → Meant p.dotted_then b a
 dotted_then_of {b} {a} h =
-    either (next_is is_less (next_of b)) {P = Meant p.dotted_then b a}
+    either (next_is is_less (next_of b)) (part p.args ∷ one is_name ∷ part p.actuals ∷ part (p.selected_then as_call) ∷ []) (one is_name ∷ part p.dotted_rest_then ∷ []) b a (Meant p.dotted_then b a) h
     (λ h s i ending e dot d t. let n = named h.others.first in h.others.others.others s _ (called d t h.first.1 n.1 h.others.others.first.1))
-    (λ f h s i ending e dot d t. let n = named h.first in h.others s i b ending e dot n.0 d t n.1) h
+    (λ f h s i ending e dot d t. let n = named h.first in h.others s i b ending e dot n.0 d t n.1)
 
 pub dotted_rest_then_of : {b a : List Placed} → AllOf (choose p.dotted_rest_then (next_of b)) b a → Meant p.dotted_rest_then b a
 dotted_rest_then_of {b} {a} h =
-    either (next_is is_open_paren (next_of b)) {P = Meant p.dotted_rest_then b a}
+    either (next_is is_open_paren (next_of b)) (part p.actuals ∷ part (p.selected_then as_call) ∷ []) (part (p.selected_then as_field) ∷ []) b a (Meant p.dotted_rest_then b a) h
     (λ h s i j ending e dot name d t n. h.others s _ (called d t no_args n h.first.1))
-    (λ f h s i j ending e dot name d t n. h s _ (behind_dot d t n)) h
+    (λ f h s i j ending e dot name d t n. h s _ (behind_dot d t n))
 
 begun : {b a : List Placed} → All (part p.literal ∷ part (p.selected_then as_value) ∷ []) b a → Stated b a
 begun {b} h = h.others b h.first.0 h.first.1 (primary h.first.2)
@@ -194,5 +197,5 @@ performed_by (terminal.Symbol Symbol.OpenParen) {b} h = h.others b as_value h.fi
 performed_by _ h = begun h
 
 pub performed_of : {b a : List Placed} → AllOf (choose p.performed (next_of b)) b a → Meant p.performed b a
-performed_of {[]} h = begun h
-performed_of {first ∷ rest} h = performed_by first.terminal h
+performed_of {b = []} h = begun h
+performed_of {b = first ∷ rest} h = performed_by first.terminal h

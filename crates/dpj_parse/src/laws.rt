@@ -14,7 +14,7 @@ pub fn one_program()
 {}
 
 /// What is expected of a text after each of its terminals is what the grammar says: what derives a program is read
-/// to its end, and where a text is lost, no program goes on so.
+/// to its end, nothing else is, and where a text is lost, it has its fault of syntax.
 pub fn expected_text()
     ensures { ExpectedText }
 {}
