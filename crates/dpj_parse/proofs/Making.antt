@@ -1,5 +1,5 @@
 -- What was read makes the part of the grammar that it is.
-use Rattle.std.proofs.Common.{◌≡◌, List, [], ◌∷◌, ◌++◌, map, refl, subst}
+use Rattle.std.proofs.Common.{◌≡◌, List, [], ◌∷◌, ◌++◌, map, subst}
 use Rattle.dpj_base.specs.declared.place.Place.{Place}
 use Rattle.dpj_tokens.specs.declared.token.Symbol.{Symbol}
 use Rattle.dpj_tokens.specs.declared.token.Keyword.{Keyword}
@@ -15,8 +15,8 @@ use Rattle.dpj_tree.specs.declared.expr.UnaryOp.{UnaryOp}
 use Rattle.dpj_tree.specs.declared.expr.Expr.{Expr}
 use Rattle.dpj_tree.specs.declared.expr.ExprKind.TheVariants as kind
 use Rattle.dpj_tree.specs.Plain.{PlainExpr, PlainExprs, expression, ExprForm, create, plain_expr, plain_exprs}
-use Rattle.dpj_parse.specs.Taking.{Takes, TakesSymbol, TakesKeyword, TakesName, TakesOne, TakesNext, Next, NoNext, Many, Listed, last, more}
-use Rattle.dpj_parse.specs.Paths.{DerivesArgs, no_args, args}
+use Rattle.dpj_parse.specs.Taking.{Takes, TakesSymbol, TakesKeyword, TakesName, TakesOne, TakesNext, Next, Many, Listed, last, more}
+use Rattle.dpj_parse.specs.Paths.{DerivesArgs, no_args}
 use Rattle.dpj_parse.specs.Types.{DerivesBase, class, DerivesBehind, suffix}
 use Rattle.dpj_parse.specs.Expressions.{DerivesExpr, DerivesActuals, no_actuals, actuals, DerivesFurther, end, further, DerivesUnary, operator, new_array, array, DerivesPostfix, primary, DerivesPrimary, parenthesised, creation, Ending}
 use Rattle.dpj_parse.specs.Reading.{plain_kind, DerivesExprTree, ending_of, Spells, NextSpells, DerivesSelection, behind_dot, called, indexed, DerivesSelections, DerivesInner, inner, DerivesOpenSuffixes, opened, DerivesLengths, lengths}

@@ -1,5 +1,5 @@
 -- Each plain tree is that of a tree of the code.
-use Rattle.std.proofs.Common.{◌≡◌, ◌∙◌, List, [], ◌∷◌, map, Option, Some, None, refl, ap, rules}
+use Rattle.std.proofs.Common.{◌≡◌, ◌∙◌, List, [], ◌∷◌, map, Some, None, refl, ap, rules}
 use Rattle.dpj_tree.specs.declared.expr.Expr.{Expr}
 use Rattle.dpj_tree.specs.declared.expr.ExprKind.{ExprKind}
 use Rattle.dpj_tree.specs.declared.expr.ExprKind.TheVariants as kind

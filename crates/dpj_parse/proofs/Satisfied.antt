@@ -1,13 +1,12 @@
 -- Each terminal that is expected can come.
-use Rattle.std.proofs.Common.{◌≡◌, ◌⊎◌, ℕ, suc, pos, List, [], ◌∷◌, ◌++◌, Bool, true, false, cond, ◌&&◌, ◌||◌, nat_le, Option, Some, None, refl}
-use Rattle.dpj_base.specs.declared.place.Place.{Place}
+use Rattle.std.proofs.Common.{◌≡◌, ℕ, pos, List, [], ◌∷◌, ◌++◌, Bool, true, false, cond, ◌&&◌, ◌||◌, nat_le, Option, Some, None, refl}
 use Rattle.dpj_tokens.specs.declared.token.Symbol.{Symbol}
 use Rattle.dpj_tokens.specs.declared.token.Keyword.{Keyword}
 use Rattle.dpj_terminals.specs.declared.terminal.Placed.{Placed}
 use Rattle.dpj_terminals.specs.declared.terminal.Terminal.{Terminal}
 use Rattle.dpj_terminals.specs.declared.terminal.Terminal.TheVariants as terminal
 use Rattle.dpj_tree.specs.declared.expr.BinaryOp.{BinaryOp}
-use Rattle.dpj_parse.specs.Words.{is_any, is_assign, is_atomic, is_bar, is_boolean, is_class, is_close_brace, is_close_bracket, is_close_paren, is_colon, is_comma, is_dot, is_else, is_extends, is_final, is_foreach_parts, is_greater, is_hash, is_if, is_in, is_int, is_less, is_name, is_new, is_number, is_open_brace, is_open_bracket, is_open_paren, is_print, is_pure, is_question, is_reads, is_region, is_return, is_root, is_semicolon, is_star, is_text, is_void, is_while, is_writes}
+use Rattle.dpj_parse.specs.Words.{is_assign, is_atomic, is_bar, is_close_brace, is_close_bracket, is_close_paren, is_colon, is_comma, is_dot, is_else, is_extends, is_hash, is_in, is_less, is_name, is_number, is_open_bracket, is_open_paren, is_pure, is_question, is_reads, is_region, is_root, is_semicolon, is_star, is_text, is_void, is_writes}
 use Rattle.dpj_parse.specs.Expressions.{level_of, left_level, Ending, as_value, as_name, as_field, as_element, as_call, as_creation}
 use Rattle.dpj_parse.specs.Expecting.{Part, Expected, one, part, next_is, with_next, op_of, choose, climb_parts, base_parts, created_parts, literal_parts, unary_parts, stmt_parts, after_name_parts, ending_parts, selection_parts, performed_parts, member_parts}
 use Rattle.dpj_parse.specs.Expecting.{Part as p}

@@ -1,5 +1,5 @@
 -- What a function that reads tells, from what those tell that it calls.
-use Rattle.std.proofs.Common.{◌≡◌, ℕ, List, [], ◌∷◌, ◌++◌, Bool, true, false, Option, Some, None, refl, sym, subst}
+use Rattle.std.proofs.Common.{◌≡◌, ℕ, List, [], ◌∷◌, ◌++◌, Bool, false, Some, refl}
 use Rattle.dpj_base.specs.declared.place.Place.{Place}
 use Rattle.dpj_base.specs.declared.refusal.Stop.{Stop}
 use Rattle.dpj_base.specs.declared.refusal.Stop.TheVariants as stop
@@ -8,11 +8,10 @@ use Rattle.dpj_tokens.specs.declared.token.Keyword.{Keyword}
 use Rattle.dpj_terminals.specs.declared.terminal.Placed.{Placed}
 use Rattle.dpj_terminals.specs.declared.terminal.Terminal.{Terminal}
 use Rattle.dpj_terminals.specs.declared.terminal.Terminal.TheVariants as terminal
-use Rattle.dpj_tree.specs.declared.region.Named.{Named}
-use Rattle.dpj_parse.specs.Taking.{Takes, TakesOne, TakesName, TakesNext, TakesIf, Next, NoNext}
+use Rattle.dpj_parse.specs.Taking.{TakesNext, Next, NoNext}
 use Rattle.dpj_parse.specs.Words.{is_name, is_open_bracket, sign, word}
-use Rattle.dpj_parse.specs.Expecting.{Part, Expected, one, part, next_of, next_is, choose, Steps, stay, pick, IsLost, no_part, no_terminal, Passes, Leads, LostIn, IfSyntax, unwrapped, begin_of}
-use Rattle.dpj_parse.proofs.OnceReader.{starts, not_next}
+use Rattle.dpj_parse.specs.Expecting.{Part, Expected, one, part, next_of, next_is, choose, stay, pick, no_terminal, Passes, LostIn, IfSyntax}
+use Rattle.dpj_parse.proofs.OnceReader.{not_next}
 use Rattle.dpj_parse.proofs.Expected.{took, is_next}
 use Rattle.dpj_parse.proofs.Taken.{next-takes}
 use Rattle.dpj_parse.proofs.Tested.{sign_own, word_own, sign_or_not, word_or_not}

@@ -1,5 +1,5 @@
 -- What the functions tell that read expressions.
-use Rattle.std.proofs.Common.{◌≡◌, ◌≢◌, ◌∙◌, ℕ, suc, ◌+◌, ◌≤◌, ◌<◌, List, [], ◌∷◌, ◌⊎◌, inl, inr, Bool, true, false, cond, ◌&&◌, ◌||◌, leb, Option, Some, None, refl, sym, ap, subst, arith, add-one}
+use Rattle.std.proofs.Common.{◌≡◌, ◌≢◌, ◌∙◌, ℕ, suc, ◌+◌, ◌≤◌, ◌<◌, List, [], ◌∷◌, ◌⊎◌, inl, inr, false, Option, Some, None, refl, sym, ap, subst, arith, add-one}
 use Rattle.std.proofs.lemmas.Bool.{le-leb}
 use Rattle.std.proofs.lemmas.Bool.Decides.{leb_tells}
 use Rattle.dpj_base.specs.declared.place.Place.{Place}
@@ -15,17 +15,17 @@ use Rattle.dpj_tree.specs.declared.expr.BinaryOp.{BinaryOp}
 use Rattle.dpj_tree.specs.declared.expr.BinaryOp.TheVariants as binary_op
 use Rattle.dpj_tree.specs.Plain.{ExprForm}
 use Rattle.dpj_parse.specs.Taking.{TakesSymbol, TakesNext, TakesOne, Next, NoNext}
-use Rattle.dpj_parse.specs.Words.{op_at, is_any, is_name, is_minus, is_not, is_dot, is_open_bracket, is_close_bracket, is_less, is_comma, is_open_paren, is_close_paren, is_new, is_int, is_boolean}
+use Rattle.dpj_parse.specs.Words.{op_at, is_any, is_name, is_minus, is_not, is_dot, is_open_bracket, is_close_bracket, is_open_paren, is_close_paren, is_new, is_int, is_boolean}
 use Rattle.dpj_parse.specs.Expressions.{symbol_of, unary_symbol, level_of, left_level}
 use Rattle.dpj_parse.specs.Reading.{Spells, NextSpells}
-use Rattle.dpj_parse.specs.Expecting.{Part, Expected, one, part, next_of, next_is, op_of, climb_parts, choose, unary_parts, created_parts, literal_parts, Steps, pick, pass, IsLost, no_part, stay, Passes, Leads, LostIn, IfSyntax, Selects, NoOperator}
+use Rattle.dpj_parse.specs.Expecting.{Expected, one, part, next_of, next_is, op_of, climb_parts, choose, unary_parts, created_parts, literal_parts, no_part, stay, Passes, Leads, LostIn, IfSyntax, Selects, NoOperator}
 use Rattle.dpj_parse.specs.Expecting.{Part as p}
 use Rattle.dpj_parse.proofs.OnceExprs.{op_of_symbol, not_leb}
 use Rattle.dpj_parse.proofs.OnceLevels.{level_low, left_low}
-use Rattle.dpj_parse.proofs.Expected.{nothing, rule, on_next, took, taken, link, picked}
+use Rattle.dpj_parse.proofs.Expected.{nothing, rule, on_next, took, link}
 use Rattle.dpj_parse.proofs.Taken.{next-takes}
 use Rattle.dpj_parse.proofs.Telling.{syntax_is, syntax_then, not_symbol, not_keyword, lost_first, lost_after, lost_rule}
-use Rattle.dpj_parse.proofs.TellingPaths.{leads_lost, leads_here, leads_done, leads_on, leads_first, leads_rule}
+use Rattle.dpj_parse.proofs.TellingPaths.{leads_lost, leads_done, leads_on, leads_first, leads_rule}
 
 -- the next terminal, whatever was asked of it
 pub dot_read : {before after : List Placed} {place : Place} → Next (terminal.Symbol Symbol.Dot) before → TakesNext before after place → Passes (one is_dot ∷ []) before after

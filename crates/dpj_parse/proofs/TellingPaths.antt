@@ -1,5 +1,5 @@
 -- What the functions tell that read region paths, region parameters and types.
-use Rattle.std.proofs.Common.{◌≡◌, ℤ, List, [], ◌∷◌, ◌⊎◌, inl, inr, Bool, true, false, cond, Option, Some, None, refl, sym, ap, subst}
+use Rattle.std.proofs.Common.{◌≡◌, ℤ, List, [], ◌∷◌, inl, inr, Bool, true, false, cond, Option, Some, None, refl, sym, ap, subst}
 use Rattle.dpj_base.specs.declared.refusal.Stop.{Stop}
 use Rattle.dpj_tokens.specs.declared.token.Symbol.{Symbol}
 use Rattle.dpj_tokens.specs.declared.token.Keyword.{Keyword}
@@ -9,8 +9,8 @@ use Rattle.dpj_terminals.specs.declared.terminal.Terminal.TheVariants as termina
 use Rattle.dpj_base.specs.declared.place.Place.{Place}
 use Rattle.dpj_parse.specs.Taking.{TakesSymbol, TakesNext, TakesOne, TakesIf, Next, NoNext}
 use Rattle.dpj_parse.specs.Classes.{BeginsKind}
-use Rattle.dpj_parse.specs.Words.{is_name, is_number, is_dot, is_colon, is_star, is_open_bracket, is_close_bracket, is_less, is_greater, is_hash, is_question, is_bar, is_comma, is_region, is_atomic, is_root, is_int, is_boolean}
-use Rattle.dpj_parse.specs.Expecting.{Part, Expected, one, part, next_of, next_is, choose, Steps, pick, base_parts, Passes, Leads, LostIn, IfSyntax}
+use Rattle.dpj_parse.specs.Words.{is_name, is_number, is_dot, is_colon, is_open_bracket, is_close_bracket, is_less, is_greater, is_hash, is_bar, is_comma, is_region, is_atomic, is_int, is_boolean}
+use Rattle.dpj_parse.specs.Expecting.{Part, Expected, one, part, next_of, next_is, choose, pick, base_parts, Passes, Leads, LostIn, IfSyntax}
 use Rattle.dpj_parse.specs.Expecting.{Part as p}
 use Rattle.dpj_parse.proofs.Expected.{nothing, rule, on_next, took, link}
 use Rattle.dpj_parse.proofs.Taken.{next-takes}

@@ -1,26 +1,25 @@
 -- Where a text is lost, what stands in front can still become a program; and what is read to its end is one.
-use Rattle.std.proofs.Common.{◌≡◌, ◌∙◌, List, [], ◌∷◌, ◌++◌, Option, Some, None, refl, sym, ap, subst}
+use Rattle.std.proofs.Common.{◌≡◌, ◌∙◌, List, [], ◌∷◌, ◌++◌, Some, refl, sym, ap, subst}
 use Rattle.std.proofs.lemmas.List.{append_cancel_right}
 use Rattle.dpj_terminals.specs.declared.terminal.Placed.{Placed}
-use Rattle.dpj_terminals.specs.declared.terminal.Terminal.{Terminal}
 use Rattle.dpj_tree.specs.declared.class.Class.{Class}
 use Rattle.dpj_parse.specs.Classes.{DerivesProgram}
 use Rattle.dpj_parse.specs.Expecting.{Part, Expected, one, part, next_of, choose, Steps, stay, pick, pass}
 use Rattle.dpj_parse.specs.Viable.{IsViable}
 use Rattle.dpj_parse.specs.Expecting.{Part as p}
-use Rattle.dpj_parse.proofs.Meant.{Meant, All, AllOf, split, joined}
+use Rattle.dpj_parse.proofs.Meant.{All, AllOf, split, joined}
 use Rattle.dpj_parse.proofs.Meaning.{meant}
 use Rattle.dpj_parse.proofs.Satisfied.{Good, nothing_next, part_next, GoodOf, of_some, behind_part, behind_one, good, good_append}
 use Rattle.dpj_parse.proofs.Completing.{completed}
 
 -- a part that is replaced by what it begins with
-replaced : (n : Part) (xs others : List Expected) (b a : List Placed) → choose n (next_of b) ≡ Some xs → All (xs ++ others) b a → All (part n ∷ others) b a
-replaced n xs others b a e h =
-    let parts = split xs others b a h in
-    let chosen : AllOf (choose n (next_of b)) b parts.mid = rw e parts.first in
-    joined (part n) others b parts.mid a (meant n b parts.mid chosen) parts.others
+replaced : (n : Part) (xs others : List Expected) (before after : List Placed) → choose n (next_of before) ≡ Some xs → All (xs ++ others) before after → All (part n ∷ others) before after
+replaced n xs others before after e h =
+    let parts = split xs others before after h in
+    let chosen : AllOf (choose n (next_of before)) before parts.mid = rw e parts.first in
+    joined (part n) others before parts.mid after (meant n before parts.mid chosen) parts.others
 
-read_derives : {expected : List Expected} {b : List Placed} → Steps [] [] expected b → All expected b []
+read_derives : {expected : List Expected} {before : List Placed} → Steps [] [] expected before → All expected before []
 read_derives stay = refl
 read_derives (pick {n = n} {xs = xs} {others = others} {here = here} e s) = replaced n xs others here [] e (read_derives s)
 read_derives (pass {test = test} {others = others} {next = next} {after = after} e s) = joined (one test) others (next ∷ after) after [] (record { next = next; is = refl; passes = e }) (read_derives s)
