@@ -29,6 +29,8 @@ pub mod Expected
 pub mod Telling
 pub mod TellingPaths
 pub mod TellingExprs
+pub mod TellingMembers
+pub mod TellingStmts
 pub mod ExpectedPaths
 pub mod ExpectedExprs
 pub mod ExpectedStmts
@@ -44,3 +46,5 @@ pub mod Meaning
 pub mod Satisfied
 pub mod Completing
 pub mod Viability
+pub mod Settled
+pub mod Decided

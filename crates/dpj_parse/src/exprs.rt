@@ -42,7 +42,7 @@ pub fn expr(alloc: Global, cursor: &mut Cursor) -> Result<Expr, Stop>
 }
 
 /// `Unary { operator Unary }`, with operators that bind at least so tightly.
-#[tactic(auto, using(crate::proofs::TellingExprs::climbs_first_lost, crate::proofs::TellingExprs::climbs_lost, crate::proofs::TellingExprs::climbs_done, crate::proofs::Telling::not_ended, crate::proofs::Telling::no_memory, crate::proofs::Telling::memory_told, crate::proofs::Telling::alone_told))]
+#[tactic(auto, using(crate::proofs::TellingExprs::climbs_first_lost, crate::proofs::TellingExprs::climbs_lost, crate::proofs::TellingExprs::climbs_done, crate::proofs::Telling::not_ended, crate::proofs::Telling::no_memory, crate::proofs::Telling::memory_told))]
 #[cycle(exprs)]
 fn operators(alloc: Global, cursor: &mut Cursor, least: u32) -> Result<Expr, Stop>
     ensures moves { OnOk result (Reads cursor.old cursor.new) }
@@ -104,7 +104,7 @@ fn joined(
 }
 
 /// `Unary = ( "-" | "!" ) Unary | Postfix | NewArray`
-#[tactic(auto, using(crate::proofs::TellingExprs::unary_sign_read, crate::proofs::TellingExprs::unary_sign_lost, crate::proofs::TellingExprs::unary_new_read, crate::proofs::TellingExprs::unary_new_lost, crate::proofs::TellingExprs::unary_inner_read, crate::proofs::TellingExprs::unary_inner_lost, crate::proofs::TellingExprs::unary_literal_read, crate::proofs::TellingExprs::unary_literal_lost, crate::proofs::Telling::not_ended, crate::proofs::Expected::link, crate::proofs::Telling::lost_first, crate::proofs::Telling::lost_after, crate::proofs::Telling::no_memory, crate::proofs::Telling::memory_told, crate::proofs::Telling::alone_told, crate::proofs::Making::made_operator, crate::proofs::Making::inner_selected, crate::proofs::Making::primary_selected))]
+#[tactic(auto, using(crate::proofs::TellingExprs::unary_sign_read, crate::proofs::TellingExprs::unary_sign_lost, crate::proofs::TellingExprs::unary_new_read, crate::proofs::TellingExprs::unary_new_lost, crate::proofs::TellingExprs::unary_inner_read, crate::proofs::TellingExprs::unary_inner_lost, crate::proofs::TellingExprs::unary_literal_read, crate::proofs::TellingExprs::unary_literal_lost, crate::proofs::Telling::not_ended, crate::proofs::Expected::link, crate::proofs::Telling::lost_first, crate::proofs::Telling::lost_after, crate::proofs::Telling::no_memory, crate::proofs::Telling::memory_told, crate::proofs::Making::made_operator, crate::proofs::Making::inner_selected, crate::proofs::Making::primary_selected))]
 #[cycle(exprs)]
 fn unary(alloc: Global, cursor: &mut Cursor) -> Result<Expr, Stop>
     ensures moves { OnOk result (Reads cursor.old cursor.new) }
@@ -142,7 +142,7 @@ fn operator_before(cursor: &Cursor) -> Option<UnaryOp>
 }
 
 /// A Postfix that begins with a creation, or a NewArray.
-#[tactic(auto, using(crate::proofs::TellingExprs::created_int_read, crate::proofs::TellingExprs::created_int_lost, crate::proofs::TellingExprs::created_boolean_read, crate::proofs::TellingExprs::created_boolean_lost, crate::proofs::TellingExprs::created_class_read, crate::proofs::TellingExprs::created_class_lost, crate::proofs::TellingExprs::created_object_read, crate::proofs::TellingExprs::created_object_lost, crate::proofs::TellingExprs::created_array_read, crate::proofs::TellingExprs::created_array_lost, crate::proofs::Expected::link, crate::proofs::Telling::lost_first, crate::proofs::Telling::lost_after, crate::proofs::Telling::no_memory, crate::proofs::Telling::memory_told, crate::proofs::Telling::alone_told, crate::proofs::Making::made_object, crate::proofs::Making::made_array, crate::proofs::Making::made_class_array))]
+#[tactic(auto, using(crate::proofs::TellingExprs::created_int_read, crate::proofs::TellingExprs::created_int_lost, crate::proofs::TellingExprs::created_boolean_read, crate::proofs::TellingExprs::created_boolean_lost, crate::proofs::TellingExprs::created_class_read, crate::proofs::TellingExprs::created_class_lost, crate::proofs::TellingExprs::created_object_read, crate::proofs::TellingExprs::created_object_lost, crate::proofs::TellingExprs::created_array_read, crate::proofs::TellingExprs::created_array_lost, crate::proofs::Expected::link, crate::proofs::Telling::lost_first, crate::proofs::Telling::lost_after, crate::proofs::Making::made_object, crate::proofs::Making::made_array, crate::proofs::Making::made_class_array))]
 #[cycle(exprs)]
 fn created(alloc: Global, cursor: &mut Cursor) -> Result<Expr, Stop>
     ensures moves { OnOk result (Reads cursor.old cursor.new) }
@@ -179,7 +179,7 @@ fn object(place: Place, class: Named, regions: Items<RplTree>, actuals: Items<Ex
 }
 
 /// `NewArray` behind its base: `{ "[" "]" [ "<" Rpl ">" ] [ "#" Name ] } "[" Expr "]" [ "<" Rpl ">" ] [ "#" Name ]`
-#[tactic(auto, using(crate::proofs::TellingPaths::leads_done, crate::proofs::TellingPaths::leads_lost, crate::proofs::Expected::link, crate::proofs::Telling::lost_first, crate::proofs::Telling::lost_after, crate::proofs::Telling::no_memory, crate::proofs::Telling::memory_told, crate::proofs::Telling::alone_told, crate::proofs::Making::made_lengths))]
+#[tactic(auto, using(crate::proofs::TellingPaths::leads_done, crate::proofs::TellingPaths::leads_lost, crate::proofs::Expected::link, crate::proofs::Telling::lost_first, crate::proofs::Telling::lost_after, crate::proofs::Telling::no_memory, crate::proofs::Telling::memory_told, crate::proofs::Making::made_lengths))]
 #[cycle(exprs)]
 fn array(alloc: Global, cursor: &mut Cursor, place: Place, base: BaseTree) -> Result<Expr, Stop>
     ensures moves { OnOk result (Reads cursor.old cursor.new) }
@@ -202,7 +202,7 @@ fn array(alloc: Global, cursor: &mut Cursor, place: Place, base: BaseTree) -> Re
 }
 
 /// The suffixes before the length of an array, and the `[` in front of the length.
-#[tactic(auto, using(crate::proofs::TellingExprs::array_opens, crate::proofs::TellingExprs::array_first_lost, crate::proofs::TellingExprs::array_more, crate::proofs::TellingExprs::array_close_lost, crate::proofs::TellingExprs::array_behind_lost, crate::proofs::TellingExprs::array_again_lost, crate::proofs::TellingExprs::array_length, crate::proofs::Telling::no_memory, crate::proofs::Telling::memory_told, crate::proofs::Telling::alone_told, crate::proofs::Making::first_opened, crate::proofs::Making::more_opened))]
+#[tactic(auto, using(crate::proofs::TellingExprs::array_opens, crate::proofs::TellingExprs::array_first_lost, crate::proofs::TellingExprs::array_more, crate::proofs::TellingExprs::array_close_lost, crate::proofs::TellingExprs::array_behind_lost, crate::proofs::TellingExprs::array_again_lost, crate::proofs::TellingExprs::array_length, crate::proofs::Telling::no_memory, crate::proofs::Telling::memory_told, crate::proofs::Making::first_opened, crate::proofs::Making::more_opened))]
 fn open_suffixes(alloc: Global, cursor: &mut Cursor) -> Result<Items<Suffix>, Stop>
     ensures moves { OnOk result (Opens cursor.old cursor.new) }
     ensures fault { IfErr result (λ stop. IsFault cursor.old.text stop) }
@@ -220,7 +220,7 @@ fn open_suffixes(alloc: Global, cursor: &mut Cursor) -> Result<Items<Suffix>, St
 }
 
 /// `"(" Expr ")"`
-#[tactic(auto, using(crate::proofs::TellingExprs::inner_read, crate::proofs::TellingExprs::inner_lost, crate::proofs::Expected::link, crate::proofs::Telling::lost_first, crate::proofs::Telling::lost_after, crate::proofs::Telling::no_memory, crate::proofs::Telling::memory_told, crate::proofs::Telling::alone_told, crate::proofs::Making::made_inner))]
+#[tactic(auto, using(crate::proofs::TellingExprs::inner_read, crate::proofs::TellingExprs::inner_lost, crate::proofs::Expected::link, crate::proofs::Telling::lost_first, crate::proofs::Telling::lost_after, crate::proofs::Making::made_inner))]
 #[cycle(exprs)]
 fn inner(alloc: Global, cursor: &mut Cursor) -> Result<Expr, Stop>
     ensures moves { OnOk result (Reads cursor.old cursor.new) }
@@ -235,7 +235,7 @@ fn inner(alloc: Global, cursor: &mut Cursor) -> Result<Expr, Stop>
 }
 
 /// `Int | "true" | "false" | "null" | "this" | Name`
-#[tactic(auto, using(crate::proofs::TellingExprs::literal_read, crate::proofs::TellingExprs::literal_comes, crate::proofs::Telling::no_memory, crate::proofs::Telling::memory_told, crate::proofs::Telling::alone_told, crate::proofs::Making::made_literal))]
+#[tactic(auto, using(crate::proofs::TellingExprs::literal_read, crate::proofs::TellingExprs::literal_comes, crate::proofs::Making::made_literal))]
 fn literal(cursor: &mut Cursor) -> Result<Expr, Stop>
     ensures moves { OnOk result (Reads cursor.old cursor.new) }
     ensures fault { IfErr result (λ stop. IsFault cursor.old.text stop) }
@@ -274,7 +274,7 @@ fn selects(cursor: &Cursor) -> bool
 }
 
 /// `{ "." Name | "." [ Args ] Name "(" [ Actuals ] ")" | "[" Expr "]" }`
-#[tactic(auto, using(crate::proofs::TellingExprs::selected_more, crate::proofs::TellingExprs::selected_lost, crate::proofs::TellingExprs::selected_done, crate::proofs::TellingPaths::leads_here, crate::proofs::Telling::no_memory, crate::proofs::Telling::memory_told, crate::proofs::Telling::alone_told, crate::specs::Reading::none, crate::specs::Reading::more))]
+#[tactic(auto, using(crate::proofs::TellingExprs::selected_more, crate::proofs::TellingExprs::selected_lost, crate::proofs::TellingExprs::selected_done, crate::proofs::TellingPaths::leads_here, crate::specs::Reading::none, crate::specs::Reading::more))]
 #[cycle(exprs)]
 fn selected(alloc: Global, cursor: &mut Cursor, first: Expr) -> Result<Expr, Stop>
     ensures moves { OnOk result (Keeps cursor.old cursor.new) }
@@ -290,7 +290,7 @@ fn selected(alloc: Global, cursor: &mut Cursor, first: Expr) -> Result<Expr, Sto
 }
 
 /// `"." Name | "." [ Args ] Name "(" [ Actuals ] ")" | "[" Expr "]"`
-#[tactic(auto, using(crate::proofs::TellingExprs::selection_dot_read, crate::proofs::TellingExprs::selection_dot_lost, crate::proofs::TellingExprs::selection_element_read, crate::proofs::TellingExprs::selection_element_lost, crate::proofs::Telling::no_memory, crate::proofs::Telling::memory_told, crate::proofs::Telling::alone_told))]
+#[tactic(auto, using(crate::proofs::TellingExprs::selection_dot_read, crate::proofs::TellingExprs::selection_dot_lost, crate::proofs::TellingExprs::selection_element_read, crate::proofs::TellingExprs::selection_element_lost))]
 #[cycle(exprs)]
 fn selection(alloc: Global, cursor: &mut Cursor, of: Expr) -> Result<Expr, Stop>
     ensures moves { OnOk result (Reads cursor.old cursor.new) }
@@ -305,7 +305,7 @@ fn selection(alloc: Global, cursor: &mut Cursor, of: Expr) -> Result<Expr, Stop>
 }
 
 /// `"[" Expr "]"`
-#[tactic(auto, using(crate::proofs::TellingExprs::element_read, crate::proofs::TellingExprs::element_lost, crate::proofs::Expected::link, crate::proofs::Telling::lost_first, crate::proofs::Telling::lost_after, crate::proofs::Telling::no_memory, crate::proofs::Telling::memory_told, crate::proofs::Telling::alone_told, crate::proofs::Making::made_element))]
+#[tactic(auto, using(crate::proofs::TellingExprs::element_read, crate::proofs::TellingExprs::element_lost, crate::proofs::Expected::link, crate::proofs::Telling::lost_first, crate::proofs::Telling::lost_after, crate::proofs::Telling::no_memory, crate::proofs::Telling::memory_told, crate::proofs::Making::made_element))]
 #[cycle(exprs)]
 fn element(alloc: Global, cursor: &mut Cursor, of: Expr) -> Result<Expr, Stop>
     ensures moves { OnOk result (Reads cursor.old cursor.new) }
@@ -321,7 +321,7 @@ fn element(alloc: Global, cursor: &mut Cursor, of: Expr) -> Result<Expr, Stop>
 }
 
 /// `"." Name | "." [ Args ] Name "(" [ Actuals ] ")"`
-#[tactic(auto, using(crate::proofs::TellingExprs::dotted_args_read, crate::proofs::TellingExprs::dotted_args_lost, crate::proofs::TellingExprs::dotted_name_read, crate::proofs::TellingExprs::dotted_name_lost, crate::proofs::TellingExprs::actuals_if_read, crate::proofs::TellingExprs::actuals_if_lost, crate::proofs::TellingExprs::dot_read, crate::proofs::TellingExprs::actuals_if_none, crate::proofs::Telling::not_ended, crate::proofs::Expected::link, crate::proofs::Telling::lost_first, crate::proofs::Telling::lost_after, crate::proofs::Telling::no_memory, crate::proofs::Telling::memory_told, crate::proofs::Telling::alone_told, crate::proofs::Making::made_field, crate::proofs::Making::made_call, crate::proofs::Making::made_bare_call))]
+#[tactic(auto, using(crate::proofs::TellingExprs::dotted_args_read, crate::proofs::TellingExprs::dotted_args_lost, crate::proofs::TellingExprs::dotted_name_read, crate::proofs::TellingExprs::dotted_name_lost, crate::proofs::TellingExprs::actuals_if_read, crate::proofs::TellingExprs::actuals_if_lost, crate::proofs::TellingExprs::dot_read, crate::proofs::TellingExprs::actuals_if_none, crate::proofs::Telling::not_ended, crate::proofs::Expected::link, crate::proofs::Telling::lost_first, crate::proofs::Telling::lost_after, crate::proofs::Telling::no_memory, crate::proofs::Telling::memory_told, crate::proofs::Making::made_field, crate::proofs::Making::made_call, crate::proofs::Making::made_bare_call))]
 #[cycle(exprs)]
 fn member(alloc: Global, cursor: &mut Cursor, of: Expr) -> Result<Expr, Stop>
     requires { Next (Terminal.Symbol Symbol.Dot) cursor.old.rest.now }
@@ -361,7 +361,7 @@ fn call(of: Boxed<Expr>, regions: Items<RplTree>, named: Named, actuals: Items<E
 }
 
 /// `"(" [ Actuals ] ")"`
-#[tactic(auto, using(crate::proofs::TellingExprs::actuals_read, crate::proofs::TellingExprs::actuals_lost, crate::proofs::TellingExprs::actuals_end_read, crate::proofs::TellingExprs::actuals_end_lost, crate::proofs::TellingExprs::actuals_some_read, crate::proofs::TellingExprs::actuals_some_lost, crate::proofs::Expected::link, crate::proofs::Telling::lost_first, crate::proofs::Telling::lost_after, crate::proofs::Telling::no_memory, crate::proofs::Telling::memory_told, crate::proofs::Telling::alone_told, crate::proofs::Making::made_no_actuals, crate::proofs::Making::made_actuals))]
+#[tactic(auto, using(crate::proofs::TellingExprs::actuals_read, crate::proofs::TellingExprs::actuals_lost, crate::proofs::TellingExprs::actuals_end_read, crate::proofs::TellingExprs::actuals_end_lost, crate::proofs::TellingExprs::actuals_some_read, crate::proofs::TellingExprs::actuals_some_lost, crate::proofs::Expected::link, crate::proofs::Telling::lost_first, crate::proofs::Telling::lost_after, crate::proofs::Making::made_no_actuals, crate::proofs::Making::made_actuals))]
 #[cycle(exprs)]
 fn actuals(alloc: Global, cursor: &mut Cursor) -> Result<Items<Expr>, Stop>
     ensures moves { OnOk result (Reads cursor.old cursor.new) }

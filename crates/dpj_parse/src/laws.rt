@@ -19,7 +19,7 @@ pub fn expected_text()
     ensures { ExpectedText }
 {}
 
-/// A text has one fault of syntax at most, and a program has none.
+/// A text derives a program, or has one fault of syntax, and not both.
 pub fn one_fault()
     ensures { OneFault }
 {}
