@@ -30,7 +30,6 @@ pub mod Telling
 pub mod TellingPaths
 pub mod TellingExprs
 pub mod TellingMembers
-pub mod TellingStmts
 pub mod ExpectedPaths
 pub mod ExpectedExprs
 pub mod ExpectedStmts

@@ -1,5 +1,5 @@
 -- What was read makes the part of the grammar that it is.
-use Rattle.std.proofs.Common.{◌≡◌, List, [], ◌∷◌, ◌++◌, map, subst}
+use Rattle.std.proofs.Common.{◌≡◌, List, [], ◌∷◌, ◌++◌, map, refl, subst}
 use Rattle.dpj_base.specs.declared.place.Place.{Place}
 use Rattle.dpj_tokens.specs.declared.token.Symbol.{Symbol}
 use Rattle.dpj_tokens.specs.declared.token.Keyword.{Keyword}
@@ -15,8 +15,8 @@ use Rattle.dpj_tree.specs.declared.expr.UnaryOp.{UnaryOp}
 use Rattle.dpj_tree.specs.declared.expr.Expr.{Expr}
 use Rattle.dpj_tree.specs.declared.expr.ExprKind.TheVariants as kind
 use Rattle.dpj_tree.specs.Plain.{PlainExpr, PlainExprs, expression, ExprForm, create, plain_expr, plain_exprs}
-use Rattle.dpj_parse.specs.Taking.{Takes, TakesSymbol, TakesKeyword, TakesName, TakesOne, TakesNext, Next, Many, Listed, last, more}
-use Rattle.dpj_parse.specs.Paths.{DerivesArgs, no_args}
+use Rattle.dpj_parse.specs.Taking.{Takes, TakesSymbol, TakesKeyword, TakesName, TakesOne, TakesNext, Next, NoNext, Many, Listed, last, more}
+use Rattle.dpj_parse.specs.Paths.{DerivesArgs, no_args, args}
 use Rattle.dpj_parse.specs.Types.{DerivesBase, class, DerivesBehind, suffix}
 use Rattle.dpj_parse.specs.Expressions.{DerivesExpr, DerivesActuals, no_actuals, actuals, DerivesFurther, end, further, DerivesUnary, operator, new_array, array, DerivesPostfix, primary, DerivesPrimary, parenthesised, creation, Ending}
 use Rattle.dpj_parse.specs.Reading.{plain_kind, DerivesExprTree, ending_of, Spells, NextSpells, DerivesSelection, behind_dot, called, indexed, DerivesSelections, DerivesInner, inner, DerivesOpenSuffixes, opened, DerivesLengths, lengths}
@@ -31,19 +31,15 @@ pub made_operator : (op : UnaryOp) (arg e : Expr) {before one after : List Place
     plain_expr e ≡ expression place (plain_kind (kind.Unary op arg)) → DerivesUnary before after (plain_expr e)
 made_operator op arg e next takes d is = rw (is, kind_Unary op arg) (operator (next-takes takes next) d)
 
-pub made_object : {before one two three four after : List Placed} {named : Named} {regions : List RplTree} {all : PlainExprs} {object found : PlainExpr} {place : Place} →
-    TakesKeyword Keyword.New before one place → TakesName one two named → DerivesArgs two three regions → DerivesActuals three four all →
-    object ≡ expression place (create named regions all) → DerivesSelections object four after found → DerivesUnary before after found
-made_object {four = four} {after = after} {found = found} takes named paths d is selections =
-    selections_unary (primary (creation takes named paths d)) (subst (λ o. DerivesSelections o four after found) is selections)
+pub made_object : {before one two three after : List Placed} {name : Named} {regions : List RplTree} {all : PlainExprs} {object found : PlainExpr} {place : Place} →
+    TakesKeyword Keyword.New before one place → DerivesBase one two (base.Class name regions) → DerivesActuals two three all →
+    object ≡ expression place (create name regions all) → DerivesSelections object three after found → DerivesUnary before after found
+made_object {three = three} {after = after} {found = found} takes (class named paths) d is selections =
+    selections_unary (primary (creation takes named paths d)) (subst (λ o. DerivesSelections o three after found) is selections)
 
 pub made_array : {before one two after : List Placed} {start : BaseTree} {e : PlainExpr} {place : Place} →
     TakesKeyword Keyword.New before one place → DerivesBase one two start → DerivesLengths start place two after e → DerivesUnary before after e
 made_array takes d (lengths (opened suffixes open_at) len close own) = new_array (array takes d suffixes open_at len close own)
-
-pub made_class_array : {before one two three after : List Placed} {named : Named} {regions : List RplTree} {e : PlainExpr} {place : Place} →
-    TakesKeyword Keyword.New before one place → TakesName one two named → DerivesArgs two three regions → DerivesLengths (base.Class named regions) place three after e → DerivesUnary before after e
-made_class_array takes named paths d = made_array takes (class named paths) d
 
 pub made_lengths : (start : BaseTree) (suffixes : List Suffix) (len e : Expr) (own : Suffix) {before one two three after : List Placed} {place : Place} →
     DerivesOpenSuffixes before one suffixes → DerivesExpr one two (plain_expr len) → TakesOne (terminal.Symbol Symbol.CloseBracket) two three → DerivesBehind three after own →
@@ -93,23 +89,22 @@ pub made_element : (of at e : Expr) {before one two after : List Placed} {place 
     plain_expr e ≡ expression place (plain_kind (kind.Element of at)) → DerivesSelection (plain_expr of) before after (plain_expr e)
 made_element of at e takes d close is = rw (is, kind_Element of at) (indexed takes d close.takes)
 
-pub made_field : (of e : Expr) (named : Named) {before one after : List Placed} {place : Place} →
-    Next (terminal.Symbol Symbol.Dot) before → TakesNext before one place → TakesName one after named →
+no_args_here : {before after : List Placed} {regions : List RplTree} → DerivesArgs before after regions → NoNext (terminal.Symbol Symbol.Less) before → after ≡ before
+no_args_here no_args none = refl
+no_args_here (args takes d close) none = absurd (none (record { after = _; takes = record { place = _; takes = takes } }))
+
+pub made_field : (of e : Expr) (named : Named) {before one two after : List Placed} {regions : List RplTree} {place : Place} →
+    Next (terminal.Symbol Symbol.Dot) before → TakesNext before one place → DerivesArgs one two regions → NoNext (terminal.Symbol Symbol.Less) one → TakesName two after named →
     plain_expr e ≡ expression named.place (plain_kind (kind.Field of named.name)) → DerivesSelection (plain_expr of) before after (plain_expr e)
-made_field of e named next takes name is = rw (is, kind_Field of named.name) (behind_dot (next-takes takes next) name)
+made_field of e named {after = after} next takes d none name is =
+    let here : TakesName _ after named = rw (no_args_here d none) at name in
+    rw (is, kind_Field of named.name) (behind_dot (next-takes takes next) here)
 
 pub made_call : (of e : Expr) (named : Named) (regions : List RplTree) (all : List Expr) {before one two three after : List Placed} {place : Place} →
     Next (terminal.Symbol Symbol.Dot) before → TakesNext before one place → DerivesArgs one two regions → TakesName two three named → DerivesActuals three after (plain_exprs (map plain_expr all)) →
     plain_expr e ≡ expression named.place (plain_kind (kind.Call of regions named.name all)) → DerivesSelection (plain_expr of) before after (plain_expr e)
 made_call of e named regions all next takes paths name d is =
     rw (is, kind_Call of regions named.name all) (called (next-takes takes next) paths name d)
-
-pub made_bare_call : (of e : Expr) (named : Named) (regions : List RplTree) (all : List Expr) {before one two after : List Placed} {place : Place} →
-    Next (terminal.Symbol Symbol.Dot) before → TakesNext before one place → regions ≡ [] → TakesName one two named → DerivesActuals two after (plain_exprs (map plain_expr all)) →
-    plain_expr e ≡ expression named.place (plain_kind (kind.Call of regions named.name all)) → DerivesSelection (plain_expr of) before after (plain_expr e)
-made_bare_call of e named regions all next takes empty name d is =
-    let none : DerivesArgs _ _ regions = rw empty no_args in
-    rw (is, kind_Call of regions named.name all) (called (next-takes takes next) none name d)
 
 pub made_no_actuals : {before one after : List Placed} {all : List Expr} {place : Place} →
     TakesSymbol Symbol.OpenParen before one place → TakesOne (terminal.Symbol Symbol.CloseParen) one after → all ≡ [] → DerivesActuals before after (plain_exprs (map plain_expr all))

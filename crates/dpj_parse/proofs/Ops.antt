@@ -1,15 +1,15 @@
 -- Operators and how tightly they bind.
-use Rattle.std.proofs.Common.{◌≡◌, ◌≢◌, ℕ, suc, ◌+◌, ◌≤◌, ◌⊎◌, inl, inr, List, None, refl, sym, ap, ◌∙◌, arith, add-one}
+use Rattle.std.proofs.Common.{◌≡◌, ◌≢◌, ℕ, suc, ◌+◌, ◌≤◌, ◌⊎◌, inl, inr, List, refl, sym, ap, ◌∙◌, arith, add-one}
 use Rattle.dpj_base.specs.declared.place.Place.{Place}
 use Rattle.dpj_tokens.specs.declared.token.Symbol.{Symbol}
 use Rattle.dpj_terminals.specs.declared.terminal.Placed.{Placed}
+use Rattle.dpj_tree.specs.declared.expr.UnaryOp.{UnaryOp}
+use Rattle.dpj_tree.specs.declared.expr.UnaryOp.TheVariants as unary_op
 use Rattle.dpj_tree.specs.declared.expr.BinaryOp.{BinaryOp}
 use Rattle.dpj_tree.specs.declared.expr.BinaryOp.TheVariants as binary_op
 use Rattle.dpj_tree.specs.Plain.{PlainExpr, expression, binary}
-use Rattle.dpj_terminals.specs.declared.terminal.Terminal.TheVariants as terminal
-use Rattle.dpj_parse.specs.Words.{op_at}
 use Rattle.dpj_parse.specs.Taking.{TakesSymbol}
-use Rattle.dpj_parse.specs.Expressions.{symbol_of, level_of, left_level, DerivesLevel, operand, operation, DerivesUnary}
+use Rattle.dpj_parse.specs.Expressions.{symbol_of, unary_symbol, level_of, left_level, DerivesLevel, operand, operation, DerivesUnary}
 
 -- the left operand of a comparison is no comparison, and any other one may have the same binding
 pub left_level_is : (op : BinaryOp) → (left_level op ≡ level_of op) ⊎ ((level_of op ≡ 3) × (left_level op ≡ 4))
@@ -54,33 +54,23 @@ grouped_operation {bound = bound} {op = op} {two = two} {after = after} {right =
       left = λ next h. operation (tight next h) (grouped.left op high) takes r;
     })
 
-no_third : (op : BinaryOp) → left_level op ≡ level_of op → left_level op ≤ 3 → level_of op ≤ 2
-no_third binary_op.Or e h = omega arith
-no_third binary_op.And e h = omega arith
-no_third binary_op.Eq e h = omega arith
-no_third binary_op.Ne e h = omega arith
-no_third _ e h = absurd (omega (arith, e, h))
+pub no_unary : {symbol : Symbol} → symbol ≢ Symbol.Minus → symbol ≢ Symbol.Not → (op : UnaryOp) → symbol ≢ unary_symbol op
+no_unary minus not unary_op.Neg = minus
+no_unary minus not unary_op.Not = not
 
-pub behind_left_comparison : (op : BinaryOp) → left_level op ≤ 3 → level_of op ≤ 2
-behind_left_comparison op h = elim (left_level_is op) [ inl e ↦ no_third op e h | inr e ↦ absurd (omega arith) ]
-
-pub behind_left : (op : BinaryOp) (level : ℕ) → left_level op ≤ level → level_of op ≤ level
-behind_left op level h = elim (left_level_is op) [ inl e ↦ omega arith | inr e ↦ omega arith ]
-
-pub no_binary : (symbol : Symbol) →
+pub no_binary : {symbol : Symbol} →
     symbol ≢ Symbol.Or → symbol ≢ Symbol.And → symbol ≢ Symbol.Equal → symbol ≢ Symbol.NotEqual → symbol ≢ Symbol.Less → symbol ≢ Symbol.AtMost → symbol ≢ Symbol.Greater → symbol ≢ Symbol.AtLeast →
-    symbol ≢ Symbol.Plus → symbol ≢ Symbol.Minus → symbol ≢ Symbol.Star → symbol ≢ Symbol.Slash → symbol ≢ Symbol.Percent → None ≡ op_at (terminal.Symbol symbol)
-no_binary Symbol.Or or and equal not_equal less at_most greater at_least plus minus star slash percent = absurd (or refl)
-no_binary Symbol.And or and equal not_equal less at_most greater at_least plus minus star slash percent = absurd (and refl)
-no_binary Symbol.Equal or and equal not_equal less at_most greater at_least plus minus star slash percent = absurd (equal refl)
-no_binary Symbol.NotEqual or and equal not_equal less at_most greater at_least plus minus star slash percent = absurd (not_equal refl)
-no_binary Symbol.Less or and equal not_equal less at_most greater at_least plus minus star slash percent = absurd (less refl)
-no_binary Symbol.AtMost or and equal not_equal less at_most greater at_least plus minus star slash percent = absurd (at_most refl)
-no_binary Symbol.Greater or and equal not_equal less at_most greater at_least plus minus star slash percent = absurd (greater refl)
-no_binary Symbol.AtLeast or and equal not_equal less at_most greater at_least plus minus star slash percent = absurd (at_least refl)
-no_binary Symbol.Plus or and equal not_equal less at_most greater at_least plus minus star slash percent = absurd (plus refl)
-no_binary Symbol.Minus or and equal not_equal less at_most greater at_least plus minus star slash percent = absurd (minus refl)
-no_binary Symbol.Star or and equal not_equal less at_most greater at_least plus minus star slash percent = absurd (star refl)
-no_binary Symbol.Slash or and equal not_equal less at_most greater at_least plus minus star slash percent = absurd (slash refl)
-no_binary Symbol.Percent or and equal not_equal less at_most greater at_least plus minus star slash percent = absurd (percent refl)
-no_binary _ or and equal not_equal less at_most greater at_least plus minus star slash percent = refl
+    symbol ≢ Symbol.Plus → symbol ≢ Symbol.Minus → symbol ≢ Symbol.Star → symbol ≢ Symbol.Slash → symbol ≢ Symbol.Percent → (op : BinaryOp) → symbol ≢ symbol_of op
+no_binary or and equal not_equal less at_most greater at_least plus minus star slash percent binary_op.Or = or
+no_binary or and equal not_equal less at_most greater at_least plus minus star slash percent binary_op.And = and
+no_binary or and equal not_equal less at_most greater at_least plus minus star slash percent binary_op.Eq = equal
+no_binary or and equal not_equal less at_most greater at_least plus minus star slash percent binary_op.Ne = not_equal
+no_binary or and equal not_equal less at_most greater at_least plus minus star slash percent binary_op.Lt = less
+no_binary or and equal not_equal less at_most greater at_least plus minus star slash percent binary_op.Le = at_most
+no_binary or and equal not_equal less at_most greater at_least plus minus star slash percent binary_op.Gt = greater
+no_binary or and equal not_equal less at_most greater at_least plus minus star slash percent binary_op.Ge = at_least
+no_binary or and equal not_equal less at_most greater at_least plus minus star slash percent binary_op.Add = plus
+no_binary or and equal not_equal less at_most greater at_least plus minus star slash percent binary_op.Sub = minus
+no_binary or and equal not_equal less at_most greater at_least plus minus star slash percent binary_op.Mul = star
+no_binary or and equal not_equal less at_most greater at_least plus minus star slash percent binary_op.Div = slash
+no_binary or and equal not_equal less at_most greater at_least plus minus star slash percent binary_op.Rem = percent

@@ -1,11 +1,10 @@
-ghost use Rattle.std.specs.Prelude.{◌≡◌, ◌≤◌};
-ghost use Rattle.dpj_parse.specs.Expressions.{level_of, left_level};
-ghost use Rattle.dpj_parse.specs.Words.{op_at};
+ghost use Rattle.std.specs.Prelude.{◌≡◌, ◌≢◌, ◌≤◌, MatchOption};
+ghost use Rattle.dpj_parse.specs.Expressions.{symbol_of, unary_symbol, level_of, left_level};
 ghost use Rattle.dpj_tree.specs.declared.expr.BinaryOp.{BinaryOp};
-ghost use Rattle.dpj_terminals.specs.declared.terminal.Terminal.TheVariants as Terminal;
+ghost use Rattle.dpj_tree.specs.declared.expr.UnaryOp.{UnaryOp};
 
 use dpj_tokens::Symbol;
-use dpj_tree::BinaryOp;
+use dpj_tree::{BinaryOp, UnaryOp};
 
 /// The loosest binding of two expressions, that of `||`.
 pub const LOOSEST: u32 = 0;
@@ -19,7 +18,7 @@ pub const TIGHTEST: u32 = 5;
 /// The operator between two expressions that a symbol is.
 #[tactic(auto, using(crate::proofs::Ops::no_binary))]
 pub fn binary_of(symbol: Symbol) -> Option<BinaryOp>
-    ensures { result ≡ op_at (Terminal.Symbol symbol) }
+    ensures { MatchOption result ((op : BinaryOp) → symbol ≢ symbol_of op) (λ op. symbol ≡ symbol_of op) }
 {
     match symbol {
         Symbol::Or => Some(BinaryOp::Or),
@@ -35,6 +34,18 @@ pub fn binary_of(symbol: Symbol) -> Option<BinaryOp>
         Symbol::Star => Some(BinaryOp::Mul),
         Symbol::Slash => Some(BinaryOp::Div),
         Symbol::Percent => Some(BinaryOp::Rem),
+        _ => None,
+    }
+}
+
+/// The operator before an expression that a symbol is.
+#[tactic(auto, using(crate::proofs::Ops::no_unary))]
+pub fn unary_of(symbol: Symbol) -> Option<UnaryOp>
+    ensures { MatchOption result ((op : UnaryOp) → symbol ≢ unary_symbol op) (λ op. symbol ≡ unary_symbol op) }
+{
+    match symbol {
+        Symbol::Minus => Some(UnaryOp::Neg),
+        Symbol::Not => Some(UnaryOp::Not),
         _ => None,
     }
 }
@@ -56,10 +67,9 @@ pub fn binding(op: BinaryOp) -> u32
 
 /// The tightest binding that an operator behind this one may have: those of one binding group to the left, and a
 /// comparison has no other one behind it.
-#[tactic(auto, using(crate::proofs::Ops::left_behind, crate::proofs::Ops::left_behind_comparison, crate::proofs::Ops::behind_left, crate::proofs::Ops::behind_left_comparison))]
+#[tactic(auto, using(crate::proofs::Ops::left_behind, crate::proofs::Ops::left_behind_comparison))]
 pub fn tightest_behind(op: BinaryOp) -> u32
     ensures left { (next : BinaryOp) → level_of next ≤ result → left_level next ≤ level_of op }
-    ensures right { (next : BinaryOp) → left_level next ≤ level_of op → level_of next ≤ result }
     ensures within { result ≤ TIGHTEST }
 {
     if binding(op) == COMPARING {

@@ -1,7 +1,7 @@
 ghost use Rattle.std.specs.Prelude.{◌≡◌, ◌≤◌, ◌+◌, ◌<◌, ◌∷◌, [], length, map, OnOk, IfOk, IfSome, MatchOption, IfErr};
 ghost use Rattle.dpj_parse.specs.Expecting.{Part, Tells, one, part};
 ghost use Rattle.dpj_parse.specs.Fault.{IsFault};
-ghost use Rattle.dpj_parse.specs.Words.{is_close_paren, is_open_paren, is_print, is_region, is_return, is_semicolon};
+ghost use Rattle.dpj_parse.specs.Words.{is_region, is_semicolon};
 ghost use Rattle.dpj_parse.specs.Progress.{Closes, Keeps, Reads};
 ghost use Rattle.dpj_parse.specs.Taking.{Many, Next};
 ghost use Rattle.dpj_parse.specs.Statements.{DerivesBlock, DerivesCondition, DerivesForm, DerivesRange, DerivesStmt, DerivesValue, cobegin_word, foreach_word};
@@ -147,12 +147,11 @@ fn while_loop(alloc: Global, cursor: &mut Cursor) -> Result<StmtKind, Stop>
 }
 
 /// `"(" Expr ")"`
-#[tactic(auto, using(crate::proofs::TellingStmts::condition_read, crate::proofs::TellingStmts::condition_lost, crate::proofs::Expected::link, crate::proofs::Telling::lost_first, crate::proofs::Telling::lost_after, crate::proofs::Telling::no_memory, crate::proofs::Telling::memory_told, crate::proofs::Telling::alone_told, crate::proofs::Stating::made_condition))]
+#[tactic(auto, using(crate::proofs::Stating::made_condition))]
 fn condition(alloc: Global, cursor: &mut Cursor) -> Result<Expr, Stop>
     ensures moves { OnOk result (Reads cursor.old cursor.new) }
     ensures fault { IfErr result (λ stop. IsFault cursor.old.text stop) }
     ensures derives { IfOk result (λ e. DerivesCondition cursor.old.rest.now cursor.new.rest.now (plain_expr e)) }
-    ensures reads { Tells (part Part.condition ∷ []) cursor.old.rest.now result cursor.new.rest.now }
 {
     cursor.open(Symbol::OpenParen)?;
     let test = expr(alloc, cursor)?;
@@ -238,13 +237,11 @@ struct Span {
 }
 
 /// `"int" Name "in" Expr "," Expr ")"`
-#[tactic(auto, using(crate::proofs::TellingStmts::range_read, crate::proofs::TellingStmts::range_lost, crate::proofs::Expected::link, crate::proofs::Telling::lost_first, crate::proofs::Telling::lost_after, crate::proofs::Telling::no_memory, crate::proofs::Telling::memory_told, crate::proofs::Telling::alone_told))]
 fn range(alloc: Global, cursor: &mut Cursor) -> Result<Span, Stop>
     requires { 1 ≤ cursor.old.level }
     ensures moves { OnOk result (Closes cursor.old cursor.new) }
     ensures fault { IfErr result (λ stop. IsFault cursor.old.text stop) }
     ensures derives { IfOk result (λ span. DerivesRange cursor.old.rest.now cursor.new.rest.now span.var (plain_expr span.first) (plain_expr span.second)) }
-    ensures reads { Tells (part Part.range ∷ []) cursor.old.rest.now result cursor.new.rest.now }
 {
     cursor.keyword(Keyword::Int)?;
     let var = cursor.name()?;
@@ -273,12 +270,11 @@ fn simple(alloc: Global, cursor: &mut Cursor) -> Result<Stmt, Stop>
 }
 
 /// `"return" [ Expr ] ";"`
-#[tactic(auto, using(crate::proofs::TellingMembers::return_end_read, crate::proofs::TellingStmts::return_value_read, crate::proofs::TellingStmts::return_value_lost, crate::proofs::Expected::link, crate::proofs::Telling::lost_first, crate::proofs::Telling::lost_after, crate::proofs::Telling::no_memory, crate::proofs::Telling::memory_told, crate::proofs::Telling::alone_told, crate::proofs::Stating::return_alone, crate::proofs::Stating::return_with))]
+#[tactic(auto, using(crate::proofs::Stating::return_alone, crate::proofs::Stating::return_with))]
 fn returned(alloc: Global, cursor: &mut Cursor) -> Result<Stmt, Stop>
     ensures moves { OnOk result (Reads cursor.old cursor.new) }
     ensures fault { IfErr result (λ stop. IsFault cursor.old.text stop) }
     ensures derives { IfOk result (λ s. DerivesStmt cursor.old.rest.now cursor.new.rest.now (plain_stmt s)) }
-    ensures reads { Tells (one is_return ∷ part Part.return_rest ∷ []) cursor.old.rest.now result cursor.new.rest.now }
 {
     let place = cursor.keyword(Keyword::Return)?;
     if cursor.symbol_if(Symbol::Semicolon)? {
@@ -289,12 +285,10 @@ fn returned(alloc: Global, cursor: &mut Cursor) -> Result<Stmt, Stop>
 }
 
 /// `"print" "(" ( Expr | Text ) ")" ";"`
-#[tactic(auto, using(crate::proofs::Expected::link, crate::proofs::Telling::lost_first, crate::proofs::Telling::lost_after, crate::proofs::Telling::no_memory, crate::proofs::Telling::memory_told, crate::proofs::Telling::alone_told))]
 fn printed(alloc: Global, cursor: &mut Cursor) -> Result<Stmt, Stop>
     ensures moves { OnOk result (Reads cursor.old cursor.new) }
     ensures fault { IfErr result (λ stop. IsFault cursor.old.text stop) }
     ensures derives { IfOk result (λ s. DerivesStmt cursor.old.rest.now cursor.new.rest.now (plain_stmt s)) }
-    ensures reads { Tells (one is_print ∷ one is_open_paren ∷ part Part.shown ∷ one is_close_paren ∷ one is_semicolon ∷ []) cursor.old.rest.now result cursor.new.rest.now }
 {
     let place = cursor.keyword(Keyword::Print)?;
     cursor.open(Symbol::OpenParen)?;
@@ -305,12 +299,11 @@ fn printed(alloc: Global, cursor: &mut Cursor) -> Result<Stmt, Stop>
 }
 
 /// `Expr | Text`
-#[tactic(auto, using(crate::proofs::TellingMembers::shown_text_read, crate::proofs::TellingStmts::shown_value_read, crate::proofs::TellingStmts::shown_value_lost, crate::proofs::Telling::not_ended, crate::proofs::Telling::no_memory, crate::proofs::Telling::memory_told, crate::proofs::Telling::alone_told, crate::proofs::Stating::shown_value, crate::proofs::Stating::shown_text))]
+#[tactic(auto, using(crate::proofs::Stating::shown_value, crate::proofs::Stating::shown_text))]
 fn shown(alloc: Global, cursor: &mut Cursor) -> Result<StmtKind, Stop>
     ensures moves { OnOk result (Reads cursor.old cursor.new) }
     ensures fault { IfErr result (λ stop. IsFault cursor.old.text stop) }
     ensures derives { IfOk result (λ kind. DerivesPrinted cursor.old.rest.now cursor.new.rest.now (plain_stmt_kind kind)) }
-    ensures reads { Tells (part Part.shown ∷ []) cursor.old.rest.now result cursor.new.rest.now }
 {
     if let Some(Terminal::Text(text)) = cursor.next() {
         let bytes = Bytes::from_slice(alloc, text.as_slice())?;
@@ -377,12 +370,11 @@ fn declaration(alloc: Global, cursor: &mut Cursor) -> Result<Stmt, Stop>
 }
 
 /// `Expr ";"`
-#[tactic(auto, using(crate::proofs::TellingStmts::value_read, crate::proofs::TellingStmts::value_lost, crate::proofs::Expected::link, crate::proofs::Telling::lost_first, crate::proofs::Telling::lost_after, crate::proofs::Telling::no_memory, crate::proofs::Telling::memory_told, crate::proofs::Telling::alone_told, crate::proofs::Stating::made_value))]
+#[tactic(auto, using(crate::proofs::Stating::made_value))]
 fn value(alloc: Global, cursor: &mut Cursor) -> Result<Expr, Stop>
     ensures moves { OnOk result (Reads cursor.old cursor.new) }
     ensures fault { IfErr result (λ stop. IsFault cursor.old.text stop) }
     ensures derives { IfOk result (λ e. DerivesValue cursor.old.rest.now cursor.new.rest.now (plain_expr e)) }
-    ensures reads { Tells (part Part.value ∷ []) cursor.old.rest.now result cursor.new.rest.now }
 {
     let value = expr(alloc, cursor)?;
     cursor.symbol(Symbol::Semicolon)?;

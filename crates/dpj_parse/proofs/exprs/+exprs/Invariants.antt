@@ -1,11 +1,9 @@
-use Rattle.std.proofs.Common.{◌+◌, ◌*◌, [], ◌∷◌, length}
+use Rattle.std.proofs.Common.{◌+◌, ◌*◌, length}
 use Rattle.dpj_tree.specs.Plain.{plain_expr}
 use Rattle.dpj_parse.specs.Progress.{Reads, Keeps}
 use Rattle.dpj_parse.specs.Taking.{Listed}
 use Rattle.dpj_parse.specs.Reading.{DerivesExprTree, DerivesSelections}
-use Rattle.dpj_parse.specs.Expecting.{Part, Leads, part}
 use Rattle.dpj_parse.proofs.Ops.{Grouped}
-use Rattle.dpj_parse.proofs.TellingExprs.{Climbs}
 use Rattle.dpj_parse.proofs.exprs.+exprs.Given as goal
 
 abbrev pub decreases-listed : goal.decreases-listed
@@ -47,7 +45,6 @@ decreases-actuals l = 6 * length l.cursor.now.rest.now
 abbrev pub invariant-listed-loop-all : goal.invariant-listed-loop-all
 invariant-listed-loop-all l = record {
   moves : Reads l.fn.cursor l.cursor;
-  reads : Leads (part Part.listed ∷ []) l.fn.cursor.rest.now (part Part.more_listed ∷ []) l.cursor.rest.now;
   derives : Listed DerivesExprTree l.fn.cursor.rest.now l.cursor.rest.now l.all;
 }
 
@@ -57,7 +54,6 @@ decreases-listed-loop-all l = length l.cursor.rest.now
 abbrev pub invariant-operators-loop-op : goal.invariant-operators-loop-op
 invariant-operators-loop-op l = record {
   moves : Reads l.fn.cursor l.cursor;
-  climbs : Climbs l.least l.most l.fn.cursor.rest.now l.cursor.rest.now;
   groups : Grouped l.least l.most l.fn.cursor.rest.now l.cursor.rest.now (plain_expr l.left);
 }
 
@@ -67,7 +63,6 @@ decreases-operators-loop-op l = length l.cursor.rest.now
 abbrev pub invariant-selected-loop-alloc : goal.invariant-selected-loop-alloc
 invariant-selected-loop-alloc l = record {
   moves : Keeps l.fn.cursor l.cursor;
-  reads : Leads (part Part.selected ∷ []) l.fn.cursor.rest.now (part Part.selected ∷ []) l.cursor.rest.now;
   derives : DerivesSelections (plain_expr l.fn.first) l.fn.cursor.rest.now l.cursor.rest.now (plain_expr l.found);
 }
 

@@ -1,5 +1,4 @@
-use Rattle.std.proofs.Common.{[], ◌∷◌, length}
-use Rattle.dpj_parse.specs.Expecting.{Part, Leads, part}
+use Rattle.std.proofs.Common.{length}
 use Rattle.dpj_parse.specs.Progress.{Opens}
 use Rattle.dpj_parse.specs.Reading.{DerivesOpenSuffixes}
 use Rattle.dpj_parse.proofs.exprs.open_suffixes.Given as goal
@@ -7,7 +6,6 @@ use Rattle.dpj_parse.proofs.exprs.open_suffixes.Given as goal
 abbrev pub invariant-loop-alloc : goal.invariant-loop-alloc
 invariant-loop-alloc l = record {
   moves : Opens l.fn.cursor l.cursor;
-  reads : Leads (part Part.array ∷ []) l.fn.cursor.rest.now (part Part.array_open ∷ []) l.cursor.rest.now;
   derives : DerivesOpenSuffixes l.fn.cursor.rest.now l.cursor.rest.now l.suffixes;
 }
 
