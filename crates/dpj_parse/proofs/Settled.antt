@@ -1,5 +1,5 @@
 -- Whatever is expected of a text comes to its end or is lost: before a terminal is passed, what is expected first gets smaller.
-use Rattle.std.proofs.Common.{◌≡◌, ℕ, zero, suc, List, [], ◌∷◌, ◌++◌, Bool, true, false, cond, ◌&&◌, ◌||◌, nat_le, ◌<◌, ◌≤◌, ◌+◌, length, ◌⊎◌, inl, inr, sym, subst, arith, Option, Some, None, refl}
+use Rattle.std.proofs.Common.{◌≡◌, ℕ, zero, suc, List, [], ◌∷◌, ◌++◌, Bool, true, false, cond, ◌&&◌, ◌||◌, nat_le, ◌<◌, ◌≤◌, ◌+◌, length, ◌⊎◌, inl, inr, subst, arith, Option, Some, None, refl}
 use Rattle.dpj_tokens.specs.declared.token.Symbol.{Symbol}
 use Rattle.dpj_tokens.specs.declared.token.Keyword.{Keyword}
 use Rattle.dpj_terminals.specs.declared.terminal.Placed.{Placed}

@@ -11,8 +11,11 @@ returns-clause-reads c =
     suffixes_done c.loop-alloc.invariant.reads none
 
 pub returns-in_err-close-clause-reads : goal.returns-in_err-close-clause-reads
-returns-in_err-close-clause-reads c = suffixes_close_lost _ c.loop-alloc.invariant.reads c.in_ok-open.ensures.takes c.in_err-close.ensures.reads
+returns-in_err-close-clause-reads c =
+    let lost = suffixes_close_lost _ c.loop-alloc.invariant.reads c.in_ok-open.ensures.takes c.in_err-close.ensures.reads in
+    search rules
 
 pub returns-in_err-behind_brackets-clause-reads : goal.returns-in_err-behind_brackets-clause-reads
 returns-in_err-behind_brackets-clause-reads c =
-    suffixes_behind_lost _ c.loop-alloc.invariant.reads c.in_ok-open.ensures.takes c.in_ok-close.ensures.takes c.in_err-behind_brackets.ensures.reads
+    let lost = suffixes_behind_lost _ c.loop-alloc.invariant.reads c.in_ok-open.ensures.takes c.in_ok-close.ensures.takes c.in_err-behind_brackets.ensures.reads in
+    search rules
