@@ -26,9 +26,9 @@ returns-in-Known-clause-answer c =
 pub returns-in-Any-clause-answer : goal.returns-in-Any-clause-answer
 returns-in-Any-clause-answer c =
     on_any c.args.env.now c.args.of c.args.name c.args.regions c.args.actuals c.as_slice.result.now c.args.place c.args.found.now
-    c.all_values.result c.in-Any.is c.as_slice.ensures c.all_values.ensures c.if-all_values.true
+    c.all_values.result c.in-Any-1.is c.as_slice.ensures c.all_values.ensures c.if-all_values.true
 
 pub returns-clause-answer : goal.returns-clause-answer
 returns-clause-answer c =
     on_any_faulty c.args.env.now c.args.of c.args.name c.args.regions c.args.actuals c.as_slice.result.now c.args.place c.args.found.now
-    c.all_values.result c.refused.result c.in-Any-2.is c.as_slice.ensures c.all_values.ensures c.if-all_values.false c.refused.ensures
+    c.all_values.result c.refused.result c.in-Any-1.is c.as_slice.ensures c.all_values.ensures c.if-all_values.false c.refused.ensures
