@@ -138,8 +138,13 @@ pub fn call(
             let called = call_on(alloc, env, found, of, name, regions, actuals, place)?;
             Ok(Typed::Known(called))
         }
-        Typed::Any if all_values(actuals.as_slice()) => Ok(Typed::Any),
-        Typed::Any => Err(refused(Kind::Type, place)),
+        Typed::Any => {
+            if all_values(actuals.as_slice()) {
+                Ok(Typed::Any)
+            } else {
+                Err(refused(Kind::Type, place))
+            }
+        }
     }
 }
 

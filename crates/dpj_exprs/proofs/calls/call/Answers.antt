@@ -23,12 +23,12 @@ returns-in-Known-clause-answer c =
     on_known c.args.env.now c.args.of c.in-Known.of c.args.name c.args.regions (map plain_typed c.args.actuals) c.args.place c.args.found.now
     (gives (Some (plain_node c.in_ok-called-in-Known.called)) c.call_on.new.found) c.in-Known.is c.in_ok-called-in-Known.ensures.answer
 
-pub returns-in-Any-clause-answer : goal.returns-in-Any-clause-answer
-returns-in-Any-clause-answer c =
+pub returns-then-all_values-clause-answer : goal.returns-then-all_values-clause-answer
+returns-then-all_values-clause-answer c =
     on_any c.args.env.now c.args.of c.args.name c.args.regions c.args.actuals c.as_slice.result.now c.args.place c.args.found.now
-    c.all_values.result c.in-Any-1.is c.as_slice.ensures c.all_values.ensures c.if-all_values.true
+    c.all_values.result c.in-Any.is c.as_slice.ensures c.all_values.ensures c.if-all_values.true
 
 pub returns-clause-answer : goal.returns-clause-answer
 returns-clause-answer c =
     on_any_faulty c.args.env.now c.args.of c.args.name c.args.regions c.args.actuals c.as_slice.result.now c.args.place c.args.found.now
-    c.all_values.result c.refused.result c.in-Any-1.is c.as_slice.ensures c.all_values.ensures c.if-all_values.false c.refused.ensures
+    c.all_values.result c.refused.result c.in-Any.is c.as_slice.ensures c.all_values.ensures c.if-all_values.false c.refused.ensures
