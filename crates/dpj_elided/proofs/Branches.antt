@@ -19,7 +19,6 @@ use Rattle.dpj_runs.specs.Order.{InOrder, printed_by, trap_in}
 use Rattle.dpj_runs.specs.Runs.{Begun, Ended, Event, Run, Upto, answers, branch, count, later, mine, now, trap_of}
 use Rattle.dpj_runs.specs.Schedules.{Greedy}
 use Rattle.dpj_runs.proofs.Faithful.{begun_upto, ended_upto}
-use Rattle.dpj_runs.proofs.Greatest.{Working}
 use Rattle.dpj_runs.proofs.Mine.{mine_same, mine_other}
 use Rattle.dpj_runs.proofs.Upto.{upto_trans}
 use Rattle.dpj_runs.proofs.Written.{legal_faithful}
@@ -30,8 +29,8 @@ use Rattle.dpj_elided.proofs.Worlds.{more_endings, ResultLike}
 use Rattle.dpj_elided.proofs.Counts.{ended_alike}
 use Rattle.dpj_elided.proofs.Memory.{Holds}
 use Rattle.dpj_elided.proofs.Doing.{structure_step}
-use Rattle.dpj_elided.proofs.Turns.{most_pos, bind_done}
-use Rattle.dpj_elided.proofs.Working.{greatest_now, not_begun, goes_up, goes_into, in_order_after}
+use Rattle.dpj_meaning.proofs.Turns.{most_pos, bind_done}
+use Rattle.dpj_runs.proofs.Working.{Working, greatest_now, not_begun, goes_up, goes_into, in_order_after}
 use Rattle.dpj_elided.proofs.Simulation.{ToldOf, ResultOf, ResultIn, OutOf, OutIn, told_on, Ghost, D}
 use Rattle.dpj_elided.proofs.Simulation.{Ready, RanOut, After, Post, Sim, allowed_next, resid_next}
 

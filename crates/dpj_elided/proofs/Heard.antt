@@ -21,7 +21,7 @@ use Rattle.dpj_elided.proofs.Worlds.{alike_split}
 use Rattle.dpj_elided.proofs.Counts.{brought_alike, ended_alike}
 use Rattle.dpj_elided.proofs.Meaning.{does_alike}
 use Rattle.dpj_elided.proofs.Simulation.{ToldOf, OutOf, ResultOf, ResultIn, told_on}
-use Rattle.dpj_elided.proofs.Turns.{turned_if}
+use Rattle.dpj_meaning.proofs.Turns.{turned_if}
 
 -- these names alone occur in it
 abbrev pub ActionHas : Names → Action → Type 0

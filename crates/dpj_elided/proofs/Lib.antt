@@ -1,12 +1,10 @@
 mod Worlds
 mod Counts
 mod Meaning
-mod Working
 mod Memory
 mod Writes
 mod NewThings
 mod Doing
-mod Turns
 mod Simulation
 mod Loops
 mod Branches

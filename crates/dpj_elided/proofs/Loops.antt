@@ -16,7 +16,7 @@ use Rattle.dpj_steps.specs.Steps.{named_by, stepped}
 use Rattle.dpj_elided.proofs.Worlds.{Names, Distinct, Later, later_none, later_then, FrameLike}
 use Rattle.dpj_elided.proofs.Worlds.{ResultLike, goes_on_like, returns_like, result_later}
 use Rattle.dpj_elided.proofs.Counts.{truth_like}
-use Rattle.dpj_elided.proofs.Turns.{loops_again}
+use Rattle.dpj_meaning.proofs.Turns.{loops_again}
 use Rattle.dpj_elided.proofs.Simulation.{ToldOf, ResultOf, ResultIn, OutOf, OutIn}
 use Rattle.dpj_elided.proofs.Simulation.{Sim, sim_done, sim_same, sim_bind, sim_turn}
 

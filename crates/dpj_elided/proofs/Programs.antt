@@ -26,7 +26,7 @@ use Rattle.dpj_elided.proofs.Worlds.{alike_again, alike_split}
 use Rattle.dpj_elided.proofs.Counts.{joined_alike}
 use Rattle.dpj_elided.proofs.Meaning.{does_alike}
 use Rattle.dpj_elided.proofs.Doing.{structure_step}
-use Rattle.dpj_elided.proofs.Turns.{bind_done}
+use Rattle.dpj_meaning.proofs.Turns.{bind_done}
 use Rattle.dpj_elided.proofs.Simulation.{ToldOf, ResultOf, ResultIn, OutOf, OutIn, told_on, Ghost, noted, bind_assoc, fork_stays, join_stays}
 use Rattle.dpj_elided.proofs.Simulation.{Ready, After, after_then, Post, Sim, ready_same, ready_next, after_noted, out_after, post_after, sim_done, sim_trapped}
 use Rattle.dpj_elided.proofs.Simulation.{sim_later, sim_same, sim_bind, sim_act, sim_make}

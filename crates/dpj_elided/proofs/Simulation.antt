@@ -22,7 +22,6 @@ use Rattle.dpj_runs.specs.Order.{InOrder, printed_by}
 use Rattle.dpj_runs.specs.Runs.{Begun, Event, Right, Run, Upto, answers, later, mine, now}
 use Rattle.dpj_runs.specs.Schedules.{Greedy}
 use Rattle.dpj_runs.proofs.Faithful.{begun_upto}
-use Rattle.dpj_runs.proofs.Greatest.{Working}
 use Rattle.dpj_runs.proofs.Mine.{mine_same, mine_other}
 use Rattle.dpj_runs.proofs.Upto.{upto_trans}
 use Rattle.dpj_runs.proofs.Written.{allowed_from, legal_faithful}
@@ -31,8 +30,8 @@ use Rattle.dpj_elided.proofs.Worlds.{Names, Distinct, Later, later_none, later_t
 use Rattle.dpj_elided.proofs.Worlds.{OwnLike, own_later, AnswerLike}
 use Rattle.dpj_elided.proofs.Memory.{Holds}
 use Rattle.dpj_elided.proofs.Doing.{own_step, structure_step, turn_step}
-use Rattle.dpj_elided.proofs.Turns.{most_pos, turned_if}
-use Rattle.dpj_elided.proofs.Working.{greatest_now, may, stays, in_order_after}
+use Rattle.dpj_meaning.proofs.Turns.{most_pos, turned_if}
+use Rattle.dpj_runs.proofs.Working.{Working, greatest_now, may, stays, in_order_after}
 
 abbrev pub ToldOf : Type 0
 ToldOf = Told Name LocalRegion

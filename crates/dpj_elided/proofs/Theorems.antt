@@ -41,7 +41,7 @@ use Rattle.dpj_elided.proofs.Fuel.{Same, same_through}
 use Rattle.dpj_elided.proofs.Simulation.{D}
 use Rattle.dpj_elided.proofs.Branches.{One, PostOne, fallen, one_branch}
 use Rattle.dpj_elided.proofs.Programs.{prog_sim}
-use Rattle.dpj_elided.proofs.Working.{starts}
+use Rattle.dpj_runs.proofs.Working.{starts}
 
 -- values under their names
 value_renamed : {ns : Names} {v : ValueOver ℕ} {u : Value} → ValueLike ns v u → u ≡ renamed_value ns v

@@ -3,4 +3,4 @@ mod Entries
 mod Modes
 mod Samples
 pub mod Tasks
-mod Turns
+pub mod Turns

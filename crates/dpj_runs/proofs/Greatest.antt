@@ -24,41 +24,7 @@ use Rattle.dpj_runs.proofs.Sorted.{lex_trans}
 use Rattle.dpj_runs.proofs.Sorting.{AllBefore, before_nil, before_more, order_more, lex_snoc}
 use Rattle.dpj_runs.proofs.Ready.{ready_or, AtJoin, held_live}
 use Rattle.dpj_runs.proofs.ForkSince.{ForkSince, fork_since, count_since}
-
--- from one number of a task to the next, into a branch, and out of it to what follows its begin
-next_number : (p : Path) (k : ℕ) → Lex (position p k) (position p (suc k))
-next_number p k = lex_snoc (way p) k (suc k) (omega arith)
-
-lex_append : (zs : List ℕ) {xs ys : List ℕ} → Lex xs ys → Lex (zs ++ xs) (zs ++ ys)
-lex_append [] h = h
-lex_append (z ∷ zs) h = level_with (lex_append zs h)
-
-child_way : (p : Path) (i b k : ℕ) → position ((i, b) ∷ p) k ≡ way p ++ suc (i + b) ∷ k ∷ []
-child_way p i b k = append_assoc (way p) (suc (i + b) ∷ []) (k ∷ [])
-
-into_branch : (p : Path) (i b : ℕ) → Lex (position p (suc (i + b))) (position ((i, b) ∷ p) 0)
-into_branch p i b = subst (Lex (position p (suc (i + b)))) (sym (child_way p i b 0)) (lex_append (way p) (level_with shorter))
-
-out_of_branch : (p : Path) (i b k : ℕ) → Lex (position ((i, b) ∷ p) k) (position p (suc (suc (i + b))))
-out_of_branch p i b k = subst (λ l. Lex l (position p (suc (suc (i + b))))) (sym (child_way p i b k)) (lex_append (way p) (lower (omega arith)))
-
-before_on : {R : Run} {l m : List ℕ} → AllBefore R l → Lex l m → AllBefore R m
-before_on a h = record { each = λ x X u. lex_trans (a.each x X u) h }
-
--- what a task that has begun is about while w is at work: it has ended, or is w, or stands above it
-pub data Held (R : Run) (w p : Path) : Type 0 where
-  has_ended : (x : Ending) → Ended R p x → Held R w p
-  at_work : p ≡ w → Held R w p
-  waits : (xs : Path) (u : ℕ × ℕ) → w ≡ xs ++ u ∷ p → Held R w p
-
--- the task at work: all events stand before its next one, and each task above it has made no more than the begin on the way to it
-pub record Working (P : Program) (R : Run) (w : Path) : Type 0 where
-  pub task : Task
-  pub begun : Begun P R w task
-  pub live : (x : Ending) → Ended R w x → ⊥
-  pub front : AllBefore R (position w (count R w))
-  pub held : (p : Path) (t : Task) → Begun P R p t → Held R w p
-  pub way_to : (xs a : Path) (u : ℕ × ℕ) → w ≡ xs ++ u ∷ a → count R a ≡ suc (suc (u.0 + u.1))
+use Rattle.dpj_runs.proofs.Working.{Held, has_ended, at_work, waits, Working, begun_before, may, greatest_now, stays, goes_up, goes_into, in_order_after, starts}
 
 pub data Worker (P : Program) (R : Run) : Type 0 where
   some : (w : Path) → Working P R w → Worker P R
@@ -69,16 +35,6 @@ some_there [] n l = absurd (omega arith)
 some_there (x ∷ xs) zero l = (x, refl)
 some_there (x ∷ xs) (suc n) l = some_there xs n (omega arith)
 
--- an event that begins nothing leaves what has begun
-begun_before : (P : Program) (R : Run) (e : Event) (p : Path) (t : Task) → ((b : ℕ) → e.act ≡ Begin b → ⊥) → Begun P (e ∷ R) p t → Begun P R p t
-begun_before P R e p t n (root a b) = root a b
-begun_before P R e p t n (branch q u F f ts B g a hf fq fn fa there hg gq ga gn) = go (upto_split hg) (upto_split hf)
-  where
-    go : ((g ≡ e) × (B ≡ R)) ⊎ Upto (g ∷ B) R → ((f ≡ e) × (F ≡ R)) ⊎ Upto (f ∷ F) R → Begun P R p t
-    go (inl y) z = absurd (n u.1 (ap (λ w. w.act) (sym y.0) ∙ ga))
-    go (inr y) (inl z) = absurd (let a = number_of q y gq in let c = ap (λ Z. count Z q) z.1 in omega arith)
-    go (inr y) (inr z) = branch q u F f ts B g a z fq fn fa there y gq ga gn
-
 module _ (P : Program) (D : Disciplined P) (V : Lively P) (T : InTurn P) (K : Known P) where
   module _ {R : Run} (l : Legal P R) {w : Path} (k : Working P R w) where
     lf : Faithful P R
@@ -87,53 +43,9 @@ module _ (P : Program) (D : Disciplined P) (V : Lively P) (T : InTurn P) (K : Kn
     known : (p : Path) (t : Task) → Begun P R p t → (o : Own) → Asks P p t (answers (mine R p)) (Do o) → (a : Answer) × (reply P R p o ≡ Some a)
     known p t b o h = K.replies R l p t b o h
 
-    -- what a task above stands in, it stood in at the fork
-    same_hold : (xs q : Path) (u : ℕ × ℕ) → w ≡ xs ++ u ∷ q → hold (mine R q) ≡ hold (first_of u.0 (mine R q))
-    same_hold xs q u e = hold_since since begins ∙ ap (λ c. hold_after c (hold (mine f.before q))) f.act ∙ ap hold (sym firsts)
-      where
-        f : ForkAt R q u
-        f = begun_fork P D xs w q u lf k.begun e
-
-        since : Upto (f.event ∷ mine f.before q) (mine R q)
-        since = mine_at q f.stands f.path
-
-        firsts : first_of u.0 (mine R q) ≡ mine f.before q
-        firsts = subst (λ n. first_of n (mine R q) ≡ mine f.before q) f.number (first_is (upto_tail since))
-
-        begins : (X : Run) (x : Event) → Upto (x ∷ X) (mine R q) → length (f.event ∷ mine f.before q) ≤ length X → (b : ℕ) × (x.act ≡ Begin b)
-        begins X x h m =
-            let v = found R q h in
-            let vn = ap length v.mine_is in
-            let s = upto_length h in
-            let n = k.way_to xs q u e in
-            let fn = f.number in
-            let in_them = slice_get_within f.tasks.tasks u.1 f.task f.is_there in (
-              count v.before q - suc u.0,
-              begin_after P D q f.tasks (count v.before q - suc u.0) lf f.stands f.path f.act v.stands v.path
-                  (omega (arith, vn, m, fn)) (omega (arith, vn, s, n, in_them)),
-            )
-
-    -- so no entry of the task at work has to wait
-    may : (E : List Effect) → CanEnter P.rule R w E
-    may E = record { clear = λ s q F h. absurd (at s q F h (opener_of R q F h)) }
-      where
-        at : standing R w ≡ Outside → (q : Path) (F : List Effect) → standing R q ≡ Inside q F → Opener R q F → ⊥
-        at s q F h o = go (k.held q b.0 b.1)
-          where
-            b : (t : Task) × Begun P R q t
-            b = begun_held P R q o.depth F lf o.held
-
-            go : Held R w q → ⊥
-            go (has_ended x g) = held_live P D V R lf known q o.depth F o.held x g
-            go (at_work e) = let z : Inside q F ≡ Outside = sym h ∙ ap (λ r. standing R r) e ∙ s in cc
-            go (waits xs u e) =
-                let out : above R (xs ++ u ∷ q) ≡ Outside = ap (λ r. above R r) (sym e) ∙ outside_above (above R w) w (hold (mine R w)) s in
-                let z : Out_of ≡ In_block o.depth F = sym (above_out R xs q u out) ∙ sym (same_hold xs q u e) ∙ o.held in
-                cc
-
     -- and it is ready
     ready_worker : (e : Event) × (e.path ≡ w) × Admitted P R e
-    ready_worker = ready_or P D V R lf known ((e : Event) × (e.path ≡ w) × Admitted P R e) w k.task k.begun k.live may (λ e q a. (e, q, a)) down
+    ready_worker = ready_or P D V R lf known ((e : Event) × (e.path ≡ w) × Admitted P R e) w k.task k.begun k.live (may P D l k) (λ e q a. (e, q, a)) down
       where
         down : (j : AtJoin P D V R lf known w k.task) (i : ℕ) (s : Task) → Begun P R ((count j.before w, 0 + i) ∷ w) s
             → ((x : Ending) → Ended R ((count j.before w, 0 + i) ∷ w) x → ⊥) → (e : Event) × (e.path ≡ w) × Admitted P R e
@@ -168,7 +80,7 @@ module _ (P : Program) (D : Disciplined P) (V : Lively P) (T : InTurn P) (K : Kn
 
     -- and its event is that of the greatest number
     ready_greatest : (e : Event) × (n : ℕ) × Ready P R n e × Greatest P R e
-    ready_greatest = (r.0, m.0, record { allowed = allowed_from P D R r.0 lf r.2; number = m.1 }, record { none = none_greater })
+    ready_greatest = (r.0, m.0, record { allowed = allowed_from P D R r.0 lf r.2; number = m.1 }, greatest_now P D l k r.0 r.1)
       where
         r : (e : Event) × (e.path ≡ w) × Admitted P R e
         r = ready_worker
@@ -176,104 +88,10 @@ module _ (P : Program) (D : Disciplined P) (V : Lively P) (T : InTurn P) (K : Kn
         m : (j : ℕ) × Numbered R j r.0.path
         m = number_of_begun (let d = r.2 in d.follows.begun)
 
-        none_greater : (f : Event) (j n : ℕ) → Allowed P R f → Numbered R j f.path → Numbered R n r.0.path → j ≤ n
-        none_greater f j n a nf ne = go (k.held f.path a.follows.task a.follows.begun)
-          where
-            nw : Numbered R n w
-            nw = subst (λ p. Numbered R n p) r.1 ne
-
-            go : Held R w f.path → j ≤ n
-            go (at_work q) = let h = number_same nf (subst (λ p. Numbered R n p) (sym q) nw) in omega arith
-            go (has_ended x h) =
-                let fl : Faithful P (f ∷ R) = (a.follows, lf) in
-                let i = none_after_end P D f.path fl (later h.stands) h.path h.act now refl in
-                let c = number_of f.path h.stands h.path in
-                absurd (omega arith)
-            go (waits xs u q) = let b = number_below P xs f.path u n lf (subst (λ p. Numbered R n p) q nw) nf in omega arith
-
   -- one event of the task at work
   module _ {R : Run} {e : Event} (l : Legal P (e ∷ R)) {w : Path} (k : Working P R w) (own : e.path ≡ w) where
     fl : Faithful P (e ∷ R)
     fl = legal_faithful P (e ∷ R) l
-
-    replies : (p : Path) (t : Task) → Begun P R p t → (o : Own) → Asks P p t (answers (mine R p)) (Do o) → (a : Answer) × (reply P R p o ≡ Some a)
-    replies p t b o h = K.replies R l.1 p t b o h
-
-    not_own : (xs a : Path) (u : ℕ × ℕ) → w ≡ xs ++ u ∷ a → e.path ≡ a → ⊥
-    not_own xs a u h g = not_below_self a xs u (sym g ∙ own ∙ h)
-
-    others : (xs a : Path) (u : ℕ × ℕ) → w ≡ xs ++ u ∷ a → count (e ∷ R) a ≡ suc (suc (u.0 + u.1))
-    others xs a u h = ap length (mine_other e R a (not_own xs a u h)) ∙ k.way_to xs a u h
-
-    own_count : count (e ∷ R) w ≡ suc (count R w)
-    own_count = ap length (mine_same e R w own)
-
-    at_front : Lex (position e.path (count R e.path)) (position w (suc (count R w)))
-    at_front = subst (λ p. Lex (position p (count R p)) (position w (suc (count R w)))) (sym own) (next_number w (count R w))
-
-    front_now : AllBefore (e ∷ R) (position w (suc (count R w)))
-    front_now = before_more e (before_on k.front (next_number w (count R w))) at_front
-
-    -- an end in the longer run is this event or stands before it
-    end_cases : (p : Path) (x : Ending) → Ended (e ∷ R) p x → ((e.path ≡ p) × (e.act ≡ End x)) ⊎ Ended R p x
-    end_cases p x g = go (upto_split g.stands)
-      where
-        go : ((g.event ≡ e) × (g.before ≡ R)) ⊎ Upto (g.event ∷ g.before) R → ((e.path ≡ p) × (e.act ≡ End x)) ⊎ Ended R p x
-        go (inl y) = inl (ap (λ z. z.path) (sym y.0) ∙ g.path, ap (λ z. z.act) (sym y.0) ∙ g.act)
-        go (inr y) = inr (record { before = g.before; event = g.event; stands = y; path = g.path; act = g.act })
-
-    older : {p : Path} → Held R w p → Held (e ∷ R) w p
-    older (has_ended x g) = has_ended x (ended_upto (later now) g)
-    older (at_work q) = at_work q
-    older (waits xs u q) = waits xs u q
-
-    -- it goes on
-    stays : ((x : Ending) → e.act ≡ End x → ⊥) → ((b : ℕ) → e.act ≡ Begin b → ⊥) → Working P (e ∷ R) w
-    stays no_end no_begin = record {
-      task = k.task;
-      begun = begun_upto (later now) k.begun;
-      live = λ x g. ⊎_elim (λ y. no_end x y.1) (λ y. k.live x y) (end_cases w x g);
-      front = subst (λ n. AllBefore (e ∷ R) (position w n)) (sym own_count) front_now;
-      held = λ p t b. older (k.held p t (begun_before P R e p t no_begin b));
-      way_to = others;
-    }
-
-    -- it ends
-    parent_goes_on : (x : Ending) → e.act ≡ End x → (q : Path) (u : ℕ × ℕ) → w ≡ u ∷ q → (t : Task) → Begun P R q t → Working P (e ∷ R) q
-    parent_goes_on x act q u wq t b = record {
-      task = t;
-      begun = begun_upto (later now) b;
-      live = live;
-      front = subst (λ n. AllBefore (e ∷ R) (position q n)) (sym count_q) (before_more e (before_on k.front up) at_e);
-      held = λ p s c. held p (k.held p s (begun_before P R e p s no_begin c));
-      way_to = λ xs a v h. others (u ∷ xs) a v (wq ∙ ap (λ z. u ∷ z) h);
-    }
-      where
-        no_begin : (b : ℕ) → e.act ≡ Begin b → ⊥
-        no_begin b h = let z : End x ≡ Begin b = sym act ∙ h in cc
-
-        count_q : count (e ∷ R) q ≡ suc (suc (u.0 + u.1))
-        count_q = others [] q u wq
-
-        up : Lex (position w (count R w)) (position q (suc (suc (u.0 + u.1))))
-        up = subst (λ p. Lex (position p (count R w)) (position q (suc (suc (u.0 + u.1))))) (sym wq) (out_of_branch q u.0 u.1 (count R w))
-
-        at_e : Lex (position e.path (count R e.path)) (position q (suc (suc (u.0 + u.1))))
-        at_e = subst (λ p. Lex (position p (count R p)) (position q (suc (suc (u.0 + u.1))))) (sym own) up
-
-        live : (y : Ending) → Ended (e ∷ R) q y → ⊥
-        live y g = ⊎_elim (λ z. not_own [] q u wq z.0) (λ h. dead h) (end_cases q y g)
-          where
-            dead : Ended R q y → ⊥
-            dead h =
-                let c = complete P D q fl fl.1 (record { both = λ p. inr (mine_step e R p) }) h (u ∷ []) R e now (own ∙ wq) in
-                k.live c.0 (subst (λ p. Ended R p c.0) (sym wq) c.1)
-
-        held : (p : Path) → Held R w p → Held (e ∷ R) q p
-        held p (has_ended y g) = has_ended y (ended_upto (later now) g)
-        held p (at_work h) = has_ended x (record { before = R; event = e; stands = now; path = own ∙ sym h; act = act })
-        held p (waits [] v h) = let z : u ∷ q ≡ v ∷ p = sym wq ∙ h in let m : q ≡ p = cc in at_work (sym m)
-        held p (waits (y ∷ ys) v h) = let z : u ∷ q ≡ y ∷ (ys ++ v ∷ p) = sym wq ∙ h in let m : q ≡ ys ++ v ∷ p = cc in waits ys v m
 
     all_done : (x : Ending) → e.act ≡ End x → w ≡ [] → (p : Path) (t : Task) → Begun P (e ∷ R) p t → (y : Ending) × Ended (e ∷ R) p y
     all_done x act wn p t b = go (k.held p t (begun_before P R e p t no_begin b))
@@ -304,7 +122,7 @@ module _ (P : Program) (D : Disciplined P) (V : Lively P) (T : InTurn P) (K : Kn
 
         make : ((p : Path) (t : Task) (got : List Answer) (b : ℕ) → Asks P p t got (Begin b) → (ts : Branches) × (b < length ts.tasks)
             × AfterFork P p t got ts b) → (p : Path) × Working P (e ∷ R) p
-        make forked = ((i, b) ∷ w, record { task = s; begun = begun; live = live; front = front; held = held; way_to = way_to })
+        make forked = ((i, b) ∷ w, goes_into P D l k own b act j.before j.fork f.0 there.0 j.stands j.path j.act there.1 i refl number)
           where
             f : (ts : Branches) × (b < length ts.tasks) × AfterFork P w k.task (answers (mine R w)) ts b
             f = forked w k.task (answers (mine R w)) b (e.turns, asks)
@@ -321,110 +139,22 @@ module _ (P : Program) (D : Disciplined P) (V : Lively P) (T : InTurn P) (K : Kn
             there : (s : Task) × (slice_get f.0.tasks b ≡ Some s)
             there = some_there f.0.tasks b f.1
 
-            s : Task
-            s = there.0
-
-            begun : Begun P (e ∷ R) ((i, b) ∷ w) s
-            begun = branch w (i, b) j.before j.fork f.0 R e refl (later j.stands) j.path refl j.act there.1 now own act number
-
-            -- the branch has made nothing
-            nothing : {Y : Run} {y : Event} → Upto (y ∷ Y) R → y.path ≡ (i, b) ∷ w → ⊥
-            nothing {Y} {y} h q =
-                let g = fork_above P D [] w (i, b) fl.1 h q in
-                let m = number_of w (upto_trans g.begin_stands (upto_tail h)) g.begin_path in
-                let n = g.begin_number in
-                omega (arith, number, m, n)
-
-            count_none : count (e ∷ R) ((i, b) ∷ w) ≡ 0
-            count_none = ⊎_elim (λ m. absurd (none_there m)) (λ m. omega arith) (cases_lt 0 (count (e ∷ R) ((i, b) ∷ w)))
-              where
-                none_there : 0 < count (e ∷ R) ((i, b) ∷ w) → ⊥
-                none_there m = go z (upto_split z.2)
-                  where
-                    z : (y : Event) × (Y : Run) × Upto (y ∷ Y) (e ∷ R) × (y.path ≡ (i, b) ∷ w) × (count Y ((i, b) ∷ w) ≡ 0)
-                    z = numbered (e ∷ R) ((i, b) ∷ w) 0 m
-
-                    go : (z : (y : Event) × (Y : Run) × Upto (y ∷ Y) (e ∷ R) × (y.path ≡ (i, b) ∷ w) × (count Y ((i, b) ∷ w) ≡ 0)) → ((z.0 ≡ e) × (z.1 ≡ R))
-                        ⊎ Upto (z.0 ∷ z.1) R → ⊥
-                    go z (inl h) = not_below_self w [] (i, b) (sym own ∙ ap (λ v. v.path) (sym h.0) ∙ z.3)
-                    go z (inr h) = nothing h z.3
-
-            live : (x : Ending) → Ended (e ∷ R) ((i, b) ∷ w) x → ⊥
-            live x g = ⊎_elim (λ y. (let c : End x ≡ Begin b = sym y.1 ∙ act in cc)) (λ y. nothing y.stands y.path) (end_cases ((i, b) ∷ w) x g)
-
-            step : Lex (position w (count R w)) (position ((i, b) ∷ w) 0)
-            step = subst (λ n. Lex (position w n) (position ((i, b) ∷ w) 0)) (sym number) (into_branch w i b)
-
-            front : AllBefore (e ∷ R) (position ((i, b) ∷ w) (count (e ∷ R) ((i, b) ∷ w)))
-            front = subst (λ n. AllBefore (e ∷ R) (position ((i, b) ∷ w) n)) (sym count_none)
-                (before_more e (before_on k.front step) (subst (λ p. Lex (position p (count R p)) (position ((i, b) ∷ w) 0)) (sym own) step))
-
-            below : (p : Path) → Held R w p → Held (e ∷ R) ((i, b) ∷ w) p
-            below p (has_ended x g) = has_ended x (ended_upto (later now) g)
-            below p (at_work h) = waits [] (i, b) (ap (λ q. (i, b) ∷ q) (sym h))
-            below p (waits xs u h) = waits ((i, b) ∷ xs) u (ap (λ q. (i, b) ∷ q) h)
-
-            held : (p : Path) (t : Task) → Begun P (e ∷ R) p t → Held (e ∷ R) ((i, b) ∷ w) p
-            held p t (root a c) = below p (k.held p t (root a c))
-            held p t (branch q u F g ts B h a g1 g2 g3 g4 g5 h1 h2 h3 h4) = go (upto_split h1) (upto_split g1)
-              where
-                go : ((h ≡ e) × (B ≡ R)) ⊎ Upto (h ∷ B) R → ((g ≡ e) × (F ≡ R)) ⊎ Upto (g ∷ F) R → Held (e ∷ R) ((i, b) ∷ w) p
-                go (inl y) z =
-                    let qw : q ≡ w = sym h2 ∙ ap (λ v. v.path) y.0 ∙ own in
-                    let ub : u.1 ≡ b = same_begin u.1 b (sym h3 ∙ ap (λ v. v.act) y.0 ∙ act) in
-                    let n : count R w ≡ suc (u.0 + u.1) = (λ z. count (sym y.1 z) (sym qw z)) ∙ h4 in
-                    let ui : u.0 ≡ i = omega (arith, n, number, ub) in
-                    at_work (a ∙ (λ z. pair_eq u (i, b) ui ub z ∷ qw z))
-                go (inr y) (inl z) = absurd (let n = number_of q y h2 in let c = ap (λ Z. count Z q) z.1 in omega arith)
-                go (inr y) (inr z) = below p (k.held p t (branch q u F g ts B h a z g2 g3 g4 g5 y h2 h3 h4))
-
-            way_to : (xs a : Path) (u : ℕ × ℕ) → (i, b) ∷ w ≡ xs ++ u ∷ a → count (e ∷ R) a ≡ suc (suc (u.0 + u.1))
-            way_to [] a u h =
-                let ub : (i, b) ≡ u = cc in
-                let wa : w ≡ a = cc in
-                let n0 = ap (λ (v : ℕ × ℕ). v.0) ub in
-                let n1 = ap (λ (v : ℕ × ℕ). v.1) ub in
-                let c = own_count in
-                ap (λ q. count (e ∷ R) q) (sym wa) ∙ omega (arith, c, number, n0, n1)
-            way_to (x ∷ xs) a u h = let wa : w ≡ xs ++ u ∷ a = cc in others xs a u wa
-
     worker_after : Worker P (e ∷ R)
     worker_after = go e.act refl
       where
         go : (a : Action) → e.act ≡ a → Worker P (e ∷ R)
-        go (Do o) h = some w (stays (λ x g. (let z : Do o ≡ End x = sym h ∙ g in cc)) (λ b g. (let z : Do o ≡ Begin b = sym h ∙ g in cc)))
-        go (Fork ts) h = some w (stays (λ x g. (let z : Fork ts ≡ End x = sym h ∙ g in cc)) (λ b g. (let z : Fork ts ≡ Begin b = sym h ∙ g in cc)))
-        go Join h = some w (stays (λ x g. (let z : Join ≡ End x = sym h ∙ g in cc)) (λ b g. (let z : Join ≡ Begin b = sym h ∙ g in cc)))
+        go (Do o) h = some w (stays P D l k own (λ x g. (let z : Do o ≡ End x = sym h ∙ g in cc)) (λ b g. (let z : Do o ≡ Begin b = sym h ∙ g in cc)))
+        go (Fork ts) h = some w (stays P D l k own (λ x g. (let z : Fork ts ≡ End x = sym h ∙ g in cc)) (λ b g. (let z : Fork ts ≡ Begin b = sym h ∙ g in cc)))
+        go Join h = some w (stays P D l k own (λ x g. (let z : Join ≡ End x = sym h ∙ g in cc)) (λ b g. (let z : Join ≡ Begin b = sym h ∙ g in cc)))
         go (Begin b) h = let z = branch_works b h in some z.0 z.1
         go (End x) h = ended_one k.begun
           where
             ended_one : Begun P R w k.task → Worker P (e ∷ R)
             ended_one (root a c) = none (all_done x h a)
-            ended_one (branch q u F g ts B f a g1 g2 g3 g4 g5 f1 f2 f3 f4) = let b = begun_at P q fl.1 f1 f2 in some q (parent_goes_on x h q u a b.0 b.1)
-
-    in_order_after : InOrder R → InOrder (e ∷ R)
-    in_order_after o = order_more e o (subst (λ p. AllBefore R (position p (count R p))) (sym own) k.front)
-
-  starts : Worker P []
-  starts = some [] (record {
-    task = P.root;
-    begun = root refl refl;
-    live = λ x g. upto_none g.stands;
-    front = before_nil _;
-    held = λ p t b. at_root p b;
-    way_to = λ xs a u h. absurd (none_above xs a u h);
-  })
-    where
-      at_root : (p : Path) {t : Task} → Begun P [] p t → Held [] [] p
-      at_root p (root a c) = at_work a
-      at_root p (branch q u F g ts B f a g1 g2 g3 g4 g5 f1 f2 f3 f4) = absurd (upto_none g1)
-
-      none_above : (xs a : Path) (u : ℕ × ℕ) → [] ≡ xs ++ u ∷ a → ⊥
-      none_above [] a u h = cc
-      none_above (y ∷ ys) a u h = cc
+            ended_one (branch q u F g ts B f a g1 g2 g3 g4 g5 f1 f2 f3 f4) = let b = begun_at P q fl.1 f1 f2 in some q (goes_up P D l k own x h q u a b.0 b.1)
 
   pub greatest_order : (R : Run) → Legal P R → Greedy P R → InOrder R × Worker P R
-  greatest_order [] l g = (record { each = λ y x Y X h k. elim h [ ] }, starts)
+  greatest_order [] l g = (record { each = λ y x Y X h k. elim h [ ] }, some [] (starts P D))
   greatest_order (e ∷ R) l g = go (greatest_order R l.1 g.1)
     where
       go : InOrder R × Worker P R → InOrder (e ∷ R) × Worker P (e ∷ R)
@@ -434,7 +164,7 @@ module _ (P : Program) (D : Disciplined P) (V : Lively P) (T : InTurn P) (K : Kn
           by o (some w k) =
               let n = number_of_begun l.0.follows.begun in
               let own = greatest_is l.1 k n.0 l.0 n.1 g.0 in
-              (in_order_after l k own o, worker_after l k own)
+              (in_order_after P D l k own o, worker_after l k own)
           by o (none f) =
               let a = l.0.follows in
               let h = f e.path a.task a.begun in

@@ -25,5 +25,6 @@ pub mod Play
 pub mod Tests
 pub mod Samples
 pub mod Finishing
+pub mod Working
 pub mod Greatest
 pub mod ForkSince

@@ -21,7 +21,6 @@ use Rattle.dpj_runs.proofs.Carry.{has_event, begun_held}
 use Rattle.dpj_runs.proofs.Numbers.{number_below, number_same, same_begin}
 use Rattle.dpj_runs.proofs.Sorted.{lex_trans}
 use Rattle.dpj_runs.proofs.Sorting.{AllBefore, before_nil, before_more, order_more, lex_snoc}
-use Rattle.dpj_runs.proofs.Greatest.{Held, has_ended, at_work, waits, Working}
 
 -- from one number of a task to the next, into a branch, and out of it to what follows its begin
 next_number : (p : Path) (k : ℕ) → Lex (position p k) (position p (suc k))
@@ -43,8 +42,23 @@ out_of_branch p i b k = subst (λ l. Lex l (position p (suc (suc (i + b))))) (sy
 before_on : {R : Run} {l m : List ℕ} → AllBefore R l → Lex l m → AllBefore R m
 before_on a h = record { each = λ x X u. lex_trans (a.each x X u) h }
 
+-- what a task that has begun is about while w is at work: it has ended, or is w, or stands above it
+pub data Held (R : Run) (w p : Path) : Type 0 where
+  has_ended : (x : Ending) → Ended R p x → Held R w p
+  at_work : p ≡ w → Held R w p
+  waits : (xs : Path) (u : ℕ × ℕ) → w ≡ xs ++ u ∷ p → Held R w p
+
+-- the task at work: all events stand before its next one, and each task above it has made no more than the begin on the way to it
+pub record Working (P : Program) (R : Run) (w : Path) : Type 0 where
+  pub task : Task
+  pub begun : Begun P R w task
+  pub live : (x : Ending) → Ended R w x → ⊥
+  pub front : AllBefore R (position w (count R w))
+  pub held : (p : Path) (t : Task) → Begun P R p t → Held R w p
+  pub way_to : (xs a : Path) (u : ℕ × ℕ) → w ≡ xs ++ u ∷ a → count R a ≡ suc (suc (u.0 + u.1))
+
 -- an event that begins nothing leaves what has begun
-begun_before : (P : Program) (R : Run) (e : Event) (p : Path) (t : Task) → ((b : ℕ) → e.act ≡ Begin b → ⊥) → Begun P (e ∷ R) p t → Begun P R p t
+pub begun_before : (P : Program) (R : Run) (e : Event) (p : Path) (t : Task) → ((b : ℕ) → e.act ≡ Begin b → ⊥) → Begun P (e ∷ R) p t → Begun P R p t
 begun_before P R e p t n (root a b) = root a b
 begun_before P R e p t n (branch q u F f ts B g a hf fq fn fa there hg gq ga gn) = go (upto_split hg) (upto_split hf)
   where
