@@ -1,28 +1,21 @@
 -- The run in which the ready task with the greatest number always goes on stands in the order of elision.
-use Rattle.std.proofs.Common.{◌≡◌, ℕ, zero, suc, ◌+◌, ◌-◌, ◌<◌, ◌≤◌, ◌⊎◌, inl, inr, ⊎_elim, List, [], ◌∷◌, ◌++◌, length, refl, sym, ap, ◌∙◌, subst, arith, Some}
+use Rattle.std.proofs.Common.{◌≡◌, ℕ, zero, suc, ◌+◌, ◌<◌, List, [], ◌∷◌, ◌++◌, length, refl, sym, ap, ◌∙◌, subst, arith, Some}
 use Rattle.std.proofs.Common.{slice_get, append_assoc}
-use Rattle.std.proofs.lemmas.Bool.{cases_lt}
-use Rattle.std.proofs.lemmas.Option.{slice_get_within}
 use Rattle.dpj_runs.specs.Actions.{Action, Answer, Asks, Begin, Branches, Do, End, Ending, Fork, Join, Next, Own, Program, Task}
-use Rattle.dpj_runs.specs.Blocks.{Allowed, In_block, Legal, Out_of, hold, hold_after}
+use Rattle.dpj_runs.specs.Blocks.{Allowed, Legal}
 use Rattle.dpj_runs.specs.Meaning.{AfterFork, Disciplined, InTurn, Known, Lively}
-use Rattle.dpj_runs.specs.Objects.{Effect, Path}
-use Rattle.dpj_runs.specs.Order.{InOrder, Lex, level_with, lower, position, shorter, way}
-use Rattle.dpj_runs.specs.Runs.{Begun, Ended, Event, Faithful, Run, Upto, answers, branch, count, later, mine, now, reply, root}
+use Rattle.dpj_runs.specs.Objects.{Path}
+use Rattle.dpj_runs.specs.Order.{InOrder}
+use Rattle.dpj_runs.specs.Runs.{Begun, Ended, Event, Faithful, Run, answers, branch, count, later, mine, now, reply, root}
 use Rattle.dpj_runs.specs.Schedules.{Greatest, Greedy, Numbered, Ready}
-use Rattle.dpj_runs.specs.Standing.{Admitted, CanEnter, Inside, Outside, above, first_of, standing}
-use Rattle.dpj_runs.proofs.Upto.{upto_trans, upto_length, upto_split, upto_none, upto_tail}
-use Rattle.dpj_runs.proofs.Mine.{mine_same, mine_other, mine_step, mine_at, found, number_of, numbered}
-use Rattle.dpj_runs.proofs.Places.{pair_eq, not_below_self}
-use Rattle.dpj_runs.proofs.Faithful.{agree_self, same_task, begun_upto, ended_upto, none_after_end, fork_above, begin_after, ForkAt}
-use Rattle.dpj_runs.proofs.Between.{complete}
-use Rattle.dpj_runs.proofs.Standing.{Opener, opener_of, first_is, hold_since, outside_above, above_out, begun_fork}
+use Rattle.dpj_runs.specs.Standing.{Admitted}
+use Rattle.dpj_runs.proofs.Mine.{number_of}
+use Rattle.dpj_runs.proofs.Places.{not_below_self}
+use Rattle.dpj_runs.proofs.Faithful.{agree_self, same_task, ended_upto, none_after_end}
 use Rattle.dpj_runs.proofs.Written.{legal_faithful, allowed_from}
-use Rattle.dpj_runs.proofs.Carry.{begun_at, begun_held}
-use Rattle.dpj_runs.proofs.Numbers.{number_below, number_of_begun, number_same, same_begin}
-use Rattle.dpj_runs.proofs.Sorted.{lex_trans}
-use Rattle.dpj_runs.proofs.Sorting.{AllBefore, before_nil, before_more, order_more, lex_snoc}
-use Rattle.dpj_runs.proofs.Ready.{ready_or, AtJoin, held_live}
+use Rattle.dpj_runs.proofs.Carry.{begun_at}
+use Rattle.dpj_runs.proofs.Numbers.{number_below, number_of_begun}
+use Rattle.dpj_runs.proofs.Ready.{ready_or, AtJoin}
 use Rattle.dpj_runs.proofs.ForkSince.{ForkSince, fork_since, count_since}
 use Rattle.dpj_runs.proofs.Working.{Held, has_ended, at_work, waits, Working, begun_before, may, greatest_now, stays, goes_up, goes_into, in_order_after, starts}
 
