@@ -15,9 +15,12 @@ pub mod Indices
 pub mod Locals
 pub mod Making
 pub mod Members
+pub mod Placed
 pub mod Quiet
+pub mod Regions
 pub mod Root
 pub mod Statements
 pub mod Typed
 pub mod Types
+pub mod Wider
 pub mod Work

@@ -1,5 +1,5 @@
 -- Locals that are assigned and declared.
-use Rattle.std.proofs.Common.{◌≡◌, ◌≢◌, ◌<◌, ⊎_elim, inl, inr, ℕ, ℤ, suc, ◌+◌, Bool, true, false, ◌==◌, List, [], ◌∷◌, refl, sym, ap, ◌∙◌, subst, arith, Some, None, slice_set, slice_index_or}
+use Rattle.std.proofs.Common.{◌≡◌, ◌≢◌, ◌<◌, ⊎_elim, inl, inr, ℕ, ℤ, ◌+◌, Bool, true, false, ◌==◌, List, [], ◌∷◌, refl, sym, ap, ◌∙◌, subst, arith, Some, None, slice_set, slice_index_or}
 use Rattle.std.specs.Prelude.{All}
 use Rattle.std.proofs.lemmas.List.{length-set}
 use Rattle.std.proofs.lemmas.List.Elements.{All-head, All-tail}
@@ -13,10 +13,10 @@ use Rattle.dpj_base.specs.declared.region.Rpl.{Rpl}
 use Rattle.dpj_base.specs.declared.effect.Effect.{Effect}
 use Rattle.dpj_base.specs.Matching.{put_elem, head_region, Matches, with_index}
 use Rattle.dpj_base.specs.Regions.{generalised}
-use Rattle.dpj_base.specs.Types.{PlainType, int, boolean, void, null, class, array}
+use Rattle.dpj_base.specs.Types.{PlainType, int}
 use Rattle.dpj_typed.specs.Effects.{Own as EffectOwn, does, uses, effect_of, mapped, outside_variable}
 use Rattle.dpj_typed.specs.Plain.{PlainProgram}
-use Rattle.dpj_typed.specs.Scope.{Scope, variable, frozen, constant, part, reserved, with_local}
+use Rattle.dpj_typed.specs.Scope.{Scope, variable, constant, part, reserved, with_local}
 use Rattle.dpj_typed.specs.Scope.{Local as ScopeLocal}
 use Rattle.dpj_typed.specs.Statements.{declared_as, IsFree}
 use Rattle.dpj_meaning.specs.Counts.{number, slot_value}
@@ -29,10 +29,11 @@ use Rattle.dpj_sound.specs.Shapes.{Shapes, FitsIn}
 use Rattle.dpj_sound.specs.Accesses.{Access, Speaks, Covers, LiesIn}
 use Rattle.dpj_sound.specs.Frames.{Frame, State, LocalFits, FrameFits}
 use Rattle.dpj_sound.specs.Scopes.{InScope, PathInScope, TypeInScope, LocalInScope, GoodScope}
+use Rattle.dpj_sound.proofs.Wider.{Wider, wider_path, wider_type, wider_local}
 use Rattle.dpj_sound.proofs.Alike.{Alike, setting_back, setting_alike, alike_holds, fits_alike, local_alike, set_other, set_same, local_kept}
 
 -- another local than one that isn't in scope, or that is of another kind
-other_than : (L : Scope) (x y : ℕ) (l : ScopeLocal) → L.local y ≡ Some l → L.local x ≡ None → y ≢ x
+pub other_than : (L : Scope) (x y : ℕ) (l : ScopeLocal) → L.local y ≡ Some l → L.local x ≡ None → y ≢ x
 other_than L x y l e n q = let z : None ≡ Some l = sym n ∙ ap L.local (sym q) ∙ e in cc
 
 -- a slot that isn't in scope may be set
@@ -93,37 +94,15 @@ number_alike L g x k n = record {
 pub inner_local : (L : Scope) (x y : ℕ) (l m : ScopeLocal) → (y == x) ≡ false → (with_local x l L).local y ≡ Some m → L.local y ≡ Some m
 inner_local L x y l m h e = sym (cond-false (y == x) (Some l) (L.local y) h) ∙ e
 
-inner_is : (L : Scope) (x y : ℕ) (l m : ScopeLocal) → (y == x) ≡ true → (with_local x l L).local y ≡ Some m → l ≡ m
+pub inner_is : (L : Scope) (x y : ℕ) (l m : ScopeLocal) → (y == x) ≡ true → (with_local x l L).local y ≡ Some m → l ≡ m
 inner_is L x y l m h e = let z : Some l ≡ Some m = sym (cond-true (y == x) (Some l) (L.local y) h) ∙ e in cc
 
-wider_elem : (L : Scope) (x : ℕ) (l : ScopeLocal) → L.local x ≡ None → (D : ℕ) (y : Elem) → InScope L D y → InScope (with_local x l L) D y
-wider_elem L x l n D (Name m) s = tt
-wider_elem L x l n D (At (Literal k)) s = tt
-wider_elem L x l n D (At (Variable y)) s = cond-false (y == x) (Some l) (L.local y)
-    (false_from_ne_true (y == x) (λ t. other_than L x y (constant int) s n (eqb-true y x t))) ∙ s
-wider_elem L x l n D (At (Renamed y)) s = s
-wider_elem L x l n D (At (Own d)) s = s
-wider_elem L x l n D Any s = tt
-wider_elem L x l n D Star s = tt
-wider_elem L x l n D (Local r m) s = s
-
-pub wider_path : (L : Scope) (x : ℕ) (l : ScopeLocal) → L.local x ≡ None → (D : ℕ) (a : Rpl) → PathInScope L D a → PathInScope (with_local x l L) D a
-wider_path L x l n D a s = λ k d h. wider_elem L x l n D _ (s k d h)
-
-pub wider_type : (L : Scope) (x : ℕ) (l : ScopeLocal) → L.local x ≡ None → (D : ℕ) (t : PlainType) → TypeInScope L D t → TypeInScope (with_local x l L) D t
-wider_type L x l n D int s = tt
-wider_type L x l n D boolean s = tt
-wider_type L x l n D void s = tt
-wider_type L x l n D null s = tt
-wider_type L x l n D (class c args) s = λ k d h. wider_path L x l n D (slice_index_or args k d) (s k d h)
-wider_type L x l n D (array t a named) s = (wider_path L x l n (suc D) a s.0, wider_type L x l n (suc D) t s.1, s.2)
-
-wider_local : (L : Scope) (x : ℕ) (l : ScopeLocal) → L.local x ≡ None → (m : ScopeLocal) → LocalInScope L m → LocalInScope (with_local x l L) m
-wider_local L x l n (variable t) s = wider_type L x l n 0 t s
-wider_local L x l n (frozen t) s = wider_type L x l n 0 t s
-wider_local L x l n (constant t) s = wider_type L x l n 0 t s
-wider_local L x l n (part t a) s = wider_type L x l n 0 (array t a false) s
-wider_local L x l n reserved s = tt
+-- a scope with a local more is wider
+pub local_wider : (L : Scope) (x : ℕ) (l : ScopeLocal) → L.local x ≡ None → Wider L (with_local x l L)
+local_wider L x l n = record {
+  index = λ y s. cond-false (y == x) (Some l) (L.local y) (false_from_ne_true (y == x) (λ t. other_than L x y (constant int) s n (eqb-true y x t))) ∙ s;
+  regions = λ r i. i;
+}
 
 no_part : (is_final : Bool) (t u : PlainType) (a : Rpl) → declared_as is_final t ≡ part u a → ⊥
 no_part true t u a e = let z : constant t ≡ part u a = e in cc
@@ -138,8 +117,8 @@ pub good_declare : (L : Scope) → GoodScope L → (x : ℕ) (is_final : Bool) (
 good_declare L good x is_final t free s = record {
   each = λ y m e. ⊎_elim
       (λ h. subst (LocalInScope (with_local x (declared_as is_final t) L)) (inner_is L x y (declared_as is_final t) m h e)
-      (wider_local L x (declared_as is_final t) free.0 (declared_as is_final t) (declared_in L is_final t s)))
-      (λ h. wider_local L x (declared_as is_final t) free.0 m (good.each y m (inner_local L x y (declared_as is_final t) m h e))) (cases_Bool (y == x));
+      (wider_local L (with_local x (declared_as is_final t) L) (local_wider L x (declared_as is_final t) free.0) (declared_as is_final t) (declared_in L is_final t s)))
+      (λ h. wider_local L (with_local x (declared_as is_final t) L) (local_wider L x (declared_as is_final t) free.0) m (good.each y m (inner_local L x y (declared_as is_final t) m h e))) (cases_Bool (y == x));
   slots = λ y m e. ⊎_elim (λ h. subst (λ z. z < L.slots) (sym (eqb-true y x h)) free.1)
       (λ h. good.slots y m (inner_local L x y (declared_as is_final t) m h e)) (cases_Bool (y == x));
   parts = λ y u a e. ⊎_elim
@@ -149,11 +128,11 @@ good_declare L good x is_final t free s = record {
         kept
             (y + 2) reserved r.1,
       ))) (cases_Bool (y == x));
-  result = λ u e. wider_type L x (declared_as is_final t) free.0 0 u (good.result u e);
+  result = λ u e. wider_type L (with_local x (declared_as is_final t) L) (local_wider L x (declared_as is_final t) free.0) 0 u (good.result u e);
   given = λ k c l. (let z = good.given k c l in (
-    wider_path L x (declared_as is_final t) free.0 0
+    wider_path L (with_local x (declared_as is_final t) L) (local_wider L x (declared_as is_final t) free.0) 0
         (slice_index_or L.given k c).left z.0,
-    wider_path L x (declared_as is_final t) free.0 0 (slice_index_or L.given k c).right z.1,
+    wider_path L (with_local x (declared_as is_final t) L) (local_wider L x (declared_as is_final t) free.0) 0 (slice_index_or L.given k c).right z.1,
   ));
 }
   where

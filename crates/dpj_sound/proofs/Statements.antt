@@ -12,9 +12,9 @@ use Rattle.dpj_base.specs.declared.elems.Elem.TheVariants.{At}
 use Rattle.dpj_base.specs.declared.elems.Index.TheVariants.{Literal}
 use Rattle.dpj_base.specs.Regions.{is_any, substituted}
 use Rattle.dpj_base.specs.Types.{PlainType, class, array, type_with, path_at, type_at, mentions_index}
-use Rattle.dpj_typed.specs.Effects.{Own as EffectOwn, does, uses, writes}
+use Rattle.dpj_typed.specs.Effects.{Own as EffectOwn, does, uses, writes, after_block, outside_regions}
 use Rattle.dpj_typed.specs.Plain.{PlainProgram, PlainField, TypedExpr, type_of, TypedStmt, TypedStmts, no_stmts, more_stmts, PlainMember}
-use Rattle.dpj_typed.specs.Scope.{Scope, part, field_at, with_local, member_at}
+use Rattle.dpj_typed.specs.Scope.{Scope, part, field_at, with_local, with_regions, member_at}
 use Rattle.dpj_typed.specs.Scope.{Local as ScopeLocal}
 use Rattle.dpj_typed.specs.Statements.{completes, all_complete, declared_as, Passes, AllPass, store, store_field, store_element, store_part, perform, nested, choice, choice_else, while_loop, return_nothing, return_value, print_int, print_boolean, print_text, atomic, cobegin, foreach, foreach_parts, no_more, then', declare, declare_regions}
 use Rattle.dpj_typed.specs.Table.{class_scope}
@@ -27,7 +27,7 @@ use Rattle.dpj_meaning.specs.Expressions.{gives, none, unless_null, part_element
 use Rattle.dpj_meaning.specs.Statements.{with_value, write_cell, prints, of_stmt, of_stmts}
 use Rattle.dpj_regions.proofs.Putting.{specified_matches_one}
 use Rattle.dpj_runs.specs.Actions.{Write, Print, Rest, Exit}
-use Rattle.dpj_runs.specs.Objects.{Name, Value, Null, Object, Int, Boolean}
+use Rattle.dpj_runs.specs.Objects.{Name, LocalRegion, Value, Null, Object, Int, Boolean}
 use Rattle.dpj_steps.specs.Steps.{named_by}
 use Rattle.dpj_meaning.specs.Asking.{meaning}
 use Rattle.dpj_sound.proofs.Entering.{body_good}
@@ -44,14 +44,16 @@ use Rattle.dpj_sound.proofs.Types.{fits_grows, fits_same, same_sym, fits_with_do
 use Rattle.dpj_sound.proofs.Indices.{IsIndexElem, fits_at_down, region_at_up, same_inside, region_alone}
 use Rattle.dpj_sound.proofs.Classes.{env_alone, good_is, field_good, field_is, stands_args, subtype_fits}
 use Rattle.dpj_sound.proofs.InScope.{good_type, paths_alone, index_in, typed_in}
-use Rattle.dpj_sound.proofs.InEffects.{stmts_effects_in, marked_in}
-use Rattle.dpj_sound.proofs.Frames.{frame_since, frame_env, within_left, within_right, within_since}
+use Rattle.dpj_sound.proofs.InEffects.{stmts_effects_in, marked_in, all_own}
+use Rattle.dpj_sound.proofs.Placed.{PlacedScope, placed_scope, good_placed}
+use Rattle.dpj_sound.proofs.Regions.{good_regions, placed_regions, placed_block, placed_declare, with_made, NewRegions, makes_order, frame_regions, frame_regions_left, new_alike, within_regions}
+use Rattle.dpj_sound.proofs.Frames.{old_later, frame_since, frame_env, within_left, within_right, within_since}
 use Rattle.dpj_sound.proofs.Locals.{frame_outside, frame_store, frame_declare, frame_leave, good_declare, number_alike, lies_general}
 use Rattle.dpj_meaning.specs.Regions.{around, concrete_effect}
 use Rattle.dpj_typed.specs.Scope.{in_atomic_block}
 use Rattle.dpj_runs.specs.Objects.{Effect as RunEffect}
 use Rattle.dpj_sound.proofs.Blocks.{good_block, frame_later, frame_block, frame_unblock, within_block}
-use Rattle.dpj_sound.proofs.Alike.{fits_alike, setting_back}
+use Rattle.dpj_sound.proofs.Alike.{Alike, fits_alike, setting_back}
 use Rattle.dpj_sound.proofs.Expressions.{order_unless, order_choose, order_trap}
 use Rattle.dpj_sound.proofs.Typed.{type_alone, inside_part, yields, expr_order}
 use Rattle.dpj_sound.proofs.Work.{since_now, since_since, since_after, order_then, order_on, order_post, order_ret}
@@ -272,6 +274,17 @@ module _ (P : PlainProgram) (wt : WellTyped P) (b : Bounds) (dp : Option Deeper)
   declared g t x st f R j k h (Goes_on u c) y = subst (λ z. InOrder P b R h (j none z)) (sym y.3) (k h y.0 y.1 y.2)
   declared g t x st f R j k h (Returns v) y = absurd y
 
+  -- behind the making of local regions
+  abbrev Renewed : Scope → Setting → List ℕ → State → Frame → State → Result → Type 0
+  Renewed L g rs st f h (Goes_on v e) = (made : ℕ → LocalRegion) × Since st h × NewRegions b.path rs g.made made f e × FrameFits P b.path h (with_made made g) L e
+  Renewed L g rs st f h (Returns v) = ⊥
+
+  renewed : (L : Scope) (g : Setting) (rs : List ℕ) (st : State) (f : Frame) (R : State → Result → Type 0) (j : Value → Frame → Prog) →
+      ((h : State) (made : ℕ → LocalRegion) (e : Frame) → Since st h → NewRegions b.path rs g.made made f e → FrameFits P b.path h (with_made made g) L e → InOrder P b R h (j none e)) →
+      (h : State) (r : Result) → Renewed L g rs st f h r → InOrder P b R h (next_of (λ u c. j none c) r)
+  renewed L g rs st f R j k h (Goes_on u c) y = k h y.0 c y.1 y.2 y.3
+  renewed L g rs st f R j k h (Returns v) y = absurd y
+
   -- behind the block of a declared local
   return_leave : (L : Scope) → GoodScope L → (g : Setting) (x : ℕ) (k : ℤ) → L.local x ≡ None → (S : Shapes) (o : Option PlainType) → L.result ≡ o →
       (v : Value) → ReturnFits P S (with_number x k g) o v → ReturnFits P S g o v
@@ -283,16 +296,32 @@ module _ (P : PlainProgram) (wt : WellTyped P) (b : Bounds) (dp : Option Deeper)
   left_leave L good g x l k n c st h u (Goes_on v f) s y = (y.0, since_since s y.1, frame_leave P b.path u g L good f x l k n y.2)
   left_leave L good g x l k n c st h u (Returns v) s y = (since_since s y.0, return_leave L good g x k n u.shapes L.result refl v y.1)
 
+  -- and of local regions
+  return_regions : (L : Scope) → GoodScope L → (g : Setting) (made : ℕ → LocalRegion) → Alike L g (with_made made g) → (S : Shapes) (o : Option PlainType) → L.result ≡ o →
+      (v : Value) → ReturnFits P S (with_made made g) o v → ReturnFits P S g o v
+  return_regions L good g made al S None e v f = f
+  return_regions L good g made al S (Some t) e v f = fits_alike P S L (with_made made g) g (setting_back al) t (good.result t e) v f
+
+  left_regions : (L : Scope) → GoodScope L → (g : Setting) (rs : List ℕ) (made : ℕ → LocalRegion) → Alike L g (with_made made g) → {f : Frame} (st h u : State) →
+      FrameFits P b.path h g L f → (c : Bool) (r : Result) → Since st h → Left P b (with_regions rs L) (with_made made g) c h u r → Left P b L g c st u r
+  left_regions L good g rs made al st h u ff c (Goes_on v e) s y = (
+    y.0,
+    since_since s y.1,
+    frame_regions_left P b.path u g L good e rs made al ff.distinct
+        (λ r. old_later b.path h.made u.made r y.1.made (g.made r) (ff.old r)) y.2,
+  )
+  left_regions L good g rs made al st h u ff c (Returns v) s y = (since_since s y.0, return_regions L good g made al u.shapes L.result refl v y.1)
+
   mutual
     unfolding InOrder
 
-    stmt_order : {L : Scope} {s : TypedStmt} {E : List EffectOwn} → Passes P L s E → IsSequential s → GoodScope L →
+    stmt_order : {L : Scope} {s : TypedStmt} {E : List EffectOwn} → Passes P L s E → IsSequential s → GoodScope L → {outer : ℕ → Bool} → PlacedScope outer L →
         (g : Setting) (st : State) (f : Frame) → FrameFits P b.path st g L f → Within b st.entries g E →
         InOrder P b (Left P b L g (completes s) st) st (of_stmt (named_by b.path) P dp s f)
-    stmt_order {L} (store {x = x} {t = t} lx h sub) q good g st f ff w =
+    stmt_order {L} (store {x = x} {t = t} lx h sub) q good pl g st f ff w =
         behind L good g h _ _ st f ff w
         (λ h1 v s fv ix. (refl, s, frame_store P b.path h1 g L good f x t v lx (sub_fits L good g h sub ff h1.shapes v fv) (frame_since s ff)))
-    stmt_order {L} (store_field {at = at} {o = o} {e = e} {c = c} {k = k} {args = args} {f = fd} {E = E} {F = F} ho ty fe kn he sub) q good g st f ff w =
+    stmt_order {L} (store_field {at = at} {o = o} {e = e} {c = c} {k = k} {args = args} {f = fd} {E = E} {F = F} ho ty fe kn he sub) q good pl g st f ff w =
         behind L good g ho _ _ st f ff (within_left b st.entries g E _ w)
         (λ h1 v s fv ix. behind L good g he _ _ h1 f (frame_since s ff) (within_since b s g _ (within_left b st.entries g F _ (within_right b st.entries g E _ w)))
         (λ h2 u s2 fu iu. field_write P b wt L g (Left P b L g true st) h2 at f c k args fd fe kn (subst (TypeInScope L 0) ty (typed_in P wt L good ho))
@@ -300,7 +329,7 @@ module _ (P : PlainProgram) (wt : WellTyped P) (b : Bounds) (dp : Option Deeper)
         (sub_fits L good g he sub ff h2.shapes u fu) v
         (fits_grows P h1.shapes h2.shapes s2.grows (env_of g) (class c args) v (subst (λ z. FitsIn P h1.shapes (env_of g) z v) ty fv))
         (λ h3 s3. (refl, since_since (since_since s s2) s3, frame_since (since_since (since_since s s2) s3) ff))))
-    stmt_order {L} (store_element {at = at} {a = a} {i = i} {e = e} {t = t} {rpl = rpl} {named = named} {E = E} {F = F} {G = G} ha ty hi ti rg he sub) q good g st f ff w =
+    stmt_order {L} (store_element {at = at} {a = a} {i = i} {e = e} {t = t} {rpl = rpl} {named = named} {E = E} {F = F} {G = G} ha ty hi ti rg he sub) q good pl g st f ff w =
         behind L good g ha _ _ st f ff (within_left b st.entries g E _ w)
         (λ h1 v s fv ix. behind L good g hi _ _ h1 f (frame_since s ff) (within_since b s g _ (within_left b st.entries g F _ (within_right b st.entries g E _ w)))
         (λ h2 j s2 fj ij. behind L good g he _ _ h2 f (frame_since (since_since s s2) ff)
@@ -311,55 +340,55 @@ module _ (P : PlainProgram) (wt : WellTyped P) (b : Bounds) (dp : Option Deeper)
         (sub_fits L good g he sub ff h3.shapes u fu) v
         (fits_grows P h1.shapes h3.shapes (since_since s2 s3).grows (env_of g) (array t rpl named) v (subst (λ z. FitsIn P h1.shapes (env_of g) z v) ty fv))
         (λ h4 s4. (refl, since_since (since_since (since_since s s2) s3) s4, frame_since (since_since (since_since (since_since s s2) s3) s4) ff)))))
-    stmt_order {L} (store_part {at = at} {k = k} {t = t} {a = a} {i = i} {e = e} {E = E} {F = F} lk hi ti he sub) q good g st f ff w =
+    stmt_order {L} (store_part {at = at} {k = k} {t = t} {a = a} {i = i} {e = e} {E = E} {F = F} lk hi ti he sub) q good pl g st f ff w =
         behind L good g hi _ _ st f ff (within_left b st.entries g E _ w)
         (λ h1 j s fj ij. behind L good g he _ _ h1 f (frame_since s ff) (within_since b s g _ (within_left b st.entries g F _ (within_right b st.entries g E _ w)))
         (λ h2 u s2 fu iu. part_write P b (Left P b L g true st) h2 at f g k t a (number j) u ((frame_since (since_since s s2) ff).each k (part t a) lk)
         (within_since b (since_since s s2) g (uses k (writes a) ∷ []) (within_right b st.entries g F _ (within_right b st.entries g E _ w)))
         (sub_fits L good g he sub ff h2.shapes u fu)
         (λ h3 s3. (refl, since_since (since_since s s2) s3, frame_since (since_since (since_since s s2) s3) ff))))
-    stmt_order {L} (perform ip h) q good g st f ff w = behind L good g h _ _ st f ff w (λ h1 v s fv ix. (refl, s, frame_since s ff))
-    stmt_order (nested p) q good g st f ff w = stmts_order p q good g st f ff w
-    stmt_order {L} (choice {s = a} {E = E} {F = F} h ty p) q good g st f ff w =
+    stmt_order {L} (perform ip h) q good pl g st f ff w = behind L good g h _ _ st f ff w (λ h1 v s fv ix. (refl, s, frame_since s ff))
+    stmt_order (nested p) q good pl g st f ff w = stmts_order p q good pl g st f ff w
+    stmt_order {L} (choice {s = a} {E = E} {F = F} h ty p) q good pl g st f ff w =
         behind L good g h _ _ st f ff (within_left b st.entries g E F w)
         (λ h1 v s fv ix. order_choose P b (Left P b L g true st) h1 (truth v) (gives none f) (of_stmt (named_by b.path) P dp a f)
         (order_ret P b (Left P b L g true st) h1 (Goes_on none f) (refl, s, frame_since s ff))
         (order_post P b (Left P b L g (completes a) h1) (Left P b L g true st)
         (λ u r y. left_since P b L g (completes a) true st h1 u r s (λ e. refl) y) (of_stmt (named_by b.path) P dp a f) h1
-        (single_order p q good g h1 f (frame_since s ff) (within_since b s g F (within_right b st.entries g E F w)))))
-    stmt_order {L} (choice_else {s = a} {t = c} {E = E} {F = F} {G = G} h ty p r) q good g st f ff w =
+        (single_order p q good pl g h1 f (frame_since s ff) (within_since b s g F (within_right b st.entries g E F w)))))
+    stmt_order {L} (choice_else {s = a} {t = c} {E = E} {F = F} {G = G} h ty p r) q good pl g st f ff w =
         behind L good g h _ _ st f ff (within_left b st.entries g E _ w)
         (λ h1 v s fv ix. order_choose P b (Left P b L g (completes a || completes c) st) h1 (truth v) (of_stmt (named_by b.path) P dp c f)
         (of_stmt (named_by b.path) P dp a f)
         (order_post P b (Left P b L g (completes c) h1) (Left P b L g (completes a || completes c) st)
         (λ u x y. left_since P b L g (completes c) (completes a || completes c) st h1 u x s (or_right (completes a) (completes c)) y)
         (of_stmt (named_by b.path) P dp c f) h1
-        (single_order r q.1 good g h1 f (frame_since s ff) (within_since b s g G (within_right b st.entries g F G (within_right b st.entries g E _ w)))))
+        (single_order r q.1 good pl g h1 f (frame_since s ff) (within_since b s g G (within_right b st.entries g F G (within_right b st.entries g E _ w)))))
         (order_post P b (Left P b L g (completes a) h1) (Left P b L g (completes a || completes c) st)
         (λ u x y. left_since P b L g (completes a) (completes a || completes c) st h1 u x s (or_left (completes a) (completes c)) y)
         (of_stmt (named_by b.path) P dp a f) h1
-        (single_order p q.0 good g h1 f (frame_since s ff) (within_since b s g F (within_left b st.entries g F G (within_right b st.entries g E _ w))))))
-    stmt_order {L} (while_loop {e = e} {s = a} {E = E} {F = F} h ty p) q good g st f ff w = (
+        (single_order p q.0 good pl g h1 f (frame_since s ff) (within_since b s g F (within_left b st.entries g F G (within_right b st.entries g E _ w))))))
+    stmt_order {L} (while_loop {e = e} {s = a} {E = E} {F = F} h ty p) q good pl g st f ff w = (
       L,
       g,
       ff,
       λ h1 f1 s ff1. order_post P b _ _ (λ u r y. tested L g e h1 f1 ff1 u r y) _ h1
           (expr_order P wt b dp dd L good g h (Yields P L g e h1 f1) h1 f1 ff1 (within_since b s g E (within_left b st.entries g E F w)) (yields P L g e h1 f1)),
       λ h1 f1 s ff1. order_post P b _ _ (λ u r y. rounded L g (completes a) h1 u r y) _ h1
-          (single_order p q good g h1 f1 ff1 (within_since b s g F (within_right b st.entries g E F w))),
+          (single_order p q good pl g h1 f1 ff1 (within_since b s g F (within_right b st.entries g E F w))),
       λ h1 r y. looped L g st h1 r y,
     )
-    stmt_order {L} (return_nothing e) q good g st f ff w = (since_now st, subst (λ z. ReturnFits P st.shapes g z none) (sym e) tt)
-    stmt_order {L} (return_value {e = e} {t = t} k h sub) q good g st f ff w =
+    stmt_order {L} (return_nothing e) q good pl g st f ff w = (since_now st, subst (λ z. ReturnFits P st.shapes g z none) (sym e) tt)
+    stmt_order {L} (return_value {e = e} {t = t} k h sub) q good pl g st f ff w =
         behind L good g h _ _ st f ff w (λ h1 v s fv ix. (s, subst (λ z. ReturnFits P h1.shapes g z v) (sym k) (sub_fits L good g h sub ff h1.shapes v fv)))
-    stmt_order {L} (print_int h ty) q good g st f ff w =
+    stmt_order {L} (print_int h ty) q good pl g st f ff w =
         behind L good g h _ _ st f ff w (λ h1 v s fv ix. order_prints P b (Left P b L g true st) h1 (text_of v) f
         (λ u s2. (refl, since_since s s2, frame_since (since_since s s2) ff)))
-    stmt_order {L} (print_boolean h ty) q good g st f ff w =
+    stmt_order {L} (print_boolean h ty) q good pl g st f ff w =
         behind L good g h _ _ st f ff w (λ h1 v s fv ix. order_prints P b (Left P b L g true st) h1 (text_of v) f
         (λ u s2. (refl, since_since s s2, frame_since (since_since s s2) ff)))
-    stmt_order {L} (print_text {text = text}) q good g st f ff w = order_prints P b (Left P b L g true st) st text f (λ u s. (refl, s, frame_since s ff))
-    stmt_order {L} (atomic {entry = entry} {ss = ss} {E = E} p se) q good g st f ff w = (
+    stmt_order {L} (print_text {text = text}) q good pl g st f ff w = order_prints P b (Left P b L g true st) st text f (λ u s. (refl, s, frame_since s ff))
+    stmt_order {L} (atomic {entry = entry} {ss = ss} {E = E} p se) q good {outer} pl g st f ff w = (
       tt,
       λ x h after ans. (
         tt,
@@ -371,49 +400,67 @@ module _ (P : PlainProgram) (wt : WellTyped P) (b : Bounds) (dp : Option Deeper)
             let made : st.made ≤ u.made = (let m = s.made in let n = enters.made in omega (arith, m, n)) in
             order_on P b (Left P b (in_atomic_block L) g (all_complete ss) u) (Left P b L g true st) (next_of (λ v k. Act Exit (λ c. gives none k)))
             (leaves_block L g (all_complete ss) st u (map (concrete_effect (named_by b.path) (around f)) entry) grown made e) (of_stmts (named_by b.path) P dp ss f) u
-            (stmts_order p q (good_block L good) g u f (frame_block L (frame_later grown made ff))
-            (subst (λ z. Within b z g E) (sym e) (within_block P b L g st f ff entry E st.entries se (marked_in P wt L E (stmts_effects_in P wt p (good_block L good) q)) w)))),
+            (stmts_order p q (good_block L good) (placed_block outer L pl) g u f (frame_block L (frame_later grown made ff))
+            (subst (λ z. Within b z g E) (sym e) (within_block P b L g st f ff entry E st.entries se (all_own P wt outer L pl (after_block E) (marked_in P wt outer L true E (stmts_effects_in P wt outer p (good_block L good) (placed_block outer L pl) q))) w)))),
       ),
     )
-    stmt_order (cobegin calm p nc) q good g st f ff w = absurd q
-    stmt_order (foreach calm hs ts hc tc fr p ic) q good g st f ff w = absurd q
-    stmt_order (foreach_parts cu hc tc fr p ic lc) q good g st f ff w = absurd q
+    stmt_order (cobegin calm p nc) q good pl g st f ff w = absurd q
+    stmt_order (foreach calm hs ts hc tc fr p ic) q good pl g st f ff w = absurd q
+    stmt_order (foreach_parts cu hc tc fr p ic lc) q good pl g st f ff w = absurd q
 
     -- a statement that is a block of its own
-    single_order : {L : Scope} {s : TypedStmt} {E : List EffectOwn} → AllPass P L (more_stmts s no_stmts) E → IsSequential s → GoodScope L →
+    single_order : {L : Scope} {s : TypedStmt} {E : List EffectOwn} → AllPass P L (more_stmts s no_stmts) E → IsSequential s → GoodScope L → {outer : ℕ → Bool} → PlacedScope outer L →
         (g : Setting) (st : State) (f : Frame) → FrameFits P b.path st g L f → Within b st.entries g E →
         InOrder P b (Left P b L g (completes s) st) st (of_stmt (named_by b.path) P dp s f)
-    single_order (then' {E = E} {F = F} p c rest) q good g st f ff w = stmt_order p q good g st f ff (within_left b st.entries g E F w)
-    single_order {L} (declare {x = x} {t = t} {E = E} {F = F} free gt h sub rest) q good g st f ff w =
+    single_order (then' {E = E} {F = F} p c rest) q good pl g st f ff w = stmt_order p q good pl g st f ff (within_left b st.entries g E F w)
+    single_order {L} (declare {x = x} {t = t} {E = E} {F = F} free gt h sub rest) q good pl g st f ff w =
         behind L good g h _ _ st f ff (within_left b st.entries g E _ w)
         (λ h1 v s fv ix. (refl, s, frame_outside P b.path h1 g L good f x v free.0 (frame_since s ff)))
-    single_order (declare_regions fr rest) q good g st f ff w = absurd q
+    single_order {L} (declare_regions {rs = rs} free rest) q good pl g st f ff w =
+        makes_order P b L good (Left P b L g true st) rs free st g f ff
+        (λ h made e s n fe. (
+          refl,
+          s,
+          frame_regions_left P b.path h g L good e [] made (new_alike L b.path g made f e rs free n) ff.distinct
+              (λ r. old_later b.path st.made h.made r s.made (g.made r) (ff.old r)) fe,
+        ))
 
-    pub stmts_order : {L : Scope} {ss : TypedStmts} {E : List EffectOwn} → AllPass P L ss E → AreSequential ss → GoodScope L →
+    pub stmts_order : {L : Scope} {ss : TypedStmts} {E : List EffectOwn} → AllPass P L ss E → AreSequential ss → GoodScope L → {outer : ℕ → Bool} → PlacedScope outer L →
         (g : Setting) (st : State) (f : Frame) → FrameFits P b.path st g L f → Within b st.entries g E →
         InOrder P b (Left P b L g (all_complete ss) st) st (of_stmts (named_by b.path) P dp ss f)
-    stmts_order no_more q good g st f ff w = (refl, since_now st, ff)
-    stmts_order {L} (then' {s = s} {ss = ss} {E = E} {F = F} p c rest) q good g st f ff w =
+    stmts_order no_more q good pl g st f ff w = (refl, since_now st, ff)
+    stmts_order {L} (then' {s = s} {ss = ss} {E = E} {F = F} p c rest) q good pl g st f ff w =
         order_on P b (Left P b L g (completes s) st) _ (next_of (λ v h. of_stmts (named_by b.path) P dp ss h))
         (followed L g (completes s) (completes s && all_complete ss) st (λ v h. of_stmts (named_by b.path) P dp ss h)
         (λ h c v cs s2 ffc. order_post P b (Left P b L g (all_complete ss) h) _
         (λ u r y. left_since P b L g (all_complete ss) (completes s && all_complete ss) st h u r s2 (λ e. and_from _ _ cs e) y) _ h
-        (stmts_order rest q.1 good g h c ffc (within_since b s2 g F (within_right b st.entries g E F w)))))
-        _ st (stmt_order p q.0 good g st f ff (within_left b st.entries g E F w))
-    stmts_order {L} (declare {x = x} {t = t} {is_final = is_final} {e = e} {ss = ss} {E = E} {F = F} free gt h sub rest) q good g st f ff w =
+        (stmts_order rest q.1 good pl g h c ffc (within_since b s2 g F (within_right b st.entries g E F w)))))
+        _ st (stmt_order p q.0 good pl g st f ff (within_left b st.entries g E F w))
+    stmts_order {L} (declare {x = x} {t = t} {is_final = is_final} {e = e} {ss = ss} {E = E} {F = F} free gt h sub rest) q good {outer} pl g st f ff w =
         order_on P b (Declared g t x st f) _ (next_of (λ v h. of_stmts (named_by b.path) P dp ss h))
         (declared g t x st f (Left P b L g (all_complete ss) st) (λ v h. of_stmts (named_by b.path) P dp ss h)
         (λ h1 v s2 fv.
         order_post P b (Left P b (with_local x (declared_as is_final t) L) (with_number x (number v) g) (all_complete ss) h1) _
         (λ u r y. left_leave L good g x (declared_as is_final t) (number v) free.0 (all_complete ss) st h1 u r s2 y) _ h1
-        (stmts_order rest q.1 (good_declare L good x is_final t free (good_type P L 0 t gt)) (with_number x (number v) g) h1 (with_value f x v)
+        (stmts_order rest q.1 (good_declare L good x is_final t free (good_type P L 0 t gt)) (placed_declare outer L pl x is_final t free (good_placed outer P L 0 t gt)) (with_number x (number v) g) h1 (with_value f x v)
         (frame_declare P b.path h1 g L good f x is_final t v free (good_type P L 0 t gt) fv (frame_since s2 ff))
         (λ a gu l. within_since b s2 g _ (within_right b st.entries g E _ w) a gu
         (lies_general g x (number v) (with_local x (declared_as is_final t) L) F a
-        (stmts_effects_in P wt rest (good_declare L good x is_final t free (good_type P L 0 t gt)) q.1) l)))))
+        (all_own P wt outer (with_local x (declared_as is_final t) L) (placed_declare outer L pl x is_final t free (good_placed outer P L 0 t gt)) F
+        (stmts_effects_in P wt outer rest (good_declare L good x is_final t free (good_type P L 0 t gt)) (placed_declare outer L pl x is_final t free (good_placed outer P L 0 t gt)) q.1)) l)))))
         _ st (behind L good g h (Declared g t x st f) _ st f ff (within_left b st.entries g E _ w)
         (λ h1 v s2 fv ix. order_ret P b (Declared g t x st f) h1 (Goes_on none (with_value f x v)) (v, s2, sub_fits L good g h sub ff h1.shapes v fv, refl)))
-    stmts_order (declare_regions fr rest) q good g st f ff w = absurd q.0
+    stmts_order {L} (declare_regions {rs = rs} {ss = ss} {F = F} free rest) q good {outer} pl g st f ff w =
+        order_on P b (Renewed L g rs st f) _ (next_of (λ v h. of_stmts (named_by b.path) P dp ss h))
+        (renewed L g rs st f (Left P b L g (all_complete ss) st) (λ v h. of_stmts (named_by b.path) P dp ss h)
+        (λ h made e s n fe.
+        order_post P b (Left P b (with_regions rs L) (with_made made g) (all_complete ss) h) _
+        (λ u r y. left_regions L good g rs made (new_alike L b.path g made f e rs free n) st h u (frame_since s ff) (all_complete ss) r s y) _ h
+        (stmts_order rest q.1 (good_regions L good rs) (placed_regions outer L pl rs) (with_made made g) h e (frame_regions P b.path h (with_made made g) L f e rs g.made n fe)
+        (within_regions L outer pl b h.entries g made f e rs free n F
+        (stmts_effects_in P wt outer rest (good_regions L good rs) (placed_regions outer L pl rs) q.1)
+        (within_since b s g (outside_regions rs F) w)))))
+        _ st (makes_order P b L good (Renewed L g rs st f) rs free st g f ff (λ h made e s n fe. (made, s, n, fe)))
 
 left_leaves : (P : PlainProgram) (b : Bounds) (L : Scope) (g : Setting) (ss : TypedStmts) (st h : State) (r : Result) →
     Left P b L g (all_complete ss) st h r → Leaves P b L g ss st h r
@@ -422,7 +469,7 @@ left_leaves P b L g ss st h (Returns v) y = y
 
 pub sequential_in_order : SequentialInOrder
 sequential_in_order P wt b dp dd L ss E p q good g st f ff w = order_post P b (Left P b L g (all_complete ss) st) (Leaves P b L g ss st)
-    (left_leaves P b L g ss st) _ st (stmts_order P wt b dp dd p q good g st f ff w)
+    (left_leaves P b L g ss st) _ st (stmts_order P wt b dp dd p q good (placed_scope L good) g st f ff w)
 
 -- at each depth of calls, by recursion on it
 module _ (P : PlainProgram) (wt : WellTyped P) (plain : (n : ℕ) (m : PlainMember) → member_at P n ≡ Some m → AreSequential m.body) (b : Bounds) where

@@ -64,14 +64,14 @@ ExpressionsInOrder = (P : PlainProgram) (wt : WellTyped P) (b : Bounds) (dp : Op
     Within b st.entries g E →
     InOrder P b (Yields P L g e st f) st (of_expr (named_by b.path) P dp e f)
 
--- statements without parallel constructs and local regions are in order: from locals that fit they make only
--- accesses that their effects speak of, and leave locals that fit, or give a value of the type that a `return` gives
+-- statements without parallel constructs are in order: from locals that fit they make only accesses that their effects speak
+-- of, or in local regions that they make, and leave locals that fit, or give a value of the type that a `return` gives
 abbrev pub SequentialInOrder : Type 0
 SequentialInOrder = (P : PlainProgram) (wt : WellTyped P) (b : Bounds) (dp : Option Deeper) → DeeperInOrder P wt b dp →
     (L : Scope) (ss : TypedStmts) (E : List Own) → AllPass P L ss E → AreSequential ss → GoodScope L → (g : Setting) (st : State) (f : Frame) →
     FrameFits P b.path st g L f → Within b st.entries g E → InOrder P b (Leaves P b L g ss st) st (of_stmts (named_by b.path) P dp ss f)
 
--- where no body has a parallel construct or a local region, a task is in order to its end, with all calls that it makes
+-- where no body has a parallel construct, a task is in order to its end, with all calls that it makes
 abbrev pub SequentialTasks : Type 0
 SequentialTasks = (P : PlainProgram) (wt : WellTyped P) → ((n : ℕ) (m : PlainMember) → member_at P n ≡ Some m → AreSequential m.body) → (b : Bounds) →
     (L : Scope) (ss : TypedStmts) (E : List Own) → AllPass P L ss E → AreSequential ss → GoodScope L → (left : ℕ) (g : Setting) (st : State) (f : Frame) →

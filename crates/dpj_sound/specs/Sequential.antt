@@ -1,10 +1,10 @@
--- Statements without parallel constructs and local regions.
+-- Statements without parallel constructs.
 use Rattle.dpj_typed.specs.Plain.{TypedStmt, statement, TypedStmts, no_stmts, more_stmts}
 use Rattle.dpj_typed.specs.Plain.{StmtForm as form}
 
 abbrev mutual
   pub IsSequential : TypedStmt → Type 0
-  IsSequential (statement at (form.local_regions rs)) = ⊥
+  IsSequential (statement at (form.local_regions rs)) = Unit {0}
   IsSequential (statement at (form.atomic entry ss)) = AreSequential ss
   IsSequential (statement at (form.cobegin forking bs)) = ⊥
   IsSequential (statement at (form.foreach forking x start count s)) = ⊥

@@ -7,7 +7,7 @@ pub fn law_expressions()
     ensures { ExpressionsInOrder }
 {}
 
-/// So are its statements, those with parallel constructs and local regions left aside.
+/// So are its statements, those with parallel constructs left aside.
 /// And so is a task of a program that has none of these, with all calls that it makes.
 pub fn law_statements()
     ensures statements { SequentialInOrder }
