@@ -10,21 +10,26 @@ use Rattle.dpj_base.specs.declared.elems.Index.TheVariants.{Literal, Variable, R
 use Rattle.dpj_base.specs.declared.region.Rpl.{Rpl}
 use Rattle.dpj_base.specs.Regions.{substituted, generalised, general_elem}
 use Rattle.dpj_base.specs.Types.{PlainType, class, array, int, path_at}
-use Rattle.dpj_typed.specs.Effects.{Own as EffectOwn, does, uses, effect_of, effect_with, mapped, outside_variable, outside_regions, begins_in, summary_with, marked}
-use Rattle.dpj_typed.specs.Plain.{PlainProgram, PlainClass, PlainField, PlainMember, TypedExpr, type_of, TypedExprs, TypedStmt, TypedStmts}
-use Rattle.dpj_typed.specs.Scope.{Scope, constant, part, class_at, field_at, with_local, with_regions}
+use Rattle.dpj_typed.specs.declared.stmt.Forking.{Forking}
+use Rattle.dpj_typed.specs.declared.stmt.Forking.TheVariants.{Deterministic, Nondeterministic}
+use Rattle.dpj_typed.specs.Effects.{Own as EffectOwn, does, uses, effect_of, effect_with, mapped, outside_variable, outside_regions, begins_in, summary_with, marked, after_branches}
+use Rattle.dpj_typed.specs.Plain.{PlainProgram, PlainClass, PlainField, PlainMember, TypedExpr, type_of, TypedExprs, TypedStmt, TypedStmts, TypedBranches}
+use Rattle.dpj_typed.specs.Scope.{Scope, constant, part, class_at, field_at, with_local, with_regions, in_loop_branch, in_branch}
 use Rattle.dpj_typed.specs.Scope.{Local as ScopeLocal}
-use Rattle.dpj_typed.specs.Statements.{declared_as, Passes, AllPass, store, store_field, store_element, store_part, perform, nested, choice, choice_else, while_loop, return_nothing, return_value, print_int, print_boolean, print_text, atomic, cobegin, foreach, foreach_parts, no_more, then', declare, declare_regions}
+use Rattle.dpj_typed.specs.Statements.{IsVariable, joined, all_copies, BranchesPass, no_branch, one_branch, declared_as, Passes, AllPass, store, store_field, store_element, store_part, perform, nested, choice, choice_else, while_loop, return_nothing, return_value, print_int, print_boolean, print_text, atomic, cobegin, foreach, foreach_parts, no_more, then', declare, declare_regions}
 use Rattle.dpj_typed.specs.Table.{class_scope, member_scope}
 use Rattle.dpj_typed.specs.Typing.{Has, literal_int, literal_boolean, literal_null, read_local, read_field, read_element, length_of_array, call_method, create_object, construct_object, make_array, negative, negation, operation, conjunction, disjunction, length_of_part, read_part, index_elem, Fit}
 use Rattle.dpj_typed.specs.Typing.{Fit as fit}
 use Rattle.dpj_typed.specs.WellTyped.{WellTyped}
 use Rattle.dpj_sound.specs.Scopes.{InScope, PathInScope, GoodScope}
-use Rattle.dpj_sound.specs.Sequential.{IsSequential, AreSequential}
+use Rattle.dpj_sound.specs.Covered.{IsCovered, AreCovered, BranchesCovered}
 use Rattle.dpj_sound.proofs.Closed.{closed_path}
 use Rattle.dpj_sound.proofs.Classes.{field_good}
 use Rattle.dpj_sound.proofs.InScope.{good_type, substituted_in, index_in, above_in}
-use Rattle.dpj_sound.proofs.Placed.{with_outer, PathPlaced, TypePlaced, PlacedScope, placed_path, good_placed_path, good_placed, at_placed_path, out_placed_path, typed_placed}
+use Rattle.dpj_sound.proofs.Cobegins.{branch_narrower, good_branch, placed_branch, copies_variables}
+use Rattle.dpj_sound.proofs.Forks.{loop_narrower, good_loop, placed_loop, free_in_loop}
+use Rattle.dpj_sound.proofs.Wider.{Wider}
+use Rattle.dpj_sound.proofs.Placed.{placed_wider_path, with_outer, PathPlaced, TypePlaced, PlacedScope, placed_path, good_placed_path, good_placed, at_placed_path, out_placed_path, typed_placed}
 use Rattle.dpj_sound.proofs.Regions.{outside_path, good_regions, placed_regions, placed_block, placed_declare}
 use Rattle.dpj_sound.proofs.Blocks.{good_block}
 use Rattle.dpj_sound.proofs.Locals.{good_declare, inner_local}
@@ -143,6 +148,17 @@ module _ (P : PlainProgram) (wt : WellTyped P) (outer : ℕ → Bool) where
   pub marked_in : (L : Scope) (c : Bool) (E : List EffectOwn) → All (OwnPlaced outer L) E → All (OwnPlaced outer L) (map (marked c) E)
   marked_in L c E h = All-map (OwnPlaced outer L) (marked c) E (λ k d l. own_marked L c (slice_index_or E k d) (h k d l))
 
+  -- behind branches, and outside their scopes
+  branches_in : (L : Scope) (forking : Forking) (E : List EffectOwn) → All (OwnPlaced outer L) E → All (OwnPlaced outer L) (after_branches forking E)
+  branches_in L Deterministic E h = marked_in L false E h
+  branches_in L Nondeterministic E h = h
+
+  all_narrower : (M L : Scope) → Wider M L → (E : List EffectOwn) → All (OwnPlaced outer M) E → All (OwnPlaced outer L) E
+  all_narrower M L w E h = λ k d l. placed_wider_path outer M L w 0 (effect_of (slice_index_or E k d)).rpl (h k d l)
+
+  none_assigned : (L : Scope) → All (IsVariable L) []
+  none_assigned L = λ k d l. absurd (omega (arith, l))
+
   -- behind the scope of local regions
   pub regions_in : (L : Scope) (rs : List ℕ) (F : List EffectOwn) → All (OwnPlaced outer (with_regions rs L)) F → All (OwnPlaced outer L) (outside_regions rs F)
   regions_in L rs [] h = none_in L
@@ -156,7 +172,7 @@ module _ (P : PlainProgram) (wt : WellTyped P) (outer : ℕ → Bool) where
       (cases_Bool (begins_in rs (effect_of o).rpl.elems))
 
   mutual
-    stmt_effects_in : {L : Scope} {s : TypedStmt} {E : List EffectOwn} → Passes P L s E → GoodScope L → PlacedScope outer L → IsSequential s → All (OwnPlaced outer L) E
+    stmt_effects_in : {L : Scope} {s : TypedStmt} {E : List EffectOwn} → Passes P L s E → GoodScope L → PlacedScope outer L → IsCovered s → All (OwnPlaced outer L) E
     stmt_effects_in {L} (store lx h sub) good pl q = effects_in L good pl h
     stmt_effects_in {L} (store_field {c = c} {k = k} {args = args} {f = f} {E = E} {F = F} ho ty fe kn he sub) good pl q =
         both_in L E _ (effects_in L good pl ho) (both_in L F _ (effects_in L good pl he) (one_in L _ (region_in_scope L c k args f fe (args_in L good pl c args ho ty))))
@@ -176,14 +192,30 @@ module _ (P : PlainProgram) (wt : WellTyped P) (outer : ℕ → Bool) where
     stmt_effects_in {L} (print_boolean h ty) good pl q = effects_in L good pl h
     stmt_effects_in {L} print_text good pl q = none_in L
     stmt_effects_in {L} (atomic {E = E} p se) good pl q = marked_in L true E (stmts_effects_in p (good_block L good) (placed_block outer L pl) q)
-    stmt_effects_in (cobegin calm p nc) good pl q = absurd q
-    stmt_effects_in (foreach calm hs ts hc tc fr p ic) good pl q = absurd q
+    stmt_effects_in {L} (cobegin {forking = forking} {Es = Es} calm p nc) good pl q =
+        branches_in L forking (joined Es) (branches_effects_in p (none_assigned L) good pl q.2)
+    stmt_effects_in {L} (foreach {forking = forking} {x = x} {E = E} {F = F} {G = G} calm hs ts hc tc free p ic) good pl q =
+        both_in L E _ (effects_in L good pl hs) (both_in L F _ (effects_in L good pl hc)
+        (all_narrower (in_loop_branch L) L (loop_narrower L) _ (outside_in (in_loop_branch L) x (constant int) (after_branches forking G)
+        (branches_in (with_local x (constant int) (in_loop_branch L)) forking G (stmts_effects_in p
+        (good_declare (in_loop_branch L) (good_loop L good) x true int (free_in_loop L x free) tt)
+        (placed_declare outer (in_loop_branch L) (placed_loop outer L pl) x true int (free_in_loop L x free) tt) (q.1, tt))))))
     stmt_effects_in (foreach_parts cu hc tc fr p ic lc) good pl q = absurd q
 
-    pub stmts_effects_in : {L : Scope} {ss : TypedStmts} {E : List EffectOwn} → AllPass P L ss E → GoodScope L → PlacedScope outer L → AreSequential ss → All (OwnPlaced outer L) E
+    pub stmts_effects_in : {L : Scope} {ss : TypedStmts} {E : List EffectOwn} → AllPass P L ss E → GoodScope L → PlacedScope outer L → AreCovered ss → All (OwnPlaced outer L) E
     stmts_effects_in {L} no_more good pl q = none_in L
     stmts_effects_in {L} (then' {E = E} {F = F} p c rest) good pl q = both_in L E F (stmt_effects_in p good pl q.0) (stmts_effects_in rest good pl q.1)
     stmts_effects_in {L} (declare {x = x} {t = t} {is_final = is_final} {E = E} {F = F} free gt h sub rest) good pl q =
         both_in L E (outside_variable x F) (effects_in L good pl h) (outside_in L x (declared_as is_final t) F (stmts_effects_in rest (good_declare L good x is_final t free (good_type P L 0 t gt)) (placed_declare outer L pl x is_final t free (good_placed outer P L 0 t gt)) q.1))
     stmts_effects_in {L} (declare_regions {rs = rs} {F = F} fr rest) good pl q =
         regions_in L rs F (stmts_effects_in rest (good_regions L good rs) (placed_regions outer L pl rs) q.1)
+
+    branches_effects_in : {L : Scope} {others : List ℕ} {bs : TypedBranches} {Es : List (List EffectOwn)} → BranchesPass P L others bs Es → All (IsVariable L) others →
+        GoodScope L → PlacedScope outer L → BranchesCovered bs → All (OwnPlaced outer L) (joined Es)
+    branches_effects_in {L} no_branch v good pl q = none_in L
+    branches_effects_in {L} {others} (one_branch {copies = copies} {bs = bs} {E = E} {Es = Es} cv p rest) v good pl q =
+        let seen = All-append (IsVariable L) others (all_copies bs) v (copies_variables rest) in
+        both_in L E (joined Es)
+        (all_narrower (in_branch copies (others ++ all_copies bs) L) L (branch_narrower L copies (others ++ all_copies bs)) E
+        (stmts_effects_in p (good_branch L copies (others ++ all_copies bs) seen good) (placed_branch L copies (others ++ all_copies bs) seen outer pl) (q.0, tt)))
+        (branches_effects_in rest (All-append (IsVariable L) others copies v cv) good pl q.1)

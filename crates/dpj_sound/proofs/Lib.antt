@@ -4,10 +4,12 @@ pub mod Calls
 pub mod Chains
 pub mod Classes
 pub mod Closed
+pub mod Cobegins
 pub mod Codes
 pub mod Effects
 pub mod Entering
 pub mod Expressions
+pub mod Forks
 pub mod Frames
 pub mod InEffects
 pub mod InScope
@@ -15,6 +17,7 @@ pub mod Indices
 pub mod Locals
 pub mod Making
 pub mod Members
+pub mod Numbers
 pub mod Placed
 pub mod Quiet
 pub mod Regions

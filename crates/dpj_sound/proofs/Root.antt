@@ -3,8 +3,7 @@ use Rattle.std.proofs.Common.{◌≡◌, ℕ, zero, suc, ℤ, List, [], ◌∷�
 use Rattle.std.specs.Prelude.{All}
 use Rattle.dpj_base.specs.Matching.{Holds}
 use Rattle.dpj_base.specs.Types.{PlainType, int}
-use Rattle.dpj_typed.specs.Plain.{PlainProgram, PlainMember}
-use Rattle.dpj_typed.specs.Scope.{member_at}
+use Rattle.dpj_typed.specs.Plain.{PlainProgram}
 use Rattle.dpj_typed.specs.WellTyped.{WellTyped}
 use Rattle.dpj_meaning.specs.Asking.{does}
 use Rattle.dpj_meaning.specs.Elision.{enters_main}
@@ -14,11 +13,11 @@ use Rattle.dpj_steps.specs.Steps.{named_by, first_name}
 use Rattle.dpj_sound.specs.Settings.{class_setting, class_env}
 use Rattle.dpj_sound.specs.Shapes.{same, Is, GoodObject, FitsIn}
 use Rattle.dpj_sound.specs.Frames.{FrameFits}
-use Rattle.dpj_sound.specs.Sequential.{AreSequential}
+use Rattle.dpj_sound.specs.Covered.{BodiesCovered}
 use Rattle.dpj_sound.specs.Work.{InOrder}
 use Rattle.dpj_sound.specs.Laws.{Leaves, start, main_scope, main_bounds, RootInOrder}
 use Rattle.dpj_sound.proofs.Entering.{body_good, entered_fits}
-use Rattle.dpj_sound.proofs.Statements.{sequential_tasks}
+use Rattle.dpj_sound.proofs.Statements.{tasks_in_order}
 
 module _ (P : PlainProgram) (wt : WellTyped P) (no_class : wt.main.class.given ≡ []) (no_method : wt.main.member.given ≡ []) (arg : ℤ) where
   first_good : GoodObject P P.main_class []
@@ -45,15 +44,15 @@ module _ (P : PlainProgram) (wt : WellTyped P) (no_class : wt.main.class.given �
       (subst (λ z. All (Holds (class_env [])) z) (sym no_method) (λ k c l. absurd (omega (arith, l)))) first_name P.main_class [] refl first_good
       (subst (λ c. Is P P.main_class [] c []) (sym wt.main.own) same) (Int arg ∷ []) (formal wt.main.member.formals wt.main.formals)
 
-  root_order : ((n : ℕ) (m : PlainMember) → member_at P n ≡ Some m → AreSequential m.body) →
+  root_order : BodiesCovered P →
       InOrder P (main_bounds P wt) (Leaves P (main_bounds P wt) (main_scope P wt) (class_setting []) wt.main.member.body (start P)) (start P)
       (does (named_by []) P (enters_main (named_by []) first_name arg (Some wt.main.member)))
-  root_order plain =
-      sequential_tasks P wt plain (main_bounds P wt) (main_scope P wt) wt.main.member.body (wt.members P.main_member wt.main.member wt.main.member_is).effects
-      (wt.members P.main_member wt.main.member wt.main.member_is).passes (plain P.main_member wt.main.member wt.main.member_is)
+  root_order covered =
+      tasks_in_order P wt covered (main_bounds P wt) (main_scope P wt) wt.main.member.body (wt.members P.main_member wt.main.member wt.main.member_is).effects
+      (wt.members P.main_member wt.main.member wt.main.member_is).passes (covered P.main_member wt.main.member wt.main.member_is)
       (body_good P wt P.main_member wt.main.member wt.main.member_is) 499 (class_setting []) (start P) _ first_frame (λ a u l. record { effects = inl l; blocks = tt })
 
 pub root_in_order : RootInOrder
-root_in_order P wt plain nc nm arg =
+root_in_order P wt covered nc nm arg =
     subst (λ z. InOrder P (main_bounds P wt) (Leaves P (main_bounds P wt) (main_scope P wt) (class_setting []) wt.main.member.body (start P)) (start P)
-    (does (named_by []) P (enters_main (named_by []) first_name arg z))) (sym wt.main.member_is) (root_order P wt nc nm arg plain)
+    (does (named_by []) P (enters_main (named_by []) first_name arg z))) (sym wt.main.member_is) (root_order P wt nc nm arg covered)

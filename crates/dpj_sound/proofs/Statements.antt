@@ -11,20 +11,25 @@ use Rattle.dpj_base.specs.Matching.{Fits, Matches, put_in}
 use Rattle.dpj_base.specs.declared.elems.Elem.TheVariants.{At}
 use Rattle.dpj_base.specs.declared.elems.Index.TheVariants.{Literal}
 use Rattle.dpj_base.specs.Regions.{is_any, substituted}
-use Rattle.dpj_base.specs.Types.{PlainType, class, array, type_with, path_at, type_at, mentions_index}
-use Rattle.dpj_typed.specs.Effects.{Own as EffectOwn, does, uses, writes, after_block, outside_regions}
-use Rattle.dpj_typed.specs.Plain.{PlainProgram, PlainField, TypedExpr, type_of, TypedStmt, TypedStmts, no_stmts, more_stmts, PlainMember}
-use Rattle.dpj_typed.specs.Scope.{Scope, part, field_at, with_local, with_regions, member_at}
+use Rattle.dpj_base.specs.Types.{PlainType, int, class, array, type_with, path_at, type_at, mentions_index}
+use Rattle.dpj_typed.specs.Effects.{Own as EffectOwn, does, uses, writes, effect_of, as_effects, after_block, after_branches, outside_regions, outside_variable}
+use Rattle.dpj_typed.specs.Plain.{PlainProgram, PlainField, TypedExpr, type_of, TypedStmt, statement, TypedStmts, no_stmts, more_stmts, TypedBranches}
+use Rattle.dpj_typed.specs.Plain.{StmtForm as form}
+use Rattle.dpj_typed.specs.declared.stmt.Forking.{Forking}
+use Rattle.dpj_typed.specs.declared.stmt.Forking.TheVariants.{Deterministic, Nondeterministic}
+use Rattle.dpj_base.specs.Branches.{iterations_clash}
+use Rattle.dpj_typed.specs.Scope.{Scope, constant, variable, in_loop_branch, atomic_for, part, field_at, with_local, with_regions}
 use Rattle.dpj_typed.specs.Scope.{Local as ScopeLocal}
-use Rattle.dpj_typed.specs.Statements.{completes, all_complete, declared_as, Passes, AllPass, store, store_field, store_element, store_part, perform, nested, choice, choice_else, while_loop, return_nothing, return_value, print_int, print_boolean, print_text, atomic, cobegin, foreach, foreach_parts, no_more, then', declare, declare_regions}
+use Rattle.dpj_typed.specs.Statements.{IsFree, NoClash, joined, BranchesPass, completes, all_complete, declared_as, Passes, AllPass, store, store_field, store_element, store_part, perform, nested, choice, choice_else, while_loop, return_nothing, return_value, print_int, print_boolean, print_text, atomic, cobegin, foreach, foreach_parts, no_more, then', declare, declare_regions}
 use Rattle.dpj_typed.specs.Table.{class_scope}
 use Rattle.dpj_typed.specs.Types.{Known, Subtype}
 use Rattle.dpj_typed.specs.Typing.{Has, index_elem}
 use Rattle.dpj_typed.specs.WellTyped.{WellTyped}
 use Rattle.dpj_meaning.specs.Core.{Goes_on, Returns, Traps, next_of, and_then, Act}
-use Rattle.dpj_meaning.specs.Counts.{number, truth, slot_value, is_out, part_place, text_of}
+use Rattle.dpj_meaning.specs.Counts.{Back, Trap_of_branch, how_many, number, truth, slot_value, is_out, part_place, text_of}
 use Rattle.dpj_meaning.specs.Expressions.{gives, none, unless_null, part_element, of_expr}
-use Rattle.dpj_meaning.specs.Statements.{with_value, write_cell, prints, of_stmt, of_stmts}
+use Rattle.dpj_meaning.specs.Statements.{with_value, with_values, write_cell, prints, tasks_of, begun, forks, of_stmt, of_stmts}
+use Rattle.dpj_meaning.specs.Statements.{joined as joined_after, all_copies as all_copied}
 use Rattle.dpj_regions.proofs.Putting.{specified_matches_one}
 use Rattle.dpj_runs.specs.Actions.{Write, Print, Rest, Exit}
 use Rattle.dpj_runs.specs.Objects.{Name, LocalRegion, Value, Null, Object, Int, Boolean}
@@ -33,12 +38,13 @@ use Rattle.dpj_meaning.specs.Asking.{meaning}
 use Rattle.dpj_sound.proofs.Entering.{body_good}
 use Rattle.dpj_sound.specs.Settings.{with_number, Setting, env_of, class_env, under}
 use Rattle.dpj_sound.specs.Shapes.{object, elements, Shapes, Instance, ArrayInstance, FitsIn, of_object, of_array, Grows}
-use Rattle.dpj_sound.specs.Accesses.{Access, Speaks, Bounds, Within}
+use Rattle.dpj_sound.specs.Accesses.{Access, Speaks, Bounds, InEachEntry, Within}
 use Rattle.dpj_sound.specs.Frames.{Frame, State, Since, PartFits, FrameFits}
 use Rattle.dpj_sound.specs.Scopes.{PathInScope, TypeInScope, GoodScope}
-use Rattle.dpj_sound.specs.Sequential.{IsSequential, AreSequential}
-use Rattle.dpj_sound.specs.Work.{Result, Prog, Touches, Reaches, access_of, ReturnFits, Rounds, InOrder, without_latest}
-use Rattle.dpj_sound.specs.Laws.{Deeper, Yields, Leaves, DeeperInOrder, SequentialInOrder, scope_of, SequentialTasks}
+use Rattle.dpj_sound.specs.Branches.{Forks, Brings}
+use Rattle.dpj_sound.specs.Covered.{IsCovered, AreCovered, BodiesCovered, CopiesApart, BranchesCovered}
+use Rattle.dpj_sound.specs.Work.{Result, Prog, Brought, Touches, Reaches, access_of, ReturnFits, Rounds, InOrder, without_latest}
+use Rattle.dpj_sound.specs.Laws.{Deeper, Yields, Leaves, DeeperInOrder, ForkingInOrder, scope_of, TasksInOrder, branch_bounds, BranchesInOrder}
 use Rattle.dpj_sound.proofs.Closed.{closed_path, closed_type}
 use Rattle.dpj_sound.proofs.Types.{fits_grows, fits_same, same_sym, fits_with_down, path_up}
 use Rattle.dpj_sound.proofs.Indices.{IsIndexElem, fits_at_down, region_at_up, same_inside, region_alone}
@@ -57,6 +63,8 @@ use Rattle.dpj_sound.proofs.Alike.{Alike, fits_alike, setting_back}
 use Rattle.dpj_sound.proofs.Expressions.{order_unless, order_choose, order_trap}
 use Rattle.dpj_sound.proofs.Typed.{type_alone, inside_part, yields, expr_order}
 use Rattle.dpj_sound.proofs.Work.{since_now, since_since, since_after, order_then, order_on, order_post, order_ret}
+use Rattle.dpj_sound.proofs.Cobegins.{cobegin_forks, copied_fits}
+use Rattle.dpj_sound.proofs.Forks.{foreach_forks, iterations_length, copied_none, lies_branches, good_loop, placed_loop, free_in_loop}
 
 speaks_write : (g : Setting) (rpl : Rpl) (a : Access) → Matches (env_of g) rpl a.region → Speaks g (writes rpl) a
 speaks_write g rpl a m = record { matches = m; writes = λ e. refl; guarded = λ e. absurd (false≢true e) }
@@ -206,6 +214,50 @@ module _ (P : PlainProgram) (b : Bounds) where
             (fits_same P st.shapes (under k (env_of g)) t (under k (env_of i.setting)) i.element (i.same k) u (fits_at_down P st.shapes g x ix k fx t kn u fu))
             next
 
+-- forks and what is behind their joins
+module _ (P : PlainProgram) (b : Bounds) where
+  cobegin_order : (dp : Option Deeper) (L : Scope) → GoodScope L → (g : Setting) (st : State) (f : Frame) → FrameFits P b.path st g L f → (at : Place) (forking : Forking) →
+      forking ≡ Deterministic → {bs : TypedBranches} {Es : List (List EffectOwn)} → BranchesPass P L [] bs Es → NoClash P forking L Es → CopiesApart [] bs → BranchesCovered bs →
+      Within b st.entries g (after_branches forking (joined Es)) →
+      InOrder P b (Left P b L g true st) st (of_stmt (named_by b.path) P dp (statement at (form.cobegin forking bs)) f)
+  unfolding InOrder
+  cobegin_order dp L good g st f ff at Nondeterministic e p nc ca q w = absurd (let z : Nondeterministic ≡ Deterministic = e in cc)
+  cobegin_order None L good g st f ff at Deterministic e p nc ca q w = tt
+  cobegin_order (Some deeper) L good g st f ff at Deterministic e {bs} {Es} p nc ca q w =
+      λ few. (cobegin.0, λ x h s z. after x h s z)
+    where
+      cobegin : (forks : Forks P b st Deterministic (tasks_of bs f)) × ((i : ℕ) → forks.setting i ≡ g)
+          × ((i x : ℕ) (t : PlainType) → (forks.scope i).local x ≡ Some (variable t) → L.local x ≡ Some (variable t))
+      cobegin = cobegin_forks P b st L good g f ff p nc ca q (λ a gu l. w a gu (lies_branches Deterministic g (joined Es) a l))
+
+      after : (x : Brought) (h : State) → Since st h → Brings P b st Deterministic (tasks_of bs f) cobegin.0 h x →
+          InOrder P b (Left P b L g true st) h (joined_after (all_copied bs) f x)
+      after (Back ls) h s z = (
+        refl,
+        s,
+        copied_fits P b.path h L good g (all_copied bs) ls f
+            (λ x v c. (let r = z x v c in (r.ty, cobegin.2 r.number x r.ty r.local, subst (λ k. FitsIn P h.shapes (env_of k) r.ty v) (cobegin.1 r.number) r.fits))) (frame_since s ff),
+      )
+      after (Trap_of_branch trap place) h s z = tt
+
+  foreach_order : (dp : Option Deeper) (L : Scope) → GoodScope L → (g : Setting) (st : State) (f : Frame) → FrameFits P b.path st g L f → (at : Place) (forking : Forking) →
+      forking ≡ Deterministic → {x : ℕ} {s : TypedStmt} {G : List EffectOwn} → IsFree L x → AllPass P (with_local x (constant int) (in_loop_branch L)) (more_stmts s no_stmts) G →
+      iterations_clash L.given (atomic_for forking P L) x (as_effects G) ≡ false → IsCovered s → All (λ o. PathInScope (with_local x (constant int) (in_loop_branch L)) 0 (effect_of o).rpl) G →
+      Within b st.entries g (outside_variable x (after_branches forking G)) → (start count : ℤ) →
+      InOrder P b (Left P b L g true st) st (forks dp at forking None x s start count f)
+  unfolding InOrder
+  foreach_order dp L good g st f ff at Nondeterministic e free p ic q i w start count = absurd (let z : Nondeterministic ≡ Deterministic = e in cc)
+  foreach_order None L good g st f ff at Deterministic e free p ic q i w start count = tt
+  foreach_order (Some deeper) L good g st f ff at Deterministic e {x} {s} free p ic q i w start count =
+      λ few. (
+        foreach_forks P b st L good g f ff free p ic q i w start (how_many count) (let k = iterations_length None x s f start 0 (how_many count) in omega (arith, few, k)),
+        λ y h s1 z. after y h s1,
+      )
+    where
+      after : (y : Brought) (h : State) → Since st h → InOrder P b (Left P b L g true st) h (joined_after [] f y)
+      after (Back ls) h s1 = (refl, s1, subst (λ vs. FrameFits P b.path h g L (with_values f vs)) (sym (copied_none ls f.values)) (frame_since s1 ff))
+      after (Trap_of_branch trap place) h s1 = tt
+
 module _ (P : PlainProgram) (wt : WellTyped P) (b : Bounds) (dp : Option Deeper) (dd : DeeperInOrder P wt b dp) where
   -- behind an expression, which is in order
   behind : (L : Scope) → GoodScope L → (g : Setting) {e : TypedExpr} {E : List EffectOwn} → Has P L e E →
@@ -315,7 +367,7 @@ module _ (P : PlainProgram) (wt : WellTyped P) (b : Bounds) (dp : Option Deeper)
   mutual
     unfolding InOrder
 
-    stmt_order : {L : Scope} {s : TypedStmt} {E : List EffectOwn} → Passes P L s E → IsSequential s → GoodScope L → {outer : ℕ → Bool} → PlacedScope outer L →
+    stmt_order : {L : Scope} {s : TypedStmt} {E : List EffectOwn} → Passes P L s E → IsCovered s → GoodScope L → {outer : ℕ → Bool} → PlacedScope outer L →
         (g : Setting) (st : State) (f : Frame) → FrameFits P b.path st g L f → Within b st.entries g E →
         InOrder P b (Left P b L g (completes s) st) st (of_stmt (named_by b.path) P dp s f)
     stmt_order {L} (store {x = x} {t = t} lx h sub) q good pl g st f ff w =
@@ -404,12 +456,20 @@ module _ (P : PlainProgram) (wt : WellTyped P) (b : Bounds) (dp : Option Deeper)
             (subst (λ z. Within b z g E) (sym e) (within_block P b L g st f ff entry E st.entries se (all_own P wt outer L pl (after_block E) (marked_in P wt outer L true E (stmts_effects_in P wt outer p (good_block L good) (placed_block outer L pl) q))) w)))),
       ),
     )
-    stmt_order (cobegin calm p nc) q good pl g st f ff w = absurd q
-    stmt_order (foreach calm hs ts hc tc fr p ic) q good pl g st f ff w = absurd q
+    stmt_order {L} (cobegin {at = at} calm p nc) q good pl g st f ff w = cobegin_order P b dp L good g st f ff at _ q.0 p nc q.1 q.2 w
+    stmt_order {L} (foreach {at = at} {forking = forking} {x = x} {s = s} {E = E} {F = F} {G = G} calm hs ts hc tc free p ic) q good {outer} pl g st f ff w =
+        behind L good g hs _ _ st f ff (within_left b st.entries g E _ w)
+        (λ h1 v s1 fv iv. behind L good g hc _ _ h1 f (frame_since s1 ff) (within_since b s1 g F (within_left b st.entries g F _ (within_right b st.entries g E _ w)))
+        (λ h2 u s2 fu iu. order_post P b (Left P b L g true h2) (Left P b L g true st) (λ z r y. left_since P b L g true true st h2 z r (since_since s1 s2) (λ e. e) y) _ h2
+        (foreach_order P b dp L good g h2 f (frame_since (since_since s1 s2) ff) at forking q.0 free p ic q.1
+        (all_own P wt outer (with_local x (constant int) (in_loop_branch L)) (placed_declare outer (in_loop_branch L) (placed_loop outer L pl) x true int (free_in_loop L x free) tt) G
+        (stmts_effects_in P wt outer p (good_declare (in_loop_branch L) (good_loop L good) x true int (free_in_loop L x free) tt)
+        (placed_declare outer (in_loop_branch L) (placed_loop outer L pl) x true int (free_in_loop L x free) tt) (q.1, tt)))
+        (within_since b (since_since s1 s2) g _ (within_right b st.entries g F _ (within_right b st.entries g E _ w))) (number v) (number u))))
     stmt_order (foreach_parts cu hc tc fr p ic lc) q good pl g st f ff w = absurd q
 
     -- a statement that is a block of its own
-    single_order : {L : Scope} {s : TypedStmt} {E : List EffectOwn} → AllPass P L (more_stmts s no_stmts) E → IsSequential s → GoodScope L → {outer : ℕ → Bool} → PlacedScope outer L →
+    single_order : {L : Scope} {s : TypedStmt} {E : List EffectOwn} → AllPass P L (more_stmts s no_stmts) E → IsCovered s → GoodScope L → {outer : ℕ → Bool} → PlacedScope outer L →
         (g : Setting) (st : State) (f : Frame) → FrameFits P b.path st g L f → Within b st.entries g E →
         InOrder P b (Left P b L g (completes s) st) st (of_stmt (named_by b.path) P dp s f)
     single_order (then' {E = E} {F = F} p c rest) q good pl g st f ff w = stmt_order p q good pl g st f ff (within_left b st.entries g E F w)
@@ -425,7 +485,7 @@ module _ (P : PlainProgram) (wt : WellTyped P) (b : Bounds) (dp : Option Deeper)
               (λ r. old_later b.path st.made h.made r s.made (g.made r) (ff.old r)) fe,
         ))
 
-    pub stmts_order : {L : Scope} {ss : TypedStmts} {E : List EffectOwn} → AllPass P L ss E → AreSequential ss → GoodScope L → {outer : ℕ → Bool} → PlacedScope outer L →
+    pub stmts_order : {L : Scope} {ss : TypedStmts} {E : List EffectOwn} → AllPass P L ss E → AreCovered ss → GoodScope L → {outer : ℕ → Bool} → PlacedScope outer L →
         (g : Setting) (st : State) (f : Frame) → FrameFits P b.path st g L f → Within b st.entries g E →
         InOrder P b (Left P b L g (all_complete ss) st) st (of_stmts (named_by b.path) P dp ss f)
     stmts_order no_more q good pl g st f ff w = (refl, since_now st, ff)
@@ -467,23 +527,30 @@ left_leaves : (P : PlainProgram) (b : Bounds) (L : Scope) (g : Setting) (ss : Ty
 left_leaves P b L g ss st h (Goes_on v f) y = y
 left_leaves P b L g ss st h (Returns v) y = y
 
-pub sequential_in_order : SequentialInOrder
-sequential_in_order P wt b dp dd L ss E p q good g st f ff w = order_post P b (Left P b L g (all_complete ss) st) (Leaves P b L g ss st)
+pub forking_in_order : ForkingInOrder
+forking_in_order P wt b dp dd L ss E p q good g st f ff w = order_post P b (Left P b L g (all_complete ss) st) (Leaves P b L g ss st)
     (left_leaves P b L g ss st) _ st (stmts_order P wt b dp dd p q good (placed_scope L good) g st f ff w)
 
 -- at each depth of calls, by recursion on it
-module _ (P : PlainProgram) (wt : WellTyped P) (plain : (n : ℕ) (m : PlainMember) → member_at P n ≡ Some m → AreSequential m.body) (b : Bounds) where
+module _ (P : PlainProgram) (wt : WellTyped P) (covered : BodiesCovered P) (b : Bounds) where
   bodies_in_order : (left : ℕ) → DeeperInOrder P wt b (Some (meaning (named_by b.path) P left))
   unfolding meaning
   bodies_in_order zero n m there g st f ff w =
-      sequential_in_order P wt b None tt (scope_of P wt n m there) m.body (wt.members n m there).effects (wt.members n m there).passes (plain n m there)
+      forking_in_order P wt b None tt (scope_of P wt n m there) m.body (wt.members n m there).effects (wt.members n m there).passes (covered n m there)
       (body_good P wt n m there) g st f ff w
   bodies_in_order (suc left) n m there g st f ff w =
-      sequential_in_order P wt b (Some (meaning (named_by b.path) P left)) (bodies_in_order left) (scope_of P wt n m there) m.body (wt.members n m there).effects
-      (wt.members n m there).passes (plain n m there) (body_good P wt n m there) g st f ff w
+      forking_in_order P wt b (Some (meaning (named_by b.path) P left)) (bodies_in_order left) (scope_of P wt n m there) m.body (wt.members n m there).effects
+      (wt.members n m there).passes (covered n m there) (body_good P wt n m there) g st f ff w
 
-pub sequential_tasks : SequentialTasks
+pub tasks_in_order : TasksInOrder
 unfolding meaning
-sequential_tasks P wt plain b L ss E p q good zero g st f ff w = sequential_in_order P wt b None tt L ss E p q good g st f ff w
-sequential_tasks P wt plain b L ss E p q good (suc left) g st f ff w =
-    sequential_in_order P wt b (Some (meaning (named_by b.path) P left)) (bodies_in_order P wt plain b left) L ss E p q good g st f ff w
+tasks_in_order P wt covered b L ss E p q good zero g st f ff w = forking_in_order P wt b None tt L ss E p q good g st f ff w
+tasks_in_order P wt covered b L ss E p q good (suc left) g st f ff w =
+    forking_in_order P wt b (Some (meaning (named_by b.path) P left)) (bodies_in_order P wt covered b left) L ss E p q good g st f ff w
+
+pub branches_in_order : BranchesInOrder
+branches_in_order P wt covered b st forking ts forks u t e h grows none =
+    let fits = forks.branch u.1 t e in
+    tasks_in_order P wt covered (branch_bounds b st forks u) (forks.scope u.1) t.work.stmts (forks.effects u.1) fits.passes fits.covered fits.scope t.frame.left
+    (forks.setting u.1) h (begun t.work.takes t.frame) (frame_later grows (omega arith) (fits.fits u.0))
+    (λ a gu l. record { effects = inl l; blocks = subst (λ z. InEachEntry (u ∷ b.path) z a) (sym none) tt })

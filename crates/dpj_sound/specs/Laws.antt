@@ -1,11 +1,12 @@
 -- What a well-typed program keeps to, as statements.
-use Rattle.std.specs.Prelude.{◌≡◌, IsTrue, List, [], ◌∷◌, Option, Some, None, All, false, ℤ, ◌≢◌, ℕ, cond}
+use Rattle.std.specs.Prelude.{◌≡◌, IsTrue, List, [], ◌∷◌, Option, Some, None, All, false, ℤ, ◌≢◌, ℕ, cond, slice_get}
 use Rattle.dpj_base.specs.declared.elems.Elem.TheVariants.{At}
 use Rattle.dpj_base.specs.declared.elems.Index.TheVariants.{Literal}
 use Rattle.dpj_base.specs.declared.effect.Constraint.{Constraint}
 use Rattle.dpj_base.specs.Branches.{lists_clash, iterations_clash}
 use Rattle.dpj_base.specs.Matching.{Fits, IsEnv}
 use Rattle.dpj_regions.specs.Laws.{HasNoCopies}
+use Rattle.dpj_typed.specs.declared.stmt.Forking.{Forking}
 use Rattle.dpj_typed.specs.declared.stmt.Forking.TheVariants.{Deterministic}
 use Rattle.dpj_typed.specs.Plain.{PlainProgram, TypedExpr, type_of, TypedStmts, PlainMember}
 use Rattle.dpj_typed.specs.Effects.{Own, effect_of, as_effects}
@@ -17,18 +18,19 @@ use Rattle.dpj_meaning.specs.Core.{Goes_on, Returns}
 use Rattle.dpj_meaning.specs.Counts.{number}
 use Rattle.dpj_meaning.specs.Expressions.{Deeper as DeeperOf, of_expr}
 use Rattle.dpj_meaning.specs.Statements.{of_stmts}
+use Rattle.dpj_runs.specs.Actions.{Task}
 use Rattle.dpj_runs.specs.Objects.{Name, LocalRegion, same_name}
 use Rattle.dpj_steps.specs.Steps.{named_by, first_name}
 use Rattle.dpj_typed.specs.Table.{body_scope}
 use Rattle.dpj_meaning.specs.Asking.{meaning, does}
 use Rattle.dpj_meaning.specs.Elision.{root_task}
 use Rattle.dpj_sound.specs.Settings.{Setting, env_of, with_number, class_setting}
-use Rattle.dpj_sound.specs.Shapes.{FitsIn, object}
-use Rattle.dpj_sound.specs.Accesses.{Bounds, Within}
+use Rattle.dpj_sound.specs.Shapes.{Grows, FitsIn, object}
+use Rattle.dpj_sound.specs.Accesses.{Bounds, is_guarded, Within}
 use Rattle.dpj_sound.specs.Frames.{Frame, State, Since, FrameFits}
 use Rattle.dpj_sound.specs.Scopes.{PathInScope, GoodScope}
-use Rattle.dpj_sound.specs.Branches.{Quiet}
-use Rattle.dpj_sound.specs.Sequential.{AreSequential}
+use Rattle.dpj_sound.specs.Branches.{Quiet, Forks}
+use Rattle.dpj_sound.specs.Covered.{AreCovered, BodiesCovered}
 use Rattle.dpj_sound.specs.Work.{Result, GoesFitting, InOrder}
 
 abbrev pub Deeper : Type 0
@@ -64,18 +66,30 @@ ExpressionsInOrder = (P : PlainProgram) (wt : WellTyped P) (b : Bounds) (dp : Op
     Within b st.entries g E →
     InOrder P b (Yields P L g e st f) st (of_expr (named_by b.path) P dp e f)
 
--- statements without parallel constructs are in order: from locals that fit they make only accesses that their effects speak
--- of, or in local regions that they make, and leave locals that fit, or give a value of the type that a `return` gives
-abbrev pub SequentialInOrder : Type 0
-SequentialInOrder = (P : PlainProgram) (wt : WellTyped P) (b : Bounds) (dp : Option Deeper) → DeeperInOrder P wt b dp →
-    (L : Scope) (ss : TypedStmts) (E : List Own) → AllPass P L ss E → AreSequential ss → GoodScope L → (g : Setting) (st : State) (f : Frame) →
+-- statements are in order: from locals that fit they make only accesses that their effects speak of, or in local regions that
+-- they make; branches are in order at their fork; and they leave locals that fit, or give a value of the type that a `return` gives
+abbrev pub ForkingInOrder : Type 0
+ForkingInOrder = (P : PlainProgram) (wt : WellTyped P) (b : Bounds) (dp : Option Deeper) → DeeperInOrder P wt b dp →
+    (L : Scope) (ss : TypedStmts) (E : List Own) → AllPass P L ss E → AreCovered ss → GoodScope L → (g : Setting) (st : State) (f : Frame) →
     FrameFits P b.path st g L f → Within b st.entries g E → InOrder P b (Leaves P b L g ss st) st (of_stmts (named_by b.path) P dp ss f)
 
--- where no body has a parallel construct, a task is in order to its end, with all calls that it makes
-abbrev pub SequentialTasks : Type 0
-SequentialTasks = (P : PlainProgram) (wt : WellTyped P) → ((n : ℕ) (m : PlainMember) → member_at P n ≡ Some m → AreSequential m.body) → (b : Bounds) →
-    (L : Scope) (ss : TypedStmts) (E : List Own) → AllPass P L ss E → AreSequential ss → GoodScope L → (left : ℕ) (g : Setting) (st : State) (f : Frame) →
+-- a task is in order to its end, with all calls that it makes
+abbrev pub TasksInOrder : Type 0
+TasksInOrder = (P : PlainProgram) (wt : WellTyped P) → BodiesCovered P → (b : Bounds) →
+    (L : Scope) (ss : TypedStmts) (E : List Own) → AllPass P L ss E → AreCovered ss → GoodScope L → (left : ℕ) (g : Setting) (st : State) (f : Frame) →
     FrameFits P b.path st g L f → Within b st.entries g E → InOrder P b (Leaves P b L g ss st) st (meaning (named_by b.path) P left ss f)
+
+-- what a branch keeps to that begins as the branch of this number of the event of that one
+abbrev pub branch_bounds : {P : PlainProgram} {forking : Forking} {ts : List Task} (b : Bounds) (st : State) → Forks P b st forking ts → ℕ × ℕ → Bounds
+branch_bounds b st forks u =
+    record { path = u ∷ b.path; setting = forks.setting u.1; effects = forks.effects u.1; inside = is_guarded b st.entries }
+
+-- a branch that was in order at its fork is in order to its end, whenever it begins; and what it does is allowed where it was forked
+abbrev pub BranchesInOrder : Type 0
+BranchesInOrder = (P : PlainProgram) (wt : WellTyped P) → BodiesCovered P → (b : Bounds) (st : State) (forking : Forking) (ts : List Task) (forks : Forks P b st forking ts) →
+    (u : ℕ × ℕ) (t : Task) → slice_get ts u.1 ≡ Some t → (h : State) → Grows st.shapes h.shapes → h.entries ≡ [] →
+    InOrder P (branch_bounds b st forks u) (Leaves P (branch_bounds b st forks u) (forks.scope u.1) (forks.setting u.1) t.work.stmts h) h
+    (does (named_by (u ∷ b.path)) P t)
 
 -- at the start the first object stands alone
 abbrev pub start : PlainProgram → State
@@ -88,9 +102,9 @@ main_scope P wt = scope_of P wt P.main_member wt.main.member wt.main.member_is
 abbrev pub main_bounds : (P : PlainProgram) → WellTyped P → Bounds
 main_bounds P wt = record { path = []; setting = class_setting []; effects = (wt.members P.main_member wt.main.member wt.main.member_is).effects; inside = false }
 
--- the root of such a program is in order from the start, on each argument, where its class and `main` have no constraints
+-- the root is in order from the start, on each argument, where its class and `main` have no constraints
 abbrev pub RootInOrder : Type 0
-RootInOrder = (P : PlainProgram) (wt : WellTyped P) → ((n : ℕ) (m : PlainMember) → member_at P n ≡ Some m → AreSequential m.body) →
+RootInOrder = (P : PlainProgram) (wt : WellTyped P) → BodiesCovered P →
     wt.main.class.given ≡ [] → wt.main.member.given ≡ [] → (arg : ℤ) →
     InOrder P (main_bounds P wt) (Leaves P (main_bounds P wt) (main_scope P wt) (class_setting []) wt.main.member.body (start P)) (start P)
     (does (named_by []) P (root_task (named_by []) P first_name arg))

@@ -1,9 +1,9 @@
 pub mod Accesses
 pub mod Branches
+pub mod Covered
 pub mod Frames
 pub mod Laws
 pub mod Scopes
-pub mod Sequential
 pub mod Settings
 pub mod Shapes
 pub mod Work

@@ -1,5 +1,5 @@
 -- When the work of a task is in order: each of its actions, whatever fitting answers it gets.
-use Rattle.std.specs.Prelude.{◌≡◌, ℕ, suc, ℤ, Bool, true, false, List, [], ◌∷◌, Option, Some, None}
+use Rattle.std.specs.Prelude.{◌≡◌, ◌≤◌, ◌^◌, ℕ, suc, ℤ, Bool, true, false, List, [], ◌∷◌, length, Option, Some, None}
 use Rattle.dpj_base.specs.declared.elems.Elem.{Elem}
 use Rattle.dpj_base.specs.declared.region.Rpl.{Rpl}
 use Rattle.dpj_base.specs.Matching.{Env, put_in}
@@ -8,7 +8,7 @@ use Rattle.dpj_typed.specs.Plain.{PlainProgram}
 use Rattle.dpj_typed.specs.Scope.{Scope}
 use Rattle.dpj_meaning.specs.Core.{Result as ResultOf, Goes_on, Returns, Prog as ProgOf, Ret, Traps, Act, Makes, Again, Split}
 use Rattle.dpj_meaning.specs.Counts.{Brought as BroughtOf}
-use Rattle.dpj_runs.specs.Actions.{Own, Rest, Read, Write, Look, New, Print, Enter, Exit, Answer, Went, Got, Out, Class, Length, Named, Joined, Fell}
+use Rattle.dpj_runs.specs.Actions.{Task, Own, Rest, Read, Write, Look, New, Print, Enter, Exit, Answer, Went, Got, Out, Class, Length, Named, Joined, Fell}
 use Rattle.dpj_runs.specs.Objects.{Path, Name, LocalRegion, Made, Value, Effect}
 use Rattle.dpj_sound.specs.Settings.{Setting, env_of}
 use Rattle.dpj_sound.specs.Shapes.{Shape, object, elements, Shapes, Grows, FitsIn, CellAt, Describes}
@@ -135,8 +135,12 @@ GoesFitting P p g L h (Returns v) = ReturnFits P h.shapes g L.result v
 abbrev pub Rounds : PlainProgram → Path → State → Setting → Scope → State → Result → Type 0
 Rounds P p st g L h r = Since st h × GoesFitting P p g L h r
 
+-- there are no more branches than numbers of 32 bits, so that each iteration of a loop has a number of its own
+abbrev pub IsNumbered : List Task → Type 0
+IsNumbered ts = length ts ≤ 2 ^ 32
+
 -- each action is in order, whatever fits as its answer; a loop keeps locals that fit; branches are in order at their fork; and
--- where the work is done, this holds
+-- where the work is done, this holds. A fork of more branches than there are numbers is left aside
 unfoldable pub InOrder : PlainProgram → Bounds → (State → Result → Type 0) → State → Prog → Type 0
 InOrder P b Q st (Ret r) = Q st r
 InOrder P b Q st (Traps trap place) = Unit {0}
@@ -148,4 +152,4 @@ InOrder P b Q st (Again test body f k) =
     × ((h : State) (e : Frame) → Since st h → FrameFits P b.path h g L e → InOrder P b (Rounds P b.path h g L) h (body e))
     × ((h : State) (r : Result) → Rounds P b.path st g L h r → InOrder P b Q h (k r))
 InOrder P b Q st (Split forking ts does k) =
-    (forks : Forks P b st forking ts) × ((x : Brought) (h : State) → Since st h → Brings P b st forking ts forks h x → InOrder P b Q h (k x))
+    IsNumbered ts → (forks : Forks P b st forking ts) × ((x : Brought) (h : State) → Since st h → Brings P b st forking ts forks h x → InOrder P b Q h (k x))

@@ -1,17 +1,18 @@
 //! The laws of well-typed programs, each the clause of a function that does nothing.
 
-ghost use Rattle.dpj_sound.specs.Laws.{BranchesQuiet, ExpressionsInOrder, IterationsQuiet, RootInOrder, SequentialInOrder, SequentialTasks};
+ghost use Rattle.dpj_sound.specs.Laws.{BranchesInOrder, BranchesQuiet, ExpressionsInOrder, ForkingInOrder, IterationsQuiet, RootInOrder, TasksInOrder};
 
 /// Each expression of a well-typed program is in order.
 pub fn law_expressions()
     ensures { ExpressionsInOrder }
 {}
 
-/// So are its statements, those with parallel constructs left aside.
-/// And so is a task of a program that has none of these, with all calls that it makes.
+/// So are its statements, given that bodies that they call are; so is a task with all calls that it makes, so is each branch that
+/// it forks, as a task of its own, and so is the root. What is left aside `Covered` says.
 pub fn law_statements()
-    ensures statements { SequentialInOrder }
-    ensures tasks { SequentialTasks }
+    ensures statements { ForkingInOrder }
+    ensures tasks { TasksInOrder }
+    ensures branches { BranchesInOrder }
     ensures root { RootInOrder }
 {}
 
