@@ -63,7 +63,7 @@ module _ (L : Scope) (own others : List ℕ) where
   seen_index x = seen_cases own others x (L.local x) (λ o. o ≡ Some (constant int) → L.local x ≡ Some (constant int))
       (λ h e. absurd (let z = (some_reserved (L.local x) (constant int) e).0 in cc)) (λ h k e. e) (λ h e. seen_constant (L.local x) e)
 
-  seen_as_part : (x : ℕ) (t : PlainType) (a : _) → (in_branch own others L).local x ≡ Some (part t a) → L.local x ≡ Some (part t a)
+  pub seen_as_part : (x : ℕ) (t : PlainType) (a : _) → (in_branch own others L).local x ≡ Some (part t a) → L.local x ≡ Some (part t a)
   seen_as_part x t a = seen_cases own others x (L.local x) (λ o. o ≡ Some (part t a) → L.local x ≡ Some (part t a))
       (λ h e. absurd (let z = (some_reserved (L.local x) (part t a) e).0 in cc)) (λ h k e. e)
       (λ h e. (let z = seen_local (L.local x) (part t a) e in z.1 ∙ ap (λ y. Some y) (seen_part z.0 t a z.2)))

@@ -166,6 +166,14 @@ pub iterations_length : (takes : Option ℕ) (x : ℕ) (s : TypedStmt) (f : Fram
 iterations_length takes x s f start j zero = refl
 iterations_length takes x s f start j (suc n) = ap (λ y. suc y) (iterations_length takes x s f start (suc j) n)
 
+pub iteration_there : (takes : Option ℕ) (x : ℕ) (s : TypedStmt) (f : Frame) (start : ℤ) (j n i : ℕ) → i < n →
+    slice_get (iterations takes x s f start j n) i ≡ Some (branch_of takes [] s (numbered_frame x start (j + i) f))
+iteration_there takes x s f start j zero i l = absurd (omega (arith, l))
+iteration_there takes x s f start j (suc n) zero l = let k : j + 0 ≡ j = omega arith in ap (λ y. Some (branch_of takes [] s (numbered_frame x start y f))) (sym k)
+iteration_there takes x s f start j (suc n) (suc i) l =
+    let k : suc j + i ≡ j + suc i = omega arith in
+    iteration_there takes x s f start (suc j) n i (omega (arith, l)) ∙ ap (λ y. Some (branch_of takes [] s (numbered_frame x start y f))) k
+
 -- a loop copies nothing back
 pub copied_none : (ls : List (ℕ × Value)) (vs : List Value) → copied [] ls vs ≡ vs
 copied_none [] vs = refl
@@ -185,6 +193,9 @@ no_copy L (Local r n) s = refl
 all_no_copies : (L : Scope) (a : List Elem) → All (InScope L 0) a → no_copies a ≡ true
 all_no_copies L [] s = refl
 all_no_copies L (y ∷ a) s = and_from (is_no_copy y) _ (no_copy L y (All-head (InScope L 0) y a s)) (all_no_copies L a (All-tail (InScope L 0) y a s))
+
+pub none_copied : (L : Scope) (c : Constraint) → PathInScope L 0 c.left × PathInScope L 0 c.right → HasNoCopies c
+none_copied L c s = and_from (no_copies c.left.elems) _ (all_no_copies L c.left.elems s.0) (all_no_copies L c.right.elems s.1)
 
 -- behind a construct what its branches do is said without marks, or as they have it
 unmarked : (g : Setting) (o : EffectOwn) (a : Access) → Covers g o a → Covers g (marked false o) a
@@ -208,9 +219,6 @@ module _ (P : PlainProgram) (b : Bounds) (st : State) (L : Scope) (good : GoodSc
       frame_below u (f.left - 1) (frame_declare P b.path st g (in_loop_branch L) (good_loop L good) f x true int (Int (int_wrapping_add w32 start (pos i)))
       (free_in_loop L x free) tt tt (frame_loop L ff))
 
-  none_copied : (c : Constraint) → PathInScope L 0 c.left × PathInScope L 0 c.right → HasNoCopies c
-  none_copied c s = and_from (no_copies c.left.elems) _ (all_no_copies L c.left.elems s.0) (all_no_copies L c.right.elems s.1)
-
   -- iterations are in order at their fork
   pub foreach_forks : {x : ℕ} {s : TypedStmt} {G : List EffectOwn} → IsFree L x → AllPass P (with_local x (constant int) (in_loop_branch L)) (more_stmts s no_stmts) G →
       iterations_clash L.given None x (as_effects G) ≡ false → IsCovered s → All (λ o. PathInScope (with_local x (constant int) (in_loop_branch L)) 0 (effect_of o).rpl) G →
@@ -232,7 +240,7 @@ module _ (P : PlainProgram) (b : Bounds) (st : State) (L : Scope) (good : GoodSc
               (marked_scope G in_scope) (lies_branches Deterministic (with_number x (number_at i) g) G a l));
         });
     apart = λ i j ne l m. iterations_quiet P L.given (with_local x (constant int) (in_loop_branch L)) g x (number_at i) (number_at j)
-        (frame_env (iteration_frame x start i (0, 0) free)) (λ k d l. none_copied (slice_index_or L.given k d) (good.given k d l)) G in_scope clash
+        (frame_env (iteration_frame x start i (0, 0) free)) (λ k d l. none_copied L (slice_index_or L.given k d) (good.given k d l)) G in_scope clash
         (λ e. ne (number_one start i j (small i l) (small j m) e));
   }
     where

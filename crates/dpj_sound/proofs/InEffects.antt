@@ -1,5 +1,5 @@
 -- The effects of expressions and statements speak of nothing but what is in scope, and local regions stand first in them.
-use Rattle.std.proofs.Common.{slice_index_or, true, map, not, ap, inl, inr, ◌≡◌, ℕ, Bool, false, ◌==◌, List, [], ◌∷◌, ◌++◌, length, refl, sym, ◌∙◌, subst, arith, Some, ⊎_elim, slice_get}
+use Rattle.std.proofs.Common.{slice_index_or, cond, ◌+◌, true, map, not, ap, inl, inr, ◌≡◌, ℕ, Bool, false, ◌==◌, List, [], ◌∷◌, ◌++◌, length, refl, sym, ◌∙◌, subst, arith, Some, ⊎_elim, slice_get}
 use Rattle.std.specs.Prelude.{All}
 use Rattle.std.proofs.lemmas.List.Elements.{All-head, All-tail, All-cons, All-map, All-append}
 use Rattle.std.proofs.lemmas.Bool.{cases_Bool, cond-true, cond-false, eqb-true, eq-eqb, false≢true, false_from_ne_true}
@@ -12,11 +12,11 @@ use Rattle.dpj_base.specs.Regions.{substituted, generalised, general_elem}
 use Rattle.dpj_base.specs.Types.{PlainType, class, array, int, path_at}
 use Rattle.dpj_typed.specs.declared.stmt.Forking.{Forking}
 use Rattle.dpj_typed.specs.declared.stmt.Forking.TheVariants.{Deterministic, Nondeterministic}
-use Rattle.dpj_typed.specs.Effects.{Own as EffectOwn, does, uses, effect_of, effect_with, mapped, outside_variable, outside_regions, begins_in, summary_with, marked, after_branches}
-use Rattle.dpj_typed.specs.Plain.{PlainProgram, PlainClass, PlainField, PlainMember, TypedExpr, type_of, TypedExprs, TypedStmt, TypedStmts, TypedBranches}
+use Rattle.dpj_typed.specs.Effects.{Own as EffectOwn, does, uses, effect_of, effect_with, mapped, outside_variable, outside_regions, begins_in, summary_with, marked, after_branches, after_parts, own_after, is_through, handed_on}
+use Rattle.dpj_typed.specs.Plain.{PlainProgram, PlainClass, PlainField, PlainMember, TypedExpr, type_of, TypedExprs, TypedStmt, TypedStmts, TypedBranches, Source, of_array, of_part}
 use Rattle.dpj_typed.specs.Scope.{Scope, constant, part, class_at, field_at, with_local, with_regions, in_loop_branch, in_branch}
 use Rattle.dpj_typed.specs.Scope.{Local as ScopeLocal}
-use Rattle.dpj_typed.specs.Statements.{IsVariable, joined, all_copies, BranchesPass, no_branch, one_branch, declared_as, Passes, AllPass, store, store_field, store_element, store_part, perform, nested, choice, choice_else, while_loop, return_nothing, return_value, print_int, print_boolean, print_text, atomic, cobegin, foreach, foreach_parts, no_more, then', declare, declare_regions}
+use Rattle.dpj_typed.specs.Statements.{IsVariable, Cuts, cuts_array, cuts_part, with_part, joined, all_copies, BranchesPass, no_branch, one_branch, declared_as, Passes, AllPass, store, store_field, store_element, store_part, perform, nested, choice, choice_else, while_loop, return_nothing, return_value, print_int, print_boolean, print_text, atomic, cobegin, foreach, foreach_parts, no_more, then', declare, declare_regions}
 use Rattle.dpj_typed.specs.Table.{class_scope, member_scope}
 use Rattle.dpj_typed.specs.Typing.{Has, literal_int, literal_boolean, literal_null, read_local, read_field, read_element, length_of_array, call_method, create_object, construct_object, make_array, negative, negation, operation, conjunction, disjunction, length_of_part, read_part, index_elem, Fit}
 use Rattle.dpj_typed.specs.Typing.{Fit as fit}
@@ -27,9 +27,11 @@ use Rattle.dpj_sound.proofs.Closed.{closed_path}
 use Rattle.dpj_sound.proofs.Classes.{field_good}
 use Rattle.dpj_sound.proofs.InScope.{good_type, substituted_in, index_in, above_in}
 use Rattle.dpj_sound.proofs.Cobegins.{branch_narrower, good_branch, placed_branch, copies_variables}
-use Rattle.dpj_sound.proofs.Forks.{loop_narrower, good_loop, placed_loop, free_in_loop}
-use Rattle.dpj_sound.proofs.Wider.{Wider}
-use Rattle.dpj_sound.proofs.Placed.{placed_wider_path, with_outer, PathPlaced, TypePlaced, PlacedScope, placed_path, good_placed_path, good_placed, at_placed_path, out_placed_path, typed_placed}
+use Rattle.dpj_sound.proofs.Forks.{loop_narrower, loop_wider, good_loop, placed_loop, free_in_loop}
+use Rattle.dpj_sound.proofs.Parts.{good_part, placed_part, with_slots, slots_narrower}
+use Rattle.dpj_sound.proofs.Uses.{cuts_in, free_slots, free_in_branch}
+use Rattle.dpj_sound.proofs.Wider.{Wider, wider_type}
+use Rattle.dpj_sound.proofs.Placed.{placed_wider_path, placed_wider, with_outer, PathPlaced, TypePlaced, PlacedScope, placed_path, good_placed_path, good_placed, at_placed_path, out_placed_path, typed_placed}
 use Rattle.dpj_sound.proofs.Regions.{outside_path, good_regions, placed_regions, placed_block, placed_declare}
 use Rattle.dpj_sound.proofs.Blocks.{good_block}
 use Rattle.dpj_sound.proofs.Locals.{good_declare, inner_local}
@@ -159,6 +161,26 @@ module _ (P : PlainProgram) (wt : WellTyped P) (outer : ℕ → Bool) where
   none_assigned : (L : Scope) → All (IsVariable L) []
   none_assigned L = λ k d l. absurd (omega (arith, l))
 
+  -- what is cut, and what is behind a construct over parts
+  pub cut_placed : (L : Scope) → GoodScope L → PlacedScope outer L → {source : Source} {t : PlainType} {a : Rpl} {E : List EffectOwn} → Cuts P L source t a E →
+      TypePlaced outer L 0 (array t a false)
+  cut_placed L good pl (cuts_array h ty full) = subst (TypePlaced outer L 0) ty (typed_placed outer P wt L good pl h)
+  cut_placed L good pl (cuts_part {k = k} {t = t} {a = a} e) = pl.each k (part t a) e
+
+  cut_in : (L : Scope) → GoodScope L → PlacedScope outer L → {source : Source} {t : PlainType} {a : Rpl} {E : List EffectOwn} → Cuts P L source t a E →
+      All (OwnPlaced outer L) E
+  cut_in L good pl (cuts_array h ty full) = effects_in L good pl h
+  cut_in L good pl (cuts_part e) = none_in L
+
+  own_after_in : (L : Scope) (source : Source) (c : Bool) (o : EffectOwn) → OwnPlaced outer L o → OwnPlaced outer L (cond c (handed_on source (effect_of o)) o)
+  own_after_in L (of_array x) true o h = h
+  own_after_in L (of_part j) true o h = h
+  own_after_in L source false o h = h
+
+  after_parts_in : (L : Scope) (k : ℕ) (source : Source) (E : List EffectOwn) → All (OwnPlaced outer L) E → All (OwnPlaced outer L) (after_parts k source E)
+  after_parts_in L k source E h = All-map (OwnPlaced outer L) (own_after k source) E
+      (λ j d l. own_after_in L source (is_through k (slice_index_or E j d)) (slice_index_or E j d) (h j d l))
+
   -- behind the scope of local regions
   pub regions_in : (L : Scope) (rs : List ℕ) (F : List EffectOwn) → All (OwnPlaced outer (with_regions rs L)) F → All (OwnPlaced outer L) (outside_regions rs F)
   regions_in L rs [] h = none_in L
@@ -200,7 +222,15 @@ module _ (P : PlainProgram) (wt : WellTyped P) (outer : ℕ → Bool) where
         (branches_in (with_local x (constant int) (in_loop_branch L)) forking G (stmts_effects_in p
         (good_declare (in_loop_branch L) (good_loop L good) x true int (free_in_loop L x free) tt)
         (placed_declare outer (in_loop_branch L) (placed_loop outer L pl) x true int (free_in_loop L x free) tt) (q.1, tt))))))
-    stmt_effects_in (foreach_parts cu hc tc fr p ic lc) good pl q = absurd q
+    stmt_effects_in {L} (foreach_parts {k = k} {source = source} {t = t} {a = a} {E = E} {F = F} {G = G} cu hc tc free p ic lc) good pl q =
+        let inner = stmts_effects_in p (good_part (in_loop_branch L) k t a (free_in_branch L k (free_slots L k free)) (good_loop L good)
+        (wider_type L (in_loop_branch L) (loop_wider L) 0 (array t a false) (cuts_in P wt L good cu)))
+        (placed_part (in_loop_branch L) k t a (free_in_branch L k (free_slots L k free)) outer (placed_loop outer L pl)
+        (placed_wider outer L (in_loop_branch L) (loop_wider L) (part t a) (cut_placed L good pl cu))) (q, tt) in
+        both_in L E _ (cut_in L good pl cu) (both_in L F _ (effects_in L good pl hc)
+        (all_narrower (with_slots k t a (in_loop_branch L)) L (slots_narrower L k t a) _
+        (outside_in (with_slots k t a (in_loop_branch L)) (k + 4) (constant int) (after_branches Deterministic (after_parts k source G))
+        (marked_in (with_part k t a (in_loop_branch L)) false (after_parts k source G) (after_parts_in (with_part k t a (in_loop_branch L)) k source G inner)))))
 
     pub stmts_effects_in : {L : Scope} {ss : TypedStmts} {E : List EffectOwn} → AllPass P L ss E → GoodScope L → PlacedScope outer L → AreCovered ss → All (OwnPlaced outer L) E
     stmts_effects_in {L} no_more good pl q = none_in L

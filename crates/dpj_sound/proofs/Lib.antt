@@ -18,12 +18,16 @@ pub mod Locals
 pub mod Making
 pub mod Members
 pub mod Numbers
+pub mod PartForks
+pub mod Parts
 pub mod Placed
+pub mod Places
 pub mod Quiet
 pub mod Regions
 pub mod Root
 pub mod Statements
 pub mod Typed
 pub mod Types
+pub mod Uses
 pub mod Wider
 pub mod Work

@@ -104,7 +104,7 @@ local_wider L x l n = record {
   regions = λ r i. i;
 }
 
-no_part : (is_final : Bool) (t u : PlainType) (a : Rpl) → declared_as is_final t ≡ part u a → ⊥
+pub no_part : (is_final : Bool) (t u : PlainType) (a : Rpl) → declared_as is_final t ≡ part u a → ⊥
 no_part true t u a e = let z : constant t ≡ part u a = e in cc
 no_part false t u a e = let z : variable t ≡ part u a = e in cc
 

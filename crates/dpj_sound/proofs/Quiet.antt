@@ -27,7 +27,7 @@ use Rattle.dpj_sound.specs.Scopes.{InScope, PathInScope}
 use Rattle.dpj_sound.specs.Laws.{BranchesQuiet, IterationsQuiet}
 
 -- one of these effects matches the access, in an environment
-abbrev Reaches : Env → List Effect → Access → Type 0
+abbrev pub Reaches : Env → List Effect → Access → Type 0
 Reaches env [] a = ⊥
 Reaches env (e ∷ es) a = (Matches env e.rpl a.region × (a.write ≡ true → is_write e.access ≡ true)) ⊎ Reaches env es a
 
@@ -63,7 +63,7 @@ module _ (given : List Constraint) (env : Env) (v : IsEnv given env) (a c : Acce
   one_quiet e [] h x y = y
   one_quiet e (f ∷ fs) h x y = let p = or_parts (clashes given None e f) _ h in elim y [ inl z ↦ pair_quiet e f p.0 x z | inr z ↦ one_quiet e fs p.1 x z ]
 
-  lists_quiet : (es fs : List Effect) → lists_clash given None es fs ≡ false → Reaches env es a → Reaches env fs c → ⊥
+  pub lists_quiet : (es fs : List Effect) → lists_clash given None es fs ≡ false → Reaches env es a → Reaches env fs c → ⊥
   lists_quiet [] fs h x y = x
   lists_quiet (e ∷ es) fs h x y = let p = or_parts (some_clashes given None e fs) _ h in elim x [ inl z ↦ one_quiet e fs p.0 z y | inr z ↦ lists_quiet es fs p.1 z y ]
 
@@ -88,7 +88,7 @@ map_same : {A : Type 0} (xs : List A) → map (λ x. x) xs ≡ xs
 map_same [] = refl
 map_same (x ∷ xs) = ap (λ z. x ∷ z) (map_same xs)
 
-reached_same : (g : Setting) (a : Access) (E : List EffectOwn) → LiesIn g E a → Reaches (env_of g) (as_effects E) a
+pub reached_same : (g : Setting) (a : Access) (E : List EffectOwn) → LiesIn g E a → Reaches (env_of g) (as_effects E) a
 reached_same g a E h = subst (λ z. Reaches (env_of g) z a) (map_same (as_effects E)) (reached g (env_of g) (λ e. e) a E (λ k d l r m. (m, refl)) h)
 
 pub branches_quiet : BranchesQuiet

@@ -1,7 +1,8 @@
 -- Statements of a well-typed program are in order: by recursion on their typing.
-use Rattle.std.proofs.Common.{arith, ◌≡◌, inl, ℕ, ℤ, ◌+◌, pos, Bool, true, false, cond, ◌&&◌, ◌||◌, List, [], ◌∷◌, length, refl, sym, ap, ◌∙◌, subst, Option, Some, None, IsTrue, ◌≤◌, map, zero, suc}
+use Rattle.std.proofs.Common.{arith, ◌≡◌, inl, ℕ, ℤ, ◌+◌, pos, Bool, true, false, cond, ◌&&◌, ◌||◌, List, [], ◌∷◌, length, refl, sym, ap, ◌∙◌, subst, Option, Some, None, IsTrue, ◌≤◌, ◌<◌, map, zero, suc}
 use Rattle.std.specs.Prelude.{All, int_lt}
 use Rattle.std.specs.Int.{w32, int_wrapping_add}
+use Rattle.std.proofs.lemmas.List.{length-set}
 use Rattle.std.proofs.lemmas.Bool.{and_from, false≢true, or_left, or_right}
 use Rattle.dpj_base.specs.declared.elems.Elem.{Elem}
 use Rattle.dpj_base.specs.declared.place.Place.{Place}
@@ -12,32 +13,33 @@ use Rattle.dpj_base.specs.declared.elems.Elem.TheVariants.{At}
 use Rattle.dpj_base.specs.declared.elems.Index.TheVariants.{Literal}
 use Rattle.dpj_base.specs.Regions.{is_any, substituted}
 use Rattle.dpj_base.specs.Types.{PlainType, int, class, array, type_with, path_at, type_at, mentions_index}
-use Rattle.dpj_typed.specs.Effects.{Own as EffectOwn, does, uses, writes, effect_of, as_effects, after_block, after_branches, outside_regions, outside_variable}
+use Rattle.dpj_typed.specs.Effects.{Own as EffectOwn, does, uses, writes, effect_of, as_effects, besides_part, through_part, after_parts, after_block, after_branches, outside_regions, outside_variable}
 use Rattle.dpj_typed.specs.Plain.{PlainProgram, PlainField, TypedExpr, type_of, TypedStmt, statement, TypedStmts, no_stmts, more_stmts, TypedBranches}
+use Rattle.dpj_typed.specs.Plain.{Source, of_array, of_part}
 use Rattle.dpj_typed.specs.Plain.{StmtForm as form}
 use Rattle.dpj_typed.specs.declared.stmt.Forking.{Forking}
 use Rattle.dpj_typed.specs.declared.stmt.Forking.TheVariants.{Deterministic, Nondeterministic}
-use Rattle.dpj_base.specs.Branches.{iterations_clash}
-use Rattle.dpj_typed.specs.Scope.{Scope, constant, variable, in_loop_branch, atomic_for, part, field_at, with_local, with_regions}
+use Rattle.dpj_base.specs.Branches.{iterations_clash, lists_clash}
+use Rattle.dpj_typed.specs.Scope.{Scope, constant, variable, reserved, in_loop_branch, atomic_for, part, field_at, with_local, with_regions}
 use Rattle.dpj_typed.specs.Scope.{Local as ScopeLocal}
-use Rattle.dpj_typed.specs.Statements.{IsFree, NoClash, joined, BranchesPass, completes, all_complete, declared_as, Passes, AllPass, store, store_field, store_element, store_part, perform, nested, choice, choice_else, while_loop, return_nothing, return_value, print_int, print_boolean, print_text, atomic, cobegin, foreach, foreach_parts, no_more, then', declare, declare_regions}
+use Rattle.dpj_typed.specs.Statements.{with_part, Cuts, cuts_array, cuts_part, IsFree, NoClash, joined, BranchesPass, completes, all_complete, declared_as, Passes, AllPass, store, store_field, store_element, store_part, perform, nested, choice, choice_else, while_loop, return_nothing, return_value, print_int, print_boolean, print_text, atomic, cobegin, foreach, foreach_parts, no_more, then', declare, declare_regions}
 use Rattle.dpj_typed.specs.Table.{class_scope}
 use Rattle.dpj_typed.specs.Types.{Known, Subtype}
 use Rattle.dpj_typed.specs.Typing.{Has, index_elem}
 use Rattle.dpj_typed.specs.WellTyped.{WellTyped}
 use Rattle.dpj_meaning.specs.Core.{Goes_on, Returns, Traps, next_of, and_then, Act}
-use Rattle.dpj_meaning.specs.Counts.{Back, Trap_of_branch, how_many, number, truth, slot_value, is_out, part_place, text_of}
+use Rattle.dpj_meaning.specs.Counts.{Back, Trap_of_branch, how_many, length_seen, number, truth, slot_value, is_out, part_place, text_of}
 use Rattle.dpj_meaning.specs.Expressions.{gives, none, unless_null, part_element, of_expr}
-use Rattle.dpj_meaning.specs.Statements.{with_value, with_values, write_cell, prints, tasks_of, begun, forks, of_stmt, of_stmts}
+use Rattle.dpj_meaning.specs.Statements.{part_begun, part_taken_over, parts, with_value, with_values, write_cell, prints, tasks_of, begun, forks, of_stmt, of_stmts}
 use Rattle.dpj_meaning.specs.Statements.{joined as joined_after, all_copies as all_copied}
 use Rattle.dpj_regions.proofs.Putting.{specified_matches_one}
-use Rattle.dpj_runs.specs.Actions.{Write, Print, Rest, Exit}
+use Rattle.dpj_runs.specs.Actions.{Write, Look, Print, Rest, Exit, Answer, Length}
 use Rattle.dpj_runs.specs.Objects.{Name, LocalRegion, Value, Null, Object, Int, Boolean}
 use Rattle.dpj_steps.specs.Steps.{named_by}
 use Rattle.dpj_meaning.specs.Asking.{meaning}
 use Rattle.dpj_sound.proofs.Entering.{body_good}
 use Rattle.dpj_sound.specs.Settings.{with_number, Setting, env_of, class_env, under}
-use Rattle.dpj_sound.specs.Shapes.{object, elements, Shapes, Instance, ArrayInstance, FitsIn, of_object, of_array, Grows}
+use Rattle.dpj_sound.specs.Shapes.{object, elements, Shapes, Instance, ArrayInstance, FitsIn, of_object, of_array as at_array, Grows}
 use Rattle.dpj_sound.specs.Accesses.{Access, Speaks, Bounds, InEachEntry, Within}
 use Rattle.dpj_sound.specs.Frames.{Frame, State, Since, PartFits, FrameFits}
 use Rattle.dpj_sound.specs.Scopes.{PathInScope, TypeInScope, GoodScope}
@@ -50,21 +52,25 @@ use Rattle.dpj_sound.proofs.Types.{fits_grows, fits_same, same_sym, fits_with_do
 use Rattle.dpj_sound.proofs.Indices.{IsIndexElem, fits_at_down, region_at_up, same_inside, region_alone}
 use Rattle.dpj_sound.proofs.Classes.{env_alone, good_is, field_good, field_is, stands_args, subtype_fits}
 use Rattle.dpj_sound.proofs.InScope.{good_type, paths_alone, index_in, typed_in}
-use Rattle.dpj_sound.proofs.InEffects.{stmts_effects_in, marked_in, all_own}
-use Rattle.dpj_sound.proofs.Placed.{PlacedScope, placed_scope, good_placed}
+use Rattle.dpj_sound.proofs.InEffects.{stmts_effects_in, marked_in, all_own, cut_placed}
+use Rattle.dpj_sound.proofs.Placed.{PlacedScope, placed_scope, good_placed, placed_wider}
 use Rattle.dpj_sound.proofs.Regions.{good_regions, placed_regions, placed_block, placed_declare, with_made, NewRegions, makes_order, frame_regions, frame_regions_left, new_alike, within_regions}
 use Rattle.dpj_sound.proofs.Frames.{old_later, frame_since, frame_env, within_left, within_right, within_since}
-use Rattle.dpj_sound.proofs.Locals.{frame_outside, frame_store, frame_declare, frame_leave, good_declare, number_alike, lies_general}
+use Rattle.dpj_sound.proofs.Locals.{other_than, frame_outside, frame_store, frame_declare, frame_leave, good_declare, number_alike, lies_general}
 use Rattle.dpj_meaning.specs.Regions.{around, concrete_effect}
 use Rattle.dpj_typed.specs.Scope.{in_atomic_block}
 use Rattle.dpj_runs.specs.Objects.{Effect as RunEffect}
 use Rattle.dpj_sound.proofs.Blocks.{good_block, frame_later, frame_block, frame_unblock, within_block}
-use Rattle.dpj_sound.proofs.Alike.{Alike, fits_alike, setting_back}
+use Rattle.dpj_sound.proofs.Alike.{set_other, set_same, Alike, fits_alike, setting_back}
 use Rattle.dpj_sound.proofs.Expressions.{order_unless, order_choose, order_trap}
 use Rattle.dpj_sound.proofs.Typed.{type_alone, inside_part, yields, expr_order}
 use Rattle.dpj_sound.proofs.Work.{since_now, since_since, since_after, order_then, order_on, order_post, order_ret}
+use Rattle.dpj_sound.proofs.Parts.{good_part, placed_part, free_itself}
+use Rattle.dpj_sound.proofs.Wider.{wider_type}
+use Rattle.dpj_sound.proofs.PartForks.{good_parts, parts_forks}
+use Rattle.dpj_sound.proofs.Uses.{cuts_in, stmts_use, free_slots, free_in_branch}
 use Rattle.dpj_sound.proofs.Cobegins.{cobegin_forks, copied_fits}
-use Rattle.dpj_sound.proofs.Forks.{foreach_forks, iterations_length, copied_none, lies_branches, good_loop, placed_loop, free_in_loop}
+use Rattle.dpj_sound.proofs.Forks.{foreach_forks, iterations_length, copied_none, lies_branches, good_loop, placed_loop, loop_wider, free_in_loop}
 
 speaks_write : (g : Setting) (rpl : Rpl) (a : Access) → Matches (env_of g) rpl a.region → Speaks g (writes rpl) a
 speaks_write g rpl a m = record { matches = m; writes = λ e. refl; guarded = λ e. absurd (false≢true e) }
@@ -117,7 +123,7 @@ module _ (P : PlainProgram) (b : Bounds) where
                 (env_of i'.setting);
             ty = i'.element;
             rpl = i'.rpl;
-            cell = of_array;
+            cell = at_array;
           } in
           let region = (put_in (under p (env_of i'.setting)) i'.rpl).elems in
           order_write R st at n p u f
@@ -202,7 +208,7 @@ module _ (P : PlainProgram) (b : Bounds) where
                   (env_of i.setting);
               ty = i.element;
               rpl = i.rpl;
-              cell = of_array;
+              cell = at_array;
             } in
             let region = (put_in (under k (env_of i.setting)) i.rpl).elems in
             order_write R st at n k u f
@@ -250,13 +256,99 @@ module _ (P : PlainProgram) (b : Bounds) where
   foreach_order None L good g st f ff at Deterministic e free p ic q i w start count = tt
   foreach_order (Some deeper) L good g st f ff at Deterministic e {x} {s} free p ic q i w start count =
       λ few. (
-        foreach_forks P b st L good g f ff free p ic q i w start (how_many count) (let k = iterations_length None x s f start 0 (how_many count) in omega (arith, few, k)),
+        foreach_forks P b st L good g f ff free p ic q i w start (how_many count) (let k = iterations_length None x s f start 0 (how_many count) in let c = few.count in omega (arith, c, k)),
         λ y h s1 z. after y h s1,
       )
     where
       after : (y : Brought) (h : State) → Since st h → InOrder P b (Left P b L g true st) h (joined_after [] f y)
       after (Back ls) h s1 = (refl, s1, subst (λ vs. FrameFits P b.path h g L (with_values f vs)) (sym (copied_none ls f.values)) (frame_since s1 ff))
       after (Trap_of_branch trap place) h s1 = tt
+
+-- branches over the parts of an array whose slots are filled
+module _ (P : PlainProgram) (wt : WellTyped P) (b : Bounds) (L : Scope) (good : GoodScope L) (g : Setting) (k : ℕ) (t : PlainType) (a : Rpl)
+    (free : (i : ℕ) → i < 5 → IsFree L (k + i)) (s : TypeInScope L 0 (array t a false)) where
+  parts_order : (dp : Option Deeper) (st : State) (f : Frame) → FrameFits P b.path st g L f → (at : Place) (source : Source) → {body : TypedStmt} {G : List EffectOwn} →
+      AllPass P (with_part k t a (in_loop_branch L)) (more_stmts body no_stmts) G → iterations_clash L.given None (k + 4) (besides_part k G) ≡ false →
+      lists_clash L.given None (besides_part k G) (through_part k G) ≡ false → IsCovered body → All (λ o. PathInScope (with_part k t a (in_loop_branch L)) 0 (effect_of o).rpl) G →
+      Within b st.entries g (outside_variable (k + 4) (after_branches Deterministic (after_parts k source G))) →
+      FitsIn P st.shapes (env_of g) (array t a false) (slot_value f.values k) →
+      ((j : ℕ) → source ≡ of_part j →
+      g.part j ≡ record { array = slot_value f.values k; first = number (slot_value f.values (k + 1)); len = number (slot_value f.values (k + 2)) }) →
+      InOrder P b (Left P b L g true st) st (parts dp at k body f)
+  unfolding InOrder
+  parts_order None st f ff at source p ic lc q i w af is = tt
+  parts_order (Some deeper) st f ff at source {body} {G} p ic lc q i w af is =
+      λ few. (
+        parts_forks P b st L good g f ff k t a free s (s.2 refl) af p ic lc q i (stmts_use P wt p (good_parts P b st L good g f ff k t a free s))
+            source is w (how_many (number (slot_value f.values (k + 3)))) few,
+        λ y h s1 z. after y h s1,
+      )
+    where
+      after : (y : Brought) (h : State) → Since st h → InOrder P b (Left P b L g true st) h (joined_after [] f y)
+      after (Back ls) h s1 = (refl, s1, subst (λ vs. FrameFits P b.path h g L (with_values f vs)) (sym (copied_none ls f.values)) (frame_since s1 ff))
+      after (Trap_of_branch trap place) h s1 = tt
+
+  -- a slot of the part is set, and others stay
+  filled : {st : State} {f : Frame} (i : ℕ) (v : Value) → i < 5 → FrameFits P b.path st g L f → FrameFits P b.path st g L (with_value f (k + i) v)
+  filled {st} {f} i v l ff = frame_outside P b.path st g L good f (k + i) v (free i l).0 ff
+
+  filled_first : {st : State} {f : Frame} (v : Value) → FrameFits P b.path st g L f → FrameFits P b.path st g L (with_value f k v)
+  filled_first {st} {f} v ff = frame_outside P b.path st g L good f k v (free_itself L k t a free).0 ff
+
+  room : {st : State} {f : Frame} (i : ℕ) → i < 5 → FrameFits P b.path st g L f → k + i < length f.values
+  room i l ff = subst (λ z. k + i < z) (sym ff.slots) (free i l).1
+
+  room_first : {st : State} {f : Frame} → FrameFits P b.path st g L f → k < length f.values
+  room_first ff = subst (λ z. k < z) (sym ff.slots) (free_itself L k t a free).1
+
+  -- what stands in the slots that are taken over from a part
+  taken_slots : {st : State} (f : Frame) → FrameFits P b.path st g L f → (j : ℕ) → L.local j ≡ Some (part t a) → (u : Value) →
+      let e = with_value (part_taken_over k j f) (k + 3) u in
+      let d = with_value e (k + 2) (slot_value e.values (j + 2)) in
+      (slot_value d.values k ≡ slot_value f.values j) × (slot_value d.values (k + 1) ≡ slot_value f.values (j + 1)) × (slot_value d.values (k + 2) ≡ slot_value f.values (j + 2))
+  taken_slots {st} f ff j lj u =
+      let held = good.parts j t a lj in
+      let first = with_value f k (slot_value f.values j) in
+      let over = part_taken_over k j f in
+      let e = with_value (part_taken_over k j f) (k + 3) u in
+      let last = slot_value e.values (j + 2) in
+      let n1 = length-set f.values k (slot_value f.values j) in
+      let n2 = length-set first.values (k + 1) (slot_value first.values (j + 1)) in
+      let n3 = length-set over.values (k + 3) u in (
+        set_other e.values (k + 2) k last (λ z. omega (arith, z)) ∙ set_other over.values (k + 3) k u (λ z. omega (arith, z))
+            ∙ set_other first.values (k + 1) k (slot_value first.values (j + 1)) (λ z. omega (arith, z)) ∙ set_same f.values k (slot_value f.values j) (room_first ff),
+        set_other e.values (k + 2) (k + 1) last (λ z. omega (arith, z)) ∙ set_other over.values (k + 3) (k + 1) u (λ z. omega (arith, z))
+            ∙ set_same first.values (k + 1) (slot_value first.values (j + 1)) (let l = room 1 (omega arith) ff in omega (arith, l, n1))
+            ∙ set_other f.values k (j + 1) (slot_value f.values j) (other_than L k (j + 1) reserved held.0 (free_itself L k t a free).0),
+        set_same e.values (k + 2) last (let l = room 2 (omega arith) ff in omega (arith, l, n1, n2, n3))
+            ∙ set_other over.values (k + 3) (j + 2) u (other_than L (k + 3) (j + 2) reserved held.1 (free 3 (omega arith)).0)
+            ∙ set_other first.values (k + 1) (j + 2) (slot_value first.values (j + 1)) (other_than L (k + 1) (j + 2) reserved held.1 (free 1 (omega arith)).0)
+            ∙ set_other f.values k (j + 2) (slot_value f.values j) (other_than L k (j + 2) reserved held.1 (free_itself L k t a free).0),
+      )
+
+  -- behind the look at the array that is cut
+  array_order : (dp : Option Deeper) (st : State) (f : Frame) → FrameFits P b.path st g L f → (at : Place) (e : TypedExpr) → {body : TypedStmt} {G : List EffectOwn} →
+      AllPass P (with_part k t a (in_loop_branch L)) (more_stmts body no_stmts) G → iterations_clash L.given None (k + 4) (besides_part k G) ≡ false →
+      lists_clash L.given None (besides_part k G) (through_part k G) ≡ false → IsCovered body → All (λ o. PathInScope (with_part k t a (in_loop_branch L)) 0 (effect_of o).rpl) G →
+      Within b st.entries g (outside_variable (k + 4) (after_branches Deterministic (after_parts k (of_array e) G))) →
+      (v : Value) → slot_value f.values k ≡ v → FitsIn P st.shapes (env_of g) (array t a false) v →
+      InOrder P b (Left P b L g true st) st (unless_null at v (λ n. Act (Look n) (λ x. parts dp at k body (with_value f (k + 2) (Int (pos (length_seen x)))))))
+  unfolding InOrder
+  array_order dp st f ff at e {body} {G} p ic lc q i w v is fv = order_unless P b (Left P b L g true st) st at (ArrayInstance st.shapes (env_of g) t a)
+      (λ n. Act (Look n) (λ x. parts dp at k body (with_value f (k + 2) (Int (pos (length_seen x)))))) looked v fv
+    where
+      seen : (u : State) → Since st u → (x : Answer) → (len : ℕ) → x ≡ Length len → InOrder P b (Left P b L g true st) u (parts dp at k body (with_value f (k + 2) (Int (pos (length_seen x)))))
+      seen u s1 x len q1 =
+          order_post P b (Left P b L g true u) (Left P b L g true st) (λ z r y. left_since P b L g true true st u z r s1 (λ e. e) y) _ u
+          (parts_order dp u (with_value f (k + 2) (Int (pos (length_seen x)))) (filled 2 (Int (pos (length_seen x))) (omega arith) (frame_since s1 ff)) at (of_array e) p ic lc q i
+          (within_since b s1 g _ w)
+          (subst (FitsIn P u.shapes (env_of g) (array t a false))
+          (sym (set_other f.values (k + 2) k (Int (pos (length_seen x))) (λ e. omega (arith, e)) ∙ is)) (fits_grows P st.shapes u.shapes s1.grows (env_of g) (array t a false) v fv))
+          (λ j z. absurd (let y : of_array e ≡ of_part j = z in cc)))
+
+      looked : (n : Name) → ArrayInstance st.shapes (env_of g) t a n →
+          InOrder P b (Left P b L g true st) st (Act (Look n) (λ x. parts dp at k body (with_value f (k + 2) (Int (pos (length_seen x))))))
+      looked n i' = ((elements i'.setting i'.element i'.rpl, i'.shape), λ x u after ans. seen u (since_after (Look n) refl after) x ans.0 ans.1)
 
 module _ (P : PlainProgram) (wt : WellTyped P) (b : Bounds) (dp : Option Deeper) (dd : DeeperInOrder P wt b dp) where
   -- behind an expression, which is in order
@@ -364,6 +456,16 @@ module _ (P : PlainProgram) (wt : WellTyped P) (b : Bounds) (dp : Option Deeper)
   )
   left_regions L good g rs made al st h u ff c (Returns v) s y = (since_since s y.0, return_regions L good g made al u.shapes L.result refl v y.1)
 
+  parts_scope : (L : Scope) → GoodScope L → {outer : ℕ → Bool} → PlacedScope outer L → {source : Source} (k : ℕ) {t : PlainType} {a : Rpl} {E G : List EffectOwn} {body : TypedStmt} →
+      Cuts P L source t a E → All (λ i. IsFree L (k + i)) (0 ∷ 1 ∷ 2 ∷ 3 ∷ 4 ∷ []) → AllPass P (with_part k t a (in_loop_branch L)) (more_stmts body no_stmts) G → IsCovered body →
+      All (λ o. PathInScope (with_part k t a (in_loop_branch L)) 0 (effect_of o).rpl) G
+  parts_scope L good {outer} pl {source} k {t} {a} {E} {G} cu fr p q =
+      let good' = good_part (in_loop_branch L) k t a (free_in_branch L k (free_slots L k fr)) (good_loop L good)
+      (wider_type L (in_loop_branch L) (loop_wider L) 0 (array t a false) (cuts_in P wt L good cu)) in
+      let placed' = placed_part (in_loop_branch L) k t a (free_in_branch L k (free_slots L k fr)) outer (placed_loop outer L pl)
+      (placed_wider outer L (in_loop_branch L) (loop_wider L) (part t a) (cut_placed P wt outer L good pl cu)) in
+      all_own P wt outer (with_part k t a (in_loop_branch L)) placed' G (stmts_effects_in P wt outer p good' placed' (q, tt))
+
   mutual
     unfolding InOrder
 
@@ -466,7 +568,46 @@ module _ (P : PlainProgram) (wt : WellTyped P) (b : Bounds) (dp : Option Deeper)
         (stmts_effects_in P wt outer p (good_declare (in_loop_branch L) (good_loop L good) x true int (free_in_loop L x free) tt)
         (placed_declare outer (in_loop_branch L) (placed_loop outer L pl) x true int (free_in_loop L x free) tt) (q.1, tt)))
         (within_since b (since_since s1 s2) g _ (within_right b st.entries g F _ (within_right b st.entries g E _ w))) (number v) (number u))))
-    stmt_order (foreach_parts cu hc tc fr p ic lc) q good pl g st f ff w = absurd q
+    stmt_order {L} (foreach_parts {at = at} {k = k} {s = body} {t = t} {a = a} {E = E} {F = F} {G = G} (cuts_array {e = e} ha ty full) hc tc fr p ic lc) q good {outer} pl g st f ff w =
+        let cu = cuts_array ha ty full in
+        let free = free_slots L k fr in
+        let scope = cuts_in P wt L good cu in
+        behind L good g ha _ _ st f ff (within_left b st.entries g E _ w)
+        (λ h1 v s1 fv iv.
+        (let f1 : FrameFits P b.path h1 g L (part_begun k v f) = filled P wt b L good g k t a free scope 1 (Int (pos 0)) (omega arith) (filled_first P wt b L good g k t a free scope v (frame_since s1 ff)) in
+        behind L good g hc _ _ h1 (part_begun k v f) f1 (within_since b s1 g F (within_left b st.entries g F _ (within_right b st.entries g E _ w)))
+        (λ h2 u s2 fu iu.
+        (let f2 : FrameFits P b.path h2 g L (with_value (part_begun k v f) (k + 3) u) = filled P wt b L good g k t a free scope 3 u (omega arith) (frame_since s2 f1) in
+        let is : slot_value (with_value (part_begun k v f) (k + 3) u).values k ≡ v =
+        set_other (part_begun k v f).values (k + 3) k u (λ z. omega (arith, z)) ∙ set_other (with_value f k v).values (k + 1) k (Int (pos 0)) (λ z. omega (arith, z))
+        ∙ set_same f.values k v (room_first P wt b L good g k t a free scope ff) in
+        order_post P b (Left P b L g true h2) (Left P b L g true st) (λ z r y. left_since P b L g true true st h2 z r (since_since s1 s2) (λ e. e) y) _ h2
+        (subst (λ z. InOrder P b (Left P b L g true h2) h2 (unless_null at z (λ n. Act (Look n)
+        (λ x. parts dp at k body (with_value (with_value (part_begun k v f) (k + 3) u) (k + 2) (Int (pos (length_seen x)))))))) (sym is)
+        (array_order P wt b L good g k t a free scope dp h2 (with_value (part_begun k v f) (k + 3) u) f2 at e p ic lc q (parts_scope L good pl k cu fr p q)
+        (within_since b (since_since s1 s2) g _ (within_right b st.entries g F _ (within_right b st.entries g E _ w))) v is
+        (fits_grows P h1.shapes h2.shapes s2.grows (env_of g) (array t a false) v (subst (λ z. FitsIn P h1.shapes (env_of g) z v) ty fv))))))))
+    stmt_order {L} (foreach_parts {at = at} {k = k} {t = t} {a = a} {E = E} {F = F} {G = G} (cuts_part {k = j} e) hc tc fr p ic lc) q good {outer} pl g st f ff w =
+        let cu = cuts_part e in
+        let free = free_slots L k fr in
+        let scope = cuts_in P wt L good cu in
+        let held = good.parts j t a e in
+        let pf : PartFits P st.shapes g f.values j t a = ff.each j (part t a) e in
+        let f1 : FrameFits P b.path st g L (part_taken_over k j f) =
+        filled P wt b L good g k t a free scope 1 (slot_value (with_value f k (slot_value f.values j)).values (j + 1)) (omega arith)
+        (filled_first P wt b L good g k t a free scope (slot_value f.values j) ff) in
+        behind L good g hc _ _ st (part_taken_over k j f) f1 (within_left b st.entries g F _ (within_right b st.entries g E _ w))
+        (λ h1 u s1 fu iu.
+        (let f2 : FrameFits P b.path h1 g L (with_value (part_taken_over k j f) (k + 3) u) = filled P wt b L good g k t a free scope 3 u (omega arith) (frame_since s1 f1) in
+        let slots = taken_slots P wt b L good g k t a free scope f ff j e u in
+        let d = with_value (with_value (part_taken_over k j f) (k + 3) u) (k + 2) (slot_value (with_value (part_taken_over k j f) (k + 3) u).values (j + 2)) in
+        order_post P b (Left P b L g true h1) (Left P b L g true st) (λ z r y. left_since P b L g true true st h1 z r s1 (λ e. e) y) _ h1
+        (parts_order P wt b L good g k t a free scope dp h1 _
+        (filled P wt b L good g k t a free scope 2 (slot_value (with_value (part_taken_over k j f) (k + 3) u).values (j + 2)) (omega arith) f2) at (of_part j) p ic lc q (parts_scope L good pl k cu fr p q)
+        (within_since b s1 g _ (within_right b st.entries g F _ (within_right b st.entries g E _ w)))
+        (subst (FitsIn P h1.shapes (env_of g) (array t a false)) (sym slots.0) (fits_grows P st.shapes h1.shapes s1.grows (env_of g) (array t a false) _ pf.array))
+        (λ i z. (let y : j ≡ i = (let x : of_part j ≡ of_part i = z in cc) in subst (λ x. g.part x ≡ record { array = slot_value d.values k; first = number (slot_value d.values (k + 1)); len = number (slot_value d.values (k + 2)) }) y
+        (pf.places ∙ sym (λ i. record { array = slots.0 i; first = number (slots.1 i); len = number (slots.2 i) })))))))
 
     -- a statement that is a block of its own
     single_order : {L : Scope} {s : TypedStmt} {E : List EffectOwn} → AllPass P L (more_stmts s no_stmts) E → IsCovered s → GoodScope L → {outer : ℕ → Bool} → PlacedScope outer L →

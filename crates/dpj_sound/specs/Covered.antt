@@ -1,5 +1,5 @@
--- The statements that the laws speak of: those whose parallel constructs are deterministic ones and cut no array into parts, and
--- where no two branches of a `cobegin` copy the same slot back.
+-- The statements that the laws speak of: those whose parallel constructs are deterministic ones, and where no two branches of a
+-- `cobegin` copy the same slot back.
 use Rattle.std.specs.Prelude.{◌≡◌, ℕ, ◌==◌, false, List, [], ◌++◌, All, Some}
 use Rattle.std.specs.List.{list_any}
 use Rattle.dpj_typed.specs.declared.stmt.Forking.TheVariants.{Deterministic}
@@ -20,7 +20,7 @@ abbrev mutual
   IsCovered (statement at (form.atomic entry ss)) = AreCovered ss
   IsCovered (statement at (form.cobegin forking bs)) = (forking ≡ Deterministic) × CopiesApart [] bs × BranchesCovered bs
   IsCovered (statement at (form.foreach forking x start count s)) = (forking ≡ Deterministic) × IsCovered s
-  IsCovered (statement at (form.foreach_parts k source count s)) = ⊥
+  IsCovered (statement at (form.foreach_parts k source count s)) = IsCovered s
   IsCovered (statement at (form.block ss)) = AreCovered ss
   IsCovered (statement at (form.choice e s)) = IsCovered s
   IsCovered (statement at (form.choice_else e s t)) = IsCovered s × IsCovered t

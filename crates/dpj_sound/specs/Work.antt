@@ -1,5 +1,5 @@
 -- When the work of a task is in order: each of its actions, whatever fitting answers it gets.
-use Rattle.std.specs.Prelude.{◌≡◌, ◌≤◌, ◌^◌, ℕ, suc, ℤ, Bool, true, false, List, [], ◌∷◌, length, Option, Some, None}
+use Rattle.std.specs.Prelude.{◌≡◌, ◌≤◌, ◌+◌, ◌^◌, ℕ, suc, ℤ, pos, int_lt, Bool, true, false, List, [], ◌∷◌, length, slice_get, Option, Some, None}
 use Rattle.dpj_base.specs.declared.elems.Elem.{Elem}
 use Rattle.dpj_base.specs.declared.region.Rpl.{Rpl}
 use Rattle.dpj_base.specs.Matching.{Env, put_in}
@@ -7,7 +7,7 @@ use Rattle.dpj_base.specs.Types.{PlainType}
 use Rattle.dpj_typed.specs.Plain.{PlainProgram}
 use Rattle.dpj_typed.specs.Scope.{Scope}
 use Rattle.dpj_meaning.specs.Core.{Result as ResultOf, Goes_on, Returns, Prog as ProgOf, Ret, Traps, Act, Makes, Again, Split}
-use Rattle.dpj_meaning.specs.Counts.{Brought as BroughtOf}
+use Rattle.dpj_meaning.specs.Counts.{Brought as BroughtOf, number, slot_value}
 use Rattle.dpj_runs.specs.Actions.{Task, Own, Rest, Read, Write, Look, New, Print, Enter, Exit, Answer, Went, Got, Out, Class, Length, Named, Joined, Fell}
 use Rattle.dpj_runs.specs.Objects.{Path, Name, LocalRegion, Made, Value, Effect}
 use Rattle.dpj_sound.specs.Settings.{Setting, env_of}
@@ -135,12 +135,15 @@ GoesFitting P p g L h (Returns v) = ReturnFits P h.shapes g L.result v
 abbrev pub Rounds : PlainProgram → Path → State → Setting → Scope → State → Result → Type 0
 Rounds P p st g L h r = Since st h × GoesFitting P p g L h r
 
--- there are no more branches than numbers of 32 bits, so that each iteration of a loop has a number of its own
-abbrev pub IsNumbered : List Task → Type 0
-IsNumbered ts = length ts ≤ 2 ^ 32
+-- there are no more branches than numbers of 32 bits, so that each iteration of a loop has a number of its own; and what they take
+-- parts of has no more places
+pub record IsNumbered (ts : List Task) : Type 0 where
+  pub count : length ts ≤ 2 ^ 32
+  pub places : (i k : ℕ) (t : Task) → slice_get ts i ≡ Some t → t.work.takes ≡ Some k →
+      int_lt (pos (2 ^ 32)) (number (slot_value t.frame.values (k + 2))) ≡ false
 
 -- each action is in order, whatever fits as its answer; a loop keeps locals that fit; branches are in order at their fork; and
--- where the work is done, this holds. A fork of more branches than there are numbers is left aside
+-- where the work is done, this holds. Forks of which that doesn't hold are left aside
 unfoldable pub InOrder : PlainProgram → Bounds → (State → Result → Type 0) → State → Prog → Type 0
 InOrder P b Q st (Ret r) = Q st r
 InOrder P b Q st (Traps trap place) = Unit {0}
