@@ -37,6 +37,7 @@ pub frame_later : {P : PlainProgram} {p : Path} {s t : State} {g : Setting} {L :
 frame_later {P} {p} {s} {t} {g} {L} {f} h m ff = record {
   regions = ff.regions;
   plain = ff.plain;
+  atomic = ff.atomic;
   given = ff.given;
   index = ff.index;
   made = ff.made;
@@ -52,6 +53,7 @@ pub frame_block : {P : PlainProgram} {p : Path} {s : State} {g : Setting} {f : F
 frame_block L ff = record {
   regions = ff.regions;
   plain = ff.plain;
+  atomic = ff.atomic;
   given = ff.given;
   index = ff.index;
   made = ff.made;
@@ -67,6 +69,7 @@ pub frame_unblock : {P : PlainProgram} {p : Path} {s : State} {g : Setting} {f :
 frame_unblock L ff = record {
   regions = ff.regions;
   plain = ff.plain;
+  atomic = ff.atomic;
   given = ff.given;
   index = ff.index;
   made = ff.made;

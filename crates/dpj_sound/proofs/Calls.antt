@@ -25,7 +25,7 @@ use Rattle.dpj_runs.specs.Actions.{Look, New, Class, Named, Answer}
 use Rattle.dpj_runs.specs.Objects.{Value, Null, Object, Region}
 use Rattle.dpj_runs.specs.Objects.{Name as ObjectName}
 use Rattle.dpj_steps.specs.Steps.{named_by}
-use Rattle.dpj_sound.specs.Settings.{Setting, ArePlain, env_of, class_setting, class_env}
+use Rattle.dpj_sound.specs.Settings.{Setting, ArePlain, EndAtomic, env_of, class_setting, class_env}
 use Rattle.dpj_sound.specs.Shapes.{object, Shapes, Grows, Is, same, AllMatch, GoodObject, Instance, FitsIn}
 use Rattle.dpj_sound.specs.Accesses.{Bounds, Within}
 use Rattle.dpj_sound.specs.Frames.{Frame, State, Since, FrameFits}
@@ -40,7 +40,7 @@ use Rattle.dpj_sound.proofs.Entering.{given_holds, scope, entered_fits}
 use Rattle.dpj_sound.proofs.Expressions.{order_cond, order_trap}
 use Rattle.dpj_sound.proofs.Frames.{frame_since, frame_env}
 use Rattle.dpj_sound.proofs.InScope.{paths_alone, good_path}
-use Rattle.dpj_sound.proofs.Making.{put, args_plain, args_match, made_good, order_new}
+use Rattle.dpj_sound.proofs.Making.{put, args_plain, args_match, made_atomic, made_good, order_new}
 use Rattle.dpj_sound.proofs.Members.{full_arguments, MemberAt, row_there, same_member, Signature, signature_at, RowAt, row_is, plain_both}
 use Rattle.dpj_sound.proofs.Work.{since_since, since_after, order_on, order_ret}
 
@@ -163,6 +163,10 @@ module _ (P : PlainProgram) (wt : WellTyped P) (b : Bounds) (L : Scope) (g : Set
         given' = row.stands.given (given_holds N L.given (env_of g) (class_env (A0.regions ++ map (put P wt b L g u f ff) regions))
             (owned ++ regions) env (env_alone L.given (env_of g) env) st m.given sig.given ga.hold)
 
+        own_atomic : EndAtomic P.region_names row.at.member.params (map (put P wt b L g u f ff) regions)
+        own_atomic = subst (λ z. EndAtomic P.region_names z (map (put P wt b L g u f ff) regions)) (sym row.stands.params)
+            (made_atomic P wt b L g u f ff m.params m.given owned regions ga fu)
+
         actuals : (x : ℕ) (t : PlainType) → slice_get row.at.member.formals x ≡ Some t →
             FitsIn P u.shapes (class_env (row.at.regions ++ map (put P wt b L g u f ff) regions)) t (slice_index_or vs x Null)
         actuals x t h =
@@ -176,7 +180,7 @@ module _ (P : PlainProgram) (wt : WellTyped P) (b : Bounds) (L : Scope) (g : Set
         frame : FrameFits P b.path u (class_setting (row.at.regions ++ map (put P wt b L g u f ff) regions)) (scope P wt row.number row.at.member row.at.there)
             (entered (named_by b.path) row.at.member (Object o ∷ vs) (row.at.regions ++ map (put P wt b L g u f ff) regions) (f.left - 1))
         frame = entered_fits P wt row.number row.at.member row.at.there b.path u row.at.regions (map (put P wt b L g u f ff) regions) (f.left - 1)
-            (good_is P wt row.at.is_one i.good) plain given' o i.class i.made_with i.shape i.good
+            (good_is P wt row.at.is_one i.good) plain own_atomic given' o i.class i.made_with i.shape i.good
             row.at.is_one vs actuals
 
         inner_env : IsEnv [] (class_env (row.at.regions ++ map (put P wt b L g u f ff) regions))
@@ -324,6 +328,9 @@ module _ (P : PlainProgram) (wt : WellTyped P) (b : Bounds) (L : Scope) (g : Set
           (λ p _. full_arguments args fu p) (slice_index_or vs x Null)
           (actual_at P h.shapes (env_of g) (type_with args) m.formals vs fits x t z)
 
+      no_params : EndAtomic P.region_names m.params []
+      no_params = let z : m.params ≡ [] = ap (λ (y : PlainMember). y.params) (sym one) ∙ ic.params in subst (λ y. EndAtomic P.region_names y []) (sym z) (λ p h. absurd (false≢true h))
+
       none_given : All (Holds (class_env (map (put P wt b L g st f ff) args ++ []))) m.given
       none_given = let z : m.given ≡ [] = ap (λ (y : PlainMember). y.given) (sym one) ∙ ic.given in subst
           (λ y. All (Holds (class_env (map (put P wt b L g st f ff) args ++ []))) y) (sym z) (no_given _)
@@ -332,7 +339,7 @@ module _ (P : PlainProgram) (wt : WellTyped P) (b : Bounds) (L : Scope) (g : Set
       good_class = good_is P wt at_class gd
 
       frame : FrameFits P b.path h (class_setting (map (put P wt b L g st f ff) args ++ [])) (scope P wt n m there) (entered (named_by b.path) m (Object o ∷ vs) (map (put P wt b L g st f ff) args ++ []) (f.left - 1))
-      frame = entered_fits P wt n m there b.path h (map (put P wt b L g st f ff) args) [] (f.left - 1) good_class nothing none_given o c
+      frame = entered_fits P wt n m there b.path h (map (put P wt b L g st f ff) args) [] (f.left - 1) good_class nothing no_params none_given o c
           (map (put P wt b L g st f ff) args) shape gd at_class vs actuals
 
       inner_env : IsEnv [] (class_env (map (put P wt b L g st f ff) args ++ []))

@@ -18,7 +18,7 @@ use Rattle.dpj_base.specs.Matching.{head_region as env_region}
 use Rattle.dpj_base.specs.Regions.{is_local, is_specified, all_specified, fully_specified, within, argument, put_at, substituted}
 use Rattle.dpj_base.specs.Types.{PlainType, int, boolean, void, null, class, array, type_with, all_within}
 use Rattle.dpj_typed.specs.Plain.{PlainProgram, PlainClass, PlainField, PlainParent}
-use Rattle.dpj_typed.specs.Scope.{class_at, field_at, parent_of}
+use Rattle.dpj_typed.specs.Scope.{class_at, field_at, parent_of, atomic_in}
 use Rattle.dpj_typed.specs.Table.{class_scope, field_with, GoodField, Extends}
 use Rattle.dpj_typed.specs.Types.{Subtype, ints, booleans, null_object, null_array, objects, arrays, inherits}
 use Rattle.dpj_typed.specs.WellTyped.{WellTyped}
@@ -32,6 +32,7 @@ use Rattle.dpj_runs.specs.Objects.{Name as ObjectName}
 use Rattle.dpj_steps.specs.Steps.{named_by}
 use Rattle.dpj_sound.specs.Settings.{elem_of, elems_of, region_in, ArePlain, class_setting, class_env, under}
 use Rattle.dpj_sound.specs.Shapes.{Shapes, regions_of_parent, Is, same, up, AllMatch, GoodObject, Instance, SameIn, ArrayInstance, FitsIn}
+use Rattle.dpj_sound.proofs.Atomic.{args_atomic}
 use Rattle.dpj_sound.proofs.Closed.{IsClosed, ClosedPath, closed_put, closed_holds, closed_path, closed_type}
 use Rattle.dpj_sound.proofs.Codes.{setting_env, unmade_one}
 use Rattle.dpj_sound.proofs.Types.{same_refl, same_sym, same_trans, same_type, null_or, array_onto, NoOwn, Stands, path_up, same_with}
@@ -267,6 +268,8 @@ module _ (P : PlainProgram) (wt : WellTyped P) where
         is = x.is;
         arity = length-map p.args (λ a. concrete (named_by []) (record { values = []; regions = rs; locals = [] }) a) ∙ x.args.arity;
         plain = parent_plain c g.class p x rs g.plain;
+        atomic = args_atomic (atomic_in P (class_scope g.class)) (class_env rs) g.atomic x.above.params p.args (regions_of_parent rs p) x.args.arity
+            (parent_stands c g.class p x 0 rs).match x.args.atomic;
         given = parent_given c g.class p x rs g.plain g.given;
       }
 

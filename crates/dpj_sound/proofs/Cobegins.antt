@@ -4,8 +4,10 @@ use Rattle.std.specs.Prelude.{All, Contains, option_map}
 use Rattle.std.specs.List.{list_any}
 use Rattle.std.proofs.lemmas.List.Elements.{All-head, All-tail, All-append}
 use Rattle.std.proofs.lemmas.Bool.{cases_Bool, cases_order, eqb-true, eq-eqb, false≢true, or_left, or_right}
+use Rattle.dpj_base.specs.Branches.{ends_atomic}
 use Rattle.dpj_base.specs.Types.{PlainType, int}
-use Rattle.dpj_typed.specs.declared.stmt.Forking.TheVariants.{Deterministic}
+use Rattle.dpj_typed.specs.declared.stmt.Forking.{Forking}
+use Rattle.dpj_typed.specs.declared.stmt.Forking.TheVariants.{Deterministic, Nondeterministic}
 use Rattle.dpj_typed.specs.Effects.{Own as EffectOwn}
 use Rattle.dpj_typed.specs.Plain.{PlainProgram, TypedBranches, no_branches, more_branches}
 use Rattle.dpj_typed.specs.Scope.{Scope, variable, frozen, constant, part, reserved, read_alone, seen_in_branch, in_branch}
@@ -18,7 +20,7 @@ use Rattle.dpj_runs.specs.Objects.{Path, Value}
 use Rattle.dpj_sound.specs.Settings.{Setting, env_of}
 use Rattle.dpj_sound.specs.Shapes.{FitsIn}
 use Rattle.dpj_sound.specs.Accesses.{Bounds, Within}
-use Rattle.dpj_sound.specs.Branches.{Quiet, BranchFits, Forks}
+use Rattle.dpj_sound.specs.Branches.{MayMeet, Quiet, BranchFits, Forks}
 use Rattle.dpj_sound.specs.Covered.{CopiesApart, BranchesCovered}
 use Rattle.dpj_sound.specs.Frames.{Frame, State, LocalFits, FrameFits}
 use Rattle.dpj_sound.specs.Scopes.{LocalInScope, GoodScope}
@@ -26,7 +28,7 @@ use Rattle.dpj_sound.proofs.Forks.{seen_constant, seen_local, seen_part, alone_i
 use Rattle.dpj_sound.proofs.Frames.{frame_env, lies_left, lies_right}
 use Rattle.dpj_sound.proofs.Locals.{frame_store}
 use Rattle.dpj_sound.proofs.Placed.{LocalPlaced, PlacedScope, placed_wider}
-use Rattle.dpj_sound.proofs.Quiet.{branches_quiet}
+use Rattle.dpj_sound.proofs.Quiet.{branches_quiet_of}
 use Rattle.dpj_sound.proofs.Wider.{Wider, wider_path, wider_local}
 
 -- in one of three ways a local is seen from a branch
@@ -88,6 +90,7 @@ module _ (L : Scope) (own others : List ℕ) where
   frame_seen {P} {p} {s} {g} {f} ff = record {
     regions = ff.regions;
     plain = ff.plain;
+    atomic = ff.atomic;
     given = ff.given;
     index = λ x e. ff.index x (seen_index x e);
     made = ff.made;
@@ -189,12 +192,17 @@ module _ (P : PlainProgram) (b : Bounds) (st : State) (L : Scope) (good : GoodSc
   tasks_length no_branch = refl
   tasks_length (one_branch v p rest) = ap (λ n. suc n) (tasks_length rest)
 
-  quiet_back : (E F : List EffectOwn) → Quiet P Deterministic g E g F → Quiet P Deterministic g F g E
-  quiet_back E F h a c m x y = h c a (record { object = sym m.object; index = sym m.index; region = sym m.region; write = either a.write c.write m.write }) y x
+  quiet_back : (forking : Forking) (E F : List EffectOwn) → Quiet P forking g E g F → Quiet P forking g F g E
+  quiet_back forking E F h a c m x y =
+      back forking (h c a (record { object = sym m.object; index = sym m.index; region = sym m.region; write = either a.write c.write m.write }) y x)
     where
       either : (x y : Bool) → (x || y) ≡ true → (y || x) ≡ true
       either true y h = or_right y true refl
       either false y h = or_left y false h
+
+      back : (forking : Forking) → MayMeet P forking c a → MayMeet P forking a c
+      back Deterministic k = k
+      back Nondeterministic k = (k.1, k.0, subst (λ z. ends_atomic P.region_names z ≡ true) (sym m.region) k.2)
 
   scope_variable : (others : List ℕ) (bs : TypedBranches) (i x : ℕ) (t : PlainType) → (scope_at L others bs i).local x ≡ Some (variable t) → L.local x ≡ Some (variable t)
   scope_variable others no_branches i x t e = e
@@ -202,11 +210,11 @@ module _ (P : PlainProgram) (b : Bounds) (st : State) (L : Scope) (good : GoodSc
   scope_variable others (more_branches copies s bs) (suc i) x t e = scope_variable (others ++ copies) bs i x t e
 
   -- what is a variable for a branch is one outside, of the same values
-  pub cobegin_forks : {bs : TypedBranches} {Es : List (List EffectOwn)} → BranchesPass P L [] bs Es → NoClash P Deterministic L Es → CopiesApart [] bs → BranchesCovered bs →
+  pub cobegin_forks : (forking : Forking) {bs : TypedBranches} {Es : List (List EffectOwn)} → BranchesPass P L [] bs Es → NoClash P forking L Es → CopiesApart [] bs → BranchesCovered bs →
       Within b st.entries g (joined Es) →
-      (forks : Forks P b st Deterministic (tasks_of bs f)) × ((i : ℕ) → forks.setting i ≡ g)
+      (forks : Forks P b st forking (tasks_of bs f)) × ((i : ℕ) → forks.setting i ≡ g)
       × ((i x : ℕ) (t : PlainType) → (forks.scope i).local x ≡ Some (variable t) → L.local x ≡ Some (variable t))
-  cobegin_forks {bs} {Es} p nc ca q w = (
+  cobegin_forks forking {bs} {Es} p nc ca q w = (
     record {
       scope = scope_at L [] bs;
       setting = λ i. g;
@@ -219,11 +227,11 @@ module _ (P : PlainProgram) (b : Bounds) (st : State) (L : Scope) (good : GoodSc
     scope_variable [] bs,
   )
     where
-      one : (i j : ℕ) → i < j → j < length (tasks_of bs f) → Quiet P Deterministic g (slice_index_or Es i []) g (slice_index_or Es j [])
-      one i j l m = branches_quiet P L.given g (frame_env ff) (slice_index_or Es i []) (slice_index_or Es j []) (nc i j [] l (subst (λ n. j < n) (tasks_length p) m))
+      one : (i j : ℕ) → i < j → j < length (tasks_of bs f) → Quiet P forking g (slice_index_or Es i []) g (slice_index_or Es j [])
+      one i j l m = branches_quiet_of P forking L g (frame_env ff) ff.atomic (slice_index_or Es i []) (slice_index_or Es j []) (nc i j [] l (subst (λ n. j < n) (tasks_length p) m))
 
-      apart : (i j : ℕ) → i ≢ j → i < length (tasks_of bs f) → j < length (tasks_of bs f) → Quiet P Deterministic g (slice_index_or Es i []) g (slice_index_or Es j [])
-      apart i j ne l m = ⊎_elim (λ h. absurd (ne h)) (λ r. ⊎_elim (λ h. one i j h m) (λ h. quiet_back (slice_index_or Es j []) (slice_index_or Es i []) (one j i h l)) r) (cases_order i j)
+      apart : (i j : ℕ) → i ≢ j → i < length (tasks_of bs f) → j < length (tasks_of bs f) → Quiet P forking g (slice_index_or Es i []) g (slice_index_or Es j [])
+      apart i j ne l m = ⊎_elim (λ h. absurd (ne h)) (λ r. ⊎_elim (λ h. one i j h m) (λ h. quiet_back forking (slice_index_or Es j []) (slice_index_or Es i []) (one j i h l)) r) (cases_order i j)
 
 -- behind the join
 pub copied_fits : (P : PlainProgram) (p : Path) (h : State) (L : Scope) → GoodScope L → (g : Setting) (slots : List ℕ) (ls : List (ℕ × Value)) (f : Frame) →

@@ -34,10 +34,11 @@ use Rattle.dpj_disjoint.proofs.Envs.{matches-within, stays_apart}
 use Rattle.dpj_runs.specs.Objects.{Path, Value, Null, Object, Region}
 use Rattle.dpj_runs.specs.Objects.{Name as ObjectName}
 use Rattle.dpj_steps.specs.Steps.{named_by}
-use Rattle.dpj_sound.specs.Settings.{elems_of, ArePlain, class_setting, class_env}
+use Rattle.dpj_sound.specs.Settings.{elems_of, ArePlain, EndAtomic, class_setting, class_env}
 use Rattle.dpj_sound.specs.Shapes.{object, Is, AllMatch, GoodObject, Instance, FitsIn}
 use Rattle.dpj_sound.specs.Frames.{State, LocalFits, FrameFits}
 use Rattle.dpj_sound.specs.Scopes.{InScope, PathInScope, TypeInScope, LocalInScope, GoodScope}
+use Rattle.dpj_sound.proofs.Atomic.{both_atomic}
 use Rattle.dpj_sound.proofs.Closed.{ClosedPath, closed_put, closed_holds, closed_path}
 use Rattle.dpj_sound.proofs.Codes.{unmade_one}
 use Rattle.dpj_sound.proofs.Types.{Stands}
@@ -191,15 +192,16 @@ module _ (P : PlainProgram) (wt : WellTyped P) (n : ℕ) (m : PlainMember) (ther
       no_part (suc x) t a e = let z = formal_local x (slice_get m.formals x) (part t a) e in let q : part t a ≡ variable z.0 = z.2 in cc
 
   -- the frame in which it begins, at an object or as its constructor
-  pub entered_fits : (path : Path) (st : State) (zs own : List Region) (left : ℕ) → GoodObject P m.class zs → ArePlain own →
+  pub entered_fits : (path : Path) (st : State) (zs own : List Region) (left : ℕ) → GoodObject P m.class zs → ArePlain own → EndAtomic P.region_names m.params own →
       All (Holds (class_env (zs ++ own))) m.given →
       (o : ObjectName) → (d : ℕ) (made : List Region) → st.shapes o ≡ Some (object d made) → GoodObject P d made → Is P d made m.class zs →
       (vs : List Value) → ((x : ℕ) (t : PlainType) → slice_get m.formals x ≡ Some t →
       FitsIn P st.shapes (class_env (zs ++ own)) t (slice_index_or vs x Null)) →
       FrameFits P path st (class_setting (zs ++ own)) scope (entered (named_by path) m (Object o ∷ vs) (zs ++ own) left)
-  entered_fits path st zs own left gz plain given o d made shape gd is_one vs fits = record {
+  entered_fits path st zs own left gz plain own_atomic given o d made shape gd is_one vs fits = record {
     regions = refl;
     plain = plain_both P wt zs own gz.plain plain;
+    atomic = both_atomic P.region_names good.class.params m.params zs own arity (subst (λ (k : PlainClass). EndAtomic P.region_names k.params zs) same_class gz.atomic) own_atomic;
     given = All-append (Holds (class_env (zs ++ own))) good.class.given m.given class_given given;
     index = λ x e. absurd (no_constant x e);
     made = λ r e. absurd (false≢true e);

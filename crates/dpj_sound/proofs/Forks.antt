@@ -16,7 +16,7 @@ use Rattle.dpj_typed.specs.declared.stmt.Forking.{Forking}
 use Rattle.dpj_typed.specs.declared.stmt.Forking.TheVariants.{Deterministic, Nondeterministic}
 use Rattle.dpj_typed.specs.Effects.{Own as EffectOwn, does, uses, effect_of, as_effects, marked, after_branches, outside_variable}
 use Rattle.dpj_typed.specs.Plain.{PlainProgram, TypedStmt, more_stmts, no_stmts}
-use Rattle.dpj_typed.specs.Scope.{Scope, variable, frozen, constant, part, reserved, read_alone, in_loop_branch, with_local}
+use Rattle.dpj_typed.specs.Scope.{Scope, variable, frozen, constant, part, reserved, read_alone, in_loop_branch, with_local, atomic_for}
 use Rattle.dpj_typed.specs.Scope.{Local as ScopeLocal}
 use Rattle.dpj_typed.specs.Statements.{IsFree, AllPass}
 use Rattle.dpj_meaning.specs.Counts.{copied}
@@ -33,7 +33,7 @@ use Rattle.dpj_sound.specs.Scopes.{InScope, PathInScope, LocalInScope, GoodScope
 use Rattle.dpj_sound.proofs.Frames.{frame_env}
 use Rattle.dpj_sound.proofs.Locals.{frame_declare, good_declare, lies_general}
 use Rattle.dpj_sound.proofs.Numbers.{number_one}
-use Rattle.dpj_sound.proofs.Quiet.{iterations_quiet}
+use Rattle.dpj_sound.proofs.Quiet.{iterations_quiet_of}
 use Rattle.dpj_sound.proofs.Placed.{LocalPlaced, PlacedScope, placed_wider}
 use Rattle.dpj_sound.proofs.Wider.{Wider, wider_path, wider_local}
 
@@ -114,6 +114,7 @@ pub frame_loop : {P : PlainProgram} {p : Path} {s : State} {g : Setting} {f : Fr
 frame_loop {P} {p} {s} {g} {f} L ff = record {
   regions = ff.regions;
   plain = ff.plain;
+  atomic = ff.atomic;
   given = ff.given;
   index = λ x e. ff.index x (seen_constant (L.local x) e);
   made = ff.made;
@@ -140,6 +141,7 @@ pub frame_below : {P : PlainProgram} {p : Path} {s : State} {g : Setting} {L : S
 frame_below {p = p} {s = s} {g = g} u left ff = record {
   regions = ff.regions;
   plain = ff.plain;
+  atomic = ff.atomic;
   given = ff.given;
   index = ff.index;
   made = ff.made;
@@ -220,11 +222,11 @@ module _ (P : PlainProgram) (b : Bounds) (st : State) (L : Scope) (good : GoodSc
       (free_in_loop L x free) tt tt (frame_loop L ff))
 
   -- iterations are in order at their fork
-  pub foreach_forks : {x : ℕ} {s : TypedStmt} {G : List EffectOwn} → IsFree L x → AllPass P (with_local x (constant int) (in_loop_branch L)) (more_stmts s no_stmts) G →
-      iterations_clash L.given None x (as_effects G) ≡ false → IsCovered s → All (λ o. PathInScope (with_local x (constant int) (in_loop_branch L)) 0 (effect_of o).rpl) G →
-      Within b st.entries g (outside_variable x (after_branches Deterministic G)) → (start : ℤ) (n : ℕ) → n ≤ 2 ^ 32 →
-      Forks P b st Deterministic (iterations None x s f start 0 n)
-  foreach_forks {x} {s} {G} free p clash q in_scope w start n few = record {
+  pub foreach_forks : (forking : Forking) {x : ℕ} {s : TypedStmt} {G : List EffectOwn} → IsFree L x → AllPass P (with_local x (constant int) (in_loop_branch L)) (more_stmts s no_stmts) G →
+      iterations_clash L.given (atomic_for forking P L) x (as_effects G) ≡ false → IsCovered s → All (λ o. PathInScope (with_local x (constant int) (in_loop_branch L)) 0 (effect_of o).rpl) G →
+      Within b st.entries g (outside_variable x (after_branches forking G)) → (start : ℤ) (n : ℕ) → n ≤ 2 ^ 32 →
+      Forks P b st forking (iterations None x s f start 0 n)
+  foreach_forks forking {x} {s} {G} free p clash q in_scope w start n few = record {
     scope = λ i. with_local x (constant int) (in_loop_branch L);
     setting = λ i. with_number x (number_at i) g;
     effects = λ i. G;
@@ -236,11 +238,11 @@ module _ (P : PlainProgram) (b : Bounds) (st : State) (L : Scope) (good : GoodSc
           scope = good_declare (in_loop_branch L) (good_loop L good) x true int (free_in_loop L x free) tt;
           fits = λ u. iteration_frame x start i (u, i) free;
           copies = λ k d l. absurd (omega (arith, l));
-          within = λ a gu l. w a gu (lies_general g x (number_at i) (with_local x (constant int) (in_loop_branch L)) (after_branches Deterministic G) a
-              (marked_scope G in_scope) (lies_branches Deterministic (with_number x (number_at i) g) G a l));
+          within = λ a gu l. w a gu (lies_general g x (number_at i) (with_local x (constant int) (in_loop_branch L)) (after_branches forking G) a
+              (branches_scope forking) (lies_branches forking (with_number x (number_at i) g) G a l));
         });
-    apart = λ i j ne l m. iterations_quiet P L.given (with_local x (constant int) (in_loop_branch L)) g x (number_at i) (number_at j)
-        (frame_env (iteration_frame x start i (0, 0) free)) (λ k d l. none_copied L (slice_index_or L.given k d) (good.given k d l)) G in_scope clash
+    apart = λ i j ne l m. iterations_quiet_of P forking L (with_local x (constant int) (in_loop_branch L)) g x (number_at i) (number_at j)
+        (frame_env (iteration_frame x start i (0, 0) free)) ff.atomic (λ k d l. none_copied L (slice_index_or L.given k d) (good.given k d l)) G in_scope clash
         (λ e. ne (number_one start i j (small i l) (small j m) e));
   }
     where
@@ -258,3 +260,7 @@ module _ (P : PlainProgram) (b : Bounds) (st : State) (L : Scope) (good : GoodSc
               PathInScope (with_local x (constant int) (in_loop_branch L)) 0 (effect_of (marked false o)).rpl
           one (does e) h = h
           one (uses k e) h = h
+
+      branches_scope : (forking : Forking) → All (λ o. PathInScope (with_local x (constant int) (in_loop_branch L)) 0 (effect_of o).rpl) (after_branches forking G)
+      branches_scope Deterministic = marked_scope G in_scope
+      branches_scope Nondeterministic = in_scope

@@ -48,6 +48,7 @@ pub frame_since : {P : PlainProgram} {p : Path} {s t : State} {g : Setting} {L :
 frame_since {P} {p} {s} {t} {g} {L} {f} h ff = record {
   regions = ff.regions;
   plain = ff.plain;
+  atomic = ff.atomic;
   given = ff.given;
   index = ff.index;
   made = ff.made;

@@ -215,13 +215,13 @@ module _ (P : PlainProgram) (wt : WellTyped P) (outer : ℕ → Bool) where
     stmt_effects_in {L} print_text good pl q = none_in L
     stmt_effects_in {L} (atomic {E = E} p se) good pl q = marked_in L true E (stmts_effects_in p (good_block L good) (placed_block outer L pl) q)
     stmt_effects_in {L} (cobegin {forking = forking} {Es = Es} calm p nc) good pl q =
-        branches_in L forking (joined Es) (branches_effects_in p (none_assigned L) good pl q.2)
+        branches_in L forking (joined Es) (branches_effects_in p (none_assigned L) good pl q.1)
     stmt_effects_in {L} (foreach {forking = forking} {x = x} {E = E} {F = F} {G = G} calm hs ts hc tc free p ic) good pl q =
         both_in L E _ (effects_in L good pl hs) (both_in L F _ (effects_in L good pl hc)
         (all_narrower (in_loop_branch L) L (loop_narrower L) _ (outside_in (in_loop_branch L) x (constant int) (after_branches forking G)
         (branches_in (with_local x (constant int) (in_loop_branch L)) forking G (stmts_effects_in p
         (good_declare (in_loop_branch L) (good_loop L good) x true int (free_in_loop L x free) tt)
-        (placed_declare outer (in_loop_branch L) (placed_loop outer L pl) x true int (free_in_loop L x free) tt) (q.1, tt))))))
+        (placed_declare outer (in_loop_branch L) (placed_loop outer L pl) x true int (free_in_loop L x free) tt) (q, tt))))))
     stmt_effects_in {L} (foreach_parts {k = k} {source = source} {t = t} {a = a} {E = E} {F = F} {G = G} cu hc tc free p ic lc) good pl q =
         let inner = stmts_effects_in p (good_part (in_loop_branch L) k t a (free_in_branch L k (free_slots L k free)) (good_loop L good)
         (wider_type L (in_loop_branch L) (loop_wider L) 0 (array t a false) (cuts_in P wt L good cu)))

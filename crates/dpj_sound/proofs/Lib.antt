@@ -1,4 +1,5 @@
 pub mod Alike
+pub mod Atomic
 pub mod Blocks
 pub mod Calls
 pub mod Chains

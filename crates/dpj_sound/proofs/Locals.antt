@@ -42,6 +42,7 @@ pub frame_outside : (P : PlainProgram) (p : Path) (st : State) (g : Setting) (L 
 frame_outside P p st g L good f x v n ff = record {
   regions = ff.regions;
   plain = ff.plain;
+  atomic = ff.atomic;
   given = ff.given;
   index = λ y e. ap number (set_other f.values x y v (other_than L x y (constant int) e n)) ∙ ff.index y e;
   made = ff.made;
@@ -63,6 +64,7 @@ pub frame_store : (P : PlainProgram) (p : Path) (st : State) (g : Setting) (L : 
 frame_store P p st g L good f x t v lx fv ff = record {
   regions = ff.regions;
   plain = ff.plain;
+  atomic = ff.atomic;
   given = ff.given;
   index = λ y e. ap number (set_other f.values x y v (variable_not L x y t (constant int) lx e (λ q. cc))) ∙ ff.index y e;
   made = ff.made;
@@ -152,6 +154,7 @@ pub frame_declare : (P : PlainProgram) (p : Path) (st : State) (g : Setting) (L 
 frame_declare P p st g L good f x is_final t v free s fv ff = record {
   regions = ff.regions;
   plain = ff.plain;
+  atomic = ff.atomic;
   given = λ k c l. (let z = good.given k c l in alike_holds L (env_of g) (env_of (with_number x (number v) g)) (setting_alike al) _ z.0 z.1 (ff.given k c l));
   index = λ y e. ⊎_elim
       (λ h. (let q = eqb-true y x h in
@@ -188,6 +191,7 @@ pub frame_leave : (P : PlainProgram) (p : Path) (st : State) (g : Setting) (L : 
 frame_leave P p st g L good f x l k n ff = record {
   regions = ff.regions;
   plain = ff.plain;
+  atomic = ff.atomic;
   given = λ j c h. (let z = good.given j c h in alike_holds L (env_of (with_number x k g)) (env_of g) (setting_alike (setting_back al)) _ z.0 z.1 (ff.given j c h));
   index = λ y e. ff.index y (kept y (constant int) e) ∙ sym (al.index y e);
   made = ff.made;

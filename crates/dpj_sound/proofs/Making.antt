@@ -4,6 +4,7 @@ use Rattle.std.specs.Prelude.{All}
 use Rattle.std.proofs.lemmas.List.{get_or-map, length-map, map-append}
 use Rattle.std.proofs.lemmas.List.Elements.{All-head, All-tail}
 use Rattle.std.proofs.lemmas.Bool.{and_parts, false≢true}
+use Rattle.dpj_base.specs.declared.effect.Constraint.{Constraint}
 use Rattle.dpj_base.specs.declared.elems.Elem.{Elem}
 use Rattle.dpj_base.specs.declared.elems.Elem.TheVariants as elem
 use Rattle.dpj_base.specs.declared.elems.Elem.TheVariants.{At, Any, Star}
@@ -18,7 +19,7 @@ use Rattle.dpj_base.specs.Matching.{head_region as env_region}
 use Rattle.dpj_base.specs.Regions.{is_local, fully_specified, argument}
 use Rattle.dpj_base.specs.Types.{PlainType, array}
 use Rattle.dpj_typed.specs.Plain.{PlainProgram, PlainClass}
-use Rattle.dpj_typed.specs.Scope.{Scope, class_at}
+use Rattle.dpj_typed.specs.Scope.{Scope, class_at, atomic_in}
 use Rattle.dpj_typed.specs.Table.{class_scope}
 use Rattle.dpj_typed.specs.Types.{GoodElem, GoodPath, GoodArgs, GoodType}
 use Rattle.dpj_typed.specs.WellTyped.{WellTyped}
@@ -32,12 +33,13 @@ use Rattle.dpj_runs.specs.Actions.{New, Answer, Named}
 use Rattle.dpj_runs.specs.Objects.{Value, Object, Part, Region_name, Number, Local, Own_index, Any_index, Any_parts, Region, An_array}
 use Rattle.dpj_runs.specs.Objects.{Name as ObjectName}
 use Rattle.dpj_steps.specs.Steps.{named_by}
-use Rattle.dpj_sound.specs.Settings.{local_code, elem_of, elems_of, Setting, region_in, ArePlain, env_of, class_env, under, element_part, element_region}
+use Rattle.dpj_sound.specs.Settings.{local_code, elem_of, elems_of, Setting, region_in, ArePlain, EndAtomic, env_of, class_env, under, element_part, element_region}
 use Rattle.dpj_sound.specs.Shapes.{object, elements, same, AllMatch, GoodObject, Instance, FitsIn}
 use Rattle.dpj_sound.specs.Accesses.{Bounds}
 use Rattle.dpj_sound.specs.Frames.{Frame, State, Since, FrameFits}
 use Rattle.dpj_sound.specs.Scopes.{InScope, PathInScope}
 use Rattle.dpj_sound.specs.Work.{Result, Prog, InOrder}
+use Rattle.dpj_sound.proofs.Atomic.{args_atomic, match_at}
 use Rattle.dpj_sound.proofs.Closed.{closed_holds, closed_path}
 use Rattle.dpj_sound.proofs.Types.{same_refl}
 use Rattle.dpj_sound.proofs.Classes.{plain_put}
@@ -100,6 +102,12 @@ module _ (P : PlainProgram) (wt : WellTyped P) (b : Bounds) (L : Scope) (g : Set
     args_match args (All-tail (GoodPath P L 0) a args h) (All-tail (λ a. IsTrue (fully_specified a)) a args u),
   )
 
+  pub made_atomic : (params : List Bool) (given : List Constraint) (others args : List Rpl) → GoodArgs P L 0 params given others args →
+      All (λ a. IsTrue (fully_specified a)) args → EndAtomic P.region_names params (map put args)
+  made_atomic params given others args ga u =
+      args_atomic (atomic_in P L) (env_of g) ff.atomic params args (map put args) ga.arity
+      (λ p l. match_at (env_of g) args (map put args) (args_match args ga.paths u) p (record { head = Param p; elems = [] }) (let n = ga.arity in omega (arith, l, n))) ga.atomic
+
   pub made_good : (c : ℕ) (k : PlainClass) (args : List Rpl) → class_at P c ≡ Some k → GoodArgs P L 0 k.params k.given [] args →
       All (λ a. IsTrue (fully_specified a)) args → GoodObject P c (map put args)
   made_good c k args e ga u = record {
@@ -107,6 +115,7 @@ module _ (P : PlainProgram) (wt : WellTyped P) (b : Bounds) (L : Scope) (g : Set
     is = e;
     arity = length-map args put ∙ ga.arity;
     plain = args_plain args ga.paths u;
+    atomic = made_atomic k.params k.given [] args ga u;
     given = λ j d l.
         (let good = (wt.classes c k e).given j d l in
         closed_holds (length k.params) _ (class_env (map put args))

@@ -88,7 +88,7 @@ module _ (k : ℕ) (g : Setting) (n : ℤ) (pl : Places) (a : Access) where
       go : (c : Bool) → (j == k) ≡ c →
           LiesIn (with_number (k + 4) n g) (cond (not c) (uses j e ∷ filter (λ o. not (is_through k o)) E) (filter (λ o. not (is_through k o)) E)) a
           ⊎ (Reaches (env_of (with_number (k + 4) n g)) (as_effects (cond c (uses j e ∷ filter (is_through k) E) (filter (is_through k) E))) a × Through pl a)
-      go true q = inr (inl (s.matches, s.writes), through_it j q h)
+      go true q = inr (inl (s.matches, s.writes, s.guarded), through_it j q h)
       go false q = inl (inl (s, through_other j q h))
 
   lies_split : (E : List EffectOwn) → LiesIn (with_number (k + 4) n (with_places k pl g)) E a → Split E
@@ -267,7 +267,7 @@ module _ (P : PlainProgram) (b : Bounds) (st : State) (L : Scope) (good : GoodSc
             Reaches (env_of (with_number (k + 4) m g)) (as_effects (cond d (uses j e ∷ filter (is_through k) E) (filter (is_through k) E))) c
         one false q u rest h = rest h
         one true q u rest h = elim h [
-          | inl x ↦ inl (moved (own_part (in_loop_branch L) k t a u.0 e.rpl (subst (λ z. (with_part k t a (in_loop_branch L)).local z ≡ Some (part u.0 e.rpl)) (eqb-true j k q) u.1)) x.0, x.1)
+          | inl x ↦ inl (moved (own_part (in_loop_branch L) k t a u.0 e.rpl (subst (λ z. (with_part k t a (in_loop_branch L)).local z ≡ Some (part u.0 e.rpl)) (eqb-true j k q) u.1)) x.0, x.1, x.2)
           | inr r ↦ inr (rest r)
         ]
 
@@ -286,9 +286,9 @@ module _ (P : PlainProgram) (b : Bounds) (st : State) (L : Scope) (good : GoodSc
           both (inl hx) (inl hy) = iterations_quiet P L.given (with_part k t a (in_loop_branch L)) g (k + 4) (number_at i) (number_at j) (is_env i)
               (λ q d l. none_copied L (slice_index_or L.given q d) (good.given q d l)) (filter (λ o. not (is_through k o)) G)
               (filter_all (λ o. PathInScope (with_part k t a (in_loop_branch L)) 0 (effect_of o).rpl) (λ o. not (is_through k o)) G in_scope) clash ne x y meet hx hy
-          both (inl hx) (inr hy) = lists_quiet L.given (env_of (with_number (k + 4) (number_at i) g)) (is_env i) x y meet (besides_part k G) (through_part k G) apart
+          both (inl hx) (inr hy) = lists_quiet L.given None (env_of (with_number (k + 4) (number_at i) g)) (is_env i) tt x y meet (besides_part k G) (through_part k G) apart
               (reached_same (with_number (k + 4) (number_at i) g) x (filter (λ o. not (is_through k o)) G) hx) (through_moves (number_at j) (number_at i) y G us hy.0)
-          both (inr hx) (inl hy) = lists_quiet L.given (env_of (with_number (k + 4) (number_at j) g)) (is_env j) y x (meet_back meet) (besides_part k G) (through_part k G) apart
+          both (inr hx) (inl hy) = lists_quiet L.given None (env_of (with_number (k + 4) (number_at j) g)) (is_env j) tt y x (meet_back meet) (besides_part k G) (through_part k G) apart
               (reached_same (with_number (k + 4) (number_at j) g) y (filter (λ o. not (is_through k o)) G) hy) (through_moves (number_at i) (number_at j) x G us hx.0)
           both (inr hx) (inr hy) = parts_apart (slot_value f.values k) (number (slot_value f.values (k + 1))) (number (slot_value f.values (k + 2))) (number (slot_value f.values (k + 3)))
               (number_at i) (number_at j) x y hx.1 hy.1 ne few meet.index

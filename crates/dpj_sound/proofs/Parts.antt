@@ -160,6 +160,7 @@ module _ (L : Scope) (k : ℕ) (t : PlainType) (a : Rpl) where
     frame_part P path st g good s alone f array_fits len_fits number_fits ff = record {
       regions = ff.regions;
       plain = ff.plain;
+      atomic = ff.atomic;
       given = λ j c l. (let z = good.given j c l in alike_holds L (env_of g) (env_of inner) (setting_alike al) _ z.0 z.1 (ff.given j c l));
       index = λ y e. index y (part_local y (constant int) e);
       made = ff.made;

@@ -126,6 +126,7 @@ module _ (P : PlainProgram) (p : Path) (L : Scope) (good : GoodScope L) where
   frame_made st h g f r after free within ff = record {
     regions = ff.regions;
     plain = ff.plain;
+    atomic = ff.atomic;
     given = λ k c l. (let z = good.given k c l in alike_holds L (env_of g) (env_of k1) (setting_alike al) _ z.0 z.1 (ff.given k c l));
     index = ff.index;
     made = λ q i. get_or-set_other f.locals r q new (Unmade q) (λ e. false≢true (sym free ∙ ap L.regions (sym e) ∙ i)) ∙ ff.made q i ∙ kept q i;
@@ -220,6 +221,7 @@ pub frame_regions : (P : PlainProgram) (p : Path) (st : State) (g : Setting) (L 
 frame_regions P p st g L f e rs old n ff = record {
   regions = ff.regions;
   plain = ff.plain;
+  atomic = ff.atomic;
   given = ff.given;
   index = ff.index;
   made = λ q i. ⊎_elim (λ t. (let m = n.made q t in m.2 ∙ sym m.1))
@@ -238,6 +240,7 @@ pub frame_regions_left : (P : PlainProgram) (p : Path) (st : State) (g : Setting
 frame_regions_left P p st g L good f rs made al distinct old ff = record {
   regions = ff.regions;
   plain = ff.plain;
+  atomic = ff.atomic;
   given = λ j c h. (let z = good.given j c h in alike_holds L (env_of (with_made made g)) (env_of g) (setting_alike (setting_back al)) _ z.0 z.1 (ff.given j c h));
   index = ff.index;
   made = λ q i. ff.made q ((regions_wider L rs).regions q i) ∙ sym (al.made q i);

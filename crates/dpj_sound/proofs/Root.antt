@@ -1,6 +1,7 @@
 -- The root is in order from the start.
 use Rattle.std.proofs.Common.{◌≡◌, ℕ, zero, suc, ℤ, List, [], ◌∷◌, length, refl, sym, ap, subst, arith, Some, None, slice_get, slice_index_or, inl}
 use Rattle.std.specs.Prelude.{All}
+use Rattle.std.proofs.lemmas.Bool.{false≢true}
 use Rattle.dpj_base.specs.Matching.{Holds}
 use Rattle.dpj_base.specs.Types.{PlainType, int}
 use Rattle.dpj_typed.specs.Plain.{PlainProgram}
@@ -10,7 +11,7 @@ use Rattle.dpj_meaning.specs.Elision.{enters_main}
 use Rattle.dpj_meaning.specs.Expressions.{entered}
 use Rattle.dpj_runs.specs.Objects.{Int, Null, Object}
 use Rattle.dpj_steps.specs.Steps.{named_by, first_name}
-use Rattle.dpj_sound.specs.Settings.{class_setting, class_env}
+use Rattle.dpj_sound.specs.Settings.{EndAtomic, class_setting, class_env}
 use Rattle.dpj_sound.specs.Shapes.{same, Is, GoodObject, FitsIn}
 use Rattle.dpj_sound.specs.Frames.{FrameFits}
 use Rattle.dpj_sound.specs.Covered.{BodiesCovered}
@@ -26,6 +27,7 @@ module _ (P : PlainProgram) (wt : WellTyped P) (no_class : wt.main.class.given �
     is = wt.main.class_is;
     arity = sym (ap length wt.main.no_class_params);
     plain = λ p. refl;
+    atomic = subst (λ z. EndAtomic P.region_names z []) (sym wt.main.no_class_params) (λ p h. absurd (false≢true h));
     given = subst (λ z. All (Holds (class_env [])) z) (sym no_class) (λ k c l. absurd (omega (arith, l)));
   }
 
@@ -41,6 +43,7 @@ module _ (P : PlainProgram) (wt : WellTyped P) (no_class : wt.main.class.given �
   first_frame : FrameFits P [] (start P) (class_setting []) (main_scope P wt) (entered (named_by []) wt.main.member (Object first_name ∷ Int arg ∷ []) [] 499)
   first_frame =
       entered_fits P wt P.main_member wt.main.member wt.main.member_is [] (start P) [] [] 499 (subst (λ c. GoodObject P c []) (sym wt.main.own) first_good) (λ p. refl)
+      (subst (λ z. EndAtomic P.region_names z []) (sym wt.main.no_params) (λ p h. absurd (false≢true h)))
       (subst (λ z. All (Holds (class_env [])) z) (sym no_method) (λ k c l. absurd (omega (arith, l)))) first_name P.main_class [] refl first_good
       (subst (λ c. Is P P.main_class [] c []) (sym wt.main.own) same) (Int arg ∷ []) (formal wt.main.member.formals wt.main.formals)
 

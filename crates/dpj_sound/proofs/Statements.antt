@@ -18,7 +18,7 @@ use Rattle.dpj_typed.specs.Plain.{PlainProgram, PlainField, TypedExpr, type_of, 
 use Rattle.dpj_typed.specs.Plain.{Source, of_array, of_part}
 use Rattle.dpj_typed.specs.Plain.{StmtForm as form}
 use Rattle.dpj_typed.specs.declared.stmt.Forking.{Forking}
-use Rattle.dpj_typed.specs.declared.stmt.Forking.TheVariants.{Deterministic, Nondeterministic}
+use Rattle.dpj_typed.specs.declared.stmt.Forking.TheVariants.{Deterministic}
 use Rattle.dpj_base.specs.Branches.{iterations_clash, lists_clash}
 use Rattle.dpj_typed.specs.Scope.{Scope, constant, variable, reserved, in_loop_branch, atomic_for, part, field_at, with_local, with_regions}
 use Rattle.dpj_typed.specs.Scope.{Local as ScopeLocal}
@@ -222,21 +222,19 @@ module _ (P : PlainProgram) (b : Bounds) where
 
 -- forks and what is behind their joins
 module _ (P : PlainProgram) (b : Bounds) where
-  cobegin_order : (dp : Option Deeper) (L : Scope) → GoodScope L → (g : Setting) (st : State) (f : Frame) → FrameFits P b.path st g L f → (at : Place) (forking : Forking) →
-      forking ≡ Deterministic → {bs : TypedBranches} {Es : List (List EffectOwn)} → BranchesPass P L [] bs Es → NoClash P forking L Es → CopiesApart [] bs → BranchesCovered bs →
+  cobegin_order : (dp : Option Deeper) (L : Scope) → GoodScope L → (g : Setting) (st : State) (f : Frame) → FrameFits P b.path st g L f → (at : Place) (forking : Forking) → {bs : TypedBranches} {Es : List (List EffectOwn)} → BranchesPass P L [] bs Es → NoClash P forking L Es → CopiesApart [] bs → BranchesCovered bs →
       Within b st.entries g (after_branches forking (joined Es)) →
       InOrder P b (Left P b L g true st) st (of_stmt (named_by b.path) P dp (statement at (form.cobegin forking bs)) f)
   unfolding InOrder
-  cobegin_order dp L good g st f ff at Nondeterministic e p nc ca q w = absurd (let z : Nondeterministic ≡ Deterministic = e in cc)
-  cobegin_order None L good g st f ff at Deterministic e p nc ca q w = tt
-  cobegin_order (Some deeper) L good g st f ff at Deterministic e {bs} {Es} p nc ca q w =
+  cobegin_order None L good g st f ff at forking p nc ca q w = tt
+  cobegin_order (Some deeper) L good g st f ff at forking {bs} {Es} p nc ca q w =
       λ few. (cobegin.0, λ x h s z. after x h s z)
     where
-      cobegin : (forks : Forks P b st Deterministic (tasks_of bs f)) × ((i : ℕ) → forks.setting i ≡ g)
+      cobegin : (forks : Forks P b st forking (tasks_of bs f)) × ((i : ℕ) → forks.setting i ≡ g)
           × ((i x : ℕ) (t : PlainType) → (forks.scope i).local x ≡ Some (variable t) → L.local x ≡ Some (variable t))
-      cobegin = cobegin_forks P b st L good g f ff p nc ca q (λ a gu l. w a gu (lies_branches Deterministic g (joined Es) a l))
+      cobegin = cobegin_forks P b st L good g f ff forking p nc ca q (λ a gu l. w a gu (lies_branches forking g (joined Es) a l))
 
-      after : (x : Brought) (h : State) → Since st h → Brings P b st Deterministic (tasks_of bs f) cobegin.0 h x →
+      after : (x : Brought) (h : State) → Since st h → Brings P b st forking (tasks_of bs f) cobegin.0 h x →
           InOrder P b (Left P b L g true st) h (joined_after (all_copied bs) f x)
       after (Back ls) h s z = (
         refl,
@@ -246,17 +244,15 @@ module _ (P : PlainProgram) (b : Bounds) where
       )
       after (Trap_of_branch trap place) h s z = tt
 
-  foreach_order : (dp : Option Deeper) (L : Scope) → GoodScope L → (g : Setting) (st : State) (f : Frame) → FrameFits P b.path st g L f → (at : Place) (forking : Forking) →
-      forking ≡ Deterministic → {x : ℕ} {s : TypedStmt} {G : List EffectOwn} → IsFree L x → AllPass P (with_local x (constant int) (in_loop_branch L)) (more_stmts s no_stmts) G →
+  foreach_order : (dp : Option Deeper) (L : Scope) → GoodScope L → (g : Setting) (st : State) (f : Frame) → FrameFits P b.path st g L f → (at : Place) (forking : Forking) → {x : ℕ} {s : TypedStmt} {G : List EffectOwn} → IsFree L x → AllPass P (with_local x (constant int) (in_loop_branch L)) (more_stmts s no_stmts) G →
       iterations_clash L.given (atomic_for forking P L) x (as_effects G) ≡ false → IsCovered s → All (λ o. PathInScope (with_local x (constant int) (in_loop_branch L)) 0 (effect_of o).rpl) G →
       Within b st.entries g (outside_variable x (after_branches forking G)) → (start count : ℤ) →
       InOrder P b (Left P b L g true st) st (forks dp at forking None x s start count f)
   unfolding InOrder
-  foreach_order dp L good g st f ff at Nondeterministic e free p ic q i w start count = absurd (let z : Nondeterministic ≡ Deterministic = e in cc)
-  foreach_order None L good g st f ff at Deterministic e free p ic q i w start count = tt
-  foreach_order (Some deeper) L good g st f ff at Deterministic e {x} {s} free p ic q i w start count =
+  foreach_order None L good g st f ff at forking free p ic q i w start count = tt
+  foreach_order (Some deeper) L good g st f ff at forking {x} {s} free p ic q i w start count =
       λ few. (
-        foreach_forks P b st L good g f ff free p ic q i w start (how_many count) (let k = iterations_length None x s f start 0 (how_many count) in let c = few.count in omega (arith, c, k)),
+        foreach_forks P b st L good g f ff forking free p ic q i w start (how_many count) (let k = iterations_length None x s f start 0 (how_many count) in let c = few.count in omega (arith, c, k)),
         λ y h s1 z. after y h s1,
       )
     where
@@ -558,15 +554,15 @@ module _ (P : PlainProgram) (wt : WellTyped P) (b : Bounds) (dp : Option Deeper)
             (subst (λ z. Within b z g E) (sym e) (within_block P b L g st f ff entry E st.entries se (all_own P wt outer L pl (after_block E) (marked_in P wt outer L true E (stmts_effects_in P wt outer p (good_block L good) (placed_block outer L pl) q))) w)))),
       ),
     )
-    stmt_order {L} (cobegin {at = at} calm p nc) q good pl g st f ff w = cobegin_order P b dp L good g st f ff at _ q.0 p nc q.1 q.2 w
+    stmt_order {L} (cobegin {at = at} calm p nc) q good pl g st f ff w = cobegin_order P b dp L good g st f ff at _ p nc q.0 q.1 w
     stmt_order {L} (foreach {at = at} {forking = forking} {x = x} {s = s} {E = E} {F = F} {G = G} calm hs ts hc tc free p ic) q good {outer} pl g st f ff w =
         behind L good g hs _ _ st f ff (within_left b st.entries g E _ w)
         (λ h1 v s1 fv iv. behind L good g hc _ _ h1 f (frame_since s1 ff) (within_since b s1 g F (within_left b st.entries g F _ (within_right b st.entries g E _ w)))
         (λ h2 u s2 fu iu. order_post P b (Left P b L g true h2) (Left P b L g true st) (λ z r y. left_since P b L g true true st h2 z r (since_since s1 s2) (λ e. e) y) _ h2
-        (foreach_order P b dp L good g h2 f (frame_since (since_since s1 s2) ff) at forking q.0 free p ic q.1
+        (foreach_order P b dp L good g h2 f (frame_since (since_since s1 s2) ff) at forking free p ic q
         (all_own P wt outer (with_local x (constant int) (in_loop_branch L)) (placed_declare outer (in_loop_branch L) (placed_loop outer L pl) x true int (free_in_loop L x free) tt) G
         (stmts_effects_in P wt outer p (good_declare (in_loop_branch L) (good_loop L good) x true int (free_in_loop L x free) tt)
-        (placed_declare outer (in_loop_branch L) (placed_loop outer L pl) x true int (free_in_loop L x free) tt) (q.1, tt)))
+        (placed_declare outer (in_loop_branch L) (placed_loop outer L pl) x true int (free_in_loop L x free) tt) (q, tt)))
         (within_since b (since_since s1 s2) g _ (within_right b st.entries g F _ (within_right b st.entries g E _ w))) (number v) (number u))))
     stmt_order {L} (foreach_parts {at = at} {k = k} {s = body} {t = t} {a = a} {E = E} {F = F} {G = G} (cuts_array {e = e} ha ty full) hc tc fr p ic lc) q good {outer} pl g st f ff w =
         let cu = cuts_array ha ty full in

@@ -1,8 +1,7 @@
--- The statements that the laws speak of: those whose parallel constructs are deterministic ones, and where no two branches of a
--- `cobegin` copy the same slot back.
+-- The statements that the laws speak of: those where no two branches of a `cobegin` copy the same slot back. That is none of the
+-- rules of a well-typed program.
 use Rattle.std.specs.Prelude.{◌≡◌, ℕ, ◌==◌, false, List, [], ◌++◌, All, Some}
 use Rattle.std.specs.List.{list_any}
-use Rattle.dpj_typed.specs.declared.stmt.Forking.TheVariants.{Deterministic}
 use Rattle.dpj_typed.specs.Plain.{PlainProgram, PlainMember, TypedStmt, statement, TypedStmts, no_stmts, more_stmts, TypedBranches, no_branches, more_branches}
 use Rattle.dpj_typed.specs.Plain.{StmtForm as form}
 use Rattle.dpj_typed.specs.Scope.{member_at}
@@ -18,8 +17,8 @@ abbrev mutual
   pub IsCovered : TypedStmt → Type 0
   IsCovered (statement at (form.local_regions rs)) = Unit {0}
   IsCovered (statement at (form.atomic entry ss)) = AreCovered ss
-  IsCovered (statement at (form.cobegin forking bs)) = (forking ≡ Deterministic) × CopiesApart [] bs × BranchesCovered bs
-  IsCovered (statement at (form.foreach forking x start count s)) = (forking ≡ Deterministic) × IsCovered s
+  IsCovered (statement at (form.cobegin forking bs)) = CopiesApart [] bs × BranchesCovered bs
+  IsCovered (statement at (form.foreach forking x start count s)) = IsCovered s
   IsCovered (statement at (form.foreach_parts k source count s)) = IsCovered s
   IsCovered (statement at (form.block ss)) = AreCovered ss
   IsCovered (statement at (form.choice e s)) = IsCovered s

@@ -8,7 +8,7 @@ use Rattle.dpj_typed.specs.Scope.{Local, variable, frozen, constant, part, reser
 use Rattle.dpj_meaning.specs.Actions.{Frame as FrameOf}
 use Rattle.dpj_meaning.specs.Counts.{number, slot_value}
 use Rattle.dpj_runs.specs.Objects.{Path, Name, LocalRegion, Made, Unmade, Value, Effect}
-use Rattle.dpj_sound.specs.Settings.{Setting, env_of, ArePlain}
+use Rattle.dpj_sound.specs.Settings.{Setting, env_of, ArePlain, EndAtomic}
 use Rattle.dpj_sound.specs.Shapes.{Shapes, Grows, FitsIn}
 
 abbrev pub Frame : Type 0
@@ -52,6 +52,7 @@ LocalFits P S g values x reserved = Unit {0}
 pub record FrameFits (P : PlainProgram) (p : Path) (st : State) (g : Setting) (L : Scope) (f : Frame) : Type 0 where
   pub regions : f.regions ≡ g.regions
   pub plain : ArePlain g.regions
+  pub atomic : EndAtomic P.region_names L.atomic g.regions
   pub given : All (Holds (env_of g)) L.given
   pub index : (x : ℕ) → L.local x ≡ Some (constant int) → number (slot_value f.values x) ≡ g.index x
   pub made : (r : ℕ) → IsTrue (L.regions r) → slice_index_or f.locals r (Unmade r) ≡ g.made r

@@ -1,5 +1,5 @@
 -- What a well-typed program keeps to, as statements.
-use Rattle.std.specs.Prelude.{◌≡◌, IsTrue, List, [], ◌∷◌, Option, Some, None, All, false, ℤ, ◌≢◌, ℕ, cond, slice_get}
+use Rattle.std.specs.Prelude.{Bool, ◌≡◌, IsTrue, List, [], ◌∷◌, Option, Some, None, All, false, ℤ, ◌≢◌, ℕ, cond, slice_get}
 use Rattle.dpj_base.specs.declared.elems.Elem.TheVariants.{At}
 use Rattle.dpj_base.specs.declared.elems.Index.TheVariants.{Literal}
 use Rattle.dpj_base.specs.declared.effect.Constraint.{Constraint}
@@ -7,7 +7,7 @@ use Rattle.dpj_base.specs.Branches.{lists_clash, iterations_clash}
 use Rattle.dpj_base.specs.Matching.{Fits, IsEnv}
 use Rattle.dpj_regions.specs.Laws.{HasNoCopies}
 use Rattle.dpj_typed.specs.declared.stmt.Forking.{Forking}
-use Rattle.dpj_typed.specs.declared.stmt.Forking.TheVariants.{Deterministic}
+use Rattle.dpj_typed.specs.declared.stmt.Forking.TheVariants.{Deterministic, Nondeterministic}
 use Rattle.dpj_typed.specs.Plain.{PlainProgram, TypedExpr, type_of, TypedStmts, PlainMember}
 use Rattle.dpj_typed.specs.Effects.{Own, effect_of, as_effects}
 use Rattle.dpj_typed.specs.Scope.{Scope, member_at}
@@ -24,7 +24,7 @@ use Rattle.dpj_steps.specs.Steps.{named_by, first_name}
 use Rattle.dpj_typed.specs.Table.{body_scope}
 use Rattle.dpj_meaning.specs.Asking.{meaning, does}
 use Rattle.dpj_meaning.specs.Elision.{root_task}
-use Rattle.dpj_sound.specs.Settings.{Setting, env_of, with_number, class_setting}
+use Rattle.dpj_sound.specs.Settings.{EndAtomic, Setting, env_of, with_number, class_setting}
 use Rattle.dpj_sound.specs.Shapes.{Grows, FitsIn, object}
 use Rattle.dpj_sound.specs.Accesses.{Bounds, is_guarded, Within}
 use Rattle.dpj_sound.specs.Frames.{Frame, State, Since, FrameFits}
@@ -119,3 +119,15 @@ abbrev pub IterationsQuiet : Type 0
 IterationsQuiet = (P : PlainProgram) (given : List Constraint) (L : Scope) (g : Setting) (x : ℕ) (j k : ℤ) → IsEnv given (env_of (with_number x j g)) → All HasNoCopies given →
     (E : List Own) → All (λ o. PathInScope L 0 (effect_of o).rpl) E → iterations_clash given None x (as_effects E) ≡ false → j ≢ k →
     Quiet P Deterministic (with_number x j g) E (with_number x k g) E
+
+-- and those of branches and iterations of an nd construct speak of none, but of accesses in atomic blocks, in a region that ends by
+-- an atomic name; where what is declared atomic is
+abbrev pub NdBranchesQuiet : Type 0
+NdBranchesQuiet = (P : PlainProgram) (given : List Constraint) (params : List Bool) (g : Setting) → IsEnv given (env_of g) → EndAtomic P.region_names params g.regions → (E F : List Own) →
+    lists_clash given (Some (record { names = P.region_names; params = params })) (as_effects E) (as_effects F) ≡ false → Quiet P Nondeterministic g E g F
+
+abbrev pub NdIterationsQuiet : Type 0
+NdIterationsQuiet = (P : PlainProgram) (given : List Constraint) (params : List Bool) (L : Scope) (g : Setting) (x : ℕ) (j k : ℤ) → IsEnv given (env_of (with_number x j g)) →
+    EndAtomic P.region_names params g.regions → All HasNoCopies given → (E : List Own) → All (λ o. PathInScope L 0 (effect_of o).rpl) E →
+    iterations_clash given (Some (record { names = P.region_names; params = params })) x (as_effects E) ≡ false → j ≢ k →
+    Quiet P Nondeterministic (with_number x j g) E (with_number x k g) E

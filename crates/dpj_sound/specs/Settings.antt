@@ -1,8 +1,9 @@
 -- Regions of a run as elements of region paths, and what the region paths of a body stand for in a run.
-use Rattle.std.specs.Prelude.{ℕ, ℤ, pos, zero, suc, ◌+◌, ◌*◌, ◌==◌, cond, List, [], ◌∷◌, map, slice_index_or, IsTrue}
+use Rattle.std.specs.Prelude.{◌≡◌, Bool, true, false, ℕ, ℤ, pos, zero, suc, ◌+◌, ◌*◌, ◌==◌, cond, List, [], ◌∷◌, map, slice_index_or, IsTrue}
 use Rattle.dpj_base.specs.declared.elems.Elem.{Elem}
 use Rattle.dpj_base.specs.declared.elems.Elem.TheVariants as elem
 use Rattle.dpj_base.specs.declared.elems.Index.TheVariants as index
+use Rattle.dpj_base.specs.Branches.{ends_atomic}
 use Rattle.dpj_base.specs.Matching.{Env, all_plain}
 use Rattle.dpj_regions.specs.Laws.{another}
 use Rattle.dpj_runs.specs.Objects.{Path, LocalRegion, Made, Unmade, Value, Null, Part, Region_name, Number, Local, Own_index, Any_index, Any_parts, Region}
@@ -57,6 +58,10 @@ region_in rs p = elems_of (slice_index_or rs p [])
 -- they are names and numbers alone
 abbrev pub ArePlain : List Region → Type 0
 ArePlain rs = (p : ℕ) → IsTrue (all_plain (region_in rs p))
+
+-- those of parameters that are declared atomic end by an atomic name, leaving off indices
+abbrev pub EndAtomic : List Bool → List Bool → List Region → Type 0
+EndAtomic names params rs = (p : ℕ) → slice_index_or params p false ≡ true → ends_atomic names (region_in rs p) ≡ true
 
 abbrev pub env_of : Setting → Env
 env_of g = record { region = region_in g.regions; index = g.index; renamed = λ x. another (g.index x); own = λ d. pos 0; made = local_in g.made }

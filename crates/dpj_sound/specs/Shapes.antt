@@ -12,7 +12,7 @@ use Rattle.dpj_meaning.specs.Expressions.{first_of, class_fields}
 use Rattle.dpj_meaning.specs.Regions.{handed_up}
 use Rattle.dpj_runs.specs.Objects.{Name, Value, Int, Boolean, Null, Object, Region, Thing, An_object, An_array}
 use Rattle.dpj_steps.specs.Steps.{named_by}
-use Rattle.dpj_sound.specs.Settings.{Setting, env_of, class_env, elems_of, ArePlain, under, element_region}
+use Rattle.dpj_sound.specs.Settings.{Setting, env_of, class_env, elems_of, ArePlain, EndAtomic, under, element_region}
 
 -- an object of a class with its region arguments; or an array of such elements in such a region, as they were written where
 -- it was made
@@ -41,12 +41,14 @@ pub data Is (P : PlainProgram) : ℕ → List Region → ℕ → List Region →
 abbrev pub AllMatch : Env → List Rpl → List Region → Type 0
 AllMatch env args regions = AllZip (λ a r. Matches env a (elems_of r)) args regions
 
--- objects of the class can have these regions: as many as it has parameters, plain, and its constraints hold of them
+-- objects of the class can have these regions: as many as it has parameters, plain, atomic ones for atomic parameters, and its
+-- constraints hold of them
 pub record GoodObject (P : PlainProgram) (c : ℕ) (rs : List Region) : Type 0 where
   pub class : PlainClass
   pub is : class_at P c ≡ Some class
   pub arity : length rs ≡ length class.params
   pub plain : ArePlain rs
+  pub atomic : EndAtomic P.region_names class.params rs
   pub given : All (Holds (class_env rs)) class.given
 
 -- of a class with these arguments, or one below it

@@ -1,6 +1,6 @@
 //! The laws of well-typed programs, each the clause of a function that does nothing.
 
-ghost use Rattle.dpj_sound.specs.Laws.{BranchesInOrder, BranchesQuiet, ExpressionsInOrder, ForkingInOrder, IterationsQuiet, RootInOrder, TasksInOrder};
+ghost use Rattle.dpj_sound.specs.Laws.{BranchesInOrder, BranchesQuiet, ExpressionsInOrder, ForkingInOrder, IterationsQuiet, NdBranchesQuiet, NdIterationsQuiet, RootInOrder, TasksInOrder};
 
 /// Each expression of a well-typed program is in order.
 pub fn law_expressions()
@@ -16,8 +16,11 @@ pub fn law_statements()
     ensures root { RootInOrder }
 {}
 
-/// Branches and iterations of deterministic constructs whose effects don't clash touch no cell in a way that shows.
+/// Branches and iterations of deterministic constructs whose effects don't clash touch no cell in a way that shows, and those of
+/// nd constructs do so in atomic blocks alone.
 pub fn law_quiet()
     ensures branches { BranchesQuiet }
     ensures iterations { IterationsQuiet }
+    ensures nd_branches { NdBranchesQuiet }
+    ensures nd_iterations { NdIterationsQuiet }
 {}
