@@ -1,0 +1,10 @@
+pub mod Delivering
+pub mod Maps
+pub mod Acting
+pub mod Tasks
+pub mod Stepping
+pub mod Playing
+pub mod Ends
+pub mod Wanting
+pub mod Begins
+pub mod Opening
