@@ -52,8 +52,8 @@ returns-in_err-settle-in-Some-clause-checks c =
     (plain_typed c.in_ok-given.given) c.in_ok-fits-in-Some.fits
     c.target_fault.result q placed told)
 
-pub returns-in-Some-clause-checks : goal.returns-in-Some-clause-checks
-returns-in-Some-clause-checks c =
+pub returns-in_ok-spot-in-Some-clause-checks : goal.returns-in_ok-spot-in-Some-clause-checks
+returns-in_ok-spot-in-Some-clause-checks c =
     let placed : Placed c.args.node c.note_found.new.self (plain_expr c.args.written.now) (plain_expr c.args.value.now) c.in-Some.target
     c.args.body.now c.args.out.now c.read_target.new.found c.typed.new.out (plain_typed c.in_ok-given.given) c.in_ok-fits-in-Some.fits
     c.target_fault.result = record {
@@ -90,8 +90,8 @@ returns-in_err-settle-in-None-clause-checks c =
     anything_told c.args.node c.note_if.new.self (plain_expr c.args.written.now) (plain_expr c.args.value.now) c.args.body.now c.args.out.now
     c.read_target.new.found c.typed.new.out (plain_typed c.in_ok-given.given) c.is_value.result q known told)
 
-pub returns-in-None-clause-checks : goal.returns-in-None-clause-checks
-returns-in-None-clause-checks c =
+pub returns-in_ok-settle-in-None-clause-checks : goal.returns-in_ok-settle-in-None-clause-checks
+returns-in_ok-settle-in-None-clause-checks c =
     let known : Anything c.args.node c.note_if.new.self (plain_expr c.args.written.now) (plain_expr c.args.value.now) c.args.body.now c.args.out.now
     c.read_target.new.found c.typed.new.out (plain_typed c.in_ok-given.given) c.is_value.result = record {
       aimed =

@@ -62,6 +62,6 @@ returns-clause-checks c =
     declaration_passes c.args.node c.args.is_final c.args.tree.now c.args.name (plain_expr c.args.value.now) c.args.body.now c.declare.new.self
     c.args.out.now c.typed.new.out
     c.in_ok-declared.declared c.in_ok-ty.ty (plain_typed c.in_ok-given.given) c.in_ok-fits.fits c.note_declaration.new.node c.note_if.new.self
-    c.slots.result (plain_node c.into_node.result) (typed_stmt c.declaration.result) known c.in_ok-settle.ensures.clean c.in_ok-ty.ensures
-    c.in_ok-declare.ensures.whole c.slots.ensures
-    (node_made c.args.value.now c.into_node.result (plain_typed c.in_ok-given.given) c.into_node.ensures) c.declaration.ensures
+    c.slots-slot.result (plain_node c.into_node-value.result) (typed_stmt c.declaration.result) known c.in_ok-settle.ensures.clean c.in_ok-ty.ensures
+    c.in_ok-declare.ensures.whole c.slots-slot.ensures
+    (node_made c.args.value.now c.into_node-value.result (plain_typed c.in_ok-given.given) c.into_node-value.ensures) c.declaration.ensures
