@@ -68,8 +68,8 @@ returns-in_ok-spot-in-Some-clause-checks c =
     target_written c.args.node c.note_found.new.self (plain_expr c.args.written.now) (plain_expr c.args.value.now) c.in-Some.target
     c.args.body.now c.args.out.now c.read_target.new.found c.typed.new.out c.write.new.found
     (plain_typed c.in_ok-given.given) c.in_ok-fits-in-Some.fits
-    c.target_fault.result c.args.written.now.place (plain_spot c.in_ok-spot.spot) (plain_node c.into_node.result)
-    (typed_stmt c.stored.result) placed c.in_ok-settle-in-Some.ensures.clean c.in_ok-spot.ensures.found (place_is c.args.written.now) c.in_ok-spot.ensures.spot
+    c.target_fault.result c.args.written.now.place (plain_spot c.in_ok-spot-in-Some.spot) (plain_node c.into_node.result)
+    (typed_stmt c.stored.result) placed c.in_ok-settle-in-Some.ensures.clean c.in_ok-spot-in-Some.ensures.found (place_is c.args.written.now) c.in_ok-spot-in-Some.ensures.spot
     (node_made c.args.value.now c.into_node.result (plain_typed c.in_ok-given.given) c.into_node.ensures) c.stored.ensures
 
 pub returns-in_err-settle-in-None-clause-checks : goal.returns-in_err-settle-in-None-clause-checks
