@@ -37,3 +37,11 @@ slots_step env names i name before after below is more so_far =
     ∙ append_assoc (numbers before) (slots_of env (name ∷ [])) (slots_of env (drop (i + 1) names))
     ∙ ap (λ (z : List ℕ). numbers before ++ z) (sym (one_slot (local_of env name) (slots_of env (drop (i + 1) names))))
     ∙ ap (λ (z : List ℕ). numbers before ++ slots_of env z) (sym next) ∙ so_far
+
+pub slots_begin : (env : Env) (names : List ℕ) (slots : List Slot) → slots ≡ [] → numbers slots ++ slots_of env names ≡ slots_of env names
+slots_begin env names slots none = ap (λ (z : List Slot). numbers z ++ slots_of env names) none
+
+pub slots_end : (env : Env) (names : List ℕ) (i : ℕ) (slots : List Slot) → drop i names ≡ [] →
+    numbers slots ++ slots_of env (drop i names) ≡ slots_of env names → numbers slots ≡ slots_of env names
+slots_end env names i slots none so_far =
+    sym (append-nil (numbers slots)) ∙ ap (λ (z : List ℕ). numbers slots ++ slots_of env z) (sym none) ∙ so_far
