@@ -60,6 +60,10 @@ by_five : {A B C D E X : Type 0} (to : A → B → C → D → E → X) {a a' : 
     e ≡ e' → to a b c d e ≡ to a' b' c' d' e'
 by_five to p q r s t = cc
 
+by_seven : {A B C D E F G X : Type 0} (to : A → B → C → D → E → F → G → X) {a a' : A} {b b' : B} {c c' : C} {d d' : D} {e e' : E} {f f' : F} {g g' : G} →
+    a ≡ a' → b ≡ b' → c ≡ c' → d ≡ d' → e ≡ e' → f ≡ f' → g ≡ g' → to a b c d e f g ≡ to a' b' c' d' e' f' g'
+by_seven to p q r s t u v = cc
+
 -- what is cut
 cut_once : OneTyping → {env : Env} {array : PlainExpr} {f g h : Found} {t u : PlainType} {o p : Source} {k l : Option Kind} → Cutting env array f t o k g →
     Cutting env array f u p l h → (t ≡ u) × (o ≡ p) × (k ≡ l) × (g ≡ h)
@@ -352,17 +356,11 @@ mutual
       let e = opening_once one o o' in
       let s = scope_once one d (scope_from (ap apart_from (same_scope e)) d') in
       sym j
-      ∙ by_five
-      (λ (n : Node) assigns (x : Walk) (source : Source) (z : Walk).
+      ∙ by_seven
+      (λ (n : Node) assigns (x : Walk) (source : Source) (z : Walk) (size : TypedExpr) (made : TypedStmt).
       judged (fault_of (with_fault_if (settled_node (with_fault_if n kind.Assign assigns)) kind.Interferes
       (parts_interfere (given_in w.env) (part_slot w.env) (part_variable w.env) z.found.effects z.found.uses)))
-      (typed.statement node.place (typed.foreach_parts (part_slot w.env) source _ _))
+      (typed.statement node.place (typed.foreach_parts (part_slot w.env) source size made))
       (parts_left (part_slot w.env) w source x.found z))
-      (same_noted e) (one_truth a a' k k') (same_scope e) (same_source e) (same_walk s)
-      ∙ by_two
-      (λ (size : TypedExpr) (made : TypedStmt).
-      judged (fault_of (with_fault_if (settled_node (with_fault_if _ kind.Assign a')) kind.Interferes
-      (parts_interfere (given_in w.env) (part_slot w.env) (part_variable w.env) _ _)))
-      (typed.statement node.place (typed.foreach_parts (part_slot w.env) _ size made)) _)
-      (same_size e) (same_made s) refl refl
+      (same_noted e) (one_truth a a' k k') (same_scope e) (same_source e) (same_walk s) (same_size e) (same_made s)
       ∙ j'
