@@ -43,11 +43,12 @@ same_walk e = cc
 same_made : {M : Type 0} {m n : M} {u v : Walk} → passes m u ≡ passes n v → m ≡ n
 same_made e = cc
 
-same_told : {M : Type 0} {p q : Refusal} → refused {T = M} p ≡ refused q → p ≡ q
+same_told : {M : Type 0} {p q : Refusal} → ◌≡◌ {A = Verdict M} (refused p) (refused q) → p ≡ q
 same_told e = cc
 
 -- a fault is told of a node for the one answer, and so for the same one
-told_same : {p q : Refusal} (to : Bool → Option Refusal) {a b : Bool} → a ≡ b → to a ≡ Some p → to b ≡ Some q → refused {T = TypedStmt} p ≡ refused q
+told_same : {p q : Refusal} (to : Bool → Option Refusal) {a b : Bool} → a ≡ b → to a ≡ Some p → to b ≡ Some q →
+    ◌≡◌ {A = Verdict TypedStmt} (refused p) (refused q)
 told_same {p} {q} to {a} {b} same l l' =
     let e : Some p ≡ Some q = sym l ∙ ap to same ∙ l' in cc
 
@@ -203,7 +204,7 @@ mutual
       (same_type e) (same_type k) refl refl)
       (ap (node_of start) (same_type e)) (ap (node_of count) (same_type k)) (ap (found_so w) (same_found k)) n')
   checking_once one (Checking.of_parts d) (Checking.of_parts d') = parting_once one d d'
-  checking_once one (Checking.block_refused d) (Checking.block_refused d') = block_once one d d'
+  checking_once one (Checking.block_refused d) (Checking.block_refused d') = ap refused (same_told (block_once one d d'))
   checking_once one (Checking.block_refused d) (Checking.of_atomic d' j') = let e = block_once one d d' in cc
   checking_once one (Checking.of_atomic d j) (Checking.block_refused d') = let e = block_once one d d' in cc
   checking_once one {node = node} {w = w} (Checking.of_atomic d j) (Checking.of_atomic d' j') =
