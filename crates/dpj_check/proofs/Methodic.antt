@@ -1,5 +1,5 @@
 -- The bodies of methods, member by member and class by class: what is said of each way through the code.
-use Rattle.std.proofs.Common.{◌≡◌, ◌∙◌, ℕ, suc, List, [], ◌∷◌, ◌++◌, ◌+◌, ◌⊎◌, inl, inr, ◌<◌, get_or, drop, append_assoc, append-nil, Bool, false, Option, Some, None, option_map, Result, Ok, Err, map, take, length, codes, refl, sym, ap, subst}
+use Rattle.std.proofs.Common.{◌≡◌, ◌∙◌, ℕ, List, [], ◌∷◌, ◌++◌, ◌+◌, ◌⊎◌, inl, inr, ◌<◌, get_or, drop, append_assoc, append-nil, Bool, false, Option, Some, None, option_map, Result, Ok, Err, map, take, length, codes, refl, sym, ap, subst}
 use Rattle.std.specs.Result.{IsErrAnd}
 use Rattle.std.proofs.lemmas.List.{drop_more}
 use Rattle.std.proofs.Common.{add-one}

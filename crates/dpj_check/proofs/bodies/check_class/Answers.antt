@@ -1,4 +1,4 @@
-use Rattle.std.proofs.Common.{◌∷◌, ◌+◌, Ok, Err, drop, map, option_map, ap, refl, subst, sym}
+use Rattle.std.proofs.Common.{Ok, Err, map, option_map, ap, refl, subst}
 use Rattle.std.proofs.lemmas.List.{drop_all}
 use Rattle.dpj_assembly.specs.Assembled.{plain_body}
 use Rattle.dpj_exprs.specs.Env.{at_class, table_of}

@@ -1,4 +1,4 @@
-use Rattle.std.proofs.Common.{◌∙◌, Err, map, refl, ap, sym, subst}
+use Rattle.std.proofs.Common.{Err, map, refl, ap, subst}
 use Rattle.std.proofs.lemmas.List.{drop_all}
 use Rattle.dpj_assembly.specs.Assembled.{plain_body}
 use Rattle.dpj_check.specs.Keeping.{ClassesKeep}

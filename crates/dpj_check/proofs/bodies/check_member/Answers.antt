@@ -1,4 +1,4 @@
-use Rattle.std.proofs.Common.{Err, Ok, Some, None, option_map, refl}
+use Rattle.std.proofs.Common.{Err, Ok, Some, refl}
 use Rattle.dpj_assembly.specs.Assembled.{plain_body}
 use Rattle.dpj_exprs.specs.Env.{at_class, table_of}
 use Rattle.dpj_check.specs.Methods.{class_params, no_method, MemberChecking, MethodChecking}

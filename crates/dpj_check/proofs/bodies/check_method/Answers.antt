@@ -1,4 +1,4 @@
-use Rattle.std.proofs.Common.{◌∙◌, Err, map, refl, ap, sym}
+use Rattle.std.proofs.Common.{◌∙◌, map, refl, ap, sym}
 use Rattle.std.specs.Option.{option_copied}
 use Rattle.dpj_classes.specs.Table.{numbered}
 use Rattle.dpj_typed.specs.Plain.{plain_stmt as typed_stmt}
