@@ -1,5 +1,5 @@
 -- The bodies of methods, member by member and class by class: what is said of each way through the code.
-use Rattle.std.proofs.Common.{◌≡◌, ◌∙◌, ℕ, suc, List, [], ◌∷◌, ◌++◌, ◌+◌, ◌⊎◌, inl, inr, ◌<◌, get_or, drop, append_assoc, append-nil, Bool, false, Option, Some, None, option_map, Result, Ok, Err, map, take, length, codes, refl, sym, ap, subst}
+use Rattle.std.proofs.Common.{◌≡◌, ◌∙◌, ℕ, List, [], ◌∷◌, ◌++◌, ◌+◌, ◌⊎◌, inl, inr, ◌<◌, get_or, drop, append_assoc, append-nil, Bool, false, Option, Some, None, option_map, Result, Ok, Err, map, take, length, codes, refl, sym, ap, subst}
 use Rattle.std.specs.Result.{IsErrAnd}
 use Rattle.std.proofs.lemmas.List.{drop_more}
 use Rattle.std.proofs.Common.{add-one}
@@ -29,7 +29,8 @@ use Rattle.dpj_classes.specs.declared.rows.MethodRow.{MethodRow}
 use Rattle.dpj_classes.specs.declared.table.Table.{Table}
 use Rattle.dpj_classes.specs.Table.{given_of, numbered}
 use Rattle.dpj_typed.specs.Plain.{TypedStmt, stmts_of}
-use Rattle.dpj_assembly.specs.Assembled.{PlainBody}
+use Rattle.dpj_assembly.specs.declared.body.MemberBody.{MemberBody}
+use Rattle.dpj_assembly.specs.Assembled.{PlainBody, plain_body}
 use Rattle.dpj_exprs.specs.declared.env.Env.{Env}
 use Rattle.dpj_exprs.specs.Answer.{Says}
 use Rattle.dpj_exprs.specs.declared.found.Found.{Found}
@@ -69,6 +70,14 @@ methods_at around method = with_row (record around { method = method }) (numbere
 
 members_begun : (start : Env) (class : ℕ) → at_members (at_class start class) ≡ at_class start class
 members_begun start class = ap (λ (z : _). record (at_class start class) { given = z }) (take-length (given_of (table_of start) class))
+
+pub class_entered : (start : Env) (class count : ℕ) (b : Body) → b.env ≡ at_class start class → b.atomic_params ≡ class_params (table_of start) class →
+    count ≡ length b.atomic_params → IsIn start class count b
+class_entered start class count b env_is params_are count_is = record {
+  members = ap at_members env_is ∙ members_begun start class;
+  params = ap (λ (n : ℕ). take n b.atomic_params) count_is ∙ take-length b.atomic_params ∙ params_are;
+  all_params = count_is ∙ ap length params_are;
+}
 
 method_begun : (start env : Env) (class number : ℕ) → at_members env ≡ at_class start class → at_method env number ≡ at_method (at_class start class) number
 method_begun start env class number is = ap (λ (z : Env). methods_at z number) (is ∙ sym (members_begun start class))
@@ -372,3 +381,24 @@ no_more env formals types (inr none) = ap (λ (z : List Ty). formals_declared en
 pub formals_end : (b c : Body) (formals : List Formal) (types : List Ty) (all : Env) → c ≡ with_env b c.env → formals_declared c.env formals types ≡ all →
     (length formals ≡ 0) ⊎ (length types ≡ 0) → c ≡ with_env b all
 formals_end b c formals types all others rest none = others ∙ ap (λ (z : Env). with_env b z) (sym (no_more c.env formals types none) ∙ rest)
+
+-- the body that a member has or hasn't
+pub body_next : (made : Option MemberBody) (body : MemberBody) (number next : ℕ) → made ≡ Some body → next ≡ as_number (number + 1) →
+    next ≡ number_after (option_map plain_body made) number
+body_next made body number next is next_is =
+    next_is ∙ ap as_number (add-one number) ∙ ap (λ (z : Option MemberBody). number_after (option_map plain_body z) number) (sym is)
+
+pub body_pushed : (made : Option MemberBody) (body : MemberBody) (before after : List MemberBody) → made ≡ Some body → after ≡ before ++ body ∷ [] →
+    map plain_body after ≡ map plain_body before ++ bodies_of (option_map plain_body made)
+body_pushed made body before after is more =
+    map_both plain_body before (body ∷ []) after more
+    ∙ ap (λ (z : Option MemberBody). map plain_body before ++ bodies_of (option_map plain_body z)) (sym is)
+
+pub no_body_next : (made : Option MemberBody) (number : ℕ) → made ≡ None → number ≡ number_after (option_map plain_body made) number
+no_body_next made number is = ap (λ (z : Option MemberBody). number_after (option_map plain_body z) number) (sym is)
+
+pub no_body_pushed : (made : Option MemberBody) (before : List MemberBody) → made ≡ None →
+    map plain_body before ≡ map plain_body before ++ bodies_of (option_map plain_body made)
+no_body_pushed made before is =
+    sym (append-nil (map plain_body before))
+    ∙ ap (λ (z : Option MemberBody). map plain_body before ++ bodies_of (option_map plain_body z)) (sym is)

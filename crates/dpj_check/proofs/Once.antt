@@ -1,5 +1,5 @@
 -- A statement has one verdict at most: what two derivations say of it is the same.
-use Rattle.std.proofs.Common.{◌≡◌, ◌∙◌, ℕ, Bool, not, List, ◌∷◌, Option, Some, None, refl, sym, ap, subst}
+use Rattle.std.proofs.Common.{◌≡◌, ◌∙◌, Bool, not, List, ◌∷◌, Option, Some, None, refl, sym, ap, subst}
 use Rattle.dpj_base.specs.declared.effect.Effect.{Effect}
 use Rattle.dpj_base.specs.declared.refusal.Kind.{Kind}
 use Rattle.dpj_base.specs.declared.refusal.Kind.TheVariants as kind
@@ -43,11 +43,12 @@ same_walk e = cc
 same_made : {M : Type 0} {m n : M} {u v : Walk} → passes m u ≡ passes n v → m ≡ n
 same_made e = cc
 
-same_told : {M : Type 0} {p q : Refusal} → refused {T = M} p ≡ refused q → p ≡ q
+same_told : {M : Type 0} {p q : Refusal} → ◌≡◌ {A = Verdict M} (refused p) (refused q) → p ≡ q
 same_told e = cc
 
 -- a fault is told of a node for the one answer, and so for the same one
-told_same : {p q : Refusal} (to : Bool → Option Refusal) {a b : Bool} → a ≡ b → to a ≡ Some p → to b ≡ Some q → refused {T = TypedStmt} p ≡ refused q
+told_same : {p q : Refusal} (to : Bool → Option Refusal) {a b : Bool} → a ≡ b → to a ≡ Some p → to b ≡ Some q →
+    ◌≡◌ {A = Verdict TypedStmt} (refused p) (refused q)
 told_same {p} {q} to {a} {b} same l l' =
     let e : Some p ≡ Some q = sym l ∙ ap to same ∙ l' in cc
 
@@ -59,6 +60,10 @@ told_not {p} to {a} {b} same l l' =
 by_five : {A B C D E X : Type 0} (to : A → B → C → D → E → X) {a a' : A} {b b' : B} {c c' : C} {d d' : D} {e e' : E} → a ≡ a' → b ≡ b' → c ≡ c' → d ≡ d' →
     e ≡ e' → to a b c d e ≡ to a' b' c' d' e'
 by_five to p q r s t = cc
+
+by_seven : {A B C D E F G X : Type 0} (to : A → B → C → D → E → F → G → X) {a a' : A} {b b' : B} {c c' : C} {d d' : D} {e e' : E} {f f' : F} {g g' : G} →
+    a ≡ a' → b ≡ b' → c ≡ c' → d ≡ d' → e ≡ e' → f ≡ f' → g ≡ g' → to a b c d e f g ≡ to a' b' c' d' e' f' g'
+by_seven to p q r s t u v = cc
 
 -- what is cut
 cut_once : OneTyping → {env : Env} {array : PlainExpr} {f g h : Found} {t u : PlainType} {o p : Source} {k l : Option Kind} → Cutting env array f t o k g →
@@ -199,7 +204,7 @@ mutual
       (same_type e) (same_type k) refl refl)
       (ap (node_of start) (same_type e)) (ap (node_of count) (same_type k)) (ap (found_so w) (same_found k)) n')
   checking_once one (Checking.of_parts d) (Checking.of_parts d') = parting_once one d d'
-  checking_once one (Checking.block_refused d) (Checking.block_refused d') = block_once one d d'
+  checking_once one (Checking.block_refused d) (Checking.block_refused d') = ap refused (same_told (block_once one d d'))
   checking_once one (Checking.block_refused d) (Checking.of_atomic d' j') = let e = block_once one d d' in cc
   checking_once one (Checking.of_atomic d j) (Checking.block_refused d') = let e = block_once one d d' in cc
   checking_once one {node = node} {w = w} (Checking.of_atomic d j) (Checking.of_atomic d' j') =
@@ -352,17 +357,11 @@ mutual
       let e = opening_once one o o' in
       let s = scope_once one d (scope_from (ap apart_from (same_scope e)) d') in
       sym j
-      ∙ by_five
-      (λ (n : Node) assigns (x : Walk) (source : Source) (z : Walk).
+      ∙ by_seven
+      (λ (n : Node) assigns (x : Walk) (source : Source) (z : Walk) (size : TypedExpr) (made : TypedStmt).
       judged (fault_of (with_fault_if (settled_node (with_fault_if n kind.Assign assigns)) kind.Interferes
       (parts_interfere (given_in w.env) (part_slot w.env) (part_variable w.env) z.found.effects z.found.uses)))
-      (typed.statement node.place (typed.foreach_parts (part_slot w.env) source _ _))
+      (typed.statement node.place (typed.foreach_parts (part_slot w.env) source size made))
       (parts_left (part_slot w.env) w source x.found z))
-      (same_noted e) (one_truth a a' k k') (same_scope e) (same_source e) (same_walk s)
-      ∙ by_two
-      (λ (size : TypedExpr) (made : TypedStmt).
-      judged (fault_of (with_fault_if (settled_node (with_fault_if _ kind.Assign a')) kind.Interferes
-      (parts_interfere (given_in w.env) (part_slot w.env) (part_variable w.env) _ _)))
-      (typed.statement node.place (typed.foreach_parts (part_slot w.env) _ size made)) _)
-      (same_size e) (same_made s) refl refl
+      (same_noted e) (one_truth a a' k k') (same_scope e) (same_source e) (same_walk s) (same_size e) (same_made s)
       ∙ j'

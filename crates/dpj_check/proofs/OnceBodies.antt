@@ -33,7 +33,7 @@ member_once one (no_method n) (a_method d' j') = absurd (cc)
 member_once one (a_method d j) (no_method n') = absurd (cc)
 member_once one (a_method d j) (a_method d' j') = sym j ∙ ap (after_ok Some) (method_once one d d') ∙ j'
 
-same_ok : {T : Type 0} {x y : T} → Ok {E = Refusal} x ≡ Ok y → x ≡ y
+same_ok : {T : Type 0} {x y : T} → ◌≡◌ {A = Result T Refusal} (Ok x) (Ok y) → x ≡ y
 same_ok e = cc
 
 -- from the same number on

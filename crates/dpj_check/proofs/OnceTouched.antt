@@ -27,9 +27,9 @@ above_first : (y : ℕ) (ys : List ℕ) (x : ℕ) → IsStrictlySortedBy nat_cmp
 above_first y ys x sorted held = ranked y x Less (sym (All-contains (λ q. nat_cmp y q ≡ Less) ys x (All-after_first nat_cmp y ys sorted) held))
 
 not_below : (x y : ℕ) (r : Ordering) → r ≡ nat_cmp x y → (x < y → ⊥) → y ≤ x
-not_below x y Less is no = absurd (no (ranked x y Less is))
-not_below x y Equal is no = let e : x ≡ y = ranked x y Equal is in omega (arith, e)
-not_below x y Greater is no = let g : y < x = ranked x y Greater is in omega (arith, g)
+not_below x y Less is never = absurd (never (ranked x y Less is))
+not_below x y Equal is never = let e : x ≡ y = ranked x y Equal is in omega (arith, e)
+not_below x y Greater is never = let g : y < x = ranked x y Greater is in omega (arith, g)
 
 at_least : (y : ℕ) (ys : List ℕ) (x : ℕ) → IsStrictlySortedBy nat_cmp (y ∷ ys) → Contains (y ∷ ys) x → y ≤ x
 at_least y ys x sorted held =

@@ -3,18 +3,22 @@ ghost use Rattle.std.specs.Option.{option_copied};
 ghost use Rattle.dpj_assembly.specs.Assembled.{plain_body};
 ghost use Rattle.dpj_base.specs.Effects.{set_covers};
 ghost use Rattle.dpj_tree.specs.Nd.{program_uses_nd};
+ghost use Rattle.dpj_tree.specs.Plain.{plain_stmt, plain_stmts};
+ghost use Rattle.dpj_typed.specs.Plain.{plain_stmt as typed_stmt};
 ghost use Rattle.dpj_exprs.specs.declared.env.Env.{Env};
 ghost use Rattle.dpj_exprs.specs.Env.{table_of, at_class, at_method};
+ghost use Rattle.dpj_check.specs.Checking.{InBlock};
+ghost use Rattle.dpj_check.specs.Completes.{all_complete};
 ghost use Rattle.dpj_check.specs.Deciding.{has_value, method_fault, told_at};
 ghost use Rattle.dpj_check.specs.Keeping.{AllKeep, ClassesKeep, MethodKeeps, MemberKeeps, MembersKeep, ProgramKeeps, method_around};
 ghost use Rattle.dpj_check.specs.Methods.{formals_declared, formal_types, summary_of, bodies_of, class_params, number_after, plain_bodies, BodiesChecking, ClassesChecking, IsIn, MembersChecking, MemberChecking, MethodChecking};
-ghost use Rattle.dpj_check.specs.Walks.{home_of, with_env};
+ghost use Rattle.dpj_check.specs.Walks.{home_of, passes, refused, walk_of, with_env};
 ghost use Rattle.dpj_exprs.specs.Answer.{Says};
 
 use crate::accepted::Accepted;
 use crate::body::Body;
 use crate::node::Around;
-use crate::statements::block;
+use crate::statements::{CheckedBlock, block};
 use dpj_assembly::MemberBody;
 use dpj_base::{Items, Kind, NoMemory, Plain, Stop, Ty};
 use dpj_classes::{MethodRow, Table};
@@ -131,8 +135,7 @@ fn check_method(body: &mut Body, method: &Method, number: u32) -> Result<MemberB
     declare_formals(body, method.formals.as_slice(), types_of(row))?;
     let has_slots = body.has_room();
     let mut done = Found::new(body.alloc);
-    let around = Around::method(has_value(&method.result));
-    let checked = block(body, around, method.body.as_slice(), &mut done)?;
+    let checked = check_body(body, method, &mut done)?;
     let covered = summary_of(row, &nothing).set_covers(&done.effects);
     settle_method(method, checked.completes, covered, has_slots)?;
     Ok(MemberBody {
@@ -160,6 +163,17 @@ fn summary_of<'a>(row: Option<&'a MethodRow>, nothing: &'a EffectSet) -> &'a Eff
         Some(row) => &row.summary,
         None => nothing,
     }
+}
+
+/// Checks the statements of a method, whose formals are in scope.
+fn check_body(body: &mut Body, method: &Method, done: &mut Found) -> Result<CheckedBlock, Stop>
+    ensures completes { IfOk result (λ checked. checked.completes ≡ all_complete (plain_stmts (map plain_stmt method.now.body))) }
+    ensures keeps { OnOk result (AllKeep (method_around (has_value method.now.result)) (plain_stmts (map plain_stmt method.now.body))) }
+    ensures home { OnOk result (home_of body.new ≡ home_of body.old) }
+    ensures checks { Says result (λ checked. passes (map typed_stmt checked.stmts) (walk_of body.new done.new)) refused (InBlock body.old.atomic_params (method_around (has_value method.now.result)) (plain_stmts (map plain_stmt method.now.body)) (walk_of body.old done.old)) }
+{
+    let around = Around::method(has_value(&method.result));
+    block(body, around, method.body.as_slice(), done)
 }
 
 fn has_value(told: &MethodResult) -> bool

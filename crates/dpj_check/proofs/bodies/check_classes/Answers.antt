@@ -1,4 +1,4 @@
-use Rattle.std.proofs.Common.{◌∙◌, Err, map, refl, ap, sym, subst}
+use Rattle.std.proofs.Common.{Err, map, refl, ap, subst}
 use Rattle.std.proofs.lemmas.List.{drop_all}
 use Rattle.dpj_assembly.specs.Assembled.{plain_body}
 use Rattle.dpj_check.specs.Keeping.{ClassesKeep}
@@ -23,8 +23,8 @@ returns-clause-checks c =
     classes_all c.args.body.now.env c.loop-number.body.env c.loop-number.number c.loop-number.methods c.args.classes.now (map plain_body c.loop-number.bodies)
     (drop_all c.loop-number.number c.args.classes.now c.loop-number-test.false) c.loop-number.invariant.so_far
 
-pub loop-number-entered : goal.loop-number-entered
-loop-number-entered c = record {
+pub loop-number-init : goal.loop-number-init
+loop-number-init c = record {
   keeps = λ kept. kept;
   so_far = classes_begin c.args.body.now.env c.args.classes.now (map plain_body c.new-bodies.result) (ap (map plain_body) c.new-bodies.ensures);
 }

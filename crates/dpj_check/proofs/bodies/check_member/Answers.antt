@@ -1,4 +1,4 @@
-use Rattle.std.proofs.Common.{Err, Ok, Some, None, option_map, refl}
+use Rattle.std.proofs.Common.{Err, Ok, Some, refl}
 use Rattle.dpj_assembly.specs.Assembled.{plain_body}
 use Rattle.dpj_exprs.specs.Env.{at_class, table_of}
 use Rattle.dpj_check.specs.Methods.{class_params, no_method, MemberChecking, MethodChecking}
@@ -32,6 +32,3 @@ returns-in_ok-check_method-in-Method-clause-checks c start class within =
 
 pub returns-in-Regions-clause-checks : goal.returns-in-Regions-clause-checks
 returns-in-Regions-clause-checks c start class within = no_method (no_body c.args.member.now c.in-Regions.is)
-
-pub returns-in-Regions-2-clause-checks : goal.returns-in-Regions-2-clause-checks
-returns-in-Regions-2-clause-checks c start class within = no_method (no_body c.args.member.now c.in-Regions.is)

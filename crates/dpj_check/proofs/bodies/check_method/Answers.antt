@@ -1,4 +1,4 @@
-use Rattle.std.proofs.Common.{◌∙◌, Err, map, refl, ap, sym}
+use Rattle.std.proofs.Common.{◌∙◌, map, refl, ap, sym}
 use Rattle.std.specs.Option.{option_copied}
 use Rattle.dpj_classes.specs.Table.{numbered}
 use Rattle.dpj_typed.specs.Plain.{plain_stmt as typed_stmt}
@@ -43,7 +43,7 @@ returns-in_err-settle_method-clause-checks c around is =
           ∙ ap (λ fs. with_env c.args.body.now (formals_declared c.args.body.now.env fs c.types_of.result.now)) c.as_slice.ensures;
     } in
     let met : BodyMet around c.args.number c.args.method.now (option_copied c.numbered-row.result) c.types_of.result.now c.summary_of.result.now
-    c.args.body.now c.declare_formals.new.body c.block.new.body c.block.new.out c.in_ok-checked.checked.completes c.set_covers-covered.result
+    c.args.body.now c.declare_formals.new.body c.check_body.new.body c.check_body.new.done c.in_ok-checked.checked.completes c.set_covers-covered.result
     c.has_room-has_slots.result (map typed_stmt c.in_ok-checked.checked.stmts) = record {
       begun = begun;
       summary_is = c.summary_of.ensures c.new-nothing.ensures;
@@ -53,11 +53,11 @@ returns-in_err-settle_method-clause-checks c around is =
       in_block =
           body_from around c.args.number c.args.method.now (option_copied c.numbered-row.result) c.types_of.result.now c.args.body.now
           c.declare_formals.new.body c.new-done.result
-          (passes (map typed_stmt c.in_ok-checked.checked.stmts) (walk_of c.block.new.body c.block.new.out)) begun c.new-done.ensures
+          (passes (map typed_stmt c.in_ok-checked.checked.stmts) (walk_of c.check_body.new.body c.check_body.new.done)) begun c.new-done.ensures
           c.in_ok-checked.ensures.checks;
     } in
     method_stops around c.args.number c.args.method.now (option_copied c.numbered-row.result) c.types_of.result.now c.summary_of.result.now
-    c.args.body.now c.declare_formals.new.body c.block.new.body c.block.new.out c.in_ok-checked.checked.completes c.set_covers-covered.result
+    c.args.body.now c.declare_formals.new.body c.check_body.new.body c.check_body.new.done c.in_ok-checked.checked.completes c.set_covers-covered.result
     c.has_room-has_slots.result (map typed_stmt c.in_ok-checked.checked.stmts)
     c.from_residual-in_err-settle_method.result _ c.in_err-settle_method.field-0.0 c.from_residual-in_err-settle_method.ensures.1 met
     c.in_err-settle_method.ensures
@@ -74,7 +74,7 @@ returns-clause-checks c around is =
           ∙ ap (λ fs. with_env c.args.body.now (formals_declared c.args.body.now.env fs c.types_of.result.now)) c.as_slice.ensures;
     } in
     let met : BodyMet around c.args.number c.args.method.now (option_copied c.numbered-row.result) c.types_of.result.now c.summary_of.result.now
-    c.args.body.now c.declare_formals.new.body c.block.new.body c.block.new.out c.in_ok-checked.checked.completes c.set_covers-covered.result
+    c.args.body.now c.declare_formals.new.body c.check_body.new.body c.check_body.new.done c.in_ok-checked.checked.completes c.set_covers-covered.result
     c.has_room-has_slots.result (map typed_stmt c.in_ok-checked.checked.stmts) = record {
       begun = begun;
       summary_is = c.summary_of.ensures c.new-nothing.ensures;
@@ -84,10 +84,10 @@ returns-clause-checks c around is =
       in_block =
           body_from around c.args.number c.args.method.now (option_copied c.numbered-row.result) c.types_of.result.now c.args.body.now
           c.declare_formals.new.body c.new-done.result
-          (passes (map typed_stmt c.in_ok-checked.checked.stmts) (walk_of c.block.new.body c.block.new.out)) begun c.new-done.ensures
+          (passes (map typed_stmt c.in_ok-checked.checked.stmts) (walk_of c.check_body.new.body c.check_body.new.done)) begun c.new-done.ensures
           c.in_ok-checked.ensures.checks;
     } in
     method_passes around c.args.number c.args.method.now (option_copied c.numbered-row.result) c.types_of.result.now c.summary_of.result.now
-    c.args.body.now c.declare_formals.new.body c.block.new.body c.block.new.out c.in_ok-checked.checked.completes c.set_covers-covered.result
+    c.args.body.now c.declare_formals.new.body c.check_body.new.body c.check_body.new.done c.in_ok-checked.checked.completes c.set_covers-covered.result
     c.has_room-has_slots.result (map typed_stmt c.in_ok-checked.checked.stmts)
     c.slots.result c.regions_declared.result met (sym c.in_ok-settle_method.ensures) c.slots.ensures c.regions_declared.ensures
