@@ -1,0 +1,9 @@
+pub mod Bodies
+pub mod Expressions
+pub mod Free
+pub mod Known
+pub mod Lists
+pub mod Numbering
+pub mod Signatures
+pub mod Statements
+pub mod Valued
