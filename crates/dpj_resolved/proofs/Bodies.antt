@@ -1,12 +1,13 @@
 -- What is in scope in a body: locals of values and parts of arrays; and when a node is free of faults.
-use Rattle.std.proofs.Common.{◌≡◌, ◌∙◌, ℕ, Bool, true, false, not, cond, List, [], ◌∷◌, ◌++◌, take, Option, Some, None, option_and_then, refl, ap, sym, subst}
+use Rattle.std.proofs.Common.{◌≡◌, ◌∙◌, ℕ, Bool, true, false, not, cond, List, [], ◌∷◌, ◌++◌, take, Option, Some, None, option_and_then, refl, ap, sym, subst, rules}
 use Rattle.std.specs.Prelude.{slice_get, is_some}
 use Rattle.dpj_base.specs.declared.place.Place.{Place}
 use Rattle.dpj_base.specs.declared.refusal.Kind.{Kind}
 use Rattle.dpj_base.specs.declared.refusal.Kind.TheVariants as kind
-use Rattle.dpj_base.specs.declared.ty.Ty.{Ty}
+use Rattle.dpj_base.specs.declared.ty.Ty.{Ty, the_lemmas}
 use Rattle.dpj_base.specs.declared.ty.Ty.TheVariants as variant
 use Rattle.dpj_base.specs.Types.{plain_type}
+use Rattle.dpj_base.specs.Types.{PlainType as ty}
 use Rattle.dpj_tree.specs.declared.region.Named.{Named}
 use Rattle.dpj_typed.specs.Plain.{PlainProgram}
 use Rattle.dpj_classes.specs.declared.rows.MethodRow.{MethodRow}
@@ -38,6 +39,11 @@ around_of {P} {gives} {env} body = record {
       let w = and_then_there (λ place. slice_get (locals_in env) place) (place_in env.variables name) row e in
       body.locals w.0 row w.2;
 }
+
+int_valued : valued (plain_type variant.Int) ≡ true
+int_valued =
+    let is : plain_type variant.Int ≡ ty.int = search (rules, the_lemmas) in
+    ap valued is
 
 module _ {P : PlainProgram} {gives : Bool}
   where
@@ -83,7 +89,7 @@ module _ {P : PlainProgram} {gives : Bool}
     left_in env mark body = record { signs = body.signs; locals = λ i row e. body.locals i row (got_taken mark.locals (locals_in env) i row e); returns = body.returns }
 
     pub variable_in : (env : Env) (var : Named) → InBody P gives env → InBody P gives (variable_declared env var)
-    variable_in env var body = local_declared_in env var.name variant.Int true refl body
+    variable_in env var body = local_declared_in env var.name variant.Int true int_valued body
 
     pub parts_in : (env : Env) (view var : Named) (t : Ty) → holds_values (plain_type t) ≡ true → InBody P gives env → InBody P gives (parts_declared env view var t)
     parts_in env view var t v body = variable_in (part_declared env view.name t) var (part_declared_in env view.name t v body)

@@ -96,7 +96,7 @@ pub record Around (P : PlainProgram) (env : Env) : Type 0 where
   pub locals : (name : ℕ) (row : LocalRow) → local_of env name ≡ Some row → Local row
 
 -- tests that no `void` passes
-int_value : (t : Option PlainType) → may_be is_int t ≡ true → may_be is_value t ≡ true
+pub int_value : (t : Option PlainType) → may_be is_int t ≡ true → may_be is_value t ≡ true
 int_value None h = refl
 int_value (Some ty.int) h = refl
 int_value (Some ty.boolean) h = refl
@@ -105,7 +105,7 @@ int_value (Some ty.null) h = refl
 int_value (Some (ty.class c args)) h = refl
 int_value (Some (ty.array t rpl named)) h = refl
 
-boolean_value : (t : Option PlainType) → may_be is_boolean t ≡ true → may_be is_value t ≡ true
+pub boolean_value : (t : Option PlainType) → may_be is_boolean t ≡ true → may_be is_value t ≡ true
 boolean_value None h = refl
 boolean_value (Some ty.int) h = refl
 boolean_value (Some ty.boolean) h = refl
@@ -459,7 +459,7 @@ module _ (P : PlainProgram)
             let f = append_none (fault_if partial kind.PartialWrite place ++ fault_if (not untold.fit) kind.Type place) (fault_if (not hold) kind.Constraint place) (none_told before (use_faults partial untold.fit hold place) untold.tells) in
             let g = append_none (fault_if partial kind.PartialWrite place) (fault_if (not untold.fit) kind.Type place) f.0 in
             let fit = not_false untold.fit (fault_none (not untold.fit) kind.Type place g.1) in
-            actuals_fit (supers_of env) args place ts declared h (untold.fits.0 (subst IsTrue (sym fit) tt)) v
+            actuals_fit (supers_of env) args place ts declared h (untold.fits.0 fit) v
 
         -- the method that a call names
         through_is : (e : TypedExpr) (name : ℕ) (place : Place) (class : ℕ) (row : MethodRow) (owned : List Rpl) → Stands P e → method_through (table_of env) (type_of e) name place ≡ Ok (class, row, owned) →

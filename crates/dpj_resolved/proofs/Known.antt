@@ -1,7 +1,7 @@
 -- A written type without faults is known, and it is that of a value.
 use Rattle.std.proofs.Common.{◌≡◌, ◌∙◌, ℕ, suc, ◌+◌, ◌==◌, ◌&&◌, Bool, true, false, not, is_none, cond, List, [], ◌∷◌, ◌++◌, length, map, flat_map, filter_map, ◌⊎◌, inl, inr, Option, None, Some, option_map, option_and_then, refl, ap, sym}
 use Rattle.std.proofs.lemmas.Bool.Decides.{eqb_tells}
-use Rattle.std.specs.List.{list_any, cons_option}
+use Rattle.std.specs.List.{list_any, list_all, cons_option}
 use Rattle.std.specs.Option.{option_map_or, option_or, option_flatten}
 use Rattle.dpj_base.specs.declared.elems.Elem.{Elem}
 use Rattle.dpj_base.specs.declared.elems.Elem.TheVariants.{Name, At, Any, Star}
@@ -38,7 +38,7 @@ use Rattle.dpj_resolve.specs.declared.scope.ParamFound.{ParamFound}
 use Rattle.dpj_resolve.specs.Args.{root_path, roots, args_given, args_faults, local_fault, is_unfit}
 use Rattle.dpj_resolve.specs.Classes.{params_in, class_args, class_faults, class_type}
 use Rattle.dpj_resolve.specs.Index.{PlainIndex, index_name}
-use Rattle.dpj_resolve.specs.Paths.{region_meant, region_faults, second_faults, misfits}
+use Rattle.dpj_resolve.specs.Paths.{region_meant, region_faults, second_faults, is_specified, is_plain, misfits}
 use Rattle.dpj_resolve.specs.Reading.{elem_meant, elem_faults, is_barred, is_misplaced, head_param, head_local, below_root, begun, head_meant, head_faults, path_atomic, longer, longer_if, goes_on, path_meant, path_faults, arg_need, each_faults, arg_faults, args_read}
 use Rattle.dpj_resolve.specs.Scoped.{value_in}
 use Rattle.dpj_resolve.specs.Scopes.{PlainScope}
@@ -110,7 +110,7 @@ module _ (scope : PlainScope) (around : PlainIndex)
         let f = append_none (head_faults scope tree.head ++ flat_map (elem_faults scope around) tree.elems) (fault_if unfit kind.RegionArgs tree.place) free in
         let g = append_none (head_faults scope tree.head) (flat_map (elem_faults scope around) tree.elems) f.0 in
         let m = fault_none unfit kind.RegionArgs tree.place f.1 in
-        let p = last_false _ _ (list_any (is_misplaced scope around) tree.elems) m in
+        let p = last_false (need.full && not (list_all is_specified tree.elems)) (need.atomic && is_plain (path_atomic scope tree)) (list_any (is_misplaced scope around) tree.elems) m in
         let h = head_known tree.head g.0 in
         let r = on_known tree.elems h.0 g.1 p in
         (r.0, ap (λ o. goes_on scope around o tree.elems) h.1 ∙ r.1)

@@ -1,8 +1,10 @@
+pub mod Assembled
 pub mod Bodies
 pub mod Expressions
 pub mod Free
 pub mod Known
 pub mod Lists
+pub mod Methods
 pub mod Numbering
 pub mod Signatures
 pub mod Statements

@@ -41,6 +41,7 @@ use Rattle.dpj_exprs.specs.Env.{table_of, supers_of, scope_of, local_of, slots_i
 use Rattle.dpj_exprs.specs.Fields.{field_through}
 use Rattle.dpj_exprs.specs.Fields.{PlainField as SeenField}
 use Rattle.dpj_exprs.specs.Targeting.{PlainSpot, to_field, to_element, to_part, PlainTarget, TargetAnswer, aims, misses, aimed, in_field, field_target, in_array, in_element, element_target, in_part, in_part_element, part_target, Targeting, with_write}
+use Rattle.dpj_exprs.specs.Typing.{Typing}
 use Rattle.dpj_exprs.specs.Typed.{may_be, is_int, is_boolean, is_value, node_at, type_in, FitsAs}
 use Rattle.dpj_check.specs.declared.node.Around.{Around}
 use Rattle.dpj_check.specs.declared.node.Node.{Node}
@@ -77,20 +78,20 @@ behind_if Q R told make (refused refusal) h to = tt
 module _ (P : PlainProgram)
   where
     -- of a statement: it fits, and completes or not
-    record Fine (y complete : Bool) (made : TypedStmt) (w : Walk) : Type 0 where
-      fits : StmtFits P y made
-      complete_so : completes made ≡ complete
-      body : InBody P y w.env
+    pub record Fine (y complete : Bool) (made : TypedStmt) (w : Walk) : Type 0 where
+      pub fits : StmtFits P y made
+      pub complete_so : completes made ≡ complete
+      pub body : InBody P y w.env
 
     -- the same of a node, of which no fault is told
     abbrev Done : Around → Node → Bool → TypedStmt → Walk → Type 0
     Done around node complete made w = (fault_of node ≡ None) × Fine around.has_result complete made w
 
     -- of the statements of a block
-    record FineBlock (y complete : Bool) (made : List TypedStmt) (w : Walk) : Type 0 where
-      fits : StmtsFit P y (stmts_of made)
-      complete_so : all_complete (stmts_of made) ≡ complete
-      body : InBody P y w.env
+    pub record FineBlock (y complete : Bool) (made : List TypedStmt) (w : Walk) : Type 0 where
+      pub fits : StmtsFit P y (stmts_of made)
+      pub complete_so : all_complete (stmts_of made) ≡ complete
+      pub body : InBody P y w.env
 
     -- and of statements behind others that complete or not: where they don't, there are none
     abbrev FineOrder : Bool → Bool → Bool → List TypedStmt → Walk → Type 0
@@ -123,19 +124,16 @@ module _ (P : PlainProgram)
         let w = type_known (scope_of env) tree (no_part_faults (none_by order.Number) (type_faults (scope_of env) tree) untold) in
         ap (λ o. valued (option_map_or (λ t. t) o ty.void)) w.1 ∙ meant_valued (scope_of env) tree w.0 w.1
 
-    is_so : (b : Bool) → b ≡ true → IsTrue b
-    is_so b h = subst IsTrue (sym h) tt
-
-    declaring_passed : {around : Around} {node : Node} {is_final : Bool} {tree : TypeTree} {name : ℕ} {e : PlainExpr} {w : Walk} {v : Verdict TypedStmt} → InBody P around.has_result w.env →
+    declaring_passed : (around : Around) {node : Node} {is_final : Bool} {tree : TypeTree} {name : ℕ} {e : PlainExpr} {w : Walk} {v : Verdict TypedStmt} → InBody P around.has_result w.env →
         Declaring node is_final tree name e w v → If (Done around node true) v
-    declaring_passed body (Declaring.type_refused told) = tt
-    declaring_passed body (Declaring.value_refused untold d) = tt
-    declaring_passed {around} {node} {is_final} {tree} {name} {e} {w} body (Declaring.declared {t = t} {g = g} {fit = fit} made untold same d fits j) =
+    declaring_passed around body (Declaring.type_refused told) = tt
+    declaring_passed around body (Declaring.value_refused untold d) = tt
+    declaring_passed around {node} {is_final} {tree} {name} {e} {w} body (Declaring.declared {t = t} {g = g} {fit = fit} made untold same d fits j) =
         subst (If (Done around node true)) j
         (judged_if (Done around node true) _ _ _ (λ free.
         let f = free_if (declaration_noted w.env name node.place node) kind.Type (not fit) free in
         let good = type_declared w.env tree untold in
-        let fit_value = fits_value (supers_of w.env) (type_in t) (declared_type w.env tree) (fits.0 (is_so fit (not_false fit f.1))) good in
+        let fit_value = fits_value (supers_of w.env) (type_in t) (declared_type w.env tree) (fits.0 (not_false fit f.1)) good in
         (declared_free w.env name node.place node f.0, record {
           fits = used P (place_of e) t (given_by body d) fit_value;
           complete_so = refl;
@@ -148,17 +146,17 @@ module _ (P : PlainProgram)
     local_fits true false h = (refl, refl)
     local_fits false is_final h = cc
 
-    assigning_passed : {around : Around} {node : Node} {target : Named} {e : PlainExpr} {w : Walk} {v : Verdict TypedStmt} → InBody P around.has_result w.env →
+    assigning_passed : (around : Around) {node : Node} {target : Named} {e : PlainExpr} {w : Walk} {v : Verdict TypedStmt} → InBody P around.has_result w.env →
         AssigningLocal node target e w v → If (Done around node true) v
-    assigning_passed body (AssigningLocal.value_refused d) = tt
-    assigning_passed body (AssigningLocal.no_local d is told) = tt
-    assigning_passed {around} {node} {target} {e} {w} body (AssigningLocal.assigned {t = t} {row = row} {fit = fit} d is fits j) =
+    assigning_passed around body (AssigningLocal.value_refused d) = tt
+    assigning_passed around body (AssigningLocal.no_local d is told) = tt
+    assigning_passed around {node} {target} {e} {w} body (AssigningLocal.assigned {t = t} {row = row} {fit = fit} d is fits j) =
         subst (If (Done around node true)) j
         (judged_if (Done around node true) _ _ _ (λ free.
         let f = free_found node (local_fault fit row.is_final) free in
         let l = local_fits fit row.is_final f.1 in
         let good = ((around_of body).locals target.name row is).assigned l.1 in
-        let fit_value = fits_value (supers_of w.env) (type_in t) (plain_type row.ty) (fits.0 (is_so fit l.0)) good in
+        let fit_value = fits_value (supers_of w.env) (type_in t) (plain_type row.ty) (fits.0 l.0) good in
         (f.0, record { fits = used P (place_of e) t (given_by body d) fit_value; complete_so = refl; body = body })))
 
     -- what is assigned to
@@ -235,30 +233,30 @@ module _ (P : PlainProgram)
     target_fits true may_write h = refl
     target_fits false may_write h = cc
 
-    placing_passed : {around : Around} {node : Node} {target e : PlainExpr} {w : Walk} {v : Verdict TypedStmt} → InBody P around.has_result w.env →
+    placing_passed : (around : Around) {node : Node} {target e : PlainExpr} {w : Walk} {v : Verdict TypedStmt} → InBody P around.has_result w.env →
         AssigningPlace node target e w v → If (Done around node true) v
-    placing_passed body (AssigningPlace.target_refused d) = tt
-    placing_passed body (AssigningPlace.value_refused d i) = tt
-    placing_passed {around} {node} {target} {e} {w} body (AssigningPlace.anything_assigned {t = t} d i j) =
+    placing_passed around body (AssigningPlace.target_refused d) = tt
+    placing_passed around body (AssigningPlace.value_refused d i) = tt
+    placing_passed around {node} {target} {e} {w} body (AssigningPlace.anything_assigned {t = t} d i j) =
         subst (If (Done around node true)) j
         (judged_if (Done around node true) _ _ _ (λ free.
         ((free_if node kind.Type (not (may_be is_value (type_in t))) free).0,
         record { fits = performs (place_of e) t (given_by body i); complete_so = refl; body = body })))
-    placing_passed {around} {node} {target} {e} {w} body (AssigningPlace.place_assigned {aim = aim} {t = t} {fit = fit} d i fits j) =
+    placing_passed around {node} {target} {e} {w} body (AssigningPlace.place_assigned {aim = aim} {t = t} {fit = fit} d i fits j) =
         subst (If (Done around node true)) j
         (judged_if (Done around node true) _ _ _ (λ free.
         let f = free_found node (target_fault fit aim.may_write) free in
         let a = targeting_aimed body d in
-        let fit_value = fits_value (supers_of w.env) (type_in t) aim.ty (fits.0 (is_so fit (target_fits fit aim.may_write f.1))) a.1 in
+        let fit_value = fits_value (supers_of w.env) (type_in t) aim.ty (fits.0 (target_fits fit aim.may_write f.1)) a.1 in
         (f.0, record {
           fits = stored_fits (place_of target) around.has_result aim.spot (node_of e t) a.0 (used P (place_of e) t (given_by body i) fit_value);
           complete_so = stored_completes (place_of target) aim.spot (node_of e t);
           body = body;
         })))
 
-    performing_passed : {around : Around} {node : Node} {e : PlainExpr} {w : Walk} {v : Verdict TypedStmt} → InBody P around.has_result w.env → Performing node e w v → If (Done around node true) v
-    performing_passed body (Performing.refused_itself d) = tt
-    performing_passed {around} {node} {e} body (Performing.performed {t = t} d j) =
+    performing_passed : (around : Around) {node : Node} {e : PlainExpr} {w : Walk} {v : Verdict TypedStmt} → InBody P around.has_result w.env → Performing node e w v → If (Done around node true) v
+    performing_passed around body (Performing.refused_itself d) = tt
+    performing_passed around {node} {e} body (Performing.performed {t = t} d j) =
         subst (If (Done around node true)) j
         (judged_if (Done around node true) _ _ _ (λ free. (free, record { fits = performs (place_of e) t (given_by body d); complete_so = refl; body = body })))
 
@@ -275,11 +273,7 @@ module _ (P : PlainProgram)
     returned_value : (supers : List Super) (b : Bool) (row : Option MethodRow) (t : Option PlainType) → b ≡ true → ((one : MethodRow) → row ≡ Some one → valued (plain_type one.result) ≡ true) →
         Returned supers b row t → may_be is_value t ≡ true
     returned_value supers true (Some row) t is good h = fits_value supers t (plain_type row.result) h (good row refl)
-    returned_value supers true None t is good h = so (may_be is_value t) h
-      where
-        so : (b : Bool) → IsTrue b → b ≡ true
-        so true h = refl
-        so false h = absurd h
+    returned_value supers true None t is good h = h
     returned_value supers false row t is good h = cc
 
     returning_passed : {around : Around} {node : Node} {e : PlainExpr} {w : Walk} {v : Verdict TypedStmt} → InBody P around.has_result w.env → Returning around node e w v → If (Done around node false) v
@@ -290,7 +284,7 @@ module _ (P : PlainProgram)
         let f = free_if (with_fault_if node kind.Return (is_misplaced around true)) kind.Type (not fit) free in
         let g = free_if node kind.Return (is_misplaced around true) f.0 in
         let gives_one = placed around true g.1 in
-        let fit_value = returned_value (supers_of w.env) around.has_result (numbered (table_of w.env) w.env.method) (type_in t) gives_one (body.returns gives_one) (fits.0 (is_so fit (not_false fit f.1))) in
+        let fit_value = returned_value (supers_of w.env) around.has_result (numbered (table_of w.env) w.env.method) (type_in t) gives_one (body.returns gives_one) (fits.0 (not_false fit f.1)) in
         (g.0, record { fits = (gives_one, used P (place_of e) t (given_by body d) fit_value); complete_so = refl; body = body })))
 
     -- `print`
@@ -309,9 +303,9 @@ module _ (P : PlainProgram)
         by true = (h, refl)
         by false = (h, refl)
 
-    printing_passed : {around : Around} {node : Node} {e : PlainExpr} {w : Walk} {v : Verdict TypedStmt} → InBody P around.has_result w.env → Printing node e w v → If (Done around node true) v
-    printing_passed body (Printing.value_refused d) = tt
-    printing_passed {around} {node} {e} body (Printing.printed {t = t} d j) =
+    printing_passed : (around : Around) {node : Node} {e : PlainExpr} {w : Walk} {v : Verdict TypedStmt} → InBody P around.has_result w.env → Printing node e w v → If (Done around node true) v
+    printing_passed around body (Printing.value_refused d) = tt
+    printing_passed around {node} {e} body (Printing.printed {t = t} d j) =
         subst (If (Done around node true)) j
         (judged_if (Done around node true) _ _ _ (λ free.
         let f = free_if node kind.Type (not (may_print (type_in t))) free in
@@ -390,21 +384,21 @@ module _ (P : PlainProgram)
         })
       where
         stands_behind : ((before && tree_completes.completes s) ≡ true) ⊎ (stmts_of others ≡ typed.no_stmts) → IsTrue (completes made) ⊎ (stmts_of others ≡ typed.no_stmts)
-        stands_behind (inl both) = inl (is_so (completes made) (first.complete_so ∙ (and_split before (tree_completes.completes s) both).1))
+        stands_behind (inl both) = inl (first.complete_so ∙ (and_split before (tree_completes.completes s) both).1)
         stands_behind (inr none) = inr none
 
-    block_fine : {y complete : Bool} (before : Walk) (u : Verdict (List TypedStmt)) → If (FineOrder y true complete) u → If (FineBlock y complete) (block_left before u)
-    block_fine before (passes made w) h = record { fits = h.1.fits; complete_so = h.1.complete_so; body = left_in w.env (mark_of before.env) h.1.body }
-    block_fine before (refused refusal) h = tt
+    block_fine : (y complete : Bool) (before : Walk) (u : Verdict (List TypedStmt)) → If (FineOrder y true complete) u → If (FineBlock y complete) (block_left before u)
+    block_fine y complete before (passes made w) h = record { fits = h.1.fits; complete_so = h.1.complete_so; body = left_in w.env (mark_of before.env) h.1.body }
+    block_fine y complete before (refused refusal) h = tt
 
-    scope_fine : {y complete : Bool} (before : Walk) (u : Verdict TypedStmt) → If (Fine y complete) u → If (Fine y complete) (left_scope before u)
-    scope_fine before (passes made w) h = record { fits = h.fits; complete_so = h.complete_so; body = left_in w.env (mark_of before.env) h.body }
-    scope_fine before (refused refusal) h = tt
+    scope_fine : (y complete : Bool) (before : Walk) (u : Verdict TypedStmt) → If (Fine y complete) u → If (Fine y complete) (left_scope before u)
+    scope_fine y complete before (passes made w) h = record { fits = h.fits; complete_so = h.complete_so; body = left_in w.env (mark_of before.env) h.body }
+    scope_fine y complete before (refused refusal) h = tt
 
-    standing_fine : {around : Around} {complete : Bool} (place : Place) (follows : Bool) (v : Verdict TypedStmt) → If (Done around (noted_at place follows) complete) v →
+    standing_fine : (around : Around) (complete : Bool) (place : Place) (follows : Bool) (v : Verdict TypedStmt) → If (Done around (noted_at place follows) complete) v →
         If (λ made w. (follows ≡ false) × Fine around.has_result complete made w) v
-    standing_fine place follows (passes made w) h = (follows_none place follows h.0, h.1)
-    standing_fine place follows (refused refusal) h = tt
+    standing_fine around complete place follows (passes made w) h = (follows_none place follows h.0, h.1)
+    standing_fine around complete place follows (refused refusal) h = tt
 
     branch_fine : (y : Bool) (env : Env) (es : List Effect) (touched : Touched) (made : TypedStmt) (v : BranchesVerdict) → StmtFits P y made → FineBranches y v → FineBranches y (after_branch es touched (branch_of env touched made) v)
     branch_fine y env es touched made (all_pass effects all branches w) h k = ((h, k.0), k.1)
@@ -422,18 +416,18 @@ module _ (P : PlainProgram)
           (behind_if (FineBlock around.has_result (tree_completes.all_complete all)) (Done around node (tree_completes.all_complete all)) (fault_of node)
           (λ ss. typed.statement node.place (typed.block (stmts_of ss))) u (block_passed body d)
           (λ made w free h. (free, record { fits = h.fits; complete_so = h.complete_so; body = h.body })))
-      checking_fine body (Checking.of_declaration d) = declaring_passed body d
-      checking_fine body (Checking.of_local_assignment d) = assigning_passed body d
-      checking_fine body (Checking.of_field_assignment d) = placing_passed body d
-      checking_fine body (Checking.of_element_assignment d) = placing_passed body d
-      checking_fine body (Checking.of_call d) = performing_passed body d
+      checking_fine {around = around} body (Checking.of_declaration d) = declaring_passed around body d
+      checking_fine {around = around} body (Checking.of_local_assignment d) = assigning_passed around body d
+      checking_fine {around = around} body (Checking.of_field_assignment d) = placing_passed around body d
+      checking_fine {around = around} body (Checking.of_element_assignment d) = placing_passed around body d
+      checking_fine {around = around} body (Checking.of_call d) = performing_passed around body d
       checking_fine {around = around} {node = node} body (Checking.of_return j) =
           subst (If (Done around node false)) j
           (judged_if (Done around node false) _ _ _ (λ free.
           let f = free_if node kind.Return (is_misplaced around false) free in
           (f.0, record { fits = placed around false f.1; complete_so = refl; body = body })))
       checking_fine body (Checking.of_return_value d) = returning_passed body d
-      checking_fine body (Checking.of_print d) = printing_passed body d
+      checking_fine {around = around} body (Checking.of_print d) = printing_passed around body d
       checking_fine {around = around} {node = node} body (Checking.of_text j) =
           subst (If (Done around node true)) j (judged_if (Done around node true) _ _ _ (λ free. (free, record { fits = tt; complete_so = refl; body = body })))
       checking_fine {around = around} {node = node} {w = w} body (Checking.of_regions {names = names} j) =
@@ -501,11 +495,11 @@ module _ (P : PlainProgram)
 
       standing_passed : {params : List Bool} {around : Around} {follows : Bool} {s : PlainStmt} {w : Walk} {v : Verdict TypedStmt} → InBody P around.has_result w.env → Standing params around follows s w v →
           If (λ made u. (follows ≡ false) × Fine around.has_result (tree_completes.completes s) made u) v
-      standing_passed {v = v} body (standing {follows = follows} {place = place} d) = standing_fine place follows v (checking_fine body d)
+      standing_passed {around = around} {v = v} body (standing {follows = follows} {place = place} {f = f} d) = standing_fine around (tree_completes.form_completes f) place follows v (checking_fine body d)
 
       scope_passed : {params : List Bool} {around : Around} {s : PlainStmt} {w : Walk} {v : Verdict TypedStmt} → InBody P around.has_result w.env → InScope params around s w v →
           If (Fine around.has_result (tree_completes.completes s)) v
-      scope_passed {around = around} {s = s} {w = w} body (in_scope {u = u} d j) = subst (If (Fine around.has_result (tree_completes.completes s))) j (scope_fine w u (second u (standing_passed body d)))
+      scope_passed {around = around} {s = s} {w = w} body (in_scope {u = u} d j) = subst (If (Fine around.has_result (tree_completes.completes s))) j (scope_fine around.has_result (tree_completes.completes s) w u (second u (standing_passed body d)))
         where
           second : (x : Verdict TypedStmt) → If (λ made z. (false ≡ false) × Fine around.has_result (tree_completes.completes s) made z) x → If (Fine around.has_result (tree_completes.completes s)) x
           second (passes made z) h = h.1
@@ -514,7 +508,7 @@ module _ (P : PlainProgram)
       pub block_passed : {params : List Bool} {around : Around} {all : PlainStmts} {w : Walk} {v : Verdict (List TypedStmt)} → InBody P around.has_result w.env → InBlock params around all w v →
           If (FineBlock around.has_result (tree_completes.all_complete all)) v
       block_passed {around = around} {all = all} {w = w} body (in_block {u = u} d j) =
-          subst (If (FineBlock around.has_result (tree_completes.all_complete all))) j (block_fine w u (order_passed body d))
+          subst (If (FineBlock around.has_result (tree_completes.all_complete all))) j (block_fine around.has_result (tree_completes.all_complete all) w u (order_passed body d))
 
       order_passed : {params : List Bool} {around : Around} {before : Bool} {ss : PlainStmts} {w : Walk} {v : Verdict (List TypedStmt)} → InBody P around.has_result w.env → InOrder params around before ss w v →
           If (FineOrder around.has_result before (tree_completes.all_complete ss)) v
