@@ -1,11 +1,10 @@
 -- The program that is put together: its classes are those of the table, and its members are rows of the table with their bodies.
-use Rattle.std.proofs.Common.{◌≡◌, ◌∙◌, ℕ, zero, suc, ◌+◌, ◌<◌, ◌≤◌, ◌==◌, min, Bool, true, false, not, ◌&&◌, cond, List, [], ◌∷◌, ◌++◌, length, map, ◌⊎◌, inl, inr, Option, Some, None, option_map, option_and_then, refl, ap, sym, subst, arith}
+use Rattle.std.proofs.Common.{◌≡◌, ◌∙◌, ℕ, zero, suc, ◌+◌, ◌<◌, ◌==◌, Bool, true, false, not, ◌&&◌, cond, List, [], ◌∷◌, length, ◌⊎◌, inl, inr, Option, Some, None, option_map, option_and_then, refl, ap, sym, subst, arith}
 use Rattle.std.proofs.lemmas.List.{length-map}
 use Rattle.std.proofs.lemmas.Option.{slice_get-map, slice_get_within}
 use Rattle.std.specs.Option.{option_map_or}
 use Rattle.std.specs.Prelude.{slice_get}
 use Rattle.dpj_base.specs.declared.refusal.Kind.TheVariants as kind
-use Rattle.dpj_base.specs.declared.refusal.Refusal.{Refusal}
 use Rattle.dpj_base.specs.declared.region.Rpl.{Rpl}
 use Rattle.dpj_base.specs.Types.{PlainType, plain_type, type_with}
 use Rattle.dpj_base.specs.Types.{PlainType as ty}
@@ -29,8 +28,8 @@ use Rattle.dpj_classes.specs.Inherited.{members_in}
 use Rattle.dpj_classes.specs.Main.{main_faults}
 use Rattle.dpj_classes.specs.Overridden.{overridden_in}
 use Rattle.dpj_classes.specs.Overriding.{same_kinds, same_constraints, same_types, same_with, fits, is_covered, override_fault, args_in, overridden_row, row_faults, override_faults}
-use Rattle.dpj_classes.specs.Places.{entry_at, last_from, by_id, is_constructor_of, constructor_number}
-use Rattle.dpj_classes.specs.Table.{headers_of, methods_of, method_of, numbered, row_of, own_method, constructor_of, overridden_by, parent_args_of, field_of, fields_of, own_field}
+use Rattle.dpj_classes.specs.Places.{last_from, by_id, is_constructor_of, constructor_number}
+use Rattle.dpj_classes.specs.Table.{headers_of, methods_of, method_of, numbered, row_of, own_method, constructor_of, overridden_by, parent_args_of, own_field}
 use Rattle.dpj_assembly.specs.Assembled.{PlainBody, member_of, members_of, class_of, parent_at, program_of}
 use Rattle.dpj_check.specs.Deciding.{has_value}
 use Rattle.dpj_gen.specs.Resolved.{gives_value, RowGives}
@@ -173,11 +172,7 @@ module _ (program : Program) (table : Table) (bodies : List PlainBody) (accepted
     as_many = made.as_many ∙ sym (rows_many program table accepted.rows.is_table.read)
 
     classes_many : length (parents_of (headers_of table)) ≡ class_count (headers_of table)
-    classes_many = length_map (λ (row : Header). row.parent) (headers_of table).rows
-      where
-        length_map : {A B : Type 0} (f : A → B) (xs : List A) → length (map f xs) ≡ length xs
-        length_map f [] = refl
-        length_map f (x ∷ xs) = ap suc (length_map f xs)
+    classes_many = length-map (headers_of table).rows (λ (row : Header). row.parent)
 
     pub number_is : (c : ℕ) → c < class_count (headers_of table) → as_number c ≡ c
     number_is c l = let few = facts.forest.counted in omega (arith, few, classes_many, l)
@@ -256,28 +251,32 @@ module _ (program : Program) (table : Table) (bodies : List PlainBody) (accepted
         by (inr p) = ap not p.1 ∙ sym p.0
 
     -- a constructor is a member that gives none
+    constructor_member : (n : ℕ) (row : MethodRow) → slice_get (methods_of table) n ≡ Some row → row.is_constructor ≡ true → (m : PlainMember) × (member_at P n ≡ Some m) × (gives_value m ≡ false)
+    constructor_member n row e is =
+        let m = has_member n row e in
+        let s = signed_at n row e in
+        (member_of row m.0, m.2, kind_is row s.0 m.0 s.2 ∙ s.2.constructor is)
+
+    is_one : (class id : ℕ) (row : MethodRow) → constructor_number (methods_of table) class ≡ Some id → slice_get (methods_of table) id ≡ Some row → row.is_constructor ≡ true
+    is_one class id row found there_is =
+        elim (last_found (is_constructor_of class) 0 None (methods_of table) id found) [
+          | inl none ↦ absurd (cc (none))
+          | inr w ↦
+              let place : w.0 ≡ id = sym (facts.numbered w.0 w.1 w.2) ∙ w.4 in
+              let same = some_same (sym w.2 ∙ ap (slice_get (methods_of table)) place ∙ there_is) in
+              ap (λ (r : MethodRow). r.is_constructor) (sym same) ∙ (and_split w.1.is_constructor (w.1.owner == class) w.3).0
+        ]
+
     pub constructor_gives : (c n : ℕ) → typed_constructor P c ≡ Some n → (m : PlainMember) × (member_at P n ≡ Some m) × (gives_value m ≡ false)
     constructor_gives c n e =
         let w = and_then_there (λ (class : PlainClass). class.constructor) (class_at P c) n e in
         let k = made_is (class_of table) (class_count (headers_of table)) c w.0 w.1 in
-        let own = ap (λ (class : PlainClass). class.constructor) k.1 ∙ w.2 in
+        let own : option_map (λ (row : MethodRow). row.id) (constructor_of table (as_number c)) ≡ Some n = ap (λ (class : PlainClass). class.constructor) k.1 ∙ w.2 in
         let r = map_there (λ (row : MethodRow). row.id) (constructor_of table (as_number c)) n own in
         let at = and_then_there (numbered table) (constructor_number (methods_of table) (as_number c)) r.0 r.1 in
-        let number = facts.numbered at.0 r.0 at.2 in
-        let m = has_member at.0 r.0 at.2 in
-        let s = signed_at at.0 r.0 at.2 in
-        (member_of r.0 m.0, ap (member_at P) (sym r.2 ∙ number) ∙ m.2,
-        kind_is r.0 s.0 m.0 s.2 ∙ s.2.constructor (is_one (as_number c) at.0 r.0 at.1 at.2))
-      where
-        is_one : (class id : ℕ) (row : MethodRow) → constructor_number (methods_of table) class ≡ Some id → slice_get (methods_of table) id ≡ Some row → row.is_constructor ≡ true
-        is_one class id row found there_is =
-            elim (last_found (is_constructor_of class) 0 None (methods_of table) id found) [
-              | inl none ↦ absurd (cc (none))
-              | inr w ↦
-                  let place : w.0 ≡ id = sym (facts.numbered w.0 w.1 w.2) ∙ w.4 in
-                  let same = some_same (sym w.2 ∙ ap (slice_get (methods_of table)) place ∙ there_is) in
-                  ap (λ (r : MethodRow). r.is_constructor) (sym same) ∙ (and_split w.1.is_constructor (w.1.owner == class) w.3).0
-            ]
+        let number : n ≡ at.0 = sym r.2 ∙ facts.numbered at.0 r.0 at.2 in
+        let m = constructor_member at.0 r.0 at.2 (is_one (as_number c) at.0 r.0 at.1 at.2) in
+        (m.0, ap (member_at P) number ∙ m.1, m.2)
 
     -- rows of the superclass are kept, each of the same kind
     faults_free : override_faults table (methods_of table) ≡ []
@@ -298,6 +297,20 @@ module _ (program : Program) (table : Table) (bodies : List PlainBody) (accepted
         let r = map_there (overridden_in table) (slice_get (methods_of table) other) w.0 got in
         (r.0, r.1)
 
+    -- a row in which the member of the superclass is overridden
+    overridden_gives : (c r other id : ℕ) (m : PlainMember) (gives : Bool) → c < class_count (headers_of table) → slice_get (members_in table c) r ≡ Some other → overridden_by table other ≡ Some id →
+        Member (methods_of table) bodies id m → gives_value m ≡ gives → RowGives P c r gives
+    overridden_gives c r other id m gives l is over above kind_so =
+        let o = overriding_there other id over in
+        let k = has_member other o.0 o.1 in
+        record {
+          number = other;
+          member = member_of o.0 k.0;
+          row = row_there c r other l is;
+          is_there = k.2;
+          kind = ap not (kept_kind other id o.0 above.row over o.1 above.row_there) ∙ ap gives_value above.is ∙ kind_so;
+        }
+
     pub rows_below : (c r : ℕ) (p : PlainParent) (gives : Bool) → typed_parent P c ≡ Some p → RowGives P p.class r gives → RowGives P c r gives
     rows_below c r p gives e h =
         let w = and_then_there (λ (class : PlainClass). class.parent) (class_at P c) p e in
@@ -306,20 +319,10 @@ module _ (program : Program) (table : Table) (bodies : List PlainBody) (accepted
         let a = map_there (λ (above : ℕ). record { class = above; args = parent_args_of table (as_number c) }) (parent_of (headers_of table) (as_number c)) p own in
         let parent : parent_of (headers_of table) c ≡ Some a.0 = ap (parent_of (headers_of table)) (sym (number_is c k.0)) ∙ a.1 in
         let class_is : a.0 ≡ p.class = ap (λ (q : PlainParent). q.class) a.2 in
-        let stands = ap (λ z. slice_get (members_in table z) r) class_is ∙ row_is p.class r h.number h.row in
+        let stands : slice_get (members_in table a.0) r ≡ Some h.number = ap (λ z. slice_get (members_in table z) r) class_is ∙ row_is p.class r h.number h.row in
         let kept = rows_kept program table accepted.rows c a.0 r h.number parent stands in
         by k.0 kept.0 kept.1 kept.2
       where
         by : c < class_count (headers_of table) → (other : ℕ) → slice_get (members_in table c) r ≡ Some other → (other ≡ h.number) ⊎ (overridden_by table other ≡ Some h.number) → RowGives P c r gives
         by l other is (inl same) = record { number = other; member = h.member; row = row_there c r other l is; is_there = ap (member_at P) same ∙ h.is_there; kind = h.kind }
-        by l other is (inr over) =
-            let o = overriding_there other h.number over in
-            let m = has_member other o.0 o.1 in
-            let above = is_member h.number h.member h.is_there in
-            record {
-              number = other;
-              member = member_of o.0 m.0;
-              row = row_there c r other l is;
-              is_there = m.2;
-              kind = ap not (kept_kind other h.number o.0 above.row over o.1 above.row_there) ∙ ap gives_value above.is ∙ h.kind;
-            }
+        by l other is (inr over) = overridden_gives c r other h.number h.member gives l is over (is_member h.number h.member h.is_there) h.kind

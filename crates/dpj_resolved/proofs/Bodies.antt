@@ -1,5 +1,5 @@
 -- What is in scope in a body: locals of values and parts of arrays; and when a node is free of faults.
-use Rattle.std.proofs.Common.{◌≡◌, ◌∙◌, ℕ, Bool, true, false, not, cond, List, [], ◌∷◌, ◌++◌, take, Option, Some, None, option_and_then, refl, ap, sym, subst, rules}
+use Rattle.std.proofs.Common.{◌≡◌, ◌∙◌, ℕ, Bool, true, false, cond, List, [], ◌∷◌, Option, Some, None, refl, ap, sym, rules}
 use Rattle.std.specs.Prelude.{slice_get, is_some}
 use Rattle.dpj_base.specs.declared.place.Place.{Place}
 use Rattle.dpj_base.specs.declared.refusal.Kind.{Kind}
@@ -18,7 +18,7 @@ use Rattle.dpj_exprs.specs.declared.env.Mark.{Mark}
 use Rattle.dpj_exprs.specs.Env.{table_of, locals_in, local_of, local_row, part_row, with_local, with_part, with_region, left_to}
 use Rattle.dpj_resolve.specs.Scoped.{place_in}
 use Rattle.dpj_check.specs.declared.node.Node.{Node}
-use Rattle.dpj_check.specs.Checking.{variable_declared, variable_noted, parts_declared, parts_noted}
+use Rattle.dpj_check.specs.Checking.{variable_declared, parts_declared, parts_noted}
 use Rattle.dpj_check.specs.Noting.{with_fault, with_found, with_fault_if, node_at, without_faults, fault_of}
 use Rattle.dpj_check.specs.Simple.{has_room, local_declared, part_declared, region_declared, with_room, declaration_noted, is_region_name, region_noted, regions_noted, with_regions}
 use Rattle.dpj_resolved.proofs.Expressions.{Signs, Local, Around}

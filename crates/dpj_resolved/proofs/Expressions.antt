@@ -1,7 +1,6 @@
 -- Typed expressions that are made of expressions fit: what is called as a value gives one.
 use Rattle.std.proofs.Common.{◌≡◌, ◌∙◌, ℕ, Bool, true, false, not, ◌&&◌, ◌||◌, cond, is_some, List, [], ◌∷◌, ◌++◌, map, ◌⊎◌, inl, inr, Option, Some, None, option_map, Result, Ok, Err, refl, ap, sym, subst}
 use Rattle.std.specs.Option.{option_map_or, option_and_then}
-use Rattle.std.specs.Prelude.{IsTrue, slice_get}
 use Rattle.dpj_base.specs.declared.elems.Index.{Index}
 use Rattle.dpj_base.specs.declared.place.Place.{Place}
 use Rattle.dpj_base.specs.declared.refusal.Kind.TheVariants as kind
@@ -9,12 +8,12 @@ use Rattle.dpj_base.specs.declared.refusal.Refusal.{Refusal}
 use Rattle.dpj_base.specs.declared.region.Rpl.{Rpl}
 use Rattle.dpj_base.specs.declared.ty.Super.{Super}
 use Rattle.dpj_base.specs.declared.ty.Ty.{Ty}
-use Rattle.dpj_base.specs.Types.{PlainType, plain_type, type_with, type_at, Subtype}
+use Rattle.dpj_base.specs.Types.{PlainType, plain_type, type_with}
 use Rattle.dpj_base.specs.Types.{PlainType as ty}
 use Rattle.dpj_arrays.specs.Access.{PlainElement, element_of, index_elem}
 use Rattle.dpj_headers.specs.declared.faults.Faults.{Faults}
 use Rattle.dpj_headers.specs.declared.faults.Order.TheVariants as order
-use Rattle.dpj_headers.specs.Faults.{none_by, all_noted, told}
+use Rattle.dpj_headers.specs.Faults.{none_by}
 use Rattle.dpj_headers.specs.Passes.{fault, fault_if}
 use Rattle.dpj_resolve.specs.declared.args.ReadArgs.{ReadArgs}
 use Rattle.dpj_resolve.specs.declared.base.ReadType.{ReadType}
@@ -28,33 +27,33 @@ use Rattle.dpj_tree.specs.declared.region.BaseTree.{BaseTree}
 use Rattle.dpj_tree.specs.declared.region.Named.{Named}
 use Rattle.dpj_tree.specs.declared.region.RplTree.{RplTree}
 use Rattle.dpj_tree.specs.Plain as tree
-use Rattle.dpj_typed.specs.Plain.{PlainProgram, TypedExpr, typed, type_of, TypedExprs}
+use Rattle.dpj_typed.specs.Plain.{PlainProgram, TypedExpr, typed, type_of}
 use Rattle.dpj_typed.specs.Plain.{ExprForm as form}
 use Rattle.dpj_classes.specs.declared.rows.FieldRow.{FieldRow}
 use Rattle.dpj_classes.specs.declared.rows.MethodRow.{MethodRow}
 use Rattle.dpj_classes.specs.declared.table.Table.{Table}
-use Rattle.dpj_classes.specs.Table.{headers_of, field_of, method_of, row_of, constructor_of, args_at}
+use Rattle.dpj_classes.specs.Table.{field_of, method_of, row_of, constructor_of, args_at}
 use Rattle.dpj_exprs.specs.declared.env.Env.{Env}
 use Rattle.dpj_exprs.specs.declared.env.LocalRow.{LocalRow}
 use Rattle.dpj_exprs.specs.declared.found.Found.{Found}
 use Rattle.dpj_exprs.specs.Answer.{Answer, gives, refused, read}
 use Rattle.dpj_exprs.specs.Arrays.{array_told, array_with, type_told, own_path, own_place, created_array, front_of}
-use Rattle.dpj_exprs.specs.Elements.{array_element, element_through, element_read, read_element, index_of, element_in_part, part_element, part_read, read_part}
-use Rattle.dpj_exprs.specs.Env.{table_of, supers_of, scope_of, local_of, part_of, as_part, is_length_name, this_type_of}
-use Rattle.dpj_exprs.specs.Fields.{field_with, owned_field, named_field, field_through, field_read, read_field}
+use Rattle.dpj_exprs.specs.Elements.{array_element, element_through, element_read, index_of, element_in_part, part_element, part_read}
+use Rattle.dpj_exprs.specs.Env.{table_of, supers_of, scope_of, local_of, part_of, as_part, is_length_name}
+use Rattle.dpj_exprs.specs.Fields.{owned_field, named_field, field_through, field_read, read_field}
 use Rattle.dpj_exprs.specs.Fields.{PlainField as SeenField}
 use Rattle.dpj_exprs.specs.Locals.{local_typed}
 use Rattle.dpj_exprs.specs.Operations.{unary_takes, unary_gives, unary_op, unary_typed, both, comparable, binary_takes, binary_gives, binary_form, binary_typed, node_if}
-use Rattle.dpj_exprs.specs.Typed.{type_in, node_at, nodes_at, may_be, is_int, is_boolean, is_reference, is_value, is_array, is_class, FitsAs, AllFit}
+use Rattle.dpj_exprs.specs.Typed.{type_in, node_at, nodes_at, may_be, is_int, is_boolean, is_reference, is_value, is_array, FitsAs, AllFit}
 use Rattle.dpj_exprs.specs.Typing.{answer, created, leaf_typed, AllAnswer, all_give, one_refused, Typing, TypingArray, TypingAll}
 use Rattle.dpj_exprs.specs.Uses.{args_of, owned_method, named_method, method_through, called, formals_of, UseTold, use_faults, CallOf, CallOn, Call, CreationOf, Creation}
-use Rattle.dpj_gen.specs.Resolved.{RowGives, IsArray, ExprFits, ExprsFit, VoidCall}
+use Rattle.dpj_gen.specs.Resolved.{RowGives, ExprFits, ExprsFit, VoidCall}
 use Rattle.dpj_gen.specs.Scheme.{is_void}
 use Rattle.dpj_resolved.proofs.Free.{none_told, append_none, fault_none, not_false}
 use Rattle.dpj_resolved.proofs.Known.{judged_valued}
-use Rattle.dpj_resolved.proofs.Lists.{some_same, ok_same, map_there}
+use Rattle.dpj_resolved.proofs.Lists.{some_same, ok_same}
 use Rattle.dpj_resolved.proofs.Signatures.{AllValued}
-use Rattle.dpj_resolved.proofs.Valued.{valued, holds_values, valued_no_void, valued_with, valued_at, void_with, below_value}
+use Rattle.dpj_resolved.proofs.Valued.{valued, holds_values, valued_holds, void_holds, valued_no_void, valued_with, valued_at, void_with, below_value}
 
 -- what a typed expression is: a value, or a call that gives none
 pub data Stands (P : PlainProgram) (e : TypedExpr) : Type 0 where
@@ -166,24 +165,8 @@ module _ (P : PlainProgram)
     as_value e (nothing none call) h = absurd (let n = none in cc)
 
     pub stands_holds : (e : TypedExpr) → Stands P e → holds_values (type_of e) ≡ true
-    stands_holds e (value good fits) = of (type_of e) good
-      where
-        of : (t : PlainType) → valued t ≡ true → holds_values t ≡ true
-        of ty.int h = refl
-        of ty.boolean h = refl
-        of ty.void h = refl
-        of ty.null h = refl
-        of (ty.class c args) h = refl
-        of (ty.array t rpl named) h = h
-    stands_holds e (nothing none call) = of (type_of e) none
-      where
-        of : (t : PlainType) → is_void t ≡ true → holds_values t ≡ true
-        of ty.int h = refl
-        of ty.boolean h = refl
-        of ty.void h = refl
-        of ty.null h = refl
-        of (ty.class c args) h = refl
-        of (ty.array t rpl named) h = cc
+    stands_holds e (value good fits) = valued_holds (type_of e) good
+    stands_holds e (nothing none call) = void_holds (type_of e) none
 
     abbrev Made : Result TypedExpr Refusal → Type 0
     Made (Ok e) = Stands P e
@@ -205,9 +188,10 @@ module _ (P : PlainProgram)
     pub actuals_fit : (supers : List Super) (args : List Rpl) (place : Place) (ts : List (Option TypedExpr)) (declared : List Ty) → AllGiven P ts → AllFit supers args (map type_in ts) declared → AllValued declared → ExprsFit P (nodes_at place ts)
     actuals_fit supers args place [] declared h fit v = tt
     actuals_fit supers args place (t ∷ ts) [] h fit v = absurd fit
-    actuals_fit supers args place (t ∷ ts) (d ∷ declared) h fit v =
-        (used place t h.0 (fits_value supers (type_in t) (type_with args (plain_type d)) fit.0 (valued_with args (plain_type d) ∙ v.0)),
-        actuals_fit supers args place ts declared h.1 fit.1 v.1)
+    actuals_fit supers args place (t ∷ ts) (d ∷ declared) h fit v = (
+      used place t h.0 (fits_value supers (type_in t) (type_with args (plain_type d)) fit.0 (valued_with args (plain_type d) ∙ v.0)),
+      actuals_fit supers args place ts declared h.1 fit.1 v.1,
+    )
 
     -- operations
     unary_value : (op : UnaryOp) (t : Option PlainType) → unary_takes op t ≡ true → may_be is_value t ≡ true

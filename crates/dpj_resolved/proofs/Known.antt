@@ -1,5 +1,5 @@
 -- A written type without faults is known, and it is that of a value.
-use Rattle.std.proofs.Common.{◌≡◌, ◌∙◌, ℕ, suc, ◌+◌, ◌==◌, ◌&&◌, Bool, true, false, not, is_none, cond, List, [], ◌∷◌, ◌++◌, length, map, flat_map, filter_map, ◌⊎◌, inl, inr, Option, None, Some, option_map, option_and_then, refl, ap, sym}
+use Rattle.std.proofs.Common.{◌≡◌, ◌∙◌, ℕ, suc, ◌+◌, ◌==◌, ◌&&◌, Bool, true, false, not, is_none, cond, List, [], ◌∷◌, ◌++◌, length, flat_map, filter_map, inl, inr, Option, None, Some, option_map, option_and_then, refl, ap, sym}
 use Rattle.std.proofs.lemmas.Bool.Decides.{eqb_tells}
 use Rattle.std.specs.List.{list_any, list_all, cons_option}
 use Rattle.std.specs.Option.{option_map_or, option_or, option_flatten}
@@ -10,7 +10,6 @@ use Rattle.dpj_base.specs.declared.elems.Index.TheVariants.{Literal, Variable}
 use Rattle.dpj_base.specs.declared.place.Place.{Place}
 use Rattle.dpj_base.specs.declared.refusal.Kind.{Kind}
 use Rattle.dpj_base.specs.declared.refusal.Kind.TheVariants as kind
-use Rattle.dpj_base.specs.declared.refusal.Refusal.{Refusal}
 use Rattle.dpj_base.specs.declared.region.Rpl.{Rpl}
 use Rattle.dpj_base.specs.Types.{PlainType}
 use Rattle.dpj_base.specs.Types.PlainType.{int, boolean, class, array}
@@ -29,7 +28,6 @@ use Rattle.dpj_tree.specs.declared.region.RplHead.TheVariants as head
 use Rattle.dpj_tree.specs.declared.region.RplTree.{RplTree}
 use Rattle.dpj_tree.specs.declared.region.Suffix.{Suffix}
 use Rattle.dpj_tree.specs.declared.region.TypeTree.{TypeTree}
-use Rattle.dpj_resolve.specs.declared.args.ReadArgs.{ReadArgs}
 use Rattle.dpj_resolve.specs.declared.base.ReadBase.{ReadBase}
 use Rattle.dpj_resolve.specs.declared.base.ReadBase.TheVariants as read
 use Rattle.dpj_resolve.specs.declared.base.ReadType.{ReadType}
@@ -42,7 +40,7 @@ use Rattle.dpj_resolve.specs.Paths.{region_meant, region_faults, second_faults, 
 use Rattle.dpj_resolve.specs.Reading.{elem_meant, elem_faults, is_barred, is_misplaced, head_param, head_local, below_root, begun, head_meant, head_faults, path_atomic, longer, longer_if, goes_on, path_meant, path_faults, arg_need, each_faults, arg_faults, args_read}
 use Rattle.dpj_resolve.specs.Scoped.{value_in}
 use Rattle.dpj_resolve.specs.Scopes.{PlainScope}
-use Rattle.dpj_resolve.specs.Written.{no_need, base_read, base_parts, at_suffix, suffix_meant, suffix_parts, paths_from, parts_from, type_read, type_parts, is_flat, base_type, base_faults, is_indexed, arrays_from, with_suffixes, judged_type, judged_faults, type_index, type_meant, type_faults}
+use Rattle.dpj_resolve.specs.Written.{no_need, base_read, base_parts, at_suffix, suffix_meant, suffix_parts, paths_from, parts_from, type_read, type_parts, base_type, base_faults, is_indexed, arrays_from, judged_type, judged_faults, type_index, type_meant, type_faults}
 use Rattle.dpj_resolved.proofs.Free.{append_none, fault_none, NoFaults, free_split, or_false, last_false}
 use Rattle.dpj_resolved.proofs.Valued.{valued}
 
@@ -204,8 +202,9 @@ type_known scope tree free =
     let g = free_split (base_parts scope around tree.base) (parts_from scope around 0 tree.suffixes) f.0 in
     let j = append_none _ (base_faults scope (base_read scope around tree.base) tree.place) f.1.0 in
     let b = base_known scope around tree.base tree.place g.0 j.1 in
-    let n = paths_known scope around 0 tree.suffixes g.1 in
-    (arrays_from around 0 b.0 (paths_from scope around 0 tree.suffixes),
-    ap (λ z. cond z (option_map (λ elem. arrays_from around 0 elem (paths_from scope around 0 tree.suffixes)) (base_type scope (base_read scope around tree.base))) None)
-    (same_tells (length (paths_from scope around 0 tree.suffixes)) (length tree.suffixes) n)
-    ∙ ap (option_map (λ elem. arrays_from around 0 elem (paths_from scope around 0 tree.suffixes))) b.1)
+    let n = paths_known scope around 0 tree.suffixes g.1 in (
+      arrays_from around 0 b.0 (paths_from scope around 0 tree.suffixes),
+      ap (λ z. cond z (option_map (λ elem. arrays_from around 0 elem (paths_from scope around 0 tree.suffixes)) (base_type scope (base_read scope around tree.base))) None)
+          (same_tells (length (paths_from scope around 0 tree.suffixes)) (length tree.suffixes) n)
+          ∙ ap (option_map (λ elem. arrays_from around 0 elem (paths_from scope around 0 tree.suffixes))) b.1,
+    )

@@ -1,8 +1,7 @@
 -- The bodies of methods and constructors fit, and one that gives a value ends by a return.
-use Rattle.std.proofs.Common.{◌≡◌, ◌∙◌, ℕ, ◌+◌, ◌<◌, ◌≤◌, min, Bool, true, false, not, ◌&&◌, cond, List, [], ◌∷◌, map, ◌⊎◌, inl, inr, Option, Some, None, option_map, Result, Ok, Err, refl, ap, sym, subst, arith}
+use Rattle.std.proofs.Common.{◌≡◌, ◌∙◌, ℕ, ◌+◌, Bool, true, false, ◌&&◌, cond, List, [], ◌∷◌, map, ◌⊎◌, inl, inr, Option, Some, None, option_map, Ok, refl, ap, sym, subst, arith}
 use Rattle.std.proofs.lemmas.Option.{slice_get_within}
 use Rattle.std.specs.Prelude.{slice_get}
-use Rattle.dpj_base.specs.declared.effect.Effect.{Effect}
 use Rattle.dpj_base.specs.declared.refusal.Kind.{Kind}
 use Rattle.dpj_base.specs.declared.refusal.Kind.TheVariants as kind
 use Rattle.dpj_base.specs.declared.refusal.Refusal.{Refusal}
@@ -25,15 +24,14 @@ use Rattle.dpj_assembly.specs.Assembled.{PlainBody, member_of}
 use Rattle.dpj_exprs.specs.declared.env.Env.{Env}
 use Rattle.dpj_exprs.specs.Env.{table_of, at_members, with_row}
 use Rattle.dpj_check.specs.Completes as tree_completes
-use Rattle.dpj_check.specs.Deciding.{has_value, method_fault}
-use Rattle.dpj_check.specs.Keeping.{method_around}
+use Rattle.dpj_check.specs.Deciding.{has_value}
 use Rattle.dpj_check.specs.Methods.{MethodChecking, of_method, formals_declared, formal_types, summary_of, body_begun, typed_body, method_told, reported, method_judged}
 use Rattle.dpj_check.specs.Simple.{has_room, local_declared}
 use Rattle.dpj_check.specs.Walks.{Walk, Verdict, passes, refused}
 use Rattle.dpj_gen.specs.Resolved.{gives_value, StmtsFit}
 use Rattle.dpj_gen.specs.Scheme.{is_void}
 use Rattle.dpj_resolved.specs.Accepted.{IsAccepted}
-use Rattle.dpj_resolved.proofs.Assembled.{P, facts, made, is_member, signed_at, signs, kind_is}
+use Rattle.dpj_resolved.proofs.Assembled.{P, made, is_member, signed_at, signs, kind_is}
 use Rattle.dpj_resolved.proofs.Bodies.{InBody, local_declared_in}
 use Rattle.dpj_resolved.proofs.Expressions.{Signs}
 use Rattle.dpj_resolved.proofs.Lists.{some_same, ok_same}
@@ -82,9 +80,10 @@ body_fits p env params number method body begun (of_method {u = u} d j) = by u (
     by (passes ss w) h is =
         let r = reported_none (method_told env number method w.found.effects) (typed_body ss w.env) body is in
         let none = no_fault (λ reason. fault reason method.place) (has_value method.result && tree_completes.all_complete (plain_stmts (map plain_stmt method.body)))
-            (set_covers (summary_of (numbered (table_of env) number)) w.found.effects) (has_room (body_begun env number method).env) r.0 in
-        (subst (λ (b : PlainBody). StmtsFit p (has_value method.result) b.stmts) r.1 h.fits,
-        ap (λ (b : PlainBody). has_value method.result && all_complete b.stmts) (sym r.1) ∙ ap (λ z. has_value method.result && z) h.complete_so ∙ none)
+        (set_covers (summary_of (numbered (table_of env) number)) w.found.effects) (has_room (body_begun env number method).env) r.0 in (
+          subst (λ (b : PlainBody). StmtsFit p (has_value method.result) b.stmts) r.1 h.fits,
+          ap (λ (b : PlainBody). has_value method.result && all_complete b.stmts) (sym r.1) ∙ ap (λ z. has_value method.result && z) h.complete_so ∙ none,
+        )
     by (refused refusal) h is = cc
 
 module _ (program : Program) (table : Table) (bodies : List PlainBody) (accepted : IsAccepted program table bodies) (names : List (List ℕ)) (uses_nd : Bool)

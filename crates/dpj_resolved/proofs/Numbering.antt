@@ -1,5 +1,5 @@
 -- The bodies that checking makes: one for each method and constructor, in the order of the text.
-use Rattle.std.proofs.Common.{◌≡◌, ◌∙◌, ℕ, zero, suc, ◌+◌, ◌<◌, ◌≤◌, min, Bool, true, false, List, [], ◌∷◌, ◌++◌, length, ◌⊎◌, inl, inr, Option, Some, None, Result, Ok, Err, refl, ap, sym, subst, arith}
+use Rattle.std.proofs.Common.{◌≡◌, ◌∙◌, ℕ, zero, suc, ◌+◌, Bool, false, List, [], ◌∷◌, ◌++◌, length, inl, inr, Option, Some, None, Result, Ok, Err, refl, ap, sym, subst, arith}
 use Rattle.std.proofs.lemmas.List.{length-append}
 use Rattle.std.specs.Prelude.{slice_get}
 use Rattle.dpj_base.specs.declared.refusal.Refusal.{Refusal}
@@ -12,7 +12,7 @@ use Rattle.dpj_assembly.specs.Assembled.{PlainBody}
 use Rattle.dpj_classes.specs.declared.table.Table.{Table}
 use Rattle.dpj_exprs.specs.declared.env.Env.{Env}
 use Rattle.dpj_exprs.specs.Env.{table_of, at_class}
-use Rattle.dpj_check.specs.Methods.{MethodChecking, is_method, MemberChecking, number_after, bodies_of, PlainBodies, behind_bodies, after_ok, MembersChecking, class_params, own_params, ClassesChecking}
+use Rattle.dpj_check.specs.Methods.{MethodChecking, is_method, MemberChecking, number_after, bodies_of, PlainBodies, behind_bodies, after_ok, MembersChecking, own_params, ClassesChecking}
 use Rattle.dpj_rows.proofs.Facts.{got_either}
 use Rattle.dpj_resolved.proofs.Lists.{some_same, got_first, got_later}
 use Rattle.dpj_resolved.proofs.Signatures.{own_in, methods_in, all_methods}
@@ -65,13 +65,16 @@ method_made env params count number method (Ok made) is d = (record { as_many = 
     plain = number_stays count
 
     each : (i : ℕ) (body : PlainBody) → slice_get (made ∷ []) i ≡ Some body → (one : Method) × (slice_get (method ∷ []) i ≡ Some one) × IsBody (table_of env) (as_number (count + i)) one body
-    each zero body e =
-        (method, refl, record {
-          class_env = env;
-          params = params;
-          table_is = refl;
-          checked = subst (λ b. MethodChecking env params (as_number (count + 0)) method (Ok b)) (some_same e) (subst (λ n. MethodChecking env params n method (Ok made)) (is ∙ plain) d);
-        })
+    each zero body e = (
+      method,
+      refl,
+      record {
+        class_env = env;
+        params = params;
+        table_is = refl;
+        checked = subst (λ b. MethodChecking env params (as_number (count + 0)) method (Ok b)) (some_same e) (subst (λ n. MethodChecking env params n method (Ok made)) (is ∙ plain) d);
+      },
+    )
     each (suc i) body e = cc
 
 member_made : {env : Env} {params : List Bool} {m : Member} {number : ℕ} {r : Result (Option PlainBody) Refusal} (count : ℕ) → number ≡ as_number count → MemberChecking env params m number r → IsMade env count m r

@@ -1,12 +1,10 @@
 -- What the signatures of an accepted text say: fields and formals are of values, and a method gives one exactly where its text says so.
-use Rattle.std.proofs.Common.{◌≡◌, ◌∙◌, ℕ, zero, suc, ◌+◌, Bool, true, false, List, [], ◌∷◌, ◌++◌, length, map, flat_map, ◌⊎◌, inl, inr, Option, Some, None, option_map, refl, ap, sym, subst, arith}
-use Rattle.std.proofs.lemmas.List.{length-append}
-use Rattle.std.proofs.lemmas.Option.{slice_get-map}
+use Rattle.std.proofs.Common.{◌≡◌, ◌∙◌, ℕ, zero, suc, ◌+◌, true, false, List, [], ◌∷◌, ◌++◌, length, map, flat_map, ◌⊎◌, inl, inr, Some, refl, ap, sym, subst}
+use Rattle.std.proofs.lemmas.List.{length-append, length-map}
 use Rattle.std.specs.Prelude.{slice_get, unwrap_or}
 use Rattle.dpj_base.specs.declared.effect.Constraint.{Constraint}
-use Rattle.dpj_base.specs.declared.refusal.Refusal.{Refusal}
 use Rattle.dpj_base.specs.declared.ty.Ty.{Ty}
-use Rattle.dpj_base.specs.Types.{PlainType, plain_type}
+use Rattle.dpj_base.specs.Types.{plain_type}
 use Rattle.dpj_base.specs.Types.{PlainType as ty}
 use Rattle.dpj_headers.specs.declared.faults.Order.TheVariants as order
 use Rattle.dpj_headers.specs.declared.header.Headers.{Headers}
@@ -14,9 +12,8 @@ use Rattle.dpj_headers.specs.Faults.{none_by}
 use Rattle.dpj_headers.specs.Numbers.{as_number}
 use Rattle.dpj_headers.specs.Passes.{is_constructor_result}
 use Rattle.dpj_resolve.specs.Scopes.{PlainScope}
-use Rattle.dpj_resolve.specs.Written.{type_meant, type_faults}
+use Rattle.dpj_resolve.specs.Written.{type_faults}
 use Rattle.dpj_tree.specs.declared.class.Class.{Class}
-use Rattle.dpj_tree.specs.declared.class.Field.{Field}
 use Rattle.dpj_tree.specs.declared.class.Formal.{Formal}
 use Rattle.dpj_tree.specs.declared.class.Member.{Member}
 use Rattle.dpj_tree.specs.declared.class.Member.TheVariants as member
@@ -30,7 +27,7 @@ use Rattle.dpj_classes.specs.declared.rows.MethodRow.{MethodRow}
 use Rattle.dpj_classes.specs.declared.table.Table.{Table}
 use Rattle.dpj_classes.specs.Around.{class_scope}
 use Rattle.dpj_classes.specs.Build.{IsReadOf, text_faults}
-use Rattle.dpj_classes.specs.Rows.{PlainField, plain_field, PlainMethod, plain_method, method_row, said_scope, said_faults, method_scope, method_faults, member_faults, own_fields, next_slot, fields_from, fields_meant, first_slot, methods_from, methods_meant, super_faults, class_faults, all_constraints, all_constraint_faults, signature_faults}
+use Rattle.dpj_classes.specs.Rows.{PlainField, plain_field, PlainMethod, plain_method, method_row, said_scope, said_faults, method_scope, method_faults, member_faults, fields_from, fields_meant, first_slot, methods_from, methods_meant, super_faults, class_faults, all_constraint_faults, signature_faults}
 use Rattle.dpj_classes.specs.Signatures.{known_type, known_type_faults, field_region_faults, formal_faults, result_type, result_faults, summary_faults, constraints_faults}
 use Rattle.dpj_classes.specs.Table.{headers_of, fields_of, methods_of}
 use Rattle.dpj_check.specs.Deciding.{has_value}
@@ -38,7 +35,7 @@ use Rattle.dpj_gen.specs.Scheme.{is_void}
 use Rattle.dpj_rows.proofs.Facts.{got_either}
 use Rattle.dpj_resolved.proofs.Free.{none_told, append_none, joined_free}
 use Rattle.dpj_resolved.proofs.Known.{type_known, meant_valued}
-use Rattle.dpj_resolved.proofs.Lists.{some_same, map_there, got_first, got_later, got_mapped}
+use Rattle.dpj_resolved.proofs.Lists.{some_same, got_first, got_later, got_mapped}
 use Rattle.dpj_resolved.proofs.Valued.{valued}
 
 -- a type that is declared without faults is that of a value
@@ -196,11 +193,7 @@ module _ (program : Program) (table : Table) (read : IsReadOf program.classes ta
         (w.0, w.1, signed_of row w.0 w.2)
 
     pub rows_many : length (methods_of table) ≡ length (all_methods program.classes)
-    rows_many = sym (length_map plain_method (methods_of table)) ∙ ap length read.methods ∙ as_many_meant (headers_of table) table.given 0 0 program.classes
-      where
-        length_map : {A B : Type 0} (f : A → B) (xs : List A) → length (map f xs) ≡ length xs
-        length_map f [] = refl
-        length_map f (x ∷ xs) = ap suc (length_map f xs)
+    rows_many = sym (length-map (methods_of table) plain_method) ∙ ap length read.methods ∙ as_many_meant (headers_of table) table.given 0 0 program.classes
 
     pub field_valued : (i : ℕ) (row : FieldRow) → slice_get (fields_of table) i ≡ Some row → valued (plain_type row.ty) ≡ true
     field_valued i row e =

@@ -1,5 +1,5 @@
 -- Typed statements that pass fit, complete where those of the text do, and leave a scope of locals of values.
-use Rattle.std.proofs.Common.{◌≡◌, ◌∙◌, ℕ, Bool, true, false, not, ◌&&◌, ◌||◌, cond, List, [], ◌∷◌, ◌⊎◌, inl, inr, Option, Some, None, option_map, Result, Ok, Err, refl, ap, sym, subst}
+use Rattle.std.proofs.Common.{◌≡◌, ◌∙◌, ℕ, Bool, true, false, not, ◌&&◌, ◌||◌, cond, List, ◌∷◌, ◌⊎◌, inl, inr, Option, Some, None, Result, Ok, Err, refl, ap, sym, subst}
 use Rattle.std.specs.Option.{option_map_or}
 use Rattle.std.specs.Prelude.{IsTrue}
 use Rattle.dpj_base.specs.declared.effect.Effect.{Effect}
@@ -9,16 +9,13 @@ use Rattle.dpj_base.specs.declared.refusal.Kind.TheVariants as kind
 use Rattle.dpj_base.specs.declared.refusal.Refusal.{Refusal}
 use Rattle.dpj_base.specs.declared.region.Rpl.{Rpl}
 use Rattle.dpj_base.specs.declared.ty.Super.{Super}
-use Rattle.dpj_base.specs.declared.ty.Ty.{Ty}
-use Rattle.dpj_base.specs.Branches.{iterations_clash}
 use Rattle.dpj_base.specs.Effects.{same_bool}
 use Rattle.dpj_base.specs.Types.{PlainType, plain_type}
 use Rattle.dpj_base.specs.Types.{PlainType as ty}
 use Rattle.dpj_arrays.specs.Access.{PlainElement}
 use Rattle.dpj_headers.specs.declared.faults.Order.TheVariants as order
 use Rattle.dpj_headers.specs.Faults.{none_by}
-use Rattle.dpj_headers.specs.Passes.{fault}
-use Rattle.dpj_resolve.specs.Written.{type_meant, type_faults}
+use Rattle.dpj_resolve.specs.Written.{type_faults}
 use Rattle.dpj_tree.specs.declared.region.Named.{Named}
 use Rattle.dpj_tree.specs.declared.region.TypeTree.{TypeTree}
 use Rattle.dpj_tree.specs.Plain.{PlainExpr, PlainStmt, PlainStmts}
@@ -28,34 +25,31 @@ use Rattle.dpj_typed.specs.Plain.{ExprForm as expr}
 use Rattle.dpj_typed.specs.Plain.{StmtForm as form}
 use Rattle.dpj_typed.specs.Plain as typed
 use Rattle.dpj_typed.specs.Statements.{completes, all_complete}
-use Rattle.dpj_parts.specs.Uses.{parts_interfere}
 use Rattle.dpj_locals.specs.declared.branch.Touched.{Touched}
 use Rattle.dpj_classes.specs.declared.rows.MethodRow.{MethodRow}
 use Rattle.dpj_classes.specs.Table.{numbered}
 use Rattle.dpj_exprs.specs.declared.env.Env.{Env}
-use Rattle.dpj_exprs.specs.declared.env.LocalRow.{LocalRow}
 use Rattle.dpj_exprs.specs.declared.found.Found.{Found}
 use Rattle.dpj_exprs.specs.Answer.{gives}
 use Rattle.dpj_exprs.specs.Elements.{index_of, element_through, part_element}
-use Rattle.dpj_exprs.specs.Env.{table_of, supers_of, scope_of, local_of, slots_in, given_in, part_of, mark_of}
+use Rattle.dpj_exprs.specs.Env.{table_of, supers_of, scope_of, mark_of}
 use Rattle.dpj_exprs.specs.Fields.{field_through}
 use Rattle.dpj_exprs.specs.Fields.{PlainField as SeenField}
-use Rattle.dpj_exprs.specs.Targeting.{PlainSpot, to_field, to_element, to_part, PlainTarget, TargetAnswer, aims, misses, aimed, in_field, field_target, in_array, in_element, element_target, in_part, in_part_element, part_target, Targeting, with_write}
+use Rattle.dpj_exprs.specs.Targeting.{PlainSpot, to_field, to_element, to_part, PlainTarget, TargetAnswer, aims, misses, aimed, in_field, field_target, in_element, element_target, in_part_element, part_target, Targeting}
 use Rattle.dpj_exprs.specs.Typing.{Typing}
-use Rattle.dpj_exprs.specs.Typed.{may_be, is_int, is_boolean, is_value, node_at, type_in, FitsAs}
+use Rattle.dpj_exprs.specs.Typed.{may_be, is_int, is_boolean, is_value, node_at, type_in}
 use Rattle.dpj_check.specs.declared.node.Around.{Around}
 use Rattle.dpj_check.specs.declared.node.Node.{Node}
-use Rattle.dpj_check.specs.Checking.{form_of, with_nd, gathers, closed, block_left, branch_of, forking_of, variable_declared, variable_noted, cut_type, cut_fault, Cutting, Opened, opened, not_opened, parts_noted, parts_declared, Opening, BranchesVerdict, all_pass, one_refused, after_branch, iteration_begun, parts_left, part_slot, part_variable, Checking, Choosing, InOther, Standing, standing, InScope, in_scope, InBlock, in_block, InOrder, Branching, Forking, Iterating, Parting}
+use Rattle.dpj_check.specs.Checking.{block_left, branch_of, variable_noted, cut_type, cut_fault, Cutting, Opened, opened, not_opened, Opening, BranchesVerdict, all_pass, one_refused, after_branch, part_slot, Checking, Choosing, InOther, Standing, standing, InScope, in_scope, InBlock, in_block, InOrder, Branching, Forking, Iterating, Parting}
 use Rattle.dpj_check.specs.Completes as tree_completes
-use Rattle.dpj_check.specs.Deciding.{is_misplaced, local_fault, Returned, whole_fault, marks_after, interference}
-use Rattle.dpj_check.specs.Keeping.{inside}
-use Rattle.dpj_check.specs.Noting.{with_found, with_fault_if, node_at as noted_at, fault_of, settled_node}
-use Rattle.dpj_check.specs.Simple.{place_of, node_of, declared_type, declared_told, declaration_noted, local_declared, stored, target_fault, may_print, printed_form, regions_noted, regions_declared, with_regions, Declaring, AssigningLocal, AssigningPlace, Performing, Returning, Printing}
-use Rattle.dpj_check.specs.Walks.{Walk, Verdict, passes, refused, found_so, scope_so, scope_left, left_scope, judged, behind}
+use Rattle.dpj_check.specs.Deciding.{is_misplaced, local_fault, Returned, whole_fault}
+use Rattle.dpj_check.specs.Noting.{with_found, with_fault_if, node_at as noted_at, fault_of}
+use Rattle.dpj_check.specs.Simple.{place_of, node_of, declared_type, declared_told, declaration_noted, stored, target_fault, may_print, printed_form, Declaring, AssigningLocal, AssigningPlace, Performing, Returning, Printing}
+use Rattle.dpj_check.specs.Walks.{Walk, Verdict, passes, refused, left_scope, judged, behind}
 use Rattle.dpj_gen.specs.Resolved.{ExprFits, PerformFits, StmtFits, StmtsFit, BranchesFit}
 use Rattle.dpj_gen.specs.Scheme.{is_void}
 use Rattle.dpj_resolved.proofs.Bodies.{InBody, around_of, local_declared_in, regions_declared_in, left_in, variable_in, parts_in, free_if, free_found, declared_free, parts_free, regions_free, follows_none}
-use Rattle.dpj_resolved.proofs.Expressions.{Stands, value, nothing, Given, fits_value, used, as_value, stands_holds, seen_through, SeenFits, part_local, part_fits, PartFits, element_fits, ElementFits, typing_answered, and_split, int_value, boolean_value}
+use Rattle.dpj_resolved.proofs.Expressions.{value, nothing, Given, fits_value, used, as_value, stands_holds, seen_through, SeenFits, part_local, part_fits, PartFits, element_fits, ElementFits, typing_answered, and_split, int_value, boolean_value}
 use Rattle.dpj_resolved.proofs.Free.{or_false, not_false}
 use Rattle.dpj_resolved.proofs.Free.{parts_free as no_part_faults}
 use Rattle.dpj_resolved.proofs.Known.{type_known, meant_valued}
@@ -133,12 +127,14 @@ module _ (P : PlainProgram)
         (judged_if (Done around node true) _ _ _ (λ free.
         let f = free_if (declaration_noted w.env name node.place node) kind.Type (not fit) free in
         let good = type_declared w.env tree untold in
-        let fit_value = fits_value (supers_of w.env) (type_in t) (declared_type w.env tree) (fits.0 (not_false fit f.1)) good in
-        (declared_free w.env name node.place node f.0, record {
-          fits = used P (place_of e) t (given_by body d) fit_value;
-          complete_so = refl;
-          body = local_declared_in w.env name made is_final (ap valued same ∙ good) body;
-        })))
+        let fit_value = fits_value (supers_of w.env) (type_in t) (declared_type w.env tree) (fits.0 (not_false fit f.1)) good in (
+          declared_free w.env name node.place node f.0,
+          record {
+            fits = used P (place_of e) t (given_by body d) fit_value;
+            complete_so = refl;
+            body = local_declared_in w.env name made is_final (ap valued same ∙ good) body;
+          },
+        )))
 
     -- assignments
     local_fits : (fit is_final : Bool) → local_fault fit is_final ≡ None → (fit ≡ true) × (is_final ≡ false)
@@ -239,20 +235,23 @@ module _ (P : PlainProgram)
     placing_passed around body (AssigningPlace.value_refused d i) = tt
     placing_passed around {node} {target} {e} {w} body (AssigningPlace.anything_assigned {t = t} d i j) =
         subst (If (Done around node true)) j
-        (judged_if (Done around node true) _ _ _ (λ free.
-        ((free_if node kind.Type (not (may_be is_value (type_in t))) free).0,
-        record { fits = performs (place_of e) t (given_by body i); complete_so = refl; body = body })))
+        (judged_if (Done around node true) _ _ _ (λ free. (
+          (free_if node kind.Type (not (may_be is_value (type_in t))) free).0,
+          record { fits = performs (place_of e) t (given_by body i); complete_so = refl; body = body },
+        )))
     placing_passed around {node} {target} {e} {w} body (AssigningPlace.place_assigned {aim = aim} {t = t} {fit = fit} d i fits j) =
         subst (If (Done around node true)) j
         (judged_if (Done around node true) _ _ _ (λ free.
         let f = free_found node (target_fault fit aim.may_write) free in
         let a = targeting_aimed body d in
-        let fit_value = fits_value (supers_of w.env) (type_in t) aim.ty (fits.0 (target_fits fit aim.may_write f.1)) a.1 in
-        (f.0, record {
-          fits = stored_fits (place_of target) around.has_result aim.spot (node_of e t) a.0 (used P (place_of e) t (given_by body i) fit_value);
-          complete_so = stored_completes (place_of target) aim.spot (node_of e t);
-          body = body;
-        })))
+        let fit_value = fits_value (supers_of w.env) (type_in t) aim.ty (fits.0 (target_fits fit aim.may_write f.1)) a.1 in (
+          f.0,
+          record {
+            fits = stored_fits (place_of target) around.has_result aim.spot (node_of e t) a.0 (used P (place_of e) t (given_by body i) fit_value);
+            complete_so = stored_completes (place_of target) aim.spot (node_of e t);
+            body = body;
+          },
+        )))
 
     performing_passed : (around : Around) {node : Node} {e : PlainExpr} {w : Walk} {v : Verdict TypedStmt} → InBody P around.has_result w.env → Performing node e w v → If (Done around node true) v
     performing_passed around body (Performing.refused_itself d) = tt
@@ -376,12 +375,14 @@ module _ (P : PlainProgram)
     -- a statement behind another
     then_fine : (y before complete : Bool) (s : PlainStmt) (ss : PlainStmts) (made : TypedStmt) (others : List TypedStmt) (u w : Walk) → before ≡ true → Fine y (tree_completes.completes s) made u →
         FineOrder y (before && tree_completes.completes s) (tree_completes.all_complete ss) others w → FineOrder y before (tree_completes.all_complete (tree.more_stmts s ss)) (made ∷ others) w
-    then_fine y before complete s ss made others u w before_so first rest =
-        (inl before_so, record {
-          fits = (first.fits, stands_behind rest.0, rest.1.fits);
-          complete_so = ap (λ z. z && all_complete (stmts_of others)) first.complete_so ∙ ap (λ z. tree_completes.completes s && z) rest.1.complete_so;
-          body = rest.1.body;
-        })
+    then_fine y before complete s ss made others u w before_so first rest = (
+      inl before_so,
+      record {
+        fits = (first.fits, stands_behind rest.0, rest.1.fits);
+        complete_so = ap (λ z. z && all_complete (stmts_of others)) first.complete_so ∙ ap (λ z. tree_completes.completes s && z) rest.1.complete_so;
+        body = rest.1.body;
+      },
+    )
       where
         stands_behind : ((before && tree_completes.completes s) ≡ true) ⊎ (stmts_of others ≡ typed.no_stmts) → IsTrue (completes made) ⊎ (stmts_of others ≡ typed.no_stmts)
         stands_behind (inl both) = inl (first.complete_so ∙ (and_split before (tree_completes.completes s) both).1)
@@ -454,9 +455,10 @@ module _ (P : PlainProgram)
           (iterating_passed body
           (λ free.
           let f = free_if (with_fault_if node kind.Type first) kind.Type second free in
-          let g = free_if node kind.Type first f.0 in
-          (used P (place_of start) t (given_by body d) (int_value (type_in t) (not_false (may_be is_int (type_in t)) g.1)),
-          used P (place_of count) u (given_by body i) (int_value (type_in u) (not_false (may_be is_int (type_in u)) f.1)))) n)
+          let g = free_if node kind.Type first f.0 in (
+            used P (place_of start) t (given_by body d) (int_value (type_in t) (not_false (may_be is_int (type_in t)) g.1)),
+            used P (place_of count) u (given_by body i) (int_value (type_in u) (not_false (may_be is_int (type_in u)) f.1)),
+          )) n)
         where
           iterated_of : (x : Verdict TypedStmt) →
               If (Done around (with_fault_if (with_fault_if node kind.Type (not (may_be is_int (type_in t)))) kind.Type (not (may_be is_int (type_in u)))) true) x → If (Done around node true) x

@@ -1,15 +1,13 @@
--- Types of values: neither `void` nor an array of what isn't one.
-use Rattle.std.proofs.Common.{◌≡◌, ◌∙◌, ℕ, suc, Bool, true, false, not, List, [], ◌∷◌, ◌⊎◌, inl, inr, Option, Some, None, refl, ap, sym, subst}
-use Rattle.std.specs.Prelude.{IsTrue}
+-- Types of values.
+use Rattle.std.proofs.Common.{◌≡◌, ℕ, suc, Bool, true, false, List, refl}
 use Rattle.dpj_base.specs.declared.elems.Elem.{Elem}
 use Rattle.dpj_base.specs.declared.region.Rpl.{Rpl}
 use Rattle.dpj_base.specs.declared.ty.Super.{Super}
-use Rattle.dpj_base.specs.Types.{PlainType, type_with, type_at, unnamed, Subtype}
+use Rattle.dpj_base.specs.Types.{PlainType, type_with, type_at, Subtype}
 use Rattle.dpj_base.specs.Types.PlainType.{int, boolean, void, null, class, array}
-use Rattle.dpj_types.specs.Same.{same_type}
 use Rattle.dpj_gen.specs.Scheme.{is_void}
-use Rattle.dpj_exprs.specs.Typed.{may_be, is_value, FitsAs}
 
+-- neither `void` nor an array of what isn't one
 abbrev pub valued : PlainType → Bool
 valued void = false
 valued (array t rpl named) = valued t
@@ -43,14 +41,6 @@ valued_no_void boolean v = refl
 valued_no_void void v = cc
 valued_no_void null v = refl
 valued_no_void (class c args) v = refl
-
-pub value_no_void : (t : PlainType) → is_value t ≡ true → is_void t ≡ false
-value_no_void (array t rpl named) v = refl
-value_no_void int v = refl
-value_no_void boolean v = refl
-value_no_void void v = cc
-value_no_void null v = refl
-value_no_void (class c args) v = refl
 
 -- what is put into a type leaves its kind
 pub valued_with : (args : List Rpl) (t : PlainType) → valued (type_with args t) ≡ valued t
