@@ -1,4 +1,5 @@
 pub mod Assembled
+pub mod Beginning
 pub mod Bodies
 pub mod Expressions
 pub mod Free
