@@ -23,7 +23,7 @@ use Rattle.dpj_check.specs.declared.leaving.Leaving.{Leaving}
 use Rattle.dpj_check.specs.declared.leaving.Marks.TheVariants as marks
 use Rattle.dpj_check.specs.declared.node.Around.{Around}
 use Rattle.dpj_check.specs.declared.node.Node.{Node}
-use Rattle.dpj_check.specs.Checking.{form_of, Checking, Choosing, Standing, Iterating, Parting, InOther, InScope, in_scope, InBlock, in_block, InOrder, of_block}
+use Rattle.dpj_check.specs.Checking.{form_of, Checking, Choosing, Standing, Iterating, Parting, InOther, no_other, an_other, InScope, in_scope, InBlock, in_block, InOrder, of_block}
 use Rattle.dpj_check.specs.Checking.{Checking as rule}
 use Rattle.dpj_check.specs.Gathering.{taken_in}
 use Rattle.dpj_check.specs.Leaving.{from_here}
@@ -122,6 +122,28 @@ choice_so b d around node noted test part shown other f g h t first u v k next t
     (subst (λ (z : List Bool). InOther z around other (walk_of d h) u) (home_params b d k.home) next)
     (ap (λ (z : Node). behind (fault_of z) (λ part. typed.statement node.place (typed.choice_form (node_of (plain_expr test) t) first part)) u)
     (sym k.noted_is) ∙ told)
+
+-- an `if` with an `else` whose first part passes, and one without it
+pub either_so : (b d : Body) (around : Around) (follows : Bool) (node noted : Node) (s : Stmt) (test : Expr) (part shown : Stmt) (other : Option Stmt)
+    (second seen : Stmt) (f g h : Found) (t : Option TypedExpr) (first : TypedStmt) (u v : Verdict TypedStmt) → s.kind ≡ tree.If test part other →
+    other ≡ Some second → node ≡ node_at s.place follows → FirstMet b d around node noted test part shown f g h t first → seen ≡ second →
+    InScope d.atomic_params around (plain_stmt seen) (walk_of d h) u →
+    behind (fault_of noted) (λ z. typed.statement node.place (typed.choice_form (node_of (plain_expr test) t) first z)) (behind None Some u) ≡ v →
+    Standing b.atomic_params around follows (plain_stmt s) (walk_of b f) v
+either_so b d around follows node noted s test part shown other second seen f g h t first u v is other_is made k shows within told =
+    choice_stands b.atomic_params around follows node s test part (Some second) (walk_of b f) v
+    (is ∙ ap (λ (z : Option Stmt). tree.If test part z) other_is) made
+    (choice_so b d around node noted test part shown (Some (plain_stmt second)) f g h t first (behind None Some u) v k
+    (an_other (scope_at d.atomic_params d.atomic_params around second seen (walk_of d h) u refl shows within) refl) told)
+
+pub neither_so : (b d : Body) (around : Around) (follows : Bool) (node noted : Node) (s : Stmt) (test : Expr) (part shown : Stmt) (other : Option Stmt)
+    (f g h : Found) (t : Option TypedExpr) (first : TypedStmt) (v : Verdict TypedStmt) → s.kind ≡ tree.If test part other → other ≡ None →
+    node ≡ node_at s.place follows → FirstMet b d around node noted test part shown f g h t first →
+    behind (fault_of noted) (λ z. typed.statement node.place (typed.choice_form (node_of (plain_expr test) t) first z)) (passes None (walk_of d h)) ≡ v →
+    Standing b.atomic_params around follows (plain_stmt s) (walk_of b f) v
+neither_so b d around follows node noted s test part shown other f g h t first v is other_is made k told =
+    choice_stands b.atomic_params around follows node s test part None (walk_of b f) v (is ∙ ap (λ (z : Option Stmt). tree.If test part z) other_is) made
+    (choice_so b d around node noted test part shown None f g h t first (passes None (walk_of d h)) v k no_other told)
 
 -- a construct that completes
 pub construct_stands : (params : List Bool) (around : Around) (follows : Bool) (node : Node) (s : Stmt) (w : Walk) (v : Verdict TypedStmt) →

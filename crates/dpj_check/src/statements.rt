@@ -1,8 +1,8 @@
-ghost use Rattle.std.specs.Prelude.{◌≡◌, ◌||◌, Bool, List, None, false, true, is_some, map, option_map, IsTrue, IfOk, IfSome, OnOk};
+ghost use Rattle.std.specs.Prelude.{◌≡◌, ◌||◌, Bool, List, None, false, true, is_some, map, option_map, IsTrue, IfOk, OnOk};
 ghost use Rattle.std.specs.Option.{option_copied, option_map_or};
 ghost use Rattle.dpj_tree.specs.Nd.{holds_nd, some_holds_nd};
 ghost use Rattle.dpj_tree.specs.Plain.{plain_stmt, plain_stmts, return_form};
-ghost use Rattle.dpj_check.specs.Checking.{form_of, Checking, InBlock, InOrder, InOther, InScope, Standing};
+ghost use Rattle.dpj_check.specs.Checking.{form_of, Checking, InBlock, InOrder, InScope, Standing};
 ghost use Rattle.dpj_check.specs.Completes.{completes, all_complete, goes_on, is_loop, is_single, is_store, is_act};
 ghost use Rattle.dpj_check.specs.Deciding.{is_misplaced};
 ghost use Rattle.dpj_check.specs.Keeping.{Keeps, AllKeep};
@@ -25,7 +25,7 @@ use crate::simple::{
     assign_local, assign_place, declare, declare_regions, leave, leave_with, perform, print,
     print_text,
 };
-use dpj_base::{Boxed, Items, NoMemory, Place, Stop};
+use dpj_base::{Items, NoMemory, Place, Stop};
 use dpj_exprs::Found;
 use dpj_tree::{Expr, Stmt, StmtKind};
 use dpj_typed::{Expr as TypedExpr, Stmt as TypedStmt};
@@ -75,10 +75,18 @@ pub fn statement(
         StmtKind::If { test, then, other } => {
             let given = body.boolean(test, out, &mut node)?;
             let first = scoped(body, around, then.get(), out)?;
-            let second = other_part(body, around, other.as_ref(), out)?;
-            node.settle()?;
             let test = given.into_node(test.place);
-            Ok(choose(body.alloc, place, test, first, second)?)
+            match other {
+                Some(other) => {
+                    let second = scoped(body, around, other.get(), out)?;
+                    node.settle()?;
+                    Ok(choose(body.alloc, place, test, first, Some(second))?)
+                }
+                None => {
+                    node.settle()?;
+                    Ok(choose(body.alloc, place, test, first, None)?)
+                }
+            }
         }
         StmtKind::Return(value) => {
             let stmt = returns(body, around, node, value.as_ref(), out)?;
@@ -88,26 +96,6 @@ pub fn statement(
             })
         }
         _ => completing(body, around, node, stmt, out),
-    }
-}
-
-/// The part of an `if` behind its `else`, where there is one.
-#[cycle(statements)]
-fn other_part(
-    body: &mut Body,
-    around: Around,
-    other: Option<&Boxed<Stmt>>,
-    out: &mut Found,
-) -> Result<Option<Checked>, Stop>
-    ensures completes { IfOk result (λ part. option_map (λ done. done.completes) part ≡ option_map (λ s. completes (plain_stmt s)) (option_copied other.entry)) }
-    ensures keeps { OnOk result (IfSome (option_copied other.entry) (λ s. Keeps around (plain_stmt s))) }
-    ensures nd { OnOk result (IsTrue (out.old.reaches_nd || option_map_or (λ s. holds_nd (plain_stmt s)) (option_copied other.entry) false) → IsTrue out.new.reaches_nd) }
-    ensures home { OnOk result (home_of body.new ≡ home_of body.old) }
-    ensures checks { Says result (λ part. passes (option_map (λ done. typed_stmt done.stmt) part) (walk_of body.new out.new)) refused (InOther body.old.atomic_params around (option_map plain_stmt (option_copied other.entry)) (walk_of body.old out.old)) }
-{
-    match other {
-        Some(other) => Ok(Some(scoped(body, around, other.get(), out)?)),
-        None => Ok(None),
     }
 }
 

@@ -1,4 +1,4 @@
-use Rattle.std.proofs.Common.{◌≡◌, ◌∙◌, ◌+◌, ◌&&◌, ◌||◌, true, false, not, map, option_map, refl, sym, ap, subst}
+use Rattle.std.proofs.Common.{◌≡◌, ◌∙◌, ◌+◌, ◌&&◌, ◌||◌, true, false, not, map, option_map, Some, None, refl, sym, ap, subst}
 use Rattle.std.proofs.lemmas.List.{drop_all}
 use Rattle.std.specs.Option.{option_copied}
 use Rattle.dpj_tree.specs.Nd.{holds_nd, some_holds_nd}
@@ -11,7 +11,7 @@ use Rattle.dpj_typed.specs.Plain.{plain_stmt as typed_stmt}
 use Rattle.dpj_exprs.specs.Answer.{refused}
 use Rattle.dpj_exprs.specs.Typed.{plain_node, plain_typed}
 use Rattle.dpj_exprs.specs.Typing.{Typing}
-use Rattle.dpj_check.specs.Checking.{form_of, plain_branch, Checking, Choosing, InOther, Standing, InScope, in_scope, InBlock, InOrder, Forking, Iterating, Parting, all_pass, Branching, ClashIs}
+use Rattle.dpj_check.specs.Checking.{form_of, plain_branch, Checking, Standing, InScope, in_scope, InBlock, InOrder, Forking, Iterating, Parting, all_pass, Branching, ClashIs}
 use Rattle.dpj_check.specs.Checking.{Checking as rule}
 use Rattle.dpj_check.specs.Checking.{Choosing as choosing}
 use Rattle.dpj_check.specs.Keeping.{inside}
@@ -29,7 +29,7 @@ use Rattle.dpj_check.proofs.Parting.{range_stopped, part_stopped, Part, part_tol
 use Rattle.dpj_check.proofs.Passing.{says_all, stopped, settle_stopped}
 use Rattle.dpj_check.proofs.Reaching.{begun_nd, taken_nd, iterations_nd, parts_nd, fork_nd, nd_step, or_then, or_else, reaching, reached_is}
 use Rattle.dpj_check.proofs.Stands.{as_form, as_statement, at_Cobegin, at_Return}
-use Rattle.dpj_check.proofs.Walking.{block_stops, block_closes, scope_passes, block_stands, then_told, then_made, choice_stands, choice_so, first_stops, FirstMet, construct_stands, while_test_stops, while_so, start_stops, count_stops, foreach_so, parts_so}
+use Rattle.dpj_check.proofs.Walking.{block_stops, block_closes, scope_passes, block_stands, then_told, then_made, choice_stands, either_so, neither_so, first_stops, FirstMet, construct_stands, while_test_stops, while_so, start_stops, count_stops, foreach_so, parts_so}
 use Rattle.dpj_check.proofs.+statements.Goals as goal
 use Rattle.dpj_check.proofs.+statements.Goals.{statements::statements-then-completes, statements::statements-else-completes, constructs::foreach-then-inner, constructs::foreach-else-inner, constructs::cobegin-then-out, constructs::cobegin-else-out}
 
@@ -140,9 +140,9 @@ statements::statement-returns-in_err-first-in-If-clause-checks t c =
     (first_stops c.args.body.now c.args.around c.of-node.result c.in-If.test c.in-If.then c.get.result.now (option_map plain_stmt c.in-If.other) c.args.out.now c.boolean.new.out (plain_typed c.in_ok-given-in-If.given) q c.in_ok-given-in-If.ensures.answer c.get.ensures d))
     c.in_err-first-in-If.ensures.checks
 
-pub statements::statement-returns-in_err-second-in-If-clause-checks :
-    goal.statements::statement-returns-in_err-second-in-If-clause-checks
-statements::statement-returns-in_err-second-in-If-clause-checks t c =
+pub statements::statement-returns-in_err-second-in-Some-clause-checks :
+    goal.statements::statement-returns-in_err-second-in-Some-clause-checks
+statements::statement-returns-in_err-second-in-Some-clause-checks t c =
     let met : FirstMet c.args.body.now c.scoped.new.body c.args.around c.of-node.result c.boolean.new.node c.in-If.test c.in-If.then c.get.result.now
     c.args.out.now c.boolean.new.out c.scoped.new.out (plain_typed c.in_ok-given-in-If.given) (typed_stmt c.in_ok-first-in-If.first.stmt) = record {
       typing = c.in_ok-given-in-If.ensures.answer;
@@ -151,24 +151,20 @@ statements::statement-returns-in_err-second-in-If-clause-checks t c =
       in_scope = c.in_ok-first-in-If.ensures.checks;
       home = c.in_ok-first-in-If.ensures.home;
     } in
-    stopped (λ q. InOther c.scoped.new.body.atomic_params c.args.around (option_map plain_stmt (option_copied c.as_ref.result))
-    (walk_of c.scoped.new.body c.scoped.new.out) (verdict.refused q))
+    stopped (λ q. InScope c.scoped.new.body.atomic_params c.args.around (plain_stmt c.get-in-Some.result.now) (walk_of c.scoped.new.body c.scoped.new.out)
+    (verdict.refused q))
     (Standing c.args.body.now.atomic_params c.args.around c.args.follows (plain_stmt c.args.stmt.now) (walk_of c.args.body.now c.args.out.now))
-    c.from_residual-in_err-second-in-If.result _ c.in_err-second-in-If.field-0.0 c.from_residual-in_err-second-in-If.ensures.1
+    c.from_residual-in_err-second-in-Some.result _ c.in_err-second-in-Some.field-0.0 c.from_residual-in_err-second-in-Some.ensures.1
     (λ q d.
-    choice_stands c.args.body.now.atomic_params c.args.around c.args.follows c.of-node.result c.args.stmt.now c.in-If.test c.in-If.then c.in-If.other
-    (walk_of c.args.body.now c.args.out.now) (verdict.refused q) c.in-If.is c.of-node.ensures.node
-    (choice_so c.args.body.now c.scoped.new.body c.args.around c.of-node.result c.boolean.new.node c.in-If.test c.in-If.then c.get.result.now
-    (option_map plain_stmt c.in-If.other) c.args.out.now c.boolean.new.out c.scoped.new.out (plain_typed c.in_ok-given-in-If.given) (typed_stmt c.in_ok-first-in-If.first.stmt)
-    (verdict.refused q)
-    (verdict.refused q) met
-    (subst (λ o. InOther c.scoped.new.body.atomic_params c.args.around (option_map plain_stmt o) (walk_of c.scoped.new.body c.scoped.new.out) (verdict.refused q)) c.as_ref.ensures.value d)
-    (refl)))
-    c.in_err-second-in-If.ensures.checks
+    either_so c.args.body.now c.scoped.new.body c.args.around c.args.follows c.of-node.result c.boolean.new.node c.args.stmt.now c.in-If.test c.in-If.then
+    c.get.result.now c.in-If.other c.in-Some.other c.get-in-Some.result.now c.args.out.now c.boolean.new.out c.scoped.new.out
+    (plain_typed c.in_ok-given-in-If.given) (typed_stmt c.in_ok-first-in-If.first.stmt)
+    (verdict.refused q) (verdict.refused q) c.in-If.is c.in-Some.is c.of-node.ensures.node met c.get-in-Some.ensures d refl)
+    c.in_err-second-in-Some.ensures.checks
 
-pub statements::statement-returns-in_err-settle-in-If-clause-checks :
-    goal.statements::statement-returns-in_err-settle-in-If-clause-checks
-statements::statement-returns-in_err-settle-in-If-clause-checks t c =
+pub statements::statement-returns-in_err-settle-in-Some-clause-checks :
+    goal.statements::statement-returns-in_err-settle-in-Some-clause-checks
+statements::statement-returns-in_err-settle-in-Some-clause-checks t c =
     let met : FirstMet c.args.body.now c.scoped.new.body c.args.around c.of-node.result c.boolean.new.node c.in-If.test c.in-If.then c.get.result.now
     c.args.out.now c.boolean.new.out c.scoped.new.out (plain_typed c.in_ok-given-in-If.given) (typed_stmt c.in_ok-first-in-If.first.stmt) = record {
       typing = c.in_ok-given-in-If.ensures.answer;
@@ -178,21 +174,19 @@ statements::statement-returns-in_err-settle-in-If-clause-checks t c =
       home = c.in_ok-first-in-If.ensures.home;
     } in
     settle_stopped (Standing c.args.body.now.atomic_params c.args.around c.args.follows (plain_stmt c.args.stmt.now) (walk_of c.args.body.now c.args.out.now))
-    (fault_of c.boolean.new.node) c.from_residual-in_err-settle-in-If.result c.in_err-settle-in-If.field-0.0 _
-    c.from_residual-in_err-settle-in-If.ensures.1 c.in_err-settle-in-If.ensures.result
+    (fault_of c.boolean.new.node) c.from_residual-in_err-settle-in-Some.result c.in_err-settle-in-Some.field-0.0 _
+    c.from_residual-in_err-settle-in-Some.ensures.1 c.in_err-settle-in-Some.ensures.result
     (λ q told.
-    choice_stands c.args.body.now.atomic_params c.args.around c.args.follows c.of-node.result c.args.stmt.now c.in-If.test c.in-If.then c.in-If.other
-    (walk_of c.args.body.now c.args.out.now) (verdict.refused q) c.in-If.is c.of-node.ensures.node
-    (choice_so c.args.body.now c.scoped.new.body c.args.around c.of-node.result c.boolean.new.node c.in-If.test c.in-If.then c.get.result.now
-    (option_map plain_stmt c.in-If.other) c.args.out.now c.boolean.new.out c.scoped.new.out (plain_typed c.in_ok-given-in-If.given) (typed_stmt c.in_ok-first-in-If.first.stmt)
-    (passes (option_map (λ z. typed_stmt z.stmt) c.in_ok-second-in-If.second) (walk_of c.other_part.new.body c.other_part.new.out))
-    (verdict.refused q) met
-    (subst (λ o. InOther c.scoped.new.body.atomic_params c.args.around (option_map plain_stmt o) (walk_of c.scoped.new.body c.scoped.new.out) (passes (option_map (λ z. typed_stmt z.stmt) c.in_ok-second-in-If.second) (walk_of c.other_part.new.body c.other_part.new.out))) c.as_ref.ensures.value c.in_ok-second-in-If.ensures.checks)
-    (then_told (fault_of c.boolean.new.node) _ (option_map (λ z. typed_stmt z.stmt) c.in_ok-second-in-If.second) (walk_of c.other_part.new.body c.other_part.new.out) q told)))
+    either_so c.args.body.now c.scoped.new.body c.args.around c.args.follows c.of-node.result c.boolean.new.node c.args.stmt.now c.in-If.test c.in-If.then
+    c.get.result.now c.in-If.other c.in-Some.other c.get-in-Some.result.now c.args.out.now c.boolean.new.out c.scoped.new.out
+    (plain_typed c.in_ok-given-in-If.given) (typed_stmt c.in_ok-first-in-If.first.stmt)
+    (passes (typed_stmt c.in_ok-second-in-Some.second.stmt) (walk_of c.scoped-in-Some.new.body c.scoped-in-Some.new.out)) (verdict.refused q) c.in-If.is
+    c.in-Some.is c.of-node.ensures.node met c.get-in-Some.ensures c.in_ok-second-in-Some.ensures.checks
+    (then_told (fault_of c.boolean.new.node) _ (Some (typed_stmt c.in_ok-second-in-Some.second.stmt)) (walk_of c.scoped-in-Some.new.body c.scoped-in-Some.new.out) q told))
 
-pub statements::statement-returns-in_ok-choose-in-If-clause-checks :
-    goal.statements::statement-returns-in_ok-choose-in-If-clause-checks
-statements::statement-returns-in_ok-choose-in-If-clause-checks t c =
+pub statements::statement-returns-in_ok-choose-in-Some-clause-checks :
+    goal.statements::statement-returns-in_ok-choose-in-Some-clause-checks
+statements::statement-returns-in_ok-choose-in-Some-clause-checks t c =
     let met : FirstMet c.args.body.now c.scoped.new.body c.args.around c.of-node.result c.boolean.new.node c.in-If.test c.in-If.then c.get.result.now
     c.args.out.now c.boolean.new.out c.scoped.new.out (plain_typed c.in_ok-given-in-If.given) (typed_stmt c.in_ok-first-in-If.first.stmt) = record {
       typing = c.in_ok-given-in-If.ensures.answer;
@@ -201,14 +195,64 @@ statements::statement-returns-in_ok-choose-in-If-clause-checks t c =
       in_scope = c.in_ok-first-in-If.ensures.checks;
       home = c.in_ok-first-in-If.ensures.home;
     } in
-    choice_stands c.args.body.now.atomic_params c.args.around c.args.follows c.of-node.result c.args.stmt.now c.in-If.test c.in-If.then c.in-If.other
-    (walk_of c.args.body.now c.args.out.now) (passes (typed_stmt c.in_ok-choose-in-If.field-0.stmt) (walk_of c.other_part.new.body c.other_part.new.out)) c.in-If.is c.of-node.ensures.node
-    (choice_so c.args.body.now c.scoped.new.body c.args.around c.of-node.result c.boolean.new.node c.in-If.test c.in-If.then c.get.result.now
-    (option_map plain_stmt c.in-If.other) c.args.out.now c.boolean.new.out c.scoped.new.out (plain_typed c.in_ok-given-in-If.given) (typed_stmt c.in_ok-first-in-If.first.stmt)
-    (passes (option_map (λ z. typed_stmt z.stmt) c.in_ok-second-in-If.second) (walk_of c.other_part.new.body c.other_part.new.out))
-    (passes (typed_stmt c.in_ok-choose-in-If.field-0.stmt) (walk_of c.other_part.new.body c.other_part.new.out)) met
-    (subst (λ o. InOther c.scoped.new.body.atomic_params c.args.around (option_map plain_stmt o) (walk_of c.scoped.new.body c.scoped.new.out) (passes (option_map (λ z. typed_stmt z.stmt) c.in_ok-second-in-If.second) (walk_of c.other_part.new.body c.other_part.new.out))) c.as_ref.ensures.value c.in_ok-second-in-If.ensures.checks)
-    (then_made (fault_of c.boolean.new.node) (λ z. statement c.of-node.result.place (choice_form (node_of (plain_expr c.in-If.test) (plain_typed c.in_ok-given-in-If.given)) (typed_stmt c.in_ok-first-in-If.first.stmt) z)) (option_map (λ z. typed_stmt z.stmt) c.in_ok-second-in-If.second) (walk_of c.other_part.new.body c.other_part.new.out) (typed_stmt c.in_ok-choose-in-If.field-0.stmt) c.in_ok-settle-in-If.ensures.clean (c.in_ok-choose-in-If.ensures.stmt ∙ ap (λ e. statement c.of-node.result.place (choice_form e (typed_stmt c.in_ok-first-in-If.first.stmt) (option_map (λ z. typed_stmt z.stmt) c.in_ok-second-in-If.second))) (node_made c.in-If.test c.into_node.result (plain_typed c.in_ok-given-in-If.given) c.into_node.ensures))))
+    either_so c.args.body.now c.scoped.new.body c.args.around c.args.follows c.of-node.result c.boolean.new.node c.args.stmt.now c.in-If.test c.in-If.then
+    c.get.result.now c.in-If.other c.in-Some.other c.get-in-Some.result.now c.args.out.now c.boolean.new.out c.scoped.new.out
+    (plain_typed c.in_ok-given-in-If.given) (typed_stmt c.in_ok-first-in-If.first.stmt)
+    (passes (typed_stmt c.in_ok-second-in-Some.second.stmt) (walk_of c.scoped-in-Some.new.body c.scoped-in-Some.new.out))
+    (passes (typed_stmt c.in_ok-choose-in-Some.field-0.stmt) (walk_of c.scoped-in-Some.new.body c.scoped-in-Some.new.out)) c.in-If.is c.in-Some.is c.of-node.ensures.node
+    met c.get-in-Some.ensures c.in_ok-second-in-Some.ensures.checks
+    (then_made (fault_of c.boolean.new.node)
+    (λ z. statement c.of-node.result.place
+    (choice_form (node_of (plain_expr c.in-If.test) (plain_typed c.in_ok-given-in-If.given)) (typed_stmt c.in_ok-first-in-If.first.stmt) z))
+    (Some (typed_stmt c.in_ok-second-in-Some.second.stmt)) (walk_of c.scoped-in-Some.new.body c.scoped-in-Some.new.out) (typed_stmt c.in_ok-choose-in-Some.field-0.stmt)
+    c.in_ok-settle-in-Some.ensures.clean
+    (c.in_ok-choose-in-Some.ensures.stmt
+    ∙ ap (λ e. statement c.of-node.result.place (choice_form e (typed_stmt c.in_ok-first-in-If.first.stmt) (Some (typed_stmt c.in_ok-second-in-Some.second.stmt))))
+    (node_made c.in-If.test c.into_node-test.result (plain_typed c.in_ok-given-in-If.given) c.into_node-test.ensures)))
+
+pub statements::statement-returns-in_err-settle-in-None-clause-checks :
+    goal.statements::statement-returns-in_err-settle-in-None-clause-checks
+statements::statement-returns-in_err-settle-in-None-clause-checks t c =
+    let met : FirstMet c.args.body.now c.scoped.new.body c.args.around c.of-node.result c.boolean.new.node c.in-If.test c.in-If.then c.get.result.now
+    c.args.out.now c.boolean.new.out c.scoped.new.out (plain_typed c.in_ok-given-in-If.given) (typed_stmt c.in_ok-first-in-If.first.stmt) = record {
+      typing = c.in_ok-given-in-If.ensures.answer;
+      noted_is = c.in_ok-given-in-If.ensures.node;
+      shows = c.get.ensures;
+      in_scope = c.in_ok-first-in-If.ensures.checks;
+      home = c.in_ok-first-in-If.ensures.home;
+    } in
+    settle_stopped (Standing c.args.body.now.atomic_params c.args.around c.args.follows (plain_stmt c.args.stmt.now) (walk_of c.args.body.now c.args.out.now))
+    (fault_of c.boolean.new.node) c.from_residual-in_err-settle-in-None.result c.in_err-settle-in-None.field-0.0 _
+    c.from_residual-in_err-settle-in-None.ensures.1 c.in_err-settle-in-None.ensures.result
+    (λ q told.
+    neither_so c.args.body.now c.scoped.new.body c.args.around c.args.follows c.of-node.result c.boolean.new.node c.args.stmt.now c.in-If.test c.in-If.then
+    c.get.result.now c.in-If.other c.args.out.now c.boolean.new.out c.scoped.new.out (plain_typed c.in_ok-given-in-If.given)
+    (typed_stmt c.in_ok-first-in-If.first.stmt)
+    (verdict.refused q) c.in-If.is c.in-None.is c.of-node.ensures.node met
+    (then_told (fault_of c.boolean.new.node) _ None (walk_of c.scoped.new.body c.scoped.new.out) q told))
+
+pub statements::statement-returns-in_ok-choose-in-None-clause-checks :
+    goal.statements::statement-returns-in_ok-choose-in-None-clause-checks
+statements::statement-returns-in_ok-choose-in-None-clause-checks t c =
+    let met : FirstMet c.args.body.now c.scoped.new.body c.args.around c.of-node.result c.boolean.new.node c.in-If.test c.in-If.then c.get.result.now
+    c.args.out.now c.boolean.new.out c.scoped.new.out (plain_typed c.in_ok-given-in-If.given) (typed_stmt c.in_ok-first-in-If.first.stmt) = record {
+      typing = c.in_ok-given-in-If.ensures.answer;
+      noted_is = c.in_ok-given-in-If.ensures.node;
+      shows = c.get.ensures;
+      in_scope = c.in_ok-first-in-If.ensures.checks;
+      home = c.in_ok-first-in-If.ensures.home;
+    } in
+    neither_so c.args.body.now c.scoped.new.body c.args.around c.args.follows c.of-node.result c.boolean.new.node c.args.stmt.now c.in-If.test c.in-If.then
+    c.get.result.now c.in-If.other c.args.out.now c.boolean.new.out c.scoped.new.out (plain_typed c.in_ok-given-in-If.given)
+    (typed_stmt c.in_ok-first-in-If.first.stmt)
+    (passes (typed_stmt c.in_ok-choose-in-None.field-0.stmt) (walk_of c.scoped.new.body c.scoped.new.out)) c.in-If.is c.in-None.is c.of-node.ensures.node met
+    (then_made (fault_of c.boolean.new.node)
+    (λ z. statement c.of-node.result.place
+    (choice_form (node_of (plain_expr c.in-If.test) (plain_typed c.in_ok-given-in-If.given)) (typed_stmt c.in_ok-first-in-If.first.stmt) z))
+    None (walk_of c.scoped.new.body c.scoped.new.out) (typed_stmt c.in_ok-choose-in-None.field-0.stmt) c.in_ok-settle-in-None.ensures.clean
+    (c.in_ok-choose-in-None.ensures.stmt
+    ∙ ap (λ e. statement c.of-node.result.place (choice_form e (typed_stmt c.in_ok-first-in-If.first.stmt) None))
+    (node_made c.in-If.test c.into_node-test.result (plain_typed c.in_ok-given-in-If.given) c.into_node-test.ensures)))
 
 pub statements::statement-returns-in_err-stmt-in-Return-clause-checks :
     goal.statements::statement-returns-in_err-stmt-in-Return-clause-checks
@@ -359,7 +403,7 @@ statements::repeated-returns-in_ok-repeated-in-While-clause-checks t c =
     (typed_stmt c.in_ok-repeated-in-While.field-0) c.in_ok-settle-in-While.ensures.clean
     (c.in_ok-repeated-in-While.ensures
     ∙ ap (λ e. statement c.args.node.place (made.while_loop e (typed_stmt c.in_ok-done-in-While.done.stmt)))
-    (node_made c.in-While.test c.into_node.result (plain_typed c.in_ok-given-in-While.given) c.into_node.ensures)))
+    (node_made c.in-While.test c.into_node-test.result (plain_typed c.in_ok-given-in-While.given) c.into_node-test.ensures)))
 
 pub statements::repeated-returns-in_err-first-in-Foreach-clause-checks :
     goal.statements::repeated-returns-in_err-first-in-Foreach-clause-checks
