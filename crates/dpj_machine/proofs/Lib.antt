@@ -1,0 +1,5 @@
+pub mod Delivering
+pub mod Maps
+pub mod Acting
+pub mod Tasks
+pub mod Stepping

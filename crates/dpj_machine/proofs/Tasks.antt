@@ -1,0 +1,62 @@
+-- The tasks that a machine keeps, through a change of one.
+use Rattle.std.proofs.Common.{◌≡◌, ◌≢◌, ℕ, ◌==◌, if◌then◌else◌, Bool, true, false, cond, inl, inr, refl, sym, ap, subst, ◌∙◌, Option, Some, None}
+use Rattle.std.proofs.lemmas.Bool.Decides.{eqb_tells}
+use Rattle.std.specs.Ordering.{nat_cmp, eq_by_cmp}
+use Rattle.std.specs.Cmp.{nat_cmp_total, Equal-is, tied_itself}
+use Rattle.std.specs.FinMap.{FinMap, get, insert, remove, get-insert, get-remove, nat_cmp-IsAntisymmetric}
+use Rattle.dpj_code.specs.Plain.{PlainCode}
+use Rattle.dpj_machine.specs.declared.slot.Slot.{Slot}
+use Rattle.dpj_machine.specs.Running.{Running, StandsForOne, AllStand}
+use Rattle.dpj_machine.specs.Replay.{with_task}
+
+same_number : (q k : ℕ) → eq_by_cmp nat_cmp q k ≡ true → q ≡ k
+same_number q k e = nat_cmp-IsAntisymmetric q k ((Equal-is (nat_cmp q k)).0 e)
+
+itself : (k : ℕ) → eq_by_cmp nat_cmp k k ≡ true
+itself k = (Equal-is (nat_cmp k k)).1 (tied_itself nat_cmp_total k)
+
+other_number : (q k : ℕ) → q ≢ k → eq_by_cmp nat_cmp q k ≡ false
+other_number q k apart = other (eq_by_cmp nat_cmp q k) refl
+  where
+    other : (b : Bool) → eq_by_cmp nat_cmp q k ≡ b → b ≡ false
+    other true e = absurd (apart (same_number q k e))
+    other false e = refl
+
+-- the two tests of numbers are one
+one_test : (q k : ℕ) → eq_by_cmp nat_cmp q k ≡ (q == k)
+one_test q k =
+    elim (eqb_tells q k) [
+      | inl same ↦ subst (λ n. eq_by_cmp nat_cmp n k ≡ true) (sym same.1) (itself k) ∙ sym same.0
+      | inr apart ↦ other_number q k apart.1 ∙ sym apart.0
+    ]
+
+-- where a task was put, and beside it
+pub placed : (tasks : ℕ → Option Running) (k : ℕ) (x : Option Running) → with_task tasks k x k ≡ x
+placed tasks k x = elim (eqb_tells k k) [
+  | inl same ↦ ap (λ b. if b then x else tasks k) same.0
+  | inr apart ↦ absurd (apart.1 refl)
+]
+
+pub beside : (tasks : ℕ → Option Running) (k : ℕ) (x : Option Running) (q : ℕ) → q ≢ k → with_task tasks k x q ≡ tasks q
+beside tasks k x q apart = elim (eqb_tells q k) [
+  | inl same ↦ absurd (apart same.1)
+  | inr other ↦ ap (λ b. if b then x else tasks q) other.0
+]
+
+module _ (C : PlainCode) (slots : FinMap nat_cmp Slot) (tasks : ℕ → Option Running) (k : ℕ) where
+  pub stand_put : (s : Slot) (x : Option Running) → AllStand C slots tasks → StandsForOne C k (Some s) x → AllStand C (insert slots k s) (with_task tasks k x)
+  stand_put s x all here q =
+      subst (λ o. StandsForOne C q o (with_task tasks k x q)) (sym (get-insert nat_cmp_total slots k s q ∙ ap (λ b. cond b (Some s) (get slots q)) (one_test q k)))
+      (elim (eqb_tells q k) [
+        | inl same ↦ subst (λ b. StandsForOne C q (cond b (Some s) (get slots q)) (if b then x else tasks q)) (sym same.0)
+            (subst (λ n. StandsForOne C n (Some s) x) (sym same.1) here)
+        | inr apart ↦ subst (λ b. StandsForOne C q (cond b (Some s) (get slots q)) (if b then x else tasks q)) (sym apart.0) (all q)
+      ])
+
+  pub stand_taken : AllStand C slots tasks → AllStand C (remove slots k) (with_task tasks k None)
+  stand_taken all q =
+      subst (λ o. StandsForOne C q o (with_task tasks k None q)) (sym (get-remove nat_cmp_total slots k q ∙ ap (λ b. cond b None (get slots q)) (one_test q k)))
+      (elim (eqb_tells q k) [
+        | inl same ↦ subst (λ b. StandsForOne C q (cond b None (get slots q)) (if b then None else tasks q)) (sym same.0) (tt {0})
+        | inr apart ↦ subst (λ b. StandsForOne C q (cond b None (get slots q)) (if b then None else tasks q)) (sym apart.0) (all q)
+      ])

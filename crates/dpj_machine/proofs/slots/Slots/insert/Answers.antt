@@ -1,0 +1,12 @@
+-- One task more in the map.
+use Rattle.std.proofs.Common.{ap, ◌∙◌}
+use Rattle.std.specs.FinMap.{FinMap, insert}
+use Rattle.std.specs.Ordering.{nat_cmp}
+use Rattle.dpj_machine.specs.declared.slot.Slot.{Slot}
+use Rattle.dpj_machine.proofs.Maps.{seen_put}
+use Rattle.dpj_machine.proofs.slots.Slots.insert.Goals as goal
+
+pub returns-clause-ok : goal.returns-clause-ok
+returns-clause-ok c =
+    seen_put c.self.inside.map c.insert.new.self c.args.number c.args.slot c.in_ok-insert.ensures.updates
+    ∙ ap (λ (slots : FinMap nat_cmp Slot). insert slots c.args.number c.args.slot) c.self.view_is

@@ -1,0 +1,100 @@
+-- What a machine keeps of its run.
+use Rattle.std.specs.Prelude.{◌≡◌, ℕ, ℤ, List, ◌∷◌, [], ◌++◌, All, reverse, Option, Some, None, refl}
+use Rattle.std.specs.FinMap.{FinMap, insert}
+use Rattle.std.specs.Ordering.{nat_cmp}
+use Rattle.std.specs.Coded.{Coded, code_by, coded×, coded_ℕ, coded_ℤ, coded_list, coded_option}
+use Rattle.dpj_base.specs.declared.outcome.Limits.{Limits}
+use Rattle.dpj_base.specs.declared.outcome.Outcome.{Outcome}
+use Rattle.dpj_code.specs.declared.code.Code.{Code}
+use Rattle.dpj_code.specs.Plain.{PlainCode, plain_code}
+use Rattle.dpj_legs.specs.Halts.{IsFew}
+use Rattle.dpj_legs.specs.declared.action.Answer.{Answer}
+use Rattle.dpj_world.specs.Costs.{Within}
+use Rattle.dpj_world.specs.World.{answer_to, world_after}
+use Rattle.dpj_world.specs.declared.event.Event.{Event}
+use Rattle.dpj_world.specs.declared.world.World.{World}
+use Rattle.dpj_world.specs.Ready.{IsReady}
+use Rattle.dpj_machine.specs.declared.run.Run.{Run}
+use Rattle.dpj_machine.specs.Running.{AllStand}
+use Rattle.dpj_machine.specs.Replay.{Moment, Moves, LeadsTo, limited}
+use Rattle.dpj_machine.specs.declared.slot.Slot.{Slot}
+use Rattle.dpj_machine.specs.Premise.{GoesOn, GoesOnAble}
+
+-- a moment, as it is kept
+pub record Keeps (C : PlainCode) (r : Run) (m : Moment) : Type 0 where
+  pub world : r.world ≡ m.world
+  pub outcome : r.outcome ≡ m.outcome
+  pub stand : AllStand C r.slots m.tasks
+
+-- a moment that is kept, in which a task can make its next event; the run goes on behind it too
+pub record CanStep (code : Code) (L : Limits) (r : Run) (m : Moment) (k : ℕ) : Type 0 where
+  pub keeps : Keeps (plain_code code) r m
+  pub goes : GoesOn (plain_code code) m
+  pub later : (n : Moment) → Moves code L m k n → GoesOn (plain_code code) n
+  pub unfinished : m.outcome ≡ None
+  pub ready : IsReady m.world k
+
+-- an event was noted and made, where it keeps to the limits, and then these tasks are kept, with this outcome; else the run is
+-- finished
+pub data Comes (code : Code) (L : Limits) (old : Run) (e : Event) (slots : FinMap nat_cmp Slot) (outcome : Option Outcome) (new : Run) : Type 0 where
+  made : Within code old.world e
+      → new ≡ record { world = world_after code old.world e; slots = slots; schedule = old.schedule ++ e.task ∷ []; outcome = outcome }
+      → Comes code L old e slots outcome new
+  over : (Within code old.world e → ⊥)
+      → new ≡ record { world = old.world; slots = old.slots; schedule = old.schedule ++ e.task ∷ []; outcome = Some (limited L) }
+      → Comes code L old e slots outcome new
+
+-- the same, with the answer where the event was made
+abbrev pub Recorded : Code → Limits → Run → Event → Option Answer → Run → Type 0
+Recorded code L old e None new =
+    (Within code old.world e → ⊥) × (new ≡ record { world = old.world; slots = old.slots; schedule = old.schedule ++ e.task ∷ []; outcome = Some (limited L) })
+Recorded code L old e (Some x) new =
+    Within code old.world e × (x ≡ answer_to old.world e)
+    × (new ≡ record { world = world_after code old.world e; slots = old.slots; schedule = old.schedule ++ e.task ∷ []; outcome = old.outcome })
+
+-- the tasks where one has an answer that it is to be given
+abbrev pub with_answer : FinMap nat_cmp Slot → ℕ → Slot → Answer → FinMap nat_cmp Slot
+with_answer slots k s x = insert slots k (record { task = s.task; pending = Some x })
+
+-- what a contract sees of a machine
+pub record Played : Type 0 where
+  pub code : Code
+  pub limits : Limits
+  pub argument : ℤ
+  pub schedule : List ℕ
+  pub world : World
+  pub outcome : Option Outcome
+
+abbrev pub played_code : Coded Code → Coded Limits → Coded World → Coded Outcome → Coded Played
+played_code code limits world outcome =
+    code_by (Code × (Limits × (ℤ × (List ℕ × (World × Option Outcome)))))
+    (coded× code (coded× limits (coded× coded_ℤ (coded× (coded_list coded_ℕ) (coded× world (coded_option outcome))))))
+    (λ p. (p.code, (p.limits, (p.argument, (p.schedule, (p.world, p.outcome))))))
+    (λ q. record { code = q.0; limits = q.1.0; argument = q.1.1.0; schedule = q.1.1.1.0; world = q.1.1.1.1.0; outcome = q.1.1.1.1.1 }) (λ _. refl)
+
+-- a moment to which the schedule of a machine leads, in which its world and its outcome are the machine's
+pub record IsReplayed (p : Played) : Type 0 where
+  pub moment : Moment
+  pub leads : LeadsTo p.code p.limits p.argument (reverse p.schedule) moment
+  pub world : p.world ≡ moment.world
+  pub outcome : p.outcome ≡ moment.outcome
+
+-- a task has made one event more
+pub record IsAfter (before : Played) (k : ℕ) (after : Played) : Type 0 where
+  pub code : after.code ≡ before.code
+  pub limits : after.limits ≡ before.limits
+  pub argument : after.argument ≡ before.argument
+  pub schedule : after.schedule ≡ before.schedule ++ k ∷ []
+  pub replayed : IsReplayed before
+  pub next : Moment
+  pub moves : Moves before.code before.limits replayed.moment k next
+  pub world : after.world ≡ next.world
+  pub outcome : after.outcome ≡ next.outcome
+
+-- the fields of a machine are the replay of its schedule, and its code goes on
+pub record Plays (code : Code) (limits : Limits) (argument : ℤ) (r : Run) : Type 0 where
+  pub moment : Moment
+  pub leads : LeadsTo code limits argument (reverse r.schedule) moment
+  pub keeps : Keeps (plain_code code) r moment
+  pub goes : GoesOnAble code limits argument
+  pub few : All IsFew code.sites

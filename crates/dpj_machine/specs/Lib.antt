@@ -1,0 +1,4 @@
+pub mod Running
+pub mod Replay
+pub mod Premise
+pub mod Keeping

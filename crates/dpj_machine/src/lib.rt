@@ -1,0 +1,24 @@
+//! The machine: a run of compiled code, event by event, within limits.
+//!
+//! A machine is opened on code, limits and the argument of `main`, and changed by its steps alone. Each step lets one ready
+//! task make its next event, and notes the task in the schedule. What a contract sees of a machine is its code, its limits,
+//! its argument, its schedule, the world that its tasks share, and the outcome once it has finished; and whatever a machine
+//! keeps is the replay of its schedule (`specs/Replay.antt`): from the object of `main` on, each number of the schedule is a
+//! task that stood at this event and made it. After want of memory a machine is as it was.
+//!
+//! It asks one thing of its code (`GoesOnAble` of `specs/Premise.antt`): wherever a replay leads, the tasks go on.
+//!
+//! A step takes the time of the leg that its task makes and of what its event touches; `next_ready` the logarithm of the live
+//! tasks, and the tasks that it passes over.
+#![tactic(auto)]
+
+mod answers;
+mod machine;
+mod outcome;
+mod run;
+mod slot;
+mod slots;
+mod start;
+mod wants;
+
+pub use machine::{Machine, Stepped};

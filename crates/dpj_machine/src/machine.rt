@@ -1,0 +1,166 @@
+ghost use Rattle.std.specs.Prelude.{◌≡◌, ◌↔◌, ◌≤◌, [], All, None, IsSome, IsTrue, IfOk, OnOk, OnErr, MatchOption, false};
+ghost use Rattle.std.specs.Option.{option_copied};
+ghost use Rattle.dpj_legs.specs.Halts.{IsFew};
+ghost use Rattle.dpj_world.specs.Ready.{IsReady, NoneReady, IsGreatestReady};
+ghost use Rattle.dpj_machine.specs.Keeping.{IsReplayed, IsAfter};
+ghost use Rattle.dpj_machine.specs.Premise.{GoesOnAble};
+
+use crate::run::Run;
+use crate::start::start;
+use dpj_base::{Limits, NoMemory, Outcome};
+use dpj_code::Code;
+use std::alloc::Global;
+use std::marker::Model;
+
+/// What a step left.
+#[derive(Clone, Copy, Debug, PartialEq, Eq)]
+pub enum Stepped {
+    More,
+    Finished,
+}
+
+/// A run of compiled code within limits. A contract sees its code, its limits, its argument, its schedule, the world that its
+/// tasks share, and its outcome once it has finished.
+#[derive(Drop)]
+pub struct Machine {
+    code: Code,
+    limits: Limits,
+    argument: i32,
+    run: Run,
+    alloc: Global,
+}
+
+impl Model for Machine {
+    ghost use Rattle.dpj_machine.specs.Keeping.{Played, played_code, Plays};
+    ghost use Rattle.dpj_base.specs.contracts.outcome.Limits as limits_row;
+    ghost use Rattle.dpj_base.specs.contracts.outcome.Outcome as outcome_row;
+    ghost use Rattle.dpj_code.specs.contracts.code.Code as code_row;
+    ghost use Rattle.dpj_world.specs.contracts.world.World as world_row;
+
+    ghost Value = { Played };
+
+    ghost coded = { played_code code_row.the_row.coded limits_row.the_row.coded world_row.the_row.coded outcome_row.the_row.coded };
+
+    ghost view = { λ m. record { code = m.code; limits = m.limits; argument = m.argument; schedule = m.run.schedule; world = m.run.world; outcome = m.run.outcome } };
+
+    ghost invariant = { λ m. Plays m.code m.limits m.argument m.run };
+}
+
+impl Machine {
+    /// A machine that has made no event. Where there aren't cells for the object of `main` it is finished.
+    pub fn open(
+        alloc: Global,
+        code: Code,
+        limits: Limits,
+        argument: i32,
+    ) -> Result<Machine, NoMemory>
+        requires few { All IsFew code.sites }
+        requires cells { limits.cells ≤ 16777216 }
+        requires goes_on { GoesOnAble code limits argument }
+        ensures code { IfOk result (λ machine. machine.code ≡ code) }
+        ensures limits { IfOk result (λ machine. machine.limits ≡ limits) }
+        ensures argument { IfOk result (λ machine. machine.argument ≡ argument) }
+        ensures nothing { IfOk result (λ machine. machine.schedule ≡ []) }
+        ensures replayed { IfOk result IsReplayed }
+    {
+        let run = start(alloc, &code, limits, argument)?;
+        Ok(Machine {
+            code,
+            limits,
+            argument,
+            run,
+            alloc,
+        })
+    }
+
+    /// Whether a task can make its next event. It takes no memory.
+    pub fn ready(&self, task: u32) -> bool
+        ensures yes { IsTrue result → IsReady self.now.world task }
+        ensures no { result ≡ false → IsReady self.now.world task → ⊥ }
+    {
+        self.run.world.is_ready(task)
+    }
+
+    /// The greatest task that can. It takes no memory.
+    pub fn next_ready(&self) -> Option<u32>
+        ensures { MatchOption result (NoneReady self.now.world) (IsGreatestReady self.now.world) }
+    {
+        self.run.world.next_ready()
+    }
+
+    /// Lets a ready task make its next event. Finished comes exactly where the root ended or a limit was met. After want of
+    /// memory the machine is as it was.
+    pub fn step(&mut self, task: u32) -> Result<Stepped, NoMemory>
+        requires unfinished { self.old.outcome ≡ None }
+        requires ready { IsReady self.old.world task }
+        ensures stepped { OnOk result (IsAfter self.old task self.new) }
+        ensures finished { IfOk result (λ stepped. (stepped ≡ Stepped.Finished) ↔ IsSome self.new.outcome) }
+        ensures err { OnErr result (self.new ≡ self.old) }
+    {
+        self.run.step(self.alloc, &self.code, self.limits, task)?;
+        Ok(match &self.run.outcome {
+            Some(_) => Stepped::Finished,
+            None => Stepped::More,
+        })
+    }
+
+    /// Steps the greatest ready task until the machine has finished, or no task is ready. After want of memory the machine is
+    /// where its schedule leaves it.
+    pub fn finish(&mut self) -> Result<(), NoMemory>
+        ensures code { self.new.code ≡ self.old.code }
+        ensures limits { self.new.limits ≡ self.old.limits }
+        ensures argument { self.new.argument ≡ self.old.argument }
+    {
+        // no run has more events
+        for _ in 0..self.limits.steps.saturating_mul(2).saturating_add(2) {
+            if self.finished() {
+                return Ok(());
+            }
+            let Some(task) = self.next_ready() else {
+                return Ok(());
+            };
+            let _ = self.step(task)?;
+        }
+        Ok(())
+    }
+
+    /// How the run came out, once it has finished.
+    pub fn outcome(&self) -> Option<&Outcome>
+        ensures { option_copied result ≡ self.now.outcome }
+    {
+        self.run.outcome.as_ref()
+    }
+
+    pub fn finished(&self) -> bool
+        ensures { IsTrue result ↔ IsSome self.now.outcome }
+    {
+        self.run.outcome.is_some()
+    }
+
+    /// The tasks of all events, in their order. The machine is where they lead.
+    pub fn schedule(&self) -> &[u32]
+        ensures schedule { result.now ≡ self.now.schedule }
+        ensures replayed { IsReplayed self.now }
+    {
+        self.run.schedule.as_slice()
+    }
+
+    pub fn code(&self) -> &Code
+        ensures { result.now ≡ self.now.code }
+    {
+        &self.code
+    }
+
+    pub fn limits(&self) -> Limits
+        ensures { result ≡ self.now.limits }
+    {
+        self.limits
+    }
+
+    /// The argument of `main`.
+    pub fn arg(&self) -> i32
+        ensures { result ≡ self.now.argument }
+    {
+        self.argument
+    }
+}

@@ -1,0 +1,224 @@
+ghost use Rattle.std.specs.Prelude.{◌≡◌, ◌≢◌, ◌∷◌, ◌++◌, [], All, None, IfOk, OnOk, OnErr};
+ghost use Rattle.std.specs.FinMap.{get, insert, remove};
+ghost use Rattle.dpj_code.specs.Plain.{plain_code};
+ghost use Rattle.dpj_legs.specs.Halts.{IsFew};
+ghost use Rattle.dpj_legs.specs.declared.action.Ending.{Ending};
+ghost use Rattle.dpj_tasks.specs.Tree.{task_at, out_of};
+ghost use Rattle.dpj_world.specs.World.{Fits, answer_to, world_after};
+ghost use Rattle.dpj_machine.specs.declared.slot.Slot.{Slot};
+ghost use Rattle.dpj_machine.specs.Keeping.{Keeps, CanStep, Recorded, Comes, with_answer};
+ghost use Rattle.dpj_machine.specs.Replay.{Moment, Moves, outcome_after};
+ghost use Rattle.dpj_machine.specs.Running.{OfSlot, IsFirst};
+
+use crate::outcome::{came_to, limited};
+use crate::slot::Slot;
+use crate::slots::Slots;
+use crate::wants::wants_of;
+use dpj_base::{Bytes, Ending as Came, Items, Limits, NoMemory, Outcome, Plain};
+use dpj_code::Code;
+use dpj_legs::{Action, Answer, Start};
+use dpj_world::{Event, Stop, World};
+use std::alloc::Global;
+
+/// What a machine changes.
+#[derive(Drop)]
+pub struct Run {
+    pub world: World,
+    pub slots: Slots,
+    /// The tasks of all events, in their order.
+    pub schedule: Items<u32>,
+    pub outcome: Option<Outcome>,
+}
+
+impl Run {
+    /// Lets a ready task make its next event. After want of memory it may be further on its way to it.
+    pub fn step(
+        &mut self,
+        alloc: Global,
+        code: &Code,
+        limits: Limits,
+        task: u32,
+    ) -> Result<(), NoMemory>
+        requires few { All IsFew code.now.sites }
+        requires can { (m : Moment) × CanStep code.now limits self.old m task }
+        ensures moves { (m : Moment) → CanStep code.now limits self.old m task → OnOk result ((n : Moment) × Moves code.now limits m task n × Keeps (plain_code code.now) self.new n) }
+        ensures noted { OnOk result (self.new.schedule ≡ self.old.schedule ++ task ∷ []) }
+        ensures kept { (m : Moment) → CanStep code.now limits self.old m task → OnErr result (Keeps (plain_code code.now) self.new m) }
+        ensures err { OnErr result (self.new.schedule ≡ self.old.schedule) }
+    {
+        let action = self.slots.advance(alloc, code, task)?;
+        let Some(slot) = self.slots.get(task) else {
+            unreachable!()
+        };
+        let turns = slot.task.turns;
+        match action {
+            Action::Begin { branch } => {
+                let start = slot.task.branch_start(alloc, code, branch)?;
+                self.begin(alloc, code, limits, event(task, turns, action), start)
+            }
+            Action::End(_) => self.end(alloc, code, limits, event(task, turns, action)),
+            Action::Rest => {
+                let wants = wants_of(alloc, code, &slot.task)?;
+                self.go_on(
+                    alloc,
+                    code,
+                    limits,
+                    Event {
+                        task,
+                        turns,
+                        action,
+                        wants,
+                    },
+                )
+            }
+            _ => self.go_on(alloc, code, limits, event(task, turns, action)),
+        }
+    }
+
+    /// Notes an event in the schedule and makes it. It answers None where a limit is met, which finishes the run.
+    fn record(
+        &mut self,
+        alloc: Global,
+        code: &Code,
+        limits: Limits,
+        event: Event,
+    ) -> Result<Option<Answer>, NoMemory>
+        requires { Fits self.old.world event }
+        ensures ok { IfOk result (λ o. Recorded code.now limits self.old event o self.new) }
+        ensures err { OnErr result (self.new ≡ self.old) }
+    {
+        self.schedule.push(event.task)?;
+        match self.world.perform(alloc, code, event) {
+            Ok(answer) => Ok(Some(answer)),
+            Err(Stop::Limited) => {
+                self.outcome = Some(limited(alloc, limits));
+                Ok(None)
+            }
+            Err(Stop::NoMemory) => {
+                let _ = self.schedule.pop();
+                Err(NoMemory)
+            }
+        }
+    }
+
+    /// An event after which its task goes on.
+    fn go_on(
+        &mut self,
+        alloc: Global,
+        code: &Code,
+        limits: Limits,
+        event: Event,
+    ) -> Result<(), NoMemory>
+        requires fits { Fits self.old.world event }
+        requires there { OfSlot (get self.old.slots event.task) (λ slot. Unit {0}) }
+        ensures ok { OnOk result (OfSlot (get self.old.slots event.task) (λ slot. Comes code.now limits self.old event (with_answer self.old.slots event.task slot (answer_to self.old.world event)) self.old.outcome self.new)) }
+        ensures err { OnErr result (self.new ≡ self.old) }
+    {
+        let task = event.task;
+        if let Some(answer) = self.record(alloc, code, limits, event)? {
+            self.slots.settle(task, answer);
+        }
+        Ok(())
+    }
+
+    /// The begin of a branch, which starts so.
+    fn begin(
+        &mut self,
+        alloc: Global,
+        code: &Code,
+        limits: Limits,
+        event: Event,
+        start: Start,
+    ) -> Result<(), NoMemory>
+        requires fits { Fits self.old.world event }
+        requires there { OfSlot (get self.old.slots event.task) (λ slot. Unit {0}) }
+        requires apart { event.task ≢ self.old.world.tree.begun }
+        requires next { get self.old.slots self.old.world.tree.begun ≡ None }
+        ensures ok { OnOk result (OfSlot (get self.old.slots event.task) (λ slot. (child : Slot) × IsFirst self.old.world.tree.begun start child × Comes code.now limits self.old event (with_answer (insert self.old.slots self.old.world.tree.begun child) event.task slot (answer_to self.old.world event)) self.old.outcome self.new)) }
+        ensures err { OnErr result (self.new ≡ self.old) }
+    {
+        let number = self.world.tree.begun();
+        let task = event.task;
+        self.slots
+            .insert(number, Slot::start(alloc, number, start))?;
+        match self.record(alloc, code, limits, event) {
+            Ok(Some(answer)) => {
+                self.slots.settle(task, answer);
+                Ok(())
+            }
+            Ok(None) => {
+                self.slots.remove(number);
+                Ok(())
+            }
+            Err(stop) => {
+                self.slots.remove(number);
+                Err(stop)
+            }
+        }
+    }
+
+    /// The end of a task, and of the run where it is the root.
+    fn end(
+        &mut self,
+        alloc: Global,
+        code: &Code,
+        limits: Limits,
+        event: Event,
+    ) -> Result<(), NoMemory>
+        requires fits { Fits self.old.world event }
+        requires ends { (x : Ending) × (event.action ≡ Action.End x) }
+        requires unfinished { self.old.outcome ≡ None }
+        ensures ok { OnOk result (Comes code.now limits self.old event (remove self.old.slots event.task) (outcome_after self.old.world (world_after code.now self.old.world event) event.task event.action) self.new) }
+        ensures err { OnErr result (self.new ≡ self.old) }
+    {
+        let task = event.task;
+        let came = match &event.action {
+            Action::End(ending) => came_to(ending),
+            _ => unreachable!(),
+        };
+        // only the root's output is that of the run
+        let out = if task == 0 {
+            self.output(alloc)?
+        } else {
+            Bytes::new(alloc)
+        };
+        if self.record(alloc, code, limits, event)?.is_some() {
+            self.slots.remove(task);
+            if task == 0 {
+                self.finish(came, out);
+            }
+        }
+        Ok(())
+    }
+
+    /// What the root has printed.
+    fn output(&self, alloc: Global) -> Result<Bytes, NoMemory>
+        ensures { IfOk result (λ out. out ≡ out_of (task_at self.now.world.tree 0)) }
+    {
+        match self.world.tree.get(0) {
+            Some(root) => root.out.copy(alloc),
+            None => Ok(Bytes::new(alloc)),
+        }
+    }
+
+    fn finish(&mut self, came: Came, out: Bytes) {
+        self.outcome = Some(Outcome {
+            ending: came,
+            out,
+            steps: self.world.steps,
+            cells: self.world.heap.cells(),
+        });
+    }
+}
+
+/// An event of a task that doesn't rest.
+fn event(task: u32, turns: u32, action: Action) -> Event
+    ensures { result ≡ record { task = task; turns = turns; action = action; wants = None } }
+{
+    Event {
+        task,
+        turns,
+        action,
+        wants: None,
+    }
+}

@@ -1,0 +1,60 @@
+ghost use Rattle.std.specs.Prelude.{◌≡◌, ℕ, All, None, IfOk, OnOk, IfSome};
+ghost use Rattle.dpj_code.specs.Plain.{plain_code};
+ghost use Rattle.dpj_legs.specs.Answers.{IsCounted};
+ghost use Rattle.dpj_legs.specs.Halts.{Halts, Tells, IsFew, front_of};
+ghost use Rattle.dpj_machine.specs.Running.{Running, Goes, StandsFor, IsFirst};
+
+use crate::answers::copied;
+use dpj_base::NoMemory;
+use dpj_code::Code;
+use dpj_legs::{Action, Answer, Start, Task};
+use std::alloc::Global;
+
+/// A task that has begun and not ended.
+#[derive(Drop)]
+pub struct Slot {
+    pub task: Task,
+    /// The answer to its last event, which it hasn't been given yet.
+    pub pending: Option<Answer>,
+}
+
+impl Slot {
+    /// A task of this number, at the start.
+    pub fn start(alloc: Global, number: u32, start: Start) -> Slot
+        ensures { IsFirst number start result }
+    {
+        Slot {
+            task: Task::start(alloc, number, start),
+            pending: None,
+        }
+    }
+
+    /// Gives the task the answer to its last event. After want of memory it is still to be given.
+    fn deliver(&mut self, alloc: Global, code: &Code) -> Result<(), NoMemory>
+        requires few { All IsFew code.now.sites }
+        requires counted { IfSome self.old.pending IsCounted }
+        ensures given { OnOk result (self.new.pending ≡ None) }
+        ensures stands { (k : ℕ) (t : Running) → Goes (plain_code code.now) k t → StandsFor (plain_code code.now) k self.old t → StandsFor (plain_code code.now) k self.new t }
+    {
+        let Some(answer) = &self.pending else {
+            return Ok(());
+        };
+        let copy = copied(alloc, answer)?;
+        self.task.answer(alloc, code, copy)?;
+        self.pending = None;
+        Ok(())
+    }
+
+    /// Takes the task to its next action. After want of memory it is on its way there.
+    pub fn advance(&mut self, alloc: Global, code: &Code) -> Result<Action, NoMemory>
+        requires few { All IsFew code.now.sites }
+        requires stands { (k : ℕ) × (t : Running) × Goes (plain_code code.now) k t × StandsFor (plain_code code.now) k self.old t }
+        ensures stands { (k : ℕ) (t : Running) → Goes (plain_code code.now) k t → StandsFor (plain_code code.now) k self.old t → StandsFor (plain_code code.now) k self.new t }
+        ensures given { OnOk result (self.new.pending ≡ None) }
+        ensures halts { OnOk result (Halts (plain_code code.now) self.new.task (front_of (plain_code code.now) self.new.task)) }
+        ensures tells { IfOk result (λ action. Tells (plain_code code.now) action (front_of (plain_code code.now) self.new.task)) }
+    {
+        self.deliver(alloc, code)?;
+        self.task.leg(alloc, code)
+    }
+}

@@ -1,0 +1,44 @@
+ghost use Rattle.std.specs.Prelude.{◌≡◌, ◌≤◌, [], IfOk};
+ghost use Rattle.dpj_code.specs.Plain.{plain_code};
+ghost use Rattle.dpj_machine.specs.Keeping.{Keeps};
+ghost use Rattle.dpj_machine.specs.Replay.{Moment, Opens};
+ghost use Rattle.dpj_machine.specs.Running.{AllGo};
+
+use crate::outcome::limited;
+use crate::run::Run;
+use crate::slot::Slot;
+use crate::slots::Slots;
+use dpj_base::{Items, Limits, NoMemory};
+use dpj_code::Code;
+use dpj_heap::HeapStop;
+use dpj_legs::main_start;
+use dpj_world::{World, first_fields};
+use std::alloc::Global;
+
+/// The run at its start: the object of `main` is made, and the root has begun. Where there aren't cells for the object the run
+/// is finished.
+pub fn start(alloc: Global, code: &Code, limits: Limits, argument: i32) -> Result<Run, NoMemory>
+    requires { limits.cells ≤ 16777216 }
+    ensures opens { IfOk result (λ run. (m : Moment) × Opens code.now limits argument m × (AllGo (plain_code code.now) m.tasks → Keeps (plain_code code.now) run m)) }
+    ensures nothing { IfOk result (λ run. run.schedule ≡ []) }
+{
+    let mut world = World::open(alloc, limits)?;
+    let class = code.main_class;
+    let made = world
+        .heap
+        .new_object(class, first_fields(code, class), Items::new(alloc));
+    let outcome = match made {
+        Ok(_) => None,
+        Err(HeapStop::Full) => Some(limited(alloc, limits)),
+        Err(HeapStop::NoMemory) => return Err(NoMemory),
+    };
+    let mut slots = Slots::new(alloc);
+    let root = main_start(alloc, code, 0, argument)?;
+    slots.insert(0, Slot::start(alloc, 0, root))?;
+    Ok(Run {
+        world,
+        slots,
+        schedule: Items::new(alloc),
+        outcome,
+    })
+}
