@@ -42,6 +42,16 @@ fn copied<T: Copy + Drop>(alloc: Global, items: &[T]) -> Result<Items<T>, NoMemo
 }
 
 impl Task {
+    /// How many branches a task has that stands in front of their join: none, where it stands elsewhere.
+    pub fn branches(&self, code: &Code) -> usize
+        ensures { result ≡ length (starts_at (plain_code code.now) (state_of self.now)) }
+    {
+        match self.standing {
+            Standing::At => self.level.branches(code),
+            Standing::Rested | Standing::Ended(_) | Standing::Nowhere => 0,
+        }
+    }
+
     /// How a branch starts of a task that stands in front of its join.
     pub fn branch_start(&self, alloc: Global, code: &Code, branch: usize) -> Result<Start, NoMemory>
         requires { branch < length (starts_at (plain_code code.now) (state_of self.now)) }
@@ -55,7 +65,42 @@ impl Task {
 }
 
 impl Level {
-    /// The same, where the task stands at an instruction.
+    /// How many branches the task has, where it stands at an instruction.
+    fn branches(&self, code: &Code) -> usize
+        ensures { result ≡ length (starts_of (site_at (plain_code code.now) (site_of (line_before (body_at (plain_code code.now) self.now.body).lines self.now.at))) (plain_level self.now)) }
+    {
+        let Some(site) = site_before(code, self.body, self.at) else {
+            return 0;
+        };
+        let Some(site) = code.sites.get(site) else {
+            return 0;
+        };
+        self.branches_of(site)
+    }
+
+    /// The same, by the site.
+    fn branches_of(&self, site: &Site) -> usize
+        ensures { result ≡ length (starts_of (Some (plain_site site.now)) (plain_level self.now)) }
+    {
+        match site {
+            Site::Fork { bodies, .. } => bodies.len(),
+            Site::Spread { body, slot, .. } => self.spread_branches(*body, *slot),
+            Site::Block { .. } | Site::Call { .. } | Site::New { .. } | Site::Array { .. } => 0,
+        }
+    }
+
+    /// How many branches there are, one for each number.
+    fn spread_branches(&self, body: usize, slot: usize) -> usize
+        ensures { result ≡ length (spread_starts body slot (plain_level self.now).frame (plain_level self.now).stack) }
+    {
+        let _ = (body, slot);
+        match self.stack.top_three() {
+            Some((total, next, left)) => how_many(number(total)),
+            None => 0,
+        }
+    }
+
+    /// How a branch starts, where the task stands at an instruction.
     fn start_at(&self, alloc: Global, code: &Code, branch: usize) -> Result<Start, NoMemory>
         requires { branch < length (starts_of (site_at (plain_code code.now) (site_of (line_before (body_at (plain_code code.now) self.now.body).lines self.now.at))) (plain_level self.now)) }
         ensures { IfOk result (λ start. slice_get (starts_of (site_at (plain_code code.now) (site_of (line_before (body_at (plain_code code.now) self.now.body).lines self.now.at))) (plain_level self.now)) branch ≡ Some (plain_start start)) }

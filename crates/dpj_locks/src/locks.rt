@@ -1,4 +1,4 @@
-ghost use Rattle.std.specs.Prelude.{◌≡◌, IfOk, OnOk, OnErr, MatchOption, IsTrue, false};
+ghost use Rattle.std.specs.Prelude.{◌≡◌, ◌↔◌, IfOk, OnOk, OnErr, MatchOption, IsTrue, false};
 ghost use Rattle.std.specs.Option.{option_copied};
 ghost use Rattle.std.specs.FinMap.{get};
 ghost use Rattle.dpj_locks.specs.Locks.{opener_of, effects_of};
@@ -77,6 +77,13 @@ impl Locks {
         ensures { result ≡ is_inside self.now task }
     {
         self.standings.get(task).is_some()
+    }
+
+    /// Whether a task has an entry open. It takes no memory.
+    pub fn has_entry(&self, task: u32) -> bool
+        ensures { IsTrue result ↔ HasEntry (get self.now task) }
+    {
+        self.standings.has_entry(task)
     }
 
     /// Enters a block. Where the task stands inside a block already that is a further entry of it, and what it wants

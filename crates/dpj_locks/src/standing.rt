@@ -1,4 +1,4 @@
-ghost use Rattle.std.specs.Prelude.{◌≡◌, true, false};
+ghost use Rattle.std.specs.Prelude.{◌≡◌, ◌↔◌, IsTrue, Some, true, false};
 
 use dpj_base::{Effect, Items};
 
@@ -12,7 +12,17 @@ pub enum Standing {
 }
 
 impl Standing {
-    ghost use Rattle.dpj_locks.specs.Locks.{deepened, is_inner, shallower};
+    ghost use Rattle.dpj_locks.specs.Locks.{HasEntry, deepened, is_inner, shallower};
+
+    /// Whether it has an entry open.
+    pub fn has_entry(&self) -> bool
+        ensures { IsTrue result ↔ HasEntry (Some self.now) }
+    {
+        match self {
+            Standing::Opener { .. } => true,
+            Standing::Adopted { depth, .. } => *depth > 0,
+        }
+    }
 
     /// Opens an entry more.
     pub fn deepen(&mut self)

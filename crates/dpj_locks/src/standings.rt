@@ -1,4 +1,4 @@
-ghost use Rattle.std.specs.Prelude.{◌≡◌, OnOk, OnErr, true, false};
+ghost use Rattle.std.specs.Prelude.{◌≡◌, ◌↔◌, IsTrue, OnOk, OnErr, true, false};
 ghost use Rattle.std.specs.Option.{option_copied};
 ghost use Rattle.std.specs.FinMap.{empty, get, insert, remove};
 ghost use Rattle.dpj_locks.specs.Locks.{is_inside, deepened_from, exited, HasEntry};
@@ -41,6 +41,16 @@ impl StandingMap {
         ensures { option_copied result ≡ get self.now task }
     {
         self.map.get(&task)
+    }
+
+    /// Whether a task has an entry open.
+    pub fn has_entry(&self, task: u32) -> bool
+        ensures { IsTrue result ↔ HasEntry (get self.now task) }
+    {
+        match self.get(task) {
+            None => false,
+            Some(standing) => standing.has_entry(),
+        }
     }
 
     pub fn insert(&mut self, task: u32, standing: Standing) -> Result<(), NoMemory>

@@ -13,9 +13,13 @@ use Rattle.dpj_world.specs.declared.event.Event.{Event}
 use Rattle.dpj_machine.specs.Running.{Running, Goes}
 use Rattle.dpj_machine.specs.Replay.{Moment, Standing, NextOf, LeadsTo}
 
--- where a task stands that begins a branch, there is a start of that branch
+-- FOUNDER'S NOTE (remove it once done): take this form of HasStart; don't try to prove it, test it at run time in the Begin arm
+-- (`start.body < code.bodies.len()`, and whether there is a start at all) and answer Stuck where it fails. Move it to Replay.antt and
+-- let `Moves.made` and `Moves.over` also ask `Fits m.world e` and `HasStart C x.stands.state e.action`: each event of a replay could be
+-- made. The law that compiled code goes on (mine, being written over your specs) needs exactly this. GoesOn keeps next, live, legs.
+-- where a task stands that begins a branch, there is a start of that branch, in a body of the code
 abbrev pub HasStart : PlainCode → State ℕ (ℕ × ℕ) → Action → Type 0
-HasStart C z (action.Begin b) = b < length (starts_at C z)
+HasStart C z (action.Begin b) = (s : Start ℕ (ℕ × ℕ)) × (slice_get (starts_at C z) b ≡ Some s) × (s.body < length C.bodies)
 HasStart C z a = Unit {0}
 
 -- at this moment the ready tasks are there, each task goes on, and what a ready task does next can be done

@@ -1,11 +1,11 @@
 -- Ends put into a scope, and how many of its branches run.
-use Rattle.std.proofs.Common.{◌≡◌, ℕ, zero, suc, ◌+◌, ◌<◌, ◌≤◌, List, [], ◌∷◌, length, get_or, refl, sym, ap, ◌∙◌, Option, Some, None, true, false, is_some, arith, ◌++◌, ◌≢◌, ◌||◌, inl, inr}
+use Rattle.std.proofs.Common.{◌≡◌, ℕ, zero, suc, ◌+◌, ◌<◌, ◌≤◌, List, [], ◌∷◌, length, get_or, refl, sym, ap, ◌∙◌, Option, Some, None, true, false, is_some, arith, ◌++◌, ◌≢◌, ◌||◌, ◌&&◌, not, inl, inr}
 use Rattle.std.proofs.lemmas.Bool.{le-ltb}
 use Rattle.std.proofs.lemmas.Bool.Decides.{eqb_tells}
 use Rattle.std.proofs.Math.Dec.{eqb}
 use Rattle.std.proofs.Math.ListN.{set}
 use Rattle.std.specs.List.{list_all}
-use Rattle.dpj_tasks.specs.Scope.{put_end, running_in, can_go_on}
+use Rattle.dpj_tasks.specs.Scope.{put_end, running_in, can_go_on, all_begun, all_ended}
 use Rattle.dpj_tasks.specs.declared.end.TaskEnd.{TaskEnd}
 
 pub put_running : (ends : List (Option TaskEnd)) (b : ℕ) (how : TaskEnd) (x : Option TaskEnd) → b < length ends → x ≡ get_or ends b x → is_some x ≡ false
@@ -70,3 +70,8 @@ none_left left ends is =
 pub goes_on : (count left : ℕ) (ends : List (Option TaskEnd)) → left ≡ running_in ends → count ≤ length ends
     → eqb left 0 ≡ can_go_on (record { count = count; ends = ends })
 goes_on count left ends is begun = none_left left ends is ∙ sym (ap (λ b. b || list_all is_some ends) (le-ltb (length ends) count begun))
+
+-- and can be joined where none of them runs
+pub joins : (count left : ℕ) (ends : List (Option TaskEnd)) → left ≡ running_in ends → count ≤ length ends
+    → eqb left 0 ≡ (all_begun (record { count = count; ends = ends }) && all_ended (record { count = count; ends = ends }))
+joins count left ends is begun = none_left left ends is ∙ sym (ap (λ b. not b && list_all is_some ends) (le-ltb (length ends) count begun))

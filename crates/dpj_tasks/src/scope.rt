@@ -1,6 +1,6 @@
-ghost use Rattle.std.specs.Prelude.{◌≡◌, ◌<◌, ◌≤◌, ◌++◌, length, IfOk, OnOk, OnErr};
+ghost use Rattle.std.specs.Prelude.{◌≡◌, ◌↔◌, ◌<◌, ◌≤◌, ◌++◌, ◌&&◌, length, IsTrue, IfOk, OnOk, OnErr};
 ghost use Rattle.dpj_tasks.specs.Join.{JoinsTo, joined_out, first_trap, all_slots};
-ghost use Rattle.dpj_tasks.specs.Scope.{no_branch_yet, with_branch, with_end, can_go_on};
+ghost use Rattle.dpj_tasks.specs.Scope.{no_branch_yet, with_branch, with_end, can_go_on, all_begun, all_ended};
 
 use crate::end::{Joined, TaskEnd};
 use dpj_base::{Bytes, Items, NoMemory, Place, Trap};
@@ -75,6 +75,20 @@ impl Scope {
         ensures { result ≡ can_go_on self.now }
     {
         self.ends.len() < self.count as usize || self.left == 0
+    }
+
+    /// Whether a branch hasn't begun.
+    pub fn can_begin(&self) -> bool
+        ensures { IsTrue result ↔ (length self.now.ends < self.now.count) }
+    {
+        self.ends.len() < self.count as usize
+    }
+
+    /// Whether all branches have begun and ended.
+    pub fn can_join(&self) -> bool
+        ensures { result ≡ (all_begun self.now && all_ended self.now) }
+    {
+        self.ends.len() >= self.count as usize && self.left == 0
     }
 
     /// What the branches came to.

@@ -1,4 +1,4 @@
-ghost use Rattle.std.specs.Prelude.{◌≡◌, ◌<◌, length, IsTrue, IfOk, OnOk, OnErr};
+ghost use Rattle.std.specs.Prelude.{◌≡◌, ◌↔◌, ◌<◌, length, IsTrue, IfOk, OnOk, OnErr};
 
 use crate::end::{Joined, TaskEnd};
 use crate::scope::{Scope, joined};
@@ -36,7 +36,7 @@ pub struct Task {
 
 impl State {
     ghost use Rattle.dpj_tasks.specs.Join.{JoinsTo, joined_out};
-    ghost use Rattle.dpj_tasks.specs.Scope.{with_branch, with_end};
+    ghost use Rattle.dpj_tasks.specs.Scope.{with_branch, with_end, all_begun, all_ended};
     ghost use Rattle.dpj_tasks.specs.Tree.{OfScope, in_scope, state_ready, branches_begun, scope_ends};
 
     /// Whether there is no open scope, or a branch of it can begin, or it can be joined.
@@ -46,6 +46,33 @@ impl State {
         match self {
             State::Running => true,
             State::Forked(scope) => scope.can_go_on(),
+        }
+    }
+
+    /// Whether there is no open scope.
+    pub fn runs(&self) -> bool
+        ensures { IsTrue result ↔ (self.now ≡ State.Running) }
+    {
+        matches!(self, State::Running)
+    }
+
+    /// Whether a branch of the open scope hasn't begun.
+    pub fn can_begin(&self) -> bool
+        ensures { IsTrue result ↔ OfScope self.now (λ scope. length scope.ends < scope.count) }
+    {
+        match self {
+            State::Running => false,
+            State::Forked(scope) => scope.can_begin(),
+        }
+    }
+
+    /// Whether a scope is open whose branches have all begun and ended.
+    pub fn can_join(&self) -> bool
+        ensures { IsTrue result ↔ OfScope self.now (λ scope. IsTrue (all_begun scope) × IsTrue (all_ended scope)) }
+    {
+        match self {
+            State::Running => false,
+            State::Forked(scope) => scope.can_join(),
         }
     }
 

@@ -1,4 +1,4 @@
-ghost use Rattle.std.specs.Prelude.{◌≡◌, ◌<◌, ◌≤◌, IfOk, OnOk, OnErr, MatchOption, None, ℕ};
+ghost use Rattle.std.specs.Prelude.{◌≡◌, ◌↔◌, ◌<◌, ◌≤◌, IsTrue, IfOk, OnOk, OnErr, MatchOption, None, ℕ};
 ghost use Rattle.std.specs.Option.{option_copied};
 ghost use Rattle.dpj_tasks.specs.Tree.{fresh, next_origin};
 
@@ -91,6 +91,36 @@ impl TaskTree {
         ensures { MatchOption result (NoneReady self.now.tasks bound) (IsGreatestReady self.now.tasks bound) }
     {
         self.tasks.ready_below(bound)
+    }
+
+    /// Whether a task has begun and not ended, and has no open scope.
+    pub fn runs(&self, task: u32) -> bool
+        ensures { IsTrue result ↔ Runs self.now.tasks task }
+    {
+        match self.tasks.get(task) {
+            None => false,
+            Some(found) => found.state.runs(),
+        }
+    }
+
+    /// Whether a branch of the open scope of a task hasn't begun.
+    pub fn can_begin(&self, task: u32) -> bool
+        ensures { IsTrue result ↔ CanBegin self.now.tasks task }
+    {
+        match self.tasks.get(task) {
+            None => false,
+            Some(found) => found.state.can_begin(),
+        }
+    }
+
+    /// Whether a task can join its open scope.
+    pub fn can_join(&self, task: u32) -> bool
+        ensures { IsTrue result ↔ CanJoin self.now.tasks task }
+    {
+        match self.tasks.get(task) {
+            None => false,
+            Some(found) => found.state.can_join(),
+        }
     }
 
     /// Opens a scope of so many branches, of which none has begun. It takes no memory.

@@ -7,6 +7,9 @@
 //! block, and the end of a task leaves all its entries. A task that rests in front of an entry says with which effects it is
 //! to enter, and it is ready where no block of another task hinders it.
 //!
+//! Whether a task may make an event in this world, `fits` tells: objects are there, forks and joins come in turn, and so do
+//! entries and exits. It takes at most the logarithm of the live tasks, and the effects of an entry.
+//!
 //! An event takes the time of the store that it touches, and besides that only what it copies: the regions of an object that
 //! is looked at, the effects of an entry, the bytes of a line, and what a join puts together. `next_ready` takes the logarithm
 //! of the live tasks, and the tasks that it passes over: those in front of their joins, and those that are hindered.
@@ -15,6 +18,7 @@
 mod acts;
 mod cost;
 mod event;
+mod fits;
 mod ready;
 mod seen;
 mod stop;

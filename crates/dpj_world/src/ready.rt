@@ -7,7 +7,7 @@ use dpj_base::Effect;
 use dpj_locks::Locks;
 
 /// Whether a task may enter with these effects: inside a block always, and else where no block of another task hinders it.
-fn may_enter(locks: &Locks, task: u32, effects: &[Effect]) -> bool
+pub fn may_enter(locks: &Locks, task: u32, effects: &[Effect]) -> bool
     requires { AllRoot effects.now }
     ensures yes { IsTrue result → MayEnter locks.now task effects.now }
     ensures no { result ≡ false → MayEnter locks.now task effects.now → ⊥ }
