@@ -41,6 +41,7 @@ mod way;
 
 pub use action::{Action, Answer, Ending, SlotValue};
 pub use frame::Frame;
+pub use lines::line;
 pub use regions::{concrete, concrete_effect};
 pub use stack::Stack;
 pub use starts::main_start;

@@ -22,27 +22,29 @@ use Rattle.dpj_tasks.specs.Tree.{ends_in, task_at}
 use Rattle.dpj_world.specs.World.{got, read_at, has_index, wrote_at, seen, fell_or, answer_at, FitsAt}
 use Rattle.dpj_world.specs.declared.world.World.{World}
 use Rattle.dpj_machine.specs.Running.{Running, answered}
-use Rattle.dpj_machine.specs.Replay.{goes_on, with_branch, outcome_after}
+use Rattle.dpj_machine.specs.Replay.{goes_on, with_branch, outcome_after, HasStart, WantsRightly}
 
 -- an action that neither begins a branch nor ends its task
 pub record IsOrdinary (a : Action) : Type 0 where
   pub branch : (C : PlainCode) (z : State ℕ (ℕ × ℕ)) (n : ℕ) (tasks : ℕ → Option Running) → with_branch C z a n tasks ≡ tasks
   pub on : (h : Halt ℕ (ℕ × ℕ)) (x : Answer) → goes_on a h x ≡ answered h x
   pub out : (v w : World) (k : ℕ) → outcome_after v w k a ≡ None
+  pub start : (C : PlainCode) (z : State ℕ (ℕ × ℕ)) → HasStart C z a
+  pub no_end : (e : Ending) → a ≡ action.End e → ⊥
 
 pub ordinary : (a : Action) → ((b : ℕ) → a ≡ action.Begin b → ⊥) → ((e : Ending) → a ≡ action.End e → ⊥) → IsOrdinary a
-ordinary action.Rest b e = record { branch = λ C z n tasks. refl; on = λ h x. refl; out = λ v w k. refl }
-ordinary (action.Read n j) b e = record { branch = λ C z n tasks. refl; on = λ h x. refl; out = λ v w k. refl }
-ordinary (action.Write n j v) b e = record { branch = λ C z n tasks. refl; on = λ h x. refl; out = λ v w k. refl }
-ordinary (action.Look n) b e = record { branch = λ C z n tasks. refl; on = λ h x. refl; out = λ v w k. refl }
-ordinary (action.NewObject c rs constructor) b e = record { branch = λ C z n tasks. refl; on = λ h x. refl; out = λ v w k. refl }
-ordinary (action.NewArray region len first) b e = record { branch = λ C z n tasks. refl; on = λ h x. refl; out = λ v w k. refl }
-ordinary (action.Print bytes) b e = record { branch = λ C z n tasks. refl; on = λ h x. refl; out = λ v w k. refl }
-ordinary (action.Enter effects) b e = record { branch = λ C z n tasks. refl; on = λ h x. refl; out = λ v w k. refl }
-ordinary action.Exit b e = record { branch = λ C z n tasks. refl; on = λ h x. refl; out = λ v w k. refl }
-ordinary (action.Fork forking many) b e = record { branch = λ C z n tasks. refl; on = λ h x. refl; out = λ v w k. refl }
+ordinary action.Rest b e = record { branch = λ C z n tasks. refl; on = λ h x. refl; out = λ v w k. refl; start = λ C z. tt; no_end = e }
+ordinary (action.Read n j) b e = record { branch = λ C z n tasks. refl; on = λ h x. refl; out = λ v w k. refl; start = λ C z. tt; no_end = e }
+ordinary (action.Write n j v) b e = record { branch = λ C z n tasks. refl; on = λ h x. refl; out = λ v w k. refl; start = λ C z. tt; no_end = e }
+ordinary (action.Look n) b e = record { branch = λ C z n tasks. refl; on = λ h x. refl; out = λ v w k. refl; start = λ C z. tt; no_end = e }
+ordinary (action.NewObject c rs constructor) b e = record { branch = λ C z n tasks. refl; on = λ h x. refl; out = λ v w k. refl; start = λ C z. tt; no_end = e }
+ordinary (action.NewArray region len first) b e = record { branch = λ C z n tasks. refl; on = λ h x. refl; out = λ v w k. refl; start = λ C z. tt; no_end = e }
+ordinary (action.Print bytes) b e = record { branch = λ C z n tasks. refl; on = λ h x. refl; out = λ v w k. refl; start = λ C z. tt; no_end = e }
+ordinary (action.Enter effects) b e = record { branch = λ C z n tasks. refl; on = λ h x. refl; out = λ v w k. refl; start = λ C z. tt; no_end = e }
+ordinary action.Exit b e = record { branch = λ C z n tasks. refl; on = λ h x. refl; out = λ v w k. refl; start = λ C z. tt; no_end = e }
+ordinary (action.Fork forking many) b e = record { branch = λ C z n tasks. refl; on = λ h x. refl; out = λ v w k. refl; start = λ C z. tt; no_end = e }
 ordinary (action.Begin n) b e = absurd (b n refl)
-ordinary action.Join b e = record { branch = λ C z n tasks. refl; on = λ h x. refl; out = λ v w k. refl }
+ordinary action.Join b e = record { branch = λ C z n tasks. refl; on = λ h x. refl; out = λ v w k. refl; start = λ C z. tt; no_end = e }
 ordinary (action.End x) b e = absurd (e x refl)
 
 -- a task that makes an action which isn't its end stands where it is answered
@@ -56,7 +58,7 @@ not_finished C (action.NewArray region len first) turns x n t = cc
 not_finished C (action.Print bytes) turns x n t = cc
 not_finished C (action.Enter effects) turns x n t = cc
 not_finished C action.Exit turns x n t = cc
-not_finished C (action.Fork forking many) turns x n t = let e = t.1.0 in cc
+not_finished C (action.Fork forking many) turns x n t = let e = t.1 in cc
 not_finished C (action.Begin b) turns x n t = cc
 not_finished C action.Join turns x n t = cc
 not_finished C (action.End e) turns x n t = n e refl
@@ -102,3 +104,19 @@ counted w k wants (action.Fork forking many) f = tt
 counted w k wants (action.Begin b) f = tt
 counted w k wants action.Join f = counted_join (first_trap (ends_in (task_at w.tree k))) (all_slots (ends_in (task_at w.tree k)))
 counted w k wants (action.End e) f = tt
+
+-- of a task that doesn't rest nothing is asked that it wants
+pub wants_nothing : (C : PlainCode) (z : State ℕ (ℕ × ℕ)) (a : Action) (wants : Option (List Effect)) → (a ≡ action.Rest → ⊥) → WantsRightly C z a wants
+wants_nothing C z action.Rest wants n = absurd (n refl)
+wants_nothing C z (action.Read m j) wants n = tt
+wants_nothing C z (action.Write m j v) wants n = tt
+wants_nothing C z (action.Look m) wants n = tt
+wants_nothing C z (action.NewObject c rs constructor) wants n = tt
+wants_nothing C z (action.NewArray region len first) wants n = tt
+wants_nothing C z (action.Print bytes) wants n = tt
+wants_nothing C z (action.Enter effects) wants n = tt
+wants_nothing C z action.Exit wants n = tt
+wants_nothing C z (action.Fork forking many) wants n = tt
+wants_nothing C z (action.Begin b) wants n = tt
+wants_nothing C z action.Join wants n = tt
+wants_nothing C z (action.End e) wants n = tt

@@ -7,7 +7,7 @@ use Rattle.dpj_code.specs.Machine.{State}
 use Rattle.dpj_code.specs.Plain.{PlainCode}
 use Rattle.dpj_legs.specs.Halts.{leg_from, Halts, OnTheWay, front_of, Follows, Ends, Paced}
 use Rattle.dpj_legs.specs.Names.{names_of}
-use Rattle.dpj_legs.specs.Tasks.{state_of}
+use Rattle.dpj_legs.specs.Tasks.{state_of, plain_answer}
 use Rattle.dpj_legs.specs.declared.action.Answer.{Answer}
 use Rattle.dpj_legs.specs.declared.task.Task.{Task}
 use Rattle.dpj_machine.specs.Running.{Running, Goes, OnItsWay, IsAnswered, answered}
@@ -53,8 +53,9 @@ delivered C k old new x t a f n = by_case (front_of C old) a.goes_on f
 
     by_case : (h : Halt ℕ (ℕ × ℕ)) → answered h x ≡ Some t → Follows h x new → Begins k new t
     by_case (Asks turns made act on) e f =
-        let is = same _ t e in
-        record { number = n ∙ a.number; turns = f.1.0; made = f.1.1 ∙ ap (λ r. r.made) is; state = f.0 ∙ ap (λ r. r.state) is }
+        let r : Running = record { state = on (plain_answer x); made = made } in
+        let is : r ≡ t = same r t e in
+        record { number = n ∙ a.number; turns = f.1; made = f.2 ∙ ap (λ r. r.made) is; state = f.0 ∙ ap (λ r. r.state) is }
     by_case (Finished turns end) e f = absurd (cc)
     by_case Dead e f = absurd (cc)
 

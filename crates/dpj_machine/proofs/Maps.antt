@@ -8,6 +8,8 @@ use Rattle.std.specs.BTreeMap as tree
 use Rattle.std.specs.BTreeMap.{is_at, Updates, WritesThrough}
 use Rattle.std.specs.declared.collections.BTreeMap.{BTreeMap}
 use Rattle.std.specs.declared.alloc.Global.{Global}
+use Rattle.dpj_machine.specs.declared.slot.Slot.{Slot}
+use Rattle.dpj_machine.specs.Running.{OfSlot}
 
 symmetric : (k q : ℕ) → eq_by_cmp nat_cmp k q ≡ eq_by_cmp nat_cmp q k
 symmetric k q = (eq_by_cmp_equiv nat_cmp_total).symm k q
@@ -40,3 +42,19 @@ module _ {A : Type 0} where
   pub written : (m : BTreeMap ℕ A Global) (lender : A → BTreeMap ℕ A Global) (k : ℕ) (w t : A) → Some t ≡ tree.get nat_cmp m k
       → ((x : A) → WritesThrough nat_cmp (nat_cmp k) m x (lender x)) → seen (lender w) ≡ insert (seen m) k w
   written m lender k w t at through = seen_put m (lender w) k w ((through w).3 (subst IsSome at refl))
+
+pub got : (m : FinMap nat_cmp Slot) (k : ℕ) (w : Slot) → get (insert m k w) k ≡ Some w
+got m k w = get-insert nat_cmp_total m k w k ∙ ap (λ b. cond b (Some w) (get m k)) ((Equal-is (nat_cmp k k)).1 (tied_itself nat_cmp_total k))
+
+-- a slot that the map has, or hasn't
+pub of_found : (m : BTreeMap ℕ Slot Global) (k : ℕ) (t : Slot) (slots : FinMap nat_cmp Slot) (P : Slot → Type 0) → Some t ≡ tree.get nat_cmp m k
+    → seen m ≡ slots → OfSlot (get slots k) P → P t
+of_found m k t slots P at is holds = subst (λ o. OfSlot o P) (ap (λ (ts : FinMap nat_cmp Slot). get ts k) (sym is) ∙ get_seen m k ∙ sym at) holds
+
+pub of_none : (m : BTreeMap ℕ Slot Global) (k : ℕ) (slots : FinMap nat_cmp Slot) (P : Slot → Type 0) → None ≡ tree.get nat_cmp m k → seen m ≡ slots
+    → OfSlot (get slots k) P → ⊥
+of_none m k slots P at is holds = subst (λ o. OfSlot o P) (ap (λ (ts : FinMap nat_cmp Slot). get ts k) (sym is) ∙ get_seen m k ∙ sym at) holds
+
+pub put_there : (m : BTreeMap ℕ Slot Global) (k : ℕ) (t : Slot) (slots : FinMap nat_cmp Slot) (P : Slot → Type 0) → Some t ≡ tree.get nat_cmp m k
+    → seen m ≡ slots → P t → OfSlot (get slots k) P
+put_there m k t slots P at is holds = subst (λ o. OfSlot o P) (at ∙ sym (get_seen m k) ∙ ap (λ (ts : FinMap nat_cmp Slot). get ts k) is) holds

@@ -1,12 +1,15 @@
 -- The tasks that a machine keeps, through a change of one.
-use Rattle.std.proofs.Common.{◌≡◌, ◌≢◌, ℕ, ◌==◌, if◌then◌else◌, Bool, true, false, cond, inl, inr, refl, sym, ap, subst, ◌∙◌, Option, Some, None}
+use Rattle.std.proofs.Common.{◌≡◌, ◌≢◌, ℕ, ◌==◌, if◌then◌else◌, Bool, true, false, cond, inl, inr, refl, sym, ap, subst, ◌∙◌, Option, Some, None, Result, Ok, Err, IfOk, OnOk}
 use Rattle.std.proofs.lemmas.Bool.Decides.{eqb_tells}
 use Rattle.std.specs.Ordering.{nat_cmp, eq_by_cmp}
 use Rattle.std.specs.Cmp.{nat_cmp_total, Equal-is, tied_itself}
 use Rattle.std.specs.FinMap.{FinMap, get, insert, remove, get-insert, get-remove, nat_cmp-IsAntisymmetric}
+use Rattle.dpj_base.specs.declared.memory.NoMemory.{NoMemory}
 use Rattle.dpj_code.specs.Plain.{PlainCode}
+use Rattle.dpj_legs.specs.Halts.{Halts, Tells, front_of}
+use Rattle.dpj_legs.specs.declared.action.Action.{Action}
 use Rattle.dpj_machine.specs.declared.slot.Slot.{Slot}
-use Rattle.dpj_machine.specs.Running.{Running, StandsForOne, AllStand}
+use Rattle.dpj_machine.specs.Running.{Running, Goes, GoesOne, StandsFor, StandsForOne, AllStand, OfSlot, StandsAt}
 use Rattle.dpj_machine.specs.Replay.{with_task}
 
 same_number : (q k : ℕ) → eq_by_cmp nat_cmp q k ≡ true → q ≡ k
@@ -60,3 +63,25 @@ module _ (C : PlainCode) (slots : FinMap nat_cmp Slot) (tasks : ℕ → Option R
         | inl same ↦ subst (λ b. StandsForOne C q (cond b None (get slots q)) (if b then None else tasks q)) (sym same.0) (tt {0})
         | inr apart ↦ subst (λ b. StandsForOne C q (cond b None (get slots q)) (if b then None else tasks q)) (sym apart.0) (all q)
       ])
+
+  pub stand_kept : (s : Slot) → AllStand C slots tasks → StandsForOne C k (Some s) (tasks k) → AllStand C (insert slots k s) tasks
+  stand_kept s all here q =
+      subst (λ o. StandsForOne C q o (tasks q)) (sym (get-insert nat_cmp_total slots k s q ∙ ap (λ b. cond b (Some s) (get slots q)) (one_test q k)))
+      (elim (eqb_tells q k) [
+        | inl same ↦ subst (λ b. StandsForOne C q (cond b (Some s) (get slots q)) (tasks q)) (sym same.0)
+            (subst (λ n. StandsForOne C n (Some s) (tasks n)) (sym same.1) here)
+        | inr apart ↦ subst (λ b. StandsForOne C q (cond b (Some s) (get slots q)) (tasks q)) (sym apart.0) (all q)
+      ])
+
+-- a slot that has gone on stands for the task for which it stood
+pub stands_still : (C : PlainCode) (k : ℕ) (old new : Slot) (o : Option Running) → GoesOne C k o → StandsForOne C k (Some old) o
+    → ((t : Running) → Goes C k t → StandsFor C k old t → StandsFor C k new t) → StandsForOne C k (Some new) o
+stands_still C k old new None go stands still = stands
+stands_still C k old new (Some t) go stands still = still t go stands
+
+-- where an action is answered, the slot stands at it
+pub stands_at : (C : PlainCode) (o : Option Slot) (s : Slot) (r : Result Action NoMemory) → o ≡ Some s → OnOk r (s.pending ≡ None)
+    → OnOk r (Halts C s.task (front_of C s.task)) → IfOk r (λ a. Tells C a (front_of C s.task)) → IfOk r (λ a. OfSlot o (StandsAt C a))
+stands_at C o s (Ok a) is given halts tells =
+    subst (λ x. OfSlot x (StandsAt C a)) (sym is) (record { given = given; halts = halts; tells = tells })
+stands_at C o s (Err e) is given halts tells = tt

@@ -8,15 +8,18 @@ use Rattle.dpj_base.specs.declared.outcome.Outcome.{Outcome}
 use Rattle.dpj_code.specs.declared.code.Code.{Code}
 use Rattle.dpj_code.specs.Plain.{PlainCode, plain_code}
 use Rattle.dpj_legs.specs.Halts.{IsFew}
+use Rattle.dpj_legs.specs.Tasks.{state_of}
 use Rattle.dpj_legs.specs.declared.action.Answer.{Answer}
 use Rattle.dpj_world.specs.Costs.{Within}
 use Rattle.dpj_world.specs.World.{answer_to, world_after}
 use Rattle.dpj_world.specs.declared.event.Event.{Event}
 use Rattle.dpj_world.specs.declared.world.World.{World}
 use Rattle.dpj_world.specs.Ready.{IsReady}
+use Rattle.dpj_machine.specs.declared.halted.Halted.{Halted}
+use Rattle.dpj_machine.specs.declared.halted.Halted.TheVariants as halted
 use Rattle.dpj_machine.specs.declared.run.Run.{Run}
-use Rattle.dpj_machine.specs.Running.{AllStand}
-use Rattle.dpj_machine.specs.Replay.{Moment, Moves, LeadsTo, limited}
+use Rattle.dpj_machine.specs.Running.{AllStand, StandsAt}
+use Rattle.dpj_machine.specs.Replay.{Moment, Moves, IsStuck, LeadsTo, WantsRightly, limited}
 use Rattle.dpj_machine.specs.declared.slot.Slot.{Slot}
 use Rattle.dpj_machine.specs.Premise.{GoesOn, GoesOnAble}
 
@@ -26,13 +29,27 @@ pub record Keeps (C : PlainCode) (r : Run) (m : Moment) : Type 0 where
   pub outcome : r.outcome ≡ m.outcome
   pub stand : AllStand C r.slots m.tasks
 
--- a moment that is kept, in which a task can make its next event; the run goes on behind it too
-pub record CanStep (code : Code) (L : Limits) (r : Run) (m : Moment) (k : ℕ) : Type 0 where
-  pub keeps : Keeps (plain_code code) r m
-  pub goes : GoesOn (plain_code code) m
-  pub later : (n : Moment) → Moves code L m k n → GoesOn (plain_code code) n
+-- a moment that is kept, in which a task has a next event
+pub record HasNext (C : PlainCode) (r : Run) (m : Moment) (k : ℕ) : Type 0 where
+  pub keeps : Keeps C r m
+  pub goes : GoesOn C m
   pub unfinished : m.outcome ≡ None
   pub ready : IsReady m.world k
+
+-- the same, and the run goes on behind the event too
+pub record CanStep (code : Code) (L : Limits) (r : Run) (m : Moment) (k : ℕ) : Type 0 where
+  pub has_next : HasNext (plain_code code) r m k
+  pub later : (n : Moment) → Moves code L m k n → GoesOn (plain_code code) n
+
+-- a task that is kept stands at this event
+pub record IsAt (C : PlainCode) (e : Event) (s : Slot) : Type 0 where
+  pub turns : e.turns ≡ s.task.turns
+  pub stands : StandsAt C e.action s
+  pub wants : WantsRightly C (state_of s.task) e.action e.wants
+
+-- a run with other tasks
+abbrev pub with_slots : Run → FinMap nat_cmp Slot → Run
+with_slots r slots = record { world = r.world; slots = slots; schedule = r.schedule; outcome = r.outcome }
 
 -- an event was noted and made, where it keeps to the limits, and then these tasks are kept, with this outcome; else the run is
 -- finished
@@ -78,6 +95,20 @@ pub record IsReplayed (p : Played) : Type 0 where
   pub leads : LeadsTo p.code p.limits p.argument (reverse p.schedule) moment
   pub world : p.world ≡ moment.world
   pub outcome : p.outcome ≡ moment.outcome
+
+-- a ready task of a machine can't make its next event
+pub record IsStuckAt (p : Played) (k : ℕ) : Type 0 where
+  pub replayed : IsReplayed p
+  pub stuck : IsStuck (plain_code p.code) replayed.moment k
+
+-- why a step was not made
+abbrev pub WhyHalted : PlainCode → Moment → ℕ → Halted → Type 0
+WhyHalted C m k halted.Stuck = IsStuck C m k
+WhyHalted C m k halted.NoMemory = Unit {0}
+
+abbrev pub WhyHaltedAt : Played → ℕ → Halted → Type 0
+WhyHaltedAt p k halted.Stuck = IsStuckAt p k
+WhyHaltedAt p k halted.NoMemory = Unit {0}
 
 -- a task has made one event more
 pub record IsAfter (before : Played) (k : ℕ) (after : Played) : Type 0 where

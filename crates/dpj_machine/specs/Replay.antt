@@ -30,7 +30,7 @@ use Rattle.dpj_tasks.specs.Tree.{task_at, out_of}
 use Rattle.dpj_world.specs.Costs.{Within, first_fields}
 use Rattle.dpj_world.specs.Ready.{IsReady}
 use Rattle.dpj_world.specs.Waits.{wanted}
-use Rattle.dpj_world.specs.World.{at_start as world_at_start, with_heap, answer_to, world_after}
+use Rattle.dpj_world.specs.World.{at_start as world_at_start, with_heap, answer_to, world_after, Fits}
 use Rattle.dpj_world.specs.declared.event.Event.{Event}
 use Rattle.dpj_world.specs.declared.world.World.{World}
 use Rattle.dpj_machine.specs.Running.{Running, at_start, front, answered}
@@ -160,6 +160,27 @@ pub record NextOf (C : PlainCode) (m : Moment) (k : ℕ) (e : Event) : Type 0 wh
   pub there : m.tasks k ≡ Some task
   pub stands : Standing C k task e
 
+-- where a task stands that begins a branch, there is a start of that branch
+abbrev pub HasStart : PlainCode → State ℕ (ℕ × ℕ) → Action → Type 0
+HasStart C z (action.Begin b) = b < length (starts_at C z)
+HasStart C z action.Rest = Unit {0}
+HasStart C z (action.Read n j) = Unit {0}
+HasStart C z (action.Write n j v) = Unit {0}
+HasStart C z (action.Look n) = Unit {0}
+HasStart C z (action.NewObject c rs constructor) = Unit {0}
+HasStart C z (action.NewArray region len first) = Unit {0}
+HasStart C z (action.Print bytes) = Unit {0}
+HasStart C z (action.Enter effects) = Unit {0}
+HasStart C z action.Exit = Unit {0}
+HasStart C z (action.Fork forking many) = Unit {0}
+HasStart C z action.Join = Unit {0}
+HasStart C z (action.End e) = Unit {0}
+
+-- an event can be made here by a task that stands there
+pub record CanBeMade (C : PlainCode) (w : World) (e : Event) (z : State ℕ (ℕ × ℕ)) : Type 0 where
+  pub fits : Fits w e
+  pub starts : HasStart C z e.action
+
 -- the moment after an event that keeps to the limits
 abbrev pub after : Code → Moment → (e : Event) → State ℕ (ℕ × ℕ) → ℕ → Moment
 after code m e z made = record {
@@ -169,11 +190,18 @@ after code m e z made = record {
   outcome = outcome_after m.world (world_after code m.world e) e.task e.action;
 }
 
--- a ready task makes its next event; where that would be over a limit, the run is finished
+-- a ready task makes its next event, which it can make; where that would be over a limit, the run is finished
 pub data Moves (code : Code) (L : Limits) (m : Moment) (k : ℕ) (n : Moment) : Type 0 where
-  made : (e : Event) (x : NextOf (plain_code code) m k e) → Within code m.world e → n ≡ after code m e x.stands.state x.stands.made → Moves code L m k n
-  over : (e : Event) → NextOf (plain_code code) m k e → (Within code m.world e → ⊥)
+  made : (e : Event) (x : NextOf (plain_code code) m k e) → CanBeMade (plain_code code) m.world e x.stands.state → Within code m.world e
+      → n ≡ after code m e x.stands.state x.stands.made → Moves code L m k n
+  over : (e : Event) (x : NextOf (plain_code code) m k e) → CanBeMade (plain_code code) m.world e x.stands.state → (Within code m.world e → ⊥)
       → n ≡ record { world = m.world; tasks = m.tasks; outcome = Some (limited L) } → Moves code L m k n
+
+-- a ready task can't make its next event: the run is stuck there
+pub record IsStuck (C : PlainCode) (m : Moment) (k : ℕ) : Type 0 where
+  pub event : Event
+  pub next : NextOf C m k event
+  pub unmade : CanBeMade C m.world event next.stands.state → ⊥
 
 -- at the start the root alone has begun, with `main` on its object; the run is finished where there aren't cells for that
 abbrev pub root_alone : Code → ℤ → ℕ → Option Running

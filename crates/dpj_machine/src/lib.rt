@@ -8,11 +8,15 @@
 //!
 //! It asks one thing of its code (`GoesOnAble` of `specs/Premise.antt`): wherever a replay leads, the tasks go on.
 //!
+//! A machine is stuck where what a ready task does next can't be done: an object isn't there, a fork, a join, an entry or an
+//! exit comes out of turn, or a branch has no start. A step tells so, and leaves the machine as it was.
+//!
 //! A step takes the time of the leg that its task makes and of what its event touches; `next_ready` the logarithm of the live
 //! tasks, and the tasks that it passes over.
 #![tactic(auto)]
 
 mod answers;
+mod halted;
 mod machine;
 mod outcome;
 mod run;
@@ -21,4 +25,5 @@ mod slots;
 mod start;
 mod wants;
 
+pub use halted::Halted;
 pub use machine::{Machine, Stepped};

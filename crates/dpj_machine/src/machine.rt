@@ -1,10 +1,11 @@
-ghost use Rattle.std.specs.Prelude.{◌≡◌, ◌↔◌, ◌≤◌, [], All, None, IsSome, IsTrue, IfOk, OnOk, OnErr, MatchOption, false};
+ghost use Rattle.std.specs.Prelude.{◌≡◌, ◌↔◌, ◌≤◌, [], All, None, IsSome, IsTrue, IfOk, IfErr, OnOk, OnErr, MatchOption, false};
 ghost use Rattle.std.specs.Option.{option_copied};
 ghost use Rattle.dpj_legs.specs.Halts.{IsFew};
 ghost use Rattle.dpj_world.specs.Ready.{IsReady, NoneReady, IsGreatestReady};
-ghost use Rattle.dpj_machine.specs.Keeping.{IsReplayed, IsAfter};
+ghost use Rattle.dpj_machine.specs.Keeping.{IsReplayed, IsAfter, WhyHaltedAt};
 ghost use Rattle.dpj_machine.specs.Premise.{GoesOnAble};
 
+use crate::halted::Halted;
 use crate::run::Run;
 use crate::start::start;
 use dpj_base::{Limits, NoMemory, Outcome};
@@ -88,13 +89,14 @@ impl Machine {
         self.run.world.next_ready()
     }
 
-    /// Lets a ready task make its next event. Finished comes exactly where the root ended or a limit was met. After want of
-    /// memory the machine is as it was.
-    pub fn step(&mut self, task: u32) -> Result<Stepped, NoMemory>
+    /// Lets a ready task make its next event. Finished comes exactly where the root ended or a limit was met, and Stuck where
+    /// the event can't be made. After that and after want of memory the machine is as it was.
+    pub fn step(&mut self, task: u32) -> Result<Stepped, Halted>
         requires unfinished { self.old.outcome ≡ None }
         requires ready { IsReady self.old.world task }
         ensures stepped { OnOk result (IsAfter self.old task self.new) }
         ensures finished { IfOk result (λ stepped. (stepped ≡ Stepped.Finished) ↔ IsSome self.new.outcome) }
+        ensures why { IfErr result (WhyHaltedAt self.old task) }
         ensures err { OnErr result (self.new ≡ self.old) }
     {
         self.run.step(self.alloc, &self.code, self.limits, task)?;
@@ -104,9 +106,9 @@ impl Machine {
         })
     }
 
-    /// Steps the greatest ready task until the machine has finished, or no task is ready. After want of memory the machine is
-    /// where its schedule leaves it.
-    pub fn finish(&mut self) -> Result<(), NoMemory>
+    /// Steps the greatest ready task until the machine has finished, or no task is ready. After want of memory, and where it is
+    /// stuck, the machine is where its schedule leaves it.
+    pub fn finish(&mut self) -> Result<(), Halted>
         ensures code { self.new.code ≡ self.old.code }
         ensures limits { self.new.limits ≡ self.old.limits }
         ensures argument { self.new.argument ≡ self.old.argument }

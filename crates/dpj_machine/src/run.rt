@@ -1,22 +1,24 @@
-ghost use Rattle.std.specs.Prelude.{◌≡◌, ◌≢◌, ◌∷◌, ◌++◌, [], All, None, IfOk, OnOk, OnErr};
+ghost use Rattle.std.specs.Prelude.{◌≡◌, ◌≢◌, ◌∷◌, ◌++◌, [], All, None, IfOk, IfErr, OnOk, OnErr};
 ghost use Rattle.std.specs.FinMap.{get, insert, remove};
 ghost use Rattle.dpj_code.specs.Plain.{plain_code};
 ghost use Rattle.dpj_legs.specs.Halts.{IsFew};
+ghost use Rattle.dpj_legs.specs.Tasks.{state_of};
 ghost use Rattle.dpj_legs.specs.declared.action.Ending.{Ending};
 ghost use Rattle.dpj_tasks.specs.Tree.{task_at, out_of};
 ghost use Rattle.dpj_world.specs.World.{Fits, answer_to, world_after};
 ghost use Rattle.dpj_machine.specs.declared.slot.Slot.{Slot};
-ghost use Rattle.dpj_machine.specs.Keeping.{Keeps, CanStep, Recorded, Comes, with_answer};
-ghost use Rattle.dpj_machine.specs.Replay.{Moment, Moves, outcome_after};
+ghost use Rattle.dpj_machine.specs.Keeping.{Keeps, HasNext, CanStep, IsAt, WhyHalted, Recorded, Comes, with_answer, with_slots};
+ghost use Rattle.dpj_machine.specs.Replay.{Moment, Moves, WantsRightly, outcome_after};
 ghost use Rattle.dpj_machine.specs.Running.{OfSlot, IsFirst};
 
+use crate::halted::Halted;
 use crate::outcome::{came_to, limited};
 use crate::slot::Slot;
 use crate::slots::Slots;
-use crate::wants::wants_of;
+use crate::wants::wants_at;
 use dpj_base::{Bytes, Ending as Came, Items, Limits, NoMemory, Outcome, Plain};
 use dpj_code::Code;
-use dpj_legs::{Action, Answer, Start};
+use dpj_legs::{Action, Answer, Start, Task};
 use dpj_world::{Event, Stop, World};
 use std::alloc::Global;
 
@@ -31,48 +33,97 @@ pub struct Run {
 }
 
 impl Run {
-    /// Lets a ready task make its next event. After want of memory it may be further on its way to it.
+    /// Lets a ready task make its next event, if it can. Where it isn't made the task may be further on its way to it.
     pub fn step(
         &mut self,
         alloc: Global,
         code: &Code,
         limits: Limits,
         task: u32,
-    ) -> Result<(), NoMemory>
+    ) -> Result<(), Halted>
         requires few { All IsFew code.now.sites }
         requires can { (m : Moment) × CanStep code.now limits self.old m task }
         ensures moves { (m : Moment) → CanStep code.now limits self.old m task → OnOk result ((n : Moment) × Moves code.now limits m task n × Keeps (plain_code code.now) self.new n) }
         ensures noted { OnOk result (self.new.schedule ≡ self.old.schedule ++ task ∷ []) }
+        ensures why { (m : Moment) → CanStep code.now limits self.old m task → IfErr result (WhyHalted (plain_code code.now) m task) }
         ensures kept { (m : Moment) → CanStep code.now limits self.old m task → OnErr result (Keeps (plain_code code.now) self.new m) }
         ensures err { OnErr result (self.new.schedule ≡ self.old.schedule) }
+    {
+        let event = self.next_event(alloc, code, task)?;
+        self.make(alloc, code, limits, event)
+    }
+
+    /// Takes a ready task to its next event. After want of memory it may be further on its way to it.
+    fn next_event(&mut self, alloc: Global, code: &Code, task: u32) -> Result<Event, NoMemory>
+        requires few { All IsFew code.now.sites }
+        requires has_next { (m : Moment) × HasNext (plain_code code.now) self.old m task }
+        ensures others { self.new ≡ with_slots self.old self.new.slots }
+        ensures has_next { (m : Moment) → HasNext (plain_code code.now) self.old m task → HasNext (plain_code code.now) self.new m task }
+        ensures task { IfOk result (λ event. event.task ≡ task) }
+        ensures at { IfOk result (λ event. OfSlot (get self.new.slots task) (IsAt (plain_code code.now) event)) }
     {
         let action = self.slots.advance(alloc, code, task)?;
         let Some(slot) = self.slots.get(task) else {
             unreachable!()
         };
-        let turns = slot.task.turns;
-        match action {
-            Action::Begin { branch } => {
-                let start = slot.task.branch_start(alloc, code, branch)?;
-                self.begin(alloc, code, limits, event(task, turns, action), start)
-            }
-            Action::End(_) => self.end(alloc, code, limits, event(task, turns, action)),
-            Action::Rest => {
-                let wants = wants_of(alloc, code, &slot.task)?;
-                self.go_on(
-                    alloc,
-                    code,
-                    limits,
-                    Event {
-                        task,
-                        turns,
-                        action,
-                        wants,
-                    },
-                )
-            }
-            _ => self.go_on(alloc, code, limits, event(task, turns, action)),
+        event_of(alloc, code, task, &slot.task, action)
+    }
+
+    /// Makes the event at which its task stands, if it can be made.
+    fn make(
+        &mut self,
+        alloc: Global,
+        code: &Code,
+        limits: Limits,
+        event: Event,
+    ) -> Result<(), Halted>
+        requires at { OfSlot (get self.old.slots event.task) (IsAt (plain_code code.now) event) }
+        requires can { (m : Moment) × CanStep code.now limits self.old m event.task }
+        ensures moves { (m : Moment) → CanStep code.now limits self.old m event.task → OnOk result ((n : Moment) × Moves code.now limits m event.task n × Keeps (plain_code code.now) self.new n) }
+        ensures noted { OnOk result (self.new.schedule ≡ self.old.schedule ++ event.task ∷ []) }
+        ensures why { (m : Moment) → CanStep code.now limits self.old m event.task → IfErr result (WhyHalted (plain_code code.now) m event.task) }
+        ensures err { OnErr result (self.new ≡ self.old) }
+    {
+        if !self.world.fits(&event) {
+            return Err(Halted::Stuck);
         }
+        match &event.action {
+            Action::Begin { branch } => {
+                let branch = *branch;
+                self.make_begin(alloc, code, limits, event, branch)
+            }
+            Action::End(_) => Ok(self.end(alloc, code, limits, event)?),
+            _ => Ok(self.go_on(alloc, code, limits, event)?),
+        }
+    }
+
+    /// Makes the begin of a branch, if there is a start of it.
+    fn make_begin(
+        &mut self,
+        alloc: Global,
+        code: &Code,
+        limits: Limits,
+        event: Event,
+        branch: usize,
+    ) -> Result<(), Halted>
+        requires begins { event.action ≡ Action.Begin branch }
+        requires fits { Fits self.old.world event }
+        requires at { OfSlot (get self.old.slots event.task) (IsAt (plain_code code.now) event) }
+        requires can { (m : Moment) × CanStep code.now limits self.old m event.task }
+        ensures moves { (m : Moment) → CanStep code.now limits self.old m event.task → OnOk result ((n : Moment) × Moves code.now limits m event.task n × Keeps (plain_code code.now) self.new n) }
+        ensures noted { OnOk result (self.new.schedule ≡ self.old.schedule ++ event.task ∷ []) }
+        ensures why { (m : Moment) → CanStep code.now limits self.old m event.task → IfErr result (WhyHalted (plain_code code.now) m event.task) }
+        ensures err { OnErr result (self.new ≡ self.old) }
+    {
+        let Some(slot) = self.slots.get(event.task) else {
+            unreachable!()
+        };
+        if branch >= slot.task.branches(code) {
+            return Err(Halted::Stuck);
+        }
+        let start = slot.task.branch_start(alloc, code, branch)?;
+        self.begin(alloc, code, limits, event, start)?;
+        Ok(())
     }
 
     /// Notes an event in the schedule and makes it. It answers None where a limit is met, which finishes the run.
@@ -211,14 +262,24 @@ impl Run {
     }
 }
 
-/// An event of a task that doesn't rest.
-fn event(task: u32, turns: u32, action: Action) -> Event
-    ensures { result ≡ record { task = task; turns = turns; action = action; wants = None } }
+/// The event of a task that stands at an action.
+fn event_of(
+    alloc: Global,
+    code: &Code,
+    number: u32,
+    task: &Task,
+    action: Action,
+) -> Result<Event, NoMemory>
+    ensures task { IfOk result (λ event. event.task ≡ number) }
+    ensures turns { IfOk result (λ event. event.turns ≡ task.now.turns) }
+    ensures action { IfOk result (λ event. event.action ≡ action) }
+    ensures wants { IfOk result (λ event. WantsRightly (plain_code code.now) (state_of task.now) action event.wants) }
 {
-    Event {
-        task,
-        turns,
+    let wants = wants_at(alloc, code, task, &action)?;
+    Ok(Event {
+        task: number,
+        turns: task.turns,
         action,
-        wants: None,
-    }
+        wants,
+    })
 }

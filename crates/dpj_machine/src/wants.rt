@@ -7,28 +7,53 @@ ghost use Rattle.dpj_code.specs.Machine.{Level};
 ghost use Rattle.dpj_code.specs.Plain.{plain_code, body_at};
 ghost use Rattle.dpj_meaning.specs.Regions.{around, concrete_effect};
 ghost use Rattle.dpj_world.specs.Waits.{wanted};
-ghost use Rattle.dpj_machine.specs.Replay.{wants_at, effects_of, entry_of};
+ghost use Rattle.dpj_machine.specs.Replay.{WantsRightly, wants_at, effects_of, entry_of, entry_by};
 
 use dpj_base::{Effect, Head, Items, NoMemory};
 use dpj_code::{Code, Instr, Site};
-use dpj_legs::{Frame, Standing, Task, concrete_effect};
+use dpj_legs::{Action, Frame, Standing, Task, concrete_effect, line};
 use std::alloc::Global;
 
 /// The effects of the entry at a position of a body, if there is one.
 fn entry_at(code: &Code, body: usize, at: usize) -> Option<&Items<Effect>>
     ensures { (g : Level ℕ (ℕ × ℕ)) → effects_of g (option_copied result) ≡ entry_of (plain_code code.now) g (slice_get (body_at (plain_code code.now) body).lines at) }
 {
-    let Instr::Enter(site) = code.bodies.get(body)?.instrs.get(at)? else {
+    let Some(line) = line(code, body, at) else {
         return None;
     };
-    let Site::Block { effects } = code.sites.get(*site)? else {
+    entry_by(code, line.0)
+}
+
+/// The effects of an instruction that enters a block.
+fn entry_by(code: &Code, instr: Instr) -> Option<&Items<Effect>>
+    ensures { (g : Level ℕ (ℕ × ℕ)) → effects_of g (option_copied result) ≡ entry_by (plain_code code.now) g instr }
+{
+    let Instr::Enter(site) = instr else {
+        return None;
+    };
+    let Some(Site::Block { effects }) = code.sites.get(site) else {
         return None;
     };
     Some(effects)
 }
 
-/// The effects with which a task is to enter that rests where it stands, if that is in front of an entry.
-pub fn wants_of(alloc: Global, code: &Code, task: &Task) -> Result<Option<Items<Effect>>, NoMemory>
+/// With which effects a task is to enter that stands at this action, if it rests in front of an entry.
+pub fn wants_at(
+    alloc: Global,
+    code: &Code,
+    task: &Task,
+    action: &Action,
+) -> Result<Option<Items<Effect>>, NoMemory>
+    ensures { IfOk result (λ wants. WantsRightly (plain_code code.now) (state_of task.now) action.now wants) }
+{
+    match action {
+        Action::Rest => wants_of(alloc, code, task),
+        _ => Ok(None),
+    }
+}
+
+/// The effects of the entry in front of which a task stands, if it does.
+fn wants_of(alloc: Global, code: &Code, task: &Task) -> Result<Option<Items<Effect>>, NoMemory>
     ensures roots { IfOk result (λ wants. AllRoot (wanted wants)) }
     ensures wants { IfOk result (λ wants. option_map (map plain_effect) wants ≡ wants_at (plain_code code.now) (state_of task.now)) }
 {

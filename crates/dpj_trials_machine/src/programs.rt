@@ -63,6 +63,12 @@ pub fn quotient(alloc: Global) -> Result<Code, NoMemory> {
     code(alloc, main.as_slice())
 }
 
+/// An exit where no block was entered, which no program has; behind it `return 5;`.
+pub fn exit_alone(alloc: Global) -> Result<Code, NoMemory> {
+    let main = [Instr::Exit, Instr::Int(5), Instr::Return];
+    code(alloc, main.as_slice())
+}
+
 /// A `cobegin` of two branches with these instructions; behind it `return 5;`.
 fn two_branches(alloc: Global, one: &[Instr], two: &[Instr]) -> Result<Code, NoMemory> {
     let main = [Instr::Fork(0), Instr::Join, Instr::Int(5), Instr::Return];

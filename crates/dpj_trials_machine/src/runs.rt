@@ -1,6 +1,6 @@
-use crate::programs::{quotient, two_blocks, two_prints};
+use crate::programs::{exit_alone, quotient, two_blocks, two_prints};
 use dpj_base::{Ending, Limits, Place, Trap};
-use dpj_machine::{Machine, Stepped};
+use dpj_machine::{Halted, Machine, Stepped};
 use std::test::Fail;
 
 const WIDE: Limits = Limits {
@@ -31,7 +31,7 @@ fn a_run_comes_to_its_value_or_trap(rt: HostRuntime) -> Result<(), Fail> {
         let mut machine = Machine::open(rt.alloc(), code, limits, argument)?;
         machine.finish()?;
         let Some(outcome) = machine.outcome() else {
-            return fail!(rt; "unfinished");
+            panic!(rt; "unfinished");
         };
         assert!(rt; outcome.ending == ending);
         assert_eq!(rt; outcome.out.as_slice(), out.as_bytes());
@@ -56,7 +56,7 @@ fn the_greatest_task_first_is_the_order_of_the_text(rt: HostRuntime) -> Result<(
     machine.finish()?;
     assert_eq!(rt; machine.schedule(), [0, 0, 1, 1, 0, 2, 2, 0, 0].as_slice());
     let Some(outcome) = machine.outcome() else {
-        return fail!(rt; "unfinished");
+        panic!(rt; "unfinished");
     };
     assert!(rt; outcome.ending == Ending::Done(5));
     assert_eq!(rt; outcome.out.as_slice(), "1\n2\n".as_bytes());
@@ -75,7 +75,7 @@ fn outputs_stand_in_branch_order_under_any_schedule(rt: HostRuntime) -> Result<(
     }
     assert!(rt; machine.step(0)? == Stepped::Finished);
     let Some(outcome) = machine.outcome() else {
-        return fail!(rt; "unfinished");
+        panic!(rt; "unfinished");
     };
     assert_eq!(rt; outcome.out.as_slice(), "1\n2\n".as_bytes());
     Ok(())
@@ -100,10 +100,21 @@ fn a_block_waits_for_another(rt: HostRuntime) -> Result<(), Fail> {
     assert!(rt; machine.next_ready() == Some(2));
     machine.finish()?;
     let Some(outcome) = machine.outcome() else {
-        return fail!(rt; "unfinished");
+        panic!(rt; "unfinished");
     };
     assert!(rt; outcome.ending == Ending::Done(5));
     // entry, fork, begins, join; enter, write, exit; enter, read, write, exit
     assert_eq!(rt; outcome.steps, 12);
+    Ok(())
+}
+
+#[test]
+fn what_cannot_be_done_is_told_and_changes_nothing(rt: HostRuntime) -> Result<(), Fail> {
+    let mut machine = Machine::open(rt.alloc(), exit_alone(rt.alloc())?, WIDE, 0)?;
+    assert!(rt; machine.step(0) == Err(Halted::Stuck));
+    assert!(rt; machine.finish() == Err(Halted::Stuck));
+    assert_eq!(rt; machine.schedule().len(), 0);
+    assert!(rt; !machine.finished());
+    assert!(rt; machine.ready(0));
     Ok(())
 }

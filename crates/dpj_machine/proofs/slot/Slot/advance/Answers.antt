@@ -7,14 +7,14 @@ use Rattle.dpj_machine.proofs.slot.Slot.advance.Goals as goal
 
 pub leg-requires-clause-ends : goal.leg-requires-clause-ends
 leg-requires-clause-ends c =
-    let s = c.deliver.ensures.stands c.requires.stands.0 c.requires.stands.1 c.requires.stands.2.0 c.requires.stands.2.1 in
+    let s = c.deliver.ensures.stands c.requires.stands.0 c.requires.stands.1 c.requires.stands.2 c.requires.stands.3 in
     let way : OnItsWay (plain_code c.args.code.now) c.requires.stands.0 c.deliver.new.self.task c.requires.stands.1 =
     subst (λ o. StandsWith (plain_code c.args.code.now) c.requires.stands.0 c.deliver.new.self.task o c.requires.stands.1) c.in_ok-deliver.ensures.given s in
     way.ends
 
 pub leg-requires-clause-paced : goal.leg-requires-clause-paced
 leg-requires-clause-paced c =
-    let s = c.deliver.ensures.stands c.requires.stands.0 c.requires.stands.1 c.requires.stands.2.0 c.requires.stands.2.1 in
+    let s = c.deliver.ensures.stands c.requires.stands.0 c.requires.stands.1 c.requires.stands.2 c.requires.stands.3 in
     let way : OnItsWay (plain_code c.args.code.now) c.requires.stands.0 c.deliver.new.self.task c.requires.stands.1 =
     subst (λ o. StandsWith (plain_code c.args.code.now) c.requires.stands.0 c.deliver.new.self.task o c.requires.stands.1) c.in_ok-deliver.ensures.given s in
     way.paced
