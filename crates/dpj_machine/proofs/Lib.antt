@@ -3,3 +3,5 @@ pub mod Maps
 pub mod Acting
 pub mod Tasks
 pub mod Stepping
+pub mod Playing
+pub mod Ends

@@ -249,3 +249,32 @@ no_start C m e s b x act few = record {
   where
     below : b < length (starts_at C (state_of s.task)) → ⊥
     below h = omega arith
+
+-- the same of the slot that is there
+pub of_some : (o : Option Slot) (s : Slot) (P : Slot → Type 0) → o ≡ Some s → OfSlot o P → P s
+of_some o s P is holds = subst (λ x. OfSlot x P) is holds
+
+module _ (code : Code) (L : Limits) (old new : Run) (m : Moment) (e : Event) where
+  pub moved_on : (o : Option Slot) → get old.slots e.task ≡ o → CanStep code L old m e.task → OfSlot o (IsAt (plain_code code) e) → Fits old.world e
+      → IsOrdinary e.action
+      → OfSlot o (λ s. Comes code L old e (with_answer old.slots e.task s (answer_to old.world e)) old.outcome new) → Moved code L m e.task new
+  moved_on None is can at fits ord comes = absurd at
+  moved_on (Some s) is can at fits ord comes = went_on code L old new m e s can.has_next (next_in (plain_code code) old m e s can.has_next is at) fits ord comes
+
+  pub moved_end : (o : Option Slot) → get old.slots e.task ≡ o → CanStep code L old m e.task → OfSlot o (IsAt (plain_code code) e) → Fits old.world e
+      → (y : Ending) → e.action ≡ action.End y
+      → Comes code L old e (remove old.slots e.task) (outcome_after old.world (world_after code old.world e) e.task e.action) new → Moved code L m e.task new
+  moved_end None is can at fits y act comes = absurd at
+  moved_end (Some s) is can at fits y act comes = ended code L old new m e s y can.has_next (next_in (plain_code code) old m e s can.has_next is at) fits act comes
+
+pub stuck_unfit : (code : Code) (L : Limits) (old : Run) (m : Moment) (e : Event) (o : Option Slot) → get old.slots e.task ≡ o → CanStep code L old m e.task
+    → OfSlot o (IsAt (plain_code code) e) → (Fits old.world e → ⊥) → IsStuck (plain_code code) m e.task
+stuck_unfit code L old m e None is can at no = absurd at
+stuck_unfit code L old m e (Some s) is can at no =
+    unfit (plain_code code) old m e s can.has_next.keeps (next_in (plain_code code) old m e s can.has_next is at) no
+
+-- what was noted of an event
+pub noted : (code : Code) (L : Limits) (old new : Run) (e : Event) (slots : FinMap nat_cmp Slot) (outcome : Option Outcome)
+    → Comes code L old e slots outcome new → new.schedule ≡ old.schedule ++ e.task ∷ []
+noted code L old new e slots outcome (made_so within is) = ap (λ r. r.schedule) is
+noted code L old new e slots outcome (over_so no is) = ap (λ r. r.schedule) is

@@ -14,7 +14,7 @@ use Rattle.dpj_world.specs.Costs.{Within}
 use Rattle.dpj_world.specs.World.{answer_to, world_after}
 use Rattle.dpj_world.specs.declared.event.Event.{Event}
 use Rattle.dpj_world.specs.declared.world.World.{World}
-use Rattle.dpj_world.specs.Ready.{IsReady}
+use Rattle.dpj_world.specs.Ready.{IsReady, IsGreatestReady}
 use Rattle.dpj_machine.specs.declared.halted.Halted.{Halted}
 use Rattle.dpj_machine.specs.declared.halted.Halted.TheVariants as halted
 use Rattle.dpj_machine.specs.declared.run.Run.{Run}
@@ -121,6 +121,17 @@ pub record IsAfter (before : Played) (k : ℕ) (after : Played) : Type 0 where
   pub moves : Moves before.code before.limits replayed.moment k next
   pub world : after.world ≡ next.world
   pub outcome : after.outcome ≡ next.outcome
+
+-- a machine has gone on by steps, each of the greatest task that was ready
+pub data GreedilyOn (before : Played) : Played → Type 0 where
+  here : GreedilyOn before before
+  further : (middle after : Played) (k : ℕ) → GreedilyOn before middle → IsGreatestReady middle.world k → IsAfter middle k after → GreedilyOn before after
+
+-- the step of the greatest ready task was not made
+pub record HaltsGreedily (p : Played) (h : Halted) : Type 0 where
+  pub task : ℕ
+  pub greatest : IsGreatestReady p.world task
+  pub why : WhyHaltedAt p task h
 
 -- the fields of a machine are the replay of its schedule, and its code goes on
 pub record Plays (code : Code) (limits : Limits) (argument : ℤ) (r : Run) : Type 0 where

@@ -2,7 +2,7 @@ ghost use Rattle.std.specs.Prelude.{◌≡◌, ◌↔◌, ◌≤◌, [], All, No
 ghost use Rattle.std.specs.Option.{option_copied};
 ghost use Rattle.dpj_legs.specs.Halts.{IsFew};
 ghost use Rattle.dpj_world.specs.Ready.{IsReady, NoneReady, IsGreatestReady};
-ghost use Rattle.dpj_machine.specs.Keeping.{IsReplayed, IsAfter, WhyHaltedAt};
+ghost use Rattle.dpj_machine.specs.Keeping.{IsReplayed, IsAfter, WhyHaltedAt, GreedilyOn, HaltsGreedily};
 ghost use Rattle.dpj_machine.specs.Premise.{GoesOnAble};
 
 use crate::halted::Halted;
@@ -109,9 +109,8 @@ impl Machine {
     /// Steps the greatest ready task until the machine has finished, or no task is ready. After want of memory, and where it is
     /// stuck, the machine is where its schedule leaves it.
     pub fn finish(&mut self) -> Result<(), Halted>
-        ensures code { self.new.code ≡ self.old.code }
-        ensures limits { self.new.limits ≡ self.old.limits }
-        ensures argument { self.new.argument ≡ self.old.argument }
+        ensures greedily { GreedilyOn self.old self.new }
+        ensures why { IfErr result (HaltsGreedily self.new) }
     {
         // no run has more events
         for _ in 0..self.limits.steps.saturating_mul(2).saturating_add(2) {

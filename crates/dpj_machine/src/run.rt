@@ -1,4 +1,4 @@
-ghost use Rattle.std.specs.Prelude.{◌≡◌, ◌≢◌, ◌∷◌, ◌++◌, [], All, None, IfOk, IfErr, OnOk, OnErr};
+ghost use Rattle.std.specs.Prelude.{◌≡◌, ◌≢◌, ◌∷◌, ◌++◌, [], All, None, Some, IfOk, IfErr, OnOk, OnErr};
 ghost use Rattle.std.specs.FinMap.{get, insert, remove};
 ghost use Rattle.dpj_code.specs.Plain.{plain_code};
 ghost use Rattle.dpj_legs.specs.Halts.{IsFew};
@@ -8,7 +8,7 @@ ghost use Rattle.dpj_tasks.specs.Tree.{task_at, out_of};
 ghost use Rattle.dpj_world.specs.World.{Fits, answer_to, world_after};
 ghost use Rattle.dpj_machine.specs.declared.slot.Slot.{Slot};
 ghost use Rattle.dpj_machine.specs.Keeping.{Keeps, HasNext, CanStep, IsAt, WhyHalted, Recorded, Comes, with_answer, with_slots};
-ghost use Rattle.dpj_machine.specs.Replay.{Moment, Moves, WantsRightly, outcome_after};
+ghost use Rattle.dpj_machine.specs.Replay.{Moment, Moves, WantsRightly, outcome_after, came_to};
 ghost use Rattle.dpj_machine.specs.Running.{OfSlot, IsFirst};
 
 use crate::halted::Halted;
@@ -223,23 +223,27 @@ impl Run {
         ensures err { OnErr result (self.new ≡ self.old) }
     {
         let task = event.task;
-        let came = match &event.action {
-            Action::End(ending) => came_to(ending),
-            _ => unreachable!(),
+        let came = ending_of(&event.action);
+        let out = self.output_of(alloc, task)?;
+        let Some(_) = self.record(alloc, code, limits, event)? else {
+            return Ok(());
         };
-        // only the root's output is that of the run
-        let out = if task == 0 {
-            self.output(alloc)?
-        } else {
-            Bytes::new(alloc)
-        };
-        if self.record(alloc, code, limits, event)?.is_some() {
-            self.slots.remove(task);
-            if task == 0 {
-                self.finish(came, out);
-            }
+        self.slots.remove(task);
+        if task == 0 {
+            self.finish(came, out);
         }
         Ok(())
+    }
+
+    /// What a task has printed that is the root, since only its output is that of the run.
+    fn output_of(&self, alloc: Global, task: u32) -> Result<Bytes, NoMemory>
+        ensures { IfOk result (λ out. task ≡ 0 → out ≡ out_of (task_at self.now.world.tree 0)) }
+    {
+        if task == 0 {
+            self.output(alloc)
+        } else {
+            Ok(Bytes::new(alloc))
+        }
     }
 
     /// What the root has printed.
@@ -252,13 +256,26 @@ impl Run {
         }
     }
 
-    fn finish(&mut self, came: Came, out: Bytes) {
+    fn finish(&mut self, came: Came, out: Bytes)
+        ensures { self.new ≡ record { world = self.old.world; slots = self.old.slots; schedule = self.old.schedule; outcome = Some (record { ending = came; out = out; steps = self.old.world.steps; cells = self.old.world.heap.used }) } }
+    {
         self.outcome = Some(Outcome {
             ending: came,
             out,
             steps: self.world.steps,
             cells: self.world.heap.cells(),
         });
+    }
+}
+
+/// How the run comes out whose root ends by this action.
+fn ending_of(action: &Action) -> Came
+    requires { (x : Ending) × (action.now ≡ Action.End x) }
+    ensures { (x : Ending) → action.now ≡ Action.End x → result ≡ came_to x }
+{
+    match action {
+        Action::End(ending) => came_to(ending),
+        _ => unreachable!(),
     }
 }
 
