@@ -5,3 +5,4 @@ pub mod Tasks
 pub mod Stepping
 pub mod Playing
 pub mod Ends
+pub mod Wanting
