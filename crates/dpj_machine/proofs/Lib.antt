@@ -6,3 +6,4 @@ pub mod Stepping
 pub mod Playing
 pub mod Ends
 pub mod Wanting
+pub mod Begins

@@ -1,5 +1,5 @@
 -- A map from numbers seen as a finite map.
-use Rattle.std.proofs.Common.{◌≡◌, ℕ, List, [], ◌∷◌, refl, sym, ap, ◌∙◌, Option, Some, None, Bool, true, false, cond, subst, IsSome}
+use Rattle.std.proofs.Common.{◌≡◌, ◌≢◌, ℕ, List, [], ◌∷◌, refl, sym, ap, ◌∙◌, Option, Some, None, Bool, true, false, cond, subst, IsSome}
 use Rattle.std.specs.Ordering.{nat_cmp, is_eq, eq_by_cmp}
 use Rattle.std.specs.Cmp.{nat_cmp_total, eq_by_cmp_equiv, Equal-is, tied_itself}
 use Rattle.std.specs.FinMap.{FinMap, from_entries, find, get, insert, remove, get-from_entries, get-insert, get-remove, same_map, nat_cmp-IsAntisymmetric}
@@ -58,3 +58,20 @@ of_none m k slots P at is holds = subst (λ o. OfSlot o P) (ap (λ (ts : FinMap 
 pub put_there : (m : BTreeMap ℕ Slot Global) (k : ℕ) (t : Slot) (slots : FinMap nat_cmp Slot) (P : Slot → Type 0) → Some t ≡ tree.get nat_cmp m k
     → seen m ≡ slots → P t → OfSlot (get slots k) P
 put_there m k t slots P at is holds = subst (λ o. OfSlot o P) (at ∙ sym (get_seen m k) ∙ ap (λ (ts : FinMap nat_cmp Slot). get ts k) is) holds
+
+-- beside what was put, and where it was taken off again
+pub beside_put : (m : FinMap nat_cmp Slot) (k : ℕ) (w : Slot) (q : ℕ) → q ≢ k → get (insert m k w) q ≡ get m q
+beside_put m k w q apart = get-insert nat_cmp_total m k w q ∙ by_case (eq_by_cmp nat_cmp q k) refl
+  where
+    by_case : (b : Bool) → eq_by_cmp nat_cmp q k ≡ b → cond (eq_by_cmp nat_cmp q k) (Some w) (get m q) ≡ get m q
+    by_case true e = absurd (apart (nat_cmp-IsAntisymmetric q k ((Equal-is (nat_cmp q k)).0 e)))
+    by_case false e = ap (λ b. cond b (Some w) (get m q)) e
+
+pub removed_put : (m : FinMap nat_cmp Slot) (k : ℕ) (w : Slot) → get m k ≡ None → remove (insert m k w) k ≡ m
+removed_put m k w none = same_maps (remove (insert m k w) k) m (λ q. get-remove nat_cmp_total (insert m k w) k q ∙ by_case q (eq_by_cmp nat_cmp q k) refl)
+  where
+    by_case : (q : ℕ) (b : Bool) → eq_by_cmp nat_cmp q k ≡ b → cond (eq_by_cmp nat_cmp q k) None (get (insert m k w) q) ≡ get m q
+    by_case q true e =
+        ap (λ b. cond b None (get (insert m k w) q)) e ∙ sym none ∙ ap (get m) (sym (nat_cmp-IsAntisymmetric q k ((Equal-is (nat_cmp q k)).0 e)))
+    by_case q false e =
+        ap (λ b. cond b None (get (insert m k w) q)) e ∙ get-insert nat_cmp_total m k w q ∙ ap (λ b. cond b (Some w) (get m q)) e

@@ -1,5 +1,5 @@
 -- From what a machine does at an event to the move of its run.
-use Rattle.std.proofs.Common.{arith, ◌≡◌, ◌≢◌, ◌<◌, ◌≤◌, ℕ, slice_get, length, List, [], ◌∷◌, ◌++◌, refl, sym, ap, subst, ◌∙◌, Option, Some, None}
+use Rattle.std.proofs.Common.{arith, ◌≡◌, ◌≢◌, ◌<◌, ◌≤◌, ℕ, slice_get, length, List, [], ◌∷◌, ◌++◌, refl, sym, ap, subst, ◌∙◌, Option, Some, None, Bool, true, false, IsTrue, ◌↔◌}
 use Rattle.std.specs.FinMap.{FinMap, get, insert, remove}
 use Rattle.std.specs.Ordering.{nat_cmp}
 use Rattle.dpj_base.specs.declared.outcome.Limits.{Limits}
@@ -88,9 +88,9 @@ module _ (code : Code) (L : Limits) (old new : Run) (m : Moment) (e : Event) whe
       → (Within code old.world e → ⊥)
       → new ≡ record { world = old.world; slots = old.slots; schedule = old.schedule ++ e.task ∷ []; outcome = Some (limited L) }
       → Moved code L m e.task new
-  finished keeps x can no is = (
+  finished keeps x can refused is = (
     record { world = m.world; tasks = m.tasks; outcome = Some (limited L) },
-      over e x can (λ w. no (subst (λ v. Within code v e) (sym keeps.world) w)) refl,
+      over e x can (λ w. refused (subst (λ v. Within code v e) (sym keeps.world) w)) refl,
       record {
         world = ap (λ r. r.world) is ∙ keeps.world;
         outcome = ap (λ r. r.outcome) is;
@@ -124,8 +124,8 @@ module _ (code : Code) (L : Limits) (old new : Run) (m : Moment) (e : Event) whe
   pub went_on : (s : Slot) → HasNext (plain_code code) old m e.task → NextIn (plain_code code) m e s → Fits old.world e → IsOrdinary e.action
       → Comes code L old e (with_answer old.slots e.task s (answer_to old.world e)) old.outcome new
       → Moved code L m e.task new
-  went_on s h x fits ord (over_so no is) =
-      finished h.keeps x.next (record { fits = subst (λ w. Fits w e) h.keeps.world fits; starts = ord.start (plain_code code) x.next.stands.state }) no is
+  went_on s h x fits ord (over_so refused is) =
+      finished h.keeps x.next (record { fits = subst (λ w. Fits w e) h.keeps.world fits; starts = ord.start (plain_code code) x.next.stands.state }) refused is
   went_on s h x fits ord (made_so within is) =
       let n : Moment = after code m e x.next.stands.state x.next.stands.made in (
         n,
@@ -148,8 +148,8 @@ module _ (code : Code) (L : Limits) (old new : Run) (m : Moment) (e : Event) whe
   pub ended : (s : Slot) (y : Ending) → HasNext (plain_code code) old m e.task → NextIn (plain_code code) m e s → Fits old.world e → e.action ≡ action.End y
       → Comes code L old e (remove old.slots e.task) (outcome_after old.world (world_after code old.world e) e.task e.action) new
       → Moved code L m e.task new
-  ended s y h x fits act (over_so no is) =
-      finished h.keeps x.next (record { fits = subst (λ w. Fits w e) h.keeps.world fits; starts = subst (λ a. HasStart (plain_code code) x.next.stands.state a) (sym act) tt }) no is
+  ended s y h x fits act (over_so refused is) =
+      finished h.keeps x.next (record { fits = subst (λ w. Fits w e) h.keeps.world fits; starts = subst (λ a. HasStart (plain_code code) x.next.stands.state a) (sym act) tt }) refused is
   ended s y h x fits act (made_so within is) =
       let n : Moment = after code m e x.next.stands.state x.next.stands.made in (
         n,
@@ -184,12 +184,12 @@ module _ (code : Code) (L : Limits) (old new : Run) (m : Moment) (e : Event) whe
       → IsFirst old.world.tree.begun start child
       → Comes code L old e (with_answer (insert old.slots old.world.tree.begun child) e.task s (answer_to old.world e)) old.outcome new
       → Moved code L m e.task new
-  began s child b start can x fits act few starts apart first (over_so no is) =
+  began s child b start can x fits act few starts apart first (over_so refused is) =
       finished can.has_next.keeps x.next
       (record {
         fits = subst (λ w. Fits w e) can.has_next.keeps.world fits;
         starts = subst (λ a. HasStart (plain_code code) x.next.stands.state a) (sym act) (subst (λ z. b < length (starts_at (plain_code code) z)) (sym x.state) few);
-      }) no is
+      }) refused is
   began s child b start can x fits act few starts apart first (made_so within is) =
       let C : PlainCode = plain_code code in
       let keeps : Keeps C old m = can.has_next.keeps in
@@ -237,7 +237,7 @@ module _ (code : Code) (L : Limits) (old new : Run) (m : Moment) (e : Event) whe
 
 -- an event that doesn't fit, or has no start, can't be made
 pub unfit : (C : PlainCode) (old : Run) (m : Moment) (e : Event) (s : Slot) → Keeps C old m → NextIn C m e s → (Fits old.world e → ⊥) → IsStuck C m e.task
-unfit C old m e s keeps x no = record { event = e; next = x.next; unmade = λ can. no (subst (λ w. Fits w e) (sym keeps.world) can.fits) }
+unfit C old m e s keeps x refused = record { event = e; next = x.next; unmade = λ can. refused (subst (λ w. Fits w e) (sym keeps.world) can.fits) }
 
 pub no_start : (C : PlainCode) (m : Moment) (e : Event) (s : Slot) (b : ℕ) → NextIn C m e s → e.action ≡ action.Begin b
     → length (starts_at C (state_of s.task)) ≤ b → IsStuck C m e.task
@@ -269,12 +269,37 @@ module _ (code : Code) (L : Limits) (old new : Run) (m : Moment) (e : Event) whe
 
 pub stuck_unfit : (code : Code) (L : Limits) (old : Run) (m : Moment) (e : Event) (o : Option Slot) → get old.slots e.task ≡ o → CanStep code L old m e.task
     → OfSlot o (IsAt (plain_code code) e) → (Fits old.world e → ⊥) → IsStuck (plain_code code) m e.task
-stuck_unfit code L old m e None is can at no = absurd at
-stuck_unfit code L old m e (Some s) is can at no =
-    unfit (plain_code code) old m e s can.has_next.keeps (next_in (plain_code code) old m e s can.has_next is at) no
+stuck_unfit code L old m e None is can at refused = absurd at
+stuck_unfit code L old m e (Some s) is can at refused =
+    unfit (plain_code code) old m e s can.has_next.keeps (next_in (plain_code code) old m e s can.has_next is at) refused
 
 -- what was noted of an event
 pub noted : (code : Code) (L : Limits) (old new : Run) (e : Event) (slots : FinMap nat_cmp Slot) (outcome : Option Outcome)
     → Comes code L old e slots outcome new → new.schedule ≡ old.schedule ++ e.task ∷ []
 noted code L old new e slots outcome (made_so within is) = ap (λ r. r.schedule) is
-noted code L old new e slots outcome (over_so no is) = ap (λ r. r.schedule) is
+noted code L old new e slots outcome (over_so refused is) = ap (λ r. r.schedule) is
+
+-- a ready task isn't the next that begins
+pub apart : (C : PlainCode) (r : Run) (m : Moment) (k : ℕ) → HasNext C r m k → k ≢ r.world.tree.begun
+apart C r m k h same =
+    let there = h.goes.live k h.ready in
+    clash there.0 (sym there.1 ∙ ap m.tasks (same ∙ ap (λ (w : World). w.tree.begun) h.keeps.world) ∙ h.goes.next)
+  where
+    clash : (t : Running) → Some t ≡ None → ⊥
+    clash t e = cc
+
+pub noted_on : (code : Code) (L : Limits) (old new : Run) (e : Event) (o : Option Slot) → OfSlot o (IsAt (plain_code code) e)
+    → OfSlot o (λ s. Comes code L old e (with_answer old.slots e.task s (answer_to old.world e)) old.outcome new) → new.schedule ≡ old.schedule ++ e.task ∷ []
+noted_on code L old new e None at comes = absurd at
+noted_on code L old new e (Some s) at comes = noted code L old new e (with_answer old.slots e.task s (answer_to old.world e)) old.outcome comes
+
+-- a task that is kept at its event can still step
+pub can_after : (code : Code) (L : Limits) (old new : Run) (m : Moment) (k q : ℕ) → CanStep code L old m k → HasNext (plain_code code) new m k → q ≡ k
+    → CanStep code L new m q
+can_after code L old new m k q can has_next is =
+    subst (CanStep code L new m) (sym is) (record { has_next = has_next; later = can.later })
+
+-- an event that doesn't fit is told
+pub no_fit : (b : Bool) (P : Type 0) → (IsTrue b ↔ P) → b ≡ false → P → ⊥
+no_fit true P h e p = absurd (cc)
+no_fit false P h e p = let t : IsTrue false = h.1 p in cc
