@@ -23,7 +23,7 @@ run_of world slots schedule outcome = record { world = world; slots = slots; sch
 
 -- what is begun: the child stands in the map of slots, and its begin is recorded
 module _ (code : Code) (L : Limits) (old new : Run) (e : Event) (n : ℕ) (start : Start) (child : Slot) (slots : FinMap nat_cmp Slot)
-  (put : slots ≡ insert old.slots n child) where
+    (put : slots ≡ insert old.slots n child) where
   pub slot_there : (x : Answer) → Recorded code L (with_slots old slots) e (Some x) new → e.task ≢ n → get new.slots e.task ≡ get old.slots e.task
   slot_there x r apart =
       ap (λ (q : Run). get q.slots e.task) r.2 ∙ ap (λ (ss : FinMap nat_cmp Slot). get ss e.task) put ∙ beside_put old.slots n child e.task apart

@@ -42,7 +42,7 @@ module _ (code : Code) (L : Limits) (argument : ℤ) where
     few = few;
   }
 
-  pub is_replayed : (r : Run) → Plays code L argument r → IsReplayed (played r)
+  abbrev pub is_replayed : (r : Run) → Plays code L argument r → IsReplayed (played r)
   is_replayed r p = record { moment = p.moment; leads = p.leads; world = p.keeps.world; outcome = p.keeps.outcome }
 
   -- a ready task of a run that hasn't finished can step
@@ -100,3 +100,8 @@ module _ (code : Code) (L : Limits) (argument : ℤ) where
   pub why_at : (r : Run) (p : Plays code L argument r) (k : ℕ) (h : Halted) → WhyHalted (plain_code code) p.moment k h → WhyHaltedAt (played r) k h
   why_at r p k halted.Stuck why = record { replayed = is_replayed r p; stuck = why }
   why_at r p k halted.NoMemory why = tt
+
+-- a fact for the other answer
+pub on_err : {T E : Type 0} (r : Result T E) (Q : Type 0) → Q → OnErr r Q
+on_err (Ok x) Q q = tt
+on_err (Err e) Q q = q

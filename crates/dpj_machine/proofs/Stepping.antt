@@ -90,12 +90,12 @@ module _ (code : Code) (L : Limits) (old new : Run) (m : Moment) (e : Event) whe
       → Moved code L m e.task new
   finished keeps x can refused is = (
     record { world = m.world; tasks = m.tasks; outcome = Some (limited L) },
-      over e x can (λ w. refused (subst (λ v. Within code v e) (sym keeps.world) w)) refl,
-      record {
-        world = ap (λ r. r.world) is ∙ keeps.world;
-        outcome = ap (λ r. r.outcome) is;
-        stand = subst (λ slots. AllStand (plain_code code) slots m.tasks) (sym (ap (λ r. r.slots) is)) keeps.stand;
-      },
+    over e x can (λ w. refused (subst (λ v. Within code v e) (sym keeps.world) w)) refl,
+    record {
+      world = ap (λ r. r.world) is ∙ keeps.world;
+      outcome = ap (λ r. r.outcome) is;
+      stand = subst (λ slots. AllStand (plain_code code) slots m.tasks) (sym (ap (λ r. r.slots) is)) keeps.stand;
+    },
   )
 
   -- the halt that is answered is that of the task as it is kept
@@ -129,19 +129,19 @@ module _ (code : Code) (L : Limits) (old new : Run) (m : Moment) (e : Event) whe
   went_on s h x fits ord (made_so within is) =
       let n : Moment = after code m e x.next.stands.state x.next.stands.made in (
         n,
-          made e x.next (record { fits = subst (λ w. Fits w e) h.keeps.world fits; starts = ord.start (plain_code code) x.next.stands.state })
-          (subst (λ v. Within code v e) h.keeps.world within) refl,
-          record {
-            world = ap (λ r. r.world) is ∙ ap (λ w. world_after code w e) h.keeps.world;
-            outcome = ap (λ r. r.outcome) is ∙ h.keeps.outcome ∙ h.unfinished ∙ sym (ord.out m.world (world_after code m.world e) e.task);
-            stand = subst (λ slots. AllStand (plain_code code) slots n.tasks) (sym (ap (λ r. r.slots) is))
-                (subst (λ tasks. AllStand (plain_code code) (with_answer old.slots e.task s (answer_to old.world e)) (with_task tasks e.task
-                (goes_on e.action (front (plain_code code) e.task e.turns x.next.stands.made x.next.stands.state) (answer_to m.world e))))
-                (sym (ord.branch (plain_code code) x.next.stands.state m.world.tree.begun m.tasks))
-                (stand_put (plain_code code) old.slots m.tasks e.task (record { task = s.task; pending = Some (answer_to old.world e) })
-                (goes_on e.action (front (plain_code code) e.task e.turns x.next.stands.made x.next.stands.state) (answer_to m.world e)) h.keeps.stand
-                (answered_here s h.keeps x fits ord.no_end ord.on)));
-          },
+        made e x.next (record { fits = subst (λ w. Fits w e) h.keeps.world fits; starts = ord.start (plain_code code) x.next.stands.state })
+            (subst (λ v. Within code v e) h.keeps.world within) refl,
+        record {
+          world = ap (λ r. r.world) is ∙ ap (λ w. world_after code w e) h.keeps.world;
+          outcome = ap (λ r. r.outcome) is ∙ h.keeps.outcome ∙ h.unfinished ∙ sym (ord.out m.world (world_after code m.world e) e.task);
+          stand = subst (λ slots. AllStand (plain_code code) slots n.tasks) (sym (ap (λ r. r.slots) is))
+              (subst (λ tasks. AllStand (plain_code code) (with_answer old.slots e.task s (answer_to old.world e)) (with_task tasks e.task
+              (goes_on e.action (front (plain_code code) e.task e.turns x.next.stands.made x.next.stands.state) (answer_to m.world e))))
+              (sym (ord.branch (plain_code code) x.next.stands.state m.world.tree.begun m.tasks))
+              (stand_put (plain_code code) old.slots m.tasks e.task (record { task = s.task; pending = Some (answer_to old.world e) })
+              (goes_on e.action (front (plain_code code) e.task e.turns x.next.stands.made x.next.stands.state) (answer_to m.world e)) h.keeps.stand
+              (answered_here s h.keeps x fits ord.no_end ord.on)));
+        },
       )
 
   -- the end of a task
@@ -153,17 +153,17 @@ module _ (code : Code) (L : Limits) (old new : Run) (m : Moment) (e : Event) whe
   ended s y h x fits act (made_so within is) =
       let n : Moment = after code m e x.next.stands.state x.next.stands.made in (
         n,
-          made e x.next
-          (record { fits = subst (λ w. Fits w e) h.keeps.world fits; starts = subst (λ a. HasStart (plain_code code) x.next.stands.state a) (sym act) tt })
-          (subst (λ v. Within code v e) h.keeps.world within) refl,
-          record {
-            world = ap (λ r. r.world) is ∙ ap (λ w. world_after code w e) h.keeps.world;
-            outcome = ap (λ r. r.outcome) is ∙ ap (λ w. outcome_after w (world_after code w e) e.task e.action) h.keeps.world;
-            stand = subst (λ slots. AllStand (plain_code code) slots n.tasks) (sym (ap (λ r. r.slots) is))
-                (subst (λ a. AllStand (plain_code code) (remove old.slots e.task) (with_task (with_branch (plain_code code) x.next.stands.state a m.world.tree.begun m.tasks)
-                e.task (goes_on a (front (plain_code code) e.task e.turns x.next.stands.made x.next.stands.state) (answer_to m.world e)))) (sym act)
-                (stand_taken (plain_code code) old.slots m.tasks e.task h.keeps.stand));
-          },
+        made e x.next
+            (record { fits = subst (λ w. Fits w e) h.keeps.world fits; starts = subst (λ a. HasStart (plain_code code) x.next.stands.state a) (sym act) tt })
+            (subst (λ v. Within code v e) h.keeps.world within) refl,
+        record {
+          world = ap (λ r. r.world) is ∙ ap (λ w. world_after code w e) h.keeps.world;
+          outcome = ap (λ r. r.outcome) is ∙ ap (λ w. outcome_after w (world_after code w e) e.task e.action) h.keeps.world;
+          stand = subst (λ slots. AllStand (plain_code code) slots n.tasks) (sym (ap (λ r. r.slots) is))
+              (subst (λ a. AllStand (plain_code code) (remove old.slots e.task) (with_task (with_branch (plain_code code) x.next.stands.state a m.world.tree.begun m.tasks)
+              e.task (goes_on a (front (plain_code code) e.task e.turns x.next.stands.made x.next.stands.state) (answer_to m.world e)))) (sym act)
+              (stand_taken (plain_code code) old.slots m.tasks e.task h.keeps.stand));
+        },
       )
 
   -- a branch that has begun is beside the task that began it
@@ -218,15 +218,15 @@ module _ (code : Code) (L : Limits) (old new : Run) (m : Moment) (e : Event) whe
       (record { task = s.task; pending = Some (answer_to old.world e) }) (goes_on e.action h (answer_to m.world e)) put
       (answered_here s keeps x fits (no_end b act) (goes_as b act)) in (
         n,
-          moves,
-          record {
-            world = ap (λ r. r.world) is ∙ ap (λ w. world_after code w e) keeps.world;
-            outcome = ap (λ r. r.outcome) is ∙ keeps.outcome ∙ can.has_next.unfinished ∙ sym (ap (outcome_after m.world (world_after code m.world e) e.task) act);
-            stand = subst (λ slots. AllStand C slots n.tasks) (sym (ap (λ r. r.slots) is))
-                (subst (λ q. AllStand C (with_answer (insert old.slots q child) e.task s (answer_to old.world e)) n.tasks) (sym next_is)
-                (subst (λ tasks. AllStand C (with_answer (insert old.slots m.world.tree.begun child) e.task s (answer_to old.world e))
-                (with_task tasks e.task (goes_on e.action h (answer_to m.world e)))) (sym branch) both));
-          },
+        moves,
+        record {
+          world = ap (λ r. r.world) is ∙ ap (λ w. world_after code w e) keeps.world;
+          outcome = ap (λ r. r.outcome) is ∙ keeps.outcome ∙ can.has_next.unfinished ∙ sym (ap (outcome_after m.world (world_after code m.world e) e.task) act);
+          stand = subst (λ slots. AllStand C slots n.tasks) (sym (ap (λ r. r.slots) is))
+              (subst (λ q. AllStand C (with_answer (insert old.slots q child) e.task s (answer_to old.world e)) n.tasks) (sym next_is)
+              (subst (λ tasks. AllStand C (with_answer (insert old.slots m.world.tree.begun child) e.task s (answer_to old.world e))
+              (with_task tasks e.task (goes_on e.action h (answer_to m.world e)))) (sym branch) both));
+        },
       )
     where
       no_end : (b : ℕ) → e.action ≡ action.Begin b → (y : Ending) → e.action ≡ action.End y → ⊥

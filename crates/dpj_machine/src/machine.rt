@@ -100,10 +100,7 @@ impl Machine {
         ensures err { OnErr result (self.new ≡ self.old) }
     {
         self.run.step(self.alloc, &self.code, self.limits, task)?;
-        Ok(match &self.run.outcome {
-            Some(_) => Stepped::Finished,
-            None => Stepped::More,
-        })
+        Ok(what_is_left(&self.run))
     }
 
     /// Steps the greatest ready task until the machine has finished, or no task is ready. After want of memory, and where it is
@@ -163,5 +160,15 @@ impl Machine {
         ensures { result ≡ self.now.argument }
     {
         self.argument
+    }
+}
+
+/// What a step has left.
+fn what_is_left(run: &Run) -> Stepped
+    ensures { (result ≡ Stepped.Finished) ↔ IsSome run.now.outcome }
+{
+    match &run.outcome {
+        Some(_) => Stepped::Finished,
+        None => Stepped::More,
     }
 }

@@ -1,16 +1,16 @@
 ghost use Rattle.std.specs.Prelude.{◌≡◌, ◌≤◌, [], IfOk};
 ghost use Rattle.dpj_code.specs.Plain.{plain_code};
 ghost use Rattle.dpj_machine.specs.Keeping.{Keeps};
-ghost use Rattle.dpj_machine.specs.Replay.{Moment, Opens};
+ghost use Rattle.dpj_machine.specs.Replay.{Moment, Opens, MakesMain};
 ghost use Rattle.dpj_machine.specs.Running.{AllGo};
 
 use crate::outcome::limited;
 use crate::run::Run;
 use crate::slot::Slot;
 use crate::slots::Slots;
-use dpj_base::{Items, Limits, NoMemory};
+use dpj_base::{Items, Limits, NoMemory, Outcome};
 use dpj_code::Code;
-use dpj_heap::HeapStop;
+use dpj_heap::{Heap, HeapStop};
 use dpj_legs::main_start;
 use dpj_world::{World, first_fields};
 use std::alloc::Global;
@@ -23,15 +23,7 @@ pub fn start(alloc: Global, code: &Code, limits: Limits, argument: i32) -> Resul
     ensures nothing { IfOk result (λ run. run.schedule ≡ []) }
 {
     let mut world = World::open(alloc, limits)?;
-    let class = code.main_class;
-    let made = world
-        .heap
-        .new_object(class, first_fields(code, class), Items::new(alloc));
-    let outcome = match made {
-        Ok(_) => None,
-        Err(HeapStop::Full) => Some(limited(alloc, limits)),
-        Err(HeapStop::NoMemory) => return Err(NoMemory),
-    };
+    let outcome = make_main(alloc, code, limits, &mut world.heap)?;
     let mut slots = Slots::new(alloc);
     let root = main_start(alloc, code, 0, argument)?;
     slots.insert(0, Slot::start(alloc, 0, root))?;
@@ -41,4 +33,21 @@ pub fn start(alloc: Global, code: &Code, limits: Limits, argument: i32) -> Resul
         schedule: Items::new(alloc),
         outcome,
     })
+}
+
+/// Makes the object of `main`. Where there aren't cells for it, that is how the run comes out.
+fn make_main(
+    alloc: Global,
+    code: &Code,
+    limits: Limits,
+    heap: &mut Heap,
+) -> Result<Option<Outcome>, NoMemory>
+    ensures { IfOk result (MakesMain code.now limits heap.old heap.new) }
+{
+    let class = code.main_class;
+    match heap.new_object(class, first_fields(code, class), Items::new(alloc)) {
+        Ok(_) => Ok(None),
+        Err(HeapStop::Full) => Ok(Some(limited(alloc, limits))),
+        Err(HeapStop::NoMemory) => Err(NoMemory),
+    }
 }
