@@ -1,11 +1,11 @@
 -- A task that is given its answer begins its next leg, and goes on its way.
-use Rattle.std.proofs.Common.{arith, ◌≡◌, ◌<◌, ◌+◌, ◌^◌, ℕ, ◌==◌, if◌then◌else◌, refl, sym, ap, ◌∙◌, false, Option, Some, None}
+use Rattle.std.proofs.Common.{arith, ◌≡◌, ℕ, ◌==◌, if◌then◌else◌, refl, sym, ap, ◌∙◌, false, Some}
 use Rattle.dpj_meaning.specs.Actions.{Do, Rest}
 use Rattle.dpj_meaning.specs.Asking.{most_turns}
 use Rattle.dpj_code.specs.Legs.{Halt, Asks, Finished, Dead, leg}
 use Rattle.dpj_code.specs.Machine.{State}
 use Rattle.dpj_code.specs.Plain.{PlainCode}
-use Rattle.dpj_legs.specs.Halts.{leg_from, Halts, OnTheWay, front_of, Follows, Ends, Paced}
+use Rattle.dpj_legs.specs.Halts.{leg_from, OnTheWay, front_of, Follows, Ends, Paced}
 use Rattle.dpj_legs.specs.Names.{names_of}
 use Rattle.dpj_legs.specs.Tasks.{state_of, plain_answer}
 use Rattle.dpj_legs.specs.declared.action.Answer.{Answer}

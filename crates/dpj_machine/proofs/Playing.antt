@@ -1,5 +1,5 @@
 -- What a machine keeps of its run, at its start and through a step.
-use Rattle.std.proofs.Common.{◌≡◌, ℕ, ℤ, List, [], ◌∷◌, ◌++◌, All, reverse, Option, Some, None, Result, Ok, Err, IfErr, OnOk, OnErr, refl, sym, ap, subst, ◌∙◌}
+use Rattle.std.proofs.Common.{◌≡◌, ℕ, ℤ, List, [], ◌∷◌, ◌++◌, All, reverse, Option, Some, None, Result, Ok, Err, OnErr, refl, sym, ap, subst, ◌∙◌}
 use Rattle.std.proofs.lemmas.List.{reverse-append}
 use Rattle.dpj_base.specs.declared.outcome.Limits.{Limits}
 use Rattle.dpj_base.specs.declared.outcome.Outcome.{Outcome}
@@ -14,7 +14,7 @@ use Rattle.dpj_machine.specs.declared.run.Run.{Run}
 use Rattle.dpj_machine.specs.Running.{Running, GoesOne, AllGo}
 use Rattle.dpj_machine.specs.Replay.{Moment, Moves, LeadsTo, Opens}
 use Rattle.dpj_machine.specs.Premise.{GoesOn, GoesOnAble}
-use Rattle.dpj_machine.specs.Keeping.{Keeps, HasNext, CanStep, Played, IsReplayed, IsStuckAt, WhyHalted, WhyHaltedAt, IsAfter, Plays}
+use Rattle.dpj_machine.specs.Keeping.{Keeps, CanStep, Played, IsReplayed, WhyHalted, WhyHaltedAt, IsAfter, Plays}
 
 -- tasks that go on
 all_go : (C : PlainCode) (m : Moment) → GoesOn C m → AllGo C m.tasks

@@ -1,5 +1,5 @@
 -- From what a machine does at an event to the move of its run.
-use Rattle.std.proofs.Common.{arith, ◌≡◌, ◌≢◌, ◌<◌, ◌≤◌, ℕ, slice_get, length, List, [], ◌∷◌, ◌++◌, refl, sym, ap, subst, ◌∙◌, Option, Some, None, Bool, true, false, IsTrue, ◌↔◌}
+use Rattle.std.proofs.Common.{arith, ◌≡◌, ◌≢◌, ◌<◌, ◌≤◌, ℕ, slice_get, length, [], ◌∷◌, ◌++◌, refl, sym, ap, subst, ◌∙◌, Option, Some, None, Bool, true, false, IsTrue, ◌↔◌}
 use Rattle.std.specs.FinMap.{FinMap, get, insert, remove}
 use Rattle.std.specs.Ordering.{nat_cmp}
 use Rattle.dpj_base.specs.declared.outcome.Limits.{Limits}
@@ -13,7 +13,6 @@ use Rattle.dpj_legs.specs.Names.{names_of}
 use Rattle.dpj_legs.specs.Branches.{starts_at}
 use Rattle.dpj_legs.specs.Tasks.{state_of, plain_start}
 use Rattle.dpj_legs.specs.declared.task.Start.{Start}
-use Rattle.dpj_legs.specs.declared.action.Action.{Action}
 use Rattle.dpj_legs.specs.declared.action.Action.TheVariants as action
 use Rattle.dpj_legs.specs.declared.action.Answer.{Answer}
 use Rattle.dpj_legs.specs.declared.action.Ending.{Ending}

@@ -1,6 +1,5 @@
 -- The run that a schedule records: each number is a ready task, which makes its next event.
-use Rattle.std.specs.Prelude.{◌≡◌, ℕ, suc, ◌+◌, ◌≤◌, ◌<◌, ◌⊎◌, ℤ, pos, ◌==◌, if◌then◌else◌, cond, List, [], ◌∷◌, length, map, Option, Some, None, option_map, slice_get}
-use Rattle.std.specs.FinMap.{get}
+use Rattle.std.specs.Prelude.{◌≡◌, ℕ, ◌+◌, ◌≤◌, ◌<◌, ℤ, pos, ◌==◌, if◌then◌else◌, List, [], ◌∷◌, length, map, Option, Some, None, option_map, slice_get}
 use Rattle.dpj_base.specs.declared.effect.Effect.{Effect}
 use Rattle.dpj_base.specs.declared.outcome.Ending.{Ending as Came}
 use Rattle.dpj_base.specs.declared.outcome.Ending.TheVariants as came
@@ -15,7 +14,7 @@ use Rattle.dpj_code.specs.declared.instr.Instr.{Instr}
 use Rattle.dpj_code.specs.declared.instr.Instr.TheVariants as i
 use Rattle.dpj_code.specs.Legs.{Halt, Leg}
 use Rattle.dpj_code.specs.Machine.{Level, State, On, Rested, Off, Nowhere, Start, root_start}
-use Rattle.dpj_code.specs.Plain.{Line, Site, block_site, fork_site, spread_site, call_site, new_site, array_site, PlainCode, plain_code, body_at}
+use Rattle.dpj_code.specs.Plain.{Line, Site, block_site, PlainCode, plain_code, body_at}
 use Rattle.dpj_heap.specs.Heap.{Contents, instance, with_object}
 use Rattle.dpj_legs.specs.Branches.{starts_at}
 use Rattle.dpj_legs.specs.Halts.{Tells}

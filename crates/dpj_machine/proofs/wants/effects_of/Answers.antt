@@ -1,5 +1,5 @@
 -- One effect more, with its path from the root.
-use Rattle.std.proofs.Common.{sym, subst, ap, ◌≡◌, ◌∙◌, map, take, ◌+◌, arith}
+use Rattle.std.proofs.Common.{sym, subst, ap, ◌∙◌, map}
 use Rattle.dpj_locks.specs.Locks.{AllRoot}
 use Rattle.dpj_meaning.specs.Regions.{around, concrete_effect}
 use Rattle.dpj_legs.specs.Names.{names_of, plain_effect}

@@ -1,7 +1,6 @@
 -- A task that is given its answer begins its next leg.
-use Rattle.std.proofs.Common.{sym, subst, ◌∙◌}
+use Rattle.std.proofs.Common.{sym, subst}
 use Rattle.dpj_code.specs.Plain.{plain_code}
-use Rattle.dpj_legs.specs.Answers.{IsCounted}
 use Rattle.dpj_machine.specs.Running.{StandsWith, IsAnswered}
 use Rattle.dpj_machine.proofs.Delivering.{on_its_way, delivered}
 use Rattle.dpj_machine.proofs.slot.Slot.deliver.Goals as goal

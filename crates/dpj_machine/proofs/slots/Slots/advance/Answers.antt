@@ -1,10 +1,10 @@
 -- A task in the map goes on to its next action.
-use Rattle.std.proofs.Common.{◌≡◌, ap, sym, subst, ◌∙◌, ℕ, Option}
+use Rattle.std.proofs.Common.{◌≡◌, ap, sym, subst, ◌∙◌}
 use Rattle.std.specs.FinMap.{FinMap, get, insert}
 use Rattle.std.specs.Ordering.{nat_cmp}
 use Rattle.dpj_code.specs.Plain.{plain_code}
 use Rattle.dpj_machine.specs.declared.slot.Slot.{Slot}
-use Rattle.dpj_machine.specs.Running.{Running, CanGo, AllStand, StandsForOne}
+use Rattle.dpj_machine.specs.Running.{CanGo, AllStand, StandsForOne}
 use Rattle.dpj_machine.proofs.Maps.{seen, written, got, get_seen, of_found, of_none}
 use Rattle.dpj_machine.proofs.Tasks.{stand_kept, stands_still, stands_at}
 use Rattle.dpj_machine.proofs.slots.Slots.advance.Goals as goal
