@@ -63,12 +63,14 @@ abbrev pub LiesInEntry : List Effect → Access → Type 0
 LiesInEntry [] a = ⊥
 LiesInEntry (e ∷ E) a = (Matches run_env (as_path e.region) a.region × (a.write ≡ true → is_write e.access ≡ true)) ⊎ LiesInEntry E a
 
--- what a task keeps to: its name, what it may do, in the setting in which it began, and whether it began inside a block
+-- what a task keeps to: its name, what it may do, in the setting in which it began, whether it began inside a block, and the members
+-- that it may enter there, since they never reach an nd construct
 pub record Bounds : Type 0 where
   pub path : Path
   pub setting : Setting
   pub effects : List Own
   pub inside : Bool
+  pub never_nd : ℕ → Bool
 
 abbrev pub is_entered : List (List Effect) → Bool
 is_entered [] = false
