@@ -1,0 +1,123 @@
+ghost use Rattle.std.specs.Prelude.{◌≡◌, ◌≤◌, length, IfOk, IfErr};
+ghost use Rattle.dpj_base.specs.Refused.{IfRefused};
+ghost use Rattle.dpj_headers.specs.Second.{AreCounted};
+ghost use Rattle.dpj_tokens.specs.Cutting.{StandInOrder};
+ghost use Rattle.dpj_tree.specs.Size.{program_size};
+ghost use Rattle.dpj_top.specs.Answer.{HasProgram, IsFault, IsPassed, IsTokenFault, first_place};
+ghost use Rattle.dpj_top.specs.Judging.{HasTable, IsAccepted, IsFaulty, CanRun, typed_of, typed_with};
+
+use dpj_assembly::program;
+use dpj_base::{Bytes, Items, NoMemory, Place, Stop};
+use dpj_check::{Accepted, check};
+use dpj_classes::{Table, build};
+use dpj_parse::parse;
+use dpj_resolved::laws::{law_begins, law_has_rows, law_resolved};
+use dpj_tokens::{Tokens, tokens};
+use dpj_tree::Program as Tree;
+use dpj_typed::Program;
+use std::alloc::Global;
+
+/// An accepted program by its parts, and where the first token of its text stands. The typed program is put together of them
+/// where it is asked for.
+#[derive(Drop)]
+pub struct Passed {
+    pub names: Items<Bytes>,
+    pub table: Table,
+    pub checked: Accepted,
+    pub place: Place,
+}
+
+impl Passed {
+    ghost use Rattle.std.specs.Prelude.{◌≡◌, IfOk};
+    ghost use Rattle.dpj_typed.specs.Plain.{plain_program};
+    ghost use Rattle.dpj_top.specs.Judging.{typed_of};
+
+    /// The typed program. Its size grows with the square of a chain of superclasses, since each class has all fields.
+    pub fn typed(self, alloc: Global) -> Result<Program, NoMemory>
+        ensures { IfOk result (λ made. plain_program made ≡ typed_of self) }
+    {
+        let Passed {
+            names,
+            table,
+            checked,
+            ..
+        } = self;
+        program(
+            alloc,
+            names.as_slice(),
+            &table,
+            checked.uses_nd,
+            checked.bodies,
+        )
+    }
+}
+
+/// The program of a text, or the text's first fault.
+pub fn front(alloc: Global, text: &[u8]) -> Result<Passed, Stop>
+    requires { length text.now ≤ 1048576 }
+    ensures accepted { IfOk result (λ passed. IsPassed text.now passed.place (typed_of passed)) }
+    ensures can_run { IfOk result (λ passed. CanRun (typed_of passed)) }
+    ensures fault { IfErr result (λ stop. IfRefused stop (IsFault text.now)) }
+{
+    let tokens = tokens(alloc, text)?;
+    judge_text(alloc, text, &tokens)
+}
+
+/// The program that tokens derive, or the first fault of their grammar or of their program.
+fn judge_text(alloc: Global, text: &[u8], tokens: &Tokens) -> Result<Passed, Stop>
+    requires short { length text.now ≤ 1048576 }
+    requires stand { StandInOrder text.now 0 tokens.now.list }
+    ensures accepted { IfOk result (λ passed. HasProgram text.now tokens.now.list (typed_of passed)) }
+    ensures can_run { IfOk result (λ passed. CanRun (typed_of passed)) }
+    ensures place { IfOk result (λ passed. passed.place ≡ first_place tokens.now.list tokens.now.end) }
+    ensures fault { IfErr result (λ stop. IfRefused stop (IsTokenFault text.now tokens.now.list tokens.now.end)) }
+{
+    let tree = parse(alloc, text, tokens)?;
+    judge_program(alloc, tree, first_place(tokens))
+}
+
+/// The program of a tree whose text begins here, or the first fault of its class table or of its bodies.
+fn judge_program(alloc: Global, tree: Tree, place: Place) -> Result<Passed, Stop>
+    requires counted { AreCounted (length tree.names) tree.classes }
+    requires small { program_size tree ≤ 1048576 }
+    ensures accepted { IfOk result (λ passed. IsAccepted tree (typed_of passed)) }
+    ensures can_run { IfOk result (λ passed. CanRun (typed_of passed)) }
+    ensures place { IfOk result (λ passed. passed.place ≡ place) }
+    ensures fault { IfErr result (λ stop. IfRefused stop (IsFaulty tree)) }
+{
+    let table = build(alloc, &tree)?;
+    let checked = judge_bodies(alloc, &tree, &table)?;
+    let Tree { names, .. } = tree;
+    Ok(Passed {
+        names,
+        table,
+        checked,
+        place,
+    })
+}
+
+/// What the checker makes of the bodies, or the first fault in them, where this is the program's class table.
+fn judge_bodies(alloc: Global, tree: &Tree, table: &Table) -> Result<Accepted, Stop>
+    requires counted { AreCounted (length tree.now.names) tree.now.classes }
+    requires small { program_size tree.now ≤ 1048576 }
+    requires has_table { HasTable tree.now table.now }
+    ensures accepted { IfOk result (λ checked. IsAccepted tree.now (typed_with table.now tree.now.names checked)) }
+    ensures can_run { IfOk result (λ checked. CanRun (typed_with table.now tree.now.names checked)) }
+    ensures fault { IfErr result (λ stop. IfRefused stop (IsFaulty tree.now)) }
+{
+    let accepted = check(alloc, tree, table)?;
+    law_resolved();
+    law_begins();
+    law_has_rows();
+    Ok(accepted)
+}
+
+/// Where the first token stands, or the end of a text without one.
+fn first_place(tokens: &Tokens) -> Place
+    ensures { result ≡ first_place tokens.now.list tokens.now.end }
+{
+    match tokens.list.get(0) {
+        Some(token) => token.place,
+        None => tokens.end,
+    }
+}
