@@ -1,11 +1,11 @@
-mod Worlds
-mod Counts
+pub mod Worlds
+pub mod Counts
 mod Meaning
-mod Memory
-mod Writes
-mod NewThings
-mod Doing
-mod Simulation
+pub mod Memory
+pub mod Writes
+pub mod NewThings
+pub mod Doing
+pub mod Simulation
 mod Loops
 mod Branches
 mod Programs

@@ -1,0 +1,6 @@
+pub mod Sights
+pub mod Readings
+pub mod Steps
+pub mod Legs
+pub mod Heaps
+pub mod Joins

@@ -1,0 +1,4 @@
+//! The law of recorded runs.
+
+/// Nothing yet.
+pub fn law_recorded() {}

@@ -1,0 +1,10 @@
+//! What a machine records is a run of the source: each number of a schedule makes in a machine on compiled code exactly the
+//! event that the theory of runs asks of the program.
+//!
+//! `specs/Laws.antt` has the statements: wherever a schedule leads a machine, it records a run of the program; and where the
+//! machine has finished, the schedule has finished, and comes out as the machine tells. A machine numbers objects and tasks in
+//! the order in which they are made, and a run names them by their makers and by their paths; `proofs/` ties the one to the
+//! other, event by event. The crate has no code of its own.
+#![tactic(auto)]
+
+pub mod laws;
