@@ -4,3 +4,4 @@ pub mod Steps
 pub mod Legs
 pub mod Heaps
 pub mod Joins
+pub mod Forking
