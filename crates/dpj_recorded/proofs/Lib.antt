@@ -5,3 +5,4 @@ pub mod Legs
 pub mod Heaps
 pub mod Joins
 pub mod Forking
+pub mod Wrapping
