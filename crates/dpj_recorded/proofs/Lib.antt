@@ -6,3 +6,6 @@ pub mod Heaps
 pub mod Joins
 pub mod Forking
 pub mod Wrapping
+pub mod Ties
+pub mod Asked
+pub mod Trees

@@ -1,0 +1,183 @@
+-- How the tie of the live tasks goes on over an event of one of them after which it is still there.
+use Rattle.std.proofs.Common.{◌≡◌, ◌≢◌, ◌≤◌, ◌<◌, ◌⊎◌, inl, inr, ⊎_elim, ℕ, zero, suc, ◌+◌, ◌==◌, if◌then◌else◌, ℤ, Bool, true, false, List, [], ◌∷◌, ◌++◌, length, refl, sym, ap, ◌∙◌, subst, Option, Some, None, slice_get, arith}
+use Rattle.std.proofs.lemmas.Bool.Decides.{eqb_tells}
+use Rattle.std.specs.FinMap.{get, insert}
+use Rattle.dpj_base.specs.declared.outcome.Limits.{Limits}
+use Rattle.dpj_typed.specs.Plain.{PlainProgram}
+use Rattle.dpj_code.specs.Plain.{PlainCode}
+use Rattle.dpj_runs.specs.Actions.{Action, Begin, Do, Fork, Join, End, Program, Rule}
+use Rattle.dpj_runs.specs.Objects.{Path}
+use Rattle.dpj_runs.specs.Runs.{Begun, Event, Faithful, Follows, Run, Upto, branch, cells_of, count, entry_step, event_cells, event_steps, later, mine, now, root, total}
+use Rattle.dpj_runs.specs.Schedules.{Numbered, begins, branch_is, one_begin, root_is}
+use Rattle.dpj_runs.proofs.Cost.{total_step}
+use Rattle.dpj_runs.proofs.Mine.{mine_nil, mine_other, mine_same, path_cases}
+use Rattle.dpj_runs.proofs.Numbers.{begins_step, number_same}
+use Rattle.dpj_runs.proofs.Upto.{upto_trans, upto_none}
+use Rattle.dpj_tasks.specs.Tree.{Tasks, Tree, changed, changed_to}
+use Rattle.dpj_tasks.specs.declared.task.Origin.{Origin}
+use Rattle.dpj_tasks.specs.declared.task.Task.{Task as Live}
+use Rattle.dpj_tasks.proofs.Numbers.{get_inserted, get_beside}
+use Rattle.dpj_machine.specs.Replay.{Moment, with_task}
+use Rattle.dpj_machine.specs.Running.{Running}
+use Rattle.dpj_recorded.proofs.Sights.{Sight, Wider}
+use Rattle.dpj_recorded.proofs.Heaps.{HeapTied}
+use Rattle.dpj_recorded.proofs.Ties.{Q, TaskTied, ScopeTied, BranchTied, OriginTied, LiveTied, NumbersTied, CostsTied, Tied, task_later, scope_later}
+
+-- tasks with one in the place of what was there
+pub placed : (base : ℕ → Option Running) (i : ℕ) (o : Option Running) (q : ℕ) → q ≡ i → with_task base i o q ≡ o
+placed base i o q same = elim (eqb_tells q i) [
+  | inl x ↦ ap (λ b. if b then o else base q) x.0
+  | inr x ↦ absurd (x.1 same)
+]
+
+pub beside : (base : ℕ → Option Running) (i : ℕ) (o : Option Running) (q : ℕ) → q ≢ i → with_task base i o q ≡ base q
+beside base i o q apart = elim (eqb_tells q i) [
+  | inl x ↦ absurd (apart x.1)
+  | inr x ↦ ap (λ b. if b then o else base q) x.0
+]
+
+pub changed_own : (tasks : Tasks) (k : ℕ) (f : Live → Live) {x : Live} → get tasks k ≡ Some x → get (changed tasks k f) k ≡ Some (f x)
+changed_own tasks k f {x} e = ap (λ o. get (changed_to tasks k o f) k) e ∙ get_inserted tasks k (f x)
+
+pub changed_other : (tasks : Tasks) (k : ℕ) (f : Live → Live) {x : Live} (j : ℕ) → get tasks k ≡ Some x → j ≢ k → get (changed tasks k f) j ≡ get tasks j
+changed_other tasks k f {x} j e apart = ap (λ o. get (changed_to tasks k o f) j) e ∙ get_beside tasks k j (f x) apart
+
+pub numbered_later : {R : Run} {k : ℕ} {p : Path} (e : Event) → Numbered R k p → Numbered (e ∷ R) k p
+numbered_later e (root_is a b) = root_is a b
+numbered_later e (branch_is q u G g a b c d n k) = branch_is q u G g a (later b) c d n k
+
+-- the entry of the root has been paid with the first event, which is the root's
+pub entered_next : {P : Program} {R : Run} (e : Event) → Follows P R e → (entry_step (mine R []) ≡ 1) ⊎ (R ≡ []) → entry_step (mine (e ∷ R) []) ≡ 1
+entered_next {P} {R} e f (inl h) = ⊎_elim
+    (λ is. ap entry_step (mine_same e R [] is))
+    (λ apart. ap entry_step (mine_other e R [] apart) ∙ h) (path_cases e.path [])
+entered_next {P} {R} e f (inr h) = ap entry_step (mine_same e R [] (first f.begun h))
+  where
+    first : {p : Path} → Begun P R p f.task → R ≡ [] → p ≡ []
+    first (root a b) z = a
+    first (branch q u F g ts B k a b c d e s h i j m) z = absurd (upto_none (subst (λ S. Upto (g ∷ F) S) z b))
+
+-- one task has one number
+module _ {w : Sight} {R : Run} {begun : ℕ} (N : NumbersTied w R begun) where
+  pub apart_paths : (j k : ℕ) (p q : Path) → slice_get w.paths j ≡ Some p → slice_get w.paths k ≡ Some q → j ≢ k → p ≡ q → ⊥
+  apart_paths j k p q a b apart same = apart (number_same (N.numbered j p a) (subst (λ z. Numbered R k z) (sym same) (N.numbered k q b)))
+
+-- no path is that of a task below it
+pub above_apart : (u : ℕ × ℕ) (p q : Path) → p ≡ u ∷ q → q ≡ p → ⊥
+above_apart u p q e f = (let l = ap (λ z. length z) (f ∙ e) in omega (arith, l))
+
+pub path_one : (w : Sight) (k : ℕ) {p q : Path} → slice_get w.paths k ≡ Some p → slice_get w.paths k ≡ Some q → p ≡ q
+path_one w k {p} {q} a b = (let same : Some p ≡ Some q = sym a ∙ b in cc)
+
+module _ (P : PlainProgram) (arg : ℤ) (rule : Rule) (C : PlainCode) (L : Limits) where
+  -- the costs after an event
+  pub record Costs (m n : Moment) (e : Event) : Type 0 where
+    pub steps : n.world.steps ≡ m.world.steps + event_steps e
+    pub cells : n.world.heap.used ≡ m.world.heap.used + event_cells e
+    pub most_steps : n.world.most_steps ≡ m.world.most_steps
+    pub most_cells : n.world.heap.limit ≡ m.world.heap.limit
+
+  pub costs_next : (m n : Moment) {R : Run} (e : Event) → Costs m n e → CostsTied P arg rule C L R m.world → CostsTied P arg rule C L (e ∷ R) n.world
+  costs_next m n {R} e c h = record {
+    steps = (let a = c.steps in let b = h.steps in let t = total_step event_steps e R in omega (arith, a, b, t));
+    cells = (let a = c.cells in let b = h.cells in let t = total_step event_cells e R in omega (arith, a, b, t));
+    most_steps = c.most_steps ∙ h.most_steps;
+    most_cells = c.most_cells ∙ h.most_cells;
+  }
+
+  -- where a branch came from, over an event of a task that isn't its parent
+  module _ {v w : Sight} (wide : Wider v w) {R : Run} {begun : ℕ} (N : NumbersTied v R begun) (e : Event) (k : ℕ) (own : slice_get v.paths k ≡ Some e.path)
+      (old new : Tasks) (others : (j : ℕ) → j ≢ k → get new j ≡ get old j) where
+    pub origin_later : (p : Path) (o : Option Origin) → ((x : Origin) → o ≡ Some x → x.parent ≢ k) → OriginTied P arg rule C v R old p o → OriginTied P arg rule C w (e ∷ R) new p o
+    origin_later p None apart h = h
+    origin_later p (Some x) apart h = record {
+      above = h.above;
+      step = h.step;
+      is = h.is;
+      there = wide.paths x.parent h.above h.there;
+      branch = h.branch;
+      parent = h.parent;
+      parent_is = others x.parent (apart x refl) ∙ h.parent_is;
+      scope = h.scope;
+      state = h.state;
+      unended = h.unended;
+      number = h.number ∙ ap length (sym (mine_other e R h.above (λ same. apart_paths N x.parent k h.above e.path h.there own (apart x refl) (sym same))));
+    }
+
+    -- another task that isn't its branch
+    pub live_later : {running new_running : ℕ → Option Running} (j : ℕ) (x : Live) → j ≢ k → ((o : Origin) → x.origin ≡ Some o → o.parent ≢ k)
+        → new_running j ≡ running j → LiveTied P arg rule C v R old running j x → LiveTied P arg rule C w (e ∷ R) new new_running j x
+    live_later j x apart childless same V = record {
+      path = V.path;
+      there = wide.paths j V.path V.there;
+      runs = V.runs;
+      runs_so = same ∙ V.runs_so;
+      task = task_later P arg rule C wide R e away V.task;
+      origin = origin_later V.path x.origin childless V.origin;
+      scope = scope_later P arg rule C wide R e V.path V.runs.state x.state away (let t = total_step event_steps e R in omega (arith, t)) V.scope;
+    }
+      where
+        away : e.path ≡ V.path → ⊥
+        away is = apart_paths N j k V.path e.path V.there own apart (sym is)
+
+  -- an event of a task that goes on, and begins no branch
+  module _ (m n : Moment) {v w : Sight} {R : Run} (T : Tied P arg rule C L m v R) (k : ℕ) (x y : Live) (x_is : get m.world.tree.tasks k ≡ Some x)
+      (wide : Wider v w) (paths : w.paths ≡ v.paths) (e : Event) (own : slice_get v.paths k ≡ Some e.path) (follows : Follows (Q P arg rule C) R e)
+      (no_begin : one_begin e.act ≡ 0) (heap : HeapTied (Q P arg rule C) w (e ∷ R) n.world.heap.objects) (begun_same : n.world.tree.begun ≡ m.world.tree.begun)
+      (others : (j : ℕ) → j ≢ k → get n.world.tree.tasks j ≡ get m.world.tree.tasks j) (y_is : get n.world.tree.tasks k ≡ Some y) (origin_same : y.origin ≡ x.origin)
+      (beside_it : (j : ℕ) → j ≢ k → n.tasks j ≡ m.tasks j) (t : Running) (t_is : n.tasks k ≡ Some t) (task : TaskTied P arg rule C w (e ∷ R) e.path t)
+      (scope : ScopeTied P arg rule C w (e ∷ R) e.path t.state y.state)
+      (childless : (j : ℕ) (z : Live) (o : Origin) → j ≢ k → get m.world.tree.tasks j ≡ Some z → z.origin ≡ Some o → o.parent ≢ k)
+      (costs : Costs m n e) where
+    V : LiveTied P arg rule C v R m.world.tree.tasks m.tasks k x
+    V = T.live k x x_is
+
+    own_path : V.path ≡ e.path
+    own_path = path_one v k V.there own
+
+    -- a task isn't its own parent
+    not_itself : (o : Option Origin) → OriginTied P arg rule C v R m.world.tree.tasks V.path o → (z : Origin) → o ≡ Some z → z.parent ≢ k
+    not_itself None h z is same = absurd (cc)
+    not_itself (Some u) h z is same =
+        let uz : u ≡ z = cc in
+        above_apart h.step V.path h.above h.is (path_one v k (subst (λ j. slice_get v.paths j ≡ Some h.above) (ap (λ (o : Origin). o.parent) uz ∙ same) h.there) V.there)
+
+    numbers_next : NumbersTied w (e ∷ R) n.world.tree.begun
+    numbers_next = record {
+      many = ap length paths ∙ T.numbers.many ∙ sym begun_same;
+      count = (let a = begun_same in let b = T.numbers.count in let c = begins_step e R in let d = no_begin in omega (arith, a, b, c, d));
+      numbered = λ j p h. numbered_later e (T.numbers.numbered j p (subst (λ ps. slice_get ps j ≡ Some p) paths h));
+      entered = inl (entered_next {P = Q P arg rule C} e follows T.numbers.entered);
+    }
+
+    itself : LiveTied P arg rule C w (e ∷ R) n.world.tree.tasks n.tasks k y
+    itself = record {
+      path = e.path;
+      there = wide.paths k e.path own;
+      runs = t;
+      runs_so = t_is;
+      task = task;
+      origin = subst (λ o. OriginTied P arg rule C w (e ∷ R) n.world.tree.tasks e.path o) (sym origin_same)
+          (origin_later wide T.numbers e k own m.world.tree.tasks n.world.tree.tasks others e.path x.origin (not_itself x.origin V.origin)
+          (subst (λ p. OriginTied P arg rule C v R m.world.tree.tasks p x.origin) own_path V.origin));
+      scope = scope;
+    }
+
+    live_next : (j : ℕ) (z : Live) → get n.world.tree.tasks j ≡ Some z → LiveTied P arg rule C w (e ∷ R) n.world.tree.tasks n.tasks j z
+    live_next j z h = elim (eqb_tells j k) [
+      | inl s ↦ (let is : get n.world.tree.tasks k ≡ Some z = subst (λ i. get n.world.tree.tasks i ≡ Some z) s.1 h in
+          let same : y ≡ z = (let both : Some y ≡ Some z = sym y_is ∙ is in cc) in
+          subst (λ i. LiveTied P arg rule C w (e ∷ R) n.world.tree.tasks n.tasks i z) (sym s.1)
+          (subst (λ z. LiveTied P arg rule C w (e ∷ R) n.world.tree.tasks n.tasks k z) same itself))
+      | inr s ↦ (let before : get m.world.tree.tasks j ≡ Some z = sym (others j s.1) ∙ h in
+          live_later wide T.numbers e k own m.world.tree.tasks n.world.tree.tasks others j z s.1 (λ o is. childless j z o s.1 before is) (beside_it j s.1) (T.live j z before))
+    ]
+
+    pub plain_next : Tied P arg rule C L n w (e ∷ R)
+    plain_next = record {
+      heap = heap;
+      numbers = numbers_next;
+      costs = costs_next m n e costs T.costs;
+      faithful = (follows, T.faithful);
+      live = live_next;
+    }
