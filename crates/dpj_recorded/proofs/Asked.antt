@@ -32,16 +32,16 @@ use Rattle.dpj_recorded.proofs.Sights.{Sight, Wider, StartsLike, OwnLike, Action
 use Rattle.dpj_recorded.proofs.Legs.{HaltOf, leg_like, StandsAfter, after_answer, halts_next}
 use Rattle.dpj_recorded.proofs.Ties.{Q, TaskTied, ForkTied, ScopeTied}
 
-abbrev ActionIn : Type 0
+abbrev pub ActionIn : Type 0
 ActionIn = ActionOver ℕ (ℕ × ℕ) (Start ℕ (ℕ × ℕ))
 
-abbrev ActionOf : Type 0
+abbrev pub ActionOf : Type 0
 ActionOf = ActionOver Name LocalRegion (Start Name LocalRegion)
 
-abbrev ThenIn : Type 0
+abbrev pub ThenIn : Type 0
 ThenIn = AnswerOver ℕ (ℕ × ℕ) → State ℕ (ℕ × ℕ)
 
-abbrev ThenOf : Type 0
+abbrev pub ThenOf : Type 0
 ThenOf = Answer → State Name LocalRegion
 
 -- where both stand at an action, or both at their end

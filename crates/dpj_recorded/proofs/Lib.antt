@@ -9,3 +9,4 @@ pub mod Wrapping
 pub mod Ties
 pub mod Asked
 pub mod Trees
+pub mod Acting
