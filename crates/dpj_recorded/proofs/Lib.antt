@@ -10,3 +10,4 @@ pub mod Ties
 pub mod Asked
 pub mod Trees
 pub mod Acting
+pub mod Owns
