@@ -38,7 +38,7 @@ use Rattle.dpj_recorded.proofs.Sights.{Sight, Wider, OwnLike, AnswerLike, HaltLi
 use Rattle.dpj_recorded.proofs.Legs.{HaltOf, StandsAfter, after_answer}
 use Rattle.dpj_recorded.proofs.Heaps.{HeapTied, OwnTied}
 use Rattle.dpj_recorded.proofs.Ties.{Q, TaskTied, ScopeTied, OriginTied, BranchTied, LiveTied, Tied}
-use Rattle.dpj_recorded.proofs.Asked.{ActionIn, ActionOf, BothAt, both_at, own_like, reply_act, same_do, runs_if, Stood, stood}
+use Rattle.dpj_recorded.proofs.Asked.{ActionIn, ActionOf, ActsAt, acts_at, BothAt, both_at, own_like, reply_act, same_do, runs_if, Stood, stood}
 use Rattle.dpj_recorded.proofs.Trees.{Costs, placed, beside, plain_next}
 
 abbrev pub RightFor : PlainCode → PlainProgram → Type 0
@@ -94,11 +94,11 @@ module _ (code : Code) (P : PlainProgram) (arg : ℤ) (rule : Rule) (L : Limits)
       pub asks : (Q P arg rule C).meaning live.path live.task.task (answers (mine R live.path)) ≡ Next turns act
       pub same : SameAct C P act both.act
 
-    pub asked_at : (b : ActionIn) → ((e : EndingOver ℕ) → b ≡ End e → ⊥) → ((c : ActionIn) → Says C a c → c ≡ b) → AskedAt b
-    asked_at b no_end says = record { both = both; turns_are = turns_are; act = r.0; asks = r.1 ∙ ap (λ n. Next n r.0) turns_are; same = r.2 }
+    pub asked_at : (b : ActionIn) → ActsAt at b → AskedAt b
+    asked_at b acts = record { both = both; turns_are = turns_are; act = r.0; asks = r.1 ∙ ap (λ n. Next n r.0) turns_are; same = r.2 }
       where
         both : BothAt w at here.halt b
-        both = both_at C a b no_end says here.like x.stands.tells
+        both = both_at b here.like acts
 
         turns_are : both.turns ≡ turns
         turns_are = (subst (λ h. TellsCounts turns x.stands.made h) both.is_in (front_counts C k turns x.stands.made x.stands.state)).0
@@ -162,7 +162,7 @@ module _ (code : Code) (P : PlainProgram) (arg : ℤ) (rule : Rule) (L : Limits)
     V = live T k turns wants a x
 
     A : AskedAt T k turns wants a x (Do o)
-    A = asked_at T k turns wants a x (Do o) (λ e i. (cc)) says
+    A = asked_at T k turns wants a x (Do o) (acts_at C a (Do o) (λ e i. (cc)) says (at T k turns wants a x) x.stands.tells)
 
     own : (q : Own) × (A.both.act ≡ Do q) × OwnLike w o q
     own = own_like A.both.like

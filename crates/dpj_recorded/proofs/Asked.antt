@@ -56,23 +56,32 @@ pub record BothAt (w : Sight) (h : Halt ℕ (ℕ × ℕ)) (g : HaltOf) (a : Acti
   pub like : ActionLike w a act
   pub on : OnLike w then_in then_of
 
-pub both_at : {w : Sight} {h : Halt ℕ (ℕ × ℕ)} {g : HaltOf} (C : PlainCode) (x : DeclaredAction) (a : ActionIn) → ((e : EndingOver ℕ) → a ≡ End e → ⊥)
-    → ((b : ActionIn) → Says C x b → b ≡ a) → HaltLike w h g → Tells C x h → BothAt w h g a
-both_at {w} C x a no_end says (asks_like turns made {a = b} {b = c} {f = f} {g = k} l on) tells =
-    let e : b ≡ a = says b tells in
-    record {
-      turns = turns;
-      made = made;
-      act = c;
-      then_in = f;
-      then_of = k;
-      is_in = ap (λ z. AsksAt turns made z f) e;
-      is_of = refl;
-      like = subst (λ z. ActionLike w z c) e l;
-      on = on;
-    }
-both_at C x a no_end says (finished_like turns {e = e} l) tells = absurd (no_end e (sym (says (End e) tells)))
-both_at C x a no_end says dead_like tells = absurd tells
+-- a task stands at this action
+abbrev pub ActsAt : Halt ℕ (ℕ × ℕ) → ActionIn → Type 0
+ActsAt (AsksAt turns made b f) a = b ≡ a
+ActsAt (Finished turns e) a = ⊥
+ActsAt Dead a = ⊥
+
+pub acts_at : (C : PlainCode) (x : DeclaredAction) (a : ActionIn) → ((e : EndingOver ℕ) → a ≡ End e → ⊥) → ((b : ActionIn) → Says C x b → b ≡ a)
+    → (h : Halt ℕ (ℕ × ℕ)) → Tells C x h → ActsAt h a
+acts_at C x a no_end says (AsksAt turns made b f) tells = says b tells
+acts_at C x a no_end says (Finished turns e) tells = absurd (no_end e (sym (says (End e) tells)))
+acts_at C x a no_end says Dead tells = absurd tells
+
+pub both_at : {w : Sight} {h : Halt ℕ (ℕ × ℕ)} {g : HaltOf} (a : ActionIn) → HaltLike w h g → ActsAt h a → BothAt w h g a
+both_at {w} a (asks_like turns made {a = b} {b = c} {f = f} {g = k} l on) e = record {
+  turns = turns;
+  made = made;
+  act = c;
+  then_in = f;
+  then_of = k;
+  is_in = ap (λ z. AsksAt turns made z f) e;
+  is_of = refl;
+  like = subst (λ z. ActionLike w z c) e l;
+  on = on;
+}
+both_at a (finished_like turns l) e = absurd e
+both_at a dead_like e = absurd e
 
 -- the actions that are like
 pub own_like : {w : Sight} {o : OwnOver ℕ (ℕ × ℕ)} {b : ActionOf} → ActionLike w (Do o) b → (q : Own) × (b ≡ Do q) × OwnLike w o q

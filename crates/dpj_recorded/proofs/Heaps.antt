@@ -11,9 +11,12 @@ use Rattle.dpj_meaning.specs.Actions.{Own as OwnOver, Answer as AnswerOver, Rest
 use Rattle.dpj_meaning.specs.Actions.{Went, Got, Out, Class, Length, Named, Joined, Fell}
 use Rattle.dpj_meaning.specs.Elision.{LocalRegion as Counted, Held, held, Heap, Store, at_index, set_at, read_of, write_of, look_of, answer as elided_answer, heap_after, after}
 use Rattle.dpj_meaning.specs.Elision.{written as heap_written}
-use Rattle.dpj_runs.specs.Actions.{Own, Answer, Do, Program}
-use Rattle.dpj_runs.specs.Objects.{Path, Name, Thing, An_object, An_array, LocalRegion}
-use Rattle.dpj_runs.specs.Runs.{Event, Run, reply, seen, thing_of, made, made_by, mine, things, at_start, now, later, answered_by, total, event_steps}
+use Rattle.dpj_base.specs.declared.place.Place.{Place}
+use Rattle.dpj_base.specs.declared.value.Trap.{Trap}
+use Rattle.dpj_runs.specs.Actions.{Own, Answer, Do, Program, cells, steps}
+use Rattle.dpj_runs.specs.Order.{printed_by, trap_in}
+use Rattle.dpj_runs.specs.Objects.{Cell, Path, Name, Thing, An_object, An_array, LocalRegion}
+use Rattle.dpj_runs.specs.Runs.{Event, Run, reply, seen, thing_of, made, made_by, written_by, mine, things, at_start, now, later, answered_by, total, event_steps}
 use Rattle.dpj_runs.proofs.Mine.{mine_same}
 use Rattle.dpj_runs.proofs.Things.{thing_later, same_some}
 use Rattle.dpj_heap.specs.Heap.{Object, instance, array, values_of, with_values, object_at, no_object, Contents}
@@ -27,7 +30,7 @@ use Rattle.dpj_world.specs.World.{seen as object_seen}
 use Rattle.dpj_elided.proofs.Worlds.{Names, Distinct, Later, name_later, ValueLike}
 use Rattle.dpj_elided.proofs.Worlds as elided
 use Rattle.dpj_elided.proofs.Memory.{Holds, Stands}
-use Rattle.dpj_elided.proofs.Doing.{Answered, own_step}
+use Rattle.dpj_elided.proofs.Doing.{Answered, own_step, structure_step}
 use Rattle.dpj_elided.proofs.NewThings.{things_step}
 use Rattle.dpj_elided.proofs.Writes.{last_there}
 use Rattle.dpj_recorded.proofs.Sights.{Sight, Wider, wider_none, Each, RegionsLike, regions_later, ThingLike, an_object, an_array}
@@ -266,6 +269,17 @@ module _ (Q : Program) where
     pub went : {o : OwnOver ℕ Counted} {q : Own} → elided.OwnLike w.names o q → heap_after o T.store.heap ≡ T.store.heap
         → elided_answer T.store.heap o ≡ Went → OwnTied w R p turns q answer.Went objects
     went {o} like still e = quiet answer.Went like still (λ b r k. same_answer k (subst (λ a. SameAnswer a Went) (sym e) refl))
+
+    -- a fork, a begin, a join or an end
+    pub structural : (e : Event) → e.turns ≡ turns → ((c : Cell) → written_by c e.act ≡ None) → ((f : Option (Trap × Place)) → printed_by e.act f ≡ [])
+        → cells e.act ≡ 0 → HeapTied w (e ∷ R) objects
+    structural e same writes prints free = record {
+      store = record Turned { trap = trap_in e.act T.store.trap; steps = Turned.steps + steps e.act };
+      holds = structure_step Q turned p e same writes prints free (record Turned { trap = trap_in e.act T.store.trap; steps = Turned.steps + steps e.act })
+          refl refl refl refl refl;
+      values = T.values;
+      shown = λ n y z a b. shown_later e (wider_none T.holds.distinct) (T.shown n y z a b);
+    }
 
     pub reads : (n : ℕ) (x : Name) (i : ℤ) (heap : Contents) → heap.objects ≡ objects → slice_get w.names n ≡ Some x
         → OwnTied w R p turns (Read x i) (read_at (object_at heap n) i) objects

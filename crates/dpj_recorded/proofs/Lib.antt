@@ -11,3 +11,4 @@ pub mod Asked
 pub mod Trees
 pub mod Acting
 pub mod Owns
+pub mod Forks

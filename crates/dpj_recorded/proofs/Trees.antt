@@ -87,38 +87,57 @@ module _ (P : PlainProgram) (arg : ℤ) (rule : Rule) (C : PlainCode) (L : Limit
 
   -- where a branch came from, over an event of a task that isn't its parent
   module _ {v w : Sight} (wide : Wider v w) {R : Run} {begun : ℕ} (N : NumbersTied v R begun) (e : Event) (k : ℕ) (own : slice_get v.paths k ≡ Some e.path)
-      (old new : Tasks) (others : (j : ℕ) → j ≢ k → get new j ≡ get old j) where
-    pub origin_later : (p : Path) (o : Option Origin) → ((x : Origin) → o ≡ Some x → x.parent ≢ k) → OriginTied P arg rule C v R old p o → OriginTied P arg rule C w (e ∷ R) new p o
-    origin_later p None apart h = h
-    origin_later p (Some x) apart h = record {
+      (old new : Tasks) where
+    pub branch_later : (p : Path) (x : Origin) → x.parent ≢ k → get new x.parent ≡ get old x.parent → BranchTied P arg rule C v R old p x
+        → BranchTied P arg rule C w (e ∷ R) new p x
+    branch_later p x apart same h = record {
       above = h.above;
       step = h.step;
       is = h.is;
       there = wide.paths x.parent h.above h.there;
       branch = h.branch;
       parent = h.parent;
-      parent_is = others x.parent (apart x refl) ∙ h.parent_is;
+      parent_is = same ∙ h.parent_is;
       scope = h.scope;
       state = h.state;
       unended = h.unended;
-      number = h.number ∙ ap length (sym (mine_other e R h.above (λ same. apart_paths N x.parent k h.above e.path h.there own (apart x refl) (sym same))));
+      number = h.number ∙ ap length (sym (mine_other e R h.above (λ same. apart_paths N x.parent k h.above e.path h.there own apart (sym same))));
     }
 
-    -- another task that isn't its branch
-    pub live_later : {running new_running : ℕ → Option Running} (j : ℕ) (x : Live) → j ≢ k → ((o : Origin) → x.origin ≡ Some o → o.parent ≢ k)
-        → new_running j ≡ running j → LiveTied P arg rule C v R old running j x → LiveTied P arg rule C w (e ∷ R) new new_running j x
-    live_later j x apart childless same V = record {
+    pub origin_later : (p : Path) (o : Option Origin) → ((x : Origin) → o ≡ Some x → (x.parent ≢ k) × (get new x.parent ≡ get old x.parent))
+        → OriginTied P arg rule C v R old p o → OriginTied P arg rule C w (e ∷ R) new p o
+    origin_later p None apart h = h
+    origin_later p (Some x) apart h = branch_later p x (apart x refl).0 (apart x refl).1 h
+
+    -- another task
+    pub live_with : {running new_running : ℕ → Option Running} (j : ℕ) (x : Live) → j ≢ k → new_running j ≡ running j
+        → (V : LiveTied P arg rule C v R old running j x) → OriginTied P arg rule C w (e ∷ R) new V.path x.origin → LiveTied P arg rule C w (e ∷ R) new new_running j x
+    live_with j x apart same V origin = record {
       path = V.path;
       there = wide.paths j V.path V.there;
       runs = V.runs;
       runs_so = same ∙ V.runs_so;
       task = task_later P arg rule C wide R e away V.task;
-      origin = origin_later V.path x.origin childless V.origin;
+      origin = origin;
       scope = scope_later P arg rule C wide R e V.path V.runs.state x.state away (let t = total_step event_steps e R in omega (arith, t)) V.scope;
     }
       where
         away : e.path ≡ V.path → ⊥
         away is = apart_paths N j k V.path e.path V.there own apart (sym is)
+
+    -- another task that isn't its branch
+    pub live_later : {running new_running : ℕ → Option Running} (j : ℕ) (x : Live) → j ≢ k
+        → ((o : Origin) → x.origin ≡ Some o → (o.parent ≢ k) × (get new o.parent ≡ get old o.parent))
+        → new_running j ≡ running j → LiveTied P arg rule C v R old running j x → LiveTied P arg rule C w (e ∷ R) new new_running j x
+    live_later j x apart childless same V = live_with j x apart same V (origin_later V.path x.origin childless V.origin)
+
+  -- a task isn't its own parent
+  pub not_itself : (v : Sight) (R : Run) (tasks : Tasks) (k : ℕ) {p : Path} → slice_get v.paths k ≡ Some p → (o : Option Origin) → OriginTied P arg rule C v R tasks p o
+      → (z : Origin) → o ≡ Some z → z.parent ≢ k
+  not_itself v R tasks k there None h z is same = absurd (cc)
+  not_itself v R tasks k {p} there (Some u) h z is same =
+      let uz : u ≡ z = cc in
+      above_apart h.step p h.above h.is (path_one v k (subst (λ j. slice_get v.paths j ≡ Some h.above) (ap (λ (o : Origin). o.parent) uz ∙ same) h.there) there)
 
   -- an event of a task that goes on, and begins no branch
   module _ (m n : Moment) {v w : Sight} {R : Run} (T : Tied P arg rule C L m v R) (k : ℕ) (x y : Live) (x_is : get m.world.tree.tasks k ≡ Some x)
@@ -134,13 +153,6 @@ module _ (P : PlainProgram) (arg : ℤ) (rule : Rule) (C : PlainCode) (L : Limit
 
     own_path : V.path ≡ e.path
     own_path = path_one v k V.there own
-
-    -- a task isn't its own parent
-    not_itself : (o : Option Origin) → OriginTied P arg rule C v R m.world.tree.tasks V.path o → (z : Origin) → o ≡ Some z → z.parent ≢ k
-    not_itself None h z is same = absurd (cc)
-    not_itself (Some u) h z is same =
-        let uz : u ≡ z = cc in
-        above_apart h.step V.path h.above h.is (path_one v k (subst (λ j. slice_get v.paths j ≡ Some h.above) (ap (λ (o : Origin). o.parent) uz ∙ same) h.there) V.there)
 
     numbers_next : NumbersTied w (e ∷ R) n.world.tree.begun
     numbers_next = record {
@@ -158,7 +170,7 @@ module _ (P : PlainProgram) (arg : ℤ) (rule : Rule) (C : PlainCode) (L : Limit
       runs_so = t_is;
       task = task;
       origin = subst (λ o. OriginTied P arg rule C w (e ∷ R) n.world.tree.tasks e.path o) (sym origin_same)
-          (origin_later wide T.numbers e k own m.world.tree.tasks n.world.tree.tasks others e.path x.origin (not_itself x.origin V.origin)
+          (origin_later wide T.numbers e k own m.world.tree.tasks n.world.tree.tasks e.path x.origin (λ z is. (not_itself v R m.world.tree.tasks k V.there x.origin V.origin z is, others z.parent (not_itself v R m.world.tree.tasks k V.there x.origin V.origin z is)))
           (subst (λ p. OriginTied P arg rule C v R m.world.tree.tasks p x.origin) own_path V.origin));
       scope = scope;
     }
@@ -170,7 +182,7 @@ module _ (P : PlainProgram) (arg : ℤ) (rule : Rule) (C : PlainCode) (L : Limit
           subst (λ i. LiveTied P arg rule C w (e ∷ R) n.world.tree.tasks n.tasks i z) (sym s.1)
           (subst (λ z. LiveTied P arg rule C w (e ∷ R) n.world.tree.tasks n.tasks k z) same itself))
       | inr s ↦ (let before : get m.world.tree.tasks j ≡ Some z = sym (others j s.1) ∙ h in
-          live_later wide T.numbers e k own m.world.tree.tasks n.world.tree.tasks others j z s.1 (λ o is. childless j z o s.1 before is) (beside_it j s.1) (T.live j z before))
+          live_later wide T.numbers e k own m.world.tree.tasks n.world.tree.tasks j z s.1 (λ o is. (childless j z o s.1 before is, others o.parent (childless j z o s.1 before is))) (beside_it j s.1) (T.live j z before))
     ]
 
     pub plain_next : Tied P arg rule C L n w (e ∷ R)
