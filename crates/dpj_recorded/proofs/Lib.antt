@@ -12,3 +12,4 @@ pub mod Trees
 pub mod Acting
 pub mod Owns
 pub mod Forks
+pub mod Joinings
