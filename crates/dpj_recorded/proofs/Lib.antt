@@ -13,3 +13,4 @@ pub mod Acting
 pub mod Owns
 pub mod Forks
 pub mod Joinings
+pub mod Endings

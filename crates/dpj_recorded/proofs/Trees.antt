@@ -1,7 +1,9 @@
 -- How the tie of the live tasks goes on over an event of one of them after which it is still there.
-use Rattle.std.proofs.Common.{◌≡◌, ◌≢◌, ◌≤◌, ◌<◌, ◌⊎◌, inl, inr, ⊎_elim, ℕ, zero, suc, ◌+◌, ◌==◌, if◌then◌else◌, ℤ, Bool, true, false, List, [], ◌∷◌, ◌++◌, length, refl, sym, ap, ◌∙◌, subst, Option, Some, None, slice_get, arith}
+use Rattle.std.proofs.Common.{◌≡◌, ◌≢◌, ◌≤◌, ◌<◌, ◌⊎◌, inl, inr, ⊎_elim, ℕ, zero, suc, ◌+◌, ◌==◌, if◌then◌else◌, ℤ, Bool, true, false, cond, List, [], ◌∷◌, ◌++◌, length, refl, sym, ap, ◌∙◌, subst, Option, Some, None, slice_get, arith}
 use Rattle.std.proofs.lemmas.Bool.Decides.{eqb_tells}
-use Rattle.std.specs.FinMap.{get, insert}
+use Rattle.std.specs.Cmp.{nat_cmp_total}
+use Rattle.std.specs.FinMap.{get, insert, remove, get-remove}
+use Rattle.std.specs.Ordering.{nat_cmp, eq_by_cmp}
 use Rattle.dpj_base.specs.declared.outcome.Limits.{Limits}
 use Rattle.dpj_typed.specs.Plain.{PlainProgram}
 use Rattle.dpj_code.specs.Plain.{PlainCode}
@@ -16,7 +18,7 @@ use Rattle.dpj_runs.proofs.Upto.{upto_trans, upto_none}
 use Rattle.dpj_tasks.specs.Tree.{Tasks, Tree, changed, changed_to}
 use Rattle.dpj_tasks.specs.declared.task.Origin.{Origin}
 use Rattle.dpj_tasks.specs.declared.task.Task.{Task as Live}
-use Rattle.dpj_tasks.proofs.Numbers.{get_inserted, get_beside}
+use Rattle.dpj_tasks.proofs.Numbers.{get_inserted, get_beside, itself as number_itself, other_number, same_number}
 use Rattle.dpj_machine.specs.Replay.{Moment, with_task}
 use Rattle.dpj_machine.specs.Running.{Running}
 use Rattle.dpj_recorded.proofs.Sights.{Sight, Wider}
@@ -42,6 +44,17 @@ changed_own tasks k f {x} e = ap (λ o. get (changed_to tasks k o f) k) e ∙ ge
 pub changed_other : (tasks : Tasks) (k : ℕ) (f : Live → Live) {x : Live} (j : ℕ) → get tasks k ≡ Some x → j ≢ k → get (changed tasks k f) j ≡ get tasks j
 changed_other tasks k f {x} j e apart = ap (λ o. get (changed_to tasks k o f) j) e ∙ get_beside tasks k j (f x) apart
 
+-- without a task
+pub removed_tells : (tasks : Tasks) (k j : ℕ) {x : Live} → get (remove tasks k) j ≡ Some x → (j ≢ k) × (get tasks j ≡ Some x)
+removed_tells tasks k j {x} e = go (eq_by_cmp nat_cmp j k) refl (sym (get-remove nat_cmp_total tasks k j) ∙ e)
+  where
+    go : (b : Bool) → eq_by_cmp nat_cmp j k ≡ b → cond b None (get tasks j) ≡ Some x → (j ≢ k) × (get tasks j ≡ Some x)
+    go true i f = absurd (cc)
+    go false i f = (λ same. (let is = subst (λ z. eq_by_cmp nat_cmp z k ≡ true) (sym same) (number_itself k) in cc), f)
+
+pub removed_other : (tasks : Tasks) (k j : ℕ) → j ≢ k → get (remove tasks k) j ≡ get tasks j
+removed_other tasks k j apart = get-remove nat_cmp_total tasks k j ∙ ap (λ b. cond b None (get tasks j)) (other_number j k apart)
+
 pub numbered_later : {R : Run} {k : ℕ} {p : Path} (e : Event) → Numbered R k p → Numbered (e ∷ R) k p
 numbered_later e (root_is a b) = root_is a b
 numbered_later e (branch_is q u G g a b c d n k) = branch_is q u G g a (later b) c d n k
@@ -56,6 +69,16 @@ entered_next {P} {R} e f (inr h) = ap entry_step (mine_same e R [] (first f.begu
     first : {p : Path} → Begun P R p f.task → R ≡ [] → p ≡ []
     first (root a b) z = a
     first (branch q u F g ts B k a b c d e s h i j m) z = absurd (upto_none (subst (λ S. Upto (g ∷ F) S) z b))
+
+-- the numbers stay, over an event that begins no branch
+pub numbers_kept : {P : Program} {v w : Sight} {R : Run} {a b : ℕ} (e : Event) → Follows P R e → one_begin e.act ≡ 0 → Wider v w → w.paths ≡ v.paths → b ≡ a
+    → NumbersTied v R a → NumbersTied w (e ∷ R) b
+numbers_kept {P} {v} {w} {R} e follows no_begin wide paths same N = record {
+  many = ap length paths ∙ N.many ∙ sym same;
+  count = (let b = N.count in let c = begins_step e R in omega (arith, same, b, c, no_begin));
+  numbered = λ j p h. numbered_later e (N.numbered j p (subst (λ ps. slice_get ps j ≡ Some p) paths h));
+  entered = inl (entered_next {P = P} e follows N.entered);
+}
 
 -- one task has one number
 module _ {w : Sight} {R : Run} {begun : ℕ} (N : NumbersTied w R begun) where
@@ -154,14 +177,6 @@ module _ (P : PlainProgram) (arg : ℤ) (rule : Rule) (C : PlainCode) (L : Limit
     own_path : V.path ≡ e.path
     own_path = path_one v k V.there own
 
-    numbers_next : NumbersTied w (e ∷ R) n.world.tree.begun
-    numbers_next = record {
-      many = ap length paths ∙ T.numbers.many ∙ sym begun_same;
-      count = (let a = begun_same in let b = T.numbers.count in let c = begins_step e R in let d = no_begin in omega (arith, a, b, c, d));
-      numbered = λ j p h. numbered_later e (T.numbers.numbered j p (subst (λ ps. slice_get ps j ≡ Some p) paths h));
-      entered = inl (entered_next {P = Q P arg rule C} e follows T.numbers.entered);
-    }
-
     itself : LiveTied P arg rule C w (e ∷ R) n.world.tree.tasks n.tasks k y
     itself = record {
       path = e.path;
@@ -188,7 +203,7 @@ module _ (P : PlainProgram) (arg : ℤ) (rule : Rule) (C : PlainCode) (L : Limit
     pub plain_next : Tied P arg rule C L n w (e ∷ R)
     plain_next = record {
       heap = heap;
-      numbers = numbers_next;
+      numbers = numbers_kept {P = Q P arg rule C} e follows no_begin wide paths begun_same T.numbers;
       costs = costs_next m n e costs T.costs;
       faithful = (follows, T.faithful);
       live = live_next;
