@@ -19,7 +19,7 @@ use Rattle.dpj_code.specs.declared.instr.Instr.{Instr}
 use Rattle.dpj_code.specs.declared.instr.Instr.TheVariants as i
 use Rattle.dpj_code.specs.Fit.{site_at}
 use Rattle.dpj_code.specs.Legs.{Halt, Asks, Finished, Dead, legged, leg, Leg}
-use Rattle.dpj_code.specs.Machine.{Level, Start, State, On, Rested, Off, Nowhere, Stand, Goes, Turns, Makes, Waits, Ends, Stuck, next, one, two, three, taken, or_trap, unless_null, cell_read, cell_written, reads, writes, deeper, unless_long, entered, enters, calls, called, first_value, creates, created, array_of, makes_array, below, started, forked, each_started, waiting, spread, joins_fork, joins_spread, joins_site, branch_site, site_of, line_before, joins, ends_branch, in_part, operates, exec, exec_line, enters_block, rested_at, rested_line, step}
+use Rattle.dpj_code.specs.Machine.{Level, Start, State, On, Rested, Off, Nowhere, Stand, Goes, Turns, Makes, Waits, Ends, Stuck, next, one, two, three, taken, or_trap, unless_null, cell_read, cell_written, reads, writes, deeper, unless_long, entered, enters, calls, called, first_value, creates, created, array_of, makes_array, below, started, forked, each_started, waiting, spread, all_copied, joins_fork, joins_spread, joins_site, branch_site, site_of, line_before, joins, ends_branch, in_part, operates, exec, exec_line, enters_block, rested_at, rested_line, step}
 use Rattle.dpj_code.specs.Plain.{Line, Site, fork_site, spread_site, block_site, call_site, new_site, array_site, PlainCode, body_at, class_at, parent_of, constructor_of, fields_of}
 use Rattle.dpj_legs.specs.Branches.{spread_starts, starts_of, starts_at}
 use Rattle.dpj_legs.specs.Halts.{stands}
@@ -59,10 +59,24 @@ AtJoin C (Rested g fs) = ⊥
 AtJoin C (Off e) = ⊥
 AtJoin C Nowhere = ⊥
 
+-- of a spread fewer branches are left than there are
+abbrev FewerLeft : Option Site → List (Value ℕ) → Type 0
+FewerLeft (Some (spread_site forking j x)) (left ∷ next ∷ total ∷ st) = how_many (number left) < how_many (number total)
+FewerLeft site st = Unit {0}
+
+-- a task that stands at a join has begun a branch
+abbrev pub HasBegun : PlainCode → StateIn → Type 0
+HasBegun C (On g fs) = FewerLeft (site_at C (site_of (line_before (body_at C g.body).lines g.at))) g.stack
+HasBegun C (Rested g fs) = ⊥
+HasBegun C (Off e) = ⊥
+HasBegun C Nowhere = ⊥
+
 -- behind a fork a task stands at its join, and its branches start as the fork told; and so it does behind a begin, if there aren't too many
 abbrev pub Keeps : PlainCode → StateIn → StandIn → Type 0
 Keeps C z (Waits (Fork bs) f) = (x : Answer ℕ (ℕ × ℕ)) → AtJoin C (f x) × (starts_at C (f x) ≡ bs.tasks)
-Keeps C z (Waits (Begin b) f) = AtJoin C z → suc b < 2147483648 → (x : Answer ℕ (ℕ × ℕ)) → AtJoin C (f x) × (starts_at C (f x) ≡ starts_at C z)
+Keeps C z (Waits (Begin b) f) =
+    (AtJoin C z → (x : Answer ℕ (ℕ × ℕ)) → AtJoin C (f x) × HasBegun C (f x))
+    × ((x : Answer ℕ (ℕ × ℕ)) → HasBegun C (f x) → suc b < 2147483648 → starts_at C (f x) ≡ starts_at C z)
 Keeps C z (Waits (Do o) f) = Unit {0}
 Keeps C z (Waits Join f) = Unit {0}
 Keeps C z (Waits (End e) f) = Unit {0}
@@ -162,27 +176,39 @@ module _ (C : PlainCode) (FJ : ForksAreJoined C) (firsts : FirstNumbers) (nexts 
   begin_fork : (total : ℕ) (copies : List ℕ) (forking : Forking) (js : List ℕ) (lists : List (List ℕ)) (n : ℕ) (st : List (Value ℕ))
       → site_at C (site_of (line_before Lines g.at)) ≡ Some (fork_site forking js lists) → Kept C Here (joins_fork total copies n g st fs)
   begin_fork total copies forking js lists zero st e = record { is = tt }
-  begin_fork total copies forking js lists (suc n) st e = record { is = λ at few x. (
-    (at.0, subst (λ o. LeftIn o (Int (pos n) ∷ st)) (sym e) tt),
-    ap (λ o. starts_of o (record g { stack = Int (pos n) ∷ st })) e ∙ sym (ap (λ o. starts_of o g) e),
+  begin_fork total copies forking js lists (suc n) st e = record { is = (
+    λ at x. ((at.0, subst (λ o. LeftIn o (Int (pos n) ∷ st)) (sym e) tt), subst (λ o. FewerLeft o (Int (pos n) ∷ st)) (sym e) tt),
+    λ x fewer few. ap (λ o. starts_of o (record g { stack = Int (pos n) ∷ st })) e ∙ sym (ap (λ o. starts_of o g) e),
   ) }
 
   begin_spread : (forking : Forking) (j x : ℕ) (left next total : Value ℕ) (st : List (Value ℕ)) (n : ℕ)
       → site_at C (site_of (line_before Lines g.at)) ≡ Some (spread_site forking j x) → g.stack ≡ left ∷ next ∷ total ∷ st → how_many (number left) ≡ n
       → Kept C Here (joins_spread next (how_many (number total)) n g st fs)
   begin_spread forking j x left next total st zero e f h = record { is = tt }
-  begin_spread forking j x left next total st (suc n) e f h = record { is = λ at few a.
-      let within : how_many (number left) ≤ how_many (number total) =
-          subst (λ s. LeftIn (Some (spread_site forking j x)) s) f (subst (λ o. LeftIn o g.stack) e at.1) in
-      let many : how_many (number total) - n ≡ suc (how_many (number total) - suc n) = omega (arith, within, h) in
-      (
-        (at.0, subst (λ o. LeftIn o (waiting n (int_wrapping_add w32 (number next) (pos 1)) (how_many (number total)) st)) (sym e) (omega (arith, within, h))),
-        ap (λ o. starts_of o (record g { stack = waiting n (int_wrapping_add w32 (number next) (pos 1)) (how_many (number total)) st })) e
-        ∙ same_starts j x g.frame (int_wrapping_sub w32 (int_wrapping_add w32 (number next) (pos 1)) (pos (how_many (number total) - n))) (int_wrapping_sub w32 (number next) (pos (how_many (number total) - suc n))) (λ m. ap (λ d. int_wrapping_add w32 (int_wrapping_sub w32 (int_wrapping_add w32 (number next) (pos 1)) (pos d)) (pos m)) many
-        ∙ nexts (number next) (how_many (number total) - suc n) m few) 0 (how_many (number total))
-        ∙ sym (ap (λ d. each_started j x g.frame (int_wrapping_sub w32 (number next) (pos (how_many (number total) - d))) 0 (how_many (number total))) h)
-        ∙ sym (ap (λ s. spread_starts j x g.frame s) f) ∙ sym (ap (λ o. starts_of o g) e),
-      ) }
+  begin_spread forking j x left next total st (suc n) e f h = record { is = (at_next, starts_next) }
+    where
+      at_next : AtJoin C Here → (a : Answer ℕ (ℕ × ℕ)) → AtJoin C (On (record g { stack = waiting n (int_wrapping_add w32 (number next) (pos 1)) (how_many (number total)) st }) fs)
+          × HasBegun C (On (record g { stack = waiting n (int_wrapping_add w32 (number next) (pos 1)) (how_many (number total)) st }) fs)
+      at_next at a =
+          let within : how_many (number left) ≤ how_many (number total) =
+              subst (λ s. LeftIn (Some (spread_site forking j x)) s) f (subst (λ o. LeftIn o g.stack) e at.1) in
+          ((at.0, subst (λ o. LeftIn o (waiting n (int_wrapping_add w32 (number next) (pos 1)) (how_many (number total)) st)) (sym e) (omega (arith, within, h))),
+          subst (λ o. FewerLeft o (waiting n (int_wrapping_add w32 (number next) (pos 1)) (how_many (number total)) st)) (sym e) (omega (arith, within, h)))
+
+      starts_next : (a : Answer ℕ (ℕ × ℕ)) → HasBegun C (On (record g { stack = waiting n (int_wrapping_add w32 (number next) (pos 1)) (how_many (number total)) st }) fs)
+          → suc (how_many (number total) - suc n) < 2147483648
+          → starts_at C (On (record g { stack = waiting n (int_wrapping_add w32 (number next) (pos 1)) (how_many (number total)) st }) fs) ≡ starts_at C Here
+      starts_next a fewer few =
+          let below : n < how_many (number total) =
+              subst (λ o. FewerLeft o (waiting n (int_wrapping_add w32 (number next) (pos 1)) (how_many (number total)) st)) e fewer in
+          let many : how_many (number total) - n ≡ suc (how_many (number total) - suc n) = omega (arith, below) in
+          ap (λ o. starts_of o (record g { stack = waiting n (int_wrapping_add w32 (number next) (pos 1)) (how_many (number total)) st })) e
+          ∙ same_starts j x g.frame (int_wrapping_sub w32 (int_wrapping_add w32 (number next) (pos 1)) (pos (how_many (number total) - n)))
+          (int_wrapping_sub w32 (number next) (pos (how_many (number total) - suc n)))
+          (λ m. ap (λ d. int_wrapping_add w32 (int_wrapping_sub w32 (int_wrapping_add w32 (number next) (pos 1)) (pos d)) (pos m)) many
+          ∙ nexts (number next) (how_many (number total) - suc n) m few) 0 (how_many (number total))
+          ∙ sym (ap (λ d. each_started j x g.frame (int_wrapping_sub w32 (number next) (pos (how_many (number total) - d))) 0 (how_many (number total))) h)
+          ∙ sym (ap (λ s. spread_starts j x g.frame s) f) ∙ sym (ap (λ o. starts_of o g) e)
 
   join_keeps : (o : Option Site) → site_at C (site_of (line_before Lines g.at)) ≡ o → Kept C Here (joins_site o g fs)
   join_keeps None e = record { is = tt }
@@ -345,3 +371,70 @@ step_keeps C FJ firsts nexts k (On g fs) = line_keeps C FJ firsts nexts k g fs (
 step_keeps C FJ firsts nexts k (Rested g fs) = rest_keeps C k (Rested g fs) g fs (slice_get (body_at C g.body).lines g.at)
 step_keeps C FJ firsts nexts k (Off e) = record { is = tt }
 step_keeps C FJ firsts nexts k Nowhere = record { is = tt }
+
+-- a task at a join waits there, or is stuck
+abbrev OnlyWaits : StandIn → Type 0
+OnlyWaits (Waits a f) = Unit {0}
+OnlyWaits Stuck = Unit {0}
+OnlyWaits (Goes s) = ⊥
+OnlyWaits (Turns s) = ⊥
+OnlyWaits (Makes f) = ⊥
+OnlyWaits (Ends e) = ⊥
+
+fork_waits : (total : ℕ) (copies : List ℕ) (n : ℕ) (g : LevelIn) (st : List (Value ℕ)) (fs : List LevelIn) → OnlyWaits (joins_fork total copies n g st fs)
+fork_waits total copies zero g st fs = tt
+fork_waits total copies (suc n) g st fs = tt
+
+spread_waits : (next : Value ℕ) (total n : ℕ) (g : LevelIn) (st : List (Value ℕ)) (fs : List LevelIn) → OnlyWaits (joins_spread next total n g st fs)
+spread_waits next total zero g st fs = tt
+spread_waits next total (suc n) g st fs = tt
+
+site_waits : (o : Option Site) (g : LevelIn) (fs : List LevelIn) → OnlyWaits (joins_site o g fs)
+site_waits None g fs = tt
+site_waits (Some (block_site effects)) g fs = tt
+site_waits (Some (call_site c r formals regions)) g fs = tt
+site_waits (Some (new_site c n regions)) g fs = tt
+site_waits (Some (array_site region first)) g fs = tt
+site_waits (Some (fork_site forking js copies)) g fs = go g.stack
+  where
+    go : (s : List (Value ℕ)) → OnlyWaits (one s (λ left st. joins_fork (length js) (all_copied copies) (how_many (number left)) g st fs))
+    go [] = tt
+    go (left ∷ st) = fork_waits (length js) (all_copied copies) (how_many (number left)) g st fs
+site_waits (Some (spread_site forking j x)) g fs = go g.stack
+  where
+    go : (s : List (Value ℕ)) → OnlyWaits (one s (λ left more. two more (λ total next st. joins_spread next (how_many (number total)) (how_many (number left)) g st fs)))
+    go [] = tt
+    go (left ∷ []) = tt
+    go (left ∷ next ∷ []) = tt
+    go (left ∷ next ∷ total ∷ st) = spread_waits next (how_many (number total)) (how_many (number left)) g st fs
+
+joins_wait : (C : PlainCode) (q : Option ℕ) (g : LevelIn) (fs : List LevelIn) → OnlyWaits (joins C q g fs)
+joins_wait C None g fs = tt
+joins_wait C (Some s) g fs = site_waits (slice_get C.sites s) g fs
+
+join_waits : (C : PlainCode) (k : ℕ) (z : StateIn) → AtJoin C z → OnlyWaits (step (names_of k) C z)
+unfolding step
+join_waits C k (Rested g fs) h = absurd h
+join_waits C k (Off e) h = absurd h
+join_waits C k Nowhere h = absurd h
+join_waits C k (On g fs) h = go (slice_get (body_at C g.body).lines g.at) h.0
+  where
+    go : (o : Option Line) → IsJoin o → OnlyWaits (exec_line (names_of k) C o g fs)
+    go None i = absurd i
+    go (Some l) i = subst (λ x. OnlyWaits (exec (names_of k) C l.place x g fs)) (sym i) (joins_wait C (site_of (line_before (body_at C g.body).lines g.at)) g fs)
+
+-- so its leg ends there
+pub join_leg : (C : PlainCode) (k made : ℕ) (z : StateIn) (h : Halt ℕ (ℕ × ℕ)) → AtJoin C z → Leg (names_of k) C made z h → stands 0 made (step (names_of k) C z) ≡ h
+join_leg C k made z h at l = go l.fuel l.runs
+  where
+    stand : (more : ℕ → ℕ → StateIn → Option (Halt ℕ (ℕ × ℕ))) (o : StandIn) → OnlyWaits o → legged (names_of k) more 0 made o ≡ Some h → stands 0 made o ≡ h
+    stand more (Waits a f) w e = cc
+    stand more Stuck w e = cc
+    stand more (Goes s) w e = absurd w
+    stand more (Turns s) w e = absurd w
+    stand more (Makes f) w e = absurd w
+    stand more (Ends x) w e = absurd w
+
+    go : (fuel : ℕ) → leg (names_of k) C fuel 0 made z ≡ Some h → stands 0 made (step (names_of k) C z) ≡ h
+    go zero e = absurd (cc)
+    go (suc fuel) e = stand (λ n m s. leg (names_of k) C fuel n m s) (step (names_of k) C z) (join_waits C k z at) e

@@ -77,7 +77,7 @@ map_replicate : {A B : Type 0} (f : A → B) (n : ℕ) (x : A) → map f (replic
 map_replicate f zero x = refl
 map_replicate f (suc n) x = ap (λ l. f x ∷ l) (map_replicate f n x)
 
-last_cases : {A : Type 0} (xs : List A) (x y : A) (n : ℕ) → slice_get (xs ++ x ∷ []) n ≡ Some y → (slice_get xs n ≡ Some y) ⊎ ((n ≡ length xs) × (x ≡ y))
+pub last_cases : {A : Type 0} (xs : List A) (x y : A) (n : ℕ) → slice_get (xs ++ x ∷ []) n ≡ Some y → (slice_get xs n ≡ Some y) ⊎ ((n ≡ length xs) × (x ≡ y))
 last_cases [] x y zero h = inr (refl, (let k : Some x ≡ Some y = h in cc))
 last_cases [] x y (suc n) h = absurd (let k : None ≡ Some y = h in cc)
 last_cases (z ∷ xs) x y zero h = inl h
@@ -193,6 +193,16 @@ module _ (Q : Program) where
     thing = s.thing;
     is_thing = thing_later Q x s.thing (later now) s.is_thing;
     seen = seen_later o s.thing h s.seen;
+  }
+
+  -- the same, with more tasks
+  pub heap_wider : {v w : Sight} {R : Run} {objects : List Object} → HeapTied v R objects → Wider v w → v.names ≡ w.names → HeapTied w R objects
+  heap_wider {v} {w} {R} {objects} T h same = record {
+    store = T.store;
+    holds = subst (λ ns. Holds Q R ns 0 T.store) same T.holds;
+    values = T.values;
+    shown = λ n x o a b. (let s = T.shown n x o (subst (λ ns. slice_get ns n ≡ Some x) (sym same) a) b in
+        record { thing = s.thing; is_thing = s.is_thing; seen = seen_later o s.thing h s.seen });
   }
 
   -- what a machine answers to an action of a task's own, and keeps then, is what the run does

@@ -14,3 +14,4 @@ pub mod Owns
 pub mod Forks
 pub mod Joinings
 pub mod Endings
+pub mod Begins
