@@ -10,7 +10,7 @@ mod Loops
 mod Branches
 mod Programs
 mod Fuel
-mod Theorems
+pub mod Theorems
 mod Heard
 mod Known
 mod Greedy

@@ -150,7 +150,7 @@ module _ (P : PlainProgram) (arg : ℤ) where
   unfolding trapped
   nothing_trapped = refl
 
-  holds_first : (n : ℕ) → Holds QP [] first_names 0 (at_start P n)
+  pub holds_first : (n : ℕ) → Holds QP [] first_names 0 (at_start P n)
   holds_first n = record {
     many = refl;
     distinct = one_name;

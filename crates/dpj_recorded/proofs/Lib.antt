@@ -15,3 +15,4 @@ pub mod Forks
 pub mod Joinings
 pub mod Endings
 pub mod Begins
+pub mod Starting
