@@ -1,1 +1,78 @@
--- Nothing yet.
+-- That the schedule of a machine on compiled code records a run of the source.
+use Rattle.std.specs.Prelude.{ℕ, ℤ, pos, ◌≡◌, ◌≤◌, true, List, [], ◌∷◌, Option, Some, None, slice_get}
+use Rattle.dpj_base.specs.declared.effect.Effect.{Effect as PathEffect}
+use Rattle.dpj_base.specs.declared.outcome.Ending.{Ending as Came}
+use Rattle.dpj_base.specs.declared.outcome.Ending.TheVariants as came
+use Rattle.dpj_base.specs.declared.outcome.Limits.{Limits as DeclaredLimits}
+use Rattle.dpj_base.specs.declared.outcome.Outcome.{Outcome as DeclaredOutcome}
+use Rattle.dpj_typed.specs.Plain.{PlainProgram}
+use Rattle.dpj_meaning.specs.Counts.{number}
+use Rattle.dpj_code.specs.Plain.{PlainCode, block_site, plain_code}
+use Rattle.dpj_code.specs.declared.code.Code.{Code}
+use Rattle.dpj_gen.specs.Resolved.{Resolved}
+use Rattle.dpj_gen.specs.Whole.{compiled}
+use Rattle.dpj_runs.specs.Actions.{Do, Ending, Enter, Program, Rule, Returned, Assigned, Trapped}
+use Rattle.dpj_runs.specs.Blocks.{MayEnter, with_rule}
+use Rattle.dpj_runs.specs.Objects.{Effect}
+use Rattle.dpj_runs.specs.Order.{Came as came_out, Comes, Limited, Outcome}
+use Rattle.dpj_runs.specs.Runs.{Event, Follows, Run}
+use Rattle.dpj_runs.specs.Schedules.{Finished, Limits, Numbered, Ran}
+use Rattle.dpj_steps.specs.Steps.{stepped}
+use Rattle.dpj_going.specs.Going.{HasMain}
+use Rattle.dpj_machine.specs.Replay.{LeadsTo, Moment, Moves}
+
+abbrev pub limits : DeclaredLimits → Limits
+limits L = record { steps = L.steps; cells = L.cells }
+
+-- how a run comes out, as a machine tells it: `main` gives an int
+abbrev pub told_ending : Ending → Came
+told_ending (Returned v) = came.Done (number v)
+told_ending (Assigned locals) = came.Done (pos 0)
+told_ending (Trapped trap place) = came.Trapped trap place
+
+abbrev pub told : Outcome → DeclaredOutcome
+told (came_out x output steps cells) = record { ending = told_ending x; out = output; steps = steps; cells = cells }
+told (Limited steps cells) = record { ending = came.Limited; out = []; steps = steps; cells = cells }
+
+-- a schedule records a run; or it has finished, and comes out so
+abbrev pub Records : Program → Limits → List ℕ → Option DeclaredOutcome → Type 0
+Records Q L ks None = (R : Run) × Ran Q L ks R
+Records Q L ks (Some o) = (q : Outcome) × Finished Q L ks q × (o ≡ told q)
+
+-- wherever a schedule leads a machine, it records a run, with the outcome of the machine
+abbrev pub AllRecord : Program → Code → DeclaredLimits → ℤ → Type 0
+AllRecord Q code L argument = (ks : List ℕ) (m : Moment) → LeadsTo code L argument ks m → Records Q (limits L) ks m.outcome
+
+-- the same program, where each block may always be entered
+abbrev pub lets_all : Rule
+lets_all F E = true
+
+abbrev pub blocks_aside : Program → Program
+blocks_aside Q = with_rule lets_all Q
+
+abbrev pub HasNoBlocks : PlainCode → Type 0
+HasNoBlocks C = (s : ℕ) (effects : List PathEffect) → slice_get C.sites s ≡ Some (block_site effects) → ⊥
+
+-- What isn't proved here, of a run that is recorded up to some moment: where a machine makes an entry, so may the run
+abbrev pub BlocksAgree : Program → Code → DeclaredLimits → ℤ → Type 0
+BlocksAgree Q code L argument = (ks : List ℕ) (m n : Moment) (k : ℕ) (R : Run) (e : Event) (E : List Effect) → LeadsTo code L argument ks m → Moves code L m k n
+    → Ran Q (limits L) ks R → Follows Q R e → Numbered R k e.path → e.act ≡ Do (Enter E) → MayEnter Q.rule R e.path E
+
+-- and where the root has ended, the ending and the output of the machine are those of the run, put into the order of elision
+abbrev pub OutcomesAgree : Program → Code → DeclaredLimits → ℤ → Type 0
+OutcomesAgree Q code L argument = (ks : List ℕ) (m : Moment) (R : Run) (q : Outcome) (o : DeclaredOutcome) → LeadsTo code L argument ks m → m.outcome ≡ Some o
+    → Ran Q (limits L) ks R → Comes Q R q → o ≡ told q
+
+-- of code that is compiled from a resolved program with a `main`
+pub record RecordsRuns (code : Code) (P : PlainProgram) (L : DeclaredLimits) (argument : ℤ) : Type 0 where
+  -- blocks aside
+  pub aside : OutcomesAgree (blocks_aside (stepped P argument)) code L argument → AllRecord (blocks_aside (stepped P argument)) code L argument
+  -- where there are none
+  pub without : HasNoBlocks (plain_code code) → OutcomesAgree (stepped P argument) code L argument → AllRecord (stepped P argument) code L argument
+  -- and where they agree
+  pub blocks : BlocksAgree (stepped P argument) code L argument → OutcomesAgree (stepped P argument) code L argument → AllRecord (stepped P argument) code L argument
+
+abbrev pub MachinesRecord : Type 0
+MachinesRecord =
+    (code : Code) (P : PlainProgram) (L : DeclaredLimits) (argument : ℤ) → plain_code code ≡ compiled P → Resolved P → HasMain P → L.steps ≤ 20000000
+    → RecordsRuns code P L argument
