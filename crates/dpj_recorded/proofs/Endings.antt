@@ -367,6 +367,10 @@ module _ (code : Code) (P : PlainProgram) (arg : ℤ) (rule : Rule) (L : Limits)
         branch_gone o (subst (λ u. OriginTied P arg rule C w R m.world.tree.tasks V.path u) e V.origin)
         (not_itself P arg rule C L w R m.world.tree.tasks k V.there y.origin V.origin o e)
 
+    -- the source asks for an end there
+    pub end_asked : (e : Ending) × ((Q P arg rule C).meaning V.path V.task.task (answers (mine R V.path)) ≡ Next turns (End e))
+    end_asked = (E.ending, asks)
+
     pub ends_next : Stepped code P arg rule L right w R k n
     ends_next = record {
       event = event;

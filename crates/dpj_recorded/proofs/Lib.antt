@@ -16,3 +16,4 @@ pub mod Joinings
 pub mod Endings
 pub mod Begins
 pub mod Starting
+pub mod Recorded

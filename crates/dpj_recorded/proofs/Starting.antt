@@ -38,7 +38,7 @@ use Rattle.dpj_runs.proofs.Mine.{mine_nil}
 use Rattle.dpj_runs.proofs.Numbers.{begins_nil}
 use Rattle.dpj_steps.specs.Steps.{first_name, named_by, stepped}
 use Rattle.dpj_going.specs.Going.{HasMain}
-use Rattle.dpj_heap.specs.Heap.{instance, values_of, with_object}
+use Rattle.dpj_heap.specs.Heap.{instance, with_object}
 use Rattle.dpj_heap.specs.Heap.{Object as HeapObject}
 use Rattle.dpj_legs.specs.Names.{names_of, plain_value}
 use Rattle.dpj_tasks.specs.Tree.{Tasks, fresh, only_root}
@@ -282,6 +282,10 @@ module _ (code : Code) (P : PlainProgram) (arg : ℤ) (rule : Rule) (L : Limits)
           go true i f = same_number k 0 i
           go false i f = absurd (let none : None ≡ Some x = sym (get-empty nat_cmp k) ∙ f in cc)
 
+  pub main_size : length (first_fields code code.main_class) ≡ size (Q P arg rule C).object
+  main_size = sym (length-map (first_fields code code.main_class) plain_value) ∙ ap length (main_fields code P is)
+      ∙ length-map (class_fields P P.main_class) (λ f. first_of {N = ℕ} f.ty) ∙ sym (length-map (class_fields P P.main_class) (λ f. first_of {N = Name} f.ty))
+
   pub first_tied : Tied P arg rule C L first_moment first_sight []
   first_tied = record {
     heap = heap;
@@ -295,7 +299,3 @@ module _ (code : Code) (P : PlainProgram) (arg : ℤ) (rule : Rule) (L : Limits)
     faithful = tt;
     live = live;
   }
-    where
-      main_size : length (values_of (instance code.main_class [] (first_fields code code.main_class))) ≡ size (Q P arg rule C).object
-      main_size = sym (length-map (first_fields code code.main_class) plain_value) ∙ ap length (main_fields code P is)
-          ∙ length-map (class_fields P P.main_class) (λ f. first_of {N = ℕ} f.ty) ∙ sym (length-map (class_fields P P.main_class) (λ f. first_of {N = Name} f.ty))

@@ -1,4 +1,8 @@
-//! The law of recorded runs.
+//! The law of recorded runs, the clause of a function that does nothing.
 
-/// Nothing yet.
-pub fn law_recorded() {}
+ghost use Rattle.dpj_recorded.specs.Laws.{MachinesRecord};
+
+/// A schedule of a machine on compiled code records a run of the source.
+pub fn law_recorded()
+    ensures records { MachinesRecord }
+{}
