@@ -5,6 +5,7 @@ use Rattle.std.proofs.lemmas.List.{length-map}
 use Rattle.std.specs.Prelude.{replicate}
 use Rattle.std.specs.FinMap.{get}
 use Rattle.dpj_base.specs.declared.effect.Effect.{Effect as PathEffect}
+use Rattle.dpj_base.specs.declared.outcome.Ending.{Ending as MachineEnding}
 use Rattle.dpj_base.specs.declared.outcome.Limits.{Limits as DeclaredLimits}
 use Rattle.dpj_base.specs.declared.outcome.Outcome.{Outcome as DeclaredOutcome}
 use Rattle.dpj_typed.specs.Plain.{PlainProgram}
@@ -21,7 +22,7 @@ use Rattle.dpj_gen.specs.Whole.{compiled}
 use Rattle.dpj_runs.specs.Actions.{Action, Answer, Do, Ending, Enter, End, Next, Program, Reply, Rule, Task}
 use Rattle.dpj_runs.specs.Blocks.{Legal, MayEnter, with_rule}
 use Rattle.dpj_runs.specs.Objects.{Effect, LocalRegion, Name, Path, size}
-use Rattle.dpj_runs.specs.Order.{Comes, Limited, Outcome}
+use Rattle.dpj_runs.specs.Order.{Comes, Limited, Outcome, ending_of, printed, trapped}
 use Rattle.dpj_runs.specs.Runs.{Begun, Ended, Event, Follows, Run, answers, cells_of, entry_step, event_cells, event_steps, mine, now, steps_of, total}
 use Rattle.dpj_runs.specs.Schedules.{Finished, Limits, Numbered, Ran, Ready, Within, branch_is, ended, no_room, over, root_is}
 use Rattle.dpj_runs.proofs.Cost.{total_nil}
@@ -39,16 +40,17 @@ use Rattle.dpj_legs.specs.Names.{names_of}
 use Rattle.dpj_legs.specs.declared.action.Action.{Action as DeclaredAction}
 use Rattle.dpj_legs.specs.declared.action.Action.TheVariants as action
 use Rattle.dpj_legs.specs.declared.action.Ending.{Ending as DeclaredEnding}
+use Rattle.dpj_tasks.specs.Tree.{out_of, task_at}
 use Rattle.dpj_world.specs.Costs.{first_fields}
 use Rattle.dpj_world.specs.Costs.{Within as MachineWithin, cells_of as machine_cells, steps_of as machine_steps}
 use Rattle.dpj_world.specs.World.{world_after, written_at, with_heap}
 use Rattle.dpj_world.specs.World.{at_start as world_at_start}
 use Rattle.dpj_world.specs.declared.event.Event.{Event as DeclaredEvent}
 use Rattle.dpj_world.specs.declared.world.World.{World}
-use Rattle.dpj_machine.specs.Replay.{Moment, NextOf, CanBeMade, Moves, Opens, LeadsTo, after, limited, opened, outcome_after}
+use Rattle.dpj_machine.specs.Replay.{Moment, NextOf, CanBeMade, Moves, Opens, LeadsTo, after, came_to, limited, opened, outcome_after}
 use Rattle.dpj_machine.specs.Replay.{made as made_so, over as over_so, no_room as no_room_so}
 use Rattle.dpj_machine.specs.Running.{Running, front}
-use Rattle.dpj_recorded.specs.Laws.{AllRecord, BlocksAgree, HasNoBlocks, MachinesRecord, OutcomesAgree, Records, RecordsRuns, blocks_aside, lets_all, limits, told}
+use Rattle.dpj_recorded.specs.Laws.{AllRecord, BlocksAgree, HasNoBlocks, MachinesRecord, OutputsAgree, Records, RecordsRuns, blocks_aside, lets_all, limits, told, told_ending}
 use Rattle.dpj_recorded.proofs.Sights.{Sight, HaltLike, asks_like, finished_like, dead_like, ActionLike, do_like, fork_like, begin_like, join_like, end_like, OwnLike, rest_like, read_like, write_like, look_like, new_like, print_like, enter_like, exit_like}
 use Rattle.dpj_recorded.proofs.Joins.{ForksAreJoined, forks_are_joined}
 use Rattle.dpj_recorded.proofs.Legs.{HaltOf}
@@ -127,6 +129,27 @@ root_ends before after k (action.End c) o e = record { ending = c; ends = refl; 
       | inl s ↦ s.1
       | inr s ↦ absurd (let no : false ≡ true = sym s.0 ∙ t in cc)
     ]
+
+-- and then it tells the costs
+root_outcome : (before after : World) (k : ℕ) (a : DeclaredAction) (o : DeclaredOutcome) → outcome_after before after k a ≡ Some o
+    → (z : MachineEnding) × (out : List ℕ) × (record { ending = z; out = out; steps = after.steps; cells = after.heap.used } ≡ o)
+root_outcome before after k action.Rest o e = absurd (cc)
+root_outcome before after k (action.Read n j) o e = absurd (cc)
+root_outcome before after k (action.Write n j v) o e = absurd (cc)
+root_outcome before after k (action.Look n) o e = absurd (cc)
+root_outcome before after k (action.NewObject c rs constructor) o e = absurd (cc)
+root_outcome before after k (action.NewArray region len first) o e = absurd (cc)
+root_outcome before after k (action.Print bytes) o e = absurd (cc)
+root_outcome before after k (action.Enter effects) o e = absurd (cc)
+root_outcome before after k action.Exit o e = absurd (cc)
+root_outcome before after k (action.Fork forking many) o e = absurd (cc)
+root_outcome before after k (action.Begin b) o e = absurd (cc)
+root_outcome before after k action.Join o e = absurd (cc)
+root_outcome before after k (action.End c) o e = (came_to c, out_of (task_at before.tree 0), some_of (k == 0) _ o e)
+  where
+    some_of : (b : Bool) (x o : DeclaredOutcome) → (if b then Some x else None) ≡ Some o → x ≡ o
+    some_of true x o e = cc
+    some_of false x o e = absurd (cc)
 
 module _ (code : Code) (P : PlainProgram) (arg : ℤ) (rule : Rule) (L : DeclaredLimits) (right : RightFor (plain_code code) P) (fields : FieldsFor code)
     (FJ : ForksAreJoined (plain_code code)) where
@@ -335,13 +358,13 @@ module _ (code : Code) (P : PlainProgram) (arg : ℤ) (rule : Rule) (L : Declare
     led (k ∷ ks) m (before, leads, over_so e x can beyond is) none =
         absurd (let both : None ≡ Some (limited L) = sym none ∙ ap (λ (n : Moment). n.outcome) is in cc)
 
-    module _ (outcomes : OutcomesAgree QR code L arg) where
+    module _ (outcomes : OutputsAgree QR code L arg) where
       -- the root has ended
       root_ended : {ks : List ℕ} {m : Moment} {k : ℕ} (leads : LeadsTo code L arg ks m) (A : Led ks m) (e : DeclaredEvent) (x : NextOf C m k e)
           (can : CanBeMade C m.world e x.stands.state) → MachineWithin code m.world e → (o : DeclaredOutcome)
           → (after code m e x.stands.state x.stands.made).outcome ≡ Some o → Records QR (limits L) (k ∷ ks) (Some o)
       root_ended {ks} {m} {k} leads A e x can within o is =
-          (come.0, ended (S.event ∷ A.run) ran come.1, outcomes (k ∷ ks) n (S.event ∷ A.run) come.0 o (m, leads, moves) is ran come.1)
+          (come.0, ended (S.event ∷ A.run) ran come.1, told_so (outcomes (k ∷ ks) n (S.event ∷ A.run) come.0 o (m, leads, moves) is ran come.1))
         where
           n : Moment
           n = after code m e x.stands.state x.stands.made
@@ -369,6 +392,27 @@ module _ (code : Code) (P : PlainProgram) (arg : ℤ) (rule : Rule) (L : Declare
             path = zero_path (A.tied.numbers.numbered k S.event.path S.there) (sym x.stands.number ∙ ends.root);
             act = end.1;
           })
+
+          entered : entry_step (mine (S.event ∷ A.run) []) ≡ 1
+          entered = entered_next {P = QR} S.event S.follows A.tied.numbers.entered
+
+          outcome_is : (z : MachineEnding) × (out : List ℕ) × (record { ending = z; out = out; steps = n.world.steps; cells = n.world.heap.used } ≡ o)
+          outcome_is = root_outcome m.world (world_after code m.world e) e.task e.action o is
+
+          come_is : (z : MachineEnding) × (out : List ℕ)
+              × (told come.0 ≡ record { ending = z; out = out; steps = steps_of (S.event ∷ A.run); cells = cells_of QR (S.event ∷ A.run) })
+          come_is = (told_ending (ending_of (trapped come.1.sorted) come.1.end), printed come.1.sorted, ap told come.1.outcome)
+
+          told_so : (o.ending ≡ (told come.0).ending) × (o.out ≡ (told come.0).out) → o ≡ told come.0
+          told_so same = λ z. record { ending = same.0 z; out = same.1 z; steps = steps_so z; cells = cells_so z }
+            where
+              steps_so : o.steps ≡ (told come.0).steps
+              steps_so =
+                  sym (ap (λ (u : DeclaredOutcome). u.steps) outcome_is.2) ∙ S.tied.costs.steps
+                  ∙ (let a = entered in omega (arith, a)) ∙ sym (ap (λ (u : DeclaredOutcome). u.steps) come_is.2)
+
+              cells_so : o.cells ≡ (told come.0).cells
+              cells_so = sym (ap (λ (u : DeclaredOutcome). u.cells) outcome_is.2) ∙ S.tied.costs.cells ∙ sym (ap (λ (u : DeclaredOutcome). u.cells) come_is.2)
 
       finished : (ks : List ℕ) (m : Moment) → LeadsTo code L arg ks m → (o : DeclaredOutcome) → m.outcome ≡ Some o → Records QR (limits L) ks (Some o)
       finished [] m (opened room is) o some = absurd (let both : None ≡ Some o = sym (ap (λ (n : Moment). n.outcome) is) ∙ some in cc)
@@ -406,7 +450,7 @@ module _ (code : Code) (P : PlainProgram) (L : DeclaredLimits) (arg : ℤ) (is :
     first m (opened room so) none = (first_sight code P arg rule L is resolved main, subst (λ m. Tied P arg rule (plain_code code) L m (first_sight code P arg rule L is resolved main) []) (sym so) (first_tied code P arg rule L is resolved main))
     first m (no_room_so full so) none = absurd (let both : None ≡ Some (limited L) = sym none ∙ ap (λ (n : Moment). n.outcome) so in cc)
 
-    recorded : Entering code P arg rule L right (fields_for code P is) FJ → OutcomesAgree (Q P arg rule (plain_code code)) code L arg
+    recorded : Entering code P arg rule L right (fields_for code P is) FJ → OutputsAgree (Q P arg rule (plain_code code)) code L arg
         → AllRecord (Q P arg rule (plain_code code)) code L arg
     recorded entering outcomes = all_record code P arg rule L right (fields_for code P is) FJ few first (main_size code P arg rule L is resolved main) entering outcomes
 
