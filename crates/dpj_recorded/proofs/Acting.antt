@@ -1,45 +1,42 @@
 -- An event after which its task goes on, in a machine and in the run: the common part of all of them.
-use Rattle.std.proofs.Common.{◌≡◌, ◌≢◌, ◌≤◌, ◌<◌, ◌⊎◌, inl, inr, ⊎_elim, ℕ, zero, suc, ◌+◌, ℤ, Bool, true, false, IsTrue, List, [], ◌∷◌, ◌++◌, length, refl, sym, ap, ◌∙◌, subst, Option, Some, None, slice_get, arith}
+use Rattle.std.proofs.Common.{◌≡◌, ◌≢◌, ℕ, ◌+◌, ℤ, IsTrue, List, ◌∷◌, refl, sym, ap, ◌∙◌, subst, Option, Some, None, slice_get}
 use Rattle.std.specs.FinMap.{get}
 use Rattle.dpj_base.specs.declared.effect.Effect.{Effect}
 use Rattle.dpj_base.specs.declared.outcome.Limits.{Limits}
 use Rattle.dpj_typed.specs.Plain.{PlainProgram}
-use Rattle.dpj_meaning.specs.Actions.{Own as OwnOver, Ending as EndingOver}
+use Rattle.dpj_meaning.specs.Actions.{Own as OwnOver}
 use Rattle.dpj_meaning.specs.Asking.{ask}
 use Rattle.dpj_meaning.specs.Costs.{own_cells, own_steps}
-use Rattle.dpj_code.specs.Legs.{Halt, Asks as AsksAt, Leg, Halts, said}
-use Rattle.dpj_code.specs.Machine.{Start, State}
+use Rattle.dpj_code.specs.Legs.{Halt, Leg, Halts, said}
+use Rattle.dpj_code.specs.Machine.{Start}
 use Rattle.dpj_code.specs.Plain.{PlainCode, plain_code}
 use Rattle.dpj_code.specs.declared.code.Code.{Code}
 use Rattle.dpj_gen.specs.Compiled.{Compiled, SameAct, SameReply}
 use Rattle.dpj_going.proofs.Legs.{TellsCounts, front_counts}
-use Rattle.dpj_runs.specs.Actions.{Task, Own, Answer, Action, Do, Fork, Begin, Join, End, Next, Rule}
+use Rattle.dpj_runs.specs.Actions.{Task, Own, Answer, Action, Do, Next, Rule}
 use Rattle.dpj_runs.specs.Objects.{Path, Name, LocalRegion}
-use Rattle.dpj_runs.specs.Runs.{Begun, Event, Follows, Right, Run, answers, event_cells, event_steps, later, mine, now}
-use Rattle.dpj_runs.specs.Schedules.{one_begin}
+use Rattle.dpj_runs.specs.Runs.{Event, Follows, Run, answers, later, mine, now}
 use Rattle.dpj_runs.proofs.Faithful.{begun_upto}
 use Rattle.dpj_runs.proofs.Mine.{mine_same}
 use Rattle.dpj_steps.specs.Steps.{named_by}
-use Rattle.dpj_legs.specs.Halts.{Tells}
 use Rattle.dpj_legs.specs.Names.{names_of}
 use Rattle.dpj_legs.specs.Tasks.{Says, plain_answer}
 use Rattle.dpj_legs.specs.declared.action.Action.{Action as DeclaredAction}
 use Rattle.dpj_legs.specs.declared.action.Answer.{Answer as DeclaredAnswer}
-use Rattle.dpj_tasks.specs.Tree.{Tasks, ready, is_ready, task_at}
+use Rattle.dpj_tasks.specs.Tree.{Tasks, ready}
 use Rattle.dpj_tasks.specs.declared.task.Origin.{Origin}
-use Rattle.dpj_tasks.specs.declared.task.State.{State as Standing}
 use Rattle.dpj_tasks.specs.declared.task.State.TheVariants.{Running as Runs, Forked}
 use Rattle.dpj_tasks.specs.declared.task.Task.{Task as Live}
 use Rattle.dpj_world.specs.World.{answer_at}
 use Rattle.dpj_world.specs.declared.event.Event.{Event as DeclaredEvent}
 use Rattle.dpj_machine.specs.Replay.{Moment, NextOf, with_task}
 use Rattle.dpj_machine.specs.Running.{Running, answered, front}
-use Rattle.dpj_recorded.proofs.Sights.{Sight, Wider, OwnLike, AnswerLike, HaltLike}
+use Rattle.dpj_recorded.proofs.Sights.{Sight, Wider, OwnLike, AnswerLike}
 use Rattle.dpj_recorded.proofs.Legs.{HaltOf, StandsAfter, after_answer}
-use Rattle.dpj_recorded.proofs.Heaps.{HeapTied, OwnTied}
+use Rattle.dpj_recorded.proofs.Heaps.{OwnTied}
 use Rattle.dpj_recorded.proofs.Ties.{Q, TaskTied, ScopeTied, OriginTied, BranchTied, LiveTied, Tied}
-use Rattle.dpj_recorded.proofs.Asked.{ActionIn, ActionOf, ActsAt, acts_at, BothAt, both_at, own_like, reply_act, same_do, runs_if, Stood, stood}
-use Rattle.dpj_recorded.proofs.Trees.{Costs, placed, beside, plain_next}
+use Rattle.dpj_recorded.proofs.Asked.{ActionIn, ActsAt, acts_at, BothAt, both_at, own_like, reply_act, same_do, runs_if, Stood, stood}
+use Rattle.dpj_recorded.proofs.Trees.{placed, beside, plain_next}
 
 abbrev pub RightFor : PlainCode → PlainProgram → Type 0
 RightFor C P = (p : Path) (b : Start Name LocalRegion) (t : Task) → Compiled C P b t → (got : List Answer) (h : HaltOf) → Halts (named_by p) C b got h

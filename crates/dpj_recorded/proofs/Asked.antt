@@ -1,5 +1,5 @@
 -- What a live task of a machine stands at is what the source asks of its task next.
-use Rattle.std.proofs.Common.{◌≡◌, ◌≤◌, ◌<◌, ◌⊎◌, inl, inr, ⊎_elim, ℕ, zero, suc, ◌+◌, ℤ, List, [], ◌∷◌, ◌++◌, map, length, refl, sym, ap, ◌∙◌, subst, Option, Some, None, slice_get, arith, append_assoc, length-append}
+use Rattle.std.proofs.Common.{◌≡◌, ◌≤◌, ◌<◌, ⊎_elim, ℕ, zero, suc, ℤ, List, [], ◌∷◌, ◌++◌, length, refl, sym, ap, ◌∙◌, subst, Some, None, slice_get, arith, append_assoc, length-append}
 use Rattle.std.proofs.lemmas.List.{length-map}
 use Rattle.std.proofs.lemmas.Bool.{cases_lt}
 use Rattle.dpj_typed.specs.declared.stmt.Forking.{Forking}
@@ -12,10 +12,10 @@ use Rattle.dpj_code.specs.Legs.{Halt, Asks as AsksAt, Finished, Dead, Leg, Halts
 use Rattle.dpj_code.specs.Machine.{Start, State}
 use Rattle.dpj_code.specs.Plain.{PlainCode}
 use Rattle.dpj_gen.specs.Compiled.{Compiled, AllCompiled, SameAct, SameReply}
-use Rattle.dpj_runs.specs.Actions.{Task, Branches, Ending, Own, Answer, Action, Reply, Do, Fork, Begin, Join, End, Next, Over, Unknown, Program, Asks, Rule}
+use Rattle.dpj_runs.specs.Actions.{Task, Branches, Ending, Own, Answer, Action, Reply, Do, Fork, Begin, Join, End, Next, Over, Unknown, Asks, Rule}
 use Rattle.dpj_runs.specs.Meaning.{Disciplined}
 use Rattle.dpj_runs.specs.Objects.{Path, Name, LocalRegion}
-use Rattle.dpj_runs.specs.Runs.{Begun, Event, Faithful, Follows, Run, Upto, answers, count, mine, later, now}
+use Rattle.dpj_runs.specs.Runs.{Begun, Faithful, Follows, Run, answers, mine}
 use Rattle.dpj_runs.proofs.Faithful.{agree_self, same_task, begun_upto, follows_at, next_same}
 use Rattle.dpj_runs.proofs.Upto.{upto_tail}
 use Rattle.dpj_steps.specs.Steps.{named_by}
@@ -27,9 +27,9 @@ use Rattle.dpj_tasks.specs.Scope.{Branches as Scope}
 use Rattle.dpj_tasks.specs.declared.task.State.{State as Standing}
 use Rattle.dpj_tasks.specs.declared.task.State.TheVariants.{Running as Runs, Forked}
 use Rattle.dpj_machine.specs.Running.{Running}
-use Rattle.dpj_elided.proofs.Worlds.{Distinct, EndingLike}
-use Rattle.dpj_recorded.proofs.Sights.{Sight, Wider, StartsLike, OwnLike, ActionLike, do_like, fork_like, begin_like, join_like, end_like, AnswerLike, OnLike, HaltLike, asks_like, finished_like, dead_like}
-use Rattle.dpj_recorded.proofs.Legs.{HaltOf, leg_like, StandsAfter, after_answer, halts_next}
+use Rattle.dpj_elided.proofs.Worlds.{Distinct}
+use Rattle.dpj_recorded.proofs.Sights.{Sight, StartsLike, OwnLike, ActionLike, do_like, fork_like, begin_like, join_like, OnLike, HaltLike, asks_like, finished_like, dead_like}
+use Rattle.dpj_recorded.proofs.Legs.{HaltOf, leg_like, halts_next}
 use Rattle.dpj_recorded.proofs.Ties.{Q, TaskTied, ForkTied, ScopeTied}
 
 abbrev pub ActionIn : Type 0
@@ -176,11 +176,12 @@ module _ (P : PlainProgram) (arg : ℤ) (rule : Rule) (C : PlainCode) where
 
     forked_so : Asks (Q P arg rule C) q t (answers (mine F.before q)) (Fork F.tasks)
     forked_so =
-        let same : at_fork.task ≡ t = same_task (agree_self R) (begun_upto (upto_tail F.stands) at_fork.begun) (subst (λ p. Begun (Q P arg rule C) R p t) (sym F.path) begun) in
-        (F.fork.turns,
-        subst (λ t. (Q P arg rule C).meaning q t (answers (mine F.before q)) ≡ Next F.fork.turns (Fork F.tasks)) same
-        (subst (λ p. (Q P arg rule C).meaning p at_fork.task (answers (mine F.before p)) ≡ Next F.fork.turns (Fork F.tasks)) F.path
-        (at_fork.asks ∙ ap (λ a. Next F.fork.turns a) F.act)))
+        let same : at_fork.task ≡ t = same_task (agree_self R) (begun_upto (upto_tail F.stands) at_fork.begun) (subst (λ p. Begun (Q P arg rule C) R p t) (sym F.path) begun) in (
+          F.fork.turns,
+          subst (λ t. (Q P arg rule C).meaning q t (answers (mine F.before q)) ≡ Next F.fork.turns (Fork F.tasks)) same
+              (subst (λ p. (Q P arg rule C).meaning p at_fork.task (answers (mine F.before p)) ≡ Next F.fork.turns (Fork F.tasks)) F.path
+              (at_fork.asks ∙ ap (λ a. Next F.fork.turns a) F.act)),
+        )
 
     got_is : answers (mine R q) ≡ (answers F.since ++ F.fork.ans ∷ []) ++ answers (mine F.before q)
     got_is = ap answers F.last ∙ mapped F.since ∙ sym (append_assoc (answers F.since) (F.fork.ans ∷ []) (answers (mine F.before q)))

@@ -1,5 +1,5 @@
 -- A begin of a branch, in a machine and in the run.
-use Rattle.std.proofs.Common.{◌≡◌, ◌≢◌, ◌≤◌, ◌<◌, ◌⊎◌, inl, inr, ⊎_elim, ℕ, zero, suc, ◌+◌, ℤ, Bool, true, false, List, [], ◌∷◌, ◌++◌, length, refl, sym, ap, ◌∙◌, subst, Option, Some, None, slice_get, arith, length-append}
+use Rattle.std.proofs.Common.{◌≡◌, ◌≢◌, ◌≤◌, ◌<◌, inl, inr, ⊎_elim, ℕ, zero, suc, ◌+◌, ℤ, List, [], ◌∷◌, ◌++◌, length, refl, sym, ap, ◌∙◌, subst, Option, Some, None, slice_get, arith, length-append}
 use Rattle.std.proofs.lemmas.Bool.Decides.{eqb_tells}
 use Rattle.std.proofs.lemmas.Option.{slice_get_within}
 use Rattle.std.specs.FinMap.{get, insert}
@@ -7,15 +7,15 @@ use Rattle.dpj_base.specs.declared.effect.Effect.{Effect}
 use Rattle.dpj_base.specs.declared.outcome.Limits.{Limits}
 use Rattle.dpj_typed.specs.Plain.{PlainProgram}
 use Rattle.dpj_meaning.specs.Actions as meaning
-use Rattle.dpj_code.specs.Legs.{Halt, Asks as AsksAt, Finished, Dead}
+use Rattle.dpj_code.specs.Legs.{Asks as AsksAt}
 use Rattle.dpj_code.specs.Machine.{Start, State, Stand, Goes, Turns, Makes, Waits, Ends, Stuck, begins_at, step}
 use Rattle.dpj_code.specs.Plain.{PlainCode, plain_code}
 use Rattle.dpj_code.specs.declared.code.Code.{Code}
 use Rattle.dpj_gen.specs.Compiled.{Compiled, SameAct}
-use Rattle.dpj_runs.specs.Actions.{Action, Do, Rest, Begin, Join, Task, Went, Next, Rule}
+use Rattle.dpj_runs.specs.Actions.{Begin, Task, Went, Next, Rule}
 use Rattle.dpj_runs.specs.Objects.{Path, Name, LocalRegion}
-use Rattle.dpj_runs.specs.Runs.{Begun, Event, Faithful, Follows, Run, Upto, answers, branch, count, event_steps, later, mine, now, total}
-use Rattle.dpj_runs.specs.Schedules.{Numbered, begins, branch_is, one_begin}
+use Rattle.dpj_runs.specs.Runs.{Event, Follows, Run, answers, branch, count, event_steps, later, mine, now}
+use Rattle.dpj_runs.specs.Schedules.{Numbered, branch_is}
 use Rattle.dpj_runs.proofs.Cost.{total_step}
 use Rattle.dpj_runs.proofs.Mine.{mine_other, mine_same}
 use Rattle.dpj_runs.proofs.Numbers.{begins_step}
@@ -27,7 +27,7 @@ use Rattle.dpj_legs.specs.Tasks.{plain_answer}
 use Rattle.dpj_legs.specs.declared.action.Action.TheVariants as action
 use Rattle.dpj_legs.specs.declared.action.Answer.TheVariants as answer
 use Rattle.dpj_tasks.specs.Scope.{Branches as Scope, with_branch}
-use Rattle.dpj_tasks.specs.Tree.{Tasks, CanBegin, OfTask, OfScope, branches_begun, changed, fresh, in_scope, next_origin, task_at, with_scope}
+use Rattle.dpj_tasks.specs.Tree.{Tasks, CanBegin, OfTask, OfScope, branches_begun, changed, fresh, in_scope, next_origin, with_scope}
 use Rattle.dpj_tasks.specs.declared.end.TaskEnd.{TaskEnd}
 use Rattle.dpj_tasks.specs.declared.task.Origin.{Origin}
 use Rattle.dpj_tasks.specs.declared.task.State.{State as Standing}
@@ -36,9 +36,9 @@ use Rattle.dpj_tasks.specs.declared.task.Task.{Task as Live}
 use Rattle.dpj_tasks.proofs.Numbers.{get_inserted, get_beside}
 use Rattle.dpj_machine.specs.Replay.{Moment, NextOf, CanBeMade, StartsIn, after, begun, with_task}
 use Rattle.dpj_machine.specs.Running.{Running, at_start}
-use Rattle.dpj_elided.proofs.Worlds.{Distinct, later_none, no_values, still_there}
+use Rattle.dpj_elided.proofs.Worlds.{later_none, no_values, still_there}
 use Rattle.dpj_elided.proofs.Writes.{last_there}
-use Rattle.dpj_recorded.proofs.Sights.{Sight, Wider, Each, each_none, each_more, StateLike, on_like, StartLike, starts_later, start_later, went_like}
+use Rattle.dpj_recorded.proofs.Sights.{Sight, Wider, Each, each_none, each_more, on_like, StartLike, starts_later, start_later, went_like}
 use Rattle.dpj_recorded.proofs.Joins.{ForksAreJoined}
 use Rattle.dpj_recorded.proofs.Forking.{AtJoin, HasBegun, Kept, step_keeps, join_leg}
 use Rattle.dpj_recorded.proofs.Wrapping.{first_numbers, next_numbers}

@@ -1,25 +1,21 @@
 -- An end, in a machine and in the run.
-use Rattle.std.proofs.Common.{◌≡◌, ◌≢◌, ◌≤◌, ◌<◌, ◌⊎◌, inl, inr, ⊎_elim, ℕ, zero, suc, ◌+◌, ◌==◌, if◌then◌else◌, ℤ, Bool, true, false, List, [], ◌∷◌, ◌++◌, map, length, refl, sym, ap, ◌∙◌, subst, Option, Some, None, slice_get, arith}
+use Rattle.std.proofs.Common.{◌≡◌, ◌≢◌, inl, inr, ℕ, zero, suc, ◌+◌, ◌==◌, if◌then◌else◌, ℤ, Bool, true, false, List, [], ◌∷◌, ◌++◌, map, length, refl, sym, ap, ◌∙◌, subst, Option, Some, None, slice_get, arith}
 use Rattle.std.proofs.lemmas.Bool.Decides.{eqb_tells}
 use Rattle.std.specs.FinMap.{get, remove}
 use Rattle.dpj_base.specs.declared.effect.Effect.{Effect}
 use Rattle.dpj_base.specs.declared.outcome.Limits.{Limits}
-use Rattle.dpj_base.specs.declared.place.Place.{Place}
-use Rattle.dpj_base.specs.declared.value.Trap.{Trap}
 use Rattle.dpj_typed.specs.Plain.{PlainProgram}
-use Rattle.dpj_meaning.specs.Actions as meaning
 use Rattle.dpj_meaning.specs.Actions.{Ending as EndingOver}
 use Rattle.dpj_meaning.specs.Asking.{most_turns}
 use Rattle.dpj_meaning.specs.Outcomes.{trap_of, locals_of}
 use Rattle.dpj_code.specs.Legs.{Halt, Asks as AsksAt, Finished, Dead, said}
-use Rattle.dpj_code.specs.Machine.{Start, State, Stand, Goes, Turns, Makes, Waits, Ends, Stuck, step}
+use Rattle.dpj_code.specs.Machine.{State, Stand, Goes, Turns, Makes, Waits, Ends, Stuck, step}
 use Rattle.dpj_code.specs.Plain.{PlainCode, plain_code}
 use Rattle.dpj_code.specs.declared.code.Code.{Code}
 use Rattle.dpj_gen.specs.Compiled.{SameAct, SameReply}
-use Rattle.dpj_runs.specs.Actions.{Action, Do, Rest, Fork, Begin, Join, End, Ending, Returned, Assigned, Trapped, Went, Next, Reply, Rule}
-use Rattle.dpj_runs.specs.Objects.{Path, Name, LocalRegion}
-use Rattle.dpj_runs.specs.Runs.{Ended, Event, Follows, Run, answers, count, event_steps, later, mine, now, total}
-use Rattle.dpj_runs.specs.Order.{printed_by}
+use Rattle.dpj_runs.specs.Actions.{Action, Do, Rest, End, Ending, Went, Next, Reply, Rule}
+use Rattle.dpj_runs.specs.Objects.{Path}
+use Rattle.dpj_runs.specs.Runs.{Event, Follows, Run, answers, count, event_steps, later, mine, now}
 use Rattle.dpj_runs.proofs.Cost.{total_step}
 use Rattle.dpj_runs.proofs.Mine.{mine_other}
 use Rattle.dpj_legs.specs.Halts.{Tells, stands}
@@ -28,9 +24,8 @@ use Rattle.dpj_legs.specs.Tasks.{plain_ending, plain_slot}
 use Rattle.dpj_legs.specs.declared.action.Action.TheVariants as action
 use Rattle.dpj_legs.specs.declared.action.Ending.{Ending as DeclaredEnding}
 use Rattle.dpj_legs.specs.declared.action.Ending.TheVariants as ending
-use Rattle.dpj_legs.specs.declared.action.SlotValue.{SlotValue}
 use Rattle.dpj_tasks.specs.Scope.{Branches as Scope, put_end, with_end}
-use Rattle.dpj_tasks.specs.Tree.{Tasks, Tree, changed, end_noted, end_of, in_scope, origin_of, task_at, with_scope, without_task}
+use Rattle.dpj_tasks.specs.Tree.{Tasks, Tree, changed, end_noted, end_of, in_scope, origin_of, with_scope}
 use Rattle.dpj_tasks.specs.declared.end.TaskEnd.{TaskEnd}
 use Rattle.dpj_tasks.specs.declared.task.Origin.{Origin}
 use Rattle.dpj_tasks.specs.declared.task.State.TheVariants.{Running as Runs, Forked}
@@ -39,15 +34,15 @@ use Rattle.dpj_world.specs.World.{slots_in}
 use Rattle.dpj_world.specs.World.{trap_in as machine_trap}
 use Rattle.dpj_going.proofs.Trees.{ended_begun}
 use Rattle.dpj_machine.specs.Replay.{Moment, NextOf, after}
-use Rattle.dpj_machine.specs.Running.{Running, front}
-use Rattle.dpj_elided.proofs.Worlds.{Names, Distinct, LocalsLike, no_locals, EndingLike, returned_like, assigned_like, trapped_like}
+use Rattle.dpj_machine.specs.Running.{front}
+use Rattle.dpj_elided.proofs.Worlds.{Names, LocalsLike, no_locals, EndingLike, returned_like, assigned_like, trapped_like}
 use Rattle.dpj_recorded.proofs.Sights.{Sight, wider_none, HaltLike, asks_like, finished_like, dead_like, ActionLike, end_like}
 use Rattle.dpj_recorded.proofs.Legs.{HaltOf}
 use Rattle.dpj_recorded.proofs.Heaps.{structural}
 use Rattle.dpj_recorded.proofs.Ties.{Q, EndTied, EndsTied, ForkTied, ScopeTied, BranchTied, OriginTied, LiveTied, Tied, ends_later, task_later}
 use Rattle.dpj_recorded.proofs.Asked.{ActionIn, ActionOf, reply_act, same_end, runs_if}
-use Rattle.dpj_recorded.proofs.Trees.{placed, beside, changed_own, changed_other, removed_tells, removed_other, numbers_kept, costs_next, apart_paths, above_apart, path_one, not_itself, live_later, live_with, branch_later, origin_later}
-use Rattle.dpj_recorded.proofs.Acting.{RightFor, event_of, Stepped, found, live, at, here, childless_if}
+use Rattle.dpj_recorded.proofs.Trees.{beside, changed_own, changed_other, removed_tells, removed_other, numbers_kept, costs_next, apart_paths, above_apart, path_one, not_itself, live_later, live_with, branch_later, origin_later}
+use Rattle.dpj_recorded.proofs.Acting.{RightFor, event_of, Stepped, found, live, here, childless_if}
 
 -- where a task stands tells its turns
 abbrev HasTurns : ℕ → Halt ℕ (ℕ × ℕ) → Type 0
@@ -294,8 +289,10 @@ module _ (code : Code) (P : PlainProgram) (arg : ℤ) (rule : Rule) (L : Limits)
         where
           origin : OriginTied P arg rule C w (event ∷ R) tasks U.path B.parent.origin
           origin = origin_later P arg rule C L (wider_none T.heap.holds.distinct) T.numbers event k V.there m.world.tree.tasks tasks U.path B.parent.origin
-              (λ z f. (childless o.parent B.parent z parent_apart B.parent_is f,
-              both_now z.parent (not_itself P arg rule C L w R m.world.tree.tasks o.parent U.there B.parent.origin U.origin z f) (childless o.parent B.parent z parent_apart B.parent_is f))) U.origin
+              (λ z f. (
+                childless o.parent B.parent z parent_apart B.parent_is f,
+                both_now z.parent (not_itself P arg rule C L w R m.world.tree.tasks o.parent U.there B.parent.origin U.origin z f) (childless o.parent B.parent z parent_apart B.parent_is f),
+              )) U.origin
 
       -- a branch of the same fork
       sibling : (j : ℕ) (q : Path) (u : Origin) → slice_get w.paths j ≡ Some q → j ≢ k → u.parent ≡ o.parent → BranchTied P arg rule C w R m.world.tree.tasks q u

@@ -1,10 +1,9 @@
 -- A task that has forked stands at its join until it joins, and its branches start as its fork told.
 use Rattle.std.specs.Int.{w32, int_wrapping_add, int_wrapping_sub}
-use Rattle.std.proofs.Common.{◌≡◌, ◌≤◌, ◌<◌, ◌^◌, ℕ, zero, suc, ◌+◌, ◌-◌, ◌==◌, if◌then◌else◌, ℤ, pos, negsuc, Bool, true, false, List, [], ◌∷◌, map, length, reverse, refl, sym, ap, ap₂, ◌∙◌, subst, Option, Some, None, slice_get, arith}
-use Rattle.std.specs.Prelude.{slice_set, slice_index_or}
+use Rattle.std.proofs.Common.{◌≡◌, ◌≤◌, ◌<◌, ℕ, zero, suc, ◌-◌, ℤ, pos, negsuc, Bool, true, false, List, [], ◌∷◌, map, length, reverse, refl, sym, ap, ap₂, ◌∙◌, subst, Option, Some, None, slice_get, arith}
+use Rattle.std.specs.Prelude.{slice_set}
 use Rattle.dpj_base.specs.declared.effect.Effect.{Effect as PathEffect}
 use Rattle.dpj_base.specs.declared.place.Place.{Place}
-use Rattle.dpj_base.specs.declared.region.Rpl.{Rpl}
 use Rattle.dpj_base.specs.declared.value.Trap.{Trap}
 use Rattle.dpj_base.specs.declared.value.Trap.TheVariants as trap
 use Rattle.dpj_base.specs.declared.value.Value.{Value as Constant}
@@ -14,14 +13,13 @@ use Rattle.dpj_typed.specs.declared.expr.BinaryOp.TheVariants as op
 use Rattle.dpj_meaning.specs.Values.{Value, Int, Object, Region, An_object, An_array}
 use Rattle.dpj_meaning.specs.Actions.{Frame, Answer, Read, Write, Look, New, Print, Enter, Exit, Do, Fork, Begin, Join, End, Rest}
 use Rattle.dpj_meaning.specs.Actions.{Own as OwnOver}
-use Rattle.dpj_meaning.specs.Asking.{most_turns}
 use Rattle.dpj_meaning.specs.Counts.{number, reference, value_read, is_out, length_seen, name_made, class_seen, class_entered, operated, slot_value, how_many, part_place}
 use Rattle.dpj_meaning.specs.Regions.{around, concrete, is_long, some_long}
 use Rattle.dpj_code.specs.declared.instr.Instr.{Instr}
 use Rattle.dpj_code.specs.declared.instr.Instr.TheVariants as i
 use Rattle.dpj_code.specs.Fit.{site_at}
-use Rattle.dpj_code.specs.Legs.{Halt, Asks, Finished, Dead, legged, leg, Leg}
-use Rattle.dpj_code.specs.Machine.{Level, Start, State, On, Rested, Off, Nowhere, Stand, Goes, Turns, Makes, Waits, Ends, Stuck, next, one, two, three, taken, or_trap, unless_null, cell_read, cell_written, reads, writes, deeper, unless_long, entered, enters, calls, called, first_value, creates, created, array_of, makes_array, below, started, forked, each_started, waiting, spread, all_copied, joins_fork, joins_spread, joins_site, branch_site, site_of, line_before, joins, ends_branch, in_part, operates, exec, exec_line, enters_block, rested_at, rested_line, step}
+use Rattle.dpj_code.specs.Legs.{Halt, legged, leg, Leg}
+use Rattle.dpj_code.specs.Machine.{Level, State, On, Rested, Off, Nowhere, Stand, Goes, Turns, Makes, Waits, Ends, Stuck, next, one, two, three, taken, or_trap, cell_read, cell_written, reads, writes, deeper, unless_long, entered, enters, calls, called, first_value, creates, created, array_of, makes_array, below, forked, each_started, waiting, spread, all_copied, joins_fork, joins_spread, joins_site, branch_site, site_of, line_before, joins, ends_branch, in_part, operates, exec, exec_line, enters_block, rested_at, rested_line, step}
 use Rattle.dpj_code.specs.Plain.{Line, Site, fork_site, spread_site, block_site, call_site, new_site, array_site, PlainCode, body_at, class_at, parent_of, constructor_of, fields_of}
 use Rattle.dpj_legs.specs.Branches.{spread_starts, starts_of, starts_at}
 use Rattle.dpj_legs.specs.Halts.{stands}
@@ -164,10 +162,12 @@ module _ (C : PlainCode) (FJ : ForksAreJoined C) (firsts : FirstNumbers) (nexts 
   fork_keeps at s (Some (new_site c n regions)) e f = record { is = tt }
   fork_keeps at s (Some (array_site region first)) e f = record { is = tt }
   fork_keeps at s (Some (fork_site forking js copies)) e f =
-      keeps_deeper C Here g.frame.left at _ (record { is = λ x. (
-        (join_behind (i.Fork s) at s refl e, subst (λ o. LeftIn o (Int (pos (length js)) ∷ g.stack)) (sym (site_behind (i.Fork s) at s _ refl e f)) tt),
-        ap (λ o. starts_of o (record g { at = suc g.at; stack = Int (pos (length js)) ∷ g.stack })) (site_behind (i.Fork s) at s _ refl e f),
-      ) })
+      keeps_deeper C Here g.frame.left at _ (record {
+        is = λ x. (
+          (join_behind (i.Fork s) at s refl e, subst (λ o. LeftIn o (Int (pos (length js)) ∷ g.stack)) (sym (site_behind (i.Fork s) at s _ refl e f)) tt),
+          ap (λ o. starts_of o (record g { at = suc g.at; stack = Int (pos (length js)) ∷ g.stack })) (site_behind (i.Fork s) at s _ refl e f),
+        );
+      })
 
   spread_keeps : (at : Place) (s : ℕ) (o : Option Site) → slice_get Lines g.at ≡ Some (record { instr = i.Spread s; place = at }) → slice_get C.sites s ≡ o
       → Kept C Here (spread at o g fs)
@@ -178,21 +178,27 @@ module _ (C : PlainCode) (FJ : ForksAreJoined C) (firsts : FirstNumbers) (nexts 
   spread_keeps at s (Some (new_site c n regions)) e f = record { is = tt }
   spread_keeps at s (Some (array_site region first)) e f = record { is = tt }
   spread_keeps at s (Some (spread_site forking j x)) e f =
-      keeps_two C Here g.stack _ (λ start count st. keeps_deeper C Here g.frame.left at _ (record { is = λ a. (
-        (join_behind (i.Spread s) at s refl e,
-        subst (λ o. LeftIn o (waiting (how_many (number count)) (number start) (how_many (number count)) st)) (sym (site_behind (i.Spread s) at s _ refl e f)) (omega arith)),
-        ap (λ o. starts_of o (record g { at = suc g.at; stack = waiting (how_many (number count)) (number start) (how_many (number count)) st })) (site_behind (i.Spread s) at s _ refl e f)
-        ∙ same_starts j x g.frame (int_wrapping_sub w32 (number start) (pos (how_many (number count) - how_many (number count)))) (number start) (λ m. firsts (number start) (how_many (number count)) m) 0 (how_many (number count)),
-      ) }))
+      keeps_two C Here g.stack _ (λ start count st. keeps_deeper C Here g.frame.left at _ (record {
+        is = λ a. (
+          (
+            join_behind (i.Spread s) at s refl e,
+            subst (λ o. LeftIn o (waiting (how_many (number count)) (number start) (how_many (number count)) st)) (sym (site_behind (i.Spread s) at s _ refl e f)) (omega arith),
+          ),
+          ap (λ o. starts_of o (record g { at = suc g.at; stack = waiting (how_many (number count)) (number start) (how_many (number count)) st })) (site_behind (i.Spread s) at s _ refl e f)
+              ∙ same_starts j x g.frame (int_wrapping_sub w32 (number start) (pos (how_many (number count) - how_many (number count)))) (number start) (λ m. firsts (number start) (how_many (number count)) m) 0 (how_many (number count)),
+        );
+      }))
 
   -- at a join
   begin_fork : (total : ℕ) (copies : List ℕ) (forking : Forking) (js : List ℕ) (lists : List (List ℕ)) (n : ℕ) (st : List (Value ℕ))
       → site_at C (site_of (line_before Lines g.at)) ≡ Some (fork_site forking js lists) → Kept C Here (joins_fork total copies n g st fs)
   begin_fork total copies forking js lists zero st e = record { is = tt }
-  begin_fork total copies forking js lists (suc n) st e = record { is = (
-    λ at x. ((at.0, subst (λ o. LeftIn o (Int (pos n) ∷ st)) (sym e) tt), subst (λ o. FewerLeft o (Int (pos n) ∷ st)) (sym e) tt),
-    λ x fewer few. ap (λ o. starts_of o (record g { stack = Int (pos n) ∷ st })) e ∙ sym (ap (λ o. starts_of o g) e),
-  ) }
+  begin_fork total copies forking js lists (suc n) st e = record {
+    is = (
+      λ at x. ((at.0, subst (λ o. LeftIn o (Int (pos n) ∷ st)) (sym e) tt), subst (λ o. FewerLeft o (Int (pos n) ∷ st)) (sym e) tt),
+      λ x fewer few. ap (λ o. starts_of o (record g { stack = Int (pos n) ∷ st })) e ∙ sym (ap (λ o. starts_of o g) e),
+    );
+  }
 
   begin_spread : (forking : Forking) (j x : ℕ) (left next total : Value ℕ) (st : List (Value ℕ)) (n : ℕ)
       → site_at C (site_of (line_before Lines g.at)) ≡ Some (spread_site forking j x) → g.stack ≡ left ∷ next ∷ total ∷ st → how_many (number left) ≡ n
@@ -204,16 +210,17 @@ module _ (C : PlainCode) (FJ : ForksAreJoined C) (firsts : FirstNumbers) (nexts 
           × HasBegun C (On (record g { stack = waiting n (int_wrapping_add w32 (number next) (pos 1)) (how_many (number total)) st }) fs)
       at_next at a =
           let within : how_many (number left) ≤ how_many (number total) =
-              subst (λ s. LeftIn (Some (spread_site forking j x)) s) f (subst (λ o. LeftIn o g.stack) e at.1) in
-          ((at.0, subst (λ o. LeftIn o (waiting n (int_wrapping_add w32 (number next) (pos 1)) (how_many (number total)) st)) (sym e) (omega (arith, within, h))),
-          subst (λ o. FewerLeft o (waiting n (int_wrapping_add w32 (number next) (pos 1)) (how_many (number total)) st)) (sym e) (omega (arith, within, h)))
+          subst (λ s. LeftIn (Some (spread_site forking j x)) s) f (subst (λ o. LeftIn o g.stack) e at.1) in (
+            (at.0, subst (λ o. LeftIn o (waiting n (int_wrapping_add w32 (number next) (pos 1)) (how_many (number total)) st)) (sym e) (omega (arith, within, h))),
+            subst (λ o. FewerLeft o (waiting n (int_wrapping_add w32 (number next) (pos 1)) (how_many (number total)) st)) (sym e) (omega (arith, within, h)),
+          )
 
       starts_next : (a : Answer ℕ (ℕ × ℕ)) → HasBegun C (On (record g { stack = waiting n (int_wrapping_add w32 (number next) (pos 1)) (how_many (number total)) st }) fs)
           → suc (how_many (number total) - suc n) < 2147483648
           → starts_at C (On (record g { stack = waiting n (int_wrapping_add w32 (number next) (pos 1)) (how_many (number total)) st }) fs) ≡ starts_at C Here
       starts_next a fewer few =
           let below : n < how_many (number total) =
-              subst (λ o. FewerLeft o (waiting n (int_wrapping_add w32 (number next) (pos 1)) (how_many (number total)) st)) e fewer in
+          subst (λ o. FewerLeft o (waiting n (int_wrapping_add w32 (number next) (pos 1)) (how_many (number total)) st)) e fewer in
           let many : how_many (number total) - n ≡ suc (how_many (number total) - suc n) = omega (arith, below) in
           ap (λ o. starts_of o (record g { stack = waiting n (int_wrapping_add w32 (number next) (pos 1)) (how_many (number total)) st })) e
           ∙ same_starts j x g.frame (int_wrapping_sub w32 (int_wrapping_add w32 (number next) (pos 1)) (pos (how_many (number total) - n)))

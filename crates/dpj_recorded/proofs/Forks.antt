@@ -1,10 +1,8 @@
 -- A fork, in a machine and in the run.
-use Rattle.std.proofs.Common.{◌≡◌, ◌≢◌, ◌≤◌, ◌<◌, ℕ, zero, suc, ◌+◌, ◌==◌, if◌then◌else◌, ℤ, Bool, true, false, List, [], ◌∷◌, ◌++◌, length, refl, sym, ap, ◌∙◌, subst, Option, Some, None, slice_get, arith}
+use Rattle.std.proofs.Common.{◌≡◌, ℕ, ◌==◌, if◌then◌else◌, ℤ, Bool, true, false, List, [], ◌∷◌, length, refl, sym, ap, ◌∙◌, subst, Option, Some, arith}
 use Rattle.std.specs.FinMap.{get}
 use Rattle.dpj_base.specs.declared.effect.Effect.{Effect}
 use Rattle.dpj_base.specs.declared.outcome.Limits.{Limits}
-use Rattle.dpj_base.specs.declared.place.Place.{Place}
-use Rattle.dpj_base.specs.declared.value.Trap.{Trap}
 use Rattle.dpj_typed.specs.declared.stmt.Forking.{Forking}
 use Rattle.dpj_typed.specs.Plain.{PlainProgram}
 use Rattle.dpj_meaning.specs.Actions as meaning
@@ -14,19 +12,19 @@ use Rattle.dpj_code.specs.Machine.{Start, State, Stand, Goes, Turns, Makes, Wait
 use Rattle.dpj_code.specs.Plain.{PlainCode, plain_code}
 use Rattle.dpj_code.specs.declared.code.Code.{Code}
 use Rattle.dpj_gen.specs.Compiled.{AllCompiled, SameAct}
-use Rattle.dpj_runs.specs.Actions.{Branches, Action, Do, Rest, Fork, Begin, Join, End, Went, Next, Rule}
-use Rattle.dpj_runs.specs.Objects.{Path, Name, LocalRegion}
-use Rattle.dpj_runs.specs.Runs.{Event, Follows, Run, answers, event_steps, mine, now, total}
+use Rattle.dpj_runs.specs.Actions.{Branches, Do, Rest, Fork, Went, Next, Rule}
+use Rattle.dpj_runs.specs.Objects.{Name, LocalRegion}
+use Rattle.dpj_runs.specs.Runs.{Event, Follows, Run, answers, mine, now}
 use Rattle.dpj_runs.proofs.Mine.{mine_same}
 use Rattle.dpj_legs.specs.Branches.{starts_at}
 use Rattle.dpj_legs.specs.Halts.{Tells, stands}
 use Rattle.dpj_legs.specs.Names.{names_of}
-use Rattle.dpj_legs.specs.Tasks.{Says, plain_answer}
+use Rattle.dpj_legs.specs.Tasks.{plain_answer}
 use Rattle.dpj_legs.specs.declared.action.Action.TheVariants as action
 use Rattle.dpj_legs.specs.declared.action.Answer.TheVariants as answer
-use Rattle.dpj_tasks.specs.Scope.{Branches as Scope, no_branch_yet}
+use Rattle.dpj_tasks.specs.Scope.{no_branch_yet}
 use Rattle.dpj_tasks.specs.Tree.{forked_task}
-use Rattle.dpj_tasks.specs.declared.task.State.TheVariants.{Running as Runs, Forked}
+use Rattle.dpj_tasks.specs.declared.task.State.TheVariants.{Running as Runs}
 use Rattle.dpj_tasks.specs.declared.task.Task.{Task as Live}
 use Rattle.dpj_machine.specs.Replay.{Moment, NextOf, after}
 use Rattle.dpj_machine.specs.Running.{front}
@@ -34,7 +32,7 @@ use Rattle.dpj_recorded.proofs.Sights.{Sight, wider_none, each_length, StartsLik
 use Rattle.dpj_recorded.proofs.Joins.{ForksAreJoined}
 use Rattle.dpj_recorded.proofs.Forking.{AtJoin, Kept, step_keeps}
 use Rattle.dpj_recorded.proofs.Wrapping.{first_numbers, next_numbers}
-use Rattle.dpj_recorded.proofs.Heaps.{HeapTied, structural}
+use Rattle.dpj_recorded.proofs.Heaps.{structural}
 use Rattle.dpj_recorded.proofs.Ties.{Q, ForkTied, LiveTied, Tied}
 use Rattle.dpj_recorded.proofs.Asked.{ActionIn, ActsAt, forking_like, same_fork, runs_if, AllLength}
 use Rattle.dpj_recorded.proofs.Trees.{placed, beside, changed_own, changed_other, plain_next}

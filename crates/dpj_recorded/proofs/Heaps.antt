@@ -1,22 +1,21 @@
 -- A machine's heap is what the events of the run so far have made and written.
-use Rattle.std.proofs.Common.{◌≡◌, ℕ, zero, suc, ◌+◌, ◌<◌, ◌≤◌, ◌⊎◌, inl, inr, ⊎_elim, ℤ, pos, negsuc, Bool, true, false, cond, List, [], ◌∷◌, ◌++◌, map, length, refl, sym, ap, ◌∙◌, subst, arith, Option, Some, None, slice_get, nat_lt, append-nil, append_assoc, length-append}
+use Rattle.std.proofs.Common.{◌≡◌, ℕ, zero, suc, ◌+◌, ◌≤◌, ◌⊎◌, inl, inr, ⊎_elim, ℤ, pos, negsuc, Bool, true, false, cond, List, [], ◌∷◌, ◌++◌, map, length, refl, sym, ap, ◌∙◌, subst, arith, Option, Some, None, slice_get, nat_lt, append-nil, append_assoc, length-append}
 use Rattle.std.specs.Prelude.{slice_set, slice_index_or, replicate}
 use Rattle.std.proofs.lemmas.List.{length-map}
 use Rattle.std.proofs.lemmas.Bool.{ltb-true, lt-ltb, cases_lt}
 use Rattle.std.proofs.lemmas.Option.{slice_get_past, slice_get_within, slice_get-get_or}
 use Rattle.dpj_base.specs.declared.value.Value.{Value as Constant}
-use Rattle.dpj_base.specs.declared.region.Region.{Region as DeclaredRegion}
-use Rattle.dpj_meaning.specs.Values.{Value, Null, Part, Any_index, Region, Thing as ThingOver, An_object as an_object_of, An_array as an_array_of}
-use Rattle.dpj_meaning.specs.Actions.{Own as OwnOver, Answer as AnswerOver, Rest, Read, Write, Look, New, Print, Enter, Exit}
+use Rattle.dpj_meaning.specs.Values.{Value, Null, Thing as ThingOver}
+use Rattle.dpj_meaning.specs.Actions.{Own as OwnOver, Answer as AnswerOver, Read, Write, Look, New}
 use Rattle.dpj_meaning.specs.Actions.{Went, Got, Out, Class, Length, Named, Joined, Fell}
-use Rattle.dpj_meaning.specs.Elision.{LocalRegion as Counted, Held, held, Heap, Store, at_index, set_at, read_of, write_of, look_of, answer as elided_answer, heap_after, after}
+use Rattle.dpj_meaning.specs.Elision.{LocalRegion as Counted, Held, held, Heap, Store, at_index, set_at, read_of, write_of, answer as elided_answer, heap_after, after}
 use Rattle.dpj_meaning.specs.Elision.{written as heap_written}
 use Rattle.dpj_base.specs.declared.place.Place.{Place}
 use Rattle.dpj_base.specs.declared.value.Trap.{Trap}
 use Rattle.dpj_runs.specs.Actions.{Own, Answer, Do, Program, cells, steps}
 use Rattle.dpj_runs.specs.Order.{printed_by, trap_in}
-use Rattle.dpj_runs.specs.Objects.{Cell, Path, Name, Thing, An_object, An_array, LocalRegion}
-use Rattle.dpj_runs.specs.Runs.{Event, Run, reply, seen, thing_of, made, made_by, written_by, mine, things, at_start, now, later, answered_by, total, event_steps}
+use Rattle.dpj_runs.specs.Objects.{Cell, Path, Name, Thing, An_object, An_array}
+use Rattle.dpj_runs.specs.Runs.{Event, Run, reply, seen, thing_of, made, made_by, written_by, mine, things, at_start, now, later, answered_by}
 use Rattle.dpj_runs.proofs.Mine.{mine_same}
 use Rattle.dpj_runs.proofs.Things.{thing_later, same_some}
 use Rattle.dpj_heap.specs.Heap.{Object, instance, array, values_of, with_values, object_at, no_object, Contents}
@@ -25,7 +24,7 @@ use Rattle.dpj_legs.specs.Names.{plain_value, plain_region}
 use Rattle.dpj_legs.specs.Tasks.{plain_answer}
 use Rattle.dpj_legs.specs.declared.action.Answer.{Answer as DeclaredAnswer}
 use Rattle.dpj_legs.specs.declared.action.Answer.TheVariants as answer
-use Rattle.dpj_world.specs.World.{read_at, got, wrote_at, has_index, written_at}
+use Rattle.dpj_world.specs.World.{read_at, got, wrote_at, written_at}
 use Rattle.dpj_world.specs.World.{seen as object_seen}
 use Rattle.dpj_elided.proofs.Worlds.{Names, Distinct, Later, name_later, ValueLike}
 use Rattle.dpj_elided.proofs.Worlds as elided
@@ -33,7 +32,7 @@ use Rattle.dpj_elided.proofs.Memory.{Holds, Stands}
 use Rattle.dpj_elided.proofs.Doing.{Answered, own_step, structure_step}
 use Rattle.dpj_elided.proofs.NewThings.{things_step}
 use Rattle.dpj_elided.proofs.Writes.{last_there}
-use Rattle.dpj_recorded.proofs.Sights.{Sight, Wider, wider_none, Each, RegionsLike, regions_later, ThingLike, an_object, an_array}
+use Rattle.dpj_recorded.proofs.Sights.{Sight, Wider, wider_none, RegionsLike, regions_later}
 use Rattle.dpj_recorded.proofs.Sights.{AnswerLike, went_like, got_like, out_like, class_like, length_like, named_like, joined_like, fell_like}
 
 -- lists

@@ -1,6 +1,6 @@
 -- A join, in a machine and in the run.
-use Rattle.std.proofs.Common.{◌≡◌, ◌≢◌, ◌≤◌, ◌<◌, ◌⊎◌, inl, inr, ⊎_elim, ℕ, zero, suc, ◌+◌, ◌&&◌, not, nat_lt, ℤ, Bool, true, false, IsTrue, List, [], ◌∷◌, ◌++◌, map, length, refl, sym, ap, ap₂, ◌∙◌, subst, Option, Some, None, slice_get, arith}
-use Rattle.std.proofs.lemmas.Bool.{and_parts, ltb-true, lt-ltb, cases_lt}
+use Rattle.std.proofs.Common.{◌≡◌, ◌≢◌, ◌≤◌, ⊎_elim, ℕ, zero, suc, ◌+◌, not, nat_lt, ℤ, false, IsTrue, List, [], ◌∷◌, ◌++◌, map, length, refl, sym, ap, ap₂, ◌∙◌, subst, Option, Some, None, slice_get, arith}
+use Rattle.std.proofs.lemmas.Bool.{lt-ltb, cases_lt}
 use Rattle.std.specs.List.{list_all}
 use Rattle.std.specs.Prelude.{is_some}
 use Rattle.std.specs.FinMap.{get}
@@ -9,20 +9,17 @@ use Rattle.dpj_base.specs.declared.outcome.Limits.{Limits}
 use Rattle.dpj_base.specs.declared.place.Place.{Place}
 use Rattle.dpj_base.specs.declared.value.Trap.{Trap}
 use Rattle.dpj_typed.specs.Plain.{PlainProgram}
-use Rattle.dpj_meaning.specs.Actions as meaning
 use Rattle.dpj_meaning.specs.Outcomes.{trap_of, locals_of, joined_or}
 use Rattle.dpj_meaning.specs.Outcomes.{first_trap, all_locals}
 use Rattle.dpj_meaning.specs.Values.{Value}
 use Rattle.dpj_code.specs.Plain.{PlainCode, plain_code}
 use Rattle.dpj_code.specs.declared.code.Code.{Code}
 use Rattle.dpj_gen.specs.Compiled.{SameAct}
-use Rattle.dpj_runs.specs.Actions.{Answer, Action, Do, Fork, Begin, Join, End, Ending, Returned, Assigned, Trapped, Joined, Fell, Next, Rule}
-use Rattle.dpj_runs.specs.Objects.{Path, Name, LocalRegion}
+use Rattle.dpj_runs.specs.Actions.{Answer, Join, Ending, Returned, Assigned, Trapped, Next, Rule}
+use Rattle.dpj_runs.specs.Objects.{Path, Name}
 use Rattle.dpj_runs.specs.Runs.{Ended, Event, Follows, Joins, Run, answers, count, mine}
-use Rattle.dpj_legs.specs.Tasks.{Says, plain_answer, plain_slot}
+use Rattle.dpj_legs.specs.Tasks.{plain_answer, plain_slot}
 use Rattle.dpj_legs.specs.declared.action.Action.TheVariants as action
-use Rattle.dpj_legs.specs.declared.action.Answer.{Answer as DeclaredAnswer}
-use Rattle.dpj_legs.specs.declared.action.SlotValue.{SlotValue}
 use Rattle.dpj_tasks.specs.Join.{or_else, all_slots}
 use Rattle.dpj_tasks.specs.Join.{first_trap as first_of}
 use Rattle.dpj_tasks.specs.Scope.{Branches as Scope, all_begun, all_ended}
@@ -38,7 +35,7 @@ use Rattle.dpj_elided.proofs.Worlds.{Names, LocalsLike, no_locals, more_locals}
 use Rattle.dpj_recorded.proofs.Sights.{Sight, wider_none, AnswerLike, joined_like, fell_like}
 use Rattle.dpj_recorded.proofs.Heaps.{structural}
 use Rattle.dpj_recorded.proofs.Ties.{Q, EndTied, EndsTied, ForkTied, ScopeTied, BranchTied, OriginTied, LiveTied, Tied}
-use Rattle.dpj_recorded.proofs.Asked.{ActionIn, ActsAt, acts_at, joining_like, same_join}
+use Rattle.dpj_recorded.proofs.Asked.{acts_at, joining_like, same_join}
 use Rattle.dpj_recorded.proofs.Trees.{placed, beside, changed_own, changed_other, plain_next}
 use Rattle.dpj_recorded.proofs.Acting.{RightFor, event_of, Stepped, found, live, at, AskedAt, asked_at, goes_to, goes_so, task_next}
 

@@ -1,10 +1,10 @@
 -- A leg in a machine is like that leg with the names of a run.
-use Rattle.std.proofs.Common.{◌≡◌, ℕ, zero, suc, Bool, true, false, if◌then◌else◌, ◌==◌, List, [], ◌∷◌, refl, sym, ap, ◌∙◌, subst, Option, Some, None, slice_get}
+use Rattle.std.proofs.Common.{◌≡◌, ℕ, zero, suc, Bool, true, false, if◌then◌else◌, ◌==◌, List, [], ◌∷◌, refl, subst, Option, Some, slice_get}
 use Rattle.dpj_meaning.specs.Actions.{Do, Rest, Answer, Action}
 use Rattle.dpj_meaning.specs.Asking.{most_turns}
 use Rattle.dpj_code.specs.Plain.{PlainCode}
-use Rattle.dpj_code.specs.Machine.{Start, State, Stand, begins_at, step}
-use Rattle.dpj_code.specs.Legs.{Halt, Asks, Finished, Dead, legged_turn, legged, leg, Leg, Halts}
+use Rattle.dpj_code.specs.Machine.{Start, State, Stand, begins_at}
+use Rattle.dpj_code.specs.Legs.{Halt, Asks, legged_turn, legged, leg, Leg, Halts}
 use Rattle.dpj_runs.specs.Objects.{Path, Name, LocalRegion}
 use Rattle.dpj_steps.specs.Steps.{named_by}
 use Rattle.dpj_legs.specs.Names.{names_of}

@@ -17,3 +17,4 @@ pub mod Endings
 pub mod Begins
 pub mod Starting
 pub mod Recorded
+pub mod Segments

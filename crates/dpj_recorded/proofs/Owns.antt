@@ -1,7 +1,6 @@
 -- What a task does by itself, in a machine and in the run: one clause an action.
-use Rattle.std.proofs.Common.{◌≡◌, ◌≢◌, ℕ, zero, suc, ◌+◌, ℤ, Bool, true, false, cond, List, [], ◌∷◌, ◌++◌, map, length, refl, sym, ap, ap₂, ◌∙◌, subst, Option, Some, None, slice_get, arith, nat_lt, pos, negsuc}
+use Rattle.std.proofs.Common.{◌≡◌, ℕ, zero, suc, ◌+◌, ℤ, Bool, true, false, cond, List, [], ◌∷◌, ◌++◌, map, length, refl, sym, ap, ap₂, ◌∙◌, Option, arith, nat_lt, pos, negsuc}
 use Rattle.std.specs.Prelude.{replicate}
-use Rattle.std.specs.FinMap.{get}
 use Rattle.std.proofs.lemmas.List.{length-map}
 use Rattle.dpj_base.specs.declared.effect.Effect.{Effect}
 use Rattle.dpj_base.specs.declared.outcome.Limits.{Limits}
@@ -17,14 +16,14 @@ use Rattle.dpj_code.specs.Machine.{first_value}
 use Rattle.dpj_code.specs.Plain.{PlainCode, plain_code, class_at, fields_of}
 use Rattle.dpj_code.specs.declared.code.Code.{Code}
 use Rattle.dpj_runs.specs.Actions.{Own, Rule}
-use Rattle.dpj_runs.specs.Objects.{Path, Name, LocalRegion}
+use Rattle.dpj_runs.specs.Objects.{Path, LocalRegion}
 use Rattle.dpj_runs.specs.Runs.{Run}
 use Rattle.dpj_heap.specs.Heap.{instance, array, Contents, object_at, values_of}
 use Rattle.dpj_heap.specs.Heap.{written as contents_written}
 use Rattle.dpj_legs.specs.Names.{plain_value, plain_region, plain_effect}
 use Rattle.dpj_legs.specs.declared.action.Action.TheVariants as action
 use Rattle.dpj_legs.specs.declared.action.Answer.TheVariants as answer
-use Rattle.dpj_tasks.specs.Tree.{Tasks, changed, printed_task}
+use Rattle.dpj_tasks.specs.Tree.{printed_task}
 use Rattle.dpj_world.specs.Costs.{first_fields}
 use Rattle.dpj_world.specs.World.{read_at, wrote_at, written_at}
 use Rattle.dpj_world.specs.World.{seen as object_seen}
@@ -32,11 +31,11 @@ use Rattle.dpj_machine.specs.Replay.{Moment, NextOf, after}
 use Rattle.dpj_elided.proofs.Worlds as elided
 use Rattle.dpj_elided.proofs.Memory.{values_length}
 use Rattle.dpj_elided.proofs.Worlds.{ValueLike}
-use Rattle.dpj_recorded.proofs.Sights.{Sight, Each, each_none, each_more, RegionsLike, RegionLike, ThingLike, an_object, an_array, OwnLike, rest_like, read_like, write_like, look_like, new_like, print_like, enter_like, exit_like}
-use Rattle.dpj_recorded.proofs.Heaps.{HeapTied, OwnTied, went, reads, writes, looks, makes}
+use Rattle.dpj_recorded.proofs.Sights.{Sight, an_object, an_array, OwnLike, rest_like, read_like, write_like, look_like, new_like, print_like, enter_like, exit_like}
+use Rattle.dpj_recorded.proofs.Heaps.{OwnTied, went, reads, writes, looks, makes}
 use Rattle.dpj_recorded.proofs.Ties.{Q, Tied}
 use Rattle.dpj_recorded.proofs.Trees.{changed_own, changed_other}
-use Rattle.dpj_recorded.proofs.Acting.{RightFor, found, event_of, Stepped, OwnCosts, SameLive, same_live, own_next}
+use Rattle.dpj_recorded.proofs.Acting.{RightFor, found, event_of, Stepped, OwnCosts, same_live, own_next}
 
 -- a world that counts local regions keeps the lengths of regions alone
 any_part : Part LocalRegion → Part Counted

@@ -1,7 +1,6 @@
 -- What is read off like frames and answers is the same, or like.
-use Rattle.std.proofs.Common.{◌≡◌, ℕ, zero, suc, ◌+◌, ℤ, pos, Bool, true, false, cond, ◌==◌, ◌||◌, List, [], ◌∷◌, ◌++◌, map, length, refl, sym, ap, ap₂, ◌∙◌, subst, Option, Some, None, slice_get}
+use Rattle.std.proofs.Common.{◌≡◌, ℕ, zero, suc, ℤ, Bool, true, false, cond, ◌==◌, ◌||◌, List, [], ◌∷◌, map, refl, ap, ap₂, subst, Option, Some, None}
 use Rattle.std.specs.Prelude.{slice_index_or, slice_set, nat_lt}
-use Rattle.std.specs.List.{list_any}
 use Rattle.dpj_base.specs.declared.effect.Effect.{Effect as PathEffect}
 use Rattle.dpj_base.specs.declared.elems.Elem.{Elem}
 use Rattle.dpj_base.specs.declared.elems.Elem.TheVariants as elem
@@ -11,17 +10,17 @@ use Rattle.dpj_base.specs.declared.region.Head.{Head}
 use Rattle.dpj_base.specs.declared.region.Head.TheVariants as head
 use Rattle.dpj_base.specs.declared.region.Rpl.{Rpl}
 use Rattle.dpj_typed.specs.Plain.{PlainParent}
-use Rattle.dpj_meaning.specs.Values.{Value, Part, Number, Region, Naming}
+use Rattle.dpj_meaning.specs.Values.{Value, Number, Region}
 use Rattle.dpj_meaning.specs.Actions.{Frame, Answer}
-use Rattle.dpj_meaning.specs.Counts.{number, slot_value, value_read, is_out, length_seen, name_made, class_seen, class_entered, is_below, brought}
+use Rattle.dpj_meaning.specs.Counts.{value_read, is_out, length_seen, name_made, class_seen, class_entered, is_below, brought}
 use Rattle.dpj_meaning.specs.Regions.{Around, around, index_part, part_of, head_region, concrete, concrete_effect, is_long, some_long, most_parts, unmade_from, handed_up, regions_above}
 use Rattle.dpj_runs.specs.Objects.{Path, Name, LocalRegion}
 use Rattle.dpj_steps.specs.Steps.{named_by}
 use Rattle.dpj_legs.specs.Names.{names_of}
-use Rattle.dpj_elided.proofs.Worlds.{ValuesLike, no_values, more_values, ValueLike, int_like, null_like, object_like, BroughtLike, back_like, trap_like, no_locals}
+use Rattle.dpj_elided.proofs.Worlds.{ValuesLike, no_values, ValueLike, null_like, object_like, BroughtLike, back_like, trap_like, no_locals}
 use Rattle.dpj_elided.proofs.Counts.{number_at, MaybeLike, none_like, some_like}
-use Rattle.dpj_recorded.proofs.Sights.{Sight, Wider, Each, each_none, each_more, each_append, each_length, LocalLike, unmade_like, PartLike, a_name, a_number, a_local, own_index, any_index, any_parts}
-use Rattle.dpj_recorded.proofs.Sights.{RegionLike, RegionsLike, LocalRegionsLike, EffectLike, EffectsLike, AroundLike, FrameLike}
+use Rattle.dpj_recorded.proofs.Sights.{Sight, Each, each_none, each_more, each_append, each_length, unmade_like, PartLike, a_name, a_number, a_local, own_index, any_index, any_parts}
+use Rattle.dpj_recorded.proofs.Sights.{RegionLike, RegionsLike, LocalRegionsLike, EffectsLike, AroundLike, FrameLike}
 use Rattle.dpj_recorded.proofs.Sights.{AnswerLike, went_like, got_like, out_like, class_like, length_like, named_like, joined_like, fell_like}
 
 -- lists that are like, at a place, or with one element set

@@ -1,57 +1,50 @@
 -- Wherever a schedule leads a machine on compiled code, it records a run of the source.
-use Rattle.std.proofs.Common.{◌≡◌, ◌≢◌, ◌≤◌, ◌<◌, ◌⊎◌, inl, inr, ℕ, zero, suc, ◌+◌, ◌==◌, if◌then◌else◌, ℤ, pos, negsuc, Bool, true, false, cond, nat_lt, List, [], ◌∷◌, ◌++◌, map, length, refl, sym, ap, ◌∙◌, subst, Option, Some, None, slice_get, arith}
+use Rattle.std.proofs.Common.{◌≡◌, ◌≤◌, inl, inr, ℕ, zero, suc, ◌+◌, ◌==◌, if◌then◌else◌, ℤ, pos, negsuc, Bool, true, false, cond, nat_lt, List, [], ◌∷◌, length, refl, sym, ap, ◌∙◌, subst, Option, Some, None, slice_get, arith}
 use Rattle.std.proofs.lemmas.Bool.Decides.{eqb_tells}
-use Rattle.std.proofs.lemmas.List.{length-map}
 use Rattle.std.specs.Prelude.{replicate}
-use Rattle.std.specs.FinMap.{get}
 use Rattle.dpj_base.specs.declared.effect.Effect.{Effect as PathEffect}
 use Rattle.dpj_base.specs.declared.outcome.Ending.{Ending as MachineEnding}
 use Rattle.dpj_base.specs.declared.outcome.Limits.{Limits as DeclaredLimits}
 use Rattle.dpj_base.specs.declared.outcome.Outcome.{Outcome as DeclaredOutcome}
 use Rattle.dpj_typed.specs.Plain.{PlainProgram}
-use Rattle.dpj_meaning.specs.Asking.{ask}
 use Rattle.dpj_meaning.specs.Actions.{Answer as AnswerOver, Effect as EffectOver}
-use Rattle.dpj_code.specs.Legs.{Asks as AsksAt, Halt, Halts, said}
-use Rattle.dpj_code.specs.Machine.{Start, State, step, Waits}
-use Rattle.dpj_code.specs.Plain.{PlainCode, plain_code, block_site}
+use Rattle.dpj_code.specs.Legs.{Asks as AsksAt, Halt, said}
+use Rattle.dpj_code.specs.Machine.{State, Waits}
+use Rattle.dpj_code.specs.Plain.{PlainCode, plain_code}
 use Rattle.dpj_code.specs.declared.code.Code.{Code}
 use Rattle.dpj_gen.proofs.Legs.{legs_are_right}
-use Rattle.dpj_gen.specs.Compiled.{Compiled, SameReply}
+use Rattle.dpj_gen.specs.Compiled.{SameReply}
 use Rattle.dpj_gen.specs.Resolved.{Resolved}
 use Rattle.dpj_gen.specs.Whole.{compiled}
-use Rattle.dpj_runs.specs.Actions.{Action, Answer, Do, Ending, Enter, End, Next, Program, Reply, Rule, Task}
-use Rattle.dpj_runs.specs.Blocks.{Legal, MayEnter, with_rule}
-use Rattle.dpj_runs.specs.Objects.{Effect, LocalRegion, Name, Path, size}
+use Rattle.dpj_runs.specs.Actions.{Action, Do, Ending, Enter, End, Next, Program, Rule, Task}
+use Rattle.dpj_runs.specs.Blocks.{MayEnter}
+use Rattle.dpj_runs.specs.Objects.{Effect, Path, size}
 use Rattle.dpj_runs.specs.Order.{Comes, Limited, Outcome, ending_of, printed, trapped}
-use Rattle.dpj_runs.specs.Runs.{Begun, Ended, Event, Follows, Run, answers, cells_of, entry_step, event_cells, event_steps, mine, now, steps_of, total}
-use Rattle.dpj_runs.specs.Schedules.{Finished, Limits, Numbered, Ran, Ready, Within, branch_is, ended, no_room, over, root_is}
+use Rattle.dpj_runs.specs.Runs.{Begun, Event, Follows, Run, answers, cells_of, entry_step, event_cells, event_steps, mine, now, steps_of}
+use Rattle.dpj_runs.specs.Schedules.{Numbered, Ran, Ready, Within, branch_is, ended, no_room, over, root_is}
 use Rattle.dpj_runs.proofs.Cost.{total_nil}
 use Rattle.dpj_runs.proofs.Faithful.{agree_self, next_same, same_task}
 use Rattle.dpj_runs.proofs.Mine.{mine_nil}
-use Rattle.dpj_runs.proofs.Numbers.{number_one}
 use Rattle.dpj_runs.proofs.Schedules.{ran_legal}
 use Rattle.dpj_runs.proofs.Theorems.{each_comes_out}
 use Rattle.dpj_steps.specs.Interfering.{lets}
-use Rattle.dpj_steps.specs.Steps.{named_by, stepped}
+use Rattle.dpj_steps.specs.Steps.{named_by}
 use Rattle.dpj_going.specs.Going.{HasMain}
-use Rattle.dpj_heap.specs.Heap.{instance, with_object, object_at, values_of}
+use Rattle.dpj_heap.specs.Heap.{object_at, values_of}
 use Rattle.dpj_heap.specs.Heap.{written as contents_written}
-use Rattle.dpj_legs.specs.Names.{names_of}
 use Rattle.dpj_legs.specs.declared.action.Action.{Action as DeclaredAction}
 use Rattle.dpj_legs.specs.declared.action.Action.TheVariants as action
 use Rattle.dpj_legs.specs.declared.action.Ending.{Ending as DeclaredEnding}
 use Rattle.dpj_tasks.specs.Tree.{out_of, task_at}
 use Rattle.dpj_world.specs.Costs.{first_fields}
 use Rattle.dpj_world.specs.Costs.{Within as MachineWithin, cells_of as machine_cells, steps_of as machine_steps}
-use Rattle.dpj_world.specs.World.{world_after, written_at, with_heap}
-use Rattle.dpj_world.specs.World.{at_start as world_at_start}
+use Rattle.dpj_world.specs.World.{world_after, written_at}
 use Rattle.dpj_world.specs.declared.event.Event.{Event as DeclaredEvent}
 use Rattle.dpj_world.specs.declared.world.World.{World}
 use Rattle.dpj_machine.specs.Replay.{Moment, NextOf, CanBeMade, Moves, Opens, LeadsTo, after, came_to, limited, opened, outcome_after}
 use Rattle.dpj_machine.specs.Replay.{made as made_so, over as over_so, no_room as no_room_so}
-use Rattle.dpj_machine.specs.Running.{Running, front}
-use Rattle.dpj_recorded.specs.Laws.{AllRecord, BlocksAgree, HasNoBlocks, MachinesRecord, OutputsAgree, Records, RecordsRuns, blocks_aside, lets_all, limits, told, told_ending}
-use Rattle.dpj_recorded.proofs.Sights.{Sight, HaltLike, asks_like, finished_like, dead_like, ActionLike, do_like, fork_like, begin_like, join_like, end_like, OwnLike, rest_like, read_like, write_like, look_like, new_like, print_like, enter_like, exit_like}
+use Rattle.dpj_recorded.specs.Laws.{AllRecord, BlocksAgree, HasNoBlocks, MachinesRecord, OutputsAgree, Records, RecordsRuns, lets_all, limits, told, told_ending}
+use Rattle.dpj_recorded.proofs.Sights.{Sight, HaltLike, asks_like, finished_like, dead_like, ActionLike, do_like, fork_like, begin_like, join_like, end_like, rest_like, read_like, write_like, look_like, new_like, print_like, enter_like, exit_like}
 use Rattle.dpj_recorded.proofs.Joins.{ForksAreJoined, forks_are_joined}
 use Rattle.dpj_recorded.proofs.Legs.{HaltOf}
 use Rattle.dpj_recorded.proofs.Forking.{Kept, step_keeps}
@@ -59,7 +52,7 @@ use Rattle.dpj_recorded.proofs.Wrapping.{first_numbers, next_numbers}
 use Rattle.dpj_recorded.proofs.Ties.{Q, Tied}
 use Rattle.dpj_recorded.proofs.Asked.{ActionIn, ActionOf}
 use Rattle.dpj_recorded.proofs.Trees.{entered_next, path_one}
-use Rattle.dpj_recorded.proofs.Acting.{RightFor, event_of, Stepped, live, here, at}
+use Rattle.dpj_recorded.proofs.Acting.{RightFor, event_of, Stepped, live, here}
 use Rattle.dpj_recorded.proofs.Owns.{FieldsFor, rests, reads_cell, writes_cell, looks_at, makes_object, makes_array, prints, enters, exits}
 use Rattle.dpj_recorded.proofs.Forks.{front_step, forks_next}
 use Rattle.dpj_recorded.proofs.Begins.{begins_branch}
@@ -212,7 +205,7 @@ module _ (code : Code) (P : PlainProgram) (arg : ℤ) (rule : Rule) (L : Declare
       let path : S.event.path ≡ p = path_one w k S.there there in
       let task : S.follows.task ≡ t = same_task (agree_self R) (subst (λ q. Begun QR R q S.follows.task) path S.follows.begun) begun in
       let so : QR.meaning p S.follows.task (answers (mine R p)) ≡ Next S.event.turns S.event.act =
-          subst (λ q. QR.meaning q S.follows.task (answers (mine R q)) ≡ Next S.event.turns S.event.act) path S.follows.asks in
+      subst (λ q. QR.meaning q S.follows.task (answers (mine R q)) ≡ Next S.event.turns S.event.act) path S.follows.asks in
       (next_same S.event.turns turns S.event.act a (sym so ∙ ap (λ t. QR.meaning p t (answers (mine R p))) task ∙ asks)).1
 
   -- the end of a task is an end in the run
@@ -274,13 +267,13 @@ module _ (code : Code) (P : PlainProgram) (arg : ℤ) (rule : Rule) (L : Declare
               let path : S.event.path ≡ V.path = path_one w e.task S.there V.there in
               let task : S.follows.task ≡ V.task.task = same_task (agree_self R) (subst (λ q. Begun QR R q S.follows.task) path S.follows.begun) V.task.begun in
               let so : QR.meaning V.path S.follows.task (answers (mine R V.path)) ≡ Next S.event.turns S.event.act =
-                  subst (λ q. QR.meaning q S.follows.task (answers (mine R q)) ≡ Next S.event.turns S.event.act) path S.follows.asks in
+              subst (λ q. QR.meaning q S.follows.task (answers (mine R q)) ≡ Next S.event.turns S.event.act) path S.follows.asks in
               let asks : QR.meaning V.path V.task.task (answers (mine R V.path)) ≡ Next S.event.turns (Do (Enter E)) =
-                  ap (λ t. QR.meaning V.path t (answers (mine R V.path))) (sym task) ∙ so ∙ ap (λ a. Next S.event.turns a) act in
+              ap (λ t. QR.meaning V.path t (answers (mine R V.path))) (sym task) ∙ so ∙ ap (λ a. Next S.event.turns a) act in
               let same : SameReply C P (Next S.event.turns (Do (Enter E))) (said H.halt) = subst (λ r. SameReply C P r (said H.halt)) asks H.same in
               let h = entry_halt H.like S.event.turns E (same.1 ∙ ap (λ b. Next S.event.turns b) same.2) in
               let kept = subst (λ o. Kept C y.stands.state o) (front_step C e.task e.turns y.stands.made y.stands.state h.0 h.1 (Do (Enter h.2)) h.3 h.4 (λ i. (cc)))
-                  (step_keeps C FJ first_numbers next_numbers e.task y.stands.state) in
+              (step_keeps C FJ first_numbers next_numbers e.task y.stands.state) in
               block_there kept
             where
               block_there : {F : List (EffectOver (ℕ × ℕ))} {f : AnswerOver ℕ (ℕ × ℕ) → State ℕ (ℕ × ℕ)} {z : State ℕ (ℕ × ℕ)} → Kept C z (Waits (Do (Enter F)) f) → ⊥
@@ -416,19 +409,23 @@ module _ (code : Code) (P : PlainProgram) (arg : ℤ) (rule : Rule) (L : Declare
 
       finished : (ks : List ℕ) (m : Moment) → LeadsTo code L arg ks m → (o : DeclaredOutcome) → m.outcome ≡ Some o → Records QR (limits L) ks (Some o)
       finished [] m (opened room is) o some = absurd (let both : None ≡ Some o = sym (ap (λ (n : Moment). n.outcome) is) ∙ some in cc)
-      finished [] m (no_room_so full is) o some =
-          (Limited L.steps L.cells, no_room (λ w. (let a = w.cells in let z = total_nil event_cells in let s = main_so in omega (arith, a, z, s, full))),
-          (let both : Some (limited L) ≡ Some o = sym (ap (λ (n : Moment). n.outcome) is) ∙ some in let same : limited L ≡ o = cc in sym same))
+      finished [] m (no_room_so full is) o some = (
+        Limited L.steps L.cells,
+        no_room (λ w. (let a = w.cells in let z = total_nil event_cells in let s = main_so in omega (arith, a, z, s, full))),
+        (let both : Some (limited L) ≡ Some o = sym (ap (λ (n : Moment). n.outcome) is) ∙ some in let same : limited L ≡ o = cc in sym same),
+      )
       finished (k ∷ ks) m (before, leads, made_so e x can within is) o some =
           root_ended leads (led ks before leads x.unfinished) e x can within o (sym (ap (λ (n : Moment). n.outcome) is) ∙ some)
       finished (k ∷ ks) m (before, leads, over_so e x can beyond is) o some = over_limit (led ks before leads x.unfinished)
         where
           over_limit : Led ks before → Records QR (limits L) (k ∷ ks) (Some o)
           over_limit A =
-              let S = any_event A.tied A.short k e x can in
-              (Limited L.steps L.cells, over k ks A.run S.event A.ran (ready_next leads A (over_so e x can beyond refl) S)
-              (λ w. beyond ((within_next e A.tied S.tied S.follows refl).1 w)),
-              (let both : Some (limited L) ≡ Some o = sym (ap (λ (n : Moment). n.outcome) is) ∙ some in let same : limited L ≡ o = cc in sym same))
+              let S = any_event A.tied A.short k e x can in (
+                Limited L.steps L.cells,
+                over k ks A.run S.event A.ran (ready_next leads A (over_so e x can beyond refl) S)
+                    (λ w. beyond ((within_next e A.tied S.tied S.follows refl).1 w)),
+                (let both : Some (limited L) ≡ Some o = sym (ap (λ (n : Moment). n.outcome) is) ∙ some in let same : limited L ≡ o = cc in sym same),
+              )
 
       pub all_record : AllRecord QR code L arg
       all_record ks m leads = go m.outcome refl

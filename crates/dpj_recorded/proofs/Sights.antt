@@ -1,7 +1,6 @@
 -- Values, regions, frames and states of a machine, which numbers objects and tasks in the order in which they are made, and those
 -- of a run, which names objects by their makers and tasks by their paths: what is one in both is like.
-use Rattle.std.proofs.Common.{◌≡◌, ℕ, zero, suc, ℤ, Bool, List, [], ◌∷◌, ◌++◌, map, length, refl, sym, ap, ◌∙◌, subst, Some, None, slice_get}
-use Rattle.dpj_base.specs.declared.effect.Access.{Access}
+use Rattle.std.proofs.Common.{◌≡◌, ℕ, suc, ℤ, Bool, List, [], ◌∷◌, ◌++◌, length, refl, ap, Some, slice_get}
 use Rattle.dpj_base.specs.declared.place.Place.{Place}
 use Rattle.dpj_base.specs.declared.value.Trap.{Trap}
 use Rattle.dpj_typed.specs.declared.stmt.Forking.{Forking}
@@ -12,8 +11,8 @@ use Rattle.dpj_meaning.specs.Regions.{Around}
 use Rattle.dpj_code.specs.Machine.{Level, Start, State, On, Rested, Off, Nowhere, Stand, Goes, Turns, Makes, Waits, Ends, Stuck}
 use Rattle.dpj_code.specs.Legs.{Halt, Asks, Finished, Dead}
 use Rattle.dpj_runs.specs.Objects.{Path, Name, LocalRegion, Made, Unmade}
-use Rattle.dpj_elided.proofs.Worlds.{Names, Distinct, Later, later_none, later_then, name_later, ValueLike, value_later, ValuesLike, values_later, LocalsLike}
-use Rattle.dpj_elided.proofs.Worlds.{locals_later, EndingLike, ending_later}
+use Rattle.dpj_elided.proofs.Worlds.{Names, Distinct, Later, later_none, later_then, ValueLike, ValuesLike, values_later, LocalsLike}
+use Rattle.dpj_elided.proofs.Worlds.{EndingLike, ending_later}
 
 -- the names of the objects, and the paths of the tasks, by their numbers
 pub record Sight : Type 0 where

@@ -1,38 +1,35 @@
 -- A machine at its start, and the run before its first event.
-use Rattle.std.proofs.Common.{◌≡◌, ◌≢◌, ◌≤◌, ◌⊎◌, inl, inr, ℕ, zero, suc, ◌+◌, ◌==◌, if◌then◌else◌, ℤ, Bool, true, false, List, [], ◌∷◌, ◌++◌, map, length, refl, sym, ap, ap₂, ◌∙◌, subst, Option, Some, None, slice_get, arith, cond}
+use Rattle.std.proofs.Common.{◌≡◌, inl, inr, ℕ, zero, suc, if◌then◌else◌, ℤ, Bool, true, false, List, [], ◌∷◌, map, length, refl, sym, ap, ap₂, ◌∙◌, subst, Option, Some, None, slice_get, arith, cond}
 use Rattle.std.proofs.lemmas.Bool.Decides.{eqb_tells}
 use Rattle.std.proofs.lemmas.List.{length-map}
 use Rattle.std.specs.Option.{option_map_or}
 use Rattle.std.specs.Cmp.{nat_cmp_total}
-use Rattle.std.specs.FinMap.{empty, get, insert, get-empty, get-insert}
+use Rattle.std.specs.FinMap.{empty, get, get-empty, get-insert}
 use Rattle.std.specs.Ordering.{nat_cmp, eq_by_cmp}
 use Rattle.dpj_base.specs.Types.{PlainType}
 use Rattle.dpj_base.specs.Types.{PlainType as ty}
 use Rattle.dpj_base.specs.declared.outcome.Limits.{Limits}
-use Rattle.dpj_base.specs.declared.value.Value.{Value as Constant}
 use Rattle.dpj_typed.specs.Plain.{PlainProgram, PlainMember, PlainClass, PlainField}
 use Rattle.dpj_typed.specs.Scope.{member_at}
-use Rattle.dpj_meaning.specs.Elision.{Held, Store, at_start, enters_main, held, main_object, root_task}
+use Rattle.dpj_meaning.specs.Elision.{at_start, enters_main, main_object, root_task}
 use Rattle.dpj_meaning.specs.Expressions.{entered, class_fields, first_of}
 use Rattle.dpj_meaning.specs.Regions.{unmade_from}
 use Rattle.dpj_meaning.specs.Counts.{padded}
-use Rattle.dpj_meaning.specs.Values.{Value, Int, Object, Naming}
-use Rattle.dpj_meaning.specs.Actions.{Frame, Task as TaskOver}
-use Rattle.dpj_code.specs.Machine.{Start, begins_at, first_value, root_start}
+use Rattle.dpj_meaning.specs.Values.{Int, Object}
+use Rattle.dpj_code.specs.Machine.{begins_at, first_value, root_start}
 use Rattle.dpj_code.specs.Plain.{PlainCode, plain_code, plain_class, body_at, class_at, fields_of}
 use Rattle.dpj_code.specs.declared.code.ClassCode.{ClassCode}
 use Rattle.dpj_code.specs.declared.code.Code.{Code}
 use Rattle.dpj_gen.specs.Compiled.{Compiled}
-use Rattle.dpj_gen.specs.Laws.{work_of}
 use Rattle.dpj_gen.specs.Resolved.{Resolved}
 use Rattle.dpj_gen.specs.Scheme.{class_code, first_constant}
 use Rattle.dpj_gen.specs.Stands.{MemberIs}
 use Rattle.dpj_gen.specs.Whole.{compiled, number_in}
 use Rattle.dpj_gen.proofs.Whole.{laid_out, members_are_compiled}
-use Rattle.dpj_runs.specs.Actions.{Program, Rule, Task}
-use Rattle.dpj_runs.specs.Objects.{Name, LocalRegion, Path, size}
-use Rattle.dpj_runs.specs.Runs.{Run, answers, cells_of, event_cells, event_steps, mine, root, thing_of, things, total}
-use Rattle.dpj_runs.specs.Schedules.{Numbered, begins, root_is}
+use Rattle.dpj_runs.specs.Actions.{Rule}
+use Rattle.dpj_runs.specs.Objects.{Name, Path, size}
+use Rattle.dpj_runs.specs.Runs.{answers, event_cells, event_steps, root, thing_of, things}
+use Rattle.dpj_runs.specs.Schedules.{Numbered, root_is}
 use Rattle.dpj_runs.proofs.Cost.{total_nil}
 use Rattle.dpj_runs.proofs.Mine.{mine_nil}
 use Rattle.dpj_runs.proofs.Numbers.{begins_nil}
@@ -49,16 +46,15 @@ use Rattle.dpj_world.specs.Costs.{fields_of as declared_fields}
 use Rattle.dpj_world.specs.World.{with_heap}
 use Rattle.dpj_world.specs.World.{at_start as world_at_start}
 use Rattle.dpj_machine.specs.Replay.{Moment, root_alone}
-use Rattle.dpj_machine.specs.Running.{Running}
 use Rattle.dpj_machine.specs.Running.{at_start as running_at_start}
-use Rattle.dpj_elided.proofs.Memory.{Holds, Stands}
-use Rattle.dpj_elided.proofs.Theorems.{holds_first, one_name}
-use Rattle.dpj_elided.proofs.Worlds.{Distinct, ValueLike, int_like, object_like, no_values, more_values}
+use Rattle.dpj_elided.proofs.Memory.{Holds}
+use Rattle.dpj_elided.proofs.Theorems.{holds_first}
+use Rattle.dpj_elided.proofs.Worlds.{int_like, object_like, no_values, more_values}
 use Rattle.dpj_elided.proofs.Counts.{padded_like}
 use Rattle.dpj_recorded.proofs.Sights.{Sight, each_none, on_like}
 use Rattle.dpj_recorded.proofs.Readings.{unmade_from_like}
 use Rattle.dpj_recorded.proofs.Legs.{StandsAfter, at_first}
-use Rattle.dpj_recorded.proofs.Heaps.{HeapTied, Shown, values_held, values_in}
+use Rattle.dpj_recorded.proofs.Heaps.{HeapTied, Shown}
 use Rattle.dpj_recorded.proofs.Ties.{Q, LiveTied, NumbersTied, TaskTied, Tied}
 use Rattle.dpj_recorded.proofs.Owns.{FieldsFor}
 

@@ -1,9 +1,8 @@
 -- The code does alike in a machine and with the names of a run: one clause an instruction.
 use Rattle.std.specs.Int.{w32, int_wrapping_add}
-use Rattle.std.proofs.Common.{◌≡◌, ℕ, zero, suc, ◌-◌, ◌+◌, ℤ, pos, negsuc, Bool, true, false, cond, List, [], ◌∷◌, ◌++◌, map, length, reverse, refl, sym, ap, ap₂, ◌∙◌, subst, Option, Some, None, slice_get, arith}
+use Rattle.std.proofs.Common.{◌≡◌, ℕ, zero, suc, ◌-◌, ℤ, pos, negsuc, Bool, true, false, cond, List, [], ◌∷◌, map, length, refl, ap, ap₂, ◌∙◌, subst, Option, Some, None, slice_get, arith}
 use Rattle.std.specs.Prelude.{slice_index_or}
 use Rattle.dpj_base.specs.declared.place.Place.{Place}
-use Rattle.dpj_base.specs.declared.region.Rpl.{Rpl}
 use Rattle.dpj_base.specs.declared.value.Trap.{Trap}
 use Rattle.dpj_base.specs.declared.value.Trap.TheVariants as trap
 use Rattle.dpj_base.specs.declared.value.Value.{Value as Constant}
@@ -11,24 +10,23 @@ use Rattle.dpj_base.specs.declared.value.Value.TheVariants as constant
 use Rattle.dpj_typed.specs.declared.expr.BinaryOp.{BinaryOp}
 use Rattle.dpj_typed.specs.declared.expr.BinaryOp.TheVariants as op
 use Rattle.dpj_typed.specs.declared.expr.UnaryOp.TheVariants.{Negate, Not}
-use Rattle.dpj_meaning.specs.Values.{Value, Int, Object, Region, An_object, An_array}
+use Rattle.dpj_meaning.specs.Values.{Value, Region}
 use Rattle.dpj_typed.specs.declared.stmt.Forking.{Forking}
-use Rattle.dpj_meaning.specs.Actions.{Frame, Assigned, Read, Write, Look, New, Print, Do, Fork, Answer}
-use Rattle.dpj_meaning.specs.Counts.{number, truth, reference, value_read, is_out, length_seen, name_made, class_seen, class_entered, operated, slot_value, part_place, how_many, assigned, Brought, brought, text_of, line}
+use Rattle.dpj_meaning.specs.Actions.{Frame, Assigned, Read, Write, Print, Do, Fork}
+use Rattle.dpj_meaning.specs.Counts.{number, truth, value_read, is_out, part_place, how_many, assigned, Brought, text_of, line}
 use Rattle.dpj_meaning.specs.Expressions.{none}
-use Rattle.dpj_meaning.specs.Regions.{around, concrete, is_long, some_long, unmade_from, regions_above}
-use Rattle.dpj_meaning.specs.Statements.{numbered_frame}
+use Rattle.dpj_meaning.specs.Regions.{around, concrete, regions_above}
 use Rattle.dpj_code.specs.declared.instr.Instr.{Instr}
 use Rattle.dpj_code.specs.declared.instr.Instr.TheVariants as i
-use Rattle.dpj_code.specs.Machine.{Level, Start, State, On, Rested, Off, Nowhere, Stand, Goes, Turns, Makes, Waits, Ends, Stuck, next, one, two, three, taken, trapped, or_trap, unless_null, cell_read, cell_written, reads, writes, deeper, unless_long, entered, calls_method, enters, calls, called, first_value, creates, created, array_of, makes_array, returned, left_with, below, started, forked, each_started, waiting, spread, joined, all_copied, joins_fork, joins_spread, joins_site, site_of, line_before, joins, copies_of, ends_branch, in_part, operates, exec, exec_line, enters_block, rested_at, rested_line, step}
+use Rattle.dpj_code.specs.Machine.{Level, State, On, Off, Stand, Goes, Waits, next, one, two, three, taken, trapped, or_trap, unless_null, cell_read, cell_written, reads, writes, deeper, unless_long, entered, calls_method, enters, called, first_value, creates, created, array_of, makes_array, returned, left_with, below, started, forked, each_started, waiting, spread, joined, all_copied, joins_fork, joins_spread, joins_site, site_of, line_before, joins, copies_of, ends_branch, in_part, operates, exec, exec_line, enters_block, rested_at, rested_line, step}
 use Rattle.dpj_code.specs.Plain.{Line, Site, fork_site, spread_site, block_site, call_site, new_site, array_site, Method, PlainCode, body_at, class_at, parent_of, method_at, constructor_of, fields_of}
 use Rattle.dpj_runs.specs.Objects.{Path, Name, LocalRegion}
 use Rattle.dpj_steps.specs.Steps.{named_by}
 use Rattle.dpj_legs.specs.Names.{names_of}
-use Rattle.dpj_elided.proofs.Worlds.{Names, Distinct, name_later, ValueLike, int_like, boolean_like, null_like, object_like, value_later, ValuesLike, no_values, more_values, values_later, BroughtLike, back_like, trap_like, returned_like, assigned_like, trapped_like}
+use Rattle.dpj_elided.proofs.Worlds.{Names, Distinct, name_later, ValueLike, int_like, boolean_like, null_like, object_like, ValuesLike, no_values, more_values, values_later, BroughtLike, back_like, trap_like, returned_like, assigned_like, trapped_like}
 use Rattle.dpj_elided.proofs.Counts.{number_like, truth_like, text_like, int_of, slot_like, set_like, padded_like, reverse_like, assigned_alike, copied_like, part_place_like, part_taken_like, numbered_like, MaybeLike, none_like, some_like, operated_like, unary_like}
-use Rattle.dpj_recorded.proofs.Sights.{Sight, Wider, Each, each_none, each_more, each_append, RegionsLike, RegionLike, FrameLike, frame_later, LevelLike, level_later, LevelsLike, levels_later, StateLike, on_like, rested_like, off_like, nowhere_like, StartLike, StartsLike, regions_later}
-use Rattle.dpj_recorded.proofs.Sights.{an_object, an_array, rest_like, read_like, write_like, look_like, new_like, print_like, enter_like, exit_like, ActionLike, do_like, fork_like, begin_like, join_like, AnswerLike, OnLike, StandLike, goes_like, turns_like, makes_like, waits_like, ends_like, stuck_like}
+use Rattle.dpj_recorded.proofs.Sights.{Sight, each_none, each_more, each_append, RegionsLike, RegionLike, FrameLike, LevelLike, level_later, LevelsLike, levels_later, StateLike, on_like, rested_like, off_like, nowhere_like, StartsLike, regions_later}
+use Rattle.dpj_recorded.proofs.Sights.{an_object, an_array, rest_like, read_like, write_like, look_like, new_like, print_like, enter_like, exit_like, do_like, fork_like, begin_like, join_like, StandLike, goes_like, turns_like, makes_like, waits_like, ends_like, stuck_like}
 use Rattle.dpj_recorded.proofs.Readings.{each_set, concrete_like, concretes_like, effects_like, unmade_from_like, regions_above_like, is_long_like, some_long_like, is_out_like, length_seen_like, name_made_like, brought_like, SeenLike, class_entered_like}
 use Rattle.dpj_recorded.proofs.Readings.{read_like as read_answer}
 

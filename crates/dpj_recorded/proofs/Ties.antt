@@ -1,15 +1,13 @@
 -- A moment of a machine on compiled code is tied to a run of the source: one record for each part.
-use Rattle.std.proofs.Common.{◌≡◌, ◌≢◌, ◌≤◌, ◌<◌, ℕ, zero, suc, ◌+◌, ℤ, List, [], ◌∷◌, ◌++◌, map, length, refl, sym, ap, ◌∙◌, subst, Option, Some, None, slice_get, arith, ◌⊎◌, inl, inr, ⊎_elim}
+use Rattle.std.proofs.Common.{◌≡◌, ◌≤◌, ℕ, suc, ◌+◌, ℤ, List, [], ◌∷◌, ◌++◌, map, length, sym, ◌∙◌, subst, Option, Some, None, slice_get, arith, ◌⊎◌}
 use Rattle.std.specs.FinMap.{get}
 use Rattle.dpj_base.specs.declared.outcome.Limits.{Limits}
-use Rattle.dpj_base.specs.declared.place.Place.{Place}
-use Rattle.dpj_base.specs.declared.value.Trap.{Trap}
 use Rattle.dpj_typed.specs.Plain.{PlainProgram}
 use Rattle.dpj_meaning.specs.Outcomes.{trap_of, locals_of}
 use Rattle.dpj_code.specs.Machine.{Start, State}
 use Rattle.dpj_code.specs.Plain.{PlainCode}
 use Rattle.dpj_gen.specs.Compiled.{Compiled, AllCompiled}
-use Rattle.dpj_runs.specs.Actions.{Task, Branches, Ending, Answer, Action, Begin, Fork, Program, Rule}
+use Rattle.dpj_runs.specs.Actions.{Task, Branches, Ending, Fork, Program, Rule}
 use Rattle.dpj_runs.specs.Blocks.{with_rule}
 use Rattle.dpj_runs.specs.Objects.{Path, Name, LocalRegion}
 use Rattle.dpj_runs.specs.Runs.{Begun, Ended, Event, Run, Upto, answers, cells_of, count, entry_step, event_steps, Faithful, later, mine, now, total}
@@ -20,7 +18,7 @@ use Rattle.dpj_steps.specs.Steps.{stepped}
 use Rattle.dpj_legs.specs.Branches.{starts_at}
 use Rattle.dpj_legs.specs.Tasks.{plain_slot}
 use Rattle.dpj_tasks.specs.Scope.{Branches as Scope}
-use Rattle.dpj_tasks.specs.Tree.{Tasks, Tree}
+use Rattle.dpj_tasks.specs.Tree.{Tasks}
 use Rattle.dpj_tasks.specs.declared.end.TaskEnd.{TaskEnd}
 use Rattle.dpj_tasks.specs.declared.task.Origin.{Origin}
 use Rattle.dpj_tasks.specs.declared.task.State.{State as Standing}
@@ -29,7 +27,7 @@ use Rattle.dpj_tasks.specs.declared.task.Task.{Task as Live}
 use Rattle.dpj_world.specs.declared.world.World.{World}
 use Rattle.dpj_machine.specs.Replay.{Moment}
 use Rattle.dpj_machine.specs.Running.{Running}
-use Rattle.dpj_elided.proofs.Worlds.{Distinct, LocalsLike, locals_later}
+use Rattle.dpj_elided.proofs.Worlds.{LocalsLike, locals_later}
 use Rattle.dpj_recorded.proofs.Sights.{Sight, Wider, StateLike, state_later, StartsLike, starts_later}
 use Rattle.dpj_recorded.proofs.Legs.{StandsAfter}
 use Rattle.dpj_recorded.proofs.Forking.{AtJoin}

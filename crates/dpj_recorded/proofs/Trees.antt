@@ -1,24 +1,24 @@
 -- How the tie of the live tasks goes on over an event of one of them after which it is still there.
-use Rattle.std.proofs.Common.{◌≡◌, ◌≢◌, ◌≤◌, ◌<◌, ◌⊎◌, inl, inr, ⊎_elim, ℕ, zero, suc, ◌+◌, ◌==◌, if◌then◌else◌, ℤ, Bool, true, false, cond, List, [], ◌∷◌, ◌++◌, length, refl, sym, ap, ◌∙◌, subst, Option, Some, None, slice_get, arith}
+use Rattle.std.proofs.Common.{◌≡◌, ◌≢◌, ◌⊎◌, inl, inr, ⊎_elim, ℕ, ◌+◌, if◌then◌else◌, ℤ, Bool, true, false, cond, [], ◌∷◌, length, refl, sym, ap, ◌∙◌, subst, Option, Some, None, slice_get, arith}
 use Rattle.std.proofs.lemmas.Bool.Decides.{eqb_tells}
 use Rattle.std.specs.Cmp.{nat_cmp_total}
-use Rattle.std.specs.FinMap.{get, insert, remove, get-remove}
+use Rattle.std.specs.FinMap.{get, remove, get-remove}
 use Rattle.std.specs.Ordering.{nat_cmp, eq_by_cmp}
 use Rattle.dpj_base.specs.declared.outcome.Limits.{Limits}
 use Rattle.dpj_typed.specs.Plain.{PlainProgram}
 use Rattle.dpj_code.specs.Plain.{PlainCode}
-use Rattle.dpj_runs.specs.Actions.{Action, Begin, Do, Fork, Join, End, Program, Rule}
+use Rattle.dpj_runs.specs.Actions.{Program, Rule}
 use Rattle.dpj_runs.specs.Objects.{Path}
-use Rattle.dpj_runs.specs.Runs.{Begun, Event, Faithful, Follows, Run, Upto, branch, cells_of, count, entry_step, event_cells, event_steps, later, mine, now, root, total}
-use Rattle.dpj_runs.specs.Schedules.{Numbered, begins, branch_is, one_begin, root_is}
+use Rattle.dpj_runs.specs.Runs.{Begun, Event, Follows, Run, Upto, branch, entry_step, event_cells, event_steps, later, mine, root}
+use Rattle.dpj_runs.specs.Schedules.{Numbered, branch_is, one_begin, root_is}
 use Rattle.dpj_runs.proofs.Cost.{total_step}
-use Rattle.dpj_runs.proofs.Mine.{mine_nil, mine_other, mine_same, path_cases}
+use Rattle.dpj_runs.proofs.Mine.{mine_other, mine_same, path_cases}
 use Rattle.dpj_runs.proofs.Numbers.{begins_step, number_same}
-use Rattle.dpj_runs.proofs.Upto.{upto_trans, upto_none}
-use Rattle.dpj_tasks.specs.Tree.{Tasks, Tree, changed, changed_to}
+use Rattle.dpj_runs.proofs.Upto.{upto_none}
+use Rattle.dpj_tasks.specs.Tree.{Tasks, changed, changed_to}
 use Rattle.dpj_tasks.specs.declared.task.Origin.{Origin}
 use Rattle.dpj_tasks.specs.declared.task.Task.{Task as Live}
-use Rattle.dpj_tasks.proofs.Numbers.{get_inserted, get_beside, itself as number_itself, other_number, same_number}
+use Rattle.dpj_tasks.proofs.Numbers.{get_inserted, get_beside, itself as number_itself, other_number}
 use Rattle.dpj_machine.specs.Replay.{Moment, with_task}
 use Rattle.dpj_machine.specs.Running.{Running}
 use Rattle.dpj_recorded.proofs.Sights.{Sight, Wider}

@@ -1,6 +1,6 @@
 -- The numbers of a spread's branches, counted on from the next one.
 use Rattle.std.specs.Int.{w32, int_wrapping_add, int_wrapping_sub}
-use Rattle.std.proofs.Common.{◌≡◌, ◌<◌, ◌≤◌, ◌^◌, ℕ, zero, suc, ◌+◌, ◌-◌, ◌*◌, ℤ, pos, refl, sym, ap, ◌∙◌, arith}
+use Rattle.std.proofs.Common.{◌≡◌, ◌^◌, ℕ, suc, ◌+◌, ◌-◌, ◌*◌, pos, sym, ap, ◌∙◌, arith}
 use Rattle.std.specs.Prelude.{◌%◌, ◌/◌}
 use Rattle.std.proofs.lemmas.Int.{of_z-to_z}
 use Rattle.core.specs.Int.{cast_signed, cast_unsigned}

@@ -1,5 +1,5 @@
 -- That the schedule of a machine on compiled code records a run of the source.
-use Rattle.std.specs.Prelude.{ℕ, ℤ, pos, ◌≡◌, ◌≤◌, true, List, [], ◌∷◌, Option, Some, None, slice_get}
+use Rattle.std.specs.Prelude.{ℕ, ℤ, pos, ◌≡◌, ◌≤◌, true, List, [], Option, Some, None, slice_get}
 use Rattle.dpj_base.specs.declared.effect.Effect.{Effect as PathEffect}
 use Rattle.dpj_base.specs.declared.outcome.Ending.{Ending as Came}
 use Rattle.dpj_base.specs.declared.outcome.Ending.TheVariants as came
