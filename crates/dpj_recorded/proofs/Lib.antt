@@ -18,3 +18,4 @@ pub mod Begins
 pub mod Starting
 pub mod Recorded
 pub mod Segments
+pub mod Sorted

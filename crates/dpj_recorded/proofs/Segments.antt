@@ -22,7 +22,7 @@ seg_later e (seg_own x a b h) = seg_own x a b (seg_later e h)
 seg_later e (seg_begin {p} g n b x z a c d f u h k) = seg_begin g n b x z a c d f (upto_trans u (mine_upto ((n, b) ∷ p) (later now))) (seg_later e h) (seg_later e k)
 
 -- lists
-mine_on : (U S : Run) (q : Path) → mine (U ++ S) q ≡ mine U q ++ mine S q
+pub mine_on : (U S : Run) (q : Path) → mine (U ++ S) q ≡ mine U q ++ mine S q
 mine_on [] S q = ap (λ l. l ++ mine S q) (sym (mine_nil q))
 mine_on (x ∷ U) S q = go (mine_on U S q) (path_cases x.path q)
   where
@@ -30,7 +30,7 @@ mine_on (x ∷ U) S q = go (mine_on U S q) (path_cases x.path q)
     go rec (inl e) = mine_same x (U ++ S) q e ∙ ap (λ l. x ∷ l) rec ∙ ap (λ l. l ++ mine S q) (sym (mine_same x U q e))
     go rec (inr e) = mine_other x (U ++ S) q e ∙ rec ∙ ap (λ l. l ++ mine S q) (sym (mine_other x U q e))
 
-mine_none : (S : Run) (q : Path) → ((x : Event) (X : Run) → Upto (x ∷ X) S → x.path ≡ q → ⊥) → mine S q ≡ []
+pub mine_none : (S : Run) (q : Path) → ((x : Event) (X : Run) → Upto (x ∷ X) S → x.path ≡ q → ⊥) → mine S q ≡ []
 mine_none [] q h = mine_nil q
 mine_none (x ∷ S) q h = mine_other x S q (λ e. h x S now e) ∙ mine_none S q (λ y Y u e. h y Y (later u) e)
 
@@ -44,7 +44,7 @@ upto_on {x} {X} (u ∷ U) S h = go (λ k. upto_on U S k) (upto_split h)
     go rec (inr k) = ⊎_elim (λ r. inl (r.0, r.1, later r.2)) (λ r. inr r) (rec k)
 
 -- paths and ways
-longer : (zs : Path) (u : ℕ × ℕ) (p : Path) → zs ++ u ∷ p ≡ p → ⊥
+pub longer : (zs : Path) (u : ℕ × ℕ) (p : Path) → zs ++ u ∷ p ≡ p → ⊥
 longer zs u p e = (let a = ap (λ z. length z) e in let b = length-append zs (u ∷ p) in omega (arith, a, b))
 
 below_child : (zs : Path) (u : ℕ × ℕ) (p : Path) → zs ++ u ∷ p ≡ (zs ++ u ∷ []) ++ p
@@ -69,7 +69,7 @@ lex_under [] a b bs = level_with shorter
 lex_under (x ∷ xs) a b bs = level_with (lex_under xs a b bs)
 
 -- two paths below different branches of one task differ
-tails_same : (ys zs : Path) (u v : ℕ × ℕ) (p : Path) → ys ++ u ∷ p ≡ zs ++ v ∷ p → u ≡ v
+pub tails_same : (ys zs : Path) (u v : ℕ × ℕ) (p : Path) → ys ++ u ∷ p ≡ zs ++ v ∷ p → u ≡ v
 tails_same [] [] u v p e = (cc)
 tails_same [] (z ∷ zs) u v p e = absurd (let a = ap (λ l. length l) e in let b = length-append zs (v ∷ p) in omega (arith, a, b))
 tails_same (y ∷ ys) [] u v p e = absurd (let a = ap (λ l. length l) e in let b = length-append ys (u ∷ p) in omega (arith, a, b))
@@ -165,6 +165,10 @@ seg_placed : {R : Run} {p : Path} {es S : Run} → Seg R p es S → AllPlaced p 
 seg_placed seg_none = λ x X u. absurd (upto_none u)
 seg_placed (seg_own e a b h) = placed_next e a h (seg_placed h)
 seg_placed (seg_begin g n b y z a c d f w h k) = placed_begin g n b a d h k (seg_placed h) (seg_placed k)
+
+-- nothing is below a branch that isn't begun yet
+pub only_begun : {R : Run} {p : Path} {es S : Run} → Seg R p es S → (zs : Path) (u : ℕ × ℕ) → length es ≤ suc (u.0 + u.1) → mine S (zs ++ u ∷ p) ≡ []
+only_begun {es = es} h zs u l = not_below {many = length es} (seg_placed h) zs u l
 
 -- so they stand in the order of elision
 abbrev Ordered : Run → Type 0
