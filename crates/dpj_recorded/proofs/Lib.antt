@@ -19,3 +19,4 @@ pub mod Starting
 pub mod Recorded
 pub mod Segments
 pub mod Sorted
+pub mod Outs

@@ -141,19 +141,19 @@ abbrev pub or_fell : Option (Trap × Place) → Option (Trap × Place) → Optio
 or_fell None other = other
 or_fell (Some fell) other = Some fell
 
-printed_step : (e : Event) (R : Run) → printed (e ∷ R) ≡ printed R ++ printed_by e.act (trapped R)
+pub printed_step : (e : Event) (R : Run) → printed (e ∷ R) ≡ printed R ++ printed_by e.act (trapped R)
 unfolding printed
 printed_step e R = refl
 
-trapped_step : (e : Event) (R : Run) → trapped (e ∷ R) ≡ trap_in e.act (trapped R)
+pub trapped_step : (e : Event) (R : Run) → trapped (e ∷ R) ≡ trap_in e.act (trapped R)
 unfolding trapped
 trapped_step e R = refl
 
-printed_nil : printed [] ≡ []
+pub printed_nil : printed [] ≡ []
 unfolding printed
 printed_nil = refl
 
-trapped_nil : trapped [] ≡ None
+pub trapped_nil : trapped [] ≡ None
 unfolding trapped
 trapped_nil = refl
 
