@@ -1,14 +1,14 @@
 -- An event after which its task goes on, in a machine and in the run: the common part of all of them.
-use Rattle.std.proofs.Common.{◌≡◌, ◌≢◌, ℕ, ◌+◌, ℤ, IsTrue, List, ◌∷◌, refl, sym, ap, ◌∙◌, subst, Option, Some, None, slice_get}
+use Rattle.std.proofs.Common.{◌≡◌, ◌≢◌, inl, ℕ, zero, suc, ◌+◌, ℤ, IsTrue, List, [], ◌∷◌, ◌++◌, append-nil, refl, sym, ap, ◌∙◌, subst, Option, Some, None, slice_get}
 use Rattle.std.specs.FinMap.{get}
 use Rattle.dpj_base.specs.declared.effect.Effect.{Effect}
 use Rattle.dpj_base.specs.declared.outcome.Limits.{Limits}
 use Rattle.dpj_typed.specs.Plain.{PlainProgram}
-use Rattle.dpj_meaning.specs.Actions.{Own as OwnOver}
+use Rattle.dpj_meaning.specs.Actions.{Own as OwnOver, Ending as EndingOver, Trapped}
 use Rattle.dpj_meaning.specs.Asking.{ask}
 use Rattle.dpj_meaning.specs.Costs.{own_cells, own_steps}
-use Rattle.dpj_code.specs.Legs.{Halt, Leg, Halts, said}
-use Rattle.dpj_code.specs.Machine.{Start}
+use Rattle.dpj_code.specs.Legs.{Halt, Leg, Halts, said, leg, Asks as AsksAt, Finished}
+use Rattle.dpj_code.specs.Machine.{Start, Off, step}
 use Rattle.dpj_code.specs.Plain.{PlainCode, plain_code}
 use Rattle.dpj_code.specs.declared.code.Code.{Code}
 use Rattle.dpj_gen.specs.Compiled.{Compiled, SameAct, SameReply}
@@ -31,12 +31,16 @@ use Rattle.dpj_world.specs.World.{answer_at}
 use Rattle.dpj_world.specs.declared.event.Event.{Event as DeclaredEvent}
 use Rattle.dpj_machine.specs.Replay.{Moment, NextOf, with_task}
 use Rattle.dpj_machine.specs.Running.{Running, answered, front}
-use Rattle.dpj_recorded.proofs.Sights.{Sight, Wider, OwnLike, AnswerLike}
+use Rattle.dpj_recorded.proofs.Sights.{Sight, Wider, OwnLike, AnswerLike, rest_like, read_like, write_like, look_like, new_like, print_like, enter_like, exit_like}
 use Rattle.dpj_recorded.proofs.Legs.{HaltOf, StandsAfter, after_answer}
 use Rattle.dpj_recorded.proofs.Heaps.{OwnTied}
 use Rattle.dpj_recorded.proofs.Ties.{Q, TaskTied, ScopeTied, OriginTied, BranchTied, LiveTied, Tied}
 use Rattle.dpj_recorded.proofs.Asked.{ActionIn, ActsAt, acts_at, BothAt, both_at, own_like, reply_act, same_do, runs_if, Stood, stood}
 use Rattle.dpj_recorded.proofs.Trees.{placed, beside, plain_next}
+use Rattle.dpj_recorded.proofs.Outs.{OutLive, OutRuns, fine_none, seg_with}
+use Rattle.dpj_recorded.proofs.Sorted.{printed_step, trapped_step}
+use Rattle.dpj_runs.specs.Order.{printed, printed_by, trapped}
+use Rattle.dpj_meaning.specs.Actions as meaning
 
 abbrev pub RightFor : PlainCode → PlainProgram → Type 0
 RightFor C P = (p : Path) (b : Start Name LocalRegion) (t : Task) → Compiled C P b t → (got : List Answer) (h : HaltOf) → Halts (named_by p) C b got h
@@ -46,6 +50,36 @@ RightFor C P = (p : Path) (b : Start Name LocalRegion) (t : Task) → Compiled C
 pub ready_there : (o : Option Live) → IsTrue (ready o) → (x : Live) × (o ≡ Some x)
 ready_there None h = absurd (cc)
 ready_there (Some x) h = (x, refl)
+
+-- a task that has ended stands at its end
+pub off_leg : (C : PlainCode) (k made : ℕ) (e : EndingOver ℕ) (h : Halt ℕ (ℕ × ℕ)) → Leg (names_of k) C made (Off e) h → h ≡ Finished 0 e
+unfolding step
+off_leg C k made e h l = go l.fuel l.runs
+  where
+    go : (fuel : ℕ) → leg (names_of k) C fuel 0 made (Off e) ≡ Some h → h ≡ Finished 0 e
+    go zero i = absurd (cc)
+    go (suc fuel) i = (let same : Some (Finished 0 e) ≡ Some h = i in cc)
+
+-- what an action of its own prints
+abbrev pub bytes_of : OwnOver ℕ (ℕ × ℕ) → List ℕ
+bytes_of (meaning.Print bytes) = bytes
+bytes_of meaning.Rest = []
+bytes_of (meaning.Read n i) = []
+bytes_of (meaning.Write n i v) = []
+bytes_of (meaning.Look n) = []
+bytes_of (meaning.New t c) = []
+bytes_of (meaning.Enter E) = []
+bytes_of meaning.Exit = []
+
+pub bytes_like : {w : Sight} {o : OwnOver ℕ (ℕ × ℕ)} {q : Own} → OwnLike w o q → printed_by (Do q) None ≡ bytes_of o
+bytes_like rest_like = refl
+bytes_like (read_like n x i h) = refl
+bytes_like (write_like n x i h k) = refl
+bytes_like (look_like n x h) = refl
+bytes_like (new_like c h) = refl
+bytes_like (print_like bytes) = refl
+bytes_like (enter_like h) = refl
+bytes_like exit_like = refl
 
 abbrev pub event_of : ℕ → ℕ → Option (List Effect) → DeclaredAction → DeclaredEvent
 event_of k turns wants a = record { task = k; turns = turns; action = a; wants = wants }
@@ -104,6 +138,16 @@ module _ (code : Code) (P : PlainProgram) (arg : ℤ) (rule : Rule) (L : Limits)
         r = reply_act C P ((Q P arg rule C).meaning live.path live.task.task (answers (mine R live.path))) both.turns both.act
             (subst (λ h. SameReply C P ((Q P arg rule C).meaning live.path live.task.task (answers (mine R live.path))) (said h)) both.is_of here.same)
 
+    -- it hasn't ended there
+    pub not_off : (b : ActionIn) → AskedAt b → (e : EndingOver ℕ) → live.runs.state ≡ Off e → ⊥
+    not_off b A e i =
+        let h : at ≡ Finished 0 e = off_leg C k live.runs.made e at (subst (λ s. Leg (names_of k) C live.runs.made s at) i leg_here) in
+        let both : AsksAt A.both.turns A.both.made b A.both.then_in ≡ Finished 0 e = sym A.both.is_in ∙ h in
+        cc
+
+    pub out_runs : found.0.state ≡ Runs → OutRuns R live.path live.runs.state found.0.out
+    out_runs i = subst (λ s. OutLive R live.path live.runs.state found.0.out s) i live.out
+
     -- how it goes on after an answer
     abbrev pub goes_to : (b : ActionIn) → AskedAt b → DeclaredAnswer → Running
     goes_to b A y = record { state = A.both.then_in (plain_answer y); made = A.both.made }
@@ -142,19 +186,19 @@ module _ (code : Code) (P : PlainProgram) (arg : ℤ) (rule : Rule) (L : Limits)
     pub most_cells : n.world.heap.limit ≡ m.world.heap.limit
 
   -- a task, whatever it has printed
-  pub record SameLive (old new : Tasks) (k : ℕ) : Type 0 where
+  pub record SameLive (old new : Tasks) (k : ℕ) (more : List ℕ) : Type 0 where
     pub others : (j : ℕ) → j ≢ k → get new j ≡ get old j
-    pub itself : (x : Live) → get old k ≡ Some x → (y : Live) × (get new k ≡ Some y) × (y.origin ≡ x.origin) × (y.state ≡ x.state)
+    pub itself : (x : Live) → get old k ≡ Some x → (y : Live) × (get new k ≡ Some y) × (y.origin ≡ x.origin) × (y.state ≡ x.state) × (y.out ≡ x.out ++ more)
 
-  pub same_live : (tasks : Tasks) (k : ℕ) → SameLive tasks tasks k
-  same_live tasks k = record { others = λ j apart. refl; itself = λ x e. (x, e, refl, refl) }
+  pub same_live : (tasks : Tasks) (k : ℕ) → SameLive tasks tasks k []
+  same_live tasks k = record { others = λ j apart. refl; itself = λ x e. (x, e, refl, refl, sym (append-nil x.out)) }
 
   module _ {m : Moment} {w : Sight} {R : Run} (T : Tied P arg rule C L m w R) (k turns : ℕ) (wants : Option (List Effect)) (a : DeclaredAction)
       (x : NextOf C m k (event_of k turns wants a)) (n : Moment) (o : OwnOver ℕ (ℕ × ℕ)) (says : (b : ActionIn) → Says C a b → b ≡ Do o)
       (tasks_are : (j : ℕ) → n.tasks j ≡ with_task m.tasks k (answered (at T k turns wants a x) (answer_at m.world k a)) j)
       (does : (p : Path) (q : Own) → OwnLike w o q → OwnTied (Q P arg rule C) w R p turns q (answer_at m.world k a) n.world.heap.objects)
       (costs : (q : Own) → OwnLike w o q → OwnCosts m n turns q) (begun_same : n.world.tree.begun ≡ m.world.tree.begun)
-      (tree : SameLive m.world.tree.tasks n.world.tree.tasks k) where
+      (tree : SameLive m.world.tree.tasks n.world.tree.tasks k (bytes_of o)) where
     abbrev V : LiveTied P arg rule C w R m.world.tree.tasks m.tasks k (found T k turns wants a x).0
     V = live T k turns wants a x
 
@@ -183,10 +227,26 @@ module _ (code : Code) (P : PlainProgram) (arg : ℤ) (rule : Rule) (L : Limits)
     runs = runs_if P arg rule C w T.faithful V.runs.state (found T k turns wants a x).0.state V.scope V.task.task V.task.begun turns (Do own.0) asks (λ b i. (cc)) (λ i. (cc))
 
     y : (y : Live) × (get n.world.tree.tasks k ≡ Some y) × (y.origin ≡ (found T k turns wants a x).0.origin) × (y.state ≡ (found T k turns wants a x).0.state)
+        × (y.out ≡ (found T k turns wants a x).0.out ++ bytes_of o)
     y = tree.itself (found T k turns wants a x).0 (found T k turns wants a x).1
 
     K : OwnCosts m n turns own.0
     K = costs own.0 own.2
+
+    H : OutRuns R V.path V.runs.state (found T k turns wants a x).0.out
+    H = out_runs T k turns wants a x runs
+
+    fine : trapped H.segment ≡ None
+    fine = fine_none H.segment V.runs.state H.fine (λ f i. not_off T k turns wants a x (Do o) A (Trapped f.0 f.1) i)
+
+    out_now : OutRuns (event ∷ R) V.path (goes_to T k turns wants a x (Do o) A (answer_at m.world k a)).state y.0.out
+    out_now = record {
+      segment = event ∷ H.segment;
+      seg = seg_with event refl (λ b i. (cc)) H;
+      out_is = y.4 ∙ ap (λ l. l ++ bytes_of o) H.out_is
+          ∙ sym (printed_step event H.segment ∙ ap (λ u. printed H.segment ++ printed_by (Do own.0) u) fine ∙ ap (λ l. printed H.segment ++ l) (bytes_like own.2));
+      fine = inl (trapped_step event H.segment ∙ fine);
+    }
 
     pub own_next : Stepped w R k n
     own_next = record {
@@ -199,6 +259,7 @@ module _ (code : Code) (P : PlainProgram) (arg : ℤ) (rule : Rule) (L : Limits)
           (tasks_are k ∙ placed m.tasks k _ k refl ∙ goes_so T k turns wants a x (Do o) A (answer_at m.world k a))
           (task_next T k turns wants a x (Do o) A (answer_at m.world k a) event refl D.wider D.like)
           (subst (λ s. ScopeTied P arg rule C D.sight (event ∷ R) V.path (goes_to T k turns wants a x (Do o) A (answer_at m.world k a)).state s) (sym (y.3 ∙ runs)) tt)
+          (subst (λ s. OutLive (event ∷ R) V.path (goes_to T k turns wants a x (Do o) A (answer_at m.world k a)).state y.0.out s) (sym (y.3 ∙ runs)) out_now)
           (childless_if T k turns wants a x runs)
           (record { steps = K.steps; cells = K.cells; most_steps = K.most_steps; most_cells = K.most_cells });
     }

@@ -49,6 +49,9 @@ use Rattle.dpj_recorded.proofs.Asked.{ActionIn, acts_at, beginning_like, same_be
 use Rattle.dpj_recorded.proofs.Trees.{placed, beside, changed_own, changed_other, numbered_later, entered_next, costs_next, above_apart, path_one, not_itself, live_with, branch_later, origin_later}
 use Rattle.dpj_recorded.proofs.Acting.{RightFor, event_of, Stepped, found, live, at, leg_here, AskedAt, asked_at, goes_to, goes_so, task_next}
 use Rattle.dpj_recorded.proofs.Forks.{front_step}
+use Rattle.dpj_recorded.proofs.Outs.{BeginsSince, OutLive, OutForks, begins_more, ends_out_later, ends_out_more}
+use Rattle.dpj_recorded.proofs.Segments.{Seg, seg_later, seg_none}
+use Rattle.dpj_recorded.proofs.Sorted.{printed_nil, trapped_nil}
 
 each_get : {A B : Type 0} {K : A → B → Type 0} {xs : List A} {ys : List B} (n : ℕ) (x : A) → Each K xs ys → slice_get xs n ≡ Some x
     → (y : B) × (slice_get ys n ≡ Some y) × K x y
@@ -268,6 +271,24 @@ module _ (code : Code) (P : PlainProgram) (arg : ℤ) (rule : Rule) (L : Limits)
       like = subst (λ bs. Each (StartLike v) bs F.starts) (sym from_join.2) (starts_later wide F.like);
     }
 
+    H : OutForks R V.path y.out scope
+    H = subst (λ s. OutLive R V.path V.runs.state y.out s) opens.state V.out
+
+    out_now : OutForks (event ∷ R) V.path y.out (with_branch scope)
+    out_now = record {
+      own = H.own;
+      number = H.number;
+      many = H.many;
+      segment = H.segment;
+      seg = seg_later event H.seg;
+      out_is = H.out_is;
+      fine = H.fine;
+      since = event ∷ H.since;
+      last = mine_same event R V.path refl ∙ ap (λ l. event ∷ l) H.last;
+      begins = subst (λ n. BeginsSince V.path (event ∷ H.since) n) (sym (more_length scope.ends None)) (begins_more event refl (ap (λ (n : ℕ). Begin n) (sym b_is)) H.begins);
+      ends = ends_out_more (event ∷ R) V.path H.number 0 scope.ends (ends_out_later R event V.path H.number 0 scope.ends H.ends);
+    }
+
     k_next : LiveTied P arg rule C v (event ∷ R) tasks n.tasks k y_next
     k_next = record {
       path = V.path;
@@ -278,6 +299,7 @@ module _ (code : Code) (P : PlainProgram) (arg : ℤ) (rule : Rule) (L : Limits)
       origin = origin_later P arg rule C L wide T.numbers event k V.there m.world.tree.tasks tasks V.path y.origin
           (λ u f. (let a = not_itself P arg rule C L w R m.world.tree.tasks k V.there y.origin V.origin u f in (a, other_now u.parent a (parent_in y.origin V.origin u f)))) V.origin;
       scope = subst (λ s. ScopeTied P arg rule C v (event ∷ R) V.path (then_in went) s) (sym state_now) fork_now;
+      out = subst (λ s. OutLive (event ∷ R) V.path (then_in went) y.out s) (sym state_now) out_now;
     }
       where
         parent_in : (o : Option Origin) → OriginTied P arg rule C w R m.world.tree.tasks V.path o → (u : Origin) → o ≡ Some u → u.parent ≢ c
@@ -285,9 +307,12 @@ module _ (code : Code) (P : PlainProgram) (arg : ℤ) (rule : Rule) (L : Limits)
         parent_in (Some o) h u f s = (let same : o ≡ u = cc in in_paths o.parent h.above h.there (ap (λ (i : Origin). i.parent) same ∙ s))
 
     -- the branch
+    none_mine : mine (event ∷ R) child_path ≡ []
+    none_mine = mine_other event R child_path (λ s. above_apart step_to child_path V.path refl s)
+        ∙ not_begun (Q P arg rule C) (disciplined P arg rule C) R V.path (count F.before V.path) b T.faithful own_count
+
     none_made : answers (mine (event ∷ R) child_path) ≡ []
-    none_made = ap answers (mine_other event R child_path (λ s. above_apart step_to child_path V.path refl s)
-        ∙ not_begun (Q P arg rule C) (disciplined P arg rule C) R V.path (count F.before V.path) b T.faithful own_count)
+    none_made = ap answers none_mine
 
     child_task : TaskTied P arg rule C v (event ∷ R) child_path (at_start start.0)
     child_task = record {
@@ -321,6 +346,7 @@ module _ (code : Code) (P : PlainProgram) (arg : ℤ) (rule : Rule) (L : Limits)
         number = (let a = more_length scope.ends None in let d = own_count in let e = ap length (mine_same event R V.path refl) in let f = b_is in omega (arith, a, d, e, f));
       };
       scope = tt;
+      out = record { segment = []; seg = subst (λ es. Seg (event ∷ R) child_path es []) (sym none_mine) seg_none; out_is = sym printed_nil; fine = inl trapped_nil };
     }
 
     -- an elder branch

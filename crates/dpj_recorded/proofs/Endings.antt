@@ -1,23 +1,26 @@
 -- An end, in a machine and in the run.
-use Rattle.std.proofs.Common.{◌≡◌, ◌≢◌, inl, inr, ℕ, zero, suc, ◌+◌, ◌==◌, if◌then◌else◌, ℤ, Bool, true, false, List, [], ◌∷◌, ◌++◌, map, length, refl, sym, ap, ◌∙◌, subst, Option, Some, None, slice_get, arith}
+use Rattle.std.proofs.Common.{◌≡◌, ◌≢◌, inl, inr, ℕ, zero, suc, ◌+◌, ◌==◌, if◌then◌else◌, ℤ, Bool, true, false, List, [], ◌∷◌, ◌++◌, append-nil, length-append, map, length, refl, sym, ap, ◌∙◌, subst, Option, Some, None, slice_get, arith}
 use Rattle.std.proofs.lemmas.Bool.Decides.{eqb_tells}
 use Rattle.std.specs.FinMap.{get, remove}
 use Rattle.dpj_base.specs.declared.effect.Effect.{Effect}
 use Rattle.dpj_base.specs.declared.outcome.Limits.{Limits}
 use Rattle.dpj_typed.specs.Plain.{PlainProgram}
+use Rattle.dpj_base.specs.declared.place.Place.{Place}
+use Rattle.dpj_base.specs.declared.value.Trap.{Trap}
+use Rattle.dpj_meaning.specs.Actions as meaning
 use Rattle.dpj_meaning.specs.Actions.{Ending as EndingOver}
 use Rattle.dpj_meaning.specs.Asking.{most_turns}
 use Rattle.dpj_meaning.specs.Outcomes.{trap_of, locals_of}
-use Rattle.dpj_code.specs.Legs.{Halt, Asks as AsksAt, Finished, Dead, said}
-use Rattle.dpj_code.specs.Machine.{State, Stand, Goes, Turns, Makes, Waits, Ends, Stuck, step}
+use Rattle.dpj_code.specs.Legs.{Halt, Leg, Asks as AsksAt, Finished, Dead, said}
+use Rattle.dpj_code.specs.Machine.{State, Off, Stand, Goes, Turns, Makes, Waits, Ends, Stuck, step}
 use Rattle.dpj_code.specs.Plain.{PlainCode, plain_code}
 use Rattle.dpj_code.specs.declared.code.Code.{Code}
 use Rattle.dpj_gen.specs.Compiled.{SameAct, SameReply}
 use Rattle.dpj_runs.specs.Actions.{Action, Do, Rest, End, Ending, Went, Next, Reply, Rule}
 use Rattle.dpj_runs.specs.Objects.{Path}
-use Rattle.dpj_runs.specs.Runs.{Event, Follows, Run, answers, count, event_steps, later, mine, now}
+use Rattle.dpj_runs.specs.Runs.{Event, Follows, Run, Upto, answers, count, event_steps, later, mine, now}
 use Rattle.dpj_runs.proofs.Cost.{total_step}
-use Rattle.dpj_runs.proofs.Mine.{mine_other}
+use Rattle.dpj_runs.proofs.Mine.{mine_other, mine_same}
 use Rattle.dpj_legs.specs.Halts.{Tells, stands}
 use Rattle.dpj_legs.specs.Names.{names_of}
 use Rattle.dpj_legs.specs.Tasks.{plain_ending, plain_slot}
@@ -25,7 +28,7 @@ use Rattle.dpj_legs.specs.declared.action.Action.TheVariants as action
 use Rattle.dpj_legs.specs.declared.action.Ending.{Ending as DeclaredEnding}
 use Rattle.dpj_legs.specs.declared.action.Ending.TheVariants as ending
 use Rattle.dpj_tasks.specs.Scope.{Branches as Scope, put_end, with_end}
-use Rattle.dpj_tasks.specs.Tree.{Tasks, Tree, changed, end_noted, end_of, in_scope, origin_of, with_scope}
+use Rattle.dpj_tasks.specs.Tree.{Tasks, Tree, changed, end_noted, end_of, in_scope, origin_of, out_of, task_at, with_scope}
 use Rattle.dpj_tasks.specs.declared.end.TaskEnd.{TaskEnd}
 use Rattle.dpj_tasks.specs.declared.task.Origin.{Origin}
 use Rattle.dpj_tasks.specs.declared.task.State.TheVariants.{Running as Runs, Forked}
@@ -42,7 +45,11 @@ use Rattle.dpj_recorded.proofs.Heaps.{structural}
 use Rattle.dpj_recorded.proofs.Ties.{Q, EndTied, EndsTied, ForkTied, ScopeTied, BranchTied, OriginTied, LiveTied, Tied, ends_later, task_later}
 use Rattle.dpj_recorded.proofs.Asked.{ActionIn, ActionOf, reply_act, same_end, runs_if}
 use Rattle.dpj_recorded.proofs.Trees.{beside, changed_own, changed_other, removed_tells, removed_other, numbers_kept, costs_next, apart_paths, above_apart, path_one, not_itself, live_later, live_with, branch_later, origin_later}
-use Rattle.dpj_recorded.proofs.Acting.{RightFor, event_of, Stepped, found, live, here, childless_if}
+use Rattle.dpj_recorded.proofs.Acting.{RightFor, event_of, Stepped, found, live, at, here, leg_here, childless_if, off_leg, out_runs}
+use Rattle.dpj_recorded.proofs.Outs.{BeginsSince, begins_none, begins_more, EndOut, IsFine, OutLive, OutRuns, OutForks, ends_out_later, ends_out_put, seg_with}
+use Rattle.dpj_recorded.proofs.Segments.{Seg, seg_later, seg_own}
+use Rattle.dpj_recorded.proofs.Sorted.{printed_step, trapped_step}
+use Rattle.dpj_runs.specs.Order.{printed, trap_in, trapped}
 
 -- where a task stands tells its turns
 abbrev HasTurns : ℕ → Halt ℕ (ℕ × ℕ) → Type 0
@@ -98,6 +105,15 @@ slots_are (ending.Returned v) x (returned_like l) = no_locals
 slots_are (ending.Assigned ls) x (assigned_like l) = l
 slots_are (ending.Trapped t p) x (trapped_like t' p') = no_locals
 
+trapped_ends : (c : DeclaredEnding) (f : Trap × Place) → ◌≡◌ {A = EndingOver ℕ} (meaning.Trapped f.0 f.1) (plain_ending c) → machine_trap c ≡ Some f
+trapped_ends (ending.Returned v) f e = absurd (cc)
+trapped_ends (ending.Assigned ls) f e = absurd (cc)
+trapped_ends (ending.Trapped t p) f e = (let a : f.0 ≡ t = cc in let b : f.1 ≡ p = cc in λ z. Some (sym a z, sym b z))
+
+since_many : {p : Path} {gs : Run} {b : ℕ} → BeginsSince p gs b → length gs ≡ b
+since_many begins_none = refl
+since_many (begins_more g a d h) = ap (λ n. suc n) (since_many h)
+
 -- an end that is put among those of the branches
 put_length : (es : List (Option TaskEnd)) (i : ℕ) (how : TaskEnd) → length (put_end es i how) ≡ length es
 put_length [] i how = refl
@@ -127,6 +143,17 @@ ends_put w R q n b (Some y ∷ es) (suc i) how h e x = (h.0, ends_put w R q n (s
 module _ (code : Code) (P : PlainProgram) (arg : ℤ) (rule : Rule) (L : Limits) (right : RightFor (plain_code code) P) where
   abbrev C : PlainCode
   C = plain_code code
+
+  -- an end, with what the task has printed and its trap
+  pub record EndTold (w : Sight) (R : Run) (k : ℕ) (n : Moment) (c : DeclaredEnding) (out : List ℕ) : Type 0 where
+    pub stepped : Stepped code P arg rule L right w R k n
+    pub ending : Ending
+    pub act : stepped.event.act ≡ End ending
+    pub segment : Run
+    pub seg : Seg (stepped.event ∷ R) stepped.event.path (mine (stepped.event ∷ R) stepped.event.path) segment
+    pub out_is : out ≡ printed segment
+    pub trap : machine_trap c ≡ trapped segment
+    pub like : EndingLike w.names (plain_ending c) ending
 
   module _ {m : Moment} {w : Sight} {R : Run} (T : Tied P arg rule C L m w R) (k turns : ℕ) (wants : Option (List Effect)) (c : DeclaredEnding)
       (x : NextOf C m k (event_of k turns wants (action.End c))) where
@@ -178,6 +205,32 @@ module _ (code : Code) (P : PlainProgram) (arg : ℤ) (rule : Rule) (L : Limits)
 
     gone : (j : ℕ) → j ≢ k → n.tasks j ≡ m.tasks j
     gone j apart = beside m.tasks k None j apart
+
+    -- what it has printed
+    H : OutRuns R V.path V.runs.state y.out
+    H = out_runs code P arg rule L right T k turns wants (action.End c) x runs
+
+    -- after a trap below it it ends with that trap
+    falls : (f : Trap × Place) → V.runs.state ≡ Off (meaning.Trapped f.0 f.1) → machine_trap c ≡ Some f
+    falls f i = (let s : ◌≡◌ {A = ActionIn} (End (meaning.Trapped f.0 f.1)) (End (plain_ending c)) = ends_so in
+        let is : ◌≡◌ {A = EndingOver ℕ} (meaning.Trapped f.0 f.1) (plain_ending c) = cc in trapped_ends c f is)
+      where
+        fell : at code P arg rule L right T k turns wants (action.End c) x ≡ Finished 0 (meaning.Trapped f.0 f.1)
+        fell = off_leg C k V.runs.made (meaning.Trapped f.0 f.1) (at code P arg rule L right T k turns wants (action.End c) x)
+            (subst (λ s. Leg (names_of k) C V.runs.made s (at code P arg rule L right T k turns wants (action.End c) x)) i (leg_here code P arg rule L right T k turns wants (action.End c) x))
+
+        ends_so : Tells C (action.End c) (Finished 0 (meaning.Trapped f.0 f.1))
+        ends_so = subst (λ h. Tells C (action.End c) h) fell x.stands.tells
+
+    out_is : y.out ≡ printed (event ∷ H.segment)
+    out_is = H.out_is ∙ sym (printed_step event H.segment ∙ append-nil (printed H.segment))
+
+    trap_so : machine_trap c ≡ trapped (event ∷ H.segment)
+    trap_so = go H.fine ∙ sym (trapped_step event H.segment)
+      where
+        go : IsFine H.segment V.runs.state → machine_trap c ≡ trap_in (End E.ending) (trapped H.segment)
+        go (inl e) = trap_is c E.ending E.like ∙ sym (ap (λ o. trap_in (End E.ending) o) e)
+        go (inr e) = falls e.0 e.2 ∙ sym (ap (λ o. trap_in (End E.ending) o) e.1)
 
     -- the root ends
     root_gone : LiveNext (remove m.world.tree.tasks k)
@@ -273,6 +326,54 @@ module _ (code : Code) (P : PlainProgram) (arg : ℤ) (rule : Rule) (L : Limits)
         like = F.like;
       }
 
+      OF : OutForks R U.path B.parent.out B.scope
+      OF = subst (λ s. OutLive R U.path U.runs.state B.parent.out s) B.state U.out
+
+      -- the number in the path of the branch
+      fork_number : B.step.0 ≡ OF.number
+      fork_number =
+          let a = B.number in
+          let b = ap length OF.last ∙ length-append OF.since OF.own in
+          let c = since_many OF.begins in
+          let d = OF.many in
+          let e : count R U.path ≡ count R B.above = ap (λ p. count R p) above_is in
+          omega (arith, a, b, c, d, e)
+
+      end_path : V.path ≡ (OF.number, 0 + o.step.branch) ∷ U.path
+      end_path = B.is ∙ ap (λ s. s ∷ B.above) step_so ∙ ap (λ p. (OF.number, 0 + o.step.branch) ∷ p) (sym above_is)
+        where
+          step_so : B.step ≡ (OF.number, 0 + o.step.branch)
+          step_so = (let a = fork_number in let b : B.step.1 ≡ 0 + o.step.branch = (let s = B.branch in omega (arith, s)) in λ z. (a z, b z))
+
+      end_out : EndOut (event ∷ R) U.path OF.number (0 + o.step.branch) how
+      end_out = record {
+        last = event;
+        before = mine R V.path;
+        ending = E.ending;
+        act = refl;
+        there = subst (λ p. Upto (event ∷ mine R V.path) (mine (event ∷ R) p)) end_path (subst (λ l. Upto (event ∷ mine R V.path) l) (sym (mine_same event R V.path refl)) now);
+        segment = event ∷ H.segment;
+        seg = subst (λ p. Seg (event ∷ R) p (event ∷ mine R V.path) (event ∷ H.segment)) end_path (seg_own event refl (λ b i. (cc)) (seg_later event H.seg));
+        out = out_is;
+        trap = trap_so;
+      }
+
+      put_out : OutForks (event ∷ R) U.path B.parent.out (with_end B.scope o.step.branch how)
+      put_out = record {
+        own = OF.own;
+        number = OF.number;
+        many = OF.many;
+        segment = OF.segment;
+        seg = seg_later event OF.seg;
+        out_is = OF.out_is;
+        fine = OF.fine;
+        since = OF.since;
+        last = mine_other event R U.path away ∙ OF.last;
+        begins = subst (λ n. BeginsSince U.path OF.since n) (sym (put_length B.scope.ends o.step.branch how)) OF.begins;
+        ends = ends_out_put (event ∷ R) U.path OF.number 0 B.scope.ends o.step.branch how
+            (ends_out_later R event U.path OF.number 0 B.scope.ends OF.ends) unended_at end_out;
+      }
+
       state_now : (puts B.parent).state ≡ Forked (with_end B.scope o.step.branch how)
       state_now = ap (λ s. in_scope (λ scope. with_end scope o.step.branch how) s) B.state
 
@@ -285,6 +386,7 @@ module _ (code : Code) (P : PlainProgram) (arg : ℤ) (rule : Rule) (L : Limits)
         task = task_later P arg rule C (wider_none T.heap.holds.distinct) R event away U.task;
         origin = origin;
         scope = subst (λ s. ScopeTied P arg rule C w (event ∷ R) U.path U.runs.state s) (sym state_now) put_fork;
+        out = subst (λ s. OutLive (event ∷ R) U.path U.runs.state B.parent.out s) (sym state_now) put_out;
       }
         where
           origin : OriginTied P arg rule C w (event ∷ R) tasks U.path B.parent.origin
@@ -364,21 +466,29 @@ module _ (code : Code) (P : PlainProgram) (arg : ℤ) (rule : Rule) (L : Limits)
         branch_gone o (subst (λ u. OriginTied P arg rule C w R m.world.tree.tasks V.path u) e V.origin)
         (not_itself P arg rule C L w R m.world.tree.tasks k V.there y.origin V.origin o e)
 
-    -- the source asks for an end there
-    pub end_asked : (e : Ending) × ((Q P arg rule C).meaning V.path V.task.task (answers (mine R V.path)) ≡ Next turns (End e))
-    end_asked = (E.ending, asks)
+    pub end_told : EndTold w R k n c (out_of (task_at m.world.tree k))
+    end_told = record {
+      stepped = record {
+        event = event;
+        follows = follows;
+        there = V.there;
+        sight = w;
+        tied = record {
+          heap = structural (Q P arg rule C) T.heap V.path turns event refl (λ c. refl) (λ f. refl) refl;
+          numbers = numbers_kept {P = Q P arg rule C} event follows refl (wider_none T.heap.holds.distinct) refl (ended_begun m.world.tree k (machine_trap c) (slots_in c)) T.numbers;
+          costs = costs_next P arg rule C L m n event (record { steps = refl; cells = omega arith; most_steps = refl; most_cells = refl }) T.costs;
+          faithful = (follows, T.faithful);
+          live = subst (λ (t : Tree). LiveNext t.tasks) (sym tree_is) (live_next y.origin refl);
+        };
+      };
+      ending = E.ending;
+      act = refl;
+      segment = event ∷ H.segment;
+      seg = seg_with event refl (λ b i. (cc)) H;
+      out_is = ap out_of y_is ∙ out_is;
+      trap = trap_so;
+      like = E.like;
+    }
 
     pub ends_next : Stepped code P arg rule L right w R k n
-    ends_next = record {
-      event = event;
-      follows = follows;
-      there = V.there;
-      sight = w;
-      tied = record {
-        heap = structural (Q P arg rule C) T.heap V.path turns event refl (λ c. refl) (λ f. refl) refl;
-        numbers = numbers_kept {P = Q P arg rule C} event follows refl (wider_none T.heap.holds.distinct) refl (ended_begun m.world.tree k (machine_trap c) (slots_in c)) T.numbers;
-        costs = costs_next P arg rule C L m n event (record { steps = refl; cells = omega arith; most_steps = refl; most_cells = refl }) T.costs;
-        faithful = (follows, T.faithful);
-        live = subst (λ (t : Tree). LiveNext t.tasks) (sym tree_is) (live_next y.origin refl);
-      };
-    }
+    ends_next = end_told.stepped

@@ -11,7 +11,7 @@ use Rattle.dpj_typed.specs.declared.stmt.Forking.{Forking}
 use Rattle.dpj_typed.specs.declared.expr.BinaryOp.{BinaryOp}
 use Rattle.dpj_typed.specs.declared.expr.BinaryOp.TheVariants as op
 use Rattle.dpj_meaning.specs.Values.{Value, Int, Object, Region, An_object, An_array}
-use Rattle.dpj_meaning.specs.Actions.{Frame, Answer, Read, Write, Look, New, Print, Enter, Exit, Do, Fork, Begin, Join, End, Rest}
+use Rattle.dpj_meaning.specs.Actions.{Frame, Answer, Read, Write, Look, New, Print, Enter, Exit, Do, Fork, Begin, Join, End, Rest, Fell, Trapped}
 use Rattle.dpj_meaning.specs.Actions.{Own as OwnOver}
 use Rattle.dpj_meaning.specs.Counts.{number, reference, value_read, is_out, length_seen, name_made, class_seen, class_entered, operated, slot_value, how_many, part_place}
 use Rattle.dpj_meaning.specs.Regions.{around, concrete, is_long, some_long}
@@ -89,7 +89,7 @@ Keeps C z (Waits (Begin b) f) =
     (AtJoin C z → (x : Answer ℕ (ℕ × ℕ)) → AtJoin C (f x) × HasBegun C (f x))
     × ((x : Answer ℕ (ℕ × ℕ)) → HasBegun C (f x) → suc b < 2147483648 → starts_at C (f x) ≡ starts_at C z)
 Keeps C z (Waits (Do o) f) = ByBlock C o
-Keeps C z (Waits Join f) = Unit {0}
+Keeps C z (Waits Join f) = (t : Trap) (p : Place) → f (Fell t p) ≡ Off (Trapped t p)
 Keeps C z (Waits (End e) f) = Unit {0}
 Keeps C z (Goes s) = Unit {0}
 Keeps C z (Turns s) = Unit {0}
@@ -192,7 +192,7 @@ module _ (C : PlainCode) (FJ : ForksAreJoined C) (firsts : FirstNumbers) (nexts 
   -- at a join
   begin_fork : (total : ℕ) (copies : List ℕ) (forking : Forking) (js : List ℕ) (lists : List (List ℕ)) (n : ℕ) (st : List (Value ℕ))
       → site_at C (site_of (line_before Lines g.at)) ≡ Some (fork_site forking js lists) → Kept C Here (joins_fork total copies n g st fs)
-  begin_fork total copies forking js lists zero st e = record { is = tt }
+  begin_fork total copies forking js lists zero st e = record { is = λ t p. refl }
   begin_fork total copies forking js lists (suc n) st e = record {
     is = (
       λ at x. ((at.0, subst (λ o. LeftIn o (Int (pos n) ∷ st)) (sym e) tt), subst (λ o. FewerLeft o (Int (pos n) ∷ st)) (sym e) tt),
@@ -203,7 +203,7 @@ module _ (C : PlainCode) (FJ : ForksAreJoined C) (firsts : FirstNumbers) (nexts 
   begin_spread : (forking : Forking) (j x : ℕ) (left next total : Value ℕ) (st : List (Value ℕ)) (n : ℕ)
       → site_at C (site_of (line_before Lines g.at)) ≡ Some (spread_site forking j x) → g.stack ≡ left ∷ next ∷ total ∷ st → how_many (number left) ≡ n
       → Kept C Here (joins_spread next (how_many (number total)) n g st fs)
-  begin_spread forking j x left next total st zero e f h = record { is = tt }
+  begin_spread forking j x left next total st zero e f h = record { is = λ t p. refl }
   begin_spread forking j x left next total st (suc n) e f h = record { is = (at_next, starts_next) }
     where
       at_next : AtJoin C Here → (a : Answer ℕ (ℕ × ℕ)) → AtJoin C (On (record g { stack = waiting n (int_wrapping_add w32 (number next) (pos 1)) (how_many (number total)) st }) fs)

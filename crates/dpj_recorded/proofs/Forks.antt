@@ -1,5 +1,5 @@
 -- A fork, in a machine and in the run.
-use Rattle.std.proofs.Common.{◌≡◌, ℕ, ◌==◌, if◌then◌else◌, ℤ, Bool, true, false, List, [], ◌∷◌, length, refl, sym, ap, ◌∙◌, subst, Option, Some, arith}
+use Rattle.std.proofs.Common.{◌≡◌, ℕ, ◌==◌, if◌then◌else◌, ℤ, Bool, true, false, List, [], ◌∷◌, append-nil, length, refl, sym, ap, ◌∙◌, subst, Option, Some, None, arith}
 use Rattle.std.specs.FinMap.{get}
 use Rattle.dpj_base.specs.declared.effect.Effect.{Effect}
 use Rattle.dpj_base.specs.declared.outcome.Limits.{Limits}
@@ -36,7 +36,11 @@ use Rattle.dpj_recorded.proofs.Heaps.{structural}
 use Rattle.dpj_recorded.proofs.Ties.{Q, ForkTied, LiveTied, Tied}
 use Rattle.dpj_recorded.proofs.Asked.{ActionIn, ActsAt, forking_like, same_fork, runs_if, AllLength}
 use Rattle.dpj_recorded.proofs.Trees.{placed, beside, changed_own, changed_other, plain_next}
-use Rattle.dpj_recorded.proofs.Acting.{RightFor, event_of, Stepped, found, live, at, AskedAt, asked_at, goes_to, goes_so, task_next, childless_if}
+use Rattle.dpj_recorded.proofs.Acting.{RightFor, event_of, Stepped, found, live, at, AskedAt, asked_at, goes_to, goes_so, task_next, childless_if, not_off, out_runs}
+use Rattle.dpj_recorded.proofs.Outs.{OutRuns, OutForks, begins_none, fine_none}
+use Rattle.dpj_recorded.proofs.Segments.{seg_later, seg_own}
+use Rattle.dpj_recorded.proofs.Sorted.{printed_step, trapped_step}
+use Rattle.dpj_runs.specs.Order.{printed, trapped}
 
 -- where a task stands at another action than a rest, a step leads there
 pub front_step : (C : PlainCode) (k turns made : ℕ) (z : State ℕ (ℕ × ℕ)) (n m : ℕ) (a : ActionIn) (f : meaning.Answer ℕ (ℕ × ℕ) → State ℕ (ℕ × ℕ))
@@ -138,6 +142,27 @@ module _ (code : Code) (P : PlainProgram) (arg : ℤ) (rule : Rule) (L : Limits)
       like = subst (λ bs. StartsLike w bs like.0) (sym keeps.1) like.2;
     }
 
+    H : OutRuns R V.path V.runs.state y.out
+    H = out_runs code P arg rule L right T k turns wants (action.Fork forking many) x runs
+
+    fine : trapped H.segment ≡ None
+    fine = fine_none H.segment V.runs.state H.fine (λ f i. not_off code P arg rule L right T k turns wants (action.Fork forking many) x forks A (meaning.Trapped f.0 f.1) i)
+
+    out_now : OutForks (event ∷ R) V.path y.out (no_branch_yet many)
+    out_now = record {
+      own = event ∷ mine R V.path;
+      number = length (mine R V.path);
+      many = refl;
+      segment = event ∷ H.segment;
+      seg = seg_own event refl (λ b i. (cc)) (seg_later event H.seg);
+      out_is = H.out_is ∙ sym (printed_step event H.segment ∙ append-nil (printed H.segment));
+      fine = trapped_step event H.segment ∙ fine;
+      since = [];
+      last = mine_same event R V.path refl;
+      begins = begins_none;
+      ends = tt;
+    }
+
     pub forks_next : Stepped code P arg rule L right w R k n
     forks_next = record {
       event = event;
@@ -150,6 +175,6 @@ module _ (code : Code) (P : PlainProgram) (arg : ℤ) (rule : Rule) (L : Limits)
           (λ j apart. beside m.tasks k _ j apart) (goes_to code P arg rule L right T k turns wants (action.Fork forking many) x forks A answer.Went)
           (placed m.tasks k _ k refl ∙ goes_so code P arg rule L right T k turns wants (action.Fork forking many) x forks A answer.Went)
           (task_next code P arg rule L right T k turns wants (action.Fork forking many) x forks A answer.Went event refl (wider_none T.heap.holds.distinct) went_like)
-          fork (childless_if code P arg rule L right T k turns wants (action.Fork forking many) x runs)
+          fork out_now (childless_if code P arg rule L right T k turns wants (action.Fork forking many) x runs)
           (record { steps = refl; cells = omega arith; most_steps = refl; most_cells = refl });
     }

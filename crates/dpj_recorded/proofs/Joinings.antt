@@ -1,5 +1,5 @@
 -- A join, in a machine and in the run.
-use Rattle.std.proofs.Common.{◌≡◌, ◌≢◌, ◌≤◌, ⊎_elim, ℕ, zero, suc, ◌+◌, not, nat_lt, ℤ, false, IsTrue, List, [], ◌∷◌, ◌++◌, map, length, refl, sym, ap, ap₂, ◌∙◌, subst, Option, Some, None, slice_get, arith}
+use Rattle.std.proofs.Common.{◌≡◌, ◌≢◌, ◌≤◌, inl, inr, append-nil, ⊎_elim, ℕ, zero, suc, ◌+◌, not, nat_lt, ℤ, false, IsTrue, List, [], ◌∷◌, ◌++◌, map, length, refl, sym, ap, ap₂, ◌∙◌, subst, Option, Some, None, slice_get, arith}
 use Rattle.std.proofs.lemmas.Bool.{lt-ltb, cases_lt}
 use Rattle.std.specs.List.{list_all}
 use Rattle.std.specs.Prelude.{is_some}
@@ -20,7 +20,7 @@ use Rattle.dpj_runs.specs.Objects.{Path, Name}
 use Rattle.dpj_runs.specs.Runs.{Ended, Event, Follows, Joins, Run, answers, count, mine}
 use Rattle.dpj_legs.specs.Tasks.{plain_answer, plain_slot}
 use Rattle.dpj_legs.specs.declared.action.Action.TheVariants as action
-use Rattle.dpj_tasks.specs.Join.{or_else, all_slots}
+use Rattle.dpj_tasks.specs.Join.{or_else, all_slots, joined_out}
 use Rattle.dpj_tasks.specs.Join.{first_trap as first_of}
 use Rattle.dpj_tasks.specs.Scope.{Branches as Scope, all_begun, all_ended}
 use Rattle.dpj_tasks.specs.Tree.{Tasks, CanJoin, OfTask, OfScope, ends_in, joined_task, scope_ends, task_at}
@@ -38,6 +38,20 @@ use Rattle.dpj_recorded.proofs.Ties.{Q, EndTied, EndsTied, ForkTied, ScopeTied, 
 use Rattle.dpj_recorded.proofs.Asked.{acts_at, joining_like, same_join}
 use Rattle.dpj_recorded.proofs.Trees.{placed, beside, changed_own, changed_other, plain_next}
 use Rattle.dpj_recorded.proofs.Acting.{RightFor, event_of, Stepped, found, live, at, AskedAt, asked_at, goes_to, goes_so, task_next}
+use Rattle.dpj_recorded.proofs.Outs.{OutLive, OutRuns, IsFine, out_joined}
+use Rattle.dpj_recorded.proofs.Segments.{Seg, seg_later, seg_own}
+use Rattle.dpj_recorded.proofs.Sorted.{printed_step, trapped_step}
+use Rattle.dpj_recorded.proofs.Forks.{front_step}
+use Rattle.dpj_recorded.proofs.Joins.{ForksAreJoined}
+use Rattle.dpj_recorded.proofs.Forking.{Kept, step_keeps}
+use Rattle.dpj_recorded.proofs.Wrapping.{first_numbers, next_numbers}
+use Rattle.dpj_runs.specs.Order.{printed, trapped}
+use Rattle.dpj_runs.proofs.Mine.{mine_same}
+use Rattle.dpj_code.specs.Legs.{Asks as AsksAt}
+use Rattle.dpj_code.specs.Machine.{State, Off, Waits, step}
+use Rattle.dpj_meaning.specs.Actions as meaning
+use Rattle.dpj_meaning.specs.Actions.{Fell}
+use Rattle.dpj_legs.specs.Names.{names_of}
 
 locals_on : {ns : Names} {xs us : List (ℕ × Value ℕ)} {ys vs : List (ℕ × Value Name)} → LocalsLike ns xs ys → LocalsLike ns us vs → LocalsLike ns (xs ++ us) (ys ++ vs)
 locals_on no_locals k = k
@@ -111,7 +125,7 @@ all_there (Some x ∷ es) (suc n) all e = all_there es n all e
 not_less : (a b : ℕ) → IsTrue (not (nat_lt a b)) → b ≤ a
 not_less a b h = ⊎_elim (λ l. absurd (let t = lt-ltb a b l in cc)) (λ l. l) (cases_lt a b)
 
-module _ (code : Code) (P : PlainProgram) (arg : ℤ) (rule : Rule) (L : Limits) (right : RightFor (plain_code code) P) where
+module _ (code : Code) (P : PlainProgram) (arg : ℤ) (rule : Rule) (L : Limits) (right : RightFor (plain_code code) P) (FJ : ForksAreJoined (plain_code code)) where
   abbrev C : PlainCode
   C = plain_code code
 
@@ -195,6 +209,36 @@ module _ (code : Code) (P : PlainProgram) (arg : ℤ) (rule : Rule) (L : Limits)
         let scopes : B.scope ≡ close.scope = cc in
         all_there close.scope.ends B.step.1 close.ended (subst (λ (s : Scope). slice_get s.ends B.step.1 ≡ Some None) scopes B.unended)
 
+    O : (O : Run) × Seg R V.path (mine R V.path) O × (y.out ++ joined_out close.scope.ends ≡ printed O) × (trapped O ≡ first_of close.scope.ends)
+    O = out_joined R V.path y.out close.scope (subst (λ s. OutLive R V.path V.runs.state y.out s) close.state V.out) close.ended
+
+    steps_there : step (names_of k) C x.stands.state ≡ Waits Join A.both.then_in
+    steps_there = front_step C k turns x.stands.made x.stands.state A.both.turns A.both.made Join A.both.then_in A.both.is_in (λ i. (cc))
+
+    falls : (t : Trap) (p : Place) → A.both.then_in (Fell t p) ≡ Off (meaning.Trapped t p)
+    falls t p = kept_join (subst (λ o. Kept C x.stands.state o) steps_there (step_keeps C FJ first_numbers next_numbers k x.stands.state))
+      where
+        kept_join : Kept C x.stands.state (Waits Join A.both.then_in) → A.both.then_in (Fell t p) ≡ Off (meaning.Trapped t p)
+        kept_join h = h.is t p
+
+    abbrev then_at : List (Option TaskEnd) → State ℕ (ℕ × ℕ)
+    then_at es = A.both.then_in (plain_answer (join_answer es))
+
+    fine : IsFine (event ∷ O.0) (then_at close.scope.ends)
+    fine = go (first_of close.scope.ends) refl
+      where
+        go : (o : Option (Trap × Place)) → first_of close.scope.ends ≡ o → IsFine (event ∷ O.0) (A.both.then_in (plain_answer (fell_or (first_of close.scope.ends) (all_slots close.scope.ends))))
+        go None e = inl (trapped_step event O.0 ∙ O.3 ∙ e)
+        go (Some f) e = inr (f, trapped_step event O.0 ∙ O.3 ∙ e, ap (λ o. A.both.then_in (plain_answer (fell_or o (all_slots close.scope.ends)))) e ∙ falls f.0 f.1)
+
+    out_now : OutRuns (event ∷ R) V.path (then_at (ends_in (task_at m.world.tree k))) (y.out ++ joined_out (scope_ends y.state))
+    out_now = record {
+      segment = event ∷ O.0;
+      seg = subst (λ l. Seg (event ∷ R) V.path l (event ∷ O.0)) (sym (mine_same event R V.path refl)) (seg_own event refl (λ b i. (cc)) (seg_later event O.1));
+      out_is = ap (λ s. y.out ++ joined_out (scope_ends s)) close.state ∙ O.2 ∙ sym (printed_step event O.0 ∙ append-nil (printed O.0));
+      fine = subst (λ es. IsFine (event ∷ O.0) (then_at es)) (sym ends_are) fine;
+    }
+
     pub joins_next : Stepped code P arg rule L right w R k n
     joins_next = record {
       event = event;
@@ -208,5 +252,5 @@ module _ (code : Code) (P : PlainProgram) (arg : ℤ) (rule : Rule) (L : Limits)
           (goes_to code P arg rule L right T k turns wants action.Join x Join A (join_answer (ends_in (task_at m.world.tree k))))
           (placed m.tasks k _ k refl ∙ goes_so code P arg rule L right T k turns wants action.Join x Join A (join_answer (ends_in (task_at m.world.tree k))))
           (task_next code P arg rule L right T k turns wants action.Join x Join A (join_answer (ends_in (task_at m.world.tree k))) event refl (wider_none T.heap.holds.distinct) like)
-          tt childless (record { steps = refl; cells = omega arith; most_steps = refl; most_cells = refl });
+          tt out_now childless (record { steps = refl; cells = omega arith; most_steps = refl; most_cells = refl });
     }

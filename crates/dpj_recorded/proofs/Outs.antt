@@ -10,7 +10,7 @@ use Rattle.dpj_runs.specs.Actions.{Begin, End, Ending, Join}
 use Rattle.dpj_runs.specs.Objects.{Path}
 use Rattle.dpj_runs.specs.Order.{printed, printed_by, trap_in, trapped}
 use Rattle.dpj_runs.specs.Runs.{Event, Run, Upto, later, mine, now}
-use Rattle.dpj_runs.proofs.Mine.{mine_other, mine_upto}
+use Rattle.dpj_runs.proofs.Mine.{mine_other, mine_same, mine_upto}
 use Rattle.dpj_runs.proofs.Upto.{upto_trans}
 use Rattle.dpj_tasks.specs.Join.{or_else, joined_out, unless_trapped}
 use Rattle.dpj_tasks.specs.Join.{first_trap as first_of}
@@ -246,3 +246,12 @@ pub out_joined : (R : Run) (p : Path) (out : List ℕ) (scope : Scope) → OutFo
 out_joined R p out scope F all =
     let A = all_out R p F.own F.segment F.number F.many F.seg F.fine (snoc_of scope.ends) F.since F.begins all F.ends in
     (A.segment, subst (λ l. Seg R p l A.segment) (sym F.last) A.seg, ap (λ l. l ++ joined_out scope.ends) F.out_is ∙ sym A.out, A.trap)
+
+-- one event more of its own
+pub seg_with : {R : Run} {p : Path} {s : State ℕ (ℕ × ℕ)} {out : List ℕ} (e : Event) → e.path ≡ p → ((b : ℕ) → e.act ≡ Begin b → ⊥) → (H : OutRuns R p s out)
+    → Seg (e ∷ R) p (mine (e ∷ R) p) (e ∷ H.segment)
+seg_with {R} {p} e is begins H = subst (λ l. Seg (e ∷ R) p l (e ∷ H.segment)) (sym (mine_same e R p is)) (seg_own e is begins (seg_later e H.seg))
+
+pub fine_none : (S : Run) (s : State ℕ (ℕ × ℕ)) → IsFine S s → ((f : Trap × Place) → s ≡ Off (meaning.Trapped f.0 f.1) → ⊥) → trapped S ≡ None
+fine_none S s (inl h) off = h
+fine_none S s (inr h) off = absurd (off h.0 h.2)

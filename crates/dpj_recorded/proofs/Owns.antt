@@ -195,7 +195,7 @@ module _ (code : Code) (P : PlainProgram) (arg : ℤ) (rule : Rule) (L : Limits)
         (print_costs (after code m (event_of k turns wants (action.Print bytes)) x.stands.state x.stands.made) bytes refl refl refl refl) refl
         (record {
           others = λ j apart. changed_other m.world.tree.tasks k (printed_task bytes) j (found code P arg rule L right T k turns wants (action.Print bytes) x).1 apart;
-          itself = λ y e. (printed_task bytes y, changed_own m.world.tree.tasks k (printed_task bytes) e, refl, refl);
+          itself = λ y e. (printed_task bytes y, changed_own m.world.tree.tasks k (printed_task bytes) e, refl, refl, refl);
         })
 
     -- a new object

@@ -41,23 +41,39 @@ use Rattle.dpj_world.specs.Costs.{Within as MachineWithin, cells_of as machine_c
 use Rattle.dpj_world.specs.World.{world_after, written_at}
 use Rattle.dpj_world.specs.declared.event.Event.{Event as DeclaredEvent}
 use Rattle.dpj_world.specs.declared.world.World.{World}
-use Rattle.dpj_machine.specs.Replay.{Moment, NextOf, CanBeMade, Moves, Opens, LeadsTo, after, came_to, limited, opened, outcome_after}
+use Rattle.dpj_machine.specs.Replay.{Moment, NextOf, CanBeMade, Moves, Opens, LeadsTo, after, came_to, limited, number_given, opened, outcome_after}
 use Rattle.dpj_machine.specs.Replay.{made as made_so, over as over_so, no_room as no_room_so}
-use Rattle.dpj_recorded.specs.Laws.{AllRecord, BlocksAgree, HasNoBlocks, MachinesRecord, OutputsAgree, Records, RecordsRuns, lets_all, limits, told, told_ending}
+use Rattle.dpj_recorded.specs.Laws.{AllRecord, BlocksAgree, HasNoBlocks, MachinesRecord, Records, RecordsRuns, lets_all, limits, told, told_ending}
 use Rattle.dpj_recorded.proofs.Sights.{Sight, HaltLike, asks_like, finished_like, dead_like, ActionLike, do_like, fork_like, begin_like, join_like, end_like, rest_like, read_like, write_like, look_like, new_like, print_like, enter_like, exit_like}
 use Rattle.dpj_recorded.proofs.Joins.{ForksAreJoined, forks_are_joined}
 use Rattle.dpj_recorded.proofs.Legs.{HaltOf}
 use Rattle.dpj_recorded.proofs.Forking.{Kept, step_keeps}
 use Rattle.dpj_recorded.proofs.Wrapping.{first_numbers, next_numbers}
 use Rattle.dpj_recorded.proofs.Ties.{Q, Tied}
-use Rattle.dpj_recorded.proofs.Asked.{ActionIn, ActionOf}
+use Rattle.dpj_recorded.proofs.Asked.{ActionIn, ActionOf, disciplined}
 use Rattle.dpj_recorded.proofs.Trees.{entered_next, path_one}
 use Rattle.dpj_recorded.proofs.Acting.{RightFor, event_of, Stepped, live, here}
 use Rattle.dpj_recorded.proofs.Owns.{FieldsFor, rests, reads_cell, writes_cell, looks_at, makes_object, makes_array, prints, enters, exits}
 use Rattle.dpj_recorded.proofs.Forks.{front_step, forks_next}
 use Rattle.dpj_recorded.proofs.Begins.{begins_branch}
 use Rattle.dpj_recorded.proofs.Joinings.{joins_next}
-use Rattle.dpj_recorded.proofs.Endings.{end_asked, ends_next}
+use Rattle.dpj_recorded.proofs.Endings.{EndTold, end_told, ends_next}
+use Rattle.dpj_recorded.proofs.Segments.{Seg, seg_in_order}
+use Rattle.dpj_recorded.proofs.Sorted.{seg_whole}
+use Rattle.dpj_runs.specs.Order.{Came as CameOut}
+use Rattle.dpj_base.specs.declared.value.Value.{Value as Constant}
+use Rattle.dpj_base.specs.declared.value.Value.TheVariants as constant
+use Rattle.dpj_base.specs.declared.value.Trap.{Trap}
+use Rattle.dpj_base.specs.declared.place.Place.{Place}
+use Rattle.dpj_base.specs.declared.outcome.Ending.TheVariants as came
+use Rattle.dpj_meaning.specs.Values.{Value}
+use Rattle.dpj_meaning.specs.Counts.{number}
+use Rattle.dpj_runs.specs.Objects.{Name}
+use Rattle.dpj_legs.specs.Tasks.{plain_ending}
+use Rattle.dpj_legs.specs.Names.{plain_value}
+use Rattle.dpj_legs.specs.declared.action.Ending.TheVariants as ending
+use Rattle.dpj_world.specs.World.{trap_in as machine_trap}
+use Rattle.dpj_elided.proofs.Worlds.{Names, ValueLike, int_like, boolean_like, null_like, object_like, EndingLike, returned_like, assigned_like, trapped_like}
 use Rattle.dpj_recorded.proofs.Starting.{fields_for, first_tied, first_sight, main_size}
 
 replicated : {A : Type 0} (n : ℕ) (x : A) → length (replicate n x) ≡ n
@@ -123,26 +139,30 @@ root_ends before after k (action.End c) o e = record { ending = c; ends = refl; 
       | inr s ↦ absurd (let no : false ≡ true = sym s.0 ∙ t in cc)
     ]
 
--- and then it tells the costs
-root_outcome : (before after : World) (k : ℕ) (a : DeclaredAction) (o : DeclaredOutcome) → outcome_after before after k a ≡ Some o
-    → (z : MachineEnding) × (out : List ℕ) × (record { ending = z; out = out; steps = after.steps; cells = after.heap.used } ≡ o)
-root_outcome before after k action.Rest o e = absurd (cc)
-root_outcome before after k (action.Read n j) o e = absurd (cc)
-root_outcome before after k (action.Write n j v) o e = absurd (cc)
-root_outcome before after k (action.Look n) o e = absurd (cc)
-root_outcome before after k (action.NewObject c rs constructor) o e = absurd (cc)
-root_outcome before after k (action.NewArray region len first) o e = absurd (cc)
-root_outcome before after k (action.Print bytes) o e = absurd (cc)
-root_outcome before after k (action.Enter effects) o e = absurd (cc)
-root_outcome before after k action.Exit o e = absurd (cc)
-root_outcome before after k (action.Fork forking many) o e = absurd (cc)
-root_outcome before after k (action.Begin b) o e = absurd (cc)
-root_outcome before after k action.Join o e = absurd (cc)
-root_outcome before after k (action.End c) o e = (came_to c, out_of (task_at before.tree 0), some_of (k == 0) _ o e)
+-- and then it tells how, what was printed, and the costs
+end_outcome : (before after : World) (k : ℕ) (c : DeclaredEnding) (o : DeclaredOutcome) → outcome_after before after k (action.End c) ≡ Some o
+    → record { ending = came_to c; out = out_of (task_at before.tree 0); steps = after.steps; cells = after.heap.used } ≡ o
+end_outcome before after k c o e = some_of (k == 0) _ o e
   where
     some_of : (b : Bool) (x o : DeclaredOutcome) → (if b then Some x else None) ≡ Some o → x ≡ o
     some_of true x o e = cc
     some_of false x o e = absurd (cc)
+
+number_like : {ns : Names} (v : Constant) {u : Value Name} → ValueLike ns (plain_value v) u → number_given v ≡ number u
+number_like (constant.Int n) (int_like k) = refl
+number_like (constant.Bool b) (boolean_like k) = refl
+number_like constant.Null null_like = refl
+number_like (constant.Obj n) (object_like m x h) = refl
+
+-- the ending of the root, after a trap below it or not
+came_like : {ns : Names} (c : DeclaredEnding) (x : Ending) → EndingLike ns (plain_ending c) x → (t : Option (Trap × Place)) → machine_trap c ≡ t
+    → came_to c ≡ told_ending (ending_of t x)
+came_like (ending.Returned v) x (returned_like l) None e = ap (λ n. came.Done n) (number_like v l)
+came_like (ending.Returned v) x (returned_like l) (Some f) e = absurd (let both : None ≡ Some f = e in cc)
+came_like (ending.Assigned ls) x (assigned_like l) None e = refl
+came_like (ending.Assigned ls) x (assigned_like l) (Some f) e = absurd (let both : None ≡ Some f = e in cc)
+came_like (ending.Trapped t p) x (trapped_like t' p') None e = refl
+came_like (ending.Trapped t p) x (trapped_like t' p') (Some f) e = (let both : Some (t, p) ≡ Some f = e in let a : (t, p) ≡ f = cc in ap (λ (g : Trap × Place). came.Trapped g.0 g.1) a)
 
 module _ (code : Code) (P : PlainProgram) (arg : ℤ) (rule : Rule) (L : DeclaredLimits) (right : RightFor (plain_code code) P) (fields : FieldsFor code)
     (FJ : ForksAreJoined (plain_code code)) where
@@ -169,7 +189,7 @@ module _ (code : Code) (P : PlainProgram) (arg : ℤ) (rule : Rule) (L : Declare
   step_any T short k turns wants action.Exit x can = exits code P arg rule L right fields T k turns wants x
   step_any T short k turns wants (action.Fork forking many) x can = forks_next code P arg rule L right FJ T k turns wants forking many x
   step_any T short k turns wants (action.Begin b) x can = begins_branch code P arg rule L right FJ T short k turns wants b x can
-  step_any T short k turns wants action.Join x can = joins_next code P arg rule L right T k turns wants x can
+  step_any T short k turns wants action.Join x can = joins_next code P arg rule L right FJ T k turns wants x can
   step_any T short k turns wants (action.End c) x can = ends_next code P arg rule L right T k turns wants c x
 
   any_event : {m : Moment} {w : Sight} {R : Run} (T : Tied P arg rule C L m w R) → m.world.steps ≤ 20000001 → (k : ℕ) (e : DeclaredEvent) (x : NextOf C m k e)
@@ -197,29 +217,6 @@ module _ (code : Code) (P : PlainProgram) (arg : ℤ) (rule : Rule) (L : Declare
 
       costs : Charged code m.world n.world d.turns d.action
       costs = subst (λ (u : World). Charged code m.world u d.turns d.action) (sym is) (charged code m.world d.task d.turns d.wants d.action)
-
-  -- what the source asks is what the event does
-  asked_one : {m n : Moment} {w : Sight} {R : Run} {k : ℕ} (T : Tied P arg rule C L m w R) (S : Next_of w R k n) (p : Path) (t : Task) (turns : ℕ) (a : Action)
-      → slice_get w.paths k ≡ Some p → Begun QR R p t → QR.meaning p t (answers (mine R p)) ≡ Next turns a → S.event.act ≡ a
-  asked_one {w = w} {R = R} {k = k} T S p t turns a there begun asks =
-      let path : S.event.path ≡ p = path_one w k S.there there in
-      let task : S.follows.task ≡ t = same_task (agree_self R) (subst (λ q. Begun QR R q S.follows.task) path S.follows.begun) begun in
-      let so : QR.meaning p S.follows.task (answers (mine R p)) ≡ Next S.event.turns S.event.act =
-      subst (λ q. QR.meaning q S.follows.task (answers (mine R q)) ≡ Next S.event.turns S.event.act) path S.follows.asks in
-      (next_same S.event.turns turns S.event.act a (sym so ∙ ap (λ t. QR.meaning p t (answers (mine R p))) task ∙ asks)).1
-
-  -- the end of a task is an end in the run
-  end_event : {m n : Moment} {w : Sight} {R : Run} (T : Tied P arg rule C L m w R) (k : ℕ) (e : DeclaredEvent) (x : NextOf C m k e) (S : Next_of w R k n) (c : DeclaredEnding)
-      → e.action ≡ action.End c → (z : Ending) × (S.event.act ≡ End z)
-  end_event {m} {n} {w} {R} T k e x S c is =
-      subst (λ j. (y : NextOf C m j e) (S : Next_of w R j n) → (z : Ending) × (S.event.act ≡ End z)) x.stands.number
-      (λ y S. subst (λ a. (y : NextOf C m e.task (event_of e.task e.turns e.wants a)) → (z : Ending) × (S.event.act ≡ End z)) (sym is) (at_end S) y) x S
-    where
-      at_end : (S : Next_of w R e.task n) (y : NextOf C m e.task (event_of e.task e.turns e.wants (action.End c))) → (z : Ending) × (S.event.act ≡ End z)
-      at_end S y =
-          let a = end_asked code P arg rule L right T e.task e.turns e.wants c y in
-          let V = live code P arg rule L right T e.task e.turns e.wants (action.End c) y in
-          (a.0, asked_one T S V.path V.task.task e.turns (End a.0) V.there V.task.begun a.1)
 
   -- an entry is made by the site of a block
   entry_halt : {w : Sight} {h : Halt ℕ (ℕ × ℕ)} {g : HaltOf} → HaltLike w h g → (n : ℕ) (E : List Effect) → said g ≡ Next n (Do (Enter E))
@@ -351,88 +348,105 @@ module _ (code : Code) (P : PlainProgram) (arg : ℤ) (rule : Rule) (L : Declare
     led (k ∷ ks) m (before, leads, over_so e x can beyond is) none =
         absurd (let both : None ≡ Some (limited L) = sym none ∙ ap (λ (n : Moment). n.outcome) is in cc)
 
-    module _ (outcomes : OutputsAgree QR code L arg) where
-      -- the root has ended
-      root_ended : {ks : List ℕ} {m : Moment} {k : ℕ} (leads : LeadsTo code L arg ks m) (A : Led ks m) (e : DeclaredEvent) (x : NextOf C m k e)
-          (can : CanBeMade C m.world e x.stands.state) → MachineWithin code m.world e → (o : DeclaredOutcome)
-          → (after code m e x.stands.state x.stands.made).outcome ≡ Some o → Records QR (limits L) (k ∷ ks) (Some o)
-      root_ended {ks} {m} {k} leads A e x can within o is =
-          (come.0, ended (S.event ∷ A.run) ran come.1, told_so (outcomes (k ∷ ks) n (S.event ∷ A.run) come.0 o (m, leads, moves) is ran come.1))
-        where
-          n : Moment
-          n = after code m e x.stands.state x.stands.made
+    -- the root has ended
+    at_end : {ks : List ℕ} {m : Moment} {k : ℕ} (leads : LeadsTo code L arg ks m) (A : Led ks m) (turns : ℕ) (wants : Option (List PathEffect)) (c : DeclaredEnding)
+        (x : NextOf C m k (event_of k turns wants (action.End c))) (can : CanBeMade C m.world (event_of k turns wants (action.End c)) x.stands.state)
+        → MachineWithin code m.world (event_of k turns wants (action.End c)) → (o : DeclaredOutcome) → k ≡ 0
+        → (after code m (event_of k turns wants (action.End c)) x.stands.state x.stands.made).outcome ≡ Some o → Records QR (limits L) (k ∷ ks) (Some o)
+    at_end {ks} {m} {k} leads A turns wants c x can within o is_root is = (come, ended (S.event ∷ A.run) ran comes, told_so)
+      where
+        n : Moment
+        n = after code m (event_of k turns wants (action.End c)) x.stands.state x.stands.made
 
-          moves : Moves code L m k (after code m e x.stands.state x.stands.made)
-          moves = made_so e x can within refl
+        B : EndTold code P arg rule L right A.sight A.run k (after code m (event_of k turns wants (action.End c)) x.stands.state x.stands.made) c (out_of (task_at m.world.tree k))
+        B = end_told code P arg rule L right A.tied k turns wants c x
 
-          S : Next_of A.sight A.run k (after code m e x.stands.state x.stands.made)
-          S = any_event A.tied A.short k e x can
+        S : Next_of A.sight A.run k (after code m (event_of k turns wants (action.End c)) x.stands.state x.stands.made)
+        S = B.stepped
 
-          ran : Ran QR (limits L) (k ∷ ks) (S.event ∷ A.run)
-          ran = next_ran leads A e x can within moves S
+        ran : Ran QR (limits L) (k ∷ ks) (S.event ∷ A.run)
+        ran = next_ran leads A (event_of k turns wants (action.End c)) x can within (made_so (event_of k turns wants (action.End c)) x can within refl) S
 
-          ends : RootEnds e.task e.action
-          ends = root_ends m.world (world_after code m.world e) e.task e.action o is
+        path : S.event.path ≡ []
+        path = zero_path (A.tied.numbers.numbered k S.event.path S.there) is_root
 
-          end : (z : Ending) × (S.event.act ≡ End z)
-          end = end_event A.tied k e x S ends.ending ends.ends
+        seg : Seg (S.event ∷ A.run) [] (mine (S.event ∷ A.run) []) B.segment
+        seg = subst (λ p. Seg (S.event ∷ A.run) p (mine (S.event ∷ A.run) p) B.segment) path B.seg
 
-          come : (q : Outcome) × Comes QR (S.event ∷ A.run) q
-          come = each_comes_out QR (S.event ∷ A.run) end.0 (ran_legal QR (limits L) (k ∷ ks) (S.event ∷ A.run) ran) (record {
-            before = A.run;
-            event = S.event;
-            stands = now;
-            path = zero_path (A.tied.numbers.numbered k S.event.path S.there) (sym x.stands.number ∙ ends.root);
-            act = end.1;
-          })
+        come : Outcome
+        come = CameOut (ending_of (trapped B.segment) B.ending) (printed B.segment) (steps_of (S.event ∷ A.run)) (cells_of QR (S.event ∷ A.run))
 
-          entered : entry_step (mine (S.event ∷ A.run) []) ≡ 1
-          entered = entered_next {P = QR} S.event S.follows A.tied.numbers.entered
+        comes : Comes QR (S.event ∷ A.run) come
+        comes = record {
+          end = B.ending;
+          ended = record { before = A.run; event = S.event; stands = now; path = path; act = B.act };
+          sorted = B.segment;
+          in_order = seg_in_order seg;
+          events = seg_whole QR (disciplined P arg rule C) (S.event ∷ A.run) S.tied.faithful seg;
+          outcome = refl;
+        }
 
-          outcome_is : (z : MachineEnding) × (out : List ℕ) × (record { ending = z; out = out; steps = n.world.steps; cells = n.world.heap.used } ≡ o)
-          outcome_is = root_outcome m.world (world_after code m.world e) e.task e.action o is
+        entered : entry_step (mine (S.event ∷ A.run) []) ≡ 1
+        entered = entered_next {P = QR} S.event S.follows A.tied.numbers.entered
 
-          come_is : (z : MachineEnding) × (out : List ℕ)
-              × (told come.0 ≡ record { ending = z; out = out; steps = steps_of (S.event ∷ A.run); cells = cells_of QR (S.event ∷ A.run) })
-          come_is = (told_ending (ending_of (trapped come.1.sorted) come.1.end), printed come.1.sorted, ap told come.1.outcome)
+        told_so : o ≡ told come
+        told_so = sym (end_outcome m.world (world_after code m.world (event_of k turns wants (action.End c))) k c o is) ∙ (λ z. record { ending = ending_so z; out = out_so z; steps = steps_so z; cells = cells_so z })
+          where
+            ending_so : came_to c ≡ told_ending (ending_of (trapped B.segment) B.ending)
+            ending_so = came_like c B.ending B.like (trapped B.segment) B.trap
 
-          told_so : (o.ending ≡ (told come.0).ending) × (o.out ≡ (told come.0).out) → o ≡ told come.0
-          told_so same = λ z. record { ending = same.0 z; out = same.1 z; steps = steps_so z; cells = cells_so z }
-            where
-              steps_so : o.steps ≡ (told come.0).steps
-              steps_so =
-                  sym (ap (λ (u : DeclaredOutcome). u.steps) outcome_is.2) ∙ S.tied.costs.steps
-                  ∙ (let a = entered in omega (arith, a)) ∙ sym (ap (λ (u : DeclaredOutcome). u.steps) come_is.2)
+            out_so : out_of (task_at m.world.tree 0) ≡ printed B.segment
+            out_so = ap (λ j. out_of (task_at m.world.tree j)) (sym is_root) ∙ B.out_is
 
-              cells_so : o.cells ≡ (told come.0).cells
-              cells_so = sym (ap (λ (u : DeclaredOutcome). u.cells) outcome_is.2) ∙ S.tied.costs.cells ∙ sym (ap (λ (u : DeclaredOutcome). u.cells) come_is.2)
+            steps_so : n.world.steps ≡ steps_of (S.event ∷ A.run)
+            steps_so = S.tied.costs.steps ∙ (let a = entered in omega (arith, a))
 
-      finished : (ks : List ℕ) (m : Moment) → LeadsTo code L arg ks m → (o : DeclaredOutcome) → m.outcome ≡ Some o → Records QR (limits L) ks (Some o)
-      finished [] m (opened room is) o some = absurd (let both : None ≡ Some o = sym (ap (λ (n : Moment). n.outcome) is) ∙ some in cc)
-      finished [] m (no_room_so full is) o some = (
-        Limited L.steps L.cells,
-        no_room (λ w. (let a = w.cells in let z = total_nil event_cells in let s = main_so in omega (arith, a, z, s, full))),
-        (let both : Some (limited L) ≡ Some o = sym (ap (λ (n : Moment). n.outcome) is) ∙ some in let same : limited L ≡ o = cc in sym same),
-      )
-      finished (k ∷ ks) m (before, leads, made_so e x can within is) o some =
-          root_ended leads (led ks before leads x.unfinished) e x can within o (sym (ap (λ (n : Moment). n.outcome) is) ∙ some)
-      finished (k ∷ ks) m (before, leads, over_so e x can beyond is) o some = over_limit (led ks before leads x.unfinished)
-        where
-          over_limit : Led ks before → Records QR (limits L) (k ∷ ks) (Some o)
-          over_limit A =
-              let S = any_event A.tied A.short k e x can in (
-                Limited L.steps L.cells,
-                over k ks A.run S.event A.ran (ready_next leads A (over_so e x can beyond refl) S)
-                    (λ w. beyond ((within_next e A.tied S.tied S.follows refl).1 w)),
-                (let both : Some (limited L) ≡ Some o = sym (ap (λ (n : Moment). n.outcome) is) ∙ some in let same : limited L ≡ o = cc in sym same),
-              )
+            cells_so : n.world.heap.used ≡ cells_of QR (S.event ∷ A.run)
+            cells_so = S.tied.costs.cells
 
-      pub all_record : AllRecord QR code L arg
-      all_record ks m leads = go m.outcome refl
-        where
-          go : (o : Option DeclaredOutcome) → m.outcome ≡ o → Records QR (limits L) ks o
-          go None e = (let A = led ks m leads e in (A.run, A.ran))
-          go (Some o) e = finished ks m leads o e
+    root_ended : {ks : List ℕ} {m : Moment} {k : ℕ} (leads : LeadsTo code L arg ks m) (A : Led ks m) (e : DeclaredEvent) (x : NextOf C m k e)
+        (can : CanBeMade C m.world e x.stands.state) → MachineWithin code m.world e → (o : DeclaredOutcome)
+        → (after code m e x.stands.state x.stands.made).outcome ≡ Some o → Records QR (limits L) (k ∷ ks) (Some o)
+    root_ended {ks} {m} {k} leads A e x can within o is =
+        subst (λ e. (x : NextOf C m k e) → CanBeMade C m.world e x.stands.state → MachineWithin code m.world e
+        → (after code m e x.stands.state x.stands.made).outcome ≡ Some o → Records QR (limits L) (k ∷ ks) (Some o)) (sym event_so)
+        (λ x can within is. at_end leads A e.turns e.wants ends.ending x can within o (sym number ∙ ends.root) is) x can within is
+      where
+        ends : RootEnds e.task e.action
+        ends = root_ends m.world (world_after code m.world e) e.task e.action o is
+
+        number : e.task ≡ k
+        number = x.stands.number
+
+        event_so : e ≡ event_of k e.turns e.wants (action.End ends.ending)
+        event_so = λ z. record { task = x.stands.number z; turns = e.turns; wants = e.wants; action = ends.ends z }
+
+    finished : (ks : List ℕ) (m : Moment) → LeadsTo code L arg ks m → (o : DeclaredOutcome) → m.outcome ≡ Some o → Records QR (limits L) ks (Some o)
+    finished [] m (opened room is) o some = absurd (let both : None ≡ Some o = sym (ap (λ (n : Moment). n.outcome) is) ∙ some in cc)
+    finished [] m (no_room_so full is) o some = (
+      Limited L.steps L.cells,
+      no_room (λ w. (let a = w.cells in let z = total_nil event_cells in let s = main_so in omega (arith, a, z, s, full))),
+      (let both : Some (limited L) ≡ Some o = sym (ap (λ (n : Moment). n.outcome) is) ∙ some in let same : limited L ≡ o = cc in sym same),
+    )
+    finished (k ∷ ks) m (before, leads, made_so e x can within is) o some =
+        root_ended leads (led ks before leads x.unfinished) e x can within o (sym (ap (λ (n : Moment). n.outcome) is) ∙ some)
+    finished (k ∷ ks) m (before, leads, over_so e x can beyond is) o some = over_limit (led ks before leads x.unfinished)
+      where
+        over_limit : Led ks before → Records QR (limits L) (k ∷ ks) (Some o)
+        over_limit A =
+            let S = any_event A.tied A.short k e x can in (
+              Limited L.steps L.cells,
+              over k ks A.run S.event A.ran (ready_next leads A (over_so e x can beyond refl) S)
+                  (λ w. beyond ((within_next e A.tied S.tied S.follows refl).1 w)),
+              (let both : Some (limited L) ≡ Some o = sym (ap (λ (n : Moment). n.outcome) is) ∙ some in let same : limited L ≡ o = cc in sym same),
+            )
+
+    pub all_record : AllRecord QR code L arg
+    all_record ks m leads = go m.outcome refl
+      where
+        go : (o : Option DeclaredOutcome) → m.outcome ≡ o → Records QR (limits L) ks o
+        go None e = (let A = led ks m leads e in (A.run, A.ran))
+        go (Some o) e = finished ks m leads o e
 
 -- of compiled code
 module _ (code : Code) (P : PlainProgram) (L : DeclaredLimits) (arg : ℤ) (is : plain_code code ≡ compiled P) (resolved : Resolved P) (main : HasMain P) (few : L.steps ≤ 20000000) where
@@ -447,15 +461,14 @@ module _ (code : Code) (P : PlainProgram) (L : DeclaredLimits) (arg : ℤ) (is :
     first m (opened room so) none = (first_sight code P arg rule L is resolved main, subst (λ m. Tied P arg rule (plain_code code) L m (first_sight code P arg rule L is resolved main) []) (sym so) (first_tied code P arg rule L is resolved main))
     first m (no_room_so full so) none = absurd (let both : None ≡ Some (limited L) = sym none ∙ ap (λ (n : Moment). n.outcome) so in cc)
 
-    recorded : Entering code P arg rule L right (fields_for code P is) FJ → OutputsAgree (Q P arg rule (plain_code code)) code L arg
-        → AllRecord (Q P arg rule (plain_code code)) code L arg
-    recorded entering outcomes = all_record code P arg rule L right (fields_for code P is) FJ few first (main_size code P arg rule L is resolved main) entering outcomes
+    recorded : Entering code P arg rule L right (fields_for code P is) FJ → AllRecord (Q P arg rule (plain_code code)) code L arg
+    recorded entering = all_record code P arg rule L right (fields_for code P is) FJ few first (main_size code P arg rule L is resolved main) entering
 
   pub records_runs : RecordsRuns code P L arg
   records_runs = record {
-    aside = λ outcomes. recorded lets_all (λ ks m n n' k leads moves A S E act. record { clear = λ o B b F block open_so. refl }) outcomes;
-    without = λ none outcomes. recorded lets (entering_none code P arg lets L right (fields_for code P is) FJ none) outcomes;
-    blocks = λ agree outcomes. recorded lets (entering_so code P arg lets L right (fields_for code P is) FJ agree) outcomes;
+    aside = recorded lets_all (λ ks m n n' k leads moves A S E act. record { clear = λ o B b F block open_so. refl });
+    without = λ none. recorded lets (entering_none code P arg lets L right (fields_for code P is) FJ none);
+    blocks = λ agree. recorded lets (entering_so code P arg lets L right (fields_for code P is) FJ agree);
   }
 
 pub machines_record : MachinesRecord

@@ -28,6 +28,8 @@ use Rattle.dpj_gen.specs.Whole.{compiled, number_in}
 use Rattle.dpj_gen.proofs.Whole.{laid_out, members_are_compiled}
 use Rattle.dpj_runs.specs.Actions.{Rule}
 use Rattle.dpj_runs.specs.Objects.{Name, Path, size}
+use Rattle.dpj_recorded.proofs.Segments.{Seg, seg_none}
+use Rattle.dpj_recorded.proofs.Sorted.{printed_nil, trapped_nil}
 use Rattle.dpj_runs.specs.Runs.{answers, event_cells, event_steps, root, thing_of, things}
 use Rattle.dpj_runs.specs.Schedules.{Numbered, root_is}
 use Rattle.dpj_runs.proofs.Cost.{total_nil}
@@ -269,6 +271,7 @@ module _ (code : Code) (P : PlainProgram) (arg : ℤ) (rule : Rule) (L : Limits)
         task = task;
         origin = refl;
         scope = tt;
+        out = record { segment = []; seg = subst (λ es. Seg [] [] es []) (sym (mine_nil [])) seg_none; out_is = sym printed_nil; fine = inl trapped_nil };
       }
 
       live_root : (k : ℕ) (x : Live) → get only_root.tasks k ≡ Some x → k ≡ 0

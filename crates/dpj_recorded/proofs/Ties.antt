@@ -32,6 +32,7 @@ use Rattle.dpj_recorded.proofs.Sights.{Sight, Wider, StateLike, state_later, Sta
 use Rattle.dpj_recorded.proofs.Legs.{StandsAfter}
 use Rattle.dpj_recorded.proofs.Forking.{AtJoin}
 use Rattle.dpj_recorded.proofs.Heaps.{HeapTied}
+use Rattle.dpj_recorded.proofs.Outs.{OutLive}
 
 -- an end that a branch has left is that of its task
 pub record EndTied (w : Sight) (R : Run) (q : Path) (n b : ℕ) (e : TaskEnd) : Type 0 where
@@ -117,6 +118,7 @@ module _ (P : PlainProgram) (arg : ℤ) (rule : Rule) (C : PlainCode) where
     pub task : TaskTied w R path runs
     pub origin : OriginTied w R tasks path x.origin
     pub scope : ScopeTied w R path runs.state x.state
+    pub out : OutLive R path runs.state x.out x.state
 
   -- what the run has cost
   pub record CostsTied (L : Limits) (R : Run) (w : World) : Type 0 where

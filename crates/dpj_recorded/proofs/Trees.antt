@@ -23,6 +23,7 @@ use Rattle.dpj_machine.specs.Replay.{Moment, with_task}
 use Rattle.dpj_machine.specs.Running.{Running}
 use Rattle.dpj_recorded.proofs.Sights.{Sight, Wider}
 use Rattle.dpj_recorded.proofs.Heaps.{HeapTied}
+use Rattle.dpj_recorded.proofs.Outs.{OutLive, out_later}
 use Rattle.dpj_recorded.proofs.Ties.{Q, TaskTied, ScopeTied, BranchTied, OriginTied, LiveTied, NumbersTied, CostsTied, Tied, task_later, scope_later}
 
 -- tasks with one in the place of what was there
@@ -143,6 +144,7 @@ module _ (P : PlainProgram) (arg : ℤ) (rule : Rule) (C : PlainCode) (L : Limit
       task = task_later P arg rule C wide R e away V.task;
       origin = origin;
       scope = scope_later P arg rule C wide R e V.path V.runs.state x.state away (let t = total_step event_steps e R in omega (arith, t)) V.scope;
+      out = out_later R e V.path V.runs.state x.out x.state away V.out;
     }
       where
         away : e.path ≡ V.path → ⊥
@@ -168,7 +170,7 @@ module _ (P : PlainProgram) (arg : ℤ) (rule : Rule) (C : PlainCode) (L : Limit
       (no_begin : one_begin e.act ≡ 0) (heap : HeapTied (Q P arg rule C) w (e ∷ R) n.world.heap.objects) (begun_same : n.world.tree.begun ≡ m.world.tree.begun)
       (others : (j : ℕ) → j ≢ k → get n.world.tree.tasks j ≡ get m.world.tree.tasks j) (y_is : get n.world.tree.tasks k ≡ Some y) (origin_same : y.origin ≡ x.origin)
       (beside_it : (j : ℕ) → j ≢ k → n.tasks j ≡ m.tasks j) (t : Running) (t_is : n.tasks k ≡ Some t) (task : TaskTied P arg rule C w (e ∷ R) e.path t)
-      (scope : ScopeTied P arg rule C w (e ∷ R) e.path t.state y.state)
+      (scope : ScopeTied P arg rule C w (e ∷ R) e.path t.state y.state) (out : OutLive (e ∷ R) e.path t.state y.out y.state)
       (childless : (j : ℕ) (z : Live) (o : Origin) → j ≢ k → get m.world.tree.tasks j ≡ Some z → z.origin ≡ Some o → o.parent ≢ k)
       (costs : Costs m n e) where
     V : LiveTied P arg rule C v R m.world.tree.tasks m.tasks k x
@@ -188,6 +190,7 @@ module _ (P : PlainProgram) (arg : ℤ) (rule : Rule) (C : PlainCode) (L : Limit
           (origin_later wide T.numbers e k own m.world.tree.tasks n.world.tree.tasks e.path x.origin (λ z is. (not_itself v R m.world.tree.tasks k V.there x.origin V.origin z is, others z.parent (not_itself v R m.world.tree.tasks k V.there x.origin V.origin z is)))
           (subst (λ p. OriginTied P arg rule C v R m.world.tree.tasks p x.origin) own_path V.origin));
       scope = scope;
+      out = out;
     }
 
     live_next : (j : ℕ) (z : Live) → get n.world.tree.tasks j ≡ Some z → LiveTied P arg rule C w (e ∷ R) n.world.tree.tasks n.tasks j z

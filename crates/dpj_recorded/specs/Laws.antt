@@ -58,19 +58,14 @@ abbrev pub BlocksAgree : Program → Code → DeclaredLimits → ℤ → Type 0
 BlocksAgree Q code L argument = (ks : List ℕ) (m n : Moment) (k : ℕ) (R : Run) (e : Event) (E : List Effect) → LeadsTo code L argument ks m → Moves code L m k n
     → Ran Q (limits L) ks R → Follows Q R e → Numbered R k e.path → e.act ≡ Do (Enter E) → MayEnter Q.rule R e.path E
 
--- and where the root has ended, the ending and the output of the machine are those of the run, put into the order of elision
-abbrev pub OutputsAgree : Program → Code → DeclaredLimits → ℤ → Type 0
-OutputsAgree Q code L argument = (ks : List ℕ) (m : Moment) (R : Run) (q : Outcome) (o : DeclaredOutcome) → LeadsTo code L argument ks m → m.outcome ≡ Some o
-    → Ran Q (limits L) ks R → Comes Q R q → (o.ending ≡ (told q).ending) × (o.out ≡ (told q).out)
-
 -- of code that is compiled from a resolved program with a `main`
 pub record RecordsRuns (code : Code) (P : PlainProgram) (L : DeclaredLimits) (argument : ℤ) : Type 0 where
   -- blocks aside
-  pub aside : OutputsAgree (blocks_aside (stepped P argument)) code L argument → AllRecord (blocks_aside (stepped P argument)) code L argument
+  pub aside : AllRecord (blocks_aside (stepped P argument)) code L argument
   -- where there are none
-  pub without : HasNoBlocks (plain_code code) → OutputsAgree (stepped P argument) code L argument → AllRecord (stepped P argument) code L argument
+  pub without : HasNoBlocks (plain_code code) → AllRecord (stepped P argument) code L argument
   -- and where they agree
-  pub blocks : BlocksAgree (stepped P argument) code L argument → OutputsAgree (stepped P argument) code L argument → AllRecord (stepped P argument) code L argument
+  pub blocks : BlocksAgree (stepped P argument) code L argument → AllRecord (stepped P argument) code L argument
 
 abbrev pub MachinesRecord : Type 0
 MachinesRecord =
