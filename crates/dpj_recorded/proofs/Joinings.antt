@@ -47,7 +47,6 @@ use Rattle.dpj_recorded.proofs.Forking.{Kept, step_keeps}
 use Rattle.dpj_recorded.proofs.Wrapping.{first_numbers, next_numbers}
 use Rattle.dpj_runs.specs.Order.{printed, trapped}
 use Rattle.dpj_runs.proofs.Mine.{mine_same}
-use Rattle.dpj_code.specs.Legs.{Asks as AsksAt}
 use Rattle.dpj_code.specs.Machine.{State, Off, Waits, step}
 use Rattle.dpj_meaning.specs.Actions as meaning
 use Rattle.dpj_meaning.specs.Actions.{Fell}

@@ -1,12 +1,12 @@
 -- What a live task of a machine has printed is what its segment of the run prints.
-use Rattle.std.proofs.Common.{◌≡◌, ◌≤◌, ◌<◌, ◌⊎◌, inl, inr, ⊎_elim, ℕ, zero, suc, ◌+◌, Bool, true, false, IsTrue, List, [], ◌∷◌, ◌++◌, length, refl, sym, ap, ap₂, ◌∙◌, subst, arith, append_assoc, append-nil, length-append, Option, Some, None, slice_get}
+use Rattle.std.proofs.Common.{◌≡◌, ◌⊎◌, inl, inr, ℕ, zero, suc, ◌+◌, false, IsTrue, List, [], ◌∷◌, ◌++◌, length, refl, sym, ap, ap₂, ◌∙◌, subst, arith, append_assoc, append-nil, length-append, Option, Some, None, slice_get}
 use Rattle.std.specs.List.{list_all}
 use Rattle.std.specs.Prelude.{is_some}
 use Rattle.dpj_base.specs.declared.place.Place.{Place}
 use Rattle.dpj_base.specs.declared.value.Trap.{Trap}
 use Rattle.dpj_meaning.specs.Actions as meaning
 use Rattle.dpj_code.specs.Machine.{State, Off}
-use Rattle.dpj_runs.specs.Actions.{Begin, End, Ending, Join}
+use Rattle.dpj_runs.specs.Actions.{Begin, End, Ending}
 use Rattle.dpj_runs.specs.Objects.{Path}
 use Rattle.dpj_runs.specs.Order.{printed, printed_by, trap_in, trapped}
 use Rattle.dpj_runs.specs.Runs.{Event, Run, Upto, later, mine, now}

@@ -1,9 +1,8 @@
 -- Wherever a schedule leads a machine on compiled code, it records a run of the source.
-use Rattle.std.proofs.Common.{◌≡◌, ◌≤◌, inl, inr, ℕ, zero, suc, ◌+◌, ◌==◌, if◌then◌else◌, ℤ, pos, negsuc, Bool, true, false, cond, nat_lt, List, [], ◌∷◌, length, refl, sym, ap, ◌∙◌, subst, Option, Some, None, slice_get, arith}
+use Rattle.std.proofs.Common.{◌≡◌, ◌≤◌, inl, inr, ℕ, zero, suc, ◌+◌, ◌==◌, if◌then◌else◌, ℤ, pos, negsuc, Bool, true, false, cond, nat_lt, List, [], ◌∷◌, length, refl, sym, ap, ◌∙◌, subst, Option, Some, None, arith}
 use Rattle.std.proofs.lemmas.Bool.Decides.{eqb_tells}
 use Rattle.std.specs.Prelude.{replicate}
 use Rattle.dpj_base.specs.declared.effect.Effect.{Effect as PathEffect}
-use Rattle.dpj_base.specs.declared.outcome.Ending.{Ending as MachineEnding}
 use Rattle.dpj_base.specs.declared.outcome.Limits.{Limits as DeclaredLimits}
 use Rattle.dpj_base.specs.declared.outcome.Outcome.{Outcome as DeclaredOutcome}
 use Rattle.dpj_typed.specs.Plain.{PlainProgram}
@@ -16,17 +15,15 @@ use Rattle.dpj_gen.proofs.Legs.{legs_are_right}
 use Rattle.dpj_gen.specs.Compiled.{SameReply}
 use Rattle.dpj_gen.specs.Resolved.{Resolved}
 use Rattle.dpj_gen.specs.Whole.{compiled}
-use Rattle.dpj_runs.specs.Actions.{Action, Do, Ending, Enter, End, Next, Program, Rule, Task}
+use Rattle.dpj_runs.specs.Actions.{Do, Ending, Enter, Next, Program, Rule}
 use Rattle.dpj_runs.specs.Blocks.{MayEnter}
 use Rattle.dpj_runs.specs.Objects.{Effect, Path, size}
 use Rattle.dpj_runs.specs.Order.{Comes, Limited, Outcome, ending_of, printed, trapped}
 use Rattle.dpj_runs.specs.Runs.{Begun, Event, Follows, Run, answers, cells_of, entry_step, event_cells, event_steps, mine, now, steps_of}
 use Rattle.dpj_runs.specs.Schedules.{Numbered, Ran, Ready, Within, branch_is, ended, no_room, over, root_is}
 use Rattle.dpj_runs.proofs.Cost.{total_nil}
-use Rattle.dpj_runs.proofs.Faithful.{agree_self, next_same, same_task}
+use Rattle.dpj_runs.proofs.Faithful.{agree_self, same_task}
 use Rattle.dpj_runs.proofs.Mine.{mine_nil}
-use Rattle.dpj_runs.proofs.Schedules.{ran_legal}
-use Rattle.dpj_runs.proofs.Theorems.{each_comes_out}
 use Rattle.dpj_steps.specs.Interfering.{lets}
 use Rattle.dpj_steps.specs.Steps.{named_by}
 use Rattle.dpj_going.specs.Going.{HasMain}

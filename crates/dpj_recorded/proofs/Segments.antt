@@ -1,12 +1,10 @@
 -- The events of a task up to some moment, with all events of the branches that it has begun and joined, in the order of elision.
-use Rattle.std.proofs.Common.{◌≡◌, ◌≤◌, ◌<◌, ◌⊎◌, inl, inr, ⊎_elim, ℕ, zero, suc, ◌+◌, List, [], ◌∷◌, ◌++◌, length, refl, sym, ap, ap₂, ◌∙◌, subst, arith, append_assoc, append-nil, length-append}
-use Rattle.std.proofs.lemmas.Bool.{cases_eq}
-use Rattle.dpj_runs.specs.Actions.{Begin, End, Ending, Program, Task}
+use Rattle.std.proofs.Common.{◌≡◌, ◌≤◌, ◌<◌, ◌⊎◌, inl, inr, ⊎_elim, ℕ, suc, ◌+◌, List, [], ◌∷◌, ◌++◌, length, refl, sym, ap, ap₂, ◌∙◌, subst, arith, append_assoc, append-nil, length-append}
+use Rattle.dpj_runs.specs.Actions.{Begin, End, Ending}
 use Rattle.dpj_runs.specs.Objects.{Path}
 use Rattle.dpj_runs.specs.Order.{InOrder, Lex, level_with, lower, position, shorter, way}
-use Rattle.dpj_runs.specs.Runs.{Begun, Event, Faithful, Run, Upto, branch, count, later, mine, now, root}
-use Rattle.dpj_runs.proofs.Carry.{begun_at}
-use Rattle.dpj_runs.proofs.Mine.{Found, found, mine_nil, mine_other, mine_same, mine_upto, path_cases}
+use Rattle.dpj_runs.specs.Runs.{Event, Run, Upto, count, later, mine, now}
+use Rattle.dpj_runs.proofs.Mine.{mine_nil, mine_other, mine_same, mine_upto, path_cases}
 use Rattle.dpj_runs.proofs.Upto.{upto_none, upto_split, upto_trans}
 
 pub data Seg (R : Run) : Path → Run → Run → Type 0 where
@@ -110,7 +108,7 @@ module _ {p : Path} {S : Run} {many : ℕ} (placed : (x : Event) (X : Run) → U
           let P = placed x X h in
           let w = way_below zs u p in
           let at : position x.path (count X x.path) ≡ way p ++ suc (u.0 + u.1) ∷ (w.0 ++ count X x.path ∷ []) =
-              ap (λ q. way q ++ count X x.path ∷ []) e ∙ ap (λ l. l ++ count X x.path ∷ []) w.1 ∙ append_assoc (way p) (suc (u.0 + u.1) ∷ w.0) (count X x.path ∷ []) in
+          ap (λ q. way q ++ count X x.path ∷ []) e ∙ ap (λ l. l ++ count X x.path ∷ []) w.1 ∙ append_assoc (way p) (suc (u.0 + u.1) ∷ w.0) (count X x.path ∷ []) in
           let same = head_same (way p) P.number (suc (u.0 + u.1)) P.rest (w.0 ++ count X x.path ∷ []) (sym P.is ∙ at) in
           let low = P.low in
           omega (arith, same, low, l)
@@ -181,7 +179,7 @@ order_next {p = p} {es} {S} e a h placed rec y x Y X u w = ⊎_elim first (λ k.
     first k =
         let P = placed x X (subst (λ Z. Upto (x ∷ X) Z) k.1 w) in
         let at : way p ++ length es ∷ [] ≡ position y.path (count Y y.path) =
-            sym (ap₂ (λ (z : Event) (Z : Run). position z.path (count Z z.path)) k.0 k.1 ∙ ap (λ q. position q (count S q)) a ∙ ap (λ l. position p (length l)) (seg_mine h)) in
+        sym (ap₂ (λ (z : Event) (Z : Run). position z.path (count Z z.path)) k.0 k.1 ∙ ap (λ q. position q (count S q)) a ∙ ap (λ l. position p (length l)) (seg_mine h)) in
         subst (λ l. Lex (position x.path (count X x.path)) l) at (subst (λ l. Lex l (way p ++ length es ∷ [])) (sym P.is) (lex_lower (way p) P.number (length es) P.rest [] P.low))
 
 order_begin : {R : Run} {p : Path} {es S es' U : Run} (g : Event) (n b : ℕ) → g.path ≡ p → length es ≡ suc (n + b) → Seg R ((n, b) ∷ p) es' U → Seg R p es S
@@ -199,14 +197,14 @@ order_begin {p = p} {es} {S} {es'} {U} g n b a d h k rec_h rec_k inner outer y x
     in_child i (inr j) =
         let r = rec_h y i.0 i.2 in
         let py : position y.path (count Y y.path) ≡ way p ++ suc (n + b) ∷ r.number ∷ r.rest =
-            ap (λ Z. position y.path (count Z y.path)) i.1 ∙ child_placed (length es) g n b a d h rec_k y i.0 i.2 r.number r.rest r.is in
+        ap (λ Z. position y.path (count Z y.path)) i.1 ∙ child_placed (length es) g n b a d h rec_k y i.0 i.2 r.number r.rest r.is in
         subst (λ l. Lex (position x.path (count X x.path)) l) (sym py) (⊎_elim (begin r.number r.rest) (before r.number r.rest) (upto_split j))
       where
         begin : (number : ℕ) (rest : List ℕ) → (x ≡ g) × (X ≡ S) → Lex (position x.path (count X x.path)) (way p ++ suc (n + b) ∷ number ∷ rest)
         begin number rest e =
             let at : position x.path (count X x.path) ≡ way p ++ suc (n + b) ∷ [] =
-                ap₂ (λ (z : Event) (Z : Run). position z.path (count Z z.path)) e.0 e.1 ∙ ap (λ q. position q (count S q)) a
-                ∙ ap (λ l. position p (length l)) (seg_mine k) ∙ ap (λ c. way p ++ c ∷ []) d in
+            ap₂ (λ (z : Event) (Z : Run). position z.path (count Z z.path)) e.0 e.1 ∙ ap (λ q. position q (count S q)) a
+            ∙ ap (λ l. position p (length l)) (seg_mine k) ∙ ap (λ c. way p ++ c ∷ []) d in
             subst (λ l. Lex l (way p ++ suc (n + b) ∷ number ∷ rest)) (sym at) (lex_under (way p) (suc (n + b)) number rest)
 
         before : (number : ℕ) (rest : List ℕ) → Upto (x ∷ X) S → Lex (position x.path (count X x.path)) (way p ++ suc (n + b) ∷ number ∷ rest)

@@ -1,5 +1,5 @@
 -- A whole segment has the events of its run; and what it prints.
-use Rattle.std.proofs.Common.{◌≡◌, ◌≤◌, ◌<◌, ◌⊎◌, inl, inr, ⊎_elim, ℕ, zero, suc, ◌+◌, List, [], ◌∷◌, ◌++◌, length, refl, sym, ap, ap₂, ◌∙◌, subst, arith, append_assoc, append-nil, length-append, Option, Some, None}
+use Rattle.std.proofs.Common.{◌≡◌, ◌<◌, ◌⊎◌, inl, inr, ⊎_elim, ℕ, suc, ◌+◌, List, [], ◌∷◌, ◌++◌, length, refl, sym, ap, ap₂, ◌∙◌, subst, arith, append_assoc, append-nil, Option, Some, None}
 use Rattle.std.proofs.lemmas.Bool.{cases_eq, cases_lt}
 use Rattle.dpj_base.specs.declared.place.Place.{Place}
 use Rattle.dpj_base.specs.declared.value.Trap.{Trap}
@@ -7,7 +7,7 @@ use Rattle.dpj_runs.specs.Actions.{Action, Begin, Do, End, Ending, Fork, Join, P
 use Rattle.dpj_runs.specs.Meaning.{Disciplined}
 use Rattle.dpj_runs.specs.Objects.{Path}
 use Rattle.dpj_runs.specs.Order.{printed, printed_by, trap_in, trapped}
-use Rattle.dpj_runs.specs.Runs.{Begun, Ended, Event, Faithful, Run, Upto, branch, count, later, mine, now, root}
+use Rattle.dpj_runs.specs.Runs.{Begun, Event, Faithful, Run, Upto, branch, count, mine, now, root}
 use Rattle.dpj_runs.proofs.Between.{stands_in}
 use Rattle.dpj_runs.proofs.Carry.{begun_at}
 use Rattle.dpj_runs.proofs.Mine.{found, mine_at, mine_nil, mine_other, mine_same}
@@ -119,9 +119,12 @@ module _ (P : Program) (D : Disciplined P) (R : Run) (faithful : Faithful P R) w
 
           at : EventsAt R p es S ys u → EventsAt R p (g ∷ es) (U ++ g ∷ S) ys u
           at (inl m) = inl (same ∙ m)
-          at (inr m) = inr (same ∙ m.0, λ f hs up act len. ⊎_elim
-              (λ i. (let bs : b ≡ u.1 = same_begin b u.1 (sym c ∙ ap (λ (z : Event). z.act) (sym i.0) ∙ act) in
-              let ls : length hs ≡ length es = ap length i.1 in apart (pair_is u n b (omega (arith, bs, ls, d, len)) (sym bs)))) (λ i. m.1 f hs i act len) (upto_split up))
+          at (inr m) = inr (
+            same ∙ m.0,
+            λ f hs up act len. ⊎_elim
+                (λ i. (let bs : b ≡ u.1 = same_begin b u.1 (sym c ∙ ap (λ (z : Event). z.act) (sym i.0) ∙ act) in
+                let ls : length hs ≡ length es = ap length i.1 in apart (pair_is u n b (omega (arith, bs, ls, d, len)) (sym bs)))) (λ i. m.1 f hs i act len) (upto_split up),
+          )
 
   seg_events : {p : Path} {es S : Run} → Seg R p es S → (ys : Path) (u : ℕ × ℕ) → EventsAt R p es S ys u
   seg_events {p} seg_none ys u = inr (mine_nil (ys ++ u ∷ p), λ g hs up act len. upto_none up)

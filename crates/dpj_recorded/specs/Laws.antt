@@ -14,7 +14,7 @@ use Rattle.dpj_gen.specs.Whole.{compiled}
 use Rattle.dpj_runs.specs.Actions.{Do, Ending, Enter, Program, Rule, Returned, Assigned, Trapped}
 use Rattle.dpj_runs.specs.Blocks.{MayEnter, with_rule}
 use Rattle.dpj_runs.specs.Objects.{Effect}
-use Rattle.dpj_runs.specs.Order.{Came as came_out, Comes, Limited, Outcome}
+use Rattle.dpj_runs.specs.Order.{Came as came_out, Limited, Outcome}
 use Rattle.dpj_runs.specs.Runs.{Event, Follows, Run}
 use Rattle.dpj_runs.specs.Schedules.{Finished, Limits, Numbered, Ran}
 use Rattle.dpj_steps.specs.Steps.{stepped}
