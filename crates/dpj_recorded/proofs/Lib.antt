@@ -17,6 +17,7 @@ pub mod Endings
 pub mod Begins
 pub mod Starting
 pub mod Recorded
+pub mod Rules
 pub mod Segments
 pub mod Sorted
 pub mod Outs
