@@ -1,5 +1,5 @@
 -- Effects of a machine interfere where those of the run do that they are like, if there are no variables in them.
-use Rattle.std.proofs.Common.{◌≡◌, inl, inr, fold, ℕ, zero, suc, ◌==◌, Bool, true, false, cond, not, ◌+◌, ◌&&◌, ◌||◌, nat_lt, List, [], ◌∷◌, ◌++◌, map, length, reverse, refl, sym, ap, ap₂, ◌∙◌, subst, Option, Some, None, slice_get, arith}
+use Rattle.std.proofs.Common.{◌≡◌, inl, inr, fold, ℕ, suc, ◌==◌, Bool, true, false, cond, not, ◌+◌, ◌&&◌, ◌||◌, nat_lt, List, [], ◌∷◌, ◌++◌, map, reverse, refl, sym, ap, ap₂, ◌∙◌, subst, Some, slice_get, arith}
 use Rattle.std.proofs.lemmas.Bool.Decides.{eqb_tells}
 use Rattle.std.proofs.lemmas.List.{reverse-append}
 use Rattle.dpj_base.specs.Apart as base
@@ -8,16 +8,18 @@ use Rattle.dpj_base.specs.Regions as regions
 use Rattle.dpj_base.specs.declared.effect.Effect.{Effect}
 use Rattle.dpj_base.specs.declared.elems.Elem.{Elem}
 use Rattle.dpj_base.specs.declared.elems.Elem.TheVariants as e
+use Rattle.dpj_base.specs.declared.elems.Index.{Index}
 use Rattle.dpj_base.specs.declared.elems.Index.TheVariants as index
+use Rattle.dpj_base.specs.declared.effect.Access.TheVariants.{Write}
 use Rattle.dpj_base.specs.declared.region.Head.TheVariants.{Root}
 use Rattle.dpj_base.specs.declared.region.Rpl.{Rpl}
-use Rattle.dpj_runs.specs.Objects.{Path, Part, Region, Made, Unmade, LocalRegion, same_path}
+use Rattle.dpj_runs.specs.Objects.{Path, Part, Region_name, Any_index, Region, LocalRegion, same_path}
 use Rattle.dpj_runs.specs.Objects.{Effect as RunEffect}
 use Rattle.dpj_runs.proofs.Mine.{same_path_eq}
 use Rattle.dpj_steps.specs.Interfering as run
 use Rattle.dpj_legs.specs.Names.{plain_part, plain_effect}
 use Rattle.dpj_locks.specs.Locks as locks
-use Rattle.dpj_recorded.proofs.Sights.{Sight, Each, each_none, each_more, each_length, LocalLike, made_like, unmade_like, PartLike, a_name, a_number, a_local, own_index, any_index, any_parts}
+use Rattle.dpj_recorded.proofs.Sights.{Sight, Each, each_none, each_more, each_length, LocalLike, made_like, unmade_like, EffectsLike, RegionLike, PartLike, a_name, a_number, a_local, own_index, any_index, any_parts}
 
 -- no variable
 abbrev pub IsFixed : Elem → Type 0
@@ -35,6 +37,14 @@ ElemLike w x p = IsFixed x × PartLike w (plain_part x) p
 
 abbrev pub ElemsLike : Sight → List Elem → Region → Type 0
 ElemsLike w xs ps = Each (ElemLike w) xs ps
+
+abbrev pub AllFixed : List Elem → Type 0
+AllFixed [] = Unit {0}
+AllFixed (x ∷ xs) = IsFixed x × AllFixed xs
+
+abbrev pub NoVariables : List Effect → Type 0
+NoVariables [] = Unit {0}
+NoVariables (f ∷ fs) = AllFixed f.rpl.elems × NoVariables fs
 
 -- one task has one number
 abbrev pub OneNumber : Sight → Type 0
@@ -224,3 +234,30 @@ module _ (w : Sight) (one : OneNumber w) where
   pub lists_like : {es fs : List Effect} {gs hs : List RunEffect} → Each Noted es gs → Each Noted fs hs → locks.lists_interfere es fs ≡ run.lists_interfere gs hs
   lists_like each_none k = refl
   lists_like (each_more h t) k = ap₂ (λ a b. a || b) (some_like h k) (lists_like t k)
+
+  all_elems : (xs : List Elem) {q : Region} → AllFixed xs → RegionLike w (map plain_part xs) q → ElemsLike w xs q
+  all_elems [] f each_none = each_none
+  all_elems (x ∷ xs) f (each_more h t) = each_more (f.0, h) (all_elems xs f.1 t)
+
+  pub all_noted : (es : List Effect) {gs : List RunEffect} → locks.AllRoot es → NoVariables es → EffectsLike w (map plain_effect es) gs → Each Noted es gs
+  all_noted [] roots fixed each_none = each_none
+  all_noted (f ∷ fs) roots fixed (each_more h t) =
+      each_more (record { access = h.access; root = roots.0; elems = all_elems f.rpl.elems fixed.0 h.region }) (all_noted fs roots.1 fixed.1 t)
+
+-- With variables they don't: the machine's specs let it note `write A:[v]` and `write A:[v']` for two entries that both write `A:[?]`. It holds these
+-- two apart, and the run doesn't.
+abbrev pub an_entry : Index → Effect
+an_entry i = record { access = Write; rpl = record { head = Root; elems = e.Name 0 ∷ e.At i ∷ [] }; atomic = false }
+
+abbrev pub meant : RunEffect
+meant = record { access = Write; region = Region_name 0 ∷ Any_index ∷ [] }
+
+pub apart_in_the_machine : locks.lists_interfere (an_entry (index.Variable 0) ∷ []) (an_entry (index.Renamed 0) ∷ []) ≡ false
+unfolding base_effects.interferes base.apart
+apart_in_the_machine = refl
+
+pub one_meaning : plain_effect (an_entry (index.Variable 0)) ≡ plain_effect (an_entry (index.Renamed 0))
+one_meaning = refl
+
+pub not_in_the_run : run.lists_interfere (meant ∷ []) (meant ∷ []) ≡ true
+not_in_the_run = refl

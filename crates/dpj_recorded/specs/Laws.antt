@@ -54,6 +54,7 @@ abbrev pub HasNoBlocks : PlainCode → Type 0
 HasNoBlocks C = (s : ℕ) (effects : List PathEffect) → slice_get C.sites s ≡ Some (block_site effects) → ⊥
 
 -- What isn't proved here, of a run that is recorded up to some moment: where a machine makes an entry, so may the run
+-- (As the specs of a machine stand, it is false where two entries write regions with `[?]`: see the end of proofs/Rules.)
 abbrev pub BlocksAgree : Program → Code → DeclaredLimits → ℤ → Type 0
 BlocksAgree Q code L argument = (ks : List ℕ) (m n : Moment) (k : ℕ) (R : Run) (e : Event) (E : List Effect) → LeadsTo code L argument ks m → Moves code L m k n
     → Ran Q (limits L) ks R → Follows Q R e → Numbered R k e.path → e.act ≡ Do (Enter E) → MayEnter Q.rule R e.path E
