@@ -9,6 +9,7 @@ use Rattle.dpj_classes.specs.declared.table.Table.{Table}
 use Rattle.dpj_classes.specs.Table.{headers_of}
 use Rattle.dpj_parts.specs.Uses.{parts_interfere}
 use Rattle.dpj_tree.specs.Plain.{PlainStmt}
+use Rattle.dpj_typed.specs.Plain.{TypedStmt}
 use Rattle.dpj_exprs.specs.declared.env.Env.{Env}
 use Rattle.dpj_exprs.specs.declared.found.Found.{Found}
 use Rattle.dpj_exprs.specs.Env.{bare, given_in, table_of}
@@ -23,7 +24,7 @@ pub home_params : (b s : Body) → home_of s ≡ home_of b → s.atomic_params �
 home_params b s home = ap (λ (h : Home). h.params) home
 
 -- a piece of which what is found is gathered by itself, as it was called
-pub piece_begun : (b o : Body) (around within : Around) (body : PlainStmt) (g begun : Found) (v : Verdict) → home_of o ≡ home_of b →
+pub piece_begun : (b o : Body) (around within : Around) (body : PlainStmt) (g begun : Found) (v : Verdict TypedStmt) → home_of o ≡ home_of b →
     within ≡ inside around → begun ≡ nothing_found → InScope o.atomic_params within body (walk_of o begun) v →
     InScope b.atomic_params (inside around) body (apart_from (walk_of o g)) v
 piece_begun b o around within body g begun v home within_is none d =

@@ -1,148 +1,245 @@
 -- Statements that hold no other: what is said of each way through the code that checks one.
-use Rattle.std.proofs.Common.{◌≡◌, ◌∙◌, ◌↔◌, ℕ, Bool, true, not, IsTrue, Option, Some, None, Result, sym, ap, subst}
+use Rattle.std.proofs.Common.{◌≡◌, ◌∙◌, ◌↔◌, ℕ, Bool, true, not, IsTrue, Option, Some, None, refl, sym, ap, subst}
+use Rattle.dpj_base.specs.declared.place.Place.{Place}
 use Rattle.dpj_base.specs.declared.refusal.Kind.{Kind}
 use Rattle.dpj_base.specs.declared.refusal.Kind.TheVariants as kind
 use Rattle.dpj_base.specs.declared.refusal.Refusal.{Refusal}
-use Rattle.dpj_base.specs.declared.refusal.Stop.{Stop}
 use Rattle.dpj_base.specs.declared.ty.Ty.{Ty}
 use Rattle.dpj_base.specs.Types.{PlainType, plain_type}
-use Rattle.dpj_headers.specs.Faults.{settled}
 use Rattle.dpj_tree.specs.declared.region.Named.{Named}
 use Rattle.dpj_tree.specs.declared.region.TypeTree.{TypeTree}
 use Rattle.dpj_tree.specs.Plain.{PlainExpr}
+use Rattle.dpj_typed.specs.Plain.{TypedExpr, TypedStmt}
+use Rattle.dpj_typed.specs.Plain as typed
 use Rattle.dpj_classes.specs.Table.{numbered}
 use Rattle.dpj_exprs.specs.declared.env.LocalRow.{LocalRow}
 use Rattle.dpj_exprs.specs.declared.found.Found.{Found}
 use Rattle.dpj_exprs.specs.declared.assigned.Target.{Target}
 use Rattle.dpj_exprs.specs.Answer.{gives}
-use Rattle.dpj_exprs.specs.Env.{local_of, supers_of, table_of}
-use Rattle.dpj_exprs.specs.Targeting.{Targeting, aims, plain_target, with_write}
-use Rattle.dpj_exprs.specs.Typed.{may_be, is_value, FitsAs}
+use Rattle.dpj_exprs.specs.Env.{local_of, slots_in, supers_of, table_of}
+use Rattle.dpj_exprs.specs.Targeting.{PlainSpot, Targeting, aims, plain_spot, plain_target, with_write}
+use Rattle.dpj_exprs.specs.Typed.{may_be, is_value, type_in, FitsAs}
 use Rattle.dpj_exprs.specs.Typing.{Typing}
 use Rattle.dpj_check.specs.declared.body.Body.{Body}
 use Rattle.dpj_check.specs.declared.node.Around.{Around}
 use Rattle.dpj_check.specs.declared.node.Node.{Node}
 use Rattle.dpj_check.specs.Deciding.{local_fault, is_misplaced, Returned}
-use Rattle.dpj_check.specs.Noting.{fault_of, with_fault, with_found, with_fault_if}
-use Rattle.dpj_check.specs.Simple.{may_print, target_fault, declared_type, declared_told, declaration_noted, local_declared, FitIs, AssigningLocal, AssigningPlace, Declaring, Printing, Returning}
-use Rattle.dpj_check.specs.Walks.{Verdict, passes, refused, judged, scope_so, walk_of, with_env, Says}
-use Rattle.dpj_check.proofs.Passing.{settled_says, judged_at, judged_none, judged_some}
+use Rattle.dpj_check.specs.Noting.{fault_of, with_found, with_fault_if}
+use Rattle.dpj_check.specs.Simple.{may_print, target_fault, declared_type, declared_told, declaration_noted, local_declared, node_of, place_of, printed_form, stored, FitIs, AssigningLocal, AssigningPlace, Declaring, Performing, Printing, Returning}
+use Rattle.dpj_check.specs.Walks.{Walk, Verdict, passes, refused, judged, scope_so, walk_of, with_env}
+use Rattle.dpj_check.proofs.Passing.{judged_at, judged_none, judged_some, passes_so}
 
-pub printed_says : (node noted : Node) (e : PlainExpr) (b : Body) (f g : Found) (t : Option PlainType) (may : Bool) (r : Result (Unit {0}) Stop) →
-    Typing b.env e f (gives t g) → may ≡ may_print t → noted ≡ with_fault_if node kind.Type (not may) →
-    r ≡ settled (fault_of noted) → Says r (walk_of b g) (Printing node e (walk_of b f))
-printed_says node noted e b f g t may r d m n is =
-    settled_says (fault_of noted) r (walk_of b g) (Printing node e (walk_of b f)) is
-    (Printing.printed d
-    (judged_at (with_fault_if node kind.Type (not (may_print t))) noted (walk_of b g)
-    (n ∙ ap (λ (z : Bool). with_fault_if node kind.Type (not z)) m)))
+-- a node without a fault passes, and one with a fault is refused
+pub clean_passes : {M : Type 0} (told : Option Refusal) (m made : M) (w u : Walk) → told ≡ None → m ≡ made → w ≡ u → judged told made u ≡ passes m w
+clean_passes told m made w u none m_is w_is = judged_none told made u none ∙ passes_so m made w u m_is w_is
 
-pub returned_says : (around : Around) (node noted last : Node) (e : PlainExpr) (b : Body) (f g : Found) (t : Option PlainType) (misplaced fit : Bool)
-    (r : Result (Unit {0}) Stop) →
-    Typing b.env e f (gives t g) → misplaced ≡ is_misplaced around true → noted ≡ with_fault_if node kind.Return misplaced →
-    IsTrue fit ↔ Returned (supers_of b.env) around.has_result (numbered (table_of b.env) b.env.method) t →
-    last ≡ with_fault_if noted kind.Type (not fit) → r ≡ settled (fault_of last) → Says r (walk_of b g) (Returning around node e (walk_of b f))
-returned_says around node noted last e b f g t misplaced fit r d m n fits l is =
-    settled_says (fault_of last) r (walk_of b g) (Returning around node e (walk_of b f)) is
-    (Returning.returned d fits
-    (judged_at (with_fault_if (with_fault_if node kind.Return (is_misplaced around true)) kind.Type (not fit)) last (walk_of b g)
-    (l ∙ ap (λ (z : Node). with_fault_if z kind.Type (not fit)) (n ∙ ap (λ (z : Bool). with_fault_if node kind.Return z) m))))
+-- a call or a creation
+pub performed_so : (node : Node) (e : PlainExpr) (b : Body) (f g : Found) (t : Option TypedExpr) (x : TypedExpr) (s : TypedStmt) →
+    Typing b.env e f (gives t g) → x ≡ node_of e t → s ≡ typed.statement node.place (typed.perform x) → fault_of node ≡ None →
+    Performing node e (walk_of b f) (passes s (walk_of b g))
+performed_so node e b f g t x s d x_is s_is none =
+    Performing.performed d
+    (clean_passes (fault_of node) s _ _ _ none (s_is ∙ ap (λ (z : TypedExpr). typed.statement node.place (typed.perform z)) x_is) refl)
 
-pub no_local_says : (node noted : Node) (target : Named) (e : PlainExpr) (b : Body) (f g : Found) (t : Option PlainType) (r : Result (Unit {0}) Stop) →
-    Typing b.env e f (gives t g) → local_of b.env target.name ≡ None → noted ≡ with_fault node kind.Unknown target.place →
-    r ≡ settled (fault_of noted) → Says r (walk_of b g) (AssigningLocal node target e (walk_of b f))
-no_local_says node noted target e b f g t r d none n is =
-    settled_says (fault_of noted) r (walk_of b g) (AssigningLocal node target e (walk_of b f)) is
-    (AssigningLocal.no_local d none (judged_at (with_fault node kind.Unknown target.place) noted (walk_of b g) n))
+pub performed_told : (node : Node) (e : PlainExpr) (b : Body) (f g : Found) (t : Option TypedExpr) (q : Refusal) → Typing b.env e f (gives t g) →
+    fault_of node ≡ Some q → Performing node e (walk_of b f) (refused q)
+performed_told node e b f g t q d told = Performing.performed d (judged_some (fault_of node) _ _ q told)
 
-pub local_says : (node noted : Node) (target : Named) (e : PlainExpr) (row : LocalRow) (b : Body) (f g : Found) (t : Option PlainType) (fit : Bool)
-    (reason : Option Kind) (r : Result (Unit {0}) Stop) →
-    Typing b.env e f (gives t g) → local_of b.env target.name ≡ Some row → IsTrue fit ↔ FitsAs (supers_of b.env) t (plain_type row.ty) →
-    reason ≡ local_fault fit row.is_final → noted ≡ with_found node reason → r ≡ settled (fault_of noted) →
-    Says r (walk_of b g) (AssigningLocal node target e (walk_of b f))
-local_says node noted target e row b f g t fit reason r d some fits told n is =
-    settled_says (fault_of noted) r (walk_of b g) (AssigningLocal node target e (walk_of b f)) is
-    (AssigningLocal.assigned d some fits (judged_at (with_found node (local_fault fit row.is_final)) noted (walk_of b g) (n ∙ ap (with_found node) told)))
+-- an int or a boolean that is printed
+pub record Printed (node noted : Node) (e : PlainExpr) (b : Body) (f g : Found) (t : Option TypedExpr) (may : Bool) : Type 0 where
+  pub typing : Typing b.env e f (gives t g)
+  pub may_is : may ≡ may_print (type_in t)
+  pub noted_is : noted ≡ with_fault_if node kind.Type (not may)
+
+printed_as : (node noted : Node) (e : PlainExpr) (b : Body) (f g : Found) (t : Option TypedExpr) (may : Bool) (v : Verdict TypedStmt) →
+    Printed node noted e b f g t may → judged (fault_of noted) (typed.statement node.place (printed_form (node_of e t))) (walk_of b g) ≡ v →
+    Printing node e (walk_of b f) v
+printed_as node noted e b f g t may v k is =
+    Printing.printed k.typing
+    (judged_at (with_fault_if node kind.Type (not (may_print (type_in t)))) noted _ (walk_of b g)
+    (k.noted_is ∙ ap (λ (z : Bool). with_fault_if node kind.Type (not z)) k.may_is) ∙ is)
+
+pub printed_told : (node noted : Node) (e : PlainExpr) (b : Body) (f g : Found) (t : Option TypedExpr) (may : Bool) (q : Refusal) →
+    Printed node noted e b f g t may → fault_of noted ≡ Some q → Printing node e (walk_of b f) (refused q)
+printed_told node noted e b f g t may q k told = printed_as node noted e b f g t may (refused q) k (judged_some (fault_of noted) _ _ q told)
+
+pub printed_so : (node noted : Node) (e : PlainExpr) (b : Body) (f g : Found) (t : Option TypedExpr) (may : Bool) (x : TypedExpr) (s : TypedStmt) →
+    Printed node noted e b f g t may → x ≡ node_of e t → s ≡ typed.statement node.place (printed_form x) → fault_of noted ≡ None →
+    Printing node e (walk_of b f) (passes s (walk_of b g))
+printed_so node noted e b f g t may x s k x_is s_is none =
+    printed_as node noted e b f g t may _ k
+    (clean_passes (fault_of noted) s _ _ _ none (s_is ∙ ap (λ (z : TypedExpr). typed.statement node.place (printed_form z)) x_is) refl)
+
+-- a value that is returned
+pub record Left (around : Around) (node noted last : Node) (e : PlainExpr) (b : Body) (f g : Found) (t : Option TypedExpr) (misplaced fit : Bool) : Type 0 where
+  pub typing : Typing b.env e f (gives t g)
+  pub misplaced_is : misplaced ≡ is_misplaced around true
+  pub noted_is : noted ≡ with_fault_if node kind.Return misplaced
+  pub fits : IsTrue fit ↔ Returned (supers_of b.env) around.has_result (numbered (table_of b.env) b.env.method) (type_in t)
+  pub last_is : last ≡ with_fault_if noted kind.Type (not fit)
+
+left_as : (around : Around) (node noted last : Node) (e : PlainExpr) (b : Body) (f g : Found) (t : Option TypedExpr) (misplaced fit : Bool)
+    (v : Verdict TypedStmt) → Left around node noted last e b f g t misplaced fit →
+    judged (fault_of last) (typed.statement node.place (typed.return_value (node_of e t))) (walk_of b g) ≡ v → Returning around node e (walk_of b f) v
+left_as around node noted last e b f g t misplaced fit v k is =
+    Returning.returned k.typing k.fits
+    (judged_at (with_fault_if (with_fault_if node kind.Return (is_misplaced around true)) kind.Type (not fit)) last _ (walk_of b g)
+    (k.last_is
+    ∙ ap (λ (z : Node). with_fault_if z kind.Type (not fit)) (k.noted_is ∙ ap (λ (z : Bool). with_fault_if node kind.Return z) k.misplaced_is))
+    ∙ is)
+
+pub left_told : (around : Around) (node noted last : Node) (e : PlainExpr) (b : Body) (f g : Found) (t : Option TypedExpr) (misplaced fit : Bool)
+    (q : Refusal) → Left around node noted last e b f g t misplaced fit → fault_of last ≡ Some q → Returning around node e (walk_of b f) (refused q)
+left_told around node noted last e b f g t misplaced fit q k told =
+    left_as around node noted last e b f g t misplaced fit (refused q) k (judged_some (fault_of last) _ _ q told)
+
+pub left_so : (around : Around) (node noted last : Node) (e : PlainExpr) (b : Body) (f g : Found) (t : Option TypedExpr) (misplaced fit : Bool)
+    (x : TypedExpr) (s : TypedStmt) → Left around node noted last e b f g t misplaced fit → x ≡ node_of e t →
+    s ≡ typed.statement node.place (typed.return_value x) → fault_of last ≡ None → Returning around node e (walk_of b f) (passes s (walk_of b g))
+left_so around node noted last e b f g t misplaced fit x s k x_is s_is none =
+    left_as around node noted last e b f g t misplaced fit _ k
+    (clean_passes (fault_of last) s _ _ _ none (s_is ∙ ap (λ (z : TypedExpr). typed.statement node.place (typed.return_value z)) x_is) refl)
+
+-- an assignment to a local
+pub record Stored (node noted : Node) (target : Named) (e : PlainExpr) (row : LocalRow) (b : Body) (f g : Found) (t : Option TypedExpr) (fit : Bool)
+    (reason : Option Kind) : Type 0 where
+  pub typing : Typing b.env e f (gives t g)
+  pub local_is : local_of b.env target.name ≡ Some row
+  pub fits : IsTrue fit ↔ FitsAs (supers_of b.env) (type_in t) (plain_type row.ty)
+  pub reason_is : reason ≡ local_fault fit row.is_final
+  pub noted_is : noted ≡ with_found node reason
+
+stored_as : (node noted : Node) (target : Named) (e : PlainExpr) (row : LocalRow) (b : Body) (f g : Found) (t : Option TypedExpr) (fit : Bool)
+    (reason : Option Kind) (v : Verdict TypedStmt) → Stored node noted target e row b f g t fit reason →
+    judged (fault_of noted) (typed.statement target.place (typed.store row.slot (node_of e t))) (walk_of b g) ≡ v → AssigningLocal node target e (walk_of b f) v
+stored_as node noted target e row b f g t fit reason v k is =
+    AssigningLocal.assigned k.typing k.local_is k.fits
+    (judged_at (with_found node (local_fault fit row.is_final)) noted _ (walk_of b g) (k.noted_is ∙ ap (with_found node) k.reason_is) ∙ is)
+
+pub stored_told : (node noted : Node) (target : Named) (e : PlainExpr) (row : LocalRow) (b : Body) (f g : Found) (t : Option TypedExpr) (fit : Bool)
+    (reason : Option Kind) (q : Refusal) → Stored node noted target e row b f g t fit reason → fault_of noted ≡ Some q →
+    AssigningLocal node target e (walk_of b f) (refused q)
+stored_told node noted target e row b f g t fit reason q k told =
+    stored_as node noted target e row b f g t fit reason (refused q) k (judged_some (fault_of noted) _ _ q told)
+
+pub stored_so : (node noted : Node) (target : Named) (e : PlainExpr) (row : LocalRow) (b : Body) (f g : Found) (t : Option TypedExpr) (fit : Bool)
+    (reason : Option Kind) (x : TypedExpr) (s : TypedStmt) → Stored node noted target e row b f g t fit reason → x ≡ node_of e t →
+    s ≡ typed.statement target.place (typed.store row.slot x) → fault_of noted ≡ None → AssigningLocal node target e (walk_of b f) (passes s (walk_of b g))
+stored_so node noted target e row b f g t fit reason x s k x_is s_is none =
+    stored_as node noted target e row b f g t fit reason _ k
+    (clean_passes (fault_of noted) s _ _ _ none (s_is ∙ ap (λ (z : TypedExpr). typed.statement target.place (typed.store row.slot z)) x_is) refl)
 
 -- a target where every value fits
-pub anything_says : (node noted : Node) (target value : PlainExpr) (b : Body) (f g h : Found) (t : Option PlainType) (is_val : Bool)
-    (r : Result (Unit {0}) Stop) →
-    Targeting b.env target f (aims None g) → Typing b.env value g (gives t h) → is_val ≡ may_be is_value t →
-    noted ≡ with_fault_if node kind.Type (not is_val) → r ≡ settled (fault_of noted) → Says r (walk_of b h) (AssigningPlace node target value (walk_of b f))
-anything_says node noted target value b f g h t is_val r d v val n is =
-    settled_says (fault_of noted) r (walk_of b h) (AssigningPlace node target value (walk_of b f)) is
-    (AssigningPlace.anything_assigned d v
-    (judged_at (with_fault_if node kind.Type (not (may_be is_value t))) noted (walk_of b h)
-    (n ∙ ap (λ (z : Bool). with_fault_if node kind.Type (not z)) val)))
+pub record Anything (node noted : Node) (target value : PlainExpr) (b : Body) (f g h : Found) (t : Option TypedExpr) (is_val : Bool) : Type 0 where
+  pub aimed : Targeting b.env target f (aims None g)
+  pub typing : Typing b.env value g (gives t h)
+  pub value_is : is_val ≡ may_be is_value (type_in t)
+  pub noted_is : noted ≡ with_fault_if node kind.Type (not is_val)
+
+anything_as : (node noted : Node) (target value : PlainExpr) (b : Body) (f g h : Found) (t : Option TypedExpr) (is_val : Bool) (v : Verdict TypedStmt) →
+    Anything node noted target value b f g h t is_val →
+    judged (fault_of noted) (typed.statement (place_of target) (typed.perform (node_of value t))) (walk_of b h) ≡ v →
+    AssigningPlace node target value (walk_of b f) v
+anything_as node noted target value b f g h t is_val v k is =
+    AssigningPlace.anything_assigned k.aimed k.typing
+    (judged_at (with_fault_if node kind.Type (not (may_be is_value (type_in t)))) noted _ (walk_of b h)
+    (k.noted_is ∙ ap (λ (z : Bool). with_fault_if node kind.Type (not z)) k.value_is) ∙ is)
+
+pub anything_told : (node noted : Node) (target value : PlainExpr) (b : Body) (f g h : Found) (t : Option TypedExpr) (is_val : Bool) (q : Refusal) →
+    Anything node noted target value b f g h t is_val → fault_of noted ≡ Some q → AssigningPlace node target value (walk_of b f) (refused q)
+anything_told node noted target value b f g h t is_val q k told =
+    anything_as node noted target value b f g h t is_val (refused q) k (judged_some (fault_of noted) _ _ q told)
+
+pub anything_so : (node noted : Node) (target value : PlainExpr) (b : Body) (f g h : Found) (t : Option TypedExpr) (is_val : Bool) (place : Place)
+    (x : TypedExpr) (s : TypedStmt) → Anything node noted target value b f g h t is_val → place_of target ≡ place → x ≡ node_of value t →
+    s ≡ typed.statement place (typed.perform x) → fault_of noted ≡ None → AssigningPlace node target value (walk_of b f) (passes s (walk_of b h))
+anything_so node noted target value b f g h t is_val place x s k place_is x_is s_is none =
+    anything_as node noted target value b f g h t is_val _ k
+    (clean_passes (fault_of noted) s _ _ _ none
+    (s_is ∙ ap (λ (z : Place). typed.statement z (typed.perform x)) (sym place_is)
+    ∙ ap (λ (z : TypedExpr). typed.statement (place_of target) (typed.perform z)) x_is) refl)
 
 -- what is known of an assignment to a field or an element after its parts
-pub record Placed (node noted : Node) (target value : PlainExpr) (aim : Target) (b : Body) (f g h : Found) (t : Option PlainType) (fit : Bool)
+pub record Placed (node noted : Node) (target value : PlainExpr) (aim : Target) (b : Body) (f g h : Found) (t : Option TypedExpr) (fit : Bool)
     (reason : Option Kind) : Type 0 where
   pub aimed : Targeting b.env target f (aims (Some (plain_target aim)) g)
-  pub typed : Typing b.env value g (gives t h)
-  pub fits : IsTrue fit ↔ FitsAs (supers_of b.env) t (plain_type aim.ty)
+  pub typing : Typing b.env value g (gives t h)
+  pub fits : IsTrue fit ↔ FitsAs (supers_of b.env) (type_in t) (plain_type aim.ty)
   pub reason_is : reason ≡ target_fault fit aim.may_write
   pub noted_is : noted ≡ with_found node reason
 
-placed_so : (node noted : Node) (target value : PlainExpr) (aim : Target) (b : Body) (f g h : Found) (t : Option PlainType) (fit : Bool)
-    (reason : Option Kind) (v : Verdict) →
-    Placed node noted target value aim b f g h t fit reason → judged (fault_of noted) (walk_of b (with_write h (plain_target aim))) ≡ v →
+placed_so : (node noted : Node) (target value : PlainExpr) (aim : Target) (b : Body) (f g h : Found) (t : Option TypedExpr) (fit : Bool)
+    (reason : Option Kind) (v : Verdict TypedStmt) →
+    Placed node noted target value aim b f g h t fit reason →
+    judged (fault_of noted) (typed.statement (place_of target) (stored (plain_spot aim.spot) (node_of value t))) (walk_of b (with_write h (plain_target aim))) ≡ v →
     AssigningPlace node target value (walk_of b f) v
 placed_so node noted target value aim b f g h t fit reason v k is =
-    AssigningPlace.place_assigned k.aimed k.typed k.fits
-    (judged_at (with_found node (target_fault fit aim.may_write)) noted (walk_of b (with_write h (plain_target aim)))
+    AssigningPlace.place_assigned k.aimed k.typing k.fits
+    (judged_at (with_found node (target_fault fit aim.may_write)) noted _ (walk_of b (with_write h (plain_target aim)))
     (k.noted_is ∙ ap (with_found node) k.reason_is)
     ∙ is)
 
-pub target_refused : (node noted : Node) (target value : PlainExpr) (aim : Target) (b : Body) (f g h : Found) (t : Option PlainType) (fit : Bool)
+pub target_refused : (node noted : Node) (target value : PlainExpr) (aim : Target) (b : Body) (f g h : Found) (t : Option TypedExpr) (fit : Bool)
     (reason : Option Kind) (q : Refusal) →
     Placed node noted target value aim b f g h t fit reason → fault_of noted ≡ Some q → AssigningPlace node target value (walk_of b f) (refused q)
 target_refused node noted target value aim b f g h t fit reason q k is =
-    placed_so node noted target value aim b f g h t fit reason (refused q) k (judged_some (fault_of noted) _ q is)
+    placed_so node noted target value aim b f g h t fit reason (refused q) k (judged_some (fault_of noted) _ _ q is)
 
-pub target_written : (node noted : Node) (target value : PlainExpr) (aim : Target) (b : Body) (f g h k : Found) (t : Option PlainType) (fit : Bool)
-    (reason : Option Kind) →
-    Placed node noted target value aim b f g h t fit reason → fault_of noted ≡ None → k ≡ with_write h (plain_target aim) →
-    AssigningPlace node target value (walk_of b f) (passes (walk_of b k))
-target_written node noted target value aim b f g h k t fit reason p none written =
-    placed_so node noted target value aim b f g h t fit reason (passes (walk_of b k)) p
-    (judged_none (fault_of noted) _ none ∙ ap (λ (z : Found). passes (walk_of b z)) (sym written))
+pub target_written : (node noted : Node) (target value : PlainExpr) (aim : Target) (b : Body) (f g h k : Found) (t : Option TypedExpr) (fit : Bool)
+    (reason : Option Kind) (place : Place) (at : PlainSpot) (x : TypedExpr) (s : TypedStmt) →
+    Placed node noted target value aim b f g h t fit reason → fault_of noted ≡ None → k ≡ with_write h (plain_target aim) → place_of target ≡ place →
+    at ≡ plain_spot aim.spot → x ≡ node_of value t → s ≡ typed.statement place (stored at x) →
+    AssigningPlace node target value (walk_of b f) (passes s (walk_of b k))
+target_written node noted target value aim b f g h k t fit reason place at x s p none written place_is at_is x_is s_is =
+    placed_so node noted target value aim b f g h t fit reason _ p
+    (clean_passes (fault_of noted) s _ (walk_of b k) _ none
+    (s_is ∙ ap (λ (z : Place). typed.statement z (stored at x)) (sym place_is)
+    ∙ ap (λ (z : PlainSpot). typed.statement (place_of target) (stored z x)) at_is
+    ∙ ap (λ (z : TypedExpr). typed.statement (place_of target) (stored (plain_spot aim.spot) z)) x_is)
+    (ap (λ (z : Found). walk_of b z) written))
 
 -- what is known of a declaration after its parts
-pub record Declared (node : Node) (tree : TypeTree) (name : ℕ) (value : PlainExpr) (b : Body) (f g : Found) (made : Ty) (t : Option PlainType)
+pub record Declared (node : Node) (tree : TypeTree) (name : ℕ) (value : PlainExpr) (b : Body) (f g : Found) (made : Ty) (t : Option TypedExpr)
     (fit : Bool) (first noted : Node) : Type 0 where
   pub untold : declared_told b.env tree ≡ None
   pub type_is : plain_type made ≡ declared_type b.env tree
-  pub typed : Typing b.env value f (gives t g)
+  pub typing : Typing b.env value f (gives t g)
   pub first_is : first ≡ declaration_noted b.env name node.place node
-  pub fits : IsTrue fit ↔ FitsAs (supers_of b.env) t (plain_type made)
+  pub fits : IsTrue fit ↔ FitsAs (supers_of b.env) (type_in t) (plain_type made)
   pub noted_is : noted ≡ with_fault_if first kind.Type (not fit)
 
 declared_so : (node : Node) (is_final : Bool) (tree : TypeTree) (name : ℕ) (value : PlainExpr) (b : Body) (f g : Found) (made : Ty)
-    (t : Option PlainType) (fit : Bool) (first noted : Node) (v : Verdict) →
+    (t : Option TypedExpr) (fit : Bool) (first noted : Node) (v : Verdict TypedStmt) →
     Declared node tree name value b f g made t fit first noted →
-    judged (fault_of noted) (scope_so (walk_of b g) (local_declared b.env name made is_final)) ≡ v →
+    judged (fault_of noted) (typed.statement node.place (typed.declare (slots_in b.env) (declared_type b.env tree) is_final (node_of value t)))
+    (scope_so (walk_of b g) (local_declared b.env name made is_final)) ≡ v →
     Declaring node is_final tree name value (walk_of b f) v
 declared_so node is_final tree name value b f g made t fit first noted v k is =
-    let fits : FitIs b.env t (declared_type b.env tree) fit =
-    subst (λ (z : PlainType). IsTrue fit ↔ FitsAs (supers_of b.env) t z) k.type_is k.fits in
-    Declaring.declared made k.untold k.type_is k.typed fits
-    (judged_at (with_fault_if (declaration_noted b.env name node.place node) kind.Type (not fit)) noted
+    let fits : FitIs b.env (type_in t) (declared_type b.env tree) fit =
+    subst (λ (z : PlainType). IsTrue fit ↔ FitsAs (supers_of b.env) (type_in t) z) k.type_is k.fits in
+    Declaring.declared made k.untold k.type_is k.typing fits
+    (judged_at (with_fault_if (declaration_noted b.env name node.place node) kind.Type (not fit)) noted _
     (scope_so (walk_of b g) (local_declared b.env name made is_final))
     (k.noted_is ∙ ap (λ (z : Node). with_fault_if z kind.Type (not fit)) k.first_is)
     ∙ is)
 
 pub declaration_refused : (node : Node) (is_final : Bool) (tree : TypeTree) (name : ℕ) (value : PlainExpr) (b : Body) (f g : Found) (made : Ty)
-    (t : Option PlainType) (fit : Bool) (first noted : Node) (q : Refusal) →
+    (t : Option TypedExpr) (fit : Bool) (first noted : Node) (q : Refusal) →
     Declared node tree name value b f g made t fit first noted → fault_of noted ≡ Some q →
     Declaring node is_final tree name value (walk_of b f) (refused q)
 declaration_refused node is_final tree name value b f g made t fit first noted q k is =
-    declared_so node is_final tree name value b f g made t fit first noted (refused q) k (judged_some (fault_of noted) _ q is)
+    declared_so node is_final tree name value b f g made t fit first noted (refused q) k (judged_some (fault_of noted) _ _ q is)
 
-pub declaration_passes : (node : Node) (is_final : Bool) (tree : TypeTree) (name : ℕ) (value : PlainExpr) (b d : Body) (f g : Found) (made : Ty)
-    (t : Option PlainType) (fit : Bool) (first noted : Node) →
-    Declared node tree name value b f g made t fit first noted → fault_of noted ≡ None → d ≡ with_env b (local_declared b.env name made is_final) →
-    Declaring node is_final tree name value (walk_of b f) (passes (walk_of d g))
-declaration_passes node is_final tree name value b d f g made t fit first noted k none is =
-    declared_so node is_final tree name value b f g made t fit first noted (passes (walk_of d g)) k
-    (judged_none (fault_of noted) _ none ∙ ap (λ (z : Body). passes (walk_of z g)) (sym is))
+pub declaration_passes : (node : Node) (is_final : Bool) (tree : TypeTree) (name : ℕ) (value : PlainExpr) (b d : Body) (f g : Found) (made shown : Ty)
+    (t : Option TypedExpr) (fit : Bool) (first noted : Node) (slot : ℕ) (x : TypedExpr) (s : TypedStmt) →
+    Declared node tree name value b f g made t fit first noted → fault_of noted ≡ None → shown ≡ made →
+    d ≡ with_env b (local_declared b.env name shown is_final) → slot ≡ slots_in b.env → x ≡ node_of value t →
+    s ≡ typed.statement node.place (typed.declare slot (plain_type made) is_final x) →
+    Declaring node is_final tree name value (walk_of b f) (passes s (walk_of d g))
+declaration_passes node is_final tree name value b d f g made shown t fit first noted slot x s k none shown_is is slot_is x_is s_is =
+    declared_so node is_final tree name value b f g made t fit first noted _ k
+    (clean_passes (fault_of noted) s _ (walk_of d g) _ none
+    (s_is ∙ ap (λ (z : ℕ). typed.statement node.place (typed.declare z (plain_type made) is_final x)) slot_is
+    ∙ ap (λ (z : PlainType). typed.statement node.place (typed.declare (slots_in b.env) z is_final x)) k.type_is
+    ∙ ap (λ (z : TypedExpr). typed.statement node.place (typed.declare (slots_in b.env) (declared_type b.env tree) is_final z)) x_is)
+    (ap (λ (z : Body). walk_of z g) (is ∙ ap (λ (z : Ty). with_env b (local_declared b.env name z is_final)) shown_is)))

@@ -1,5 +1,5 @@
 -- The bodies of methods, member by member and class by class: what is said of each way through the code.
-use Rattle.std.proofs.Common.{◌≡◌, ◌∙◌, ℕ, suc, List, [], ◌∷◌, ◌++◌, ◌+◌, ◌⊎◌, inl, inr, ◌<◌, get_or, drop, Bool, false, Option, Some, None, option_map, Result, Ok, Err, IfErr, OnOk, map, take, length, codes, refl, sym, ap, subst}
+use Rattle.std.proofs.Common.{◌≡◌, ◌∙◌, ℕ, List, [], ◌∷◌, ◌++◌, ◌+◌, ◌⊎◌, inl, inr, ◌<◌, get_or, drop, append_assoc, append-nil, Bool, false, Option, Some, None, option_map, Result, Ok, Err, map, take, length, codes, refl, sym, ap, subst}
 use Rattle.std.specs.Result.{IsErrAnd}
 use Rattle.std.proofs.lemmas.List.{drop_more}
 use Rattle.std.proofs.Common.{add-one}
@@ -28,37 +28,41 @@ use Rattle.dpj_tree.specs.Plain.{PlainStmts, plain_stmt, plain_stmts}
 use Rattle.dpj_classes.specs.declared.rows.MethodRow.{MethodRow}
 use Rattle.dpj_classes.specs.declared.table.Table.{Table}
 use Rattle.dpj_classes.specs.Table.{given_of, numbered}
+use Rattle.dpj_typed.specs.Plain.{TypedStmt, stmts_of}
+use Rattle.dpj_assembly.specs.declared.body.MemberBody.{MemberBody}
+use Rattle.dpj_assembly.specs.Assembled.{PlainBody, plain_body}
 use Rattle.dpj_exprs.specs.declared.env.Env.{Env}
+use Rattle.dpj_exprs.specs.Answer.{Says}
 use Rattle.dpj_exprs.specs.declared.found.Found.{Found}
-use Rattle.dpj_exprs.specs.Env.{table_of, at_class, at_members, at_method, IsFresh, with_row}
+use Rattle.dpj_exprs.specs.Env.{table_of, at_class, at_members, at_method, declared_in, slots_in, IsFresh, with_row}
 use Rattle.dpj_check.specs.declared.body.Body.{Body}
 use Rattle.dpj_check.specs.declared.node.Around.{Around}
 use Rattle.dpj_check.specs.Checking.{InBlock}
 use Rattle.dpj_check.specs.Completes.{all_complete}
 use Rattle.dpj_check.specs.Deciding.{has_value, method_fault, told_at}
 use Rattle.dpj_check.specs.Keeping.{method_around}
-use Rattle.dpj_check.specs.Methods.{class_params, own_params, formals_declared, formal_types, summary_of, body_begun, method_told, is_method, all_checked, of_method, no_method, then_members, IsIn, BodiesChecking, MethodChecking, MembersVerdict, one_refused, MembersChecking, method_refused, BodiesVerdict, rejected, ClassesChecking, member_refused, then_classes}
+use Rattle.dpj_check.specs.Methods.{class_params, own_params, formals_declared, formal_types, summary_of, body_begun, method_told, after_ok, reported, is_method, number_after, bodies_of, PlainBodies, behind_bodies, of_method, a_method, IsIn, BodiesChecking, MethodChecking, MemberChecking, MembersChecking, ClassesChecking, no_classes, member_refused, then_classes}
 use Rattle.dpj_check.specs.Simple.{has_room}
-use Rattle.dpj_check.specs.Walks.{Walk, Verdict, Says, nothing_found, with_env, passes, refused, walk_of}
-use Rattle.dpj_check.proofs.Passing.{said_of, settled_says, walk_from}
+use Rattle.dpj_check.specs.Walks.{Walk, Verdict, nothing_found, with_env, passes, walk_of}
+use Rattle.dpj_check.proofs.Passing.{said_of, settled_stop, walk_from}
 
--- at the exit of a `?`
-pub fault_passed : {T : Type 0} (P Q : Refusal → Type 0) (r : Result T Stop) (s : Stop) → IsErrAnd r (λ z. z ≡ s) →
-    ((q : Refusal) → P q → Q q) → IfRefused s P → IfErr r (λ z. IfRefused z Q)
-fault_passed P Q (Ok x) s is next h = tt
-fault_passed P Q (Err x) s is next h = said_of P Q x next (subst (λ (z : Stop). IfRefused z P) (sym is) h)
+-- at the exit of a `?`, for what is made of a body, of several or of a program
+pub stopped_at : {T M : Type 0} (P : Refusal → Type 0) (Q : Result M Refusal → Type 0) (r : Result T Stop) (made : T → Result M Refusal) (s : Stop) →
+    IsErrAnd r (λ z. z ≡ s) → ((q : Refusal) → P q → Q (Err q)) → IfRefused s P → Says r made Err Q
+stopped_at P Q (Ok x) made s is next h = absurd is
+stopped_at P Q (Err x) made s is next h = said_of P (λ q. Q (Err q)) x next (subst (λ (z : Stop). IfRefused z P) (sym is) h)
 
--- a member, and those after it
-abbrev pub Members : Env → ℕ → List Member → ℕ → List (List Effect) → MembersVerdict → Type 0
+-- the members of a class
+abbrev pub Members : Env → ℕ → List Member → ℕ → Result PlainBodies Refusal → Type 0
 Members start class = MembersChecking (at_class start class) (class_params (table_of start) class)
 
 -- a class begins alike after any other
-pub class_from : (start env : Env) (at number k : ℕ) (ms : List Member) (blocks : List (List Effect)) (v : MembersVerdict) →
-    ((other : ℕ) → at_class env other ≡ at_class start other) → k ≡ as_number at → Members env k ms number blocks v →
-    Members start (as_number at) ms number blocks v
-class_from start env at number k ms blocks v same is d =
-    subst (λ (e : Env). MembersChecking e (class_params (table_of e) (as_number at)) ms number blocks v) (same (as_number at))
-    (subst (λ (n : ℕ). Members env n ms number blocks v) is d)
+pub class_from : (start env : Env) (at number k : ℕ) (ms : List Member) (v : Result PlainBodies Refusal) →
+    ((other : ℕ) → at_class env other ≡ at_class start other) → k ≡ as_number at → Members env k ms number v →
+    Members start (as_number at) ms number v
+class_from start env at number k ms v same is d =
+    subst (λ (e : Env). MembersChecking e (class_params (table_of e) (as_number at)) ms number v) (same (as_number at))
+    (subst (λ (n : ℕ). Members env n ms number v) is d)
 
 -- what is around the members of a class, by what is around them after one
 abbrev methods_at : Env → ℕ → Env
@@ -67,6 +71,14 @@ methods_at around method = with_row (record around { method = method }) (numbere
 members_begun : (start : Env) (class : ℕ) → at_members (at_class start class) ≡ at_class start class
 members_begun start class = ap (λ (z : _). record (at_class start class) { given = z }) (take-length (given_of (table_of start) class))
 
+pub class_entered : (start : Env) (class count : ℕ) (b : Body) → b.env ≡ at_class start class → b.atomic_params ≡ class_params (table_of start) class →
+    count ≡ length b.atomic_params → IsIn start class count b
+class_entered start class count b env_is params_are count_is = record {
+  members = ap at_members env_is ∙ members_begun start class;
+  params = ap (λ (n : ℕ). take n b.atomic_params) count_is ∙ take-length b.atomic_params ∙ params_are;
+  all_params = count_is ∙ ap length params_are;
+}
+
 method_begun : (start env : Env) (class number : ℕ) → at_members env ≡ at_class start class → at_method env number ≡ at_method (at_class start class) number
 method_begun start env class number is = ap (λ (z : Env). methods_at z number) (is ∙ sym (members_begun start class))
 
@@ -74,39 +86,25 @@ pub begun_in : (start : Env) (class count number : ℕ) (b e : Body) → IsIn st
     e.env ≡ at_method (at_class start class) number
 begun_in start class count number b e within is = is ∙ method_begun start b.env class number within.members
 
--- a method was entered
-pub record Entered (count number : ℕ) (b e : Body) : Type 0 where
-  pub params : e.atomic_params ≡ take count b.atomic_params ++ own_params (table_of b.env) number
-  pub blocks : e.blocks ≡ b.blocks
-
-method_in : (start : Env) (class count number : ℕ) (b e : Body) (method : Method) (v : Verdict) → IsIn start class count b → Entered count number b e →
-    MethodChecking (at_class start class) e.atomic_params number method e.blocks v →
-    MethodChecking (at_class start class) (class_params (table_of start) class ++ own_params (table_of start) number) number method b.blocks v
-method_in start class count number b e method v within entered d =
-    subst (λ (ps : List Bool). MethodChecking (at_class start class) ps number method b.blocks v)
-    (entered.params ∙ ap (λ (z : List Bool). z ++ own_params (table_of b.env) number) within.params
+pub method_in : (start : Env) (class count number : ℕ) (b e : Body) (method : Method) (v : Result PlainBody Refusal) → IsIn start class count b →
+    e.atomic_params ≡ take count b.atomic_params ++ own_params (table_of b.env) number →
+    MethodChecking (at_class start class) e.atomic_params number method v →
+    MethodChecking (at_class start class) (class_params (table_of start) class ++ own_params (table_of start) number) number method v
+method_in start class count number b e method v within params d =
+    subst (λ (ps : List Bool). MethodChecking (at_class start class) ps number method v)
+    (params ∙ ap (λ (z : List Bool). z ++ own_params (table_of b.env) number) within.params
     ∙ ap (λ (z : Env). class_params (table_of start) class ++ own_params (table_of z) number) within.members)
-    (subst (λ (bs : List (List Effect)). MethodChecking (at_class start class) e.atomic_params number method bs v) entered.blocks d)
+    d
 
-pub passed_over : (start : Env) (class number : ℕ) (m : Member) (ms : List Member) (blocks : List (List Effect)) (v : MembersVerdict) →
-    is_method m ≡ false → Members start class ms number blocks v → Members start class (m ∷ ms) number blocks v
-passed_over start class number m ms blocks v is d = no_method is d
-
-pub method_stops : (start : Env) (class count number : ℕ) (b e : Body) (m : Member) (method : Method) (ms : List Member) (q : Refusal) →
-    m ≡ member.Method method → IsIn start class count b → Entered count number b e →
-    MethodChecking (at_class start class) e.atomic_params number method e.blocks (refused q) → Members start class (m ∷ ms) number b.blocks (one_refused q)
-method_stops start class count number b e m method ms q is within entered d =
-    subst (λ (z : Member). Members start class (z ∷ ms) number b.blocks (one_refused q)) (sym is)
-    (method_refused (method_in start class count number b e method (refused q) within entered d))
-
-pub method_passes : (start : Env) (class count number next : ℕ) (b e s : Body) (m : Member) (method : Method) (ms : List Member) (found : Found)
-    (v : MembersVerdict) → m ≡ member.Method method → IsIn start class count b → Entered count number b e → next ≡ as_number (suc number) →
-    MethodChecking (at_class start class) e.atomic_params number method e.blocks (passes (walk_of s found)) →
-    Members start class ms next s.blocks v → Members start class (m ∷ ms) number b.blocks v
-method_passes start class count number next b e s m method ms found v is within entered next_is d rest =
-    subst (λ (z : Member). Members start class (z ∷ ms) number b.blocks v) (sym is)
-    (then_members (method_in start class count number b e method (passes (walk_of s found)) within entered d)
-    (subst (λ (n : ℕ). Members start class ms n s.blocks v) next_is rest))
+-- a member of the code that is a method
+pub member_so : (start : Env) (class count number : ℕ) (b e : Body) (m : Member) (method : Method) (r : Result PlainBody Refusal)
+    (v : Result (Option PlainBody) Refusal) → m ≡ member.Method method → IsIn start class count b →
+    e.atomic_params ≡ take count b.atomic_params ++ own_params (table_of b.env) number →
+    MethodChecking (at_class start class) e.atomic_params number method r → after_ok Some r ≡ v →
+    MemberChecking (at_class start class) (class_params (table_of start) class) m number v
+member_so start class count number b e m method r v is within params d made =
+    subst (λ (z : Member). MemberChecking (at_class start class) (class_params (table_of start) class) z number v) (sym is)
+    (a_method (method_in start class count number b e method r within params d) made)
 
 row_table : (env : Env) (row : Option MethodRow) → table_of (with_row env row) ≡ table_of env
 row_table env None = refl
@@ -143,17 +141,15 @@ begun_so around number method row types b d begun =
     ap (λ (z : Body). z.env) begun.body_is ∙ ap (λ (z : List Ty). formals_declared b.env method.formals z) all_types
     ∙ ap (λ (z : Env). formals_declared z method.formals (formal_types (numbered (table_of around) number))) begun.env_is
 
-pub body_from : (around : Env) (number : ℕ) (method : Method) (row : Option MethodRow) (types : List Ty) (b d : Body) (done : Found) (v : Verdict) →
-    Begun around number method row types b d → done ≡ nothing_found →
+pub body_from : (around : Env) (number : ℕ) (method : Method) (row : Option MethodRow) (types : List Ty) (b d : Body) (done : Found)
+    (v : Verdict (List TypedStmt)) → Begun around number method row types b d → done ≡ nothing_found →
     InBlock d.atomic_params (around_of method) (method_stmts method) (walk_of d done) v →
-    InBlock b.atomic_params (around_of method) (method_stmts method) (body_begun around number method b.blocks) v
+    InBlock b.atomic_params (around_of method) (method_stmts method) (body_begun around number method) v
 body_from around number method row types b d done v begun none h =
-    let blocks : d.blocks ≡ b.blocks = ap (λ (z : Body). z.blocks) begun.body_is in
     let params : d.atomic_params ≡ b.atomic_params = ap (λ (z : Body). z.atomic_params) begun.body_is in
-    let walk : walk_of d done ≡ body_begun around number method b.blocks =
-    ap (λ (z : Env). walk_from z done d.blocks) (begun_so around number method row types b d begun)
-    ∙ ap (λ (z : Found). walk_from (env_begun around number method) z d.blocks) none
-    ∙ ap (λ (z : List (List Effect)). walk_from (env_begun around number method) nothing_found z) blocks in
+    let walk : walk_of d done ≡ body_begun around number method =
+    ap (λ (z : Env). walk_from z done) (begun_so around number method row types b d begun)
+    ∙ ap (λ (z : Found). walk_from (env_begun around number method) z) none in
     subst (λ (w : Walk). InBlock b.atomic_params (around_of method) (method_stmts method) w v) walk
     (subst (λ (z : List Bool). InBlock z (around_of method) (method_stmts method) (walk_of d done) v) params h)
 
@@ -161,86 +157,205 @@ told_settled : (place : Place) (reason : Option Kind) → told_at place reason �
 told_settled place None = refl
 told_settled place (Some k) = refl
 
-pub method_says : (around : Env) (number : ℕ) (method : Method) (row : Option MethodRow) (types : List Ty) (summary : List Effect) (b d s : Body)
-    (done : Found) (completes covered room : Bool) (r : Result (Unit {0}) Stop) →
-    Begun around number method row types b d → summary ≡ summary_of row → completes ≡ all_complete (method_stmts method) →
-    covered ≡ set_covers summary done.effects → room ≡ has_room d.env →
-    r ≡ told_at method.place (method_fault (has_value method.result) completes covered room) →
-    InBlock b.atomic_params (around_of method) (method_stmts method) (body_begun around number method b.blocks) (passes (walk_of s done)) →
-    Says r (walk_of s done) (MethodChecking around b.atomic_params number method b.blocks)
-method_says around number method row types summary b d s done completes covered room r begun summary_is completes_is covered_is room_is r_is h =
-    let summary_at = summary_is ∙ ap summary_of (row_at around b.env number row begun.env_is begun.row_is) in
+-- what is found of the body of a method
+pub record BodyMet (around : Env) (number : ℕ) (method : Method) (row : Option MethodRow) (types : List Ty) (summary : List Effect) (b d s : Body)
+    (done : Found) (completes covered room : Bool) (ss : List TypedStmt) : Type 0 where
+  pub begun : Begun around number method row types b d
+  pub summary_is : summary ≡ summary_of row
+  pub completes_is : completes ≡ all_complete (method_stmts method)
+  pub covered_is : covered ≡ set_covers summary done.effects
+  pub room_is : room ≡ has_room d.env
+  pub in_block : InBlock b.atomic_params (around_of method) (method_stmts method) (body_begun around number method) (passes ss (walk_of s done))
+
+told_so : (around : Env) (number : ℕ) (method : Method) (row : Option MethodRow) (types : List Ty) (summary : List Effect) (b d s : Body)
+    (done : Found) (completes covered room : Bool) (ss : List TypedStmt) →
+    BodyMet around number method row types summary b d s done completes covered room ss →
+    told_at method.place (method_fault (has_value method.result) completes covered room) ≡ settled (method_told around number method done.effects)
+told_so around number method row types summary b d s done completes covered room ss m =
+    let summary_at = m.summary_is ∙ ap summary_of (row_at around b.env number row m.begun.env_is m.begun.row_is) in
     let covered_at : covered ≡ set_covers (summary_of (numbered (table_of around) number)) done.effects =
-    covered_is ∙ ap (λ (z : List Effect). set_covers z done.effects) summary_at in
-    let room_at : room ≡ has_room (env_begun around number method) = room_is ∙ ap has_room (begun_so around number method row types b d begun) in
-    settled_says (method_told around number method done.effects) r (walk_of s done) (MethodChecking around b.atomic_params number method b.blocks)
-    (r_is ∙ ap (λ (z : Bool). told_at method.place (method_fault (has_value method.result) z covered room)) completes_is
+    m.covered_is ∙ ap (λ (z : List Effect). set_covers z done.effects) summary_at in
+    let room_at : room ≡ has_room (env_begun around number method) = m.room_is ∙ ap has_room (begun_so around number method row types b d m.begun) in
+    ap (λ (z : Bool). told_at method.place (method_fault (has_value method.result) z covered room)) m.completes_is
     ∙ ap (λ (z : Bool). told_at method.place (method_fault (has_value method.result) (all_complete (method_stmts method)) z room)) covered_at
     ∙ ap
     (λ (z : Bool).
     told_at method.place
     (method_fault (has_value method.result) (all_complete (method_stmts method)) (set_covers (summary_of (numbered (table_of around) number)) done.effects) z))
     room_at
-    ∙ told_settled method.place _)
-    (of_method h refl)
+    ∙ told_settled method.place _
 
-pub ok_said : (r : Result (Unit {0}) Stop) (c : Body) (done : Found) (Q : Verdict → Type 0) → Says r (walk_of c done) Q →
-    OnOk r ((found : Found) × Q (passes (walk_of c found)))
-ok_said (Ok x) c done Q h = (done, h)
-ok_said (Err x) c done Q h = tt
+abbrev body_with : ℕ → ℕ → List TypedStmt → PlainBody
+body_with slots regions ss = record { slots = slots; local_regions = regions; stmts = stmts_of ss }
 
-pub fault_said : {T : Type 0} (r : Result T Stop) (w : Walk) (Q : Verdict → Type 0) → Says r w Q → IfErr r (λ z. IfRefused z (λ q. Q (refused q)))
-fault_said (Ok x) w Q h = tt
-fault_said (Err s) w Q h = h
+reported_some : {M : Type 0} (told : Option Refusal) (made : M) (q : Refusal) → told ≡ Some q → reported told made ≡ Err q
+reported_some told made q is = ap (λ (z : Option Refusal). reported z made) is
+
+reported_none : {M : Type 0} (told : Option Refusal) (made : M) → told ≡ None → reported told made ≡ Ok made
+reported_none told made is = ap (λ (z : Option Refusal). reported z made) is
+
+nothing_told : (told : Option Refusal) → settled told ≡ Ok tt → told ≡ None
+nothing_told None is = refl
+nothing_told (Some q) is = absurd (cc)
+
+pub method_stops : {T : Type 0} (around : Env) (number : ℕ) (method : Method) (row : Option MethodRow) (types : List Ty) (summary : List Effect)
+    (b d s : Body) (done : Found) (completes covered room : Bool) (ss : List TypedStmt) (r : Result T Stop) (made : T → Result PlainBody Refusal) (p : Stop) →
+    IsErrAnd r (λ z. z ≡ p) → BodyMet around number method row types summary b d s done completes covered room ss →
+    Err p ≡ told_at method.place (method_fault (has_value method.result) completes covered room) →
+    Says r made Err (MethodChecking around b.atomic_params number method)
+method_stops around number method row types summary b d s done completes covered room ss r made p is m told =
+    stopped_at (λ q. method_told around number method done.effects ≡ Some q) (MethodChecking around b.atomic_params number method) r made p is
+    (λ q t. of_method m.in_block (reported_some _ _ q t))
+    (settled_stop (method_told around number method done.effects) p
+    (sym (told ∙ told_so around number method row types summary b d s done completes covered room ss m)))
+
+pub method_passes : (around : Env) (number : ℕ) (method : Method) (row : Option MethodRow) (types : List Ty) (summary : List Effect)
+    (b d s : Body) (done : Found) (completes covered room : Bool) (ss : List TypedStmt) (slots regions : ℕ) →
+    BodyMet around number method row types summary b d s done completes covered room ss →
+    told_at method.place (method_fault (has_value method.result) completes covered room) ≡ Ok tt →
+    slots ≡ slots_in s.env → regions ≡ declared_in s.env →
+    MethodChecking around b.atomic_params number method (Ok (record { slots = slots; local_regions = regions; stmts = stmts_of ss }))
+method_passes around number method row types summary b d s done completes covered room ss slots regions m told slots_are regions_are =
+    of_method m.in_block
+    (reported_none _ _
+    (nothing_told (method_told around number method done.effects)
+    (sym (told_so around number method row types summary b d s done completes covered room ss m) ∙ told))
+    ∙ ap (λ (z : ℕ). Ok (body_with z (declared_in s.env) ss)) (sym slots_are) ∙ ap (λ (z : ℕ). Ok (body_with slots z ss)) (sym regions_are))
 
 -- the members that are left
 pub left_is : {X : Type 0} (xs all : List X) (i : ℕ) (x : X) → xs ≡ all → i < length xs → x ≡ get_or xs i x → x ∷ drop (i + 1) all ≡ drop i all
 left_is xs all i x same below is =
     ap (λ z. x ∷ drop (i + 1) z) (sym same) ∙ sym (drop_more xs i x below ∙ ap (λ z. z ∷ drop (i + 1) xs) (sym is)) ∙ ap (λ z. drop i z) same
 
-pub members_stop : (start : Env) (class first next i : ℕ) (items : List Member) (m : Member) (blocks more : List (List Effect)) (q : Refusal) →
-    i < length items → m ≡ get_or items i m →
-    ((v : MembersVerdict) → Members start class (drop i items) next more v → Members start class items first blocks v) →
-    Members start class (m ∷ drop (i + 1) items) next more (one_refused q) → Members start class items first blocks (one_refused q)
-members_stop start class first next i items m blocks more q below is goes_on d =
-    goes_on (one_refused q) (subst (λ (z : List Member). Members start class z next more (one_refused q)) (left_is items items i m refl below is) d)
+-- the bodies so far, in front of those of the others
+abbrev pub behind_all : List PlainBody → Result PlainBodies Refusal → Result PlainBodies Refusal
+behind_all before v = after_ok (behind_bodies before) v
 
--- the classes so far were checked, and what is said of the others is said of all
-pub record ClassesSoFar (start env : Env) (i number : ℕ) (all : List Class) (blocks more : List (List Effect)) : Type 0 where
+abbrev bodies_with : ℕ → List PlainBody → PlainBodies
+bodies_with next bodies = record { next = next; bodies = bodies }
+
+behind_none : (v : Result PlainBodies Refusal) → behind_all [] v ≡ v
+behind_none (Ok all) = refl
+behind_none (Err q) = refl
+
+behind_more : (before more : List PlainBody) (v : Result PlainBodies Refusal) → behind_all before (behind_all more v) ≡ behind_all (before ++ more) v
+behind_more before more (Ok all) = ap (λ (z : List PlainBody). Ok (bodies_with all.next z)) (sym (append_assoc before more all.bodies))
+behind_more before more (Err q) = refl
+
+-- the members so far passed, and what is said of the others is said of all
+pub record MembersSoFar (start : Env) (class first next i : ℕ) (items : List Member) (made : List PlainBody) : Type 0 where
+  pub goes_on : (v : Result PlainBodies Refusal) → Members start class (drop i items) next v → Members start class items first (behind_all made v)
+
+pub members_none : (start : Env) (class first : ℕ) (items : List Member) (made : List PlainBody) → made ≡ [] →
+    MembersSoFar start class first first 0 items made
+members_none start class first items made none = record {
+  goes_on = λ v d.
+      subst (λ (z : Result PlainBodies Refusal). Members start class items first z)
+      (sym (behind_none v) ∙ ap (λ (z : List PlainBody). behind_all z v) (sym none)) d;
+}
+
+pub members_stop : (start : Env) (class first next i : ℕ) (items : List Member) (m : Member) (made : List PlainBody) (q : Refusal) →
+    i < length items → m ≡ get_or items i m → MembersSoFar start class first next i items made →
+    MemberChecking (at_class start class) (class_params (table_of start) class) m next (Err q) → Members start class items first (Err q)
+members_stop start class first next i items m made q below is so_far d =
+    so_far.goes_on (Err q)
+    (subst (λ (z : List Member). Members start class z next (Err q)) (left_is items items i m refl below is) (MembersChecking.one_refused d))
+
+pub members_more : (start : Env) (class first next after i : ℕ) (items : List Member) (m : Member) (made more : List PlainBody) (one : Option PlainBody) →
+    i < length items → m ≡ get_or items i m → MembersSoFar start class first next i items made →
+    MemberChecking (at_class start class) (class_params (table_of start) class) m next (Ok one) → after ≡ number_after one next →
+    more ≡ made ++ bodies_of one → MembersSoFar start class first after (i + 1) items more
+members_more start class first next after i items m made more one below is so_far d after_is more_is = record {
+  goes_on = λ v rest.
+      let others : Members start class (m ∷ drop (i + 1) items) next (behind_all (bodies_of one) v) =
+      MembersChecking.then_members d (subst (λ (n : ℕ). Members start class (drop (i + 1) items) n v) after_is rest) refl in
+      subst (λ (z : Result PlainBodies Refusal). Members start class items first z)
+      (behind_more made (bodies_of one) v ∙ ap (λ (z : List PlainBody). behind_all z v) (sym more_is))
+      (so_far.goes_on _ (subst (λ (z : List Member). Members start class z next (behind_all (bodies_of one) v)) (left_is items items i m refl below is) others));
+}
+
+pub members_all : (start : Env) (class first next i : ℕ) (items : List Member) (made : List PlainBody) → drop i items ≡ [] →
+    MembersSoFar start class first next i items made → Members start class items first (Ok (record { next = next; bodies = made }))
+members_all start class first next i items made none so_far =
+    subst (λ (z : List PlainBody). Members start class items first (Ok (record { next = next; bodies = z }))) (append-nil made)
+    (so_far.goes_on (Ok (record { next = next; bodies = [] }))
+    (subst (λ (z : List Member). Members start class z next (Ok (record { next = next; bodies = [] }))) (sym none) MembersChecking.no_members))
+
+-- lists of bodies, one behind the other
+map_append : {X Y : Type 0} (f : X → Y) (xs ys : List X) → map f (xs ++ ys) ≡ map f xs ++ map f ys
+map_append f [] ys = refl
+map_append f (x ∷ xs) ys = ap (λ zs. f x ∷ zs) (map_append f xs ys)
+
+pub map_both : {X Y : Type 0} (f : X → Y) (xs ys all : List X) → all ≡ xs ++ ys → map f all ≡ map f xs ++ map f ys
+map_both f xs ys all is = ap (map f) is ∙ map_append f xs ys
+
+-- the classes so far passed, and what is said of the others is said of all
+abbrev pub classes_behind : List PlainBody → Result (List PlainBody) Refusal → Result (List PlainBody) Refusal
+classes_behind before v = after_ok (λ bodies. before ++ bodies) v
+
+classes_none : (v : Result (List PlainBody) Refusal) → classes_behind [] v ≡ v
+classes_none (Ok all) = refl
+classes_none (Err q) = refl
+
+classes_more : (before more : List PlainBody) (v : Result (List PlainBody) Refusal) →
+    classes_behind before (classes_behind more v) ≡ classes_behind (before ++ more) v
+classes_more before more (Ok all) = ap Ok (sym (append_assoc before more all))
+classes_more before more (Err q) = refl
+
+pub record ClassesSoFar (start env : Env) (i number : ℕ) (all : List Class) (made : List PlainBody) : Type 0 where
   pub around : (other : ℕ) → at_class env other ≡ at_class start other
-  pub goes_on : (v : BodiesVerdict) → ClassesChecking start i (drop i all) number more v → ClassesChecking start 0 all 0 blocks v
+  pub goes_on : (v : Result (List PlainBody) Refusal) → ClassesChecking start i (drop i all) number v → ClassesChecking start 0 all 0 (classes_behind made v)
 
-pub classes_stop : (start env : Env) (i number k : ℕ) (all : List Class) (c : Class) (blocks more : List (List Effect)) (q : Refusal) → i < length all →
-    c ≡ get_or all i c → k ≡ as_number i → ClassesSoFar start env i number all blocks more →
-    Members env k c.members number more (one_refused q) → ClassesChecking start 0 all 0 blocks (rejected q)
-classes_stop start env i number k all c blocks more q below is k_is so_far d =
-    so_far.goes_on (rejected q)
-    (subst (λ (z : List Class). ClassesChecking start i z number more (rejected q)) (left_is all all i c refl below is)
-    (member_refused (class_from start env i number k c.members more (one_refused q) so_far.around k_is d)))
+pub classes_begin : (start : Env) (all : List Class) (made : List PlainBody) → made ≡ [] → ClassesSoFar start start 0 0 all made
+classes_begin start all made none = record {
+  around = λ other. refl;
+  goes_on = λ v d.
+      subst (λ (z : Result (List PlainBody) Refusal). ClassesChecking start 0 all 0 z)
+      (sym (classes_none v) ∙ ap (λ (z : List PlainBody). classes_behind z v) (sym none)) d;
+}
 
-pub classes_go_on : (start env : Env) (i number next k : ℕ) (all : List Class) (c : Class) (blocks more last : List (List Effect)) → i < length all →
-    c ≡ get_or all i c → k ≡ as_number i → ClassesSoFar start env i number all blocks more →
-    Members env k c.members number more (all_checked next last) →
-    (v : BodiesVerdict) → ClassesChecking start (i + 1) (drop (i + 1) all) next last v → ClassesChecking start 0 all 0 blocks v
-classes_go_on start env i number next k all c blocks more last below is k_is so_far d v rest =
-    so_far.goes_on v
-    (subst (λ (z : List Class). ClassesChecking start i z number more v) (left_is all all i c refl below is)
-    (then_classes (class_from start env i number k c.members more (all_checked next last) so_far.around k_is d) rest))
+pub classes_stop : (start env : Env) (i number k : ℕ) (all : List Class) (c : Class) (made : List PlainBody) (q : Refusal) → i < length all →
+    c ≡ get_or all i c → k ≡ as_number i → ClassesSoFar start env i number all made → Members env k c.members number (Err q) →
+    ClassesChecking start 0 all 0 (Err q)
+classes_stop start env i number k all c made q below is k_is so_far d =
+    so_far.goes_on (Err q)
+    (subst (λ (z : List Class). ClassesChecking start i z number (Err q)) (left_is all all i c refl below is)
+    (member_refused (class_from start env i number k c.members (Err q) so_far.around k_is d)))
+
+pub classes_go_on : (start env next_env : Env) (i number next k : ℕ) (all : List Class) (c : Class) (made more one : List PlainBody) → i < length all →
+    c ≡ get_or all i c → k ≡ as_number i → ClassesSoFar start env i number all made →
+    ((other : ℕ) → at_class next_env other ≡ at_class env other) →
+    Members env k c.members number (Ok (record { next = next; bodies = one })) → more ≡ made ++ one →
+    ClassesSoFar start next_env (i + 1) next all more
+classes_go_on start env next_env i number next k all c made more one below is k_is so_far same d more_is = record {
+  around = λ other. same other ∙ so_far.around other;
+  goes_on = λ v rest.
+      let others : ClassesChecking start i (c ∷ drop (i + 1) all) number (classes_behind one v) =
+      then_classes (class_from start env i number k c.members (Ok (record { next = next; bodies = one })) so_far.around k_is d) rest refl in
+      subst (λ (z : Result (List PlainBody) Refusal). ClassesChecking start 0 all 0 z)
+      (classes_more made one v ∙ ap (λ (z : List PlainBody). classes_behind z v) (sym more_is))
+      (so_far.goes_on _ (subst (λ (z : List Class). ClassesChecking start i z number (classes_behind one v)) (left_is all all i c refl below is) others));
+}
+
+pub classes_all : (start env : Env) (i number : ℕ) (all : List Class) (made : List PlainBody) → drop i all ≡ [] →
+    ClassesSoFar start env i number all made → ClassesChecking start 0 all 0 (Ok made)
+classes_all start env i number all made none so_far =
+    subst (λ (z : List PlainBody). ClassesChecking start 0 all 0 (Ok z)) (append-nil made)
+    (so_far.goes_on (Ok []) (subst (λ (z : List Class). ClassesChecking start i z number (Ok [])) (sym none) no_classes))
 
 pub fresh_so : (program : Program) (table : Table) (length_name : Option ℕ) (start : Env) → length_name ≡ name_number program.names (codes "length") →
     IsFresh table length_name start → IsFresh table (name_number program.names (codes "length")) start
 fresh_so program table length_name start is fresh = subst (λ (z : Option ℕ). IsFresh table z start) is fresh
 
-pub whole_from : (program : Program) (table : Table) (start : Env) (body : Body) (classes : List Class) (v : BodiesVerdict) →
-    IsFresh table (name_number program.names (codes "length")) start → body.env ≡ start → body.blocks ≡ [] → classes ≡ program.classes →
-    ClassesChecking body.env 0 classes 0 body.blocks v → BodiesChecking program table v
-whole_from program table start body classes v fresh env_is none same d = record {
+pub whole_from : (program : Program) (table : Table) (start : Env) (body : Body) (classes : List Class) (v : Result (List PlainBody) Refusal) →
+    IsFresh table (name_number program.names (codes "length")) start → body.env ≡ start → classes ≡ program.classes →
+    ClassesChecking body.env 0 classes 0 v → BodiesChecking program table v
+whole_from program table start body classes v fresh env_is same d = record {
   start = start;
   fresh = fresh;
   checks =
-      subst (λ (e : Env). ClassesChecking e 0 program.classes 0 [] v) env_is
-      (subst (λ (bs : List (List Effect)). ClassesChecking body.env 0 program.classes 0 bs v) none
-      (subst (λ (cs : List Class). ClassesChecking body.env 0 cs 0 body.blocks v) same d));
+      subst (λ (e : Env). ClassesChecking e 0 program.classes 0 v) env_is
+      (subst (λ (cs : List Class). ClassesChecking body.env 0 cs 0 v) same d);
 }
 
 -- a member with no body
@@ -267,5 +382,23 @@ pub formals_end : (b c : Body) (formals : List Formal) (types : List Ty) (all : 
     (length formals ≡ 0) ⊎ (length types ≡ 0) → c ≡ with_env b all
 formals_end b c formals types all others rest none = others ∙ ap (λ (z : Env). with_env b z) (sym (no_more c.env formals types none) ∙ rest)
 
-pub number_after : (number next : ℕ) → next ≡ as_number (number + 1) → next ≡ as_number (suc number)
-number_after number next is = is ∙ ap as_number (add-one number)
+-- the body that a member has or hasn't
+pub body_next : (made : Option MemberBody) (body : MemberBody) (number next : ℕ) → made ≡ Some body → next ≡ as_number (number + 1) →
+    next ≡ number_after (option_map plain_body made) number
+body_next made body number next is next_is =
+    next_is ∙ ap as_number (add-one number) ∙ ap (λ (z : Option MemberBody). number_after (option_map plain_body z) number) (sym is)
+
+pub body_pushed : (made : Option MemberBody) (body : MemberBody) (before after : List MemberBody) → made ≡ Some body → after ≡ before ++ body ∷ [] →
+    map plain_body after ≡ map plain_body before ++ bodies_of (option_map plain_body made)
+body_pushed made body before after is more =
+    map_both plain_body before (body ∷ []) after more
+    ∙ ap (λ (z : Option MemberBody). map plain_body before ++ bodies_of (option_map plain_body z)) (sym is)
+
+pub no_body_next : (made : Option MemberBody) (number : ℕ) → made ≡ None → number ≡ number_after (option_map plain_body made) number
+no_body_next made number is = ap (λ (z : Option MemberBody). number_after (option_map plain_body z) number) (sym is)
+
+pub no_body_pushed : (made : Option MemberBody) (before : List MemberBody) → made ≡ None →
+    map plain_body before ≡ map plain_body before ++ bodies_of (option_map plain_body made)
+no_body_pushed made before is =
+    sym (append-nil (map plain_body before))
+    ∙ ap (λ (z : Option MemberBody). map plain_body before ++ bodies_of (option_map plain_body z)) (sym is)

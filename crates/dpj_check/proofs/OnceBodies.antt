@@ -1,6 +1,6 @@
 -- The bodies of a program over a class table have one verdict at most.
-use Rattle.std.proofs.Common.{◌≡◌, ◌∙◌, inl, inr, ℕ, Bool, List, [], length, Option, refl, sym, ap, subst}
-use Rattle.dpj_base.specs.declared.effect.Effect.{Effect}
+use Rattle.std.proofs.Common.{◌≡◌, ◌∙◌, ◌++◌, inl, inr, ℕ, Bool, List, [], length, Option, Some, Result, Ok, refl, sym, ap, subst}
+use Rattle.dpj_base.specs.declared.refusal.Refusal.{Refusal}
 use Rattle.dpj_base.specs.declared.ty.Super.{Super}
 use Rattle.dpj_headers.specs.Numbers.{as_number}
 use Rattle.dpj_resolve.specs.Scoped.{no_names}
@@ -10,73 +10,74 @@ use Rattle.dpj_tree.specs.declared.class.Method.{Method}
 use Rattle.dpj_classes.specs.declared.table.Table.{Table}
 use Rattle.dpj_classes.specs.Table.{given_of}
 use Rattle.dpj_classes.specs.Table.{supers_of as superclasses}
+use Rattle.dpj_assembly.specs.Assembled.{PlainBody}
 use Rattle.dpj_exprs.specs.declared.env.Env.{Env}
 use Rattle.dpj_exprs.specs.Env.{table_of, at_class, IsFresh}
 use Rattle.dpj_exprs.specs.Once.{OneTyping}
 use Rattle.dpj_exprs.specs.Typed.{AreTaken}
-use Rattle.dpj_check.specs.Methods.{class_params, method_judged, MethodChecking, of_method, MembersVerdict, all_checked, MembersChecking, BodiesVerdict, ClassesChecking}
+use Rattle.dpj_exprs.proofs.Once.{by_two}
+use Rattle.dpj_check.specs.Methods.{class_params, method_judged, after_ok, number_after, bodies_of, behind_bodies, PlainBodies, MethodChecking, of_method, MemberChecking, no_method, a_method, MembersChecking, ClassesChecking}
 use Rattle.dpj_check.specs.Once.{OneChecking}
-use Rattle.dpj_check.specs.Walks.{Walk, Verdict}
 use Rattle.dpj_check.proofs.Methodic.{class_from}
-use Rattle.dpj_check.proofs.Once.{block_once, same_walk}
+use Rattle.dpj_check.proofs.Once.{block_once}
 
-method_once : OneTyping → {class_env : Env} {params : List Bool} {number : ℕ} {method : Method} {blocks : List (List Effect)} {u v : Verdict} →
-    MethodChecking class_env params number method blocks u → MethodChecking class_env params number method blocks v → u ≡ v
+method_once : OneTyping → {class_env : Env} {params : List Bool} {number : ℕ} {method : Method} {u v : Result PlainBody Refusal} →
+    MethodChecking class_env params number method u → MethodChecking class_env params number method v → u ≡ v
 method_once one {class_env = env} {number = number} {method = method} (of_method d j) (of_method d' j') = sym j ∙ ap (method_judged env number method)
     (block_once one d d') ∙ j'
 
--- behind the same blocks, and from the same number on
-members_from : {class_env : Env} {params : List Bool} {ms : List Member} {number : ℕ} {x y : Walk} {v : MembersVerdict} → x ≡ y →
-    MembersChecking class_env params ms number y.blocks v → MembersChecking class_env params ms number x.blocks v
-members_from {class_env} {params} {ms} {number} {x} {y} {v} same d = subst (λ (z : Walk). MembersChecking class_env params ms number z.blocks v) (sym same) d
+member_once : OneTyping → {class_env : Env} {params : List Bool} {m : Member} {number : ℕ} {u v : Result (Option PlainBody) Refusal} →
+    MemberChecking class_env params m number u → MemberChecking class_env params m number v → u ≡ v
+member_once one (no_method n) (no_method n') = refl
+member_once one (no_method n) (a_method d' j') = absurd (cc)
+member_once one (a_method d j) (no_method n') = absurd (cc)
+member_once one (a_method d j) (a_method d' j') = sym j ∙ ap (after_ok Some) (method_once one d d') ∙ j'
 
-members_once : OneTyping → {class_env : Env} {params : List Bool} {ms : List Member} {number : ℕ} {blocks : List (List Effect)} {u v : MembersVerdict} →
-    MembersChecking class_env params ms number blocks u → MembersChecking class_env params ms number blocks v → u ≡ v
+same_ok : {T : Type 0} {x y : T} → ◌≡◌ {A = Result T Refusal} (Ok x) (Ok y) → x ≡ y
+same_ok e = cc
+
+-- from the same number on
+members_from : {class_env : Env} {params : List Bool} {ms : List Member} {m n : ℕ} {v : Result PlainBodies Refusal} → m ≡ n →
+    MembersChecking class_env params ms n v → MembersChecking class_env params ms m v
+members_from {class_env} {params} {ms} {m} {n} {v} same d = subst (λ (z : ℕ). MembersChecking class_env params ms z v) (sym same) d
+
+members_once : OneTyping → {class_env : Env} {params : List Bool} {ms : List Member} {number : ℕ} {u v : Result PlainBodies Refusal} →
+    MembersChecking class_env params ms number u → MembersChecking class_env params ms number v → u ≡ v
 members_once one MembersChecking.no_members MembersChecking.no_members = refl
-members_once one (MembersChecking.no_method n d) (MembersChecking.no_method n' d') = members_once one d d'
-members_once one (MembersChecking.no_method n d) (MembersChecking.method_refused d') = cc
-members_once one (MembersChecking.no_method n d) (MembersChecking.then_members d' r') = cc
-members_once one (MembersChecking.method_refused d) (MembersChecking.no_method n' d') = cc
-members_once one (MembersChecking.method_refused d) (MembersChecking.method_refused d') = let e = method_once one d d' in cc
-members_once one (MembersChecking.method_refused d) (MembersChecking.then_members d' r') = let e = method_once one d d' in cc
-members_once one (MembersChecking.then_members d r) (MembersChecking.no_method n' d') = cc
-members_once one (MembersChecking.then_members d r) (MembersChecking.method_refused d') = let e = method_once one d d' in cc
-members_once one (MembersChecking.then_members d r) (MembersChecking.then_members d' r') = members_once one r
-    (members_from (same_walk (method_once one d d')) r')
-
-same_next : {m n : ℕ} {xs ys : List (List Effect)} → all_checked m xs ≡ all_checked n ys → m ≡ n
-same_next e = cc
-
-same_blocks : {m n : ℕ} {xs ys : List (List Effect)} → all_checked m xs ≡ all_checked n ys → xs ≡ ys
-same_blocks e = cc
+members_once one (MembersChecking.one_refused d) (MembersChecking.one_refused d') = let e = member_once one d d' in cc
+members_once one (MembersChecking.one_refused d) (MembersChecking.then_members d' r' j') = let e = member_once one d d' in cc
+members_once one (MembersChecking.then_members d r j) (MembersChecking.one_refused d') = let e = member_once one d d' in cc
+members_once one {number = number} (MembersChecking.then_members d r j) (MembersChecking.then_members d' r' j') =
+    let e = same_ok (member_once one d d') in
+    by_two (λ (made : Option PlainBody) (rest : Result PlainBodies Refusal). after_ok (behind_bodies (bodies_of made)) rest) e
+    (members_once one r (members_from (ap (λ (z : Option PlainBody). number_after z number) e) r')) j j'
 
 -- both begin alike at each class
 abbrev Alike : Env → Env → Type 0
 Alike start other = (class : ℕ) → at_class other class ≡ at_class start class
 
-class_once : OneTyping → (start other : Env) (at number : ℕ) (ms : List Member) (blocks : List (List Effect)) (u v : MembersVerdict) → Alike start other →
-    MembersChecking (at_class start (as_number at)) (class_params (table_of start) (as_number at)) ms number blocks u →
-    MembersChecking (at_class other (as_number at)) (class_params (table_of other) (as_number at)) ms number blocks v → u ≡ v
-class_once one start other at number ms blocks u v alike d d' = members_once one d (class_from start other at number (as_number at) ms blocks v alike refl d')
+class_once : OneTyping → (start other : Env) (at number : ℕ) (ms : List Member) (u v : Result PlainBodies Refusal) → Alike start other →
+    MembersChecking (at_class start (as_number at)) (class_params (table_of start) (as_number at)) ms number u →
+    MembersChecking (at_class other (as_number at)) (class_params (table_of other) (as_number at)) ms number v → u ≡ v
+class_once one start other at number ms u v alike d d' = members_once one d (class_from start other at number (as_number at) ms v alike refl d')
 
-classes_from : {start : Env} {at : ℕ} {classes : List Class} {m n : ℕ} {xs ys : List (List Effect)} {v : BodiesVerdict} → m ≡ n → xs ≡ ys →
-    ClassesChecking start at classes n ys v → ClassesChecking start at classes m xs v
-classes_from {start} {at} {classes} {m} {n} {xs} {ys} {v} same alike d =
-    subst (λ (z : ℕ). ClassesChecking start at classes z xs v) (sym same)
-    (subst (λ (z : List (List Effect)). ClassesChecking start at classes n z v) (sym alike) d)
+classes_from : {start : Env} {at : ℕ} {classes : List Class} {m n : ℕ} {v : Result (List PlainBody) Refusal} → m ≡ n →
+    ClassesChecking start at classes n v → ClassesChecking start at classes m v
+classes_from {start} {at} {classes} {m} {n} {v} same d = subst (λ (z : ℕ). ClassesChecking start at classes z v) (sym same) d
 
-classes_once : OneTyping → {start other : Env} {at : ℕ} {classes : List Class} {number : ℕ} {blocks : List (List Effect)} {u v : BodiesVerdict} →
-    Alike start other → ClassesChecking start at classes number blocks u → ClassesChecking other at classes number blocks v → u ≡ v
+classes_once : OneTyping → {start other : Env} {at : ℕ} {classes : List Class} {number : ℕ} {u v : Result (List PlainBody) Refusal} →
+    Alike start other → ClassesChecking start at classes number u → ClassesChecking other at classes number v → u ≡ v
 classes_once one alike ClassesChecking.no_classes ClassesChecking.no_classes = refl
-classes_once one {start} {other} alike (ClassesChecking.member_refused d) (ClassesChecking.member_refused d') = let e = class_once one start other _ _ _ _ _
-    _ alike d d' in cc
-classes_once one {start} {other} alike (ClassesChecking.member_refused d) (ClassesChecking.then_classes d' r') = let e = class_once one start other _ _ _ _ _
-    _ alike d d' in cc
-classes_once one {start} {other} alike (ClassesChecking.then_classes d r) (ClassesChecking.member_refused d') = let e = class_once one start other _ _ _ _ _
-    _ alike d d' in cc
-classes_once one {start} {other} alike (ClassesChecking.then_classes d r) (ClassesChecking.then_classes d' r') =
-    let e = class_once one start other _ _ _ _ _ _ alike d d' in
-    classes_once one alike r (classes_from (same_next e) (same_blocks e) r')
+classes_once one {start} {other} alike (ClassesChecking.member_refused d) (ClassesChecking.member_refused d') =
+    let e = class_once one start other _ _ _ _ _ alike d d' in cc
+classes_once one {start} {other} alike (ClassesChecking.member_refused d) (ClassesChecking.then_classes d' r' j') =
+    let e = class_once one start other _ _ _ _ _ alike d d' in cc
+classes_once one {start} {other} alike (ClassesChecking.then_classes d r j) (ClassesChecking.member_refused d') =
+    let e = class_once one start other _ _ _ _ _ alike d d' in cc
+classes_once one {start} {other} alike (ClassesChecking.then_classes d r j) (ClassesChecking.then_classes d' r' j') =
+    let e = same_ok (class_once one start other _ _ _ _ _ alike d d') in
+    by_two (λ (made : PlainBodies) (rest : Result (List PlainBody) Refusal). after_ok (λ bodies. made.bodies ++ bodies) rest) e
+    (classes_once one alike r (classes_from (ap (λ (z : PlainBodies). z.next) e) r')) j j'
 
 -- what is around the members of a class, told of the table, the superclasses and the name `length` alone
 abbrev around_class : Table → List Super → Option ℕ → ℕ → Env

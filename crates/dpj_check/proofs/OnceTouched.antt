@@ -1,56 +1,73 @@
--- Branches that touch the same locals clash alike, and which locals a branch touches is said once.
-use Rattle.std.proofs.Common.{◌≡◌, ℕ, zero, suc, Contains, arith, Bool, true, false, List, [], ◌∷◌, length, get_or, ◌<◌, inl, inr, refl, sym, ap, subst}
+-- Which locals a branch touches is said once, and so is whether two branches clash over them.
+use Rattle.std.proofs.Common.{◌≡◌, ◌∙◌, ℕ, ◌<◌, ◌≤◌, Contains, arith, Bool, true, false, List, [], ◌∷◌, Less, Equal, Greater, Ordering, refl, sym, ap, subst}
+use Rattle.std.proofs.lemmas.Cmp.{ranked}
+use Rattle.std.proofs.lemmas.List.Elements.{All-contains, Contains-append_right}
+use Rattle.std.proofs.lemmas.Map.Keys.{sorted_tail}
+use Rattle.std.proofs.lemmas.Map.Made.{Contains-tail}
+use Rattle.std.proofs.lemmas.Map.Views.{All-after_first}
+use Rattle.std.specs.List.Sorted.{IsStrictlySortedBy}
+use Rattle.std.specs.Ordering.{nat_cmp}
 use Rattle.dpj_base.specs.Pairs.{NoPair}
 use Rattle.dpj_locals.specs.declared.branch.Touched.{Touched}
-use Rattle.dpj_locals.specs.Clash.{Disturbs, Clash}
+use Rattle.dpj_locals.specs.Clash.{Clash}
 use Rattle.dpj_tree.specs.Plain.{PlainStmt}
 use Rattle.dpj_check.specs.Checking.{TouchedBy, ClashIs}
 
--- the same locals
-pub record Alike (a b : Touched) : Type 0 where
-  pub reads : (x : ℕ) → Contains a.reads x → Contains b.reads x
-  pub writes : (x : ℕ) → Contains a.writes x → Contains b.writes x
+nothing_inside : (x : ℕ) → Contains [] x → ⊥
+nothing_inside x (k, lt, e) = omega arith
 
-disturbs_alike : (a b c d : Touched) → Alike a b → Alike c d → Disturbs a c → Disturbs b d
-disturbs_alike a b c d p q (x, w, inl r) = (x, p.writes x w, inl (q.reads x r))
-disturbs_alike a b c d p q (x, w, inr r) = (x, p.writes x w, inr (q.writes x r))
+first_inside : (x : ℕ) (xs : List ℕ) → Contains (x ∷ xs) x
+first_inside x xs = (0, omega arith, refl)
 
-clash_alike : (a b c d : Touched) → Alike a b → Alike c d → Clash a c → Clash b d
-clash_alike a b c d p q (inl e) = inl (disturbs_alike a b c d p q e)
-clash_alike a b c d p q (inr e) = inr (disturbs_alike c d a b q p e)
+later_inside : (x : ℕ) (xs : List ℕ) (z : ℕ) → Contains xs z → Contains (x ∷ xs) z
+later_inside x xs z held = Contains-append_right (x ∷ []) xs z held
 
--- branch by branch
-pub data Alikes : List Touched → List Touched → Type 0 where
-  none : Alikes [] []
-  more : {a b : Touched} {xs ys : List Touched} → Alike a b → Alike b a → Alikes xs ys → Alikes (a ∷ xs) (b ∷ ys)
+-- in a list in order the first number is below the others
+above_first : (y : ℕ) (ys : List ℕ) (x : ℕ) → IsStrictlySortedBy nat_cmp (y ∷ ys) → Contains ys x → y < x
+above_first y ys x sorted held = ranked y x Less (sym (All-contains (λ q. nat_cmp y q ≡ Less) ys x (All-after_first nat_cmp y ys sorted) held))
 
-pub turned : {xs ys : List Touched} → Alikes xs ys → Alikes ys xs
-turned none = none
-turned (more p q r) = more q p (turned r)
+not_below : (x y : ℕ) (r : Ordering) → r ≡ nat_cmp x y → (x < y → ⊥) → y ≤ x
+not_below x y Less is never = absurd (never (ranked x y Less is))
+not_below x y Equal is never = let e : x ≡ y = ranked x y Equal is in omega (arith, e)
+not_below x y Greater is never = let g : y < x = ranked x y Greater is in omega (arith, g)
 
-long_as : {xs ys : List Touched} → Alikes xs ys → length xs ≡ length ys
-long_as none = refl
-long_as (more p q r) = ap suc (long_as r)
+at_least : (y : ℕ) (ys : List ℕ) (x : ℕ) → IsStrictlySortedBy nat_cmp (y ∷ ys) → Contains (y ∷ ys) x → y ≤ x
+at_least y ys x sorted held =
+    not_below x y (nat_cmp x y) refl
+    (λ below. let above : y < x = above_first y ys x sorted (Contains-tail y ys x (λ e. omega (arith, below, e)) held) in omega (arith, below, above))
 
-at_place : {xs ys : List Touched} → Alikes xs ys → (i : ℕ) (d : Touched) → i < length ys → Alike (get_or ys i d) (get_or xs i d)
-at_place none i d below = absurd (omega arith)
-at_place (more p q r) zero d below = q
-at_place (more p q r) (suc i) d below = at_place r i d (omega arith)
+-- two lists in order that hold the same numbers are the same
+same_sorted : (xs ys : List ℕ) → IsStrictlySortedBy nat_cmp xs → IsStrictlySortedBy nat_cmp ys → ((x : ℕ) → Contains xs x → Contains ys x) →
+    ((x : ℕ) → Contains ys x → Contains xs x) → xs ≡ ys
+same_sorted [] [] p q f g = refl
+same_sorted [] (y ∷ ys) p q f g = absurd (nothing_inside y (g y (first_inside y ys)))
+same_sorted (x ∷ xs) [] p q f g = absurd (nothing_inside x (f x (first_inside x xs)))
+same_sorted (x ∷ xs) (y ∷ ys) p q f g =
+    let low : y ≤ x = at_least y ys x q (f x (first_inside x xs)) in
+    let high : x ≤ y = at_least x xs y p (g y (first_inside y ys)) in
+    let e : x ≡ y = omega (arith, low, high) in
+    ap (λ z. z ∷ xs) e
+    ∙ ap (λ zs. y ∷ zs)
+    (same_sorted xs ys (sorted_tail nat_cmp x xs p) (sorted_tail nat_cmp y ys q)
+    (λ z held.
+    Contains-tail y ys z (λ d. let above : x < z = above_first x xs z p held in omega (arith, e, d, above)) (f z (later_inside x xs z held)))
+    (λ z held.
+    Contains-tail x xs z (λ d. let above : y < z = above_first y ys z q held in omega (arith, e, d, above)) (g z (later_inside y ys z held))))
 
-pub none_alike : {xs ys : List Touched} → Alikes xs ys → NoPair Clash xs → NoPair Clash ys
-none_alike all apart i j d before below clash =
-    apart i j d before (subst (λ n. j < n) (sym (long_as all)) below)
-    (clash_alike _ _ _ _ (at_place all i d (omega (arith, before, below))) (at_place all j d below) clash)
+-- the locals that a branch touches
+abbrev touching : List ℕ → List ℕ → Touched
+touching reads writes = record { reads = reads; writes = writes }
 
-alike : (s : PlainStmt) (a b : Touched) → TouchedBy s a → TouchedBy s b → Alike a b
-alike s a b p q = record { reads = λ x c. (q.reads x).0 ((p.reads x).1 c); writes = λ x c. (q.assigns x).0 ((p.assigns x).1 c) }
+pub touched_once : {s : PlainStmt} {a b : Touched} → TouchedBy s a → TouchedBy s b → a ≡ b
+touched_once {s} {a} {b} p q =
+    let reads : a.reads ≡ b.reads =
+    same_sorted a.reads b.reads p.once.0 q.once.0 (λ x c. (q.reads x).0 ((p.reads x).1 c)) (λ x c. (p.reads x).0 ((q.reads x).1 c)) in
+    let writes : a.writes ≡ b.writes =
+    same_sorted a.writes b.writes p.once.1 q.once.1 (λ x c. (q.assigns x).0 ((p.assigns x).1 c)) (λ x c. (p.assigns x).0 ((q.assigns x).1 c)) in
+    ap (λ (z : List ℕ). touching z a.writes) reads ∙ ap (touching b.reads) writes
 
--- behind a branch of which both say what it touches
-pub one_more : {s : PlainStmt} {a b : Touched} {xs ys : List Touched} → TouchedBy s a → TouchedBy s b → Alikes xs ys → Alikes (a ∷ xs) (b ∷ ys)
-one_more {s} {a} {b} p q rest = more (alike s a b p q) (alike s b a q p) rest
-
-pub clash_once : {xs ys : List Touched} (a b : Bool) → Alikes xs ys → ClashIs xs a → ClashIs ys b → a ≡ b
-clash_once true true all p q = refl
-clash_once true false all p q = absurd (p (none_alike (turned all) q))
-clash_once false true all p q = absurd (q (none_alike all p))
-clash_once false false all p q = refl
+pub clash_once : {xs ys : List Touched} (a b : Bool) → xs ≡ ys → ClashIs xs a → ClashIs ys b → a ≡ b
+clash_once true true same p q = refl
+clash_once true false same p q = absurd (p (subst (λ (z : List Touched). NoPair Clash z) (sym same) q))
+clash_once false true same p q = absurd (q (subst (λ (z : List Touched). NoPair Clash z) same p))
+clash_once false false same p q = refl

@@ -1,40 +1,92 @@
 -- Statements one after the other: what is said of each step of the loop over them.
-use Rattle.std.proofs.Common.{◌≡◌, ◌∙◌, ℕ, suc, ◌+◌, ◌<◌, ◌&&◌, IsTrue, Bool, true, false, not, List, [], ◌∷◌, map, length, get_or, drop, drop-cons, add-one, refl, sym, ap, subst}
+use Rattle.std.proofs.Common.{◌≡◌, ◌∙◌, ℕ, suc, ◌+◌, ◌<◌, ◌&&◌, IsTrue, Bool, true, false, not, List, [], ◌∷◌, ◌++◌, map, length, append_assoc, append-nil, None, get_or, drop, drop-cons, add-one, refl, sym, ap, subst}
 use Rattle.dpj_base.specs.declared.refusal.Refusal.{Refusal}
 use Rattle.dpj_tree.specs.declared.stmt.Stmt.{Stmt}
 use Rattle.dpj_tree.specs.Plain.{PlainStmts, plain_stmt, plain_stmts}
+use Rattle.dpj_typed.specs.Plain.{TypedStmt}
 use Rattle.dpj_check.specs.declared.node.Around.{Around}
 use Rattle.dpj_check.specs.Checking.{Standing, InOrder, none_left, statement_refused, then_others}
 use Rattle.dpj_check.specs.Completes.{completes, all_complete}
 use Rattle.dpj_check.specs.Keeping.{Keeps, MayFollow, AllKeep, BranchesKeep, inside}
-use Rattle.dpj_check.specs.Walks.{Walk, Verdict, passes, refused}
+use Rattle.dpj_check.specs.Walks.{Walk, Verdict, passes, refused, behind}
 
 -- the next statement stands first in what is left
 pub next_is : (all : List Stmt) (i : ℕ) (s : Stmt) → i < length all → s ≡ get_or all i s → drop i all ≡ s ∷ drop (i + 1) all
 next_is all i s below is = drop-cons all i s below ∙ ap (λ x. x ∷ drop (suc i) all) (sym is) ∙ ap (λ k. s ∷ drop k all) (sym (add-one i))
 
-pub next_refused : (params own : List Bool) (around : Around) (complete : Bool) (all : List Stmt) (i : ℕ) (s : Stmt) (w : Walk) (q : Refusal) →
+next_refused : (params own : List Bool) (around : Around) (complete : Bool) (all : List Stmt) (i : ℕ) (s : Stmt) (w : Walk) (q : Refusal) →
     own ≡ params → i < length all → s ≡ get_or all i s → Standing own around (not complete) (plain_stmt s) w (refused q) →
     InOrder params around complete (plain_stmts (map plain_stmt (drop i all))) w (refused q)
 next_refused params own around complete all i s w q same below is d =
     subst (λ ss. InOrder params around complete (plain_stmts (map plain_stmt ss)) w (refused q)) (sym (next_is all i s below is))
     (statement_refused (subst (λ (z : List Bool). Standing z around (not complete) (plain_stmt s) w (refused q)) same d))
 
-pub next_passes : (params own : List Bool) (around : Around) (complete done next : Bool) (all : List Stmt) (i : ℕ) (s : Stmt) (w u : Walk) (v : Verdict) →
-    own ≡ params → i < length all → s ≡ get_or all i s → Standing own around (not complete) (plain_stmt s) w (passes u) →
-    done ≡ completes (plain_stmt s) → next ≡ (complete && done) →
-    InOrder params around next (plain_stmts (map plain_stmt (drop (i + 1) all))) u v →
-    InOrder params around complete (plain_stmts (map plain_stmt (drop i all))) w v
-next_passes params own around complete done next all i s w u v same below is d done_is next_so rest =
-    subst (λ ss. InOrder params around complete (plain_stmts (map plain_stmt ss)) w v) (sym (next_is all i s below is))
-    (then_others (subst (λ (z : List Bool). Standing z around (not complete) (plain_stmt s) w (passes u)) same d)
-    (subst (λ (z : Bool). InOrder params around z (plain_stmts (map plain_stmt (drop (i + 1) all))) u v)
-    (next_so ∙ ap (λ (z : Bool). complete && z) done_is) rest))
+-- one more of what is made
+map_more : {X Y : Type 0} (f : X → Y) (xs : List X) (x : X) → map f (xs ++ x ∷ []) ≡ map f xs ++ f x ∷ []
+map_more f [] x = refl
+map_more f (y ∷ ys) x = ap (λ zs. f y ∷ zs) (map_more f ys x)
 
-pub none_after : (params : List Bool) (around : Around) (complete : Bool) (all : List Stmt) (i : ℕ) (w : Walk) → drop i all ≡ [] →
-    InOrder params around complete (plain_stmts (map plain_stmt (drop i all))) w (passes w)
+pub map_pushed : {X Y : Type 0} (f : X → Y) (xs pushed : List X) (x : X) → pushed ≡ xs ++ x ∷ [] → map f pushed ≡ map f xs ++ f x ∷ []
+map_pushed f xs pushed x is = ap (map f) is ∙ map_more f xs x
+
+-- the statements so far, and what is made of the others
+abbrev pub behind_stmts : List TypedStmt → Verdict (List TypedStmt) → Verdict (List TypedStmt)
+behind_stmts made v = behind None (λ others. made ++ others) v
+
+behind_none : (v : Verdict (List TypedStmt)) → behind_stmts [] v ≡ v
+behind_none (passes others w) = refl
+behind_none (refused q) = refl
+
+behind_one : (made : List TypedStmt) (one : TypedStmt) (v : Verdict (List TypedStmt)) →
+    behind_stmts made (behind None (λ others. one ∷ others) v) ≡ behind_stmts (made ++ one ∷ []) v
+behind_one made one (passes others w) = ap (λ (z : List TypedStmt). passes z w) (sym (append_assoc made (one ∷ []) others))
+behind_one made one (refused q) = refl
+
+behind_all : (made : List TypedStmt) (w : Walk) → behind_stmts made (passes [] w) ≡ passes made w
+behind_all made w = ap (λ (z : List TypedStmt). passes z w) (append-nil made)
+
+-- the statements so far passed, and what is said of the others is said of all
+abbrev pub OrderSoFar : List Bool → Around → List Stmt → Walk → ℕ → Bool → List TypedStmt → Walk → Type 0
+OrderSoFar params around all w i complete made u =
+    (v : Verdict (List TypedStmt)) → InOrder params around complete (plain_stmts (map plain_stmt (drop i all))) u v →
+    InOrder params around true (plain_stmts (map plain_stmt all)) w (behind_stmts made v)
+
+pub order_none : (params : List Bool) (around : Around) (all : List Stmt) (w : Walk) (made : List TypedStmt) → made ≡ [] →
+    OrderSoFar params around all w 0 true made w
+order_none params around all w made none v d =
+    subst (λ (z : Verdict (List TypedStmt)). InOrder params around true (plain_stmts (map plain_stmt all)) w z)
+    (sym (behind_none v) ∙ ap (λ (z : List TypedStmt). behind_stmts z v) (sym none)) d
+
+pub order_refused : (params own : List Bool) (around : Around) (all : List Stmt) (w : Walk) (i : ℕ) (complete : Bool) (made : List TypedStmt) (s : Stmt)
+    (u : Walk) (q : Refusal) → OrderSoFar params around all w i complete made u → own ≡ params → i < length all → s ≡ get_or all i s →
+    Standing own around (not complete) (plain_stmt s) u (refused q) → InOrder params around true (plain_stmts (map plain_stmt all)) w (refused q)
+order_refused params own around all w i complete made s u q before same below is d =
+    before (refused q) (next_refused params own around complete all i s u q same below is d)
+
+pub order_more : (params own : List Bool) (around : Around) (complete done next : Bool) (all : List Stmt) (i : ℕ) (made more : List TypedStmt)
+    (one : TypedStmt) (s : Stmt) (w u x : Walk) → OrderSoFar params around all w i complete made u → own ≡ params → i < length all →
+    s ≡ get_or all i s → Standing own around (not complete) (plain_stmt s) u (passes one x) → done ≡ completes (plain_stmt s) →
+    next ≡ (complete && done) → more ≡ made ++ one ∷ [] → OrderSoFar params around all w (i + 1) next more x
+order_more params own around complete done next all i made more one s w u x before same below is d done_is next_so more_is v rest =
+    let here : InOrder params around complete (plain_stmts (map plain_stmt (s ∷ drop (i + 1) all))) u (behind None (λ others. one ∷ others) v) =
+    then_others (subst (λ (z : List Bool). Standing z around (not complete) (plain_stmt s) u (passes one x)) same d)
+    (subst (λ (z : Bool). InOrder params around z (plain_stmts (map plain_stmt (drop (i + 1) all))) x v)
+    (next_so ∙ ap (λ (z : Bool). complete && z) done_is) rest) refl in
+    subst (λ (z : Verdict (List TypedStmt)). InOrder params around true (plain_stmts (map plain_stmt all)) w z)
+    (behind_one made one v ∙ ap (λ (z : List TypedStmt). behind_stmts z v) (sym more_is))
+    (before _ (subst (λ ss. InOrder params around complete (plain_stmts (map plain_stmt ss)) u (behind None (λ others. one ∷ others) v))
+    (sym (next_is all i s below is)) here))
+
+none_after : (params : List Bool) (around : Around) (complete : Bool) (all : List Stmt) (i : ℕ) (w : Walk) → drop i all ≡ [] →
+    InOrder params around complete (plain_stmts (map plain_stmt (drop i all))) w (passes [] w)
 none_after params around complete all i w none =
-    subst (λ ss. InOrder params around complete (plain_stmts (map plain_stmt ss)) w (passes w)) (sym none) none_left
+    subst (λ ss. InOrder params around complete (plain_stmts (map plain_stmt ss)) w (passes [] w)) (sym none) none_left
+
+pub order_all : (params : List Bool) (around : Around) (complete : Bool) (all : List Stmt) (i : ℕ) (made : List TypedStmt) (w u : Walk) →
+    OrderSoFar params around all w i complete made u → drop i all ≡ [] → InOrder params around true (plain_stmts (map plain_stmt all)) w (passes made u)
+order_all params around complete all i made w u before none =
+    subst (λ (z : Verdict (List TypedStmt)). InOrder params around true (plain_stmts (map plain_stmt all)) w z) (behind_all made u)
+    (before (passes [] u) (none_after params around complete all i u none))
 
 -- what else a step through the statements keeps
 and_step : (c d : Bool) (a : Bool) → ((c && d) && a) ≡ (c && (d && a))

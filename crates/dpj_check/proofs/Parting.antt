@@ -8,55 +8,58 @@ use Rattle.dpj_headers.specs.Faults.{settled}
 use Rattle.dpj_parts.specs.Uses.{parts_interfere}
 use Rattle.dpj_tree.specs.declared.region.Named.{Named}
 use Rattle.dpj_tree.specs.Plain.{PlainExpr, PlainStmt}
+use Rattle.dpj_typed.specs.Plain.{TypedExpr, TypedStmt, Source}
+use Rattle.dpj_typed.specs.Plain as typed
 use Rattle.dpj_exprs.specs.declared.env.Env.{Env}
 use Rattle.dpj_exprs.specs.declared.env.Mark.{Mark}
 use Rattle.dpj_exprs.specs.declared.found.Found.{Found}
+use Rattle.dpj_exprs.specs.Answer.{Says}
 use Rattle.dpj_exprs.specs.Env.{bare, given_in, slots_in, left_to, mark_of}
 use Rattle.dpj_check.specs.declared.body.Body.{Body}
 use Rattle.dpj_check.specs.declared.leaving.Leaving.{Leaving}
 use Rattle.dpj_check.specs.declared.leaving.Marks.TheVariants as marks
 use Rattle.dpj_check.specs.declared.node.Around.{Around}
 use Rattle.dpj_check.specs.declared.node.Node.{Node}
-use Rattle.dpj_check.specs.Checking.{InScope, opened, not_opened, Opening, Parting, range_refused, part_refused, part_assigning, parted, AssignsIs, part_slot, part_variable}
+use Rattle.dpj_check.specs.Checking.{InScope, opened, not_opened, Opening, Parting, range_refused, part_refused, part_assigning, parted, AssignsIs, outer_part, part_slot, part_variable}
 use Rattle.dpj_check.specs.Gathering.{taken_in, handed_on}
 use Rattle.dpj_check.specs.Keeping.{inside}
 use Rattle.dpj_check.specs.Leaving.{from_here}
 use Rattle.dpj_check.specs.Noting.{fault_of, settled_node, with_fault_if}
-use Rattle.dpj_check.specs.Walks.{Walk, passes, refused, apart_from, nothing_found, walk_of, home_of, Says}
+use Rattle.dpj_check.specs.Walks.{Verdict, passes, refused, apart_from, nothing_found, walk_of, home_of}
 use Rattle.dpj_check.proofs.Homes.{parts_at_home, piece_begun}
-use Rattle.dpj_check.proofs.Passing.{stopped, settle_stopped, judged_none, judged_some, noted_twice, walk_from, closed_is}
+use Rattle.dpj_check.proofs.Passing.{stopped, settle_stopped, judged_none, judged_some, noted_twice, passes_so, walk_from, closed_is}
 
 pub range_stopped : {T : Type 0} (b : Body) (around : Around) (node : Node) (view var : Named) (array count : PlainExpr) (body : PlainStmt) (f : Found)
-    (x : Walk) (r : Result T Stop) (s : Stop) → IsErrAnd r (λ z. z ≡ s) →
+    (x : T → Verdict TypedStmt) (r : Result T Stop) (s : Stop) → IsErrAnd r (λ z. z ≡ s) →
     IfRefused s (λ q. Opening node view var array count (walk_of b f) (not_opened q)) →
-    Says r x (Parting b.atomic_params around node view var array count body (walk_of b f))
+    Says r x refused (Parting b.atomic_params around node view var array count body (walk_of b f))
 range_stopped b around node view var array count body f x r s is h =
     stopped (λ q. Opening node view var array count (walk_of b f) (not_opened q))
     (Parting b.atomic_params around node view var array count body (walk_of b f)) r x s is (λ q d. range_refused d) h
 
 pub part_stopped : {T : Type 0} (b o : Body) (around within : Around) (node first : Node) (view var : Named) (array count : PlainExpr)
-    (body : PlainStmt) (f g begun : Found) (outer : Option ℕ) (x : Walk) (r : Result T Stop) (s : Stop) → IsErrAnd r (λ z. z ≡ s) →
-    Opening node view var array count (walk_of b f) (opened outer first (walk_of o g)) → home_of o ≡ home_of b → within ≡ inside around →
+    (body : PlainStmt) (f g begun : Found) (source : Source) (size : TypedExpr) (x : T → Verdict TypedStmt) (r : Result T Stop) (s : Stop) → IsErrAnd r (λ z. z ≡ s) →
+    Opening node view var array count (walk_of b f) (opened source size first (walk_of o g)) → home_of o ≡ home_of b → within ≡ inside around →
     begun ≡ nothing_found → IfRefused s (λ q. InScope o.atomic_params within body (walk_of o begun) (refused q)) →
-    Says r x (Parting b.atomic_params around node view var array count body (walk_of b f))
-part_stopped b o around within node first view var array count body f g begun outer x r s is opening home within_is none h =
+    Says r x refused (Parting b.atomic_params around node view var array count body (walk_of b f))
+part_stopped b o around within node first view var array count body f g begun source size x r s is opening home within_is none h =
     stopped (λ q. InScope o.atomic_params within body (walk_of o begun) (refused q))
     (Parting b.atomic_params around node view var array count body (walk_of b f)) r x s is
     (λ q k. part_refused opening (piece_begun b o around within body g begun (refused q) home within_is none k)) h
 
 -- the body of a part that passed, as it was found
 pub record Part (b o s : Body) (around : Around) (node first second : Node) (view var : Named) (array count : PlainExpr) (body : PlainStmt)
-    (f g inner : Found) (outer : Option ℕ) (assigns : Bool) : Type 0 where
-  pub opening : Opening node view var array count (walk_of b f) (opened outer first (walk_of o g))
+    (f g inner : Found) (source : Source) (size : TypedExpr) (piece : TypedStmt) (assigns : Bool) : Type 0 where
+  pub opening : Opening node view var array count (walk_of b f) (opened source size first (walk_of o g))
   pub second_is : second ≡ with_fault_if first kind.Assign assigns
-  pub in_scope : InScope b.atomic_params (inside around) body (apart_from (walk_of o g)) (passes (walk_of s inner))
+  pub in_scope : InScope b.atomic_params (inside around) body (apart_from (walk_of o g)) (passes piece (walk_of s inner))
   pub assigning : AssignsIs body assigns
 
 pub part_told : {T : Type 0} (b o s : Body) (around : Around) (node first second : Node) (view var : Named) (array count : PlainExpr) (body : PlainStmt)
-    (f g inner : Found) (outer : Option ℕ) (assigns : Bool) (x : Walk) (r : Result T Stop) (p : Stop) → IsErrAnd r (λ z. z ≡ p) →
-    Part b o s around node first second view var array count body f g inner outer assigns → Err p ≡ settled (fault_of second) →
-    Says r x (Parting b.atomic_params around node view var array count body (walk_of b f))
-part_told b o s around node first second view var array count body f g inner outer assigns x r p is part settle =
+    (f g inner : Found) (source : Source) (size : TypedExpr) (piece : TypedStmt) (assigns : Bool) (x : T → Verdict TypedStmt) (r : Result T Stop) (p : Stop) → IsErrAnd r (λ z. z ≡ p) →
+    Part b o s around node first second view var array count body f g inner source size piece assigns → Err p ≡ settled (fault_of second) →
+    Says r x refused (Parting b.atomic_params around node view var array count body (walk_of b f))
+part_told b o s around node first second view var array count body f g inner source size piece assigns x r p is part settle =
     settle_stopped (Parting b.atomic_params around node view var array count body (walk_of b f)) (fault_of second) r p x is settle
     (λ q told. part_assigning assigns part.opening part.in_scope part.assigning (ap fault_of (sym part.second_is) ∙ told))
 
@@ -85,12 +88,12 @@ pass_at b s second settle third pass part variable env scope inner m =
     ∙ ap (λ (z : ℕ). not (met_in b part z inner)) m.variable_is ∙ ap (λ (z : ℕ). not (met_in b z (z + 4) inner)) m.part_is
 
 parts_fault : (b o s : Body) (around : Around) (node first second settle third : Node) (view var : Named) (array count : PlainExpr) (body : PlainStmt)
-    (f g inner : Found) (outer : Option ℕ) (assigns pass : Bool) (part variable : ℕ) (env : Env) (scope : Mark) →
-    Part b o s around node first second view var array count body f g inner outer assigns →
+    (f g inner : Found) (source : Source) (size : TypedExpr) (piece : TypedStmt) (assigns pass : Bool) (part variable : ℕ) (env : Env) (scope : Mark) →
+    Part b o s around node first second view var array count body f g inner source size piece assigns →
     PartsMet b s second settle third pass part variable env scope inner →
     fault_of (with_fault_if (settled_node (with_fault_if first kind.Assign assigns)) kind.Interferes
     (met_in b (part_slot b.env) (part_variable b.env) inner)) ≡ fault_of third
-parts_fault b o s around node first second settle third view var array count body f g inner outer assigns pass part variable env scope k m =
+parts_fault b o s around node first second settle third view var array count body f g inner source size piece assigns pass part variable env scope k m =
     ap fault_of
     (sym
     (noted_twice second (with_fault_if first kind.Assign assigns) settle third kind.Interferes kind.Interferes (not pass)
@@ -98,30 +101,35 @@ parts_fault b o s around node first second settle third view var array count bod
     (not_not pass _ (pass_at b s second settle third pass part variable env scope inner m)) m.third_is))
 
 pub parts_told : {T : Type 0} (b o s : Body) (around : Around) (node first second settle third : Node) (view var : Named) (array count : PlainExpr)
-    (body : PlainStmt) (f g inner : Found) (outer : Option ℕ) (assigns pass : Bool) (part variable : ℕ) (env : Env) (scope : Mark) (x : Walk)
-    (r : Result T Stop) (p : Stop) → IsErrAnd r (λ z. z ≡ p) →
-    Part b o s around node first second view var array count body f g inner outer assigns →
+    (body : PlainStmt) (f g inner : Found) (source : Source) (size : TypedExpr) (piece : TypedStmt) (assigns pass : Bool) (part variable : ℕ) (env : Env) (scope : Mark)
+    (x : T → Verdict TypedStmt) (r : Result T Stop) (p : Stop) → IsErrAnd r (λ z. z ≡ p) →
+    Part b o s around node first second view var array count body f g inner source size piece assigns →
     PartsMet b s second settle third pass part variable env scope inner → fault_of second ≡ None → Err p ≡ settled (fault_of third) →
-    Says r x (Parting b.atomic_params around node view var array count body (walk_of b f))
-parts_told b o s around node first second settle third view var array count body f g inner outer assigns pass part variable env scope x r p is k m clean
+    Says r x refused (Parting b.atomic_params around node view var array count body (walk_of b f))
+parts_told b o s around node first second settle third view var array count body f g inner source size piece assigns pass part variable env scope x r p is k m clean
     told_is =
     settle_stopped (Parting b.atomic_params around node view var array count body (walk_of b f)) (fault_of third) r p x is told_is
     (λ q told.
     parted assigns k.opening k.in_scope k.assigning (ap fault_of (sym k.second_is) ∙ clean)
-    (judged_some _ _ q
-    (parts_fault b o s around node first second settle third view var array count body f g inner outer assigns pass part variable env scope k m ∙ told)))
+    (judged_some _ _ _ q
+    (parts_fault b o s around node first second settle third view var array count body f g inner source size piece assigns pass part variable env scope k m ∙ told)))
 
 pub parts_pass : (b o s : Body) (around : Around) (node first second settle third : Node) (view var : Named) (array count : PlainExpr) (body : PlainStmt)
-    (f g inner handed out : Found) (outer : Option ℕ) (assigns pass : Bool) (part variable : ℕ) (env : Env) (scope : Mark) (leaving : Leaving) →
-    Part b o s around node first second view var array count body f g inner outer assigns →
+    (f g inner handed out : Found) (source : Source) (size : TypedExpr) (piece made : TypedStmt) (outer : Option ℕ) (assigns pass : Bool)
+    (part variable : ℕ) (env : Env) (scope : Mark) (leaving : Leaving) →
+    Part b o s around node first second view var array count body f g inner source size piece assigns →
     PartsMet b s second settle third pass part variable env scope inner → fault_of second ≡ None → fault_of third ≡ None →
-    handed ≡ handed_on part outer inner → leaving ≡ from_here b.env marks.Dropped → out ≡ taken_in leaving g handed →
-    Parting b.atomic_params around node view var array count body (walk_of b f) (passes (walk_from env out s.blocks))
-parts_pass b o s around node first second settle third view var array count body f g inner handed out outer assigns pass part variable env scope leaving k
-    m clean clean2 handed_is leaving_is out_is =
+    outer ≡ outer_part source → handed ≡ handed_on part outer inner → leaving ≡ from_here b.env marks.Dropped → out ≡ taken_in leaving g handed →
+    made ≡ typed.statement node.place (typed.foreach_parts part source size piece) →
+    Parting b.atomic_params around node view var array count body (walk_of b f) (passes made (walk_from env out))
+parts_pass b o s around node first second settle third view var array count body f g inner handed out source size piece made outer assigns pass part
+    variable env scope leaving k m clean clean2 outer_is handed_is leaving_is out_is made_is =
     parted assigns k.opening k.in_scope k.assigning (ap fault_of (sym k.second_is) ∙ clean)
-    (judged_none _ _
-    (parts_fault b o s around node first second settle third view var array count body f g inner outer assigns pass part variable env scope k m ∙ clean2)
-    ∙ ap passes
-    (closed_is b s env scope leaving marks.Dropped marks.Dropped f g handed (handed_on (part_slot b.env) outer inner) inner out m.scope_is m.env_is
-    leaving_is refl (handed_is ∙ ap (λ (z : ℕ). handed_on z outer inner) m.part_is) out_is))
+    (judged_none _ _ _
+    (parts_fault b o s around node first second settle third view var array count body f g inner source size piece assigns pass part variable env scope k m
+    ∙ clean2)
+    ∙ passes_so made _ _ _ (made_is ∙ ap (λ (z : ℕ). typed.statement node.place (typed.foreach_parts z source size piece)) m.part_is)
+    (sym
+    (closed_is b s env scope leaving marks.Dropped marks.Dropped f g handed (handed_on (part_slot b.env) (outer_part source) inner) inner out m.scope_is
+    m.env_is leaving_is refl
+    (handed_is ∙ ap (λ (z : Option ℕ). handed_on part z inner) outer_is ∙ ap (λ (z : ℕ). handed_on z (outer_part source) inner) m.part_is) out_is)))

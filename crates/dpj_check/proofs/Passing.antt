@@ -1,7 +1,6 @@
 -- What is passed on from a part of a statement to the statement.
-use Rattle.std.proofs.Common.{◌≡◌, ◌∙◌, Bool, List, Result, Ok, Err, Option, Some, None, sym, ap, subst}
+use Rattle.std.proofs.Common.{◌≡◌, ◌∙◌, Bool, Result, Ok, Err, Option, Some, None, sym, ap, subst}
 use Rattle.std.specs.Result.{IsErrAnd}
-use Rattle.dpj_base.specs.declared.effect.Effect.{Effect}
 use Rattle.dpj_base.specs.declared.refusal.Kind.{Kind}
 use Rattle.dpj_base.specs.declared.refusal.Refusal.{Refusal}
 use Rattle.dpj_base.specs.declared.refusal.Stop.{Stop}
@@ -11,6 +10,7 @@ use Rattle.dpj_headers.specs.Faults.{settled}
 use Rattle.dpj_exprs.specs.declared.env.Env.{Env}
 use Rattle.dpj_exprs.specs.declared.env.Mark.{Mark}
 use Rattle.dpj_exprs.specs.declared.found.Found.{Found}
+use Rattle.dpj_exprs.specs.Answer.{Says}
 use Rattle.dpj_exprs.specs.Env.{left_to, mark_of}
 use Rattle.dpj_check.specs.declared.body.Body.{Body}
 use Rattle.dpj_check.specs.declared.leaving.Leaving.{Leaving}
@@ -20,26 +20,17 @@ use Rattle.dpj_check.specs.Checking.{closed}
 use Rattle.dpj_check.specs.Gathering.{taken_in}
 use Rattle.dpj_check.specs.Leaving.{from_here}
 use Rattle.dpj_check.specs.Noting.{fault_of, settled_node, with_fault_if}
-use Rattle.dpj_check.specs.Walks.{Walk, Verdict, passes, refused, judged, found_so, walk_of, Says}
+use Rattle.dpj_check.specs.Walks.{Walk, Verdict, passes, refused, judged, found_so, walk_of}
 
 pub said_of : (P Q : Refusal → Type 0) (s : Stop) → ((q : Refusal) → P q → Q q) → IfRefused s P → IfRefused s Q
 said_of P Q (stop.Refused q) next h = next q h
 said_of P Q stop.NoMemory next h = tt
 
 -- at the exit of a `?`
-pub stopped : {T : Type 0} (P : Refusal → Type 0) (Q : Verdict → Type 0) (r : Result T Stop) (w : Walk) (s : Stop) →
-    IsErrAnd r (λ x. x ≡ s) → ((q : Refusal) → P q → Q (refused q)) → IfRefused s P → Says r w Q
-stopped P Q (Ok x) w s is next h = absurd is
-stopped P Q (Err x) w s is next h = said_of P (λ q. Q (refused q)) x next (subst (λ (z : Stop). IfRefused z P) (sym is) h)
-
-told_said : (told : Option Refusal) (w : Walk) (Q : Verdict → Type 0) → Q (judged told w) → Says (settled told) w Q
-told_said None w Q h = h
-told_said (Some q) w Q h = h
-
--- where the faults of a node are reported last
-pub settled_says : (told : Option Refusal) (r : Result (Unit {0}) Stop) (w : Walk) (Q : Verdict → Type 0) →
-    r ≡ settled told → Q (judged told w) → Says r w Q
-settled_says told r w Q is h = subst (λ (z : Result (Unit {0}) Stop). Says z w Q) (sym is) (told_said told w Q h)
+pub stopped : {T M : Type 0} (P : Refusal → Type 0) (Q : Verdict M → Type 0) (r : Result T Stop) (made : T → Verdict M) (s : Stop) →
+    IsErrAnd r (λ x. x ≡ s) → ((q : Refusal) → P q → Q (refused q)) → IfRefused s P → Says r made refused Q
+stopped P Q (Ok x) made s is next h = absurd is
+stopped P Q (Err x) made s is next h = said_of P (λ q. Q (refused q)) x next (subst (λ (z : Stop). IfRefused z P) (sym is) h)
 
 -- what stops where the faults of a node are reported
 pub settled_stop : (told : Option Refusal) (s : Stop) → settled told ≡ Err s → IfRefused s (λ q. told ≡ Some q)
@@ -51,24 +42,29 @@ settled_stop (Some q) s is = of_stop q s is
     of_stop p stop.NoMemory e = cc
 
 -- at the exit of a `?` where the faults of a node are reported
-pub settle_stopped : {T : Type 0} (Q : Verdict → Type 0) (told : Option Refusal) (r : Result T Stop) (s : Stop) (x : Walk) →
-    IsErrAnd r (λ z. z ≡ s) → Err s ≡ settled told → ((q : Refusal) → told ≡ Some q → Q (refused q)) → Says r x Q
-settle_stopped Q told r s x is settle next = stopped (λ q. told ≡ Some q) Q r x s is next (settled_stop told s (sym settle))
+pub settle_stopped : {T M : Type 0} (Q : Verdict M → Type 0) (told : Option Refusal) (r : Result T Stop) (s : Stop) (made : T → Verdict M) →
+    IsErrAnd r (λ z. z ≡ s) → Err s ≡ settled told → ((q : Refusal) → told ≡ Some q → Q (refused q)) → Says r made refused Q
+settle_stopped Q told r s made is settle next = stopped (λ q. told ≡ Some q) Q r made s is next (settled_stop told s (sym settle))
 
 -- a piece whose outcome is passed on
-pub says_all : {T : Type 0} (P Q : Verdict → Type 0) (r : Result T Stop) (w : Walk) → ((v : Verdict) → P v → Q v) → Says r w P → Says r w Q
-says_all P Q (Ok t) w next h = next (passes w) h
-says_all P Q (Err s) w next h = said_of (λ q. P (refused q)) (λ q. Q (refused q)) s (λ q. next (refused q)) h
+pub says_all : {T M : Type 0} (P Q : Verdict M → Type 0) (r : Result T Stop) (made : T → Verdict M) → ((v : Verdict M) → P v → Q v) →
+    Says r made refused P → Says r made refused Q
+says_all P Q (Ok t) made next h = next (made t) h
+says_all P Q (Err s) made next h = said_of (λ q. P (refused q)) (λ q. Q (refused q)) s (λ q. next (refused q)) h
 
 -- the verdict of a node, by what was noted of it
-pub judged_at : (m n : Node) (w : Walk) → n ≡ m → judged (fault_of m) w ≡ judged (fault_of n) w
-judged_at m n w is = ap (λ (z : Node). judged (fault_of z) w) (sym is)
+pub judged_at : {M : Type 0} (m n : Node) (made : M) (w : Walk) → n ≡ m → judged (fault_of m) made w ≡ judged (fault_of n) made w
+judged_at m n made w is = ap (λ (z : Node). judged (fault_of z) made w) (sym is)
 
-pub judged_none : (told : Option Refusal) (w : Walk) → told ≡ None → judged told w ≡ passes w
-judged_none told w is = ap (λ (z : Option Refusal). judged z w) is
+pub judged_none : {M : Type 0} (told : Option Refusal) (made : M) (w : Walk) → told ≡ None → judged told made w ≡ passes made w
+judged_none told made w is = ap (λ (z : Option Refusal). judged z made w) is
 
-pub judged_some : (told : Option Refusal) (w : Walk) (q : Refusal) → told ≡ Some q → judged told w ≡ refused q
-judged_some told w q is = ap (λ (z : Option Refusal). judged z w) is
+pub judged_some : {M : Type 0} (told : Option Refusal) (made : M) (w : Walk) (q : Refusal) → told ≡ Some q → judged told made w ≡ refused q
+judged_some told made w q is = ap (λ (z : Option Refusal). judged z made w) is
+
+-- a piece that passes, as it was made
+pub passes_so : {M : Type 0} (m made : M) (w u : Walk) → m ≡ made → w ≡ u → passes made u ≡ passes m w
+passes_so m made w u m_is w_is = ap (λ (z : Walk). passes made z) (sym w_is) ∙ ap (λ z. passes z w) (sym m_is)
 
 -- what is noted of a node by two tests, the second after the faults of the first were reported
 pub noted_twice : (second second' settle third : Node) (reason reason' : Kind) (there there' : Bool) →
@@ -79,17 +75,17 @@ noted_twice second second' settle third reason reason' there there' second_is se
     ∙ ap (λ (z : Kind). with_fault_if (settled_node second') z there) reason_is
     ∙ ap (λ (z : Bool). with_fault_if (settled_node second') reason' z) there_is
 
-abbrev pub walk_from : Env → Found → List (List Effect) → Walk
-walk_from env found blocks = record { env = env; found = found; blocks = blocks }
+abbrev pub walk_from : Env → Found → Walk
+walk_from env found = record { env = env; found = found }
 
 -- a scope that was left
 pub closed_is : (b s : Body) (env : Env) (scope : Mark) (leaving : Leaving) (kept kept' : Marks) (f g inner inner' rest out : Found) →
     scope ≡ mark_of b.env → env ≡ left_to s.env scope → leaving ≡ from_here b.env kept → kept ≡ kept' → inner ≡ inner' → out ≡ taken_in leaving g inner →
-    closed (found_so (walk_of b f) g) kept' inner' (walk_of s rest) ≡ walk_from env out s.blocks
+    closed (found_so (walk_of b f) g) kept' inner' (walk_of s rest) ≡ walk_from env out
 closed_is b s env scope leaving kept kept' f g inner inner' rest out scope_is env_is leaving_is kept_is inner_is out_is =
     let env_so : env ≡ left_to s.env (mark_of b.env) = env_is ∙ ap (λ (z : Mark). left_to s.env z) scope_is in
     let out_so : out ≡ taken_in (from_here b.env kept') g inner' =
     out_is ∙ ap (λ (z : Leaving). taken_in z g inner) (leaving_is ∙ ap (from_here b.env) kept_is)
     ∙ ap (λ (z : Found). taken_in (from_here b.env kept') g z) inner_is in
-    ap (λ (z : Env). walk_from z (taken_in (from_here b.env kept') g inner') s.blocks) (sym env_so)
-    ∙ ap (λ (z : Found). walk_from env z s.blocks) (sym out_so)
+    ap (λ (z : Env). walk_from z (taken_in (from_here b.env kept') g inner')) (sym env_so)
+    ∙ ap (λ (z : Found). walk_from env z) (sym out_so)

@@ -1,13 +1,14 @@
 -- Statements as the rules see them, of what the code sees: one lemma for each form.
-use Rattle.std.proofs.Common.{◌≡◌, ◌∙◌, ℕ, Bool, List, Option, Some, None, map, ap, sym, subst, rules}
+use Rattle.std.proofs.Common.{◌≡◌, ◌∙◌, ℕ, Bool, List, Option, Some, None, option_map, map, ap, sym, subst, rules}
 use Rattle.dpj_tree.specs.declared.region.Named.{Named}
 use Rattle.dpj_tree.specs.declared.region.TypeTree.{TypeTree}
 use Rattle.dpj_tree.specs.declared.expr.Expr.{Expr}
 use Rattle.dpj_tree.specs.declared.stmt.Stmt.{Stmt}
 use Rattle.dpj_tree.specs.declared.stmt.StmtKind.{StmtKind, fold-StmtKind, the_lemmas}
 use Rattle.dpj_tree.specs.declared.stmt.StmtKind.TheVariants as kind
-use Rattle.dpj_tree.specs.Plain.{PlainStmt, statement, StmtForm, stmt_form, stmt_node, return_form, plain_expr, plain_stmt, plain_stmts}
+use Rattle.dpj_tree.specs.Plain.{PlainStmt, statement, StmtForm, stmt_form, stmt_node, choice_form, return_form, plain_expr, plain_stmt, plain_stmts}
 use Rattle.dpj_tree.specs.Plain.{StmtForm as form}
+use Rattle.dpj_typed.specs.Plain.{TypedStmt}
 use Rattle.dpj_check.specs.declared.node.Around.{Around}
 use Rattle.dpj_check.specs.declared.node.Node.{Node}
 use Rattle.dpj_check.specs.Checking.{form_of, Checking, Standing, standing}
@@ -92,21 +93,15 @@ pub at_Cobegin : (s : Stmt) (nd : Bool) (branches : List Stmt) → s.kind ≡ ki
     plain_stmt s ≡ statement s.place (form.cobegin nd (plain_stmts (map plain_stmt branches)))
 at_Cobegin s nd branches is = of_kind s (kind.Cobegin nd branches) (form.cobegin nd (plain_stmts (map plain_stmt branches))) is (kind_Cobegin nd branches)
 
-kind_If : (test : Expr) (part : Stmt) → plain_kind (kind.If test part None) ≡ form.choice (plain_expr test) (plain_stmt part)
-kind_If test part = search (rules, the_lemmas)
+kind_If : (test : Expr) (part : Stmt) (other : Option Stmt) →
+    plain_kind (kind.If test part other) ≡ choice_form (plain_expr test) (plain_stmt part) (option_map plain_stmt other)
+kind_If test part None = search (rules, the_lemmas)
+kind_If test part (Some other) = search (rules, the_lemmas)
 
-pub at_If : (s : Stmt) (test : Expr) (part : Stmt) → s.kind ≡ kind.If test part None →
-    plain_stmt s ≡ statement s.place (form.choice (plain_expr test) (plain_stmt part))
-at_If s test part is = of_kind s (kind.If test part None) (form.choice (plain_expr test) (plain_stmt part)) is (kind_If test part)
-
-kind_Else : (test : Expr) (first second : Stmt) →
-    plain_kind (kind.If test first (Some second)) ≡ form.choice_else (plain_expr test) (plain_stmt first) (plain_stmt second)
-kind_Else test first second = search (rules, the_lemmas)
-
-pub at_Else : (s : Stmt) (test : Expr) (first second : Stmt) → s.kind ≡ kind.If test first (Some second) →
-    plain_stmt s ≡ statement s.place (form.choice_else (plain_expr test) (plain_stmt first) (plain_stmt second))
-at_Else s test first second is = of_kind s (kind.If test first (Some second)) (form.choice_else (plain_expr test) (plain_stmt first) (plain_stmt second)) is
-    (kind_Else test first second)
+pub at_If : (s : Stmt) (test : Expr) (part : Stmt) (other : Option Stmt) → s.kind ≡ kind.If test part other →
+    plain_stmt s ≡ statement s.place (choice_form (plain_expr test) (plain_stmt part) (option_map plain_stmt other))
+at_If s test part other is = of_kind s (kind.If test part other) (choice_form (plain_expr test) (plain_stmt part) (option_map plain_stmt other)) is
+    (kind_If test part other)
 
 kind_While : (test : Expr) (body : Stmt) → plain_kind (kind.While test body) ≡ form.while_loop (plain_expr test) (plain_stmt body)
 kind_While test body = search (rules, the_lemmas)
@@ -142,12 +137,12 @@ pub at_Return : (s : Stmt) (value : Option Expr) → s.kind ≡ kind.Return valu
 at_Return s value is = of_kind s (kind.Return value) (return_form value) is (kind_Return value)
 
 -- the form of the statement is this one
-pub as_form : (params : List Bool) (around : Around) (node : Node) (s : Stmt) (f : StmtForm) (w : Walk) (v : Verdict) → plain_stmt s ≡ statement s.place f →
+pub as_form : (params : List Bool) (around : Around) (node : Node) (s : Stmt) (f : StmtForm) (w : Walk) (v : Verdict TypedStmt) → plain_stmt s ≡ statement s.place f →
     Checking params around node f w v → Checking params around node (form_of (plain_stmt s)) w v
 as_form params around node s f w v is d = subst (λ (z : PlainStmt). Checking params around node (form_of z) w v) (sym is) d
 
 -- a statement of this form, with the node that the code made of it
-pub as_statement : (params : List Bool) (around : Around) (follows : Bool) (node : Node) (s : Stmt) (f : StmtForm) (w : Walk) (v : Verdict) →
+pub as_statement : (params : List Bool) (around : Around) (follows : Bool) (node : Node) (s : Stmt) (f : StmtForm) (w : Walk) (v : Verdict TypedStmt) →
     plain_stmt s ≡ statement s.place f →
     node ≡ node_at s.place follows → Checking params around node f w v → Standing params around follows (plain_stmt s) w v
 as_statement params around follows node s f w v is made d =

@@ -16,7 +16,9 @@ use Rattle.dpj_resolve.specs.Telling.{parts_told}
 use Rattle.dpj_resolve.specs.Written.{type_meant, type_faults}
 use Rattle.dpj_tree.specs.declared.region.Named.{Named}
 use Rattle.dpj_tree.specs.declared.region.TypeTree.{TypeTree}
-use Rattle.dpj_tree.specs.Plain.{PlainExpr}
+use Rattle.dpj_tree.specs.Plain.{PlainExpr, expression}
+use Rattle.dpj_typed.specs.Plain.{TypedExpr, type_of, TypedStmt}
+use Rattle.dpj_typed.specs.Plain as typed
 use Rattle.dpj_classes.specs.Table.{headers_of, numbered}
 use Rattle.dpj_exprs.specs.declared.env.Env.{Env}
 use Rattle.dpj_exprs.specs.declared.env.LocalRow.{LocalRow}
@@ -24,8 +26,8 @@ use Rattle.dpj_exprs.specs.declared.found.Found.{Found}
 use Rattle.dpj_exprs.specs.Answer.{gives}
 use Rattle.dpj_exprs.specs.Answer.{Answer as answer}
 use Rattle.dpj_exprs.specs.Env.{table_of, supers_of, scope_of, local_of, slots_in, declared_in, with_local, with_part, with_region, is_param_name, has_region}
-use Rattle.dpj_exprs.specs.Targeting.{PlainTarget, Targeting, aims, misses, with_write}
-use Rattle.dpj_exprs.specs.Typed.{may_be, is_int, is_boolean, is_value, FitsAs}
+use Rattle.dpj_exprs.specs.Targeting.{PlainSpot, to_field, to_element, to_part, PlainTarget, Targeting, aims, misses, with_write}
+use Rattle.dpj_exprs.specs.Typed.{may_be, is_int, is_boolean, is_value, node_at, type_in, FitsAs}
 use Rattle.dpj_exprs.specs.Typing.{Typing}
 use Rattle.dpj_check.specs.declared.node.Around.{Around}
 use Rattle.dpj_check.specs.declared.node.Node.{Node}
@@ -66,72 +68,95 @@ with_room env place node = cond (has_room env) node (with_fault node kind.TooLon
 abbrev pub declaration_noted : Env → ℕ → Place → Node → Node
 declaration_noted env name place node = with_room env place (cond (is_some (local_of env name)) (with_fault node kind.Duplicate place) node)
 
+abbrev pub place_of : PlainExpr → Place
+place_of (expression place form) = place
+
+-- the typed expression that was made of an expression
+abbrev pub node_of : PlainExpr → Option TypedExpr → TypedExpr
+node_of e given = node_at (place_of e) given
+
 -- `ty name = value;`: the type, the value, then the declaration
-pub data Declaring (node : Node) (is_final : Bool) (tree : TypeTree) (name : ℕ) (value : PlainExpr) (w : Walk) : Verdict → Type 0 where
+pub data Declaring (node : Node) (is_final : Bool) (tree : TypeTree) (name : ℕ) (value : PlainExpr) (w : Walk) : Verdict TypedStmt → Type 0 where
   type_refused : {refusal : Refusal} → declared_told w.env tree ≡ Some refusal → Declaring node is_final tree name value w (refused refusal)
   value_refused : {refusal : Refusal} →
       declared_told w.env tree ≡ None → Typing w.env value w.found (answer.refused refusal) → Declaring node is_final tree name value w (refused refusal)
-  declared : {t : Option PlainType} {g : Found} {fit : Bool} (made : Ty) {v : Verdict} →
+  declared : {t : Option TypedExpr} {g : Found} {fit : Bool} (made : Ty) {v : Verdict TypedStmt} →
       declared_told w.env tree ≡ None → plain_type made ≡ declared_type w.env tree →
-      Typing w.env value w.found (gives t g) → FitIs w.env t (declared_type w.env tree) fit →
+      Typing w.env value w.found (gives t g) → FitIs w.env (type_in t) (declared_type w.env tree) fit →
       judged (fault_of (with_fault_if (declaration_noted w.env name node.place node) kind.Type (not fit)))
+      (typed.statement node.place (typed.declare (slots_in w.env) (declared_type w.env tree) is_final (node_of value t)))
       (scope_so (found_so w g) (local_declared w.env name made is_final)) ≡ v →
       Declaring node is_final tree name value w v
 
 -- `target = value;` for a local: the value, then the assignment
-pub data AssigningLocal (node : Node) (target : Named) (value : PlainExpr) (w : Walk) : Verdict → Type 0 where
+pub data AssigningLocal (node : Node) (target : Named) (value : PlainExpr) (w : Walk) : Verdict TypedStmt → Type 0 where
   value_refused : {refusal : Refusal} → Typing w.env value w.found (answer.refused refusal) → AssigningLocal node target value w (refused refusal)
-  no_local : {t : Option PlainType} {g : Found} {v : Verdict} →
+  no_local : {t : Option TypedExpr} {g : Found} {refusal : Refusal} →
       Typing w.env value w.found (gives t g) → local_of w.env target.name ≡ None →
-      judged (fault_of (with_fault node kind.Unknown target.place)) (found_so w g) ≡ v →
+      fault_of (with_fault node kind.Unknown target.place) ≡ Some refusal → AssigningLocal node target value w (refused refusal)
+  assigned : {t : Option TypedExpr} {g : Found} {row : LocalRow} {fit : Bool} {v : Verdict TypedStmt} →
+      Typing w.env value w.found (gives t g) → local_of w.env target.name ≡ Some row → FitIs w.env (type_in t) (plain_type row.ty) fit →
+      judged (fault_of (with_found node (local_fault fit row.is_final)))
+      (typed.statement target.place (typed.store row.slot (node_of value t))) (found_so w g) ≡ v →
       AssigningLocal node target value w v
-  assigned : {t : Option PlainType} {g : Found} {row : LocalRow} {fit : Bool} {v : Verdict} →
-      Typing w.env value w.found (gives t g) → local_of w.env target.name ≡ Some row → FitIs w.env t (plain_type row.ty) fit →
-      judged (fault_of (with_found node (local_fault fit row.is_final))) (found_so w g) ≡ v →
-      AssigningLocal node target value w v
+
+-- the value goes to a field, an element, or an element of a part
+abbrev pub stored : PlainSpot → TypedExpr → typed.StmtForm
+stored (to_field of class slot) value = typed.store_field of class slot value
+stored (to_element array index) value = typed.store_element array index value
+stored (to_part part index) value = typed.store_part part index value
 
 -- what is wrong with an assignment of a value that fits or not to a target that may be written or not
 abbrev pub target_fault : Bool → Bool → Option Kind
 target_fault fit may_write = cond fit (cond may_write None (Some kind.PartialWrite)) (Some kind.Type)
 
 -- `target = value;` for a field or an element: the target, the value, then the assignment
-pub data AssigningPlace (node : Node) (target value : PlainExpr) (w : Walk) : Verdict → Type 0 where
+pub data AssigningPlace (node : Node) (target value : PlainExpr) (w : Walk) : Verdict TypedStmt → Type 0 where
   target_refused : {refusal : Refusal} → Targeting w.env target w.found (misses refusal) → AssigningPlace node target value w (refused refusal)
   value_refused : {aim : Option PlainTarget} {g : Found} {refusal : Refusal} →
       Targeting w.env target w.found (aims aim g) → Typing w.env value g (answer.refused refusal) → AssigningPlace node target value w (refused refusal)
   -- it comes from a part of what is no array, where every value fits
-  anything_assigned : {g h : Found} {t : Option PlainType} {v : Verdict} →
+  anything_assigned : {g h : Found} {t : Option TypedExpr} {v : Verdict TypedStmt} →
       Targeting w.env target w.found (aims None g) → Typing w.env value g (gives t h) →
-      judged (fault_of (with_fault_if node kind.Type (not (may_be is_value t)))) (found_so w h) ≡ v →
+      judged (fault_of (with_fault_if node kind.Type (not (may_be is_value (type_in t)))))
+      (typed.statement (place_of target) (typed.perform (node_of value t))) (found_so w h) ≡ v →
       AssigningPlace node target value w v
-  place_assigned : {aim : PlainTarget} {g h : Found} {t : Option PlainType} {fit : Bool} {v : Verdict} →
-      Targeting w.env target w.found (aims (Some aim) g) → Typing w.env value g (gives t h) → FitIs w.env t aim.ty fit →
-      judged (fault_of (with_found node (target_fault fit aim.may_write))) (found_so w (with_write h aim)) ≡ v →
+  place_assigned : {aim : PlainTarget} {g h : Found} {t : Option TypedExpr} {fit : Bool} {v : Verdict TypedStmt} →
+      Targeting w.env target w.found (aims (Some aim) g) → Typing w.env value g (gives t h) → FitIs w.env (type_in t) aim.ty fit →
+      judged (fault_of (with_found node (target_fault fit aim.may_write)))
+      (typed.statement (place_of target) (stored aim.spot (node_of value t))) (found_so w (with_write h aim)) ≡ v →
       AssigningPlace node target value w v
 
 -- a call or a creation as a statement
-pub data Performing (node : Node) (value : PlainExpr) (w : Walk) : Verdict → Type 0 where
+pub data Performing (node : Node) (value : PlainExpr) (w : Walk) : Verdict TypedStmt → Type 0 where
   refused_itself : {refusal : Refusal} → Typing w.env value w.found (answer.refused refusal) → Performing node value w (refused refusal)
-  performed : {t : Option PlainType} {g : Found} {v : Verdict} →
-      Typing w.env value w.found (gives t g) → judged (fault_of node) (found_so w g) ≡ v → Performing node value w v
+  performed : {t : Option TypedExpr} {g : Found} {v : Verdict TypedStmt} →
+      Typing w.env value w.found (gives t g) →
+      judged (fault_of node) (typed.statement node.place (typed.perform (node_of value t))) (found_so w g) ≡ v → Performing node value w v
 
 -- `return value;`: the value, then the statement, which may stand there or not
-pub data Returning (around : Around) (node : Node) (value : PlainExpr) (w : Walk) : Verdict → Type 0 where
+pub data Returning (around : Around) (node : Node) (value : PlainExpr) (w : Walk) : Verdict TypedStmt → Type 0 where
   value_refused : {refusal : Refusal} → Typing w.env value w.found (answer.refused refusal) → Returning around node value w (refused refusal)
-  returned : {t : Option PlainType} {g : Found} {fit : Bool} {v : Verdict} →
-      Typing w.env value w.found (gives t g) → IsTrue fit ↔ Returned (supers_of w.env) around.has_result (numbered (table_of w.env) w.env.method) t →
-      judged (fault_of (with_fault_if (with_fault_if node kind.Return (is_misplaced around true)) kind.Type (not fit))) (found_so w g) ≡ v →
+  returned : {t : Option TypedExpr} {g : Found} {fit : Bool} {v : Verdict TypedStmt} →
+      Typing w.env value w.found (gives t g) → IsTrue fit ↔ Returned (supers_of w.env) around.has_result (numbered (table_of w.env) w.env.method) (type_in t) →
+      judged (fault_of (with_fault_if (with_fault_if node kind.Return (is_misplaced around true)) kind.Type (not fit)))
+      (typed.statement node.place (typed.return_value (node_of value t))) (found_so w g) ≡ v →
       Returning around node value w v
 
 -- an int or a boolean may be printed
 abbrev pub may_print : Option PlainType → Bool
 may_print t = may_be is_int t || may_be is_boolean t
 
+abbrev pub printed_form : TypedExpr → typed.StmtForm
+printed_form e = cond (is_boolean (type_of e)) (typed.print_boolean e) (typed.print_int e)
+
 -- `print(value);`
-pub data Printing (node : Node) (value : PlainExpr) (w : Walk) : Verdict → Type 0 where
+pub data Printing (node : Node) (value : PlainExpr) (w : Walk) : Verdict TypedStmt → Type 0 where
   value_refused : {refusal : Refusal} → Typing w.env value w.found (answer.refused refusal) → Printing node value w (refused refusal)
-  printed : {t : Option PlainType} {g : Found} {v : Verdict} →
-      Typing w.env value w.found (gives t g) → judged (fault_of (with_fault_if node kind.Type (not (may_print t)))) (found_so w g) ≡ v →
+  printed : {t : Option TypedExpr} {g : Found} {v : Verdict TypedStmt} →
+      Typing w.env value w.found (gives t g) →
+      judged (fault_of (with_fault_if node kind.Type (not (may_print (type_in t)))))
+      (typed.statement node.place (printed_form (node_of value t))) (found_so w g) ≡ v →
       Printing node value w v
 
 -- a region parameter or a local region in scope, or a region of the class or a superclass has the name
@@ -150,5 +175,12 @@ abbrev pub with_regions : Env → List Named → Env
 with_regions env [] = env
 with_regions env (named ∷ names) = with_regions (region_declared env named.name) names
 
-abbrev pub regions_declared : Node → List Named → Walk → Verdict
-regions_declared node names w = judged (fault_of (regions_noted w.env node names)) (scope_so w (with_regions w.env names))
+-- the numbers of the regions
+abbrev pub regions_made : Env → List Named → List ℕ
+regions_made env [] = []
+regions_made env (named ∷ names) = declared_in env ∷ regions_made (region_declared env named.name) names
+
+abbrev pub regions_declared : Node → List Named → Walk → Verdict TypedStmt
+regions_declared node names w =
+    judged (fault_of (regions_noted w.env node names)) (typed.statement node.place (typed.local_regions (regions_made w.env names)))
+    (scope_so w (with_regions w.env names))

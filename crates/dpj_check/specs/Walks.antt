@@ -1,32 +1,23 @@
 -- How far the walk through a body has come, and what becomes of a piece of it.
-use Rattle.std.specs.Prelude.{Bool, false, List, [], Option, Some, None, Result}
-use Rattle.dpj_base.specs.declared.effect.Effect.{Effect}
+use Rattle.std.specs.Prelude.{Bool, false, List, [], Option, Some, None}
 use Rattle.dpj_base.specs.declared.refusal.Refusal.{Refusal}
-use Rattle.dpj_base.specs.declared.refusal.Stop.{Stop}
 use Rattle.dpj_exprs.specs.declared.env.Env.{Env}
 use Rattle.dpj_exprs.specs.declared.found.Found.{Found}
-use Rattle.dpj_exprs.specs.Answer.{Says as Answers}
 use Rattle.dpj_exprs.specs.Env.{bare, left_to, mark_of}
 use Rattle.dpj_check.specs.declared.body.Body.{Body}
 
--- what is in scope, what was found of the block or the branch at hand, and with which effects each atomic block so far
--- is entered
+-- what is in scope, and what was found of the block or the branch at hand
 pub record Walk : Type 0 where
   pub env : Env
   pub found : Found
-  pub blocks : List (List Effect)
 
 abbrev pub walk_of : Body → Found → Walk
-walk_of body found = record { env = body.env; found = found; blocks = body.blocks }
+walk_of body found = record { env = body.env; found = found }
 
--- a piece of a body passes, and the walk has come so far after it; or it is refused
-pub data Verdict : Type 0 where
-  passes : Walk → Verdict
-  refused : Refusal → Verdict
-
--- what the code says of a piece, where the walk has come so far; want of memory says nothing
-abbrev pub Says : {T : Type 0} → Result T Stop → Walk → (Verdict → Type 0) → Type 0
-Says r w P = Answers r (λ x. passes w) refused P
+-- a piece of a body passes, of which this was made, and the walk has come so far after it; or it is refused
+pub data Verdict (T : Type 0) : Type 0 where
+  passes : T → Walk → Verdict T
+  refused : Refusal → Verdict T
 
 -- after expressions, which add to what was found
 abbrev pub found_so : Walk → Found → Walk
@@ -49,19 +40,19 @@ abbrev pub scope_left : Walk → Walk → Walk
 scope_left before inside = record inside { env = left_to inside.env (mark_of before.env) }
 
 -- a piece that has a scope of its own
-abbrev pub left_scope : Walk → Verdict → Verdict
-left_scope before (passes w) = passes (scope_left before w)
+abbrev pub left_scope : {T : Type 0} → Walk → Verdict T → Verdict T
+left_scope before (passes made w) = passes made (scope_left before w)
 left_scope before (refused refusal) = refused refusal
 
 -- the fault that is reported of a node, after its parts
-abbrev pub judged : Option Refusal → Walk → Verdict
-judged None w = passes w
-judged (Some refusal) w = refused refusal
+abbrev pub judged : {T : Type 0} → Option Refusal → T → Walk → Verdict T
+judged None made w = passes made w
+judged (Some refusal) made w = refused refusal
 
--- the same after parts of which one may be refused
-abbrev pub behind : Option Refusal → Verdict → Verdict
-behind told (passes w) = judged told w
-behind told (refused refusal) = refused refusal
+-- the same after a part that may be refused, and what is made of what was made of the part
+abbrev pub behind : {T U : Type 0} → Option Refusal → (T → U) → Verdict T → Verdict U
+behind told make (passes made w) = judged told (make made) w
+behind told make (refused refusal) = refused refusal
 
 -- with another scope
 abbrev pub with_env : Body → Env → Body

@@ -1,25 +1,26 @@
-ghost use Rattle.std.specs.Prelude.{◌≡◌, ◌∷◌, [], List, ℕ, map, IfOk, IfErr, OnOk};
+ghost use Rattle.std.specs.Prelude.{◌≡◌, ◌++◌, [], ℕ, map, option_map, IfOk, OnOk};
 ghost use Rattle.std.specs.Option.{option_copied};
+ghost use Rattle.dpj_assembly.specs.Assembled.{plain_body};
 ghost use Rattle.dpj_base.specs.Effects.{set_covers};
-ghost use Rattle.dpj_base.specs.Refused.{IfRefused};
-ghost use Rattle.dpj_tree.specs.declared.class.Member.{Member};
 ghost use Rattle.dpj_tree.specs.Nd.{program_uses_nd};
 ghost use Rattle.dpj_tree.specs.Plain.{plain_stmt, plain_stmts};
+ghost use Rattle.dpj_typed.specs.Plain.{plain_stmt as typed_stmt};
 ghost use Rattle.dpj_exprs.specs.declared.env.Env.{Env};
-ghost use Rattle.dpj_exprs.specs.declared.found.Found.{Found};
 ghost use Rattle.dpj_exprs.specs.Env.{table_of, at_class, at_method};
 ghost use Rattle.dpj_check.specs.Checking.{InBlock};
 ghost use Rattle.dpj_check.specs.Completes.{all_complete};
 ghost use Rattle.dpj_check.specs.Deciding.{has_value, method_fault, told_at};
 ghost use Rattle.dpj_check.specs.Keeping.{AllKeep, ClassesKeep, MethodKeeps, MemberKeeps, MembersKeep, ProgramKeeps, method_around};
-ghost use Rattle.dpj_check.specs.Methods.{all_checked, formals_declared, formal_types, summary_of, accepted, rejected, one_refused, class_params, BodiesChecking, ClassesChecking, IsIn, MembersChecking, MembersVerdict, MethodChecking};
-ghost use Rattle.dpj_check.specs.Walks.{passes, refused, home_of, walk_of, with_env, Says};
+ghost use Rattle.dpj_check.specs.Methods.{formals_declared, formal_types, summary_of, bodies_of, class_params, number_after, plain_bodies, BodiesChecking, ClassesChecking, IsIn, MembersChecking, MemberChecking, MethodChecking};
+ghost use Rattle.dpj_check.specs.Walks.{home_of, passes, refused, walk_of, with_env};
+ghost use Rattle.dpj_exprs.specs.Answer.{Says};
 
 use crate::accepted::Accepted;
 use crate::body::Body;
 use crate::node::Around;
-use crate::statements::block;
-use dpj_base::{Kind, NoMemory, Plain, Stop, Ty};
+use crate::statements::{CheckedBlock, block};
+use dpj_assembly::MemberBody;
+use dpj_base::{Items, Kind, NoMemory, Plain, Stop, Ty};
 use dpj_classes::{MethodRow, Table};
 use dpj_effects::EffectSet;
 use dpj_exprs::{Env, Found, length_name, refused};
@@ -30,82 +31,118 @@ use std::alloc::Global;
 /// Checks the bodies of a program, class by class and member by member in the order of the text, and refuses
 /// the first node that has a fault. `table` is the program's.
 pub fn check(alloc: Global, program: &Program, table: &Table) -> Result<Accepted, Stop>
-    ensures nd { IfOk result (λ accepted. accepted.uses_nd ≡ program_uses_nd program.now) }
+    ensures nd { IfOk result (λ found. found.uses_nd ≡ program_uses_nd program.now) }
     ensures keeps { OnOk result (ProgramKeeps program.now) }
-    ensures ok { IfOk result (λ found. BodiesChecking program.now table.now (accepted found.blocks)) }
-    ensures fault { IfErr result (λ stop. IfRefused stop (λ refusal. BodiesChecking program.now table.now (rejected refusal))) }
+    ensures checks { Says result (λ found. Ok (map plain_body found.bodies)) Err (BodiesChecking program.now table.now) }
 {
     let mut body = Body::new(alloc, Env::new(alloc, table, length_name(program)));
-    check_classes(&mut body, program.classes.as_slice())?;
-    let Body { blocks, .. } = body;
+    let bodies = check_classes(&mut body, program.classes.as_slice())?;
     Ok(Accepted {
         uses_nd: uses_nd(program),
-        blocks,
+        bodies,
     })
 }
 
-fn check_classes(body: &mut Body, classes: &[Class]) -> Result<(), Stop>
+fn check_classes(body: &mut Body, classes: &[Class]) -> Result<Items<MemberBody>, Stop>
     ensures keeps { OnOk result (ClassesKeep classes.now) }
-    ensures ok { OnOk result (ClassesChecking body.old.env 0 classes.now 0 body.old.blocks (accepted body.new.blocks)) }
-    ensures fault { IfErr result (λ stop. IfRefused stop (λ refusal. ClassesChecking body.old.env 0 classes.now 0 body.old.blocks (rejected refusal))) }
+    ensures checks { Says result (λ bodies. Ok (map plain_body bodies)) Err (ClassesChecking body.old.env 0 classes.now 0) }
 {
+    let mut bodies = Items::new(body.alloc);
     let mut methods = 0;
     for (number, class) in classes.iter().enumerate() {
-        methods = check_class(body, class, number_at(number), methods)?;
+        let done = check_class(body, class, number_at(number), methods)?;
+        methods = done.next;
+        append(&mut bodies, done.bodies)?;
+    }
+    Ok(bodies)
+}
+
+fn append(bodies: &mut Items<MemberBody>, more: Items<MemberBody>) -> Result<(), NoMemory>
+    ensures { OnOk result (bodies.new ≡ bodies.old ++ more) }
+{
+    for body in more.into_vec() {
+        bodies.push(body)?;
     }
     Ok(())
 }
 
-/// Checks the bodies of the class of a number, of which the first has the other number, and gives the number behind
-/// the last.
-fn check_class(body: &mut Body, class: &Class, number: u32, first: u32) -> Result<u32, Stop>
+/// The bodies of a class that passed, and the number after its last method.
+#[derive(Drop)]
+struct ClassBodies {
+    next: u32,
+    bodies: Items<MemberBody>,
+}
+
+/// Checks the bodies of the class of a number, of which the first has the other number.
+fn check_class(body: &mut Body, class: &Class, number: u32, first: u32) -> Result<ClassBodies, Stop>
     ensures keeps { OnOk result (MembersKeep class.now.members) }
     ensures around { (other : ℕ) → OnOk result (at_class body.new.env other ≡ at_class body.old.env other) }
-    ensures ok { IfOk result (λ next. MembersChecking (at_class body.old.env number) (class_params (table_of body.old.env) number) class.now.members first body.old.blocks (all_checked next body.new.blocks)) }
-    ensures fault { IfErr result (λ stop. IfRefused stop (λ refusal. MembersChecking (at_class body.old.env number) (class_params (table_of body.old.env) number) class.now.members first body.old.blocks (one_refused refusal))) }
+    ensures checks { Says result (λ done. Ok (plain_bodies done)) Err (MembersChecking (at_class body.old.env number) (class_params (table_of body.old.env) number) class.now.members first) }
 {
     body.enter_class(number)?;
     let params = body.atomic_params.len();
-    let mut next = first;
+    let mut done = ClassBodies {
+        next: first,
+        bodies: Items::new(body.alloc),
+    };
     for member in class.members.as_slice() {
-        next = check_member(body, member, params, next)?;
+        let made = check_member(body, member, params, done.next)?;
+        add_body(&mut done, made)?;
     }
-    Ok(next)
+    Ok(done)
 }
 
-/// Checks the body of a member that has one, in a class with so many region parameters, and gives the number
-/// behind it.
-fn check_member(body: &mut Body, member: &Member, count: usize, number: u32) -> Result<u32, Stop>
+/// Adds the body of a member, where it has one.
+fn add_body(done: &mut ClassBodies, made: Option<MemberBody>) -> Result<(), NoMemory>
+    ensures next { OnOk result (done.new.next ≡ number_after (option_map plain_body made) done.old.next) }
+    ensures bodies { OnOk result (map plain_body done.new.bodies ≡ map plain_body done.old.bodies ++ bodies_of (option_map plain_body made)) }
+{
+    if let Some(body) = made {
+        done.bodies.push(body)?;
+        done.next = done.next.saturating_add(1);
+    }
+    Ok(())
+}
+
+/// Checks the body of a member that has one, in a class with so many region parameters.
+fn check_member(
+    body: &mut Body,
+    member: &Member,
+    count: usize,
+    number: u32,
+) -> Result<Option<MemberBody>, Stop>
     ensures keeps { OnOk result (MemberKeeps member.now) }
     ensures stays { (start : Env) (class : ℕ) → IsIn start class count body.old → OnOk result (IsIn start class count body.new) }
-    ensures ok { (start : Env) (class : ℕ) (behind : List Member) (v : MembersVerdict) → IsIn start class count body.old → IfOk result (λ next. MembersChecking (at_class start class) (class_params (table_of start) class) behind next body.new.blocks v → MembersChecking (at_class start class) (class_params (table_of start) class) (member.now ∷ behind) number body.old.blocks v) }
-    ensures fault { (start : Env) (class : ℕ) (behind : List Member) → IsIn start class count body.old → IfErr result (λ stop. IfRefused stop (λ refusal. MembersChecking (at_class start class) (class_params (table_of start) class) (member.now ∷ behind) number body.old.blocks (one_refused refusal))) }
+    ensures checks { (start : Env) (class : ℕ) → IsIn start class count body.old → Says result (λ made. Ok (option_map plain_body made)) Err (MemberChecking (at_class start class) (class_params (table_of start) class) member.now number) }
 {
     match member {
-        Member::Regions { .. } | Member::Field(_) => Ok(number),
+        Member::Regions { .. } | Member::Field(_) => Ok(None),
         Member::Method(method) => {
             body.enter_method(number, count)?;
-            check_method(body, method, number)?;
-            Ok(number.saturating_add(1))
+            Ok(Some(check_method(body, method, number)?))
         }
     }
 }
 
 /// Checks the body of a method or a constructor. One without a row has no formals in scope, and may have no effect.
-fn check_method(body: &mut Body, method: &Method, number: u32) -> Result<(), Stop>
+fn check_method(body: &mut Body, method: &Method, number: u32) -> Result<MemberBody, Stop>
     ensures keeps { OnOk result (MethodKeeps method.now) }
     ensures home { OnOk result (home_of body.new ≡ home_of body.old) }
-    ensures ok { (around : Env) → body.old.env ≡ at_method around number → OnOk result ((found : Found) × MethodChecking around body.old.atomic_params number method.now body.old.blocks (passes (walk_of body.new found))) }
-    ensures fault { (around : Env) → body.old.env ≡ at_method around number → IfErr result (λ stop. IfRefused stop (λ refusal. MethodChecking around body.old.atomic_params number method.now body.old.blocks (refused refusal))) }
+    ensures checks { (around : Env) → body.old.env ≡ at_method around number → Says result (λ made. Ok (plain_body made)) Err (MethodChecking around body.old.atomic_params number method.now) }
 {
     let row = body.env.table().numbered(number);
     let nothing = EffectSet::new(body.alloc);
     declare_formals(body, method.formals.as_slice(), types_of(row))?;
     let has_slots = body.has_room();
     let mut done = Found::new(body.alloc);
-    let completes = check_body(body, method, &mut done)?;
+    let checked = check_body(body, method, &mut done)?;
     let covered = summary_of(row, &nothing).set_covers(&done.effects);
-    settle_method(method, completes, covered, has_slots)
+    settle_method(method, checked.completes, covered, has_slots)?;
+    Ok(MemberBody {
+        slots: body.env.slots(),
+        local_regions: body.env.regions_declared(),
+        stmts: checked.stmts,
+    })
 }
 
 /// The types of the formals of a method, where it has a row.
@@ -128,12 +165,12 @@ fn summary_of<'a>(row: Option<&'a MethodRow>, nothing: &'a EffectSet) -> &'a Eff
     }
 }
 
-/// Checks the statements of a method, whose formals are in scope, and says whether they complete.
-fn check_body(body: &mut Body, method: &Method, done: &mut Found) -> Result<bool, Stop>
-    ensures completes { IfOk result (λ completes. completes ≡ all_complete (plain_stmts (map plain_stmt method.now.body))) }
+/// Checks the statements of a method, whose formals are in scope.
+fn check_body(body: &mut Body, method: &Method, done: &mut Found) -> Result<CheckedBlock, Stop>
+    ensures completes { IfOk result (λ checked. checked.completes ≡ all_complete (plain_stmts (map plain_stmt method.now.body))) }
     ensures keeps { OnOk result (AllKeep (method_around (has_value method.now.result)) (plain_stmts (map plain_stmt method.now.body))) }
     ensures home { OnOk result (home_of body.new ≡ home_of body.old) }
-    ensures checks { Says result (walk_of body.new done.new) (InBlock body.old.atomic_params (method_around (has_value method.now.result)) (plain_stmts (map plain_stmt method.now.body)) (walk_of body.old done.old)) }
+    ensures checks { Says result (λ checked. passes (map typed_stmt checked.stmts) (walk_of body.new done.new)) refused (InBlock body.old.atomic_params (method_around (has_value method.now.result)) (plain_stmts (map plain_stmt method.now.body)) (walk_of body.old done.old)) }
 {
     let around = Around::method(has_value(&method.result));
     block(body, around, method.body.as_slice(), done)

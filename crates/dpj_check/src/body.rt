@@ -1,6 +1,5 @@
 use crate::node::{Around, Node};
 use dpj_base::{Items, Kind, NoMemory, Place, Stop, Ty};
-use dpj_effects::EffectSet;
 use dpj_exprs::{Env, Found, Typed, expr, fits};
 use dpj_headers::ParamRow;
 use dpj_tree::{Expr, Named};
@@ -13,23 +12,19 @@ pub struct Body<'a> {
     pub env: Env<'a>,
     /// Of each region parameter, those of the class first, whether it is atomic.
     pub atomic_params: Items<bool>,
-    /// The effects with which each atomic block so far is entered.
-    pub blocks: Items<EffectSet>,
 }
 
 impl<'a> Body<'a> {
-    ghost use Rattle.std.specs.Prelude.{◌≡◌, []};
+    ghost use Rattle.std.specs.Prelude.{◌≡◌};
 
     /// No class is entered.
     pub fn new(alloc: Global, env: Env<'a>) -> Body<'a>
-        ensures env { result.env ≡ env.entry }
-        ensures none { result.blocks ≡ [] }
+        ensures { result.env ≡ env.entry }
     {
         Body {
             alloc,
             env,
             atomic_params: Items::new(alloc),
-            blocks: Items::new(alloc),
         }
     }
 }
@@ -41,7 +36,7 @@ impl Body<'_> {
     ghost use Rattle.dpj_classes.specs.Table.{numbered};
     ghost use Rattle.dpj_exprs.specs.Answer.{gives, refused, Says};
     ghost use Rattle.dpj_exprs.specs.Env.{at_class, at_method, supers_of, table_of};
-    ghost use Rattle.dpj_exprs.specs.Typed.{plain_typed, may_be, is_int, is_boolean, Fits};
+    ghost use Rattle.dpj_exprs.specs.Typed.{plain_typed, value_type, may_be, is_int, is_boolean, Fits};
     ghost use Rattle.dpj_exprs.specs.Typing.{Typing};
     ghost use Rattle.dpj_check.specs.Checking.{variable_declared};
     ghost use Rattle.dpj_check.specs.Deciding.{Returned};
@@ -54,7 +49,6 @@ impl Body<'_> {
     pub fn enter_class(&mut self, class: u32) -> Result<(), NoMemory>
         ensures env { OnOk result (self.new.env ≡ at_class self.old.env class) }
         ensures atomic { OnOk result (self.new.atomic_params ≡ class_params (table_of self.old.env) class) }
-        ensures blocks { self.new.blocks ≡ self.old.blocks }
     {
         self.env.enter_class(self.alloc, class)?;
         self.atomic_params.truncate(0);
@@ -69,7 +63,6 @@ impl Body<'_> {
     pub fn enter_method(&mut self, method: u32, class_params: usize) -> Result<(), NoMemory>
         ensures env { OnOk result (self.new.env ≡ at_method self.old.env method) }
         ensures atomic { OnOk result (self.new.atomic_params ≡ take class_params self.old.atomic_params ++ own_params (table_of self.old.env) method) }
-        ensures blocks { self.new.blocks ≡ self.old.blocks }
     {
         self.env.enter_method(self.alloc, method)?;
         self.atomic_params.truncate(class_params);
@@ -83,7 +76,6 @@ impl Body<'_> {
     fn add_params(&mut self, params: &[ParamRow]) -> Result<(), NoMemory>
         ensures env { self.new.env ≡ self.old.env }
         ensures atomic { OnOk result (self.new.atomic_params ≡ self.old.atomic_params ++ atomic_of params.now) }
-        ensures blocks { self.new.blocks ≡ self.old.blocks }
     {
         for param in params {
             self.atomic_params.push(param.atomic)?;
@@ -102,7 +94,7 @@ impl Body<'_> {
     /// An expression that is to be an int.
     pub fn int(&self, e: &Expr, out: &mut Found, node: &mut Node) -> Result<Typed, Stop>
         ensures answer { Says result (λ typed. gives (plain_typed typed) out.new) refused (Typing self.now.env (plain_expr e.now) out.old) }
-        ensures node { IfOk result (λ typed. node.new ≡ with_fault_if node.old Kind.Type (not (may_be is_int (plain_typed typed)))) }
+        ensures node { IfOk result (λ typed. node.new ≡ with_fault_if node.old Kind.Type (not (may_be is_int (value_type typed)))) }
         ensures clean { OnOk result (fault_of node.new ≡ None → fault_of node.old ≡ None) }
         ensures nd { OnOk result (IsTrue out.old.reaches_nd → IsTrue out.new.reaches_nd) }
     {
@@ -114,7 +106,7 @@ impl Body<'_> {
     /// An expression that is to be a boolean.
     pub fn boolean(&self, e: &Expr, out: &mut Found, node: &mut Node) -> Result<Typed, Stop>
         ensures answer { Says result (λ typed. gives (plain_typed typed) out.new) refused (Typing self.now.env (plain_expr e.now) out.old) }
-        ensures node { IfOk result (λ typed. node.new ≡ with_fault_if node.old Kind.Type (not (may_be is_boolean (plain_typed typed)))) }
+        ensures node { IfOk result (λ typed. node.new ≡ with_fault_if node.old Kind.Type (not (may_be is_boolean (value_type typed)))) }
         ensures clean { OnOk result (fault_of node.new ≡ None → fault_of node.old ≡ None) }
         ensures nd { OnOk result (IsTrue out.old.reaches_nd → IsTrue out.new.reaches_nd) }
     {
@@ -132,7 +124,7 @@ impl Body<'_> {
 
     /// Whether the value may be returned. Where the method has no result that is asked of `void` alone.
     pub fn is_returned(&self, around: Around, value: &Typed) -> Result<bool, NoMemory>
-        ensures { IfOk result (λ fit. IsTrue fit ↔ Returned (supers_of self.now.env) around.has_result (numbered (table_of self.now.env) self.now.env.method) (plain_typed value.now)) }
+        ensures { IfOk result (λ fit. IsTrue fit ↔ Returned (supers_of self.now.env) around.has_result (numbered (table_of self.now.env) self.now.env.method) (value_type value.now)) }
     {
         match self.env.table().numbered(self.env.method) {
             Some(row) if around.has_result => self.fits(value, &row.result),

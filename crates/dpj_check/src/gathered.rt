@@ -5,7 +5,7 @@ ghost use Rattle.dpj_parts.specs.Uses.{is_use_of};
 ghost use Rattle.dpj_check.specs.Gathering.{all_left, entered, handed_on, moved, of_view, taken_in, with_uses};
 
 use crate::leaving::Leaving;
-use dpj_base::{Items, NoMemory, PartUse, Plain};
+use dpj_base::{Effect, Items, NoMemory, PartUse, Plain};
 use dpj_effects::EffectSet;
 use dpj_exprs::Found;
 use dpj_parts::as_effects;
@@ -38,10 +38,22 @@ pub fn all_effects(alloc: Global, found: &Found) -> Result<EffectSet, NoMemory>
 }
 
 /// The effects with which an atomic block is entered that does this: all marked, but for the uses of parts.
-pub fn entered(alloc: Global, found: &Found) -> Result<EffectSet, NoMemory>
-    ensures { IfOk result (λ set. set ≡ entered found.now) }
+pub fn entered(alloc: Global, found: &Found) -> Result<Items<Effect>, NoMemory>
+    ensures { IfOk result (λ effects. effects ≡ entered found.now) }
 {
-    with_uses(alloc, found.effects.marked(alloc)?, found.uses.as_slice())
+    let marked = found.effects.marked(alloc)?;
+    effects_of(alloc, &with_uses(alloc, marked, found.uses.as_slice())?)
+}
+
+/// The effects of a set, in their order.
+fn effects_of(alloc: Global, set: &EffectSet) -> Result<Items<Effect>, NoMemory>
+    ensures { IfOk result (λ effects. effects ≡ set.now) }
+{
+    let mut effects = Items::new(alloc);
+    for e in set.as_slice() {
+        effects.push(e.copy(alloc)?)?;
+    }
+    Ok(effects)
 }
 
 /// Makes effects of the uses of a part, or uses of the part that it is of.

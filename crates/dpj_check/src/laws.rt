@@ -2,8 +2,8 @@ ghost use Rattle.dpj_check.specs.Once.{OneChecking};
 
 use dpj_exprs::one_typing;
 
-/// Over a class table the bodies of a program have one verdict at most: they are accepted with the effects of each
-/// atomic block, or one is refused.
+/// Over a class table the bodies of a program have one verdict at most: they are accepted as these typed bodies, or
+/// one is refused.
 pub fn one_checking()
     ensures { OneChecking }
 {

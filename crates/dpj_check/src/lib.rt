@@ -3,7 +3,8 @@
 //!
 //! `check` goes through the bodies in the order of the text and reports the fault of the first node, in post-order,
 //! that has one; of several faults of one node it reports the one with the lowest number. Of a program that it
-//! accepts it says with which effects each atomic block is entered.
+//! accepts it gives the typed bodies: each statement of the tree with its names resolved, its expressions typed, its
+//! locals by their slots and its atomic blocks with the effects with which they are entered.
 //!
 //! A body is walked by recursion, as deep as its statements are nested. The effects of statements that follow each
 //! other are gathered into one set; a branch and a block have a set of their own, which goes into the outer one
@@ -17,6 +18,7 @@ mod constructs;
 mod gathered;
 mod laws;
 mod leaving;
+mod made;
 mod meet;
 mod node;
 mod parts;

@@ -43,7 +43,8 @@ pub struct Node {
 }
 
 impl Node {
-    ghost use Rattle.std.specs.Prelude.{◌≡◌, ◌≢◌, None, false, OnOk};
+    ghost use Rattle.std.specs.Prelude.{◌≡◌, ◌≢◌, None, Some, false, OnOk};
+    ghost use Rattle.dpj_base.specs.Refused.{IfRefused};
     ghost use Rattle.dpj_headers.specs.Faults.{settled};
     ghost use Rattle.dpj_check.specs.Noting.{fault_of, node_at, settled_node, with_fault, with_fault_if, with_found};
 
@@ -92,6 +93,18 @@ impl Node {
         ensures told { fault_of self.new ≢ None }
     {
         self.faults.note(kind, place);
+    }
+
+    /// The refusal of the statement, where a fault is at another place.
+    pub fn refused_at(self, kind: Kind, place: Place) -> Stop
+        ensures { IfRefused result (λ refusal. fault_of (with_fault self kind place) ≡ Some refusal) }
+    {
+        let mut node = self;
+        node.note_at(kind, place);
+        match node.settle() {
+            Err(stop) => stop,
+            Ok(()) => unreachable!(),
+        }
     }
 
     /// Reports the fault that comes first, if there is one.

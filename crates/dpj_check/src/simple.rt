@@ -2,20 +2,25 @@ ghost use Rattle.std.specs.Prelude.{◌≡◌, ◌||◌, None, Some, false, true
 ghost use Rattle.dpj_base.specs.Refused.{IfRefused};
 ghost use Rattle.dpj_base.specs.Types.{plain_type};
 ghost use Rattle.dpj_exprs.specs.declared.found.Found.{Found};
-ghost use Rattle.dpj_exprs.specs.Typed.{plain_typed};
 ghost use Rattle.dpj_tree.specs.Plain.{plain_expr};
 ghost use Rattle.dpj_check.specs.Deciding.{is_misplaced, local_fault};
 ghost use Rattle.dpj_check.specs.Noting.{fault_of, with_fault_if};
-ghost use Rattle.dpj_check.specs.Simple.{declared_type, declared_told, is_region_name, may_print, regions_declared, target_fault, AssigningLocal, AssigningPlace, Declaring, Performing, Printing, Returning};
-ghost use Rattle.dpj_check.specs.Walks.{home_of, judged, walk_of, Says};
+ghost use Rattle.dpj_check.specs.Simple.{declared_type, declared_told, is_region_name, may_print, region_noted, regions_declared, target_fault, AssigningLocal, AssigningPlace, Declaring, Performing, Printing, Returning};
+ghost use Rattle.dpj_check.specs.Walks.{home_of, judged, passes, refused, walk_of};
+ghost use Rattle.dpj_exprs.specs.Answer.{Says};
+ghost use Rattle.dpj_typed.specs.Plain as typed;
+ghost use Rattle.dpj_exprs.specs.Typed.{value_type};
+ghost use Rattle.dpj_typed.specs.Plain.{plain_stmt as typed_stmt};
 
 use crate::body::Body;
+use crate::made;
 use crate::node::{Around, Node};
-use dpj_base::{Kind, Stop, Ty};
-use dpj_exprs::{Found, Typed, read_target, write};
+use dpj_base::{Bytes, Items, Kind, Plain, Stop, Ty};
+use dpj_exprs::{Found, Typed, read_target};
 use dpj_headers::Faults;
 use dpj_resolve::ty;
 use dpj_tree::{Expr, Named, TypeTree};
+use dpj_typed::{LocalRegion, Stmt};
 
 /// `ty name = value;`
 pub fn declare(
@@ -26,22 +31,25 @@ pub fn declare(
     name: u32,
     value: &Expr,
     out: &mut Found,
-) -> Result<(), Stop>
+) -> Result<Stmt, Stop>
     ensures clean { OnOk result (fault_of node ≡ None) }
     ensures nd { OnOk result (IsTrue out.old.reaches_nd → IsTrue out.new.reaches_nd) }
     ensures home { OnOk result (home_of body.new ≡ home_of body.old) }
-    ensures checks { Says result (walk_of body.new out.new) (Declaring node is_final tree.now name (plain_expr value.now) (walk_of body.old out.old)) }
+    ensures checks { Says result (λ made. passes (typed_stmt made) (walk_of body.new out.new)) refused (Declaring node is_final tree.now name (plain_expr value.now) (walk_of body.old out.old)) }
 {
     let place = node.place;
     let mut node = node;
     let declared = declared_type(body, tree)?;
-    let value = body.typed(value, out)?;
+    let given = body.typed(value, out)?;
     body.note_declaration(name, place, &mut node);
-    let fits = body.fits(&value, &declared)?;
+    let fits = body.fits(&given, &declared)?;
     node.note_if(Kind::Type, !fits);
     node.settle()?;
-    body.declare(name, declared, is_final)?;
-    Ok(())
+    let slot = body.env.slots();
+    let ty = declared.copy(body.alloc)?;
+    body.declare(name, ty, is_final)?;
+    let value = given.into_node(value.place);
+    Ok(made::declaration(place, slot, declared, is_final, value))
 }
 
 /// The type that a declaration names. In a body a type with a fault is refused at once.
@@ -64,18 +72,19 @@ pub fn assign_local(
     target: Named,
     value: &Expr,
     out: &mut Found,
-) -> Result<(), Stop>
+) -> Result<Stmt, Stop>
     ensures clean { OnOk result (fault_of node ≡ None) }
     ensures nd { OnOk result (IsTrue out.old.reaches_nd → IsTrue out.new.reaches_nd) }
-    ensures checks { Says result (walk_of body.now out.new) (AssigningLocal node target (plain_expr value.now) (walk_of body.now out.old)) }
+    ensures checks { Says result (λ made. passes (typed_stmt made) (walk_of body.now out.new)) refused (AssigningLocal node target (plain_expr value.now) (walk_of body.now out.old)) }
 {
     let mut node = node;
-    let value = body.typed(value, out)?;
-    match body.env.local(target.name) {
-        None => node.note_at(Kind::Unknown, target.place),
-        Some(row) => node.note_found(local_fault(body.fits(&value, &row.ty)?, row.is_final)),
-    }
-    node.settle()
+    let given = body.typed(value, out)?;
+    let Some(row) = body.env.local(target.name) else {
+        return Err(node.refused_at(Kind::Unknown, target.place));
+    };
+    node.note_found(local_fault(body.fits(&given, &row.ty)?, row.is_final));
+    node.settle()?;
+    Ok(made::store(target.place, row.slot, given.into_node(value.place)))
 }
 
 /// The fault of an assignment to a local: the value doesn't fit, or the local is final.
@@ -95,24 +104,26 @@ pub fn assign_place(
     written: &Expr,
     value: &Expr,
     out: &mut Found,
-) -> Result<(), Stop>
+) -> Result<Stmt, Stop>
     ensures clean { OnOk result (fault_of node ≡ None) }
     ensures nd { OnOk result (IsTrue out.old.reaches_nd → IsTrue out.new.reaches_nd) }
-    ensures checks { Says result (walk_of body.now out.new) (AssigningPlace node (plain_expr written.now) (plain_expr value.now) (walk_of body.now out.old)) }
+    ensures checks { Says result (λ made. passes (typed_stmt made) (walk_of body.now out.new)) refused (AssigningPlace node (plain_expr written.now) (plain_expr value.now) (walk_of body.now out.old)) }
 {
     let mut node = node;
     let target = read_target(body.alloc, &body.env, out, written)?;
-    let value = body.typed(value, out)?;
+    let given = body.typed(value, out)?;
     match target {
         Some(target) => {
-            let fits = body.fits(&value, &target.ty)?;
+            let fits = body.fits(&given, &target.ty)?;
             node.note_found(target_fault(fits, target.may_write));
             node.settle()?;
-            Ok(write(out, target)?)
+            let spot = target.write(out)?;
+            Ok(made::stored(written.place, spot, given.into_node(value.place)))
         }
         None => {
-            node.note_if(Kind::Type, !value.is_value());
-            node.settle()
+            node.note_if(Kind::Type, !given.is_value());
+            node.settle()?;
+            Ok(made::performed(written.place, given.into_node(value.place)))
         }
     }
 }
@@ -132,25 +143,29 @@ fn target_fault(fit: bool, may_write: bool) -> Option<Kind>
 }
 
 /// A call or a creation as a statement.
-pub fn perform(body: &Body, node: Node, e: &Expr, out: &mut Found) -> Result<(), Stop>
+pub fn perform(body: &Body, node: Node, e: &Expr, out: &mut Found) -> Result<Stmt, Stop>
     ensures clean { OnOk result (fault_of node ≡ None) }
     ensures nd { OnOk result (IsTrue out.old.reaches_nd → IsTrue out.new.reaches_nd) }
-    ensures checks { Says result (walk_of body.now out.new) (Performing node (plain_expr e.now) (walk_of body.now out.old)) }
+    ensures checks { Says result (λ made. passes (typed_stmt made) (walk_of body.now out.new)) refused (Performing node (plain_expr e.now) (walk_of body.now out.old)) }
 {
+    let place = node.place;
     let mut node = node;
-    body.typed(e, out)?;
-    node.settle()
+    let given = body.typed(e, out)?;
+    node.settle()?;
+    Ok(made::performed(place, given.into_node(e.place)))
 }
 
 /// `return;`
-pub fn leave(body: &Body, around: Around, node: Node) -> Result<(), Stop>
+pub fn leave(body: &Body, around: Around, node: Node) -> Result<Stmt, Stop>
     ensures placed { OnOk result (is_misplaced around false ≡ false) }
     ensures clean { OnOk result (fault_of node ≡ None) }
-    ensures checks { (found : Found) → Says result (walk_of body.now found) (λ v. judged (fault_of (with_fault_if node Kind.Return (is_misplaced around false))) (walk_of body.now found) ≡ v) }
+    ensures checks { (found : Found) → Says result (λ made. passes (typed_stmt made) (walk_of body.now found)) refused (λ v. judged (fault_of (with_fault_if node Kind.Return (is_misplaced around false))) (typed.statement node.place typed.return_nothing) (walk_of body.now found) ≡ v) }
 {
+    let place = node.place;
     let mut node = node;
     node.note_if(Kind::Return, is_misplaced(around, false));
-    node.settle()
+    node.settle()?;
+    Ok(made::leaving(place))
 }
 
 /// `return value;`
@@ -160,18 +175,20 @@ pub fn leave_with(
     node: Node,
     value: &Expr,
     out: &mut Found,
-) -> Result<(), Stop>
+) -> Result<Stmt, Stop>
     ensures placed { OnOk result (is_misplaced around true ≡ false) }
     ensures clean { OnOk result (fault_of node ≡ None) }
     ensures nd { OnOk result (IsTrue out.old.reaches_nd → IsTrue out.new.reaches_nd) }
-    ensures checks { Says result (walk_of body.now out.new) (Returning around node (plain_expr value.now) (walk_of body.now out.old)) }
+    ensures checks { Says result (λ made. passes (typed_stmt made) (walk_of body.now out.new)) refused (Returning around node (plain_expr value.now) (walk_of body.now out.old)) }
 {
+    let place = node.place;
     let mut node = node;
     node.note_if(Kind::Return, is_misplaced(around, true));
-    let value = body.typed(value, out)?;
-    let fits = body.is_returned(around, &value)?;
+    let given = body.typed(value, out)?;
+    let fits = body.is_returned(around, &given)?;
     node.note_if(Kind::Type, !fits);
-    node.settle()
+    node.settle()?;
+    Ok(made::leaving_with(place, given.into_node(value.place)))
 }
 
 /// A `return`, with or without a value, stands in a branch or an atomic block, or doesn't fit the method.
@@ -182,39 +199,66 @@ fn is_misplaced(around: Around, valued: bool) -> bool
 }
 
 /// `print(value);`
-pub fn print(body: &Body, node: Node, value: &Expr, out: &mut Found) -> Result<(), Stop>
+pub fn print(body: &Body, node: Node, value: &Expr, out: &mut Found) -> Result<Stmt, Stop>
     ensures clean { OnOk result (fault_of node ≡ None) }
     ensures nd { OnOk result (IsTrue out.old.reaches_nd → IsTrue out.new.reaches_nd) }
-    ensures checks { Says result (walk_of body.now out.new) (Printing node (plain_expr value.now) (walk_of body.now out.old)) }
+    ensures checks { Says result (λ made. passes (typed_stmt made) (walk_of body.now out.new)) refused (Printing node (plain_expr value.now) (walk_of body.now out.old)) }
 {
+    let place = node.place;
     let mut node = node;
-    let value = body.typed(value, out)?;
-    node.note_if(Kind::Type, !may_print(&value));
-    node.settle()
+    let given = body.typed(value, out)?;
+    node.note_if(Kind::Type, !may_print(&given));
+    node.settle()?;
+    Ok(made::printed(place, given.into_node(value.place)))
+}
+
+/// `print` of a text.
+pub fn print_text(body: &Body, node: Node, text: &Bytes) -> Result<Stmt, Stop>
+    ensures clean { OnOk result (fault_of node ≡ None) }
+    ensures checks { (found : Found) → Says result (λ made. passes (typed_stmt made) (walk_of body.now found)) refused (λ v. judged (fault_of node) (typed.statement node.place (typed.print_text text.now)) (walk_of body.now found) ≡ v) }
+{
+    let place = node.place;
+    let mut node = node;
+    node.settle()?;
+    Ok(made::text(place, text.copy(body.alloc)?))
 }
 
 /// An int or a boolean is printed, and no reference.
 fn may_print(value: &Typed) -> bool
-    ensures { result ≡ may_print (plain_typed value.now) }
+    ensures { result ≡ may_print (value_type value.now) }
 {
     value.is_int() || value.is_boolean()
 }
 
 /// `region name, ..;`
-pub fn declare_regions(body: &mut Body, node: Node, names: &[Named]) -> Result<(), Stop>
+pub fn declare_regions(body: &mut Body, node: Node, names: &[Named]) -> Result<Stmt, Stop>
     ensures clean { OnOk result (fault_of node ≡ None) }
     ensures home { OnOk result (home_of body.new ≡ home_of body.old) }
-    ensures checks { (found : Found) → Says result (walk_of body.new found) (λ v. regions_declared node names.now (walk_of body.old found) ≡ v) }
+    ensures checks { (found : Found) → Says result (λ made. passes (typed_stmt made) (walk_of body.new found)) refused (λ v. regions_declared node names.now (walk_of body.old found) ≡ v) }
 {
+    let place = node.place;
     let mut node = node;
+    let mut regions = Items::new(body.alloc);
     for named in names {
-        if is_region(body, named.name) {
-            node.note_at(Kind::Duplicate, named.place);
-        }
-        body.note_room(named.place, &mut node);
+        note_region(body, *named, &mut node);
+        regions.push(LocalRegion {
+            number: body.env.regions_declared(),
+        })?;
         body.declare_region(named.name)?;
     }
-    node.settle()
+    node.settle()?;
+    Ok(made::regions(place, regions))
+}
+
+/// A local region whose name a region in scope has is a fault, and so is one for which there is no room.
+fn note_region(body: &Body, named: Named, node: &mut Node)
+    ensures node { node.new ≡ region_noted body.now.env named node.old }
+    ensures clean { fault_of node.new ≡ None → fault_of node.old ≡ None }
+{
+    if is_region(body, named.name) {
+        node.note_at(Kind::Duplicate, named.place);
+    }
+    body.note_room(named.place, node);
 }
 
 /// Whether a region parameter or a local region in scope, or a region of the class or a superclass has the name.

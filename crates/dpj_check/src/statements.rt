@@ -1,5 +1,5 @@
-ghost use Rattle.std.specs.Prelude.{◌≡◌, ◌||◌, Bool, List, None, false, true, is_some, map, IsTrue, IfOk, OnOk};
-ghost use Rattle.std.specs.Option.{option_copied};
+ghost use Rattle.std.specs.Prelude.{◌≡◌, ◌||◌, Bool, List, None, false, true, is_some, map, option_map, IsTrue, IfOk, OnOk};
+ghost use Rattle.std.specs.Option.{option_copied, option_map_or};
 ghost use Rattle.dpj_tree.specs.Nd.{holds_nd, some_holds_nd};
 ghost use Rattle.dpj_tree.specs.Plain.{plain_stmt, plain_stmts, return_form};
 ghost use Rattle.dpj_check.specs.Checking.{form_of, Checking, InBlock, InOrder, InScope, Standing};
@@ -8,20 +8,42 @@ ghost use Rattle.dpj_check.specs.Deciding.{is_misplaced};
 ghost use Rattle.dpj_check.specs.Keeping.{Keeps, AllKeep};
 ghost use Rattle.dpj_check.specs.declared.node.Around.{Around};
 ghost use Rattle.dpj_check.specs.Noting.{fault_of};
-ghost use Rattle.dpj_check.specs.Walks.{home_of, walk_of, Says};
+ghost use Rattle.dpj_check.specs.Walks.{home_of, passes, refused, walk_of};
+ghost use Rattle.dpj_exprs.specs.Answer.{Says};
+ghost use Rattle.dpj_typed.specs.Plain.{statement, choice_form};
+ghost use Rattle.dpj_exprs.specs.Typed.{plain_node as typed_expr};
+ghost use Rattle.dpj_typed.specs.Plain.{plain_stmt as typed_stmt};
 
 use crate::body::Body;
 use crate::constructs::{atomic, cobegin, foreach};
 use crate::gathered::take_in;
 use crate::leaving::{Leaving, Marks};
+use crate::made;
 use crate::node::{Around, Node};
 use crate::parts::foreach_parts;
 use crate::simple::{
     assign_local, assign_place, declare, declare_regions, leave, leave_with, perform, print,
+    print_text,
 };
-use dpj_base::Stop;
+use dpj_base::{Items, NoMemory, Place, Stop};
 use dpj_exprs::Found;
 use dpj_tree::{Expr, Stmt, StmtKind};
+use dpj_typed::{Expr as TypedExpr, Stmt as TypedStmt};
+use std::alloc::Global;
+
+/// A statement that passed: whether it completes, and the typed one.
+#[derive(Drop)]
+pub struct Checked {
+    pub completes: bool,
+    pub stmt: TypedStmt,
+}
+
+/// The statements of a block that passed: whether they all complete, and the typed ones.
+#[derive(Drop)]
+pub struct CheckedBlock {
+    pub completes: bool,
+    pub stmts: Items<TypedStmt>,
+}
 
 /// Checks a statement, and says whether it completes. `follows` says that it stands after one that doesn't.
 #[cycle(statements)]
@@ -31,37 +53,71 @@ pub fn statement(
     stmt: &Stmt,
     follows: bool,
     out: &mut Found,
-) -> Result<bool, Stop>
-    ensures completes { IfOk result (λ done. done ≡ completes (plain_stmt stmt.now)) }
+) -> Result<Checked, Stop>
+    ensures completes { IfOk result (λ done. done.completes ≡ completes (plain_stmt stmt.now)) }
     ensures after { OnOk result (follows ≡ false) }
     ensures keeps { OnOk result (Keeps around (plain_stmt stmt.now)) }
     ensures nd { OnOk result (IsTrue (out.old.reaches_nd || holds_nd (plain_stmt stmt.now)) → IsTrue out.new.reaches_nd) }
     ensures home { OnOk result (home_of body.new ≡ home_of body.old) }
-    ensures checks { Says result (walk_of body.new out.new) (Standing body.old.atomic_params around follows (plain_stmt stmt.now) (walk_of body.old out.old)) }
+    ensures checks { Says result (λ made. passes (typed_stmt made.stmt) (walk_of body.new out.new)) refused (Standing body.old.atomic_params around follows (plain_stmt stmt.now) (walk_of body.old out.old)) }
 {
     let mut node = Node::of(stmt, follows);
+    let place = node.place;
     match &stmt.kind {
         StmtKind::Block(all) => {
-            let completes = block(body, around, all.as_slice(), out)?;
+            let done = block(body, around, all.as_slice(), out)?;
             node.settle()?;
-            Ok(completes)
+            Ok(Checked {
+                completes: done.completes,
+                stmt: made::blocked(place, done.stmts),
+            })
         }
         StmtKind::If { test, then, other } => {
-            let _test = body.boolean(test, out, &mut node)?;
+            let given = body.boolean(test, out, &mut node)?;
             let first = scoped(body, around, then.get(), out)?;
-            let second = match other {
-                Some(other) => scoped(body, around, other.get(), out)?,
-                None => true,
-            };
-            node.settle()?;
-            Ok(first || second)
+            let test = given.into_node(test.place);
+            match other {
+                Some(other) => {
+                    let second = scoped(body, around, other.get(), out)?;
+                    node.settle()?;
+                    Ok(choose(body.alloc, place, test, first, Some(second))?)
+                }
+                None => {
+                    node.settle()?;
+                    Ok(choose(body.alloc, place, test, first, None)?)
+                }
+            }
         }
         StmtKind::Return(value) => {
-            returns(body, around, node, value.as_ref(), out)?;
-            Ok(false)
+            let stmt = returns(body, around, node, value.as_ref(), out)?;
+            Ok(Checked {
+                completes: false,
+                stmt,
+            })
         }
         _ => completing(body, around, node, stmt, out),
     }
+}
+
+/// An `if` whose parts passed.
+fn choose(
+    alloc: Global,
+    place: Place,
+    test: TypedExpr,
+    first: Checked,
+    second: Option<Checked>,
+) -> Result<Checked, NoMemory>
+    ensures completes { IfOk result (λ done. done.completes ≡ (first.completes || option_map_or (λ part. part.completes) second true)) }
+    ensures stmt { IfOk result (λ done. typed_stmt done.stmt ≡ statement place (choice_form (typed_expr test) (typed_stmt first.stmt) (option_map (λ part. typed_stmt part.stmt) second))) }
+{
+    let (other_completes, other) = match second {
+        Some(part) => (part.completes, Some(part.stmt)),
+        None => (true, None),
+    };
+    Ok(Checked {
+        completes: first.completes || other_completes,
+        stmt: made::choice(alloc, place, test, first.stmt, other)?,
+    })
 }
 
 /// `return;` or `return value;`
@@ -71,11 +127,11 @@ fn returns(
     node: Node,
     value: Option<&Expr>,
     out: &mut Found,
-) -> Result<(), Stop>
+) -> Result<TypedStmt, Stop>
     ensures placed { OnOk result (is_misplaced around (is_some value.entry) ≡ false) }
     ensures clean { OnOk result (fault_of node ≡ None) }
     ensures nd { OnOk result (IsTrue out.old.reaches_nd → IsTrue out.new.reaches_nd) }
-    ensures checks { (params : List Bool) → Says result (walk_of body.now out.new) (Checking params around node (return_form (option_copied value.entry)) (walk_of body.now out.old)) }
+    ensures checks { (params : List Bool) → Says result (λ made. passes (typed_stmt made) (walk_of body.now out.new)) refused (Checking params around node (return_form (option_copied value.entry)) (walk_of body.now out.old)) }
 {
     match value {
         None => leave(body, around, node),
@@ -91,17 +147,20 @@ fn completing(
     node: Node,
     stmt: &Stmt,
     out: &mut Found,
-) -> Result<bool, Stop>
+) -> Result<Checked, Stop>
     requires { IsTrue (goes_on (plain_stmt stmt.now)) }
-    ensures completes { IfOk result (λ done. done ≡ completes (plain_stmt stmt.now)) }
+    ensures completes { IfOk result (λ done. done.completes ≡ completes (plain_stmt stmt.now)) }
     ensures clean { OnOk result (fault_of node ≡ None) }
     ensures keeps { OnOk result (Keeps around (plain_stmt stmt.now)) }
     ensures nd { OnOk result (IsTrue (out.old.reaches_nd || holds_nd (plain_stmt stmt.now)) → IsTrue out.new.reaches_nd) }
     ensures home { OnOk result (home_of body.new ≡ home_of body.old) }
-    ensures checks { Says result (walk_of body.new out.new) (Checking body.old.atomic_params around node (form_of (plain_stmt stmt.now)) (walk_of body.old out.old)) }
+    ensures checks { Says result (λ made. passes (typed_stmt made.stmt) (walk_of body.new out.new)) refused (Checking body.old.atomic_params around node (form_of (plain_stmt stmt.now)) (walk_of body.old out.old)) }
 {
-    construct(body, around, node, stmt, out)?;
-    Ok(true)
+    let stmt = construct(body, around, node, stmt, out)?;
+    Ok(Checked {
+        completes: true,
+        stmt,
+    })
 }
 
 /// A construct with branches, an atomic block, a loop, or a statement that holds no other: each completes.
@@ -112,13 +171,13 @@ fn construct(
     node: Node,
     stmt: &Stmt,
     out: &mut Found,
-) -> Result<(), Stop>
+) -> Result<TypedStmt, Stop>
     requires { IsTrue (goes_on (plain_stmt stmt.now)) }
     ensures clean { OnOk result (fault_of node ≡ None) }
     ensures keeps { OnOk result (Keeps around (plain_stmt stmt.now)) }
     ensures nd { OnOk result (IsTrue (out.old.reaches_nd || holds_nd (plain_stmt stmt.now)) → IsTrue out.new.reaches_nd) }
     ensures home { OnOk result (home_of body.new ≡ home_of body.old) }
-    ensures checks { Says result (walk_of body.new out.new) (Checking body.old.atomic_params around node (form_of (plain_stmt stmt.now)) (walk_of body.old out.old)) }
+    ensures checks { Says result (λ made. passes (typed_stmt made) (walk_of body.new out.new)) refused (Checking body.old.atomic_params around node (form_of (plain_stmt stmt.now)) (walk_of body.old out.old)) }
 {
     match &stmt.kind {
         StmtKind::Cobegin { nd, branches } => {
@@ -140,23 +199,26 @@ fn repeated(
     node: Node,
     stmt: &Stmt,
     out: &mut Found,
-) -> Result<(), Stop>
+) -> Result<TypedStmt, Stop>
     requires { IsTrue (is_loop (plain_stmt stmt.now)) }
     ensures clean { OnOk result (fault_of node ≡ None) }
     ensures keeps { OnOk result (Keeps around (plain_stmt stmt.now)) }
     ensures nd { OnOk result (IsTrue (out.old.reaches_nd || holds_nd (plain_stmt stmt.now)) → IsTrue out.new.reaches_nd) }
     ensures home { OnOk result (home_of body.new ≡ home_of body.old) }
-    ensures checks { Says result (walk_of body.new out.new) (Checking body.old.atomic_params around node (form_of (plain_stmt stmt.now)) (walk_of body.old out.old)) }
+    ensures checks { Says result (λ made. passes (typed_stmt made) (walk_of body.new out.new)) refused (Checking body.old.atomic_params around node (form_of (plain_stmt stmt.now)) (walk_of body.old out.old)) }
 {
+    let place = node.place;
     let mut node = node;
     match &stmt.kind {
         StmtKind::While {
             test,
             body: iteration,
         } => {
-            let _test = body.boolean(test, out, &mut node)?;
-            scoped(body, around, iteration.get(), out)?;
-            node.settle()
+            let given = body.boolean(test, out, &mut node)?;
+            let done = scoped(body, around, iteration.get(), out)?;
+            node.settle()?;
+            let test = given.into_node(test.place);
+            Ok(made::repeated(body.alloc, place, test, done.stmt)?)
         }
         StmtKind::Foreach {
             nd,
@@ -165,9 +227,10 @@ fn repeated(
             count,
             body: iteration,
         } => {
-            let _start = body.int(start, out, &mut node)?;
-            let _count = body.int(count, out, &mut node)?;
-            foreach(body, around, node, *nd, *var, iteration.get(), out)
+            let first = body.int(start, out, &mut node)?;
+            let number = body.int(count, out, &mut node)?;
+            let range = (first.into_node(start.place), number.into_node(count.place));
+            foreach(body, around, node, *nd, *var, range, iteration.get(), out)
         }
         StmtKind::ForeachParts {
             view,
@@ -185,12 +248,12 @@ fn repeated(
 }
 
 /// A statement that holds no other and completes.
-fn single(body: &mut Body, node: Node, stmt: &Stmt, out: &mut Found) -> Result<(), Stop>
+fn single(body: &mut Body, node: Node, stmt: &Stmt, out: &mut Found) -> Result<TypedStmt, Stop>
     requires { IsTrue (is_single (plain_stmt stmt.now)) }
     ensures clean { OnOk result (fault_of node ≡ None) }
     ensures nd { OnOk result (IsTrue out.old.reaches_nd → IsTrue out.new.reaches_nd) }
     ensures home { OnOk result (home_of body.new ≡ home_of body.old) }
-    ensures checks { (params : List Bool) (around : Around) → Says result (walk_of body.new out.new) (Checking params around node (form_of (plain_stmt stmt.now)) (walk_of body.old out.old)) }
+    ensures checks { (params : List Bool) (around : Around) → Says result (λ made. passes (typed_stmt made) (walk_of body.new out.new)) refused (Checking params around node (form_of (plain_stmt stmt.now)) (walk_of body.old out.old)) }
 {
     match &stmt.kind {
         StmtKind::Declare { .. }
@@ -202,12 +265,12 @@ fn single(body: &mut Body, node: Node, stmt: &Stmt, out: &mut Found) -> Result<(
 }
 
 /// A declaration or an assignment.
-fn store(body: &mut Body, node: Node, stmt: &Stmt, out: &mut Found) -> Result<(), Stop>
+fn store(body: &mut Body, node: Node, stmt: &Stmt, out: &mut Found) -> Result<TypedStmt, Stop>
     requires { IsTrue (is_store (plain_stmt stmt.now)) }
     ensures clean { OnOk result (fault_of node ≡ None) }
     ensures nd { OnOk result (IsTrue out.old.reaches_nd → IsTrue out.new.reaches_nd) }
     ensures home { OnOk result (home_of body.new ≡ home_of body.old) }
-    ensures checks { (params : List Bool) (around : Around) → Says result (walk_of body.new out.new) (Checking params around node (form_of (plain_stmt stmt.now)) (walk_of body.old out.old)) }
+    ensures checks { (params : List Bool) (around : Around) → Says result (λ made. passes (typed_stmt made) (walk_of body.new out.new)) refused (Checking params around node (form_of (plain_stmt stmt.now)) (walk_of body.old out.old)) }
 {
     match &stmt.kind {
         StmtKind::Declare {
@@ -225,21 +288,18 @@ fn store(body: &mut Body, node: Node, stmt: &Stmt, out: &mut Found) -> Result<()
 }
 
 /// A call, a creation, a `print` or a declaration of local regions.
-fn act(body: &mut Body, node: Node, stmt: &Stmt, out: &mut Found) -> Result<(), Stop>
+fn act(body: &mut Body, node: Node, stmt: &Stmt, out: &mut Found) -> Result<TypedStmt, Stop>
     requires { IsTrue (is_act (plain_stmt stmt.now)) }
     ensures clean { OnOk result (fault_of node ≡ None) }
     ensures nd { OnOk result (IsTrue out.old.reaches_nd → IsTrue out.new.reaches_nd) }
     ensures home { OnOk result (home_of body.new ≡ home_of body.old) }
-    ensures checks { (params : List Bool) (around : Around) → Says result (walk_of body.new out.new) (Checking params around node (form_of (plain_stmt stmt.now)) (walk_of body.old out.old)) }
+    ensures checks { (params : List Bool) (around : Around) → Says result (λ made. passes (typed_stmt made) (walk_of body.new out.new)) refused (Checking params around node (form_of (plain_stmt stmt.now)) (walk_of body.old out.old)) }
 {
     match &stmt.kind {
         StmtKind::Do(value) => perform(body, node, value, out),
         StmtKind::Print(value) => print(body, node, value, out),
         StmtKind::Region { names } => declare_regions(body, node, names.as_slice()),
-        StmtKind::PrintText(_) => {
-            let mut node = node;
-            node.settle()
-        }
+        StmtKind::PrintText(text) => print_text(body, node, text),
         _ => unreachable!(),
     }
 }
@@ -247,20 +307,25 @@ fn act(body: &mut Body, node: Node, stmt: &Stmt, out: &mut Found) -> Result<(), 
 /// Checks the statements of a block in a scope of their own, and says whether they all complete. What they do is
 /// gathered by itself, and goes to what is gathered around the block without what the block declares.
 #[cycle(statements)]
-pub fn block(body: &mut Body, around: Around, stmts: &[Stmt], out: &mut Found) -> Result<bool, Stop>
-    ensures completes { IfOk result (λ done. done ≡ all_complete (plain_stmts (map plain_stmt stmts.now))) }
+pub fn block(
+    body: &mut Body,
+    around: Around,
+    stmts: &[Stmt],
+    out: &mut Found,
+) -> Result<CheckedBlock, Stop>
+    ensures completes { IfOk result (λ done. done.completes ≡ all_complete (plain_stmts (map plain_stmt stmts.now))) }
     ensures keeps { OnOk result (AllKeep around (plain_stmts (map plain_stmt stmts.now))) }
     ensures nd { OnOk result (IsTrue (out.old.reaches_nd || some_holds_nd (plain_stmts (map plain_stmt stmts.now))) → IsTrue out.new.reaches_nd) }
     ensures home { OnOk result (home_of body.new ≡ home_of body.old) }
-    ensures checks { Says result (walk_of body.new out.new) (InBlock body.old.atomic_params around (plain_stmts (map plain_stmt stmts.now)) (walk_of body.old out.old)) }
+    ensures checks { Says result (λ made. passes (map typed_stmt made.stmts) (walk_of body.new out.new)) refused (InBlock body.old.atomic_params around (plain_stmts (map plain_stmt stmts.now)) (walk_of body.old out.old)) }
 {
     let scope = body.env.mark();
     let leaving = Leaving::from_here(&body.env, Marks::Kept);
     let mut inner = Found::new(body.alloc);
-    let completes = statements(body, around, stmts, &mut inner)?;
+    let done = statements(body, around, stmts, &mut inner)?;
     body.env.leave(scope);
     take_in(body.alloc, out, inner, leaving)?;
-    Ok(completes)
+    Ok(done)
 }
 
 #[cycle(statements)]
@@ -269,32 +334,42 @@ fn statements(
     around: Around,
     stmts: &[Stmt],
     out: &mut Found,
-) -> Result<bool, Stop>
-    ensures completes { IfOk result (λ done. done ≡ all_complete (plain_stmts (map plain_stmt stmts.now))) }
+) -> Result<CheckedBlock, Stop>
+    ensures completes { IfOk result (λ done. done.completes ≡ all_complete (plain_stmts (map plain_stmt stmts.now))) }
     ensures keeps { OnOk result (AllKeep around (plain_stmts (map plain_stmt stmts.now))) }
     ensures nd { OnOk result (IsTrue (out.old.reaches_nd || some_holds_nd (plain_stmts (map plain_stmt stmts.now))) → IsTrue out.new.reaches_nd) }
     ensures home { OnOk result (home_of body.new ≡ home_of body.old) }
-    ensures checks { Says result (walk_of body.new out.new) (InOrder body.old.atomic_params around true (plain_stmts (map plain_stmt stmts.now)) (walk_of body.old out.old)) }
+    ensures checks { Says result (λ made. passes (map typed_stmt made.stmts) (walk_of body.new out.new)) refused (InOrder body.old.atomic_params around true (plain_stmts (map plain_stmt stmts.now)) (walk_of body.old out.old)) }
 {
     let mut completes = true;
+    let mut made = Items::new(body.alloc);
     for stmt in stmts {
         let done = statement(body, around, stmt, !completes, out)?;
-        completes = completes && done;
+        completes = completes && done.completes;
+        made.push(done.stmt)?;
     }
-    Ok(completes)
+    Ok(CheckedBlock {
+        completes,
+        stmts: made,
+    })
 }
 
 /// Checks a branch or a body, which is a scope of its own even without braces.
 #[cycle(statements)]
-pub fn scoped(body: &mut Body, around: Around, stmt: &Stmt, out: &mut Found) -> Result<bool, Stop>
-    ensures completes { IfOk result (λ done. done ≡ completes (plain_stmt stmt.now)) }
+pub fn scoped(
+    body: &mut Body,
+    around: Around,
+    stmt: &Stmt,
+    out: &mut Found,
+) -> Result<Checked, Stop>
+    ensures completes { IfOk result (λ done. done.completes ≡ completes (plain_stmt stmt.now)) }
     ensures keeps { OnOk result (Keeps around (plain_stmt stmt.now)) }
     ensures nd { OnOk result (IsTrue (out.old.reaches_nd || holds_nd (plain_stmt stmt.now)) → IsTrue out.new.reaches_nd) }
     ensures home { OnOk result (home_of body.new ≡ home_of body.old) }
-    ensures checks { Says result (walk_of body.new out.new) (InScope body.old.atomic_params around (plain_stmt stmt.now) (walk_of body.old out.old)) }
+    ensures checks { Says result (λ made. passes (typed_stmt made.stmt) (walk_of body.new out.new)) refused (InScope body.old.atomic_params around (plain_stmt stmt.now) (walk_of body.old out.old)) }
 {
     let scope = body.env.mark();
-    let completes = statement(body, around, stmt, false, out)?;
+    let done = statement(body, around, stmt, false, out)?;
     body.env.leave(scope);
-    Ok(completes)
+    Ok(done)
 }

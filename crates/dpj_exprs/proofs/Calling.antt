@@ -1,5 +1,5 @@
 -- Calls whose parts are read: of what is told of a use with region arguments, what is so of the call.
-use Rattle.std.proofs.Common.{◌≡◌, ◌∙◌, ℕ, List, ◌++◌, Bool, true, false, Option, Some, None, Result, Ok, Err, IfOk, OnOk, sym, subst, ap}
+use Rattle.std.proofs.Common.{◌≡◌, ◌∙◌, ℕ, List, ◌++◌, Bool, true, false, Option, Some, None, Result, Ok, map, sym, subst, ap}
 use Rattle.std.specs.List.{list_all}
 use Rattle.dpj_base.specs.declared.place.Place.{Place}
 use Rattle.dpj_base.specs.declared.refusal.Kind.TheVariants as kind
@@ -19,7 +19,10 @@ use Rattle.dpj_resolve.specs.declared.args.ReadArgs.{ReadArgs}
 use Rattle.dpj_resolve.specs.Args.{args_given, args_faults}
 use Rattle.dpj_resolve.specs.Constraints.{all_hold}
 use Rattle.dpj_classes.specs.declared.rows.MethodRow.{MethodRow}
-use Rattle.dpj_classes.specs.Table.{headers_of}
+use Rattle.dpj_classes.specs.Table.{headers_of, row_of}
+use Rattle.dpj_headers.specs.Passes.{fault}
+use Rattle.dpj_typed.specs.declared.expr.Expr.{Expr}
+use Rattle.dpj_typed.specs.Plain.{TypedExpr, typed, TypedExprs, exprs_of, call}
 use Rattle.dpj_exprs.specs.declared.env.Env.{Env}
 use Rattle.dpj_exprs.specs.declared.found.Found.{Found}
 use Rattle.dpj_exprs.specs.Answer.{Answer, gives, refused, with_call, Says}
@@ -29,9 +32,10 @@ use Rattle.dpj_exprs.specs.Shapes.{shapes_fit}
 use Rattle.dpj_exprs.specs.declared.typed.Typed.{Typed}
 use Rattle.dpj_exprs.specs.declared.typed.Typed.TheVariants.{Known, Any}
 use Rattle.dpj_exprs.specs.Refusing.{refusal_at}
-use Rattle.dpj_exprs.specs.Typed.{plain_typed, may_be, is_value}
-use Rattle.dpj_exprs.specs.Uses.{args_noted, UseTold, unknown_told, method_through, CallOf, CallOn, Call}
-use Rattle.dpj_exprs.proofs.Passing.{refused_map, says_all}
+use Rattle.dpj_exprs.specs.Typed.{plain_node, plain_typed, type_in, value_type, nodes_at, may_be, is_value}
+use Rattle.dpj_exprs.specs.Uses.{args_noted, UseTold, unknown_told, method_through, called, CallOf, CallOn, Call}
+use Rattle.dpj_exprs.proofs.Built.{types_in}
+use Rattle.dpj_exprs.proofs.Passing.{says_all}
 
 -- the region arguments, and the faults of their list, for the parameters of the row
 pub given_for : (args : ReadArgs) (params rows : List ParamRow) (given seen : Option (List Rpl)) →
@@ -65,63 +69,83 @@ told_same env row actuals place told_one all all' before before' partial partial
     (subst (λ (z : Faults). CallTold env row actuals place told_one all' z partial) f
     (subst (λ (z : List Rpl). CallTold env row actuals place told_one z before partial) e h))
 
-with_all : (env : Env) (row : MethodRow) (owned : List Rpl) (args : ReadArgs) (actuals : List (Option PlainType)) (place : Place) (f : Found) (regions all : List Rpl) (before : Faults) (partial : Bool) →
-    args_given args.written args.paths row.regions ≡ Some regions → all ≡ owned ++ regions → before ≡ args_noted args row.regions place → partial ≡ is_partial_call owned row →
-    CallTold env row actuals place None all before partial →
-    CallOf env row owned args actuals place f (gives (Some (type_with all (plain_type row.result))) (with_call (table_of env) f row all))
-with_all env row owned args actuals place f regions all before partial given e b p told =
-    subst (λ (z : List Rpl). CallOf env row owned args actuals place f (gives (Some (type_with z (plain_type row.result))) (with_call (table_of env) f row z))) (sym e)
-    (CallOf.called given (told_same env row actuals place None all (owned ++ regions) before (args_noted args row.regions place) partial (is_partial_call owned row) e b p told))
+-- as what several expressions give, and as their types
+types_for : (actuals shown : List Typed) → shown ≡ actuals → map value_type shown ≡ map type_in (map plain_typed actuals)
+types_for actuals shown shows = ap (map value_type) shows ∙ types_in actuals
 
--- what is told of a use of a method, as what is said of the call
-pub of_used : (env : Env) (row : MethodRow) (owned : List Rpl) (args : ReadArgs) (actuals : List (Option PlainType)) (place : Place) (f g : Found)
-    (regions all : List Rpl) (before : Faults) (partial : Bool) (r : Result Ty Stop) →
-    args_given args.written args.paths row.regions ≡ Some regions → all ≡ owned ++ regions → before ≡ args_noted args row.regions place → partial ≡ is_partial_call owned row →
-    Says r (λ t. None) Some (λ told. CallTold env row actuals place told all before partial) →
-    IfOk r (λ t. plain_type t ≡ type_with all (plain_type row.result)) → OnOk r (g ≡ with_call (table_of env) f row all) →
-    Says r (λ t. gives (Some (plain_type t)) g) refused (CallOf env row owned args actuals place f)
-of_used env row owned args actuals place f g regions all before partial (Ok t) given e b p told is found =
-    subst (λ (z : PlainType). CallOf env row owned args actuals place f (gives (Some z) g)) (sym is)
-    (subst (λ (z : Found). CallOf env row owned args actuals place f (gives (Some (type_with all (plain_type row.result))) z)) (sym found)
-    (with_all env row owned args actuals place f regions all before partial given e b p told))
-of_used env row owned args actuals place f g regions all before partial (Err s) given e b p told is found =
-    refused_map (λ q. CallTold env row actuals place (Some q) all before partial) (λ q. CallOf env row owned args actuals place f (refused q)) s
-    (λ q d. CallOf.faulty_call given
-    (told_same env row actuals place (Some q) all (owned ++ regions) before (args_noted args row.regions place) partial (is_partial_call owned row) e b p d))
-    told
+told_for : (env : Env) (row : MethodRow) (owned : List Rpl) (args : ReadArgs) (actuals shown : List Typed) (place : Place) (regions all : List Rpl) (before : Faults) (partial : Bool)
+    (told_one : Option Refusal) → all ≡ owned ++ regions → before ≡ args_noted args row.regions place → partial ≡ is_partial_call owned row → shown ≡ actuals →
+    CallTold env row (map value_type shown) place told_one all before partial →
+    CallTold env row (map type_in (map plain_typed actuals)) place told_one (owned ++ regions) (args_noted args row.regions place) (is_partial_call owned row)
+told_for env row owned args actuals shown place regions all before partial told_one e b p shows told =
+    subst (λ (z : List (Option PlainType)). CallTold env row z place told_one (owned ++ regions) (args_noted args row.regions place) (is_partial_call owned row))
+    (types_for actuals shown shows)
+    (told_same env row (map value_type shown) place told_one all (owned ++ regions) before (args_noted args row.regions place) partial (is_partial_call owned row) e b p told)
 
-pub of_unknown : (env : Env) (row : MethodRow) (owned : List Rpl) (args : ReadArgs) (actuals : List (Option PlainType)) (place : Place) (f : Found) (before : Faults) (fit : Bool) (s : Stop) →
-    args_given args.written args.paths row.regions ≡ None → before ≡ args_noted args row.regions place → fit ≡ shapes_fit (headers_of (table_of env)) actuals row.params →
-    s ≡ stop.Refused (unknown_told before fit place) → IfRefused s (λ q. CallOf env row owned args actuals place f (refused q))
-of_unknown env row owned args actuals place f before fit s given b fits is =
-    subst (λ (z : Stop). IfRefused z (λ q. CallOf env row owned args actuals place f (refused q))) (sym is)
-    (subst (λ (z : Faults). CallOf env row owned args actuals place f (refused (unknown_told z fit place))) (sym b)
-    (subst (λ (z : Bool). CallOf env row owned args actuals place f (refused (unknown_told (args_noted args row.regions place) z place))) (sym fits)
+-- a call that fits, and one that is faulty
+pub of_used : (env : Env) (e : TypedExpr) (class : ℕ) (row : MethodRow) (owned : List Rpl) (args : ReadArgs) (actuals shown : List Typed) (place : Place) (f g : Found)
+    (regions all : List Rpl) (before : Faults) (partial : Bool) (t : Ty) (number : ℕ) (passed : List Expr) (made : TypedExpr) →
+    args_given args.written args.paths row.regions ≡ Some regions → all ≡ owned ++ regions → before ≡ args_noted args row.regions place → partial ≡ is_partial_call owned row →
+    shown ≡ actuals → CallTold env row (map value_type shown) place None all before partial → plain_type t ≡ type_with all (plain_type row.result) →
+    g ≡ with_call (table_of env) f row all → number ≡ row_of (table_of env) row.id → exprs_of (map plain_node passed) ≡ nodes_at place (map plain_typed actuals) →
+    made ≡ typed place (plain_type t) (call e class number regions (exprs_of (map plain_node passed))) →
+    CallOf env e class row owned args (map plain_typed actuals) place f (gives (Some made) g)
+of_used env e class row owned args actuals shown place f g regions all before partial t number passed made given a b p shows told is found numbers nodes makes =
+    let result : PlainType = type_with (owned ++ regions) (plain_type row.result) in
+    let same : made ≡ called env e class row owned regions (map plain_typed actuals) place =
+    makes
+    ∙ ap (λ (z : PlainType). typed place z (call e class number regions (exprs_of (map plain_node passed)))) (is ∙ ap (λ (z : List Rpl). type_with z (plain_type row.result)) a)
+    ∙ ap (λ (z : ℕ). typed place result (call e class z regions (exprs_of (map plain_node passed)))) numbers
+    ∙ ap (λ (z : TypedExprs). typed place result (call e class (row_of (table_of env) row.id) regions z)) nodes in
+    let after : g ≡ with_call (table_of env) f row (owned ++ regions) = found ∙ ap (λ (z : List Rpl). with_call (table_of env) f row z) a in
+    subst (λ (z : TypedExpr). CallOf env e class row owned args (map plain_typed actuals) place f (gives (Some z) g)) (sym same)
+    (subst (λ (z : Found). CallOf env e class row owned args (map plain_typed actuals) place f (gives (Some (called env e class row owned regions (map plain_typed actuals) place)) z)) (sym after)
+    (CallOf.fitting_call given (told_for env row owned args actuals shown place regions all before partial None a b p shows told)))
+
+pub of_faulty : (env : Env) (e : TypedExpr) (class : ℕ) (row : MethodRow) (owned : List Rpl) (args : ReadArgs) (actuals shown : List Typed) (place : Place) (f : Found)
+    (regions all : List Rpl) (before : Faults) (partial : Bool) (q : Refusal) →
+    args_given args.written args.paths row.regions ≡ Some regions → all ≡ owned ++ regions → before ≡ args_noted args row.regions place → partial ≡ is_partial_call owned row →
+    shown ≡ actuals → CallTold env row (map value_type shown) place (Some q) all before partial → CallOf env e class row owned args (map plain_typed actuals) place f (refused q)
+of_faulty env e class row owned args actuals shown place f regions all before partial q given a b p shows told =
+    CallOf.faulty_call given (told_for env row owned args actuals shown place regions all before partial (Some q) a b p shows told)
+
+pub of_unknown : (env : Env) (e : TypedExpr) (class : ℕ) (row : MethodRow) (owned : List Rpl) (args : ReadArgs) (actuals shown : List Typed) (place : Place) (f : Found) (before : Faults) (fit : Bool) (s : Stop) →
+    args_given args.written args.paths row.regions ≡ None → before ≡ args_noted args row.regions place → shown ≡ actuals → fit ≡ shapes_fit (headers_of (table_of env)) (map value_type shown) row.params →
+    s ≡ stop.Refused (unknown_told before fit place) → IfRefused s (λ q. CallOf env e class row owned args (map plain_typed actuals) place f (refused q))
+of_unknown env e class row owned args actuals shown place f before fit s given b shows fits is =
+    let all = map plain_typed actuals in
+    subst (λ (z : Stop). IfRefused z (λ q. CallOf env e class row owned args all place f (refused q))) (sym is)
+    (subst (λ (z : Faults). CallOf env e class row owned args all place f (refused (unknown_told z fit place))) (sym b)
+    (subst (λ (z : Bool). CallOf env e class row owned args all place f (refused (unknown_told (args_noted args row.regions place) z place)))
+    (sym (fits ∙ ap (λ (z : List (Option PlainType)). shapes_fit (headers_of (table_of env)) z row.params) (types_for actuals shown shows)))
     (CallOf.unknown_args given)))
 
 -- a call of the method that is found
-pub of_found : (env : Env) (t : PlainType) (name : ℕ) (args : ReadArgs) (actuals : List (Option PlainType)) (place : Place) (f g : Found)
-    (row : MethodRow) (owned shown : List Rpl) (r : Result Ty Stop) →
-    method_through (table_of env) t name place ≡ Ok (row, owned) → shown ≡ owned →
-    Says r (λ u. gives (Some (plain_type u)) g) refused (CallOf env row shown args actuals place f) →
-    Says r (λ u. gives (Some (plain_type u)) g) refused (CallOn env t name args actuals place f)
-of_found env t name args actuals place f g row owned shown r through is h =
-    says_all (CallOf env row shown args actuals place f) (CallOn env t name args actuals place f) (λ u. gives (Some (plain_type u)) g) refused r
-    (λ a d. CallOn.of_method through (subst (λ (z : List Rpl). CallOf env row z args actuals place f a) is d))
+pub of_found : (env : Env) (e : Expr) (name : ℕ) (args : ReadArgs) (actuals : List (Option TypedExpr)) (place : Place) (f g : Found)
+    (class : ℕ) (row : MethodRow) (owned shown : List Rpl) (r : Result Expr Stop) →
+    method_through (table_of env) (plain_type e.ty) name place ≡ Ok (class, row, owned) → shown ≡ owned →
+    Says r (λ u. gives (Some (plain_node u)) g) refused (CallOf env (plain_node e) class row shown args actuals place f) →
+    Says r (λ u. gives (Some (plain_node u)) g) refused (CallOn env (plain_node e) name args actuals place f)
+of_found env e name args actuals place f g class row owned shown r through is h =
+    says_all (CallOf env (plain_node e) class row shown args actuals place f) (CallOn env (plain_node e) name args actuals place f) (λ u. gives (Some (plain_node u)) g) refused r
+    (λ a d. CallOn.of_method through (subst (λ (z : List Rpl). CallOf env (plain_node e) class row z args actuals place f a) is d))
     h
 
 -- a call on what has a type, and on what fits everywhere
-pub on_known : (env : Env) (of : Typed) (t : Ty) (name : ℕ) (args : ReadArgs) (actuals : List (Option PlainType)) (place : Place) (f : Found) (a : Answer) →
-    of ≡ Known t → CallOn env (plain_type t) name args actuals place f a → Call env (plain_typed of) name args actuals place f a
-on_known env of t name args actuals place f a is d = subst (λ (z : Typed). Call env (plain_typed z) name args actuals place f a) (sym is) (Call.on_type d)
+pub on_known : (env : Env) (of : Typed) (e : Expr) (name : ℕ) (args : ReadArgs) (actuals : List (Option TypedExpr)) (place : Place) (f : Found) (a : Answer) →
+    of ≡ Known e → CallOn env (plain_node e) name args actuals place f a → Call env (plain_typed of) name args actuals place f a
+on_known env of e name args actuals place f a is d = subst (λ (z : Typed). Call env (plain_typed z) name args actuals place f a) (sym is) (Call.on_type d)
 
-pub on_any : (env : Env) (of : Typed) (name : ℕ) (args : ReadArgs) (actuals : List (Option PlainType)) (place : Place) (f : Found) (values : Bool) →
-    of ≡ Any → values ≡ list_all (may_be is_value) actuals → values ≡ true → Call env (plain_typed of) name args actuals place f (gives None f)
-on_any env of name args actuals place f values is told so =
-    subst (λ (z : Typed). Call env (plain_typed z) name args actuals place f (gives None f)) (sym is) (Call.on_anything (sym told ∙ so))
+pub on_any : (env : Env) (of : Typed) (name : ℕ) (args : ReadArgs) (actuals shown : List Typed) (place : Place) (f : Found) (values : Bool) →
+    of ≡ Any → shown ≡ actuals → values ≡ list_all (may_be is_value) (map value_type shown) → values ≡ true → Call env (plain_typed of) name args (map plain_typed actuals) place f (gives None f)
+on_any env of name args actuals shown place f values is shows told so =
+    subst (λ (z : Typed). Call env (plain_typed z) name args (map plain_typed actuals) place f (gives None f)) (sym is)
+    (Call.on_anything (ap (list_all (may_be is_value)) (sym (types_for actuals shown shows)) ∙ sym told ∙ so))
 
-pub on_any_faulty : (env : Env) (of : Typed) (name : ℕ) (args : ReadArgs) (actuals : List (Option PlainType)) (place : Place) (f : Found) (values : Bool) (s : Stop) →
-    of ≡ Any → values ≡ list_all (may_be is_value) actuals → values ≡ false → s ≡ refusal_at kind.Type place → IfRefused s (λ q. Call env (plain_typed of) name args actuals place f (refused q))
-on_any_faulty env of name args actuals place f values s is told so at =
-    subst (λ (z : Stop). IfRefused z (λ q. Call env (plain_typed of) name args actuals place f (refused q))) (sym at)
-    (subst (λ (z : Typed). IfRefused (refusal_at kind.Type place) (λ q. Call env (plain_typed z) name args actuals place f (refused q))) (sym is) (Call.no_value_passed (sym told ∙ so)))
+pub on_any_faulty : (env : Env) (of : Typed) (name : ℕ) (args : ReadArgs) (actuals shown : List Typed) (place : Place) (f : Found) (values : Bool) (s : Stop) →
+    of ≡ Any → shown ≡ actuals → values ≡ list_all (may_be is_value) (map value_type shown) → values ≡ false → s ≡ refusal_at kind.Type place →
+    IfRefused s (λ q. Call env (plain_typed of) name args (map plain_typed actuals) place f (refused q))
+on_any_faulty env of name args actuals shown place f values s is shows told so at =
+    subst (λ (z : Stop). IfRefused z (λ q. Call env (plain_typed of) name args (map plain_typed actuals) place f (refused q))) (sym at)
+    (subst (λ (z : Typed). Call env (plain_typed z) name args (map plain_typed actuals) place f (refused (fault kind.Type place))) (sym is)
+    (Call.no_value_passed (ap (list_all (may_be is_value)) (sym (types_for actuals shown shows)) ∙ sym told ∙ so)))

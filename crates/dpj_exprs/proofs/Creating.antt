@@ -1,5 +1,5 @@
 -- Creations of objects whose parts are read: of what is told of a use with region arguments, what is so of the creation.
-use Rattle.std.proofs.Common.{◌≡◌, ◌∙◌, ℕ, List, Bool, false, Option, Some, None, Result, Ok, Err, IfOk, OnOk, sym, subst}
+use Rattle.std.proofs.Common.{◌≡◌, ◌∙◌, ℕ, List, Bool, false, Option, Some, None, Result, map, ap, sym, subst}
 use Rattle.dpj_base.specs.declared.place.Place.{Place}
 use Rattle.dpj_base.specs.declared.refusal.Kind.TheVariants as kind
 use Rattle.dpj_base.specs.declared.refusal.Refusal.{Refusal}
@@ -20,14 +20,19 @@ use Rattle.dpj_resolve.specs.Classes.{params_in}
 use Rattle.dpj_resolve.specs.Constraints.{all_hold}
 use Rattle.dpj_classes.specs.Table.{headers_of, constructor_of, given_of}
 use Rattle.dpj_tree.specs.declared.region.Named.{Named}
+use Rattle.dpj_typed.specs.declared.expr.Expr.{Expr}
+use Rattle.dpj_typed.specs.Plain.{TypedExpr, typed, TypedExprs, exprs_of, create}
 use Rattle.dpj_exprs.specs.declared.env.Env.{Env}
 use Rattle.dpj_exprs.specs.declared.found.Found.{Found}
 use Rattle.dpj_exprs.specs.Answer.{gives, refused, Says}
 use Rattle.dpj_exprs.specs.Env.{table_of, given_in}
 use Rattle.dpj_exprs.specs.Refusing.{refusal_at}
 use Rattle.dpj_exprs.specs.Shapes.{shapes_fit}
+use Rattle.dpj_exprs.specs.declared.typed.Typed.{Typed}
+use Rattle.dpj_exprs.specs.Typed.{plain_node, plain_typed, type_in, value_type, nodes_at}
 use Rattle.dpj_exprs.specs.Uses.{args_noted, formals_of, UseTold, unknown_told, with_constructor, CreationOf, Creation}
-use Rattle.dpj_exprs.proofs.Passing.{refused_map, says_all}
+use Rattle.dpj_exprs.proofs.Built.{types_in}
+use Rattle.dpj_exprs.proofs.Passing.{says_all}
 
 abbrev pub params_at : Env → ℕ → List ParamRow
 params_at env at = params_in (headers_of (table_of env)) at
@@ -37,44 +42,63 @@ abbrev pub CreationTold : Env → ℕ → List (Option PlainType) → Place → 
 CreationTold env at actuals place told_one regions before =
     UseTold env before regions actuals (formals_of (table_of env) at) false (all_hold (given_in env) regions (given_of (table_of env) at)) place told_one
 
--- what is told of a use of a constructor, as what is said of the creation
-pub of_used : (env : Env) (at : ℕ) (args : ReadArgs) (actuals : List (Option PlainType)) (place : Place) (f g : Found)
-    (regions : List Rpl) (before : Faults) (r : Result Ty Stop) →
-    args_given args.written args.paths (params_at env at) ≡ Some regions → before ≡ args_noted args (params_at env at) place →
-    Says r (λ t. None) Some (λ told. CreationTold env at actuals place told regions before) →
-    IfOk r (λ t. plain_type t ≡ ty.class at regions) → OnOk r (g ≡ with_constructor (table_of env) f (constructor_of (table_of env) at) regions) →
-    Says r (λ t. gives (Some (plain_type t)) g) refused (CreationOf env at args actuals place f)
-of_used env at args actuals place f g regions before (Ok t) given b told is found =
-    subst (λ (z : PlainType). CreationOf env at args actuals place f (gives (Some z) g)) (sym is)
-    (subst (λ (z : Found). CreationOf env at args actuals place f (gives (Some (ty.class at regions)) z)) (sym found)
-    (CreationOf.created given (subst (λ (z : Faults). CreationTold env at actuals place None regions z) b told)))
-of_used env at args actuals place f g regions before (Err s) given b told is found =
-    refused_map (λ q. CreationTold env at actuals place (Some q) regions before) (λ q. CreationOf env at args actuals place f (refused q)) s
-    (λ q d. CreationOf.faulty_creation given (subst (λ (z : Faults). CreationTold env at actuals place (Some q) regions z) b d))
-    told
+types_for : (actuals shown : List Typed) → shown ≡ actuals → map value_type shown ≡ map type_in (map plain_typed actuals)
+types_for actuals shown shows = ap (map value_type) shows ∙ types_in actuals
 
-pub of_unknown : (env : Env) (at : ℕ) (args : ReadArgs) (actuals : List (Option PlainType)) (place : Place) (f : Found) (before : Faults) (fit : Bool) (s : Stop) →
-    args_given args.written args.paths (params_at env at) ≡ None → before ≡ args_noted args (params_at env at) place → fit ≡ shapes_fit (headers_of (table_of env)) actuals (formals_of (table_of env) at) →
-    s ≡ stop.Refused (unknown_told before fit place) → IfRefused s (λ q. CreationOf env at args actuals place f (refused q))
-of_unknown env at args actuals place f before fit s given b fits is =
-    subst (λ (z : Stop). IfRefused z (λ q. CreationOf env at args actuals place f (refused q))) (sym is)
-    (subst (λ (z : Faults). CreationOf env at args actuals place f (refused (unknown_told z fit place))) (sym b)
-    (subst (λ (z : Bool). CreationOf env at args actuals place f (refused (unknown_told (args_noted args (params_at env at) place) z place))) (sym fits)
+told_for : (env : Env) (at : ℕ) (args : ReadArgs) (actuals shown : List Typed) (place : Place) (regions : List Rpl) (before : Faults) (told_one : Option Refusal) →
+    before ≡ args_noted args (params_at env at) place → shown ≡ actuals → CreationTold env at (map value_type shown) place told_one regions before →
+    CreationTold env at (map type_in (map plain_typed actuals)) place told_one regions (args_noted args (params_at env at) place)
+told_for env at args actuals shown place regions before told_one b shows told =
+    subst (λ (z : List (Option PlainType)). CreationTold env at z place told_one regions (args_noted args (params_at env at) place)) (types_for actuals shown shows)
+    (subst (λ (z : Faults). CreationTold env at (map value_type shown) place told_one regions z) b told)
+
+-- a creation that fits, and one that is faulty
+pub of_used : (env : Env) (at : ℕ) (args : ReadArgs) (actuals shown : List Typed) (place : Place) (f g : Found) (regions : List Rpl) (before : Faults)
+    (t : Ty) (passed : List Expr) (made : TypedExpr) →
+    args_given args.written args.paths (params_at env at) ≡ Some regions → before ≡ args_noted args (params_at env at) place → shown ≡ actuals →
+    CreationTold env at (map value_type shown) place None regions before → plain_type t ≡ ty.class at regions →
+    g ≡ with_constructor (table_of env) f (constructor_of (table_of env) at) regions → exprs_of (map plain_node passed) ≡ nodes_at place (map plain_typed actuals) →
+    made ≡ typed place (plain_type t) (create (exprs_of (map plain_node passed))) → CreationOf env at args (map plain_typed actuals) place f (gives (Some made) g)
+of_used env at args actuals shown place f g regions before t passed made given b shows told is found nodes makes =
+    let all = map plain_typed actuals in
+    let same : made ≡ typed place (ty.class at regions) (create (nodes_at place all)) =
+    makes ∙ ap (λ (z : PlainType). typed place z (create (exprs_of (map plain_node passed)))) is
+    ∙ ap (λ (z : TypedExprs). typed place (ty.class at regions) (create z)) nodes in
+    subst (λ (z : TypedExpr). CreationOf env at args all place f (gives (Some z) g)) (sym same)
+    (subst (λ (z : Found). CreationOf env at args all place f (gives (Some (typed place (ty.class at regions) (create (nodes_at place all)))) z)) (sym found)
+    (CreationOf.created given (told_for env at args actuals shown place regions before None b shows told)))
+
+pub of_faulty : (env : Env) (at : ℕ) (args : ReadArgs) (actuals shown : List Typed) (place : Place) (f : Found) (regions : List Rpl) (before : Faults) (q : Refusal) →
+    args_given args.written args.paths (params_at env at) ≡ Some regions → before ≡ args_noted args (params_at env at) place → shown ≡ actuals →
+    CreationTold env at (map value_type shown) place (Some q) regions before → CreationOf env at args (map plain_typed actuals) place f (refused q)
+of_faulty env at args actuals shown place f regions before q given b shows told =
+    CreationOf.faulty_creation given (told_for env at args actuals shown place regions before (Some q) b shows told)
+
+pub of_unknown : (env : Env) (at : ℕ) (args : ReadArgs) (actuals shown : List Typed) (place : Place) (f : Found) (before : Faults) (fit : Bool) (s : Stop) →
+    args_given args.written args.paths (params_at env at) ≡ None → before ≡ args_noted args (params_at env at) place → shown ≡ actuals →
+    fit ≡ shapes_fit (headers_of (table_of env)) (map value_type shown) (formals_of (table_of env) at) →
+    s ≡ stop.Refused (unknown_told before fit place) → IfRefused s (λ q. CreationOf env at args (map plain_typed actuals) place f (refused q))
+of_unknown env at args actuals shown place f before fit s given b shows fits is =
+    let all = map plain_typed actuals in
+    subst (λ (z : Stop). IfRefused z (λ q. CreationOf env at args all place f (refused q))) (sym is)
+    (subst (λ (z : Faults). CreationOf env at args all place f (refused (unknown_told z fit place))) (sym b)
+    (subst (λ (z : Bool). CreationOf env at args all place f (refused (unknown_told (args_noted args (params_at env at) place) z place)))
+    (sym (fits ∙ ap (λ (z : List (Option PlainType)). shapes_fit (headers_of (table_of env)) z (formals_of (table_of env) at)) (types_for actuals shown shows)))
     (CreationOf.unknown_args given)))
 
 -- the class of a name, as it is looked up
 pub class_for : (headers others : Headers) (name : ℕ) (seen told : Option ℕ) → seen ≡ class_of headers name → headers ≡ others → seen ≡ told → class_of others name ≡ told
 class_for headers others name seen told s h t = subst (λ (z : Headers). class_of z name ≡ told) h (sym s ∙ t)
 
-pub of_class : (env : Env) (class : Named) (at : ℕ) (args : ReadArgs) (actuals : List (Option PlainType)) (place : Place) (f g : Found) (r : Result Ty Stop) →
+pub of_class : (env : Env) (class : Named) (at : ℕ) (args : ReadArgs) (actuals : List (Option TypedExpr)) (place : Place) (f g : Found) (r : Result Expr Stop) →
     class_of (headers_of (table_of env)) class.name ≡ Some at →
-    Says r (λ t. gives (Some (plain_type t)) g) refused (CreationOf env at args actuals place f) →
-    Says r (λ t. gives (Some (plain_type t)) g) refused (Creation env class args actuals place f)
+    Says r (λ e. gives (Some (plain_node e)) g) refused (CreationOf env at args actuals place f) →
+    Says r (λ e. gives (Some (plain_node e)) g) refused (Creation env class args actuals place f)
 of_class env class at args actuals place f g r is h =
-    says_all (CreationOf env at args actuals place f) (Creation env class args actuals place f) (λ t. gives (Some (plain_type t)) g) refused r
+    says_all (CreationOf env at args actuals place f) (Creation env class args actuals place f) (λ e. gives (Some (plain_node e)) g) refused r
     (λ a d. Creation.of_class is d) h
 
-pub of_no_class : (env : Env) (class : Named) (args : ReadArgs) (actuals : List (Option PlainType)) (place : Place) (f : Found) (s : Stop) →
+pub of_no_class : (env : Env) (class : Named) (args : ReadArgs) (actuals : List (Option TypedExpr)) (place : Place) (f : Found) (s : Stop) →
     class_of (headers_of (table_of env)) class.name ≡ None → s ≡ refusal_at kind.Unknown class.place → IfRefused s (λ q. Creation env class args actuals place f (refused q))
 of_no_class env class args actuals place f s none is =
     subst (λ (z : Stop). IfRefused z (λ q. Creation env class args actuals place f (refused q))) (sym is) (Creation.no_class none)

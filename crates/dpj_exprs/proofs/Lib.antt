@@ -1,3 +1,4 @@
+pub mod Built
 pub mod Calling
 pub mod Constructs
 pub mod Creating

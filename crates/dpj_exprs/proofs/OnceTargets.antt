@@ -3,15 +3,15 @@ use Rattle.std.proofs.Common.{◌≡◌, ◌∙◌, ℕ, true, false, Option, So
 use Rattle.dpj_base.specs.declared.place.Place.{Place}
 use Rattle.dpj_base.specs.declared.refusal.Kind.TheVariants as kind
 use Rattle.dpj_base.specs.declared.refusal.Refusal.{Refusal}
-use Rattle.dpj_base.specs.Types.{PlainType}
 use Rattle.dpj_headers.specs.Passes.{fault}
 use Rattle.dpj_tree.specs.Plain.{PlainExpr, expression, ExprForm, field, element}
+use Rattle.dpj_typed.specs.Plain.{TypedExpr}
 use Rattle.dpj_exprs.specs.declared.env.Env.{Env}
 use Rattle.dpj_exprs.specs.declared.env.LocalRow.{LocalRow}
 use Rattle.dpj_exprs.specs.declared.found.Found.{Found}
 use Rattle.dpj_exprs.specs.Answer.{gives, refused}
 use Rattle.dpj_exprs.specs.Env.{part_of}
-use Rattle.dpj_exprs.specs.Locals.{is_part_length}
+use Rattle.dpj_exprs.specs.Locals.{measured}
 use Rattle.dpj_exprs.specs.Shape.{is_access}
 use Rattle.dpj_exprs.specs.Targeting.{TargetAnswer, misses, aimed, field_target, element_target, part_target, Targeting}
 use Rattle.dpj_exprs.proofs.Once.{Alone, same_type, same_found, by_two, by_three, alone}
@@ -21,19 +21,19 @@ abbrev TargetAlone : Env → PlainExpr → Found → TargetAnswer → Type 0
 TargetAlone env e f a = (b : TargetAnswer) → Targeting env e f b → a ≡ b
 
 -- a field
-length_target : {env : Env} {place : Place} {of : PlainExpr} {name : ℕ} {f : Found} → is_part_length env of name ≡ true → TargetAlone env (expression place (field of name)) f (misses (fault kind.Type place))
-length_target l b (Targeting.length_assigned l') = refl
-length_target l b (Targeting.receiver_refused l' d') = cc
-length_target l b (Targeting.field_assigned l' d' r') = cc
-length_target l b (Targeting.no_target n') = cc
+length_target : {env : Env} {place : Place} {of : PlainExpr} {name : ℕ} {f : Found} (row : LocalRow) → measured env of name ≡ Some row → TargetAlone env (expression place (field of name)) f (misses (fault kind.Type place))
+length_target row l b (Targeting.length_assigned l') = refl
+length_target row l b (Targeting.receiver_refused l' d') = cc
+length_target row l b (Targeting.field_assigned l' d' r') = cc
+length_target row l b (Targeting.no_target n') = cc
 
-receiver_target : {env : Env} {place : Place} {of : PlainExpr} {name : ℕ} {f : Found} (refusal : Refusal) → is_part_length env of name ≡ false → Alone env of f (refused refusal) → TargetAlone env (expression place (field of name)) f (misses refusal)
+receiver_target : {env : Env} {place : Place} {of : PlainExpr} {name : ℕ} {f : Found} (refusal : Refusal) → measured env of name ≡ None → Alone env of f (refused refusal) → TargetAlone env (expression place (field of name)) f (misses refusal)
 receiver_target q l only b (Targeting.length_assigned l') = cc
 receiver_target {f = f} q l only b (Targeting.receiver_refused {refusal = q'} l' d') = let e = only f (refused q') refl d' in cc
 receiver_target {f = f} q l only b (Targeting.field_assigned {g = g'} {t = t'} l' d' r') = let e = only f (gives t' g') refl d' in cc
 receiver_target q l only b (Targeting.no_target n') = cc
 
-assigned_field : {env : Env} {place : Place} {of : PlainExpr} {name : ℕ} {f : Found} {a : TargetAnswer} (g : Found) (t : Option PlainType) → is_part_length env of name ≡ false → Alone env of f (gives t g) → aimed (field_target env t name place) g ≡ a → TargetAlone env (expression place (field of name)) f a
+assigned_field : {env : Env} {place : Place} {of : PlainExpr} {name : ℕ} {f : Found} {a : TargetAnswer} (g : Found) (t : Option TypedExpr) → measured env of name ≡ None → Alone env of f (gives t g) → aimed (field_target env t name place) g ≡ a → TargetAlone env (expression place (field of name)) f a
 assigned_field g t l only r b (Targeting.length_assigned l') = cc
 assigned_field {f = f} g t l only r b (Targeting.receiver_refused {refusal = q'} l' d') = let e = only f (refused q') refl d' in cc
 assigned_field {env} {place} {of} {name} {f} g t l only r b (Targeting.field_assigned {g = g'} {t = t'} l' d' r') =
@@ -50,7 +50,7 @@ part_index_target row q l only b (Targeting.index_refused l' d' i') = cc
 part_index_target row q l only b (Targeting.element_assigned l' d' i' r') = cc
 part_index_target row q l only b (Targeting.no_target n') = cc
 
-assigned_in_part : {env : Env} {place : Place} {array index : PlainExpr} {f : Found} {a : TargetAnswer} (g : Found) (row : LocalRow) (t : Option PlainType) → part_of env array ≡ Some row → Alone env index f (gives t g) → aimed (part_target row t place) g ≡ a → TargetAlone env (expression place (element array index)) f a
+assigned_in_part : {env : Env} {place : Place} {array index : PlainExpr} {f : Found} {a : TargetAnswer} (g : Found) (row : LocalRow) (t : Option TypedExpr) → part_of env array ≡ Some row → Alone env index f (gives t g) → aimed (part_target row t place) g ≡ a → TargetAlone env (expression place (element array index)) f a
 assigned_in_part {f = f} g row t l only r b (Targeting.part_index_refused {refusal = q'} l' d') = let e = only f (refused q') refl d' in cc
 assigned_in_part {env} {place} {f = f} g row t l only r b (Targeting.part_element_assigned {g = g'} {row = row'} {t = t'} l' d' r') =
     let e = only f (gives t' g') refl d' in
@@ -70,7 +70,7 @@ array_target {f = f} q l only b (Targeting.index_refused {g = g'} {t = t'} l' d'
 array_target {f = f} q l only b (Targeting.element_assigned {g = g'} {t = t'} l' d' i' r') = let e = only f (gives t' g') refl d' in cc
 array_target q l only b (Targeting.no_target n') = cc
 
-index_target : {env : Env} {place : Place} {array index : PlainExpr} {f : Found} (g : Found) (t : Option PlainType) (refusal : Refusal) → part_of env array ≡ None → Alone env array f (gives t g) → Alone env index g (refused refusal) → TargetAlone env (expression place (element array index)) f (misses refusal)
+index_target : {env : Env} {place : Place} {array index : PlainExpr} {f : Found} (g : Found) (t : Option TypedExpr) (refusal : Refusal) → part_of env array ≡ None → Alone env array f (gives t g) → Alone env index g (refused refusal) → TargetAlone env (expression place (element array index)) f (misses refusal)
 index_target g t q l only next b (Targeting.part_index_refused l' d') = cc
 index_target g t q l only next b (Targeting.part_element_assigned l' d' r') = cc
 index_target {f = f} g t q l only next b (Targeting.array_refused {refusal = q'} l' d') = let e = only f (refused q') refl d' in cc
@@ -80,7 +80,7 @@ index_target {f = f} g t q l only next b (Targeting.element_assigned {g = g'} {h
     let e = next g' (gives u' h') (same_found (only f (gives t' g') refl d')) i' in cc
 index_target g t q l only next b (Targeting.no_target n') = cc
 
-assigned_element : {env : Env} {place : Place} {array index : PlainExpr} {f : Found} {a : TargetAnswer} (g h : Found) (t u : Option PlainType) →
+assigned_element : {env : Env} {place : Place} {array index : PlainExpr} {f : Found} {a : TargetAnswer} (g h : Found) (t u : Option TypedExpr) →
     part_of env array ≡ None → Alone env array f (gives t g) → Alone env index g (gives u h) → aimed (element_target env t index u place) h ≡ a → TargetAlone env (expression place (element array index)) f a
 assigned_element g h t u l only next r b (Targeting.part_index_refused l' d') = cc
 assigned_element g h t u l only next r b (Targeting.part_element_assigned l' d' r') = cc
@@ -99,7 +99,7 @@ no_target_alone n b (Targeting.no_target n') = refl
 no_target_alone n b _ = cc
 
 target_alone : {env : Env} {e : PlainExpr} {f : Found} {a : TargetAnswer} → Targeting env e f a → TargetAlone env e f a
-target_alone (Targeting.length_assigned l) = length_target l
+target_alone (Targeting.length_assigned {row = row} l) = length_target row l
 target_alone (Targeting.receiver_refused {refusal = q} l d) = receiver_target q l (alone d)
 target_alone (Targeting.field_assigned {g = g} {t = t} l d r) = assigned_field g t l (alone d) r
 target_alone (Targeting.part_index_refused {row = row} {refusal = q} l d) = part_index_target row q l (alone d)

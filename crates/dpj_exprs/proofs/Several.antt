@@ -1,9 +1,9 @@
 -- Several expressions, of which the first ones are typed.
 use Rattle.std.proofs.Common.{◌≡◌, ◌∙◌, ℕ, suc, ◌+◌, ◌<◌, List, [], ◌∷◌, ◌++◌, map, length, get_or, IsTrue, drop, drop-cons, add-one, Option, refl, sym, ap, subst, append_assoc, append-nil}
 use Rattle.dpj_base.specs.declared.refusal.Refusal.{Refusal}
-use Rattle.dpj_base.specs.Types.{PlainType}
 use Rattle.dpj_tree.specs.declared.expr.Expr.{Expr}
 use Rattle.dpj_tree.specs.Plain.{plain_expr, plain_exprs}
+use Rattle.dpj_typed.specs.Plain.{TypedExpr}
 use Rattle.dpj_exprs.specs.declared.env.Env.{Env}
 use Rattle.dpj_exprs.specs.declared.found.Found.{Found}
 use Rattle.dpj_exprs.specs.declared.typed.Typed.{Typed}
@@ -12,7 +12,7 @@ use Rattle.dpj_exprs.specs.Typed.{plain_typed}
 use Rattle.dpj_exprs.specs.Typing.{AllAnswer, all_give, one_refused, Typing, TypingAll, none_left, first_refused, later_refused, one_more}
 
 -- an answer of the rest, with types in front
-abbrev pub behind : List (Option PlainType) → AllAnswer → AllAnswer
+abbrev pub behind : List (Option TypedExpr) → AllAnswer → AllAnswer
 behind types (all_give others f) = all_give (types ++ others) f
 behind types (one_refused refusal) = one_refused refusal
 
@@ -27,7 +27,7 @@ behind_none : (a : AllAnswer) → behind [] a ≡ a
 behind_none (all_give others f) = refl
 behind_none (one_refused refusal) = refl
 
-behind_more : (types : List (Option PlainType)) (t : Option PlainType) (a : AllAnswer) → behind types (behind (t ∷ []) a) ≡ behind (types ++ t ∷ []) a
+behind_more : (types : List (Option TypedExpr)) (t : Option TypedExpr) (a : AllAnswer) → behind types (behind (t ∷ []) a) ≡ behind (types ++ t ∷ []) a
 behind_more types t (all_give others f) = ap (λ all. all_give all f) (sym (append_assoc types (t ∷ []) others))
 behind_more types t (one_refused refusal) = refl
 
@@ -41,7 +41,7 @@ none_so_far env all f = record { goes_on = λ a d. subst (λ b. TypingAll env (p
 next_is : (all : List Expr) (i : ℕ) (e : Expr) → i < length all → e ≡ get_or all i e → drop i all ≡ e ∷ drop (i + 1) all
 next_is all i e below is = drop-cons all i e below ∙ ap (λ x. x ∷ drop (suc i) all) (sym is) ∙ ap (λ k. e ∷ drop k all) (sym (add-one i))
 
-step : (env : Env) (e : Expr) (es : List Expr) (f g : Found) (t : Option PlainType) (a : AllAnswer) → Typing env (plain_expr e) f (gives t g) → TypingAll env (plain_exprs (map plain_expr es)) g a →
+step : (env : Env) (e : Expr) (es : List Expr) (f g : Found) (t : Option TypedExpr) (a : AllAnswer) → Typing env (plain_expr e) f (gives t g) → TypingAll env (plain_exprs (map plain_expr es)) g a →
     TypingAll env (plain_exprs (map plain_expr (e ∷ es))) f (behind (t ∷ []) a)
 step env e es f g t (all_give others h) d rest = one_more d rest
 step env e es f g t (one_refused refusal) d rest = later_refused d rest

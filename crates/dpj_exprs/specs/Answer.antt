@@ -10,17 +10,17 @@ use Rattle.dpj_base.specs.declared.refusal.Stop.{Stop}
 use Rattle.dpj_base.specs.declared.region.Rpl.{Rpl}
 use Rattle.dpj_base.specs.Effects.{added, gathered}
 use Rattle.dpj_base.specs.Refused.{IfRefused}
-use Rattle.dpj_base.specs.Types.{PlainType}
 use Rattle.dpj_headers.specs.Passes.{fault}
 use Rattle.dpj_classes.specs.declared.rows.MethodRow.{MethodRow}
 use Rattle.dpj_classes.specs.declared.table.Table.{Table}
 use Rattle.dpj_classes.specs.Table.{is_forking}
+use Rattle.dpj_typed.specs.Plain.{TypedExpr}
 use Rattle.dpj_exprs.specs.declared.found.Found.{Found}
 use Rattle.dpj_exprs.specs.Found.{access_to, part_access, effect_with}
 
--- it gives a type, or fits everywhere, and so much is found after it; or it is refused
+-- it gives a typed expression, or fits everywhere, and so much is found after it; or it is refused
 pub data Answer : Type 0 where
-  gives : Option PlainType → Found → Answer
+  gives : Option TypedExpr → Found → Answer
   refused : Refusal → Answer
 
 -- what the code says: by what it made, or by a refusal; want of memory says nothing
@@ -46,6 +46,6 @@ abbrev pub with_call : Table → Found → MethodRow → List Rpl → Found
 with_call table found row args = record (with_summary found row.summary args) { reaches_nd = found.reaches_nd || is_forking table row.id }
 
 -- a read of something at a place, where it may be read
-abbrev pub read : Bool → PlainType → Rpl → Place → Found → Answer
-read true t rpl place found = gives (Some t) (with_access found rpl Read)
-read false t rpl place found = refused (fault kind.PartialWrite place)
+abbrev pub read : Bool → TypedExpr → Rpl → Place → Found → Answer
+read true e rpl place found = gives (Some e) (with_access found rpl Read)
+read false e rpl place found = refused (fault kind.PartialWrite place)

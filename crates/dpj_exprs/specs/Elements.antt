@@ -12,20 +12,23 @@ use Rattle.dpj_base.specs.Types.{PlainType, plain_type}
 use Rattle.dpj_base.specs.Types.PlainType.{array}
 use Rattle.dpj_arrays.specs.Access.{PlainElement, element_of}
 use Rattle.dpj_headers.specs.Passes.{fault}
-use Rattle.dpj_tree.specs.Plain.{PlainExpr, expression, ExprForm, int, local}
+use Rattle.dpj_tree.specs.Plain.{PlainExpr, expression, int, local}
+use Rattle.dpj_tree.specs.Plain as tree
+use Rattle.dpj_typed.specs.Plain.{TypedExpr, typed, ExprForm}
+use Rattle.dpj_typed.specs.Plain.{ExprForm as form}
 use Rattle.dpj_exprs.specs.declared.env.Env.{Env}
 use Rattle.dpj_exprs.specs.declared.env.LocalRow.{LocalRow}
 use Rattle.dpj_exprs.specs.declared.fields.PartElement.{PartElement}
 use Rattle.dpj_exprs.specs.declared.found.Found.{Found}
 use Rattle.dpj_exprs.specs.Answer.{Answer, gives, refused, read, with_part_use}
 use Rattle.dpj_exprs.specs.Env.{index_variable_of}
-use Rattle.dpj_exprs.specs.Typed.{may_be, is_int}
+use Rattle.dpj_exprs.specs.Typed.{type_in, node_at, may_be, is_int}
 
 -- what an index expression is in the region of an element: a literal, or a local that keeps its value; any other is none
-abbrev pub form_index : Env → ExprForm → Option Index
+abbrev pub form_index : Env → tree.ExprForm → Option Index
 form_index env (int k) = Some (Literal k)
 form_index env (local name) = option_map (λ slot. Variable slot) (index_variable_of env name)
-form_index env form = None
+form_index env other = None
 
 abbrev pub index_of : Env → PlainExpr → Option Index
 index_of env (expression place form) = form_index env form
@@ -39,14 +42,15 @@ array_element (Some t) at place = option_map_or (λ element. Ok (Some element)) 
 abbrev pub element_through : Option PlainType → Option Index → Option PlainType → Place → Result (Option PlainElement) Refusal
 element_through t at index_type place = cond (may_be is_int index_type) (array_element t at place) (Err (fault kind.Type place))
 
-abbrev pub element_read : Result (Option PlainElement) Refusal → Place → Found → Answer
-element_read (Ok None) place found = gives None found
-element_read (Ok (Some element)) place found = read element.may_read element.ty element.rpl place found
-element_read (Err refusal) place found = refused refusal
+abbrev pub element_read : ExprForm → Result (Option PlainElement) Refusal → Place → Found → Answer
+element_read form (Ok None) place found = gives None found
+element_read form (Ok (Some seen)) place found = read seen.may_read (typed place seen.ty form) seen.rpl place found
+element_read form (Err refusal) place found = refused refusal
 
 -- an element of what an array gives, at an index that is written and what it gives
-abbrev pub read_element : Env → Option PlainType → PlainExpr → Option PlainType → Place → Found → Answer
-read_element env t at index_type place found = element_read (element_through t (index_of env at) index_type place) place found
+abbrev pub read_element : Env → Option TypedExpr → PlainExpr → Option TypedExpr → Place → Found → Answer
+read_element env e at i place found =
+    element_read (form.element (node_at place e) (node_at place i)) (element_through (type_in e) (index_of env at) (type_in i) place) place found
 
 -- the slot of the part, the type and the region of an element
 abbrev pub element_seen : PartElement → ℕ × PlainType × Rpl
@@ -63,10 +67,10 @@ part_element row index_type place =
     cond (may_be is_int index_type) (Ok (element_in_part row.slot (plain_type row.ty))) (Err (fault kind.Type place))
 
 -- a read through a part
-abbrev pub part_read : Result (Option (ℕ × PlainType × Rpl)) Refusal → Found → Answer
-part_read (Ok None) found = gives None found
-part_read (Ok (Some (slot, elem, rpl))) found = gives (Some elem) (with_part_use found slot rpl Read)
-part_read (Err refusal) found = refused refusal
+abbrev pub part_read : TypedExpr → Result (Option (ℕ × PlainType × Rpl)) Refusal → Place → Found → Answer
+part_read i (Ok None) place found = gives None found
+part_read i (Ok (Some (slot, elem, rpl))) place found = gives (Some (typed place elem (form.part_element slot i))) (with_part_use found slot rpl Read)
+part_read i (Err refusal) place found = refused refusal
 
-abbrev pub read_part : LocalRow → Option PlainType → Place → Found → Answer
-read_part row index_type place found = part_read (part_element row index_type place) found
+abbrev pub read_part : LocalRow → Option TypedExpr → Place → Found → Answer
+read_part row i place found = part_read (node_at place i) (part_element row (type_in i) place) place found

@@ -10,7 +10,14 @@ use Rattle.dpj_tree.specs.declared.expr.BinaryOp.{BinaryOp}
 use Rattle.dpj_tree.specs.declared.expr.BinaryOp.TheVariants.{Or, And, Eq, Ne, Lt, Le, Gt, Ge, Add, Sub, Mul, Div, Rem}
 use Rattle.dpj_tree.specs.declared.expr.UnaryOp.{UnaryOp}
 use Rattle.dpj_tree.specs.declared.expr.UnaryOp.TheVariants.{Neg, Not}
-use Rattle.dpj_exprs.specs.Typed.{may_be, is_int, is_boolean, is_reference}
+use Rattle.dpj_typed.specs.declared.expr.BinaryOp.TheVariants.{Subtract, Multiply, Divide, Remainder, Equal, NotEqual, Less, AtMost, Greater, AtLeast}
+use Rattle.dpj_typed.specs.declared.expr.BinaryOp.TheVariants.{Add as TypedAdd}
+use Rattle.dpj_typed.specs.declared.expr.UnaryOp as made
+use Rattle.dpj_typed.specs.declared.expr.UnaryOp.TheVariants.{Negate}
+use Rattle.dpj_typed.specs.declared.expr.UnaryOp.TheVariants.{Not as TypedNot}
+use Rattle.dpj_typed.specs.Plain.{TypedExpr, typed, ExprForm, unary, binary, either}
+use Rattle.dpj_typed.specs.Plain.{ExprForm as form}
+use Rattle.dpj_exprs.specs.Typed.{type_in, node_at, may_be, is_int, is_boolean, is_reference}
 
 -- the operation takes an operand of this type
 abbrev pub unary_takes : UnaryOp → Option PlainType → Bool
@@ -21,13 +28,17 @@ abbrev pub unary_gives : UnaryOp → PlainType
 unary_gives Neg = int
 unary_gives Not = boolean
 
--- the type of an operation that takes its operands or not
-abbrev pub typed_if : Bool → PlainType → Place → Result PlainType Refusal
-typed_if takes t place = cond takes (Ok t) (Err (fault kind.Type place))
+-- an operation that takes its operands or not
+abbrev pub node_if : Bool → PlainType → ExprForm → Place → Result TypedExpr Refusal
+node_if takes t form place = cond takes (Ok (typed place t form)) (Err (fault kind.Type place))
 
--- the type of an operation of an operand of this type
-abbrev pub unary_typed : UnaryOp → Option PlainType → Place → Result PlainType Refusal
-unary_typed op t place = typed_if (unary_takes op t) (unary_gives op) place
+abbrev pub unary_op : UnaryOp → made.UnaryOp
+unary_op Neg = Negate
+unary_op Not = TypedNot
+
+-- an operation of one operand
+abbrev pub unary_typed : UnaryOp → Option TypedExpr → Place → Result TypedExpr Refusal
+unary_typed op e place = node_if (unary_takes op (type_in e)) (unary_gives op) (unary (unary_op op) (node_at place e)) place
 
 abbrev pub both : (PlainType → Bool) → Option PlainType → Option PlainType → Bool
 both test t u = may_be test t && may_be test u
@@ -67,6 +78,23 @@ binary_gives Mul = int
 binary_gives Div = int
 binary_gives Rem = int
 
--- the type of an operation of operands of these types
-abbrev pub binary_typed : BinaryOp → Option PlainType → Option PlainType → Place → Result PlainType Refusal
-binary_typed op t u place = typed_if (binary_takes op t u) (binary_gives op) place
+-- the form of an operation of two operands: `&&` and `||` are forms of their own
+abbrev pub binary_form : BinaryOp → TypedExpr → TypedExpr → ExprForm
+binary_form Or a b = either a b
+binary_form And a b = form.both a b
+binary_form Eq a b = binary Equal a b
+binary_form Ne a b = binary NotEqual a b
+binary_form Lt a b = binary Less a b
+binary_form Le a b = binary AtMost a b
+binary_form Gt a b = binary Greater a b
+binary_form Ge a b = binary AtLeast a b
+binary_form Add a b = binary TypedAdd a b
+binary_form Sub a b = binary Subtract a b
+binary_form Mul a b = binary Multiply a b
+binary_form Div a b = binary Divide a b
+binary_form Rem a b = binary Remainder a b
+
+-- an operation of two operands
+abbrev pub binary_typed : BinaryOp → Option TypedExpr → Option TypedExpr → Place → Result TypedExpr Refusal
+binary_typed op e d place =
+    node_if (binary_takes op (type_in e) (type_in d)) (binary_gives op) (binary_form op (node_at place e) (node_at place d)) place

@@ -1,21 +1,44 @@
 -- What is known of the types of expressions, and where they fit.
-use Rattle.std.specs.Prelude.{◌≡◌, ◌⊎◌, ℕ, ◌<◌, Bool, true, false, List, [], ◌∷◌, length, slice_index_or, Option, Some, None}
+use Rattle.std.specs.Prelude.{◌≡◌, ◌⊎◌, ℕ, ◌<◌, Bool, true, false, List, [], ◌∷◌, length, slice_index_or, Option, Some, None, option_map}
+use Rattle.dpj_base.specs.declared.place.Place.{Place}
 use Rattle.dpj_base.specs.declared.ty.Ty.{Ty}
 use Rattle.dpj_base.specs.declared.ty.Super.{Super}
 use Rattle.dpj_base.specs.declared.region.Rpl.{Rpl}
 use Rattle.dpj_base.specs.Types.{PlainType, plain_type, type_with, Ordered, Subtype}
 use Rattle.dpj_base.specs.Types.PlainType.{int, boolean, void, null, class, array}
+use Rattle.dpj_typed.specs.declared.expr.Expr.{Expr}
+use Rattle.dpj_typed.specs.declared.expr.ExprForm.{ExprForm, fold-ExprForm}
+use Rattle.dpj_typed.specs.Plain.{TypedExpr, typed, type_of, TypedExprs, no_exprs, more_exprs, expr_form, expr_node}
+use Rattle.dpj_typed.specs.Plain as form
 use Rattle.dpj_exprs.specs.declared.typed.Typed.{Typed}
 use Rattle.dpj_exprs.specs.declared.typed.Typed.TheVariants.{Known, Any}
 
-abbrev pub known : Typed → Option Ty
-known (Known t) = Some t
-known Any = None
+-- a typed expression of the code as plain data
+abbrev pub plain_form : ExprForm → form.ExprForm
+plain_form = fold-ExprForm form.ExprForm TypedExpr expr_form expr_node
 
--- the type of an expression, which has none where it fits everywhere
-abbrev pub plain_typed : Typed → Option PlainType
-plain_typed (Known t) = Some (plain_type t)
+abbrev pub plain_node : Expr → TypedExpr
+plain_node e = typed e.place (plain_type e.ty) (plain_form e.form)
+
+-- what an expression gives: itself with its type, or nothing that is known where it fits everywhere
+abbrev pub plain_typed : Typed → Option TypedExpr
+plain_typed (Known e) = Some (plain_node e)
 plain_typed Any = None
+
+abbrev pub type_in : Option TypedExpr → Option PlainType
+type_in given = option_map type_of given
+
+abbrev pub value_type : Typed → Option PlainType
+value_type t = type_in (plain_typed t)
+
+-- the expression itself; where it fits everywhere, in a program that is refused, `null` stands for it
+abbrev pub node_at : Place → Option TypedExpr → TypedExpr
+node_at place (Some e) = e
+node_at place None = typed place null form.null
+
+abbrev pub nodes_at : Place → List (Option TypedExpr) → TypedExprs
+nodes_at place [] = no_exprs
+nodes_at place (e ∷ es) = more_exprs (node_at place e) (nodes_at place es)
 
 -- the type passes the test; what fits everywhere passes every test
 abbrev pub may_be : (PlainType → Bool) → Option PlainType → Bool
@@ -23,7 +46,7 @@ may_be test (Some t) = test t
 may_be test None = true
 
 abbrev pub passes : (PlainType → Bool) → Typed → Bool
-passes test t = may_be test (plain_typed t)
+passes test t = may_be test (value_type t)
 
 abbrev pub is_int : PlainType → Bool
 is_int int = true
@@ -63,7 +86,7 @@ FitsAs supers (Some t) declared = Subtype supers t declared
 FitsAs supers None declared = Unit {0}
 
 abbrev pub Fits : List Super → Typed → PlainType → Type 0
-Fits supers t declared = FitsAs supers (plain_typed t) declared
+Fits supers t declared = FitsAs supers (value_type t) declared
 
 -- as many values as declared types, each of which fits the one at its place with region arguments put in
 abbrev pub AllFit : List Super → List Rpl → List (Option PlainType) → List Ty → Type 0

@@ -1,5 +1,5 @@
 -- Calls and creations of objects whose parts are read: what they give, and what is wrong in them.
-use Rattle.std.specs.Prelude.{◌≡◌, ◌↔◌, ℕ, Bool, true, false, not, List, [], ◌++◌, IsTrue, Option, Some, None, Result, Ok, Err}
+use Rattle.std.specs.Prelude.{◌≡◌, ◌↔◌, ℕ, Bool, true, false, not, List, [], ◌++◌, map, IsTrue, Option, Some, None, Result, Ok, Err}
 use Rattle.std.specs.List.{list_all}
 use Rattle.std.specs.Option.{option_map_or}
 use Rattle.dpj_base.specs.declared.place.Place.{Place}
@@ -27,14 +27,15 @@ use Rattle.dpj_tree.specs.declared.region.Named.{Named}
 use Rattle.dpj_tree.specs.declared.region.RplTree.{RplTree}
 use Rattle.dpj_classes.specs.declared.rows.MethodRow.{MethodRow}
 use Rattle.dpj_classes.specs.declared.table.Table.{Table}
-use Rattle.dpj_classes.specs.Table.{headers_of, method_of, constructor_of, given_of, args_at}
+use Rattle.dpj_classes.specs.Table.{headers_of, method_of, row_of, constructor_of, given_of, args_at}
+use Rattle.dpj_typed.specs.Plain.{TypedExpr, typed, type_of, call, create}
 use Rattle.dpj_exprs.specs.declared.env.Env.{Env}
 use Rattle.dpj_exprs.specs.declared.found.Found.{Found}
 use Rattle.dpj_exprs.specs.Answer.{Answer, gives, refused, with_call}
 use Rattle.dpj_exprs.specs.Env.{table_of, supers_of, given_in, scope_of}
 use Rattle.dpj_exprs.specs.Partial.{is_partial_call}
 use Rattle.dpj_exprs.specs.Shapes.{shapes_fit}
-use Rattle.dpj_exprs.specs.Typed.{may_be, is_value, AllFit}
+use Rattle.dpj_exprs.specs.Typed.{type_in, nodes_at, may_be, is_value, AllFit}
 
 -- the region arguments that are written in a body, each of which is to be fully specified; and the first fault in them
 abbrev pub args_of : Env → List RplTree → ReadArgs
@@ -43,16 +44,16 @@ args_of env trees = args_read (scope_of env) no_index trees
 abbrev pub args_told : Env → List ParamRow → List RplTree → Option Refusal
 args_told env params trees = parts_told site.Body (none_by order.Number) (arg_faults (scope_of env) no_index params true trees)
 
--- the method of that name through a receiver, which has a class, and the region arguments of the class that declares it
-abbrev pub owned_method : MethodRow → Option (List Rpl) → Place → Result (MethodRow × List Rpl) Refusal
-owned_method row None place = Err (fault kind.Type place)
-owned_method row (Some owned) place = Ok (row, owned)
+-- the receiver's class, the method of that name there, and the region arguments of the class that declares it
+abbrev pub owned_method : ℕ → MethodRow → Option (List Rpl) → Place → Result (ℕ × MethodRow × List Rpl) Refusal
+owned_method class row None place = Err (fault kind.Type place)
+owned_method class row (Some owned) place = Ok (class, row, owned)
 
-abbrev pub named_method : Table → ℕ → List Rpl → Option MethodRow → Place → Result (MethodRow × List Rpl) Refusal
+abbrev pub named_method : Table → ℕ → List Rpl → Option MethodRow → Place → Result (ℕ × MethodRow × List Rpl) Refusal
 named_method table class args None place = Err (fault kind.Unknown place)
-named_method table class args (Some row) place = owned_method row (args_at table class args row.owner) place
+named_method table class args (Some row) place = owned_method class row (args_at table class args row.owner) place
 
-abbrev pub method_through : Table → PlainType → ℕ → Place → Result (MethodRow × List Rpl) Refusal
+abbrev pub method_through : Table → PlainType → ℕ → Place → Result (ℕ × MethodRow × List Rpl) Refusal
 method_through table (ty.class class args) name place = named_method table class args (method_of table class name) place
 method_through table t name place = Err (fault kind.Type place)
 
@@ -89,64 +90,78 @@ abbrev pub unknown_told : Faults → Bool → Place → Refusal
 unknown_told before fit place =
     option_map_or (λ refusal. refusal) (told (all_noted before (fault_if (not fit) kind.Type place))) (fault kind.RegionArgs place)
 
--- a call of a method through a receiver, where the actuals have these types
-pub data CallOf (env : Env) (row : MethodRow) (owned : List Rpl) (args : ReadArgs) (actuals : List (Option PlainType)) (place : Place) (found : Found) : Answer → Type 0 where
+-- a call, with the region arguments of its own
+abbrev pub called : Env → TypedExpr → ℕ → MethodRow → List Rpl → List Rpl → List (Option TypedExpr) → Place → TypedExpr
+called env e class row owned regions actuals place =
+    typed place (type_with (owned ++ regions) (plain_type row.result)) (call e class (row_of (table_of env) row.id) regions (nodes_at place actuals))
+
+-- a call of a method through a receiver
+pub data CallOf (env : Env) (e : TypedExpr) (class : ℕ) (row : MethodRow) (owned : List Rpl) (args : ReadArgs) (actuals : List (Option TypedExpr)) (place : Place) (found : Found) : Answer → Type 0 where
   -- the region arguments aren't known
   unknown_args :
       args_given args.written args.paths row.regions ≡ None →
-      CallOf env row owned args actuals place found (refused (unknown_told (args_noted args row.regions place) (shapes_fit (headers_of (table_of env)) actuals row.params) place))
+      CallOf env e class row owned args actuals place found
+      (refused (unknown_told (args_noted args row.regions place) (shapes_fit (headers_of (table_of env)) (map type_in actuals) row.params) place))
   -- the call has a fault
   faulty_call : {regions : List Rpl} {refusal : Refusal} →
       args_given args.written args.paths row.regions ≡ Some regions →
-      UseTold env (args_noted args row.regions place) (owned ++ regions) actuals row.params (is_partial_call owned row) (all_hold (given_in env) (owned ++ regions) row.given) place (Some refusal) →
-      CallOf env row owned args actuals place found (refused refusal)
+      UseTold env (args_noted args row.regions place) (owned ++ regions) (map type_in actuals) row.params (is_partial_call owned row)
+      (all_hold (given_in env) (owned ++ regions) row.given) place (Some refusal) →
+      CallOf env e class row owned args actuals place found (refused refusal)
   -- it has the effects of the summary and the type of the result, with region arguments put in
-  called : {regions : List Rpl} →
+  fitting_call : {regions : List Rpl} →
       args_given args.written args.paths row.regions ≡ Some regions →
-      UseTold env (args_noted args row.regions place) (owned ++ regions) actuals row.params (is_partial_call owned row) (all_hold (given_in env) (owned ++ regions) row.given) place None →
-      CallOf env row owned args actuals place found (gives (Some (type_with (owned ++ regions) (plain_type row.result))) (with_call (table_of env) found row (owned ++ regions)))
+      UseTold env (args_noted args row.regions place) (owned ++ regions) (map type_in actuals) row.params (is_partial_call owned row)
+      (all_hold (given_in env) (owned ++ regions) row.given) place None →
+      CallOf env e class row owned args actuals place found
+      (gives (Some (called env e class row owned regions actuals place)) (with_call (table_of env) found row (owned ++ regions)))
 
 -- a call on what has a type
-pub data CallOn (env : Env) (t : PlainType) (name : ℕ) (args : ReadArgs) (actuals : List (Option PlainType)) (place : Place) (found : Found) : Answer → Type 0 where
-  no_method : {refusal : Refusal} → method_through (table_of env) t name place ≡ Err refusal → CallOn env t name args actuals place found (refused refusal)
-  of_method : {row : MethodRow} {owned : List Rpl} {answer : Answer} →
-      method_through (table_of env) t name place ≡ Ok (row, owned) → CallOf env row owned args actuals place found answer →
-      CallOn env t name args actuals place found answer
+pub data CallOn (env : Env) (e : TypedExpr) (name : ℕ) (args : ReadArgs) (actuals : List (Option TypedExpr)) (place : Place) (found : Found) : Answer → Type 0 where
+  no_method : {refusal : Refusal} → method_through (table_of env) (type_of e) name place ≡ Err refusal → CallOn env e name args actuals place found (refused refusal)
+  of_method : {class : ℕ} {row : MethodRow} {owned : List Rpl} {answer : Answer} →
+      method_through (table_of env) (type_of e) name place ≡ Ok (class, row, owned) → CallOf env e class row owned args actuals place found answer →
+      CallOn env e name args actuals place found answer
 
 -- a call on what gives a type, or fits everywhere: then the call does, where each actual is a value
-pub data Call (env : Env) : Option PlainType → ℕ → ReadArgs → List (Option PlainType) → Place → Found → Answer → Type 0 where
-  on_type : {t : PlainType} {name : ℕ} {args : ReadArgs} {actuals : List (Option PlainType)} {place : Place} {found : Found} {answer : Answer} →
-      CallOn env t name args actuals place found answer → Call env (Some t) name args actuals place found answer
-  on_anything : {name : ℕ} {args : ReadArgs} {actuals : List (Option PlainType)} {place : Place} {found : Found} →
-      list_all (may_be is_value) actuals ≡ true → Call env None name args actuals place found (gives None found)
-  no_value_passed : {name : ℕ} {args : ReadArgs} {actuals : List (Option PlainType)} {place : Place} {found : Found} →
-      list_all (may_be is_value) actuals ≡ false → Call env None name args actuals place found (refused (fault kind.Type place))
+pub data Call (env : Env) : Option TypedExpr → ℕ → ReadArgs → List (Option TypedExpr) → Place → Found → Answer → Type 0 where
+  on_type : {e : TypedExpr} {name : ℕ} {args : ReadArgs} {actuals : List (Option TypedExpr)} {place : Place} {found : Found} {answer : Answer} →
+      CallOn env e name args actuals place found answer → Call env (Some e) name args actuals place found answer
+  on_anything : {name : ℕ} {args : ReadArgs} {actuals : List (Option TypedExpr)} {place : Place} {found : Found} →
+      list_all (may_be is_value) (map type_in actuals) ≡ true → Call env None name args actuals place found (gives None found)
+  no_value_passed : {name : ℕ} {args : ReadArgs} {actuals : List (Option TypedExpr)} {place : Place} {found : Found} →
+      list_all (may_be is_value) (map type_in actuals) ≡ false → Call env None name args actuals place found (refused (fault kind.Type place))
 
 -- with what the constructor does, where there is one
 abbrev pub with_constructor : Table → Found → Option MethodRow → List Rpl → Found
 with_constructor table found None args = found
 with_constructor table found (Some row) args = with_call table found row args
 
--- the creation of an object of a class, where the actuals have these types
-pub data CreationOf (env : Env) (at : ℕ) (args : ReadArgs) (actuals : List (Option PlainType)) (place : Place) (found : Found) : Answer → Type 0 where
+-- the creation of an object of a class
+pub data CreationOf (env : Env) (at : ℕ) (args : ReadArgs) (actuals : List (Option TypedExpr)) (place : Place) (found : Found) : Answer → Type 0 where
   -- the region arguments aren't known
   unknown_args :
       args_given args.written args.paths (params_in (headers_of (table_of env)) at) ≡ None →
       CreationOf env at args actuals place found
-      (refused (unknown_told (args_noted args (params_in (headers_of (table_of env)) at) place) (shapes_fit (headers_of (table_of env)) actuals (formals_of (table_of env) at)) place))
+      (refused (unknown_told (args_noted args (params_in (headers_of (table_of env)) at) place)
+      (shapes_fit (headers_of (table_of env)) (map type_in actuals) (formals_of (table_of env) at)) place))
   -- the creation has a fault
   faulty_creation : {regions : List Rpl} {refusal : Refusal} →
       args_given args.written args.paths (params_in (headers_of (table_of env)) at) ≡ Some regions →
-      UseTold env (args_noted args (params_in (headers_of (table_of env)) at) place) regions actuals (formals_of (table_of env) at) false (all_hold (given_in env) regions (given_of (table_of env) at)) place (Some refusal) →
+      UseTold env (args_noted args (params_in (headers_of (table_of env)) at) place) regions (map type_in actuals) (formals_of (table_of env) at) false
+      (all_hold (given_in env) regions (given_of (table_of env) at)) place (Some refusal) →
       CreationOf env at args actuals place found (refused refusal)
   -- it has the effects of the constructor, with region arguments put in
   created : {regions : List Rpl} →
       args_given args.written args.paths (params_in (headers_of (table_of env)) at) ≡ Some regions →
-      UseTold env (args_noted args (params_in (headers_of (table_of env)) at) place) regions actuals (formals_of (table_of env) at) false (all_hold (given_in env) regions (given_of (table_of env) at)) place None →
-      CreationOf env at args actuals place found (gives (Some (ty.class at regions)) (with_constructor (table_of env) found (constructor_of (table_of env) at) regions))
+      UseTold env (args_noted args (params_in (headers_of (table_of env)) at) place) regions (map type_in actuals) (formals_of (table_of env) at) false
+      (all_hold (given_in env) regions (given_of (table_of env) at)) place None →
+      CreationOf env at args actuals place found
+      (gives (Some (typed place (ty.class at regions) (create (nodes_at place actuals))))
+      (with_constructor (table_of env) found (constructor_of (table_of env) at) regions))
 
 -- the creation of an object of a class that is named
-pub data Creation (env : Env) (class : Named) (args : ReadArgs) (actuals : List (Option PlainType)) (place : Place) (found : Found) : Answer → Type 0 where
+pub data Creation (env : Env) (class : Named) (args : ReadArgs) (actuals : List (Option TypedExpr)) (place : Place) (found : Found) : Answer → Type 0 where
   no_class : class_of (headers_of (table_of env)) class.name ≡ None → Creation env class args actuals place found (refused (fault kind.Unknown class.place))
   of_class : {at : ℕ} {answer : Answer} →
       class_of (headers_of (table_of env)) class.name ≡ Some at → CreationOf env at args actuals place found answer →

@@ -6,7 +6,7 @@ ghost use Rattle.dpj_headers.specs.Passes.{fault_if};
 ghost use Rattle.dpj_resolve.specs.Constraints.{all_hold};
 ghost use Rattle.dpj_exprs.specs.Answer.{Says};
 ghost use Rattle.dpj_exprs.specs.Env.{supers_of, given_in};
-ghost use Rattle.dpj_exprs.specs.Typed.{plain_typed, Fits, ActualsFit, AllFit};
+ghost use Rattle.dpj_exprs.specs.Typed.{value_type, Fits, ActualsFit, AllFit};
 ghost use Rattle.dpj_exprs.specs.Uses.{use_faults, UseTold, unknown_told};
 
 use crate::env::Env;
@@ -40,7 +40,7 @@ pub fn check_use(
     partial: bool,
     place: Place,
 ) -> Result<(), Stop>
-    ensures { Says result (λ u. None) Some (UseTold env.now faults args.now (map plain_typed actuals.now) declared.now partial (all_hold (given_in env.now) args.now constraints.now) place) }
+    ensures { Says result (λ u. None) Some (UseTold env.now faults args.now (map value_type actuals.now) declared.now partial (all_hold (given_in env.now) args.now constraints.now) place) }
 {
     let fit = all_fit(alloc, env, actuals, declared, args)?;
     let hold = constraints_hold(alloc, constraints, args, env.given())?;
@@ -81,7 +81,7 @@ fn all_fit(
     declared: &[Ty],
     args: &[Rpl],
 ) -> Result<bool, NoMemory>
-    ensures { IfOk result (λ fit. IsTrue fit ↔ AllFit (supers_of env.now) args.now (map plain_typed actuals.now) declared.now) }
+    ensures { IfOk result (λ fit. IsTrue fit ↔ AllFit (supers_of env.now) args.now (map value_type actuals.now) declared.now) }
 {
     let fit = actuals_fit(alloc, env, actuals, declared, args)?;
     Ok(fit)

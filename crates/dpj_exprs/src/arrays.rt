@@ -7,7 +7,7 @@ ghost use Rattle.dpj_exprs.specs.Answer.{Says};
 ghost use Rattle.dpj_exprs.specs.Arrays.{front_of, front_told, full_path, around_own, own_path, own_place, array_with, created_array};
 ghost use Rattle.dpj_exprs.specs.Env.{scope_of};
 ghost use Rattle.dpj_exprs.specs.Refusing.{told_first};
-ghost use Rattle.dpj_exprs.specs.Typed.{plain_typed};
+ghost use Rattle.dpj_exprs.specs.Typed.{value_type};
 
 use crate::actuals::note_if;
 use crate::env::Env;
@@ -96,7 +96,7 @@ pub fn array_creation(
     around: IndexNames,
     place: Place,
 ) -> Result<Ty, Stop>
-    ensures answer { Says result (λ ty. Ok (plain_type ty)) Err (λ a. created_array env.now (plain_index around.entry) read (plain_typed length.now) (option_copied rpl.entry) place ≡ a) }
+    ensures answer { Says result (λ ty. Ok (plain_type ty)) Err (λ a. created_array env.now (plain_index around.entry) read (value_type length.now) (option_copied rpl.entry) place ≡ a) }
 {
     let own = own_path(alloc, env, rpl, around)?;
     let own_place = own_place(rpl, place);

@@ -7,7 +7,7 @@ ghost use Rattle.dpj_exprs.specs.declared.env.Env.{Env};
 ghost use Rattle.dpj_exprs.specs.declared.found.Found.{Found};
 ghost use Rattle.dpj_exprs.specs.Answer.{Says};
 ghost use Rattle.dpj_exprs.specs.Shape.{form_of, is_access};
-ghost use Rattle.dpj_exprs.specs.Targeting.{plain_target, aims, misses, field_target, element_target, part_target, with_write, Targeting};
+ghost use Rattle.dpj_exprs.specs.Targeting.{plain_target, aims, misses, field_target, element_target, part_target, Targeting};
 ghost use Rattle.dpj_exprs.specs.Typed.{plain_typed};
 
 use crate::env::{Env, LocalRow};
@@ -15,29 +15,48 @@ use crate::fields::{FieldAt, PartElement, element_at, field_at, part_element};
 use crate::fitting::refused;
 use crate::found::Found;
 use crate::typed::Typed;
-use crate::typing::{expr, is_part_length};
+use crate::typing::{expr, measured};
 use dpj_arrays::Element;
 use dpj_base::{Access, Kind, NoMemory, Place, Rpl, Stop, Ty};
-use dpj_tree::{Expr, ExprKind};
+use dpj_tree::{Expr as Tree, ExprKind};
+use dpj_typed::{ClassId, Expr, FieldSlot, Slot};
 use std::alloc::Global;
 
-/// What is assigned to: a field, an element of an array, or an element of an array part.
+/// Where a value goes, told by the expressions that find it.
+#[derive(Drop)]
+pub enum Spot {
+    Field {
+        of: Expr,
+        class: ClassId,
+        field: FieldSlot,
+    },
+    Element {
+        array: Expr,
+        index: Expr,
+    },
+    /// An element of a part of an array.
+    Part {
+        part: Slot,
+        index: Expr,
+    },
+}
+
+/// What is assigned to.
 #[derive(Drop)]
 pub struct Target {
+    pub spot: Spot,
     pub ty: Ty,
     pub rpl: Rpl,
-    /// For an element of a part the slot of the part.
-    pub view: Option<u32>,
     pub may_write: bool,
 }
 
 /// Reads the target of an assignment, a field or an element. It isn't read itself, and the write comes with
-/// `write`. None where the target comes from a part of what is no array: every value fits there.
+/// `Target::write`. None where the target comes from a part of what is no array: every value fits there.
 pub fn read_target(
     alloc: Global,
     env: &Env,
     found: &mut Found,
-    e: &Expr,
+    e: &Tree,
 ) -> Result<Option<Target>, Stop>
     ensures answer { Says result (λ target. aims (option_map plain_target target) found.new) misses (Targeting env.now (plain_expr e.now) found.old) }
     ensures nd { OnOk result (IsTrue found.old.reaches_nd → IsTrue found.new.reaches_nd) }
@@ -54,7 +73,7 @@ pub fn read_target(
 }
 
 /// The refusal of what is no field and no element.
-fn no_target(e: &Expr) -> Stop
+fn no_target(e: &Tree) -> Stop
     requires { is_access (form_of (plain_expr e.now)) ≡ false }
     ensures { IfRefused result (λ refusal. (env : Env) (found : Found) → Targeting env (plain_expr e.now) found (misses refusal)) }
 {
@@ -65,43 +84,49 @@ fn field_target(
     alloc: Global,
     env: &Env,
     found: &mut Found,
-    of: &Expr,
+    of: &Tree,
     name: u32,
     place: Place,
 ) -> Result<Option<Target>, Stop>
     ensures answer { Says result (λ target. aims (option_map plain_target target) found.new) misses (Targeting env.now (expression place (form.field (plain_expr of.now) name)) found.old) }
     ensures nd { OnOk result (IsTrue found.old.reaches_nd → IsTrue found.new.reaches_nd) }
 {
-    if is_part_length(env, of, name) {
-        return Err(refused(Kind::Type, place));
+    match measured(env, of, name) {
+        Some(_) => Err(refused(Kind::Type, place)),
+        None => {
+            let of = expr(alloc, env, found, of)?;
+            through(alloc, env, of, name, place)
+        }
     }
-    let of = expr(alloc, env, found, of)?;
-    through(alloc, env, &of, name, place)
 }
 
 /// The field of that name through what a receiver gives, as a target.
 fn through(
     alloc: Global,
     env: &Env,
-    of: &Typed,
+    of: Typed,
     name: u32,
     place: Place,
 ) -> Result<Option<Target>, Stop>
-    ensures { Says result (λ target. Ok (option_map plain_target target)) Err (λ a. field_target env.now (plain_typed of.now) name place ≡ a) }
+    ensures { Says result (λ target. Ok (option_map plain_target target)) Err (λ a. field_target env.now (plain_typed of) name place ≡ a) }
 {
     let Typed::Known(of) = of else {
         return Ok(None);
     };
     let FieldAt {
+        class,
+        slot,
         ty,
         rpl,
         may_write,
         ..
-    } = field_at(alloc, env, of, name, place)?;
+    } = field_at(alloc, env, &of.ty, name, place)?;
+    let class = ClassId { number: class };
+    let field = FieldSlot { number: slot };
     Ok(Some(Target {
+        spot: Spot::Field { of, class, field },
         ty,
         rpl,
-        view: None,
         may_write,
     }))
 }
@@ -110,8 +135,8 @@ fn element_target(
     alloc: Global,
     env: &Env,
     found: &mut Found,
-    array: &Expr,
-    index: &Expr,
+    array: &Tree,
+    index: &Tree,
     place: Place,
 ) -> Result<Option<Target>, Stop>
     ensures answer { Says result (λ target. aims (option_map plain_target target) found.new) misses (Targeting env.now (expression place (form.element (plain_expr array.now) (plain_expr index.now))) found.old) }
@@ -119,50 +144,47 @@ fn element_target(
 {
     match env.part(array) {
         Some(row) => {
-            let index = expr(alloc, env, found, index)?;
-            in_part(alloc, row, &index, place)
+            let at = expr(alloc, env, found, index)?;
+            in_part(alloc, row, at, place)
         }
         None => {
             let array = expr(alloc, env, found, array)?;
-            let index_ty = expr(alloc, env, found, index)?;
-            in_array(alloc, env, &array, index, &index_ty, place)
+            let at = expr(alloc, env, found, index)?;
+            in_array(alloc, env, array, index, at, place)
         }
     }
 }
 
-/// The element of a part at an index of which the type is given, as a target.
-fn in_part(
-    alloc: Global,
-    row: &LocalRow,
-    index_ty: &Typed,
-    place: Place,
-) -> Result<Option<Target>, Stop>
-    ensures { Says result (λ target. Ok (option_map plain_target target)) Err (λ a. part_target row.now (plain_typed index_ty.now) place ≡ a) }
+/// The element of a part at an index, which gives something, as a target.
+fn in_part(alloc: Global, row: &LocalRow, at: Typed, place: Place) -> Result<Option<Target>, Stop>
+    ensures { Says result (λ target. Ok (option_map plain_target target)) Err (λ a. part_target row.now (plain_typed at) place ≡ a) }
 {
-    let Some(element) = part_element(alloc, row, index_ty, place)? else {
+    let Some(element) = part_element(alloc, row, &at, place)? else {
         return Ok(None);
     };
     let PartElement { view, ty, rpl } = element;
+    let part = Slot { number: view };
+    let index = at.into_node(place);
     Ok(Some(Target {
+        spot: Spot::Part { part, index },
         ty,
         rpl,
-        view: Some(view),
         may_write: true,
     }))
 }
 
-/// The element of an array at an index of which the type is given too, as a target.
+/// The element of an array at an index, which is written and gives something, as a target.
 fn in_array(
     alloc: Global,
     env: &Env,
-    array: &Typed,
-    index: &Expr,
-    index_ty: &Typed,
+    array: Typed,
+    index: &Tree,
+    at: Typed,
     place: Place,
 ) -> Result<Option<Target>, Stop>
-    ensures { Says result (λ target. Ok (option_map plain_target target)) Err (λ a. element_target env.now (plain_typed array.now) (plain_expr index.now) (plain_typed index_ty.now) place ≡ a) }
+    ensures { Says result (λ target. Ok (option_map plain_target target)) Err (λ a. element_target env.now (plain_typed array) (plain_expr index.now) (plain_typed at) place ≡ a) }
 {
-    let Some(element) = element_at(alloc, env, array, index, index_ty, place)? else {
+    let Some(element) = element_at(alloc, env, &array, index, &at, place)? else {
         return Ok(None);
     };
     let Element {
@@ -171,21 +193,30 @@ fn in_array(
         may_write,
         ..
     } = element;
+    let array = array.into_node(place);
+    let index = at.into_node(place);
     Ok(Some(Target {
+        spot: Spot::Element { array, index },
         ty,
         rpl,
-        view: None,
         may_write,
     }))
 }
 
-/// Adds the write of a value to a target, by itself or through the part that the target lies in.
-pub fn write(found: &mut Found, target: Target) -> Result<(), NoMemory>
-    ensures { OnOk result (found.new ≡ with_write found.old (plain_target target)) }
-{
-    let Target { rpl, view, .. } = target;
-    match view {
-        Some(view) => found.part_use(view, rpl, Access::Write),
-        None => found.access(rpl, Access::Write),
+impl Target {
+    ghost use Rattle.std.specs.Prelude.{◌≡◌, IfOk, OnOk};
+    ghost use Rattle.dpj_exprs.specs.Targeting.{plain_spot, plain_target, with_write};
+
+    /// Adds the write of a value to the target, by itself or through the part that it lies in, and gives where it goes.
+    pub fn write(self, found: &mut Found) -> Result<Spot, NoMemory>
+        ensures spot { IfOk result (λ spot. plain_spot spot ≡ plain_spot self.spot) }
+        ensures found { OnOk result (found.new ≡ with_write found.old (plain_target self)) }
+    {
+        let Target { spot, rpl, .. } = self;
+        match &spot {
+            Spot::Part { part, .. } => found.part_use(part.number, rpl, Access::Write)?,
+            _ => found.access(rpl, Access::Write)?,
+        }
+        Ok(spot)
     }
 }

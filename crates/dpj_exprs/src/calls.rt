@@ -6,13 +6,14 @@ ghost use Rattle.dpj_classes.specs.Table.{headers_of};
 ghost use Rattle.dpj_exprs.specs.Answer.{gives, refused, with_call, Says};
 ghost use Rattle.dpj_exprs.specs.Env.{table_of, given_in};
 ghost use Rattle.dpj_exprs.specs.Partial.{some_mention_partial, is_partial_call};
-ghost use Rattle.dpj_exprs.specs.Typed.{plain_typed, may_be, is_value};
+ghost use Rattle.dpj_exprs.specs.Typed.{plain_node, plain_typed, value_type, may_be, is_value};
 ghost use Rattle.dpj_exprs.specs.Uses.{args_of, args_told, args_noted, callee_params, UseTold, method_through, CallOf, CallOn, Call};
 
 use crate::actuals::{check_use, unknown_args};
 use crate::env::Env;
 use crate::fitting::{mentions_partial, refused, rigid_in_partial};
 use crate::found::Found;
+use crate::nodes;
 use crate::shapes::shapes_fit;
 use crate::typed::Typed;
 use dpj_base::{Items, Kind, NoMemory, Place, Plain, Rpl, Stop, Ty};
@@ -20,6 +21,7 @@ use dpj_classes::MethodRow;
 use dpj_headers::{Faults, ParamRow};
 use dpj_resolve::{IndexNames, ReadArgs, fit_args, read_args};
 use dpj_tree::RplTree;
+use dpj_typed::Expr;
 use dpj_types::subst_type;
 use std::alloc::Global;
 
@@ -55,16 +57,22 @@ pub fn read_call_args(
     trees: &[RplTree],
 ) -> Result<ReadArgs, Stop>
     ensures read { IfOk result (λ args. args ≡ args_of env.now trees.now) }
-    ensures told { Says result (λ args. None) Some (λ t. args_told env.now (callee_params (table_of env.now) (plain_typed of.now) name) trees.now ≡ t) }
+    ensures told { Says result (λ args. None) Some (λ t. args_told env.now (callee_params (table_of env.now) (value_type of.now) name) trees.now ≡ t) }
 {
     read_full_args(alloc, env, trees, callee_params(env, of, name))
 }
 
 /// The region parameters of the method that a call names.
 fn callee_params<'e>(env: &'e Env, of: &Typed, name: u32) -> &'e [ParamRow]
-    ensures { result.now ≡ callee_params (table_of env.now) (plain_typed of.now) name }
+    ensures { result.now ≡ callee_params (table_of env.now) (value_type of.now) name }
 {
-    let Typed::Known(Ty::Class { class, .. }) = of else {
+    let Typed::Known(
+        Expr {
+            ty: Ty::Class { class, .. },
+            ..
+        },
+    ) = of
+    else {
         return &[];
     };
     match env.table().method(*class, name) {
@@ -111,32 +119,37 @@ fn put_copies(alloc: Global, paths: &mut Items<Rpl>, more: &[Rpl]) -> Result<(),
     Ok(())
 }
 
-/// The type of a call whose parts are read. On what fits everywhere the call does.
+/// A call whose parts are read. On what fits everywhere the call does.
 pub fn call(
     alloc: Global,
     env: &Env,
     found: &mut Found,
-    of: &Typed,
+    of: Typed,
     name: u32,
     regions: ReadArgs,
-    actuals: &[Typed],
+    actuals: Items<Typed>,
     place: Place,
 ) -> Result<Typed, Stop>
-    ensures answer { Says result (λ typed. gives (plain_typed typed) found.new) refused (Call env.now (plain_typed of.now) name regions (map plain_typed actuals.now) place found.old) }
+    ensures answer { Says result (λ given. gives (plain_typed given) found.new) refused (Call env.now (plain_typed of) name regions (map plain_typed actuals) place found.old) }
     ensures nd { OnOk result (IsTrue found.old.reaches_nd → IsTrue found.new.reaches_nd) }
 {
     match of {
         Typed::Known(of) => {
-            let ty = call_on(alloc, env, found, of, name, regions, actuals, place)?;
-            Ok(Typed::Known(ty))
+            let called = call_on(alloc, env, found, of, name, regions, actuals, place)?;
+            Ok(Typed::Known(called))
         }
-        Typed::Any if all_values(actuals) => Ok(Typed::Any),
-        Typed::Any => Err(refused(Kind::Type, place)),
+        Typed::Any => {
+            if all_values(actuals.as_slice()) {
+                Ok(Typed::Any)
+            } else {
+                Err(refused(Kind::Type, place))
+            }
+        }
     }
 }
 
 fn all_values(actuals: &[Typed]) -> bool
-    ensures { result ≡ list_all (may_be is_value) (map plain_typed actuals.now) }
+    ensures { result ≡ list_all (may_be is_value) (map value_type actuals.now) }
 {
     for actual in actuals {
         if !actual.is_value() {
@@ -146,34 +159,37 @@ fn all_values(actuals: &[Typed]) -> bool
     true
 }
 
-/// The type of a call on a receiver of that type.
+/// A call on a receiver that is known.
 fn call_on(
     alloc: Global,
     env: &Env,
     found: &mut Found,
-    of: &Ty,
+    of: Expr,
     name: u32,
     regions: ReadArgs,
-    actuals: &[Typed],
+    actuals: Items<Typed>,
     place: Place,
-) -> Result<Ty, Stop>
-    ensures answer { Says result (λ ty. gives (Some (plain_type ty)) found.new) refused (CallOn env.now (plain_type of.now) name regions (map plain_typed actuals.now) place found.old) }
+) -> Result<Expr, Stop>
+    ensures answer { Says result (λ e. gives (Some (plain_node e)) found.new) refused (CallOn env.now (plain_node of) name regions (map plain_typed actuals) place found.old) }
     ensures nd { OnOk result (IsTrue found.old.reaches_nd → IsTrue found.new.reaches_nd) }
 {
-    let (row, owned) = called_method(alloc, env, of, name, place)?;
+    let (class, row, owned) = called_method(alloc, env, &of.ty, name, place)?;
     let owned = owned.as_slice();
-    call_of(alloc, env, found, row, owned, regions, actuals, place)
+    call_of(
+        alloc, env, found, of, class, row, owned, regions, actuals, place,
+    )
 }
 
-/// The method of that name through a receiver of a class type, and the region arguments of the class that declares it.
+/// The class of a receiver of a class type, the method of that name there, and the region arguments of the class that
+/// declares it.
 fn called_method<'e>(
     alloc: Global,
     env: &'e Env,
     of: &Ty,
     name: u32,
     place: Place,
-) -> Result<(&'e MethodRow, Items<Rpl>), Stop>
-    ensures answer { Says result (λ found. Ok (found.0.now, found.1)) Err (λ a. method_through (table_of env.now) (plain_type of.now) name place ≡ a) }
+) -> Result<(u32, &'e MethodRow, Items<Rpl>), Stop>
+    ensures answer { Says result (λ found. Ok (found.0, found.1.now, found.2)) Err (λ a. method_through (table_of env.now) (plain_type of.now) name place ≡ a) }
 {
     let Ty::Class { class, args } = of else {
         return Err(refused(Kind::Type, place));
@@ -185,23 +201,25 @@ fn called_method<'e>(
         .table()
         .args_at(alloc, *class, args.as_slice(), row.owner)?;
     match owned {
-        Some(owned) => Ok((row, owned)),
+        Some(owned) => Ok((*class, row, owned)),
         None => Err(refused(Kind::Type, place)),
     }
 }
 
-/// The type of a call of a method. The class that declares it has the region arguments `owned`.
+/// A call of a method. The class that declares it has the region arguments `owned`.
 fn call_of(
     alloc: Global,
     env: &Env,
     found: &mut Found,
+    of: Expr,
+    class: u32,
     row: &MethodRow,
     owned: &[Rpl],
     regions: ReadArgs,
-    actuals: &[Typed],
+    actuals: Items<Typed>,
     place: Place,
-) -> Result<Ty, Stop>
-    ensures answer { Says result (λ ty. gives (Some (plain_type ty)) found.new) refused (CallOf env.now row.now owned.now regions (map plain_typed actuals.now) place found.old) }
+) -> Result<Expr, Stop>
+    ensures answer { Says result (λ e. gives (Some (plain_node e)) found.new) refused (CallOf env.now (plain_node of) class row.now owned.now regions (map plain_typed actuals) place found.old) }
     ensures nd { OnOk result (IsTrue found.old.reaches_nd → IsTrue found.new.reaches_nd) }
 {
     let mut faults = Faults::by_number();
@@ -210,12 +228,27 @@ fn call_of(
             let args = joined(alloc, owned, regions.as_slice())?;
             let partial = is_partial(row, owned);
             let args = args.as_slice();
-            call_with(
-                alloc, env, found, faults, row, args, partial, actuals, place,
-            )
+            let ty = call_with(
+                alloc,
+                env,
+                found,
+                faults,
+                row,
+                args,
+                partial,
+                actuals.as_slice(),
+                place,
+            )?;
+            let number = env.table().row(row.id);
+            let actuals = nodes::nodes(alloc, actuals, place)?;
+            Ok(nodes::call(alloc, place, ty, of, class, number, regions, actuals)?)
         }
         None => {
-            let fit = shapes_fit(env.table().headers(), actuals, row.params.as_slice());
+            let fit = shapes_fit(
+                env.table().headers(),
+                actuals.as_slice(),
+                row.params.as_slice(),
+            );
             Err(unknown_args(faults, fit, place))
         }
     }
@@ -234,7 +267,7 @@ fn call_with(
     actuals: &[Typed],
     place: Place,
 ) -> Result<Ty, Stop>
-    ensures told { Says result (λ ty. None) Some (UseTold env.now faults args.now (map plain_typed actuals.now) row.now.params partial (all_hold (given_in env.now) args.now row.now.given) place) }
+    ensures told { Says result (λ ty. None) Some (UseTold env.now faults args.now (map value_type actuals.now) row.now.params partial (all_hold (given_in env.now) args.now row.now.given) place) }
     ensures ty { IfOk result (λ ty. plain_type ty ≡ type_with args.now (plain_type row.now.result)) }
     ensures found { OnOk result (found.new ≡ with_call (table_of env.now) found.old row.now args.now) }
     ensures nd { OnOk result (IsTrue found.old.reaches_nd → IsTrue found.new.reaches_nd) }

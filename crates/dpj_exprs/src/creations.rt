@@ -6,7 +6,7 @@ ghost use Rattle.dpj_resolve.specs.Constraints.{all_hold};
 ghost use Rattle.dpj_classes.specs.Table.{headers_of, constructor_of, given_of};
 ghost use Rattle.dpj_exprs.specs.Answer.{gives, refused, Says};
 ghost use Rattle.dpj_exprs.specs.Env.{table_of, given_in};
-ghost use Rattle.dpj_exprs.specs.Typed.{plain_typed};
+ghost use Rattle.dpj_exprs.specs.Typed.{plain_node, plain_typed, value_type};
 ghost use Rattle.dpj_exprs.specs.Uses.{args_of, args_told, args_noted, created_params, formals_of, UseTold, with_constructor, CreationOf, Creation};
 
 use crate::actuals::{check_use, unknown_args};
@@ -14,12 +14,14 @@ use crate::calls::read_full_args;
 use crate::env::Env;
 use crate::fitting::refused;
 use crate::found::Found;
+use crate::nodes;
 use crate::shapes::shapes_fit;
 use crate::typed::Typed;
 use dpj_base::{Items, Kind, NoMemory, Place, Rpl, Stop, Ty};
 use dpj_headers::{Faults, ParamRow};
 use dpj_resolve::{ReadArgs, fit_args};
 use dpj_tree::{Named, RplTree};
+use dpj_typed::Expr;
 use std::alloc::Global;
 
 /// Reads the region arguments of the creation of an object.
@@ -54,17 +56,17 @@ fn class_params<'e>(env: &'e Env, class: u32) -> &'e [ParamRow]
     }
 }
 
-/// The type of the creation of an object, whose parts are read.
+/// The creation of an object, whose parts are read.
 pub fn creation(
     alloc: Global,
     env: &Env,
     found: &mut Found,
     class: Named,
     regions: ReadArgs,
-    actuals: &[Typed],
+    actuals: Items<Typed>,
     place: Place,
-) -> Result<Ty, Stop>
-    ensures answer { Says result (λ ty. gives (Some (plain_type ty)) found.new) refused (Creation env.now class regions (map plain_typed actuals.now) place found.old) }
+) -> Result<Expr, Stop>
+    ensures answer { Says result (λ e. gives (Some (plain_node e)) found.new) refused (Creation env.now class regions (map plain_typed actuals) place found.old) }
     ensures nd { OnOk result (IsTrue found.old.reaches_nd → IsTrue found.new.reaches_nd) }
 {
     match env.table().headers().class(class.name) {
@@ -73,30 +75,39 @@ pub fn creation(
     }
 }
 
-/// The type of the creation of an object of a class.
+/// The creation of an object of a class.
 fn creation_of(
     alloc: Global,
     env: &Env,
     found: &mut Found,
     class: u32,
     regions: ReadArgs,
-    actuals: &[Typed],
+    actuals: Items<Typed>,
     place: Place,
-) -> Result<Ty, Stop>
-    ensures answer { Says result (λ ty. gives (Some (plain_type ty)) found.new) refused (CreationOf env.now class regions (map plain_typed actuals.now) place found.old) }
+) -> Result<Expr, Stop>
+    ensures answer { Says result (λ e. gives (Some (plain_node e)) found.new) refused (CreationOf env.now class regions (map plain_typed actuals) place found.old) }
     ensures nd { OnOk result (IsTrue found.old.reaches_nd → IsTrue found.new.reaches_nd) }
 {
     let mut faults = Faults::by_number();
     match fit_args(alloc, &mut faults, regions, class_params(env, class), place)? {
-        Some(args) => creation_with(alloc, env, found, faults, class, args, actuals, place),
+        Some(args) => {
+            let shown = actuals.as_slice();
+            let ty = creation_with(alloc, env, found, faults, class, args, shown, place)?;
+            let actuals = nodes::nodes(alloc, actuals, place)?;
+            Ok(nodes::create(place, ty, actuals))
+        }
         None => {
-            let fit = shapes_fit(env.table().headers(), actuals, formals(env, class));
+            let fit = shapes_fit(
+                env.table().headers(),
+                actuals.as_slice(),
+                formals(env, class),
+            );
             Err(unknown_args(faults, fit, place))
         }
     }
 }
 
-/// The same with region arguments, where faults may be noted already.
+/// The type with region arguments, where faults may be noted already.
 fn creation_with(
     alloc: Global,
     env: &Env,
@@ -107,7 +118,7 @@ fn creation_with(
     actuals: &[Typed],
     place: Place,
 ) -> Result<Ty, Stop>
-    ensures told { Says result (λ ty. None) Some (UseTold env.now faults args (map plain_typed actuals.now) (formals_of (table_of env.now) class) false (all_hold (given_in env.now) args (given_of (table_of env.now) class)) place) }
+    ensures told { Says result (λ ty. None) Some (UseTold env.now faults args (map value_type actuals.now) (formals_of (table_of env.now) class) false (all_hold (given_in env.now) args (given_of (table_of env.now) class)) place) }
     ensures ty { IfOk result (λ ty. plain_type ty ≡ plain.class class args) }
     ensures found { OnOk result (found.new ≡ with_constructor (table_of env.now) found.old (constructor_of (table_of env.now) class) args) }
     ensures nd { OnOk result (IsTrue found.old.reaches_nd → IsTrue found.new.reaches_nd) }

@@ -6,11 +6,12 @@ ghost use Rattle.dpj_exprs.specs.Answer.{gives, refused, Says};
 ghost use Rattle.dpj_exprs.specs.Env.{table_of};
 ghost use Rattle.dpj_exprs.specs.Fields.{plain_field, field_with, field_through, read_field};
 ghost use Rattle.dpj_exprs.specs.Elements.{index_of, element_through, read_element, part_element, element_seen, read_part};
-ghost use Rattle.dpj_exprs.specs.Typed.{plain_typed};
+ghost use Rattle.dpj_exprs.specs.Typed.{plain_typed, value_type};
 
 use crate::env::{Env, LocalRow};
 use crate::fitting::{mentions_partial, refused, rigid_in_partial};
 use crate::found::Found;
+use crate::nodes;
 use crate::typed::Typed;
 use dpj_arrays::{Element, element};
 use dpj_base::{Access, Index, Kind, NoMemory, Place, Plain, Rpl, Stop, Ty};
@@ -23,6 +24,9 @@ use std::alloc::Global;
 /// A field as it is through a receiver.
 #[derive(Drop)]
 pub struct FieldAt {
+    /// The class of the receiver, and the slot of the field in its objects.
+    pub class: u32,
+    pub slot: u32,
     pub ty: Ty,
     pub rpl: Rpl,
     pub may_read: bool,
@@ -45,15 +49,17 @@ pub fn field_at(alloc: Global, env: &Env, of: &Ty, name: u32, place: Place) -> R
     let Some(owned) = owned else {
         return Err(refused(Kind::Type, place));
     };
-    Ok(field_with(alloc, row, owned.as_slice())?)
+    Ok(field_with(alloc, *class, row, owned.as_slice())?)
 }
 
 /// A field with region arguments put in. Where one of them isn't fully specified, the field may not be written if
 /// its type mentions it, nor read if its type is rigid in it.
-fn field_with(alloc: Global, row: &FieldRow, args: &[Rpl]) -> Result<FieldAt, NoMemory>
-    ensures { IfOk result (λ field. plain_field field ≡ field_with row.now args.now) }
+fn field_with(alloc: Global, class: u32, row: &FieldRow, args: &[Rpl]) -> Result<FieldAt, NoMemory>
+    ensures { IfOk result (λ field. plain_field field ≡ field_with class row.now args.now) }
 {
     Ok(FieldAt {
+        class,
+        slot: row.slot,
         ty: subst_type(alloc, &row.ty, args)?,
         rpl: subst(alloc, &row.rpl, args)?,
         may_read: !rigid_in_partial(&row.ty, args),
@@ -61,35 +67,37 @@ fn field_with(alloc: Global, row: &FieldRow, args: &[Rpl]) -> Result<FieldAt, No
     })
 }
 
-/// The type of a field that is read, or of the length of an array.
+/// The read of a field, or the length of an array.
 pub fn read_field(
     alloc: Global,
     env: &Env,
     found: &mut Found,
-    of: &Typed,
+    of: Typed,
     name: u32,
     place: Place,
 ) -> Result<Typed, Stop>
-    ensures answer { Says result (λ typed. gives (plain_typed typed) found.new) refused (λ a. read_field env.now (plain_typed of.now) name place found.old ≡ a) }
+    ensures answer { Says result (λ given. gives (plain_typed given) found.new) refused (λ a. read_field env.now (plain_typed of) name place found.old ≡ a) }
     ensures nd { OnOk result (IsTrue found.old.reaches_nd → IsTrue found.new.reaches_nd) }
 {
     let Typed::Known(of) = of else {
         return Ok(Typed::Any);
     };
-    if matches!(of, Ty::Array { .. }) && env.is_length(name) {
-        return Ok(Typed::Known(Ty::Int));
+    if matches!(of.ty, Ty::Array { .. }) && env.is_length(name) {
+        return Ok(Typed::Known(nodes::length(alloc, place, of)?));
     }
     let FieldAt {
+        class,
+        slot,
         ty,
         rpl,
         may_read,
         ..
-    } = field_at(alloc, env, of, name, place)?;
+    } = field_at(alloc, env, &of.ty, name, place)?;
     if !may_read {
         return Err(refused(Kind::PartialWrite, place));
     }
     found.access(rpl, Access::Read)?;
-    Ok(Typed::Known(ty))
+    Ok(Typed::Known(nodes::field(alloc, place, ty, of, class, slot)?))
 }
 
 /// What an index expression is in the region of an element. None for one that doesn't keep its value.
@@ -103,44 +111,44 @@ fn index_of(env: &Env, index: &Expr) -> Option<Index>
     }
 }
 
-/// The element of an array at an index of which the type is given too. None where the array fits everywhere, and
+/// The element of an array at an index, which is written and gives something. None where the array fits everywhere, and
 /// with it the element.
 pub fn element_at(
     alloc: Global,
     env: &Env,
     array: &Typed,
     index: &Expr,
-    index_ty: &Typed,
+    at: &Typed,
     place: Place,
 ) -> Result<Option<Element>, Stop>
-    ensures answer { Says result (λ element. Ok (option_map plain_element element)) Err (λ a. element_through (plain_typed array.now) (index_of env.now (plain_expr index.now)) (plain_typed index_ty.now) place ≡ a) }
+    ensures answer { Says result (λ element. Ok (option_map plain_element element)) Err (λ a. element_through (value_type array.now) (index_of env.now (plain_expr index.now)) (value_type at.now) place ≡ a) }
 {
-    if !index_ty.is_int() {
+    if !at.is_int() {
         return Err(refused(Kind::Type, place));
     }
     let Typed::Known(array) = array else {
         return Ok(None);
     };
-    match element(alloc, array, index_of(env, index))? {
+    match element(alloc, &array.ty, index_of(env, index))? {
         Some(found) => Ok(Some(found)),
         None => Err(refused(Kind::Type, place)),
     }
 }
 
-/// The type of an element that is read.
+/// The read of an element.
 pub fn read_element(
     alloc: Global,
     env: &Env,
     found: &mut Found,
-    array: &Typed,
+    array: Typed,
     index: &Expr,
-    index_ty: &Typed,
+    at: Typed,
     place: Place,
 ) -> Result<Typed, Stop>
-    ensures answer { Says result (λ typed. gives (plain_typed typed) found.new) refused (λ a. read_element env.now (plain_typed array.now) (plain_expr index.now) (plain_typed index_ty.now) place found.old ≡ a) }
+    ensures answer { Says result (λ given. gives (plain_typed given) found.new) refused (λ a. read_element env.now (plain_typed array) (plain_expr index.now) (plain_typed at) place found.old ≡ a) }
     ensures nd { OnOk result (IsTrue found.old.reaches_nd → IsTrue found.new.reaches_nd) }
 {
-    let Some(element) = element_at(alloc, env, array, index, index_ty, place)? else {
+    let Some(element) = element_at(alloc, env, &array, index, &at, place)? else {
         return Ok(Typed::Any);
     };
     let Element {
@@ -153,7 +161,9 @@ pub fn read_element(
         return Err(refused(Kind::PartialWrite, place));
     }
     found.access(rpl, Access::Read)?;
-    Ok(Typed::Known(ty))
+    let array = array.into_node(place);
+    let at = at.into_node(place);
+    Ok(Typed::Known(nodes::element(alloc, place, ty, array, at)?))
 }
 
 /// An element of an array part, as it is used through the part.
@@ -165,17 +175,17 @@ pub struct PartElement {
     pub rpl: Rpl,
 }
 
-/// The element of a part at an index of which the type is given. None where the part is one of what is no array:
+/// The element of a part at an index, which gives something. None where the part is one of what is no array:
 /// then the element fits everywhere.
 pub fn part_element(
     alloc: Global,
     row: &LocalRow,
-    index_ty: &Typed,
+    at: &Typed,
     place: Place,
 ) -> Result<Option<PartElement>, Stop>
-    ensures { Says result (λ element. Ok (option_map element_seen element)) Err (λ a. part_element row.now (plain_typed index_ty.now) place ≡ a) }
+    ensures { Says result (λ element. Ok (option_map element_seen element)) Err (λ a. part_element row.now (value_type at.now) place ≡ a) }
 {
-    if !index_ty.is_int() {
+    if !at.is_int() {
         return Err(refused(Kind::Type, place));
     }
     match &row.ty {
@@ -188,21 +198,22 @@ pub fn part_element(
     }
 }
 
-/// The type of an element that is read through a part.
+/// The read of an element through a part.
 pub fn read_part(
     alloc: Global,
     found: &mut Found,
     row: &LocalRow,
-    index_ty: &Typed,
+    at: Typed,
     place: Place,
 ) -> Result<Typed, Stop>
-    ensures answer { Says result (λ typed. gives (plain_typed typed) found.new) refused (λ a. read_part row.now (plain_typed index_ty.now) place found.old ≡ a) }
+    ensures answer { Says result (λ given. gives (plain_typed given) found.new) refused (λ a. read_part row.now (plain_typed at) place found.old ≡ a) }
     ensures nd { OnOk result (IsTrue found.old.reaches_nd → IsTrue found.new.reaches_nd) }
 {
-    let Some(element) = part_element(alloc, row, index_ty, place)? else {
+    let Some(element) = part_element(alloc, row, &at, place)? else {
         return Ok(Typed::Any);
     };
     let PartElement { view, ty, rpl } = element;
     found.part_use(view, rpl, Access::Read)?;
-    Ok(Typed::Known(ty))
+    let at = at.into_node(place);
+    Ok(Typed::Known(nodes::part_element(alloc, place, ty, view, at)?))
 }

@@ -24,7 +24,7 @@ pub fn fits(alloc: Global, env: &Env, value: &Typed, declared: &Ty) -> Result<bo
     ensures { IfOk result (λ fit. IsTrue fit ↔ Fits (supers_of env.now) value.now (plain_type declared.now)) }
 {
     match value {
-        Typed::Known(ty) => env.supers.fit(alloc, ty, declared),
+        Typed::Known(value) => env.supers.fit(alloc, &value.ty, declared),
         Typed::Any => Ok(true),
     }
 }

@@ -1,7 +1,7 @@
-//! The types and the effects of expressions.
+//! Expressions of a text as typed expressions, with their effects.
 //!
 //! `expr` reads one expression in an `Env`, which says what is around it: the class, the method, the locals and the
-//! local regions in scope and the constraints in force. It gives the type, and adds the effects to those found so
+//! local regions in scope and the constraints in force. It gives the typed expression, and adds the effects to those found so
 //! far, in the order of evaluation. It refuses the first expression, in post-order, that has a fault. `read_target`
 //! and `write` do the same for what is assigned to, which isn't read.
 //!
@@ -21,6 +21,7 @@ mod fields;
 mod fitting;
 mod found;
 mod laws;
+mod nodes;
 mod operations;
 mod shapes;
 mod supers;
@@ -28,7 +29,7 @@ mod table_ref;
 mod typed;
 mod typing;
 
-pub use assigned::{Target, read_target, write};
+pub use assigned::{Spot, Target, read_target};
 pub use env::{Env, LocalRow, Mark, length_name};
 pub use fitting::{fits, refused};
 pub use found::Found;

@@ -2,15 +2,18 @@ ghost use Rattle.std.specs.Prelude.{◌≡◌, Ok, Err};
 ghost use Rattle.dpj_base.specs.Types.{plain_type};
 ghost use Rattle.dpj_exprs.specs.Answer.{Says};
 ghost use Rattle.dpj_exprs.specs.Operations.{comparable, unary_takes, unary_gives, unary_typed, binary_takes, binary_gives, binary_typed};
-ghost use Rattle.dpj_exprs.specs.Typed.{plain_typed};
+ghost use Rattle.dpj_exprs.specs.Typed.{plain_node, plain_typed, value_type};
 
 use crate::fitting::refused;
+use crate::nodes;
 use crate::typed::Typed;
 use dpj_base::{Kind, Place, Stop, Ty};
 use dpj_tree::{BinaryOp, UnaryOp};
+use dpj_typed::Expr;
+use std::alloc::Global;
 
 fn unary_takes(op: UnaryOp, arg: &Typed) -> bool
-    ensures { result ≡ unary_takes op (plain_typed arg.now) }
+    ensures { result ≡ unary_takes op (value_type arg.now) }
 {
     match op {
         UnaryOp::Neg => arg.is_int(),
@@ -27,20 +30,20 @@ fn unary_gives(op: UnaryOp) -> Ty
     }
 }
 
-/// The type of an operation with one operand.
-pub fn unary(op: UnaryOp, arg: &Typed, place: Place) -> Result<Ty, Stop>
-    ensures { Says result (λ ty. Ok (plain_type ty)) Err (λ r. unary_typed op (plain_typed arg.now) place ≡ r) }
+/// An operation of one operand.
+pub fn unary(alloc: Global, op: UnaryOp, arg: Typed, place: Place) -> Result<Expr, Stop>
+    ensures { Says result (λ e. Ok (plain_node e)) Err (λ r. unary_typed op (plain_typed arg) place ≡ r) }
 {
-    if unary_takes(op, arg) {
-        Ok(unary_gives(op))
-    } else {
-        Err(refused(Kind::Type, place))
+    if !unary_takes(op, &arg) {
+        return Err(refused(Kind::Type, place));
     }
+    let arg = arg.into_node(place);
+    Ok(nodes::unary(alloc, place, unary_gives(op), op, arg)?)
 }
 
 /// Two ints, two booleans, or two values that may be null.
 fn comparable(left: &Typed, right: &Typed) -> bool
-    ensures { result ≡ comparable (plain_typed left.now) (plain_typed right.now) }
+    ensures { result ≡ comparable (value_type left.now) (value_type right.now) }
 {
     left.is_int() && right.is_int()
         || left.is_boolean() && right.is_boolean()
@@ -48,7 +51,7 @@ fn comparable(left: &Typed, right: &Typed) -> bool
 }
 
 fn binary_takes(op: BinaryOp, left: &Typed, right: &Typed) -> bool
-    ensures { result ≡ binary_takes op (plain_typed left.now) (plain_typed right.now) }
+    ensures { result ≡ binary_takes op (value_type left.now) (value_type right.now) }
 {
     match op {
         BinaryOp::Or | BinaryOp::And => left.is_boolean() && right.is_boolean(),
@@ -66,13 +69,20 @@ fn binary_gives(op: BinaryOp) -> Ty
     }
 }
 
-/// The type of an operation with two operands.
-pub fn binary(op: BinaryOp, left: &Typed, right: &Typed, place: Place) -> Result<Ty, Stop>
-    ensures { Says result (λ ty. Ok (plain_type ty)) Err (λ r. binary_typed op (plain_typed left.now) (plain_typed right.now) place ≡ r) }
+/// An operation of two operands.
+pub fn binary(
+    alloc: Global,
+    op: BinaryOp,
+    left: Typed,
+    right: Typed,
+    place: Place,
+) -> Result<Expr, Stop>
+    ensures { Says result (λ e. Ok (plain_node e)) Err (λ r. binary_typed op (plain_typed left) (plain_typed right) place ≡ r) }
 {
-    if binary_takes(op, left, right) {
-        Ok(binary_gives(op))
-    } else {
-        Err(refused(Kind::Type, place))
+    if !binary_takes(op, &left, &right) {
+        return Err(refused(Kind::Type, place));
     }
+    let left = left.into_node(place);
+    let right = right.into_node(place);
+    Ok(nodes::binary(alloc, place, binary_gives(op), op, left, right)?)
 }

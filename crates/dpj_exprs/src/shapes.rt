@@ -1,7 +1,7 @@
 ghost use Rattle.std.specs.Prelude.{◌≡◌, map};
 ghost use Rattle.dpj_base.specs.Types.{plain_type};
 ghost use Rattle.dpj_exprs.specs.Shapes.{may_equal, may_be_subtype, may_fit, shapes_fit};
-ghost use Rattle.dpj_exprs.specs.Typed.{plain_typed};
+ghost use Rattle.dpj_exprs.specs.Typed.{value_type};
 
 use crate::typed::Typed;
 use dpj_base::Ty;
@@ -10,7 +10,7 @@ use dpj_headers::Headers;
 /// Whether there are as many values as declared types, and each may stand where the one at its place is declared, for
 /// some regions.
 pub fn shapes_fit(headers: &Headers, actuals: &[Typed], declared: &[Ty]) -> bool
-    ensures { result ≡ shapes_fit headers.now (map plain_typed actuals.now) declared.now }
+    ensures { result ≡ shapes_fit headers.now (map value_type actuals.now) declared.now }
 {
     if actuals.len() != declared.len() {
         return false;
@@ -25,10 +25,10 @@ pub fn shapes_fit(headers: &Headers, actuals: &[Typed], declared: &[Ty]) -> bool
 
 /// Whether a value may stand where the type is declared, for some regions.
 fn may_fit(headers: &Headers, value: &Typed, declared: &Ty) -> bool
-    ensures { result ≡ may_fit headers.now (plain_typed value.now) (plain_type declared.now) }
+    ensures { result ≡ may_fit headers.now (value_type value.now) (plain_type declared.now) }
 {
     match value {
-        Typed::Known(ty) => may_be_subtype(headers, ty, declared),
+        Typed::Known(value) => may_be_subtype(headers, &value.ty, declared),
         Typed::Any => true,
     }
 }

@@ -1,37 +1,29 @@
-use dpj_base::Ty;
+use dpj_base::{Place, Ty};
+use dpj_typed::{Expr, ExprForm};
 
-/// What is known of the type of an expression.
-#[derive(Debug, Drop)]
+/// What an expression of the text gives.
+#[derive(Drop)]
 pub enum Typed {
-    Known(Ty),
-    /// It comes from a part of what is no array. That is told at the construct, so that here it fits everywhere.
+    /// The typed expression.
+    Known(Expr),
+    /// It comes from a part of what is no array. That is reported at the construct, so that here it fits everywhere.
     Any,
 }
 
 impl Typed {
     ghost use Rattle.std.specs.Prelude.{◌≡◌};
-    ghost use Rattle.std.specs.Option.{option_copied};
-    ghost use Rattle.dpj_exprs.specs.Typed.{known, passes, is_int, is_boolean, is_reference, is_value};
-
-    pub fn known(&self) -> Option<&Ty>
-        ensures { option_copied result ≡ known self.now }
-    {
-        match self {
-            Typed::Known(ty) => Some(ty),
-            Typed::Any => None,
-        }
-    }
+    ghost use Rattle.dpj_exprs.specs.Typed.{plain_node, plain_typed, node_at, passes, is_int, is_boolean, is_reference, is_value};
 
     pub fn is_int(&self) -> bool
         ensures { result ≡ passes is_int self.now }
     {
-        matches!(self, Typed::Known(Ty::Int) | Typed::Any)
+        matches!(self, Typed::Known(Expr { ty: Ty::Int, .. }) | Typed::Any)
     }
 
     pub fn is_boolean(&self) -> bool
         ensures { result ≡ passes is_boolean self.now }
     {
-        matches!(self, Typed::Known(Ty::Bool) | Typed::Any)
+        matches!(self, Typed::Known(Expr { ty: Ty::Bool, .. }) | Typed::Any)
     }
 
     /// Whether it may be null.
@@ -39,7 +31,9 @@ impl Typed {
         ensures { result ≡ passes is_reference self.now }
     {
         match self {
-            Typed::Known(ty) => matches!(ty, Ty::Null | Ty::Class { .. } | Ty::Array { .. }),
+            Typed::Known(expr) => {
+                matches!(expr.ty, Ty::Null | Ty::Class { .. } | Ty::Array { .. })
+            }
             Typed::Any => true,
         }
     }
@@ -48,6 +42,20 @@ impl Typed {
     pub fn is_value(&self) -> bool
         ensures { result ≡ passes is_value self.now }
     {
-        !matches!(self, Typed::Known(Ty::Void))
+        !matches!(self, Typed::Known(Expr { ty: Ty::Void, .. }))
+    }
+
+    /// The typed expression. For one that fits everywhere, in a program that is refused, `null` stands at the place.
+    pub fn into_node(self, place: Place) -> Expr
+        ensures { plain_node result ≡ node_at place (plain_typed self) }
+    {
+        match self {
+            Typed::Known(expr) => expr,
+            Typed::Any => Expr {
+                place,
+                ty: Ty::Null,
+                form: ExprForm::Null,
+            },
+        }
     }
 }

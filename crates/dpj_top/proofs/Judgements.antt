@@ -1,10 +1,13 @@
 -- One verdict of a program, over what is unique of its parts.
-use Rattle.std.proofs.Common.{◌≡◌, subst}
+use Rattle.std.proofs.Common.{◌≡◌, List, Ok, Err, ap, sym, ◌∙◌, subst}
 use Rattle.dpj_base.specs.declared.refusal.Refusal.{Refusal}
 use Rattle.dpj_tree.specs.declared.class.Program.{Program}
 use Rattle.dpj_classes.specs.declared.table.Table.{Table}
 use Rattle.dpj_classes.specs.Once.{OneTable, OneFault}
-use Rattle.dpj_check.specs.Methods.{BodiesChecking, accepted, rejected}
+use Rattle.dpj_tree.specs.Nd.{program_uses_nd}
+use Rattle.dpj_typed.specs.Plain.{PlainProgram}
+use Rattle.dpj_assembly.specs.Assembled.{PlainBody, program_of}
+use Rattle.dpj_check.specs.Methods.{BodiesChecking}
 use Rattle.dpj_check.specs.Once.{OneChecking}
 use Rattle.dpj_top.specs.Judging.{HasTable, IsAccepted, IsFaulty, of_table, of_bodies}
 
@@ -16,12 +19,26 @@ fault-unique tables faults checks program first second (of_bodies table has chec
     absurd (faults.none program table second has.named has.is_table has.whole told)
 fault-unique tables faults checks program first second (of_bodies table has checked) (of_bodies table' has' checked') =
     let same : table' ≡ table = tables program table' table has'.is_table has.is_table in
-    let verdicts = checks program table (rejected first) (rejected second) checked (subst (λ t. BodiesChecking program t (rejected second)) same checked') in
+    let verdicts = checks program table (Err first) (Err second) checked (subst (λ t. BodiesChecking program t (Err second)) same checked') in
     cc verdicts
 
-pub accepted-alone : OneTable → OneFault → OneChecking → (program : Program) (refusal : Refusal) → IsAccepted program → IsFaulty program refusal → ⊥
-accepted-alone tables faults checks program refusal a (of_table told) = faults.none program a.table refusal a.has_table.named a.has_table.is_table a.has_table.whole told
-accepted-alone tables faults checks program refusal a (of_bodies table has checked) =
+pub accepted-alone : OneTable → OneFault → OneChecking → (program : Program) (typed : PlainProgram) (refusal : Refusal) → IsAccepted program typed → IsFaulty program refusal → ⊥
+accepted-alone tables faults checks program typed refusal a (of_table told) = faults.none program a.table refusal a.has_table.named a.has_table.is_table a.has_table.whole told
+accepted-alone tables faults checks program typed refusal a (of_bodies table has checked) =
     let same : table ≡ a.table = tables program table a.table has.is_table a.has_table.is_table in
-    let verdicts = checks program a.table (accepted a.blocks) (rejected refusal) a.bodies (subst (λ t. BodiesChecking program t (rejected refusal)) same checked) in
+    let verdicts = checks program a.table (Ok a.bodies) (Err refusal) a.checked (subst (λ t. BodiesChecking program t (Err refusal)) same checked) in
     absurd (cc verdicts)
+
+-- two tables and the bodies over them make one typed program
+typed-once : OneTable → OneChecking → (program : Program) (left right : Table) (bodies others : List PlainBody) → HasTable program left → HasTable program right
+    → BodiesChecking program left (Ok bodies) → BodiesChecking program right (Ok others)
+    → program_of left program.names (program_uses_nd program) bodies ≡ program_of right program.names (program_uses_nd program) others
+typed-once tables checks program left right bodies others has has' checked checked' =
+    let same : right ≡ left = tables program right left has'.is_table has.is_table in
+    let verdicts = checks program left (Ok bodies) (Ok others) checked (subst (λ t. BodiesChecking program t (Ok others)) same checked') in
+    let alike : bodies ≡ others = cc in
+    ap (λ t. program_of t program.names (program_uses_nd program) bodies) (sym same) ∙ ap (λ b. program_of right program.names (program_uses_nd program) b) alike
+
+pub program-unique : OneTable → OneChecking → (program : Program) (first second : PlainProgram) → IsAccepted program first → IsAccepted program second → first ≡ second
+program-unique tables checks program first second a b =
+    a.typed_so ∙ typed-once tables checks program a.table b.table a.bodies b.bodies a.has_table b.has_table a.checked b.checked ∙ sym b.typed_so

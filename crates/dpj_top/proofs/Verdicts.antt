@@ -4,7 +4,7 @@ use Rattle.dpj_base.specs.declared.memory.NoMemory.{NoMemory}
 use Rattle.dpj_base.specs.declared.outcome.Ending.{Ending}
 use Rattle.dpj_base.specs.declared.outcome.Ending.TheVariants.{Done, Trapped, Limited}
 use Rattle.dpj_base.specs.declared.place.Place.{Place}
-use Rattle.dpj_base.specs.declared.refusal.Kind.TheVariants.{Form, TooLong}
+use Rattle.dpj_base.specs.declared.refusal.Kind.TheVariants.{TooLong}
 use Rattle.dpj_base.specs.declared.refusal.Refusal.{Refusal}
 use Rattle.dpj_first.specs.declared.program.First.{First}
 use Rattle.dpj_first.specs.Form.{IsFirstForm}
@@ -14,9 +14,10 @@ use Rattle.dpj_words.specs.declared.verdict.Verdict.{Verdict}
 use Rattle.dpj_words.specs.declared.verdict.Verdict.TheVariants.{Usage, Refused, Accepted}
 use Rattle.dpj_words.specs.Jobs.{job}
 use Rattle.dpj_words.specs.Reports.{status_of, ending_status}
+use Rattle.dpj_typed.specs.Plain.{PlainProgram}
 use Rattle.dpj_tokens.specs.declared.token.Token.{Token}
 use Rattle.dpj_tokens.specs.Cutting.{Cuts, OneCutting}
-use Rattle.dpj_top.specs.Answer.{IsAnswer, too_long, of_first_form, faulty, of_other_form, IsDecided, is_long, is_first, has_no_tokens, IsOther, IsFault, asks_run, first_verdict, refused_at_start, max_text}
+use Rattle.dpj_top.specs.Answer.{IsAnswer, too_long, of_first_form, faulty, of_program, IsDecided, is_long, is_first, has_no_tokens, IsOther, IsLeft, IsFault, IsRun, ran, halted, IsListing, IsVerdictOn, to_run, to_list, to_check, asks_run, asks_list, first_verdict, refused_at_start, max_text}
 use Rattle.dpj_top.specs.Call.{IsVerdict}
 
 ending_status-no-usage : (ending : Ending) → ending_status ending ≡ ended.Usage → ⊥
@@ -29,14 +30,22 @@ asks-no-usage : (asked : Bool) (ran other : Verdict) → (status_of ran ≡ ende
 asks-no-usage true ran other r o = r
 asks-no-usage false ran other r o = o
 
+run-no-usage : (job : Job) (place : Place) (typed : PlainProgram) (verdict : Verdict) → IsRun job place typed verdict → status_of verdict ≡ ended.Usage → ⊥
+run-no-usage job place typed verdict (ran outcome comes) e = ending_status-no-usage outcome.ending e
+run-no-usage job place typed verdict (halted comes) e = cc
+
+program-no-usage : (job : Job) (place : Place) (typed : PlainProgram) (verdict : Verdict) → IsVerdictOn job place typed verdict → status_of verdict ≡ ended.Usage → ⊥
+program-no-usage job place typed verdict (to_run verdict asked is) e = run-no-usage job place typed verdict is e
+program-no-usage job place typed verdict (to_list verdict asked is) e = let lists = is.lists in cc
+program-no-usage job place typed verdict (to_check no_run no_list) e = cc
+
 -- the answer to a job isn't told as usage
 pub answer-no-usage : (job : Job) (text : List ℕ) (verdict : Verdict) → IsAnswer job text verdict → status_of verdict ≡ ended.Usage → ⊥
 answer-no-usage job text verdict (too_long long) e = cc
-answer-no-usage job text verdict (of_first_form program short form) e =
+answer-no-usage job text verdict (of_first_form program no_list short form) e =
     asks-no-usage (asks_run job.command) _ Accepted (ending_status-no-usage _) (λ h. cc) e
-answer-no-usage job text verdict (faulty refusal short other fault) e = cc
-answer-no-usage job text verdict (of_other_form place short other accepted) e =
-    asks-no-usage (asks_run job.command) (Refused (record { kind = Form; place = place })) Accepted (λ h. cc) (λ h. cc) e
+answer-no-usage job text verdict (faulty refusal short left fault) e = cc
+answer-no-usage job text verdict (of_program place typed verdict short left passed is) e = program-no-usage job place typed verdict is e
 
 -- where more was left than a text may have, the verdict is that
 pub verdict-too-long : (words : List (List ℕ)) (text : Option (List ℕ)) (given : Job) (verdict : Verdict)
@@ -49,46 +58,53 @@ verdict-too-long words (Some bytes) given verdict is_job is_refused long =
     (subst (λ told. IsAnswer given bytes told) (sym is_refused) (too_long long))
 
 -- a verdict on a program of the first form is an answer
-pub first-answer : (asked : Job) (text : List ℕ) (program : First) (result : Result Verdict NoMemory) → length text ≤ max_text → IsFirstForm text program
-    → IfOk result (λ verdict. verdict ≡ first_verdict asked program) → IfOk result (IsAnswer asked text)
-first-answer asked text program (Ok verdict) short form is =
-    let P : Verdict → Type 0 = λ told. IsAnswer asked text told in subst P (sym is) (of_first_form program short form)
-first-answer asked text program (Err none) short form is = tt
+pub first-answer : (asked : Job) (text : List ℕ) (program : First) (result : Result Verdict NoMemory) → asks_list asked.command ≡ false → length text ≤ max_text
+    → IsFirstForm text program → IfOk result (λ verdict. verdict ≡ first_verdict asked program) → IfOk result (IsAnswer asked text)
+first-answer asked text program (Ok verdict) no_list short form is =
+    let P : Verdict → Type 0 = λ told. IsAnswer asked text told in subst P (sym is) (of_first_form program no_list short form)
+first-answer asked text program (Err none) no_list short form is = tt
 
--- a decided text that isn't too long and isn't of the first form isn't cut into tokens
-uncut : OneCutting → (text : List ℕ) (tokens : List Token) (end : Place) → IsDecided text → length text ≤ max_text → IsOther text → Cuts text tokens end → ⊥
-uncut cutting text tokens end (is_long h) short other cut = omega (arith, h, short)
-uncut cutting text tokens end (is_first program h form) short other cut = other program form
-uncut cutting text tokens end (has_no_tokens refusal h fault) short other cut = cutting.either text tokens end refusal cut fault
+-- a program of the first form leaves nothing to the tokens, unless it is to be listed
+unleft : (job : Job) (text : List ℕ) (program : First) → asks_list job.command ≡ false → IsFirstForm text program → IsLeft job text → ⊥
+unleft job text program no_list form (inl list) = absurd (cc)
+unleft job text program no_list form (inr other) = other program form
+
+-- a decided text that isn't too long and is left to its tokens isn't cut into tokens
+uncut : OneCutting → (job : Job) (text : List ℕ) (tokens : List Token) (end : Place) → IsDecided job text → length text ≤ max_text → IsLeft job text → Cuts text tokens end → ⊥
+uncut cutting job text tokens end (is_long h) short left cut = omega (arith, h, short)
+uncut cutting job text tokens end (is_first program no_list h form) short left cut = unleft job text program no_list form left
+uncut cutting job text tokens end (has_no_tokens refusal h fault) short left cut = cutting.either text tokens end refusal cut fault
 
 -- and it has one first fault
-fault-unique : OneCutting → (text : List ℕ) (left right : Refusal) → IsDecided text → length text ≤ max_text → IsOther text
-    → IsFault text left → IsFault text right → left ≡ right
-fault-unique cutting text left right decided short other (inl fault) (inl fault') = cutting.faults text left right fault fault'
-fault-unique cutting text left right decided short other (inl fault) (inr later) = absurd (uncut cutting text _ _ decided short other later.cut)
-fault-unique cutting text left right decided short other (inr later) fault = absurd (uncut cutting text _ _ decided short other later.cut)
+fault-unique : OneCutting → (job : Job) (text : List ℕ) (first second : Refusal) → IsDecided job text → length text ≤ max_text → IsLeft job text
+    → IsFault text first → IsFault text second → first ≡ second
+fault-unique cutting job text first second decided short left (inl fault) (inl fault') = cutting.faults text first second fault fault'
+fault-unique cutting job text first second decided short left (inl fault) (inr later) = absurd (uncut cutting job text _ _ decided short left later.cut)
+fault-unique cutting job text first second decided short left (inr later) fault = absurd (uncut cutting job text _ _ decided short left later.cut)
 
 -- where a text spells at most one program and is cut in one way, there is one answer at most
 pub answer-unique : ((text : List ℕ) (left right : First) → IsFirstForm text left → IsFirstForm text right → left ≡ right) → OneCutting
-    → (job : Job) (text : List ℕ) (first second : Verdict) → IsDecided text → IsAnswer job text first → IsAnswer job text second → first ≡ second
+    → (job : Job) (text : List ℕ) (first second : Verdict) → IsDecided job text → IsAnswer job text first → IsAnswer job text second → first ≡ second
 answer-unique unique cutting job text first second decided (too_long long) (too_long long') = refl
-answer-unique unique cutting job text first second decided (too_long long) (of_first_form program short form) = absurd (omega (arith, long, short))
-answer-unique unique cutting job text first second decided (too_long long) (faulty refusal short other fault) = absurd (omega (arith, long, short))
-answer-unique unique cutting job text first second decided (too_long long) (of_other_form place short other accepted) = absurd (omega (arith, long, short))
-answer-unique unique cutting job text first second decided (of_first_form program short form) (too_long long) = absurd (omega (arith, long, short))
-answer-unique unique cutting job text first second decided (of_first_form left short form) (of_first_form right short' form') =
-    ap (first_verdict job) (unique text left right form form')
-answer-unique unique cutting job text first second decided (of_first_form program short form) (faulty refusal short' other fault) = absurd (other program form)
-answer-unique unique cutting job text first second decided (of_first_form program short form) (of_other_form place short' other accepted) = absurd (other program form)
-answer-unique unique cutting job text first second decided (faulty refusal short other fault) (too_long long) = absurd (omega (arith, long, short))
-answer-unique unique cutting job text first second decided (faulty refusal short other fault) (of_first_form program short' form) = absurd (other program form)
-answer-unique unique cutting job text first second decided (faulty left short other fault) (faulty right short' other' fault') =
-    ap Refused (fault-unique cutting text left right decided short other fault fault')
-answer-unique unique cutting job text first second decided (faulty refusal short other fault) (of_other_form place short' other' accepted) =
-    absurd (uncut cutting text _ _ decided short other accepted.cut)
-answer-unique unique cutting job text first second decided (of_other_form place short other accepted) (too_long long) = absurd (omega (arith, long, short))
-answer-unique unique cutting job text first second decided (of_other_form place short other accepted) (of_first_form program short' form) = absurd (other program form)
-answer-unique unique cutting job text first second decided (of_other_form place short other accepted) (faulty refusal short' other' fault) =
-    absurd (uncut cutting text _ _ decided short other accepted.cut)
-answer-unique unique cutting job text first second decided (of_other_form left short other accepted) (of_other_form right short' other' accepted') =
-    absurd (uncut cutting text _ _ decided short other accepted.cut)
+answer-unique unique cutting job text first second decided (too_long long) (of_first_form program no_list short form) = absurd (omega (arith, long, short))
+answer-unique unique cutting job text first second decided (too_long long) (faulty refusal short left fault) = absurd (omega (arith, long, short))
+answer-unique unique cutting job text first second decided (too_long long) (of_program place typed verdict short left passed is) = absurd (omega (arith, long, short))
+answer-unique unique cutting job text first second decided (of_first_form program no_list short form) (too_long long) = absurd (omega (arith, long, short))
+answer-unique unique cutting job text first second decided (of_first_form one no_list short form) (of_first_form other no_list' short' form') =
+    ap (first_verdict job) (unique text one other form form')
+answer-unique unique cutting job text first second decided (of_first_form program no_list short form) (faulty refusal short' left fault) = absurd (unleft job text program no_list form left)
+answer-unique unique cutting job text first second decided (of_first_form program no_list short form) (of_program place typed verdict short' left passed is) =
+    absurd (unleft job text program no_list form left)
+answer-unique unique cutting job text first second decided (faulty refusal short left fault) (too_long long) = absurd (omega (arith, long, short))
+answer-unique unique cutting job text first second decided (faulty refusal short left fault) (of_first_form program no_list short' form) = absurd (unleft job text program no_list form left)
+answer-unique unique cutting job text first second decided (faulty one short left fault) (faulty other short' left' fault') =
+    ap Refused (fault-unique cutting job text one other decided short left fault fault')
+answer-unique unique cutting job text first second decided (faulty refusal short left fault) (of_program place typed verdict short' left' passed is) =
+    absurd (uncut cutting job text _ _ decided short left passed.cut)
+answer-unique unique cutting job text first second decided (of_program place typed verdict short left passed is) (too_long long) = absurd (omega (arith, long, short))
+answer-unique unique cutting job text first second decided (of_program place typed verdict short left passed is) (of_first_form program no_list short' form) =
+    absurd (unleft job text program no_list form left)
+answer-unique unique cutting job text first second decided (of_program place typed verdict short left passed is) (faulty refusal short' left' fault) =
+    absurd (uncut cutting job text _ _ decided short left passed.cut)
+answer-unique unique cutting job text first second decided (of_program place typed verdict short left passed is) (of_program place' typed' verdict' short' left' passed' is') =
+    absurd (uncut cutting job text _ _ decided short left passed.cut)

@@ -1,7 +1,6 @@
--- What becomes of a program behind its grammar: it is accepted, or refused for the first fault of its class table or of
--- its bodies.
-use Rattle.std.specs.Prelude.{◌≡◌, List, None}
-use Rattle.dpj_base.specs.declared.effect.Effect.{Effect}
+-- What becomes of a program behind its grammar: it is accepted as a typed program, or refused for the first fault of its class
+-- table or of its bodies.
+use Rattle.std.specs.Prelude.{◌≡◌, List, None, Ok, Err}
 use Rattle.dpj_base.specs.declared.refusal.Refusal.{Refusal}
 use Rattle.dpj_base.specs.Types.{Ordered}
 use Rattle.dpj_tree.specs.declared.class.Program.{Program}
@@ -9,7 +8,12 @@ use Rattle.dpj_classes.specs.declared.table.Table.{Table}
 use Rattle.dpj_classes.specs.Build.{AreWellNamed, IsTable, IsTold, first_of, table_faults}
 use Rattle.dpj_classes.specs.Table.{supers_of}
 use Rattle.dpj_check.specs.Keeping.{ProgramKeeps}
-use Rattle.dpj_check.specs.Methods.{BodiesChecking, accepted, rejected}
+use Rattle.dpj_gen.specs.Resolved.{Resolved}
+use Rattle.dpj_going.specs.Going.{HasMain}
+use Rattle.dpj_tree.specs.Nd.{program_uses_nd}
+use Rattle.dpj_typed.specs.Plain.{PlainProgram}
+use Rattle.dpj_assembly.specs.Assembled.{PlainBody, program_of}
+use Rattle.dpj_check.specs.Methods.{BodiesChecking}
 
 -- nothing is wrong with names and signatures, of which this is the table, nor with the table as a whole; its
 -- superclasses stand in the order of classes
@@ -19,21 +23,27 @@ pub record HasTable (program : Program) (table : Table) : Type 0 where
   pub ordered : Ordered (supers_of table)
   pub whole : first_of (table_faults table program.names) ≡ None
 
--- the program has a class table, and all its bodies pass the rules of the language, with these effects of its atomic
--- blocks; and they keep to the rules that need no types
-pub record IsAccepted (program : Program) : Type 0 where
+-- the program has a class table, all its bodies pass the rules of the language, and this is the typed program that the table
+-- and the typed bodies make; and its bodies keep to the rules that need no types
+pub record IsAccepted (program : Program) (typed : PlainProgram) : Type 0 where
   pub table : Table
   pub has_table : HasTable program table
-  pub blocks : List (List Effect)
-  pub bodies : BodiesChecking program table (accepted blocks)
+  pub bodies : List PlainBody
+  pub checked : BodiesChecking program table (Ok bodies)
+  pub typed_so : typed ≡ program_of table program.names (program_uses_nd program) bodies
   pub keeps : ProgramKeeps program
 
 -- the first fault of its class table, or where it has one, of its bodies
 pub data IsFaulty (program : Program) (refusal : Refusal) : Type 0 where
   of_table : IsTold program refusal → IsFaulty program refusal
-  of_bodies : (table : Table) → HasTable program table → BodiesChecking program table (rejected refusal) → IsFaulty program refusal
+  of_bodies : (table : Table) → HasTable program table → BodiesChecking program table (Err refusal) → IsFaulty program refusal
 
--- a program has one verdict at most: it is accepted, or it has one fault
+-- what a run asks of a typed program
+abbrev pub CanRun : PlainProgram → Type 0
+CanRun P = Resolved P × HasMain P
+
+-- a program has one verdict at most: it is accepted as one typed program, or it has one fault
 pub record OneJudgement : Type 0 where
   pub one_fault : (program : Program) (first second : Refusal) → IsFaulty program first → IsFaulty program second → first ≡ second
-  pub not_both : (program : Program) (refusal : Refusal) → IsAccepted program → IsFaulty program refusal → ⊥
+  pub one_program : (program : Program) (first second : PlainProgram) → IsAccepted program first → IsAccepted program second → first ≡ second
+  pub not_both : (program : Program) (typed : PlainProgram) (refusal : Refusal) → IsAccepted program typed → IsFaulty program refusal → ⊥

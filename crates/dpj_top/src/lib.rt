@@ -8,6 +8,7 @@
 
 mod answers;
 mod call;
+mod front;
 mod laws;
 
 pub use answers::{MAX_TEXT, answer};

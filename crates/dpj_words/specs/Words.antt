@@ -55,8 +55,8 @@ keys_of command.Effects = []
 abbrev pub is_carried_out : Command → Bool
 is_carried_out command.Check = true
 is_carried_out command.Run = true
-is_carried_out command.Elide = false
-is_carried_out command.«List» = false
+is_carried_out command.Elide = true
+is_carried_out command.«List» = true
 is_carried_out command.Demo = false
 is_carried_out command.Trace = false
 is_carried_out command.Replay = false

@@ -80,6 +80,9 @@ impl Command {
     pub const fn is_carried_out(self) -> bool
         ensures { result ≡ is_carried_out self }
     {
-        matches!(self, Command::Check | Command::Run)
+        matches!(
+            self,
+            Command::Check | Command::Run | Command::Elide | Command::List
+        )
     }
 }

@@ -1,56 +1,63 @@
-use Rattle.std.proofs.Common.{◌≡◌, ◌∙◌, ◌+◌, ◌&&◌, ◌||◌, true, false, not, map, refl, sym, ap, subst}
+use Rattle.std.proofs.Common.{◌≡◌, ◌∙◌, ◌+◌, ◌&&◌, ◌||◌, true, false, not, map, option_map, Some, None, refl, sym, ap, subst}
 use Rattle.std.proofs.lemmas.List.{drop_all}
 use Rattle.std.specs.Option.{option_copied}
 use Rattle.dpj_tree.specs.Nd.{holds_nd, some_holds_nd}
 use Rattle.dpj_tree.specs.Plain.{plain_expr, plain_stmt, plain_stmts, return_form}
 use Rattle.dpj_tree.specs.Plain.{StmtForm as form}
 use Rattle.dpj_tree.specs.declared.stmt.StmtKind.TheVariants as tree
+use Rattle.dpj_typed.specs.Plain.{TypedBranch, statement, choice_form, plain_source}
+use Rattle.dpj_typed.specs.Plain.{StmtForm as made}
+use Rattle.dpj_typed.specs.Plain.{plain_stmt as typed_stmt}
 use Rattle.dpj_exprs.specs.Answer.{refused}
-use Rattle.dpj_exprs.specs.Typed.{plain_typed}
+use Rattle.dpj_exprs.specs.Typed.{plain_node, plain_typed}
 use Rattle.dpj_exprs.specs.Typing.{Typing}
-use Rattle.dpj_check.specs.Checking.{form_of, Checking, Standing, InScope, in_scope, InBlock, InOrder, Forking, Iterating, Parting, all_pass, Branching, ClashIs}
+use Rattle.dpj_check.specs.Checking.{form_of, plain_branch, Checking, Standing, InScope, in_scope, InBlock, InOrder, Forking, Iterating, Parting, all_pass, Branching, ClashIs}
 use Rattle.dpj_check.specs.Checking.{Checking as rule}
+use Rattle.dpj_check.specs.Checking.{Choosing as choosing}
 use Rattle.dpj_check.specs.Keeping.{inside}
 use Rattle.dpj_check.specs.Noting.{fault_of}
-use Rattle.dpj_check.specs.Walks.{walk_of, passes, judged}
+use Rattle.dpj_check.specs.Simple.{node_of}
+use Rattle.dpj_check.specs.Walks.{walk_of, passes}
 use Rattle.dpj_check.specs.Walks.{Verdict as verdict}
 use Rattle.dpj_check.proofs.Atomics.{atomic_refused, atomic_told, atomic_passes}
-use Rattle.dpj_check.proofs.Forks.{Branch, BranchesMet, fork_more, fork_all, fork_stopped, fork_told, fork_ends, clash_is}
+use Rattle.dpj_check.proofs.Forks.{Branch, BranchesMet, branch_made, fork_more, fork_all, fork_stopped, fork_told, fork_ends, fork_passes, clash_is}
 use Rattle.dpj_check.proofs.Homes.{home_params, piece_begun}
 use Rattle.dpj_check.proofs.Iterations.{iteration_in, iteration_stopped, iteration_told, iterations_told, iterations_pass, second_noted, Iterated, IterationsMet}
-use Rattle.dpj_check.proofs.Orders.{next_refused, next_passes, none_after, and_then_so, and_else_so, complete_step, keep_step, fork_keeps}
+use Rattle.dpj_check.proofs.Nodes.{node_made}
+use Rattle.dpj_check.proofs.Orders.{map_pushed, order_none, order_refused, order_more, order_all, and_then_so, and_else_so, complete_step, keep_step, fork_keeps}
 use Rattle.dpj_check.proofs.Parting.{range_stopped, part_stopped, Part, part_told, PartsMet, parts_told, parts_pass}
-use Rattle.dpj_check.proofs.Passing.{says_all, settled_says, stopped, settle_stopped}
+use Rattle.dpj_check.proofs.Passing.{says_all, stopped, settle_stopped}
 use Rattle.dpj_check.proofs.Reaching.{begun_nd, taken_nd, iterations_nd, parts_nd, fork_nd, nd_step, or_then, or_else, reaching, reached_is}
 use Rattle.dpj_check.proofs.Stands.{as_form, as_statement, at_Cobegin, at_Return}
-use Rattle.dpj_check.proofs.Walking.{block_stops, block_closes, scope_passes, block_stands, then_told, then_none, test_stops, first_stops, choice_stands, either_stands, noted_told, construct_stands, while_test_stops, while_so, start_stops, count_stops, foreach_so, parts_so, walk_same}
+use Rattle.dpj_check.proofs.Walking.{block_stops, block_closes, scope_passes, block_stands, then_told, then_made, choice_stands, either_so, neither_so, first_stops, FirstMet, construct_stands, while_test_stops, while_so, start_stops, count_stops, foreach_so, parts_so}
 use Rattle.dpj_check.proofs.+statements.Goals as goal
-use Rattle.dpj_check.proofs.+statements.Goals.{statements::statement-in-Some+in_ok-second-in-Some, statements::statement-in-None, statements::statements-then-completes, statements::statements-else-completes, constructs::foreach-then-inner, constructs::foreach-else-inner, constructs::cobegin-then-out, constructs::cobegin-else-out}
+use Rattle.dpj_check.proofs.+statements.Goals.{statements::statements-then-completes, statements::statements-else-completes, constructs::foreach-then-inner, constructs::foreach-else-inner, constructs::cobegin-then-out, constructs::cobegin-else-out}
 
-pub statements::block-returns-in_err-completes-clause-checks :
-    goal.statements::block-returns-in_err-completes-clause-checks
-statements::block-returns-in_err-completes-clause-checks t c =
+pub statements::block-returns-in_err-done-clause-checks :
+    goal.statements::block-returns-in_err-done-clause-checks
+statements::block-returns-in_err-done-clause-checks t c =
     stopped (λ q. InOrder c.args.body.now.atomic_params c.args.around true (plain_stmts (map plain_stmt c.args.stmts.now))
     (walk_of c.args.body.now c.new-inner.result) (verdict.refused q))
     (InBlock c.args.body.now.atomic_params c.args.around (plain_stmts (map plain_stmt c.args.stmts.now)) (walk_of c.args.body.now c.args.out.now))
-    c.from_residual.result _ c.in_err-completes.field-0.0 c.from_residual.ensures.1
+    c.from_residual.result _ c.in_err-done.field-0.0 c.from_residual.ensures.1
     (λ q d. block_stops c.args.body.now.atomic_params c.args.around (plain_stmts (map plain_stmt c.args.stmts.now)) c.args.body.now c.args.out.now
     c.new-inner.result q c.new-inner.ensures d)
-    c.in_err-completes.ensures.checks
+    c.in_err-done.ensures.checks
 
 pub statements::block-returns-clause-checks : goal.statements::block-returns-clause-checks
 statements::block-returns-clause-checks t c =
     block_closes c.args.body.now.atomic_params c.args.around (plain_stmts (map plain_stmt c.args.stmts.now)) c.args.body.now c.statements.new.body
     c.args.out.now c.new-inner.result
-    c.statements.new.out c.take_in.new.out c.leave.new.self c.mark-scope.result c.from_here-leaving.result c.new-inner.ensures
-    c.in_ok-completes.ensures.checks c.mark-scope.ensures c.leave.ensures.whole c.from_here-leaving.ensures c.in_ok-take_in.ensures
+    c.statements.new.out c.take_in.new.out c.leave.new.self c.mark-scope.result c.from_here-leaving.result (map typed_stmt c.in_ok-done.done.stmts)
+    c.new-inner.ensures
+    c.in_ok-done.ensures.checks c.mark-scope.ensures c.leave.ensures.whole c.from_here-leaving.ensures c.in_ok-take_in.ensures
 
 pub statements::construct-returns-in-Cobegin-clause-checks : goal.statements::construct-returns-in-Cobegin-clause-checks
 statements::construct-returns-in-Cobegin-clause-checks t c =
     says_all (Forking c.args.body.now.atomic_params c.args.around c.args.node c.in-Cobegin.nd (plain_stmts (map plain_stmt c.as_slice.result.now))
     (walk_of c.args.body.now c.args.out.now))
     (Checking c.args.body.now.atomic_params c.args.around c.args.node (form_of (plain_stmt c.args.stmt.now)) (walk_of c.args.body.now c.args.out.now))
-    c.cobegin.result (walk_of c.cobegin.new.body c.cobegin.new.out)
+    c.cobegin.result _
     (λ v d.
     as_form c.args.body.now.atomic_params c.args.around c.args.node c.args.stmt.now
     (form.cobegin c.in-Cobegin.nd (plain_stmts (map plain_stmt c.in-Cobegin.branches)))
@@ -61,31 +68,30 @@ statements::construct-returns-in-Cobegin-clause-checks t c =
     c.as_slice.ensures d)))
     c.cobegin.ensures.checks
 
-pub statements::scoped-returns-in_err-completes-clause-checks :
-    goal.statements::scoped-returns-in_err-completes-clause-checks
-statements::scoped-returns-in_err-completes-clause-checks t c =
+pub statements::scoped-returns-in_err-done-clause-checks :
+    goal.statements::scoped-returns-in_err-done-clause-checks
+statements::scoped-returns-in_err-done-clause-checks t c =
     stopped (λ q. Standing c.args.body.now.atomic_params c.args.around false (plain_stmt c.args.stmt.now) (walk_of c.args.body.now c.args.out.now)
     (verdict.refused q))
     (InScope c.args.body.now.atomic_params c.args.around (plain_stmt c.args.stmt.now) (walk_of c.args.body.now c.args.out.now))
-    c.from_residual.result _ c.in_err-completes.field-0.0 c.from_residual.ensures.1 (λ q d. in_scope d refl) c.in_err-completes.ensures.checks
+    c.from_residual.result _ c.in_err-done.field-0.0 c.from_residual.ensures.1 (λ q d. in_scope d refl) c.in_err-done.ensures.checks
 
 pub statements::scoped-returns-clause-checks : goal.statements::scoped-returns-clause-checks
 statements::scoped-returns-clause-checks t c =
     scope_passes c.args.body.now.atomic_params c.args.around (plain_stmt c.args.stmt.now) c.args.body.now c.statement.new.body c.args.out.now
-    c.statement.new.out c.leave.new.self c.mark-scope.result c.in_ok-completes.ensures.checks c.mark-scope.ensures c.leave.ensures.whole
+    c.statement.new.out c.leave.new.self c.mark-scope.result (typed_stmt c.in_ok-done.done.stmt) c.in_ok-done.ensures.checks c.mark-scope.ensures c.leave.ensures.whole
 
-pub statements::statement-returns-in_err-completes-in-Block-clause-checks :
-    goal.statements::statement-returns-in_err-completes-in-Block-clause-checks
-statements::statement-returns-in_err-completes-in-Block-clause-checks t c =
+pub statements::statement-returns-in_err-done-in-Block-clause-checks :
+    goal.statements::statement-returns-in_err-done-in-Block-clause-checks
+statements::statement-returns-in_err-done-in-Block-clause-checks t c =
     stopped (λ q. InBlock c.args.body.now.atomic_params c.args.around (plain_stmts (map plain_stmt c.as_slice.result.now))
     (walk_of c.args.body.now c.args.out.now) (verdict.refused q))
     (Standing c.args.body.now.atomic_params c.args.around c.args.follows (plain_stmt c.args.stmt.now) (walk_of c.args.body.now c.args.out.now))
-    c.from_residual.result _ c.in_err-completes-in-Block.field-0.0 c.from_residual.ensures.1
+    c.from_residual.result _ c.in_err-done-in-Block.field-0.0 c.from_residual.ensures.1
     (λ q d.
     block_stands c.args.body.now.atomic_params c.args.around c.args.follows c.of-node.result c.args.stmt.now c.in-Block.all c.as_slice.result.now
-    (walk_of c.args.body.now c.args.out.now) (verdict.refused q) (verdict.refused q) c.in-Block.is c.as_slice.ensures c.of-node.ensures.node d
-    refl)
-    c.in_err-completes-in-Block.ensures.checks
+    (walk_of c.args.body.now c.args.out.now) (verdict.refused q) (verdict.refused q) c.in-Block.is c.as_slice.ensures c.of-node.ensures.node d refl)
+    c.in_err-done-in-Block.ensures.checks
 
 pub statements::statement-returns-in_err-settle-in-Block-clause-checks :
     goal.statements::statement-returns-in_err-settle-in-Block-clause-checks
@@ -95,29 +101,31 @@ statements::statement-returns-in_err-settle-in-Block-clause-checks t c =
     c.from_residual-in_err-settle-in-Block.ensures.1 c.in_err-settle-in-Block.ensures.result
     (λ q told.
     block_stands c.args.body.now.atomic_params c.args.around c.args.follows c.of-node.result c.args.stmt.now c.in-Block.all c.as_slice.result.now
-    (walk_of c.args.body.now c.args.out.now) (passes (walk_of c.block.new.body c.block.new.out)) (verdict.refused q) c.in-Block.is c.as_slice.ensures
-    c.of-node.ensures.node c.in_ok-completes-in-Block.ensures.checks
-    (then_told (fault_of c.of-node.result) (walk_of c.block.new.body c.block.new.out) q told))
+    (walk_of c.args.body.now c.args.out.now) (passes (map typed_stmt c.in_ok-done-in-Block.done.stmts) (walk_of c.block.new.body c.block.new.out))
+    (verdict.refused q) c.in-Block.is c.as_slice.ensures c.of-node.ensures.node c.in_ok-done-in-Block.ensures.checks
+    (then_told (fault_of c.of-node.result) _ (map typed_stmt c.in_ok-done-in-Block.done.stmts) (walk_of c.block.new.body c.block.new.out) q told))
 
 pub statements::statement-returns-in_ok-settle-in-Block-clause-checks :
     goal.statements::statement-returns-in_ok-settle-in-Block-clause-checks
 statements::statement-returns-in_ok-settle-in-Block-clause-checks t c =
     block_stands c.args.body.now.atomic_params c.args.around c.args.follows c.of-node.result c.args.stmt.now c.in-Block.all c.as_slice.result.now
-    (walk_of c.args.body.now c.args.out.now) (passes (walk_of c.block.new.body c.block.new.out)) (passes (walk_of c.block.new.body c.block.new.out))
-    c.in-Block.is c.as_slice.ensures c.of-node.ensures.node c.in_ok-completes-in-Block.ensures.checks
-    (then_none (fault_of c.of-node.result) (walk_of c.block.new.body c.block.new.out) c.in_ok-settle-in-Block.ensures.clean)
+    (walk_of c.args.body.now c.args.out.now) (passes (map typed_stmt c.in_ok-done-in-Block.done.stmts) (walk_of c.block.new.body c.block.new.out))
+    (passes (typed_stmt c.blocked.result) (walk_of c.block.new.body c.block.new.out)) c.in-Block.is c.as_slice.ensures c.of-node.ensures.node
+    c.in_ok-done-in-Block.ensures.checks
+    (then_made (fault_of c.of-node.result) _ (map typed_stmt c.in_ok-done-in-Block.done.stmts) (walk_of c.block.new.body c.block.new.out)
+    (typed_stmt c.blocked.result) c.in_ok-settle-in-Block.ensures.clean c.blocked.ensures)
 
-pub statements::statement-returns-in_err-_test-in-If-clause-checks :
-    goal.statements::statement-returns-in_err-_test-in-If-clause-checks
-statements::statement-returns-in_err-_test-in-If-clause-checks t c =
+pub statements::statement-returns-in_err-given-in-If-clause-checks :
+    goal.statements::statement-returns-in_err-given-in-If-clause-checks
+statements::statement-returns-in_err-given-in-If-clause-checks t c =
     stopped (λ q. Typing c.args.body.now.env (plain_expr c.in-If.test) c.args.out.now (refused q))
     (Standing c.args.body.now.atomic_params c.args.around c.args.follows (plain_stmt c.args.stmt.now) (walk_of c.args.body.now c.args.out.now))
-    c.from_residual-in_err-_test-in-If.result _ c.in_err-_test-in-If.field-0.0 c.from_residual-in_err-_test-in-If.ensures.1
+    c.from_residual-in_err-given-in-If.result _ c.in_err-given-in-If.field-0.0 c.from_residual-in_err-given-in-If.ensures.1
     (λ q d.
-    test_stops c.args.body.now.atomic_params c.args.around c.args.follows c.of-node.result c.args.stmt.now c.in-If.test c.in-If.then c.in-If.other
-    c.args.body.now c.args.out.now q
-    c.in-If.is c.of-node.ensures.node d)
-    c.in_err-_test-in-If.ensures.answer
+    choice_stands c.args.body.now.atomic_params c.args.around c.args.follows c.of-node.result c.args.stmt.now c.in-If.test c.in-If.then c.in-If.other
+    (walk_of c.args.body.now c.args.out.now) (verdict.refused q) c.in-If.is c.of-node.ensures.node
+    (choosing.test_refused d))
+    c.in_err-given-in-If.ensures.answer
 
 pub statements::statement-returns-in_err-first-in-If-clause-checks :
     goal.statements::statement-returns-in_err-first-in-If-clause-checks
@@ -127,118 +135,175 @@ statements::statement-returns-in_err-first-in-If-clause-checks t c =
     (Standing c.args.body.now.atomic_params c.args.around c.args.follows (plain_stmt c.args.stmt.now) (walk_of c.args.body.now c.args.out.now))
     c.from_residual-in_err-first-in-If.result _ c.in_err-first-in-If.field-0.0 c.from_residual-in_err-first-in-If.ensures.1
     (λ q d.
-    first_stops c.args.around c.args.follows c.of-node.result c.args.stmt.now c.in-If.test c.in-If.then c.get.result.now c.in-If.other c.args.body.now
-    c.args.out.now c.boolean.new.out (plain_typed c.in_ok-_test-in-If._test) q c.in-If.is c.of-node.ensures.node
-    c.in_ok-_test-in-If.ensures.answer c.get.ensures d)
+    choice_stands c.args.body.now.atomic_params c.args.around c.args.follows c.of-node.result c.args.stmt.now c.in-If.test c.in-If.then c.in-If.other
+    (walk_of c.args.body.now c.args.out.now) (verdict.refused q) c.in-If.is c.of-node.ensures.node
+    (first_stops c.args.body.now c.args.around c.of-node.result c.in-If.test c.in-If.then c.get.result.now (option_map plain_stmt c.in-If.other) c.args.out.now c.boolean.new.out (plain_typed c.in_ok-given-in-If.given) q c.in_ok-given-in-If.ensures.answer c.get.ensures d))
     c.in_err-first-in-If.ensures.checks
 
 pub statements::statement-returns-in_err-second-in-Some-clause-checks :
     goal.statements::statement-returns-in_err-second-in-Some-clause-checks
 statements::statement-returns-in_err-second-in-Some-clause-checks t c =
-    stopped
-    (λ q. InScope c.scoped.new.body.atomic_params c.args.around (plain_stmt c.get-in-Some.result.now) (walk_of c.scoped.new.body c.scoped.new.out)
+    let met : FirstMet c.args.body.now c.scoped.new.body c.args.around c.of-node.result c.boolean.new.node c.in-If.test c.in-If.then c.get.result.now
+    c.args.out.now c.boolean.new.out c.scoped.new.out (plain_typed c.in_ok-given-in-If.given) (typed_stmt c.in_ok-first-in-If.first.stmt) = record {
+      typing = c.in_ok-given-in-If.ensures.answer;
+      noted_is = c.in_ok-given-in-If.ensures.node;
+      shows = c.get.ensures;
+      in_scope = c.in_ok-first-in-If.ensures.checks;
+      home = c.in_ok-first-in-If.ensures.home;
+    } in
+    stopped (λ q. InScope c.scoped.new.body.atomic_params c.args.around (plain_stmt c.get-in-Some.result.now) (walk_of c.scoped.new.body c.scoped.new.out)
     (verdict.refused q))
     (Standing c.args.body.now.atomic_params c.args.around c.args.follows (plain_stmt c.args.stmt.now) (walk_of c.args.body.now c.args.out.now))
     c.from_residual-in_err-second-in-Some.result _ c.in_err-second-in-Some.field-0.0 c.from_residual-in_err-second-in-Some.ensures.1
     (λ q d.
-    either_stands c.args.around c.args.follows c.of-node.result c.args.stmt.now c.in-If.test c.in-If.then c.get.result.now c.in-If.other
-    c.in-Some.other c.get-in-Some.result.now c.args.body.now c.scoped.new.body c.args.out.now c.boolean.new.out c.scoped.new.out
-    (plain_typed c.in_ok-_test-in-If._test) (verdict.refused q) (verdict.refused q) c.in-If.is c.in-Some.is c.of-node.ensures.node
-    c.in_ok-_test-in-If.ensures.answer c.get.ensures c.in_ok-first-in-If.ensures.checks c.in_ok-first-in-If.ensures.home
-    c.get-in-Some.ensures d refl)
+    either_so c.args.body.now c.scoped.new.body c.args.around c.args.follows c.of-node.result c.boolean.new.node c.args.stmt.now c.in-If.test c.in-If.then
+    c.get.result.now c.in-If.other c.in-Some.other c.get-in-Some.result.now c.args.out.now c.boolean.new.out c.scoped.new.out
+    (plain_typed c.in_ok-given-in-If.given) (typed_stmt c.in_ok-first-in-If.first.stmt)
+    (verdict.refused q) (verdict.refused q) c.in-If.is c.in-Some.is c.of-node.ensures.node met c.get-in-Some.ensures d refl)
     c.in_err-second-in-Some.ensures.checks
 
-pub statements::statement-returns-in_err-settle-in-If-clause-checks :
-    goal.statements::statement-returns-in_err-settle-in-If-clause-checks
-statements::statement-returns-in_err-settle-in-If-clause-checks t c =
+pub statements::statement-returns-in_err-settle-in-Some-clause-checks :
+    goal.statements::statement-returns-in_err-settle-in-Some-clause-checks
+statements::statement-returns-in_err-settle-in-Some-clause-checks t c =
+    let met : FirstMet c.args.body.now c.scoped.new.body c.args.around c.of-node.result c.boolean.new.node c.in-If.test c.in-If.then c.get.result.now
+    c.args.out.now c.boolean.new.out c.scoped.new.out (plain_typed c.in_ok-given-in-If.given) (typed_stmt c.in_ok-first-in-If.first.stmt) = record {
+      typing = c.in_ok-given-in-If.ensures.answer;
+      noted_is = c.in_ok-given-in-If.ensures.node;
+      shows = c.get.ensures;
+      in_scope = c.in_ok-first-in-If.ensures.checks;
+      home = c.in_ok-first-in-If.ensures.home;
+    } in
     settle_stopped (Standing c.args.body.now.atomic_params c.args.around c.args.follows (plain_stmt c.args.stmt.now) (walk_of c.args.body.now c.args.out.now))
-    (fault_of c.boolean.new.node) c.from_residual-in_err-settle-in-If.result c.in_err-settle-in-If.field-0.0 _
-    c.from_residual-in_err-settle-in-If.ensures.1 c.in_err-settle-in-If.ensures.result
-    (λ q told. elim c.match-other.branch [
-      | statements::statement-in-Some+in_ok-second-in-Some w ↦ either_stands c.args.around c.args.follows c.of-node.result c.args.stmt.now c.in-If.test
-          c.in-If.then c.get.result.now c.in-If.other
-          w.in-Some.other w.get-in-Some.result.now c.args.body.now c.scoped.new.body c.args.out.now c.boolean.new.out c.scoped.new.out
-          (plain_typed c.in_ok-_test-in-If._test) (passes (walk_of w.scoped-in-Some.new.body w.scoped-in-Some.new.out)) (verdict.refused q) c.in-If.is w.in-Some.is
-          c.of-node.ensures.node
-          c.in_ok-_test-in-If.ensures.answer c.get.ensures c.in_ok-first-in-If.ensures.checks c.in_ok-first-in-If.ensures.home
-          w.get-in-Some.ensures w.in_ok-second-in-Some.ensures.checks
-          (noted_told c.of-node.result c.boolean.new.node _ (passes (walk_of w.scoped-in-Some.new.body w.scoped-in-Some.new.out)) (verdict.refused q)
-          c.in_ok-_test-in-If.ensures.node
-          (then_told (fault_of c.boolean.new.node) (walk_of w.scoped-in-Some.new.body w.scoped-in-Some.new.out) q told))
-      | statements::statement-in-None w ↦ choice_stands c.args.around c.args.follows c.of-node.result c.boolean.new.node c.args.stmt.now c.in-If.test
-          c.in-If.then
-          c.get.result.now c.in-If.other c.args.body.now c.args.out.now c.boolean.new.out (plain_typed c.in_ok-_test-in-If._test)
-          (walk_of c.scoped.new.body c.scoped.new.out)
-          (verdict.refused q) c.in-If.is w.in-None.is c.of-node.ensures.node c.in_ok-_test-in-If.ensures.answer c.get.ensures
-          c.in_ok-_test-in-If.ensures.node c.in_ok-first-in-If.ensures.checks
-          (then_told (fault_of c.boolean.new.node) (walk_of c.scoped.new.body c.scoped.new.out) q told)
-    ])
+    (fault_of c.boolean.new.node) c.from_residual-in_err-settle-in-Some.result c.in_err-settle-in-Some.field-0.0 _
+    c.from_residual-in_err-settle-in-Some.ensures.1 c.in_err-settle-in-Some.ensures.result
+    (λ q told.
+    either_so c.args.body.now c.scoped.new.body c.args.around c.args.follows c.of-node.result c.boolean.new.node c.args.stmt.now c.in-If.test c.in-If.then
+    c.get.result.now c.in-If.other c.in-Some.other c.get-in-Some.result.now c.args.out.now c.boolean.new.out c.scoped.new.out
+    (plain_typed c.in_ok-given-in-If.given) (typed_stmt c.in_ok-first-in-If.first.stmt)
+    (passes (typed_stmt c.in_ok-second-in-Some.second.stmt) (walk_of c.scoped-in-Some.new.body c.scoped-in-Some.new.out)) (verdict.refused q) c.in-If.is
+    c.in-Some.is c.of-node.ensures.node met c.get-in-Some.ensures c.in_ok-second-in-Some.ensures.checks
+    (then_told (fault_of c.boolean.new.node) _ (Some (typed_stmt c.in_ok-second-in-Some.second.stmt)) (walk_of c.scoped-in-Some.new.body c.scoped-in-Some.new.out) q told))
 
-pub statements::statement-returns-after-first-clause-checks :
-    goal.statements::statement-returns-after-first-clause-checks
-statements::statement-returns-after-first-clause-checks t c =
-    elim c.match-other.branch [
-      | statements::statement-in-Some+in_ok-second-in-Some w ↦ either_stands c.args.around c.args.follows c.of-node.result c.args.stmt.now c.in-If.test
-          c.in-If.then c.get.result.now c.in-If.other
-          w.in-Some.other w.get-in-Some.result.now c.args.body.now c.scoped.new.body c.args.out.now c.boolean.new.out c.scoped.new.out
-          (plain_typed c.in_ok-_test-in-If._test) (passes (walk_of w.scoped-in-Some.new.body w.scoped-in-Some.new.out))
-          (passes (walk_of c.match-other.body c.match-other.out)) c.in-If.is w.in-Some.is c.of-node.ensures.node
-          c.in_ok-_test-in-If.ensures.answer c.get.ensures c.in_ok-first-in-If.ensures.checks c.in_ok-first-in-If.ensures.home
-          w.get-in-Some.ensures w.in_ok-second-in-Some.ensures.checks
-          (noted_told c.of-node.result c.boolean.new.node _ (passes (walk_of w.scoped-in-Some.new.body w.scoped-in-Some.new.out))
-          (passes (walk_of c.match-other.body c.match-other.out)) c.in_ok-_test-in-If.ensures.node
-          (then_none (fault_of c.boolean.new.node) (walk_of w.scoped-in-Some.new.body w.scoped-in-Some.new.out) c.in_ok-settle-in-If.ensures.clean
-          ∙ ap passes (walk_same w.scoped-in-Some.new.body c.match-other.body w.scoped-in-Some.new.out c.match-other.out w.body-is w.out-is)))
-      | statements::statement-in-None w ↦ choice_stands c.args.around c.args.follows c.of-node.result c.boolean.new.node c.args.stmt.now c.in-If.test
-          c.in-If.then
-          c.get.result.now c.in-If.other c.args.body.now c.args.out.now c.boolean.new.out (plain_typed c.in_ok-_test-in-If._test)
-          (walk_of c.scoped.new.body c.scoped.new.out)
-          (passes (walk_of c.match-other.body c.match-other.out)) c.in-If.is w.in-None.is c.of-node.ensures.node c.in_ok-_test-in-If.ensures.answer c.get.ensures
-          c.in_ok-_test-in-If.ensures.node c.in_ok-first-in-If.ensures.checks
-          (then_none (fault_of c.boolean.new.node) (walk_of c.scoped.new.body c.scoped.new.out) c.in_ok-settle-in-If.ensures.clean
-          ∙ ap passes (walk_same c.scoped.new.body c.match-other.body c.scoped.new.out c.match-other.out w.body-is w.out-is))
-    ]
+pub statements::statement-returns-in_ok-choose-in-Some-clause-checks :
+    goal.statements::statement-returns-in_ok-choose-in-Some-clause-checks
+statements::statement-returns-in_ok-choose-in-Some-clause-checks t c =
+    let met : FirstMet c.args.body.now c.scoped.new.body c.args.around c.of-node.result c.boolean.new.node c.in-If.test c.in-If.then c.get.result.now
+    c.args.out.now c.boolean.new.out c.scoped.new.out (plain_typed c.in_ok-given-in-If.given) (typed_stmt c.in_ok-first-in-If.first.stmt) = record {
+      typing = c.in_ok-given-in-If.ensures.answer;
+      noted_is = c.in_ok-given-in-If.ensures.node;
+      shows = c.get.ensures;
+      in_scope = c.in_ok-first-in-If.ensures.checks;
+      home = c.in_ok-first-in-If.ensures.home;
+    } in
+    either_so c.args.body.now c.scoped.new.body c.args.around c.args.follows c.of-node.result c.boolean.new.node c.args.stmt.now c.in-If.test c.in-If.then
+    c.get.result.now c.in-If.other c.in-Some.other c.get-in-Some.result.now c.args.out.now c.boolean.new.out c.scoped.new.out
+    (plain_typed c.in_ok-given-in-If.given) (typed_stmt c.in_ok-first-in-If.first.stmt)
+    (passes (typed_stmt c.in_ok-second-in-Some.second.stmt) (walk_of c.scoped-in-Some.new.body c.scoped-in-Some.new.out))
+    (passes (typed_stmt c.in_ok-choose-in-Some.field-0.stmt) (walk_of c.scoped-in-Some.new.body c.scoped-in-Some.new.out)) c.in-If.is c.in-Some.is c.of-node.ensures.node
+    met c.get-in-Some.ensures c.in_ok-second-in-Some.ensures.checks
+    (then_made (fault_of c.boolean.new.node)
+    (λ z. statement c.of-node.result.place
+    (choice_form (node_of (plain_expr c.in-If.test) (plain_typed c.in_ok-given-in-If.given)) (typed_stmt c.in_ok-first-in-If.first.stmt) z))
+    (Some (typed_stmt c.in_ok-second-in-Some.second.stmt)) (walk_of c.scoped-in-Some.new.body c.scoped-in-Some.new.out) (typed_stmt c.in_ok-choose-in-Some.field-0.stmt)
+    c.in_ok-settle-in-Some.ensures.clean
+    (c.in_ok-choose-in-Some.ensures.stmt
+    ∙ ap (λ e. statement c.of-node.result.place (choice_form e (typed_stmt c.in_ok-first-in-If.first.stmt) (Some (typed_stmt c.in_ok-second-in-Some.second.stmt))))
+    (node_made c.in-If.test c.into_node-test.result (plain_typed c.in_ok-given-in-If.given) c.into_node-test.ensures)))
 
-pub statements::statement-returns-in_err-returns-in-Return-clause-checks :
-    goal.statements::statement-returns-in_err-returns-in-Return-clause-checks
-statements::statement-returns-in_err-returns-in-Return-clause-checks t c =
+pub statements::statement-returns-in_err-settle-in-None-clause-checks :
+    goal.statements::statement-returns-in_err-settle-in-None-clause-checks
+statements::statement-returns-in_err-settle-in-None-clause-checks t c =
+    let met : FirstMet c.args.body.now c.scoped.new.body c.args.around c.of-node.result c.boolean.new.node c.in-If.test c.in-If.then c.get.result.now
+    c.args.out.now c.boolean.new.out c.scoped.new.out (plain_typed c.in_ok-given-in-If.given) (typed_stmt c.in_ok-first-in-If.first.stmt) = record {
+      typing = c.in_ok-given-in-If.ensures.answer;
+      noted_is = c.in_ok-given-in-If.ensures.node;
+      shows = c.get.ensures;
+      in_scope = c.in_ok-first-in-If.ensures.checks;
+      home = c.in_ok-first-in-If.ensures.home;
+    } in
+    settle_stopped (Standing c.args.body.now.atomic_params c.args.around c.args.follows (plain_stmt c.args.stmt.now) (walk_of c.args.body.now c.args.out.now))
+    (fault_of c.boolean.new.node) c.from_residual-in_err-settle-in-None.result c.in_err-settle-in-None.field-0.0 _
+    c.from_residual-in_err-settle-in-None.ensures.1 c.in_err-settle-in-None.ensures.result
+    (λ q told.
+    neither_so c.args.body.now c.scoped.new.body c.args.around c.args.follows c.of-node.result c.boolean.new.node c.args.stmt.now c.in-If.test c.in-If.then
+    c.get.result.now c.in-If.other c.args.out.now c.boolean.new.out c.scoped.new.out (plain_typed c.in_ok-given-in-If.given)
+    (typed_stmt c.in_ok-first-in-If.first.stmt)
+    (verdict.refused q) c.in-If.is c.in-None.is c.of-node.ensures.node met
+    (then_told (fault_of c.boolean.new.node) _ None (walk_of c.scoped.new.body c.scoped.new.out) q told))
+
+pub statements::statement-returns-in_ok-choose-in-None-clause-checks :
+    goal.statements::statement-returns-in_ok-choose-in-None-clause-checks
+statements::statement-returns-in_ok-choose-in-None-clause-checks t c =
+    let met : FirstMet c.args.body.now c.scoped.new.body c.args.around c.of-node.result c.boolean.new.node c.in-If.test c.in-If.then c.get.result.now
+    c.args.out.now c.boolean.new.out c.scoped.new.out (plain_typed c.in_ok-given-in-If.given) (typed_stmt c.in_ok-first-in-If.first.stmt) = record {
+      typing = c.in_ok-given-in-If.ensures.answer;
+      noted_is = c.in_ok-given-in-If.ensures.node;
+      shows = c.get.ensures;
+      in_scope = c.in_ok-first-in-If.ensures.checks;
+      home = c.in_ok-first-in-If.ensures.home;
+    } in
+    neither_so c.args.body.now c.scoped.new.body c.args.around c.args.follows c.of-node.result c.boolean.new.node c.args.stmt.now c.in-If.test c.in-If.then
+    c.get.result.now c.in-If.other c.args.out.now c.boolean.new.out c.scoped.new.out (plain_typed c.in_ok-given-in-If.given)
+    (typed_stmt c.in_ok-first-in-If.first.stmt)
+    (passes (typed_stmt c.in_ok-choose-in-None.field-0.stmt) (walk_of c.scoped.new.body c.scoped.new.out)) c.in-If.is c.in-None.is c.of-node.ensures.node met
+    (then_made (fault_of c.boolean.new.node)
+    (λ z. statement c.of-node.result.place
+    (choice_form (node_of (plain_expr c.in-If.test) (plain_typed c.in_ok-given-in-If.given)) (typed_stmt c.in_ok-first-in-If.first.stmt) z))
+    None (walk_of c.scoped.new.body c.scoped.new.out) (typed_stmt c.in_ok-choose-in-None.field-0.stmt) c.in_ok-settle-in-None.ensures.clean
+    (c.in_ok-choose-in-None.ensures.stmt
+    ∙ ap (λ e. statement c.of-node.result.place (choice_form e (typed_stmt c.in_ok-first-in-If.first.stmt) None))
+    (node_made c.in-If.test c.into_node-test.result (plain_typed c.in_ok-given-in-If.given) c.into_node-test.ensures)))
+
+pub statements::statement-returns-in_err-stmt-in-Return-clause-checks :
+    goal.statements::statement-returns-in_err-stmt-in-Return-clause-checks
+statements::statement-returns-in_err-stmt-in-Return-clause-checks t c =
     stopped (λ q. Checking c.args.body.now.atomic_params c.args.around c.of-node.result (return_form (option_copied c.as_ref.result))
     (walk_of c.args.body.now c.args.out.now) (verdict.refused q))
     (Standing c.args.body.now.atomic_params c.args.around c.args.follows (plain_stmt c.args.stmt.now) (walk_of c.args.body.now c.args.out.now))
-    c.from_residual-in_err-returns-in-Return.result _ c.in_err-returns-in-Return.field-0.0 c.from_residual-in_err-returns-in-Return.ensures.1
+    c.from_residual-in_err-stmt-in-Return.result _ c.in_err-stmt-in-Return.field-0.0 c.from_residual-in_err-stmt-in-Return.ensures.1
     (λ q d.
     as_statement c.args.body.now.atomic_params c.args.around c.args.follows c.of-node.result c.args.stmt.now (return_form (option_copied c.as_ref.result))
     (walk_of c.args.body.now c.args.out.now) (verdict.refused q)
     (at_Return c.args.stmt.now (option_copied c.as_ref.result) (c.in-Return.is ∙ ap tree.Return (sym c.as_ref.ensures.value)))
     c.of-node.ensures.node d)
-    (c.in_err-returns-in-Return.ensures.checks c.args.body.now.atomic_params)
+    (c.in_err-stmt-in-Return.ensures.checks c.args.body.now.atomic_params)
 
-pub statements::statement-returns-in_ok-returns-in-Return-clause-checks :
-    goal.statements::statement-returns-in_ok-returns-in-Return-clause-checks
-statements::statement-returns-in_ok-returns-in-Return-clause-checks t c =
+pub statements::statement-returns-in_ok-stmt-in-Return-clause-checks :
+    goal.statements::statement-returns-in_ok-stmt-in-Return-clause-checks
+statements::statement-returns-in_ok-stmt-in-Return-clause-checks t c =
     as_statement c.args.body.now.atomic_params c.args.around c.args.follows c.of-node.result c.args.stmt.now (return_form (option_copied c.as_ref.result))
-    (walk_of c.args.body.now c.args.out.now) (passes (walk_of c.args.body.now c.returns.new.out))
+    (walk_of c.args.body.now c.args.out.now) (passes (typed_stmt c.in_ok-stmt-in-Return.stmt) (walk_of c.args.body.now c.returns.new.out))
     (at_Return c.args.stmt.now (option_copied c.as_ref.result) (c.in-Return.is ∙ ap tree.Return (sym c.as_ref.ensures.value)))
-    c.of-node.ensures.node (c.in_ok-returns-in-Return.ensures.checks c.args.body.now.atomic_params)
+    c.of-node.ensures.node (c.in_ok-stmt-in-Return.ensures.checks c.args.body.now.atomic_params)
 
 pub statements::statement-returns-in_default-clause-checks : goal.statements::statement-returns-in_default-clause-checks
 statements::statement-returns-in_default-clause-checks t c =
     says_all (Checking c.args.body.now.atomic_params c.args.around c.of-node.result (form_of (plain_stmt c.args.stmt.now))
     (walk_of c.args.body.now c.args.out.now))
     (Standing c.args.body.now.atomic_params c.args.around c.args.follows (plain_stmt c.args.stmt.now) (walk_of c.args.body.now c.args.out.now))
-    c.completing.result (walk_of c.completing.new.body c.completing.new.out)
+    c.completing.result _
     (λ v d.
     construct_stands c.args.body.now.atomic_params c.args.around c.args.follows c.of-node.result c.args.stmt.now (walk_of c.args.body.now c.args.out.now) v
     c.of-node.ensures.node d)
     c.completing.ensures.checks
 
-pub statements::completing-returns-in_err-construct-clause-checks :
-    goal.statements::completing-returns-in_err-construct-clause-checks
-statements::completing-returns-in_err-construct-clause-checks t c =
+pub statements::completing-returns-in_err-stmt-clause-checks :
+    goal.statements::completing-returns-in_err-stmt-clause-checks
+statements::completing-returns-in_err-stmt-clause-checks t c =
     stopped (λ q. Checking c.args.body.now.atomic_params c.args.around c.args.node (form_of (plain_stmt c.args.stmt.now))
     (walk_of c.args.body.now c.args.out.now) (verdict.refused q))
     (Checking c.args.body.now.atomic_params c.args.around c.args.node (form_of (plain_stmt c.args.stmt.now)) (walk_of c.args.body.now c.args.out.now))
-    c.from_residual.result _ c.in_err-construct.field-0.0 c.from_residual.ensures.1 (λ q d. d) c.in_err-construct.ensures.checks
+    c.from_residual.result _ c.in_err-stmt.field-0.0 c.from_residual.ensures.1 (λ q d. d) c.in_err-stmt.ensures.checks
+
+pub statements::statements-loop-stmt-entered : goal.statements::statements-loop-stmt-entered
+statements::statements-loop-stmt-entered t c = record {
+  completes = refl;
+  keeps = λ follows rest. rest;
+  nd = λ held. held;
+  home = refl;
+  goes_on = order_none c.args.body.now.atomic_params c.args.around c.args.stmts.now (walk_of c.args.body.now c.args.out.now) (map typed_stmt c.new-made.result)
+      (ap (map typed_stmt) c.new-made.ensures);
+}
 
 pub statements::statements-returns-in_err-done-clause-checks :
     goal.statements::statements-returns-in_err-done-clause-checks
@@ -249,125 +314,140 @@ statements::statements-returns-in_err-done-clause-checks t c =
     (InOrder c.args.body.now.atomic_params c.args.around true (plain_stmts (map plain_stmt c.args.stmts.now)) (walk_of c.args.body.now c.args.out.now))
     c.from_residual.result _ c.in_err-done.field-0.0 c.from_residual.ensures.1
     (λ q d.
-    c.loop-stmt.invariant.goes_on (verdict.refused q)
-    (next_refused c.args.body.now.atomic_params c.loop-stmt.body.atomic_params c.args.around c.loop-stmt.completes c.args.stmts.now c.loop-stmt.stmt-index
-    c.stmt-item.result
-    (walk_of c.loop-stmt.body c.loop-stmt.out) q (home_params c.args.body.now c.loop-stmt.body c.loop-stmt.invariant.home) c.loop-stmt-test.true
-    c.stmt-item.is d))
+    order_refused c.args.body.now.atomic_params c.loop-stmt.body.atomic_params c.args.around c.args.stmts.now (walk_of c.args.body.now c.args.out.now)
+    c.loop-stmt.stmt-index c.loop-stmt.completes (map typed_stmt c.loop-stmt.made) c.stmt-item.result (walk_of c.loop-stmt.body c.loop-stmt.out) q
+    c.loop-stmt.invariant.goes_on (home_params c.args.body.now c.loop-stmt.body c.loop-stmt.invariant.home) c.loop-stmt-test.true c.stmt-item.is d)
     c.in_err-done.ensures.checks
 
 pub statements::statements-loop-stmt-preserved : goal.statements::statements-loop-stmt-preserved
 statements::statements-loop-stmt-preserved t c =
-    let next_so : c.if-completes.completes ≡ (c.loop-stmt.completes && c.in_ok-done.done) = (elim c.if-completes.branch [
+    let next_so : c.if-completes.completes ≡ (c.loop-stmt.completes && c.in_ok-done.done.completes) = (elim c.if-completes.branch [
       | statements::statements-then-completes w ↦
-          and_then_so c.loop-stmt.completes c.in_ok-done.done c.if-completes.completes w.if-completes.true w.completes-is
+          and_then_so c.loop-stmt.completes c.in_ok-done.done.completes c.if-completes.completes w.if-completes.true w.completes-is
       | statements::statements-else-completes w ↦
-          and_else_so c.loop-stmt.completes c.in_ok-done.done c.if-completes.completes w.if-completes.false (w.completes-is ∙ w.if-completes.false)
+          and_else_so c.loop-stmt.completes c.in_ok-done.done.completes c.if-completes.completes w.if-completes.false (w.completes-is ∙ w.if-completes.false)
     ]) in
     record {
       completes =
-          complete_step c.args.stmts.now c.loop-stmt.stmt-index c.stmt-item.result c.loop-stmt.completes c.in_ok-done.done c.if-completes.completes
+          complete_step c.args.stmts.now c.loop-stmt.stmt-index c.stmt-item.result c.loop-stmt.completes c.in_ok-done.done.completes c.if-completes.completes
           c.loop-stmt-test.true
           c.stmt-item.is c.in_ok-done.ensures.completes next_so c.loop-stmt.invariant.completes;
       keeps =
-          keep_step c.args.around c.args.stmts.now c.loop-stmt.stmt-index c.stmt-item.result c.loop-stmt.completes c.in_ok-done.done c.if-completes.completes
+          keep_step c.args.around c.args.stmts.now c.loop-stmt.stmt-index c.stmt-item.result c.loop-stmt.completes c.in_ok-done.done.completes
+          c.if-completes.completes
           c.loop-stmt-test.true c.stmt-item.is c.in_ok-done.ensures.after c.in_ok-done.ensures.keeps c.in_ok-done.ensures.completes next_so
           c.loop-stmt.invariant.keeps;
       nd =
           nd_step c.args.stmts.now c.loop-stmt.stmt-index c.stmt-item.result c.args.out.now.reaches_nd c.loop-stmt.out.reaches_nd
           c.statement.new.out.reaches_nd c.loop-stmt-test.true c.stmt-item.is c.in_ok-done.ensures.nd c.loop-stmt.invariant.nd;
       home = c.in_ok-done.ensures.home ∙ c.loop-stmt.invariant.home;
-      goes_on = λ v rest. c.loop-stmt.invariant.goes_on v
-          (next_passes c.args.body.now.atomic_params c.loop-stmt.body.atomic_params c.args.around c.loop-stmt.completes c.in_ok-done.done
-          c.if-completes.completes
-          c.args.stmts.now c.loop-stmt.stmt-index c.stmt-item.result (walk_of c.loop-stmt.body c.loop-stmt.out)
-          (walk_of c.statement.new.body c.statement.new.out) v (home_params c.args.body.now c.loop-stmt.body c.loop-stmt.invariant.home) c.loop-stmt-test.true
-          c.stmt-item.is c.in_ok-done.ensures.checks c.in_ok-done.ensures.completes next_so rest);
+      goes_on =
+          order_more c.args.body.now.atomic_params c.loop-stmt.body.atomic_params c.args.around c.loop-stmt.completes c.in_ok-done.done.completes
+          c.if-completes.completes c.args.stmts.now c.loop-stmt.stmt-index (map typed_stmt c.loop-stmt.made) (map typed_stmt c.push.new.self)
+          (typed_stmt c.in_ok-done.done.stmt) c.stmt-item.result (walk_of c.args.body.now c.args.out.now) (walk_of c.loop-stmt.body c.loop-stmt.out)
+          (walk_of c.statement.new.body c.statement.new.out) c.loop-stmt.invariant.goes_on
+          (home_params c.args.body.now c.loop-stmt.body c.loop-stmt.invariant.home) c.loop-stmt-test.true c.stmt-item.is c.in_ok-done.ensures.checks
+          c.in_ok-done.ensures.completes next_so (map_pushed typed_stmt c.loop-stmt.made c.push.new.self c.in_ok-done.done.stmt c.in_ok-push.ensures.ok);
     }
 
 pub statements::statements-returns-clause-checks : goal.statements::statements-returns-clause-checks
 statements::statements-returns-clause-checks t c =
-    c.loop-stmt.invariant.goes_on (passes (walk_of c.loop-stmt.body c.loop-stmt.out))
-    (none_after c.args.body.now.atomic_params c.args.around c.loop-stmt.completes c.args.stmts.now c.loop-stmt.stmt-index
-    (walk_of c.loop-stmt.body c.loop-stmt.out)
-    (drop_all c.loop-stmt.stmt-index c.args.stmts.now c.loop-stmt-test.false))
+    order_all c.args.body.now.atomic_params c.args.around c.loop-stmt.completes c.args.stmts.now c.loop-stmt.stmt-index (map typed_stmt c.loop-stmt.made)
+    (walk_of c.args.body.now c.args.out.now) (walk_of c.loop-stmt.body c.loop-stmt.out) c.loop-stmt.invariant.goes_on
+    (drop_all c.loop-stmt.stmt-index c.args.stmts.now c.loop-stmt-test.false)
 
-pub statements::repeated-returns-in_err-_test-in-While-clause-checks :
-    goal.statements::repeated-returns-in_err-_test-in-While-clause-checks
-statements::repeated-returns-in_err-_test-in-While-clause-checks t c =
+pub statements::repeated-returns-in_err-given-in-While-clause-checks :
+    goal.statements::repeated-returns-in_err-given-in-While-clause-checks
+statements::repeated-returns-in_err-given-in-While-clause-checks t c =
     stopped (λ q. Typing c.args.body.now.env (plain_expr c.in-While.test) c.args.out.now (refused q))
     (Checking c.args.body.now.atomic_params c.args.around c.args.node (form_of (plain_stmt c.args.stmt.now)) (walk_of c.args.body.now c.args.out.now))
-    c.from_residual.result _ c.in_err-_test-in-While.field-0.0 c.from_residual.ensures.1
+    c.from_residual.result _ c.in_err-given-in-While.field-0.0 c.from_residual.ensures.1
     (λ q d.
     while_test_stops c.args.body.now.atomic_params c.args.around c.args.node c.args.stmt.now c.in-While.test c.in-While.iteration c.args.body.now
     c.args.out.now q c.in-While.is d)
-    c.in_err-_test-in-While.ensures.answer
+    c.in_err-given-in-While.ensures.answer
 
-pub statements::repeated-returns-in_err-scoped-in-While-clause-checks :
-    goal.statements::repeated-returns-in_err-scoped-in-While-clause-checks
-statements::repeated-returns-in_err-scoped-in-While-clause-checks t c =
-    stopped (λ q. InScope c.args.body.now.atomic_params c.args.around (plain_stmt c.get.result.now) (walk_of c.args.body.now c.boolean.new.out)
-    (verdict.refused q))
+pub statements::repeated-returns-in_err-done-in-While-clause-checks :
+    goal.statements::repeated-returns-in_err-done-in-While-clause-checks
+statements::repeated-returns-in_err-done-in-While-clause-checks t c =
+    stopped (λ q. InScope c.args.body.now.atomic_params c.args.around (plain_stmt c.get.result.now) (walk_of c.args.body.now c.boolean.new.out) (verdict.refused q))
     (Checking c.args.body.now.atomic_params c.args.around c.args.node (form_of (plain_stmt c.args.stmt.now)) (walk_of c.args.body.now c.args.out.now))
-    c.from_residual-in_err-scoped-in-While.result _ c.in_err-scoped-in-While.field-0.0 c.from_residual-in_err-scoped-in-While.ensures.1
+    c.from_residual-in_err-done-in-While.result _ c.in_err-done-in-While.field-0.0 c.from_residual-in_err-done-in-While.ensures.1
     (λ q d.
-    while_so c.args.around c.args.node c.args.stmt.now c.in-While.test c.in-While.iteration c.get.result.now c.args.body.now c.args.out.now
-    c.boolean.new.out (plain_typed c.in_ok-_test-in-While._test) (verdict.refused q) (verdict.refused q)
-    c.in-While.is c.in_ok-_test-in-While.ensures.answer c.get.ensures d refl)
-    c.in_err-scoped-in-While.ensures.checks
+    while_so c.args.around c.args.node c.boolean.new.node c.args.stmt.now c.in-While.test c.in-While.iteration c.get.result.now c.args.body.now
+    c.args.out.now c.boolean.new.out (plain_typed c.in_ok-given-in-While.given) (verdict.refused q) (verdict.refused q)
+    c.in-While.is c.in_ok-given-in-While.ensures.answer c.in_ok-given-in-While.ensures.node c.get.ensures d refl)
+    c.in_err-done-in-While.ensures.checks
 
-pub statements::repeated-returns-in_ok-scoped-in-While-clause-checks :
-    goal.statements::repeated-returns-in_ok-scoped-in-While-clause-checks
-statements::repeated-returns-in_ok-scoped-in-While-clause-checks t c =
-    settled_says (fault_of c.boolean.new.node) c.settle.result (walk_of c.scoped.new.body c.scoped.new.out)
-    (Checking c.args.body.now.atomic_params c.args.around c.args.node (form_of (plain_stmt c.args.stmt.now)) (walk_of c.args.body.now c.args.out.now))
-    c.settle.ensures.result
-    (while_so c.args.around c.args.node c.args.stmt.now c.in-While.test c.in-While.iteration c.get.result.now c.args.body.now c.args.out.now
-    c.boolean.new.out (plain_typed c.in_ok-_test-in-While._test) (passes (walk_of c.scoped.new.body c.scoped.new.out))
-    (judged (fault_of c.boolean.new.node) (walk_of c.scoped.new.body c.scoped.new.out))
-    c.in-While.is c.in_ok-_test-in-While.ensures.answer c.get.ensures c.in_ok-scoped-in-While.ensures.checks
-    (noted_told c.args.node c.boolean.new.node _ (passes (walk_of c.scoped.new.body c.scoped.new.out)) _ c.in_ok-_test-in-While.ensures.node refl))
+pub statements::repeated-returns-in_err-settle-in-While-clause-checks :
+    goal.statements::repeated-returns-in_err-settle-in-While-clause-checks
+statements::repeated-returns-in_err-settle-in-While-clause-checks t c =
+    settle_stopped (Checking c.args.body.now.atomic_params c.args.around c.args.node (form_of (plain_stmt c.args.stmt.now)) (walk_of c.args.body.now c.args.out.now))
+    (fault_of c.boolean.new.node) c.from_residual-in_err-settle-in-While.result c.in_err-settle-in-While.field-0.0 _
+    c.from_residual-in_err-settle-in-While.ensures.1 c.in_err-settle-in-While.ensures.result
+    (λ q told.
+    while_so c.args.around c.args.node c.boolean.new.node c.args.stmt.now c.in-While.test c.in-While.iteration c.get.result.now c.args.body.now
+    c.args.out.now c.boolean.new.out (plain_typed c.in_ok-given-in-While.given) (passes (typed_stmt c.in_ok-done-in-While.done.stmt) (walk_of c.scoped.new.body c.scoped.new.out)) (verdict.refused q)
+    c.in-While.is c.in_ok-given-in-While.ensures.answer c.in_ok-given-in-While.ensures.node c.get.ensures c.in_ok-done-in-While.ensures.checks
+    (then_told (fault_of c.boolean.new.node) _ (typed_stmt c.in_ok-done-in-While.done.stmt) (walk_of c.scoped.new.body c.scoped.new.out) q told))
 
-pub statements::repeated-returns-in_err-_start-in-Foreach-clause-checks :
-    goal.statements::repeated-returns-in_err-_start-in-Foreach-clause-checks
-statements::repeated-returns-in_err-_start-in-Foreach-clause-checks t c =
+pub statements::repeated-returns-in_ok-repeated-in-While-clause-checks :
+    goal.statements::repeated-returns-in_ok-repeated-in-While-clause-checks
+statements::repeated-returns-in_ok-repeated-in-While-clause-checks t c =
+    while_so c.args.around c.args.node c.boolean.new.node c.args.stmt.now c.in-While.test c.in-While.iteration c.get.result.now c.args.body.now
+    c.args.out.now c.boolean.new.out (plain_typed c.in_ok-given-in-While.given) (passes (typed_stmt c.in_ok-done-in-While.done.stmt) (walk_of c.scoped.new.body c.scoped.new.out))
+    (passes (typed_stmt c.in_ok-repeated-in-While.field-0) (walk_of c.scoped.new.body c.scoped.new.out))
+    c.in-While.is c.in_ok-given-in-While.ensures.answer c.in_ok-given-in-While.ensures.node c.get.ensures c.in_ok-done-in-While.ensures.checks
+    (then_made (fault_of c.boolean.new.node)
+    (λ z. statement c.args.node.place (made.while_loop (node_of (plain_expr c.in-While.test) (plain_typed c.in_ok-given-in-While.given)) z)) (typed_stmt c.in_ok-done-in-While.done.stmt) (walk_of c.scoped.new.body c.scoped.new.out)
+    (typed_stmt c.in_ok-repeated-in-While.field-0) c.in_ok-settle-in-While.ensures.clean
+    (c.in_ok-repeated-in-While.ensures
+    ∙ ap (λ e. statement c.args.node.place (made.while_loop e (typed_stmt c.in_ok-done-in-While.done.stmt)))
+    (node_made c.in-While.test c.into_node-test.result (plain_typed c.in_ok-given-in-While.given) c.into_node-test.ensures)))
+
+pub statements::repeated-returns-in_err-first-in-Foreach-clause-checks :
+    goal.statements::repeated-returns-in_err-first-in-Foreach-clause-checks
+statements::repeated-returns-in_err-first-in-Foreach-clause-checks t c =
     stopped (λ q. Typing c.args.body.now.env (plain_expr c.in-Foreach.start) c.args.out.now (refused q))
     (Checking c.args.body.now.atomic_params c.args.around c.args.node (form_of (plain_stmt c.args.stmt.now)) (walk_of c.args.body.now c.args.out.now))
-    c.from_residual-in_err-_start-in-Foreach.result _ c.in_err-_start-in-Foreach.field-0.0 c.from_residual-in_err-_start-in-Foreach.ensures.1
+    c.from_residual-in_err-first-in-Foreach.result _ c.in_err-first-in-Foreach.field-0.0 c.from_residual-in_err-first-in-Foreach.ensures.1
     (λ q d.
     start_stops c.args.body.now.atomic_params c.args.around c.args.node c.args.stmt.now c.in-Foreach.nd c.in-Foreach.var c.in-Foreach.start
     c.in-Foreach.count c.in-Foreach.iteration
     c.args.body.now c.args.out.now q c.in-Foreach.is d)
-    c.in_err-_start-in-Foreach.ensures.answer
+    c.in_err-first-in-Foreach.ensures.answer
 
-pub statements::repeated-returns-in_err-_count-in-Foreach-clause-checks :
-    goal.statements::repeated-returns-in_err-_count-in-Foreach-clause-checks
-statements::repeated-returns-in_err-_count-in-Foreach-clause-checks t c =
+pub statements::repeated-returns-in_err-number-in-Foreach-clause-checks :
+    goal.statements::repeated-returns-in_err-number-in-Foreach-clause-checks
+statements::repeated-returns-in_err-number-in-Foreach-clause-checks t c =
     stopped (λ q. Typing c.args.body.now.env (plain_expr c.in-Foreach.count) c.int.new.out (refused q))
     (Checking c.args.body.now.atomic_params c.args.around c.args.node (form_of (plain_stmt c.args.stmt.now)) (walk_of c.args.body.now c.args.out.now))
-    c.from_residual-in_err-_count-in-Foreach.result _ c.in_err-_count-in-Foreach.field-0.0 c.from_residual-in_err-_count-in-Foreach.ensures.1
+    c.from_residual-in_err-number-in-Foreach.result _ c.in_err-number-in-Foreach.field-0.0 c.from_residual-in_err-number-in-Foreach.ensures.1
     (λ q d.
     count_stops c.args.body.now.atomic_params c.args.around c.args.node c.args.stmt.now c.in-Foreach.nd c.in-Foreach.var c.in-Foreach.start
     c.in-Foreach.count c.in-Foreach.iteration
-    c.args.body.now c.args.out.now c.int.new.out (plain_typed c.in_ok-_start-in-Foreach._start) q c.in-Foreach.is
-    c.in_ok-_start-in-Foreach.ensures.answer d)
-    c.in_err-_count-in-Foreach.ensures.answer
+    c.args.body.now c.args.out.now c.int.new.out (plain_typed c.in_ok-first-in-Foreach.first) q c.in-Foreach.is
+    c.in_ok-first-in-Foreach.ensures.answer d)
+    c.in_err-number-in-Foreach.ensures.answer
 
-pub statements::repeated-returns-in_ok-_count-in-Foreach-clause-checks :
-    goal.statements::repeated-returns-in_ok-_count-in-Foreach-clause-checks
-statements::repeated-returns-in_ok-_count-in-Foreach-clause-checks t c =
+pub statements::repeated-returns-in_ok-number-in-Foreach-clause-checks :
+    goal.statements::repeated-returns-in_ok-number-in-Foreach-clause-checks
+statements::repeated-returns-in_ok-number-in-Foreach-clause-checks t c =
     says_all
-    (Iterating c.args.body.now.atomic_params c.args.around c.int-in-Foreach.new.node c.in-Foreach.nd c.in-Foreach.var (plain_stmt c.get-in-Foreach.result.now)
-    (walk_of c.args.body.now c.int-in-Foreach.new.out))
+    (Iterating c.args.body.now.atomic_params c.args.around c.int-in-Foreach.new.node c.in-Foreach.nd c.in-Foreach.var (plain_node c.into_node-in-Foreach.result)
+    (plain_node c.into_node-in-Foreach-2.result) (plain_stmt c.get-in-Foreach.result.now) (walk_of c.args.body.now c.int-in-Foreach.new.out))
     (Checking c.args.body.now.atomic_params c.args.around c.args.node (form_of (plain_stmt c.args.stmt.now)) (walk_of c.args.body.now c.args.out.now))
-    c.foreach.result (walk_of c.foreach.new.body c.foreach.new.out)
+    c.foreach.result _
     (λ v d.
     foreach_so c.args.around c.args.node c.int.new.node c.int-in-Foreach.new.node c.args.stmt.now c.in-Foreach.nd c.in-Foreach.var c.in-Foreach.start
-    c.in-Foreach.count c.in-Foreach.iteration
+    c.in-Foreach.count (plain_node c.into_node-in-Foreach.result) (plain_node c.into_node-in-Foreach-2.result) c.in-Foreach.iteration
     c.get-in-Foreach.result.now c.args.body.now c.args.out.now c.int.new.out c.int-in-Foreach.new.out
-    (plain_typed c.in_ok-_start-in-Foreach._start) (plain_typed c.in_ok-_count-in-Foreach._count) v c.in-Foreach.is
-    c.in_ok-_start-in-Foreach.ensures.answer c.in_ok-_start-in-Foreach.ensures.node c.in_ok-_count-in-Foreach.ensures.answer
-    c.in_ok-_count-in-Foreach.ensures.node c.get-in-Foreach.ensures d)
+    (plain_typed c.in_ok-first-in-Foreach.first) (plain_typed c.in_ok-number-in-Foreach.number) v c.in-Foreach.is
+    c.in_ok-first-in-Foreach.ensures.answer c.in_ok-first-in-Foreach.ensures.node c.in_ok-number-in-Foreach.ensures.answer
+    c.in_ok-number-in-Foreach.ensures.node
+    (node_made c.in-Foreach.start c.into_node-in-Foreach.result (plain_typed c.in_ok-first-in-Foreach.first) c.into_node-in-Foreach.ensures)
+    (node_made c.in-Foreach.count c.into_node-in-Foreach-2.result (plain_typed c.in_ok-number-in-Foreach.number) c.into_node-in-Foreach-2.ensures)
+    c.get-in-Foreach.ensures d)
     c.foreach.ensures.checks
 
 pub statements::repeated-returns-in-ForeachParts-clause-checks :
@@ -378,7 +458,7 @@ statements::repeated-returns-in-ForeachParts-clause-checks t c =
     (plain_expr c.in-ForeachParts.count)
     (plain_stmt c.get-in-ForeachParts.result.now) (walk_of c.args.body.now c.args.out.now))
     (Checking c.args.body.now.atomic_params c.args.around c.args.node (form_of (plain_stmt c.args.stmt.now)) (walk_of c.args.body.now c.args.out.now))
-    c.foreach_parts.result (walk_of c.foreach_parts.new.body c.foreach_parts.new.out)
+    c.foreach_parts.result _
     (λ v d.
     parts_so c.args.body.now.atomic_params c.args.around c.args.node c.args.stmt.now c.in-ForeachParts.view c.in-ForeachParts.var c.in-ForeachParts.array
     c.in-ForeachParts.count
@@ -386,60 +466,61 @@ statements::repeated-returns-in-ForeachParts-clause-checks t c =
     c.get-in-ForeachParts.ensures d)
     c.foreach_parts.ensures.checks
 
-pub constructs::atomic-returns-in_err-block-clause-checks : goal.constructs::atomic-returns-in_err-block-clause-checks
-constructs::atomic-returns-in_err-block-clause-checks t c =
+pub constructs::atomic-returns-in_err-done-clause-checks : goal.constructs::atomic-returns-in_err-done-clause-checks
+constructs::atomic-returns-in_err-done-clause-checks t c =
     atomic_refused c.args.body.now.atomic_params c.args.body.now c.args.around c.inside.result c.args.node (plain_stmts (map plain_stmt c.args.stmts.now))
     c.args.out.now c.new-inner.result
-    _ c.from_residual.result c.in_err-block.field-0.0 c.from_residual.ensures.1 c.inside.ensures
-    c.new-inner.ensures c.in_err-block.ensures.checks
+    _ c.from_residual.result c.in_err-done.field-0.0 c.from_residual.ensures.1 c.inside.ensures
+    c.new-inner.ensures c.in_err-done.ensures.checks
 
 pub constructs::atomic-returns-in_err-settle-clause-checks : goal.constructs::atomic-returns-in_err-settle-clause-checks
 constructs::atomic-returns-in_err-settle-clause-checks t c =
     atomic_told c.args.body.now.atomic_params c.args.body.now c.block.new.body c.args.around c.inside.result c.args.node c.note_if.new.self
     (plain_stmts (map plain_stmt c.args.stmts.now))
-    c.args.out.now c.new-inner.result c.block.new.out _ c.from_residual-in_err-settle.result c.in_err-settle.field-0.0
-    c.from_residual-in_err-settle.ensures.1 c.inside.ensures c.new-inner.ensures c.in_ok-block.ensures.checks c.note_if.ensures.node
+    c.args.out.now c.new-inner.result c.block.new.out (map typed_stmt c.in_ok-done.done.stmts) _ c.from_residual-in_err-settle.result
+    c.in_err-settle.field-0.0 c.from_residual-in_err-settle.ensures.1 c.inside.ensures c.new-inner.ensures c.in_ok-done.ensures.checks c.note_if.ensures.node
     c.in_err-settle.ensures.result
 
 pub constructs::atomic-returns-clause-nd : goal.constructs::atomic-returns-clause-nd
 constructs::atomic-returns-clause-nd t c =
     taken_nd c.from_here-leaving.result c.args.out.now c.block.new.out c.take_in.new.out (some_holds_nd (plain_stmts (map plain_stmt c.args.stmts.now)))
     c.in_ok-take_in.ensures (begun_nd c.new-inner.result c.block.new.out (some_holds_nd (plain_stmts (map plain_stmt c.args.stmts.now))) c.new-inner.ensures
-    c.in_ok-block.ensures.nd)
+    c.in_ok-done.ensures.nd)
 
 pub constructs::atomic-returns-clause-checks : goal.constructs::atomic-returns-clause-checks
 constructs::atomic-returns-clause-checks t c =
     atomic_passes c.args.body.now.atomic_params c.args.body.now c.block.new.body c.args.around c.inside.result c.args.node c.note_if.new.self
     (plain_stmts (map plain_stmt c.args.stmts.now))
-    c.args.out.now c.new-inner.result c.block.new.out c.take_in.new.out c.in_ok-entered.field-0 c.push.new.self c.from_here-leaving.result
-    c.inside.ensures c.new-inner.ensures c.in_ok-block.ensures.checks c.note_if.ensures.node c.in_ok-settle.ensures.clean
-    c.in_ok-entered.ensures c.in_ok-push.ensures.ok c.from_here-leaving.ensures c.in_ok-take_in.ensures
+    c.args.out.now c.new-inner.result c.block.new.out c.take_in.new.out c.in_ok-effects.effects c.from_here-leaving.result
+    (map typed_stmt c.in_ok-done.done.stmts) (typed_stmt c.entered.result)
+    c.inside.ensures c.new-inner.ensures c.in_ok-done.ensures.checks c.note_if.ensures.node c.in_ok-settle.ensures.clean
+    c.in_ok-effects.ensures c.from_here-leaving.ensures c.in_ok-take_in.ensures c.entered.ensures
 
-pub constructs::foreach-returns-in_err-scoped-clause-checks :
-    goal.constructs::foreach-returns-in_err-scoped-clause-checks
-constructs::foreach-returns-in_err-scoped-clause-checks t c =
+pub constructs::foreach-returns-in_err-done-clause-checks :
+    goal.constructs::foreach-returns-in_err-done-clause-checks
+constructs::foreach-returns-in_err-done-clause-checks t c =
     iteration_stopped c.args.body.now c.declare_variable.new.self c.args.around c.inside.result c.args.node c.args.nd c.args.var
-    (plain_stmt c.args.iteration.now)
-    c.args.out.now c.new-inner.result _ c.from_residual-in_err-scoped.result c.in_err-scoped.field-0.0
-    c.from_residual-in_err-scoped.ensures.1 c.new-inner.ensures c.in_ok-declare_variable.ensures.whole c.inside.ensures c.in_err-scoped.ensures.checks
+    (plain_node c.args.range.0) (plain_node c.args.range.1) (plain_stmt c.args.iteration.now)
+    c.args.out.now c.new-inner.result _ c.from_residual-in_err-done.result c.in_err-done.field-0.0
+    c.from_residual-in_err-done.ensures.1 c.new-inner.ensures c.in_ok-declare_variable.ensures.whole c.inside.ensures c.in_err-done.ensures.checks
 
 pub constructs::foreach-returns-in_err-settle-clause-checks :
     goal.constructs::foreach-returns-in_err-settle-clause-checks
 constructs::foreach-returns-in_err-settle-clause-checks t c =
     let passed : Iterated c.args.body.now c.scoped.new.body c.args.around c.args.node c.note_if.new.self c.args.var (plain_stmt c.args.iteration.now)
     c.args.out.now
-    c.scoped.new.out c.in_ok-assigns_outer.field-0 = record {
+    c.scoped.new.out (typed_stmt c.in_ok-done.done.stmt) c.in_ok-assigns_outer.field-0 = record {
       second_is =
           second_noted c.args.body.now.env c.args.var c.args.node c.note_declaration.new.node c.note_if.new.self c.in_ok-assigns_outer.field-0
           c.note_declaration.ensures.node c.note_if.ensures.node;
       in_scope =
           iteration_in c.args.body.now c.declare_variable.new.self c.args.around c.inside.result c.args.var (plain_stmt c.args.iteration.now) c.args.out.now
-          c.new-inner.result (passes (walk_of c.scoped.new.body c.scoped.new.out)) c.new-inner.ensures c.in_ok-declare_variable.ensures.whole
-          c.inside.ensures c.in_ok-scoped.ensures.checks;
+          c.new-inner.result (passes (typed_stmt c.in_ok-done.done.stmt) (walk_of c.scoped.new.body c.scoped.new.out)) c.new-inner.ensures c.in_ok-declare_variable.ensures.whole
+          c.inside.ensures c.in_ok-done.ensures.checks;
       assigning = c.in_ok-assigns_outer.ensures;
     } in
-    iteration_told c.args.body.now c.scoped.new.body c.args.around c.args.node c.note_if.new.self c.args.nd c.args.var (plain_stmt c.args.iteration.now)
-    c.args.out.now c.scoped.new.out c.in_ok-assigns_outer.field-0 _ c.from_residual-in_err-settle.result c.in_err-settle.field-0.0
+    iteration_told c.args.body.now c.scoped.new.body c.args.around c.args.node c.note_if.new.self c.args.nd c.args.var (plain_node c.args.range.0) (plain_node c.args.range.1) (plain_stmt c.args.iteration.now)
+    c.args.out.now c.scoped.new.out (typed_stmt c.in_ok-done.done.stmt) c.in_ok-assigns_outer.field-0 _ c.from_residual-in_err-settle.result c.in_err-settle.field-0.0
     c.from_residual-in_err-settle.ensures.1 passed c.in_err-settle.ensures.result
 
 pub constructs::foreach-returns-in_err-settle-2-clause-checks :
@@ -447,14 +528,14 @@ pub constructs::foreach-returns-in_err-settle-2-clause-checks :
 constructs::foreach-returns-in_err-settle-2-clause-checks t c =
     let passed : Iterated c.args.body.now c.scoped.new.body c.args.around c.args.node c.note_if.new.self c.args.var (plain_stmt c.args.iteration.now)
     c.args.out.now
-    c.scoped.new.out c.in_ok-assigns_outer.field-0 = record {
+    c.scoped.new.out (typed_stmt c.in_ok-done.done.stmt) c.in_ok-assigns_outer.field-0 = record {
       second_is =
           second_noted c.args.body.now.env c.args.var c.args.node c.note_declaration.new.node c.note_if.new.self c.in_ok-assigns_outer.field-0
           c.note_declaration.ensures.node c.note_if.ensures.node;
       in_scope =
           iteration_in c.args.body.now c.declare_variable.new.self c.args.around c.inside.result c.args.var (plain_stmt c.args.iteration.now) c.args.out.now
-          c.new-inner.result (passes (walk_of c.scoped.new.body c.scoped.new.out)) c.new-inner.ensures c.in_ok-declare_variable.ensures.whole
-          c.inside.ensures c.in_ok-scoped.ensures.checks;
+          c.new-inner.result (passes (typed_stmt c.in_ok-done.done.stmt) (walk_of c.scoped.new.body c.scoped.new.out)) c.new-inner.ensures c.in_ok-declare_variable.ensures.whole
+          c.inside.ensures c.in_ok-done.ensures.checks;
       assigning = c.in_ok-assigns_outer.ensures;
     } in
     let reached : c.if-inner.inner ≡ (c.scoped.new.out.reaches_nd || c.args.nd) = (elim c.if-inner.branch [
@@ -463,7 +544,7 @@ constructs::foreach-returns-in_err-settle-2-clause-checks t c =
     ]) in
     let met : IterationsMet c.args.body.now c.scoped.new.body c.note_if.new.self c.settle.new.self c.note_if-2.new.self c.args.nd c.in_ok-clash.clash
     c.slots-slot.result c.leave.new.self c.mark-scope.result c.scoped.new.out (reaching c.scoped.new.out c.if-inner.inner) c.interference.result = record {
-      home = c.in_ok-scoped.ensures.home ∙ c.in_ok-declare_variable.ensures.home;
+      home = c.in_ok-done.ensures.home ∙ c.in_ok-declare_variable.ensures.home;
       scope_is = c.mark-scope.ensures;
       env_is = c.leave.ensures.whole;
       slot_is = c.slots-slot.ensures;
@@ -474,8 +555,8 @@ constructs::foreach-returns-in_err-settle-2-clause-checks t c =
       third_is = c.note_if-2.ensures.node;
     } in
     iterations_told c.args.body.now c.scoped.new.body c.args.around c.args.node c.note_if.new.self c.settle.new.self c.note_if-2.new.self c.args.nd
-    c.in_ok-assigns_outer.field-0 c.in_ok-clash.clash c.args.var (plain_stmt c.args.iteration.now) c.slots-slot.result c.leave.new.self c.mark-scope.result
-    c.args.out.now c.scoped.new.out (reaching c.scoped.new.out c.if-inner.inner) c.interference.result _ c.from_residual-in_err-settle-2.result
+    c.in_ok-assigns_outer.field-0 c.in_ok-clash.clash c.args.var (plain_node c.args.range.0) (plain_node c.args.range.1) (plain_stmt c.args.iteration.now) c.slots-slot.result c.leave.new.self c.mark-scope.result
+    c.args.out.now c.scoped.new.out (reaching c.scoped.new.out c.if-inner.inner) (typed_stmt c.in_ok-done.done.stmt) c.interference.result _ c.from_residual-in_err-settle-2.result
     c.in_err-settle-2.field-0.0 c.from_residual-in_err-settle-2.ensures.1 passed met c.in_ok-settle.ensures.clean c.in_err-settle-2.ensures.result
 
 pub constructs::foreach-returns-clause-nd : goal.constructs::foreach-returns-clause-nd
@@ -486,20 +567,20 @@ constructs::foreach-returns-clause-nd t c =
     ]) in
     iterations_nd c.from_here-leaving.result c.args.out.now c.scoped.new.out c.new-inner.result (reaching c.scoped.new.out c.if-inner.inner) c.take_in.new.out
     c.args.nd (holds_nd (plain_stmt c.args.iteration.now)) c.new-inner.ensures (reached_is c.scoped.new.out c.args.nd c.if-inner.inner reached)
-    c.in_ok-take_in.ensures c.in_ok-scoped.ensures.nd
+    c.in_ok-take_in.ensures c.in_ok-done.ensures.nd
 
 pub constructs::foreach-returns-clause-checks : goal.constructs::foreach-returns-clause-checks
 constructs::foreach-returns-clause-checks t c =
     let passed : Iterated c.args.body.now c.scoped.new.body c.args.around c.args.node c.note_if.new.self c.args.var (plain_stmt c.args.iteration.now)
     c.args.out.now
-    c.scoped.new.out c.in_ok-assigns_outer.field-0 = record {
+    c.scoped.new.out (typed_stmt c.in_ok-done.done.stmt) c.in_ok-assigns_outer.field-0 = record {
       second_is =
           second_noted c.args.body.now.env c.args.var c.args.node c.note_declaration.new.node c.note_if.new.self c.in_ok-assigns_outer.field-0
           c.note_declaration.ensures.node c.note_if.ensures.node;
       in_scope =
           iteration_in c.args.body.now c.declare_variable.new.self c.args.around c.inside.result c.args.var (plain_stmt c.args.iteration.now) c.args.out.now
-          c.new-inner.result (passes (walk_of c.scoped.new.body c.scoped.new.out)) c.new-inner.ensures c.in_ok-declare_variable.ensures.whole
-          c.inside.ensures c.in_ok-scoped.ensures.checks;
+          c.new-inner.result (passes (typed_stmt c.in_ok-done.done.stmt) (walk_of c.scoped.new.body c.scoped.new.out)) c.new-inner.ensures c.in_ok-declare_variable.ensures.whole
+          c.inside.ensures c.in_ok-done.ensures.checks;
       assigning = c.in_ok-assigns_outer.ensures;
     } in
     let reached : c.if-inner.inner ≡ (c.scoped.new.out.reaches_nd || c.args.nd) = (elim c.if-inner.branch [
@@ -508,7 +589,7 @@ constructs::foreach-returns-clause-checks t c =
     ]) in
     let met : IterationsMet c.args.body.now c.scoped.new.body c.note_if.new.self c.settle.new.self c.note_if-2.new.self c.args.nd c.in_ok-clash.clash
     c.slots-slot.result c.leave.new.self c.mark-scope.result c.scoped.new.out (reaching c.scoped.new.out c.if-inner.inner) c.interference.result = record {
-      home = c.in_ok-scoped.ensures.home ∙ c.in_ok-declare_variable.ensures.home;
+      home = c.in_ok-done.ensures.home ∙ c.in_ok-declare_variable.ensures.home;
       scope_is = c.mark-scope.ensures;
       env_is = c.leave.ensures.whole;
       slot_is = c.slots-slot.ensures;
@@ -519,44 +600,45 @@ constructs::foreach-returns-clause-checks t c =
       third_is = c.note_if-2.ensures.node;
     } in
     iterations_pass c.args.body.now c.scoped.new.body c.args.around c.args.node c.note_if.new.self c.settle.new.self c.note_if-2.new.self c.args.nd
-    c.in_ok-assigns_outer.field-0 c.in_ok-clash.clash c.args.var (plain_stmt c.args.iteration.now) c.slots-slot.result c.leave.new.self c.mark-scope.result
-    c.args.out.now c.scoped.new.out (reaching c.scoped.new.out c.if-inner.inner) c.take_in.new.out c.interference.result c.marks_after.result
+    c.in_ok-assigns_outer.field-0 c.in_ok-clash.clash c.args.var (plain_node c.args.range.0) (plain_node c.args.range.1) (plain_stmt c.args.iteration.now) c.slots-slot.result c.leave.new.self c.mark-scope.result
+    c.args.out.now c.scoped.new.out (reaching c.scoped.new.out c.if-inner.inner) c.take_in.new.out (typed_stmt c.in_ok-done.done.stmt)
+    (typed_stmt c.in_ok-iterated.field-0) c.interference.result c.marks_after.result
     c.from_here-leaving.result passed met c.in_ok-settle.ensures.clean c.in_ok-settle-2.ensures.clean c.marks_after.ensures
-    c.from_here-leaving.ensures c.in_ok-take_in.ensures
+    c.from_here-leaving.ensures c.in_ok-take_in.ensures c.in_ok-iterated.ensures
 
-pub parts::foreach_parts-returns-in_err-outer-clause-checks :
-    goal.parts::foreach_parts-returns-in_err-outer-clause-checks
-parts::foreach_parts-returns-in_err-outer-clause-checks t c =
+pub parts::foreach_parts-returns-in_err-field-0-clause-checks :
+    goal.parts::foreach_parts-returns-in_err-field-0-clause-checks
+parts::foreach_parts-returns-in_err-field-0-clause-checks t c =
     range_stopped c.args.body.now c.args.around c.args.node c.args.names.0 c.args.names.1 (plain_expr c.args.range.0.now) (plain_expr c.args.range.1.now)
     (plain_stmt c.args.iteration.now)
-    c.args.out.now _ c.from_residual.result c.in_err-outer.field-0.0 c.from_residual.ensures.1 c.in_err-outer.ensures.opening
+    c.args.out.now _ c.from_residual.result c.in_err-field-0.field-0.0 c.from_residual.ensures.1 c.in_err-field-0.ensures.opening
 
-pub parts::foreach_parts-returns-in_err-scoped-clause-checks :
-    goal.parts::foreach_parts-returns-in_err-scoped-clause-checks
-parts::foreach_parts-returns-in_err-scoped-clause-checks t c =
+pub parts::foreach_parts-returns-in_err-done-clause-checks :
+    goal.parts::foreach_parts-returns-in_err-done-clause-checks
+parts::foreach_parts-returns-in_err-done-clause-checks t c =
     part_stopped c.args.body.now c.open.new.body c.args.around c.inside.result c.args.node c.open.new.node c.args.names.0 c.args.names.1
     (plain_expr c.args.range.0.now) (plain_expr c.args.range.1.now)
-    (plain_stmt c.args.iteration.now) c.args.out.now c.open.new.out c.new-inner.result c.in_ok-outer.outer _
-    c.from_residual-in_err-scoped.result c.in_err-scoped.field-0.0 c.from_residual-in_err-scoped.ensures.1 c.in_ok-outer.ensures.opening
-    c.in_ok-outer.ensures.home c.inside.ensures c.new-inner.ensures c.in_err-scoped.ensures.checks
+    (plain_stmt c.args.iteration.now) c.args.out.now c.open.new.out c.new-inner.result (plain_source c.in_ok-field-0.field-0.0) (plain_node c.in_ok-field-0.field-0.1) _
+    c.from_residual-in_err-done.result c.in_err-done.field-0.0 c.from_residual-in_err-done.ensures.1 c.in_ok-field-0.ensures.opening
+    c.in_ok-field-0.ensures.home c.inside.ensures c.new-inner.ensures c.in_err-done.ensures.checks
 
 pub parts::foreach_parts-returns-in_err-settle-clause-checks :
     goal.parts::foreach_parts-returns-in_err-settle-clause-checks
 parts::foreach_parts-returns-in_err-settle-clause-checks t c =
     let part : Part c.args.body.now c.open.new.body c.scoped.new.body c.args.around c.args.node c.open.new.node c.note_if.new.self c.args.names.0
     c.args.names.1 (plain_expr c.args.range.0.now) (plain_expr c.args.range.1.now)
-    (plain_stmt c.args.iteration.now) c.args.out.now c.open.new.out c.scoped.new.out c.in_ok-outer.outer c.in_ok-assigns_outer.field-0 = record {
-      opening = c.in_ok-outer.ensures.opening;
+    (plain_stmt c.args.iteration.now) c.args.out.now c.open.new.out c.scoped.new.out (plain_source c.in_ok-field-0.field-0.0) (plain_node c.in_ok-field-0.field-0.1) (typed_stmt c.in_ok-done.done.stmt) c.in_ok-assigns_outer.field-0 = record {
+      opening = c.in_ok-field-0.ensures.opening;
       second_is = c.note_if.ensures.node;
       in_scope =
           piece_begun c.args.body.now c.open.new.body c.args.around c.inside.result (plain_stmt c.args.iteration.now) c.open.new.out c.new-inner.result
-          (passes (walk_of c.scoped.new.body c.scoped.new.out)) c.in_ok-outer.ensures.home c.inside.ensures c.new-inner.ensures
-          c.in_ok-scoped.ensures.checks;
+          (passes (typed_stmt c.in_ok-done.done.stmt) (walk_of c.scoped.new.body c.scoped.new.out)) c.in_ok-field-0.ensures.home c.inside.ensures c.new-inner.ensures
+          c.in_ok-done.ensures.checks;
       assigning = c.in_ok-assigns_outer.ensures;
     } in
     part_told c.args.body.now c.open.new.body c.scoped.new.body c.args.around c.args.node c.open.new.node c.note_if.new.self c.args.names.0 c.args.names.1
     (plain_expr c.args.range.0.now) (plain_expr c.args.range.1.now)
-    (plain_stmt c.args.iteration.now) c.args.out.now c.open.new.out c.scoped.new.out c.in_ok-outer.outer c.in_ok-assigns_outer.field-0 _
+    (plain_stmt c.args.iteration.now) c.args.out.now c.open.new.out c.scoped.new.out (plain_source c.in_ok-field-0.field-0.0) (plain_node c.in_ok-field-0.field-0.1) (typed_stmt c.in_ok-done.done.stmt) c.in_ok-assigns_outer.field-0 _
     c.from_residual-in_err-settle.result c.in_err-settle.field-0.0 c.from_residual-in_err-settle.ensures.1 part c.in_err-settle.ensures.result
 
 pub parts::foreach_parts-returns-in_err-settle-2-clause-checks :
@@ -564,18 +646,18 @@ pub parts::foreach_parts-returns-in_err-settle-2-clause-checks :
 parts::foreach_parts-returns-in_err-settle-2-clause-checks t c =
     let part : Part c.args.body.now c.open.new.body c.scoped.new.body c.args.around c.args.node c.open.new.node c.note_if.new.self c.args.names.0
     c.args.names.1 (plain_expr c.args.range.0.now) (plain_expr c.args.range.1.now)
-    (plain_stmt c.args.iteration.now) c.args.out.now c.open.new.out c.scoped.new.out c.in_ok-outer.outer c.in_ok-assigns_outer.field-0 = record {
-      opening = c.in_ok-outer.ensures.opening;
+    (plain_stmt c.args.iteration.now) c.args.out.now c.open.new.out c.scoped.new.out (plain_source c.in_ok-field-0.field-0.0) (plain_node c.in_ok-field-0.field-0.1) (typed_stmt c.in_ok-done.done.stmt) c.in_ok-assigns_outer.field-0 = record {
+      opening = c.in_ok-field-0.ensures.opening;
       second_is = c.note_if.ensures.node;
       in_scope =
           piece_begun c.args.body.now c.open.new.body c.args.around c.inside.result (plain_stmt c.args.iteration.now) c.open.new.out c.new-inner.result
-          (passes (walk_of c.scoped.new.body c.scoped.new.out)) c.in_ok-outer.ensures.home c.inside.ensures c.new-inner.ensures
-          c.in_ok-scoped.ensures.checks;
+          (passes (typed_stmt c.in_ok-done.done.stmt) (walk_of c.scoped.new.body c.scoped.new.out)) c.in_ok-field-0.ensures.home c.inside.ensures c.new-inner.ensures
+          c.in_ok-done.ensures.checks;
       assigning = c.in_ok-assigns_outer.ensures;
     } in
     let met : PartsMet c.args.body.now c.scoped.new.body c.note_if.new.self c.settle.new.self c.note_if-2.new.self c.in_ok-passes.passes c.slots-part.result
     (c.slots-part.result + 4) c.leave.new.self c.mark-scope.result c.scoped.new.out = record {
-      home = c.in_ok-scoped.ensures.home ∙ c.in_ok-outer.ensures.home;
+      home = c.in_ok-done.ensures.home ∙ c.in_ok-field-0.ensures.home;
       scope_is = c.mark-scope.ensures;
       env_is = c.leave.ensures.whole;
       part_is = c.slots-part.ensures;
@@ -588,32 +670,32 @@ parts::foreach_parts-returns-in_err-settle-2-clause-checks t c =
     c.note_if-2.new.self
     c.args.names.0 c.args.names.1 (plain_expr c.args.range.0.now) (plain_expr c.args.range.1.now) (plain_stmt c.args.iteration.now) c.args.out.now
     c.open.new.out c.scoped.new.out
-    c.in_ok-outer.outer c.in_ok-assigns_outer.field-0 c.in_ok-passes.passes c.slots-part.result (c.slots-part.result + 4) c.leave.new.self
+    (plain_source c.in_ok-field-0.field-0.0) (plain_node c.in_ok-field-0.field-0.1) (typed_stmt c.in_ok-done.done.stmt) c.in_ok-assigns_outer.field-0 c.in_ok-passes.passes c.slots-part.result (c.slots-part.result + 4) c.leave.new.self
     c.mark-scope.result _ c.from_residual-in_err-settle-2.result c.in_err-settle-2.field-0.0 c.from_residual-in_err-settle-2.ensures.1 part met
     c.in_ok-settle.ensures.clean c.in_err-settle-2.ensures.result
 
 pub parts::foreach_parts-returns-clause-nd : goal.parts::foreach_parts-returns-clause-nd
 parts::foreach_parts-returns-clause-nd t c =
     parts_nd c.from_here-leaving.result c.args.out.now c.open.new.out c.scoped.new.out c.new-inner.result c.in_ok-inner.inner c.take_in.new.out
-    c.slots-part.result c.in_ok-outer.outer (holds_nd (plain_stmt c.args.iteration.now)) c.new-inner.ensures c.in_ok-inner.ensures c.in_ok-take_in.ensures
-    c.in_ok-outer.ensures.nd c.in_ok-scoped.ensures.nd
+    c.slots-part.result c.outer_part.result (holds_nd (plain_stmt c.args.iteration.now)) c.new-inner.ensures c.in_ok-inner.ensures c.in_ok-take_in.ensures
+    c.in_ok-field-0.ensures.nd c.in_ok-done.ensures.nd
 
 pub parts::foreach_parts-returns-clause-checks : goal.parts::foreach_parts-returns-clause-checks
 parts::foreach_parts-returns-clause-checks t c =
     let part : Part c.args.body.now c.open.new.body c.scoped.new.body c.args.around c.args.node c.open.new.node c.note_if.new.self c.args.names.0
     c.args.names.1 (plain_expr c.args.range.0.now) (plain_expr c.args.range.1.now)
-    (plain_stmt c.args.iteration.now) c.args.out.now c.open.new.out c.scoped.new.out c.in_ok-outer.outer c.in_ok-assigns_outer.field-0 = record {
-      opening = c.in_ok-outer.ensures.opening;
+    (plain_stmt c.args.iteration.now) c.args.out.now c.open.new.out c.scoped.new.out (plain_source c.in_ok-field-0.field-0.0) (plain_node c.in_ok-field-0.field-0.1) (typed_stmt c.in_ok-done.done.stmt) c.in_ok-assigns_outer.field-0 = record {
+      opening = c.in_ok-field-0.ensures.opening;
       second_is = c.note_if.ensures.node;
       in_scope =
           piece_begun c.args.body.now c.open.new.body c.args.around c.inside.result (plain_stmt c.args.iteration.now) c.open.new.out c.new-inner.result
-          (passes (walk_of c.scoped.new.body c.scoped.new.out)) c.in_ok-outer.ensures.home c.inside.ensures c.new-inner.ensures
-          c.in_ok-scoped.ensures.checks;
+          (passes (typed_stmt c.in_ok-done.done.stmt) (walk_of c.scoped.new.body c.scoped.new.out)) c.in_ok-field-0.ensures.home c.inside.ensures c.new-inner.ensures
+          c.in_ok-done.ensures.checks;
       assigning = c.in_ok-assigns_outer.ensures;
     } in
     let met : PartsMet c.args.body.now c.scoped.new.body c.note_if.new.self c.settle.new.self c.note_if-2.new.self c.in_ok-passes.passes c.slots-part.result
     (c.slots-part.result + 4) c.leave.new.self c.mark-scope.result c.scoped.new.out = record {
-      home = c.in_ok-scoped.ensures.home ∙ c.in_ok-outer.ensures.home;
+      home = c.in_ok-done.ensures.home ∙ c.in_ok-field-0.ensures.home;
       scope_is = c.mark-scope.ensures;
       env_is = c.leave.ensures.whole;
       part_is = c.slots-part.ensures;
@@ -626,30 +708,35 @@ parts::foreach_parts-returns-clause-checks t c =
     c.note_if-2.new.self
     c.args.names.0 c.args.names.1 (plain_expr c.args.range.0.now) (plain_expr c.args.range.1.now) (plain_stmt c.args.iteration.now) c.args.out.now
     c.open.new.out c.scoped.new.out
-    c.in_ok-inner.inner c.take_in.new.out c.in_ok-outer.outer c.in_ok-assigns_outer.field-0 c.in_ok-passes.passes c.slots-part.result
+    c.in_ok-inner.inner c.take_in.new.out (plain_source c.in_ok-field-0.field-0.0) (plain_node c.in_ok-field-0.field-0.1) (typed_stmt c.in_ok-done.done.stmt)
+    (typed_stmt c.in_ok-parted.field-0) c.outer_part.result c.in_ok-assigns_outer.field-0 c.in_ok-passes.passes c.slots-part.result
     (c.slots-part.result + 4) c.leave.new.self c.mark-scope.result c.from_here-leaving.result part met c.in_ok-settle.ensures.clean
-    c.in_ok-settle-2.ensures.clean c.in_ok-inner.ensures c.from_here-leaving.ensures c.in_ok-take_in.ensures
+    c.in_ok-settle-2.ensures.clean c.outer_part.ensures c.in_ok-inner.ensures c.from_here-leaving.ensures c.in_ok-take_in.ensures
+    c.in_ok-parted.ensures
 
-pub constructs::cobegin-returns-in_err-scoped-clause-checks :
-    goal.constructs::cobegin-returns-in_err-scoped-clause-checks
-constructs::cobegin-returns-in_err-scoped-clause-checks t c =
+pub constructs::cobegin-returns-in_err-done-clause-checks :
+    goal.constructs::cobegin-returns-in_err-done-clause-checks
+constructs::cobegin-returns-in_err-done-clause-checks t c =
     fork_stopped c.args.body.now c.loop-branch.body c.args.around c.inside.result c.args.node c.args.nd c.args.branches.now c.loop-branch.branch-index
-    c.loop-branch.effects c.loop-branch.locals
+    c.loop-branch.effects c.loop-branch.locals (map plain_branch c.loop-branch.made)
     c.args.out.now c.loop-branch.out c.new-inner.result c.branch-item.result _ c.from_residual.result
-    c.in_err-scoped.field-0.0 c.from_residual.ensures.1 c.loop-branch.invariant.forks c.loop-branch-test.true c.branch-item.is c.loop-branch.invariant.home
+    c.in_err-done.field-0.0 c.from_residual.ensures.1 c.loop-branch.invariant.forks c.loop-branch-test.true c.branch-item.is c.loop-branch.invariant.home
     c.inside.ensures
-    c.new-inner.ensures c.in_err-scoped.ensures.checks
+    c.new-inner.ensures c.in_err-done.ensures.checks
 
 pub constructs::cobegin-loop-branch-preserved : goal.constructs::cobegin-loop-branch-preserved
 constructs::cobegin-loop-branch-preserved t c =
+    let one : TypedBranch = plain_branch (record { copies = c.in_ok-copies.copies; body = c.in_ok-done.done.stmt }) in
     let found : Branch c.args.body.now.atomic_params (inside c.args.around) c.args.nd c.loop-branch.body c.scoped.new.body c.loop-branch.out c.scoped.new.out
     c.take_in.new.out c.branch-item.result
-    c.in_ok-all_effects.field-0 c.in_ok-touched.field-0 c.marks_after.result c.from_here-leaving.result = record {
+    c.in_ok-all_effects.field-0 c.in_ok-names.names one c.marks_after.result c.from_here-leaving.result (typed_stmt c.in_ok-done.done.stmt) = record {
       in_scope =
           piece_begun c.args.body.now c.loop-branch.body c.args.around c.inside.result (plain_stmt c.branch-item.result) c.loop-branch.out c.new-inner.result
-          (passes (walk_of c.scoped.new.body c.scoped.new.out)) c.loop-branch.invariant.home c.inside.ensures c.new-inner.ensures c.in_ok-scoped.ensures.checks;
-      touched = record { reads = c.in_ok-touched.ensures.reads; assigns = c.in_ok-touched.ensures.writes };
+          (passes (typed_stmt c.in_ok-done.done.stmt) (walk_of c.scoped.new.body c.scoped.new.out)) c.loop-branch.invariant.home c.inside.ensures c.new-inner.ensures c.in_ok-done.ensures.checks;
+      touched = record { reads = c.in_ok-names.ensures.reads; assigns = c.in_ok-names.ensures.writes; once = c.in_ok-names.ensures.once };
       set_is = c.in_ok-all_effects.ensures;
+      one_is = branch_made c.loop-branch.body.env c.in_ok-names.names c.as_slice-in-loop-branch.result.now c.in_ok-copies.copies c.in_ok-done.done.stmt
+          c.as_slice-in-loop-branch.ensures c.in_ok-copies.ensures;
       kept_is = c.marks_after.ensures;
       leaving_is = c.from_here-leaving.ensures;
       out_is = c.in_ok-take_in.ensures;
@@ -657,20 +744,23 @@ constructs::cobegin-loop-branch-preserved t c =
     record {
       keeps =
           fork_keeps c.args.around c.inside.result c.args.branches.now c.loop-branch.branch-index c.branch-item.result c.loop-branch-test.true c.branch-item.is
-          c.inside.ensures c.in_ok-scoped.ensures.keeps c.loop-branch.invariant.keeps;
+          c.inside.ensures c.in_ok-done.ensures.keeps c.loop-branch.invariant.keeps;
       nd =
           fork_nd c.from_here-leaving.result c.args.branches.now c.loop-branch.branch-index c.branch-item.result
           (c.args.out.now.reaches_nd || some_holds_nd (plain_stmts (map plain_stmt c.args.branches.now))) c.loop-branch.out c.scoped.new.out c.new-inner.result
-          c.take_in.new.out c.loop-branch-test.true c.branch-item.is c.new-inner.ensures c.in_ok-take_in.ensures c.in_ok-scoped.ensures.nd
+          c.take_in.new.out c.loop-branch-test.true c.branch-item.is c.new-inner.ensures c.in_ok-take_in.ensures c.in_ok-done.ensures.nd
           c.loop-branch.invariant.nd;
       forks =
           fork_more c.args.body.now.atomic_params (inside c.args.around) c.args.nd c.args.branches.now (walk_of c.args.body.now c.args.out.now)
           c.loop-branch.branch-index
-          c.loop-branch.effects c.push-in-loop-branch.new.self c.loop-branch.locals c.push.new.self c.loop-branch.body c.scoped.new.body c.loop-branch.out
-          c.scoped.new.out c.take_in.new.out c.branch-item.result c.in_ok-all_effects.field-0 c.in_ok-touched.field-0 c.marks_after.result
-          c.from_here-leaving.result c.loop-branch.invariant.forks c.loop-branch-test.true c.branch-item.is found c.in_ok-push-2.ensures.ok
-          c.in_ok-push.ensures.ok;
-      home = c.in_ok-scoped.ensures.home ∙ c.loop-branch.invariant.home;
+          c.loop-branch.effects c.push-in-loop-branch-2.new.self c.loop-branch.locals c.push-in-loop-branch.new.self (map plain_branch c.loop-branch.made)
+          (map plain_branch c.push.new.self) c.loop-branch.body c.scoped.new.body c.loop-branch.out
+          c.scoped.new.out c.take_in.new.out c.branch-item.result c.in_ok-all_effects.field-0 c.in_ok-names.names one c.marks_after.result
+          c.from_here-leaving.result (typed_stmt c.in_ok-done.done.stmt) c.loop-branch.invariant.forks c.loop-branch-test.true c.branch-item.is found c.in_ok-push-3.ensures.ok
+          c.in_ok-push-2.ensures.ok
+          (map_pushed plain_branch c.loop-branch.made c.push.new.self (record { copies = c.in_ok-copies.copies; body = c.in_ok-done.done.stmt })
+          c.in_ok-push.ensures.ok);
+      home = c.in_ok-done.ensures.home ∙ c.loop-branch.invariant.home;
     }
 
 pub constructs::cobegin-returns-in_err-settle-clause-checks :
@@ -678,29 +768,32 @@ pub constructs::cobegin-returns-in_err-settle-clause-checks :
 constructs::cobegin-returns-in_err-settle-clause-checks t c =
     let all : Branching c.args.body.now.atomic_params (inside c.args.around) c.args.nd (plain_stmts (map plain_stmt c.args.branches.now))
     (walk_of c.args.body.now c.args.out.now)
-    (all_pass c.loop-branch.effects c.loop-branch.locals (walk_of c.loop-branch.body c.loop-branch.out)) =
+    (all_pass c.loop-branch.effects c.loop-branch.locals (map plain_branch c.loop-branch.made) (walk_of c.loop-branch.body c.loop-branch.out)) =
     fork_all c.args.body.now.atomic_params (inside c.args.around) c.args.nd c.args.branches.now (walk_of c.args.body.now c.args.out.now)
     c.loop-branch.branch-index
-    c.loop-branch.effects c.loop-branch.locals (walk_of c.loop-branch.body c.loop-branch.out) c.loop-branch.invariant.forks
+    c.loop-branch.effects c.loop-branch.locals (map plain_branch c.loop-branch.made) (walk_of c.loop-branch.body c.loop-branch.out)
+    c.loop-branch.invariant.forks
     (drop_all c.loop-branch.branch-index c.args.branches.now c.loop-branch-test.false) in
     let clash : ClashIs c.loop-branch.locals c.in_ok-has_clash.field-0 =
     clash_is c.loop-branch.locals c.as_slice.result.now c.in_ok-has_clash.field-0 c.as_slice.ensures c.in_ok-has_clash.ensures.none
     c.in_ok-has_clash.ensures.some in
     fork_told c.args.body.now.atomic_params c.args.around c.args.node c.note_if.new.self c.args.nd c.in_ok-has_clash.field-0
     (plain_stmts (map plain_stmt c.args.branches.now))
-    c.loop-branch.effects c.loop-branch.locals (walk_of c.args.body.now c.args.out.now) (walk_of c.loop-branch.body c.loop-branch.out)
-    (walk_of c.loop-branch.body (reaching c.loop-branch.out c.if-out.out))
+    c.loop-branch.effects c.loop-branch.locals (map plain_branch c.loop-branch.made) (walk_of c.args.body.now c.args.out.now)
+    (walk_of c.loop-branch.body c.loop-branch.out) _
     c.from_residual-in_err-settle.result c.in_err-settle.field-0.0 c.from_residual-in_err-settle.ensures.1 all clash c.note_if.ensures.node
     c.in_err-settle.ensures.result
 
-pub constructs::cobegin-returns-clause-checks : goal.constructs::cobegin-returns-clause-checks
-constructs::cobegin-returns-clause-checks t c =
+pub constructs::cobegin-returns-in_err-settle-2-clause-checks :
+    goal.constructs::cobegin-returns-in_err-settle-2-clause-checks
+constructs::cobegin-returns-in_err-settle-2-clause-checks t c =
     let all : Branching c.args.body.now.atomic_params (inside c.args.around) c.args.nd (plain_stmts (map plain_stmt c.args.branches.now))
     (walk_of c.args.body.now c.args.out.now)
-    (all_pass c.loop-branch.effects c.loop-branch.locals (walk_of c.loop-branch.body c.loop-branch.out)) =
+    (all_pass c.loop-branch.effects c.loop-branch.locals (map plain_branch c.loop-branch.made) (walk_of c.loop-branch.body c.loop-branch.out)) =
     fork_all c.args.body.now.atomic_params (inside c.args.around) c.args.nd c.args.branches.now (walk_of c.args.body.now c.args.out.now)
     c.loop-branch.branch-index
-    c.loop-branch.effects c.loop-branch.locals (walk_of c.loop-branch.body c.loop-branch.out) c.loop-branch.invariant.forks
+    c.loop-branch.effects c.loop-branch.locals (map plain_branch c.loop-branch.made) (walk_of c.loop-branch.body c.loop-branch.out)
+    c.loop-branch.invariant.forks
     (drop_all c.loop-branch.branch-index c.args.branches.now c.loop-branch-test.false) in
     let clash : ClashIs c.loop-branch.locals c.in_ok-has_clash.field-0 =
     clash_is c.loop-branch.locals c.as_slice.result.now c.in_ok-has_clash.field-0 c.as_slice.ensures c.in_ok-has_clash.ensures.none
@@ -724,4 +817,41 @@ constructs::cobegin-returns-clause-checks t c =
     fork_ends c.args.body.now c.loop-branch.body c.args.around c.args.node c.note_if.new.self c.settle.new.self c.note_if-2.new.self c.args.nd
     c.in_ok-has_clash.field-0
     c.in_ok-passes.passes c.if-out.out (plain_stmts (map plain_stmt c.args.branches.now)) c.loop-branch.effects c.as_slice-2.result.now c.loop-branch.locals
-    c.args.out.now c.loop-branch.out c.interference.result c.settle-2.result all clash met c.in_ok-settle.ensures.clean c.settle-2.ensures.result
+    (map plain_branch c.loop-branch.made) c.args.out.now c.loop-branch.out c.interference.result _
+    c.from_residual-in_err-settle-2.result c.in_err-settle-2.field-0.0 c.from_residual-in_err-settle-2.ensures.1 all clash met c.in_ok-settle.ensures.clean
+    c.in_err-settle-2.ensures.result
+
+pub constructs::cobegin-returns-clause-checks : goal.constructs::cobegin-returns-clause-checks
+constructs::cobegin-returns-clause-checks t c =
+    let all : Branching c.args.body.now.atomic_params (inside c.args.around) c.args.nd (plain_stmts (map plain_stmt c.args.branches.now))
+    (walk_of c.args.body.now c.args.out.now)
+    (all_pass c.loop-branch.effects c.loop-branch.locals (map plain_branch c.loop-branch.made) (walk_of c.loop-branch.body c.loop-branch.out)) =
+    fork_all c.args.body.now.atomic_params (inside c.args.around) c.args.nd c.args.branches.now (walk_of c.args.body.now c.args.out.now)
+    c.loop-branch.branch-index
+    c.loop-branch.effects c.loop-branch.locals (map plain_branch c.loop-branch.made) (walk_of c.loop-branch.body c.loop-branch.out)
+    c.loop-branch.invariant.forks
+    (drop_all c.loop-branch.branch-index c.args.branches.now c.loop-branch-test.false) in
+    let clash : ClashIs c.loop-branch.locals c.in_ok-has_clash.field-0 =
+    clash_is c.loop-branch.locals c.as_slice.result.now c.in_ok-has_clash.field-0 c.as_slice.ensures c.in_ok-has_clash.ensures.none
+    c.in_ok-has_clash.ensures.some in
+    let reached : c.if-out.out ≡ (c.loop-branch.out.reaches_nd || c.args.nd) = (elim c.if-out.branch [
+      | constructs::cobegin-then-out w ↦ or_then c.loop-branch.out.reaches_nd c.args.nd c.if-out.out w.if-out.true w.out-is
+      | constructs::cobegin-else-out w ↦ or_else c.loop-branch.out.reaches_nd c.args.nd c.if-out.out w.if-out.false w.out-is
+    ]) in
+    let met : BranchesMet c.args.body.now c.loop-branch.body c.args.node c.note_if.new.self c.settle.new.self c.note_if-2.new.self c.args.nd
+    c.in_ok-has_clash.field-0
+    c.in_ok-passes.passes c.if-out.out c.loop-branch.effects c.as_slice-2.result.now c.loop-branch.out c.interference.result = record {
+      home = c.loop-branch.invariant.home;
+      second_is = c.note_if.ensures.node;
+      read_is = c.as_slice-2.ensures;
+      apart = c.in_ok-passes.ensures;
+      settle_is = c.settle.ensures.forgotten;
+      reason_is = c.interference.ensures;
+      third_is = c.note_if-2.ensures.node;
+      reached_by = reached;
+    } in
+    fork_passes c.args.body.now c.loop-branch.body c.args.around c.args.node c.note_if.new.self c.settle.new.self c.note_if-2.new.self c.args.nd
+    c.in_ok-has_clash.field-0
+    c.in_ok-passes.passes c.if-out.out (plain_stmts (map plain_stmt c.args.branches.now)) c.loop-branch.effects c.as_slice-2.result.now c.loop-branch.locals
+    (map plain_branch c.loop-branch.made) c.args.out.now c.loop-branch.out c.interference.result
+    (typed_stmt c.forked.result) all clash met c.in_ok-settle.ensures.clean c.in_ok-settle-2.ensures.clean c.forked.ensures

@@ -1,11 +1,13 @@
 use Rattle.std.proofs.Common.{◌≡◌, true, ◌&&◌, ◌||◌, IsTrue, map, drop}
 use Rattle.dpj_tree.specs.Nd.{some_holds_nd}
 use Rattle.dpj_tree.specs.Plain.{plain_stmt, plain_stmts}
-use Rattle.dpj_check.specs.Checking.{InOrder}
+use Rattle.dpj_typed.specs.Plain.{plain_stmt as typed_stmt}
+use Rattle.dpj_check.specs.Checking.{plain_branch}
 use Rattle.dpj_check.specs.Completes.{all_complete}
 use Rattle.dpj_check.specs.Keeping.{MayFollow, AllKeep, BranchesKeep, inside}
-use Rattle.dpj_check.specs.Walks.{Verdict, home_of, walk_of}
+use Rattle.dpj_check.specs.Walks.{home_of, walk_of}
 use Rattle.dpj_check.proofs.Forks.{ForkSoFar}
+use Rattle.dpj_check.proofs.Orders.{OrderSoFar}
 use Rattle.dpj_check.proofs.+statements.Given as goal
 
 abbrev pub invariant-statements::statements-loop-stmt : goal.invariant-statements::statements-loop-stmt
@@ -16,9 +18,8 @@ invariant-statements::statements-loop-stmt l = record {
   nd : IsTrue (l.fn.out.reaches_nd || some_holds_nd (plain_stmts (map plain_stmt l.stmts))) →
       IsTrue (l.out.reaches_nd || some_holds_nd (plain_stmts (map plain_stmt (drop l.stmt-index l.stmts))));
   home : home_of l.body ≡ home_of l.fn.body;
-  goes_on : (v : Verdict) →
-      InOrder l.fn.body.atomic_params l.around l.completes (plain_stmts (map plain_stmt (drop l.stmt-index l.stmts))) (walk_of l.body l.out) v →
-      InOrder l.fn.body.atomic_params l.around true (plain_stmts (map plain_stmt l.stmts)) (walk_of l.fn.body l.fn.out) v;
+  goes_on : OrderSoFar l.fn.body.atomic_params l.around l.stmts (walk_of l.fn.body l.fn.out) l.stmt-index l.completes (map typed_stmt l.made)
+      (walk_of l.body l.out);
 }
 
 abbrev pub invariant-constructs::cobegin-loop-branch : goal.invariant-constructs::cobegin-loop-branch
@@ -28,6 +29,6 @@ invariant-constructs::cobegin-loop-branch l = record {
   nd : IsTrue (l.fn.out.reaches_nd || some_holds_nd (plain_stmts (map plain_stmt l.branches))) →
       IsTrue (l.out.reaches_nd || some_holds_nd (plain_stmts (map plain_stmt (drop l.branch-index l.branches))));
   forks : ForkSoFar l.fn.body.atomic_params (inside l.around) l.nd l.branches (walk_of l.fn.body l.fn.out) l.branch-index l.effects l.locals
-      (walk_of l.body l.out);
+      (map plain_branch l.made) (walk_of l.body l.out);
   home : home_of l.body ≡ home_of l.fn.body;
 }

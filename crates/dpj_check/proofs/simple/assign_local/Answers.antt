@@ -1,33 +1,61 @@
-use Rattle.std.proofs.Common.{◌∙◌, sym, ap}
+use Rattle.std.proofs.Common.{◌≡◌, ◌∙◌, Some, sym, ap}
 use Rattle.std.specs.Option.{option_copied}
+use Rattle.dpj_base.specs.declared.refusal.Kind.TheVariants as kind
 use Rattle.dpj_tree.specs.Plain.{plain_expr}
+use Rattle.dpj_typed.specs.Plain.{plain_stmt as typed_stmt}
 use Rattle.dpj_exprs.specs.Answer.{refused}
-use Rattle.dpj_exprs.specs.Typed.{plain_typed}
+use Rattle.dpj_exprs.specs.Typed.{plain_node, plain_typed}
 use Rattle.dpj_exprs.specs.Typing.{Typing}
+use Rattle.dpj_check.specs.Noting.{fault_of, with_fault}
 use Rattle.dpj_check.specs.Simple.{AssigningLocal}
 use Rattle.dpj_check.specs.Simple.{AssigningLocal as rule}
 use Rattle.dpj_check.specs.Walks.{walk_of}
-use Rattle.dpj_check.proofs.Leaves.{no_local_says, local_says}
-use Rattle.dpj_check.proofs.Passing.{stopped}
-use Rattle.dpj_check.proofs.simple.assign_local.Goals.{in-None, in-Some+in_ok-fits-in-Some}
+use Rattle.dpj_check.specs.Walks.{Verdict as verdict}
+use Rattle.dpj_check.proofs.Leaves.{Stored, stored_so, stored_told}
+use Rattle.dpj_check.proofs.Nodes.{node_made}
+use Rattle.dpj_check.proofs.Passing.{said_of, stopped, settle_stopped}
 use Rattle.dpj_check.proofs.simple.assign_local.Goals as goal
 
-pub returns-in_err-value-clause-checks : goal.returns-in_err-value-clause-checks
-returns-in_err-value-clause-checks c =
+pub returns-in_err-given-clause-checks : goal.returns-in_err-given-clause-checks
+returns-in_err-given-clause-checks c =
     stopped (λ q. Typing c.args.body.now.env (plain_expr c.args.value.now) c.args.out.now (refused q))
     (AssigningLocal c.args.node c.args.target (plain_expr c.args.value.now) (walk_of c.args.body.now c.args.out.now))
-    c.from_residual.result _ c.in_err-value.field-0.0 c.from_residual.ensures.1
+    c.from_residual.result _ c.in_err-given.field-0.0 c.from_residual.ensures.1
     (λ q d. rule.value_refused d)
-    c.in_err-value.ensures.answer
+    c.in_err-given.ensures.answer
+
+pub returns-in_default-clause-checks : goal.returns-in_default-clause-checks
+returns-in_default-clause-checks c =
+    said_of (λ q. fault_of (with_fault c.args.node kind.Unknown c.args.target.place) ≡ Some q)
+    (λ q. AssigningLocal c.args.node c.args.target (plain_expr c.args.value.now) (walk_of c.args.body.now c.args.out.now) (verdict.refused q)) c.refused_at.result
+    (λ q told. rule.no_local c.in_ok-given.ensures.answer (sym c.local.ensures ∙ ap option_copied c.in_default.is) told) c.refused_at.ensures
+
+pub returns-in_err-settle-clause-checks : goal.returns-in_err-settle-clause-checks
+returns-in_err-settle-clause-checks c =
+    let known : Stored c.args.node c.note_found.new.self c.args.target (plain_expr c.args.value.now) c.in-Some.row.now c.args.body.now c.args.out.now
+    c.typed.new.out (plain_typed c.in_ok-given.given) c.in_ok-fits.field-0 c.local_fault.result = record {
+      typing = c.in_ok-given.ensures.answer;
+      local_is = sym c.local.ensures ∙ ap option_copied c.in-Some.is;
+      fits = c.in_ok-fits.ensures;
+      reason_is = c.local_fault.ensures;
+      noted_is = c.note_found.ensures.node;
+    } in
+    settle_stopped (AssigningLocal c.args.node c.args.target (plain_expr c.args.value.now) (walk_of c.args.body.now c.args.out.now)) (fault_of c.note_found.new.self)
+    c.from_residual-in_err-settle.result c.in_err-settle.field-0.0 _ c.from_residual-in_err-settle.ensures.1 c.in_err-settle.ensures.result
+    (λ q told.
+    stored_told c.args.node c.note_found.new.self c.args.target (plain_expr c.args.value.now) c.in-Some.row.now c.args.body.now c.args.out.now
+    c.typed.new.out (plain_typed c.in_ok-given.given) c.in_ok-fits.field-0 c.local_fault.result q known told)
 
 pub returns-clause-checks : goal.returns-clause-checks
 returns-clause-checks c =
-    elim c.match-local.branch [
-      | in-None w ↦ no_local_says c.args.node c.match-local.node c.args.target (plain_expr c.args.value.now) c.args.body.now c.args.out.now c.typed.new.out
-          (plain_typed c.in_ok-value.value) c.settle.result c.in_ok-value.ensures.answer (sym c.local.ensures ∙ ap option_copied w.in-None.is)
-          (w.node-is ∙ w.note_at.ensures.node) c.settle.ensures.result
-      | in-Some+in_ok-fits-in-Some w ↦ local_says c.args.node c.match-local.node c.args.target (plain_expr c.args.value.now) w.in-Some.row.now c.args.body.now
-          c.args.out.now c.typed.new.out (plain_typed c.in_ok-value.value) w.in_ok-fits-in-Some.field-0 w.local_fault.result c.settle.result
-          c.in_ok-value.ensures.answer (sym c.local.ensures ∙ ap option_copied w.in-Some.is) w.in_ok-fits-in-Some.ensures w.local_fault.ensures
-          (w.node-is ∙ w.note_found.ensures.node) c.settle.ensures.result
-    ]
+    let known : Stored c.args.node c.note_found.new.self c.args.target (plain_expr c.args.value.now) c.in-Some.row.now c.args.body.now c.args.out.now
+    c.typed.new.out (plain_typed c.in_ok-given.given) c.in_ok-fits.field-0 c.local_fault.result = record {
+      typing = c.in_ok-given.ensures.answer;
+      local_is = sym c.local.ensures ∙ ap option_copied c.in-Some.is;
+      fits = c.in_ok-fits.ensures;
+      reason_is = c.local_fault.ensures;
+      noted_is = c.note_found.ensures.node;
+    } in
+    stored_so c.args.node c.note_found.new.self c.args.target (plain_expr c.args.value.now) c.in-Some.row.now c.args.body.now c.args.out.now
+    c.typed.new.out (plain_typed c.in_ok-given.given) c.in_ok-fits.field-0 c.local_fault.result (plain_node c.into_node.result) (typed_stmt c.store.result) known
+    (node_made c.args.value.now c.into_node.result (plain_typed c.in_ok-given.given) c.into_node.ensures) c.store.ensures c.in_ok-settle.ensures.clean

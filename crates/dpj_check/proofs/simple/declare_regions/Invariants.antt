@@ -1,6 +1,6 @@
-use Rattle.std.proofs.Common.{◌≡◌, None, drop}
+use Rattle.std.proofs.Common.{◌≡◌, ◌++◌, None, drop, map}
 use Rattle.dpj_check.specs.Noting.{fault_of}
-use Rattle.dpj_check.specs.Simple.{regions_noted, with_regions}
+use Rattle.dpj_check.specs.Simple.{regions_made, regions_noted, with_regions}
 use Rattle.dpj_check.specs.Walks.{home_of}
 use Rattle.dpj_check.proofs.simple.declare_regions.Given as goal
 
@@ -10,5 +10,5 @@ invariant-loop-named l = record {
   home : home_of l.body ≡ home_of l.fn.body;
   noted : regions_noted l.body.env l.node (drop l.named-index l.names) ≡ regions_noted l.fn.body.env l.fn.node l.names;
   scope : with_regions l.body.env (drop l.named-index l.names) ≡ with_regions l.fn.body.env l.names;
-  blocks : l.body.blocks ≡ l.fn.body.blocks;
+  made : map (λ region. region.number) l.regions ++ regions_made l.body.env (drop l.named-index l.names) ≡ regions_made l.fn.body.env l.names;
 }

@@ -1,22 +1,35 @@
-use Rattle.std.proofs.Common.{refl}
 use Rattle.dpj_tree.specs.Plain.{plain_expr}
+use Rattle.dpj_typed.specs.Plain.{plain_stmt as typed_stmt}
 use Rattle.dpj_exprs.specs.Answer.{refused}
+use Rattle.dpj_exprs.specs.Typed.{plain_node, plain_typed}
 use Rattle.dpj_exprs.specs.Typing.{Typing}
 use Rattle.dpj_check.specs.Noting.{fault_of}
 use Rattle.dpj_check.specs.Simple.{Performing}
 use Rattle.dpj_check.specs.Simple.{Performing as rule}
 use Rattle.dpj_check.specs.Walks.{walk_of}
-use Rattle.dpj_check.proofs.Passing.{stopped, settled_says}
+use Rattle.dpj_check.proofs.Leaves.{performed_so, performed_told}
+use Rattle.dpj_check.proofs.Nodes.{node_made}
+use Rattle.dpj_check.proofs.Passing.{stopped, settle_stopped}
 use Rattle.dpj_check.proofs.simple.perform.Goals as goal
 
-pub returns-in_err-typed-clause-checks : goal.returns-in_err-typed-clause-checks
-returns-in_err-typed-clause-checks c =
+pub returns-in_err-given-clause-checks : goal.returns-in_err-given-clause-checks
+returns-in_err-given-clause-checks c =
     stopped (λ q. Typing c.args.body.now.env (plain_expr c.args.e.now) c.args.out.now (refused q))
-    (Performing c.args.node (plain_expr c.args.e.now) (walk_of c.args.body.now c.args.out.now)) c.from_residual.result _ c.in_err-typed.field-0.0
-    c.from_residual.ensures.1 (λ q d. rule.refused_itself d) c.in_err-typed.ensures.answer
+    (Performing c.args.node (plain_expr c.args.e.now) (walk_of c.args.body.now c.args.out.now))
+    c.from_residual.result _ c.in_err-given.field-0.0 c.from_residual.ensures.1
+    (λ q d. rule.refused_itself d)
+    c.in_err-given.ensures.answer
+
+pub returns-in_err-settle-clause-checks : goal.returns-in_err-settle-clause-checks
+returns-in_err-settle-clause-checks c =
+    settle_stopped (Performing c.args.node (plain_expr c.args.e.now) (walk_of c.args.body.now c.args.out.now)) (fault_of c.args.node)
+    c.from_residual-in_err-settle.result c.in_err-settle.field-0.0 _ c.from_residual-in_err-settle.ensures.1 c.in_err-settle.ensures.result
+    (λ q told.
+    performed_told c.args.node (plain_expr c.args.e.now) c.args.body.now c.args.out.now c.typed.new.out (plain_typed c.in_ok-given.given) q
+    c.in_ok-given.ensures.answer told)
 
 pub returns-clause-checks : goal.returns-clause-checks
 returns-clause-checks c =
-    settled_says (fault_of c.args.node) c.settle.result (walk_of c.args.body.now c.typed.new.out)
-    (Performing c.args.node (plain_expr c.args.e.now) (walk_of c.args.body.now c.args.out.now)) c.settle.ensures.result
-    (rule.performed c.in_ok-typed.ensures.answer refl)
+    performed_so c.args.node (plain_expr c.args.e.now) c.args.body.now c.args.out.now c.typed.new.out (plain_typed c.in_ok-given.given)
+    (plain_node c.into_node.result) (typed_stmt c.performed.result) c.in_ok-given.ensures.answer
+    (node_made c.args.e.now c.into_node.result (plain_typed c.in_ok-given.given) c.into_node.ensures) c.performed.ensures c.in_ok-settle.ensures.clean

@@ -1,4 +1,4 @@
-use Rattle.std.proofs.Common.{◌≡◌, ◌∙◌, Ok, Err, option_map, sym, ap}
+use Rattle.std.proofs.Common.{◌≡◌, Ok, Err, option_map, sym, ap}
 use Rattle.dpj_tree.specs.Plain.{expression, field, plain_expr}
 use Rattle.dpj_exprs.specs.Targeting.{plain_target, aims, misses, aimed, field_target, Targeting}
 use Rattle.dpj_exprs.specs.Typed.{plain_typed}
@@ -6,24 +6,24 @@ use Rattle.dpj_exprs.proofs.Constructs.{Refuses}
 use Rattle.dpj_exprs.proofs.Passing.{says_to, passed_on, refuses}
 use Rattle.dpj_exprs.proofs.assigned.field_target.Goals as goal
 
-pub returns-then-is_part_length-clause-answer : goal.returns-then-is_part_length-clause-answer
-returns-then-is_part_length-clause-answer c =
+pub returns-in-Some-clause-answer : goal.returns-in-Some-clause-answer
+returns-in-Some-clause-answer c =
     refuses (Targeting c.args.env.now (expression c.args.place (field (plain_expr c.args.of.now) c.args.name)) c.args.found.now)
     (λ t. aims (option_map plain_target t) c.args.found.now) misses c.refused.result _ c.refused.ensures
-    (Targeting.length_assigned (sym c.is_part_length.ensures ∙ c.if-is_part_length.true))
+    (Targeting.length_assigned (sym c.in-Some.ensures))
 
-pub returns-in_err-of-clause-answer : goal.returns-in_err-of-clause-answer
-returns-in_err-of-clause-answer c =
+pub returns-in_err-of-in-None-clause-answer : goal.returns-in_err-of-in-None-clause-answer
+returns-in_err-of-in-None-clause-answer c =
     passed_on (Refuses c.args.env.now c.args.of.now c.args.found.now)
     (Targeting c.args.env.now (expression c.args.place (field (plain_expr c.args.of.now) c.args.name)) c.args.found.now)
-    (λ t. aims (option_map plain_target t) c.expr.new.found) misses c.from_residual.result c.in_err-of.field-0.0 c.from_residual.ensures.1
-    (λ q d. Targeting.receiver_refused (sym c.is_part_length.ensures ∙ c.if-is_part_length.false) d)
-    c.in_err-of.ensures.answer
+    (λ t. aims (option_map plain_target t) c.expr.new.found) misses c.from_residual.result c.in_err-of-in-None.field-0.0 c.from_residual.ensures.1
+    (λ q d. Targeting.receiver_refused (sym c.in-None.ensures) d)
+    c.in_err-of-in-None.ensures.answer
 
-pub returns-clause-answer : goal.returns-clause-answer
-returns-clause-answer c =
-    says_to (λ r. field_target c.args.env.now (plain_typed c.in_ok-of.of) c.args.name c.args.place ≡ r)
+pub returns-in_ok-of-in-None-clause-answer : goal.returns-in_ok-of-in-None-clause-answer
+returns-in_ok-of-in-None-clause-answer c =
+    says_to (λ r. field_target c.args.env.now (plain_typed c.in_ok-of-in-None.of) c.args.name c.args.place ≡ r)
     (Targeting c.args.env.now (expression c.args.place (field (plain_expr c.args.of.now) c.args.name)) c.args.found.now)
     (λ r. aimed r c.expr.new.found) (λ t. Ok (option_map plain_target t)) Err c.through.result
-    (λ r d. Targeting.field_assigned (sym c.is_part_length.ensures ∙ c.if-is_part_length.false) c.in_ok-of.ensures.answer (ap (λ z. aimed z c.expr.new.found) d))
+    (λ r d. Targeting.field_assigned (sym c.in-None.ensures) c.in_ok-of-in-None.ensures.answer (ap (λ z. aimed z c.expr.new.found) d))
     c.through.ensures

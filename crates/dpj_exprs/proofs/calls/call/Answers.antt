@@ -1,35 +1,34 @@
 use Rattle.std.proofs.Common.{Some, map}
-use Rattle.dpj_base.specs.Types.{plain_type}
 use Rattle.dpj_exprs.specs.Answer.{gives, refused}
-use Rattle.dpj_exprs.specs.Typed.{plain_typed}
+use Rattle.dpj_exprs.specs.Typed.{plain_node, plain_typed}
 use Rattle.dpj_exprs.specs.Uses.{CallOn, Call}
 use Rattle.dpj_exprs.proofs.Calling.{on_known, on_any, on_any_faulty}
 use Rattle.dpj_exprs.proofs.Passing.{passed_on}
 use Rattle.dpj_exprs.proofs.calls.call.Goals as goal
 
-pub returns-in_err-ty-in-Known-clause-answer : goal.returns-in_err-ty-in-Known-clause-answer
-returns-in_err-ty-in-Known-clause-answer c =
+pub returns-in_err-called-in-Known-clause-answer : goal.returns-in_err-called-in-Known-clause-answer
+returns-in_err-called-in-Known-clause-answer c =
     let env = c.args.env.now in
-    let types = map plain_typed c.args.actuals.now in
+    let all = map plain_typed c.args.actuals in
     passed_on
-    (λ q. CallOn env (plain_type c.in-Known.of) c.args.name c.args.regions types c.args.place c.args.found.now (refused q))
-    (Call env (plain_typed c.args.of.now) c.args.name c.args.regions types c.args.place c.args.found.now)
+    (λ q. CallOn env (plain_node c.in-Known.of) c.args.name c.args.regions all c.args.place c.args.found.now (refused q))
+    (Call env (plain_typed c.args.of) c.args.name c.args.regions all c.args.place c.args.found.now)
     (λ t. gives (plain_typed t) c.call_on.new.found) refused
-    c.from_residual.result c.in_err-ty-in-Known.field-0.0 c.from_residual.ensures.1
-    (λ q d. on_known env c.args.of.now c.in-Known.of c.args.name c.args.regions types c.args.place c.args.found.now (refused q) c.in-Known.is d)
-    c.in_err-ty-in-Known.ensures.answer
+    c.from_residual.result c.in_err-called-in-Known.field-0.0 c.from_residual.ensures.1
+    (λ q d. on_known env c.args.of c.in-Known.of c.args.name c.args.regions all c.args.place c.args.found.now (refused q) c.in-Known.is d)
+    c.in_err-called-in-Known.ensures.answer
 
 pub returns-in-Known-clause-answer : goal.returns-in-Known-clause-answer
 returns-in-Known-clause-answer c =
-    on_known c.args.env.now c.args.of.now c.in-Known.of c.args.name c.args.regions (map plain_typed c.args.actuals.now) c.args.place c.args.found.now
-    (gives (Some (plain_type c.in_ok-ty-in-Known.ty)) c.call_on.new.found) c.in-Known.is c.in_ok-ty-in-Known.ensures.answer
+    on_known c.args.env.now c.args.of c.in-Known.of c.args.name c.args.regions (map plain_typed c.args.actuals) c.args.place c.args.found.now
+    (gives (Some (plain_node c.in_ok-called-in-Known.called)) c.call_on.new.found) c.in-Known.is c.in_ok-called-in-Known.ensures.answer
 
-pub returns-in-Any-clause-answer : goal.returns-in-Any-clause-answer
-returns-in-Any-clause-answer c =
-    on_any c.args.env.now c.args.of.now c.args.name c.args.regions (map plain_typed c.args.actuals.now) c.args.place c.args.found.now
-    c.all_values.result c.in-Any.is c.all_values.ensures c.if-all_values.true
+pub returns-then-all_values-clause-answer : goal.returns-then-all_values-clause-answer
+returns-then-all_values-clause-answer c =
+    on_any c.args.env.now c.args.of c.args.name c.args.regions c.args.actuals c.as_slice.result.now c.args.place c.args.found.now
+    c.all_values.result c.in-Any.is c.as_slice.ensures c.all_values.ensures c.if-all_values.true
 
 pub returns-clause-answer : goal.returns-clause-answer
 returns-clause-answer c =
-    on_any_faulty c.args.env.now c.args.of.now c.args.name c.args.regions (map plain_typed c.args.actuals.now) c.args.place c.args.found.now
-    c.all_values.result c.refused.result c.in-Any-2.is c.all_values.ensures c.if-all_values.false c.refused.ensures
+    on_any_faulty c.args.env.now c.args.of c.args.name c.args.regions c.args.actuals c.as_slice.result.now c.args.place c.args.found.now
+    c.all_values.result c.refused.result c.in-Any.is c.as_slice.ensures c.all_values.ensures c.if-all_values.false c.refused.ensures

@@ -6,13 +6,13 @@ use Rattle.dpj_exprs.proofs.creations.creation.Goals as goal
 
 pub returns-in-Some-clause-answer : goal.returns-in-Some-clause-answer
 returns-in-Some-clause-answer c =
-    of_class c.args.env.now c.args.class c.in-Some.number c.args.regions (map plain_typed c.args.actuals.now) c.args.place c.args.found.now
+    of_class c.args.env.now c.args.class c.in-Some.number c.args.regions (map plain_typed c.args.actuals) c.args.place c.args.found.now
     c.creation_of.new.found c.creation_of.result
     (class_for c.headers.result.now _ c.args.class.name c.class.result _ c.class.ensures (c.headers.ensures ∙ ap headers_of c.table.ensures) c.in-Some.is)
     c.creation_of.ensures.answer
 
 pub returns-in-None-clause-answer : goal.returns-in-None-clause-answer
 returns-in-None-clause-answer c =
-    of_no_class c.args.env.now c.args.class c.args.regions (map plain_typed c.args.actuals.now) c.args.place c.args.found.now c.refused.result
+    of_no_class c.args.env.now c.args.class c.args.regions (map plain_typed c.args.actuals) c.args.place c.args.found.now c.refused.result
     (class_for c.headers.result.now _ c.args.class.name c.class.result _ c.class.ensures (c.headers.ensures ∙ ap headers_of c.table.ensures) c.in-None.is)
     c.refused.ensures

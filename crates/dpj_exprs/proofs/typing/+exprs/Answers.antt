@@ -1,4 +1,4 @@
-use Rattle.std.proofs.Common.{◌≡◌, ◌∙◌, Some, Ok, Err, map, sym}
+use Rattle.std.proofs.Common.{◌≡◌, Some, Ok, Err, map, refl}
 use Rattle.std.specs.Option.{option_copied}
 use Rattle.std.proofs.lemmas.List.{drop_all}
 use Rattle.dpj_base.specs.Types.{plain_type}
@@ -10,67 +10,68 @@ use Rattle.dpj_exprs.specs.Env.{table_of}
 use Rattle.dpj_exprs.specs.Fields.{read_field}
 use Rattle.dpj_exprs.specs.Operations.{unary_typed, binary_typed}
 use Rattle.dpj_exprs.specs.Shape.{form_of}
-use Rattle.dpj_exprs.specs.Typed.{plain_typed}
-use Rattle.dpj_exprs.specs.Typing.{all_give, one_refused, leaf_type, TypingAll}
+use Rattle.dpj_exprs.specs.Typed.{plain_node, plain_typed, type_in, node_at}
+use Rattle.dpj_exprs.specs.Typing.{all_give, one_refused, leaf_typed, TypingAll}
 use Rattle.dpj_exprs.specs.Uses.{args_told, callee_params, created_params, Call, Creation}
-use Rattle.dpj_exprs.proofs.Constructs.{Refuses, exits, ends, length_typed, receiver_refused, field_typed, part_index_refused, part_element_typed, array_refused, index_refused, element_typed, operand_refused, operation_typed, left_refused, right_refused, operations_typed, front_refused, length_refused, array_typed, call_receiver_refused, call_args_refused, call_actual_refused, call_typed, new_args_refused, new_actual_refused, new_typed, leaf_typed}
+use Rattle.dpj_exprs.proofs.Constructs.{Refuses, exits, ends, length_typed, receiver_refused, field_typed, part_index_refused, part_element_typed, array_refused, index_refused, element_typed, operand_refused, operation_typed, left_refused, right_refused, operations_typed, front_refused, length_refused, array_typed, call_receiver_refused, call_args_refused, call_actual_refused, call_typed, new_args_refused, new_actual_refused, new_typed, leaf_given}
+use Rattle.dpj_exprs.proofs.Built.{array_built}
 use Rattle.dpj_exprs.proofs.Passing.{passed_on}
 use Rattle.dpj_exprs.proofs.Several.{one_so_far, one_stopped, all_so_far}
 use Rattle.dpj_exprs.proofs.typing.+exprs.Goals as goal
 
-pub expr-returns-then-is_part_length-clause-answer : goal.expr-returns-then-is_part_length-clause-answer
-expr-returns-then-is_part_length-clause-answer t c =
-    length_typed c.args.env.now c.args.e.now c.in-Field.of c.get.result.now c.in-Field.name c.args.found.now c.in-Field.is c.get.ensures (sym c.if-is_part_length.true ∙ c.is_part_length.ensures)
+pub expr-returns-in-Some-clause-answer : goal.expr-returns-in-Some-clause-answer
+expr-returns-in-Some-clause-answer t c =
+    length_typed c.args.env.now c.args.e.now c.in-Field.of c.get.result.now c.in-Field.name c.in-Some.row.now c.args.found.now (plain_node c.part_length.result) c.in-Field.is c.get.ensures c.in-Some.ensures c.part_length.ensures
 
-pub expr-returns-in_err-of-in-Field-clause-answer : goal.expr-returns-in_err-of-in-Field-clause-answer
-expr-returns-in_err-of-in-Field-clause-answer t c =
-    exits c.args.env.now c.args.e.now c.args.found.now _ (Refuses c.args.env.now c.get-in-Field.result.now c.args.found.now)
-    c.from_residual.result c.in_err-of-in-Field.field-0.0 c.from_residual.ensures.1
-    (λ q d. receiver_refused c.args.env.now c.args.e.now c.in-Field.of c.get.result.now c.get-in-Field.result.now c.in-Field.name c.args.found.now q c.in-Field.is c.get.ensures (sym c.if-is_part_length.false ∙ c.is_part_length.ensures) c.get-in-Field.ensures d)
-    c.in_err-of-in-Field.ensures.answer
+pub expr-returns-in_err-of-in-None-clause-answer : goal.expr-returns-in_err-of-in-None-clause-answer
+expr-returns-in_err-of-in-None-clause-answer t c =
+    exits c.args.env.now c.args.e.now c.args.found.now _ (Refuses c.args.env.now c.get-in-None.result.now c.args.found.now)
+    c.from_residual.result c.in_err-of-in-None.field-0.0 c.from_residual.ensures.1
+    (λ q d. receiver_refused c.args.env.now c.args.e.now c.in-Field.of c.get.result.now c.get-in-None.result.now c.in-Field.name c.args.found.now q c.in-Field.is c.get.ensures c.in-None.ensures c.get-in-None.ensures d)
+    c.in_err-of-in-None.ensures.answer
 
-pub expr-returns-in_ok-of-in-Field-clause-answer : goal.expr-returns-in_ok-of-in-Field-clause-answer
-expr-returns-in_ok-of-in-Field-clause-answer t c =
-    ends c.args.env.now c.args.e.now c.args.found.now _ (λ a. read_field c.args.env.now (plain_typed c.in_ok-of-in-Field.of) c.in-Field.name c.args.e.now.place c.expr.new.found ≡ a) c.read_field.result
-    (λ a d. field_typed c.args.env.now c.args.e.now c.in-Field.of c.get.result.now c.get-in-Field.result.now c.in-Field.name c.args.found.now c.expr.new.found (plain_typed c.in_ok-of-in-Field.of) a
-    c.in-Field.is c.get.ensures (sym c.if-is_part_length.false ∙ c.is_part_length.ensures) c.get-in-Field.ensures c.in_ok-of-in-Field.ensures.answer d)
+pub expr-returns-in_ok-of-in-None-clause-answer : goal.expr-returns-in_ok-of-in-None-clause-answer
+expr-returns-in_ok-of-in-None-clause-answer t c =
+    ends c.args.env.now c.args.e.now c.args.found.now _ (λ a. read_field c.args.env.now (plain_typed c.in_ok-of-in-None.of) c.in-Field.name c.args.e.now.place c.expr.new.found ≡ a) c.read_field.result
+    (λ a d. field_typed c.args.env.now c.args.e.now c.in-Field.of c.get.result.now c.get-in-None.result.now c.in-Field.name c.args.found.now c.expr.new.found (plain_typed c.in_ok-of-in-None.of) a
+    c.in-Field.is c.get.ensures c.in-None.ensures c.get-in-None.ensures c.in_ok-of-in-None.ensures.answer d)
     c.read_field.ensures.answer
 
-pub expr-returns-in_err-index-in-Some-clause-answer : goal.expr-returns-in_err-index-in-Some-clause-answer
-expr-returns-in_err-index-in-Some-clause-answer t c =
-    exits c.args.env.now c.args.e.now c.args.found.now _ (Refuses c.args.env.now c.get-in-Some.result.now c.args.found.now)
-    c.from_residual-in_err-index-in-Some.result c.in_err-index-in-Some.field-0.0 c.from_residual-in_err-index-in-Some.ensures.1
-    (λ q d. part_index_refused c.args.env.now c.args.e.now c.in-Element.array c.in-Element.index c.get-in-Element.result.now c.get-in-Some.result.now c.in-Some.row.now c.args.found.now q c.in-Element.is c.get-in-Element.ensures c.in-Some.ensures c.get-in-Some.ensures d)
-    c.in_err-index-in-Some.ensures.answer
+pub expr-returns-in_err-at-in-Some-part-clause-answer : goal.expr-returns-in_err-at-in-Some-part-clause-answer
+expr-returns-in_err-at-in-Some-part-clause-answer t c =
+    exits c.args.env.now c.args.e.now c.args.found.now _ (Refuses c.args.env.now c.get-in-Some-part.result.now c.args.found.now)
+    c.from_residual-in_err-at-in-Some-part.result c.in_err-at-in-Some-part.field-0.0 c.from_residual-in_err-at-in-Some-part.ensures.1
+    (λ q d. part_index_refused c.args.env.now c.args.e.now c.in-Element.array c.in-Element.index c.get-in-Element.result.now c.get-in-Some-part.result.now c.in-Some-part.row.now c.args.found.now q c.in-Element.is c.get-in-Element.ensures c.in-Some-part.ensures c.get-in-Some-part.ensures d)
+    c.in_err-at-in-Some-part.ensures.answer
 
-pub expr-returns-in_ok-index-in-Some-clause-answer : goal.expr-returns-in_ok-index-in-Some-clause-answer
-expr-returns-in_ok-index-in-Some-clause-answer t c =
-    ends c.args.env.now c.args.e.now c.args.found.now _ (λ a. read_part c.in-Some.row.now (plain_typed c.in_ok-index-in-Some.index) c.args.e.now.place c.expr-in-Some.new.found ≡ a) c.read_part.result
-    (λ a d. part_element_typed c.args.env.now c.args.e.now c.in-Element.array c.in-Element.index c.get-in-Element.result.now c.get-in-Some.result.now c.in-Some.row.now c.args.found.now c.expr-in-Some.new.found (plain_typed c.in_ok-index-in-Some.index) a
-    c.in-Element.is c.get-in-Element.ensures c.in-Some.ensures c.get-in-Some.ensures c.in_ok-index-in-Some.ensures.answer d)
+pub expr-returns-in_ok-at-in-Some-part-clause-answer : goal.expr-returns-in_ok-at-in-Some-part-clause-answer
+expr-returns-in_ok-at-in-Some-part-clause-answer t c =
+    ends c.args.env.now c.args.e.now c.args.found.now _ (λ a. read_part c.in-Some-part.row.now (plain_typed c.in_ok-at-in-Some-part.at) c.args.e.now.place c.expr-in-Some-part.new.found ≡ a) c.read_part.result
+    (λ a d. part_element_typed c.args.env.now c.args.e.now c.in-Element.array c.in-Element.index c.get-in-Element.result.now c.get-in-Some-part.result.now c.in-Some-part.row.now c.args.found.now c.expr-in-Some-part.new.found (plain_typed c.in_ok-at-in-Some-part.at) a
+    c.in-Element.is c.get-in-Element.ensures c.in-Some-part.ensures c.get-in-Some-part.ensures c.in_ok-at-in-Some-part.ensures.answer d)
     c.read_part.ensures.answer
 
-pub expr-returns-in_err-array-in-None-clause-answer : goal.expr-returns-in_err-array-in-None-clause-answer
-expr-returns-in_err-array-in-None-clause-answer t c =
-    exits c.args.env.now c.args.e.now c.args.found.now _ (Refuses c.args.env.now c.get-in-None.result.now c.args.found.now)
-    c.from_residual-in_err-array-in-None.result c.in_err-array-in-None.field-0.0 c.from_residual-in_err-array-in-None.ensures.1
-    (λ q d. array_refused c.args.env.now c.args.e.now c.in-Element.array c.in-Element.index c.get-in-Element.result.now c.get-in-None.result.now c.args.found.now q c.in-Element.is c.get-in-Element.ensures c.in-None.ensures c.get-in-None.ensures d)
-    c.in_err-array-in-None.ensures.answer
+pub expr-returns-in_err-array-in-None-part-clause-answer : goal.expr-returns-in_err-array-in-None-part-clause-answer
+expr-returns-in_err-array-in-None-part-clause-answer t c =
+    exits c.args.env.now c.args.e.now c.args.found.now _ (Refuses c.args.env.now c.get-in-None-part.result.now c.args.found.now)
+    c.from_residual-in_err-array-in-None-part.result c.in_err-array-in-None-part.field-0.0 c.from_residual-in_err-array-in-None-part.ensures.1
+    (λ q d. array_refused c.args.env.now c.args.e.now c.in-Element.array c.in-Element.index c.get-in-Element.result.now c.get-in-None-part.result.now c.args.found.now q c.in-Element.is c.get-in-Element.ensures c.in-None-part.ensures c.get-in-None-part.ensures d)
+    c.in_err-array-in-None-part.ensures.answer
 
-pub expr-returns-in_err-index_ty-in-None-clause-answer : goal.expr-returns-in_err-index_ty-in-None-clause-answer
-expr-returns-in_err-index_ty-in-None-clause-answer t c =
-    exits c.args.env.now c.args.e.now c.args.found.now _ (Refuses c.args.env.now c.get-in-None-2.result.now c.expr-in-None.new.found)
-    c.from_residual-in_err-index_ty-in-None.result c.in_err-index_ty-in-None.field-0.0 c.from_residual-in_err-index_ty-in-None.ensures.1
-    (λ q d. index_refused c.args.env.now c.args.e.now c.in-Element.array c.in-Element.index c.get-in-Element.result.now c.get-in-None.result.now c.get-in-None-2.result.now c.args.found.now c.expr-in-None.new.found (plain_typed c.in_ok-array-in-None.array) q
-    c.in-Element.is c.get-in-Element.ensures c.in-None.ensures c.get-in-None.ensures c.get-in-None-2.ensures c.in_ok-array-in-None.ensures.answer d)
-    c.in_err-index_ty-in-None.ensures.answer
+pub expr-returns-in_err-at-in-None-part-clause-answer : goal.expr-returns-in_err-at-in-None-part-clause-answer
+expr-returns-in_err-at-in-None-part-clause-answer t c =
+    exits c.args.env.now c.args.e.now c.args.found.now _ (Refuses c.args.env.now c.get-in-None-part-2.result.now c.expr-in-None-part.new.found)
+    c.from_residual-in_err-at-in-None-part.result c.in_err-at-in-None-part.field-0.0 c.from_residual-in_err-at-in-None-part.ensures.1
+    (λ q d. index_refused c.args.env.now c.args.e.now c.in-Element.array c.in-Element.index c.get-in-Element.result.now c.get-in-None-part.result.now c.get-in-None-part-2.result.now c.args.found.now c.expr-in-None-part.new.found (plain_typed c.in_ok-array-in-None-part.array) q
+    c.in-Element.is c.get-in-Element.ensures c.in-None-part.ensures c.get-in-None-part.ensures c.get-in-None-part-2.ensures c.in_ok-array-in-None-part.ensures.answer d)
+    c.in_err-at-in-None-part.ensures.answer
 
-pub expr-returns-in_ok-index_ty-in-None-clause-answer : goal.expr-returns-in_ok-index_ty-in-None-clause-answer
-expr-returns-in_ok-index_ty-in-None-clause-answer t c =
-    ends c.args.env.now c.args.e.now c.args.found.now _ (λ a. read_element c.args.env.now (plain_typed c.in_ok-array-in-None.array) (plain_expr c.get-in-None-3.result.now) (plain_typed c.in_ok-index_ty-in-None.index_ty) c.args.e.now.place c.expr-in-None-2.new.found ≡ a) c.read_element.result
-    (λ a d. element_typed c.args.env.now c.args.e.now c.in-Element.array c.in-Element.index c.get-in-Element.result.now c.get-in-None.result.now c.get-in-None-2.result.now c.get-in-None-3.result.now c.args.found.now c.expr-in-None.new.found c.expr-in-None-2.new.found
-    (plain_typed c.in_ok-array-in-None.array) (plain_typed c.in_ok-index_ty-in-None.index_ty) a c.in-Element.is c.get-in-Element.ensures c.in-None.ensures c.get-in-None.ensures c.get-in-None-2.ensures c.get-in-None-3.ensures
-    c.in_ok-array-in-None.ensures.answer c.in_ok-index_ty-in-None.ensures.answer d)
+pub expr-returns-in_ok-at-in-None-part-clause-answer : goal.expr-returns-in_ok-at-in-None-part-clause-answer
+expr-returns-in_ok-at-in-None-part-clause-answer t c =
+    ends c.args.env.now c.args.e.now c.args.found.now _ (λ a. read_element c.args.env.now (plain_typed c.in_ok-array-in-None-part.array) (plain_expr c.get-in-None-part-3.result.now) (plain_typed c.in_ok-at-in-None-part.at) c.args.e.now.place c.expr-in-None-part-2.new.found ≡ a) c.read_element.result
+    (λ a d. element_typed c.args.env.now c.args.e.now c.in-Element.array c.in-Element.index c.get-in-Element.result.now c.get-in-None-part.result.now c.get-in-None-part-2.result.now c.get-in-None-part-3.result.now c.args.found.now c.expr-in-None-part.new.found c.expr-in-None-part-2.new.found
+    (plain_typed c.in_ok-array-in-None-part.array) (plain_typed c.in_ok-at-in-None-part.at) a c.in-Element.is c.get-in-Element.ensures c.in-None-part.ensures c.get-in-None-part.ensures c.get-in-None-part-2.ensures c.get-in-None-part-3.ensures
+    c.in_ok-array-in-None-part.ensures.answer c.in_ok-at-in-None-part.ensures.answer d)
     c.read_element.ensures.answer
 
 pub exprs-returns-in_err-expr-clause-answer : goal.exprs-returns-in_err-expr-clause-answer
@@ -99,7 +100,7 @@ invocation-returns-in_err-of-in-Call-clause-answer t c =
 
 pub invocation-returns-in_err-regions-in-Call-clause-answer : goal.invocation-returns-in_err-regions-in-Call-clause-answer
 invocation-returns-in_err-regions-in-Call-clause-answer t c =
-    exits c.args.env.now c.args.e.now c.args.found.now _ (λ q. args_told c.args.env.now (callee_params (table_of c.args.env.now) (plain_typed c.in_ok-of-in-Call.of) c.in-Call.name) c.as_slice.result.now ≡ Some q)
+    exits c.args.env.now c.args.e.now c.args.found.now _ (λ q. args_told c.args.env.now (callee_params (table_of c.args.env.now) (type_in (plain_typed c.in_ok-of-in-Call.of)) c.in-Call.name) c.as_slice.result.now ≡ Some q)
     c.from_residual-in_err-regions-in-Call.result c.in_err-regions-in-Call.field-0.0 c.from_residual-in_err-regions-in-Call.ensures.1
     (λ q d. call_args_refused c.args.env.now c.args.e.now c.in-Call.of c.get.result.now c.in-Call.regions c.as_slice.result.now c.in-Call.name c.in-Call.actuals c.args.found.now c.expr.new.found (plain_typed c.in_ok-of-in-Call.of) q
     c.in-Call.is c.get.ensures c.as_slice.ensures c.in_ok-of-in-Call.ensures.answer d)
@@ -115,9 +116,9 @@ invocation-returns-in_err-actuals-in-Call-clause-answer t c =
 
 pub invocation-returns-in_ok-actuals-in-Call-clause-answer : goal.invocation-returns-in_ok-actuals-in-Call-clause-answer
 invocation-returns-in_ok-actuals-in-Call-clause-answer t c =
-    ends c.args.env.now c.args.e.now c.args.found.now _ (Call c.args.env.now (plain_typed c.in_ok-of-in-Call.of) c.in-Call.name c.in_ok-regions-in-Call.regions (map plain_typed c.as_slice-actuals.result.now) c.args.e.now.place c.exprs.new.found) c.call.result
-    (λ a d. call_typed c.args.env.now c.args.e.now c.in-Call.of c.get.result.now c.in-Call.regions c.as_slice.result.now c.in-Call.name c.in-Call.actuals c.as_slice-in-Call.result.now c.in_ok-actuals-in-Call.actuals c.as_slice-actuals.result.now
-    c.args.found.now c.expr.new.found c.exprs.new.found (plain_typed c.in_ok-of-in-Call.of) c.in_ok-regions-in-Call.regions a c.in-Call.is c.get.ensures c.as_slice.ensures c.as_slice-in-Call.ensures c.as_slice-actuals.ensures
+    ends c.args.env.now c.args.e.now c.args.found.now _ (Call c.args.env.now (plain_typed c.in_ok-of-in-Call.of) c.in-Call.name c.in_ok-regions-in-Call.regions (map plain_typed c.in_ok-actuals-in-Call.actuals) c.args.e.now.place c.exprs.new.found) c.call.result
+    (λ a d. call_typed c.args.env.now c.args.e.now c.in-Call.of c.get.result.now c.in-Call.regions c.as_slice.result.now c.in-Call.name c.in-Call.actuals c.as_slice-in-Call.result.now c.in_ok-actuals-in-Call.actuals c.in_ok-actuals-in-Call.actuals
+    c.args.found.now c.expr.new.found c.exprs.new.found (plain_typed c.in_ok-of-in-Call.of) c.in_ok-regions-in-Call.regions a c.in-Call.is c.get.ensures c.as_slice.ensures c.as_slice-in-Call.ensures refl
     c.in_ok-of-in-Call.ensures.answer c.in_ok-regions-in-Call.ensures.read c.in_ok-regions-in-Call.ensures.told c.in_ok-actuals-in-Call.ensures.answer d)
     c.call.ensures.answer
 
@@ -135,31 +136,31 @@ invocation-returns-in_err-actuals-in-New-clause-answer t c =
     (λ q d. new_actual_refused c.args.env.now c.args.e.now c.in-New.class c.in-New.regions c.as_slice-in-New.result.now c.in-New.actuals c.as_slice-in-New-2.result.now c.args.found.now q c.in-New.is c.as_slice-in-New.ensures c.as_slice-in-New-2.ensures c.in_ok-regions-in-New.ensures.told d)
     c.in_err-actuals-in-New.ensures.answer
 
-pub invocation-returns-in_err-ty-in-New-clause-answer : goal.invocation-returns-in_err-ty-in-New-clause-answer
-invocation-returns-in_err-ty-in-New-clause-answer t c =
-    exits c.args.env.now c.args.e.now c.args.found.now _ (λ q. Creation c.args.env.now c.in-New.class c.in_ok-regions-in-New.regions (map plain_typed c.as_slice-actuals-in-New.result.now) c.args.e.now.place c.exprs-in-New.new.found (refused q))
-    c.from_residual-in_err-ty-in-New.result c.in_err-ty-in-New.field-0.0 c.from_residual-in_err-ty-in-New.ensures.1
-    (λ q d. new_typed c.args.env.now c.args.e.now c.in-New.class c.in-New.regions c.as_slice-in-New.result.now c.in-New.actuals c.as_slice-in-New-2.result.now c.in_ok-actuals-in-New.actuals c.as_slice-actuals-in-New.result.now
-    c.args.found.now c.exprs-in-New.new.found c.in_ok-regions-in-New.regions (refused q) c.in-New.is c.as_slice-in-New.ensures c.as_slice-in-New-2.ensures c.as_slice-actuals-in-New.ensures
+pub invocation-returns-in_err-made-in-New-clause-answer : goal.invocation-returns-in_err-made-in-New-clause-answer
+invocation-returns-in_err-made-in-New-clause-answer t c =
+    exits c.args.env.now c.args.e.now c.args.found.now _ (λ q. Creation c.args.env.now c.in-New.class c.in_ok-regions-in-New.regions (map plain_typed c.in_ok-actuals-in-New.actuals) c.args.e.now.place c.exprs-in-New.new.found (refused q))
+    c.from_residual-in_err-made-in-New.result c.in_err-made-in-New.field-0.0 c.from_residual-in_err-made-in-New.ensures.1
+    (λ q d. new_typed c.args.env.now c.args.e.now c.in-New.class c.in-New.regions c.as_slice-in-New.result.now c.in-New.actuals c.as_slice-in-New-2.result.now c.in_ok-actuals-in-New.actuals c.in_ok-actuals-in-New.actuals
+    c.args.found.now c.exprs-in-New.new.found c.in_ok-regions-in-New.regions (refused q) c.in-New.is c.as_slice-in-New.ensures c.as_slice-in-New-2.ensures refl
     c.in_ok-regions-in-New.ensures.read c.in_ok-regions-in-New.ensures.told c.in_ok-actuals-in-New.ensures.answer d)
-    c.in_err-ty-in-New.ensures.answer
+    c.in_err-made-in-New.ensures.answer
 
-pub invocation-returns-in_ok-ty-in-New-clause-answer : goal.invocation-returns-in_ok-ty-in-New-clause-answer
-invocation-returns-in_ok-ty-in-New-clause-answer t c =
-    new_typed c.args.env.now c.args.e.now c.in-New.class c.in-New.regions c.as_slice-in-New.result.now c.in-New.actuals c.as_slice-in-New-2.result.now c.in_ok-actuals-in-New.actuals c.as_slice-actuals-in-New.result.now
-    c.args.found.now c.exprs-in-New.new.found c.in_ok-regions-in-New.regions (gives (Some (plain_type c.in_ok-ty-in-New.ty)) c.creation.new.found) c.in-New.is c.as_slice-in-New.ensures c.as_slice-in-New-2.ensures c.as_slice-actuals-in-New.ensures
-    c.in_ok-regions-in-New.ensures.read c.in_ok-regions-in-New.ensures.told c.in_ok-actuals-in-New.ensures.answer c.in_ok-ty-in-New.ensures.answer
+pub invocation-returns-in_ok-made-in-New-clause-answer : goal.invocation-returns-in_ok-made-in-New-clause-answer
+invocation-returns-in_ok-made-in-New-clause-answer t c =
+    new_typed c.args.env.now c.args.e.now c.in-New.class c.in-New.regions c.as_slice-in-New.result.now c.in-New.actuals c.as_slice-in-New-2.result.now c.in_ok-actuals-in-New.actuals c.in_ok-actuals-in-New.actuals
+    c.args.found.now c.exprs-in-New.new.found c.in_ok-regions-in-New.regions (gives (Some (plain_node c.in_ok-made-in-New.made)) c.creation.new.found) c.in-New.is c.as_slice-in-New.ensures c.as_slice-in-New-2.ensures refl
+    c.in_ok-regions-in-New.ensures.read c.in_ok-regions-in-New.ensures.told c.in_ok-actuals-in-New.ensures.answer c.in_ok-made-in-New.ensures.answer
 
 pub invocation-returns-in_err-leaf-in_default-clause-answer : goal.invocation-returns-in_err-leaf-in_default-clause-answer
 invocation-returns-in_err-leaf-in_default-clause-answer t c =
-    exits c.args.env.now c.args.e.now c.args.found.now _ (λ q. leaf_type c.args.env.now c.args.e.now.place (form_of (plain_expr c.args.e.now)) ≡ Some (Err q))
+    exits c.args.env.now c.args.e.now c.args.found.now _ (λ q. leaf_typed c.args.env.now c.args.e.now.place (form_of (plain_expr c.args.e.now)) ≡ Some (Err q))
     c.from_residual-in_err-leaf-in_default.result c.in_err-leaf-in_default.field-0.0 c.from_residual-in_err-leaf-in_default.ensures.1
-    (λ q d. leaf_typed c.args.env.now c.args.e.now c.args.found.now (Err q) d)
+    (λ q d. leaf_given c.args.env.now c.args.e.now c.args.found.now (Err q) d)
     c.in_err-leaf-in_default.ensures
 
 pub invocation-returns-in_ok-leaf-in_default-clause-answer : goal.invocation-returns-in_ok-leaf-in_default-clause-answer
 invocation-returns-in_ok-leaf-in_default-clause-answer t c =
-    leaf_typed c.args.env.now c.args.e.now c.args.found.now (Ok (plain_type c.in_ok-leaf-in_default.field-0)) c.in_ok-leaf-in_default.ensures
+    leaf_given c.args.env.now c.args.e.now c.args.found.now (Ok (plain_node c.in_ok-leaf-in_default.field-0)) c.in_ok-leaf-in_default.ensures
 
 pub operation-returns-in_err-arg-in-Unary-clause-answer : goal.operation-returns-in_err-arg-in-Unary-clause-answer
 operation-returns-in_err-arg-in-Unary-clause-answer t c =
@@ -177,7 +178,7 @@ operation-returns-in_err-unary-in-Unary-clause-answer t c =
 
 pub operation-returns-in_ok-unary-in-Unary-clause-answer : goal.operation-returns-in_ok-unary-in-Unary-clause-answer
 operation-returns-in_ok-unary-in-Unary-clause-answer t c =
-    operation_typed c.args.env.now c.args.e.now c.in-Unary.arg c.get.result.now c.in-Unary.op c.args.found.now c.expr.new.found (plain_typed c.in_ok-arg-in-Unary.arg) (Ok (plain_type c.in_ok-unary-in-Unary.field-0)) c.in-Unary.is c.get.ensures c.in_ok-arg-in-Unary.ensures.answer c.in_ok-unary-in-Unary.ensures
+    operation_typed c.args.env.now c.args.e.now c.in-Unary.arg c.get.result.now c.in-Unary.op c.args.found.now c.expr.new.found (plain_typed c.in_ok-arg-in-Unary.arg) (Ok (plain_node c.in_ok-unary-in-Unary.field-0)) c.in-Unary.is c.get.ensures c.in_ok-arg-in-Unary.ensures.answer c.in_ok-unary-in-Unary.ensures
 
 pub operation-returns-in_err-left-in-Binary-clause-answer : goal.operation-returns-in_err-left-in-Binary-clause-answer
 operation-returns-in_err-left-in-Binary-clause-answer t c =
@@ -206,7 +207,7 @@ operation-returns-in_err-binary-in-Binary-clause-answer t c =
 pub operation-returns-in_ok-binary-in-Binary-clause-answer : goal.operation-returns-in_ok-binary-in-Binary-clause-answer
 operation-returns-in_ok-binary-in-Binary-clause-answer t c =
     operations_typed c.args.env.now c.args.e.now c.in-Binary.left c.in-Binary.right c.get-in-Binary.result.now c.get-in-Binary-2.result.now c.in-Binary.op c.args.found.now c.expr-in-Binary.new.found c.expr-in-Binary-2.new.found
-    (plain_typed c.in_ok-left-in-Binary.left) (plain_typed c.in_ok-right-in-Binary.right) (Ok (plain_type c.in_ok-binary-in-Binary.field-0)) c.in-Binary.is c.get-in-Binary.ensures c.get-in-Binary-2.ensures
+    (plain_typed c.in_ok-left-in-Binary.left) (plain_typed c.in_ok-right-in-Binary.right) (Ok (plain_node c.in_ok-binary-in-Binary.field-0)) c.in-Binary.is c.get-in-Binary.ensures c.get-in-Binary-2.ensures
     c.in_ok-left-in-Binary.ensures.answer c.in_ok-right-in-Binary.ensures.answer c.in_ok-binary-in-Binary.ensures
 
 pub operation-returns-in_err-read-in-NewArray-clause-answer : goal.operation-returns-in_err-read-in-NewArray-clause-answer
@@ -227,15 +228,17 @@ operation-returns-in_err-length-in-NewArray-clause-answer t c =
 
 pub operation-returns-in_err-ty-in-NewArray-clause-answer : goal.operation-returns-in_err-ty-in-NewArray-clause-answer
 operation-returns-in_err-ty-in-NewArray-clause-answer t c =
-    exits c.args.env.now c.args.e.now c.args.found.now _ (λ q. created_array c.args.env.now (made_names c.as_slice.result.now c.in-NewArray.index) c.in_ok-read-in-NewArray.read (plain_typed c.in_ok-length-in-NewArray.length) (option_copied c.as_ref.result) c.args.e.now.place ≡ Err q)
+    exits c.args.env.now c.args.e.now c.args.found.now _ (λ q. created_array c.args.env.now (made_names c.as_slice.result.now c.in-NewArray.index) c.in_ok-read-in-NewArray.read (type_in (plain_typed c.in_ok-length-in-NewArray.length)) (option_copied c.as_ref.result) c.args.e.now.place ≡ Err q)
     c.from_residual-in_err-ty-in-NewArray.result c.in_err-ty-in-NewArray.field-0.0 c.from_residual-in_err-ty-in-NewArray.ensures.1
     (λ q d. array_typed c.args.env.now c.args.e.now c.in-NewArray.length c.get-in-NewArray.result.now c.in-NewArray.base c.in-NewArray.suffixes c.as_slice.result.now c.in-NewArray.rpl (option_copied c.as_ref.result) c.in-NewArray.index
-    c.args.found.now c.expr-in-NewArray.new.found (plain_typed c.in_ok-length-in-NewArray.length) c.in_ok-read-in-NewArray.read (Err q) c.in-NewArray.is c.as_slice.ensures c.get-in-NewArray.ensures c.as_ref.ensures.value
-    c.in_ok-read-in-NewArray.ensures.told c.in_ok-length-in-NewArray.ensures.answer c.in_ok-read-in-NewArray.ensures.read d)
+    c.args.found.now c.expr-in-NewArray.new.found (plain_typed c.in_ok-length-in-NewArray.length) c.in_ok-read-in-NewArray.read (Err q) (Err q) c.in-NewArray.is c.as_slice.ensures c.get-in-NewArray.ensures c.as_ref.ensures.value
+    c.in_ok-read-in-NewArray.ensures.told c.in_ok-length-in-NewArray.ensures.answer c.in_ok-read-in-NewArray.ensures.read d refl)
     c.in_err-ty-in-NewArray.ensures.answer
 
-pub operation-returns-in_ok-ty-in-NewArray-clause-answer : goal.operation-returns-in_ok-ty-in-NewArray-clause-answer
-operation-returns-in_ok-ty-in-NewArray-clause-answer t c =
+pub operation-returns-in_ok-create_array-in-NewArray-clause-answer : goal.operation-returns-in_ok-create_array-in-NewArray-clause-answer
+operation-returns-in_ok-create_array-in-NewArray-clause-answer t c =
     array_typed c.args.env.now c.args.e.now c.in-NewArray.length c.get-in-NewArray.result.now c.in-NewArray.base c.in-NewArray.suffixes c.as_slice.result.now c.in-NewArray.rpl (option_copied c.as_ref.result) c.in-NewArray.index
-    c.args.found.now c.expr-in-NewArray.new.found (plain_typed c.in_ok-length-in-NewArray.length) c.in_ok-read-in-NewArray.read (Ok (plain_type c.in_ok-ty-in-NewArray.ty)) c.in-NewArray.is c.as_slice.ensures c.get-in-NewArray.ensures c.as_ref.ensures.value
+    c.args.found.now c.expr-in-NewArray.new.found (plain_typed c.in_ok-length-in-NewArray.length) c.in_ok-read-in-NewArray.read (Ok (plain_type c.in_ok-ty-in-NewArray.ty)) (Ok (plain_node c.in_ok-create_array-in-NewArray.field-0)) c.in-NewArray.is c.as_slice.ensures c.get-in-NewArray.ensures c.as_ref.ensures.value
     c.in_ok-read-in-NewArray.ensures.told c.in_ok-length-in-NewArray.ensures.answer c.in_ok-read-in-NewArray.ensures.read c.in_ok-ty-in-NewArray.ensures.answer
+    (array_built c.args.e.now.place (plain_type c.in_ok-ty-in-NewArray.ty) (node_at c.args.e.now.place (plain_typed c.in_ok-length-in-NewArray.length)) (plain_node c.into_node-length.result) (plain_node c.in_ok-create_array-in-NewArray.field-0) (Ok (plain_type c.in_ok-ty-in-NewArray.ty))
+    refl c.in_ok-create_array-in-NewArray.ensures c.into_node-length.ensures)

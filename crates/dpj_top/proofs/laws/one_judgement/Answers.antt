@@ -1,8 +1,9 @@
-use Rattle.dpj_top.proofs.Judgements.{fault-unique, accepted-alone}
+use Rattle.dpj_top.proofs.Judgements.{fault-unique, accepted-alone, program-unique}
 use Rattle.dpj_top.proofs.laws.one_judgement.Goals as goal
 
 pub returns : goal.returns
 returns c = record {
   one_fault = fault-unique c.one_table.ensures c.one_fault.ensures c.one_checking.ensures;
+  one_program = program-unique c.one_table.ensures c.one_checking.ensures;
   not_both = accepted-alone c.one_table.ensures c.one_fault.ensures c.one_checking.ensures;
 }

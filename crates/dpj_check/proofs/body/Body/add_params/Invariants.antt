@@ -6,5 +6,4 @@ abbrev pub invariant-loop-param : goal.invariant-loop-param
 invariant-loop-param l = record {
   env : l.self.env ≡ l.initial.self.env;
   atomic : l.self.atomic_params ++ atomic_of (drop l.param-index l.params) ≡ l.initial.self.atomic_params ++ atomic_of l.params;
-  blocks : l.self.blocks ≡ l.initial.self.blocks;
 }

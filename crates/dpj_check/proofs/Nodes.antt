@@ -1,0 +1,30 @@
+-- Typed expressions of the code, as the rules see them.
+use Rattle.std.proofs.Common.{◌≡◌, ◌∙◌, Option, sym, ap, rules}
+use Rattle.dpj_base.specs.declared.place.Place.{Place}
+use Rattle.dpj_base.specs.Types.{plain_type}
+use Rattle.dpj_tree.specs.declared.expr.Expr.{Expr as Tree}
+use Rattle.dpj_tree.specs.declared.expr.ExprKind.{ExprKind, fold-ExprKind}
+use Rattle.dpj_tree.specs.declared.expr.ExprKind.{the_lemmas as tree_lemmas}
+use Rattle.dpj_tree.specs.Plain as tree
+use Rattle.dpj_typed.specs.declared.expr.Expr.{Expr}
+use Rattle.dpj_typed.specs.declared.expr.ExprForm.{the_lemmas}
+use Rattle.dpj_typed.specs.Plain.{TypedExpr}
+use Rattle.dpj_typed.specs.Plain.{plain_expr as typed_expr}
+use Rattle.dpj_exprs.specs.Typed.{plain_node, node_at}
+use Rattle.dpj_check.specs.Simple.{place_of, node_of}
+
+pub node_is : (e : Expr) → typed_expr e ≡ plain_node e
+node_is e = search (rules, the_lemmas)
+
+abbrev plain_kind : ExprKind → tree.ExprForm
+plain_kind = fold-ExprKind tree.ExprForm tree.PlainExpr tree.expr_form tree.expr_node
+
+tree_is : (e : Tree) → tree.plain_expr e ≡ tree.expression e.place (plain_kind e.kind)
+tree_is e = search (rules, tree_lemmas)
+
+pub place_is : (e : Tree) → place_of (tree.plain_expr e) ≡ e.place
+place_is e = ap place_of (tree_is e)
+
+-- the typed expression that was made of an expression
+pub node_made : (e : Tree) (made : Expr) (t : Option TypedExpr) → plain_node made ≡ node_at e.place t → plain_node made ≡ node_of (tree.plain_expr e) t
+node_made e made t is = is ∙ ap (λ (p : Place). node_at p t) (sym (place_is e))

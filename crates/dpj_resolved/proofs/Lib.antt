@@ -1,0 +1,12 @@
+pub mod Assembled
+pub mod Beginning
+pub mod Bodies
+pub mod Expressions
+pub mod Free
+pub mod Known
+pub mod Lists
+pub mod Methods
+pub mod Numbering
+pub mod Signatures
+pub mod Statements
+pub mod Valued

@@ -1,0 +1,25 @@
+ghost use Rattle.std.specs.Prelude.{◌↔◌, All, IsTrue};
+ghost use Rattle.dpj_legs.specs.Halts.{IsFew};
+
+use dpj_code::Site;
+
+/// Whether no fork has more branches than a value counts.
+pub fn all_few(sites: &[Site]) -> bool
+    ensures { IsTrue result ↔ All IsFew sites.now }
+{
+    for site in sites {
+        if !is_few(site) {
+            return false;
+        }
+    }
+    true
+}
+
+fn is_few(site: &Site) -> bool
+    ensures { IsTrue result ↔ IsFew site.now }
+{
+    match site {
+        Site::Fork { bodies, .. } => bodies.len() < 2147483648,
+        _ => true,
+    }
+}

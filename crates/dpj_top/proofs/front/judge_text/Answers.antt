@@ -1,0 +1,23 @@
+use Rattle.std.proofs.Common.{◌<◌, ◌≤◌, ℕ, length, arith}
+use Rattle.dpj_headers.proofs.Shaped.{counted_when_named}
+use Rattle.dpj_tree.specs.Size.{program_size}
+use Rattle.dpj_tree.proofs.Sizes.{classes_counted}
+use Rattle.dpj_top.specs.Answer.{IsTokenFault, of_program}
+use Rattle.dpj_top.specs.Judging.{IsFaulty}
+use Rattle.dpj_top.proofs.Told.{told-so}
+use Rattle.dpj_top.proofs.front.judge_text.Goals as goal
+
+few : (classes size bytes : ℕ) → classes ≤ size → size ≤ bytes → bytes ≤ 1048576 → classes < 4294967295
+few classes size bytes h k l = omega (arith, h, k, l)
+
+pub judge_program-requires : goal.judge_program-requires
+judge_program-requires c =
+    counted_when_named c.in_ok-program.program
+    (few (length c.in_ok-program.program.classes) (program_size c.in_ok-program.program) (length c.args.text.now)
+    (classes_counted c.in_ok-program.program) c.in_ok-program.ensures.sized c.requires.short)
+    c.in_ok-program.ensures.named
+
+pub returns-clause-fault : goal.returns-clause-fault
+returns-clause-fault c =
+    told-so (IsFaulty c.in_ok-program.program) (IsTokenFault c.args.text.now c.args.tokens.now.list c.args.tokens.now.end) c.judge_program.result
+    (λ refusal fault. of_program c.in_ok-program.program c.in_ok-program.ensures.derived fault) c.judge_program.ensures.fault
