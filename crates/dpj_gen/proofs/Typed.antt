@@ -96,7 +96,7 @@ something_given false e = absurd (cc)
 module _ (P : PlainProgram) where
   mutual
     expr_fits : {L : Scope} {e : TypedExpr} {E : List Own} → Has P L e E → is_void (type_of e) ≡ false → ExprFits P e
-    expr_fits has.literal_int z = tt
+    expr_fits (has.literal_int s) z = tt
     expr_fits has.literal_boolean z = tt
     expr_fits has.literal_null z = tt
     expr_fits (has.read_local h) z = tt
@@ -188,7 +188,7 @@ module _ (P : PlainProgram) where
 
       branches_fit : {L : Scope} {others : List ℕ} {bs : TypedBranches} {Es : List (List Own)} → BranchesPass P L others bs Es → BranchesFit P y bs
       branches_fit branches.no_branch = tt
-      branches_fit (branches.one_branch c a b) = ((all_fit a (λ t q. no_result t q)).0, branches_fit b)
+      branches_fit (branches.one_branch c d a b) = ((all_fit a (λ t q. no_result t q)).0, branches_fit b)
 
 some_is : {A : Type 0} {x y : A} → Some x ≡ Some y → x ≡ y
 some_is e = cc

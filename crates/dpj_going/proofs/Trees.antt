@@ -11,12 +11,7 @@ use Rattle.dpj_tasks.specs.Tree.{Tasks, Tree, only_root, task_at, fresh, changed
 use Rattle.dpj_tasks.specs.declared.end.TaskEnd.{TaskEnd}
 use Rattle.dpj_tasks.specs.declared.task.Origin.{Origin}
 use Rattle.dpj_tasks.specs.declared.task.Task.{Task}
-
-same_number : (q k : ℕ) → eq_by_cmp nat_cmp q k ≡ true → q ≡ k
-same_number q k e = nat_cmp-IsAntisymmetric q k ((Equal-is (nat_cmp q k)).0 e)
-
-itself : (k : ℕ) → eq_by_cmp nat_cmp k k ≡ true
-itself k = (Equal-is (nat_cmp k k)).1 (tied_itself nat_cmp_total k)
+use Rattle.dpj_tasks.proofs.Numbers.{same_number, itself}
 
 -- a task of this number is live
 abbrev pub IsLive : Tasks → ℕ → Type 0

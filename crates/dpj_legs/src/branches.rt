@@ -1,4 +1,4 @@
-ghost use Rattle.std.specs.Prelude.{◌≡◌, ◌<◌, ◌^◌, ◌-◌, pos, IfOk, Some, length, slice_get};
+ghost use Rattle.std.specs.Prelude.{◌≡◌, ℕ, ◌<◌, ◌^◌, ◌-◌, pos, IfOk, Some, length, slice_get};
 ghost use Rattle.std.specs.Int.{w32, int_wrapping_add, int_wrapping_sub};
 ghost use Rattle.dpj_code.specs.Fit.{site_at};
 ghost use Rattle.dpj_code.specs.Machine.{below, site_of, line_before};
@@ -84,16 +84,15 @@ impl Level {
     {
         match site {
             Site::Fork { bodies, .. } => bodies.len(),
-            Site::Spread { body, slot, .. } => self.spread_branches(*body, *slot),
+            Site::Spread { .. } => self.spread_branches(),
             Site::Block { .. } | Site::Call { .. } | Site::New { .. } | Site::Array { .. } => 0,
         }
     }
 
     /// How many branches there are, one for each number.
-    fn spread_branches(&self, body: usize, slot: usize) -> usize
-        ensures { result ≡ length (spread_starts body slot (plain_level self.now).frame (plain_level self.now).stack) }
+    fn spread_branches(&self) -> usize
+        ensures { (body slot : ℕ) → result ≡ length (spread_starts body slot (plain_level self.now).frame (plain_level self.now).stack) }
     {
-        let _ = (body, slot);
         match self.stack.top_three() {
             Some((total, next, left)) => how_many(number(total)),
             None => 0,

@@ -16,7 +16,8 @@ use Rattle.dpj_machine.specs.declared.slot.Slot.{Slot}
 use Rattle.dpj_machine.specs.Replay.{limited}
 use Rattle.dpj_machine.specs.Keeping.{Recorded, Comes, made, over, with_answer, with_slots}
 use Rattle.dpj_machine.specs.Running.{OfSlot, IsFirst}
-use Rattle.dpj_machine.proofs.Maps.{beside_put, removed_put}
+use Rattle.dpj_world.proofs.Maps.{taken_back as map_taken_back}
+use Rattle.dpj_machine.proofs.Maps.{beside_put}
 
 abbrev run_of : World → FinMap nat_cmp Slot → List ℕ → Option Outcome → Run
 run_of world slots schedule outcome = record { world = world; slots = slots; schedule = schedule; outcome = outcome }
@@ -54,7 +55,7 @@ module _ (code : Code) (L : Limits) (old new : Run) (e : Event) (n : ℕ) (start
     over r.0
         (ap (λ ss. run_of new.world ss new.schedule new.outcome) is
         ∙ ap (λ (q : Run). run_of q.world (remove q.slots n) q.schedule q.outcome) r.1
-        ∙ ap (λ ss. run_of old.world ss (old.schedule ++ e.task ∷ []) (Some (limited L))) (ap (λ ss. remove ss n) put ∙ removed_put old.slots n child none)),
+        ∙ ap (λ ss. run_of old.world ss (old.schedule ++ e.task ∷ []) (Some (limited L))) (ap (λ ss. remove ss n) put ∙ map_taken_back old.slots n child none)),
   )
 
   -- where it wasn't made the slots are as they were
@@ -63,4 +64,4 @@ module _ (code : Code) (L : Limits) (old new : Run) (e : Event) (n : ℕ) (start
   taken_back removed same is none =
       ap (λ ss. run_of new.world ss new.schedule new.outcome) is
       ∙ ap (λ (q : Run). run_of q.world (remove q.slots n) q.schedule q.outcome) same
-      ∙ ap (λ ss. run_of old.world ss old.schedule old.outcome) (ap (λ ss. remove ss n) put ∙ removed_put old.slots n child none)
+      ∙ ap (λ ss. run_of old.world ss old.schedule old.outcome) (ap (λ ss. remove ss n) put ∙ map_taken_back old.slots n child none)

@@ -17,8 +17,8 @@ use Rattle.dpj_world.specs.declared.world.World.{World}
 use Rattle.dpj_machine.specs.declared.run.Run.{Run}
 use Rattle.dpj_machine.specs.declared.slot.Slot.{Slot}
 use Rattle.dpj_machine.specs.Running.{Running, at_start, Goes, StandsFor, StandsForOne, AllStand, AllGo, IsFirst}
-use Rattle.dpj_machine.specs.Replay.{Moment, Opens, opened, no_room, MakesMain, root_alone, limited}
-use Rattle.dpj_machine.specs.Keeping.{Keeps}
+use Rattle.dpj_machine.specs.Replay.{Moment, Opens, opened, no_room, root_alone, limited}
+use Rattle.dpj_machine.specs.Keeping.{Keeps, MakesMain}
 use Rattle.dpj_machine.proofs.Tasks.{stand_put}
 
 nothing_stands : (C : PlainCode) → AllStand C empty (λ q. None)

@@ -8,22 +8,10 @@ use Rattle.dpj_base.specs.declared.memory.NoMemory.{NoMemory}
 use Rattle.dpj_code.specs.Plain.{PlainCode}
 use Rattle.dpj_legs.specs.Halts.{Halts, Tells, front_of}
 use Rattle.dpj_legs.specs.declared.action.Action.{Action}
+use Rattle.dpj_tasks.proofs.Numbers.{itself, other_number}
 use Rattle.dpj_machine.specs.declared.slot.Slot.{Slot}
 use Rattle.dpj_machine.specs.Running.{Running, Goes, GoesOne, StandsFor, StandsForOne, AllStand, OfSlot, StandsAt}
 use Rattle.dpj_machine.specs.Replay.{with_task}
-
-same_number : (q k : ℕ) → eq_by_cmp nat_cmp q k ≡ true → q ≡ k
-same_number q k e = nat_cmp-IsAntisymmetric q k ((Equal-is (nat_cmp q k)).0 e)
-
-itself : (k : ℕ) → eq_by_cmp nat_cmp k k ≡ true
-itself k = (Equal-is (nat_cmp k k)).1 (tied_itself nat_cmp_total k)
-
-other_number : (q k : ℕ) → q ≢ k → eq_by_cmp nat_cmp q k ≡ false
-other_number q k apart = other (eq_by_cmp nat_cmp q k) refl
-  where
-    other : (b : Bool) → eq_by_cmp nat_cmp q k ≡ b → b ≡ false
-    other true e = absurd (apart (same_number q k e))
-    other false e = refl
 
 -- the two tests of numbers are one
 one_test : (q k : ℕ) → eq_by_cmp nat_cmp q k ≡ (q == k)

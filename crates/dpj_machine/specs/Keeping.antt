@@ -1,5 +1,5 @@
 -- What a machine keeps of its run.
-use Rattle.std.specs.Prelude.{◌≡◌, ◌≤◌, ◌⊎◌, IsSome, length, ℕ, ℤ, List, ◌∷◌, [], ◌++◌, All, reverse, Option, Some, None, refl}
+use Rattle.std.specs.Prelude.{◌≡◌, ◌≤◌, ◌<◌, ◌+◌, ◌⊎◌, IsSome, length, ℕ, ℤ, List, ◌∷◌, [], ◌++◌, All, reverse, Option, Some, None, refl}
 use Rattle.std.specs.FinMap.{FinMap, insert}
 use Rattle.std.specs.Ordering.{nat_cmp}
 use Rattle.std.specs.Coded.{Coded, code_by, coded×, coded_ℕ, coded_ℤ, coded_list, coded_option}
@@ -10,7 +10,8 @@ use Rattle.dpj_code.specs.Plain.{PlainCode, plain_code}
 use Rattle.dpj_legs.specs.Halts.{IsFew}
 use Rattle.dpj_legs.specs.Tasks.{state_of}
 use Rattle.dpj_legs.specs.declared.action.Answer.{Answer}
-use Rattle.dpj_world.specs.Costs.{Within}
+use Rattle.dpj_heap.specs.Heap.{Contents, instance, with_object}
+use Rattle.dpj_world.specs.Costs.{Within, first_fields}
 use Rattle.dpj_world.specs.World.{answer_to, world_after}
 use Rattle.dpj_world.specs.declared.event.Event.{Event}
 use Rattle.dpj_world.specs.declared.world.World.{World}
@@ -68,6 +69,14 @@ Recorded code L old e None new =
 Recorded code L old e (Some x) new =
     Within code old.world e × (x ≡ answer_to old.world e)
     × (new ≡ record { world = world_after code old.world e; slots = old.slots; schedule = old.schedule ++ e.task ∷ []; outcome = old.outcome })
+
+-- the object of `main` is made, or there aren't cells for it
+abbrev pub MakesMain : Code → Limits → Contents → Contents → Option Outcome → Type 0
+MakesMain code L old new None =
+    (old.used + (length (first_fields code code.main_class) + 1) ≤ old.limit)
+    × (new ≡ with_object old (instance code.main_class [] (first_fields code code.main_class)))
+MakesMain code L old new (Some come) =
+    (old.limit < old.used + (length (first_fields code code.main_class) + 1)) × (new ≡ old) × (come ≡ limited L)
 
 -- the tasks where one has an answer that it is to be given
 abbrev pub with_answer : FinMap nat_cmp Slot → ℕ → Slot → Answer → FinMap nat_cmp Slot
@@ -127,7 +136,7 @@ pub data GreedilyOn (before : Played) : Played → Type 0 where
   here : GreedilyOn before before
   further : (middle after : Played) (k : ℕ) → GreedilyOn before middle → IsGreatestReady middle.world k → IsAfter middle k after → GreedilyOn before after
 
--- more events than a run makes that costs 20000000 steps at most, where each costs one but for rests and ends: twice as many, and two
+-- how many events are made at most before it is given up: twice 20000000 steps, and two
 abbrev pub most_events : ℕ
 most_events = 40000002
 

@@ -16,7 +16,7 @@ use Rattle.dpj_code.specs.declared.instr.Instr.TheVariants as i
 use Rattle.dpj_code.specs.Legs.{Halt, Leg}
 use Rattle.dpj_code.specs.Machine.{Level, State, On, Rested, Off, Nowhere, Start, root_start}
 use Rattle.dpj_code.specs.Plain.{Line, Site, block_site, fork_site, spread_site, call_site, new_site, array_site, PlainCode, plain_code, body_at}
-use Rattle.dpj_heap.specs.Heap.{Contents, instance, with_object}
+use Rattle.dpj_heap.specs.Heap.{instance, with_object}
 use Rattle.dpj_legs.specs.Branches.{starts_at}
 use Rattle.dpj_legs.specs.Halts.{Tells}
 use Rattle.dpj_legs.specs.Names.{names_of, plain_effect}
@@ -211,14 +211,6 @@ pub record IsStuck (C : PlainCode) (m : Moment) (k : ℕ) : Type 0 where
 -- at the start the root alone has begun, with `main` on its object; the run is finished where there aren't cells for that
 abbrev pub root_alone : Code → ℤ → ℕ → Option Running
 root_alone code argument k = if k == 0 then Some (at_start (root_start (names_of 0) (plain_code code) 0 argument)) else None
-
--- the object of `main` is made, or there aren't cells for it
-abbrev pub MakesMain : Code → Limits → Contents → Contents → Option Outcome → Type 0
-MakesMain code L old new None =
-    (old.used + (length (first_fields code code.main_class) + 1) ≤ old.limit)
-    × (new ≡ with_object old (instance code.main_class [] (first_fields code code.main_class)))
-MakesMain code L old new (Some come) =
-    (old.limit < old.used + (length (first_fields code code.main_class) + 1)) × (new ≡ old) × (come ≡ limited L)
 
 pub data Opens (code : Code) (L : Limits) (argument : ℤ) (m : Moment) : Type 0 where
   opened : length (first_fields code code.main_class) + 1 ≤ L.cells → m ≡ record {

@@ -4,7 +4,8 @@
 //! task make its next event, and notes the task in the schedule. What a contract sees of a machine is its code, its limits,
 //! its argument, its schedule, the world that its tasks share, and the outcome once it has finished; and whatever a machine
 //! keeps is the replay of its schedule (`specs/Replay.antt`): from the object of `main` on, each number of the schedule is a
-//! task that stood at this event and made it. After want of memory a machine is as it was.
+//! task that stood at an event which could be made, and made it, or met a limit by it. After want of memory a step has changed
+//! nothing.
 //!
 //! It asks one thing of its code (`GoesOnAble` of `specs/Premise.antt`): wherever a replay leads, the tasks go on.
 //!

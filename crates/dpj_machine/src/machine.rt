@@ -20,7 +20,8 @@ pub enum Stepped {
     Finished,
 }
 
-/// No run within the limits that a job may have makes more events: one costs a step, but for rests and ends.
+/// How many events `finish` makes at most. A run within the limits of a job is to have no more, since an event costs a step, but
+/// for rests and ends; that it has none is open.
 const MOST_EVENTS: usize = 40000002;
 
 /// A run of compiled code within limits. A contract sees its code, its limits, its argument, its schedule, the world that its
@@ -106,8 +107,8 @@ impl Machine {
         Ok(what_is_left(&self.run))
     }
 
-    /// Steps the greatest ready task until the machine has finished, or no task is ready; but it makes no more than 40000002 events. After want of memory, and where it is
-    /// stuck, the machine is where its schedule leaves it.
+    /// Steps the greatest ready task until the machine has finished, or no task is ready, or 40000002 events were made. After want
+    /// of memory, and where it is stuck, the machine is where its schedule leaves it.
     pub fn finish(&mut self) -> Result<(), Halted>
         ensures greedily { GreedilyOn self.old self.new }
         ensures done { OnOk result (HasEnded self.new) }

@@ -1,7 +1,7 @@
 ghost use Rattle.std.specs.Prelude.{◌≡◌, ◌≤◌, [], IfOk};
 ghost use Rattle.dpj_code.specs.Plain.{plain_code};
-ghost use Rattle.dpj_machine.specs.Keeping.{Keeps};
-ghost use Rattle.dpj_machine.specs.Replay.{Moment, Opens, MakesMain};
+ghost use Rattle.dpj_machine.specs.Keeping.{Keeps, MakesMain};
+ghost use Rattle.dpj_machine.specs.Replay.{Moment, Opens};
 ghost use Rattle.dpj_machine.specs.Running.{AllGo};
 
 use crate::outcome::limited;

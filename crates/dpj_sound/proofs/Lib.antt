@@ -10,6 +10,7 @@ pub mod Codes
 pub mod Effects
 pub mod Entering
 pub mod Expressions
+pub mod Forking
 pub mod Forks
 pub mod Frames
 pub mod InEffects

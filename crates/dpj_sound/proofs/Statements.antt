@@ -1,8 +1,7 @@
 -- Statements of a well-typed program are in order: by recursion on their typing.
-use Rattle.std.proofs.Common.{arith, ◌≡◌, inl, ℕ, ℤ, ◌+◌, pos, Bool, true, false, cond, ◌&&◌, ◌||◌, List, [], ◌∷◌, length, refl, sym, ap, ◌∙◌, subst, Option, Some, None, IsTrue, ◌≤◌, ◌<◌, map, zero, suc}
+use Rattle.std.proofs.Common.{arith, ◌≡◌, inl, ℕ, ℤ, ◌+◌, pos, Bool, true, false, cond, ◌&&◌, ◌||◌, List, [], ◌∷◌, length, refl, sym, ap, ◌∙◌, subst, Option, Some, None, IsTrue, ◌≤◌, map, zero, suc}
 use Rattle.std.specs.Prelude.{All, int_lt}
 use Rattle.std.specs.Int.{w32, int_wrapping_add}
-use Rattle.std.proofs.lemmas.List.{length-set}
 use Rattle.std.proofs.lemmas.Bool.{and_from, false≢true, or_left, or_right}
 use Rattle.dpj_base.specs.declared.elems.Elem.{Elem}
 use Rattle.dpj_base.specs.declared.place.Place.{Place}
@@ -13,27 +12,22 @@ use Rattle.dpj_base.specs.declared.elems.Elem.TheVariants.{At}
 use Rattle.dpj_base.specs.declared.elems.Index.TheVariants.{Literal}
 use Rattle.dpj_base.specs.Regions.{is_any, substituted}
 use Rattle.dpj_base.specs.Types.{PlainType, int, class, array, type_with, path_at, type_at, mentions_index}
-use Rattle.dpj_typed.specs.Effects.{Own as EffectOwn, does, uses, writes, effect_of, as_effects, besides_part, through_part, after_parts, after_block, after_branches, outside_regions, outside_variable}
-use Rattle.dpj_typed.specs.Plain.{PlainProgram, PlainField, TypedExpr, type_of, TypedStmt, statement, TypedStmts, no_stmts, more_stmts, TypedBranches}
-use Rattle.dpj_typed.specs.Plain.{Source, of_array, of_part}
-use Rattle.dpj_typed.specs.Plain.{StmtForm as form}
-use Rattle.dpj_typed.specs.declared.stmt.Forking.{Forking}
-use Rattle.dpj_typed.specs.declared.stmt.Forking.TheVariants.{Deterministic}
-use Rattle.dpj_base.specs.Branches.{iterations_clash, lists_clash}
-use Rattle.dpj_typed.specs.Scope.{Scope, constant, variable, reserved, in_loop_branch, atomic_for, part, field_at, with_local, with_regions}
+use Rattle.dpj_typed.specs.Effects.{Own as EffectOwn, does, uses, writes, effect_of, after_block, outside_regions}
+use Rattle.dpj_typed.specs.Plain.{PlainProgram, PlainField, TypedExpr, type_of, TypedStmt, TypedStmts, no_stmts, more_stmts}
+use Rattle.dpj_typed.specs.Plain.{Source, of_part}
+use Rattle.dpj_typed.specs.Scope.{Scope, constant, in_loop_branch, part, field_at, with_local, with_regions}
 use Rattle.dpj_typed.specs.Scope.{Local as ScopeLocal}
-use Rattle.dpj_typed.specs.Statements.{with_part, Cuts, cuts_array, cuts_part, IsFree, NoClash, joined, BranchesPass, completes, all_complete, declared_as, Passes, AllPass, store, store_field, store_element, store_part, perform, nested, choice, choice_else, while_loop, return_nothing, return_value, print_int, print_boolean, print_text, atomic, cobegin, foreach, foreach_parts, no_more, then', declare, declare_regions}
+use Rattle.dpj_typed.specs.Statements.{with_part, Cuts, cuts_array, cuts_part, IsFree, completes, all_complete, declared_as, Passes, AllPass, store, store_field, store_element, store_part, perform, nested, choice, choice_else, while_loop, return_nothing, return_value, print_int, print_boolean, print_text, atomic, cobegin, foreach, foreach_parts, no_more, then', declare, declare_regions}
 use Rattle.dpj_typed.specs.Table.{class_scope}
 use Rattle.dpj_typed.specs.Types.{Known, Subtype}
 use Rattle.dpj_typed.specs.Typing.{Has, index_elem}
 use Rattle.dpj_typed.specs.WellTyped.{WellTyped}
 use Rattle.dpj_meaning.specs.Core.{Goes_on, Returns, Traps, next_of, and_then, Act}
-use Rattle.dpj_meaning.specs.Counts.{Back, Trap_of_branch, how_many, length_seen, number, truth, slot_value, is_out, part_place, text_of}
+use Rattle.dpj_meaning.specs.Counts.{length_seen, number, truth, slot_value, is_out, part_place, text_of}
 use Rattle.dpj_meaning.specs.Expressions.{gives, none, unless_null, part_element, of_expr}
-use Rattle.dpj_meaning.specs.Statements.{part_begun, part_taken_over, parts, with_value, with_values, write_cell, prints, tasks_of, begun, forks, of_stmt, of_stmts}
-use Rattle.dpj_meaning.specs.Statements.{joined as joined_after, all_copies as all_copied}
+use Rattle.dpj_meaning.specs.Statements.{part_begun, part_taken_over, parts, with_value, write_cell, prints, begun, forks, of_stmt, of_stmts}
 use Rattle.dpj_regions.proofs.Putting.{specified_matches_one}
-use Rattle.dpj_runs.specs.Actions.{Write, Look, Print, Rest, Exit, Answer, Length}
+use Rattle.dpj_runs.specs.Actions.{Write, Look, Print, Rest, Exit}
 use Rattle.dpj_runs.specs.Objects.{Name, LocalRegion, Value, Null, Object, Int, Boolean}
 use Rattle.dpj_steps.specs.Steps.{named_by}
 use Rattle.dpj_meaning.specs.Asking.{meaning}
@@ -43,9 +37,8 @@ use Rattle.dpj_sound.specs.Shapes.{object, elements, Shapes, Instance, ArrayInst
 use Rattle.dpj_sound.specs.Accesses.{Access, Speaks, Bounds, InEachEntry, Within}
 use Rattle.dpj_sound.specs.Frames.{Frame, State, Since, PartFits, FrameFits}
 use Rattle.dpj_sound.specs.Scopes.{PathInScope, TypeInScope, GoodScope}
-use Rattle.dpj_sound.specs.Branches.{Forks, Brings}
-use Rattle.dpj_sound.specs.Covered.{IsCovered, AreCovered, BodiesCovered, CopiesApart, BranchesCovered}
-use Rattle.dpj_sound.specs.Work.{Result, Prog, Brought, Touches, Reaches, access_of, ReturnFits, Rounds, InOrder, without_latest}
+use Rattle.dpj_sound.specs.Covered.{IsCovered, AreCovered, BodiesCovered}
+use Rattle.dpj_sound.specs.Work.{Result, Prog, Touches, Reaches, access_of, ReturnFits, Rounds, InOrder, without_latest}
 use Rattle.dpj_sound.specs.Laws.{Deeper, Yields, Leaves, DeeperInOrder, ForkingInOrder, scope_of, TasksInOrder, branch_bounds, BranchesInOrder}
 use Rattle.dpj_sound.proofs.Closed.{closed_path, closed_type}
 use Rattle.dpj_sound.proofs.Types.{fits_grows, fits_same, same_sym, fits_with_down, path_up}
@@ -56,7 +49,7 @@ use Rattle.dpj_sound.proofs.InEffects.{stmts_effects_in, marked_in, all_own, cut
 use Rattle.dpj_sound.proofs.Placed.{PlacedScope, placed_scope, good_placed, placed_wider}
 use Rattle.dpj_sound.proofs.Regions.{good_regions, placed_regions, placed_block, placed_declare, with_made, NewRegions, makes_order, frame_regions, frame_regions_left, new_alike, within_regions}
 use Rattle.dpj_sound.proofs.Frames.{old_later, frame_since, frame_env, within_left, within_right, within_since}
-use Rattle.dpj_sound.proofs.Locals.{other_than, frame_outside, frame_store, frame_declare, frame_leave, good_declare, number_alike, lies_general}
+use Rattle.dpj_sound.proofs.Locals.{frame_outside, frame_store, frame_declare, frame_leave, good_declare, number_alike, lies_general}
 use Rattle.dpj_meaning.specs.Regions.{around, concrete_effect}
 use Rattle.dpj_typed.specs.Scope.{in_atomic_block}
 use Rattle.dpj_runs.specs.Objects.{Effect as RunEffect}
@@ -65,25 +58,14 @@ use Rattle.dpj_sound.proofs.Alike.{set_other, set_same, Alike, fits_alike, setti
 use Rattle.dpj_sound.proofs.Expressions.{order_unless, order_choose, order_trap}
 use Rattle.dpj_sound.proofs.Typed.{type_alone, inside_part, yields, expr_order}
 use Rattle.dpj_sound.proofs.Work.{since_now, since_since, since_after, order_then, order_on, order_post, order_ret}
-use Rattle.dpj_sound.proofs.Parts.{good_part, placed_part, free_itself}
+use Rattle.dpj_sound.proofs.Parts.{good_part, placed_part}
 use Rattle.dpj_sound.proofs.Wider.{wider_type}
-use Rattle.dpj_sound.proofs.PartForks.{good_parts, parts_forks}
-use Rattle.dpj_sound.proofs.Uses.{cuts_in, stmts_use, free_slots, free_in_branch}
-use Rattle.dpj_sound.proofs.Cobegins.{cobegin_forks, copied_fits}
-use Rattle.dpj_sound.proofs.Forks.{foreach_forks, iterations_length, copied_none, lies_branches, good_loop, placed_loop, loop_wider, free_in_loop}
+use Rattle.dpj_sound.proofs.Uses.{cuts_in, free_slots, free_in_branch}
+use Rattle.dpj_sound.proofs.Forking.{Left, left_since, cobegin_order, foreach_order, parts_order, filled, filled_first, room_first, taken_slots, array_order}
+use Rattle.dpj_sound.proofs.Forks.{good_loop, placed_loop, loop_wider, free_in_loop}
 
 speaks_write : (g : Setting) (rpl : Rpl) (a : Access) → Matches (env_of g) rpl a.region → Speaks g (writes rpl) a
 speaks_write g rpl a m = record { matches = m; writes = λ e. refl; guarded = λ e. absurd (false≢true e) }
-
--- behind statements that began in this state: locals that fit, where they can complete; or a value that a `return` gives
-abbrev pub Left : PlainProgram → Bounds → Scope → Setting → Bool → State → State → Result → Type 0
-Left P b L g c st h (Goes_on v f) = IsTrue c × Since st h × FrameFits P b.path h g L f
-Left P b L g c st h (Returns v) = Since st h × ReturnFits P h.shapes g L.result v
-
-left_since : (P : PlainProgram) (b : Bounds) (L : Scope) (g : Setting) (c d : Bool) (st h u : State) (r : Result) → Since st h → (c ≡ true → d ≡ true) →
-    Left P b L g c h u r → Left P b L g d st u r
-left_since P b L g c d st h u (Goes_on v f) s i y = (i y.0, since_since s y.1, y.2)
-left_since P b L g c d st h u (Returns v) s i y = (since_since s y.0, y.1)
 
 module _ (P : PlainProgram) (b : Bounds) where
   -- a write that is allowed, of a value of the cell's type
@@ -219,132 +201,6 @@ module _ (P : PlainProgram) (b : Bounds) where
             })
             (fits_same P st.shapes (under k (env_of g)) t (under k (env_of i.setting)) i.element (i.same k) u (fits_at_down P st.shapes g x ix k fx t kn u fu))
             next
-
--- forks and what is behind their joins
-module _ (P : PlainProgram) (b : Bounds) where
-  cobegin_order : (dp : Option Deeper) (L : Scope) → GoodScope L → (g : Setting) (st : State) (f : Frame) → FrameFits P b.path st g L f → (at : Place) (forking : Forking) → {bs : TypedBranches} {Es : List (List EffectOwn)} → BranchesPass P L [] bs Es → NoClash P forking L Es → CopiesApart [] bs → BranchesCovered bs →
-      Within b st.entries g (after_branches forking (joined Es)) →
-      InOrder P b (Left P b L g true st) st (of_stmt (named_by b.path) P dp (statement at (form.cobegin forking bs)) f)
-  unfolding InOrder
-  cobegin_order None L good g st f ff at forking p nc ca q w = tt
-  cobegin_order (Some deeper) L good g st f ff at forking {bs} {Es} p nc ca q w =
-      λ few. (cobegin.0, λ x h s z. after x h s z)
-    where
-      cobegin : (forks : Forks P b st forking (tasks_of bs f)) × ((i : ℕ) → forks.setting i ≡ g)
-          × ((i x : ℕ) (t : PlainType) → (forks.scope i).local x ≡ Some (variable t) → L.local x ≡ Some (variable t))
-      cobegin = cobegin_forks P b st L good g f ff forking p nc ca q (λ a gu l. w a gu (lies_branches forking g (joined Es) a l))
-
-      after : (x : Brought) (h : State) → Since st h → Brings P b st forking (tasks_of bs f) cobegin.0 h x →
-          InOrder P b (Left P b L g true st) h (joined_after (all_copied bs) f x)
-      after (Back ls) h s z = (
-        refl,
-        s,
-        copied_fits P b.path h L good g (all_copied bs) ls f
-            (λ x v c. (let r = z x v c in (r.ty, cobegin.2 r.number x r.ty r.local, subst (λ k. FitsIn P h.shapes (env_of k) r.ty v) (cobegin.1 r.number) r.fits))) (frame_since s ff),
-      )
-      after (Trap_of_branch trap place) h s z = tt
-
-  foreach_order : (dp : Option Deeper) (L : Scope) → GoodScope L → (g : Setting) (st : State) (f : Frame) → FrameFits P b.path st g L f → (at : Place) (forking : Forking) → {x : ℕ} {s : TypedStmt} {G : List EffectOwn} → IsFree L x → AllPass P (with_local x (constant int) (in_loop_branch L)) (more_stmts s no_stmts) G →
-      iterations_clash L.given (atomic_for forking P L) x (as_effects G) ≡ false → IsCovered s → All (λ o. PathInScope (with_local x (constant int) (in_loop_branch L)) 0 (effect_of o).rpl) G →
-      Within b st.entries g (outside_variable x (after_branches forking G)) → (start count : ℤ) →
-      InOrder P b (Left P b L g true st) st (forks dp at forking None x s start count f)
-  unfolding InOrder
-  foreach_order None L good g st f ff at forking free p ic q i w start count = tt
-  foreach_order (Some deeper) L good g st f ff at forking {x} {s} free p ic q i w start count =
-      λ few. (
-        foreach_forks P b st L good g f ff forking free p ic q i w start (how_many count) (let k = iterations_length None x s f start 0 (how_many count) in let c = few.count in omega (arith, c, k)),
-        λ y h s1 z. after y h s1,
-      )
-    where
-      after : (y : Brought) (h : State) → Since st h → InOrder P b (Left P b L g true st) h (joined_after [] f y)
-      after (Back ls) h s1 = (refl, s1, subst (λ vs. FrameFits P b.path h g L (with_values f vs)) (sym (copied_none ls f.values)) (frame_since s1 ff))
-      after (Trap_of_branch trap place) h s1 = tt
-
--- branches over the parts of an array whose slots are filled
-module _ (P : PlainProgram) (wt : WellTyped P) (b : Bounds) (L : Scope) (good : GoodScope L) (g : Setting) (k : ℕ) (t : PlainType) (a : Rpl)
-    (free : (i : ℕ) → i < 5 → IsFree L (k + i)) (s : TypeInScope L 0 (array t a false)) where
-  parts_order : (dp : Option Deeper) (st : State) (f : Frame) → FrameFits P b.path st g L f → (at : Place) (source : Source) → {body : TypedStmt} {G : List EffectOwn} →
-      AllPass P (with_part k t a (in_loop_branch L)) (more_stmts body no_stmts) G → iterations_clash L.given None (k + 4) (besides_part k G) ≡ false →
-      lists_clash L.given None (besides_part k G) (through_part k G) ≡ false → IsCovered body → All (λ o. PathInScope (with_part k t a (in_loop_branch L)) 0 (effect_of o).rpl) G →
-      Within b st.entries g (outside_variable (k + 4) (after_branches Deterministic (after_parts k source G))) →
-      FitsIn P st.shapes (env_of g) (array t a false) (slot_value f.values k) →
-      ((j : ℕ) → source ≡ of_part j →
-      g.part j ≡ record { array = slot_value f.values k; first = number (slot_value f.values (k + 1)); len = number (slot_value f.values (k + 2)) }) →
-      InOrder P b (Left P b L g true st) st (parts dp at k body f)
-  unfolding InOrder
-  parts_order None st f ff at source p ic lc q i w af is = tt
-  parts_order (Some deeper) st f ff at source {body} {G} p ic lc q i w af is =
-      λ few. (
-        parts_forks P b st L good g f ff k t a free s (s.2 refl) af p ic lc q i (stmts_use P wt p (good_parts P b st L good g f ff k t a free s))
-            source is w (how_many (number (slot_value f.values (k + 3)))) few,
-        λ y h s1 z. after y h s1,
-      )
-    where
-      after : (y : Brought) (h : State) → Since st h → InOrder P b (Left P b L g true st) h (joined_after [] f y)
-      after (Back ls) h s1 = (refl, s1, subst (λ vs. FrameFits P b.path h g L (with_values f vs)) (sym (copied_none ls f.values)) (frame_since s1 ff))
-      after (Trap_of_branch trap place) h s1 = tt
-
-  -- a slot of the part is set, and others stay
-  filled : {st : State} {f : Frame} (i : ℕ) (v : Value) → i < 5 → FrameFits P b.path st g L f → FrameFits P b.path st g L (with_value f (k + i) v)
-  filled {st} {f} i v l ff = frame_outside P b.path st g L good f (k + i) v (free i l).0 ff
-
-  filled_first : {st : State} {f : Frame} (v : Value) → FrameFits P b.path st g L f → FrameFits P b.path st g L (with_value f k v)
-  filled_first {st} {f} v ff = frame_outside P b.path st g L good f k v (free_itself L k t a free).0 ff
-
-  room : {st : State} {f : Frame} (i : ℕ) → i < 5 → FrameFits P b.path st g L f → k + i < length f.values
-  room i l ff = subst (λ z. k + i < z) (sym ff.slots) (free i l).1
-
-  room_first : {st : State} {f : Frame} → FrameFits P b.path st g L f → k < length f.values
-  room_first ff = subst (λ z. k < z) (sym ff.slots) (free_itself L k t a free).1
-
-  -- what stands in the slots that are taken over from a part
-  taken_slots : {st : State} (f : Frame) → FrameFits P b.path st g L f → (j : ℕ) → L.local j ≡ Some (part t a) → (u : Value) →
-      let e = with_value (part_taken_over k j f) (k + 3) u in
-      let d = with_value e (k + 2) (slot_value e.values (j + 2)) in
-      (slot_value d.values k ≡ slot_value f.values j) × (slot_value d.values (k + 1) ≡ slot_value f.values (j + 1)) × (slot_value d.values (k + 2) ≡ slot_value f.values (j + 2))
-  taken_slots {st} f ff j lj u =
-      let held = good.parts j t a lj in
-      let first = with_value f k (slot_value f.values j) in
-      let over = part_taken_over k j f in
-      let e = with_value (part_taken_over k j f) (k + 3) u in
-      let last = slot_value e.values (j + 2) in
-      let n1 = length-set f.values k (slot_value f.values j) in
-      let n2 = length-set first.values (k + 1) (slot_value first.values (j + 1)) in
-      let n3 = length-set over.values (k + 3) u in (
-        set_other e.values (k + 2) k last (λ z. omega (arith, z)) ∙ set_other over.values (k + 3) k u (λ z. omega (arith, z))
-            ∙ set_other first.values (k + 1) k (slot_value first.values (j + 1)) (λ z. omega (arith, z)) ∙ set_same f.values k (slot_value f.values j) (room_first ff),
-        set_other e.values (k + 2) (k + 1) last (λ z. omega (arith, z)) ∙ set_other over.values (k + 3) (k + 1) u (λ z. omega (arith, z))
-            ∙ set_same first.values (k + 1) (slot_value first.values (j + 1)) (let l = room 1 (omega arith) ff in omega (arith, l, n1))
-            ∙ set_other f.values k (j + 1) (slot_value f.values j) (other_than L k (j + 1) reserved held.0 (free_itself L k t a free).0),
-        set_same e.values (k + 2) last (let l = room 2 (omega arith) ff in omega (arith, l, n1, n2, n3))
-            ∙ set_other over.values (k + 3) (j + 2) u (other_than L (k + 3) (j + 2) reserved held.1 (free 3 (omega arith)).0)
-            ∙ set_other first.values (k + 1) (j + 2) (slot_value first.values (j + 1)) (other_than L (k + 1) (j + 2) reserved held.1 (free 1 (omega arith)).0)
-            ∙ set_other f.values k (j + 2) (slot_value f.values j) (other_than L k (j + 2) reserved held.1 (free_itself L k t a free).0),
-      )
-
-  -- behind the look at the array that is cut
-  array_order : (dp : Option Deeper) (st : State) (f : Frame) → FrameFits P b.path st g L f → (at : Place) (e : TypedExpr) → {body : TypedStmt} {G : List EffectOwn} →
-      AllPass P (with_part k t a (in_loop_branch L)) (more_stmts body no_stmts) G → iterations_clash L.given None (k + 4) (besides_part k G) ≡ false →
-      lists_clash L.given None (besides_part k G) (through_part k G) ≡ false → IsCovered body → All (λ o. PathInScope (with_part k t a (in_loop_branch L)) 0 (effect_of o).rpl) G →
-      Within b st.entries g (outside_variable (k + 4) (after_branches Deterministic (after_parts k (of_array e) G))) →
-      (v : Value) → slot_value f.values k ≡ v → FitsIn P st.shapes (env_of g) (array t a false) v →
-      InOrder P b (Left P b L g true st) st (unless_null at v (λ n. Act (Look n) (λ x. parts dp at k body (with_value f (k + 2) (Int (pos (length_seen x)))))))
-  unfolding InOrder
-  array_order dp st f ff at e {body} {G} p ic lc q i w v is fv = order_unless P b (Left P b L g true st) st at (ArrayInstance st.shapes (env_of g) t a)
-      (λ n. Act (Look n) (λ x. parts dp at k body (with_value f (k + 2) (Int (pos (length_seen x)))))) looked v fv
-    where
-      seen : (u : State) → Since st u → (x : Answer) → (len : ℕ) → x ≡ Length len → InOrder P b (Left P b L g true st) u (parts dp at k body (with_value f (k + 2) (Int (pos (length_seen x)))))
-      seen u s1 x len q1 =
-          order_post P b (Left P b L g true u) (Left P b L g true st) (λ z r y. left_since P b L g true true st u z r s1 (λ e. e) y) _ u
-          (parts_order dp u (with_value f (k + 2) (Int (pos (length_seen x)))) (filled 2 (Int (pos (length_seen x))) (omega arith) (frame_since s1 ff)) at (of_array e) p ic lc q i
-          (within_since b s1 g _ w)
-          (subst (FitsIn P u.shapes (env_of g) (array t a false))
-          (sym (set_other f.values (k + 2) k (Int (pos (length_seen x))) (λ e. omega (arith, e)) ∙ is)) (fits_grows P st.shapes u.shapes s1.grows (env_of g) (array t a false) v fv))
-          (λ j z. absurd (let y : of_array e ≡ of_part j = z in cc)))
-
-      looked : (n : Name) → ArrayInstance st.shapes (env_of g) t a n →
-          InOrder P b (Left P b L g true st) st (Act (Look n) (λ x. parts dp at k body (with_value f (k + 2) (Int (pos (length_seen x))))))
-      looked n i' = ((elements i'.setting i'.element i'.rpl, i'.shape), λ x u after ans. seen u (since_after (Look n) refl after) x ans.0 ans.1)
 
 module _ (P : PlainProgram) (wt : WellTyped P) (b : Bounds) (dp : Option Deeper) (dd : DeeperInOrder P wt b dp) where
   -- behind an expression, which is in order

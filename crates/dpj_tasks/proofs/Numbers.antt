@@ -7,13 +7,14 @@ use Rattle.dpj_tasks.specs.declared.task.Task.{Task}
 use Rattle.dpj_tasks.specs.Tree.{Tasks, changed, changed_to, OfEach, OfTask, OfOrigin, IsNumbered, fresh, next_origin}
 use Rattle.dpj_tasks.proofs.Maps.{same_tasks}
 
-same_number : (q k : ℕ) → eq_by_cmp nat_cmp q k ≡ true → q ≡ k
+-- the test of numbers by which a map finds, and what it tells
+pub same_number : (q k : ℕ) → eq_by_cmp nat_cmp q k ≡ true → q ≡ k
 same_number q k e = nat_cmp-IsAntisymmetric q k ((Equal-is (nat_cmp q k)).0 e)
 
-itself : (k : ℕ) → eq_by_cmp nat_cmp k k ≡ true
+pub itself : (k : ℕ) → eq_by_cmp nat_cmp k k ≡ true
 itself k = (Equal-is (nat_cmp k k)).1 (tied_itself nat_cmp_total k)
 
-other_number : (q k : ℕ) → q ≢ k → eq_by_cmp nat_cmp q k ≡ false
+pub other_number : (q k : ℕ) → q ≢ k → eq_by_cmp nat_cmp q k ≡ false
 other_number q k apart = other (eq_by_cmp nat_cmp q k) refl
   where
     other : (b : Bool) → eq_by_cmp nat_cmp q k ≡ b → b ≡ false

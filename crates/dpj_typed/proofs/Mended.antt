@@ -1,7 +1,9 @@
 -- The mended forms of the small programs are well typed.
-use Rattle.std.proofs.Common.{◌≡◌, ℕ, zero, suc, ◌<◌, true, false, List, [], ◌∷◌, Some, IsTrue, refl, sym, subst, ◌++◌, inl, inr, arith, slice_get}
+use Rattle.std.proofs.Common.{◌≡◌, ℕ, zero, suc, ◌<◌, true, false, List, [], ◌∷◌, Some, IsTrue, pos, FitsSigned, refl, sym, subst, ◌++◌, inl, inr, arith, slice_get}
+use Rattle.std.proofs.Math.Facts.{sfits_lit}
 use Rattle.std.proofs.lemmas.Bool.{false≢true}
 use Rattle.std.proofs.lemmas.List.Elements.{All-nil}
+use Rattle.std.specs.Int.{w32}
 use Rattle.dpj_base.specs.declared.elems.Elem.TheVariants.{Name, At}
 use Rattle.dpj_base.specs.declared.elems.Index.TheVariants.{Variable}
 use Rattle.dpj_base.specs.declared.elems.Index.TheVariants as index
@@ -29,7 +31,7 @@ int_known : (args : List Rpl) → Known args int
 int_known args p h = absurd (false≢true h)
 
 zero_given : {P : PlainProgram} {L : Scope} → L.result ≡ Some int → AllPass P L then_zero []
-zero_given h = then' (return_value h literal_int ints) (inr refl) no_more
+zero_given h = then' (return_value h (literal_int (sfits_lit tt)) ints) (inr refl) no_more
 
 -- the effects of two branches that write both fields
 abbrev wrote : Rpl → List Own
@@ -47,16 +49,17 @@ no_clash (suc i) zero d lt in_list = absurd (omega arith)
 no_clash (suc i) (suc j) d lt in_list = absurd (omega arith)
 
 -- a branch that writes a field of `this`
-one_write : (k v : ℕ) (f : PlainField) → slice_get two_fields k ≡ Some f → f.ty ≡ int →
+one_write : (k v : ℕ) (f : PlainField) → FitsSigned w32 (pos v) → slice_get two_fields k ≡ Some f → f.ty ≡ int →
     AllPass (two_writes 1) (in_branch [] [] scope) (more_stmts (writes_field k v) no_stmts) (wrote f.region)
-one_write k v f there flat =
-    then' (store_field {args = []} {f = f} (read_local (inr (inl refl))) refl there (subst (λ t. Known [] t) (sym flat) (int_known [])) literal_int
+one_write k v f small there flat =
+    then' (store_field {args = []} {f = f} (read_local (inr (inl refl))) refl there (subst (λ t. Known [] t) (sym flat) (int_known [])) (literal_int small)
     (subst (λ t. Subtype (two_writes 1) int (type_with [] t)) (sym flat) ints)) (inr refl) no_more
 
 two_pass : AllPass (two_writes 1) scope (two_branches 1) (wrote in_a ++ wrote in_b ++ [])
 two_pass =
     then' (cobegin {Es = wrote in_a ∷ wrote in_b ∷ []} (λ c. refl)
-    (one_branch (All-nil (IsVariable scope)) (one_write 0 1 _ refl refl) (one_branch (All-nil (IsVariable scope)) (one_write 1 2 _ refl refl) no_branch)) no_clash)
+    (one_branch (All-nil (IsVariable scope)) (All-nil _) (one_write 0 1 _ (sfits_lit tt) refl refl)
+        (one_branch (All-nil (IsVariable scope)) (All-nil _) (one_write 1 2 _ (sfits_lit tt) refl refl) no_branch)) no_clash)
     (inl refl) (zero_given refl)
 
 two_covered : IsTrue (set_covers (anything ∷ []) (as_effects (wrote in_a ++ wrote in_b ++ [])))
@@ -95,7 +98,7 @@ written = does (writes (path_at 0 (At (Variable 4)) (below_root (Name 0 ∷ At (
 fills_pass : Passes (filled 4 4) loop_scope (fills 4 4) (outside_variable 4 (after_branches Deterministic written))
 unfolding clashes interferes apart within
 fills_pass =
-    foreach {G = written} (λ c. refl) literal_int refl (read_local (inl refl)) refl (refl, omega arith)
+    foreach {G = written} (λ c. refl) (literal_int (sfits_lit tt)) refl (read_local (inl refl)) refl (refl, omega arith)
     (then' (store_element (read_local (inr (inl refl))) refl (read_local (inr (inr refl))) refl (λ h. absurd (false≢true h)) (read_local (inr (inr refl))) ints) (inr refl) no_more)
     refl
 
@@ -104,7 +107,7 @@ array_pass : AllPass (filled 4 4) (body_scope (main_class []) all_calm 0 (main_m
 unfolding within
 array_pass =
     declare (refl, omega arith) (array_good _) (make_array (array_good _) refl (read_local (inl refl)) refl) (arrays refl refl)
-    (declare (refl, omega arith) tt literal_int ints (then' fills_pass (inl refl) (zero_given refl)))
+    (declare (refl, omega arith) tt (literal_int (sfits_lit tt)) ints (then' fills_pass (inl refl) (zero_given refl)))
 
 array_covered : IsTrue (set_covers (anything ∷ []) (as_effects (outside_variable 2 (outside_variable 3 (outside_variable 4 (after_branches Deterministic written))))))
 unfolding covers_effect within generalised

@@ -36,7 +36,7 @@ body_passes fields classes slots body w =
 -- a branch that writes the first field writes in A
 wrote_is : (L : Scope) (v : ℕ) (E : List Own) → AllPass (two_writes 0) L (more_stmts (writes_field 0 v) no_stmts) E → as_effects E ≡ writes in_a ∷ []
 unfolding substituted
-wrote_is L v E (then' (store_field {args = args} {f = f} (read_local h) t there k literal_int s) c no_more) =
+wrote_is L v E (then' (store_field {args = args} {f = f} (read_local h) t there k (literal_int z) s) c no_more) =
     subst (λ (z : PlainField). writes (substituted args z.region) ∷ [] ≡ writes in_a ∷ []) (some_is _ f there) refl
 
 -- two writes in one region clash
@@ -45,7 +45,7 @@ unfolding clashes interferes apart within
 one_region = refl
 
 both_write : (L : Scope) (E : List Own) → L.given ≡ [] → AllPass (two_writes 0) L (two_branches 0) E → ⊥
-both_write L E given (then' (cobegin c (one_branch {E = F} v p (one_branch {E = G} v' q no_branch)) clash) d r) =
+both_write L E given (then' (cobegin c (one_branch {E = F} v a p (one_branch {E = G} v' a' q no_branch)) clash) d r) =
     let e : lists_clash L.given None (as_effects F) (as_effects G) ≡ false = clash 0 1 [] (omega arith) (omega arith) in
     let e' : lists_clash [] None (writes in_a ∷ []) (writes in_a ∷ []) ≡ false =
     subst (λ z. lists_clash z None (writes in_a ∷ []) (writes in_a ∷ []) ≡ false) given

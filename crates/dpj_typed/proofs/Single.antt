@@ -81,11 +81,13 @@ main_is fields classes slots body = record {
   class = main_class fields;
   class_is = refl;
   no_class_params = refl;
+  nothing_given_of_class = refl;
   no_constructor = refl;
   member = main_member slots body;
   member_is = refl;
   own = refl;
   no_params = refl;
+  nothing_given = refl;
   formals = refl;
   result = refl;
 }

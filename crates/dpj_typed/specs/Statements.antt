@@ -1,5 +1,6 @@
 -- Statements: one rule a construct, with the effects that it has.
-use Rattle.std.specs.Prelude.{◌≡◌, ◌↔◌, ℕ, ◌+◌, ◌<◌, ◌⊎◌, Bool, true, false, cond, ◌&&◌, ◌||◌, IsTrue, List, [], ◌∷◌, ◌++◌, All, AllPairs, Contains, Some, None}
+use Rattle.std.specs.Prelude.{◌≡◌, ◌↔◌, ℕ, ◌==◌, ◌+◌, ◌<◌, ◌⊎◌, Bool, true, false, cond, ◌&&◌, ◌||◌, IsTrue, List, [], ◌∷◌, ◌++◌, All, AllPairs, Contains, Some, None}
+use Rattle.std.specs.List.{list_any}
 use Rattle.dpj_base.specs.declared.effect.Effect.{Effect}
 use Rattle.dpj_base.specs.declared.place.Place.{Place}
 use Rattle.dpj_base.specs.declared.region.Rpl.{Rpl}
@@ -57,6 +58,10 @@ joined (E ∷ Es) = E ++ joined Es
 abbrev pub all_copies : TypedBranches → List ℕ
 all_copies no_branches = []
 all_copies (more_branches copies s bs) = copies ++ all_copies bs
+
+-- none of the first is among the second
+abbrev pub AreApart : List ℕ → List ℕ → Type 0
+AreApart xs ys = All (λ x. list_any (λ y. x == y) ys ≡ false) xs
 
 abbrev pub IsVariable : Scope → ℕ → Type 0
 IsVariable L x = (t : PlainType) × (L.local x ≡ Some (variable t))
@@ -141,9 +146,10 @@ mutual
         All (λ r. (L.regions r ≡ false) × (r < L.local_regions)) rs → AllPass P (with_regions rs L) ss F →
         AllPass P L (more_stmts (statement at (form.local_regions rs)) ss) (outside_regions rs F)
 
-  -- the branches of a `cobegin`, behind ones that assign these outer locals
+  -- the branches of a `cobegin`, after ones that assign these outer locals; no two branches assign the same one
   pub data BranchesPass (P : PlainProgram) : Scope → List ℕ → TypedBranches → List (List Own) → Type 0 where
     no_branch : {L : Scope} {others : List ℕ} → BranchesPass P L others no_branches []
     one_branch : {L : Scope} {others copies : List ℕ} {s : TypedStmt} {bs : TypedBranches} {E : List Own} {Es : List (List Own)} →
-        All (IsVariable L) copies → AllPass P (in_branch copies (others ++ all_copies bs) L) (more_stmts s no_stmts) E →
+        All (IsVariable L) copies → AreApart copies (others ++ all_copies bs) →
+        AllPass P (in_branch copies (others ++ all_copies bs) L) (more_stmts s no_stmts) E →
         BranchesPass P L (others ++ copies) bs Es → BranchesPass P L others (more_branches copies s bs) (E ∷ Es)

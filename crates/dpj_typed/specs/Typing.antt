@@ -1,5 +1,6 @@
 -- Expressions: one rule a construct, with the effects that it has.
-use Rattle.std.specs.Prelude.{◌≡◌, ℕ, ◌⊎◌, ℤ, Bool, false, IsTrue, List, [], ◌∷◌, ◌++◌, All, map, Option, Some, None}
+use Rattle.std.specs.Prelude.{◌≡◌, ℕ, ◌⊎◌, ℤ, FitsSigned, Bool, false, IsTrue, List, [], ◌∷◌, ◌++◌, All, map, Option, Some, None}
+use Rattle.std.specs.Int.{w32}
 use Rattle.dpj_base.specs.declared.elems.Elem.{Elem}
 use Rattle.dpj_base.specs.declared.elems.Elem.TheVariants.{At, Any}
 use Rattle.dpj_base.specs.declared.elems.Index.TheVariants.{Literal, Variable}
@@ -77,7 +78,8 @@ StaysCalm P L c r = IsTrue L.calm → (d m : ℕ) → IsBelow P d c → row_at P
 
 mutual
   pub data Has (P : PlainProgram) (L : Scope) : TypedExpr → List Own → Type 0 where
-    literal_int : {at : Place} {k : ℤ} → Has P L (typed at int (form.int k)) []
+    -- a number of 32 bits
+    literal_int : {at : Place} {k : ℤ} → FitsSigned w32 k → Has P L (typed at int (form.int k)) []
     literal_boolean : {at : Place} {b : Bool} → Has P L (typed at boolean (form.boolean b)) []
     literal_null : {at : Place} → Has P L (typed at null form.null) []
     read_local : {at : Place} {x : ℕ} {t : PlainType} → Holds (L.local x) t → Has P L (typed at t (form.local x)) []

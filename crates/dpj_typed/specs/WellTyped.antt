@@ -5,16 +5,19 @@ use Rattle.dpj_typed.specs.Plain.{PlainProgram, PlainClass, PlainMember}
 use Rattle.dpj_typed.specs.Scope.{class_at, member_at}
 use Rattle.dpj_typed.specs.Table.{GoodClass, GoodMember}
 
--- a run begins in a class without region parameters and constructor, by a method of its own from int to int
+-- a run begins in a class without region parameters and constructor, by a method of its own from int to int, and nothing is
+-- given of their regions
 pub record GoodMain (P : PlainProgram) : Type 0 where
   pub class : PlainClass
   pub class_is : class_at P P.main_class ≡ Some class
   pub no_class_params : class.params ≡ []
+  pub nothing_given_of_class : class.given ≡ []
   pub no_constructor : class.constructor ≡ None
   pub member : PlainMember
   pub member_is : member_at P P.main_member ≡ Some member
   pub own : member.class ≡ P.main_class
   pub no_params : member.params ≡ []
+  pub nothing_given : member.given ≡ []
   pub formals : member.formals ≡ int ∷ []
   pub result : member.result ≡ int
 

@@ -8,15 +8,10 @@ use Rattle.std.specs.BTreeMap as tree
 use Rattle.std.specs.BTreeMap.{is_at, Updates}
 use Rattle.std.specs.declared.collections.BTreeMap.{BTreeMap}
 use Rattle.std.specs.declared.alloc.Global.{Global}
+use Rattle.dpj_tasks.proofs.Numbers.{same_number}
 
 symmetric : (k q : ℕ) → eq_by_cmp nat_cmp k q ≡ eq_by_cmp nat_cmp q k
 symmetric k q = (eq_by_cmp_equiv nat_cmp_total).symm k q
-
-same_number : (q k : ℕ) → eq_by_cmp nat_cmp q k ≡ true → q ≡ k
-same_number q k e = nat_cmp-IsAntisymmetric q k ((Equal-is (nat_cmp q k)).0 e)
-
-itself : (k : ℕ) → eq_by_cmp nat_cmp k k ≡ true
-itself k = (Equal-is (nat_cmp k k)).1 (tied_itself nat_cmp_total k)
 
 module _ {A : Type 0} where
   abbrev pub seen : BTreeMap ℕ A Global → FinMap nat_cmp A

@@ -7,8 +7,8 @@ use Rattle.std.specs.Int.{w32}
 use Rattle.dpj_code.specs.Machine.{root_start}
 use Rattle.dpj_legs.specs.Names.{names_of}
 use Rattle.dpj_code.specs.Plain.{plain_code}
-use Rattle.dpj_machine.specs.Keeping.{Keeps}
-use Rattle.dpj_machine.specs.Replay.{Moment, Opens, MakesMain}
+use Rattle.dpj_machine.specs.Keeping.{Keeps, MakesMain}
+use Rattle.dpj_machine.specs.Replay.{Moment, Opens}
 use Rattle.dpj_machine.specs.Running.{AllGo}
 use Rattle.dpj_world.specs.World.{at_start, with_heap}
 use Rattle.dpj_machine.proofs.Opening.{opens}

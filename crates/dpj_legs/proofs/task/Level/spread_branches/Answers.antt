@@ -11,9 +11,9 @@ use Rattle.dpj_legs.proofs.Starting.{spread_count, short_starts}
 use Rattle.dpj_legs.proofs.task.Level.spread_branches.Goals as goal
 
 pub returns-in-Some : goal.returns-in-Some
-returns-in-Some c =
+returns-in-Some c = λ body slot.
     let fits : SFits w32 c.number.result = search rules in
     let counted = simp to_z-of_z at c.how_many.ensures.count in
     counted ∙ ap how_many c.number.ensures
-    ∙ sym (spread_count c.args.body c.args.slot (plain_frame c.args.self.now.frame) (plain_value c.in-Some.left) (plain_value c.in-Some.next) (plain_value c.in-Some.total) (map plain_value (drop 3 c.args.self.now.stack)))
-    ∙ sym (ap (λ l. length (spread_starts c.args.body c.args.slot (plain_frame c.args.self.now.frame) (map plain_value l))) c.in-Some.ensures)
+    ∙ sym (spread_count body slot (plain_frame c.args.self.now.frame) (plain_value c.in-Some.left) (plain_value c.in-Some.next) (plain_value c.in-Some.total) (map plain_value (drop 3 c.args.self.now.stack)))
+    ∙ sym (ap (λ l. length (spread_starts body slot (plain_frame c.args.self.now.frame) (map plain_value l))) c.in-Some.ensures)

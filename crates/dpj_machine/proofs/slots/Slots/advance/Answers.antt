@@ -5,7 +5,8 @@ use Rattle.std.specs.Ordering.{nat_cmp}
 use Rattle.dpj_code.specs.Plain.{plain_code}
 use Rattle.dpj_machine.specs.declared.slot.Slot.{Slot}
 use Rattle.dpj_machine.specs.Running.{Running, CanGo, AllStand, StandsForOne}
-use Rattle.dpj_machine.proofs.Maps.{seen, written, got, get_seen, of_found, of_none}
+use Rattle.dpj_world.proofs.Maps.{seen, get_seen}
+use Rattle.dpj_machine.proofs.Maps.{written, got, of_found, of_none}
 use Rattle.dpj_machine.proofs.Tasks.{stand_kept, stands_still, stands_at}
 use Rattle.dpj_machine.proofs.slots.Slots.advance.Goals as goal
 

@@ -3,7 +3,7 @@ use Rattle.std.proofs.Common.{sym, ap, ◌∙◌}
 use Rattle.std.specs.FinMap.{FinMap, get}
 use Rattle.std.specs.Ordering.{nat_cmp}
 use Rattle.dpj_machine.specs.declared.slot.Slot.{Slot}
-use Rattle.dpj_machine.proofs.Maps.{get_seen}
+use Rattle.dpj_world.proofs.Maps.{get_seen}
 use Rattle.dpj_machine.proofs.slots.Slots.get.Goals as goal
 
 pub returns : goal.returns

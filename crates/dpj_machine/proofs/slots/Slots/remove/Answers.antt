@@ -3,7 +3,7 @@ use Rattle.std.proofs.Common.{ap, ◌∙◌}
 use Rattle.std.specs.FinMap.{FinMap, remove}
 use Rattle.std.specs.Ordering.{nat_cmp}
 use Rattle.dpj_machine.specs.declared.slot.Slot.{Slot}
-use Rattle.dpj_machine.proofs.Maps.{seen_removed}
+use Rattle.dpj_world.proofs.Maps.{seen_removed}
 use Rattle.dpj_machine.proofs.slots.Slots.remove.Goals as goal
 
 pub returns : goal.returns
