@@ -98,10 +98,10 @@ module _ (program : Program) (table : Table) (bodies : List PlainBody) (accepted
       let h = header_there w.0 at w.2 in
       let begins = begins_at at h.0 h.1 free in
       let f = any_found (λ (row : MethodRow). (row.owner == at) && is_main program.names row) (methods_of table)
-          (last_true (length h.0.params == 0) (is_none (constructor_of table at)) _ begins) in
+      (last_true (length h.0.params == 0) (is_none (constructor_of table at)) _ begins) in
       let method : main_method table program.names ≡ Some f.item.id =
-          ap (option_and_then (λ at. option_map (λ (row : MethodRow). row.id) (find (λ (row : MethodRow). (row.owner == at) && is_main program.names row) (methods_of table)))) is
-          ∙ ap (option_map (λ (row : MethodRow). row.id)) f.first in
+      ap (option_and_then (λ at. option_map (λ (row : MethodRow). row.id) (find (λ (row : MethodRow). (row.owner == at) && is_main program.names row) (methods_of table)))) is
+      ∙ ap (option_map (λ (row : MethodRow). row.id)) f.first in
       let number = (facts program table bodies accepted program.names uses_nd).numbered f.place f.item f.stands in
       let m = has_member program table bodies accepted program.names uses_nd f.place f.item f.stands in
       (_, ap (λ o. member_at (program_of table program.names uses_nd bodies) (unwrap_or o 0)) method ∙ ap (member_at (program_of table program.names uses_nd bodies)) number ∙ m.2)
