@@ -7,8 +7,8 @@ cases share one. The source is a text, or is made:
 {"pad": TEXT, "to": N} is TEXT and then spaces up to N bytes, {"repeat": TEXT, "times": N} repeats TEXT,
 {"classes": N} is N empty classes, and "source_hex" gives the bytes in hex. With no FILE, every tests/cases/*.json is run;
 every examples/NAME.dpj, which must write examples/NAME.out with status 0; every examples/check/NAME.dpj, for which `check`
-must answer NAME.out; every program of README.md, docs/*.md and examples/README.md, which stands in a fence that begins with
-```dpj check: ANSWER or ```dpj run: LINE, LINE; and prefixes of accepted programs (tests/prefixes.py), of three examples where
+must answer NAME.out, and where NAME.ran is there, `run` and `elide` on 10 what that holds; every program of README.md, docs/*.md and examples/README.md, which stands in a fence that begins with
+```dpj check: ANSWER, ```dpj run: LINE, LINE or ```dpj elide: LINE, LINE; and prefixes of accepted programs (tests/prefixes.py), of three examples where
 the program is unproved. It is an error, and no pass, where a fence isn't understood or no case is left.
 
 The program is out/dpj where ./build or the gate made it of these sources; else it is built once, unproved, by `rt try`.
@@ -35,8 +35,11 @@ SECONDS = 120
 CUT = ("squares", "two_regions", "parts")
 
 # What may follow the three marks that open a fence, other than nothing: words for the program, and the lines that it answers.
-FENCE = re.compile(r"dpj ((?:check|run)(?: [a-z]+=[-\w]+)*): (accepted|refused \d+:\d+ [a-z-]+|(?:-?\w+, )*result -?\d+|limit)")
-STATUSES = {"refused": 2, "limit": 4}
+FENCE = re.compile(
+    r"dpj ((?:check|run|elide)(?: [a-z]+=[-\w]+)*): "
+    r"(accepted|refused \d+:\d+ [a-z-]+|(?:-?\w+, )*result -?\d+|(?:-?\w+, )*trap [a-z]+ \d+:\d+|limit)"
+)
+STATUSES = {"refused": 2, "trap": 3, "limit": 4}
 
 
 def bytes_of(case):
@@ -89,6 +92,18 @@ def from_checked_example(path):
     return checked(f"examples/check: {path.name}", path.read_bytes(), path.with_suffix(".out").read_bytes())
 
 
+def from_run_example(path):
+    """An accepted example, run and elided on 10, with what both write."""
+    for command in ("run", "elide"):
+        yield {
+            "name": f"examples/check: {path.stem}, {command}",
+            "words": [command, "arg=10"],
+            "source": path.with_suffix(".dpj").read_bytes(),
+            "stdout": path.read_bytes(),
+            "status": 0,
+        }
+
+
 def fences(path):
     """Each fence of a document: its first line's number, the heading above it, what follows its marks, and its lines."""
     heading, opened = path.stem, None
@@ -122,7 +137,7 @@ def from_document(path):
                 "words": words.split(),
                 "source": "".join(f"{line}\n" for line in lines).encode(),
                 "stdout": (answer.replace(", ", "\n") + "\n").encode(),
-                "status": STATUSES.get(answer.split()[0], 0),
+                "status": STATUSES.get(answer.split(", ")[-1].split()[0], 0),
             }
 
 
@@ -150,6 +165,7 @@ def load(files, is_proved):
     cases = [case for file in sorted((TOP / "tests" / "cases").glob("*.json")) for case in from_json(file)]
     cases += [from_example(file) for file in sorted((TOP / "examples").glob("*.dpj"))]
     cases += [from_checked_example(file) for file in sorted((TOP / "examples" / "check").glob("*.dpj"))]
+    cases += [case for file in sorted((TOP / "examples" / "check").glob("*.ran")) for case in from_run_example(file)]
     missing = unmended(TOP / "docs" / "REFUSALS.md")
     if missing:
         sys.exit(f"docs/REFUSALS.md: {missing} has no program that is refused so, or none that is mended")
