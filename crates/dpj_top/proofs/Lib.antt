@@ -1,3 +1,4 @@
 pub mod Verdicts
 pub mod Told
 pub mod Judgements
+pub mod Runnable

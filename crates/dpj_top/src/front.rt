@@ -12,7 +12,7 @@ use dpj_base::{Place, Stop};
 use dpj_check::check;
 use dpj_classes::{Table, build};
 use dpj_parse::parse;
-use dpj_resolved::laws::law_resolved;
+use dpj_resolved::laws::{law_begins, law_has_rows, law_resolved};
 use dpj_tokens::{Tokens, tokens};
 use dpj_tree::Program as Tree;
 use dpj_typed::Program;
@@ -75,6 +75,8 @@ fn judge_bodies(alloc: Global, tree: &Tree, table: &Table) -> Result<Program, St
 {
     let accepted = check(alloc, tree, table)?;
     law_resolved();
+    law_begins();
+    law_has_rows();
     Ok(program(
         alloc,
         tree.names.as_slice(),

@@ -11,6 +11,9 @@ const WRAPS: &str = "class Main { int main(int n) { print(2147483647+1); return 
 
 const CALLS: &str = " class Main { int main(int n) { return this.main(n); } }\n";
 
+const LISTING: &str =
+    "method Main.main\n   0 int 1\n   1 int 2\n   2 add\n   3 print\n   4 int 7\n   5 return\n";
+
 const USAGE: &str = "usage: dpj COMMAND [NAME=VALUE]...\n";
 
 fn words_of(alloc: Global, words: &[&str]) -> Result<Vec<String>, NoMemory> {
@@ -67,16 +70,18 @@ fn texts_are_answered_by_a_report_and_a_status(rt: HostRuntime) -> Result<(), Fa
         (
             ["run"].as_slice(),
             CALLS,
-            "refused 1:2 form\n",
-            Status::Refused,
+            "trap stack 1:45\n",
+            Status::Trapped,
         ),
+        (["elide"].as_slice(), FIRST, "3\nresult 7\n", Status::Done),
+        (["list"].as_slice(), FIRST, LISTING, Status::Done),
         ([].as_slice(), FIRST, USAGE, Status::Usage),
         (["walk"].as_slice(), FIRST, USAGE, Status::Usage),
     ];
     for (words, text, report, status) in table {
         let words = words_of(alloc, words)?;
         let mut source = PlainSource::new(Vec::from_slice(alloc, text.as_bytes())?);
-        let mut sink = PlainSink::new(alloc, 64)?;
+        let mut sink = PlainSink::new(alloc, 128)?;
         let ended = dpj(alloc, words.as_slice(), &mut source, &mut sink);
         assert_eq!(rt; sink.held(), report.as_bytes());
         assert_eq!(rt; ended.status, status);
@@ -173,7 +178,7 @@ fn a_text_may_be_of_the_greatest_length_and_no_longer(rt: HostRuntime) -> Result
         let mut text = Vec::from_slice(alloc, FIRST.as_bytes())?;
         text.resize(length, b' ')?;
         let mut source = PlainSource::new(text);
-        let mut sink = PlainSink::new(alloc, 64)?;
+        let mut sink = PlainSink::new(alloc, 128)?;
         let ended = dpj(alloc, words.as_slice(), &mut source, &mut sink);
         assert_eq!(rt; sink.held(), report.as_bytes());
         assert_eq!(rt; ended.status, status);
