@@ -7,12 +7,7 @@ use dpj_code::Site;
 pub fn all_few(sites: &[Site]) -> bool
     ensures { IsTrue result ↔ All IsFew sites.now }
 {
-    for site in sites {
-        if !is_few(site) {
-            return false;
-        }
-    }
-    true
+    sites.iter().all(is_few)
 }
 
 fn is_few(site: &Site) -> bool
