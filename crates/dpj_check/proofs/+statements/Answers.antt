@@ -5,7 +5,7 @@ use Rattle.dpj_tree.specs.Nd.{holds_nd, some_holds_nd}
 use Rattle.dpj_tree.specs.Plain.{plain_expr, plain_stmt, plain_stmts, return_form}
 use Rattle.dpj_tree.specs.Plain.{StmtForm as form}
 use Rattle.dpj_tree.specs.declared.stmt.StmtKind.TheVariants as tree
-use Rattle.dpj_typed.specs.Plain.{TypedBranch, statement, choice_form, plain_source}
+use Rattle.dpj_typed.specs.Plain.{TypedBranch, statement, stmts_of, choice_form, plain_source}
 use Rattle.dpj_typed.specs.Plain.{StmtForm as made}
 use Rattle.dpj_typed.specs.Plain.{plain_stmt as typed_stmt}
 use Rattle.dpj_exprs.specs.Answer.{refused}
@@ -24,7 +24,7 @@ use Rattle.dpj_check.proofs.Forks.{Branch, BranchesMet, branch_made, fork_more, 
 use Rattle.dpj_check.proofs.Homes.{home_params, piece_begun}
 use Rattle.dpj_check.proofs.Iterations.{iteration_in, iteration_stopped, iteration_told, iterations_told, iterations_pass, second_noted, Iterated, IterationsMet}
 use Rattle.dpj_check.proofs.Nodes.{node_made}
-use Rattle.dpj_check.proofs.Orders.{map_pushed, order_none, order_refused, order_more, order_all, and_then_so, and_else_so, complete_step, keep_step, fork_keeps}
+use Rattle.dpj_check.proofs.Orders.{map_pushed, order_refused, order_more, order_all, and_then_so, and_else_so, complete_step, keep_step, fork_keeps}
 use Rattle.dpj_check.proofs.Parting.{range_stopped, part_stopped, Part, part_told, PartsMet, parts_told, parts_pass}
 use Rattle.dpj_check.proofs.Passing.{says_all, stopped, settle_stopped}
 use Rattle.dpj_check.proofs.Reaching.{begun_nd, taken_nd, iterations_nd, parts_nd, fork_nd, nd_step, or_then, or_else, reaching, reached_is}
@@ -103,7 +103,7 @@ statements::statement-returns-in_err-settle-in-Block-clause-checks t c =
     block_stands c.args.body.now.atomic_params c.args.around c.args.follows c.of-node.result c.args.stmt.now c.in-Block.all c.as_slice.result.now
     (walk_of c.args.body.now c.args.out.now) (passes (map typed_stmt c.in_ok-done-in-Block.done.stmts) (walk_of c.block.new.body c.block.new.out))
     (verdict.refused q) c.in-Block.is c.as_slice.ensures c.of-node.ensures.node c.in_ok-done-in-Block.ensures.checks
-    (then_told (fault_of c.of-node.result) _ (map typed_stmt c.in_ok-done-in-Block.done.stmts) (walk_of c.block.new.body c.block.new.out) q told))
+    (then_told (fault_of c.of-node.result) (λ ss. statement c.of-node.result.place (made.block (stmts_of ss))) (map typed_stmt c.in_ok-done-in-Block.done.stmts) (walk_of c.block.new.body c.block.new.out) q told))
 
 pub statements::statement-returns-in_ok-settle-in-Block-clause-checks :
     goal.statements::statement-returns-in_ok-settle-in-Block-clause-checks
@@ -112,7 +112,7 @@ statements::statement-returns-in_ok-settle-in-Block-clause-checks t c =
     (walk_of c.args.body.now c.args.out.now) (passes (map typed_stmt c.in_ok-done-in-Block.done.stmts) (walk_of c.block.new.body c.block.new.out))
     (passes (typed_stmt c.blocked.result) (walk_of c.block.new.body c.block.new.out)) c.in-Block.is c.as_slice.ensures c.of-node.ensures.node
     c.in_ok-done-in-Block.ensures.checks
-    (then_made (fault_of c.of-node.result) _ (map typed_stmt c.in_ok-done-in-Block.done.stmts) (walk_of c.block.new.body c.block.new.out)
+    (then_made (fault_of c.of-node.result) (λ ss. statement c.of-node.result.place (made.block (stmts_of ss))) (map typed_stmt c.in_ok-done-in-Block.done.stmts) (walk_of c.block.new.body c.block.new.out)
     (typed_stmt c.blocked.result) c.in_ok-settle-in-Block.ensures.clean c.blocked.ensures)
 
 pub statements::statement-returns-in_err-given-in-If-clause-checks :
@@ -182,7 +182,10 @@ statements::statement-returns-in_err-settle-in-Some-clause-checks t c =
     (plain_typed c.in_ok-given-in-If.given) (typed_stmt c.in_ok-first-in-If.first.stmt)
     (passes (typed_stmt c.in_ok-second-in-Some.second.stmt) (walk_of c.scoped-in-Some.new.body c.scoped-in-Some.new.out)) (verdict.refused q) c.in-If.is
     c.in-Some.is c.of-node.ensures.node met c.get-in-Some.ensures c.in_ok-second-in-Some.ensures.checks
-    (then_told (fault_of c.boolean.new.node) _ (Some (typed_stmt c.in_ok-second-in-Some.second.stmt)) (walk_of c.scoped-in-Some.new.body c.scoped-in-Some.new.out) q told))
+    (then_told (fault_of c.boolean.new.node)
+    (λ z. statement c.of-node.result.place
+    (choice_form (node_of (plain_expr c.in-If.test) (plain_typed c.in_ok-given-in-If.given)) (typed_stmt c.in_ok-first-in-If.first.stmt) z))
+    (Some (typed_stmt c.in_ok-second-in-Some.second.stmt)) (walk_of c.scoped-in-Some.new.body c.scoped-in-Some.new.out) q told))
 
 pub statements::statement-returns-in_ok-choose-in-Some-clause-checks :
     goal.statements::statement-returns-in_ok-choose-in-Some-clause-checks
@@ -229,7 +232,10 @@ statements::statement-returns-in_err-settle-in-None-clause-checks t c =
     c.get.result.now c.in-If.other c.args.out.now c.boolean.new.out c.scoped.new.out (plain_typed c.in_ok-given-in-If.given)
     (typed_stmt c.in_ok-first-in-If.first.stmt)
     (verdict.refused q) c.in-If.is c.in-None.is c.of-node.ensures.node met
-    (then_told (fault_of c.boolean.new.node) _ None (walk_of c.scoped.new.body c.scoped.new.out) q told))
+    (then_told (fault_of c.boolean.new.node)
+    (λ z. statement c.of-node.result.place
+    (choice_form (node_of (plain_expr c.in-If.test) (plain_typed c.in_ok-given-in-If.given)) (typed_stmt c.in_ok-first-in-If.first.stmt) z))
+    None (walk_of c.scoped.new.body c.scoped.new.out) q told))
 
 pub statements::statement-returns-in_ok-choose-in-None-clause-checks :
     goal.statements::statement-returns-in_ok-choose-in-None-clause-checks
@@ -294,16 +300,6 @@ statements::completing-returns-in_err-stmt-clause-checks t c =
     (walk_of c.args.body.now c.args.out.now) (verdict.refused q))
     (Checking c.args.body.now.atomic_params c.args.around c.args.node (form_of (plain_stmt c.args.stmt.now)) (walk_of c.args.body.now c.args.out.now))
     c.from_residual.result _ c.in_err-stmt.field-0.0 c.from_residual.ensures.1 (λ q d. d) c.in_err-stmt.ensures.checks
-
-pub statements::statements-loop-stmt-entered : goal.statements::statements-loop-stmt-entered
-statements::statements-loop-stmt-entered t c = record {
-  completes = refl;
-  keeps = λ follows rest. rest;
-  nd = λ held. held;
-  home = refl;
-  goes_on = order_none c.args.body.now.atomic_params c.args.around c.args.stmts.now (walk_of c.args.body.now c.args.out.now) (map typed_stmt c.new-made.result)
-      (ap (map typed_stmt) c.new-made.ensures);
-}
 
 pub statements::statements-returns-in_err-done-clause-checks :
     goal.statements::statements-returns-in_err-done-clause-checks
@@ -389,7 +385,9 @@ statements::repeated-returns-in_err-settle-in-While-clause-checks t c =
     while_so c.args.around c.args.node c.boolean.new.node c.args.stmt.now c.in-While.test c.in-While.iteration c.get.result.now c.args.body.now
     c.args.out.now c.boolean.new.out (plain_typed c.in_ok-given-in-While.given) (passes (typed_stmt c.in_ok-done-in-While.done.stmt) (walk_of c.scoped.new.body c.scoped.new.out)) (verdict.refused q)
     c.in-While.is c.in_ok-given-in-While.ensures.answer c.in_ok-given-in-While.ensures.node c.get.ensures c.in_ok-done-in-While.ensures.checks
-    (then_told (fault_of c.boolean.new.node) _ (typed_stmt c.in_ok-done-in-While.done.stmt) (walk_of c.scoped.new.body c.scoped.new.out) q told))
+    (then_told (fault_of c.boolean.new.node)
+    (λ z. statement c.args.node.place (made.while_loop (node_of (plain_expr c.in-While.test) (plain_typed c.in_ok-given-in-While.given)) z))
+    (typed_stmt c.in_ok-done-in-While.done.stmt) (walk_of c.scoped.new.body c.scoped.new.out) q told))
 
 pub statements::repeated-returns-in_ok-repeated-in-While-clause-checks :
     goal.statements::repeated-returns-in_ok-repeated-in-While-clause-checks
@@ -434,19 +432,19 @@ pub statements::repeated-returns-in_ok-number-in-Foreach-clause-checks :
     goal.statements::repeated-returns-in_ok-number-in-Foreach-clause-checks
 statements::repeated-returns-in_ok-number-in-Foreach-clause-checks t c =
     says_all
-    (Iterating c.args.body.now.atomic_params c.args.around c.int-in-Foreach.new.node c.in-Foreach.nd c.in-Foreach.var (plain_node c.into_node-in-Foreach.result)
-    (plain_node c.into_node-in-Foreach-2.result) (plain_stmt c.get-in-Foreach.result.now) (walk_of c.args.body.now c.int-in-Foreach.new.out))
+    (Iterating c.args.body.now.atomic_params c.args.around c.int-in-Foreach.new.node c.in-Foreach.nd c.in-Foreach.var (plain_node c.into_node.result)
+    (plain_node c.into_node-in-Foreach.result) (plain_stmt c.get-in-Foreach.result.now) (walk_of c.args.body.now c.int-in-Foreach.new.out))
     (Checking c.args.body.now.atomic_params c.args.around c.args.node (form_of (plain_stmt c.args.stmt.now)) (walk_of c.args.body.now c.args.out.now))
     c.foreach.result _
     (λ v d.
     foreach_so c.args.around c.args.node c.int.new.node c.int-in-Foreach.new.node c.args.stmt.now c.in-Foreach.nd c.in-Foreach.var c.in-Foreach.start
-    c.in-Foreach.count (plain_node c.into_node-in-Foreach.result) (plain_node c.into_node-in-Foreach-2.result) c.in-Foreach.iteration
+    c.in-Foreach.count (plain_node c.into_node.result) (plain_node c.into_node-in-Foreach.result) c.in-Foreach.iteration
     c.get-in-Foreach.result.now c.args.body.now c.args.out.now c.int.new.out c.int-in-Foreach.new.out
     (plain_typed c.in_ok-first-in-Foreach.first) (plain_typed c.in_ok-number-in-Foreach.number) v c.in-Foreach.is
     c.in_ok-first-in-Foreach.ensures.answer c.in_ok-first-in-Foreach.ensures.node c.in_ok-number-in-Foreach.ensures.answer
     c.in_ok-number-in-Foreach.ensures.node
-    (node_made c.in-Foreach.start c.into_node-in-Foreach.result (plain_typed c.in_ok-first-in-Foreach.first) c.into_node-in-Foreach.ensures)
-    (node_made c.in-Foreach.count c.into_node-in-Foreach-2.result (plain_typed c.in_ok-number-in-Foreach.number) c.into_node-in-Foreach-2.ensures)
+    (node_made c.in-Foreach.start c.into_node.result (plain_typed c.in_ok-first-in-Foreach.first) c.into_node.ensures)
+    (node_made c.in-Foreach.count c.into_node-in-Foreach.result (plain_typed c.in_ok-number-in-Foreach.number) c.into_node-in-Foreach.ensures)
     c.get-in-Foreach.ensures d)
     c.foreach.ensures.checks
 
@@ -492,9 +490,9 @@ constructs::atomic-returns-clause-checks t c =
     atomic_passes c.args.body.now.atomic_params c.args.body.now c.block.new.body c.args.around c.inside.result c.args.node c.note_if.new.self
     (plain_stmts (map plain_stmt c.args.stmts.now))
     c.args.out.now c.new-inner.result c.block.new.out c.take_in.new.out c.in_ok-effects.effects c.from_here-leaving.result
-    (map typed_stmt c.in_ok-done.done.stmts) (typed_stmt c.entered.result)
+    (map typed_stmt c.in_ok-done.done.stmts) (typed_stmt c.entered-2.result)
     c.inside.ensures c.new-inner.ensures c.in_ok-done.ensures.checks c.note_if.ensures.node c.in_ok-settle.ensures.clean
-    c.in_ok-effects.ensures c.from_here-leaving.ensures c.in_ok-take_in.ensures c.entered.ensures
+    c.in_ok-effects.ensures c.from_here-leaving.ensures c.in_ok-take_in.ensures c.entered-2.ensures
 
 pub constructs::foreach-returns-in_err-done-clause-checks :
     goal.constructs::foreach-returns-in_err-done-clause-checks
@@ -606,39 +604,39 @@ constructs::foreach-returns-clause-checks t c =
     c.from_here-leaving.result passed met c.in_ok-settle.ensures.clean c.in_ok-settle-2.ensures.clean c.marks_after.ensures
     c.from_here-leaving.ensures c.in_ok-take_in.ensures c.in_ok-iterated.ensures
 
-pub parts::foreach_parts-returns-in_err-field-0-clause-checks :
-    goal.parts::foreach_parts-returns-in_err-field-0-clause-checks
-parts::foreach_parts-returns-in_err-field-0-clause-checks t c =
+pub parts::foreach_parts-returns-in_err-source-clause-checks :
+    goal.parts::foreach_parts-returns-in_err-source-clause-checks
+parts::foreach_parts-returns-in_err-source-clause-checks t c =
     range_stopped c.args.body.now c.args.around c.args.node c.args.names.0 c.args.names.1 (plain_expr c.args.range.0.now) (plain_expr c.args.range.1.now)
     (plain_stmt c.args.iteration.now)
-    c.args.out.now _ c.from_residual.result c.in_err-field-0.field-0.0 c.from_residual.ensures.1 c.in_err-field-0.ensures.opening
+    c.args.out.now _ c.from_residual.result c.in_err-source.field-0.0 c.from_residual.ensures.1 c.in_err-source.ensures.opening
 
 pub parts::foreach_parts-returns-in_err-done-clause-checks :
     goal.parts::foreach_parts-returns-in_err-done-clause-checks
 parts::foreach_parts-returns-in_err-done-clause-checks t c =
     part_stopped c.args.body.now c.open.new.body c.args.around c.inside.result c.args.node c.open.new.node c.args.names.0 c.args.names.1
     (plain_expr c.args.range.0.now) (plain_expr c.args.range.1.now)
-    (plain_stmt c.args.iteration.now) c.args.out.now c.open.new.out c.new-inner.result (plain_source c.in_ok-field-0.field-0.0) (plain_node c.in_ok-field-0.field-0.1) _
-    c.from_residual-in_err-done.result c.in_err-done.field-0.0 c.from_residual-in_err-done.ensures.1 c.in_ok-field-0.ensures.opening
-    c.in_ok-field-0.ensures.home c.inside.ensures c.new-inner.ensures c.in_err-done.ensures.checks
+    (plain_stmt c.args.iteration.now) c.args.out.now c.open.new.out c.new-inner.result (plain_source c.in_ok-source.source) (plain_node c.in_ok-source.count) _
+    c.from_residual-in_err-done.result c.in_err-done.field-0.0 c.from_residual-in_err-done.ensures.1 c.in_ok-source.ensures.opening
+    c.in_ok-source.ensures.home c.inside.ensures c.new-inner.ensures c.in_err-done.ensures.checks
 
 pub parts::foreach_parts-returns-in_err-settle-clause-checks :
     goal.parts::foreach_parts-returns-in_err-settle-clause-checks
 parts::foreach_parts-returns-in_err-settle-clause-checks t c =
     let part : Part c.args.body.now c.open.new.body c.scoped.new.body c.args.around c.args.node c.open.new.node c.note_if.new.self c.args.names.0
     c.args.names.1 (plain_expr c.args.range.0.now) (plain_expr c.args.range.1.now)
-    (plain_stmt c.args.iteration.now) c.args.out.now c.open.new.out c.scoped.new.out (plain_source c.in_ok-field-0.field-0.0) (plain_node c.in_ok-field-0.field-0.1) (typed_stmt c.in_ok-done.done.stmt) c.in_ok-assigns_outer.field-0 = record {
-      opening = c.in_ok-field-0.ensures.opening;
+    (plain_stmt c.args.iteration.now) c.args.out.now c.open.new.out c.scoped.new.out (plain_source c.in_ok-source.source) (plain_node c.in_ok-source.count) (typed_stmt c.in_ok-done.done.stmt) c.in_ok-assigns_outer.field-0 = record {
+      opening = c.in_ok-source.ensures.opening;
       second_is = c.note_if.ensures.node;
       in_scope =
           piece_begun c.args.body.now c.open.new.body c.args.around c.inside.result (plain_stmt c.args.iteration.now) c.open.new.out c.new-inner.result
-          (passes (typed_stmt c.in_ok-done.done.stmt) (walk_of c.scoped.new.body c.scoped.new.out)) c.in_ok-field-0.ensures.home c.inside.ensures c.new-inner.ensures
+          (passes (typed_stmt c.in_ok-done.done.stmt) (walk_of c.scoped.new.body c.scoped.new.out)) c.in_ok-source.ensures.home c.inside.ensures c.new-inner.ensures
           c.in_ok-done.ensures.checks;
       assigning = c.in_ok-assigns_outer.ensures;
     } in
     part_told c.args.body.now c.open.new.body c.scoped.new.body c.args.around c.args.node c.open.new.node c.note_if.new.self c.args.names.0 c.args.names.1
     (plain_expr c.args.range.0.now) (plain_expr c.args.range.1.now)
-    (plain_stmt c.args.iteration.now) c.args.out.now c.open.new.out c.scoped.new.out (plain_source c.in_ok-field-0.field-0.0) (plain_node c.in_ok-field-0.field-0.1) (typed_stmt c.in_ok-done.done.stmt) c.in_ok-assigns_outer.field-0 _
+    (plain_stmt c.args.iteration.now) c.args.out.now c.open.new.out c.scoped.new.out (plain_source c.in_ok-source.source) (plain_node c.in_ok-source.count) (typed_stmt c.in_ok-done.done.stmt) c.in_ok-assigns_outer.field-0 _
     c.from_residual-in_err-settle.result c.in_err-settle.field-0.0 c.from_residual-in_err-settle.ensures.1 part c.in_err-settle.ensures.result
 
 pub parts::foreach_parts-returns-in_err-settle-2-clause-checks :
@@ -646,18 +644,18 @@ pub parts::foreach_parts-returns-in_err-settle-2-clause-checks :
 parts::foreach_parts-returns-in_err-settle-2-clause-checks t c =
     let part : Part c.args.body.now c.open.new.body c.scoped.new.body c.args.around c.args.node c.open.new.node c.note_if.new.self c.args.names.0
     c.args.names.1 (plain_expr c.args.range.0.now) (plain_expr c.args.range.1.now)
-    (plain_stmt c.args.iteration.now) c.args.out.now c.open.new.out c.scoped.new.out (plain_source c.in_ok-field-0.field-0.0) (plain_node c.in_ok-field-0.field-0.1) (typed_stmt c.in_ok-done.done.stmt) c.in_ok-assigns_outer.field-0 = record {
-      opening = c.in_ok-field-0.ensures.opening;
+    (plain_stmt c.args.iteration.now) c.args.out.now c.open.new.out c.scoped.new.out (plain_source c.in_ok-source.source) (plain_node c.in_ok-source.count) (typed_stmt c.in_ok-done.done.stmt) c.in_ok-assigns_outer.field-0 = record {
+      opening = c.in_ok-source.ensures.opening;
       second_is = c.note_if.ensures.node;
       in_scope =
           piece_begun c.args.body.now c.open.new.body c.args.around c.inside.result (plain_stmt c.args.iteration.now) c.open.new.out c.new-inner.result
-          (passes (typed_stmt c.in_ok-done.done.stmt) (walk_of c.scoped.new.body c.scoped.new.out)) c.in_ok-field-0.ensures.home c.inside.ensures c.new-inner.ensures
+          (passes (typed_stmt c.in_ok-done.done.stmt) (walk_of c.scoped.new.body c.scoped.new.out)) c.in_ok-source.ensures.home c.inside.ensures c.new-inner.ensures
           c.in_ok-done.ensures.checks;
       assigning = c.in_ok-assigns_outer.ensures;
     } in
     let met : PartsMet c.args.body.now c.scoped.new.body c.note_if.new.self c.settle.new.self c.note_if-2.new.self c.in_ok-passes.passes c.slots-part.result
     (c.slots-part.result + 4) c.leave.new.self c.mark-scope.result c.scoped.new.out = record {
-      home = c.in_ok-done.ensures.home ∙ c.in_ok-field-0.ensures.home;
+      home = c.in_ok-done.ensures.home ∙ c.in_ok-source.ensures.home;
       scope_is = c.mark-scope.ensures;
       env_is = c.leave.ensures.whole;
       part_is = c.slots-part.ensures;
@@ -670,7 +668,7 @@ parts::foreach_parts-returns-in_err-settle-2-clause-checks t c =
     c.note_if-2.new.self
     c.args.names.0 c.args.names.1 (plain_expr c.args.range.0.now) (plain_expr c.args.range.1.now) (plain_stmt c.args.iteration.now) c.args.out.now
     c.open.new.out c.scoped.new.out
-    (plain_source c.in_ok-field-0.field-0.0) (plain_node c.in_ok-field-0.field-0.1) (typed_stmt c.in_ok-done.done.stmt) c.in_ok-assigns_outer.field-0 c.in_ok-passes.passes c.slots-part.result (c.slots-part.result + 4) c.leave.new.self
+    (plain_source c.in_ok-source.source) (plain_node c.in_ok-source.count) (typed_stmt c.in_ok-done.done.stmt) c.in_ok-assigns_outer.field-0 c.in_ok-passes.passes c.slots-part.result (c.slots-part.result + 4) c.leave.new.self
     c.mark-scope.result _ c.from_residual-in_err-settle-2.result c.in_err-settle-2.field-0.0 c.from_residual-in_err-settle-2.ensures.1 part met
     c.in_ok-settle.ensures.clean c.in_err-settle-2.ensures.result
 
@@ -678,24 +676,24 @@ pub parts::foreach_parts-returns-clause-nd : goal.parts::foreach_parts-returns-c
 parts::foreach_parts-returns-clause-nd t c =
     parts_nd c.from_here-leaving.result c.args.out.now c.open.new.out c.scoped.new.out c.new-inner.result c.in_ok-inner.inner c.take_in.new.out
     c.slots-part.result c.outer_part.result (holds_nd (plain_stmt c.args.iteration.now)) c.new-inner.ensures c.in_ok-inner.ensures c.in_ok-take_in.ensures
-    c.in_ok-field-0.ensures.nd c.in_ok-done.ensures.nd
+    c.in_ok-source.ensures.nd c.in_ok-done.ensures.nd
 
 pub parts::foreach_parts-returns-clause-checks : goal.parts::foreach_parts-returns-clause-checks
 parts::foreach_parts-returns-clause-checks t c =
     let part : Part c.args.body.now c.open.new.body c.scoped.new.body c.args.around c.args.node c.open.new.node c.note_if.new.self c.args.names.0
     c.args.names.1 (plain_expr c.args.range.0.now) (plain_expr c.args.range.1.now)
-    (plain_stmt c.args.iteration.now) c.args.out.now c.open.new.out c.scoped.new.out (plain_source c.in_ok-field-0.field-0.0) (plain_node c.in_ok-field-0.field-0.1) (typed_stmt c.in_ok-done.done.stmt) c.in_ok-assigns_outer.field-0 = record {
-      opening = c.in_ok-field-0.ensures.opening;
+    (plain_stmt c.args.iteration.now) c.args.out.now c.open.new.out c.scoped.new.out (plain_source c.in_ok-source.source) (plain_node c.in_ok-source.count) (typed_stmt c.in_ok-done.done.stmt) c.in_ok-assigns_outer.field-0 = record {
+      opening = c.in_ok-source.ensures.opening;
       second_is = c.note_if.ensures.node;
       in_scope =
           piece_begun c.args.body.now c.open.new.body c.args.around c.inside.result (plain_stmt c.args.iteration.now) c.open.new.out c.new-inner.result
-          (passes (typed_stmt c.in_ok-done.done.stmt) (walk_of c.scoped.new.body c.scoped.new.out)) c.in_ok-field-0.ensures.home c.inside.ensures c.new-inner.ensures
+          (passes (typed_stmt c.in_ok-done.done.stmt) (walk_of c.scoped.new.body c.scoped.new.out)) c.in_ok-source.ensures.home c.inside.ensures c.new-inner.ensures
           c.in_ok-done.ensures.checks;
       assigning = c.in_ok-assigns_outer.ensures;
     } in
     let met : PartsMet c.args.body.now c.scoped.new.body c.note_if.new.self c.settle.new.self c.note_if-2.new.self c.in_ok-passes.passes c.slots-part.result
     (c.slots-part.result + 4) c.leave.new.self c.mark-scope.result c.scoped.new.out = record {
-      home = c.in_ok-done.ensures.home ∙ c.in_ok-field-0.ensures.home;
+      home = c.in_ok-done.ensures.home ∙ c.in_ok-source.ensures.home;
       scope_is = c.mark-scope.ensures;
       env_is = c.leave.ensures.whole;
       part_is = c.slots-part.ensures;
@@ -708,7 +706,7 @@ parts::foreach_parts-returns-clause-checks t c =
     c.note_if-2.new.self
     c.args.names.0 c.args.names.1 (plain_expr c.args.range.0.now) (plain_expr c.args.range.1.now) (plain_stmt c.args.iteration.now) c.args.out.now
     c.open.new.out c.scoped.new.out
-    c.in_ok-inner.inner c.take_in.new.out (plain_source c.in_ok-field-0.field-0.0) (plain_node c.in_ok-field-0.field-0.1) (typed_stmt c.in_ok-done.done.stmt)
+    c.in_ok-inner.inner c.take_in.new.out (plain_source c.in_ok-source.source) (plain_node c.in_ok-source.count) (typed_stmt c.in_ok-done.done.stmt)
     (typed_stmt c.in_ok-parted.field-0) c.outer_part.result c.in_ok-assigns_outer.field-0 c.in_ok-passes.passes c.slots-part.result
     (c.slots-part.result + 4) c.leave.new.self c.mark-scope.result c.from_here-leaving.result part met c.in_ok-settle.ensures.clean
     c.in_ok-settle-2.ensures.clean c.outer_part.ensures c.in_ok-inner.ensures c.from_here-leaving.ensures c.in_ok-take_in.ensures
@@ -719,8 +717,8 @@ pub constructs::cobegin-returns-in_err-done-clause-checks :
 constructs::cobegin-returns-in_err-done-clause-checks t c =
     fork_stopped c.args.body.now c.loop-branch.body c.args.around c.inside.result c.args.node c.args.nd c.args.branches.now c.loop-branch.branch-index
     c.loop-branch.effects c.loop-branch.locals (map plain_branch c.loop-branch.made)
-    c.args.out.now c.loop-branch.out c.new-inner.result c.branch-item.result _ c.from_residual.result
-    c.in_err-done.field-0.0 c.from_residual.ensures.1 c.loop-branch.invariant.forks c.loop-branch-test.true c.branch-item.is c.loop-branch.invariant.home
+    c.args.out.now c.loop-branch.out c.new-inner.result c.branch-item.result _ c.from_residual-in_err-done.result
+    c.in_err-done.field-0.0 c.from_residual-in_err-done.ensures.1 c.loop-branch.invariant.forks c.loop-branch-test.true c.branch-item.is c.loop-branch.invariant.home
     c.inside.ensures
     c.new-inner.ensures c.in_err-done.ensures.checks
 
@@ -735,8 +733,8 @@ constructs::cobegin-loop-branch-preserved t c =
           (passes (typed_stmt c.in_ok-done.done.stmt) (walk_of c.scoped.new.body c.scoped.new.out)) c.loop-branch.invariant.home c.inside.ensures c.new-inner.ensures c.in_ok-done.ensures.checks;
       touched = record { reads = c.in_ok-names.ensures.reads; assigns = c.in_ok-names.ensures.writes; once = c.in_ok-names.ensures.once };
       set_is = c.in_ok-all_effects.ensures;
-      one_is = branch_made c.loop-branch.body.env c.in_ok-names.names c.as_slice-in-loop-branch.result.now c.in_ok-copies.copies c.in_ok-done.done.stmt
-          c.as_slice-in-loop-branch.ensures c.in_ok-copies.ensures;
+      one_is = branch_made c.loop-branch.body.env c.in_ok-names.names c.as_slice.result.now c.in_ok-copies.copies c.in_ok-done.done.stmt
+          c.as_slice.ensures c.in_ok-copies.ensures;
       kept_is = c.marks_after.ensures;
       leaving_is = c.from_here-leaving.ensures;
       out_is = c.in_ok-take_in.ensures;
@@ -775,7 +773,7 @@ constructs::cobegin-returns-in_err-settle-clause-checks t c =
     c.loop-branch.invariant.forks
     (drop_all c.loop-branch.branch-index c.args.branches.now c.loop-branch-test.false) in
     let clash : ClashIs c.loop-branch.locals c.in_ok-has_clash.field-0 =
-    clash_is c.loop-branch.locals c.as_slice.result.now c.in_ok-has_clash.field-0 c.as_slice.ensures c.in_ok-has_clash.ensures.none
+    clash_is c.loop-branch.locals c.as_slice-2.result.now c.in_ok-has_clash.field-0 c.as_slice-2.ensures c.in_ok-has_clash.ensures.none
     c.in_ok-has_clash.ensures.some in
     fork_told c.args.body.now.atomic_params c.args.around c.args.node c.note_if.new.self c.args.nd c.in_ok-has_clash.field-0
     (plain_stmts (map plain_stmt c.args.branches.now))
@@ -796,7 +794,7 @@ constructs::cobegin-returns-in_err-settle-2-clause-checks t c =
     c.loop-branch.invariant.forks
     (drop_all c.loop-branch.branch-index c.args.branches.now c.loop-branch-test.false) in
     let clash : ClashIs c.loop-branch.locals c.in_ok-has_clash.field-0 =
-    clash_is c.loop-branch.locals c.as_slice.result.now c.in_ok-has_clash.field-0 c.as_slice.ensures c.in_ok-has_clash.ensures.none
+    clash_is c.loop-branch.locals c.as_slice-2.result.now c.in_ok-has_clash.field-0 c.as_slice-2.ensures c.in_ok-has_clash.ensures.none
     c.in_ok-has_clash.ensures.some in
     let reached : c.if-out.out ≡ (c.loop-branch.out.reaches_nd || c.args.nd) = (elim c.if-out.branch [
       | constructs::cobegin-then-out w ↦ or_then c.loop-branch.out.reaches_nd c.args.nd c.if-out.out w.if-out.true w.out-is
@@ -804,10 +802,10 @@ constructs::cobegin-returns-in_err-settle-2-clause-checks t c =
     ]) in
     let met : BranchesMet c.args.body.now c.loop-branch.body c.args.node c.note_if.new.self c.settle.new.self c.note_if-2.new.self c.args.nd
     c.in_ok-has_clash.field-0
-    c.in_ok-passes.passes c.if-out.out c.loop-branch.effects c.as_slice-2.result.now c.loop-branch.out c.interference.result = record {
+    c.in_ok-passes.passes c.if-out.out c.loop-branch.effects c.as_slice-3.result.now c.loop-branch.out c.interference.result = record {
       home = c.loop-branch.invariant.home;
       second_is = c.note_if.ensures.node;
-      read_is = c.as_slice-2.ensures;
+      read_is = c.as_slice-3.ensures;
       apart = c.in_ok-passes.ensures;
       settle_is = c.settle.ensures.forgotten;
       reason_is = c.interference.ensures;
@@ -816,7 +814,7 @@ constructs::cobegin-returns-in_err-settle-2-clause-checks t c =
     } in
     fork_ends c.args.body.now c.loop-branch.body c.args.around c.args.node c.note_if.new.self c.settle.new.self c.note_if-2.new.self c.args.nd
     c.in_ok-has_clash.field-0
-    c.in_ok-passes.passes c.if-out.out (plain_stmts (map plain_stmt c.args.branches.now)) c.loop-branch.effects c.as_slice-2.result.now c.loop-branch.locals
+    c.in_ok-passes.passes c.if-out.out (plain_stmts (map plain_stmt c.args.branches.now)) c.loop-branch.effects c.as_slice-3.result.now c.loop-branch.locals
     (map plain_branch c.loop-branch.made) c.args.out.now c.loop-branch.out c.interference.result _
     c.from_residual-in_err-settle-2.result c.in_err-settle-2.field-0.0 c.from_residual-in_err-settle-2.ensures.1 all clash met c.in_ok-settle.ensures.clean
     c.in_err-settle-2.ensures.result
@@ -832,7 +830,7 @@ constructs::cobegin-returns-clause-checks t c =
     c.loop-branch.invariant.forks
     (drop_all c.loop-branch.branch-index c.args.branches.now c.loop-branch-test.false) in
     let clash : ClashIs c.loop-branch.locals c.in_ok-has_clash.field-0 =
-    clash_is c.loop-branch.locals c.as_slice.result.now c.in_ok-has_clash.field-0 c.as_slice.ensures c.in_ok-has_clash.ensures.none
+    clash_is c.loop-branch.locals c.as_slice-2.result.now c.in_ok-has_clash.field-0 c.as_slice-2.ensures c.in_ok-has_clash.ensures.none
     c.in_ok-has_clash.ensures.some in
     let reached : c.if-out.out ≡ (c.loop-branch.out.reaches_nd || c.args.nd) = (elim c.if-out.branch [
       | constructs::cobegin-then-out w ↦ or_then c.loop-branch.out.reaches_nd c.args.nd c.if-out.out w.if-out.true w.out-is
@@ -840,10 +838,10 @@ constructs::cobegin-returns-clause-checks t c =
     ]) in
     let met : BranchesMet c.args.body.now c.loop-branch.body c.args.node c.note_if.new.self c.settle.new.self c.note_if-2.new.self c.args.nd
     c.in_ok-has_clash.field-0
-    c.in_ok-passes.passes c.if-out.out c.loop-branch.effects c.as_slice-2.result.now c.loop-branch.out c.interference.result = record {
+    c.in_ok-passes.passes c.if-out.out c.loop-branch.effects c.as_slice-3.result.now c.loop-branch.out c.interference.result = record {
       home = c.loop-branch.invariant.home;
       second_is = c.note_if.ensures.node;
-      read_is = c.as_slice-2.ensures;
+      read_is = c.as_slice-3.ensures;
       apart = c.in_ok-passes.ensures;
       settle_is = c.settle.ensures.forgotten;
       reason_is = c.interference.ensures;
@@ -852,6 +850,6 @@ constructs::cobegin-returns-clause-checks t c =
     } in
     fork_passes c.args.body.now c.loop-branch.body c.args.around c.args.node c.note_if.new.self c.settle.new.self c.note_if-2.new.self c.args.nd
     c.in_ok-has_clash.field-0
-    c.in_ok-passes.passes c.if-out.out (plain_stmts (map plain_stmt c.args.branches.now)) c.loop-branch.effects c.as_slice-2.result.now c.loop-branch.locals
+    c.in_ok-passes.passes c.if-out.out (plain_stmts (map plain_stmt c.args.branches.now)) c.loop-branch.effects c.as_slice-3.result.now c.loop-branch.locals
     (map plain_branch c.loop-branch.made) c.args.out.now c.loop-branch.out c.interference.result
     (typed_stmt c.forked.result) all clash met c.in_ok-settle.ensures.clean c.in_ok-settle-2.ensures.clean c.forked.ensures
