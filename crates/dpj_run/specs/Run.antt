@@ -1,5 +1,5 @@
 -- How a run of a typed program comes out.
-use Rattle.std.specs.Prelude.{◌≡◌, ℕ, ℤ, All, [], Option, Some, None}
+use Rattle.std.specs.Prelude.{◌≡◌, ℤ, All, [], Option, Some, None}
 use Rattle.dpj_base.specs.declared.outcome.Limits.{Limits}
 use Rattle.dpj_base.specs.declared.outcome.Outcome.{Outcome}
 use Rattle.dpj_typed.specs.Plain.{PlainProgram}

@@ -8,4 +8,4 @@ returns-in_err-_accepted-clause-fault c =
     handed-so (λ refusal. BodiesChecking c.args.program.now c.args.table.now (Err refusal)) (IsFaulty c.args.program.now)
     c.from_residual.result c.in_err-_accepted.field-0.0 c.from_residual.ensures.1 (λ refusal checked. of_bodies c.args.table.now c.requires checked) c.in_err-_accepted.ensures.fault
 
--- (names of goals as the tool will tell them)
+
