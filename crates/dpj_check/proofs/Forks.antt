@@ -26,7 +26,7 @@ use Rattle.dpj_check.specs.declared.leaving.Leaving.{Leaving}
 use Rattle.dpj_check.specs.declared.leaving.Marks.{Marks}
 use Rattle.dpj_check.specs.declared.node.Around.{Around}
 use Rattle.dpj_check.specs.declared.node.Node.{Node}
-use Rattle.dpj_check.specs.Checking.{InScope, with_nd, gathers, forking_of, slots_of, branch_of, plain_branch, after_branch, BranchesVerdict, all_pass, one_refused, Branching, no_branches, branch_refused, then_branches, ClashIs, TouchedBy, Forking, some_refused, clashing, forked}
+use Rattle.dpj_check.specs.Checking.{InScope, gathers, forking_of, slots_of, branch_of, plain_branch, after_branch, BranchesVerdict, all_pass, one_refused, Branching, no_branches, branch_refused, then_branches, ClashIs, TouchedBy, Forking, some_refused, clashing, forked}
 use Rattle.dpj_check.specs.Deciding.{interference, marks_after}
 use Rattle.dpj_check.specs.Gathering.{taken_in, with_uses}
 use Rattle.dpj_check.specs.Keeping.{inside}
@@ -50,10 +50,6 @@ pub record ForkSoFar (params : List Bool) (around : Around) (nd : Bool) (all : L
   pub goes_on : (v : BranchesVerdict) → Branching params around nd (plain_stmts (map plain_stmt (drop i all))) u v →
       Branching params around nd (plain_stmts (map plain_stmt all)) w (so_far effects touched made v)
 
-so_far_none : (v : BranchesVerdict) → so_far [] [] [] v ≡ v
-so_far_none (all_pass others more rest w) = refl
-so_far_none (one_refused refusal) = refl
-
 so_far_more : (effects : List (List Effect)) (touched : List Touched) (made : List TypedBranch) (set : List Effect) (t : Touched) (branch : TypedBranch)
     (v : BranchesVerdict) →
     so_far effects touched made (after_branch set t branch v) ≡ so_far (effects ++ set ∷ []) (touched ++ t ∷ []) (made ++ branch ∷ []) v
@@ -70,14 +66,6 @@ so_far_same effects effects2 touched touched2 made made2 v e t m =
     ap (λ (z : List (List Effect)). so_far z touched made v) (sym e) ∙ ap (λ (z : List Touched). so_far effects2 z made v) (sym t)
     ∙ ap (λ (z : List TypedBranch). so_far effects2 touched2 z v) (sym m)
 
-pub fork_none : (params : List Bool) (around : Around) (nd : Bool) (all : List Stmt) (w : Walk) (effects : List (List Effect)) (touched : List Touched)
-    (made : List TypedBranch) → effects ≡ [] → touched ≡ [] → made ≡ [] → ForkSoFar params around nd all w 0 effects touched made w
-fork_none params around nd all w effects touched made none no_touched none_made = record {
-  goes_on = λ v d.
-      subst (λ (z : BranchesVerdict). Branching params around nd (plain_stmts (map plain_stmt all)) w z)
-      (sym (so_far_none v) ∙ so_far_same [] effects [] touched [] made v none no_touched none_made) d;
-}
-
 fork_refused : (params : List Bool) (around : Around) (nd : Bool) (all : List Stmt) (w : Walk) (i : ℕ) (effects : List (List Effect))
     (touched : List Touched) (made : List TypedBranch) (u : Walk) (branch : Stmt) (q : Refusal) →
     ForkSoFar params around nd all w i effects touched made u → i < length all → branch ≡ get_or all i branch →
@@ -90,13 +78,13 @@ fork_refused params around nd all w i effects touched made u branch q before bel
 
 -- a branch that passed, as it was found
 pub record Branch (params : List Bool) (around : Around) (nd : Bool) (b s : Body) (out inner out3 : Found) (branch : Stmt) (set : List Effect) (t : Touched)
-    (one : TypedBranch) (kept : Marks) (leaving : Leaving) (part : TypedStmt) : Type 0 where
+    (one : TypedBranch) (marking : Marks) (leaving : Leaving) (part : TypedStmt) : Type 0 where
   pub in_scope : InScope params around (plain_stmt branch) (apart_from (walk_of b out)) (passes part (walk_of s inner))
   pub touched : TouchedBy (plain_stmt branch) t
   pub set_is : set ≡ with_uses inner.effects inner.uses
   pub one_is : one ≡ branch_of b.env t part
-  pub kept_is : kept ≡ marks_after nd
-  pub leaving_is : leaving ≡ from_here b.env kept
+  pub kept_is : marking ≡ marks_after nd
+  pub leaving_is : leaving ≡ from_here b.env marking
   pub out_is : out3 ≡ taken_in leaving out inner
 
 abbrev branch_with : List ℕ → TypedStmt → TypedBranch
@@ -109,11 +97,11 @@ branch_made env t writes copies s same is =
 
 pub fork_more : (params : List Bool) (around : Around) (nd : Bool) (all : List Stmt) (w : Walk) (i : ℕ) (effects effects2 : List (List Effect))
     (touched touched2 : List Touched) (made made2 : List TypedBranch) (b s : Body) (out inner out3 : Found) (branch : Stmt) (set : List Effect)
-    (t : Touched) (one : TypedBranch) (kept : Marks) (leaving : Leaving) (part : TypedStmt) →
+    (t : Touched) (one : TypedBranch) (marking : Marks) (leaving : Leaving) (part : TypedStmt) →
     ForkSoFar params around nd all w i effects touched made (walk_of b out) → i < length all → branch ≡ get_or all i branch →
-    Branch params around nd b s out inner out3 branch set t one kept leaving part → effects2 ≡ effects ++ set ∷ [] → touched2 ≡ touched ++ t ∷ [] →
+    Branch params around nd b s out inner out3 branch set t one marking leaving part → effects2 ≡ effects ++ set ∷ [] → touched2 ≡ touched ++ t ∷ [] →
     made2 ≡ made ++ one ∷ [] → ForkSoFar params around nd all w (i + 1) effects2 touched2 made2 (walk_of s out3)
-fork_more params around nd all w i effects effects2 touched touched2 made made2 b s out inner out3 branch set t one kept leaving part before below is k
+fork_more params around nd all w i effects effects2 touched touched2 made made2 b s out inner out3 branch set t one marking leaving part before below is k
     effects_are touched_are made_are =
     let taken : out3 ≡ taken_in (from_here b.env (marks_after nd)) out inner =
     k.out_is ∙ ap (λ (z : Leaving). taken_in z out inner) (k.leaving_is ∙ ap (from_here b.env) k.kept_is) in

@@ -1,14 +1,13 @@
 -- Typed expressions of the code, as the rules see them.
 use Rattle.std.proofs.Common.{◌≡◌, ◌∙◌, Option, sym, ap, rules}
 use Rattle.dpj_base.specs.declared.place.Place.{Place}
-use Rattle.dpj_base.specs.Types.{plain_type}
 use Rattle.dpj_tree.specs.declared.expr.Expr.{Expr as Tree}
 use Rattle.dpj_tree.specs.declared.expr.ExprKind.{ExprKind, fold-ExprKind}
 use Rattle.dpj_tree.specs.declared.expr.ExprKind.{the_lemmas as tree_lemmas}
 use Rattle.dpj_tree.specs.Plain as tree
 use Rattle.dpj_typed.specs.declared.expr.Expr.{Expr}
 use Rattle.dpj_typed.specs.declared.expr.ExprForm.{the_lemmas}
-use Rattle.dpj_typed.specs.Plain.{TypedExpr}
+use Rattle.dpj_typed.specs.Plain.{TypedExpr, TypedStmt, statement, while_loop, choice_form}
 use Rattle.dpj_typed.specs.Plain.{plain_expr as typed_expr}
 use Rattle.dpj_exprs.specs.Typed.{plain_node, node_at}
 use Rattle.dpj_check.specs.Simple.{place_of, node_of}
@@ -28,3 +27,14 @@ place_is e = ap place_of (tree_is e)
 -- the typed expression that was made of an expression
 pub node_made : (e : Tree) (made : Expr) (t : Option TypedExpr) → plain_node made ≡ node_at e.place t → plain_node made ≡ node_of (tree.plain_expr e) t
 node_made e made t is = is ∙ ap (λ (p : Place). node_at p t) (sym (place_is e))
+
+-- what was made of an `if` and of a `while`, by what was made of its condition
+pub choice_made : (e : Tree) (test : Expr) (t : Option TypedExpr) (place : Place) (first : TypedStmt) (other : Option TypedStmt) (whole : TypedStmt) →
+    plain_node test ≡ node_at e.place t → whole ≡ statement place (choice_form (plain_node test) first other) →
+    whole ≡ statement place (choice_form (node_of (tree.plain_expr e) t) first other)
+choice_made e test t place first other whole given is =
+    is ∙ ap (λ (z : TypedExpr). statement place (choice_form z first other)) (node_made e test t given)
+
+pub while_made : (e : Tree) (test : Expr) (t : Option TypedExpr) (place : Place) (body whole : TypedStmt) → plain_node test ≡ node_at e.place t →
+    whole ≡ statement place (while_loop (plain_node test) body) → whole ≡ statement place (while_loop (node_of (tree.plain_expr e) t) body)
+while_made e test t place body whole given is = is ∙ ap (λ (z : TypedExpr). statement place (while_loop z body)) (node_made e test t given)

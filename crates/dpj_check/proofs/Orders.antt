@@ -33,10 +33,6 @@ map_pushed f xs pushed x is = ap (map f) is ∙ map_more f xs x
 abbrev pub behind_stmts : List TypedStmt → Verdict (List TypedStmt) → Verdict (List TypedStmt)
 behind_stmts made v = behind None (λ others. made ++ others) v
 
-behind_none : (v : Verdict (List TypedStmt)) → behind_stmts [] v ≡ v
-behind_none (passes others w) = refl
-behind_none (refused q) = refl
-
 behind_one : (made : List TypedStmt) (one : TypedStmt) (v : Verdict (List TypedStmt)) →
     behind_stmts made (behind None (λ others. one ∷ others) v) ≡ behind_stmts (made ++ one ∷ []) v
 behind_one made one (passes others w) = ap (λ (z : List TypedStmt). passes z w) (sym (append_assoc made (one ∷ []) others))
@@ -50,12 +46,6 @@ abbrev pub OrderSoFar : List Bool → Around → List Stmt → Walk → ℕ → 
 OrderSoFar params around all w i complete made u =
     (v : Verdict (List TypedStmt)) → InOrder params around complete (plain_stmts (map plain_stmt (drop i all))) u v →
     InOrder params around true (plain_stmts (map plain_stmt all)) w (behind_stmts made v)
-
-pub order_none : (params : List Bool) (around : Around) (all : List Stmt) (w : Walk) (made : List TypedStmt) → made ≡ [] →
-    OrderSoFar params around all w 0 true made w
-order_none params around all w made none v d =
-    subst (λ (z : Verdict (List TypedStmt)). InOrder params around true (plain_stmts (map plain_stmt all)) w z)
-    (sym (behind_none v) ∙ ap (λ (z : List TypedStmt). behind_stmts z v) (sym none)) d
 
 pub order_refused : (params own : List Bool) (around : Around) (all : List Stmt) (w : Walk) (i : ℕ) (complete : Bool) (made : List TypedStmt) (s : Stmt)
     (u : Walk) (q : Refusal) → OrderSoFar params around all w i complete made u → own ≡ params → i < length all → s ≡ get_or all i s →

@@ -79,13 +79,13 @@ abbrev pub walk_from : Env → Found → Walk
 walk_from env found = record { env = env; found = found }
 
 -- a scope that was left
-pub closed_is : (b s : Body) (env : Env) (scope : Mark) (leaving : Leaving) (kept kept' : Marks) (f g inner inner' rest out : Found) →
-    scope ≡ mark_of b.env → env ≡ left_to s.env scope → leaving ≡ from_here b.env kept → kept ≡ kept' → inner ≡ inner' → out ≡ taken_in leaving g inner →
-    closed (found_so (walk_of b f) g) kept' inner' (walk_of s rest) ≡ walk_from env out
-closed_is b s env scope leaving kept kept' f g inner inner' rest out scope_is env_is leaving_is kept_is inner_is out_is =
+pub closed_is : (b s : Body) (env : Env) (scope : Mark) (leaving : Leaving) (marking marking' : Marks) (f g inner inner' rest out : Found) →
+    scope ≡ mark_of b.env → env ≡ left_to s.env scope → leaving ≡ from_here b.env marking → marking ≡ marking' → inner ≡ inner' → out ≡ taken_in leaving g inner →
+    closed (found_so (walk_of b f) g) marking' inner' (walk_of s rest) ≡ walk_from env out
+closed_is b s env scope leaving marking marking' f g inner inner' rest out scope_is env_is leaving_is kept_is inner_is out_is =
     let env_so : env ≡ left_to s.env (mark_of b.env) = env_is ∙ ap (λ (z : Mark). left_to s.env z) scope_is in
-    let out_so : out ≡ taken_in (from_here b.env kept') g inner' =
+    let out_so : out ≡ taken_in (from_here b.env marking') g inner' =
     out_is ∙ ap (λ (z : Leaving). taken_in z g inner) (leaving_is ∙ ap (from_here b.env) kept_is)
-    ∙ ap (λ (z : Found). taken_in (from_here b.env kept') g z) inner_is in
-    ap (λ (z : Env). walk_from z (taken_in (from_here b.env kept') g inner')) (sym env_so)
+    ∙ ap (λ (z : Found). taken_in (from_here b.env marking') g z) inner_is in
+    ap (λ (z : Env). walk_from z (taken_in (from_here b.env marking') g inner')) (sym env_so)
     ∙ ap (λ (z : Found). walk_from env z) (sym out_so)

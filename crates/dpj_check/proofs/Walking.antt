@@ -214,6 +214,3 @@ parts_so params around node s view var array count body shown w v is shows d =
     as_form params around node s (form.foreach_parts view var (plain_expr array) (plain_expr count) (plain_stmt body)) w v
     (at_Parts s view var array count body is)
     (rule.of_parts (subst (λ (z : Stmt). Parting params around node view var (plain_expr array) (plain_expr count) (plain_stmt z) w v) shows d))
-
-pub walk_same : (b c : Body) (f g : Found) → c ≡ b → g ≡ f → walk_of b f ≡ walk_of c g
-walk_same b c f g bodies founds = ap (λ (z : Body). walk_of z f) (sym bodies) ∙ ap (λ (z : Found). walk_of c z) (sym founds)

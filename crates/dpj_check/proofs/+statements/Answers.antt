@@ -23,7 +23,7 @@ use Rattle.dpj_check.proofs.Atomics.{atomic_refused, atomic_told, atomic_passes}
 use Rattle.dpj_check.proofs.Forks.{Branch, BranchesMet, branch_made, fork_more, fork_all, fork_stopped, fork_told, fork_ends, fork_passes, clash_is}
 use Rattle.dpj_check.proofs.Homes.{home_params, piece_begun}
 use Rattle.dpj_check.proofs.Iterations.{iteration_in, iteration_stopped, iteration_told, iterations_told, iterations_pass, second_noted, Iterated, IterationsMet}
-use Rattle.dpj_check.proofs.Nodes.{node_made}
+use Rattle.dpj_check.proofs.Nodes.{node_made, choice_made, while_made}
 use Rattle.dpj_check.proofs.Orders.{map_pushed, order_refused, order_more, order_all, and_then_so, and_else_so, complete_step, keep_step, fork_keeps}
 use Rattle.dpj_check.proofs.Parting.{range_stopped, part_stopped, Part, part_told, PartsMet, parts_told, parts_pass}
 use Rattle.dpj_check.proofs.Passing.{says_all, stopped, settle_stopped}
@@ -79,7 +79,8 @@ statements::scoped-returns-in_err-done-clause-checks t c =
 pub statements::scoped-returns-clause-checks : goal.statements::scoped-returns-clause-checks
 statements::scoped-returns-clause-checks t c =
     scope_passes c.args.body.now.atomic_params c.args.around (plain_stmt c.args.stmt.now) c.args.body.now c.statement.new.body c.args.out.now
-    c.statement.new.out c.leave.new.self c.mark-scope.result (typed_stmt c.in_ok-done.done.stmt) c.in_ok-done.ensures.checks c.mark-scope.ensures c.leave.ensures.whole
+    c.statement.new.out c.leave.new.self c.mark-scope.result (typed_stmt c.in_ok-done.done.stmt) c.in_ok-done.ensures.checks c.mark-scope.ensures
+    c.leave.ensures.whole
 
 pub statements::statement-returns-in_err-done-in-Block-clause-checks :
     goal.statements::statement-returns-in_err-done-in-Block-clause-checks
@@ -103,7 +104,8 @@ statements::statement-returns-in_err-settle-in-Block-clause-checks t c =
     block_stands c.args.body.now.atomic_params c.args.around c.args.follows c.of-node.result c.args.stmt.now c.in-Block.all c.as_slice.result.now
     (walk_of c.args.body.now c.args.out.now) (passes (map typed_stmt c.in_ok-done-in-Block.done.stmts) (walk_of c.block.new.body c.block.new.out))
     (verdict.refused q) c.in-Block.is c.as_slice.ensures c.of-node.ensures.node c.in_ok-done-in-Block.ensures.checks
-    (then_told (fault_of c.of-node.result) (λ ss. statement c.of-node.result.place (made.block (stmts_of ss))) (map typed_stmt c.in_ok-done-in-Block.done.stmts) (walk_of c.block.new.body c.block.new.out) q told))
+    (then_told (fault_of c.of-node.result) (λ ss. statement c.of-node.result.place (made.block (stmts_of ss))) (map typed_stmt
+    c.in_ok-done-in-Block.done.stmts) (walk_of c.block.new.body c.block.new.out) q told))
 
 pub statements::statement-returns-in_ok-settle-in-Block-clause-checks :
     goal.statements::statement-returns-in_ok-settle-in-Block-clause-checks
@@ -112,7 +114,8 @@ statements::statement-returns-in_ok-settle-in-Block-clause-checks t c =
     (walk_of c.args.body.now c.args.out.now) (passes (map typed_stmt c.in_ok-done-in-Block.done.stmts) (walk_of c.block.new.body c.block.new.out))
     (passes (typed_stmt c.blocked.result) (walk_of c.block.new.body c.block.new.out)) c.in-Block.is c.as_slice.ensures c.of-node.ensures.node
     c.in_ok-done-in-Block.ensures.checks
-    (then_made (fault_of c.of-node.result) (λ ss. statement c.of-node.result.place (made.block (stmts_of ss))) (map typed_stmt c.in_ok-done-in-Block.done.stmts) (walk_of c.block.new.body c.block.new.out)
+    (then_made (fault_of c.of-node.result) (λ ss. statement c.of-node.result.place (made.block (stmts_of ss))) (map typed_stmt
+    c.in_ok-done-in-Block.done.stmts) (walk_of c.block.new.body c.block.new.out)
     (typed_stmt c.blocked.result) c.in_ok-settle-in-Block.ensures.clean c.blocked.ensures)
 
 pub statements::statement-returns-in_err-given-in-If-clause-checks :
@@ -137,7 +140,8 @@ statements::statement-returns-in_err-first-in-If-clause-checks t c =
     (λ q d.
     choice_stands c.args.body.now.atomic_params c.args.around c.args.follows c.of-node.result c.args.stmt.now c.in-If.test c.in-If.then c.in-If.other
     (walk_of c.args.body.now c.args.out.now) (verdict.refused q) c.in-If.is c.of-node.ensures.node
-    (first_stops c.args.body.now c.args.around c.of-node.result c.in-If.test c.in-If.then c.get.result.now (option_map plain_stmt c.in-If.other) c.args.out.now c.boolean.new.out (plain_typed c.in_ok-given-in-If.given) q c.in_ok-given-in-If.ensures.answer c.get.ensures d))
+    (first_stops c.args.body.now c.args.around c.of-node.result c.in-If.test c.in-If.then c.get.result.now (option_map plain_stmt c.in-If.other)
+    c.args.out.now c.boolean.new.out (plain_typed c.in_ok-given-in-If.given) q c.in_ok-given-in-If.ensures.answer c.get.ensures d))
     c.in_err-first-in-If.ensures.checks
 
 pub statements::statement-returns-in_err-second-in-Some-clause-checks :
@@ -202,16 +206,18 @@ statements::statement-returns-in_ok-choose-in-Some-clause-checks t c =
     c.get.result.now c.in-If.other c.in-Some.other c.get-in-Some.result.now c.args.out.now c.boolean.new.out c.scoped.new.out
     (plain_typed c.in_ok-given-in-If.given) (typed_stmt c.in_ok-first-in-If.first.stmt)
     (passes (typed_stmt c.in_ok-second-in-Some.second.stmt) (walk_of c.scoped-in-Some.new.body c.scoped-in-Some.new.out))
-    (passes (typed_stmt c.in_ok-choose-in-Some.field-0.stmt) (walk_of c.scoped-in-Some.new.body c.scoped-in-Some.new.out)) c.in-If.is c.in-Some.is c.of-node.ensures.node
+    (passes (typed_stmt c.in_ok-choose-in-Some.field-0.stmt) (walk_of c.scoped-in-Some.new.body c.scoped-in-Some.new.out)) c.in-If.is c.in-Some.is
+    c.of-node.ensures.node
     met c.get-in-Some.ensures c.in_ok-second-in-Some.ensures.checks
     (then_made (fault_of c.boolean.new.node)
     (λ z. statement c.of-node.result.place
     (choice_form (node_of (plain_expr c.in-If.test) (plain_typed c.in_ok-given-in-If.given)) (typed_stmt c.in_ok-first-in-If.first.stmt) z))
-    (Some (typed_stmt c.in_ok-second-in-Some.second.stmt)) (walk_of c.scoped-in-Some.new.body c.scoped-in-Some.new.out) (typed_stmt c.in_ok-choose-in-Some.field-0.stmt)
+    (Some (typed_stmt c.in_ok-second-in-Some.second.stmt)) (walk_of c.scoped-in-Some.new.body c.scoped-in-Some.new.out) (typed_stmt
+    c.in_ok-choose-in-Some.field-0.stmt)
     c.in_ok-settle-in-Some.ensures.clean
-    (c.in_ok-choose-in-Some.ensures.stmt
-    ∙ ap (λ e. statement c.of-node.result.place (choice_form e (typed_stmt c.in_ok-first-in-If.first.stmt) (Some (typed_stmt c.in_ok-second-in-Some.second.stmt))))
-    (node_made c.in-If.test c.into_node-test.result (plain_typed c.in_ok-given-in-If.given) c.into_node-test.ensures)))
+    (choice_made c.in-If.test c.into_node-test.result (plain_typed c.in_ok-given-in-If.given) c.of-node.result.place
+    (typed_stmt c.in_ok-first-in-If.first.stmt) (Some (typed_stmt c.in_ok-second-in-Some.second.stmt)) (typed_stmt c.in_ok-choose-in-Some.field-0.stmt)
+    c.into_node-test.ensures c.in_ok-choose-in-Some.ensures.stmt))
 
 pub statements::statement-returns-in_err-settle-in-None-clause-checks :
     goal.statements::statement-returns-in_err-settle-in-None-clause-checks
@@ -256,9 +262,9 @@ statements::statement-returns-in_ok-choose-in-None-clause-checks t c =
     (λ z. statement c.of-node.result.place
     (choice_form (node_of (plain_expr c.in-If.test) (plain_typed c.in_ok-given-in-If.given)) (typed_stmt c.in_ok-first-in-If.first.stmt) z))
     None (walk_of c.scoped.new.body c.scoped.new.out) (typed_stmt c.in_ok-choose-in-None.field-0.stmt) c.in_ok-settle-in-None.ensures.clean
-    (c.in_ok-choose-in-None.ensures.stmt
-    ∙ ap (λ e. statement c.of-node.result.place (choice_form e (typed_stmt c.in_ok-first-in-If.first.stmt) None))
-    (node_made c.in-If.test c.into_node-test.result (plain_typed c.in_ok-given-in-If.given) c.into_node-test.ensures)))
+    (choice_made c.in-If.test c.into_node-test.result (plain_typed c.in_ok-given-in-If.given) c.of-node.result.place
+    (typed_stmt c.in_ok-first-in-If.first.stmt) None (typed_stmt c.in_ok-choose-in-None.field-0.stmt)
+    c.into_node-test.ensures c.in_ok-choose-in-None.ensures.stmt))
 
 pub statements::statement-returns-in_err-stmt-in-Return-clause-checks :
     goal.statements::statement-returns-in_err-stmt-in-Return-clause-checks
@@ -366,7 +372,8 @@ statements::repeated-returns-in_err-given-in-While-clause-checks t c =
 pub statements::repeated-returns-in_err-done-in-While-clause-checks :
     goal.statements::repeated-returns-in_err-done-in-While-clause-checks
 statements::repeated-returns-in_err-done-in-While-clause-checks t c =
-    stopped (λ q. InScope c.args.body.now.atomic_params c.args.around (plain_stmt c.get.result.now) (walk_of c.args.body.now c.boolean.new.out) (verdict.refused q))
+    stopped (λ q. InScope c.args.body.now.atomic_params c.args.around (plain_stmt c.get.result.now) (walk_of c.args.body.now c.boolean.new.out)
+    (verdict.refused q))
     (Checking c.args.body.now.atomic_params c.args.around c.args.node (form_of (plain_stmt c.args.stmt.now)) (walk_of c.args.body.now c.args.out.now))
     c.from_residual-in_err-done-in-While.result _ c.in_err-done-in-While.field-0.0 c.from_residual-in_err-done-in-While.ensures.1
     (λ q d.
@@ -378,12 +385,14 @@ statements::repeated-returns-in_err-done-in-While-clause-checks t c =
 pub statements::repeated-returns-in_err-settle-in-While-clause-checks :
     goal.statements::repeated-returns-in_err-settle-in-While-clause-checks
 statements::repeated-returns-in_err-settle-in-While-clause-checks t c =
-    settle_stopped (Checking c.args.body.now.atomic_params c.args.around c.args.node (form_of (plain_stmt c.args.stmt.now)) (walk_of c.args.body.now c.args.out.now))
+    settle_stopped (Checking c.args.body.now.atomic_params c.args.around c.args.node (form_of (plain_stmt c.args.stmt.now)) (walk_of c.args.body.now
+    c.args.out.now))
     (fault_of c.boolean.new.node) c.from_residual-in_err-settle-in-While.result c.in_err-settle-in-While.field-0.0 _
     c.from_residual-in_err-settle-in-While.ensures.1 c.in_err-settle-in-While.ensures.result
     (λ q told.
     while_so c.args.around c.args.node c.boolean.new.node c.args.stmt.now c.in-While.test c.in-While.iteration c.get.result.now c.args.body.now
-    c.args.out.now c.boolean.new.out (plain_typed c.in_ok-given-in-While.given) (passes (typed_stmt c.in_ok-done-in-While.done.stmt) (walk_of c.scoped.new.body c.scoped.new.out)) (verdict.refused q)
+    c.args.out.now c.boolean.new.out (plain_typed c.in_ok-given-in-While.given) (passes (typed_stmt c.in_ok-done-in-While.done.stmt) (walk_of
+    c.scoped.new.body c.scoped.new.out)) (verdict.refused q)
     c.in-While.is c.in_ok-given-in-While.ensures.answer c.in_ok-given-in-While.ensures.node c.get.ensures c.in_ok-done-in-While.ensures.checks
     (then_told (fault_of c.boolean.new.node)
     (λ z. statement c.args.node.place (made.while_loop (node_of (plain_expr c.in-While.test) (plain_typed c.in_ok-given-in-While.given)) z))
@@ -393,15 +402,17 @@ pub statements::repeated-returns-in_ok-repeated-in-While-clause-checks :
     goal.statements::repeated-returns-in_ok-repeated-in-While-clause-checks
 statements::repeated-returns-in_ok-repeated-in-While-clause-checks t c =
     while_so c.args.around c.args.node c.boolean.new.node c.args.stmt.now c.in-While.test c.in-While.iteration c.get.result.now c.args.body.now
-    c.args.out.now c.boolean.new.out (plain_typed c.in_ok-given-in-While.given) (passes (typed_stmt c.in_ok-done-in-While.done.stmt) (walk_of c.scoped.new.body c.scoped.new.out))
+    c.args.out.now c.boolean.new.out (plain_typed c.in_ok-given-in-While.given) (passes (typed_stmt c.in_ok-done-in-While.done.stmt) (walk_of
+    c.scoped.new.body c.scoped.new.out))
     (passes (typed_stmt c.in_ok-repeated-in-While.field-0) (walk_of c.scoped.new.body c.scoped.new.out))
     c.in-While.is c.in_ok-given-in-While.ensures.answer c.in_ok-given-in-While.ensures.node c.get.ensures c.in_ok-done-in-While.ensures.checks
     (then_made (fault_of c.boolean.new.node)
-    (λ z. statement c.args.node.place (made.while_loop (node_of (plain_expr c.in-While.test) (plain_typed c.in_ok-given-in-While.given)) z)) (typed_stmt c.in_ok-done-in-While.done.stmt) (walk_of c.scoped.new.body c.scoped.new.out)
+    (λ z. statement c.args.node.place (made.while_loop (node_of (plain_expr c.in-While.test) (plain_typed c.in_ok-given-in-While.given)) z)) (typed_stmt
+    c.in_ok-done-in-While.done.stmt) (walk_of c.scoped.new.body c.scoped.new.out)
     (typed_stmt c.in_ok-repeated-in-While.field-0) c.in_ok-settle-in-While.ensures.clean
-    (c.in_ok-repeated-in-While.ensures
-    ∙ ap (λ e. statement c.args.node.place (made.while_loop e (typed_stmt c.in_ok-done-in-While.done.stmt)))
-    (node_made c.in-While.test c.into_node-test.result (plain_typed c.in_ok-given-in-While.given) c.into_node-test.ensures)))
+    (while_made c.in-While.test c.into_node-test.result (plain_typed c.in_ok-given-in-While.given) c.args.node.place
+    (typed_stmt c.in_ok-done-in-While.done.stmt) (typed_stmt c.in_ok-repeated-in-While.field-0) c.into_node-test.ensures
+    c.in_ok-repeated-in-While.ensures))
 
 pub statements::repeated-returns-in_err-first-in-Foreach-clause-checks :
     goal.statements::repeated-returns-in_err-first-in-Foreach-clause-checks
@@ -513,12 +524,15 @@ constructs::foreach-returns-in_err-settle-clause-checks t c =
           c.note_declaration.ensures.node c.note_if.ensures.node;
       in_scope =
           iteration_in c.args.body.now c.declare_variable.new.self c.args.around c.inside.result c.args.var (plain_stmt c.args.iteration.now) c.args.out.now
-          c.new-inner.result (passes (typed_stmt c.in_ok-done.done.stmt) (walk_of c.scoped.new.body c.scoped.new.out)) c.new-inner.ensures c.in_ok-declare_variable.ensures.whole
+          c.new-inner.result (passes (typed_stmt c.in_ok-done.done.stmt) (walk_of c.scoped.new.body c.scoped.new.out)) c.new-inner.ensures
+          c.in_ok-declare_variable.ensures.whole
           c.inside.ensures c.in_ok-done.ensures.checks;
       assigning = c.in_ok-assigns_outer.ensures;
     } in
-    iteration_told c.args.body.now c.scoped.new.body c.args.around c.args.node c.note_if.new.self c.args.nd c.args.var (plain_node c.args.range.0) (plain_node c.args.range.1) (plain_stmt c.args.iteration.now)
-    c.args.out.now c.scoped.new.out (typed_stmt c.in_ok-done.done.stmt) c.in_ok-assigns_outer.field-0 _ c.from_residual-in_err-settle.result c.in_err-settle.field-0.0
+    iteration_told c.args.body.now c.scoped.new.body c.args.around c.args.node c.note_if.new.self c.args.nd c.args.var (plain_node c.args.range.0)
+    (plain_node c.args.range.1) (plain_stmt c.args.iteration.now)
+    c.args.out.now c.scoped.new.out (typed_stmt c.in_ok-done.done.stmt) c.in_ok-assigns_outer.field-0 _ c.from_residual-in_err-settle.result
+    c.in_err-settle.field-0.0
     c.from_residual-in_err-settle.ensures.1 passed c.in_err-settle.ensures.result
 
 pub constructs::foreach-returns-in_err-settle-2-clause-checks :
@@ -532,7 +546,8 @@ constructs::foreach-returns-in_err-settle-2-clause-checks t c =
           c.note_declaration.ensures.node c.note_if.ensures.node;
       in_scope =
           iteration_in c.args.body.now c.declare_variable.new.self c.args.around c.inside.result c.args.var (plain_stmt c.args.iteration.now) c.args.out.now
-          c.new-inner.result (passes (typed_stmt c.in_ok-done.done.stmt) (walk_of c.scoped.new.body c.scoped.new.out)) c.new-inner.ensures c.in_ok-declare_variable.ensures.whole
+          c.new-inner.result (passes (typed_stmt c.in_ok-done.done.stmt) (walk_of c.scoped.new.body c.scoped.new.out)) c.new-inner.ensures
+          c.in_ok-declare_variable.ensures.whole
           c.inside.ensures c.in_ok-done.ensures.checks;
       assigning = c.in_ok-assigns_outer.ensures;
     } in
@@ -553,8 +568,10 @@ constructs::foreach-returns-in_err-settle-2-clause-checks t c =
       third_is = c.note_if-2.ensures.node;
     } in
     iterations_told c.args.body.now c.scoped.new.body c.args.around c.args.node c.note_if.new.self c.settle.new.self c.note_if-2.new.self c.args.nd
-    c.in_ok-assigns_outer.field-0 c.in_ok-clash.clash c.args.var (plain_node c.args.range.0) (plain_node c.args.range.1) (plain_stmt c.args.iteration.now) c.slots-slot.result c.leave.new.self c.mark-scope.result
-    c.args.out.now c.scoped.new.out (reaching c.scoped.new.out c.if-inner.inner) (typed_stmt c.in_ok-done.done.stmt) c.interference.result _ c.from_residual-in_err-settle-2.result
+    c.in_ok-assigns_outer.field-0 c.in_ok-clash.clash c.args.var (plain_node c.args.range.0) (plain_node c.args.range.1) (plain_stmt c.args.iteration.now)
+    c.slots-slot.result c.leave.new.self c.mark-scope.result
+    c.args.out.now c.scoped.new.out (reaching c.scoped.new.out c.if-inner.inner) (typed_stmt c.in_ok-done.done.stmt) c.interference.result _
+    c.from_residual-in_err-settle-2.result
     c.in_err-settle-2.field-0.0 c.from_residual-in_err-settle-2.ensures.1 passed met c.in_ok-settle.ensures.clean c.in_err-settle-2.ensures.result
 
 pub constructs::foreach-returns-clause-nd : goal.constructs::foreach-returns-clause-nd
@@ -577,7 +594,8 @@ constructs::foreach-returns-clause-checks t c =
           c.note_declaration.ensures.node c.note_if.ensures.node;
       in_scope =
           iteration_in c.args.body.now c.declare_variable.new.self c.args.around c.inside.result c.args.var (plain_stmt c.args.iteration.now) c.args.out.now
-          c.new-inner.result (passes (typed_stmt c.in_ok-done.done.stmt) (walk_of c.scoped.new.body c.scoped.new.out)) c.new-inner.ensures c.in_ok-declare_variable.ensures.whole
+          c.new-inner.result (passes (typed_stmt c.in_ok-done.done.stmt) (walk_of c.scoped.new.body c.scoped.new.out)) c.new-inner.ensures
+          c.in_ok-declare_variable.ensures.whole
           c.inside.ensures c.in_ok-done.ensures.checks;
       assigning = c.in_ok-assigns_outer.ensures;
     } in
@@ -598,7 +616,8 @@ constructs::foreach-returns-clause-checks t c =
       third_is = c.note_if-2.ensures.node;
     } in
     iterations_pass c.args.body.now c.scoped.new.body c.args.around c.args.node c.note_if.new.self c.settle.new.self c.note_if-2.new.self c.args.nd
-    c.in_ok-assigns_outer.field-0 c.in_ok-clash.clash c.args.var (plain_node c.args.range.0) (plain_node c.args.range.1) (plain_stmt c.args.iteration.now) c.slots-slot.result c.leave.new.self c.mark-scope.result
+    c.in_ok-assigns_outer.field-0 c.in_ok-clash.clash c.args.var (plain_node c.args.range.0) (plain_node c.args.range.1) (plain_stmt c.args.iteration.now)
+    c.slots-slot.result c.leave.new.self c.mark-scope.result
     c.args.out.now c.scoped.new.out (reaching c.scoped.new.out c.if-inner.inner) c.take_in.new.out (typed_stmt c.in_ok-done.done.stmt)
     (typed_stmt c.in_ok-iterated.field-0) c.interference.result c.marks_after.result
     c.from_here-leaving.result passed met c.in_ok-settle.ensures.clean c.in_ok-settle-2.ensures.clean c.marks_after.ensures
@@ -616,7 +635,8 @@ pub parts::foreach_parts-returns-in_err-done-clause-checks :
 parts::foreach_parts-returns-in_err-done-clause-checks t c =
     part_stopped c.args.body.now c.open.new.body c.args.around c.inside.result c.args.node c.open.new.node c.args.names.0 c.args.names.1
     (plain_expr c.args.range.0.now) (plain_expr c.args.range.1.now)
-    (plain_stmt c.args.iteration.now) c.args.out.now c.open.new.out c.new-inner.result (plain_source c.in_ok-source.source) (plain_node c.in_ok-source.count) _
+    (plain_stmt c.args.iteration.now) c.args.out.now c.open.new.out c.new-inner.result (plain_source c.in_ok-source.source) (plain_node c.in_ok-source.count)
+    _
     c.from_residual-in_err-done.result c.in_err-done.field-0.0 c.from_residual-in_err-done.ensures.1 c.in_ok-source.ensures.opening
     c.in_ok-source.ensures.home c.inside.ensures c.new-inner.ensures c.in_err-done.ensures.checks
 
@@ -625,18 +645,21 @@ pub parts::foreach_parts-returns-in_err-settle-clause-checks :
 parts::foreach_parts-returns-in_err-settle-clause-checks t c =
     let part : Part c.args.body.now c.open.new.body c.scoped.new.body c.args.around c.args.node c.open.new.node c.note_if.new.self c.args.names.0
     c.args.names.1 (plain_expr c.args.range.0.now) (plain_expr c.args.range.1.now)
-    (plain_stmt c.args.iteration.now) c.args.out.now c.open.new.out c.scoped.new.out (plain_source c.in_ok-source.source) (plain_node c.in_ok-source.count) (typed_stmt c.in_ok-done.done.stmt) c.in_ok-assigns_outer.field-0 = record {
+    (plain_stmt c.args.iteration.now) c.args.out.now c.open.new.out c.scoped.new.out (plain_source c.in_ok-source.source) (plain_node c.in_ok-source.count)
+    (typed_stmt c.in_ok-done.done.stmt) c.in_ok-assigns_outer.field-0 = record {
       opening = c.in_ok-source.ensures.opening;
       second_is = c.note_if.ensures.node;
       in_scope =
           piece_begun c.args.body.now c.open.new.body c.args.around c.inside.result (plain_stmt c.args.iteration.now) c.open.new.out c.new-inner.result
-          (passes (typed_stmt c.in_ok-done.done.stmt) (walk_of c.scoped.new.body c.scoped.new.out)) c.in_ok-source.ensures.home c.inside.ensures c.new-inner.ensures
+          (passes (typed_stmt c.in_ok-done.done.stmt) (walk_of c.scoped.new.body c.scoped.new.out)) c.in_ok-source.ensures.home c.inside.ensures
+          c.new-inner.ensures
           c.in_ok-done.ensures.checks;
       assigning = c.in_ok-assigns_outer.ensures;
     } in
     part_told c.args.body.now c.open.new.body c.scoped.new.body c.args.around c.args.node c.open.new.node c.note_if.new.self c.args.names.0 c.args.names.1
     (plain_expr c.args.range.0.now) (plain_expr c.args.range.1.now)
-    (plain_stmt c.args.iteration.now) c.args.out.now c.open.new.out c.scoped.new.out (plain_source c.in_ok-source.source) (plain_node c.in_ok-source.count) (typed_stmt c.in_ok-done.done.stmt) c.in_ok-assigns_outer.field-0 _
+    (plain_stmt c.args.iteration.now) c.args.out.now c.open.new.out c.scoped.new.out (plain_source c.in_ok-source.source) (plain_node c.in_ok-source.count)
+    (typed_stmt c.in_ok-done.done.stmt) c.in_ok-assigns_outer.field-0 _
     c.from_residual-in_err-settle.result c.in_err-settle.field-0.0 c.from_residual-in_err-settle.ensures.1 part c.in_err-settle.ensures.result
 
 pub parts::foreach_parts-returns-in_err-settle-2-clause-checks :
@@ -644,12 +667,14 @@ pub parts::foreach_parts-returns-in_err-settle-2-clause-checks :
 parts::foreach_parts-returns-in_err-settle-2-clause-checks t c =
     let part : Part c.args.body.now c.open.new.body c.scoped.new.body c.args.around c.args.node c.open.new.node c.note_if.new.self c.args.names.0
     c.args.names.1 (plain_expr c.args.range.0.now) (plain_expr c.args.range.1.now)
-    (plain_stmt c.args.iteration.now) c.args.out.now c.open.new.out c.scoped.new.out (plain_source c.in_ok-source.source) (plain_node c.in_ok-source.count) (typed_stmt c.in_ok-done.done.stmt) c.in_ok-assigns_outer.field-0 = record {
+    (plain_stmt c.args.iteration.now) c.args.out.now c.open.new.out c.scoped.new.out (plain_source c.in_ok-source.source) (plain_node c.in_ok-source.count)
+    (typed_stmt c.in_ok-done.done.stmt) c.in_ok-assigns_outer.field-0 = record {
       opening = c.in_ok-source.ensures.opening;
       second_is = c.note_if.ensures.node;
       in_scope =
           piece_begun c.args.body.now c.open.new.body c.args.around c.inside.result (plain_stmt c.args.iteration.now) c.open.new.out c.new-inner.result
-          (passes (typed_stmt c.in_ok-done.done.stmt) (walk_of c.scoped.new.body c.scoped.new.out)) c.in_ok-source.ensures.home c.inside.ensures c.new-inner.ensures
+          (passes (typed_stmt c.in_ok-done.done.stmt) (walk_of c.scoped.new.body c.scoped.new.out)) c.in_ok-source.ensures.home c.inside.ensures
+          c.new-inner.ensures
           c.in_ok-done.ensures.checks;
       assigning = c.in_ok-assigns_outer.ensures;
     } in
@@ -668,7 +693,8 @@ parts::foreach_parts-returns-in_err-settle-2-clause-checks t c =
     c.note_if-2.new.self
     c.args.names.0 c.args.names.1 (plain_expr c.args.range.0.now) (plain_expr c.args.range.1.now) (plain_stmt c.args.iteration.now) c.args.out.now
     c.open.new.out c.scoped.new.out
-    (plain_source c.in_ok-source.source) (plain_node c.in_ok-source.count) (typed_stmt c.in_ok-done.done.stmt) c.in_ok-assigns_outer.field-0 c.in_ok-passes.passes c.slots-part.result (c.slots-part.result + 4) c.leave.new.self
+    (plain_source c.in_ok-source.source) (plain_node c.in_ok-source.count) (typed_stmt c.in_ok-done.done.stmt) c.in_ok-assigns_outer.field-0
+    c.in_ok-passes.passes c.slots-part.result (c.slots-part.result + 4) c.leave.new.self
     c.mark-scope.result _ c.from_residual-in_err-settle-2.result c.in_err-settle-2.field-0.0 c.from_residual-in_err-settle-2.ensures.1 part met
     c.in_ok-settle.ensures.clean c.in_err-settle-2.ensures.result
 
@@ -682,12 +708,14 @@ pub parts::foreach_parts-returns-clause-checks : goal.parts::foreach_parts-retur
 parts::foreach_parts-returns-clause-checks t c =
     let part : Part c.args.body.now c.open.new.body c.scoped.new.body c.args.around c.args.node c.open.new.node c.note_if.new.self c.args.names.0
     c.args.names.1 (plain_expr c.args.range.0.now) (plain_expr c.args.range.1.now)
-    (plain_stmt c.args.iteration.now) c.args.out.now c.open.new.out c.scoped.new.out (plain_source c.in_ok-source.source) (plain_node c.in_ok-source.count) (typed_stmt c.in_ok-done.done.stmt) c.in_ok-assigns_outer.field-0 = record {
+    (plain_stmt c.args.iteration.now) c.args.out.now c.open.new.out c.scoped.new.out (plain_source c.in_ok-source.source) (plain_node c.in_ok-source.count)
+    (typed_stmt c.in_ok-done.done.stmt) c.in_ok-assigns_outer.field-0 = record {
       opening = c.in_ok-source.ensures.opening;
       second_is = c.note_if.ensures.node;
       in_scope =
           piece_begun c.args.body.now c.open.new.body c.args.around c.inside.result (plain_stmt c.args.iteration.now) c.open.new.out c.new-inner.result
-          (passes (typed_stmt c.in_ok-done.done.stmt) (walk_of c.scoped.new.body c.scoped.new.out)) c.in_ok-source.ensures.home c.inside.ensures c.new-inner.ensures
+          (passes (typed_stmt c.in_ok-done.done.stmt) (walk_of c.scoped.new.body c.scoped.new.out)) c.in_ok-source.ensures.home c.inside.ensures
+          c.new-inner.ensures
           c.in_ok-done.ensures.checks;
       assigning = c.in_ok-assigns_outer.ensures;
     } in
@@ -718,7 +746,8 @@ constructs::cobegin-returns-in_err-done-clause-checks t c =
     fork_stopped c.args.body.now c.loop-branch.body c.args.around c.inside.result c.args.node c.args.nd c.args.branches.now c.loop-branch.branch-index
     c.loop-branch.effects c.loop-branch.locals (map plain_branch c.loop-branch.made)
     c.args.out.now c.loop-branch.out c.new-inner.result c.branch-item.result _ c.from_residual-in_err-done.result
-    c.in_err-done.field-0.0 c.from_residual-in_err-done.ensures.1 c.loop-branch.invariant.forks c.loop-branch-test.true c.branch-item.is c.loop-branch.invariant.home
+    c.in_err-done.field-0.0 c.from_residual-in_err-done.ensures.1 c.loop-branch.invariant.forks c.loop-branch-test.true c.branch-item.is
+    c.loop-branch.invariant.home
     c.inside.ensures
     c.new-inner.ensures c.in_err-done.ensures.checks
 
@@ -730,7 +759,8 @@ constructs::cobegin-loop-branch-preserved t c =
     c.in_ok-all_effects.field-0 c.in_ok-names.names one c.marks_after.result c.from_here-leaving.result (typed_stmt c.in_ok-done.done.stmt) = record {
       in_scope =
           piece_begun c.args.body.now c.loop-branch.body c.args.around c.inside.result (plain_stmt c.branch-item.result) c.loop-branch.out c.new-inner.result
-          (passes (typed_stmt c.in_ok-done.done.stmt) (walk_of c.scoped.new.body c.scoped.new.out)) c.loop-branch.invariant.home c.inside.ensures c.new-inner.ensures c.in_ok-done.ensures.checks;
+          (passes (typed_stmt c.in_ok-done.done.stmt) (walk_of c.scoped.new.body c.scoped.new.out)) c.loop-branch.invariant.home c.inside.ensures
+          c.new-inner.ensures c.in_ok-done.ensures.checks;
       touched = record { reads = c.in_ok-names.ensures.reads; assigns = c.in_ok-names.ensures.writes; once = c.in_ok-names.ensures.once };
       set_is = c.in_ok-all_effects.ensures;
       one_is = branch_made c.loop-branch.body.env c.in_ok-names.names c.as_slice.result.now c.in_ok-copies.copies c.in_ok-done.done.stmt
@@ -741,11 +771,13 @@ constructs::cobegin-loop-branch-preserved t c =
     } in
     record {
       keeps =
-          fork_keeps c.args.around c.inside.result c.args.branches.now c.loop-branch.branch-index c.branch-item.result c.loop-branch-test.true c.branch-item.is
+          fork_keeps c.args.around c.inside.result c.args.branches.now c.loop-branch.branch-index c.branch-item.result c.loop-branch-test.true
+          c.branch-item.is
           c.inside.ensures c.in_ok-done.ensures.keeps c.loop-branch.invariant.keeps;
       nd =
           fork_nd c.from_here-leaving.result c.args.branches.now c.loop-branch.branch-index c.branch-item.result
-          (c.args.out.now.reaches_nd || some_holds_nd (plain_stmts (map plain_stmt c.args.branches.now))) c.loop-branch.out c.scoped.new.out c.new-inner.result
+          (c.args.out.now.reaches_nd || some_holds_nd (plain_stmts (map plain_stmt c.args.branches.now))) c.loop-branch.out c.scoped.new.out
+          c.new-inner.result
           c.take_in.new.out c.loop-branch-test.true c.branch-item.is c.new-inner.ensures c.in_ok-take_in.ensures c.in_ok-done.ensures.nd
           c.loop-branch.invariant.nd;
       forks =
@@ -754,7 +786,8 @@ constructs::cobegin-loop-branch-preserved t c =
           c.loop-branch.effects c.push-in-loop-branch-2.new.self c.loop-branch.locals c.push-in-loop-branch.new.self (map plain_branch c.loop-branch.made)
           (map plain_branch c.push.new.self) c.loop-branch.body c.scoped.new.body c.loop-branch.out
           c.scoped.new.out c.take_in.new.out c.branch-item.result c.in_ok-all_effects.field-0 c.in_ok-names.names one c.marks_after.result
-          c.from_here-leaving.result (typed_stmt c.in_ok-done.done.stmt) c.loop-branch.invariant.forks c.loop-branch-test.true c.branch-item.is found c.in_ok-push-3.ensures.ok
+          c.from_here-leaving.result (typed_stmt c.in_ok-done.done.stmt) c.loop-branch.invariant.forks c.loop-branch-test.true c.branch-item.is found
+          c.in_ok-push-3.ensures.ok
           c.in_ok-push-2.ensures.ok
           (map_pushed plain_branch c.loop-branch.made c.push.new.self (record { copies = c.in_ok-copies.copies; body = c.in_ok-done.done.stmt })
           c.in_ok-push.ensures.ok);

@@ -1,4 +1,4 @@
-use Rattle.std.proofs.Common.{◌≡◌, true, ◌&&◌, ◌||◌, IsTrue, map, drop}
+use Rattle.std.proofs.Common.{◌≡◌, ◌&&◌, ◌||◌, IsTrue, map, drop}
 use Rattle.dpj_tree.specs.Nd.{some_holds_nd}
 use Rattle.dpj_tree.specs.Plain.{plain_stmt, plain_stmts}
 use Rattle.dpj_typed.specs.Plain.{plain_stmt as typed_stmt}
