@@ -1,6 +1,6 @@
 -- The rules of statements: what becomes of a statement where it stands. Its parts are walked in the order of evaluation,
 -- and a fault of a part is the fault of the whole; then the faults of its own node are reported.
-use Rattle.std.specs.Prelude.{◌≡◌, ◌↔◌, ◌+◌, ℕ, Bool, true, false, not, ◌&&◌, ◌||◌, cond, map, IsTrue, List, [], ◌∷◌, ◌++◌, Contains, Option, Some, None}
+use Rattle.std.specs.Prelude.{◌≡◌, ◌↔◌, ◌+◌, ℕ, Bool, true, false, not, ◌&&◌, ◌||◌, cond, map, IsTrue, List, [], ◌∷◌, Contains, Option, Some, None}
 use Rattle.std.specs.List.Sorted.{IsStrictlySortedBy}
 use Rattle.std.specs.Option.{option_map_or}
 use Rattle.std.specs.Ordering.{nat_cmp}

@@ -1,4 +1,4 @@
-use Rattle.std.proofs.Common.{◌≡◌, Some, None, subst, option_map}
+use Rattle.std.proofs.Common.{subst, option_map}
 use Rattle.dpj_tree.specs.Plain.{plain_expr}
 use Rattle.dpj_typed.specs.Plain.{plain_stmt as typed_stmt}
 use Rattle.dpj_exprs.specs.Answer.{refused}
