@@ -1,5 +1,5 @@
 -- The member with which a run begins is there; and a program within the bounds of a text has rows.
-use Rattle.std.proofs.Common.{◌≡◌, ◌∙◌, ℕ, zero, suc, ◌+◌, ◌<◌, ◌≤◌, ◌==◌, ◌&&◌, ◌||◌, not, min, Bool, true, false, cond, is_none, List, [], ◌∷◌, ◌++◌, length, Option, Some, None, refl, ap, sym, subst, sum_by, arith}
+use Rattle.std.proofs.Common.{◌≡◌, ◌∙◌, ℕ, suc, ◌+◌, ◌<◌, ◌≤◌, ◌==◌, ◌&&◌, ◌||◌, not, Bool, true, false, cond, is_none, List, [], ◌∷◌, length, Option, Some, None, refl, ap, sym, sum_by, arith}
 use Rattle.std.proofs.lemmas.List.{length-append}
 use Rattle.std.proofs.lemmas.List.Sums.{sum_by-cons}
 use Rattle.std.specs.List.{find, list_any, position_from}
@@ -13,24 +13,22 @@ use Rattle.dpj_headers.specs.Faults.{none_by}
 use Rattle.dpj_headers.specs.Headers.{class_of, header_of, main_of}
 use Rattle.dpj_headers.specs.Numbers.{as_number}
 use Rattle.dpj_headers.specs.Passes.{fault, fault_if}
-use Rattle.dpj_headers.specs.Second.{AreCounted}
 use Rattle.dpj_tree.specs.declared.class.Class.{Class}
 use Rattle.dpj_tree.specs.declared.class.Member.{Member}
 use Rattle.dpj_tree.specs.declared.class.Member.TheVariants as member
 use Rattle.dpj_tree.specs.declared.class.Program.{Program}
-use Rattle.dpj_tree.specs.Size.{class_size, member_size, program_size}
+use Rattle.dpj_tree.specs.Size.{class_size, member_size}
 use Rattle.dpj_typed.specs.Plain.{PlainMember}
 use Rattle.dpj_typed.specs.Scope.{member_at}
 use Rattle.dpj_assembly.specs.Assembled.{PlainBody, program_of}
 use Rattle.dpj_classes.specs.declared.rows.MethodRow.{MethodRow}
 use Rattle.dpj_classes.specs.declared.table.Table.{Table}
-use Rattle.dpj_classes.specs.Build.{AreWellNamed, IsTable, table_faults}
+use Rattle.dpj_classes.specs.Build.{table_faults}
 use Rattle.dpj_classes.specs.Overriding.{override_faults}
 use Rattle.dpj_classes.specs.Main.{begins_runs, is_main, main_class, main_faults, main_method, start}
 use Rattle.dpj_classes.specs.Table.{headers_of, methods_of, constructor_of}
-use Rattle.dpj_rows.specs.Rows.{HasRows}
 use Rattle.dpj_resolved.specs.Accepted.{IsAccepted, AcceptedBegins, SmallHasRows}
-use Rattle.dpj_resolved.proofs.Assembled.{P, facts, has_member}
+use Rattle.dpj_resolved.proofs.Assembled.{facts, has_member}
 use Rattle.dpj_resolved.proofs.Free.{append_none, fault_none, none_told, not_false}
 use Rattle.dpj_resolved.proofs.Lists.{some_same, and_then_there, map_there, there}
 use Rattle.dpj_resolved.proofs.Signatures.{methods_in, own_in, all_methods, rows_many}
