@@ -1,6 +1,8 @@
 -- Verdicts, over plain variables.
-use Rattle.std.proofs.Common.{◌≡◌, ◌<◌, ◌≤◌, ℕ, Bool, true, false, List, length, Option, Some, None, IfSome, IfOk, Result, Ok, Err, MatchOption, cond, refl, sym, ap, subst, inl, inr, arith}
+use Rattle.std.proofs.Common.{◌≡◌, ◌≢◌, ◌<◌, ◌≤◌, ◌⊎◌, ℕ, ℤ, Bool, true, false, List, length, Option, Some, None, IfSome, IfOk, Result, Ok, Err, MatchOption, cond, refl, sym, ap, subst, inl, inr, arith}
 use Rattle.dpj_base.specs.declared.memory.NoMemory.{NoMemory}
+use Rattle.dpj_base.specs.declared.outcome.Limits.{Limits}
+use Rattle.dpj_base.specs.declared.outcome.Outcome.{Outcome}
 use Rattle.dpj_base.specs.declared.outcome.Ending.{Ending}
 use Rattle.dpj_base.specs.declared.outcome.Ending.TheVariants.{Done, Trapped, Limited}
 use Rattle.dpj_base.specs.declared.place.Place.{Place}
@@ -8,6 +10,8 @@ use Rattle.dpj_base.specs.declared.refusal.Kind.TheVariants.{TooLong}
 use Rattle.dpj_base.specs.declared.refusal.Refusal.{Refusal}
 use Rattle.dpj_first.specs.declared.program.First.{First}
 use Rattle.dpj_first.specs.Form.{IsFirstForm}
+use Rattle.dpj_words.specs.declared.command.Command.{Command}
+use Rattle.dpj_words.specs.declared.command.Command.TheVariants as command
 use Rattle.dpj_words.specs.declared.job.Job.{Job}
 use Rattle.dpj_words.specs.declared.verdict.Status.TheVariants as ended
 use Rattle.dpj_words.specs.declared.verdict.Verdict.{Verdict}
@@ -17,7 +21,8 @@ use Rattle.dpj_words.specs.Reports.{status_of, ending_status}
 use Rattle.dpj_typed.specs.Plain.{PlainProgram}
 use Rattle.dpj_tokens.specs.declared.token.Token.{Token}
 use Rattle.dpj_tokens.specs.Cutting.{Cuts, OneCutting}
-use Rattle.dpj_top.specs.Answer.{IsAnswer, too_long, of_first_form, faulty, of_program, IsDecided, is_long, is_first, has_no_tokens, IsOther, IsLeft, IsFault, IsRun, ran, halted, IsListing, IsVerdictOn, to_run, to_list, to_check, asks_run, asks_list, first_verdict, refused_at_start, max_text}
+use Rattle.dpj_top.specs.Answer.{IsAnswer, too_long, of_first_form, faulty, of_program, IsDecided, is_long, is_first, has_no_tokens, IsLeft, IsPassed, IsFault, IsRun, ran, halted, IsListing, IsVerdictOn, to_run, to_list, to_check, asks_run, asks_list, first_verdict, refused_at_start, max_text}
+use Rattle.dpj_run.specs.Run.{ComesOut}
 use Rattle.dpj_top.specs.Call.{IsVerdict}
 
 ending_status-no-usage : (ending : Ending) → ending_status ending ≡ ended.Usage → ⊥
@@ -25,19 +30,19 @@ ending_status-no-usage (Done value) e = cc
 ending_status-no-usage (Trapped trap place) e = cc
 ending_status-no-usage Limited e = cc
 
-asks-no-usage : (asked : Bool) (ran other : Verdict) → (status_of ran ≡ ended.Usage → ⊥) → (status_of other ≡ ended.Usage → ⊥)
-    → status_of (cond asked ran other) ≡ ended.Usage → ⊥
-asks-no-usage true ran other r o = r
-asks-no-usage false ran other r o = o
+asks-no-usage : (asked : Bool) (one other : Verdict) → (status_of one ≡ ended.Usage → ⊥) → (status_of other ≡ ended.Usage → ⊥)
+    → status_of (cond asked one other) ≡ ended.Usage → ⊥
+asks-no-usage true one other r o = r
+asks-no-usage false one other r o = o
 
 run-no-usage : (job : Job) (place : Place) (typed : PlainProgram) (verdict : Verdict) → IsRun job place typed verdict → status_of verdict ≡ ended.Usage → ⊥
 run-no-usage job place typed verdict (ran outcome comes) e = ending_status-no-usage outcome.ending e
 run-no-usage job place typed verdict (halted comes) e = cc
 
 program-no-usage : (job : Job) (place : Place) (typed : PlainProgram) (verdict : Verdict) → IsVerdictOn job place typed verdict → status_of verdict ≡ ended.Usage → ⊥
-program-no-usage job place typed verdict (to_run verdict asked is) e = run-no-usage job place typed verdict is e
-program-no-usage job place typed verdict (to_list verdict asked is) e = let lists = is.lists in cc
-program-no-usage job place typed verdict (to_check no_run no_list) e = cc
+program-no-usage job place typed _ (to_run verdict asked is) e = run-no-usage job place typed verdict is e
+program-no-usage job place typed _ (to_list verdict asked is) e = let lists = is.lists in cc
+program-no-usage job place typed _ (to_check no_run no_list) e = cc
 
 -- the answer to a job isn't told as usage
 pub answer-no-usage : (job : Job) (text : List ℕ) (verdict : Verdict) → IsAnswer job text verdict → status_of verdict ≡ ended.Usage → ⊥
@@ -45,7 +50,7 @@ answer-no-usage job text verdict (too_long long) e = cc
 answer-no-usage job text verdict (of_first_form program no_list short form) e =
     asks-no-usage (asks_run job.command) _ Accepted (ending_status-no-usage _) (λ h. cc) e
 answer-no-usage job text verdict (faulty refusal short left fault) e = cc
-answer-no-usage job text verdict (of_program place typed verdict short left passed is) e = program-no-usage job place typed verdict is e
+answer-no-usage job text _ (of_program place typed verdict short left passed is) e = program-no-usage job place typed verdict is e
 
 -- where more was left than a text may have, the verdict is that
 pub verdict-too-long : (words : List (List ℕ)) (text : Option (List ℕ)) (given : Job) (verdict : Verdict)
@@ -108,3 +113,51 @@ answer-unique unique cutting job text first second decided (of_program place typ
     absurd (uncut cutting job text _ _ decided short left passed.cut)
 answer-unique unique cutting job text first second decided (of_program place typed verdict short left passed is) (of_program place' typed' verdict' short' left' passed' is') =
     absurd (uncut cutting job text _ _ decided short left passed.cut)
+
+-- a run that comes out so, under limits and an argument that equal its own
+pub comes_as : (typed : PlainProgram) (L limits : Limits) (a argument : ℤ) (o outcome : Option Outcome) → L ≡ limits → a ≡ argument → o ≡ outcome → ComesOut typed L a o
+    → ComesOut typed limits argument outcome
+comes_as typed L limits a argument o outcome same given is comes =
+    subst (λ k. ComesOut typed k argument outcome) same (subst (λ k. ComesOut typed L k outcome) given (subst (λ z. ComesOut typed L a z) is comes))
+
+-- what is asked of an accepted program is carried out
+pub run-verdict : (asked : Job) (place : Place) (typed : PlainProgram) (result : Result Verdict NoMemory) → asks_run asked.command ≡ true
+    → IfOk result (IsRun asked place typed) → IfOk result (IsVerdictOn asked place typed)
+run-verdict asked place typed (Ok verdict) is run = to_run verdict is run
+run-verdict asked place typed (Err none) is run = tt
+
+pub list-verdict : (asked : Job) (place : Place) (typed : PlainProgram) (result : Result Verdict NoMemory) → asks_list asked.command ≡ true
+    → IfOk result (IsListing typed) → IfOk result (IsVerdictOn asked place typed)
+list-verdict asked place typed (Ok verdict) is lists = to_list verdict is lists
+list-verdict asked place typed (Err none) is lists = tt
+
+pub runs : (c : Command) → (c ≡ command.Run) ⊎ (c ≡ command.Elide) → asks_run c ≡ true
+runs c (inl run) = ap asks_run run
+runs c (inr elide) = ap asks_run elide
+
+-- any other command asks neither a run nor a listing
+pub no-run : (c : Command) → c ≢ command.Run → c ≢ command.Elide → asks_run c ≡ false
+no-run command.Run run elide = absurd (run refl)
+no-run command.Elide run elide = absurd (elide refl)
+no-run command.Check run elide = refl
+no-run command.«List» run elide = refl
+no-run command.Demo run elide = refl
+no-run command.Trace run elide = refl
+no-run command.Replay run elide = refl
+no-run command.Effects run elide = refl
+
+pub no-list : (c : Command) → c ≢ command.«List» → asks_list c ≡ false
+no-list command.«List» list = absurd (list refl)
+no-list command.Run list = refl
+no-list command.Elide list = refl
+no-list command.Check list = refl
+no-list command.Demo list = refl
+no-list command.Trace list = refl
+no-list command.Replay list = refl
+no-list command.Effects list = refl
+
+-- the verdict on an accepted program is an answer
+pub program-answer : (asked : Job) (text : List ℕ) (place : Place) (typed : PlainProgram) (result : Result Verdict NoMemory) → length text ≤ max_text
+    → IsLeft asked text → IsPassed text place typed → IfOk result (IsVerdictOn asked place typed) → IfOk result (IsAnswer asked text)
+program-answer asked text place typed (Ok verdict) short left passed is = of_program place typed verdict short left passed is
+program-answer asked text place typed (Err none) short left passed is = tt

@@ -20,11 +20,11 @@ TellsOfVerdict ended.WriteFault = ⊥
 TellsOfVerdict ended.NoMemory = ⊥
 TellsOfVerdict _ = Unit {0}
 
--- what was held, and these bytes behind it
+-- what was held, and these bytes after it
 abbrev pub Appends : Option (List ℕ) → Option (List ℕ) → List ℕ → Type 0
 Appends before after bytes = IfSome before (λ held. after ≡ Some (held ++ bytes))
 
--- what was held, and a first part of these bytes behind it
+-- what was held, and a first part of these bytes after it
 abbrev pub AppendsPart : Option (List ℕ) → Option (List ℕ) → List ℕ → Type 0
 AppendsPart before after bytes =
     IfSome before (λ held. (count : ℕ) × (count ≤ length bytes) × (after ≡ Some (held ++ take count bytes)))

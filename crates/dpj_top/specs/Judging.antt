@@ -1,4 +1,4 @@
--- What becomes of a program behind its grammar: it is accepted as a typed program, or refused for the first fault of its class
+-- What becomes of a program after its grammar: it is accepted as a typed program, or refused for the first fault of its class
 -- table or of its bodies.
 use Rattle.std.specs.Prelude.{◌≡◌, List, None, Ok, Err}
 use Rattle.dpj_base.specs.declared.refusal.Refusal.{Refusal}

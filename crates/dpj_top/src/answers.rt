@@ -1,7 +1,7 @@
-ghost use Rattle.std.specs.Prelude.{◌≡◌, ◌≤◌, length, IfOk};
+ghost use Rattle.std.specs.Prelude.{◌≡◌, ◌≤◌, false, length, IfOk};
 ghost use Rattle.dpj_typed.specs.Plain.{plain_program};
 ghost use Rattle.dpj_words.specs.Jobs.{IsInRange};
-ghost use Rattle.dpj_top.specs.Answer.{IsAnswer, IsLeft, IsListing, IsRun, IsVerdictOn, first_verdict, limits_of, refused_at_start};
+ghost use Rattle.dpj_top.specs.Answer.{IsAnswer, IsLeft, IsListing, IsRun, IsVerdictOn, asks_list, first_verdict, limits_of, refused_at_start};
 ghost use Rattle.dpj_top.specs.Judging.{CanRun};
 
 use crate::front::{Passed, front};
@@ -23,9 +23,19 @@ pub fn answer(alloc: Global, job: &Job, text: &[u8]) -> Result<Verdict, NoMemory
     requires in_range { IsInRange job.now }
     ensures { IfOk result (IsAnswer job.now text.now) }
 {
-    if job.command == Command::List {
-        return by_program(alloc, job, text);
+    match job.command {
+        Command::List => by_program(alloc, job, text),
+        _ => by_form(alloc, job, text),
     }
+}
+
+/// The same where no listing is asked.
+fn by_form(alloc: Global, job: &Job, text: &[u8]) -> Result<Verdict, NoMemory>
+    requires no_list { asks_list job.now.command ≡ false }
+    requires short { length text.now ≤ MAX_TEXT }
+    requires in_range { IsInRange job.now }
+    ensures { IfOk result (IsAnswer job.now text.now) }
+{
     match read(alloc, text)? {
         Some(program) => first_form(alloc, job, &program),
         None => by_program(alloc, job, text),

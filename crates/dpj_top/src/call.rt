@@ -17,7 +17,7 @@ pub struct Ended {
     pub status: Status,
 }
 
-/// Carries out the job that the words give, on the text that the source holds, and writes one report behind
+/// Carries out the job that the words give, on the text that the source holds, and writes one report after
 /// what the sink holds.
 ///
 /// The report is made whole before its first byte is written. Words that give no job take nothing from the

@@ -1,9 +1,10 @@
-use Rattle.dpj_top.proofs.Verdicts.{first-answer}
+use Rattle.std.proofs.Common.{ap, inl}
+use Rattle.dpj_top.specs.Answer.{asks_list}
+use Rattle.dpj_top.proofs.Verdicts.{no-list}
 use Rattle.dpj_top.proofs.answers.answer.Goals as goal
 
-pub other_form-requires-clause-other : goal.other_form-requires-clause-other
-other_form-requires-clause-other c program form = let found = (c.in_ok-program.ensures program).0 form in cc
+pub by_program-requires-clause-left : goal.by_program-requires-clause-left
+by_program-requires-clause-left c = inl (ap asks_list c.in-List.is)
 
-pub returns-in-Some : goal.returns-in-Some
-returns-in-Some c =
-    first-answer _ _ c.in-Some.program _ c.requires ((c.in_ok-program.ensures c.in-Some.program).1 c.in-Some.is) c.first_form.ensures
+pub by_form-requires-clause-no_list : goal.by_form-requires-clause-no_list
+by_form-requires-clause-no_list c = no-list c.args.job.now.command c.in_default.not-List

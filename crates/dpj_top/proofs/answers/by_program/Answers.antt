@@ -1,2 +1,17 @@
-use Rattle.dpj_top.specs.Answer.{faulty, of_program}
+use Rattle.std.proofs.Common.{sym, subst}
+use Rattle.dpj_words.specs.declared.verdict.Verdict.TheVariants.{Refused}
+use Rattle.dpj_typed.specs.Plain.{plain_program}
+use Rattle.dpj_top.specs.Answer.{IsAnswer, faulty}
+use Rattle.dpj_top.proofs.Verdicts.{program-answer}
 use Rattle.dpj_top.proofs.answers.by_program.Goals as goal
+
+pub returns-in-Ok : goal.returns-in-Ok
+returns-in-Ok c =
+    program-answer c.args.job.now c.args.text.now c.in-Ok.passed.place (plain_program c.in-Ok.passed.program) c.carry_out.result c.requires.short c.requires.left
+    c.in-Ok.ensures.accepted c.carry_out.ensures
+
+pub returns-in-Err-Refused : goal.returns-in-Err-Refused
+returns-in-Err-Refused c =
+    let fault = rw c.in-Err-Refused.field-0-is at c.in-Err-Refused.ensures.fault in
+    subst (λ refusal. IsAnswer c.args.job.now c.args.text.now (Refused refusal)) (sym c.in-Err-Refused.refusal-is)
+    (faulty c.in-Err-Refused.refusal c.requires.short c.requires.left fault)

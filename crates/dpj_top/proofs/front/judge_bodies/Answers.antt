@@ -1,11 +1,22 @@
+use Rattle.std.proofs.Common.{◌∙◌, Err, ap, map}
+use Rattle.dpj_assembly.specs.Assembled.{plain_body, program_of}
+use Rattle.dpj_typed.specs.Plain.{plain_program}
 use Rattle.dpj_check.specs.Methods.{BodiesChecking}
 use Rattle.dpj_top.specs.Judging.{IsFaulty, of_bodies}
+use Rattle.dpj_top.proofs.Runnable.{can_run}
 use Rattle.dpj_top.proofs.Told.{handed-so}
 use Rattle.dpj_top.proofs.front.judge_bodies.Goals as goal
 
-pub returns-in_err-_accepted-clause-fault : goal.returns-in_err-_accepted-clause-fault
-returns-in_err-_accepted-clause-fault c =
-    handed-so (λ refusal. BodiesChecking c.args.program.now c.args.table.now (Err refusal)) (IsFaulty c.args.program.now)
-    c.from_residual.result c.in_err-_accepted.field-0.0 c.from_residual.ensures.1 (λ refusal checked. of_bodies c.args.table.now c.requires checked) c.in_err-_accepted.ensures.fault
+pub returns-in_err-accepted-clause-fault : goal.returns-in_err-accepted-clause-fault
+returns-in_err-accepted-clause-fault c =
+    handed-so (λ refusal. BodiesChecking c.args.tree.now c.args.table.now (Err refusal)) (IsFaulty c.args.tree.now)
+    c.from_residual.result c.in_err-accepted.field-0.0 c.from_residual.ensures.1 (λ refusal checked. of_bodies c.args.table.now c.requires.has_table checked)
+    c.in_err-accepted.ensures.checks
 
-
+pub returns-clause-can_run : goal.returns-clause-can_run
+returns-clause-can_run c =
+    can_run c.law_resolved.ensures.resolved c.law_begins.ensures.begins c.law_has_rows.ensures.has_rows c.args.tree.now c.args.table.now
+    (map plain_body c.in_ok-accepted.accepted.bodies) c.in_ok-accepted.accepted.uses_nd (plain_program c.in_ok-program.field-0) c.requires.counted c.requires.small
+    c.requires.has_table c.in_ok-accepted.ensures.checks
+    (c.in_ok-program.ensures
+    ∙ ap (λ names. program_of c.args.table.now names c.in_ok-accepted.accepted.uses_nd (map plain_body c.in_ok-accepted.accepted.bodies)) c.as_slice.ensures)

@@ -10,14 +10,20 @@ use Rattle.dpj_top.proofs.front.judge_text.Goals as goal
 few : (classes size bytes : ℕ) → classes ≤ size → size ≤ bytes → bytes ≤ 1048576 → classes < 4294967295
 few classes size bytes h k l = omega (arith, h, k, l)
 
-pub judge_program-requires : goal.judge_program-requires
-judge_program-requires c =
-    counted_when_named c.in_ok-program.program
-    (few (length c.in_ok-program.program.classes) (program_size c.in_ok-program.program) (length c.args.text.now)
-    (classes_counted c.in_ok-program.program) c.in_ok-program.ensures.sized c.requires.short)
-    c.in_ok-program.ensures.named
+within : (size bytes : ℕ) → size ≤ bytes → bytes ≤ 1048576 → size ≤ 1048576
+within size bytes h k = omega (arith, h, k)
+
+pub judge_program-requires-clause-counted : goal.judge_program-requires-clause-counted
+judge_program-requires-clause-counted c =
+    counted_when_named c.in_ok-tree.tree
+    (few (length c.in_ok-tree.tree.classes) (program_size c.in_ok-tree.tree) (length c.args.text.now) (classes_counted c.in_ok-tree.tree) c.in_ok-tree.ensures.sized
+    c.requires.short)
+    c.in_ok-tree.ensures.named
+
+pub judge_program-requires-clause-small : goal.judge_program-requires-clause-small
+judge_program-requires-clause-small c = within (program_size c.in_ok-tree.tree) (length c.args.text.now) c.in_ok-tree.ensures.sized c.requires.short
 
 pub returns-clause-fault : goal.returns-clause-fault
 returns-clause-fault c =
-    told-so (IsFaulty c.in_ok-program.program) (IsTokenFault c.args.text.now c.args.tokens.now.list c.args.tokens.now.end) c.judge_program.result
-    (λ refusal fault. of_program c.in_ok-program.program c.in_ok-program.ensures.derived fault) c.judge_program.ensures.fault
+    told-so (IsFaulty c.in_ok-tree.tree) (IsTokenFault c.args.text.now c.args.tokens.now.list c.args.tokens.now.end) c.judge_program.result
+    (λ refusal fault. of_program c.in_ok-tree.tree c.in_ok-tree.ensures.derived fault) c.judge_program.ensures.fault
