@@ -29,7 +29,6 @@ use Rattle.dpj_sound.specs.Accesses.{Bounds, Within}
 use Rattle.dpj_sound.specs.Frames.{Frame, State, Since, FrameFits}
 use Rattle.dpj_sound.specs.Scopes.{PathInScope, TypeInScope, GoodScope}
 use Rattle.dpj_sound.specs.Branches.{Forks, Brings}
-use Rattle.dpj_sound.specs.Covered.{IsCovered, CopiesApart, BranchesCovered}
 use Rattle.dpj_sound.specs.Work.{Result, Brought, ReturnFits, InOrder}
 use Rattle.dpj_sound.specs.Laws.{Deeper}
 use Rattle.dpj_sound.proofs.Types.{fits_grows}
@@ -56,17 +55,17 @@ left_since P b L g c d st h u (Returns v) s i y = (since_since s y.0, y.1)
 
 -- forks and what is behind their joins
 module _ (P : PlainProgram) (b : Bounds) where
-  pub cobegin_order : (dp : Option Deeper) (L : Scope) → GoodScope L → (g : Setting) (st : State) (f : Frame) → FrameFits P b.path st g L f → (at : Place) (forking : Forking) → {bs : TypedBranches} {Es : List (List EffectOwn)} → BranchesPass P L [] bs Es → NoClash P forking L Es → CopiesApart [] bs → BranchesCovered bs →
+  pub cobegin_order : (dp : Option Deeper) (L : Scope) → GoodScope L → (g : Setting) (st : State) (f : Frame) → FrameFits P b.path st g L f → (at : Place) (forking : Forking) → {bs : TypedBranches} {Es : List (List EffectOwn)} → BranchesPass P L [] bs Es → NoClash P forking L Es →
       Within b st.entries g (after_branches forking (joined Es)) →
       InOrder P b (Left P b L g true st) st (of_stmt (named_by b.path) P dp (statement at (form.cobegin forking bs)) f)
   unfolding InOrder
-  cobegin_order None L good g st f ff at forking p nc ca q w = tt
-  cobegin_order (Some deeper) L good g st f ff at forking {bs} {Es} p nc ca q w =
+  cobegin_order None L good g st f ff at forking p nc w = tt
+  cobegin_order (Some deeper) L good g st f ff at forking {bs} {Es} p nc w =
       λ few. (cobegin.0, λ x h s z. after x h s z)
     where
       cobegin : (forks : Forks P b st forking (tasks_of bs f)) × ((i : ℕ) → forks.setting i ≡ g)
           × ((i x : ℕ) (t : PlainType) → (forks.scope i).local x ≡ Some (variable t) → L.local x ≡ Some (variable t))
-      cobegin = cobegin_forks P b st L good g f ff forking p nc ca q (λ a gu l. w a gu (lies_branches forking g (joined Es) a l))
+      cobegin = cobegin_forks P b st L good g f ff forking p nc (λ a gu l. w a gu (lies_branches forking g (joined Es) a l))
 
       after : (x : Brought) (h : State) → Since st h → Brings P b st forking (tasks_of bs f) cobegin.0 h x →
           InOrder P b (Left P b L g true st) h (joined_after (all_copied bs) f x)
@@ -79,14 +78,14 @@ module _ (P : PlainProgram) (b : Bounds) where
       after (Trap_of_branch trap place) h s z = tt
 
   pub foreach_order : (dp : Option Deeper) (L : Scope) → GoodScope L → (g : Setting) (st : State) (f : Frame) → FrameFits P b.path st g L f → (at : Place) (forking : Forking) → {x : ℕ} {s : TypedStmt} {G : List EffectOwn} → IsFree L x → AllPass P (with_local x (constant int) (in_loop_branch L)) (more_stmts s no_stmts) G →
-      iterations_clash L.given (atomic_for forking P L) x (as_effects G) ≡ false → IsCovered s → All (λ o. PathInScope (with_local x (constant int) (in_loop_branch L)) 0 (effect_of o).rpl) G →
+      iterations_clash L.given (atomic_for forking P L) x (as_effects G) ≡ false → All (λ o. PathInScope (with_local x (constant int) (in_loop_branch L)) 0 (effect_of o).rpl) G →
       Within b st.entries g (outside_variable x (after_branches forking G)) → (start count : ℤ) →
       InOrder P b (Left P b L g true st) st (forks dp at forking None x s start count f)
   unfolding InOrder
-  foreach_order None L good g st f ff at forking free p ic q i w start count = tt
-  foreach_order (Some deeper) L good g st f ff at forking {x} {s} free p ic q i w start count =
+  foreach_order None L good g st f ff at forking free p ic i w start count = tt
+  foreach_order (Some deeper) L good g st f ff at forking {x} {s} free p ic i w start count =
       λ few. (
-        foreach_forks P b st L good g f ff forking free p ic q i w start (how_many count) (let k = iterations_length None x s f start 0 (how_many count) in let c = few.count in omega (arith, c, k)),
+        foreach_forks P b st L good g f ff forking free p ic i w start (how_many count) (let k = iterations_length None x s f start 0 (how_many count) in let c = few.count in omega (arith, c, k)),
         λ y h s1 z. after y h s1,
       )
     where
@@ -99,17 +98,17 @@ module _ (P : PlainProgram) (wt : WellTyped P) (b : Bounds) (L : Scope) (good : 
     (free : (i : ℕ) → i < 5 → IsFree L (k + i)) (s : TypeInScope L 0 (array t a false)) where
   pub parts_order : (dp : Option Deeper) (st : State) (f : Frame) → FrameFits P b.path st g L f → (at : Place) (source : Source) → {body : TypedStmt} {G : List EffectOwn} →
       AllPass P (with_part k t a (in_loop_branch L)) (more_stmts body no_stmts) G → iterations_clash L.given None (k + 4) (besides_part k G) ≡ false →
-      lists_clash L.given None (besides_part k G) (through_part k G) ≡ false → IsCovered body → All (λ o. PathInScope (with_part k t a (in_loop_branch L)) 0 (effect_of o).rpl) G →
+      lists_clash L.given None (besides_part k G) (through_part k G) ≡ false → All (λ o. PathInScope (with_part k t a (in_loop_branch L)) 0 (effect_of o).rpl) G →
       Within b st.entries g (outside_variable (k + 4) (after_branches Deterministic (after_parts k source G))) →
       FitsIn P st.shapes (env_of g) (array t a false) (slot_value f.values k) →
       ((j : ℕ) → source ≡ of_part j →
       g.part j ≡ record { array = slot_value f.values k; first = number (slot_value f.values (k + 1)); len = number (slot_value f.values (k + 2)) }) →
       InOrder P b (Left P b L g true st) st (parts dp at k body f)
   unfolding InOrder
-  parts_order None st f ff at source p ic lc q i w af is = tt
-  parts_order (Some deeper) st f ff at source {body} {G} p ic lc q i w af is =
+  parts_order None st f ff at source p ic lc i w af is = tt
+  parts_order (Some deeper) st f ff at source {body} {G} p ic lc i w af is =
       λ few. (
-        parts_forks P b st L good g f ff k t a free s (s.2 refl) af p ic lc q i (stmts_use P wt p (good_parts P b st L good g f ff k t a free s))
+        parts_forks P b st L good g f ff k t a free s (s.2 refl) af p ic lc i (stmts_use P wt p (good_parts P b st L good g f ff k t a free s))
             source is w (how_many (number (slot_value f.values (k + 3)))) few,
         λ y h s1 z. after y h s1,
       )
@@ -159,18 +158,18 @@ module _ (P : PlainProgram) (wt : WellTyped P) (b : Bounds) (L : Scope) (good : 
   -- behind the look at the array that is cut
   pub array_order : (dp : Option Deeper) (st : State) (f : Frame) → FrameFits P b.path st g L f → (at : Place) (e : TypedExpr) → {body : TypedStmt} {G : List EffectOwn} →
       AllPass P (with_part k t a (in_loop_branch L)) (more_stmts body no_stmts) G → iterations_clash L.given None (k + 4) (besides_part k G) ≡ false →
-      lists_clash L.given None (besides_part k G) (through_part k G) ≡ false → IsCovered body → All (λ o. PathInScope (with_part k t a (in_loop_branch L)) 0 (effect_of o).rpl) G →
+      lists_clash L.given None (besides_part k G) (through_part k G) ≡ false → All (λ o. PathInScope (with_part k t a (in_loop_branch L)) 0 (effect_of o).rpl) G →
       Within b st.entries g (outside_variable (k + 4) (after_branches Deterministic (after_parts k (of_array e) G))) →
       (v : Value) → slot_value f.values k ≡ v → FitsIn P st.shapes (env_of g) (array t a false) v →
       InOrder P b (Left P b L g true st) st (unless_null at v (λ n. Act (Look n) (λ x. parts dp at k body (with_value f (k + 2) (Int (pos (length_seen x)))))))
   unfolding InOrder
-  array_order dp st f ff at e {body} {G} p ic lc q i w v is fv = order_unless P b (Left P b L g true st) st at (ArrayInstance st.shapes (env_of g) t a)
+  array_order dp st f ff at e {body} {G} p ic lc i w v is fv = order_unless P b (Left P b L g true st) st at (ArrayInstance st.shapes (env_of g) t a)
       (λ n. Act (Look n) (λ x. parts dp at k body (with_value f (k + 2) (Int (pos (length_seen x)))))) looked v fv
     where
       seen : (u : State) → Since st u → (x : Answer) → (len : ℕ) → x ≡ Length len → InOrder P b (Left P b L g true st) u (parts dp at k body (with_value f (k + 2) (Int (pos (length_seen x)))))
       seen u s1 x len q1 =
           order_post P b (Left P b L g true u) (Left P b L g true st) (λ z r y. left_since P b L g true true st u z r s1 (λ e. e) y) _ u
-          (parts_order dp u (with_value f (k + 2) (Int (pos (length_seen x)))) (filled 2 (Int (pos (length_seen x))) (omega arith) (frame_since s1 ff)) at (of_array e) p ic lc q i
+          (parts_order dp u (with_value f (k + 2) (Int (pos (length_seen x)))) (filled 2 (Int (pos (length_seen x))) (omega arith) (frame_since s1 ff)) at (of_array e) p ic lc i
           (within_since b s1 g _ w)
           (subst (FitsIn P u.shapes (env_of g) (array t a false))
           (sym (set_other f.values (k + 2) k (Int (pos (length_seen x))) (λ e. omega (arith, e)) ∙ is)) (fits_grows P st.shapes u.shapes s1.grows (env_of g) (array t a false) v fv))

@@ -26,7 +26,6 @@ use Rattle.dpj_runs.specs.Objects.{Path, LocalRegion, Made, Unmade, Value, Int}
 use Rattle.dpj_sound.specs.Settings.{Setting, with_number}
 use Rattle.dpj_sound.specs.Accesses.{Access, Covers, LiesIn, Bounds, Within}
 use Rattle.dpj_sound.specs.Branches.{BranchFits, Forks}
-use Rattle.dpj_sound.specs.Covered.{IsCovered}
 use Rattle.dpj_sound.specs.Frames.{Frame, State, IsOld, LocalFits, FrameFits}
 use Rattle.dpj_sound.specs.Shapes.{Shapes}
 use Rattle.dpj_sound.specs.Scopes.{InScope, PathInScope, LocalInScope, GoodScope}
@@ -223,10 +222,10 @@ module _ (P : PlainProgram) (b : Bounds) (st : State) (L : Scope) (good : GoodSc
 
   -- iterations are in order at their fork
   pub foreach_forks : (forking : Forking) {x : ℕ} {s : TypedStmt} {G : List EffectOwn} → IsFree L x → AllPass P (with_local x (constant int) (in_loop_branch L)) (more_stmts s no_stmts) G →
-      iterations_clash L.given (atomic_for forking P L) x (as_effects G) ≡ false → IsCovered s → All (λ o. PathInScope (with_local x (constant int) (in_loop_branch L)) 0 (effect_of o).rpl) G →
+      iterations_clash L.given (atomic_for forking P L) x (as_effects G) ≡ false → All (λ o. PathInScope (with_local x (constant int) (in_loop_branch L)) 0 (effect_of o).rpl) G →
       Within b st.entries g (outside_variable x (after_branches forking G)) → (start : ℤ) (n : ℕ) → n ≤ 2 ^ 32 →
       Forks P b st forking (iterations None x s f start 0 n)
-  foreach_forks forking {x} {s} {G} free p clash q in_scope w start n few = record {
+  foreach_forks forking {x} {s} {G} free p clash in_scope w start n few = record {
     scope = λ i. with_local x (constant int) (in_loop_branch L);
     setting = λ i. with_number x (number_at i) g;
     effects = λ i. G;
@@ -234,7 +233,6 @@ module _ (P : PlainProgram) (b : Bounds) (st : State) (L : Scope) (good : GoodSc
         (sym (iteration_at None x s f start 0 n i t e ∙ (let k : 0 + i ≡ i = omega arith in ap (λ z. branch_of None [] s (numbered_frame x start z f)) k))) (record {
           is_branch = refl;
           passes = p;
-          covered = (q, tt);
           scope = good_declare (in_loop_branch L) (good_loop L good) x true int (free_in_loop L x free) tt;
           fits = λ u. iteration_frame x start i (u, i) free;
           copies = λ k d l. absurd (omega (arith, l));

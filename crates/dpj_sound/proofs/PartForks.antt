@@ -23,7 +23,6 @@ use Rattle.dpj_sound.specs.Settings.{Places, Setting, env_of, with_number}
 use Rattle.dpj_sound.specs.Shapes.{FitsIn}
 use Rattle.dpj_sound.specs.Accesses.{Access, Speaks, Through, Covers, LiesIn, Bounds, Within}
 use Rattle.dpj_sound.specs.Branches.{Meet, Quiet, BranchFits, Forks}
-use Rattle.dpj_sound.specs.Covered.{IsCovered}
 use Rattle.dpj_sound.specs.Frames.{Frame, State, FrameFits}
 use Rattle.dpj_sound.specs.Work.{IsNumbered}
 use Rattle.dpj_sound.specs.Scopes.{PathInScope, TypeInScope, GoodScope}
@@ -273,7 +272,7 @@ module _ (P : PlainProgram) (b : Bounds) (st : State) (L : Scope) (good : GoodSc
 
     module _ {G : List EffectOwn} {body : TypedStmt} (p : AllPass P (with_part k t a (in_loop_branch L)) (more_stmts body no_stmts) G)
         (clash : iterations_clash L.given None (k + 4) (besides_part k G) ≡ false) (apart : lists_clash L.given None (besides_part k G) (through_part k G) ≡ false)
-        (covered : IsCovered body) (in_scope : All (λ o. PathInScope (with_part k t a (in_loop_branch L)) 0 (effect_of o).rpl) G)
+        (in_scope : All (λ o. PathInScope (with_part k t a (in_loop_branch L)) 0 (effect_of o).rpl) G)
         (us : All (UsesPart (with_part k t a (in_loop_branch L))) G) where
       is_env : (i : ℕ) → IsEnv L.given (env_of (with_number (k + 4) (number_at i) g))
       is_env i = frame_env (branch_frame i (0, 0))
@@ -329,7 +328,6 @@ module _ (P : PlainProgram) (b : Bounds) (st : State) (L : Scope) (good : GoodSc
             (record {
               is_branch = refl;
               passes = p;
-              covered = (covered, tt);
               scope = good_parts;
               fits = λ u. branch_frame i (u, i);
               copies = λ q d l. absurd (omega (arith, l));

@@ -253,7 +253,7 @@ module _ (outer : ℕ → Bool) where
 
     module _ (good : GoodScope L) (placed : PlacedScope outer L) where
       pub typed_placed : {e : TypedExpr} {E : List EffectOwn} → Has P L e E → TypePlaced outer L 0 (type_of e)
-      typed_placed literal_int = tt
+      typed_placed (literal_int fits) = tt
       typed_placed literal_boolean = tt
       typed_placed literal_null = tt
       typed_placed (read_local {x = x} {t = t} h) = elim h [

@@ -37,7 +37,6 @@ use Rattle.dpj_sound.specs.Shapes.{object, elements, Shapes, Instance, ArrayInst
 use Rattle.dpj_sound.specs.Accesses.{Access, Speaks, Bounds, InEachEntry, Within}
 use Rattle.dpj_sound.specs.Frames.{Frame, State, Since, PartFits, FrameFits}
 use Rattle.dpj_sound.specs.Scopes.{PathInScope, TypeInScope, GoodScope}
-use Rattle.dpj_sound.specs.Covered.{IsCovered, AreCovered, BodiesCovered}
 use Rattle.dpj_sound.specs.Work.{Result, Prog, Touches, Reaches, access_of, ReturnFits, Rounds, InOrder, without_latest}
 use Rattle.dpj_sound.specs.Laws.{Deeper, Yields, Leaves, DeeperInOrder, ForkingInOrder, scope_of, TasksInOrder, branch_bounds, BranchesInOrder}
 use Rattle.dpj_sound.proofs.Closed.{closed_path, closed_type}
@@ -309,25 +308,25 @@ module _ (P : PlainProgram) (wt : WellTyped P) (b : Bounds) (dp : Option Deeper)
   left_regions L good g rs made al st h u ff c (Returns v) s y = (since_since s y.0, return_regions L good g made al u.shapes L.result refl v y.1)
 
   parts_scope : (L : Scope) → GoodScope L → {outer : ℕ → Bool} → PlacedScope outer L → {source : Source} (k : ℕ) {t : PlainType} {a : Rpl} {E G : List EffectOwn} {body : TypedStmt} →
-      Cuts P L source t a E → All (λ i. IsFree L (k + i)) (0 ∷ 1 ∷ 2 ∷ 3 ∷ 4 ∷ []) → AllPass P (with_part k t a (in_loop_branch L)) (more_stmts body no_stmts) G → IsCovered body →
+      Cuts P L source t a E → All (λ i. IsFree L (k + i)) (0 ∷ 1 ∷ 2 ∷ 3 ∷ 4 ∷ []) → AllPass P (with_part k t a (in_loop_branch L)) (more_stmts body no_stmts) G →
       All (λ o. PathInScope (with_part k t a (in_loop_branch L)) 0 (effect_of o).rpl) G
-  parts_scope L good {outer} pl {source} k {t} {a} {E} {G} cu fr p q =
+  parts_scope L good {outer} pl {source} k {t} {a} {E} {G} cu fr p =
       let good' = good_part (in_loop_branch L) k t a (free_in_branch L k (free_slots L k fr)) (good_loop L good)
       (wider_type L (in_loop_branch L) (loop_wider L) 0 (array t a false) (cuts_in P wt L good cu)) in
       let placed' = placed_part (in_loop_branch L) k t a (free_in_branch L k (free_slots L k fr)) outer (placed_loop outer L pl)
       (placed_wider outer L (in_loop_branch L) (loop_wider L) (part t a) (cut_placed P wt outer L good pl cu)) in
-      all_own P wt outer (with_part k t a (in_loop_branch L)) placed' G (stmts_effects_in P wt outer p good' placed' (q, tt))
+      all_own P wt outer (with_part k t a (in_loop_branch L)) placed' G (stmts_effects_in P wt outer p good' placed')
 
   mutual
     unfolding InOrder
 
-    stmt_order : {L : Scope} {s : TypedStmt} {E : List EffectOwn} → Passes P L s E → IsCovered s → GoodScope L → {outer : ℕ → Bool} → PlacedScope outer L →
+    stmt_order : {L : Scope} {s : TypedStmt} {E : List EffectOwn} → Passes P L s E → GoodScope L → {outer : ℕ → Bool} → PlacedScope outer L →
         (g : Setting) (st : State) (f : Frame) → FrameFits P b.path st g L f → Within b st.entries g E →
         InOrder P b (Left P b L g (completes s) st) st (of_stmt (named_by b.path) P dp s f)
-    stmt_order {L} (store {x = x} {t = t} lx h sub) q good pl g st f ff w =
+    stmt_order {L} (store {x = x} {t = t} lx h sub) good pl g st f ff w =
         behind L good g h _ _ st f ff w
         (λ h1 v s fv ix. (refl, s, frame_store P b.path h1 g L good f x t v lx (sub_fits L good g h sub ff h1.shapes v fv) (frame_since s ff)))
-    stmt_order {L} (store_field {at = at} {o = o} {e = e} {c = c} {k = k} {args = args} {f = fd} {E = E} {F = F} ho ty fe kn he sub) q good pl g st f ff w =
+    stmt_order {L} (store_field {at = at} {o = o} {e = e} {c = c} {k = k} {args = args} {f = fd} {E = E} {F = F} ho ty fe kn he sub) good pl g st f ff w =
         behind L good g ho _ _ st f ff (within_left b st.entries g E _ w)
         (λ h1 v s fv ix. behind L good g he _ _ h1 f (frame_since s ff) (within_since b s g _ (within_left b st.entries g F _ (within_right b st.entries g E _ w)))
         (λ h2 u s2 fu iu. field_write P b wt L g (Left P b L g true st) h2 at f c k args fd fe kn (subst (TypeInScope L 0) ty (typed_in P wt L good ho))
@@ -335,7 +334,7 @@ module _ (P : PlainProgram) (wt : WellTyped P) (b : Bounds) (dp : Option Deeper)
         (sub_fits L good g he sub ff h2.shapes u fu) v
         (fits_grows P h1.shapes h2.shapes s2.grows (env_of g) (class c args) v (subst (λ z. FitsIn P h1.shapes (env_of g) z v) ty fv))
         (λ h3 s3. (refl, since_since (since_since s s2) s3, frame_since (since_since (since_since s s2) s3) ff))))
-    stmt_order {L} (store_element {at = at} {a = a} {i = i} {e = e} {t = t} {rpl = rpl} {named = named} {E = E} {F = F} {G = G} ha ty hi ti rg he sub) q good pl g st f ff w =
+    stmt_order {L} (store_element {at = at} {a = a} {i = i} {e = e} {t = t} {rpl = rpl} {named = named} {E = E} {F = F} {G = G} ha ty hi ti rg he sub) good pl g st f ff w =
         behind L good g ha _ _ st f ff (within_left b st.entries g E _ w)
         (λ h1 v s fv ix. behind L good g hi _ _ h1 f (frame_since s ff) (within_since b s g _ (within_left b st.entries g F _ (within_right b st.entries g E _ w)))
         (λ h2 j s2 fj ij. behind L good g he _ _ h2 f (frame_since (since_since s s2) ff)
@@ -346,55 +345,55 @@ module _ (P : PlainProgram) (wt : WellTyped P) (b : Bounds) (dp : Option Deeper)
         (sub_fits L good g he sub ff h3.shapes u fu) v
         (fits_grows P h1.shapes h3.shapes (since_since s2 s3).grows (env_of g) (array t rpl named) v (subst (λ z. FitsIn P h1.shapes (env_of g) z v) ty fv))
         (λ h4 s4. (refl, since_since (since_since (since_since s s2) s3) s4, frame_since (since_since (since_since (since_since s s2) s3) s4) ff)))))
-    stmt_order {L} (store_part {at = at} {k = k} {t = t} {a = a} {i = i} {e = e} {E = E} {F = F} lk hi ti he sub) q good pl g st f ff w =
+    stmt_order {L} (store_part {at = at} {k = k} {t = t} {a = a} {i = i} {e = e} {E = E} {F = F} lk hi ti he sub) good pl g st f ff w =
         behind L good g hi _ _ st f ff (within_left b st.entries g E _ w)
         (λ h1 j s fj ij. behind L good g he _ _ h1 f (frame_since s ff) (within_since b s g _ (within_left b st.entries g F _ (within_right b st.entries g E _ w)))
         (λ h2 u s2 fu iu. part_write P b (Left P b L g true st) h2 at f g k t a (number j) u ((frame_since (since_since s s2) ff).each k (part t a) lk)
         (within_since b (since_since s s2) g (uses k (writes a) ∷ []) (within_right b st.entries g F _ (within_right b st.entries g E _ w)))
         (sub_fits L good g he sub ff h2.shapes u fu)
         (λ h3 s3. (refl, since_since (since_since s s2) s3, frame_since (since_since (since_since s s2) s3) ff))))
-    stmt_order {L} (perform ip h) q good pl g st f ff w = behind L good g h _ _ st f ff w (λ h1 v s fv ix. (refl, s, frame_since s ff))
-    stmt_order (nested p) q good pl g st f ff w = stmts_order p q good pl g st f ff w
-    stmt_order {L} (choice {s = a} {E = E} {F = F} h ty p) q good pl g st f ff w =
+    stmt_order {L} (perform ip h) good pl g st f ff w = behind L good g h _ _ st f ff w (λ h1 v s fv ix. (refl, s, frame_since s ff))
+    stmt_order (nested p) good pl g st f ff w = stmts_order p good pl g st f ff w
+    stmt_order {L} (choice {s = a} {E = E} {F = F} h ty p) good pl g st f ff w =
         behind L good g h _ _ st f ff (within_left b st.entries g E F w)
         (λ h1 v s fv ix. order_choose P b (Left P b L g true st) h1 (truth v) (gives none f) (of_stmt (named_by b.path) P dp a f)
         (order_ret P b (Left P b L g true st) h1 (Goes_on none f) (refl, s, frame_since s ff))
         (order_post P b (Left P b L g (completes a) h1) (Left P b L g true st)
         (λ u r y. left_since P b L g (completes a) true st h1 u r s (λ e. refl) y) (of_stmt (named_by b.path) P dp a f) h1
-        (single_order p q good pl g h1 f (frame_since s ff) (within_since b s g F (within_right b st.entries g E F w)))))
-    stmt_order {L} (choice_else {s = a} {t = c} {E = E} {F = F} {G = G} h ty p r) q good pl g st f ff w =
+        (single_order p good pl g h1 f (frame_since s ff) (within_since b s g F (within_right b st.entries g E F w)))))
+    stmt_order {L} (choice_else {s = a} {t = c} {E = E} {F = F} {G = G} h ty p r) good pl g st f ff w =
         behind L good g h _ _ st f ff (within_left b st.entries g E _ w)
         (λ h1 v s fv ix. order_choose P b (Left P b L g (completes a || completes c) st) h1 (truth v) (of_stmt (named_by b.path) P dp c f)
         (of_stmt (named_by b.path) P dp a f)
         (order_post P b (Left P b L g (completes c) h1) (Left P b L g (completes a || completes c) st)
         (λ u x y. left_since P b L g (completes c) (completes a || completes c) st h1 u x s (or_right (completes a) (completes c)) y)
         (of_stmt (named_by b.path) P dp c f) h1
-        (single_order r q.1 good pl g h1 f (frame_since s ff) (within_since b s g G (within_right b st.entries g F G (within_right b st.entries g E _ w)))))
+        (single_order r good pl g h1 f (frame_since s ff) (within_since b s g G (within_right b st.entries g F G (within_right b st.entries g E _ w)))))
         (order_post P b (Left P b L g (completes a) h1) (Left P b L g (completes a || completes c) st)
         (λ u x y. left_since P b L g (completes a) (completes a || completes c) st h1 u x s (or_left (completes a) (completes c)) y)
         (of_stmt (named_by b.path) P dp a f) h1
-        (single_order p q.0 good pl g h1 f (frame_since s ff) (within_since b s g F (within_left b st.entries g F G (within_right b st.entries g E _ w))))))
-    stmt_order {L} (while_loop {e = e} {s = a} {E = E} {F = F} h ty p) q good pl g st f ff w = (
+        (single_order p good pl g h1 f (frame_since s ff) (within_since b s g F (within_left b st.entries g F G (within_right b st.entries g E _ w))))))
+    stmt_order {L} (while_loop {e = e} {s = a} {E = E} {F = F} h ty p) good pl g st f ff w = (
       L,
       g,
       ff,
       λ h1 f1 s ff1. order_post P b _ _ (λ u r y. tested L g e h1 f1 ff1 u r y) _ h1
           (expr_order P wt b dp dd L good g h (Yields P L g e h1 f1) h1 f1 ff1 (within_since b s g E (within_left b st.entries g E F w)) (yields P L g e h1 f1)),
       λ h1 f1 s ff1. order_post P b _ _ (λ u r y. rounded L g (completes a) h1 u r y) _ h1
-          (single_order p q good pl g h1 f1 ff1 (within_since b s g F (within_right b st.entries g E F w))),
+          (single_order p good pl g h1 f1 ff1 (within_since b s g F (within_right b st.entries g E F w))),
       λ h1 r y. looped L g st h1 r y,
     )
-    stmt_order {L} (return_nothing e) q good pl g st f ff w = (since_now st, subst (λ z. ReturnFits P st.shapes g z none) (sym e) tt)
-    stmt_order {L} (return_value {e = e} {t = t} k h sub) q good pl g st f ff w =
+    stmt_order {L} (return_nothing e) good pl g st f ff w = (since_now st, subst (λ z. ReturnFits P st.shapes g z none) (sym e) tt)
+    stmt_order {L} (return_value {e = e} {t = t} k h sub) good pl g st f ff w =
         behind L good g h _ _ st f ff w (λ h1 v s fv ix. (s, subst (λ z. ReturnFits P h1.shapes g z v) (sym k) (sub_fits L good g h sub ff h1.shapes v fv)))
-    stmt_order {L} (print_int h ty) q good pl g st f ff w =
+    stmt_order {L} (print_int h ty) good pl g st f ff w =
         behind L good g h _ _ st f ff w (λ h1 v s fv ix. order_prints P b (Left P b L g true st) h1 (text_of v) f
         (λ u s2. (refl, since_since s s2, frame_since (since_since s s2) ff)))
-    stmt_order {L} (print_boolean h ty) q good pl g st f ff w =
+    stmt_order {L} (print_boolean h ty) good pl g st f ff w =
         behind L good g h _ _ st f ff w (λ h1 v s fv ix. order_prints P b (Left P b L g true st) h1 (text_of v) f
         (λ u s2. (refl, since_since s s2, frame_since (since_since s s2) ff)))
-    stmt_order {L} (print_text {text = text}) q good pl g st f ff w = order_prints P b (Left P b L g true st) st text f (λ u s. (refl, s, frame_since s ff))
-    stmt_order {L} (atomic {entry = entry} {ss = ss} {E = E} p se) q good {outer} pl g st f ff w = (
+    stmt_order {L} (print_text {text = text}) good pl g st f ff w = order_prints P b (Left P b L g true st) st text f (λ u s. (refl, s, frame_since s ff))
+    stmt_order {L} (atomic {entry = entry} {ss = ss} {E = E} p se) good {outer} pl g st f ff w = (
       tt,
       λ x h after ans. (
         tt,
@@ -406,21 +405,21 @@ module _ (P : PlainProgram) (wt : WellTyped P) (b : Bounds) (dp : Option Deeper)
             let made : st.made ≤ u.made = (let m = s.made in let n = enters.made in omega (arith, m, n)) in
             order_on P b (Left P b (in_atomic_block L) g (all_complete ss) u) (Left P b L g true st) (next_of (λ v k. Act Exit (λ c. gives none k)))
             (leaves_block L g (all_complete ss) st u (map (concrete_effect (named_by b.path) (around f)) entry) grown made e) (of_stmts (named_by b.path) P dp ss f) u
-            (stmts_order p q (good_block L good) (placed_block outer L pl) g u f (frame_block L (frame_later grown made ff))
-            (subst (λ z. Within b z g E) (sym e) (within_block P b L g st f ff entry E st.entries se (all_own P wt outer L pl (after_block E) (marked_in P wt outer L true E (stmts_effects_in P wt outer p (good_block L good) (placed_block outer L pl) q))) w)))),
+            (stmts_order p (good_block L good) (placed_block outer L pl) g u f (frame_block L (frame_later grown made ff))
+            (subst (λ z. Within b z g E) (sym e) (within_block P b L g st f ff entry E st.entries se (all_own P wt outer L pl (after_block E) (marked_in P wt outer L true E (stmts_effects_in P wt outer p (good_block L good) (placed_block outer L pl)))) w)))),
       ),
     )
-    stmt_order {L} (cobegin {at = at} calm p nc) q good pl g st f ff w = cobegin_order P b dp L good g st f ff at _ p nc q.0 q.1 w
-    stmt_order {L} (foreach {at = at} {forking = forking} {x = x} {s = s} {E = E} {F = F} {G = G} calm hs ts hc tc free p ic) q good {outer} pl g st f ff w =
+    stmt_order {L} (cobegin {at = at} calm p nc) good pl g st f ff w = cobegin_order P b dp L good g st f ff at _ p nc w
+    stmt_order {L} (foreach {at = at} {forking = forking} {x = x} {s = s} {E = E} {F = F} {G = G} calm hs ts hc tc free p ic) good {outer} pl g st f ff w =
         behind L good g hs _ _ st f ff (within_left b st.entries g E _ w)
         (λ h1 v s1 fv iv. behind L good g hc _ _ h1 f (frame_since s1 ff) (within_since b s1 g F (within_left b st.entries g F _ (within_right b st.entries g E _ w)))
         (λ h2 u s2 fu iu. order_post P b (Left P b L g true h2) (Left P b L g true st) (λ z r y. left_since P b L g true true st h2 z r (since_since s1 s2) (λ e. e) y) _ h2
-        (foreach_order P b dp L good g h2 f (frame_since (since_since s1 s2) ff) at forking free p ic q
+        (foreach_order P b dp L good g h2 f (frame_since (since_since s1 s2) ff) at forking free p ic
         (all_own P wt outer (with_local x (constant int) (in_loop_branch L)) (placed_declare outer (in_loop_branch L) (placed_loop outer L pl) x true int (free_in_loop L x free) tt) G
         (stmts_effects_in P wt outer p (good_declare (in_loop_branch L) (good_loop L good) x true int (free_in_loop L x free) tt)
-        (placed_declare outer (in_loop_branch L) (placed_loop outer L pl) x true int (free_in_loop L x free) tt) (q, tt)))
+        (placed_declare outer (in_loop_branch L) (placed_loop outer L pl) x true int (free_in_loop L x free) tt)))
         (within_since b (since_since s1 s2) g _ (within_right b st.entries g F _ (within_right b st.entries g E _ w))) (number v) (number u))))
-    stmt_order {L} (foreach_parts {at = at} {k = k} {s = body} {t = t} {a = a} {E = E} {F = F} {G = G} (cuts_array {e = e} ha ty full) hc tc fr p ic lc) q good {outer} pl g st f ff w =
+    stmt_order {L} (foreach_parts {at = at} {k = k} {s = body} {t = t} {a = a} {E = E} {F = F} {G = G} (cuts_array {e = e} ha ty full) hc tc fr p ic lc) good {outer} pl g st f ff w =
         let cu = cuts_array ha ty full in
         let free = free_slots L k fr in
         let scope = cuts_in P wt L good cu in
@@ -436,10 +435,10 @@ module _ (P : PlainProgram) (wt : WellTyped P) (b : Bounds) (dp : Option Deeper)
         order_post P b (Left P b L g true h2) (Left P b L g true st) (λ z r y. left_since P b L g true true st h2 z r (since_since s1 s2) (λ e. e) y) _ h2
         (subst (λ z. InOrder P b (Left P b L g true h2) h2 (unless_null at z (λ n. Act (Look n)
         (λ x. parts dp at k body (with_value (with_value (part_begun k v f) (k + 3) u) (k + 2) (Int (pos (length_seen x)))))))) (sym is)
-        (array_order P wt b L good g k t a free scope dp h2 (with_value (part_begun k v f) (k + 3) u) f2 at e p ic lc q (parts_scope L good pl k cu fr p q)
+        (array_order P wt b L good g k t a free scope dp h2 (with_value (part_begun k v f) (k + 3) u) f2 at e p ic lc (parts_scope L good pl k cu fr p)
         (within_since b (since_since s1 s2) g _ (within_right b st.entries g F _ (within_right b st.entries g E _ w))) v is
         (fits_grows P h1.shapes h2.shapes s2.grows (env_of g) (array t a false) v (subst (λ z. FitsIn P h1.shapes (env_of g) z v) ty fv))))))))
-    stmt_order {L} (foreach_parts {at = at} {k = k} {t = t} {a = a} {E = E} {F = F} {G = G} (cuts_part {k = j} e) hc tc fr p ic lc) q good {outer} pl g st f ff w =
+    stmt_order {L} (foreach_parts {at = at} {k = k} {t = t} {a = a} {E = E} {F = F} {G = G} (cuts_part {k = j} e) hc tc fr p ic lc) good {outer} pl g st f ff w =
         let cu = cuts_part e in
         let free = free_slots L k fr in
         let scope = cuts_in P wt L good cu in
@@ -455,21 +454,21 @@ module _ (P : PlainProgram) (wt : WellTyped P) (b : Bounds) (dp : Option Deeper)
         let d = with_value (with_value (part_taken_over k j f) (k + 3) u) (k + 2) (slot_value (with_value (part_taken_over k j f) (k + 3) u).values (j + 2)) in
         order_post P b (Left P b L g true h1) (Left P b L g true st) (λ z r y. left_since P b L g true true st h1 z r s1 (λ e. e) y) _ h1
         (parts_order P wt b L good g k t a free scope dp h1 _
-        (filled P wt b L good g k t a free scope 2 (slot_value (with_value (part_taken_over k j f) (k + 3) u).values (j + 2)) (omega arith) f2) at (of_part j) p ic lc q (parts_scope L good pl k cu fr p q)
+        (filled P wt b L good g k t a free scope 2 (slot_value (with_value (part_taken_over k j f) (k + 3) u).values (j + 2)) (omega arith) f2) at (of_part j) p ic lc (parts_scope L good pl k cu fr p)
         (within_since b s1 g _ (within_right b st.entries g F _ (within_right b st.entries g E _ w)))
         (subst (FitsIn P h1.shapes (env_of g) (array t a false)) (sym slots.0) (fits_grows P st.shapes h1.shapes s1.grows (env_of g) (array t a false) _ pf.array))
         (λ i z. (let y : j ≡ i = (let x : of_part j ≡ of_part i = z in cc) in subst (λ x. g.part x ≡ record { array = slot_value d.values k; first = number (slot_value d.values (k + 1)); len = number (slot_value d.values (k + 2)) }) y
         (pf.places ∙ sym (λ i. record { array = slots.0 i; first = number (slots.1 i); len = number (slots.2 i) })))))))
 
     -- a statement that is a block of its own
-    single_order : {L : Scope} {s : TypedStmt} {E : List EffectOwn} → AllPass P L (more_stmts s no_stmts) E → IsCovered s → GoodScope L → {outer : ℕ → Bool} → PlacedScope outer L →
+    single_order : {L : Scope} {s : TypedStmt} {E : List EffectOwn} → AllPass P L (more_stmts s no_stmts) E → GoodScope L → {outer : ℕ → Bool} → PlacedScope outer L →
         (g : Setting) (st : State) (f : Frame) → FrameFits P b.path st g L f → Within b st.entries g E →
         InOrder P b (Left P b L g (completes s) st) st (of_stmt (named_by b.path) P dp s f)
-    single_order (then' {E = E} {F = F} p c rest) q good pl g st f ff w = stmt_order p q good pl g st f ff (within_left b st.entries g E F w)
-    single_order {L} (declare {x = x} {t = t} {E = E} {F = F} free gt h sub rest) q good pl g st f ff w =
+    single_order (then' {E = E} {F = F} p c rest) good pl g st f ff w = stmt_order p good pl g st f ff (within_left b st.entries g E F w)
+    single_order {L} (declare {x = x} {t = t} {E = E} {F = F} free gt h sub rest) good pl g st f ff w =
         behind L good g h _ _ st f ff (within_left b st.entries g E _ w)
         (λ h1 v s fv ix. (refl, s, frame_outside P b.path h1 g L good f x v free.0 (frame_since s ff)))
-    single_order {L} (declare_regions {rs = rs} free rest) q good pl g st f ff w =
+    single_order {L} (declare_regions {rs = rs} free rest) good pl g st f ff w =
         makes_order P b L good (Left P b L g true st) rs free st g f ff
         (λ h made e s n fe. (
           refl,
@@ -478,40 +477,40 @@ module _ (P : PlainProgram) (wt : WellTyped P) (b : Bounds) (dp : Option Deeper)
               (λ r. old_later b.path st.made h.made r s.made (g.made r) (ff.old r)) fe,
         ))
 
-    pub stmts_order : {L : Scope} {ss : TypedStmts} {E : List EffectOwn} → AllPass P L ss E → AreCovered ss → GoodScope L → {outer : ℕ → Bool} → PlacedScope outer L →
+    pub stmts_order : {L : Scope} {ss : TypedStmts} {E : List EffectOwn} → AllPass P L ss E → GoodScope L → {outer : ℕ → Bool} → PlacedScope outer L →
         (g : Setting) (st : State) (f : Frame) → FrameFits P b.path st g L f → Within b st.entries g E →
         InOrder P b (Left P b L g (all_complete ss) st) st (of_stmts (named_by b.path) P dp ss f)
-    stmts_order no_more q good pl g st f ff w = (refl, since_now st, ff)
-    stmts_order {L} (then' {s = s} {ss = ss} {E = E} {F = F} p c rest) q good pl g st f ff w =
+    stmts_order no_more good pl g st f ff w = (refl, since_now st, ff)
+    stmts_order {L} (then' {s = s} {ss = ss} {E = E} {F = F} p c rest) good pl g st f ff w =
         order_on P b (Left P b L g (completes s) st) _ (next_of (λ v h. of_stmts (named_by b.path) P dp ss h))
         (followed L g (completes s) (completes s && all_complete ss) st (λ v h. of_stmts (named_by b.path) P dp ss h)
         (λ h c v cs s2 ffc. order_post P b (Left P b L g (all_complete ss) h) _
         (λ u r y. left_since P b L g (all_complete ss) (completes s && all_complete ss) st h u r s2 (λ e. and_from _ _ cs e) y) _ h
-        (stmts_order rest q.1 good pl g h c ffc (within_since b s2 g F (within_right b st.entries g E F w)))))
-        _ st (stmt_order p q.0 good pl g st f ff (within_left b st.entries g E F w))
-    stmts_order {L} (declare {x = x} {t = t} {is_final = is_final} {e = e} {ss = ss} {E = E} {F = F} free gt h sub rest) q good {outer} pl g st f ff w =
+        (stmts_order rest good pl g h c ffc (within_since b s2 g F (within_right b st.entries g E F w)))))
+        _ st (stmt_order p good pl g st f ff (within_left b st.entries g E F w))
+    stmts_order {L} (declare {x = x} {t = t} {is_final = is_final} {e = e} {ss = ss} {E = E} {F = F} free gt h sub rest) good {outer} pl g st f ff w =
         order_on P b (Declared g t x st f) _ (next_of (λ v h. of_stmts (named_by b.path) P dp ss h))
         (declared g t x st f (Left P b L g (all_complete ss) st) (λ v h. of_stmts (named_by b.path) P dp ss h)
         (λ h1 v s2 fv.
         order_post P b (Left P b (with_local x (declared_as is_final t) L) (with_number x (number v) g) (all_complete ss) h1) _
         (λ u r y. left_leave L good g x (declared_as is_final t) (number v) free.0 (all_complete ss) st h1 u r s2 y) _ h1
-        (stmts_order rest q.1 (good_declare L good x is_final t free (good_type P L 0 t gt)) (placed_declare outer L pl x is_final t free (good_placed outer P L 0 t gt)) (with_number x (number v) g) h1 (with_value f x v)
+        (stmts_order rest (good_declare L good x is_final t free (good_type P L 0 t gt)) (placed_declare outer L pl x is_final t free (good_placed outer P L 0 t gt)) (with_number x (number v) g) h1 (with_value f x v)
         (frame_declare P b.path h1 g L good f x is_final t v free (good_type P L 0 t gt) fv (frame_since s2 ff))
         (λ a gu l. within_since b s2 g _ (within_right b st.entries g E _ w) a gu
         (lies_general g x (number v) (with_local x (declared_as is_final t) L) F a
         (all_own P wt outer (with_local x (declared_as is_final t) L) (placed_declare outer L pl x is_final t free (good_placed outer P L 0 t gt)) F
-        (stmts_effects_in P wt outer rest (good_declare L good x is_final t free (good_type P L 0 t gt)) (placed_declare outer L pl x is_final t free (good_placed outer P L 0 t gt)) q.1)) l)))))
+        (stmts_effects_in P wt outer rest (good_declare L good x is_final t free (good_type P L 0 t gt)) (placed_declare outer L pl x is_final t free (good_placed outer P L 0 t gt)))) l)))))
         _ st (behind L good g h (Declared g t x st f) _ st f ff (within_left b st.entries g E _ w)
         (λ h1 v s2 fv ix. order_ret P b (Declared g t x st f) h1 (Goes_on none (with_value f x v)) (v, s2, sub_fits L good g h sub ff h1.shapes v fv, refl)))
-    stmts_order {L} (declare_regions {rs = rs} {ss = ss} {F = F} free rest) q good {outer} pl g st f ff w =
+    stmts_order {L} (declare_regions {rs = rs} {ss = ss} {F = F} free rest) good {outer} pl g st f ff w =
         order_on P b (Renewed L g rs st f) _ (next_of (λ v h. of_stmts (named_by b.path) P dp ss h))
         (renewed L g rs st f (Left P b L g (all_complete ss) st) (λ v h. of_stmts (named_by b.path) P dp ss h)
         (λ h made e s n fe.
         order_post P b (Left P b (with_regions rs L) (with_made made g) (all_complete ss) h) _
         (λ u r y. left_regions L good g rs made (new_alike L b.path g made f e rs free n) st h u (frame_since s ff) (all_complete ss) r s y) _ h
-        (stmts_order rest q.1 (good_regions L good rs) (placed_regions outer L pl rs) (with_made made g) h e (frame_regions P b.path h (with_made made g) L f e rs g.made n fe)
+        (stmts_order rest (good_regions L good rs) (placed_regions outer L pl rs) (with_made made g) h e (frame_regions P b.path h (with_made made g) L f e rs g.made n fe)
         (within_regions L outer pl b h.entries g made f e rs free n F
-        (stmts_effects_in P wt outer rest (good_regions L good rs) (placed_regions outer L pl rs) q.1)
+        (stmts_effects_in P wt outer rest (good_regions L good rs) (placed_regions outer L pl rs))
         (within_since b s g (outside_regions rs F) w)))))
         _ st (makes_order P b L good (Renewed L g rs st f) rs free st g f ff (λ h made e s n fe. (made, s, n, fe)))
 
@@ -521,29 +520,29 @@ left_leaves P b L g ss st h (Goes_on v f) y = y
 left_leaves P b L g ss st h (Returns v) y = y
 
 pub forking_in_order : ForkingInOrder
-forking_in_order P wt b dp dd L ss E p q good g st f ff w = order_post P b (Left P b L g (all_complete ss) st) (Leaves P b L g ss st)
-    (left_leaves P b L g ss st) _ st (stmts_order P wt b dp dd p q good (placed_scope L good) g st f ff w)
+forking_in_order P wt b dp dd L ss E p good g st f ff w = order_post P b (Left P b L g (all_complete ss) st) (Leaves P b L g ss st)
+    (left_leaves P b L g ss st) _ st (stmts_order P wt b dp dd p good (placed_scope L good) g st f ff w)
 
 -- at each depth of calls, by recursion on it
-module _ (P : PlainProgram) (wt : WellTyped P) (covered : BodiesCovered P) (b : Bounds) where
+module _ (P : PlainProgram) (wt : WellTyped P) (b : Bounds) where
   bodies_in_order : (left : ℕ) → DeeperInOrder P wt b (Some (meaning (named_by b.path) P left))
   unfolding meaning
   bodies_in_order zero n m there g st f ff w =
-      forking_in_order P wt b None tt (scope_of P wt n m there) m.body (wt.members n m there).effects (wt.members n m there).passes (covered n m there)
+      forking_in_order P wt b None tt (scope_of P wt n m there) m.body (wt.members n m there).effects (wt.members n m there).passes
       (body_good P wt n m there) g st f ff w
   bodies_in_order (suc left) n m there g st f ff w =
       forking_in_order P wt b (Some (meaning (named_by b.path) P left)) (bodies_in_order left) (scope_of P wt n m there) m.body (wt.members n m there).effects
-      (wt.members n m there).passes (covered n m there) (body_good P wt n m there) g st f ff w
+      (wt.members n m there).passes (body_good P wt n m there) g st f ff w
 
 pub tasks_in_order : TasksInOrder
 unfolding meaning
-tasks_in_order P wt covered b L ss E p q good zero g st f ff w = forking_in_order P wt b None tt L ss E p q good g st f ff w
-tasks_in_order P wt covered b L ss E p q good (suc left) g st f ff w =
-    forking_in_order P wt b (Some (meaning (named_by b.path) P left)) (bodies_in_order P wt covered b left) L ss E p q good g st f ff w
+tasks_in_order P wt b L ss E p good zero g st f ff w = forking_in_order P wt b None tt L ss E p good g st f ff w
+tasks_in_order P wt b L ss E p good (suc left) g st f ff w =
+    forking_in_order P wt b (Some (meaning (named_by b.path) P left)) (bodies_in_order P wt b left) L ss E p good g st f ff w
 
 pub branches_in_order : BranchesInOrder
-branches_in_order P wt covered b st forking ts forks u t e h grows none =
+branches_in_order P wt b st forking ts forks u t e h grows none =
     let fits = forks.branch u.1 t e in
-    tasks_in_order P wt covered (branch_bounds b st forks u) (forks.scope u.1) t.work.stmts (forks.effects u.1) fits.passes fits.covered fits.scope t.frame.left
+    tasks_in_order P wt (branch_bounds b st forks u) (forks.scope u.1) t.work.stmts (forks.effects u.1) fits.passes fits.scope t.frame.left
     (forks.setting u.1) h (begun t.work.takes t.frame) (frame_later grows (omega arith) (fits.fits u.0))
     (λ a gu l. record { effects = inl l; blocks = subst (λ z. InEachEntry (u ∷ b.path) z a) (sym none) tt })

@@ -154,7 +154,7 @@ module _ (P : PlainProgram) (wt : WellTyped P) (b : Bounds) (dp : Option Deeper)
     pub expr_order : {e : TypedExpr} {E : List EffectOwn} → Has P L e E → (R : State → Result → Type 0) (st : State) (f : Frame) →
         FrameFits P b.path st g L f → Within b st.entries g E →
         Next P L g R e st f → InOrder P b R st (of_expr (named_by b.path) P dp e f)
-    expr_order (literal_int {k = k}) R st f ff w next = order_ret P b R st (Goes_on (Int k) f) (next st (Int k) (since_now st) tt refl)
+    expr_order (literal_int {k = k} fits) R st f ff w next = order_ret P b R st (Goes_on (Int k) f) (next st (Int k) (since_now st) tt refl)
     expr_order (literal_boolean {b = c}) R st f ff w next = order_ret P b R st (Goes_on (Boolean c) f) (next st (Boolean c) (since_now st) tt (pos 0, refl))
     expr_order literal_null R st f ff w next = order_ret P b R st (Goes_on Null f) (next st Null (since_now st) tt (pos 0, refl))
     expr_order (read_local {x = x} {t = t} h) R st f ff w next =

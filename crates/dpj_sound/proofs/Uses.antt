@@ -73,7 +73,7 @@ both_used L E F h k = All-append (UsesPart L) E F h k
 module _ (P : PlainProgram) (L : Scope) where
   mutual
     expr_uses : {e : TypedExpr} {E : List EffectOwn} → Has P L e E → All (UsesPart L) E
-    expr_uses literal_int = none_used L
+    expr_uses (literal_int fits) = none_used L
     expr_uses literal_boolean = none_used L
     expr_uses literal_null = none_used L
     expr_uses (read_local h) = none_used L
@@ -252,7 +252,7 @@ module _ (P : PlainProgram) (wt : WellTyped P) where
     all_use : {L : Scope} {others : List ℕ} {bs : TypedBranches} {Es : List (List EffectOwn)} → BranchesPass P L others bs Es → All (IsVariable L) others → GoodScope L →
         All (UsesPart L) (joined Es)
     all_use {L} no_branch v good = none_used L
-    all_use {L} {others} (one_branch {copies = copies} {bs = bs} {E = E} {Es = Es} cv p rest) v good =
+    all_use {L} {others} (one_branch {copies = copies} {bs = bs} {E = E} {Es = Es} cv ca p rest) v good =
         both_used L E (joined Es)
         (seen_uses L (in_branch copies (others ++ all_copies bs) L) (λ j t a e. seen_as_part L copies (others ++ all_copies bs) j t a e) E
         (stmts_use p (good_branch L copies (others ++ all_copies bs) (All-append (IsVariable L) others (all_copies bs) v (copies_variables rest)) good)))

@@ -1,6 +1,5 @@
 pub mod Accesses
 pub mod Branches
-pub mod Covered
 pub mod Frames
 pub mod Laws
 pub mod Scopes

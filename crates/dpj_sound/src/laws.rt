@@ -8,7 +8,7 @@ pub fn law_expressions()
 {}
 
 /// So are its statements, given that bodies that they call are; so is a task with all calls that it makes, so is each branch that
-/// it forks, as a task of its own, and so is the root. What is left aside `Covered` says.
+/// it forks, as a task of its own, and so is the root.
 pub fn law_statements()
     ensures statements { ForkingInOrder }
     ensures tasks { TasksInOrder }

@@ -59,7 +59,7 @@ two_pass : AllPass (two_writes 1) scope (two_branches 1) (wrote in_a ++ wrote in
 two_pass =
     then' (cobegin {Es = wrote in_a ∷ wrote in_b ∷ []} (λ c. refl)
     (one_branch (All-nil (IsVariable scope)) (All-nil _) (one_write 0 1 _ (sfits_lit tt) refl refl)
-        (one_branch (All-nil (IsVariable scope)) (All-nil _) (one_write 1 2 _ (sfits_lit tt) refl refl) no_branch)) no_clash)
+    (one_branch (All-nil (IsVariable scope)) (All-nil _) (one_write 1 2 _ (sfits_lit tt) refl refl) no_branch)) no_clash)
     (inl refl) (zero_given refl)
 
 two_covered : IsTrue (set_covers (anything ∷ []) (as_effects (wrote in_a ++ wrote in_b ++ [])))
