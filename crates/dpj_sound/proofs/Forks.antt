@@ -31,6 +31,7 @@ use Rattle.dpj_sound.specs.Shapes.{Shapes}
 use Rattle.dpj_sound.specs.Scopes.{InScope, PathInScope, LocalInScope, GoodScope}
 use Rattle.dpj_sound.proofs.Frames.{frame_env}
 use Rattle.dpj_sound.proofs.Locals.{frame_declare, good_declare, lies_general}
+use Rattle.dpj_sound.proofs.Ints.{add_fits}
 use Rattle.dpj_sound.proofs.Numbers.{number_one}
 use Rattle.dpj_sound.proofs.Quiet.{iterations_quiet_of}
 use Rattle.dpj_sound.proofs.Placed.{LocalPlaced, PlacedScope, placed_wider}
@@ -218,7 +219,7 @@ module _ (P : PlainProgram) (b : Bounds) (st : State) (L : Scope) (good : GoodSc
       (record (numbered_frame x start i f) { left = f.left - 1 })
   iteration_frame x start i u free =
       frame_below u (f.left - 1) (frame_declare P b.path st g (in_loop_branch L) (good_loop L good) f x true int (Int (int_wrapping_add w32 start (pos i)))
-      (free_in_loop L x free) tt tt (frame_loop L ff))
+      (free_in_loop L x free) tt (add_fits start (pos i)) (frame_loop L ff))
 
   -- iterations are in order at their fork
   pub foreach_forks : (forking : Forking) {x : ℕ} {s : TypedStmt} {G : List EffectOwn} → IsFree L x → AllPass P (with_local x (constant int) (in_loop_branch L)) (more_stmts s no_stmts) G →

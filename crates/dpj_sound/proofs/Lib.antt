@@ -16,6 +16,7 @@ pub mod Frames
 pub mod InEffects
 pub mod InScope
 pub mod Indices
+pub mod Ints
 pub mod Locals
 pub mod Making
 pub mod Members

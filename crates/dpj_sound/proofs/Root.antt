@@ -1,5 +1,6 @@
 -- The root is in order from the start.
-use Rattle.std.proofs.Common.{◌≡◌, ℕ, zero, suc, ℤ, List, [], ◌∷◌, length, refl, sym, ap, subst, arith, Some, None, slice_get, slice_index_or, inl}
+use Rattle.std.specs.Int.{w32}
+use Rattle.std.proofs.Common.{◌≡◌, ℕ, zero, suc, ℤ, FitsSigned, List, [], ◌∷◌, length, refl, sym, ap, subst, arith, Some, None, slice_get, slice_index_or, inl}
 use Rattle.std.specs.Prelude.{All}
 use Rattle.std.proofs.lemmas.Bool.{false≢true}
 use Rattle.dpj_base.specs.Matching.{Holds}
@@ -19,7 +20,7 @@ use Rattle.dpj_sound.specs.Laws.{Leaves, start, main_scope, main_bounds, RootInO
 use Rattle.dpj_sound.proofs.Entering.{body_good, entered_fits}
 use Rattle.dpj_sound.proofs.Statements.{tasks_in_order}
 
-module _ (P : PlainProgram) (wt : WellTyped P) (arg : ℤ) where
+module _ (P : PlainProgram) (wt : WellTyped P) (arg : ℤ) (small : FitsSigned w32 arg) where
   first_good : GoodObject P P.main_class []
   first_good = record {
     class = wt.main.class;
@@ -36,7 +37,7 @@ module _ (P : PlainProgram) (wt : WellTyped P) (arg : ℤ) where
   formal ts e x t h = one x t (subst (λ z. slice_get z x ≡ Some t) e h)
     where
       one : (x : ℕ) (t : PlainType) → slice_get (int ∷ []) x ≡ Some t → FitsIn P (start P).shapes (class_env []) t (slice_index_or (Int arg ∷ []) x Null)
-      one zero t h = let q : int ≡ t = cc in subst (λ z. FitsIn P (start P).shapes (class_env []) z (Int arg)) q tt
+      one zero t h = let q : int ≡ t = cc in subst (λ z. FitsIn P (start P).shapes (class_env []) z (Int arg)) q small
       one (suc x) t h = absurd (let q : None ≡ Some t = h in cc)
 
   first_frame : FrameFits P [] (start P) (class_setting []) (main_scope P wt) (entered (named_by []) wt.main.member (Object first_name ∷ Int arg ∷ []) [] 499)
@@ -54,6 +55,6 @@ module _ (P : PlainProgram) (wt : WellTyped P) (arg : ℤ) where
       (body_good P wt P.main_member wt.main.member wt.main.member_is) 499 (class_setting []) (start P) _ first_frame (λ a u l. record { effects = inl l; blocks = tt })
 
 pub root_in_order : RootInOrder
-root_in_order P wt arg =
+root_in_order P wt arg small =
     subst (λ z. InOrder P (main_bounds P wt) (Leaves P (main_bounds P wt) (main_scope P wt) (class_setting []) wt.main.member.body (start P)) (start P)
-    (does (named_by []) P (enters_main (named_by []) first_name arg z))) (sym wt.main.member_is) (root_order P wt arg)
+    (does (named_by []) P (enters_main (named_by []) first_name arg z))) (sym wt.main.member_is) (root_order P wt arg small)

@@ -1,5 +1,5 @@
 -- Statements of a well-typed program are in order: by recursion on their typing.
-use Rattle.std.proofs.Common.{arith, ◌≡◌, inl, ℕ, ℤ, ◌+◌, pos, Bool, true, false, cond, ◌&&◌, ◌||◌, List, [], ◌∷◌, length, refl, sym, ap, ◌∙◌, subst, Option, Some, None, IsTrue, ◌≤◌, map, zero, suc}
+use Rattle.std.proofs.Common.{arith, ◌≡◌, inl, ℕ, ℤ, FitsSigned, ◌+◌, pos, Bool, true, false, cond, ◌&&◌, ◌||◌, List, [], ◌∷◌, length, refl, sym, ap, ◌∙◌, subst, Option, Some, None, IsTrue, ◌≤◌, map, zero, suc}
 use Rattle.std.specs.Prelude.{All, int_lt}
 use Rattle.std.specs.Int.{w32, int_wrapping_add}
 use Rattle.std.proofs.lemmas.Bool.{and_from, false≢true, or_left, or_right}
@@ -60,7 +60,8 @@ use Rattle.dpj_sound.proofs.Work.{since_now, since_since, since_after, order_the
 use Rattle.dpj_sound.proofs.Parts.{good_part, placed_part}
 use Rattle.dpj_sound.proofs.Wider.{wider_type}
 use Rattle.dpj_sound.proofs.Uses.{cuts_in, free_slots, free_in_branch}
-use Rattle.dpj_sound.proofs.Forking.{Left, left_since, cobegin_order, foreach_order, parts_order, filled, filled_first, room_first, taken_slots, array_order}
+use Rattle.dpj_sound.proofs.Forking.{Left, left_since, cobegin_order, foreach_order, parts_order, filled, filled_first, room, room_first, taken_slots, array_order}
+use Rattle.dpj_sound.proofs.Ints.{number_fits}
 use Rattle.dpj_sound.proofs.Forks.{good_loop, placed_loop, loop_wider, free_in_loop}
 
 speaks_write : (g : Setting) (rpl : Rpl) (a : Access) → Matches (env_of g) rpl a.region → Speaks g (writes rpl) a
@@ -418,7 +419,7 @@ module _ (P : PlainProgram) (wt : WellTyped P) (b : Bounds) (dp : Option Deeper)
         (all_own P wt outer (with_local x (constant int) (in_loop_branch L)) (placed_declare outer (in_loop_branch L) (placed_loop outer L pl) x true int (free_in_loop L x free) tt) G
         (stmts_effects_in P wt outer p (good_declare (in_loop_branch L) (good_loop L good) x true int (free_in_loop L x free) tt)
         (placed_declare outer (in_loop_branch L) (placed_loop outer L pl) x true int (free_in_loop L x free) tt)))
-        (within_since b (since_since s1 s2) g _ (within_right b st.entries g F _ (within_right b st.entries g E _ w))) (number v) (number u))))
+        (within_since b (since_since s1 s2) g _ (within_right b st.entries g F _ (within_right b st.entries g E _ w))) (number v) (number u) (number_fits P h2.shapes (env_of g) _ u fu))))
     stmt_order {L} (foreach_parts {at = at} {k = k} {s = body} {t = t} {a = a} {E = E} {F = F} {G = G} (cuts_array {e = e} ha ty full) hc tc fr p ic lc) good {outer} pl g st f ff w =
         let cu = cuts_array ha ty full in
         let free = free_slots L k fr in
@@ -436,7 +437,8 @@ module _ (P : PlainProgram) (wt : WellTyped P) (b : Bounds) (dp : Option Deeper)
         (subst (λ z. InOrder P b (Left P b L g true h2) h2 (unless_null at z (λ n. Act (Look n)
         (λ x. parts dp at k body (with_value (with_value (part_begun k v f) (k + 3) u) (k + 2) (Int (pos (length_seen x)))))))) (sym is)
         (array_order P wt b L good g k t a free scope dp h2 (with_value (part_begun k v f) (k + 3) u) f2 at e p ic lc (parts_scope L good pl k cu fr p)
-        (within_since b (since_since s1 s2) g _ (within_right b st.entries g F _ (within_right b st.entries g E _ w))) v is
+        (within_since b (since_since s1 s2) g _ (within_right b st.entries g F _ (within_right b st.entries g E _ w)))
+        (subst (λ z. FitsSigned w32 (number z)) (sym (set_same (part_begun k v f).values (k + 3) u (room P wt b L good g k t a free scope 3 (omega arith) f1))) (number_fits P h2.shapes (env_of g) _ u fu)) v is
         (fits_grows P h1.shapes h2.shapes s2.grows (env_of g) (array t a false) v (subst (λ z. FitsIn P h1.shapes (env_of g) z v) ty fv))))))))
     stmt_order {L} (foreach_parts {at = at} {k = k} {t = t} {a = a} {E = E} {F = F} {G = G} (cuts_part {k = j} e) hc tc fr p ic lc) good {outer} pl g st f ff w =
         let cu = cuts_part e in
@@ -457,6 +459,8 @@ module _ (P : PlainProgram) (wt : WellTyped P) (b : Bounds) (dp : Option Deeper)
         (filled P wt b L good g k t a free scope 2 (slot_value (with_value (part_taken_over k j f) (k + 3) u).values (j + 2)) (omega arith) f2) at (of_part j) p ic lc (parts_scope L good pl k cu fr p)
         (within_since b s1 g _ (within_right b st.entries g F _ (within_right b st.entries g E _ w)))
         (subst (FitsIn P h1.shapes (env_of g) (array t a false)) (sym slots.0) (fits_grows P st.shapes h1.shapes s1.grows (env_of g) (array t a false) _ pf.array))
+        (subst (λ z. FitsSigned w32 (number z)) (sym slots.2) (number_fits P st.shapes (env_of g) int _ pf.len))
+        (subst (λ z. FitsSigned w32 (number z)) (sym slots.3) (number_fits P h1.shapes (env_of g) _ u fu))
         (λ i z. (let y : j ≡ i = (let x : of_part j ≡ of_part i = z in cc) in subst (λ x. g.part x ≡ record { array = slot_value d.values k; first = number (slot_value d.values (k + 1)); len = number (slot_value d.values (k + 2)) }) y
         (pf.places ∙ sym (λ i. record { array = slots.0 i; first = number (slots.1 i); len = number (slots.2 i) })))))))
 

@@ -1,5 +1,6 @@
 -- What a well-typed program keeps to, as statements.
-use Rattle.std.specs.Prelude.{Bool, ◌≡◌, IsTrue, List, [], ◌∷◌, Option, Some, None, All, false, ℤ, ◌≢◌, ℕ, cond, slice_get}
+use Rattle.std.specs.Prelude.{Bool, ◌≡◌, IsTrue, List, [], ◌∷◌, Option, Some, None, All, false, ℤ, FitsSigned, ◌≢◌, ℕ, cond, slice_get}
+use Rattle.std.specs.Int.{w32}
 use Rattle.dpj_base.specs.declared.elems.Elem.TheVariants.{At}
 use Rattle.dpj_base.specs.declared.elems.Index.TheVariants.{Literal}
 use Rattle.dpj_base.specs.declared.effect.Constraint.{Constraint}
@@ -101,9 +102,9 @@ main_scope P wt = scope_of P wt P.main_member wt.main.member wt.main.member_is
 abbrev pub main_bounds : (P : PlainProgram) → WellTyped P → Bounds
 main_bounds P wt = record { path = []; setting = class_setting []; effects = (wt.members P.main_member wt.main.member wt.main.member_is).effects; inside = false }
 
--- the root is in order from the start, on each argument
+-- the root is in order from the start, on each argument of 32 bits
 abbrev pub RootInOrder : Type 0
-RootInOrder = (P : PlainProgram) (wt : WellTyped P) (arg : ℤ) →
+RootInOrder = (P : PlainProgram) (wt : WellTyped P) (arg : ℤ) → FitsSigned w32 arg →
     InOrder P (main_bounds P wt) (Leaves P (main_bounds P wt) (main_scope P wt) (class_setting []) wt.main.member.body (start P)) (start P)
     (does (named_by []) P (root_task (named_by []) P first_name arg))
 
