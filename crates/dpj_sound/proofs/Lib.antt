@@ -2,6 +2,7 @@ pub mod Alike
 pub mod Atomic
 pub mod Blocks
 pub mod Calls
+pub mod Calm
 pub mod Chains
 pub mod Classes
 pub mod Closed
@@ -20,6 +21,7 @@ pub mod Ints
 pub mod Locals
 pub mod Making
 pub mod Members
+pub mod Moments
 pub mod Numbers
 pub mod PartForks
 pub mod Parts
@@ -33,4 +35,5 @@ pub mod Typed
 pub mod Types
 pub mod Uses
 pub mod Wider
+pub mod Walks
 pub mod Work
