@@ -3,6 +3,8 @@ pub mod Atomic
 pub mod Blocks
 pub mod Calls
 pub mod Calm
+pub mod Carried
+pub mod Cells
 pub mod Chains
 pub mod Classes
 pub mod Closed
@@ -30,10 +32,11 @@ pub mod Places
 pub mod Quiet
 pub mod Regions
 pub mod Root
+pub mod Sound
 pub mod Statements
 pub mod Typed
 pub mod Types
 pub mod Uses
-pub mod Wider
 pub mod Walks
+pub mod Wider
 pub mod Work

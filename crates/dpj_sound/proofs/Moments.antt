@@ -62,6 +62,10 @@ CalmFork P forking ts = P.uses_nd ≡ false → (forking ≡ Deterministic) × C
 abbrev pub having_made : ℕ → State → State
 having_made n st = record { shapes = st.shapes; made = n; entries = st.entries }
 
+-- and in which it has left all blocks
+abbrev pub having_left : State → State
+having_left st = record { shapes = st.shapes; made = st.made; entries = [] }
+
 abbrev pub state_of : {P : PlainProgram} {b : Bounds} → Moment P b → State
 state_of (at st) = st
 state_of (forked st forking ts forks begun) = st
@@ -92,7 +96,7 @@ module _ (P : PlainProgram) (b : Bounds) (L : Scope) (copies : List ℕ) where
   ComesAt st (Fork ts) m x h = h ≡ forked st ts.kind ts.tasks m.0 0
   ComesAt st (Begin i) m x h = ⊥
   ComesAt st Join m x h = ⊥
-  ComesAt st (End y) m x h = h ≡ at st
+  ComesAt st (End y) m x h = h ≡ at (having_left st)
 
   abbrev ComesForked : (st : State) (forking : Forking) (ts : List Task) (forks : Forks P b st forking ts) → ℕ → Action → Answer → Moment P b → Type 0
   ComesForked st forking ts forks n (Begin i) x h = h ≡ forked st forking ts forks (suc n)
