@@ -67,7 +67,7 @@ module _ (P : PlainProgram) (Q : Program) {N : ℕ} {R : Run} {e : Event} (l : F
   abbrev pub copies : List ℕ
   copies = a.task.work.copies
 
-  abbrev replies : List Answer → Reply
+  abbrev pub replies : List Answer → Reply
   replies xs = Q.meaning e.path a.task (reverse xs ++ answers (mine R e.path))
 
   -- its next event, where it stands
@@ -132,10 +132,10 @@ module _ (P : PlainProgram) (Q : Program) {N : ℕ} {R : Run} {e : Event} (l : F
   }
 
   -- things stay, and what stands in cells, but for what is written
-  same_things : (n : Name) (z : Shape) → s.shapes n ≡ Some z → (u : Thing) × (thing_of Q (e ∷ R) n ≡ Some u) × Describes P z u
+  pub same_things : (n : Name) (z : Shape) → s.shapes n ≡ Some z → (u : Thing) × (thing_of Q (e ∷ R) n ≡ Some u) × Describes P z u
   same_things n z q = (let t = s.things n z q in (t.0, thing_later Q n t.0 (later now) t.1, t.2))
 
-  abbrev WroteFits : Type 0
+  abbrev pub WroteFits : Type 0
   WroteFits = (c : Cell) (w : Writes c e) (z : Shape) (env : Env) (ty : PlainType) (r : Rpl) → s.shapes c.object ≡ Some z → CellAt P z (pos c.slot) env ty r → FitsIn P s.shapes env ty w.value
 
   value_unwritten : (c : Cell) (u : Thing) → (Writes c e → ⊥) → value_in (e ∷ R) u c ≡ value_in R u c
@@ -145,7 +145,7 @@ module _ (P : PlainProgram) (Q : Program) {N : ℕ} {R : Run} {e : Event} (l : F
       go (it_does w i) = absurd (ne w)
       go (it_does_not n i) = ap (λ o. or_else o (first_value u c.slot)) (last_step e R c ∙ ap (λ o. first_some o (last_written R c)) i)
 
-  old_cells : WroteFits → (n : Name) (z : Shape) (u : Thing) (k : ℕ) (env : Env) (ty : PlainType) (r : Rpl) → s.shapes n ≡ Some z → thing_of Q (e ∷ R) n ≡ Some u → CellAt P z (pos k) env ty r →
+  pub old_cells : WroteFits → (n : Name) (z : Shape) (u : Thing) (k : ℕ) (env : Env) (ty : PlainType) (r : Rpl) → s.shapes n ≡ Some z → thing_of Q (e ∷ R) n ≡ Some u → CellAt P z (pos k) env ty r →
       FitsIn P s.shapes env ty (value_in (e ∷ R) u (record { object = n; slot = k }))
   unfolding same_things
   old_cells wrote n z u k env ty r q there cell = go (writes c e)

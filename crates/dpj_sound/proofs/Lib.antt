@@ -2,6 +2,7 @@ pub mod Acting
 pub mod Alike
 pub mod Atomic
 pub mod Blocks
+pub mod Branching
 pub mod Calls
 pub mod Calm
 pub mod Carried

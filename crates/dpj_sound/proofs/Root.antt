@@ -21,7 +21,7 @@ use Rattle.dpj_sound.proofs.Entering.{body_good, entered_fits}
 use Rattle.dpj_sound.proofs.Statements.{tasks_in_order}
 
 module _ (P : PlainProgram) (wt : WellTyped P) (arg : ℤ) (small : FitsSigned w32 arg) where
-  first_good : GoodObject P P.main_class []
+  pub first_good : GoodObject P P.main_class []
   first_good = record {
     class = wt.main.class;
     is = wt.main.class_is;
