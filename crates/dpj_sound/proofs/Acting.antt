@@ -1,6 +1,6 @@
 -- One more event of what a task does by itself: it is in order where the task stands, it is answered as its shapes say, and what
 -- stands in cells still fits.
-use Rattle.std.proofs.Common.{◌≡◌, ◌<◌, ◌≤◌, ◌+◌, ◌⊎◌, ⊎_elim, inl, inr, ℕ, zero, suc, ℤ, pos, Bool, true, false, cond, List, [], ◌∷◌, ◌++◌, length, reverse, refl, sym, ap, ◌∙◌, subst, arith, append_assoc, Option, Some, None, slice_get}
+use Rattle.std.proofs.Common.{◌≡◌, ◌≤◌, ◌+◌, ◌⊎◌, ⊎_elim, inl, inr, ℕ, zero, suc, ℤ, pos, Bool, true, cond, List, [], ◌∷◌, ◌++◌, length, reverse, refl, sym, ap, ◌∙◌, subst, arith, append_assoc, Option, Some, None, slice_get}
 use Rattle.std.proofs.lemmas.Bool.{cond-true, cond-false, cases_Bool, and_from, eq-eqb}
 use Rattle.std.proofs.lemmas.List.{reverse-append}
 use Rattle.std.proofs.lemmas.Option.{slice_get_past}
@@ -8,23 +8,21 @@ use Rattle.dpj_base.specs.declared.region.Rpl.{Rpl}
 use Rattle.dpj_base.specs.Matching.{Env}
 use Rattle.dpj_base.specs.Types.{PlainType}
 use Rattle.dpj_typed.specs.Plain.{PlainProgram}
-use Rattle.dpj_runs.specs.Actions.{Program, Task, Own, Rest, Read, Write, Look, New, Print, Enter, Exit, Action, Do, Answer, Went, Got, Named, Reply, Next, Over, Unknown}
+use Rattle.dpj_runs.specs.Actions.{Program, Task, Own, Rest, Read, Write, Look, New, Print, Enter, Exit, Do, Answer, Went, Named, Reply}
 use Rattle.dpj_runs.specs.Blocks.{Hold, Out_of, In_block, own_hold, hold_after, hold}
 use Rattle.dpj_runs.specs.Objects.{Path, Name, same_name, Thing, Effect, Cell, Value, or_else, size, first_value, slot_of}
 use Rattle.dpj_runs.specs.Order.{Writes}
-use Rattle.dpj_runs.specs.Runs.{Event, Run, Upto, now, later, mine, answers, count, Follows, Faithful, at_start, made, made_by, things, thing_of, value_in, last_written, first_some, read_at, wrote_at, seen, reply}
+use Rattle.dpj_runs.specs.Runs.{Event, Run, now, later, mine, answers, Follows, Faithful, at_start, made, made_by, things, thing_of, value_in, last_written, first_some, read_at, wrote_at, seen, reply}
 use Rattle.dpj_runs.proofs.Cells.{Written, it_does, it_does_not, writes, last_step, LastWrite, last_write, none, some, slot_is, same_name_eq}
 use Rattle.dpj_runs.proofs.Mine.{mine_same, test_same}
 use Rattle.dpj_runs.proofs.Things.{thing_later, same_some, answering}
-use Rattle.dpj_sound.specs.Settings.{env_of}
 use Rattle.dpj_sound.specs.Shapes.{Shape, Shapes, Grows, FitsIn, CellAt, Describes}
-use Rattle.dpj_sound.specs.Accesses.{Bounds}
 use Rattle.dpj_sound.specs.Frames.{State}
-use Rattle.dpj_sound.specs.Work.{Touches, Moves, ReadFits, WriteFits, LookFits, Answers, without_latest, entries_after, After}
-use Rattle.dpj_sound.proofs.Carried.{grows_grows, Agrees, agrees_self, NewTask, Step}
+use Rattle.dpj_sound.specs.Work.{Touches, Moves, ReadFits, WriteFits, LookFits, Answers, entries_after, After}
+use Rattle.dpj_sound.proofs.Carried.{grows_grows, agrees_self, NewTask, Step}
 use Rattle.dpj_sound.proofs.Cells.{one_cell, out_is_array, first_value_fits, look_fits}
-use Rattle.dpj_sound.proofs.Moments.{Moment, at, forked, state_of, MayDo, Comes, Quietly, still, making, Goes_to, Here, Goes, goes_same}
-use Rattle.dpj_sound.proofs.Sound.{Kept, hold_of, Accessed, OwnOk, EventOk, IsAt, Stands, branches_of, Sound}
+use Rattle.dpj_sound.proofs.Moments.{Moment, at, state_of, MayDo, Comes, Quietly, still, making, Here, Goes, goes_same}
+use Rattle.dpj_sound.proofs.Sound.{Kept, hold_of, OwnOk, EventOk, IsAt, Stands, branches_of, Sound}
 use Rattle.dpj_sound.proofs.Types.{fits_grows}
 
 things_step : (e : Event) (es : Run) → things (e ∷ es) ≡ things es ++ made_by e.act

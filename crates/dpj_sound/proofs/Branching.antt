@@ -1,6 +1,6 @@
 -- One more event at a fork, a begin, a join or an end: branches begin where their fork says, and a join brings what their ends fit.
-use Rattle.std.proofs.Common.{◌≡◌, ◌<◌, ◌≤◌, ◌+◌, ◌⊎◌, ⊎_elim, inl, inr, ℕ, zero, suc, ℤ, pos, Bool, true, false, cond, ◌&&◌, ◌==◌, List, [], ◌∷◌, ◌++◌, length, reverse, refl, sym, ap, ◌∙◌, subst, arith, Option, Some, None, slice_get, append-nil}
-use Rattle.std.specs.Prelude.{All, Contains, slice_index_or}
+use Rattle.std.proofs.Common.{◌≡◌, ◌<◌, ◌≤◌, ◌+◌, ◌⊎◌, ⊎_elim, inl, inr, ℕ, zero, suc, ℤ, Bool, true, false, cond, ◌&&◌, ◌==◌, List, [], ◌∷◌, ◌++◌, length, reverse, refl, sym, ap, ◌∙◌, subst, arith, Option, Some, None, slice_get, append-nil}
+use Rattle.std.specs.Prelude.{All, Contains}
 use Rattle.std.proofs.lemmas.Bool.{cond-true, cond-false, and_from, and_parts, eq-eqb, eqb-true, false_from_ne_true}
 use Rattle.std.proofs.lemmas.List.{reverse-reverse}
 use Rattle.std.proofs.lemmas.List.Elements.{Contains-append_cases}
@@ -12,33 +12,31 @@ use Rattle.dpj_typed.specs.Plain.{PlainProgram}
 use Rattle.dpj_typed.specs.Scope.{Scope, variable}
 use Rattle.dpj_typed.specs.Statements.{IsVariable}
 use Rattle.dpj_typed.specs.WellTyped.{WellTyped}
-use Rattle.dpj_meaning.specs.Actions.{Work}
-use Rattle.dpj_meaning.specs.Asking.{ask, does, ended, replied, meaning, told}
+use Rattle.dpj_meaning.specs.Asking.{ask, does, ended, replied, told}
 use Rattle.dpj_meaning.specs.Core.{Goes_on, Returns, run}
-use Rattle.dpj_meaning.specs.Counts.{Back, Trap_of_branch, brought, assigned, slot_value}
-use Rattle.dpj_meaning.specs.Outcomes.{first_trap, all_locals, locals_of, joined, joined_or}
+use Rattle.dpj_meaning.specs.Counts.{brought, assigned, slot_value}
+use Rattle.dpj_meaning.specs.Outcomes.{first_trap, all_locals, locals_of, joined_or}
 use Rattle.dpj_meaning.specs.Statements.{begun}
 use Rattle.dpj_meaning.proofs.Tasks.{asks_disciplined}
-use Rattle.dpj_runs.specs.Actions.{Program, Task, Branches, Action, Do, Fork, Begin, Join, End, Ending, Returned, Assigned, Trapped, Answer, Reply}
+use Rattle.dpj_runs.specs.Actions.{Program, Task, Branches, Action, Do, Fork, Begin, Join, End, Ending, Returned, Assigned, Trapped, Answer}
 use Rattle.dpj_runs.specs.Blocks.{hold_after, hold}
 use Rattle.dpj_runs.specs.Meaning.{Disciplined}
 use Rattle.dpj_runs.specs.Objects.{Path, same_path, Name, LocalRegion, Value, Null}
-use Rattle.dpj_runs.specs.Order.{Writes}
-use Rattle.dpj_runs.specs.Runs.{Event, Run, Upto, now, later, mine, answers, count, Begun, root, branch, Follows, Faithful, Right, Joins, Ended}
-use Rattle.dpj_runs.proofs.Faithful.{begun_upto, follows_at, own_fork, fork_above, one_fork, same_task, agree_self}
-use Rattle.dpj_runs.proofs.Mine.{mine_same, mine_other, same_of, number_of, same_path_eq, test_same, path_cases, found}
-use Rattle.dpj_runs.proofs.Upto.{upto_trans, upto_tail, upto_none}
+use Rattle.dpj_runs.specs.Runs.{Event, Run, Upto, now, later, mine, answers, count, Begun, root, branch, Follows, Faithful, Right, Joins}
+use Rattle.dpj_runs.proofs.Faithful.{follows_at, own_fork, one_fork}
+use Rattle.dpj_runs.proofs.Mine.{mine_same, mine_other, same_of, number_of, same_path_eq, test_same, found}
+use Rattle.dpj_runs.proofs.Upto.{upto_trans, upto_tail}
 use Rattle.dpj_steps.specs.Steps.{named_by, stepped}
-use Rattle.dpj_sound.specs.Settings.{Setting, env_of}
+use Rattle.dpj_sound.specs.Settings.{env_of}
 use Rattle.dpj_sound.specs.Shapes.{Shapes, Grows, FitsIn}
 use Rattle.dpj_sound.specs.Accesses.{Bounds}
-use Rattle.dpj_sound.specs.Frames.{Frame, State, Since, FrameFits}
+use Rattle.dpj_sound.specs.Frames.{State, Since}
 use Rattle.dpj_sound.specs.Branches.{Forks, Brings, Returned as ReturnedOf}
 use Rattle.dpj_sound.specs.Laws.{Leaves, branch_bounds}
-use Rattle.dpj_sound.specs.Work.{Result, Brought}
-use Rattle.dpj_sound.proofs.Acting.{Now, now_asked, own_stands, own_step, same_things, old_cells, kept, stand, copies, replies, WroteFits}
+use Rattle.dpj_sound.specs.Work.{Result}
+use Rattle.dpj_sound.proofs.Acting.{Now, now_asked, own_stands, own_step, same_things, old_cells, stand, copies, replies, WroteFits}
 use Rattle.dpj_sound.proofs.Calm.{task_calm}
-use Rattle.dpj_sound.proofs.Carried.{grows_grows, end_grows, Agrees, agrees_self, agrees_task, NewTask, Step, stepped_on}
+use Rattle.dpj_sound.proofs.Carried.{end_grows, Agrees, agrees_self, agrees_task, NewTask, Step}
 use Rattle.dpj_sound.proofs.Moments.{Moment, at, forked, state_of, having_left, EndFits, CalmFork, MayDo, Comes, Goes, goes_same, told_on}
 use Rattle.dpj_sound.proofs.Sound.{Kept, branch_kept, hold_of, ForkedAt, EventOk, AtFork, IsAt, Stands, branches_of, Sound}
 use Rattle.dpj_sound.proofs.Statements.{branches_in_order}

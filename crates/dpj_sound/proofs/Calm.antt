@@ -8,7 +8,7 @@ use Rattle.dpj_base.specs.Types.{PlainType as ty}
 use Rattle.dpj_typed.specs.declared.stmt.Forking.{Forking}
 use Rattle.dpj_typed.specs.declared.stmt.Forking.TheVariants.{Deterministic}
 use Rattle.dpj_typed.specs.Effects.{Own as EffectOwn}
-use Rattle.dpj_typed.specs.Plain.{PlainProgram, PlainMember, of_array, of_part, TypedExpr, typed, TypedExprs, no_exprs, more_exprs, TypedStmt, statement, TypedStmts}
+use Rattle.dpj_typed.specs.Plain.{PlainProgram, PlainMember, TypedExpr, typed, TypedExprs, no_exprs, more_exprs, TypedStmt, statement, TypedStmts}
 use Rattle.dpj_typed.specs.Plain.{no_stmts, more_stmts, TypedBranches}
 use Rattle.dpj_typed.specs.Plain.{ExprForm as form}
 use Rattle.dpj_typed.specs.Plain.{StmtForm as stmt}

@@ -1,13 +1,13 @@
 -- What is carried over one more event: what has been made grows, and what tasks keep to stays.
-use Rattle.std.proofs.Common.{◌≡◌, ◌<◌, ◌≤◌, ◌+◌, ◌⊎◌, ⊎_elim, inl, inr, ℕ, zero, suc, ℤ, pos, List, [], ◌∷◌, ◌++◌, length, reverse, refl, sym, ap, ◌∙◌, subst, arith, Option, Some, None, slice_get}
+use Rattle.std.proofs.Common.{◌≡◌, ◌<◌, ◌+◌, ◌⊎◌, ⊎_elim, inl, inr, ℕ, suc, ℤ, pos, List, [], ◌∷◌, ◌++◌, length, reverse, refl, sym, ap, ◌∙◌, subst, arith, Some, slice_get}
 use Rattle.dpj_base.specs.declared.region.Rpl.{Rpl}
 use Rattle.dpj_base.specs.Matching.{Env}
 use Rattle.dpj_base.specs.Types.{PlainType}
 use Rattle.dpj_typed.specs.Plain.{PlainProgram}
 use Rattle.dpj_typed.specs.Scope.{Scope}
-use Rattle.dpj_runs.specs.Actions.{Program, Task, Branches, Own, Rest, Read, Write, Look, New, Print, Enter, Exit, Action, Do, Fork, Begin, Join, End, Ending, Returned, Assigned, Trapped, Answer}
+use Rattle.dpj_runs.specs.Actions.{Program, Task, Branches, Own, Rest, Read, Write, Look, New, Print, Enter, Exit, Action, Do, Fork, Begin, Join, End, Ending, Returned, Assigned, Trapped}
 use Rattle.dpj_runs.specs.Objects.{Path, Name, Thing}
-use Rattle.dpj_runs.specs.Runs.{Event, Run, Upto, now, later, mine, answers, count, Begun, root, branch, Follows, Faithful, thing_of, value_in}
+use Rattle.dpj_runs.specs.Runs.{Event, Run, Upto, later, mine, answers, count, Begun, root, branch, Faithful, thing_of, value_in}
 use Rattle.dpj_runs.proofs.Faithful.{begun_upto, follows_at, same_task, agree_self}
 use Rattle.dpj_runs.proofs.Mine.{path_cases, mine_other, number_of}
 use Rattle.dpj_runs.proofs.Upto.{upto_split, upto_tail}
@@ -17,7 +17,7 @@ use Rattle.dpj_sound.specs.Accesses.{Bounds}
 use Rattle.dpj_runs.specs.Blocks.{hold}
 use Rattle.std.specs.Prelude.{Bool}
 use Rattle.dpj_sound.proofs.Moments.{Moment, at, forked, EndFits, state_of, Goes}
-use Rattle.dpj_sound.proofs.Sound.{Kept, hold_of, Accessed, ForkedAt, OwnOk, EventOk, AtFork, IsAt, Stands, branches_of, Sound}
+use Rattle.dpj_sound.proofs.Sound.{Kept, hold_of, Accessed, OwnOk, EventOk, IsAt, Stands, branches_of, Sound}
 use Rattle.dpj_sound.proofs.Types.{fits_grows}
 
 pub grows_grows : {S T U : Shapes} → Grows S T → Grows T U → Grows S U

@@ -1,5 +1,5 @@
 -- What stands in cells and what looks answer, where things are what their shapes say.
-use Rattle.std.proofs.Common.{◌≡◌, ◌<◌, ℕ, zero, suc, ℤ, pos, negsuc, Bool, true, false, List, [], ◌∷◌, map, length, refl, sym, ap, ◌∙◌, subst, arith, Option, Some, None, slice_get, nat_lt}
+use Rattle.std.proofs.Common.{◌≡◌, ◌<◌, ℕ, ℤ, pos, [], length, refl, sym, ap, ◌∙◌, subst, arith, Option, Some, None, slice_get, nat_lt}
 use Rattle.std.specs.Prelude.{option_and_then, option_map}
 use Rattle.std.specs.Option.{option_map_or}
 use Rattle.std.proofs.lemmas.Bool.{lt-ltb, cond-true}
@@ -11,8 +11,8 @@ use Rattle.dpj_base.specs.Types.{PlainType, int, boolean, void, null, class, arr
 use Rattle.dpj_typed.specs.Plain.{PlainProgram, PlainClass, PlainField}
 use Rattle.dpj_typed.specs.Scope.{class_at, field_at}
 use Rattle.dpj_meaning.specs.Expressions.{first_of, class_fields}
-use Rattle.dpj_runs.specs.Actions.{Answer, Out, Class, Length}
-use Rattle.dpj_runs.specs.Objects.{Value, Null, Thing, An_object, An_array, or_else, size, first_value, slot_of}
+use Rattle.dpj_runs.specs.Actions.{Class}
+use Rattle.dpj_runs.specs.Objects.{Null, Thing, An_object, An_array, or_else, size, first_value, slot_of}
 use Rattle.dpj_runs.specs.Runs.{seen}
 use Rattle.dpj_sound.specs.Settings.{class_env}
 use Rattle.dpj_sound.specs.Shapes.{Shape, object, elements, Shapes, FitsIn, CellAt, of_object, of_array, Describes}

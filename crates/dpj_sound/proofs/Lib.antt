@@ -18,12 +18,14 @@ pub mod Expressions
 pub mod Forking
 pub mod Forks
 pub mod Frames
+pub mod Free
 pub mod InEffects
 pub mod InScope
 pub mod Indices
 pub mod Ints
 pub mod Locals
 pub mod Making
+pub mod Meeting
 pub mod Members
 pub mod Moments
 pub mod Numbers
@@ -40,5 +42,6 @@ pub mod Typed
 pub mod Types
 pub mod Uses
 pub mod Walks
+pub mod Whole
 pub mod Wider
 pub mod Work

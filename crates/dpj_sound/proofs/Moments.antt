@@ -1,5 +1,5 @@
 -- What a task asks whose work is in order, followed so many answers deep: each action is in order where the task stands.
-use Rattle.std.proofs.Common.{◌≡◌, ℕ, zero, suc, ◌+◌, ◌-◌, ◌*◌, ◌<◌, ◌≤◌, Bool, true, false, List, [], ◌∷◌, length, refl, sym, ap, ◌∙◌, subst, arith, ◌==◌, Some}
+use Rattle.std.proofs.Common.{◌≡◌, ℕ, zero, suc, ◌+◌, ◌-◌, ◌*◌, ◌<◌, ◌≤◌, Bool, true, false, List, [], ◌∷◌, length, refl, sym, ap, subst, arith, ◌==◌, Some}
 use Rattle.std.specs.Prelude.{Contains}
 use Rattle.std.proofs.lemmas.Bool.{eqb-false}
 use Rattle.dpj_base.specs.Types.{PlainType}
@@ -7,8 +7,7 @@ use Rattle.dpj_typed.specs.declared.stmt.Forking.{Forking}
 use Rattle.dpj_typed.specs.declared.stmt.Forking.TheVariants.{Deterministic}
 use Rattle.dpj_typed.specs.Plain.{PlainProgram}
 use Rattle.dpj_typed.specs.Scope.{Scope, variable}
-use Rattle.dpj_meaning.specs.Actions.{Ending as EndingOf}
-use Rattle.dpj_meaning.specs.Asking.{most_turns, Told as ToldOf, asked, turned, begins_then, told_join, told, ending}
+use Rattle.dpj_meaning.specs.Asking.{most_turns, Told as ToldOf, asked, turned, begins_then, told_join, ending}
 use Rattle.dpj_meaning.specs.Core.{Out as OutOf, Done, Trapped as Fallen, Stopped, Lost, bind}
 use Rattle.dpj_meaning.specs.Counts.{brought}
 use Rattle.dpj_meaning.proofs.Turns.{most_pos, turned_if}

@@ -1,13 +1,13 @@
 -- What holds of a run of a well-typed program: what has been made and what stands in it, where each task stands, and what each
 -- event keeps to.
-use Rattle.std.proofs.Common.{◌≡◌, ◌<◌, ◌≤◌, ◌+◌, ◌⊎◌, ⊎_elim, inl, inr, ℕ, zero, suc, ℤ, pos, Bool, true, false, List, [], ◌∷◌, ◌++◌, length, reverse, refl, sym, ap, ◌∙◌, subst, arith, Option, Some, None, slice_get}
+use Rattle.std.proofs.Common.{◌≡◌, ◌≤◌, ◌+◌, ℕ, suc, ℤ, pos, Bool, true, false, List, [], ◌∷◌, ◌++◌, length, reverse, Some}
 use Rattle.dpj_base.specs.declared.region.Rpl.{Rpl}
 use Rattle.dpj_base.specs.Matching.{Env}
 use Rattle.dpj_base.specs.Types.{PlainType}
 use Rattle.dpj_typed.specs.declared.stmt.Forking.{Forking}
 use Rattle.dpj_typed.specs.Plain.{PlainProgram}
 use Rattle.dpj_typed.specs.Scope.{Scope}
-use Rattle.dpj_runs.specs.Actions.{Program, Task, Branches, Own, Rest, Read, Write, Look, New, Print, Enter, Exit, Action, Do, Fork, Begin, Join, End, Answer}
+use Rattle.dpj_runs.specs.Actions.{Program, Task, Branches, Own, Rest, Read, Write, Look, New, Print, Enter, Exit, Action, Do, Fork, Begin, Join, End}
 use Rattle.dpj_runs.specs.Blocks.{Hold, Out_of, own_hold, hold}
 use Rattle.dpj_runs.specs.Objects.{Path, Name, Thing, Effect}
 use Rattle.dpj_runs.specs.Runs.{Event, Run, Upto, mine, answers, count, Begun, thing_of, value_in}

@@ -1,6 +1,5 @@
 -- Work that is in order is in order answer by answer: by recursion on it.
-use Rattle.std.proofs.Common.{◌≡◌, ℕ, zero, suc, ◌+◌, ◌-◌, ◌*◌, ◌<◌, ◌≤◌, Bool, true, false, List, [], ◌∷◌, ◌++◌, length, reverse, refl, sym, ap, ◌∙◌, subst, arith}
-use Rattle.dpj_typed.specs.declared.stmt.Forking.TheVariants.{Deterministic}
+use Rattle.std.proofs.Common.{◌≡◌, ℕ, zero, suc, ◌+◌, ◌*◌, Bool, true, false, List, length, refl, sym, ap, ◌∙◌, subst, arith}
 use Rattle.dpj_typed.specs.Plain.{PlainProgram}
 use Rattle.dpj_typed.specs.Scope.{Scope}
 use Rattle.dpj_meaning.specs.Actions.{Work}
@@ -9,16 +8,16 @@ use Rattle.dpj_meaning.specs.Core.{Goes_on, Returns, Ret, Traps, Act, Makes, Aga
 use Rattle.dpj_meaning.specs.Counts.{truth}
 use Rattle.dpj_meaning.specs.Tasks.{again}
 use Rattle.dpj_meaning.proofs.Turns.{most_pos, past_test, loops_again, bind_done}
-use Rattle.dpj_runs.specs.Actions.{Task, Fork, Answer, Reply, Trapped}
-use Rattle.dpj_runs.specs.Objects.{Made, Value}
+use Rattle.dpj_runs.specs.Actions.{Task, Fork, Reply, Trapped}
+use Rattle.dpj_runs.specs.Objects.{Made}
 use Rattle.dpj_steps.specs.Steps.{named_by}
 use Rattle.dpj_sound.specs.Settings.{Setting}
 use Rattle.dpj_sound.specs.Accesses.{Bounds}
 use Rattle.dpj_sound.specs.Frames.{Frame, State, Since, FrameFits}
-use Rattle.dpj_sound.specs.Work.{Result, Prog, Brought, AfterMaking, Rounds, InOrder}
+use Rattle.dpj_sound.specs.Work.{Result, Prog, AfterMaking, Rounds, InOrder}
 use Rattle.dpj_sound.proofs.Calm.{IsCalm}
 use Rattle.dpj_sound.proofs.Frames.{frame_since}
-use Rattle.dpj_sound.proofs.Moments.{Told, Out, Replies, finish, Moment, at, having_made, EndFits, Goes, goes_same, goes_making, told_on, Good, good_same, good_less, good_end, bind_bind, finish_bind, good_own, good_turn, good_fork}
+use Rattle.dpj_sound.proofs.Moments.{Told, Out, finish, at, having_made, EndFits, Goes, goes_same, goes_making, told_on, Good, good_same, good_less, good_end, bind_bind, finish_bind, good_own, good_turn, good_fork}
 use Rattle.dpj_sound.proofs.Work.{since_now, since_since}
 
 -- what is said where the program has no nd constructs

@@ -21,7 +21,8 @@ use Rattle.dpj_meaning.specs.Expressions.{Deeper as DeeperOf, of_expr}
 use Rattle.dpj_meaning.specs.Statements.{of_stmts}
 use Rattle.dpj_runs.specs.Actions.{Task}
 use Rattle.dpj_runs.specs.Objects.{Name, LocalRegion, same_name}
-use Rattle.dpj_steps.specs.Steps.{named_by, first_name}
+use Rattle.dpj_runs.specs.Laws.{AllFree}
+use Rattle.dpj_steps.specs.Steps.{named_by, first_name, stepped}
 use Rattle.dpj_typed.specs.Table.{body_scope}
 use Rattle.dpj_meaning.specs.Asking.{meaning, does}
 use Rattle.dpj_meaning.specs.Elision.{root_task}
@@ -130,3 +131,7 @@ NdIterationsQuiet = (P : PlainProgram) (given : List Constraint) (params : List 
     EndAtomic P.region_names params g.regions → All HasNoCopies given → (E : List Own) → All (λ o. PathInScope L 0 (effect_of o).rpl) E →
     iterations_clash given (Some (record { names = P.region_names; params = params })) x (as_effects E) ≡ false → j ≢ k →
     Quiet P Nondeterministic (with_number x j g) E (with_number x k g) E
+
+-- no legal run of a program without nd constructs has two unordered events that conflict, on any argument of 32 bits
+abbrev pub RunsAreFree : Type 0
+RunsAreFree = (P : PlainProgram) → WellTyped P → P.uses_nd ≡ false → (arg : ℤ) → FitsSigned w32 arg → AllFree (stepped P arg)

@@ -1,6 +1,6 @@
 //! The laws of well-typed programs, each the clause of a function that does nothing.
 
-ghost use Rattle.dpj_sound.specs.Laws.{BranchesInOrder, BranchesQuiet, ExpressionsInOrder, ForkingInOrder, IterationsQuiet, NdBranchesQuiet, NdIterationsQuiet, RootInOrder, TasksInOrder};
+ghost use Rattle.dpj_sound.specs.Laws.{BranchesInOrder, BranchesQuiet, ExpressionsInOrder, ForkingInOrder, IterationsQuiet, NdBranchesQuiet, NdIterationsQuiet, RootInOrder, RunsAreFree, TasksInOrder};
 
 /// Each expression of a well-typed program is in order.
 pub fn law_expressions()
@@ -23,4 +23,9 @@ pub fn law_quiet()
     ensures iterations { IterationsQuiet }
     ensures nd_branches { NdBranchesQuiet }
     ensures nd_iterations { NdIterationsQuiet }
+{}
+
+/// No legal run of a well-typed program without nd constructs has two unordered events that conflict.
+pub fn law_runs()
+    ensures { RunsAreFree }
 {}
