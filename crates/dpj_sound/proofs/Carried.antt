@@ -163,6 +163,7 @@ module _ (P : PlainProgram) (Q : Program) where
   stepped_on {N} {R} {e} l t b s z = record {
     shapes = z.shapes;
     keeping = z.keeping;
+    root = ap (λ (k : Kept). k.bounds.inside) z.agrees.root ∙ s.root;
     things = z.things;
     cells = z.cells;
     events = λ y Y u. ⊎_elim (λ q. here y Y q) (λ v. old y Y v) (upto_split u);

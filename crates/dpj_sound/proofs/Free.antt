@@ -7,8 +7,8 @@ use Rattle.dpj_typed.specs.Plain.{PlainProgram}
 use Rattle.dpj_runs.specs.Actions.{Program, Branches, Action, Fork}
 use Rattle.dpj_runs.specs.Objects.{Path, Name, Made, Cell}
 use Rattle.dpj_runs.specs.Order.{Unordered, Conflict, read_write, write_read, write_write, Reads, Writes}
-use Rattle.dpj_runs.specs.Runs.{Event, Run, Upto, mine, count, Faithful}
-use Rattle.dpj_runs.proofs.Faithful.{ForkAt, fork_upto, fork_above}
+use Rattle.dpj_runs.specs.Runs.{Event, Run, Upto, mine, count, Begun, Faithful}
+use Rattle.dpj_runs.proofs.Faithful.{ForkAt, fork_upto, fork_above, follows_at, begun_upto}
 use Rattle.dpj_runs.proofs.Mine.{same_of}
 use Rattle.dpj_runs.proofs.Things.{same_some}
 use Rattle.dpj_runs.proofs.Upto.{upto_trans, upto_tail}
@@ -101,14 +101,20 @@ module _ (P : PlainProgram) (arg : ℤ) {N : ℕ} {R : Run} (l : Faithful (stepp
       let f = fork_of_event [] (xs ++ u ∷ q) v h e in
       lies_above xs q u f.stands f.path a (one_up (xs ++ u ∷ q) v f a k)
 
-  -- two accesses that meet do so as the fork of their branches lets them
-  pub record Met (a c : Access) : Type 0 where
+  -- a task that has made an event has its name
+  pub path_of : (q : Path) {Y : Run} {y : Event} → Upto (y ∷ Y) R → y.path ≡ q → (s.keeping q).bounds.path ≡ q
+  path_of q h e = (let a = follows_at Q h l in (s.tasks q a.task (subst (λ p. Begun Q R p a.task) e (begun_upto (upto_tail h) a.begun))).path)
+
+  -- two accesses that meet do so as the fork of their branches lets them, and in no region that a task of these branches has made
+  pub record Met (p q : Path) (a c : Access) : Type 0 where
     pub tasks : Branches
     pub calm : CalmFork P tasks.kind tasks.tasks
     pub may : MayMeet P tasks.kind a c
+    pub first_own : InOwnRegion p a.region → ⊥
+    pub second_own : InOwnRegion q c.region → ⊥
 
-  pub met : {X Y : Run} {x y : Event} → Upto (x ∷ X) R → Upto (y ∷ Y) R → (n : Unordered x.path y.path) → (a c : Access) → Lies (s.keeping x.path).bounds a → Lies (s.keeping y.path).bounds c → Meet a c → Met a c
-  met {x = x} {y = y} hx hy n a c la lc m = record { tasks = f.tasks; calm = ok.calm; may = both up_a.effects up_c.effects }
+  pub met : {X Y : Run} {x y : Event} → Upto (x ∷ X) R → Upto (y ∷ Y) R → (n : Unordered x.path y.path) → (a c : Access) → Lies (s.keeping x.path).bounds a → Lies (s.keeping y.path).bounds c → Meet a c → Met (n.u ∷ n.above) (n.v ∷ n.above) a c
+  met {x = x} {y = y} hx hy n a c la lc m = both up_a.effects up_c.effects
     where
       f : ForkAt R n.above n.u
       f = fork_of_event n.below_p n.above n.u hx n.p_is
@@ -131,8 +137,11 @@ module _ (P : PlainProgram) (arg : ℤ) {N : ℕ} {R : Run} (l : Faithful (stepp
       b : Bounds
       b = (s.keeping n.above).bounds
 
-      number : ℕ
-      number = count f.before n.above
+      own_path : b.path ≡ n.above
+      own_path = path_of n.above f.stands f.path
+
+      path_at : (w : ℕ × ℕ) → w.0 ≡ count f.before n.above → w ∷ n.above ≡ (count f.before n.above, w.1) ∷ b.path
+      path_at w e = (let p = sym own_path in λ i. (e i, w.1) ∷ p i)
 
       up_a : Lies (branch_kept (s.keeping n.above).bounds ok.state ok.forks (count f.before n.above) n.u.1).bounds a
       up_a = subst (λ (k : Kept). Lies k.bounds a) (ap (λ z. s.keeping ((z, n.u.1) ∷ n.above)) (sym f.number) ∙ ok.kept n.u.1)
@@ -143,8 +152,18 @@ module _ (P : PlainProgram) (arg : ℤ) {N : ℕ} {R : Run} (l : Faithful (stepp
           (lies_above n.below_q n.above n.v hy n.q_is c (subst (λ p. Lies (s.keeping p).bounds c) n.q_is lc))
 
       both : LiesIn (ok.forks.setting n.u.1) (ok.forks.effects n.u.1) a ⊎ InOwnRegion ((count f.before n.above, n.u.1) ∷ b.path) a.region →
-          LiesIn (ok.forks.setting n.v.1) (ok.forks.effects n.v.1) c ⊎ InOwnRegion ((count f.before n.above, n.v.1) ∷ b.path) c.region → MayMeet P f.tasks.kind a c
-      both (inl i) (inl j) = ok.forks.apart n.u.1 n.v.1 n.apart (slice_get_within f.tasks.tasks n.u.1 f.task f.is_there) (slice_get_within f.tasks.tasks n.v.1 g.task there) a c m i j
+          LiesIn (ok.forks.setting n.v.1) (ok.forks.effects n.v.1) c ⊎ InOwnRegion ((count f.before n.above, n.v.1) ∷ b.path) c.region → Met (n.u ∷ n.above) (n.v ∷ n.above) a c
+      both (inl i) (inl j) = record {
+        tasks = f.tasks;
+        calm = ok.calm;
+        may = ok.forks.apart n.u.1 n.v.1 n.apart (slice_get_within f.tasks.tasks n.u.1 f.task f.is_there) (slice_get_within f.tasks.tasks n.v.1 g.task there) a c m i j;
+        first_own = λ o. (let ff = (ok.forks.branch n.v.1 g.task there).fits 0 in
+            own_not_spoken b.path (count f.before n.above, n.u.1) 0 n.v.1 (ok.forks.setting n.v.1) ff.plain ff.old (ok.forks.effects n.v.1) c
+            (subst (InOwnRegion ((count f.before n.above, n.u.1) ∷ b.path)) m.region (subst (λ p. InOwnRegion p a.region) (path_at n.u (sym f.number)) o)) j);
+        second_own = λ o. (let ff = (ok.forks.branch n.u.1 f.task f.is_there).fits 0 in
+            own_not_spoken b.path (count f.before n.above, n.v.1) 0 n.u.1 (ok.forks.setting n.u.1) ff.plain ff.old (ok.forks.effects n.u.1) a
+            (subst (InOwnRegion ((count f.before n.above, n.v.1) ∷ b.path)) (sym m.region) (subst (λ p. InOwnRegion p c.region) (path_at n.v (sym (f.number ∙ n.one_fork))) o)) i);
+      }
       both (inl i) (inr j) =
           let ff = (ok.forks.branch n.u.1 f.task f.is_there).fits 0 in
           absurd (own_not_spoken b.path (count f.before n.above, n.v.1) 0 n.u.1 (ok.forks.setting n.u.1) ff.plain ff.old (ok.forks.effects n.u.1) a
@@ -176,7 +195,7 @@ module _ (P : PlainProgram) (arg : ℤ) {N : ℕ} {R : Run} (l : Faithful (stepp
   clash_of hx hy (write_read c w r) = record { cell = c; left = true; right = false; first = write_ok hx c w; second = read_ok hy c r; write = refl }
   clash_of hx hy (write_write c v w) = record { cell = c; left = true; right = true; first = write_ok hx c v; second = write_ok hy c w; write = refl }
 
-  pub clash_met : {X Y : Run} {x y : Event} → Upto (x ∷ X) R → Upto (y ∷ Y) R → Unordered x.path y.path → (k : Clash X x Y y) → Met (access k.first) (access k.second)
+  pub clash_met : {X Y : Run} {x y : Event} → Upto (x ∷ X) R → Upto (y ∷ Y) R → (n : Unordered x.path y.path) → (k : Clash X x Y y) → Met (n.u ∷ n.above) (n.v ∷ n.above) (access k.first) (access k.second)
   clash_met hx hy n k = met hx hy n (access k.first) (access k.second) (access_lies k.first) (access_lies k.second) (one_place k.first k.second k.write)
 
 -- so no legal run of a program without nd constructs has unordered conflicts

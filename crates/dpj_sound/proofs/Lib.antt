@@ -1,6 +1,7 @@
 pub mod Acting
 pub mod Alike
 pub mod Atomic
+pub mod Barred
 pub mod Blocks
 pub mod Branching
 pub mod Calls

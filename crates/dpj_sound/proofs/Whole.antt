@@ -86,6 +86,7 @@ module _ (P : PlainProgram) (wt : WellTyped P) (arg : ℤ) (small : FitsSigned w
   at_the_start N = record {
     shapes = (start P).shapes;
     keeping = λ p. main_kept;
+    root = refl;
     things = λ n z q. (let f = first_shape n z q in (Q.object, subst (λ x. thing_of Q [] x ≡ Some Q.object) f.0 first_there, subst (λ y. Describes P y Q.object) f.1 first_is));
     cells = λ n z t k env ty a q there cell.
         (let f = first_shape n z q in
