@@ -1,23 +1,19 @@
 -- Effects of entries that speak of one cell, of which one writes, interfere: regions that are apart match no common region.
-use Rattle.std.proofs.Common.{arith, ◌≡◌, ◌⊎◌, ⊎_elim, inl, inr, ℕ, zero, suc, ℤ, pos, ◌+◌, Bool, true, false, not, cond, ◌||◌, ◌&&◌, ◌==◌, List, [], ◌∷◌, ◌++◌, map, length, reverse, refl, sym, ap, ◌∙◌, subst}
+use Rattle.std.proofs.Common.{arith, ◌≡◌, ⊎_elim, inl, inr, pos, ◌+◌, Bool, true, false, not, cond, ◌||◌, ◌&&◌, ◌==◌, List, [], ◌∷◌, ◌++◌, map, reverse, refl, sym, ap, ◌∙◌, subst}
 use Rattle.std.specs.Prelude.{nat_lt}
-use Rattle.std.specs.Ordering.{int_eq}
-use Rattle.std.proofs.lemmas.Bool.{and_from, and_parts, cases_Bool, or_left, or_right, or_cases, false≢true, false_from_ne_true, eq-eqb, eqb-true}
+use Rattle.std.proofs.lemmas.Bool.{and_from, and_parts, or_left, or_right, or_cases, false≢true, false_from_ne_true, eq-eqb, eqb-true}
 use Rattle.std.proofs.lemmas.List.{length-map, map-append, reverse-append}
 use Rattle.std.proofs.lemmas.List.Sums.{sum_by-cons}
 use Rattle.dpj_base.specs.declared.elems.Elem.{Elem}
-use Rattle.dpj_base.specs.declared.elems.Elem.TheVariants as elem
-use Rattle.dpj_base.specs.declared.elems.Index.TheVariants as index
-use Rattle.dpj_base.specs.declared.region.Rpl.{Rpl}
 use Rattle.dpj_base.specs.Apart as paths
 use Rattle.dpj_base.specs.Regions.{is_star as is_star_elem}
 use Rattle.dpj_base.specs.Effects.{is_write}
 use Rattle.dpj_base.specs.Matching.{IsEnv, Matches}
 use Rattle.dpj_disjoint.proofs.Envs.{no_common}
 use Rattle.dpj_disjoint.proofs.Lists.{solid-cons}
-use Rattle.dpj_runs.specs.Objects.{Path, LocalRegion, Made, Unmade, Part, Region_name, Number, Local, Own_index, Any_index, Any_parts, Region, Effect}
+use Rattle.dpj_runs.specs.Objects.{LocalRegion, Made, Unmade, Part, Region_name, Number, Local, Own_index, Any_index, Any_parts, Region, Effect}
 use Rattle.dpj_runs.proofs.Mine.{test_same}
-use Rattle.dpj_steps.specs.Interfering.{same_local, is_star, is_other_name, is_other_local, is_name, distinct, apart_front, solid, shorter, apart, interferes, some_interferes, lists_interfere, lets}
+use Rattle.dpj_steps.specs.Interfering.{same_local, is_star, distinct, apart_front, solid, shorter, apart, interferes, some_interferes, lists_interfere, lets}
 use Rattle.dpj_sound.specs.Settings.{local_code, elem_of, elems_of}
 use Rattle.dpj_sound.specs.Accesses.{Access, as_path, run_env, LiesInEntry}
 use Rattle.dpj_sound.proofs.Codes.{code_one}

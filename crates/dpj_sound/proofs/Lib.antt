@@ -20,6 +20,7 @@ pub mod Forking
 pub mod Forks
 pub mod Frames
 pub mod Free
+pub mod Guarding
 pub mod InEffects
 pub mod InScope
 pub mod Indices

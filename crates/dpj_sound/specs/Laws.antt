@@ -21,7 +21,10 @@ use Rattle.dpj_meaning.specs.Expressions.{Deeper as DeeperOf, of_expr}
 use Rattle.dpj_meaning.specs.Statements.{of_stmts}
 use Rattle.dpj_runs.specs.Actions.{Task}
 use Rattle.dpj_runs.specs.Objects.{Name, LocalRegion, same_name}
+use Rattle.dpj_moving.specs.Guarded.{ConflictsGuarded}
+use Rattle.dpj_runs.specs.Blocks.{Legal}
 use Rattle.dpj_runs.specs.Laws.{AllFree}
+use Rattle.dpj_runs.specs.Runs.{Run}
 use Rattle.dpj_steps.specs.Steps.{named_by, first_name, stepped}
 use Rattle.dpj_typed.specs.Table.{body_scope}
 use Rattle.dpj_meaning.specs.Asking.{meaning, does}
@@ -135,3 +138,7 @@ NdIterationsQuiet = (P : PlainProgram) (given : List Constraint) (params : List 
 -- no legal run of a program without nd constructs has two unordered events that conflict, on any argument of 32 bits
 abbrev pub RunsAreFree : Type 0
 RunsAreFree = (P : PlainProgram) → WellTyped P → P.uses_nd ≡ false → (arg : ℤ) → FitsSigned w32 arg → AllFree (stepped P arg)
+
+-- and of every program, unordered events that conflict stand inside blocks, and where these are two blocks the rule keeps them apart
+abbrev pub ConflictsAreGuarded : Type 0
+ConflictsAreGuarded = (P : PlainProgram) → WellTyped P → (arg : ℤ) → FitsSigned w32 arg → (R : Run) → Legal (stepped P arg) R → ConflictsGuarded (stepped P arg).rule R

@@ -1,5 +1,6 @@
 use Rattle.dpj_sound.proofs.Free.{runs_are_free}
+use Rattle.dpj_sound.proofs.Guarding.{conflicts_are_guarded}
 use Rattle.dpj_sound.proofs.laws.law_runs.Goals as goal
 
 pub returns : goal.returns
-returns c = runs_are_free
+returns c = record { free = runs_are_free; guarded = conflicts_are_guarded }
