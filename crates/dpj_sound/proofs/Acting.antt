@@ -1,6 +1,6 @@
 -- One more event of what a task does by itself: it is in order where the task stands, it is answered as its shapes say, and what
 -- stands in cells still fits.
-use Rattle.std.proofs.Common.{◌≡◌, ◌≤◌, ◌+◌, ◌⊎◌, ⊎_elim, inl, inr, ℕ, zero, suc, ℤ, pos, Bool, true, cond, List, [], ◌∷◌, ◌++◌, length, reverse, refl, sym, ap, ◌∙◌, subst, arith, append_assoc, Option, Some, None, slice_get}
+use Rattle.std.proofs.Common.{◌≡◌, ◌≤◌, ◌+◌, ◌⊎◌, ⊎_elim, inl, inr, ℕ, zero, suc, ℤ, pos, Bool, true, cond, List, [], ◌∷◌, ◌++◌, length, reverse, refl, sym, ap, ◌∙◌, subst, arith, append_assoc, append-nil, Option, Some, None, slice_get}
 use Rattle.std.proofs.lemmas.Bool.{cond-true, cond-false, cases_Bool, and_from, eq-eqb}
 use Rattle.std.proofs.lemmas.List.{reverse-append}
 use Rattle.std.proofs.lemmas.Option.{slice_get_past}
@@ -12,9 +12,9 @@ use Rattle.dpj_runs.specs.Actions.{Program, Task, Own, Rest, Read, Write, Look, 
 use Rattle.dpj_runs.specs.Blocks.{Hold, Out_of, In_block, own_hold, hold_after, hold}
 use Rattle.dpj_runs.specs.Objects.{Path, Name, same_name, Thing, Effect, Cell, Value, or_else, size, first_value, slot_of}
 use Rattle.dpj_runs.specs.Order.{Writes}
-use Rattle.dpj_runs.specs.Runs.{Event, Run, now, later, mine, answers, Follows, Faithful, at_start, made, made_by, things, thing_of, value_in, last_written, first_some, read_at, wrote_at, seen, reply}
+use Rattle.dpj_runs.specs.Runs.{Event, Run, now, later, mine, answers, Follows, Faithful, at_start, made, made_by, own_made, things, thing_of, value_in, last_written, first_some, read_at, wrote_at, seen, reply}
 use Rattle.dpj_runs.proofs.Cells.{Written, it_does, it_does_not, writes, last_step, LastWrite, last_write, none, some, slot_is, same_name_eq}
-use Rattle.dpj_runs.proofs.Mine.{mine_same, test_same}
+use Rattle.dpj_runs.proofs.Mine.{mine_same, mine_other, path_cases, test_same}
 use Rattle.dpj_runs.proofs.Things.{thing_later, same_some, answering}
 use Rattle.dpj_sound.specs.Shapes.{Shape, Shapes, Grows, FitsIn, CellAt, Describes}
 use Rattle.dpj_sound.specs.Frames.{State}
@@ -32,6 +32,12 @@ things_step e es = refl
 last_there : {A : Type 0} (xs : List A) (x : A) → slice_get (xs ++ x ∷ []) (length xs) ≡ Some x
 last_there [] x = refl
 last_there (y ∷ xs) x = last_there xs x
+
+snoc_cases : {A : Type 0} (xs : List A) (x y : A) (n : ℕ) → slice_get (xs ++ x ∷ []) n ≡ Some y → (slice_get xs n ≡ Some y) ⊎ (n ≡ length xs)
+snoc_cases [] x y zero h = inr refl
+snoc_cases [] x y (suc n) h = absurd (let k : None ≡ Some y = h in cc)
+snoc_cases (z ∷ xs) x y zero h = inl h
+snoc_cases (z ∷ xs) x y (suc n) h = ⊎_elim (λ k. inl k) (λ k. inr (ap (λ m. suc m) k)) (snoc_cases xs x y n h)
 
 same_name_self : (n : Name) → same_name n n ≡ true
 same_name_self n = and_from _ _ (test_same n.maker n.maker refl) (eq-eqb n.count n.count refl)
@@ -133,6 +139,14 @@ module _ (P : PlainProgram) (Q : Program) {N : ℕ} {R : Run} {e : Event} (l : F
   pub same_things : (n : Name) (z : Shape) → s.shapes n ≡ Some z → (u : Thing) × (thing_of Q (e ∷ R) n ≡ Some u) × Describes P z u
   same_things n z q = (let t = s.things n z q in (t.0, thing_later Q n t.0 (later now) t.1, t.2))
 
+  -- and nothing else is made
+  pub same_shaped : made_by e.act ≡ [] → (n : Name) (u : Thing) → thing_of Q (e ∷ R) n ≡ Some u → (z : Shape) × (s.shapes n ≡ Some z)
+  same_shaped nothing n u there = s.shaped n u (sym (ap (λ g. slice_get (at_start Q n.maker ++ g) n.count) (kept_things (path_cases e.path n.maker))) ∙ there)
+    where
+      kept_things : (e.path ≡ n.maker) ⊎ (e.path ≡ n.maker → ⊥) → things (mine (e ∷ R) n.maker) ≡ things (mine R n.maker)
+      kept_things (inl h) = ap things (mine_same e R n.maker h) ∙ things_step e (mine R n.maker) ∙ ap (λ g. things (mine R n.maker) ++ g) nothing ∙ append-nil (things (mine R n.maker))
+      kept_things (inr h) = ap things (mine_other e R n.maker h)
+
   abbrev pub WroteFits : Type 0
   WroteFits = (c : Cell) (w : Writes c e) (z : Shape) (env : Env) (ty : PlainType) (r : Rpl) → s.shapes c.object ≡ Some z → CellAt P z (pos c.slot) env ty r → FitsIn P s.shapes env ty w.value
 
@@ -194,13 +208,14 @@ module _ (P : PlainProgram) (Q : Program) {N : ℕ} {R : Run} {e : Event} (l : F
         S (λ n z q. q) (ap (λ c. hold_after c (hold (mine R e.path))) act ∙ ap (own_hold o) held ∙ hold_own o st.entries) (branches_of P Q s.keeping e.path) tt
 
     -- where nothing is made
-    same_step : Answers P kept.bounds st o m e.ans (state_after st o s.shapes) → OwnOk P Q kept s.shapes (mine R e.path) o → WroteFits → Step P Q N R e a.task s
-    same_step fits ok wrote = record {
+    same_step : own_made o ≡ [] → Answers P kept.bounds st o m e.ans (state_after st o s.shapes) → OwnOk P Q kept s.shapes (mine R e.path) o → WroteFits → Step P Q N R e a.task s
+    same_step nothing fits ok wrote = record {
       shapes = s.shapes;
       grows = λ n z q. q;
       keeping = s.keeping;
       agrees = agrees_self P Q R s.keeping;
       things = same_things;
+      shaped = same_shaped (ap made_by act ∙ nothing);
       cells = old_cells wrote;
       event = subst (λ c. EventOk P Q kept (branches_of P Q s.keeping e.path) s.shapes R e.path c) (sym act) ok;
       own = comes s.shapes (λ n z q. q) fits;
@@ -255,6 +270,8 @@ module _ (P : PlainProgram) (Q : Program) {N : ℕ} {R : Run} {e : Event} (l : F
     keeping = s.keeping;
     agrees = agrees_self P Q R s.keeping;
     things = λ n z q. ⊎_elim (λ w. (t, subst (λ x. thing_of Q (e ∷ R) x ≡ Some t) w.0 has_one, subst (λ x. Describes P x t) w.1 m.1)) (λ w. same_things n z w) (new_or_old m.0 n z q);
+    shaped = λ n u there. ⊎_elim (λ q. (m.0, subst (λ x. with_new m.0 x ≡ Some m.0) q (cond-true (same_name new_name new_name) (Some m.0) (s.shapes new_name) (same_name_self new_name))))
+        (λ q. (let z = s.shaped n u q in (z.0, old_shapes m.0 n z.0 z.1))) (new_or_kept n u there (path_cases e.path n.maker));
     cells = λ n z u k env ty r q there cell. fits_grown n z u k env ty r (new_or_old m.0 n z q) there cell;
     event = subst (λ x. EventOk P Q kept (branches_of P Q s.keeping e.path) (with_new m.0) R e.path x) (sym act) tt;
     own = comes d en st grown held (New t c) act m then (with_new m.0) (old_shapes m.0) (new_name, ans, cond-true (same_name new_name new_name) (Some m.0) (s.shapes new_name) (same_name_self new_name));
@@ -268,6 +285,12 @@ module _ (P : PlainProgram) (Q : Program) {N : ℕ} {R : Run} {e : Event} (l : F
 
       has_one : thing_of Q (e ∷ R) new_name ≡ Some t
       has_one = ap (λ g. slice_get g (length (made Q R e.path))) made_now ∙ last_there (made Q R e.path) t
+
+      new_or_kept : (n : Name) (u : Thing) → thing_of Q (e ∷ R) n ≡ Some u → (e.path ≡ n.maker) ⊎ (e.path ≡ n.maker → ⊥) → (new_name ≡ n) ⊎ (thing_of Q R n ≡ Some u)
+      new_or_kept n u there (inr h) = inr (sym (ap (λ g. slice_get (at_start Q n.maker ++ things g) n.count) (mine_other e R n.maker h)) ∙ there)
+      new_or_kept n u there (inl h) =
+          let now' : slice_get (made Q R e.path ++ t ∷ []) n.count ≡ Some u = ap (λ g. slice_get g n.count) (sym made_now ∙ ap (made Q (e ∷ R)) h) ∙ there in
+          ⊎_elim (λ k. inr (ap (λ p. slice_get (made Q R p) n.count) (sym h) ∙ k)) (λ k. inl (let c = sym k in λ i. record { maker = h i; count = c i })) (snoc_cases (made Q R e.path) t u n.count now')
 
       none_written : (c : Cell) → Writes c e → ⊥
       none_written k w = let z : Do (New t c) ≡ Do (Write k.object (pos k.slot) w.value) = sym act ∙ w.act in cc
@@ -289,11 +312,11 @@ module _ (P : PlainProgram) (Q : Program) {N : ℕ} {R : Run} {e : Event} (l : F
       reply Q R e.path o ≡ Some e.ans → Step P Q N R e a.task s
   own_step d en st grown held (Read n i) act m then r =
       let z = answering (λ t. read_at R t n (slot_of i (size t))) (thing_of Q R n) e.ans r in
-      same_step d en st grown held (Read n i) act m then (subst (λ x. ReadFits m.cell s.shapes x) (sym z.answer) (read_fits st.shapes m.cell grown z.thing z.is_there))
+      same_step d en st grown held (Read n i) act m then refl (subst (λ x. ReadFits m.cell s.shapes x) (sym z.answer) (read_fits st.shapes m.cell grown z.thing z.is_there))
       (record { state = st; reaches = m; grown = grown; held = held }) (no_write (Read n i) act (λ x j v q. cc))
   own_step d en st grown held (Write n i v) act m then r =
       let z = answering (λ t. wrote_at (slot_of i (size t))) (thing_of Q R n) e.ans r in
-      same_step d en st grown held (Write n i v) act m then (subst (λ x. WriteFits m.0.cell x) (sym z.answer) (write_fits st.shapes m.0.cell grown z.thing z.is_there))
+      same_step d en st grown held (Write n i v) act m then refl (subst (λ x. WriteFits m.0.cell x) (sym z.answer) (write_fits st.shapes m.0.cell grown z.thing z.is_there))
       (record { state = st; reaches = m.0; grown = grown; held = held }) wrote
     where
       wrote : WroteFits
@@ -309,11 +332,11 @@ module _ (P : PlainProgram) (Q : Program) {N : ℕ} {R : Run} {e : Event} (l : F
           (one_cell there cell (λ env ty rpl. FitsIn P s.shapes env ty v) (fits_grows P st.shapes s.shapes grown m.0.cell.env m.0.cell.ty v m.1))
   own_step d en st grown held (Look n) act m then r =
       let z = answering seen (thing_of Q R n) e.ans r in
-      same_step d en st grown held (Look n) act m then (subst (λ x. LookFits m.0 x) (sym z.answer) (look_fits P m.0 z.thing (thing_is n m.0 z.thing (grown n m.0 m.1) z.is_there))) tt
+      same_step d en st grown held (Look n) act m then refl (subst (λ x. LookFits m.0 x) (sym z.answer) (look_fits P m.0 z.thing (thing_is n m.0 z.thing (grown n m.0 m.1) z.is_there))) tt
       (no_write (Look n) act (λ x j v q. cc))
   own_step d en st grown held (New t c) act m then r = made_step d en st grown held t c act m then (let k : Some (Named new_name) ≡ Some e.ans = r in cc)
-  own_step d en st grown held Rest act m then r = same_step d en st grown held Rest act m then (let k : Some Went ≡ Some e.ans = r in cc) tt (no_write Rest act (λ x j v q. cc))
+  own_step d en st grown held Rest act m then r = same_step d en st grown held Rest act m then refl (let k : Some Went ≡ Some e.ans = r in cc) tt (no_write Rest act (λ x j v q. cc))
   own_step d en st grown held (Print bytes) act m then r =
-      same_step d en st grown held (Print bytes) act m then (let k : Some Went ≡ Some e.ans = r in cc) tt (no_write (Print bytes) act (λ x j v q. cc))
-  own_step d en st grown held (Enter E) act m then r = same_step d en st grown held (Enter E) act m then (let k : Some Went ≡ Some e.ans = r in cc) tt (no_write (Enter E) act (λ x j v q. cc))
-  own_step d en st grown held Exit act m then r = same_step d en st grown held Exit act m then (let k : Some Went ≡ Some e.ans = r in cc) tt (no_write Exit act (λ x j v q. cc))
+      same_step d en st grown held (Print bytes) act m then refl (let k : Some Went ≡ Some e.ans = r in cc) tt (no_write (Print bytes) act (λ x j v q. cc))
+  own_step d en st grown held (Enter E) act m then r = same_step d en st grown held (Enter E) act m then refl (let k : Some Went ≡ Some e.ans = r in cc) tt (no_write (Enter E) act (λ x j v q. cc))
+  own_step d en st grown held Exit act m then r = same_step d en st grown held Exit act m then refl (let k : Some Went ≡ Some e.ans = r in cc) tt (no_write Exit act (λ x j v q. cc))

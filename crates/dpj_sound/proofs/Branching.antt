@@ -22,7 +22,7 @@ use Rattle.dpj_runs.specs.Actions.{Program, Task, Branches, Action, Do, Fork, Be
 use Rattle.dpj_runs.specs.Blocks.{hold_after, hold}
 use Rattle.dpj_runs.specs.Meaning.{Disciplined}
 use Rattle.dpj_runs.specs.Objects.{Path, same_path, Name, LocalRegion, Value, Null}
-use Rattle.dpj_runs.specs.Runs.{Event, Run, Upto, now, later, mine, answers, count, Begun, root, branch, Follows, Faithful, Right, Joins}
+use Rattle.dpj_runs.specs.Runs.{Event, Run, Upto, now, later, made_by, mine, answers, count, Begun, root, branch, Follows, Faithful, Right, Joins}
 use Rattle.dpj_runs.proofs.Faithful.{follows_at, own_fork, one_fork}
 use Rattle.dpj_runs.proofs.Mine.{mine_same, mine_other, same_of, number_of, same_path_eq, test_same, found}
 use Rattle.dpj_runs.proofs.Upto.{upto_trans, upto_tail}
@@ -34,7 +34,7 @@ use Rattle.dpj_sound.specs.Frames.{State, Since}
 use Rattle.dpj_sound.specs.Branches.{Forks, Brings, Returned as ReturnedOf}
 use Rattle.dpj_sound.specs.Laws.{Leaves, branch_bounds}
 use Rattle.dpj_sound.specs.Work.{Result}
-use Rattle.dpj_sound.proofs.Acting.{Now, now_asked, own_stands, own_step, same_things, old_cells, stand, copies, replies, WroteFits}
+use Rattle.dpj_sound.proofs.Acting.{Now, now_asked, own_stands, own_step, same_things, same_shaped, old_cells, stand, copies, replies, WroteFits}
 use Rattle.dpj_sound.proofs.Calm.{task_calm}
 use Rattle.dpj_sound.proofs.Carried.{end_grows, Agrees, agrees_self, agrees_task, NewTask, Step}
 use Rattle.dpj_sound.proofs.Moments.{Moment, at, forked, state_of, having_left, EndFits, CalmFork, MayDo, Comes, Goes, goes_same, told_on}
@@ -156,15 +156,16 @@ module _ (P : PlainProgram) (wt : WellTyped P) (arg : ℤ) {N : ℕ} {R : Run} {
   GoesOn d h = Goes P bounds scope a.task.work.copies d h (λ xs. replies P Q l s a room (e.ans ∷ xs))
 
   -- what stays at an event that is no action of a task's own
-  still_there : (K : Path → Kept) → Agrees P Q R s.keeping K → WroteFits P Q l s a room →
+  still_there : (K : Path → Kept) → Agrees P Q R s.keeping K → made_by e.act ≡ [] → WroteFits P Q l s a room →
       EventOk P Q (K e.path) (branches_of P Q K e.path) s.shapes R e.path e.act → Stands P Q N (e ∷ R) (K e.path) (branches_of P Q K e.path) s.shapes e.path a.task →
       ((q : Path) (z : Task) → NewTask R e q z → Stands P Q N (e ∷ R) (K q) (branches_of P Q K q) s.shapes q z) → Step P Q N R e a.task s
-  still_there K agrees wrote ok own new = record {
+  still_there K agrees none wrote ok own new = record {
     shapes = s.shapes;
     grows = λ n z q. q;
     keeping = K;
     agrees = agrees;
     things = same_things P Q l s a room;
+    shaped = same_shaped P Q l s a room none;
     cells = old_cells P Q l s a room wrote;
     event = ok;
     own = own;
@@ -174,7 +175,7 @@ module _ (P : PlainProgram) (wt : WellTyped P) (arg : ℤ) {N : ℕ} {R : Run} {
   fork_step : (d : ℕ) → suc N ≤ d + length (e ∷ R) → (st : State) → Grows st.shapes s.shapes → hold (mine R e.path) ≡ hold_of st.entries → (ts : Branches) → e.act ≡ Fork ts →
       (forks : Forks P bounds st ts.kind ts.tasks) → CalmFork P ts.kind ts.tasks → GoesOn d (forked st ts.kind ts.tasks forks 0) → Step P Q N R e a.task s
   fork_step d en st grown held ts act forks calm goes =
-      still_there K agrees (λ c w z env ty r q cell. absurd (let k : Fork ts ≡ Do _ = sym act ∙ w.act in cc))
+      still_there K agrees (ap made_by act) (λ c w z env ty r q cell. absurd (let k : Fork ts ≡ Do _ = sym act ∙ w.act in cc))
       (subst (λ c. EventOk P Q (K e.path) (branches_of P Q K e.path) s.shapes R e.path c) (sym act)
       (subst (λ (k : Kept). EventOk P Q k (branches_of P Q K e.path) s.shapes R e.path (Fork ts)) (sym same)
       (record { state = st; forks = forks; calm = calm; grown = grown; held = held; kept = λ i. extended_here s.keeping e.path (count R e.path) new_kept i })))
@@ -254,7 +255,7 @@ module _ (P : PlainProgram) (wt : WellTyped P) (arg : ℤ) {N : ℕ} {R : Run} {
       hold (mine R e.path) ≡ hold_of st.entries → AtFork P Q R e.path (s.keeping e.path).bounds (branches_of P Q s.keeping e.path) st forking ts forks n → (i : ℕ) → e.act ≡ Begin i →
       GoesOn d (forked st forking ts forks (suc n)) → Step P Q N R e a.task s
   begin_step d en st forking ts forks n grown held af i act goes =
-      still_there s.keeping (agrees_self P Q R s.keeping) (λ c w z env ty r q cell. absurd (let k : Begin i ≡ Do _ = sym act ∙ w.act in cc))
+      still_there s.keeping (agrees_self P Q R s.keeping) (ap made_by act) (λ c w z env ty r q cell. absurd (let k : Begin i ≡ Do _ = sym act ∙ w.act in cc))
       (subst (λ c. EventOk P Q (s.keeping e.path) (branches_of P Q s.keeping e.path) s.shapes R e.path c) (sym act) tt)
       (own_stands P Q l s a room d en (forked st forking ts forks (suc n)) goes s.shapes grown (ap (λ c. hold_after c (hold (mine R e.path))) act ∙ held) (branches_of P Q s.keeping e.path) (record {
         before = af.before;
@@ -270,7 +271,7 @@ module _ (P : PlainProgram) (wt : WellTyped P) (arg : ℤ) {N : ℕ} {R : Run} {
   end_step : (d : ℕ) → suc N ≤ d + length (e ∷ R) → (st : State) → Grows st.shapes s.shapes → (x : Ending) → e.act ≡ End x →
       EndFits P (s.keeping e.path).bounds (s.keeping e.path).scope a.task.work.copies st.shapes x → GoesOn d (at (having_left st)) → Step P Q N R e a.task s
   end_step d en st grown x act fits goes =
-      still_there s.keeping (agrees_self P Q R s.keeping) (λ c w z env ty r q cell. absurd (let k : End x ≡ Do _ = sym act ∙ w.act in cc))
+      still_there s.keeping (agrees_self P Q R s.keeping) (ap made_by act) (λ c w z env ty r q cell. absurd (let k : End x ≡ Do _ = sym act ∙ w.act in cc))
       (subst (λ c. EventOk P Q (s.keeping e.path) (branches_of P Q s.keeping e.path) s.shapes R e.path c) (sym act)
       (a.task, a.begun, end_grows P bounds scope a.task.work.copies st.shapes s.shapes grown x fits))
       (own_stands P Q l s a room d en (at (having_left st)) goes s.shapes grown (ap (λ c. hold_after c (hold (mine R e.path))) act) (branches_of P Q s.keeping e.path) tt)
@@ -280,7 +281,7 @@ module _ (P : PlainProgram) (wt : WellTyped P) (arg : ℤ) {N : ℕ} {R : Run} {
       hold (mine R e.path) ≡ hold_of st.entries → AtFork P Q R e.path (s.keeping e.path).bounds (branches_of P Q s.keeping e.path) st forking ts forks n → e.act ≡ Join → n ≡ length ts →
       ((u : State) → Since st u → u.made ≡ st.made → Brings P (s.keeping e.path).bounds st forking ts forks u (brought e.ans) → GoesOn d (at u)) → Joins R e.path e.ans → Step P Q N R e a.task s
   join_step d en st forking ts forks n grown held af act all goes j =
-      still_there s.keeping (agrees_self P Q R s.keeping) (λ c w z env ty r q cell. absurd (let k : Join ≡ Do _ = sym act ∙ w.act in cc))
+      still_there s.keeping (agrees_self P Q R s.keeping) (ap made_by act) (λ c w z env ty r q cell. absurd (let k : Join ≡ Do _ = sym act ∙ w.act in cc))
       (subst (λ c. EventOk P Q (s.keeping e.path) (branches_of P Q s.keeping e.path) s.shapes R e.path c) (sym act) tt)
       (own_stands P Q l s a room d en (at u) (goes u (record { grows = grown; made = omega arith; entries = refl }) refl (subst (λ x. Brings P bounds st forking ts forks u (brought x)) (sym j.answer) (brings (first_trap j.ends))))
       s.shapes (λ x y w. w) (ap (λ c. hold_after c (hold (mine R e.path))) act ∙ held) (branches_of P Q s.keeping e.path) tt)

@@ -70,7 +70,7 @@ module _ (P : PlainProgram) (Q : Program) where
   own_grows k S T es g (Enter E) h = tt
   own_grows k S T es g Exit h = tt
 
-  event_later : (k : Kept) (B C : ℕ → ℕ → Kept) (S T : Shapes) (Y : Run) (p : Path) → Grows S T → ((i : ℕ) → C (count Y p) i ≡ B (count Y p) i) → (a : Action) →
+  pub event_later : (k : Kept) (B C : ℕ → ℕ → Kept) (S T : Shapes) (Y : Run) (p : Path) → Grows S T → ((i : ℕ) → C (count Y p) i ≡ B (count Y p) i) → (a : Action) →
       EventOk P Q k B S Y p a → EventOk P Q k C T Y p a
   event_later k B C S T Y p g c (Do o) h = own_grows k S T (mine Y p) g o h
   event_later k B C S T Y p g c (Fork ts) h = record {
@@ -99,7 +99,7 @@ module _ (P : PlainProgram) (Q : Program) where
   }
 
   -- a task that doesn't act
-  stands_later : (N : ℕ) (R : Run) (e : Event) (k : Kept) (B C : ℕ → ℕ → Kept) (S T : Shapes) (q : Path) (t : Task) → (e.path ≡ q → ⊥) → Grows S T → ((n i : ℕ) → n < count R q → C n i ≡ B n i) →
+  pub stands_later : (N : ℕ) (R : Run) (e : Event) (k : Kept) (B C : ℕ → ℕ → Kept) (S T : Shapes) (q : Path) (t : Task) → (e.path ≡ q → ⊥) → Grows S T → ((n i : ℕ) → n < count R q → C n i ≡ B n i) →
       Stands P Q N R k B S q t → Stands P Q N (e ∷ R) k C T q t
   stands_later N R e k B C S T q t ne g c s = record {
     path = s.path;
@@ -113,7 +113,7 @@ module _ (P : PlainProgram) (Q : Program) where
   }
 
   -- who has begun then
-  begun_cases : (R : Run) (e : Event) (q : Path) (t : Task) → Begun Q (e ∷ R) q t → Begun Q R q t ⊎ NewTask R e q t
+  pub begun_cases : (R : Run) (e : Event) (q : Path) (t : Task) → Begun Q (e ∷ R) q t → Begun Q R q t ⊎ NewTask R e q t
   begun_cases R e q t (root h k) = inl (root h k)
   begun_cases R e q t (branch r u F f ts B g h fs fp fn fa there gs gp ga gn) = ⊎_elim (λ z. inr (new z (upto_split fs))) (λ b. inl (old b (upto_split fs))) (upto_split gs)
     where
@@ -153,18 +153,20 @@ module _ (P : PlainProgram) (Q : Program) where
     pub keeping : Path → Kept
     pub agrees : Agrees R s.keeping keeping
     pub things : (n : Name) (z : Shape) → shapes n ≡ Some z → (u : Thing) × (thing_of Q (e ∷ R) n ≡ Some u) × Describes P z u
+    pub shaped : (n : Name) (u : Thing) → thing_of Q (e ∷ R) n ≡ Some u → (z : Shape) × (shapes n ≡ Some z)
     pub cells : (n : Name) (z : Shape) (u : Thing) (k : ℕ) (env : Env) (ty : PlainType) (a : Rpl) → shapes n ≡ Some z → thing_of Q (e ∷ R) n ≡ Some u → CellAt P z (pos k) env ty a →
         FitsIn P shapes env ty (value_in (e ∷ R) u (record { object = n; slot = k }))
     pub event : EventOk P Q (keeping e.path) (branches_of P Q keeping e.path) shapes R e.path e.act
     pub own : Stands P Q N (e ∷ R) (keeping e.path) (branches_of P Q keeping e.path) shapes e.path t
     pub new : (q : Path) (z : Task) → NewTask R e q z → Stands P Q N (e ∷ R) (keeping q) (branches_of P Q keeping q) shapes q z
 
-  pub stepped_on : {N : ℕ} {R : Run} {e : Event} (l : Faithful Q R) (t : Task) → Begun Q R e.path t → (s : Sound P Q N R) → Step N R e t s → Sound P Q N (e ∷ R)
+  unfoldable pub stepped_on : {N : ℕ} {R : Run} {e : Event} (l : Faithful Q R) (t : Task) → Begun Q R e.path t → (s : Sound P Q N R) → Step N R e t s → Sound P Q N (e ∷ R)
   stepped_on {N} {R} {e} l t b s z = record {
     shapes = z.shapes;
     keeping = z.keeping;
     root = ap (λ (k : Kept). k.bounds.inside) z.agrees.root ∙ s.root;
     things = z.things;
+    shaped = z.shaped;
     cells = z.cells;
     events = λ y Y u. ⊎_elim (λ q. here y Y q) (λ v. old y Y v) (upto_split u);
     tasks = λ q u h. ⊎_elim (λ g. stood q u g (path_cases e.path q)) (λ n. z.new q u n) (begun_cases R e q u h);

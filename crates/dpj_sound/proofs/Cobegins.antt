@@ -1,4 +1,4 @@
--- Branches of a `cobegin`: their scopes and frames, that they are in order at their fork, and the locals behind their join.
+-- Branches of a `cobegin`: their scopes and frames, that they are in order at their fork, and the locals after their join.
 use Rattle.std.proofs.Common.{◌≡◌, ◌≢◌, ◌<◌, ◌-◌, ⊎_elim, ℕ, zero, suc, ◌+◌, Bool, true, false, cond, ◌==◌, ◌||◌, List, [], ◌∷◌, ◌++◌, length, refl, sym, ap, ◌∙◌, subst, arith, Option, Some, None, slice_get, slice_set, slice_index_or}
 use Rattle.std.specs.Prelude.{All, Contains, option_map}
 use Rattle.std.specs.List.{list_any}
@@ -230,7 +230,7 @@ module _ (P : PlainProgram) (b : Bounds) (st : State) (L : Scope) (good : GoodSc
       apart : (i j : ℕ) → i ≢ j → i < length (tasks_of bs f) → j < length (tasks_of bs f) → Quiet P forking g (slice_index_or Es i []) g (slice_index_or Es j [])
       apart i j ne l m = ⊎_elim (λ h. absurd (ne h)) (λ r. ⊎_elim (λ h. one i j h m) (λ h. quiet_back forking (slice_index_or Es j []) (slice_index_or Es i []) (one j i h l)) r) (cases_order i j)
 
--- behind the join
+-- after the join
 pub copied_fits : (P : PlainProgram) (p : Path) (h : State) (L : Scope) → GoodScope L → (g : Setting) (slots : List ℕ) (ls : List (ℕ × Value)) (f : Frame) →
     ((x : ℕ) (v : Value) → Contains ls (x, v) → (t : PlainType) × (L.local x ≡ Some (variable t)) × FitsIn P h.shapes (env_of g) t v) → FrameFits P p h g L f →
     FrameFits P p h g L (with_values f (copied slots ls f.values))

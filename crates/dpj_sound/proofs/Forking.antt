@@ -1,4 +1,4 @@
--- Parallel constructs are in order: their forks, and what is behind their joins.
+-- Parallel constructs are in order: their forks, and what is after their joins.
 use Rattle.std.specs.Int.{w32}
 use Rattle.std.proofs.Common.{arith, ◌≡◌, ◌^◌, ℕ, ℤ, FitsSigned, ◌+◌, pos, Bool, true, false, List, [], length, refl, sym, ◌∙◌, subst, Option, Some, None, IsTrue, ◌<◌}
 use Rattle.std.specs.Prelude.{All}
@@ -45,7 +45,7 @@ use Rattle.dpj_sound.proofs.Uses.{stmts_use}
 use Rattle.dpj_sound.proofs.Cobegins.{cobegin_forks, copied_fits}
 use Rattle.dpj_sound.proofs.Forks.{foreach_forks, copied_none, lies_branches}
 
--- behind statements that began in this state: locals that fit, where they can complete; or a value that a `return` gives
+-- after statements that began in this state: locals that fit, where they can complete; or a value that a `return` gives
 abbrev pub Left : PlainProgram → Bounds → Scope → Setting → Bool → State → State → Result → Type 0
 Left P b L g c st h (Goes_on v f) = IsTrue c × Since st h × FrameFits P b.path h g L f
 Left P b L g c st h (Returns v) = Since st h × ReturnFits P h.shapes g L.result v
@@ -55,7 +55,7 @@ pub left_since : (P : PlainProgram) (b : Bounds) (L : Scope) (g : Setting) (c d 
 left_since P b L g c d st h u (Goes_on v f) s i y = (i y.0, since_since s y.1, y.2)
 left_since P b L g c d st h u (Returns v) s i y = (since_since s y.0, y.1)
 
--- forks and what is behind their joins
+-- forks and what is after their joins
 module _ (P : PlainProgram) (b : Bounds) where
   pub cobegin_order : (dp : Option Deeper) (L : Scope) → GoodScope L → (g : Setting) (st : State) (f : Frame) → FrameFits P b.path st g L f → (at : Place) (forking : Forking) → {bs : TypedBranches} {Es : List (List EffectOwn)} → BranchesPass P L [] bs Es → NoClash P forking L Es →
       Within b st.entries g (after_branches forking (joined Es)) →
@@ -158,7 +158,7 @@ module _ (P : PlainProgram) (wt : WellTyped P) (b : Bounds) (L : Scope) (good : 
         set_other e.values (k + 2) (k + 3) last (λ z. omega (arith, z)) ∙ set_same over.values (k + 3) u (let l = room 3 (omega arith) ff in omega (arith, l, n1, n2)),
       )
 
-  -- behind the look at the array that is cut
+  -- after the look at the array that is cut
   pub array_order : (dp : Option Deeper) (st : State) (f : Frame) → FrameFits P b.path st g L f → (at : Place) (e : TypedExpr) → {body : TypedStmt} {G : List EffectOwn} →
       AllPass P (with_part k t a (in_loop_branch L)) (more_stmts body no_stmts) G → iterations_clash L.given None (k + 4) (besides_part k G) ≡ false →
       lists_clash L.given None (besides_part k G) (through_part k G) ≡ false → All (λ o. PathInScope (with_part k t a (in_loop_branch L)) 0 (effect_of o).rpl) G →

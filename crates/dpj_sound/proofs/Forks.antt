@@ -199,7 +199,7 @@ all_no_copies L (y ∷ a) s = and_from (is_no_copy y) _ (no_copy L y (All-head (
 pub none_copied : (L : Scope) (c : Constraint) → PathInScope L 0 c.left × PathInScope L 0 c.right → HasNoCopies c
 none_copied L c s = and_from (no_copies c.left.elems) _ (all_no_copies L c.left.elems s.0) (all_no_copies L c.right.elems s.1)
 
--- behind a construct what its branches do is said without marks, or as they have it
+-- after a construct what its branches do is said without marks, or as they have it
 unmarked : (g : Setting) (o : EffectOwn) (a : Access) → Covers g o a → Covers g (marked false o) a
 unmarked g (does e) a c = record { matches = c.matches; writes = c.writes; guarded = λ z. absurd (let h : false ≡ true = z in cc) }
 unmarked g (uses k e) a c = c

@@ -18,7 +18,7 @@ use Rattle.dpj_base.specs.declared.elems.Elem.TheVariants.{Local}
 use Rattle.dpj_sound.specs.Settings.{local_code}
 use Rattle.dpj_sound.specs.Accesses.{Access, Allowed, LiesIn, InOwnRegion, Bounds, is_guarded}
 use Rattle.dpj_sound.specs.Branches.{Meet, MayMeet}
-use Rattle.dpj_sound.specs.Laws.{RunsAreFree}
+use Rattle.dpj_sound.specs.RunLaws.{RunsAreFree}
 use Rattle.dpj_sound.specs.Shapes.{Shapes, CellAt}
 use Rattle.dpj_sound.specs.Work.{access_of}
 use Rattle.dpj_sound.proofs.Branching.{stepped_disciplined}

@@ -23,7 +23,7 @@ use Rattle.dpj_base.specs.declared.elems.Elem.TheVariants.{Local}
 use Rattle.dpj_sound.specs.Settings.{local_code}
 use Rattle.dpj_sound.specs.Accesses.{Access, LiesIn, InOwnRegion, LiesInEntry, is_entered, is_guarded, InEachEntry, Allowed}
 use Rattle.dpj_sound.specs.Branches.{MayMeet}
-use Rattle.dpj_sound.specs.Laws.{ConflictsAreGuarded}
+use Rattle.dpj_sound.specs.RunLaws.{ConflictsAreGuarded}
 use Rattle.dpj_sound.proofs.Barred.{entries_barred}
 use Rattle.dpj_sound.proofs.Branching.{stepped_disciplined}
 use Rattle.dpj_sound.proofs.Free.{access, Met, fork_sound, Clash, clash_of, clash_met, one_place}

@@ -149,7 +149,7 @@ module _ (P : PlainProgram) (wt : WellTyped P) (outer : ℕ → Bool) where
   pub marked_in : (L : Scope) (c : Bool) (E : List EffectOwn) → All (OwnPlaced outer L) E → All (OwnPlaced outer L) (map (marked c) E)
   marked_in L c E h = All-map (OwnPlaced outer L) (marked c) E (λ k d l. own_marked L c (slice_index_or E k d) (h k d l))
 
-  -- behind branches, and outside their scopes
+  -- after branches, and outside their scopes
   branches_in : (L : Scope) (forking : Forking) (E : List EffectOwn) → All (OwnPlaced outer L) E → All (OwnPlaced outer L) (after_branches forking E)
   branches_in L Deterministic E h = marked_in L false E h
   branches_in L Nondeterministic E h = h
@@ -160,7 +160,7 @@ module _ (P : PlainProgram) (wt : WellTyped P) (outer : ℕ → Bool) where
   none_assigned : (L : Scope) → All (IsVariable L) []
   none_assigned L = λ k d l. absurd (omega (arith, l))
 
-  -- what is cut, and what is behind a construct over parts
+  -- what is cut, and what is after a construct over parts
   pub cut_placed : (L : Scope) → GoodScope L → PlacedScope outer L → {source : Source} {t : PlainType} {a : Rpl} {E : List EffectOwn} → Cuts P L source t a E →
       TypePlaced outer L 0 (array t a false)
   cut_placed L good pl (cuts_array h ty full) = subst (TypePlaced outer L 0) ty (typed_placed outer P wt L good pl h)
@@ -180,7 +180,7 @@ module _ (P : PlainProgram) (wt : WellTyped P) (outer : ℕ → Bool) where
   after_parts_in L k source E h = All-map (OwnPlaced outer L) (own_after k source) E
       (λ j d l. own_after_in L source (is_through k (slice_index_or E j d)) (slice_index_or E j d) (h j d l))
 
-  -- behind the scope of local regions
+  -- after the scope of local regions
   pub regions_in : (L : Scope) (rs : List ℕ) (F : List EffectOwn) → All (OwnPlaced outer (with_regions rs L)) F → All (OwnPlaced outer L) (outside_regions rs F)
   regions_in L rs [] h = none_in L
   regions_in L rs (o ∷ F) h =

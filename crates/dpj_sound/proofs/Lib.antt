@@ -25,6 +25,7 @@ pub mod InEffects
 pub mod InScope
 pub mod Indices
 pub mod Ints
+pub mod Keeping
 pub mod Locals
 pub mod Making
 pub mod Meeting

@@ -95,7 +95,7 @@ module _ (k : ℕ) (g : Setting) (n : ℤ) (pl : Places) (a : Access) where
   lies_split (does e ∷ E) h = elim h [ inl c ↦ inl (inl (speaks_same e c)) | inr r ↦ split_more (does e) E (lies_split E r) ]
   lies_split (uses j e ∷ E) h = elim h [ inl c ↦ split_use j e E (speaks_same e c.0) c.1 | inr r ↦ split_more (uses j e) E (lies_split E r) ]
 
-  -- behind the construct it speaks of them too
+  -- after the construct it speaks of them too
   lies_after : (source : Source) → ((j : ℕ) → source ≡ of_part j → Through pl a → Through (g.part j) a) → (E : List EffectOwn) →
       LiesIn (with_number (k + 4) n (with_places k pl g)) E a → LiesIn (with_number (k + 4) n g) (after_parts k source E) a
   lies_after source up [] h = h

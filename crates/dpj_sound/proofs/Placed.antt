@@ -1,4 +1,4 @@
--- Where local regions stand: in what is declared behind a place of a body, a local region that is declared there too stands first,
+-- Where local regions stand: in what is declared after a place of a body, a local region that is declared there too stands first,
 -- in the region of an array or an effect, and nowhere else.
 use Rattle.std.proofs.Common.{◌≡◌, inl, inr, ◌⊎◌, ℕ, suc, Bool, true, false, ◌||◌, List, [], ◌∷◌, ◌++◌, map, length, refl, sym, ap, subst, arith, Some, None, IsTrue, slice_get, slice_index_or}
 use Rattle.std.specs.Prelude.{All}

@@ -13,7 +13,7 @@ use Rattle.dpj_sound.specs.Accesses.{Access, Through}
 use Rattle.dpj_sound.proofs.Ints.{zero_fits}
 use Rattle.dpj_sound.proofs.Numbers.{number_one}
 
--- the part of a number, of so many, of an array of a length behind its first place
+-- the part of a number, of so many, of an array of a length after its first place
 abbrev pub taken : Value → ℤ → ℤ → ℤ → ℤ → Places
 taken v first len parts at = record {
   array = v;
@@ -80,7 +80,7 @@ through_taken : (v : Value) (first len parts at : ℤ) (a : Access) → Through 
 through_taken v first len parts at a h = ⊎_elim (λ e. is_part_true v first len parts at a h e)
     (λ e. absurd (no_index h.index h.from_first (ap (int_lt h.index) (sym (cond-false (is_part len parts at) _ (pos 0) e)) ∙ h.below_last))) (cases_Bool (is_part len parts at))
 
--- the whole ends behind its last part
+-- the whole ends after its last part
 ends_in : (n m q : ℕ) → q < m → (q + 1) * n / m ≤ n
 ends_in n m q l =
     let up : (q + 1) * n / m ≤ m * n / m = part_start-≤ n m (q + 1) m (omega (arith, l)) (omega (arith, l)) in

@@ -101,6 +101,7 @@ module _ (P : PlainProgram) (Q : Program) where
     pub keeping : Path → Kept
     pub root : (keeping []).bounds.inside ≡ false
     pub things : (n : Name) (s : Shape) → shapes n ≡ Some s → (t : Thing) × (thing_of Q R n ≡ Some t) × Describes P s t
+    pub shaped : (n : Name) (t : Thing) → thing_of Q R n ≡ Some t → (s : Shape) × (shapes n ≡ Some s)
     pub cells : (n : Name) (s : Shape) (t : Thing) (k : ℕ) (env : Env) (ty : PlainType) (a : Rpl) → shapes n ≡ Some s → thing_of Q R n ≡ Some t → CellAt P s (pos k) env ty a →
         FitsIn P shapes env ty (value_in R t (record { object = n; slot = k }))
     pub events : (y : Event) (Y : Run) → Upto (y ∷ Y) R → EventOk (keeping y.path) (branches_of keeping y.path) shapes Y y.path y.act

@@ -203,7 +203,7 @@ module _ (P : PlainProgram) (b : Bounds) where
             next
 
 module _ (P : PlainProgram) (wt : WellTyped P) (b : Bounds) (dp : Option Deeper) (dd : DeeperInOrder P wt b dp) where
-  -- behind an expression, which is in order
+  -- after an expression, which is in order
   behind : (L : Scope) → GoodScope L → (g : Setting) {e : TypedExpr} {E : List EffectOwn} → Has P L e E →
       (R : State → Result → Type 0) (j : Value → Frame → Prog) (st : State) (f : Frame) → FrameFits P b.path st g L f → Within b st.entries g E →
       ((h : State) (v : Value) → Since st h → FitsIn P h.shapes (env_of g) (type_of e) v →
@@ -218,7 +218,7 @@ module _ (P : PlainProgram) (wt : WellTyped P) (b : Bounds) (dp : Option Deeper)
   sub_fits L good g {e = e} h sub ff S v fv = subtype_fits P wt S (env_of g) (env_alone L.given (env_of g) (frame_env ff)) refl sub
       (type_alone L (type_of e) (typed_in P wt L good h)) v fv
 
-  -- behind the test of a loop, and its body
+  -- after the test of a loop, and its body
   tested : (L : Scope) (g : Setting) (e : TypedExpr) (st : State) (f : Frame) → FrameFits P b.path st g L f → (u : State) (r : Result) →
       Yields P L g e st f u r → Rounds P b.path st g L u r
   tested L g e st f ff u (Goes_on v c) y = (y.0, subst (FrameFits P b.path u g L) (sym y.1) (frame_since y.0 ff))
@@ -232,7 +232,7 @@ module _ (P : PlainProgram) (wt : WellTyped P) (b : Bounds) (dp : Option Deeper)
   looped L g st u (Goes_on v f) y = (refl, y.0, y.1)
   looped L g st u (Returns v) y = y
 
-  -- behind the body of an atomic block
+  -- after the body of an atomic block
   leaves_block : (L : Scope) (g : Setting) (c : Bool) (st u : State) (Es : List RunEffect) → Grows st.shapes u.shapes → st.made ≤ u.made →
       u.entries ≡ Es ∷ st.entries →
       (h : State) (r : Result) → Left P b (in_atomic_block L) g c u h r →
@@ -259,7 +259,7 @@ module _ (P : PlainProgram) (wt : WellTyped P) (b : Bounds) (dp : Option Deeper)
   followed L g c d st j k h (Goes_on v f) y = k h f v y.0 y.1 y.2
   followed L g c d st j k h (Returns v) y = order_ret P b (Left P b L g d st) h (Returns v) y
 
-  -- behind a declaration
+  -- after a declaration
   abbrev Declared : Setting → PlainType → ℕ → State → Frame → State → Result → Type 0
   Declared g t x st f h (Goes_on u c) = (v : Value) × Since st h × FitsIn P h.shapes (env_of g) t v × (c ≡ with_value f x v)
   Declared g t x st f h (Returns v) = ⊥
@@ -270,7 +270,7 @@ module _ (P : PlainProgram) (wt : WellTyped P) (b : Bounds) (dp : Option Deeper)
   declared g t x st f R j k h (Goes_on u c) y = subst (λ z. InOrder P b R h (j none z)) (sym y.3) (k h y.0 y.1 y.2)
   declared g t x st f R j k h (Returns v) y = absurd y
 
-  -- behind the making of local regions
+  -- after the making of local regions
   abbrev Renewed : Scope → Setting → List ℕ → State → Frame → State → Result → Type 0
   Renewed L g rs st f h (Goes_on v e) = (made : ℕ → LocalRegion) × Since st h × NewRegions b.path rs g.made made f e × FrameFits P b.path h (with_made made g) L e
   Renewed L g rs st f h (Returns v) = ⊥
@@ -281,7 +281,7 @@ module _ (P : PlainProgram) (wt : WellTyped P) (b : Bounds) (dp : Option Deeper)
   renewed L g rs st f R j k h (Goes_on u c) y = k h y.0 c y.1 y.2 y.3
   renewed L g rs st f R j k h (Returns v) y = absurd y
 
-  -- behind the block of a declared local
+  -- after the block of a declared local
   return_leave : (L : Scope) → GoodScope L → (g : Setting) (x : ℕ) (k : ℤ) → L.local x ≡ None → (S : Shapes) (o : Option PlainType) → L.result ≡ o →
       (v : Value) → ReturnFits P S (with_number x k g) o v → ReturnFits P S g o v
   return_leave L good g x k n S None e v f = f

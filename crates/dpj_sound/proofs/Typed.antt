@@ -142,7 +142,7 @@ module _ (P : PlainProgram) (b : Bounds) where
       go None e = order_trap P b R st trap.Index at
       go (Some p) e = by_value p e (slot_value f.values k) refl pf.array
 
--- what is to hold behind an expression, wherever it gives a value of its type
+-- what is to hold after an expression, wherever it gives a value of its type
 abbrev pub Next : PlainProgram → Scope → Setting → (State → Result → Type 0) → TypedExpr → State → Frame → Type 0
 Next P L g R e st f = (h : State) (v : Value) → Since st h → FitsIn P h.shapes (env_of g) (type_of e) v → Fits (env_of g) (index_elem L e)
     (At (Literal (number v)) ∷ []) → R h (Goes_on v f)

@@ -1,5 +1,5 @@
 -- Each run of a well-typed program is sound: from its start, event by event.
-use Rattle.std.proofs.Common.{◌≡◌, ◌≤◌, ⊎_elim, ℕ, suc, ℤ, FitsSigned, List, [], ◌∷◌, ◌++◌, length, reverse, refl, sym, ap, ◌∙◌, subst, arith, Option, Some, None}
+use Rattle.std.proofs.Common.{true, ◌≡◌, ◌≤◌, ⊎_elim, ℕ, suc, ℤ, FitsSigned, List, [], ◌∷◌, ◌++◌, length, reverse, refl, sym, ap, ◌∙◌, subst, arith, Option, Some, None, slice_get, zero}
 use Rattle.std.specs.Int.{w32}
 use Rattle.std.proofs.lemmas.Bool.{cond-true, cond-false, cases_Bool}
 use Rattle.dpj_typed.specs.Plain.{PlainProgram, PlainMember}
@@ -11,8 +11,8 @@ use Rattle.dpj_meaning.specs.Elision.{enters_main, root_task}
 use Rattle.dpj_meaning.specs.Expressions.{entered}
 use Rattle.dpj_runs.specs.Actions.{Program, Task}
 use Rattle.dpj_runs.specs.Blocks.{hold}
-use Rattle.dpj_runs.specs.Objects.{Path, Name, Int, Object, or_else, first_value, same_name}
-use Rattle.dpj_runs.specs.Runs.{Run, answers, Begun, root, branch, Faithful, thing_of}
+use Rattle.dpj_runs.specs.Objects.{Int, Name, Object, Path, Thing, first_value, or_else, same_name}
+use Rattle.dpj_runs.specs.Runs.{Run, at_start, things, mine, answers, Begun, root, branch, Faithful, thing_of}
 use Rattle.dpj_runs.proofs.Cells.{last_nil, same_name_eq}
 use Rattle.dpj_runs.proofs.Mine.{mine_nil}
 use Rattle.dpj_runs.proofs.Upto.{upto_none}
@@ -43,7 +43,7 @@ module _ (P : PlainProgram) (wt : WellTyped P) (arg : ℤ) (small : FitsSigned w
   abbrev Q : Program
   Q = stepped P arg
 
-  abbrev main_kept : Kept
+  abbrev pub main_kept : Kept
   main_kept = record { bounds = main_bounds P wt; scope = main_scope P wt }
 
   abbrev main_task : Task
@@ -65,6 +65,22 @@ module _ (P : PlainProgram) (wt : WellTyped P) (arg : ℤ) (small : FitsSigned w
 
   first_there : thing_of Q [] first_name ≡ Some Q.object
   first_there = refl
+
+  none_made : (p : Path) → things (mine [] p) ≡ []
+  unfolding things
+  none_made p = ap things (mine_nil p)
+
+  first_made : (n : Name) (t : Thing) → thing_of Q [] n ≡ Some t → (z : Shape) × ((start P).shapes n ≡ Some z)
+  first_made n t e = go n.maker refl n.count refl (ap (λ g. slice_get (at_start Q n.maker ++ g) n.count) (sym (none_made n.maker)) ∙ e)
+    where
+      go : (p : Path) → n.maker ≡ p → (k : ℕ) → n.count ≡ k → slice_get (at_start Q p ++ []) k ≡ Some t → (z : Shape) × ((start P).shapes n ≡ Some z)
+      go [] a zero b h = (
+        object P.main_class [],
+        cond-true (same_name n first_name) (Some (object P.main_class [])) None (let c : n ≡ first_name = (λ i. record { maker = a i; count = b i }) in
+            subst (λ m. same_name m first_name ≡ true) (sym c) refl),
+      )
+      go [] a (suc k) b h = absurd (let z : None ≡ Some t = h in cc)
+      go (u ∷ p) a k b h = absurd (let z : None ≡ Some t = h in cc)
 
   root_stands : (N : ℕ) → Stands P Q N [] main_kept (branches_of P Q (λ p. main_kept) []) (start P).shapes [] main_task
   root_stands N = record {
@@ -88,6 +104,7 @@ module _ (P : PlainProgram) (wt : WellTyped P) (arg : ℤ) (small : FitsSigned w
     keeping = λ p. main_kept;
     root = refl;
     things = λ n z q. (let f = first_shape n z q in (Q.object, subst (λ x. thing_of Q [] x ≡ Some Q.object) f.0 first_there, subst (λ y. Describes P y Q.object) f.1 first_is));
+    shaped = λ n t there. first_made n t there;
     cells = λ n z t k env ty a q there cell.
         (let f = first_shape n z q in
         let has : thing_of Q [] n ≡ Some Q.object = subst (λ x. thing_of Q [] x ≡ Some Q.object) f.0 first_there in
@@ -110,3 +127,10 @@ module _ (P : PlainProgram) (wt : WellTyped P) (arg : ℤ) (small : FitsSigned w
   sound N (e ∷ R) l room =
       let s = sound N R l.1 (omega (arith, room)) in
       stepped_on P Q l.1 l.0.task l.0.begun s (next_step P wt arg l.1 s l.0 room)
+
+  -- and the root keeps to what `main` does
+  pub sound_root : (N : ℕ) (R : Run) (l : Faithful Q R) (room : length R ≤ N) → (sound N R l room).keeping [] ≡ main_kept
+  unfolding sound stepped_on at_the_start
+  sound_root N [] l room = refl
+  sound_root N (e ∷ R) l room =
+      (next_step P wt arg l.1 (sound N R l.1 (omega (arith, room))) l.0 room).agrees.root ∙ sound_root N R l.1 (omega (arith, room))

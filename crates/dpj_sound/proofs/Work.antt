@@ -53,7 +53,7 @@ module _ (P : PlainProgram) (b : Bounds) where
   unfolding InOrder
   order_ret Q st r q = q
 
-  -- behind an expression
+  -- after an expression
   pub order_then : (L : Scope) (g : Setting) (e : TypedExpr) (f : Frame) (R : State → Result → Type 0) (j : Value → Frame → Prog) (st : State) (p : Prog) →
       InOrder P b (Yields P L g e st f) st p →
       ((h : State) (v : Value) → Since st h → FitsIn P h.shapes (env_of g) (type_of e) v →

@@ -21,11 +21,7 @@ use Rattle.dpj_meaning.specs.Expressions.{Deeper as DeeperOf, of_expr}
 use Rattle.dpj_meaning.specs.Statements.{of_stmts}
 use Rattle.dpj_runs.specs.Actions.{Task}
 use Rattle.dpj_runs.specs.Objects.{Name, LocalRegion, same_name}
-use Rattle.dpj_moving.specs.Guarded.{ConflictsGuarded}
-use Rattle.dpj_runs.specs.Blocks.{Legal}
-use Rattle.dpj_runs.specs.Laws.{AllFree}
-use Rattle.dpj_runs.specs.Runs.{Run}
-use Rattle.dpj_steps.specs.Steps.{named_by, first_name, stepped}
+use Rattle.dpj_steps.specs.Steps.{named_by, first_name}
 use Rattle.dpj_typed.specs.Table.{body_scope}
 use Rattle.dpj_meaning.specs.Asking.{meaning, does}
 use Rattle.dpj_meaning.specs.Elision.{root_task}
@@ -40,13 +36,13 @@ use Rattle.dpj_sound.specs.Work.{Result, GoesFitting, InOrder}
 abbrev pub Deeper : Type 0
 Deeper = DeeperOf Name LocalRegion
 
--- behind an expression that began in this state and frame: the same locals, a value of its type, and where it stands as an
+-- after an expression that began in this state and frame: the same locals, a value of its type, and where it stands as an
 -- index in paths, the number that they have for it
 abbrev pub Yields : PlainProgram → Scope → Setting → TypedExpr → State → Frame → State → Result → Type 0
 Yields P L g e st f h (Goes_on v c) = Since st h × (c ≡ f) × FitsIn P h.shapes (env_of g) (type_of e) v × Fits (env_of g) (index_elem L e) (At (Literal (number v)) ∷ [])
 Yields P L g e st f h (Returns v) = ⊥
 
--- behind statements: locals that fit, unless none can complete; or a value of the type that a `return` gives
+-- after statements: locals that fit, unless none can complete; or a value of the type that a `return` gives
 abbrev pub Leaves : PlainProgram → Bounds → Scope → Setting → TypedStmts → State → State → Result → Type 0
 Leaves P b L g ss st h (Goes_on v f) = IsTrue (all_complete ss) × Since st h × GoesFitting P b.path g L h (Goes_on v f)
 Leaves P b L g ss st h (Returns v) = Since st h × GoesFitting P b.path g L h (Returns v)
@@ -134,11 +130,3 @@ NdIterationsQuiet = (P : PlainProgram) (given : List Constraint) (params : List 
     EndAtomic P.region_names params g.regions → All HasNoCopies given → (E : List Own) → All (λ o. PathInScope L 0 (effect_of o).rpl) E →
     iterations_clash given (Some (record { names = P.region_names; params = params })) x (as_effects E) ≡ false → j ≢ k →
     Quiet P Nondeterministic (with_number x j g) E (with_number x k g) E
-
--- no legal run of a program without nd constructs has two unordered events that conflict, on any argument of 32 bits
-abbrev pub RunsAreFree : Type 0
-RunsAreFree = (P : PlainProgram) → WellTyped P → P.uses_nd ≡ false → (arg : ℤ) → FitsSigned w32 arg → AllFree (stepped P arg)
-
--- and of every program, unordered events that conflict stand inside blocks, and where these are two blocks the rule keeps them apart
-abbrev pub ConflictsAreGuarded : Type 0
-ConflictsAreGuarded = (P : PlainProgram) → WellTyped P → (arg : ℤ) → FitsSigned w32 arg → (R : Run) → Legal (stepped P arg) R → ConflictsGuarded (stepped P arg).rule R

@@ -2,6 +2,8 @@ pub mod Accesses
 pub mod Branches
 pub mod Frames
 pub mod Laws
+pub mod RunLaws
+pub mod Runs
 pub mod Scopes
 pub mod Settings
 pub mod Shapes

@@ -131,7 +131,7 @@ abbrev pub GoesFitting : PlainProgram → Path → Setting → Scope → State �
 GoesFitting P p g L h (Goes_on v f) = FrameFits P p h g L f
 GoesFitting P p g L h (Returns v) = ReturnFits P h.shapes g L.result v
 
--- what holds behind a part of a loop that began in this state
+-- what holds after a part of a loop that began in this state
 abbrev pub Rounds : PlainProgram → Path → State → Setting → Scope → State → Result → Type 0
 Rounds P p st g L h r = Since st h × GoesFitting P p g L h r
 

@@ -1,6 +1,7 @@
 //! The laws of well-typed programs, each the clause of a function that does nothing.
 
-ghost use Rattle.dpj_sound.specs.Laws.{BranchesInOrder, BranchesQuiet, ConflictsAreGuarded, ExpressionsInOrder, ForkingInOrder, IterationsQuiet, NdBranchesQuiet, NdIterationsQuiet, RootInOrder, RunsAreFree, TasksInOrder};
+ghost use Rattle.dpj_sound.specs.Laws.{BranchesInOrder, BranchesQuiet, ExpressionsInOrder, ForkingInOrder, IterationsQuiet, NdBranchesQuiet, NdIterationsQuiet, RootInOrder, TasksInOrder};
+ghost use Rattle.dpj_sound.specs.RunLaws.{ConflictsAreGuarded, RunsAreFree, RunsKeepTo};
 
 /// Each expression of a well-typed program is in order.
 pub fn law_expressions()
@@ -25,9 +26,11 @@ pub fn law_quiet()
     ensures nd_iterations { NdIterationsQuiet }
 {}
 
-/// No legal run of a well-typed program without nd constructs has two unordered events that conflict; and of each well-typed program
-/// those that do stand inside blocks that are never open at once, or in one.
+/// In each legal run of a well-typed program values have their types, and each access lies in what its task may do. So no legal run of
+/// a program without nd constructs has two unordered events that conflict; and of each program those that do stand inside blocks that
+/// are never open at once, or in one.
 pub fn law_runs()
+    ensures keep_to { RunsKeepTo }
     ensures free { RunsAreFree }
     ensures guarded { ConflictsAreGuarded }
 {}
