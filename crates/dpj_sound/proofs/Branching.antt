@@ -39,7 +39,7 @@ use Rattle.dpj_sound.proofs.Calm.{task_calm}
 use Rattle.dpj_sound.proofs.Carried.{end_grows, Agrees, agrees_self, agrees_task, NewTask, Step}
 use Rattle.dpj_sound.proofs.Moments.{Moment, at, forked, state_of, having_left, EndFits, CalmFork, MayDo, Comes, Goes, goes_same, told_on}
 use Rattle.dpj_sound.proofs.Sound.{Kept, branch_kept, hold_of, ForkedAt, EventOk, AtFork, IsAt, Stands, branches_of, Sound}
-use Rattle.dpj_sound.proofs.Statements.{branches_in_order}
+use Rattle.dpj_sound.proofs.Tasks.{branches_in_order}
 use Rattle.dpj_sound.proofs.Walks.{task_goes}
 
 -- the locals that a branch ends with
@@ -95,12 +95,12 @@ stepped_disciplined P arg = record {
 
 -- a task that has made nothing yet, by its work
 pub asks_at_first : (P : PlainProgram) (b : Bounds) (L : Scope) (t : Task) (p : Path) → b.path ≡ p → (st : State) (d : ℕ) →
-    Goes P b L t.work.copies d (at st) (λ xs. replied t.work (run (told (named_by b.path)) (does (named_by b.path) P t) (told_on P b L t.work.copies 0 0 xs))) →
+    Goes P b L t.work.copies d (at st) (λ xs. replied t.work (run (told (named_by b.path)) (does (named_by b.path) P t) (told_on 0 0 xs))) →
     Goes P b L t.work.copies d (at st) (λ xs. ask (named_by p) P t (reverse xs ++ []))
 unfolding ask
 asks_at_first P b L t p e st d g = subst (λ q. Goes P b L t.work.copies d (at st) (λ xs. ask (named_by q) P t (reverse xs ++ []))) e
     (goes_same P b L t.work.copies d (at st) _ _
-    (λ xs. ap (λ ys. replied t.work (run (told (named_by b.path)) (does (named_by b.path) P t) (told_on P b L t.work.copies 0 0 ys)))
+    (λ xs. ap (λ ys. replied t.work (run (told (named_by b.path)) (does (named_by b.path) P t) (told_on 0 0 ys)))
     (sym (ap (λ ys. reverse ys) (append-nil (reverse xs)) ∙ reverse-reverse xs))) g)
 
 not_itself : (p : Path) (u : ℕ × ℕ) → p ≡ u ∷ p → ⊥
@@ -133,6 +133,10 @@ fork_of {Y = Y} {t = t} (branch r v F f ts B g h fs fp fn fa there gs gp ga gn) 
       act = fa;
       there = ap (λ w. slice_get ts.tasks w.1) (sym uu) ∙ there;
     }
+
+-- a fork is of one list of branches
+same_tasks : (x y : Event) (a b : Branches) → x ≡ y → x.act ≡ Fork a → y.act ≡ Fork b → a ≡ b
+same_tasks x y a b e f g = let k : ◌≡◌ {A = Action} (Fork a) (Fork b) = sym f ∙ ap (λ (z : Event). z.act) e ∙ g in cc
 
 -- of an end, what is said of its locals
 end_local : (P : PlainProgram) (b : Bounds) (L : Scope) (copies : List ℕ) (S : Shapes) (y : Ending) (x : ℕ) (v : Value) → EndFits P b L copies S y → Contains (locals_of y) (x, v) →
@@ -307,8 +311,7 @@ module _ (P : PlainProgram) (wt : WellTyped P) (arg : ℤ) {N : ℕ} {R : Run} {
           let local = end_local P (s.keeping w).bounds (s.keeping w).scope ok.0.work.copies s.shapes r.1 x v ok.2 r.3 in
           let f = fork_of ok.1 e.path (count j.before e.path, r.0) refl in
           let same = same_of e.path (upto_trans f.stands (upto_tail over.stands)) af.stands f.path af.path (f.number ∙ number) in
-          let tasks : Fork f.tasks ≡ Fork (record { kind = forking; tasks = ts }) = sym f.act ∙ ap (λ y. y.act) same.0 ∙ af.act in
-          let is : f.tasks ≡ record { kind = forking; tasks = ts } = cc in
+          let is = same_tasks f.event af.event f.tasks (record { kind = forking; tasks = ts }) same.0 f.act af.act in
           record {
             number = r.0;
             task = ok.0;

@@ -41,6 +41,7 @@ pub mod Regions
 pub mod Root
 pub mod Sound
 pub mod Statements
+pub mod Tasks
 pub mod Typed
 pub mod Types
 pub mod Uses
@@ -48,3 +49,4 @@ pub mod Walks
 pub mod Whole
 pub mod Wider
 pub mod Work
+pub mod Writing

@@ -41,6 +41,21 @@ finish (Lost w) K = Unknown
 room_falls : (n d t : ℕ) → most_turns * suc d + (most_turns - t) < n → most_turns * d + (most_turns - 0) < n
 room_falls n d t l = omega arith
 
+abbrev pub told_on : ℕ → ℕ → List Answer → Told
+told_on t n xs = record { since = t; made = n; to_come = xs }
+
+pub bind_bind : {V U T : Type 0} (o : Out V) (j : V → Told → Out U) (k : U → Told → Out T) → bind (bind o j) k ≡ bind o (λ v w. bind (j v w) k)
+bind_bind (Done v w) j k = refl
+bind_bind (Fallen trap p w) j k = refl
+bind_bind (Stopped n a) j k = refl
+bind_bind (Lost w) j k = refl
+
+pub finish_bind : {V U : Type 0} (o : Out V) (j : V → Told → Out U) (K : U → Told → Reply) → finish (bind o j) K ≡ finish o (λ v w. finish (j v w) K)
+finish_bind (Done v w) j K = refl
+finish_bind (Fallen trap p w) j K = refl
+finish_bind (Stopped n a) j K = refl
+finish_bind (Lost w) j K = refl
+
 -- where a task stands: in a state; or after a fork in a state, of which so many branches have begun
 pub data Moment (P : PlainProgram) (b : Bounds) : Type 0 where
   at : (st : State) → Moment P b
@@ -157,9 +172,6 @@ module _ (P : PlainProgram) (b : Bounds) (L : Scope) (copies : List ℕ) where
       go Over z = tt
       go Unknown z = tt
 
-  abbrev pub told_on : ℕ → ℕ → List Answer → Told
-  told_on t n xs = record { since = t; made = n; to_come = xs }
-
   -- it goes in order, however deep, where less than so many turns are possible
   pub record Good (n : ℕ) (g : Moment P b) (k : Told → Reply) : Type 0 where
     pub from : (d t : ℕ) → t < most_turns → most_turns * d + (most_turns - t) < n → Goes d g (λ xs. k (told_on t (state_of g).made xs))
@@ -176,18 +188,6 @@ module _ (P : PlainProgram) (b : Bounds) (L : Scope) (copies : List ℕ) where
       go : (d t : ℕ) → Goes d (at st) (λ xs. ending x t xs)
       go zero t = tt
       go (suc d) t = record { moment = at st; quietly = still; may = fits; then = λ y h c. goes_over d h }
-
-  pub bind_bind : {V U T : Type 0} (o : Out V) (j : V → Told → Out U) (k : U → Told → Out T) → bind (bind o j) k ≡ bind o (λ v w. bind (j v w) k)
-  bind_bind (Done v w) j k = refl
-  bind_bind (Fallen trap p w) j k = refl
-  bind_bind (Stopped n a) j k = refl
-  bind_bind (Lost w) j k = refl
-
-  pub finish_bind : {V U : Type 0} (o : Out V) (j : V → Told → Out U) (K : U → Told → Reply) → finish (bind o j) K ≡ finish o (λ v w. finish (j v w) K)
-  finish_bind (Done v w) j K = refl
-  finish_bind (Fallen trap p w) j K = refl
-  finish_bind (Stopped n a) j K = refl
-  finish_bind (Lost w) j K = refl
 
   -- from a state that the next event is answered in, to what follows it
   stands_in : {n : ℕ} (d t : ℕ) (st : State) {u : State} {h : Moment P b} (k : Told → Reply) → h ≡ at u → u.made ≡ st.made → most_turns * suc d + (most_turns - t) < n → Good n (at u) k →

@@ -18,7 +18,7 @@ use Rattle.dpj_sound.specs.Frames.{FrameFits}
 use Rattle.dpj_sound.specs.Work.{InOrder}
 use Rattle.dpj_sound.specs.Laws.{Leaves, start, main_scope, main_bounds, RootInOrder}
 use Rattle.dpj_sound.proofs.Entering.{body_good, entered_fits}
-use Rattle.dpj_sound.proofs.Statements.{tasks_in_order}
+use Rattle.dpj_sound.proofs.Tasks.{tasks_in_order}
 
 module _ (P : PlainProgram) (wt : WellTyped P) (arg : ℤ) (small : FitsSigned w32 arg) where
   pub first_good : GoodObject P P.main_class []

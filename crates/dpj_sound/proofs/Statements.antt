@@ -1,49 +1,40 @@
 -- Statements of a well-typed program are in order: by recursion on their typing.
-use Rattle.std.proofs.Common.{arith, ◌≡◌, inl, ℕ, ℤ, FitsSigned, ◌+◌, pos, Bool, true, false, cond, ◌&&◌, ◌||◌, List, [], ◌∷◌, length, refl, sym, ap, ◌∙◌, subst, Option, Some, None, IsTrue, ◌≤◌, map, zero, suc}
-use Rattle.std.specs.Prelude.{All, int_lt}
-use Rattle.std.specs.Int.{w32, int_wrapping_add}
-use Rattle.std.proofs.lemmas.Bool.{and_from, false≢true, or_left, or_right}
-use Rattle.dpj_base.specs.declared.elems.Elem.{Elem}
-use Rattle.dpj_base.specs.declared.place.Place.{Place}
+use Rattle.std.proofs.Common.{arith, ◌≡◌, ℕ, ℤ, FitsSigned, ◌+◌, pos, Bool, true, false, ◌&&◌, ◌||◌, List, [], ◌∷◌, refl, sym, ap, ◌∙◌, subst, Option, Some, None, ◌≤◌, map}
+use Rattle.std.specs.Prelude.{All}
+use Rattle.std.specs.Int.{w32}
+use Rattle.std.proofs.lemmas.Bool.{and_from, or_left, or_right}
 use Rattle.dpj_base.specs.declared.region.Rpl.{Rpl}
-use Rattle.dpj_base.specs.declared.value.Trap.TheVariants as trap
-use Rattle.dpj_base.specs.Matching.{Fits, Matches, put_in}
+use Rattle.dpj_base.specs.Matching.{Fits}
 use Rattle.dpj_base.specs.declared.elems.Elem.TheVariants.{At}
 use Rattle.dpj_base.specs.declared.elems.Index.TheVariants.{Literal}
-use Rattle.dpj_base.specs.Regions.{is_any, substituted}
-use Rattle.dpj_base.specs.Types.{PlainType, int, class, array, type_with, path_at, type_at, mentions_index}
+use Rattle.dpj_base.specs.Regions.{substituted}
+use Rattle.dpj_base.specs.Types.{PlainType, int, class, array, path_at}
 use Rattle.dpj_typed.specs.Effects.{Own as EffectOwn, does, uses, writes, effect_of, after_block, outside_regions}
-use Rattle.dpj_typed.specs.Plain.{PlainProgram, PlainField, TypedExpr, type_of, TypedStmt, TypedStmts, no_stmts, more_stmts}
+use Rattle.dpj_typed.specs.Plain.{PlainProgram, TypedExpr, type_of, TypedStmt, TypedStmts, no_stmts, more_stmts}
 use Rattle.dpj_typed.specs.Plain.{Source, of_part}
-use Rattle.dpj_typed.specs.Scope.{Scope, constant, in_loop_branch, part, field_at, with_local, with_regions}
+use Rattle.dpj_typed.specs.Scope.{Scope, constant, in_loop_branch, part, with_local, with_regions}
 use Rattle.dpj_typed.specs.Scope.{Local as ScopeLocal}
 use Rattle.dpj_typed.specs.Statements.{with_part, Cuts, cuts_array, cuts_part, IsFree, completes, all_complete, declared_as, Passes, AllPass, store, store_field, store_element, store_part, perform, nested, choice, choice_else, while_loop, return_nothing, return_value, print_int, print_boolean, print_text, atomic, cobegin, foreach, foreach_parts, no_more, then', declare, declare_regions}
-use Rattle.dpj_typed.specs.Table.{class_scope}
-use Rattle.dpj_typed.specs.Types.{Known, Subtype}
+use Rattle.dpj_typed.specs.Types.{Subtype}
 use Rattle.dpj_typed.specs.Typing.{Has, index_elem}
 use Rattle.dpj_typed.specs.WellTyped.{WellTyped}
-use Rattle.dpj_meaning.specs.Core.{Goes_on, Returns, Traps, next_of, and_then, Act}
-use Rattle.dpj_meaning.specs.Counts.{length_seen, number, truth, slot_value, is_out, part_place, text_of}
-use Rattle.dpj_meaning.specs.Expressions.{gives, none, unless_null, part_element, of_expr}
-use Rattle.dpj_meaning.specs.Statements.{part_begun, part_taken_over, parts, with_value, write_cell, prints, begun, forks, of_stmt, of_stmts}
-use Rattle.dpj_regions.proofs.Putting.{specified_matches_one}
-use Rattle.dpj_runs.specs.Actions.{Write, Look, Print, Rest, Exit}
-use Rattle.dpj_runs.specs.Objects.{Name, LocalRegion, Value, Null, Object, Int, Boolean}
+use Rattle.dpj_meaning.specs.Core.{Goes_on, Returns, next_of, and_then, Act}
+use Rattle.dpj_meaning.specs.Counts.{length_seen, number, truth, slot_value, text_of}
+use Rattle.dpj_meaning.specs.Expressions.{gives, none, unless_null, of_expr}
+use Rattle.dpj_meaning.specs.Statements.{part_begun, part_taken_over, parts, with_value, of_stmt, of_stmts}
+use Rattle.dpj_runs.specs.Actions.{Look, Rest, Exit}
+use Rattle.dpj_runs.specs.Objects.{LocalRegion, Value, Int}
 use Rattle.dpj_steps.specs.Steps.{named_by}
-use Rattle.dpj_meaning.specs.Asking.{meaning}
-use Rattle.dpj_sound.proofs.Entering.{body_good}
-use Rattle.dpj_sound.specs.Settings.{with_number, Setting, env_of, class_env, under}
-use Rattle.dpj_sound.specs.Shapes.{object, elements, Shapes, Instance, ArrayInstance, FitsIn, of_object, of_array as at_array, Grows}
-use Rattle.dpj_sound.specs.Accesses.{Access, Speaks, Bounds, InEachEntry, Within}
+use Rattle.dpj_sound.specs.Settings.{with_number, Setting, env_of}
+use Rattle.dpj_sound.specs.Shapes.{Shapes, FitsIn, Grows}
+use Rattle.dpj_sound.specs.Accesses.{Bounds, Within}
 use Rattle.dpj_sound.specs.Frames.{Frame, State, Since, PartFits, FrameFits}
 use Rattle.dpj_sound.specs.Scopes.{PathInScope, TypeInScope, GoodScope}
-use Rattle.dpj_sound.specs.Work.{Result, Prog, Touches, Reaches, access_of, ReturnFits, Rounds, InOrder, without_latest}
-use Rattle.dpj_sound.specs.Laws.{Deeper, Yields, Leaves, DeeperInOrder, ForkingInOrder, scope_of, TasksInOrder, branch_bounds, BranchesInOrder}
-use Rattle.dpj_sound.proofs.Closed.{closed_path, closed_type}
-use Rattle.dpj_sound.proofs.Types.{fits_grows, fits_same, same_sym, fits_with_down, path_up}
-use Rattle.dpj_sound.proofs.Indices.{IsIndexElem, fits_at_down, region_at_up, same_inside, region_alone}
-use Rattle.dpj_sound.proofs.Classes.{env_alone, good_is, field_good, field_is, stands_args, subtype_fits}
-use Rattle.dpj_sound.proofs.InScope.{good_type, paths_alone, index_in, typed_in}
+use Rattle.dpj_sound.specs.Work.{Result, Prog, ReturnFits, Rounds, InOrder, without_latest}
+use Rattle.dpj_sound.specs.Laws.{Deeper, Yields, Leaves, DeeperInOrder, ForkingInOrder}
+use Rattle.dpj_sound.proofs.Types.{fits_grows}
+use Rattle.dpj_sound.proofs.Classes.{env_alone, subtype_fits}
+use Rattle.dpj_sound.proofs.InScope.{good_type, index_in, typed_in}
 use Rattle.dpj_sound.proofs.InEffects.{stmts_effects_in, marked_in, all_own, cut_placed}
 use Rattle.dpj_sound.proofs.Placed.{PlacedScope, placed_scope, good_placed, placed_wider}
 use Rattle.dpj_sound.proofs.Regions.{good_regions, placed_regions, placed_block, placed_declare, with_made, NewRegions, makes_order, frame_regions, frame_regions_left, new_alike, within_regions}
@@ -54,8 +45,8 @@ use Rattle.dpj_typed.specs.Scope.{in_atomic_block}
 use Rattle.dpj_runs.specs.Objects.{Effect as RunEffect}
 use Rattle.dpj_sound.proofs.Blocks.{good_block, frame_later, frame_block, frame_unblock, within_block}
 use Rattle.dpj_sound.proofs.Alike.{set_other, set_same, Alike, fits_alike, setting_back}
-use Rattle.dpj_sound.proofs.Expressions.{order_unless, order_choose, order_trap}
-use Rattle.dpj_sound.proofs.Typed.{type_alone, inside_part, yields, expr_order}
+use Rattle.dpj_sound.proofs.Expressions.{order_choose}
+use Rattle.dpj_sound.proofs.Typed.{type_alone, yields, expr_order}
 use Rattle.dpj_sound.proofs.Work.{since_now, since_since, since_after, order_then, order_on, order_post, order_ret}
 use Rattle.dpj_sound.proofs.Parts.{good_part, placed_part}
 use Rattle.dpj_sound.proofs.Wider.{wider_type}
@@ -63,144 +54,7 @@ use Rattle.dpj_sound.proofs.Uses.{cuts_in, free_slots, free_in_branch}
 use Rattle.dpj_sound.proofs.Forking.{Left, left_since, cobegin_order, foreach_order, parts_order, filled, filled_first, room, room_first, taken_slots, array_order}
 use Rattle.dpj_sound.proofs.Ints.{number_fits}
 use Rattle.dpj_sound.proofs.Forks.{good_loop, placed_loop, loop_wider, free_in_loop}
-
-speaks_write : (g : Setting) (rpl : Rpl) (a : Access) → Matches (env_of g) rpl a.region → Speaks g (writes rpl) a
-speaks_write g rpl a m = record { matches = m; writes = λ e. refl; guarded = λ e. absurd (false≢true e) }
-
-module _ (P : PlainProgram) (b : Bounds) where
-  -- a write that is allowed, of a value of the cell's type
-  order_write : (R : State → Result → Type 0) (st : State) (at : Place) (n : Name) (i : ℤ) (v : Value) (f : Frame) (r : Reaches P b st n i true) →
-      FitsIn P st.shapes r.cell.env r.cell.ty v →
-      ((u : State) → Since st u → R u (Goes_on none f)) → InOrder P b R st (write_cell at n i v f)
-  unfolding InOrder
-  order_write R st at n i v f r fv k = ((r, fv), λ x u after fits. go (is_out x) u (since_after (Write n i v) refl after))
-    where
-      go : (c : Bool) (u : State) → Since st u → InOrder P b R u (cond c (Traps trap.Index at) (gives none f))
-      go true u s = tt
-      go false u s = k u s
-
-  order_prints : (R : State → Result → Type 0) (st : State) (text : List ℕ) (f : Frame) → ((u : State) → Since st u → R u (Goes_on none f)) →
-      InOrder P b R st (prints text f)
-  unfolding InOrder
-  order_prints R st text f k = (tt, λ x u after fits. k u (since_after (Print _) refl after))
-
-  abbrev write_at : Place → Frame → Value → Value → Option ℤ → Prog
-  write_at at f v u o = elim o as (λ z. Prog) [ None ↦ Traps trap.Index at | Some p ↦ unless_null at v (λ n. write_cell at n p u f) ]
-
-  -- a write of an element through a part
-  part_write : (R : State → Result → Type 0) (st : State) (at : Place) (f : Frame) (g : Setting) (k : ℕ) (t : PlainType) (a : Rpl) (i : ℤ) (u : Value) →
-      PartFits P st.shapes g f.values k t a →
-      Within b st.entries g (uses k (writes a) ∷ []) → FitsIn P st.shapes (env_of g) t u → ((h : State) → Since st h → R h (Goes_on none f)) →
-      InOrder P b R st (part_element at k i f (λ n l. write_cell at n l u f))
-  part_write R st at f g k t a i u pf w fu next = go (part_place k i f.values) refl
-    where
-      write : (p : ℤ) → part_place k i f.values ≡ Some p → (n : Name) → slot_value f.values k ≡ Object n → ArrayInstance st.shapes (env_of g) t a n →
-          InOrder P b R st (write_cell at n p u f)
-      write p e n is i' =
-          let s = inside_part i (number (slot_value f.values (k + 2))) _ p e in
-          let cell : Touches P st.shapes n p = record {
-            shape = elements i'.setting i'.element i'.rpl;
-            is = i'.shape;
-            env = under p
-                (env_of i'.setting);
-            ty = i'.element;
-            rpl = i'.rpl;
-            cell = at_array;
-          } in
-          let region = (put_in (under p (env_of i'.setting)) i'.rpl).elems in
-          order_write R st at n p u f
-          (record {
-            cell = cell;
-            allowed = w (access_of b st n p true region) (λ e. e) (inl (
-              speaks_write g a (access_of b st n p true region) (region_alone g p a pf.no_index region (i'.region p)),
-              record {
-                array = ap (λ q. q.array) pf.places ∙ is;
-                index = i;
-                from_first = s.0;
-                below_last = ap (λ q. int_lt i q.len) pf.places ∙ s.1;
-                place = s.2 ∙ ap (λ q. int_wrapping_add w32 q.first i) (sym pf.places);
-              },
-            ));
-          })
-          (fits_same P st.shapes (under p (env_of g)) t (under p (env_of i'.setting)) i'.element (i'.same p) u
-          (fits_same P st.shapes (env_of g) t (under p (env_of g)) t (same_sym (under p (env_of g)) t (env_of g) t (same_inside g p t pf.none_mentioned)) u fu))
-          next
-
-      by_value : (p : ℤ) → part_place k i f.values ≡ Some p → (v : Value) → slot_value f.values k ≡ v →
-          FitsIn P st.shapes (env_of g) (array t a false) v → InOrder P b R st (unless_null at v (λ n. write_cell at n p u f))
-      by_value p e Null is fv = order_trap P b R st trap.Null at
-      by_value p e (Object n) is fv = write p e n is fv
-      by_value p e (Int j) is fv = absurd fv
-      by_value p e (Boolean c) is fv = absurd fv
-
-      go : (o : Option ℤ) → part_place k i f.values ≡ o → InOrder P b R st (write_at at f (slot_value f.values k) u o)
-      go None e = order_trap P b R st trap.Index at
-      go (Some p) e = by_value p e (slot_value f.values k) refl pf.array
-
-  module _ (wt : WellTyped P) (L : Scope) (g : Setting) where
-    -- a write of a field, or the trap at null
-    field_write : (R : State → Result → Type 0) (st : State) (at : Place) (f : Frame) (c k : ℕ) (args : List Rpl) (fd : PlainField) →
-        field_at P c k ≡ Some fd → Known args fd.ty →
-        All (PathInScope L 0) args → Within b st.entries g (does (writes (substituted args fd.region)) ∷ []) → (u : Value) → FitsIn P st.shapes
-        (env_of g) (type_with args fd.ty) u →
-        (v : Value) → FitsIn P st.shapes (env_of g) (class c args) v → ((h : State) → Since st h → R h (Goes_on none f)) →
-        InOrder P b R st (unless_null at v (λ n. write_cell at n (pos k) u f))
-    field_write R st at f c k args fd e kn al w u fu v fv next = order_unless P b R st at (Instance P st.shapes (env_of g) c args)
-        (λ n. write_cell at n (pos k) u f) go v fv
-      where
-        go : (n : Name) → Instance P st.shapes (env_of g) c args n → InOrder P b R st (write_cell at n (pos k) u f)
-        go n i =
-            let good = good_is P wt i.is_one i.good in
-            let fa = field_is P wt k fd i.is_one i.good e in
-            let gf = field_good P wt c good.class k fd good.is e in
-            let m = length good.class.params in
-            let st' = stands_args m (env_of g) args i.regions i.matches good.arity (paths_alone L args al) refl in
-            let path = closed_path P (class_scope good.class) (λ y. refl) 0 fd.region gf.path in
-            let own = (specified_matches_one (class_env i.regions) fd.region gf.full _).1 fa.region in
-            let cell : Touches P st.shapes n (pos k) = record { shape = object i.class i.made_with; is = i.shape; env = class_env i.made_with; ty = fa.field.ty; rpl = fa.field.region; cell = of_object fa.there } in
-            let region = (put_in (class_env i.made_with) fa.field.region).elems in
-            order_write R st at n (pos k) u f
-            (record {
-              cell = cell;
-              allowed = w (access_of b st n (pos k) true region) (λ e. e)
-                  (inl (speaks_write g (substituted args fd.region) (access_of b st n (pos k) true region)
-                  (path_up m 0 (env_of g) (class_env i.regions) args st' fd.region path region own)));
-            })
-            (fits_same P st.shapes (class_env i.regions) fd.ty (class_env i.made_with) fa.field.ty
-            (same_sym (class_env i.made_with) fa.field.ty (class_env i.regions) fd.ty fa.types) u
-            (fits_with_down P st.shapes m (env_of g) (class_env i.regions) args st' fd.ty
-            (closed_type P (class_scope good.class) (λ y. refl) (λ r t. false≢true t) 0 fd.ty gf.ty) kn u fu))
-            next
-
-    element_write : (R : State → Result → Type 0) (st : State) (at : Place) (f : Frame) (t : PlainType) (a : Rpl) (named : Bool) (x : Elem) (k : ℤ) →
-        IsIndexElem x → Fits (env_of g) x (At (Literal k) ∷ []) →
-        (IsTrue (is_any x) → mentions_index 0 t ≡ false) → Within b st.entries g (does (writes (path_at 0 x a)) ∷ []) → (u : Value) →
-        FitsIn P st.shapes (env_of g) (type_at 0 x t) u →
-        (v : Value) → FitsIn P st.shapes (env_of g) (array t a named) v → ((h : State) → Since st h → R h (Goes_on none f)) →
-        InOrder P b R st (unless_null at v (λ n. write_cell at n k u f))
-    element_write R st at f t a named x k ix fx kn w u fu v fv next = order_unless P b R st at (ArrayInstance st.shapes (env_of g) t a)
-        (λ n. write_cell at n k u f) go v fv
-      where
-        go : (n : Name) → ArrayInstance st.shapes (env_of g) t a n → InOrder P b R st (write_cell at n k u f)
-        go n i =
-            let cell : Touches P st.shapes n k = record {
-              shape = elements i.setting i.element i.rpl;
-              is = i.shape;
-              env = under k
-                  (env_of i.setting);
-              ty = i.element;
-              rpl = i.rpl;
-              cell = at_array;
-            } in
-            let region = (put_in (under k (env_of i.setting)) i.rpl).elems in
-            order_write R st at n k u f
-            (record {
-              cell = cell;
-              allowed = w (access_of b st n k true region) (λ e. e)
-                  (inl (speaks_write g (path_at 0 x a) (access_of b st n k true region) (region_at_up g x k fx a region (i.region k))));
-            })
-            (fits_same P st.shapes (under k (env_of g)) t (under k (env_of i.setting)) i.element (i.same k) u (fits_at_down P st.shapes g x ix k fx t kn u fu))
-            next
+use Rattle.dpj_sound.proofs.Writing.{order_prints, part_write, field_write, element_write}
 
 module _ (P : PlainProgram) (wt : WellTyped P) (b : Bounds) (dp : Option Deeper) (dd : DeeperInOrder P wt b dp) where
   -- after an expression, which is in order
@@ -526,27 +380,3 @@ left_leaves P b L g ss st h (Returns v) y = y
 pub forking_in_order : ForkingInOrder
 forking_in_order P wt b dp dd L ss E p good g st f ff w = order_post P b (Left P b L g (all_complete ss) st) (Leaves P b L g ss st)
     (left_leaves P b L g ss st) _ st (stmts_order P wt b dp dd p good (placed_scope L good) g st f ff w)
-
--- at each depth of calls, by recursion on it
-module _ (P : PlainProgram) (wt : WellTyped P) (b : Bounds) where
-  bodies_in_order : (left : ℕ) → DeeperInOrder P wt b (Some (meaning (named_by b.path) P left))
-  unfolding meaning
-  bodies_in_order zero n m there g st f ff w =
-      forking_in_order P wt b None tt (scope_of P wt n m there) m.body (wt.members n m there).effects (wt.members n m there).passes
-      (body_good P wt n m there) g st f ff w
-  bodies_in_order (suc left) n m there g st f ff w =
-      forking_in_order P wt b (Some (meaning (named_by b.path) P left)) (bodies_in_order left) (scope_of P wt n m there) m.body (wt.members n m there).effects
-      (wt.members n m there).passes (body_good P wt n m there) g st f ff w
-
-pub tasks_in_order : TasksInOrder
-unfolding meaning
-tasks_in_order P wt b L ss E p good zero g st f ff w = forking_in_order P wt b None tt L ss E p good g st f ff w
-tasks_in_order P wt b L ss E p good (suc left) g st f ff w =
-    forking_in_order P wt b (Some (meaning (named_by b.path) P left)) (bodies_in_order P wt b left) L ss E p good g st f ff w
-
-pub branches_in_order : BranchesInOrder
-branches_in_order P wt b st forking ts forks u t e h grows none =
-    let fits = forks.branch u.1 t e in
-    tasks_in_order P wt (branch_bounds b st forks u) (forks.scope u.1) t.work.stmts (forks.effects u.1) fits.passes fits.scope t.frame.left
-    (forks.setting u.1) h (begun t.work.takes t.frame) (frame_later grows (omega arith) (fits.fits u.0))
-    (λ a gu l. record { effects = inl l; blocks = subst (λ z. InEachEntry (u ∷ b.path) z a) (sym none) tt })

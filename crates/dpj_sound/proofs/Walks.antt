@@ -56,14 +56,14 @@ module _ (P : PlainProgram) (b : Bounds) (L : Scope) (copies : List ℕ) where
         go true =
             good_turn P b L copies u (λ x. bind (run (told (named_by b.path)) (s e) x) (λ r q. rounded (λ e v. again (named_by b.path) t s e v) r q)) K
             (λ z zs m. (let from : Since st z = since_since (since_since since y.0) zs in
-            good_same P b L copies (λ w l. sym (finish_bind P b L copies (run (told (named_by b.path)) (s e) w) _ K))
+            good_same P b L copies (λ w l. sym (finish_bind (run (told (named_by b.path)) (s e) w) _ K))
             ((hs z e from (frame_since zs y.1)).good n _ (λ w r q. on_round z w from r q))))
 
     good_loop : (n : ℕ) (K : Result → Told → Reply) → After n K → (h : State) (e : Frame) → Since st h → FrameFits P b.path h g M e →
         Good P b L copies n (at h) (λ w. finish (again (named_by b.path) t s e w) K)
     good_loop zero K k h e since ff = record { from = λ d x l r. absurd (omega arith) }
     good_loop (suc n) K k h e since ff =
-        good_same P b L copies (λ w l. sym (ap (λ o. finish o K) (loops_again (named_by b.path) t s e w l) ∙ finish_bind P b L copies (run (told (named_by b.path)) (t e) w) _ K))
+        good_same P b L copies (λ w l. sym (ap (λ o. finish o K) (loops_again (named_by b.path) t s e w l) ∙ finish_bind (run (told (named_by b.path)) (t e) w) _ K))
         ((ht h e since ff).good (suc n) _ (λ u r y. good_past n K k (good_loop n K (less k)) h u since r y))
 
   walk : (Q : State → Result → Type 0) (p : Prog) (st : State) → InOrder P b Q st p → WhereCalm P p → Fine Q st p
@@ -79,14 +79,14 @@ module _ (P : PlainProgram) (b : Bounds) (L : Scope) (copies : List ℕ) where
           Good P b L copies n (at st) (λ w. finish (run (told (named_by b.path)) (Makes j) w) K)
       made n K k = record {
         from = λ d t l r. goes_making P b L copies d st (suc st.made) _
-            (goes_same P b L copies d (at (having_made (suc st.made) st)) _ _ (λ xs. ap (λ o. finish o K) (sym (bind_bind P b L copies (turned (told_on P b L copies t (suc st.made) xs)) _ _)))
+            (goes_same P b L copies d (at (having_made (suc st.made) st)) _ _ (λ xs. ap (λ o. finish o K) (sym (bind_bind (turned (told_on t (suc st.made) xs)) _ _)))
             ((good_turn P b L copies (having_made (suc st.made) st) (λ v. run (told (named_by b.path)) (j (Made b.path st.made)) v) K
             (λ u s m. k u (record { grows = s.grows; made = m; entries = s.entries }))).from d t l (omega arith)));
       }
   walk Q (Again t s f j) st o c = record {
     good = λ n K k.
         good_same P b L copies (λ w l. ap (λ z. finish z K) (ap (λ z. bind z (λ r v. run (told (named_by b.path)) (j r) v)) (bind_done _)))
-        (good_same P b L copies (λ w l. sym (finish_bind P b L copies (again (named_by b.path) t s f w) _ K))
+        (good_same P b L copies (λ w l. sym (finish_bind (again (named_by b.path) t s f w) _ K))
         (good_loop o.0 o.1 st t s
         (λ h e since ff. walk (Rounds P b.path h o.1 o.0) (t e) h (o.3 h e since ff) (λ z. (c z).0 e))
         (λ h e since ff. walk (Rounds P b.path h o.1 o.0) (s e) h (o.4 h e since ff) (λ z. (c z).1 e))
@@ -95,7 +95,7 @@ module _ (P : PlainProgram) (b : Bounds) (L : Scope) (copies : List ℕ) where
   walk Q (Split forking ts bs j) st o c = record {
     good = λ n K k.
         good_same P b L copies (λ w l. ap (λ z. finish z K)
-        (sym (bind_bind P b L copies (asked (Fork (record { kind = forking; tasks = ts })) w) (λ a v. begins_then 0 (length ts) told_join v) (λ x v. run (told (named_by b.path)) (j x) v))))
+        (sym (bind_bind (asked (Fork (record { kind = forking; tasks = ts })) w) (λ a v. begins_then 0 (length ts) told_join v) (λ x v. run (told (named_by b.path)) (j x) v))))
         (good_fork P b L copies st forking ts o.0 (λ e. ((c e).0, (c e).1)) (λ x v. run (told (named_by b.path)) (j x) v) K
         (λ x u since brings. (walk Q (j x) u (o.1 x u since brings) (λ e. (c e).2 x)).good n K k));
   }
@@ -109,10 +109,10 @@ module _ (P : PlainProgram) (b : Bounds) (L : Scope) (copies : List ℕ) where
   -- a task that begins where its work is in order
   pub task_goes : (Q : State → Result → Type 0) (t : Task) (st : State) → InOrder P b Q st (does (named_by b.path) P t) → WhereCalm P (does (named_by b.path) P t) → st.made ≡ 0 →
       ((h : State) (r : Result) → Q h r → EndFits P b L copies h.shapes (ended t.work r)) → (d : ℕ) →
-      Goes P b L copies d (at st) (λ xs. replied t.work (run (told (named_by b.path)) (does (named_by b.path) P t) (told_on P b L copies 0 0 xs)))
+      Goes P b L copies d (at st) (λ xs. replied t.work (run (told (named_by b.path)) (does (named_by b.path) P t) (told_on 0 0 xs)))
   task_goes Q t st o c m ends d =
       let p = most_pos in
       let fine = walk Q (does (named_by b.path) P t) st o c in
       let good = good_same P b L copies (λ w l. replied_is t.work (run (told (named_by b.path)) (does (named_by b.path) P t) w))
       (fine.good (suc (most_turns * d + most_turns)) (λ r w. ending (ended t.work r) w.since w.to_come) (λ h r q. good_end P b L copies (ended t.work r) (ends h r q))) in
-      subst (λ y. Goes P b L copies d (at st) (λ xs. replied t.work (run (told (named_by b.path)) (does (named_by b.path) P t) (told_on P b L copies 0 y xs)))) m (good.from d 0 p (omega arith))
+      subst (λ y. Goes P b L copies d (at st) (λ xs. replied t.work (run (told (named_by b.path)) (does (named_by b.path) P t) (told_on 0 y xs)))) m (good.from d 0 p (omega arith))
