@@ -310,7 +310,7 @@ module _ (P : PlainProgram) (wt : WellTyped P) (arg : ℤ) {N : ℕ} {R : Run} {
           let keep : s.keeping w ≡ branch_kept bounds st forks (count af.before e.path) r.0 = ap (λ m. s.keeping ((m, r.0) ∷ e.path)) number ∙ af.kept r.0 in
           let local = end_local P (s.keeping w).bounds (s.keeping w).scope ok.0.work.copies s.shapes r.1 x v ok.2 r.3 in
           let f = fork_of ok.1 e.path (count j.before e.path, r.0) refl in
-          let same = same_of e.path (upto_trans f.stands (upto_tail over.stands)) af.stands f.path af.path (f.number ∙ number) in
+          let same = same_of e.path (upto_trans {xs = f.event ∷ f.before} f.stands (upto_tail over.stands)) af.stands f.path af.path (f.number ∙ number) in
           let is = same_tasks f.event af.event f.tasks (record { kind = forking; tasks = ts }) same.0 f.act af.act in
           record {
             number = r.0;
@@ -318,7 +318,7 @@ module _ (P : PlainProgram) (wt : WellTyped P) (arg : ℤ) {N : ℕ} {R : Run} {
             is = ap (λ (b : Branches). slice_get b.tasks r.0) (sym is) ∙ f.there;
             copied = local.0;
             ty = local.1;
-            local = ap (λ (k : Kept). k.scope.local x) (sym keep) ∙ local.2;
+            local = subst (λ (k : Kept). k.scope.local x ≡ Some (variable local.1)) keep local.2;
             fits = subst (λ (k : Kept). FitsIn P s.shapes (env_of k.bounds.setting) local.1 v) keep local.3;
           }
 
