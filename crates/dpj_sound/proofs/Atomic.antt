@@ -111,7 +111,7 @@ match_at env (a ∷ args) [] m p b l = absurd m
 match_at env (a ∷ args) (r ∷ rs) m zero b l = m.0
 match_at env (a ∷ args) (r ∷ rs) m (suc p) b l = match_at env args rs m.1 p b (omega (arith, l))
 
--- of a class, and behind them of a method
+-- of a class, and after them of a method
 pub both_atomic : (names ps qs : List Bool) (rs own : List Region) → length rs ≡ length ps → EndAtomic names ps rs → EndAtomic names qs own → EndAtomic names (ps ++ qs) (rs ++ own)
 both_atomic names ps qs rs own n h k p e = ⊎_elim first second (cases_lt p (length ps))
   where

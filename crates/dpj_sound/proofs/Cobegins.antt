@@ -1,4 +1,4 @@
--- Branches of a `cobegin`: their scopes and frames, that they are in order at their fork, and the locals behind their join.
+-- Branches of a `cobegin`: their scopes and frames, that they are in order at their fork, and the locals after their join.
 use Rattle.std.proofs.Common.{◌≡◌, ◌≢◌, ◌<◌, ◌-◌, ⊎_elim, ℕ, zero, suc, ◌+◌, Bool, true, false, cond, ◌==◌, ◌||◌, List, [], ◌∷◌, ◌++◌, length, refl, sym, ap, ◌∙◌, subst, arith, Option, Some, None, slice_get, slice_set, slice_index_or}
 use Rattle.std.specs.Prelude.{All, Contains, option_map}
 use Rattle.std.specs.List.{list_any}
@@ -21,7 +21,6 @@ use Rattle.dpj_sound.specs.Settings.{Setting, env_of}
 use Rattle.dpj_sound.specs.Shapes.{FitsIn}
 use Rattle.dpj_sound.specs.Accesses.{Bounds, Within}
 use Rattle.dpj_sound.specs.Branches.{MayMeet, Quiet, BranchFits, Forks}
-use Rattle.dpj_sound.specs.Covered.{CopiesApart, BranchesCovered}
 use Rattle.dpj_sound.specs.Frames.{Frame, State, LocalFits, FrameFits}
 use Rattle.dpj_sound.specs.Scopes.{LocalInScope, GoodScope}
 use Rattle.dpj_sound.proofs.Forks.{seen_constant, seen_local, seen_part, alone_in, alone_placed, alone_fits, frame_below}
@@ -143,7 +142,7 @@ module _ (L : Scope) (own others : List ℕ) where
 pub copies_variables : {P : PlainProgram} {L : Scope} {others : List ℕ} {bs : TypedBranches} {Es : List (List EffectOwn)} → BranchesPass P L others bs Es →
     All (IsVariable L) (all_copies bs)
 copies_variables no_branch = λ k d l. absurd (omega (arith, l))
-copies_variables {L = L} (one_branch {copies = copies} {bs = bs} v p rest) = All-append (IsVariable L) copies (all_copies bs) v (copies_variables rest)
+copies_variables {L = L} (one_branch {copies = copies} {bs = bs} v a p rest) = All-append (IsVariable L) copies (all_copies bs) v (copies_variables rest)
 
 -- the scope of the branch of a number
 abbrev scope_at : Scope → List ℕ → TypedBranches → ℕ → Scope
@@ -168,29 +167,27 @@ module _ (P : PlainProgram) (b : Bounds) (st : State) (L : Scope) (good : GoodSc
       itself (x ∷ xs) (suc k) d l = or_right (slice_index_or xs k d == x) (list_any (λ y. slice_index_or xs k d == y) xs) (itself xs k d (omega (arith, l)))
 
   -- each is in order at the fork
-  branch_at : {others : List ℕ} {bs : TypedBranches} {Es : List (List EffectOwn)} → BranchesPass P L others bs Es → All (IsVariable L) others → CopiesApart others bs →
-      BranchesCovered bs → Within b st.entries g (joined Es) → (j i : ℕ) (t : Task) → slice_get (tasks_of bs f) i ≡ Some t →
+  branch_at : {others : List ℕ} {bs : TypedBranches} {Es : List (List EffectOwn)} → BranchesPass P L others bs Es → All (IsVariable L) others → Within b st.entries g (joined Es) → (j i : ℕ) (t : Task) → slice_get (tasks_of bs f) i ≡ Some t →
       BranchFits P b st (j + i) t (scope_at L others bs i) g (slice_index_or Es i [])
-  branch_at no_branch v ca q w j i t e = absurd (cc)
-  branch_at {others} (one_branch {copies = copies} {s = s} {bs = bs} {E = E} {Es = Es} cv p rest) v ca q w j zero t e =
+  branch_at no_branch v w j i t e = absurd (cc)
+  branch_at {others} (one_branch {copies = copies} {s = s} {bs = bs} {E = E} {Es = Es} cv ca p rest) v w j zero t e =
       let z : branch_of None copies s f ≡ t = cc in
       subst (λ y. BranchFits P b st (j + 0) y (in_branch copies (others ++ all_copies bs) L) g E) z (record {
         is_branch = refl;
         passes = p;
-        covered = (q.0, tt);
         scope = good_branch L copies (others ++ all_copies bs) (All-append (IsVariable L) others (all_copies bs) v (copies_variables rest)) good;
         fits = λ u. frame_below (u, j + 0) (f.left - 1) (frame_seen L copies (others ++ all_copies bs) ff);
-        copies = own_variables copies (others ++ all_copies bs) cv ca.0;
+        copies = own_variables copies (others ++ all_copies bs) cv ca;
         within = λ a gu l. w a gu (lies_left g E (joined Es) a l);
       })
-  branch_at {others} (one_branch {copies = copies} {s = s} {bs = bs} {E = E} {Es = Es} cv p rest) v ca q w j (suc i) t e =
+  branch_at {others} (one_branch {copies = copies} {s = s} {bs = bs} {E = E} {Es = Es} cv ca p rest) v w j (suc i) t e =
       let k : suc j + i ≡ j + suc i = omega arith in
       subst (λ y. BranchFits P b st y t (scope_at L (others ++ copies) bs i) g (slice_index_or Es i [])) k
-      (branch_at rest (All-append (IsVariable L) others copies v cv) ca.1 q.1 (λ a gu l. w a gu (lies_right g E (joined Es) a l)) (suc j) i t e)
+      (branch_at rest (All-append (IsVariable L) others copies v cv) (λ a gu l. w a gu (lies_right g E (joined Es) a l)) (suc j) i t e)
 
   tasks_length : {others : List ℕ} {bs : TypedBranches} {Es : List (List EffectOwn)} → BranchesPass P L others bs Es → length (tasks_of bs f) ≡ length Es
   tasks_length no_branch = refl
-  tasks_length (one_branch v p rest) = ap (λ n. suc n) (tasks_length rest)
+  tasks_length (one_branch v a p rest) = ap (λ n. suc n) (tasks_length rest)
 
   quiet_back : (forking : Forking) (E F : List EffectOwn) → Quiet P forking g E g F → Quiet P forking g F g E
   quiet_back forking E F h a c m x y =
@@ -210,17 +207,17 @@ module _ (P : PlainProgram) (b : Bounds) (st : State) (L : Scope) (good : GoodSc
   scope_variable others (more_branches copies s bs) (suc i) x t e = scope_variable (others ++ copies) bs i x t e
 
   -- what is a variable for a branch is one outside, of the same values
-  pub cobegin_forks : (forking : Forking) {bs : TypedBranches} {Es : List (List EffectOwn)} → BranchesPass P L [] bs Es → NoClash P forking L Es → CopiesApart [] bs → BranchesCovered bs →
+  pub cobegin_forks : (forking : Forking) {bs : TypedBranches} {Es : List (List EffectOwn)} → BranchesPass P L [] bs Es → NoClash P forking L Es →
       Within b st.entries g (joined Es) →
       (forks : Forks P b st forking (tasks_of bs f)) × ((i : ℕ) → forks.setting i ≡ g)
       × ((i x : ℕ) (t : PlainType) → (forks.scope i).local x ≡ Some (variable t) → L.local x ≡ Some (variable t))
-  cobegin_forks forking {bs} {Es} p nc ca q w = (
+  cobegin_forks forking {bs} {Es} p nc w = (
     record {
       scope = scope_at L [] bs;
       setting = λ i. g;
       effects = λ i. slice_index_or Es i [];
       branch = λ i t e. (let k : 0 + i ≡ i = omega arith in subst (λ y. BranchFits P b st y t (scope_at L [] bs i) g (slice_index_or Es i [])) k
-          (branch_at p (λ k d l. absurd (omega (arith, l))) ca q w 0 i t e));
+          (branch_at p (λ k d l. absurd (omega (arith, l))) w 0 i t e));
       apart = apart;
     },
     λ i. refl,
@@ -233,7 +230,7 @@ module _ (P : PlainProgram) (b : Bounds) (st : State) (L : Scope) (good : GoodSc
       apart : (i j : ℕ) → i ≢ j → i < length (tasks_of bs f) → j < length (tasks_of bs f) → Quiet P forking g (slice_index_or Es i []) g (slice_index_or Es j [])
       apart i j ne l m = ⊎_elim (λ h. absurd (ne h)) (λ r. ⊎_elim (λ h. one i j h m) (λ h. quiet_back forking (slice_index_or Es j []) (slice_index_or Es i []) (one j i h l)) r) (cases_order i j)
 
--- behind the join
+-- after the join
 pub copied_fits : (P : PlainProgram) (p : Path) (h : State) (L : Scope) → GoodScope L → (g : Setting) (slots : List ℕ) (ls : List (ℕ × Value)) (f : Frame) →
     ((x : ℕ) (v : Value) → Contains ls (x, v) → (t : PlainType) × (L.local x ≡ Some (variable t)) × FitsIn P h.shapes (env_of g) t v) → FrameFits P p h g L f →
     FrameFits P p h g L (with_values f (copied slots ls f.values))

@@ -27,7 +27,7 @@ path_one (u ∷ p) (v ∷ q) e =
     let r = path_one p q k.1 in
     λ i. (h.0 i, k.0 i) ∷ r i
 
-code_one : (l m : LocalRegion) → local_code l ≡ local_code m → l ≡ m
+pub code_one : (l m : LocalRegion) → local_code l ≡ local_code m → l ≡ m
 code_one (Unmade r) (Unmade q) e = ap Unmade (ap (λ z. z.1) e)
 code_one (Unmade r) (Made q d) e = let k : 0 ≡ 2 * path_code q + 2 = ap (λ z. z.0) e in absurd (omega (arith, k))
 code_one (Made p c) (Unmade q) e = let k : 2 * path_code p + 2 ≡ 0 = ap (λ z. z.0) e in absurd (omega (arith, k))
@@ -38,7 +38,7 @@ code_one (Made p c) (Made q d) e =
     let s : c ≡ d = ap (λ z. z.1) e in
     λ i. Made (r i) (s i)
 
-even_code : (l : LocalRegion) (n : ℕ) → (local_code l).0 ≡ 2 * n + 1 → ⊥
+pub even_code : (l : LocalRegion) (n : ℕ) → (local_code l).0 ≡ 2 * n + 1 → ⊥
 even_code (Unmade r) n e = omega (arith, e)
 even_code (Made p c) n e = omega (arith, e)
 

@@ -1,5 +1,6 @@
 -- Expressions of a well-typed program are in order: one case a construct.
-use Rattle.std.proofs.Common.{◌≡◌, inl, ℕ, ℤ, pos, Bool, true, false, cond, List, [], ◌∷◌, length, refl, sym, ap, ◌∙◌, Option, Some, None, IsTrue}
+use Rattle.std.specs.Int.{w32}
+use Rattle.std.proofs.Common.{◌≡◌, inl, ℕ, ℤ, FitsSigned, pos, Bool, true, false, cond, List, [], ◌∷◌, length, refl, sym, ap, ◌∙◌, Option, Some, None, IsTrue}
 use Rattle.std.specs.Prelude.{All}
 use Rattle.std.proofs.lemmas.Bool.{false≢true}
 use Rattle.dpj_base.specs.declared.elems.Elem.{Elem}
@@ -29,7 +30,7 @@ use Rattle.dpj_regions.proofs.Putting.{specified_matches_one}
 use Rattle.dpj_runs.specs.Actions.{Read, Look, Answer, Went, Got, Out, Class, Length, Named, Joined, Fell}
 use Rattle.dpj_runs.specs.Objects.{Name, Value, Int, Boolean, Null, Object}
 use Rattle.dpj_sound.specs.Settings.{Setting, env_of, class_env, under}
-use Rattle.dpj_sound.specs.Shapes.{Shape, object, elements, Instance, ArrayInstance, IsNullOr, FitsIn, of_object, of_array}
+use Rattle.dpj_sound.specs.Shapes.{object, elements, Instance, ArrayInstance, IsNullOr, FitsIn, of_object, of_array}
 use Rattle.dpj_sound.specs.Accesses.{Access, Speaks, Bounds, Within}
 use Rattle.dpj_sound.specs.Frames.{Frame, State, Since, FrameFits}
 use Rattle.dpj_sound.specs.Scopes.{PathInScope}
@@ -39,6 +40,7 @@ use Rattle.dpj_sound.proofs.Types.{fits_same, same_sym, fits_with_up, path_up}
 use Rattle.dpj_sound.proofs.Indices.{IsIndexElem, fits_at_up, region_at_up}
 use Rattle.dpj_sound.proofs.Classes.{good_is, field_good, field_is, stands_args}
 use Rattle.dpj_sound.proofs.InScope.{paths_alone}
+use Rattle.dpj_sound.proofs.Ints.{add_fits, sub_fits, mul_fits, div_fits, rem_fits, length_fits}
 use Rattle.dpj_sound.proofs.Work.{since_after}
 
 -- an effect that is no mark of a block speaks of a read
@@ -86,35 +88,35 @@ module _ (P : PlainProgram) (b : Bounds) where
       go (Joined ls) u s h = absurd h
       go (Fell t p) u s h = absurd h
 
-  pub order_length : (R : State → Result → Type 0) (st : State) (n : Name) (f : Frame) (s : Shape) → st.shapes n ≡ Some s →
-      ((v : ℕ) (u : State) → Since st u → R u (Goes_on (Int (pos v)) f)) → InOrder P b R st (Act (Look n) (λ x. gives (Int (pos (length_seen x))) f))
+  pub order_length : (R : State → Result → Type 0) (st : State) (n : Name) (f : Frame) (g : Setting) (t : PlainType) (a : Rpl) → st.shapes n ≡ Some (elements g t a) →
+      ((v : ℕ) (u : State) → Since st u → FitsSigned w32 (pos v) → R u (Goes_on (Int (pos v)) f)) → InOrder P b R st (Act (Look n) (λ x. gives (Int (pos (length_seen x))) f))
   unfolding InOrder
-  order_length R st n f s e k = ((s, e), λ x u after fits. k (length_seen x) u (since_after (Look n) refl after))
+  order_length R st n f g t a e k = ((elements g t a, e), λ x u after fits. k (length_seen x) u (since_after (Look n) refl after) (length_fits x fits))
 
   -- an operation gives a value of its result's type, or traps
   abbrev after_operation : Place → Frame → Option Value → Prog
   after_operation at f o = elim o as (λ z. Prog) [ None ↦ Traps trap.Divide at | Some w ↦ gives w f ]
 
-  order_divided : (R : State → Result → Type 0) (st : State) (at : Place) (f : Frame) (z : ℤ) → R st (Goes_on (Int z) f) → (c : Bool) →
+  order_divided : (R : State → Result → Type 0) (st : State) (at : Place) (f : Frame) (z : ℤ) (c : Bool) → R st (Goes_on (Int z) f) →
       InOrder P b R st (after_operation at f (cond c None (Some (Int z))))
   unfolding InOrder
-  order_divided R st at f z r true = tt
-  order_divided R st at f z r false = r
+  order_divided R st at f z true r = tt
+  order_divided R st at f z false r = r
 
-  pub order_operation : (R : State → Result → Type 0) (st : State) (same : Name → Name → Bool) (at : Place) (o : BinaryOp) (v u : Value) (f : Frame) →
+  pub order_operation : (R : State → Result → Type 0) (st : State) (same : Name → Name → Bool) (at : Place) (o : BinaryOp) (v u : Value) (f : Frame) → FitsSigned w32 (number v) →
       ((w : Value) → FitsIn P st.shapes (class_env []) (result_of o) w → R st (Goes_on w f)) → InOrder P b R st (operation same at o v u f)
   unfolding InOrder
-  order_operation R st same at op.Add v u f k = k _ tt
-  order_operation R st same at op.Subtract v u f k = k _ tt
-  order_operation R st same at op.Multiply v u f k = k _ tt
-  order_operation R st same at op.Divide v u f k = order_divided R st at f _ (k _ tt) _
-  order_operation R st same at op.Remainder v u f k = order_divided R st at f _ (k _ tt) _
-  order_operation R st same at op.Equal v u f k = k _ tt
-  order_operation R st same at op.NotEqual v u f k = k _ tt
-  order_operation R st same at op.Less v u f k = k _ tt
-  order_operation R st same at op.AtMost v u f k = k _ tt
-  order_operation R st same at op.Greater v u f k = k _ tt
-  order_operation R st same at op.AtLeast v u f k = k _ tt
+  order_operation R st same at op.Add v u f small k = k _ (add_fits (number v) (number u))
+  order_operation R st same at op.Subtract v u f small k = k _ (sub_fits (number v) (number u))
+  order_operation R st same at op.Multiply v u f small k = k _ (mul_fits (number v) (number u))
+  order_operation R st same at op.Divide v u f small k = order_divided R st at f _ _ (k _ (div_fits (number v) (number u) small))
+  order_operation R st same at op.Remainder v u f small k = order_divided R st at f _ _ (k _ (rem_fits (number v) (number u) small))
+  order_operation R st same at op.Equal v u f small k = k _ tt
+  order_operation R st same at op.NotEqual v u f small k = k _ tt
+  order_operation R st same at op.Less v u f small k = k _ tt
+  order_operation R st same at op.AtMost v u f small k = k _ tt
+  order_operation R st same at op.Greater v u f small k = k _ tt
+  order_operation R st same at op.AtLeast v u f small k = k _ tt
 
   module _ (wt : WellTyped P) (L : Scope) (g : Setting) where
     -- a local's value, and its number where it stands in paths

@@ -1,5 +1,6 @@
--- Parallel constructs are in order: their forks, and what is behind their joins.
-use Rattle.std.proofs.Common.{arith, ◌≡◌, ℕ, ℤ, ◌+◌, pos, Bool, true, false, List, [], length, refl, sym, ◌∙◌, subst, Option, Some, None, IsTrue, ◌<◌}
+-- Parallel constructs are in order: their forks, and what is after their joins.
+use Rattle.std.specs.Int.{w32}
+use Rattle.std.proofs.Common.{arith, ◌≡◌, ◌^◌, ℕ, ℤ, FitsSigned, ◌+◌, pos, Bool, true, false, List, [], length, refl, sym, ◌∙◌, subst, Option, Some, None, IsTrue, ◌<◌}
 use Rattle.std.specs.Prelude.{All}
 use Rattle.std.proofs.lemmas.List.{length-set}
 use Rattle.dpj_base.specs.declared.place.Place.{Place}
@@ -29,7 +30,6 @@ use Rattle.dpj_sound.specs.Accesses.{Bounds, Within}
 use Rattle.dpj_sound.specs.Frames.{Frame, State, Since, FrameFits}
 use Rattle.dpj_sound.specs.Scopes.{PathInScope, TypeInScope, GoodScope}
 use Rattle.dpj_sound.specs.Branches.{Forks, Brings}
-use Rattle.dpj_sound.specs.Covered.{IsCovered, CopiesApart, BranchesCovered}
 use Rattle.dpj_sound.specs.Work.{Result, Brought, ReturnFits, InOrder}
 use Rattle.dpj_sound.specs.Laws.{Deeper}
 use Rattle.dpj_sound.proofs.Types.{fits_grows}
@@ -37,14 +37,15 @@ use Rattle.dpj_sound.proofs.Frames.{frame_since, within_since}
 use Rattle.dpj_sound.proofs.Locals.{other_than, frame_outside}
 use Rattle.dpj_sound.proofs.Alike.{set_other, set_same}
 use Rattle.dpj_sound.proofs.Expressions.{order_unless}
+use Rattle.dpj_sound.proofs.Ints.{length_fits, few_iterations}
 use Rattle.dpj_sound.proofs.Work.{since_since, since_after, order_post}
 use Rattle.dpj_sound.proofs.Parts.{free_itself}
 use Rattle.dpj_sound.proofs.PartForks.{good_parts, parts_forks}
 use Rattle.dpj_sound.proofs.Uses.{stmts_use}
 use Rattle.dpj_sound.proofs.Cobegins.{cobegin_forks, copied_fits}
-use Rattle.dpj_sound.proofs.Forks.{foreach_forks, iterations_length, copied_none, lies_branches}
+use Rattle.dpj_sound.proofs.Forks.{foreach_forks, copied_none, lies_branches}
 
--- behind statements that began in this state: locals that fit, where they can complete; or a value that a `return` gives
+-- after statements that began in this state: locals that fit, where they can complete; or a value that a `return` gives
 abbrev pub Left : PlainProgram → Bounds → Scope → Setting → Bool → State → State → Result → Type 0
 Left P b L g c st h (Goes_on v f) = IsTrue c × Since st h × FrameFits P b.path h g L f
 Left P b L g c st h (Returns v) = Since st h × ReturnFits P h.shapes g L.result v
@@ -54,19 +55,19 @@ pub left_since : (P : PlainProgram) (b : Bounds) (L : Scope) (g : Setting) (c d 
 left_since P b L g c d st h u (Goes_on v f) s i y = (i y.0, since_since s y.1, y.2)
 left_since P b L g c d st h u (Returns v) s i y = (since_since s y.0, y.1)
 
--- forks and what is behind their joins
+-- forks and what is after their joins
 module _ (P : PlainProgram) (b : Bounds) where
-  pub cobegin_order : (dp : Option Deeper) (L : Scope) → GoodScope L → (g : Setting) (st : State) (f : Frame) → FrameFits P b.path st g L f → (at : Place) (forking : Forking) → {bs : TypedBranches} {Es : List (List EffectOwn)} → BranchesPass P L [] bs Es → NoClash P forking L Es → CopiesApart [] bs → BranchesCovered bs →
+  pub cobegin_order : (dp : Option Deeper) (L : Scope) → GoodScope L → (g : Setting) (st : State) (f : Frame) → FrameFits P b.path st g L f → (at : Place) (forking : Forking) → {bs : TypedBranches} {Es : List (List EffectOwn)} → BranchesPass P L [] bs Es → NoClash P forking L Es →
       Within b st.entries g (after_branches forking (joined Es)) →
       InOrder P b (Left P b L g true st) st (of_stmt (named_by b.path) P dp (statement at (form.cobegin forking bs)) f)
   unfolding InOrder
-  cobegin_order None L good g st f ff at forking p nc ca q w = tt
-  cobegin_order (Some deeper) L good g st f ff at forking {bs} {Es} p nc ca q w =
-      λ few. (cobegin.0, λ x h s z. after x h s z)
+  cobegin_order None L good g st f ff at forking p nc w = tt
+  cobegin_order (Some deeper) L good g st f ff at forking {bs} {Es} p nc w =
+      (cobegin.0, λ x h s z. after x h s z)
     where
       cobegin : (forks : Forks P b st forking (tasks_of bs f)) × ((i : ℕ) → forks.setting i ≡ g)
           × ((i x : ℕ) (t : PlainType) → (forks.scope i).local x ≡ Some (variable t) → L.local x ≡ Some (variable t))
-      cobegin = cobegin_forks P b st L good g f ff forking p nc ca q (λ a gu l. w a gu (lies_branches forking g (joined Es) a l))
+      cobegin = cobegin_forks P b st L good g f ff forking p nc (λ a gu l. w a gu (lies_branches forking g (joined Es) a l))
 
       after : (x : Brought) (h : State) → Since st h → Brings P b st forking (tasks_of bs f) cobegin.0 h x →
           InOrder P b (Left P b L g true st) h (joined_after (all_copied bs) f x)
@@ -79,16 +80,15 @@ module _ (P : PlainProgram) (b : Bounds) where
       after (Trap_of_branch trap place) h s z = tt
 
   pub foreach_order : (dp : Option Deeper) (L : Scope) → GoodScope L → (g : Setting) (st : State) (f : Frame) → FrameFits P b.path st g L f → (at : Place) (forking : Forking) → {x : ℕ} {s : TypedStmt} {G : List EffectOwn} → IsFree L x → AllPass P (with_local x (constant int) (in_loop_branch L)) (more_stmts s no_stmts) G →
-      iterations_clash L.given (atomic_for forking P L) x (as_effects G) ≡ false → IsCovered s → All (λ o. PathInScope (with_local x (constant int) (in_loop_branch L)) 0 (effect_of o).rpl) G →
-      Within b st.entries g (outside_variable x (after_branches forking G)) → (start count : ℤ) →
+      iterations_clash L.given (atomic_for forking P L) x (as_effects G) ≡ false → All (λ o. PathInScope (with_local x (constant int) (in_loop_branch L)) 0 (effect_of o).rpl) G →
+      Within b st.entries g (outside_variable x (after_branches forking G)) → (start count : ℤ) → FitsSigned w32 count →
       InOrder P b (Left P b L g true st) st (forks dp at forking None x s start count f)
   unfolding InOrder
-  foreach_order None L good g st f ff at forking free p ic q i w start count = tt
-  foreach_order (Some deeper) L good g st f ff at forking {x} {s} free p ic q i w start count =
-      λ few. (
-        foreach_forks P b st L good g f ff forking free p ic q i w start (how_many count) (let k = iterations_length None x s f start 0 (how_many count) in let c = few.count in omega (arith, c, k)),
-        λ y h s1 z. after y h s1,
-      )
+  foreach_order None L good g st f ff at forking free p ic i w start count small = tt
+  foreach_order (Some deeper) L good g st f ff at forking {x} {s} free p ic i w start count small = (
+    foreach_forks P b st L good g f ff forking free p ic i w start (how_many count) (few_iterations count small),
+    λ y h s1 z. after y h s1,
+  )
     where
       after : (y : Brought) (h : State) → Since st h → InOrder P b (Left P b L g true st) h (joined_after [] f y)
       after (Back ls) h s1 = (refl, s1, subst (λ vs. FrameFits P b.path h g L (with_values f vs)) (sym (copied_none ls f.values)) (frame_since s1 ff))
@@ -99,20 +99,20 @@ module _ (P : PlainProgram) (wt : WellTyped P) (b : Bounds) (L : Scope) (good : 
     (free : (i : ℕ) → i < 5 → IsFree L (k + i)) (s : TypeInScope L 0 (array t a false)) where
   pub parts_order : (dp : Option Deeper) (st : State) (f : Frame) → FrameFits P b.path st g L f → (at : Place) (source : Source) → {body : TypedStmt} {G : List EffectOwn} →
       AllPass P (with_part k t a (in_loop_branch L)) (more_stmts body no_stmts) G → iterations_clash L.given None (k + 4) (besides_part k G) ≡ false →
-      lists_clash L.given None (besides_part k G) (through_part k G) ≡ false → IsCovered body → All (λ o. PathInScope (with_part k t a (in_loop_branch L)) 0 (effect_of o).rpl) G →
+      lists_clash L.given None (besides_part k G) (through_part k G) ≡ false → All (λ o. PathInScope (with_part k t a (in_loop_branch L)) 0 (effect_of o).rpl) G →
       Within b st.entries g (outside_variable (k + 4) (after_branches Deterministic (after_parts k source G))) →
-      FitsIn P st.shapes (env_of g) (array t a false) (slot_value f.values k) →
+      FitsIn P st.shapes (env_of g) (array t a false) (slot_value f.values k) → FitsSigned w32 (number (slot_value f.values (k + 2))) →
+      FitsSigned w32 (number (slot_value f.values (k + 3))) →
       ((j : ℕ) → source ≡ of_part j →
       g.part j ≡ record { array = slot_value f.values k; first = number (slot_value f.values (k + 1)); len = number (slot_value f.values (k + 2)) }) →
       InOrder P b (Left P b L g true st) st (parts dp at k body f)
   unfolding InOrder
-  parts_order None st f ff at source p ic lc q i w af is = tt
-  parts_order (Some deeper) st f ff at source {body} {G} p ic lc q i w af is =
-      λ few. (
-        parts_forks P b st L good g f ff k t a free s (s.2 refl) af p ic lc q i (stmts_use P wt p (good_parts P b st L good g f ff k t a free s))
-            source is w (how_many (number (slot_value f.values (k + 3)))) few,
-        λ y h s1 z. after y h s1,
-      )
+  parts_order None st f ff at source p ic lc i w af lf cf is = tt
+  parts_order (Some deeper) st f ff at source {body} {G} p ic lc i w af lf cf is = (
+    parts_forks P b st L good g f ff k t a free s (s.2 refl) af lf p ic lc i (stmts_use P wt p (good_parts P b st L good g f ff k t a free s))
+        source is w (how_many (number (slot_value f.values (k + 3)))) (few_iterations (number (slot_value f.values (k + 3))) cf),
+    λ y h s1 z. after y h s1,
+  )
     where
       after : (y : Brought) (h : State) → Since st h → InOrder P b (Left P b L g true st) h (joined_after [] f y)
       after (Back ls) h s1 = (refl, s1, subst (λ vs. FrameFits P b.path h g L (with_values f vs)) (sym (copied_none ls f.values)) (frame_since s1 ff))
@@ -125,7 +125,7 @@ module _ (P : PlainProgram) (wt : WellTyped P) (b : Bounds) (L : Scope) (good : 
   pub filled_first : {st : State} {f : Frame} (v : Value) → FrameFits P b.path st g L f → FrameFits P b.path st g L (with_value f k v)
   filled_first {st} {f} v ff = frame_outside P b.path st g L good f k v (free_itself L k t a free).0 ff
 
-  room : {st : State} {f : Frame} (i : ℕ) → i < 5 → FrameFits P b.path st g L f → k + i < length f.values
+  pub room : {st : State} {f : Frame} (i : ℕ) → i < 5 → FrameFits P b.path st g L f → k + i < length f.values
   room i l ff = subst (λ z. k + i < z) (sym ff.slots) (free i l).1
 
   pub room_first : {st : State} {f : Frame} → FrameFits P b.path st g L f → k < length f.values
@@ -136,6 +136,7 @@ module _ (P : PlainProgram) (wt : WellTyped P) (b : Bounds) (L : Scope) (good : 
       let e = with_value (part_taken_over k j f) (k + 3) u in
       let d = with_value e (k + 2) (slot_value e.values (j + 2)) in
       (slot_value d.values k ≡ slot_value f.values j) × (slot_value d.values (k + 1) ≡ slot_value f.values (j + 1)) × (slot_value d.values (k + 2) ≡ slot_value f.values (j + 2))
+      × (slot_value d.values (k + 3) ≡ u)
   taken_slots {st} f ff j lj u =
       let held = good.parts j t a lj in
       let first = with_value f k (slot_value f.values j) in
@@ -154,28 +155,31 @@ module _ (P : PlainProgram) (wt : WellTyped P) (b : Bounds) (L : Scope) (good : 
             ∙ set_other over.values (k + 3) (j + 2) u (other_than L (k + 3) (j + 2) reserved held.1 (free 3 (omega arith)).0)
             ∙ set_other first.values (k + 1) (j + 2) (slot_value first.values (j + 1)) (other_than L (k + 1) (j + 2) reserved held.1 (free 1 (omega arith)).0)
             ∙ set_other f.values k (j + 2) (slot_value f.values j) (other_than L k (j + 2) reserved held.1 (free_itself L k t a free).0),
+        set_other e.values (k + 2) (k + 3) last (λ z. omega (arith, z)) ∙ set_same over.values (k + 3) u (let l = room 3 (omega arith) ff in omega (arith, l, n1, n2)),
       )
 
-  -- behind the look at the array that is cut
+  -- after the look at the array that is cut
   pub array_order : (dp : Option Deeper) (st : State) (f : Frame) → FrameFits P b.path st g L f → (at : Place) (e : TypedExpr) → {body : TypedStmt} {G : List EffectOwn} →
       AllPass P (with_part k t a (in_loop_branch L)) (more_stmts body no_stmts) G → iterations_clash L.given None (k + 4) (besides_part k G) ≡ false →
-      lists_clash L.given None (besides_part k G) (through_part k G) ≡ false → IsCovered body → All (λ o. PathInScope (with_part k t a (in_loop_branch L)) 0 (effect_of o).rpl) G →
+      lists_clash L.given None (besides_part k G) (through_part k G) ≡ false → All (λ o. PathInScope (with_part k t a (in_loop_branch L)) 0 (effect_of o).rpl) G →
       Within b st.entries g (outside_variable (k + 4) (after_branches Deterministic (after_parts k (of_array e) G))) →
-      (v : Value) → slot_value f.values k ≡ v → FitsIn P st.shapes (env_of g) (array t a false) v →
+      FitsSigned w32 (number (slot_value f.values (k + 3))) → (v : Value) → slot_value f.values k ≡ v → FitsIn P st.shapes (env_of g) (array t a false) v →
       InOrder P b (Left P b L g true st) st (unless_null at v (λ n. Act (Look n) (λ x. parts dp at k body (with_value f (k + 2) (Int (pos (length_seen x)))))))
   unfolding InOrder
-  array_order dp st f ff at e {body} {G} p ic lc q i w v is fv = order_unless P b (Left P b L g true st) st at (ArrayInstance st.shapes (env_of g) t a)
+  array_order dp st f ff at e {body} {G} p ic lc i w cf v is fv = order_unless P b (Left P b L g true st) st at (ArrayInstance st.shapes (env_of g) t a)
       (λ n. Act (Look n) (λ x. parts dp at k body (with_value f (k + 2) (Int (pos (length_seen x)))))) looked v fv
     where
-      seen : (u : State) → Since st u → (x : Answer) → (len : ℕ) → x ≡ Length len → InOrder P b (Left P b L g true st) u (parts dp at k body (with_value f (k + 2) (Int (pos (length_seen x)))))
-      seen u s1 x len q1 =
+      seen : (u : State) → Since st u → (x : Answer) → (len : ℕ) × (len < 2 ^ 31) × (x ≡ Length len) → InOrder P b (Left P b L g true st) u (parts dp at k body (with_value f (k + 2) (Int (pos (length_seen x)))))
+      seen u s1 x is_length =
           order_post P b (Left P b L g true u) (Left P b L g true st) (λ z r y. left_since P b L g true true st u z r s1 (λ e. e) y) _ u
-          (parts_order dp u (with_value f (k + 2) (Int (pos (length_seen x)))) (filled 2 (Int (pos (length_seen x))) (omega arith) (frame_since s1 ff)) at (of_array e) p ic lc q i
+          (parts_order dp u (with_value f (k + 2) (Int (pos (length_seen x)))) (filled 2 (Int (pos (length_seen x))) (omega arith) (frame_since s1 ff)) at (of_array e) p ic lc i
           (within_since b s1 g _ w)
           (subst (FitsIn P u.shapes (env_of g) (array t a false))
           (sym (set_other f.values (k + 2) k (Int (pos (length_seen x))) (λ e. omega (arith, e)) ∙ is)) (fits_grows P st.shapes u.shapes s1.grows (env_of g) (array t a false) v fv))
+          (subst (λ z. FitsSigned w32 (number z)) (sym (set_same f.values (k + 2) (Int (pos (length_seen x))) (room 2 (omega arith) ff))) (length_fits x is_length))
+          (subst (λ z. FitsSigned w32 (number z)) (sym (set_other f.values (k + 2) (k + 3) (Int (pos (length_seen x))) (λ e. omega (arith, e)))) cf)
           (λ j z. absurd (let y : of_array e ≡ of_part j = z in cc)))
 
       looked : (n : Name) → ArrayInstance st.shapes (env_of g) t a n →
           InOrder P b (Left P b L g true st) st (Act (Look n) (λ x. parts dp at k body (with_value f (k + 2) (Int (pos (length_seen x))))))
-      looked n i' = ((elements i'.setting i'.element i'.rpl, i'.shape), λ x u after ans. seen u (since_after (Look n) refl after) x ans.0 ans.1)
+      looked n i' = ((elements i'.setting i'.element i'.rpl, i'.shape), λ x u after ans. seen u (since_after (Look n) refl after) x ans)

@@ -26,12 +26,12 @@ use Rattle.dpj_runs.specs.Objects.{Path, LocalRegion, Made, Unmade, Value, Int}
 use Rattle.dpj_sound.specs.Settings.{Setting, with_number}
 use Rattle.dpj_sound.specs.Accesses.{Access, Covers, LiesIn, Bounds, Within}
 use Rattle.dpj_sound.specs.Branches.{BranchFits, Forks}
-use Rattle.dpj_sound.specs.Covered.{IsCovered}
 use Rattle.dpj_sound.specs.Frames.{Frame, State, IsOld, LocalFits, FrameFits}
 use Rattle.dpj_sound.specs.Shapes.{Shapes}
 use Rattle.dpj_sound.specs.Scopes.{InScope, PathInScope, LocalInScope, GoodScope}
 use Rattle.dpj_sound.proofs.Frames.{frame_env}
 use Rattle.dpj_sound.proofs.Locals.{frame_declare, good_declare, lies_general}
+use Rattle.dpj_sound.proofs.Ints.{add_fits}
 use Rattle.dpj_sound.proofs.Numbers.{number_one}
 use Rattle.dpj_sound.proofs.Quiet.{iterations_quiet_of}
 use Rattle.dpj_sound.proofs.Placed.{LocalPlaced, PlacedScope, placed_wider}
@@ -199,7 +199,7 @@ all_no_copies L (y ∷ a) s = and_from (is_no_copy y) _ (no_copy L y (All-head (
 pub none_copied : (L : Scope) (c : Constraint) → PathInScope L 0 c.left × PathInScope L 0 c.right → HasNoCopies c
 none_copied L c s = and_from (no_copies c.left.elems) _ (all_no_copies L c.left.elems s.0) (all_no_copies L c.right.elems s.1)
 
--- behind a construct what its branches do is said without marks, or as they have it
+-- after a construct what its branches do is said without marks, or as they have it
 unmarked : (g : Setting) (o : EffectOwn) (a : Access) → Covers g o a → Covers g (marked false o) a
 unmarked g (does e) a c = record { matches = c.matches; writes = c.writes; guarded = λ z. absurd (let h : false ≡ true = z in cc) }
 unmarked g (uses k e) a c = c
@@ -219,14 +219,14 @@ module _ (P : PlainProgram) (b : Bounds) (st : State) (L : Scope) (good : GoodSc
       (record (numbered_frame x start i f) { left = f.left - 1 })
   iteration_frame x start i u free =
       frame_below u (f.left - 1) (frame_declare P b.path st g (in_loop_branch L) (good_loop L good) f x true int (Int (int_wrapping_add w32 start (pos i)))
-      (free_in_loop L x free) tt tt (frame_loop L ff))
+      (free_in_loop L x free) tt (add_fits start (pos i)) (frame_loop L ff))
 
   -- iterations are in order at their fork
   pub foreach_forks : (forking : Forking) {x : ℕ} {s : TypedStmt} {G : List EffectOwn} → IsFree L x → AllPass P (with_local x (constant int) (in_loop_branch L)) (more_stmts s no_stmts) G →
-      iterations_clash L.given (atomic_for forking P L) x (as_effects G) ≡ false → IsCovered s → All (λ o. PathInScope (with_local x (constant int) (in_loop_branch L)) 0 (effect_of o).rpl) G →
+      iterations_clash L.given (atomic_for forking P L) x (as_effects G) ≡ false → All (λ o. PathInScope (with_local x (constant int) (in_loop_branch L)) 0 (effect_of o).rpl) G →
       Within b st.entries g (outside_variable x (after_branches forking G)) → (start : ℤ) (n : ℕ) → n ≤ 2 ^ 32 →
       Forks P b st forking (iterations None x s f start 0 n)
-  foreach_forks forking {x} {s} {G} free p clash q in_scope w start n few = record {
+  foreach_forks forking {x} {s} {G} free p clash in_scope w start n few = record {
     scope = λ i. with_local x (constant int) (in_loop_branch L);
     setting = λ i. with_number x (number_at i) g;
     effects = λ i. G;
@@ -234,7 +234,6 @@ module _ (P : PlainProgram) (b : Bounds) (st : State) (L : Scope) (good : GoodSc
         (sym (iteration_at None x s f start 0 n i t e ∙ (let k : 0 + i ≡ i = omega arith in ap (λ z. branch_of None [] s (numbered_frame x start z f)) k))) (record {
           is_branch = refl;
           passes = p;
-          covered = (q, tt);
           scope = good_declare (in_loop_branch L) (good_loop L good) x true int (free_in_loop L x free) tt;
           fits = λ u. iteration_frame x start i (u, i) free;
           copies = λ k d l. absurd (omega (arith, l));

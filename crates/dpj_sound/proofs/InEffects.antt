@@ -22,7 +22,6 @@ use Rattle.dpj_typed.specs.Typing.{Has, literal_int, literal_boolean, literal_nu
 use Rattle.dpj_typed.specs.Typing.{Fit as fit}
 use Rattle.dpj_typed.specs.WellTyped.{WellTyped}
 use Rattle.dpj_sound.specs.Scopes.{InScope, PathInScope, GoodScope}
-use Rattle.dpj_sound.specs.Covered.{IsCovered, AreCovered, BranchesCovered}
 use Rattle.dpj_sound.proofs.Closed.{closed_path}
 use Rattle.dpj_sound.proofs.Classes.{field_good}
 use Rattle.dpj_sound.proofs.InScope.{good_type, substituted_in, index_in, above_in}
@@ -81,7 +80,7 @@ module _ (P : PlainProgram) (wt : WellTyped P) (outer : ℕ → Bool) where
 
     mutual
       pub effects_in : {e : TypedExpr} {E : List EffectOwn} → Has P L e E → All (OwnPlaced outer L) E
-      effects_in literal_int = none_in L
+      effects_in (literal_int fits) = none_in L
       effects_in literal_boolean = none_in L
       effects_in literal_null = none_in L
       effects_in (read_local h) = none_in L
@@ -150,7 +149,7 @@ module _ (P : PlainProgram) (wt : WellTyped P) (outer : ℕ → Bool) where
   pub marked_in : (L : Scope) (c : Bool) (E : List EffectOwn) → All (OwnPlaced outer L) E → All (OwnPlaced outer L) (map (marked c) E)
   marked_in L c E h = All-map (OwnPlaced outer L) (marked c) E (λ k d l. own_marked L c (slice_index_or E k d) (h k d l))
 
-  -- behind branches, and outside their scopes
+  -- after branches, and outside their scopes
   branches_in : (L : Scope) (forking : Forking) (E : List EffectOwn) → All (OwnPlaced outer L) E → All (OwnPlaced outer L) (after_branches forking E)
   branches_in L Deterministic E h = marked_in L false E h
   branches_in L Nondeterministic E h = h
@@ -161,7 +160,7 @@ module _ (P : PlainProgram) (wt : WellTyped P) (outer : ℕ → Bool) where
   none_assigned : (L : Scope) → All (IsVariable L) []
   none_assigned L = λ k d l. absurd (omega (arith, l))
 
-  -- what is cut, and what is behind a construct over parts
+  -- what is cut, and what is after a construct over parts
   pub cut_placed : (L : Scope) → GoodScope L → PlacedScope outer L → {source : Source} {t : PlainType} {a : Rpl} {E : List EffectOwn} → Cuts P L source t a E →
       TypePlaced outer L 0 (array t a false)
   cut_placed L good pl (cuts_array h ty full) = subst (TypePlaced outer L 0) ty (typed_placed outer P wt L good pl h)
@@ -181,7 +180,7 @@ module _ (P : PlainProgram) (wt : WellTyped P) (outer : ℕ → Bool) where
   after_parts_in L k source E h = All-map (OwnPlaced outer L) (own_after k source) E
       (λ j d l. own_after_in L source (is_through k (slice_index_or E j d)) (slice_index_or E j d) (h j d l))
 
-  -- behind the scope of local regions
+  -- after the scope of local regions
   pub regions_in : (L : Scope) (rs : List ℕ) (F : List EffectOwn) → All (OwnPlaced outer (with_regions rs L)) F → All (OwnPlaced outer L) (outside_regions rs F)
   regions_in L rs [] h = none_in L
   regions_in L rs (o ∷ F) h =
@@ -194,58 +193,58 @@ module _ (P : PlainProgram) (wt : WellTyped P) (outer : ℕ → Bool) where
       (cases_Bool (begins_in rs (effect_of o).rpl.elems))
 
   mutual
-    stmt_effects_in : {L : Scope} {s : TypedStmt} {E : List EffectOwn} → Passes P L s E → GoodScope L → PlacedScope outer L → IsCovered s → All (OwnPlaced outer L) E
-    stmt_effects_in {L} (store lx h sub) good pl q = effects_in L good pl h
-    stmt_effects_in {L} (store_field {c = c} {k = k} {args = args} {f = f} {E = E} {F = F} ho ty fe kn he sub) good pl q =
+    stmt_effects_in : {L : Scope} {s : TypedStmt} {E : List EffectOwn} → Passes P L s E → GoodScope L → PlacedScope outer L → All (OwnPlaced outer L) E
+    stmt_effects_in {L} (store lx h sub) good pl = effects_in L good pl h
+    stmt_effects_in {L} (store_field {c = c} {k = k} {args = args} {f = f} {E = E} {F = F} ho ty fe kn he sub) good pl =
         both_in L E _ (effects_in L good pl ho) (both_in L F _ (effects_in L good pl he) (one_in L _ (region_in_scope L c k args f fe (args_in L good pl c args ho ty))))
-    stmt_effects_in {L} (store_element {i = i} {E = E} {F = F} {G = G} ha ty hi ti rg he sub) good pl q =
+    stmt_effects_in {L} (store_element {i = i} {E = E} {F = F} {G = G} ha ty hi ti rg he sub) good pl =
         both_in L E _ (effects_in L good pl ha) (both_in L F _ (effects_in L good pl hi) (both_in L G _ (effects_in L good pl he) (one_in L _ (element_in L good pl i ha ty))))
-    stmt_effects_in {L} (store_part {k = k} {t = t} {a = a} {E = E} {F = F} e hi ti he sub) good pl q = both_in L E _ (effects_in L good pl hi)
+    stmt_effects_in {L} (store_part {k = k} {t = t} {a = a} {E = E} {F = F} e hi ti he sub) good pl = both_in L E _ (effects_in L good pl hi)
         (both_in L F _ (effects_in L good pl he) (one_in L _ (part_in L good pl k t a e)))
-    stmt_effects_in {L} (perform ip h) good pl q = effects_in L good pl h
-    stmt_effects_in (nested p) good pl q = stmts_effects_in p good pl q
-    stmt_effects_in {L} (choice {E = E} {F = F} h ty p) good pl q = both_in L E F (effects_in L good pl h) (stmts_effects_in p good pl (q, tt))
-    stmt_effects_in {L} (choice_else {E = E} {F = F} {G = G} h ty p r) good pl q = both_in L E _ (effects_in L good pl h)
-        (both_in L F G (stmts_effects_in p good pl (q.0, tt)) (stmts_effects_in r good pl (q.1, tt)))
-    stmt_effects_in {L} (while_loop {E = E} {F = F} h ty p) good pl q = both_in L E F (effects_in L good pl h) (stmts_effects_in p good pl (q, tt))
-    stmt_effects_in {L} (return_nothing e) good pl q = none_in L
-    stmt_effects_in {L} (return_value e h sub) good pl q = effects_in L good pl h
-    stmt_effects_in {L} (print_int h ty) good pl q = effects_in L good pl h
-    stmt_effects_in {L} (print_boolean h ty) good pl q = effects_in L good pl h
-    stmt_effects_in {L} print_text good pl q = none_in L
-    stmt_effects_in {L} (atomic {E = E} p se) good pl q = marked_in L true E (stmts_effects_in p (good_block L good) (placed_block outer L pl) q)
-    stmt_effects_in {L} (cobegin {forking = forking} {Es = Es} calm p nc) good pl q =
-        branches_in L forking (joined Es) (branches_effects_in p (none_assigned L) good pl q.1)
-    stmt_effects_in {L} (foreach {forking = forking} {x = x} {E = E} {F = F} {G = G} calm hs ts hc tc free p ic) good pl q =
+    stmt_effects_in {L} (perform ip h) good pl = effects_in L good pl h
+    stmt_effects_in (nested p) good pl = stmts_effects_in p good pl
+    stmt_effects_in {L} (choice {E = E} {F = F} h ty p) good pl = both_in L E F (effects_in L good pl h) (stmts_effects_in p good pl)
+    stmt_effects_in {L} (choice_else {E = E} {F = F} {G = G} h ty p r) good pl = both_in L E _ (effects_in L good pl h)
+        (both_in L F G (stmts_effects_in p good pl) (stmts_effects_in r good pl))
+    stmt_effects_in {L} (while_loop {E = E} {F = F} h ty p) good pl = both_in L E F (effects_in L good pl h) (stmts_effects_in p good pl)
+    stmt_effects_in {L} (return_nothing e) good pl = none_in L
+    stmt_effects_in {L} (return_value e h sub) good pl = effects_in L good pl h
+    stmt_effects_in {L} (print_int h ty) good pl = effects_in L good pl h
+    stmt_effects_in {L} (print_boolean h ty) good pl = effects_in L good pl h
+    stmt_effects_in {L} print_text good pl = none_in L
+    stmt_effects_in {L} (atomic {E = E} p se) good pl = marked_in L true E (stmts_effects_in p (good_block L good) (placed_block outer L pl))
+    stmt_effects_in {L} (cobegin {forking = forking} {Es = Es} calm p nc) good pl =
+        branches_in L forking (joined Es) (branches_effects_in p (none_assigned L) good pl)
+    stmt_effects_in {L} (foreach {forking = forking} {x = x} {E = E} {F = F} {G = G} calm hs ts hc tc free p ic) good pl =
         both_in L E _ (effects_in L good pl hs) (both_in L F _ (effects_in L good pl hc)
         (all_narrower (in_loop_branch L) L (loop_narrower L) _ (outside_in (in_loop_branch L) x (constant int) (after_branches forking G)
         (branches_in (with_local x (constant int) (in_loop_branch L)) forking G (stmts_effects_in p
         (good_declare (in_loop_branch L) (good_loop L good) x true int (free_in_loop L x free) tt)
-        (placed_declare outer (in_loop_branch L) (placed_loop outer L pl) x true int (free_in_loop L x free) tt) (q, tt))))))
-    stmt_effects_in {L} (foreach_parts {k = k} {source = source} {t = t} {a = a} {E = E} {F = F} {G = G} cu hc tc free p ic lc) good pl q =
+        (placed_declare outer (in_loop_branch L) (placed_loop outer L pl) x true int (free_in_loop L x free) tt))))))
+    stmt_effects_in {L} (foreach_parts {k = k} {source = source} {t = t} {a = a} {E = E} {F = F} {G = G} cu hc tc free p ic lc) good pl =
         let inner = stmts_effects_in p (good_part (in_loop_branch L) k t a (free_in_branch L k (free_slots L k free)) (good_loop L good)
         (wider_type L (in_loop_branch L) (loop_wider L) 0 (array t a false) (cuts_in P wt L good cu)))
         (placed_part (in_loop_branch L) k t a (free_in_branch L k (free_slots L k free)) outer (placed_loop outer L pl)
-        (placed_wider outer L (in_loop_branch L) (loop_wider L) (part t a) (cut_placed L good pl cu))) (q, tt) in
+        (placed_wider outer L (in_loop_branch L) (loop_wider L) (part t a) (cut_placed L good pl cu))) in
         both_in L E _ (cut_in L good pl cu) (both_in L F _ (effects_in L good pl hc)
         (all_narrower (with_slots k t a (in_loop_branch L)) L (slots_narrower L k t a) _
         (outside_in (with_slots k t a (in_loop_branch L)) (k + 4) (constant int) (after_branches Deterministic (after_parts k source G))
         (marked_in (with_part k t a (in_loop_branch L)) false (after_parts k source G) (after_parts_in (with_part k t a (in_loop_branch L)) k source G inner)))))
 
-    pub stmts_effects_in : {L : Scope} {ss : TypedStmts} {E : List EffectOwn} → AllPass P L ss E → GoodScope L → PlacedScope outer L → AreCovered ss → All (OwnPlaced outer L) E
-    stmts_effects_in {L} no_more good pl q = none_in L
-    stmts_effects_in {L} (then' {E = E} {F = F} p c rest) good pl q = both_in L E F (stmt_effects_in p good pl q.0) (stmts_effects_in rest good pl q.1)
-    stmts_effects_in {L} (declare {x = x} {t = t} {is_final = is_final} {E = E} {F = F} free gt h sub rest) good pl q =
-        both_in L E (outside_variable x F) (effects_in L good pl h) (outside_in L x (declared_as is_final t) F (stmts_effects_in rest (good_declare L good x is_final t free (good_type P L 0 t gt)) (placed_declare outer L pl x is_final t free (good_placed outer P L 0 t gt)) q.1))
-    stmts_effects_in {L} (declare_regions {rs = rs} {F = F} fr rest) good pl q =
-        regions_in L rs F (stmts_effects_in rest (good_regions L good rs) (placed_regions outer L pl rs) q.1)
+    pub stmts_effects_in : {L : Scope} {ss : TypedStmts} {E : List EffectOwn} → AllPass P L ss E → GoodScope L → PlacedScope outer L → All (OwnPlaced outer L) E
+    stmts_effects_in {L} no_more good pl = none_in L
+    stmts_effects_in {L} (then' {E = E} {F = F} p c rest) good pl = both_in L E F (stmt_effects_in p good pl) (stmts_effects_in rest good pl)
+    stmts_effects_in {L} (declare {x = x} {t = t} {is_final = is_final} {E = E} {F = F} free gt h sub rest) good pl =
+        both_in L E (outside_variable x F) (effects_in L good pl h) (outside_in L x (declared_as is_final t) F (stmts_effects_in rest (good_declare L good x is_final t free (good_type P L 0 t gt)) (placed_declare outer L pl x is_final t free (good_placed outer P L 0 t gt))))
+    stmts_effects_in {L} (declare_regions {rs = rs} {F = F} fr rest) good pl =
+        regions_in L rs F (stmts_effects_in rest (good_regions L good rs) (placed_regions outer L pl rs))
 
     branches_effects_in : {L : Scope} {others : List ℕ} {bs : TypedBranches} {Es : List (List EffectOwn)} → BranchesPass P L others bs Es → All (IsVariable L) others →
-        GoodScope L → PlacedScope outer L → BranchesCovered bs → All (OwnPlaced outer L) (joined Es)
-    branches_effects_in {L} no_branch v good pl q = none_in L
-    branches_effects_in {L} {others} (one_branch {copies = copies} {bs = bs} {E = E} {Es = Es} cv p rest) v good pl q =
+        GoodScope L → PlacedScope outer L → All (OwnPlaced outer L) (joined Es)
+    branches_effects_in {L} no_branch v good pl = none_in L
+    branches_effects_in {L} {others} (one_branch {copies = copies} {bs = bs} {E = E} {Es = Es} cv ca p rest) v good pl =
         let seen = All-append (IsVariable L) others (all_copies bs) v (copies_variables rest) in
         both_in L E (joined Es)
         (all_narrower (in_branch copies (others ++ all_copies bs) L) L (branch_narrower L copies (others ++ all_copies bs)) E
-        (stmts_effects_in p (good_branch L copies (others ++ all_copies bs) seen good) (placed_branch L copies (others ++ all_copies bs) seen outer pl) (q.0, tt)))
-        (branches_effects_in rest (All-append (IsVariable L) others copies v cv) good pl q.1)
+        (stmts_effects_in p (good_branch L copies (others ++ all_copies bs) seen good) (placed_branch L copies (others ++ all_copies bs) seen outer pl)))
+        (branches_effects_in rest (All-append (IsVariable L) others copies v cv) good pl)

@@ -346,7 +346,7 @@ module _ (P : PlainProgram) (wt : WellTyped P) (L : Scope) where
 
   module _ (good : GoodScope L) where
     pub typed_in : {e : TypedExpr} {E : List EffectOwn} → Has P L e E → TypeInScope L 0 (type_of e)
-    typed_in literal_int = tt
+    typed_in (literal_int fits) = tt
     typed_in literal_boolean = tt
     typed_in literal_null = tt
     typed_in (read_local {x = x} {t = t} h) = elim h [

@@ -184,7 +184,7 @@ frame_declare P p st g L good f x is_final t v free s fv ff = record {
     same : slot_value (slice_set f.values x v) x ≡ v
     same = set_same f.values x v (let b = free.1 in let d = ff.slots in omega (arith, b, d))
 
--- behind the block that it stands in
+-- after the block that it stands in
 pub frame_leave : (P : PlainProgram) (p : Path) (st : State) (g : Setting) (L : Scope) → GoodScope L → (f : Frame) (x : ℕ) (l : ScopeLocal) (k : ℤ) →
     L.local x ≡ None →
     FrameFits P p st (with_number x k g) (with_local x l L) f → FrameFits P p st g L f

@@ -1,5 +1,6 @@
 -- New objects and arrays are what their types say.
-use Rattle.std.proofs.Common.{◌≡◌, ◌<◌, inl, inr, ℕ, ℤ, zero, suc, pos, negsuc, Bool, true, false, List, [], ◌∷◌, ◌++◌, map, length, refl, sym, ap, ◌∙◌, subst, arith, Some, IsTrue, slice_index_or}
+use Rattle.std.specs.Int.{w32}
+use Rattle.std.proofs.Common.{◌≡◌, ◌<◌, inl, inr, ℕ, ℤ, FitsSigned, zero, suc, pos, negsuc, Bool, true, false, List, [], ◌∷◌, ◌++◌, map, length, refl, sym, ap, ◌∙◌, subst, arith, Some, IsTrue, slice_index_or}
 use Rattle.std.specs.Prelude.{All}
 use Rattle.std.proofs.lemmas.List.{get_or-map, length-map, map-append}
 use Rattle.std.proofs.lemmas.List.Elements.{All-head, All-tail}
@@ -181,15 +182,15 @@ module _ (P : PlainProgram) (wt : WellTyped P) (b : Bounds) (L : Scope) (g : Set
 
   -- a new array, or a trap
   pub order_new_array : (R : State → Result → Type 0) (at : Place) (t : PlainType) (a : Rpl) (named : Bool) → GoodType P L 0 (array t a named) →
-      fully_specified a ≡ true → (k : ℤ) →
+      fully_specified a ≡ true → (k : ℤ) → FitsSigned w32 k →
       ((v : Value) (h : State) → Since st h → FitsIn P h.shapes (env_of g) (array t a named) v → R h (Goes_on v f)) →
       InOrder P b R st (made_array (named_by b.path) at (array t a named) k f)
   unfolding InOrder
-  order_new_array R at t a named gt u (negsuc k) i = tt
-  order_new_array R at t a named gt u (pos k) i =
+  order_new_array R at t a named gt u (negsuc k) small i = tt
+  order_new_array R at t a named gt u (pos k) small i =
       order_cond P b R st (is_long (put a)) (Traps trap.Stack at) (Act (New (An_array (put a) k (first_of t)) false) (λ x. gives (name_made x) f))
       (order_trap P b R st trap.Stack at) (
-        (elements g t a, (λ j. element_put j a scope, refl)),
+        (elements g t a, (λ j. element_put j a scope, small.sfits, refl)),
         λ x h after ans. subst (λ z. InOrder P b R h (gives (name_made z) f)) (sym ans.1)
             (i (Object ans.0) h (since_after (New (An_array (put a) k (first_of t)) false) refl after)
             (record {

@@ -1,6 +1,6 @@
 -- Branches that take each a part of an array are in order at their fork.
-use Rattle.std.proofs.Common.{◌≡◌, ◌≢◌, ◌<◌, ◌-◌, ◌^◌, ◌⊎◌, inl, inr, ℕ, ℤ, ◌+◌, pos, Bool, true, false, not, cond, ◌==◌, ◌||◌, List, [], ◌∷◌, map, length, refl, sym, ap, ◌∙◌, subst, arith, Some, None, slice_set, slice_index_or}
-use Rattle.std.specs.Prelude.{All, int_lt, ◌+ℤ◌}
+use Rattle.std.proofs.Common.{◌≡◌, ◌≢◌, ◌<◌, ◌-◌, ◌^◌, ◌⊎◌, inl, inr, ℕ, ℤ, FitsSigned, ◌+◌, ◌≤◌, pos, Bool, true, false, not, cond, ◌==◌, ◌||◌, List, [], ◌∷◌, map, length, refl, sym, ap, ◌∙◌, subst, arith, Some, None, slice_set, slice_index_or}
+use Rattle.std.specs.Prelude.{All, ◌+ℤ◌}
 use Rattle.std.specs.List.{filter}
 use Rattle.std.specs.Int.{w32, int_wrapping_add}
 use Rattle.std.proofs.lemmas.List.{length-set}
@@ -23,18 +23,17 @@ use Rattle.dpj_sound.specs.Settings.{Places, Setting, env_of, with_number}
 use Rattle.dpj_sound.specs.Shapes.{FitsIn}
 use Rattle.dpj_sound.specs.Accesses.{Access, Speaks, Through, Covers, LiesIn, Bounds, Within}
 use Rattle.dpj_sound.specs.Branches.{Meet, Quiet, BranchFits, Forks}
-use Rattle.dpj_sound.specs.Covered.{IsCovered}
 use Rattle.dpj_sound.specs.Frames.{Frame, State, FrameFits}
-use Rattle.dpj_sound.specs.Work.{IsNumbered}
 use Rattle.dpj_sound.specs.Scopes.{PathInScope, TypeInScope, GoodScope}
 use Rattle.dpj_sound.proofs.Alike.{setting_back, setting_alike, alike_matches, set_other, set_same}
-use Rattle.dpj_sound.proofs.Forks.{good_loop, loop_wider, frame_loop, frame_below, begin_of, iteration_at, iteration_there, iterations_length, lies_branches, none_copied}
+use Rattle.dpj_sound.proofs.Forks.{good_loop, loop_wider, frame_loop, frame_below, begin_of, iteration_at, iterations_length, lies_branches, none_copied}
 use Rattle.dpj_sound.proofs.Frames.{frame_env}
 use Rattle.dpj_sound.proofs.InScope.{out_path}
 use Rattle.dpj_sound.proofs.Locals.{frame_outside, number_alike, lies_general}
+use Rattle.dpj_sound.proofs.Ints.{add_fits}
 use Rattle.dpj_sound.proofs.Numbers.{number_one}
 use Rattle.dpj_sound.proofs.Parts.{with_places, good_part, frame_part}
-use Rattle.dpj_sound.proofs.Places.{taken, in_whole, parts_apart}
+use Rattle.dpj_sound.proofs.Places.{taken, part_fits, in_whole, parts_apart}
 use Rattle.dpj_sound.proofs.Quiet.{Reaches, lists_quiet, reached_same, iterations_quiet}
 use Rattle.dpj_sound.proofs.Uses.{UsesPart, own_part, free_in_branch}
 use Rattle.dpj_sound.proofs.Wider.{wider_type}
@@ -96,7 +95,7 @@ module _ (k : ℕ) (g : Setting) (n : ℤ) (pl : Places) (a : Access) where
   lies_split (does e ∷ E) h = elim h [ inl c ↦ inl (inl (speaks_same e c)) | inr r ↦ split_more (does e) E (lies_split E r) ]
   lies_split (uses j e ∷ E) h = elim h [ inl c ↦ split_use j e E (speaks_same e c.0) c.1 | inr r ↦ split_more (uses j e) E (lies_split E r) ]
 
-  -- behind the construct it speaks of them too
+  -- after the construct it speaks of them too
   lies_after : (source : Source) → ((j : ℕ) → source ≡ of_part j → Through pl a → Through (g.part j) a) → (E : List EffectOwn) →
       LiesIn (with_number (k + 4) n (with_places k pl g)) E a → LiesIn (with_number (k + 4) n g) (after_parts k source E) a
   lies_after source up [] h = h
@@ -217,7 +216,8 @@ module _ (P : PlainProgram) (b : Bounds) (st : State) (L : Scope) (good : GoodSc
       set_other (with_first i) (k + 2) (k + 4) (Int (part_length k (numbered_slots i))) (λ e. omega (arith, e))
       ∙ set_other (numbered_slots i) (k + 1) (k + 4) (Int (part_first k (numbered_slots i))) (λ e. omega (arith, e)) ∙ slot_number i
 
-  module _ (alone : (has_index 0 a ≡ false) × (mentions_index 0 t ≡ false)) (array_fits : FitsIn P st.shapes (env_of g) (array t a false) (slot_value f.values k)) where
+  module _ (alone : (has_index 0 a ≡ false) × (mentions_index 0 t ≡ false)) (array_fits : FitsIn P st.shapes (env_of g) (array t a false) (slot_value f.values k))
+      (len_fits : FitsSigned w32 whole.len) where
     -- so the frame fits in which a branch begins
     branch_frame : (i : ℕ) (u : ℕ × ℕ) →
         FrameFits P (u ∷ b.path) (begin_of st) (inner i) (with_part k t a (in_loop_branch L)) (begun (Some k) (record (numbered_frame (k + 4) (pos 0) i f) { left = f.left - 1 }))
@@ -235,7 +235,8 @@ module _ (P : PlainProgram) (b : Bounds) (st : State) (L : Scope) (good : GoodSc
         (subst (λ y. FrameFits P b.path st (with_number (k + 4) (number (slot_value (part_frame i).values (k + 4))) (with_places k y g)) (with_part k t a (in_loop_branch L)) (part_frame i)) pl
         (frame_part (in_loop_branch L) k t a loop_free P b.path st g (good_loop L good) in_branch_scope alone (part_frame i)
         (subst (FitsIn P st.shapes (env_of g) (array t a false)) (sym e0) array_fits)
-        (subst (FitsIn P st.shapes (env_of g) int) (sym e2) tt) (subst (FitsIn P st.shapes (env_of g) int) (sym e4) tt) (frame_at i))))
+        (subst (FitsIn P st.shapes (env_of g) int) (sym e2) (subst (FitsSigned w32) (sym (length_at i)) (part_fits whole.array whole.first whole.len count (number_at i) len_fits)))
+        (subst (FitsIn P st.shapes (env_of g) int) (sym e4) (add_fits (pos 0) (pos i))) (frame_at i))))
 
     -- what is done through a part has its path, which knows nothing of the number
     path_outside : PathInScope (in_loop_branch L) 0 a
@@ -273,13 +274,13 @@ module _ (P : PlainProgram) (b : Bounds) (st : State) (L : Scope) (good : GoodSc
 
     module _ {G : List EffectOwn} {body : TypedStmt} (p : AllPass P (with_part k t a (in_loop_branch L)) (more_stmts body no_stmts) G)
         (clash : iterations_clash L.given None (k + 4) (besides_part k G) ≡ false) (apart : lists_clash L.given None (besides_part k G) (through_part k G) ≡ false)
-        (covered : IsCovered body) (in_scope : All (λ o. PathInScope (with_part k t a (in_loop_branch L)) 0 (effect_of o).rpl) G)
+        (in_scope : All (λ o. PathInScope (with_part k t a (in_loop_branch L)) 0 (effect_of o).rpl) G)
         (us : All (UsesPart (with_part k t a (in_loop_branch L))) G) where
       is_env : (i : ℕ) → IsEnv L.given (env_of (with_number (k + 4) (number_at i) g))
       is_env i = frame_env (branch_frame i (0, 0))
 
-      parts_quiet : int_lt (pos (2 ^ 32)) (number (slot_value f.values (k + 2))) ≡ false → (i j : ℕ) → number_at i ≢ number_at j → Quiet P Deterministic (inner i) G (inner j) G
-      parts_quiet few i j ne x y meet hx hy = both (lies_split k g (number_at i) (part_at i) x G hx) (lies_split k g (number_at j) (part_at j) y G hy)
+      parts_quiet : (i j : ℕ) → number_at i ≢ number_at j → Quiet P Deterministic (inner i) G (inner j) G
+      parts_quiet i j ne x y meet hx hy = both (lies_split k g (number_at i) (part_at i) x G hx) (lies_split k g (number_at j) (part_at j) y G hy)
         where
           -- neither, one or both are through a branch's own part
           both : Split k g (number_at i) (part_at i) x G → Split k g (number_at j) (part_at j) y G → ⊥
@@ -291,7 +292,7 @@ module _ (P : PlainProgram) (b : Bounds) (st : State) (L : Scope) (good : GoodSc
           both (inr hx) (inl hy) = lists_quiet L.given None (env_of (with_number (k + 4) (number_at j) g)) (is_env j) tt y x (meet_back meet) (besides_part k G) (through_part k G) apart
               (reached_same (with_number (k + 4) (number_at j) g) y (filter (λ o. not (is_through k o)) G) hy) (through_moves (number_at i) (number_at j) x G us hx.0)
           both (inr hx) (inr hy) = parts_apart (slot_value f.values k) (number (slot_value f.values (k + 1))) (number (slot_value f.values (k + 2))) (number (slot_value f.values (k + 3)))
-              (number_at i) (number_at j) x y hx.1 hy.1 ne few meet.index
+              (number_at i) (number_at j) x y hx.1 hy.1 ne len_fits meet.index
 
       marked_scope : (E : List EffectOwn) → All (λ o. PathInScope (with_part k t a (in_loop_branch L)) 0 (effect_of o).rpl) E →
           All (λ o. PathInScope (with_part k t a (in_loop_branch L)) 0 (effect_of o).rpl) (map (marked false) E)
@@ -318,9 +319,9 @@ module _ (P : PlainProgram) (b : Bounds) (st : State) (L : Scope) (good : GoodSc
       -- the branches are in order at their fork
       pub parts_forks : (source : Source) → ((j : ℕ) → source ≡ of_part j →
           g.part j ≡ record { array = slot_value f.values k; first = number (slot_value f.values (k + 1)); len = number (slot_value f.values (k + 2)) }) →
-          Within b st.entries g (outside_variable (k + 4) (after_branches Deterministic (after_parts k source G))) → (n : ℕ) → IsNumbered (iterations (Some k) (k + 4) body f (pos 0) 0 n) →
+          Within b st.entries g (outside_variable (k + 4) (after_branches Deterministic (after_parts k source G))) → (n : ℕ) → n ≤ 2 ^ 32 →
           Forks P b st Deterministic (iterations (Some k) (k + 4) body f (pos 0) 0 n)
-      parts_forks source is w n many = record {
+      parts_forks source is w n few = record {
         scope = λ i. with_part k t a (in_loop_branch L);
         setting = inner;
         effects = λ i. G;
@@ -329,7 +330,6 @@ module _ (P : PlainProgram) (b : Bounds) (st : State) (L : Scope) (good : GoodSc
             (record {
               is_branch = refl;
               passes = p;
-              covered = (covered, tt);
               scope = good_parts;
               fits = λ u. branch_frame i (u, i);
               copies = λ q d l. absurd (omega (arith, l));
@@ -339,13 +339,8 @@ module _ (P : PlainProgram) (b : Bounds) (st : State) (L : Scope) (good : GoodSc
                   (lies_after k g (number_at i) (part_at i) c source (λ j q h. subst (λ z. Through z c) (sym (is j q))
                   (in_whole (slot_value f.values k) (number (slot_value f.values (k + 1))) (number (slot_value f.values (k + 2))) (number (slot_value f.values (k + 3))) (number_at i) c h)) G l)));
             });
-        apart = λ i j ne l m. parts_quiet (few i l) i j (λ e. ne (number_one (pos 0) i j (small i l) (small j m) e));
+        apart = λ i j ne l m. parts_quiet i j (λ e. ne (number_one (pos 0) i j (small i l) (small j m) e));
       }
         where
           small : (i : ℕ) → i < length (iterations (Some k) (k + 4) body f (pos 0) 0 n) → i < 2 ^ 32
-          small i l = let c = many.count in omega (arith, l, c)
-
-          few : (i : ℕ) → i < length (iterations (Some k) (k + 4) body f (pos 0) 0 n) → int_lt (pos (2 ^ 32)) (number (slot_value f.values (k + 2))) ≡ false
-          few i l =
-              let e = iteration_there (Some k) (k + 4) body f (pos 0) 0 n i (let z = iterations_length (Some k) (k + 4) body f (pos 0) 0 n in omega (arith, l, z)) in
-              ap (λ v. int_lt (pos (2 ^ 32)) (number v)) (sym (slot_kept (0 + i) 2 (omega arith))) ∙ many.places i k _ e refl
+          small i l = let c = iterations_length (Some k) (k + 4) body f (pos 0) 0 n in omega (arith, l, c, few)

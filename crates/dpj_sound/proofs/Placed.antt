@@ -1,4 +1,4 @@
--- Where local regions stand: in what is declared behind a place of a body, a local region that is declared there too stands first,
+-- Where local regions stand: in what is declared after a place of a body, a local region that is declared there too stands first,
 -- in the region of an array or an effect, and nowhere else.
 use Rattle.std.proofs.Common.{◌≡◌, inl, inr, ◌⊎◌, ℕ, suc, Bool, true, false, ◌||◌, List, [], ◌∷◌, ◌++◌, map, length, refl, sym, ap, subst, arith, Some, None, IsTrue, slice_get, slice_index_or}
 use Rattle.std.specs.Prelude.{All}
@@ -253,7 +253,7 @@ module _ (outer : ℕ → Bool) where
 
     module _ (good : GoodScope L) (placed : PlacedScope outer L) where
       pub typed_placed : {e : TypedExpr} {E : List EffectOwn} → Has P L e E → TypePlaced outer L 0 (type_of e)
-      typed_placed literal_int = tt
+      typed_placed (literal_int fits) = tt
       typed_placed literal_boolean = tt
       typed_placed literal_null = tt
       typed_placed (read_local {x = x} {t = t} h) = elim h [

@@ -1,18 +1,19 @@
 -- Places of the parts of an array: they lie in the whole, and those of different parts differ.
-use Rattle.std.proofs.Common.{◌≡◌, ◌≢◌, ◌<◌, ◌≤◌, ⊎_elim, ℕ, ℤ, ◌+◌, ◌-◌, ◌*◌, ◌/◌, ◌^◌, ◌%◌, pos, negsuc, true, false, not, cond, refl, sym, ap, ◌∙◌, subst, arith}
+use Rattle.std.proofs.Common.{◌≡◌, ◌≢◌, ◌<◌, ◌≤◌, ⊎_elim, ℕ, ℤ, FitsSigned, ◌+◌, ◌-◌, ◌*◌, ◌/◌, ◌^◌, ◌%◌, pos, negsuc, true, false, not, cond, refl, sym, ap, ◌∙◌, subst, arith}
 use Rattle.std.specs.Prelude.{int_lt, ◌+ℤ◌}
 use Rattle.std.specs.Int.{w32, int_wrapping_add, cast_unsigned, cast_signed}
 use Rattle.std.proofs.Math.Nat.{mul-div_cancel_left}
-use Rattle.std.proofs.lemmas.Bool.{cases_Bool, cases_order, and_parts, false≢true, ltb-true, ltb-false, lt-ltb, cond-true, cond-false, false_from_ne_true}
+use Rattle.std.proofs.lemmas.Bool.{cases_Bool, cases_order, and_parts, false≢true, ltb-true, lt-ltb, cond-true, cond-false, false_from_ne_true}
 use Rattle.std.proofs.lemmas.Int.{of_z-to_z}
 use Rattle.dpj_base.proofs.Cutting.{part_start-≤}
 use Rattle.dpj_meaning.specs.Counts.{part_begin, is_part}
 use Rattle.dpj_runs.specs.Objects.{Value}
 use Rattle.dpj_sound.specs.Settings.{Places}
 use Rattle.dpj_sound.specs.Accesses.{Access, Through}
+use Rattle.dpj_sound.proofs.Ints.{zero_fits}
 use Rattle.dpj_sound.proofs.Numbers.{number_one}
 
--- the part of a number, of so many, of an array of a length behind its first place
+-- the part of a number, of so many, of an array of a length after its first place
 abbrev pub taken : Value → ℤ → ℤ → ℤ → ℤ → Places
 taken v first len parts at = record {
   array = v;
@@ -79,7 +80,7 @@ through_taken : (v : Value) (first len parts at : ℤ) (a : Access) → Through 
 through_taken v first len parts at a h = ⊎_elim (λ e. is_part_true v first len parts at a h e)
     (λ e. absurd (no_index h.index h.from_first (ap (int_lt h.index) (sym (cond-false (is_part len parts at) _ (pos 0) e)) ∙ h.below_last))) (cases_Bool (is_part len parts at))
 
--- the whole ends behind its last part
+-- the whole ends after its last part
 ends_in : (n m q : ℕ) → q < m → (q + 1) * n / m ≤ n
 ends_in n m q l =
     let up : (q + 1) * n / m ≤ m * n / m = part_start-≤ n m (q + 1) m (omega (arith, l)) (omega (arith, l)) in
@@ -88,6 +89,21 @@ ends_in n m q l =
 
 not_below : (x : ℕ) → int_lt (pos x) (pos 0) ≡ false
 not_below x = false_from_ne_true (int_lt (pos x) (pos 0)) (λ t. (let l = ltb-true x 0 t in omega (arith, l)))
+
+-- a part is no longer than the whole
+pub part_fits : (v : Value) (first len parts at : ℤ) → FitsSigned w32 len → FitsSigned w32 (taken v first len parts at).len
+part_fits v first len parts at small = ⊎_elim (λ e. subst (FitsSigned w32) (sym (cond-true (is_part len parts at) _ (pos 0) e)) (part_of len parts at e small))
+    (λ e. subst (FitsSigned w32) (sym (cond-false (is_part len parts at) _ (pos 0) e)) zero_fits) (cases_Bool (is_part len parts at))
+  where
+    part_of : (len parts at : ℤ) → is_part len parts at ≡ true → FitsSigned w32 len → FitsSigned w32 (pos (part_begin len parts (at +ℤ pos 1) - part_begin len parts at))
+    part_of (negsuc n) parts at e f = absurd (false≢true e)
+    part_of (pos n) parts (negsuc q) e f = absurd (false≢true (and_parts (not (int_lt (pos n) (pos 0))) _ e).1)
+    part_of (pos n) (negsuc m) (pos q) e f = absurd (false≢true (and_parts (not (int_lt (pos q) (pos 0))) _ (and_parts (not (int_lt (pos n) (pos 0))) _ e).1).1)
+    part_of (pos n) (pos m) (pos q) e f =
+        let l : int_lt (pos q) (pos m) ≡ true = (and_parts (not (int_lt (pos q) (pos 0))) _ (and_parts (not (int_lt (pos n) (pos 0))) _ e).1).1 in
+        let end = ends_in n m q (ltb-true q m l) in
+        let s = f.sfits in
+        record { sfits = omega (arith, end, s) }
 
 -- an access through a part is one through the whole
 pub in_whole : (v : Value) (first len parts at : ℤ) (a : Access) → Through (taken v first len parts at) a → Through (record { array = v; first = first; len = len }) a
@@ -126,18 +142,17 @@ later_apart first len parts at other a c t u l few e =
 
 -- accesses through different parts have different places
 pub parts_apart : (v : Value) (first len parts at other : ℤ) (a c : Access) → Through (taken v first len parts at) a → Through (taken v first len parts other) c →
-    at ≢ other → int_lt (pos (2 ^ 32)) len ≡ false → a.index ≡ c.index → ⊥
+    at ≢ other → FitsSigned w32 len → a.index ≡ c.index → ⊥
 parts_apart v first len parts at other a c h k ne few e =
     let t = through_taken v first len parts at a h in
     let u = through_taken v first len parts other c k in
     let w : t.whole ≡ u.whole = pos_one t.whole u.whole (sym t.len_is ∙ u.len_is) in
-    let small : t.whole ≤ 2 ^ 32 = at_most t.whole (ap (int_lt (pos (2 ^ 32))) (sym t.len_is) ∙ few) in
+    let fits : FitsSigned w32 (pos t.whole) = subst (FitsSigned w32) t.len_is few in
+    let bound = fits.sfits in
+    let small : t.whole ≤ 2 ^ 32 = omega (arith, bound) in
     ⊎_elim (λ s. absurd (ne (t.number_is ∙ ap pos s ∙ sym u.number_is)))
     (λ r. ⊎_elim (λ l. later_apart first len parts at other a c t u l small e) (λ l. later_apart first len parts other at c a u t l (omega (arith, w, small)) (sym e)) r)
     (cases_order t.number u.number)
   where
     pos_one : (x y : ℕ) → pos x ≡ pos y → x ≡ y
     pos_one x y e = cc
-
-    at_most : (n : ℕ) → int_lt (pos (2 ^ 32)) (pos n) ≡ false → n ≤ 2 ^ 32
-    at_most n h = ltb-false (2 ^ 32) n h

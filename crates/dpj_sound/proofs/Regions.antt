@@ -233,7 +233,7 @@ frame_regions P p st g L f e rs old n ff = record {
   each = ff.each;
 }
 
--- and behind their scope the one without
+-- and after their scope the one without
 pub frame_regions_left : (P : PlainProgram) (p : Path) (st : State) (g : Setting) (L : Scope) → GoodScope L → (f : Frame) (rs : List ℕ) (made : ℕ → LocalRegion) →
     Alike L g (with_made made g) → ((r q : ℕ) → g.made r ≡ g.made q → r ≡ q) → ((r : ℕ) → IsOld p st.made r (g.made r)) →
     FrameFits P p st (with_made made g) (with_regions rs L) f → FrameFits P p st g L f

@@ -1,5 +1,6 @@
 -- The root is in order from the start.
-use Rattle.std.proofs.Common.{◌≡◌, ℕ, zero, suc, ℤ, List, [], ◌∷◌, length, refl, sym, ap, subst, arith, Some, None, slice_get, slice_index_or, inl}
+use Rattle.std.specs.Int.{w32}
+use Rattle.std.proofs.Common.{◌≡◌, ℕ, zero, suc, ℤ, FitsSigned, List, [], ◌∷◌, length, refl, sym, ap, subst, arith, Some, None, slice_get, slice_index_or, inl}
 use Rattle.std.specs.Prelude.{All}
 use Rattle.std.proofs.lemmas.Bool.{false≢true}
 use Rattle.dpj_base.specs.Matching.{Holds}
@@ -14,21 +15,20 @@ use Rattle.dpj_steps.specs.Steps.{named_by, first_name}
 use Rattle.dpj_sound.specs.Settings.{EndAtomic, class_setting, class_env}
 use Rattle.dpj_sound.specs.Shapes.{same, Is, GoodObject, FitsIn}
 use Rattle.dpj_sound.specs.Frames.{FrameFits}
-use Rattle.dpj_sound.specs.Covered.{BodiesCovered}
 use Rattle.dpj_sound.specs.Work.{InOrder}
 use Rattle.dpj_sound.specs.Laws.{Leaves, start, main_scope, main_bounds, RootInOrder}
 use Rattle.dpj_sound.proofs.Entering.{body_good, entered_fits}
-use Rattle.dpj_sound.proofs.Statements.{tasks_in_order}
+use Rattle.dpj_sound.proofs.Tasks.{tasks_in_order}
 
-module _ (P : PlainProgram) (wt : WellTyped P) (no_class : wt.main.class.given ≡ []) (no_method : wt.main.member.given ≡ []) (arg : ℤ) where
-  first_good : GoodObject P P.main_class []
+module _ (P : PlainProgram) (wt : WellTyped P) (arg : ℤ) (small : FitsSigned w32 arg) where
+  pub first_good : GoodObject P P.main_class []
   first_good = record {
     class = wt.main.class;
     is = wt.main.class_is;
     arity = sym (ap length wt.main.no_class_params);
     plain = λ p. refl;
     atomic = subst (λ z. EndAtomic P.region_names z []) (sym wt.main.no_class_params) (λ p h. absurd (false≢true h));
-    given = subst (λ z. All (Holds (class_env [])) z) (sym no_class) (λ k c l. absurd (omega (arith, l)));
+    given = subst (λ z. All (Holds (class_env [])) z) (sym wt.main.nothing_given_of_class) (λ k c l. absurd (omega (arith, l)));
   }
 
   -- the only formal is an int
@@ -37,25 +37,24 @@ module _ (P : PlainProgram) (wt : WellTyped P) (no_class : wt.main.class.given �
   formal ts e x t h = one x t (subst (λ z. slice_get z x ≡ Some t) e h)
     where
       one : (x : ℕ) (t : PlainType) → slice_get (int ∷ []) x ≡ Some t → FitsIn P (start P).shapes (class_env []) t (slice_index_or (Int arg ∷ []) x Null)
-      one zero t h = let q : int ≡ t = cc in subst (λ z. FitsIn P (start P).shapes (class_env []) z (Int arg)) q tt
+      one zero t h = let q : int ≡ t = cc in subst (λ z. FitsIn P (start P).shapes (class_env []) z (Int arg)) q small
       one (suc x) t h = absurd (let q : None ≡ Some t = h in cc)
 
   first_frame : FrameFits P [] (start P) (class_setting []) (main_scope P wt) (entered (named_by []) wt.main.member (Object first_name ∷ Int arg ∷ []) [] 499)
   first_frame =
       entered_fits P wt P.main_member wt.main.member wt.main.member_is [] (start P) [] [] 499 (subst (λ c. GoodObject P c []) (sym wt.main.own) first_good) (λ p. refl)
       (subst (λ z. EndAtomic P.region_names z []) (sym wt.main.no_params) (λ p h. absurd (false≢true h)))
-      (subst (λ z. All (Holds (class_env [])) z) (sym no_method) (λ k c l. absurd (omega (arith, l)))) first_name P.main_class [] refl first_good
+      (subst (λ z. All (Holds (class_env [])) z) (sym wt.main.nothing_given) (λ k c l. absurd (omega (arith, l)))) first_name P.main_class [] refl first_good
       (subst (λ c. Is P P.main_class [] c []) (sym wt.main.own) same) (Int arg ∷ []) (formal wt.main.member.formals wt.main.formals)
 
-  root_order : BodiesCovered P →
-      InOrder P (main_bounds P wt) (Leaves P (main_bounds P wt) (main_scope P wt) (class_setting []) wt.main.member.body (start P)) (start P)
+  root_order : InOrder P (main_bounds P wt) (Leaves P (main_bounds P wt) (main_scope P wt) (class_setting []) wt.main.member.body (start P)) (start P)
       (does (named_by []) P (enters_main (named_by []) first_name arg (Some wt.main.member)))
-  root_order covered =
-      tasks_in_order P wt covered (main_bounds P wt) (main_scope P wt) wt.main.member.body (wt.members P.main_member wt.main.member wt.main.member_is).effects
-      (wt.members P.main_member wt.main.member wt.main.member_is).passes (covered P.main_member wt.main.member wt.main.member_is)
+  root_order =
+      tasks_in_order P wt (main_bounds P wt) (main_scope P wt) wt.main.member.body (wt.members P.main_member wt.main.member wt.main.member_is).effects
+      (wt.members P.main_member wt.main.member wt.main.member_is).passes
       (body_good P wt P.main_member wt.main.member wt.main.member_is) 499 (class_setting []) (start P) _ first_frame (λ a u l. record { effects = inl l; blocks = tt })
 
 pub root_in_order : RootInOrder
-root_in_order P wt covered nc nm arg =
+root_in_order P wt arg small =
     subst (λ z. InOrder P (main_bounds P wt) (Leaves P (main_bounds P wt) (main_scope P wt) (class_setting []) wt.main.member.body (start P)) (start P)
-    (does (named_by []) P (enters_main (named_by []) first_name arg z))) (sym wt.main.member_is) (root_order P wt nc nm arg covered)
+    (does (named_by []) P (enters_main (named_by []) first_name arg z))) (sym wt.main.member_is) (root_order P wt arg small)

@@ -1,50 +1,40 @@
 -- Statements of a well-typed program are in order: by recursion on their typing.
-use Rattle.std.proofs.Common.{arith, ◌≡◌, inl, ℕ, ℤ, ◌+◌, pos, Bool, true, false, cond, ◌&&◌, ◌||◌, List, [], ◌∷◌, length, refl, sym, ap, ◌∙◌, subst, Option, Some, None, IsTrue, ◌≤◌, map, zero, suc}
-use Rattle.std.specs.Prelude.{All, int_lt}
-use Rattle.std.specs.Int.{w32, int_wrapping_add}
-use Rattle.std.proofs.lemmas.Bool.{and_from, false≢true, or_left, or_right}
-use Rattle.dpj_base.specs.declared.elems.Elem.{Elem}
-use Rattle.dpj_base.specs.declared.place.Place.{Place}
+use Rattle.std.proofs.Common.{arith, ◌≡◌, ℕ, ℤ, FitsSigned, ◌+◌, pos, Bool, true, false, ◌&&◌, ◌||◌, List, [], ◌∷◌, refl, sym, ap, ◌∙◌, subst, Option, Some, None, ◌≤◌, map}
+use Rattle.std.specs.Prelude.{All}
+use Rattle.std.specs.Int.{w32}
+use Rattle.std.proofs.lemmas.Bool.{and_from, or_left, or_right}
 use Rattle.dpj_base.specs.declared.region.Rpl.{Rpl}
-use Rattle.dpj_base.specs.declared.value.Trap.TheVariants as trap
-use Rattle.dpj_base.specs.Matching.{Fits, Matches, put_in}
+use Rattle.dpj_base.specs.Matching.{Fits}
 use Rattle.dpj_base.specs.declared.elems.Elem.TheVariants.{At}
 use Rattle.dpj_base.specs.declared.elems.Index.TheVariants.{Literal}
-use Rattle.dpj_base.specs.Regions.{is_any, substituted}
-use Rattle.dpj_base.specs.Types.{PlainType, int, class, array, type_with, path_at, type_at, mentions_index}
+use Rattle.dpj_base.specs.Regions.{substituted}
+use Rattle.dpj_base.specs.Types.{PlainType, int, class, array, path_at}
 use Rattle.dpj_typed.specs.Effects.{Own as EffectOwn, does, uses, writes, effect_of, after_block, outside_regions}
-use Rattle.dpj_typed.specs.Plain.{PlainProgram, PlainField, TypedExpr, type_of, TypedStmt, TypedStmts, no_stmts, more_stmts}
+use Rattle.dpj_typed.specs.Plain.{PlainProgram, TypedExpr, type_of, TypedStmt, TypedStmts, no_stmts, more_stmts}
 use Rattle.dpj_typed.specs.Plain.{Source, of_part}
-use Rattle.dpj_typed.specs.Scope.{Scope, constant, in_loop_branch, part, field_at, with_local, with_regions}
+use Rattle.dpj_typed.specs.Scope.{Scope, constant, in_loop_branch, part, with_local, with_regions}
 use Rattle.dpj_typed.specs.Scope.{Local as ScopeLocal}
 use Rattle.dpj_typed.specs.Statements.{with_part, Cuts, cuts_array, cuts_part, IsFree, completes, all_complete, declared_as, Passes, AllPass, store, store_field, store_element, store_part, perform, nested, choice, choice_else, while_loop, return_nothing, return_value, print_int, print_boolean, print_text, atomic, cobegin, foreach, foreach_parts, no_more, then', declare, declare_regions}
-use Rattle.dpj_typed.specs.Table.{class_scope}
-use Rattle.dpj_typed.specs.Types.{Known, Subtype}
+use Rattle.dpj_typed.specs.Types.{Subtype}
 use Rattle.dpj_typed.specs.Typing.{Has, index_elem}
 use Rattle.dpj_typed.specs.WellTyped.{WellTyped}
-use Rattle.dpj_meaning.specs.Core.{Goes_on, Returns, Traps, next_of, and_then, Act}
-use Rattle.dpj_meaning.specs.Counts.{length_seen, number, truth, slot_value, is_out, part_place, text_of}
-use Rattle.dpj_meaning.specs.Expressions.{gives, none, unless_null, part_element, of_expr}
-use Rattle.dpj_meaning.specs.Statements.{part_begun, part_taken_over, parts, with_value, write_cell, prints, begun, forks, of_stmt, of_stmts}
-use Rattle.dpj_regions.proofs.Putting.{specified_matches_one}
-use Rattle.dpj_runs.specs.Actions.{Write, Look, Print, Rest, Exit}
-use Rattle.dpj_runs.specs.Objects.{Name, LocalRegion, Value, Null, Object, Int, Boolean}
+use Rattle.dpj_meaning.specs.Core.{Goes_on, Returns, next_of, and_then, Act}
+use Rattle.dpj_meaning.specs.Counts.{length_seen, number, truth, slot_value, text_of}
+use Rattle.dpj_meaning.specs.Expressions.{gives, none, unless_null, of_expr}
+use Rattle.dpj_meaning.specs.Statements.{part_begun, part_taken_over, parts, with_value, of_stmt, of_stmts}
+use Rattle.dpj_runs.specs.Actions.{Look, Rest, Exit}
+use Rattle.dpj_runs.specs.Objects.{LocalRegion, Value, Int}
 use Rattle.dpj_steps.specs.Steps.{named_by}
-use Rattle.dpj_meaning.specs.Asking.{meaning}
-use Rattle.dpj_sound.proofs.Entering.{body_good}
-use Rattle.dpj_sound.specs.Settings.{with_number, Setting, env_of, class_env, under}
-use Rattle.dpj_sound.specs.Shapes.{object, elements, Shapes, Instance, ArrayInstance, FitsIn, of_object, of_array as at_array, Grows}
-use Rattle.dpj_sound.specs.Accesses.{Access, Speaks, Bounds, InEachEntry, Within}
+use Rattle.dpj_sound.specs.Settings.{with_number, Setting, env_of}
+use Rattle.dpj_sound.specs.Shapes.{Shapes, FitsIn, Grows}
+use Rattle.dpj_sound.specs.Accesses.{Bounds, Within}
 use Rattle.dpj_sound.specs.Frames.{Frame, State, Since, PartFits, FrameFits}
 use Rattle.dpj_sound.specs.Scopes.{PathInScope, TypeInScope, GoodScope}
-use Rattle.dpj_sound.specs.Covered.{IsCovered, AreCovered, BodiesCovered}
-use Rattle.dpj_sound.specs.Work.{Result, Prog, Touches, Reaches, access_of, ReturnFits, Rounds, InOrder, without_latest}
-use Rattle.dpj_sound.specs.Laws.{Deeper, Yields, Leaves, DeeperInOrder, ForkingInOrder, scope_of, TasksInOrder, branch_bounds, BranchesInOrder}
-use Rattle.dpj_sound.proofs.Closed.{closed_path, closed_type}
-use Rattle.dpj_sound.proofs.Types.{fits_grows, fits_same, same_sym, fits_with_down, path_up}
-use Rattle.dpj_sound.proofs.Indices.{IsIndexElem, fits_at_down, region_at_up, same_inside, region_alone}
-use Rattle.dpj_sound.proofs.Classes.{env_alone, good_is, field_good, field_is, stands_args, subtype_fits}
-use Rattle.dpj_sound.proofs.InScope.{good_type, paths_alone, index_in, typed_in}
+use Rattle.dpj_sound.specs.Work.{Result, Prog, ReturnFits, Rounds, InOrder, without_latest}
+use Rattle.dpj_sound.specs.Laws.{Deeper, Yields, Leaves, DeeperInOrder, ForkingInOrder}
+use Rattle.dpj_sound.proofs.Types.{fits_grows}
+use Rattle.dpj_sound.proofs.Classes.{env_alone, subtype_fits}
+use Rattle.dpj_sound.proofs.InScope.{good_type, index_in, typed_in}
 use Rattle.dpj_sound.proofs.InEffects.{stmts_effects_in, marked_in, all_own, cut_placed}
 use Rattle.dpj_sound.proofs.Placed.{PlacedScope, placed_scope, good_placed, placed_wider}
 use Rattle.dpj_sound.proofs.Regions.{good_regions, placed_regions, placed_block, placed_declare, with_made, NewRegions, makes_order, frame_regions, frame_regions_left, new_alike, within_regions}
@@ -55,155 +45,19 @@ use Rattle.dpj_typed.specs.Scope.{in_atomic_block}
 use Rattle.dpj_runs.specs.Objects.{Effect as RunEffect}
 use Rattle.dpj_sound.proofs.Blocks.{good_block, frame_later, frame_block, frame_unblock, within_block}
 use Rattle.dpj_sound.proofs.Alike.{set_other, set_same, Alike, fits_alike, setting_back}
-use Rattle.dpj_sound.proofs.Expressions.{order_unless, order_choose, order_trap}
-use Rattle.dpj_sound.proofs.Typed.{type_alone, inside_part, yields, expr_order}
+use Rattle.dpj_sound.proofs.Expressions.{order_choose}
+use Rattle.dpj_sound.proofs.Typed.{type_alone, yields, expr_order}
 use Rattle.dpj_sound.proofs.Work.{since_now, since_since, since_after, order_then, order_on, order_post, order_ret}
 use Rattle.dpj_sound.proofs.Parts.{good_part, placed_part}
 use Rattle.dpj_sound.proofs.Wider.{wider_type}
 use Rattle.dpj_sound.proofs.Uses.{cuts_in, free_slots, free_in_branch}
-use Rattle.dpj_sound.proofs.Forking.{Left, left_since, cobegin_order, foreach_order, parts_order, filled, filled_first, room_first, taken_slots, array_order}
+use Rattle.dpj_sound.proofs.Forking.{Left, left_since, cobegin_order, foreach_order, parts_order, filled, filled_first, room, room_first, taken_slots, array_order}
+use Rattle.dpj_sound.proofs.Ints.{number_fits}
 use Rattle.dpj_sound.proofs.Forks.{good_loop, placed_loop, loop_wider, free_in_loop}
-
-speaks_write : (g : Setting) (rpl : Rpl) (a : Access) → Matches (env_of g) rpl a.region → Speaks g (writes rpl) a
-speaks_write g rpl a m = record { matches = m; writes = λ e. refl; guarded = λ e. absurd (false≢true e) }
-
-module _ (P : PlainProgram) (b : Bounds) where
-  -- a write that is allowed, of a value of the cell's type
-  order_write : (R : State → Result → Type 0) (st : State) (at : Place) (n : Name) (i : ℤ) (v : Value) (f : Frame) (r : Reaches P b st n i true) →
-      FitsIn P st.shapes r.cell.env r.cell.ty v →
-      ((u : State) → Since st u → R u (Goes_on none f)) → InOrder P b R st (write_cell at n i v f)
-  unfolding InOrder
-  order_write R st at n i v f r fv k = ((r, fv), λ x u after fits. go (is_out x) u (since_after (Write n i v) refl after))
-    where
-      go : (c : Bool) (u : State) → Since st u → InOrder P b R u (cond c (Traps trap.Index at) (gives none f))
-      go true u s = tt
-      go false u s = k u s
-
-  order_prints : (R : State → Result → Type 0) (st : State) (text : List ℕ) (f : Frame) → ((u : State) → Since st u → R u (Goes_on none f)) →
-      InOrder P b R st (prints text f)
-  unfolding InOrder
-  order_prints R st text f k = (tt, λ x u after fits. k u (since_after (Print _) refl after))
-
-  abbrev write_at : Place → Frame → Value → Value → Option ℤ → Prog
-  write_at at f v u o = elim o as (λ z. Prog) [ None ↦ Traps trap.Index at | Some p ↦ unless_null at v (λ n. write_cell at n p u f) ]
-
-  -- a write of an element through a part
-  part_write : (R : State → Result → Type 0) (st : State) (at : Place) (f : Frame) (g : Setting) (k : ℕ) (t : PlainType) (a : Rpl) (i : ℤ) (u : Value) →
-      PartFits P st.shapes g f.values k t a →
-      Within b st.entries g (uses k (writes a) ∷ []) → FitsIn P st.shapes (env_of g) t u → ((h : State) → Since st h → R h (Goes_on none f)) →
-      InOrder P b R st (part_element at k i f (λ n l. write_cell at n l u f))
-  part_write R st at f g k t a i u pf w fu next = go (part_place k i f.values) refl
-    where
-      write : (p : ℤ) → part_place k i f.values ≡ Some p → (n : Name) → slot_value f.values k ≡ Object n → ArrayInstance st.shapes (env_of g) t a n →
-          InOrder P b R st (write_cell at n p u f)
-      write p e n is i' =
-          let s = inside_part i (number (slot_value f.values (k + 2))) _ p e in
-          let cell : Touches P st.shapes n p = record {
-            shape = elements i'.setting i'.element i'.rpl;
-            is = i'.shape;
-            env = under p
-                (env_of i'.setting);
-            ty = i'.element;
-            rpl = i'.rpl;
-            cell = at_array;
-          } in
-          let region = (put_in (under p (env_of i'.setting)) i'.rpl).elems in
-          order_write R st at n p u f
-          (record {
-            cell = cell;
-            allowed = w (access_of b st n p true region) (λ e. e) (inl (
-              speaks_write g a (access_of b st n p true region) (region_alone g p a pf.no_index region (i'.region p)),
-              record {
-                array = ap (λ q. q.array) pf.places ∙ is;
-                index = i;
-                from_first = s.0;
-                below_last = ap (λ q. int_lt i q.len) pf.places ∙ s.1;
-                place = s.2 ∙ ap (λ q. int_wrapping_add w32 q.first i) (sym pf.places);
-              },
-            ));
-          })
-          (fits_same P st.shapes (under p (env_of g)) t (under p (env_of i'.setting)) i'.element (i'.same p) u
-          (fits_same P st.shapes (env_of g) t (under p (env_of g)) t (same_sym (under p (env_of g)) t (env_of g) t (same_inside g p t pf.none_mentioned)) u fu))
-          next
-
-      by_value : (p : ℤ) → part_place k i f.values ≡ Some p → (v : Value) → slot_value f.values k ≡ v →
-          FitsIn P st.shapes (env_of g) (array t a false) v → InOrder P b R st (unless_null at v (λ n. write_cell at n p u f))
-      by_value p e Null is fv = order_trap P b R st trap.Null at
-      by_value p e (Object n) is fv = write p e n is fv
-      by_value p e (Int j) is fv = absurd fv
-      by_value p e (Boolean c) is fv = absurd fv
-
-      go : (o : Option ℤ) → part_place k i f.values ≡ o → InOrder P b R st (write_at at f (slot_value f.values k) u o)
-      go None e = order_trap P b R st trap.Index at
-      go (Some p) e = by_value p e (slot_value f.values k) refl pf.array
-
-  module _ (wt : WellTyped P) (L : Scope) (g : Setting) where
-    -- a write of a field, or the trap at null
-    field_write : (R : State → Result → Type 0) (st : State) (at : Place) (f : Frame) (c k : ℕ) (args : List Rpl) (fd : PlainField) →
-        field_at P c k ≡ Some fd → Known args fd.ty →
-        All (PathInScope L 0) args → Within b st.entries g (does (writes (substituted args fd.region)) ∷ []) → (u : Value) → FitsIn P st.shapes
-        (env_of g) (type_with args fd.ty) u →
-        (v : Value) → FitsIn P st.shapes (env_of g) (class c args) v → ((h : State) → Since st h → R h (Goes_on none f)) →
-        InOrder P b R st (unless_null at v (λ n. write_cell at n (pos k) u f))
-    field_write R st at f c k args fd e kn al w u fu v fv next = order_unless P b R st at (Instance P st.shapes (env_of g) c args)
-        (λ n. write_cell at n (pos k) u f) go v fv
-      where
-        go : (n : Name) → Instance P st.shapes (env_of g) c args n → InOrder P b R st (write_cell at n (pos k) u f)
-        go n i =
-            let good = good_is P wt i.is_one i.good in
-            let fa = field_is P wt k fd i.is_one i.good e in
-            let gf = field_good P wt c good.class k fd good.is e in
-            let m = length good.class.params in
-            let st' = stands_args m (env_of g) args i.regions i.matches good.arity (paths_alone L args al) refl in
-            let path = closed_path P (class_scope good.class) (λ y. refl) 0 fd.region gf.path in
-            let own = (specified_matches_one (class_env i.regions) fd.region gf.full _).1 fa.region in
-            let cell : Touches P st.shapes n (pos k) = record { shape = object i.class i.made_with; is = i.shape; env = class_env i.made_with; ty = fa.field.ty; rpl = fa.field.region; cell = of_object fa.there } in
-            let region = (put_in (class_env i.made_with) fa.field.region).elems in
-            order_write R st at n (pos k) u f
-            (record {
-              cell = cell;
-              allowed = w (access_of b st n (pos k) true region) (λ e. e)
-                  (inl (speaks_write g (substituted args fd.region) (access_of b st n (pos k) true region)
-                  (path_up m 0 (env_of g) (class_env i.regions) args st' fd.region path region own)));
-            })
-            (fits_same P st.shapes (class_env i.regions) fd.ty (class_env i.made_with) fa.field.ty
-            (same_sym (class_env i.made_with) fa.field.ty (class_env i.regions) fd.ty fa.types) u
-            (fits_with_down P st.shapes m (env_of g) (class_env i.regions) args st' fd.ty
-            (closed_type P (class_scope good.class) (λ y. refl) (λ r t. false≢true t) 0 fd.ty gf.ty) kn u fu))
-            next
-
-    element_write : (R : State → Result → Type 0) (st : State) (at : Place) (f : Frame) (t : PlainType) (a : Rpl) (named : Bool) (x : Elem) (k : ℤ) →
-        IsIndexElem x → Fits (env_of g) x (At (Literal k) ∷ []) →
-        (IsTrue (is_any x) → mentions_index 0 t ≡ false) → Within b st.entries g (does (writes (path_at 0 x a)) ∷ []) → (u : Value) →
-        FitsIn P st.shapes (env_of g) (type_at 0 x t) u →
-        (v : Value) → FitsIn P st.shapes (env_of g) (array t a named) v → ((h : State) → Since st h → R h (Goes_on none f)) →
-        InOrder P b R st (unless_null at v (λ n. write_cell at n k u f))
-    element_write R st at f t a named x k ix fx kn w u fu v fv next = order_unless P b R st at (ArrayInstance st.shapes (env_of g) t a)
-        (λ n. write_cell at n k u f) go v fv
-      where
-        go : (n : Name) → ArrayInstance st.shapes (env_of g) t a n → InOrder P b R st (write_cell at n k u f)
-        go n i =
-            let cell : Touches P st.shapes n k = record {
-              shape = elements i.setting i.element i.rpl;
-              is = i.shape;
-              env = under k
-                  (env_of i.setting);
-              ty = i.element;
-              rpl = i.rpl;
-              cell = at_array;
-            } in
-            let region = (put_in (under k (env_of i.setting)) i.rpl).elems in
-            order_write R st at n k u f
-            (record {
-              cell = cell;
-              allowed = w (access_of b st n k true region) (λ e. e)
-                  (inl (speaks_write g (path_at 0 x a) (access_of b st n k true region) (region_at_up g x k fx a region (i.region k))));
-            })
-            (fits_same P st.shapes (under k (env_of g)) t (under k (env_of i.setting)) i.element (i.same k) u (fits_at_down P st.shapes g x ix k fx t kn u fu))
-            next
+use Rattle.dpj_sound.proofs.Writing.{order_prints, part_write, field_write, element_write}
 
 module _ (P : PlainProgram) (wt : WellTyped P) (b : Bounds) (dp : Option Deeper) (dd : DeeperInOrder P wt b dp) where
-  -- behind an expression, which is in order
+  -- after an expression, which is in order
   behind : (L : Scope) → GoodScope L → (g : Setting) {e : TypedExpr} {E : List EffectOwn} → Has P L e E →
       (R : State → Result → Type 0) (j : Value → Frame → Prog) (st : State) (f : Frame) → FrameFits P b.path st g L f → Within b st.entries g E →
       ((h : State) (v : Value) → Since st h → FitsIn P h.shapes (env_of g) (type_of e) v →
@@ -218,7 +72,7 @@ module _ (P : PlainProgram) (wt : WellTyped P) (b : Bounds) (dp : Option Deeper)
   sub_fits L good g {e = e} h sub ff S v fv = subtype_fits P wt S (env_of g) (env_alone L.given (env_of g) (frame_env ff)) refl sub
       (type_alone L (type_of e) (typed_in P wt L good h)) v fv
 
-  -- behind the test of a loop, and its body
+  -- after the test of a loop, and its body
   tested : (L : Scope) (g : Setting) (e : TypedExpr) (st : State) (f : Frame) → FrameFits P b.path st g L f → (u : State) (r : Result) →
       Yields P L g e st f u r → Rounds P b.path st g L u r
   tested L g e st f ff u (Goes_on v c) y = (y.0, subst (FrameFits P b.path u g L) (sym y.1) (frame_since y.0 ff))
@@ -232,7 +86,7 @@ module _ (P : PlainProgram) (wt : WellTyped P) (b : Bounds) (dp : Option Deeper)
   looped L g st u (Goes_on v f) y = (refl, y.0, y.1)
   looped L g st u (Returns v) y = y
 
-  -- behind the body of an atomic block
+  -- after the body of an atomic block
   leaves_block : (L : Scope) (g : Setting) (c : Bool) (st u : State) (Es : List RunEffect) → Grows st.shapes u.shapes → st.made ≤ u.made →
       u.entries ≡ Es ∷ st.entries →
       (h : State) (r : Result) → Left P b (in_atomic_block L) g c u h r →
@@ -259,7 +113,7 @@ module _ (P : PlainProgram) (wt : WellTyped P) (b : Bounds) (dp : Option Deeper)
   followed L g c d st j k h (Goes_on v f) y = k h f v y.0 y.1 y.2
   followed L g c d st j k h (Returns v) y = order_ret P b (Left P b L g d st) h (Returns v) y
 
-  -- behind a declaration
+  -- after a declaration
   abbrev Declared : Setting → PlainType → ℕ → State → Frame → State → Result → Type 0
   Declared g t x st f h (Goes_on u c) = (v : Value) × Since st h × FitsIn P h.shapes (env_of g) t v × (c ≡ with_value f x v)
   Declared g t x st f h (Returns v) = ⊥
@@ -270,7 +124,7 @@ module _ (P : PlainProgram) (wt : WellTyped P) (b : Bounds) (dp : Option Deeper)
   declared g t x st f R j k h (Goes_on u c) y = subst (λ z. InOrder P b R h (j none z)) (sym y.3) (k h y.0 y.1 y.2)
   declared g t x st f R j k h (Returns v) y = absurd y
 
-  -- behind the making of local regions
+  -- after the making of local regions
   abbrev Renewed : Scope → Setting → List ℕ → State → Frame → State → Result → Type 0
   Renewed L g rs st f h (Goes_on v e) = (made : ℕ → LocalRegion) × Since st h × NewRegions b.path rs g.made made f e × FrameFits P b.path h (with_made made g) L e
   Renewed L g rs st f h (Returns v) = ⊥
@@ -281,7 +135,7 @@ module _ (P : PlainProgram) (wt : WellTyped P) (b : Bounds) (dp : Option Deeper)
   renewed L g rs st f R j k h (Goes_on u c) y = k h y.0 c y.1 y.2 y.3
   renewed L g rs st f R j k h (Returns v) y = absurd y
 
-  -- behind the block of a declared local
+  -- after the block of a declared local
   return_leave : (L : Scope) → GoodScope L → (g : Setting) (x : ℕ) (k : ℤ) → L.local x ≡ None → (S : Shapes) (o : Option PlainType) → L.result ≡ o →
       (v : Value) → ReturnFits P S (with_number x k g) o v → ReturnFits P S g o v
   return_leave L good g x k n S None e v f = f
@@ -309,25 +163,25 @@ module _ (P : PlainProgram) (wt : WellTyped P) (b : Bounds) (dp : Option Deeper)
   left_regions L good g rs made al st h u ff c (Returns v) s y = (since_since s y.0, return_regions L good g made al u.shapes L.result refl v y.1)
 
   parts_scope : (L : Scope) → GoodScope L → {outer : ℕ → Bool} → PlacedScope outer L → {source : Source} (k : ℕ) {t : PlainType} {a : Rpl} {E G : List EffectOwn} {body : TypedStmt} →
-      Cuts P L source t a E → All (λ i. IsFree L (k + i)) (0 ∷ 1 ∷ 2 ∷ 3 ∷ 4 ∷ []) → AllPass P (with_part k t a (in_loop_branch L)) (more_stmts body no_stmts) G → IsCovered body →
+      Cuts P L source t a E → All (λ i. IsFree L (k + i)) (0 ∷ 1 ∷ 2 ∷ 3 ∷ 4 ∷ []) → AllPass P (with_part k t a (in_loop_branch L)) (more_stmts body no_stmts) G →
       All (λ o. PathInScope (with_part k t a (in_loop_branch L)) 0 (effect_of o).rpl) G
-  parts_scope L good {outer} pl {source} k {t} {a} {E} {G} cu fr p q =
+  parts_scope L good {outer} pl {source} k {t} {a} {E} {G} cu fr p =
       let good' = good_part (in_loop_branch L) k t a (free_in_branch L k (free_slots L k fr)) (good_loop L good)
       (wider_type L (in_loop_branch L) (loop_wider L) 0 (array t a false) (cuts_in P wt L good cu)) in
       let placed' = placed_part (in_loop_branch L) k t a (free_in_branch L k (free_slots L k fr)) outer (placed_loop outer L pl)
       (placed_wider outer L (in_loop_branch L) (loop_wider L) (part t a) (cut_placed P wt outer L good pl cu)) in
-      all_own P wt outer (with_part k t a (in_loop_branch L)) placed' G (stmts_effects_in P wt outer p good' placed' (q, tt))
+      all_own P wt outer (with_part k t a (in_loop_branch L)) placed' G (stmts_effects_in P wt outer p good' placed')
 
   mutual
     unfolding InOrder
 
-    stmt_order : {L : Scope} {s : TypedStmt} {E : List EffectOwn} → Passes P L s E → IsCovered s → GoodScope L → {outer : ℕ → Bool} → PlacedScope outer L →
+    stmt_order : {L : Scope} {s : TypedStmt} {E : List EffectOwn} → Passes P L s E → GoodScope L → {outer : ℕ → Bool} → PlacedScope outer L →
         (g : Setting) (st : State) (f : Frame) → FrameFits P b.path st g L f → Within b st.entries g E →
         InOrder P b (Left P b L g (completes s) st) st (of_stmt (named_by b.path) P dp s f)
-    stmt_order {L} (store {x = x} {t = t} lx h sub) q good pl g st f ff w =
+    stmt_order {L} (store {x = x} {t = t} lx h sub) good pl g st f ff w =
         behind L good g h _ _ st f ff w
         (λ h1 v s fv ix. (refl, s, frame_store P b.path h1 g L good f x t v lx (sub_fits L good g h sub ff h1.shapes v fv) (frame_since s ff)))
-    stmt_order {L} (store_field {at = at} {o = o} {e = e} {c = c} {k = k} {args = args} {f = fd} {E = E} {F = F} ho ty fe kn he sub) q good pl g st f ff w =
+    stmt_order {L} (store_field {at = at} {o = o} {e = e} {c = c} {k = k} {args = args} {f = fd} {E = E} {F = F} ho ty fe kn he sub) good pl g st f ff w =
         behind L good g ho _ _ st f ff (within_left b st.entries g E _ w)
         (λ h1 v s fv ix. behind L good g he _ _ h1 f (frame_since s ff) (within_since b s g _ (within_left b st.entries g F _ (within_right b st.entries g E _ w)))
         (λ h2 u s2 fu iu. field_write P b wt L g (Left P b L g true st) h2 at f c k args fd fe kn (subst (TypeInScope L 0) ty (typed_in P wt L good ho))
@@ -335,7 +189,7 @@ module _ (P : PlainProgram) (wt : WellTyped P) (b : Bounds) (dp : Option Deeper)
         (sub_fits L good g he sub ff h2.shapes u fu) v
         (fits_grows P h1.shapes h2.shapes s2.grows (env_of g) (class c args) v (subst (λ z. FitsIn P h1.shapes (env_of g) z v) ty fv))
         (λ h3 s3. (refl, since_since (since_since s s2) s3, frame_since (since_since (since_since s s2) s3) ff))))
-    stmt_order {L} (store_element {at = at} {a = a} {i = i} {e = e} {t = t} {rpl = rpl} {named = named} {E = E} {F = F} {G = G} ha ty hi ti rg he sub) q good pl g st f ff w =
+    stmt_order {L} (store_element {at = at} {a = a} {i = i} {e = e} {t = t} {rpl = rpl} {named = named} {E = E} {F = F} {G = G} ha ty hi ti rg he sub) good pl g st f ff w =
         behind L good g ha _ _ st f ff (within_left b st.entries g E _ w)
         (λ h1 v s fv ix. behind L good g hi _ _ h1 f (frame_since s ff) (within_since b s g _ (within_left b st.entries g F _ (within_right b st.entries g E _ w)))
         (λ h2 j s2 fj ij. behind L good g he _ _ h2 f (frame_since (since_since s s2) ff)
@@ -346,55 +200,55 @@ module _ (P : PlainProgram) (wt : WellTyped P) (b : Bounds) (dp : Option Deeper)
         (sub_fits L good g he sub ff h3.shapes u fu) v
         (fits_grows P h1.shapes h3.shapes (since_since s2 s3).grows (env_of g) (array t rpl named) v (subst (λ z. FitsIn P h1.shapes (env_of g) z v) ty fv))
         (λ h4 s4. (refl, since_since (since_since (since_since s s2) s3) s4, frame_since (since_since (since_since (since_since s s2) s3) s4) ff)))))
-    stmt_order {L} (store_part {at = at} {k = k} {t = t} {a = a} {i = i} {e = e} {E = E} {F = F} lk hi ti he sub) q good pl g st f ff w =
+    stmt_order {L} (store_part {at = at} {k = k} {t = t} {a = a} {i = i} {e = e} {E = E} {F = F} lk hi ti he sub) good pl g st f ff w =
         behind L good g hi _ _ st f ff (within_left b st.entries g E _ w)
         (λ h1 j s fj ij. behind L good g he _ _ h1 f (frame_since s ff) (within_since b s g _ (within_left b st.entries g F _ (within_right b st.entries g E _ w)))
         (λ h2 u s2 fu iu. part_write P b (Left P b L g true st) h2 at f g k t a (number j) u ((frame_since (since_since s s2) ff).each k (part t a) lk)
         (within_since b (since_since s s2) g (uses k (writes a) ∷ []) (within_right b st.entries g F _ (within_right b st.entries g E _ w)))
         (sub_fits L good g he sub ff h2.shapes u fu)
         (λ h3 s3. (refl, since_since (since_since s s2) s3, frame_since (since_since (since_since s s2) s3) ff))))
-    stmt_order {L} (perform ip h) q good pl g st f ff w = behind L good g h _ _ st f ff w (λ h1 v s fv ix. (refl, s, frame_since s ff))
-    stmt_order (nested p) q good pl g st f ff w = stmts_order p q good pl g st f ff w
-    stmt_order {L} (choice {s = a} {E = E} {F = F} h ty p) q good pl g st f ff w =
+    stmt_order {L} (perform ip h) good pl g st f ff w = behind L good g h _ _ st f ff w (λ h1 v s fv ix. (refl, s, frame_since s ff))
+    stmt_order (nested p) good pl g st f ff w = stmts_order p good pl g st f ff w
+    stmt_order {L} (choice {s = a} {E = E} {F = F} h ty p) good pl g st f ff w =
         behind L good g h _ _ st f ff (within_left b st.entries g E F w)
         (λ h1 v s fv ix. order_choose P b (Left P b L g true st) h1 (truth v) (gives none f) (of_stmt (named_by b.path) P dp a f)
         (order_ret P b (Left P b L g true st) h1 (Goes_on none f) (refl, s, frame_since s ff))
         (order_post P b (Left P b L g (completes a) h1) (Left P b L g true st)
         (λ u r y. left_since P b L g (completes a) true st h1 u r s (λ e. refl) y) (of_stmt (named_by b.path) P dp a f) h1
-        (single_order p q good pl g h1 f (frame_since s ff) (within_since b s g F (within_right b st.entries g E F w)))))
-    stmt_order {L} (choice_else {s = a} {t = c} {E = E} {F = F} {G = G} h ty p r) q good pl g st f ff w =
+        (single_order p good pl g h1 f (frame_since s ff) (within_since b s g F (within_right b st.entries g E F w)))))
+    stmt_order {L} (choice_else {s = a} {t = c} {E = E} {F = F} {G = G} h ty p r) good pl g st f ff w =
         behind L good g h _ _ st f ff (within_left b st.entries g E _ w)
         (λ h1 v s fv ix. order_choose P b (Left P b L g (completes a || completes c) st) h1 (truth v) (of_stmt (named_by b.path) P dp c f)
         (of_stmt (named_by b.path) P dp a f)
         (order_post P b (Left P b L g (completes c) h1) (Left P b L g (completes a || completes c) st)
         (λ u x y. left_since P b L g (completes c) (completes a || completes c) st h1 u x s (or_right (completes a) (completes c)) y)
         (of_stmt (named_by b.path) P dp c f) h1
-        (single_order r q.1 good pl g h1 f (frame_since s ff) (within_since b s g G (within_right b st.entries g F G (within_right b st.entries g E _ w)))))
+        (single_order r good pl g h1 f (frame_since s ff) (within_since b s g G (within_right b st.entries g F G (within_right b st.entries g E _ w)))))
         (order_post P b (Left P b L g (completes a) h1) (Left P b L g (completes a || completes c) st)
         (λ u x y. left_since P b L g (completes a) (completes a || completes c) st h1 u x s (or_left (completes a) (completes c)) y)
         (of_stmt (named_by b.path) P dp a f) h1
-        (single_order p q.0 good pl g h1 f (frame_since s ff) (within_since b s g F (within_left b st.entries g F G (within_right b st.entries g E _ w))))))
-    stmt_order {L} (while_loop {e = e} {s = a} {E = E} {F = F} h ty p) q good pl g st f ff w = (
+        (single_order p good pl g h1 f (frame_since s ff) (within_since b s g F (within_left b st.entries g F G (within_right b st.entries g E _ w))))))
+    stmt_order {L} (while_loop {e = e} {s = a} {E = E} {F = F} h ty p) good pl g st f ff w = (
       L,
       g,
       ff,
       λ h1 f1 s ff1. order_post P b _ _ (λ u r y. tested L g e h1 f1 ff1 u r y) _ h1
           (expr_order P wt b dp dd L good g h (Yields P L g e h1 f1) h1 f1 ff1 (within_since b s g E (within_left b st.entries g E F w)) (yields P L g e h1 f1)),
       λ h1 f1 s ff1. order_post P b _ _ (λ u r y. rounded L g (completes a) h1 u r y) _ h1
-          (single_order p q good pl g h1 f1 ff1 (within_since b s g F (within_right b st.entries g E F w))),
+          (single_order p good pl g h1 f1 ff1 (within_since b s g F (within_right b st.entries g E F w))),
       λ h1 r y. looped L g st h1 r y,
     )
-    stmt_order {L} (return_nothing e) q good pl g st f ff w = (since_now st, subst (λ z. ReturnFits P st.shapes g z none) (sym e) tt)
-    stmt_order {L} (return_value {e = e} {t = t} k h sub) q good pl g st f ff w =
+    stmt_order {L} (return_nothing e) good pl g st f ff w = (since_now st, subst (λ z. ReturnFits P st.shapes g z none) (sym e) tt)
+    stmt_order {L} (return_value {e = e} {t = t} k h sub) good pl g st f ff w =
         behind L good g h _ _ st f ff w (λ h1 v s fv ix. (s, subst (λ z. ReturnFits P h1.shapes g z v) (sym k) (sub_fits L good g h sub ff h1.shapes v fv)))
-    stmt_order {L} (print_int h ty) q good pl g st f ff w =
+    stmt_order {L} (print_int h ty) good pl g st f ff w =
         behind L good g h _ _ st f ff w (λ h1 v s fv ix. order_prints P b (Left P b L g true st) h1 (text_of v) f
         (λ u s2. (refl, since_since s s2, frame_since (since_since s s2) ff)))
-    stmt_order {L} (print_boolean h ty) q good pl g st f ff w =
+    stmt_order {L} (print_boolean h ty) good pl g st f ff w =
         behind L good g h _ _ st f ff w (λ h1 v s fv ix. order_prints P b (Left P b L g true st) h1 (text_of v) f
         (λ u s2. (refl, since_since s s2, frame_since (since_since s s2) ff)))
-    stmt_order {L} (print_text {text = text}) q good pl g st f ff w = order_prints P b (Left P b L g true st) st text f (λ u s. (refl, s, frame_since s ff))
-    stmt_order {L} (atomic {entry = entry} {ss = ss} {E = E} p se) q good {outer} pl g st f ff w = (
+    stmt_order {L} (print_text {text = text}) good pl g st f ff w = order_prints P b (Left P b L g true st) st text f (λ u s. (refl, s, frame_since s ff))
+    stmt_order {L} (atomic {entry = entry} {ss = ss} {E = E} p se) good {outer} pl g st f ff w = (
       tt,
       λ x h after ans. (
         tt,
@@ -406,21 +260,21 @@ module _ (P : PlainProgram) (wt : WellTyped P) (b : Bounds) (dp : Option Deeper)
             let made : st.made ≤ u.made = (let m = s.made in let n = enters.made in omega (arith, m, n)) in
             order_on P b (Left P b (in_atomic_block L) g (all_complete ss) u) (Left P b L g true st) (next_of (λ v k. Act Exit (λ c. gives none k)))
             (leaves_block L g (all_complete ss) st u (map (concrete_effect (named_by b.path) (around f)) entry) grown made e) (of_stmts (named_by b.path) P dp ss f) u
-            (stmts_order p q (good_block L good) (placed_block outer L pl) g u f (frame_block L (frame_later grown made ff))
-            (subst (λ z. Within b z g E) (sym e) (within_block P b L g st f ff entry E st.entries se (all_own P wt outer L pl (after_block E) (marked_in P wt outer L true E (stmts_effects_in P wt outer p (good_block L good) (placed_block outer L pl) q))) w)))),
+            (stmts_order p (good_block L good) (placed_block outer L pl) g u f (frame_block L (frame_later grown made ff))
+            (subst (λ z. Within b z g E) (sym e) (within_block P b L g st f ff entry E st.entries se (all_own P wt outer L pl (after_block E) (marked_in P wt outer L true E (stmts_effects_in P wt outer p (good_block L good) (placed_block outer L pl)))) w)))),
       ),
     )
-    stmt_order {L} (cobegin {at = at} calm p nc) q good pl g st f ff w = cobegin_order P b dp L good g st f ff at _ p nc q.0 q.1 w
-    stmt_order {L} (foreach {at = at} {forking = forking} {x = x} {s = s} {E = E} {F = F} {G = G} calm hs ts hc tc free p ic) q good {outer} pl g st f ff w =
+    stmt_order {L} (cobegin {at = at} calm p nc) good pl g st f ff w = cobegin_order P b dp L good g st f ff at _ p nc w
+    stmt_order {L} (foreach {at = at} {forking = forking} {x = x} {s = s} {E = E} {F = F} {G = G} calm hs ts hc tc free p ic) good {outer} pl g st f ff w =
         behind L good g hs _ _ st f ff (within_left b st.entries g E _ w)
         (λ h1 v s1 fv iv. behind L good g hc _ _ h1 f (frame_since s1 ff) (within_since b s1 g F (within_left b st.entries g F _ (within_right b st.entries g E _ w)))
         (λ h2 u s2 fu iu. order_post P b (Left P b L g true h2) (Left P b L g true st) (λ z r y. left_since P b L g true true st h2 z r (since_since s1 s2) (λ e. e) y) _ h2
-        (foreach_order P b dp L good g h2 f (frame_since (since_since s1 s2) ff) at forking free p ic q
+        (foreach_order P b dp L good g h2 f (frame_since (since_since s1 s2) ff) at forking free p ic
         (all_own P wt outer (with_local x (constant int) (in_loop_branch L)) (placed_declare outer (in_loop_branch L) (placed_loop outer L pl) x true int (free_in_loop L x free) tt) G
         (stmts_effects_in P wt outer p (good_declare (in_loop_branch L) (good_loop L good) x true int (free_in_loop L x free) tt)
-        (placed_declare outer (in_loop_branch L) (placed_loop outer L pl) x true int (free_in_loop L x free) tt) (q, tt)))
-        (within_since b (since_since s1 s2) g _ (within_right b st.entries g F _ (within_right b st.entries g E _ w))) (number v) (number u))))
-    stmt_order {L} (foreach_parts {at = at} {k = k} {s = body} {t = t} {a = a} {E = E} {F = F} {G = G} (cuts_array {e = e} ha ty full) hc tc fr p ic lc) q good {outer} pl g st f ff w =
+        (placed_declare outer (in_loop_branch L) (placed_loop outer L pl) x true int (free_in_loop L x free) tt)))
+        (within_since b (since_since s1 s2) g _ (within_right b st.entries g F _ (within_right b st.entries g E _ w))) (number v) (number u) (number_fits P h2.shapes (env_of g) _ u fu))))
+    stmt_order {L} (foreach_parts {at = at} {k = k} {s = body} {t = t} {a = a} {E = E} {F = F} {G = G} (cuts_array {e = e} ha ty full) hc tc fr p ic lc) good {outer} pl g st f ff w =
         let cu = cuts_array ha ty full in
         let free = free_slots L k fr in
         let scope = cuts_in P wt L good cu in
@@ -436,10 +290,11 @@ module _ (P : PlainProgram) (wt : WellTyped P) (b : Bounds) (dp : Option Deeper)
         order_post P b (Left P b L g true h2) (Left P b L g true st) (λ z r y. left_since P b L g true true st h2 z r (since_since s1 s2) (λ e. e) y) _ h2
         (subst (λ z. InOrder P b (Left P b L g true h2) h2 (unless_null at z (λ n. Act (Look n)
         (λ x. parts dp at k body (with_value (with_value (part_begun k v f) (k + 3) u) (k + 2) (Int (pos (length_seen x)))))))) (sym is)
-        (array_order P wt b L good g k t a free scope dp h2 (with_value (part_begun k v f) (k + 3) u) f2 at e p ic lc q (parts_scope L good pl k cu fr p q)
-        (within_since b (since_since s1 s2) g _ (within_right b st.entries g F _ (within_right b st.entries g E _ w))) v is
+        (array_order P wt b L good g k t a free scope dp h2 (with_value (part_begun k v f) (k + 3) u) f2 at e p ic lc (parts_scope L good pl k cu fr p)
+        (within_since b (since_since s1 s2) g _ (within_right b st.entries g F _ (within_right b st.entries g E _ w)))
+        (subst (λ z. FitsSigned w32 (number z)) (sym (set_same (part_begun k v f).values (k + 3) u (room P wt b L good g k t a free scope 3 (omega arith) f1))) (number_fits P h2.shapes (env_of g) _ u fu)) v is
         (fits_grows P h1.shapes h2.shapes s2.grows (env_of g) (array t a false) v (subst (λ z. FitsIn P h1.shapes (env_of g) z v) ty fv))))))))
-    stmt_order {L} (foreach_parts {at = at} {k = k} {t = t} {a = a} {E = E} {F = F} {G = G} (cuts_part {k = j} e) hc tc fr p ic lc) q good {outer} pl g st f ff w =
+    stmt_order {L} (foreach_parts {at = at} {k = k} {t = t} {a = a} {E = E} {F = F} {G = G} (cuts_part {k = j} e) hc tc fr p ic lc) good {outer} pl g st f ff w =
         let cu = cuts_part e in
         let free = free_slots L k fr in
         let scope = cuts_in P wt L good cu in
@@ -455,21 +310,23 @@ module _ (P : PlainProgram) (wt : WellTyped P) (b : Bounds) (dp : Option Deeper)
         let d = with_value (with_value (part_taken_over k j f) (k + 3) u) (k + 2) (slot_value (with_value (part_taken_over k j f) (k + 3) u).values (j + 2)) in
         order_post P b (Left P b L g true h1) (Left P b L g true st) (λ z r y. left_since P b L g true true st h1 z r s1 (λ e. e) y) _ h1
         (parts_order P wt b L good g k t a free scope dp h1 _
-        (filled P wt b L good g k t a free scope 2 (slot_value (with_value (part_taken_over k j f) (k + 3) u).values (j + 2)) (omega arith) f2) at (of_part j) p ic lc q (parts_scope L good pl k cu fr p q)
+        (filled P wt b L good g k t a free scope 2 (slot_value (with_value (part_taken_over k j f) (k + 3) u).values (j + 2)) (omega arith) f2) at (of_part j) p ic lc (parts_scope L good pl k cu fr p)
         (within_since b s1 g _ (within_right b st.entries g F _ (within_right b st.entries g E _ w)))
         (subst (FitsIn P h1.shapes (env_of g) (array t a false)) (sym slots.0) (fits_grows P st.shapes h1.shapes s1.grows (env_of g) (array t a false) _ pf.array))
+        (subst (λ z. FitsSigned w32 (number z)) (sym slots.2) (number_fits P st.shapes (env_of g) int _ pf.len))
+        (subst (λ z. FitsSigned w32 (number z)) (sym slots.3) (number_fits P h1.shapes (env_of g) _ u fu))
         (λ i z. (let y : j ≡ i = (let x : of_part j ≡ of_part i = z in cc) in subst (λ x. g.part x ≡ record { array = slot_value d.values k; first = number (slot_value d.values (k + 1)); len = number (slot_value d.values (k + 2)) }) y
         (pf.places ∙ sym (λ i. record { array = slots.0 i; first = number (slots.1 i); len = number (slots.2 i) })))))))
 
     -- a statement that is a block of its own
-    single_order : {L : Scope} {s : TypedStmt} {E : List EffectOwn} → AllPass P L (more_stmts s no_stmts) E → IsCovered s → GoodScope L → {outer : ℕ → Bool} → PlacedScope outer L →
+    single_order : {L : Scope} {s : TypedStmt} {E : List EffectOwn} → AllPass P L (more_stmts s no_stmts) E → GoodScope L → {outer : ℕ → Bool} → PlacedScope outer L →
         (g : Setting) (st : State) (f : Frame) → FrameFits P b.path st g L f → Within b st.entries g E →
         InOrder P b (Left P b L g (completes s) st) st (of_stmt (named_by b.path) P dp s f)
-    single_order (then' {E = E} {F = F} p c rest) q good pl g st f ff w = stmt_order p q good pl g st f ff (within_left b st.entries g E F w)
-    single_order {L} (declare {x = x} {t = t} {E = E} {F = F} free gt h sub rest) q good pl g st f ff w =
+    single_order (then' {E = E} {F = F} p c rest) good pl g st f ff w = stmt_order p good pl g st f ff (within_left b st.entries g E F w)
+    single_order {L} (declare {x = x} {t = t} {E = E} {F = F} free gt h sub rest) good pl g st f ff w =
         behind L good g h _ _ st f ff (within_left b st.entries g E _ w)
         (λ h1 v s fv ix. (refl, s, frame_outside P b.path h1 g L good f x v free.0 (frame_since s ff)))
-    single_order {L} (declare_regions {rs = rs} free rest) q good pl g st f ff w =
+    single_order {L} (declare_regions {rs = rs} free rest) good pl g st f ff w =
         makes_order P b L good (Left P b L g true st) rs free st g f ff
         (λ h made e s n fe. (
           refl,
@@ -478,40 +335,40 @@ module _ (P : PlainProgram) (wt : WellTyped P) (b : Bounds) (dp : Option Deeper)
               (λ r. old_later b.path st.made h.made r s.made (g.made r) (ff.old r)) fe,
         ))
 
-    pub stmts_order : {L : Scope} {ss : TypedStmts} {E : List EffectOwn} → AllPass P L ss E → AreCovered ss → GoodScope L → {outer : ℕ → Bool} → PlacedScope outer L →
+    pub stmts_order : {L : Scope} {ss : TypedStmts} {E : List EffectOwn} → AllPass P L ss E → GoodScope L → {outer : ℕ → Bool} → PlacedScope outer L →
         (g : Setting) (st : State) (f : Frame) → FrameFits P b.path st g L f → Within b st.entries g E →
         InOrder P b (Left P b L g (all_complete ss) st) st (of_stmts (named_by b.path) P dp ss f)
-    stmts_order no_more q good pl g st f ff w = (refl, since_now st, ff)
-    stmts_order {L} (then' {s = s} {ss = ss} {E = E} {F = F} p c rest) q good pl g st f ff w =
+    stmts_order no_more good pl g st f ff w = (refl, since_now st, ff)
+    stmts_order {L} (then' {s = s} {ss = ss} {E = E} {F = F} p c rest) good pl g st f ff w =
         order_on P b (Left P b L g (completes s) st) _ (next_of (λ v h. of_stmts (named_by b.path) P dp ss h))
         (followed L g (completes s) (completes s && all_complete ss) st (λ v h. of_stmts (named_by b.path) P dp ss h)
         (λ h c v cs s2 ffc. order_post P b (Left P b L g (all_complete ss) h) _
         (λ u r y. left_since P b L g (all_complete ss) (completes s && all_complete ss) st h u r s2 (λ e. and_from _ _ cs e) y) _ h
-        (stmts_order rest q.1 good pl g h c ffc (within_since b s2 g F (within_right b st.entries g E F w)))))
-        _ st (stmt_order p q.0 good pl g st f ff (within_left b st.entries g E F w))
-    stmts_order {L} (declare {x = x} {t = t} {is_final = is_final} {e = e} {ss = ss} {E = E} {F = F} free gt h sub rest) q good {outer} pl g st f ff w =
+        (stmts_order rest good pl g h c ffc (within_since b s2 g F (within_right b st.entries g E F w)))))
+        _ st (stmt_order p good pl g st f ff (within_left b st.entries g E F w))
+    stmts_order {L} (declare {x = x} {t = t} {is_final = is_final} {e = e} {ss = ss} {E = E} {F = F} free gt h sub rest) good {outer} pl g st f ff w =
         order_on P b (Declared g t x st f) _ (next_of (λ v h. of_stmts (named_by b.path) P dp ss h))
         (declared g t x st f (Left P b L g (all_complete ss) st) (λ v h. of_stmts (named_by b.path) P dp ss h)
         (λ h1 v s2 fv.
         order_post P b (Left P b (with_local x (declared_as is_final t) L) (with_number x (number v) g) (all_complete ss) h1) _
         (λ u r y. left_leave L good g x (declared_as is_final t) (number v) free.0 (all_complete ss) st h1 u r s2 y) _ h1
-        (stmts_order rest q.1 (good_declare L good x is_final t free (good_type P L 0 t gt)) (placed_declare outer L pl x is_final t free (good_placed outer P L 0 t gt)) (with_number x (number v) g) h1 (with_value f x v)
+        (stmts_order rest (good_declare L good x is_final t free (good_type P L 0 t gt)) (placed_declare outer L pl x is_final t free (good_placed outer P L 0 t gt)) (with_number x (number v) g) h1 (with_value f x v)
         (frame_declare P b.path h1 g L good f x is_final t v free (good_type P L 0 t gt) fv (frame_since s2 ff))
         (λ a gu l. within_since b s2 g _ (within_right b st.entries g E _ w) a gu
         (lies_general g x (number v) (with_local x (declared_as is_final t) L) F a
         (all_own P wt outer (with_local x (declared_as is_final t) L) (placed_declare outer L pl x is_final t free (good_placed outer P L 0 t gt)) F
-        (stmts_effects_in P wt outer rest (good_declare L good x is_final t free (good_type P L 0 t gt)) (placed_declare outer L pl x is_final t free (good_placed outer P L 0 t gt)) q.1)) l)))))
+        (stmts_effects_in P wt outer rest (good_declare L good x is_final t free (good_type P L 0 t gt)) (placed_declare outer L pl x is_final t free (good_placed outer P L 0 t gt)))) l)))))
         _ st (behind L good g h (Declared g t x st f) _ st f ff (within_left b st.entries g E _ w)
         (λ h1 v s2 fv ix. order_ret P b (Declared g t x st f) h1 (Goes_on none (with_value f x v)) (v, s2, sub_fits L good g h sub ff h1.shapes v fv, refl)))
-    stmts_order {L} (declare_regions {rs = rs} {ss = ss} {F = F} free rest) q good {outer} pl g st f ff w =
+    stmts_order {L} (declare_regions {rs = rs} {ss = ss} {F = F} free rest) good {outer} pl g st f ff w =
         order_on P b (Renewed L g rs st f) _ (next_of (λ v h. of_stmts (named_by b.path) P dp ss h))
         (renewed L g rs st f (Left P b L g (all_complete ss) st) (λ v h. of_stmts (named_by b.path) P dp ss h)
         (λ h made e s n fe.
         order_post P b (Left P b (with_regions rs L) (with_made made g) (all_complete ss) h) _
         (λ u r y. left_regions L good g rs made (new_alike L b.path g made f e rs free n) st h u (frame_since s ff) (all_complete ss) r s y) _ h
-        (stmts_order rest q.1 (good_regions L good rs) (placed_regions outer L pl rs) (with_made made g) h e (frame_regions P b.path h (with_made made g) L f e rs g.made n fe)
+        (stmts_order rest (good_regions L good rs) (placed_regions outer L pl rs) (with_made made g) h e (frame_regions P b.path h (with_made made g) L f e rs g.made n fe)
         (within_regions L outer pl b h.entries g made f e rs free n F
-        (stmts_effects_in P wt outer rest (good_regions L good rs) (placed_regions outer L pl rs) q.1)
+        (stmts_effects_in P wt outer rest (good_regions L good rs) (placed_regions outer L pl rs))
         (within_since b s g (outside_regions rs F) w)))))
         _ st (makes_order P b L good (Renewed L g rs st f) rs free st g f ff (λ h made e s n fe. (made, s, n, fe)))
 
@@ -521,29 +378,5 @@ left_leaves P b L g ss st h (Goes_on v f) y = y
 left_leaves P b L g ss st h (Returns v) y = y
 
 pub forking_in_order : ForkingInOrder
-forking_in_order P wt b dp dd L ss E p q good g st f ff w = order_post P b (Left P b L g (all_complete ss) st) (Leaves P b L g ss st)
-    (left_leaves P b L g ss st) _ st (stmts_order P wt b dp dd p q good (placed_scope L good) g st f ff w)
-
--- at each depth of calls, by recursion on it
-module _ (P : PlainProgram) (wt : WellTyped P) (covered : BodiesCovered P) (b : Bounds) where
-  bodies_in_order : (left : ℕ) → DeeperInOrder P wt b (Some (meaning (named_by b.path) P left))
-  unfolding meaning
-  bodies_in_order zero n m there g st f ff w =
-      forking_in_order P wt b None tt (scope_of P wt n m there) m.body (wt.members n m there).effects (wt.members n m there).passes (covered n m there)
-      (body_good P wt n m there) g st f ff w
-  bodies_in_order (suc left) n m there g st f ff w =
-      forking_in_order P wt b (Some (meaning (named_by b.path) P left)) (bodies_in_order left) (scope_of P wt n m there) m.body (wt.members n m there).effects
-      (wt.members n m there).passes (covered n m there) (body_good P wt n m there) g st f ff w
-
-pub tasks_in_order : TasksInOrder
-unfolding meaning
-tasks_in_order P wt covered b L ss E p q good zero g st f ff w = forking_in_order P wt b None tt L ss E p q good g st f ff w
-tasks_in_order P wt covered b L ss E p q good (suc left) g st f ff w =
-    forking_in_order P wt b (Some (meaning (named_by b.path) P left)) (bodies_in_order P wt covered b left) L ss E p q good g st f ff w
-
-pub branches_in_order : BranchesInOrder
-branches_in_order P wt covered b st forking ts forks u t e h grows none =
-    let fits = forks.branch u.1 t e in
-    tasks_in_order P wt covered (branch_bounds b st forks u) (forks.scope u.1) t.work.stmts (forks.effects u.1) fits.passes fits.covered fits.scope t.frame.left
-    (forks.setting u.1) h (begun t.work.takes t.frame) (frame_later grows (omega arith) (fits.fits u.0))
-    (λ a gu l. record { effects = inl l; blocks = subst (λ z. InEachEntry (u ∷ b.path) z a) (sym none) tt })
+forking_in_order P wt b dp dd L ss E p good g st f ff w = order_post P b (Left P b L g (all_complete ss) st) (Leaves P b L g ss st)
+    (left_leaves P b L g ss st) _ st (stmts_order P wt b dp dd p good (placed_scope L good) g st f ff w)

@@ -42,6 +42,7 @@ use Rattle.dpj_sound.proofs.InScope.{paths_alone, index_in, typed_in}
 use Rattle.dpj_sound.proofs.Frames.{frame_since, frame_env, within_left, within_right, within_since}
 use Rattle.dpj_sound.proofs.Expressions.{speaks_read, order_unless, order_choose, order_trap, order_read, order_length, order_operation, local_index, field_order, element_order}
 use Rattle.dpj_sound.proofs.Making.{order_new_array}
+use Rattle.dpj_sound.proofs.Ints.{neg_fits, number_fits}
 use Rattle.dpj_sound.proofs.Calls.{call_order, create_order, construct_order}
 use Rattle.dpj_sound.proofs.Work.{since_now, since_since, order_then, order_ret}
 
@@ -141,7 +142,7 @@ module _ (P : PlainProgram) (b : Bounds) where
       go None e = order_trap P b R st trap.Index at
       go (Some p) e = by_value p e (slot_value f.values k) refl pf.array
 
--- what is to hold behind an expression, wherever it gives a value of its type
+-- what is to hold after an expression, wherever it gives a value of its type
 abbrev pub Next : PlainProgram → Scope → Setting → (State → Result → Type 0) → TypedExpr → State → Frame → Type 0
 Next P L g R e st f = (h : State) (v : Value) → Since st h → FitsIn P h.shapes (env_of g) (type_of e) v → Fits (env_of g) (index_elem L e)
     (At (Literal (number v)) ∷ []) → R h (Goes_on v f)
@@ -154,7 +155,7 @@ module _ (P : PlainProgram) (wt : WellTyped P) (b : Bounds) (dp : Option Deeper)
     pub expr_order : {e : TypedExpr} {E : List EffectOwn} → Has P L e E → (R : State → Result → Type 0) (st : State) (f : Frame) →
         FrameFits P b.path st g L f → Within b st.entries g E →
         Next P L g R e st f → InOrder P b R st (of_expr (named_by b.path) P dp e f)
-    expr_order (literal_int {k = k}) R st f ff w next = order_ret P b R st (Goes_on (Int k) f) (next st (Int k) (since_now st) tt refl)
+    expr_order (literal_int {k = k} fits) R st f ff w next = order_ret P b R st (Goes_on (Int k) f) (next st (Int k) (since_now st) fits refl)
     expr_order (literal_boolean {b = c}) R st f ff w next = order_ret P b R st (Goes_on (Boolean c) f) (next st (Boolean c) (since_now st) tt (pos 0, refl))
     expr_order literal_null R st f ff w next = order_ret P b R st (Goes_on Null f) (next st Null (since_now st) tt (pos 0, refl))
     expr_order (read_local {x = x} {t = t} h) R st f ff w next =
@@ -178,7 +179,7 @@ module _ (P : PlainProgram) (wt : WellTyped P) (b : Bounds) (dp : Option Deeper)
     expr_order (length_of_array {at = at} {a = a} {t = t} {rpl = rpl} {named = named} h ty) R st f ff w next =
         order_then P b L g a f R _ st _ (expr_order h (Yields P L g a st f) st f ff w (yields P L g a st f))
         (λ h1 v s fv ix. order_unless P b R h1 at (ArrayInstance h1.shapes (env_of g) t rpl) _
-        (λ n i. order_length P b R h1 n f (elements i.setting i.element i.rpl) i.shape (λ k u s2. next u (Int (pos k)) (since_since s s2) tt (pos k, refl)))
+        (λ n i. order_length P b R h1 n f i.setting i.element i.rpl i.shape (λ k u s2 small. next u (Int (pos k)) (since_since s s2) small (pos k, refl)))
         v (subst (λ z. FitsIn P h1.shapes (env_of g) z v) ty fv))
     expr_order (call_method {at = at} {t = t} {e = e} {c = c} {r = r} {n = n} {args = args} {owned = owned} {regions = regions} {m = m} {es = es} {E = E} {F = F} h ty rw mb ab ga fu kn rd ft calm eq) R st f ff w next =
         order_then P b L g e f R _ st _ (expr_order h (Yields P L g e st f) st f ff (within_left b st.entries g E _ w) (yields P L g e st f))
@@ -200,11 +201,11 @@ module _ (P : PlainProgram) (wt : WellTyped P) (b : Bounds) (dp : Option Deeper)
         (within_since b s g _ (within_right b st.entries g F _ w)) (λ v u s2 fv. next u v (since_since s s2) fv (number v, refl)))
     expr_order (make_array {at = at} {n = n} {t = t} {a = a} {named = named} gt fu h ty) R st f ff w next =
         order_then P b L g n f R _ st _ (expr_order h (Yields P L g n st f) st f ff w (yields P L g n st f))
-        (λ h1 v s fv ix. order_new_array P wt b L g h1 f (frame_since s ff) R at t a named gt fu (number v)
+        (λ h1 v s fv ix. order_new_array P wt b L g h1 f (frame_since s ff) R at t a named gt fu (number v) (number_fits P h1.shapes (env_of g) (type_of n) v fv)
         (λ x u s2 fx. next u x (since_since s s2) fx (number x, refl)))
     expr_order (negative {e = e} h ty) R st f ff w next =
         order_then P b L g e f R _ st _ (expr_order h (Yields P L g e st f) st f ff w (yields P L g e st f))
-        (λ h1 v s fv ix. order_ret P b R h1 _ (next h1 _ s tt (_, refl)))
+        (λ h1 v s fv ix. order_ret P b R h1 _ (next h1 _ s (neg_fits (number v)) (_, refl)))
     expr_order (negation {e = e} h ty) R st f ff w next =
         order_then P b L g e f R _ st _ (expr_order h (Yields P L g e st f) st f ff w (yields P L g e st f))
         (λ h1 v s fv ix. order_ret P b R h1 _ (next h1 _ s tt (_, refl)))
@@ -212,7 +213,7 @@ module _ (P : PlainProgram) (wt : WellTyped P) (b : Bounds) (dp : Option Deeper)
         order_then P b L g a f R _ st _ (expr_order ha (Yields P L g a st f) st f ff (within_left b st.entries g E F w) (yields P L g a st f))
         (λ h1 v s fv ix. order_then P b L g c f R _ h1 _
         (expr_order hc (Yields P L g c h1 f) h1 f (frame_since s ff) (within_since b s g F (within_right b st.entries g E F w)) (yields P L g c h1 f))
-        (λ h2 u s2 fu iu. order_operation P b R h2 (named_by b.path).same at o v u f
+        (λ h2 u s2 fu iu. order_operation P b R h2 (named_by b.path).same at o v u f (number_fits P h1.shapes (env_of g) (type_of a) v fv)
         (λ x fx. next h2 x (since_since s s2) (subst (λ z. FitsIn P h2.shapes (env_of g) z x) (sym eq) (result_fits P h2.shapes h2.shapes g o x fx)) (number x, refl))))
     expr_order (conjunction {a = a} {b = c} {E = E} {F = F} ha ta hc tc) R st f ff w next =
         order_then P b L g a f R _ st _ (expr_order ha (Yields P L g a st f) st f ff (within_left b st.entries g E F w) (yields P L g a st f))

@@ -73,7 +73,7 @@ both_used L E F h k = All-append (UsesPart L) E F h k
 module _ (P : PlainProgram) (L : Scope) where
   mutual
     expr_uses : {e : TypedExpr} {E : List EffectOwn} → Has P L e E → All (UsesPart L) E
-    expr_uses literal_int = none_used L
+    expr_uses (literal_int fits) = none_used L
     expr_uses literal_boolean = none_used L
     expr_uses literal_null = none_used L
     expr_uses (read_local h) = none_used L
@@ -98,7 +98,7 @@ module _ (P : PlainProgram) (L : Scope) where
     exprs_use fit.none = none_used L
     exprs_use (fit.one_more {E = E} {F = F} h sub rest) = both_used L E F (expr_uses h) (exprs_use rest)
 
--- behind the scope of a local that is no part
+-- after the scope of a local that is no part
 local_uses : (L : Scope) → GoodScope L → (x : ℕ) (l : ScopeLocal) → L.local x ≡ None → ((t : PlainType) (a : Rpl) → l ≡ part t a → ⊥) → (o : EffectOwn) → UsesPart (with_local x l L) o →
     UsesPart L (mapped (λ e. record e { rpl = generalised x e.rpl }) o)
 local_uses L good x l n np (does e) h = tt
@@ -168,7 +168,7 @@ free_in_branch L k h i l = free_in_loop L (k + i) (h i l)
 pub own_part : (L : Scope) (k : ℕ) (t : PlainType) (a : Rpl) (u : PlainType) (c : Rpl) → (with_part k t a L).local k ≡ Some (part u c) → c ≡ a
 own_part L k t a u c e = let z : part t a ≡ part u c = (let q : Some (part t a) ≡ Some (part u c) = sym (part_is_local L k t a) ∙ e in cc) in cc
 
--- behind a construct over parts
+-- after a construct over parts
 module _ (L : Scope) (k : ℕ) (source : Source) (t : PlainType) (a : Rpl) (E : List EffectOwn) where
   -- a part that is seen inside is that of the construct or one outside
   inner_part : (j : ℕ) (u : PlainType) (c : Rpl) → (with_part k t a L).local j ≡ Some (part u c) → (j == k) ≡ false → L.local j ≡ Some (part u c)
@@ -252,7 +252,7 @@ module _ (P : PlainProgram) (wt : WellTyped P) where
     all_use : {L : Scope} {others : List ℕ} {bs : TypedBranches} {Es : List (List EffectOwn)} → BranchesPass P L others bs Es → All (IsVariable L) others → GoodScope L →
         All (UsesPart L) (joined Es)
     all_use {L} no_branch v good = none_used L
-    all_use {L} {others} (one_branch {copies = copies} {bs = bs} {E = E} {Es = Es} cv p rest) v good =
+    all_use {L} {others} (one_branch {copies = copies} {bs = bs} {E = E} {Es = Es} cv ca p rest) v good =
         both_used L E (joined Es)
         (seen_uses L (in_branch copies (others ++ all_copies bs) L) (λ j t a e. seen_as_part L copies (others ++ all_copies bs) j t a e) E
         (stmts_use p (good_branch L copies (others ++ all_copies bs) (All-append (IsVariable L) others (all_copies bs) v (copies_variables rest)) good)))

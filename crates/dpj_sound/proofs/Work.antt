@@ -36,7 +36,7 @@ module _ (P : PlainProgram) (b : Bounds) where
   order_on Q R j i (Act a k) st o = (o.0, λ x h after x_fits. order_on Q R j i (k x) h (o.1 x h after x_fits))
   order_on Q R j i (Makes k) st o = λ h after. order_on Q R j i (k (Made b.path st.made)) h (o h after)
   order_on Q R j i (Again test body f k) st o = (o.0, o.1, o.2, o.3, o.4, λ h r z. order_on Q R j i (k r) h (o.5 h r z))
-  order_on Q R j i (Split forking ts does k) st o = λ few. ((o few).0, λ x h s z. order_on Q R j i (k x) h ((o few).1 x h s z))
+  order_on Q R j i (Split forking ts does k) st o = (o.0, λ x h s z. order_on Q R j i (k x) h (o.1 x h s z))
 
   -- what holds at its end may be weakened
   pub order_post : (Q R : State → Result → Type 0) → ((h : State) (r : Result) → Q h r → R h r) → (p : Prog) (st : State) → InOrder P b Q st p →
@@ -47,13 +47,13 @@ module _ (P : PlainProgram) (b : Bounds) where
   order_post Q R i (Act a k) st o = (o.0, λ x h after x_fits. order_post Q R i (k x) h (o.1 x h after x_fits))
   order_post Q R i (Makes k) st o = λ h after. order_post Q R i (k (Made b.path st.made)) h (o h after)
   order_post Q R i (Again test body f k) st o = (o.0, o.1, o.2, o.3, o.4, λ h r z. order_post Q R i (k r) h (o.5 h r z))
-  order_post Q R i (Split forking ts does k) st o = λ few. ((o few).0, λ x h s z. order_post Q R i (k x) h ((o few).1 x h s z))
+  order_post Q R i (Split forking ts does k) st o = (o.0, λ x h s z. order_post Q R i (k x) h (o.1 x h s z))
 
   pub order_ret : (Q : State → Result → Type 0) (st : State) (r : Result) → Q st r → InOrder P b Q st (Ret r)
   unfolding InOrder
   order_ret Q st r q = q
 
-  -- behind an expression
+  -- after an expression
   pub order_then : (L : Scope) (g : Setting) (e : TypedExpr) (f : Frame) (R : State → Result → Type 0) (j : Value → Frame → Prog) (st : State) (p : Prog) →
       InOrder P b (Yields P L g e st f) st p →
       ((h : State) (v : Value) → Since st h → FitsIn P h.shapes (env_of g) (type_of e) v →

@@ -16,7 +16,6 @@ use Rattle.dpj_runs.specs.Objects.{Name, Value}
 use Rattle.dpj_sound.specs.Settings.{Setting, env_of}
 use Rattle.dpj_sound.specs.Shapes.{FitsIn}
 use Rattle.dpj_sound.specs.Accesses.{Access, Bounds, LiesIn, Within}
-use Rattle.dpj_sound.specs.Covered.{AreCovered}
 use Rattle.dpj_sound.specs.Frames.{State, FrameFits}
 use Rattle.dpj_sound.specs.Scopes.{GoodScope}
 
@@ -39,7 +38,6 @@ Quiet P forking g E k F = (a c : Access) → Meet a c → LiesIn g E a → LiesI
 pub record BranchFits (P : PlainProgram) (b : Bounds) (st : State) (i : ℕ) (t : Task) (M : Scope) (k : Setting) (F : List Own) : Type 0 where
   pub is_branch : t.work.is_root ≡ false
   pub passes : AllPass P M t.work.stmts F
-  pub covered : AreCovered t.work.stmts
   pub scope : GoodScope M
   pub fits : (u : ℕ) → FrameFits P ((u, i) ∷ b.path) (record { shapes = st.shapes; made = 0; entries = [] }) k M (begun t.work.takes t.frame)
   pub copies : All (IsVariable M) t.work.copies

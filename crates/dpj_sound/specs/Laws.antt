@@ -1,5 +1,6 @@
 -- What a well-typed program keeps to, as statements.
-use Rattle.std.specs.Prelude.{Bool, ◌≡◌, IsTrue, List, [], ◌∷◌, Option, Some, None, All, false, ℤ, ◌≢◌, ℕ, cond, slice_get}
+use Rattle.std.specs.Prelude.{Bool, ◌≡◌, IsTrue, List, [], ◌∷◌, Option, Some, None, All, false, ℤ, FitsSigned, ◌≢◌, ℕ, cond, slice_get}
+use Rattle.std.specs.Int.{w32}
 use Rattle.dpj_base.specs.declared.elems.Elem.TheVariants.{At}
 use Rattle.dpj_base.specs.declared.elems.Index.TheVariants.{Literal}
 use Rattle.dpj_base.specs.declared.effect.Constraint.{Constraint}
@@ -30,19 +31,18 @@ use Rattle.dpj_sound.specs.Accesses.{Bounds, is_guarded, Within}
 use Rattle.dpj_sound.specs.Frames.{Frame, State, Since, FrameFits}
 use Rattle.dpj_sound.specs.Scopes.{PathInScope, GoodScope}
 use Rattle.dpj_sound.specs.Branches.{Quiet, Forks}
-use Rattle.dpj_sound.specs.Covered.{AreCovered, BodiesCovered}
 use Rattle.dpj_sound.specs.Work.{Result, GoesFitting, InOrder}
 
 abbrev pub Deeper : Type 0
 Deeper = DeeperOf Name LocalRegion
 
--- behind an expression that began in this state and frame: the same locals, a value of its type, and where it stands as an
+-- after an expression that began in this state and frame: the same locals, a value of its type, and where it stands as an
 -- index in paths, the number that they have for it
 abbrev pub Yields : PlainProgram → Scope → Setting → TypedExpr → State → Frame → State → Result → Type 0
 Yields P L g e st f h (Goes_on v c) = Since st h × (c ≡ f) × FitsIn P h.shapes (env_of g) (type_of e) v × Fits (env_of g) (index_elem L e) (At (Literal (number v)) ∷ [])
 Yields P L g e st f h (Returns v) = ⊥
 
--- behind statements: locals that fit, unless none can complete; or a value of the type that a `return` gives
+-- after statements: locals that fit, unless none can complete; or a value of the type that a `return` gives
 abbrev pub Leaves : PlainProgram → Bounds → Scope → Setting → TypedStmts → State → State → Result → Type 0
 Leaves P b L g ss st h (Goes_on v f) = IsTrue (all_complete ss) × Since st h × GoesFitting P b.path g L h (Goes_on v f)
 Leaves P b L g ss st h (Returns v) = Since st h × GoesFitting P b.path g L h (Returns v)
@@ -70,13 +70,13 @@ ExpressionsInOrder = (P : PlainProgram) (wt : WellTyped P) (b : Bounds) (dp : Op
 -- they make; branches are in order at their fork; and they leave locals that fit, or give a value of the type that a `return` gives
 abbrev pub ForkingInOrder : Type 0
 ForkingInOrder = (P : PlainProgram) (wt : WellTyped P) (b : Bounds) (dp : Option Deeper) → DeeperInOrder P wt b dp →
-    (L : Scope) (ss : TypedStmts) (E : List Own) → AllPass P L ss E → AreCovered ss → GoodScope L → (g : Setting) (st : State) (f : Frame) →
+    (L : Scope) (ss : TypedStmts) (E : List Own) → AllPass P L ss E → GoodScope L → (g : Setting) (st : State) (f : Frame) →
     FrameFits P b.path st g L f → Within b st.entries g E → InOrder P b (Leaves P b L g ss st) st (of_stmts (named_by b.path) P dp ss f)
 
 -- a task is in order to its end, with all calls that it makes
 abbrev pub TasksInOrder : Type 0
-TasksInOrder = (P : PlainProgram) (wt : WellTyped P) → BodiesCovered P → (b : Bounds) →
-    (L : Scope) (ss : TypedStmts) (E : List Own) → AllPass P L ss E → AreCovered ss → GoodScope L → (left : ℕ) (g : Setting) (st : State) (f : Frame) →
+TasksInOrder = (P : PlainProgram) (wt : WellTyped P) → (b : Bounds) →
+    (L : Scope) (ss : TypedStmts) (E : List Own) → AllPass P L ss E → GoodScope L → (left : ℕ) (g : Setting) (st : State) (f : Frame) →
     FrameFits P b.path st g L f → Within b st.entries g E → InOrder P b (Leaves P b L g ss st) st (meaning (named_by b.path) P left ss f)
 
 -- what a branch keeps to that begins as the branch of this number of the event of that one
@@ -86,7 +86,7 @@ branch_bounds b st forks u =
 
 -- a branch that was in order at its fork is in order to its end, whenever it begins; and what it does is allowed where it was forked
 abbrev pub BranchesInOrder : Type 0
-BranchesInOrder = (P : PlainProgram) (wt : WellTyped P) → BodiesCovered P → (b : Bounds) (st : State) (forking : Forking) (ts : List Task) (forks : Forks P b st forking ts) →
+BranchesInOrder = (P : PlainProgram) (wt : WellTyped P) → (b : Bounds) (st : State) (forking : Forking) (ts : List Task) (forks : Forks P b st forking ts) →
     (u : ℕ × ℕ) (t : Task) → slice_get ts u.1 ≡ Some t → (h : State) → Grows st.shapes h.shapes → h.entries ≡ [] →
     InOrder P (branch_bounds b st forks u) (Leaves P (branch_bounds b st forks u) (forks.scope u.1) (forks.setting u.1) t.work.stmts h) h
     (does (named_by (u ∷ b.path)) P t)
@@ -102,10 +102,9 @@ main_scope P wt = scope_of P wt P.main_member wt.main.member wt.main.member_is
 abbrev pub main_bounds : (P : PlainProgram) → WellTyped P → Bounds
 main_bounds P wt = record { path = []; setting = class_setting []; effects = (wt.members P.main_member wt.main.member wt.main.member_is).effects; inside = false }
 
--- the root is in order from the start, on each argument, where its class and `main` have no constraints
+-- the root is in order from the start, on each argument of 32 bits
 abbrev pub RootInOrder : Type 0
-RootInOrder = (P : PlainProgram) (wt : WellTyped P) → BodiesCovered P →
-    wt.main.class.given ≡ [] → wt.main.member.given ≡ [] → (arg : ℤ) →
+RootInOrder = (P : PlainProgram) (wt : WellTyped P) (arg : ℤ) → FitsSigned w32 arg →
     InOrder P (main_bounds P wt) (Leaves P (main_bounds P wt) (main_scope P wt) (class_setting []) wt.main.member.body (start P)) (start P)
     (does (named_by []) P (root_task (named_by []) P first_name arg))
 

@@ -1,8 +1,9 @@
 pub mod Accesses
 pub mod Branches
-pub mod Covered
 pub mod Frames
 pub mod Laws
+pub mod RunLaws
+pub mod Runs
 pub mod Scopes
 pub mod Settings
 pub mod Shapes

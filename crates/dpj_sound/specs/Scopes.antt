@@ -39,7 +39,7 @@ LocalInScope L (constant t) = TypeInScope L 0 t
 LocalInScope L (part t a) = TypeInScope L 0 (array t a false)
 LocalInScope L reserved = Unit {0}
 
--- slots are those of the member, and those behind a part are reserved; so is what a `return` gives, and the constraints
+-- slots are those of the member, and those after a part are reserved; so is what a `return` gives, and the constraints
 pub record GoodScope (L : Scope) : Type 0 where
   pub each : (x : ℕ) (l : ScopeLocal) → L.local x ≡ Some l → LocalInScope L l
   pub slots : (x : ℕ) (l : ScopeLocal) → L.local x ≡ Some l → x < L.slots

@@ -1,6 +1,7 @@
 -- What objects and arrays are, and which values have a type: a region argument and the region of an array's elements are upper
 -- bounds of those in the run, and the elements of an array have one type.
-use Rattle.std.specs.Prelude.{◌≡◌, ◌↔◌, ℕ, ℤ, pos, List, [], All, map, length, Option, Some}
+use Rattle.std.specs.Prelude.{◌≡◌, ◌↔◌, ◌<◌, ◌^◌, ℕ, ℤ, pos, FitsSigned, List, [], All, map, length, Option, Some}
+use Rattle.std.specs.Int.{w32}
 use Rattle.std.specs.List.{AllZip}
 use Rattle.dpj_base.specs.declared.elems.Elem.{Elem}
 use Rattle.dpj_base.specs.declared.region.Rpl.{Rpl}
@@ -81,8 +82,9 @@ pub record ArrayInstance (S : Shapes) (env : Env) (t : PlainType) (a : Rpl) (n :
   pub region : (k : ℤ) → Matches (under k env) a (put_in (under k (env_of setting)) rpl).elems
   pub same : (k : ℤ) → SameIn (under k env) t (under k (env_of setting)) element
 
+-- a number of 32 bits
 abbrev pub IsInt : Value → Type 0
-IsInt (Int k) = Unit {0}
+IsInt (Int k) = FitsSigned w32 k
 IsInt (Boolean b) = ⊥
 IsInt Null = ⊥
 IsInt (Object n) = ⊥
@@ -114,9 +116,9 @@ pub data CellAt (P : PlainProgram) : Shape → ℤ → Env → PlainType → Rpl
   of_object : {c k : ℕ} {rs : List Region} {f : PlainField} → field_at P c k ≡ Some f → CellAt P (object c rs) (pos k) (class_env rs) f.ty f.region
   of_array : {g : Setting} {t : PlainType} {a : Rpl} {i : ℤ} → CellAt P (elements g t a) i (under i (env_of g)) t a
 
--- what is made has this shape
+-- what is made has this shape; the length of an array is an int
 abbrev pub Describes : PlainProgram → Shape → Thing → Type 0
 Describes P (object c rs) (An_object d qs fields) = (c ≡ d) × (rs ≡ qs) × GoodObject P c rs × (fields ≡ map (λ f. first_of f.ty) (class_fields P c))
 Describes P (elements g t a) (An_array region len first) =
-    ((k : ℤ) → elems_of (element_region k region) ≡ (put_in (under k (env_of g)) a).elems) × (first ≡ first_of t)
+    ((k : ℤ) → elems_of (element_region k region) ≡ (put_in (under k (env_of g)) a).elems) × (len < 2 ^ 31) × (first ≡ first_of t)
 Describes P s thing = ⊥

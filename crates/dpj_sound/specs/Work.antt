@@ -1,5 +1,5 @@
 -- When the work of a task is in order: each of its actions, whatever fitting answers it gets.
-use Rattle.std.specs.Prelude.{◌≡◌, ◌≤◌, ◌+◌, ◌^◌, ℕ, suc, ℤ, pos, int_lt, Bool, true, false, List, [], ◌∷◌, length, slice_get, Option, Some, None}
+use Rattle.std.specs.Prelude.{◌≡◌, ◌<◌, ◌^◌, ℕ, suc, ℤ, Bool, true, false, List, [], ◌∷◌, Option, Some, None}
 use Rattle.dpj_base.specs.declared.elems.Elem.{Elem}
 use Rattle.dpj_base.specs.declared.region.Rpl.{Rpl}
 use Rattle.dpj_base.specs.Matching.{Env, put_in}
@@ -7,8 +7,8 @@ use Rattle.dpj_base.specs.Types.{PlainType}
 use Rattle.dpj_typed.specs.Plain.{PlainProgram}
 use Rattle.dpj_typed.specs.Scope.{Scope}
 use Rattle.dpj_meaning.specs.Core.{Result as ResultOf, Goes_on, Returns, Prog as ProgOf, Ret, Traps, Act, Makes, Again, Split}
-use Rattle.dpj_meaning.specs.Counts.{Brought as BroughtOf, number, slot_value}
-use Rattle.dpj_runs.specs.Actions.{Task, Own, Rest, Read, Write, Look, New, Print, Enter, Exit, Answer, Went, Got, Out, Class, Length, Named, Joined, Fell}
+use Rattle.dpj_meaning.specs.Counts.{Brought as BroughtOf}
+use Rattle.dpj_runs.specs.Actions.{Own, Rest, Read, Write, Look, New, Print, Enter, Exit, Answer, Went, Got, Out, Class, Length, Named, Joined, Fell}
 use Rattle.dpj_runs.specs.Objects.{Path, Name, LocalRegion, Made, Value, Effect}
 use Rattle.dpj_sound.specs.Settings.{Setting, env_of}
 use Rattle.dpj_sound.specs.Shapes.{Shape, object, elements, Shapes, Grows, FitsIn, CellAt, Describes}
@@ -82,7 +82,7 @@ WriteFits c (Fell trap place) = ⊥
 
 abbrev pub LookFits : Shape → Answer → Type 0
 LookFits (object c rs) x = x ≡ Class c rs
-LookFits (elements g t a) x = (len : ℕ) × (x ≡ Length len)
+LookFits (elements g t a) x = (len : ℕ) × (len < 2 ^ 31) × (x ≡ Length len)
 
 -- the answer to an action in order, and what has been made then
 abbrev pub Answers : (P : PlainProgram) (b : Bounds) (st : State) (o : Own) → Moves P b st o → Answer → State → Type 0
@@ -131,19 +131,12 @@ abbrev pub GoesFitting : PlainProgram → Path → Setting → Scope → State �
 GoesFitting P p g L h (Goes_on v f) = FrameFits P p h g L f
 GoesFitting P p g L h (Returns v) = ReturnFits P h.shapes g L.result v
 
--- what holds behind a part of a loop that began in this state
+-- what holds after a part of a loop that began in this state
 abbrev pub Rounds : PlainProgram → Path → State → Setting → Scope → State → Result → Type 0
 Rounds P p st g L h r = Since st h × GoesFitting P p g L h r
 
--- there are no more branches than numbers of 32 bits, so that each iteration of a loop has a number of its own; and what they take
--- parts of has no more places
-pub record IsNumbered (ts : List Task) : Type 0 where
-  pub count : length ts ≤ 2 ^ 32
-  pub places : (i k : ℕ) (t : Task) → slice_get ts i ≡ Some t → t.work.takes ≡ Some k →
-      int_lt (pos (2 ^ 32)) (number (slot_value t.frame.values (k + 2))) ≡ false
-
 -- each action is in order, whatever fits as its answer; a loop keeps locals that fit; branches are in order at their fork; and
--- where the work is done, this holds. Forks of which that doesn't hold are left aside
+-- where the work is done, this holds
 unfoldable pub InOrder : PlainProgram → Bounds → (State → Result → Type 0) → State → Prog → Type 0
 InOrder P b Q st (Ret r) = Q st r
 InOrder P b Q st (Traps trap place) = Unit {0}
@@ -155,4 +148,4 @@ InOrder P b Q st (Again test body f k) =
     × ((h : State) (e : Frame) → Since st h → FrameFits P b.path h g L e → InOrder P b (Rounds P b.path h g L) h (body e))
     × ((h : State) (r : Result) → Rounds P b.path st g L h r → InOrder P b Q h (k r))
 InOrder P b Q st (Split forking ts does k) =
-    IsNumbered ts → (forks : Forks P b st forking ts) × ((x : Brought) (h : State) → Since st h → Brings P b st forking ts forks h x → InOrder P b Q h (k x))
+    (forks : Forks P b st forking ts) × ((x : Brought) (h : State) → Since st h → Brings P b st forking ts forks h x → InOrder P b Q h (k x))

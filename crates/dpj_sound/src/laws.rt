@@ -1,6 +1,7 @@
 //! The laws of well-typed programs, each the clause of a function that does nothing.
 
 ghost use Rattle.dpj_sound.specs.Laws.{BranchesInOrder, BranchesQuiet, ExpressionsInOrder, ForkingInOrder, IterationsQuiet, NdBranchesQuiet, NdIterationsQuiet, RootInOrder, TasksInOrder};
+ghost use Rattle.dpj_sound.specs.RunLaws.{ConflictsAreGuarded, RunsAreFree, RunsKeepTo};
 
 /// Each expression of a well-typed program is in order.
 pub fn law_expressions()
@@ -8,7 +9,7 @@ pub fn law_expressions()
 {}
 
 /// So are its statements, given that bodies that they call are; so is a task with all calls that it makes, so is each branch that
-/// it forks, as a task of its own, and so is the root. What is left aside `Covered` says.
+/// it forks, as a task of its own, and so is the root.
 pub fn law_statements()
     ensures statements { ForkingInOrder }
     ensures tasks { TasksInOrder }
@@ -23,4 +24,13 @@ pub fn law_quiet()
     ensures iterations { IterationsQuiet }
     ensures nd_branches { NdBranchesQuiet }
     ensures nd_iterations { NdIterationsQuiet }
+{}
+
+/// In each legal run of a well-typed program values have their types, and each access lies in what its task may do. So no legal run of
+/// a program without nd constructs has two unordered events that conflict; and of each program those that do stand inside blocks that
+/// are never open at once, or in one.
+pub fn law_runs()
+    ensures keep_to { RunsKeepTo }
+    ensures free { RunsAreFree }
+    ensures guarded { ConflictsAreGuarded }
 {}

@@ -1,14 +1,17 @@
 //! Soundness: a well-typed program keeps to its types and effects.
 //!
-//! What is proved so far is of each task by itself, given answers that fit (`law_expressions`, `law_statements`): from locals that fit its
-//! scope, each access that it makes lies in its effects or in a local region that it has made, and in the effects with which each
-//! atomic block that it stands inside was entered; what it writes, makes and returns has its type; it looks at nothing that isn't
-//! there. Where it forks, each branch begins with locals that fit, may do no more than the construct says, and no two branches make
-//! accesses that meet (`law_quiet`); so each branch is in order as a task of its own. Left aside is the step from tasks to whole runs.
+//! First of each task by itself, given answers that fit (`law_expressions`, `law_statements`): from locals that fit its scope, each access
+//! that it makes lies in its effects or in a local region that it has made, and in the effects with which each atomic block that it
+//! stands inside was entered; what it writes, makes and returns has its type; it looks at nothing that isn't there. Where it forks,
+//! each branch begins with locals that fit, may do no more than the construct says, and no two branches make accesses that meet
+//! (`law_quiet`); so each branch is in order as a task of its own.
+//!
+//! Then of whole runs (`law_runs`): in each legal run answers do fit, so all of this holds at every moment; no two unordered events of a
+//! program without nd constructs conflict; and those of any program that do stand inside blocks.
 //!
 //! To read in this order: `Settings` (regions of a run as region paths, and what paths mean in a run), `Shapes` (which values have
 //! a type), `Accesses` (which accesses effects speak of), `Scopes` and `Frames` (which locals fit), `Branches` and `Work` (when the work
-//! of a task is in order), `Covered` (what is left aside), `Laws`.
+//! of a task is in order), `Laws`, and then `Runs` and `RunLaws`.
 #![tactic(auto)]
 
 pub mod laws;

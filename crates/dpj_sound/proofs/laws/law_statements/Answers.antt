@@ -1,5 +1,6 @@
 use Rattle.dpj_sound.proofs.Root.{root_in_order}
-use Rattle.dpj_sound.proofs.Statements.{forking_in_order, tasks_in_order, branches_in_order}
+use Rattle.dpj_sound.proofs.Statements.{forking_in_order}
+use Rattle.dpj_sound.proofs.Tasks.{tasks_in_order, branches_in_order}
 use Rattle.dpj_sound.proofs.laws.law_statements.Goals as goal
 
 pub returns : goal.returns

@@ -1,0 +1,31 @@
+-- What is said of whole runs, read off what holds of them.
+use Rattle.std.proofs.Common.{length, ap, subst, arith}
+use Rattle.dpj_runs.proofs.Things.{same_some}
+use Rattle.dpj_runs.proofs.Written.{legal_faithful}
+use Rattle.dpj_sound.specs.Shapes.{Describes}
+use Rattle.dpj_steps.specs.Steps.{stepped}
+use Rattle.dpj_sound.specs.RunLaws.{RunsKeepTo}
+use Rattle.dpj_sound.proofs.Sound.{Kept, EventOk, branches_of}
+use Rattle.dpj_sound.proofs.Whole.{sound, sound_root}
+
+pub runs_keep_to : RunsKeepTo
+runs_keep_to P wt arg small R l =
+    let Q = stepped P arg in
+    let s = sound P wt arg small (length R) R (legal_faithful Q R l) (omega arith) in
+    record {
+      shapes = s.shapes;
+      heap = record {
+        things = λ n t there. (let z = s.shaped n t there in
+            let w = s.things n z.0 z.1 in (z.0, z.1, subst (λ u. Describes P z.0 u) (same_some w.1 there) w.2));
+        cells = s.cells;
+      };
+      bounds = λ p. (s.keeping p).bounds;
+      root = ap (λ (k : Kept). k.bounds) (sound_root P wt arg small (length R) R (legal_faithful Q R l) (omega arith));
+      named = λ p t b. (s.tasks p t b).path;
+      forks = λ f F ts u act. (let ok = subst (λ c. EventOk P Q (s.keeping f.path) (branches_of P Q s.keeping f.path) s.shapes F f.path c) act (s.events f F u) in
+          record { state = ok.state; forks = ok.forks; grown = ok.grown; kept = λ i. ap (λ (k : Kept). k.bounds) (ok.kept i) });
+      reads = λ y Y n i u act. (let ok = subst (λ c. EventOk P Q (s.keeping y.path) (branches_of P Q s.keeping y.path) s.shapes Y y.path c) act (s.events y Y u) in
+          record { state = ok.state; reaches = ok.reaches; grown = ok.grown });
+      writes = λ y Y n i v u act. (let ok = subst (λ c. EventOk P Q (s.keeping y.path) (branches_of P Q s.keeping y.path) s.shapes Y y.path c) act (s.events y Y u) in
+          record { state = ok.state; reaches = ok.reaches; grown = ok.grown });
+    }

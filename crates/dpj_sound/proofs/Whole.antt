@@ -1,0 +1,136 @@
+-- Each run of a well-typed program is sound: from its start, event by event.
+use Rattle.std.proofs.Common.{true, ◌≡◌, ◌≤◌, ⊎_elim, ℕ, suc, ℤ, FitsSigned, List, [], ◌∷◌, ◌++◌, length, reverse, refl, sym, ap, ◌∙◌, subst, arith, Option, Some, None, slice_get, zero}
+use Rattle.std.specs.Int.{w32}
+use Rattle.std.proofs.lemmas.Bool.{cond-true, cond-false, cases_Bool}
+use Rattle.dpj_typed.specs.Plain.{PlainProgram, PlainMember}
+use Rattle.dpj_typed.specs.Scope.{Scope}
+use Rattle.dpj_typed.specs.WellTyped.{WellTyped}
+use Rattle.dpj_meaning.specs.Asking.{does, ended}
+use Rattle.dpj_meaning.specs.Core.{Goes_on, Returns}
+use Rattle.dpj_meaning.specs.Elision.{enters_main, root_task}
+use Rattle.dpj_meaning.specs.Expressions.{entered}
+use Rattle.dpj_runs.specs.Actions.{Program, Task}
+use Rattle.dpj_runs.specs.Blocks.{hold}
+use Rattle.dpj_runs.specs.Objects.{Int, Name, Object, Path, Thing, first_value, or_else, same_name}
+use Rattle.dpj_runs.specs.Runs.{Run, at_start, things, mine, answers, Begun, root, branch, Faithful, thing_of}
+use Rattle.dpj_runs.proofs.Cells.{last_nil, same_name_eq}
+use Rattle.dpj_runs.proofs.Mine.{mine_nil}
+use Rattle.dpj_runs.proofs.Upto.{upto_none}
+use Rattle.dpj_steps.specs.Steps.{named_by, first_name, stepped}
+use Rattle.dpj_sound.specs.Shapes.{Shape, object, FitsIn, Describes}
+use Rattle.dpj_sound.specs.Accesses.{Bounds}
+use Rattle.dpj_sound.specs.Frames.{State}
+use Rattle.dpj_sound.specs.Laws.{Leaves, start, main_scope, main_bounds}
+use Rattle.dpj_sound.specs.Settings.{class_setting}
+use Rattle.dpj_sound.specs.Work.{Result}
+use Rattle.dpj_sound.proofs.Branching.{asks_at_first, next_step}
+use Rattle.dpj_sound.proofs.Calm.{task_calm}
+use Rattle.dpj_sound.proofs.Carried.{stepped_on}
+use Rattle.dpj_sound.proofs.Cells.{first_value_fits}
+use Rattle.dpj_sound.proofs.Moments.{at, EndFits, Goes}
+use Rattle.dpj_sound.proofs.Root.{first_good, root_in_order}
+use Rattle.dpj_sound.proofs.Sound.{Kept, Stands, branches_of, Sound}
+use Rattle.dpj_sound.proofs.Walks.{WhereCalm, task_goes}
+
+root_end : (P : PlainProgram) (b : Bounds) (L : Scope) (copies : List ℕ) (st : State) (first : Name) (arg : ℤ) (o : Option PlainMember) (r : Result) →
+    EndFits P b L copies st.shapes (ended (enters_main (named_by []) first arg o).work r)
+root_end P b L copies st first arg None (Goes_on v f) = tt
+root_end P b L copies st first arg None (Returns v) = tt
+root_end P b L copies st first arg (Some m) (Goes_on v f) = tt
+root_end P b L copies st first arg (Some m) (Returns v) = tt
+
+module _ (P : PlainProgram) (wt : WellTyped P) (arg : ℤ) (small : FitsSigned w32 arg) where
+  abbrev Q : Program
+  Q = stepped P arg
+
+  abbrev pub main_kept : Kept
+  main_kept = record { bounds = main_bounds P wt; scope = main_scope P wt }
+
+  abbrev main_task : Task
+  main_task = root_task (named_by []) P first_name arg
+
+  main_calm : WhereCalm P (does (named_by []) P (root_task (named_by []) P first_name arg))
+  main_calm = subst (λ o. WhereCalm P (does (named_by []) P (enters_main (named_by []) first_name arg o))) (sym wt.main.member_is)
+      (λ none. task_calm P (named_by []) wt none 499 (wt.members P.main_member wt.main.member wt.main.member_is).passes (wt.without_nd none P.main_member)
+      (entered (named_by []) wt.main.member (Object first_name ∷ Int arg ∷ []) [] 499))
+
+  -- the first object stands alone
+  first_shape : (n : Name) (z : Shape) → (start P).shapes n ≡ Some z → (first_name ≡ n) × (object P.main_class [] ≡ z)
+  first_shape n z q = ⊎_elim
+      (λ t. (sym (same_name_eq n first_name t), (let k : Some (object P.main_class []) ≡ Some z = sym (cond-true (same_name n first_name) (Some (object P.main_class [])) None t) ∙ q in cc)))
+      (λ f. absurd (let k : None ≡ Some z = sym (cond-false (same_name n first_name) (Some (object P.main_class [])) None f) ∙ q in cc)) (cases_Bool (same_name n first_name))
+
+  first_is : Describes P (object P.main_class []) Q.object
+  first_is = (refl, refl, first_good P wt arg small, refl)
+
+  first_there : thing_of Q [] first_name ≡ Some Q.object
+  first_there = refl
+
+  none_made : (p : Path) → things (mine [] p) ≡ []
+  unfolding things
+  none_made p = ap things (mine_nil p)
+
+  first_made : (n : Name) (t : Thing) → thing_of Q [] n ≡ Some t → (z : Shape) × ((start P).shapes n ≡ Some z)
+  first_made n t e = go n.maker refl n.count refl (ap (λ g. slice_get (at_start Q n.maker ++ g) n.count) (sym (none_made n.maker)) ∙ e)
+    where
+      go : (p : Path) → n.maker ≡ p → (k : ℕ) → n.count ≡ k → slice_get (at_start Q p ++ []) k ≡ Some t → (z : Shape) × ((start P).shapes n ≡ Some z)
+      go [] a zero b h = (
+        object P.main_class [],
+        cond-true (same_name n first_name) (Some (object P.main_class [])) None (let c : n ≡ first_name = (λ i. record { maker = a i; count = b i }) in
+            subst (λ m. same_name m first_name ≡ true) (sym c) refl),
+      )
+      go [] a (suc k) b h = absurd (let z : None ≡ Some t = h in cc)
+      go (u ∷ p) a k b h = absurd (let z : None ≡ Some t = h in cc)
+
+  root_stands : (N : ℕ) → Stands P Q N [] main_kept (branches_of P Q (λ p. main_kept) []) (start P).shapes [] main_task
+  root_stands N = record {
+    path = refl;
+    moment = at (start P);
+    grown = λ n z q. q;
+    held = ap hold (mine_nil []);
+    is_at = tt;
+    depth = suc N;
+    enough = omega arith;
+    goes = subst (λ es. Goes P (main_bounds P wt) (main_scope P wt) main_task.work.copies (suc N) (at (start P)) (λ xs. Q.meaning [] main_task (reverse xs ++ answers es))) (sym (mine_nil []))
+        (asks_at_first P (main_bounds P wt) (main_scope P wt) main_task [] refl (start P) (suc N)
+        (task_goes P (main_bounds P wt) (main_scope P wt) main_task.work.copies (Leaves P (main_bounds P wt) (main_scope P wt) (class_setting []) wt.main.member.body (start P)) main_task (start P)
+        (root_in_order P wt arg small) main_calm refl
+        (λ h r y. root_end P (main_bounds P wt) (main_scope P wt) main_task.work.copies h first_name arg _ r) (suc N)));
+  }
+
+  at_the_start : (N : ℕ) → Sound P Q N []
+  at_the_start N = record {
+    shapes = (start P).shapes;
+    keeping = λ p. main_kept;
+    root = refl;
+    things = λ n z q. (let f = first_shape n z q in (Q.object, subst (λ x. thing_of Q [] x ≡ Some Q.object) f.0 first_there, subst (λ y. Describes P y Q.object) f.1 first_is));
+    shaped = λ n t there. first_made n t there;
+    cells = λ n z t k env ty a q there cell.
+        (let f = first_shape n z q in
+        let has : thing_of Q [] n ≡ Some Q.object = subst (λ x. thing_of Q [] x ≡ Some Q.object) f.0 first_there in
+        let same : Some Q.object ≡ Some t = sym has ∙ there in
+        let is : Q.object ≡ t = cc in
+        subst (λ o. FitsIn P (start P).shapes env ty (or_else o (first_value t k))) (sym (last_nil (record { object = n; slot = k })))
+        (first_value_fits (start P).shapes cell t (subst (λ x. Describes P z x) is (subst (λ y. Describes P y Q.object) f.1 first_is))));
+    events = λ y Y u. absurd (upto_none u);
+    tasks = λ p t b. begun p t b;
+  }
+    where
+      begun : (p : Path) (t : Task) → Begun Q [] p t → Stands P Q N [] main_kept (branches_of P Q (λ p. main_kept) p) (start P).shapes p t
+      begun p t (root e k) =
+          subst (λ x. Stands P Q N [] main_kept (branches_of P Q (λ p. main_kept) x) (start P).shapes x t) (sym e)
+          (subst (λ y. Stands P Q N [] main_kept (branches_of P Q (λ p. main_kept) []) (start P).shapes [] y) (sym k) (root_stands N))
+      begun p t (branch q u F f ts B g e fs fp fn fa there gs gp ga gn) = absurd (upto_none fs)
+
+  pub sound : (N : ℕ) (R : Run) → Faithful Q R → length R ≤ N → Sound P Q N R
+  sound N [] l room = at_the_start N
+  sound N (e ∷ R) l room =
+      let s = sound N R l.1 (omega (arith, room)) in
+      stepped_on P Q l.1 l.0.task l.0.begun s (next_step P wt arg l.1 s l.0 room)
+
+  -- and the root keeps to what `main` does
+  pub sound_root : (N : ℕ) (R : Run) (l : Faithful Q R) (room : length R ≤ N) → (sound N R l room).keeping [] ≡ main_kept
+  unfolding sound stepped_on at_the_start
+  sound_root N [] l room = refl
+  sound_root N (e ∷ R) l room =
+      (next_step P wt arg l.1 (sound N R l.1 (omega (arith, room))) l.0 room).agrees.root ∙ sound_root N R l.1 (omega (arith, room))

@@ -1,0 +1,24 @@
+-- What the whole runs of a well-typed program keep to, on each argument of 32 bits, as statements.
+use Rattle.std.specs.Prelude.{◌≡◌, ℤ, FitsSigned, false}
+use Rattle.std.specs.Int.{w32}
+use Rattle.dpj_typed.specs.Plain.{PlainProgram}
+use Rattle.dpj_typed.specs.WellTyped.{WellTyped}
+use Rattle.dpj_moving.specs.Guarded.{ConflictsGuarded}
+use Rattle.dpj_runs.specs.Blocks.{Legal}
+use Rattle.dpj_runs.specs.Laws.{AllFree}
+use Rattle.dpj_runs.specs.Runs.{Run}
+use Rattle.dpj_steps.specs.Steps.{stepped}
+use Rattle.dpj_sound.specs.Laws.{main_bounds}
+use Rattle.dpj_sound.specs.Runs.{KeepsTo}
+
+-- in each legal run values have their types and tasks keep to their effects
+abbrev pub RunsKeepTo : Type 0
+RunsKeepTo = (P : PlainProgram) (wt : WellTyped P) (arg : ℤ) → FitsSigned w32 arg → (R : Run) → Legal (stepped P arg) R → KeepsTo P (stepped P arg) (main_bounds P wt) R
+
+-- no legal run of a program without nd constructs has two unordered events that conflict
+abbrev pub RunsAreFree : Type 0
+RunsAreFree = (P : PlainProgram) → WellTyped P → P.uses_nd ≡ false → (arg : ℤ) → FitsSigned w32 arg → AllFree (stepped P arg)
+
+-- and of every program, unordered events that conflict stand inside blocks, and where these are two blocks the rule keeps them apart
+abbrev pub ConflictsAreGuarded : Type 0
+ConflictsAreGuarded = (P : PlainProgram) → WellTyped P → (arg : ℤ) → FitsSigned w32 arg → (R : Run) → Legal (stepped P arg) R → ConflictsGuarded (stepped P arg).rule R
