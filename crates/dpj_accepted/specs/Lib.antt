@@ -1,0 +1,4 @@
+pub mod Gathered
+pub mod Seen
+pub mod Tree
+pub mod Laws
