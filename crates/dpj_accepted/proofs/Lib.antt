@@ -1,3 +1,6 @@
+pub mod Args
+pub mod Expressions
 pub mod Gathered
+pub mod Partial
 pub mod Paths
 pub mod Subtypes

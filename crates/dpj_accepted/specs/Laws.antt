@@ -22,7 +22,7 @@ use Rattle.dpj_exprs.specs.Env.{table_of}
 use Rattle.dpj_exprs.specs.Typing.{Typing}
 use Rattle.dpj_resolved.specs.Accepted.{IsAccepted}
 use Rattle.dpj_accepted.specs.Gathered.{Gathers}
-use Rattle.dpj_accepted.specs.Seen.{can_stand, SupersAgree, Tells, Sees}
+use Rattle.dpj_accepted.specs.Seen.{can_stand, SupersAgree, Tells, Sees, ArraysAreGood}
 use Rattle.dpj_accepted.specs.Tree.{Fitting, IsWritten}
 
 -- what the checker accepts is well typed: the aim of this crate, of which the laws below are steps
@@ -46,5 +46,5 @@ pub record Stands (P : PlainProgram) (L : Scope) (before : Found) (e : TypedExpr
 abbrev pub ExpressionsAgree : Type 0
 ExpressionsAgree =
     (P : PlainProgram) (L : Scope) (env : Env) (reads assigns : ℕ → Bool) → Tells P (table_of env) L.never_nd → Sees P L env reads assigns →
-    (e : PlainExpr) (f g : Found) (made : Option TypedExpr) → Fitting e → ((x : ℕ) → IsTrue (expr_reads x e) → IsTrue (reads x)) → Typing env e f (gives made g) →
+    ArraysAreGood P L env → (e : PlainExpr) (f g : Found) (made : Option TypedExpr) → Fitting e → ((x : ℕ) → IsTrue (expr_reads x e) → IsTrue (reads x)) → Typing env e f (gives made g) →
     (t : TypedExpr) × (made ≡ Some t) × Stands P L f t g

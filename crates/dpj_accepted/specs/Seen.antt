@@ -1,15 +1,19 @@
 -- What is around a place of a body for the checker, and in scope there for the judgement; and what the class table and the
 -- program that is put together of it say alike.
-use Rattle.std.specs.Prelude.{◌≡◌, ◌≤◌, ◌<◌, ℕ, Bool, true, false, IsTrue, List, [], ◌∷◌, map, length, slice_index_or, Option, Some, option_map, option_and_then}
+use Rattle.std.specs.Prelude.{◌≡◌, ◌≤◌, ◌<◌, ℕ, Bool, true, false, IsTrue, List, [], ◌∷◌, map, length, slice_index_or, Option, Some, None, option_map, option_and_then, Ok}
+use Rattle.dpj_base.specs.declared.place.Place.{Place}
 use Rattle.dpj_base.specs.declared.region.Rpl.{Rpl}
 use Rattle.dpj_base.specs.declared.ty.Super.{Super}
 use Rattle.dpj_base.specs.declared.ty.Ty.{Ty}
-use Rattle.dpj_base.specs.Regions.{substituted}
+use Rattle.dpj_base.specs.Regions.{substituted, fully_specified}
 use Rattle.dpj_base.specs.Types.{PlainType, plain_type, type_with, superclass}
 use Rattle.dpj_base.specs.Types.{PlainType as ty}
+use Rattle.dpj_tree.specs.declared.region.BaseTree.{BaseTree}
+use Rattle.dpj_tree.specs.declared.region.RplTree.{RplTree}
 use Rattle.dpj_headers.specs.Headers.{class_of, region_of, atomic_regions}
 use Rattle.dpj_resolve.specs.declared.scope.ParamFound.{ParamFound}
 use Rattle.dpj_resolve.specs.Classes.{params_in}
+use Rattle.dpj_resolve.specs.Index.{PlainIndex}
 use Rattle.dpj_resolve.specs.Scoped.{value_in}
 use Rattle.dpj_resolve.specs.Scopes.{param_meant}
 use Rattle.dpj_classes.specs.declared.rows.FieldRow.{FieldRow}
@@ -19,11 +23,13 @@ use Rattle.dpj_classes.specs.Table.{headers_of, all_given, given_of, field_of, m
 use Rattle.dpj_typed.specs.Plain.{PlainProgram, PlainClass, PlainField, PlainMember, PlainParent}
 use Rattle.dpj_typed.specs.Scope.{Scope, Local, variable, frozen, constant, part, reserved, Above, IsBelow, class_at, member_at, field_at, row_at}
 use Rattle.dpj_typed.specs.Scope.{parent_of as parent_in}
-use Rattle.dpj_typed.specs.Types.{Known, Readable}
+use Rattle.dpj_typed.specs.Types.{GoodType, Known, Readable}
 use Rattle.dpj_exprs.specs.declared.env.Env.{Env}
 use Rattle.dpj_exprs.specs.declared.env.LocalRow.{LocalRow}
+use Rattle.dpj_exprs.specs.Arrays.{front_of, front_told, created_array}
 use Rattle.dpj_exprs.specs.Env.{table_of, supers_of, given_in, scope_of, local_of, index_variable_of, index_slot, this_type_of}
 use Rattle.dpj_exprs.specs.Partial.{mentions_partial, rigid_in_partial}
+use Rattle.dpj_exprs.specs.Typed.{may_be, is_int}
 
 -- the type of a value that can be declared: neither `void` nor that of `null`
 abbrev pub can_stand : PlainType → Bool
@@ -108,3 +114,10 @@ pub record Sees (P : PlainProgram) (L : Scope) (env : Env) (reads assigns : ℕ 
   pub indices : (name : ℕ) → index_variable_of env name ≡ option_and_then index_slot (local_of env name)
   pub params : (name : ℕ) (param : ParamFound) → param_meant (scope_of env) name ≡ Some param → (param.number < length L.atomic) × (slice_index_or L.atomic param.number false ≡ param.atomic)
   pub regions : (name number : ℕ) → value_in env.regions name ≡ Some number → IsTrue (L.regions number)
+
+-- the type of an array that is created without a fault is good, and the path of its elements fully specified
+abbrev pub ArraysAreGood : PlainProgram → Scope → Env → Type 0
+ArraysAreGood P L env =
+    (around : PlainIndex) (base : BaseTree) (rpl : Option RplTree) (len : Option PlainType) (place : Place) (t : PlainType) → front_told env around base ≡ None →
+    created_array env around (front_of env around base) len rpl place ≡ Ok t →
+    (elem : PlainType) × (a : Rpl) × (named : Bool) × (t ≡ ty.array elem a named) × GoodType P L 0 (ty.array elem a named) × IsTrue (fully_specified a) × (may_be is_int len ≡ true)
