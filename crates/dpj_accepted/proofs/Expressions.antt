@@ -129,7 +129,7 @@ constant_slot r a row o slot is h = by row.is_final (is_int (plain_type row.ty))
     array_int t e b same int_so = let no : false ≡ true = sym (ap is_int same) ∙ int_so in cc
 
     of_row : (o : Option Local) → RowIs r a row o → row.is_final ≡ true → is_int (plain_type row.ty) ≡ true → o ≡ Some (constant ty.int)
-    of_row o (RowIs.is_part {t = t} {a = b} p same) f int_so = absurd (array_int (plain_type row.ty) t b same int_so)
+    of_row o (RowIs.is_part {t = t} {a = b} p q same) f int_so = absurd (array_int (plain_type row.ty) t b same int_so)
     of_row o (RowIs.is_constant p g) f int_so = ap (λ z. Some (constant z)) (int_is (plain_type row.ty) int_so)
     of_row o (RowIs.is_variable p g) f int_so = let no : false ≡ true = sym g ∙ f in cc
     of_row o (RowIs.is_frozen p g u) f int_so = let no : false ≡ true = sym g ∙ f in cc
@@ -141,14 +141,14 @@ constant_slot r a row o slot is h = by row.is_final (is_int (plain_type row.ty))
     by false i at_f at_i h = cc
 
 part_slot : (r a : Bool) (row : LocalRow) (o : Option Local) → RowIs r a row o → row.is_part ≡ true → (t : PlainType) × (b : Rpl) × (o ≡ Some (part t b)) × (plain_type row.ty ≡ ty.array t b false)
-part_slot r a row o (RowIs.is_part {t = t} {a = b} p same) h = (t, b, refl, same)
+part_slot r a row o (RowIs.is_part {t = t} {a = b} p q same) h = (t, b, refl, same)
 part_slot r a row o (RowIs.is_constant p g) h = let no : false ≡ true = sym p ∙ h in cc
 part_slot r a row o (RowIs.is_variable p g) h = let no : false ≡ true = sym p ∙ h in cc
 part_slot r a row o (RowIs.is_frozen p g u) h = let no : false ≡ true = sym p ∙ h in cc
 part_slot r a row o (RowIs.is_reserved p g u v) h = let no : false ≡ true = sym p ∙ h in cc
 
 readable_slot : (r a : Bool) (row : LocalRow) (o : Option Local) → RowIs r a row o → row.is_part ≡ false → r ≡ true → Holds o (plain_type row.ty)
-readable_slot r a row o (RowIs.is_part p same) h k = let no : true ≡ false = sym p ∙ h in cc
+readable_slot r a row o (RowIs.is_part p q same) h k = let no : true ≡ false = sym p ∙ h in cc
 readable_slot r a row o (RowIs.is_constant p g) h k = inr (inr refl)
 readable_slot r a row o (RowIs.is_variable p g) h k = inl refl
 readable_slot r a row o (RowIs.is_frozen p g u) h k = inr (inl refl)
@@ -157,7 +157,7 @@ readable_slot r a row o (RowIs.is_reserved p g u v) h k = let no : false ≡ tru
 -- how such a local stands in an index, where it is an int
 slot_elem : (r a : Bool) (row : LocalRow) (o : Option Local) → RowIs r a row o → row.is_part ≡ false → plain_type row.ty ≡ ty.int →
     variable_elem row.slot o ≡ array_elem (option_map (λ slot. Variable slot) (index_slot row))
-slot_elem r a row o (RowIs.is_part p same) h int_so = let no : true ≡ false = sym p ∙ h in cc
+slot_elem r a row o (RowIs.is_part p q same) h int_so = let no : true ≡ false = sym p ∙ h in cc
 slot_elem r a row o (RowIs.is_constant p g) h int_so =
     ap (λ z. variable_elem row.slot (Some (constant z))) int_so
     ∙ sym (ap (λ z. array_elem (option_map (λ slot. Variable slot) (cond z (Some row.slot) None))) (ap (λ f. f && is_int (plain_type row.ty)) g ∙ ap is_int int_so))

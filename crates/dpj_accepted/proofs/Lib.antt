@@ -3,4 +3,5 @@ pub mod Expressions
 pub mod Gathered
 pub mod Partial
 pub mod Paths
+pub mod Singles
 pub mod Subtypes

@@ -19,7 +19,8 @@ use Rattle.dpj_resolve.specs.Scopes.{param_meant}
 use Rattle.dpj_classes.specs.declared.rows.FieldRow.{FieldRow}
 use Rattle.dpj_classes.specs.declared.rows.MethodRow.{MethodRow}
 use Rattle.dpj_classes.specs.declared.table.Table.{Table}
-use Rattle.dpj_classes.specs.Table.{headers_of, all_given, given_of, field_of, method_of, row_of, constructor_of, args_at, is_forking}
+use Rattle.dpj_check.specs.declared.node.Around.{Around}
+use Rattle.dpj_classes.specs.Table.{numbered, headers_of, all_given, given_of, field_of, method_of, row_of, constructor_of, args_at, is_forking}
 use Rattle.dpj_typed.specs.Plain.{PlainProgram, PlainClass, PlainField, PlainMember, PlainParent}
 use Rattle.dpj_typed.specs.Scope.{Scope, Local, variable, frozen, constant, part, reserved, Above, IsBelow, class_at, member_at, field_at, row_at}
 use Rattle.dpj_typed.specs.Scope.{parent_of as parent_in}
@@ -97,7 +98,7 @@ pub record Tells (P : PlainProgram) (table : Table) (never_nd : ℕ → Bool) : 
 
 -- what the slot of a local holds, where a piece of the body may read it or not, and assign it or not
 pub data RowIs (reads assigns : Bool) (row : LocalRow) : Option Local → Type 0 where
-  is_part : {t : PlainType} {a : Rpl} → row.is_part ≡ true → plain_type row.ty ≡ ty.array t a false → RowIs reads assigns row (Some (part t a))
+  is_part : {t : PlainType} {a : Rpl} → row.is_part ≡ true → row.is_final ≡ true → plain_type row.ty ≡ ty.array t a false → RowIs reads assigns row (Some (part t a))
   is_constant : row.is_part ≡ false → row.is_final ≡ true → RowIs reads assigns row (Some (constant (plain_type row.ty)))
   is_variable : row.is_part ≡ false → row.is_final ≡ false → RowIs reads assigns row (Some (variable (plain_type row.ty)))
   -- one that is declared around a branch, which it doesn't assign
@@ -111,6 +112,7 @@ pub record Sees (P : PlainProgram) (L : Scope) (env : Env) (reads assigns : ℕ 
   pub supers : SupersAgree P (supers_of env)
   pub self : L.local 0 ≡ Some (frozen (this_type_of env))
   pub locals : (name : ℕ) (row : LocalRow) → local_of env name ≡ Some row → RowIs (reads name) (assigns name) row (L.local row.slot)
+  pub declared : (name : ℕ) (row : LocalRow) → local_of env name ≡ Some row → row.is_final ≡ false → can_stand (plain_type row.ty) ≡ true
   pub indices : (name : ℕ) → index_variable_of env name ≡ option_and_then index_slot (local_of env name)
   pub params : (name : ℕ) (param : ParamFound) → param_meant (scope_of env) name ≡ Some param → (param.number < length L.atomic) × (slice_index_or L.atomic param.number false ≡ param.atomic)
   pub regions : (name number : ℕ) → value_in env.regions name ≡ Some number → IsTrue (L.regions number)
@@ -121,3 +123,9 @@ ArraysAreGood P L env =
     (around : PlainIndex) (base : BaseTree) (rpl : Option RplTree) (len : Option PlainType) (place : Place) (t : PlainType) → front_told env around base ≡ None →
     created_array env around (front_of env around base) len rpl place ≡ Ok t →
     (elem : PlainType) × (a : Rpl) × (named : Bool) × (t ≡ ty.array elem a named) × GoodType P L 0 (ty.array elem a named) × IsTrue (fully_specified a) × (may_be is_int len ≡ true)
+
+-- what a `return` gives: a value of the type that the member gives, or none where it gives none; none stands in a branch or an
+-- atomic block
+pub record Returns (L : Scope) (env : Env) (around : Around) : Type 0 where
+  pub value : around.enclosed ≡ false → around.has_result ≡ true → (row : MethodRow) × (numbered (table_of env) env.method ≡ Some row) × (L.result ≡ Some (plain_type row.result)) × (can_stand (plain_type row.result) ≡ true)
+  pub nothing : around.enclosed ≡ false → around.has_result ≡ false → L.result ≡ Some ty.void
