@@ -1,4 +1,5 @@
 pub mod Args
+pub mod Declaring
 pub mod Expressions
 pub mod Gathered
 pub mod Partial
