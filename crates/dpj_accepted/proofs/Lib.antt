@@ -2,6 +2,7 @@ pub mod Args
 pub mod Declaring
 pub mod Expressions
 pub mod Gathered
+pub mod Indices
 pub mod Partial
 pub mod Paths
 pub mod Singles
