@@ -81,7 +81,7 @@ or_split : (a b : Bool) → (a || b) ≡ true → (a ≡ true) ⊎ (b ≡ true)
 or_split true b h = inl refl
 or_split false b h = inr h
 
-own_told : (names : List (Option Named)) (d : ℕ) (es : List Elem) → AllSpeak names es → list_any (λ x. same_elem x (At (Own d))) es ≡ true → is_written names d ≡ true
+pub own_told : (names : List (Option Named)) (d : ℕ) (es : List Elem) → AllSpeak names es → list_any (λ x. same_elem x (At (Own d))) es ≡ true → is_written names d ≡ true
 own_told names d [] all h = cc
 own_told names d (e ∷ es) all h = elim (or_split (same_elem e (At (Own d))) (list_any (λ x. same_elem x (At (Own d))) es) h) [
   | inl here ↦ same_own names d e all.0 here

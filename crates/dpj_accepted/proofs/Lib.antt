@@ -7,3 +7,4 @@ pub mod Partial
 pub mod Paths
 pub mod Singles
 pub mod Subtypes
+pub mod Types
