@@ -1,31 +1,76 @@
 -- How a run of a typed program comes out.
-use Rattle.std.specs.Prelude.{◌≡◌, ℤ, All, [], Option, Some, None}
+use Rattle.std.specs.Prelude.{◌≡◌, ◌+◌, ◌×◌, ◌⊎◌, ℕ, ℤ, All, IsSome, List, [], length, sum, Option, Some, None}
 use Rattle.dpj_base.specs.declared.outcome.Limits.{Limits}
 use Rattle.dpj_base.specs.declared.outcome.Outcome.{Outcome}
 use Rattle.dpj_typed.specs.Plain.{PlainProgram}
 use Rattle.dpj_code.specs.declared.code.Code.{Code}
 use Rattle.dpj_code.specs.Plain.{plain_code}
 use Rattle.dpj_gen.specs.Whole.{compiled}
+use Rattle.dpj_history.specs.declared.Record.{Record}
 use Rattle.dpj_legs.specs.Halts.{IsFew}
 use Rattle.dpj_machine.specs.declared.halted.Halted.TheVariants.{Stuck}
 use Rattle.dpj_machine.specs.Keeping.{Played, IsReplayed, HaltsGreedily, GreedilyOn, HasEnded}
+use Rattle.dpj_workers.specs.declared.Worked.{Worked}
 
--- a run of the program's code on the argument of `main`, within limits, from its start on, at each step by the task that began last of
--- those that can go on
-pub record RunOf (P : PlainProgram) (L : Limits) (argument : ℤ) : Type 0 where
+-- a machine on the program's code, on the argument of `main`, within limits; it is where its schedule leads
+pub record IsRunOf (P : PlainProgram) (L : Limits) (argument : ℤ) (p : Played) : Type 0 where
+  pub is_code : plain_code p.code ≡ compiled P
+  pub limits : p.limits ≡ L
+  pub is_argument : p.argument ≡ argument
+  pub replayed : IsReplayed p
+
+-- what the greatest ready task does next can't be done; or no task is ready, or more events were made than are in a run
+pub data CannotGoOn (p : Played) : Type 0 where
+  stuck : HaltsGreedily p Stuck → CannotGoOn p
+  unfinished : p.outcome ≡ None → HasEnded p → CannotGoOn p
+
+-- a machine has gone on in the run that it made
+pub record IsSameRun (old new : Played) : Type 0 where
+  pub code : new.code ≡ old.code
+  pub limits : new.limits ≡ old.limits
+  pub argument : new.argument ≡ old.argument
+  pub replayed : IsReplayed new
+
+-- the code of the program has a fork of more branches than a value counts
+pub record IsTooWide (P : PlainProgram) : Type 0 where
+  pub code : Code
+  pub is_code : plain_code code ≡ compiled P
+  pub wide : All IsFew code.sites → ⊥
+
+-- there is no run that comes out
+abbrev pub HasNoRun : PlainProgram → Limits → ℤ → Type 0
+HasNoRun P L argument = IsTooWide P ⊎ ((p : Played) × IsRunOf P L argument p × CannotGoOn p)
+
+-- a run from its start on in which at each step the task that began last of those that are ready has gone on
+pub record IsElision (P : PlainProgram) (L : Limits) (argument : ℤ) (p : Played) : Type 0 where
+  pub is_run : IsRunOf P L argument p
   pub start : Played
-  pub is_code : plain_code start.code ≡ compiled P
-  pub limits : start.limits ≡ L
-  pub is_argument : start.argument ≡ argument
   pub nothing : start.schedule ≡ []
-  pub replayed : IsReplayed start
-  pub now : Played
-  pub steps : GreedilyOn start now
+  pub steps : GreedilyOn start p
 
--- how it comes out; and where it doesn't, why: what the greatest ready task does next can't be done; no task is ready, or more events
--- were made than are in a run; or the code has a fork of more branches than a value counts
+-- how it comes out, or that there is none
 pub data ComesOut (P : PlainProgram) (L : Limits) (argument : ℤ) : Option Outcome → Type 0 where
-  finished : (r : RunOf P L argument) (o : Outcome) → r.now.outcome ≡ Some o → ComesOut P L argument (Some o)
-  stuck : (r : RunOf P L argument) → HaltsGreedily r.now Stuck → ComesOut P L argument None
-  unfinished : (r : RunOf P L argument) → r.now.outcome ≡ None → HasEnded r.now → ComesOut P L argument None
-  too_wide : (code : Code) → plain_code code ≡ compiled P → (All IsFew code.sites → ⊥) → ComesOut P L argument None
+  finished : (p : Played) → IsElision P L argument p → (o : Outcome) → p.outcome ≡ Some o → ComesOut P L argument (Some o)
+  not_at_all : HasNoRun P L argument → ComesOut P L argument None
+
+-- the record of a run that has come out, made by so many workers and the caller
+pub record IsRecordOf (P : PlainProgram) (L : Limits) (argument : ℤ) (workers : ℕ) (r : Record) : Type 0 where
+  pub is_run : IsRunOf P L argument r.machine
+  pub finished : IsSome r.machine.outcome
+  pub seats : length r.shares ≡ workers
+  pub counted : length r.machine.schedule ≡ sum r.shares + r.own
+
+pub data IsRecorded (P : PlainProgram) (L : Limits) (argument : ℤ) (workers : ℕ) : Option Record → Type 0 where
+  finished : (r : Record) → IsRecordOf P L argument workers r → IsRecorded P L argument workers (Some r)
+  not_at_all : HasNoRun P L argument → IsRecorded P L argument workers None
+
+-- a machine that has made no event of a run, or that there is none
+pub data IsOpened (P : PlainProgram) (L : Limits) (argument : ℤ) : Option Played → Type 0 where
+  opened : (p : Played) → IsRunOf P L argument p → p.schedule ≡ [] → IsOpened P L argument (Some p)
+  too_wide : IsTooWide P → IsOpened P L argument None
+
+-- what the workers left unfinished is finished by the caller, or can't be
+pub data IsFinished (w : Worked) : Option Record → Type 0 where
+  finished : (r : Record) → IsSameRun w.machine r.machine → IsSome r.machine.outcome → r.shares ≡ w.shares
+      → length r.machine.schedule ≡ sum r.shares + r.own → IsFinished w (Some r)
+  not_at_all : (p : Played) → IsSameRun w.machine p → CannotGoOn p → IsFinished w None

@@ -1,13 +1,17 @@
-//! Runs typed programs: `run` compiles a program, opens a machine on its code, and steps its greatest ready task until the
-//! run has come out.
+//! Runs typed programs: the program is compiled, a machine is opened on its code, and the machine is stepped until the run
+//! has come out, by the caller alone (`elide`) or by workers (`run`).
 //!
-//! What it promises: an outcome is that of a run of the program's code within the limits, which a schedule leads to
-//! (`specs/Run.antt`). Where there is none, the run is at a moment at which no task can go on, or its code has a fork of
-//! more branches than a value counts; nothing is known of a program of the language that comes to this, and that none does
-//! is open.
+//! What it promises (`specs/Run.antt`): an outcome is that of a run of the program's code within the limits, which the
+//! schedule leads to that was made. `elide` makes the run in which at each step the task that began last goes on. Where there
+//! is no outcome, the run is at a moment at which no task can go on, or the code has a fork of more branches than a value
+//! counts; nothing is known of a program of the language that comes to this, and that none does is open.
 #![tactic(auto)]
 
+mod elide;
 mod few;
-mod running;
+mod finish;
+mod open;
+mod run;
 
-pub use running::run;
+pub use elide::elide;
+pub use run::run;

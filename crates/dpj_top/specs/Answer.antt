@@ -78,17 +78,6 @@ pub data IsVerdictOn (job : Job) (place : Place) (typed : PlainProgram) : Verdic
   to_list : (verdict : Verdict) → asks_list job.command ≡ true → IsListing typed verdict → IsVerdictOn job place typed verdict
   to_check : asks_run job.command ≡ false → asks_list job.command ≡ false → IsVerdictOn job place typed Accepted
 
--- the tokens of a text derive a program, and it is accepted as this typed program
-pub record HasProgram (text : List ℕ) (tokens : List Token) (typed : PlainProgram) : Type 0 where
-  pub program : Program
-  pub derived : IsProgram text tokens program
-  pub accepted : IsAccepted program typed
-
--- where the first token stands, or the end of a text without one
-abbrev pub first_place : List Token → Place → Place
-first_place [] end = end
-first_place (token ∷ tokens) end = token.place
-
 -- the text is no program of the first form
 abbrev pub IsOther : List ℕ → Type 0
 IsOther text = (program : First) → IsFirstForm text program → ⊥
@@ -96,30 +85,6 @@ IsOther text = (program : First) → IsFirstForm text program → ⊥
 -- a listing is asked, which every program has by its tokens; or the text is no program of the first form
 abbrev pub IsLeft : Job → List ℕ → Type 0
 IsLeft job text = (asks_list job.command ≡ true) ⊎ IsOther text
-
--- the text is cut into tokens, which derive a program that is accepted as this typed program; the first of them stands at the place
-pub record IsPassed (text : List ℕ) (place : Place) (typed : PlainProgram) : Type 0 where
-  pub tokens : List Token
-  pub end : Place
-  pub cut : Cuts text tokens end
-  pub first : place ≡ first_place tokens end
-  pub has_program : HasProgram text tokens typed
-
--- the fault that is told of the tokens of a text: that of their grammar, or that of the program that they derive
-pub data IsTokenFault (text : List ℕ) (tokens : List Token) (end : Place) (refusal : Refusal) : Type 0 where
-  of_grammar : IsGrammarFault text tokens end refusal → IsTokenFault text tokens end refusal
-  of_program : (program : Program) → IsProgram text tokens program → IsFaulty program refusal → IsTokenFault text tokens end refusal
-
--- the text is cut into tokens, and the fault is theirs
-pub record IsLaterFault (text : List ℕ) (refusal : Refusal) : Type 0 where
-  pub tokens : List Token
-  pub end : Place
-  pub cut : Cuts text tokens end
-  pub fault : IsTokenFault text tokens end refusal
-
--- the first fault of the text's tokens, or where it is cut into tokens, theirs
-abbrev pub IsFault : List ℕ → Refusal → Type 0
-IsFault text refusal = FaultsAt text refusal ⊎ IsLaterFault text refusal
 
 -- the verdict on a text
 pub data IsAnswer (job : Job) (text : List ℕ) : Verdict → Type 0 where

@@ -1,23 +1,19 @@
-ghost use Rattle.std.specs.Prelude.{◌≡◌, ◌≤◌, All, IfOk};
-ghost use Rattle.dpj_code.specs.Plain.{plain_code};
+ghost use Rattle.std.specs.Prelude.{◌≡◌, ◌≤◌, IfOk};
 ghost use Rattle.dpj_gen.specs.Resolved.{Resolved};
-ghost use Rattle.dpj_gen.specs.Whole.{compiled};
 ghost use Rattle.dpj_going.specs.Going.{HasMain};
-ghost use Rattle.dpj_legs.specs.Halts.{IsFew};
 ghost use Rattle.dpj_typed.specs.Plain.{plain_program};
 ghost use Rattle.dpj_run.specs.Run.{ComesOut};
 
-use crate::few::all_few;
+use crate::finish::finish;
+use crate::open::open;
 use dpj_base::{Limits, NoMemory, Outcome, Plain};
-use dpj_code::Code;
-use dpj_compile::compile;
-use dpj_going::laws::law_going;
-use dpj_machine::{Halted, Machine};
+use dpj_machine::Machine;
 use dpj_typed::Program;
 use std::alloc::Global;
 
-/// Runs a program on the argument of `main` within limits. None, where the run can't go on.
-pub fn run(
+/// Runs a program on the argument of `main` within limits, its branches one after the other. None, where the run can't
+/// go on.
+pub fn elide(
     alloc: Global,
     program: &Program,
     limits: Limits,
@@ -29,16 +25,13 @@ pub fn run(
     requires cells { limits.cells ≤ 16777216 }
     ensures { IfOk result (ComesOut (plain_program program.now) limits argument) }
 {
-    let code = compile(alloc, program)?;
-    if !all_few(code.sites.as_slice()) {
+    let Some(mut machine) = open(alloc, program, limits, argument)? else {
         return Ok(None);
-    }
-    law_going();
-    let mut machine = Machine::open(alloc, code, limits, argument)?;
-    match machine.finish() {
-        Ok(()) => came_out(alloc, &machine),
-        Err(Halted::Stuck) => Ok(None),
-        Err(Halted::NoMemory) => Err(NoMemory),
+    };
+    if finish(&mut machine)? {
+        came_out(alloc, &machine)
+    } else {
+        Ok(None)
     }
 }
 

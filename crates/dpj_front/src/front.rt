@@ -3,8 +3,8 @@ ghost use Rattle.dpj_base.specs.Refused.{IfRefused};
 ghost use Rattle.dpj_headers.specs.Second.{AreCounted};
 ghost use Rattle.dpj_tokens.specs.Cutting.{StandInOrder};
 ghost use Rattle.dpj_tree.specs.Size.{program_size};
-ghost use Rattle.dpj_top.specs.Answer.{HasProgram, IsFault, IsPassed, IsTokenFault, first_place};
-ghost use Rattle.dpj_top.specs.Judging.{HasTable, IsAccepted, IsFaulty, CanRun, typed_of, typed_with};
+ghost use Rattle.dpj_front.specs.Front.{HasProgram, IsFault, IsPassed, IsTokenFault, first_place};
+ghost use Rattle.dpj_front.specs.Judging.{HasTable, IsAccepted, IsFaulty, CanRun, typed_of, typed_with};
 
 use dpj_assembly::program;
 use dpj_base::{Bytes, Items, NoMemory, Place, Stop};
@@ -30,7 +30,7 @@ pub struct Passed {
 impl Passed {
     ghost use Rattle.std.specs.Prelude.{◌≡◌, IfOk};
     ghost use Rattle.dpj_typed.specs.Plain.{plain_program};
-    ghost use Rattle.dpj_top.specs.Judging.{typed_of};
+    ghost use Rattle.dpj_front.specs.Judging.{typed_of};
 
     /// The typed program. Its size grows with the square of a chain of superclasses, since each class has all fields.
     pub fn typed(self, alloc: Global) -> Result<Program, NoMemory>

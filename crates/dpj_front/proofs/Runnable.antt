@@ -1,32 +1,17 @@
 -- What is accepted can be run, over plain variables.
-use Rattle.std.proofs.Common.{◌≡◌, ◌≤◌, ◌∙◌, Bool, List, length, Ok, ap, sym, subst, arith}
+use Rattle.std.proofs.Common.{◌≡◌, ◌≤◌, Bool, List, length, Ok, sym, subst, arith}
 use Rattle.dpj_headers.specs.Second.{AreCounted}
 use Rattle.dpj_tree.specs.declared.class.Program.{Program}
-use Rattle.dpj_tree.specs.Nd.{program_uses_nd}
 use Rattle.dpj_tree.specs.Size.{program_size}
 use Rattle.dpj_typed.specs.Plain.{PlainProgram}
 use Rattle.dpj_classes.specs.declared.table.Table.{Table}
 use Rattle.dpj_assembly.specs.Assembled.{PlainBody, program_of}
-use Rattle.dpj_check.specs.Keeping.{ProgramKeeps}
 use Rattle.dpj_check.specs.Methods.{BodiesChecking}
 use Rattle.dpj_resolved.specs.Accepted.{AcceptedIsResolved, AcceptedBegins, SmallHasRows}
 use Rattle.dpj_resolved.specs.Accepted.{IsAccepted as Passes}
-use Rattle.dpj_top.specs.Judging.{HasTable, IsAccepted, CanRun}
+use Rattle.dpj_front.specs.Judging.{HasTable, CanRun}
 
--- table and bodies make the typed program that is accepted
-pub accepted_so : (program : Program) (table : Table) (bodies : List PlainBody) (uses_nd : Bool) (made : PlainProgram) → HasTable program table
-    → BodiesChecking program table (Ok bodies) → uses_nd ≡ program_uses_nd program → ProgramKeeps program → made ≡ program_of table program.names uses_nd bodies
-    → IsAccepted program made
-accepted_so program table bodies uses_nd made has checked nd keeps is = record {
-  table = table;
-  has_table = has;
-  bodies = bodies;
-  checked = checked;
-  typed_so = is ∙ ap (λ b. program_of table program.names b bodies) nd;
-  keeps = keeps;
-}
-
--- and it can be run, as the text isn't too long
+-- it can be run, as the text isn't too long
 pub can_run : AcceptedIsResolved → AcceptedBegins → SmallHasRows → (program : Program) (table : Table) (bodies : List PlainBody) (uses_nd : Bool) (made : PlainProgram)
     → AreCounted (length program.names) program.classes → program_size program ≤ 1048576 → HasTable program table → BodiesChecking program table (Ok bodies)
     → made ≡ program_of table program.names uses_nd bodies → CanRun made

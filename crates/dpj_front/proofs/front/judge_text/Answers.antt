@@ -2,10 +2,10 @@ use Rattle.std.proofs.Common.{◌<◌, ◌≤◌, ℕ, length, arith}
 use Rattle.dpj_headers.proofs.Shaped.{counted_when_named}
 use Rattle.dpj_tree.specs.Size.{program_size}
 use Rattle.dpj_tree.proofs.Sizes.{classes_counted}
-use Rattle.dpj_top.specs.Answer.{IsTokenFault, of_program}
-use Rattle.dpj_top.specs.Judging.{IsFaulty}
-use Rattle.dpj_top.proofs.Told.{told-so}
-use Rattle.dpj_top.proofs.front.judge_text.Goals as goal
+use Rattle.dpj_front.specs.Front.{IsTokenFault, of_program}
+use Rattle.dpj_front.specs.Judging.{IsFaulty}
+use Rattle.dpj_front.proofs.Told.{told-so}
+use Rattle.dpj_front.proofs.front.judge_text.Goals as goal
 
 few : (classes size bytes : ℕ) → classes ≤ size → size ≤ bytes → bytes ≤ 1048576 → classes < 4294967295
 few classes size bytes h k l = omega (arith, h, k, l)

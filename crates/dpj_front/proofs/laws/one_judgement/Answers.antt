@@ -1,5 +1,5 @@
-use Rattle.dpj_top.proofs.Judgements.{fault-unique, accepted-alone, program-unique}
-use Rattle.dpj_top.proofs.laws.one_judgement.Goals as goal
+use Rattle.dpj_front.proofs.Judgements.{fault-unique, accepted-alone, program-unique}
+use Rattle.dpj_front.proofs.laws.one_judgement.Goals as goal
 
 pub returns : goal.returns
 returns c = record {

@@ -9,7 +9,7 @@ use Rattle.dpj_typed.specs.Plain.{PlainProgram}
 use Rattle.dpj_assembly.specs.Assembled.{PlainBody, program_of}
 use Rattle.dpj_check.specs.Methods.{BodiesChecking}
 use Rattle.dpj_check.specs.Once.{OneChecking}
-use Rattle.dpj_top.specs.Judging.{HasTable, IsAccepted, IsFaulty, of_table, of_bodies}
+use Rattle.dpj_front.specs.Judging.{HasTable, IsAccepted, IsFaulty, of_table, of_bodies}
 
 pub fault-unique : OneTable → OneFault → OneChecking → (program : Program) (first second : Refusal) → IsFaulty program first → IsFaulty program second → first ≡ second
 fault-unique tables faults checks program first second (of_table told) (of_table told') = faults.one program first second told told'

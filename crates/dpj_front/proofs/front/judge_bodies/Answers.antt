@@ -1,10 +1,10 @@
 use Rattle.std.proofs.Common.{Err, map, refl}
 use Rattle.dpj_assembly.specs.Assembled.{plain_body, program_of}
 use Rattle.dpj_check.specs.Methods.{BodiesChecking}
-use Rattle.dpj_top.specs.Judging.{IsFaulty, of_bodies}
-use Rattle.dpj_top.proofs.Runnable.{can_run}
-use Rattle.dpj_top.proofs.Told.{handed-so}
-use Rattle.dpj_top.proofs.front.judge_bodies.Goals as goal
+use Rattle.dpj_front.specs.Judging.{IsFaulty, of_bodies}
+use Rattle.dpj_front.proofs.Runnable.{can_run}
+use Rattle.dpj_front.proofs.Told.{handed-so}
+use Rattle.dpj_front.proofs.front.judge_bodies.Goals as goal
 
 pub returns-in_err-accepted-clause-fault : goal.returns-in_err-accepted-clause-fault
 returns-in_err-accepted-clause-fault c =

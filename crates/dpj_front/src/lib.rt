@@ -1,0 +1,13 @@
+//! From a text to its typed program, or to its first fault.
+//!
+//! What it promises (`specs/Front.antt`, `specs/Judging.antt`): where `front` answers a program, the text is cut into tokens
+//! that derive a tree, the tree has a class table without faults, its bodies pass the rules of the language, and the typed
+//! program is what table and bodies make; it can be compiled and run. Where it answers a refusal, that is a first fault of the
+//! text. A program has one verdict at most (`one_judgement`).
+#![tactic(auto)]
+
+mod front;
+mod laws;
+
+pub use front::{Passed, front};
+pub use laws::one_judgement;
