@@ -1,5 +1,5 @@
 -- How a run of a typed program comes out.
-use Rattle.std.specs.Prelude.{◌≡◌, ◌+◌, ◌×◌, ◌⊎◌, ℕ, ℤ, All, IsSome, List, [], length, sum, Option, Some, None}
+use Rattle.std.specs.Prelude.{◌≡◌, ◌+◌, ◌⊎◌, ℕ, ℤ, All, [], length, sum, Option, Some, None}
 use Rattle.dpj_base.specs.declared.outcome.Limits.{Limits}
 use Rattle.dpj_base.specs.declared.outcome.Outcome.{Outcome}
 use Rattle.dpj_typed.specs.Plain.{PlainProgram}
@@ -11,6 +11,7 @@ use Rattle.dpj_legs.specs.Halts.{IsFew}
 use Rattle.dpj_machine.specs.declared.halted.Halted.TheVariants.{Stuck}
 use Rattle.dpj_machine.specs.Keeping.{Played, IsReplayed, HaltsGreedily, GreedilyOn, HasEnded}
 use Rattle.dpj_workers.specs.declared.Worked.{Worked}
+use Rattle.dpj_run.specs.declared.run.Run.{Run}
 
 -- a machine on the program's code, on the argument of `main`, within limits; it is where its schedule leads
 pub record IsRunOf (P : PlainProgram) (L : Limits) (argument : ℤ) (p : Played) : Type 0 where
@@ -24,22 +25,16 @@ pub data CannotGoOn (p : Played) : Type 0 where
   stuck : HaltsGreedily p Stuck → CannotGoOn p
   unfinished : p.outcome ≡ None → HasEnded p → CannotGoOn p
 
--- a machine has gone on in the run that it made
-pub record IsSameRun (old new : Played) : Type 0 where
-  pub code : new.code ≡ old.code
-  pub limits : new.limits ≡ old.limits
-  pub argument : new.argument ≡ old.argument
-  pub replayed : IsReplayed new
-
 -- the code of the program has a fork of more branches than a value counts
 pub record IsTooWide (P : PlainProgram) : Type 0 where
   pub code : Code
   pub is_code : plain_code code ≡ compiled P
   pub wide : All IsFew code.sites → ⊥
 
--- there is no run that comes out
-abbrev pub HasNoRun : PlainProgram → Limits → ℤ → Type 0
-HasNoRun P L argument = IsTooWide P ⊎ ((p : Played) × IsRunOf P L argument p × CannotGoOn p)
+-- there is a moment of a run at which it can't go on, or no run at all
+pub data HasNoRun (P : PlainProgram) (L : Limits) (argument : ℤ) : Type 0 where
+  halted : (p : Played) → IsRunOf P L argument p → CannotGoOn p → HasNoRun P L argument
+  too_wide : IsTooWide P → HasNoRun P L argument
 
 -- a run from its start on in which at each step the task that began last of those that are ready has gone on
 pub record IsElision (P : PlainProgram) (L : Limits) (argument : ℤ) (p : Played) : Type 0 where
@@ -50,27 +45,34 @@ pub record IsElision (P : PlainProgram) (L : Limits) (argument : ℤ) (p : Playe
 
 -- how it comes out, or that there is none
 pub data ComesOut (P : PlainProgram) (L : Limits) (argument : ℤ) : Option Outcome → Type 0 where
-  finished : (p : Played) → IsElision P L argument p → (o : Outcome) → p.outcome ≡ Some o → ComesOut P L argument (Some o)
+  finished : (p : Played) (o : Outcome) → IsElision P L argument p → p.outcome ≡ Some o → ComesOut P L argument (Some o)
   not_at_all : HasNoRun P L argument → ComesOut P L argument None
 
--- the record of a run that has come out, made by so many workers and the caller
-pub record IsRecordOf (P : PlainProgram) (L : Limits) (argument : ℤ) (workers : ℕ) (r : Record) : Type 0 where
-  pub is_run : IsRunOf P L argument r.machine
-  pub finished : IsSome r.machine.outcome
-  pub seats : length r.shares ≡ workers
-  pub counted : length r.machine.schedule ≡ sum r.shares + r.own
+-- a run that has come out, made by so many workers and the caller
+pub record IsRecordOf (P : PlainProgram) (L : Limits) (argument : ℤ) (workers : ℕ) (r : Run) : Type 0 where
+  pub is_run : IsRunOf P L argument r.record.machine
+  pub came : r.record.machine.outcome ≡ Some r.outcome
+  pub seats : length r.record.shares ≡ workers
+  pub counted : length r.record.machine.schedule ≡ sum r.record.shares + r.record.own
 
-pub data IsRecorded (P : PlainProgram) (L : Limits) (argument : ℤ) (workers : ℕ) : Option Record → Type 0 where
-  finished : (r : Record) → IsRecordOf P L argument workers r → IsRecorded P L argument workers (Some r)
-  not_at_all : HasNoRun P L argument → IsRecorded P L argument workers None
+pub data IsRun (P : PlainProgram) (L : Limits) (argument : ℤ) (workers : ℕ) : Option Run → Type 0 where
+  finished : (r : Run) → IsRecordOf P L argument workers r → IsRun P L argument workers (Some r)
+  not_at_all : HasNoRun P L argument → IsRun P L argument workers None
+
+-- a machine has gone on in the run that it made
+pub record IsSameRun (old new : Played) : Type 0 where
+  pub code : new.code ≡ old.code
+  pub limits : new.limits ≡ old.limits
+  pub argument : new.argument ≡ old.argument
+  pub replayed : IsReplayed new
 
 -- a machine that has made no event of a run, or that there is none
 pub data IsOpened (P : PlainProgram) (L : Limits) (argument : ℤ) : Option Played → Type 0 where
   opened : (p : Played) → IsRunOf P L argument p → p.schedule ≡ [] → IsOpened P L argument (Some p)
   too_wide : IsTooWide P → IsOpened P L argument None
 
--- what the workers left unfinished is finished by the caller, or can't be
-pub data IsFinished (w : Worked) : Option Record → Type 0 where
-  finished : (r : Record) → IsSameRun w.machine r.machine → IsSome r.machine.outcome → r.shares ≡ w.shares
-      → length r.machine.schedule ≡ sum r.shares + r.own → IsFinished w (Some r)
+-- what workers left is finished by the caller, or can't be
+pub data IsFinished (w : Worked) : Option Run → Type 0 where
+  finished : (r : Run) → IsSameRun w.machine r.record.machine → r.record.machine.outcome ≡ Some r.outcome → r.record.shares ≡ w.shares
+      → length r.record.machine.schedule ≡ sum r.record.shares + r.record.own → IsFinished w (Some r)
   not_at_all : (p : Played) → IsSameRun w.machine p → CannotGoOn p → IsFinished w None

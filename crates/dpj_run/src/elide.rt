@@ -6,8 +6,7 @@ ghost use Rattle.dpj_run.specs.Run.{ComesOut};
 
 use crate::finish::finish;
 use crate::open::open;
-use dpj_base::{Limits, NoMemory, Outcome, Plain};
-use dpj_machine::Machine;
+use dpj_base::{Limits, NoMemory, Outcome};
 use dpj_typed::Program;
 use std::alloc::Global;
 
@@ -25,22 +24,8 @@ pub fn elide(
     requires cells { limits.cells ≤ 16777216 }
     ensures { IfOk result (ComesOut (plain_program program.now) limits argument) }
 {
-    let Some(mut machine) = open(alloc, program, limits, argument)? else {
-        return Ok(None);
-    };
-    if finish(&mut machine)? {
-        came_out(alloc, &machine)
-    } else {
-        Ok(None)
-    }
-}
-
-/// How the run of a machine came out.
-fn came_out(alloc: Global, machine: &Machine) -> Result<Option<Outcome>, NoMemory>
-    ensures { IfOk result (λ outcome. outcome ≡ machine.now.outcome) }
-{
-    match machine.outcome() {
-        Some(outcome) => Ok(Some(outcome.copy(alloc)?)),
+    match open(alloc, program, limits, argument)? {
+        Some(mut machine) => finish(alloc, &mut machine),
         None => Ok(None),
     }
 }

@@ -1,23 +1,34 @@
-ghost use Rattle.std.specs.Prelude.{◌≡◌, ◌≤◌, true, false, length, IsSome, IfOk};
+ghost use Rattle.std.specs.Prelude.{◌≡◌, ◌≤◌, None, Some, length, IfOk, IfSome};
 ghost use Rattle.dpj_machine.specs.Keeping.{GreedilyOn};
 ghost use Rattle.dpj_run.specs.Run.{CannotGoOn, IsSameRun};
 
-use dpj_base::NoMemory;
+use dpj_base::{NoMemory, Outcome, Plain};
 use dpj_machine::{Halted, Machine};
+use std::alloc::Global;
 
-/// Steps the greatest ready task of a machine until the run has come out; whether it has.
-pub fn finish(machine: &mut Machine) -> Result<bool, NoMemory>
+/// Steps the greatest ready task of a machine until the run has come out, and tells how. None, where it can't go on.
+pub fn finish(alloc: Global, machine: &mut Machine) -> Result<Option<Outcome>, NoMemory>
     ensures greedily { GreedilyOn machine.old machine.new }
     ensures same { IsSameRun machine.old machine.new }
     ensures grows { length machine.old.schedule ≤ length machine.new.schedule }
-    ensures yes { IfOk result (λ done. done ≡ true → IsSome machine.new.outcome) }
-    ensures no { IfOk result (λ done. done ≡ false → CannotGoOn machine.new) }
+    ensures came { IfOk result (λ outcome. IfSome outcome (λ outcome. machine.new.outcome ≡ Some outcome)) }
+    ensures stopped { IfOk result (λ outcome. outcome ≡ None → CannotGoOn machine.new) }
 {
     let halted = machine.finish();
     let _ = machine.schedule();
     match halted {
-        Ok(()) => Ok(machine.finished()),
-        Err(Halted::Stuck) => Ok(false),
+        Ok(()) => came_out(alloc, machine),
+        Err(Halted::Stuck) => Ok(None),
         Err(Halted::NoMemory) => Err(NoMemory),
+    }
+}
+
+/// How the run of a machine came out.
+fn came_out(alloc: Global, machine: &Machine) -> Result<Option<Outcome>, NoMemory>
+    ensures { IfOk result (λ outcome. outcome ≡ machine.now.outcome) }
+{
+    match machine.outcome() {
+        Some(outcome) => Ok(Some(outcome.copy(alloc)?)),
+        None => Ok(None),
     }
 }

@@ -14,4 +14,4 @@ mod open;
 mod run;
 
 pub use elide::elide;
-pub use run::run;
+pub use run::{Run, run};

@@ -1,12 +1,12 @@
-ghost use Rattle.std.specs.Prelude.{◌≡◌, ◌≤◌, ◌+◌, [], length, sum, IfOk, IsTrue};
+ghost use Rattle.std.specs.Prelude.{◌≡◌, ◌≤◌, length, sum, IfOk};
 ghost use Rattle.dpj_gen.specs.Resolved.{Resolved};
 ghost use Rattle.dpj_going.specs.Going.{HasMain};
 ghost use Rattle.dpj_typed.specs.Plain.{plain_program};
-ghost use Rattle.dpj_run.specs.Run.{IsFinished, IsRecorded};
+ghost use Rattle.dpj_run.specs.Run.{IsFinished, IsRun};
 
 use crate::finish::finish;
 use crate::open::open;
-use dpj_base::{Limits, NoMemory};
+use dpj_base::{Limits, NoMemory, Outcome};
 use dpj_history::Record;
 use dpj_typed::Program;
 use dpj_workers::{Gate, Worked, work};
@@ -14,8 +14,15 @@ use std::alloc::Global;
 use std::sync::Wait;
 use std::thread::Threads;
 
-/// Runs a program on the argument of `main` within limits, by 1 to 64 workers, and what they leave by the caller: the record
-/// of the run that has come out. None, where the run can't go on.
+/// A run that has come out.
+#[derive(Drop)]
+pub struct Run {
+    pub record: Record,
+    pub outcome: Outcome,
+}
+
+/// Runs a program on the argument of `main` within limits, by 1 to 64 workers, and what they leave by the caller. None,
+/// where the run can't go on.
 pub fn run<R: Threads + Wait + Sync, G: Gate + Sync>(
     rt: &R,
     alloc: Global,
@@ -24,23 +31,22 @@ pub fn run<R: Threads + Wait + Sync, G: Gate + Sync>(
     argument: i32,
     workers: u32,
     gate: &G,
-) -> Result<Option<Record>, NoMemory>
+) -> Result<Option<Run>, NoMemory>
     requires resolved { Resolved (plain_program program.now) }
     requires main { HasMain (plain_program program.now) }
     requires steps { limits.steps ≤ 20000000 }
     requires cells { limits.cells ≤ 16777216 }
     requires workers { (1 ≤ workers) × (workers ≤ 64) }
-    ensures { IfOk result (IsRecorded (plain_program program.now) limits argument workers) }
+    ensures { IfOk result (IsRun (plain_program program.now) limits argument workers) }
 {
-    let Some(machine) = open(alloc, program, limits, argument)? else {
-        return Ok(None);
-    };
-    let worked = work(rt, alloc, machine, workers, gate)?;
-    finished(worked)
+    match open(alloc, program, limits, argument)? {
+        Some(machine) => finished(alloc, work(rt, alloc, machine, workers, gate)?),
+        None => Ok(None),
+    }
 }
 
-/// The record of a run that workers have begun, once it has come out. None, where it can't go on.
-fn finished(worked: Worked) -> Result<Option<Record>, NoMemory>
+/// The run that workers have begun, once it has come out. None, where it can't go on.
+fn finished(alloc: Global, worked: Worked) -> Result<Option<Run>, NoMemory>
     requires counted { length worked.machine.schedule ≡ sum worked.shares }
     ensures { IfOk result (IsFinished worked) }
 {
@@ -49,13 +55,14 @@ fn finished(worked: Worked) -> Result<Option<Record>, NoMemory>
         shares,
     } = worked;
     let made = machine.schedule().len();
-    if !finish(&mut machine)? {
+    let Some(outcome) = finish(alloc, &mut machine)? else {
         return Ok(None);
-    }
+    };
     let own = (machine.schedule().len() - made) as u64;
-    Ok(Some(Record {
+    let record = Record {
         machine,
         shares,
         own,
-    }))
+    };
+    Ok(Some(Run { record, outcome }))
 }

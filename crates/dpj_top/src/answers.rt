@@ -1,133 +1,87 @@
-ghost use Rattle.std.specs.Prelude.{◌≡◌, ◌≤◌, false, length, IfOk};
+ghost use Rattle.std.specs.Prelude.{◌≡◌, ◌≤◌, true, length, IfOk};
 ghost use Rattle.dpj_words.specs.Jobs.{IsInRange};
-ghost use Rattle.dpj_top.specs.Answer.{IsAnswer, IsLeft, IsListing, IsRun, IsVerdictOn, asks_list, first_verdict, limits_of, refused_at_start, verdict_of_run};
-ghost use Rattle.dpj_top.specs.Judging.{CanRun, typed_of};
+ghost use Rattle.dpj_top.specs.Answer.{IsAnswer, IsLeft, first_answer, reads_form};
 
-use crate::front::{Passed, front};
-use dpj_base::{Kind, Limits, NoMemory, Outcome, Place, Refusal, Stop};
-use dpj_compile::compile;
+use crate::answered::{Answered, limits};
+use crate::carrying::carry_out;
+use dpj_base::{NoMemory, Stop};
 use dpj_first::{First, read, run as run_first};
-use dpj_listing::listing;
-use dpj_run::run;
+use dpj_front::front;
 use dpj_words::{Command, Job, Verdict};
+use dpj_workers::Gate;
 use std::alloc::Global;
+use std::sync::Wait;
+use std::thread::Threads;
 
 /// The most bytes that a text may have.
 pub const MAX_TEXT: usize = 1048576;
 
-/// The verdict on a text that isn't too long.
-pub fn answer(alloc: Global, job: &Job, text: &[u8]) -> Result<Verdict, NoMemory>
+/// The answer to a job on a text that isn't too long.
+pub fn answer<R: Threads + Wait + Sync, G: Gate + Sync>(
+    rt: &R,
+    alloc: Global,
+    job: &Job,
+    text: &[u8],
+    gate: &G,
+) -> Result<Answered, NoMemory>
     requires short { length text.now ≤ MAX_TEXT }
     requires in_range { IsInRange job.now }
     ensures { IfOk result (IsAnswer job.now text.now) }
 {
     match job.command {
-        Command::List => by_program(alloc, job, text),
-        _ => by_form(alloc, job, text),
+        Command::Check | Command::Run | Command::Elide => by_form(rt, alloc, job, text, gate),
+        _ => by_program(rt, alloc, job, text, gate),
     }
 }
 
-/// The same where no listing is asked.
-fn by_form(alloc: Global, job: &Job, text: &[u8]) -> Result<Verdict, NoMemory>
-    requires no_list { asks_list job.now.command ≡ false }
+/// The same where a program of the first form is read off the bytes.
+fn by_form<R: Threads + Wait + Sync, G: Gate + Sync>(
+    rt: &R,
+    alloc: Global,
+    job: &Job,
+    text: &[u8],
+    gate: &G,
+) -> Result<Answered, NoMemory>
+    requires reads { reads_form job.now.command ≡ true }
     requires short { length text.now ≤ MAX_TEXT }
     requires in_range { IsInRange job.now }
     ensures { IfOk result (IsAnswer job.now text.now) }
 {
     match read(alloc, text)? {
         Some(program) => first_form(alloc, job, &program),
-        None => by_program(alloc, job, text),
+        None => by_program(rt, alloc, job, text, gate),
     }
 }
 
-/// The verdict on a program of the first form, which isn't to be listed.
-fn first_form(alloc: Global, job: &Job, program: &First) -> Result<Verdict, NoMemory>
-    ensures { IfOk result (λ verdict. verdict ≡ first_verdict job.now program.now) }
+/// The answer to a program of the first form.
+fn first_form(alloc: Global, job: &Job, program: &First) -> Result<Answered, NoMemory>
+    ensures { IfOk result (λ answered. answered ≡ first_answer job.now program.now) }
 {
     match job.command {
         Command::Run | Command::Elide => {
-            Ok(Verdict::Ran(run_first(alloc, program, limits(job))?))
+            let outcome = run_first(alloc, program, limits(job))?;
+            Ok(Answered::only(Verdict::Ran(outcome)))
         }
-        _ => Ok(Verdict::Accepted),
+        _ => Ok(Answered::only(Verdict::Accepted)),
     }
 }
 
-/// The verdict on any other text, by the program that it derives.
-fn by_program(alloc: Global, job: &Job, text: &[u8]) -> Result<Verdict, NoMemory>
+/// The answer to any other text, by the program that it derives.
+fn by_program<R: Threads + Wait + Sync, G: Gate + Sync>(
+    rt: &R,
+    alloc: Global,
+    job: &Job,
+    text: &[u8],
+    gate: &G,
+) -> Result<Answered, NoMemory>
     requires short { length text.now ≤ MAX_TEXT }
     requires in_range { IsInRange job.now }
     requires left { IsLeft job.now text.now }
     ensures { IfOk result (IsAnswer job.now text.now) }
 {
     match front(alloc, text) {
-        Ok(passed) => carry_out(alloc, job, passed),
-        Err(Stop::Refused(refusal)) => Ok(Verdict::Refused(refusal)),
+        Ok(passed) => carry_out(rt, alloc, job, text, passed, gate),
+        Err(Stop::Refused(refusal)) => Ok(Answered::refused(refusal)),
         Err(Stop::NoMemory) => Err(NoMemory),
-    }
-}
-
-/// The verdict on an accepted program.
-fn carry_out(alloc: Global, job: &Job, passed: Passed) -> Result<Verdict, NoMemory>
-    requires in_range { IsInRange job.now }
-    requires can_run { CanRun (typed_of passed) }
-    ensures { IfOk result (IsVerdictOn job.now passed.place (typed_of passed)) }
-{
-    match job.command {
-        Command::Run | Command::Elide => ran(alloc, job, passed),
-        Command::List => listed(alloc, passed),
-        _ => Ok(Verdict::Accepted),
-    }
-}
-
-/// How the run of an accepted program comes out.
-fn ran(alloc: Global, job: &Job, passed: Passed) -> Result<Verdict, NoMemory>
-    requires in_range { IsInRange job.now }
-    requires can_run { CanRun (typed_of passed) }
-    ensures { IfOk result (IsRun job.now passed.place (typed_of passed)) }
-{
-    let place = passed.place;
-    let typed = passed.typed(alloc)?;
-    let outcome = run(alloc, &typed, limits(job), job.arg)?;
-    Ok(of_run(outcome, place))
-}
-
-/// The verdict on a run that comes out so, of a program whose first token stands at the place.
-fn of_run(outcome: Option<Outcome>, place: Place) -> Verdict
-    ensures { result ≡ verdict_of_run place outcome }
-{
-    match outcome {
-        Some(outcome) => Verdict::Ran(outcome),
-        None => Verdict::Refused(Refusal {
-            kind: Kind::Form,
-            place,
-        }),
-    }
-}
-
-/// The listing of the code of an accepted program.
-fn listed(alloc: Global, passed: Passed) -> Result<Verdict, NoMemory>
-    ensures { IfOk result (IsListing (typed_of passed)) }
-{
-    let typed = passed.typed(alloc)?;
-    let code = compile(alloc, &typed)?;
-    Ok(Verdict::Listed(listing(alloc, &code)?))
-}
-
-/// A refusal of the text as a whole, told at its first byte.
-pub fn refused(kind: Kind) -> Verdict
-    ensures { result ≡ refused_at_start kind }
-{
-    Verdict::Refused(Refusal {
-        kind,
-        place: Place { line: 1, col: 1 },
-    })
-}
-
-fn limits(job: &Job) -> Limits
-    ensures { result ≡ limits_of job.now }
-{
-    Limits {
-        steps: job.steps,
-        cells: job.cells,
     }
 }

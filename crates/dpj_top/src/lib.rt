@@ -2,15 +2,18 @@
 //! writes one report to a sink.
 //!
 //! What it promises: what the sink holds afterwards and the status are the definition's answer for the words
-//! and for the bytes that the source held. A fault of reading or writing is answered only where the source or
-//! the sink counted one in this call. Nothing is written before the report is whole.
+//! and for the bytes that the source held, and the record is that of the run that was made. A fault of reading or writing is
+//! answered only where the source or the sink counted one in this call. Nothing is written before the report is whole.
 #![tactic(auto)]
 
+mod answered;
 mod answers;
 mod call;
-mod front;
+mod carrying;
 mod laws;
+mod replays;
 
+pub use answered::Answered;
 pub use answers::{MAX_TEXT, answer};
 pub use call::{Ended, dpj};
-pub use laws::{one_answer, one_judgement};
+pub use laws::one_answer;

@@ -1,0 +1,60 @@
+ghost use Rattle.std.specs.Prelude.{◌≡◌};
+ghost use Rattle.dpj_top.specs.Answer.{limits_of, only, refused_at, refused_form};
+
+use dpj_base::{Kind, Limits, Place, Refusal};
+use dpj_history::Record;
+use dpj_words::{Job, Verdict};
+
+/// What the tool answers, and the record of the run that it made.
+#[derive(Drop)]
+pub struct Answered {
+    pub verdict: Verdict,
+    pub recorded: Option<Record>,
+}
+
+impl Answered {
+    /// A verdict, where no run was recorded.
+    pub fn only(verdict: Verdict) -> Answered
+        ensures { result ≡ only verdict }
+    {
+        Answered {
+            verdict,
+            recorded: None,
+        }
+    }
+
+    pub fn refused(refusal: Refusal) -> Answered
+        ensures { result ≡ only (Verdict.Refused refusal) }
+    {
+        Answered::only(Verdict::Refused(refusal))
+    }
+
+    /// A refusal at the first byte of a line.
+    pub fn refused_at(kind: Kind, line: u32) -> Answered
+        ensures { result ≡ only (refused_at kind line) }
+    {
+        Answered::refused(Refusal {
+            kind,
+            place: Place { line, col: 1 },
+        })
+    }
+
+    /// A program that can't go on is refused where its first token stands.
+    pub fn refused_form(place: Place) -> Answered
+        ensures { result ≡ only (refused_form place) }
+    {
+        Answered::refused(Refusal {
+            kind: Kind::Form,
+            place,
+        })
+    }
+}
+
+pub fn limits(job: &Job) -> Limits
+    ensures { result ≡ limits_of job.now }
+{
+    Limits {
+        steps: job.steps,
+        cells: job.cells,
+    }
+}

@@ -1,0 +1,111 @@
+ghost use Rattle.std.specs.Prelude.{◌≡◌, ◌≢◌, IfOk};
+ghost use Rattle.dpj_front.specs.Judging.{CanRun, typed_of};
+ghost use Rattle.dpj_words.specs.Jobs.{IsInRange};
+ghost use Rattle.dpj_words.specs.declared.command.Command.TheVariants.{Replay, Effects};
+ghost use Rattle.dpj_top.specs.Answer.{IsAnswerOn, IsElided, IsListing, IsRun, IsTold, verdict_of_elision};
+
+use crate::answered::{Answered, limits};
+use dpj_base::{NoMemory, Outcome, Place, Plain};
+use dpj_compile::compile;
+use dpj_front::Passed;
+use dpj_history::Record;
+use dpj_listing::listing;
+use dpj_run::{elide, run};
+use dpj_trace::trace_text;
+use dpj_words::{Command, Job, Verdict};
+use dpj_workers::Gate;
+use std::alloc::Global;
+use std::sync::Wait;
+use std::thread::Threads;
+
+/// The answer to a job on the accepted program of a text.
+pub fn carry_out<R: Threads + Wait + Sync, G: Gate + Sync>(
+    rt: &R,
+    alloc: Global,
+    job: &Job,
+    text: &[u8],
+    passed: Passed,
+    gate: &G,
+) -> Result<Answered, NoMemory>
+    requires in_range { IsInRange job.now }
+    requires can_run { CanRun (typed_of passed) }
+    requires no_replay { job.now.command ≢ Replay }
+    ensures { IfOk result (IsAnswerOn job.now text.now passed.place (typed_of passed)) }
+{
+    match job.command {
+        Command::Run | Command::Demo | Command::Trace => {
+            ran(rt, alloc, job, text, passed, gate)
+        }
+        Command::Elide => elided(alloc, job, passed),
+        Command::List => listed(alloc, passed),
+        _ => Ok(Answered::only(Verdict::Accepted)),
+    }
+}
+
+/// The run of an accepted program, with its record.
+fn ran<R: Threads + Wait + Sync, G: Gate + Sync>(
+    rt: &R,
+    alloc: Global,
+    job: &Job,
+    text: &[u8],
+    passed: Passed,
+    gate: &G,
+) -> Result<Answered, NoMemory>
+    requires in_range { IsInRange job.now }
+    requires can_run { CanRun (typed_of passed) }
+    ensures { IfOk result (IsRun job.now text.now passed.place (typed_of passed)) }
+{
+    let place = passed.place;
+    let typed = passed.typed(alloc)?;
+    match run(rt, alloc, &typed, limits(job), job.arg, job.workers, gate)? {
+        Some(record) => Ok(Answered {
+            verdict: told(alloc, job, text, &record)?,
+            recorded: Some(record),
+        }),
+        None => Ok(Answered::refused_form(place)),
+    }
+}
+
+/// What is told of the run that a record holds.
+fn told(alloc: Global, job: &Job, text: &[u8], record: &Record) -> Result<Verdict, NoMemory>
+    ensures { IfOk result (IsTold job.now text.now record.now) }
+{
+    let Some(outcome) = record.machine.outcome() else { return Err(NoMemory); };
+    let outcome = outcome.copy(alloc)?;
+    Ok(match job.command {
+        Command::Demo => Verdict::Demo { classes: job.n, bytes: text.len() as u64, outcome },
+        Command::Trace => Verdict::Traced { outcome, text: trace_text(alloc, job.arg, limits(job), record.machine.schedule(), text)? },
+        _ => Verdict::Ran(outcome),
+    })
+}
+
+/// The elision of an accepted program.
+fn elided(alloc: Global, job: &Job, passed: Passed) -> Result<Answered, NoMemory>
+    requires in_range { IsInRange job.now }
+    requires can_run { CanRun (typed_of passed) }
+    ensures { IfOk result (IsElided job.now passed.place (typed_of passed)) }
+{
+    let place = passed.place;
+    let typed = passed.typed(alloc)?;
+    let outcome = elide(alloc, &typed, limits(job), job.arg)?;
+    Ok(of_elision(outcome, place))
+}
+
+/// The answer to an elision that comes out so, of a program whose first token stands at the place.
+fn of_elision(outcome: Option<Outcome>, place: Place) -> Answered
+    ensures { result ≡ only (verdict_of_elision place outcome) }
+{
+    match outcome {
+        Some(outcome) => Answered::only(Verdict::Ran(outcome)),
+        None => Answered::refused_form(place),
+    }
+}
+
+/// The listing of the code of an accepted program.
+fn listed(alloc: Global, passed: Passed) -> Result<Answered, NoMemory>
+    ensures { IfOk result (IsListing (typed_of passed)) }
+{
+    let typed = passed.typed(alloc)?;
+    let code = compile(alloc, &typed)?;
+    Ok(Answered::only(Verdict::Listed(listing(alloc, &code)?)))
+}
