@@ -7,7 +7,8 @@ cases share one. The source is a text, or is made:
 {"pad": TEXT, "to": N} is TEXT and then spaces up to N bytes, {"repeat": TEXT, "times": N} repeats TEXT,
 {"classes": N} is N empty classes, and "source_hex" gives the bytes in hex. With no FILE, every tests/cases/*.json is run;
 every examples/NAME.dpj, which must write examples/NAME.out with status 0; every examples/check/NAME.dpj, for which `check`
-must answer NAME.out, and where NAME.ran is there, `run` and `elide` on 10 what that holds; every program of README.md, docs/*.md
+must answer NAME.out, and where NAME.ran is there, `run` and `elide` on 10 what that holds; every examples/kernels/NAME.dpj, which
+writes NAME.ran on 40, elided, by 1, 4 and 64 workers, and by rounds; every program of README.md, docs/*.md
 and examples/README.md, which stands in a fence that begins with ```dpj check: ANSWER, ```dpj run: LINE, LINE or ```dpj elide: LINE, LINE;
 and prefixes of accepted programs (tests/prefixes.py), of three examples where the program is unproved. It is an error, and no
 pass, where a fence isn't understood or no case is left.
@@ -34,6 +35,9 @@ SECONDS = 120
 
 # The examples whose prefixes are tried on an unproved program, which is slow to ask.
 CUT = ("squares", "two_regions", "parts")
+
+# How each kernel is run: it writes the same in every way.
+KERNEL_WAYS = ("elide", "run workers=1", "run workers=4", "run workers=64", "run mode=rounds")
 
 # What may follow the three marks that open a fence, other than nothing: words for the program, and the lines that it answers.
 FENCE = re.compile(
@@ -93,12 +97,12 @@ def from_checked_example(path):
     return checked(f"examples/check: {path.name}", path.read_bytes(), path.with_suffix(".out").read_bytes())
 
 
-def from_run_example(path):
-    """An accepted example, run and elided on 10, with what both write."""
-    for command in ("run", "elide"):
+def from_run_example(path, ways, argument):
+    """An accepted example, run on an argument in several ways, with what it writes in each."""
+    for way in ways:
         yield {
-            "name": f"examples/check: {path.stem}, {command}",
-            "words": [command, "arg=10"],
+            "name": f"{path.parent.relative_to(TOP)}: {path.stem}, {way}",
+            "words": [*way.split(), f"arg={argument}"],
             "source": path.with_suffix(".dpj").read_bytes(),
             "stdout": path.read_bytes(),
             "status": 0,
@@ -166,7 +170,8 @@ def load(files, is_proved):
     cases = [case for file in sorted((TOP / "tests" / "cases").glob("*.json")) for case in from_json(file)]
     cases += [from_example(file) for file in sorted((TOP / "examples").glob("*.dpj"))]
     cases += [from_checked_example(file) for file in sorted((TOP / "examples" / "check").glob("*.dpj"))]
-    cases += [case for file in sorted((TOP / "examples" / "check").glob("*.ran")) for case in from_run_example(file)]
+    cases += [case for file in sorted((TOP / "examples" / "check").glob("*.ran")) for case in from_run_example(file, ("run", "elide"), 10)]
+    cases += [case for file in sorted((TOP / "examples" / "kernels").glob("*.ran")) for case in from_run_example(file, KERNEL_WAYS, 40)]
     missing = unmended(TOP / "docs" / "REFUSALS.md")
     if missing:
         sys.exit(f"docs/REFUSALS.md: {missing} has no program that is refused so, or none that is mended")

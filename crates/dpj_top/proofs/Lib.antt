@@ -1,4 +1,1 @@
 pub mod Verdicts
-pub mod Told
-pub mod Judgements
-pub mod Runnable

@@ -1,4 +1,4 @@
--- Verdicts, over plain variables.
+-- Answers, over plain variables.
 use Rattle.std.proofs.Common.{◌≡◌, ◌≢◌, ◌∙◌, ◌<◌, ◌≤◌, ◌⊎◌, ℕ, ℤ, Bool, true, false, List, length, Option, Some, None, IfSome, IfOk, Result, Ok, Err, MatchOption, cond, refl, sym, ap, subst, inl, inr, arith}
 use Rattle.dpj_base.specs.declared.memory.NoMemory.{NoMemory}
 use Rattle.dpj_base.specs.declared.outcome.Limits.{Limits}
@@ -15,15 +15,16 @@ use Rattle.dpj_words.specs.declared.command.Command.TheVariants as command
 use Rattle.dpj_words.specs.declared.job.Job.{Job}
 use Rattle.dpj_words.specs.declared.verdict.Status.TheVariants as ended
 use Rattle.dpj_words.specs.declared.verdict.Verdict.{Verdict}
-use Rattle.dpj_words.specs.declared.verdict.Verdict.TheVariants.{Usage, Refused, Accepted}
+use Rattle.dpj_words.specs.declared.verdict.Verdict.TheVariants.{Usage, Refused, Ran, Accepted}
 use Rattle.dpj_words.specs.Jobs.{job}
 use Rattle.dpj_words.specs.Reports.{status_of, ending_status}
 use Rattle.dpj_typed.specs.Plain.{PlainProgram}
 use Rattle.dpj_tokens.specs.declared.token.Token.{Token}
 use Rattle.dpj_tokens.specs.Cutting.{Cuts, OneCutting}
-use Rattle.dpj_top.specs.Answer.{IsAnswer, too_long, of_first_form, faulty, of_program, IsDecided, is_long, is_first, has_no_tokens, IsLeft, IsPassed, IsFault, IsRun, verdict_of_run, IsListing, IsVerdictOn, to_run, to_list, to_check, asks_run, asks_list, first_verdict, refused_at_start, max_text}
 use Rattle.dpj_run.specs.Run.{ComesOut}
-use Rattle.dpj_top.specs.Call.{IsVerdict}
+use Rattle.dpj_front.specs.Front.{IsPassed, IsFault}
+use Rattle.dpj_top.specs.declared.answered.Answered.{Answered}
+use Rattle.dpj_top.specs.Answer.{IsAnswer, too_long, of_first_form, faulty, of_program, IsDecided, is_long, is_first, has_no_tokens, IsLeft, IsRan, came_out, not_at_all, IsElided, IsListing, IsAnswerOn, to_check, to_run, to_elide, to_list, told_by, verdict_of_elision, only, asks_run, asks_outcome, reads_form, first_answer, refused_at_start, max_text}
 
 ending_status-no-usage : (ending : Ending) → ending_status ending ≡ ended.Usage → ⊥
 ending_status-no-usage (Done value) e = cc
@@ -35,52 +36,57 @@ asks-no-usage : (asked : Bool) (one other : Verdict) → (status_of one ≡ ende
 asks-no-usage true one other r o = r
 asks-no-usage false one other r o = o
 
-of-run-no-usage : (place : Place) (outcome : Option Outcome) → status_of (verdict_of_run place outcome) ≡ ended.Usage → ⊥
-of-run-no-usage place (Some outcome) e = ending_status-no-usage outcome.ending e
-of-run-no-usage place None e = cc
+told-no-usage : (c : Command) (job : Job) (text schedule : List ℕ) (outcome : Outcome) → status_of (told_by c job text schedule outcome) ≡ ended.Usage → ⊥
+told-no-usage command.Demo job text schedule outcome e = ending_status-no-usage outcome.ending e
+told-no-usage command.Trace job text schedule outcome e = ending_status-no-usage outcome.ending e
+told-no-usage command.Check job text schedule outcome e = ending_status-no-usage outcome.ending e
+told-no-usage command.Run job text schedule outcome e = ending_status-no-usage outcome.ending e
+told-no-usage command.Elide job text schedule outcome e = ending_status-no-usage outcome.ending e
+told-no-usage command.«List» job text schedule outcome e = ending_status-no-usage outcome.ending e
+told-no-usage command.Replay job text schedule outcome e = ending_status-no-usage outcome.ending e
+told-no-usage command.Effects job text schedule outcome e = ending_status-no-usage outcome.ending e
 
-run-no-usage : (job : Job) (place : Place) (typed : PlainProgram) (verdict : Verdict) → IsRun job place typed verdict → status_of verdict ≡ ended.Usage → ⊥
-run-no-usage job place typed verdict r e = of-run-no-usage place r.outcome (ap status_of (sym r.is) ∙ e)
+ran-no-usage : (job : Job) (text : List ℕ) (place : Place) (typed : PlainProgram) (answered : Answered) → IsRan job text place typed answered
+    → status_of answered.verdict ≡ ended.Usage → ⊥
+ran-no-usage job text place typed _ (came_out r is) e = told-no-usage job.command job text r.record.machine.schedule r.outcome e
+ran-no-usage job text place typed _ (not_at_all none) e = cc
 
-program-no-usage : (job : Job) (place : Place) (typed : PlainProgram) (verdict : Verdict) → IsVerdictOn job place typed verdict → status_of verdict ≡ ended.Usage → ⊥
-program-no-usage job place typed _ (to_run verdict asked is) e = run-no-usage job place typed verdict is e
-program-no-usage job place typed _ (to_list verdict asked is) e = let lists = is.lists in cc
-program-no-usage job place typed _ (to_check no_run no_list) e = cc
+elision-no-usage : (place : Place) (outcome : Option Outcome) → status_of (verdict_of_elision place outcome) ≡ ended.Usage → ⊥
+elision-no-usage place (Some outcome) e = ending_status-no-usage outcome.ending e
+elision-no-usage place None e = cc
+
+program-no-usage : (job : Job) (text : List ℕ) (place : Place) (typed : PlainProgram) (answered : Answered) → IsAnswerOn job text place typed answered
+    → status_of answered.verdict ≡ ended.Usage → ⊥
+program-no-usage job text place typed answered (to_check asked is) e = cc
+program-no-usage job text place typed answered (to_run asked is) e = ran-no-usage job text place typed answered is e
+program-no-usage job text place typed answered (to_elide asked is) e =
+    elision-no-usage place is.outcome (ap (λ (a : Answered). status_of a.verdict) (sym is.is) ∙ e)
+program-no-usage job text place typed answered (to_list asked is) e = let lists = is.lists in cc
 
 -- the answer to a job isn't told as usage
-pub answer-no-usage : (job : Job) (text : List ℕ) (verdict : Verdict) → IsAnswer job text verdict → status_of verdict ≡ ended.Usage → ⊥
-answer-no-usage job text verdict (too_long long) e = cc
-answer-no-usage job text verdict (of_first_form program no_list short form) e =
-    asks-no-usage (asks_run job.command) _ Accepted (ending_status-no-usage _) (λ h. cc) e
-answer-no-usage job text verdict (faulty refusal short left fault) e = cc
-answer-no-usage job text _ (of_program place typed verdict short left passed is) e = program-no-usage job place typed verdict is e
+pub answer-no-usage : (job : Job) (text : List ℕ) (answered : Answered) → IsAnswer job text answered → status_of answered.verdict ≡ ended.Usage → ⊥
+answer-no-usage job text _ (too_long long) e = cc
+answer-no-usage job text _ (of_first_form program reads short form) e =
+    asks-no-usage (asks_outcome job.command) _ Accepted (ending_status-no-usage _) (λ h. cc) e
+answer-no-usage job text _ (faulty refusal short left fault) e = cc
+answer-no-usage job text _ (of_program place typed answered short left passed is) e = program-no-usage job text place typed answered is e
 
--- where more was left than a text may have, the verdict is that
-pub verdict-too-long : (words : List (List ℕ)) (text : Option (List ℕ)) (given : Job) (verdict : Verdict)
-    → Some given ≡ job words → verdict ≡ refused_at_start TooLong → IfSome text (λ bytes. max_text < length bytes)
-    → IsVerdict words text verdict
-verdict-too-long words None given verdict is_job is_refused long =
-    subst (λ found. MatchOption found (verdict ≡ Usage) (λ job. IfSome None (λ text. IsAnswer job text verdict))) is_job tt
-verdict-too-long words (Some bytes) given verdict is_job is_refused long =
-    subst (λ found. MatchOption found (verdict ≡ Usage) (λ job. IfSome (Some bytes) (λ text. IsAnswer job text verdict))) is_job
-    (subst (λ told. IsAnswer given bytes told) (sym is_refused) (too_long long))
+-- an answer to a program of the first form is an answer
+pub first-is-answer : (asked : Job) (text : List ℕ) (program : First) (result : Result Answered NoMemory) → reads_form asked.command ≡ true → length text ≤ max_text
+    → IsFirstForm text program → IfOk result (λ answered. answered ≡ first_answer asked program) → IfOk result (IsAnswer asked text)
+first-is-answer asked text program (Ok answered) reads short form is =
+    let P : Answered → Type 0 = λ told. IsAnswer asked text told in subst P (sym is) (of_first_form program reads short form)
+first-is-answer asked text program (Err none) reads short form is = tt
 
--- a verdict on a program of the first form is an answer
-pub first-answer : (asked : Job) (text : List ℕ) (program : First) (result : Result Verdict NoMemory) → asks_list asked.command ≡ false → length text ≤ max_text
-    → IsFirstForm text program → IfOk result (λ verdict. verdict ≡ first_verdict asked program) → IfOk result (IsAnswer asked text)
-first-answer asked text program (Ok verdict) no_list short form is =
-    let P : Verdict → Type 0 = λ told. IsAnswer asked text told in subst P (sym is) (of_first_form program no_list short form)
-first-answer asked text program (Err none) no_list short form is = tt
-
--- a program of the first form leaves nothing to the tokens, unless it is to be listed
-unleft : (job : Job) (text : List ℕ) (program : First) → asks_list job.command ≡ false → IsFirstForm text program → IsLeft job text → ⊥
-unleft job text program no_list form (inl list) = absurd (cc)
-unleft job text program no_list form (inr other) = other program form
+-- a program of the first form leaves nothing to the tokens, where it is read off its bytes
+unleft : (job : Job) (text : List ℕ) (program : First) → reads_form job.command ≡ true → IsFirstForm text program → IsLeft job text → ⊥
+unleft job text program reads form (inl not) = absurd (cc)
+unleft job text program reads form (inr other) = other program form
 
 -- a decided text that isn't too long and is left to its tokens isn't cut into tokens
 uncut : OneCutting → (job : Job) (text : List ℕ) (tokens : List Token) (end : Place) → IsDecided job text → length text ≤ max_text → IsLeft job text → Cuts text tokens end → ⊥
 uncut cutting job text tokens end (is_long h) short left cut = omega (arith, h, short)
-uncut cutting job text tokens end (is_first program no_list h form) short left cut = unleft job text program no_list form left
+uncut cutting job text tokens end (is_first program reads h form) short left cut = unleft job text program reads form left
 uncut cutting job text tokens end (has_no_tokens refusal h fault) short left cut = cutting.either text tokens end refusal cut fault
 
 -- and it has one first fault
@@ -92,29 +98,29 @@ fault-unique cutting job text first second decided short left (inr later) fault 
 
 -- where a text spells at most one program and is cut in one way, there is one answer at most
 pub answer-unique : ((text : List ℕ) (left right : First) → IsFirstForm text left → IsFirstForm text right → left ≡ right) → OneCutting
-    → (job : Job) (text : List ℕ) (first second : Verdict) → IsDecided job text → IsAnswer job text first → IsAnswer job text second → first ≡ second
+    → (job : Job) (text : List ℕ) (first second : Answered) → IsDecided job text → IsAnswer job text first → IsAnswer job text second → first ≡ second
 answer-unique unique cutting job text first second decided (too_long long) (too_long long') = refl
-answer-unique unique cutting job text first second decided (too_long long) (of_first_form program no_list short form) = absurd (omega (arith, long, short))
+answer-unique unique cutting job text first second decided (too_long long) (of_first_form program reads short form) = absurd (omega (arith, long, short))
 answer-unique unique cutting job text first second decided (too_long long) (faulty refusal short left fault) = absurd (omega (arith, long, short))
-answer-unique unique cutting job text first second decided (too_long long) (of_program place typed verdict short left passed is) = absurd (omega (arith, long, short))
-answer-unique unique cutting job text first second decided (of_first_form program no_list short form) (too_long long) = absurd (omega (arith, long, short))
-answer-unique unique cutting job text first second decided (of_first_form one no_list short form) (of_first_form other no_list' short' form') =
-    ap (first_verdict job) (unique text one other form form')
-answer-unique unique cutting job text first second decided (of_first_form program no_list short form) (faulty refusal short' left fault) = absurd (unleft job text program no_list form left)
-answer-unique unique cutting job text first second decided (of_first_form program no_list short form) (of_program place typed verdict short' left passed is) =
-    absurd (unleft job text program no_list form left)
+answer-unique unique cutting job text first second decided (too_long long) (of_program place typed answered short left passed is) = absurd (omega (arith, long, short))
+answer-unique unique cutting job text first second decided (of_first_form program reads short form) (too_long long) = absurd (omega (arith, long, short))
+answer-unique unique cutting job text first second decided (of_first_form one reads short form) (of_first_form other reads' short' form') =
+    ap (first_answer job) (unique text one other form form')
+answer-unique unique cutting job text first second decided (of_first_form program reads short form) (faulty refusal short' left fault) = absurd (unleft job text program reads form left)
+answer-unique unique cutting job text first second decided (of_first_form program reads short form) (of_program place typed answered short' left passed is) =
+    absurd (unleft job text program reads form left)
 answer-unique unique cutting job text first second decided (faulty refusal short left fault) (too_long long) = absurd (omega (arith, long, short))
-answer-unique unique cutting job text first second decided (faulty refusal short left fault) (of_first_form program no_list short' form) = absurd (unleft job text program no_list form left)
+answer-unique unique cutting job text first second decided (faulty refusal short left fault) (of_first_form program reads short' form) = absurd (unleft job text program reads form left)
 answer-unique unique cutting job text first second decided (faulty one short left fault) (faulty other short' left' fault') =
-    ap Refused (fault-unique cutting job text one other decided short left fault fault')
-answer-unique unique cutting job text first second decided (faulty refusal short left fault) (of_program place typed verdict short' left' passed is) =
+    ap (λ refusal. only (Refused refusal)) (fault-unique cutting job text one other decided short left fault fault')
+answer-unique unique cutting job text first second decided (faulty refusal short left fault) (of_program place typed answered short' left' passed is) =
     absurd (uncut cutting job text _ _ decided short left passed.cut)
-answer-unique unique cutting job text first second decided (of_program place typed verdict short left passed is) (too_long long) = absurd (omega (arith, long, short))
-answer-unique unique cutting job text first second decided (of_program place typed verdict short left passed is) (of_first_form program no_list short' form) =
-    absurd (unleft job text program no_list form left)
-answer-unique unique cutting job text first second decided (of_program place typed verdict short left passed is) (faulty refusal short' left' fault) =
+answer-unique unique cutting job text first second decided (of_program place typed answered short left passed is) (too_long long) = absurd (omega (arith, long, short))
+answer-unique unique cutting job text first second decided (of_program place typed answered short left passed is) (of_first_form program reads short' form) =
+    absurd (unleft job text program reads form left)
+answer-unique unique cutting job text first second decided (of_program place typed answered short left passed is) (faulty refusal short' left' fault) =
     absurd (uncut cutting job text _ _ decided short left passed.cut)
-answer-unique unique cutting job text first second decided (of_program place typed verdict short left passed is) (of_program place' typed' verdict' short' left' passed' is') =
+answer-unique unique cutting job text first second decided (of_program place typed answered short left passed is) (of_program place' typed' answered' short' left' passed' is') =
     absurd (uncut cutting job text _ _ decided short left passed.cut)
 
 -- a run that comes out so, of a program and under limits and an argument that equal its own
@@ -124,43 +130,23 @@ comes_as made typed L limits a argument outcome is same given comes =
     subst (λ k. ComesOut typed k argument outcome) same (subst (λ k. ComesOut typed L k outcome) given (subst (λ P. ComesOut P L a outcome) is comes))
 
 -- what is asked of an accepted program is carried out
-pub run-verdict : (asked : Job) (place : Place) (typed : PlainProgram) (result : Result Verdict NoMemory) → asks_run asked.command ≡ true
-    → IfOk result (IsRun asked place typed) → IfOk result (IsVerdictOn asked place typed)
-run-verdict asked place typed (Ok verdict) is run = to_run verdict is run
-run-verdict asked place typed (Err none) is run = tt
+pub run-answer : (asked : Job) (text : List ℕ) (place : Place) (typed : PlainProgram) (result : Result Answered NoMemory) → asks_run asked.command ≡ true
+    → IfOk result (IsRan asked text place typed) → IfOk result (IsAnswerOn asked text place typed)
+run-answer asked text place typed (Ok answered) is run = to_run is run
+run-answer asked text place typed (Err none) is run = tt
 
-pub list-verdict : (asked : Job) (place : Place) (typed : PlainProgram) (result : Result Verdict NoMemory) → asks_list asked.command ≡ true
-    → IfOk result (IsListing typed) → IfOk result (IsVerdictOn asked place typed)
-list-verdict asked place typed (Ok verdict) is lists = to_list verdict is lists
-list-verdict asked place typed (Err none) is lists = tt
+pub elide-answer : (asked : Job) (text : List ℕ) (place : Place) (typed : PlainProgram) (result : Result Answered NoMemory) → asked.command ≡ command.Elide
+    → IfOk result (IsElided asked place typed) → IfOk result (IsAnswerOn asked text place typed)
+elide-answer asked text place typed (Ok answered) is run = to_elide is run
+elide-answer asked text place typed (Err none) is run = tt
 
-pub runs : (c : Command) → (c ≡ command.Run) ⊎ (c ≡ command.Elide) → asks_run c ≡ true
-runs c (inl run) = ap asks_run run
-runs c (inr elide) = ap asks_run elide
+pub list-answer : (asked : Job) (text : List ℕ) (place : Place) (typed : PlainProgram) (result : Result Answered NoMemory) → asked.command ≡ command.«List»
+    → IfOk result (IsListing typed) → IfOk result (IsAnswerOn asked text place typed)
+list-answer asked text place typed (Ok answered) is lists = to_list is lists
+list-answer asked text place typed (Err none) is lists = tt
 
--- any other command asks neither a run nor a listing
-pub no-run : (c : Command) → c ≢ command.Run → c ≢ command.Elide → asks_run c ≡ false
-no-run command.Run run elide = absurd (run refl)
-no-run command.Elide run elide = absurd (elide refl)
-no-run command.Check run elide = refl
-no-run command.«List» run elide = refl
-no-run command.Demo run elide = refl
-no-run command.Trace run elide = refl
-no-run command.Replay run elide = refl
-no-run command.Effects run elide = refl
-
-pub no-list : (c : Command) → c ≢ command.«List» → asks_list c ≡ false
-no-list command.«List» list = absurd (list refl)
-no-list command.Run list = refl
-no-list command.Elide list = refl
-no-list command.Check list = refl
-no-list command.Demo list = refl
-no-list command.Trace list = refl
-no-list command.Replay list = refl
-no-list command.Effects list = refl
-
--- the verdict on an accepted program is an answer
-pub program-answer : (asked : Job) (text : List ℕ) (place : Place) (typed : PlainProgram) (result : Result Verdict NoMemory) → length text ≤ max_text
-    → IsLeft asked text → IsPassed text place typed → IfOk result (IsVerdictOn asked place typed) → IfOk result (IsAnswer asked text)
-program-answer asked text place typed (Ok verdict) short left passed is = of_program place typed verdict short left passed is
+-- the answer on an accepted program is an answer
+pub program-answer : (asked : Job) (text : List ℕ) (place : Place) (typed : PlainProgram) (result : Result Answered NoMemory) → length text ≤ max_text
+    → IsLeft asked text → IsPassed text place typed → IfOk result (IsAnswerOn asked text place typed) → IfOk result (IsAnswer asked text)
+program-answer asked text place typed (Ok answered) short left passed is = of_program place typed answered short left passed is
 program-answer asked text place typed (Err none) short left passed is = tt

@@ -30,6 +30,15 @@ use Rattle.dpj_top.specs.declared.answered.Answered.{Answered}
 abbrev pub max_text : ℕ
 max_text = 1048576
 
+-- and a trace, which holds a program's text
+abbrev pub max_trace : ℕ
+max_trace = 67108864
+
+-- the most bytes that are read for a job of this command
+abbrev pub most_bytes : Command → ℕ
+most_bytes command.Replay = max_trace
+most_bytes _ = max_text
+
 -- a verdict, where no run was recorded
 abbrev pub only : Verdict → Answered
 only verdict = record { verdict = verdict; recorded = None }
@@ -79,13 +88,13 @@ pub record IsElided (job : Job) (place : Place) (typed : PlainProgram) (answered
   pub is : answered ≡ only (verdict_of_elision place outcome)
 
 -- the verdict on a run of a text, by its schedule and how it came out: a demo tells what it made, and a trace is told in place of a report
-abbrev pub told_of : Job → List ℕ → List ℕ → Outcome → Verdict
-told_of job text schedule outcome = told_by job.command job text schedule outcome
-
 abbrev pub told_by : Command → Job → List ℕ → List ℕ → Outcome → Verdict
 told_by command.Demo job text schedule outcome = Demo job.n (length text) outcome
 told_by command.Trace job text schedule outcome = Traced outcome (trace_of job.arg (limits_of job) schedule text)
 told_by _ job text schedule outcome = Ran outcome
+
+abbrev pub told_of : Job → List ℕ → List ℕ → Outcome → Verdict
+told_of job text schedule outcome = told_by job.command job text schedule outcome
 
 -- the run of an accepted program, with its record
 pub data IsRan (job : Job) (text : List ℕ) (place : Place) (typed : PlainProgram) : Answered → Type 0 where

@@ -1,17 +1,35 @@
 -- What a call of the whole tool does to its source and its sink.
-use Rattle.std.specs.Prelude.{ℕ, ◌≡◌, ◌<◌, ◌≤◌, ◌++◌, List, [], Option, Some, IfSome, MatchOption, length, take}
+use Rattle.std.specs.Prelude.{ℕ, ◌≡◌, ◌<◌, ◌≤◌, ◌++◌, Bool, true, false, cond, List, [], Option, Some, None, IfSome, MatchOption, length, take}
+use Rattle.dpj_history.specs.declared.Record.{Record}
+use Rattle.dpj_make.specs.Demo.{demo_text}
 use Rattle.dpj_words.specs.Jobs.{job}
+use Rattle.dpj_words.specs.declared.command.Command.{Command}
+use Rattle.dpj_words.specs.declared.command.Command.TheVariants.{Demo}
+use Rattle.dpj_words.specs.declared.job.Job.{Job}
 use Rattle.dpj_words.specs.Reports.{report_of, status_of}
 use Rattle.dpj_words.specs.declared.verdict.Status.{Status}
 use Rattle.dpj_words.specs.declared.verdict.Status.TheVariants as ended
-use Rattle.dpj_words.specs.declared.verdict.Verdict.{Verdict}
 use Rattle.dpj_words.specs.declared.verdict.Verdict.TheVariants.{Usage}
-use Rattle.dpj_top.specs.Answer.{IsAnswer, max_text}
+use Rattle.dpj_top.specs.declared.answered.Answered.{Answered}
+use Rattle.dpj_top.specs.Answer.{IsAnswer, only, most_bytes}
 
--- The verdict on words, and on the text that the source held where it tells it: usage where they give no job,
+-- a demo makes its text, and every other job is on the text that the source holds
+abbrev pub makes_text : Command → Bool
+makes_text Demo = true
+makes_text _ = false
+
+abbrev pub text_for : Job → Option (List ℕ) → Option (List ℕ)
+text_for job text = cond (makes_text job.command) (Some (demo_text job.n)) text
+
+-- The answer to words, and to the text that the source held where it tells it: usage where they give no job,
 -- and else the answer to the job.
-abbrev pub IsVerdict : List (List ℕ) → Option (List ℕ) → Verdict → Type 0
-IsVerdict words text verdict = MatchOption (job words) (verdict ≡ Usage) (λ job. IfSome text (λ text. IsAnswer job text verdict))
+abbrev pub IsAnswered : List (List ℕ) → Option (List ℕ) → Answered → Type 0
+IsAnswered words text answered = MatchOption (job words) (answered ≡ only Usage) (λ job. IfSome (text_for job text) (λ text. IsAnswer job text answered))
+
+-- the words give a job on a text that the source holds
+abbrev pub asks_text : Option Job → Bool
+asks_text None = false
+asks_text (Some job) = cond (makes_text job.command) false true
 
 -- a status that tells of a verdict, and not of the outside
 abbrev pub TellsOfVerdict : Status → Type 0
@@ -29,21 +47,24 @@ abbrev pub AppendsPart : Option (List ℕ) → Option (List ℕ) → List ℕ �
 AppendsPart before after bytes =
     IfSome before (λ held. (count : ℕ) × (count ≤ length bytes) × (after ≡ Some (held ++ take count bytes)))
 
--- the status and the whole report are those of the verdict on the words and the text
-pub record Tells (words : List (List ℕ)) (text before after : Option (List ℕ)) (status : Status) : Type 0 where
-  pub verdict : Verdict
-  pub is_verdict : IsVerdict words text verdict
-  pub status_told : status ≡ status_of verdict
-  pub report_told : Appends before after (report_of verdict)
+-- the status, the whole report and the record are those of the answer to the words and the text
+pub record Tells (words : List (List ℕ)) (text before after : Option (List ℕ)) (status : Status) (recorded : Option Record) : Type 0 where
+  pub answered : Answered
+  pub is_answered : IsAnswered words text answered
+  pub status_told : status ≡ status_of answered.verdict
+  pub report_told : Appends before after (report_of answered.verdict)
+  pub run_recorded : recorded ≡ answered.recorded
 
--- a first part was written of the report of the verdict on the words and the text, and where the sink tells its
+-- a first part was written of the report of the answer to the words and the text, and where the sink tells its
 -- room, the whole report was too long for it
-pub record BreaksOff (words : List (List ℕ)) (text before after : Option (List ℕ)) (room : Option ℕ) : Type 0 where
-  pub verdict : Verdict
-  pub is_verdict : IsVerdict words text verdict
-  pub part_told : AppendsPart before after (report_of verdict)
-  pub no_room : IfSome room (λ room. room < length (report_of verdict))
+pub record BreaksOff (words : List (List ℕ)) (text before after : Option (List ℕ)) (room : Option ℕ) (recorded : Option Record) : Type 0 where
+  pub answered : Answered
+  pub is_answered : IsAnswered words text answered
+  pub part_told : AppendsPart before after (report_of answered.verdict)
+  pub no_room : IfSome room (λ room. room < length (report_of answered.verdict))
+  pub run_recorded : recorded ≡ answered.recorded
 
--- a source that tells what it holds, and held a text that isn't too long, holds nothing more
-abbrev pub ReadToEnd : Option (List ℕ) → Option (List ℕ) → Type 0
-ReadToEnd before after = IfSome before (λ text. length text ≤ max_text → after ≡ Some [])
+-- a source that tells what it holds, and held a text that isn't too long for the job, holds nothing more
+abbrev pub ReadToEnd : Option Job → Option (List ℕ) → Option (List ℕ) → Type 0
+ReadToEnd None before after = Unit {0}
+ReadToEnd (Some job) before after = IfSome before (λ text. length text ≤ most_bytes job.command → after ≡ Some [])

@@ -1,65 +1,83 @@
-ghost use Rattle.std.specs.Prelude.{◌≡◌, ◌≢◌, ◌<◌, ◌≤◌, None, map, length, IfOk, IfErr, IfSome, IsSome, OnOk};
+ghost use Rattle.std.specs.Prelude.{◌≡◌, ◌≢◌, ◌<◌, ◌≤◌, None, false, true, map, length, IfOk, IfErr, IfSome, IsSome, OnOk};
 ghost use Rattle.std.specs.String.{string_bytes};
 ghost use Rattle.dpj_io.specs.Ends.{Rose};
-ghost use Rattle.dpj_words.specs.Jobs.{job};
+ghost use Rattle.dpj_words.specs.Jobs.{job, IsInRange};
 ghost use Rattle.dpj_words.specs.Reports.{report_of, status_of};
-ghost use Rattle.dpj_top.specs.Call.{IsVerdict, TellsOfVerdict, Tells, BreaksOff, ReadToEnd, Appends, AppendsPart};
+ghost use Rattle.dpj_top.specs.Answer.{IsAnswer, most_bytes, only};
+ghost use Rattle.dpj_top.specs.Call.{IsAnswered, TellsOfVerdict, Tells, BreaksOff, ReadToEnd, Appends, AppendsPart, asks_text, makes_text};
 
-use crate::answers::{MAX_TEXT, answer, refused};
+use crate::answered::Answered;
+use crate::answers::{MAX_TEXT, answer};
 use dpj_base::{Kind, NoMemory};
+use dpj_history::Record;
 use dpj_io::{ReadEnd, Sink, Source, WriteFault, read_all, write_all};
-use dpj_words::{Status, Usage, Verdict, read_words, report, status};
+use dpj_make::demo_source;
+use dpj_words::{Command, Job, Status, Usage, Verdict, read_words, report, status};
+use dpj_workers::Gate;
 use std::alloc::Global;
+use std::sync::Wait;
+use std::thread::Threads;
 
-/// How a call of the tool ended.
-#[derive(Clone, Copy, Debug, PartialEq, Eq)]
+/// How a call of the tool ended, and the record of the run that it made.
+#[derive(Drop)]
 pub struct Ended {
     pub status: Status,
+    pub recorded: Option<Record>,
 }
+
+/// The most bytes that a trace may have.
+const MAX_TRACE: usize = 67108864;
 
 /// Carries out the job that the words give, on the text that the source holds, and writes one report after
 /// what the sink holds.
 ///
 /// The report is made whole before its first byte is written. Words that give no job take nothing from the
-/// source. A read fault, a write fault and want of memory have statuses of their own.
-pub fn dpj<S: Source, K: Sink>(
+/// source, nor does a demo, which makes its text. A read fault, a write fault and want of memory have statuses of their own.
+/// `gate` is called by each worker of a run before each of its turns.
+pub fn dpj<R: Threads + Wait + Sync, S: Source, K: Sink, G: Gate + Sync>(
+    rt: &R,
     alloc: Global,
     words: &[String],
     source: &mut S,
     sink: &mut K,
+    gate: &G,
 ) -> Ended
-    // The verdict on the words and the text is told by its status and its whole report.
+    // The answer to the words and the text is told by its status and its whole report, and its record is kept.
     ensures told { TellsOfVerdict result.status
-        → Tells (map string_bytes words.now) (S.left source.old) (K.held sink.old) (K.held sink.new) result.status }
+        → Tells (map string_bytes words.now) (S.left source.old) (K.held sink.old) (K.held sink.new) result.status result.recorded }
     ensures usage { result.status ≡ Status.Usage → job (map string_bytes words.now) ≡ None }
 
     // Every other status has its cause, and want of memory alone needs none.
     ensures read_fault { result.status ≡ Status.ReadFault → Rose (S.faults source.old) (S.faults source.new) }
     ensures write_fault { result.status ≡ Status.WriteFault → Rose (K.faults sink.old) (K.faults sink.new) }
     ensures broken_off { result.status ≡ Status.WriteFault
-        → BreaksOff (map string_bytes words.now) (S.left source.old) (K.held sink.old) (K.held sink.new) (K.room sink.old) }
-    ensures unread { result.status ≡ Status.ReadFault → IsSome (job (map string_bytes words.now)) × (sink.new ≡ sink.old) }
+        → BreaksOff (map string_bytes words.now) (S.left source.old) (K.held sink.old) (K.held sink.new) (K.room sink.old) result.recorded }
+    ensures unread { result.status ≡ Status.ReadFault → asks_text (job (map string_bytes words.now)) ≡ true × (sink.new ≡ sink.old) }
     ensures unwritten { result.status ≡ Status.NoMemory → sink.new ≡ sink.old }
+    ensures unrecorded { result.status ≡ Status.ReadFault → result.recorded ≡ None }
+    ensures forgotten { result.status ≡ Status.NoMemory → result.recorded ≡ None }
 
-    // What becomes of the source: words without a job leave it alone, and an answer has read it to its end.
-    ensures untouched { job (map string_bytes words.now) ≡ None → source.new ≡ source.old }
+    // What becomes of the source: words that ask for no text leave it alone, and an answer has read it to its end.
+    ensures untouched { asks_text (job (map string_bytes words.now)) ≡ false → source.new ≡ source.old }
     ensures read_to_end { result.status ≢ Status.ReadFault → result.status ≢ Status.NoMemory
-        → IsSome (job (map string_bytes words.now)) → ReadToEnd (S.left source.old) (S.left source.new) }
+        → asks_text (job (map string_bytes words.now)) ≡ true → ReadToEnd (job (map string_bytes words.now)) (S.left source.old) (S.left source.new) }
     ensures source_count { S.faults source.old ≤ S.faults source.new }
     ensures sink_count { K.faults sink.old ≤ K.faults sink.new }
 {
-    match verdict_on(alloc, words, source) {
-        Ok(verdict) => tell(alloc, &verdict, sink),
+    match answer_to(rt, alloc, words, source, gate) {
+        Ok(answered) => tell(alloc, answered, sink),
         Err(Unread::ReadFault) => Ended {
             status: Status::ReadFault,
+            recorded: None,
         },
         Err(Unread::NoMemory) => Ended {
             status: Status::NoMemory,
+            recorded: None,
         },
     }
 }
 
-/// Why there is no verdict.
+/// Why there is no answer.
 #[derive(Clone, Copy, Debug, PartialEq, Eq)]
 enum Unread {
     ReadFault,
@@ -77,49 +95,106 @@ impl From<NoMemory> for Unread {
     }
 }
 
-/// The verdict on the words, and on the text where they give a job.
-fn verdict_on<S: Source>(alloc: Global, words: &[String], source: &mut S) -> Result<Verdict, Unread>
-    ensures ok { IfOk result (IsVerdict (map string_bytes words.now) (S.left source.old)) }
-    ensures usage { IfOk result (λ verdict. status_of verdict ≡ Status.Usage → job (map string_bytes words.now) ≡ None) }
-    ensures asked { IfErr result (λ _. IsSome (job (map string_bytes words.now))) }
+/// The answer to the words, and to the text where they give a job on one.
+fn answer_to<R: Threads + Wait + Sync, S: Source, G: Gate + Sync>(
+    rt: &R,
+    alloc: Global,
+    words: &[String],
+    source: &mut S,
+    gate: &G,
+) -> Result<Answered, Unread>
+    ensures ok { IfOk result (IsAnswered (map string_bytes words.now) (S.left source.old)) }
+    ensures usage { IfOk result (λ answered. status_of answered.verdict ≡ Status.Usage → job (map string_bytes words.now) ≡ None) }
+    ensures asked { IfErr result (λ unread. unread ≡ Unread.ReadFault → asks_text (job (map string_bytes words.now)) ≡ true) }
     ensures read_fault { IfErr result (λ unread. unread ≡ Unread.ReadFault → Rose (S.faults source.old) (S.faults source.new)) }
-    ensures untouched { job (map string_bytes words.now) ≡ None → source.new ≡ source.old }
-    ensures read_to_end { OnOk result (IsSome (job (map string_bytes words.now)) → ReadToEnd (S.left source.old) (S.left source.new)) }
+    ensures untouched { asks_text (job (map string_bytes words.now)) ≡ false → source.new ≡ source.old }
+    ensures read_to_end { OnOk result (asks_text (job (map string_bytes words.now)) ≡ true
+        → ReadToEnd (job (map string_bytes words.now)) (S.left source.old) (S.left source.new)) }
     ensures count { S.faults source.old ≤ S.faults source.new }
 {
     let Ok(job) = read_words(words) else {
-        return Ok(Verdict::Usage);
+        return Ok(Answered::only(Verdict::Usage));
     };
-    match read_all(alloc, source, MAX_TEXT) {
-        Ok(text) => Ok(answer(alloc, &job, text.as_slice())?),
-        Err(ReadEnd::TooLong) => Ok(refused(Kind::TooLong)),
+    match job.command {
+        Command::Demo => Ok(demonstrate(rt, alloc, &job, gate)?),
+        _ => answer_source(rt, alloc, &job, source, gate),
+    }
+}
+
+/// The answer to a demo, on the text that it makes.
+fn demonstrate<R: Threads + Wait + Sync, G: Gate + Sync>(
+    rt: &R,
+    alloc: Global,
+    job: &Job,
+    gate: &G,
+) -> Result<Answered, NoMemory>
+    requires in_range { IsInRange job.now }
+    requires made { makes_text job.now.command ≡ true }
+    ensures { IfOk result (IsAnswer job.now (demo_text job.now.n)) }
+{
+    let text = demo_source(alloc, job.n)?;
+    answer(rt, alloc, job, text.as_slice(), gate)
+}
+
+/// The answer to a job on the text that a source holds.
+fn answer_source<R: Threads + Wait + Sync, S: Source, G: Gate + Sync>(
+    rt: &R,
+    alloc: Global,
+    job: &Job,
+    source: &mut S,
+    gate: &G,
+) -> Result<Answered, Unread>
+    requires in_range { IsInRange job.now }
+    requires read { makes_text job.now.command ≡ false }
+    ensures ok { IfOk result (λ answered. IfSome (S.left source.old) (λ text. IsAnswer job.now text answered)) }
+    ensures no_usage { IfOk result (λ answered. status_of answered.verdict ≢ Status.Usage) }
+    ensures read_fault { IfErr result (λ unread. unread ≡ Unread.ReadFault → Rose (S.faults source.old) (S.faults source.new)) }
+    ensures read_to_end { OnOk result (IfSome (S.left source.old) (λ text. length text ≤ most_bytes job.now.command → S.left source.new ≡ Some [])) }
+    ensures count { S.faults source.old ≤ S.faults source.new }
+{
+    match read_all(alloc, source, most_bytes(job.command)) {
+        Ok(text) => Ok(answer(rt, alloc, job, text.as_slice(), gate)?),
+        Err(ReadEnd::TooLong) => Ok(Answered::refused_at(Kind::TooLong, 1)),
         Err(ReadEnd::ReadFault) => Err(Unread::ReadFault),
         Err(ReadEnd::NoMemory) => Err(Unread::NoMemory),
     }
 }
 
-/// Writes the report of a verdict, once it is whole.
-fn tell<K: Sink>(alloc: Global, verdict: &Verdict, sink: &mut K) -> Ended
+/// The most bytes that are read for a job of this command.
+fn most_bytes(command: Command) -> usize
+    ensures { result ≡ most_bytes command }
+{
+    match command {
+        Command::Replay => MAX_TRACE,
+        _ => MAX_TEXT,
+    }
+}
+
+/// Writes the report of an answer, once it is whole.
+fn tell<K: Sink>(alloc: Global, answered: Answered, sink: &mut K) -> Ended
     ensures whole { TellsOfVerdict result.status
-        → (result.status ≡ status_of verdict.now) × Appends (K.held sink.old) (K.held sink.new) (report_of verdict.now) }
-    ensures part { result.status ≡ Status.WriteFault → AppendsPart (K.held sink.old) (K.held sink.new) (report_of verdict.now) }
-    ensures no_room { result.status ≡ Status.WriteFault → IfSome (K.room sink.old) (λ room. room < length (report_of verdict.now)) }
+        → (result.status ≡ status_of answered.verdict) × Appends (K.held sink.old) (K.held sink.new) (report_of answered.verdict) }
+    ensures part { result.status ≡ Status.WriteFault → AppendsPart (K.held sink.old) (K.held sink.new) (report_of answered.verdict) }
+    ensures no_room { result.status ≡ Status.WriteFault → IfSome (K.room sink.old) (λ room. room < length (report_of answered.verdict)) }
     ensures write_fault { result.status ≡ Status.WriteFault → Rose (K.faults sink.old) (K.faults sink.new) }
     ensures unwritten { result.status ≡ Status.NoMemory → sink.new ≡ sink.old }
+    ensures kept { result.status ≢ Status.NoMemory → result.recorded ≡ answered.recorded }
+    ensures forgotten { result.status ≡ Status.NoMemory → result.recorded ≡ None }
     ensures not_read { result.status ≢ Status.ReadFault }
     ensures count { K.faults sink.old ≤ K.faults sink.new }
 {
-    let Ok(report) = report(alloc, verdict) else {
+    let Ok(report) = report(alloc, &answered.verdict) else {
         return Ended {
             status: Status::NoMemory,
+            recorded: None,
         };
     };
-    match write_all(sink, report.as_slice()) {
-        Ok(()) => Ended {
-            status: status(verdict),
-        },
-        Err(WriteFault) => Ended {
-            status: Status::WriteFault,
-        },
+    let status = match write_all(sink, report.as_slice()) {
+        Ok(()) => status(&answered.verdict),
+        Err(WriteFault) => Status::WriteFault,
+    };
+    Ended {
+        status,
+        recorded: answered.recorded,
     }
 }
