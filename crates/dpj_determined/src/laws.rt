@@ -2,19 +2,23 @@
 
 ghost use Rattle.dpj_determined.specs.Laws.{NoRunCostsMore, RunsAreGathered, RunsComeOutAsElided, SchedulesComeOutAsElided};
 
-use dpj_elided::laws::{law_determinism, law_names};
+use dpj_elided::laws::{law_determinism, law_elision, law_names};
 use dpj_moving::laws::law_gathering;
+use dpj_runs::laws::law_determinism as law_schedules;
 use dpj_sound::laws::law_runs;
 use dpj_steps::laws::law_steps;
 
 /// Every legal run of a well-typed program without nd constructs whose root has ended, and every finished schedule, comes out as the
-/// sequential elision, limits included; and none costs more.
+/// sequential elision, limits included, also where blocks wait by a weaker rule; and none costs more.
 pub fn law_well_typed()
     ensures runs { RunsComeOutAsElided }
     ensures schedules { SchedulesComeOutAsElided }
     ensures cost { NoRunCostsMore }
 {
     law_runs();
+    law_steps();
+    law_schedules();
+    law_elision();
     law_determinism();
 }
 

@@ -1,0 +1,45 @@
+-- The machine's records and the determinism of schedules, joined.
+use Rattle.std.proofs.Common.{ℕ, ℤ, ◌≡◌, ◌≤◌, FitsSigned, false, List, [], Option, Some, None, refl, sym, ap, ◌∙◌, subst, slice_get, reverse}
+use Rattle.std.specs.Int.{w32}
+use Rattle.dpj_base.specs.declared.outcome.Outcome.{Outcome}
+use Rattle.dpj_typed.specs.Plain.{PlainProgram}
+use Rattle.dpj_meaning.specs.Actions.{Returned, Assigned, Trapped}
+use Rattle.dpj_meaning.specs.Counts.{number}
+use Rattle.dpj_meaning.specs.Elision.{elided}
+use Rattle.dpj_meaning.specs.Outcomes.{Outcome as ElidedOutcome, Came as came_out, Limited}
+use Rattle.dpj_meaning.specs.Values.{Value, Int, Boolean, Null, Object}
+use Rattle.dpj_elided.specs.Laws.{IsElided}
+use Rattle.dpj_elided.specs.Renamed.{object_named, renamed, renamed_value}
+use Rattle.dpj_runs.specs.Objects.{Name}
+use Rattle.dpj_steps.specs.Steps.{stepped}
+use Rattle.dpj_determined.specs.Laws.{SchedulesComeOutAsElided}
+use Rattle.dpj_recorded.specs.Laws.{MachinesRecord, Records, blocks_aside, lets_all, limits, told}
+use Rattle.dpj_promise.specs.Promise.{MachinesComeOutAsElided, elision, outcome_of_elision}
+
+-- the names of objects don't show in an outcome
+number_named : (x : Option Name) → number (object_named x) ≡ number {N = Name} Null
+number_named None = refl
+number_named (Some x) = refl
+
+number_renamed : (names : List Name) (v : Value ℕ) → number (renamed_value names v) ≡ number v
+number_renamed names (Object n) = number_named (slice_get names n)
+number_renamed names (Int k) = refl
+number_renamed names (Boolean b) = refl
+number_renamed names Null = refl
+
+told_renamed : (names : List Name) (o : ElidedOutcome ℕ) → told (renamed names o) ≡ outcome_of_elision o
+told_renamed names (came_out (Returned v) output steps cells) = search (rules, number_renamed names v)
+told_renamed names (came_out (Assigned locals) output steps cells) = refl
+told_renamed names (came_out (Trapped trap place) output steps cells) = refl
+told_renamed names (Limited steps cells) = refl
+
+-- a machine's schedule records one of a run in which blocks never wait, which comes out as the elision
+pub machines_come_out : MachinesRecord → SchedulesComeOutAsElided → MachinesComeOutAsElided
+machines_come_out records schedules P p o wt none resolved main code_is small fits replayed came =
+    let recorded = records p.code P p.limits p.argument code_is resolved main small in
+    let ks = reverse p.schedule in
+    let finished = subst (λ z. Records (blocks_aside (stepped P p.argument)) (limits p.limits) ks z) (sym replayed.outcome ∙ came)
+        (recorded.aside ks replayed.moment replayed.leads) in
+    let is : IsElided P p.argument (limits p.limits) finished.0 =
+        schedules P wt none p.argument fits lets_all (λ F E let_by. refl) (limits p.limits) ks finished.0 finished.1.0 in
+    finished.1.1 ∙ ap told is.is ∙ told_renamed is.names (elided P p.argument (limits p.limits))
