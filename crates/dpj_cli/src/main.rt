@@ -4,6 +4,7 @@
 
 use dpj_io::{StdSink, StdSource};
 use dpj_top::dpj;
+use dpj_workers::NoGate;
 use std::process::ExitCode;
 use std::{env, io};
 
@@ -25,6 +26,13 @@ fn main(rt: HostRuntime) -> ExitCode {
     };
     let mut source = StdSource::new(rt.stdin());
     let mut sink = StdSink::new(io::writer(&rt));
-    let ended = dpj(rt.alloc(), words.as_slice(), &mut source, &mut sink);
+    let ended = dpj(
+        &rt,
+        rt.alloc(),
+        words.as_slice(),
+        &mut source,
+        &mut sink,
+        &NoGate,
+    );
     ExitCode::from(ended.status.number())
 }

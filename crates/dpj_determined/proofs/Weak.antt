@@ -34,7 +34,7 @@ module _ (P : Program) (weak : Rule) (w : Weaker weak P.rule) where
   ran_weak L [] [] h = within_weak L [] h
   ran_weak L [] (e ∷ R) h = h
   ran_weak L (k ∷ ks) [] h = h
-  ran_weak L (k ∷ ks) (e ∷ R) h = (ran_weak L ks R h.0, ready_weak R k e h.1.0, within_weak L (e ∷ R) h.1.1)
+  ran_weak L (k ∷ ks) (e ∷ R) h = (ran_weak L ks R h.0, ready_weak R k e h.1, within_weak L (e ∷ R) h.2)
 
   -- a finished schedule is one by a weaker rule too
   pub finished_weak : (L : Limits) (ks : List ℕ) (o : Outcome) → Finished P L ks o → Finished (with_rule weak P) L ks o
@@ -46,6 +46,6 @@ module _ (P : Program) (weak : Rule) (w : Weaker weak P.rule) where
 pub weak_as_elided : RunsAreFree → SchedulesAgree → ElisionIsScheduled → ((P : PlainProgram) (arg : ℤ) → Disciplined (stepped P arg)) → SchedulesComeOutAsElided
 weak_as_elided free agree elision disciplined P wt none arg small weak w L ks o f =
     let e = elision P arg L in
-    let same : o ≡ e.1.0 = agree (with_rule weak (stepped P arg)) (disciplined_rule (stepped P arg) weak (disciplined P arg)) (free P wt none arg small weak)
-        L ks e.0 o e.1.0 f (finished_weak (stepped P arg) weak w L e.0 e.1.0 e.1.1.0) in
-    subst (λ q. IsElided P arg L q) (sym same) e.1.1.1
+    let same : o ≡ e.1 = agree (with_rule weak (stepped P arg)) (disciplined_rule (stepped P arg) weak (disciplined P arg)) (free P wt none arg small weak)
+        L ks e.0 o e.1 f (finished_weak (stepped P arg) weak w L e.0 e.1 e.2) in
+    subst (λ q. IsElided P arg L q) (sym same) e.3

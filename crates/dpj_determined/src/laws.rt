@@ -1,10 +1,11 @@
 //! The laws of whole runs of well-typed programs, each the clause of a function that does nothing but name others.
 
+ghost use Rattle.dpj_runs.specs.Laws.{SchedulesAgree};
 ghost use Rattle.dpj_determined.specs.Laws.{NoRunCostsMore, RunsAreGathered, RunsComeOutAsElided, SchedulesComeOutAsElided};
 
 use dpj_elided::laws::{law_determinism, law_elision, law_names};
 use dpj_moving::laws::law_gathering;
-use dpj_runs::laws::law_determinism as law_schedules;
+use dpj_runs::laws;
 use dpj_sound::laws::law_runs;
 use dpj_steps::laws::law_steps;
 
@@ -17,9 +18,16 @@ pub fn law_well_typed()
 {
     law_runs();
     law_steps();
-    law_schedules();
+    schedules_agree();
     law_elision();
     law_determinism();
+}
+
+/// Where no legal run has unordered conflicts, all finished schedules come out the same.
+fn schedules_agree()
+    ensures { SchedulesAgree }
+{
+    laws::law_determinism();
 }
 
 /// In every legal run of a well-typed program each atomic block's events can stand together at its entry.

@@ -1,5 +1,5 @@
 -- The machine's records and the determinism of schedules, joined.
-use Rattle.std.proofs.Common.{ℕ, ℤ, ◌≡◌, ◌≤◌, FitsSigned, false, List, [], Option, Some, None, refl, sym, ap, ◌∙◌, subst, slice_get, reverse}
+use Rattle.std.proofs.Common.{rules, ℕ, ℤ, ◌≡◌, ◌≤◌, FitsSigned, false, List, [], Option, Some, None, refl, sym, ap, ◌∙◌, subst, slice_get, reverse}
 use Rattle.std.specs.Int.{w32}
 use Rattle.dpj_base.specs.declared.outcome.Outcome.{Outcome}
 use Rattle.dpj_typed.specs.Plain.{PlainProgram}
@@ -41,5 +41,5 @@ machines_come_out records schedules P p o wt none resolved main code_is small fi
     let finished = subst (λ z. Records (blocks_aside (stepped P p.argument)) (limits p.limits) ks z) (sym replayed.outcome ∙ came)
         (recorded.aside ks replayed.moment replayed.leads) in
     let is : IsElided P p.argument (limits p.limits) finished.0 =
-        schedules P wt none p.argument fits lets_all (λ F E let_by. refl) (limits p.limits) ks finished.0 finished.1.0 in
-    finished.1.1 ∙ ap told is.is ∙ told_renamed is.names (elided P p.argument (limits p.limits))
+        schedules P wt none p.argument fits lets_all (λ F E let_by. refl) (limits p.limits) ks finished.0 finished.1 in
+    finished.2 ∙ ap told is.is ∙ told_renamed is.names (elided P p.argument (limits p.limits))

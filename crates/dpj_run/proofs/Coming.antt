@@ -1,5 +1,5 @@
 -- How a run comes out, over plain variables.
-use Rattle.std.proofs.Common.{◌≡◌, ◌↔◌, ◌≤◌, ◌+◌, ℕ, ℤ, Bool, true, false, IsTrue, IsSome, List, [], ◌∷◌, ◌++◌, length, sum, All, Option, Some, None, IfOk, Result, Ok, Err, refl, sym, ap, ◌∙◌, subst}
+use Rattle.std.proofs.Common.{◌≡◌, ◌↔◌, ◌≤◌, ◌+◌, ℕ, ℤ, Bool, true, false, IsTrue, List, [], ◌∷◌, ◌++◌, length, sum, All, Option, Some, None, IfOk, IfSome, Result, Ok, Err, refl, sym, ap, ◌∙◌, subst}
 use Rattle.std.proofs.lemmas.Bool.{false≢true}
 use Rattle.dpj_base.specs.declared.memory.NoMemory.{NoMemory}
 use Rattle.dpj_base.specs.declared.outcome.Limits.{Limits}
@@ -11,7 +11,7 @@ use Rattle.dpj_code.specs.Plain.{plain_code}
 use Rattle.dpj_gen.specs.Whole.{compiled}
 use Rattle.dpj_legs.specs.Halts.{IsFew}
 use Rattle.dpj_machine.specs.Keeping.{Played, IsReplayed, GreedilyOn, here, further, HasEnded}
-use Rattle.dpj_run.specs.Run.{IsRunOf, IsSameRun, IsElision, CannotGoOn, IsTooWide, ComesOut, finished, not_at_all}
+use Rattle.dpj_run.specs.Run.{IsRunOf, IsSameRun, IsElision, CannotGoOn, HasNoRun, halted, never_begun, ComesOut, finished, not_at_all, IsOpened, opened, too_wide}
 
 -- where the test of all forks fails, not all are few
 pub not_few : (code : Code) (sites : List Site) (few : Bool) → sites ≡ code.sites → (IsTrue few ↔ All IsFew sites) → few ≡ false → All IsFew code.sites → ⊥
@@ -30,6 +30,14 @@ pub same_argument : (a b : Played) → GreedilyOn a b → b.argument ≡ a.argum
 same_argument a b here = refl
 same_argument a b (further middle after k steps greatest x) = x.argument ∙ same_argument a middle steps
 
+-- and make the schedule longer
+grown : (n m : ℕ) (ks ls : List ℕ) (k : ℕ) → ls ≡ ks ++ k ∷ [] → n ≤ length ks → n ≤ length ls
+grown n m ks ls k is h = search (rules, is, h, arith)
+
+pub grows : (a b : Played) → GreedilyOn a b → length a.schedule ≤ length b.schedule
+grows a b here = omega (arith)
+grows a b (further middle after k steps greatest x) = grown (length a.schedule) 0 middle.schedule b.schedule k x.schedule (grows a middle steps)
+
 abbrev pub same_run : (a b : Played) → GreedilyOn a b → IsReplayed b → IsSameRun a b
 same_run a b steps replayed = record { code = same_code a b steps; limits = same_limits a b steps; argument = same_argument a b steps; replayed = replayed }
 
@@ -42,8 +50,22 @@ still P L argument a b r same = record {
   replayed = same.replayed;
 }
 
--- an elision comes out as its last moment says
-pub came : (P : PlainProgram) (L : Limits) (argument : ℤ) (p : Played) → IsElision P L argument p → (outcome : Option Outcome) → outcome ≡ p.outcome → IsSome p.outcome
-    → ComesOut P L argument outcome
-came P L argument p e (Some o) is some = finished p e o (sym is)
-came P L argument p e None is some = search rules
+-- an elision comes out as its last moment says, or there is no run
+pub came : (P : PlainProgram) (L : Limits) (argument : ℤ) (p : Played) → IsElision P L argument p → (outcome : Option Outcome)
+    → IfSome outcome (λ o. p.outcome ≡ Some o) → (outcome ≡ None → CannotGoOn p) → ComesOut P L argument outcome
+came P L argument p e (Some o) is stopped = finished p o e is
+came P L argument p e None is stopped = not_at_all (halted p e.is_run (stopped refl))
+
+pub elided : (P : PlainProgram) (L : Limits) (argument : ℤ) (a b : Played) → IsRunOf P L argument a → a.schedule ≡ [] → GreedilyOn a b → IsReplayed b
+    → (result : Result (Option Outcome) NoMemory) → IfOk result (λ outcome. IfSome outcome (λ o. b.outcome ≡ Some o)) → IfOk result (λ outcome. outcome ≡ None → CannotGoOn b)
+    → IfOk result (ComesOut P L argument)
+elided P L argument a b is nothing steps replayed (Ok outcome) came_so stopped =
+    came P L argument b (record { is_run = still P L argument a b is (same_run a b steps replayed); start = a; nothing = nothing; steps = steps }) outcome came_so stopped
+elided P L argument a b is nothing steps replayed (Err none) came_so stopped = tt
+
+-- what was opened is a run, or there is none
+pub opened_run : (P : PlainProgram) (L : Limits) (argument : ℤ) (p : Played) → IsOpened P L argument (Some p) → IsRunOf P L argument p × (p.schedule ≡ [])
+opened_run P L argument p (opened p is nothing) = (is, nothing)
+
+pub opened_none : (P : PlainProgram) (L : Limits) (argument : ℤ) → IsOpened P L argument None → HasNoRun P L argument
+opened_none P L argument (too_wide wide) = never_begun wide

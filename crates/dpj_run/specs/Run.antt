@@ -11,7 +11,7 @@ use Rattle.dpj_legs.specs.Halts.{IsFew}
 use Rattle.dpj_machine.specs.declared.halted.Halted.TheVariants.{Stuck}
 use Rattle.dpj_machine.specs.Keeping.{Played, IsReplayed, HaltsGreedily, GreedilyOn, HasEnded}
 use Rattle.dpj_workers.specs.declared.Worked.{Worked}
-use Rattle.dpj_run.specs.declared.run.Run.{Run}
+use Rattle.dpj_run.specs.declared.recorded.Recorded.{Recorded}
 
 -- a machine on the program's code, on the argument of `main`, within limits; it is where its schedule leads
 pub record IsRunOf (P : PlainProgram) (L : Limits) (argument : ℤ) (p : Played) : Type 0 where
@@ -34,7 +34,7 @@ pub record IsTooWide (P : PlainProgram) : Type 0 where
 -- there is a moment of a run at which it can't go on, or no run at all
 pub data HasNoRun (P : PlainProgram) (L : Limits) (argument : ℤ) : Type 0 where
   halted : (p : Played) → IsRunOf P L argument p → CannotGoOn p → HasNoRun P L argument
-  too_wide : IsTooWide P → HasNoRun P L argument
+  never_begun : IsTooWide P → HasNoRun P L argument
 
 -- a run from its start on in which at each step the task that began last of those that are ready has gone on
 pub record IsElision (P : PlainProgram) (L : Limits) (argument : ℤ) (p : Played) : Type 0 where
@@ -49,14 +49,14 @@ pub data ComesOut (P : PlainProgram) (L : Limits) (argument : ℤ) : Option Outc
   not_at_all : HasNoRun P L argument → ComesOut P L argument None
 
 -- a run that has come out, made by so many workers and the caller
-pub record IsRecordOf (P : PlainProgram) (L : Limits) (argument : ℤ) (workers : ℕ) (r : Run) : Type 0 where
+pub record IsRecordOf (P : PlainProgram) (L : Limits) (argument : ℤ) (workers : ℕ) (r : Recorded) : Type 0 where
   pub is_run : IsRunOf P L argument r.record.machine
   pub came : r.record.machine.outcome ≡ Some r.outcome
   pub seats : length r.record.shares ≡ workers
   pub counted : length r.record.machine.schedule ≡ sum r.record.shares + r.record.own
 
-pub data IsRun (P : PlainProgram) (L : Limits) (argument : ℤ) (workers : ℕ) : Option Run → Type 0 where
-  finished : (r : Run) → IsRecordOf P L argument workers r → IsRun P L argument workers (Some r)
+pub data IsRun (P : PlainProgram) (L : Limits) (argument : ℤ) (workers : ℕ) : Option Recorded → Type 0 where
+  finished : (r : Recorded) → IsRecordOf P L argument workers r → IsRun P L argument workers (Some r)
   not_at_all : HasNoRun P L argument → IsRun P L argument workers None
 
 -- a machine has gone on in the run that it made
@@ -72,7 +72,7 @@ pub data IsOpened (P : PlainProgram) (L : Limits) (argument : ℤ) : Option Play
   too_wide : IsTooWide P → IsOpened P L argument None
 
 -- what workers left is finished by the caller, or can't be
-pub data IsFinished (w : Worked) : Option Run → Type 0 where
-  finished : (r : Run) → IsSameRun w.machine r.record.machine → r.record.machine.outcome ≡ Some r.outcome → r.record.shares ≡ w.shares
+pub data IsFinished (w : Worked) : Option Recorded → Type 0 where
+  finished : (r : Recorded) → IsSameRun w.machine r.record.machine → r.record.machine.outcome ≡ Some r.outcome → r.record.shares ≡ w.shares
       → length r.record.machine.schedule ≡ sum r.record.shares + r.record.own → IsFinished w (Some r)
   not_at_all : (p : Played) → IsSameRun w.machine p → CannotGoOn p → IsFinished w None

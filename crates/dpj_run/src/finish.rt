@@ -1,6 +1,6 @@
-ghost use Rattle.std.specs.Prelude.{◌≡◌, ◌≤◌, None, Some, length, IfOk, IfSome};
-ghost use Rattle.dpj_machine.specs.Keeping.{GreedilyOn};
-ghost use Rattle.dpj_run.specs.Run.{CannotGoOn, IsSameRun};
+ghost use Rattle.std.specs.Prelude.{◌≡◌, None, Some, IfOk, IfSome};
+ghost use Rattle.dpj_machine.specs.Keeping.{GreedilyOn, IsReplayed};
+ghost use Rattle.dpj_run.specs.Run.{CannotGoOn};
 
 use dpj_base::{NoMemory, Outcome, Plain};
 use dpj_machine::{Halted, Machine};
@@ -9,8 +9,7 @@ use std::alloc::Global;
 /// Steps the greatest ready task of a machine until the run has come out, and tells how. None, where it can't go on.
 pub fn finish(alloc: Global, machine: &mut Machine) -> Result<Option<Outcome>, NoMemory>
     ensures greedily { GreedilyOn machine.old machine.new }
-    ensures same { IsSameRun machine.old machine.new }
-    ensures grows { length machine.old.schedule ≤ length machine.new.schedule }
+    ensures replayed { IsReplayed machine.new }
     ensures came { IfOk result (λ outcome. IfSome outcome (λ outcome. machine.new.outcome ≡ Some outcome)) }
     ensures stopped { IfOk result (λ outcome. outcome ≡ None → CannotGoOn machine.new) }
 {

@@ -7,11 +7,13 @@
 //! counts; nothing is known of a program of the language that comes to this, and that none does is open.
 #![tactic(auto)]
 
-mod elide;
+mod eliding;
 mod few;
 mod finish;
 mod open;
-mod run;
+mod recorded;
+mod running;
 
-pub use elide::elide;
-pub use run::{Run, run};
+pub use eliding::elide;
+pub use recorded::Recorded;
+pub use running::run;

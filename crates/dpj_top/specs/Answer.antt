@@ -16,7 +16,7 @@ use Rattle.dpj_code.specs.Plain.{plain_code}
 use Rattle.dpj_gen.specs.Whole.{compiled}
 use Rattle.dpj_listing.specs.Listing.{listing_of}
 use Rattle.dpj_run.specs.Run.{ComesOut, HasNoRun, IsRecordOf}
-use Rattle.dpj_run.specs.declared.run.Run.{Run}
+use Rattle.dpj_run.specs.declared.recorded.Recorded.{Recorded}
 use Rattle.dpj_trace.specs.Trace.{trace_of}
 use Rattle.dpj_front.specs.Front.{IsPassed, IsFault}
 use Rattle.dpj_words.specs.declared.command.Command.{Command}
@@ -98,7 +98,7 @@ told_of job text schedule outcome = told_by job.command job text schedule outcom
 
 -- the run of an accepted program, with its record
 pub data IsRan (job : Job) (text : List ℕ) (place : Place) (typed : PlainProgram) : Answered → Type 0 where
-  came_out : (r : Run) → IsRecordOf typed (limits_of job) job.arg job.workers r
+  came_out : (r : Recorded) → IsRecordOf typed (limits_of job) job.arg job.workers r
       → IsRan job text place typed (record { verdict = told_of job text r.record.machine.schedule r.outcome; recorded = Some r.record })
   not_at_all : HasNoRun typed (limits_of job) job.arg → IsRan job text place typed (only (refused_form place))
 

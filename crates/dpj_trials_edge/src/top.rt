@@ -2,6 +2,7 @@ use dpj_base::NoMemory;
 use dpj_io::{MemSink, MemSource, PlainSink, PlainSource};
 use dpj_top::{MAX_TEXT, dpj};
 use dpj_words::Status;
+use dpj_workers::NoGate;
 use std::alloc::Global;
 use std::test::Fail;
 
@@ -82,7 +83,7 @@ fn texts_are_answered_by_a_report_and_a_status(rt: HostRuntime) -> Result<(), Fa
         let words = words_of(alloc, words)?;
         let mut source = PlainSource::new(Vec::from_slice(alloc, text.as_bytes())?);
         let mut sink = PlainSink::new(alloc, 128)?;
-        let ended = dpj(alloc, words.as_slice(), &mut source, &mut sink);
+        let ended = dpj(&rt, alloc, words.as_slice(), &mut source, &mut sink, &NoGate);
         assert_eq!(rt; sink.held(), report.as_bytes());
         assert_eq!(rt; ended.status, status);
     }
@@ -160,7 +161,7 @@ fn faults_leave_a_first_part_of_the_report(rt: HostRuntime) -> Result<(), Fail> 
             write_piece,
             Vec::from_slice(alloc, failing_writes)?,
         )?;
-        let ended = dpj(alloc, words.as_slice(), &mut source, &mut sink);
+        let ended = dpj(&rt, alloc, words.as_slice(), &mut source, &mut sink, &NoGate);
         assert_eq!(rt; sink.held(), held.as_bytes());
         assert_eq!(rt; ended.status, status);
     }
@@ -179,7 +180,7 @@ fn a_text_may_be_of_the_greatest_length_and_no_longer(rt: HostRuntime) -> Result
         text.resize(length, b' ')?;
         let mut source = PlainSource::new(text);
         let mut sink = PlainSink::new(alloc, 128)?;
-        let ended = dpj(alloc, words.as_slice(), &mut source, &mut sink);
+        let ended = dpj(&rt, alloc, words.as_slice(), &mut source, &mut sink, &NoGate);
         assert_eq!(rt; sink.held(), report.as_bytes());
         assert_eq!(rt; ended.status, status);
     }

@@ -7,7 +7,7 @@ returns-clause-runs c P wt none arg small = c.law_determinism.ensures.runs P arg
 
 pub returns-clause-schedules : goal.returns-clause-schedules
 returns-clause-schedules c =
-    weak_as_elided c.law_runs.ensures.free c.law_schedules.ensures.schedules c.law_elision.ensures.scheduled
+    weak_as_elided c.law_runs.ensures.free c.schedules_agree.ensures c.law_elision.ensures.scheduled
     (λ P arg. (c.law_steps.ensures.keeps P arg).disciplined)
 
 pub returns-clause-cost : goal.returns-clause-cost

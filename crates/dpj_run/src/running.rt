@@ -6,20 +6,14 @@ ghost use Rattle.dpj_run.specs.Run.{IsFinished, IsRun};
 
 use crate::finish::finish;
 use crate::open::open;
-use dpj_base::{Limits, NoMemory, Outcome};
+use crate::recorded::Recorded;
+use dpj_base::{Limits, NoMemory};
 use dpj_history::Record;
 use dpj_typed::Program;
 use dpj_workers::{Gate, Worked, work};
 use std::alloc::Global;
 use std::sync::Wait;
 use std::thread::Threads;
-
-/// A run that has come out.
-#[derive(Drop)]
-pub struct Run {
-    pub record: Record,
-    pub outcome: Outcome,
-}
 
 /// Runs a program on the argument of `main` within limits, by 1 to 64 workers, and what they leave by the caller. None,
 /// where the run can't go on.
@@ -31,7 +25,7 @@ pub fn run<R: Threads + Wait + Sync, G: Gate + Sync>(
     argument: i32,
     workers: u32,
     gate: &G,
-) -> Result<Option<Run>, NoMemory>
+) -> Result<Option<Recorded>, NoMemory>
     requires resolved { Resolved (plain_program program.now) }
     requires main { HasMain (plain_program program.now) }
     requires steps { limits.steps ≤ 20000000 }
@@ -46,7 +40,7 @@ pub fn run<R: Threads + Wait + Sync, G: Gate + Sync>(
 }
 
 /// The run that workers have begun, once it has come out. None, where it can't go on.
-fn finished(alloc: Global, worked: Worked) -> Result<Option<Run>, NoMemory>
+fn finished(alloc: Global, worked: Worked) -> Result<Option<Recorded>, NoMemory>
     requires counted { length worked.machine.schedule ≡ sum worked.shares }
     ensures { IfOk result (IsFinished worked) }
 {
@@ -64,5 +58,5 @@ fn finished(alloc: Global, worked: Worked) -> Result<Option<Run>, NoMemory>
         shares,
         own,
     };
-    Ok(Some(Run { record, outcome }))
+    Ok(Some(Recorded { record, outcome }))
 }
