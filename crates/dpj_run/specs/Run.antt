@@ -56,8 +56,8 @@ pub record IsRecordOf (P : PlainProgram) (L : Limits) (argument : ℤ) (workers 
   pub counted : length r.record.machine.schedule ≡ sum r.record.shares + r.record.own
 
 pub data IsRun (P : PlainProgram) (L : Limits) (argument : ℤ) (workers : ℕ) : Option Recorded → Type 0 where
-  finished : (r : Recorded) → IsRecordOf P L argument workers r → IsRun P L argument workers (Some r)
-  not_at_all : HasNoRun P L argument → IsRun P L argument workers None
+  recorded_so : (r : Recorded) → IsRecordOf P L argument workers r → IsRun P L argument workers (Some r)
+  no_record : HasNoRun P L argument → IsRun P L argument workers None
 
 -- a machine has gone on in the run that it made
 pub record IsSameRun (old new : Played) : Type 0 where
@@ -73,6 +73,6 @@ pub data IsOpened (P : PlainProgram) (L : Limits) (argument : ℤ) : Option Play
 
 -- what workers left is finished by the caller, or can't be
 pub data IsFinished (w : Worked) : Option Recorded → Type 0 where
-  finished : (r : Recorded) → IsSameRun w.machine r.record.machine → r.record.machine.outcome ≡ Some r.outcome → r.record.shares ≡ w.shares
+  finished_so : (r : Recorded) → IsSameRun w.machine r.record.machine → r.record.machine.outcome ≡ Some r.outcome → r.record.shares ≡ w.shares
       → length r.record.machine.schedule ≡ sum r.record.shares + r.record.own → IsFinished w (Some r)
-  not_at_all : (p : Played) → IsSameRun w.machine p → CannotGoOn p → IsFinished w None
+  unfinished_so : (p : Played) → IsSameRun w.machine p → CannotGoOn p → IsFinished w None
