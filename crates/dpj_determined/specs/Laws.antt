@@ -7,9 +7,9 @@ use Rattle.dpj_elided.specs.Laws.{ComesOutAsElided, IsElided}
 use Rattle.dpj_meaning.specs.Actions.{Ending as EndingOf}
 use Rattle.dpj_meaning.specs.Elision.{elided}
 use Rattle.dpj_meaning.specs.Outcomes.{Came as CameIn}
-use Rattle.dpj_moving.specs.Laws.{IsGathered, Weaker}
-use Rattle.dpj_runs.specs.Actions.{Ending, Rule}
-use Rattle.dpj_runs.specs.Blocks.{Legal, with_rule}
+use Rattle.dpj_moving.specs.Laws.{IsGathered}
+use Rattle.dpj_runs.specs.Actions.{Ending}
+use Rattle.dpj_runs.specs.Blocks.{Legal}
 use Rattle.dpj_runs.specs.Order.{Outcome}
 use Rattle.dpj_runs.specs.Runs.{Ended, Run, cells_of, steps_of}
 use Rattle.dpj_runs.specs.Schedules.{Finished, Limits}
@@ -20,10 +20,10 @@ abbrev pub RunsComeOutAsElided : Type 0
 RunsComeOutAsElided = (P : PlainProgram) → WellTyped P → P.uses_nd ≡ false → (arg : ℤ) → FitsSigned w32 arg →
     (L : Limits) (R : Run) (x : Ending) → Legal (stepped P arg) R → Ended R [] x → ComesOutAsElided P arg L R
 
--- so does each finished schedule, limits included, also where the rule of open blocks is read more weakly, or blocks never wait
+-- so does each finished schedule, limits included
 abbrev pub SchedulesComeOutAsElided : Type 0
 SchedulesComeOutAsElided = (P : PlainProgram) → WellTyped P → P.uses_nd ≡ false → (arg : ℤ) → FitsSigned w32 arg →
-    (weak : Rule) → Weaker weak (stepped P arg).rule → (L : Limits) (ks : List ℕ) (o : Outcome) → Finished (with_rule weak (stepped P arg)) L ks o → IsElided P arg L o
+    (L : Limits) (ks : List ℕ) (o : Outcome) → Finished (stepped P arg) L ks o → IsElided P arg L o
 
 -- and where the elision ends within some limits no legal run, ended or not, costs more
 abbrev pub NoRunCostsMore : Type 0

@@ -1,33 +1,21 @@
 //! The laws of whole runs of well-typed programs, each the clause of a function that does nothing but name others.
 
-ghost use Rattle.dpj_runs.specs.Laws.{SchedulesAgree};
 ghost use Rattle.dpj_determined.specs.Laws.{NoRunCostsMore, RunsAreGathered, RunsComeOutAsElided, SchedulesComeOutAsElided};
 
-use dpj_elided::laws::{law_determinism, law_elision, law_names};
+use dpj_elided::laws::{law_determinism, law_names};
 use dpj_moving::laws::law_gathering;
-use dpj_runs::laws;
 use dpj_sound::laws::law_runs;
 use dpj_steps::laws::law_steps;
 
 /// Every legal run of a well-typed program without nd constructs whose root has ended, and every finished schedule, comes out as the
-/// sequential elision, limits included, also where blocks wait by a weaker rule; and none costs more.
+/// sequential elision, limits included; and none costs more.
 pub fn law_well_typed()
     ensures runs { RunsComeOutAsElided }
     ensures schedules { SchedulesComeOutAsElided }
     ensures cost { NoRunCostsMore }
 {
     law_runs();
-    law_steps();
-    schedules_agree();
-    law_elision();
     law_determinism();
-}
-
-/// Where no legal run has unordered conflicts, all finished schedules come out the same.
-fn schedules_agree()
-    ensures { SchedulesAgree }
-{
-    laws::law_determinism();
 }
 
 /// In every legal run of a well-typed program each atomic block's events can stand together at its entry.

@@ -1,10 +1,10 @@
 -- A weaker rule of open blocks allows what a stronger one does.
 use Rattle.std.proofs.Common.{◌≡◌, [], ◌∷◌, refl, ◌∙◌}
 use Rattle.dpj_runs.specs.Actions.{Action, Answer, Begin, Do, End, Enter, Exit, Fork, Join, Look, New, Own, Print, Program, Read, Rest, Rule, Task, Write}
-use Rattle.dpj_runs.specs.Blocks.{Allowed, with_rule}
+use Rattle.dpj_runs.specs.Blocks.{with_rule}
 use Rattle.dpj_runs.specs.Meaning.{Disciplined}
 use Rattle.dpj_runs.specs.Objects.{Path}
-use Rattle.dpj_runs.specs.Runs.{Begun, Event, Faithful, Follows, Right, Run, branch, reply, root}
+use Rattle.dpj_runs.specs.Runs.{Begun, Right, Run, branch, reply, root}
 use Rattle.dpj_runs.specs.Standing.{Admitted, Valid}
 use Rattle.dpj_moving.specs.Laws.{Weaker}
 
@@ -29,28 +29,18 @@ right_rule P rule R p (Begin b) x h = h
 right_rule P rule R p Join x h = h
 right_rule P rule R p (End y) x h = h
 
-follows_rule : (P : Program) (rule : Rule) (R : Run) (e : Event) → Follows P R e → Follows (with_rule rule P) R e
-follows_rule P rule R e f = record { task = f.task; begun = begun_rule P rule f.begun; asks = f.asks; right = right_rule P rule R e.path e.act e.ans f.right }
-
--- blocks aside, the rule doesn't matter
-pub faithful_rule : (P : Program) (rule : Rule) (R : Run) → Faithful P R → Faithful (with_rule rule P) R
-faithful_rule P rule [] l = tt
-faithful_rule P rule (e ∷ R) l = (follows_rule P rule R e l.0, faithful_rule P rule R l.1)
-
--- an event that may come by a stronger rule
-pub allowed_rule : (P : Program) (weak : Rule) → Weaker weak P.rule → (R : Run) (e : Event) → Allowed P R e → Allowed (with_rule weak P) R e
-allowed_rule P weak w R e a = record {
-  follows = follows_rule P weak R e a.follows;
-  enters = λ E k. (let m = a.enters E k in record { clear = λ o B b F block open_so. w F E (m.clear o B b F block open_so) });
-}
-
 pub valid_rule : (P : Program) (weak : Rule) → Weaker weak P.rule → (R : Run) → Valid P R → Valid (with_rule weak P) R
 valid_rule P weak w [] l = tt
 valid_rule P weak w (e ∷ R) l = (admitted l.0, valid_rule P weak w R l.1)
   where
     admitted : Admitted P R e → Admitted (with_rule weak P) R e
     admitted a = record {
-      follows = follows_rule P weak R e a.follows;
+      follows = (let f = a.follows in record {
+        task = f.task;
+        begun = begun_rule P weak f.begun;
+        asks = f.asks;
+        right = right_rule P weak R e.path e.act e.ans f.right;
+      });
       enters = λ E k. (let c = a.enters E k in record { clear = λ s q F h. w F E (c.clear s q F h) });
     }
 

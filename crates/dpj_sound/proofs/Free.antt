@@ -6,7 +6,6 @@ use Rattle.dpj_base.specs.Matching.{put_in}
 use Rattle.dpj_typed.specs.declared.stmt.Forking.TheVariants.{Deterministic}
 use Rattle.dpj_typed.specs.Plain.{PlainProgram}
 use Rattle.dpj_runs.specs.Actions.{Program, Branches, Action, Fork}
-use Rattle.dpj_runs.specs.Blocks.{with_rule}
 use Rattle.dpj_runs.specs.Objects.{Path, Name, Made, Cell}
 use Rattle.dpj_runs.specs.Order.{Unordered, Conflict, read_write, write_read, write_write, Reads, Writes}
 use Rattle.dpj_runs.specs.Runs.{Event, Run, Upto, mine, count, Begun, Faithful}
@@ -15,9 +14,7 @@ use Rattle.dpj_runs.proofs.Mine.{same_of}
 use Rattle.dpj_runs.proofs.Things.{same_some}
 use Rattle.dpj_runs.proofs.Upto.{upto_trans, upto_tail}
 use Rattle.dpj_runs.proofs.Written.{legal_faithful}
-use Rattle.dpj_steps.specs.Interfering.{lets}
 use Rattle.dpj_steps.specs.Steps.{stepped}
-use Rattle.dpj_moving.proofs.Rules.{faithful_rule}
 use Rattle.dpj_base.specs.declared.elems.Elem.TheVariants.{Local}
 use Rattle.dpj_sound.specs.Settings.{local_code}
 use Rattle.dpj_sound.specs.Accesses.{Access, Allowed, LiesIn, InOwnRegion, Bounds, is_guarded}
@@ -201,18 +198,16 @@ module _ (P : PlainProgram) (arg : ℤ) {N : ℕ} {R : Run} (l : Faithful (stepp
   pub clash_met : {X Y : Run} {x y : Event} → Upto (x ∷ X) R → Upto (y ∷ Y) R → (n : Unordered x.path y.path) → (k : Clash X x Y y) → Met (n.u ∷ n.above) (n.v ∷ n.above) (access k.first) (access k.second)
   clash_met hx hy n k = met hx hy n (access k.first) (access k.second) (access_lies k.first) (access_lies k.second) (one_place k.first k.second k.write)
 
--- so no legal run of a program without nd constructs has unordered conflicts, whatever the rule of open blocks is
+-- so no legal run of a program without nd constructs has unordered conflicts
 pub runs_are_free : RunsAreFree
-runs_are_free P wt none arg small rule R l = record { no = λ Y X y x hy hx n c. never Y X y x hy hx n c }
+runs_are_free P wt none arg small R l = record { no = λ Y X y x hy hx n c. never Y X y x hy hx n c }
   where
-    f : Faithful (stepped P arg) R
-    f = faithful_rule (with_rule rule (stepped P arg)) lets R (legal_faithful (with_rule rule (stepped P arg)) R l)
-
     s : Sound P (stepped P arg) (length R) R
-    s = sound P wt arg small (length R) R f (omega arith)
+    s = sound P wt arg small (length R) R (legal_faithful (stepped P arg) R l) (omega arith)
 
     never : (Y X : Run) (y x : Event) → Upto (y ∷ Y) R → Upto (x ∷ X) Y → Unordered x.path y.path → Conflict x y → ⊥
     never Y X y x hy hx n c =
+        let f = legal_faithful (stepped P arg) R l in
         let up = upto_trans hx (upto_tail hy) in
         let k = clash_of P arg f s up hy c in
         let m = clash_met P arg f s up hy n k in

@@ -5,9 +5,9 @@ use Rattle.dpj_typed.specs.declared.stmt.Forking.TheVariants.{Nondeterministic}
 use Rattle.dpj_typed.specs.Plain.{PlainProgram}
 use Rattle.dpj_typed.specs.WellTyped.{WellTyped}
 use Rattle.dpj_moving.specs.Guarded.{ConflictsGuarded}
-use Rattle.dpj_runs.specs.Blocks.{Legal, with_rule}
+use Rattle.dpj_runs.specs.Blocks.{Legal}
 use Rattle.dpj_runs.specs.Laws.{AllFree}
-use Rattle.dpj_runs.specs.Actions.{Branches, Fork, Rule}
+use Rattle.dpj_runs.specs.Actions.{Branches, Fork}
 use Rattle.dpj_runs.specs.Runs.{Event, Run, Upto}
 use Rattle.dpj_runs.specs.Standing.{Outside, standing}
 use Rattle.dpj_steps.specs.Steps.{stepped}
@@ -18,9 +18,9 @@ use Rattle.dpj_sound.specs.Runs.{KeepsTo}
 abbrev pub RunsKeepTo : Type 0
 RunsKeepTo = (P : PlainProgram) (wt : WellTyped P) (arg : ℤ) → FitsSigned w32 arg → (R : Run) → Legal (stepped P arg) R → KeepsTo P (stepped P arg) (main_bounds P wt) R
 
--- no legal run of a program without nd constructs has two unordered events that conflict, whatever the rule of open blocks is
+-- no legal run of a program without nd constructs has two unordered events that conflict
 abbrev pub RunsAreFree : Type 0
-RunsAreFree = (P : PlainProgram) → WellTyped P → P.uses_nd ≡ false → (arg : ℤ) → FitsSigned w32 arg → (rule : Rule) → AllFree (with_rule rule (stepped P arg))
+RunsAreFree = (P : PlainProgram) → WellTyped P → P.uses_nd ≡ false → (arg : ℤ) → FitsSigned w32 arg → AllFree (stepped P arg)
 
 -- and of every program, unordered events that conflict stand inside blocks, and where these are two blocks the rule keeps them apart
 abbrev pub ConflictsAreGuarded : Type 0
