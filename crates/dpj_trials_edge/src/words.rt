@@ -1,7 +1,5 @@
 use dpj_base::{Bytes, Ending, Kind, Outcome, Place, Refusal, Trap};
-use dpj_words::{
-    Command, Job, Key, Mode, Status, Usage, Verdict, read_any, read_words, report, status,
-};
+use dpj_words::{Command, Job, Key, Mode, Status, Usage, Verdict, read_words, report, status};
 use std::alloc::{AllocError, Global};
 use std::process::Abort;
 use std::test::Fail;
@@ -16,7 +14,7 @@ fn split(alloc: Global, line: &str) -> Result<Vec<String>, AllocError> {
 }
 
 fn read_line(alloc: Global, line: &str) -> Result<Option<Job>, AllocError> {
-    Ok(read_any(&split(alloc, line)?).ok())
+    Ok(read_words(&split(alloc, line)?).ok())
 }
 
 // What a job has for a key of numbers.
@@ -116,20 +114,13 @@ fn each_key_of_each_command(rt: HostRuntime) -> Result<(), Fail> {
     Ok(())
 }
 
-const CARRIED_OUT: [Command; 4] = [Command::Check, Command::Run, Command::Elide, Command::List];
-
 #[test]
-fn commands_modes_and_what_is_carried_out(rt: HostRuntime) -> Result<(), Fail> {
+fn commands_and_modes(rt: HostRuntime) -> Result<(), Fail> {
     let alloc = rt.alloc();
     for (name, command, takes) in COMMANDS {
         let job = read_line(alloc, name)?;
         assert!(rt; job.map(|job| job.command) == Some(command), "{name}");
         assert!(rt; job.map(|job| job.mode) == Some(Mode::Steps), "{name}");
-        let words = split(alloc, name)?;
-        assert!(rt;
-            read_words(&words).is_ok() == CARRIED_OUT.contains(&command),
-            "{name}"
-        );
         for (mode, wanted) in [("steps", Mode::Steps), ("rounds", Mode::Rounds)] {
             let line = format!(in alloc; "{name},mode={mode}")?;
             let got = read_line(alloc, line.as_str())?.map(|job| job.mode);
@@ -169,7 +160,6 @@ const NO_JOBS: &str = ";run,;,run;Run;runs;ru;run ;--help;--version;run,--help;r
 fn words_that_give_no_job(rt: HostRuntime) -> Result<(), Fail> {
     for line in NO_JOBS.split(';') {
         let words = split(rt.alloc(), line)?;
-        assert!(rt; read_any(&words).is_err(), "{line}");
         assert!(rt; read_words(&words).is_err(), "{line}");
     }
     assert!(rt; read_words(&[]).is_err());

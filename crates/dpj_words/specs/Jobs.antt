@@ -2,7 +2,7 @@
 use Rattle.std.specs.Prelude.{ℕ, ℤ, pos, ◌≤◌, List, [], ◌∷◌, Option, Some, None, if◌then◌else◌}
 use Rattle.std.specs.List.{list_all}
 use Rattle.std.specs.Option.{option_and_then}
-use Rattle.dpj_words.specs.Words.{command_named, sets_key_of, values_for, number_in, arg_of, mode_of, is_carried_out}
+use Rattle.dpj_words.specs.Words.{command_named, sets_key_of, values_for, number_in, arg_of, mode_of}
 use Rattle.dpj_words.specs.declared.command.Command.{Command}
 use Rattle.dpj_words.specs.declared.key.Key.TheVariants as key
 use Rattle.dpj_words.specs.declared.key.Mode.{Mode}
@@ -54,17 +54,9 @@ abbrev pub settings_job : List (List ℕ) → Command → Option Job
 settings_job words command = if list_all (sets_key_of command) words then fields_job words command else None
 
 -- the job that words give by the tables of commands and keys
-abbrev pub any_job : List (List ℕ) → Option Job
-any_job [] = None
-any_job (first ∷ words) = option_and_then (settings_job words) (command_named first)
-
--- a job that the program carries out
-abbrev pub carried_out : Job → Option Job
-carried_out job = if is_carried_out job.command then Some job else None
-
--- the job that words give
 abbrev pub job : List (List ℕ) → Option Job
-job words = option_and_then carried_out (any_job words)
+job [] = None
+job (first ∷ words) = option_and_then (settings_job words) (command_named first)
 
 -- each number of a job is in the range of its key
 pub record IsInRange (job : Job) : Type 0 where

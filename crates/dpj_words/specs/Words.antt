@@ -1,5 +1,5 @@
 -- The commands, their keys, and what a word gives to a key.
-use Rattle.std.specs.Prelude.{ℕ, ℤ, pos, neg_ℤ, Bool, true, false, ◌&&◌, List, [], ◌∷◌, ◌++◌, length, drop, codes, Option, Some, None, if◌then◌else◌, nat_eq, nat_le, is_some}
+use Rattle.std.specs.Prelude.{ℕ, ℤ, pos, neg_ℤ, Bool, ◌&&◌, List, [], ◌∷◌, ◌++◌, length, drop, codes, Option, Some, None, if◌then◌else◌, nat_eq, nat_le, is_some}
 use Rattle.std.specs.List.{find, filter_map, starts_with, list_any}
 use Rattle.std.specs.Option.{option_map}
 use Rattle.std.specs.Str.{bytes_eq}
@@ -50,17 +50,6 @@ keys_of command.Demo = key.Workers ∷ key.Steps ∷ key.Cells ∷ key.Number �
 keys_of command.Trace = key.Workers ∷ key.Steps ∷ key.Cells ∷ key.Arg ∷ []
 keys_of command.Replay = []
 keys_of command.Effects = []
-
--- whether the program already does what a command asks for
-abbrev pub is_carried_out : Command → Bool
-is_carried_out command.Check = true
-is_carried_out command.Run = true
-is_carried_out command.Elide = true
-is_carried_out command.«List» = true
-is_carried_out command.Demo = false
-is_carried_out command.Trace = false
-is_carried_out command.Replay = false
-is_carried_out command.Effects = false
 
 -- what stands behind a prefix
 abbrev pub behind : List ℕ → List ℕ → Option (List ℕ)

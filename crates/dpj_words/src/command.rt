@@ -35,7 +35,7 @@ const COMMANDS: [Command; 8] = [
 ];
 
 impl Command {
-    ghost use Rattle.dpj_words.specs.Words.{command_name, command_named, keys_of, is_carried_out};
+    ghost use Rattle.dpj_words.specs.Words.{command_name, command_named, keys_of};
 
     /// The word that asks for it.
     pub fn name(self) -> &'static str
@@ -74,15 +74,5 @@ impl Command {
             Command::Demo => &[Key::Workers, Key::Steps, Key::Cells, Key::Number],
             Command::Check | Command::List | Command::Replay | Command::Effects => &[],
         }
-    }
-
-    /// Whether the program already does it; until then it is no job.
-    pub const fn is_carried_out(self) -> bool
-        ensures { result ≡ is_carried_out self }
-    {
-        matches!(
-            self,
-            Command::Check | Command::Run | Command::Elide | Command::List
-        )
     }
 }

@@ -3,7 +3,7 @@ ghost use Rattle.std.specs.Result.{result_ok};
 ghost use Rattle.std.specs.String.{string_bytes};
 ghost use Rattle.std.specs.List.{list_all};
 ghost use Rattle.dpj_words.specs.Words.{sets_key_of};
-ghost use Rattle.dpj_words.specs.Jobs.{job, any_job, fields_job, IsInRange};
+ghost use Rattle.dpj_words.specs.Jobs.{job, fields_job, IsInRange};
 
 use crate::command::Command;
 use crate::key::{Key, Mode};
@@ -43,23 +43,9 @@ impl fmt::Display for Usage {
 
 impl Error for Usage {}
 
-/// The job that words give, of a command that the program carries out; `Usage` exactly where they give none.
+/// The job that words give by the tables of commands and keys; `Usage` exactly where they give none. It takes no memory.
 pub fn read_words(words: &[String]) -> Result<Job, Usage>
     ensures given { result_ok result ≡ job (map string_bytes words.now) }
-    ensures in_range { IfOk result IsInRange }
-{
-    let job = read_any(words)?;
-    if job.command.is_carried_out() {
-        Ok(job)
-    } else {
-        Err(Usage)
-    }
-}
-
-/// The job that words give by the tables, whether or not the program already carries out its command;
-/// `Usage` exactly where they give none.
-pub fn read_any(words: &[String]) -> Result<Job, Usage>
-    ensures given { result_ok result ≡ any_job (map string_bytes words.now) }
     ensures in_range { IfOk result IsInRange }
 {
     let (first, settings) = words.split_first().ok_or(Usage)?;

@@ -17,7 +17,7 @@ mod setting;
 mod verdict;
 
 pub use command::Command;
-pub use job::{Job, Usage, read_any, read_words};
+pub use job::{Job, Usage, read_words};
 pub use key::{Key, Mode};
 pub use laws::law_values;
 pub use reports::{report, status};

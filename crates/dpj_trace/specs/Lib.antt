@@ -1,0 +1,5 @@
+pub mod Pieces
+pub mod Runs
+pub mod Text
+pub mod Reading
+pub mod Listing

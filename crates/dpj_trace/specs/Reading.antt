@@ -1,0 +1,102 @@
+-- Which lines of a trace fit, and what they tell.
+use Rattle.std.specs.Prelude.{◌≡◌, ℕ, suc, ℤ, ◌+◌, ◌*◌, ◌≤◌, ◌<◌, ◌^◌, ◌⊎◌, List, [], ◌++◌, length, drop, replicate, codes, Some, FitsSigned}
+use Rattle.std.specs.Fmt.{decimal}
+use Rattle.std.specs.Int.{w32}
+use Rattle.std.specs.Str.Parse.{digits_value}
+use Rattle.dpj_base.specs.declared.outcome.Limits.{Limits}
+use Rattle.dpj_trace.specs.declared.reading.Trace.{Trace}
+use Rattle.dpj_trace.specs.declared.reading.TraceStop.{TraceStop}
+use Rattle.dpj_trace.specs.declared.reading.TraceStop.TheVariants as stop
+use Rattle.dpj_trace.specs.Pieces.{IsCut, IsNumber}
+use Rattle.dpj_trace.specs.Runs.{last_of}
+use Rattle.dpj_trace.specs.Text.{settings_text, events_text, trace_text}
+
+-- limits that a run may have
+pub record AreLimits (limits : Limits) : Type 0 where
+  pub steps_least : 1 ≤ limits.steps
+  pub steps_most : limits.steps ≤ 20000000
+  pub cells_least : 1 ≤ limits.cells
+  pub cells_most : limits.cells ≤ 16777216
+
+-- what the lines up to here have told
+pub data Told : Type 0 where
+  nothing : Told
+  -- that this is a trace
+  begun : Told
+  settings : ℤ → Limits → Told
+  -- how many events there are to be, and the schedule so far
+  listing : ℤ → Limits → ℕ → List ℕ → Told
+  whole : ℤ → Limits → List ℕ → Told
+
+-- the line of the settings
+pub record IsSettings (text : List ℕ) (arg : ℤ) (limits : Limits) : Type 0 where
+  pub limits_allowed : AreLimits limits
+  pub arg_allowed : FitsSigned w32 arg
+  pub is : text ≡ settings_text arg limits
+
+-- the line that tells how many events there are, at most so many
+pub record IsEvents (text : List ℕ) (most events : ℕ) : Type 0 where
+  pub few : events ≤ most
+  pub is : text ≡ events_text events
+
+-- a line of a task, and how many numbers of it there are, one at least
+pub record TellsRun (text : List ℕ) (task : ℕ) (many : List ℕ) : Type 0 where
+  pub task_allowed : task < 2 ^ 32
+  pub number : IsNumber many
+  pub some : 0 < digits_value 10 many
+  pub is : text ≡ decimal task ++ codes " " ++ many
+
+-- a line by which the schedule goes on, with another task than the last
+pub record IsRun (text before after : List ℕ) : Type 0 where
+  pub task : ℕ
+  pub many : List ℕ
+  pub tells : TellsRun text task many
+  pub other : last_of before ≡ Some task → ⊥
+  pub adds : after ≡ before ++ replicate (digits_value 10 many) task
+
+-- the line behind the schedule, where that has as many events as there are to be
+pub record IsProgram (text : List ℕ) (events : ℕ) (schedule : List ℕ) : Type 0 where
+  pub is : text ≡ codes "program"
+  pub right : length schedule ≡ events
+
+-- a line fits here, and leads there
+abbrev pub Fits : Told → List ℕ → Told → Type 0
+Fits nothing text after = (text ≡ codes "dpj-trace 1") × (after ≡ begun)
+Fits begun text after = (arg : ℤ) × (limits : Limits) × IsSettings text arg limits × (after ≡ settings arg limits)
+Fits (settings arg limits) text after = (events : ℕ) × IsEvents text (2 * limits.steps + 2) events × (after ≡ listing arg limits events [])
+Fits (listing arg limits events schedule) text after =
+    ((longer : List ℕ) × IsRun text schedule longer × (after ≡ listing arg limits events longer))
+    ⊎ (IsProgram text events schedule × (after ≡ whole arg limits schedule))
+Fits (whole arg limits schedule) text after = ⊥
+
+-- the first so many lines fit one after the other, and this is left behind them
+pub data Leads (bytes : List ℕ) : ℕ → Told → List ℕ → Type 0 where
+  start : Leads bytes 0 nothing bytes
+  next : {n : ℕ} {before after : Told} {rest text behind : List ℕ} → Leads bytes n before rest → IsCut 10 rest text behind → Fits before text after
+      → Leads bytes (suc n) after behind
+
+abbrev pub IsUnfinished : Told → Type 0
+IsUnfinished (whole arg limits schedule) = ⊥
+IsUnfinished _ = Unit {0}
+
+-- the lines before this one fit, and don't make a trace; and no line of this number is there, or it doesn't fit
+pub record IsMisfit (bytes : List ℕ) (line : ℕ) : Type 0 where
+  pub before : ℕ
+  pub told : Told
+  pub rest : List ℕ
+  pub number : line ≡ suc before
+  pub leads : Leads bytes before told rest
+  pub unfinished : IsUnfinished told
+  pub unfit : (text behind : List ℕ) (after : Told) → IsCut 10 rest text behind → Fits told text after → ⊥
+
+-- the bytes are the text of a trace, with the program from this place on
+pub record IsTrace (bytes : List ℕ) (trace : Trace) : Type 0 where
+  pub limits : AreLimits trace.limits
+  pub events : length trace.schedule ≤ 2 * trace.limits.steps + 2
+  pub within : trace.from ≤ length bytes
+  pub is : bytes ≡ trace_text trace.arg trace.limits trace.schedule (drop trace.from bytes)
+
+-- why a trace wasn't read
+abbrev pub WhyUnread : List ℕ → TraceStop → Type 0
+WhyUnread bytes (stop.Bad line) = IsMisfit bytes line
+WhyUnread bytes stop.NoMemory = Unit {0}
