@@ -1,4 +1,4 @@
-ghost use Rattle.std.specs.Prelude.{◌≡◌, ◌≤◌, [], IfOk, OnErr, length, sum, vec_len};
+ghost use Rattle.std.specs.Prelude.{◌≡◌, ◌≤◌, [], IfOk, OnOk, OnErr, length, sum, vec_len};
 ghost use Rattle.dpj_machine.specs.Keeping.{IsReplayed};
 ghost use Rattle.dpj_desk.specs.Place.{made_by};
 ghost use Rattle.dpj_desk.specs.Steps.{Raises};
@@ -10,7 +10,7 @@ use crate::step::DeskStep;
 use dpj_base::{Items, NoMemory};
 use dpj_machine::{Halted, Machine};
 use std::alloc::Global;
-use std::sync::ledger::Blank;
+use std::sync::ledger::{Blank, Share};
 use std::sync::{Mutex, Wait};
 
 /// A machine that workers step in turn.
@@ -79,14 +79,30 @@ impl<L: Run> Desk<L> {
         let Desk { locked } = self;
         let (machine, mut book, mut rest) = locked.into_inner().opened();
         book.audit(&mut rest);
-        let mut shares = Items::new(alloc);
-        for seat in seats {
-            let (made, mark) = seat.spent();
-            rest.merge(mark);
-            shares.push(made)?;
-        }
+        let shares = spent(alloc, &mut rest, seats)?;
         book.audit(&mut rest);
         let _ = machine.schedule();
         Ok((machine, shares))
     }
+}
+
+/// What each worker made. The share gets theirs.
+fn spent<L: Run>(
+    alloc: Global,
+    rest: &mut Share<L>,
+    seats: Vec<Seat<L>>,
+) -> Result<Items<u64>, NoMemory>
+    requires { (rest.old.parts ≡ 0) × (rest.old.amount ≡ 0) }
+    ensures len { IfOk result (λ shares. length shares ≡ vec_len seats) }
+    ensures parts { OnOk result (rest.new.parts ≡ vec_len seats) }
+    ensures amount { IfOk result (λ shares. rest.new.amount ≡ sum shares) }
+    ensures made { IfOk result (λ shares. sum shares ≡ made_by seats.items) }
+{
+    let mut shares = Items::new(alloc);
+    for seat in seats {
+        let (made, mark) = seat.spent();
+        rest.merge(mark);
+        shares.push(made)?;
+    }
+    Ok(shares)
 }

@@ -1,6 +1,6 @@
 use Rattle.std.proofs.Common.{◌≡◌, length, sum}
 use Rattle.dpj_desk.specs.Place.{made_by}
-use Rattle.dpj_desk.proofs.desk.Desk.close.Given as goal
+use Rattle.dpj_desk.proofs.desk.spent.Given as goal
 
 abbrev pub invariant-loop-seat : goal.invariant-loop-seat
 invariant-loop-seat g l =
