@@ -1,8 +1,8 @@
 -- Who stands inside an open block: the locks of a machine and the standing of the run's tasks.
-use Rattle.std.proofs.Common.{◌≡◌, ◌≢◌, ◌≤◌, ◌<◌, ◌⊎◌, inl, inr, ⊎_elim, ℕ, zero, suc, ◌+◌, ◌-◌, Bool, true, false, cond, nat_lt, List, [], ◌∷◌, ◌++◌, map, length, refl, sym, ap, ◌∙◌, subst, Option, Some, None, slice_get, arith, length-append}
+use Rattle.std.proofs.Common.{◌≡◌, ◌≢◌, ◌≤◌, ◌<◌, ◌⊎◌, ℕ, zero, suc, ◌+◌, ◌-◌, ℤ, Bool, true, false, cond, nat_lt, List, [], ◌∷◌, map, length, refl, sym, ap, ◌∙◌, subst, Option, Some, None, slice_get, arith, length-append}
 use Rattle.std.proofs.lemmas.Option.{slice_get_within}
-use Rattle.std.proofs.lemmas.Bool.{ltb-true, lt-ltb}
-use Rattle.std.specs.Prelude.{is_some, min}
+use Rattle.std.proofs.lemmas.Bool.{lt-ltb}
+use Rattle.std.specs.Prelude.{is_some}
 use Rattle.std.specs.Cmp.{nat_cmp_total}
 use Rattle.std.specs.FinMap.{get, insert, remove, get-insert, get-remove}
 use Rattle.dpj_base.specs.declared.effect.Effect.{Effect as PathEffect}
@@ -10,33 +10,28 @@ use Rattle.dpj_typed.specs.Plain.{PlainProgram}
 use Rattle.dpj_meaning.specs.Actions.{Effect as EffectOver}
 use Rattle.dpj_meaning.specs.Values.{Part as PartOver}
 use Rattle.dpj_code.specs.Plain.{PlainCode}
-use Rattle.dpj_runs.specs.Actions.{Action, Begin, Do, End, Ending, Enter, Exit, Fork, Program, Rule, Task}
-use Rattle.dpj_runs.specs.Blocks.{Hold, In_block, Out_of, hold, hold_after, own_hold}
+use Rattle.dpj_runs.specs.Actions.{Begin, Ending, Enter, Exit, Rule}
+use Rattle.dpj_runs.specs.Blocks.{In_block, Out_of, hold, hold_after, own_hold}
 use Rattle.dpj_runs.specs.Objects.{Effect, LocalRegion, Part, Path}
-use Rattle.dpj_runs.specs.Runs.{Begun, Ended, Event, Faithful, Run, Upto, count, event_steps, mine, now, total}
-use Rattle.dpj_runs.specs.Schedules.{Numbered}
+use Rattle.dpj_runs.specs.Runs.{Ended, Event, Faithful, Run, Upto, count, event_steps, mine, total}
 use Rattle.dpj_runs.specs.Standing.{Inside, Outside, Standing, above, first_of, joined_by, standing}
-use Rattle.dpj_runs.proofs.Cost.{total_step}
 use Rattle.dpj_runs.proofs.Faithful.{begin_after}
-use Rattle.dpj_runs.proofs.Mine.{Found, found, mine_at, mine_other, mine_same, mine_step}
+use Rattle.dpj_runs.proofs.Mine.{found, mine_at}
 use Rattle.dpj_runs.proofs.Numbers.{begins_step, number_one}
-use Rattle.dpj_runs.proofs.Standing.{Grows, above_same, above_step, first_is, hold_since}
+use Rattle.dpj_runs.proofs.Standing.{above_step, first_is, hold_since}
 use Rattle.dpj_runs.proofs.Upto.{upto_length, upto_tail}
 use Rattle.dpj_locks.specs.Locks.{Standings, deepened, entered, entered_from, exited, exited_from, is_inner, next, opener_of, shallower}
 use Rattle.dpj_locks.specs.declared.standing.Standing.{Standing as Lock}
 use Rattle.dpj_locks.specs.declared.standing.Standing.TheVariants.{Adopted, Opener}
 use Rattle.dpj_tasks.proofs.Numbers.{itself, other_number}
 use Rattle.dpj_tasks.specs.Scope.{Branches as Scope}
-use Rattle.dpj_tasks.specs.Tree.{Tasks}
-use Rattle.dpj_tasks.specs.declared.task.State.TheVariants.{Forked}
-use Rattle.dpj_tasks.specs.declared.task.Origin.{Origin}
 use Rattle.dpj_tasks.specs.declared.task.Task.{Task as Live}
 use Rattle.dpj_world.specs.World.{adopted_by}
 use Rattle.dpj_world.specs.declared.world.World.{World}
 use Rattle.dpj_machine.specs.Wants.{noted}
-use Rattle.dpj_recorded.proofs.Sights.{Sight, Each, each_weaker, EffectLike, EffectsLike, LocalLike, PartLike, a_local, a_name, a_number, any_index, any_parts, made_like, own_index, unmade_like}
+use Rattle.dpj_recorded.proofs.Sights.{Sight, each_weaker, EffectsLike, LocalLike, PartLike, a_local, a_name, a_number, any_index, any_parts, made_like, own_index, unmade_like}
 use Rattle.dpj_recorded.proofs.Asked.{disciplined}
-use Rattle.dpj_recorded.proofs.Ties.{BranchTied, ForkTied, NumbersTied, Q}
+use Rattle.dpj_recorded.proofs.Ties.{ForkTied, NumbersTied, Q}
 use Rattle.dpj_recorded.proofs.Trees.{numbered_later}
 
 abbrev pub EffectsIn : Type 0
@@ -62,7 +57,7 @@ module _ {v w : Sight} (stay : PathsStay v w) where
   pub effects_on : {E : EffectsIn} {F : List Effect} → EffectsLike v E F → EffectsLike w E F
   effects_on h = each_weaker (λ x y e. record { access = e.access; region = each_weaker (λ a b k. part_on k) e.region }) h
 
-get_there : {A : Type 0} (xs : List A) (n : ℕ) → n < length xs → (x : A) × (slice_get xs n ≡ Some x)
+pub get_there : {A : Type 0} (xs : List A) (n : ℕ) → n < length xs → (x : A) × (slice_get xs n ≡ Some x)
 get_there [] n l = absurd (omega (arith, l))
 get_there (x ∷ xs) zero l = (x, refl)
 get_there (x ∷ xs) (suc n) l = get_there xs n (omega (arith, l))
@@ -216,15 +211,17 @@ module _ {v w : Sight} (stay : PathsStay v w) {R S : Run} (more : total event_st
       subst (λ x. StandTied w S p (cond x (Some (Opener (map noted G) (d - 1))) None)) (sym (lt-ltb 1 d (omega (arith, e))))
       (has_opened n (d - 1) G H (sym same ∙ a) (h ∙ ap (λ k. own_hold Exit k) o) (effects_on stay l) (omega (arith, e)) (omega (arith, b, more)))
 
--- a branch of a task that stands so, which has made nothing yet
-pub stand_branch : {w : Sight} {R : Run} {k : ℕ} {q p : Path} {s : Option Lock} → slice_get w.paths k ≡ Some q → above R p ≡ standing R q → hold (mine R p) ≡ Out_of
-    → StandTied w R q s → StandTied w R p (lock_adopted k s)
-stand_branch there up none (stands_out a o) = stands_out (up ∙ ap (λ s. joined_by s _ _) a ∙ ap (λ k. joined_by Outside _ k) o) none
-stand_branch {k = k} {q = q} there up none (has_opened n d E F a o l e b) =
-    was_adopted k 0 q F (up ∙ ap (λ s. joined_by s _ _) a ∙ ap (λ k. joined_by Outside _ k) o) there
-stand_branch there up none (was_adopted o d q F a t) = was_adopted o 0 q F (up ∙ ap (λ s. joined_by s _ _) a) t
+standing_as : (R : Run) (q : Path) (s : Standing) → above R q ≡ s → standing R q ≡ joined_by s q (hold (mine R q))
+standing_as R q s e = ap (λ s. joined_by s q (hold (mine R q))) e
 
-module _ (P : PlainProgram) (arg : _) (rule : Rule) (C : PlainCode) where
+-- a branch of a task that stands so, which has made nothing yet
+module _ {w : Sight} {R : Run} (k : ℕ) {q p : Path} (there : slice_get w.paths k ≡ Some q) (up : above R p ≡ standing R q) (none : hold (mine R p) ≡ Out_of) where
+  pub stand_branch : {s : Option Lock} → StandTied w R q s → StandTied w R p (lock_adopted k s)
+  stand_branch (stands_out a o) = stands_out (up ∙ standing_as R q Outside a ∙ ap (λ h. joined_by Outside q h) o) none
+  stand_branch (has_opened n d E F a o l e b) = was_adopted k 0 q F (up ∙ standing_as R q Outside a ∙ ap (λ h. joined_by Outside q h) o) there
+  stand_branch (was_adopted o d r F a t) = was_adopted o 0 r F (up ∙ standing_as R q (Inside r F) a) t
+
+module _ (P : PlainProgram) (arg : ℤ) (rule : Rule) (C : PlainCode) where
   -- a branch was begun where its parent stands, as long as the fork is open
   pub branch_above : {w : Sight} {R : Run} {q : Path} {z : _} {scope : Scope} → Faithful (Q P arg rule C) R → ForkTied P arg rule C w R q z scope → (u : ℕ × ℕ)
       → suc (u.0 + length scope.ends) ≡ count R q → above R (u ∷ q) ≡ standing R q

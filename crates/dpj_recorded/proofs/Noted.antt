@@ -17,7 +17,7 @@ use Rattle.dpj_runs.proofs.Mine.{test_same, test_other}
 use Rattle.dpj_steps.specs.Interfering as run
 use Rattle.dpj_locks.specs.Locks as locks
 use Rattle.dpj_machine.specs.Wants.{noted, noted_part}
-use Rattle.dpj_recorded.proofs.Sights.{Sight, Each, each_none, each_more, each_append, LocalLike, made_like, unmade_like, EffectLike, EffectsLike, RegionLike, PartLike, a_name, a_number, a_local, own_index, any_index, any_parts}
+use Rattle.dpj_recorded.proofs.Sights.{Sight, each_none, each_more, each_append, LocalLike, made_like, unmade_like, EffectLike, EffectsLike, RegionLike, PartLike, a_name, a_number, a_local, own_index, any_index, any_parts}
 
 -- one task has one number
 abbrev pub OneNumber : Sight → Type 0

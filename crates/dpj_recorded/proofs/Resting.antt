@@ -11,15 +11,13 @@ use Rattle.dpj_meaning.specs.Actions.{Action, Answer, Effect, Read, Write, Look,
 use Rattle.dpj_meaning.specs.Asking.{most_turns}
 use Rattle.dpj_meaning.specs.Counts.{number, reference, value_read, is_out, length_seen, name_made, class_seen, class_entered, operated, slot_value, how_many, part_place, Brought, Back, Trap_of_branch, brought}
 use Rattle.dpj_meaning.specs.Expressions.{none}
-use Rattle.dpj_meaning.specs.Regions.{around, concrete, is_long, some_long}
+use Rattle.dpj_meaning.specs.Regions.{around, concrete, concrete_effect, is_long, some_long}
 use Rattle.dpj_code.specs.declared.instr.Instr.{Instr}
 use Rattle.dpj_code.specs.declared.instr.Instr.TheVariants as i
 use Rattle.dpj_code.specs.Legs.{Halt, Asks, Finished, Dead, legged_turn, legged, leg, Leg}
 use Rattle.dpj_code.specs.Machine.{Level, Start, State, On, Rested, Off, Nowhere, Stand, Goes, Turns, Makes, Waits, Ends, Stuck, step, next, one, two, three, taken, or_trap, cell_read, cell_written, reads, writes, deeper, unless_long, entered, calls_method, enters, calls, called, creates, created, array_of, makes_array, first_value, returned, left_with, forked, spread, joined, joins_fork, joins_spread, joins_site, joins, all_copied, site_of, line_before, ends_branch, in_part, operates, exec, exec_line, enters_block, rested_at, rested_line}
 use Rattle.dpj_code.specs.Plain.{Line, Site, fork_site, spread_site, block_site, call_site, new_site, array_site, PlainCode, body_at, class_at, parent_of, method_at, Method, constructor_of, fields_of}
-use Rattle.dpj_legs.specs.Halts.{stands}
 use Rattle.dpj_legs.specs.Names.{names_of}
-use Rattle.dpj_machine.specs.Running.{front}
 use Rattle.dpj_machine.specs.Wants.{entry_of, entry_by, effects_of, accesses_of, wants_at}
 
 abbrev StandIn : Type 0
@@ -402,3 +400,47 @@ module _ (C : PlainCode) (k : ℕ) where
   pub leg_spent : (made : ℕ) (s : StateIn) (h : Halt ℕ (ℕ × ℕ)) (n m : ℕ) (a : ActionIn) (f : ThenIn) → Leg (names_of k) C made s h
       → h ≡ Asks n m a f → (n == most_turns) ≡ true → (x : Answer ℕ (ℕ × ℕ)) → entry_next C (f x) ≡ None
   leg_spent made s h n m a f l e t x = (subst (λ h. EndsAt C s h) e (ends_leg made s h l)).1 t x
+
+-- a task that has rested in front of an entry makes it next
+module _ (C : PlainCode) (k : ℕ) (g : LevelIn) (fs : List LevelIn) (E : List (Effect (ℕ × ℕ))) where
+  abbrev Makes_entry : StandIn → Type 0
+  Makes_entry o = (f : ThenIn) × (o ≡ Waits (Do (Enter E)) f)
+
+  block_entry : (o : Option Site) → effects_of g (accesses_of o) ≡ Some E → Makes_entry (enters_block (names_of k) o g fs)
+  block_entry None e = absurd (cc)
+  block_entry (Some (fork_site forking js copies)) e = absurd (cc)
+  block_entry (Some (spread_site forking j x)) e = absurd (cc)
+  block_entry (Some (call_site c r formals regions)) e = absurd (cc)
+  block_entry (Some (new_site c n regions)) e = absurd (cc)
+  block_entry (Some (array_site region first)) e = absurd (cc)
+  block_entry (Some (block_site effects)) e =
+      let same : map (concrete_effect (names_of 0) (around g.frame)) effects ≡ E = cc in
+      ((λ a. next g g.stack fs), ap (λ F. Waits (Do (Enter F)) (λ a. next g g.stack fs)) same)
+
+  instr_entry : (x : Instr) → entry_by C g x ≡ Some E → Makes_entry (rested_at (names_of k) C x g fs)
+  instr_entry (i.Enter s) e = block_entry (slice_get C.sites s) e
+  instr_entry x e = absurd (cc)
+
+  line_entry : (o : Option Line) → entry_of C g o ≡ Some E → Makes_entry (rested_line (names_of k) C o g fs)
+  line_entry None e = absurd (cc)
+  line_entry (Some l) e = instr_entry l.instr e
+
+step_entry : (C : PlainCode) (k : ℕ) (z : StateIn) (E : List (Effect (ℕ × ℕ))) → entry_next C z ≡ Some E → (f : ThenIn) × (step (names_of k) C z ≡ Waits (Do (Enter E)) f)
+unfolding step
+step_entry C k (Rested g fs) E e = line_entry C k g fs E (slice_get (body_at C g.body).lines g.at) e
+step_entry C k (On g fs) E e = absurd (cc)
+step_entry C k (Off x) E e = absurd (cc)
+step_entry C k Nowhere E e = absurd (cc)
+
+-- so its leg ends there
+pub leg_rested : (C : PlainCode) (k made : ℕ) (z : StateIn) (h : Halt ℕ (ℕ × ℕ)) (E : List (Effect (ℕ × ℕ))) → entry_next C z ≡ Some E → Leg (names_of k) C made z h
+    → (f : ThenIn) × (h ≡ Asks 0 made (Do (Enter E)) f)
+leg_rested C k made z h E e l = go l.fuel l.runs
+  where
+    go : (fuel : ℕ) → leg (names_of k) C fuel 0 made z ≡ Some h → (f : ThenIn) × (h ≡ Asks 0 made (Do (Enter E)) f)
+    go zero r = absurd (cc)
+    go (suc fuel) r =
+        let s = step_entry C k z E e in
+        let at : legged (names_of k) (λ n m t. leg (names_of k) C fuel n m t) 0 made (Waits (Do (Enter E)) s.0) ≡ Some h =
+        ap (λ o. legged (names_of k) (λ n m t. leg (names_of k) C fuel n m t) 0 made o) (sym s.1) ∙ r in
+        (s.0, (let same : Asks 0 made (Do (Enter E)) s.0 ≡ h = cc in sym same))
