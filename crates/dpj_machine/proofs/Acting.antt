@@ -22,7 +22,8 @@ use Rattle.dpj_tasks.specs.Tree.{ends_in, task_at}
 use Rattle.dpj_world.specs.World.{got, read_at, has_index, wrote_at, seen, fell_or, answer_at, FitsAt}
 use Rattle.dpj_world.specs.declared.world.World.{World}
 use Rattle.dpj_machine.specs.Running.{Running, answered}
-use Rattle.dpj_machine.specs.Replay.{goes_on, with_branch, outcome_after, HasStart, WantsRightly}
+use Rattle.dpj_machine.specs.Replay.{goes_on, with_branch, outcome_after, HasStart}
+use Rattle.dpj_machine.specs.Wants.{WantsRightly}
 
 -- an action that neither begins a branch nor ends its task
 pub record IsOrdinary (a : Action) : Type 0 where
@@ -106,17 +107,18 @@ counted w k wants action.Join f = counted_join (first_trap (ends_in (task_at w.t
 counted w k wants (action.End e) f = tt
 
 -- of a task that doesn't rest nothing is asked that it wants
-pub wants_nothing : (C : PlainCode) (z : State ℕ (ℕ × ℕ)) (a : Action) (wants : Option (List Effect)) → (a ≡ action.Rest → ⊥) → WantsRightly C z a wants
-wants_nothing C z action.Rest wants n = absurd (n refl)
-wants_nothing C z (action.Read m j) wants n = tt
-wants_nothing C z (action.Write m j v) wants n = tt
-wants_nothing C z (action.Look m) wants n = tt
-wants_nothing C z (action.NewObject c rs constructor) wants n = tt
-wants_nothing C z (action.NewArray region len first) wants n = tt
-wants_nothing C z (action.Print bytes) wants n = tt
-wants_nothing C z (action.Enter effects) wants n = tt
-wants_nothing C z action.Exit wants n = tt
-wants_nothing C z (action.Fork forking many) wants n = tt
-wants_nothing C z (action.Begin b) wants n = tt
-wants_nothing C z action.Join wants n = tt
-wants_nothing C z (action.End e) wants n = tt
+pub wants_nothing : (C : PlainCode) (z : State ℕ (ℕ × ℕ)) (turns : ℕ) (a : Action) (wants : Option (List Effect)) → (a ≡ action.Rest → ⊥)
+    → WantsRightly C z turns a wants
+wants_nothing C z turns action.Rest wants n = absurd (n refl)
+wants_nothing C z turns (action.Read m j) wants n = tt
+wants_nothing C z turns (action.Write m j v) wants n = tt
+wants_nothing C z turns (action.Look m) wants n = tt
+wants_nothing C z turns (action.NewObject c rs constructor) wants n = tt
+wants_nothing C z turns (action.NewArray region len first) wants n = tt
+wants_nothing C z turns (action.Print bytes) wants n = tt
+wants_nothing C z turns (action.Enter effects) wants n = tt
+wants_nothing C z turns action.Exit wants n = tt
+wants_nothing C z turns (action.Fork forking many) wants n = tt
+wants_nothing C z turns (action.Begin b) wants n = tt
+wants_nothing C z turns action.Join wants n = tt
+wants_nothing C z turns (action.End e) wants n = tt

@@ -5,6 +5,5 @@ pub mod Tasks
 pub mod Stepping
 pub mod Playing
 pub mod Ends
-pub mod Wanting
 pub mod Begins
 pub mod Opening

@@ -27,6 +27,7 @@ use Rattle.dpj_machine.specs.declared.slot.Slot.{Slot}
 use Rattle.dpj_machine.specs.Running.{Running, front, answered, OfSlot, OnItsWay, StandsWith, StandsForOne, AllStand, IsFirst, at_start, Goes}
 use Rattle.dpj_machine.specs.Replay.{Moment, NextOf, CanBeMade, StartsIn, HasStart, IsStuck, Moves, made, over, after, limited, with_task, with_branch, goes_on, outcome_after, begun}
 use Rattle.dpj_machine.specs.Keeping.{Keeps, HasNext, CanStep, IsAt, Comes, made as made_so, over as over_so, with_answer}
+use Rattle.dpj_machine.specs.Wants.{WantsRightly}
 use Rattle.dpj_machine.proofs.Acting.{IsOrdinary, goes_further, counted}
 use Rattle.dpj_machine.proofs.Tasks.{stand_put, stand_taken, beside, placed}
 
@@ -58,7 +59,7 @@ next_in C r m e s h there at =
           leg = subst (λ f. Leg (names_of e.task) C live.0.made live.0.state f) here (way.way (front_of C s.task) at.stands.halts);
           tells = subst (λ f. Tells C e.action f) here at.stands.tells;
           number = refl;
-          wants = at.wants;
+          wants = subst (λ n. WantsRightly C (state_of s.task) n e.action e.wants) (sym at.turns) at.wants;
         };
       };
       number = way.number;

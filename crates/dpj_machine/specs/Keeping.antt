@@ -20,7 +20,8 @@ use Rattle.dpj_machine.specs.declared.halted.Halted.{Halted}
 use Rattle.dpj_machine.specs.declared.halted.Halted.TheVariants as halted
 use Rattle.dpj_machine.specs.declared.run.Run.{Run}
 use Rattle.dpj_machine.specs.Running.{AllStand, StandsAt}
-use Rattle.dpj_machine.specs.Replay.{Moment, Moves, IsStuck, LeadsTo, WantsRightly, limited}
+use Rattle.dpj_machine.specs.Replay.{Moment, Moves, IsStuck, LeadsTo, limited}
+use Rattle.dpj_machine.specs.Wants.{WantsRightly}
 use Rattle.dpj_machine.specs.declared.slot.Slot.{Slot}
 use Rattle.dpj_machine.specs.Premise.{GoesOn, GoesOnAble}
 
@@ -46,7 +47,7 @@ pub record CanStep (code : Code) (L : Limits) (r : Run) (m : Moment) (k : ℕ) :
 pub record IsAt (C : PlainCode) (e : Event) (s : Slot) : Type 0 where
   pub turns : e.turns ≡ s.task.turns
   pub stands : StandsAt C e.action s
-  pub wants : WantsRightly C (state_of s.task) e.action e.wants
+  pub wants : WantsRightly C (state_of s.task) s.task.turns e.action e.wants
 
 -- a run with other tasks
 abbrev pub with_slots : Run → FinMap nat_cmp Slot → Run

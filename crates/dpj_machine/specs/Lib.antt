@@ -1,4 +1,5 @@
 pub mod Running
+pub mod Wants
 pub mod Replay
 pub mod Premise
 pub mod Keeping

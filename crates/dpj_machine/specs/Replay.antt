@@ -1,73 +1,39 @@
 -- The run that a schedule records: each number is a ready task, which makes its next event.
 use Rattle.std.specs.Prelude.{◌≡◌, ℕ, suc, ◌+◌, ◌≤◌, ◌<◌, ◌⊎◌, ℤ, pos, ◌==◌, if◌then◌else◌, cond, List, [], ◌∷◌, length, map, Option, Some, None, option_map, slice_get}
 use Rattle.std.specs.FinMap.{get}
-use Rattle.dpj_base.specs.declared.effect.Effect.{Effect}
 use Rattle.dpj_base.specs.declared.outcome.Ending.{Ending as Came}
 use Rattle.dpj_base.specs.declared.outcome.Ending.TheVariants as came
 use Rattle.dpj_base.specs.declared.outcome.Limits.{Limits}
 use Rattle.dpj_base.specs.declared.outcome.Outcome.{Outcome}
 use Rattle.dpj_base.specs.declared.value.Value.{Value}
 use Rattle.dpj_base.specs.declared.value.Value.TheVariants as value
-use Rattle.dpj_meaning.specs.Actions.{Effect as EffectOf}
-use Rattle.dpj_meaning.specs.Regions.{around, concrete_effect}
 use Rattle.dpj_code.specs.declared.code.Code.{Code}
-use Rattle.dpj_code.specs.declared.instr.Instr.{Instr}
-use Rattle.dpj_code.specs.declared.instr.Instr.TheVariants as i
 use Rattle.dpj_code.specs.Legs.{Halt, Leg}
-use Rattle.dpj_code.specs.Machine.{Level, State, On, Rested, Off, Nowhere, Start, root_start}
-use Rattle.dpj_code.specs.Plain.{Line, Site, block_site, fork_site, spread_site, call_site, new_site, array_site, PlainCode, plain_code, body_at}
+use Rattle.dpj_code.specs.Machine.{State, Start, root_start}
+use Rattle.dpj_code.specs.Plain.{PlainCode, plain_code}
 use Rattle.dpj_heap.specs.Heap.{instance, with_object}
 use Rattle.dpj_legs.specs.Branches.{starts_at}
 use Rattle.dpj_legs.specs.Halts.{Tells}
-use Rattle.dpj_legs.specs.Names.{names_of, plain_effect}
+use Rattle.dpj_legs.specs.Names.{names_of}
 use Rattle.dpj_legs.specs.declared.action.Action.{Action}
 use Rattle.dpj_legs.specs.declared.action.Action.TheVariants as action
 use Rattle.dpj_legs.specs.declared.action.Answer.{Answer}
 use Rattle.dpj_legs.specs.declared.action.Ending.{Ending}
 use Rattle.dpj_legs.specs.declared.action.Ending.TheVariants as ending
-use Rattle.dpj_locks.specs.Locks.{AllRoot}
 use Rattle.dpj_tasks.specs.Tree.{task_at, out_of}
 use Rattle.dpj_world.specs.Costs.{Within, first_fields}
 use Rattle.dpj_world.specs.Ready.{IsReady}
-use Rattle.dpj_world.specs.Waits.{wanted}
 use Rattle.dpj_world.specs.World.{at_start as world_at_start, with_heap, answer_to, world_after, Fits}
 use Rattle.dpj_world.specs.declared.event.Event.{Event}
 use Rattle.dpj_world.specs.declared.world.World.{World}
 use Rattle.dpj_machine.specs.Running.{Running, at_start, front, answered}
+use Rattle.dpj_machine.specs.Wants.{WantsRightly}
 
 -- a moment of a run: the world that its tasks share, the live tasks, and how it came out, once it has
 pub record Moment : Type 0 where
   pub world : World
   pub tasks : ℕ → Option Running
   pub outcome : Option Outcome
-
--- the effects of an entry in the frame of a level, and by its site
-abbrev pub effects_of : Level ℕ (ℕ × ℕ) → Option (List Effect) → Option (List (EffectOf (ℕ × ℕ)))
-effects_of g accesses = option_map (map (concrete_effect (names_of 0) (around g.frame))) accesses
-
-abbrev pub accesses_of : Option Site → Option (List Effect)
-accesses_of (Some (block_site accesses)) = Some accesses
-accesses_of site = None
-
-abbrev pub entry_by : PlainCode → Level ℕ (ℕ × ℕ) → Instr → Option (List (EffectOf (ℕ × ℕ)))
-entry_by C g (i.Enter s) = effects_of g (accesses_of (slice_get C.sites s))
-entry_by C g x = None
-
-abbrev pub entry_of : PlainCode → Level ℕ (ℕ × ℕ) → Option Line → Option (List (EffectOf (ℕ × ℕ)))
-entry_of C g None = None
-entry_of C g (Some l) = entry_by C g l.instr
-
--- the effects with which a task is to enter that rests here, if this is in front of an entry
-abbrev pub wants_at : PlainCode → State ℕ (ℕ × ℕ) → Option (List (EffectOf (ℕ × ℕ)))
-wants_at C (On g fs) = entry_of C g (slice_get (body_at C g.body).lines g.at)
-wants_at C (Rested g fs) = None
-wants_at C (Off e) = None
-wants_at C Nowhere = None
-
--- a task that rests in front of an entry wants its effects, and else nothing is wanted
-abbrev pub WantsRightly : PlainCode → State ℕ (ℕ × ℕ) → Action → Option (List Effect) → Type 0
-WantsRightly C z action.Rest wants = (option_map (map plain_effect) wants ≡ wants_at C z) × AllRoot (wanted wants)
-WantsRightly C z a wants = Unit {0}
 
 -- a task of a run stands here, at an action
 pub record Standing (C : PlainCode) (k : ℕ) (t : Running) (e : Event) : Type 0 where
@@ -76,7 +42,7 @@ pub record Standing (C : PlainCode) (k : ℕ) (t : Running) (e : Event) : Type 0
   pub leg : Leg (names_of k) C t.made t.state (front C k e.turns made state)
   pub tells : Tells C e.action (front C k e.turns made state)
   pub number : e.task ≡ k
-  pub wants : WantsRightly C state e.action e.wants
+  pub wants : WantsRightly C state e.turns e.action e.wants
 
 -- tasks with one in the place of what was there
 abbrev pub with_task : (ℕ → Option Running) → ℕ → Option Running → ℕ → Option Running

@@ -8,7 +8,8 @@ ghost use Rattle.dpj_tasks.specs.Tree.{task_at, out_of};
 ghost use Rattle.dpj_world.specs.World.{Fits, answer_to, world_after};
 ghost use Rattle.dpj_machine.specs.declared.slot.Slot.{Slot};
 ghost use Rattle.dpj_machine.specs.Keeping.{Keeps, HasNext, CanStep, IsAt, WhyHalted, Recorded, Comes, with_answer, with_slots};
-ghost use Rattle.dpj_machine.specs.Replay.{Moment, Moves, WantsRightly, outcome_after, came_to};
+ghost use Rattle.dpj_machine.specs.Replay.{Moment, Moves, outcome_after, came_to};
+ghost use Rattle.dpj_machine.specs.Wants.{WantsRightly};
 ghost use Rattle.dpj_machine.specs.Running.{OfSlot, IsFirst};
 
 use crate::halted::Halted;
@@ -293,7 +294,7 @@ fn event_of(
     ensures task { IfOk result (λ event. event.task ≡ number) }
     ensures turns { IfOk result (λ event. event.turns ≡ task.now.turns) }
     ensures action { IfOk result (λ event. event.action ≡ action) }
-    ensures wants { IfOk result (λ event. WantsRightly (plain_code code.now) (state_of task.now) action event.wants) }
+    ensures wants { IfOk result (λ event. WantsRightly (plain_code code.now) (state_of task.now) task.now.turns action event.wants) }
 {
     let wants = wants_at(alloc, code, task, &action)?;
     Ok(Event {

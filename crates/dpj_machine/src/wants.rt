@@ -1,15 +1,14 @@
-ghost use Rattle.std.specs.Prelude.{◌≡◌, ℕ, IfOk, option_map, map, slice_get};
+ghost use Rattle.std.specs.Prelude.{◌≡◌, ◌==◌, ℕ, IfOk, option_map, map, slice_get};
 ghost use Rattle.std.specs.Option.{option_copied};
-ghost use Rattle.dpj_locks.specs.Locks.{AllRoot};
-ghost use Rattle.dpj_legs.specs.Names.{names_of, plain_effect};
+ghost use Rattle.dpj_legs.specs.Names.{names_of, plain_effect, plain_part};
 ghost use Rattle.dpj_legs.specs.Tasks.{plain_frame, state_of};
 ghost use Rattle.dpj_code.specs.Machine.{Level};
 ghost use Rattle.dpj_code.specs.Plain.{plain_code, body_at};
+ghost use Rattle.dpj_meaning.specs.Asking.{most_turns};
 ghost use Rattle.dpj_meaning.specs.Regions.{around, concrete_effect};
-ghost use Rattle.dpj_world.specs.Waits.{wanted};
-ghost use Rattle.dpj_machine.specs.Replay.{WantsRightly, wants_at, effects_of, entry_of, entry_by};
+ghost use Rattle.dpj_machine.specs.Wants.{WantsRightly, wants_at, wanted_after, effects_of, entry_of, entry_by, noted, noted_part};
 
-use dpj_base::{Effect, Head, Items, NoMemory};
+use dpj_base::{Effect, Elem, Elems, Head, Index, Items, NoMemory, Rpl};
 use dpj_code::{Code, Instr, Site};
 use dpj_legs::{Action, Frame, Standing, Task, concrete_effect, line};
 use std::alloc::Global;
@@ -44,7 +43,7 @@ pub fn wants_at(
     task: &Task,
     action: &Action,
 ) -> Result<Option<Items<Effect>>, NoMemory>
-    ensures { IfOk result (λ wants. WantsRightly (plain_code code.now) (state_of task.now) action.now wants) }
+    ensures { IfOk result (λ wants. WantsRightly (plain_code code.now) (state_of task.now) task.now.turns action.now wants) }
 {
     match action {
         Action::Rest => wants_of(alloc, code, task),
@@ -52,11 +51,13 @@ pub fn wants_at(
     }
 }
 
-/// The effects of the entry in front of which a task stands, if it does.
+/// The effects of the entry in front of which a task stands, if it does and hasn't made its last turn without an event.
 fn wants_of(alloc: Global, code: &Code, task: &Task) -> Result<Option<Items<Effect>>, NoMemory>
-    ensures roots { IfOk result (λ wants. AllRoot (wanted wants)) }
-    ensures wants { IfOk result (λ wants. option_map (map plain_effect) wants ≡ wants_at (plain_code code.now) (state_of task.now)) }
+    ensures { IfOk result (λ wants. wants ≡ option_map (map noted) (wanted_after (plain_code code.now) task.now.turns (state_of task.now))) }
 {
+    if is_spent(task) {
+        return Ok(None);
+    }
     let Standing::At = task.standing else {
         return Ok(None);
     };
@@ -67,29 +68,54 @@ fn wants_of(alloc: Global, code: &Code, task: &Task) -> Result<Option<Items<Effe
     Ok(Some(effects_of(alloc, &level.frame, accesses)?))
 }
 
-/// The effects of accesses in a frame, with paths from the root.
+/// Whether a task has made all turns that it may make without an event.
+fn is_spent(task: &Task) -> bool
+    ensures { result ≡ (task.now.turns == most_turns) }
+{
+    task.turns == 4096
+}
+
+/// The effects of accesses in a frame, as they are noted.
 fn effects_of(
     alloc: Global,
     frame: &Frame,
     accesses: &Items<Effect>,
 ) -> Result<Items<Effect>, NoMemory>
-    ensures roots { IfOk result AllRoot }
-    ensures effects { IfOk result (λ effects. map plain_effect effects ≡ map (concrete_effect (names_of 0) (around (plain_frame frame.now))) accesses.now) }
+    ensures { IfOk result (λ effects. effects ≡ map noted (map (concrete_effect (names_of 0) (around (plain_frame frame.now))) accesses.now)) }
 {
     let mut effects = Items::new(alloc);
     for access in accesses.as_slice() {
         let effect = concrete_effect(alloc, frame, access)?;
-        effects.push(rooted(effect))?;
+        effects.push(noted(alloc, &effect)?)?;
     }
     Ok(effects)
 }
 
-/// The same effect, with its path from the root.
-fn rooted(effect: Effect) -> Effect
-    ensures root { result.rpl.head ≡ Head.Root }
-    ensures same { plain_effect result ≡ plain_effect effect }
+/// An effect as it is noted: its path begins at the root, and each index is a whole number.
+fn noted(alloc: Global, effect: &Effect) -> Result<Effect, NoMemory>
+    ensures { IfOk result (λ e. e ≡ noted (plain_effect effect.now)) }
 {
-    let mut effect = effect;
-    effect.rpl.head = Head::Root;
-    effect
+    let mut elems = Elems::new(alloc);
+    for elem in effect.rpl.elems.as_slice() {
+        elems.push(noted_elem(*elem))?;
+    }
+    Ok(Effect {
+        access: effect.access,
+        atomic: false,
+        rpl: Rpl {
+            head: Head::Root,
+            elems,
+        },
+    })
+}
+
+/// An element of a noted path. No variable stands in a region of a run, and nothing is known of one but that it is an index.
+fn noted_elem(elem: Elem) -> Elem
+    ensures { result ≡ noted_part (plain_part elem) }
+{
+    match elem {
+        Elem::At(Index::Variable(_) | Index::Renamed(_)) => Elem::Any,
+        Elem::At(Index::Own(_)) => Elem::At(Index::Own(0)),
+        _ => elem,
+    }
 }

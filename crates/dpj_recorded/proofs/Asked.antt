@@ -205,7 +205,7 @@ module _ (P : PlainProgram) (arg : ℤ) (rule : Rule) (C : PlainCode) where
         (disciplined.joins q t (answers (mine F.before q)) (answers F.since ++ F.fork.ans ∷ []) F.tasks forked_so
         (let n = since_many in let m = F.many in let b = F.within in omega (arith, l, m, n, b)))
 
-  asks_one : (R : Run) (q : Path) (t : Task) {a b : Action} (n : ℕ) → Asks (Q P arg rule C) q t (answers (mine R q)) a
+  pub asks_one : (R : Run) (q : Path) (t : Task) {a b : Action} (n : ℕ) → Asks (Q P arg rule C) q t (answers (mine R q)) a
       → (Q P arg rule C).meaning q t (answers (mine R q)) ≡ Next n b → a ≡ b
   asks_one R q t {a} {b} n h e = (next_same h.0 n a b (sym h.1 ∙ e)).1
 

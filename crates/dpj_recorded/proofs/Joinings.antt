@@ -121,7 +121,7 @@ all_there (None ∷ es) n all e = (let no : IsTrue false = all in cc)
 all_there (Some x ∷ es) zero all e = (let same : Some x ≡ None = cc in cc)
 all_there (Some x ∷ es) (suc n) all e = all_there es n all e
 
-not_less : (a b : ℕ) → IsTrue (not (nat_lt a b)) → b ≤ a
+pub not_less : (a b : ℕ) → IsTrue (not (nat_lt a b)) → b ≤ a
 not_less a b h = ⊎_elim (λ l. absurd (let t = lt-ltb a b l in cc)) (λ l. l) (cases_lt a b)
 
 module _ (code : Code) (P : PlainProgram) (arg : ℤ) (rule : Rule) (L : Limits) (right : RightFor (plain_code code) P) (FJ : ForksAreJoined (plain_code code)) where

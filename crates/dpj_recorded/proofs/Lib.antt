@@ -16,6 +16,14 @@ pub mod Joinings
 pub mod Endings
 pub mod Begins
 pub mod Starting
+pub mod Resting
+pub mod Waiting
+pub mod Noted
+pub mod Inside
+pub mod Blocks
+pub mod Branching
+pub mod Lives
+pub mod Ready
 pub mod Recorded
 pub mod Segments
 pub mod Sorted

@@ -1,57 +1,57 @@
 -- Wherever a schedule leads a machine on compiled code, it records a run of the source.
-use Rattle.std.proofs.Common.{◌≡◌, ◌≤◌, inl, inr, ℕ, zero, suc, ◌+◌, ◌==◌, if◌then◌else◌, ℤ, pos, negsuc, Bool, true, false, cond, nat_lt, List, [], ◌∷◌, length, refl, sym, ap, ◌∙◌, subst, Option, Some, None, arith}
+use Rattle.std.proofs.Common.{◌≡◌, ◌≤◌, inl, inr, ℕ, zero, suc, ◌+◌, ◌==◌, if◌then◌else◌, ℤ, pos, negsuc, Bool, true, false, cond, nat_lt, List, [], ◌∷◌, length, refl, sym, ap, ◌∙◌, subst, Option, Some, None, slice_get, arith}
 use Rattle.std.proofs.lemmas.Bool.Decides.{eqb_tells}
+use Rattle.std.proofs.lemmas.Option.{slice_get_within}
+use Rattle.std.specs.FinMap.{empty, get, get-empty}
+use Rattle.std.specs.Ordering.{nat_cmp}
 use Rattle.std.specs.Prelude.{replicate}
 use Rattle.dpj_base.specs.declared.effect.Effect.{Effect as PathEffect}
 use Rattle.dpj_base.specs.declared.outcome.Limits.{Limits as DeclaredLimits}
 use Rattle.dpj_base.specs.declared.outcome.Outcome.{Outcome as DeclaredOutcome}
 use Rattle.dpj_typed.specs.Plain.{PlainProgram}
-use Rattle.dpj_meaning.specs.Actions.{Answer as AnswerOver, Effect as EffectOver}
-use Rattle.dpj_code.specs.Legs.{Asks as AsksAt, Halt, said}
-use Rattle.dpj_code.specs.Machine.{State, Waits}
 use Rattle.dpj_code.specs.Plain.{PlainCode, plain_code}
 use Rattle.dpj_code.specs.declared.code.Code.{Code}
 use Rattle.dpj_gen.proofs.Legs.{legs_are_right}
-use Rattle.dpj_gen.specs.Compiled.{SameReply}
 use Rattle.dpj_gen.specs.Resolved.{Resolved}
 use Rattle.dpj_gen.specs.Whole.{compiled}
-use Rattle.dpj_runs.specs.Actions.{Do, Ending, Enter, Next, Program, Rule}
-use Rattle.dpj_runs.specs.Blocks.{MayEnter}
-use Rattle.dpj_runs.specs.Objects.{Effect, Path, size}
+use Rattle.dpj_runs.specs.Actions.{Ending, Program, Rule}
+use Rattle.dpj_runs.specs.Blocks.{hold}
+use Rattle.dpj_runs.specs.Objects.{Path, size}
 use Rattle.dpj_runs.specs.Order.{Comes, Limited, Outcome, ending_of, printed, trapped}
-use Rattle.dpj_runs.specs.Runs.{Begun, Event, Follows, Run, answers, cells_of, entry_step, event_cells, event_steps, mine, now, steps_of}
+use Rattle.dpj_runs.specs.Runs.{Event, Follows, Run, cells_of, entry_step, event_cells, event_steps, mine, now, steps_of}
 use Rattle.dpj_runs.specs.Schedules.{Numbered, Ran, Ready, Within, branch_is, ended, no_room, over, root_is}
 use Rattle.dpj_runs.proofs.Cost.{total_nil}
-use Rattle.dpj_runs.proofs.Faithful.{agree_self, same_task}
+use Rattle.dpj_runs.specs.Standing.{Outside, above, first_of, joined_by}
 use Rattle.dpj_runs.proofs.Mine.{mine_nil}
+use Rattle.dpj_runs.proofs.Standing.{above_nil, above_step}
+use Rattle.dpj_runs.proofs.Written.{allowed_from}
 use Rattle.dpj_steps.specs.Interfering.{lets}
-use Rattle.dpj_steps.specs.Steps.{named_by}
+use Rattle.dpj_steps.specs.Steps.{named_by, stepped}
 use Rattle.dpj_going.specs.Going.{HasMain}
-use Rattle.dpj_heap.specs.Heap.{object_at, values_of}
+use Rattle.dpj_heap.specs.Heap.{instance, object_at, values_of, with_object}
 use Rattle.dpj_heap.specs.Heap.{written as contents_written}
 use Rattle.dpj_legs.specs.declared.action.Action.{Action as DeclaredAction}
 use Rattle.dpj_legs.specs.declared.action.Action.TheVariants as action
 use Rattle.dpj_legs.specs.declared.action.Ending.{Ending as DeclaredEnding}
-use Rattle.dpj_tasks.specs.Tree.{out_of, task_at}
+use Rattle.dpj_tasks.proofs.Numbers.{get_inserted}
+use Rattle.dpj_tasks.specs.Tree.{fresh, only_root, out_of, task_at}
+use Rattle.dpj_tasks.specs.declared.task.Task.{Task as Live}
 use Rattle.dpj_world.specs.Costs.{first_fields}
 use Rattle.dpj_world.specs.Costs.{Within as MachineWithin, cells_of as machine_cells, steps_of as machine_steps}
-use Rattle.dpj_world.specs.World.{world_after, written_at}
+use Rattle.dpj_world.specs.World.{at_start as world_at_start, with_heap, world_after, written_at}
 use Rattle.dpj_world.specs.declared.event.Event.{Event as DeclaredEvent}
 use Rattle.dpj_world.specs.declared.world.World.{World}
-use Rattle.dpj_machine.specs.Replay.{Moment, NextOf, CanBeMade, Moves, Opens, LeadsTo, after, came_to, limited, number_given, opened, outcome_after}
+use Rattle.dpj_machine.specs.Replay.{Moment, NextOf, CanBeMade, Opens, LeadsTo, after, came_to, limited, number_given, opened, outcome_after}
 use Rattle.dpj_machine.specs.Replay.{made as made_so, over as over_so, no_room as no_room_so}
-use Rattle.dpj_recorded.specs.Laws.{AllRecord, BlocksAgree, HasNoBlocks, MachinesRecord, Records, RecordsRuns, lets_all, limits, told, told_ending}
-use Rattle.dpj_recorded.proofs.Sights.{Sight, HaltLike, asks_like, finished_like, dead_like, ActionLike, do_like, fork_like, begin_like, join_like, end_like, rest_like, read_like, write_like, look_like, new_like, print_like, enter_like, exit_like}
+use Rattle.dpj_recorded.specs.Laws.{AllRecord, MachinesRecord, Records, limits, told, told_ending}
+use Rattle.dpj_recorded.proofs.Sights.{Sight}
 use Rattle.dpj_recorded.proofs.Joins.{ForksAreJoined, forks_are_joined}
-use Rattle.dpj_recorded.proofs.Legs.{HaltOf}
-use Rattle.dpj_recorded.proofs.Forking.{Kept, step_keeps}
-use Rattle.dpj_recorded.proofs.Wrapping.{first_numbers, next_numbers}
 use Rattle.dpj_recorded.proofs.Ties.{Q, Tied}
-use Rattle.dpj_recorded.proofs.Asked.{ActionIn, ActionOf, disciplined}
-use Rattle.dpj_recorded.proofs.Trees.{entered_next, path_one}
-use Rattle.dpj_recorded.proofs.Acting.{RightFor, event_of, Stepped, live, here}
+use Rattle.dpj_recorded.proofs.Asked.{disciplined}
+use Rattle.dpj_recorded.proofs.Trees.{entered_next}
+use Rattle.dpj_recorded.proofs.Acting.{RightFor, event_of, Stepped}
 use Rattle.dpj_recorded.proofs.Owns.{FieldsFor, rests, reads_cell, writes_cell, looks_at, makes_object, makes_array, prints, enters, exits}
-use Rattle.dpj_recorded.proofs.Forks.{front_step, forks_next}
+use Rattle.dpj_recorded.proofs.Forks.{forks_next}
 use Rattle.dpj_recorded.proofs.Begins.{begins_branch}
 use Rattle.dpj_recorded.proofs.Joinings.{joins_next}
 use Rattle.dpj_recorded.proofs.Endings.{EndTold, end_told, ends_next}
@@ -71,6 +71,9 @@ use Rattle.dpj_legs.specs.Names.{plain_value}
 use Rattle.dpj_legs.specs.declared.action.Ending.TheVariants as ending
 use Rattle.dpj_world.specs.World.{trap_in as machine_trap}
 use Rattle.dpj_elided.proofs.Worlds.{Names, ValueLike, int_like, boolean_like, null_like, object_like, EndingLike, returned_like, assigned_like, trapped_like}
+use Rattle.dpj_recorded.proofs.Blocks.{blocks_next, entry_allowed}
+use Rattle.dpj_recorded.proofs.Inside.{BlocksTied, StandTied, stands_out}
+use Rattle.dpj_recorded.proofs.Waiting.{all_noted}
 use Rattle.dpj_recorded.proofs.Starting.{fields_for, first_tied, first_sight, main_size}
 
 replicated : {A : Type 0} (n : ℕ) (x : A) → length (replicate n x) ≡ n
@@ -161,7 +164,15 @@ came_like (ending.Assigned ls) x (assigned_like l) (Some f) e = absurd (let both
 came_like (ending.Trapped t p) x (trapped_like t' p') None e = refl
 came_like (ending.Trapped t p) x (trapped_like t' p') (Some f) e = (let both : Some (t, p) ≡ Some f = e in let a : (t, p) ≡ f = cc in ap (λ (g : Trap × Place). came.Trapped g.0 g.1) a)
 
-module _ (code : Code) (P : PlainProgram) (arg : ℤ) (rule : Rule) (L : DeclaredLimits) (right : RightFor (plain_code code) P) (fields : FieldsFor code)
+first_none : (n : ℕ) → first_of n [] ≡ []
+unfolding first_of
+first_none n = refl
+
+-- a program's own rule of open blocks
+abbrev rule : Rule
+rule = lets
+
+module _ (code : Code) (P : PlainProgram) (arg : ℤ) (L : DeclaredLimits) (right : RightFor (plain_code code) P) (fields : FieldsFor code)
     (FJ : ForksAreJoined (plain_code code)) where
   abbrev C : PlainCode
   C = plain_code code
@@ -215,112 +226,76 @@ module _ (code : Code) (P : PlainProgram) (arg : ℤ) (rule : Rule) (L : Declare
       costs : Charged code m.world n.world d.turns d.action
       costs = subst (λ (u : World). Charged code m.world u d.turns d.action) (sym is) (charged code m.world d.task d.turns d.wants d.action)
 
-  -- an entry is made by the site of a block
-  entry_halt : {w : Sight} {h : Halt ℕ (ℕ × ℕ)} {g : HaltOf} → HaltLike w h g → (n : ℕ) (E : List Effect) → said g ≡ Next n (Do (Enter E))
-      → (turns made : ℕ) × (F : List (EffectOver (ℕ × ℕ))) × (f : AnswerOver ℕ (ℕ × ℕ) → State ℕ (ℕ × ℕ)) × (h ≡ AsksAt turns made (Do (Enter F)) f)
-  entry_halt {w} (asks_like turns made {a = a} {b = b} {f = f} l on) n E e = (turns, made, F.0, f, ap (λ z. AsksAt turns made z f) F.1)
-    where
-      entry : {a : ActionIn} {b : ActionOf} → ActionLike w a b → b ≡ Do (Enter E) → (F : List (EffectOver (ℕ × ℕ))) × (a ≡ Do (Enter F))
-      entry (do_like rest_like) i = absurd (cc)
-      entry (do_like (read_like n x i h)) j = absurd (cc)
-      entry (do_like (write_like n x i h v)) j = absurd (cc)
-      entry (do_like (look_like n x h)) i = absurd (cc)
-      entry (do_like (new_like c t)) i = absurd (cc)
-      entry (do_like (print_like bytes)) i = absurd (cc)
-      entry (do_like (enter_like {E = F} h)) i = (F, refl)
-      entry (do_like exit_like) i = absurd (cc)
-      entry (fork_like kind h) i = absurd (cc)
-      entry (begin_like b) i = absurd (cc)
-      entry join_like i = absurd (cc)
-      entry (end_like h) i = absurd (cc)
-
-      F : (F : List (EffectOver (ℕ × ℕ))) × (a ≡ Do (Enter F))
-      F = entry l (let same : b ≡ Do (Enter E) = cc in same)
-  entry_halt (finished_like turns l) n E e = absurd (cc)
-  entry_halt dead_like n E e = absurd (cc)
-
   -- a run up to a moment
   pub record Led (ks : List ℕ) (m : Moment) : Type 0 where
     pub run : Run
     pub sight : Sight
     pub ran : Ran QR (limits L) ks run
     pub tied : Tied P arg rule C L m sight run
+    pub blocks : BlocksTied sight run m.world
     pub short : m.world.steps ≤ 20000001
-
-  no_entry : HasNoBlocks C → {m n n' : Moment} {w : Sight} {R : Run} {k : ℕ} (T : Tied P arg rule C L m w R) → Moves code L m k n → (S : Next_of w R k n') (E : List Effect)
-      → S.event.act ≡ Do (Enter E) → ⊥
-  no_entry none {m} {n} {n'} {w} {R} {k} T moves S E act = by_move moves
-    where
-      at_event : (e : DeclaredEvent) (x : NextOf C m k e) → e.task ≡ k → ⊥
-      at_event e x same = subst (λ j. (y : NextOf C m j e) (S : Next_of w R j n') → S.event.act ≡ Do (Enter E) → ⊥) same (λ y S act. go y S act) x S act
-        where
-          go : (y : NextOf C m e.task e) (S : Next_of w R e.task n') → S.event.act ≡ Do (Enter E) → ⊥
-          go y S act =
-              let V = live code P arg rule L right T e.task e.turns e.wants e.action y in
-              let H = here code P arg rule L right T e.task e.turns e.wants e.action y in
-              let path : S.event.path ≡ V.path = path_one w e.task S.there V.there in
-              let task : S.follows.task ≡ V.task.task = same_task (agree_self R) (subst (λ q. Begun QR R q S.follows.task) path S.follows.begun) V.task.begun in
-              let so : QR.meaning V.path S.follows.task (answers (mine R V.path)) ≡ Next S.event.turns S.event.act =
-              subst (λ q. QR.meaning q S.follows.task (answers (mine R q)) ≡ Next S.event.turns S.event.act) path S.follows.asks in
-              let asks : QR.meaning V.path V.task.task (answers (mine R V.path)) ≡ Next S.event.turns (Do (Enter E)) =
-              ap (λ t. QR.meaning V.path t (answers (mine R V.path))) (sym task) ∙ so ∙ ap (λ a. Next S.event.turns a) act in
-              let same : SameReply C P (Next S.event.turns (Do (Enter E))) (said H.halt) = subst (λ r. SameReply C P r (said H.halt)) asks H.same in
-              let h = entry_halt H.like S.event.turns E (same.1 ∙ ap (λ b. Next S.event.turns b) same.2) in
-              let kept = subst (λ o. Kept C y.stands.state o) (front_step C e.task e.turns y.stands.made y.stands.state h.0 h.1 (Do (Enter h.2)) h.3 h.4 (λ i. (cc)))
-              (step_keeps C FJ first_numbers next_numbers e.task y.stands.state) in
-              block_there kept
-            where
-              block_there : {F : List (EffectOver (ℕ × ℕ))} {f : AnswerOver ℕ (ℕ × ℕ) → State ℕ (ℕ × ℕ)} {z : State ℕ (ℕ × ℕ)} → Kept C z (Waits (Do (Enter F)) f) → ⊥
-              block_there kept = none kept.is.0 kept.is.1 kept.is.2
-
-      by_move : Moves code L m k n → ⊥
-      by_move (made_so e x can within is) = at_event e x x.stands.number
-      by_move (over_so e x can beyond is) = at_event e x x.stands.number
-
-  -- where a task may enter
-  abbrev pub Entering : Type 0
-  Entering = (ks : List ℕ) (m n n' : Moment) (k : ℕ) → LeadsTo code L arg ks m → Moves code L m k n → (A : Led ks m) (S : Next_of A.sight A.run k n') (E : List Effect)
-      → S.event.act ≡ Do (Enter E) → MayEnter QR.rule A.run S.event.path E
-
-  pub entering_so : BlocksAgree QR code L arg → Entering
-  entering_so blocks ks m n n' k leads moves A S E act =
-      blocks ks m n k A.run S.event E leads moves A.ran S.follows (A.tied.numbers.numbered k S.event.path S.there) act
-
-  pub entering_none : HasNoBlocks C → Entering
-  entering_none none ks m n n' k leads moves A S E act = absurd (no_entry none A.tied moves S E act)
 
   zero_path : {R : Run} {k : ℕ} {p : Path} → Numbered R k p → k ≡ 0 → p ≡ []
   zero_path (root_is a b) e = a
   zero_path (branch_is q u G g a b c d n i) e = absurd (omega (arith, i, e))
 
   module _ (few : L.steps ≤ 20000000) (first : (m : Moment) → Opens code L arg m → m.outcome ≡ None → (w : Sight) × Tied P arg rule C L m w [])
-      (main_so : length (first_fields code code.main_class) ≡ size QR.object) (entering : Entering) where
-    ready_next : {ks : List ℕ} {m n n' : Moment} {k : ℕ} (leads : LeadsTo code L arg ks m) (A : Led ks m) → Moves code L m k n → (S : Next_of A.sight A.run k n')
-        → Ready QR A.run k S.event
-    ready_next {ks} {m} {n} {n'} {k} leads A moves S = record {
-      allowed = record { follows = S.follows; enters = λ E e. record { clear = (entering ks m n n' k leads moves A S E e).clear } };
+      (main_so : length (first_fields code code.main_class) ≡ size QR.object) where
+    ready_next : {ks : List ℕ} {m n : Moment} {k : ℕ} (leads : LeadsTo code L arg ks m) (A : Led ks m) (e : DeclaredEvent) (x : NextOf C m k e)
+        → CanBeMade C m.world e x.stands.state → (S : Next_of A.sight A.run k n) → Ready QR A.run k S.event
+    ready_next {ks} {m} {n} {k} leads A e x can S = record {
+      allowed = allowed_from QR (disciplined P arg rule C) A.run S.event A.tied.faithful (record {
+        follows = S.follows;
+        enters = λ E act. entry_allowed code P arg rule L right A.tied A.short A.blocks (all_noted code L arg ks m leads) k e x can n S E act;
+      });
       number = A.tied.numbers.numbered k S.event.path S.there;
     }
 
     -- the run with one event more
     abbrev next_ran : {ks : List ℕ} {m : Moment} {k : ℕ} (leads : LeadsTo code L arg ks m) (A : Led ks m) (e : DeclaredEvent) (x : NextOf C m k e)
-        (can : CanBeMade C m.world e x.stands.state) → MachineWithin code m.world e → Moves code L m k (after code m e x.stands.state x.stands.made)
+        (can : CanBeMade C m.world e x.stands.state) → MachineWithin code m.world e
         → (S : Next_of A.sight A.run k (after code m e x.stands.state x.stands.made)) → Ran QR (limits L) (k ∷ ks) (S.event ∷ A.run)
-    next_ran leads A e x can within moves S = (A.ran, ready_next leads A moves S, (within_next e A.tied S.tied S.follows refl).0 within)
+    next_ran leads A e x can within S = (A.ran, ready_next leads A e x can S, (within_next e A.tied S.tied S.follows refl).0 within)
 
     led_next : {ks : List ℕ} {m : Moment} {k : ℕ} (leads : LeadsTo code L arg ks m) (A : Led ks m) (e : DeclaredEvent) (x : NextOf C m k e)
-        (can : CanBeMade C m.world e x.stands.state) → MachineWithin code m.world e → Moves code L m k (after code m e x.stands.state x.stands.made)
-        → Led (k ∷ ks) (after code m e x.stands.state x.stands.made)
-    led_next {ks} {m} {k} leads A e x can within moves = record {
+        (can : CanBeMade C m.world e x.stands.state) → MachineWithin code m.world e → Led (k ∷ ks) (after code m e x.stands.state x.stands.made)
+    led_next {ks} {m} {k} leads A e x can within = record {
       run = S.event ∷ A.run;
       sight = S.sight;
-      ran = next_ran leads A e x can within moves S;
+      ran = next_ran leads A e x can within S;
       tied = S.tied;
+      blocks = blocks_next code P arg rule L right A.tied A.short A.blocks (all_noted code L arg ks m leads) k e x S;
       short = (let a = within.0 in let b = A.tied.costs.most_steps in let c = (charged code m.world e.task e.turns e.wants e.action).steps in omega (arith, a, b, c, few));
     }
       where
         S : Next_of A.sight A.run k (after code m e x.stands.state x.stands.made)
         S = any_event A.tied A.short k e x can
+
+    -- at the start the root alone is there, and stands in no block
+    blocks_first : {m : Moment} {w : Sight} → Tied P arg rule C L m w [] → m.world
+        ≡ with_heap (world_at_start L) (with_object (world_at_start L).heap (instance code.main_class [] (first_fields code code.main_class))) → BlocksTied w [] m.world
+    blocks_first {m} {w} T is = record {
+      stand = λ k x p live h. subst (λ o. StandTied w [] p o) (sym (no_lock k)) (stands_out (nowhere p) (ap hold (mine_nil p)));
+      none = λ k e. no_lock k;
+      there = λ k p h. inl (root_there k (within k p h));
+    }
+      where
+        no_lock : (k : ℕ) → get m.world.locks k ≡ None
+        no_lock k = ap (λ (w : World). get w.locks k) is ∙ get-empty nat_cmp k
+
+        nowhere : (p : Path) → above [] p ≡ Outside
+        nowhere [] = above_nil []
+        nowhere (u ∷ q) = above_step [] u q ∙ ap (λ s. joined_by s q (hold (first_of u.0 (mine [] q)))) (nowhere q)
+            ∙ ap (λ l. joined_by Outside q (hold (first_of u.0 l))) (mine_nil q) ∙ ap (λ l. joined_by Outside q (hold l)) (first_none u.0)
+
+        within : (k : ℕ) (p : Path) → slice_get w.paths k ≡ Some p → k ≡ 0
+        within k p h =
+            let l = slice_get_within w.paths k p h in
+            let many = T.numbers.many in
+            let begun = ap (λ (w : World). w.tree.begun) is in omega (arith, l, many, begun)
+
+        root_there : (k : ℕ) → k ≡ 0 → (x : Live) × (get m.world.tree.tasks k ≡ Some x)
+        root_there k z = (_, ap (λ (w : World). get w.tree.tasks k) is ∙ ap (λ i. get only_root.tasks i) z ∙ get_inserted empty 0 (fresh None))
 
     led : (ks : List ℕ) (m : Moment) → LeadsTo code L arg ks m → m.outcome ≡ None → Led ks m
     led [] m (opened room is) none = led_first (first m (opened room is) none)
@@ -337,11 +312,12 @@ module _ (code : Code) (P : PlainProgram) (arg : ℤ) (rule : Rule) (L : Declare
             cells = (let a = start.1.costs.cells in let b = used in let c = room in omega (arith, a, b, c));
           };
           tied = start.1;
+          blocks = blocks_first start.1 (ap (λ (n : Moment). n.world) is);
           short = (let a = start.1.costs.steps in let z = total_nil event_steps in omega (arith, a, z));
         }
     led [] m (no_room_so full is) none = absurd (let both : None ≡ Some (limited L) = sym none ∙ ap (λ (n : Moment). n.outcome) is in cc)
     led (k ∷ ks) m (before, leads, made_so e x can within is) none =
-        subst (λ n. Led (k ∷ ks) n) (sym is) (led_next leads (led ks before leads x.unfinished) e x can within (made_so e x can within refl))
+        subst (λ n. Led (k ∷ ks) n) (sym is) (led_next leads (led ks before leads x.unfinished) e x can within)
     led (k ∷ ks) m (before, leads, over_so e x can beyond is) none =
         absurd (let both : None ≡ Some (limited L) = sym none ∙ ap (λ (n : Moment). n.outcome) is in cc)
 
@@ -362,7 +338,7 @@ module _ (code : Code) (P : PlainProgram) (arg : ℤ) (rule : Rule) (L : Declare
         S = B.stepped
 
         ran : Ran QR (limits L) (k ∷ ks) (S.event ∷ A.run)
-        ran = next_ran leads A (event_of k turns wants (action.End c)) x can within (made_so (event_of k turns wants (action.End c)) x can within refl) S
+        ran = next_ran leads A (event_of k turns wants (action.End c)) x can within S
 
         path : S.event.path ≡ []
         path = zero_path (A.tied.numbers.numbered k S.event.path S.there) is_root
@@ -433,7 +409,7 @@ module _ (code : Code) (P : PlainProgram) (arg : ℤ) (rule : Rule) (L : Declare
         over_limit A =
             let S = any_event A.tied A.short k e x can in (
               Limited L.steps L.cells,
-              over k ks A.run S.event A.ran (ready_next leads A (over_so e x can beyond refl) S)
+              over k ks A.run S.event A.ran (ready_next leads A e x can S)
                   (λ w. beyond ((within_next e A.tied S.tied S.follows refl).1 w)),
               (let both : Some (limited L) ≡ Some o = sym (ap (λ (n : Moment). n.outcome) is) ∙ some in let same : limited L ≡ o = cc in sym same),
             )
@@ -453,20 +429,12 @@ module _ (code : Code) (P : PlainProgram) (L : DeclaredLimits) (arg : ℤ) (is :
   FJ : ForksAreJoined (plain_code code)
   FJ = subst ForksAreJoined (sym is) (forks_are_joined P)
 
-  module _ (rule : Rule) where
-    first : (m : Moment) → Opens code L arg m → m.outcome ≡ None → (w : Sight) × Tied P arg rule (plain_code code) L m w []
-    first m (opened room so) none = (first_sight code P arg rule L is resolved main, subst (λ m. Tied P arg rule (plain_code code) L m (first_sight code P arg rule L is resolved main) []) (sym so) (first_tied code P arg rule L is resolved main))
-    first m (no_room_so full so) none = absurd (let both : None ≡ Some (limited L) = sym none ∙ ap (λ (n : Moment). n.outcome) so in cc)
+  first : (m : Moment) → Opens code L arg m → m.outcome ≡ None → (w : Sight) × Tied P arg rule (plain_code code) L m w []
+  first m (opened room so) none = (first_sight code P arg rule L is resolved main, subst (λ m. Tied P arg rule (plain_code code) L m (first_sight code P arg rule L is resolved main) []) (sym so) (first_tied code P arg rule L is resolved main))
+  first m (no_room_so full so) none = absurd (let both : None ≡ Some (limited L) = sym none ∙ ap (λ (n : Moment). n.outcome) so in cc)
 
-    recorded : Entering code P arg rule L right (fields_for code P is) FJ → AllRecord (Q P arg rule (plain_code code)) code L arg
-    recorded entering = all_record code P arg rule L right (fields_for code P is) FJ few first (main_size code P arg rule L is resolved main) entering
-
-  pub records_runs : RecordsRuns code P L arg
-  records_runs = record {
-    aside = recorded lets_all (λ ks m n n' k leads moves A S E act. record { clear = λ o B b F block open_so. refl });
-    without = λ none. recorded lets (entering_none code P arg lets L right (fields_for code P is) FJ none);
-    blocks = λ agree. recorded lets (entering_so code P arg lets L right (fields_for code P is) FJ agree);
-  }
+  recorded : AllRecord (stepped P arg) code L arg
+  recorded = all_record code P arg L right (fields_for code P is) FJ few first (main_size code P arg rule L is resolved main)
 
 pub machines_record : MachinesRecord
-machines_record code P L arg is resolved main few = records_runs code P L arg is resolved main few
+machines_record code P L arg is resolved main few = recorded code P L arg is resolved main few

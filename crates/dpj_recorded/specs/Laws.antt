@@ -1,25 +1,22 @@
 -- That the schedule of a machine on compiled code records a run of the source.
-use Rattle.std.specs.Prelude.{ℕ, ℤ, pos, ◌≡◌, ◌≤◌, true, List, [], Option, Some, None, slice_get}
-use Rattle.dpj_base.specs.declared.effect.Effect.{Effect as PathEffect}
+use Rattle.std.specs.Prelude.{ℕ, ℤ, pos, ◌≡◌, ◌≤◌, List, [], Option, Some, None}
 use Rattle.dpj_base.specs.declared.outcome.Ending.{Ending as Came}
 use Rattle.dpj_base.specs.declared.outcome.Ending.TheVariants as came
 use Rattle.dpj_base.specs.declared.outcome.Limits.{Limits as DeclaredLimits}
 use Rattle.dpj_base.specs.declared.outcome.Outcome.{Outcome as DeclaredOutcome}
 use Rattle.dpj_typed.specs.Plain.{PlainProgram}
 use Rattle.dpj_meaning.specs.Counts.{number}
-use Rattle.dpj_code.specs.Plain.{PlainCode, block_site, plain_code}
+use Rattle.dpj_code.specs.Plain.{plain_code}
 use Rattle.dpj_code.specs.declared.code.Code.{Code}
 use Rattle.dpj_gen.specs.Resolved.{Resolved}
 use Rattle.dpj_gen.specs.Whole.{compiled}
-use Rattle.dpj_runs.specs.Actions.{Do, Ending, Enter, Program, Rule, Returned, Assigned, Trapped}
-use Rattle.dpj_runs.specs.Blocks.{MayEnter, with_rule}
-use Rattle.dpj_runs.specs.Objects.{Effect}
+use Rattle.dpj_runs.specs.Actions.{Ending, Program, Returned, Assigned, Trapped}
 use Rattle.dpj_runs.specs.Order.{Came as came_out, Limited, Outcome}
-use Rattle.dpj_runs.specs.Runs.{Event, Follows, Run}
-use Rattle.dpj_runs.specs.Schedules.{Finished, Limits, Numbered, Ran}
+use Rattle.dpj_runs.specs.Runs.{Run}
+use Rattle.dpj_runs.specs.Schedules.{Finished, Limits, Ran}
 use Rattle.dpj_steps.specs.Steps.{stepped}
 use Rattle.dpj_going.specs.Going.{HasMain}
-use Rattle.dpj_machine.specs.Replay.{LeadsTo, Moment, Moves}
+use Rattle.dpj_machine.specs.Replay.{LeadsTo, Moment}
 
 abbrev pub limits : DeclaredLimits → Limits
 limits L = record { steps = L.steps; cells = L.cells }
@@ -43,31 +40,8 @@ Records Q L ks (Some o) = (q : Outcome) × Finished Q L ks q × (o ≡ told q)
 abbrev pub AllRecord : Program → Code → DeclaredLimits → ℤ → Type 0
 AllRecord Q code L argument = (ks : List ℕ) (m : Moment) → LeadsTo code L argument ks m → Records Q (limits L) ks m.outcome
 
--- the same program, where each block may always be entered
-abbrev pub lets_all : Rule
-lets_all F E = true
-
-abbrev pub blocks_aside : Program → Program
-blocks_aside Q = with_rule lets_all Q
-
-abbrev pub HasNoBlocks : PlainCode → Type 0
-HasNoBlocks C = (s : ℕ) (effects : List PathEffect) → slice_get C.sites s ≡ Some (block_site effects) → ⊥
-
--- What isn't proved here, of a run that is recorded up to some moment: where a machine makes an entry, so may the run
-abbrev pub BlocksAgree : Program → Code → DeclaredLimits → ℤ → Type 0
-BlocksAgree Q code L argument = (ks : List ℕ) (m n : Moment) (k : ℕ) (R : Run) (e : Event) (E : List Effect) → LeadsTo code L argument ks m → Moves code L m k n
-    → Ran Q (limits L) ks R → Follows Q R e → Numbered R k e.path → e.act ≡ Do (Enter E) → MayEnter Q.rule R e.path E
-
--- of code that is compiled from a resolved program with a `main`
-pub record RecordsRuns (code : Code) (P : PlainProgram) (L : DeclaredLimits) (argument : ℤ) : Type 0 where
-  -- blocks aside
-  pub aside : AllRecord (blocks_aside (stepped P argument)) code L argument
-  -- where there are none
-  pub without : HasNoBlocks (plain_code code) → AllRecord (stepped P argument) code L argument
-  -- and where they agree
-  pub blocks : BlocksAgree (stepped P argument) code L argument → AllRecord (stepped P argument) code L argument
-
+-- so of code that is compiled from a resolved program with a `main`
 abbrev pub MachinesRecord : Type 0
 MachinesRecord =
     (code : Code) (P : PlainProgram) (L : DeclaredLimits) (argument : ℤ) → plain_code code ≡ compiled P → Resolved P → HasMain P → L.steps ≤ 20000000
-    → RecordsRuns code P L argument
+    → AllRecord (stepped P argument) code L argument

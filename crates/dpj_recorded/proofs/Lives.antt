@@ -1,0 +1,178 @@
+-- The live tasks of a machine are those of the run that haven't ended, over each event.
+use Rattle.std.proofs.Common.{◌≡◌, ◌≢◌, ◌≤◌, ◌⊎◌, inl, inr, ⊎_elim, ℕ, ◌==◌, if◌then◌else◌, ℤ, Bool, true, false, List, [], ◌∷◌, refl, sym, ap, ◌∙◌, subst, Option, Some, None, slice_get, arith}
+use Rattle.std.proofs.lemmas.Bool.Decides.{eqb_tells}
+use Rattle.std.specs.Prelude.{is_some}
+use Rattle.std.specs.FinMap.{get}
+use Rattle.dpj_base.specs.declared.effect.Effect.{Effect as PathEffect}
+use Rattle.dpj_base.specs.declared.outcome.Limits.{Limits}
+use Rattle.dpj_typed.specs.Plain.{PlainProgram}
+use Rattle.dpj_code.specs.Plain.{PlainCode, plain_code}
+use Rattle.dpj_code.specs.declared.code.Code.{Code}
+use Rattle.dpj_runs.specs.Actions.{Action, Begin, Do, End, Ending, Enter, Exit, Rule}
+use Rattle.dpj_runs.specs.Blocks.{In_block, Out_of}
+use Rattle.dpj_runs.specs.Objects.{Path}
+use Rattle.dpj_runs.specs.Runs.{Ended, Event, Run}
+use Rattle.dpj_runs.specs.Schedules.{Numbered}
+use Rattle.dpj_runs.proofs.Faithful.{begun_upto, follows_at}
+use Rattle.dpj_runs.proofs.Numbers.{number_of_begun, number_same}
+use Rattle.dpj_runs.proofs.Upto.{upto_split, upto_tail}
+use Rattle.dpj_legs.specs.declared.action.Action.{Action as DeclaredAction}
+use Rattle.dpj_legs.specs.declared.action.Action.TheVariants as action
+use Rattle.dpj_tasks.specs.Tree.{forked_task, joined_task, printed_task}
+use Rattle.dpj_tasks.specs.declared.task.Task.{Task as Live}
+use Rattle.dpj_world.specs.World.{slots_in, trap_in}
+use Rattle.dpj_world.specs.declared.event.Event.{Event as DeclaredEvent}
+use Rattle.dpj_machine.specs.Replay.{Moment, NextOf, after}
+use Rattle.dpj_recorded.proofs.Sights.{Sight}
+use Rattle.dpj_recorded.proofs.Acting.{RightFor, Stepped, event_of}
+use Rattle.dpj_recorded.proofs.Blocks.{KeysKept, Quiet, absent, changed_keys, ended_gone, ended_keys, event_like, keys, live_path, none_there, numbered_low, own, some_there}
+use Rattle.dpj_recorded.proofs.Branching.{AllBranch, branches_begun_too, branches_ended, branches_forked, branches_joined, branches_printed}
+use Rattle.dpj_recorded.proofs.Inside.{BlocksTied}
+use Rattle.dpj_recorded.proofs.Ties.{Q, Tied}
+use Rattle.dpj_recorded.proofs.Trees.{apart_paths, numbered_later}
+use Rattle.dpj_recorded.proofs.Waiting.{AllNoted}
+
+pub record LivesTied (w : Sight) (R : Run) (m : Moment) : Type 0 where
+  -- a live task hasn't ended
+  pub unended : (k : ℕ) (x : Live) (p : Path) → get m.world.tree.tasks k ≡ Some x → slice_get w.paths k ≡ Some p → (z : Ending) → Ended R p z → ⊥
+  -- a branch that a scope says to run is live
+  pub branches : AllBranch m.world.tree.tasks
+  -- and so is the root, until the run has come out
+  pub root : m.outcome ≡ None → is_some (get m.world.tree.tasks 0) ≡ true
+
+end_cases : {e : Event} {R : Run} {p : Path} {z : Ending} → Ended (e ∷ R) p z → ((e.path ≡ p) × (e.act ≡ End z)) ⊎ Ended R p z
+end_cases {e} {R} {p} {z} g = ⊎_elim
+    (λ y. inl (ap (λ (z : Event). z.path) (sym y.0) ∙ g.path, ap (λ (z : Event). z.act) (sym y.0) ∙ g.act))
+    (λ y. inr (record { before = g.before; event = g.event; stands = y; path = g.path; act = g.act })) (upto_split g.stands)
+
+not_end : (a : Action) → Quiet a → (z : Ending) → a ≡ End z → ⊥
+not_end a q z e = (let both : Out_of ≡ In_block 0 [] = subst Quiet e q (In_block 0 []) in cc)
+
+module _ (code : Code) (P : PlainProgram) (arg : ℤ) (rule : Rule) (L : Limits) (right : RightFor (plain_code code) P) where
+  abbrev C : PlainCode
+  C = plain_code code
+
+  module _ {m : Moment} {w : Sight} {R : Run} (T : Tied P arg rule C L m w R) (short : m.world.steps ≤ 20000001) (B : BlocksTied w R m.world) (wanted : AllNoted C m)
+      (lives : LivesTied w R m) (k turns : ℕ) (wants : Option (List PathEffect)) where
+    abbrev Then : DeclaredAction → Type 0
+    Then a = (x : NextOf C m k (event_of k turns wants a)) (S : Stepped code P arg rule L right w R k (after code m (event_of k turns wants a) x.stands.state x.stands.made))
+        → LivesTied S.sight (S.event ∷ R) (after code m (event_of k turns wants a) x.stands.state x.stands.made)
+
+    module _ (a : DeclaredAction) (x : NextOf C m k (event_of k turns wants a))
+        (S : Stepped code P arg rule L right w R k (after code m (event_of k turns wants a) x.stands.state x.stands.made)) where
+      abbrev n : Moment
+      n = after code m (event_of k turns wants a) x.stands.state x.stands.made
+
+      old_path : (j : ℕ) (y : Live) → get m.world.tree.tasks j ≡ Some y → (p : Path) → slice_get S.sight.paths j ≡ Some p → slice_get w.paths j ≡ Some p
+      old_path j y is p h = live_path code P arg rule L right T short B wanted k turns wants a x S j y is p h
+
+      -- of a task that had begun
+      unended_old : (j : ℕ) (y : Live) (p : Path) → get m.world.tree.tasks j ≡ Some y → slice_get S.sight.paths j ≡ Some p
+          → ((z : Ending) → S.event.path ≡ p → S.event.act ≡ End z → ⊥) → (z : Ending) → Ended (S.event ∷ R) p z → ⊥
+      unended_old j y p is h apart z g = ⊎_elim (λ e. apart z e.0 e.1) (λ g. lives.unended j y p is (old_path j y is p h) z g) (end_cases g)
+
+      kept_lives : KeysKept m.world.tree.tasks n.world.tree.tasks → AllBranch n.world.tree.tasks → ((z : Ending) → S.event.act ≡ End z → ⊥) → LivesTied S.sight (S.event ∷ R) n
+      kept_lives same branches going = record {
+        unended = λ j y p is h z g.
+            (let old = some_there (get m.world.tree.tasks j) (sym (same j) ∙ ap (λ o. is_some o) is) in unended_old j old.0 p old.1 h (λ z e f. going z f) z g);
+        branches = branches;
+        root = λ none. same 0 ∙ lives.root x.unfinished;
+      }
+
+      ended_lives : ((j : ℕ) → j ≢ k → is_some (get n.world.tree.tasks j) ≡ is_some (get m.world.tree.tasks j)) → get n.world.tree.tasks k ≡ None
+          → AllBranch n.world.tree.tasks → (n.outcome ≡ None → 0 ≢ k) → LivesTied S.sight (S.event ∷ R) n
+      ended_lives keys gone branches no_root = record {
+        unended = λ j y p is h z g. elim (eqb_tells j k) [
+          | inl s ↦ (let both : None ≡ Some y = sym gone ∙ ap (λ i. get n.world.tree.tasks i) (sym s.1) ∙ is in cc)
+          | inr s ↦ (let old = some_there (get m.world.tree.tasks j) (sym (keys j s.1) ∙ ap (λ o. is_some o) is) in
+              unended_old j old.0 p old.1 h (λ z e f. apart_paths T.numbers j k p S.event.path (old_path j old.0 old.1 p h) S.there s.1 (sym e)) z g)
+        ];
+        branches = branches;
+        root = λ none. keys 0 (no_root none) ∙ lives.root x.unfinished;
+      }
+
+      begun_lives : (c : ℕ) → c ≡ m.world.tree.begun → ((j : ℕ) → j ≢ c → is_some (get n.world.tree.tasks j) ≡ is_some (get m.world.tree.tasks j))
+          → AllBranch n.world.tree.tasks → (b : ℕ) → S.event.act ≡ Begin b → LivesTied S.sight (S.event ∷ R) n
+      begun_lives c c_is keys branches b act = record {
+        unended = λ j y p is h z g. elim (eqb_tells j c) [
+          | inl s ↦ ⊎_elim (λ e. no_end z e.1) (λ old. none_yet p (subst (λ i. slice_get S.sight.paths i ≡ Some p) s.1 h) z old) (end_cases g)
+          | inr s ↦ (let old = some_there (get m.world.tree.tasks j) (sym (keys j s.1) ∙ ap (λ o. is_some o) is) in unended_old j old.0 p old.1 h (λ z e f. no_end z f) z g)
+        ];
+        branches = branches;
+        root = λ none. keys 0 (λ s. (let n = T.numbers.count in omega (arith, s, n, c_is))) ∙ lives.root x.unfinished;
+      }
+        where
+          no_end : (z : Ending) → S.event.act ≡ End z → ⊥
+          no_end z e = (let both : Begin b ≡ End z = sym act ∙ e in cc)
+
+          -- a task of the next number has made nothing
+          none_yet : (p : Path) → slice_get S.sight.paths c ≡ Some p → (z : Ending) → Ended R p z → ⊥
+          none_yet p h z g =
+              let F = follows_at (Q P arg rule C) g.stands T.faithful in
+              let old = number_of_begun (begun_upto (upto_tail g.stands) F.begun) in
+              let low = numbered_low old.1 in
+              let now = S.tied.numbers.numbered c p h in
+              let same = number_same (numbered_later S.event (subst (λ q. Numbered R old.0 q) g.path old.1)) now in
+              let counted = T.numbers.count in
+              omega (arith, low, same, counted, c_is)
+
+    lives_any : (a : DeclaredAction) → Then a
+    lives_any action.Rest x S = kept_lives action.Rest x S (λ j. refl) lives.branches (not_end S.event.act (event_like code P arg rule L right T k turns wants action.Rest x S))
+    lives_any (action.Read i j) x S =
+        kept_lives (action.Read i j) x S (λ j. refl) lives.branches (not_end S.event.act (event_like code P arg rule L right T k turns wants (action.Read i j) x S))
+    lives_any (action.Write i j u) x S =
+        kept_lives (action.Write i j u) x S (λ j. refl) lives.branches (not_end S.event.act (event_like code P arg rule L right T k turns wants (action.Write i j u) x S))
+    lives_any (action.Look i) x S =
+        kept_lives (action.Look i) x S (λ j. refl) lives.branches (not_end S.event.act (event_like code P arg rule L right T k turns wants (action.Look i) x S))
+    lives_any (action.NewObject d rs constructor) x S =
+        kept_lives (action.NewObject d rs constructor) x S (λ j. refl) lives.branches
+        (not_end S.event.act (event_like code P arg rule L right T k turns wants (action.NewObject d rs constructor) x S))
+    lives_any (action.NewArray region len first) x S =
+        kept_lives (action.NewArray region len first) x S (λ j. refl) lives.branches
+        (not_end S.event.act (event_like code P arg rule L right T k turns wants (action.NewArray region len first) x S))
+    lives_any (action.Print bytes) x S =
+        kept_lives (action.Print bytes) x S (changed_keys m.world.tree.tasks k (printed_task bytes)) (branches_printed m.world.tree.tasks k bytes lives.branches)
+        (not_end S.event.act (event_like code P arg rule L right T k turns wants (action.Print bytes) x S))
+    lives_any (action.Fork forking many) x S =
+        kept_lives (action.Fork forking many) x S (changed_keys m.world.tree.tasks k (forked_task many)) (branches_forked m.world.tree.tasks k many lives.branches)
+        (not_end S.event.act (event_like code P arg rule L right T k turns wants (action.Fork forking many) x S))
+    lives_any action.Join x S =
+        kept_lives action.Join x S (changed_keys m.world.tree.tasks k joined_task) (branches_joined m.world.tree.tasks k lives.branches)
+        (not_end S.event.act (event_like code P arg rule L right T k turns wants action.Join x S))
+    lives_any (action.Enter effects) x S =
+        kept_lives (action.Enter effects) x S (λ j. refl) lives.branches
+        (λ z e. (let f = event_like code P arg rule L right T k turns wants (action.Enter effects) x S in let both : Do (Enter f.0) ≡ End z = sym f.1 ∙ e in cc))
+    lives_any action.Exit x S =
+        kept_lives action.Exit x S (λ j. refl) lives.branches
+        (λ z e. (let both : Do Exit ≡ End z = sym (event_like code P arg rule L right T k turns wants action.Exit x S) ∙ e in cc))
+    lives_any (action.Begin b) x S =
+        let act = event_like code P arg rule L right T k turns wants (action.Begin b) x S in
+        let y = own code P arg rule L right T short B wanted k turns wants (action.Begin b) x S in
+        let free = absent code P arg rule L right T short B wanted k turns wants (action.Begin b) x S b act refl refl refl in
+        begun_lives (action.Begin b) x S m.world.tree.begun refl
+        (λ j apart. keys code P arg rule L right T short B wanted k turns wants (action.Begin b) x S b act refl refl refl j apart)
+        (branches_begun_too m.world.tree.tasks k m.world.tree.begun y.0 y.1 free
+        (λ s. (let both : None ≡ Some y.0 = sym free ∙ ap (λ i. get m.world.tree.tasks i) (sym s) ∙ y.1 in cc)) lives.branches) b act
+    lives_any (action.End c) x S =
+        let y = own code P arg rule L right T short B wanted k turns wants (action.End c) x S in
+        ended_lives (action.End c) x S (λ j apart. ended_keys m.world k (trap_in c) (slots_in c) j apart)
+        (none_there _ (ended_gone m.world k (trap_in c) (slots_in c))) (branches_ended m.world.tree k y.0 _ y.1 lives.branches) not_root
+      where
+        not_root : (after code m (event_of k turns wants (action.End c)) x.stands.state x.stands.made).outcome ≡ None → 0 ≢ k
+        not_root none s = go _ (k == 0) refl none
+          where
+            go : {A : Type 0} (o : A) (b : Bool) → (k == 0) ≡ b → (if b then Some o else None) ≡ None → ⊥
+            go o true i e = cc
+            go o false i e = elim (eqb_tells k 0) [
+              | inl t ↦ (let both : false ≡ true = sym i ∙ t.0 in cc)
+              | inr t ↦ t.1 (sym s)
+            ]
+
+  module _ {m : Moment} {w : Sight} {R : Run} (T : Tied P arg rule C L m w R) (short : m.world.steps ≤ 20000001) (B : BlocksTied w R m.world) (wanted : AllNoted C m)
+      (lives : LivesTied w R m) (k : ℕ) (e : DeclaredEvent) where
+    pub lives_next : (x : NextOf C m k e) (S : Stepped code P arg rule L right w R k (after code m e x.stands.state x.stands.made))
+        → LivesTied S.sight (S.event ∷ R) (after code m e x.stands.state x.stands.made)
+    lives_next x S =
+        subst (λ j. (x : NextOf C m j e) (S : Stepped code P arg rule L right w R j (after code m e x.stands.state x.stands.made))
+        → LivesTied S.sight (S.event ∷ R) (after code m e x.stands.state x.stands.made)) x.stands.number
+        (λ x S. lives_any T short B wanted lives e.task e.turns e.wants e.action x S) x S
