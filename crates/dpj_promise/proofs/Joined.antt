@@ -13,7 +13,7 @@ use Rattle.dpj_elided.specs.Renamed.{object_named, renamed, renamed_value}
 use Rattle.dpj_runs.specs.Objects.{Name}
 use Rattle.dpj_steps.specs.Steps.{stepped}
 use Rattle.dpj_determined.specs.Laws.{SchedulesComeOutAsElided}
-use Rattle.dpj_recorded.specs.Laws.{MachinesRecord, Records, blocks_aside, lets_all, limits, told}
+use Rattle.dpj_recorded.specs.Laws.{MachinesRecord, Records, limits, told}
 use Rattle.dpj_promise.specs.Promise.{MachinesComeOutAsElided, elision, outcome_of_elision}
 
 -- the names of objects don't show in an outcome
@@ -33,13 +33,11 @@ told_renamed names (came_out (Assigned locals) output steps cells) = refl
 told_renamed names (came_out (Trapped trap place) output steps cells) = refl
 told_renamed names (Limited steps cells) = refl
 
--- a machine's schedule records one of a run in which blocks never wait, which comes out as the elision
+-- a machine's schedule records a run of the source, which comes out as the elision
 pub machines_come_out : MachinesRecord → SchedulesComeOutAsElided → MachinesComeOutAsElided
 machines_come_out records schedules P p o wt none resolved main code_is small fits replayed came =
-    let recorded = records p.code P p.limits p.argument code_is resolved main small in
     let ks = reverse p.schedule in
-    let finished = subst (λ z. Records (blocks_aside (stepped P p.argument)) (limits p.limits) ks z) (sym replayed.outcome ∙ came)
-        (recorded.aside ks replayed.moment replayed.leads) in
-    let is : IsElided P p.argument (limits p.limits) finished.0 =
-        schedules P wt none p.argument fits lets_all (λ F E let_by. refl) (limits p.limits) ks finished.0 finished.1 in
+    let finished = subst (λ z. Records (stepped P p.argument) (limits p.limits) ks z) (sym replayed.outcome ∙ came)
+        (records p.code P p.limits p.argument code_is resolved main small ks replayed.moment replayed.leads) in
+    let is : IsElided P p.argument (limits p.limits) finished.0 = schedules P wt none p.argument fits (limits p.limits) ks finished.0 finished.1 in
     finished.2 ∙ ap told is.is ∙ told_renamed is.names (elided P p.argument (limits p.limits))
