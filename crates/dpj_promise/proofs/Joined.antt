@@ -38,6 +38,6 @@ pub machines_come_out : MachinesRecord → SchedulesComeOutAsElided → Machines
 machines_come_out records schedules P p o wt none resolved main code_is small fits replayed came =
     let ks = reverse p.schedule in
     let finished = subst (λ z. Records (stepped P p.argument) (limits p.limits) ks z) (sym replayed.outcome ∙ came)
-        (records p.code P p.limits p.argument code_is resolved main small ks replayed.moment replayed.leads) in
+    (records p.code P p.limits p.argument code_is resolved main small ks replayed.moment replayed.leads) in
     let is : IsElided P p.argument (limits p.limits) finished.0 = schedules P wt none p.argument fits (limits p.limits) ks finished.0 finished.1 in
     finished.2 ∙ ap told is.is ∙ told_renamed is.names (elided P p.argument (limits p.limits))

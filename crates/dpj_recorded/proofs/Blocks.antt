@@ -645,7 +645,7 @@ module _ (code : Code) (P : PlainProgram) (arg : ℤ) (rule : Rule) (L : Limits)
           free = ⊎_elim (λ i. absurd (let no : false ≡ true = ap (λ o. is_some o) (sym outside) ∙ i in cc)) (λ f. f) may
 
           not_own : (H.number == k) ≡ false
-          not_own = elim (eqb_tells H.number k) [ | inl s ↦ absurd (other_number s.1) | inr s ↦ s.0 ]
+          not_own = elim (eqb_tells H.number k) [ inl s ↦ absurd (other_number s.1) | inr s ↦ s.0 ]
 
           clear : (a b c : Bool) → a ≡ false → b ≡ false → ((not a && not b) && c) ≡ c
           clear a b c e f = ap₂ (λ a b. (not a && not b) && c) e f

@@ -184,7 +184,7 @@ branches_ended t k y how y_is all = go (origin_of (task_at t k)) (ap origin_of (
         left (all i b x scope (removed_tells t.tasks k i h).1 s e) (λ p f a d. (let both : None ≡ Some p = sym o ∙ f in cc))
     go (Some o) oo i b x scope h s e = ⊎_elim
         (λ old. on (left (all i b x scope (removed_tells t.tasks k i old.1).1 s e)
-            (λ p f a d. old.0 (let both : Some o ≡ Some p = sym oo ∙ f in let same : o ≡ p = cc in sym (ap (λ (q : Origin). q.parent) same ∙ a)))))
+        (λ p f a d. old.0 (let both : Some o ≡ Some p = sym oo ∙ f in let same : o ≡ p = cc in sym (ap (λ (q : Origin). q.parent) same ∙ a)))))
         (λ n. by_state n.1 n.2 n.3 n.0 n.1.state refl)
         (changed_cases (remove t.tasks k) o.parent (with_scope (λ scope. with_end scope o.step.branch how)) i x h)
       where

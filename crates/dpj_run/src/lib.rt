@@ -1,5 +1,5 @@
 //! Runs typed programs: the program is compiled, a machine is opened on its code, and the machine is stepped until the run
-//! has come out, by the caller alone (`elide`) or by workers (`run`).
+//! has come out, by the caller alone (`elide`), by workers (`run`), or as a schedule says (`replay`).
 //!
 //! What it promises (`specs/Run.antt`): an outcome is that of a run of the program's code within the limits, which the
 //! schedule leads to that was made. `elide` makes the run in which at each step the task that began last goes on. Where there
@@ -12,8 +12,10 @@ mod few;
 mod finish;
 mod open;
 mod recorded;
+mod replaying;
 mod running;
 
 pub use eliding::elide;
 pub use recorded::Recorded;
+pub use replaying::{Replayed, replay};
 pub use running::run;

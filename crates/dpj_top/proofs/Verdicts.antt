@@ -150,3 +150,24 @@ pub program-answer : (asked : Job) (text : List ℕ) (place : Place) (typed : Pl
     → IsLeft asked text → IsPassed text place typed → IfOk result (IsAnswerOn asked text place typed) → IfOk result (IsAnswer asked text)
 program-answer asked text place typed (Ok answered) short left passed is = of_program place typed answered short left passed is
 program-answer asked text place typed (Err none) short left passed is = tt
+
+-- which commands read a program of the first form off the bytes, and which ask for a run
+pub reads : (c : Command) → (c ≡ command.Check) ⊎ (c ≡ command.Run) ⊎ (c ≡ command.Elide) → reads_form c ≡ true
+reads c (inl check) = ap reads_form check
+reads c (inr (inl run)) = ap reads_form run
+reads c (inr (inr elide)) = ap reads_form elide
+
+pub reads-not : (c : Command) → c ≢ command.Check → c ≢ command.Run → c ≢ command.Elide → reads_form c ≡ false
+reads-not command.Check check run elide = absurd (check refl)
+reads-not command.Run check run elide = absurd (run refl)
+reads-not command.Elide check run elide = absurd (elide refl)
+reads-not command.«List» check run elide = refl
+reads-not command.Demo check run elide = refl
+reads-not command.Trace check run elide = refl
+reads-not command.Replay check run elide = refl
+reads-not command.Effects check run elide = refl
+
+pub asks : (c : Command) → (c ≡ command.Run) ⊎ (c ≡ command.Demo) ⊎ (c ≡ command.Trace) → asks_run c ≡ true
+asks c (inl run) = ap asks_run run
+asks c (inr (inl demo)) = ap asks_run demo
+asks c (inr (inr trace)) = ap asks_run trace

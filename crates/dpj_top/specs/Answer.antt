@@ -1,5 +1,5 @@
 -- What the tool answers to a job and a text, and what it records.
-use Rattle.std.specs.Prelude.{ℕ, ◌≡◌, ◌<◌, ◌≤◌, ◌⊎◌, Bool, true, false, cond, List, length, Option, Some, None}
+use Rattle.std.specs.Prelude.{ℕ, ◌≡◌, ◌<◌, ◌≤◌, ◌⊎◌, Bool, true, false, cond, min, List, length, Option, Some, None}
 use Rattle.dpj_base.specs.declared.outcome.Limits.{Limits}
 use Rattle.dpj_base.specs.declared.outcome.Outcome.{Outcome}
 use Rattle.dpj_base.specs.declared.place.Place.{Place}
@@ -17,7 +17,7 @@ use Rattle.dpj_gen.specs.Whole.{compiled}
 use Rattle.dpj_listing.specs.Listing.{listing_of}
 use Rattle.dpj_run.specs.Run.{ComesOut, HasNoRun, IsRecordOf}
 use Rattle.dpj_run.specs.declared.recorded.Recorded.{Recorded}
-use Rattle.dpj_trace.specs.Trace.{trace_of}
+use Rattle.dpj_trace.specs.Text.{trace_text}
 use Rattle.dpj_front.specs.Front.{IsPassed, IsFault}
 use Rattle.dpj_words.specs.declared.command.Command.{Command}
 use Rattle.dpj_words.specs.declared.command.Command.TheVariants as command
@@ -43,9 +43,13 @@ most_bytes _ = max_text
 abbrev pub only : Verdict → Answered
 only verdict = record { verdict = verdict; recorded = None }
 
+-- a refusal at the first byte of a line, as far as lines are counted
+abbrev pub refused_at : Kind → ℕ → Verdict
+refused_at kind line = Refused (record { kind = kind; place = record { line = min line 4294967295; col = 1 } })
+
 -- a refusal of the text as a whole, told at its first byte
 abbrev pub refused_at_start : Kind → Verdict
-refused_at_start kind = Refused (record { kind = kind; place = record { line = 1; col = 1 } })
+refused_at_start kind = refused_at kind 1
 
 abbrev pub limits_of : Job → Limits
 limits_of job = record { steps = job.steps; cells = job.cells }
@@ -90,7 +94,7 @@ pub record IsElided (job : Job) (place : Place) (typed : PlainProgram) (answered
 -- the verdict on a run of a text, by its schedule and how it came out: a demo tells what it made, and a trace is told in place of a report
 abbrev pub told_by : Command → Job → List ℕ → List ℕ → Outcome → Verdict
 told_by command.Demo job text schedule outcome = Demo job.n (length text) outcome
-told_by command.Trace job text schedule outcome = Traced outcome (trace_of job.arg (limits_of job) schedule text)
+told_by command.Trace job text schedule outcome = Traced outcome (trace_text job.arg (limits_of job) schedule text)
 told_by _ job text schedule outcome = Ran outcome
 
 abbrev pub told_of : Job → List ℕ → List ℕ → Outcome → Verdict

@@ -4,7 +4,7 @@ use Rattle.dpj_history.specs.declared.Record.{Record}
 use Rattle.dpj_make.specs.Demo.{demo_text}
 use Rattle.dpj_words.specs.Jobs.{job}
 use Rattle.dpj_words.specs.declared.command.Command.{Command}
-use Rattle.dpj_words.specs.declared.command.Command.TheVariants.{Demo}
+use Rattle.dpj_words.specs.declared.command.Command.TheVariants.{Demo, Replay}
 use Rattle.dpj_words.specs.declared.job.Job.{Job}
 use Rattle.dpj_words.specs.Reports.{report_of, status_of}
 use Rattle.dpj_words.specs.declared.verdict.Status.{Status}
@@ -12,6 +12,7 @@ use Rattle.dpj_words.specs.declared.verdict.Status.TheVariants as ended
 use Rattle.dpj_words.specs.declared.verdict.Verdict.TheVariants.{Usage}
 use Rattle.dpj_top.specs.declared.answered.Answered.{Answered}
 use Rattle.dpj_top.specs.Answer.{IsAnswer, only, most_bytes}
+use Rattle.dpj_top.specs.Replaying.{IsReplayed}
 
 -- a demo makes its text, and every other job is on the text that the source holds
 abbrev pub makes_text : Command → Bool
@@ -21,10 +22,18 @@ makes_text _ = false
 abbrev pub text_for : Job → Option (List ℕ) → Option (List ℕ)
 text_for job text = cond (makes_text job.command) (Some (demo_text job.n)) text
 
+-- the answer to a job on a text: a replay is asked of the text of a trace, and all else of a program's
+abbrev pub AnswersBy : Command → Job → List ℕ → Answered → Type 0
+AnswersBy Replay job text answered = IsReplayed text answered
+AnswersBy _ job text answered = IsAnswer job text answered
+
+abbrev pub Answers : Job → List ℕ → Answered → Type 0
+Answers job text answered = AnswersBy job.command job text answered
+
 -- The answer to words, and to the text that the source held where it tells it: usage where they give no job,
 -- and else the answer to the job.
 abbrev pub IsAnswered : List (List ℕ) → Option (List ℕ) → Answered → Type 0
-IsAnswered words text answered = MatchOption (job words) (answered ≡ only Usage) (λ job. IfSome (text_for job text) (λ text. IsAnswer job text answered))
+IsAnswered words text answered = MatchOption (job words) (answered ≡ only Usage) (λ job. IfSome (text_for job text) (λ text. Answers job text answered))
 
 -- the words give a job on a text that the source holds
 abbrev pub asks_text : Option Job → Bool

@@ -1,3 +1,3 @@
 pub mod Answer
 pub mod Call
-pub mod Judging
+pub mod Replaying

@@ -29,10 +29,11 @@ impl Answered {
         Answered::only(Verdict::Refused(refusal))
     }
 
-    /// A refusal at the first byte of a line.
-    pub fn refused_at(kind: Kind, line: u32) -> Answered
+    /// A refusal at the first byte of a line, as far as a place counts lines.
+    pub fn refused_at(kind: Kind, line: u64) -> Answered
         ensures { result ≡ only (refused_at kind line) }
     {
+        let line = line.min(4294967295) as u32;
         Answered::refused(Refusal {
             kind,
             place: Place { line, col: 1 },

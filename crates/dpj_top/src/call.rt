@@ -1,13 +1,15 @@
 ghost use Rattle.std.specs.Prelude.{◌≡◌, ◌≢◌, ◌<◌, ◌≤◌, None, false, true, map, length, IfOk, IfErr, IfSome, IsSome, OnOk};
 ghost use Rattle.std.specs.String.{string_bytes};
 ghost use Rattle.dpj_io.specs.Ends.{Rose};
+ghost use Rattle.dpj_make.specs.Demo.{demo_text};
 ghost use Rattle.dpj_words.specs.Jobs.{job, IsInRange};
 ghost use Rattle.dpj_words.specs.Reports.{report_of, status_of};
 ghost use Rattle.dpj_top.specs.Answer.{IsAnswer, most_bytes, only};
-ghost use Rattle.dpj_top.specs.Call.{IsAnswered, TellsOfVerdict, Tells, BreaksOff, ReadToEnd, Appends, AppendsPart, asks_text, makes_text};
+ghost use Rattle.dpj_top.specs.Call.{Answers, IsAnswered, TellsOfVerdict, Tells, BreaksOff, ReadToEnd, Appends, AppendsPart, asks_text, makes_text};
 
 use crate::answered::Answered;
 use crate::answers::{MAX_TEXT, answer};
+use crate::replays::{MAX_TRACE, replayed};
 use dpj_base::{Kind, NoMemory};
 use dpj_history::Record;
 use dpj_io::{ReadEnd, Sink, Source, WriteFault, read_all, write_all};
@@ -24,9 +26,6 @@ pub struct Ended {
     pub status: Status,
     pub recorded: Option<Record>,
 }
-
-/// The most bytes that a trace may have.
-const MAX_TRACE: usize = 67108864;
 
 /// Carries out the job that the words give, on the text that the source holds, and writes one report after
 /// what the sink holds.
@@ -136,6 +135,24 @@ fn demonstrate<R: Threads + Wait + Sync, G: Gate + Sync>(
     answer(rt, alloc, job, text.as_slice(), gate)
 }
 
+/// The answer to a job on a text that isn't too long for it.
+fn answer_text<R: Threads + Wait + Sync, G: Gate + Sync>(
+    rt: &R,
+    alloc: Global,
+    job: &Job,
+    text: &[u8],
+    gate: &G,
+) -> Result<Answered, NoMemory>
+    requires in_range { IsInRange job.now }
+    requires short { length text.now ≤ most_bytes job.now.command }
+    ensures { IfOk result (Answers job.now text.now) }
+{
+    match job.command {
+        Command::Replay => replayed(alloc, text),
+        _ => answer(rt, alloc, job, text, gate),
+    }
+}
+
 /// The answer to a job on the text that a source holds.
 fn answer_source<R: Threads + Wait + Sync, S: Source, G: Gate + Sync>(
     rt: &R,
@@ -146,14 +163,14 @@ fn answer_source<R: Threads + Wait + Sync, S: Source, G: Gate + Sync>(
 ) -> Result<Answered, Unread>
     requires in_range { IsInRange job.now }
     requires read { makes_text job.now.command ≡ false }
-    ensures ok { IfOk result (λ answered. IfSome (S.left source.old) (λ text. IsAnswer job.now text answered)) }
+    ensures ok { IfOk result (λ answered. IfSome (S.left source.old) (λ text. Answers job.now text answered)) }
     ensures no_usage { IfOk result (λ answered. status_of answered.verdict ≢ Status.Usage) }
     ensures read_fault { IfErr result (λ unread. unread ≡ Unread.ReadFault → Rose (S.faults source.old) (S.faults source.new)) }
     ensures read_to_end { OnOk result (IfSome (S.left source.old) (λ text. length text ≤ most_bytes job.now.command → S.left source.new ≡ Some [])) }
     ensures count { S.faults source.old ≤ S.faults source.new }
 {
     match read_all(alloc, source, most_bytes(job.command)) {
-        Ok(text) => Ok(answer(rt, alloc, job, text.as_slice(), gate)?),
+        Ok(text) => Ok(answer_text(rt, alloc, job, text.as_slice(), gate)?),
         Err(ReadEnd::TooLong) => Ok(Answered::refused_at(Kind::TooLong, 1)),
         Err(ReadEnd::ReadFault) => Err(Unread::ReadFault),
         Err(ReadEnd::NoMemory) => Err(Unread::NoMemory),

@@ -2,13 +2,12 @@ ghost use Rattle.std.specs.Prelude.{◌≡◌, ◌≢◌, IfOk};
 ghost use Rattle.dpj_front.specs.Judging.{CanRun, typed_of};
 ghost use Rattle.dpj_words.specs.Jobs.{IsInRange};
 ghost use Rattle.dpj_words.specs.declared.command.Command.TheVariants.{Replay, Effects};
-ghost use Rattle.dpj_top.specs.Answer.{IsAnswerOn, IsElided, IsListing, IsRun, IsTold, verdict_of_elision};
+ghost use Rattle.dpj_top.specs.Answer.{IsAnswerOn, IsElided, IsListing, IsRan, only, told_of, verdict_of_elision};
 
 use crate::answered::{Answered, limits};
-use dpj_base::{NoMemory, Outcome, Place, Plain};
+use dpj_base::{NoMemory, Outcome, Place};
 use dpj_compile::compile;
 use dpj_front::Passed;
-use dpj_history::Record;
 use dpj_listing::listing;
 use dpj_run::{elide, run};
 use dpj_trace::trace_text;
@@ -33,9 +32,7 @@ pub fn carry_out<R: Threads + Wait + Sync, G: Gate + Sync>(
     ensures { IfOk result (IsAnswerOn job.now text.now passed.place (typed_of passed)) }
 {
     match job.command {
-        Command::Run | Command::Demo | Command::Trace => {
-            ran(rt, alloc, job, text, passed, gate)
-        }
+        Command::Run | Command::Demo | Command::Trace => { ran(rt, alloc, job, text, passed, gate) }
         Command::Elide => elided(alloc, job, passed),
         Command::List => listed(alloc, passed),
         _ => Ok(Answered::only(Verdict::Accepted)),
@@ -53,28 +50,39 @@ fn ran<R: Threads + Wait + Sync, G: Gate + Sync>(
 ) -> Result<Answered, NoMemory>
     requires in_range { IsInRange job.now }
     requires can_run { CanRun (typed_of passed) }
-    ensures { IfOk result (IsRun job.now text.now passed.place (typed_of passed)) }
+    ensures { IfOk result (IsRan job.now text.now passed.place (typed_of passed)) }
 {
     let place = passed.place;
     let typed = passed.typed(alloc)?;
     match run(rt, alloc, &typed, limits(job), job.arg, job.workers, gate)? {
-        Some(record) => Ok(Answered {
-            verdict: told(alloc, job, text, &record)?,
-            recorded: Some(record),
+        Some(run) => Ok(Answered {
+            verdict: told(alloc, job, text, run.record.machine.schedule(), run.outcome)?,
+            recorded: Some(run.record),
         }),
         None => Ok(Answered::refused_form(place)),
     }
 }
 
-/// What is told of the run that a record holds.
-fn told(alloc: Global, job: &Job, text: &[u8], record: &Record) -> Result<Verdict, NoMemory>
-    ensures { IfOk result (IsTold job.now text.now record.now) }
+/// The verdict on a run of a text, by its schedule and how it came out.
+fn told(
+    alloc: Global,
+    job: &Job,
+    text: &[u8],
+    schedule: &[u32],
+    outcome: Outcome,
+) -> Result<Verdict, NoMemory>
+    ensures { IfOk result (λ verdict. verdict ≡ told_of job.now text.now schedule.now outcome) }
 {
-    let Some(outcome) = record.machine.outcome() else { return Err(NoMemory); };
-    let outcome = outcome.copy(alloc)?;
     Ok(match job.command {
-        Command::Demo => Verdict::Demo { classes: job.n, bytes: text.len() as u64, outcome },
-        Command::Trace => Verdict::Traced { outcome, text: trace_text(alloc, job.arg, limits(job), record.machine.schedule(), text)? },
+        Command::Demo => Verdict::Demo {
+            classes: job.n,
+            bytes: text.len() as u64,
+            outcome,
+        },
+        Command::Trace => Verdict::Traced {
+            outcome,
+            text: trace_text(alloc, job.arg, limits(job), schedule, text)?,
+        },
         _ => Verdict::Ran(outcome),
     })
 }

@@ -83,7 +83,14 @@ fn texts_are_answered_by_a_report_and_a_status(rt: HostRuntime) -> Result<(), Fa
         let words = words_of(alloc, words)?;
         let mut source = PlainSource::new(Vec::from_slice(alloc, text.as_bytes())?);
         let mut sink = PlainSink::new(alloc, 128)?;
-        let ended = dpj(&rt, alloc, words.as_slice(), &mut source, &mut sink, &NoGate);
+        let ended = dpj(
+            &rt,
+            alloc,
+            words.as_slice(),
+            &mut source,
+            &mut sink,
+            &NoGate,
+        );
         assert_eq!(rt; sink.held(), report.as_bytes());
         assert_eq!(rt; ended.status, status);
     }
@@ -161,7 +168,14 @@ fn faults_leave_a_first_part_of_the_report(rt: HostRuntime) -> Result<(), Fail> 
             write_piece,
             Vec::from_slice(alloc, failing_writes)?,
         )?;
-        let ended = dpj(&rt, alloc, words.as_slice(), &mut source, &mut sink, &NoGate);
+        let ended = dpj(
+            &rt,
+            alloc,
+            words.as_slice(),
+            &mut source,
+            &mut sink,
+            &NoGate,
+        );
         assert_eq!(rt; sink.held(), held.as_bytes());
         assert_eq!(rt; ended.status, status);
     }
@@ -180,7 +194,14 @@ fn a_text_may_be_of_the_greatest_length_and_no_longer(rt: HostRuntime) -> Result
         text.resize(length, b' ')?;
         let mut source = PlainSource::new(text);
         let mut sink = PlainSink::new(alloc, 128)?;
-        let ended = dpj(&rt, alloc, words.as_slice(), &mut source, &mut sink, &NoGate);
+        let ended = dpj(
+            &rt,
+            alloc,
+            words.as_slice(),
+            &mut source,
+            &mut sink,
+            &NoGate,
+        );
         assert_eq!(rt; sink.held(), report.as_bytes());
         assert_eq!(rt; ended.status, status);
     }

@@ -1,10 +1,9 @@
-use Rattle.std.proofs.Common.{ap, inl}
-use Rattle.dpj_top.specs.Answer.{asks_list}
-use Rattle.dpj_top.proofs.Verdicts.{no-list}
+use Rattle.std.proofs.Common.{inl}
+use Rattle.dpj_top.proofs.Verdicts.{reads, reads-not}
 use Rattle.dpj_top.proofs.answers.answer.Goals as goal
 
-pub by_program-requires-clause-left : goal.by_program-requires-clause-left
-by_program-requires-clause-left c = inl (ap asks_list c.in-List.is)
+pub by_form-requires-clause-reads : goal.by_form-requires-clause-reads
+by_form-requires-clause-reads g c = reads c.args.job.now.command c.in-Check.is
 
-pub by_form-requires-clause-no_list : goal.by_form-requires-clause-no_list
-by_form-requires-clause-no_list c = no-list c.args.job.now.command c.in_default.not-List
+pub by_program-requires-clause-left : goal.by_program-requires-clause-left
+by_program-requires-clause-left g c = inl (reads-not c.args.job.now.command c.in_default.not-Check c.in_default.not-Run c.in_default.not-Elide)

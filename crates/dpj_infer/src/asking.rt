@@ -1,0 +1,95 @@
+use crate::classes::{add_copies, class_at, member_at, params_from, seen_as};
+use crate::kept::Kept;
+use crate::own::Own;
+use crate::scope::{Known, Scope};
+use crate::stmts::block;
+use crate::walk::{Keeping, Walk, item_kept};
+use dpj_base::{Access, Effect, Items, NoMemory, Plain, Rpl};
+use dpj_regions::{includes, subst};
+use dpj_typed::{Class, ClassId, Member, MemberId, Program, Slot};
+use std::alloc::Global;
+
+/// What the body of a member does, where all members do what is kept of their summaries.
+pub fn done_by(walk: Walk<'_>, member: &Member) -> Result<Items<Own>, NoMemory> {
+    let mut scope = Scope::new(walk.alloc, member.slots, member.local_regions)?;
+    for at in 0..member.formals.len() {
+        scope.put(
+            Slot {
+                number: (at as u32).saturating_add(1),
+            },
+            Known::Variable,
+        );
+    }
+    let mut out = Items::new(walk.alloc);
+    block(walk, &mut scope, member.body.as_slice(), &mut out)?;
+    Ok(out)
+}
+
+/// How much of an item a demand asks for, where the item takes it: it has the place, and it isn't marked, or the demand is too.
+pub fn asked(item: &Effect, place: &Rpl, demand: &Effect) -> Kept {
+    let takes = includes(place, &demand.rpl) && (!item.atomic || demand.atomic);
+    match (takes, demand.access) {
+        (false, _) => Kept::Nothing,
+        (true, Access::Read) => Kept::Read,
+        (true, Access::Write) => Kept::Whole,
+    }
+}
+
+/// The more of two.
+pub fn more(a: Kept, b: Kept) -> Kept {
+    match (a, b) {
+        (Kept::Whole, _) | (_, Kept::Whole) => Kept::Whole,
+        (Kept::Read, _) | (_, Kept::Read) => Kept::Read,
+        _ => Kept::Nothing,
+    }
+}
+
+/// The items of a member as a class right below sees them that overrides it.
+pub fn seen_items(
+    alloc: Global,
+    program: &Program,
+    class: ClassId,
+    below: &Class,
+    member: &Member,
+) -> Result<Items<Rpl>, NoMemory> {
+    let mut args = Items::new(alloc);
+    params_from(alloc, 0, below.params.len(), &mut args)?;
+    let mut all = seen_as(alloc, program, class.number, args, member.class.number)?;
+    let first = first_own(program, member);
+    let mut own = Items::new(alloc);
+    params_from(alloc, first, member.params.len(), &mut own)?;
+    add_copies(alloc, &own, &mut all)?;
+    let mut items = Items::new(alloc);
+    for item in member.summary.as_slice() {
+        items.push(subst(alloc, &item.rpl, all.as_slice())?)?;
+    }
+    Ok(items)
+}
+
+/// The number of the first region parameter of a method, behind those of its class.
+fn first_own(program: &Program, member: &Member) -> usize {
+    match class_at(program, member.class.number) {
+        Some(class) => class.params.len(),
+        None => 0,
+    }
+}
+
+/// What is kept of the summary of a member.
+pub fn kept_of(
+    alloc: Global,
+    program: &Program,
+    kept: &Keeping,
+    number: MemberId,
+) -> Result<Items<Effect>, NoMemory> {
+    let mut all = Items::new(alloc);
+    let (Some(member), Some(kept)) = (member_at(program, number), kept.get(number.number as usize))
+    else {
+        return Ok(all);
+    };
+    for (item, kept) in member.summary.as_slice().iter().zip(kept.as_slice()) {
+        if let Some(effect) = item_kept(alloc, *kept, item)? {
+            all.push(effect)?;
+        }
+    }
+    Ok(all)
+}

@@ -1,0 +1,182 @@
+use crate::asking::{asked, done_by, kept_of, more, seen_items};
+use crate::classes::{class_at, member_at};
+use crate::kept::Kept;
+use crate::walk::{Keeping, Walk};
+use dpj_base::{Effect, Items, NoMemory, Rpl};
+use dpj_typed::{Class, ClassId, Member, MemberId, Program};
+use std::alloc::Global;
+
+/// What of the summaries of a program its bodies need: of each member, by number, how much is kept of each written item.
+pub fn infer(alloc: Global, program: &Program) -> Result<Keeping, NoMemory> {
+    let mut kept = nothing_kept(alloc, program)?;
+    // Each pass but the last raises an item, and each item rises at most twice.
+    for _ in 0..most_passes(program) {
+        if !pass(alloc, program, &mut kept)? {
+            break;
+        }
+    }
+    Ok(kept)
+}
+
+fn nothing_kept(alloc: Global, program: &Program) -> Result<Keeping, NoMemory> {
+    let mut all = Items::new(alloc);
+    for member in program.members.as_slice() {
+        all.push(nothing_of(alloc, member)?)?;
+    }
+    Ok(all)
+}
+
+fn nothing_of(alloc: Global, member: &Member) -> Result<Items<Kept>, NoMemory> {
+    let mut all = Items::new(alloc);
+    for _ in 0..member.summary.len() {
+        all.push(Kept::Nothing)?;
+    }
+    Ok(all)
+}
+
+fn most_passes(program: &Program) -> usize {
+    let mut items = 0usize;
+    for member in program.members.as_slice() {
+        items = items.saturating_add(member.summary.len());
+    }
+    items.saturating_mul(2).saturating_add(1)
+}
+
+/// Asks each member once, the last ones first, since a method is mostly written before those that call it; whether an item rose.
+fn pass(alloc: Global, program: &Program, kept: &mut Keeping) -> Result<bool, NoMemory> {
+    let mut has_risen = false;
+    for number in 0..program.members.len() {
+        if ask_body(
+            alloc,
+            program,
+            MemberId {
+                number: number as u32,
+            },
+            kept,
+        )? {
+            has_risen = true;
+        }
+    }
+    for number in 0..program.classes.len() {
+        if ask_class(
+            alloc,
+            program,
+            ClassId {
+                number: number as u32,
+            },
+            kept,
+        )? {
+            has_risen = true;
+        }
+    }
+    Ok(has_risen)
+}
+
+/// Raises the items of a member that its body asks for more of.
+fn ask_body(
+    alloc: Global,
+    program: &Program,
+    number: MemberId,
+    kept: &mut Keeping,
+) -> Result<bool, NoMemory> {
+    let Some(member) = member_at(program, number) else {
+        return Ok(false);
+    };
+    let done = done_by(
+        Walk {
+            alloc,
+            program,
+            kept,
+        },
+        member,
+    )?;
+    let mut items = Items::new(alloc);
+    let mut demands = Items::new(alloc);
+    for item in member.summary.as_slice() {
+        items.push(dpj_base::Plain::copy(&item.rpl, alloc)?)?;
+    }
+    for own in done.into_vec() {
+        demands.push(own.effect)?;
+    }
+    raise(alloc, number, member, &items, &demands, kept)
+}
+
+/// Raises the items of the members that the members of a class override.
+fn ask_class(
+    alloc: Global,
+    program: &Program,
+    number: ClassId,
+    kept: &mut Keeping,
+) -> Result<bool, NoMemory> {
+    let Some(class) = class_at(program, number.number) else {
+        return Ok(false);
+    };
+    let Some(parent) = &class.parent else {
+        return Ok(false);
+    };
+    let Some(above) = class_at(program, parent.class.number) else {
+        return Ok(false);
+    };
+    let mut has_risen = false;
+    for (over, member) in class.rows.as_slice().iter().zip(above.rows.as_slice()) {
+        if over != member && ask_override(alloc, program, number, class, *over, *member, kept)? {
+            has_risen = true;
+        }
+    }
+    Ok(has_risen)
+}
+
+fn ask_override(
+    alloc: Global,
+    program: &Program,
+    number: ClassId,
+    class: &Class,
+    over: MemberId,
+    above: MemberId,
+    kept: &mut Keeping,
+) -> Result<bool, NoMemory> {
+    let Some(member) = member_at(program, above) else {
+        return Ok(false);
+    };
+    let items = seen_items(alloc, program, number, class, member)?;
+    let demands = kept_of(alloc, program, kept, over)?;
+    raise(alloc, above, member, &items, &demands, kept)
+}
+
+/// Raises the items of a member to what is asked, as far as they are written, where they lie in these places.
+fn raise(
+    alloc: Global,
+    number: MemberId,
+    member: &Member,
+    places: &Items<Rpl>,
+    demands: &Items<Effect>,
+    kept: &mut Keeping,
+) -> Result<bool, NoMemory> {
+    let at = number.number as usize;
+    let Some(old) = kept.get(at) else {
+        return Ok(false);
+    };
+    let mut new = Items::new(alloc);
+    let mut has_risen = false;
+    for ((item, place), old) in member
+        .summary
+        .as_slice()
+        .iter()
+        .zip(places.as_slice())
+        .zip(old.as_slice())
+    {
+        let risen = raised(item, place, demands.as_slice(), *old);
+        has_risen = has_risen || risen != *old;
+        new.push(risen)?;
+    }
+    kept.set(at, new);
+    Ok(has_risen)
+}
+
+fn raised(item: &Effect, place: &Rpl, demands: &[Effect], old: Kept) -> Kept {
+    let mut risen = old;
+    for demand in demands {
+        risen = more(risen, asked(item, place, demand));
+    }
+    risen
+}

@@ -1,0 +1,65 @@
+ghost use Rattle.std.specs.Prelude.{◌≤◌, length, IfOk};
+ghost use Rattle.dpj_front.specs.Judging.{CanRun, typed_of};
+ghost use Rattle.dpj_trace.specs.Reading.{AreLimits, IsTrace};
+ghost use Rattle.dpj_top.specs.Replaying.{IsAnswerOnTrace, IsReplayOf, IsReplayed};
+
+use crate::answered::Answered;
+use crate::answers::MAX_TEXT;
+use dpj_base::{Kind, NoMemory, Stop};
+use dpj_front::{Passed, front};
+use dpj_run::{Replayed, replay};
+use dpj_trace::{Trace, TraceStop, read_trace, trace_line};
+use dpj_words::Verdict;
+use std::alloc::Global;
+
+/// The most bytes that a trace may have.
+pub const MAX_TRACE: usize = 67108864;
+
+/// The answer to the text of a trace that isn't too long.
+pub fn replayed(alloc: Global, bytes: &[u8]) -> Result<Answered, NoMemory>
+    requires short { length bytes.now ≤ MAX_TRACE }
+    ensures { IfOk result (IsReplayed bytes.now) }
+{
+    match read_trace(alloc, bytes) {
+        Ok(trace) => on_trace(alloc, bytes, &trace),
+        Err(TraceStop::Bad(line)) => Ok(Answered::refused_at(Kind::Trace, line)),
+        Err(TraceStop::NoMemory) => Err(NoMemory),
+    }
+}
+
+/// The answer to bytes that are this trace.
+fn on_trace(alloc: Global, bytes: &[u8], trace: &Trace) -> Result<Answered, NoMemory>
+    requires trace { IsTrace bytes.now trace.now }
+    ensures { IfOk result (IsAnswerOnTrace bytes.now trace.now) }
+{
+    let text = &bytes[trace.from as usize..];
+    if text.len() > MAX_TEXT {
+        return Ok(Answered::refused_at(Kind::TooLong, 1));
+    }
+    match front(alloc, text) {
+        Ok(passed) => follow(alloc, trace, passed),
+        Err(Stop::Refused(refusal)) => Ok(Answered::refused(refusal)),
+        Err(Stop::NoMemory) => Err(NoMemory),
+    }
+}
+
+/// The answer to a trace of an accepted program.
+fn follow(alloc: Global, trace: &Trace, passed: Passed) -> Result<Answered, NoMemory>
+    requires can_run { CanRun (typed_of passed) }
+    requires limits { AreLimits trace.now.limits }
+    ensures { IfOk result (IsReplayOf trace.now passed.place (typed_of passed)) }
+{
+    let place = passed.place;
+    let typed = passed.typed(alloc)?;
+    let schedule = trace.schedule.as_slice();
+    Ok(
+        match replay(alloc, &typed, trace.limits, trace.arg, schedule)? {
+            Replayed::Ran(run) => Answered {
+                verdict: Verdict::Ran(run.outcome),
+                recorded: Some(run.record),
+            },
+            Replayed::Unfit(at) => Answered::refused_at(Kind::Schedule, trace_line(schedule, at)),
+            Replayed::Halted => Answered::refused_form(place),
+        },
+    )
+}
