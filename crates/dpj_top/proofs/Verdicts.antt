@@ -24,7 +24,7 @@ use Rattle.dpj_tokens.specs.Cutting.{Cuts, OneCutting}
 use Rattle.dpj_run.specs.Run.{ComesOut}
 use Rattle.dpj_front.specs.Front.{IsPassed, IsFault}
 use Rattle.dpj_top.specs.declared.answered.Answered.{Answered}
-use Rattle.dpj_top.specs.Answer.{IsAnswer, too_long, of_first_form, faulty, of_program, IsDecided, is_long, is_first, has_no_tokens, IsLeft, IsRan, came_out, not_at_all, IsElided, IsListing, IsAnswerOn, to_check, to_run, to_elide, to_list, told_by, verdict_of_elision, only, asks_run, asks_outcome, reads_form, first_answer, refused_at_start, max_text}
+use Rattle.dpj_top.specs.Answer.{IsAnswer, too_long, of_first_form, faulty, of_program, IsDecided, is_long, is_first, has_no_tokens, IsLeft, IsRan, came_out, not_at_all, IsElided, IsListing, IsAnswerOn, to_check, to_run, to_elide, to_list, to_effects, TellsEffects, told_by, verdict_of_elision, only, asks_run, asks_outcome, reads_form, first_answer, refused_at_start, max_text}
 
 ending_status-no-usage : (ending : Ending) → ending_status ending ≡ ended.Usage → ⊥
 ending_status-no-usage (Done value) e = cc
@@ -62,6 +62,7 @@ program-no-usage job text place typed answered (to_run asked is) e = ran-no-usag
 program-no-usage job text place typed answered (to_elide asked is) e =
     elision-no-usage place is.outcome (ap (λ (a : Answered). status_of a.verdict) (sym is.is) ∙ e)
 program-no-usage job text place typed answered (to_list asked is) e = let lists = is.lists in cc
+program-no-usage job text place typed answered (to_effects asked is) e = let tells = is.is in cc
 
 -- the answer to a job isn't told as usage
 pub answer-no-usage : (job : Job) (text : List ℕ) (answered : Answered) → IsAnswer job text answered → status_of answered.verdict ≡ ended.Usage → ⊥
@@ -144,6 +145,23 @@ pub list-answer : (asked : Job) (text : List ℕ) (place : Place) (typed : Plain
     → IfOk result (IsListing typed) → IfOk result (IsAnswerOn asked text place typed)
 list-answer asked text place typed (Ok answered) is lists = to_list is lists
 list-answer asked text place typed (Err none) is lists = tt
+
+pub effects-answer : (asked : Job) (text : List ℕ) (place : Place) (typed : PlainProgram) (result : Result Answered NoMemory) → asked.command ≡ command.Effects
+    → IfOk result TellsEffects → IfOk result (IsAnswerOn asked text place typed)
+effects-answer asked text place typed (Ok answered) is tells = to_effects is tells
+effects-answer asked text place typed (Err none) is tells = tt
+
+-- any other command than these that is no replay is to check
+pub is-check : (c : Command) → c ≢ command.Run → c ≢ command.Demo → c ≢ command.Trace → c ≢ command.Elide → c ≢ command.«List» → c ≢ command.Effects → c ≢ command.Replay
+    → c ≡ command.Check
+is-check command.Check run demo trace elide list effects replay = refl
+is-check command.Run run demo trace elide list effects replay = absurd (run refl)
+is-check command.Demo run demo trace elide list effects replay = absurd (demo refl)
+is-check command.Trace run demo trace elide list effects replay = absurd (trace refl)
+is-check command.Elide run demo trace elide list effects replay = absurd (elide refl)
+is-check command.«List» run demo trace elide list effects replay = absurd (list refl)
+is-check command.Effects run demo trace elide list effects replay = absurd (effects refl)
+is-check command.Replay run demo trace elide list effects replay = absurd (replay refl)
 
 -- the answer on an accepted program is an answer
 pub program-answer : (asked : Job) (text : List ℕ) (place : Place) (typed : PlainProgram) (result : Result Answered NoMemory) → length text ≤ max_text

@@ -23,7 +23,7 @@ use Rattle.dpj_words.specs.declared.command.Command.{Command}
 use Rattle.dpj_words.specs.declared.command.Command.TheVariants as command
 use Rattle.dpj_words.specs.declared.job.Job.{Job}
 use Rattle.dpj_words.specs.declared.verdict.Verdict.{Verdict}
-use Rattle.dpj_words.specs.declared.verdict.Verdict.TheVariants.{Refused, Ran, Listed, Accepted, Demo, Traced}
+use Rattle.dpj_words.specs.declared.verdict.Verdict.TheVariants.{Refused, Ran, Listed, Accepted, Demo, Traced, Effects}
 use Rattle.dpj_top.specs.declared.answered.Answered.{Answered}
 
 -- the most bytes that a text may have
@@ -112,12 +112,18 @@ pub record IsListing (typed : PlainProgram) (answered : Answered) : Type 0 where
   pub is_code : plain_code code ≡ compiled typed
   pub lists : answered ≡ only (Listed (listing_of code))
 
+-- some lines of inferred summaries; what they say isn't pinned
+pub record TellsEffects (answered : Answered) : Type 0 where
+  pub lines : List ℕ
+  pub is : answered ≡ only (Effects lines)
+
 -- the answer to a job on the accepted program of a text
 pub data IsAnswerOn (job : Job) (text : List ℕ) (place : Place) (typed : PlainProgram) (answered : Answered) : Type 0 where
   to_check : job.command ≡ command.Check → answered ≡ only Accepted → IsAnswerOn job text place typed answered
   to_run : asks_run job.command ≡ true → IsRan job text place typed answered → IsAnswerOn job text place typed answered
   to_elide : job.command ≡ command.Elide → IsElided job place typed answered → IsAnswerOn job text place typed answered
   to_list : job.command ≡ command.«List» → IsListing typed answered → IsAnswerOn job text place typed answered
+  to_effects : job.command ≡ command.Effects → TellsEffects answered → IsAnswerOn job text place typed answered
 
 -- the text is no program of the first form
 abbrev pub IsOther : List ℕ → Type 0

@@ -1,13 +1,14 @@
 ghost use Rattle.std.specs.Prelude.{◌≡◌, ◌≢◌, IfOk};
 ghost use Rattle.dpj_front.specs.Judging.{CanRun, typed_of};
 ghost use Rattle.dpj_words.specs.Jobs.{IsInRange};
-ghost use Rattle.dpj_words.specs.declared.command.Command.TheVariants.{Replay, Effects};
-ghost use Rattle.dpj_top.specs.Answer.{IsAnswerOn, IsElided, IsListing, IsRan, only, told_of, verdict_of_elision};
+ghost use Rattle.dpj_words.specs.declared.command.Command.TheVariants.{Replay};
+ghost use Rattle.dpj_top.specs.Answer.{IsAnswerOn, IsElided, IsListing, IsRan, TellsEffects, only, told_of, verdict_of_elision};
 
 use crate::answered::{Answered, limits};
 use dpj_base::{NoMemory, Outcome, Place};
 use dpj_compile::compile;
 use dpj_front::Passed;
+use dpj_infer::{infer, lines};
 use dpj_listing::listing;
 use dpj_run::{elide, run};
 use dpj_trace::trace_text;
@@ -35,6 +36,7 @@ pub fn carry_out<R: Threads + Wait + Sync, G: Gate + Sync>(
         Command::Run | Command::Demo | Command::Trace => { ran(rt, alloc, job, text, passed, gate) }
         Command::Elide => elided(alloc, job, passed),
         Command::List => listed(alloc, passed),
+        Command::Effects => inferred(alloc, passed),
         _ => Ok(Answered::only(Verdict::Accepted)),
     }
 }
@@ -107,6 +109,17 @@ fn of_elision(outcome: Option<Outcome>, place: Place) -> Answered
         Some(outcome) => Answered::only(Verdict::Ran(outcome)),
         None => Answered::refused_form(place),
     }
+}
+
+/// The inferred summaries of an accepted program.
+fn inferred(alloc: Global, passed: Passed) -> Result<Answered, NoMemory>
+    ensures { IfOk result TellsEffects }
+{
+    let typed = passed.typed(alloc)?;
+    let kept = infer(alloc, &typed)?;
+    Ok(Answered::only(Verdict::Effects(lines(
+        alloc, &typed, &kept,
+    )?)))
 }
 
 /// The listing of the code of an accepted program.

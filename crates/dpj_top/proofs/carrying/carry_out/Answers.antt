@@ -1,5 +1,6 @@
 use Rattle.dpj_front.specs.Judging.{typed_of}
-use Rattle.dpj_top.proofs.Verdicts.{run-answer, elide-answer, list-answer, asks, is-check}
+use Rattle.dpj_top.proofs.Verdicts.{run-answer, elide-answer, list-answer, effects-answer, asks, is-check}
+use Rattle.std.proofs.Common.{refl}
 use Rattle.dpj_top.specs.Answer.{to_check}
 use Rattle.dpj_top.proofs.carrying.carry_out.Goals as goal
 
@@ -14,3 +15,14 @@ returns-in-Elide g c =
 pub returns-in-List : goal.returns-in-List
 returns-in-List g c =
     list-answer c.args.job.now c.args.text.now c.args.passed.place (typed_of c.args.passed) c.listed.result c.in-List.is c.listed.ensures
+
+pub returns-in-Effects : goal.returns-in-Effects
+returns-in-Effects g c =
+    effects-answer c.args.job.now c.args.text.now c.args.passed.place (typed_of c.args.passed) c.inferred.result c.in-Effects.is c.inferred.ensures
+
+pub returns-in_default : goal.returns-in_default
+returns-in_default g c =
+    to_check
+    (is-check c.args.job.now.command c.in_default.not-Run c.in_default.not-Demo c.in_default.not-Trace c.in_default.not-Elide c.in_default.not-List
+    c.in_default.not-Effects c.requires.no_replay)
+    c.only.ensures
