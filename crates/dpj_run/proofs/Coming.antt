@@ -15,7 +15,7 @@ use Rattle.dpj_machine.specs.Keeping.{Played, IsReplayed, GreedilyOn, here, furt
 use Rattle.dpj_run.specs.Run.{IsRunOf, IsSameRun, IsElision, CannotGoOn, HasNoRun, halted, never_begun, ComesOut, finished, not_at_all, IsOpened, opened, too_wide, IsFinished, IsRun}
 use Rattle.dpj_run.specs.Run.{finished_so, unfinished_so, recorded_so, no_record}
 use Rattle.dpj_run.specs.declared.recorded.Recorded.{Recorded}
-use Rattle.dpj_workers.specs.declared.Worked.{Worked}
+use Rattle.dpj_workers.specs.declared.working.Worked.{Worked}
 
 -- where the test of all forks fails, not all are few
 pub not_few : (code : Code) (sites : List Site) (few : Bool) → sites ≡ code.sites → (IsTrue few ↔ All IsFew sites) → few ≡ false → All IsFew code.sites → ⊥

@@ -6,11 +6,11 @@ use Rattle.dpj_typed.specs.Plain.{PlainProgram}
 use Rattle.dpj_code.specs.declared.code.Code.{Code}
 use Rattle.dpj_code.specs.Plain.{plain_code}
 use Rattle.dpj_gen.specs.Whole.{compiled}
-use Rattle.dpj_history.specs.declared.Record.{Record}
+use Rattle.dpj_history.specs.declared.record.Record.{Record}
 use Rattle.dpj_legs.specs.Halts.{IsFew}
 use Rattle.dpj_machine.specs.declared.halted.Halted.TheVariants.{Stuck}
 use Rattle.dpj_machine.specs.Keeping.{Played, IsReplayed, HaltsGreedily, GreedilyOn, HasEnded}
-use Rattle.dpj_workers.specs.declared.Worked.{Worked}
+use Rattle.dpj_workers.specs.declared.working.Worked.{Worked}
 use Rattle.dpj_run.specs.declared.recorded.Recorded.{Recorded}
 
 -- a machine on the program's code, on the argument of `main`, within limits; it is where its schedule leads

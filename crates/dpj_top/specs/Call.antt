@@ -1,6 +1,6 @@
 -- What a call of the whole tool does to its source and its sink.
 use Rattle.std.specs.Prelude.{ℕ, ◌≡◌, ◌<◌, ◌≤◌, ◌++◌, Bool, true, false, cond, List, [], Option, Some, None, IfSome, MatchOption, length, take}
-use Rattle.dpj_history.specs.declared.Record.{Record}
+use Rattle.dpj_history.specs.declared.record.Record.{Record}
 use Rattle.dpj_make.specs.Demo.{demo_text}
 use Rattle.dpj_words.specs.Jobs.{job}
 use Rattle.dpj_words.specs.declared.command.Command.{Command}

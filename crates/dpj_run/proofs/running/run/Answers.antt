@@ -19,7 +19,7 @@ returns-in_ok-work-in-Some g c =
     let fits : SFits w32 c.args.argument = search rules in
     let o = opened_run P c.args.limits c.args.argument c.in-Some.machine (subst (λ m. IsOpened P c.args.limits c.args.argument m) c.in-Some.is (subst (λ a. IsOpened P c.args.limits a c.in_ok-machine.field-0) (to_z-of_z fits) c.in_ok-machine.ensures)) in
     recorded P c.args.limits c.args.argument c.args.workers c.in-Some.machine c.in_ok-work-in-Some.field-0 o.0 c.in_ok-work-in-Some.ensures.code
-    c.in_ok-work-in-Some.ensures.limits c.in_ok-work-in-Some.ensures.argument c.in_ok-work-in-Some.ensures.replayed c.in_ok-work-in-Some.ensures.seats
+    c.in_ok-work-in-Some.ensures.limits c.in_ok-work-in-Some.ensures.argument c.in_ok-work-in-Some.ensures.replayed c.in_ok-work-in-Some.ensures.len
     c.finished.result c.finished.ensures
 
 pub returns-in-None : goal.returns-in-None
