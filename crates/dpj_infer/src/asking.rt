@@ -1,4 +1,4 @@
-use crate::classes::{add_copies, class_at, member_at, params_from, seen_as};
+use crate::classes::{add_copies, class_at, counted, member_at, params_from, seen_as};
 use crate::kept::Kept;
 use crate::own::Own;
 use crate::scope::{Known, Scope};
@@ -12,13 +12,9 @@ use std::alloc::Global;
 /// What the body of a member does, where all members do what is kept of their summaries.
 pub fn done_by(walk: Walk<'_>, member: &Member) -> Result<Items<Own>, NoMemory> {
     let mut scope = Scope::new(walk.alloc, member.slots, member.local_regions)?;
-    for at in 0..member.formals.len() {
-        scope.put(
-            Slot {
-                number: (at as u32).saturating_add(1),
-            },
-            Known::Variable,
-        );
+    for at in 0..counted(&member.formals) {
+        let number = at.saturating_add(1);
+        scope.put(Slot { number }, Known::Variable);
     }
     let mut out = Items::new(walk.alloc);
     block(walk, &mut scope, member.body.as_slice(), &mut out)?;
@@ -53,11 +49,11 @@ pub fn seen_items(
     member: &Member,
 ) -> Result<Items<Rpl>, NoMemory> {
     let mut args = Items::new(alloc);
-    params_from(alloc, 0, below.params.len(), &mut args)?;
+    params_from(alloc, 0, counted(&below.params), &mut args)?;
     let mut all = seen_as(alloc, program, class.number, args, member.class.number)?;
     let first = first_own(program, member);
     let mut own = Items::new(alloc);
-    params_from(alloc, first, member.params.len(), &mut own)?;
+    params_from(alloc, first, counted(&member.params), &mut own)?;
     add_copies(alloc, &own, &mut all)?;
     let mut items = Items::new(alloc);
     for item in member.summary.as_slice() {
@@ -67,9 +63,9 @@ pub fn seen_items(
 }
 
 /// The number of the first region parameter of a method, behind those of its class.
-fn first_own(program: &Program, member: &Member) -> usize {
+fn first_own(program: &Program, member: &Member) -> u32 {
     match class_at(program, member.class.number) {
-        Some(class) => class.params.len(),
+        Some(class) => counted(&class.params),
         None => 0,
     }
 }

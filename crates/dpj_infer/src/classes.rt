@@ -72,17 +72,22 @@ fn all_subst(alloc: Global, paths: &Items<Rpl>, args: &Items<Rpl>) -> Result<Ite
 /// Region parameters from one on, so many, each as a path.
 pub fn params_from(
     alloc: Global,
-    first: usize,
-    count: usize,
+    first: u32,
+    count: u32,
     all: &mut Items<Rpl>,
 ) -> Result<(), NoMemory> {
     for at in 0..count {
         all.push(Rpl {
-            head: Head::Param(first.wrapping_add(at) as u32),
+            head: Head::Param(first.saturating_add(at)),
             elems: Elems::new(alloc),
         })?;
     }
     Ok(())
+}
+
+/// How many there are, as far as a number of 32 bits counts.
+pub fn counted<T>(all: &Items<T>) -> u32 {
+    all.len().min(4294967295) as u32
 }
 
 /// Adds copies of some paths to others.

@@ -1,5 +1,5 @@
 use crate::asking::{asked, done_by, kept_of, more, seen_items};
-use crate::classes::{class_at, member_at};
+use crate::classes::{class_at, counted, member_at};
 use crate::kept::Kept;
 use crate::walk::{Keeping, Walk};
 use dpj_base::{Effect, Items, NoMemory, Rpl};
