@@ -1,10 +1,9 @@
-//! What the definitions of the answer say of themselves.
+//! What the definitions of the answer say of themselves, and what they come to.
 ghost use Rattle.dpj_top.specs.Answer.{OneAnswer};
-ghost use Rattle.dpj_top.specs.Judging.{OneJudgement};
+ghost use Rattle.dpj_top.specs.Promise.{KeepsPromise};
 
-use dpj_check::one_checking;
-use dpj_classes::{one_fault, one_table};
 use dpj_first::one_reading;
+use dpj_promise::laws::law_promise;
 use dpj_tokens::one_cutting;
 
 /// There is at most one answer to a job on a text that is too long, is a program of the first form, or has a
@@ -16,11 +15,10 @@ pub fn one_answer()
     one_cutting();
 }
 
-/// A program is accepted, or it has one fault, and not both.
-pub fn one_judgement()
-    ensures { OneJudgement }
+/// The promise of the language, of each accepted program that is well typed and has no nd construct: whatever schedule a run
+/// made, it is answered by the outcome of the program's sequential elision, and so is the elision.
+pub fn promise()
+    ensures { KeepsPromise }
 {
-    one_table();
-    one_fault();
-    one_checking();
+    law_promise();
 }

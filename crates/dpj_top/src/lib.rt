@@ -16,4 +16,4 @@ mod replays;
 pub use answered::Answered;
 pub use answers::{MAX_TEXT, answer};
 pub use call::{Ended, dpj};
-pub use laws::one_answer;
+pub use laws::{one_answer, promise};

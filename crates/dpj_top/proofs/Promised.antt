@@ -1,0 +1,49 @@
+-- Answers of runs by the source alone, over plain variables.
+use Rattle.std.proofs.Common.{◌≡◌, ◌∙◌, ◌≤◌, ℕ, ℤ, FitsSigned, false, List, Some, None, ap, sym, refl, subst}
+use Rattle.std.specs.Int.{w32}
+use Rattle.dpj_base.specs.declared.outcome.Limits.{Limits}
+use Rattle.dpj_base.specs.declared.outcome.Outcome.{Outcome}
+use Rattle.dpj_base.specs.declared.place.Place.{Place}
+use Rattle.dpj_machine.specs.Keeping.{Played}
+use Rattle.dpj_typed.specs.Plain.{PlainProgram}
+use Rattle.dpj_typed.specs.WellTyped.{WellTyped}
+use Rattle.dpj_front.specs.Judging.{CanRun}
+use Rattle.dpj_promise.specs.Promise.{MachinesComeOutAsElided, elision}
+use Rattle.dpj_run.specs.Run.{IsRunOf, ComesOut, finished}
+use Rattle.dpj_run.specs.Run.{not_at_all as never}
+use Rattle.dpj_words.specs.Jobs.{IsInRange}
+use Rattle.dpj_words.specs.declared.job.Job.{Job}
+use Rattle.dpj_words.specs.declared.verdict.Verdict.TheVariants.{Ran}
+use Rattle.dpj_top.specs.declared.answered.Answered.{Answered}
+use Rattle.dpj_top.specs.Answer.{IsElided, IsRan, came_out, not_at_all, limits_of, only, refused_form, told_of, verdict_of_elision}
+use Rattle.dpj_top.specs.Promise.{KeepsPromise, TellsElision, as_elided, TellsElided, elided, no_elision}
+use Rattle.dpj_top.specs.Promise.{not_at_all as no_run}
+
+module _ (machines : MachinesComeOutAsElided) (typed : PlainProgram) (L : Limits) (argument : ℤ) (few : L.steps ≤ 20000000) (fits : FitsSigned w32 argument)
+    (can : CanRun typed) (wt : WellTyped typed) (none : typed.uses_nd ≡ false) where
+  -- a machine that has finished a run tells the outcome of the elision
+  pub told_elision : (p : Played) (o : Outcome) → IsRunOf typed L argument p → p.outcome ≡ Some o → o ≡ elision typed L argument
+  told_elision p o is come =
+      machines typed p o wt none can.0 can.1 is.is_code (subst (λ (k : Limits). k.steps ≤ 20000000) (sym is.limits) few) (subst (λ a. FitsSigned w32 a) (sym is.is_argument) fits)
+          is.replayed come
+      ∙ ap (λ k. elision typed k p.argument) is.limits ∙ ap (λ a. elision typed L a) is.is_argument
+
+pub keeps_promise : MachinesComeOutAsElided → KeepsPromise
+keeps_promise machines = record { run = run; elide = elide }
+  where
+    run : (job : Job) (text : List ℕ) (place : Place) (typed : PlainProgram) (answered : Answered) → IsInRange job → FitsSigned w32 job.arg → CanRun typed
+        → WellTyped typed → typed.uses_nd ≡ false → IsRan job text place typed answered → TellsElision job text place typed answered
+    run job text place typed _ range fits can wt none (came_out r is) =
+        as_elided r.record.machine.schedule
+        (ap (λ o. told_of job text r.record.machine.schedule o)
+        (told_elision machines typed (limits_of job) job.arg range.steps_most fits can wt none r.record.machine r.outcome is.is_run is.came))
+    run job text place typed _ range fits can wt none (not_at_all halts) = no_run halts refl
+
+    elide : (job : Job) (place : Place) (typed : PlainProgram) (answered : Answered) → IsInRange job → FitsSigned w32 job.arg → CanRun typed
+        → WellTyped typed → typed.uses_nd ≡ false → IsElided job place typed answered → TellsElided job place typed answered
+    elide job place typed answered range fits can wt none e = by e.outcome e.comes e.is
+      where
+        by : (outcome : _) → ComesOut typed (limits_of job) job.arg outcome → answered ≡ only (verdict_of_elision place outcome) → TellsElided job place typed answered
+        by _ (finished p o is come) same =
+            elided (same ∙ ap (λ k. only (Ran k)) (told_elision machines typed (limits_of job) job.arg range.steps_most fits can wt none p o is.is_run come))
+        by _ (never halts) same = no_elision halts same
