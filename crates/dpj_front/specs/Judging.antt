@@ -15,7 +15,7 @@ use Rattle.dpj_tree.specs.Nd.{program_uses_nd}
 use Rattle.dpj_typed.specs.Plain.{PlainProgram}
 use Rattle.dpj_assembly.specs.Assembled.{PlainBody, plain_body, program_of}
 use Rattle.dpj_check.specs.Methods.{BodiesChecking}
-use Rattle.dpj_front.specs.declared.front.Passed.{Passed}
+use Rattle.dpj_front.specs.declared.passing.Passed.{Passed}
 
 -- nothing is wrong with names and signatures, of which this is the table, nor with the table as a whole; its
 -- superclasses stand in the order of classes

@@ -6,8 +6,8 @@
 //! text. A program has one verdict at most (`one_judgement`).
 #![tactic(auto)]
 
-mod front;
+mod passing;
 mod laws;
 
-pub use front::{Passed, front};
+pub use passing::{Passed, front};
 pub use laws::one_judgement;

@@ -4,7 +4,7 @@ use Rattle.dpj_check.specs.Methods.{BodiesChecking}
 use Rattle.dpj_front.specs.Judging.{IsFaulty, of_bodies}
 use Rattle.dpj_front.proofs.Runnable.{can_run}
 use Rattle.dpj_front.proofs.Told.{handed-so}
-use Rattle.dpj_front.proofs.front.judge_bodies.Goals as goal
+use Rattle.dpj_front.proofs.passing.judge_bodies.Goals as goal
 
 pub returns-in_err-accepted-clause-fault : goal.returns-in_err-accepted-clause-fault
 returns-in_err-accepted-clause-fault c =

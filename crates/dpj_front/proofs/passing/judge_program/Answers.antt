@@ -1,7 +1,7 @@
 use Rattle.dpj_classes.specs.Build.{IsTold}
 use Rattle.dpj_front.specs.Judging.{IsFaulty, of_table}
 use Rattle.dpj_front.proofs.Told.{handed-so}
-use Rattle.dpj_front.proofs.front.judge_program.Goals as goal
+use Rattle.dpj_front.proofs.passing.judge_program.Goals as goal
 
 pub judge_bodies-requires-clause-has_table : goal.judge_bodies-requires-clause-has_table
 judge_bodies-requires-clause-has_table c = record {

@@ -5,7 +5,7 @@ use Rattle.dpj_tree.proofs.Sizes.{classes_counted}
 use Rattle.dpj_front.specs.Front.{IsTokenFault, of_program}
 use Rattle.dpj_front.specs.Judging.{IsFaulty}
 use Rattle.dpj_front.proofs.Told.{told-so}
-use Rattle.dpj_front.proofs.front.judge_text.Goals as goal
+use Rattle.dpj_front.proofs.passing.judge_text.Goals as goal
 
 few : (classes size bytes : ℕ) → classes ≤ size → size ≤ bytes → bytes ≤ 1048576 → classes < 4294967295
 few classes size bytes h k l = omega (arith, h, k, l)
