@@ -39,7 +39,7 @@ signed-without byte (pos n) low fits = let small : n < 2147483648 = fits.sfits i
 signed-without byte (negsuc n) low fits =
     let small : n < 2147483648 = fits.sfits in (λ e. omega (arith, e, low), decimal-without byte (suc n) (omega (arith, low)) (omega (arith, small)))
 
-without-append : (byte : ℕ) (f g : List ℕ) → Without byte f → Without byte g → Without byte (f ++ g)
+pub without-append : (byte : ℕ) (f g : List ℕ) → Without byte f → Without byte g → Without byte (f ++ g)
 without-append byte [] g hf hg = hg
 without-append byte (b ∷ f) g hf hg = (hf.0, without-append byte f g hf.1 hg)
 

@@ -6,3 +6,5 @@ pub mod Telling
 pub mod Scheduling
 pub mod Leading
 pub mod Ending
+pub mod Once
+pub mod Whole

@@ -3,3 +3,4 @@ pub mod Runs
 pub mod Text
 pub mod Reading
 pub mod Listing
+pub mod Laws

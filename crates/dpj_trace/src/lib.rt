@@ -10,6 +10,7 @@
 #![tactic(auto)]
 
 mod head;
+mod laws;
 mod listed;
 mod numbers;
 mod pieces;
@@ -18,6 +19,7 @@ mod runs;
 mod settings;
 mod writing;
 
+pub use laws::law_readings;
 pub use reading::{Trace, TraceStop, read_trace};
 pub use runs::{Run, trace_line};
 pub use writing::trace_text;
