@@ -2,7 +2,7 @@ use crate::asking::{asked, done_by, kept_of, more, seen_items};
 use crate::classes::{class_at, counted, member_at};
 use crate::kept::Kept;
 use crate::walk::{Keeping, Walk};
-use dpj_base::{Effect, Items, NoMemory, Rpl};
+use dpj_base::{Effect, Items, NoMemory, Plain, Rpl};
 use dpj_typed::{Class, ClassId, Member, MemberId, Program};
 use std::alloc::Global;
 
@@ -42,30 +42,27 @@ fn most_passes(program: &Program) -> usize {
     items.saturating_mul(2).saturating_add(1)
 }
 
-/// Asks each member once, the last ones first, since a method is mostly written before those that call it; whether an item rose.
+/// Asks each member once; whether an item rose.
 fn pass(alloc: Global, program: &Program, kept: &mut Keeping) -> Result<bool, NoMemory> {
+    let by_bodies = ask_bodies(alloc, program, kept)?;
+    let by_overriding = ask_classes(alloc, program, kept)?;
+    Ok(by_bodies || by_overriding)
+}
+
+fn ask_bodies(alloc: Global, program: &Program, kept: &mut Keeping) -> Result<bool, NoMemory> {
     let mut has_risen = false;
-    for number in 0..program.members.len() {
-        if ask_body(
-            alloc,
-            program,
-            MemberId {
-                number: number as u32,
-            },
-            kept,
-        )? {
+    for number in 0..counted(&program.members) {
+        if ask_body(alloc, program, MemberId { number }, kept)? {
             has_risen = true;
         }
     }
-    for number in 0..program.classes.len() {
-        if ask_class(
-            alloc,
-            program,
-            ClassId {
-                number: number as u32,
-            },
-            kept,
-        )? {
+    Ok(has_risen)
+}
+
+fn ask_classes(alloc: Global, program: &Program, kept: &mut Keeping) -> Result<bool, NoMemory> {
+    let mut has_risen = false;
+    for number in 0..counted(&program.classes) {
+        if ask_class(alloc, program, ClassId { number }, kept)? {
             has_risen = true;
         }
     }
@@ -93,7 +90,7 @@ fn ask_body(
     let mut items = Items::new(alloc);
     let mut demands = Items::new(alloc);
     for item in member.summary.as_slice() {
-        items.push(dpj_base::Plain::copy(&item.rpl, alloc)?)?;
+        items.push(item.rpl.copy(alloc)?)?;
     }
     for own in done.into_vec() {
         demands.push(own.effect)?;
