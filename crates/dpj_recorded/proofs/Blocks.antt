@@ -14,7 +14,7 @@ use Rattle.dpj_code.specs.Machine.{Start}
 use Rattle.dpj_code.specs.Plain.{PlainCode, plain_code}
 use Rattle.dpj_code.specs.declared.code.Code.{Code}
 use Rattle.dpj_gen.specs.Compiled.{SameAct, SameReply}
-use Rattle.dpj_runs.specs.Actions.{Action, Begin, Do, End, Ending, Enter, Exit, Next, Own, Program, Rule, steps}
+use Rattle.dpj_runs.specs.Actions.{Action, Begin, Branches, Do, End, Ending, Enter, Exit, Fork, Join, Next, Own, Program, Rule, steps}
 use Rattle.dpj_runs.specs.Blocks.{Hold, In_block, Out_of, hold, hold_after}
 use Rattle.dpj_runs.specs.Meaning.{Disciplined}
 use Rattle.dpj_runs.specs.Objects.{Effect, LocalRegion, Name, Path}
@@ -70,6 +70,18 @@ said_same n m a b e = cc
 abbrev pub Quiet : Action → Type 0
 Quiet a = (h : Hold) → hold_after a h ≡ h
 
+-- neither a fork nor a begin
+abbrev pub NoFork : Action → Type 0
+NoFork a = ((ts : Branches) → a ≡ Fork ts → ⊥) × ((b : ℕ) → a ≡ Begin b → ⊥)
+
+abbrev pub NotForking : DeclaredAction → Type 0
+NotForking (action.Fork forking many) = ⊥
+NotForking (action.Begin b) = ⊥
+NotForking a = Unit {0}
+
+passes_do : {a : Action} {q : Own} → a ≡ Do q → NoFork a
+passes_do {q = q} is = (λ ts e. (let both : Do q ≡ Fork ts = sym is ∙ e in cc), λ b e. (let both : Do q ≡ Begin b = sym is ∙ e in cc))
+
 -- what an event of a machine is in the run, as far as blocks see it
 abbrev pub ActsLike : Sight → DeclaredAction → Action → Type 0
 ActsLike w (action.Enter effects) a = (F : List Effect) × (a ≡ Do (Enter F)) × EffectsLike w (map plain_effect effects) F
@@ -110,11 +122,11 @@ entry_like (enter_like {F = F} l) = (F, refl, l)
 leave_like : {w : Sight} {q : Own} → OwnLike w meaning.Exit q → q ≡ Exit
 leave_like exit_like = refl
 
-ending_like : {w : Sight} {e : meaning.Ending ℕ} {c : ActionOf} → ActionLike w (End e) c → (x : Ending) × (c ≡ End x)
+pub ending_like : {w : Sight} {e : meaning.Ending ℕ} {c : ActionOf} → ActionLike w (End e) c → (x : Ending) × (c ≡ End x)
 ending_like (end_like {f = x} l) = (x, refl)
 
 module _ (C : PlainCode) (P : PlainProgram) {w : Sight} {b : ActionIn} {c : ActionOf} (a : Action) (like : ActionLike w b c) (same : SameAct C P a c) where
-  own_acts : (o : meaning.Own ℕ (ℕ × ℕ)) → b ≡ Do o → (q : Own) × (a ≡ Do q) × OwnLike w o q
+  pub own_acts : (o : meaning.Own ℕ (ℕ × ℕ)) → b ≡ Do o → (q : Own) × (a ≡ Do q) × OwnLike w o q
   own_acts o e =
       let h = own_like (subst (λ b. ActionLike w b c) e like) in
       (h.0, same_do C P a h.0 (subst (λ c. SameAct C P a c) h.1 same), h.2)
@@ -139,6 +151,27 @@ module _ (C : PlainCode) (P : PlainProgram) {w : Sight} {b : ActionIn} {c : Acti
       subst Quiet (sym (same_join C P a (subst (λ c. SameAct C P a c) (joining_like (subst (λ b. ActionLike w b c) s like)) same))) (λ h. refl)
   acts_like (action.End e) s =
       (let h = ending_like (subst (λ b. ActionLike w b c) s like) in (h.0, same_end C P a h.0 (subst (λ c. SameAct C P a c) h.1 same)))
+
+  -- neither a fork nor a begin
+  pub acts_pass : (x : DeclaredAction) → NotForking x → Says C x b → NoFork a
+  acts_pass action.Rest n s = passes_do (own_acts meaning.Rest s).1
+  acts_pass (action.Read i j) n s = passes_do (own_acts (meaning.Read i j) s).1
+  acts_pass (action.Write i j v) n s = passes_do (own_acts _ s).1
+  acts_pass (action.Look i) n s = passes_do (own_acts (meaning.Look i) s).1
+  acts_pass (action.NewObject d rs constructor) n s = passes_do (own_acts _ s).1
+  acts_pass (action.NewArray region len first) n s = passes_do (own_acts _ s).1
+  acts_pass (action.Print bytes) n s = passes_do (own_acts (meaning.Print bytes) s).1
+  acts_pass (action.Enter effects) n s = passes_do (own_acts (meaning.Enter (map plain_effect effects)) s).1
+  acts_pass action.Exit n s = passes_do (own_acts meaning.Exit s).1
+  acts_pass action.Join n s =
+      let is = same_join C P a (subst (λ c. SameAct C P a c) (joining_like (subst (λ b. ActionLike w b c) s like)) same) in
+      (λ ts e. (let both : Join ≡ Fork ts = sym is ∙ e in cc), λ b e. (let both : Join ≡ Begin b = sym is ∙ e in cc))
+  acts_pass (action.End z) n s =
+      let h = ending_like (subst (λ b. ActionLike w b c) s like) in
+      let is = same_end C P a h.0 (subst (λ c. SameAct C P a c) h.1 same) in
+      (λ ts e. (let both : End h.0 ≡ Fork ts = sym is ∙ e in cc), λ b e. (let both : End h.0 ≡ Begin b = sym is ∙ e in cc))
+  acts_pass (action.Fork forking many) n s = absurd n
+  acts_pass (action.Begin b) n s = absurd n
 
 -- the same numbers are live
 abbrev pub KeysKept : Tasks → Tasks → Type 0
@@ -225,19 +258,26 @@ module _ (code : Code) (P : PlainProgram) (arg : ℤ) (rule : Rule) (L : Limits)
         ap (λ t. (Q P arg rule C).meaning V.path t (answers (mine R V.path))) (sym task)
         ∙ subst (λ q. (Q P arg rule C).meaning q S.follows.task (answers (mine R q)) ≡ Next S.event.turns S.event.act) path_is S.follows.asks
 
-    pub event_like : ActsLike w a S.event.act
-    event_like =
+    -- what is said of it in a machine, and what it is in the run
+    pub event_by : (K : Type 0) → ((b : ActionIn) (c : ActionOf) → Says C a b → ActionLike w b c → SameAct C P S.event.act c → K) → K
+    event_by K use_it =
         let H = here code P arg rule L right T k turns wants a x in
         go H.like x.stands.tells (subst (λ r. SameReply C P r (said H.halt)) asks H.same)
       where
-        go : {h : Halt ℕ (ℕ × ℕ)} {g : HaltOf} → HaltLike w h g → Tells C a h → SameReply C P (Next S.event.turns S.event.act) (said g) → ActsLike w a S.event.act
+        go : {h : Halt ℕ (ℕ × ℕ)} {g : HaltOf} → HaltLike w h g → Tells C a h → SameReply C P (Next S.event.turns S.event.act) (said g) → K
         go (asks_like turns made {a = b} {b = c} l on) tells same =
             let acts : c ≡ same.0 = said_same turns S.event.turns c same.0 same.1 in
-            acts_like C P S.event.act l (subst (λ c. SameAct C P S.event.act c) (sym acts) same.2) a tells
+            use_it b c tells l (subst (λ c. SameAct C P S.event.act c) (sym acts) same.2)
         go (finished_like turns {e = e} {f = f} l) tells same =
             let acts : End f ≡ same.0 = said_same turns S.event.turns (End f) same.0 same.1 in
-            acts_like C P S.event.act (end_like l) (subst (λ c. SameAct C P S.event.act c) (sym acts) same.2) a tells
+            use_it (End e) (End f) tells (end_like l) (subst (λ c. SameAct C P S.event.act c) (sym acts) same.2)
         go dead_like tells same = absurd tells
+
+    pub event_like : ActsLike w a S.event.act
+    event_like = event_by (ActsLike w a S.event.act) (λ b c says like same. acts_like C P S.event.act like same a says)
+
+    pub event_passes : NotForking a → NoFork S.event.act
+    event_passes not_forking = event_by (NoFork S.event.act) (λ b c says like same. acts_pass C P S.event.act like same a not_forking says)
 
   -- the tie of the blocks over an event
   module _ {m : Moment} {w : Sight} {R : Run} (T : Tied P arg rule C L m w R) (short : m.world.steps ≤ 20000001) (B : BlocksTied w R m.world) (wanted : AllNoted C m)
@@ -414,7 +454,7 @@ module _ (code : Code) (P : PlainProgram) (arg : ℤ) (rule : Rule) (L : Limits)
       k_inserted : get inserted k ≡ Some own.0
       k_inserted = get_beside m.world.tree.tasks c k child k_apart ∙ own.1
 
-      k_now : get n.tree.tasks k ≡ Some (with_scope with_branch own.0)
+      pub k_now : get n.tree.tasks k ≡ Some (with_scope with_branch own.0)
       k_now = ap (λ ts. get ts k) tree_is ∙ changed_own inserted k (with_scope with_branch) k_inserted
 
       c_now : get n.tree.tasks c ≡ Some child
@@ -422,6 +462,10 @@ module _ (code : Code) (P : PlainProgram) (arg : ℤ) (rule : Rule) (L : Limits)
 
       pub keys : (j : ℕ) → j ≢ c → is_some (get n.tree.tasks j) ≡ is_some (get m.world.tree.tasks j)
       keys j apart = ap (λ ts. is_some (get ts j)) tree_is ∙ changed_keys inserted k (with_scope with_branch) j ∙ ap (λ o. is_some o) (get_beside m.world.tree.tasks c j child apart)
+
+      pub others_begun : (j : ℕ) → j ≢ c → j ≢ k → get n.tree.tasks j ≡ get m.world.tree.tasks j
+      others_begun j apart other =
+          ap (λ ts. get ts j) tree_is ∙ changed_other inserted k (with_scope with_branch) j k_inserted other ∙ get_beside m.world.tree.tasks c j child apart
 
       old_locks : (j : ℕ) → j ≢ c → get n.locks j ≡ get m.world.locks j
       old_locks j apart = ap (λ l. get l j) same ∙ adopted_other m.world.locks k c j apart

@@ -205,3 +205,16 @@ branches_ended t k y how y_is all = go (origin_of (task_at t k)) (ap origin_of (
             let r = put_elsewhere sc.ends o.step.branch b how (ap (λ (w : Scope). slice_get w.ends b) is ∙ e) in
             on (left (all i b u sc (ap (λ i. get t.tasks i) z ∙ (removed_tells t.tasks k o.parent u_is).1) q r.0)
             (λ p f a d. r.1 (let both : Some o ≡ Some p = sym oo ∙ f in let same : o ≡ p = cc in ap (λ (g : Origin). g.step.branch) same ∙ d)))
+
+-- a task without an open scope had none before its branch's end, or the begin of one
+pub no_scope_in : (f : Scope → Scope) (s : State) → in_scope f s ≡ Running → s ≡ Running
+no_scope_in f Running e = refl
+no_scope_in f (Forked scope) e = absurd (cc)
+
+pub ended_runs : (t : Tree) (k : ℕ) (o : Option Origin) (how : TaskEnd) (j : ℕ) (x : Live) → get (end_noted t k o how).tasks j ≡ Some x → x.state ≡ Running
+    → (y : Live) × (get t.tasks j ≡ Some y) × (y.state ≡ Running)
+ended_runs t k None how j x h s = (x, (removed_tells t.tasks k j h).1, s)
+ended_runs t k (Some o) how j x h s = ⊎_elim
+    (λ old. (x, (removed_tells t.tasks k j old.1).1, s))
+    (λ n. (n.1, ap (λ i. get t.tasks i) n.0 ∙ (removed_tells t.tasks k o.parent n.2).1, no_scope_in (λ scope. with_end scope o.step.branch how) n.1.state (ap (λ (l : Live). l.state) (sym n.3) ∙ s)))
+    (changed_cases (remove t.tasks k) o.parent (with_scope (λ scope. with_end scope o.step.branch how)) j x h)

@@ -24,7 +24,9 @@ pub mod Blocks
 pub mod Branching
 pub mod Lives
 pub mod Ready
+pub mod Unstuck
 pub mod Recorded
+pub mod Lively
 pub mod Segments
 pub mod Sorted
 pub mod Outs

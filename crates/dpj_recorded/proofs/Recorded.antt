@@ -33,7 +33,12 @@ use Rattle.dpj_heap.specs.Heap.{written as contents_written}
 use Rattle.dpj_legs.specs.declared.action.Action.{Action as DeclaredAction}
 use Rattle.dpj_legs.specs.declared.action.Action.TheVariants as action
 use Rattle.dpj_legs.specs.declared.action.Ending.{Ending as DeclaredEnding}
-use Rattle.dpj_tasks.proofs.Numbers.{get_inserted}
+use Rattle.dpj_tasks.proofs.Numbers.{get_beside, get_inserted}
+use Rattle.dpj_tasks.specs.Scope.{Branches as Scope}
+use Rattle.dpj_tasks.specs.declared.task.State.TheVariants.{Running as Runs, Forked}
+use Rattle.dpj_runs.proofs.Upto.{upto_none}
+use Rattle.dpj_recorded.proofs.Lives.{LivesTied, NoForkLast, lives_next}
+use Rattle.std.specs.Prelude.{is_some}
 use Rattle.dpj_tasks.specs.Tree.{fresh, only_root, out_of, task_at}
 use Rattle.dpj_tasks.specs.declared.task.Task.{Task as Live}
 use Rattle.dpj_world.specs.Costs.{first_fields}
@@ -233,6 +238,7 @@ module _ (code : Code) (P : PlainProgram) (arg : ℤ) (L : DeclaredLimits) (righ
     pub ran : Ran QR (limits L) ks run
     pub tied : Tied P arg rule C L m sight run
     pub blocks : BlocksTied sight run m.world
+    pub lives : LivesTied sight run m
     pub short : m.world.steps ≤ 20000001
 
   zero_path : {R : Run} {k : ℕ} {p : Path} → Numbered R k p → k ≡ 0 → p ≡ []
@@ -265,6 +271,7 @@ module _ (code : Code) (P : PlainProgram) (arg : ℤ) (L : DeclaredLimits) (righ
       ran = next_ran leads A e x can within S;
       tied = S.tied;
       blocks = blocks_next code P arg rule L right A.tied A.short A.blocks (all_noted code L arg ks m leads) k e x S;
+      lives = lives_next code P arg rule L right A.tied A.short A.blocks (all_noted code L arg ks m leads) A.lives k e x can S;
       short = (let a = within.0 in let b = A.tied.costs.most_steps in let c = (charged code m.world e.task e.turns e.wants e.action).steps in omega (arith, a, b, c, few));
     }
       where
@@ -297,7 +304,23 @@ module _ (code : Code) (P : PlainProgram) (arg : ℤ) (L : DeclaredLimits) (righ
         root_there : (k : ℕ) → k ≡ 0 → (x : Live) × (get m.world.tree.tasks k ≡ Some x)
         root_there k z = (_, ap (λ (w : World). get w.tree.tasks k) is ∙ ap (λ i. get only_root.tasks i) z ∙ get_inserted empty 0 (fresh None))
 
-    led : (ks : List ℕ) (m : Moment) → LeadsTo code L arg ks m → m.outcome ≡ None → Led ks m
+    lives_first : (m : Moment) (w : Sight) → m.world
+        ≡ with_heap (world_at_start L) (with_object (world_at_start L).heap (instance code.main_class [] (first_fields code code.main_class))) → LivesTied w [] m
+    lives_first m w is = record {
+      unended = λ k x p live h z g. upto_none g.stands;
+      branches = λ k b x scope live s h. absurd (only_runs k x scope (sym (ap (λ (w : World). get w.tree.tasks k) is) ∙ live) s);
+      rests = λ k x p live h run. subst NoForkLast (sym (mine_nil p)) tt;
+      root = λ none. ap (λ (w : World). is_some (get w.tree.tasks 0)) is ∙ ap (λ o. is_some o) (get_inserted empty 0 (fresh None));
+    }
+      where
+        only_runs : (k : ℕ) (x : Live) (scope : Scope) → get only_root.tasks k ≡ Some x → x.state ≡ Forked scope → ⊥
+        only_runs k x scope live s = elim (eqb_tells k 0) [
+          | inl z ↦ (let both : Some (fresh None) ≡ Some x = sym (get_inserted empty 0 (fresh None)) ∙ ap (λ i. get only_root.tasks i) (sym z.1) ∙ live in
+              let same : fresh None ≡ x = cc in let no : Runs ≡ Forked scope = ap (λ (l : Live). l.state) same ∙ s in cc)
+          | inr z ↦ (let both : None ≡ Some x = sym (get_beside empty 0 k (fresh None) z.1 ∙ get-empty nat_cmp k) ∙ live in cc)
+        ]
+
+    pub led : (ks : List ℕ) (m : Moment) → LeadsTo code L arg ks m → m.outcome ≡ None → Led ks m
     led [] m (opened room is) none = led_first (first m (opened room is) none)
       where
         used : m.world.heap.used ≡ length (first_fields code code.main_class) + 1
@@ -313,6 +336,7 @@ module _ (code : Code) (P : PlainProgram) (arg : ℤ) (L : DeclaredLimits) (righ
           };
           tied = start.1;
           blocks = blocks_first start.1 (ap (λ (n : Moment). n.world) is);
+          lives = lives_first m start.0 (ap (λ (n : Moment). n.world) is);
           short = (let a = start.1.costs.steps in let z = total_nil event_steps in omega (arith, a, z));
         }
     led [] m (no_room_so full is) none = absurd (let both : None ≡ Some (limited L) = sym none ∙ ap (λ (n : Moment). n.outcome) is in cc)
@@ -423,18 +447,24 @@ module _ (code : Code) (P : PlainProgram) (arg : ℤ) (L : DeclaredLimits) (righ
 
 -- of compiled code
 module _ (code : Code) (P : PlainProgram) (L : DeclaredLimits) (arg : ℤ) (is : plain_code code ≡ compiled P) (resolved : Resolved P) (main : HasMain P) (few : L.steps ≤ 20000000) where
-  right : RightFor (plain_code code) P
+  pub right : RightFor (plain_code code) P
   right = subst (λ C. RightFor C P) (sym is) (λ p b t c got h halts. legs_are_right (named_by p) P resolved b t c got h halts)
 
-  FJ : ForksAreJoined (plain_code code)
+  pub FJ : ForksAreJoined (plain_code code)
   FJ = subst ForksAreJoined (sym is) (forks_are_joined P)
 
   first : (m : Moment) → Opens code L arg m → m.outcome ≡ None → (w : Sight) × Tied P arg rule (plain_code code) L m w []
   first m (opened room so) none = (first_sight code P arg rule L is resolved main, subst (λ m. Tied P arg rule (plain_code code) L m (first_sight code P arg rule L is resolved main) []) (sym so) (first_tied code P arg rule L is resolved main))
   first m (no_room_so full so) none = absurd (let both : None ≡ Some (limited L) = sym none ∙ ap (λ (n : Moment). n.outcome) so in cc)
 
-  recorded : AllRecord (stepped P arg) code L arg
+  pub recorded : AllRecord (stepped P arg) code L arg
   recorded = all_record code P arg L right (fields_for code P is) FJ few first (main_size code P arg rule L is resolved main)
+
+  abbrev pub LedTo : List ℕ → Moment → Type 0
+  LedTo ks m = Led code P arg L right (fields_for code P is) FJ ks m
+
+  pub led_to : (ks : List ℕ) (m : Moment) → LeadsTo code L arg ks m → m.outcome ≡ None → LedTo ks m
+  led_to = led code P arg L right (fields_for code P is) FJ few first (main_size code P arg rule L is resolved main)
 
 pub machines_record : MachinesRecord
 machines_record code P L arg is resolved main few = recorded code P L arg is resolved main few

@@ -1,12 +1,13 @@
--- That the schedule of a machine on compiled code records a run of the source.
-use Rattle.std.specs.Prelude.{ℕ, ℤ, pos, ◌≡◌, ◌≤◌, List, [], Option, Some, None}
+-- That the schedule of a machine on compiled code records a run of the source, and that the machine goes on until it has come out.
+use Rattle.std.specs.Prelude.{ℕ, ℤ, pos, ◌≡◌, ◌≤◌, ◌+◌, ◌*◌, ◌^◌, length, List, [], Option, Some, None, slice_get}
 use Rattle.dpj_base.specs.declared.outcome.Ending.{Ending as Came}
 use Rattle.dpj_base.specs.declared.outcome.Ending.TheVariants as came
 use Rattle.dpj_base.specs.declared.outcome.Limits.{Limits as DeclaredLimits}
 use Rattle.dpj_base.specs.declared.outcome.Outcome.{Outcome as DeclaredOutcome}
 use Rattle.dpj_typed.specs.Plain.{PlainProgram}
 use Rattle.dpj_meaning.specs.Counts.{number}
-use Rattle.dpj_code.specs.Plain.{plain_code}
+use Rattle.dpj_code.specs.Machine.{State}
+use Rattle.dpj_code.specs.Plain.{PlainCode, plain_code}
 use Rattle.dpj_code.specs.declared.code.Code.{Code}
 use Rattle.dpj_gen.specs.Resolved.{Resolved}
 use Rattle.dpj_gen.specs.Whole.{compiled}
@@ -16,7 +17,15 @@ use Rattle.dpj_runs.specs.Runs.{Run}
 use Rattle.dpj_runs.specs.Schedules.{Finished, Limits, Ran}
 use Rattle.dpj_steps.specs.Steps.{stepped}
 use Rattle.dpj_going.specs.Going.{HasMain}
-use Rattle.dpj_machine.specs.Replay.{LeadsTo, Moment}
+use Rattle.std.specs.FinMap.{get}
+use Rattle.dpj_heap.specs.Heap.{object_at, values_of}
+use Rattle.dpj_legs.specs.Branches.{starts_at}
+use Rattle.dpj_legs.specs.declared.action.Action.{Action}
+use Rattle.dpj_legs.specs.declared.action.Action.TheVariants as action
+use Rattle.dpj_locks.specs.Locks.{HasEntry}
+use Rattle.dpj_world.specs.Ready.{IsReady}
+use Rattle.dpj_world.specs.declared.world.World.{World}
+use Rattle.dpj_machine.specs.Replay.{IsStuck, LeadsTo, Moment, StartsIn}
 
 abbrev pub limits : DeclaredLimits → Limits
 limits L = record { steps = L.steps; cells = L.cells }
@@ -45,3 +54,31 @@ abbrev pub MachinesRecord : Type 0
 MachinesRecord =
     (code : Code) (P : PlainProgram) (L : DeclaredLimits) (argument : ℤ) → plain_code code ≡ compiled P → Resolved P → HasMain P → L.steps ≤ 20000000
     → AllRecord (stepped P argument) code L argument
+
+-- until a run has come out some task of its machine is ready
+abbrev pub SomeTaskIsReady : Type 0
+SomeTaskIsReady =
+    (code : Code) (P : PlainProgram) (L : DeclaredLimits) (argument : ℤ) → plain_code code ≡ compiled P → Resolved P → HasMain P → L.steps ≤ 20000000
+    → (ks : List ℕ) (m : Moment) → LeadsTo code L argument ks m → m.outcome ≡ None → (k : ℕ) × IsReady m.world k
+
+-- and a schedule has at most twice as many numbers as there are steps, and two more
+abbrev pub SchedulesAreShort : Type 0
+SchedulesAreShort =
+    (code : Code) (P : PlainProgram) (L : DeclaredLimits) (argument : ℤ) → plain_code code ≡ compiled P → Resolved P → HasMain P → L.steps ≤ 20000000
+    → (ks : List ℕ) (m : Moment) → LeadsTo code L argument ks m → length ks ≤ 2 * L.steps + 2
+
+-- what isn't ruled out yet where a ready task's event can't be made: an exit where no entry is open, a fork with more branches
+-- and a look at more cells than are counted, and a branch without a start in the code
+abbrev pub LeftOpen : PlainCode → World → ℕ → State ℕ (ℕ × ℕ) → Action → Type 0
+LeftOpen C w k z action.Exit = HasEntry (get w.locks k) → ⊥
+LeftOpen C w k z (action.Fork forking many) = 2 ^ 32 ≤ many
+LeftOpen C w k z (action.Look n) = 2 ^ 31 ≤ length (values_of (object_at w.heap n))
+LeftOpen C w k z (action.Begin b) = StartsIn C (slice_get (starts_at C z) b) → ⊥
+LeftOpen C w k z a = ⊥
+
+-- a machine is stuck for no other reason
+abbrev pub StuckForFewReasons : Type 0
+StuckForFewReasons =
+    (code : Code) (P : PlainProgram) (L : DeclaredLimits) (argument : ℤ) → plain_code code ≡ compiled P → Resolved P → HasMain P → L.steps ≤ 20000000
+    → (ks : List ℕ) (m : Moment) → LeadsTo code L argument ks m → (k : ℕ) (s : IsStuck (plain_code code) m k)
+    → LeftOpen (plain_code code) m.world k s.next.stands.state s.event.action

@@ -1,8 +1,24 @@
-//! The law of recorded runs, the clause of a function that does nothing.
+//! The laws of recorded runs, each the clause of a function that does nothing.
 
-ghost use Rattle.dpj_recorded.specs.Laws.{MachinesRecord};
+ghost use Rattle.dpj_recorded.specs.Laws.{MachinesRecord, SomeTaskIsReady, SchedulesAreShort, StuckForFewReasons};
+
+use dpj_elided::laws::law_names;
+use dpj_going::laws::law_going;
+use dpj_steps::laws::law_steps;
 
 /// A schedule of a machine on compiled code records a run of the source.
 pub fn law_recorded()
     ensures records { MachinesRecord }
 {}
+
+/// A machine on compiled code has a ready task until its run has come out, its schedules are short, and it is stuck for few
+/// reasons alone.
+pub fn law_lively()
+    ensures ready { SomeTaskIsReady }
+    ensures short { SchedulesAreShort }
+    ensures stuck { StuckForFewReasons }
+{
+    law_steps();
+    law_names();
+    law_going();
+}
