@@ -6,8 +6,8 @@
 //! text. A program has one verdict at most (`one_judgement`).
 #![tactic(auto)]
 
-mod passing;
 mod laws;
+mod passing;
 
-pub use passing::{Passed, front};
 pub use laws::one_judgement;
+pub use passing::{Passed, front};

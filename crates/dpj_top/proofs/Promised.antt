@@ -25,7 +25,7 @@ module _ (machines : MachinesComeOutAsElided) (typed : PlainProgram) (L : Limits
   pub told_elision : (p : Played) (o : Outcome) → IsRunOf typed L argument p → p.outcome ≡ Some o → o ≡ elision typed L argument
   told_elision p o is come =
       machines typed p o wt none can.0 can.1 is.is_code (subst (λ (k : Limits). k.steps ≤ 20000000) (sym is.limits) few) (subst (λ a. FitsSigned w32 a) (sym is.is_argument) fits)
-          is.replayed come
+      is.replayed come
       ∙ ap (λ k. elision typed k p.argument) is.limits ∙ ap (λ a. elision typed L a) is.is_argument
 
 pub keeps_promise : MachinesComeOutAsElided → KeepsPromise

@@ -117,9 +117,7 @@ fn inferred(alloc: Global, passed: Passed) -> Result<Answered, NoMemory>
 {
     let typed = passed.typed(alloc)?;
     let kept = infer(alloc, &typed)?;
-    Ok(Answered::only(Verdict::Effects(lines(
-        alloc, &typed, &kept,
-    )?)))
+    Ok(Answered::only(Verdict::Effects(lines(alloc, &typed, &kept)?)))
 }
 
 /// The listing of the code of an accepted program.

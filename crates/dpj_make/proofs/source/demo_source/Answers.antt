@@ -5,8 +5,7 @@ use Rattle.dpj_make.proofs.source.demo_source.Goals as goal
 
 text-made : (c : goal.In_ok-extend-10) → c.extend-10.new.self ≡ demo_text c.args.classes
 text-made c =
-    rw
-    (
+    rw (
       c.in_ok-extend-10.ensures.ok,
       c.in_ok-extend-9.ensures.ok,
       c.in_ok-extend-8.ensures,
