@@ -1,4 +1,4 @@
-ghost use Rattle.std.specs.Prelude.{◌≡◌, ◌≢◌, ◌<◌, ◌≤◌, None, false, true, map, length, IfOk, IfErr, IfSome, IsSome, OnOk};
+ghost use Rattle.std.specs.Prelude.{◌≡◌, ◌≢◌, ◌<◌, ◌≤◌, [], Some, None, false, true, map, length, IfOk, IfErr, IfSome, IsSome, OnOk};
 ghost use Rattle.std.specs.String.{string_bytes};
 ghost use Rattle.dpj_io.specs.Ends.{Rose};
 ghost use Rattle.dpj_make.specs.Demo.{demo_text};
@@ -200,18 +200,16 @@ fn tell<K: Sink>(alloc: Global, answered: Answered, sink: &mut K) -> Ended
     ensures not_read { result.status ≢ Status.ReadFault }
     ensures count { K.faults sink.old ≤ K.faults sink.new }
 {
-    let Ok(report) = report(alloc, &answered.verdict) else {
+    let Answered { verdict, recorded } = answered;
+    let Ok(report) = report(alloc, &verdict) else {
         return Ended {
             status: Status::NoMemory,
             recorded: None,
         };
     };
     let status = match write_all(sink, report.as_slice()) {
-        Ok(()) => status(&answered.verdict),
+        Ok(()) => status(&verdict),
         Err(WriteFault) => Status::WriteFault,
     };
-    Ended {
-        status,
-        recorded: answered.recorded,
-    }
+    Ended { status, recorded }
 }

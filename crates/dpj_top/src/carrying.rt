@@ -10,7 +10,7 @@ use dpj_compile::compile;
 use dpj_front::Passed;
 use dpj_infer::{infer, lines};
 use dpj_listing::listing;
-use dpj_run::{elide, run};
+use dpj_run::{Recorded, elide, run};
 use dpj_trace::trace_text;
 use dpj_words::{Command, Job, Verdict};
 use dpj_workers::Gate;
@@ -56,13 +56,15 @@ fn ran<R: Threads + Wait + Sync, G: Gate + Sync>(
 {
     let place = passed.place;
     let typed = passed.typed(alloc)?;
-    match run(rt, alloc, &typed, limits(job), job.arg, job.workers, gate)? {
-        Some(run) => Ok(Answered {
-            verdict: told(alloc, job, text, run.record.machine.schedule(), run.outcome)?,
-            recorded: Some(run.record),
-        }),
-        None => Ok(Answered::refused_form(place)),
-    }
+    let Some(run) = run(rt, alloc, &typed, limits(job), job.arg, job.workers, gate)? else {
+        return Ok(Answered::refused_form(place));
+    };
+    let Recorded { record, outcome } = run;
+    let verdict = told(alloc, job, text, record.machine.schedule(), outcome)?;
+    Ok(Answered {
+        verdict,
+        recorded: Some(record),
+    })
 }
 
 /// The verdict on a run of a text, by its schedule and how it came out.
