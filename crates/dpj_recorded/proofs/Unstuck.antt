@@ -1,6 +1,6 @@
 -- What a ready task of a machine on compiled code does next can be done, but for what is left open.
-use Rattle.std.proofs.Common.{◌≡◌, ◌≢◌, ◌≤◌, ◌<◌, ◌⊎◌, inl, inr, ⊎_elim, ℕ, zero, suc, ◌+◌, ◌-◌, ◌^◌, ℤ, Bool, true, false, not, ◌||◌, nat_lt, List, [], ◌∷◌, ◌++◌, map, length, refl, sym, ap, ◌∙◌, subst, Option, Some, None, slice_get, arith, IsTrue}
-use Rattle.std.proofs.lemmas.Bool.{cases_lt, lt-ltb, ltb-true}
+use Rattle.std.proofs.Common.{◌≡◌, ◌≤◌, ◌<◌, ⊎_elim, ℕ, suc, ◌+◌, ◌^◌, ℤ, Bool, true, false, not, ◌||◌, nat_lt, List, [], ◌∷◌, ◌++◌, map, length, refl, sym, ap, ◌∙◌, subst, Option, Some, None, slice_get, arith, IsTrue}
+use Rattle.std.proofs.lemmas.Bool.{cases_lt, ltb-true}
 use Rattle.std.proofs.lemmas.List.{length-map}
 use Rattle.std.proofs.lemmas.Option.{slice_get_within}
 use Rattle.std.specs.Prelude.{is_some, option_map}
@@ -10,17 +10,16 @@ use Rattle.dpj_base.specs.declared.outcome.Limits.{Limits}
 use Rattle.dpj_typed.specs.Plain.{PlainProgram}
 use Rattle.dpj_meaning.specs.Actions as meaning
 use Rattle.dpj_code.specs.Legs.{Asks as AsksAt, Dead, Finished, Halt, said}
-use Rattle.dpj_code.specs.Machine.{State}
 use Rattle.dpj_code.specs.Plain.{PlainCode, plain_code}
 use Rattle.dpj_code.specs.declared.code.Code.{Code}
 use Rattle.dpj_gen.specs.Compiled.{SameAct, SameReply}
 use Rattle.dpj_heap.specs.Heap.{object_at, values_of}
-use Rattle.dpj_runs.specs.Actions.{Action, Asks, Begin, Branches, Do, End, Fork, Join, Next, Over, Own, Program, Reply, Rule, Unknown, steps}
+use Rattle.dpj_runs.specs.Actions.{Action, Begin, Branches, Do, End, Fork, Join, Next, Over, Own, Program, Reply, Rule, Unknown, steps}
 use Rattle.dpj_runs.specs.Meaning.{InTurn, Lively}
-use Rattle.dpj_runs.specs.Objects.{Name, Path}
-use Rattle.dpj_runs.specs.Runs.{Event, Run, Upto, answers, count, event_steps, mine, now, total}
+use Rattle.dpj_runs.specs.Objects.{Name}
+use Rattle.dpj_runs.specs.Runs.{Run, Upto, answers, count, event_steps, mine, now, total}
 use Rattle.dpj_runs.specs.Schedules.{begins, one_begin}
-use Rattle.dpj_runs.proofs.Cost.{total_nil, total_step}
+use Rattle.dpj_runs.proofs.Cost.{total_step}
 use Rattle.dpj_runs.proofs.Faithful.{begin_after}
 use Rattle.dpj_runs.proofs.ForkSince.{ForkSince, fork_since}
 use Rattle.dpj_runs.proofs.Mine.{Found, found}
@@ -33,25 +32,23 @@ use Rattle.dpj_legs.specs.Halts.{Tells}
 use Rattle.dpj_legs.specs.Tasks.{Says}
 use Rattle.dpj_legs.specs.declared.action.Action.{Action as DeclaredAction}
 use Rattle.dpj_legs.specs.declared.action.Action.TheVariants as action
-use Rattle.dpj_locks.specs.Locks.{AllRoot, MayEnter, is_inside}
-use Rattle.dpj_tasks.specs.Scope.{Branches as Scope, all_begun, all_ended, can_go_on}
-use Rattle.dpj_tasks.specs.Tree.{CanBegin, CanJoin, OfScope, OfTask, Runs, ready, state_ready}
+use Rattle.dpj_locks.specs.Locks.{AllRoot, is_inside}
+use Rattle.dpj_tasks.specs.Scope.{all_begun, all_ended}
+use Rattle.dpj_tasks.specs.Tree.{CanBegin, OfScope, OfTask, ready, state_ready}
 use Rattle.dpj_tasks.specs.declared.task.State.{State as Scoped}
 use Rattle.dpj_tasks.specs.declared.task.State.TheVariants.{Running, Forked}
 use Rattle.dpj_tasks.specs.declared.task.Task.{Task as Live}
 use Rattle.dpj_world.specs.Ready.{IsFreeFor}
 use Rattle.dpj_world.specs.Waits.{wanted}
-use Rattle.dpj_world.specs.World.{CanEnter, FitsAt}
-use Rattle.dpj_machine.specs.Replay.{CanBeMade, HasStart, Moment, NextOf}
+use Rattle.dpj_world.specs.World.{CanEnter}
+use Rattle.dpj_machine.specs.Replay.{CanBeMade, Moment, NextOf}
 use Rattle.dpj_machine.specs.Wants.{noted, wanted_after}
 use Rattle.dpj_recorded.specs.Laws.{LeftOpen}
 use Rattle.dpj_recorded.proofs.Sights.{Sight, ActionLike, HaltLike, OwnLike, asks_like, dead_like, end_like, finished_like, look_like, read_like, write_like}
 use Rattle.dpj_recorded.proofs.Acting.{RightFor, event_of, found as found_live, here, live}
 use Rattle.dpj_recorded.proofs.Asked.{ActionIn, ActionOf, asks_begin, asks_join, asks_one, beginning_like, disciplined, forking_like, joining_like, runs_if, same_begin, same_end, same_fork, same_join}
-use Rattle.dpj_recorded.proofs.Blocks.{NoFork, acts_pass, ending_like, own_acts, said_same}
-use Rattle.dpj_recorded.proofs.Heaps.{HeapTied, values_held, values_in}
+use Rattle.dpj_recorded.proofs.Blocks.{ending_like, own_acts, said_same}
 use Rattle.dpj_recorded.proofs.Inside.{BlocksTied, EffectsIn}
-use Rattle.dpj_recorded.proofs.Joinings.{not_less}
 use Rattle.dpj_recorded.proofs.Legs.{HaltOf}
 use Rattle.dpj_recorded.proofs.Lives.{LivesTied, NoForkLast}
 use Rattle.dpj_recorded.proofs.Ties.{ForkTied, LiveTied, Q, ScopeTied, Tied}
@@ -91,7 +88,7 @@ module _ (code : Code) (P : PlainProgram) (arg : ℤ) (rule : Rule) (L : Limits)
   QR = Q P arg rule C
 
   module _ {m : Moment} {w : Sight} {R : Run} (T : Tied P arg rule C L m w R) (short : m.world.steps ≤ 20000001) (B : BlocksTied w R m.world) (lives : LivesTied w R m)
-      (noted_all : AllNoted C m) (lively : Lively QR) (in_turn : InTurn QR) (k turns : ℕ) (wants : Option (List PathEffect)) where
+      (noted_all : AllNoted C m) (small : (n : ℕ) → length (values_of (object_at m.world.heap n)) < 2 ^ 31) (lively : Lively QR) (in_turn : InTurn QR) (k turns : ℕ) (wants : Option (List PathEffect)) where
     abbrev At : DeclaredAction → Type 0
     At a = NextOf C m k (event_of k turns wants a)
 
@@ -180,9 +177,8 @@ module _ (code : Code) (P : PlainProgram) (arg : ℤ) (rule : Rule) (L : Limits)
         write_there (write_like n z i e l) = object_in (action.Write n j v) x n z e
 
     stuck_look : (n : ℕ) (x : At (action.Look n)) → Stuck_at (action.Look n) x
-    stuck_look n x unmade =
-        ⊎_elim (λ small. absurd (asked_by (action.Look n) x ⊥ (λ i act b c asks says like same. (let q = own_acts C P act like same (meaning.Look n) says in
-        unmade (record { fits = (look_there q.2, small); starts = tt }))))) (λ large. large) (cases_lt (length (values_of (object_at m.world.heap n))) (2 ^ 31))
+    stuck_look n x unmade = asked_by (action.Look n) x ⊥ (λ i act b c asks says like same. (let q = own_acts C P act like same (meaning.Look n) says in
+        unmade (record { fits = (look_there q.2, small n); starts = tt })))
       where
         look_there : {q : Own} → OwnLike w (meaning.Look n) q → n < length m.world.heap.objects
         look_there (look_like n z e) = object_in (action.Look n) x n z e

@@ -18,7 +18,6 @@ use Rattle.dpj_runs.specs.Schedules.{Finished, Limits, Ran}
 use Rattle.dpj_steps.specs.Steps.{stepped}
 use Rattle.dpj_going.specs.Going.{HasMain}
 use Rattle.std.specs.FinMap.{get}
-use Rattle.dpj_heap.specs.Heap.{object_at, values_of}
 use Rattle.dpj_legs.specs.Branches.{starts_at}
 use Rattle.dpj_legs.specs.declared.action.Action.{Action}
 use Rattle.dpj_legs.specs.declared.action.Action.TheVariants as action
@@ -68,17 +67,16 @@ SchedulesAreShort =
     → (ks : List ℕ) (m : Moment) → LeadsTo code L argument ks m → length ks ≤ 2 * L.steps + 2
 
 -- what isn't ruled out yet where a ready task's event can't be made: an exit where no entry is open, a fork with more branches
--- and a look at more cells than are counted, and a branch without a start in the code
+-- than are counted, and a branch without a start in the code
 abbrev pub LeftOpen : PlainCode → World → ℕ → State ℕ (ℕ × ℕ) → Action → Type 0
 LeftOpen C w k z action.Exit = HasEntry (get w.locks k) → ⊥
 LeftOpen C w k z (action.Fork forking many) = 2 ^ 32 ≤ many
-LeftOpen C w k z (action.Look n) = 2 ^ 31 ≤ length (values_of (object_at w.heap n))
 LeftOpen C w k z (action.Begin b) = StartsIn C (slice_get (starts_at C z) b) → ⊥
 LeftOpen C w k z a = ⊥
 
--- a machine is stuck for no other reason
+-- a machine is stuck for no other reason, within the limits that a job may have
 abbrev pub StuckForFewReasons : Type 0
 StuckForFewReasons =
     (code : Code) (P : PlainProgram) (L : DeclaredLimits) (argument : ℤ) → plain_code code ≡ compiled P → Resolved P → HasMain P → L.steps ≤ 20000000
-    → (ks : List ℕ) (m : Moment) → LeadsTo code L argument ks m → (k : ℕ) (s : IsStuck (plain_code code) m k)
+    → L.cells ≤ 16777216 → (ks : List ℕ) (m : Moment) → LeadsTo code L argument ks m → (k : ℕ) (s : IsStuck (plain_code code) m k)
     → LeftOpen (plain_code code) m.world k s.next.stands.state s.event.action
