@@ -25,6 +25,7 @@ pub mod Branching
 pub mod Lives
 pub mod Ready
 pub mod Sizes
+pub mod Bodies
 pub mod Unstuck
 pub mod Recorded
 pub mod Lively

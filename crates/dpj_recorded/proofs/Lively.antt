@@ -22,7 +22,7 @@ use Rattle.dpj_machine.specs.Replay.{CanBeMade, NextOf}
 use Rattle.dpj_recorded.specs.Laws.{LeftOpen, Records, SchedulesAreShort, SomeTaskIsReady, StuckForFewReasons, limits}
 use Rattle.dpj_recorded.proofs.Blocks.{some_there}
 use Rattle.dpj_recorded.proofs.Ready.{ready_there}
-use Rattle.dpj_recorded.proofs.Recorded.{LedTo, led_to, recorded, right}
+use Rattle.dpj_recorded.proofs.Recorded.{FJ, LedTo, led_to, recorded, right}
 use Rattle.dpj_recorded.proofs.Sizes.{all_charged, object_charged}
 use Rattle.dpj_recorded.proofs.Unstuck.{stuck_any}
 use Rattle.dpj_recorded.proofs.Waiting.{all_noted, all_rest}
@@ -73,8 +73,8 @@ module _ (keeps : EachKeeps) (known : NamesAreKnown) (going : CompiledGoesOn) wh
   pub few_reasons : StuckForFewReasons
   few_reasons code P L arg is resolved main few cells ks m leads k s =
       subst (λ j. (x : NextOf (plain_code code) m j s.event) → (CanBeMade (plain_code code) m.world s.event x.stands.state → ⊥)
-      → LeftOpen (plain_code code) m.world j x.stands.state s.event.action) s.next.stands.number
-      (λ x unmade. stuck_any code P arg lets L (right code P L arg is resolved main few) A.tied A.short A.blocks A.lives (all_noted code L arg ks m leads) small (keeps P arg).lively
+      → LeftOpen m.world j s.event.action) s.next.stands.number
+      (λ x unmade. stuck_any code P arg lets L (right code P L arg is resolved main few) (FJ code P L arg is resolved main few) A.tied A.short A.blocks A.lives (all_noted code L arg ks m leads) small (keeps P arg).lively
       (keeps P arg).in_turn s.event.task s.event.turns s.event.wants s.event.action x unmade) s.next s.unmade
     where
       A : LedTo code P L arg is resolved main few ks m
