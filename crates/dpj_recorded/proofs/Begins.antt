@@ -97,6 +97,41 @@ module _ (code : Code) (P : PlainProgram) (arg : ℤ) (rule : Rule) (L : Limits)
   abbrev C : PlainCode
   C = plain_code code
 
+  -- a task that begins a branch stands at its join still, and its branches start as they did
+  module _ {m : Moment} {w : Sight} {R : Run} (T : Tied P arg rule C L m w R) (short : m.world.steps ≤ 20000001) (k turns : ℕ) (wants : Option (List Effect)) (b : ℕ)
+      (x : NextOf C m k (event_of k turns wants (action.Begin b))) (A : AskedAt code P arg rule L right T k turns wants (action.Begin b) x (Begin b)) {scope : Scope}
+      (F : ForkTied P arg rule C w R (live code P arg rule L right T k turns wants (action.Begin b) x).path
+      (live code P arg rule L right T k turns wants (action.Begin b) x).runs.state scope) (b_is : length scope.ends ≡ b) where
+    abbrev V_at : LiveTied P arg rule C w R m.world.tree.tasks m.tasks k (found code P arg rule L right T k turns wants (action.Begin b) x).0
+    V_at = live code P arg rule L right T k turns wants (action.Begin b) x
+
+    abbrev then_at : meaning.Answer ℕ (ℕ × ℕ) → State ℕ (ℕ × ℕ)
+    then_at = A.both.then_in
+
+    abbrev went_at : meaning.Answer ℕ (ℕ × ℕ)
+    went_at = plain_answer answer.Went
+
+    few_at : suc b < 2147483648
+    few_at = (let a = F.few in let c = T.costs.steps in let d = b_is in omega (arith, a, c, d, short))
+
+    -- where it stands after its last answer it stands at its join
+    pub from_join_at : AtJoin C (then_at went_at) × HasBegun C (then_at went_at) × (starts_at C (then_at went_at) ≡ starts_at C V_at.runs.state)
+    from_join_at = go (subst (λ o. Kept C V_at.runs.state o) waits (step_keeps C FJ first_numbers next_numbers k V_at.runs.state))
+      where
+        waits : step (names_of k) C V_at.runs.state ≡ Waits (Begin b) then_at
+        waits = stands_waits 0 V_at.runs.made (step (names_of k) C V_at.runs.state) A.both.turns A.both.made (Begin b) then_at
+            (join_leg C k V_at.runs.made V_at.runs.state (at code P arg rule L right T k turns wants (action.Begin b) x) F.at_join
+            (leg_here code P arg rule L right T k turns wants (action.Begin b) x) ∙ A.both.is_in)
+
+        go : Kept C V_at.runs.state (Waits (Begin b) then_at) → AtJoin C (then_at went_at) × HasBegun C (then_at went_at) × (starts_at C (then_at went_at) ≡ starts_at C V_at.runs.state)
+        go h = (let j = h.is.0 F.at_join went_at in (j.0, j.1, h.is.1 went_at j.1 few_at))
+
+    pub from_there_at : starts_at C (then_at went_at) ≡ starts_at C x.stands.state
+    from_there_at = go (subst (λ o. Kept C x.stands.state o) (front_step C k turns x.stands.made x.stands.state A.both.turns A.both.made (Begin b) then_at A.both.is_in (λ i. (cc))) (step_keeps C FJ first_numbers next_numbers k x.stands.state))
+      where
+        go : Kept C x.stands.state (Waits (Begin b) then_at) → starts_at C (then_at went_at) ≡ starts_at C x.stands.state
+        go h = h.is.1 went_at from_join_at.1 few_at
+
   module _ {m : Moment} {w : Sight} {R : Run} (T : Tied P arg rule C L m w R) (short : m.world.steps ≤ 20000001) (k turns : ℕ) (wants : Option (List Effect)) (b : ℕ)
       (x : NextOf C m k (event_of k turns wants (action.Begin b))) (can : CanBeMade C m.world (event_of k turns wants (action.Begin b)) x.stands.state) where
     abbrev n : Moment
@@ -145,26 +180,11 @@ module _ (code : Code) (P : PlainProgram) (arg : ℤ) (rule : Rule) (L : Limits)
     abbrev went : meaning.Answer ℕ (ℕ × ℕ)
     went = plain_answer answer.Went
 
-    few : suc b < 2147483648
-    few = (let a = F.few in let c = T.costs.steps in let d = b_is in omega (arith, a, c, d, short))
-
-    -- where it stands after its last answer it stands at its join
     from_join : AtJoin C (then_in went) × HasBegun C (then_in went) × (starts_at C (then_in went) ≡ starts_at C V.runs.state)
-    from_join = go (subst (λ o. Kept C V.runs.state o) waits (step_keeps C FJ first_numbers next_numbers k V.runs.state))
-      where
-        waits : step (names_of k) C V.runs.state ≡ Waits (Begin b) then_in
-        waits = stands_waits 0 V.runs.made (step (names_of k) C V.runs.state) A.both.turns A.both.made (Begin b) then_in
-            (join_leg C k V.runs.made V.runs.state (at code P arg rule L right T k turns wants (action.Begin b) x) F.at_join
-            (leg_here code P arg rule L right T k turns wants (action.Begin b) x) ∙ A.both.is_in)
-
-        go : Kept C V.runs.state (Waits (Begin b) then_in) → AtJoin C (then_in went) × HasBegun C (then_in went) × (starts_at C (then_in went) ≡ starts_at C V.runs.state)
-        go h = (let j = h.is.0 F.at_join went in (j.0, j.1, h.is.1 went j.1 few))
+    from_join = from_join_at T short k turns wants b x A F b_is
 
     from_there : starts_at C (then_in went) ≡ starts_at C z
-    from_there = go (subst (λ o. Kept C z o) (front_step C k turns x.stands.made z A.both.turns A.both.made (Begin b) then_in A.both.is_in (λ i. (cc))) (step_keeps C FJ first_numbers next_numbers k z))
-      where
-        go : Kept C z (Waits (Begin b) then_in) → starts_at C (then_in went) ≡ starts_at C z
-        go h = h.is.1 went from_join.1 few
+    from_there = from_there_at T short k turns wants b x A F b_is
 
     -- the start of the branch
     start : (s : Start ℕ (ℕ × ℕ)) × (slice_get (starts_at C z) b ≡ Some s)

@@ -2,7 +2,6 @@
 use Rattle.std.specs.Int.{w32, int_wrapping_add, int_wrapping_sub}
 use Rattle.std.proofs.Common.{◌≡◌, ◌≤◌, ◌<◌, ℕ, zero, suc, ◌-◌, ℤ, pos, negsuc, Bool, true, false, List, [], ◌∷◌, map, length, reverse, refl, sym, ap, ap₂, ◌∙◌, subst, Option, Some, None, slice_get, arith}
 use Rattle.std.specs.Prelude.{slice_set}
-use Rattle.dpj_base.specs.declared.effect.Effect.{Effect as PathEffect}
 use Rattle.dpj_base.specs.declared.place.Place.{Place}
 use Rattle.dpj_base.specs.declared.value.Trap.{Trap}
 use Rattle.dpj_base.specs.declared.value.Trap.TheVariants as trap
@@ -11,8 +10,7 @@ use Rattle.dpj_typed.specs.declared.stmt.Forking.{Forking}
 use Rattle.dpj_typed.specs.declared.expr.BinaryOp.{BinaryOp}
 use Rattle.dpj_typed.specs.declared.expr.BinaryOp.TheVariants as op
 use Rattle.dpj_meaning.specs.Values.{Value, Int, Object, Region, An_object, An_array}
-use Rattle.dpj_meaning.specs.Actions.{Frame, Answer, Read, Write, Look, New, Print, Enter, Exit, Do, Fork, Begin, Join, End, Rest, Fell, Trapped}
-use Rattle.dpj_meaning.specs.Actions.{Own as OwnOver}
+use Rattle.dpj_meaning.specs.Actions.{Frame, Answer, Read, Write, Look, New, Do, Fork, Begin, Join, End, Fell, Trapped}
 use Rattle.dpj_meaning.specs.Counts.{number, reference, value_read, is_out, length_seen, name_made, class_seen, class_entered, operated, slot_value, how_many, part_place}
 use Rattle.dpj_meaning.specs.Regions.{around, concrete, is_long, some_long}
 use Rattle.dpj_code.specs.declared.instr.Instr.{Instr}
@@ -71,24 +69,13 @@ HasBegun C (Rested g fs) = ⊥
 HasBegun C (Off e) = ⊥
 HasBegun C Nowhere = ⊥
 
--- an entry is made by the site of a block
-abbrev pub ByBlock : PlainCode → OwnOver ℕ (ℕ × ℕ) → Type 0
-ByBlock C (Enter E) = (s : ℕ) × (effects : List PathEffect) × (slice_get C.sites s ≡ Some (block_site effects))
-ByBlock C Rest = Unit {0}
-ByBlock C (Read n j) = Unit {0}
-ByBlock C (Write n j v) = Unit {0}
-ByBlock C (Look n) = Unit {0}
-ByBlock C (New t c) = Unit {0}
-ByBlock C (Print bytes) = Unit {0}
-ByBlock C Exit = Unit {0}
-
 -- behind a fork a task stands at its join, and its branches start as the fork told; and so it does behind a begin, if there aren't too many
 abbrev pub Keeps : PlainCode → StateIn → StandIn → Type 0
 Keeps C z (Waits (Fork bs) f) = (x : Answer ℕ (ℕ × ℕ)) → AtJoin C (f x) × (starts_at C (f x) ≡ bs.tasks)
 Keeps C z (Waits (Begin b) f) =
     (AtJoin C z → (x : Answer ℕ (ℕ × ℕ)) → AtJoin C (f x) × HasBegun C (f x))
     × ((x : Answer ℕ (ℕ × ℕ)) → HasBegun C (f x) → suc b < 2147483648 → starts_at C (f x) ≡ starts_at C z)
-Keeps C z (Waits (Do o) f) = ByBlock C o
+Keeps C z (Waits (Do o) f) = Unit {0}
 Keeps C z (Waits Join f) = (t : Trap) (p : Place) → f (Fell t p) ≡ Off (Trapped t p)
 Keeps C z (Waits (End e) f) = Unit {0}
 Keeps C z (Goes s) = Unit {0}
@@ -368,17 +355,17 @@ module _ (C : PlainCode) (FJ : ForksAreJoined C) (firsts : FirstNumbers) (nexts 
   line_keeps (Some l) e = exec_keeps l.place l.instr e
 
 module _ (C : PlainCode) (k : ℕ) (z : StateIn) (g : LevelIn) (fs : List LevelIn) where
-  enter_keeps : (s : ℕ) (o : Option Site) → slice_get C.sites s ≡ o → Kept C z (enters_block (names_of k) o g fs)
-  enter_keeps s None e = record { is = tt }
-  enter_keeps s (Some (fork_site forking js copies)) e = record { is = tt }
-  enter_keeps s (Some (spread_site forking j x)) e = record { is = tt }
-  enter_keeps s (Some (block_site effects)) e = record { is = (s, effects, e) }
-  enter_keeps s (Some (call_site c r formals regions)) e = record { is = tt }
-  enter_keeps s (Some (new_site c n regions)) e = record { is = tt }
-  enter_keeps s (Some (array_site region first)) e = record { is = tt }
+  enter_keeps : (o : Option Site) → Kept C z (enters_block (names_of k) o g fs)
+  enter_keeps None = record { is = tt }
+  enter_keeps (Some (fork_site forking js copies)) = record { is = tt }
+  enter_keeps (Some (spread_site forking j x)) = record { is = tt }
+  enter_keeps (Some (block_site effects)) = record { is = tt }
+  enter_keeps (Some (call_site c r formals regions)) = record { is = tt }
+  enter_keeps (Some (new_site c n regions)) = record { is = tt }
+  enter_keeps (Some (array_site region first)) = record { is = tt }
 
   rested_keeps : (x : Instr) → Kept C z (rested_at (names_of k) C x g fs)
-  rested_keeps (i.Enter s) = enter_keeps s (slice_get C.sites s) refl
+  rested_keeps (i.Enter s) = enter_keeps (slice_get C.sites s)
   rested_keeps x = record { is = tt }
 
   rest_keeps : (o : Option Line) → Kept C z (rested_line (names_of k) C o g fs)

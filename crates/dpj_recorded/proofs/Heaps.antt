@@ -56,12 +56,12 @@ set_past [] n x l = refl
 set_past (y ∷ xs) zero x l = absurd (omega arith)
 set_past (y ∷ xs) (suc n) x l = ap (λ k. y ∷ k) (set_past xs n x (omega arith))
 
-set_count : {A : Type 0} (xs : List A) (n : ℕ) (x : A) → length (slice_set xs n x) ≡ length xs
+pub set_count : {A : Type 0} (xs : List A) (n : ℕ) (x : A) → length (slice_set xs n x) ≡ length xs
 set_count [] n x = refl
 set_count (y ∷ xs) zero x = refl
 set_count (y ∷ xs) (suc n) x = ap (λ k. suc k) (set_count xs n x)
 
-set_cases : {A : Type 0} (xs : List A) (n m : ℕ) (x y : A) → slice_get (slice_set xs n x) m ≡ Some y → ((n ≡ m) × (x ≡ y)) ⊎ (slice_get xs m ≡ Some y)
+pub set_cases : {A : Type 0} (xs : List A) (n m : ℕ) (x y : A) → slice_get (slice_set xs n x) m ≡ Some y → ((n ≡ m) × (x ≡ y)) ⊎ (slice_get xs m ≡ Some y)
 set_cases [] n m x y e = inr e
 set_cases (z ∷ xs) zero zero x y e = inl (refl, (let same : Some x ≡ Some y = e in cc))
 set_cases (z ∷ xs) zero (suc m) x y e = inr e
@@ -163,7 +163,7 @@ seen_set w (instance c rs fields) (An_array r len u) k v s = s
 seen_set w (array pattern es) (An_object d qs us) k v s = s
 seen_set w (array pattern es) (An_array r len u) k v s = set_count es k v ∙ s
 
-values_with : (o : Object) (vs : List Constant) → values_of (with_values o vs) ≡ vs
+pub values_with : (o : Object) (vs : List Constant) → values_of (with_values o vs) ≡ vs
 values_with (instance c rs fields) vs = refl
 values_with (array pattern es) vs = refl
 

@@ -24,6 +24,8 @@ pub mod Blocks
 pub mod Branching
 pub mod Lives
 pub mod Ready
+pub mod Sizes
+pub mod Bodies
 pub mod Unstuck
 pub mod Recorded
 pub mod Lively

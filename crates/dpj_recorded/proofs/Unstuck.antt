@@ -1,6 +1,6 @@
 -- What a ready task of a machine on compiled code does next can be done, but for what is left open.
-use Rattle.std.proofs.Common.{◌≡◌, ◌≢◌, ◌≤◌, ◌<◌, ◌⊎◌, inl, inr, ⊎_elim, ℕ, zero, suc, ◌+◌, ◌-◌, ◌^◌, ℤ, Bool, true, false, not, ◌||◌, nat_lt, List, [], ◌∷◌, ◌++◌, map, length, refl, sym, ap, ◌∙◌, subst, Option, Some, None, slice_get, arith, IsTrue}
-use Rattle.std.proofs.lemmas.Bool.{cases_lt, lt-ltb, ltb-true}
+use Rattle.std.proofs.Common.{◌≡◌, ◌≤◌, ◌<◌, ⊎_elim, ℕ, suc, ◌+◌, ◌^◌, ℤ, Bool, true, false, not, ◌||◌, nat_lt, List, [], ◌∷◌, ◌++◌, map, length, refl, sym, ap, ◌∙◌, subst, Option, Some, None, slice_get, arith, IsTrue, zero, ◌⊎◌, inl, inr}
+use Rattle.std.proofs.lemmas.Bool.{cases_lt, ltb-true}
 use Rattle.std.proofs.lemmas.List.{length-map}
 use Rattle.std.proofs.lemmas.Option.{slice_get_within}
 use Rattle.std.specs.Prelude.{is_some, option_map}
@@ -10,17 +10,17 @@ use Rattle.dpj_base.specs.declared.outcome.Limits.{Limits}
 use Rattle.dpj_typed.specs.Plain.{PlainProgram}
 use Rattle.dpj_meaning.specs.Actions as meaning
 use Rattle.dpj_code.specs.Legs.{Asks as AsksAt, Dead, Finished, Halt, said}
-use Rattle.dpj_code.specs.Machine.{State}
+use Rattle.dpj_code.specs.Machine.{Start}
 use Rattle.dpj_code.specs.Plain.{PlainCode, plain_code}
 use Rattle.dpj_code.specs.declared.code.Code.{Code}
-use Rattle.dpj_gen.specs.Compiled.{SameAct, SameReply}
+use Rattle.dpj_gen.specs.Compiled.{Compiled, SameAct, SameReply}
 use Rattle.dpj_heap.specs.Heap.{object_at, values_of}
-use Rattle.dpj_runs.specs.Actions.{Action, Asks, Begin, Branches, Do, End, Fork, Join, Next, Over, Own, Program, Reply, Rule, Unknown, steps}
+use Rattle.dpj_runs.specs.Actions.{Action, Begin, Branches, Do, End, Fork, Join, Next, Over, Own, Program, Reply, Rule, Task, Unknown, steps}
 use Rattle.dpj_runs.specs.Meaning.{InTurn, Lively}
-use Rattle.dpj_runs.specs.Objects.{Name, Path}
-use Rattle.dpj_runs.specs.Runs.{Event, Run, Upto, answers, count, event_steps, mine, now, total}
+use Rattle.dpj_runs.specs.Objects.{LocalRegion, Name}
+use Rattle.dpj_runs.specs.Runs.{Run, Upto, answers, count, event_steps, mine, now, total}
 use Rattle.dpj_runs.specs.Schedules.{begins, one_begin}
-use Rattle.dpj_runs.proofs.Cost.{total_nil, total_step}
+use Rattle.dpj_runs.proofs.Cost.{total_step}
 use Rattle.dpj_runs.proofs.Faithful.{begin_after}
 use Rattle.dpj_runs.proofs.ForkSince.{ForkSince, fork_since}
 use Rattle.dpj_runs.proofs.Mine.{Found, found}
@@ -30,28 +30,32 @@ use Rattle.dpj_typed.specs.declared.stmt.Forking.{Forking}
 use Rattle.dpj_legs.specs.Names.{plain_value}
 use Rattle.dpj_legs.specs.declared.action.Ending.{Ending as DeclaredEnding}
 use Rattle.dpj_legs.specs.Halts.{Tells}
-use Rattle.dpj_legs.specs.Tasks.{Says}
+use Rattle.dpj_legs.specs.Branches.{starts_at}
+use Rattle.dpj_legs.specs.Tasks.{Says, plain_answer}
+use Rattle.dpj_legs.specs.declared.action.Answer.TheVariants as answer
 use Rattle.dpj_legs.specs.declared.action.Action.{Action as DeclaredAction}
 use Rattle.dpj_legs.specs.declared.action.Action.TheVariants as action
-use Rattle.dpj_locks.specs.Locks.{AllRoot, MayEnter, is_inside}
-use Rattle.dpj_tasks.specs.Scope.{Branches as Scope, all_begun, all_ended, can_go_on}
-use Rattle.dpj_tasks.specs.Tree.{CanBegin, CanJoin, OfScope, OfTask, Runs, ready, state_ready}
+use Rattle.dpj_locks.specs.Locks.{AllRoot, is_inside}
+use Rattle.dpj_tasks.specs.Scope.{all_begun, all_ended}
+use Rattle.dpj_tasks.specs.Tree.{CanBegin, OfScope, OfTask, ready, state_ready}
 use Rattle.dpj_tasks.specs.declared.task.State.{State as Scoped}
 use Rattle.dpj_tasks.specs.declared.task.State.TheVariants.{Running, Forked}
 use Rattle.dpj_tasks.specs.declared.task.Task.{Task as Live}
 use Rattle.dpj_world.specs.Ready.{IsFreeFor}
 use Rattle.dpj_world.specs.Waits.{wanted}
-use Rattle.dpj_world.specs.World.{CanEnter, FitsAt}
-use Rattle.dpj_machine.specs.Replay.{CanBeMade, HasStart, Moment, NextOf}
+use Rattle.dpj_world.specs.World.{CanEnter}
+use Rattle.dpj_machine.specs.Replay.{StartsIn, CanBeMade, Moment, NextOf}
 use Rattle.dpj_machine.specs.Wants.{noted, wanted_after}
 use Rattle.dpj_recorded.specs.Laws.{LeftOpen}
-use Rattle.dpj_recorded.proofs.Sights.{Sight, ActionLike, HaltLike, OwnLike, asks_like, dead_like, end_like, finished_like, look_like, read_like, write_like}
-use Rattle.dpj_recorded.proofs.Acting.{RightFor, event_of, found as found_live, here, live}
-use Rattle.dpj_recorded.proofs.Asked.{ActionIn, ActionOf, asks_begin, asks_join, asks_one, beginning_like, disciplined, forking_like, joining_like, runs_if, same_begin, same_end, same_fork, same_join}
-use Rattle.dpj_recorded.proofs.Blocks.{NoFork, acts_pass, ending_like, own_acts, said_same}
-use Rattle.dpj_recorded.proofs.Heaps.{HeapTied, values_held, values_in}
-use Rattle.dpj_recorded.proofs.Inside.{BlocksTied, EffectsIn}
-use Rattle.dpj_recorded.proofs.Joinings.{not_less}
+use Rattle.dpj_recorded.proofs.Sights.{Each, Sight, StartLike, each_more, each_none, ActionLike, HaltLike, OwnLike, asks_like, dead_like, end_like, finished_like, look_like, read_like, write_like}
+use Rattle.dpj_recorded.proofs.Acting.{AskedAt, RightFor, asked_at, at, event_of, found as found_live, here, live}
+use Rattle.dpj_recorded.proofs.Begins.{from_join_at, from_there_at}
+use Rattle.dpj_recorded.proofs.Bodies.{body_there}
+use Rattle.dpj_recorded.proofs.Forking.{AtJoin, HasBegun}
+use Rattle.dpj_recorded.proofs.Joins.{ForksAreJoined}
+use Rattle.dpj_recorded.proofs.Asked.{ActionIn, ActionOf, AllLength, acts_at, begins_next, compiled_at, asks_begin, asks_join, asks_one, beginning_like, disciplined, forking_like, joining_like, runs_if, same_begin, same_end, same_fork, same_join}
+use Rattle.dpj_recorded.proofs.Blocks.{ending_like, own_acts, said_same}
+use Rattle.dpj_recorded.proofs.Inside.{BlocksTied, EffectsIn, get_there}
 use Rattle.dpj_recorded.proofs.Legs.{HaltOf}
 use Rattle.dpj_recorded.proofs.Lives.{LivesTied, NoForkLast}
 use Rattle.dpj_recorded.proofs.Ties.{ForkTied, LiveTied, Q, ScopeTied, Tied}
@@ -64,6 +68,13 @@ noted_roots (e ∷ E) = (refl, noted_roots E)
 all_roots : (o : Option EffectsIn) → AllRoot (wanted (option_map (map noted) o))
 all_roots None = tt
 all_roots (Some E) = noted_roots E
+
+-- lists that are like, back from the second
+each_back : {A B : Type 0} {K : A → B → Type 0} {xs : List A} {ys : List B} (n : ℕ) (z : B) → Each K xs ys → slice_get ys n ≡ Some z
+    → (x : A) × (slice_get xs n ≡ Some x) × K x z
+each_back {K = K} n z each_none e = absurd (let none : None ≡ Some z = e in cc)
+each_back {K = K} zero z (each_more {x = u} {y = v} h t) e = (u, refl, (let same : v ≡ z = cc in subst (λ y. K u y) same h))
+each_back (suc n) z (each_more h t) e = each_back n z t e
 
 -- each branch that begins costs a step
 begins_paid : (R : Run) → begins R ≤ total event_steps R
@@ -83,7 +94,7 @@ never_over (AsksAt n m a f) e = cc
 never_over (Finished n z) e = cc
 never_over Dead e = cc
 
-module _ (code : Code) (P : PlainProgram) (arg : ℤ) (rule : Rule) (L : Limits) (right : RightFor (plain_code code) P) where
+module _ (code : Code) (P : PlainProgram) (arg : ℤ) (rule : Rule) (L : Limits) (right : RightFor (plain_code code) P) (FJ : ForksAreJoined (plain_code code)) where
   abbrev C : PlainCode
   C = plain_code code
 
@@ -91,12 +102,12 @@ module _ (code : Code) (P : PlainProgram) (arg : ℤ) (rule : Rule) (L : Limits)
   QR = Q P arg rule C
 
   module _ {m : Moment} {w : Sight} {R : Run} (T : Tied P arg rule C L m w R) (short : m.world.steps ≤ 20000001) (B : BlocksTied w R m.world) (lives : LivesTied w R m)
-      (noted_all : AllNoted C m) (lively : Lively QR) (in_turn : InTurn QR) (k turns : ℕ) (wants : Option (List PathEffect)) where
+      (noted_all : AllNoted C m) (small : (n : ℕ) → length (values_of (object_at m.world.heap n)) < 2 ^ 31) (lively : Lively QR) (in_turn : InTurn QR) (k turns : ℕ) (wants : Option (List PathEffect)) where
     abbrev At : DeclaredAction → Type 0
     At a = NextOf C m k (event_of k turns wants a)
 
     abbrev Stuck_at : (a : DeclaredAction) → At a → Type 0
-    Stuck_at a x = (CanBeMade C m.world (event_of k turns wants a) x.stands.state → ⊥) → LeftOpen C m.world k x.stands.state a
+    Stuck_at a x = (CanBeMade C m.world (event_of k turns wants a) x.stands.state → ⊥) → LeftOpen m.world k a
 
     module _ (a : DeclaredAction) (x : At a) where
       abbrev y : (y : Live) × (get m.world.tree.tasks k ≡ Some y)
@@ -180,9 +191,8 @@ module _ (code : Code) (P : PlainProgram) (arg : ℤ) (rule : Rule) (L : Limits)
         write_there (write_like n z i e l) = object_in (action.Write n j v) x n z e
 
     stuck_look : (n : ℕ) (x : At (action.Look n)) → Stuck_at (action.Look n) x
-    stuck_look n x unmade =
-        ⊎_elim (λ small. absurd (asked_by (action.Look n) x ⊥ (λ i act b c asks says like same. (let q = own_acts C P act like same (meaning.Look n) says in
-        unmade (record { fits = (look_there q.2, small); starts = tt }))))) (λ large. large) (cases_lt (length (values_of (object_at m.world.heap n))) (2 ^ 31))
+    stuck_look n x unmade = asked_by (action.Look n) x ⊥ (λ i act b c asks says like same. (let q = own_acts C P act like same (meaning.Look n) says in
+        unmade (record { fits = (look_there q.2, small n); starts = tt })))
       where
         look_there : {q : Own} → OwnLike w (meaning.Look n) q → n < length m.world.heap.objects
         look_there (look_like n z e) = object_in (action.Look n) x n z e
@@ -257,41 +267,81 @@ module _ (code : Code) (P : PlainProgram) (arg : ℤ) (rule : Rule) (L : Limits)
                 })
 
     -- a begin
-    stuck_begin : (b : ℕ) (x : At (action.Begin b)) → Stuck_at (action.Begin b) x
-    stuck_begin b x unmade starts = unmade (record { fits = (opens, room, outside); starts = starts })
-      where
-        asked : (i : ℕ) × (QR.meaning (V (action.Begin b) x).path (V (action.Begin b) x).task.task (answers (mine R (V (action.Begin b) x).path)) ≡ Next i (Begin b))
-        asked = asked_by (action.Begin b) x ((i : ℕ) × (QR.meaning (V (action.Begin b) x).path (V (action.Begin b) x).task.task (answers (mine R (V (action.Begin b) x).path)) ≡ Next i (Begin b))) (λ i act b' c asks says like same.
-            (i, asks ∙ ap (λ a. Next i a) (same_begin C P act b (subst (λ c. SameAct C P act c) (beginning_like (subst (λ b. ActionLike w b c) says like)) same))))
+    module _ (b : ℕ) (x : At (action.Begin b)) where
+      abbrev U : LiveTied P arg rule C w R m.world.tree.tasks m.tasks k (y (action.Begin b) x).0
+      U = V (action.Begin b) x
 
-        absent : (o : Option Live) → get m.world.tree.tasks m.world.tree.begun ≡ o → o ≡ None
-        absent None e = refl
-        absent (Some z) e =
-            absurd (let U = T.live m.world.tree.begun z e in let l = slice_get_within w.paths m.world.tree.begun U.path U.there in let many = T.numbers.many in omega (arith, l, many))
+      A : AskedAt code P arg rule L right T k turns wants (action.Begin b) x (Begin b)
+      A = asked_at code P arg rule L right T k turns wants (action.Begin b) x (Begin b)
+          (acts_at C (action.Begin b) (Begin b) (λ e i. (cc)) (λ c e. e) (at code P arg rule L right T k turns wants (action.Begin b) x) x.stands.tells)
 
-        outside : is_inside m.world.locks m.world.tree.begun ≡ false
-        outside = ap (λ o. is_some o) (B.none m.world.tree.begun (absent (get m.world.tree.tasks m.world.tree.begun) refl))
+      asks : QR.meaning U.path U.task.task (answers (mine R U.path)) ≡ Next turns (Begin b)
+      asks = A.asks ∙ ap (λ c. Next turns c) (same_begin C P A.act b (subst (λ c. SameAct C P A.act c) (beginning_like A.both.like) A.same))
 
-        room : m.world.tree.begun < 4294967295
-        room = (let c = T.numbers.count in let p = begins_paid R in let s = T.costs.steps in omega (arith, c, p, s, short))
+      absent : (o : Option Live) → get m.world.tree.tasks m.world.tree.begun ≡ o → o ≡ None
+      absent None e = refl
+      absent (Some z) e =
+          absurd (let W = T.live m.world.tree.begun z e in let l = slice_get_within w.paths m.world.tree.begun W.path W.there in let many = T.numbers.many in omega (arith, l, many))
 
-        by_state : (s : Scoped) → (y (action.Begin b) x).0.state ≡ s
-            → ScopeTied P arg rule C w R (V (action.Begin b) x).path (V (action.Begin b) x).runs.state (y (action.Begin b) x).0.state
-            → OfScope s (λ scope. length scope.ends < scope.count)
-        by_state Running s scope =
-            absurd (let j = in_turn.begins_forked (V (action.Begin b) x).path (V (action.Begin b) x).task.task (answers (mine R (V (action.Begin b) x).path)) b asked in
-            let l = j.1 in
-            forked (action.Begin b) x asked.0 b (Begin b) asked.1 j.0 (omega (arith, l))
-            (fork_since QR R T.faithful (V (action.Begin b) x).path (V (action.Begin b) x).task.task j.0 b (V (action.Begin b) x).task.begun j.2) s)
-        by_state (Forked scope) s tied = ⊎_elim (λ l. l)
-            (λ l. absurd (let F = subst (λ s. ScopeTied P arg rule C w R (V (action.Begin b) x).path (V (action.Begin b) x).runs.state s) s tied in
-            let both : Begin b ≡ Join = sym (asks_one P arg rule C R (V (action.Begin b) x).path (V (action.Begin b) x).task.task asked.0
-            (asks_join P arg rule C T.faithful F (V (action.Begin b) x).task.task (V (action.Begin b) x).task.begun l) asked.1) in cc))
-            (cases_lt (length scope.ends) scope.count)
+      outside : is_inside m.world.locks m.world.tree.begun ≡ false
+      outside = ap (λ o. is_some o) (B.none m.world.tree.begun (absent (get m.world.tree.tasks m.world.tree.begun) refl))
 
+      room : m.world.tree.begun < 4294967295
+      room = (let c = T.numbers.count in let p = begins_paid R in let s = T.costs.steps in omega (arith, c, p, s, short))
+
+      -- the scope is open, and the branch has a start
+      record Opens : Type 0 where
         opens : CanBegin m.world.tree.tasks k
-        opens = subst (λ o. OfTask o (λ task. OfScope task.state (λ scope. length scope.ends < scope.count))) (sym (y (action.Begin b) x).1)
-            (by_state (y (action.Begin b) x).0.state refl (V (action.Begin b) x).scope)
+        starts : StartsIn C (slice_get (starts_at C x.stands.state) b)
+
+      by_state : (s : Scoped) → (y (action.Begin b) x).0.state ≡ s → ScopeTied P arg rule C w R U.path U.runs.state (y (action.Begin b) x).0.state → Opens
+      by_state Running s scope =
+          absurd (let j = in_turn.begins_forked U.path U.task.task (answers (mine R U.path)) b (turns, asks) in
+          let l = j.1 in
+          forked (action.Begin b) x turns b (Begin b) asks j.0 (omega (arith, l)) (fork_since QR R T.faithful U.path U.task.task j.0 b U.task.begun j.2) s)
+      by_state (Forked scope) s tied = by_count (cases_lt (length scope.ends) scope.count)
+        where
+          F : ForkTied P arg rule C w R U.path U.runs.state scope
+          F = subst (λ s. ScopeTied P arg rule C w R U.path U.runs.state s) s tied
+
+          begins_it : length scope.ends < scope.count → Opens
+          begins_it l = record {
+            opens = subst (λ o. OfTask o (λ task. OfScope task.state (λ scope. length scope.ends < scope.count))) (sym (y (action.Begin b) x).1)
+                (subst (λ s. OfScope s (λ scope. length scope.ends < scope.count)) (sym s) l);
+            starts = subst (λ o. StartsIn C o) (sym (ap (λ l. slice_get l b) (sym there ∙ from.2) ∙ first.1))
+                (subst (λ j. j < length C.bodies) (sym first.2.body) (body_there C P start.0 task.0 task.2));
+          }
+            where
+              b_is : length scope.ends ≡ b
+              b_is = begins_next P arg rule C T.faithful scope F U.task.task U.task.begun turns b asks l
+
+              from : AtJoin C (A.both.then_in (plain_answer answer.Went)) × HasBegun C (A.both.then_in (plain_answer answer.Went))
+                  × (starts_at C (A.both.then_in (plain_answer answer.Went)) ≡ starts_at C U.runs.state)
+              from = from_join_at code P arg rule L right FJ T short k turns wants b x A F b_is
+
+              there : starts_at C (A.both.then_in (plain_answer answer.Went)) ≡ starts_at C x.stands.state
+              there = from_there_at code P arg rule L right FJ T short k turns wants b x A F b_is
+
+              start : (c : Start Name LocalRegion) × (slice_get F.starts b ≡ Some c)
+              start = get_there F.starts b (let e = AllLength C P F.starts F.tasks.tasks F.compiled in let c = F.many in omega (arith, e, c, l, b_is))
+
+              task : (t : Task) × (slice_get F.tasks.tasks b ≡ Some t) × Compiled C P start.0 t
+              task = compiled_at C P F.starts F.tasks.tasks b start.0 F.compiled start.1
+
+              first : (s : Start ℕ (ℕ × ℕ)) × (slice_get (starts_at C U.runs.state) b ≡ Some s) × StartLike w s start.0
+              first = each_back b start.0 F.like start.1
+
+          by_count : (length scope.ends < scope.count) ⊎ (scope.count ≤ length scope.ends) → Opens
+          by_count (inl l) = begins_it l
+          by_count (inr l) =
+              absurd (let both : Begin b ≡ Join = sym (asks_one P arg rule C R U.path U.task.task turns
+              (asks_join P arg rule C T.faithful F U.task.task U.task.begun l) asks) in cc)
+
+      opened : Opens
+      opened = by_state (y (action.Begin b) x).0.state refl U.scope
+
+      stuck_begin : Stuck_at (action.Begin b) x
+      stuck_begin unmade = unmade (record { fits = (opened.opens, room, outside); starts = opened.starts })
 
     pub stuck_any : (a : DeclaredAction) (x : At a) → Stuck_at a x
     stuck_any action.Rest x unmade = stuck_rest x unmade

@@ -1,13 +1,12 @@
 -- That the schedule of a machine on compiled code records a run of the source, and that the machine goes on until it has come out.
-use Rattle.std.specs.Prelude.{ℕ, ℤ, pos, ◌≡◌, ◌≤◌, ◌+◌, ◌*◌, ◌^◌, length, List, [], Option, Some, None, slice_get}
+use Rattle.std.specs.Prelude.{ℕ, ℤ, pos, ◌≡◌, ◌≤◌, ◌+◌, ◌*◌, ◌^◌, length, List, [], Option, Some, None}
 use Rattle.dpj_base.specs.declared.outcome.Ending.{Ending as Came}
 use Rattle.dpj_base.specs.declared.outcome.Ending.TheVariants as came
 use Rattle.dpj_base.specs.declared.outcome.Limits.{Limits as DeclaredLimits}
 use Rattle.dpj_base.specs.declared.outcome.Outcome.{Outcome as DeclaredOutcome}
 use Rattle.dpj_typed.specs.Plain.{PlainProgram}
 use Rattle.dpj_meaning.specs.Counts.{number}
-use Rattle.dpj_code.specs.Machine.{State}
-use Rattle.dpj_code.specs.Plain.{PlainCode, plain_code}
+use Rattle.dpj_code.specs.Plain.{plain_code}
 use Rattle.dpj_code.specs.declared.code.Code.{Code}
 use Rattle.dpj_gen.specs.Resolved.{Resolved}
 use Rattle.dpj_gen.specs.Whole.{compiled}
@@ -18,14 +17,12 @@ use Rattle.dpj_runs.specs.Schedules.{Finished, Limits, Ran}
 use Rattle.dpj_steps.specs.Steps.{stepped}
 use Rattle.dpj_going.specs.Going.{HasMain}
 use Rattle.std.specs.FinMap.{get}
-use Rattle.dpj_heap.specs.Heap.{object_at, values_of}
-use Rattle.dpj_legs.specs.Branches.{starts_at}
 use Rattle.dpj_legs.specs.declared.action.Action.{Action}
 use Rattle.dpj_legs.specs.declared.action.Action.TheVariants as action
 use Rattle.dpj_locks.specs.Locks.{HasEntry}
 use Rattle.dpj_world.specs.Ready.{IsReady}
 use Rattle.dpj_world.specs.declared.world.World.{World}
-use Rattle.dpj_machine.specs.Replay.{IsStuck, LeadsTo, Moment, StartsIn}
+use Rattle.dpj_machine.specs.Replay.{IsStuck, LeadsTo, Moment}
 
 abbrev pub limits : DeclaredLimits → Limits
 limits L = record { steps = L.steps; cells = L.cells }
@@ -67,18 +64,16 @@ SchedulesAreShort =
     (code : Code) (P : PlainProgram) (L : DeclaredLimits) (argument : ℤ) → plain_code code ≡ compiled P → Resolved P → HasMain P → L.steps ≤ 20000000
     → (ks : List ℕ) (m : Moment) → LeadsTo code L argument ks m → length ks ≤ 2 * L.steps + 2
 
--- what isn't ruled out yet where a ready task's event can't be made: an exit where no entry is open, a fork with more branches
--- and a look at more cells than are counted, and a branch without a start in the code
-abbrev pub LeftOpen : PlainCode → World → ℕ → State ℕ (ℕ × ℕ) → Action → Type 0
-LeftOpen C w k z action.Exit = HasEntry (get w.locks k) → ⊥
-LeftOpen C w k z (action.Fork forking many) = 2 ^ 32 ≤ many
-LeftOpen C w k z (action.Look n) = 2 ^ 31 ≤ length (values_of (object_at w.heap n))
-LeftOpen C w k z (action.Begin b) = StartsIn C (slice_get (starts_at C z) b) → ⊥
-LeftOpen C w k z a = ⊥
+-- what isn't ruled out yet where a ready task's event can't be made: an exit where no entry is open, and a fork with more
+-- branches than are counted
+abbrev pub LeftOpen : World → ℕ → Action → Type 0
+LeftOpen w k action.Exit = HasEntry (get w.locks k) → ⊥
+LeftOpen w k (action.Fork forking many) = 2 ^ 32 ≤ many
+LeftOpen w k a = ⊥
 
--- a machine is stuck for no other reason
+-- a machine is stuck for no other reason, within the limits that a job may have
 abbrev pub StuckForFewReasons : Type 0
 StuckForFewReasons =
     (code : Code) (P : PlainProgram) (L : DeclaredLimits) (argument : ℤ) → plain_code code ≡ compiled P → Resolved P → HasMain P → L.steps ≤ 20000000
-    → (ks : List ℕ) (m : Moment) → LeadsTo code L argument ks m → (k : ℕ) (s : IsStuck (plain_code code) m k)
-    → LeftOpen (plain_code code) m.world k s.next.stands.state s.event.action
+    → L.cells ≤ 16777216 → (ks : List ℕ) (m : Moment) → LeadsTo code L argument ks m → (k : ℕ) (s : IsStuck (plain_code code) m k)
+    → LeftOpen m.world k s.event.action
