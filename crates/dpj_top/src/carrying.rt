@@ -33,7 +33,7 @@ pub fn carry_out<R: Threads + Wait + Sync, G: Gate + Sync>(
     ensures { IfOk result (IsAnswerOn job.now text.now passed.place (typed_of passed)) }
 {
     match job.command {
-        Command::Run | Command::Demo | Command::Trace => { ran(rt, alloc, job, text, passed, gate) }
+        Command::Run | Command::Demo | Command::Trace => ran(rt, alloc, job, text, passed, gate),
         Command::Elide => elided(alloc, job, passed),
         Command::List => listed(alloc, passed),
         Command::Effects => inferred(alloc, passed),
