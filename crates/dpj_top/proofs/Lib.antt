@@ -1,2 +1,4 @@
 pub mod Verdicts
 pub mod Promised
+pub mod Sources
+pub mod Traces

@@ -3,7 +3,7 @@ use Rattle.dpj_top.proofs.Verdicts.{first-is-answer}
 use Rattle.dpj_top.proofs.answers.by_form.Goals as goal
 
 pub by_program-requires-clause-left : goal.by_program-requires-clause-left
-by_program-requires-clause-left g c = inr (λ program form. let found = (c.in_ok-program.ensures program).0 form in cc)
+by_program-requires-clause-left g c κs within = inr (λ program form. let found = (c.in_ok-program.ensures program).0 form in cc)
 
 pub returns-in-Some : goal.returns-in-Some
 returns-in-Some g c =

@@ -1,0 +1,60 @@
+-- Answers to traces, over plain variables.
+use Rattle.std.proofs.Common.{◌≡◌, ◌∙◌, ◌-◌, ◌≤◌, arith, ℕ, List, length, take, drop, IfOk, Result, Ok, Err, refl, sym, ap, subst}
+use Rattle.dpj_base.specs.declared.memory.NoMemory.{NoMemory}
+use Rattle.dpj_base.specs.declared.place.Place.{Place}
+use Rattle.dpj_base.specs.declared.refusal.Refusal.{Refusal}
+use Rattle.dpj_base.specs.declared.refusal.Kind.TheVariants.{Trace as trace_kind}
+use Rattle.dpj_typed.specs.Plain.{PlainProgram}
+use Rattle.dpj_trace.specs.Reading.{IsMisfit, IsTrace}
+use Rattle.dpj_trace.specs.declared.reading.Trace.{Trace}
+use Rattle.dpj_run.specs.declared.replaying.Replayed.{Replayed}
+use Rattle.dpj_run.specs.declared.replaying.Replayed.TheVariants as replayed
+use Rattle.dpj_front.specs.Front.{IsPassed, IsFault}
+use Rattle.dpj_words.specs.declared.verdict.Status.TheVariants as ended
+use Rattle.dpj_words.specs.declared.verdict.Verdict.TheVariants.{Refused}
+use Rattle.dpj_words.specs.Reports.{status_of}
+use Rattle.dpj_top.specs.declared.answered.Answered.{Answered}
+use Rattle.dpj_top.specs.Answer.{max_text, max_trace, only, refused_at}
+use Rattle.dpj_top.specs.Replaying.{IsReplayed, too_long, no_trace, of_trace, IsAnswerOnTrace, long_program, faulty, followed, IsReplayOf, told_of_replay, program_of}
+use Rattle.dpj_top.proofs.Verdicts.{ending_status-no-usage}
+
+told-no-usage : (trace : Trace) (place : Place) (r : Replayed) → status_of (told_of_replay trace place r).verdict ≡ ended.Usage → ⊥
+told-no-usage trace place (replayed.Ran r) e = ending_status-no-usage r.outcome.ending e
+told-no-usage trace place (replayed.Unfit at) e = cc
+told-no-usage trace place replayed.Halted e = cc
+
+same-status : (answered told : Answered) → answered ≡ told → status_of answered.verdict ≡ ended.Usage → status_of told.verdict ≡ ended.Usage
+same-status answered told is e = ap (λ (a : Answered). status_of a.verdict) (sym is) ∙ e
+
+on-trace-no-usage : (bytes : List ℕ) (trace : Trace) (answered : Answered) → IsAnswerOnTrace bytes trace answered → status_of answered.verdict ≡ ended.Usage → ⊥
+on-trace-no-usage bytes trace answered (long_program long is) e = let s = same-status answered _ is e in cc
+on-trace-no-usage bytes trace answered (faulty refusal short fault is) e = let s = same-status answered _ is e in cc
+on-trace-no-usage bytes trace answered (followed place typed short passed r) e = told-no-usage trace place r.replayed (same-status answered _ r.is e)
+
+-- the answer to a replay isn't told as usage
+pub replay-no-usage : (bytes : List ℕ) (answered : Answered) → IsReplayed bytes answered → status_of answered.verdict ≡ ended.Usage → ⊥
+replay-no-usage bytes answered (too_long long is) e = let s = same-status answered _ is e in cc
+replay-no-usage bytes answered (no_trace line short misfit is) e = let s = same-status answered _ is e in cc
+replay-no-usage bytes answered (of_trace trace short is on) e = on-trace-no-usage bytes trace answered on e
+
+-- bytes that are a trace, and bytes that are none
+pub trace-answer : (bytes : List ℕ) (trace : Trace) (result : Result Answered NoMemory) → length bytes ≤ max_trace → IsTrace bytes trace → IfOk result (IsAnswerOnTrace bytes trace)
+    → IfOk result (IsReplayed bytes)
+trace-answer bytes trace (Ok answered) short is on = of_trace trace short is on
+trace-answer bytes trace (Err none) short is on = tt
+
+pub misfit-answer : (bytes : List ℕ) (found told : ℕ) (answered : Answered) → found ≡ told → answered ≡ only (refused_at trace_kind told) → length bytes ≤ max_trace → IsMisfit bytes found
+    → IsReplayed bytes answered
+misfit-answer bytes found told answered same is short misfit = no_trace told short (subst (λ l. IsMisfit bytes l) same misfit) is
+
+-- the program of a trace, read off the bytes
+pub follow-answer : (bytes text : List ℕ) (trace : Trace) (place : Place) (typed : PlainProgram) (result : Result Answered NoMemory) → text ≡ program_of bytes trace
+    → length text ≤ max_text → IsPassed text place typed → IfOk result (IsReplayOf trace place typed) → IfOk result (IsAnswerOnTrace bytes trace)
+follow-answer bytes text trace place typed (Ok answered) same short passed r =
+    followed place typed (subst (λ (t : List ℕ). length t ≤ max_text) same short) (subst (λ t. IsPassed t place typed) same passed) r
+follow-answer bytes text trace place typed (Err none) same short passed r = tt
+
+pub fault-answer : (bytes text : List ℕ) (trace : Trace) (found told : Refusal) (answered : Answered) → text ≡ program_of bytes trace → found ≡ told → answered ≡ only (Refused told)
+    → length text ≤ max_text → IsFault text found → IsAnswerOnTrace bytes trace answered
+fault-answer bytes text trace found told answered same alike is short fault =
+    faulty told (subst (λ (t : List ℕ). length t ≤ max_text) same short) (subst (λ t. IsFault t told) same (subst (λ r. IsFault text r) alike fault)) is
