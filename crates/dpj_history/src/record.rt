@@ -1,0 +1,28 @@
+ghost use Rattle.std.specs.Prelude.{◌≡◌, ◌<◌, ◌^◌};
+ghost use Rattle.std.specs.List.{sum};
+
+use dpj_base::Items;
+use dpj_machine::Machine;
+
+/// What a call of the whole tool keeps of its run.
+#[derive(Drop)]
+pub struct Record {
+    /// The finished machine.
+    pub machine: Machine,
+    /// How many events each worker made.
+    pub shares: Items<u64>,
+    /// How many events the caller made itself.
+    pub own: u64,
+}
+
+/// How many events the workers made.
+pub fn shares_sum(made: &Record) -> u64
+    requires { sum made.now.shares < 2 ^ 64 }
+    ensures { result ≡ sum made.now.shares }
+{
+    let mut sum = 0;
+    for share in made.shares.as_slice() {
+        sum += *share;
+    }
+    sum
+}
