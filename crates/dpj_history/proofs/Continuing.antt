@@ -1,12 +1,14 @@
 -- A replay goes on, over plain variables.
-use Rattle.std.proofs.Common.{◌≡◌, ℕ, ℤ, zero, suc, ◌+◌, ◌<◌, ◌≤◌, List, [], ◌∷◌, ◌++◌, length, take, get_or, reverse, Option, Some, None, IsSome, refl, sym, ap, ◌∙◌, subst, arith}
+use Rattle.std.proofs.Common.{◌≡◌, ℕ, ℤ, zero, suc, ◌+◌, ◌<◌, inl, inr, List, [], ◌∷◌, ◌++◌, length, take, get_or, reverse, Option, Some, None, IsSome, Result, Ok, Err, IfErr, IsErrAnd, refl, sym, ap, ◌∙◌, subst, arith}
 use Rattle.std.specs.Prelude.{slice_get}
-use Rattle.std.proofs.lemmas.List.{take_more, reverse-append}
+use Rattle.std.proofs.lemmas.List.{take_more, take_all, reverse-append}
 use Rattle.dpj_base.specs.declared.outcome.Limits.{Limits}
 use Rattle.dpj_code.specs.declared.code.Code.{Code}
 use Rattle.dpj_machine.specs.Keeping.{Played, IsReplayed, IsAfter}
 use Rattle.dpj_machine.specs.Replay.{Moment, LeadsTo, Moves}
-use Rattle.dpj_history.specs.Replaying.{IsAt, HasMade}
+use Rattle.dpj_history.specs.declared.replaying.ReplayStop.{ReplayStop}
+use Rattle.dpj_history.specs.declared.replaying.ReplayStop.TheVariants.{Bad, Stuck, NoMemory}
+use Rattle.dpj_history.specs.Replaying.{IsAt, IsReplay, HasMade, after_end, not_ready, too_early, WhyStopped, WhyUnmade}
 
 pub next-is : (xs : List ℕ) (i : ℕ) → i < length xs → slice_get xs i ≡ Some (get_or xs i 0)
 next-is [] i h = absurd (omega (arith, h))
@@ -48,3 +50,39 @@ made-next code L argument schedule at task old new made within is after = record
     replayed = after-replayed old new task after;
   };
 }
+
+-- why the next event wasn't made is why the schedule wasn't
+pub stopped-here : (code : Code) (L : Limits) (argument : ℤ) (schedule : List ℕ) (at task : ℕ) (machine : Played) (stop : ReplayStop)
+    → HasMade code L argument schedule at machine → at < length schedule → task ≡ get_or schedule at 0 → WhyUnmade machine task at stop
+    → WhyStopped code L argument schedule stop
+stopped-here code L argument schedule at task machine (Bad count) made within is (same, inl over) =
+    subst (λ n. WhyStopped code L argument schedule (Bad n)) (sym same)
+    (machine, made, after_end task (next-is schedule at within ∙ ap Some (sym is)) over)
+stopped-here code L argument schedule at task machine (Bad count) made within is (same, inr unready) =
+    subst (λ n. WhyStopped code L argument schedule (Bad n)) (sym same)
+    (machine, made, not_ready task (next-is schedule at within ∙ ap Some (sym is)) unready)
+stopped-here code L argument schedule at task machine (Stuck count) made within is (same, stuck) =
+    subst (λ n. WhyStopped code L argument schedule (Stuck n)) (sym same)
+    (machine, made, record { task = task; next = next-is schedule at within ∙ ap Some (sym is); stuck = stuck })
+stopped-here code L argument schedule at task machine NoMemory made within is why = tt
+
+-- all numbers were made, and the run has come out, or not
+pub replay-is : (code : Code) (L : Limits) (argument : ℤ) (schedule : List ℕ) (machine : Played) → HasMade code L argument schedule (length schedule) machine
+    → IsSome machine.outcome → IsReplay code L argument schedule machine
+replay-is code L argument schedule machine made finished = record {
+  is_at = subst (λ s. IsAt code L argument s machine) (take_all (length schedule) schedule (omega arith)) made.is_at;
+  finished = finished;
+}
+
+pub ends-early : (code : Code) (L : Limits) (argument : ℤ) (schedule : List ℕ) (machine : Played) → HasMade code L argument schedule (length schedule) machine
+    → machine.outcome ≡ None → WhyStopped code L argument schedule (Bad (length schedule))
+ends-early code L argument schedule machine made unfinished = (machine, made, too_early refl unfinished)
+
+-- an error is handed on
+pub handed-on : {X E : Type 0} (r : Result X E) (e : E) (W : E → Type 0) → IsErrAnd r (λ f. f ≡ e) → W e → IfErr r W
+handed-on (Ok x) e W is why = tt
+handed-on (Err f) e W is why = subst W (sym is) why
+
+pub not-some : {X : Type 0} (o : Option X) → (IsSome o → ⊥) → o ≡ None
+not-some None none = refl
+not-some (Some x) none = absurd (none refl)

@@ -1,5 +1,5 @@
 -- What a replay of a schedule comes to.
-use Rattle.std.specs.Prelude.{◌≡◌, ℕ, ℤ, ◌≤◌, List, length, take, slice_get, Option, Some, None, IsSome}
+use Rattle.std.specs.Prelude.{◌≡◌, ℕ, ℤ, ◌≤◌, ◌⊎◌, List, length, take, slice_get, Some, None, IsSome}
 use Rattle.dpj_base.specs.declared.outcome.Limits.{Limits}
 use Rattle.dpj_code.specs.declared.code.Code.{Code}
 use Rattle.dpj_world.specs.Ready.{IsReady}
@@ -45,6 +45,6 @@ WhyStopped code limits argument schedule stop.NoMemory = Unit {0}
 
 -- why the event of a task, at this position, wasn't made
 abbrev pub WhyUnmade : Played → ℕ → ℕ → ReplayStop → Type 0
-WhyUnmade machine task at (stop.Bad count) = ⊥
+WhyUnmade machine task at (stop.Bad count) = (count ≡ at) × (IsSome machine.outcome ⊎ (IsReady machine.world task → ⊥))
 WhyUnmade machine task at (stop.Stuck count) = (count ≡ at) × IsStuckAt machine task
 WhyUnmade machine task at stop.NoMemory = Unit {0}

@@ -2,9 +2,9 @@
 //!
 //! A `Record` is the machine that made a run, with who made its events: each worker's share, and what the caller made itself.
 //!
-//! `replay` makes the run that a schedule says. What it promises: a machine that it gives has finished with exactly this schedule; and where it
-//! gives none but for want of memory, it tells the first number of the schedule that can't be made, and the machine that the numbers before it
-//! lead to (`specs/Replaying.antt`). Its time grows with the events alone.
+//! `replay` makes the run that a schedule says, on a machine that was just opened. What it promises: where it answers Ok, the machine has
+//! finished with exactly this schedule; and else, but for want of memory, it tells the first number of the schedule that can't be made, and what
+//! the numbers before it lead to (`specs/Replaying.antt`). Its time grows with the events alone.
 #![tactic(auto)]
 
 mod record;

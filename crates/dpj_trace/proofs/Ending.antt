@@ -1,11 +1,10 @@
 -- How the lines of a schedule go on and end, over plain variables.
-use Rattle.std.proofs.Common.{◌≡◌, ℕ, ℤ, zero, suc, ◌+◌, ◌-◌, ◌*◌, ◌<◌, ◌≤◌, ◌⊎◌, inl, inr, Bool, true, false, min, List, [], ◌∷◌, ◌++◌, length, codes, refl, sym, ap, ◌∙◌, subst, arith, length-append}
+use Rattle.std.proofs.Common.{◌≡◌, ℕ, ℤ, suc, ◌+◌, ◌-◌, ◌*◌, ◌<◌, ◌≤◌, inl, inr, Bool, true, false, List, ◌∷◌, length, codes, sym, ap, subst, arith, length-append}
 use Rattle.dpj_base.specs.declared.outcome.Limits.{Limits}
 use Rattle.dpj_trace.specs.declared.listed.Listed.{Listed}
-use Rattle.dpj_trace.specs.declared.reading.Trace.{Trace}
 use Rattle.dpj_trace.specs.Pieces.{IsCut}
 use Rattle.dpj_trace.specs.Listing.{Lists, Takes}
-use Rattle.dpj_trace.specs.Reading.{AreLimits, Told, listing, IsRun, IsProgram, Fits, Leads, IsTrace, IsMisfit}
+use Rattle.dpj_trace.specs.Reading.{AreLimits, Told, listing, IsRun, Fits, Leads, IsTrace, IsMisfit}
 use Rattle.dpj_trace.proofs.Leading.{leads-less, trace-is, misfit-line}
 
 pub cut-less : (byte : ℕ) (text front rest : List ℕ) → IsCut byte text front rest → length rest < length text

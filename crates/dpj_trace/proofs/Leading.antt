@@ -1,15 +1,13 @@
 -- What lines that fit say of the whole text, over plain variables.
-use Rattle.std.proofs.Common.{◌≡◌, ◌≢◌, ℕ, ℤ, zero, suc, ◌+◌, ◌-◌, ◌*◌, ◌<◌, ◌≤◌, ◌^◌, ◌⊎◌, inl, inr, min, List, [], ◌∷◌, ◌++◌, length, take, drop, replicate, Option, Some, None, codes, FitsSigned, refl, sym, ap, ◌∙◌, subst, arith, append_assoc, append-nil, length-append}
+use Rattle.std.proofs.Common.{◌≡◌, ℕ, ℤ, suc, ◌+◌, ◌-◌, ◌*◌, ◌<◌, ◌≤◌, ◌^◌, inl, inr, List, [], ◌∷◌, ◌++◌, length, drop, replicate, codes, refl, sym, ap, ◌∙◌, subst, arith, append_assoc, append-nil, length-append}
 use Rattle.std.specs.Fmt.{decimal}
 use Rattle.std.specs.Str.Parse.{digits_value}
 use Rattle.std.proofs.lemmas.Fmt.{decimal-digits_value}
 use Rattle.std.proofs.lemmas.List.{drop_at, length-replicate}
 use Rattle.dpj_base.specs.declared.outcome.Limits.{Limits}
-use Rattle.dpj_trace.specs.declared.reading.Trace.{Trace}
-use Rattle.dpj_trace.specs.Pieces.{IsCut, IsNumber}
-use Rattle.dpj_trace.specs.Runs.{last_of}
+use Rattle.dpj_trace.specs.Pieces.{IsCut}
 use Rattle.dpj_trace.specs.Text.{line, settings_text, events_text, run_text, schedule_text, trace_text}
-use Rattle.dpj_trace.specs.Reading.{AreLimits, Told, nothing, begun, settings, listing, whole, IsSettings, IsEvents, TellsRun, IsRun, IsProgram, Fits, Leads, start, next, IsUnfinished, IsMisfit, IsTrace}
+use Rattle.dpj_trace.specs.Reading.{AreLimits, Told, nothing, begun, settings, listing, whole, TellsRun, IsRun, IsProgram, Fits, Leads, start, next, IsUnfinished, IsMisfit, IsTrace}
 use Rattle.dpj_trace.proofs.Splitting.{schedule_text-more}
 use Rattle.dpj_trace.proofs.Spelling.{own}
 use Rattle.dpj_trace.proofs.Cutting.{cut-unique}

@@ -1,5 +1,5 @@
 -- What lines tell, they tell in one way; over plain variables.
-use Rattle.std.proofs.Common.{◌≡◌, ◌≢◌, ℕ, ℤ, pos, negsuc, zero, suc, ◌+◌, ◌-◌, ◌*◌, ◌<◌, ◌≤◌, ◌^◌, ◌⊎◌, inl, inr, List, [], ◌∷◌, ◌++◌, length, replicate, Some, codes, FitsSigned, refl, sym, ap, ◌∙◌, subst, ⊎_elim, arith, eqb, Bool, eq-eqb, true, false, not, ◌&&◌}
+use Rattle.std.proofs.Common.{◌≡◌, ℕ, ℤ, pos, negsuc, zero, suc, ◌+◌, ◌-◌, ◌*◌, ◌<◌, ◌≤◌, ◌^◌, inl, inr, List, [], ◌∷◌, ◌++◌, replicate, codes, FitsSigned, refl, sym, ap, ◌∙◌, subst, ⊎_elim, arith, eqb, Bool, eq-eqb, true, false, not}
 use lib.Signed.{mag}
 use Rattle.std.specs.Int.{w32}
 use Rattle.std.specs.List.{list_all}
@@ -10,8 +10,8 @@ use Rattle.std.proofs.lemmas.Fmt.{decimal_injective, signed_decimal_injective}
 use Rattle.std.proofs.lemmas.List.{append_cancel_left}
 use Rattle.dpj_base.specs.declared.outcome.Limits.{Limits}
 use Rattle.dpj_trace.specs.Pieces.{IsCut}
-use Rattle.dpj_trace.specs.Text.{settings_text, limits_text, events_text}
-use Rattle.dpj_trace.specs.Reading.{AreLimits, Told, nothing, begun, settings, listing, whole, IsSettings, IsEvents, TellsRun, IsRun, IsProgram, Fits, Leads, start, next, IsUnfinished, IsMisfit}
+use Rattle.dpj_trace.specs.Text.{limits_text}
+use Rattle.dpj_trace.specs.Reading.{AreLimits, Told, nothing, begun, settings, listing, whole, IsSettings, TellsRun, IsRun, Fits, Leads, start, next, IsMisfit}
 use Rattle.dpj_trace.proofs.Cutting.{Without, cut-unique, uncut}
 use Rattle.dpj_trace.proofs.Telling.{limits-begins, limits-cut, limits-pieces, settings-begins, settings-cut, settings-pieces, run-cut, run-pieces}
 

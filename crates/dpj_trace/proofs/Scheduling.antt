@@ -1,5 +1,5 @@
 -- A schedule that is read run by run, over plain variables.
-use Rattle.std.proofs.Common.{◌≡◌, ℕ, true, false, ◌+◌, ◌<◌, ◌≤◌, ◌^◌, min, List, [], ◌++◌, length, replicate, Option, Some, None, refl, sym, ap, ◌∙◌, subst, arith, eqb, eqb-true, eq-eqb, length-append}
+use Rattle.std.proofs.Common.{◌≡◌, ℕ, true, false, ◌+◌, ◌<◌, ◌≤◌, ◌^◌, min, List, ◌++◌, length, replicate, Option, Some, None, refl, sym, ap, ◌∙◌, arith, eqb, eqb-true, eq-eqb, length-append}
 use Rattle.std.specs.Option.{option_eq}
 use Rattle.std.proofs.lemmas.Bool.{false≢true}
 use Rattle.std.specs.Str.Parse.{digits_value}
@@ -8,8 +8,7 @@ use Rattle.std.proofs.lemmas.List.{length-replicate}
 use Rattle.dpj_trace.specs.declared.listed.Listed.{Listed}
 use Rattle.dpj_trace.specs.declared.listed.Told.{Told}
 use Rattle.dpj_trace.specs.Listing.{Lists, TellsAbout, Takes}
-use Rattle.dpj_trace.specs.Reading.{TellsRun, IsRun}
-use Rattle.dpj_trace.specs.Runs.{last_of}
+use Rattle.dpj_trace.specs.Reading.{TellsRun}
 use Rattle.dpj_trace.proofs.Splitting.{last_after}
 use Rattle.dpj_trace.proofs.Telling.{run-pieces, run-cut}
 

@@ -1,11 +1,11 @@
 -- What the lines of a trace tell, over plain variables.
-use Rattle.std.proofs.Common.{◌≡◌, ℕ, ℤ, ◌+◌, ◌*◌, ◌<◌, ◌≤◌, ◌^◌, List, [], ◌∷◌, ◌++◌, Option, Some, None, MatchOption, codes, FitsSigned, refl, sym, ap, ◌∙◌, arith, append_assoc}
+use Rattle.std.proofs.Common.{◌≡◌, ℕ, ℤ, ◌<◌, ◌≤◌, ◌^◌, List, [], ◌∷◌, ◌++◌, Option, Some, None, MatchOption, codes, FitsSigned, sym, ap, ◌∙◌, arith, append_assoc}
 use Rattle.std.specs.Int.{w32}
 use Rattle.std.specs.Fmt.{decimal, signed_decimal}
 use Rattle.std.proofs.lemmas.List.{append_cancel_left}
 use Rattle.dpj_base.specs.declared.outcome.Limits.{Limits}
 use Rattle.dpj_trace.specs.Pieces.{IsCut}
-use Rattle.dpj_trace.specs.Text.{line, limits_text, settings_text, events_text, run_text}
+use Rattle.dpj_trace.specs.Text.{line, limits_text, settings_text, run_text}
 use Rattle.dpj_trace.specs.declared.runs.Run.{Run}
 use Rattle.dpj_trace.specs.Reading.{AreLimits, IsSettings, IsEvents, TellsRun}
 use Rattle.dpj_trace.proofs.Cutting.{cut-unique, decimal-without, signed-without}

@@ -1,10 +1,9 @@
 -- A trace text is read line by line, over plain variables.
-use Rattle.std.proofs.Common.{◌≡◌, ◌≢◌, ℕ, ℤ, zero, suc, ◌+◌, ◌-◌, ◌*◌, ◌<◌, ◌≤◌, ◌^◌, ◌⊎◌, inl, inr, eqb, true, false, List, [], ◌∷◌, ◌++◌, length, drop, replicate, Option, Some, None, codes, FitsSigned, refl, sym, ap, ◌∙◌, subst, ⊎_elim, arith, eqb-true, eq-eqb, append_assoc, append-nil, length-append, length-drop}
+use Rattle.std.proofs.Common.{◌≡◌, ℕ, ℤ, suc, ◌+◌, ◌-◌, ◌*◌, ◌<◌, ◌≤◌, ◌^◌, inl, inr, eqb, true, false, List, [], ◌∷◌, ◌++◌, length, drop, replicate, Option, Some, None, codes, FitsSigned, refl, sym, ap, ◌∙◌, subst, ⊎_elim, arith, eqb-true, eq-eqb, append_assoc, append-nil, length-append, length-drop}
 use Rattle.std.specs.Int.{w32}
 use Rattle.std.specs.List.{flat_map, AllByRecursion}
 use Rattle.std.specs.Fmt.{decimal, signed_decimal}
-use Rattle.std.specs.Str.Parse.{digits_value}
-use Rattle.std.proofs.lemmas.Bool.{cases_Bool, cases_lt, cond-true, cond-false, false≢true}
+use Rattle.std.proofs.lemmas.Bool.{cases_Bool, cases_lt, false≢true}
 use Rattle.std.proofs.lemmas.List.{length-replicate}
 use Rattle.dpj_base.specs.declared.outcome.Limits.{Limits}
 use Rattle.dpj_trace.specs.declared.reading.Trace.{Trace}
@@ -13,7 +12,7 @@ use Rattle.dpj_trace.specs.Pieces.{IsCut}
 use Rattle.dpj_trace.specs.Laws.{HasNumbers}
 use Rattle.dpj_trace.specs.Runs.{put_first, runs_of, last_of}
 use Rattle.dpj_trace.specs.Text.{line, limits_text, settings_text, events_text, run_text, schedule_text, trace_text}
-use Rattle.dpj_trace.specs.Reading.{AreLimits, Told, nothing, begun, settings, listing, whole, IsSettings, IsEvents, TellsRun, IsRun, IsProgram, Fits, Leads, start, next, IsUnfinished, IsMisfit, IsTrace}
+use Rattle.dpj_trace.specs.Reading.{AreLimits, Told, nothing, begun, settings, listing, whole, TellsRun, IsRun, Leads, start, next, IsUnfinished, IsMisfit, IsTrace}
 use Rattle.dpj_trace.proofs.Splitting.{last_after}
 use Rattle.dpj_trace.proofs.Spelling.{number-of}
 use Rattle.dpj_trace.proofs.Cutting.{Without, without-append, decimal-without, signed-without}

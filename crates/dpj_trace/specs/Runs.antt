@@ -1,5 +1,5 @@
 -- The maximal runs of equal numbers in a schedule.
-use Rattle.std.specs.Prelude.{ℕ, suc, ◌+◌, ◌-◌, List, [], ◌∷◌, Option, Some, None, if◌then◌else◌, nat_eq, nat_lt}
+use Rattle.std.specs.Prelude.{ℕ, suc, ◌-◌, List, [], ◌∷◌, Option, Some, None, if◌then◌else◌, nat_eq, nat_lt}
 use Rattle.dpj_trace.specs.declared.runs.Run.{Run}
 
 -- runs with one number put before them

@@ -1,6 +1,6 @@
 use Rattle.std.proofs.Common.{refl}
 use Rattle.std.proofs.lemmas.Bool.{iff_false}
-use Rattle.dpj_trace.specs.Reading.{nothing, begun, settings, Leads, start, next}
+use Rattle.dpj_trace.specs.Reading.{nothing, begun, settings, start, next}
 use Rattle.dpj_trace.proofs.Leading.{misfit-missing, misfit-line}
 use Rattle.dpj_trace.proofs.head.read_head.Goals as goal
 

@@ -1,8 +1,7 @@
-use Rattle.std.proofs.Common.{◌≡◌, ◌<◌, ◌^◌, ℕ, List, sym, ap, subst, arith}
+use Rattle.std.proofs.Common.{◌<◌, ◌^◌, sym, ap, subst, arith}
 use Rattle.std.specs.Fmt.{decimal}
 use Rattle.std.specs.Str.Parse.{digits_value}
 use Rattle.dpj_trace.specs.Pieces.{IsNumber}
-use Rattle.dpj_trace.specs.Reading.{TellsRun}
 use Rattle.dpj_trace.proofs.Telling.{run-cut, run-pieces}
 use Rattle.dpj_trace.proofs.listed.told_by.Goals as goal
 

@@ -3,7 +3,7 @@ use mir.Val.{SFits}
 use Rattle.std.specs.Int.{w32}
 use Rattle.std.proofs.Math.Facts.{to_z-of_z}
 use Rattle.std.proofs.lemmas.Bool.{iff_false}
-use Rattle.dpj_trace.specs.Reading.{listing, next}
+use Rattle.dpj_trace.specs.Reading.{next}
 use Rattle.dpj_trace.proofs.Leading.{leads-less}
 use Rattle.dpj_trace.proofs.Ending.{behind-less, cut-less, read-whole, read-misfit, taken, not-taken}
 use Rattle.dpj_trace.proofs.reading.read_schedule.Goals as goal
