@@ -4,11 +4,9 @@ ghost use Rattle.dpj_going.specs.Going.{HasMain};
 ghost use Rattle.dpj_typed.specs.Plain.{plain_program};
 ghost use Rattle.dpj_run.specs.Replays.{IsFollowed, IsMadeBy};
 
-use crate::few::all_few;
+use crate::open::open;
 use crate::recorded::Recorded;
 use dpj_base::{Items, Limits, NoMemory, Plain};
-use dpj_compile::compile;
-use dpj_going::laws::law_going;
 use dpj_history::{Record, ReplayStop};
 use dpj_machine::Machine;
 use dpj_typed::Program;
@@ -40,13 +38,11 @@ pub fn replay(
     requires cells { limits.cells ≤ 16777216 }
     ensures { IfOk result (IsFollowed (plain_program program.now) limits argument schedule.now) }
 {
-    let code = compile(alloc, program)?;
-    if !all_few(code.sites.as_slice()) {
+    let Some(mut machine) = open(alloc, program, limits, argument)? else {
         return Ok(Replayed::Halted);
-    }
-    law_going();
-    match dpj_history::replay(alloc, code, limits, argument, schedule) {
-        Ok(machine) => Ok(Replayed::Ran(recorded(alloc, machine)?)),
+    };
+    match dpj_history::replay(&mut machine, schedule) {
+        Ok(()) => Ok(Replayed::Ran(recorded(alloc, machine)?)),
         Err(ReplayStop::Bad(at)) => Ok(Replayed::Unfit(at)),
         Err(ReplayStop::Stuck(_)) => Ok(Replayed::Halted),
         Err(ReplayStop::NoMemory) => Err(NoMemory),

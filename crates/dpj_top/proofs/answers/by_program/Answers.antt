@@ -1,3 +1,4 @@
+use Rattle.std.proofs.Common.{sym}
 use Rattle.dpj_front.specs.Judging.{typed_of}
 use Rattle.dpj_top.proofs.Verdicts.{faulty-answer, program-answer}
 use Rattle.dpj_top.proofs.answers.by_program.Goals as goal
@@ -10,4 +11,4 @@ returns-in-Ok g c =
 pub returns-in-Err-Refused : goal.returns-in-Err-Refused
 returns-in-Err-Refused g c =
     let fault = rw c.in-Err-Refused.field-0-is at c.in-Err-Refused.ensures.fault in
-    faulty-answer c.args.job.now c.args.text.now c.in-Err-Refused.refusal _ c.refused.result c.in-Err-Refused.refusal-is c.refused.ensures c.requires.short c.requires.left fault
+    faulty-answer c.args.job.now c.args.text.now c.in-Err-Refused.refusal _ c.refused.result (sym c.in-Err-Refused.refusal-is) c.refused.ensures c.requires.short c.requires.left fault

@@ -1,3 +1,4 @@
+use Rattle.std.proofs.Common.{sym}
 use Rattle.dpj_top.proofs.Traces.{misfit-answer, trace-answer}
 use Rattle.dpj_top.proofs.replays.replayed.Goals as goal
 
@@ -7,4 +8,4 @@ returns-in-Ok c = trace-answer c.args.bytes.now c.in-Ok.trace c.on_trace.result 
 pub returns-in-Err-Bad : goal.returns-in-Err-Bad
 returns-in-Err-Bad c =
     let why = rw c.in-Err-Bad.field-0-is at c.in-Err-Bad.ensures.why in
-    misfit-answer c.args.bytes.now c.in-Err-Bad.line _ c.refused_at.result c.in-Err-Bad.line-is c.refused_at.ensures c.requires.short why
+    misfit-answer c.args.bytes.now c.in-Err-Bad.line _ c.refused_at.result (sym c.in-Err-Bad.line-is) c.refused_at.ensures c.requires.short why
