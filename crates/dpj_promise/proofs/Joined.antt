@@ -1,8 +1,5 @@
 -- The machine's records and the determinism of schedules, joined.
-use Rattle.std.proofs.Common.{rules, ℕ, ℤ, ◌≡◌, ◌≤◌, FitsSigned, false, List, [], Option, Some, None, refl, sym, ap, ◌∙◌, subst, slice_get, reverse}
-use Rattle.std.specs.Int.{w32}
-use Rattle.dpj_base.specs.declared.outcome.Outcome.{Outcome}
-use Rattle.dpj_typed.specs.Plain.{PlainProgram}
+use Rattle.std.proofs.Common.{rules, ℕ, ◌≡◌, List, Option, Some, None, refl, sym, ap, ◌∙◌, subst, slice_get, reverse}
 use Rattle.dpj_meaning.specs.Actions.{Returned, Assigned, Trapped}
 use Rattle.dpj_meaning.specs.Counts.{number}
 use Rattle.dpj_meaning.specs.Elision.{elided}
@@ -14,7 +11,7 @@ use Rattle.dpj_runs.specs.Objects.{Name}
 use Rattle.dpj_steps.specs.Steps.{stepped}
 use Rattle.dpj_determined.specs.Laws.{SchedulesComeOutAsElided}
 use Rattle.dpj_recorded.specs.Laws.{MachinesRecord, Records, limits, told}
-use Rattle.dpj_promise.specs.Promise.{MachinesComeOutAsElided, elision, outcome_of_elision}
+use Rattle.dpj_promise.specs.Promise.{MachinesComeOutAsElided, outcome_of_elision}
 
 -- the names of objects don't show in an outcome
 number_named : (x : Option Name) → number (object_named x) ≡ number {N = Name} Null
@@ -27,7 +24,7 @@ number_renamed names (Int k) = refl
 number_renamed names (Boolean b) = refl
 number_renamed names Null = refl
 
-told_renamed : (names : List Name) (o : ElidedOutcome ℕ) → told (renamed names o) ≡ outcome_of_elision o
+pub told_renamed : (names : List Name) (o : ElidedOutcome ℕ) → told (renamed names o) ≡ outcome_of_elision o
 told_renamed names (came_out (Returned v) output steps cells) = search (rules, number_renamed names v)
 told_renamed names (came_out (Assigned locals) output steps cells) = refl
 told_renamed names (came_out (Trapped trap place) output steps cells) = refl

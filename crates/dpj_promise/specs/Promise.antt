@@ -15,7 +15,7 @@ use Rattle.dpj_code.specs.Plain.{plain_code}
 use Rattle.dpj_gen.specs.Resolved.{Resolved}
 use Rattle.dpj_gen.specs.Whole.{compiled}
 use Rattle.dpj_going.specs.Going.{HasMain}
-use Rattle.dpj_machine.specs.Keeping.{Played, IsReplayed}
+use Rattle.dpj_machine.specs.Keeping.{Played, GreedilyOn, IsReplayed}
 use Rattle.dpj_recorded.specs.Laws.{limits}
 
 -- the outcome of an elision: `main` gives an int
@@ -37,3 +37,10 @@ abbrev pub MachinesComeOutAsElided : Type 0
 MachinesComeOutAsElided =
     (P : PlainProgram) (p : Played) (o : Outcome) → WellTyped P → P.uses_nd ≡ false → Resolved P → HasMain P → plain_code p.code ≡ compiled P
     → p.limits.steps ≤ 20000000 → FitsSigned w32 p.argument → IsReplayed p → p.outcome ≡ Some o → o ≡ elision P p.limits p.argument
+
+-- and of any resolved program with a `main`, nd constructs or not, well typed or not: a machine that has gone on from its start by steps of
+-- the greatest ready task alone, and has finished, tells the outcome of the elision
+abbrev pub GreedyMachinesElide : Type 0
+GreedyMachinesElide =
+    (P : PlainProgram) (start p : Played) (o : Outcome) → Resolved P → HasMain P → plain_code p.code ≡ compiled P → p.limits.steps ≤ 20000000
+    → start.schedule ≡ [] → GreedilyOn start p → IsReplayed p → p.outcome ≡ Some o → o ≡ elision P p.limits p.argument

@@ -1,9 +1,12 @@
-//! The law of a machine's runs, the clause of a function that does nothing but name others.
+//! The laws of a machine's runs, each the clause of a function that does nothing but name others.
 
-ghost use Rattle.dpj_promise.specs.Promise.{MachinesComeOutAsElided};
+ghost use Rattle.dpj_promise.specs.Promise.{GreedyMachinesElide, MachinesComeOutAsElided};
 
 use dpj_determined::laws::law_well_typed;
+use dpj_elided::laws::law_greatest;
+use dpj_going::laws::law_going;
 use dpj_recorded::laws::law_recorded;
+use dpj_steps::laws::law_steps;
 
 /// A run of the code of a well-typed program without nd constructs comes out as the program's sequential elision, limits included,
 /// whatever its schedule is.
@@ -12,4 +15,15 @@ pub fn law_promise()
 {
     law_recorded();
     law_well_typed();
+}
+
+/// A run of the code of any resolved program with a `main`, in which the ready task with the greatest number always goes on, comes
+/// out as the program's sequential elision, limits included.
+pub fn law_elide()
+    ensures { GreedyMachinesElide }
+{
+    law_recorded();
+    law_steps();
+    law_going();
+    law_greatest();
 }

@@ -1,8 +1,10 @@
 //! The promise of the machine: a run of the code of a well-typed program without nd constructs comes out as the sequential
-//! elision of the program, whatever schedule was made.
+//! elision of the program, whatever schedule was made. And of each resolved program, nd constructs or not, so does the run in
+//! which the ready task with the greatest number always goes on: that is how a program is run in sequence.
 //!
 //! It joins what is proved apart: a machine's schedule records a run of the source (`dpj_recorded`), and all finished schedules
-//! of a well-typed program without nd constructs come out as its elision (`dpj_determined`). The crate has no code of its own.
+//! of a well-typed program without nd constructs come out as its elision (`dpj_determined`), as does the greedy run of each
+//! program (`dpj_elided`). The crate has no code of its own.
 #![tactic(auto)]
 
 pub mod laws;
