@@ -8,8 +8,8 @@ use Rattle.dpj_machine.specs.Keeping.{Played}
 use Rattle.dpj_typed.specs.Plain.{PlainProgram}
 use Rattle.dpj_typed.specs.WellTyped.{WellTyped}
 use Rattle.dpj_front.specs.Judging.{CanRun}
-use Rattle.dpj_promise.specs.Promise.{MachinesComeOutAsElided, elision}
-use Rattle.dpj_run.specs.Run.{IsRunOf, ComesOut, finished}
+use Rattle.dpj_promise.specs.Promise.{GreedyMachinesElide, MachinesComeOutAsElided, elision}
+use Rattle.dpj_run.specs.Run.{IsElision, IsRunOf, ComesOut, finished}
 use Rattle.dpj_run.specs.Run.{not_at_all as never}
 use Rattle.dpj_words.specs.Jobs.{IsInRange}
 use Rattle.dpj_words.specs.declared.job.Job.{Job}
@@ -28,8 +28,15 @@ module _ (machines : MachinesComeOutAsElided) (typed : PlainProgram) (L : Limits
       is.replayed come
       ∙ ap (λ k. elision typed k p.argument) is.limits ∙ ap (λ a. elision typed L a) is.is_argument
 
-pub keeps_promise : MachinesComeOutAsElided → KeepsPromise
-keeps_promise machines = record { run = run; elide = elide }
+module _ (greedy : GreedyMachinesElide) (typed : PlainProgram) (L : Limits) (argument : ℤ) (few : L.steps ≤ 20000000) (can : CanRun typed) where
+  -- so does one that has made an elision, of any program
+  pub told_greedy : (p : Played) (o : Outcome) → IsElision typed L argument p → p.outcome ≡ Some o → o ≡ elision typed L argument
+  told_greedy p o e come =
+      greedy typed e.start p o can.0 can.1 e.is_run.is_code (subst (λ (k : Limits). k.steps ≤ 20000000) (sym e.is_run.limits) few) e.nothing e.steps e.is_run.replayed come
+      ∙ ap (λ k. elision typed k p.argument) e.is_run.limits ∙ ap (λ a. elision typed L a) e.is_run.is_argument
+
+pub keeps_promise : MachinesComeOutAsElided → GreedyMachinesElide → KeepsPromise
+keeps_promise machines greedy = record { run = run; elide = elide }
   where
     run : (job : Job) (text : List ℕ) (place : Place) (typed : PlainProgram) (answered : Answered) → IsInRange job → FitsSigned w32 job.arg → CanRun typed
         → WellTyped typed → typed.uses_nd ≡ false → IsRan job text place typed answered → TellsElision job text place typed answered
@@ -39,11 +46,10 @@ keeps_promise machines = record { run = run; elide = elide }
         (told_elision machines typed (limits_of job) job.arg range.steps_most fits can wt none r.record.machine r.outcome is.is_run is.came))
     run job text place typed _ range fits can wt none (not_at_all halts) = no_run halts refl
 
-    elide : (job : Job) (place : Place) (typed : PlainProgram) (answered : Answered) → IsInRange job → FitsSigned w32 job.arg → CanRun typed
-        → WellTyped typed → typed.uses_nd ≡ false → IsElided job place typed answered → TellsElided job place typed answered
-    elide job place typed answered range fits can wt none e = by e.outcome e.comes e.is
+    elide : (job : Job) (place : Place) (typed : PlainProgram) (answered : Answered) → IsInRange job → CanRun typed → IsElided job place typed answered
+        → TellsElided job place typed answered
+    elide job place typed answered range can e = by e.outcome e.comes e.is
       where
         by : (outcome : _) → ComesOut typed (limits_of job) job.arg outcome → answered ≡ only (verdict_of_elision place outcome) → TellsElided job place typed answered
-        by _ (finished p o is come) same =
-            elided (same ∙ ap (λ k. only (Ran k)) (told_elision machines typed (limits_of job) job.arg range.steps_most fits can wt none p o is.is_run come))
+        by _ (finished p o is come) same = elided (same ∙ ap (λ k. only (Ran k)) (told_greedy greedy typed (limits_of job) job.arg range.steps_most can p o is come))
         by _ (never halts) same = no_elision halts same

@@ -23,9 +23,10 @@ pub data TellsElided (job : Job) (place : Place) (typed : PlainProgram) (answere
   elided : answered ≡ only (Ran (elision typed (limits_of job) job.arg)) → TellsElided job place typed answered
   no_elision : HasNoRun typed (limits_of job) job.arg → answered ≡ only (refused_form place) → TellsElided job place typed answered
 
--- so it is of each accepted program that is well typed and has no nd construct: by any number of workers, in any order
+-- so it is of each accepted program that is well typed and has no nd construct: by any number of workers, in any order. The elision is that
+-- of the source for every accepted program
 pub record KeepsPromise : Type 0 where
   pub run : (job : Job) (text : List ℕ) (place : Place) (typed : PlainProgram) (answered : Answered) → IsInRange job → FitsSigned w32 job.arg → CanRun typed
       → WellTyped typed → typed.uses_nd ≡ false → IsRan job text place typed answered → TellsElision job text place typed answered
-  pub elide : (job : Job) (place : Place) (typed : PlainProgram) (answered : Answered) → IsInRange job → FitsSigned w32 job.arg → CanRun typed
-      → WellTyped typed → typed.uses_nd ≡ false → IsElided job place typed answered → TellsElided job place typed answered
+  pub elide : (job : Job) (place : Place) (typed : PlainProgram) (answered : Answered) → IsInRange job → CanRun typed → IsElided job place typed answered
+      → TellsElided job place typed answered

@@ -21,7 +21,7 @@ pub returns-in_default : goal.returns-in_default
 returns-in_default g c =
     let fits : SFits w32 c.args.job.now.arg = search rules in
     let runs = run_as (plain_program c.in_ok-typed.typed) (typed_of c.args.passed) c.limits.result (limits_of c.args.job.now) _ c.args.job.now.arg c.args.job.now.workers
-        c.in_ok-run.field-0 c.in_ok-typed.ensures c.limits.ensures (to_z-of_z fits) c.in_ok-run.ensures in
+    c.in_ok-run.field-0 c.in_ok-typed.ensures c.limits.ensures (to_z-of_z fits) c.in_ok-run.ensures in
     not-ran c.args.job.now c.args.text.now c.args.passed.place (typed_of c.args.passed) c.refused_form.result
     (subst (λ r. IsRun (typed_of c.args.passed) (limits_of c.args.job.now) c.args.job.now.arg c.args.job.now.workers r) c.in_default.is runs) c.refused_form.ensures
 
@@ -29,7 +29,7 @@ pub returns : goal.returns
 returns g c =
     let fits : SFits w32 c.args.job.now.arg = search rules in
     let runs = run_as (plain_program c.in_ok-typed.typed) (typed_of c.args.passed) c.limits.result (limits_of c.args.job.now) _ c.args.job.now.arg c.args.job.now.workers
-        c.in_ok-run.field-0 c.in_ok-typed.ensures c.limits.ensures (to_z-of_z fits) c.in_ok-run.ensures in
+    c.in_ok-run.field-0 c.in_ok-typed.ensures c.limits.ensures (to_z-of_z fits) c.in_ok-run.ensures in
     ran-so c.args.job.now c.args.text.now c.args.passed.place (typed_of c.args.passed) c.in-Some.run' c.schedule.result.now c.in_ok-verdict.verdict
     (subst (λ r. IsRun (typed_of c.args.passed) (limits_of c.args.job.now) c.args.job.now.arg c.args.job.now.workers r) c.in-Some.is runs) c.schedule.ensures.schedule
     c.in_ok-verdict.ensures
