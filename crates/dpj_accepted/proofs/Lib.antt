@@ -1,0 +1,12 @@
+pub mod Args
+pub mod Declaring
+pub mod Expressions
+pub mod Gathered
+pub mod InScope
+pub mod InScopeStatements
+pub mod Indices
+pub mod Partial
+pub mod Paths
+pub mod Singles
+pub mod Subtypes
+pub mod Types

@@ -1,0 +1,5 @@
+pub mod Gathered
+pub mod Naming
+pub mod Seen
+pub mod Tree
+pub mod Laws
