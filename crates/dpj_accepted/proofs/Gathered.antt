@@ -42,21 +42,21 @@ has_in (f ∷ es) e h = by (has_in es e) (same_effect f e) refl h
     by next true is h = subst (λ z. Contains (f ∷ es) z) (same_effect-is f e is) (head_in f es)
     by next false is h = later_in f es e (next h)
 
-added_from : (es : List Effect) (f e : Effect) → Contains (added es f) e → Contains es e ⊎ (f ≡ e)
+pub added_from : (es : List Effect) (f e : Effect) → Contains (added es f) e → Contains es e ⊎ (f ≡ e)
 added_from es f e c = by (has_effect es f) c
   where
     by : (b : Bool) → Contains (cond b es (es ++ f ∷ [])) e → Contains es e ⊎ (f ≡ e)
     by true c = inl c
     by false c = Contains-push_cases es f e c
 
-added_kept : (es : List Effect) (f e : Effect) → Contains es e → Contains (added es f) e
+pub added_kept : (es : List Effect) (f e : Effect) → Contains es e → Contains (added es f) e
 added_kept es f e c = by (has_effect es f)
   where
     by : (b : Bool) → Contains (cond b es (es ++ f ∷ [])) e
     by true = c
     by false = Contains-append_left es (f ∷ []) e c
 
-added_new : (es : List Effect) (f : Effect) → Contains (added es f) f
+pub added_new : (es : List Effect) (f : Effect) → Contains (added es f) f
 added_new es f = by (has_effect es f) refl
   where
     by : (b : Bool) → has_effect es f ≡ b → Contains (cond b es (es ++ f ∷ [])) f

@@ -23,6 +23,24 @@ use Rattle.dpj_typed.specs.Types.{GoodElem, GoodPath, LocalPath, GoodType}
 use Rattle.dpj_typed.specs.Typing.{variable_elem, index_elem, result_of, Holds, Has, Fit}
 use Rattle.dpj_accepted.specs.Naming.{ElemNames, Anything, ElemsName, PathNames, PathsName, TypeNames, EffectsName, IsIndex, IsRegion, Nothing, SlotNames, LocalsName, ThroughPart, DoneIn, AllDoneIn, Signed}
 
+-- done to paths that name these, and through parts that are seen in a scope
+
+abbrev pub Over : (ℕ → Type 0) → (ℕ → Type 0) → Scope → Done → Type 0
+Over V R N (does e) = PathNames V R e.rpl
+Over V R N (uses k e) = ThroughPart N k e
+
+abbrev pub AllOver : (ℕ → Type 0) → (ℕ → Type 0) → Scope → List Done → Type 0
+AllOver V R N [] = Unit {0}
+AllOver V R N (o ∷ os) = Over V R N o × AllOver V R N os
+
+over_of : (L : Scope) (o : Done) → DoneIn L o → Over (IsIndex L) (IsRegion L) L o
+over_of L (does e) h = h
+over_of L (uses k e) h = h.1
+
+pub all_over_of : (L : Scope) (E : List Done) → AllDoneIn L E → AllOver (IsIndex L) (IsRegion L) L E
+all_over_of L [] h = tt
+all_over_of L (o ∷ E) h = (over_of L o h.0, all_over_of L E h.1)
+
 -- what names these names those of which these are some
 
 pub elem_more : (V R W S : ℕ → Type 0) → ((x : ℕ) → V x → W x) → ((r : ℕ) → R r → S r) → (e : Elem) → ElemNames V R e → ElemNames W S e
@@ -40,7 +58,7 @@ elems_more V R W S variables regions [] h = tt
 elems_more V R W S variables regions (e ∷ es) h = (elem_more V R W S variables regions e h.0, elems_more V Anything W Anything variables (λ r k. k) es h.1)
 
 -- whatever local region begins it
-any_elem : (V R : ℕ → Type 0) (e : Elem) → ElemNames V R e → ElemNames V Anything e
+pub any_elem : (V R : ℕ → Type 0) (e : Elem) → ElemNames V R e → ElemNames V Anything e
 any_elem V R e h = elem_more V R V Anything (λ x k. k) (λ r k. tt) e h
 
 any_elems : (V R : ℕ → Type 0) (es : List Elem) → ElemsName V R es → ElemsName V Anything es

@@ -22,7 +22,7 @@ use Rattle.dpj_typed.specs.Statements.{declared_as, with_part, IsFree, IsVariabl
 use Rattle.dpj_typed.specs.Types.{GoodType}
 use Rattle.dpj_typed.specs.Typing.{index_elem}
 use Rattle.dpj_accepted.specs.Naming.{ElemNames, Anything, ElemsName, PathNames, TypeNames, IsIndex, IsRegion, SlotNames, LocalsName, ThroughPart, DoneIn, AllDoneIn, Signed}
-use Rattle.dpj_accepted.proofs.InScope.{elems_more, type_more, slot_more, at_path, substituted_names, good_type, done_append, index_names, has_names}
+use Rattle.dpj_accepted.proofs.InScope.{Over, AllOver, elems_more, type_more, slot_more, at_path, substituted_names, good_type, done_append, index_names, has_names}
 
 some_same : {A : Type 0} {x y : A} → Some x ≡ Some y → x ≡ y
 some_same e = cc
@@ -86,32 +86,23 @@ module _ (L : Scope) (x : ℕ) (none : IsIndex L x → ⊥)
     unfolding generalised
     path_stays a h = ap (λ z. record { head = a.head; elems = z }) (elems_stay (IsRegion L) a.elems h)
 
--- done in an inner scope, but through parts that are seen from outside
-abbrev DoneOver : Scope → Scope → Done → Type 0
-DoneOver L M (does e) = PathNames (IsIndex M) (IsRegion M) e.rpl
-DoneOver L M (uses k e) = ThroughPart L k e
-
-abbrev AllDoneOver : Scope → Scope → List Done → Type 0
-AllDoneOver L M [] = Unit {0}
-AllDoneOver L M (o ∷ os) = DoneOver L M o × AllDoneOver L M os
-
 -- outside the scope of an index variable
 module _ (L M : Scope) (x : ℕ) (locals : LocalsName L) (none : IsIndex L x → ⊥) (index : (v : ℕ) → IsIndex M v → (v ≡ x) ⊎ IsIndex L v) (regions : (r : ℕ) → IsRegion M r → IsRegion L r)
   where
-    one_outside : (o : Done) → DoneOver L M o → DoneIn L (mapped (λ e. record e { rpl = generalised x e.rpl }) o)
+    one_outside : (o : Done) → Over (IsIndex M) (IsRegion M) L o → DoneIn L (mapped (λ e. record e { rpl = generalised x e.rpl }) o)
     one_outside (does e) h = path_general L M x index regions e.rpl h
     one_outside (uses k e) h =
         let names = (locals k (part h.0 e.rpl) h.1).1 in
         let same = path_stays L x none e.rpl names in
         (subst (PathNames (IsIndex L) (IsRegion L)) (sym same) names, (h.0, subst (λ z. L.local k ≡ Some (part h.0 z)) (sym same) h.1))
 
-    pub outside_over : (G : List Done) → AllDoneOver L M G → AllDoneIn L (outside_variable x G)
+    pub outside_over : (G : List Done) → AllOver (IsIndex M) (IsRegion M) L G → AllDoneIn L (outside_variable x G)
     outside_over [] h = tt
     outside_over (o ∷ G) h = (one_outside o h.0, outside_over G h.1)
 
     module _ (parts : (k : ℕ) (t : PlainType) (a : Rpl) → M.local k ≡ Some (part t a) → L.local k ≡ Some (part t a))
       where
-        over : (o : Done) → DoneIn M o → DoneOver L M o
+        over : (o : Done) → DoneIn M o → Over (IsIndex M) (IsRegion M) L o
         over (does e) h = h
         over (uses k e) h = (h.1.0, parts k h.1.0 e.rpl h.1.1)
 
@@ -146,14 +137,14 @@ behind_branches L Nondeterministic G h = h
 
 -- one local more
 
-back_index : (L : Scope) (x : ℕ) (l : Slot) (v : ℕ) → IsIndex (with_local x l L) v → ((v ≡ x) × (l ≡ constant int)) ⊎ IsIndex L v
+pub back_index : (L : Scope) (x : ℕ) (l : Slot) (v : ℕ) → IsIndex (with_local x l L) v → ((v ≡ x) × (l ≡ constant int)) ⊎ IsIndex L v
 back_index L x l v h = by (v == x) refl h
   where
     by : (b : Bool) → (v == x) ≡ b → cond b (Some l) (L.local v) ≡ Some (constant int) → ((v ≡ x) × (l ≡ constant int)) ⊎ IsIndex L v
     by true is h = inl (eqb-true v x is, some_same h)
     by false is h = inr h
 
-back_part : (L : Scope) (x : ℕ) (l : Slot) (k : ℕ) (t : PlainType) (a : Rpl) → (with_local x l L).local k ≡ Some (part t a) → ((k ≡ x) × (l ≡ part t a)) ⊎ (L.local k ≡ Some (part t a))
+pub back_part : (L : Scope) (x : ℕ) (l : Slot) (k : ℕ) (t : PlainType) (a : Rpl) → (with_local x l L).local k ≡ Some (part t a) → ((k ≡ x) × (l ≡ part t a)) ⊎ (L.local k ≡ Some (part t a))
 back_part L x l k t a h = by (k == x) refl h
   where
     by : (b : Bool) → (k == x) ≡ b → cond b (Some l) (L.local k) ≡ Some (part t a) → ((k ≡ x) × (l ≡ part t a)) ⊎ (L.local k ≡ Some (part t a))
@@ -185,7 +176,7 @@ none_with L x l y other none h = elim (back_index L x l y h) [ inl same ↦ othe
 
 -- seen from a branch of a loop
 
-alone_index : (o : Option Slot) → option_map read_alone o ≡ Some (constant int) → o ≡ Some (constant int)
+pub alone_index : (o : Option Slot) → option_map read_alone o ≡ Some (constant int) → o ≡ Some (constant int)
 alone_index None h = cc
 alone_index (Some (variable t)) h = cc
 alone_index (Some (frozen t)) h = cc
@@ -193,7 +184,7 @@ alone_index (Some (constant t)) h = h
 alone_index (Some (part t a)) h = cc
 alone_index (Some reserved) h = cc
 
-alone_part : (o : Option Slot) (t : PlainType) (a : Rpl) → option_map read_alone o ≡ Some (part t a) → o ≡ Some (part t a)
+pub alone_part : (o : Option Slot) (t : PlainType) (a : Rpl) → option_map read_alone o ≡ Some (part t a) → o ≡ Some (part t a)
 alone_part None t a h = cc
 alone_part (Some (variable u)) t a h = cc
 alone_part (Some (frozen u)) t a h = cc
@@ -231,7 +222,7 @@ any_variable L v (y ∷ ys) all h = by (λ k. any_variable L v ys (All-tail (IsV
 variable_none : (L : Scope) (v : ℕ) → IsVariable L v → IsIndex L v → ⊥
 variable_none L v w h = let clash = sym w.1 ∙ h in cc
 
-seen_index : (own others : List ℕ) (v : ℕ) (o : Option Slot) → seen_in_branch own others v o ≡ Some (constant int) → o ≡ Some (constant int)
+pub seen_index : (own others : List ℕ) (v : ℕ) (o : Option Slot) → seen_in_branch own others v o ≡ Some (constant int) → o ≡ Some (constant int)
 seen_index own others v o h = by (list_any (λ y. v == y) others) (list_any (λ y. v == y) own) h
   where
     none : (o : Option Slot) → option_map (λ k. reserved) o ≡ Some (constant int) → o ≡ Some (constant int)
@@ -243,7 +234,7 @@ seen_index own others v o h = by (list_any (λ y. v == y) others) (list_any (λ 
     by false true h = h
     by false false h = alone_index o h
 
-seen_part : (own others : List ℕ) (v : ℕ) (o : Option Slot) (t : PlainType) (a : Rpl) → seen_in_branch own others v o ≡ Some (part t a) → o ≡ Some (part t a)
+pub seen_part : (own others : List ℕ) (v : ℕ) (o : Option Slot) (t : PlainType) (a : Rpl) → seen_in_branch own others v o ≡ Some (part t a) → o ≡ Some (part t a)
 seen_part own others v o t a h = by (list_any (λ y. v == y) others) (list_any (λ y. v == y) own) h
   where
     none : (o : Option Slot) → option_map (λ k. reserved) o ≡ Some (part t a) → o ≡ Some (part t a)
@@ -279,7 +270,7 @@ locals_branch L own others all locals y m h = by (list_any (λ z. y == z) others
 
 -- local regions that are declared
 
-region_kept : (L : Scope) (rs : List ℕ) (r : ℕ) → IsRegion L r → IsRegion (with_regions rs L) r
+pub region_kept : (L : Scope) (rs : List ℕ) (r : ℕ) → IsRegion L r → IsRegion (with_regions rs L) r
 region_kept L rs r h = by (list_any (λ q. r == q) rs)
   where
     by : (b : Bool) → cond b true (L.regions r) ≡ true
@@ -322,7 +313,7 @@ module _ (L : Scope) (k : ℕ) (t : PlainType) (a : Rpl)
     abbrev Fourth : Scope
     Fourth = with_local (k + 3) reserved (with_local (k + 2) reserved (with_local (k + 1) reserved (with_local k (part t a) (in_loop_branch L))))
 
-    parted_index : (v : ℕ) → IsIndex Parted v → (v ≡ k + 4) ⊎ IsIndex L v
+    pub parted_index : (v : ℕ) → IsIndex Parted v → (v ≡ k + 4) ⊎ IsIndex L v
     parted_index v h = elim (back_index Fourth (k + 4) (constant int) v h) [
       | inl same ↦ inl same.0
       | inr h3 ↦ inr (elim (back_index (with_local (k + 2) reserved (with_local (k + 1) reserved (with_local k (part t a) (in_loop_branch L)))) (k + 3) reserved v h3) [
@@ -343,7 +334,7 @@ module _ (L : Scope) (k : ℕ) (t : PlainType) (a : Rpl)
         no_part : part t a ≡ constant int → ⊥
         no_part e = cc
 
-    parted_part : (j : ℕ) (u : PlainType) (b : Rpl) → Parted.local j ≡ Some (part u b) → ((j ≡ k) × (a ≡ b)) ⊎ (L.local j ≡ Some (part u b))
+    pub parted_part : (j : ℕ) (u : PlainType) (b : Rpl) → Parted.local j ≡ Some (part u b) → ((j ≡ k) × (a ≡ b)) ⊎ (L.local j ≡ Some (part u b))
     parted_part j u b h = elim (back_part Fourth (k + 4) (constant int) j u b h) [
       | inl same ↦ absurd (no_constant same.1)
       | inr h3 ↦ elim (back_part (with_local (k + 2) reserved (with_local (k + 1) reserved (with_local k (part t a) (in_loop_branch L)))) (k + 3) reserved j u b h3) [
@@ -395,15 +386,15 @@ module _ (L : Scope) (k : ℕ) (t : PlainType) (a : Rpl)
     -- what the part was used for is done to the array, or to the part that was cut
     module _ (source : Source) (free : L.local k ≡ None) (cut : (j : ℕ) → source ≡ of_part j → L.local j ≡ Some (part t a))
       where
-        handed_over : (s : Source) (e : Effect) → s ≡ source → a ≡ e.rpl → PathNames (IsIndex Parted) (IsRegion Parted) e.rpl → DoneOver L Parted (handed_on s e)
+        handed_over : (s : Source) (e : Effect) → s ≡ source → a ≡ e.rpl → PathNames (IsIndex Parted) (IsRegion Parted) e.rpl → Over (IsIndex Parted) (IsRegion Parted) L (handed_on s e)
         handed_over (of_array x) e same path h = h
         handed_over (of_part j) e same path h = (t, subst (λ z. L.local j ≡ Some (part t z)) path (cut j (sym same)))
 
-        own_over : (o : Done) → DoneIn Parted o → DoneOver L Parted (own_after k source o)
+        own_over : (o : Done) → DoneIn Parted o → Over (IsIndex Parted) (IsRegion Parted) L (own_after k source o)
         own_over (does e) h = h
         own_over (uses j e) h = by (j == k) refl
           where
-            by : (b : Bool) → (j == k) ≡ b → DoneOver L Parted (cond b (handed_on source e) (uses j e))
+            by : (b : Bool) → (j == k) ≡ b → Over (IsIndex Parted) (IsRegion Parted) L (cond b (handed_on source e) (uses j e))
             by true is = elim (parted_part j h.1.0 e.rpl h.1.1) [
               | inl same ↦ handed_over source e refl same.1 h.0
               | inr there ↦ absurd (no_part_there (sym free ∙ subst (λ z. L.local z ≡ Some (part h.1.0 e.rpl)) (eqb-true j k is) there))
@@ -416,15 +407,15 @@ module _ (L : Scope) (k : ℕ) (t : PlainType) (a : Rpl)
               | inr there ↦ (h.1.0, there)
             ]
 
-        all_over : (G : List Done) → AllDoneIn Parted G → AllDoneOver L Parted (after_parts k source G)
+        pub all_over : (G : List Done) → AllDoneIn Parted G → AllOver (IsIndex Parted) (IsRegion Parted) L (after_parts k source G)
         all_over [] h = tt
         all_over (o ∷ G) h = (own_over o h.0, all_over G h.1)
 
-        over_marked : (o : Done) → DoneOver L Parted o → DoneOver L Parted (marked false o)
+        over_marked : (o : Done) → Over (IsIndex Parted) (IsRegion Parted) L o → Over (IsIndex Parted) (IsRegion Parted) L (marked false o)
         over_marked (does e) h = h
         over_marked (uses j e) h = h
 
-        all_over_marked : (G : List Done) → AllDoneOver L Parted G → AllDoneOver L Parted (map (marked false) G)
+        all_over_marked : (G : List Done) → AllOver (IsIndex Parted) (IsRegion Parted) L G → AllOver (IsIndex Parted) (IsRegion Parted) L (map (marked false) G)
         all_over_marked [] h = tt
         all_over_marked (o ∷ G) h = (over_marked o h.0, all_over_marked G h.1)
 
@@ -435,7 +426,7 @@ module _ (L : Scope) (k : ℕ) (t : PlainType) (a : Rpl)
 
 module _ (P : PlainProgram) (signed : Signed P)
   where
-    declared_names : (L : Scope) (is_final : Bool) (t : PlainType) → TypeNames (IsIndex L) (IsRegion L) t → SlotNames (IsIndex L) (IsRegion L) (declared_as is_final t)
+    pub declared_names : (L : Scope) (is_final : Bool) (t : PlainType) → TypeNames (IsIndex L) (IsRegion L) t → SlotNames (IsIndex L) (IsRegion L) (declared_as is_final t)
     declared_names L true t h = h
     declared_names L false t h = h
 
@@ -450,17 +441,17 @@ module _ (P : PlainProgram) (signed : Signed P)
         part_of : {i j : ℕ} → of_part i ≡ of_part j → i ≡ j
         part_of e = cc
 
-    part_parts : (x : ℕ) (l : Slot) (L : Scope) → ((t : PlainType) (a : Rpl) → l ≡ part t a → ⊥) → (k : ℕ) (t : PlainType) (a : Rpl) → (with_local x l L).local k ≡ Some (part t a) → L.local k ≡ Some (part t a)
+    pub part_parts : (x : ℕ) (l : Slot) (L : Scope) → ((t : PlainType) (a : Rpl) → l ≡ part t a → ⊥) → (k : ℕ) (t : PlainType) (a : Rpl) → (with_local x l L).local k ≡ Some (part t a) → L.local k ≡ Some (part t a)
     part_parts x l L other k t a h = elim (back_part L x l k t a h) [ inl same ↦ absurd (other t a same.1) | inr there ↦ there ]
 
-    no_constant_part : (u t : PlainType) (a : Rpl) → constant u ≡ part t a → ⊥
+    pub no_constant_part : (u t : PlainType) (a : Rpl) → constant u ≡ part t a → ⊥
     no_constant_part u t a e = cc
 
-    declared_no_part : (is_final : Bool) (u t : PlainType) (a : Rpl) → declared_as is_final u ≡ part t a → ⊥
+    pub declared_no_part : (is_final : Bool) (u t : PlainType) (a : Rpl) → declared_as is_final u ≡ part t a → ⊥
     declared_no_part true u t a e = cc
     declared_no_part false u t a e = cc
 
-    only_index : (L : Scope) (x : ℕ) (l : Slot) (v : ℕ) → IsIndex (with_local x l L) v → (v ≡ x) ⊎ IsIndex L v
+    pub only_index : (L : Scope) (x : ℕ) (l : Slot) (v : ℕ) → IsIndex (with_local x l L) v → (v ≡ x) ⊎ IsIndex L v
     only_index L x l v h = elim (back_index L x l v h) [ inl same ↦ inl same.0 | inr there ↦ inr there ]
 
     all_free : (L : Scope) (k : ℕ) → All (λ i. IsFree L (k + i)) (0 ∷ 1 ∷ 2 ∷ 3 ∷ 4 ∷ []) → (L.local (k + 0) ≡ None) × (L.local (k + 1) ≡ None) × (L.local (k + 2) ≡ None) × (L.local (k + 3) ≡ None) × (L.local (k + 4) ≡ None)
