@@ -40,7 +40,7 @@ and_both true c h = (refl, h)
 and_both false c h = cc
 
 -- of which three tests none is so
-three_false : (a b c d e : Bool) → ((a && not b) || (c && d) || e) ≡ false → (a ≡ true → b ≡ true) × (c ≡ true → d ≡ false)
+pub three_false : (a b c d e : Bool) → ((a && not b) || (c && d) || e) ≡ false → (a ≡ true → b ≡ true) × (c ≡ true → d ≡ false)
 three_false true true true true e h = cc
 three_false true true true false e h = (λ _. refl, λ _. refl)
 three_false true true false d e h = (λ _. refl, λ n. absurd (no n))

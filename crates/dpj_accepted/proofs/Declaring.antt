@@ -73,18 +73,34 @@ indices_told env step n = by (last_from 0 None env.variables.names n)
     by None = refl
     by (Some p) = ap (λ vs. option_and_then (λ variable. variable) (slice_get vs p)) step.values ∙ ap (option_and_then (λ variable. variable)) (slice_get-map index_slot env.rows p) ∙ flat (slice_get env.rows p)
 
--- with one local more they stand so
-pub step_declared : (env : Env) (name : ℕ) (t : Ty) (is_final : Bool) → InStep env → InStep (with_local env name t is_final)
-step_declared env name t is_final step = record {
-  names = ap (λ z. z ++ name ∷ []) step.names ∙ sym (mapped_push (λ (row : LocalRow). row.name) env.rows (local_row env name t is_final));
-  values = ap (λ z. z ++ index_slot (local_row env name t is_final) ∷ []) step.values ∙ sym (mapped_push index_slot env.rows (local_row env name t is_final));
-  some_slot = omega arith;
-  slots = λ n row h. by (name == n) n row (sym (local_pushed env (local_row env name t is_final) step n) ∙ h);
+-- with one row more, in a slot that nothing had, they stand so
+pub step_row : (env : Env) (row : LocalRow) (slots : ℕ) → row.slot ≡ env.slots → env.slots < slots → InStep env → InStep (record (with_row_in env row) { slots = slots })
+step_row env row slots at more step = record {
+  names = ap (λ z. z ++ row.name ∷ []) step.names ∙ sym (mapped_push (λ (row : LocalRow). row.name) env.rows row);
+  values = ap (λ z. z ++ index_slot row ∷ []) step.values ∙ sym (mapped_push index_slot env.rows row);
+  some_slot = omega (arith, more);
+  slots = λ n one h. by (row.name == n) n one (sym (local_pushed env row step n) ∙ h);
+  apart = λ x y one other h k same. apart_by (row.name == x) (row.name == y) x y one other refl refl (sym (local_pushed env row step x) ∙ h) (sym (local_pushed env row step y) ∙ k) same;
+  regions = step.regions;
 }
   where
-    by : (b : Bool) (n : ℕ) (row : LocalRow) → cond b (Some (local_row env name t is_final)) (local_of env n) ≡ Some row → row.slot < env.slots + 1
-    by true n row h = let same = ap (λ (r : LocalRow). r.slot) (some_same h) in omega (arith, same)
-    by false n row h = let l = step.slots n row h in omega (arith, l)
+    by : (b : Bool) (n : ℕ) (one : LocalRow) → cond b (Some row) (local_of env n) ≡ Some one → one.slot < slots
+    by true n one h = let same = ap (λ (r : LocalRow). r.slot) (some_same h) in omega (arith, same, at, more)
+    by false n one h = let l = step.slots n one h in omega (arith, l, more)
+
+    apart_by : (b c : Bool) (x y : ℕ) (one other : LocalRow) → (row.name == x) ≡ b → (row.name == y) ≡ c → cond b (Some row) (local_of env x) ≡ Some one → cond c (Some row) (local_of env y) ≡ Some other →
+        one.slot ≡ other.slot → x ≡ y
+    apart_by true true x y one other p q h k same = sym (eqb-true row.name x p) ∙ eqb-true row.name y q
+    apart_by true false x y one other p q h k same =
+        let new = ap (λ (r : LocalRow). r.slot) (some_same h) in
+        let l = step.slots y other k in absurd (omega (arith, new, l, same, at))
+    apart_by false true x y one other p q h k same =
+        let new = ap (λ (r : LocalRow). r.slot) (some_same k) in
+        let l = step.slots x one h in absurd (omega (arith, new, l, same, at))
+    apart_by false false x y one other p q h k same = step.apart x y one other h k same
+
+pub step_declared : (env : Env) (name : ℕ) (t : Ty) (is_final : Bool) → InStep env → InStep (with_local env name t is_final)
+step_declared env name t is_final step = step_row env (local_row env name t is_final) (env.slots + 1) refl (omega arith) step
 
 module _ (P : PlainProgram) (L : Scope) (env : Env) (may_read may_assign : ℕ → Bool) (sees : Sees P L env may_read may_assign) (step : InStep env) (name : ℕ) (t : Ty) (is_final : Bool)
     (stands : is_final ≡ false → can_stand (plain_type t) ≡ true)

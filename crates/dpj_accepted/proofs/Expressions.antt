@@ -1,5 +1,5 @@
 -- Expressions that pass have their types in the judgement.
-use Rattle.std.proofs.Common.{◌≡◌, ◌∙◌, ◌⊎◌, ◌==◌, ℕ, Bool, true, false, not, ◌&&◌, ◌||◌, cond, IsTrue, is_some, List, [], ◌∷◌, ◌++◌, All, map, length, filter_map, inl, inr, Option, Some, None, option_map, option_and_then, Result, Ok, Err, refl, sym, ap, subst, arith}
+use Rattle.std.proofs.Common.{◌≡◌, ◌∙◌, ◌⊎◌, ◌==◌, ℕ, Bool, true, false, not, ◌&&◌, ◌||◌, cond, IsTrue, is_some, ◌≤◌, List, [], ◌∷◌, ◌++◌, All, map, length, filter_map, inl, inr, Option, Some, None, option_map, option_and_then, Result, Ok, Err, refl, sym, ap, subst, arith}
 use Rattle.std.proofs.lemmas.Bool.{and_parts, or_left, or_right, or_parts, eq-eqb}
 use Rattle.std.specs.List.{list_any}
 use Rattle.std.specs.Option.{option_map_or}
@@ -31,6 +31,7 @@ use Rattle.dpj_tree.specs.declared.expr.UnaryOp.TheVariants.{Neg, Not}
 use Rattle.dpj_tree.specs.declared.region.BaseTree.{BaseTree}
 use Rattle.dpj_tree.specs.declared.region.Named.{Named}
 use Rattle.dpj_tree.specs.declared.region.RplTree.{RplTree}
+use Rattle.dpj_tree.specs.declared.region.Suffix.{Suffix}
 use Rattle.dpj_tree.specs.Plain as tree
 use Rattle.dpj_resolve.specs.Args.{args_faults, args_given}
 use Rattle.dpj_resolve.specs.Constraints.{all_hold}
@@ -51,7 +52,7 @@ use Rattle.dpj_exprs.specs.declared.env.Env.{Env}
 use Rattle.dpj_exprs.specs.declared.env.LocalRow.{LocalRow}
 use Rattle.dpj_exprs.specs.declared.found.Found.{Found}
 use Rattle.dpj_exprs.specs.Answer.{Answer, gives, refused, read, with_access, with_part_use, with_summary, with_call}
-use Rattle.dpj_exprs.specs.Arrays.{front_of, front_told, created_array}
+use Rattle.dpj_exprs.specs.Arrays.{made_names, front_of, front_told, created_array}
 use Rattle.dpj_exprs.specs.Elements.{index_of, form_index, array_element, element_through, element_read, read_element, element_in_part, part_element, part_read, read_part}
 use Rattle.dpj_exprs.specs.Env.{table_of, supers_of, given_in, scope_of, local_of, part_of, as_part, index_slot, index_variable_of, is_length_name}
 use Rattle.dpj_exprs.specs.Fields.{field_with, owned_field, named_field, field_through, field_read, read_field}
@@ -67,9 +68,11 @@ use Rattle.dpj_resolved.proofs.Free.{noted_told, none_told, parts_free, append_n
 use Rattle.dpj_resolved.proofs.Lists.{some_same, ok_same, and_then_there, map_there}
 use Rattle.dpj_accepted.specs.Gathered.{Gathers}
 use Rattle.dpj_accepted.specs.Laws.{Stands}
-use Rattle.dpj_accepted.specs.Seen.{can_stand, AllStand, RowIs, Tells, Sees, FieldSeen, MemberSeen, MethodSeen, ClassSeen, ArraysAreGood}
+use Rattle.dpj_accepted.specs.Seen.{can_stand, AllStand, RowIs, Tells, Sees, FieldSeen, MemberSeen, MethodSeen, ClassSeen}
 use Rattle.dpj_accepted.specs.Tree.{Fitting, FormFitting, AllFitting}
 use Rattle.dpj_accepted.proofs.Args.{args_good}
+use Rattle.dpj_accepted.proofs.InScope.{stands_with}
+use Rattle.dpj_accepted.proofs.Meant.{constant_slot, meant, created_good}
 use Rattle.dpj_accepted.proofs.Gathered.{nothing_gathered, one_gathered, use_gathered, then_gathered, all_gathered, gathered_nd}
 use Rattle.dpj_accepted.proofs.Partial.{known_from, readable_from, all_known}
 use Rattle.dpj_accepted.proofs.Paths.{Meaning}
@@ -101,14 +104,6 @@ reference_is ty.int h = cc
 reference_is ty.boolean h = cc
 reference_is ty.void h = cc
 
-stands_with : (args : List Rpl) (t : PlainType) → can_stand t ≡ true → can_stand (type_with args t) ≡ true
-stands_with args ty.int h = refl
-stands_with args ty.boolean h = refl
-stands_with args ty.void h = h
-stands_with args ty.null h = h
-stands_with args (ty.class c paths) h = refl
-stands_with args (ty.array t a named) h = refl
-
 -- what was noted before nothing is told of is none
 told_before : (faults : Faults) (found : List Refusal) → told (all_noted faults found) ≡ None → told faults ≡ None
 told_before faults [] h = h
@@ -121,24 +116,6 @@ or_false : (a b : Bool) → (a || b) ≡ false → (a ≡ false) × (b ≡ false
 or_false a b h = or_parts a b h
 
 -- locals
-
-constant_slot : (r a : Bool) (row : LocalRow) (o : Option Local) (slot : ℕ) → RowIs r a row o → index_slot row ≡ Some slot → (o ≡ Some (constant ty.int)) × (row.slot ≡ slot)
-constant_slot r a row o slot is h = by row.is_final (is_int (plain_type row.ty)) refl refl h
-  where
-    array_int : (t : PlainType) (e : PlainType) (b : Rpl) → t ≡ ty.array e b false → is_int t ≡ true → ⊥
-    array_int t e b same int_so = let no : false ≡ true = sym (ap is_int same) ∙ int_so in cc
-
-    of_row : (o : Option Local) → RowIs r a row o → row.is_final ≡ true → is_int (plain_type row.ty) ≡ true → o ≡ Some (constant ty.int)
-    of_row o (RowIs.is_part {t = t} {a = b} p q same) f int_so = absurd (array_int (plain_type row.ty) t b same int_so)
-    of_row o (RowIs.is_constant p g) f int_so = ap (λ z. Some (constant z)) (int_is (plain_type row.ty) int_so)
-    of_row o (RowIs.is_variable p g) f int_so = let no : false ≡ true = sym g ∙ f in cc
-    of_row o (RowIs.is_frozen p g u) f int_so = let no : false ≡ true = sym g ∙ f in cc
-    of_row o (RowIs.is_reserved p g u v) f int_so = let no : false ≡ true = sym g ∙ f in cc
-
-    by : (f i : Bool) → row.is_final ≡ f → is_int (plain_type row.ty) ≡ i → cond (f && i) (Some row.slot) None ≡ Some slot → (o ≡ Some (constant ty.int)) × (row.slot ≡ slot)
-    by true true at_f at_i h = (of_row o is at_f at_i, some_same h)
-    by true false at_f at_i h = cc
-    by false i at_f at_i h = cc
 
 part_slot : (r a : Bool) (row : LocalRow) (o : Option Local) → RowIs r a row o → row.is_part ≡ true → (t : PlainType) × (b : Rpl) × (o ≡ Some (part t b)) × (plain_type row.ty ≡ ty.array t b false)
 part_slot r a row o (RowIs.is_part {t = t} {a = b} p q same) h = (t, b, refl, same)
@@ -165,23 +142,10 @@ slot_elem r a row o (RowIs.is_variable p g) h int_so = sym (ap (λ f. array_elem
 slot_elem r a row o (RowIs.is_frozen p g u) h int_so = sym (ap (λ f. array_elem (option_map (λ slot. Variable slot) (cond (f && is_int (plain_type row.ty)) (Some row.slot) None))) g)
 slot_elem r a row o (RowIs.is_reserved p g u v) h int_so = sym (ap (λ f. array_elem (option_map (λ slot. Variable slot) (cond (f && is_int (plain_type row.ty)) (Some row.slot) None))) g)
 
-module _ (P : PlainProgram) (L : Scope) (env : Env) (may_read may_assign : ℕ → Bool) (tells : Tells P (table_of env) L.never_nd) (sees : Sees P L env may_read may_assign) (arrays : ArraysAreGood P L env)
+module _ (P : PlainProgram) (L : Scope) (env : Env) (may_read may_assign : ℕ → Bool) (tells : Tells P (table_of env) L.never_nd) (sees : Sees P L env may_read may_assign)
   where
-    variable_seen : (name slot : ℕ) → index_variable_of env name ≡ Some slot → L.local slot ≡ Some (constant ty.int)
-    variable_seen name slot h =
-        let w = and_then_there index_slot (local_of env name) slot (sym (sees.indices name) ∙ h) in
-        let c = constant_slot (may_read name) (may_assign name) w.0 (L.local w.0.slot) slot (sees.locals name w.0 w.1) w.2 in
-        subst (λ z. L.local z ≡ Some (constant ty.int)) c.1 c.0
-
-    pub means : Meaning P L (scope_of env)
-    means = record {
-      regions = tells.regions;
-      atomic = tells.atomic;
-      params = sees.params;
-      variables = λ name slot h. variable_seen name slot (ap (option_and_then (λ variable. variable)) h);
-      locals = sees.regions;
-      given = sees.given;
-    }
+    means : Meaning P L (scope_of env)
+    means = meant P L env may_read may_assign tells sees
 
     -- what is made of an expression, and how it stands in an index
     pub record Made (e : tree.PlainExpr) (f : Found) (t : TypedExpr) (g : Found) : Type 0 where
@@ -717,15 +681,15 @@ module _ (P : PlainProgram) (L : Scope) (env : Env) (may_read may_assign : ℕ �
         (sym (ap (λ o. args_told env (option_map_or (params_in (headers_of (table_of env))) o []) trees) is) ∙ untold) d
 
     -- the creation of an array
-    array_passed : (x : tree.PlainExpr) (len : tree.PlainExpr) (index : PlainIndex) (base : BaseTree) (rpl : Option RplTree) (place : Place) (f g : Found) (t : Option TypedExpr) → index_of env x ≡ None →
-        front_told env index base ≡ None → Passed len f (gives t g) → Passed x f (answer (created place (node_at place t) (created_array env index (front_of env index base) (type_in t) rpl place)) g)
-    array_passed x len index base rpl place f g None none front m = absurd m
-    array_passed x len index base rpl place f g (Some n) none front m = by (created_array env index (front_of env index base) (Some (type_of n)) rpl place) refl
+    array_passed : (x : tree.PlainExpr) (len : tree.PlainExpr) (suffixes : List Suffix) (index : Option Named) → length suffixes ≤ 4294967295 → (base : BaseTree) (rpl : Option RplTree) (place : Place) (f g : Found) (t : Option TypedExpr) → index_of env x ≡ None →
+        front_told env (made_names suffixes index) base ≡ None → Passed len f (gives t g) → Passed x f (answer (created place (node_at place t) (created_array env (made_names suffixes index) (front_of env (made_names suffixes index) base) (type_in t) rpl place)) g)
+    array_passed x len suffixes index few base rpl place f g None none front m = absurd m
+    array_passed x len suffixes index few base rpl place f g (Some n) none front m = by (created_array env (made_names suffixes index) (front_of env (made_names suffixes index) base) (Some (type_of n)) rpl place) refl
       where
-        by : (r : Result PlainType Refusal) → created_array env index (front_of env index base) (Some (type_of n)) rpl place ≡ r → Passed x f (answer (created place n r) g)
+        by : (r : Result PlainType Refusal) → created_array env (made_names suffixes index) (front_of env (made_names suffixes index) base) (Some (type_of n)) rpl place ≡ r → Passed x f (answer (created place n r) g)
         by (Err refusal) is = tt
         by (Ok t) is =
-            let w = arrays index base rpl (Some (type_of n)) place t front is in
+            let w = created_good P L env may_read may_assign tells sees suffixes index base rpl (Some (type_of n)) place t few front is in
             subst (λ z. Passed x f (gives (Some (typed place z (form.create_array n))) g)) (sym w.3)
             (made_on x f g n (typed place (ty.array w.0 w.1 w.2) (form.create_array n)) m.stands (λ E h. Has.make_array w.4 w.5 h (int_is (type_of n) w.6)) (λ _. sym (ap array_elem none)))
 
@@ -773,14 +737,14 @@ module _ (P : PlainProgram) (L : Scope) (env : Env) (may_read may_assign : ℕ �
       typing_passed fits all (Typing.new_object {place = place} {class = class} {regions = regions} {actuals = actuals} {f = f} {g = g} {types = types} {a = a} l i r) =
           creation_passed place class regions actuals f g types a (all_passed fits (λ x h. all x (or_right (list_any (path_reads x) regions) (exprs_read x actuals) h)) i) l r
       typing_passed fits all (Typing.new_array {place = place} {base = base} {suffixes = suffixes} {len = len} {rpl = rpl} {index = index} {f = f} d) =
-          made_passed (tree.expression place (tree.create_array base suffixes len rpl index)) refl fits (λ x h. all x (or_right (made_reads x base suffixes rpl index) (expr_reads x len) h)) d
+          made_passed suffixes index fits.0 (tree.expression place (tree.create_array base suffixes len rpl index)) refl fits.1 (λ x h. all x (or_right (made_reads x base suffixes rpl index) (expr_reads x len) h)) d
 
-      made_passed : {around : PlainIndex} {base : BaseTree} {len : tree.PlainExpr} {rpl : Option RplTree} {place : Place} {f : Found} {a : Answer} (x : tree.PlainExpr) → index_of env x ≡ None →
-          Fitting len → ((x : ℕ) → IsTrue (expr_reads x len) → IsTrue (may_read x)) → TypingArray env around base len rpl place f a → Passed x f a
-      made_passed x none fits all (TypingArray.front_refused l) = tt
-      made_passed x none fits all (TypingArray.length_refused l d) = tt
-      made_passed x none fits all (TypingArray.array_created {around = around} {base = base} {len = len} {rpl = rpl} {place = place} {f = f} {g = g} {t = t} l d r) =
-          subst (Passed x f) r (array_passed x len around base rpl place f g t none l (typing_passed fits all d))
+      made_passed : (suffixes : List Suffix) (index : Option Named) → length suffixes ≤ 4294967295 → {base : BaseTree} {len : tree.PlainExpr} {rpl : Option RplTree} {place : Place} {f : Found} {a : Answer} (x : tree.PlainExpr) → index_of env x ≡ None →
+          Fitting len → ((x : ℕ) → IsTrue (expr_reads x len) → IsTrue (may_read x)) → TypingArray env (made_names suffixes index) base len rpl place f a → Passed x f a
+      made_passed suffixes index few x none fits all (TypingArray.front_refused l) = tt
+      made_passed suffixes index few x none fits all (TypingArray.length_refused l d) = tt
+      made_passed suffixes index few x none fits all (TypingArray.array_created {base = base} {len = len} {rpl = rpl} {place = place} {f = f} {g = g} {t = t} l d r) =
+          subst (Passed x f) r (array_passed x len suffixes index few base rpl place f g t none l (typing_passed fits all d))
 
       all_passed : {es : tree.PlainExprs} {f : Found} {a : AllAnswer} → AllFitting es → ((x : ℕ) → IsTrue (exprs_read x es) → IsTrue (may_read x)) → TypingAll env es f a → AllPassed f a
       all_passed fits all TypingAll.none_left = Given.no_more

@@ -21,6 +21,7 @@ use Rattle.dpj_typed.specs.Scope.{Scope, variable, frozen, constant, part, reser
 use Rattle.dpj_typed.specs.Scope.{Local as Slot}
 use Rattle.dpj_typed.specs.Types.{GoodElem, GoodPath, LocalPath, GoodType}
 use Rattle.dpj_typed.specs.Typing.{variable_elem, index_elem, result_of, Holds, Has, Fit}
+use Rattle.dpj_accepted.specs.Seen.{can_stand}
 use Rattle.dpj_accepted.specs.Naming.{ElemNames, Anything, ElemsName, PathNames, PathsName, TypeNames, EffectsName, IsIndex, IsRegion, Nothing, SlotNames, LocalsName, ThroughPart, DoneIn, AllDoneIn, Signed}
 
 -- done to paths that name these, and through parts that are seen in a scope
@@ -98,14 +99,39 @@ module _ (V R W S : ℕ → Type 0) (variables : (x : ℕ) → V x → W x) (reg
     type_more void h = tt
     type_more null h = tt
     type_more (class c args) h = paths_more args h
-    type_more (array t a named) h = (elems_more V R W S variables regions a.elems h.0, type_more t h.1)
+    type_more (array t a named) h = (elems_more V R W S variables regions a.elems h.0, h.1, type_more t h.2)
 
     pub slot_more : (l : Slot) → SlotNames V R l → SlotNames W S l
     slot_more (variable t) h = type_more t h
     slot_more (frozen t) h = type_more t h
     slot_more (constant t) h = type_more t h
-    slot_more (part t a) h = (type_more t h.0, elems_more V R W S variables regions a.elems h.1)
+    slot_more (part t a) h = type_more (array t a false) h
     slot_more reserved h = tt
+
+-- what is put into the type of a value leaves it one
+pub stands_with : (args : List Rpl) (t : PlainType) → can_stand t ≡ true → can_stand (type_with args t) ≡ true
+stands_with args int h = refl
+stands_with args boolean h = refl
+stands_with args void h = h
+stands_with args null h = h
+stands_with args (class c paths) h = refl
+stands_with args (array t a named) h = refl
+
+pub stands_at : (D : ℕ) (x : Elem) (t : PlainType) → can_stand t ≡ true → can_stand (type_at D x t) ≡ true
+stands_at D x int h = refl
+stands_at D x boolean h = refl
+stands_at D x void h = h
+stands_at D x null h = h
+stands_at D x (class c paths) h = refl
+stands_at D x (array t a named) h = refl
+
+pub good_stands : (P : PlainProgram) (L : Scope) (D : ℕ) (t : PlainType) → GoodType P L D t → can_stand t ≡ true
+good_stands P L D int g = refl
+good_stands P L D boolean g = refl
+good_stands P L D void g = absurd g
+good_stands P L D null g = absurd g
+good_stands P L D (class c args) g = refl
+good_stands P L D (array t a named) g = refl
 
 module _ (V R : ℕ → Type 0)
   where
@@ -140,7 +166,7 @@ module _ (V R : ℕ → Type 0)
     with_names args all void h = tt
     with_names args all null h = tt
     with_names args all (class c ps) h = all_substituted args all ps h
-    with_names args all (array t a named) h = (substituted_names args all a h.0, with_names args all t h.1)
+    with_names args all (array t a named) h = (substituted_names args all a h.0, stands_with args t h.1, with_names args all t h.2)
 
     -- an index put in
     pub at_path : (D : ℕ) (x : Elem) (a : Rpl) → ElemNames V R x → PathNames V R a → PathNames V R (path_at D x a)
@@ -156,7 +182,7 @@ module _ (V R : ℕ → Type 0)
     at_type D x void h k = tt
     at_type D x null h k = tt
     at_type D x (class c ps) h k = at_paths D x ps h k
-    at_type D x (array t a named) h k = (at_path (suc D) x a h k.0, at_type (suc D) x t h k.1)
+    at_type D x (array t a named) h k = (at_path (suc D) x a h k.0, stands_at (suc D) x t k.1, at_type (suc D) x t h k.2)
 
 -- what is good names what is in scope
 
@@ -192,7 +218,7 @@ module _ (P : PlainProgram) (L : Scope)
     good_type D void g = tt
     good_type D null g = tt
     good_type D (class c args) g = good_paths D args g.2.paths
-    good_type D (array t a named) g = (elim g.0 [ inl p ↦ good_path (suc D) a p | inr q ↦ local_path 1 a q.0 ], good_type (suc D) t g.1)
+    good_type D (array t a named) g = (elim g.0 [ inl p ↦ good_path (suc D) a p | inr q ↦ local_path 1 a q.0 ], good_stands P L (suc D) t g.1, good_type (suc D) t g.1)
 
 -- effects
 
@@ -249,7 +275,7 @@ module _ (P : PlainProgram) (signed : Signed P)
         pub class_args : {t : PlainType} {c : ℕ} {args : List Rpl} → t ≡ class c args → TypeNames V R t → PathsName V R args
         class_args e h = subst (TypeNames V R) e h
 
-        array_parts : {u t : PlainType} {a : Rpl} {named : Bool} → u ≡ array t a named → TypeNames V R u → PathNames V R a × TypeNames V R t
+        array_parts : {u t : PlainType} {a : Rpl} {named : Bool} → u ≡ array t a named → TypeNames V R u → PathNames V R a × (can_stand t ≡ true) × TypeNames V R t
         array_parts e h = subst (TypeNames V R) e h
 
         mutual
@@ -268,7 +294,7 @@ module _ (P : PlainProgram) (signed : Signed P)
               let j = has_names h in
               let k = has_names hi in
               let p = array_parts ty j.0 in (
-                subst (TypeNames V R) (sym e) (at_type V R 0 (index_elem L i) t (index_names L i) p.1),
+                subst (TypeNames V R) (sym e) (at_type V R 0 (index_elem L i) t (index_names L i) p.2),
                 done_append L E _ j.1 (done_append L F _ k.1 (at_path V R 0 (index_elem L i) rpl (index_names L i) p.0, tt)),
               )
           has_names (Has.length_of_array h ty) = (tt, (has_names h).1)
@@ -291,7 +317,7 @@ module _ (P : PlainProgram) (signed : Signed P)
           has_names (Has.length_of_part e) = (tt, tt)
           has_names (Has.read_part {k = k} {t = t} {a = a} {E = E} e h ty) =
               let z = locals k (part t a) e in
-              (z.0, done_append L E _ (has_names h).1 ((z.1, (t, e)), tt))
+              (z.2, done_append L E _ (has_names h).1 ((z.0, (t, e)), tt))
 
           pub fit_names : {es : TypedExprs} {ts : List PlainType} {F : List Done} → Fit P L es ts F → AllDoneIn L F
           fit_names Fit.none = tt

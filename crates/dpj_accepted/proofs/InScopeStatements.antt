@@ -92,7 +92,7 @@ module _ (L M : Scope) (x : ℕ) (locals : LocalsName L) (none : IsIndex L x →
     one_outside : (o : Done) → Over (IsIndex M) (IsRegion M) L o → DoneIn L (mapped (λ e. record e { rpl = generalised x e.rpl }) o)
     one_outside (does e) h = path_general L M x index regions e.rpl h
     one_outside (uses k e) h =
-        let names = (locals k (part h.0 e.rpl) h.1).1 in
+        let names = (locals k (part h.0 e.rpl) h.1).0 in
         let same = path_stays L x none e.rpl names in
         (subst (PathNames (IsIndex L) (IsRegion L)) (sym same) names, (h.0, subst (λ z. L.local k ≡ Some (part h.0 z)) (sym same) h.1))
 
@@ -358,8 +358,8 @@ module _ (L : Scope) (k : ℕ) (t : PlainType) (a : Rpl)
         path_is : part t a ≡ part u b → a ≡ b
         path_is e = cc
 
-    pub locals_parted : LocalsName L → (IsIndex L k → ⊥) × (IsIndex L (k + 1) → ⊥) × (IsIndex L (k + 2) → ⊥) × (IsIndex L (k + 3) → ⊥) × (IsIndex L (k + 4) → ⊥) → TypeNames (IsIndex L) (IsRegion L) t → PathNames (IsIndex L) (IsRegion L) a → LocalsName Parted
-    locals_parted locals none ty path =
+    pub locals_parted : LocalsName L → (IsIndex L k → ⊥) × (IsIndex L (k + 1) → ⊥) × (IsIndex L (k + 2) → ⊥) × (IsIndex L (k + 3) → ⊥) × (IsIndex L (k + 4) → ⊥) → TypeNames (IsIndex L) (IsRegion L) (array t a false) → LocalsName Parted
+    locals_parted locals none ty =
         let inner : (x : ℕ) → (IsIndex L x → ⊥) → IsIndex (in_loop_branch L) x → ⊥ = λ x n h. n (alone_index (L.local x) h) in
         let n0 : IsIndex (in_loop_branch L) k → ⊥ = inner k none.0 in
         let n1 = none_with (in_loop_branch L) k (part t a) (k + 1) no_part (inner (k + 1) none.1) in
@@ -371,7 +371,7 @@ module _ (L : Scope) (k : ℕ) (t : PlainType) (a : Rpl)
         (none_with (with_local k (part t a) (in_loop_branch L)) (k + 1) reserved (k + 4) no_reserved (none_with (in_loop_branch L) k (part t a) (k + 4) no_part (inner (k + 4) none.4)))) in
         let more : (v : ℕ) → IsIndex L v → IsIndex (in_loop_branch L) v = λ v h. ap (option_map read_alone) h in
         let l0 = locals_with (in_loop_branch L) k (part t a) n0 (locals_loop L locals)
-        (type_more (IsIndex L) (IsRegion L) (IsIndex (in_loop_branch L)) (IsRegion L) more (λ r h. h) t ty, elems_more (IsIndex L) (IsRegion L) (IsIndex (in_loop_branch L)) (IsRegion L) more (λ r h. h) a.elems path) in
+        (type_more (IsIndex L) (IsRegion L) (IsIndex (in_loop_branch L)) (IsRegion L) more (λ r h. h) (array t a false) ty) in
         let l1 = locals_with (with_local k (part t a) (in_loop_branch L)) (k + 1) reserved n1 l0 tt in
         let l2 = locals_with (with_local (k + 1) reserved (with_local k (part t a) (in_loop_branch L))) (k + 2) reserved n2 l1 tt in
         let l3 = locals_with (with_local (k + 2) reserved (with_local (k + 1) reserved (with_local k (part t a) (in_loop_branch L)))) (k + 3) reserved n3 l2 tt in
@@ -431,11 +431,10 @@ module _ (P : PlainProgram) (signed : Signed P)
     declared_names L false t h = h
 
     cut_names : (L : Scope) → LocalsName L → {source : Source} {t : PlainType} {a : Rpl} {E : List Done} → Cuts P L source t a E →
-        (TypeNames (IsIndex L) (IsRegion L) t × PathNames (IsIndex L) (IsRegion L) a) × AllDoneIn L E × ((j : ℕ) → source ≡ of_part j → L.local j ≡ Some (part t a))
+        TypeNames (IsIndex L) (IsRegion L) (array t a false) × AllDoneIn L E × ((j : ℕ) → source ≡ of_part j → L.local j ≡ Some (part t a))
     cut_names L locals (Cuts.cuts_array {e = e} {t = t} {a = a} {E = E} h ty full) =
         let n = has_names P signed L locals h in
-        let p = subst (TypeNames (IsIndex L) (IsRegion L)) ty n.0 in
-        ((p.1, p.0), n.1, λ j same. cc)
+        (subst (TypeNames (IsIndex L) (IsRegion L)) ty n.0, n.1, λ j same. cc)
     cut_names L locals (Cuts.cuts_part {k = k} {t = t} {a = a} is) = (locals k (part t a) is, tt, λ j same. subst (λ z. L.local z ≡ Some (part t a)) (part_of same) is)
       where
         part_of : {i j : ℕ} → of_part i ≡ of_part j → i ≡ j
@@ -480,7 +479,7 @@ module _ (P : PlainProgram) (signed : Signed P)
           let p = subst (TypeNames (IsIndex L) (IsRegion L)) ty a.0 in
           done_append L E _ a.1 (done_append L F _ (has_names P signed L locals hi).1 (done_append L G _ (has_names P signed L locals hv).1 (at_path (IsIndex L) (IsRegion L) 0 (index_elem L i) rpl (index_names L i) p.0, tt)))
       passes_names {L} locals (Passes.store_part {k = k} {t = t} {a = a} {E = E} {F = F} is hi ti hv s) =
-          done_append L E _ (has_names P signed L locals hi).1 (done_append L F _ (has_names P signed L locals hv).1 (((locals k (part t a) is).1, (t, is)), tt))
+          done_append L E _ (has_names P signed L locals hi).1 (done_append L F _ (has_names P signed L locals hv).1 (((locals k (part t a) is).0, (t, is)), tt))
       passes_names {L} locals (Passes.perform p h) = (has_names P signed L locals h).1
       passes_names locals (Passes.nested d) = all_names locals d
       passes_names {L} locals (Passes.choice {E = E} h ty d) = done_append L E _ (has_names P signed L locals h).1 (all_names locals d)
@@ -512,7 +511,7 @@ module _ (P : PlainProgram) (signed : Signed P)
               (free_none L k free_k, free_none L (k + 1) f.1, free_none L (k + 2) f.2, free_none L (k + 3) f.3, free_none L (k + 4) f.4) in
           done_append L E _ c.1
           (done_append L F _ (has_names P signed L locals hc).1
-          (done_parts L k t a source free_k c.2 locals (free_none L (k + 4) f.4) G (all_names (locals_parted L k t a locals none c.0.0 c.0.1) d)))
+          (done_parts L k t a source free_k c.2 locals (free_none L (k + 4) f.4) G (all_names (locals_parted L k t a locals none c.0) d)))
 
       -- the statements of a block
       pub all_names : {L : Scope} {ss : TypedStmts} {E : List Done} → LocalsName L → AllPass P L ss E → AllDoneIn L E

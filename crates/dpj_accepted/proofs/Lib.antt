@@ -1,12 +1,17 @@
 pub mod Args
+pub mod Clashing
 pub mod Declaring
 pub mod Expressions
 pub mod Gathered
+pub mod Growing
 pub mod InScope
 pub mod InScopeStatements
 pub mod Indices
+pub mod Left
+pub mod Meant
 pub mod Partial
 pub mod Paths
 pub mod Singles
 pub mod Subtypes
+pub mod Targets
 pub mod Types

@@ -39,7 +39,7 @@ use Rattle.dpj_check.specs.Walks.{Walk, Verdict, passes, judged, found_so}
 use Rattle.dpj_resolved.proofs.Free.{noted_told, not_false}
 use Rattle.dpj_resolved.proofs.Lists.{some_same}
 use Rattle.dpj_accepted.specs.Laws.{Stands, Passing}
-use Rattle.dpj_accepted.specs.Seen.{can_stand, RowIs, Tells, Sees, ArraysAreGood, Returns}
+use Rattle.dpj_accepted.specs.Seen.{can_stand, RowIs, Tells, Sees, Returns}
 use Rattle.dpj_accepted.specs.Tree.{Fitting}
 use Rattle.dpj_accepted.proofs.Expressions.{int_is, boolean_is, expression_agrees}
 use Rattle.dpj_accepted.proofs.Subtypes.{fits_subtype}
@@ -142,7 +142,7 @@ module _ (env : Env)
     performed_form (Typing.new_object l i r) p = creation_form r
     performed_form (Typing.new_array d) p = absurd p
 
-module _ (P : PlainProgram) (L : Scope) (w : Walk) (may_read may_assign : ℕ → Bool) (tells : Tells P (table_of w.env) L.never_nd) (sees : Sees P L w.env may_read may_assign) (arrays : ArraysAreGood P L w.env)
+module _ (P : PlainProgram) (L : Scope) (w : Walk) (may_read may_assign : ℕ → Bool) (tells : Tells P (table_of w.env) L.never_nd) (sees : Sees P L w.env may_read may_assign)
   where
     abbrev Reads : tree.PlainExpr → Type 0
     Reads e = (x : ℕ) → IsTrue (expr_reads x e) → IsTrue (may_read x)
@@ -155,7 +155,7 @@ module _ (P : PlainProgram) (L : Scope) (w : Walk) (may_read may_assign : ℕ �
     with_value : (value : tree.PlainExpr) (g : Found) (t : Option TypedExpr) (s : TypedStmt) (u : Walk) → Fitting value → Reads value → Typing w.env value w.found (gives t g) → found_so w g ≡ u →
         ((e : TypedExpr) → t ≡ Some e → Stands P L w.found e g → Passing P L w.found s g) → Passing P L w.found s u.found
     with_value value g t s u fits all d same make =
-        let x = expression_agrees P L w.env may_read may_assign tells sees arrays value w.found g t fits all d in
+        let x = expression_agrees P L w.env may_read may_assign tells sees value w.found g t fits all d in
         subst (λ (z : Walk). Passing P L w.found s z.found) same (make x.0 x.1 x.2)
 
     pub performing : (node : Node) (value : tree.PlainExpr) (u : Walk) (s : TypedStmt) → Fitting value → Reads value → IsPerformed value → Performing node value w (passes s u) → Passing P L w.found s u.found

@@ -71,6 +71,13 @@ dropped_short zero xs = omega arith
 dropped_short (suc n) [] = omega arith
 dropped_short (suc n) (x ∷ xs) = let l = dropped_short n xs in omega (arith, l)
 
+-- own indices have numbers of 32 bits
+pub few_written : (suffixes : List Suffix) (made : Option Named) → length suffixes ≤ 4294967295 → (at : ℕ) (j : ℕ) → is_written (names_of (drop at suffixes) made) j ≡ true → j ≤ 4294967295
+few_written suffixes made few at j h =
+    let l = written_below (drop at suffixes) made j h in
+    let s = dropped_short at suffixes in
+    omega (arith, l, s, few)
+
 -- the class names around a place mean classes of the program
 pub record ClassesMean (P : PlainProgram) (scope : PlainScope) : Type 0 where
   pub classes : (name at : ℕ) → class_of scope.headers name ≡ Some at →
@@ -106,10 +113,7 @@ module _ (P : PlainProgram) (L : Scope) (scope : PlainScope) (means : Meaning P 
     around = record { suffixes = suffixes; inside = 0; made = made }
 
     written_few : (at : ℕ) (j : ℕ) → is_written (names_of (drop at suffixes) made) j ≡ true → j ≤ 4294967295
-    written_few at j h =
-        let l = written_below (drop at suffixes) made j h in
-        let s = dropped_short at suffixes in
-        omega (arith, l, s, few)
+    written_few = few_written suffixes made few
 
     -- what is read at a suffix
     record Suffixed (at : ℕ) (suffix : Suffix) (rest : List Suffix) (written : Option RplTree) (a : Rpl) : Type 0 where

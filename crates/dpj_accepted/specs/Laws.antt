@@ -29,7 +29,7 @@ use Rattle.dpj_check.specs.Simple.{AssigningLocal, Performing, Returning, Printi
 use Rattle.dpj_check.specs.Walks.{Walk, passes}
 use Rattle.dpj_resolved.specs.Accepted.{IsAccepted}
 use Rattle.dpj_accepted.specs.Gathered.{Gathers}
-use Rattle.dpj_accepted.specs.Seen.{can_stand, SupersAgree, Tells, Sees, ArraysAreGood, Returns}
+use Rattle.dpj_accepted.specs.Seen.{can_stand, SupersAgree, Tells, Sees, Returns}
 use Rattle.dpj_accepted.specs.Tree.{Fitting, IsWritten}
 
 -- what the checker accepts is well typed: the aim of this crate, of which the laws below are steps
@@ -52,8 +52,7 @@ pub record Stands (P : PlainProgram) (L : Scope) (before : Found) (e : TypedExpr
 -- an expression that passes
 abbrev pub ExpressionsAgree : Type 0
 ExpressionsAgree =
-    (P : PlainProgram) (L : Scope) (env : Env) (reads assigns : ℕ → Bool) → Tells P (table_of env) L.never_nd → Sees P L env reads assigns →
-    ArraysAreGood P L env → (e : PlainExpr) (f g : Found) (made : Option TypedExpr) → Fitting e → ((x : ℕ) → IsTrue (expr_reads x e) → IsTrue (reads x)) → Typing env e f (gives made g) →
+    (P : PlainProgram) (L : Scope) (env : Env) (reads assigns : ℕ → Bool) → Tells P (table_of env) L.never_nd → Sees P L env reads assigns → (e : PlainExpr) (f g : Found) (made : Option TypedExpr) → Fitting e → ((x : ℕ) → IsTrue (expr_reads x e) → IsTrue (reads x)) → Typing env e f (gives made g) →
     (t : TypedExpr) × (made ≡ Some t) × Stands P L f t g
 
 -- what is made of a statement passes, with what is found there
@@ -77,4 +76,4 @@ pub record SingleAgrees (P : PlainProgram) (L : Scope) (params : List Bool) (aro
 abbrev pub SinglesAgree : Type 0
 SinglesAgree =
     (P : PlainProgram) (L : Scope) (params : List Bool) (around : Around) (w : Walk) (may_read may_assign : ℕ → Bool) → Tells P (table_of w.env) L.never_nd → Sees P L w.env may_read may_assign →
-    ArraysAreGood P L w.env → SingleAgrees P L params around w may_read may_assign
+    SingleAgrees P L params around w may_read may_assign

@@ -1,5 +1,5 @@
 -- What paths, types and effects name: the index variables and the local regions in them.
-use Rattle.std.specs.Prelude.{◌≡◌, ℕ, IsTrue, List, [], ◌∷◌, Some}
+use Rattle.std.specs.Prelude.{◌≡◌, ℕ, true, false, IsTrue, List, [], ◌∷◌, Some}
 use Rattle.dpj_base.specs.declared.effect.Effect.{Effect}
 use Rattle.dpj_base.specs.declared.elems.Elem.{Elem}
 use Rattle.dpj_base.specs.declared.elems.Elem.TheVariants.{Name, At, Any, Star, Local}
@@ -11,6 +11,7 @@ use Rattle.dpj_typed.specs.Effects.{Own as Done}
 use Rattle.dpj_typed.specs.Plain.{PlainProgram, PlainField, PlainMember, PlainParent}
 use Rattle.dpj_typed.specs.Scope.{Scope, variable, frozen, constant, part, reserved, field_at, member_at, parent_of}
 use Rattle.dpj_typed.specs.Scope.{Local as Slot}
+use Rattle.dpj_accepted.specs.Seen.{can_stand}
 
 -- an index variable is one of the first, and a local region one of the second
 abbrev pub ElemNames : (ℕ → Type 0) → (ℕ → Type 0) → Elem → Type 0
@@ -42,13 +43,14 @@ abbrev pub PathsName : (ℕ → Type 0) → (ℕ → Type 0) → List Rpl → Ty
 PathsName V R [] = Unit {0}
 PathsName V R (a ∷ rest) = PathNames V R a × PathsName V R rest
 
+-- the elements of an array have the type of a value
 abbrev pub TypeNames : (ℕ → Type 0) → (ℕ → Type 0) → PlainType → Type 0
 TypeNames V R int = Unit {0}
 TypeNames V R boolean = Unit {0}
 TypeNames V R void = Unit {0}
 TypeNames V R null = Unit {0}
 TypeNames V R (class c args) = PathsName V R args
-TypeNames V R (array t a named) = PathNames V R a × TypeNames V R t
+TypeNames V R (array t a named) = PathNames V R a × (can_stand t ≡ true) × TypeNames V R t
 
 abbrev pub EffectsName : (ℕ → Type 0) → (ℕ → Type 0) → List Effect → Type 0
 EffectsName V R [] = Unit {0}
@@ -65,7 +67,7 @@ abbrev pub SlotNames : (ℕ → Type 0) → (ℕ → Type 0) → Slot → Type 0
 SlotNames V R (variable t) = TypeNames V R t
 SlotNames V R (frozen t) = TypeNames V R t
 SlotNames V R (constant t) = TypeNames V R t
-SlotNames V R (part t a) = TypeNames V R t × PathNames V R a
+SlotNames V R (part t a) = TypeNames V R (array t a false)
 SlotNames V R reserved = Unit {0}
 
 -- the types of all locals in scope name what is in scope

@@ -117,22 +117,18 @@ pub record Sees (P : PlainProgram) (L : Scope) (env : Env) (reads assigns : ℕ 
   pub params : (name : ℕ) (param : ParamFound) → param_meant (scope_of env) name ≡ Some param → (param.number < length L.atomic) × (slice_index_or L.atomic param.number false ≡ param.atomic)
   pub regions : (name number : ℕ) → value_in env.regions name ≡ Some number → IsTrue (L.regions number)
 
--- the type of an array that is created without a fault is good, and the path of its elements fully specified
-abbrev pub ArraysAreGood : PlainProgram → Scope → Env → Type 0
-ArraysAreGood P L env =
-    (around : PlainIndex) (base : BaseTree) (rpl : Option RplTree) (len : Option PlainType) (place : Place) (t : PlainType) → front_told env around base ≡ None →
-    created_array env around (front_of env around base) len rpl place ≡ Ok t →
-    (elem : PlainType) × (a : Rpl) × (named : Bool) × (t ≡ ty.array elem a named) × GoodType P L 0 (ty.array elem a named) × IsTrue (fully_specified a) × (may_be is_int len ≡ true)
-
 -- what a `return` gives: a value of the type that the member gives, or none where it gives none; none stands in a branch or an
 -- atomic block
 pub record Returns (L : Scope) (env : Env) (around : Around) : Type 0 where
   pub value : around.enclosed ≡ false → around.has_result ≡ true → (row : MethodRow) × (numbered (table_of env) env.method ≡ Some row) × (L.result ≡ Some (plain_type row.result)) × (can_stand (plain_type row.result) ≡ true)
   pub nothing : around.enclosed ≡ false → around.has_result ≡ false → L.result ≡ Some ty.void
 
--- the locals in scope stand beside their names, and have slots of their own behind that of `this`
+-- the locals in scope stand beside their names, and have slots of their own behind that of `this`; and the local regions
+-- beside theirs
 pub record InStep (env : Env) : Type 0 where
   pub names : env.variables.names ≡ map (λ row. row.name) env.rows
   pub values : env.variables.values ≡ map index_slot env.rows
   pub some_slot : 0 < env.slots
   pub slots : (name : ℕ) (row : LocalRow) → local_of env name ≡ Some row → row.slot < env.slots
+  pub apart : (x y : ℕ) (row other : LocalRow) → local_of env x ≡ Some row → local_of env y ≡ Some other → row.slot ≡ other.slot → x ≡ y
+  pub regions : length env.regions.names ≡ length env.regions.values

@@ -1,5 +1,5 @@
 -- What the grammar says of every tree, and the rules of bodies don't ask again.
-use Rattle.std.specs.Prelude.{◌≡◌, ◌≤◌, ℕ, FitsSigned, List, [], All, map}
+use Rattle.std.specs.Prelude.{◌≡◌, ◌≤◌, ℕ, FitsSigned, List, [], All, map, length}
 use Rattle.std.specs.Int.{w32}
 use Rattle.dpj_tree.specs.declared.class.Class.{Class}
 use Rattle.dpj_tree.specs.declared.class.Member.{Member}
@@ -13,7 +13,7 @@ use Rattle.dpj_tree.specs.Plain.{PlainExpr, expression, ExprForm, int, boolean, 
 use Rattle.dpj_tree.specs.Shaped.{IsShaped}
 use Rattle.dpj_tree.specs.Size.{program_size}
 
--- each number has 32 bits
+-- each number has 32 bits, and no type has more suffixes than such numbers count
 abbrev mutual
   pub Fitting : PlainExpr → Type 0
   Fitting (expression place form) = FormFitting form
@@ -28,7 +28,7 @@ abbrev mutual
   FormFitting (element array index) = Fitting array × Fitting index
   FormFitting (call of regions name actuals) = Fitting of × AllFitting actuals
   FormFitting (create class regions actuals) = AllFitting actuals
-  FormFitting (create_array base suffixes len rpl index) = Fitting len
+  FormFitting (create_array base suffixes len rpl index) = (length suffixes ≤ 4294967295) × Fitting len
   FormFitting (unary op arg) = Fitting arg
   FormFitting (binary op left right) = Fitting left × Fitting right
 
@@ -42,7 +42,7 @@ abbrev mutual
 
   pub StmtFormFitting : StmtForm → Type 0
   StmtFormFitting (block all) = StmtsFitting all
-  StmtFormFitting (declare is_final ty name value) = Fitting value
+  StmtFormFitting (declare is_final ty name value) = (length ty.suffixes ≤ 4294967295) × Fitting value
   StmtFormFitting (assign_local target value) = Fitting value
   StmtFormFitting (assign_field target value) = Fitting target × Fitting value
   StmtFormFitting (assign_element target value) = Fitting target × Fitting value

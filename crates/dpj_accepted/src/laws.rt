@@ -8,7 +8,7 @@ pub fn law_subtypes()
 {}
 
 /// An expression that passes has its type in the judgement, where what is around it for the checker is in scope there,
-/// where the class table tells what the program has, and where the types of created arrays are good.
+/// and where the class table tells what the program has.
 pub fn law_expressions()
     ensures expressions { ExpressionsAgree }
 {}
