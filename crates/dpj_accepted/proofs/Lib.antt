@@ -15,3 +15,4 @@ pub mod Singles
 pub mod Subtypes
 pub mod Targets
 pub mod Types
+pub mod Walks
