@@ -16,3 +16,4 @@ pub mod Subtypes
 pub mod Targets
 pub mod Types
 pub mod Walks
+pub mod Readiness

@@ -1,5 +1,6 @@
 pub mod Gathered
-pub mod Naming
 pub mod Seen
+pub mod Naming
+pub mod Ready
 pub mod Tree
 pub mod Laws

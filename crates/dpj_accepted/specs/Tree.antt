@@ -11,6 +11,7 @@ use Rattle.dpj_tree.specs.declared.class.Program.{Program}
 use Rattle.dpj_tree.specs.declared.region.Params.{Params}
 use Rattle.dpj_tree.specs.Plain.{PlainExpr, expression, ExprForm, int, boolean, null, this, local, field, element, call, create, create_array, unary, binary, PlainExprs, no_exprs, more_exprs, PlainStmt, statement, StmtForm, block, declare, assign_local, assign_field, assign_element, perform, choice, choice_else, while_loop, return_nothing, return_value, print, print_text, cobegin, foreach, foreach_parts, atomic, local_regions, PlainStmts, no_stmts, more_stmts, plain_stmt, plain_stmts}
 use Rattle.dpj_tree.specs.Shaped.{IsShaped}
+use Rattle.dpj_tree.specs.Targets.{IsPerformed}
 use Rattle.dpj_tree.specs.Size.{program_size}
 
 -- each number has 32 bits, and no type has more suffixes than such numbers count
@@ -36,6 +37,7 @@ abbrev mutual
   AllFitting no_exprs = Unit {0}
   AllFitting (more_exprs e es) = Fitting e × AllFitting es
 
+-- and a statement that is an expression is a call or a creation
 abbrev mutual
   pub StmtFitting : PlainStmt → Type 0
   StmtFitting (statement place form) = StmtFormFitting form
@@ -46,7 +48,7 @@ abbrev mutual
   StmtFormFitting (assign_local target value) = Fitting value
   StmtFormFitting (assign_field target value) = Fitting target × Fitting value
   StmtFormFitting (assign_element target value) = Fitting target × Fitting value
-  StmtFormFitting (perform performed) = Fitting performed
+  StmtFormFitting (perform performed) = Fitting performed × IsPerformed performed
   StmtFormFitting (choice test then_part) = Fitting test × StmtFitting then_part
   StmtFormFitting (choice_else test then_part else_part) = Fitting test × StmtFitting then_part × StmtFitting else_part
   StmtFormFitting (while_loop test body) = Fitting test × StmtFitting body
