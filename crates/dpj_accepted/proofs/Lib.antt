@@ -17,3 +17,4 @@ pub mod Targets
 pub mod Types
 pub mod Walks
 pub mod Readiness
+pub mod Statements
