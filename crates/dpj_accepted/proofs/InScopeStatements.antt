@@ -508,7 +508,7 @@ module _ (P : PlainProgram) (signed : Signed P)
           let same : k + 0 ≡ k = omega arith in
           let free_k : L.local k ≡ None = subst (λ z. L.local z ≡ None) same f.0 in
           let none : (IsIndex L k → ⊥) × (IsIndex L (k + 1) → ⊥) × (IsIndex L (k + 2) → ⊥) × (IsIndex L (k + 3) → ⊥) × (IsIndex L (k + 4) → ⊥) =
-              (free_none L k free_k, free_none L (k + 1) f.1, free_none L (k + 2) f.2, free_none L (k + 3) f.3, free_none L (k + 4) f.4) in
+          (free_none L k free_k, free_none L (k + 1) f.1, free_none L (k + 2) f.2, free_none L (k + 3) f.3, free_none L (k + 4) f.4) in
           done_append L E _ c.1
           (done_append L F _ (has_names P signed L locals hc).1
           (done_parts L k t a source free_k c.2 locals (free_none L (k + 4) f.4) G (all_names (locals_parted L k t a locals none c.0) d)))

@@ -18,3 +18,5 @@ pub mod Types
 pub mod Walks
 pub mod Readiness
 pub mod Statements
+pub mod Bodies
+pub mod Loops

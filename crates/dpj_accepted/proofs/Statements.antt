@@ -76,22 +76,22 @@ append_none : {A : Type 0} (xs : List A) → xs ++ [] ≡ xs
 append_none [] = refl
 append_none (x ∷ xs) = ap (λ z. x ∷ z) (append_none xs)
 
-map_kept : (E : List Done) → map (marked_by marks.Kept) E ≡ E
+pub map_kept : (E : List Done) → map (marked_by marks.Kept) E ≡ E
 map_kept [] = refl
 map_kept (o ∷ E) = ap (λ z. o ∷ z) (map_kept E)
 
 abbrev pub here : Env → Leaving
 here env = from_here env marks.Kept
 
-and_true : (a b : Bool) → (a && b) ≡ true → (a ≡ true) × (b ≡ true)
+pub and_true : (a b : Bool) → (a && b) ≡ true → (a ≡ true) × (b ≡ true)
 and_true true b h = (refl, h)
 and_true false b h = cc
 
-and_both : (a b : Bool) → a ≡ true → b ≡ true → (a && b) ≡ true
+pub and_both : (a b : Bool) → a ≡ true → b ≡ true → (a && b) ≡ true
 and_both true b h k = k
 and_both false b h k = cc
 
-not_so : (b : Bool) → b ≡ false → not b ≡ true
+pub not_so : (b : Bool) → b ≡ false → not b ≡ true
 not_so true h = cc
 not_so false h = refl
 
@@ -188,13 +188,13 @@ module _ (P : PlainProgram) (signed : Signed P)
     of_passing L w u made p = record { calm = p.calm; alone = λ room calm. record { effects = p.effects; passes_so = p.does_so calm; gathers = p.gathers } }
 
     -- an expression of a statement
-    expr_at : (L : Scope) (env : Env) (params : List Bool) (around : Around) (reads assigns : ℕ → Bool) (e : PlainExpr) (f g : Found) (t : Option TypedExpr) → Ready P L env params around reads assigns → Fitting e →
+    pub expr_at : (L : Scope) (env : Env) (params : List Bool) (around : Around) (reads assigns : ℕ → Bool) (e : PlainExpr) (f g : Found) (t : Option TypedExpr) → Ready P L env params around reads assigns → Fitting e →
         ((x : ℕ) → IsTrue (expr_reads x e) → IsTrue (reads x)) → Typing env e f (gives t g) → (x : TypedExpr) × (t ≡ Some x) × Stands P L f x g
     expr_at L env params around reads assigns e f g t ready fits all d = expression_agrees P L env reads assigns ready.tells ready.sees e f g t fits all d
 
     -- a declaration
 
-    room_free : (env : Env) (name : ℕ) (place : Place) (node : Node) → fault_of (declaration_noted env name place node) ≡ None → has_room env ≡ true
+    pub room_free : (env : Env) (name : ℕ) (place : Place) (node : Node) → fault_of (declaration_noted env name place node) ≡ None → has_room env ≡ true
     room_free env name place node h = by (has_room env) h
       where
         faulty : (x : Node) → fault_of (with_fault x kind.TooLong place) ≡ None → ⊥
@@ -214,7 +214,7 @@ module _ (P : PlainProgram) (signed : Signed P)
     off_name : (name : ℕ) (r reads : ℕ → Bool) → ((x : ℕ) → (name == x) ≡ false → IsTrue (r x) → IsTrue (reads x)) → (x : ℕ) → (name == x) ≡ false → IsTrue (r x) → IsTrue (reads x)
     off_name name r reads h = h
 
-    declaring_goes : (L : Scope) (params : List Bool) (around : Around) (reads assigns : ℕ → Bool) {node : Node} {is_final : Bool} {tree_type : _} {name : ℕ} {value : PlainExpr} {w : Walk} {v : Verdict TypedStmt} →
+    pub declaring_goes : (L : Scope) (params : List Bool) (around : Around) (reads assigns : ℕ → Bool) {node : Node} {is_final : Bool} {tree_type : _} {name : ℕ} {value : PlainExpr} {w : Walk} {v : Verdict TypedStmt} →
         Ready P L w.env params around reads assigns → StmtFormFitting (tree.declare is_final tree_type name value) → ((x : ℕ) → IsTrue (stmt_form_reads x (tree.declare is_final tree_type name value)) → IsTrue (reads x)) →
         Declaring node is_final tree_type name value w v → If (Goes L params around reads assigns (tree.declare is_final tree_type name value) w) v
     declaring_goes L params around reads assigns ready fits all (Declaring.type_refused told) = tt
@@ -274,18 +274,18 @@ module _ (P : PlainProgram) (signed : Signed P)
         }
 
     -- with the facts of the walk
-    plain_if : (L : Scope) (params : List Bool) (around : Around) (reads assigns : ℕ → Bool) (f : tree.StmtForm) (node : Node) (w : Walk) (v : Verdict TypedStmt) → ((x : ℕ) → declares_form x f ≡ false) →
+    pub plain_if : (L : Scope) (params : List Bool) (around : Around) (reads assigns : ℕ → Bool) (f : tree.StmtForm) (node : Node) (w : Walk) (v : Verdict TypedStmt) → ((x : ℕ) → declares_form x f ≡ false) →
         ((a b : Env) → After f a b → Kept a b) → Ready P L w.env params around reads assigns → If (Walked node f w) v → If (Plainly L w) v → If (Goes L params around reads assigns f w) v
     plain_if L params around reads assigns f node w (passes made u) none kept ready h k = plain_goes L params around reads assigns f w made u none ready (kept w.env u.env h.env) k
     plain_if L params around reads assigns f node w (refused refusal) none kept ready h k = tt
 
-    single_if : (L : Scope) (w : Walk) (v : Verdict TypedStmt) → ((made : TypedStmt) (u : Walk) → v ≡ passes made u → Passing P L w.found made u.found) → If (Plainly L w) v
+    pub single_if : (L : Scope) (w : Walk) (v : Verdict TypedStmt) → ((made : TypedStmt) (u : Walk) → v ≡ passes made u → Passing P L w.found made u.found) → If (Plainly L w) v
     single_if L w (passes made u) h = of_passing L w u made (h made u refl)
     single_if L w (refused refusal) h = tt
 
     -- what holds behind the parts of a statement
 
-    scope_if : (L : Scope) (params : List Bool) (around : Around) (reads assigns : ℕ → Bool) (f : tree.StmtForm) (w : Walk) (v : Verdict TypedStmt) → If (Goes L params around reads assigns f w) v → If (ScopeGoes L w) (left_scope w v)
+    pub scope_if : (L : Scope) (params : List Bool) (around : Around) (reads assigns : ℕ → Bool) (f : tree.StmtForm) (w : Walk) (v : Verdict TypedStmt) → If (Goes L params around reads assigns f w) v → If (ScopeGoes L w) (left_scope w v)
     scope_if L params around reads assigns f w (passes made u) h = record { calm = h.calm; goes = λ room calm. by (h.on (record { slots = room.slots; regions = room.regions }) calm) }
       where
         by : On L h.scope w made u → (E : List Done) × AllPass P L (typed.more_stmts made typed.no_stmts) E × Gathers w.found E u.found
@@ -295,7 +295,7 @@ module _ (P : PlainProgram) (signed : Signed P)
     nd_before : (a b : Bool) → (a || b) ≡ false → (a ≡ false) × (b ≡ false)
     nd_before a b h = or_parts a b h
 
-    block_if : (L : Scope) (w : Walk) (v : Verdict (List TypedStmt)) → If (OrderGoes L (apart_from w)) v → If (BlockGoes L w) (block_left w v)
+    pub block_if : (L : Scope) (w : Walk) (v : Verdict (List TypedStmt)) → If (OrderGoes L (apart_from w)) v → If (BlockGoes L w) (block_left w v)
     block_if L w (passes made u) h = record {
       calm = λ z. (nd_before w.found.reaches_nd u.found.reaches_nd z).0;
       goes = λ room calm.
@@ -322,23 +322,23 @@ module _ (P : PlainProgram) (signed : Signed P)
           );
     }
 
-    order_if : (L : Scope) (params : List Bool) (around : Around) (reads assigns : ℕ → Bool) (before : Bool) (place : Place) (f : tree.StmtForm) (ss : PlainStmts) (w u : Walk) (made : TypedStmt) →
+    pub order_if : (L : Scope) (params : List Bool) (around : Around) (reads assigns : ℕ → Bool) (before : Bool) (place : Place) (f : tree.StmtForm) (ss : PlainStmts) (w u : Walk) (made : TypedStmt) →
         Ready P L w.env params around reads assigns → Stood (tree.statement place f) w made u → (g : Goes L params around reads assigns f w made u) → (v : Verdict (List TypedStmt)) →
         If (Ordered (before && tree_completes.form_completes f) ss u) v → If (OrderGoes g.scope u) v → If (OrderGoes L w) (behind None (λ others. made ∷ others) v)
     order_if L params around reads assigns before place f ss w u made ready stood g (passes others z) h k = order_then L params around reads assigns before place f ss w u made ready stood g others z h k
     order_if L params around reads assigns before place f ss w u made ready stood g (refused refusal) h k = tt
 
     -- the reads of the statements behind another
-    later_reads : (f : tree.StmtForm) (place : Place) (ss : PlainStmts) (reads : ℕ → Bool) → ((x : ℕ) → IsTrue (stmts_read x (tree.more_stmts (tree.statement place f) ss)) → IsTrue (reads x)) →
+    pub later_reads : (f : tree.StmtForm) (place : Place) (ss : PlainStmts) (reads : ℕ → Bool) → ((x : ℕ) → IsTrue (stmts_read x (tree.more_stmts (tree.statement place f) ss)) → IsTrue (reads x)) →
         (x : ℕ) → declares_form x f ≡ false → IsTrue (stmts_read x ss) → IsTrue (reads x)
     later_reads f place ss reads all x none h = all x (or_right (stmt_form_reads x f) (not (declares_form x f) && stmts_read x ss) (and_both (not (declares_form x f)) (stmts_read x ss) (not_so (declares_form x f) none) h))
 
-    later_assigns : (f : tree.StmtForm) (place : Place) (ss : PlainStmts) (assigns : ℕ → Bool) → ((x : ℕ) → IsTrue (stmts_assign x (tree.more_stmts (tree.statement place f) ss)) → IsTrue (assigns x)) →
+    pub later_assigns : (f : tree.StmtForm) (place : Place) (ss : PlainStmts) (assigns : ℕ → Bool) → ((x : ℕ) → IsTrue (stmts_assign x (tree.more_stmts (tree.statement place f) ss)) → IsTrue (assigns x)) →
         (x : ℕ) → declares_form x f ≡ false → IsTrue (stmts_assign x ss) → IsTrue (assigns x)
     later_assigns f place ss assigns all x none h = all x (or_right (stmt_form_assigns x f) (not (declares_form x f) && stmts_assign x ss) (and_both (not (declares_form x f)) (stmts_assign x ss) (not_so (declares_form x f) none) h))
 
     -- a `while`
-    while_plain : (L : Scope) (params : List Bool) (around : Around) (reads assigns : ℕ → Bool) (place : Place) (test : PlainExpr) (w : Walk) (t : Option TypedExpr) (g : Found) (made : TypedStmt) (u : Walk) →
+    pub while_plain : (L : Scope) (params : List Bool) (around : Around) (reads assigns : ℕ → Bool) (place : Place) (test : PlainExpr) (w : Walk) (t : Option TypedExpr) (g : Found) (made : TypedStmt) (u : Walk) →
         Ready P L w.env params around reads assigns → Fitting test → ((x : ℕ) → IsTrue (expr_reads x test) → IsTrue (reads x)) → Typing w.env test w.found (gives t g) → may_be is_boolean (type_in t) ≡ true →
         ScopeGoes L (found_so w g) made u → Plainly L w (statement place (typed.while_loop (node_of test t) made)) u
     while_plain L params around reads assigns place test w t g made u ready fits all d bool s =
@@ -357,7 +357,7 @@ module _ (P : PlainProgram) (signed : Signed P)
         }
 
     -- an `if`
-    choice_plain : (L : Scope) (params : List Bool) (around : Around) (reads assigns : ℕ → Bool) (place : Place) (test : PlainExpr) (other : Option PlainStmt) (w y u : Walk) (t : Option TypedExpr) (g : Found) (made : TypedStmt)
+    pub choice_plain : (L : Scope) (params : List Bool) (around : Around) (reads assigns : ℕ → Bool) (place : Place) (test : PlainExpr) (other : Option PlainStmt) (w y u : Walk) (t : Option TypedExpr) (g : Found) (made : TypedStmt)
         (part' : Option TypedStmt) → Ready P L w.env params around reads assigns → Fitting test → ((x : ℕ) → IsTrue (expr_reads x test) → IsTrue (reads x)) → Typing w.env test w.found (gives t g) →
         may_be is_boolean (type_in t) ≡ true → ScopeGoes L (found_so w g) made y → OtherGoes L other y part' u → OtherDone other y part' u → Plainly L w (statement place (choice_form (node_of test t) made part')) u
     choice_plain L params around reads assigns place test None w y u t g made None ready fits all d bool s o k =
@@ -393,7 +393,7 @@ module _ (P : PlainProgram) (signed : Signed P)
     choice_plain L params around reads assigns place test (Some second) w y u t g made None ready fits all d bool s o k = absurd o
 
     -- an atomic block
-    atomic_plain : (L : Scope) (params : List Bool) (around : Around) (reads assigns : ℕ → Bool) (place : Place) (w : Walk) (ss : List TypedStmt) (u : Walk) → Ready P L w.env params around reads assigns → u.found.reaches_nd ≡ false →
+    pub atomic_plain : (L : Scope) (params : List Bool) (around : Around) (reads assigns : ℕ → Bool) (place : Place) (w : Walk) (ss : List TypedStmt) (u : Walk) → Ready P L w.env params around reads assigns → u.found.reaches_nd ≡ false →
         BlockGoes (in_atomic_block L) (apart_from w) ss u →
         Plainly L w (statement place (typed.atomic (entered u.found) (stmts_of ss))) (record { env = u.env; found = taken_in (from_here w.env marks.Set) w.found u.found })
     atomic_plain L params around reads assigns place w ss u ready none b = record {
@@ -409,5 +409,5 @@ module _ (P : PlainProgram) (signed : Signed P)
           };
     }
 
-    both_other : (L : Scope) (other : Option PlainStmt) (w : Walk) (v : Verdict (Option TypedStmt)) → If (OtherGoes L other w) v → If (OtherDone other w) v → If (λ made u. OtherGoes L other w made u × OtherDone other w made u) v
+    pub both_other : (L : Scope) (other : Option PlainStmt) (w : Walk) (v : Verdict (Option TypedStmt)) → If (OtherGoes L other w) v → If (OtherDone other w) v → If (λ made u. OtherGoes L other w made u × OtherDone other w made u) v
     both_other L other w v h k = both_if (OtherGoes L other w) (OtherDone other w) v h k

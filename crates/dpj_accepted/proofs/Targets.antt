@@ -141,11 +141,11 @@ module _ (P : PlainProgram) (L : Scope) (w : Walk) (may_read may_assign : ℕ �
 
         of_array : type_of i ≡ ty.int → (elem : PlainType) (a : Rpl) (named : Bool) → type_of e ≡ ty.array elem a named →
             Aim f h (in_array (to_element e i) (record {
-            ty = type_at 0 (array_elem (index_of env index)) elem;
-            rpl = path_at 0 (array_elem (index_of env index)) a;
-            may_read = is_some (index_of env index) || not (rigid_in_index 0 elem);
-            may_write = is_some (index_of env index) || not (mentions_index 0 elem);
-          }))
+              ty = type_at 0 (array_elem (index_of env index)) elem;
+              rpl = path_at 0 (array_elem (index_of env index)) a;
+              may_read = is_some (index_of env index) || not (rigid_in_index 0 elem);
+              may_write = is_some (index_of env index) || not (mentions_index 0 elem);
+            }))
         of_array int_so elem a named is =
             let same = n.index int_so in
             record {
@@ -177,7 +177,6 @@ module _ (P : PlainProgram) (L : Scope) (w : Walk) (may_read may_assign : ℕ �
 
     abbrev Reads : tree.PlainExpr → Type 0
     Reads e = (x : ℕ) → IsTrue (expr_reads x e) → IsTrue (may_read x)
-
 
     field_answer : (of : tree.PlainExpr) (f g : Found) (name : ℕ) (place : Place) (t : Option TypedExpr) → Passed P L env may_read may_assign tells sees of f (gives t g) → Aiming f (aimed (field_target env t name place) g)
     field_answer of f g name place None m = absurd m

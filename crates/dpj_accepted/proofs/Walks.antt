@@ -444,7 +444,7 @@ mutual
       (λ part y free o. chosen_of node.place node (node_of test t) first other w x y made part (free_if node kind.Type (not (may_be is_boolean (type_in t))) free).0
       (record { complete_so = h.complete_so; kept = h.kept; assigned = h.assigned }) o))
 
-  other_walked : {params : List Bool} {around : Around} {other : Option PlainStmt} {w : Walk} {v : Verdict (Option TypedStmt)} → InStep w.env → InOther params around other w v → If (OtherDone other w) v
+  pub other_walked : {params : List Bool} {around : Around} {other : Option PlainStmt} {w : Walk} {v : Verdict (Option TypedStmt)} → InStep w.env → InOther params around other w v → If (OtherDone other w) v
   other_walked {w = w} step InOther.no_other = kept_same w.env
   other_walked {w = w} step (InOther.an_other {s = s} {u = u} d j) =
       subst (If (OtherDone (Some s) w)) j (behind_if (Scoped s w) (OtherDone (Some s) w) None Some u (scope_walked step d) (λ made x free h. h))

@@ -1,3 +1,4 @@
+pub mod Covered
 pub mod Gathered
 pub mod Seen
 pub mod Naming

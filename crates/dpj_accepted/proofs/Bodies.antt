@@ -1,0 +1,282 @@
+-- The statements of a body that pass for the checker pass in the judgement.
+use Rattle.std.proofs.Common.{◌≡◌, ◌∙◌, ◌⊎◌, ◌==◌, ℕ, Bool, true, false, not, ◌&&◌, ◌||◌, cond, IsTrue, List, [], ◌∷◌, inl, inr, ⊎_elim, Option, Some, None, refl, sym, ap, subst, arith}
+use Rattle.std.proofs.lemmas.Bool.{or_left, or_right, or_parts, eq-eqb, false≢true}
+use Rattle.dpj_base.specs.declared.place.Place.{Place}
+use Rattle.dpj_base.specs.declared.refusal.Kind.{Kind}
+use Rattle.dpj_base.specs.declared.refusal.Kind.TheVariants as kind
+use Rattle.dpj_base.specs.declared.refusal.Refusal.{Refusal}
+use Rattle.dpj_base.specs.declared.ty.Ty.TheVariants as variant
+use Rattle.dpj_base.specs.Branches.{iterations_clash}
+use Rattle.dpj_base.specs.Types.{PlainType as ty}
+use Rattle.dpj_base.specs.Effects.{same_bool}
+use Rattle.dpj_locals.specs.Touches.{expr_reads, type_reads, stmt_reads, stmt_form_reads, stmts_read, stmt_assigns, stmt_form_assigns, stmts_assign, declares, declares_form}
+use Rattle.dpj_tree.specs.declared.region.Named.{Named}
+use Rattle.dpj_tree.specs.Plain.{PlainExpr, PlainStmt, PlainStmts}
+use Rattle.dpj_tree.specs.Plain as tree
+use Rattle.dpj_typed.specs.Plain.{PlainProgram, TypedExpr, type_of, TypedStmt, statement, stmts_of, choice_form}
+use Rattle.dpj_typed.specs.Plain as typed
+use Rattle.dpj_typed.specs.Scope.{Scope, in_atomic_block}
+use Rattle.dpj_typed.specs.Statements.{Passes, AllPass}
+use Rattle.dpj_exprs.specs.declared.env.Env.{Env}
+use Rattle.dpj_exprs.specs.declared.found.Found.{Found}
+use Rattle.dpj_exprs.specs.Answer.{gives}
+use Rattle.dpj_exprs.specs.Env.{given_in, slots_in, with_local, left_to, mark_of}
+use Rattle.dpj_exprs.specs.Typed.{may_be, is_int, is_boolean, type_in}
+use Rattle.dpj_exprs.specs.Typing.{Typing}
+use Rattle.dpj_check.specs.declared.leaving.Marks.TheVariants as marks
+use Rattle.dpj_check.specs.declared.node.Around.{Around}
+use Rattle.dpj_check.specs.declared.node.Node.{Node}
+use Rattle.dpj_check.specs.Checking.{closed, with_nd, forking_of, variable_declared, variable_noted, iteration_begun, AssignsIs, Checking, Choosing, InOther, Standing, standing, InScope, in_scope, InBlock, in_block, InOrder, Iterating, block_left}
+use Rattle.dpj_check.specs.Completes as tree_completes
+use Rattle.dpj_check.specs.Deciding.{is_misplaced, interference, marks_after}
+use Rattle.dpj_check.specs.Gathering.{with_uses, taken_in}
+use Rattle.dpj_check.specs.Keeping.{inside}
+use Rattle.dpj_check.specs.Leaving.{from_here}
+use Rattle.dpj_check.specs.Meeting.{declared_atomic}
+use Rattle.dpj_check.specs.Noting.{with_fault_if, settled_node, fault_of, node_at}
+use Rattle.dpj_check.specs.Simple.{has_room, declaration_noted, node_of, Declaring, AssigningLocal, AssigningPlace, Performing, Returning, Printing}
+use Rattle.dpj_check.specs.Walks.{Walk, Verdict, passes, refused, nothing_found, found_so, apart_from, left_scope, judged, behind}
+use Rattle.dpj_resolved.proofs.Bodies.{free_if, declared_free}
+use Rattle.dpj_resolved.proofs.Free.{not_false, or_false}
+use Rattle.dpj_accepted.specs.Covered.{Covered, FormCovered, AllCovered}
+use Rattle.dpj_accepted.specs.Laws.{Stands, Passing, BlockPasses}
+use Rattle.dpj_accepted.specs.Naming.{Signed}
+use Rattle.dpj_accepted.specs.Ready.{Ready, Room, Calm}
+use Rattle.dpj_accepted.specs.Seen.{InStep}
+use Rattle.dpj_accepted.specs.Tree.{Fitting, StmtFitting, StmtFormFitting, StmtsFitting}
+use Rattle.dpj_accepted.proofs.Expressions.{int_is}
+use Rattle.dpj_accepted.proofs.Gathered.{nothing_gathered}
+use Rattle.dpj_accepted.proofs.Growing.{Kept, kept_same, step_local}
+use Rattle.dpj_accepted.proofs.InScopeStatements.{all_names}
+use Rattle.dpj_accepted.proofs.Loops.{ready_iteration, foreach_plain, Inner}
+use Rattle.dpj_accepted.proofs.Readiness.{ready_less, ready_kept, ready_atomic}
+use Rattle.dpj_accepted.proofs.Singles.{assigning, performing, returning, printing}
+use Rattle.dpj_accepted.proofs.Statements.{Plainly, Goes, ScopeGoes, BlockGoes, OrderGoes, OtherGoes, room_free, expr_at, declaring_goes, plain_if, single_if, scope_if, block_if, order_if, later_reads, later_assigns, while_plain, choice_plain, atomic_plain, both_other}
+use Rattle.dpj_accepted.proofs.Targets.{placing}
+use Rattle.dpj_accepted.proofs.Walks.{If, judged_if, behind_if, both_if, After, Walked, Stood, Scoped, Blocked, Ordered, OtherDone, checking_walked, standing_walked, scope_walked, block_walked, order_walked, other_walked}
+
+module _ (P : PlainProgram) (signed : Signed P)
+  where
+    plainly_judged : (L : Scope) (w : Walk) (told : Option Refusal) (made : TypedStmt) (u : Walk) → (told ≡ None → Plainly P signed L w made u) → If (Plainly P signed L w) (judged told made u)
+    plainly_judged L w told made u h = judged_if (Plainly P signed L w) told made u h
+
+    other_less : (L : Scope) (other : Option PlainStmt) (w : Walk) (v : Verdict (Option TypedStmt)) → If (OtherGoes P signed L other w) v → If (OtherGoes P signed L other w) v
+    other_less L other w v h = h
+
+    no_return : (L : Scope) (w : Walk) (place : Place) → L.result ≡ Some ty.void → Plainly P signed L w (statement place typed.return_nothing) w
+    no_return L w place result = record { calm = λ c. c; alone = λ room calm. record { effects = []; passes_so = Passes.return_nothing result; gathers = nothing_gathered w.found } }
+
+    abbrev OtherFitting : Option PlainStmt → Type 0
+    OtherFitting None = Unit {0}
+    OtherFitting (Some s) = StmtFitting s
+
+    abbrev OtherCovered : Option PlainStmt → Type 0
+    OtherCovered None = Unit {0}
+    OtherCovered (Some s) = Covered s
+
+    abbrev other_reads : ℕ → Option PlainStmt → Bool
+    other_reads x None = false
+    other_reads x (Some s) = stmt_reads x s
+
+    abbrev other_writes : ℕ → Option PlainStmt → Bool
+    other_writes x None = false
+    other_writes x (Some s) = stmt_assigns x s
+
+    same_name : (n : ℕ) → (n == n) ≡ true
+    same_name n = eq-eqb n n refl
+
+    none_has : (b : Bool) → not (same_bool false b) ≡ false → b ≡ false
+    none_has true h = cc
+    none_has false h = refl
+
+    -- from where to where a loop goes
+    record Range (L : Scope) (before : Found) (lowest size : TypedExpr) (after : Found) : Type 0 where
+      mid : Found
+      low : Stands P L before lowest mid
+      low_int : type_of lowest ≡ ty.int
+      high : Stands P L mid size after
+      size_int : type_of size ≡ ty.int
+
+    int_at : (t : Option TypedExpr) (e : TypedExpr) → t ≡ Some e → may_be is_int (type_in t) ≡ true → type_of e ≡ ty.int
+    int_at t e is h = int_is (type_of e) (subst (λ q. may_be is_int (type_in q) ≡ true) is h)
+
+    range_at : (L : Scope) (params : List Bool) (around : Around) (reads assigns : ℕ → Bool) (node : Node) (w : Walk) (start count : PlainExpr) (t u : Option TypedExpr) (g h : Found) → Ready P L w.env params around reads assigns →
+        Fitting start → Fitting count → ((x : ℕ) → IsTrue (expr_reads x start) → IsTrue (reads x)) → ((x : ℕ) → IsTrue (expr_reads x count) → IsTrue (reads x)) → Typing w.env start w.found (gives t g) →
+        Typing w.env count g (gives u h) → fault_of (with_fault_if (with_fault_if node kind.Type (not (may_be is_int (type_in t)))) kind.Type (not (may_be is_int (type_in u)))) ≡ None →
+        Range L w.found (node_of start t) (node_of count u) h
+    range_at L params around reads assigns node w start count t u g h ready start_fits count_fits start_all count_all d i free =
+        let second_int = free_if (with_fault_if node kind.Type (not (may_be is_int (type_in t)))) kind.Type (not (may_be is_int (type_in u))) free in
+        let first_int = free_if node kind.Type (not (may_be is_int (type_in t))) second_int.0 in
+        let x = expr_at P signed L w.env params around reads assigns start w.found g t ready start_fits start_all d in
+        let y = expr_at P signed L w.env params around reads assigns count g h u ready count_fits count_all i in
+        subst (λ q. Range L w.found q (node_of count u) h) (sym (ap (node_of start) x.1))
+        (subst (λ q. Range L w.found x.0 q h) (sym (ap (node_of count) y.1)) (record {
+          mid = g;
+          low = x.2;
+          low_int = int_at t x.0 x.1 (not_false (may_be is_int (type_in t)) first_int.1);
+          high = y.2;
+          size_int = int_at u y.0 y.1 (not_false (may_be is_int (type_in u)) second_int.1);
+        }))
+
+    mutual
+      -- a statement
+      checking_goes : {params : List Bool} {around : Around} {node : Node} {f : tree.StmtForm} {w : Walk} {v : Verdict TypedStmt} (L : Scope) (reads assigns : ℕ → Bool) → Ready P L w.env params around reads assigns →
+          StmtFormFitting f → FormCovered f → ((x : ℕ) → IsTrue (stmt_form_reads x f) → IsTrue (reads x)) → ((x : ℕ) → IsTrue (stmt_form_assigns x f) → IsTrue (assigns x)) → Checking params around node f w v →
+          If (Goes P signed L params around reads assigns f w) v
+      checking_goes {params} {around} {node} {w = w} {v = v} L reads assigns ready fits covered all writes (Checking.of_block {all = body} {u = u} d j) =
+          plain_if P signed L params around reads assigns (tree.block body) node w v (λ x. refl) (λ a b k. k) ready (checking_walked {params = params} {around = around} {node = node} {w = w} {v = v} ready.step (Checking.of_block d j))
+          (subst (If (Plainly P signed L w)) j
+          (behind_if (BlockGoes P signed L w) (Plainly P signed L w) (fault_of node) (λ ss. statement node.place (typed.block (stmts_of ss))) u (block_goes L reads assigns ready fits covered all writes d)
+          (λ made x free h. record { calm = h.calm; alone = λ room calm. (let r = h.goes room calm in record { effects = r.0; passes_so = Passes.nested r.1; gathers = r.2 }) })))
+      checking_goes {params} {around} L reads assigns ready fits covered all writes (Checking.of_declaration d) = declaring_goes P signed L params around reads assigns ready fits all d
+      checking_goes {params} {around} {node} {w = w} {v = v} L reads assigns ready fits covered all writes (Checking.of_local_assignment {target = target} {value = value} d) =
+          plain_if P signed L params around reads assigns (tree.assign_local target value) node w v (λ x. refl) (λ a b k. k) ready (checking_walked {params = params} {around = around} {node = node} {w = w} {v = v} ready.step (Checking.of_local_assignment d))
+          (single_if P signed L w v (λ made u is.
+          assigning P L w reads assigns ready.tells ready.sees node target value u made fits (λ x h. all x h) (writes target.name (same_name target.name)) (subst (AssigningLocal node target value w) is d)))
+      checking_goes {params} {around} {node} {w = w} {v = v} L reads assigns ready fits covered all writes (Checking.of_field_assignment {target = target} {value = value} d) =
+          plain_if P signed L params around reads assigns (tree.assign_field target value) node w v (λ x. refl) (λ a b k. k) ready (checking_walked {params = params} {around = around} {node = node} {w = w} {v = v} ready.step (Checking.of_field_assignment d))
+          (single_if P signed L w v (λ made u is.
+          placing P L w reads assigns ready.tells ready.sees signed ready.locals node target value u made fits.0 fits.1 (λ x h. all x (or_left (expr_reads x target) (expr_reads x value) h))
+          (λ x h. all x (or_right (expr_reads x target) (expr_reads x value) h)) (subst (AssigningPlace node target value w) is d)))
+      checking_goes {params} {around} {node} {w = w} {v = v} L reads assigns ready fits covered all writes (Checking.of_element_assignment {target = target} {value = value} d) =
+          plain_if P signed L params around reads assigns (tree.assign_element target value) node w v (λ x. refl) (λ a b k. k) ready (checking_walked {params = params} {around = around} {node = node} {w = w} {v = v} ready.step (Checking.of_element_assignment d))
+          (single_if P signed L w v (λ made u is.
+          placing P L w reads assigns ready.tells ready.sees signed ready.locals node target value u made fits.0 fits.1 (λ x h. all x (or_left (expr_reads x target) (expr_reads x value) h))
+          (λ x h. all x (or_right (expr_reads x target) (expr_reads x value) h)) (subst (AssigningPlace node target value w) is d)))
+      checking_goes {params} {around} {node} {w = w} {v = v} L reads assigns ready fits covered all writes (Checking.of_call {value = value} d) =
+          plain_if P signed L params around reads assigns (tree.perform value) node w v (λ x. refl) (λ a b k. k) ready (checking_walked {params = params} {around = around} {node = node} {w = w} {v = v} ready.step (Checking.of_call d))
+          (single_if P signed L w v (λ made u is. performing P L w reads assigns ready.tells ready.sees node value u made fits.0 (λ x h. all x h) fits.1 (subst (Performing node value w) is d)))
+      checking_goes {params} {around} {node} {w = w} {v = v} L reads assigns ready fits covered all writes (Checking.of_return j) =
+          plain_if P signed L params around reads assigns tree.return_nothing node w v (λ x. refl) (λ a b k. k) ready (checking_walked {params = params} {around = around} {node = node} {w = w} {v = v} ready.step (Checking.of_return j))
+          (subst (If (Plainly P signed L w)) j
+          (plainly_judged L w _ _ _ (λ free.
+          let p = or_parts around.enclosed (not (same_bool false around.has_result)) (free_if node kind.Return (is_misplaced around false) free).1 in
+          no_return L w node.place (ready.returns.nothing p.0 (none_has around.has_result p.1)))))
+      checking_goes {params} {around} {node} {w = w} {v = v} L reads assigns ready fits covered all writes (Checking.of_return_value {value = value} d) =
+          plain_if P signed L params around reads assigns (tree.return_value value) node w v (λ x. refl) (λ a b k. k) ready (checking_walked {params = params} {around = around} {node = node} {w = w} {v = v} ready.step (Checking.of_return_value d))
+          (single_if P signed L w v (λ made u is. returning P L w reads assigns ready.tells ready.sees around node value u made fits (λ x h. all x h) ready.returns (subst (Returning around node value w) is d)))
+      checking_goes {params} {around} {node} {w = w} {v = v} L reads assigns ready fits covered all writes (Checking.of_print {value = value} d) =
+          plain_if P signed L params around reads assigns (tree.print value) node w v (λ x. refl) (λ a b k. k) ready (checking_walked {params = params} {around = around} {node = node} {w = w} {v = v} ready.step (Checking.of_print d))
+          (single_if P signed L w v (λ made u is. printing P L w reads assigns ready.tells ready.sees node value u made fits (λ x h. all x h) (subst (Printing node value w) is d)))
+      checking_goes {params} {around} {node} {w = w} {v = v} L reads assigns ready fits covered all writes (Checking.of_text {text = text} j) =
+          plain_if P signed L params around reads assigns (tree.print_text text) node w v (λ x. refl) (λ a b k. k) ready (checking_walked {params = params} {around = around} {node = node} {w = w} {v = v} ready.step (Checking.of_text j))
+          (subst (If (Plainly P signed L w)) j
+          (plainly_judged L w _ _ _ (λ free. record { calm = λ c. c; alone = λ room calm. record { effects = []; passes_so = Passes.print_text; gathers = nothing_gathered w.found } })))
+      checking_goes L reads assigns ready fits covered all writes (Checking.of_regions j) = absurd covered
+      checking_goes {params} {around} {node} {w = w} {v = v} L reads assigns ready fits covered all writes (Checking.of_choice {test = test} {part = first} d) =
+          plain_if P signed L params around reads assigns (tree.choice test first) node w v (λ x. refl) (λ a b k. k) ready (checking_walked {params = params} {around = around} {node = node} {w = w} {v = v} ready.step (Checking.of_choice d))
+          (choosing_goes L reads assigns ready fits.0 fits.1 covered tt tt (λ x h. all x (or_left (expr_reads x test) (stmt_reads x first) h)) (λ x h. all x (or_right (expr_reads x test) (stmt_reads x first) h)) writes (λ x h. absurd (false≢true h)) (λ x h. absurd (false≢true h)) d)
+      checking_goes {params} {around} {node} {w = w} {v = v} L reads assigns ready fits covered all writes (Checking.of_choice_else {test = test} {first = first} {second = second} d) =
+          plain_if P signed L params around reads assigns (tree.choice_else test first second) node w v (λ x. refl) (λ a b k. k) ready (checking_walked {params = params} {around = around} {node = node} {w = w} {v = v} ready.step (Checking.of_choice_else d))
+          (choosing_goes L reads assigns ready fits.0 fits.1 covered.0 fits.2 covered.1
+          (λ x h. all x (or_left (expr_reads x test || stmt_reads x first) (stmt_reads x second) (or_left (expr_reads x test) (stmt_reads x first) h)))
+          (λ x h. all x (or_left (expr_reads x test || stmt_reads x first) (stmt_reads x second) (or_right (expr_reads x test) (stmt_reads x first) h)))
+          (λ x h. writes x (or_left (stmt_assigns x first) (stmt_assigns x second) h)) (λ x h. all x (or_right (expr_reads x test || stmt_reads x first) (stmt_reads x second) h))
+          (λ x h. writes x (or_right (stmt_assigns x first) (stmt_assigns x second) h)) d)
+      checking_goes L reads assigns ready fits covered all writes (Checking.while_refused d) = tt
+      checking_goes {params} {around} {node} {w = w} {v = v} L reads assigns ready fits covered all writes (Checking.of_while {test = test} {body = body} {t = t} {g = g} {u = u} d i j) =
+          plain_if P signed L params around reads assigns (tree.while_loop test body) node w v (λ x. refl) (λ a b k. k) ready (checking_walked {params = params} {around = around} {node = node} {w = w} {v = v} ready.step (Checking.of_while d i j))
+          (subst (If (Plainly P signed L w)) j
+          (behind_if (ScopeGoes P signed L (found_so w g)) (Plainly P signed L w) (fault_of (with_fault_if node kind.Type (not (may_be is_boolean (type_in t))))) (λ s. statement node.place (typed.while_loop (node_of test t) s)) u
+          (scope_goes L reads assigns ready fits.1 covered (λ x h. all x (or_right (expr_reads x test) (stmt_reads x body) h)) writes i)
+          (λ made x free h.
+          while_plain P signed L params around reads assigns node.place test w t g made x ready fits.0 (λ y k. all y (or_left (expr_reads y test) (stmt_reads y body) k)) d
+          (not_false (may_be is_boolean (type_in t)) (free_if node kind.Type (not (may_be is_boolean (type_in t))) free).1) h)))
+      checking_goes L reads assigns ready fits covered all writes (Checking.of_cobegin d) = absurd covered
+      checking_goes L reads assigns ready fits covered all writes (Checking.start_refused d) = tt
+      checking_goes L reads assigns ready fits covered all writes (Checking.count_refused d i) = tt
+      checking_goes {params} {around} {node} {w = w} {v = v} L reads assigns ready fits covered all writes (Checking.of_foreach {nd = nd} {var = var} {start = start} {count = count} {body = body} {t = t} {u = u} {g = g} {h = h} d i n) =
+          plain_if P signed L params around reads assigns (tree.foreach nd var start count body) node w v (λ x. refl) (λ a b k. k) ready (checking_walked {params = params} {around = around} {node = node} {w = w} {v = v} ready.step (Checking.of_foreach d i n))
+          (iterating_goes w.found L reads assigns ready fits.2 covered (λ x k. all x (or_right (expr_reads x start || expr_reads x count) (not (var.name == x) && stmt_reads x body) k))
+          (range_at L params around reads assigns node w start count t u g h ready fits.0 fits.1
+          (λ x k. all x (or_left (expr_reads x start || expr_reads x count) (not (var.name == x) && stmt_reads x body) (or_left (expr_reads x start) (expr_reads x count) k)))
+          (λ x k. all x (or_left (expr_reads x start || expr_reads x count) (not (var.name == x) && stmt_reads x body) (or_right (expr_reads x start) (expr_reads x count) k))) d i) n)
+      checking_goes L reads assigns ready fits covered all writes (Checking.of_parts d) = absurd covered
+      checking_goes L reads assigns ready fits covered all writes (Checking.block_refused d) = tt
+      checking_goes {params} {around} {node} {w = w} {v = v} L reads assigns ready fits covered all writes (Checking.of_atomic {all = body} {u = u} {ss = ss} d j) =
+          plain_if P signed L params around reads assigns (tree.atomic body) node w v (λ x. refl) (λ a b k. k) ready (checking_walked {params = params} {around = around} {node = node} {w = w} {v = v} ready.step (Checking.of_atomic d j))
+          (subst (If (Plainly P signed L w)) j
+          (plainly_judged L w _ _ _ (λ free.
+          atomic_plain P signed L params around reads assigns node.place w ss u ready (free_if node kind.AtomicBody u.found.reaches_nd free).1
+          (block_goes (in_atomic_block L) reads assigns (ready_atomic P L w.env params around reads assigns ready) fits covered all writes d))))
+
+      choosing_goes : {params : List Bool} {around : Around} {node : Node} {test : PlainExpr} {first : PlainStmt} {other : Option PlainStmt} {w : Walk} {v : Verdict TypedStmt} (L : Scope) (reads assigns : ℕ → Bool) →
+          Ready P L w.env params around reads assigns → Fitting test → StmtFitting first → Covered first → OtherFitting other → OtherCovered other → ((x : ℕ) → IsTrue (expr_reads x test) → IsTrue (reads x)) →
+          ((x : ℕ) → IsTrue (stmt_reads x first) → IsTrue (reads x)) → ((x : ℕ) → IsTrue (stmt_assigns x first) → IsTrue (assigns x)) → ((x : ℕ) → IsTrue (other_reads x other) → IsTrue (reads x)) →
+          ((x : ℕ) → IsTrue (other_writes x other) → IsTrue (assigns x)) → Choosing params around node test first other w v → If (Plainly P signed L w) v
+      choosing_goes L reads assigns ready fits first_fits first_covered other_fits other_covered all first_all first_writes other_all other_writes_so (Choosing.test_refused d) = tt
+      choosing_goes L reads assigns ready fits first_fits first_covered other_fits other_covered all first_all first_writes other_all other_writes_so (Choosing.first_refused d i) = tt
+      choosing_goes {params} {around} {node} {test} {first} {other} {w} L reads assigns ready fits first_fits first_covered other_fits other_covered all first_all first_writes other_all other_writes_so
+          (Choosing.chosen {x = y} {t = t} {g = g} {made = made} {u = u} d i n j) =
+          let s = scope_goes L reads assigns ready first_fits first_covered first_all first_writes i in
+          let k = scope_walked ready.step i in
+          let later : Ready P L y.env params around reads assigns = ready_kept P L w.env y.env params around reads assigns k.kept ready in
+          subst (If (Plainly P signed L w)) j
+          (behind_if (λ part u. OtherGoes P signed L other y part u × OtherDone other y part u) (Plainly P signed L w) (fault_of (with_fault_if node kind.Type (not (may_be is_boolean (type_in t)))))
+          (λ part. statement node.place (choice_form (node_of test t) made part)) u
+          (both_other P signed L other y u (other_goes L reads assigns later other_fits other_covered other_all other_writes_so n) (other_walked later.step n))
+          (λ part x free o.
+          choice_plain P signed L params around reads assigns node.place test other w y x t g made part ready fits all d (not_false (may_be is_boolean (type_in t)) (free_if node kind.Type (not (may_be is_boolean (type_in t))) free).1) s o.0 o.1))
+
+      other_goes : {params : List Bool} {around : Around} {other : Option PlainStmt} {w : Walk} {v : Verdict (Option TypedStmt)} (L : Scope) (reads assigns : ℕ → Bool) → Ready P L w.env params around reads assigns →
+          OtherFitting other → OtherCovered other → ((x : ℕ) → IsTrue (other_reads x other) → IsTrue (reads x)) → ((x : ℕ) → IsTrue (other_writes x other) → IsTrue (assigns x)) → InOther params around other w v →
+          If (OtherGoes P signed L other w) v
+      other_goes L reads assigns ready fits covered all writes InOther.no_other = refl
+      other_goes {w = w} L reads assigns ready fits covered all writes (InOther.an_other {s = s} {u = u} d j) =
+          subst (If (OtherGoes P signed L (Some s) w)) j
+          (behind_if (ScopeGoes P signed L w) (OtherGoes P signed L (Some s) w) None Some u (scope_goes L reads assigns ready fits covered all writes d) (λ made x free h. h))
+
+      scope_goes : {params : List Bool} {around : Around} {s : PlainStmt} {w : Walk} {v : Verdict TypedStmt} (L : Scope) (reads assigns : ℕ → Bool) → Ready P L w.env params around reads assigns →
+          StmtFitting s → Covered s → ((x : ℕ) → IsTrue (stmt_reads x s) → IsTrue (reads x)) → ((x : ℕ) → IsTrue (stmt_assigns x s) → IsTrue (assigns x)) → InScope params around s w v → If (ScopeGoes P signed L w) v
+      scope_goes {params} {around} {w = w} L reads assigns ready fits covered all writes (in_scope {u = u} (standing {f = f} d) j) =
+          subst (If (ScopeGoes P signed L w)) j (scope_if P signed L params around reads assigns f w u (checking_goes L reads assigns ready fits covered all writes d))
+
+      block_goes : {params : List Bool} {around : Around} {all : PlainStmts} {w : Walk} {v : Verdict (List TypedStmt)} (L : Scope) (reads assigns : ℕ → Bool) → Ready P L w.env params around reads assigns →
+          StmtsFitting all → AllCovered all → ((x : ℕ) → IsTrue (stmts_read x all) → IsTrue (reads x)) → ((x : ℕ) → IsTrue (stmts_assign x all) → IsTrue (assigns x)) → InBlock params around all w v →
+          If (BlockGoes P signed L w) v
+      block_goes {w = w} L reads assigns ready fits covered all writes (in_block {u = u} d j) = subst (If (BlockGoes P signed L w)) j (block_if P signed L w u (order_goes L reads assigns ready fits covered all writes d))
+
+      order_goes : {params : List Bool} {around : Around} {before : Bool} {ss : PlainStmts} {w : Walk} {v : Verdict (List TypedStmt)} (L : Scope) (reads assigns : ℕ → Bool) → Ready P L w.env params around reads assigns →
+          StmtsFitting ss → AllCovered ss → ((x : ℕ) → IsTrue (stmts_read x ss) → IsTrue (reads x)) → ((x : ℕ) → IsTrue (stmts_assign x ss) → IsTrue (assigns x)) → InOrder params around before ss w v →
+          If (OrderGoes P signed L w) v
+      order_goes {w = w} L reads assigns ready fits covered all writes InOrder.none_left = record { calm = λ c. c; goes = λ room calm. ([], AllPass.no_more, nothing_gathered w.found, tt) }
+      order_goes L reads assigns ready fits covered all writes (InOrder.statement_refused d) = tt
+      order_goes {params} {around} {before} {w = w} L reads assigns ready fits covered all writes (InOrder.then_others {ss = ss} {u = u} {made = made} {x = x} (standing {place = place} {f = f} d) rest j) =
+          let g = checking_goes L reads assigns ready fits.0 covered.0 (λ y h. all y (or_left (stmt_form_reads y f) (not (declares_form y f) && stmts_read y ss) h))
+          (λ y h. writes y (or_left (stmt_form_assigns y f) (not (declares_form y f) && stmts_assign y ss) h)) d in
+          let k = standing_walked ready.step (standing d) in
+          let next = g.ready (λ y. stmts_read y ss) (λ y. stmts_assign y ss) (later_reads P signed f place ss reads all) (later_assigns P signed f place ss assigns writes) in
+          subst (If (OrderGoes P signed L w)) j
+          (order_if P signed L params around reads assigns before place f ss w u made ready k.1 g x (order_walked next.step rest)
+          (order_goes g.scope (λ y. stmts_read y ss) (λ y. stmts_assign y ss) next fits.1 covered.1 (λ y h. h) (λ y h. h) rest))
+
+      iterating_goes : {params : List Bool} {around : Around} {node : Node} {nd : Bool} {var : Named} {lowest size : TypedExpr} {body : PlainStmt} {x : Walk} {v : Verdict TypedStmt} (found : Found) (L : Scope)
+          (reads assigns : ℕ → Bool) → Ready P L x.env params around reads assigns → StmtFitting body → Covered body → ((n : ℕ) → IsTrue (not (var.name == n) && stmt_reads n body) → IsTrue (reads n)) →
+          (fault_of node ≡ None → Range L found lowest size x.found) → Iterating params around node nd var lowest size body x v → If (Plainly P signed L (record { env = x.env; found = found })) v
+      iterating_goes found L reads assigns ready fits covered all range (Iterating.iteration_refused b) = tt
+      iterating_goes found L reads assigns ready fits covered all range (Iterating.iteration_assigning assigns_so b a told) = tt
+      iterating_goes {params} {around} {node} {nd} {var} {lowest} {size} {body} {x} found L reads assigns ready fits covered all range (Iterating.iterated {u = z} {made = made} assigns_so b a free j) =
+          let w : Walk = record { env = x.env; found = found } in
+          let f = free_if (variable_noted x.env var node) kind.Assign assigns_so free in
+          let has_one = room_free P signed x.env var.name var.place node f.0 in
+          let r = range (declared_free x.env var.name var.place node f.0) in
+          let none : (n : ℕ) → IsTrue (stmt_assigns n body) → ⊥ = λ n k. false≢true (sym f.1 ∙ a.1 (n, k)) in
+          let begun : Ready P (Inner P signed L params around reads assigns w ready) (variable_declared x.env var) params (inside around) (λ n. stmt_reads n body) (λ n. stmt_assigns n body) =
+          subst (λ q. Ready P (Inner P signed L params around reads assigns w ready) (cond q (with_local x.env var.name variant.Int true) x.env) params (inside around) (λ n. stmt_reads n body) (λ n. stmt_assigns n body)) (sym has_one)
+          (ready_iteration P signed L params around reads assigns w ready var body all none) in
+          let s = scope_goes (Inner P signed L params around reads assigns w ready) (λ n. stmt_reads n body) (λ n. stmt_assigns n body) begun fits covered (λ n k. k) (λ n k. k) b in
+          let more = (scope_walked begun.step b).kept.slots in
+          let slots_are = ap (λ q. slots_in (cond q (with_local x.env var.name variant.Int true) x.env)) has_one in
+          subst (If (Plainly P signed L w)) j
+          (plainly_judged L w _ _ _ (λ later.
+          foreach_plain P signed L params around reads assigns w ready node.place nd lowest size r.mid x.found made z begun.locals r.low r.low_int r.high r.size_int (omega (arith, more, slots_are))
+          (record { calm = λ c. refl; goes = s.goes })
+          (free_if (settled_node (with_fault_if (variable_noted x.env var node) kind.Assign assigns_so)) (interference nd)
+          (iterations_clash (given_in x.env) (declared_atomic params nd x.env) (slots_in x.env) (with_uses z.found.effects z.found.uses)) later).1))
+
+    pub block_agrees : (L : Scope) (params : List Bool) (around : Around) (reads assigns : ℕ → Bool) (w : Walk) → Ready P L w.env params around reads assigns → (all : PlainStmts) → StmtsFitting all → AllCovered all →
+        ((x : ℕ) → IsTrue (stmts_read x all) → IsTrue (reads x)) → ((x : ℕ) → IsTrue (stmts_assign x all) → IsTrue (assigns x)) → (made : List TypedStmt) (u : Walk) → InBlock params around all w (passes made u) →
+        Room L u.env → Calm L u → BlockPasses P L w.found made u.found
+    block_agrees L params around reads assigns w ready all fits covered all_reads all_writes made u d room calm =
+        let r = (block_goes L reads assigns ready fits covered all_reads all_writes d).goes room calm in
+        record { effects = r.0; passes_so = r.1; gathers = r.2; in_scope = all_names P signed ready.locals r.1 }

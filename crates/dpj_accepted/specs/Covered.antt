@@ -1,0 +1,31 @@
+-- The statements that are covered so far.
+use Rattle.dpj_tree.specs.Plain.{PlainStmt, statement, StmtForm, block, declare, assign_local, assign_field, assign_element, perform, choice, choice_else, while_loop, return_nothing, return_value, print, print_text, cobegin, foreach, foreach_parts, atomic, local_regions, PlainStmts, no_stmts, more_stmts}
+
+-- neither a `cobegin` nor a `foreach_parts` nor a declaration of local regions stands in it
+abbrev mutual
+  pub Covered : PlainStmt → Type 0
+  Covered (statement place form) = FormCovered form
+
+  pub FormCovered : StmtForm → Type 0
+  FormCovered (block all) = AllCovered all
+  FormCovered (declare is_final ty name value) = Unit {0}
+  FormCovered (assign_local target value) = Unit {0}
+  FormCovered (assign_field target value) = Unit {0}
+  FormCovered (assign_element target value) = Unit {0}
+  FormCovered (perform performed) = Unit {0}
+  FormCovered (choice test then_part) = Covered then_part
+  FormCovered (choice_else test then_part else_part) = Covered then_part × Covered else_part
+  FormCovered (while_loop test body) = Covered body
+  FormCovered return_nothing = Unit {0}
+  FormCovered (return_value value) = Unit {0}
+  FormCovered (print value) = Unit {0}
+  FormCovered (print_text text) = Unit {0}
+  FormCovered (cobegin nd branches) = ⊥
+  FormCovered (foreach nd var start count body) = Covered body
+  FormCovered (foreach_parts view var array count body) = ⊥
+  FormCovered (atomic all) = AllCovered all
+  FormCovered (local_regions names) = ⊥
+
+  pub AllCovered : PlainStmts → Type 0
+  AllCovered no_stmts = Unit {0}
+  AllCovered (more_stmts s ss) = Covered s × AllCovered ss
