@@ -48,6 +48,7 @@ use Rattle.dpj_accepted.proofs.Expressions.{int_is}
 use Rattle.dpj_accepted.proofs.Gathered.{nothing_gathered}
 use Rattle.dpj_accepted.proofs.Growing.{Kept, kept_same, step_local}
 use Rattle.dpj_accepted.proofs.InScopeStatements.{all_names}
+use Rattle.dpj_accepted.proofs.LocalRegions.{regions_go}
 use Rattle.dpj_accepted.proofs.Loops.{ready_iteration, foreach_plain, Inner}
 use Rattle.dpj_accepted.proofs.Readiness.{ready_less, ready_kept, ready_atomic}
 use Rattle.dpj_accepted.proofs.Singles.{assigning, performing, returning, printing}
@@ -162,7 +163,9 @@ module _ (P : PlainProgram) (signed : Signed P)
           plain_if P signed L params around reads assigns (tree.print_text text) node w v (λ x. refl) (λ a b k. k) ready (checking_walked {params = params} {around = around} {node = node} {w = w} {v = v} ready.step (Checking.of_text j))
           (subst (If (Plainly P signed L w)) j
           (plainly_judged L w _ _ _ (λ free. record { calm = λ c. c; alone = λ room calm. record { effects = []; passes_so = Passes.print_text; gathers = nothing_gathered w.found } })))
-      checking_goes L reads assigns ready fits covered all writes (Checking.of_regions j) = absurd covered
+      checking_goes {params} {around} {node} {w = w} L reads assigns ready fits covered all writes (Checking.of_regions {names = names} j) =
+          subst (If (Goes P signed L params around reads assigns (tree.local_regions names) w)) j
+          (judged_if (Goes P signed L params around reads assigns (tree.local_regions names) w) _ _ _ (λ free. regions_go P signed L params around reads assigns w ready names node free node.place))
       checking_goes {params} {around} {node} {w = w} {v = v} L reads assigns ready fits covered all writes (Checking.of_choice {test = test} {part = first} d) =
           plain_if P signed L params around reads assigns (tree.choice test first) node w v (λ x. refl) (λ a b k. k) ready (checking_walked {params = params} {around = around} {node = node} {w = w} {v = v} ready.step (Checking.of_choice d))
           (choosing_goes L reads assigns ready fits.0 fits.1 covered tt tt (λ x h. all x (or_left (expr_reads x test) (stmt_reads x first) h)) (λ x h. all x (or_right (expr_reads x test) (stmt_reads x first) h)) writes (λ x h. absurd (false≢true h)) (λ x h. absurd (false≢true h)) d)

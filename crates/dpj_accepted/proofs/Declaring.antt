@@ -16,13 +16,13 @@ use Rattle.dpj_resolved.proofs.Lists.{some_same, got_first, got_later, there}
 use Rattle.dpj_accepted.specs.Seen.{can_stand, RowIs, Sees, InStep}
 
 -- the last of a name, with one name more behind
-last_push : (at : ℕ) (found : Option ℕ) (xs : List ℕ) (x n : ℕ) → last_from at found (xs ++ x ∷ []) n ≡ cond (x == n) (Some (at + length xs)) (last_from at found xs n)
+pub last_push : (at : ℕ) (found : Option ℕ) (xs : List ℕ) (x n : ℕ) → last_from at found (xs ++ x ∷ []) n ≡ cond (x == n) (Some (at + length xs)) (last_from at found xs n)
 last_push at found [] x n = let same : at ≡ at + 0 = omega arith in ap (λ z. cond (x == n) (Some z) found) same
 last_push at found (y ∷ xs) x n =
     let same : suc at + length xs ≡ at + suc (length xs) = omega arith in
     last_push (suc at) (cond (y == n) (Some at) found) xs x n ∙ ap (λ z. cond (x == n) (Some z) (last_from (suc at) (cond (y == n) (Some at) found) xs n)) same
 
-last_within : (at : ℕ) (found : Option ℕ) (xs : List ℕ) (n p : ℕ) → last_from at found xs n ≡ Some p → (found ≡ Some p) ⊎ (p < at + length xs)
+pub last_within : (at : ℕ) (found : Option ℕ) (xs : List ℕ) (n p : ℕ) → last_from at found xs n ≡ Some p → (found ≡ Some p) ⊎ (p < at + length xs)
 last_within at found [] n p h = inl h
 last_within at found (y ∷ xs) n p h = ⊎_elim (λ e. by (y == n) e) (λ l. inr (omega (arith, l))) (last_within (suc at) (cond (y == n) (Some at) found) xs n p h)
   where

@@ -20,3 +20,4 @@ pub mod Readiness
 pub mod Statements
 pub mod Bodies
 pub mod Loops
+pub mod LocalRegions

@@ -1,7 +1,7 @@
 -- The statements that are covered so far.
 use Rattle.dpj_tree.specs.Plain.{PlainStmt, statement, StmtForm, block, declare, assign_local, assign_field, assign_element, perform, choice, choice_else, while_loop, return_nothing, return_value, print, print_text, cobegin, foreach, foreach_parts, atomic, local_regions, PlainStmts, no_stmts, more_stmts}
 
--- neither a `cobegin` nor a `foreach_parts` nor a declaration of local regions stands in it
+-- neither a `cobegin` nor a `foreach_parts` stands in it
 abbrev mutual
   pub Covered : PlainStmt → Type 0
   Covered (statement place form) = FormCovered form
@@ -24,7 +24,7 @@ abbrev mutual
   FormCovered (foreach nd var start count body) = Covered body
   FormCovered (foreach_parts view var array count body) = ⊥
   FormCovered (atomic all) = AllCovered all
-  FormCovered (local_regions names) = ⊥
+  FormCovered (local_regions names) = Unit {0}
 
   pub AllCovered : PlainStmts → Type 0
   AllCovered no_stmts = Unit {0}
