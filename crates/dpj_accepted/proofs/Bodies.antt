@@ -20,23 +20,24 @@ use Rattle.dpj_typed.specs.Statements.{Passes, AllPass}
 use Rattle.dpj_exprs.specs.declared.env.Env.{Env}
 use Rattle.dpj_exprs.specs.declared.found.Found.{Found}
 use Rattle.dpj_exprs.specs.Answer.{gives}
-use Rattle.dpj_exprs.specs.Env.{given_in, slots_in, with_local, left_to, mark_of}
+use Rattle.dpj_exprs.specs.Env.{given_in, slots_in, with_local, with_part, left_to, mark_of}
 use Rattle.dpj_exprs.specs.Typed.{may_be, is_int, is_boolean, type_in}
 use Rattle.dpj_exprs.specs.Typing.{Typing}
 use Rattle.dpj_check.specs.declared.leaving.Marks.TheVariants as marks
 use Rattle.dpj_check.specs.declared.node.Around.{Around}
 use Rattle.dpj_check.specs.declared.node.Node.{Node}
-use Rattle.dpj_check.specs.Checking.{closed, with_nd, forking_of, variable_declared, variable_noted, iteration_begun, AssignsIs, Checking, Choosing, InOther, Standing, standing, InScope, in_scope, InBlock, in_block, InOrder, Iterating, block_left}
+use Rattle.dpj_check.specs.Checking.{parts_noted, parts_declared, part_slot, part_variable, parts_left, Opening, Parting, closed, with_nd, forking_of, variable_declared, variable_noted, iteration_begun, AssignsIs, Checking, Choosing, InOther, Standing, standing, InScope, in_scope, InBlock, in_block, InOrder, Iterating, block_left}
 use Rattle.dpj_check.specs.Completes as tree_completes
 use Rattle.dpj_check.specs.Deciding.{is_misplaced, interference, marks_after}
 use Rattle.dpj_check.specs.Gathering.{with_uses, taken_in}
 use Rattle.dpj_check.specs.Keeping.{inside}
 use Rattle.dpj_check.specs.Leaving.{from_here}
 use Rattle.dpj_check.specs.Meeting.{declared_atomic}
-use Rattle.dpj_check.specs.Noting.{with_fault_if, settled_node, fault_of, node_at}
-use Rattle.dpj_check.specs.Simple.{has_room, declaration_noted, node_of, Declaring, AssigningLocal, AssigningPlace, Performing, Returning, Printing}
+use Rattle.dpj_check.specs.Noting.{with_found, with_fault_if, settled_node, fault_of, node_at}
+use Rattle.dpj_check.specs.Simple.{has_room, part_declared, declaration_noted, node_of, Declaring, AssigningLocal, AssigningPlace, Performing, Returning, Printing}
 use Rattle.dpj_check.specs.Walks.{Walk, Verdict, passes, refused, nothing_found, found_so, apart_from, left_scope, judged, behind}
-use Rattle.dpj_resolved.proofs.Bodies.{free_if, declared_free}
+use Rattle.dpj_parts.specs.Uses.{parts_interfere}
+use Rattle.dpj_resolved.proofs.Bodies.{free_if, free_found, declared_free}
 use Rattle.dpj_resolved.proofs.Free.{not_false, or_false}
 use Rattle.dpj_accepted.specs.Covered.{Covered, FormCovered, AllCovered}
 use Rattle.dpj_accepted.specs.Laws.{Stands, Passing, BlockPasses}
@@ -50,6 +51,7 @@ use Rattle.dpj_accepted.proofs.Growing.{Kept, kept_same, step_local}
 use Rattle.dpj_accepted.proofs.InScopeStatements.{all_names}
 use Rattle.dpj_accepted.proofs.LocalRegions.{regions_go}
 use Rattle.dpj_accepted.proofs.Loops.{ready_iteration, foreach_plain, Inner}
+use Rattle.dpj_accepted.proofs.PartLoops.{cutting_so, Parted, ready_parts, parts_plain}
 use Rattle.dpj_accepted.proofs.Readiness.{ready_less, ready_kept, ready_atomic}
 use Rattle.dpj_accepted.proofs.Singles.{assigning, performing, returning, printing}
 use Rattle.dpj_accepted.proofs.Statements.{Plainly, Goes, ScopeGoes, BlockGoes, OrderGoes, OtherGoes, room_free, expr_at, declaring_goes, plain_if, single_if, scope_if, block_if, order_if, later_reads, later_assigns, while_plain, choice_plain, atomic_plain, both_other}
@@ -194,7 +196,9 @@ module _ (P : PlainProgram) (signed : Signed P)
           (range_at L params around reads assigns node w start count t u g h ready fits.0 fits.1
           (λ x k. all x (or_left (expr_reads x start || expr_reads x count) (not (var.name == x) && stmt_reads x body) (or_left (expr_reads x start) (expr_reads x count) k)))
           (λ x k. all x (or_left (expr_reads x start || expr_reads x count) (not (var.name == x) && stmt_reads x body) (or_right (expr_reads x start) (expr_reads x count) k))) d i) n)
-      checking_goes L reads assigns ready fits covered all writes (Checking.of_parts d) = absurd covered
+      checking_goes {params} {around} {node} {w = w} {v = v} L reads assigns ready fits covered all writes (Checking.of_parts {view = view} {var = var} {array = array} {count = count} {body = body} d) =
+          plain_if P signed L params around reads assigns (tree.foreach_parts view var array count body) node w v (λ x. refl) (λ a b k. k) ready
+          (checking_walked {params = params} {around = around} {node = node} {w = w} {v = v} ready.step (Checking.of_parts d)) (parting_goes L reads assigns ready fits.0 fits.1 fits.2 covered all d)
       checking_goes L reads assigns ready fits covered all writes (Checking.block_refused d) = tt
       checking_goes {params} {around} {node} {w = w} {v = v} L reads assigns ready fits covered all writes (Checking.of_atomic {all = body} {u = u} {ss = ss} d j) =
           plain_if P signed L params around reads assigns (tree.atomic body) node w v (λ x. refl) (λ a b k. k) ready (checking_walked {params = params} {around = around} {node = node} {w = w} {v = v} ready.step (Checking.of_atomic d j))
@@ -276,6 +280,46 @@ module _ (P : PlainProgram) (signed : Signed P)
           (record { calm = λ c. refl; goes = s.goes })
           (free_if (settled_node (with_fault_if (variable_noted x.env var node) kind.Assign assigns_so)) (interference nd)
           (iterations_clash (given_in x.env) (declared_atomic params nd x.env) (slots_in x.env) (with_uses z.found.effects z.found.uses)) later).1))
+
+      parting_goes : {params : List Bool} {around : Around} {node : Node} {view var : Named} {array count : PlainExpr} {body : PlainStmt} {w : Walk} {v : Verdict TypedStmt} (L : Scope) (reads assigns : ℕ → Bool) →
+          Ready P L w.env params around reads assigns → Fitting array → Fitting count → StmtFitting body → Covered body →
+          ((x : ℕ) → IsTrue ((expr_reads x array || expr_reads x count) || (not (view.name == x) && (not (var.name == x) && stmt_reads x body))) → IsTrue (reads x)) → Parting params around node view var array count body w v →
+          If (Plainly P signed L w) v
+      parting_goes L reads assigns ready array_fits count_fits fits covered all (Parting.range_refused o) = tt
+      parting_goes L reads assigns ready array_fits count_fits fits covered all (Parting.part_refused o b) = tt
+      parting_goes L reads assigns ready array_fits count_fits fits covered all (Parting.part_assigning assigns_so o b a told) = tt
+      parting_goes {params} {around} {node} {view} {var} {array} {count} {body} {w} L reads assigns ready array_fits count_fits fits covered all
+          (Parting.parted {u = z} {made = made} assigns_so (Opening.both_given t {source = source} {fault = fault} {g = g} {h = h} {u = q} c d) b a free j) =
+          let first : Node = with_fault_if (with_found node fault) kind.Type (not (may_be is_int (type_in q))) in
+          let f = free_if (parts_noted w.env view var t first) kind.Assign assigns_so free in
+          let var_room = room_free P signed (part_declared w.env view.name t) var.name var.place (declaration_noted w.env view.name view.place first) f.0 in
+          let before = declared_free (part_declared w.env view.name t) var.name var.place (declaration_noted w.env view.name view.place first) f.0 in
+          let view_room = room_free P signed w.env view.name view.place first before in
+          let count_int = free_if (with_found node fault) kind.Type (not (may_be is_int (type_in q))) (declared_free w.env view.name view.place first before) in
+          let cut = cutting_so P signed L params around reads assigns w ready array_fits
+              (λ x k. all x (or_left (expr_reads x array || expr_reads x count) (not (view.name == x) && (not (var.name == x) && stmt_reads x body)) (or_left (expr_reads x array) (expr_reads x count) k))) c
+              (free_found node fault count_int.0).1 in
+          let y = expr_at P signed L w.env params around reads assigns count g h q ready count_fits
+              (λ x k. all x (or_left (expr_reads x array || expr_reads x count) (not (view.name == x) && (not (var.name == x) && stmt_reads x body)) (or_right (expr_reads x array) (expr_reads x count) k))) d in
+          let none : (n : ℕ) → IsTrue (stmt_assigns n body) → ⊥ = λ n k. false≢true (sym f.1 ∙ a.1 (n, k)) in
+          let part_is : part_declared w.env view.name t ≡ with_part w.env view.name t = ap (λ r. cond r (with_part w.env view.name t) w.env) view_room in
+          let env_is : parts_declared w.env view var t ≡ with_local (with_part w.env view.name t) var.name variant.Int true =
+              ap (λ r. cond r (with_local (part_declared w.env view.name t) var.name variant.Int true) (part_declared w.env view.name t)) var_room ∙ ap (λ (e : Env). with_local e var.name variant.Int true) part_is in
+          let N : Scope = Parted P signed L params around reads assigns w ready cut.elem cut.path cut.names in
+          let begun : Ready P N (parts_declared w.env view var t) params (inside around) (λ n. stmt_reads n body) (λ n. stmt_assigns n body) =
+              subst (λ e. Ready P N e params (inside around) (λ n. stmt_reads n body) (λ n. stmt_assigns n body)) (sym env_is)
+              (ready_parts P signed L params around reads assigns w ready cut.elem cut.path cut.names view var t body cut.is
+              (λ x k. all x (or_right (expr_reads x array || expr_reads x count) (not (view.name == x) && (not (var.name == x) && stmt_reads x body)) k)) none) in
+          let s = scope_goes N (λ n. stmt_reads n body) (λ n. stmt_assigns n body) begun fits covered (λ n k. k) (λ n k. k) b in
+          let more = (scope_walked begun.step b).kept.slots in
+          let slots_are = ap slots_in env_is in
+          subst (If (Plainly P signed L w)) j
+          (plainly_judged L w _ _ _ (λ later.
+          subst (λ e. Plainly P signed L w (statement node.place (typed.foreach_parts w.env.slots source e made)) (parts_left w.env.slots w source h z)) (sym (ap (node_of count) y.1))
+          (parts_plain P signed L params around reads assigns w ready cut.elem cut.path cut.names node.place source y.0 g h cut.effects made z begun.locals cut.cuts cut.part_is cut.gathers cut.calm y.2
+          (int_at q y.0 y.1 (not_false (may_be is_int (type_in q)) count_int.1)) (omega (arith, more, slots_are)) (λ room calm. s.goes room calm)
+          (free_if (settled_node (with_fault_if (parts_noted w.env view var t first) kind.Assign assigns_so)) kind.Interferes
+          (parts_interfere (given_in w.env) (part_slot w.env) (part_variable w.env) z.found.effects z.found.uses) later).1)))
 
     pub block_agrees : (L : Scope) (params : List Bool) (around : Around) (reads assigns : ℕ → Bool) (w : Walk) → Ready P L w.env params around reads assigns → (all : PlainStmts) → StmtsFitting all → AllCovered all →
         ((x : ℕ) → IsTrue (stmts_read x all) → IsTrue (reads x)) → ((x : ℕ) → IsTrue (stmts_assign x all) → IsTrue (assigns x)) → (made : List TypedStmt) (u : Walk) → InBlock params around all w (passes made u) →

@@ -13,6 +13,7 @@ use Rattle.dpj_typed.specs.Effects.{Own as Done}
 use Rattle.dpj_typed.specs.Plain.{Source, of_array, of_part}
 use Rattle.dpj_typed.specs.Statements.{SameEffects}
 use Rattle.dpj_exprs.specs.declared.found.Found.{Found}
+use Rattle.dpj_check.specs.Checking.{outer_part}
 use Rattle.dpj_check.specs.Gathering.{with_uses, entered, of_view, moved}
 use Rattle.dpj_check.specs.Gathering.{handed_on as hand_on}
 use Rattle.dpj_check.specs.Walks.{nothing_found}
@@ -110,10 +111,6 @@ same_entered g E h = same_effects (record g { effects = all_marked true g.effect
 
 -- behind a construct over parts
 
-abbrev outer_of : Source → Option ℕ
-outer_of (of_part part) = Some part
-outer_of (of_array e) = None
-
 not_true : (b : Bool) → b ≡ false → not b ≡ true
 not_true true h = cc
 not_true false h = refl
@@ -196,7 +193,7 @@ handed_to_part g E k outer h = gathers_by (hand_on k (Some outer) g) (after_part
     from : (o : Done) → Contains (after_parts k (of_part outer) E) o → InFound (hand_on k (Some outer) g) o
     from o c = let w = mapped_from (own_after k (of_part outer)) E o c in subst (InFound (hand_on k (Some outer) g)) w.2 (of w.0 w.1 (is_through k w.0) refl)
 
-pub handed : (g : Found) (E : List Done) (k : ℕ) (source : Source) → Gathers nothing_found E g → Gathers nothing_found (after_parts k source E) (hand_on k (outer_of source) g)
+pub handed : (g : Found) (E : List Done) (k : ℕ) (source : Source) → Gathers nothing_found E g → Gathers nothing_found (after_parts k source E) (hand_on k (outer_part source) g)
 handed g E k (of_array a) h = handed_to_array g E k a h
 handed g E k (of_part outer) h = handed_to_part g E k outer h
 

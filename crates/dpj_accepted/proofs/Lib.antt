@@ -21,3 +21,4 @@ pub mod Statements
 pub mod Bodies
 pub mod Loops
 pub mod LocalRegions
+pub mod PartLoops

@@ -1,7 +1,7 @@
 -- The statements that are covered so far.
 use Rattle.dpj_tree.specs.Plain.{PlainStmt, statement, StmtForm, block, declare, assign_local, assign_field, assign_element, perform, choice, choice_else, while_loop, return_nothing, return_value, print, print_text, cobegin, foreach, foreach_parts, atomic, local_regions, PlainStmts, no_stmts, more_stmts}
 
--- neither a `cobegin` nor a `foreach_parts` stands in it
+-- no `cobegin` stands in it
 abbrev mutual
   pub Covered : PlainStmt → Type 0
   Covered (statement place form) = FormCovered form
@@ -22,7 +22,7 @@ abbrev mutual
   FormCovered (print_text text) = Unit {0}
   FormCovered (cobegin nd branches) = ⊥
   FormCovered (foreach nd var start count body) = Covered body
-  FormCovered (foreach_parts view var array count body) = ⊥
+  FormCovered (foreach_parts view var array count body) = Covered body
   FormCovered (atomic all) = AllCovered all
   FormCovered (local_regions names) = Unit {0}
 

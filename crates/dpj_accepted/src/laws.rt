@@ -30,8 +30,8 @@ pub fn law_scopes()
     ensures scopes { EffectsAreInScope }
 {}
 
-/// The statements of a block that pass do so in the judgement, with the effects that the checker gathers. Not covered yet are
-/// `cobegin`, `foreach_parts` and local regions.
+/// The statements of a block that pass do so in the judgement, with the effects that the checker gathers. A `cobegin` isn't covered
+/// yet.
 pub fn law_blocks()
     ensures blocks { BlocksAgree }
 {}
