@@ -1,5 +1,5 @@
 -- Region arguments that are written without a fault are good where they stand.
-use Rattle.std.proofs.Common.{◌≡◌, ◌∙◌, ◌⊎◌, ℕ, zero, suc, ◌+◌, ◌≤◌, ◌==◌, Bool, true, false, not, ◌&&◌, ◌||◌, cond, IsTrue, fold, List, [], ◌∷◌, ◌++◌, All, map, length, filter_map, flat_map, slice_get, Option, None, Some, option_map, refl, sym, ap, subst, arith}
+use Rattle.std.proofs.Common.{◌≡◌, ◌∙◌, ℕ, zero, suc, ◌+◌, ◌≤◌, ◌==◌, Bool, true, false, not, ◌&&◌, ◌||◌, cond, IsTrue, fold, List, [], ◌∷◌, ◌++◌, All, map, length, filter_map, flat_map, slice_get, Option, None, Some, refl, sym, ap, subst, arith}
 use Rattle.std.proofs.lemmas.Bool.{eqb-true, or_parts}
 use Rattle.std.proofs.lemmas.Option.{slice_get-map}
 use Rattle.std.proofs.lemmas.List.Elements.{All-nil, All-cons}
@@ -8,7 +8,6 @@ use Rattle.std.specs.Option.{option_map_or}
 use Rattle.dpj_base.specs.declared.effect.Constraint.{Constraint}
 use Rattle.dpj_base.specs.declared.place.Place.{Place}
 use Rattle.dpj_base.specs.declared.refusal.Kind.TheVariants as kind
-use Rattle.dpj_base.specs.declared.region.Head.TheVariants.{Root}
 use Rattle.dpj_base.specs.declared.region.Rpl.{Rpl}
 use Rattle.dpj_base.specs.Apart.{apart}
 use Rattle.dpj_base.specs.Branches.{atomic_path}
@@ -26,7 +25,7 @@ use Rattle.dpj_resolve.specs.Scopes.{PlainScope, is_atomic_at}
 use Rattle.dpj_typed.specs.Plain.{PlainProgram}
 use Rattle.dpj_typed.specs.Scope.{Scope, atomic_in}
 use Rattle.dpj_typed.specs.Types.{GoodPath, GoodArgs}
-use Rattle.dpj_resolved.proofs.Free.{append_none, fault_none, NoFaults, not_false}
+use Rattle.dpj_resolved.proofs.Free.{append_none, fault_none, NoFaults}
 use Rattle.dpj_resolved.proofs.Known.{path_known}
 use Rattle.dpj_resolved.proofs.Lists.{some_same, map_there}
 use Rattle.dpj_accepted.proofs.Paths.{Meaning, depth_of, path_begun, not_local, path_full, path_told_atomic}

@@ -1,15 +1,14 @@
 -- The statements of a body that pass for the checker pass in the judgement.
-use Rattle.std.proofs.Common.{◌≡◌, ◌∙◌, ◌⊎◌, ◌==◌, ℕ, Bool, true, false, not, ◌&&◌, ◌||◌, cond, IsTrue, List, [], ◌∷◌, inl, inr, ⊎_elim, Option, Some, None, refl, sym, ap, subst, arith}
+use Rattle.std.proofs.Common.{◌≡◌, ◌∙◌, ◌==◌, ℕ, Bool, true, false, not, ◌&&◌, ◌||◌, cond, IsTrue, List, [], Option, Some, None, refl, sym, ap, subst, arith}
 use Rattle.std.proofs.lemmas.Bool.{or_left, or_right, or_parts, eq-eqb, false≢true}
 use Rattle.dpj_base.specs.declared.place.Place.{Place}
-use Rattle.dpj_base.specs.declared.refusal.Kind.{Kind}
 use Rattle.dpj_base.specs.declared.refusal.Kind.TheVariants as kind
 use Rattle.dpj_base.specs.declared.refusal.Refusal.{Refusal}
 use Rattle.dpj_base.specs.declared.ty.Ty.TheVariants as variant
 use Rattle.dpj_base.specs.Branches.{iterations_clash}
 use Rattle.dpj_base.specs.Types.{PlainType as ty}
 use Rattle.dpj_base.specs.Effects.{same_bool}
-use Rattle.dpj_locals.specs.Touches.{expr_reads, type_reads, stmt_reads, stmt_form_reads, stmts_read, stmt_assigns, stmt_form_assigns, stmts_assign, declares, declares_form}
+use Rattle.dpj_locals.specs.Touches.{expr_reads, stmt_reads, stmt_form_reads, stmts_read, stmt_assigns, stmt_form_assigns, stmts_assign, declares_form}
 use Rattle.dpj_tree.specs.declared.region.Named.{Named}
 use Rattle.dpj_tree.specs.Plain.{PlainExpr, PlainStmt, PlainStmts}
 use Rattle.dpj_tree.specs.Plain as tree
@@ -20,43 +19,38 @@ use Rattle.dpj_typed.specs.Statements.{Passes, AllPass}
 use Rattle.dpj_exprs.specs.declared.env.Env.{Env}
 use Rattle.dpj_exprs.specs.declared.found.Found.{Found}
 use Rattle.dpj_exprs.specs.Answer.{gives}
-use Rattle.dpj_exprs.specs.Env.{given_in, slots_in, with_local, with_part, left_to, mark_of}
+use Rattle.dpj_exprs.specs.Env.{given_in, slots_in, with_local, with_part}
 use Rattle.dpj_exprs.specs.Typed.{may_be, is_int, is_boolean, type_in}
 use Rattle.dpj_exprs.specs.Typing.{Typing}
-use Rattle.dpj_check.specs.declared.leaving.Marks.TheVariants as marks
 use Rattle.dpj_check.specs.declared.node.Around.{Around}
 use Rattle.dpj_check.specs.declared.node.Node.{Node}
-use Rattle.dpj_check.specs.Checking.{parts_noted, parts_declared, part_slot, part_variable, parts_left, Opening, Parting, closed, with_nd, forking_of, variable_declared, variable_noted, iteration_begun, AssignsIs, Checking, Choosing, InOther, Standing, standing, InScope, in_scope, InBlock, in_block, InOrder, Iterating, block_left}
-use Rattle.dpj_check.specs.Completes as tree_completes
-use Rattle.dpj_check.specs.Deciding.{is_misplaced, interference, marks_after}
-use Rattle.dpj_check.specs.Gathering.{with_uses, taken_in}
+use Rattle.dpj_check.specs.Checking.{parts_noted, parts_declared, part_slot, part_variable, parts_left, Opening, Parting, variable_declared, variable_noted, Checking, Choosing, InOther, standing, InScope, in_scope, InBlock, in_block, InOrder, Iterating}
+use Rattle.dpj_check.specs.Deciding.{is_misplaced, interference}
+use Rattle.dpj_check.specs.Gathering.{with_uses}
 use Rattle.dpj_check.specs.Keeping.{inside}
-use Rattle.dpj_check.specs.Leaving.{from_here}
 use Rattle.dpj_check.specs.Meeting.{declared_atomic}
-use Rattle.dpj_check.specs.Noting.{with_found, with_fault_if, settled_node, fault_of, node_at}
-use Rattle.dpj_check.specs.Simple.{has_room, part_declared, declaration_noted, node_of, Declaring, AssigningLocal, AssigningPlace, Performing, Returning, Printing}
-use Rattle.dpj_check.specs.Walks.{Walk, Verdict, passes, refused, nothing_found, found_so, apart_from, left_scope, judged, behind}
+use Rattle.dpj_check.specs.Noting.{with_found, with_fault_if, settled_node, fault_of}
+use Rattle.dpj_check.specs.Simple.{part_declared, declaration_noted, node_of, AssigningLocal, AssigningPlace, Performing, Returning, Printing}
+use Rattle.dpj_check.specs.Walks.{Walk, Verdict, passes, found_so, judged}
 use Rattle.dpj_parts.specs.Uses.{parts_interfere}
 use Rattle.dpj_resolved.proofs.Bodies.{free_if, free_found, declared_free}
-use Rattle.dpj_resolved.proofs.Free.{not_false, or_false}
+use Rattle.dpj_resolved.proofs.Free.{not_false}
 use Rattle.dpj_accepted.specs.Covered.{Covered, FormCovered, AllCovered}
-use Rattle.dpj_accepted.specs.Laws.{Stands, Passing, BlockPasses}
+use Rattle.dpj_accepted.specs.Laws.{Stands, BlockPasses}
 use Rattle.dpj_accepted.specs.Naming.{Signed}
 use Rattle.dpj_accepted.specs.Ready.{Ready, Room, Calm}
-use Rattle.dpj_accepted.specs.Seen.{InStep}
 use Rattle.dpj_accepted.specs.Tree.{Fitting, StmtFitting, StmtFormFitting, StmtsFitting}
 use Rattle.dpj_accepted.proofs.Expressions.{int_is}
 use Rattle.dpj_accepted.proofs.Gathered.{nothing_gathered}
-use Rattle.dpj_accepted.proofs.Growing.{Kept, kept_same, step_local}
 use Rattle.dpj_accepted.proofs.InScopeStatements.{all_names}
 use Rattle.dpj_accepted.proofs.LocalRegions.{regions_go}
 use Rattle.dpj_accepted.proofs.Loops.{ready_iteration, foreach_plain, Inner}
 use Rattle.dpj_accepted.proofs.PartLoops.{cutting_so, Parted, ready_parts, parts_plain}
-use Rattle.dpj_accepted.proofs.Readiness.{ready_less, ready_kept, ready_atomic}
+use Rattle.dpj_accepted.proofs.Readiness.{ready_kept, ready_atomic}
 use Rattle.dpj_accepted.proofs.Singles.{assigning, performing, returning, printing}
 use Rattle.dpj_accepted.proofs.Statements.{Plainly, Goes, ScopeGoes, BlockGoes, OrderGoes, OtherGoes, room_free, expr_at, declaring_goes, plain_if, single_if, scope_if, block_if, order_if, later_reads, later_assigns, while_plain, choice_plain, atomic_plain, both_other}
 use Rattle.dpj_accepted.proofs.Targets.{placing}
-use Rattle.dpj_accepted.proofs.Walks.{If, judged_if, behind_if, both_if, After, Walked, Stood, Scoped, Blocked, Ordered, OtherDone, checking_walked, standing_walked, scope_walked, block_walked, order_walked, other_walked}
+use Rattle.dpj_accepted.proofs.Walks.{If, judged_if, behind_if, OtherDone, checking_walked, standing_walked, scope_walked, order_walked, other_walked}
 
 module _ (P : PlainProgram) (signed : Signed P)
   where

@@ -1,6 +1,6 @@
 -- What was gathered of a branch has the effects of the branch; so branches that are apart for the checker don't clash.
-use Rattle.std.proofs.Common.{◌≡◌, ◌∙◌, ◌⊎◌, ◌↔◌, ℕ, zero, suc, ◌+◌, ◌<◌, ◌==◌, Bool, true, false, not, ◌||◌, cond, IsTrue, List, [], ◌∷◌, ◌++◌, map, filter, length, slice_index_or, Contains, AllPairs, inl, inr, ⊎_elim, Option, Some, None, refl, sym, ap, subst, arith}
-use Rattle.std.proofs.lemmas.Bool.{eqb-true, or_parts, false_from_ne_true, false≢true}
+use Rattle.std.proofs.Common.{◌≡◌, ◌∙◌, ℕ, zero, suc, ◌<◌, ◌==◌, Bool, true, false, not, ◌||◌, cond, IsTrue, List, [], ◌∷◌, map, filter, length, slice_index_or, Contains, AllPairs, inr, ⊎_elim, Option, Some, None, refl, sym, ap, subst, arith}
+use Rattle.std.proofs.lemmas.Bool.{or_parts, false_from_ne_true, false≢true}
 use Rattle.dpj_base.specs.declared.array_part.PartUse.{PartUse}
 use Rattle.dpj_base.specs.declared.effect.Constraint.{Constraint}
 use Rattle.dpj_base.specs.declared.effect.Effect.{Effect}
@@ -8,7 +8,7 @@ use Rattle.dpj_base.specs.Branches.{Atomic, clashes, some_clashes, lists_clash, 
 use Rattle.dpj_base.specs.Effects.{gathered, with_mark, all_marked}
 use Rattle.dpj_base.specs.Pairs.{NoPair}
 use Rattle.dpj_parts.specs.Uses.{use_effect, is_use_of, with_uses_of, with_other_uses, parts_interfere}
-use Rattle.dpj_typed.specs.Effects.{does, uses, effect_of, as_effects, is_through, through_part, besides_part, marked, after_block, handed_on, own_after, after_parts}
+use Rattle.dpj_typed.specs.Effects.{does, uses, effect_of, as_effects, is_through, through_part, besides_part, marked, after_block, own_after, after_parts}
 use Rattle.dpj_typed.specs.Effects.{Own as Done}
 use Rattle.dpj_typed.specs.Plain.{Source, of_array, of_part}
 use Rattle.dpj_typed.specs.Statements.{SameEffects}
@@ -19,7 +19,7 @@ use Rattle.dpj_check.specs.Gathering.{handed_on as hand_on}
 use Rattle.dpj_check.specs.Walks.{nothing_found}
 use Rattle.dpj_accepted.specs.Gathered.{InFound, Gathers}
 use Rattle.dpj_accepted.proofs.Gathered.{nothing_in, head_in, later_in, in_cases}
-use Rattle.dpj_accepted.proofs.Left.{gathered_from, gathered_kept, gathered_new, does_same, uses_same, differ}
+use Rattle.dpj_accepted.proofs.Left.{gathered_from, gathered_kept, gathered_new}
 
 -- members of mapped and filtered lists
 

@@ -1,12 +1,12 @@
 -- A local that is declared is in scope for the judgement too.
-use Rattle.std.proofs.Common.{◌≡◌, ◌∙◌, ◌⊎◌, ◌<◌, ◌+◌, ◌==◌, ℕ, zero, suc, Bool, true, false, cond, List, [], ◌∷◌, ◌++◌, map, length, slice_get, inl, inr, ⊎_elim, Option, Some, None, option_map, option_and_then, refl, sym, ap, subst, arith}
+use Rattle.std.proofs.Common.{◌≡◌, ◌∙◌, ◌⊎◌, ◌<◌, ◌+◌, ◌==◌, ℕ, suc, Bool, true, false, cond, List, [], ◌∷◌, ◌++◌, map, length, slice_get, inl, inr, ⊎_elim, Option, Some, None, option_map, option_and_then, refl, sym, ap, subst, arith}
 use Rattle.std.proofs.lemmas.Bool.{eqb-true, eq-eqb, ne_eqb}
 use Rattle.std.proofs.lemmas.Option.{slice_get-map}
 use Rattle.dpj_base.specs.declared.ty.Ty.{Ty}
-use Rattle.dpj_base.specs.Types.{PlainType, plain_type}
+use Rattle.dpj_base.specs.Types.{plain_type}
 use Rattle.dpj_resolve.specs.Names.{last_from}
 use Rattle.dpj_typed.specs.Plain.{PlainProgram}
-use Rattle.dpj_typed.specs.Scope.{Scope, Local, variable, constant}
+use Rattle.dpj_typed.specs.Scope.{Scope}
 use Rattle.dpj_typed.specs.Scope.{with_local as in_scope}
 use Rattle.dpj_typed.specs.Statements.{declared_as}
 use Rattle.dpj_exprs.specs.declared.env.Env.{Env}

@@ -1,11 +1,11 @@
 -- Expressions that pass have their types in the judgement.
-use Rattle.std.proofs.Common.{◌≡◌, ◌∙◌, ◌⊎◌, ◌==◌, ℕ, Bool, true, false, not, ◌&&◌, ◌||◌, cond, IsTrue, is_some, ◌≤◌, List, [], ◌∷◌, ◌++◌, All, map, length, filter_map, inl, inr, Option, Some, None, option_map, option_and_then, Result, Ok, Err, refl, sym, ap, subst, arith}
+use Rattle.std.proofs.Common.{◌≡◌, ◌∙◌, ◌⊎◌, ℕ, Bool, true, false, not, ◌&&◌, ◌||◌, cond, IsTrue, is_some, ◌≤◌, List, [], ◌∷◌, ◌++◌, All, map, length, inl, inr, Option, Some, None, option_map, option_and_then, Result, Ok, Err, refl, sym, ap, subst, arith}
 use Rattle.std.proofs.lemmas.Bool.{and_parts, or_left, or_right, or_parts, eq-eqb}
 use Rattle.std.specs.List.{list_any}
 use Rattle.std.specs.Option.{option_map_or}
 use Rattle.dpj_base.specs.declared.effect.Access.TheVariants.{Read}
 use Rattle.dpj_base.specs.declared.elems.Elem.{Elem}
-use Rattle.dpj_base.specs.declared.elems.Elem.TheVariants.{At, Any}
+use Rattle.dpj_base.specs.declared.elems.Elem.TheVariants.{Any}
 use Rattle.dpj_base.specs.declared.elems.Index.{Index}
 use Rattle.dpj_base.specs.declared.elems.Index.TheVariants.{Variable}
 use Rattle.dpj_base.specs.declared.place.Place.{Place}
@@ -16,7 +16,7 @@ use Rattle.dpj_base.specs.declared.ty.Ty.{Ty}
 use Rattle.dpj_base.specs.Regions.{is_any, fully_specified, substituted}
 use Rattle.dpj_base.specs.Types.{PlainType, plain_type, type_with, path_at, type_at, rigid_in_index}
 use Rattle.dpj_base.specs.Types.{PlainType as ty}
-use Rattle.dpj_arrays.specs.Access.{PlainElement, element_of}
+use Rattle.dpj_arrays.specs.Access.{element_of}
 use Rattle.dpj_arrays.specs.Access.{index_elem as array_elem}
 use Rattle.dpj_headers.specs.declared.faults.Faults.{Faults}
 use Rattle.dpj_headers.specs.declared.faults.Order.TheVariants as order
@@ -35,46 +35,46 @@ use Rattle.dpj_tree.specs.declared.region.Suffix.{Suffix}
 use Rattle.dpj_tree.specs.Plain as tree
 use Rattle.dpj_resolve.specs.Args.{args_faults, args_given}
 use Rattle.dpj_resolve.specs.Constraints.{all_hold}
-use Rattle.dpj_resolve.specs.Index.{PlainIndex, no_index}
-use Rattle.dpj_resolve.specs.Reading.{path_meant, arg_faults}
+use Rattle.dpj_resolve.specs.Index.{no_index}
+use Rattle.dpj_resolve.specs.Reading.{arg_faults}
 use Rattle.dpj_resolve.specs.Classes.{params_in}
 use Rattle.dpj_classes.specs.declared.rows.FieldRow.{FieldRow}
 use Rattle.dpj_classes.specs.declared.rows.MethodRow.{MethodRow}
-use Rattle.dpj_classes.specs.Table.{headers_of, field_of, method_of, row_of, constructor_of, args_at, given_of, is_forking}
+use Rattle.dpj_classes.specs.Table.{headers_of, field_of, method_of, constructor_of, args_at, given_of, is_forking}
 use Rattle.dpj_typed.specs.declared.expr.BinaryOp.TheVariants as made_op
-use Rattle.dpj_typed.specs.Plain.{PlainProgram, TypedExpr, typed, type_of, TypedExprs}
+use Rattle.dpj_typed.specs.Plain.{PlainProgram, TypedExpr, typed, type_of}
 use Rattle.dpj_typed.specs.Plain.{ExprForm as form}
-use Rattle.dpj_typed.specs.Scope.{Scope, Local, variable, frozen, constant, part, reserved, Above}
+use Rattle.dpj_typed.specs.Scope.{Scope, Local, constant, part, Above}
 use Rattle.dpj_typed.specs.Effects.{Own, does, uses, reads, summary_with}
 use Rattle.dpj_typed.specs.Types.{GoodArgs, Known, Readable}
-use Rattle.dpj_typed.specs.Typing.{Holds, Has, Fit, index_elem, variable_elem, BothInts, Comparable, IsReference, StaysCalm}
+use Rattle.dpj_typed.specs.Typing.{Holds, Has, Fit, index_elem, variable_elem, BothInts, Comparable, IsReference}
 use Rattle.dpj_exprs.specs.declared.env.Env.{Env}
 use Rattle.dpj_exprs.specs.declared.env.LocalRow.{LocalRow}
 use Rattle.dpj_exprs.specs.declared.found.Found.{Found}
 use Rattle.dpj_exprs.specs.Answer.{Answer, gives, refused, read, with_access, with_part_use, with_summary, with_call}
 use Rattle.dpj_exprs.specs.Arrays.{made_names, front_of, front_told, created_array}
-use Rattle.dpj_exprs.specs.Elements.{index_of, form_index, array_element, element_through, element_read, read_element, element_in_part, part_element, part_read, read_part}
+use Rattle.dpj_exprs.specs.Elements.{index_of, array_element, element_read, read_element, element_in_part, part_read, read_part}
 use Rattle.dpj_exprs.specs.Env.{table_of, supers_of, given_in, scope_of, local_of, part_of, as_part, index_slot, index_variable_of, is_length_name}
 use Rattle.dpj_exprs.specs.Fields.{field_with, owned_field, named_field, field_through, field_read, read_field}
 use Rattle.dpj_exprs.specs.Fields.{PlainField as SeenField}
 use Rattle.dpj_exprs.specs.Found.{effect_with}
 use Rattle.dpj_exprs.specs.Locals.{local_typed, measured}
-use Rattle.dpj_exprs.specs.Operations.{unary_takes, unary_gives, unary_op, unary_typed, both, comparable, binary_takes, binary_gives, binary_form, binary_typed, node_if}
+use Rattle.dpj_exprs.specs.Operations.{unary_op, unary_typed, both, comparable, binary_takes, binary_gives, binary_form, binary_typed, node_if}
 use Rattle.dpj_exprs.specs.Partial.{is_partial_call, some_mention_partial, rigid_in_partial}
-use Rattle.dpj_exprs.specs.Typed.{type_in, node_at, nodes_at, may_be, is_int, is_boolean, is_reference, is_array, AllFit}
+use Rattle.dpj_exprs.specs.Typed.{type_in, node_at, nodes_at, is_int, is_boolean, is_reference, is_array, AllFit}
 use Rattle.dpj_exprs.specs.Typing.{answer, created, leaf_typed, AllAnswer, all_give, one_refused, Typing, TypingArray, TypingAll}
-use Rattle.dpj_exprs.specs.Uses.{args_of, args_told, args_noted, callee_params, created_params, owned_method, named_method, method_through, called, formals_of, with_constructor, UseTold, use_faults, CallOf, CallOn, Call, CreationOf, Creation}
+use Rattle.dpj_exprs.specs.Uses.{args_of, args_told, args_noted, callee_params, created_params, owned_method, named_method, method_through, formals_of, with_constructor, UseTold, use_faults, CallOf, CallOn, Call, CreationOf, Creation}
 use Rattle.dpj_resolved.proofs.Free.{noted_told, none_told, parts_free, append_none, fault_none, not_false}
-use Rattle.dpj_resolved.proofs.Lists.{some_same, ok_same, and_then_there, map_there}
+use Rattle.dpj_resolved.proofs.Lists.{some_same, ok_same}
 use Rattle.dpj_accepted.specs.Gathered.{Gathers}
 use Rattle.dpj_accepted.specs.Laws.{Stands}
-use Rattle.dpj_accepted.specs.Seen.{can_stand, AllStand, RowIs, Tells, Sees, FieldSeen, MemberSeen, MethodSeen, ClassSeen}
+use Rattle.dpj_accepted.specs.Seen.{AllStand, RowIs, Tells, Sees, FieldSeen, MethodSeen, ClassSeen}
 use Rattle.dpj_accepted.specs.Tree.{Fitting, FormFitting, AllFitting}
 use Rattle.dpj_accepted.proofs.Args.{args_good}
 use Rattle.dpj_accepted.proofs.InScope.{stands_with}
-use Rattle.dpj_accepted.proofs.Meant.{constant_slot, meant, created_good}
+use Rattle.dpj_accepted.proofs.Meant.{meant, created_good}
 use Rattle.dpj_accepted.proofs.Gathered.{nothing_gathered, one_gathered, use_gathered, then_gathered, all_gathered, gathered_nd}
-use Rattle.dpj_accepted.proofs.Partial.{known_from, readable_from, all_known}
+use Rattle.dpj_accepted.proofs.Partial.{readable_from, all_known}
 use Rattle.dpj_accepted.proofs.Paths.{Meaning}
 use Rattle.dpj_accepted.proofs.Subtypes.{fits_subtype}
 

@@ -1,7 +1,6 @@
 -- What is found after a piece, by its parts.
-use Rattle.std.proofs.Common.{◌≡◌, ◌↔◌, ◌⊎◌, ◌<◌, ℕ, Bool, true, false, ◌||◌, cond, List, [], ◌∷◌, ◌++◌, map, Contains, inl, inr, ⊎_elim, refl, sym, ap, subst, arith}
+use Rattle.std.proofs.Common.{◌≡◌, ◌⊎◌, ℕ, Bool, true, false, ◌||◌, cond, List, [], ◌∷◌, ◌++◌, map, Contains, inl, inr, ⊎_elim, refl, sym, subst, arith}
 use Rattle.std.proofs.lemmas.List.Elements.{Contains-append_left, Contains-append_right, Contains-append_cases, Contains-push, Contains-push_cases}
-use Rattle.std.proofs.lemmas.Bool.{false≢true}
 use Rattle.dpj_base.specs.declared.array_part.PartUse.{PartUse}
 use Rattle.dpj_base.specs.declared.effect.Access.{Access}
 use Rattle.dpj_base.specs.declared.effect.Effect.{Effect}
@@ -11,7 +10,7 @@ use Rattle.dpj_effects.proofs.Sets.{same_effect-is}
 use Rattle.dpj_typed.specs.Effects.{Own, does, uses}
 use Rattle.dpj_parts.specs.Uses.{use_effect}
 use Rattle.dpj_exprs.specs.declared.found.Found.{Found}
-use Rattle.dpj_exprs.specs.Answer.{with_access, with_part_use}
+use Rattle.dpj_exprs.specs.Answer.{with_part_use}
 use Rattle.dpj_exprs.specs.Found.{access_to, part_access}
 use Rattle.dpj_accepted.specs.Gathered.{InFound, Gathers}
 

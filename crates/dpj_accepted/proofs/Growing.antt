@@ -1,16 +1,13 @@
 -- How what is in scope changes from one place of a body to a later one.
-use Rattle.std.proofs.Common.{◌≡◌, ◌∙◌, ◌⊎◌, ◌<◌, ◌≤◌, ◌+◌, ◌==◌, ◌&&◌, ℕ, zero, suc, Bool, true, false, cond, List, [], ◌∷◌, ◌++◌, map, length, take, slice_get, inl, inr, ⊎_elim, Option, Some, None, option_map, option_and_then, refl, sym, ap, subst, arith}
-use Rattle.std.proofs.lemmas.Bool.{eqb-true, false≢true}
+use Rattle.std.proofs.Common.{◌≡◌, ◌∙◌, ◌≤◌, ◌+◌, ◌==◌, ℕ, suc, Bool, true, false, cond, List, [], ◌∷◌, ◌++◌, map, length, take, Option, Some, refl, sym, ap, subst, arith}
 use Rattle.dpj_base.specs.declared.ty.Ty.{Ty}
 use Rattle.dpj_base.specs.declared.ty.Ty.TheVariants as variant
-use Rattle.dpj_base.specs.Types.{PlainType, plain_type}
 use Rattle.dpj_tree.specs.declared.region.Named.{Named}
 use Rattle.dpj_exprs.specs.declared.env.Env.{Env}
 use Rattle.dpj_exprs.specs.declared.env.LocalRow.{LocalRow}
 use Rattle.dpj_exprs.specs.Env.{local_of, index_slot, local_row, part_row, with_row_in, with_local, with_part, with_region, left_to, mark_of}
-use Rattle.dpj_check.specs.Checking.{variable_declared, parts_declared}
+use Rattle.dpj_check.specs.Checking.{parts_declared}
 use Rattle.dpj_check.specs.Simple.{has_room, local_declared, part_declared, region_declared, with_regions}
-use Rattle.dpj_resolved.proofs.Lists.{some_same}
 use Rattle.dpj_accepted.specs.Seen.{InStep}
 use Rattle.dpj_accepted.proofs.Declaring.{local_pushed, step_declared, step_row}
 

@@ -1,6 +1,5 @@
 -- What passes in the judgement names nothing but what is in scope.
-use Rattle.std.proofs.Common.{◌≡◌, ◌∙◌, ◌⊎◌, ℕ, zero, suc, ◌+◌, ◌==◌, Bool, true, false, cond, List, [], ◌∷◌, ◌++◌, All, map, slice_index_or, inl, inr, Option, Some, None, refl, sym, ap, subst, arith}
-use Rattle.std.proofs.lemmas.Bool.{cases_Bool, cond-true, cond-false, eqb-true}
+use Rattle.std.proofs.Common.{◌≡◌, ℕ, zero, suc, ◌==◌, Bool, true, false, cond, List, [], ◌∷◌, ◌++◌, All, map, slice_index_or, inl, inr, Option, Some, refl, sym, subst}
 use Rattle.std.proofs.lemmas.List.Elements.{All-head, All-tail}
 use Rattle.dpj_base.specs.declared.effect.Effect.{Effect}
 use Rattle.dpj_base.specs.declared.elems.Elem.{Elem}
@@ -13,7 +12,7 @@ use Rattle.dpj_base.specs.Regions.{argument, put_at, substituted}
 use Rattle.dpj_base.specs.Types.{PlainType, int, boolean, void, null, class, array, type_with, elem_at, path_at, type_at}
 use Rattle.dpj_typed.specs.declared.expr.BinaryOp.{BinaryOp}
 use Rattle.dpj_typed.specs.declared.expr.BinaryOp.TheVariants as op
-use Rattle.dpj_typed.specs.Effects.{does, uses, reads, writes, effect_with, summary_with}
+use Rattle.dpj_typed.specs.Effects.{does, uses, summary_with}
 use Rattle.dpj_typed.specs.Effects.{Own as Done}
 use Rattle.dpj_typed.specs.Plain.{PlainProgram, TypedExpr, typed, type_of, TypedExprs}
 use Rattle.dpj_typed.specs.Plain.{ExprForm as form}

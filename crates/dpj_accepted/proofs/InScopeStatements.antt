@@ -1,27 +1,25 @@
 -- Statements that pass in the judgement do nothing but to what is in scope.
-use Rattle.std.proofs.Common.{◌≡◌, ◌∙◌, ◌⊎◌, ℕ, zero, suc, ◌+◌, ◌==◌, Bool, true, false, not, ◌||◌, cond, IsTrue, List, [], ◌∷◌, ◌++◌, All, map, filter, inl, inr, Option, Some, None, option_map, refl, sym, ap, subst, arith}
+use Rattle.std.proofs.Common.{◌≡◌, ◌∙◌, ◌⊎◌, ℕ, ◌+◌, ◌==◌, Bool, true, false, not, ◌||◌, cond, List, [], ◌∷◌, ◌++◌, All, map, inl, inr, Option, Some, None, option_map, refl, sym, ap, subst, arith}
 use Rattle.std.specs.List.{list_any}
-use Rattle.std.proofs.lemmas.Bool.{cases_Bool, cond-true, cond-false, eqb-true, eq-eqb, false≢true}
+use Rattle.std.proofs.lemmas.Bool.{eqb-true, eq-eqb, false≢true}
 use Rattle.std.proofs.lemmas.List.Elements.{All-head, All-tail, All-nil, All-append}
 use Rattle.dpj_base.specs.declared.effect.Effect.{Effect}
 use Rattle.dpj_base.specs.declared.elems.Elem.{Elem}
 use Rattle.dpj_base.specs.declared.elems.Elem.TheVariants.{Name, At, Any, Star, Local}
 use Rattle.dpj_base.specs.declared.elems.Index.TheVariants.{Literal, Variable, Renamed, Own}
 use Rattle.dpj_base.specs.declared.region.Rpl.{Rpl}
-use Rattle.dpj_base.specs.Effects.{with_mark}
-use Rattle.dpj_base.specs.Regions.{substituted, general_elem, generalised}
-use Rattle.dpj_base.specs.Types.{PlainType, int, boolean, void, null, class, array, path_at}
+use Rattle.dpj_base.specs.Regions.{general_elem, generalised}
+use Rattle.dpj_base.specs.Types.{PlainType, int, array}
 use Rattle.dpj_typed.specs.declared.stmt.Forking.{Forking}
 use Rattle.dpj_typed.specs.declared.stmt.Forking.TheVariants.{Deterministic, Nondeterministic}
-use Rattle.dpj_typed.specs.Effects.{does, uses, effect_of, mapped, marked, is_through, after_block, after_branches, outside_variable, begins_in, outside_regions, handed_on, own_after, after_parts}
+use Rattle.dpj_typed.specs.Effects.{does, uses, effect_of, mapped, marked, after_branches, outside_variable, begins_in, outside_regions, handed_on, own_after, after_parts}
 use Rattle.dpj_typed.specs.Effects.{Own as Done}
 use Rattle.dpj_typed.specs.Plain.{PlainProgram, TypedStmt, TypedStmts, TypedBranches, Source, of_array, of_part}
 use Rattle.dpj_typed.specs.Scope.{Scope, variable, frozen, constant, part, reserved, with_local, with_regions, in_atomic_block, read_alone, in_loop_branch, seen_in_branch, in_branch}
 use Rattle.dpj_typed.specs.Scope.{Local as Slot}
 use Rattle.dpj_typed.specs.Statements.{declared_as, with_part, IsFree, IsVariable, joined, all_copies, Cuts, Passes, AllPass, BranchesPass}
-use Rattle.dpj_typed.specs.Types.{GoodType}
 use Rattle.dpj_typed.specs.Typing.{index_elem}
-use Rattle.dpj_accepted.specs.Naming.{ElemNames, Anything, ElemsName, PathNames, TypeNames, IsIndex, IsRegion, SlotNames, LocalsName, ThroughPart, DoneIn, AllDoneIn, Signed}
+use Rattle.dpj_accepted.specs.Naming.{ElemNames, Anything, ElemsName, PathNames, TypeNames, IsIndex, IsRegion, SlotNames, LocalsName, DoneIn, AllDoneIn, Signed}
 use Rattle.dpj_accepted.proofs.InScope.{Over, AllOver, elems_more, type_more, slot_more, at_path, substituted_names, good_type, done_append, index_names, has_names}
 
 some_same : {A : Type 0} {x y : A} → Some x ≡ Some y → x ≡ y

@@ -1,34 +1,30 @@
 -- A written path or class type has own indices of array types with index names alone.
-use Rattle.std.proofs.Common.{◌≡◌, ◌∙◌, ◌⊎◌, ℕ, zero, suc, ◌+◌, ◌<◌, ◌≤◌, ◌==◌, min, Bool, true, false, not, ◌&&◌, ◌||◌, cond, nat_le, IsTrue, is_some, fold, List, [], ◌∷◌, ◌++◌, map, drop, length, filter_map, slice_get, inl, inr, Option, None, Some, option_map, refl, sym, ap, subst, arith}
-use Rattle.std.proofs.lemmas.Bool.{eqb-true, leb-true}
+use Rattle.std.proofs.Common.{◌≡◌, ◌∙◌, ◌⊎◌, ℕ, suc, ◌+◌, ◌≤◌, ◌==◌, min, Bool, true, false, ◌&&◌, ◌||◌, cond, is_some, List, [], ◌∷◌, ◌++◌, length, filter_map, slice_get, inl, inr, Option, None, Some, option_map, refl, ap, subst, arith}
+use Rattle.std.proofs.lemmas.Bool.{eqb-true}
 use Rattle.std.specs.List.{list_any, position_from, cons_option}
 use Rattle.std.specs.Option.{option_map_or, option_or, option_flatten}
 use Rattle.dpj_base.specs.declared.elems.Elem.{Elem}
 use Rattle.dpj_base.specs.declared.elems.Elem.TheVariants.{Name, At, Any, Star, Local}
 use Rattle.dpj_base.specs.declared.elems.Index.{Index}
 use Rattle.dpj_base.specs.declared.elems.Index.TheVariants.{Literal, Variable, Renamed, Own}
-use Rattle.dpj_base.specs.declared.place.Place.{Place}
 use Rattle.dpj_base.specs.declared.region.Rpl.{Rpl}
 use Rattle.dpj_base.specs.Regions.{same_elem}
 use Rattle.dpj_base.specs.Types.{PlainType, has_index, mentions_index}
-use Rattle.dpj_base.specs.Types.PlainType.{int, boolean, void, null, class, array}
+use Rattle.dpj_base.specs.Types.PlainType.{class, array}
 use Rattle.dpj_headers.specs.declared.header.ParamRow.{ParamRow}
 use Rattle.dpj_tree.specs.declared.region.ElemTree.{ElemTree}
 use Rattle.dpj_tree.specs.declared.region.ElemTree.TheVariants as elem
 use Rattle.dpj_tree.specs.declared.region.Named.{Named}
-use Rattle.dpj_tree.specs.declared.region.RName.{RName}
 use Rattle.dpj_tree.specs.declared.region.RplHead.{RplHead}
 use Rattle.dpj_tree.specs.declared.region.RplHead.TheVariants as head
 use Rattle.dpj_tree.specs.declared.region.RplTree.{RplTree}
-use Rattle.dpj_tree.specs.declared.region.Suffix.{Suffix}
 use Rattle.dpj_resolve.specs.declared.scope.ParamFound.{ParamFound}
-use Rattle.dpj_resolve.specs.Args.{root_path, roots, args_given}
+use Rattle.dpj_resolve.specs.Args.{roots, args_given}
 use Rattle.dpj_resolve.specs.Index.{PlainIndex, is_named, names_around}
 use Rattle.dpj_resolve.specs.Paths.{region_meant}
 use Rattle.dpj_resolve.specs.Reading.{index_meant, elem_meant, head_param, head_local, begun, head_meant, goes_on, path_meant, longer}
 use Rattle.dpj_resolve.specs.Scoped.{value_in}
 use Rattle.dpj_resolve.specs.Scopes.{PlainScope}
-use Rattle.dpj_resolve.specs.Written.{is_indexed}
 use Rattle.dpj_resolved.proofs.Lists.{some_same, map_there}
 
 -- the name at a place is written

@@ -1,9 +1,8 @@
 -- What is left of effects behind a scope: the checker takes them all at once, the judgement name by name.
-use Rattle.std.proofs.Common.{◌≡◌, ◌∙◌, ◌⊎◌, ◌↔◌, ℕ, zero, suc, ◌+◌, ◌<◌, ◌≤◌, ◌==◌, Bool, true, false, not, ◌||◌, cond, nat_le, IsTrue, List, [], ◌∷◌, ◌++◌, map, filter, Contains, inl, inr, ⊎_elim, Option, Some, None, refl, sym, ap, subst, arith}
+use Rattle.std.proofs.Common.{◌≡◌, ◌∙◌, ◌⊎◌, ℕ, ◌+◌, ◌<◌, ◌≤◌, ◌==◌, Bool, true, false, not, cond, nat_le, List, [], ◌∷◌, ◌++◌, map, Contains, inl, inr, ⊎_elim, Option, Some, None, refl, sym, ap, subst, arith}
 use Rattle.std.specs.List.{list_any}
-use Rattle.std.proofs.lemmas.Bool.{cases_Bool, eqb-true, eq-eqb, ne_eqb, leb-true, leb-false, false≢true}
+use Rattle.std.proofs.lemmas.Bool.{cases_Bool, eq-eqb, ne_eqb, leb-true, leb-false, false≢true}
 use Rattle.std.proofs.lemmas.List.Elements.{Contains-append_left, Contains-append_right, Contains-append_cases}
-use Rattle.dpj_base.specs.declared.array_part.PartUse.{PartUse}
 use Rattle.dpj_base.specs.declared.effect.Effect.{Effect}
 use Rattle.dpj_base.specs.declared.elems.Elem.{Elem}
 use Rattle.dpj_base.specs.declared.elems.Elem.TheVariants.{Name, At, Any, Star, Local}
@@ -12,11 +11,10 @@ use Rattle.dpj_base.specs.declared.region.Rpl.{Rpl}
 use Rattle.dpj_base.specs.Effects.{added, gathered}
 use Rattle.dpj_base.specs.Regions.{general_elem, generalised}
 use Rattle.dpj_base.specs.Types.{PlainType}
-use Rattle.dpj_typed.specs.Effects.{does, uses, effect_of, mapped, marked, outside_variable, begins_in, outside_regions}
+use Rattle.dpj_typed.specs.Effects.{does, uses, mapped, marked, outside_variable, begins_in, outside_regions}
 use Rattle.dpj_typed.specs.Effects.{Own as Done}
-use Rattle.dpj_typed.specs.Scope.{Scope, part, with_local, with_regions}
+use Rattle.dpj_typed.specs.Scope.{Scope, part}
 use Rattle.dpj_typed.specs.Scope.{Local as Slot}
-use Rattle.dpj_parts.specs.Uses.{use_effect}
 use Rattle.dpj_exprs.specs.declared.found.Found.{Found}
 use Rattle.dpj_check.specs.declared.leaving.Leaving.{Leaving}
 use Rattle.dpj_check.specs.declared.leaving.Marks.{Marks}
@@ -25,11 +23,10 @@ use Rattle.dpj_check.specs.Gathering.{all_left, taken_in}
 use Rattle.dpj_check.specs.Gathering.{before as put_before}
 use Rattle.dpj_check.specs.Leaving.{left_elem, left_path, left_mark, begins_inside, left_effect}
 use Rattle.dpj_check.specs.Walks.{nothing_found}
-use Rattle.dpj_accepted.specs.Gathered.{InFound, Gathers}
-use Rattle.dpj_accepted.specs.Naming.{ElemNames, Anything, ElemsName, PathNames, IsIndex, IsRegion, LocalsName, ThroughPart, DoneIn, AllDoneIn}
+use Rattle.dpj_accepted.specs.Gathered.{Gathers}
+use Rattle.dpj_accepted.specs.Naming.{ElemNames, Anything, ElemsName, PathNames, IsIndex, IsRegion, DoneIn, AllDoneIn}
 use Rattle.dpj_accepted.proofs.Gathered.{nothing_in, head_in, later_in, in_cases, added_from, added_kept, added_new}
 use Rattle.dpj_accepted.proofs.InScope.{Over, AllOver, elems_more, any_elem}
-use Rattle.dpj_accepted.proofs.InScopeStatements.{path_stays, back_index, back_part}
 use Rattle.dpj_resolved.proofs.Lists.{some_same}
 
 -- what is left of what is done; what is done through parts that are seen from outside stays

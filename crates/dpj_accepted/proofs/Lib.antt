@@ -22,3 +22,4 @@ pub mod Bodies
 pub mod Loops
 pub mod LocalRegions
 pub mod PartLoops
+pub mod Cobegins

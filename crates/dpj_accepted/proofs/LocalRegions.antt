@@ -1,5 +1,5 @@
 -- Local regions that are declared are in scope for the judgement too.
-use Rattle.std.proofs.Common.{◌≡◌, ◌∙◌, ◌⊎◌, ◌<◌, ◌≤◌, ◌+◌, ◌==◌, ◌||◌, ℕ, zero, suc, Bool, true, false, not, cond, IsTrue, List, [], ◌∷◌, ◌++◌, All, map, length, slice_get, inl, inr, ⊎_elim, Option, Some, None, option_and_then, refl, sym, ap, subst, arith}
+use Rattle.std.proofs.Common.{◌≡◌, ◌∙◌, ◌⊎◌, ◌<◌, ◌≤◌, ◌+◌, ◌==◌, ◌||◌, ℕ, Bool, true, false, cond, IsTrue, List, [], ◌∷◌, ◌++◌, All, length, slice_get, inl, inr, ⊎_elim, Option, Some, None, option_and_then, refl, sym, ap, subst, arith}
 use Rattle.std.specs.List.{list_any}
 use Rattle.std.proofs.lemmas.Bool.{cases_Bool, eqb-true, eqb-false, false≢true}
 use Rattle.std.proofs.lemmas.List.Elements.{All-nil, All-cons}
@@ -8,8 +8,6 @@ use Rattle.dpj_base.specs.declared.elems.Elem.TheVariants.{Name, At, Any, Star, 
 use Rattle.dpj_base.specs.declared.elems.Index.TheVariants.{Literal, Variable, Renamed, Own}
 use Rattle.dpj_base.specs.declared.place.Place.{Place}
 use Rattle.dpj_base.specs.declared.refusal.Kind.TheVariants as kind
-use Rattle.dpj_base.specs.declared.region.Rpl.{Rpl}
-use Rattle.dpj_base.specs.Types.{PlainType}
 use Rattle.dpj_resolve.specs.Names.{last_from}
 use Rattle.dpj_resolve.specs.Scoped.{value_in}
 use Rattle.dpj_tree.specs.declared.region.Named.{Named}
@@ -18,12 +16,11 @@ use Rattle.dpj_typed.specs.Plain.{PlainProgram, TypedStmts, statement}
 use Rattle.dpj_typed.specs.Plain as typed
 use Rattle.dpj_typed.specs.Scope.{Scope, part}
 use Rattle.dpj_typed.specs.Scope.{with_regions as with_these}
-use Rattle.dpj_typed.specs.Scope.{Local as Slot}
 use Rattle.dpj_typed.specs.Effects.{begins_in, outside_regions}
 use Rattle.dpj_typed.specs.Effects.{Own as Done}
 use Rattle.dpj_typed.specs.Statements.{AllPass}
 use Rattle.dpj_exprs.specs.declared.env.Env.{Env}
-use Rattle.dpj_exprs.specs.Env.{table_of, with_region, is_param_name, has_region}
+use Rattle.dpj_exprs.specs.Env.{table_of, with_region}
 use Rattle.dpj_check.specs.declared.leaving.Marks.TheVariants as marks
 use Rattle.dpj_check.specs.declared.node.Around.{Around}
 use Rattle.dpj_check.specs.declared.node.Node.{Node}
@@ -34,7 +31,7 @@ use Rattle.dpj_resolved.proofs.Bodies.{regions_free}
 use Rattle.dpj_resolved.proofs.Free.{noted_told}
 use Rattle.dpj_resolved.proofs.Lists.{some_same, got_first, got_later, there}
 use Rattle.dpj_accepted.specs.Naming.{ElemsName, IsIndex, IsRegion, Signed}
-use Rattle.dpj_accepted.specs.Ready.{Ready, Room, Calm}
+use Rattle.dpj_accepted.specs.Ready.{Ready, Room}
 use Rattle.dpj_accepted.specs.Seen.{Tells, Sees, InStep, Returns}
 use Rattle.dpj_accepted.proofs.Declaring.{last_push, last_within}
 use Rattle.dpj_accepted.proofs.Gathered.{nothing_gathered}

@@ -1,13 +1,11 @@
 -- A `foreach` passes where its body does.
-use Rattle.std.proofs.Common.{◌≡◌, ◌∙◌, ◌⊎◌, ◌<◌, ◌≤◌, ◌+◌, ◌==◌, ℕ, zero, suc, Bool, true, false, not, ◌&&◌, ◌||◌, cond, IsTrue, List, [], ◌∷◌, ◌++◌, map, inl, inr, ⊎_elim, Option, Some, None, option_map, refl, sym, ap, subst, arith, rules}
-use Rattle.std.proofs.lemmas.Bool.{or_right, or_parts, false≢true}
-use Rattle.dpj_base.specs.declared.effect.Effect.{Effect}
-use Rattle.dpj_base.specs.declared.effect.Constraint.{Constraint}
+use Rattle.std.proofs.Common.{◌≡◌, ◌∙◌, ◌⊎◌, ◌<◌, ◌≤◌, ◌+◌, ◌==◌, ℕ, Bool, true, false, not, ◌&&◌, ◌||◌, IsTrue, List, ◌++◌, map, inl, inr, Some, None, refl, sym, ap, subst, arith, rules}
+use Rattle.std.proofs.lemmas.Bool.{or_parts, false≢true}
 use Rattle.dpj_base.specs.declared.place.Place.{Place}
 use Rattle.dpj_base.specs.declared.region.Rpl.{Rpl}
-use Rattle.dpj_base.specs.declared.ty.Ty.{Ty, the_lemmas}
+use Rattle.dpj_base.specs.declared.ty.Ty.{the_lemmas}
 use Rattle.dpj_base.specs.declared.ty.Ty.TheVariants as variant
-use Rattle.dpj_base.specs.Branches.{Atomic, iterations_clash}
+use Rattle.dpj_base.specs.Branches.{iterations_clash}
 use Rattle.dpj_base.specs.Types.{PlainType, plain_type}
 use Rattle.dpj_base.specs.Types.{PlainType as ty}
 use Rattle.dpj_headers.specs.Headers.{atomic_regions}
@@ -15,22 +13,17 @@ use Rattle.dpj_classes.specs.Table.{headers_of}
 use Rattle.dpj_tree.specs.declared.region.Named.{Named}
 use Rattle.dpj_locals.specs.Touches.{stmt_reads, stmt_assigns}
 use Rattle.dpj_tree.specs.Plain.{PlainStmt}
-use Rattle.dpj_typed.specs.declared.stmt.Forking.{Forking as Order}
-use Rattle.dpj_typed.specs.declared.stmt.Forking.TheVariants.{Deterministic, Nondeterministic}
+use Rattle.dpj_typed.specs.declared.stmt.Forking.TheVariants.{Deterministic}
 use Rattle.dpj_typed.specs.Plain.{PlainProgram, TypedExpr, type_of, TypedStmt, statement}
 use Rattle.dpj_typed.specs.Plain as typed
 use Rattle.dpj_typed.specs.Scope.{Scope, constant, part, in_loop_branch, atomic_for}
 use Rattle.dpj_typed.specs.Scope.{with_local as in_scope}
-use Rattle.dpj_typed.specs.Scope.{Local as Slot}
-use Rattle.dpj_typed.specs.Effects.{marked, after_branches, outside_variable, as_effects}
+use Rattle.dpj_typed.specs.Effects.{after_branches, outside_variable, as_effects}
 use Rattle.dpj_typed.specs.Effects.{Own as Done}
-use Rattle.dpj_typed.specs.Statements.{AllPass, Passes}
+use Rattle.dpj_typed.specs.Statements.{Passes}
 use Rattle.dpj_exprs.specs.declared.env.Env.{Env}
-use Rattle.dpj_exprs.specs.declared.env.LocalRow.{LocalRow}
 use Rattle.dpj_exprs.specs.declared.found.Found.{Found}
-use Rattle.dpj_exprs.specs.Env.{table_of, given_in, local_row, with_local, left_to, mark_of}
-use Rattle.dpj_check.specs.declared.leaving.Marks.{Marks}
-use Rattle.dpj_check.specs.declared.leaving.Marks.TheVariants as marks
+use Rattle.dpj_exprs.specs.Env.{table_of, given_in, local_row, with_local}
 use Rattle.dpj_check.specs.declared.node.Around.{Around}
 use Rattle.dpj_check.specs.Checking.{closed, with_nd, forking_of}
 use Rattle.dpj_check.specs.Deciding.{marks_after}
@@ -42,11 +35,10 @@ use Rattle.dpj_check.specs.Walks.{Walk, nothing_found, found_so}
 use Rattle.dpj_accepted.specs.Gathered.{Gathers}
 use Rattle.dpj_accepted.specs.Laws.{Stands}
 use Rattle.dpj_accepted.specs.Naming.{IsIndex, IsRegion, LocalsName, AllDoneIn, Signed}
-use Rattle.dpj_accepted.specs.Ready.{Ready, Room, Calm}
-use Rattle.dpj_accepted.specs.Seen.{RowIs, Tells}
+use Rattle.dpj_accepted.specs.Ready.{Ready, Calm}
+use Rattle.dpj_accepted.specs.Seen.{RowIs}
 use Rattle.dpj_accepted.proofs.Clashing.{same_effects, iterations_fewer}
 use Rattle.dpj_accepted.proofs.Gathered.{then_gathered, gathered_nd}
-use Rattle.dpj_accepted.proofs.Growing.{Kept}
 use Rattle.dpj_accepted.proofs.InScope.{all_over_of}
 use Rattle.dpj_accepted.proofs.InScopeStatements.{path_stays, free_none, only_index, alone_index, alone_part, part_parts, no_constant_part, all_names}
 use Rattle.dpj_accepted.proofs.Left.{left, left_general, taken, marked_by}

@@ -1,5 +1,5 @@
 -- What names mean around a place of a body is what is in scope; so arrays that are created without a fault have good types.
-use Rattle.std.proofs.Common.{◌≡◌, ◌∙◌, ◌⊎◌, ◌≤◌, ◌==◌, ◌+◌, ℕ, zero, suc, Bool, true, false, not, ◌&&◌, ◌||◌, cond, IsTrue, is_some, List, [], ◌∷◌, ◌++◌, drop, map, length, flat_map, inl, inr, Option, Some, None, option_map, option_and_then, Result, Ok, Err, refl, sym, ap, subst, arith}
+use Rattle.std.proofs.Common.{◌≡◌, ◌∙◌, ◌⊎◌, ◌≤◌, ◌==◌, ◌+◌, ℕ, suc, Bool, true, false, not, ◌&&◌, cond, IsTrue, is_some, List, [], ◌∷◌, ◌++◌, drop, length, flat_map, inl, inr, Option, Some, None, option_and_then, Result, Ok, Err, refl, sym, ap, subst, arith}
 use Rattle.std.proofs.lemmas.Bool.{and_parts, eqb-true}
 use Rattle.std.proofs.lemmas.List.Elements.{All-nil}
 use Rattle.std.specs.List.{list_any, list_all}
@@ -13,18 +13,17 @@ use Rattle.dpj_base.specs.Types.{PlainType, plain_type}
 use Rattle.dpj_base.specs.Types.{PlainType as ty}
 use Rattle.dpj_headers.specs.declared.faults.Order.TheVariants as order
 use Rattle.dpj_headers.specs.Faults.{none_by}
-use Rattle.dpj_headers.specs.Headers.{class_of}
-use Rattle.dpj_headers.specs.Passes.{fault, fault_if}
+use Rattle.dpj_headers.specs.Passes.{fault_if}
 use Rattle.dpj_tree.specs.declared.region.BaseTree.{BaseTree}
 use Rattle.dpj_tree.specs.declared.region.Named.{Named}
 use Rattle.dpj_tree.specs.declared.region.RplTree.{RplTree}
 use Rattle.dpj_tree.specs.declared.region.Suffix.{Suffix}
 use Rattle.dpj_tree.specs.declared.region.TypeTree.{TypeTree}
-use Rattle.dpj_resolve.specs.Args.{root_path, begins_local, local_fault}
+use Rattle.dpj_resolve.specs.Args.{begins_local, local_fault}
 use Rattle.dpj_resolve.specs.Index.{PlainIndex}
 use Rattle.dpj_resolve.specs.Paths.{is_specified, is_plain, misfits}
 use Rattle.dpj_resolve.specs.Reading.{elem_faults, is_misplaced, head_faults, path_atomic, path_meant, path_faults}
-use Rattle.dpj_resolve.specs.Written.{at_suffix, is_flat, base_read, base_faults, local_from, type_read, type_parts, judged_type, type_meant, type_faults, array_meant, array_faults, own_fault}
+use Rattle.dpj_resolve.specs.Written.{is_flat, base_read, base_faults, local_from, type_read, type_parts, judged_type, type_faults, array_meant, array_faults, own_fault}
 use Rattle.dpj_typed.specs.Plain.{PlainProgram}
 use Rattle.dpj_typed.specs.Scope.{Scope, Local, constant}
 use Rattle.dpj_typed.specs.Types.{GoodPath, LocalPath, GoodType, IsFlat}
@@ -35,7 +34,7 @@ use Rattle.dpj_exprs.specs.Env.{table_of, scope_of, local_of, index_slot, index_
 use Rattle.dpj_exprs.specs.Refusing.{told_first}
 use Rattle.dpj_exprs.specs.Typed.{may_be, is_int}
 use Rattle.dpj_check.specs.Simple.{declared_type, declared_told}
-use Rattle.dpj_resolved.proofs.Free.{none_told, parts_free, append_none, fault_none, NoFaults, not_false}
+use Rattle.dpj_resolved.proofs.Free.{none_told, parts_free, append_none, fault_none, not_false}
 use Rattle.dpj_resolved.proofs.Known.{type_known}
 use Rattle.dpj_resolved.proofs.Lists.{some_same, ok_same, and_then_there, map_there}
 use Rattle.dpj_accepted.specs.Seen.{RowIs, Tells, Sees}

@@ -1,6 +1,6 @@
 -- A `foreach_parts` passes where its body does.
-use Rattle.std.proofs.Common.{◌≡◌, ◌∙◌, ◌⊎◌, ◌<◌, ◌≤◌, ◌+◌, ◌==◌, ℕ, zero, suc, Bool, true, false, not, ◌&&◌, ◌||◌, cond, IsTrue, List, [], ◌∷◌, ◌++◌, All, map, inl, inr, ⊎_elim, Option, Some, None, option_map, refl, sym, ap, subst, arith}
-use Rattle.std.proofs.lemmas.Bool.{or_parts, eqb-true, eq-eqb, ne_eqb, false≢true}
+use Rattle.std.proofs.Common.{◌≡◌, ◌∙◌, ◌<◌, ◌≤◌, ◌+◌, ◌==◌, ℕ, Bool, true, false, not, ◌&&◌, cond, IsTrue, List, [], ◌∷◌, ◌++◌, All, inl, inr, ⊎_elim, Option, Some, None, option_map, refl, sym, ap, subst, arith}
+use Rattle.std.proofs.lemmas.Bool.{or_parts, eqb-true, ne_eqb, false≢true}
 use Rattle.std.proofs.lemmas.List.Elements.{All-nil, All-cons}
 use Rattle.dpj_base.specs.declared.place.Place.{Place}
 use Rattle.dpj_base.specs.declared.refusal.Kind.{Kind}
@@ -29,7 +29,7 @@ use Rattle.dpj_exprs.specs.declared.env.Env.{Env}
 use Rattle.dpj_exprs.specs.declared.env.LocalRow.{LocalRow}
 use Rattle.dpj_exprs.specs.declared.found.Found.{Found}
 use Rattle.dpj_exprs.specs.Answer.{gives}
-use Rattle.dpj_exprs.specs.Env.{given_in, local_of, part_of, local_row, part_row, with_local, with_part}
+use Rattle.dpj_exprs.specs.Env.{given_in, local_of, local_row, part_row, with_local, with_part}
 use Rattle.dpj_exprs.specs.Typing.{Typing}
 use Rattle.dpj_check.specs.declared.leaving.Marks.TheVariants as marks
 use Rattle.dpj_check.specs.declared.node.Around.{Around}
@@ -57,7 +57,7 @@ use Rattle.dpj_accepted.proofs.InScopeStatements.{path_stays, free_none, locals_
 use Rattle.dpj_accepted.proofs.Left.{left, left_general, taken}
 use Rattle.dpj_accepted.proofs.Loops.{int_plain, marks_same}
 use Rattle.dpj_accepted.proofs.Readiness.{ready_loop, ready_row, none_at}
-use Rattle.dpj_accepted.proofs.Statements.{and_both, not_so, ScopeGoes, Plainly, expr_at}
+use Rattle.dpj_accepted.proofs.Statements.{and_both, not_so, Plainly, expr_at}
 
 -- a slot that is reserved beside those of the locals
 ready_reserved : (P : PlainProgram) (L : Scope) (env : Env) (params : List Bool) (around : Around) (r a : ℕ → Bool) (x : ℕ) → Ready P L env params around r a →

@@ -5,7 +5,7 @@ use Rattle.std.proofs.lemmas.List.Elements.{All-nil, All-cons, All-head, All-tai
 use Rattle.dpj_base.specs.declared.region.Head.TheVariants.{Param}
 use Rattle.dpj_base.specs.declared.region.Rpl.{Rpl}
 use Rattle.dpj_base.specs.declared.ty.Ty.{Ty}
-use Rattle.dpj_base.specs.Regions.{fully_specified, argument}
+use Rattle.dpj_base.specs.Regions.{fully_specified}
 use Rattle.dpj_base.specs.Types.{PlainType, plain_type, mentions_param, rigid_in_param}
 use Rattle.dpj_exprs.specs.Partial.{param_number, mentions_partial, rigid_in_partial, some_mention_partial}
 use Rattle.dpj_typed.specs.Types.{Known, Readable}

@@ -1,26 +1,19 @@
 -- Region paths and region arguments that are written without a fault are good where they stand.
-use Rattle.std.proofs.Common.{◌≡◌, ◌∙◌, ◌⊎◌, ℕ, zero, suc, ◌+◌, ◌<◌, ◌≤◌, ◌==◌, min, Bool, true, false, not, ◌&&◌, ◌||◌, cond, IsTrue, is_none, fold, List, [], ◌∷◌, ◌++◌, All, map, drop, length, filter_map, flat_map, slice_get, slice_index_or, inl, inr, ⊎_elim, Option, None, Some, option_map, option_and_then, refl, sym, ap, subst, arith}
-use Rattle.std.proofs.lemmas.Bool.{eqb-true, or_parts}
-use Rattle.std.proofs.lemmas.List.Elements.{All-nil, All-cons, All-push, All-from_recursion}
-use Rattle.std.specs.List.{list_any, list_all, cons_option, position_from, AllByRecursion}
+use Rattle.std.proofs.Common.{◌≡◌, ◌∙◌, ◌⊎◌, ℕ, suc, ◌+◌, ◌<◌, ◌≤◌, ◌==◌, min, Bool, true, false, ◌&&◌, ◌||◌, cond, IsTrue, fold, List, [], ◌∷◌, ◌++◌, All, map, drop, length, slice_index_or, inl, inr, Option, None, Some, option_map, option_and_then, refl, sym, ap, subst, arith}
+use Rattle.std.proofs.lemmas.List.Elements.{All-nil, All-cons, All-push}
+use Rattle.std.specs.List.{list_all, position_from}
 use Rattle.std.specs.Option.{option_map_or, option_or, option_flatten}
-use Rattle.dpj_base.specs.declared.effect.Constraint.{Constraint}
 use Rattle.dpj_base.specs.declared.elems.Elem.{Elem}
-use Rattle.dpj_base.specs.declared.elems.Elem.TheVariants.{Name, At, Any, Star, Local}
+use Rattle.dpj_base.specs.declared.elems.Elem.TheVariants.{Name, At, Local}
 use Rattle.dpj_base.specs.declared.elems.Index.{Index}
-use Rattle.dpj_base.specs.declared.elems.Index.TheVariants.{Literal, Variable, Own}
-use Rattle.dpj_base.specs.declared.place.Place.{Place}
-use Rattle.dpj_base.specs.declared.refusal.Kind.TheVariants as kind
-use Rattle.dpj_base.specs.declared.region.Head.TheVariants.{Root, Param}
+use Rattle.dpj_base.specs.declared.elems.Index.TheVariants.{Variable, Own}
+use Rattle.dpj_base.specs.declared.region.Head.TheVariants.{Param}
 use Rattle.dpj_base.specs.declared.region.Rpl.{Rpl}
-use Rattle.dpj_base.specs.Apart.{apart}
 use Rattle.dpj_base.specs.Branches.{Atomic, is_atomic_name, all_index, ends_atomic, atomic_head, atomic_path}
-use Rattle.dpj_base.specs.Regions.{is_index, all_specified, fully_specified, substituted}
+use Rattle.dpj_base.specs.Regions.{is_index, all_specified, fully_specified}
 use Rattle.dpj_base.specs.Regions.{is_specified as elem_specified}
 use Rattle.dpj_base.specs.Types.{PlainType as ty}
-use Rattle.dpj_headers.specs.declared.header.ParamRow.{ParamRow}
 use Rattle.dpj_headers.specs.Headers.{class_of, region_of, atomic_regions}
-use Rattle.dpj_headers.specs.Passes.{fault_if}
 use Rattle.dpj_tree.specs.declared.region.ElemTree.{ElemTree}
 use Rattle.dpj_tree.specs.declared.region.ElemTree.TheVariants as elem
 use Rattle.dpj_tree.specs.declared.region.Named.{Named}
@@ -29,20 +22,16 @@ use Rattle.dpj_tree.specs.declared.region.RplHead.{RplHead}
 use Rattle.dpj_tree.specs.declared.region.RplHead.TheVariants as head
 use Rattle.dpj_tree.specs.declared.region.RplTree.{RplTree}
 use Rattle.dpj_tree.specs.declared.region.Suffix.{Suffix}
-use Rattle.dpj_resolve.specs.declared.paths.Need.{Need}
 use Rattle.dpj_resolve.specs.declared.scope.ParamFound.{ParamFound}
-use Rattle.dpj_resolve.specs.Args.{root_path, roots, args_given, args_faults, begins_local, first_local, local_fault, is_unfit}
-use Rattle.dpj_resolve.specs.Constraints.{all_hold, holds_at}
-use Rattle.dpj_resolve.specs.Index.{PlainIndex, no_index, is_named, names_around, index_name}
-use Rattle.dpj_resolve.specs.Paths.{is_specified, is_plain, misfits, region_meant, is_atomic_region}
-use Rattle.dpj_resolve.specs.Reading.{index_meant, elem_meant, elem_faults, is_misplaced, head_param, head_local, below_root, begun, head_meant, head_faults, region_atomic, begun_atomic, head_atomic, atomic_with, path_atomic, longer, longer_if, goes_on, path_meant, path_faults, arg_need, each_faults, arg_faults, local_with, args_read}
+use Rattle.dpj_resolve.specs.Args.{root_path, begins_local}
+use Rattle.dpj_resolve.specs.Index.{PlainIndex, is_named, names_around}
+use Rattle.dpj_resolve.specs.Paths.{is_specified, region_meant, is_atomic_region}
+use Rattle.dpj_resolve.specs.Reading.{index_meant, elem_meant, head_param, head_local, below_root, begun, head_meant, region_atomic, begun_atomic, head_atomic, atomic_with, path_atomic, longer, goes_on, path_meant}
 use Rattle.dpj_resolve.specs.Scoped.{value_in}
-use Rattle.dpj_resolve.specs.Scopes.{PlainScope, is_atomic_at, param_meant}
+use Rattle.dpj_resolve.specs.Scopes.{PlainScope, param_meant}
 use Rattle.dpj_typed.specs.Plain.{PlainProgram}
 use Rattle.dpj_typed.specs.Scope.{Scope, constant, atomic_in}
-use Rattle.dpj_typed.specs.Types.{GoodElem, GoodHead, GoodPath, LocalPath, GoodArgs}
-use Rattle.dpj_resolved.proofs.Free.{append_none, fault_none, NoFaults, not_false}
-use Rattle.dpj_resolved.proofs.Known.{path_known}
+use Rattle.dpj_typed.specs.Types.{GoodElem, GoodPath, LocalPath}
 use Rattle.dpj_resolved.proofs.Lists.{some_same, and_then_there, map_there}
 
 -- the names around a place mean what is in scope

@@ -1,25 +1,20 @@
 -- What is asked of a place in a body holds at the places after it and in its branches.
-use Rattle.std.proofs.Common.{◌≡◌, ◌∙◌, ◌⊎◌, ◌<◌, ◌≤◌, ◌+◌, ◌==◌, ◌&&◌, ℕ, zero, suc, Bool, true, false, not, cond, IsTrue, List, [], ◌∷◌, inl, inr, ⊎_elim, Option, Some, None, option_map, option_and_then, refl, sym, ap, subst, arith, rules}
+use Rattle.std.proofs.Common.{◌≡◌, ◌∙◌, ◌<◌, ◌≤◌, ◌==◌, ℕ, Bool, true, false, cond, IsTrue, List, Option, Some, None, option_map, refl, sym, ap, subst, arith}
 use Rattle.std.proofs.lemmas.Bool.{eqb-true, eq-eqb, ne_eqb, false≢true}
-use Rattle.dpj_base.specs.declared.ty.Ty.{Ty, the_lemmas}
-use Rattle.dpj_base.specs.declared.ty.Ty.TheVariants as variant
-use Rattle.dpj_base.specs.declared.region.Rpl.{Rpl}
-use Rattle.dpj_base.specs.Types.{PlainType, plain_type}
-use Rattle.dpj_base.specs.Types.{PlainType as ty}
+use Rattle.dpj_base.specs.Types.{plain_type}
 use Rattle.dpj_typed.specs.Plain.{PlainProgram}
-use Rattle.dpj_typed.specs.Scope.{Scope, variable, frozen, constant, part, reserved, read_alone, in_loop_branch, in_atomic_block}
+use Rattle.dpj_typed.specs.Scope.{Scope, read_alone, in_loop_branch, in_atomic_block}
 use Rattle.dpj_typed.specs.Scope.{with_local as in_scope}
 use Rattle.dpj_typed.specs.Scope.{Local as Slot}
-use Rattle.dpj_typed.specs.Statements.{declared_as}
 use Rattle.dpj_exprs.specs.declared.env.Env.{Env}
 use Rattle.dpj_exprs.specs.declared.env.LocalRow.{LocalRow}
-use Rattle.dpj_exprs.specs.Env.{table_of, local_of, index_slot, local_row, part_row, with_row_in, with_local}
+use Rattle.dpj_exprs.specs.Env.{table_of, local_of, with_row_in}
 use Rattle.dpj_check.specs.declared.node.Around.{Around}
 use Rattle.dpj_check.specs.Keeping.{inside}
 use Rattle.dpj_resolved.proofs.Lists.{some_same}
-use Rattle.dpj_accepted.specs.Naming.{IsIndex, IsRegion, TypeNames, SlotNames, LocalsName}
+use Rattle.dpj_accepted.specs.Naming.{IsIndex, IsRegion, SlotNames}
 use Rattle.dpj_accepted.specs.Ready.{Ready}
-use Rattle.dpj_accepted.specs.Seen.{can_stand, RowIs, Tells, Sees, InStep, Returns}
+use Rattle.dpj_accepted.specs.Seen.{can_stand, RowIs, Tells, Sees, Returns}
 use Rattle.dpj_accepted.proofs.Declaring.{local_pushed, indices_told, step_row}
 use Rattle.dpj_accepted.proofs.Growing.{Kept, kept_step}
 use Rattle.dpj_accepted.proofs.InScopeStatements.{locals_with, locals_loop, free_none}
@@ -108,7 +103,7 @@ ready_atomic P L env params around reads assigns ready = record {
 
 -- in a branch of a loop, which assigns no outer local
 
-row_alone : (r a : Bool) (row : LocalRow) (o : Option Slot) → RowIs r a row o → RowIs r false row (option_map read_alone o)
+pub row_alone : (r a : Bool) (row : LocalRow) (o : Option Slot) → RowIs r a row o → RowIs r false row (option_map read_alone o)
 row_alone r a row o (RowIs.is_part p q same) = RowIs.is_part p q same
 row_alone r a row o (RowIs.is_constant p g) = RowIs.is_constant p g
 row_alone r a row o (RowIs.is_variable p g) = RowIs.is_frozen p g refl

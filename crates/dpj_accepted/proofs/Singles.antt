@@ -1,13 +1,11 @@
 -- Statements that hold no other pass: what they hold has its types.
-use Rattle.std.proofs.Common.{◌≡◌, ◌∙◌, ◌⊎◌, ◌↔◌, ℕ, Bool, true, false, not, ◌&&◌, ◌||◌, cond, IsTrue, List, inl, inr, Option, Some, None, Result, Ok, Err, refl, sym, ap, subst}
+use Rattle.std.proofs.Common.{◌≡◌, ◌∙◌, ℕ, Bool, true, false, not, ◌||◌, cond, IsTrue, List, inl, inr, Option, Some, None, Result, refl, sym, ap, subst}
 use Rattle.std.proofs.lemmas.Bool.{or_parts}
 use Rattle.dpj_base.specs.declared.refusal.Kind.{Kind}
 use Rattle.dpj_base.specs.declared.refusal.Kind.TheVariants as kind
 use Rattle.dpj_base.specs.declared.refusal.Refusal.{Refusal}
 use Rattle.dpj_base.specs.Effects.{same_bool}
-use Rattle.dpj_base.specs.Types.{PlainType, plain_type}
-use Rattle.dpj_base.specs.Types.{PlainType as ty}
-use Rattle.dpj_headers.specs.Faults.{told, noted}
+use Rattle.dpj_base.specs.Types.{plain_type}
 use Rattle.dpj_locals.specs.Touches.{expr_reads}
 use Rattle.dpj_tree.specs.declared.region.Named.{Named}
 use Rattle.dpj_tree.specs.Plain as tree
@@ -18,7 +16,6 @@ use Rattle.dpj_typed.specs.Plain.{PlainProgram, TypedExpr, type_of, TypedStmt, s
 use Rattle.dpj_typed.specs.Plain.{StmtForm as stmt}
 use Rattle.dpj_typed.specs.Scope.{Scope, Local, variable}
 use Rattle.dpj_typed.specs.Effects.{Own}
-use Rattle.dpj_typed.specs.Types.{Subtype}
 use Rattle.dpj_typed.specs.Typing.{Has}
 use Rattle.dpj_typed.specs.Statements.{Passes}
 use Rattle.dpj_typed.specs.Statements.{IsPerformed as PerformedForm}
@@ -26,20 +23,19 @@ use Rattle.dpj_exprs.specs.declared.env.Env.{Env}
 use Rattle.dpj_exprs.specs.declared.env.LocalRow.{LocalRow}
 use Rattle.dpj_exprs.specs.declared.found.Found.{Found}
 use Rattle.dpj_exprs.specs.Answer.{Answer, gives, refused}
-use Rattle.dpj_exprs.specs.Env.{table_of, supers_of, local_of}
+use Rattle.dpj_exprs.specs.Env.{table_of, supers_of}
 use Rattle.dpj_exprs.specs.Typed.{type_in, is_int, is_boolean, FitsAs}
-use Rattle.dpj_exprs.specs.Typing.{answer, leaf_typed, Typing, TypingArray}
+use Rattle.dpj_exprs.specs.Typing.{leaf_typed, Typing}
 use Rattle.dpj_exprs.specs.Uses.{CallOf, CallOn, Call, CreationOf, Creation}
 use Rattle.dpj_check.specs.declared.node.Around.{Around}
 use Rattle.dpj_check.specs.declared.node.Node.{Node}
 use Rattle.dpj_check.specs.Deciding.{is_misplaced, local_fault, Returned}
-use Rattle.dpj_check.specs.Noting.{with_fault, with_found, with_fault_if, fault_of}
-use Rattle.dpj_check.specs.Simple.{FitIs, node_of, AssigningLocal, Performing, Returning, Printing, may_print, printed_form}
-use Rattle.dpj_check.specs.Walks.{Walk, Verdict, passes, judged, found_so}
+use Rattle.dpj_check.specs.Noting.{with_found, with_fault_if, fault_of}
+use Rattle.dpj_check.specs.Simple.{node_of, AssigningLocal, Performing, Returning, Printing, may_print, printed_form}
+use Rattle.dpj_check.specs.Walks.{Walk, passes, judged, found_so}
 use Rattle.dpj_resolved.proofs.Free.{noted_told, not_false}
-use Rattle.dpj_resolved.proofs.Lists.{some_same}
 use Rattle.dpj_accepted.specs.Laws.{Stands, Passing}
-use Rattle.dpj_accepted.specs.Seen.{can_stand, RowIs, Tells, Sees, Returns}
+use Rattle.dpj_accepted.specs.Seen.{RowIs, Tells, Sees, Returns}
 use Rattle.dpj_accepted.specs.Tree.{Fitting}
 use Rattle.dpj_accepted.proofs.Expressions.{int_is, boolean_is, expression_agrees}
 use Rattle.dpj_accepted.proofs.Subtypes.{fits_subtype}

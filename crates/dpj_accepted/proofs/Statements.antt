@@ -1,76 +1,58 @@
 -- Statements that pass for the checker pass in the judgement.
-use Rattle.std.proofs.Common.{◌≡◌, ◌∙◌, ◌⊎◌, ◌<◌, ◌≤◌, ◌+◌, ◌==◌, ℕ, zero, suc, Bool, true, false, not, ◌&&◌, ◌||◌, cond, IsTrue, is_some, List, [], ◌∷◌, ◌++◌, All, map, inl, inr, ⊎_elim, Option, Some, None, refl, sym, ap, subst, arith, rules}
-use Rattle.std.proofs.lemmas.Bool.{or_left, or_right, or_parts, cases_Bool, false≢true}
-use Rattle.dpj_base.specs.declared.effect.Effect.{Effect}
+use Rattle.std.proofs.Common.{◌≡◌, ◌∙◌, ◌⊎◌, ◌≤◌, ◌+◌, ◌==◌, ℕ, Bool, true, false, not, ◌&&◌, ◌||◌, cond, IsTrue, is_some, List, [], ◌∷◌, ◌++◌, map, inl, inr, ⊎_elim, Option, Some, None, refl, sym, ap, subst, arith}
+use Rattle.std.proofs.lemmas.Bool.{or_right, or_parts}
 use Rattle.dpj_base.specs.declared.place.Place.{Place}
-use Rattle.dpj_base.specs.declared.refusal.Kind.{Kind}
 use Rattle.dpj_base.specs.declared.refusal.Kind.TheVariants as kind
-use Rattle.dpj_base.specs.declared.region.Rpl.{Rpl}
-use Rattle.dpj_base.specs.declared.ty.Ty.{Ty, the_lemmas}
-use Rattle.dpj_base.specs.declared.ty.Ty.TheVariants as variant
-use Rattle.dpj_base.specs.Effects.{same_bool}
-use Rattle.dpj_base.specs.Regions.{generalised}
+use Rattle.dpj_base.specs.declared.ty.Ty.{Ty}
 use Rattle.dpj_base.specs.Types.{PlainType, plain_type}
 use Rattle.dpj_base.specs.Types.{PlainType as ty}
-use Rattle.dpj_locals.specs.Touches.{expr_reads, type_reads, stmt_reads, stmt_form_reads, stmts_read, branches_read, stmt_assigns, stmt_form_assigns, stmts_assign, branches_assign, declares, declares_form}
-use Rattle.dpj_tree.specs.declared.region.Named.{Named}
+use Rattle.dpj_locals.specs.Touches.{expr_reads, type_reads, stmt_form_reads, stmts_read, stmt_form_assigns, stmts_assign, declares_form}
 use Rattle.dpj_tree.specs.Plain.{PlainExpr, PlainStmt, PlainStmts}
 use Rattle.dpj_tree.specs.Plain as tree
-use Rattle.dpj_typed.specs.declared.stmt.Forking.{Forking as Order}
-use Rattle.dpj_typed.specs.declared.stmt.Forking.TheVariants.{Deterministic, Nondeterministic}
 use Rattle.dpj_typed.specs.Plain.{PlainProgram, TypedExpr, type_of, TypedStmt, statement, TypedStmts, stmts_of, choice_form}
 use Rattle.dpj_typed.specs.Plain as typed
-use Rattle.dpj_typed.specs.Scope.{Scope, constant, variable, part, with_local as in_scope, in_atomic_block, in_loop_branch, atomic_for}
-use Rattle.dpj_typed.specs.Scope.{Local as Slot}
-use Rattle.dpj_typed.specs.Effects.{does, uses, marked, after_block, after_branches, outside_variable, as_effects}
+use Rattle.dpj_typed.specs.Scope.{Scope, constant, part, with_local as in_scope, in_atomic_block}
+use Rattle.dpj_typed.specs.Effects.{after_block, outside_variable}
 use Rattle.dpj_typed.specs.Effects.{Own as Done}
 use Rattle.dpj_typed.specs.Types.{GoodType, Subtype}
 use Rattle.dpj_typed.specs.Typing.{Has}
-use Rattle.dpj_typed.specs.Statements.{completes, declared_as, IsFree, Passes, AllPass}
+use Rattle.dpj_typed.specs.Statements.{completes, declared_as, Passes, AllPass}
 use Rattle.dpj_exprs.specs.declared.env.Env.{Env}
-use Rattle.dpj_exprs.specs.declared.env.LocalRow.{LocalRow}
 use Rattle.dpj_exprs.specs.declared.found.Found.{Found}
 use Rattle.dpj_exprs.specs.Answer.{gives}
-use Rattle.dpj_exprs.specs.Env.{table_of, supers_of, local_of, local_row, with_local, left_to, mark_of}
-use Rattle.dpj_exprs.specs.Typed.{may_be, is_int, is_boolean, type_in, FitsAs}
+use Rattle.dpj_exprs.specs.Env.{supers_of, local_of, local_row, with_local}
+use Rattle.dpj_exprs.specs.Typed.{may_be, is_boolean, type_in, FitsAs}
 use Rattle.dpj_exprs.specs.Typing.{Typing}
 use Rattle.dpj_check.specs.declared.leaving.Leaving.{Leaving}
-use Rattle.dpj_check.specs.declared.leaving.Marks.{Marks}
 use Rattle.dpj_check.specs.declared.leaving.Marks.TheVariants as marks
 use Rattle.dpj_check.specs.declared.node.Around.{Around}
 use Rattle.dpj_check.specs.declared.node.Node.{Node}
-use Rattle.dpj_check.specs.Checking.{closed, with_nd, forking_of, variable_declared, variable_noted, iteration_begun, AssignsIs, Checking, Choosing, InOther, Standing, standing, InScope, in_scope as in_scope_of, InBlock, in_block, InOrder, Iterating, block_left}
+use Rattle.dpj_check.specs.Checking.{block_left}
 use Rattle.dpj_check.specs.Completes as tree_completes
-use Rattle.dpj_check.specs.Deciding.{is_misplaced, local_fault, marks_after}
-use Rattle.dpj_check.specs.Gathering.{with_uses, entered, taken_in}
-use Rattle.dpj_check.specs.Keeping.{inside}
+use Rattle.dpj_check.specs.Gathering.{entered, taken_in}
 use Rattle.dpj_check.specs.Leaving.{from_here}
-use Rattle.dpj_check.specs.Meeting.{declared_atomic}
-use Rattle.dpj_check.specs.Noting.{with_fault, with_found, with_fault_if, node_at, fault_of}
-use Rattle.dpj_check.specs.Simple.{FitIs, declared_type, declared_told, has_room, local_declared, with_room, declaration_noted, node_of, Declaring, AssigningLocal, AssigningPlace, Performing, Returning, Printing}
-use Rattle.dpj_check.specs.Walks.{Walk, Verdict, passes, refused, nothing_found, found_so, apart_from, left_scope, judged, behind}
-use Rattle.dpj_resolved.proofs.Bodies.{free_if, free_found}
-use Rattle.dpj_resolved.proofs.Free.{noted_told, not_false, or_false}
-use Rattle.dpj_resolved.proofs.Lists.{some_same}
-use Rattle.dpj_accepted.specs.Gathered.{InFound, Gathers}
+use Rattle.dpj_check.specs.Noting.{with_fault, fault_of}
+use Rattle.dpj_check.specs.Simple.{declared_type, has_room, declaration_noted, node_of, Declaring}
+use Rattle.dpj_check.specs.Walks.{Walk, Verdict, passes, refused, found_so, apart_from, left_scope, behind}
+use Rattle.dpj_resolved.proofs.Bodies.{free_if}
+use Rattle.dpj_resolved.proofs.Free.{noted_told, not_false}
+use Rattle.dpj_accepted.specs.Gathered.{Gathers}
 use Rattle.dpj_accepted.specs.Laws.{Stands, Passing}
-use Rattle.dpj_accepted.specs.Naming.{IsIndex, IsRegion, PathNames, TypeNames, LocalsName, AllDoneIn, Signed}
+use Rattle.dpj_accepted.specs.Naming.{IsIndex, IsRegion, AllDoneIn, Signed}
 use Rattle.dpj_accepted.specs.Ready.{Ready, Room, Calm}
-use Rattle.dpj_accepted.specs.Seen.{can_stand, RowIs, Tells, Sees, InStep, Returns}
-use Rattle.dpj_accepted.specs.Tree.{Fitting, StmtFitting, StmtFormFitting, StmtsFitting}
+use Rattle.dpj_accepted.specs.Seen.{can_stand, RowIs}
+use Rattle.dpj_accepted.specs.Tree.{Fitting, StmtFormFitting}
 use Rattle.dpj_accepted.proofs.Clashing.{same_entered}
-use Rattle.dpj_accepted.proofs.Expressions.{int_is, boolean_is, expression_agrees}
-use Rattle.dpj_accepted.proofs.Gathered.{nothing_gathered, then_gathered}
-use Rattle.dpj_accepted.proofs.Growing.{Kept, kept_same, kept_then, kept_step, Grown, step_local}
+use Rattle.dpj_accepted.proofs.Expressions.{boolean_is, expression_agrees}
+use Rattle.dpj_accepted.proofs.Gathered.{then_gathered}
+use Rattle.dpj_accepted.proofs.Growing.{Kept}
 use Rattle.dpj_accepted.proofs.InScope.{all_over_of, good_type, good_stands, has_names}
 use Rattle.dpj_accepted.proofs.InScopeStatements.{path_stays, free_none, only_index, part_parts, declared_no_part, declared_names, passes_names, all_names}
-use Rattle.dpj_accepted.proofs.Left.{left, left_append, left_kept, left_further, left_stepped, taken, marked_by, Later, RawIn, AllRaw, all_raw_of, raw_append, all_raw_before}
+use Rattle.dpj_accepted.proofs.Left.{left, left_append, left_kept, left_further, left_stepped, taken, marked_by, Later, AllRaw, all_raw_of, raw_append, all_raw_before}
 use Rattle.dpj_accepted.proofs.Meant.{declared_good}
-use Rattle.dpj_accepted.proofs.Readiness.{ready_less, ready_kept, ready_atomic, ready_row, none_at}
-use Rattle.dpj_accepted.proofs.Singles.{judged_passes, assigning, performing, returning, printing}
+use Rattle.dpj_accepted.proofs.Readiness.{ready_less, ready_kept, ready_row, none_at}
 use Rattle.dpj_accepted.proofs.Subtypes.{fits_subtype}
-use Rattle.dpj_accepted.proofs.Targets.{placing}
-use Rattle.dpj_accepted.proofs.Walks.{If, judged_if, behind_if, both_if, After, Walked, Stood, Scoped, Blocked, Ordered, OtherDone, checking_walked, standing_walked, scope_walked, block_walked, order_walked}
+use Rattle.dpj_accepted.proofs.Walks.{If, judged_if, both_if, After, Walked, Stood, Ordered, OtherDone}
 
 append_none : {A : Type 0} (xs : List A) → xs ++ [] ≡ xs
 append_none [] = refl

@@ -1,11 +1,11 @@
 -- Where a value fits for the checker, its type is a subtype in the judgement.
-use Rattle.std.proofs.Common.{◌≡◌, ◌⊎◌, ℕ, zero, suc, ◌==◌, Bool, true, false, ◌&&◌, ◌||◌, List, [], ◌∷◌, map, length, inl, inr, ⊎_elim, Option, Some, None, option_map, refl, sym, ap, subst}
+use Rattle.std.proofs.Common.{◌≡◌, ◌⊎◌, ℕ, zero, suc, ◌==◌, Bool, true, false, ◌||◌, List, map, length, inl, inr, ⊎_elim, Option, Some, None, option_map, refl, subst}
 use Rattle.std.proofs.lemmas.Bool.{and_parts, eqb-true}
 use Rattle.std.specs.Option.{option_map_or}
 use Rattle.dpj_base.specs.declared.region.Rpl.{Rpl}
 use Rattle.dpj_base.specs.declared.ty.Super.{Super}
 use Rattle.dpj_base.specs.Regions.{substituted}
-use Rattle.dpj_base.specs.Types.{PlainType, int, boolean, void, null, class, array, type_with, superclass, parent_of, all_within, class_within, below_class}
+use Rattle.dpj_base.specs.Types.{PlainType, int, boolean, void, null, class, array, type_with, superclass, all_within, class_within, below_class}
 use Rattle.dpj_base.specs.Types.{Subtype as FitsBelow}
 use Rattle.dpj_typed.specs.Plain.{PlainProgram, PlainParent}
 use Rattle.dpj_typed.specs.Scope.{parent_of as parent_in}

@@ -1,53 +1,49 @@
 -- What is assigned to, a field or an element, can be written in the judgement where the checker lets it.
-use Rattle.std.proofs.Common.{◌≡◌, ◌∙◌, ◌⊎◌, ◌↔◌, ℕ, Bool, true, false, not, ◌&&◌, ◌||◌, cond, IsTrue, is_some, List, [], ◌∷◌, ◌++◌, inl, inr, Option, Some, None, option_map, Result, Ok, Err, refl, sym, ap, subst}
+use Rattle.std.proofs.Common.{◌≡◌, ◌∙◌, ℕ, Bool, true, false, not, ◌||◌, cond, IsTrue, is_some, List, [], ◌∷◌, ◌++◌, Option, Some, None, Result, Ok, Err, refl, sym, ap, subst}
 use Rattle.std.proofs.lemmas.Bool.{or_left, or_right}
 use Rattle.std.specs.Option.{option_map_or}
 use Rattle.dpj_base.specs.declared.effect.Access.TheVariants.{Write}
 use Rattle.dpj_base.specs.declared.elems.Elem.{Elem}
 use Rattle.dpj_base.specs.declared.elems.Index.{Index}
 use Rattle.dpj_base.specs.declared.place.Place.{Place}
-use Rattle.dpj_base.specs.declared.refusal.Kind.{Kind}
 use Rattle.dpj_base.specs.declared.refusal.Kind.TheVariants as kind
 use Rattle.dpj_base.specs.declared.refusal.Refusal.{Refusal}
 use Rattle.dpj_base.specs.declared.region.Rpl.{Rpl}
 use Rattle.dpj_base.specs.Regions.{is_any, substituted}
 use Rattle.dpj_base.specs.Types.{PlainType, plain_type, type_with, path_at, type_at, mentions_index, rigid_in_index}
 use Rattle.dpj_base.specs.Types.{PlainType as ty}
-use Rattle.dpj_arrays.specs.Access.{PlainElement, element_of}
+use Rattle.dpj_arrays.specs.Access.{element_of}
 use Rattle.dpj_arrays.specs.Access.{index_elem as array_elem}
 use Rattle.dpj_headers.specs.Passes.{fault}
-use Rattle.dpj_locals.specs.Touches.{expr_reads, form_reads}
+use Rattle.dpj_locals.specs.Touches.{expr_reads}
 use Rattle.dpj_tree.specs.Plain as tree
 use Rattle.dpj_typed.specs.Plain.{PlainProgram, TypedExpr, type_of, TypedStmt, statement}
 use Rattle.dpj_typed.specs.Plain.{StmtForm as stmt}
-use Rattle.dpj_typed.specs.Scope.{Scope, Local, part}
+use Rattle.dpj_typed.specs.Scope.{Scope, part}
 use Rattle.dpj_typed.specs.Effects.{Own, does, uses, writes}
-use Rattle.dpj_typed.specs.Types.{Subtype, Known}
+use Rattle.dpj_typed.specs.Types.{Subtype}
 use Rattle.dpj_typed.specs.Typing.{Has, index_elem}
 use Rattle.dpj_typed.specs.Statements.{Passes}
 use Rattle.dpj_exprs.specs.declared.env.Env.{Env}
 use Rattle.dpj_exprs.specs.declared.env.LocalRow.{LocalRow}
 use Rattle.dpj_exprs.specs.declared.found.Found.{Found}
-use Rattle.dpj_exprs.specs.Answer.{gives, with_access, with_part_use}
-use Rattle.dpj_exprs.specs.Elements.{index_of, array_element, element_through, element_in_part, part_element}
+use Rattle.dpj_exprs.specs.Answer.{gives, with_access}
+use Rattle.dpj_exprs.specs.Elements.{index_of, array_element, element_in_part}
 use Rattle.dpj_exprs.specs.Env.{table_of, supers_of, part_of}
 use Rattle.dpj_exprs.specs.Fields.{field_with, field_through}
 use Rattle.dpj_exprs.specs.Fields.{PlainField as SeenField}
 use Rattle.dpj_exprs.specs.Partial.{mentions_partial}
-use Rattle.dpj_exprs.specs.Targeting.{to_field, to_element, to_part, PlainTarget, with_write, TargetAnswer, aims, misses, aimed, in_field, field_target, in_array, in_element, element_target, in_part, in_part_element, part_target, Targeting}
-use Rattle.dpj_exprs.specs.Typed.{type_in, node_at, may_be, is_int, FitsAs}
-use Rattle.dpj_exprs.specs.Typing.{Typing}
+use Rattle.dpj_exprs.specs.Targeting.{to_element, PlainTarget, with_write, TargetAnswer, aims, misses, aimed, in_field, field_target, in_array, in_element, element_target, in_part_element, part_target, Targeting}
+use Rattle.dpj_exprs.specs.Typed.{type_in, is_int, FitsAs}
 use Rattle.dpj_check.specs.declared.node.Node.{Node}
-use Rattle.dpj_check.specs.Noting.{with_found, with_fault_if, fault_of}
-use Rattle.dpj_check.specs.Simple.{FitIs, node_of, place_of, stored, target_fault, AssigningPlace}
+use Rattle.dpj_check.specs.Simple.{node_of, place_of, stored, target_fault, AssigningPlace}
 use Rattle.dpj_check.specs.Walks.{Walk, passes, found_so}
-use Rattle.dpj_resolved.proofs.Lists.{some_same}
 use Rattle.dpj_accepted.specs.Gathered.{Gathers}
 use Rattle.dpj_accepted.specs.Laws.{Stands, Passing}
 use Rattle.dpj_accepted.specs.Naming.{IsIndex, IsRegion, TypeNames, LocalsName, Signed}
-use Rattle.dpj_accepted.specs.Seen.{can_stand, Tells, Sees, FieldSeen}
+use Rattle.dpj_accepted.specs.Seen.{can_stand, Tells, Sees}
 use Rattle.dpj_accepted.specs.Tree.{Fitting}
-use Rattle.dpj_accepted.proofs.Expressions.{Made, Passed, int_is, part_seen, FieldOf, SeenRight, field_seen, typing_passed, expression_agrees}
+use Rattle.dpj_accepted.proofs.Expressions.{Made, Passed, int_is, part_seen, SeenRight, field_seen, typing_passed, expression_agrees}
 use Rattle.dpj_accepted.proofs.Gathered.{one_gathered, use_gathered, then_gathered}
 use Rattle.dpj_accepted.proofs.InScope.{stands_with, stands_at, has_names}
 use Rattle.dpj_accepted.proofs.Singles.{free_found, judged_passes}

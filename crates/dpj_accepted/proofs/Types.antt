@@ -1,32 +1,31 @@
 -- A written type without faults is good where it stands.
-use Rattle.std.proofs.Common.{◌≡◌, ◌∙◌, ◌⊎◌, ℕ, zero, suc, ◌+◌, ◌<◌, ◌≤◌, ◌==◌, Bool, true, false, not, ◌&&◌, ◌||◌, cond, nat_le, IsTrue, is_some, fold, List, [], ◌∷◌, ◌++◌, map, drop, length, filter_map, slice_get, inl, inr, Option, None, Some, option_map, refl, sym, ap, subst, arith}
+use Rattle.std.proofs.Common.{◌≡◌, ◌∙◌, ◌⊎◌, ℕ, zero, suc, ◌+◌, ◌<◌, ◌≤◌, ◌==◌, Bool, true, false, not, ◌&&◌, cond, nat_le, is_some, List, [], ◌∷◌, ◌++◌, map, drop, length, slice_get, inl, inr, Option, None, Some, option_map, refl, sym, ap, subst, arith}
 use Rattle.std.proofs.lemmas.Bool.{false_from_ne_true, false≢true, and_parts, leb-true}
 use Rattle.std.proofs.lemmas.List.Elements.{All-nil}
-use Rattle.std.specs.List.{list_any, cons_option}
+use Rattle.std.specs.List.{cons_option}
 use Rattle.std.specs.Option.{option_map_or}
 use Rattle.dpj_base.specs.declared.place.Place.{Place}
 use Rattle.dpj_base.specs.declared.region.Rpl.{Rpl}
 use Rattle.dpj_base.specs.Types.{PlainType, has_index, mentions_index}
-use Rattle.dpj_base.specs.Types.PlainType.{int, boolean, void, null, class, array}
+use Rattle.dpj_base.specs.Types.PlainType.{class, array}
 use Rattle.dpj_base.specs.declared.refusal.Kind.TheVariants as kind
 use Rattle.dpj_headers.specs.Headers.{class_of}
-use Rattle.dpj_headers.specs.Passes.{fault_if}
 use Rattle.dpj_tree.specs.declared.region.BaseTree.{BaseTree}
 use Rattle.dpj_tree.specs.declared.region.BaseTree.TheVariants as base
 use Rattle.dpj_tree.specs.declared.region.Named.{Named}
 use Rattle.dpj_tree.specs.declared.region.RplTree.{RplTree}
 use Rattle.dpj_tree.specs.declared.region.Suffix.{Suffix}
 use Rattle.dpj_tree.specs.declared.region.TypeTree.{TypeTree}
-use Rattle.dpj_resolve.specs.Args.{root_path, begins_local, first_local, local_fault, args_faults, args_given}
+use Rattle.dpj_resolve.specs.Args.{root_path, begins_local, first_local, local_fault, args_faults}
 use Rattle.dpj_resolve.specs.Classes.{params_in, constraints_in, class_args, class_faults, class_type, constraint_fault}
 use Rattle.dpj_resolve.specs.Constraints.{all_hold}
 use Rattle.dpj_resolve.specs.Index.{PlainIndex}
 use Rattle.dpj_resolve.specs.Reading.{path_meant, path_faults, local_with, arg_faults, args_read}
 use Rattle.dpj_resolve.specs.Scopes.{PlainScope}
-use Rattle.dpj_resolve.specs.Written.{no_need, base_read, base_parts, base_type, base_faults, is_flat, at_suffix, suffix_meant, suffix_parts, suffix_local, paths_from, parts_from, local_from, is_indexed, arrays_from, type_read, type_parts, judged_type, judged_faults, type_index, type_meant, type_faults}
+use Rattle.dpj_resolve.specs.Written.{no_need, base_read, base_parts, base_type, base_faults, is_flat, at_suffix, suffix_parts, suffix_local, paths_from, parts_from, local_from, is_indexed, arrays_from, type_read, type_parts, judged_type, judged_faults, type_index, type_meant, type_faults}
 use Rattle.dpj_typed.specs.Plain.{PlainProgram, PlainClass}
 use Rattle.dpj_typed.specs.Scope.{Scope, class_at}
-use Rattle.dpj_typed.specs.Types.{GoodPath, LocalPath, GoodArgs, GoodType, IsFlat, SpeaksOfNone}
+use Rattle.dpj_typed.specs.Types.{GoodPath, LocalPath, GoodArgs, GoodType, IsFlat}
 use Rattle.dpj_resolved.proofs.Free.{NoFaults, free_split, append_none, fault_none, not_false}
 use Rattle.dpj_resolved.proofs.Known.{path_known}
 use Rattle.dpj_resolved.proofs.Lists.{some_same, map_there}

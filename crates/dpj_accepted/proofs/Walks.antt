@@ -1,14 +1,13 @@
 -- What a walk over statements that pass leaves: no fault of theirs, what is in scope, and that what is assigned is not final.
-use Rattle.std.proofs.Common.{◌≡◌, ◌∙◌, ◌⊎◌, ◌==◌, ℕ, Bool, true, false, not, ◌&&◌, ◌||◌, cond, IsTrue, is_some, List, [], ◌∷◌, inl, inr, ⊎_elim, Option, Some, None, refl, sym, ap, subst}
-use Rattle.std.proofs.lemmas.Bool.{cases_Bool, eqb-true, false≢true}
+use Rattle.std.proofs.Common.{◌≡◌, ◌∙◌, ◌⊎◌, ◌==◌, ℕ, Bool, true, false, not, ◌&&◌, ◌||◌, cond, IsTrue, List, ◌∷◌, inl, inr, ⊎_elim, Option, Some, None, refl, sym, ap, subst}
+use Rattle.std.proofs.lemmas.Bool.{eqb-true, false≢true}
 use Rattle.dpj_base.specs.declared.effect.Effect.{Effect}
 use Rattle.dpj_base.specs.declared.place.Place.{Place}
-use Rattle.dpj_base.specs.declared.refusal.Kind.{Kind}
 use Rattle.dpj_base.specs.declared.refusal.Kind.TheVariants as kind
 use Rattle.dpj_base.specs.declared.refusal.Refusal.{Refusal}
 use Rattle.dpj_base.specs.declared.ty.Ty.{Ty}
 use Rattle.dpj_locals.specs.declared.branch.Touched.{Touched}
-use Rattle.dpj_locals.specs.Touches.{stmt_assigns, stmt_form_assigns, stmts_assign, branches_assign, declares, declares_form}
+use Rattle.dpj_locals.specs.Touches.{stmt_assigns, stmt_form_assigns, stmts_assign, branches_assign, declares}
 use Rattle.dpj_tree.specs.declared.region.Named.{Named}
 use Rattle.dpj_tree.specs.Plain.{PlainExpr, PlainStmt, PlainStmts}
 use Rattle.dpj_tree.specs.Plain as tree
@@ -20,24 +19,20 @@ use Rattle.dpj_exprs.specs.declared.env.LocalRow.{LocalRow}
 use Rattle.dpj_exprs.specs.declared.found.Found.{Found}
 use Rattle.dpj_exprs.specs.Env.{local_of, left_to, mark_of}
 use Rattle.dpj_exprs.specs.Typed.{may_be, is_int, is_boolean, is_value, type_in}
-use Rattle.dpj_check.specs.declared.leaving.Marks.{Marks}
 use Rattle.dpj_check.specs.declared.node.Around.{Around}
 use Rattle.dpj_check.specs.declared.node.Node.{Node}
-use Rattle.dpj_check.specs.Checking.{gathers, block_left, branch_of, variable_declared, variable_noted, parts_noted, parts_declared, Opened, opened, not_opened, Opening, BranchesVerdict, all_pass, one_refused, after_branch, Checking, Choosing, InOther, Standing, standing, InScope, in_scope, InBlock, in_block, InOrder, Branching, Forking, Iterating, Parting}
+use Rattle.dpj_check.specs.Checking.{gathers, block_left, branch_of, variable_declared, variable_noted, parts_declared, Opened, opened, not_opened, Opening, BranchesVerdict, all_pass, one_refused, after_branch, Checking, Choosing, InOther, Standing, standing, InScope, in_scope, InBlock, in_block, InOrder, Branching, Forking, Iterating, Parting}
 use Rattle.dpj_check.specs.Completes as tree_completes
 use Rattle.dpj_check.specs.Deciding.{is_misplaced, local_fault, marks_after}
 use Rattle.dpj_check.specs.Gathering.{with_uses, taken_in}
-use Rattle.dpj_check.specs.Keeping.{inside}
 use Rattle.dpj_check.specs.Leaving.{from_here}
-use Rattle.dpj_check.specs.Noting.{with_fault, with_found, with_fault_if, node_at, fault_of}
-use Rattle.dpj_check.specs.Simple.{place_of, node_of, has_room, local_declared, with_regions, with_room, declaration_noted, stored, target_fault, printed_form, may_print, Declaring, AssigningLocal, AssigningPlace, Performing, Returning, Printing}
+use Rattle.dpj_check.specs.Noting.{with_found, with_fault_if, node_at, fault_of}
+use Rattle.dpj_check.specs.Simple.{place_of, node_of, declaration_noted, stored, target_fault, printed_form, may_print, Declaring, AssigningLocal, AssigningPlace, Performing, Returning, Printing}
 use Rattle.dpj_check.specs.Walks.{Walk, Verdict, passes, refused, left_scope, judged, behind}
 use Rattle.dpj_exprs.specs.Targeting.{PlainSpot, to_field, to_element, to_part}
 use Rattle.dpj_resolved.proofs.Bodies.{free_if, free_found, declared_free, parts_free, regions_free, follows_none}
-use Rattle.dpj_resolved.proofs.Free.{not_false}
-use Rattle.dpj_resolved.proofs.Lists.{some_same}
 use Rattle.dpj_accepted.specs.Seen.{InStep}
-use Rattle.dpj_accepted.proofs.Growing.{Kept, kept_same, kept_then, kept_local, kept_step, Grown, grown_kept, grown_then, kept_left, grown_local, grown_regions, grown_parts, step_local, step_regions, step_parts, local_other, parts_other, regions_other}
+use Rattle.dpj_accepted.proofs.Growing.{Kept, kept_same, kept_then, kept_local, kept_step, Grown, grown_kept, grown_then, kept_left, grown_local, grown_regions, grown_parts, step_local, step_regions, step_parts, local_other, regions_other}
 
 -- what holds of a piece that passes
 abbrev pub If : {T : Type 0} → (T → Walk → Type 0) → Verdict T → Type 0

@@ -1,5 +1,5 @@
 -- The effects that the checker has found, and those that the judgement lists: the checker keeps each once.
-use Rattle.std.specs.Prelude.{◌≡◌, ◌↔◌, ◌⊎◌, ℕ, List, Contains}
+use Rattle.std.specs.Prelude.{◌≡◌, ◌↔◌, ◌⊎◌, List, Contains}
 use Rattle.dpj_base.specs.declared.array_part.PartUse.{PartUse}
 use Rattle.dpj_typed.specs.Effects.{Own, does, uses}
 use Rattle.dpj_parts.specs.Uses.{use_effect}

@@ -1,36 +1,30 @@
 -- What is around a place of a body for the checker, and in scope there for the judgement; and what the class table and the
 -- program that is put together of it say alike.
-use Rattle.std.specs.Prelude.{◌≡◌, ◌≤◌, ◌<◌, ℕ, Bool, true, false, IsTrue, List, [], ◌∷◌, map, length, slice_index_or, Option, Some, None, option_map, option_and_then, Ok}
-use Rattle.dpj_base.specs.declared.place.Place.{Place}
+use Rattle.std.specs.Prelude.{◌≡◌, ◌≤◌, ◌<◌, ℕ, Bool, true, false, IsTrue, List, [], ◌∷◌, map, length, slice_index_or, Option, Some, option_map, option_and_then}
 use Rattle.dpj_base.specs.declared.region.Rpl.{Rpl}
 use Rattle.dpj_base.specs.declared.ty.Super.{Super}
 use Rattle.dpj_base.specs.declared.ty.Ty.{Ty}
-use Rattle.dpj_base.specs.Regions.{substituted, fully_specified}
+use Rattle.dpj_base.specs.Regions.{substituted}
 use Rattle.dpj_base.specs.Types.{PlainType, plain_type, type_with, superclass}
 use Rattle.dpj_base.specs.Types.{PlainType as ty}
-use Rattle.dpj_tree.specs.declared.region.BaseTree.{BaseTree}
-use Rattle.dpj_tree.specs.declared.region.RplTree.{RplTree}
 use Rattle.dpj_headers.specs.Headers.{class_of, region_of, atomic_regions}
 use Rattle.dpj_resolve.specs.declared.scope.ParamFound.{ParamFound}
 use Rattle.dpj_resolve.specs.Classes.{params_in}
-use Rattle.dpj_resolve.specs.Index.{PlainIndex}
 use Rattle.dpj_resolve.specs.Scoped.{value_in}
 use Rattle.dpj_resolve.specs.Scopes.{param_meant}
 use Rattle.dpj_classes.specs.declared.rows.FieldRow.{FieldRow}
 use Rattle.dpj_classes.specs.declared.rows.MethodRow.{MethodRow}
 use Rattle.dpj_classes.specs.declared.table.Table.{Table}
 use Rattle.dpj_check.specs.declared.node.Around.{Around}
-use Rattle.dpj_classes.specs.Table.{numbered, headers_of, all_given, given_of, field_of, method_of, row_of, constructor_of, args_at, is_forking}
+use Rattle.dpj_classes.specs.Table.{numbered, headers_of, given_of, field_of, method_of, row_of, constructor_of, args_at, is_forking}
 use Rattle.dpj_typed.specs.Plain.{PlainProgram, PlainClass, PlainField, PlainMember, PlainParent}
 use Rattle.dpj_typed.specs.Scope.{Scope, Local, variable, frozen, constant, part, reserved, Above, IsBelow, class_at, member_at, field_at, row_at}
 use Rattle.dpj_typed.specs.Scope.{parent_of as parent_in}
-use Rattle.dpj_typed.specs.Types.{GoodType, Known, Readable}
+use Rattle.dpj_typed.specs.Types.{Known, Readable}
 use Rattle.dpj_exprs.specs.declared.env.Env.{Env}
 use Rattle.dpj_exprs.specs.declared.env.LocalRow.{LocalRow}
-use Rattle.dpj_exprs.specs.Arrays.{front_of, front_told, created_array}
 use Rattle.dpj_exprs.specs.Env.{table_of, supers_of, given_in, scope_of, local_of, index_variable_of, index_slot, this_type_of}
 use Rattle.dpj_exprs.specs.Partial.{mentions_partial, rigid_in_partial}
-use Rattle.dpj_exprs.specs.Typed.{may_be, is_int}
 
 -- the type of a value that can be declared: neither `void` nor that of `null`
 abbrev pub can_stand : PlainType → Bool

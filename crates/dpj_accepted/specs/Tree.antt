@@ -1,5 +1,5 @@
 -- What the grammar says of every tree, and the rules of bodies don't ask again.
-use Rattle.std.specs.Prelude.{◌≡◌, ◌≤◌, ℕ, FitsSigned, List, [], All, map, length}
+use Rattle.std.specs.Prelude.{◌≡◌, ◌≤◌, FitsSigned, [], All, map, length}
 use Rattle.std.specs.Int.{w32}
 use Rattle.dpj_tree.specs.declared.class.Class.{Class}
 use Rattle.dpj_tree.specs.declared.class.Member.{Member}
