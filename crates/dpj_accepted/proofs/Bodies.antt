@@ -25,7 +25,7 @@ use Rattle.dpj_exprs.specs.Typing.{Typing}
 use Rattle.dpj_check.specs.declared.node.Around.{Around}
 use Rattle.dpj_check.specs.declared.node.Node.{Node}
 use Rattle.dpj_check.specs.Checking.{parts_noted, parts_declared, part_slot, part_variable, parts_left, Opening, Parting, variable_declared, variable_noted, Checking, Choosing, InOther, standing, InScope, in_scope, InBlock, in_block, InOrder, Iterating}
-use Rattle.dpj_check.specs.Deciding.{is_misplaced, interference}
+use Rattle.dpj_check.specs.Deciding.{is_misplaced, interference, marks_after}
 use Rattle.dpj_check.specs.Gathering.{with_uses}
 use Rattle.dpj_check.specs.Keeping.{inside}
 use Rattle.dpj_check.specs.Meeting.{declared_atomic}
@@ -51,6 +51,33 @@ use Rattle.dpj_accepted.proofs.Singles.{assigning, performing, returning, printi
 use Rattle.dpj_accepted.proofs.Statements.{Plainly, Goes, ScopeGoes, BlockGoes, OrderGoes, OtherGoes, room_free, expr_at, declaring_goes, plain_if, single_if, scope_if, block_if, order_if, later_reads, later_assigns, while_plain, choice_plain, atomic_plain, both_other}
 use Rattle.dpj_accepted.proofs.Targets.{placing}
 use Rattle.dpj_accepted.proofs.Walks.{If, judged_if, behind_if, OtherDone, checking_walked, standing_walked, scope_walked, order_walked, other_walked}
+use Rattle.std.specs.List.{list_any}
+use Rattle.std.specs.Prelude.{◌∷◌, ◌++◌, ◌≤◌, ◌+◌, All, AllPairs, length}
+use Rattle.dpj_base.specs.declared.effect.Effect.{Effect}
+use Rattle.dpj_base.specs.Branches.{lists_clash}
+use Rattle.dpj_locals.specs.declared.branch.Touched.{Touched}
+use Rattle.dpj_locals.specs.Touches.{branches_read, branches_assign}
+use Rattle.dpj_typed.specs.declared.stmt.Forking.TheVariants.{Deterministic}
+use Rattle.dpj_typed.specs.Effects.{Own, as_effects, after_branches}
+use Rattle.dpj_typed.specs.Plain.{TypedBranch, branches_of}
+use Rattle.dpj_typed.specs.Scope.{constant, in_branch, atomic_for}
+use Rattle.dpj_typed.specs.Statements.{joined, all_copies, NoClash, BranchesPass}
+use Rattle.dpj_check.specs.Walks.{apart_from, nothing_found}
+use Rattle.dpj_check.specs.Gathering.{with_uses, taken_in}
+use Rattle.dpj_check.specs.Leaving.{from_here}
+use Rattle.dpj_check.specs.Checking.{with_nd, forking_of, gathers, ClashIs, BranchesVerdict, all_pass, one_refused, after_branch, branch_of, Branching, Forking}
+use Rattle.dpj_check.specs.Meeting.{BranchesApart}
+use Rattle.dpj_accepted.specs.Gathered.{Gathers}
+use Rattle.dpj_accepted.specs.Naming.{IsIndex, IsRegion}
+use Rattle.dpj_accepted.proofs.Branches.{BranchesAre, branches_static, AllApart, all_apart, Earlier, foreign, own_variables, own_apart, next_earlier, behind_append}
+use Rattle.dpj_accepted.proofs.Clashing.{AllSame, same_effects, none_apart}
+use Rattle.dpj_accepted.proofs.Cobegins.{ready_branch}
+use Rattle.dpj_accepted.proofs.Gathered.{then_gathered, gathered_nd}
+use Rattle.dpj_accepted.proofs.Growing.{Kept, kept_same, kept_then, kept_step}
+use Rattle.dpj_accepted.proofs.InScope.{all_over_of}
+use Rattle.dpj_accepted.proofs.Left.{left_kept, taken}
+use Rattle.dpj_accepted.proofs.Loops.{atomic_same, marks_same}
+use Rattle.dpj_accepted.proofs.Walks.{BranchesDone, branching_walked}
 
 module _ (P : PlainProgram) (signed : Signed P)
   where
@@ -114,6 +141,81 @@ module _ (P : PlainProgram) (signed : Signed P)
           high = y.2;
           size_int = int_at u y.0 y.1 (not_false (may_be is_int (type_in u)) second_int.1);
         }))
+
+    -- branches after earlier ones that assign these slots
+    record BranchesGo (L : Scope) (env : Env) (nd : Bool) (ss : PlainStmts) (w : Walk) (effects : List (List Effect)) (touched : List Touched) (made : List TypedBranch) (u : Walk) : Type 0 where
+      calm : u.found.reaches_nd ≡ false → w.found.reaches_nd ≡ false
+      go : Room L u.env → Calm L u → BranchesAre env ss made touched → AllApart touched → (others : List ℕ) → ((x : ℕ) → list_any (λ y. x == y) others ≡ true → Earlier L env x touched) →
+          (Es : List (List Own)) × BranchesPass P L others (branches_of made) Es × AllSame effects Es × Gathers w.found (after_branches (forking_of nd) (joined Es)) u.found
+
+    abbrev BranchesVerdictGo : Scope → Env → Bool → PlainStmts → Walk → BranchesVerdict → Type 0
+    BranchesVerdictGo L env nd ss w (all_pass effects touched made u) = BranchesGo L env nd ss w effects touched made u
+    BranchesVerdictGo L env nd ss w (one_refused refusal) = Unit {0}
+
+    -- one branch before others
+    branch_then : (L : Scope) (params : List Bool) (around : Around) (reads assigns : ℕ → Bool) (env : Env) (nd : Bool) (s : PlainStmt) (ss : PlainStmts) (w u : Walk) (t : Touched) (made : TypedStmt) (v : BranchesVerdict) →
+        Ready P L env params around reads assigns → Kept env w.env → ((n : ℕ) → IsTrue (branches_read n (tree.more_stmts s ss)) → IsTrue (reads n)) →
+        ((n : ℕ) → IsTrue (branches_assign n (tree.more_stmts s ss)) → IsTrue (assigns n)) →
+        ((M : Scope) → Ready P M w.env params (inside around) (λ n. stmt_reads n s) (λ n. stmt_assigns n s) → ScopeGoes P signed M (apart_from w) made u) →
+        BranchesDone ss (gathers (taken_in (from_here w.env (marks_after nd)) w.found u.found) u) v → BranchesVerdictGo L env nd ss (gathers (taken_in (from_here w.env (marks_after nd)) w.found u.found) u) v →
+        BranchesVerdictGo L env nd (tree.more_stmts s ss) w (after_branch (with_uses u.found.effects u.found.uses) t (branch_of w.env t made) v)
+    branch_then L params around reads assigns env nd s ss w u t made (one_refused refusal) ready kept all writes one walked rest = tt
+    branch_then L params around reads assigns env nd s ss w u t made (all_pass effects touched bs z) ready kept all writes one walked rest = record {
+      calm = λ c. (or_parts w.found.reaches_nd u.found.reaches_nd (rest.calm c)).0;
+      go = λ room calm are apart others earlier.
+          let b : TypedBranch = branch_of w.env t made in
+          let next : List ℕ = others ++ all_copies (branches_of bs) in
+          let far = foreign P L env params around reads assigns ready s ss b bs t touched are writes apart others earlier in
+          let begun = ready_kept P (in_branch b.copies next L) env w.env params (inside around) (λ n. stmt_reads n s) (λ n. stmt_assigns n s) kept
+              (ready_branch P L env params around reads assigns ready s t are.0.0 b.copies next are.0.1 far are.0.2 (λ n h. all n (or_left (stmt_reads n s) (branches_read n ss) h)) (λ n h. writes n (or_left (stmt_assigns n s) (branches_assign n ss) h))) in
+          let sg = one (in_branch b.copies next L) begun in
+          let ends = walked.0 in
+          let slots = ends.slots in
+          let declared = ends.declared in
+          let room_slots = room.slots in
+          let room_regions = room.regions in
+          let r = sg.goes (record { slots = omega (arith, slots, room_slots); regions = omega (arith, declared, room_regions) }) (λ c. (or_parts w.found.reaches_nd u.found.reaches_nd (rest.calm (calm c))).1) in
+          let q = rest.go room calm are.1 apart.1 (others ++ b.copies) (next_earlier P L env params around reads assigns ready s ss b bs t touched are writes apart others earlier) in
+          let inside_so = all_names P signed {L = in_branch b.copies next L} begun.locals r.1 in
+          let same = left_kept (from_here w.env (marks_after nd)) (IsIndex (in_branch b.copies next L)) (IsRegion (in_branch b.copies next L)) (in_branch b.copies next L) (λ x i. begun.below x (constant ty.int) i) begun.regions r.0
+              (all_over_of (in_branch b.copies next L) r.0 inside_so) ∙ marks_same nd r.0 in (
+            r.0 ∷ q.0,
+            BranchesPass.one_branch (own_variables P L env params around reads assigns ready s ss b bs t touched are writes apart others earlier)
+                (own_apart P L env params around reads assigns ready s ss b bs t touched are writes apart others earlier) r.1 q.1,
+            (same_effects u.found r.0 r.2, q.2),
+            subst (λ k. Gathers w.found k z.found) (sym (behind_append (forking_of nd) r.0 (joined q.0)))
+                (then_gathered w.found (taken_in (from_here w.env (marks_after nd)) w.found u.found) z.found (after_branches (forking_of nd) r.0) (after_branches (forking_of nd) (joined q.0))
+                (subst (λ k. Gathers w.found k (taken_in (from_here w.env (marks_after nd)) w.found u.found)) same (taken (from_here w.env (marks_after nd)) w.found u.found r.0 r.2)) q.3),
+          );
+    }
+
+    none_behind : (nd : Bool) → [] ≡ after_branches (forking_of nd) []
+    none_behind true = refl
+    none_behind false = refl
+
+    deterministic : (b : Bool) → b ≡ false → forking_of b ≡ Deterministic
+    deterministic true h = cc
+    deterministic false h = refl
+
+    forked_plain : (L : Scope) (params : List Bool) (around : Around) (reads assigns : ℕ → Bool) (place : Place) (nd : Bool) (branches : PlainStmts) (w : Walk) (effects : List (List Effect)) (touched : List Touched) (made : List TypedBranch)
+        (u : Walk) (clash apart : Bool) → Ready P L w.env params around reads assigns → BranchesGo L w.env nd branches w effects touched made u → BranchesAre w.env branches made touched → ClashIs touched clash → clash ≡ false →
+        BranchesApart params nd w.env effects apart → apart ≡ true → Plainly P signed L w (statement place (typed.cobegin (forking_of nd) (branches_of made))) (gathers (with_nd nd u.found) u)
+    forked_plain L params around reads assigns place nd branches w effects touched made u clash apart ready g are clash_is none a apart_so = record {
+      calm = λ c. g.calm (or_parts u.found.reaches_nd nd c).0;
+      alone = λ room calm.
+          let r = g.go (record { slots = room.slots; regions = room.regions }) (λ c. (or_parts u.found.reaches_nd nd (calm c)).0) are (all_apart touched (subst (ClashIs touched) none clash_is)) [] (λ x h. absurd (false≢true h)) in
+          record {
+            effects = after_branches (forking_of nd) (joined r.0);
+            passes_so = Passes.cobegin (λ c. deterministic nd (or_parts u.found.reaches_nd nd (calm c)).1) r.1
+                (subst (λ z. AllPairs (λ E F. lists_clash z (atomic_for (forking_of nd) P L) (as_effects E) (as_effects F) ≡ false) r.0) (sym ready.sees.given) (no_clash r.0 r.2));
+            gathers = gathered_nd w.found u.found (after_branches (forking_of nd) (joined r.0)) (u.found.reaches_nd || nd) r.3;
+          };
+    }
+      where
+        no_clash : (Es : List (List Own)) → AllSame effects Es → AllPairs (λ E F. lists_clash (given_in w.env) (atomic_for (forking_of nd) P L) (as_effects E) (as_effects F) ≡ false) Es
+        no_clash Es same =
+            subst (λ z. AllPairs (λ E F. lists_clash (given_in w.env) z (as_effects E) (as_effects F) ≡ false) Es) (atomic_same P L w.env params nd ready.tells.atomic ready.atomic)
+            (none_apart (given_in w.env) (declared_atomic params nd w.env) effects Es same (a.0 apart_so).1)
 
     mutual
       -- a statement
@@ -181,7 +283,9 @@ module _ (P : PlainProgram) (signed : Signed P)
           (λ made x free h.
           while_plain P signed L params around reads assigns node.place test w t g made x ready fits.0 (λ y k. all y (or_left (expr_reads y test) (stmt_reads y body) k)) d
           (not_false (may_be is_boolean (type_in t)) (free_if node kind.Type (not (may_be is_boolean (type_in t))) free).1) h)))
-      checking_goes L reads assigns ready fits covered all writes (Checking.of_cobegin d) = absurd covered
+      checking_goes {params} {around} {node} {w = w} {v = v} L reads assigns ready fits covered all writes (Checking.of_cobegin {nd = nd} {branches = branches} d) =
+          plain_if P signed L params around reads assigns (tree.cobegin nd branches) node w v (λ x. refl) (λ a b k. k) ready
+          (checking_walked {params = params} {around = around} {node = node} {w = w} {v = v} ready.step (Checking.of_cobegin d)) (forking_goes L reads assigns ready fits covered all writes d)
       checking_goes L reads assigns ready fits covered all writes (Checking.start_refused d) = tt
       checking_goes L reads assigns ready fits covered all writes (Checking.count_refused d i) = tt
       checking_goes {params} {around} {node} {w = w} {v = v} L reads assigns ready fits covered all writes (Checking.of_foreach {nd = nd} {var = var} {start = start} {count = count} {body = body} {t = t} {u = u} {g = g} {h = h} d i n) =
@@ -314,6 +418,35 @@ module _ (P : PlainProgram) (signed : Signed P)
           (int_at q y.0 y.1 (not_false (may_be is_int (type_in q)) count_int.1)) (omega (arith, more, slots_are)) (λ room calm. s.goes room calm)
           (free_if (settled_node (with_fault_if (parts_noted w.env view var t first) kind.Assign assigns_so)) kind.Interferes
           (parts_interfere (given_in w.env) (part_slot w.env) (part_variable w.env) z.found.effects z.found.uses) later).1)))
+
+      branching_goes : {params : List Bool} {around : Around} {nd : Bool} {ss : PlainStmts} {w : Walk} {v : BranchesVerdict} (outer : Around) (L : Scope) (reads assigns : ℕ → Bool) (env : Env) → around ≡ inside outer →
+          Ready P L env params outer reads assigns → Kept env w.env → StmtsFitting ss → AllCovered ss → ((n : ℕ) → IsTrue (branches_read n ss) → IsTrue (reads n)) → ((n : ℕ) → IsTrue (branches_assign n ss) → IsTrue (assigns n)) →
+          Branching params around nd ss w v → BranchesVerdictGo L env nd ss w v
+      branching_goes {nd = nd} {w = w} outer L reads assigns env at ready kept fits covered all writes Branching.no_branches =
+          record { calm = λ c. c; go = λ room calm are apart others earlier. ([], BranchesPass.no_branch, tt, subst (λ k. Gathers w.found k w.found) (none_behind nd) (nothing_gathered w.found)) }
+      branching_goes outer L reads assigns env at ready kept fits covered all writes (Branching.branch_refused d) = tt
+      branching_goes {params} {around} {nd} {w = w} outer L reads assigns env at ready kept fits covered all writes (Branching.then_branches {s = s} {ss = ss} {u = u} {touched = t} {made = made} {v = v} d touches rest j) =
+          let step = kept_step env w.env kept ready.step in
+          let k = scope_walked step d in
+          subst (BranchesVerdictGo L env nd (tree.more_stmts s ss) w) j
+          (branch_then L params outer reads assigns env nd s ss w u t made v ready kept all writes
+          (λ M begun. scope_goes M (λ n. stmt_reads n s) (λ n. stmt_assigns n s) (subst (λ a. Ready P M w.env params a (λ n. stmt_reads n s) (λ n. stmt_assigns n s)) (sym at) begun) fits.0 covered.0 (λ n h. h) (λ n h. h) d)
+          (branching_walked (kept_step w.env u.env k.kept step) rest)
+          (branching_goes outer L reads assigns env at ready (kept_then env w.env u.env kept k.kept) fits.1 covered.1 (λ n h. all n (or_right (stmt_reads n s) (branches_read n ss) h))
+          (λ n h. writes n (or_right (stmt_assigns n s) (branches_assign n ss) h)) rest))
+
+      forking_goes : {params : List Bool} {around : Around} {node : Node} {nd : Bool} {branches : PlainStmts} {w : Walk} {v : Verdict TypedStmt} (L : Scope) (reads assigns : ℕ → Bool) → Ready P L w.env params around reads assigns →
+          StmtsFitting branches → AllCovered branches → ((n : ℕ) → IsTrue (branches_read n branches) → IsTrue (reads n)) → ((n : ℕ) → IsTrue (branches_assign n branches) → IsTrue (assigns n)) →
+          Forking params around node nd branches w v → If (Plainly P signed L w) v
+      forking_goes L reads assigns ready fits covered all writes (Forking.some_refused d) = tt
+      forking_goes L reads assigns ready fits covered all writes (Forking.clashing effects touched clash d c told) = tt
+      forking_goes {params} {around} {node} {nd} {branches} {w} L reads assigns ready fits covered all writes (Forking.forked {u = u} effects touched {made = made} clash apart d c free a j) =
+          let g = branching_goes around L reads assigns w.env refl ready (kept_same w.env) fits covered all writes d in
+          let f = free_if node kind.Assign clash free in
+          subst (If (Plainly P signed L w)) j
+          (plainly_judged L w _ _ _ (λ later.
+          forked_plain L params around reads assigns node.place nd branches w effects touched made u clash apart ready g (branches_static w.env (kept_same w.env) ready.step d) c f.1 a
+          (not_false apart (free_if (settled_node (with_fault_if node kind.Assign clash)) (interference nd) (not apart) later).1)))
 
     pub block_agrees : (L : Scope) (params : List Bool) (around : Around) (reads assigns : ℕ → Bool) (w : Walk) → Ready P L w.env params around reads assigns → (all : PlainStmts) → StmtsFitting all → AllCovered all →
         ((x : ℕ) → IsTrue (stmts_read x all) → IsTrue (reads x)) → ((x : ℕ) → IsTrue (stmts_assign x all) → IsTrue (assigns x)) → (made : List TypedStmt) (u : Walk) → InBlock params around all w (passes made u) →

@@ -199,6 +199,13 @@ handed g E k (of_part outer) h = handed_to_part g E k outer h
 
 -- clashes
 
+-- the lists of effects of branches, for the checker and for the judgement
+abbrev pub AllSame : List (List Effect) → List (List Done) → Type 0
+AllSame [] [] = Unit {0}
+AllSame [] (E ∷ Es) = ⊥
+AllSame (F ∷ Fs) [] = ⊥
+AllSame (F ∷ Fs) (E ∷ Es) = SameEffects F (as_effects E) × AllSame Fs Es
+
 module _ (given : List Constraint) (nd : Option Atomic)
   where
     some_parts : (e : Effect) (fs : List Effect) → some_clashes given nd e fs ≡ false → (f : Effect) → Contains fs f → clashes given nd e f ≡ false
@@ -229,13 +236,6 @@ module _ (given : List Constraint) (nd : Option Atomic)
     iterations_fewer v es es' first h =
         clash_fewer es (map (renamed_effect v) es) es' (map (renamed_effect v) es') first
         (λ f c. (let w = mapped_from (renamed_effect v) es' f c in subst (λ z. Contains (map (renamed_effect v) es) z) w.2 (mapped_in (renamed_effect v) es w.0 (first w.0 w.1)))) h
-
-    -- the lists of effects of branches, for the checker and for the judgement
-    abbrev pub AllSame : List (List Effect) → List (List Done) → Type 0
-    AllSame [] [] = Unit {0}
-    AllSame [] (E ∷ Es) = ⊥
-    AllSame (F ∷ Fs) [] = ⊥
-    AllSame (F ∷ Fs) (E ∷ Es) = SameEffects F (as_effects E) × AllSame Fs Es
 
     same_length : (Fs : List (List Effect)) (Es : List (List Done)) → AllSame Fs Es → length Es ≡ length Fs
     same_length [] [] h = refl

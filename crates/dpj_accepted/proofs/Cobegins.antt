@@ -58,7 +58,7 @@ slot_among env (name ∷ names) n row c is = by (local_of env name) refl (λ lat
     by None at next (inl same) = let no : None ≡ Some row = sym at ∙ ap (local_of env) same ∙ is in cc
     by None at next (inr later) = next later
 
-all_by : (Q : ℕ → Type 0) (ys : List ℕ) → ((x : ℕ) → list_any (λ y. x == y) ys ≡ true → Q x) → All Q ys
+pub all_by : (Q : ℕ → Type 0) (ys : List ℕ) → ((x : ℕ) → list_any (λ y. x == y) ys ≡ true → Q x) → All Q ys
 all_by Q [] h = All-nil Q
 all_by Q (y ∷ ys) h = All-cons Q y ys (h y (first (y == y) (list_any (λ z. y == z) ys) (eq-eqb y y refl))) (all_by Q ys (λ x t. h x (later (x == y) (list_any (λ z. x == z) ys) t)))
   where

@@ -23,3 +23,4 @@ pub mod Loops
 pub mod LocalRegions
 pub mod PartLoops
 pub mod Cobegins
+pub mod Branches

@@ -64,7 +64,7 @@ assigned_fit true false h = (refl, refl)
 assigned_fit true true h = cc
 assigned_fit false is_final h = cc
 
-variable_slot : (r a : Bool) (row : LocalRow) (o : Option Local) → RowIs r a row o → row.is_final ≡ false → a ≡ true → o ≡ Some (variable (plain_type row.ty))
+pub variable_slot : (r a : Bool) (row : LocalRow) (o : Option Local) → RowIs r a row o → row.is_final ≡ false → a ≡ true → o ≡ Some (variable (plain_type row.ty))
 variable_slot r a row o (RowIs.is_part p q same) f t = let no : true ≡ false = sym q ∙ f in cc
 variable_slot r a row o (RowIs.is_constant p g) f t = let no : true ≡ false = sym g ∙ f in cc
 variable_slot r a row o (RowIs.is_variable p g) f t = refl

@@ -20,7 +20,7 @@ abbrev mutual
   FormCovered (return_value value) = Unit {0}
   FormCovered (print value) = Unit {0}
   FormCovered (print_text text) = Unit {0}
-  FormCovered (cobegin nd branches) = ⊥
+  FormCovered (cobegin nd branches) = AllCovered branches
   FormCovered (foreach nd var start count body) = Covered body
   FormCovered (foreach_parts view var array count body) = Covered body
   FormCovered (atomic all) = AllCovered all
