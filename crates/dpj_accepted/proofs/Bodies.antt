@@ -35,7 +35,7 @@ use Rattle.dpj_check.specs.Walks.{Walk, Verdict, passes, found_so, judged}
 use Rattle.dpj_parts.specs.Uses.{parts_interfere}
 use Rattle.dpj_resolved.proofs.Bodies.{free_if, free_found, declared_free}
 use Rattle.dpj_resolved.proofs.Free.{not_false}
-use Rattle.dpj_accepted.specs.Covered.{Covered, FormCovered, AllCovered}
+use Rattle.dpj_accepted.proofs.Covered.{Covered, FormCovered, AllCovered, all_covers}
 use Rattle.dpj_accepted.specs.Laws.{Stands, BlockPasses}
 use Rattle.dpj_accepted.specs.Naming.{Signed}
 use Rattle.dpj_accepted.specs.Ready.{Ready, Room, Calm}
@@ -52,7 +52,7 @@ use Rattle.dpj_accepted.proofs.Statements.{Plainly, Goes, ScopeGoes, BlockGoes, 
 use Rattle.dpj_accepted.proofs.Targets.{placing}
 use Rattle.dpj_accepted.proofs.Walks.{If, judged_if, behind_if, OtherDone, checking_walked, standing_walked, scope_walked, order_walked, other_walked}
 use Rattle.std.specs.List.{list_any}
-use Rattle.std.specs.Prelude.{◌∷◌, ◌++◌, ◌≤◌, ◌+◌, All, AllPairs, length}
+use Rattle.std.specs.Prelude.{◌∷◌, ◌++◌, AllPairs}
 use Rattle.dpj_base.specs.declared.effect.Effect.{Effect}
 use Rattle.dpj_base.specs.Branches.{lists_clash}
 use Rattle.dpj_locals.specs.declared.branch.Touched.{Touched}
@@ -61,8 +61,8 @@ use Rattle.dpj_typed.specs.declared.stmt.Forking.TheVariants.{Deterministic}
 use Rattle.dpj_typed.specs.Effects.{Own, as_effects, after_branches}
 use Rattle.dpj_typed.specs.Plain.{TypedBranch, branches_of}
 use Rattle.dpj_typed.specs.Scope.{constant, in_branch, atomic_for}
-use Rattle.dpj_typed.specs.Statements.{joined, all_copies, NoClash, BranchesPass}
-use Rattle.dpj_check.specs.Walks.{apart_from, nothing_found}
+use Rattle.dpj_typed.specs.Statements.{joined, all_copies, BranchesPass}
+use Rattle.dpj_check.specs.Walks.{apart_from}
 use Rattle.dpj_check.specs.Gathering.{with_uses, taken_in}
 use Rattle.dpj_check.specs.Leaving.{from_here}
 use Rattle.dpj_check.specs.Checking.{with_nd, forking_of, gathers, ClashIs, BranchesVerdict, all_pass, one_refused, after_branch, branch_of, Branching, Forking}
@@ -167,7 +167,7 @@ module _ (P : PlainProgram) (signed : Signed P)
           let next : List ℕ = others ++ all_copies (branches_of bs) in
           let far = foreign P L env params around reads assigns ready s ss b bs t touched are writes apart others earlier in
           let begun = ready_kept P (in_branch b.copies next L) env w.env params (inside around) (λ n. stmt_reads n s) (λ n. stmt_assigns n s) kept
-              (ready_branch P L env params around reads assigns ready s t are.0.0 b.copies next are.0.1 far are.0.2 (λ n h. all n (or_left (stmt_reads n s) (branches_read n ss) h)) (λ n h. writes n (or_left (stmt_assigns n s) (branches_assign n ss) h))) in
+          (ready_branch P L env params around reads assigns ready s t are.0.0 b.copies next are.0.1 far are.0.2 (λ n h. all n (or_left (stmt_reads n s) (branches_read n ss) h)) (λ n h. writes n (or_left (stmt_assigns n s) (branches_assign n ss) h))) in
           let sg = one (in_branch b.copies next L) begun in
           let ends = walked.0 in
           let slots = ends.slots in
@@ -178,7 +178,7 @@ module _ (P : PlainProgram) (signed : Signed P)
           let q = rest.go room calm are.1 apart.1 (others ++ b.copies) (next_earlier P L env params around reads assigns ready s ss b bs t touched are writes apart others earlier) in
           let inside_so = all_names P signed {L = in_branch b.copies next L} begun.locals r.1 in
           let same = left_kept (from_here w.env (marks_after nd)) (IsIndex (in_branch b.copies next L)) (IsRegion (in_branch b.copies next L)) (in_branch b.copies next L) (λ x i. begun.below x (constant ty.int) i) begun.regions r.0
-              (all_over_of (in_branch b.copies next L) r.0 inside_so) ∙ marks_same nd r.0 in (
+          (all_over_of (in_branch b.copies next L) r.0 inside_so) ∙ marks_same nd r.0 in (
             r.0 ∷ q.0,
             BranchesPass.one_branch (own_variables P L env params around reads assigns ready s ss b bs t touched are writes apart others earlier)
                 (own_apart P L env params around reads assigns ready s ss b bs t touched are writes apart others earlier) r.1 q.1,
@@ -395,19 +395,19 @@ module _ (P : PlainProgram) (signed : Signed P)
           let view_room = room_free P signed w.env view.name view.place first before in
           let count_int = free_if (with_found node fault) kind.Type (not (may_be is_int (type_in q))) (declared_free w.env view.name view.place first before) in
           let cut = cutting_so P signed L params around reads assigns w ready array_fits
-              (λ x k. all x (or_left (expr_reads x array || expr_reads x count) (not (view.name == x) && (not (var.name == x) && stmt_reads x body)) (or_left (expr_reads x array) (expr_reads x count) k))) c
-              (free_found node fault count_int.0).1 in
+          (λ x k. all x (or_left (expr_reads x array || expr_reads x count) (not (view.name == x) && (not (var.name == x) && stmt_reads x body)) (or_left (expr_reads x array) (expr_reads x count) k))) c
+          (free_found node fault count_int.0).1 in
           let y = expr_at P signed L w.env params around reads assigns count g h q ready count_fits
-              (λ x k. all x (or_left (expr_reads x array || expr_reads x count) (not (view.name == x) && (not (var.name == x) && stmt_reads x body)) (or_right (expr_reads x array) (expr_reads x count) k))) d in
+          (λ x k. all x (or_left (expr_reads x array || expr_reads x count) (not (view.name == x) && (not (var.name == x) && stmt_reads x body)) (or_right (expr_reads x array) (expr_reads x count) k))) d in
           let none : (n : ℕ) → IsTrue (stmt_assigns n body) → ⊥ = λ n k. false≢true (sym f.1 ∙ a.1 (n, k)) in
           let part_is : part_declared w.env view.name t ≡ with_part w.env view.name t = ap (λ r. cond r (with_part w.env view.name t) w.env) view_room in
           let env_is : parts_declared w.env view var t ≡ with_local (with_part w.env view.name t) var.name variant.Int true =
-              ap (λ r. cond r (with_local (part_declared w.env view.name t) var.name variant.Int true) (part_declared w.env view.name t)) var_room ∙ ap (λ (e : Env). with_local e var.name variant.Int true) part_is in
+          ap (λ r. cond r (with_local (part_declared w.env view.name t) var.name variant.Int true) (part_declared w.env view.name t)) var_room ∙ ap (λ (e : Env). with_local e var.name variant.Int true) part_is in
           let N : Scope = Parted P signed L params around reads assigns w ready cut.elem cut.path cut.names in
           let begun : Ready P N (parts_declared w.env view var t) params (inside around) (λ n. stmt_reads n body) (λ n. stmt_assigns n body) =
-              subst (λ e. Ready P N e params (inside around) (λ n. stmt_reads n body) (λ n. stmt_assigns n body)) (sym env_is)
-              (ready_parts P signed L params around reads assigns w ready cut.elem cut.path cut.names view var t body cut.is
-              (λ x k. all x (or_right (expr_reads x array || expr_reads x count) (not (view.name == x) && (not (var.name == x) && stmt_reads x body)) k)) none) in
+          subst (λ e. Ready P N e params (inside around) (λ n. stmt_reads n body) (λ n. stmt_assigns n body)) (sym env_is)
+          (ready_parts P signed L params around reads assigns w ready cut.elem cut.path cut.names view var t body cut.is
+          (λ x k. all x (or_right (expr_reads x array || expr_reads x count) (not (view.name == x) && (not (var.name == x) && stmt_reads x body)) k)) none) in
           let s = scope_goes N (λ n. stmt_reads n body) (λ n. stmt_assigns n body) begun fits covered (λ n k. k) (λ n k. k) b in
           let more = (scope_walked begun.step b).kept.slots in
           let slots_are = ap slots_in env_is in
@@ -448,9 +448,9 @@ module _ (P : PlainProgram) (signed : Signed P)
           forked_plain L params around reads assigns node.place nd branches w effects touched made u clash apart ready g (branches_static w.env (kept_same w.env) ready.step d) c f.1 a
           (not_false apart (free_if (settled_node (with_fault_if node kind.Assign clash)) (interference nd) (not apart) later).1)))
 
-    pub block_agrees : (L : Scope) (params : List Bool) (around : Around) (reads assigns : ℕ → Bool) (w : Walk) → Ready P L w.env params around reads assigns → (all : PlainStmts) → StmtsFitting all → AllCovered all →
+    pub block_agrees : (L : Scope) (params : List Bool) (around : Around) (reads assigns : ℕ → Bool) (w : Walk) → Ready P L w.env params around reads assigns → (all : PlainStmts) → StmtsFitting all →
         ((x : ℕ) → IsTrue (stmts_read x all) → IsTrue (reads x)) → ((x : ℕ) → IsTrue (stmts_assign x all) → IsTrue (assigns x)) → (made : List TypedStmt) (u : Walk) → InBlock params around all w (passes made u) →
         Room L u.env → Calm L u → BlockPasses P L w.found made u.found
-    block_agrees L params around reads assigns w ready all fits covered all_reads all_writes made u d room calm =
-        let r = (block_goes L reads assigns ready fits covered all_reads all_writes d).goes room calm in
+    block_agrees L params around reads assigns w ready all fits all_reads all_writes made u d room calm =
+        let r = (block_goes L reads assigns ready fits (all_covers all) all_reads all_writes d).goes room calm in
         record { effects = r.0; passes_so = r.1; gathers = r.2; in_scope = all_names P signed ready.locals r.1 }

@@ -1,5 +1,5 @@
 -- Branches of a `cobegin`, one after the other: what they touch, and that they don't get in each other's way.
-use Rattle.std.proofs.Common.{◌≡◌, ◌∙◌, ◌⊎◌, ◌<◌, ◌+◌, ◌==◌, ◌||◌, ℕ, zero, suc, Bool, true, false, cond, IsTrue, List, [], ◌∷◌, ◌++◌, All, map, length, slice_index_or, Contains, inl, inr, ⊎_elim, Option, Some, None, refl, sym, ap, subst, arith}
+use Rattle.std.proofs.Common.{◌≡◌, ◌∙◌, ◌⊎◌, ◌<◌, ◌==◌, ◌||◌, ℕ, suc, Bool, true, false, IsTrue, List, [], ◌∷◌, ◌++◌, All, map, length, slice_index_or, Contains, inl, inr, ⊎_elim, Option, Some, None, refl, sym, ap, subst, arith}
 use Rattle.std.specs.List.{list_any}
 use Rattle.std.specs.Option.{option_map_or}
 use Rattle.std.proofs.lemmas.Bool.{eqb-true, or_left, or_right, cases_Bool, false≢true}
@@ -20,13 +20,13 @@ use Rattle.dpj_exprs.specs.declared.env.Env.{Env}
 use Rattle.dpj_exprs.specs.declared.env.LocalRow.{LocalRow}
 use Rattle.dpj_exprs.specs.Env.{local_of}
 use Rattle.dpj_check.specs.declared.node.Around.{Around}
-use Rattle.dpj_check.specs.Checking.{gathers, TouchedBy, slots_of, branch_of, after_branch, BranchesVerdict, all_pass, one_refused, Branching}
+use Rattle.dpj_check.specs.Checking.{TouchedBy, slots_of, branch_of, after_branch, BranchesVerdict, all_pass, one_refused, Branching}
 use Rattle.dpj_check.specs.Walks.{Walk}
 use Rattle.dpj_resolved.proofs.Lists.{some_same}
 use Rattle.dpj_accepted.specs.Ready.{Ready}
 use Rattle.dpj_accepted.specs.Seen.{InStep}
 use Rattle.dpj_accepted.proofs.Cobegins.{Foreign, all_by}
-use Rattle.dpj_accepted.proofs.Gathered.{nothing_in, head_in, later_in}
+use Rattle.dpj_accepted.proofs.Gathered.{head_in, later_in}
 use Rattle.dpj_accepted.proofs.Growing.{Kept, kept_then, kept_local, kept_step}
 use Rattle.dpj_accepted.proofs.Singles.{variable_slot}
 use Rattle.dpj_accepted.proofs.Walks.{NonFinal, non_final_by, scope_walked}

@@ -1,15 +1,15 @@
 -- What is asked of a place in a body holds at the begin of a branch of a `cobegin`, beside branches that don't disturb it.
-use Rattle.std.proofs.Common.{◌≡◌, ◌∙◌, ◌⊎◌, ◌<◌, ◌+◌, ◌==◌, ◌||◌, ℕ, zero, suc, Bool, true, false, cond, IsTrue, List, [], ◌∷◌, ◌++◌, All, length, Contains, inl, inr, ⊎_elim, Option, Some, None, option_map, refl, sym, ap, subst, arith}
+use Rattle.std.proofs.Common.{◌≡◌, ◌∙◌, ◌⊎◌, ◌<◌, ◌==◌, ◌||◌, ℕ, Bool, true, false, cond, IsTrue, List, [], ◌∷◌, All, Contains, inl, inr, Option, Some, None, option_map, refl, sym, ap, subst}
 use Rattle.std.specs.List.{list_any}
 use Rattle.std.specs.Option.{option_map_or}
-use Rattle.std.proofs.lemmas.Bool.{cases_Bool, eqb-true, eq-eqb, false≢true}
+use Rattle.std.proofs.lemmas.Bool.{eq-eqb, false≢true}
 use Rattle.std.proofs.lemmas.List.Elements.{All-nil, All-cons}
-use Rattle.dpj_base.specs.Types.{PlainType, plain_type}
+use Rattle.dpj_base.specs.Types.{PlainType}
 use Rattle.dpj_locals.specs.declared.branch.Touched.{Touched}
 use Rattle.dpj_locals.specs.Touches.{stmt_reads, stmt_assigns}
 use Rattle.dpj_tree.specs.Plain.{PlainStmt}
 use Rattle.dpj_typed.specs.Plain.{PlainProgram}
-use Rattle.dpj_typed.specs.Scope.{Scope, variable, frozen, constant, part, reserved, read_alone, seen_in_branch, in_branch}
+use Rattle.dpj_typed.specs.Scope.{Scope, variable, frozen, reserved, read_alone, seen_in_branch, in_branch}
 use Rattle.dpj_typed.specs.Scope.{Local as Slot}
 use Rattle.dpj_typed.specs.Statements.{IsVariable}
 use Rattle.dpj_exprs.specs.declared.env.Env.{Env}
@@ -21,7 +21,7 @@ use Rattle.dpj_check.specs.Keeping.{inside}
 use Rattle.dpj_resolved.proofs.Lists.{some_same}
 use Rattle.dpj_accepted.specs.Ready.{Ready}
 use Rattle.dpj_accepted.specs.Seen.{RowIs}
-use Rattle.dpj_accepted.proofs.Gathered.{nothing_in, head_in, later_in, in_cases}
+use Rattle.dpj_accepted.proofs.Gathered.{nothing_in, in_cases}
 use Rattle.dpj_accepted.proofs.InScopeStatements.{locals_branch}
 use Rattle.dpj_accepted.proofs.Readiness.{row_less, row_alone}
 use Rattle.dpj_accepted.proofs.Walks.{NonFinal}
@@ -104,7 +104,7 @@ module _ (P : PlainProgram) (L : Scope) (env : Env) (params : List Bool) (around
         by false at_b true at_c = row_less (reads name) (assigns name) (stmt_reads name s) (stmt_assigns name s) row (L.local row.slot) (all name) (writes name) outer
         by false at_b false at_c =
             let none : stmt_assigns name s ≡ false =
-                not_so (stmt_assigns name s) (λ t. false≢true (sym at_c ∙ ap (list_any (λ y. row.slot == y)) own_is ∙ slot_among env touched.writes name row ((touches.assigns name).0 t) h)) in
+            not_so (stmt_assigns name s) (λ t. false≢true (sym at_c ∙ ap (list_any (λ y. row.slot == y)) own_is ∙ slot_among env touched.writes name row ((touches.assigns name).0 t) h)) in
             row_less (reads name) false (stmt_reads name s) (stmt_assigns name s) row (option_map read_alone (L.local row.slot)) (all name) (λ t. absurd (false≢true (sym none ∙ t)))
             (row_alone (reads name) (assigns name) row (L.local row.slot) outer)
 

@@ -30,7 +30,6 @@ use Rattle.dpj_check.specs.Checking.{InBlock}
 use Rattle.dpj_check.specs.Simple.{declared_type, declared_told, AssigningLocal, Performing, Returning, Printing}
 use Rattle.dpj_check.specs.Walks.{Walk, passes}
 use Rattle.dpj_resolved.specs.Accepted.{IsAccepted}
-use Rattle.dpj_accepted.specs.Covered.{AllCovered}
 use Rattle.dpj_accepted.specs.Gathered.{Gathers}
 use Rattle.dpj_accepted.specs.Naming.{LocalsName, AllDoneIn, Signed}
 use Rattle.dpj_accepted.specs.Ready.{Ready, Room, Calm}
@@ -104,5 +103,5 @@ pub record BlockPasses (P : PlainProgram) (L : Scope) (before : Found) (made : L
 abbrev pub BlocksAgree : Type 0
 BlocksAgree =
     (P : PlainProgram) → Signed P → (L : Scope) (params : List Bool) (around : Around) (reads assigns : ℕ → Bool) (w : Walk) → Ready P L w.env params around reads assigns →
-    (all : PlainStmts) → StmtsFitting all → AllCovered all → ((x : ℕ) → IsTrue (stmts_read x all) → IsTrue (reads x)) → ((x : ℕ) → IsTrue (stmts_assign x all) → IsTrue (assigns x)) →
+    (all : PlainStmts) → StmtsFitting all → ((x : ℕ) → IsTrue (stmts_read x all) → IsTrue (reads x)) → ((x : ℕ) → IsTrue (stmts_assign x all) → IsTrue (assigns x)) →
     (made : List TypedStmt) (u : Walk) → InBlock params around all w (passes made u) → Room L u.env → Calm L u → BlockPasses P L w.found made u.found

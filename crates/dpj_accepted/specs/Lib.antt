@@ -1,4 +1,3 @@
-pub mod Covered
 pub mod Gathered
 pub mod Seen
 pub mod Naming

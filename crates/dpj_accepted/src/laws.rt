@@ -30,8 +30,8 @@ pub fn law_scopes()
     ensures scopes { EffectsAreInScope }
 {}
 
-/// The statements of a block that pass do so in the judgement, with the effects that the checker gathers. A `cobegin` isn't covered
-/// yet.
+/// The statements of a block that pass do so in the judgement, with the effects that the checker gathers, where what is asked of
+/// their place holds: what is around them for the checker is in scope, and signatures name nothing of a body.
 pub fn law_blocks()
     ensures blocks { BlocksAgree }
 {}
