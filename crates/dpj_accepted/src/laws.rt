@@ -1,0 +1,37 @@
+//! The laws of accepted programs, each the clause of a function that does nothing.
+
+ghost use Rattle.dpj_accepted.specs.Laws.{SubtypesAgree, TypesAgree, ExpressionsAgree, SinglesAgree, EffectsAreInScope, BlocksAgree};
+
+/// Where a value fits for the checker, its type is a subtype in the judgement.
+pub fn law_subtypes()
+    ensures subtypes { SubtypesAgree }
+{}
+
+/// A written type of which no fault is told is good, where what is around it for the checker is in scope.
+pub fn law_types()
+    ensures types { TypesAgree }
+{}
+
+/// An expression that passes has its type in the judgement, where what is around it for the checker is in scope there,
+/// and where the class table tells what the program has.
+pub fn law_expressions()
+    ensures expressions { ExpressionsAgree }
+{}
+
+/// A statement passes in the judgement that assigns to a local, calls, creates, returns a value or prints one, under the same
+/// premises.
+pub fn law_singles()
+    ensures singles { SinglesAgree }
+{}
+
+/// Statements that pass in the judgement read and write nothing but what is in scope, and what they do through a part of an array
+/// they do to its path.
+pub fn law_scopes()
+    ensures scopes { EffectsAreInScope }
+{}
+
+/// The statements of a block that pass do so in the judgement, with the effects that the checker gathers, where what is asked of
+/// their place holds: what is around them for the checker is in scope, and signatures name nothing of a body.
+pub fn law_blocks()
+    ensures blocks { BlocksAgree }
+{}
