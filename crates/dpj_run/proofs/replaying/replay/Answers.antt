@@ -33,3 +33,34 @@ replay-requires-clause-replayed c =
     (opened_run P c.args.limits c.args.argument c.in-Some.machine
     (subst (λ m. IsOpened P c.args.limits c.args.argument m) c.in-Some.is
     (subst (λ a. IsOpened P c.args.limits a c.in_ok-machine.field-0) (to_z-of_z fits) c.in_ok-machine.ensures))).0.replayed
+
+pub returns-in-Ok : goal.returns-in-Ok
+returns-in-Ok c =
+    let P = plain_program c.args.program.now in
+    let fits : SFits w32 c.args.argument = search rules in
+    let is = (opened_run P c.args.limits c.args.argument c.in-Some.machine
+    (subst (λ m. IsOpened P c.args.limits c.args.argument m) c.in-Some.is
+    (subst (λ a. IsOpened P c.args.limits a c.in_ok-machine.field-0) (to_z-of_z fits) c.in_ok-machine.ensures))).0 in
+    followed P c.args.limits c.args.argument c.args.schedule.now c.in-Some.machine is c.replay.new.machine c.in_ok-recorded-in-Ok.field-0 c.in-Ok.ensures.replay
+    c.in_ok-recorded-in-Ok.ensures
+
+pub returns-in-Err-Bad : goal.returns-in-Err-Bad
+returns-in-Err-Bad c =
+    let P = plain_program c.args.program.now in
+    let fits : SFits w32 c.args.argument = search rules in
+    let is = (opened_run P c.args.limits c.args.argument c.in-Some.machine
+    (subst (λ m. IsOpened P c.args.limits c.args.argument m) c.in-Some.is
+    (subst (λ a. IsOpened P c.args.limits a c.in_ok-machine.field-0) (to_z-of_z fits) c.in_ok-machine.ensures))).0 in
+    let why = rw c.in-Err-Bad.field-0-is at c.in-Err-Bad.ensures.why in
+    subst (λ at. IsFollowed P c.args.limits c.args.argument c.args.schedule.now (Unfit at)) (sym c.in-Err-Bad.at-is)
+    (unfit_so P c.args.limits c.args.argument c.args.schedule.now c.in-Some.machine is c.in-Err-Bad.at why)
+
+pub returns-in-Err-Stuck : goal.returns-in-Err-Stuck
+returns-in-Err-Stuck c =
+    let P = plain_program c.args.program.now in
+    let fits : SFits w32 c.args.argument = search rules in
+    let is = (opened_run P c.args.limits c.args.argument c.in-Some.machine
+    (subst (λ m. IsOpened P c.args.limits c.args.argument m) c.in-Some.is
+    (subst (λ a. IsOpened P c.args.limits a c.in_ok-machine.field-0) (to_z-of_z fits) c.in_ok-machine.ensures))).0 in
+    let why = rw c.in-Err-Stuck.field-0-is at c.in-Err-Stuck.ensures.why in
+    halted_so P c.args.limits c.args.argument c.args.schedule.now c.in-Some.machine is _ why
