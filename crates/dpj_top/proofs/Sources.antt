@@ -63,6 +63,16 @@ not-made command.Trace demo = refl
 not-made command.Replay demo = refl
 not-made command.Effects demo = refl
 
+pub made-no-replay : (c : Command) → makes_text c ≡ true → c ≢ command.Replay
+made-no-replay command.Replay made = absurd (false≢true made)
+made-no-replay command.Demo made = λ e. cc
+made-no-replay command.Check made = λ e. cc
+made-no-replay command.Run made = λ e. cc
+made-no-replay command.Elide made = λ e. cc
+made-no-replay command.«List» made = λ e. cc
+made-no-replay command.Trace made = λ e. cc
+made-no-replay command.Effects made = λ e. cc
+
 module _ (words : List (List ℕ)) (given : Job) (is_job : Some given ≡ job words) (read : makes_text given.command ≡ false) where
   of-text : (left : Option (List ℕ)) (answered : Answered) (made : Bool) (demo : Option (List ℕ)) → made ≡ false → IfSome left (λ text. Answers given text answered)
       → IfSome (cond made demo left) (λ text. Answers given text answered)

@@ -1,5 +1,6 @@
-ghost use Rattle.std.specs.Prelude.{◌≡◌, ◌≤◌, true, length, IfOk};
+ghost use Rattle.std.specs.Prelude.{◌≡◌, ◌≢◌, ◌≤◌, true, length, IfOk};
 ghost use Rattle.dpj_words.specs.Jobs.{IsInRange};
+ghost use Rattle.dpj_words.specs.declared.command.Command.TheVariants.{Replay};
 ghost use Rattle.dpj_top.specs.Answer.{IsAnswer, IsLeft, first_answer, reads_form};
 
 use crate::answered::{Answered, limits};
@@ -26,6 +27,7 @@ pub fn answer<R: Threads + Wait + Sync, G: Gate + Sync>(
 ) -> Result<Answered, NoMemory>
     requires short { length text.now ≤ MAX_TEXT }
     requires in_range { IsInRange job.now }
+    requires no_replay { job.now.command ≢ Replay }
     ensures { IfOk result (IsAnswer job.now text.now) }
 {
     match job.command {
@@ -45,6 +47,7 @@ fn by_form<R: Threads + Wait + Sync, G: Gate + Sync>(
     requires reads { reads_form job.now.command ≡ true }
     requires short { length text.now ≤ MAX_TEXT }
     requires in_range { IsInRange job.now }
+    requires no_replay { job.now.command ≢ Replay }
     ensures { IfOk result (IsAnswer job.now text.now) }
 {
     match read(alloc, text)? {
@@ -76,6 +79,7 @@ fn by_program<R: Threads + Wait + Sync, G: Gate + Sync>(
 ) -> Result<Answered, NoMemory>
     requires short { length text.now ≤ MAX_TEXT }
     requires in_range { IsInRange job.now }
+    requires no_replay { job.now.command ≢ Replay }
     requires left { IsLeft job.now text.now }
     ensures { IfOk result (IsAnswer job.now text.now) }
 {
