@@ -1,4 +1,4 @@
-//! The tests of the tool's edge: input and output, the command line, the first form, and the whole call.
+//! The tests of the tool's edge: input and output, the command line, and the first form.
 //!
 //! They stand here and not in their crates, since a crate with tests is proved twice. Each says what no contract
 //! can say: that memory suffices, and that the answers are those of tables from outside.
@@ -8,7 +8,5 @@
 mod first;
 #[cfg(test)]
 mod io;
-#[cfg(test)]
-mod top;
 #[cfg(test)]
 mod words;
