@@ -39,7 +39,7 @@ use Rattle.dpj_accepted.proofs.Covered.{Covered, FormCovered, AllCovered, all_co
 use Rattle.dpj_accepted.specs.Laws.{Stands, BlockPasses}
 use Rattle.dpj_accepted.specs.Naming.{Signed}
 use Rattle.dpj_accepted.specs.Ready.{Ready, Room, Calm}
-use Rattle.dpj_accepted.specs.Tree.{Fitting, StmtFitting, StmtFormFitting, StmtsFitting}
+use Rattle.dpj_written.specs.Written.{Fitting, StmtFitting, StmtFormFitting, StmtsFitting}
 use Rattle.dpj_accepted.proofs.Expressions.{int_is}
 use Rattle.dpj_accepted.proofs.Gathered.{nothing_gathered}
 use Rattle.dpj_accepted.proofs.InScopeStatements.{all_names}

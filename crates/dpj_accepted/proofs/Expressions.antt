@@ -69,7 +69,7 @@ use Rattle.dpj_resolved.proofs.Lists.{some_same, ok_same}
 use Rattle.dpj_accepted.specs.Gathered.{Gathers}
 use Rattle.dpj_accepted.specs.Laws.{Stands}
 use Rattle.dpj_accepted.specs.Seen.{AllStand, RowIs, Tells, Sees, FieldSeen, MethodSeen, ClassSeen}
-use Rattle.dpj_accepted.specs.Tree.{Fitting, FormFitting, AllFitting}
+use Rattle.dpj_written.specs.Written.{Fitting, FormFitting, AllFitting}
 use Rattle.dpj_accepted.proofs.Args.{args_good}
 use Rattle.dpj_accepted.proofs.InScope.{stands_with}
 use Rattle.dpj_accepted.proofs.Meant.{meant, created_good}

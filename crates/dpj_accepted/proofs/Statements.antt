@@ -41,7 +41,7 @@ use Rattle.dpj_accepted.specs.Laws.{Stands, Passing}
 use Rattle.dpj_accepted.specs.Naming.{IsIndex, IsRegion, AllDoneIn, Signed}
 use Rattle.dpj_accepted.specs.Ready.{Ready, Room, Calm}
 use Rattle.dpj_accepted.specs.Seen.{can_stand, RowIs}
-use Rattle.dpj_accepted.specs.Tree.{Fitting, StmtFormFitting}
+use Rattle.dpj_written.specs.Written.{Fitting, StmtFormFitting}
 use Rattle.dpj_accepted.proofs.Clashing.{same_entered}
 use Rattle.dpj_accepted.proofs.Expressions.{boolean_is, expression_agrees}
 use Rattle.dpj_accepted.proofs.Gathered.{then_gathered}
