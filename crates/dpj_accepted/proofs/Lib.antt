@@ -24,4 +24,3 @@ pub mod LocalRegions
 pub mod PartLoops
 pub mod Cobegins
 pub mod Branches
-pub mod Covered
