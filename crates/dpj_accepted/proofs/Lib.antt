@@ -24,3 +24,4 @@ pub mod LocalRegions
 pub mod PartLoops
 pub mod Cobegins
 pub mod Branches
+pub mod WellTyped

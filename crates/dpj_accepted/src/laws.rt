@@ -1,6 +1,9 @@
 //! The laws of accepted programs, each the clause of a function that does nothing.
 
-ghost use Rattle.dpj_accepted.specs.Laws.{SubtypesAgree, TypesAgree, ExpressionsAgree, SinglesAgree, EffectsAreInScope, BlocksAgree};
+ghost use Rattle.dpj_accepted.specs.Whole.{BodiesPass, NoneForks};
+ghost use Rattle.dpj_declared.specs.Laws.{AcceptedIsDeclared};
+ghost use Rattle.dpj_inherited.specs.Laws.{AcceptedInherits, AcceptedHasMain};
+ghost use Rattle.dpj_accepted.specs.Laws.{AcceptedIsWellTyped, SubtypesAgree, TypesAgree, ExpressionsAgree, SinglesAgree, EffectsAreInScope, BlocksAgree};
 
 /// Where a value fits for the checker, its type is a subtype in the judgement.
 pub fn law_subtypes()
@@ -34,4 +37,9 @@ pub fn law_scopes()
 /// their place holds: what is around them for the checker is in scope, and signatures name nothing of a body.
 pub fn law_blocks()
     ensures blocks { BlocksAgree }
+{}
+
+/// Accepted programs are well typed, for now where these parts hold.
+pub fn law_well_typed()
+    ensures well_typed { AcceptedIsDeclared → AcceptedInherits → AcceptedHasMain → BodiesPass → NoneForks → AcceptedIsWellTyped }
 {}
