@@ -25,3 +25,4 @@ pub mod PartLoops
 pub mod Cobegins
 pub mod Branches
 pub mod Covered
+pub mod Standing
