@@ -26,3 +26,4 @@ pub mod Cobegins
 pub mod Branches
 pub mod Covered
 pub mod Standing
+pub mod Membership

@@ -1,4 +1,4 @@
-use Rattle.dpj_accepted.proofs.Standing.{all_made}
+use Rattle.dpj_accepted.proofs.Membership.{member_of_text}
 use Rattle.dpj_accepted.proofs.laws.law_bodies.Goals as goal
 
 pub returns : goal.returns
