@@ -27,3 +27,6 @@ pub mod Branches
 pub mod Covered
 pub mod Standing
 pub mod Membership
+pub mod ParamNames
+pub mod SignatureTypes
+pub mod Entering
