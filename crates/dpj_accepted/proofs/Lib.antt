@@ -30,3 +30,5 @@ pub mod Membership
 pub mod ParamNames
 pub mod SignatureTypes
 pub mod Entering
+pub mod Beginnings
+pub mod MemberBodies
