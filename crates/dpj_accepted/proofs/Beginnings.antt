@@ -14,11 +14,9 @@ use Rattle.dpj_tree.specs.declared.class.MethodResult.{MethodResult}
 use Rattle.dpj_tree.specs.declared.class.MethodResult.TheVariants as outcome
 use Rattle.dpj_tree.specs.declared.class.Program.{Program}
 use Rattle.dpj_tree.specs.declared.region.ParamTree.{ParamTree}
-use Rattle.dpj_tree.specs.Size.{method_size}
-use Rattle.dpj_resolve.specs.declared.scope.ParamFound.{ParamFound}
 use Rattle.dpj_resolve.specs.Classes.{params_in}
 use Rattle.dpj_resolve.specs.Scoped.{no_names, values_in}
-use Rattle.dpj_resolve.specs.Scopes.{PlainScope, param_meant}
+use Rattle.dpj_resolve.specs.Scopes.{PlainScope}
 use Rattle.dpj_typed.specs.Plain.{PlainProgram, PlainClass, PlainMember}
 use Rattle.dpj_typed.specs.Scope.{Scope, variable, frozen}
 use Rattle.dpj_typed.specs.Scope.{Local as Slot}
@@ -29,11 +27,11 @@ use Rattle.dpj_classes.specs.declared.rows.MethodRow.{MethodRow}
 use Rattle.dpj_classes.specs.declared.table.Table.{Table}
 use Rattle.dpj_classes.specs.Around.{class_scope, formal_names}
 use Rattle.dpj_classes.specs.Rows.{PlainMethod, said_scope, method_scope, said_faults}
-use Rattle.dpj_classes.specs.Signatures.{formal_types, formal_faults, result_type, result_faults, summary_faults, constraints_faults}
+use Rattle.dpj_classes.specs.Signatures.{formal_faults, result_type, result_faults, summary_faults, constraints_faults}
 use Rattle.dpj_classes.specs.Table.{headers_of, given_of, numbered}
 use Rattle.dpj_classes.specs.Table.{supers_of as superclasses}
 use Rattle.dpj_exprs.specs.declared.env.Env.{Env}
-use Rattle.dpj_exprs.specs.Env.{table_of, supers_of, scope_of, at_class, at_members, at_method, with_row, param_paths, this_type_of}
+use Rattle.dpj_exprs.specs.Env.{table_of, supers_of, scope_of, at_class, at_members, with_row, param_paths, this_type_of}
 use Rattle.dpj_exprs.specs.Typed.{AreTaken}
 use Rattle.dpj_check.specs.declared.node.Around.{Around}
 use Rattle.dpj_check.specs.Deciding.{has_value}
@@ -104,8 +102,8 @@ module _ (program : Program) (table : Table) (bodies : List PlainBody) (accepted
     abbrev params : List Bool
     params = class_params (table_of start) k.number ++ own_params (table_of start) n
 
-    abbrev Everything : ℕ → Bool
-    Everything x = true
+    abbrev everything : ℕ → Bool
+    everything x = true
 
     table_is : table_of start ≡ table
     table_is = accepted.checked.fresh.table_is
@@ -192,7 +190,7 @@ module _ (program : Program) (table : Table) (bodies : List PlainBody) (accepted
         ∙ ap (λ z. Some (frozen (ty.class k.number z))) (sym (paths_same (length (params_in (headers_of table) k.number)) (omega (arith, small))))
         ∙ ap (λ (t : Table). Some (frozen (ty.class k.number (param_paths (length (params_in (headers_of t) k.number)))))) (sym table_is)
 
-    entered : Entered P L entry around Everything Everything
+    entered : Entered P L entry around everything everything
     entered = record {
       tells = subst (λ t. Tells P t (never_forks table)) (sym table_is) tells;
       sees = record {
@@ -226,12 +224,12 @@ module _ (program : Program) (table : Table) (bodies : List PlainBody) (accepted
 
     -- and behind them
 
-    begun : has_room (formals_declared entry k.method.formals k.row.params) ≡ true → Begun P L around Everything Everything (formals_declared entry k.method.formals k.row.params) (1 + length k.row.params)
+    begun : has_room (formals_declared entry k.method.formals k.row.params) ≡ true → Begun P L around everything everything (formals_declared entry k.method.formals k.row.params) (1 + length k.row.params)
     begun room =
         let many = ap (λ (r : PlainMethod). length r.params) k.row_is in
         let rows = length-map k.row.params plain_type in
         let trees = length-map k.method.formals (λ (formal : Formal). result_type scope (outcome.Value formal.ty)) in
-        formals_entered P L around Everything Everything entry k.method.formals k.row.params (omega (arith, many, rows, trees))
+        formals_entered P L around everything everything entry k.method.formals k.row.params (omega (arith, many, rows, trees))
         (all_stand k.row.params (λ i t e. good_stands P L 0 t (formal_good i t e)))
         (λ i t e. (let on : suc i ≡ 1 + i = omega arith in subst (λ z. L.local z ≡ Some (variable (plain_type t))) on (ap (option_map variable) (got_mapped plain_type k.row.params i t e)))) room entered
 
@@ -241,7 +239,7 @@ module _ (program : Program) (table : Table) (bodies : List PlainBody) (accepted
     atomic_so : L.atomic ≡ params
     atomic_so = ap (λ z. z ++ atomic_of k.row.regions) class_atomic ∙ ap (λ o. class_params (table_of start) k.number ++ option_map_or (λ (row : MethodRow). atomic_of row.regions) o []) numbered_is
 
-    ready_entry : has_room (begin_of (Some k.row)) ≡ true → Ready P L (begin_of (Some k.row)) params around Everything Everything × ((begin_of (Some k.row)).slots ≡ 1 + length k.row.params)
+    ready_entry : has_room (begin_of (Some k.row)) ≡ true → Ready P L (begin_of (Some k.row)) params around everything everything × ((begin_of (Some k.row)).slots ≡ 1 + length k.row.params)
     ready_entry room = (
       record {
         tells = b.entered.tells;
@@ -256,7 +254,7 @@ module _ (program : Program) (table : Table) (bodies : List PlainBody) (accepted
       b.slots_are,
     )
       where
-        b : Begun P L around Everything Everything (begin_of (Some k.row)) (1 + length k.row.params)
+        b : Begun P L around everything everything (begin_of (Some k.row)) (1 + length k.row.params)
         b = begun room
 
         below : (x : ℕ) (l : Slot) → L.local x ≡ Some l → x < (begin_of (Some k.row)).slots
@@ -269,7 +267,7 @@ module _ (program : Program) (table : Table) (bodies : List PlainBody) (accepted
             omega (arith, are, within, rows)
 
     pub ready_begun : has_room (body_begun (at_class start k.number) n k.method).env ≡ true →
-        Ready P L (body_begun (at_class start k.number) n k.method).env params around Everything Everything × ((body_begun (at_class start k.number) n k.method).env.slots ≡ 1 + length k.row.params)
+        Ready P L (body_begun (at_class start k.number) n k.method).env params around everything everything × ((body_begun (at_class start k.number) n k.method).env.slots ≡ 1 + length k.row.params)
     ready_begun room =
-        subst (λ o. Ready P L (begin_of o) params around Everything Everything × ((begin_of o).slots ≡ 1 + length k.row.params)) numbered_is
+        subst (λ o. Ready P L (begin_of o) params around everything everything × ((begin_of o).slots ≡ 1 + length k.row.params)) numbered_is
         (ready_entry (subst (λ o. has_room (begin_of o) ≡ true) (sym numbered_is) room))

@@ -1,13 +1,12 @@
 -- The body of each member of an accepted program passes in the judgement.
-use Rattle.std.proofs.Common.{◌≡◌, ◌∙◌, ◌⊎◌, ◌<◌, ◌+◌, ◌&&◌, not, ℕ, zero, suc, Bool, true, false, cond, IsTrue, List, [], ◌∷◌, ◌++◌, map, length, slice_get, Contains, inl, inr, Option, Some, None, option_map, Ok, refl, sym, ap, subst, arith}
+use Rattle.std.proofs.Common.{◌≡◌, ◌∙◌, ◌⊎◌, ◌+◌, ◌&&◌, not, ℕ, zero, suc, Bool, true, false, cond, IsTrue, List, [], ◌∷◌, ◌++◌, map, length, slice_get, Contains, inl, inr, Option, Some, None, option_map, Ok, refl, sym, ap, subst, arith}
 use Rattle.std.proofs.lemmas.Bool.{and_from, and_parts, false≢true}
 use Rattle.std.proofs.lemmas.List.{length-map}
-use Rattle.std.specs.Option.{option_map_or}
 use Rattle.dpj_base.specs.declared.effect.Effect.{Effect}
 use Rattle.dpj_base.specs.declared.refusal.Kind.{Kind}
 use Rattle.dpj_base.specs.declared.refusal.Kind.TheVariants as kind
 use Rattle.dpj_base.specs.declared.refusal.Refusal.{Refusal}
-use Rattle.dpj_base.specs.Effects.{covers_effect, some_covers, set_covers}
+use Rattle.dpj_base.specs.Effects.{some_covers, set_covers}
 use Rattle.dpj_base.specs.declared.region.Rpl.{Rpl}
 use Rattle.dpj_base.specs.Types.{PlainType, void, plain_type}
 use Rattle.dpj_headers.specs.Passes.{fault}
@@ -15,13 +14,11 @@ use Rattle.dpj_tree.specs.declared.class.Method.{Method}
 use Rattle.dpj_tree.specs.declared.class.Program.{Program}
 use Rattle.dpj_tree.specs.Plain.{PlainStmts, plain_stmt, plain_stmts}
 use Rattle.dpj_typed.specs.Effects.{Own, does, uses, as_effects}
-use Rattle.dpj_typed.specs.Plain.{PlainProgram, PlainClass, PlainMember, TypedStmt, stmts_of}
+use Rattle.dpj_typed.specs.Plain.{PlainProgram, PlainClass, PlainMember, TypedStmt}
 use Rattle.dpj_typed.specs.Scope.{Scope, variable, part}
-use Rattle.dpj_typed.specs.Scope.{Local as Slot}
 use Rattle.dpj_typed.specs.Statements.{AllPass, all_complete}
 use Rattle.dpj_typed.specs.Table.{first_locals, body_scope}
 use Rattle.dpj_assembly.specs.Assembled.{PlainBody, member_of}
-use Rattle.dpj_classes.specs.declared.rows.MethodRow.{MethodRow}
 use Rattle.dpj_classes.specs.declared.table.Table.{Table}
 use Rattle.dpj_classes.specs.Table.{numbered, is_forking, supers_of}
 use Rattle.dpj_exprs.specs.declared.env.Env.{Env}
@@ -30,20 +27,20 @@ use Rattle.dpj_exprs.specs.Env.{table_of, at_class}
 use Rattle.dpj_check.specs.declared.node.Around.{Around}
 use Rattle.dpj_check.specs.Checking.{InBlock}
 use Rattle.dpj_check.specs.Completes as tree_completes
-use Rattle.dpj_check.specs.Deciding.{has_value, method_fault}
+use Rattle.dpj_check.specs.Deciding.{has_value}
 use Rattle.dpj_check.specs.Keeping.{method_around}
 use Rattle.dpj_check.specs.Methods.{MethodChecking, own_params, class_params, summary_of, body_begun, typed_body, method_told, reported, method_judged}
 use Rattle.dpj_check.specs.Simple.{has_room}
-use Rattle.dpj_check.specs.Walks.{Walk, Verdict, passes, refused, nothing_found}
+use Rattle.dpj_check.specs.Walks.{Walk, Verdict, passes, refused}
 use Rattle.dpj_resolved.specs.Accepted.{IsAccepted}
 use Rattle.dpj_resolved.proofs.Lists.{ok_same, map_there}
 use Rattle.dpj_written.specs.Written.{IsWritten}
-use Rattle.dpj_accepted.specs.Gathered.{InFound, Gathers}
+use Rattle.dpj_accepted.specs.Gathered.{InFound}
 use Rattle.dpj_accepted.specs.Laws.{BlockPasses}
-use Rattle.dpj_accepted.specs.Naming.{ThroughPart, DoneIn, AllDoneIn, Signed}
+use Rattle.dpj_accepted.specs.Naming.{AllDoneIn, Signed}
 use Rattle.dpj_accepted.specs.Ready.{Ready}
 use Rattle.dpj_accepted.specs.Seen.{Tells, SupersAgree}
-use Rattle.dpj_accepted.specs.Whole.{made_of, never_forks, TablesTell, SupersAreTold, SignaturesNameNothing, ForksAreTold, GoodBody, BodiesPassWhere}
+use Rattle.dpj_accepted.specs.Whole.{made_of, never_forks, ForksAreTold, GoodBody, BodiesPassWhere}
 use Rattle.dpj_accepted.proofs.Beginnings.{ready_begun, result_none}
 use Rattle.dpj_accepted.proofs.Bodies.{block_agrees}
 use Rattle.dpj_accepted.proofs.Gathered.{head_in, later_in, nothing_in, in_cases}

@@ -1,5 +1,5 @@
 -- A member of an accepted program: the method of the text that it is, the class in which that stands, and how its body was checked.
-use Rattle.std.proofs.Common.{◌≡◌, ◌∙◌, ℕ, zero, suc, ◌+◌, ◌<◌, ◌≤◌, Bool, List, [], ◌∷◌, ◌++◌, All, map, length, sum_by, Option, Some, None, Ok, refl, ap, sym, subst, arith}
+use Rattle.std.proofs.Common.{◌≡◌, ◌∙◌, ℕ, zero, suc, ◌+◌, ◌<◌, ◌≤◌, List, [], ◌∷◌, ◌++◌, map, length, Option, Some, None, Ok, refl, ap, sym, subst, arith}
 use Rattle.std.proofs.lemmas.List.{length-map}
 use Rattle.std.proofs.lemmas.Option.{slice_get_within}
 use Rattle.std.specs.Option.{option_map_or}
@@ -7,16 +7,16 @@ use Rattle.std.specs.Prelude.{slice_get}
 use Rattle.dpj_headers.specs.declared.faults.Order.TheVariants as order
 use Rattle.dpj_headers.specs.declared.header.Header.{Header}
 use Rattle.dpj_headers.specs.Faults.{none_by}
-use Rattle.dpj_headers.specs.Gathered.{param_row, header_rows, headers_in}
+use Rattle.dpj_headers.specs.Gathered.{param_row, header_rows}
 use Rattle.dpj_headers.specs.Headers.{header_of, class_count}
 use Rattle.dpj_headers.specs.Numbers.{as_number}
 use Rattle.dpj_tree.specs.declared.class.Class.{Class}
 use Rattle.dpj_tree.specs.declared.class.Method.{Method}
 use Rattle.dpj_tree.specs.declared.class.Program.{Program}
 use Rattle.dpj_tree.specs.Nd.{program_uses_nd}
-use Rattle.dpj_tree.specs.Size.{method_size, class_size}
+use Rattle.dpj_tree.specs.Size.{method_size}
 use Rattle.dpj_resolve.specs.Classes.{params_in}
-use Rattle.dpj_typed.specs.Plain.{PlainProgram, PlainClass, PlainMember}
+use Rattle.dpj_typed.specs.Plain.{PlainClass, PlainMember}
 use Rattle.dpj_typed.specs.Scope.{class_at, member_at}
 use Rattle.dpj_assembly.specs.Assembled.{PlainBody, class_of, member_of}
 use Rattle.dpj_classes.specs.declared.rows.MethodRow.{MethodRow}

@@ -4,7 +4,6 @@ use Rattle.std.proofs.lemmas.List.{append-nil, append_assoc, length-append, leng
 use Rattle.std.proofs.lemmas.Option.{slice_get_within}
 use Rattle.std.specs.Option.{option_map_or}
 use Rattle.dpj_base.specs.declared.region.Head.TheVariants.{Param}
-use Rattle.dpj_base.specs.declared.region.Rpl.{Rpl}
 use Rattle.dpj_headers.specs.declared.header.Header.{Header}
 use Rattle.dpj_headers.specs.declared.header.ParamRow.{ParamRow}
 use Rattle.dpj_headers.specs.Headers.{param_of}
@@ -16,7 +15,7 @@ use Rattle.dpj_resolve.specs.Scoped.{with_name, value_in, values_in, place_in}
 use Rattle.dpj_resolve.specs.Scopes.{PlainScope, is_atomic_at, class_param, behind_class, method_param, param_meant}
 use Rattle.dpj_typed.specs.Table.{params_from}
 use Rattle.dpj_exprs.specs.Env.{param_paths}
-use Rattle.dpj_resolved.proofs.Lists.{some_same, and_then_there, map_there}
+use Rattle.dpj_resolved.proofs.Lists.{some_same, and_then_there}
 
 -- the values of names that came one after another
 pub values_folded : {A T : Type 0} (name : A → ℕ) (value : A → T) (names : Names T) (xs : List A) → (fold (λ names x. with_name names (name x) (value x)) names xs).values ≡ names.values ++ map value xs

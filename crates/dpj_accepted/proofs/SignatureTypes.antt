@@ -1,5 +1,5 @@
 -- The types in a signature without faults are good, where what names mean around it is in scope.
-use Rattle.std.proofs.Common.{◌≡◌, ◌≤◌, ◌+◌, ℕ, zero, suc, true, List, [], ◌∷◌, ◌++◌, map, flat_map, length, slice_get, sum_by, Some, unwrap_or, sym, subst, arith}
+use Rattle.std.proofs.Common.{◌≡◌, ◌≤◌, ℕ, zero, suc, true, List, [], ◌∷◌, length, slice_get, sum_by, Some, unwrap_or, sym, subst, arith}
 use Rattle.std.proofs.lemmas.List.Sums.{sum_by-cons}
 use Rattle.dpj_base.specs.Types.{PlainType}
 use Rattle.dpj_base.specs.Types.{PlainType as ty}

@@ -1,5 +1,5 @@
 -- What a whole accepted program keeps, by parts: what its table tells, when its methods reach nd constructs, and its bodies.
-use Rattle.std.specs.Prelude.{◌≡◌, ◌<◌, ◌⊎◌, ℕ, ◌+◌, Bool, true, false, not, IsTrue, List, [], ◌∷◌, length, map, codes, Some}
+use Rattle.std.specs.Prelude.{◌≡◌, ◌<◌, ◌⊎◌, ℕ, ◌+◌, Bool, true, false, not, IsTrue, List, ◌∷◌, length, map, codes, Some}
 use Rattle.dpj_base.specs.Effects.{set_covers}
 use Rattle.dpj_base.specs.Types.{void}
 use Rattle.dpj_tree.specs.declared.class.Class.{Class}

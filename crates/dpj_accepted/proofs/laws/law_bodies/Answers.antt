@@ -2,7 +2,4 @@ use Rattle.dpj_accepted.proofs.MemberBodies.{bodies_pass}
 use Rattle.dpj_accepted.proofs.laws.law_bodies.Goals as goal
 
 pub returns : goal.returns
-returns c = record {
-  bodies = λ tells supers signed forks program table bodies written accepted n m class there class_there.
-      bodies_pass tells supers signed forks program table bodies written accepted n m class there class_there;
-}
+returns c = record { bodies = bodies_pass }
