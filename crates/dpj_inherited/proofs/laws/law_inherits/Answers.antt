@@ -1,6 +1,5 @@
-use Rattle.dpj_inherited.proofs.Supers.{parent_type}
-use Rattle.dpj_inherited.proofs.Params.{params_few}
+use Rattle.dpj_inherited.proofs.Inheriting.{accepted_inherits}
 use Rattle.dpj_inherited.proofs.laws.law_inherits.Goals as goal
 
 pub returns : goal.returns
-returns c = record { inherits = ? }
+returns c = record { inherits = accepted_inherits }
