@@ -1,21 +1,20 @@
 -- A class as a class above it, with region arguments: as the checker finds it, and as the judgement says it.
-use Rattle.std.proofs.Common.{◌≡◌, ◌≢◌, ◌∙◌, inl, inr, ℕ, zero, suc, ◌+◌, ◌<◌, ◌≤◌, ◌==◌, Bool, true, false, cond, List, map, length, Option, Some, None, option_map, option_and_then, refl, ap, sym, subst, arith}
+use Rattle.std.proofs.Common.{◌≡◌, ◌∙◌, inl, inr, ℕ, zero, suc, ◌+◌, ◌<◌, ◌==◌, true, false, cond, List, map, length, Option, Some, None, option_map, option_and_then, ap, sym, subst, arith}
 use Rattle.std.proofs.lemmas.Bool.{cases_lt}
 use Rattle.std.proofs.lemmas.Bool.Decides.{eqb_tells}
 use Rattle.std.proofs.lemmas.List.{length-map}
 use Rattle.dpj_base.specs.declared.region.Rpl.{Rpl}
 use Rattle.dpj_base.specs.Regions.{substituted}
 use Rattle.dpj_base.specs.Types.{PlainType, plain_type}
-use Rattle.dpj_base.specs.Types.{PlainType as ty}
 use Rattle.dpj_headers.specs.declared.header.Header.{Header}
 use Rattle.dpj_headers.specs.Headers.{parent_of, parents_of, class_count}
 use Rattle.dpj_headers.specs.Numbers.{as_number}
-use Rattle.dpj_headers.specs.Rounds.{entry_of, up}
+use Rattle.dpj_headers.specs.Rounds.{up}
 use Rattle.dpj_headers.proofs.Cycles.{up-first, entry_within}
 use Rattle.dpj_headers.proofs.Walks.{top_none}
 use Rattle.dpj_tree.specs.declared.class.Program.{Program}
 use Rattle.dpj_tree.specs.Nd.{program_uses_nd}
-use Rattle.dpj_typed.specs.Plain.{PlainProgram, PlainClass, PlainParent}
+use Rattle.dpj_typed.specs.Plain.{PlainProgram, PlainClass}
 use Rattle.dpj_typed.specs.Scope.{Above, class_at}
 use Rattle.dpj_typed.specs.Scope.{parent_of as typed_parent}
 use Rattle.dpj_classes.specs.declared.table.Table.{Table}
@@ -74,10 +73,12 @@ module _ (program : Program) (table : Table) (bodies : List PlainBody) (accepted
         (args, ap (λ b. cond b (Some args) (next fuel args owner (option_map plain_type (parent_type_of table at)))) is, subst (λ z. Above P at args z args) same Above.itself)
 
     found_above : (fuel at owner one : ℕ) (args : List Rpl) → (at == owner) ≡ false → parent_of (headers_of table) at ≡ Some one → Finds fuel one (map (substituted args) (parent_args_of table at)) owner → Finds (suc fuel) at args owner
-    found_above fuel at owner one args differs is w =
-        (w.0, ap (λ b. cond b (Some args) (next fuel args owner (option_map plain_type (parent_type_of table at)))) differs
-        ∙ ap (next fuel args owner) (parent_type program table bodies accepted at one is) ∙ w.1,
-        Above.through_parent (parent_there at one is) w.2)
+    found_above fuel at owner one args differs is w = (
+      w.0,
+      ap (λ b. cond b (Some args) (next fuel args owner (option_map plain_type (parent_type_of table at)))) differs
+          ∙ ap (next fuel args owner) (parent_type program table bodies accepted at one is) ∙ w.1,
+      Above.through_parent (parent_there at one is) w.2,
+    )
 
     above_found : (n fuel at owner : ℕ) (args : List Rpl) → up parents n at ≡ Some owner → n < fuel → Finds fuel at args owner
     above_found n zero at owner args e l = absurd (omega (arith, l))

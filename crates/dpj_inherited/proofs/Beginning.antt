@@ -1,5 +1,5 @@
 -- A run of an accepted program begins in a class and with a member as it should.
-use Rattle.std.proofs.Common.{◌≡◌, ◌∙◌, ℕ, zero, suc, ◌+◌, ◌<◌, ◌==◌, ◌&&◌, ◌||◌, not, Bool, true, false, cond, is_none, List, [], ◌∷◌, map, length, Option, Some, None, refl, ap, sym, subst, arith}
+use Rattle.std.proofs.Common.{◌≡◌, ◌∙◌, ℕ, suc, ◌+◌, ◌<◌, ◌==◌, ◌&&◌, ◌||◌, not, Bool, true, false, cond, is_none, List, [], ◌∷◌, map, length, Option, Some, None, refl, ap, sym, arith}
 use Rattle.std.proofs.lemmas.Bool.Decides.{Decides-eqb}
 use Rattle.std.proofs.lemmas.Option.{slice_get_within}
 use Rattle.std.specs.List.{find, list_any, position_from}
@@ -17,7 +17,7 @@ use Rattle.dpj_headers.specs.Numbers.{as_number}
 use Rattle.dpj_headers.specs.Passes.{fault, fault_if}
 use Rattle.dpj_tree.specs.declared.class.Program.{Program}
 use Rattle.dpj_tree.specs.Nd.{program_uses_nd}
-use Rattle.dpj_typed.specs.Plain.{PlainProgram, PlainMember}
+use Rattle.dpj_typed.specs.Plain.{PlainProgram}
 use Rattle.dpj_typed.specs.Scope.{member_at}
 use Rattle.dpj_typed.specs.WellTyped.{GoodMain}
 use Rattle.dpj_assembly.specs.Assembled.{PlainBody, member_of, program_of}
@@ -142,6 +142,12 @@ module _ (program : Program) (table : Table) (bodies : List PlainBody) (written 
         (λ at. option_map_or (λ header. fault_if (not (begins_runs table at header program.names)) kind.Main header.place) (header_of (headers_of table) at) [])
         o (fault kind.Main start ∷ [])
 
+    begins_at : (at : ℕ) (header : Header) → header_of (headers_of table) at ≡ Some header → faults_of (Some at) ≡ [] → begins_runs table at header program.names ≡ true
+    begins_at at header is none =
+        not_false (begins_runs table at header program.names)
+        (fault_none (not (begins_runs table at header program.names)) kind.Main header.place
+        (sym (ap (λ o. option_map_or (λ (h : Header). fault_if (not (begins_runs table at h program.names)) kind.Main h.place) o []) is) ∙ none))
+
     begun_at : (o : Option ℕ) → main_class table ≡ o → faults_of o ≡ [] → GoodMain P
     begun_at None is none = absurd (cc (none))
     begun_at (Some at) is none =
@@ -150,10 +156,7 @@ module _ (program : Program) (table : Table) (bodies : List PlainBody) (written 
         let le = position_within (λ (row : Header). row.name == w.0) 0 (headers_of table).rows p.0 p.1 in
         let number = p.2 in
         let h = there (headers_of table).rows at (omega (arith, le, number)) in
-        begun at h.0 is h.1
-        (not_false (begins_runs table at h.0 program.names)
-        (fault_none (not (begins_runs table at h.0 program.names)) kind.Main h.0.place
-        (sym (ap (λ o. option_map_or (λ (h : Header). fault_if (not (begins_runs table at h program.names)) kind.Main h.place) o []) h.1) ∙ none)))
+        begun at h.0 is h.1 (begins_at at h.0 h.1 none)
 
 pub accepted_main : AcceptedHasMain
 accepted_main program table bodies written accepted = begun_at program table bodies written accepted (main_class table) refl (free program table bodies written accepted)

@@ -1,20 +1,17 @@
 -- What the table of an accepted program says of classes and methods, by the text.
-use Rattle.std.proofs.Common.{◌≡◌, ◌∙◌, ℕ, zero, suc, ◌+◌, ◌<◌, true, false, List, [], ◌∷◌, map, length, filter_map, Option, Some, None, refl, ap, sym, subst, arith}
-use Rattle.std.proofs.lemmas.List.{length-map}
+use Rattle.std.proofs.Common.{◌≡◌, ◌∙◌, ℕ, zero, suc, ◌+◌, true, List, [], ◌∷◌, map, Option, Some, refl, ap, sym, arith}
 use Rattle.std.specs.Option.{option_map_or}
 use Rattle.std.specs.Prelude.{slice_get}
-use Rattle.dpj_base.specs.declared.effect.Constraint.{Constraint}
 use Rattle.dpj_base.specs.Types.{plain_type, void}
 use Rattle.dpj_headers.specs.declared.header.Header.{Header}
 use Rattle.dpj_headers.specs.declared.header.Headers.{Headers}
 use Rattle.dpj_headers.specs.First.{parents_in}
-use Rattle.dpj_headers.specs.Gathered.{header_row, header_rows, headers_in, object_fields, param_row}
+use Rattle.dpj_headers.specs.Gathered.{header_row, header_rows, object_fields, param_row}
 use Rattle.dpj_headers.specs.Headers.{header_of}
 use Rattle.dpj_headers.specs.Numbers.{as_number}
 use Rattle.dpj_headers.specs.Passes.{is_constructor_result}
 use Rattle.dpj_resolve.specs.Scopes.{PlainScope}
 use Rattle.dpj_tree.specs.declared.class.Class.{Class}
-use Rattle.dpj_tree.specs.declared.class.Method.{Method}
 use Rattle.dpj_tree.specs.declared.class.MethodResult.{MethodResult}
 use Rattle.dpj_tree.specs.declared.class.MethodResult.TheVariants as outcome
 use Rattle.dpj_tree.specs.declared.class.Program.{Program}
@@ -22,13 +19,13 @@ use Rattle.dpj_tree.specs.declared.region.Params.{Params}
 use Rattle.dpj_classes.specs.declared.rows.MethodRow.{MethodRow}
 use Rattle.dpj_classes.specs.declared.table.Table.{Table}
 use Rattle.dpj_classes.specs.Around.{class_scope}
-use Rattle.dpj_classes.specs.Rows.{PlainMethod, plain_method, method_row, said_scope, method_scope, methods_meant, all_constraints}
+use Rattle.dpj_classes.specs.Rows.{PlainMethod, plain_method, said_scope, method_scope, all_constraints}
 use Rattle.dpj_classes.specs.Signatures.{constraints_meant, result_type}
 use Rattle.dpj_classes.specs.Table.{headers_of, methods_of, given_of, all_given}
 use Rattle.dpj_assembly.specs.Assembled.{PlainBody}
 use Rattle.dpj_resolved.specs.Accepted.{IsAccepted}
 use Rattle.dpj_resolved.proofs.Lists.{some_same, got_mapped}
-use Rattle.dpj_written.specs.Written.{IsWritten, ClassIsWritten, MemberIsWritten, MethodIsWritten, HasParams, HasFront}
+use Rattle.dpj_written.specs.Written.{IsWritten, ClassIsWritten, MemberIsWritten, MethodIsWritten, HasFront}
 use Rattle.dpj_inherited.proofs.Text.{Comes, row_comes, all_at}
 
 map_none : {A B : Type 0} (f : A → B) (xs : List A) → map f xs ≡ [] → xs ≡ []

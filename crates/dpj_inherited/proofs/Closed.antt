@@ -1,22 +1,19 @@
 -- Constructors: each is its class's own, as it should be, and a class that is extended has none.
-use Rattle.std.proofs.Common.{◌≡◌, ◌∙◌, inl, inr, ℕ, zero, suc, ◌+◌, ◌<◌, ◌==◌, ◌||◌, Bool, true, false, List, [], ◌∷◌, ◌++◌, map, length, Option, Some, None, refl, ap, sym, subst, arith}
+use Rattle.std.proofs.Common.{◌≡◌, ◌∙◌, inl, inr, ℕ, zero, suc, ◌<◌, ◌==◌, Bool, true, false, List, [], ◌∷◌, map, length, Option, Some, None, refl, ap, sym, subst, arith}
 use Rattle.std.proofs.lemmas.Bool.Decides.{Decides-eqb}
-use Rattle.std.proofs.lemmas.Option.{slice_get_within}
-use Rattle.std.specs.List.{list_any}
-use Rattle.std.specs.Option.{option_map, option_and_then}
+use Rattle.std.proofs.lemmas.List.Folds.{list_any_at}
+use Rattle.std.proofs.lemmas.Option.{get_or_from_slice_get, slice_get_within}
+use Rattle.std.specs.Option.{option_map}
 use Rattle.std.specs.Prelude.{slice_get, slice_index_or}
 use Rattle.dpj_base.specs.declared.refusal.Kind.TheVariants as kind
 use Rattle.dpj_headers.specs.declared.faults.Order.TheVariants as order
-use Rattle.dpj_headers.specs.declared.header.Header.{Header}
 use Rattle.dpj_headers.specs.Faults.{none_by, told}
 use Rattle.dpj_headers.specs.First.{class_named, first_faults, parents_in}
-use Rattle.dpj_headers.specs.Headers.{parent_of, parents_of, class_count}
-use Rattle.dpj_headers.specs.Numbers.{as_number}
+use Rattle.dpj_headers.specs.Headers.{parent_of}
 use Rattle.dpj_headers.specs.Passes.{closed_parents, cycles, extends_place, fault_if, has_constructor, is_among, is_constructor, second_classes, unknown_parents}
 use Rattle.dpj_headers.specs.Rounds.{entry_of}
 use Rattle.dpj_headers.proofs.Second.{length_parents}
 use Rattle.dpj_tree.specs.declared.class.Class.{Class}
-use Rattle.dpj_tree.specs.declared.class.Member.{Member}
 use Rattle.dpj_tree.specs.declared.class.Member.TheVariants as member
 use Rattle.dpj_tree.specs.declared.class.Program.{Program}
 use Rattle.dpj_tree.specs.Nd.{program_uses_nd}
@@ -33,19 +30,9 @@ use Rattle.dpj_resolved.proofs.Expressions.{and_split}
 use Rattle.dpj_resolved.proofs.Free.{append_none, fault_none, none_told}
 use Rattle.dpj_resolved.proofs.Lists.{some_same, and_then_there, map_there, got_mapped}
 use Rattle.dpj_written.specs.Written.{IsWritten}
-use Rattle.dpj_inherited.proofs.Above.{P, upper_there}
+use Rattle.dpj_inherited.proofs.Above.{P}
 use Rattle.dpj_inherited.proofs.Classes.{comes, constructs}
 use Rattle.dpj_inherited.proofs.Supers.{last_there, parent_entry}
-
--- an element that passes a test is enough
-any_at : {X : Type 0} (test : X → Bool) (xs : List X) (i : ℕ) (x : X) → slice_get xs i ≡ Some x → test x ≡ true → list_any test xs ≡ true
-any_at test [] i x e is = cc
-any_at test (y ∷ xs) zero x e is = ap (λ b. b || list_any test xs) (ap test (some_same e) ∙ is)
-any_at test (y ∷ xs) (suc i) x e is = by (test y) (any_at test xs i x e is)
-  where
-    by : (b : Bool) → list_any test xs ≡ true → b || list_any test xs ≡ true
-    by true h = refl
-    by false h = h
 
 -- without a fault no class extends one of those that are closed
 open_parent : (closed : List Bool) (classes : List Class) (parents : List (Option ℕ)) (at above : ℕ) → closed_parents closed classes parents ≡ [] → at < length classes → entry_of parents at ≡ Some above →
@@ -57,11 +44,6 @@ open_parent closed (class ∷ classes) (parent ∷ parents) zero above free l e 
     ap (is_among closed) (sym e) ∙ fault_none (is_among closed parent) kind.Override (extends_place class) w.0
 open_parent closed (class ∷ classes) (parent ∷ parents) (suc at) above free l e =
     open_parent closed classes parents at above (append_none (fault_if (is_among closed parent) kind.Override (extends_place class)) (closed_parents closed classes parents) free).1 (omega (arith, l)) e
-
-index_is : (xs : List Bool) (i : ℕ) (x : Bool) → slice_get xs i ≡ Some x → slice_index_or xs i false ≡ x
-index_is [] i x e = cc
-index_is (y ∷ xs) zero x e = some_same e
-index_is (y ∷ xs) (suc i) x e = index_is xs i x e
 
 module _ (program : Program) (table : Table) (bodies : List PlainBody) (written : IsWritten program) (accepted : IsAccepted program table bodies)
   where
@@ -119,8 +101,10 @@ module _ (program : Program) (table : Table) (bodies : List PlainBody) (written 
         let own = r.owner in
         let here : w.place ≡ at = omega (arith, place, counted, owner, own) in
         let has : has_constructor w.class ≡ true =
-        any_at is_constructor w.class.members w.spot (member.Method w.method) w.declared (sym (ap (λ (m : PlainMethod). m.is_constructor) w.is) ∙ r.is) in
-        index_is (map has_constructor program.classes) at true
+        list_any_at is_constructor w.class.members w.spot (member.Method w.method) (slice_get_within w.class.members w.spot (member.Method w.method) w.declared)
+        (ap is_constructor (get_or_from_slice_get w.class.members w.spot (member.Method w.method) (member.Method w.method) w.declared)
+        ∙ sym (ap (λ (m : PlainMethod). m.is_constructor) w.is) ∙ r.is) in
+        get_or_from_slice_get (map has_constructor program.classes) at true false
         (ap (slice_get (map has_constructor program.classes)) (sym here) ∙ got_mapped has_constructor program.classes w.place w.class w.stands ∙ ap Some has)
 
     pub extended_open : (c above : ℕ) → parent_of (headers_of table) c ≡ Some above → constructor_of table above ≡ None

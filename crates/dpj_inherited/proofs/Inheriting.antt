@@ -1,9 +1,8 @@
 -- A class keeps what its superclass has.
-use Rattle.std.proofs.Common.{◌≡◌, ◌∙◌, ◌⊎◌, inl, inr, ℕ, zero, suc, ◌+◌, ◌<◌, List, [], ◌∷◌, ◌++◌, All, map, length, Option, Some, None, refl, ap, sym, subst, arith}
+use Rattle.std.proofs.Common.{◌≡◌, ◌∙◌, ◌⊎◌, inl, inr, ℕ, zero, suc, ◌+◌, ◌<◌, List, [], ◌∷◌, ◌++◌, All, map, length, Option, Some, refl, ap, sym, subst, arith}
 use Rattle.std.proofs.lemmas.List.{length-map}
 use Rattle.std.specs.Option.{option_and_then, option_map, option_map_or}
 use Rattle.std.specs.Prelude.{slice_get, unwrap_or}
-use Rattle.dpj_base.specs.declared.refusal.Refusal.{Refusal}
 use Rattle.dpj_base.specs.declared.region.Rpl.{Rpl}
 use Rattle.dpj_headers.specs.declared.faults.Order.TheVariants as order
 use Rattle.dpj_headers.specs.declared.header.Header.{Header}
@@ -12,14 +11,14 @@ use Rattle.dpj_headers.specs.Faults.{none_by}
 use Rattle.dpj_headers.specs.Headers.{header_of, parent_of, parents_of, class_count}
 use Rattle.dpj_headers.specs.Inheriting.{made_in}
 use Rattle.dpj_headers.specs.Numbers.{as_number}
-use Rattle.dpj_headers.specs.Rounds.{up}
+use Rattle.dpj_headers.specs.Rounds.{entry_of, up}
 use Rattle.dpj_headers.proofs.Cycles.{up-then}
 use Rattle.dpj_headers.proofs.Inheriting.{made_step}
 use Rattle.dpj_tree.specs.declared.class.Program.{Program}
 use Rattle.dpj_tree.specs.Nd.{program_uses_nd}
 use Rattle.dpj_typed.specs.Plain.{PlainProgram, PlainClass, PlainMember, PlainParent}
-use Rattle.dpj_typed.specs.Scope.{class_at}
-use Rattle.dpj_typed.specs.Table.{field_with, own_paths, method_paths, KeepsRow, RowIsThere}
+use Rattle.dpj_typed.specs.Scope.{Above, class_at}
+use Rattle.dpj_typed.specs.Table.{field_with, own_paths, method_paths, KeepsRow, Overrides, RowIsThere}
 use Rattle.dpj_classes.specs.declared.rows.MethodRow.{MethodRow}
 use Rattle.dpj_classes.specs.declared.table.Table.{Table}
 use Rattle.dpj_classes.specs.Build.{table_faults}
@@ -121,33 +120,38 @@ module _ (program : Program) (table : Table) (bodies : List PlainBody) (written 
         ∙ ap (λ o. unwrap_or o [] ++ checked_from size (length over.params)) found
         ∙ ap (λ ps. seen ++ ps) (params_same size (length over.params) (omega (arith, few, long, same)))
 
-    -- a member of the class itself that overrides one
+    -- a member of the class itself that overrides one, which the class sees with these arguments
+    seen_overriding : (c m n : ℕ) (row over : MethodRow) (seen : List Rpl) → c < class_count (headers_of table) → slice_get (methods_of table) m ≡ Some row → slice_get (methods_of table) n ≡ Some over → row.owner ≡ c → overridden_by table m ≡ Some n →
+        args_at table c (own_paths (class_of table c)) over.owner ≡ Some seen → Above world c (own_paths (class_of table c)) over.owner seen → KeepsRow world c (class_of table c) n m
+    seen_overriding c m n row over seen l e there_is own is found sees =
+        let b = has_member program table bodies accepted program.names (program_uses_nd program) m row e in
+        let d = has_member program table bodies accepted program.names (program_uses_nd program) n over there_is in
+        inr (member_of row b.0, member_of over d.0, b.2, d.2, overrides b.0 d.0)
+      where
+        first : Fits (args_in table row over.owner) row over
+        first = fits_there m n row over e there_is is
+
+        overrides : (body above : PlainBody) → Overrides world c (class_of table c) (member_of row body) (member_of over above)
+        overrides body above =
+            let many : length row.regions ≡ length (member_of over above).params = first.as_many ∙ sym (length-map over.regions (λ (param : ParamRow). param.atomic)) in
+            let f : Fits (seen ++ method_paths (class_of table c) (member_of over above)) row over =
+            subst (λ z. Fits z row over) (args_are c m over.owner row (member_of over above) seen l e own many found) first in
+            record { own = own; seen = seen; sees = sees; params = f.params; given = f.given; formals = f.formals; result = f.result; covered = f.covered }
+
+    -- what it overrides stands in a class above
     overriding : (c m n : ℕ) (row : MethodRow) → c < class_count (headers_of table) → slice_get (methods_of table) m ≡ Some row → row.owner ≡ c → overridden_by table m ≡ Some n → KeepsRow world c (class_of table c) n m
     overriding c m n row l e own is =
         let o = over_is table known m n row e is in
         let w = named_is table known o.0 row.name n o.2 in
-        let over = w.3.row in
-        let owner = owner_of w.0 over w.3.own in
-        let on : w.1 + 1 ≡ suc w.1 = omega arith in
-        let entry = sym (parent_is table c) ∙ ap (parent_of (headers_of table)) (sym own) ∙ o.1 in
-        let high : up parents (suc w.1) c ≡ Some over.owner =
-        ap (λ k. up parents k c) (sym on) ∙ up-then parents w.1 1 c o.0 entry ∙ w.2 ∙ ap Some (sym owner) in
-        let a = args_found program table bodies accepted (suc w.1) c over.owner (own_paths (class_of table c)) high in
-        let b = has_member program table bodies accepted program.names (program_uses_nd program) m row e in
-        let d = has_member program table bodies accepted program.names (program_uses_nd program) n over w.3.there in
-        let first = fits_there m n row over e w.3.there is in
-        let many = first.as_many ∙ sym (length-map over.regions (λ (param : ParamRow). param.atomic)) in
-        let f = subst (λ z. Fits z row over) (args_are c m over.owner row (member_of over d.0) a.0 l e own many a.1) first in
-        inr (member_of row b.0, member_of over d.0, b.2, d.2, record {
-          own = own;
-          seen = a.0;
-          sees = a.2;
-          params = f.params;
-          given = f.given;
-          formals = f.formals;
-          result = f.result;
-          covered = f.covered;
-        })
+        by o.0 w.0 w.1 w.3.row (sym (parent_is table c) ∙ ap (parent_of (headers_of table)) (sym own) ∙ o.1) w.2 w.3.there (owner_of w.0 w.3.row w.3.own)
+      where
+        by : (parent class k : ℕ) (over : MethodRow) → entry_of parents c ≡ Some parent → up parents k parent ≡ Some class → slice_get (methods_of table) n ≡ Some over → over.owner ≡ class → KeepsRow world c (class_of table c) n m
+        by parent class k over entry high there_is owner =
+            let on : k + 1 ≡ suc k = omega arith in
+            let higher : up parents (suc k) c ≡ Some over.owner =
+            ap (λ j. up parents j c) (sym on) ∙ up-then parents k 1 c parent entry ∙ high ∙ ap Some (sym owner) in
+            let a = args_found program table bodies accepted (suc k) c over.owner (own_paths (class_of table c)) higher in
+            seen_overriding c m n row over a.0 l e there_is own is a.1 a.2
 
     rows_there : (c above r n : ℕ) → parent_of (headers_of table) c ≡ Some above → slice_get (members_in table above) r ≡ Some n →
         (m : ℕ) × (slice_get (members_in table c) r ≡ Some m) × KeepsRow world c (class_of table c) n m

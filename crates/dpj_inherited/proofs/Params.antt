@@ -1,29 +1,25 @@
 -- The region parameters of a class and of a member behind them are the paths that the checker puts in.
-use Rattle.std.proofs.Common.{◌≡◌, ◌∙◌, ℕ, zero, suc, ◌+◌, ◌<◌, ◌≤◌, List, [], ◌∷◌, ◌++◌, map, length, Option, Some, None, refl, ap, sym, subst, sum_by, arith}
+use Rattle.std.proofs.Common.{◌≡◌, ◌∙◌, ℕ, zero, suc, ◌+◌, ◌≤◌, List, [], ◌∷◌, ◌++◌, length, Some, refl, ap, sym, sum_by, arith}
 use Rattle.std.proofs.lemmas.List.{length-map}
 use Rattle.std.proofs.lemmas.List.Sums.{get_or-le-sum_by}
 use Rattle.std.proofs.lemmas.Option.{slice_get_within, get_or_from_slice_get}
-use Rattle.std.specs.Option.{option_map_or}
 use Rattle.std.specs.Prelude.{slice_get}
-use Rattle.dpj_base.specs.declared.region.Head.TheVariants.{Param}
-use Rattle.dpj_base.specs.declared.region.Rpl.{Rpl}
 use Rattle.dpj_headers.specs.declared.header.Header.{Header}
 use Rattle.dpj_headers.specs.Gathered.{param_row}
 use Rattle.dpj_headers.specs.Headers.{header_of}
 use Rattle.dpj_headers.specs.Numbers.{as_number}
 use Rattle.dpj_tree.specs.declared.class.Member.TheVariants as member
 use Rattle.dpj_tree.specs.declared.class.Program.{Program}
-use Rattle.dpj_tree.specs.Size.{class_size, member_size, params_size, parent_size, rpl_size, result_size, summary_size, stmts_size, type_size}
+use Rattle.dpj_tree.specs.Size.{class_size, member_size}
 use Rattle.dpj_typed.specs.Table.{params_from}
 use Rattle.dpj_classes.specs.declared.rows.MethodRow.{MethodRow}
 use Rattle.dpj_classes.specs.declared.table.Table.{Table}
-use Rattle.dpj_classes.specs.Overriding.{param_count, param_path}
+use Rattle.dpj_classes.specs.Overriding.{param_path}
 use Rattle.dpj_classes.specs.Overriding.{params_from as checked_from}
 use Rattle.dpj_classes.specs.Rows.{PlainMethod}
 use Rattle.dpj_classes.specs.Table.{headers_of, methods_of}
 use Rattle.dpj_assembly.specs.Assembled.{PlainBody}
 use Rattle.dpj_resolved.specs.Accepted.{IsAccepted}
-use Rattle.dpj_resolved.proofs.Assembled.{facts}
 use Rattle.dpj_resolved.proofs.Lists.{some_same}
 use Rattle.dpj_written.specs.Written.{IsWritten}
 use Rattle.dpj_inherited.proofs.Classes.{comes, of_header}

@@ -1,5 +1,5 @@
 -- A member in a row of a class is its own, or stands in that row of its superclass.
-use Rattle.std.proofs.Common.{◌≡◌, ◌∙◌, ◌⊎◌, inl, inr, ℕ, zero, suc, ◌+◌, ◌<◌, ◌==◌, ◌&&◌, not, is_some, Bool, true, false, cond, List, [], ◌∷◌, ◌++◌, length, map, fold, slice_set, Option, Some, None, refl, ap, sym, subst, arith}
+use Rattle.std.proofs.Common.{◌≡◌, ◌∙◌, ◌⊎◌, inl, inr, ℕ, zero, suc, ◌+◌, ◌==◌, ◌&&◌, not, is_some, Bool, true, false, cond, List, [], ◌∷◌, ◌++◌, length, fold, slice_set, Option, Some, None, refl, ap, sym, subst, arith}
 use Rattle.std.proofs.lemmas.Bool.Decides.{Decides-eqb}
 use Rattle.std.proofs.lemmas.Option.{slice_get-map}
 use Rattle.std.specs.List.{filter}
@@ -23,7 +23,7 @@ use Rattle.dpj_resolved.specs.Accepted.{IsAccepted}
 use Rattle.dpj_resolved.proofs.Assembled.{facts, has_member}
 use Rattle.dpj_resolved.proofs.Expressions.{and_split}
 use Rattle.dpj_resolved.proofs.Lists.{some_same, map_there}
-use Rattle.dpj_rows.proofs.Facts.{got_either, parent_is}
+use Rattle.dpj_rows.proofs.Facts.{parent_is}
 use Rattle.dpj_inherited.proofs.Above.{P, parent_there}
 
 -- what a list has after a change, and what passes a test
@@ -34,11 +34,11 @@ set_from (x ∷ xs) zero value (suc r) m e = inl e
 set_from (x ∷ xs) (suc at) value zero m e = inl e
 set_from (x ∷ xs) (suc at) value (suc r) m e = set_from xs at value r m e
 
-last_from : (xs : List ℕ) (value r m : ℕ) → slice_get (xs ++ value ∷ []) r ≡ Some m → (slice_get xs r ≡ Some m) ⊎ (m ≡ value)
-last_from [] value zero m e = inr (sym (some_same e))
-last_from [] value (suc r) m e = cc
-last_from (x ∷ xs) value zero m e = inl e
-last_from (x ∷ xs) value (suc r) m e = last_from xs value r m e
+pushed_from : (xs : List ℕ) (value r m : ℕ) → slice_get (xs ++ value ∷ []) r ≡ Some m → (slice_get xs r ≡ Some m) ⊎ (m ≡ value)
+pushed_from [] value zero m e = inr (sym (some_same e))
+pushed_from [] value (suc r) m e = cc
+pushed_from (x ∷ xs) value zero m e = inl e
+pushed_from (x ∷ xs) value (suc r) m e = pushed_from xs value r m e
 
 filtered_from : {X : Type 0} (test : X → Bool) (xs : List X) (i : ℕ) (x : X) → slice_get (filter test xs) i ≡ Some x → (j : ℕ) × (slice_get xs j ≡ Some x) × (test x ≡ true)
 filtered_from test [] i x e = cc
@@ -66,7 +66,7 @@ module _ (program : Program) (table : Table) (bodies : List PlainBody) (accepted
 
         by : (b : Bool) → slice_get (cond b (slice_set rows (row_of table id) id) (rows ++ id ∷ [])) r ≡ Some m → (slice_get rows r ≡ Some m) ⊎ ((i : ℕ) × (slice_get (id ∷ ids) i ≡ Some m))
         by true now = own (set_from rows (row_of table id) id r m now)
-        by false now = own (last_from rows id r m now)
+        by false now = own (pushed_from rows id r m now)
 
     numbered_at : (i : ℕ) (row : MethodRow) → slice_get (methods_of table) i ≡ Some row → row.id ≡ i
     numbered_at = (facts program table bodies accepted program.names (program_uses_nd program)).numbered

@@ -1,6 +1,6 @@
 -- The superclass of a class in its table is the one in the text, with region arguments.
-use Rattle.std.proofs.Common.{◌≡◌, ◌∙◌, ◌⊎◌, inl, inr, ℕ, zero, suc, ◌+◌, ◌<◌, ◌≤◌, ◌==◌, Bool, true, false, cond, List, [], ◌∷◌, ◌++◌, map, length, Option, Some, None, option_map, option_and_then, refl, ap, sym, subst, arith}
-use Rattle.std.proofs.lemmas.Bool.Decides.{Decides-eqb, eqb_tells}
+use Rattle.std.proofs.Common.{◌≡◌, ◌∙◌, ◌⊎◌, inl, inr, ℕ, zero, suc, ◌+◌, ◌<◌, ◌≤◌, Bool, true, false, cond, List, [], ◌∷◌, ◌++◌, map, length, Option, Some, None, option_map, option_and_then, refl, ap, sym, arith}
+use Rattle.std.proofs.lemmas.Bool.Decides.{Decides-eqb}
 use Rattle.std.proofs.lemmas.List.{length-append, length-map}
 use Rattle.std.proofs.lemmas.Option.{slice_get-map, slice_get_within}
 use Rattle.std.specs.Option.{option_map_or}
@@ -9,17 +9,16 @@ use Rattle.dpj_base.specs.declared.effect.Constraint.{Constraint}
 use Rattle.dpj_base.specs.declared.region.Rpl.{Rpl}
 use Rattle.dpj_base.specs.declared.ty.Super.{Super}
 use Rattle.dpj_base.specs.declared.ty.Ty.{Ty}
-use Rattle.dpj_base.specs.Types.{PlainType, plain_type}
+use Rattle.dpj_base.specs.Types.{plain_type}
 use Rattle.dpj_base.specs.Types.{PlainType as ty}
 use Rattle.dpj_headers.specs.declared.header.Headers.{Headers}
 use Rattle.dpj_headers.specs.First.{class_named, parents_in}
 use Rattle.dpj_headers.specs.Gathered.{headers_in}
-use Rattle.dpj_headers.specs.Headers.{parent_of, parents_of, class_count}
+use Rattle.dpj_headers.specs.Headers.{parent_of, parents_of}
 use Rattle.dpj_headers.specs.Numbers.{as_number}
 use Rattle.dpj_headers.specs.Passes.{named_parent}
 use Rattle.dpj_headers.specs.Rounds.{entry_of}
 use Rattle.dpj_headers.proofs.Gathered.{parents_gathered}
-use Rattle.dpj_headers.proofs.Second.{length_parents}
 use Rattle.dpj_resolve.specs.Scopes.{PlainScope}
 use Rattle.dpj_tree.specs.declared.class.Class.{Class}
 use Rattle.dpj_tree.specs.declared.class.Parent.{Parent}
@@ -32,7 +31,7 @@ use Rattle.dpj_classes.specs.Signatures.{parent_meant}
 use Rattle.dpj_classes.specs.Table.{headers_of, all_given, supers_of, parent_type_of, parent_args_of, class_paths}
 use Rattle.dpj_assembly.specs.Assembled.{PlainBody}
 use Rattle.dpj_resolved.specs.Accepted.{IsAccepted}
-use Rattle.dpj_resolved.proofs.Lists.{some_same, and_then_there, map_there, got_first, got_later, got_mapped}
+use Rattle.dpj_resolved.proofs.Lists.{some_same, and_then_there, map_there, got_later, got_mapped}
 use Rattle.dpj_rows.proofs.Facts.{got_either, parent_is}
 
 -- the last of the rows that is meant is one of them
@@ -153,30 +152,54 @@ module _ (program : Program) (table : Table) (bodies : List PlainBody) (accepted
         let counted = accepted.rows.counted.0 in
         omega (arith, all, long, same, counted)
 
-    -- the superclass of a class as a type
-    pub parent_type : (at above : ℕ) → parent_of (headers_of table) at ≡ Some above → option_map plain_type (parent_type_of table at) ≡ Some (ty.class above (parent_args_of table at))
-    parent_type at above is =
+    -- there is a row of it
+    place_there : (at above : ℕ) → parent_of (headers_of table) at ≡ Some above → (f : ℕ) × (super_place (supers_of table) at ≡ Some f)
+    place_there at above is =
         let t = named_there (class_named program.classes) program.classes at above (sym (parent_entry at) ∙ is) in
         let within = slice_get_within program.classes at t.0 t.2 in
         let counted = accepted.rows.counted.0 in
         let number : as_number (0 + at) ≡ at = omega (arith, within, counted) in
         let s = super_there (headers_of table) (all_given table) 0 program.classes at above t.0 t.1 t.2 t.3 (ap (parent_of (headers_of table)) number ∙ is) in
-        let r = map_there plain_super (slice_get (supers_of table) s.0) s.1 (sym (slice_get-map plain_super (supers_of table) s.0) ∙ ap (λ rows. slice_get rows s.0) supers_said ∙ s.2) in
-        let own : r.0.class ≡ at = ap (λ (row : PlainSuper). row.class) r.2 ∙ s.3 ∙ number in
-        let f = last_some (is_super_of at) by_place 0 None (supers_of table) s.0 r.0 r.1 ((Decides-eqb r.0.class at).1 own) in
+        row_for s.0 s.1 s.2 (s.3 ∙ number)
+      where
+        row_for : (j : ℕ) (plain : PlainSuper) → slice_get (supers_meant (headers_of table) (all_given table) 0 program.classes) j ≡ Some plain → plain.class ≡ at → (f : ℕ) × (super_place (supers_of table) at ≡ Some f)
+        row_for j plain e own =
+            let r = map_there plain_super (slice_get (supers_of table) j) plain (sym (slice_get-map plain_super (supers_of table) j) ∙ ap (λ rows. slice_get rows j) supers_said ∙ e) in
+            last_some (is_super_of at) by_place 0 None (supers_of table) j r.0 r.1 ((Decides-eqb r.0.class at).1 (ap (λ (row : PlainSuper). row.class) r.2 ∙ own))
+
+    -- a row says what the headers say
+    row_says : (at above i : ℕ) (row : Super) → parent_of (headers_of table) at ≡ Some above → slice_get (supers_of table) i ≡ Some row → row.class ≡ at → (args : List Rpl) × (plain_type row.parent ≡ ty.class above args)
+    row_says at above i row is e own =
+        let plain = ap (λ rows. slice_get rows i) (sym supers_said) ∙ got_mapped plain_super (supers_of table) i row e in
+        let c = super_comes (headers_of table) (all_given table) 0 program.classes i (plain_super row) plain in
+        (c.1, c.3 ∙ ap (λ k. ty.class k c.1) (some_same (sym c.2 ∙ ap (parent_of (headers_of table)) own ∙ is)))
+
+    type_from : (at above f : ℕ) (row : Super) (args : List Rpl) → super_place (supers_of table) at ≡ Some f → slice_get (supers_of table) f ≡ Some row → plain_type row.parent ≡ ty.class above args →
+        option_map plain_type (parent_type_of table at) ≡ Some (ty.class above (parent_args_of table at))
+    type_from at above f row args found e says = ap (option_map plain_type) got ∙ ap Some (says ∙ ap (ty.class above) (sym args_are))
+      where
+        got : parent_type_of table at ≡ Some row.parent
+        got =
+            ap (λ o. option_map (λ (row : Super). row.parent) (option_and_then (λ place. slice_get (supers_of table) place) o)) found
+            ∙ ap (option_map (λ (row : Super). row.parent)) e
+
+        args_are : parent_args_of table at ≡ args
+        args_are = ap (λ o. option_map_or (λ (parent : Ty). class_paths (plain_type parent)) o []) got ∙ ap class_paths says
+
+    -- the superclass of a class as a type
+    pub parent_type : (at above : ℕ) → parent_of (headers_of table) at ≡ Some above → option_map plain_type (parent_type_of table at) ≡ Some (ty.class above (parent_args_of table at))
+    parent_type at above is =
+        let f = place_there at above is in
         elim (last_there (is_super_of at) by_place 0 None (supers_of table) f.0 f.1) [
           | inl none ↦ absurd (cc (none))
-          | inr w ↦
-              let place = slice_get_within (supers_of table) w.0 w.1 w.2 in
-              let small = few in
-              let here : f.0 ≡ w.0 = sym w.4 ∙ omega (arith, place, small) in
-              let got : parent_type_of table at ≡ Some w.1.parent =
-              ap (λ o. option_map (λ (row : Super). row.parent) (option_and_then (λ place. slice_get (supers_of table) place) o)) f.1
-              ∙ ap (option_map (λ (row : Super). row.parent)) (ap (slice_get (supers_of table)) here ∙ w.2) in
-              let plain = ap (λ rows. slice_get rows w.0) (sym supers_said) ∙ got_mapped plain_super (supers_of table) w.0 w.1 w.2 in
-              let c = super_comes (headers_of table) (all_given table) 0 program.classes w.0 (plain_super w.1) plain in
-              let class_is : w.1.class ≡ at = (Decides-eqb w.1.class at).0 w.3 in
-              let above_is : c.0 ≡ above = some_same (sym c.2 ∙ ap (parent_of (headers_of table)) class_is ∙ is) in
-              let args_are : parent_args_of table at ≡ c.1 = ap (λ o. option_map_or (λ (parent : Ty). class_paths (plain_type parent)) o []) got ∙ ap class_paths c.3 in
-              ap (option_map plain_type) got ∙ ap Some (c.3 ∙ ap (λ k. ty.class k c.1) above_is ∙ ap (ty.class above) (sym args_are))
+          | inr w ↦ by f.0 f.1 w.0 w.1 w.2 ((Decides-eqb w.1.class at).0 w.3) w.4
         ]
+      where
+        by : (f : ℕ) → super_place (supers_of table) at ≡ Some f → (i : ℕ) (row : Super) → slice_get (supers_of table) i ≡ Some row → row.class ≡ at → as_number (0 + i) ≡ f →
+            option_map plain_type (parent_type_of table at) ≡ Some (ty.class above (parent_args_of table at))
+        by f found i row e own place =
+            let within = slice_get_within (supers_of table) i row e in
+            let small = few in
+            let here : i ≡ f = omega (arith, within, small, place) in
+            let says = row_says at above i row is e own in
+            type_from at above f row says.0 found (ap (slice_get (supers_of table)) (sym here) ∙ e) says.1
