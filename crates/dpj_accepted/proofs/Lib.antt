@@ -25,3 +25,10 @@ pub mod PartLoops
 pub mod Cobegins
 pub mod Branches
 pub mod WellTyped
+pub mod Standing
+pub mod Membership
+pub mod ParamNames
+pub mod SignatureTypes
+pub mod Entering
+pub mod Beginnings
+pub mod MemberBodies
