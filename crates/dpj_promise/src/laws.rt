@@ -1,11 +1,13 @@
 //! The laws of a machine's runs, each the clause of a function that does nothing but name others.
 
 ghost use Rattle.dpj_promise.specs.Promise.{GreedyMachinesElide, MachinesComeOutAsElided};
+ghost use Rattle.dpj_promise.specs.Reduced.{MachinesAreReduced};
 
-use dpj_determined::laws::law_well_typed;
+use dpj_determined::laws::{law_reduction, law_well_typed};
 use dpj_elided::laws::law_greatest;
 use dpj_going::laws::law_going;
 use dpj_recorded::laws::law_recorded;
+use dpj_sound::laws::law_runs;
 use dpj_steps::laws::law_steps;
 
 /// A run of the code of a well-typed program without nd constructs comes out as the program's sequential elision, limits included,
@@ -26,4 +28,14 @@ pub fn law_elide()
     law_steps();
     law_going();
     law_greatest();
+}
+
+/// A run of the code of a well-typed program, nd constructs or not, is a legal run of the source with the same outcome; its unordered
+/// events that conflict lie in atomic blocks, and gathered by blocks it comes out the same.
+pub fn law_reduced()
+    ensures { MachinesAreReduced }
+{
+    law_recorded();
+    law_runs();
+    law_reduction();
 }
