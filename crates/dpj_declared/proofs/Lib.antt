@@ -1,0 +1,6 @@
+pub mod Args
+pub mod Indices
+pub mod Paths
+pub mod Types
+pub mod Putting
+pub mod Carried
