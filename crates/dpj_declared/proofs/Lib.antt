@@ -4,3 +4,4 @@ pub mod Paths
 pub mod Types
 pub mod Putting
 pub mod Carried
+pub mod Text
