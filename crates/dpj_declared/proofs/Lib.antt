@@ -5,3 +5,5 @@ pub mod Types
 pub mod Putting
 pub mod Carried
 pub mod Text
+pub mod Around
+pub mod Signs
