@@ -7,3 +7,5 @@ pub mod Carried
 pub mod Text
 pub mod Around
 pub mod Signs
+pub mod Classes
+pub mod Finding
