@@ -9,3 +9,4 @@ pub mod Around
 pub mod Signs
 pub mod Classes
 pub mod Finding
+pub mod Members
