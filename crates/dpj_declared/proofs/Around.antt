@@ -1,5 +1,5 @@
 -- What the names around a signature mean is in scope there.
-use Rattle.std.proofs.Common.{◌≡◌, ◌∙◌, ◌⊎◌, ℕ, ◌+◌, ◌<◌, ◌≤◌, ◌==◌, Bool, true, false, cond, fold, List, [], ◌∷◌, ◌++◌, map, length, get_or, slice_get, append_assoc, inl, inr, Option, Some, None, option_map, option_and_then, refl, sym, ap, subst, arith}
+use Rattle.std.proofs.Common.{◌≡◌, ◌∙◌, ◌⊎◌, ℕ, ◌+◌, ◌<◌, ◌≤◌, ◌==◌, Bool, true, false, cond, fold, List, [], ◌∷◌, ◌++◌, map, length, slice_get, append_assoc, inl, inr, Option, Some, None, refl, sym, ap, subst, arith}
 use Rattle.std.proofs.lemmas.List.{append-nil, length-map}
 use Rattle.std.proofs.lemmas.Option.{get_or_from_slice_get, slice_get_within}
 use Rattle.std.specs.Option.{option_map_or}

@@ -1,5 +1,5 @@
 -- Classes of an accepted program: their constraints, superclasses and fields are well formed.
-use Rattle.std.proofs.Common.{◌≡◌, ◌∙◌, ℕ, zero, suc, ◌+◌, ◌<◌, ◌≤◌, ◌==◌, Bool, true, false, IsTrue, List, [], ◌∷◌, ◌++◌, All, map, length, get_or, flat_map, sum_by, slice_get, inl, inr, Option, Some, None, option_map, option_and_then, refl, sym, ap, subst, arith}
+use Rattle.std.proofs.Common.{◌≡◌, ◌∙◌, ℕ, zero, suc, ◌+◌, ◌<◌, ◌≤◌, ◌==◌, Bool, true, false, List, [], ◌∷◌, All, map, length, get_or, flat_map, sum_by, slice_get, inl, inr, Option, Some, None, option_map, option_and_then, refl, sym, ap, subst, arith}
 use Rattle.std.proofs.lemmas.Bool.Decides.{eqb_tells}
 use Rattle.std.proofs.lemmas.List.{length-map, append-nil}
 use Rattle.std.proofs.lemmas.List.Elements.{All-nil, All-append, All-weaker, All-map, All-filter, filter_passes}
@@ -12,14 +12,11 @@ use Rattle.dpj_base.specs.declared.effect.Constraint.{Constraint}
 use Rattle.dpj_base.specs.declared.elems.Elem.{Elem}
 use Rattle.dpj_base.specs.declared.elems.Elem.TheVariants.{Name, At, Any, Star, Local}
 use Rattle.dpj_base.specs.declared.elems.Index.TheVariants.{Literal, Variable, Renamed, Own}
-use Rattle.dpj_base.specs.declared.refusal.Refusal.{Refusal}
 use Rattle.dpj_base.specs.declared.region.Head.{Head}
 use Rattle.dpj_base.specs.declared.region.Head.TheVariants.{Root, Param}
 use Rattle.dpj_base.specs.declared.region.Rpl.{Rpl}
 use Rattle.dpj_base.specs.declared.ty.Super.{Super}
-use Rattle.dpj_base.specs.Regions.{fully_specified, substituted}
-use Rattle.dpj_base.specs.Types.{PlainType, plain_type, type_with}
-use Rattle.dpj_base.specs.Types.PlainType.{class}
+use Rattle.dpj_base.specs.Types.{plain_type}
 use Rattle.dpj_headers.specs.declared.faults.Order.TheVariants as order
 use Rattle.dpj_headers.specs.declared.header.Header.{Header}
 use Rattle.dpj_headers.specs.declared.header.Headers.{Headers}
@@ -49,17 +46,15 @@ use Rattle.dpj_classes.specs.declared.table.Table.{Table}
 use Rattle.dpj_classes.specs.Build.{IsReadOf, text_faults}
 use Rattle.dpj_classes.specs.Inherited.{declared_fields, fields_after, fields_in, members_in}
 use Rattle.dpj_classes.specs.Inherited.{field_with as plain_with}
-use Rattle.dpj_classes.specs.Places.{super_place}
-use Rattle.dpj_classes.specs.Rows.{PlainField, plain_field, field_row, plain_super, PlainSuper, member_faults, class_faults, super_faults, all_constraint_faults, signature_faults, supers_meant}
+use Rattle.dpj_classes.specs.Rows.{PlainField, plain_field, field_row, plain_super, PlainSuper, member_faults, class_faults, super_faults, all_constraint_faults, signature_faults}
 use Rattle.dpj_classes.specs.Signatures.{parent_args, parent_faults, parent_meant, constraints_meant, known_type_faults, field_region_faults}
-use Rattle.dpj_classes.specs.Table.{headers_of, fields_of, supers_of, class_paths, parent_type_of, parent_args_of}
+use Rattle.dpj_classes.specs.Table.{headers_of, fields_of, supers_of, class_paths, parent_args_of}
 use Rattle.dpj_classes.specs.Around.{class_scope as text_scope}
 use Rattle.dpj_typed.specs.Plain.{PlainProgram, PlainClass, PlainParent}
-use Rattle.dpj_typed.specs.Plain.{PlainField as TypedField}
 use Rattle.dpj_typed.specs.Scope.{Scope, class_at}
 use Rattle.dpj_typed.specs.Table.{GoodConstraint, GoodField, class_scope}
 use Rattle.dpj_typed.specs.Types.{GoodElem, GoodHead, GoodPath, GoodArgs}
-use Rattle.dpj_assembly.specs.Assembled.{PlainBody, field_of, class_from, class_of, parent_at, program_of}
+use Rattle.dpj_assembly.specs.Assembled.{PlainBody, field_of, class_from, class_of, program_of}
 use Rattle.dpj_written.specs.Written.{IsWritten}
 use Rattle.dpj_rows.proofs.Facts.{Facts, parent_is}
 use Rattle.dpj_resolved.specs.Accepted.{IsAccepted}
@@ -71,8 +66,8 @@ use Rattle.dpj_declared.proofs.Around.{Surrounds, surrounds_mean}
 use Rattle.dpj_declared.proofs.Carried.{path_put, full_put, type_put}
 use Rattle.dpj_declared.proofs.Finding.{class_within, HasRow, has_row, supers_few}
 use Rattle.dpj_declared.proofs.Paths.{Meaning}
-use Rattle.dpj_declared.proofs.Signs.{Short, constraints_good, known_good, region_good, ParentRead, parent_good}
-use Rattle.dpj_declared.proofs.Text.{counted_in, flat_free, class_header, class_constraints, class_free, FieldText, field_text, SuperText, super_text, super_there}
+use Rattle.dpj_declared.proofs.Signs.{Short, constraints_good, known_good, region_good, parent_good}
+use Rattle.dpj_declared.proofs.Text.{counted_in, flat_free, class_header, class_constraints, class_free, field_text, super_text, super_there}
 use Rattle.dpj_declared.proofs.Types.{ClassesMean}
 
 -- what is good in a scope is good in one with other constraints

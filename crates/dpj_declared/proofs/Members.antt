@@ -2,9 +2,8 @@
 use Rattle.std.proofs.Common.{◌≡◌, ◌∙◌, ◌⊎◌, ℕ, suc, ◌+◌, ◌≤◌, Bool, List, [], ◌∷◌, ◌++◌, All, map, length, get_or, sum_by, slice_get, Option, Some, None, refl, sym, ap, subst, arith}
 use Rattle.std.proofs.lemmas.List.{length-map}
 use Rattle.std.proofs.lemmas.Option.{slice_get-get_or, slice_get_within}
-use Rattle.dpj_base.specs.declared.effect.Constraint.{Constraint}
 use Rattle.dpj_base.specs.declared.effect.Effect.{Effect}
-use Rattle.dpj_base.specs.Types.{plain_type, void}
+use Rattle.dpj_base.specs.Types.{void}
 use Rattle.dpj_headers.specs.declared.header.Headers.{Headers}
 use Rattle.dpj_headers.specs.declared.header.ParamRow.{ParamRow}
 use Rattle.dpj_headers.specs.Gathered.{param_row}
@@ -12,7 +11,6 @@ use Rattle.dpj_tree.specs.Nd.{program_uses_nd}
 use Rattle.dpj_tree.specs.declared.class.Class.{Class}
 use Rattle.dpj_tree.specs.declared.class.Formal.{Formal}
 use Rattle.dpj_tree.specs.declared.class.Member.TheVariants as member
-use Rattle.dpj_tree.specs.declared.class.Method.{Method}
 use Rattle.dpj_tree.specs.declared.class.MethodResult.{MethodResult}
 use Rattle.dpj_tree.specs.declared.class.MethodResult.TheVariants as outcome
 use Rattle.dpj_tree.specs.declared.class.Program.{Program}
@@ -27,7 +25,7 @@ use Rattle.dpj_classes.specs.declared.table.Table.{Table}
 use Rattle.dpj_classes.specs.Around.{param_names}
 use Rattle.dpj_classes.specs.Around.{class_scope as text_scope}
 use Rattle.dpj_classes.specs.Rows.{PlainMethod, plain_method, method_scope, method_given, said_scope, said_faults}
-use Rattle.dpj_classes.specs.Signatures.{constraints_faults, formal_faults, result_faults, summary_faults, formal_types, result_type, summary_meant}
+use Rattle.dpj_classes.specs.Signatures.{constraints_faults, formal_faults, result_faults, summary_faults}
 use Rattle.dpj_classes.specs.Table.{headers_of, methods_of}
 use Rattle.dpj_typed.specs.Plain.{PlainClass, PlainMember}
 use Rattle.dpj_typed.specs.Scope.{class_at, member_at}
@@ -140,22 +138,25 @@ module _ (program : Program) (table : Table) (bodies : List PlainBody) (written 
               summary = subst (All (λ (e : Effect). GoodPath P L 0 e.rpl)) (sym (ap (λ (r : PlainMethod). r.summary) read.is)) (summary_good P L (said_scope scope method) means (λ r. refl) method.summary);
             }
 
+    -- the class of the text in which a row stands
+    row_signed : (n : ℕ) (class : Class) → slice_get program.classes n ≡ Some class → (row : MethodRow) (body : PlainBody) → MethodRead class.members (text_scope headers table.given n) (plain_method row) →
+        GoodSignature (program_of table program.names uses_nd bodies) (member_of row body)
+    row_signed n class stands row body read =
+        let there = class_there program table bodies written accepted uses_nd n (slice_get_within program.classes n class stands) in
+        let text = class_text program table bodies written accepted uses_nd n (class_of table n) there in
+        let same : class ≡ text.class = some_same (sym stands ∙ text.stands) in
+        let owner : n ≡ row.owner = ap (λ (r : PlainMethod). r.owner) (sym read.is) in
+        subst (λ z. GoodSignature (program_of table program.names uses_nd bodies) (record (member_of row body) { class = z })) owner
+        (signature n (class_of table n) there text row body (subst (λ (z : Class). MethodRead z.members (text_scope headers table.given n) (plain_method row)) same read))
+
     pub members_good : (n : ℕ) (m : PlainMember) → member_at (program_of table program.names uses_nd bodies) n ≡ Some m → GoodSignature (program_of table program.names uses_nd bodies) m
     members_good n m e =
-        let P = program_of table program.names uses_nd bodies in
         let one = is_member program table bodies accepted program.names uses_nd n m e in
         let w = method_text headers table.given 0 0 program.classes n (plain_method one.row)
         (ap (λ z. slice_get z n) (sym accepted.rows.is_table.read.methods) ∙ got_mapped plain_method (methods_of table) n one.row one.row_there) in
-        let l = slice_get_within program.classes w.number w.class w.stands in
-        let number = plain_number program table bodies written accepted uses_nd w.number l in
-        let there = class_there program table bodies written accepted uses_nd w.number l in
-        let text = class_text program table bodies written accepted uses_nd w.number (class_of table w.number) there in
-        let class_is : w.class ≡ text.class = some_same (sym w.stands ∙ text.stands) in
-        let read = subst (λ (z : Class). MethodRead z.members (text_scope headers table.given w.number) (plain_method one.row)) class_is
-        (subst (λ z. MethodRead w.class.members (text_scope headers table.given z) (plain_method one.row)) number w.read) in
-        let owner : w.number ≡ one.row.owner = sym (ap (λ (r : PlainMethod). r.owner) read.is) in
-        let s = signature w.number (class_of table w.number) there text one.row one.body read in
-        subst (GoodSignature P) (ap (λ z. record (member_of one.row one.body) { class = z }) owner ∙ one.is) s
+        let number = plain_number program table bodies written accepted uses_nd w.number (slice_get_within program.classes w.number w.class w.stands) in
+        subst (GoodSignature (program_of table program.names uses_nd bodies)) one.is
+        (row_signed w.number w.class w.stands one.row one.body (subst (λ z. MethodRead w.class.members (text_scope headers table.given z) (plain_method one.row)) number w.read))
 
 pub accepted_declared : AcceptedIsDeclared
 accepted_declared program table bodies written accepted =

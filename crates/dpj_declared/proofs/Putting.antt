@@ -1,13 +1,13 @@
 -- Paths that lie in others, or are apart from others, stay so where arguments that are fully specified are put in.
 use Rattle.std.proofs.Common.{◌≡◌, ◌+◌, ℕ, Bool, true, false, not, ◌&&◌, ◌||◌, cond, eqb, List, [], ◌∷◌, ◌++◌, length, reverse, refl, sym, ap, ◌∙◌, subst, inl, inr, ⊎_elim, arith}
 use Rattle.std.specs.Prelude.{All}
-use Rattle.std.proofs.lemmas.Bool.{and_parts, and_from, or_cases, or_left, or_right, or_parts, false≢true, eqb-true, eq-eqb, not-true}
+use Rattle.std.proofs.lemmas.Bool.{and_parts, and_from, or_cases, or_left, or_right, or_parts, false≢true, eqb-true, not-true}
 use Rattle.std.proofs.lemmas.List.{reverse-append, length-append}
 use Rattle.std.proofs.lemmas.List.Elements.{All-head, All-tail}
 use Rattle.std.proofs.lemmas.List.Sums.{sum_by-append}
 use Rattle.dpj_base.specs.declared.effect.Constraint.{Constraint}
 use Rattle.dpj_base.specs.declared.elems.Elem.{Elem}
-use Rattle.dpj_base.specs.declared.elems.Elem.TheVariants.{Name, At, Any, Star, Local}
+use Rattle.dpj_base.specs.declared.elems.Elem.TheVariants.{Star, Local}
 use Rattle.dpj_base.specs.declared.region.Head.{Head}
 use Rattle.dpj_base.specs.declared.region.Head.TheVariants.{Root, Param}
 use Rattle.dpj_base.specs.declared.region.Rpl.{Rpl}

@@ -15,7 +15,7 @@ use Rattle.dpj_base.specs.declared.refusal.Kind.TheVariants as kind
 use Rattle.dpj_base.specs.declared.region.Rpl.{Rpl}
 use Rattle.dpj_base.specs.Effects.{has_effect, added, gathered}
 use Rattle.dpj_base.specs.Regions.{fully_specified}
-use Rattle.dpj_base.specs.Types.{PlainType, void}
+use Rattle.dpj_base.specs.Types.{void}
 use Rattle.dpj_headers.specs.declared.header.ParamRow.{ParamRow}
 use Rattle.dpj_headers.specs.Passes.{fault_if}
 use Rattle.dpj_tree.specs.declared.class.Formal.{Formal}
@@ -29,14 +29,14 @@ use Rattle.dpj_tree.specs.declared.region.RplTree.{RplTree}
 use Rattle.dpj_tree.specs.declared.region.TypeTree.{TypeTree}
 use Rattle.dpj_resolve.specs.declared.paths.Need.{Need}
 use Rattle.dpj_resolve.specs.Args.{root_path, roots, args_given, args_faults, is_unfit}
-use Rattle.dpj_resolve.specs.Classes.{params_in, constraints_in, class_args, constraint_fault}
+use Rattle.dpj_resolve.specs.Classes.{params_in, constraints_in, constraint_fault}
 use Rattle.dpj_resolve.specs.Constraints.{all_hold}
 use Rattle.dpj_resolve.specs.Index.{no_index}
 use Rattle.dpj_resolve.specs.Paths.{is_specified, is_plain, misfits}
 use Rattle.dpj_resolve.specs.Reading.{elem_faults, is_misplaced, head_faults, path_atomic, each_faults, arg_faults, arg_need, args_read}
 use Rattle.dpj_resolve.specs.Scopes.{PlainScope}
 use Rattle.dpj_resolve.specs.Written.{type_faults}
-use Rattle.dpj_classes.specs.Signatures.{rpl_meant, rpl_faults, constraint_meant, constraints_meant, known_type, known_type_faults, region_of_field, field_region_faults, formal_types, formal_faults, result_type, result_faults, effect_meant, effects_meant, summary_meant, parent_args, parent_arg_faults, parent_faults, fit_faults}
+use Rattle.dpj_classes.specs.Signatures.{rpl_meant, constraint_meant, constraints_meant, known_type, known_type_faults, region_of_field, field_region_faults, formal_types, formal_faults, result_type, result_faults, effect_meant, effects_meant, summary_meant, parent_args, parent_arg_faults, parent_faults, fit_faults}
 use Rattle.dpj_classes.specs.Summary.{anything}
 use Rattle.dpj_typed.specs.Plain.{PlainProgram}
 use Rattle.dpj_typed.specs.Scope.{Scope}

@@ -1,5 +1,5 @@
 -- Rows of the table, back to the classes and members of the text from which they are read.
-use Rattle.std.proofs.Common.{◌≡◌, ◌∙◌, ℕ, zero, suc, ◌+◌, ◌<◌, ◌≤◌, List, [], ◌∷◌, ◌++◌, length, map, flat_map, sum_by, slice_get, inl, inr, Option, Some, None, refl, ap, sym, subst, arith}
+use Rattle.std.proofs.Common.{◌≡◌, ◌∙◌, ℕ, zero, suc, ◌+◌, ◌≤◌, List, [], ◌∷◌, length, flat_map, sum_by, slice_get, inl, inr, Option, Some, None, refl, ap, sym, subst, arith}
 use Rattle.std.proofs.lemmas.List.Sums.{sum_by-cons}
 use Rattle.std.specs.Option.{option_map_or}
 use Rattle.dpj_base.specs.declared.effect.Constraint.{Constraint}
@@ -9,14 +9,13 @@ use Rattle.dpj_tree.specs.declared.class.Member.{Member}
 use Rattle.dpj_tree.specs.declared.class.Member.TheVariants as member
 use Rattle.dpj_tree.specs.declared.class.Method.{Method}
 use Rattle.dpj_tree.specs.declared.class.Parent.{Parent}
-use Rattle.dpj_headers.specs.declared.header.Header.{Header}
 use Rattle.dpj_headers.specs.declared.header.Headers.{Headers}
 use Rattle.dpj_headers.specs.Gathered.{header_row, header_rows}
 use Rattle.dpj_headers.specs.Headers.{parent_of}
 use Rattle.dpj_headers.specs.Numbers.{as_number}
 use Rattle.dpj_resolve.specs.Scopes.{PlainScope}
 use Rattle.dpj_classes.specs.Around.{class_scope}
-use Rattle.dpj_classes.specs.Rows.{PlainSuper, PlainField, PlainMethod, field_row, method_row, fields_from, fields_meant, first_slot, methods_from, methods_meant, member_faults, class_faults, signature_faults, super_rows, super_faults, supers_meant, all_constraints}
+use Rattle.dpj_classes.specs.Rows.{PlainSuper, PlainField, PlainMethod, field_row, method_row, fields_from, fields_meant, first_slot, methods_from, methods_meant, class_faults, signature_faults, super_rows, supers_meant, all_constraints}
 use Rattle.dpj_classes.specs.Signatures.{constraints_meant, parent_meant}
 use Rattle.dpj_rows.proofs.Facts.{got_either}
 use Rattle.dpj_resolved.proofs.Free.{append_none}
