@@ -1,7 +1,7 @@
 -- What the names around a signature mean is in scope there.
 use Rattle.std.proofs.Common.{◌≡◌, ◌∙◌, ◌⊎◌, ℕ, ◌+◌, ◌<◌, ◌≤◌, ◌==◌, Bool, true, false, cond, fold, List, [], ◌∷◌, ◌++◌, map, length, slice_get, append_assoc, inl, inr, Option, Some, None, refl, sym, ap, subst, arith}
 use Rattle.std.proofs.lemmas.List.{append-nil, length-map}
-use Rattle.std.proofs.lemmas.Option.{get_or_from_slice_get, slice_get_within}
+use Rattle.std.proofs.lemmas.Option.{none-some, get_or_from_slice_get, slice_get_within}
 use Rattle.std.specs.Option.{option_map_or}
 use Rattle.dpj_headers.specs.declared.header.Header.{Header}
 use Rattle.dpj_headers.specs.declared.header.Headers.{Headers}
@@ -36,15 +36,12 @@ last_within test at (x ∷ xs) found n e =
     by true h = let same = some_same h in inr (omega (arith, same))
     by false h = inl h
 
-none_is : {A : Type 0} (x : A) → (let o : Option A = None in o) ≡ Some x → ⊥
-none_is x h = cc
-
 region_within : (headers : Headers) (class name number : ℕ) → region_of headers class name ≡ Some number → number < length (atomic_regions headers)
 region_within headers class name number e =
     let w = nearest_in (λ at. own_region headers at name) (upwards headers class) number e in
     let long = length-map (regions_of headers) (λ (row : RegionRow). row.is_atomic) in
     elim (last_within _ 0 (regions_of headers) None number w.2) [
-      | inl none ↦ absurd (none_is number none)
+      | inl none ↦ absurd (none-some number none)
       | inr l ↦ omega (arith, l, long)
     ]
 
@@ -54,7 +51,7 @@ class_param_there : (headers : Headers) (class name n : ℕ) → param_of header
 class_param_there headers class name n e =
     let w = and_then_there (λ (header : Header). last_place (λ param. param.name == name) 0 header.params None) (header_of headers class) n e in
     let params : params_in headers class ≡ w.0.params = ap (λ o. option_map_or (λ (header : Header). header.params) o []) w.1 in
-    let within : n < length w.0.params = elim (last_within _ 0 w.0.params None n w.2) [ inl none ↦ absurd (none_is n none) | inr l ↦ omega (arith, l) ] in
+    let within : n < length w.0.params = elim (last_within _ 0 w.0.params None n w.2) [ inl none ↦ absurd (none-some n none) | inr l ↦ omega (arith, l) ] in
     let p = there w.0.params n within in
     subst (λ z. slice_get (map (λ (param : ParamRow). param.atomic) z) n ≡ Some (is_atomic_at z n)) (sym params)
     (got_mapped (λ (param : ParamRow). param.atomic) w.0.params n p.0 p.1 ∙ ap (λ o. Some (option_map_or (λ (param : ParamRow). param.atomic) o false)) (sym p.1))
@@ -78,7 +75,7 @@ formals_from (formal ∷ formals) names held = formals_from formals (with_name n
 pub formal_barred : (formals : List Formal) (name slot : ℕ) → value_in (formal_names formals) name ≡ Some (Some slot) → ⊥
 formal_barred formals name slot e =
     let w = and_then_there (λ place. slice_get (values_in (formal_names formals)) place) (place_in (formal_names formals) name) (Some slot) e in
-    none_is slot (sym (formals_from formals no_names (λ i v e. absurd (nothing i v e)) w.0 (Some slot) w.2))
+    none-some slot (sym (formals_from formals no_names (λ i v e. absurd (nothing i v e)) w.0 (Some slot) w.2))
   where
     nothing : (i : ℕ) (v : Option ℕ) → slice_get [] i ≡ Some v → ⊥
     nothing i v e = cc

@@ -1,10 +1,10 @@
 -- Classes of an accepted program: their constraints, superclasses and fields are well formed.
-use Rattle.std.proofs.Common.{◌≡◌, ◌∙◌, ℕ, zero, suc, ◌+◌, ◌<◌, ◌≤◌, ◌==◌, Bool, true, false, List, [], ◌∷◌, All, map, length, get_or, flat_map, sum_by, slice_get, inl, inr, Option, Some, None, option_map, option_and_then, refl, sym, ap, subst, arith}
-use Rattle.std.proofs.lemmas.Bool.Decides.{eqb_tells}
+use Rattle.std.proofs.Common.{◌≡◌, ◌∙◌, ℕ, zero, suc, ◌+◌, ◌<◌, ◌≤◌, ◌==◌, Bool, true, List, [], ◌∷◌, All, map, length, get_or, flat_map, sum_by, slice_get, Option, Some, None, option_map, option_and_then, refl, sym, ap, subst, arith}
+use Rattle.std.proofs.lemmas.Bool.{eqb-true}
 use Rattle.std.proofs.lemmas.List.{length-map, append-nil}
 use Rattle.std.proofs.lemmas.List.Elements.{All-nil, All-append, All-weaker, All-map, All-filter, filter_passes}
 use Rattle.std.proofs.lemmas.List.Sums.{sum_by-cons}
-use Rattle.std.proofs.lemmas.Option.{slice_get-get_or, slice_get-map, slice_get_within}
+use Rattle.std.proofs.lemmas.Option.{none-some, slice_get-get_or, slice_get-map, slice_get_within}
 use Rattle.std.specs.List.{filter}
 use Rattle.std.specs.Option.{option_map_or}
 use Rattle.std.specs.Prelude.{unwrap_or}
@@ -196,13 +196,10 @@ module _ (program : Program) (table : Table) (bodies : List PlainBody) (written 
       names = refl;
       params = t.params ∙ sym (append-nil (map (λ (param : ParamRow). param.atomic) (params_in headers c)));
       few = few_params c k t;
-      variables = λ name slot e. no_value (Some slot) e;
-      regions = λ name number e. no_value number e;
+      variables = λ name slot e. none-some (Some slot) e;
+      regions = λ name number e. none-some number e;
       given = same;
     }
-      where
-        no_value : {A : Type 0} (v : A) → (let o : Option A = None in o) ≡ Some v → ⊥
-        no_value v e = cc
 
     class_means : (c : ℕ) (k : PlainClass) → ClassText c k → Meaning P (class_scope k) (text_scope headers table.given c)
     class_means c k t = surrounds_mean P (class_scope k) (text_scope headers table.given c) (around_class c k k.given table.given t t.given)
@@ -333,14 +330,11 @@ module _ (program : Program) (table : Table) (bodies : List PlainBody) (written 
           full = region.1;
         })
 
-    tells : (a b : ℕ) → (a == b) ≡ true → a ≡ b
-    tells a b h = elim (eqb_tells a b) [ inl p ↦ p.1 | inr q ↦ (let fails : true ≡ false = sym h ∙ q.0 in cc) ]
-
     own_fields : (c : ℕ) (k : PlainClass) → class_at P c ≡ Some k → All (Fits k) (declared_fields table c)
     own_fields c k e =
         let test = λ (row : FieldRow). row.owner == c in
         let Own = λ (row : FieldRow). (row.owner == c) ≡ true → Fits k (plain_field row) in
-        let all : All Own (fields_of table) = λ i d l h. own_field c k e i (get_or (fields_of table) i d) (slice_get-get_or (fields_of table) i d l) (tells (get_or (fields_of table) i d).owner c h) in
+        let all : All Own (fields_of table) = λ i d l h. own_field c k e i (get_or (fields_of table) i d) (slice_get-get_or (fields_of table) i d l) (eqb-true (get_or (fields_of table) i d).owner c h) in
         let some : All Own (filter test (fields_of table)) = All-filter test Own (fields_of table) all in
         let passed = filter_passes test (fields_of table) in
         All-map (Fits k) plain_field (filter test (fields_of table)) (λ i d l. some i d l (passed i d l))

@@ -1,6 +1,6 @@
 -- Where what is looked for is found: the class of a name, and the row of a class among the superclasses.
 use Rattle.std.proofs.Common.{◌≡◌, ◌∙◌, ◌⊎◌, ℕ, zero, suc, ◌+◌, ◌<◌, ◌≤◌, ◌==◌, Bool, true, false, cond, List, [], ◌∷◌, length, slice_get, inl, inr, Option, Some, None, refl, sym, ap, arith}
-use Rattle.std.proofs.lemmas.Bool.Decides.{eqb_tells}
+use Rattle.std.proofs.lemmas.Bool.{eqb-true, eq-eqb}
 use Rattle.std.proofs.lemmas.List.{length-append}
 use Rattle.std.proofs.lemmas.Option.{slice_get_within}
 use Rattle.std.specs.List.{position_from}
@@ -80,15 +80,9 @@ has_row rows number i row few e own = elim (placed (is_super_of number) 0 None r
   | inl w ↦
       let l = slice_get_within rows w.place w.row w.there in
       let same : as_number (0 + w.place) ≡ w.place = omega (arith, l, few) in
-      record { place = w.place; row = w.row; there = w.there; own = tells w.row.class w.passes; is = w.is ∙ ap Some same }
-  | inr w ↦ absurd (w.none i row e (told row.class own))
+      record { place = w.place; row = w.row; there = w.there; own = eqb-true w.row.class number w.passes; is = w.is ∙ ap Some same }
+  | inr w ↦ absurd (w.none i row e (eq-eqb row.class number own))
 ]
-  where
-    tells : (n : ℕ) → (n == number) ≡ true → n ≡ number
-    tells n h = elim (eqb_tells n number) [ inl p ↦ p.1 | inr q ↦ (let fails : true ≡ false = sym h ∙ q.0 in cc) ]
-
-    told : (n : ℕ) → n ≡ number → (n == number) ≡ true
-    told n h = elim (eqb_tells n number) [ inl p ↦ p.0 | inr q ↦ absurd (q.1 h) ]
 
 -- there is one row for a class at most
 one_super : (scope : PlainScope) (class : Class) → length (super_rows scope class) ≤ 1

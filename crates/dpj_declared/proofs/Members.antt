@@ -1,7 +1,7 @@
 -- Members of an accepted program: their signatures are well formed. With their classes, so is all that is declared.
-use Rattle.std.proofs.Common.{◌≡◌, ◌∙◌, ◌⊎◌, ℕ, suc, ◌+◌, ◌≤◌, Bool, List, [], ◌∷◌, ◌++◌, All, map, length, get_or, sum_by, slice_get, Option, Some, None, refl, sym, ap, subst, arith}
+use Rattle.std.proofs.Common.{◌≡◌, ◌∙◌, ◌⊎◌, ℕ, suc, ◌+◌, ◌≤◌, Bool, List, [], ◌∷◌, ◌++◌, All, map, length, get_or, sum_by, slice_get, Some, refl, sym, ap, subst, arith}
 use Rattle.std.proofs.lemmas.List.{length-map}
-use Rattle.std.proofs.lemmas.Option.{slice_get-get_or, slice_get_within}
+use Rattle.std.proofs.lemmas.Option.{none-some, slice_get-get_or, slice_get_within}
 use Rattle.dpj_base.specs.declared.effect.Effect.{Effect}
 use Rattle.dpj_base.specs.Types.{void}
 use Rattle.dpj_headers.specs.declared.header.Headers.{Headers}
@@ -91,16 +91,13 @@ module _ (program : Program) (table : Table) (bodies : List PlainBody) (written 
             let more = ap length (param_values read.method.params.list) ∙ length-map read.method.params.list (λ (param : ParamTree). param.atomic) in
             omega (arith, own, more, small)
 
-        no_value : {A : Type 0} (v : A) → (let o : Option A = None in o) ≡ Some v → ⊥
-        no_value v e = cc
-
         around_constraints : Surrounds (program_of table program.names uses_nd bodies) (record (member_scope k m) { given = k.given }) (method_scope scope read.method)
         around_constraints = record {
           names = refl;
           params = params_are;
           few = few;
           variables = formal_barred read.method.formals;
-          regions = λ name number e. no_value number e;
+          regions = λ name number e. none-some number e;
           given = text.given;
         }
 
@@ -110,7 +107,7 @@ module _ (program : Program) (table : Table) (bodies : List PlainBody) (written 
           params = params_are;
           few = few;
           variables = formal_barred read.method.formals;
-          regions = λ name number e. no_value number e;
+          regions = λ name number e. none-some number e;
           given = ap (λ z. z ++ row.given) text.given ∙ ap (λ z. constraints_in table.given number ++ z) given_are;
         }
 

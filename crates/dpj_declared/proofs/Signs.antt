@@ -1,7 +1,6 @@
 -- What a signature says without faults is good where it stands.
 use Rattle.std.proofs.Common.{◌≡◌, ◌∙◌, ◌⊎◌, ℕ, suc, ◌+◌, ◌≤◌, ◌==◌, ◌&&◌, Bool, true, false, not, cond, IsTrue, List, [], ◌∷◌, ◌++◌, All, map, length, flat_map, filter_map, inl, inr, Option, Some, None, option_map, refl, sym, ap, subst, arith}
-use Rattle.std.proofs.lemmas.Bool.{false≢true}
-use Rattle.std.proofs.lemmas.Bool.Decides.{eqb_tells}
+use Rattle.std.proofs.lemmas.Bool.{eq-eqb, false≢true}
 use Rattle.std.proofs.lemmas.List.Elements.{All-nil, All-cons, All-head, All-tail, All-push}
 use Rattle.std.specs.List.{list_any, list_all, cons_option}
 use Rattle.std.specs.Option.{option_map_or}
@@ -69,9 +68,6 @@ more_good : {A : Type 0} (G : A → Type 0) (o : Option A) (xs : List A) → ((x
 more_good G None xs good all = all
 more_good G (Some x) xs good all = All-cons G x xs (good x refl) all
 
-same_tells : (a b : ℕ) → a ≡ b → (a == b) ≡ true
-same_tells a b e = elim (eqb_tells a b) [ inl p ↦ p.0 | inr q ↦ absurd (q.1 e) ]
-
 -- written arguments without faults are all known, and given
 all_known : (scope : PlainScope) (need : ℕ → Need) (at : ℕ) (trees : List RplTree) → NoFaults (each_faults scope no_index need at trees) → length (filter_map (rpl_meant scope) trees) ≡ length trees
 all_known scope need at [] free = refl
@@ -79,7 +75,7 @@ all_known scope need at (tree ∷ trees) free =
     ap (λ o. length (cons_option o (filter_map (rpl_meant scope) trees))) (path_known scope no_index (need at) tree free.0).1 ∙ ap suc (all_known scope need (at + 1) trees free.1)
 
 args_there : (written : ℕ) (known : List Rpl) (params : List ParamRow) → length known ≡ written → is_unfit written params ≡ false → (rs : List Rpl) × (args_given written known params ≡ Some rs)
-args_there written known params same fit = by (written == 0) (written == length params) (length known == written) (list_any (λ param. param.atomic) params) (same_tells (length known) written same) fit
+args_there written known params same fit = by (written == 0) (written == length params) (length known == written) (list_any (λ param. param.atomic) params) (eq-eqb (length known) written same) fit
   where
     by : (b c d any : Bool) → d ≡ true → cond b any (not c) ≡ false → (rs : List Rpl) × (cond b (Some (roots params)) (cond (c && d) (Some known) None) ≡ Some rs)
     by true c d any e fit = (roots params, refl)
