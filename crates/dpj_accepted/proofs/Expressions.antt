@@ -70,12 +70,12 @@ use Rattle.dpj_accepted.specs.Gathered.{Gathers}
 use Rattle.dpj_accepted.specs.Laws.{Stands}
 use Rattle.dpj_accepted.specs.Seen.{AllStand, RowIs, Tells, Sees, FieldSeen, MethodSeen, ClassSeen}
 use Rattle.dpj_written.specs.Written.{Fitting, FormFitting, AllFitting}
-use Rattle.dpj_accepted.proofs.Args.{args_good}
+use Rattle.dpj_declared.proofs.Args.{args_good}
 use Rattle.dpj_accepted.proofs.InScope.{stands_with}
 use Rattle.dpj_accepted.proofs.Meant.{meant, created_good}
 use Rattle.dpj_accepted.proofs.Gathered.{nothing_gathered, one_gathered, use_gathered, then_gathered, all_gathered, gathered_nd}
 use Rattle.dpj_accepted.proofs.Partial.{readable_from, all_known}
-use Rattle.dpj_accepted.proofs.Paths.{Meaning}
+use Rattle.dpj_declared.proofs.Paths.{Meaning}
 use Rattle.dpj_accepted.proofs.Subtypes.{fits_subtype}
 
 -- tests of types

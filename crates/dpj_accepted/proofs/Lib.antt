@@ -1,4 +1,3 @@
-pub mod Args
 pub mod Clashing
 pub mod Declaring
 pub mod Expressions
@@ -6,15 +5,12 @@ pub mod Gathered
 pub mod Growing
 pub mod InScope
 pub mod InScopeStatements
-pub mod Indices
 pub mod Left
 pub mod Meant
 pub mod Partial
-pub mod Paths
 pub mod Singles
 pub mod Subtypes
 pub mod Targets
-pub mod Types
 pub mod Walks
 pub mod Readiness
 pub mod Statements

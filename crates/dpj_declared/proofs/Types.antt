@@ -29,9 +29,9 @@ use Rattle.dpj_typed.specs.Types.{GoodPath, LocalPath, GoodArgs, GoodType, IsFla
 use Rattle.dpj_resolved.proofs.Free.{NoFaults, free_split, append_none, fault_none, not_false}
 use Rattle.dpj_resolved.proofs.Known.{path_known}
 use Rattle.dpj_resolved.proofs.Lists.{some_same, map_there}
-use Rattle.dpj_accepted.proofs.Args.{args_good}
-use Rattle.dpj_accepted.proofs.Indices.{is_written, AllSpeak, TypeSpeaks, own_told, array_speaks, path_speaks, args_speak}
-use Rattle.dpj_accepted.proofs.Paths.{Meaning, own, path_begun, begun_either}
+use Rattle.dpj_declared.proofs.Args.{args_good}
+use Rattle.dpj_declared.proofs.Indices.{is_written, AllSpeak, TypeSpeaks, own_told, array_speaks, path_speaks, args_speak}
+use Rattle.dpj_declared.proofs.Paths.{Meaning, own, path_begun, begun_either}
 
 -- the index names around what stands inside the rest of the suffixes
 abbrev pub names_of : List Suffix → Option Named → List (Option Named)

@@ -28,7 +28,7 @@ use Rattle.dpj_typed.specs.Types.{GoodPath, GoodArgs}
 use Rattle.dpj_resolved.proofs.Free.{append_none, fault_none, NoFaults}
 use Rattle.dpj_resolved.proofs.Known.{path_known}
 use Rattle.dpj_resolved.proofs.Lists.{some_same, map_there}
-use Rattle.dpj_accepted.proofs.Paths.{Meaning, depth_of, path_begun, not_local, path_full, path_told_atomic}
+use Rattle.dpj_declared.proofs.Paths.{Meaning, depth_of, path_begun, not_local, path_full, path_told_atomic}
 
 length_mapped : {A B : Type 0} (f : A → B) (xs : List A) → length (map f xs) ≡ length xs
 length_mapped f [] = refl
