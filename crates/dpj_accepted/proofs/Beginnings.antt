@@ -50,9 +50,9 @@ use Rattle.dpj_accepted.proofs.Entering.{Entered, Begun, formals_entered}
 use Rattle.dpj_accepted.proofs.InScope.{good_stands, good_type}
 use Rattle.dpj_accepted.proofs.Membership.{IsMember}
 use Rattle.dpj_accepted.proofs.ParamNames.{values_folded, value_same, param_told, paths_same}
-use Rattle.dpj_accepted.proofs.Paths.{Meaning}
+use Rattle.dpj_declared.proofs.Paths.{Meaning}
 use Rattle.dpj_accepted.proofs.SignatureTypes.{formals_good, result_good}
-use Rattle.dpj_accepted.proofs.Types.{ClassesMean}
+use Rattle.dpj_declared.proofs.Types.{ClassesMean}
 
 -- the superclasses that are taken of a table, which are none or all
 supers_taken : (P : PlainProgram) (rows taken : List Super) → AreTaken rows taken → SupersAgree P rows → SupersAgree P taken

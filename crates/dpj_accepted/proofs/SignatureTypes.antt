@@ -19,8 +19,8 @@ use Rattle.dpj_check.specs.Deciding.{has_value}
 use Rattle.dpj_resolved.proofs.Free.{append_none, joined_free}
 use Rattle.dpj_resolved.proofs.Known.{type_known}
 use Rattle.dpj_resolved.proofs.Lists.{some_same}
-use Rattle.dpj_accepted.proofs.Paths.{Meaning}
-use Rattle.dpj_accepted.proofs.Types.{ClassesMean, type_good}
+use Rattle.dpj_declared.proofs.Paths.{Meaning}
+use Rattle.dpj_declared.proofs.Types.{ClassesMean, type_good}
 
 suffixes_small : (suffixes : List Suffix) → length suffixes ≤ sum_by suffix_size suffixes
 suffixes_small [] = omega arith
