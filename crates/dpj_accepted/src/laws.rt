@@ -1,6 +1,7 @@
 //! The laws of accepted programs, each the clause of a function that does nothing.
 
 ghost use Rattle.dpj_accepted.specs.Laws.{SubtypesAgree, TypesAgree, ExpressionsAgree, SinglesAgree, EffectsAreInScope, BlocksAgree};
+ghost use Rattle.dpj_accepted.specs.Whole.{ForksAreTold, NoneForks};
 
 /// Where a value fits for the checker, its type is a subtype in the judgement.
 pub fn law_subtypes()
@@ -34,4 +35,14 @@ pub fn law_scopes()
 /// their place holds: what is around them for the checker is in scope, and signatures name nothing of a body.
 pub fn law_blocks()
     ensures blocks { BlocksAgree }
+{}
+
+/// Where a program has no nd construct, its class table tells of no method that one is reached through it.
+pub fn law_none_forks()
+    ensures none { NoneForks }
+{}
+
+/// A method in whose body the checker finds that an nd construct is reached is one of which the class table tells so.
+pub fn law_forks()
+    ensures forks { ForksAreTold }
 {}
