@@ -27,3 +27,5 @@ pub mod Branches
 pub mod Covered
 pub mod Unmarked
 pub mod TypeShapes
+pub mod Reached
+pub mod ReachedExpressions

@@ -1,3 +1,5 @@
+use Rattle.dpj_accepted.proofs.ReachedExpressions.{targeting_answered}
+use Rattle.dpj_accepted.proofs.Reached.{write_same}
 use Rattle.dpj_accepted.proofs.TypeShapes.{declared_shaped}
 use Rattle.dpj_accepted.proofs.laws.law_forks.Goals as goal
 
