@@ -29,3 +29,4 @@ pub mod Unmarked
 pub mod TypeShapes
 pub mod Reached
 pub mod ReachedExpressions
+pub mod ShapedLocals
