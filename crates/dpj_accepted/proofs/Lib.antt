@@ -30,3 +30,4 @@ pub mod TypeShapes
 pub mod Reached
 pub mod ReachedExpressions
 pub mod ShapedLocals
+pub mod ReachedStatements

@@ -60,6 +60,11 @@ pub record AreShallow (table : Table) : Type 0 where
   pub fields : (class name : ℕ) (row : FieldRow) → field_of table class name ≡ Some row → IsShape (type_shape (plain_type row.ty)) (plain_type row.ty)
   pub results : (class name : ℕ) (row : MethodRow) → method_of table class name ≡ Some row → IsShape (type_shape (plain_type row.result)) (plain_type row.result)
 
+-- what is given has the shape
+abbrev pub Shown : Shape → Option TypedExpr → Type 0
+Shown s None = Unit {0}
+Shown s (Some t) = IsShape s (type_of t)
+
 module _ (env : Env) (locals : Names Shape) (rows : AreShallow (table_of env))
     (known : (name : ℕ) (row : LocalRow) → local_of env name ≡ Some row → IsShape (unwrap_or (value_in locals name) no_class) (plain_type row.ty))
   where
@@ -77,11 +82,6 @@ module _ (env : Env) (locals : Names Shape) (rows : AreShallow (table_of env))
 
     abbrev More : Found → List ℕ → Found → Type 0
     More f ids g = Adds (table_of env) f.reaches_nd false ids g.reaches_nd
-
-    -- what is given has the shape
-    abbrev pub Shown : Shape → Option TypedExpr → Type 0
-    Shown s None = Unit {0}
-    Shown s (Some t) = IsShape s (type_of t)
 
     abbrev Answered : Shape → List ℕ → Found → Answer → Type 0
     Answered s ids f (gives t g) = Shown s t × More f ids g
@@ -203,7 +203,7 @@ module _ (env : Env) (locals : Names Shape) (rows : AreShallow (table_of env))
         by false = tt
 
     -- an element of a part
-    part_shown : (array : tree.PlainExpr) (row : LocalRow) → part_of env array ≡ Some row → IsShape (shape array) (plain_type row.ty)
+    pub part_shown : (array : tree.PlainExpr) (row : LocalRow) → part_of env array ≡ Some row → IsShape (shape array) (plain_type row.ty)
     part_shown (tree.expression place (tree.local name)) row is = by (local_of env name) (known name) is
       where
         same : (b : Bool) (one : LocalRow) → cond b (Some one) None ≡ Some row → one ≡ row

@@ -1,3 +1,4 @@
+use Rattle.dpj_accepted.proofs.ReachedStatements.{block_reaches}
 use Rattle.dpj_accepted.proofs.ShapedLocals.{room_there}
 use Rattle.dpj_accepted.proofs.ReachedExpressions.{targeting_answered}
 use Rattle.dpj_accepted.proofs.Reached.{write_same}
