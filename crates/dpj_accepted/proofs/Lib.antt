@@ -31,3 +31,5 @@ pub mod Reached
 pub mod ReachedExpressions
 pub mod ShapedLocals
 pub mod ReachedStatements
+pub mod RowShapes
+pub mod ForkEdges

@@ -1,6 +1,6 @@
 -- The locals in scope have the shapes that the text gives them.
 use Rattle.std.proofs.Common.{◌≡◌, ◌∙◌, ◌≤◌, ◌+◌, ℕ, zero, suc, Bool, true, false, cond, List, [], ◌∷◌, ◌++◌, length, take, append_assoc, Option, Some, None, refl, sym, ap, subst, arith, rules}
-use Rattle.std.proofs.lemmas.List.{length-append}
+use Rattle.std.proofs.lemmas.List.{append-nil, take-append-le, take_all}
 use Rattle.std.specs.Option.{option_and_then, option_map_or}
 use Rattle.std.specs.Prelude.{slice_get, unwrap_or, is_some}
 use Rattle.dpj_base.specs.declared.place.Place.{Place}
@@ -79,18 +79,11 @@ pub record Longer (few more : Names Shape) : Type 0 where
   pub values : List Shape
   pub values_are : values_in more ≡ values_in few ++ values
 
-append_none : {A : Type 0} (xs : List A) → xs ≡ xs ++ []
-append_none [] = refl
-append_none (x ∷ xs) = ap (λ z. x ∷ z) (append_none xs)
-
-take_first : {A : Type 0} (n : ℕ) (xs ys : List A) → n ≡ length xs → take n (xs ++ ys) ≡ xs
-take_first zero [] ys is = refl
-take_first zero (x ∷ xs) ys is = absurd (omega (arith, is))
-take_first (suc n) [] ys is = absurd (omega (arith, is))
-take_first (suc n) (x ∷ xs) ys is = ap (λ z. x ∷ z) (take_first n xs ys (omega (arith, is)))
+take_front : {A : Type 0} (n : ℕ) (xs ys : List A) → n ≡ length xs → take n (xs ++ ys) ≡ xs
+take_front n xs ys is = take-append-le n xs ys (omega (arith, is)) ∙ take_all n xs (omega (arith, is))
 
 pub longer_same : (locals : Names Shape) → Longer locals locals
-longer_same locals = record { names = []; names_are = append_none locals.names; values = []; values_are = append_none locals.values }
+longer_same locals = record { names = []; names_are = sym (append-nil locals.names); values = []; values_are = sym (append-nil locals.values) }
 
 pub longer_then : (a b c : Names Shape) → Longer a b → Longer b c → Longer a c
 longer_then a b c first second = record {
@@ -171,8 +164,8 @@ module _ {table : Table} {class : ℕ}
     scope_closed {few} {more} {before} {after} longer at inner = record {
       table_is = inner.table_is;
       class_is = inner.class_is;
-      names = ap (take n) (inner.names ∙ longer.names_are) ∙ take_first n few.names longer.names (rows_many before.rows few.values at.rows ∙ sym at.paired);
-      rows = subst (RowsShaped (take n after.rows)) (ap (take n) longer.values_are ∙ take_first n few.values longer.values (rows_many before.rows few.values at.rows)) (rows_taken n after.rows more.values inner.rows);
+      names = ap (take n) (inner.names ∙ longer.names_are) ∙ take_front n few.names longer.names (rows_many before.rows few.values at.rows ∙ sym at.paired);
+      rows = subst (RowsShaped (take n after.rows)) (ap (take n) longer.values_are ∙ take_front n few.values longer.values (rows_many before.rows few.values at.rows)) (rows_taken n after.rows more.values inner.rows);
       paired = at.paired;
     }
       where

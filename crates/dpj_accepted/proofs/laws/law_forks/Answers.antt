@@ -1,3 +1,5 @@
+use Rattle.dpj_accepted.proofs.RowShapes.{row_there}
+use Rattle.dpj_accepted.proofs.ForkEdges.{edge_there}
 use Rattle.dpj_accepted.proofs.ReachedStatements.{block_reaches}
 use Rattle.dpj_accepted.proofs.ShapedLocals.{room_there}
 use Rattle.dpj_accepted.proofs.ReachedExpressions.{targeting_answered}
