@@ -33,3 +33,4 @@ pub mod ShapedLocals
 pub mod ReachedStatements
 pub mod RowShapes
 pub mod ForkEdges
+pub mod ForksTold
