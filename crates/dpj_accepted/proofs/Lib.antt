@@ -24,7 +24,14 @@ pub mod LocalRegions
 pub mod PartLoops
 pub mod Cobegins
 pub mod Branches
-pub mod Covered
+pub mod WellTyped
+pub mod Standing
+pub mod Membership
+pub mod ParamNames
+pub mod SignatureTypes
+pub mod Entering
+pub mod Beginnings
+pub mod MemberBodies
 pub mod Unmarked
 pub mod TypeShapes
 pub mod Reached

@@ -1,5 +1,5 @@
 -- What a whole accepted program keeps, by parts: what its table tells, when its methods reach nd constructs, and its bodies.
-use Rattle.std.specs.Prelude.{◌≡◌, ◌<◌, ◌⊎◌, ℕ, ◌+◌, Bool, true, false, not, IsTrue, List, [], ◌∷◌, length, map, codes, Some}
+use Rattle.std.specs.Prelude.{◌≡◌, ◌<◌, ◌⊎◌, ℕ, ◌+◌, Bool, true, false, not, IsTrue, List, ◌∷◌, length, map, codes, Some}
 use Rattle.dpj_base.specs.Effects.{set_covers}
 use Rattle.dpj_base.specs.Types.{void}
 use Rattle.dpj_tree.specs.declared.class.Class.{Class}
@@ -92,3 +92,7 @@ BodiesPass =
     (program : Program) (table : Table) (bodies : List PlainBody) → IsWritten program → IsAccepted program table bodies →
     (n : ℕ) (m : PlainMember) (class : PlainClass) → member_at (made_of program table bodies) n ≡ Some m → class_at (made_of program table bodies) m.class ≡ Some class →
     GoodBody (made_of program table bodies) (never_forks table) n m class
+
+-- the same where the table tells, its superclasses are the program's, signatures name nothing, and forks are told
+abbrev pub BodiesPassWhere : Type 0
+BodiesPassWhere = TablesTell → SupersAreTold → SignaturesNameNothing → ForksAreTold → BodiesPass

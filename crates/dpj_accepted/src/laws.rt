@@ -1,7 +1,9 @@
 //! The laws of accepted programs, each the clause of a function that does nothing.
 
-ghost use Rattle.dpj_accepted.specs.Laws.{SubtypesAgree, TypesAgree, ExpressionsAgree, SinglesAgree, EffectsAreInScope, BlocksAgree};
-ghost use Rattle.dpj_accepted.specs.Whole.{ForksAreTold, NoneForks};
+ghost use Rattle.dpj_accepted.specs.Laws.{AcceptedIsWellTyped, SubtypesAgree, TypesAgree, ExpressionsAgree, SinglesAgree, EffectsAreInScope, BlocksAgree};
+ghost use Rattle.dpj_accepted.specs.Whole.{BodiesPass, BodiesPassWhere, ForksAreTold, NoneForks};
+ghost use Rattle.dpj_declared.specs.Laws.{AcceptedIsDeclared};
+ghost use Rattle.dpj_inherited.specs.Laws.{AcceptedInherits, AcceptedHasMain};
 
 /// Where a value fits for the checker, its type is a subtype in the judgement.
 pub fn law_subtypes()
@@ -35,6 +37,17 @@ pub fn law_scopes()
 /// their place holds: what is around them for the checker is in scope, and signatures name nothing of a body.
 pub fn law_blocks()
     ensures blocks { BlocksAgree }
+{}
+
+/// The body of each member of an accepted program passes in the judgement, does no more than its summary says, and gives a value
+/// where it should: where the class table tells what the program has, and of which methods nd constructs are reached.
+pub fn law_bodies()
+    ensures bodies { BodiesPassWhere }
+{}
+
+/// Accepted programs are well typed, for now where these parts hold.
+pub fn law_well_typed()
+    ensures well_typed { AcceptedIsDeclared → AcceptedInherits → AcceptedHasMain → BodiesPass → NoneForks → AcceptedIsWellTyped }
 {}
 
 /// Where a program has no nd construct, its class table tells of no method that one is reached through it.

@@ -1,5 +1,5 @@
 -- What classes of an accepted program have from their superclasses, and the class with which a run begins.
-use Rattle.std.specs.Prelude.{◌≡◌, ◌<◌, ◌⊎◌, ◌++◌, ℕ, List, All, map, None, Some, slice_get}
+use Rattle.std.specs.Prelude.{◌≡◌, ◌<◌, ◌++◌, ℕ, List, All, map, None, Some, slice_get}
 use Rattle.dpj_tree.specs.Nd.{program_uses_nd}
 use Rattle.dpj_tree.specs.declared.class.Program.{Program}
 use Rattle.dpj_classes.specs.declared.table.Table.{Table}
