@@ -1,24 +1,20 @@
 -- A method in whose body an nd construct is reached is one of which the class table tells so.
-use Rattle.std.proofs.Common.{◌≡◌, ◌∙◌, ◌≤◌, ◌<◌, ◌+◌, ℕ, suc, Bool, true, false, ◌&&◌, cond, IsTrue, List, [], ◌∷◌, ◌++◌, map, length, flat_map, fold, inl, inr, Option, Some, None, refl, sym, ap, subst, sum_by, arith}
+use Rattle.std.proofs.Common.{◌≡◌, ◌∙◌, ◌≤◌, ◌<◌, ◌+◌, ℕ, suc, Bool, true, false, ◌&&◌, cond, List, [], ◌∷◌, ◌++◌, map, length, flat_map, fold, inl, inr, Option, Some, None, refl, sym, ap, subst, sum_by, arith}
 use Rattle.std.proofs.lemmas.Bool.{false≢true, lt-ltb}
 use Rattle.std.proofs.lemmas.List.Sums.{sum_by-cons}
 use Rattle.std.proofs.lemmas.Option.{slice_get_within}
-use Rattle.std.specs.Prelude.{codes, nat_lt}
+use Rattle.std.specs.Prelude.{nat_lt}
 use Rattle.dpj_base.specs.declared.ty.Ty.{Ty}
-use Rattle.dpj_base.specs.Types.{PlainType, plain_type}
-use Rattle.dpj_headers.specs.declared.header.Headers.{Headers}
-use Rattle.dpj_headers.specs.Gathered.{name_number}
+use Rattle.dpj_base.specs.Types.{plain_type}
 use Rattle.dpj_headers.specs.Numbers.{as_number}
 use Rattle.dpj_tree.specs.declared.class.Class.{Class}
 use Rattle.dpj_tree.specs.declared.class.Formal.{Formal}
 use Rattle.dpj_tree.specs.declared.class.Member.{Member}
 use Rattle.dpj_tree.specs.declared.class.Member.TheVariants as member
 use Rattle.dpj_tree.specs.declared.class.Method.{Method}
-use Rattle.dpj_tree.specs.declared.class.Program.{Program}
 use Rattle.dpj_tree.specs.Nd.{some_holds_nd}
 use Rattle.dpj_tree.specs.Plain.{plain_stmt, plain_stmts}
-use Rattle.dpj_tree.specs.Size.{type_size, method_size, member_size, class_size, program_size}
-use Rattle.dpj_typed.specs.Plain.{TypedStmt}
+use Rattle.dpj_tree.specs.Size.{type_size, method_size, member_size, class_size}
 use Rattle.dpj_resolve.specs.Names.{Names}
 use Rattle.dpj_resolve.specs.Scoped.{no_names, with_name}
 use Rattle.dpj_resolve.specs.Scopes.{PlainScope}
@@ -33,18 +29,11 @@ use Rattle.dpj_classes.specs.Reach.{IsBehind}
 use Rattle.dpj_classes.specs.Rows.{said_scope}
 use Rattle.dpj_classes.specs.Shapes.{tree_shape}
 use Rattle.dpj_classes.specs.Signatures.{known_type}
-use Rattle.dpj_classes.specs.Table.{headers_of, methods_of, numbered, is_forking}
-use Rattle.dpj_assembly.specs.Assembled.{PlainBody}
+use Rattle.dpj_classes.specs.Table.{headers_of, methods_of, numbered}
 use Rattle.dpj_exprs.specs.declared.env.Env.{Env}
-use Rattle.dpj_exprs.specs.Env.{table_of, at_class, at_members, with_row, with_local, IsFresh}
-use Rattle.dpj_check.specs.Checking.{InBlock}
-use Rattle.dpj_check.specs.Deciding.{has_value}
-use Rattle.dpj_check.specs.Keeping.{method_around}
+use Rattle.dpj_exprs.specs.Env.{table_of, at_class, at_members, with_row, with_local}
 use Rattle.dpj_check.specs.Methods.{formals_declared, formal_types, body_begun}
-use Rattle.dpj_check.specs.Simple.{has_room, local_declared}
-use Rattle.dpj_check.specs.Walks.{Walk, passes}
-use Rattle.dpj_resolved.specs.Accepted.{IsAccepted}
-use Rattle.dpj_written.specs.Written.{IsWritten}
+use Rattle.dpj_check.specs.Simple.{has_room}
 use Rattle.dpj_resolved.proofs.Lists.{some_same}
 use Rattle.dpj_accepted.specs.Whole.{StandsIn, StandsAmong, ForksAreTold}
 use Rattle.dpj_accepted.proofs.ForkEdges.{mark_there, leads_first, edge_there}

@@ -2,21 +2,20 @@
 use Rattle.std.proofs.Common.{◌≡◌, ◌∙◌, ◌+◌, ℕ, suc, Bool, true, false, ◌&&◌, ◌||◌, cond, List, [], ◌∷◌, ◌++◌, length, Option, Some, None, option_map, Result, Ok, Err, inl, refl, sym, ap, subst, arith}
 use Rattle.std.specs.Option.{option_and_then, option_map_or}
 use Rattle.std.specs.Prelude.{unwrap_or}
-use Rattle.dpj_base.specs.declared.elems.Index.{Index}
 use Rattle.dpj_base.specs.declared.place.Place.{Place}
 use Rattle.dpj_base.specs.declared.refusal.Kind.TheVariants as kind
 use Rattle.dpj_base.specs.declared.refusal.Refusal.{Refusal}
 use Rattle.dpj_base.specs.declared.region.Rpl.{Rpl}
-use Rattle.dpj_base.specs.Types.{PlainType, plain_type, type_with, type_at}
+use Rattle.dpj_base.specs.Types.{PlainType, plain_type, type_with}
 use Rattle.dpj_base.specs.Types.{PlainType as ty}
-use Rattle.dpj_arrays.specs.Access.{PlainElement, element_of, index_elem}
+use Rattle.dpj_arrays.specs.Access.{element_of, index_elem}
 use Rattle.dpj_headers.specs.Headers.{class_of}
 use Rattle.dpj_headers.specs.Passes.{fault}
 use Rattle.dpj_resolve.specs.declared.args.ReadArgs.{ReadArgs}
 use Rattle.dpj_resolve.specs.Index.{PlainIndex}
 use Rattle.dpj_resolve.specs.Names.{Names}
 use Rattle.dpj_resolve.specs.Scoped.{value_in}
-use Rattle.dpj_resolve.specs.Written.{array_meant, judged_type, type_read}
+use Rattle.dpj_resolve.specs.Written.{judged_type}
 use Rattle.dpj_tree.specs.declared.expr.BinaryOp.{BinaryOp}
 use Rattle.dpj_tree.specs.declared.expr.BinaryOp.TheVariants.{Or, And, Eq, Ne, Lt, Le, Gt, Ge, Add, Sub, Mul, Div, Rem}
 use Rattle.dpj_tree.specs.declared.expr.UnaryOp.{UnaryOp}
@@ -24,7 +23,6 @@ use Rattle.dpj_tree.specs.declared.expr.UnaryOp.TheVariants.{Neg, Not}
 use Rattle.dpj_tree.specs.declared.region.BaseTree.{BaseTree}
 use Rattle.dpj_tree.specs.declared.region.Named.{Named}
 use Rattle.dpj_tree.specs.declared.region.RplTree.{RplTree}
-use Rattle.dpj_tree.specs.declared.region.Suffix.{Suffix}
 use Rattle.dpj_tree.specs.Plain as tree
 use Rattle.dpj_classes.specs.declared.rows.FieldRow.{FieldRow}
 use Rattle.dpj_classes.specs.declared.rows.MethodRow.{MethodRow}
@@ -41,17 +39,17 @@ use Rattle.dpj_exprs.specs.declared.env.Env.{Env}
 use Rattle.dpj_exprs.specs.declared.env.LocalRow.{LocalRow}
 use Rattle.dpj_exprs.specs.declared.found.Found.{Found}
 use Rattle.dpj_exprs.specs.Answer.{Answer, gives, refused, read}
-use Rattle.dpj_exprs.specs.Arrays.{array_told, array_with, type_told, own_path, own_place, created_array, front_of, made_names}
-use Rattle.dpj_exprs.specs.Elements.{array_element, element_through, element_read, read_element, index_of, element_in_part, part_element, part_read, read_part}
+use Rattle.dpj_exprs.specs.Arrays.{array_told, array_with, type_told, own_path, own_place, created_array, front_of}
+use Rattle.dpj_exprs.specs.Elements.{array_element, element_read, read_element, index_of, element_in_part, part_read, read_part}
 use Rattle.dpj_exprs.specs.Env.{table_of, scope_of, local_of, as_part, part_of, is_length_name}
 use Rattle.dpj_exprs.specs.Fields.{owned_field, named_field, field_through, field_read, read_field}
 use Rattle.dpj_exprs.specs.Locals.{local_typed}
-use Rattle.dpj_exprs.specs.Operations.{unary_takes, unary_gives, unary_op, unary_typed, binary_takes, binary_gives, binary_form, binary_typed, node_if}
+use Rattle.dpj_exprs.specs.Operations.{unary_takes, unary_gives, unary_op, binary_takes, binary_gives, binary_form, node_if}
 use Rattle.dpj_exprs.specs.Targeting.{TargetAnswer, aims, misses, aimed, field_target, element_target, part_target, PlainTarget, Targeting}
 use Rattle.dpj_exprs.specs.Typed.{type_in, node_at, may_be, is_int, is_array}
 use Rattle.dpj_exprs.specs.Typing.{answer, created, leaf_typed, AllAnswer, all_give, one_refused, Typing, TypingArray, TypingAll}
-use Rattle.dpj_exprs.specs.Uses.{args_of, owned_method, named_method, method_through, called, with_constructor, CallOf, CallOn, Call, CreationOf, Creation}
-use Rattle.dpj_resolved.proofs.Lists.{some_same, ok_same, and_then_there}
+use Rattle.dpj_exprs.specs.Uses.{args_of, owned_method, named_method, method_through, with_constructor, CallOf, CallOn, Call, CreationOf, Creation}
+use Rattle.dpj_resolved.proofs.Lists.{some_same, ok_same}
 use Rattle.dpj_accepted.proofs.Reached.{Adds, adds_none, adds_then, adds_more, adds_later, adds_call}
 use Rattle.dpj_accepted.proofs.TypeShapes.{IsShape, shape_with, shape_at, judged_shaped}
 

@@ -1,18 +1,17 @@
 -- The statements of a body reach an nd construct only where one stands among them, or by a call or a creation of what forks.
-use Rattle.std.proofs.Common.{◌≡◌, ◌∙◌, ℕ, Bool, true, false, not, ◌&&◌, ◌||◌, List, [], ◌∷◌, ◌++◌, inl, Option, Some, None, refl, sym, ap, subst, rules}
+use Rattle.std.proofs.Common.{◌≡◌, ℕ, Bool, true, false, not, ◌||◌, List, [], ◌∷◌, ◌++◌, inl, Option, Some, None, refl, sym, subst, rules}
 use Rattle.dpj_base.specs.declared.effect.Effect.{Effect}
 use Rattle.dpj_base.specs.declared.refusal.Kind.{Kind}
 use Rattle.dpj_base.specs.declared.place.Place.{Place}
 use Rattle.dpj_base.specs.declared.refusal.Kind.TheVariants as kind
-use Rattle.dpj_base.specs.declared.refusal.Refusal.{Refusal}
-use Rattle.dpj_base.specs.declared.ty.Ty.{Ty, the_lemmas}
+use Rattle.dpj_base.specs.declared.ty.Ty.{the_lemmas}
 use Rattle.dpj_base.specs.declared.ty.Ty.TheVariants as variant
 use Rattle.dpj_base.specs.Types.{PlainType, plain_type}
 use Rattle.dpj_base.specs.Types.{PlainType as ty}
 use Rattle.dpj_locals.specs.declared.branch.Touched.{Touched}
 use Rattle.dpj_tree.specs.declared.region.Named.{Named}
 use Rattle.dpj_tree.specs.declared.region.TypeTree.{TypeTree}
-use Rattle.dpj_tree.specs.Nd.{holds_nd, form_holds_nd, some_holds_nd}
+use Rattle.dpj_tree.specs.Nd.{holds_nd, some_holds_nd}
 use Rattle.dpj_tree.specs.Plain.{PlainExpr, PlainStmt, PlainStmts}
 use Rattle.dpj_tree.specs.Plain as tree
 use Rattle.dpj_typed.specs.Plain.{TypedExpr, type_of, Source, TypedStmt, TypedBranch, stmts_of}
@@ -21,7 +20,7 @@ use Rattle.dpj_resolve.specs.Names.{Names}
 use Rattle.dpj_resolve.specs.Scoped.{with_name}
 use Rattle.dpj_classes.specs.declared.shape.Shape.{Shape}
 use Rattle.dpj_classes.specs.declared.table.Table.{Table}
-use Rattle.dpj_classes.specs.Calls.{shape_of, calls_of, stmt_calls, stmt_form_calls, block_calls, branch_calls}
+use Rattle.dpj_classes.specs.Calls.{shape_of, calls_of, stmt_calls, block_calls, branch_calls}
 use Rattle.dpj_classes.specs.Calls.{behind as behind_stmt}
 use Rattle.dpj_classes.specs.Edges.{without_forks}
 use Rattle.dpj_classes.specs.Shapes.{no_class, tree_shape}
@@ -30,22 +29,23 @@ use Rattle.dpj_exprs.specs.declared.env.Env.{Env}
 use Rattle.dpj_exprs.specs.declared.found.Found.{Found}
 use Rattle.dpj_exprs.specs.Answer.{gives}
 use Rattle.dpj_exprs.specs.Env.{table_of, scope_of}
-use Rattle.dpj_exprs.specs.Targeting.{aims, Targeting, with_write}
+use Rattle.dpj_exprs.specs.Targeting.{aims, Targeting}
 use Rattle.dpj_exprs.specs.Typed.{may_be, is_int, is_boolean, type_in}
 use Rattle.dpj_exprs.specs.Typing.{Typing}
 use Rattle.dpj_check.specs.declared.node.Around.{Around}
 use Rattle.dpj_check.specs.declared.node.Node.{Node}
-use Rattle.dpj_check.specs.Checking.{block_left, branch_of, gathers, with_nd, cut_type, Cutting, Opened, opened, not_opened, Opening, outer_part, part_slot, variable_noted, parts_declared, BranchesVerdict, all_pass, one_refused, after_branch, Checking, Choosing, InOther, Standing, standing, InScope, in_scope, InBlock, in_block, InOrder, Branching, Forking, Iterating, Parting}
+use Rattle.dpj_check.specs.Checking.{block_left, branch_of, gathers, cut_type, Cutting, Opened, opened, not_opened, Opening, outer_part, part_slot, variable_noted, BranchesVerdict, all_pass, one_refused, after_branch, Checking, Choosing, InOther, Standing, standing, InScope, in_scope, InBlock, in_block, InOrder, Branching, Forking, Iterating, Parting}
 use Rattle.dpj_check.specs.Deciding.{marks_after}
 use Rattle.dpj_check.specs.Gathering.{with_uses, taken_in}
 use Rattle.dpj_check.specs.Leaving.{from_here}
 use Rattle.dpj_check.specs.Noting.{with_fault_if, with_found, fault_of}
-use Rattle.dpj_check.specs.Simple.{node_of, declared_type, declaration_noted, part_declared, Declaring, AssigningLocal, AssigningPlace, Performing, Returning, Printing}
-use Rattle.dpj_check.specs.Walks.{Walk, Verdict, passes, refused, apart_from, left_scope, judged, behind}
+use Rattle.dpj_check.specs.Simple.{node_of, declaration_noted, part_declared, Declaring, AssigningLocal, AssigningPlace, Performing, Returning, Printing}
+use Rattle.dpj_check.specs.Walks.{Walk, Verdict, passes, refused, apart_from, left_scope}
 use Rattle.dpj_resolved.proofs.Bodies.{free_if, declared_free}
+use Rattle.dpj_accepted.proofs.Growing.{room_free}
 use Rattle.dpj_accepted.proofs.Reached.{Adds, adds_none, adds_then, adds_apart, adds_nd, write_same, handed_same}
 use Rattle.dpj_accepted.proofs.ReachedExpressions.{AreShallow, Shown, part_shown, typing_answered, targeting_answered}
-use Rattle.dpj_accepted.proofs.ShapedLocals.{Shaped, Longer, longer_then, longer_one, longer_behind, longer_all, all_behind, local_shaped, local_added, part_added, regions_added, scope_closed, room_there}
+use Rattle.dpj_accepted.proofs.ShapedLocals.{Shaped, longer_then, longer_one, longer_behind, longer_all, all_behind, local_shaped, local_added, part_added, regions_added, scope_closed}
 use Rattle.dpj_accepted.proofs.TypeShapes.{IsShape, declared_shaped}
 use Rattle.dpj_accepted.proofs.Walks.{If, judged_if, behind_if}
 
@@ -114,7 +114,7 @@ module _ (table : Table) (class : ℕ) (rows : AreShallow table)
         (judged_if (λ made u. Goes false (calls locals value) (with_name locals name (tree_shape (headers_of table) written)) w u) _ _ _ (λ free.
         let f = free_if (declaration_noted w.env name node.place node) kind.Type (not fit) free in
         record {
-          env = local_added name made is_final (tree_shape (headers_of table) written) (room_there w.env name node.place node f.0)
+          env = local_added name made is_final (tree_shape (headers_of table) written) (room_free w.env name node.place node f.0)
               (subst (λ z. IsShape (tree_shape (headers_of z) written) (plain_type made)) at.table_is
               (subst (IsShape (tree_shape (headers_of (table_of w.env)) written)) (sym same) (declared_shaped (scope_of w.env) written))) at;
           adds = (expr_at at d).1;
@@ -184,8 +184,8 @@ module _ (table : Table) (class : ℕ) (rows : AreShallow table)
         let cut = cutting_at at c in
         let plain = with_fault_if (with_found node found) kind.Type (not (may_be is_int (type_in u))) in
         let noted = declaration_noted w.env view.name view.place plain in
-        let second = room_there (part_declared w.env view.name t) var.name var.place noted free in
-        let first = room_there w.env view.name view.place plain (declared_free (part_declared w.env view.name t) var.name var.place noted free) in
+        let second = room_free (part_declared w.env view.name t) var.name var.place noted free in
+        let first = room_free w.env view.name view.place plain (declared_free (part_declared w.env view.name t) var.name var.place noted free) in
         record {
           env = local_added var.name variant.Int true no_class second (int_shaped no_class) (part_added view.name t (shape locals array) first cut.0 at);
           adds = then_more w.found g h false false (calls locals array) (calls locals count) cut.1 (expr_at at d).1;
@@ -385,7 +385,7 @@ module _ (table : Table) (class : ℕ) (rows : AreShallow table)
       iterating_goes {node = node} {nd = nd} {var = var} {body = body} {w = w} locals at (Iterating.iterated {u = u} assigns d a free j) =
           let f = free_if (variable_noted w.env var node) kind.Assign assigns free in
           let more = with_name locals var.name no_class in
-          let h = scope_reaches more (local_added var.name variant.Int true no_class (room_there w.env var.name var.place node f.0) (int_shaped no_class) at) d in
+          let h = scope_reaches more (local_added var.name variant.Int true no_class (room_free w.env var.name var.place node f.0) (int_shaped no_class) at) d in
           subst (If (λ made u. Goes (nd || holds_nd body) (inner (with_name locals var.name no_class) body) locals w u)) j
           (judged_if (λ made u. Goes (nd || holds_nd body) (inner (with_name locals var.name no_class) body) locals w u) _ _ _ (λ later. record {
             env = scope_closed (longer_one locals var.name no_class) at h.env;

@@ -1,13 +1,10 @@
 -- The rows of fields and methods have types of as few arrays as the text writes, and a method that stands in the text has its row.
-use Rattle.std.proofs.Common.{◌≡◌, ◌∙◌, ◌≤◌, ◌+◌, ℕ, zero, suc, List, [], ◌∷◌, ◌++◌, map, length, flat_map, inl, inr, Option, Some, None, refl, sym, ap, subst, sum_by, arith}
-use Rattle.std.proofs.lemmas.List.{length-append}
+use Rattle.std.proofs.Common.{◌≡◌, ◌∙◌, ◌≤◌, ◌+◌, ℕ, zero, suc, List, [], ◌∷◌, map, length, inl, inr, Some, refl, sym, ap, subst, sum_by, arith}
 use Rattle.std.proofs.lemmas.List.Sums.{sum_by-cons}
 use Rattle.std.proofs.lemmas.Option.{slice_get-map}
-use Rattle.std.specs.Prelude.{slice_get, unwrap_or}
+use Rattle.std.specs.Prelude.{slice_get}
 use Rattle.dpj_base.specs.declared.effect.Constraint.{Constraint}
-use Rattle.dpj_base.specs.declared.ty.Ty.{Ty}
-use Rattle.dpj_base.specs.Types.{PlainType, plain_type}
-use Rattle.dpj_base.specs.Types.{PlainType as ty}
+use Rattle.dpj_base.specs.Types.{plain_type}
 use Rattle.dpj_headers.specs.declared.header.Headers.{Headers}
 use Rattle.dpj_headers.specs.Headers.{nearest, upwards}
 use Rattle.dpj_headers.specs.Numbers.{as_number}
@@ -21,19 +18,19 @@ use Rattle.dpj_tree.specs.declared.region.Suffix.{Suffix}
 use Rattle.dpj_tree.specs.declared.region.TypeTree.{TypeTree}
 use Rattle.dpj_tree.specs.Size.{suffix_size, type_size, result_size, member_size, class_size}
 use Rattle.dpj_resolve.specs.Scopes.{PlainScope}
-use Rattle.dpj_classes.specs.declared.rows.FieldRow.{FieldRow}
 use Rattle.dpj_classes.specs.declared.rows.MethodRow.{MethodRow}
 use Rattle.dpj_classes.specs.declared.table.Table.{Table}
 use Rattle.dpj_classes.specs.Around.{class_scope}
-use Rattle.dpj_classes.specs.Bodies.{own_marks, class_marks}
+use Rattle.dpj_classes.specs.Bodies.{class_marks}
 use Rattle.dpj_classes.specs.Build.{IsReadOf}
 use Rattle.dpj_classes.specs.Rows.{PlainField, plain_field, PlainMethod, plain_method, method_row, said_scope, fields_from, fields_meant, first_slot, methods_from, methods_meant}
 use Rattle.dpj_classes.specs.Signatures.{known_type, result_type}
-use Rattle.dpj_classes.specs.Table.{headers_of, own_field, own_method, methods_of, numbered}
+use Rattle.dpj_classes.specs.Table.{headers_of, own_field, own_method, numbered}
 use Rattle.dpj_rows.proofs.Facts.{got_either}
 use Rattle.dpj_resolved.proofs.Lists.{some_same, and_then_there, map_there, got_first, got_later, got_mapped}
 use Rattle.dpj_accepted.specs.Whole.{StandsIn, StandsAmong}
 use Rattle.dpj_accepted.proofs.ReachedExpressions.{AreShallow}
+use Rattle.dpj_accepted.proofs.Standing.{rows_many}
 use Rattle.dpj_accepted.proofs.TypeShapes.{depth_of, type_shaped, known_shaped}
 
 -- a type has as few arrays as its tree has nodes
@@ -118,12 +115,6 @@ in_members {method} {number} {count = count} scope (StandsIn.later {m = member.R
 in_members {method} {number} {count = count} scope (StandsIn.later {m = member.Field field} d) = let w = in_members scope d in (w.0, omega (arith, w.1), w.2)
 in_members {method} {number} {count = count} scope (StandsIn.later {m = member.Method one} d) = let w = in_members scope d in (suc w.0, omega (arith, w.1), w.2)
 
-as_many : (scope : PlainScope) (count : ℕ) (members : List Member) → length (methods_from scope count members) ≡ length (flat_map own_marks members)
-as_many scope count [] = refl
-as_many scope count (member.Regions is_atomic names ∷ members) = as_many scope (count + 0) members
-as_many scope count (member.Field field ∷ members) = as_many scope (count + 0) members
-as_many scope count (member.Method method ∷ members) = ap suc (as_many scope (count + 1) members)
-
 in_classes : {method : Method} {number class : ℕ} {classes : List Class} {at count : ℕ} (headers : Headers) (all : List (List Constraint)) → StandsAmong method number class classes at count →
     (k : ℕ) × (number ≡ count + k) × (slice_get (methods_meant headers all at count classes) k ≡ Some (method_row (class_scope headers all (as_number class)) (as_number number) method))
 in_classes {method} {number} {class} headers all (StandsAmong.in_class {k = one} {classes = classes} {count = count} d) =
@@ -133,7 +124,7 @@ in_classes {method} {number} {class} headers all (StandsAmong.in_class {k = one}
     (w.0, w.1, got_first own (methods_meant headers all (class + 1) (count + length own) classes) w.0 (method_row scope (as_number number) method) w.2)
 in_classes {method} {number} {class} headers all (StandsAmong.in_later {k = one} {classes = classes} {at = at} {count = count} d) =
     let own = methods_from (class_scope headers all (as_number at)) count one.members in
-    let many : length own ≡ length (class_marks one) = as_many (class_scope headers all (as_number at)) count one.members in
+    let many : length own ≡ length (class_marks one) = rows_many (class_scope headers all (as_number at)) count one.members in
     let w = in_classes headers all d in
     let there = subst (λ n. slice_get (methods_meant headers all (at + 1) (count + n) classes) w.0 ≡ Some (method_row (class_scope headers all (as_number class)) (as_number number) method)) (sym many) w.2 in
     let on = w.1 in (

@@ -1,21 +1,16 @@
 -- The locals in scope have the shapes that the text gives them.
-use Rattle.std.proofs.Common.{◌≡◌, ◌∙◌, ◌≤◌, ◌+◌, ℕ, zero, suc, Bool, true, false, cond, List, [], ◌∷◌, ◌++◌, length, take, append_assoc, Option, Some, None, refl, sym, ap, subst, arith, rules}
+use Rattle.std.proofs.Common.{◌≡◌, ◌∙◌, ◌+◌, ℕ, zero, suc, Bool, true, false, cond, List, [], ◌∷◌, ◌++◌, length, take, append_assoc, Option, Some, None, refl, sym, ap, subst, arith}
 use Rattle.std.proofs.lemmas.List.{append-nil, take-append-le, take_all}
 use Rattle.std.specs.Option.{option_and_then, option_map_or}
-use Rattle.std.specs.Prelude.{slice_get, unwrap_or, is_some}
-use Rattle.dpj_base.specs.declared.place.Place.{Place}
-use Rattle.dpj_base.specs.declared.refusal.Kind.{Kind}
-use Rattle.dpj_base.specs.declared.refusal.Kind.TheVariants as kind
+use Rattle.std.specs.Prelude.{slice_get, unwrap_or}
 use Rattle.dpj_base.specs.declared.ty.Ty.{Ty}
-use Rattle.dpj_base.specs.declared.ty.Ty.TheVariants as variant
-use Rattle.dpj_base.specs.Types.{PlainType, plain_type}
-use Rattle.dpj_base.specs.Types.{PlainType as ty}
+use Rattle.dpj_base.specs.Types.{plain_type}
 use Rattle.dpj_headers.specs.declared.header.Headers.{Headers}
 use Rattle.dpj_tree.specs.declared.region.Named.{Named}
 use Rattle.dpj_tree.specs.declared.region.TypeTree.{TypeTree}
 use Rattle.dpj_tree.specs.Plain.{PlainStmt, PlainStmts, no_stmts, more_stmts}
 use Rattle.dpj_resolve.specs.Names.{Names, last_place}
-use Rattle.dpj_resolve.specs.Scoped.{names_in, values_in, place_in, value_in, with_name, names_left}
+use Rattle.dpj_resolve.specs.Scoped.{names_in, values_in, place_in, value_in, with_name}
 use Rattle.dpj_classes.specs.declared.shape.Shape.{Shape}
 use Rattle.dpj_classes.specs.declared.table.Table.{Table}
 use Rattle.dpj_classes.specs.Calls.{IsPaired, declared_by, behind}
@@ -24,11 +19,7 @@ use Rattle.dpj_classes.proofs.Locals.{paired_more}
 use Rattle.dpj_exprs.specs.declared.env.Env.{Env}
 use Rattle.dpj_exprs.specs.declared.env.LocalRow.{LocalRow}
 use Rattle.dpj_exprs.specs.Env.{table_of, local_of, local_row, part_row, with_row_in, with_local, with_part, with_region, left_to, mark_of}
-use Rattle.dpj_check.specs.declared.node.Node.{Node}
-use Rattle.dpj_check.specs.Checking.{variable_declared, variable_noted, parts_declared, parts_noted}
-use Rattle.dpj_check.specs.Noting.{with_fault, fault_of}
-use Rattle.dpj_check.specs.Simple.{has_room, local_declared, part_declared, region_declared, declaration_noted, with_regions}
-use Rattle.dpj_resolved.proofs.Bodies.{not_faulty, declared_free}
+use Rattle.dpj_check.specs.Simple.{has_room, local_declared, part_declared, region_declared, with_regions}
 use Rattle.dpj_resolved.proofs.Lists.{some_same, and_then_there}
 use Rattle.dpj_accepted.proofs.TypeShapes.{IsShape}
 
@@ -171,11 +162,3 @@ module _ {table : Table} {class : ℕ}
       where
         n : ℕ
         n = length before.rows
-
--- a declaration of which no fault is told has room
-pub room_there : (env : Env) (name : ℕ) (place : Place) (node : Node) → fault_of (declaration_noted env name place node) ≡ None → has_room env ≡ true
-room_there env name place node h = by (has_room env) (cond (is_some (local_of env name)) (with_fault node kind.Duplicate place) node) h
-  where
-    by : (b : Bool) (x : Node) → fault_of (cond b x (with_fault x kind.TooLong place)) ≡ None → b ≡ true
-    by true x e = refl
-    by false x e = absurd (not_faulty x kind.TooLong place e)

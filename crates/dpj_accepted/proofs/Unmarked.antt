@@ -1,13 +1,12 @@
 -- Where a program has no nd construct, no method is marked, and so none leads to one that is.
-use Rattle.std.proofs.Common.{◌≡◌, ◌∙◌, ◌↔◌, ℕ, zero, suc, Bool, true, false, not, ◌||◌, IsTrue, List, [], ◌∷◌, ◌++◌, map, refl, sym}
+use Rattle.std.proofs.Common.{◌≡◌, ◌∙◌, ℕ, zero, suc, Bool, true, false, not, IsTrue, List, [], ◌∷◌, ◌++◌, refl, sym}
 use Rattle.std.proofs.lemmas.Bool.{false≢true, or_parts}
 use Rattle.std.specs.List.{flat_map, list_any}
 use Rattle.dpj_tree.specs.declared.class.Class.{Class}
 use Rattle.dpj_tree.specs.declared.class.Member.{Member}
 use Rattle.dpj_tree.specs.declared.class.Member.TheVariants as member
 use Rattle.dpj_tree.specs.declared.class.Program.{Program}
-use Rattle.dpj_tree.specs.Nd.{some_holds_nd, member_holds_nd, program_uses_nd}
-use Rattle.dpj_tree.specs.Plain.{plain_stmt, plain_stmts}
+use Rattle.dpj_tree.specs.Nd.{member_holds_nd, program_uses_nd}
 use Rattle.dpj_assembly.specs.Assembled.{PlainBody}
 use Rattle.dpj_classes.specs.declared.reach.Edge.{Edge}
 use Rattle.dpj_classes.specs.declared.table.Table.{Table}
