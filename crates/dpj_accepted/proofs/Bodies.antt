@@ -47,7 +47,7 @@ use Rattle.dpj_accepted.proofs.Loops.{ready_iteration, foreach_plain, Inner}
 use Rattle.dpj_accepted.proofs.PartLoops.{cutting_so, Parted, ready_parts, parts_plain}
 use Rattle.dpj_accepted.proofs.Readiness.{ready_kept, ready_atomic}
 use Rattle.dpj_accepted.proofs.Singles.{assigning, performing, returning, printing}
-use Rattle.dpj_accepted.proofs.Statements.{Plainly, Goes, ScopeGoes, BlockGoes, OrderGoes, OtherGoes, room_free, expr_at, declaring_goes, plain_if, single_if, scope_if, block_if, order_if, later_reads, later_assigns, while_plain, choice_plain, atomic_plain, both_other}
+use Rattle.dpj_accepted.proofs.Statements.{Plainly, Goes, ScopeGoes, BlockGoes, OrderGoes, OtherGoes, expr_at, declaring_goes, plain_if, single_if, scope_if, block_if, order_if, later_reads, later_assigns, while_plain, choice_plain, atomic_plain, both_other}
 use Rattle.dpj_accepted.proofs.Targets.{placing}
 use Rattle.dpj_accepted.proofs.Walks.{If, judged_if, behind_if, OtherDone, checking_walked, standing_walked, scope_walked, order_walked, other_walked}
 use Rattle.std.specs.List.{list_any}
@@ -72,7 +72,7 @@ use Rattle.dpj_accepted.proofs.Branches.{BranchesAre, branches_static, AllApart,
 use Rattle.dpj_accepted.proofs.Clashing.{AllSame, same_effects, none_apart}
 use Rattle.dpj_accepted.proofs.Cobegins.{ready_branch}
 use Rattle.dpj_accepted.proofs.Gathered.{then_gathered, gathered_nd}
-use Rattle.dpj_accepted.proofs.Growing.{Kept, kept_same, kept_then, kept_step}
+use Rattle.dpj_accepted.proofs.Growing.{Kept, kept_same, kept_then, kept_step, room_free}
 use Rattle.dpj_accepted.proofs.InScope.{all_over_of}
 use Rattle.dpj_accepted.proofs.Left.{left_kept, taken}
 use Rattle.dpj_accepted.proofs.Loops.{atomic_same, marks_same}
@@ -358,7 +358,7 @@ module _ (P : PlainProgram) (signed : Signed P)
       iterating_goes {params} {around} {node} {nd} {var} {lowest} {size} {body} {x} found L reads assigns ready fits all range (Iterating.iterated {u = z} {made = made} assigns_so b a free j) =
           let w : Walk = record { env = x.env; found = found } in
           let f = free_if (variable_noted x.env var node) kind.Assign assigns_so free in
-          let has_one = room_free P signed x.env var.name var.place node f.0 in
+          let has_one = room_free x.env var.name var.place node f.0 in
           let r = range (declared_free x.env var.name var.place node f.0) in
           let none : (n : ℕ) → IsTrue (stmt_assigns n body) → ⊥ = λ n k. false≢true (sym f.1 ∙ a.1 (n, k)) in
           let begun : Ready P (Inner P signed L params around reads assigns w ready) (variable_declared x.env var) params (inside around) (λ n. stmt_reads n body) (λ n. stmt_assigns n body) =
@@ -385,9 +385,9 @@ module _ (P : PlainProgram) (signed : Signed P)
           (Parting.parted {u = z} {made = made} assigns_so (Opening.both_given t {source = source} {fault = fault} {g = g} {h = h} {u = q} c d) b a free j) =
           let first : Node = with_fault_if (with_found node fault) kind.Type (not (may_be is_int (type_in q))) in
           let f = free_if (parts_noted w.env view var t first) kind.Assign assigns_so free in
-          let var_room = room_free P signed (part_declared w.env view.name t) var.name var.place (declaration_noted w.env view.name view.place first) f.0 in
+          let var_room = room_free (part_declared w.env view.name t) var.name var.place (declaration_noted w.env view.name view.place first) f.0 in
           let before = declared_free (part_declared w.env view.name t) var.name var.place (declaration_noted w.env view.name view.place first) f.0 in
-          let view_room = room_free P signed w.env view.name view.place first before in
+          let view_room = room_free w.env view.name view.place first before in
           let count_int = free_if (with_found node fault) kind.Type (not (may_be is_int (type_in q))) (declared_free w.env view.name view.place first before) in
           let cut = cutting_so P signed L params around reads assigns w ready array_fits
           (λ x k. all x (or_left (expr_reads x array || expr_reads x count) (not (view.name == x) && (not (var.name == x) && stmt_reads x body)) (or_left (expr_reads x array) (expr_reads x count) k))) c

@@ -28,3 +28,12 @@ pub mod SignatureTypes
 pub mod Entering
 pub mod Beginnings
 pub mod MemberBodies
+pub mod Unmarked
+pub mod TypeShapes
+pub mod Reached
+pub mod ReachedExpressions
+pub mod ShapedLocals
+pub mod ReachedStatements
+pub mod RowShapes
+pub mod ForkEdges
+pub mod ForksTold

@@ -163,7 +163,7 @@ members_made {env} {params} scope count is written free (MembersChecking.then_me
     (member_more env params scope m ms count number made u is (member_made d) (All-head MemberIsWritten m ms written) f.0
     (λ next. members_made scope (count + length (own_marks m)) next (All-tail MemberIsWritten m ms written) f.1 rest))
 
-rows_many : (scope : PlainScope) (count : ℕ) (members : List Member) → length (methods_from scope count members) ≡ length (flat_map own_marks members)
+pub rows_many : (scope : PlainScope) (count : ℕ) (members : List Member) → length (methods_from scope count members) ≡ length (flat_map own_marks members)
 rows_many scope count [] = refl
 rows_many scope count (member.Regions is_atomic declared ∷ members) = rows_many scope (count + 0) members
 rows_many scope count (member.Field field ∷ members) = rows_many scope (count + 0) members

@@ -1,7 +1,7 @@
 //! The laws of accepted programs, each the clause of a function that does nothing.
 
 ghost use Rattle.dpj_accepted.specs.Laws.{AcceptedIsWellTyped, SubtypesAgree, TypesAgree, ExpressionsAgree, SinglesAgree, EffectsAreInScope, BlocksAgree};
-ghost use Rattle.dpj_accepted.specs.Whole.{BodiesPass, BodiesPassWhere, NoneForks};
+ghost use Rattle.dpj_accepted.specs.Whole.{BodiesPass, BodiesPassWhere, ForksAreTold, NoneForks};
 ghost use Rattle.dpj_declared.specs.Laws.{AcceptedIsDeclared};
 ghost use Rattle.dpj_inherited.specs.Laws.{AcceptedInherits, AcceptedHasMain};
 
@@ -48,4 +48,14 @@ pub fn law_bodies()
 /// Accepted programs are well typed, for now where these parts hold.
 pub fn law_well_typed()
     ensures well_typed { AcceptedIsDeclared → AcceptedInherits → AcceptedHasMain → BodiesPass → NoneForks → AcceptedIsWellTyped }
+{}
+
+/// Where a program has no nd construct, its class table tells of no method that one is reached through it.
+pub fn law_none_forks()
+    ensures none { NoneForks }
+{}
+
+/// A method in whose body the checker finds that an nd construct is reached is one of which the class table tells so.
+pub fn law_forks()
+    ensures forks { ForksAreTold }
 {}

@@ -5,7 +5,8 @@
 //! `specs/Seen.antt` and `specs/Ready.antt` say how what is around a place of a body is what is in scope in the judgement, and
 //! `specs/Laws.antt` what follows of types, expressions and blocks of statements there; `specs/Whole.antt` says what a whole
 //! accepted program keeps. Promised are those laws, and of a whole program that its bodies pass, where its class table tells what
-//! it has. That the table does, and that a whole accepted program is well typed, isn't proved yet.
+//! it has, and that this tells of each method in whose body an nd construct is reached. That the table tells the rest, and that a
+//! whole accepted program is well typed, isn't proved yet.
 #![tactic(auto)]
 
 pub mod laws;
