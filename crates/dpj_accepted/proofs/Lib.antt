@@ -25,3 +25,5 @@ pub mod PartLoops
 pub mod Cobegins
 pub mod Branches
 pub mod Covered
+pub mod InParams
+pub mod Closed

@@ -1,6 +1,7 @@
 //! The laws of accepted programs, each the clause of a function that does nothing.
 
 ghost use Rattle.dpj_accepted.specs.Laws.{SubtypesAgree, TypesAgree, ExpressionsAgree, SinglesAgree, EffectsAreInScope, BlocksAgree};
+ghost use Rattle.dpj_accepted.specs.Whole.{TablesTell, SupersAreTold, SignaturesNameNothing};
 
 /// Where a value fits for the checker, its type is a subtype in the judgement.
 pub fn law_subtypes()
@@ -34,4 +35,19 @@ pub fn law_scopes()
 /// their place holds: what is around them for the checker is in scope, and signatures name nothing of a body.
 pub fn law_blocks()
     ensures blocks { BlocksAgree }
+{}
+
+/// What the class table of an accepted program says of a name is so in its typed program.
+pub fn law_table()
+    ensures tells { TablesTell }
+{}
+
+/// Each superclass of the class table of an accepted program is that of its typed program.
+pub fn law_supers()
+    ensures supers { SupersAreTold }
+{}
+
+/// The signatures of an accepted program name neither index variables nor local regions.
+pub fn law_signatures()
+    ensures signed { SignaturesNameNothing }
 {}
