@@ -27,3 +27,5 @@ pub mod Branches
 pub mod Covered
 pub mod InParams
 pub mod Closed
+pub mod Declarations
+pub mod Slots

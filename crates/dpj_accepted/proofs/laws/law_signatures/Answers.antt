@@ -1,5 +1,5 @@
-use Rattle.dpj_accepted.proofs.InParams.{known_put}
-use Rattle.dpj_accepted.proofs.Closed.{type_closed}
+use Rattle.dpj_accepted.proofs.Declarations.{row_said}
+use Rattle.dpj_accepted.proofs.Slots.{field_said}
 use Rattle.dpj_accepted.proofs.laws.law_signatures.Goals as goal
 
 pub returns : goal.returns
