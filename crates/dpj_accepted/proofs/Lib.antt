@@ -29,3 +29,5 @@ pub mod InParams
 pub mod Closed
 pub mod Declarations
 pub mod Slots
+pub mod Extending
+pub mod Lineage
