@@ -31,3 +31,4 @@ pub mod Declarations
 pub mod Slots
 pub mod Extending
 pub mod Lineage
+pub mod Sizes
