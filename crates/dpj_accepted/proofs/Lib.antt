@@ -32,3 +32,4 @@ pub mod Slots
 pub mod Extending
 pub mod Lineage
 pub mod Sizes
+pub mod Unnamed

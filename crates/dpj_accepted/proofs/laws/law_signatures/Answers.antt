@@ -1,8 +1,5 @@
-use Rattle.dpj_accepted.proofs.Declarations.{row_said}
-use Rattle.dpj_accepted.proofs.Slots.{field_said}
-use Rattle.dpj_accepted.proofs.Extending.{superclass_said}
-use Rattle.dpj_accepted.proofs.Sizes.{slots_few}
+use Rattle.dpj_accepted.proofs.Unnamed.{all_signed}
 use Rattle.dpj_accepted.proofs.laws.law_signatures.Goals as goal
 
 pub returns : goal.returns
-returns c = record { signed = λ program table bodies written accepted. ? }
+returns c = record { signed = λ program table bodies written accepted. all_signed program table bodies accepted }
