@@ -76,19 +76,6 @@ type_few n p null h k = cc
 type_few n p (class c args) h k = paths_few n p args h k
 type_few n p (array t a named) h k = either (has_param p a) (mentions_param p t) (param_few n p a.head h.0.0) (type_few n p t h.1) k
 
--- a type is rigid only in what it mentions
-pub rigid_mentions : (p : ℕ) (t : PlainType) → rigid_in_param p t ≡ true → mentions_param p t ≡ true
-rigid_mentions p int k = cc
-rigid_mentions p boolean k = cc
-rigid_mentions p void k = cc
-rigid_mentions p null k = cc
-rigid_mentions p (class c args) k = cc
-rigid_mentions p (array t a named) k = by (has_param p a) k
-  where
-    by : (b : Bool) → mentions_param p t ≡ true → b || mentions_param p t ≡ true
-    by true k = refl
-    by false k = k
-
 abbrev whole : ℕ → Rpl
 whole p = record { head = Param p; elems = [] }
 

@@ -33,3 +33,4 @@ pub mod Extending
 pub mod Lineage
 pub mod Sizes
 pub mod Unnamed
+pub mod Slotted

@@ -215,6 +215,7 @@ own_fields headers all at (one ∷ classes) (suc j) class e few =
 
 -- what is known of a field among those of its class
 pub record FieldSaid (headers : Headers) (all : List (List Constraint)) (classes : List Class) (row : PlainField) : Type 0 where
+  pub within : row.owner < length classes
   pub index : ℕ
   pub there : slice_get (filter (λ (r : PlainField). r.owner == row.owner) (fields_meant headers all 0 classes)) index ≡ Some row
   pub over : FieldIn (length (params_in headers row.owner)) row
@@ -223,6 +224,7 @@ pub record FieldSaid (headers : Headers) (all : List (List Constraint)) (classes
 pub field_said : (headers : Headers) (all : List (List Constraint)) (classes : List Class) (i : ℕ) (row : PlainField) → slice_get (fields_meant headers all 0 classes) i ≡ Some row → length classes ≤ 4294967295 →
     signature_faults headers all 0 classes ≡ [] → FieldSaid headers all classes row
 field_said headers all classes i row e few free = record {
+  within = (let l = slice_get_within classes w.place w.class w.is in let o = w.owner in omega (arith, l, o));
   index = w.index;
   there = subst (λ z. slice_get z w.index ≡ Some row) (sym same) w.there;
   over = subst (λ k. FieldIn (length (params_in headers k)) row) (sym w.owner) (from_said headers all (0 + w.place) (first_slot headers (0 + w.place)) w.class.members w.index row w.there faults);
