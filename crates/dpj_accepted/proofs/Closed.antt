@@ -59,12 +59,12 @@ pub record Closed (n : ℕ) (scope : PlainScope) : Type 0 where
   pub regions : (name number : ℕ) → value_in scope.regions name ≡ Some number → ⊥
 
 -- the parameters of a class and of a method are so many
-last_within : (name at : ℕ) (params : List ParamRow) (found : Option ℕ) (number : ℕ) → last_place (λ param. param.name == name) at params found ≡ Some number →
-    (found ≡ Some number) ⊎ ((number < at + length params) × (number ≤ 4294967295))
-last_within name at [] found number e = inl e
-last_within name at (param ∷ params) found number e = by (param.name == name) (last_within name (at + 1) params (cond (param.name == name) (Some (as_number at)) found) number e)
+pub last_within : {A : Type 0} (test : A → Bool) (at : ℕ) (rows : List A) (found : Option ℕ) (number : ℕ) → last_place test at rows found ≡ Some number →
+    (found ≡ Some number) ⊎ ((number < at + length rows) × (number ≤ 4294967295))
+last_within test at [] found number e = inl e
+last_within test at (row ∷ rows) found number e = by (test row) (last_within test (at + 1) rows (cond (test row) (Some (as_number at)) found) number e)
   where
-    by : (b : Bool) → (cond b (Some (as_number at)) found ≡ Some number) ⊎ ((number < at + 1 + length params) × (number ≤ 4294967295)) → (found ≡ Some number) ⊎ ((number < at + suc (length params)) × (number ≤ 4294967295))
+    by : (b : Bool) → (cond b (Some (as_number at)) found ≡ Some number) ⊎ ((number < at + 1 + length rows) × (number ≤ 4294967295)) → (found ≡ Some number) ⊎ ((number < at + suc (length rows)) × (number ≤ 4294967295))
     by true (inl h) = let same = some_same h in inr (omega (arith, same), omega (arith, same))
     by false (inl h) = inl h
     by b (inr h) = inr (omega (arith, h.0), h.1)
@@ -74,7 +74,7 @@ class_number headers at name number e = by (slice_get headers.rows at) e
   where
     by : (o : Option Header) → option_and_then (λ (header : Header). last_place (λ param. param.name == name) 0 header.params None) o ≡ Some number → (number < length (option_map_or (λ (header : Header). header.params) o [])) × (number ≤ 4294967295)
     by None e = cc
-    by (Some header) e = elim (last_within name 0 header.params None number e) [
+    by (Some header) e = elim (last_within (λ (param : ParamRow). param.name == name) 0 header.params None number e) [
       | inl none ↦ absurd (cc (none))
       | inr w ↦ (omega (arith, w.0), w.1)
     ]

@@ -34,3 +34,5 @@ pub mod Lineage
 pub mod Sizes
 pub mod Unnamed
 pub mod Slotted
+pub mod Calmed
+pub mod Told

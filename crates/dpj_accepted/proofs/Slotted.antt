@@ -89,7 +89,7 @@ module _ (program : Program) (table : Table) (bodies : List PlainBody) (accepted
         ]
 
     -- a class below one that is there is there
-    at_within : (n at : ℕ) (args owned : List Rpl) (owner : ℕ) → args_above table n at args owner ≡ Some owned → owner < class_count (headers_of table) → at < class_count (headers_of table)
+    pub at_within : (n at : ℕ) (args owned : List Rpl) (owner : ℕ) → args_above table n at args owner ≡ Some owned → owner < class_count (headers_of table) → at < class_count (headers_of table)
     at_within zero at args owned owner h l = cc
     at_within (suc n) at args owned owner h l =
         elim (args_step program table bodies accepted n at args owned owner h) [
