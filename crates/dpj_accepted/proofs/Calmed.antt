@@ -1,17 +1,17 @@
 -- Where no nd construct is reached through a method of an accepted text, none is through those that stand in its row below.
-use Rattle.std.proofs.Common.{◌≡◌, ◌∙◌, ◌⊎◌, ℕ, zero, suc, ◌+◌, ◌<◌, ◌==◌, ◌&&◌, ◌||◌, Bool, true, false, not, IsTrue, List, [], ◌∷◌, ◌++◌, map, length, flat_map, inl, inr, Option, None, Some, option_map, option_and_then, refl, sym, ap, subst, arith}
+use Rattle.std.proofs.Common.{◌≡◌, ◌∙◌, ℕ, zero, suc, ◌<◌, ◌==◌, ◌&&◌, ◌||◌, Bool, true, false, not, IsTrue, List, [], ◌∷◌, ◌++◌, length, flat_map, inl, inr, Some, option_and_then, refl, sym, ap, subst, arith}
 use Rattle.std.proofs.lemmas.Bool.{eq-eqb}
 use Rattle.std.proofs.lemmas.List.{length-append}
+use Rattle.std.proofs.lemmas.List.Folds.{list_any-append}
 use Rattle.std.proofs.lemmas.Option.{slice_get-map, slice_get_within}
 use Rattle.std.specs.List.{list_any}
 use Rattle.std.specs.Option.{option_map_or}
 use Rattle.std.specs.Prelude.{slice_get}
-use Rattle.dpj_headers.specs.Headers.{parent_of, class_count}
+use Rattle.dpj_headers.specs.Headers.{class_count}
 use Rattle.dpj_tree.specs.declared.class.Class.{Class}
 use Rattle.dpj_tree.specs.declared.class.Member.{Member}
 use Rattle.dpj_tree.specs.declared.class.Member.TheVariants as member
 use Rattle.dpj_tree.specs.declared.class.Program.{Program}
-use Rattle.dpj_tree.specs.Nd.{program_uses_nd}
 use Rattle.dpj_classes.specs.declared.reach.Edge.{Edge}
 use Rattle.dpj_classes.specs.declared.rows.MethodRow.{MethodRow}
 use Rattle.dpj_classes.specs.declared.table.Table.{Table}
@@ -24,7 +24,7 @@ use Rattle.dpj_classes.specs.Reach.{leads, IsBehind}
 use Rattle.dpj_classes.specs.Table.{headers_of, methods_of, overridden_by, is_forking}
 use Rattle.dpj_typed.specs.Plain.{PlainClass}
 use Rattle.dpj_typed.specs.Scope.{IsBelow, class_at, row_at}
-use Rattle.dpj_assembly.specs.Assembled.{PlainBody, class_of}
+use Rattle.dpj_assembly.specs.Assembled.{PlainBody}
 use Rattle.dpj_rows.proofs.Facts.{Facts, facts_of, named_is, over_is}
 use Rattle.dpj_rows.proofs.Stand.{rows_kept}
 use Rattle.dpj_resolved.specs.Accepted.{IsAccepted}
@@ -35,18 +35,12 @@ use Rattle.dpj_accepted.proofs.Lineage.{parent_is as typed_parent}
 
 -- an edge in one of two lists
 any_first : {A : Type 0} (test : A → Bool) (xs ys : List A) → list_any test xs ≡ true → list_any test (xs ++ ys) ≡ true
-any_first test [] ys h = cc
-any_first test (x ∷ xs) ys h = by (test x) h (any_first test xs ys)
-  where
-    by : (b : Bool) → b || list_any test xs ≡ true → (list_any test xs ≡ true → list_any test (xs ++ ys) ≡ true) → b || list_any test (xs ++ ys) ≡ true
-    by true h more = refl
-    by false h more = more h
+any_first test xs ys h = list_any-append test xs ys ∙ ap (λ b. b || list_any test ys) h
 
 any_later : {A : Type 0} (test : A → Bool) (xs ys : List A) → list_any test ys ≡ true → list_any test (xs ++ ys) ≡ true
-any_later test [] ys h = h
-any_later test (x ∷ xs) ys h = by (test x) (any_later test xs ys h)
+any_later test xs ys h = list_any-append test xs ys ∙ by (list_any test xs) h
   where
-    by : (b : Bool) → list_any test (xs ++ ys) ≡ true → b || list_any test (xs ++ ys) ≡ true
+    by : (b : Bool) → list_any test ys ≡ true → b || list_any test ys ≡ true
     by true h = refl
     by false h = h
 
@@ -141,7 +135,7 @@ module _ (program : Program) (table : Table) (bodies : List PlainBody) (accepted
         by w =
             let is = typed_parent program table bodies accepted d p up in
             let kept = rows_kept program table accepted.rows d p.class r w.0 is.1 (row_is p.class r w.0 w.1) in
-            (kept.0, row_there d r kept.0 is.0 kept.1, elim kept.2 [ | inl same ↦ ap (is_forking table) same ∙ w.2 | inr over ↦ stays kept.0 over (is_forking table kept.0) refl ])
+            (kept.0, row_there d r kept.0 is.0 kept.1, elim kept.2 [ inl same ↦ ap (is_forking table) same ∙ w.2 | inr over ↦ stays kept.0 over (is_forking table kept.0) refl ])
           where
             stays : (other : ℕ) → overridden_by table other ≡ Some w.0 → (b : Bool) → is_forking table other ≡ b → is_forking table other ≡ false
             stays other over false is = is

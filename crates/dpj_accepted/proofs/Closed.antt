@@ -1,23 +1,18 @@
 -- What is written where nothing is in scope but region parameters: paths and types over these.
-use Rattle.std.proofs.Common.{◌≡◌, ◌∙◌, ◌⊎◌, ℕ, zero, suc, ◌+◌, ◌<◌, ◌≤◌, ◌==◌, ◌&&◌, Bool, true, false, not, cond, List, [], ◌∷◌, ◌++◌, map, length, filter_map, inl, inr, Option, None, Some, option_map, option_and_then, refl, sym, ap, subst, arith}
-use Rattle.std.proofs.lemmas.Bool.{and_parts, eqb-true, eq-eqb}
+use Rattle.std.proofs.Common.{◌≡◌, ◌∙◌, ◌⊎◌, ℕ, suc, ◌+◌, ◌<◌, ◌≤◌, ◌==◌, ◌&&◌, Bool, true, false, cond, List, [], ◌∷◌, length, filter_map, inl, inr, Option, None, Some, option_map, option_and_then, refl, ap, subst, arith}
+use Rattle.std.proofs.lemmas.Bool.{eqb-true}
 use Rattle.std.proofs.lemmas.List.{length-map}
 use Rattle.std.proofs.lemmas.Option.{slice_get_within}
-use Rattle.std.specs.List.{list_any, cons_option}
+use Rattle.std.specs.List.{cons_option}
 use Rattle.std.specs.Option.{option_map_or, option_or, option_flatten}
-use Rattle.std.specs.Prelude.{slice_get, unwrap_or}
-use Rattle.dpj_base.specs.declared.effect.Access.{Access}
-use Rattle.dpj_base.specs.declared.effect.Effect.{Effect}
+use Rattle.std.specs.Prelude.{slice_get}
 use Rattle.dpj_base.specs.declared.elems.Elem.{Elem}
-use Rattle.dpj_base.specs.declared.elems.Elem.TheVariants.{Name, At, Any, Star, Local}
+use Rattle.dpj_base.specs.declared.elems.Elem.TheVariants.{Name, At}
 use Rattle.dpj_base.specs.declared.elems.Index.{Index}
 use Rattle.dpj_base.specs.declared.elems.Index.TheVariants.{Variable, Own}
-use Rattle.dpj_base.specs.declared.place.Place.{Place}
-use Rattle.dpj_base.specs.declared.refusal.Kind.TheVariants as kind
-use Rattle.dpj_base.specs.declared.region.Head.TheVariants.{Root, Param}
 use Rattle.dpj_base.specs.declared.region.Rpl.{Rpl}
-use Rattle.dpj_base.specs.Types.{PlainType, void}
-use Rattle.dpj_base.specs.Types.PlainType.{int, boolean, class, array}
+use Rattle.dpj_base.specs.Types.{PlainType}
+use Rattle.dpj_base.specs.Types.PlainType.{class, array}
 use Rattle.dpj_headers.specs.declared.header.Header.{Header}
 use Rattle.dpj_headers.specs.declared.header.Headers.{Headers}
 use Rattle.dpj_headers.specs.declared.header.ParamRow.{ParamRow}
@@ -30,23 +25,19 @@ use Rattle.dpj_tree.specs.declared.region.ElemTree.TheVariants as elem
 use Rattle.dpj_tree.specs.declared.region.RplHead.{RplHead}
 use Rattle.dpj_tree.specs.declared.region.RplHead.TheVariants as head
 use Rattle.dpj_tree.specs.declared.region.RplTree.{RplTree}
-use Rattle.dpj_tree.specs.declared.region.RName.{RName}
 use Rattle.dpj_tree.specs.declared.region.Named.{Named}
 use Rattle.dpj_tree.specs.declared.region.Suffix.{Suffix}
 use Rattle.dpj_tree.specs.declared.region.TypeTree.{TypeTree}
-use Rattle.dpj_resolve.specs.declared.base.ReadBase.{ReadBase}
-use Rattle.dpj_resolve.specs.declared.base.ReadBase.TheVariants as read
-use Rattle.dpj_resolve.specs.declared.base.ReadType.{ReadType}
 use Rattle.dpj_resolve.specs.declared.scope.ParamFound.{ParamFound}
 use Rattle.dpj_resolve.specs.Args.{root_path, roots, args_given}
 use Rattle.dpj_resolve.specs.Classes.{params_in, class_args, class_type}
 use Rattle.dpj_resolve.specs.Index.{PlainIndex, index_name}
 use Rattle.dpj_resolve.specs.Paths.{region_meant}
-use Rattle.dpj_resolve.specs.Reading.{index_meant, elem_meant, head_param, head_local, below_root, begun, head_meant, longer, longer_if, goes_on, path_meant, args_read}
+use Rattle.dpj_resolve.specs.Reading.{elem_meant, below_root, begun, head_meant, longer, goes_on, path_meant, args_read}
 use Rattle.dpj_resolve.specs.Scoped.{values_in, value_in, place_in}
 use Rattle.dpj_resolve.specs.Scopes.{PlainScope, class_param, behind_class, method_param, param_meant}
-use Rattle.dpj_resolve.specs.Written.{base_read, suffix_meant, at_suffix, paths_from, is_indexed, arrays_from, type_read, base_type, judged_type, type_index, type_meant}
-use Rattle.dpj_accepted.specs.Naming.{Nothing, ElemNames, ElemsName, PathNames}
+use Rattle.dpj_resolve.specs.Written.{base_read, suffix_meant, at_suffix, paths_from, is_indexed, arrays_from, base_type, type_index, type_meant}
+use Rattle.dpj_accepted.specs.Naming.{Nothing, ElemNames}
 use Rattle.dpj_accepted.proofs.InParams.{PathIn, PathsIn, TypeIn}
 use Rattle.dpj_accepted.proofs.InScope.{names_append}
 use Rattle.dpj_accepted.proofs.Paths.{goes_step, none_goes_on}

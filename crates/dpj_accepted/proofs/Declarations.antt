@@ -1,16 +1,13 @@
 -- What the declarations of an accepted text say: types and paths over their region parameters.
-use Rattle.std.proofs.Common.{◌≡◌, ◌∙◌, ◌⊎◌, ℕ, zero, suc, ◌+◌, ◌<◌, ◌≤◌, Bool, true, false, cond, fold, List, [], ◌∷◌, ◌++◌, map, length, flat_map, inl, inr, Option, None, Some, option_map, option_and_then, refl, sym, ap, subst, arith}
-use Rattle.std.specs.List.{list_any, filter_map, cons_option}
-use Rattle.std.specs.Option.{option_map_or}
+use Rattle.std.proofs.Common.{◌≡◌, ◌∙◌, ◌⊎◌, ℕ, zero, suc, ◌+◌, Bool, true, false, cond, fold, List, [], ◌∷◌, ◌++◌, length, flat_map, inl, inr, Option, None, Some, option_map, refl, sym, ap, subst, arith}
+use Rattle.std.specs.List.{cons_option}
 use Rattle.std.specs.Prelude.{slice_get, unwrap_or}
 use Rattle.dpj_base.specs.declared.effect.Access.{Access}
 use Rattle.dpj_base.specs.declared.effect.Constraint.{Constraint}
 use Rattle.dpj_base.specs.declared.effect.Effect.{Effect}
-use Rattle.dpj_base.specs.declared.refusal.Refusal.{Refusal}
 use Rattle.dpj_base.specs.declared.region.Rpl.{Rpl}
-use Rattle.dpj_base.specs.declared.ty.Ty.{Ty}
 use Rattle.dpj_base.specs.Effects.{has_effect, added, gathered}
-use Rattle.dpj_base.specs.Types.{PlainType, void, plain_type}
+use Rattle.dpj_base.specs.Types.{PlainType, void}
 use Rattle.dpj_headers.specs.declared.faults.Order.TheVariants as order
 use Rattle.dpj_headers.specs.declared.header.Headers.{Headers}
 use Rattle.dpj_headers.specs.Faults.{none_by}
@@ -30,24 +27,23 @@ use Rattle.dpj_resolve.specs.Classes.{params_in}
 use Rattle.dpj_resolve.specs.Index.{no_index}
 use Rattle.dpj_resolve.specs.Names.{Names}
 use Rattle.dpj_resolve.specs.Reading.{path_meant}
-use Rattle.dpj_resolve.specs.Scoped.{no_names, with_name, values_in, value_in, place_in}
+use Rattle.dpj_resolve.specs.Scoped.{no_names, with_name, values_in, place_in}
 use Rattle.dpj_resolve.specs.Scopes.{PlainScope}
-use Rattle.dpj_resolve.specs.Written.{type_meant, type_faults}
+use Rattle.dpj_resolve.specs.Written.{type_faults}
 use Rattle.dpj_classes.specs.declared.rows.MethodRow.{MethodRow}
 use Rattle.dpj_classes.specs.declared.table.Table.{Table}
-use Rattle.dpj_classes.specs.Around.{class_scope, formal_names}
+use Rattle.dpj_classes.specs.Around.{class_scope}
 use Rattle.dpj_classes.specs.Build.{IsReadOf, text_faults}
 use Rattle.dpj_classes.specs.Rows.{PlainMethod, plain_method, method_row, said_scope, said_faults, method_scope, method_faults, member_faults, methods_from, methods_meant, super_faults, class_faults, all_constraint_faults, signature_faults}
-use Rattle.dpj_classes.specs.Signatures.{known_type, known_type_faults, effect_meant, effects_meant, formal_types, formal_faults, result_type, result_faults, summary_meant, summary_faults, constraints_faults}
-use Rattle.dpj_classes.specs.Summary.{anything}
+use Rattle.dpj_classes.specs.Signatures.{known_type, known_type_faults, effects_meant, formal_types, formal_faults, result_type, result_faults, summary_meant, summary_faults, constraints_faults}
 use Rattle.dpj_classes.specs.Table.{headers_of, methods_of}
 use Rattle.dpj_rows.proofs.Facts.{got_either}
 use Rattle.dpj_resolved.proofs.Free.{none_told, append_none, joined_free}
 use Rattle.dpj_resolved.proofs.Known.{type_known}
-use Rattle.dpj_resolved.proofs.Lists.{some_same, and_then_there, map_there, got_mapped, got_last}
+use Rattle.dpj_resolved.proofs.Lists.{some_same, and_then_there, got_mapped, got_last}
 use Rattle.dpj_accepted.specs.Naming.{Nothing, PathNames, EffectsName}
 use Rattle.dpj_accepted.proofs.Closed.{Closed, params_number, path_closed, type_closed}
-use Rattle.dpj_accepted.proofs.InParams.{PathIn, TypeIn}
+use Rattle.dpj_accepted.proofs.InParams.{TypeIn}
 
 -- in a class nothing is in scope but its region parameters
 pub class_closed : (headers : Headers) (all : List (List Constraint)) (number : ℕ) → Closed (length (params_in headers number)) (class_scope headers all number)
@@ -68,13 +64,16 @@ no_index_in names (formal ∷ formals) none i s e =
 -- nor in a method, but those of the class and its own
 pub method_closed : (headers : Headers) (all : List (List Constraint)) (number : ℕ) (method : Method) →
     (n : ℕ) × Closed n (said_scope (class_scope headers all number) method)
-method_closed headers all number method = (length (params_in scope.headers scope.class) + length (values_in scope.params), record {
-  params = λ name param e. params_number scope name param e;
-  variables = λ name slot e.
-      let w = and_then_there (λ place. slice_get (values_in scope.variables) place) (place_in scope.variables name) (Some slot) e in
-      no_index_in no_names method.formals (λ i s h. cc) w.0 slot w.2;
-  regions = λ name number e. cc;
-})
+method_closed headers all number method = (
+  length (params_in scope.headers scope.class) + length (values_in scope.params),
+  record {
+    params = λ name param e. params_number scope name param e;
+    variables = λ name slot e.
+        let w = and_then_there (λ place. slice_get (values_in scope.variables) place) (place_in scope.variables name) (Some slot) e in
+        no_index_in no_names method.formals (λ i s h. cc) w.0 slot w.2;
+    regions = λ name number e. cc;
+  },
+)
   where
     scope : PlainScope
     scope = said_scope (class_scope headers all number) method

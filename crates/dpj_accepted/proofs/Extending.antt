@@ -1,5 +1,5 @@
 -- The superclasses in the class table of an accepted text: of each class one, with as many region arguments as it has parameters.
-use Rattle.std.proofs.Common.{◌≡◌, ◌∙◌, ◌⊎◌, ℕ, zero, suc, ◌+◌, ◌<◌, ◌≤◌, ◌==◌, ◌&&◌, Bool, true, false, not, cond, List, [], ◌∷◌, ◌++◌, map, length, filter_map, inl, inr, Option, None, Some, option_map, option_and_then, refl, sym, ap, subst, arith}
+use Rattle.std.proofs.Common.{◌≡◌, ◌∙◌, ◌⊎◌, ℕ, zero, suc, ◌+◌, ◌<◌, ◌≤◌, ◌==◌, ◌&&◌, Bool, true, false, not, cond, List, [], ◌∷◌, length, filter_map, inl, inr, Option, None, Some, option_map, option_and_then, refl, sym, ap, subst, arith}
 use Rattle.std.proofs.lemmas.Bool.{eqb-true, eq-eqb}
 use Rattle.std.proofs.lemmas.List.{length-append, length-map}
 use Rattle.std.proofs.lemmas.Option.{slice_get_within}
@@ -23,7 +23,7 @@ use Rattle.dpj_tree.specs.declared.class.Program.{Program}
 use Rattle.dpj_tree.specs.declared.region.RplTree.{RplTree}
 use Rattle.dpj_resolve.specs.declared.paths.Need.{Need}
 use Rattle.dpj_resolve.specs.Args.{roots, args_given, args_faults, local_fault, is_unfit}
-use Rattle.dpj_resolve.specs.Classes.{params_in, class_args}
+use Rattle.dpj_resolve.specs.Classes.{params_in}
 use Rattle.dpj_resolve.specs.Index.{PlainIndex, no_index}
 use Rattle.dpj_resolve.specs.Reading.{path_meant, each_faults, arg_need, args_read}
 use Rattle.dpj_resolve.specs.Scopes.{PlainScope}
@@ -31,7 +31,7 @@ use Rattle.dpj_classes.specs.declared.table.Table.{Table}
 use Rattle.dpj_classes.specs.Around.{class_scope}
 use Rattle.dpj_classes.specs.Places.{last_from, by_place, is_super_of, super_place}
 use Rattle.dpj_classes.specs.Rows.{PlainSuper, plain_super, super_rows, super_faults, supers_meant, class_faults}
-use Rattle.dpj_classes.specs.Signatures.{parent_args, parent_meant, parent_arg_faults, fit_faults, parent_faults}
+use Rattle.dpj_classes.specs.Signatures.{parent_meant, parent_arg_faults, fit_faults, parent_faults}
 use Rattle.dpj_classes.specs.Table.{headers_of, supers_of, parent_type_of, parent_args_of, class_paths}
 use Rattle.dpj_rows.specs.Rows.{HasRows}
 use Rattle.dpj_rows.proofs.Facts.{got_either}

@@ -1,5 +1,5 @@
 -- How many fields a class has with those of its superclasses, and that numbers count them.
-use Rattle.std.proofs.Common.{◌≡◌, ◌≢◌, ◌⊎◌, ◌∙◌, ℕ, zero, suc, ◌+◌, ◌<◌, ◌≤◌, ◌==◌, ◌||◌, Bool, true, false, cond, List, [], ◌∷◌, ◌++◌, map, length, inl, inr, Option, None, Some, option_map, option_and_then, refl, sym, ap, subst, arith}
+use Rattle.std.proofs.Common.{◌≡◌, ◌≢◌, ◌⊎◌, ◌∙◌, ℕ, zero, suc, ◌+◌, ◌<◌, ◌≤◌, ◌==◌, ◌||◌, Bool, true, false, cond, List, [], ◌∷◌, ◌++◌, map, length, inl, inr, Option, None, Some, option_map, refl, sym, ap, arith}
 use Rattle.std.proofs.lemmas.Bool.Decides.{eqb_tells}
 use Rattle.std.proofs.lemmas.List.{length-append, length-map}
 use Rattle.std.specs.List.{filter}
@@ -8,8 +8,7 @@ use Rattle.std.specs.Prelude.{slice_get}
 use Rattle.dpj_headers.specs.declared.header.Header.{Header}
 use Rattle.dpj_headers.specs.First.{parents_in}
 use Rattle.dpj_headers.specs.Gathered.{field_count, fields_together, object_fields, header_rows, headers_in}
-use Rattle.dpj_headers.specs.Headers.{chain, parent_of, parents_of, header_of, class_count}
-use Rattle.dpj_headers.specs.Numbers.{as_number}
+use Rattle.dpj_headers.specs.Headers.{chain, parent_of, parents_of, header_of}
 use Rattle.dpj_headers.specs.Rounds.{entry_of, up}
 use Rattle.dpj_headers.specs.Second.{superclasses}
 use Rattle.dpj_headers.proofs.Cycles.{up-then}

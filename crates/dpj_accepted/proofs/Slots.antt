@@ -1,30 +1,28 @@
 -- The fields that classes declare: their types and regions, and their slots behind those of the superclass.
-use Rattle.std.proofs.Common.{◌≡◌, ◌≢◌, ◌∙◌, ℕ, zero, suc, ◌+◌, ◌<◌, ◌≤◌, ◌==◌, Bool, true, false, cond, List, [], ◌∷◌, ◌++◌, map, length, flat_map, inl, inr, Option, None, Some, option_map, refl, sym, ap, subst, arith}
+use Rattle.std.proofs.Common.{◌≡◌, ◌∙◌, ℕ, zero, suc, ◌+◌, ◌<◌, ◌≤◌, ◌==◌, Bool, true, false, cond, List, [], ◌∷◌, ◌++◌, length, flat_map, inl, inr, Option, None, Some, refl, sym, ap, subst, arith}
 use Rattle.std.proofs.lemmas.Bool.{eq-eqb, ne_eqb}
 use Rattle.std.proofs.lemmas.List.{length-append, append-nil}
 use Rattle.std.proofs.lemmas.List.Elements.{filter-append}
 use Rattle.std.proofs.lemmas.List.Sums.{sum_by-cons}
 use Rattle.std.proofs.lemmas.Option.{slice_get_within}
 use Rattle.std.specs.List.{filter, count_by, sum_by}
-use Rattle.std.specs.Option.{option_and_then, option_map_or}
 use Rattle.std.specs.Prelude.{slice_get, unwrap_or}
 use Rattle.dpj_base.specs.declared.effect.Constraint.{Constraint}
 use Rattle.dpj_base.specs.declared.region.Rpl.{Rpl}
 use Rattle.dpj_headers.specs.declared.header.Headers.{Headers}
-use Rattle.dpj_headers.specs.Gathered.{is_field, field_count}
+use Rattle.dpj_headers.specs.Gathered.{is_field}
 use Rattle.dpj_headers.specs.Numbers.{as_number}
 use Rattle.dpj_tree.specs.declared.class.Class.{Class}
 use Rattle.dpj_tree.specs.declared.class.Member.{Member}
 use Rattle.dpj_tree.specs.declared.class.Member.TheVariants as member
-use Rattle.dpj_tree.specs.declared.class.Program.{Program}
 use Rattle.dpj_tree.specs.declared.region.RplTree.{RplTree}
-use Rattle.dpj_tree.specs.Size.{member_size, class_size, program_size}
+use Rattle.dpj_tree.specs.Size.{member_size, class_size}
 use Rattle.dpj_resolve.specs.Args.{root_path}
 use Rattle.dpj_resolve.specs.Classes.{params_in}
 use Rattle.dpj_resolve.specs.Index.{no_index}
 use Rattle.dpj_resolve.specs.Scopes.{PlainScope}
 use Rattle.dpj_classes.specs.Around.{class_scope}
-use Rattle.dpj_classes.specs.Rows.{PlainField, field_row, method_faults, member_faults, fields_from, fields_meant, first_slot, super_faults, class_faults, signature_faults}
+use Rattle.dpj_classes.specs.Rows.{PlainField, method_faults, member_faults, fields_from, fields_meant, first_slot, super_faults, class_faults, signature_faults}
 use Rattle.dpj_classes.specs.Signatures.{rpl_meant, known_type_faults, field_region_faults, region_of_field}
 use Rattle.dpj_rows.proofs.Facts.{got_either}
 use Rattle.dpj_resolved.proofs.Free.{append_none}

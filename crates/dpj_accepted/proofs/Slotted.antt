@@ -1,5 +1,5 @@
 -- A field that a name means in a class of an accepted text stands at its slot there, with the region arguments of its class put in.
-use Rattle.std.proofs.Common.{◌≡◌, ◌∙◌, ◌⊎◌, ℕ, zero, suc, ◌+◌, ◌<◌, ◌≤◌, ◌==◌, Bool, true, false, IsTrue, All, List, [], ◌∷◌, ◌++◌, map, length, inl, inr, Option, None, Some, option_map, option_and_then, refl, sym, ap, subst, arith}
+use Rattle.std.proofs.Common.{◌≡◌, ◌∙◌, ℕ, zero, suc, ◌+◌, ◌<◌, ◌≤◌, ◌==◌, List, [], map, length, inl, inr, Some, option_map, option_and_then, refl, sym, ap, subst, arith}
 use Rattle.std.proofs.lemmas.List.{append-nil}
 use Rattle.std.proofs.lemmas.List.Elements.{All-nil}
 use Rattle.std.proofs.lemmas.Option.{slice_get_within}
@@ -8,7 +8,7 @@ use Rattle.std.specs.Option.{option_map_or}
 use Rattle.std.specs.Prelude.{slice_get}
 use Rattle.dpj_base.specs.declared.region.Rpl.{Rpl}
 use Rattle.dpj_base.specs.Regions.{substituted}
-use Rattle.dpj_base.specs.Types.{PlainType, plain_type, type_with}
+use Rattle.dpj_base.specs.Types.{plain_type, type_with}
 use Rattle.dpj_headers.specs.declared.header.Header.{Header}
 use Rattle.dpj_headers.specs.declared.header.Headers.{Headers}
 use Rattle.dpj_headers.specs.First.{parents_in}
@@ -16,25 +16,22 @@ use Rattle.dpj_headers.specs.Gathered.{object_fields}
 use Rattle.dpj_headers.specs.Headers.{parent_of, class_count}
 use Rattle.dpj_headers.proofs.Gathered.{length_rows}
 use Rattle.dpj_tree.specs.declared.class.Program.{Program}
-use Rattle.dpj_tree.specs.Nd.{program_uses_nd}
 use Rattle.dpj_tree.specs.Size.{program_size}
 use Rattle.dpj_resolve.specs.Classes.{params_in}
 use Rattle.dpj_classes.specs.declared.rows.FieldRow.{FieldRow}
 use Rattle.dpj_classes.specs.declared.table.Table.{Table}
 use Rattle.dpj_classes.specs.Inherited.{field_with, fields_in}
-use Rattle.dpj_classes.specs.Rows.{PlainField, plain_field, first_slot}
+use Rattle.dpj_classes.specs.Rows.{PlainField, plain_field}
 use Rattle.dpj_classes.specs.Table.{headers_of, fields_of, parent_args_of, args_above, args_at}
-use Rattle.dpj_exprs.specs.Partial.{mentions_partial, rigid_in_partial}
 use Rattle.dpj_typed.specs.Plain.{PlainClass}
-use Rattle.dpj_typed.specs.Scope.{class_at, field_at}
 use Rattle.dpj_typed.specs.Types.{Known, Readable}
-use Rattle.dpj_assembly.specs.Assembled.{PlainBody, field_of, class_of}
+use Rattle.dpj_assembly.specs.Assembled.{PlainBody, field_of}
 use Rattle.dpj_resolved.specs.Accepted.{IsAccepted}
-use Rattle.dpj_resolved.proofs.Lists.{some_same, and_then_there, got_first, got_later, got_mapped}
-use Rattle.dpj_accepted.specs.Seen.{can_stand, FieldSeen, HasNumbers}
+use Rattle.dpj_resolved.proofs.Lists.{and_then_there, got_first, got_later, got_mapped}
+use Rattle.dpj_accepted.specs.Seen.{FieldSeen, HasNumbers}
 use Rattle.dpj_accepted.proofs.Declarations.{signatures_free}
-use Rattle.dpj_accepted.proofs.InParams.{PathIn, TypeIn, type_stands, type_few, path_twice, type_twice, path_put, type_put, known_put, readable_put}
-use Rattle.dpj_accepted.proofs.Lineage.{P, Higher, args_step, class_there}
+use Rattle.dpj_accepted.proofs.InParams.{type_stands, type_few, path_twice, type_twice, path_put, type_put, known_put, readable_put}
+use Rattle.dpj_accepted.proofs.Lineage.{P, args_step, class_there}
 use Rattle.dpj_accepted.proofs.Partial.{known_from, readable_from}
 use Rattle.dpj_accepted.proofs.Sizes.{all_fields, inherited_fields, fields_step, first_is, slots_few}
 use Rattle.dpj_accepted.proofs.Slots.{FieldIn, FieldSaid, field_said}

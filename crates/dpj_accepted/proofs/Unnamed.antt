@@ -1,5 +1,5 @@
 -- The signatures of an accepted program name nothing of a body.
-use Rattle.std.proofs.Common.{◌≡◌, ◌∙◌, ◌⊎◌, ℕ, zero, suc, ◌+◌, ◌<◌, ◌≤◌, ◌==◌, Bool, true, false, cond, List, [], ◌∷◌, ◌++◌, map, length, inl, inr, Option, None, Some, option_map, option_and_then, refl, sym, ap, subst, arith}
+use Rattle.std.proofs.Common.{◌≡◌, ◌∙◌, ◌⊎◌, ℕ, zero, suc, ◌+◌, ◌==◌, Bool, true, false, cond, List, [], ◌∷◌, map, length, inl, inr, Option, None, Some, option_map, refl, sym, ap, subst, arith}
 use Rattle.std.proofs.lemmas.Option.{slice_get-map}
 use Rattle.std.specs.List.{filter}
 use Rattle.std.specs.Option.{option_map_or}
@@ -14,8 +14,8 @@ use Rattle.dpj_tree.specs.Nd.{program_uses_nd}
 use Rattle.dpj_resolve.specs.Classes.{params_in}
 use Rattle.dpj_classes.specs.declared.table.Table.{Table}
 use Rattle.dpj_classes.specs.Inherited.{field_with, fields_in}
-use Rattle.dpj_classes.specs.Rows.{PlainField, plain_method}
-use Rattle.dpj_classes.specs.Table.{headers_of, methods_of, parent_args_of}
+use Rattle.dpj_classes.specs.Rows.{PlainField}
+use Rattle.dpj_classes.specs.Table.{headers_of, parent_args_of}
 use Rattle.dpj_typed.specs.Plain.{PlainClass, PlainMember, PlainParent}
 use Rattle.dpj_typed.specs.Plain.{PlainField as TypedField}
 use Rattle.dpj_typed.specs.Scope.{class_at, field_at, member_at}
@@ -25,9 +25,9 @@ use Rattle.dpj_rows.specs.Rows.{HasRows}
 use Rattle.dpj_rows.proofs.Facts.{got_either, parent_is}
 use Rattle.dpj_resolved.specs.Accepted.{IsAccepted}
 use Rattle.dpj_resolved.proofs.Assembled.{is_member}
-use Rattle.dpj_resolved.proofs.Lists.{some_same, and_then_there, map_there}
+use Rattle.dpj_resolved.proofs.Lists.{and_then_there, map_there}
 use Rattle.dpj_accepted.specs.Naming.{Nothing, PathNames, PathsName, TypeNames, EffectsName, Signed}
-use Rattle.dpj_accepted.proofs.Declarations.{MethodSaid, row_said, signatures_free}
+use Rattle.dpj_accepted.proofs.Declarations.{row_said, signatures_free}
 use Rattle.dpj_accepted.proofs.Extending.{parents_over}
 use Rattle.dpj_accepted.proofs.InParams.{PathsIn, TypeIn, paths_name, type_names}
 use Rattle.dpj_accepted.proofs.InScope.{substituted_names, with_names}
