@@ -37,3 +37,14 @@ pub mod ReachedStatements
 pub mod RowShapes
 pub mod ForkEdges
 pub mod ForksTold
+pub mod InParams
+pub mod Closed
+pub mod Declarations
+pub mod Slots
+pub mod Extending
+pub mod Lineage
+pub mod Sizes
+pub mod Unnamed
+pub mod Slotted
+pub mod Calmed
+pub mod Told

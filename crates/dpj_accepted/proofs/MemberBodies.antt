@@ -40,7 +40,7 @@ use Rattle.dpj_accepted.specs.Laws.{BlockPasses}
 use Rattle.dpj_accepted.specs.Naming.{AllDoneIn, Signed}
 use Rattle.dpj_accepted.specs.Ready.{Ready}
 use Rattle.dpj_accepted.specs.Seen.{Tells, SupersAgree}
-use Rattle.dpj_accepted.specs.Whole.{made_of, never_forks, ForksAreTold, GoodBody, BodiesPassWhere}
+use Rattle.dpj_accepted.specs.Whole.{made_of, never_forks, BodiesPass, ForksAreTold, GoodBody, SignaturesNameNothing, SupersAreTold, TablesTell}
 use Rattle.dpj_accepted.proofs.Beginnings.{ready_begun, result_none}
 use Rattle.dpj_accepted.proofs.Bodies.{block_agrees}
 use Rattle.dpj_accepted.proofs.Gathered.{head_in, later_in, nothing_in, in_cases}
@@ -177,7 +177,7 @@ module _ (program : Program) (table : Table) (bodies : List PlainBody) (written 
         by true is h = inr (ap (λ (z : PlainBody). all_complete z.stmts) (sym p.is) ∙ walked.complete_so ∙ h)
         by false is h = inl (result_none program table bodies accepted tells supers n one class k is)
 
-pub bodies_pass : BodiesPassWhere
+pub bodies_pass : TablesTell → SupersAreTold → SignaturesNameNothing → ForksAreTold → BodiesPass
 bodies_pass tells supers signed forks program table bodies written accepted n m class there class_there =
     let k = member_of_text program table bodies written accepted n m class there class_there in
     subst (λ z. GoodBody (made_of program table bodies) (never_forks table) n z class) k.is

@@ -1,18 +1,20 @@
 -- An accepted program is well typed: its declarations, its inheritance, its bodies and its `main`, joined.
-use Rattle.std.proofs.Common.{◌≡◌, ◌∙◌, ℕ, IsTrue, All, List, [], ◌≡◌, Some, subst, sym}
-use Rattle.dpj_base.specs.Regions.{fully_specified}
-use Rattle.dpj_tree.specs.declared.class.Program.{Program}
-use Rattle.dpj_classes.specs.declared.table.Table.{Table}
+use Rattle.std.proofs.Common.{◌≡◌, ◌∙◌, ℕ, [], ◌≡◌, Some, subst, sym}
 use Rattle.dpj_typed.specs.Plain.{PlainProgram, PlainClass, PlainMember, PlainParent}
-use Rattle.dpj_typed.specs.Scope.{class_at, member_at}
+use Rattle.dpj_typed.specs.Scope.{class_at}
 use Rattle.dpj_typed.specs.Table.{Extends, GoodClass, GoodMember, class_scope}
 use Rattle.dpj_typed.specs.Types.{GoodArgs}
-use Rattle.dpj_assembly.specs.Assembled.{PlainBody}
 use Rattle.dpj_resolved.proofs.Lists.{some_same}
 use Rattle.dpj_declared.specs.Laws.{AcceptedIsDeclared, Declared, GoodParent, GoodSignature}
 use Rattle.dpj_inherited.specs.Laws.{AcceptedHasMain, AcceptedInherits, Inherits, KeepsSuper}
 use Rattle.dpj_accepted.specs.Laws.{AcceptedIsWellTyped}
-use Rattle.dpj_accepted.specs.Whole.{BodiesPass, GoodBody, NoneForks, made_of, never_forks}
+use Rattle.dpj_accepted.specs.Whole.{BodiesPass, GoodBody, made_of, never_forks}
+use Rattle.dpj_accepted.proofs.ForksTold.{forks_told}
+use Rattle.dpj_accepted.proofs.Lineage.{supers_agree}
+use Rattle.dpj_accepted.proofs.MemberBodies.{bodies_pass}
+use Rattle.dpj_accepted.proofs.Told.{table_tells}
+use Rattle.dpj_accepted.proofs.Unmarked.{none_forks}
+use Rattle.dpj_accepted.proofs.Unnamed.{all_signed}
 
 extends_so : (P : PlainProgram) (rank : ℕ → ℕ) (c : ℕ) (k : PlainClass) (p : PlainParent) → GoodParent P k p → KeepsSuper P rank c k p → Extends P rank c k p
 extends_so P rank c k p good keeps =
@@ -53,8 +55,16 @@ good_member P never_nd n m signature body = record {
   ends = body.ends;
 }
 
-pub well_typed : AcceptedIsDeclared → AcceptedInherits → AcceptedHasMain → BodiesPass → NoneForks → AcceptedIsWellTyped
-well_typed declares inherits has_main bodies_pass none_forks program table bodies written accepted =
+pub all_bodies_pass : BodiesPass
+all_bodies_pass = bodies_pass
+    (λ program table bodies written accepted. table_tells program table bodies written accepted)
+    (λ program table bodies written accepted. supers_agree program table bodies accepted)
+    (λ program table bodies written accepted. all_signed program table bodies accepted)
+    (λ program table bodies written accepted start fresh method number class stands params made u d reached.
+    forks_told program table bodies written accepted start fresh method number class stands params made u d reached)
+
+pub well_typed : AcceptedIsDeclared → AcceptedInherits → AcceptedHasMain → AcceptedIsWellTyped
+well_typed declares inherits has_main program table bodies written accepted =
     let P = made_of program table bodies in
     let declared = declares program table bodies written accepted in
     let inherited = inherits program table bodies written accepted in
@@ -64,7 +74,7 @@ well_typed declares inherits has_main bodies_pass none_forks program table bodie
       classes = good_class P declared inherited;
       members = λ n m is.
           let signature = declared.members n m is in
-          good_member P (never_forks table) n m signature (bodies_pass program table bodies written accepted n m signature.class is signature.is);
+          good_member P (never_forks table) n m signature (all_bodies_pass program table bodies written accepted n m signature.class is signature.is);
       main = has_main program table bodies written accepted;
-      without_nd = none_forks program table bodies accepted;
+      without_nd = λ none n. none_forks program table bodies accepted none n;
     }

@@ -92,7 +92,3 @@ BodiesPass =
     (program : Program) (table : Table) (bodies : List PlainBody) → IsWritten program → IsAccepted program table bodies →
     (n : ℕ) (m : PlainMember) (class : PlainClass) → member_at (made_of program table bodies) n ≡ Some m → class_at (made_of program table bodies) m.class ≡ Some class →
     GoodBody (made_of program table bodies) (never_forks table) n m class
-
--- the same where the table tells, its superclasses are the program's, signatures name nothing, and forks are told
-abbrev pub BodiesPassWhere : Type 0
-BodiesPassWhere = TablesTell → SupersAreTold → SignaturesNameNothing → ForksAreTold → BodiesPass

@@ -1,9 +1,10 @@
 //! The laws of accepted programs, each the clause of a function that does nothing.
 
 ghost use Rattle.dpj_accepted.specs.Laws.{AcceptedIsWellTyped, SubtypesAgree, TypesAgree, ExpressionsAgree, SinglesAgree, EffectsAreInScope, BlocksAgree};
-ghost use Rattle.dpj_accepted.specs.Whole.{BodiesPass, BodiesPassWhere, ForksAreTold, NoneForks};
-ghost use Rattle.dpj_declared.specs.Laws.{AcceptedIsDeclared};
-ghost use Rattle.dpj_inherited.specs.Laws.{AcceptedInherits, AcceptedHasMain};
+ghost use Rattle.dpj_accepted.specs.Whole.{BodiesPass, ForksAreTold, NoneForks, SignaturesNameNothing, SupersAreTold, TablesTell};
+
+use dpj_declared::laws::law_declared;
+use dpj_inherited::laws::{law_inherits, law_main};
 
 /// Where a value fits for the checker, its type is a subtype in the judgement.
 pub fn law_subtypes()
@@ -39,23 +40,32 @@ pub fn law_blocks()
     ensures blocks { BlocksAgree }
 {}
 
-/// The body of each member of an accepted program passes in the judgement, does no more than its summary says, and gives a value
-/// where it should: where the class table tells what the program has, and of which methods nd constructs are reached.
-pub fn law_bodies()
-    ensures bodies { BodiesPassWhere }
+/// What the class table of an accepted program says of a name is so in its typed program, each superclass of the table is that of
+/// the typed program, and its signatures name neither index variables nor local regions.
+pub fn law_table()
+    ensures tells { TablesTell }
+    ensures supers { SupersAreTold }
+    ensures signed { SignaturesNameNothing }
 {}
 
-/// Accepted programs are well typed, for now where these parts hold.
-pub fn law_well_typed()
-    ensures well_typed { AcceptedIsDeclared → AcceptedInherits → AcceptedHasMain → BodiesPass → NoneForks → AcceptedIsWellTyped }
-{}
-
-/// Where a program has no nd construct, its class table tells of no method that one is reached through it.
-pub fn law_none_forks()
+/// A method in whose body the checker finds that an nd construct is reached is one of which the class table tells so; and where a
+/// program has no nd construct, it tells so of none.
+pub fn law_forks()
+    ensures forks { ForksAreTold }
     ensures none { NoneForks }
 {}
 
-/// A method in whose body the checker finds that an nd construct is reached is one of which the class table tells so.
-pub fn law_forks()
-    ensures forks { ForksAreTold }
+/// The body of each member of an accepted program passes in the judgement, does no more than its summary says, and gives a value
+/// where it should.
+pub fn law_bodies()
+    ensures bodies { BodiesPass }
 {}
+
+/// What the checker accepts is well typed.
+pub fn law_well_typed()
+    ensures well_typed { AcceptedIsWellTyped }
+{
+    law_declared();
+    law_inherits();
+    law_main();
+}

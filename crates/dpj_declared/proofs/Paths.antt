@@ -68,11 +68,11 @@ named_below name (suffix ∷ suffixes) made base k h = by (named_below name suff
 
 -- what a longer path keeps of a shorter one
 
-none_goes_on : (scope : PlainScope) (around : PlainIndex) (elems : List ElemTree) (a : Rpl) → goes_on scope around None elems ≡ Some a → ⊥
+pub none_goes_on : (scope : PlainScope) (around : PlainIndex) (elems : List ElemTree) (a : Rpl) → goes_on scope around None elems ≡ Some a → ⊥
 none_goes_on scope around [] a h = cc
 none_goes_on scope around (x ∷ elems) a h = none_goes_on scope around elems a h
 
-goes_step : (scope : PlainScope) (around : PlainIndex) (x : ElemTree) (elems : List ElemTree) (b a : Rpl) → goes_on scope around (Some b) (x ∷ elems) ≡ Some a →
+pub goes_step : (scope : PlainScope) (around : PlainIndex) (x : ElemTree) (elems : List ElemTree) (b a : Rpl) → goes_on scope around (Some b) (x ∷ elems) ≡ Some a →
     (e : Elem) × (elem_meant scope around x ≡ Some e) × (goes_on scope around (Some (longer b e)) elems ≡ Some a)
 goes_step scope around x elems b a h = by (elem_meant scope around x) h
   where
