@@ -20,6 +20,7 @@ pub mod Forking
 pub mod Forks
 pub mod Frames
 pub mod Free
+pub mod Going
 pub mod Guarding
 pub mod InEffects
 pub mod InScope
@@ -39,6 +40,7 @@ pub mod Places
 pub mod Quiet
 pub mod Regions
 pub mod Root
+pub mod Small
 pub mod Sound
 pub mod Statements
 pub mod Tasks
