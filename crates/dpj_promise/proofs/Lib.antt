@@ -1,2 +1,4 @@
 pub mod Joined
 pub mod Greedy
+pub mod Few
+pub mod Going

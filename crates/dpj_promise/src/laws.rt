@@ -1,11 +1,11 @@
 //! The laws of a machine's runs, each the clause of a function that does nothing but name others.
 
-ghost use Rattle.dpj_promise.specs.Promise.{GreedyMachinesElide, MachinesComeOutAsElided};
+ghost use Rattle.dpj_promise.specs.Promise.{GreedyMachinesElide, MachinesAreNotStuck, MachinesComeOutAsElided, MachinesGoOn};
 
 use dpj_determined::laws::law_well_typed;
-use dpj_elided::laws::law_greatest;
+use dpj_elided::laws::{law_greatest, law_names};
 use dpj_going::laws::law_going;
-use dpj_recorded::laws::law_recorded;
+use dpj_recorded::laws::{law_lively, law_recorded};
 use dpj_steps::laws::law_steps;
 
 /// A run of the code of a well-typed program without nd constructs comes out as the program's sequential elision, limits included,
@@ -26,4 +26,17 @@ pub fn law_elide()
     law_steps();
     law_going();
     law_greatest();
+}
+
+/// A machine on the code of a well-typed program is never stuck: until its run has come out it has a ready task, whose next event can
+/// be made, and it comes out before it has made as many events as it may.
+pub fn law_goes_on()
+    ensures stuck { MachinesAreNotStuck }
+    ensures on { MachinesGoOn }
+{
+    law_recorded();
+    law_lively();
+    law_steps();
+    law_names();
+    law_going();
 }

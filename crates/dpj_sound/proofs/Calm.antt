@@ -211,8 +211,11 @@ module _ (P : PlainProgram) (b : Bounds) where
         (own : List Region) (n : Name) (vs : List Value) → AreSmall vs → (f : Frame) → AreSmall f.values → Calm E (Back E false) (called names P dp at c r own n vs f)
     calm_called E None h at c r stays own n vs small f fs = tt
     calm_called E (Some deeper) h at c r stays own n vs small f fs =
-        calm_if E (Back E false) (some_long own) _ _ tt (tt, λ a as'. calm_enter E deeper h (class_entered (parent_of P) (length P.classes) c (class_seen a)) r
-        (λ must m e. stays must (class_entered (parent_of P) (length P.classes) c (class_seen a)).0 m (entered_below P c (class_seen a)) e) (Object n ∷ vs) (small_cons (Object n) vs zero_fits small) own f fs)
+        calm_if E (Back E false) (some_long own) _ _ tt (
+          tt,
+          λ a as'. calm_enter E deeper h (class_entered (parent_of P) (length P.classes) c (class_seen a)) r
+              (λ must m e. stays must (class_entered (parent_of P) (length P.classes) c (class_seen a)).0 m (entered_below P c (class_seen a)) e) (Object n ∷ vs) (small_cons (Object n) vs zero_fits small) own f fs,
+        )
 
     calm_made : (E : Entries) (dp : Option Deeper) → DeeperCalm dp → (at : Place) (c n : ℕ) → (MustBeCalm P b E → IsTrue (b.never_nd n)) → (regions : List Region) (vs : List Value) → AreSmall vs → (f : Frame) → AreSmall f.values
         → Calm E (Back E false) (elim dp as (λ o. Prog) [
@@ -223,9 +226,12 @@ module _ (P : PlainProgram) (b : Bounds) where
           ])
         ])
     calm_made E None h at c n never regions vs small f fs = tt
-    calm_made E (Some deeper) h at c n never regions vs small f fs = (tt, λ a as'. calm_or E (Back E false) (member_at P n) _ _ (refl, tt, (small_name a, fs))
-        (λ m there. calm_body E f _ (λ r. gives (name_made a) f) (λ v g. (refl, tt, (small_name a, fs))) (λ v vs'. (refl, tt, (small_name a, fs)))
-        (h n m there E never _ (small_padded m.slots (name_made a ∷ vs) (small_cons (name_made a) vs (small_name a) small)))))
+    calm_made E (Some deeper) h at c n never regions vs small f fs = (
+      tt,
+      λ a as'. calm_or E (Back E false) (member_at P n) _ _ (refl, tt, (small_name a, fs))
+          (λ m there. calm_body E f _ (λ r. gives (name_made a) f) (λ v g. (refl, tt, (small_name a, fs))) (λ v vs'. (refl, tt, (small_name a, fs)))
+          (h n m there E never _ (small_padded m.slots (name_made a ∷ vs) (small_cons (name_made a) vs (small_name a) small)))),
+    )
 
     calm_created : (E : Entries) (at : Place) (c : ℕ) → (MustBeCalm P b E → (n : ℕ) → constructor_of P c ≡ Some n → IsTrue (b.never_nd n)) → (regions : List Region) (vs : List Value) → AreSmall vs → (f : Frame) → AreSmall f.values
         → Calm E (Back E false) (created names P dp at c regions vs f)
@@ -375,9 +381,12 @@ module _ (P : PlainProgram) (b : Bounds) where
       calm_stmt {L} (foreach_parts {at = at} {k = k} {s = s} (cuts_array ha ty full) hc tc fr p ic lc) m E c w f fs =
           calm_then E _ _ _ (calm_expr L m E c ha f fs) (λ v g vs gs. calm_then E _ _ _ (calm_expr L m E c hc (part_begun k v g) (small_set _ (k + 1) _ (small_set g.values k v gs vs) zero_fits))
           (λ u h us hs. let filled : AreSmall (with_value h (k + 3) u).values = small_set h.values (k + 3) u hs us in
-          calm_unless E (may_return L.result) at (slot_value (with_value h (k + 3) u).values k) _ (λ n. (tt, λ a as'.
-          let all : AreSmall (with_value (with_value h (k + 3) u) (k + 2) (Int (pos (length_seen a)))).values = small_set (with_value h (k + 3) u).values (k + 2) _ filled as'.seen in
-          calm_forks E (may_return L.result) dp at _ _ _ s _ _ _ all (all (k + 3)) (λ must. refl) p c m w))))
+          calm_unless E (may_return L.result) at (slot_value (with_value h (k + 3) u).values k) _ (λ n. (
+            tt,
+            λ a as'.
+                let all : AreSmall (with_value (with_value h (k + 3) u) (k + 2) (Int (pos (length_seen a)))).values = small_set (with_value h (k + 3) u).values (k + 2) _ filled as'.seen in
+                calm_forks E (may_return L.result) dp at _ _ _ s _ _ _ all (all (k + 3)) (λ must. refl) p c m w,
+          ))))
       calm_stmt {L} (foreach_parts {at = at} {k = k} {s = s} (cuts_part {k = j} e) hc tc fr p ic lc) m E c w f fs =
           let first : AreSmall (with_value f k (slot_value f.values j)).values = small_set f.values k _ fs (fs j) in
           calm_then E _ _ _ (calm_expr L m E c hc (part_taken_over k j f) (small_set _ (k + 1) _ first (first (j + 1))))

@@ -20,7 +20,6 @@ pub mod Forking
 pub mod Forks
 pub mod Frames
 pub mod Free
-pub mod Going
 pub mod Guarding
 pub mod InEffects
 pub mod InScope
@@ -32,6 +31,7 @@ pub mod Making
 pub mod Meeting
 pub mod Members
 pub mod Moments
+pub mod Never
 pub mod Numbers
 pub mod PartForks
 pub mod Parts
