@@ -19,9 +19,9 @@ one_passing cutting programs judgement text place other one another p q =
 
 pub no_other_fault : OneCutting → OneProgram → OneJudgement → NoOtherFault
 no_other_fault cutting programs judgement text place typed refusal p fault = elim fault [
-    | inl at ↦ absurd (cutting.either text p.tokens p.end refusal p.cut at)
-    | inr later ↦ by later later.fault
-  ]
+  | inl at ↦ absurd (cutting.either text p.tokens p.end refusal p.cut at)
+  | inr later ↦ by later later.fault
+]
   where
     by : (later : IsLaterFault text refusal) → IsTokenFault text later.tokens later.end refusal → IsToldByGrammar text refusal
     by later (of_grammar told) = record { tokens = later.tokens; end = later.end; cut = later.cut; fault = told }
