@@ -6,7 +6,8 @@ use Rattle.dpj_base.specs.declared.place.Place.{Place}
 use Rattle.dpj_base.specs.declared.refusal.Refusal.{Refusal}
 use Rattle.dpj_typed.specs.Plain.{PlainProgram}
 use Rattle.dpj_typed.specs.WellTyped.{WellTyped}
-use Rattle.dpj_front.specs.Front.{IsLaterFault, IsPassed}
+use Rattle.dpj_front.specs.Front.{IsPassed}
+use Rattle.dpj_passed.specs.Laws.{IsToldByGrammar}
 use Rattle.dpj_promise.specs.Promise.{elision}
 use Rattle.dpj_promise.specs.Reduced.{ComesOutReduced}
 use Rattle.dpj_run.specs.declared.recorded.Recorded.{Recorded}
@@ -18,7 +19,7 @@ use Rattle.dpj_words.specs.declared.verdict.Status.{Status}
 use Rattle.dpj_words.specs.declared.verdict.Verdict.{Verdict}
 use Rattle.dpj_words.specs.declared.verdict.Verdict.TheVariants.{Ran, Refused}
 use Rattle.dpj_top.specs.declared.answered.Answered.{Answered}
-use Rattle.dpj_top.specs.Answer.{IsElided, IsOther, IsRan, asks_run, limits_of, max_text, only, told_of}
+use Rattle.dpj_top.specs.Answer.{IsElided, IsLeft, IsRan, asks_run, limits_of, max_text, only, told_of}
 use Rattle.dpj_top.specs.Call.{Appends, text_for}
 
 -- the sequential elision of a program on the argument of a job, within the job's limits
@@ -63,7 +64,7 @@ IsReported verdict before after status = (status ≡ status_of verdict) × Appen
 -- a run is reported by the elision, whatever schedule was made; or the text was refused by its grammar
 pub data ReportsElision (job : Job) (text : List ℕ) (typed : PlainProgram) (before after : Option (List ℕ)) (status : Status) : Type 0 where
   as_elided : (schedule : List ℕ) → IsReported (told_of job text schedule (elision_for job typed)) before after status → ReportsElision job text typed before after status
-  by_grammar : (refusal : Refusal) → IsLaterFault text refusal → IsReported (Refused refusal) before after status → ReportsElision job text typed before after status
+  by_grammar : (refusal : Refusal) → IsToldByGrammar text refusal → IsReported (Refused refusal) before after status → ReportsElision job text typed before after status
 
 -- a run, or an elision, is asked of a program without nd constructs
 abbrev pub AsksElision : Job → PlainProgram → Type 0
@@ -73,5 +74,5 @@ AsksElision job typed = ((asks_run job.command ≡ true) × (typed.uses_nd ≡ f
 -- sequential elision, whatever the workers and their order
 abbrev pub OwesElision : List (List ℕ) → Option (List ℕ) → Option (List ℕ) → Option (List ℕ) → Status → Type 0
 OwesElision words held before after status =
-    (asked : Job) (text : List ℕ) (place : Place) (typed : PlainProgram) → job words ≡ Some asked → text_for asked held ≡ Some text → IsAcceptedAs text place typed → IsOther text
+    (asked : Job) (text : List ℕ) (place : Place) (typed : PlainProgram) → job words ≡ Some asked → text_for asked held ≡ Some text → IsAcceptedAs text place typed → IsLeft asked text
     → AsksElision asked typed → ReportsElision asked text typed before after status
