@@ -24,7 +24,7 @@ given_answer : (words : List (List ℕ)) (held : Option (List ℕ)) (asked : Job
     IsAnswered words held answered → Answers asked text answered
 given_answer words held asked text answered e f is =
     let some : IfSome (text_for asked held) (λ t. Answers asked t answered) =
-        subst (λ o. MatchOption o (answered ≡ only Usage) (λ j. IfSome (text_for j held) (λ t. Answers j t answered))) e is in
+    subst (λ o. MatchOption o (answered ≡ only Usage) (λ j. IfSome (text_for j held) (λ t. Answers j t answered))) e is in
     subst (λ o. IfSome o (λ t. Answers asked t answered)) f some
 
 -- where a run or an elision is asked, it is that to a program

@@ -37,9 +37,9 @@ module _ (typed : PlainProgram) (keeps : Keeps typed) (L : Limits) (argument : �
   told_greedy greedy p o e come =
       greedy typed e.start p o keeps.resolved keeps.has_main e.is_run.is_code (few_steps p e.is_run) e.nothing e.steps e.is_run.replayed come ∙ same_elision p e.is_run
 
-  pub reduced_so : MachinesAreReduced → (p : Played) (o : Outcome) → IsRunOf typed L argument p → p.outcome ≡ Some o → ComesOutReduced typed p o
+  pub reduced_so : MachinesAreReduced → (p : Played) (o : Outcome) → IsRunOf typed L argument p → p.outcome ≡ Some o → ComesOutReduced typed keeps.well_typed p o
   reduced_so machines p o is come =
-      machines typed p o keeps.well_typed keeps.resolved keeps.has_main is.is_code (few_steps p is) (fits_there p is) is.replayed come
+      machines typed keeps.well_typed p o keeps.resolved keeps.has_main is.is_code (few_steps p is) (fits_there p is) is.replayed come
 
   -- and none can't go on
   pub goes_on : MachinesGoOn → L.cells ≤ 16777216 → HasNoRun typed L argument → ⊥
@@ -79,6 +79,7 @@ keeps_promise machines greedy reduce on passed = record { typed_well = typed_wel
     reduces : (job : Job) (text : List ℕ) (place : Place) (typed : PlainProgram) (answered : Answered) → IsWithin job → IsAcceptedAs text place typed
         → IsRan job text place typed answered → TellsReduced job text typed answered
     reduces job text place typed _ within accepted (came_out r is) = record {
+      well_typed = (kept text place typed accepted).well_typed;
       made = r;
       is = refl;
       reduced = reduced_so typed (kept text place typed accepted) (limits_of job) job.arg within.0.steps_most within.1 reduce r.record.machine r.outcome is.is_run is.came;

@@ -104,8 +104,7 @@ fields_within words command asked e =
     let workers = one_within 1 64 4 (omega arith) (omega arith) (values_for key.Workers words) asked.workers g.workers in
     let steps = one_within 1 20000000 5000000 (omega arith) (omega arith) (values_for key.Steps words) asked.steps g.steps in
     let cells = one_within 1 16777216 1048576 (omega arith) (omega arith) (values_for key.Cells words) asked.cells g.cells in
-    let n = one_within 1 200 8 (omega arith) (omega arith) (values_for key.Number words) asked.n g.n in
-    (
+    let n = one_within 1 200 8 (omega arith) (omega arith) (values_for key.Number words) asked.n g.n in (
       record {
         workers_least = workers.0;
         workers_most = workers.1;

@@ -39,12 +39,13 @@ pub record TellsElision (job : Job) (text : List ℕ) (typed : PlainProgram) (an
   pub schedule : List ℕ
   pub is : answered.verdict ≡ told_of job text schedule (elision_for job typed)
 
--- the recorded run is one of the source, whose unordered events that conflict lie in atomic blocks, and gathered by blocks it
+-- the recorded run is one of the source, in which values have their types and tasks keep to their effects, whose unordered events that conflict lie in atomic blocks, and gathered by blocks it
 -- comes out as the verdict says
 pub record TellsReduced (job : Job) (text : List ℕ) (typed : PlainProgram) (answered : Answered) : Type 0 where
+  pub well_typed : WellTyped typed
   pub made : Recorded
   pub is : answered ≡ record { verdict = told_of job text made.record.machine.schedule made.outcome; recorded = Some made.record }
-  pub reduced : ComesOutReduced typed made.record.machine made.outcome
+  pub reduced : ComesOutReduced typed well_typed made.record.machine made.outcome
 
 -- What is accepted is well typed. Where it has no nd construct a run of it is answered by its elision, by any number of workers, in
 -- any order; with nd constructs too by a run that is reduced. And an elision is answered by the elision.
