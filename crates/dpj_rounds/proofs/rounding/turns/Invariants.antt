@@ -1,0 +1,6 @@
+use Rattle.std.proofs.Common.{reverse}
+use Rattle.dpj_rounds.proofs.Turning.{HasTurned}
+use Rattle.dpj_rounds.proofs.rounding.turns.Given as goal
+
+abbrev pub invariant-loop-task : goal.invariant-loop-task
+invariant-loop-task l = HasTurned l.fn.machine (reverse l.fn.tasks) (reverse l.left) l.machine
