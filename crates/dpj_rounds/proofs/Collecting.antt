@@ -1,6 +1,5 @@
 -- The ready tasks of a world, from the greatest down.
-use Rattle.std.proofs.Common.{arith, ◌≡◌, ◌<◌, ◌+◌, ℕ, zero, suc, ◌⊎◌, inl, inr, List, [], ◌∷◌, ◌++◌, length, get_or, reverse, Contains, Option, Some, None, MatchOption, subst, sym, ap, ◌∙◌}
-use native.Mathlib.Numerals.{unary_clauses}
+use Rattle.std.proofs.Common.{arith, ◌≡◌, ◌<◌, ◌+◌, ℕ, zero, suc, ◌⊎◌, inl, inr, List, [], ◌∷◌, ◌++◌, get_or, slice_index, reverse, Contains, Option, Some, None, MatchOption, subst, sym, ap, ◌∙◌}
 use Rattle.std.specs.List.Sorted.{IsStrictlyIncreasing}
 use Rattle.std.proofs.lemmas.Bool.{cases_order}
 use Rattle.std.proofs.lemmas.List.{reverse-append}
@@ -31,7 +30,9 @@ in-cases k ks q has = by_case (Contains-append_cases (k ∷ []) ks q has)
 
 ascends : (k : ℕ) (ks : List ℕ) → ((q : ℕ) → Contains ks q → k < q) → IsStrictlyIncreasing ks → IsStrictlyIncreasing (k ∷ ks)
 ascends k ks less up zero within = less (get_or ks 0 0) (Contains-get_or ks 0 0 (omega (arith, within)))
-ascends k ks less up (suc i) within = simp unary_clauses (up i (omega (arith, within)))
+ascends k ks less up (suc i) within =
+    let same : suc (i + 1) ≡ suc i + 1 = omega arith in
+    subst (λ n. slice_index ks i < slice_index (k ∷ ks) n) same (up i (omega (arith, within)))
 
 -- how far it is to the end
 abbrev pub left : Option ℕ → ℕ

@@ -1,12 +1,16 @@
 -- Turns and rounds, one after another.
-use Rattle.std.proofs.Common.{arith, ◌≡◌, ◌<◌, ◌≤◌, ◌+◌, ℕ, inl, inr, List, [], ◌∷◌, ◌++◌, length, reverse, Some, None, Option, IsSome, refl, subst, sym, ap, ◌∙◌}
+use Rattle.std.proofs.Common.{arith, ◌≡◌, ◌<◌, ◌≤◌, ◌+◌, ℕ, List, [], ◌∷◌, ◌++◌, length, reverse, Some, None, Option, IsSome, refl, subst, sym, ap, ◌∙◌}
 use Rattle.std.proofs.lemmas.Bool.{false≢true}
 use Rattle.std.proofs.lemmas.List.{reverse-append, append_assoc, append-nil, length-append}
 use Rattle.dpj_world.specs.Ready.{IsReady, NoneReady}
-use Rattle.dpj_machine.specs.Keeping.{Played, IsAfter, WhyHaltedAt}
+use Rattle.dpj_machine.specs.Keeping.{Played, WhyHaltedAt}
 use Rattle.dpj_machine.specs.declared.halted.Halted.{Halted}
-use Rattle.dpj_rounds.specs.Rounds.{AreReady, IsTurn, finished, not_ready, made, HadTurns, IsRound, RoundsOn, here, further, TurnsBreakOff, BreaksOff, at_once, within}
+use Rattle.dpj_rounds.specs.Rounds.{AreReady, IsTurn, finished, not_ready, made, HadTurns, IsRound, TurnsBreakOff}
 use Rattle.dpj_rounds.proofs.Collecting.{nothing, first-in}
+
+pub not_some : {X : Type 0} (o : Option X) → (IsSome o → ⊥) → o ≡ None
+not_some None none = refl
+not_some (Some x) none = absurd (none refl)
 
 turns_more : (a b c : Played) (ks : List ℕ) (k : ℕ) → HadTurns a ks b → IsTurn b k c → HadTurns a (ks ++ k ∷ []) c
 turns_more a b c [] k same turn = (c, subst (λ p. IsTurn p k c) same turn, refl)
