@@ -6,60 +6,55 @@ use Rattle.dpj_typed.specs.Plain.{PlainProgram}
 use Rattle.dpj_machine.specs.declared.halted.Halted.{Halted}
 use Rattle.dpj_machine.specs.declared.halted.Halted.TheVariants.{Stuck}
 use Rattle.dpj_machine.specs.Keeping.{Played, IsReplayed, HasEnded}
-use Rattle.dpj_history.proofs.Continuing.{after-replayed}
 use Rattle.dpj_rounds.specs.Rounds.{IsTurn, made, finished, not_ready, HadTurns, IsRound, RoundsOn, here, further, BreaksOff, at_once, within, RoundsBreakOff}
 use Rattle.dpj_run.specs.Run.{IsRunOf, IsSameRun, IsOpened, too_wide}
 use Rattle.dpj_run.specs.Rounding.{IsByRounds, IsMadeAlone, broken_off, unfinished, never_begun, ComesByRounds, by_rounds, no_rounds}
 use Rattle.dpj_run.specs.declared.recorded.Recorded.{Recorded}
 use Rattle.dpj_run.proofs.Coming.{still}
 
--- turns and rounds go on in the run
-unmoved : (a : Played) → IsReplayed a → IsSameRun a a
-unmoved a replayed = record { code = refl; limits = refl; argument = refl; replayed = replayed }
+-- turns and rounds leave the code, the limits and the argument
+record IsSameJob (a b : Played) : Type 0 where
+  code : b.code ≡ a.code
+  limits : b.limits ≡ a.limits
+  argument : b.argument ≡ a.argument
 
-moved : (a b c : Played) → IsSameRun a b → IsSameRun b c → IsSameRun a c
-moved a b c first next = record {
-  code = next.code ∙ first.code;
-  limits = next.limits ∙ first.limits;
-  argument = next.argument ∙ first.argument;
-  replayed = next.replayed;
-}
+unmoved : (a : Played) → IsSameJob a a
+unmoved a = record { code = refl; limits = refl; argument = refl }
 
-after_turn : (a b : Played) (k : ℕ) → IsReplayed a → IsTurn a k b → IsSameRun a b
-after_turn a _ k replayed (finished some) = unmoved a replayed
-after_turn a _ k replayed (not_ready not) = unmoved a replayed
-after_turn a _ k replayed (made b unfinished ready after) =
-    record { code = after.code; limits = after.limits; argument = after.argument; replayed = after-replayed a b k after }
+moved : (a b c : Played) → IsSameJob a b → IsSameJob b c → IsSameJob a c
+moved a b c first next = record { code = next.code ∙ first.code; limits = next.limits ∙ first.limits; argument = next.argument ∙ first.argument }
 
-after_turns : (a b : Played) (ks : List ℕ) → IsReplayed a → HadTurns a ks b → IsSameRun a b
-after_turns a b [] replayed same = subst (IsSameRun a) (sym same) (unmoved a replayed)
-after_turns a b (k ∷ ks) replayed turns =
-    let first : IsSameRun a turns.0 = after_turn a turns.0 k replayed turns.1 in
-    moved a turns.0 b first (after_turns turns.0 b ks first.replayed turns.2)
+after_turn : (a b : Played) (k : ℕ) → IsTurn a k b → IsSameJob a b
+after_turn a _ k (finished some) = unmoved a
+after_turn a _ k (not_ready not) = unmoved a
+after_turn a _ k (made b _ ready after) = record { code = after.code; limits = after.limits; argument = after.argument }
 
-after_rounds : (a b : Played) → IsReplayed a → RoundsOn a b → IsSameRun a b
-after_rounds a _ replayed here = unmoved a replayed
-after_rounds a _ replayed (further middle b rounds round) =
-    let first : IsSameRun a middle = after_rounds a middle replayed rounds in
-    moved a middle b first (after_turns middle b round.tasks first.replayed round.turns)
+after_turns : (a b : Played) (ks : List ℕ) → HadTurns a ks b → IsSameJob a b
+after_turns a b [] same = subst (IsSameJob a) (sym same) (unmoved a)
+after_turns a b (k ∷ ks) turns = moved a turns.0 b (after_turn a turns.0 k turns.1) (after_turns turns.0 b ks turns.2)
 
-after_part : (a b : Played) (h : Halted) → IsReplayed a → BreaksOff a b h → IsSameRun a b
-after_part a _ _ replayed at_once = unmoved a replayed
-after_part a _ _ replayed (within b h tasks ready broken) = after_turns a b broken.done replayed broken.turns
+after_rounds : (a b : Played) → RoundsOn a b → IsSameJob a b
+after_rounds a _ here = unmoved a
+after_rounds a _ (further middle b rounds round) = moved a middle b (after_rounds a middle rounds) (after_turns middle b round.tasks round.turns)
 
-after_broken : (a b : Played) (h : Halted) → IsReplayed a → RoundsBreakOff a b h → IsSameRun a b
-after_broken a b h replayed broken =
-    let first : IsSameRun a broken.middle = after_rounds a broken.middle replayed broken.rounds in
-    moved a broken.middle b first (after_part broken.middle b h first.replayed broken.breaks)
+after_part : (a b : Played) (h : Halted) → BreaksOff a b h → IsSameJob a b
+after_part a _ _ at_once = unmoved a
+after_part a _ _ (within b h tasks ready broken) = after_turns a b broken.done broken.turns
+
+after_broken : (a b : Played) (h : Halted) → RoundsBreakOff a b h → IsSameJob a b
+after_broken a b h broken = moved a broken.middle b (after_rounds a broken.middle broken.rounds) (after_part broken.middle b h broken.breaks)
 
 -- a run comes out as its last moment says, or there is none
 module _ (P : PlainProgram) (L : Limits) (argument : ℤ) (workers : ℕ) where
   pub none_opened : IsOpened P L argument None → ComesByRounds P L argument workers None
   none_opened (too_wide wide) = no_rounds (never_begun wide)
 
-  module _ (a b : Played) (is : IsRunOf P L argument a) (nothing : a.schedule ≡ []) where
+  module _ (a b : Played) (is : IsRunOf P L argument a) (nothing : a.schedule ≡ []) (replayed : IsReplayed b) where
+    run_on : IsSameJob a b → IsRunOf P L argument b
+    run_on same = still P L argument a b is (record { code = same.code; limits = same.limits; argument = same.argument; replayed = replayed })
+
     whole : RoundsOn a b → IsByRounds P L argument b
-    whole rounds = record { is_run = still P L argument a b is (after_rounds a b is.replayed rounds); start = a; nothing = nothing; rounds = rounds }
+    whole rounds = record { is_run = run_on (after_rounds a b rounds); start = a; nothing = nothing; rounds = rounds }
 
     pub came_by_rounds : RoundsOn a b → HasEnded b → (result : Result (Option Recorded) NoMemory)
         → IfOk result (λ made. MatchOption made (b.outcome ≡ None) (IsMadeAlone workers b)) → IfOk result (ComesByRounds P L argument workers)
@@ -70,7 +65,7 @@ module _ (P : PlainProgram) (L : Limits) (argument : ℤ) (workers : ℕ) where
     pub came_to_nothing : RoundsBreakOff a b Stuck → ComesByRounds P L argument workers None
     came_to_nothing broken =
         no_rounds (broken_off b (record {
-          is_run = still P L argument a b is (after_broken a b Stuck is.replayed broken);
+          is_run = run_on (after_broken a b Stuck broken);
           start = a;
           nothing = nothing;
           broken = broken;

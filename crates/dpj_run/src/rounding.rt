@@ -31,7 +31,9 @@ pub fn run_rounds(
     let Some(mut machine) = open(alloc, program, limits, argument)? else {
         return Ok(None);
     };
-    match dpj_rounds::run_rounds(alloc, &mut machine) {
+    let made = dpj_rounds::run_rounds(alloc, &mut machine);
+    let _ = machine.schedule();
+    match made {
         Ok(()) => recorded(alloc, machine, workers),
         Err(Halted::Stuck) => Ok(None),
         Err(Halted::NoMemory) => Err(NoMemory),
