@@ -39,7 +39,7 @@ after_rounds a _ (further middle b rounds round) = moved a middle b (after_round
 
 after_part : (a b : Played) (h : Halted) → BreaksOff a b h → IsSameJob a b
 after_part a _ _ at_once = unmoved a
-after_part a _ _ (within b h tasks ready broken) = after_turns a b broken.done broken.turns
+after_part a _ _ (within b h tasks ready off) = after_turns a b off.done off.turns
 
 after_broken : (a b : Played) (h : Halted) → RoundsBreakOff a b h → IsSameJob a b
 after_broken a b h broken = moved a broken.middle b (after_rounds a broken.middle broken.rounds) (after_part broken.middle b h broken.breaks)

@@ -2,6 +2,8 @@ use Rattle.std.proofs.Common.{rules, subst}
 use mir.Val.{SFits}
 use Rattle.std.specs.Int.{w32}
 use Rattle.std.proofs.Math.Facts.{to_z-of_z}
+use Rattle.dpj_machine.specs.declared.halted.Halted.TheVariants.{Stuck}
+use Rattle.dpj_rounds.specs.Rounds.{RoundsBreakOff}
 use Rattle.dpj_typed.specs.Plain.{plain_program}
 use Rattle.dpj_run.specs.Run.{IsOpened}
 use Rattle.dpj_run.proofs.Coming.{opened_run}
@@ -33,5 +35,5 @@ returns-in-Err-Stuck c =
     let o = opened_run P c.args.limits c.args.argument c.in-Some.machine
     (subst (λ m. IsOpened P c.args.limits c.args.argument m) c.in-Some.is
     (subst (λ a. IsOpened P c.args.limits a c.in_ok-machine.field-0) (to_z-of_z fits) c.in_ok-machine.ensures)) in
-    let why = rw c.in-Err-Stuck.field-0-is at c.in-Err-Stuck.ensures.why in
+    let why : RoundsBreakOff c.in-Some.machine c.run_rounds-made.new.machine Stuck = search rules in
     came_to_nothing P c.args.limits c.args.argument c.args.workers c.in-Some.machine c.run_rounds-made.new.machine o.0 o.1 c.schedule.ensures.replayed why
