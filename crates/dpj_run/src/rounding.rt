@@ -41,11 +41,7 @@ pub fn run_rounds(
 }
 
 /// The record of a run that the caller made, once it has come out.
-fn recorded(
-    alloc: Global,
-    machine: Machine,
-    workers: u32,
-) -> Result<Option<Recorded>, NoMemory>
+fn recorded(alloc: Global, machine: Machine, workers: u32) -> Result<Option<Recorded>, NoMemory>
     ensures { IfOk result (λ made. MatchOption made (machine.outcome ≡ None) (IsMadeAlone workers machine)) }
 {
     let Some(outcome) = came_out(alloc, &machine)? else {

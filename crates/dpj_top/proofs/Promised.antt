@@ -53,7 +53,7 @@ keeps_promise machines greedy = record { run = run; elide = elide }
         → WellTyped typed → typed.uses_nd ≡ false → IsRan job text place typed answered → TellsElision job text place typed answered
     run job text place typed _ range fits can wt none (came_out r is) =
         let made : IsRunOf typed (limits_of job) job.arg r.record.machine × (r.record.machine.outcome ≡ Some r.outcome)
-          = made_run job.mode typed (limits_of job) job.arg job.workers r is in
+        = made_run job.mode typed (limits_of job) job.arg job.workers r is in
         as_elided r.record.machine.schedule
         (ap (λ o. told_of job text r.record.machine.schedule o)
         (told_elision machines typed (limits_of job) job.arg range.steps_most fits can wt none r.record.machine r.outcome made.0 made.1))
