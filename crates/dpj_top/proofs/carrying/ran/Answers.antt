@@ -5,7 +5,7 @@ use Rattle.dpj_top.proofs.Verdicts.{ran-so, not-ran}
 use Rattle.dpj_top.proofs.carrying.ran.Goals as goal
 
 pub made-requires-clause-can_run : goal.made-requires-clause-can_run
-made-requires-clause-can_run g c = subst CanRun (sym c.in_ok-typed.ensures) c.requires.can_run
+made-requires-clause-can_run g c κs within = subst CanRun (sym c.in_ok-typed.ensures) c.requires.can_run
 
 pub returns-in_default : goal.returns-in_default
 returns-in_default g c =
