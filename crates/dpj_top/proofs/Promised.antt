@@ -1,5 +1,5 @@
 -- Answers of runs by the source alone, over plain variables.
-use Rattle.std.proofs.Common.{◌≡◌, ◌∙◌, ◌≤◌, ℕ, ℤ, FitsSigned, false, List, Some, None, ap, sym, refl, subst}
+use Rattle.std.proofs.Common.{◌≡◌, ◌∙◌, ◌≤◌, ℕ, ℤ, FitsSigned, false, List, Some, None, ap, sym, refl, reverse, subst}
 use Rattle.std.specs.Int.{w32}
 use Rattle.dpj_base.specs.declared.outcome.Limits.{Limits}
 use Rattle.dpj_base.specs.declared.outcome.Outcome.{Outcome}
@@ -7,14 +7,23 @@ use Rattle.dpj_base.specs.declared.place.Place.{Place}
 use Rattle.dpj_machine.specs.Keeping.{Played}
 use Rattle.dpj_typed.specs.Plain.{PlainProgram}
 use Rattle.dpj_passed.specs.Laws.{Keeps, PassedKeeps}
-use Rattle.dpj_promise.specs.Promise.{GreedyMachinesElide, MachinesComeOutAsElided, MachinesGoOn, elision}
+use Rattle.dpj_promise.specs.Promise.{GreedyMachinesElide, MachinesAreNotStuck, MachinesComeOutAsElided, MachinesGoOn, elision}
 use Rattle.dpj_promise.specs.Reduced.{ComesOutReduced, MachinesAreReduced}
-use Rattle.dpj_run.specs.Run.{CannotGoOn, ComesOut, HasNoRun, IsElision, IsRunOf, finished, halted, never_begun, stuck, unfinished}
+use Rattle.dpj_machine.specs.Keeping.{IsStuckAt, WhyHaltedAt}
+use Rattle.dpj_machine.specs.declared.halted.Halted.{Halted}
+use Rattle.dpj_machine.specs.declared.halted.Halted.TheVariants as halt
+use Rattle.dpj_rounds.specs.Rounds.{BreaksOff, at_once, within}
+use Rattle.dpj_run.specs.Run.{CannotGoOn, ComesOut, HasNoRun, IsElision, IsRunOf, finished, halted, never_begun, no_record, recorded_so, stuck, unfinished}
 use Rattle.dpj_run.specs.Run.{not_at_all as never}
+use Rattle.dpj_run.specs.Rounding.{HasNoRounds, by_rounds, no_rounds}
+use Rattle.dpj_run.specs.Rounding.HasNoRounds as rounds
+use Rattle.dpj_run.specs.declared.recorded.Recorded.{Recorded}
+use Rattle.dpj_words.specs.declared.key.Mode.{Mode}
+use Rattle.dpj_words.specs.declared.key.Mode.TheVariants as mode
 use Rattle.dpj_words.specs.declared.job.Job.{Job}
 use Rattle.dpj_words.specs.declared.verdict.Verdict.TheVariants.{Ran}
 use Rattle.dpj_top.specs.declared.answered.Answered.{Answered}
-use Rattle.dpj_top.specs.Answer.{IsElided, IsRan, came_out, not_at_all, limits_of, only, told_of, verdict_of_elision}
+use Rattle.dpj_top.specs.Answer.{IsElided, IsRan, IsRunBy, came_out, not_at_all, limits_of, only, told_of, verdict_of_elision}
 use Rattle.dpj_top.specs.Promise.{IsAcceptedAs, IsWithin, KeepsPromise, TellsElision, TellsReduced, elision_for}
 
 module _ (typed : PlainProgram) (keeps : Keeps typed) (L : Limits) (argument : ℤ) (few : L.steps ≤ 20000000) (fits : FitsSigned w32 argument) where
@@ -42,20 +51,49 @@ module _ (typed : PlainProgram) (keeps : Keeps typed) (L : Limits) (argument : �
       machines typed keeps.well_typed p o keeps.resolved keeps.has_main is.is_code (few_steps p is) (fits_there p is) is.replayed come
 
   -- and none can't go on
-  pub goes_on : MachinesGoOn → L.cells ≤ 16777216 → HasNoRun typed L argument → ⊥
-  goes_on machines cells (never_begun wide) = wide.wide (keeps.narrow wide.code wide.is_code)
-  goes_on machines cells (halted p is cannot) = by cannot
-    where
-      on : _
-      on = machines typed p keeps.well_typed keeps.resolved keeps.has_main is.is_code (keeps.narrow p.code is.is_code) (few_steps p is)
-          (subst (λ (k : Limits). k.cells ≤ 16777216) (sym is.limits) cells) (fits_there p is) is.replayed
+  module _ (never_stuck : MachinesAreNotStuck) (machines : MachinesGoOn) (cells : L.cells ≤ 16777216) where
+    few_cells : (p : Played) → IsRunOf typed L argument p → p.limits.cells ≤ 16777216
+    few_cells p is = subst (λ (k : Limits). k.cells ≤ 16777216) (sym is.limits) cells
 
-      by : CannotGoOn p → ⊥
-      by (stuck halts) = on.0 halts
-      by (unfinished none ended) = on.1 none ended
+    on : (p : Played) → IsRunOf typed L argument p → _
+    on p is = machines typed p keeps.well_typed keeps.resolved keeps.has_main is.is_code (keeps.narrow p.code is.is_code) (few_steps p is) (few_cells p is) (fits_there p is) is.replayed
 
-pub keeps_promise : MachinesComeOutAsElided → GreedyMachinesElide → MachinesAreReduced → MachinesGoOn → PassedKeeps → KeepsPromise
-keeps_promise machines greedy reduce on passed = record { typed_well = typed_well; run = run; reduce = reduces; elide = elide }
+    not_stuck : (p : Played) → IsRunOf typed L argument p → (k : ℕ) → IsStuckAt p k → ⊥
+    not_stuck p is k s =
+        never_stuck typed p.code p.limits p.argument keeps.well_typed keeps.resolved keeps.has_main is.is_code (keeps.narrow p.code is.is_code) (few_steps p is) (few_cells p is) (fits_there p is)
+        (reverse p.schedule) s.replayed.moment s.replayed.leads k s.stuck
+
+    pub goes_on : HasNoRun typed L argument → ⊥
+    goes_on (never_begun wide) = wide.wide (keeps.narrow wide.code wide.is_code)
+    goes_on (halted p is (stuck halts)) = (on p is).0 halts
+    goes_on (halted p is (unfinished none ended)) = (on p is).1 none ended
+
+    no_break : (before p : Played) (h : Halted) → h ≡ halt.Stuck → IsRunOf typed L argument p → BreaksOff before p h → ⊥
+    no_break before p h same is at_once = absurd (cc same)
+    no_break before p h same is (within _ _ tasks ready breaks) = by h same breaks.why
+      where
+        by : (h : Halted) → h ≡ halt.Stuck → WhyHaltedAt p breaks.task h → ⊥
+        by halt.Stuck same why = not_stuck p is breaks.task why
+        by halt.NoMemory same why = absurd (cc same)
+
+    pub goes_on_in_rounds : HasNoRounds typed L argument → ⊥
+    goes_on_in_rounds (rounds.never_begun wide) = wide.wide (keeps.narrow wide.code wide.is_code)
+    goes_on_in_rounds (rounds.unfinished p is none ended) = (on p is.is_run).1 none ended
+    goes_on_in_rounds (rounds.broken_off p is) = no_break is.broken.middle p halt.Stuck refl is.is_run is.broken.breaks
+
+    pub goes_on_by : (m : Mode) (workers : ℕ) → IsRunBy m typed L argument workers None → ⊥
+    goes_on_by mode.Steps workers (no_record halts) = goes_on halts
+    goes_on_by mode.Rounds workers (no_rounds halts) = goes_on_in_rounds halts
+
+-- what was made by workers or in rounds is a run
+made_run : (m : Mode) (typed : PlainProgram) (L : Limits) (argument : ℤ) (workers : ℕ) (r : Recorded) → IsRunBy m typed L argument workers (Some r)
+    → IsRunOf typed L argument r.record.machine × (r.record.machine.outcome ≡ Some r.outcome)
+made_run mode.Steps typed L argument workers r (recorded_so _ is) = (is.is_run, is.came)
+made_run mode.Rounds typed L argument workers r (by_rounds _ p is alone) =
+    (subst (λ q. IsRunOf typed L argument q) (sym alone.machine) is.is_run, ap (λ (q : Played). q.outcome) alone.machine ∙ alone.came)
+
+pub keeps_promise : MachinesComeOutAsElided → GreedyMachinesElide → MachinesAreReduced → MachinesAreNotStuck → MachinesGoOn → PassedKeeps → KeepsPromise
+keeps_promise machines greedy reduce never_stuck on passed = record { typed_well = typed_well; run = run; reduce = reduces; elide = elide }
   where
     kept : (text : List ℕ) (place : Place) (typed : PlainProgram) → IsAcceptedAs text place typed → Keeps typed
     kept text place typed accepted = passed text place typed accepted.0 accepted.1
@@ -65,16 +103,25 @@ keeps_promise machines greedy reduce on passed = record { typed_well = typed_wel
 
     never_halts : (job : Job) (text : List ℕ) (place : Place) (typed : PlainProgram) → IsWithin job → IsAcceptedAs text place typed → HasNoRun typed (limits_of job) job.arg → ⊥
     never_halts job text place typed within accepted =
-        goes_on typed (kept text place typed accepted) (limits_of job) job.arg within.0.steps_most within.1 on within.0.cells_most
+        goes_on typed (kept text place typed accepted) (limits_of job) job.arg within.0.steps_most within.1 never_stuck on within.0.cells_most
+
+    never_halts_by : (job : Job) (text : List ℕ) (place : Place) (typed : PlainProgram) → IsWithin job → IsAcceptedAs text place typed →
+        IsRunBy job.mode typed (limits_of job) job.arg job.workers None → ⊥
+    never_halts_by job text place typed within accepted =
+        goes_on_by typed (kept text place typed accepted) (limits_of job) job.arg within.0.steps_most within.1 never_stuck on within.0.cells_most job.mode job.workers
+
+    made : (job : Job) (typed : PlainProgram) (r : Recorded) → IsRunBy job.mode typed (limits_of job) job.arg job.workers (Some r) →
+        IsRunOf typed (limits_of job) job.arg r.record.machine × (r.record.machine.outcome ≡ Some r.outcome)
+    made job typed r is = made_run job.mode typed (limits_of job) job.arg job.workers r is
 
     run : (job : Job) (text : List ℕ) (place : Place) (typed : PlainProgram) (answered : Answered) → IsWithin job → IsAcceptedAs text place typed
         → typed.uses_nd ≡ false → IsRan job text place typed answered → TellsElision job text typed answered
     run job text place typed _ within accepted none (came_out r is) = record {
       schedule = r.record.machine.schedule;
       is = ap (λ o. told_of job text r.record.machine.schedule o)
-          (told_elision typed (kept text place typed accepted) (limits_of job) job.arg within.0.steps_most within.1 machines none r.record.machine r.outcome is.is_run is.came);
+          (told_elision typed (kept text place typed accepted) (limits_of job) job.arg within.0.steps_most within.1 machines none r.record.machine r.outcome (made job typed r is).0 (made job typed r is).1);
     }
-    run job text place typed _ within accepted none (not_at_all halts) = absurd (never_halts job text place typed within accepted halts)
+    run job text place typed _ within accepted none (not_at_all halts) = absurd (never_halts_by job text place typed within accepted halts)
 
     reduces : (job : Job) (text : List ℕ) (place : Place) (typed : PlainProgram) (answered : Answered) → IsWithin job → IsAcceptedAs text place typed
         → IsRan job text place typed answered → TellsReduced job text typed answered
@@ -82,9 +129,9 @@ keeps_promise machines greedy reduce on passed = record { typed_well = typed_wel
       well_typed = (kept text place typed accepted).well_typed;
       made = r;
       is = refl;
-      reduced = reduced_so typed (kept text place typed accepted) (limits_of job) job.arg within.0.steps_most within.1 reduce r.record.machine r.outcome is.is_run is.came;
+      reduced = reduced_so typed (kept text place typed accepted) (limits_of job) job.arg within.0.steps_most within.1 reduce r.record.machine r.outcome (made job typed r is).0 (made job typed r is).1;
     }
-    reduces job text place typed _ within accepted (not_at_all halts) = absurd (never_halts job text place typed within accepted halts)
+    reduces job text place typed _ within accepted (not_at_all halts) = absurd (never_halts_by job text place typed within accepted halts)
 
     elide : (job : Job) (text : List ℕ) (place : Place) (typed : PlainProgram) (answered : Answered) → IsWithin job → IsAcceptedAs text place typed
         → IsElided job place typed answered → answered ≡ only (Ran (elision_for job typed))
