@@ -16,7 +16,7 @@ use Rattle.dpj_words.specs.declared.verdict.Verdict.TheVariants.{Ran, Refused, U
 use Rattle.dpj_top.specs.declared.answered.Answered.{Answered}
 use Rattle.dpj_top.specs.Answer.{IsAnswer, IsAnswerOn, IsLeft, asks_run, faulty, max_text, of_first_form, of_program, only, told_by, told_of, to_check, to_effects, to_elide, to_list, to_run, too_long}
 use Rattle.dpj_top.specs.Call.{Answers, AnswersBy, Appends, IsAnswered, Tells, text_for}
-use Rattle.dpj_top.specs.Promise.{AsksElision, IsAcceptedAs, IsReported, KeepsPromise, OwesElision, ReportsElision, as_elided, by_grammar, elision_for}
+use Rattle.dpj_top.specs.Promise.{AsksElision, IsAcceptedAs, IsReported, IsWithin, KeepsPromise, OwesElision, ReportsElision, as_elided, by_grammar, elision_for}
 use Rattle.dpj_top.proofs.Ranges.{words_within}
 
 -- the answer to a job and a text that are there
@@ -29,14 +29,14 @@ given_answer words held asked text answered e f is =
 
 -- where a run or an elision is asked, it is that to a program
 asked_of_program : (c : Command) (asked : Job) (text : List ℕ) (answered : Answered) → (c ≡ command.Replay → ⊥) → AnswersBy c asked text answered → IsAnswer asked text answered
-asked_of_program command.Replay asked text answered no a = absurd (no refl)
-asked_of_program command.Check asked text answered no a = a
-asked_of_program command.Run asked text answered no a = a
-asked_of_program command.Elide asked text answered no a = a
-asked_of_program command.«List» asked text answered no a = a
-asked_of_program command.Demo asked text answered no a = a
-asked_of_program command.Trace asked text answered no a = a
-asked_of_program command.Effects asked text answered no a = a
+asked_of_program command.Replay asked text answered never a = absurd (never refl)
+asked_of_program command.Check asked text answered never a = a
+asked_of_program command.Run asked text answered never a = a
+asked_of_program command.Elide asked text answered never a = a
+asked_of_program command.«List» asked text answered never a = a
+asked_of_program command.Demo asked text answered never a = a
+asked_of_program command.Trace asked text answered never a = a
+asked_of_program command.Effects asked text answered never a = a
 
 true_false : true ≡ false → ⊥
 true_false e = cc
@@ -46,8 +46,8 @@ asks_no_replay asked typed (inl run) e = true_false (sym run.0 ∙ ap asks_run e
 asks_no_replay asked typed (inr elide) e = absurd (cc (sym elide ∙ e))
 
 asks_no_other : (asked : Job) (typed : PlainProgram) (c : Command) → AsksElision asked typed → asked.command ≡ c → asks_run c ≡ false → (c ≡ command.Elide → ⊥) → ⊥
-asks_no_other asked typed c (inl run) e no other = true_false (sym run.0 ∙ ap asks_run e ∙ no)
-asks_no_other asked typed c (inr elide) e no other = other (sym e ∙ elide)
+asks_no_other asked typed c (inl run) e none other = true_false (sym run.0 ∙ ap asks_run e ∙ none)
+asks_no_other asked typed c (inr elide) e none other = other (sym e ∙ elide)
 
 module _ (keeps : KeepsPromise) (no_other : NoOtherFault) (one : OnePassing) (words : List (List ℕ)) (held before after : Option (List ℕ)) (status : Status) (recorded : Option Record)
     (tells : Tells words held before after status recorded) where
@@ -59,7 +59,7 @@ module _ (keeps : KeepsPromise) (no_other : NoOtherFault) (one : OnePassing) (wo
   owes asked text place typed e f accepted left asks =
       by (asked_of_program asked.command asked text tells.answered (asks_no_replay asked typed asks) (given_answer words held asked text tells.answered e f tells.is_answered)) refl
     where
-      within : _
+      within : IsWithin asked
       within = words_within words asked e
 
       elided : (c : Command) (schedule : List ℕ) → asked.command ≡ c → c ≡ command.Elide → told_by c asked text schedule (elision_for asked typed) ≡ Ran (elision_for asked typed)
@@ -84,7 +84,7 @@ module _ (keeps : KeepsPromise) (no_other : NoOtherFault) (one : OnePassing) (wo
       by : {answered : Answered} → IsAnswer asked text answered → answered ≡ tells.answered → ReportsElision asked text typed before after status
       by (too_long h) same = absurd (omega (arith, h, accepted.0))
       by (of_first_form program reads short first) same = elim left [
-        | inl no ↦ absurd (true_false (sym reads ∙ no))
+        | inl unread ↦ absurd (true_false (sym reads ∙ unread))
         | inr other ↦ absurd (other program first)
       ]
       by (faulty refusal short left_so fault) same =

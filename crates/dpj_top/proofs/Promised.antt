@@ -6,17 +6,18 @@ use Rattle.dpj_base.specs.declared.outcome.Outcome.{Outcome}
 use Rattle.dpj_base.specs.declared.place.Place.{Place}
 use Rattle.dpj_machine.specs.Keeping.{Played}
 use Rattle.dpj_typed.specs.Plain.{PlainProgram}
+use Rattle.dpj_typed.specs.WellTyped.{WellTyped}
 use Rattle.dpj_passed.specs.Laws.{Keeps, PassedKeeps}
 use Rattle.dpj_promise.specs.Promise.{GreedyMachinesElide, MachinesAreNotStuck, MachinesComeOutAsElided, MachinesGoOn, elision}
 use Rattle.dpj_promise.specs.Reduced.{ComesOutReduced, MachinesAreReduced}
-use Rattle.dpj_machine.specs.Keeping.{IsStuckAt, WhyHaltedAt}
+use Rattle.dpj_machine.specs.Keeping.{HaltsGreedily, HasEnded, IsStuckAt, WhyHaltedAt}
 use Rattle.dpj_machine.specs.declared.halted.Halted.{Halted}
 use Rattle.dpj_machine.specs.declared.halted.Halted.TheVariants as halt
-use Rattle.dpj_rounds.specs.Rounds.{BreaksOff, at_once, within}
+use Rattle.dpj_rounds.specs.Rounds.{BreaksOff, at_once, within as in_turn}
 use Rattle.dpj_run.specs.Run.{CannotGoOn, ComesOut, HasNoRun, IsElision, IsRunOf, finished, halted, never_begun, no_record, recorded_so, stuck, unfinished}
 use Rattle.dpj_run.specs.Run.{not_at_all as never}
 use Rattle.dpj_run.specs.Rounding.{HasNoRounds, by_rounds, no_rounds}
-use Rattle.dpj_run.specs.Rounding.HasNoRounds as rounds
+use Rattle.dpj_run.specs.Rounding.{HasNoRounds as rounds}
 use Rattle.dpj_run.specs.declared.recorded.Recorded.{Recorded}
 use Rattle.dpj_words.specs.declared.key.Mode.{Mode}
 use Rattle.dpj_words.specs.declared.key.Mode.TheVariants as mode
@@ -55,8 +56,8 @@ module _ (typed : PlainProgram) (keeps : Keeps typed) (L : Limits) (argument : �
     few_cells : (p : Played) → IsRunOf typed L argument p → p.limits.cells ≤ 16777216
     few_cells p is = subst (λ (k : Limits). k.cells ≤ 16777216) (sym is.limits) cells
 
-    on : (p : Played) → IsRunOf typed L argument p → _
-    on p is = machines typed p keeps.well_typed keeps.resolved keeps.has_main is.is_code (keeps.narrow p.code is.is_code) (few_steps p is) (few_cells p is) (fits_there p is) is.replayed
+    going : (p : Played) → IsRunOf typed L argument p → (HaltsGreedily p halt.Stuck → ⊥) × (p.outcome ≡ None → HasEnded p → ⊥)
+    going p is = machines typed p keeps.well_typed keeps.resolved keeps.has_main is.is_code (keeps.narrow p.code is.is_code) (few_steps p is) (few_cells p is) (fits_there p is) is.replayed
 
     not_stuck : (p : Played) → IsRunOf typed L argument p → (k : ℕ) → IsStuckAt p k → ⊥
     not_stuck p is k s =
@@ -65,12 +66,12 @@ module _ (typed : PlainProgram) (keeps : Keeps typed) (L : Limits) (argument : �
 
     pub goes_on : HasNoRun typed L argument → ⊥
     goes_on (never_begun wide) = wide.wide (keeps.narrow wide.code wide.is_code)
-    goes_on (halted p is (stuck halts)) = (on p is).0 halts
-    goes_on (halted p is (unfinished none ended)) = (on p is).1 none ended
+    goes_on (halted p is (stuck halts)) = (going p is).0 halts
+    goes_on (halted p is (unfinished none ended)) = (going p is).1 none ended
 
     no_break : (before p : Played) (h : Halted) → h ≡ halt.Stuck → IsRunOf typed L argument p → BreaksOff before p h → ⊥
     no_break before p h same is at_once = absurd (cc same)
-    no_break before p h same is (within _ _ tasks ready breaks) = by h same breaks.why
+    no_break before p h same is (in_turn _ _ tasks ready breaks) = by h same breaks.why
       where
         by : (h : Halted) → h ≡ halt.Stuck → WhyHaltedAt p breaks.task h → ⊥
         by halt.Stuck same why = not_stuck p is breaks.task why
@@ -78,7 +79,7 @@ module _ (typed : PlainProgram) (keeps : Keeps typed) (L : Limits) (argument : �
 
     pub goes_on_in_rounds : HasNoRounds typed L argument → ⊥
     goes_on_in_rounds (rounds.never_begun wide) = wide.wide (keeps.narrow wide.code wide.is_code)
-    goes_on_in_rounds (rounds.unfinished p is none ended) = (on p is.is_run).1 none ended
+    goes_on_in_rounds (rounds.unfinished p is none ended) = (going p is.is_run).1 none ended
     goes_on_in_rounds (rounds.broken_off p is) = no_break is.broken.middle p halt.Stuck refl is.is_run is.broken.breaks
 
     pub goes_on_by : (m : Mode) (workers : ℕ) → IsRunBy m typed L argument workers None → ⊥
@@ -93,22 +94,22 @@ made_run mode.Rounds typed L argument workers r (by_rounds _ p is alone) =
     (subst (λ q. IsRunOf typed L argument q) (sym alone.machine) is.is_run, ap (λ (q : Played). q.outcome) alone.machine ∙ alone.came)
 
 pub keeps_promise : MachinesComeOutAsElided → GreedyMachinesElide → MachinesAreReduced → MachinesAreNotStuck → MachinesGoOn → PassedKeeps → KeepsPromise
-keeps_promise machines greedy reduce never_stuck on passed = record { typed_well = typed_well; run = run; reduce = reduces; elide = elide }
+keeps_promise machines greedy reduce never_stuck goes passed = record { typed_well = typed_well; run = run; reduce = reduces; elide = elide }
   where
     kept : (text : List ℕ) (place : Place) (typed : PlainProgram) → IsAcceptedAs text place typed → Keeps typed
     kept text place typed accepted = passed text place typed accepted.0 accepted.1
 
-    typed_well : _
+    typed_well : (text : List ℕ) (place : Place) (typed : PlainProgram) → IsAcceptedAs text place typed → WellTyped typed
     typed_well text place typed accepted = (kept text place typed accepted).well_typed
 
     never_halts : (job : Job) (text : List ℕ) (place : Place) (typed : PlainProgram) → IsWithin job → IsAcceptedAs text place typed → HasNoRun typed (limits_of job) job.arg → ⊥
     never_halts job text place typed within accepted =
-        goes_on typed (kept text place typed accepted) (limits_of job) job.arg within.0.steps_most within.1 never_stuck on within.0.cells_most
+        goes_on typed (kept text place typed accepted) (limits_of job) job.arg within.0.steps_most within.1 never_stuck goes within.0.cells_most
 
     never_halts_by : (job : Job) (text : List ℕ) (place : Place) (typed : PlainProgram) → IsWithin job → IsAcceptedAs text place typed →
         IsRunBy job.mode typed (limits_of job) job.arg job.workers None → ⊥
     never_halts_by job text place typed within accepted =
-        goes_on_by typed (kept text place typed accepted) (limits_of job) job.arg within.0.steps_most within.1 never_stuck on within.0.cells_most job.mode job.workers
+        goes_on_by typed (kept text place typed accepted) (limits_of job) job.arg within.0.steps_most within.1 never_stuck goes within.0.cells_most job.mode job.workers
 
     made : (job : Job) (typed : PlainProgram) (r : Recorded) → IsRunBy job.mode typed (limits_of job) job.arg job.workers (Some r) →
         IsRunOf typed (limits_of job) job.arg r.record.machine × (r.record.machine.outcome ≡ Some r.outcome)
