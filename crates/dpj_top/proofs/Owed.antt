@@ -1,5 +1,5 @@
 -- What a call that tells of a verdict owes to a program, over plain variables.
-use Rattle.std.proofs.Common.{◌≡◌, ◌∙◌, ◌<◌, ◌≤◌, ℕ, true, false, List, [], length, Option, Some, None, MatchOption, IfSome, inl, inr, refl, sym, ap, subst, arith}
+use Rattle.std.proofs.Common.{◌≡◌, ◌∙◌, ℕ, true, false, List, [], Option, Some, MatchOption, IfSome, inl, inr, refl, sym, ap, subst, arith}
 use Rattle.dpj_base.specs.declared.place.Place.{Place}
 use Rattle.dpj_history.specs.declared.record.Record.{Record}
 use Rattle.dpj_typed.specs.Plain.{PlainProgram}
@@ -14,7 +14,7 @@ use Rattle.dpj_words.specs.declared.verdict.Status.{Status}
 use Rattle.dpj_words.specs.declared.verdict.Verdict.{Verdict}
 use Rattle.dpj_words.specs.declared.verdict.Verdict.TheVariants.{Ran, Refused, Usage}
 use Rattle.dpj_top.specs.declared.answered.Answered.{Answered}
-use Rattle.dpj_top.specs.Answer.{IsAnswer, IsAnswerOn, IsLeft, asks_run, faulty, max_text, of_first_form, of_program, only, told_by, told_of, to_check, to_effects, to_elide, to_list, to_run, too_long}
+use Rattle.dpj_top.specs.Answer.{IsAnswer, IsAnswerOn, asks_run, faulty, of_first_form, of_program, only, told_by, told_of, to_check, to_effects, to_elide, to_list, to_run, too_long}
 use Rattle.dpj_top.specs.Call.{Answers, AnswersBy, Appends, IsAnswered, Tells, text_for}
 use Rattle.dpj_top.specs.Promise.{AsksElision, IsAcceptedAs, IsReported, IsWithin, KeepsPromise, OwesElision, ReportsElision, as_elided, by_grammar, elision_for}
 use Rattle.dpj_top.proofs.Ranges.{words_within}

@@ -14,7 +14,7 @@ use Rattle.dpj_machine.specs.Keeping.{HaltsGreedily, HasEnded, IsStuckAt, WhyHal
 use Rattle.dpj_machine.specs.declared.halted.Halted.{Halted}
 use Rattle.dpj_machine.specs.declared.halted.Halted.TheVariants as halt
 use Rattle.dpj_rounds.specs.Rounds.{BreaksOff, at_once, within as in_turn}
-use Rattle.dpj_run.specs.Run.{CannotGoOn, ComesOut, HasNoRun, IsElision, IsRunOf, finished, halted, never_begun, no_record, recorded_so, stuck, unfinished}
+use Rattle.dpj_run.specs.Run.{ComesOut, HasNoRun, IsElision, IsRunOf, finished, halted, never_begun, no_record, recorded_so, stuck, unfinished}
 use Rattle.dpj_run.specs.Run.{not_at_all as never}
 use Rattle.dpj_run.specs.Rounding.{HasNoRounds, by_rounds, no_rounds}
 use Rattle.dpj_run.specs.Rounding.{HasNoRounds as rounds}

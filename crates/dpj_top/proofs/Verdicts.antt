@@ -1,12 +1,11 @@
 -- Answers, over plain variables.
-use Rattle.std.proofs.Common.{◌≡◌, ◌≢◌, ◌∙◌, ◌<◌, ◌≤◌, ◌⊎◌, ℕ, ℤ, Bool, true, false, List, length, Option, Some, None, IfSome, IfOk, Result, Ok, Err, MatchOption, cond, refl, sym, ap, subst, inl, inr, arith}
+use Rattle.std.proofs.Common.{◌≡◌, ◌≢◌, ◌∙◌, ◌≤◌, ◌⊎◌, ℕ, ℤ, Bool, true, false, List, length, Option, Some, None, IfOk, Result, Ok, Err, cond, refl, sym, ap, subst, inl, inr, arith}
 use Rattle.dpj_base.specs.declared.memory.NoMemory.{NoMemory}
 use Rattle.dpj_base.specs.declared.outcome.Limits.{Limits}
 use Rattle.dpj_base.specs.declared.outcome.Outcome.{Outcome}
 use Rattle.dpj_base.specs.declared.outcome.Ending.{Ending}
 use Rattle.dpj_base.specs.declared.outcome.Ending.TheVariants.{Done, Trapped, Limited}
 use Rattle.dpj_base.specs.declared.place.Place.{Place}
-use Rattle.dpj_base.specs.declared.refusal.Kind.TheVariants.{TooLong}
 use Rattle.dpj_base.specs.declared.refusal.Refusal.{Refusal}
 use Rattle.dpj_first.specs.declared.program.First.{First}
 use Rattle.dpj_first.specs.Form.{IsFirstForm}
@@ -16,7 +15,7 @@ use Rattle.dpj_words.specs.declared.job.Job.{Job}
 use Rattle.dpj_words.specs.declared.key.Mode.{Mode}
 use Rattle.dpj_words.specs.declared.verdict.Status.TheVariants as ended
 use Rattle.dpj_words.specs.declared.verdict.Verdict.{Verdict}
-use Rattle.dpj_words.specs.declared.verdict.Verdict.TheVariants.{Usage, Refused, Ran, Accepted}
+use Rattle.dpj_words.specs.declared.verdict.Verdict.TheVariants.{Refused, Accepted}
 use Rattle.dpj_words.specs.Jobs.{job}
 use Rattle.dpj_words.specs.Reports.{status_of, ending_status}
 use Rattle.dpj_typed.specs.Plain.{PlainProgram}
@@ -26,7 +25,7 @@ use Rattle.dpj_run.specs.Run.{ComesOut}
 use Rattle.dpj_run.specs.declared.recorded.Recorded.{Recorded}
 use Rattle.dpj_front.specs.Front.{IsPassed, IsFault}
 use Rattle.dpj_top.specs.declared.answered.Answered.{Answered}
-use Rattle.dpj_top.specs.Answer.{IsAnswer, too_long, of_first_form, faulty, of_program, IsDecided, is_long, is_first, has_no_tokens, IsLeft, IsRan, IsRunBy, came_out, not_at_all, IsElided, IsListing, IsAnswerOn, to_check, to_run, to_elide, to_list, to_effects, TellsEffects, told_by, told_of, limits_of, refused_form, verdict_of_elision, only, asks_run, asks_outcome, reads_form, first_answer, refused_at_start, max_text}
+use Rattle.dpj_top.specs.Answer.{IsAnswer, too_long, of_first_form, faulty, of_program, IsDecided, is_long, is_first, has_no_tokens, IsLeft, IsRan, IsRunBy, came_out, not_at_all, IsElided, IsListing, IsAnswerOn, to_check, to_run, to_elide, to_list, to_effects, TellsEffects, told_by, told_of, limits_of, refused_form, verdict_of_elision, only, asks_run, asks_outcome, reads_form, first_answer, max_text}
 
 pub ending_status-no-usage : (ending : Ending) → ending_status ending ≡ ended.Usage → ⊥
 ending_status-no-usage (Done value) e = cc
