@@ -29,5 +29,5 @@ run_rounds-requires-clause-main g c = c.requires.can_run.1
 pub returns-in-Rounds : goal.returns-in-Rounds
 returns-in-Rounds g c =
     let fits : SFits w32 c.args.job.now.arg = search rules in
-    run_in_mode c.args.job.now.mode mode.Rounds (plain_program c.args.typed.now) c.limits.result (limits_of c.args.job.now) _ c.args.job.now.arg c.args.job.now.workers
-    c.run_rounds.result c.in-Rounds.is c.limits.ensures (to_z-of_z fits) c.run_rounds.ensures
+    run_in_mode c.args.job.now.mode mode.Rounds (plain_program c.args.typed.now) c.limits-in-Rounds.result (limits_of c.args.job.now) _ c.args.job.now.arg c.args.job.now.workers
+    c.run_rounds.result c.in-Rounds.is c.limits-in-Rounds.ensures (to_z-of_z fits) c.run_rounds.ensures
