@@ -1,5 +1,5 @@
 -- What the answer to a run comes to by the source alone.
-use Rattle.std.specs.Prelude.{◌≡◌, ◌≤◌, ◌⊎◌, ℤ, FitsSigned, true, false, List, Option, Some, ℕ, length}
+use Rattle.std.specs.Prelude.{◌≡◌, ◌≤◌, ◌⊎◌, FitsSigned, true, false, List, Option, Some, ℕ, length}
 use Rattle.std.specs.Int.{w32}
 use Rattle.dpj_base.specs.declared.outcome.Outcome.{Outcome}
 use Rattle.dpj_base.specs.declared.place.Place.{Place}

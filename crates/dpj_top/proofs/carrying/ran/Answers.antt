@@ -1,4 +1,4 @@
-use Rattle.std.proofs.Common.{None, Some, sym, subst}
+use Rattle.std.proofs.Common.{sym, subst}
 use Rattle.dpj_front.specs.Judging.{CanRun, typed_of}
 use Rattle.dpj_top.specs.Answer.{IsRunBy, limits_of}
 use Rattle.dpj_top.proofs.Verdicts.{ran-so, not-ran}
