@@ -35,11 +35,10 @@ use Rattle.dpj_check.specs.Walks.{Walk, Verdict, passes, found_so, judged}
 use Rattle.dpj_parts.specs.Uses.{parts_interfere}
 use Rattle.dpj_resolved.proofs.Bodies.{free_if, free_found, declared_free}
 use Rattle.dpj_resolved.proofs.Free.{not_false}
-use Rattle.dpj_accepted.proofs.Covered.{Covered, FormCovered, AllCovered, all_covers}
 use Rattle.dpj_accepted.specs.Laws.{Stands, BlockPasses}
 use Rattle.dpj_accepted.specs.Naming.{Signed}
 use Rattle.dpj_accepted.specs.Ready.{Ready, Room, Calm}
-use Rattle.dpj_accepted.specs.Tree.{Fitting, StmtFitting, StmtFormFitting, StmtsFitting}
+use Rattle.dpj_written.specs.Written.{Fitting, StmtFitting, StmtFormFitting, StmtsFitting}
 use Rattle.dpj_accepted.proofs.Expressions.{int_is}
 use Rattle.dpj_accepted.proofs.Gathered.{nothing_gathered}
 use Rattle.dpj_accepted.proofs.InScopeStatements.{all_names}
@@ -48,7 +47,7 @@ use Rattle.dpj_accepted.proofs.Loops.{ready_iteration, foreach_plain, Inner}
 use Rattle.dpj_accepted.proofs.PartLoops.{cutting_so, Parted, ready_parts, parts_plain}
 use Rattle.dpj_accepted.proofs.Readiness.{ready_kept, ready_atomic}
 use Rattle.dpj_accepted.proofs.Singles.{assigning, performing, returning, printing}
-use Rattle.dpj_accepted.proofs.Statements.{Plainly, Goes, ScopeGoes, BlockGoes, OrderGoes, OtherGoes, room_free, expr_at, declaring_goes, plain_if, single_if, scope_if, block_if, order_if, later_reads, later_assigns, while_plain, choice_plain, atomic_plain, both_other}
+use Rattle.dpj_accepted.proofs.Statements.{Plainly, Goes, ScopeGoes, BlockGoes, OrderGoes, OtherGoes, expr_at, declaring_goes, plain_if, single_if, scope_if, block_if, order_if, later_reads, later_assigns, while_plain, choice_plain, atomic_plain, both_other}
 use Rattle.dpj_accepted.proofs.Targets.{placing}
 use Rattle.dpj_accepted.proofs.Walks.{If, judged_if, behind_if, OtherDone, checking_walked, standing_walked, scope_walked, order_walked, other_walked}
 use Rattle.std.specs.List.{list_any}
@@ -73,7 +72,7 @@ use Rattle.dpj_accepted.proofs.Branches.{BranchesAre, branches_static, AllApart,
 use Rattle.dpj_accepted.proofs.Clashing.{AllSame, same_effects, none_apart}
 use Rattle.dpj_accepted.proofs.Cobegins.{ready_branch}
 use Rattle.dpj_accepted.proofs.Gathered.{then_gathered, gathered_nd}
-use Rattle.dpj_accepted.proofs.Growing.{Kept, kept_same, kept_then, kept_step}
+use Rattle.dpj_accepted.proofs.Growing.{Kept, kept_same, kept_then, kept_step, room_free}
 use Rattle.dpj_accepted.proofs.InScope.{all_over_of}
 use Rattle.dpj_accepted.proofs.Left.{left_kept, taken}
 use Rattle.dpj_accepted.proofs.Loops.{atomic_same, marks_same}
@@ -93,10 +92,6 @@ module _ (P : PlainProgram) (signed : Signed P)
     abbrev OtherFitting : Option PlainStmt → Type 0
     OtherFitting None = Unit {0}
     OtherFitting (Some s) = StmtFitting s
-
-    abbrev OtherCovered : Option PlainStmt → Type 0
-    OtherCovered None = Unit {0}
-    OtherCovered (Some s) = Covered s
 
     abbrev other_reads : ℕ → Option PlainStmt → Bool
     other_reads x None = false
@@ -220,156 +215,156 @@ module _ (P : PlainProgram) (signed : Signed P)
     mutual
       -- a statement
       checking_goes : {params : List Bool} {around : Around} {node : Node} {f : tree.StmtForm} {w : Walk} {v : Verdict TypedStmt} (L : Scope) (reads assigns : ℕ → Bool) → Ready P L w.env params around reads assigns →
-          StmtFormFitting f → FormCovered f → ((x : ℕ) → IsTrue (stmt_form_reads x f) → IsTrue (reads x)) → ((x : ℕ) → IsTrue (stmt_form_assigns x f) → IsTrue (assigns x)) → Checking params around node f w v →
+          StmtFormFitting f → ((x : ℕ) → IsTrue (stmt_form_reads x f) → IsTrue (reads x)) → ((x : ℕ) → IsTrue (stmt_form_assigns x f) → IsTrue (assigns x)) → Checking params around node f w v →
           If (Goes P signed L params around reads assigns f w) v
-      checking_goes {params} {around} {node} {w = w} {v = v} L reads assigns ready fits covered all writes (Checking.of_block {all = body} {u = u} d j) =
+      checking_goes {params} {around} {node} {w = w} {v = v} L reads assigns ready fits all writes (Checking.of_block {all = body} {u = u} d j) =
           plain_if P signed L params around reads assigns (tree.block body) node w v (λ x. refl) (λ a b k. k) ready (checking_walked {params = params} {around = around} {node = node} {w = w} {v = v} ready.step (Checking.of_block d j))
           (subst (If (Plainly P signed L w)) j
-          (behind_if (BlockGoes P signed L w) (Plainly P signed L w) (fault_of node) (λ ss. statement node.place (typed.block (stmts_of ss))) u (block_goes L reads assigns ready fits covered all writes d)
+          (behind_if (BlockGoes P signed L w) (Plainly P signed L w) (fault_of node) (λ ss. statement node.place (typed.block (stmts_of ss))) u (block_goes L reads assigns ready fits all writes d)
           (λ made x free h. record { calm = h.calm; alone = λ room calm. (let r = h.goes room calm in record { effects = r.0; passes_so = Passes.nested r.1; gathers = r.2 }) })))
-      checking_goes {params} {around} L reads assigns ready fits covered all writes (Checking.of_declaration d) = declaring_goes P signed L params around reads assigns ready fits all d
-      checking_goes {params} {around} {node} {w = w} {v = v} L reads assigns ready fits covered all writes (Checking.of_local_assignment {target = target} {value = value} d) =
+      checking_goes {params} {around} L reads assigns ready fits all writes (Checking.of_declaration d) = declaring_goes P signed L params around reads assigns ready fits all d
+      checking_goes {params} {around} {node} {w = w} {v = v} L reads assigns ready fits all writes (Checking.of_local_assignment {target = target} {value = value} d) =
           plain_if P signed L params around reads assigns (tree.assign_local target value) node w v (λ x. refl) (λ a b k. k) ready (checking_walked {params = params} {around = around} {node = node} {w = w} {v = v} ready.step (Checking.of_local_assignment d))
           (single_if P signed L w v (λ made u is.
           assigning P L w reads assigns ready.tells ready.sees node target value u made fits (λ x h. all x h) (writes target.name (same_name target.name)) (subst (AssigningLocal node target value w) is d)))
-      checking_goes {params} {around} {node} {w = w} {v = v} L reads assigns ready fits covered all writes (Checking.of_field_assignment {target = target} {value = value} d) =
+      checking_goes {params} {around} {node} {w = w} {v = v} L reads assigns ready fits all writes (Checking.of_field_assignment {target = target} {value = value} d) =
           plain_if P signed L params around reads assigns (tree.assign_field target value) node w v (λ x. refl) (λ a b k. k) ready (checking_walked {params = params} {around = around} {node = node} {w = w} {v = v} ready.step (Checking.of_field_assignment d))
           (single_if P signed L w v (λ made u is.
           placing P L w reads assigns ready.tells ready.sees signed ready.locals node target value u made fits.0 fits.1 (λ x h. all x (or_left (expr_reads x target) (expr_reads x value) h))
           (λ x h. all x (or_right (expr_reads x target) (expr_reads x value) h)) (subst (AssigningPlace node target value w) is d)))
-      checking_goes {params} {around} {node} {w = w} {v = v} L reads assigns ready fits covered all writes (Checking.of_element_assignment {target = target} {value = value} d) =
+      checking_goes {params} {around} {node} {w = w} {v = v} L reads assigns ready fits all writes (Checking.of_element_assignment {target = target} {value = value} d) =
           plain_if P signed L params around reads assigns (tree.assign_element target value) node w v (λ x. refl) (λ a b k. k) ready (checking_walked {params = params} {around = around} {node = node} {w = w} {v = v} ready.step (Checking.of_element_assignment d))
           (single_if P signed L w v (λ made u is.
           placing P L w reads assigns ready.tells ready.sees signed ready.locals node target value u made fits.0 fits.1 (λ x h. all x (or_left (expr_reads x target) (expr_reads x value) h))
           (λ x h. all x (or_right (expr_reads x target) (expr_reads x value) h)) (subst (AssigningPlace node target value w) is d)))
-      checking_goes {params} {around} {node} {w = w} {v = v} L reads assigns ready fits covered all writes (Checking.of_call {value = value} d) =
+      checking_goes {params} {around} {node} {w = w} {v = v} L reads assigns ready fits all writes (Checking.of_call {value = value} d) =
           plain_if P signed L params around reads assigns (tree.perform value) node w v (λ x. refl) (λ a b k. k) ready (checking_walked {params = params} {around = around} {node = node} {w = w} {v = v} ready.step (Checking.of_call d))
           (single_if P signed L w v (λ made u is. performing P L w reads assigns ready.tells ready.sees node value u made fits.0 (λ x h. all x h) fits.1 (subst (Performing node value w) is d)))
-      checking_goes {params} {around} {node} {w = w} {v = v} L reads assigns ready fits covered all writes (Checking.of_return j) =
+      checking_goes {params} {around} {node} {w = w} {v = v} L reads assigns ready fits all writes (Checking.of_return j) =
           plain_if P signed L params around reads assigns tree.return_nothing node w v (λ x. refl) (λ a b k. k) ready (checking_walked {params = params} {around = around} {node = node} {w = w} {v = v} ready.step (Checking.of_return j))
           (subst (If (Plainly P signed L w)) j
           (plainly_judged L w _ _ _ (λ free.
           let p = or_parts around.enclosed (not (same_bool false around.has_result)) (free_if node kind.Return (is_misplaced around false) free).1 in
           no_return L w node.place (ready.returns.nothing p.0 (none_has around.has_result p.1)))))
-      checking_goes {params} {around} {node} {w = w} {v = v} L reads assigns ready fits covered all writes (Checking.of_return_value {value = value} d) =
+      checking_goes {params} {around} {node} {w = w} {v = v} L reads assigns ready fits all writes (Checking.of_return_value {value = value} d) =
           plain_if P signed L params around reads assigns (tree.return_value value) node w v (λ x. refl) (λ a b k. k) ready (checking_walked {params = params} {around = around} {node = node} {w = w} {v = v} ready.step (Checking.of_return_value d))
           (single_if P signed L w v (λ made u is. returning P L w reads assigns ready.tells ready.sees around node value u made fits (λ x h. all x h) ready.returns (subst (Returning around node value w) is d)))
-      checking_goes {params} {around} {node} {w = w} {v = v} L reads assigns ready fits covered all writes (Checking.of_print {value = value} d) =
+      checking_goes {params} {around} {node} {w = w} {v = v} L reads assigns ready fits all writes (Checking.of_print {value = value} d) =
           plain_if P signed L params around reads assigns (tree.print value) node w v (λ x. refl) (λ a b k. k) ready (checking_walked {params = params} {around = around} {node = node} {w = w} {v = v} ready.step (Checking.of_print d))
           (single_if P signed L w v (λ made u is. printing P L w reads assigns ready.tells ready.sees node value u made fits (λ x h. all x h) (subst (Printing node value w) is d)))
-      checking_goes {params} {around} {node} {w = w} {v = v} L reads assigns ready fits covered all writes (Checking.of_text {text = text} j) =
+      checking_goes {params} {around} {node} {w = w} {v = v} L reads assigns ready fits all writes (Checking.of_text {text = text} j) =
           plain_if P signed L params around reads assigns (tree.print_text text) node w v (λ x. refl) (λ a b k. k) ready (checking_walked {params = params} {around = around} {node = node} {w = w} {v = v} ready.step (Checking.of_text j))
           (subst (If (Plainly P signed L w)) j
           (plainly_judged L w _ _ _ (λ free. record { calm = λ c. c; alone = λ room calm. record { effects = []; passes_so = Passes.print_text; gathers = nothing_gathered w.found } })))
-      checking_goes {params} {around} {node} {w = w} L reads assigns ready fits covered all writes (Checking.of_regions {names = names} j) =
+      checking_goes {params} {around} {node} {w = w} L reads assigns ready fits all writes (Checking.of_regions {names = names} j) =
           subst (If (Goes P signed L params around reads assigns (tree.local_regions names) w)) j
           (judged_if (Goes P signed L params around reads assigns (tree.local_regions names) w) _ _ _ (λ free. regions_go P signed L params around reads assigns w ready names node free node.place))
-      checking_goes {params} {around} {node} {w = w} {v = v} L reads assigns ready fits covered all writes (Checking.of_choice {test = test} {part = first} d) =
+      checking_goes {params} {around} {node} {w = w} {v = v} L reads assigns ready fits all writes (Checking.of_choice {test = test} {part = first} d) =
           plain_if P signed L params around reads assigns (tree.choice test first) node w v (λ x. refl) (λ a b k. k) ready (checking_walked {params = params} {around = around} {node = node} {w = w} {v = v} ready.step (Checking.of_choice d))
-          (choosing_goes L reads assigns ready fits.0 fits.1 covered tt tt (λ x h. all x (or_left (expr_reads x test) (stmt_reads x first) h)) (λ x h. all x (or_right (expr_reads x test) (stmt_reads x first) h)) writes (λ x h. absurd (false≢true h)) (λ x h. absurd (false≢true h)) d)
-      checking_goes {params} {around} {node} {w = w} {v = v} L reads assigns ready fits covered all writes (Checking.of_choice_else {test = test} {first = first} {second = second} d) =
+          (choosing_goes L reads assigns ready fits.0 fits.1 tt (λ x h. all x (or_left (expr_reads x test) (stmt_reads x first) h)) (λ x h. all x (or_right (expr_reads x test) (stmt_reads x first) h)) writes (λ x h. absurd (false≢true h)) (λ x h. absurd (false≢true h)) d)
+      checking_goes {params} {around} {node} {w = w} {v = v} L reads assigns ready fits all writes (Checking.of_choice_else {test = test} {first = first} {second = second} d) =
           plain_if P signed L params around reads assigns (tree.choice_else test first second) node w v (λ x. refl) (λ a b k. k) ready (checking_walked {params = params} {around = around} {node = node} {w = w} {v = v} ready.step (Checking.of_choice_else d))
-          (choosing_goes L reads assigns ready fits.0 fits.1 covered.0 fits.2 covered.1
+          (choosing_goes L reads assigns ready fits.0 fits.1 fits.2
           (λ x h. all x (or_left (expr_reads x test || stmt_reads x first) (stmt_reads x second) (or_left (expr_reads x test) (stmt_reads x first) h)))
           (λ x h. all x (or_left (expr_reads x test || stmt_reads x first) (stmt_reads x second) (or_right (expr_reads x test) (stmt_reads x first) h)))
           (λ x h. writes x (or_left (stmt_assigns x first) (stmt_assigns x second) h)) (λ x h. all x (or_right (expr_reads x test || stmt_reads x first) (stmt_reads x second) h))
           (λ x h. writes x (or_right (stmt_assigns x first) (stmt_assigns x second) h)) d)
-      checking_goes L reads assigns ready fits covered all writes (Checking.while_refused d) = tt
-      checking_goes {params} {around} {node} {w = w} {v = v} L reads assigns ready fits covered all writes (Checking.of_while {test = test} {body = body} {t = t} {g = g} {u = u} d i j) =
+      checking_goes L reads assigns ready fits all writes (Checking.while_refused d) = tt
+      checking_goes {params} {around} {node} {w = w} {v = v} L reads assigns ready fits all writes (Checking.of_while {test = test} {body = body} {t = t} {g = g} {u = u} d i j) =
           plain_if P signed L params around reads assigns (tree.while_loop test body) node w v (λ x. refl) (λ a b k. k) ready (checking_walked {params = params} {around = around} {node = node} {w = w} {v = v} ready.step (Checking.of_while d i j))
           (subst (If (Plainly P signed L w)) j
           (behind_if (ScopeGoes P signed L (found_so w g)) (Plainly P signed L w) (fault_of (with_fault_if node kind.Type (not (may_be is_boolean (type_in t))))) (λ s. statement node.place (typed.while_loop (node_of test t) s)) u
-          (scope_goes L reads assigns ready fits.1 covered (λ x h. all x (or_right (expr_reads x test) (stmt_reads x body) h)) writes i)
+          (scope_goes L reads assigns ready fits.1 (λ x h. all x (or_right (expr_reads x test) (stmt_reads x body) h)) writes i)
           (λ made x free h.
           while_plain P signed L params around reads assigns node.place test w t g made x ready fits.0 (λ y k. all y (or_left (expr_reads y test) (stmt_reads y body) k)) d
           (not_false (may_be is_boolean (type_in t)) (free_if node kind.Type (not (may_be is_boolean (type_in t))) free).1) h)))
-      checking_goes {params} {around} {node} {w = w} {v = v} L reads assigns ready fits covered all writes (Checking.of_cobegin {nd = nd} {branches = branches} d) =
+      checking_goes {params} {around} {node} {w = w} {v = v} L reads assigns ready fits all writes (Checking.of_cobegin {nd = nd} {branches = branches} d) =
           plain_if P signed L params around reads assigns (tree.cobegin nd branches) node w v (λ x. refl) (λ a b k. k) ready
-          (checking_walked {params = params} {around = around} {node = node} {w = w} {v = v} ready.step (Checking.of_cobegin d)) (forking_goes L reads assigns ready fits covered all writes d)
-      checking_goes L reads assigns ready fits covered all writes (Checking.start_refused d) = tt
-      checking_goes L reads assigns ready fits covered all writes (Checking.count_refused d i) = tt
-      checking_goes {params} {around} {node} {w = w} {v = v} L reads assigns ready fits covered all writes (Checking.of_foreach {nd = nd} {var = var} {start = start} {count = count} {body = body} {t = t} {u = u} {g = g} {h = h} d i n) =
+          (checking_walked {params = params} {around = around} {node = node} {w = w} {v = v} ready.step (Checking.of_cobegin d)) (forking_goes L reads assigns ready fits all writes d)
+      checking_goes L reads assigns ready fits all writes (Checking.start_refused d) = tt
+      checking_goes L reads assigns ready fits all writes (Checking.count_refused d i) = tt
+      checking_goes {params} {around} {node} {w = w} {v = v} L reads assigns ready fits all writes (Checking.of_foreach {nd = nd} {var = var} {start = start} {count = count} {body = body} {t = t} {u = u} {g = g} {h = h} d i n) =
           plain_if P signed L params around reads assigns (tree.foreach nd var start count body) node w v (λ x. refl) (λ a b k. k) ready (checking_walked {params = params} {around = around} {node = node} {w = w} {v = v} ready.step (Checking.of_foreach d i n))
-          (iterating_goes w.found L reads assigns ready fits.2 covered (λ x k. all x (or_right (expr_reads x start || expr_reads x count) (not (var.name == x) && stmt_reads x body) k))
+          (iterating_goes w.found L reads assigns ready fits.2 (λ x k. all x (or_right (expr_reads x start || expr_reads x count) (not (var.name == x) && stmt_reads x body) k))
           (range_at L params around reads assigns node w start count t u g h ready fits.0 fits.1
           (λ x k. all x (or_left (expr_reads x start || expr_reads x count) (not (var.name == x) && stmt_reads x body) (or_left (expr_reads x start) (expr_reads x count) k)))
           (λ x k. all x (or_left (expr_reads x start || expr_reads x count) (not (var.name == x) && stmt_reads x body) (or_right (expr_reads x start) (expr_reads x count) k))) d i) n)
-      checking_goes {params} {around} {node} {w = w} {v = v} L reads assigns ready fits covered all writes (Checking.of_parts {view = view} {var = var} {array = array} {count = count} {body = body} d) =
+      checking_goes {params} {around} {node} {w = w} {v = v} L reads assigns ready fits all writes (Checking.of_parts {view = view} {var = var} {array = array} {count = count} {body = body} d) =
           plain_if P signed L params around reads assigns (tree.foreach_parts view var array count body) node w v (λ x. refl) (λ a b k. k) ready
-          (checking_walked {params = params} {around = around} {node = node} {w = w} {v = v} ready.step (Checking.of_parts d)) (parting_goes L reads assigns ready fits.0 fits.1 fits.2 covered all d)
-      checking_goes L reads assigns ready fits covered all writes (Checking.block_refused d) = tt
-      checking_goes {params} {around} {node} {w = w} {v = v} L reads assigns ready fits covered all writes (Checking.of_atomic {all = body} {u = u} {ss = ss} d j) =
+          (checking_walked {params = params} {around = around} {node = node} {w = w} {v = v} ready.step (Checking.of_parts d)) (parting_goes L reads assigns ready fits.0 fits.1 fits.2 all d)
+      checking_goes L reads assigns ready fits all writes (Checking.block_refused d) = tt
+      checking_goes {params} {around} {node} {w = w} {v = v} L reads assigns ready fits all writes (Checking.of_atomic {all = body} {u = u} {ss = ss} d j) =
           plain_if P signed L params around reads assigns (tree.atomic body) node w v (λ x. refl) (λ a b k. k) ready (checking_walked {params = params} {around = around} {node = node} {w = w} {v = v} ready.step (Checking.of_atomic d j))
           (subst (If (Plainly P signed L w)) j
           (plainly_judged L w _ _ _ (λ free.
           atomic_plain P signed L params around reads assigns node.place w ss u ready (free_if node kind.AtomicBody u.found.reaches_nd free).1
-          (block_goes (in_atomic_block L) reads assigns (ready_atomic P L w.env params around reads assigns ready) fits covered all writes d))))
+          (block_goes (in_atomic_block L) reads assigns (ready_atomic P L w.env params around reads assigns ready) fits all writes d))))
 
       choosing_goes : {params : List Bool} {around : Around} {node : Node} {test : PlainExpr} {first : PlainStmt} {other : Option PlainStmt} {w : Walk} {v : Verdict TypedStmt} (L : Scope) (reads assigns : ℕ → Bool) →
-          Ready P L w.env params around reads assigns → Fitting test → StmtFitting first → Covered first → OtherFitting other → OtherCovered other → ((x : ℕ) → IsTrue (expr_reads x test) → IsTrue (reads x)) →
+          Ready P L w.env params around reads assigns → Fitting test → StmtFitting first → OtherFitting other → ((x : ℕ) → IsTrue (expr_reads x test) → IsTrue (reads x)) →
           ((x : ℕ) → IsTrue (stmt_reads x first) → IsTrue (reads x)) → ((x : ℕ) → IsTrue (stmt_assigns x first) → IsTrue (assigns x)) → ((x : ℕ) → IsTrue (other_reads x other) → IsTrue (reads x)) →
           ((x : ℕ) → IsTrue (other_writes x other) → IsTrue (assigns x)) → Choosing params around node test first other w v → If (Plainly P signed L w) v
-      choosing_goes L reads assigns ready fits first_fits first_covered other_fits other_covered all first_all first_writes other_all other_writes_so (Choosing.test_refused d) = tt
-      choosing_goes L reads assigns ready fits first_fits first_covered other_fits other_covered all first_all first_writes other_all other_writes_so (Choosing.first_refused d i) = tt
-      choosing_goes {params} {around} {node} {test} {first} {other} {w} L reads assigns ready fits first_fits first_covered other_fits other_covered all first_all first_writes other_all other_writes_so
+      choosing_goes L reads assigns ready fits first_fits other_fits all first_all first_writes other_all other_writes_so (Choosing.test_refused d) = tt
+      choosing_goes L reads assigns ready fits first_fits other_fits all first_all first_writes other_all other_writes_so (Choosing.first_refused d i) = tt
+      choosing_goes {params} {around} {node} {test} {first} {other} {w} L reads assigns ready fits first_fits other_fits all first_all first_writes other_all other_writes_so
           (Choosing.chosen {x = y} {t = t} {g = g} {made = made} {u = u} d i n j) =
-          let s = scope_goes L reads assigns ready first_fits first_covered first_all first_writes i in
+          let s = scope_goes L reads assigns ready first_fits first_all first_writes i in
           let k = scope_walked ready.step i in
           let later : Ready P L y.env params around reads assigns = ready_kept P L w.env y.env params around reads assigns k.kept ready in
           subst (If (Plainly P signed L w)) j
           (behind_if (λ part u. OtherGoes P signed L other y part u × OtherDone other y part u) (Plainly P signed L w) (fault_of (with_fault_if node kind.Type (not (may_be is_boolean (type_in t)))))
           (λ part. statement node.place (choice_form (node_of test t) made part)) u
-          (both_other P signed L other y u (other_goes L reads assigns later other_fits other_covered other_all other_writes_so n) (other_walked later.step n))
+          (both_other P signed L other y u (other_goes L reads assigns later other_fits other_all other_writes_so n) (other_walked later.step n))
           (λ part x free o.
           choice_plain P signed L params around reads assigns node.place test other w y x t g made part ready fits all d (not_false (may_be is_boolean (type_in t)) (free_if node kind.Type (not (may_be is_boolean (type_in t))) free).1) s o.0 o.1))
 
       other_goes : {params : List Bool} {around : Around} {other : Option PlainStmt} {w : Walk} {v : Verdict (Option TypedStmt)} (L : Scope) (reads assigns : ℕ → Bool) → Ready P L w.env params around reads assigns →
-          OtherFitting other → OtherCovered other → ((x : ℕ) → IsTrue (other_reads x other) → IsTrue (reads x)) → ((x : ℕ) → IsTrue (other_writes x other) → IsTrue (assigns x)) → InOther params around other w v →
+          OtherFitting other → ((x : ℕ) → IsTrue (other_reads x other) → IsTrue (reads x)) → ((x : ℕ) → IsTrue (other_writes x other) → IsTrue (assigns x)) → InOther params around other w v →
           If (OtherGoes P signed L other w) v
-      other_goes L reads assigns ready fits covered all writes InOther.no_other = refl
-      other_goes {w = w} L reads assigns ready fits covered all writes (InOther.an_other {s = s} {u = u} d j) =
+      other_goes L reads assigns ready fits all writes InOther.no_other = refl
+      other_goes {w = w} L reads assigns ready fits all writes (InOther.an_other {s = s} {u = u} d j) =
           subst (If (OtherGoes P signed L (Some s) w)) j
-          (behind_if (ScopeGoes P signed L w) (OtherGoes P signed L (Some s) w) None Some u (scope_goes L reads assigns ready fits covered all writes d) (λ made x free h. h))
+          (behind_if (ScopeGoes P signed L w) (OtherGoes P signed L (Some s) w) None Some u (scope_goes L reads assigns ready fits all writes d) (λ made x free h. h))
 
       scope_goes : {params : List Bool} {around : Around} {s : PlainStmt} {w : Walk} {v : Verdict TypedStmt} (L : Scope) (reads assigns : ℕ → Bool) → Ready P L w.env params around reads assigns →
-          StmtFitting s → Covered s → ((x : ℕ) → IsTrue (stmt_reads x s) → IsTrue (reads x)) → ((x : ℕ) → IsTrue (stmt_assigns x s) → IsTrue (assigns x)) → InScope params around s w v → If (ScopeGoes P signed L w) v
-      scope_goes {params} {around} {w = w} L reads assigns ready fits covered all writes (in_scope {u = u} (standing {f = f} d) j) =
-          subst (If (ScopeGoes P signed L w)) j (scope_if P signed L params around reads assigns f w u (checking_goes L reads assigns ready fits covered all writes d))
+          StmtFitting s → ((x : ℕ) → IsTrue (stmt_reads x s) → IsTrue (reads x)) → ((x : ℕ) → IsTrue (stmt_assigns x s) → IsTrue (assigns x)) → InScope params around s w v → If (ScopeGoes P signed L w) v
+      scope_goes {params} {around} {w = w} L reads assigns ready fits all writes (in_scope {u = u} (standing {f = f} d) j) =
+          subst (If (ScopeGoes P signed L w)) j (scope_if P signed L params around reads assigns f w u (checking_goes L reads assigns ready fits all writes d))
 
       block_goes : {params : List Bool} {around : Around} {all : PlainStmts} {w : Walk} {v : Verdict (List TypedStmt)} (L : Scope) (reads assigns : ℕ → Bool) → Ready P L w.env params around reads assigns →
-          StmtsFitting all → AllCovered all → ((x : ℕ) → IsTrue (stmts_read x all) → IsTrue (reads x)) → ((x : ℕ) → IsTrue (stmts_assign x all) → IsTrue (assigns x)) → InBlock params around all w v →
+          StmtsFitting all → ((x : ℕ) → IsTrue (stmts_read x all) → IsTrue (reads x)) → ((x : ℕ) → IsTrue (stmts_assign x all) → IsTrue (assigns x)) → InBlock params around all w v →
           If (BlockGoes P signed L w) v
-      block_goes {w = w} L reads assigns ready fits covered all writes (in_block {u = u} d j) = subst (If (BlockGoes P signed L w)) j (block_if P signed L w u (order_goes L reads assigns ready fits covered all writes d))
+      block_goes {w = w} L reads assigns ready fits all writes (in_block {u = u} d j) = subst (If (BlockGoes P signed L w)) j (block_if P signed L w u (order_goes L reads assigns ready fits all writes d))
 
       order_goes : {params : List Bool} {around : Around} {before : Bool} {ss : PlainStmts} {w : Walk} {v : Verdict (List TypedStmt)} (L : Scope) (reads assigns : ℕ → Bool) → Ready P L w.env params around reads assigns →
-          StmtsFitting ss → AllCovered ss → ((x : ℕ) → IsTrue (stmts_read x ss) → IsTrue (reads x)) → ((x : ℕ) → IsTrue (stmts_assign x ss) → IsTrue (assigns x)) → InOrder params around before ss w v →
+          StmtsFitting ss → ((x : ℕ) → IsTrue (stmts_read x ss) → IsTrue (reads x)) → ((x : ℕ) → IsTrue (stmts_assign x ss) → IsTrue (assigns x)) → InOrder params around before ss w v →
           If (OrderGoes P signed L w) v
-      order_goes {w = w} L reads assigns ready fits covered all writes InOrder.none_left = record { calm = λ c. c; goes = λ room calm. ([], AllPass.no_more, nothing_gathered w.found, tt) }
-      order_goes L reads assigns ready fits covered all writes (InOrder.statement_refused d) = tt
-      order_goes {params} {around} {before} {w = w} L reads assigns ready fits covered all writes (InOrder.then_others {ss = ss} {u = u} {made = made} {x = x} (standing {place = place} {f = f} d) rest j) =
-          let g = checking_goes L reads assigns ready fits.0 covered.0 (λ y h. all y (or_left (stmt_form_reads y f) (not (declares_form y f) && stmts_read y ss) h))
+      order_goes {w = w} L reads assigns ready fits all writes InOrder.none_left = record { calm = λ c. c; goes = λ room calm. ([], AllPass.no_more, nothing_gathered w.found, tt) }
+      order_goes L reads assigns ready fits all writes (InOrder.statement_refused d) = tt
+      order_goes {params} {around} {before} {w = w} L reads assigns ready fits all writes (InOrder.then_others {ss = ss} {u = u} {made = made} {x = x} (standing {place = place} {f = f} d) rest j) =
+          let g = checking_goes L reads assigns ready fits.0 (λ y h. all y (or_left (stmt_form_reads y f) (not (declares_form y f) && stmts_read y ss) h))
           (λ y h. writes y (or_left (stmt_form_assigns y f) (not (declares_form y f) && stmts_assign y ss) h)) d in
           let k = standing_walked ready.step (standing d) in
           let next = g.ready (λ y. stmts_read y ss) (λ y. stmts_assign y ss) (later_reads P signed f place ss reads all) (later_assigns P signed f place ss assigns writes) in
           subst (If (OrderGoes P signed L w)) j
           (order_if P signed L params around reads assigns before place f ss w u made ready k.1 g x (order_walked next.step rest)
-          (order_goes g.scope (λ y. stmts_read y ss) (λ y. stmts_assign y ss) next fits.1 covered.1 (λ y h. h) (λ y h. h) rest))
+          (order_goes g.scope (λ y. stmts_read y ss) (λ y. stmts_assign y ss) next fits.1 (λ y h. h) (λ y h. h) rest))
 
       iterating_goes : {params : List Bool} {around : Around} {node : Node} {nd : Bool} {var : Named} {lowest size : TypedExpr} {body : PlainStmt} {x : Walk} {v : Verdict TypedStmt} (found : Found) (L : Scope)
-          (reads assigns : ℕ → Bool) → Ready P L x.env params around reads assigns → StmtFitting body → Covered body → ((n : ℕ) → IsTrue (not (var.name == n) && stmt_reads n body) → IsTrue (reads n)) →
+          (reads assigns : ℕ → Bool) → Ready P L x.env params around reads assigns → StmtFitting body → ((n : ℕ) → IsTrue (not (var.name == n) && stmt_reads n body) → IsTrue (reads n)) →
           (fault_of node ≡ None → Range L found lowest size x.found) → Iterating params around node nd var lowest size body x v → If (Plainly P signed L (record { env = x.env; found = found })) v
-      iterating_goes found L reads assigns ready fits covered all range (Iterating.iteration_refused b) = tt
-      iterating_goes found L reads assigns ready fits covered all range (Iterating.iteration_assigning assigns_so b a told) = tt
-      iterating_goes {params} {around} {node} {nd} {var} {lowest} {size} {body} {x} found L reads assigns ready fits covered all range (Iterating.iterated {u = z} {made = made} assigns_so b a free j) =
+      iterating_goes found L reads assigns ready fits all range (Iterating.iteration_refused b) = tt
+      iterating_goes found L reads assigns ready fits all range (Iterating.iteration_assigning assigns_so b a told) = tt
+      iterating_goes {params} {around} {node} {nd} {var} {lowest} {size} {body} {x} found L reads assigns ready fits all range (Iterating.iterated {u = z} {made = made} assigns_so b a free j) =
           let w : Walk = record { env = x.env; found = found } in
           let f = free_if (variable_noted x.env var node) kind.Assign assigns_so free in
-          let has_one = room_free P signed x.env var.name var.place node f.0 in
+          let has_one = room_free x.env var.name var.place node f.0 in
           let r = range (declared_free x.env var.name var.place node f.0) in
           let none : (n : ℕ) → IsTrue (stmt_assigns n body) → ⊥ = λ n k. false≢true (sym f.1 ∙ a.1 (n, k)) in
           let begun : Ready P (Inner P signed L params around reads assigns w ready) (variable_declared x.env var) params (inside around) (λ n. stmt_reads n body) (λ n. stmt_assigns n body) =
           subst (λ q. Ready P (Inner P signed L params around reads assigns w ready) (cond q (with_local x.env var.name variant.Int true) x.env) params (inside around) (λ n. stmt_reads n body) (λ n. stmt_assigns n body)) (sym has_one)
           (ready_iteration P signed L params around reads assigns w ready var body all none) in
-          let s = scope_goes (Inner P signed L params around reads assigns w ready) (λ n. stmt_reads n body) (λ n. stmt_assigns n body) begun fits covered (λ n k. k) (λ n k. k) b in
+          let s = scope_goes (Inner P signed L params around reads assigns w ready) (λ n. stmt_reads n body) (λ n. stmt_assigns n body) begun fits (λ n k. k) (λ n k. k) b in
           let more = (scope_walked begun.step b).kept.slots in
           let slots_are = ap (λ q. slots_in (cond q (with_local x.env var.name variant.Int true) x.env)) has_one in
           subst (If (Plainly P signed L w)) j
@@ -380,19 +375,19 @@ module _ (P : PlainProgram) (signed : Signed P)
           (iterations_clash (given_in x.env) (declared_atomic params nd x.env) (slots_in x.env) (with_uses z.found.effects z.found.uses)) later).1))
 
       parting_goes : {params : List Bool} {around : Around} {node : Node} {view var : Named} {array count : PlainExpr} {body : PlainStmt} {w : Walk} {v : Verdict TypedStmt} (L : Scope) (reads assigns : ℕ → Bool) →
-          Ready P L w.env params around reads assigns → Fitting array → Fitting count → StmtFitting body → Covered body →
+          Ready P L w.env params around reads assigns → Fitting array → Fitting count → StmtFitting body →
           ((x : ℕ) → IsTrue ((expr_reads x array || expr_reads x count) || (not (view.name == x) && (not (var.name == x) && stmt_reads x body))) → IsTrue (reads x)) → Parting params around node view var array count body w v →
           If (Plainly P signed L w) v
-      parting_goes L reads assigns ready array_fits count_fits fits covered all (Parting.range_refused o) = tt
-      parting_goes L reads assigns ready array_fits count_fits fits covered all (Parting.part_refused o b) = tt
-      parting_goes L reads assigns ready array_fits count_fits fits covered all (Parting.part_assigning assigns_so o b a told) = tt
-      parting_goes {params} {around} {node} {view} {var} {array} {count} {body} {w} L reads assigns ready array_fits count_fits fits covered all
+      parting_goes L reads assigns ready array_fits count_fits fits all (Parting.range_refused o) = tt
+      parting_goes L reads assigns ready array_fits count_fits fits all (Parting.part_refused o b) = tt
+      parting_goes L reads assigns ready array_fits count_fits fits all (Parting.part_assigning assigns_so o b a told) = tt
+      parting_goes {params} {around} {node} {view} {var} {array} {count} {body} {w} L reads assigns ready array_fits count_fits fits all
           (Parting.parted {u = z} {made = made} assigns_so (Opening.both_given t {source = source} {fault = fault} {g = g} {h = h} {u = q} c d) b a free j) =
           let first : Node = with_fault_if (with_found node fault) kind.Type (not (may_be is_int (type_in q))) in
           let f = free_if (parts_noted w.env view var t first) kind.Assign assigns_so free in
-          let var_room = room_free P signed (part_declared w.env view.name t) var.name var.place (declaration_noted w.env view.name view.place first) f.0 in
+          let var_room = room_free (part_declared w.env view.name t) var.name var.place (declaration_noted w.env view.name view.place first) f.0 in
           let before = declared_free (part_declared w.env view.name t) var.name var.place (declaration_noted w.env view.name view.place first) f.0 in
-          let view_room = room_free P signed w.env view.name view.place first before in
+          let view_room = room_free w.env view.name view.place first before in
           let count_int = free_if (with_found node fault) kind.Type (not (may_be is_int (type_in q))) (declared_free w.env view.name view.place first before) in
           let cut = cutting_so P signed L params around reads assigns w ready array_fits
           (λ x k. all x (or_left (expr_reads x array || expr_reads x count) (not (view.name == x) && (not (var.name == x) && stmt_reads x body)) (or_left (expr_reads x array) (expr_reads x count) k))) c
@@ -408,7 +403,7 @@ module _ (P : PlainProgram) (signed : Signed P)
           subst (λ e. Ready P N e params (inside around) (λ n. stmt_reads n body) (λ n. stmt_assigns n body)) (sym env_is)
           (ready_parts P signed L params around reads assigns w ready cut.elem cut.path cut.names view var t body cut.is
           (λ x k. all x (or_right (expr_reads x array || expr_reads x count) (not (view.name == x) && (not (var.name == x) && stmt_reads x body)) k)) none) in
-          let s = scope_goes N (λ n. stmt_reads n body) (λ n. stmt_assigns n body) begun fits covered (λ n k. k) (λ n k. k) b in
+          let s = scope_goes N (λ n. stmt_reads n body) (λ n. stmt_assigns n body) begun fits (λ n k. k) (λ n k. k) b in
           let more = (scope_walked begun.step b).kept.slots in
           let slots_are = ap slots_in env_is in
           subst (If (Plainly P signed L w)) j
@@ -420,28 +415,28 @@ module _ (P : PlainProgram) (signed : Signed P)
           (parts_interfere (given_in w.env) (part_slot w.env) (part_variable w.env) z.found.effects z.found.uses) later).1)))
 
       branching_goes : {params : List Bool} {around : Around} {nd : Bool} {ss : PlainStmts} {w : Walk} {v : BranchesVerdict} (outer : Around) (L : Scope) (reads assigns : ℕ → Bool) (env : Env) → around ≡ inside outer →
-          Ready P L env params outer reads assigns → Kept env w.env → StmtsFitting ss → AllCovered ss → ((n : ℕ) → IsTrue (branches_read n ss) → IsTrue (reads n)) → ((n : ℕ) → IsTrue (branches_assign n ss) → IsTrue (assigns n)) →
+          Ready P L env params outer reads assigns → Kept env w.env → StmtsFitting ss → ((n : ℕ) → IsTrue (branches_read n ss) → IsTrue (reads n)) → ((n : ℕ) → IsTrue (branches_assign n ss) → IsTrue (assigns n)) →
           Branching params around nd ss w v → BranchesVerdictGo L env nd ss w v
-      branching_goes {nd = nd} {w = w} outer L reads assigns env at ready kept fits covered all writes Branching.no_branches =
+      branching_goes {nd = nd} {w = w} outer L reads assigns env at ready kept fits all writes Branching.no_branches =
           record { calm = λ c. c; go = λ room calm are apart others earlier. ([], BranchesPass.no_branch, tt, subst (λ k. Gathers w.found k w.found) (none_behind nd) (nothing_gathered w.found)) }
-      branching_goes outer L reads assigns env at ready kept fits covered all writes (Branching.branch_refused d) = tt
-      branching_goes {params} {around} {nd} {w = w} outer L reads assigns env at ready kept fits covered all writes (Branching.then_branches {s = s} {ss = ss} {u = u} {touched = t} {made = made} {v = v} d touches rest j) =
+      branching_goes outer L reads assigns env at ready kept fits all writes (Branching.branch_refused d) = tt
+      branching_goes {params} {around} {nd} {w = w} outer L reads assigns env at ready kept fits all writes (Branching.then_branches {s = s} {ss = ss} {u = u} {touched = t} {made = made} {v = v} d touches rest j) =
           let step = kept_step env w.env kept ready.step in
           let k = scope_walked step d in
           subst (BranchesVerdictGo L env nd (tree.more_stmts s ss) w) j
           (branch_then L params outer reads assigns env nd s ss w u t made v ready kept all writes
-          (λ M begun. scope_goes M (λ n. stmt_reads n s) (λ n. stmt_assigns n s) (subst (λ a. Ready P M w.env params a (λ n. stmt_reads n s) (λ n. stmt_assigns n s)) (sym at) begun) fits.0 covered.0 (λ n h. h) (λ n h. h) d)
+          (λ M begun. scope_goes M (λ n. stmt_reads n s) (λ n. stmt_assigns n s) (subst (λ a. Ready P M w.env params a (λ n. stmt_reads n s) (λ n. stmt_assigns n s)) (sym at) begun) fits.0 (λ n h. h) (λ n h. h) d)
           (branching_walked (kept_step w.env u.env k.kept step) rest)
-          (branching_goes outer L reads assigns env at ready (kept_then env w.env u.env kept k.kept) fits.1 covered.1 (λ n h. all n (or_right (stmt_reads n s) (branches_read n ss) h))
+          (branching_goes outer L reads assigns env at ready (kept_then env w.env u.env kept k.kept) fits.1 (λ n h. all n (or_right (stmt_reads n s) (branches_read n ss) h))
           (λ n h. writes n (or_right (stmt_assigns n s) (branches_assign n ss) h)) rest))
 
       forking_goes : {params : List Bool} {around : Around} {node : Node} {nd : Bool} {branches : PlainStmts} {w : Walk} {v : Verdict TypedStmt} (L : Scope) (reads assigns : ℕ → Bool) → Ready P L w.env params around reads assigns →
-          StmtsFitting branches → AllCovered branches → ((n : ℕ) → IsTrue (branches_read n branches) → IsTrue (reads n)) → ((n : ℕ) → IsTrue (branches_assign n branches) → IsTrue (assigns n)) →
+          StmtsFitting branches → ((n : ℕ) → IsTrue (branches_read n branches) → IsTrue (reads n)) → ((n : ℕ) → IsTrue (branches_assign n branches) → IsTrue (assigns n)) →
           Forking params around node nd branches w v → If (Plainly P signed L w) v
-      forking_goes L reads assigns ready fits covered all writes (Forking.some_refused d) = tt
-      forking_goes L reads assigns ready fits covered all writes (Forking.clashing effects touched clash d c told) = tt
-      forking_goes {params} {around} {node} {nd} {branches} {w} L reads assigns ready fits covered all writes (Forking.forked {u = u} effects touched {made = made} clash apart d c free a j) =
-          let g = branching_goes around L reads assigns w.env refl ready (kept_same w.env) fits covered all writes d in
+      forking_goes L reads assigns ready fits all writes (Forking.some_refused d) = tt
+      forking_goes L reads assigns ready fits all writes (Forking.clashing effects touched clash d c told) = tt
+      forking_goes {params} {around} {node} {nd} {branches} {w} L reads assigns ready fits all writes (Forking.forked {u = u} effects touched {made = made} clash apart d c free a j) =
+          let g = branching_goes around L reads assigns w.env refl ready (kept_same w.env) fits all writes d in
           let f = free_if node kind.Assign clash free in
           subst (If (Plainly P signed L w)) j
           (plainly_judged L w _ _ _ (λ later.
@@ -452,5 +447,5 @@ module _ (P : PlainProgram) (signed : Signed P)
         ((x : ℕ) → IsTrue (stmts_read x all) → IsTrue (reads x)) → ((x : ℕ) → IsTrue (stmts_assign x all) → IsTrue (assigns x)) → (made : List TypedStmt) (u : Walk) → InBlock params around all w (passes made u) →
         Room L u.env → Calm L u → BlockPasses P L w.found made u.found
     block_agrees L params around reads assigns w ready all fits all_reads all_writes made u d room calm =
-        let r = (block_goes L reads assigns ready fits (all_covers all) all_reads all_writes d).goes room calm in
+        let r = (block_goes L reads assigns ready fits all_reads all_writes d).goes room calm in
         record { effects = r.0; passes_so = r.1; gathers = r.2; in_scope = all_names P signed ready.locals r.1 }

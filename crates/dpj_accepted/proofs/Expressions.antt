@@ -69,13 +69,13 @@ use Rattle.dpj_resolved.proofs.Lists.{some_same, ok_same}
 use Rattle.dpj_accepted.specs.Gathered.{Gathers}
 use Rattle.dpj_accepted.specs.Laws.{Stands}
 use Rattle.dpj_accepted.specs.Seen.{AllStand, RowIs, Tells, Sees, FieldSeen, MethodSeen, ClassSeen}
-use Rattle.dpj_accepted.specs.Tree.{Fitting, FormFitting, AllFitting}
-use Rattle.dpj_accepted.proofs.Args.{args_good}
+use Rattle.dpj_written.specs.Written.{Fitting, FormFitting, AllFitting}
+use Rattle.dpj_declared.proofs.Args.{args_good}
 use Rattle.dpj_accepted.proofs.InScope.{stands_with}
 use Rattle.dpj_accepted.proofs.Meant.{meant, created_good}
 use Rattle.dpj_accepted.proofs.Gathered.{nothing_gathered, one_gathered, use_gathered, then_gathered, all_gathered, gathered_nd}
 use Rattle.dpj_accepted.proofs.Partial.{readable_from, all_known}
-use Rattle.dpj_accepted.proofs.Paths.{Meaning}
+use Rattle.dpj_declared.proofs.Paths.{Meaning}
 use Rattle.dpj_accepted.proofs.Subtypes.{fits_subtype}
 
 -- tests of types
@@ -596,8 +596,8 @@ module _ (P : PlainProgram) (L : Scope) (env : Env) (may_read may_assign : ℕ �
                 (subst (λ z. Above P class m.args z owned) (sym n.seen.class) n.above)
                 (subst (λ z. GoodArgs P L 0 z n.seen.member.given owned regions) (sym n.seen.params) (subst (λ z. GoodArgs P L 0 (map (λ param. param.atomic) row.regions) z owned regions) (sym n.seen.given) args.0))
                 args.1
-                (subst (All (Known all)) (sym n.seen.formals) (all_known row.params owned regions some_partial.0 n.few args.1))
-                (subst (Readable all) (sym n.seen.result) (readable_from (plain_type row.result) owned regions some_partial.1 n.few args.1))
+                (subst (All (Known all)) (sym n.seen.formals) (all_known row.params owned regions some_partial.0 n.formals_numbered args.1))
+                (subst (Readable all) (sym n.seen.result) (readable_from (plain_type row.result) owned regions some_partial.1 n.result_numbered args.1))
                 (subst (λ z. Fit P L (nodes_at place ts) (map (type_with all) z) acts.effects) (sym n.seen.formals) (acts.fit (λ z. (or_false h.reaches_nd (is_forking (table_of env) row.id) (c z)).0)))
                 (λ calm. n.calm (or_false h.reaches_nd (is_forking (table_of env) row.id) (c calm)).1)
                 (ap (type_with all) (sym n.seen.result));

@@ -1,13 +1,18 @@
 -- How what is in scope changes from one place of a body to a later one.
-use Rattle.std.proofs.Common.{◌≡◌, ◌∙◌, ◌≤◌, ◌+◌, ◌==◌, ℕ, suc, Bool, true, false, cond, List, [], ◌∷◌, ◌++◌, map, length, take, Option, Some, refl, sym, ap, subst, arith}
+use Rattle.std.proofs.Common.{◌≡◌, ◌∙◌, ◌≤◌, ◌+◌, ◌==◌, ℕ, suc, Bool, true, false, cond, List, [], ◌∷◌, ◌++◌, map, length, take, is_some, Option, Some, None, refl, sym, ap, subst, arith}
+use Rattle.dpj_base.specs.declared.place.Place.{Place}
+use Rattle.dpj_base.specs.declared.refusal.Kind.TheVariants as kind
 use Rattle.dpj_base.specs.declared.ty.Ty.{Ty}
 use Rattle.dpj_base.specs.declared.ty.Ty.TheVariants as variant
 use Rattle.dpj_tree.specs.declared.region.Named.{Named}
 use Rattle.dpj_exprs.specs.declared.env.Env.{Env}
 use Rattle.dpj_exprs.specs.declared.env.LocalRow.{LocalRow}
 use Rattle.dpj_exprs.specs.Env.{local_of, index_slot, local_row, part_row, with_row_in, with_local, with_part, with_region, left_to, mark_of}
+use Rattle.dpj_check.specs.declared.node.Node.{Node}
 use Rattle.dpj_check.specs.Checking.{parts_declared}
-use Rattle.dpj_check.specs.Simple.{has_room, local_declared, part_declared, region_declared, with_regions}
+use Rattle.dpj_check.specs.Noting.{with_fault, fault_of}
+use Rattle.dpj_check.specs.Simple.{has_room, local_declared, part_declared, region_declared, declaration_noted, with_regions}
+use Rattle.dpj_resolved.proofs.Bodies.{not_faulty}
 use Rattle.dpj_accepted.specs.Seen.{InStep}
 use Rattle.dpj_accepted.proofs.Declaring.{local_pushed, step_declared, step_row}
 
@@ -304,3 +309,11 @@ region_other env name x = by (has_room env)
 pub regions_other : (env : Env) (names : List Named) (x : ℕ) → local_of (with_regions env names) x ≡ local_of env x
 regions_other env [] x = refl
 regions_other env (named ∷ names) x = regions_other (region_declared env named.name) names x ∙ region_other env named.name x
+
+-- a declaration of which no fault is told has room
+pub room_free : (env : Env) (name : ℕ) (place : Place) (node : Node) → fault_of (declaration_noted env name place node) ≡ None → has_room env ≡ true
+room_free env name place node h = by (has_room env) (cond (is_some (local_of env name)) (with_fault node kind.Duplicate place) node) h
+  where
+    by : (b : Bool) (x : Node) → fault_of (cond b x (with_fault x kind.TooLong place)) ≡ None → b ≡ true
+    by true x e = refl
+    by false x e = absurd (not_faulty x kind.TooLong place e)

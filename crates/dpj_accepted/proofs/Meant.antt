@@ -38,10 +38,10 @@ use Rattle.dpj_resolved.proofs.Free.{none_told, parts_free, append_none, fault_n
 use Rattle.dpj_resolved.proofs.Known.{type_known}
 use Rattle.dpj_resolved.proofs.Lists.{some_same, ok_same, and_then_there, map_there}
 use Rattle.dpj_accepted.specs.Seen.{RowIs, Tells, Sees}
-use Rattle.dpj_accepted.proofs.Args.{three_false}
-use Rattle.dpj_accepted.proofs.Indices.{AllSpeak, path_speaks}
-use Rattle.dpj_accepted.proofs.Paths.{Meaning, own, path_begun, begun_either, path_full}
-use Rattle.dpj_accepted.proofs.Types.{ClassesMean, names_of, few_written, array_good, not_in_local, judged_good, type_good}
+use Rattle.dpj_declared.proofs.Args.{three_false}
+use Rattle.dpj_declared.proofs.Indices.{AllSpeak, path_speaks}
+use Rattle.dpj_declared.proofs.Paths.{Meaning, own, path_begun, begun_either, path_full}
+use Rattle.dpj_declared.proofs.Types.{ClassesMean, names_of, few_written, array_good, not_in_local, judged_good, type_good}
 
 int_is : (t : PlainType) → is_int t ≡ true → t ≡ ty.int
 int_is ty.int h = refl

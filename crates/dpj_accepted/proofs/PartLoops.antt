@@ -47,7 +47,7 @@ use Rattle.dpj_accepted.specs.Laws.{Stands}
 use Rattle.dpj_accepted.specs.Naming.{IsIndex, IsRegion, TypeNames, LocalsName, AllDoneIn, Signed}
 use Rattle.dpj_accepted.specs.Ready.{Ready, Room, Calm}
 use Rattle.dpj_accepted.specs.Seen.{RowIs, Sees}
-use Rattle.dpj_accepted.specs.Tree.{Fitting}
+use Rattle.dpj_written.specs.Written.{Fitting}
 use Rattle.dpj_accepted.proofs.Clashing.{handed, parts_apart}
 use Rattle.dpj_accepted.proofs.Declaring.{local_pushed}
 use Rattle.dpj_accepted.proofs.Expressions.{part_seen, expression_agrees}

@@ -1,14 +1,15 @@
 -- What a use through a receiver forbids whose region arguments aren't all fully specified, for the checker and for the judgement.
-use Rattle.std.proofs.Common.{◌≡◌, ◌∙◌, ℕ, zero, suc, ◌+◌, ◌≤◌, min, Bool, true, false, not, ◌&&◌, ◌||◌, IsTrue, List, [], ◌∷◌, ◌++◌, All, map, length, slice_index_or, refl, sym, ap, subst, arith}
+use Rattle.std.proofs.Common.{◌≡◌, ◌∙◌, ℕ, zero, suc, ◌+◌, ◌≤◌, min, Bool, true, false, not, ◌&&◌, ◌||◌, IsTrue, List, [], ◌∷◌, ◌++◌, All, map, slice_index_or, refl, sym, ap, subst, arith}
 use Rattle.std.proofs.lemmas.Bool.{or_parts}
 use Rattle.std.proofs.lemmas.List.Elements.{All-nil, All-cons, All-head, All-tail}
 use Rattle.dpj_base.specs.declared.region.Head.TheVariants.{Param}
 use Rattle.dpj_base.specs.declared.region.Rpl.{Rpl}
 use Rattle.dpj_base.specs.declared.ty.Ty.{Ty}
 use Rattle.dpj_base.specs.Regions.{fully_specified}
-use Rattle.dpj_base.specs.Types.{PlainType, plain_type, mentions_param, rigid_in_param}
+use Rattle.dpj_base.specs.Types.{PlainType, int, boolean, void, null, class, array, plain_type, has_param, mentions_param, rigid_in_param}
 use Rattle.dpj_exprs.specs.Partial.{param_number, mentions_partial, rigid_in_partial, some_mention_partial}
 use Rattle.dpj_typed.specs.Types.{Known, Readable}
+use Rattle.dpj_accepted.specs.Seen.{HasNumbers, AllHaveNumbers}
 
 abbrev IsFull : Rpl → Type 0
 IsFull a = IsTrue (fully_specified a)
@@ -36,33 +37,44 @@ rest_full [] p d all h = h
 rest_full (a ∷ rest) zero d all h = All-head IsFull a rest all
 rest_full (a ∷ rest) (suc p) d all h = rest_full rest p d (All-tail IsFull a rest all) h
 
-arg_full : (test : ℕ → Bool) (from : ℕ) (owned rest : List Rpl) (p : ℕ) (d : Rpl) → partial test from owned ≡ false → from + length owned ≤ 4294967295 → All IsFull rest → fully_specified d ≡ true →
+arg_full : (test : ℕ → Bool) (from : ℕ) (owned rest : List Rpl) (p : ℕ) (d : Rpl) → partial test from owned ≡ false → ((q : ℕ) → test q ≡ true → q ≤ 4294967295) → All IsFull rest → fully_specified d ≡ true →
     test (from + p) ≡ true → fully_specified (slice_index_or (owned ++ rest) p d) ≡ true
 arg_full test from [] rest p d none few all h k = rest_full rest p d all h
 arg_full test from (a ∷ owned) rest zero d none few all h k =
     let parts = or_parts (not (fully_specified a) && test (param_number from)) (partial test (from + 1) owned) none in
-    let same : from + 0 ≡ min from 4294967295 = omega (arith, few) in
+    let l = few (from + 0) k in
+    let same : from + 0 ≡ min from 4294967295 = omega (arith, l) in
     full_if (fully_specified a) (test (param_number from)) parts.0 (ap test (sym same) ∙ k)
 arg_full test from (a ∷ owned) rest (suc p) d none few all h k =
     let parts = or_parts (not (fully_specified a) && test (param_number from)) (partial test (from + 1) owned) none in
     let same : from + 1 + p ≡ from + suc p = omega arith in
-    let fewer : from + 1 + length owned ≤ 4294967295 = omega (arith, few) in
-    arg_full test (from + 1) owned rest p d parts.1 fewer all h (ap test same ∙ k)
+    arg_full test (from + 1) owned rest p d parts.1 few all h (ap test same ∙ k)
 
-pub known_from : (t : PlainType) (owned regions : List Rpl) → mentions_partial t 0 owned ≡ false → length owned ≤ 4294967295 → All IsFull regions → Known (owned ++ regions) t
+-- a type is rigid only in what it mentions
+pub rigid_mentions : (p : ℕ) (t : PlainType) → rigid_in_param p t ≡ true → mentions_param p t ≡ true
+rigid_mentions p int k = cc
+rigid_mentions p boolean k = cc
+rigid_mentions p void k = cc
+rigid_mentions p null k = cc
+rigid_mentions p (class c args) k = cc
+rigid_mentions p (array t a named) k = by (has_param p a) k
+  where
+    by : (b : Bool) → mentions_param p t ≡ true → b || mentions_param p t ≡ true
+    by true k = refl
+    by false k = k
+
+pub known_from : (t : PlainType) (owned regions : List Rpl) → mentions_partial t 0 owned ≡ false → HasNumbers t → All IsFull regions → Known (owned ++ regions) t
 known_from t owned regions none few all p h =
-    let start : 0 + length owned ≤ 4294967295 = omega (arith, few) in
     let same : p ≡ 0 + p = omega arith in
-    arg_full (λ q. mentions_param q t) 0 owned regions p (record { head = Param p; elems = [] }) (sym (mentions_is t 0 owned) ∙ none) start all refl (subst (λ q. mentions_param q t ≡ true) same h)
+    arg_full (λ q. mentions_param q t) 0 owned regions p (record { head = Param p; elems = [] }) (sym (mentions_is t 0 owned) ∙ none) few all refl (subst (λ q. mentions_param q t ≡ true) same h)
 
-pub readable_from : (t : PlainType) (owned regions : List Rpl) → rigid_in_partial t 0 owned ≡ false → length owned ≤ 4294967295 → All IsFull regions → Readable (owned ++ regions) t
+pub readable_from : (t : PlainType) (owned regions : List Rpl) → rigid_in_partial t 0 owned ≡ false → HasNumbers t → All IsFull regions → Readable (owned ++ regions) t
 readable_from t owned regions none few all p h =
-    let start : 0 + length owned ≤ 4294967295 = omega (arith, few) in
     let same : p ≡ 0 + p = omega arith in
-    arg_full (λ q. rigid_in_param q t) 0 owned regions p (record { head = Param p; elems = [] }) (sym (rigid_is t 0 owned) ∙ none) start all refl (subst (λ q. rigid_in_param q t ≡ true) same h)
+    arg_full (λ q. rigid_in_param q t) 0 owned regions p (record { head = Param p; elems = [] }) (sym (rigid_is t 0 owned) ∙ none) (λ q k. few q (rigid_mentions q t k)) all refl (subst (λ q. rigid_in_param q t ≡ true) same h)
 
-pub all_known : (ts : List Ty) (owned regions : List Rpl) → some_mention_partial owned ts ≡ false → length owned ≤ 4294967295 → All IsFull regions → All (Known (owned ++ regions)) (map plain_type ts)
+pub all_known : (ts : List Ty) (owned regions : List Rpl) → some_mention_partial owned ts ≡ false → AllHaveNumbers ts → All IsFull regions → All (Known (owned ++ regions)) (map plain_type ts)
 all_known [] owned regions none few all = All-nil (Known (owned ++ regions))
 all_known (t ∷ ts) owned regions none few all =
     let parts = or_parts (mentions_partial (plain_type t) 0 owned) (some_mention_partial owned ts) none in
-    All-cons (Known (owned ++ regions)) (plain_type t) (map plain_type ts) (known_from (plain_type t) owned regions parts.0 few all) (all_known ts owned regions parts.1 few all)
+    All-cons (Known (owned ++ regions)) (plain_type t) (map plain_type ts) (known_from (plain_type t) owned regions parts.0 few.0 all) (all_known ts owned regions parts.1 few.1 all)

@@ -36,7 +36,7 @@ use Rattle.dpj_check.specs.Walks.{Walk, passes, judged, found_so}
 use Rattle.dpj_resolved.proofs.Free.{noted_told, not_false}
 use Rattle.dpj_accepted.specs.Laws.{Stands, Passing}
 use Rattle.dpj_accepted.specs.Seen.{RowIs, Tells, Sees, Returns}
-use Rattle.dpj_accepted.specs.Tree.{Fitting}
+use Rattle.dpj_written.specs.Written.{Fitting}
 use Rattle.dpj_accepted.proofs.Expressions.{int_is, boolean_is, expression_agrees}
 use Rattle.dpj_accepted.proofs.Subtypes.{fits_subtype}
 

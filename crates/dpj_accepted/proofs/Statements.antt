@@ -1,5 +1,5 @@
 -- Statements that pass for the checker pass in the judgement.
-use Rattle.std.proofs.Common.{◌≡◌, ◌∙◌, ◌⊎◌, ◌≤◌, ◌+◌, ◌==◌, ℕ, Bool, true, false, not, ◌&&◌, ◌||◌, cond, IsTrue, is_some, List, [], ◌∷◌, ◌++◌, map, inl, inr, ⊎_elim, Option, Some, None, refl, sym, ap, subst, arith}
+use Rattle.std.proofs.Common.{◌≡◌, ◌∙◌, ◌⊎◌, ◌≤◌, ◌+◌, ◌==◌, ℕ, Bool, true, false, not, ◌&&◌, ◌||◌, cond, IsTrue, List, [], ◌∷◌, ◌++◌, map, inl, inr, ⊎_elim, Option, Some, None, refl, sym, ap, subst, arith}
 use Rattle.std.proofs.lemmas.Bool.{or_right, or_parts}
 use Rattle.dpj_base.specs.declared.place.Place.{Place}
 use Rattle.dpj_base.specs.declared.refusal.Kind.TheVariants as kind
@@ -20,7 +20,7 @@ use Rattle.dpj_typed.specs.Statements.{completes, declared_as, Passes, AllPass}
 use Rattle.dpj_exprs.specs.declared.env.Env.{Env}
 use Rattle.dpj_exprs.specs.declared.found.Found.{Found}
 use Rattle.dpj_exprs.specs.Answer.{gives}
-use Rattle.dpj_exprs.specs.Env.{supers_of, local_of, local_row, with_local}
+use Rattle.dpj_exprs.specs.Env.{supers_of, local_row, with_local}
 use Rattle.dpj_exprs.specs.Typed.{may_be, is_boolean, type_in, FitsAs}
 use Rattle.dpj_exprs.specs.Typing.{Typing}
 use Rattle.dpj_check.specs.declared.leaving.Leaving.{Leaving}
@@ -31,21 +31,20 @@ use Rattle.dpj_check.specs.Checking.{block_left}
 use Rattle.dpj_check.specs.Completes as tree_completes
 use Rattle.dpj_check.specs.Gathering.{entered, taken_in}
 use Rattle.dpj_check.specs.Leaving.{from_here}
-use Rattle.dpj_check.specs.Noting.{with_fault, fault_of}
-use Rattle.dpj_check.specs.Simple.{declared_type, has_room, declaration_noted, node_of, Declaring}
+use Rattle.dpj_check.specs.Simple.{declared_type, declaration_noted, node_of, Declaring}
 use Rattle.dpj_check.specs.Walks.{Walk, Verdict, passes, refused, found_so, apart_from, left_scope, behind}
 use Rattle.dpj_resolved.proofs.Bodies.{free_if}
-use Rattle.dpj_resolved.proofs.Free.{noted_told, not_false}
+use Rattle.dpj_resolved.proofs.Free.{not_false}
 use Rattle.dpj_accepted.specs.Gathered.{Gathers}
 use Rattle.dpj_accepted.specs.Laws.{Stands, Passing}
 use Rattle.dpj_accepted.specs.Naming.{IsIndex, IsRegion, AllDoneIn, Signed}
 use Rattle.dpj_accepted.specs.Ready.{Ready, Room, Calm}
 use Rattle.dpj_accepted.specs.Seen.{can_stand, RowIs}
-use Rattle.dpj_accepted.specs.Tree.{Fitting, StmtFormFitting}
+use Rattle.dpj_written.specs.Written.{Fitting, StmtFormFitting}
 use Rattle.dpj_accepted.proofs.Clashing.{same_entered}
 use Rattle.dpj_accepted.proofs.Expressions.{boolean_is, expression_agrees}
 use Rattle.dpj_accepted.proofs.Gathered.{then_gathered}
-use Rattle.dpj_accepted.proofs.Growing.{Kept}
+use Rattle.dpj_accepted.proofs.Growing.{Kept, room_free}
 use Rattle.dpj_accepted.proofs.InScope.{all_over_of, good_type, good_stands, has_names}
 use Rattle.dpj_accepted.proofs.InScopeStatements.{path_stays, free_none, only_index, part_parts, declared_no_part, declared_names, passes_names, all_names}
 use Rattle.dpj_accepted.proofs.Left.{left, left_append, left_kept, left_further, left_stepped, taken, marked_by, Later, AllRaw, all_raw_of, raw_append, all_raw_before}
@@ -175,16 +174,6 @@ module _ (P : PlainProgram) (signed : Signed P)
     expr_at L env params around reads assigns e f g t ready fits all d = expression_agrees P L env reads assigns ready.tells ready.sees e f g t fits all d
 
     -- a declaration
-
-    pub room_free : (env : Env) (name : ℕ) (place : Place) (node : Node) → fault_of (declaration_noted env name place node) ≡ None → has_room env ≡ true
-    room_free env name place node h = by (has_room env) h
-      where
-        faulty : (x : Node) → fault_of (with_fault x kind.TooLong place) ≡ None → ⊥
-        faulty x h = let clash = sym (noted_told x.faults (record { kind = kind.TooLong; place = place })) ∙ h in cc
-
-        by : (b : Bool) → fault_of (cond b (cond (is_some (local_of env name)) (with_fault node kind.Duplicate place) node) (with_fault (cond (is_some (local_of env name)) (with_fault node kind.Duplicate place) node) kind.TooLong place)) ≡ None → b ≡ true
-        by true h = refl
-        by false h = absurd (faulty (cond (is_some (local_of env name)) (with_fault node kind.Duplicate place) node) h)
 
     declared_is : (is_final : Bool) (t : PlainType) (name : ℕ) (env : Env) (made : Ty) → plain_type made ≡ t → (x y : Bool) → RowIs x y (local_row env name made is_final) (Some (declared_as is_final t))
     declared_is is_final t name env made same x y = subst (λ z. RowIs x y (local_row env name made is_final) (Some (declared_as is_final z))) same (by is_final refl)

@@ -42,7 +42,7 @@ use Rattle.dpj_accepted.specs.Gathered.{Gathers}
 use Rattle.dpj_accepted.specs.Laws.{Stands, Passing}
 use Rattle.dpj_accepted.specs.Naming.{IsIndex, IsRegion, TypeNames, LocalsName, Signed}
 use Rattle.dpj_accepted.specs.Seen.{can_stand, Tells, Sees}
-use Rattle.dpj_accepted.specs.Tree.{Fitting}
+use Rattle.dpj_written.specs.Written.{Fitting}
 use Rattle.dpj_accepted.proofs.Expressions.{Made, Passed, int_is, part_seen, SeenRight, field_seen, typing_passed, expression_agrees}
 use Rattle.dpj_accepted.proofs.Gathered.{one_gathered, use_gathered, then_gathered}
 use Rattle.dpj_accepted.proofs.InScope.{stands_with, stands_at, has_names}

@@ -34,7 +34,7 @@ use Rattle.dpj_accepted.specs.Gathered.{Gathers}
 use Rattle.dpj_accepted.specs.Naming.{LocalsName, AllDoneIn, Signed}
 use Rattle.dpj_accepted.specs.Ready.{Ready, Room, Calm}
 use Rattle.dpj_accepted.specs.Seen.{can_stand, SupersAgree, Tells, Sees, Returns}
-use Rattle.dpj_accepted.specs.Tree.{Fitting, StmtsFitting, IsWritten}
+use Rattle.dpj_written.specs.Written.{Fitting, StmtsFitting, IsWritten}
 
 -- what the checker accepts is well typed: the aim of this crate, of which the laws below are steps
 abbrev pub AcceptedIsWellTyped : Type 0

@@ -5,7 +5,7 @@ use Rattle.dpj_base.specs.declared.region.Rpl.{Rpl}
 use Rattle.dpj_base.specs.declared.ty.Super.{Super}
 use Rattle.dpj_base.specs.declared.ty.Ty.{Ty}
 use Rattle.dpj_base.specs.Regions.{substituted}
-use Rattle.dpj_base.specs.Types.{PlainType, plain_type, type_with, superclass}
+use Rattle.dpj_base.specs.Types.{PlainType, plain_type, type_with, mentions_param, superclass}
 use Rattle.dpj_base.specs.Types.{PlainType as ty}
 use Rattle.dpj_headers.specs.Headers.{class_of, region_of, atomic_regions}
 use Rattle.dpj_resolve.specs.declared.scope.ParamFound.{ParamFound}
@@ -35,6 +35,14 @@ can_stand t = true
 abbrev pub AllStand : List Ty → Type 0
 AllStand [] = Unit {0}
 AllStand (t ∷ ts) = (can_stand (plain_type t) ≡ true) × AllStand ts
+
+-- the region parameters that a type mentions have numbers of 32 bits
+abbrev pub HasNumbers : PlainType → Type 0
+HasNumbers t = (p : ℕ) → IsTrue (mentions_param p t) → p ≤ 4294967295
+
+abbrev pub AllHaveNumbers : List Ty → Type 0
+AllHaveNumbers [] = Unit {0}
+AllHaveNumbers (t ∷ ts) = HasNumbers (plain_type t) × AllHaveNumbers ts
 
 -- each superclass is that of the program's class
 abbrev pub SupersAgree : PlainProgram → List Super → Type 0
@@ -68,7 +76,8 @@ pub record MethodSeen (P : PlainProgram) (table : Table) (never_nd : ℕ → Boo
   pub seen : MemberSeen P row
   pub in_row : row_at P class (row_of table row.id) ≡ Some row.id
   pub above : Above P class args row.owner owned
-  pub few : length owned ≤ 4294967295
+  pub formals_numbered : AllHaveNumbers row.params
+  pub result_numbered : HasNumbers (plain_type row.result)
   pub calm : is_forking table row.id ≡ false → (d m : ℕ) → IsBelow P d class → row_at P d (row_of table row.id) ≡ Some m → IsTrue (never_nd m)
 
 -- a class, and its constructor, where it has one

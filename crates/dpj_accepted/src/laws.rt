@@ -1,6 +1,10 @@
 //! The laws of accepted programs, each the clause of a function that does nothing.
 
-ghost use Rattle.dpj_accepted.specs.Laws.{SubtypesAgree, TypesAgree, ExpressionsAgree, SinglesAgree, EffectsAreInScope, BlocksAgree};
+ghost use Rattle.dpj_accepted.specs.Laws.{AcceptedIsWellTyped, SubtypesAgree, TypesAgree, ExpressionsAgree, SinglesAgree, EffectsAreInScope, BlocksAgree};
+ghost use Rattle.dpj_accepted.specs.Whole.{BodiesPass, ForksAreTold, NoneForks, SignaturesNameNothing, SupersAreTold, TablesTell};
+
+use dpj_declared::laws::law_declared;
+use dpj_inherited::laws::{law_inherits, law_main};
 
 /// Where a value fits for the checker, its type is a subtype in the judgement.
 pub fn law_subtypes()
@@ -35,3 +39,33 @@ pub fn law_scopes()
 pub fn law_blocks()
     ensures blocks { BlocksAgree }
 {}
+
+/// What the class table of an accepted program says of a name is so in its typed program, each superclass of the table is that of
+/// the typed program, and its signatures name neither index variables nor local regions.
+pub fn law_table()
+    ensures tells { TablesTell }
+    ensures supers { SupersAreTold }
+    ensures signed { SignaturesNameNothing }
+{}
+
+/// A method in whose body the checker finds that an nd construct is reached is one of which the class table tells so; and where a
+/// program has no nd construct, it tells so of none.
+pub fn law_forks()
+    ensures forks { ForksAreTold }
+    ensures none { NoneForks }
+{}
+
+/// The body of each member of an accepted program passes in the judgement, does no more than its summary says, and gives a value
+/// where it should.
+pub fn law_bodies()
+    ensures bodies { BodiesPass }
+{}
+
+/// What the checker accepts is well typed.
+pub fn law_well_typed()
+    ensures well_typed { AcceptedIsWellTyped }
+{
+    law_declared();
+    law_inherits();
+    law_main();
+}

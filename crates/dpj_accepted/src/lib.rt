@@ -2,9 +2,11 @@
 //!
 //! The checker says of a body what it gives, or its first fault (`dpj_exprs`, `dpj_check`); the judgement says of a typed
 //! program when it keeps the rules of the language (`dpj_typed`), and from it soundness and determinism follow.
-//! `specs/Seen.antt` and `specs/Ready.antt` say how what is around a place of a body is what is in scope in the judgement, and
-//! `specs/Laws.antt` what follows of types, expressions and blocks of statements there. Promised are those laws. That the class
-//! table tells what the program has, and that a whole accepted program is well typed, isn't proved yet.
+//! `specs/Seen.antt` and `specs/Ready.antt` say how what is around a place of a body is what is in scope in the judgement,
+//! `specs/Laws.antt` what follows of types, expressions and blocks of statements there, and `specs/Whole.antt` what a whole
+//! accepted program keeps: its class table tells what it has, and where nd constructs are reached, and its bodies pass. Promised
+//! are these laws, and with the declarations (`dpj_declared`) and the superclasses (`dpj_inherited`) that each accepted program
+//! that a text derives is well typed.
 #![tactic(auto)]
 
 pub mod laws;

@@ -7,7 +7,7 @@ use Rattle.dpj_typed.specs.Scope.{class_at, member_at, parent_of, row_at}
 use Rattle.dpj_typed.specs.Effects.{as_effects, effect_with}
 use Rattle.dpj_typed.specs.Table.{body_scope, own_paths, method_paths}
 use Rattle.dpj_infer.specs.declared.kept.Kept.{Kept}
-use Rattle.dpj_infer.specs.Kept.{Keeping, strength_of, strength_kept, summary_kept, program_kept}
+use Rattle.dpj_infer.specs.Kept.{Keeping, SaysOfEach, strength_of, strength_kept, summary_kept, program_kept}
 use Rattle.dpj_infer.specs.Doing.{effects_of_all, seen_as}
 
 -- an item takes a demand: it has the place, and it isn't marked, or the demand is marked too
@@ -26,10 +26,6 @@ pub data IsAsked (P : PlainProgram) (S : Keeping) (n : ℕ) (m : PlainMember) : 
       class_at P c ≡ Some k → k.parent ≡ Some p → row_at P p.class r ≡ Some n → row_at P c r ≡ Some j → member_at P j ≡ Some over → over.class ≡ c →
       slice_get S j ≡ Some ks → Contains (summary_kept ks over.summary) d →
       IsAsked P S n m (effect_with (seen_as P c (own_paths k) m.class ++ method_paths k m)) d
-
--- of each member something is said of each item
-abbrev pub SaysOfEach : PlainProgram → Keeping → Type 0
-SaysOfEach P S = (length S ≡ length P.members) × ((n : ℕ) (m : PlainMember) (ks : List Kept) → member_at P n ≡ Some m → slice_get S n ≡ Some ks → length ks ≡ length m.summary)
 
 -- each item that takes what is asked keeps at least as much as that is, as far as it was written
 abbrev pub IsFirm : PlainProgram → Keeping → Type 0

@@ -1,5 +1,5 @@
 -- What is kept of written summaries.
-use Rattle.std.specs.Prelude.{◌≤◌, ℕ, List, [], ◌∷◌, ◌++◌, Option, Some, None, slice_get}
+use Rattle.std.specs.Prelude.{◌≡◌, ℕ, List, [], ◌∷◌, ◌++◌, map, length}
 use Rattle.dpj_base.specs.declared.effect.Access.{Access}
 use Rattle.dpj_base.specs.declared.effect.Access.TheVariants.{Read, Write}
 use Rattle.dpj_base.specs.declared.effect.Effect.{Effect}
@@ -10,6 +10,14 @@ use Rattle.dpj_infer.specs.declared.kept.Kept.TheVariants as kept
 -- of each member, by number, how much is kept of each item of its summary
 abbrev pub Keeping : Type 0
 Keeping = List (List Kept)
+
+-- of each member something is said of each item
+abbrev pub SaysOfEach : PlainProgram → Keeping → Type 0
+SaysOfEach P S = map length S ≡ map (λ m. length m.summary) P.members
+
+-- something is said of the same items of the same members
+abbrev pub SayOfTheSame : Keeping → Keeping → Type 0
+SayOfTheSame S T = map length S ≡ map length T
 
 -- nothing is less than a read, and a read less than a write
 abbrev pub strength_of : Access → ℕ

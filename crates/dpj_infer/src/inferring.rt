@@ -1,3 +1,7 @@
+ghost use Rattle.std.specs.Prelude.{◌≡◌, length, map, IfOk};
+ghost use Rattle.dpj_typed.specs.Plain.{plain_program};
+ghost use Rattle.dpj_infer.specs.Kept.{SaysOfEach, SayOfTheSame};
+
 use crate::asking::{asked, done_by, kept_of, more, seen_items};
 use crate::classes::{class_at, counted, member_at};
 use crate::kept::Kept;
@@ -7,7 +11,9 @@ use dpj_typed::{Class, ClassId, Member, MemberId, Program};
 use std::alloc::Global;
 
 /// What of the summaries of a program its bodies need: of each member, by number, how much is kept of each written item.
-pub fn infer(alloc: Global, program: &Program) -> Result<Keeping, NoMemory> {
+pub fn infer(alloc: Global, program: &Program) -> Result<Keeping, NoMemory>
+    ensures says { IfOk result (SaysOfEach (plain_program program.now)) }
+{
     let mut kept = nothing_kept(alloc, program)?;
     // Each pass but the last raises an item, and each item rises at most twice.
     for _ in 0..most_passes(program) {
@@ -18,7 +24,10 @@ pub fn infer(alloc: Global, program: &Program) -> Result<Keeping, NoMemory> {
     Ok(kept)
 }
 
-fn nothing_kept(alloc: Global, program: &Program) -> Result<Keeping, NoMemory> {
+#[tactic(auto, using(crate::proofs::Same::said_of_all))]
+fn nothing_kept(alloc: Global, program: &Program) -> Result<Keeping, NoMemory>
+    ensures says { IfOk result (SaysOfEach (plain_program program.now)) }
+{
     let mut all = Items::new(alloc);
     for member in program.members.as_slice() {
         all.push(nothing_of(alloc, member)?)?;
@@ -26,12 +35,11 @@ fn nothing_kept(alloc: Global, program: &Program) -> Result<Keeping, NoMemory> {
     Ok(all)
 }
 
-fn nothing_of(alloc: Global, member: &Member) -> Result<Items<Kept>, NoMemory> {
-    let mut all = Items::new(alloc);
-    for _ in 0..member.summary.len() {
-        all.push(Kept::Nothing)?;
-    }
-    Ok(all)
+fn nothing_of(alloc: Global, member: &Member) -> Result<Items<Kept>, NoMemory>
+    ensures { IfOk result (λ kept. length kept ≡ length member.now.summary) }
+{
+    let kept = vec![in alloc; Kept::Nothing; member.summary.len()]?;
+    Ok(Items::from_vec(kept))
 }
 
 fn most_passes(program: &Program) -> usize {
@@ -43,13 +51,17 @@ fn most_passes(program: &Program) -> usize {
 }
 
 /// Asks each member once; whether an item rose.
-fn pass(alloc: Global, program: &Program, kept: &mut Keeping) -> Result<bool, NoMemory> {
+fn pass(alloc: Global, program: &Program, kept: &mut Keeping) -> Result<bool, NoMemory>
+    ensures same { SayOfTheSame kept.new kept.old }
+{
     let by_bodies = ask_bodies(alloc, program, kept)?;
     let by_overriding = ask_classes(alloc, program, kept)?;
     Ok(by_bodies || by_overriding)
 }
 
-fn ask_bodies(alloc: Global, program: &Program, kept: &mut Keeping) -> Result<bool, NoMemory> {
+fn ask_bodies(alloc: Global, program: &Program, kept: &mut Keeping) -> Result<bool, NoMemory>
+    ensures same { SayOfTheSame kept.new kept.old }
+{
     let mut has_risen = false;
     for number in 0..counted(&program.members) {
         if ask_body(alloc, program, MemberId { number }, kept)? {
@@ -59,7 +71,9 @@ fn ask_bodies(alloc: Global, program: &Program, kept: &mut Keeping) -> Result<bo
     Ok(has_risen)
 }
 
-fn ask_classes(alloc: Global, program: &Program, kept: &mut Keeping) -> Result<bool, NoMemory> {
+fn ask_classes(alloc: Global, program: &Program, kept: &mut Keeping) -> Result<bool, NoMemory>
+    ensures same { SayOfTheSame kept.new kept.old }
+{
     let mut has_risen = false;
     for number in 0..counted(&program.classes) {
         if ask_class(alloc, program, ClassId { number }, kept)? {
@@ -75,7 +89,9 @@ fn ask_body(
     program: &Program,
     number: MemberId,
     kept: &mut Keeping,
-) -> Result<bool, NoMemory> {
+) -> Result<bool, NoMemory>
+    ensures same { SayOfTheSame kept.new kept.old }
+{
     let Some(member) = member_at(program, number) else {
         return Ok(false);
     };
@@ -104,7 +120,9 @@ fn ask_class(
     program: &Program,
     number: ClassId,
     kept: &mut Keeping,
-) -> Result<bool, NoMemory> {
+) -> Result<bool, NoMemory>
+    ensures same { SayOfTheSame kept.new kept.old }
+{
     let Some(class) = class_at(program, number.number) else {
         return Ok(false);
     };
@@ -131,7 +149,9 @@ fn ask_override(
     over: MemberId,
     above: MemberId,
     kept: &mut Keeping,
-) -> Result<bool, NoMemory> {
+) -> Result<bool, NoMemory>
+    ensures same { SayOfTheSame kept.new kept.old }
+{
     let Some(member) = member_at(program, above) else {
         return Ok(false);
     };
@@ -141,6 +161,7 @@ fn ask_override(
 }
 
 /// Raises the items of a member to what is asked, as far as they are written, where they lie in these places.
+#[tactic(auto, using(crate::proofs::Same::set_alike))]
 fn raise(
     alloc: Global,
     number: MemberId,
@@ -148,21 +169,20 @@ fn raise(
     places: &Items<Rpl>,
     demands: &Items<Effect>,
     kept: &mut Keeping,
-) -> Result<bool, NoMemory> {
+) -> Result<bool, NoMemory>
+    ensures same { SayOfTheSame kept.new kept.old }
+{
     let at = number.number as usize;
     let Some(old) = kept.get(at) else {
         return Ok(false);
     };
     let mut new = Items::new(alloc);
     let mut has_risen = false;
-    for ((item, place), old) in member
-        .summary
-        .as_slice()
-        .iter()
-        .zip(places.as_slice())
-        .zip(old.as_slice())
-    {
-        let risen = raised(item, place, demands.as_slice(), *old);
+    for (position, old) in old.as_slice().iter().enumerate() {
+        let risen = match (member.summary.get(position), places.get(position)) {
+            (Some(item), Some(place)) => raised(item, place, demands.as_slice(), *old),
+            _ => *old,
+        };
         has_risen = has_risen || risen != *old;
         new.push(risen)?;
     }

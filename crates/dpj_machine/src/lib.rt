@@ -12,8 +12,8 @@
 //! A machine is stuck where what a ready task does next can't be done: an object isn't there, a fork, a join, an entry or an
 //! exit comes out of turn, or a branch has no start. A step tells so, and leaves the machine as it was.
 //!
-//! A step takes the time of the leg that its task makes and of what its event touches; `next_ready` the logarithm of the live
-//! tasks, and the tasks that it passes over.
+//! A step takes the time of the leg that its task makes and of what its event touches; `next_ready` and `ready_below` the logarithm
+//! of the live tasks, and the tasks that they pass over.
 #![tactic(auto)]
 
 mod answers;

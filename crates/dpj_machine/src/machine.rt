@@ -1,7 +1,7 @@
 ghost use Rattle.std.specs.Prelude.{◌≡◌, ◌↔◌, ◌≤◌, [], All, None, IsSome, IsTrue, IfOk, IfErr, OnOk, OnErr, MatchOption, false};
 ghost use Rattle.std.specs.Option.{option_copied};
 ghost use Rattle.dpj_legs.specs.Halts.{IsFew};
-ghost use Rattle.dpj_world.specs.Ready.{IsReady, NoneReady, IsGreatestReady};
+ghost use Rattle.dpj_world.specs.Ready.{IsReady, NoneReady, IsGreatestReady, NoneReadyBelow, IsGreatestBelow};
 ghost use Rattle.dpj_machine.specs.Keeping.{IsReplayed, IsAfter, WhyHaltedAt, GreedilyOn, HasEnded, HaltsGreedily};
 ghost use Rattle.dpj_machine.specs.Premise.{GoesOnAble};
 
@@ -91,6 +91,13 @@ impl Machine {
         ensures { MatchOption result (NoneReady self.now.world) (IsGreatestReady self.now.world) }
     {
         self.run.world.next_ready()
+    }
+
+    /// The greatest below a bound that can. It takes no memory.
+    pub fn ready_below(&self, bound: u32) -> Option<u32>
+        ensures { MatchOption result (NoneReadyBelow self.now.world bound) (IsGreatestBelow self.now.world bound) }
+    {
+        self.run.world.ready_below(bound)
     }
 
     /// Lets a ready task make its next event. Finished comes exactly where the root ended or a limit was met, and Stuck where

@@ -1,2 +1,5 @@
 pub mod Joined
 pub mod Greedy
+pub mod Reducing
+pub mod Few
+pub mod Going

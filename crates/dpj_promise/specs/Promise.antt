@@ -1,5 +1,5 @@
 -- How a machine's run comes out, by the source alone.
-use Rattle.std.specs.Prelude.{ℕ, ℤ, pos, ◌≡◌, ◌≤◌, FitsSigned, false, [], Some}
+use Rattle.std.specs.Prelude.{ℕ, ℤ, pos, ◌≡◌, ◌≤◌, FitsSigned, false, List, [], All, Some, None}
 use Rattle.std.specs.Int.{w32}
 use Rattle.dpj_base.specs.declared.outcome.Ending.{Ending as Came}
 use Rattle.dpj_base.specs.declared.outcome.Ending.TheVariants as came
@@ -12,10 +12,14 @@ use Rattle.dpj_meaning.specs.Counts.{number}
 use Rattle.dpj_meaning.specs.Elision.{elided}
 use Rattle.dpj_meaning.specs.Outcomes.{Outcome as ElidedOutcome, Came as came_out, Limited}
 use Rattle.dpj_code.specs.Plain.{plain_code}
+use Rattle.dpj_code.specs.declared.code.Code.{Code}
 use Rattle.dpj_gen.specs.Resolved.{Resolved}
 use Rattle.dpj_gen.specs.Whole.{compiled}
 use Rattle.dpj_going.specs.Going.{HasMain}
-use Rattle.dpj_machine.specs.Keeping.{Played, GreedilyOn, IsReplayed}
+use Rattle.dpj_legs.specs.Halts.{IsFew}
+use Rattle.dpj_machine.specs.declared.halted.Halted.TheVariants.{Stuck}
+use Rattle.dpj_machine.specs.Keeping.{Played, GreedilyOn, HaltsGreedily, HasEnded, IsReplayed}
+use Rattle.dpj_machine.specs.Replay.{IsStuck, LeadsTo, Moment}
 use Rattle.dpj_recorded.specs.Laws.{limits}
 
 -- the outcome of an elision: `main` gives an int
@@ -44,3 +48,18 @@ abbrev pub GreedyMachinesElide : Type 0
 GreedyMachinesElide =
     (P : PlainProgram) (start p : Played) (o : Outcome) → Resolved P → HasMain P → plain_code p.code ≡ compiled P → p.limits.steps ≤ 20000000
     → start.schedule ≡ [] → GreedilyOn start p → IsReplayed p → p.outcome ≡ Some o → o ≡ elision P p.limits p.argument
+
+-- a machine on the code of a well-typed program is never stuck, within the limits that a job may have. No fork of the code has more
+-- branches than a value counts: on other code no machine is opened
+abbrev pub MachinesAreNotStuck : Type 0
+MachinesAreNotStuck =
+    (P : PlainProgram) (code : Code) (L : Limits) (argument : ℤ) → WellTyped P → Resolved P → HasMain P → plain_code code ≡ compiled P → All IsFew code.sites
+    → L.steps ≤ 20000000 → L.cells ≤ 16777216 → FitsSigned w32 argument
+    → (ks : List ℕ) (m : Moment) → LeadsTo code L argument ks m → (k : ℕ) → IsStuck (plain_code code) m k → ⊥
+
+-- a machine on it that hasn't come out has a ready task, may make more events, and can make those of the greatest ready task
+abbrev pub MachinesGoOn : Type 0
+MachinesGoOn =
+    (P : PlainProgram) (p : Played) → WellTyped P → Resolved P → HasMain P → plain_code p.code ≡ compiled P → All IsFew p.code.sites
+    → p.limits.steps ≤ 20000000 → p.limits.cells ≤ 16777216 → FitsSigned w32 p.argument → IsReplayed p
+    → (HaltsGreedily p Stuck → ⊥) × (p.outcome ≡ None → HasEnded p → ⊥)

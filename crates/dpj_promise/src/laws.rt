@@ -1,11 +1,13 @@
 //! The laws of a machine's runs, each the clause of a function that does nothing but name others.
 
-ghost use Rattle.dpj_promise.specs.Promise.{GreedyMachinesElide, MachinesComeOutAsElided};
+ghost use Rattle.dpj_promise.specs.Promise.{GreedyMachinesElide, MachinesAreNotStuck, MachinesComeOutAsElided, MachinesGoOn};
+ghost use Rattle.dpj_promise.specs.Reduced.{MachinesAreReduced};
 
-use dpj_determined::laws::law_well_typed;
-use dpj_elided::laws::law_greatest;
+use dpj_determined::laws::{law_reduction, law_well_typed};
+use dpj_elided::laws::{law_greatest, law_names};
 use dpj_going::laws::law_going;
-use dpj_recorded::laws::law_recorded;
+use dpj_recorded::laws::{law_lively, law_recorded};
+use dpj_sound::laws::law_runs;
 use dpj_steps::laws::law_steps;
 
 /// A run of the code of a well-typed program without nd constructs comes out as the program's sequential elision, limits included,
@@ -26,4 +28,27 @@ pub fn law_elide()
     law_steps();
     law_going();
     law_greatest();
+}
+
+/// A run of the code of a well-typed program, nd constructs or not, is a legal run of the source with the same outcome; its unordered
+/// events that conflict lie in atomic blocks, and gathered by blocks it comes out the same.
+pub fn law_reduced()
+    ensures { MachinesAreReduced }
+{
+    law_recorded();
+    law_runs();
+    law_reduction();
+}
+
+/// A machine on the code of a well-typed program is never stuck: until its run has come out it has a ready task, whose next event can
+/// be made, and it comes out before it has made as many events as it may.
+pub fn law_goes_on()
+    ensures stuck { MachinesAreNotStuck }
+    ensures on { MachinesGoOn }
+{
+    law_recorded();
+    law_lively();
+    law_steps();
+    law_names();
+    law_going();
 }

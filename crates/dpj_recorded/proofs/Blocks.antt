@@ -119,7 +119,7 @@ quiet_print (print_like bytes) h = refl
 pub entry_like : {w : Sight} {E : EffectsIn} {q : Own} → OwnLike w (meaning.Enter E) q → (F : List Effect) × (q ≡ Enter F) × EffectsLike w E F
 entry_like (enter_like {F = F} l) = (F, refl, l)
 
-leave_like : {w : Sight} {q : Own} → OwnLike w meaning.Exit q → q ≡ Exit
+pub leave_like : {w : Sight} {q : Own} → OwnLike w meaning.Exit q → q ≡ Exit
 leave_like exit_like = refl
 
 pub ending_like : {w : Sight} {e : meaning.Ending ℕ} {c : ActionOf} → ActionLike w (End e) c → (x : Ending) × (c ≡ End x)
@@ -658,7 +658,7 @@ module _ (code : Code) (P : PlainProgram) (arg : ℤ) (rule : Rule) (L : Limits)
 
           held_by : {s : Option Lock} → StandTied w R q s → get m.world.locks number.0 ≡ s → Holder q G
           held_by (stands_out a o) i = absurd (let both : In_block O.depth G ≡ Out_of = sym O.held ∙ o in cc)
-          held_by (was_adopted j d r H a t) i = absurd (let both : Outside ≡ Inside r H = sym O.outside ∙ a in cc)
+          held_by (was_adopted j d r H a t open_so within) i = absurd (let both : Outside ≡ Inside r H = sym O.outside ∙ a in cc)
           held_by (has_opened d dd D H a h l e b) i =
               let both : In_block d H ≡ In_block O.depth G = sym h ∙ O.held in
               let same : H ≡ G = cc in

@@ -11,7 +11,7 @@ use Rattle.dpj_meaning.specs.Actions.{Effect as EffectOver}
 use Rattle.dpj_meaning.specs.Values.{Part as PartOver}
 use Rattle.dpj_code.specs.Plain.{PlainCode}
 use Rattle.dpj_runs.specs.Actions.{Begin, Ending, Enter, Exit, Rule}
-use Rattle.dpj_runs.specs.Blocks.{In_block, Out_of, hold, hold_after, own_hold}
+use Rattle.dpj_runs.specs.Blocks.{Hold, In_block, Out_of, hold, hold_after, own_hold}
 use Rattle.dpj_runs.specs.Objects.{Effect, LocalRegion, Part, Path}
 use Rattle.dpj_runs.specs.Runs.{Ended, Event, Faithful, Run, Upto, count, event_steps, mine, total}
 use Rattle.dpj_runs.specs.Standing.{Inside, Outside, Standing, above, first_of, joined_by, standing}
@@ -20,7 +20,7 @@ use Rattle.dpj_runs.proofs.Mine.{found, mine_at}
 use Rattle.dpj_runs.proofs.Numbers.{begins_step, number_one}
 use Rattle.dpj_runs.proofs.Standing.{above_step, first_is, hold_since}
 use Rattle.dpj_runs.proofs.Upto.{upto_length, upto_tail}
-use Rattle.dpj_locks.specs.Locks.{Standings, deepened, entered, entered_from, exited, exited_from, is_inner, next, opener_of, shallower}
+use Rattle.dpj_locks.specs.Locks.{HasEntry, Standings, deepened, entered, entered_from, exited, exited_from, is_inner, next, opener_of, shallower}
 use Rattle.dpj_locks.specs.declared.standing.Standing.{Standing as Lock}
 use Rattle.dpj_locks.specs.declared.standing.Standing.TheVariants.{Adopted, Opener}
 use Rattle.dpj_tasks.proofs.Numbers.{itself, other_number}
@@ -75,12 +75,18 @@ paths_stay {v} {w} {R} {e} M N k p h =
     let same : x.0 ≡ p = number_one (N.numbered k x.0 x.1) (numbered_later e (M.numbered k p h)) in
     subst (λ q. slice_get w.paths k ≡ Some q) same x.1
 
+-- how many entries of its own a task has open
+abbrev pub entries_open : Hold → ℕ
+entries_open Out_of = 0
+entries_open (In_block n E) = suc n
+
 -- how a live task stands
 pub data StandTied (w : Sight) (R : Run) (p : Path) : Option Lock → Type 0 where
   stands_out : above R p ≡ Outside → hold (mine R p) ≡ Out_of → StandTied w R p None
   has_opened : (n d : ℕ) (E : EffectsIn) (F : List Effect) → above R p ≡ Outside → hold (mine R p) ≡ In_block n F → EffectsLike w E F → d ≡ suc n
       → n < total event_steps R → StandTied w R p (Some (Opener (map noted E) d))
-  was_adopted : (o d : ℕ) (q : Path) (F : List Effect) → above R p ≡ Inside q F → slice_get w.paths o ≡ Some q → StandTied w R p (Some (Adopted o d))
+  was_adopted : (o d : ℕ) (q : Path) (F : List Effect) → above R p ≡ Inside q F → slice_get w.paths o ≡ Some q → d ≡ entries_open (hold (mine R p))
+      → d ≤ total event_steps R → StandTied w R p (Some (Adopted o d))
 
 pub record BlocksTied (w : Sight) (R : Run) (world : World) : Type 0 where
   -- each live task
@@ -90,13 +96,23 @@ pub record BlocksTied (w : Sight) (R : Run) (world : World) : Type 0 where
   -- a task that has begun is live, or has ended
   pub there : (k : ℕ) (p : Path) → slice_get w.paths k ≡ Some p → ((x : Live) × (get world.tree.tasks k ≡ Some x)) ⊎ ((x : Ending) × Ended R p x)
 
+-- who has no entry open in a machine has none in the run
+pub none_open : {w : Sight} {R : Run} {p : Path} {s : Option Lock} → StandTied w R p s → (HasEntry s → ⊥) → hold (mine R p) ≡ Out_of
+none_open (stands_out a h) closed = h
+none_open (has_opened n d E F a h l s b) closed = absurd (closed tt)
+none_open {R = R} {p = p} (was_adopted o d q F a t n b) closed = go (hold (mine R p)) n
+  where
+    go : (h : Hold) → d ≡ entries_open h → h ≡ Out_of
+    go Out_of e = refl
+    go (In_block k E) e = absurd (closed (omega (arith, e)))
+
 -- the standing that a lock tells
 pub tells_standing : {w : Sight} {R : Run} {p : Path} {s : Option Lock} → StandTied w R p s → standing R p ≡ Outside → s ≡ None
 tells_standing (stands_out a h) e = refl
 tells_standing {R = R} {p = p} (has_opened n d E F a h l s b) e =
     absurd (let both : joined_by (above R p) p (hold (mine R p)) ≡ Inside p F = ap (λ s. joined_by s p (hold (mine R p))) a ∙ ap (λ k. joined_by Outside p k) h in
     let no : Inside p F ≡ Outside = sym both ∙ e in cc)
-tells_standing {R = R} {p = p} (was_adopted o d q F a t) e =
+tells_standing {R = R} {p = p} (was_adopted o d q F a t n b) e =
     absurd (let both : joined_by (above R p) p (hold (mine R p)) ≡ Inside q F = ap (λ s. joined_by s p (hold (mine R p))) a in
     let no : Inside q F ≡ Outside = sym both ∙ e in cc)
 
@@ -181,12 +197,21 @@ module _ (locks : Standings) (k : ℕ) where
 next_small : (n : ℕ) → n < 4294967296 → next n ≡ suc n
 next_small n l = omega (arith, l)
 
+entered_open : (F : List Effect) (h : Hold) → entries_open (own_hold (Enter F) h) ≡ suc (entries_open h)
+entered_open F Out_of = refl
+entered_open F (In_block n E) = refl
+
+exited_open : (h : Hold) → entries_open (own_hold Exit h) ≡ entries_open h - 1
+exited_open Out_of = refl
+exited_open (In_block zero E) = refl
+exited_open (In_block (suc n) E) = omega arith
+
 -- how standings go on
 module _ {v w : Sight} (stay : PathsStay v w) {R S : Run} (more : total event_steps R ≤ total event_steps S) {p : Path} (same : above R p ≡ above S p) where
   pub stand_same : {s : Option Lock} → hold (mine R p) ≡ hold (mine S p) → StandTied v R p s → StandTied w S p s
   stand_same h (stands_out a o) = stands_out (sym same ∙ a) (sym h ∙ o)
   stand_same h (has_opened n d E F a o l e b) = has_opened n d E F (sym same ∙ a) (sym h ∙ o) (effects_on stay l) e (omega (arith, b, more))
-  stand_same h (was_adopted o d q F a t) = was_adopted o d q F (sym same ∙ a) (stay o q t)
+  stand_same h (was_adopted o d q F a t n b) = was_adopted o d q F (sym same ∙ a) (stay o q t) (n ∙ ap entries_open h) (omega (arith, b, more))
 
   -- over an entry of its own
   pub stand_entered : {s : Option Lock} {E : EffectsIn} {F : List Effect} → hold (mine S p) ≡ own_hold (Enter F) (hold (mine R p)) → EffectsLike w E F
@@ -196,12 +221,16 @@ module _ {v w : Sight} (stay : PathsStay v w) {R S : Run} (more : total event_st
   stand_entered {E = E} {F = F} h like less few (has_opened n d G H a o l e b) =
       has_opened (suc n) (next d) G H (sym same ∙ a) (h ∙ ap (λ k. own_hold (Enter F) k) o) (effects_on stay l) (next_small d (omega (arith, few, e, b)) ∙ ap (λ n. suc n) e)
       (omega (arith, b, less))
-  stand_entered h like less few (was_adopted o d q F a t) = was_adopted o (next d) q F (sym same ∙ a) (stay o q t)
+  stand_entered {F = F} h like less few (was_adopted o d q G a t n b) =
+      was_adopted o (next d) q G (sym same ∙ a) (stay o q t)
+      (next_small d (omega (arith, few, b)) ∙ ap (λ n. suc n) n ∙ sym (entered_open F (hold (mine R p))) ∙ sym (ap entries_open h))
+      (let s = next_small d (omega (arith, few, b)) in omega (arith, s, b, less))
 
   -- over an exit of its own
   pub stand_exited : {s : Option Lock} → hold (mine S p) ≡ own_hold Exit (hold (mine R p)) → StandTied v R p s → StandTied w S p (lock_exited s)
   stand_exited h (stands_out a o) = stands_out (sym same ∙ a) (h ∙ ap (λ k. own_hold Exit k) o)
-  stand_exited h (was_adopted o d q F a t) = was_adopted o (d - 1) q F (sym same ∙ a) (stay o q t)
+  stand_exited h (was_adopted o d q F a t n b) =
+      was_adopted o (d - 1) q F (sym same ∙ a) (stay o q t) (ap (λ n. n - 1) n ∙ sym (exited_open (hold (mine R p))) ∙ sym (ap entries_open h)) (omega (arith, b, more))
   stand_exited h (has_opened zero d G H a o l e b) =
       subst (λ x. StandTied w S p (cond x (Some (Opener (map noted G) (d - 1))) None)) (sym (outermost d e)) (stands_out (sym same ∙ a) (h ∙ ap (λ k. own_hold Exit k) o))
     where
@@ -218,8 +247,9 @@ standing_as R q s e = ap (λ s. joined_by s q (hold (mine R q))) e
 module _ {w : Sight} {R : Run} (k : ℕ) {q p : Path} (there : slice_get w.paths k ≡ Some q) (up : above R p ≡ standing R q) (none : hold (mine R p) ≡ Out_of) where
   pub stand_branch : {s : Option Lock} → StandTied w R q s → StandTied w R p (lock_adopted k s)
   stand_branch (stands_out a o) = stands_out (up ∙ standing_as R q Outside a ∙ ap (λ h. joined_by Outside q h) o) none
-  stand_branch (has_opened n d E F a o l e b) = was_adopted k 0 q F (up ∙ standing_as R q Outside a ∙ ap (λ h. joined_by Outside q h) o) there
-  stand_branch (was_adopted o d r F a t) = was_adopted o 0 r F (up ∙ standing_as R q (Inside r F) a) t
+  stand_branch (has_opened n d E F a o l e b) =
+      was_adopted k 0 q F (up ∙ standing_as R q Outside a ∙ ap (λ h. joined_by Outside q h) o) there (sym (ap entries_open none)) (omega arith)
+  stand_branch (was_adopted o d r F a t n b) = was_adopted o 0 r F (up ∙ standing_as R q (Inside r F) a) t (sym (ap entries_open none)) (omega arith)
 
 module _ (P : PlainProgram) (arg : ℤ) (rule : Rule) (C : PlainCode) where
   -- a branch was begun where its parent stands, as long as the fork is open

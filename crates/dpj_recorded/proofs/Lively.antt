@@ -1,10 +1,13 @@
 -- A machine on compiled code has a ready task until its run has come out, and its schedules are short.
-use Rattle.std.proofs.Common.{◌≡◌, ◌≤◌, ◌<◌, ℕ, ◌+◌, ◌*◌, ◌^◌, List, [], ◌∷◌, length, sym, subst, Option, Some, None, arith}
+use Rattle.std.proofs.Common.{inl, inr, ◌⊎◌, ℤ, ◌≡◌, ◌≤◌, ◌<◌, ℕ, ◌+◌, ◌*◌, ◌^◌, List, [], ◌∷◌, length, sym, subst, Option, Some, None, arith}
 use Rattle.std.specs.FinMap.{get}
+use Rattle.dpj_base.specs.declared.outcome.Limits.{Limits as DeclaredLimits}
 use Rattle.dpj_base.specs.declared.outcome.Outcome.{Outcome as DeclaredOutcome}
-use Rattle.dpj_runs.specs.Actions.{Ending, Program}
+use Rattle.dpj_typed.specs.Plain.{PlainProgram}
+use Rattle.dpj_runs.specs.Actions.{Branches, Do, Ending, Exit, Fork, Program}
+use Rattle.dpj_runs.specs.Blocks.{Legal, Out_of, hold}
 use Rattle.dpj_runs.specs.Objects.{Path}
-use Rattle.dpj_runs.specs.Runs.{Ended, Event, Run}
+use Rattle.dpj_runs.specs.Runs.{Ended, Event, Run, mine}
 use Rattle.dpj_runs.specs.Schedules.{Limits, Numbered, Ran, Ready, Within, branch_is, root_is}
 use Rattle.dpj_runs.proofs.Bound.{finished_bounded, ran_bounded}
 use Rattle.dpj_runs.proofs.Schedules.{ran_legal}
@@ -14,17 +17,23 @@ use Rattle.dpj_steps.specs.Laws.{EachKeeps}
 use Rattle.dpj_steps.specs.Steps.{stepped}
 use Rattle.dpj_elided.specs.Laws.{NamesAreKnown}
 use Rattle.dpj_code.specs.Plain.{plain_code}
+use Rattle.dpj_code.specs.declared.code.Code.{Code}
+use Rattle.dpj_gen.specs.Resolved.{Resolved}
+use Rattle.dpj_gen.specs.Whole.{compiled}
+use Rattle.dpj_legs.specs.declared.action.Action.{Action}
+use Rattle.dpj_legs.specs.declared.action.Action.TheVariants as action
 use Rattle.dpj_heap.specs.Heap.{object_at, values_of}
-use Rattle.dpj_going.specs.Going.{CompiledGoesOn}
+use Rattle.dpj_going.specs.Going.{CompiledGoesOn, HasMain}
 use Rattle.dpj_tasks.specs.declared.task.Task.{Task as Live}
 use Rattle.dpj_machine.specs.Premise.{GoesOnAble}
-use Rattle.dpj_machine.specs.Replay.{CanBeMade, NextOf}
+use Rattle.dpj_machine.specs.Replay.{CanBeMade, IsStuck, LeadsTo, Moment, NextOf}
 use Rattle.dpj_recorded.specs.Laws.{LeftOpen, Records, SchedulesAreShort, SomeTaskIsReady, StuckForFewReasons, limits}
+use Rattle.dpj_recorded.proofs.Acting.{event_of}
 use Rattle.dpj_recorded.proofs.Blocks.{some_there}
 use Rattle.dpj_recorded.proofs.Ready.{ready_there}
 use Rattle.dpj_recorded.proofs.Recorded.{FJ, LedTo, led_to, recorded, right}
 use Rattle.dpj_recorded.proofs.Sizes.{all_charged, object_charged}
-use Rattle.dpj_recorded.proofs.Unstuck.{stuck_any}
+use Rattle.dpj_recorded.proofs.Unstuck.{exit_next, fork_next, stuck_any}
 use Rattle.dpj_recorded.proofs.Waiting.{all_noted, all_rest}
 
 ran_within : (Q : Program) (L : Limits) (ks : List ℕ) (R : Run) → Ran Q L ks R → Within Q L R
@@ -70,18 +79,62 @@ module _ (keeps : EachKeeps) (known : NamesAreKnown) (going : CompiledGoesOn) wh
       go None h = (let b = ran_bounded (stepped P arg) (keeps P arg).disciplined (keeps P arg).paced (limits L) ks h.0 h.1 in omega (arith, b))
       go (Some o) h = finished_bounded (stepped P arg) (keeps P arg).disciplined (keeps P arg).paced (limits L) ks h.0 h.1
 
+  -- no object has more fields or elements than are counted
+  small_values : (code : Code) (P : PlainProgram) (L : DeclaredLimits) (arg : ℤ) (is : plain_code code ≡ compiled P) (resolved : Resolved P) (main : HasMain P) (few : L.steps ≤ 20000000)
+      → L.cells ≤ 16777216 → (ks : List ℕ) (m : Moment) → LeadsTo code L arg ks m → LedTo code P L arg is resolved main few ks m
+      → (n : ℕ) → length (values_of (object_at m.world.heap n)) < 2 ^ 31
+  small_values code P L arg is resolved main few cells ks m leads A n =
+      let c = object_charged m.world.heap n (all_charged code L arg ks m leads) in
+      let u = A.tied.costs.cells in
+      let w = (ran_within (stepped P arg) (limits L) ks A.run A.ran).cells in omega (arith, c, u, w, cells)
+
   pub few_reasons : StuckForFewReasons
   few_reasons code P L arg is resolved main few cells ks m leads k s =
       subst (λ j. (x : NextOf (plain_code code) m j s.event) → (CanBeMade (plain_code code) m.world s.event x.stands.state → ⊥)
       → LeftOpen m.world j s.event.action) s.next.stands.number
-      (λ x unmade. stuck_any code P arg lets L (right code P L arg is resolved main few) (FJ code P L arg is resolved main few) A.tied A.short A.blocks A.lives (all_noted code L arg ks m leads) small (keeps P arg).lively
+      (λ x unmade. stuck_any code P arg lets L (right code P L arg is resolved main few) (FJ code P L arg is resolved main few) A.tied A.short A.blocks A.lives (all_noted code L arg ks m leads)
+      (small_values code P L arg is resolved main few cells ks m leads A) (keeps P arg).lively
       (keeps P arg).in_turn s.event.task s.event.turns s.event.wants s.event.action x unmade) s.next s.unmade
     where
       A : LedTo code P L arg is resolved main few ks m
       A = led_to code P L arg is resolved main few ks m leads s.next.unfinished
 
-      small : (n : ℕ) → length (values_of (object_at m.world.heap n)) < 2 ^ 31
-      small n =
-          let c = object_charged m.world.heap n (all_charged code L arg ks m leads) in
-          let u = A.tied.costs.cells in
-          let w = (ran_within (stepped P arg) (limits L) ks A.run A.ran).cells in omega (arith, c, u, w, cells)
+  -- where a machine is stuck its run has a next event that leaves a block and has none open, or forks more branches than are counted
+  pub record StuckRun (P : PlainProgram) (arg : ℤ) : Type 0 where
+    pub run : Run
+    pub event : Event
+    pub legal : Legal (stepped P arg) (event ∷ run)
+    pub what : ((event.act ≡ Do Exit) × (hold (mine run event.path) ≡ Out_of)) ⊎ ((ts : Branches) × (event.act ≡ Fork ts) × (2 ^ 32 ≤ length ts.tasks))
+
+  pub stuck_run : (code : Code) (P : PlainProgram) (L : DeclaredLimits) (arg : ℤ) → plain_code code ≡ compiled P → Resolved P → HasMain P → L.steps ≤ 20000000
+      → L.cells ≤ 16777216 → (ks : List ℕ) (m : Moment) → LeadsTo code L arg ks m → (k : ℕ) → IsStuck (plain_code code) m k → StuckRun P arg
+  stuck_run code P L arg is resolved main few cells ks m leads k s =
+      subst (λ j. (x : NextOf (plain_code code) m j s.event) → LeftOpen m.world j s.event.action → StuckRun P arg) s.next.stands.number
+      (λ x left. by_action s.event.action x left) s.next (few_reasons code P L arg is resolved main few cells ks m leads k s)
+    where
+      A : LedTo code P L arg is resolved main few ks m
+      A = led_to code P L arg is resolved main few ks m leads s.next.unfinished
+
+      legal : Legal (stepped P arg) A.run
+      legal = ran_legal (stepped P arg) (limits L) ks A.run A.ran
+
+      by_action : (a : Action) (x : NextOf (plain_code code) m s.event.task (event_of s.event.task s.event.turns s.event.wants a)) → LeftOpen m.world s.event.task a → StuckRun P arg
+      by_action action.Exit x left =
+          let h = exit_next code P arg lets L (right code P L arg is resolved main few) (FJ code P L arg is resolved main few) A.tied A.short A.blocks A.lives (all_noted code L arg ks m leads)
+          (small_values code P L arg is resolved main few cells ks m leads A) (keeps P arg).lively (keeps P arg).in_turn s.event.task s.event.turns s.event.wants x left in
+          record { run = A.run; event = h.0; legal = (h.1, legal); what = inl (h.2, h.3) }
+      by_action (action.Fork forking many) x left =
+          let h = fork_next code P arg lets L (right code P L arg is resolved main few) (FJ code P L arg is resolved main few) A.tied A.short A.blocks A.lives (all_noted code L arg ks m leads)
+          (small_values code P L arg is resolved main few cells ks m leads A) (keeps P arg).lively (keeps P arg).in_turn s.event.task s.event.turns s.event.wants forking many x in
+          record { run = A.run; event = h.0; legal = (h.1, legal); what = inr (h.2, h.3, (let n = h.4 in omega (arith, n, left))) }
+      by_action action.Rest x left = absurd left
+      by_action (action.Read n j) x left = absurd left
+      by_action (action.Write n j v) x left = absurd left
+      by_action (action.Look n) x left = absurd left
+      by_action (action.NewObject d rs constructor) x left = absurd left
+      by_action (action.NewArray region len first) x left = absurd left
+      by_action (action.Print bytes) x left = absurd left
+      by_action (action.Enter effects) x left = absurd left
+      by_action (action.Begin b) x left = absurd left
+      by_action action.Join x left = absurd left
+      by_action (action.End z) x left = absurd left

@@ -228,7 +228,7 @@ module _ (code : Code) (P : PlainProgram) (arg : ℤ) (L : Limits) (right : Righ
                   go : {s : Option Lock} {p : Path} → StandTied w R p s → s ≡ None → standing R p ≡ Outside
                   go {p = p} (stands_out a h) z = stands_outside R p a h
                   go (has_opened n d E G a h l s b) z = absurd (cc)
-                  go (was_adopted o d q G a t) z = absurd (cc)
+                  go (was_adopted o d q G a t n b) z = absurd (cc)
 
               hindered : (q : ℕ) (o : Option Lock) → get m.world.locks q ≡ o → locks.block_interferes o W ≡ false
               hindered q None i = refl
@@ -237,7 +237,7 @@ module _ (code : Code) (P : PlainProgram) (arg : ℤ) (L : Limits) (right : Righ
                 where
                   by_stand : {s : Option Lock} (p : Path) → StandTied w R p s → s ≡ Some (Opener es d) → locks.lists_interfere W es ≡ false
                   by_stand p (stands_out a h) z = absurd (cc)
-                  by_stand p (was_adopted o dd q G a t) z = absurd (cc)
+                  by_stand p (was_adopted o dd q G a t n b) z = absurd (cc)
                   by_stand p (has_opened n dd D G a h l s b) z =
                       let lets : not (run.lists_interfere G entry.0) ≡ true = admitted.clear outside p G (opener_stands R p G n a h) in
                       let same_effects : map noted D ≡ es = cc in

@@ -15,10 +15,11 @@ use Rattle.dpj_code.specs.Plain.{PlainCode, plain_code}
 use Rattle.dpj_code.specs.declared.code.Code.{Code}
 use Rattle.dpj_gen.specs.Compiled.{Compiled, SameAct, SameReply}
 use Rattle.dpj_heap.specs.Heap.{object_at, values_of}
-use Rattle.dpj_runs.specs.Actions.{Action, Begin, Branches, Do, End, Fork, Join, Next, Over, Own, Program, Reply, Rule, Task, Unknown, steps}
+use Rattle.dpj_runs.specs.Actions.{Action, Begin, Branches, Do, End, Enter, Exit, Fork, Join, Next, Over, Own, Program, Reply, Rule, Task, Unknown, Went, steps}
+use Rattle.dpj_runs.specs.Blocks.{Allowed, Out_of, hold}
 use Rattle.dpj_runs.specs.Meaning.{InTurn, Lively}
-use Rattle.dpj_runs.specs.Objects.{LocalRegion, Name}
-use Rattle.dpj_runs.specs.Runs.{Run, Upto, answers, count, event_steps, mine, now, total}
+use Rattle.dpj_runs.specs.Objects.{Effect, LocalRegion, Name}
+use Rattle.dpj_runs.specs.Runs.{Event, Right, Run, Upto, answers, count, event_steps, mine, now, total}
 use Rattle.dpj_runs.specs.Schedules.{begins, one_begin}
 use Rattle.dpj_runs.proofs.Cost.{total_step}
 use Rattle.dpj_runs.proofs.Faithful.{begin_after}
@@ -47,15 +48,15 @@ use Rattle.dpj_world.specs.World.{CanEnter}
 use Rattle.dpj_machine.specs.Replay.{StartsIn, CanBeMade, Moment, NextOf}
 use Rattle.dpj_machine.specs.Wants.{noted, wanted_after}
 use Rattle.dpj_recorded.specs.Laws.{LeftOpen}
-use Rattle.dpj_recorded.proofs.Sights.{Each, Sight, StartLike, each_more, each_none, ActionLike, HaltLike, OwnLike, asks_like, dead_like, end_like, finished_like, look_like, read_like, write_like}
+use Rattle.dpj_recorded.proofs.Sights.{each_length, Each, Sight, StartLike, each_more, each_none, ActionLike, HaltLike, OwnLike, asks_like, dead_like, end_like, finished_like, look_like, read_like, write_like}
 use Rattle.dpj_recorded.proofs.Acting.{AskedAt, RightFor, asked_at, at, event_of, found as found_live, here, live}
 use Rattle.dpj_recorded.proofs.Begins.{from_join_at, from_there_at}
 use Rattle.dpj_recorded.proofs.Bodies.{body_there}
 use Rattle.dpj_recorded.proofs.Forking.{AtJoin, HasBegun}
 use Rattle.dpj_recorded.proofs.Joins.{ForksAreJoined}
 use Rattle.dpj_recorded.proofs.Asked.{ActionIn, ActionOf, AllLength, acts_at, begins_next, compiled_at, asks_begin, asks_join, asks_one, beginning_like, disciplined, forking_like, joining_like, runs_if, same_begin, same_end, same_fork, same_join}
-use Rattle.dpj_recorded.proofs.Blocks.{ending_like, own_acts, said_same}
-use Rattle.dpj_recorded.proofs.Inside.{BlocksTied, EffectsIn, get_there}
+use Rattle.dpj_recorded.proofs.Blocks.{ending_like, leave_like, own_acts, said_same}
+use Rattle.dpj_recorded.proofs.Inside.{BlocksTied, EffectsIn, get_there, none_open}
 use Rattle.dpj_recorded.proofs.Legs.{HaltOf}
 use Rattle.dpj_recorded.proofs.Lives.{LivesTied, NoForkLast}
 use Rattle.dpj_recorded.proofs.Ties.{ForkTied, LiveTied, Q, ScopeTied, Tied}
@@ -357,3 +358,43 @@ module _ (code : Code) (P : PlainProgram) (arg : ℤ) (rule : Rule) (L : Limits)
     stuck_any (action.Begin b) x unmade = stuck_begin b x unmade
     stuck_any action.Join x unmade = stuck_join x unmade
     stuck_any (action.End z) x unmade = stuck_end z x unmade
+
+    -- an event that comes next in the run where the task stands, and is no entry
+    module _ (a : DeclaredAction) (x : At a) where
+      abbrev next_one : ℕ → Action → Event
+      next_one n act = record { path = (V a x).path; turns = n; act = act; ans = Went }
+
+      allowed_there : (n : ℕ) (act : Action) → QR.meaning (V a x).path (V a x).task.task (answers (mine R (V a x).path)) ≡ Next n act
+          → ((E : List Effect) → act ≡ Do (Enter E) → ⊥) → Right QR R (V a x).path act Went → Allowed QR R (next_one n act)
+      allowed_there n act asks no_entry right = record {
+        follows = record { task = (V a x).task.task; begun = (V a x).task.begun; asks = asks; right = right };
+        enters = λ E e. absurd (no_entry E e);
+      }
+
+    -- what the run comes to where an exit or a fork is left open
+    pub exit_next : (x : At action.Exit) → LeftOpen m.world k action.Exit
+        → (e : Event) × Allowed QR R e × (e.act ≡ Do Exit) × (hold (mine R e.path) ≡ Out_of)
+    exit_next x closed =
+        asked_by action.Exit x ((e : Event) × Allowed QR R e × (e.act ≡ Do Exit) × (hold (mine R e.path) ≡ Out_of)) (λ n act b c asks says like same.
+        let q = own_acts C P act like same meaning.Exit says in
+        let is : act ≡ Do Exit = q.1 ∙ ap (λ (o : Own). Do o) (leave_like q.2) in (
+          next_one action.Exit x n act,
+          allowed_there action.Exit x n act asks (λ E e. (let both : Do Exit ≡ Do (Enter E) = sym is ∙ e in cc))
+              (subst (λ act. Right QR R (V action.Exit x).path act Went) (sym is) refl),
+          is,
+          none_open (B.stand k (y action.Exit x).0 (V action.Exit x).path (y action.Exit x).1 (V action.Exit x).there) closed,
+        ))
+
+    pub fork_next : (forking : Forking) (many : ℕ) (x : At (action.Fork forking many))
+        → (e : Event) × Allowed QR R e × (ts : Branches) × (e.act ≡ Fork ts) × (length ts.tasks ≡ many)
+    fork_next forking many x =
+        asked_by (action.Fork forking many) x ((e : Event) × Allowed QR R e × (ts : Branches) × (e.act ≡ Fork ts) × (length ts.tasks ≡ many)) (λ n act b c asks says like same.
+        let h = forking_like (subst (λ b. ActionLike w b c) says.1 like) in
+        let f = same_fork C P act forking h.0 (subst (λ c. SameAct C P act c) h.1 same) in (
+          next_one (action.Fork forking many) x n act,
+          allowed_there (action.Fork forking many) x n act asks (λ E e. (let both : Fork f.0 ≡ Do (Enter E) = sym f.1 ∙ e in cc))
+              (subst (λ act. Right QR R (V (action.Fork forking many) x).path act Went) (sym f.1) refl),
+          f.0,
+          f.1,
+          sym (AllLength C P h.0 f.0.tasks f.2) ∙ sym (each_length h.2) ∙ says.2,
+        ))

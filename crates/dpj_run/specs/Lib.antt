@@ -1,2 +1,3 @@
 pub mod Run
 pub mod Replays
+pub mod Rounding

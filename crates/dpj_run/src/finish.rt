@@ -23,7 +23,7 @@ pub fn finish(alloc: Global, machine: &mut Machine) -> Result<Option<Outcome>, N
 }
 
 /// How the run of a machine came out.
-fn came_out(alloc: Global, machine: &Machine) -> Result<Option<Outcome>, NoMemory>
+pub fn came_out(alloc: Global, machine: &Machine) -> Result<Option<Outcome>, NoMemory>
     ensures { IfOk result (λ outcome. outcome ≡ machine.now.outcome) }
 {
     match machine.outcome() {

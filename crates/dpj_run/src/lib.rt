@@ -1,5 +1,5 @@
 //! Runs typed programs: the program is compiled, a machine is opened on its code, and the machine is stepped until the run
-//! has come out, by the caller alone (`elide`), by workers (`run`), or as a schedule says (`replay`).
+//! has come out, by the caller alone (`elide`), by workers (`run`), in rounds (`run_rounds`), or as a schedule says (`replay`).
 //!
 //! What it promises (`specs/Run.antt`): an outcome is that of a run of the program's code within the limits, which the
 //! schedule leads to that was made. `elide` makes the run in which at each step the task that began last goes on. Where there
@@ -13,9 +13,11 @@ mod finish;
 mod open;
 mod recorded;
 mod replaying;
+mod rounding;
 mod running;
 
 pub use eliding::elide;
 pub use recorded::Recorded;
 pub use replaying::{Replayed, replay};
+pub use rounding::run_rounds;
 pub use running::run;

@@ -19,6 +19,7 @@ use Rattle.dpj_runs.proofs.Things.{thing_later, same_some, answering}
 use Rattle.dpj_sound.specs.Shapes.{Shape, Shapes, Grows, FitsIn, CellAt, Describes}
 use Rattle.dpj_sound.specs.Frames.{State}
 use Rattle.dpj_sound.specs.Work.{Touches, Moves, ReadFits, WriteFits, LookFits, Answers, entries_after, After}
+use Rattle.dpj_sound.proofs.Calm.{MayLeave}
 use Rattle.dpj_sound.proofs.Carried.{grows_grows, agrees_self, NewTask, Step}
 use Rattle.dpj_sound.proofs.Cells.{one_cell, out_is_array, first_value_fits, look_fits}
 use Rattle.dpj_sound.proofs.Moments.{Moment, at, state_of, MayDo, Comes, Quietly, still, making, Here, Goes, goes_same}
@@ -45,6 +46,15 @@ same_name_self n = and_from _ _ (test_same n.maker n.maker refl) (eq-eqb n.count
 leaves_entry : (E : List Effect) (h : Hold) → own_hold Exit (own_hold (Enter E) h) ≡ h
 leaves_entry E Out_of = refl
 leaves_entry E (In_block n F) = refl
+
+-- who leaves a block stands inside one
+leaves_open : (Es : List (List Effect)) → MayLeave Exit Es → hold_of Es ≡ Out_of → ⊥
+leaves_open [] leaves e = leaves
+leaves_open (E ∷ Es) leaves e = entered_there (hold_of Es) e
+  where
+    entered_there : (h : Hold) → own_hold (Enter E) h ≡ Out_of → ⊥
+    entered_there Out_of e = cc
+    entered_there (In_block n F) e = cc
 
 -- entries, as the theory of runs counts them
 hold_own : (o : Own) (Es : List (List Effect)) → own_hold o (hold_of Es) ≡ hold_of (entries_after o Es)
@@ -309,14 +319,14 @@ module _ (P : PlainProgram) (Q : Program) {N : ℕ} {R : Run} {e : Event} (l : F
           (sym (value_unwritten (record { object = n; slot = k }) u (none_written (record { object = n; slot = k })) ∙ ap (λ o. or_else o (first_value u k)) empty)) first
 
   -- each action of a task's own
-  pub own_step : (d : ℕ) → suc N ≤ d + length (e ∷ R) → (st : State) → Grows st.shapes s.shapes → hold (mine R e.path) ≡ hold_of st.entries → (o : Own) → e.act ≡ Do o → (m : Moves P kept.bounds st o) →
+  pub own_step : (d : ℕ) → suc N ≤ d + length (e ∷ R) → (st : State) → Grows st.shapes s.shapes → hold (mine R e.path) ≡ hold_of st.entries → (o : Own) → e.act ≡ Do o → (m : Moves P kept.bounds st o) → MayLeave o st.entries →
       ((x : Answer) (h : Moment P kept.bounds) → (u : State) × (h ≡ at u) × After o st u × Answers P kept.bounds st o m x u → Goes P kept.bounds kept.scope copies d h (λ xs. replies (x ∷ xs))) →
       reply Q R e.path o ≡ Some e.ans → Step P Q N R e a.task s
-  own_step d en st grown held (Read n i) act m then r =
+  own_step d en st grown held (Read n i) act m leaves then r =
       let z = answering (λ t. read_at R t n (slot_of i (size t))) (thing_of Q R n) e.ans r in
       same_step d en st grown held (Read n i) act m then refl (subst (λ x. ReadFits m.cell s.shapes x) (sym z.answer) (read_fits st.shapes m.cell grown z.thing z.is_there))
       (record { state = st; reaches = m; grown = grown; held = held }) (no_write (Read n i) act (λ x j v q. cc))
-  own_step d en st grown held (Write n i v) act m then r =
+  own_step d en st grown held (Write n i v) act m leaves then r =
       let z = answering (λ t. wrote_at (slot_of i (size t))) (thing_of Q R n) e.ans r in
       same_step d en st grown held (Write n i v) act m then refl (subst (λ x. WriteFits m.0.cell x) (sym z.answer) (write_fits st.shapes m.0.cell grown z.thing z.is_there))
       (record { state = st; reaches = m.0; grown = grown; held = held }) wrote
@@ -332,13 +342,14 @@ module _ (P : PlainProgram) (Q : Program) {N : ℕ} {R : Run} {e : Event} (l : F
           subst (λ y. CellAt P y (pos c.slot) m.0.cell.env m.0.cell.ty m.0.cell.rpl) shape (subst (λ j. CellAt P m.0.cell.shape j m.0.cell.env m.0.cell.ty m.0.cell.rpl) i_is m.0.cell.cell) in
           subst (λ y. FitsIn P s.shapes env ty y) v_is
           (one_cell there cell (λ env ty rpl. FitsIn P s.shapes env ty v) (fits_grows P st.shapes s.shapes grown m.0.cell.env m.0.cell.ty v m.1))
-  own_step d en st grown held (Look n) act m then r =
+  own_step d en st grown held (Look n) act m leaves then r =
       let z = answering seen (thing_of Q R n) e.ans r in
       same_step d en st grown held (Look n) act m then refl (subst (λ x. LookFits m.0 x) (sym z.answer) (look_fits P m.0 z.thing (thing_is n m.0 z.thing (grown n m.0 m.1) z.is_there))) tt
       (no_write (Look n) act (λ x j v q. cc))
-  own_step d en st grown held (New t c) act m then r = made_step d en st grown held t c act m then (let k : Some (Named new_name) ≡ Some e.ans = r in cc)
-  own_step d en st grown held Rest act m then r = same_step d en st grown held Rest act m then refl (let k : Some Went ≡ Some e.ans = r in cc) tt (no_write Rest act (λ x j v q. cc))
-  own_step d en st grown held (Print bytes) act m then r =
+  own_step d en st grown held (New t c) act m leaves then r = made_step d en st grown held t c act m then (let k : Some (Named new_name) ≡ Some e.ans = r in cc)
+  own_step d en st grown held Rest act m leaves then r = same_step d en st grown held Rest act m then refl (let k : Some Went ≡ Some e.ans = r in cc) tt (no_write Rest act (λ x j v q. cc))
+  own_step d en st grown held (Print bytes) act m leaves then r =
       same_step d en st grown held (Print bytes) act m then refl (let k : Some Went ≡ Some e.ans = r in cc) tt (no_write (Print bytes) act (λ x j v q. cc))
-  own_step d en st grown held (Enter E) act m then r = same_step d en st grown held (Enter E) act m then refl (let k : Some Went ≡ Some e.ans = r in cc) tt (no_write (Enter E) act (λ x j v q. cc))
-  own_step d en st grown held Exit act m then r = same_step d en st grown held Exit act m then refl (let k : Some Went ≡ Some e.ans = r in cc) tt (no_write Exit act (λ x j v q. cc))
+  own_step d en st grown held (Enter E) act m leaves then r = same_step d en st grown held (Enter E) act m then refl (let k : Some Went ≡ Some e.ans = r in cc) tt (no_write (Enter E) act (λ x j v q. cc))
+  own_step d en st grown held Exit act m leaves then r =
+      same_step d en st grown held Exit act m then refl (let k : Some Went ≡ Some e.ans = r in cc) (λ out. leaves_open st.entries leaves (sym held ∙ out)) (no_write Exit act (λ x j v q. cc))

@@ -265,7 +265,7 @@ module _ (P : PlainProgram) (wt : WellTyped P) (arg : ℤ) {N : ℕ} {R : Run} {
 
       calm : (c : Bool) × IsCalm P bb [] (Back [] c) (does (named_by bb.path) P z)
       calm = (let c = ok.calm.1 n.u.1 z n.there in
-          task_calm P bb wt (sym (members e.path)) (named_by bb.path) z.frame.left c.passes c.members [] (λ x. c.calm (must x)) (begun z.work.takes z.frame))
+          task_calm P bb wt (sym (members e.path)) (named_by bb.path) z.frame.left c.passes c.members [] (λ x. c.calm (must x)) c.few (begun z.work.takes z.frame) c.small)
 
       q_is : q ≡ v ∷ e.path
       q_is = n.is ∙ ap (λ m. (m, n.u.1) ∷ e.path) (sym n.fork_number)
@@ -355,7 +355,7 @@ module _ (P : PlainProgram) (wt : WellTyped P) (arg : ℤ) {N : ℕ} {R : Run} {
           (may : MayDo P (s.keeping e.path).bounds (s.keeping e.path).scope a.task.work.copies m c) →
           ((x : Answer) (h : Moment P (s.keeping e.path).bounds) → Comes P (s.keeping e.path).bounds (s.keeping e.path).scope a.task.work.copies m c may x h →
           Goes P (s.keeping e.path).bounds (s.keeping e.path).scope a.task.work.copies w.depth h (λ xs. replies P Q l s a room (x ∷ xs))) → Right Q R e.path c e.ans → Step P Q N R e a.task s
-      by (at st) g h i (Do o) q m then r = own_step P Q l s a room w.depth w.enough st g h o q m then r
+      by (at st) g h i (Do o) q m then r = own_step P Q l s a room w.depth w.enough st g h o q m.0 m.1 then r
       by (at st) g h i (Fork ts) q m then r = fork_step w.depth w.enough st g h ts q m.0 m.1 (then e.ans (forked st ts.kind ts.tasks m.0 0) refl)
       by (at st) g h i (Begin n) q m then r = absurd m
       by (at st) g h i Join q m then r = absurd m

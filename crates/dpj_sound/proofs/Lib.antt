@@ -31,6 +31,7 @@ pub mod Making
 pub mod Meeting
 pub mod Members
 pub mod Moments
+pub mod Never
 pub mod Numbers
 pub mod PartForks
 pub mod Parts
@@ -39,6 +40,7 @@ pub mod Places
 pub mod Quiet
 pub mod Regions
 pub mod Root
+pub mod Small
 pub mod Sound
 pub mod Statements
 pub mod Tasks

@@ -18,7 +18,7 @@ use Rattle.dpj_sound.specs.Accesses.{Bounds}
 use Rattle.dpj_sound.specs.Frames.{State, Since}
 use Rattle.dpj_sound.specs.Branches.{Forks, Brings}
 use Rattle.dpj_sound.specs.Work.{Brought, Moves, Answers, After}
-use Rattle.dpj_sound.proofs.Calm.{CalmFork}
+use Rattle.dpj_sound.proofs.Calm.{CalmFork, MayLeave}
 use Rattle.dpj_sound.proofs.Work.{since_now, since_after}
 
 abbrev pub Told : Type 0
@@ -82,7 +82,7 @@ state_of (forked st forking ts forks begun) = st
 module _ (P : PlainProgram) (b : Bounds) (L : Scope) (copies : List ℕ) where
   -- what it may do next, in order
   abbrev MayAt : State → Action → Type 0
-  MayAt st (Do o) = Moves P b st o
+  MayAt st (Do o) = Moves P b st o × MayLeave o st.entries
   MayAt st (Fork ts) = Forks P b st ts.kind ts.tasks × CalmFork P b st.entries ts.kind ts.tasks
   MayAt st (Begin i) = ⊥
   MayAt st Join = ⊥
@@ -101,7 +101,7 @@ module _ (P : PlainProgram) (b : Bounds) (L : Scope) (copies : List ℕ) where
 
   -- and where it stands then
   abbrev ComesAt : (st : State) (a : Action) → MayAt st a → Answer → Moment P b → Type 0
-  ComesAt st (Do o) m x h = (u : State) × (h ≡ at u) × After o st u × Answers P b st o m x u
+  ComesAt st (Do o) m x h = (u : State) × (h ≡ at u) × After o st u × Answers P b st o m.0 x u
   ComesAt st (Fork ts) m x h = h ≡ forked st ts.kind ts.tasks m.0 0
   ComesAt st (Begin i) m x h = ⊥
   ComesAt st Join m x h = ⊥
@@ -190,16 +190,16 @@ module _ (P : PlainProgram) (b : Bounds) (L : Scope) (copies : List ℕ) where
   stands_in {n} d t st {u} k e m r s =
       subst (λ z. Goes d z (λ xs. k (told_on 0 st.made xs))) (sym e) (subst (λ y. Goes d (at u) (λ xs. k (told_on 0 y xs))) m (s.from d 0 most_pos (room_falls n d t r)))
 
-  pub good_own : {V : Type 0} {n : ℕ} (st : State) (o : Own) (k : Answer → Told → Out V) (K : V → Told → Reply) (m : Moves P b st o) →
+  pub good_own : {V : Type 0} {n : ℕ} (st : State) (o : Own) (k : Answer → Told → Out V) (K : V → Told → Reply) (m : Moves P b st o) → MayLeave o st.entries →
       ((x : Answer) (u : State) → After o st u → Answers P b st o m x u → Good n (at u) (λ w. finish (k x w) K)) → Good n (at st) (λ w. finish (bind (asked (Do o) w) k) K)
-  good_own {V} {n} st o k K m more = record { from = go }
+  good_own {V} {n} st o k K m leaves more = record { from = go }
     where
       go : (d t : ℕ) → t < most_turns → most_turns * d + (most_turns - t) < n → Goes d (at st) (λ xs. finish (bind (asked (Do o) (told_on t st.made xs)) k) K)
       go zero t l r = tt
       go (suc d) t l r = record {
         moment = at st;
         quietly = still;
-        may = m;
+        may = (m, leaves);
         then = λ x h c. stands_in d t st (λ w. finish (k x w) K) c.1 c.2.made r (more x c.0 c.2 c.3);
       }
 
@@ -214,7 +214,7 @@ module _ (P : PlainProgram) (b : Bounds) (L : Scope) (copies : List ℕ) where
       go (suc d) t l r true e = record {
         moment = at st;
         quietly = still;
-        may = tt;
+        may = (tt, tt);
         then = λ x h c. subst (λ z. Goes d z (λ xs. finish (k (told_on 0 st.made xs)) K)) (sym c.1) (subst (λ y. Goes d (at c.0) (λ xs. finish (k (told_on 0 y xs)) K)) c.2.made
             ((s c.0 (since_after Rest refl c.2) c.2.made).from d 0 most_pos (omega arith)));
       }

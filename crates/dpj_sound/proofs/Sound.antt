@@ -59,7 +59,7 @@ module _ (P : PlainProgram) (Q : Program) where
   OwnOk k S es (New t c) = Unit {0}
   OwnOk k S es (Print bytes) = Unit {0}
   OwnOk k S es (Enter E) = Unit {0}
-  OwnOk k S es Exit = Unit {0}
+  OwnOk k S es Exit = hold es ≡ Out_of → ⊥
 
   -- what an event of a task keeps to, with the run before it
   abbrev pub EventOk : Kept → (ℕ → ℕ → Kept) → Shapes → Run → Path → Action → Type 0

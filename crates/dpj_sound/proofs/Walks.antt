@@ -18,6 +18,7 @@ use Rattle.dpj_sound.specs.Work.{Result, Prog, AfterMaking, Rounds, InOrder}
 use Rattle.dpj_sound.proofs.Calm.{Entries, Back, IsCalm}
 use Rattle.dpj_sound.proofs.Frames.{frame_since}
 use Rattle.dpj_sound.proofs.Moments.{Told, Out, finish, at, having_made, EndFits, Goes, goes_same, goes_making, told_on, Good, good_same, good_less, good_end, bind_bind, finish_bind, good_own, good_turn, good_fork}
+use Rattle.dpj_sound.proofs.Small.{AreSmall, small_answers, small_brings}
 use Rattle.dpj_sound.proofs.Work.{since_now, since_since}
 
 module _ (P : PlainProgram) (b : Bounds) (L : Scope) (copies : List ℕ) where
@@ -28,8 +29,8 @@ module _ (P : PlainProgram) (b : Bounds) (L : Scope) (copies : List ℕ) where
 
   -- a loop from a state, and a test and a body that are in order from each later one in which the locals fit
   module _ (M : Scope) (g : Setting) (st : State) (c : Bool) (t s : Frame → Prog)
-      (ht : (h : State) (e : Frame) → Since st h → FrameFits P b.path h g M e → Fine (λ u r. Rounds P b.path h g M u r × Back st.entries c u.entries r) h (t e))
-      (hs : (h : State) (e : Frame) → Since st h → FrameFits P b.path h g M e → Fine (λ u r. Rounds P b.path h g M u r × Back st.entries c u.entries r) h (s e)) where
+      (ht : (h : State) (e : Frame) → Since st h → FrameFits P b.path h g M e → AreSmall e.values → Fine (λ u r. Rounds P b.path h g M u r × Back st.entries c u.entries r) h (t e))
+      (hs : (h : State) (e : Frame) → Since st h → FrameFits P b.path h g M e → AreSmall e.values → Fine (λ u r. Rounds P b.path h g M u r × Back st.entries c u.entries r) h (s e)) where
     abbrev Round : State → State → Result → Type 0
     Round h u r = Rounds P b.path h g M u r × Back st.entries c u.entries r
 
@@ -40,7 +41,7 @@ module _ (P : PlainProgram) (b : Bounds) (L : Scope) (copies : List ℕ) where
     less k = λ h r z. good_less P b L copies (omega arith) (k h r z)
 
     good_past : (n : ℕ) (K : Result → Told → Reply) → After (suc n) K →
-        ((h : State) (e : Frame) → Since st h → FrameFits P b.path h g M e → Good P b L copies n (at h) (λ w. finish (again (named_by b.path) t s e w) K)) →
+        ((h : State) (e : Frame) → Since st h → FrameFits P b.path h g M e → AreSmall e.values → Good P b L copies n (at h) (λ w. finish (again (named_by b.path) t s e w) K)) →
         (h u : State) → Since st h → (r : Result) → Round h u r →
         Good P b L copies (suc n) (at u) (λ w. finish (tested turned (λ e v. run (told (named_by b.path)) (s e) v) (λ e v. again (named_by b.path) t s e v) r w) K)
     good_past n K k more h u since (Returns v) y = k u (Returns v) ((since_since since y.0.0, y.0.1), y.1)
@@ -48,7 +49,7 @@ module _ (P : PlainProgram) (b : Bounds) (L : Scope) (copies : List ℕ) where
       where
         on_round : (z w : State) → Since st z → (r : Result) → Round z w r → Good P b L copies n (at w) (λ x. finish (rounded (λ e v. again (named_by b.path) t s e v) r x) K)
         on_round z w zs (Returns x) q = good_less P b L copies (omega arith) (k w (Returns x) ((since_since zs q.0.0, q.0.1), q.1))
-        on_round z w zs (Goes_on x f) q = more w f (since_since zs q.0.0) q.0.1
+        on_round z w zs (Goes_on x f) q = more w f (since_since zs q.0.0) q.0.1 q.1.2.1
 
         go : (c : Bool) → Good P b L copies (suc n) (at u) (λ w. finish (past_test (λ e v. run (told (named_by b.path)) (s e) v) (λ e v. again (named_by b.path) t s e v) v e w c) K)
         go false = k u (Goes_on v e) ((since_since since y.0.0, y.0.1), y.1)
@@ -56,22 +57,22 @@ module _ (P : PlainProgram) (b : Bounds) (L : Scope) (copies : List ℕ) where
             good_turn P b L copies u (λ x. bind (run (told (named_by b.path)) (s e) x) (λ r q. rounded (λ e v. again (named_by b.path) t s e v) r q)) K
             (λ z zs m. (let from : Since st z = since_since (since_since since y.0.0) zs in
             good_same P b L copies (λ w l. sym (finish_bind (run (told (named_by b.path)) (s e) w) _ K))
-            ((hs z e from (frame_since zs y.0.1)).good n _ (λ w r q. on_round z w from r q))))
+            ((hs z e from (frame_since zs y.0.1) y.1.2.1).good n _ (λ w r q. on_round z w from r q))))
 
-    good_loop : (n : ℕ) (K : Result → Told → Reply) → After n K → (h : State) (e : Frame) → Since st h → FrameFits P b.path h g M e →
+    good_loop : (n : ℕ) (K : Result → Told → Reply) → After n K → (h : State) (e : Frame) → Since st h → FrameFits P b.path h g M e → AreSmall e.values →
         Good P b L copies n (at h) (λ w. finish (again (named_by b.path) t s e w) K)
-    good_loop zero K k h e since ff = record { from = λ d x l r. absurd (omega arith) }
-    good_loop (suc n) K k h e since ff =
+    good_loop zero K k h e since ff small = record { from = λ d x l r. absurd (omega arith) }
+    good_loop (suc n) K k h e since ff small =
         good_same P b L copies (λ w l. sym (ap (λ o. finish o K) (loops_again (named_by b.path) t s e w l) ∙ finish_bind (run (told (named_by b.path)) (t e) w) _ K))
-        ((ht h e since ff).good (suc n) _ (λ u r y. good_past n K k (good_loop n K (less k)) h u since r y))
+        ((ht h e since ff small).good (suc n) _ (λ u r y. good_past n K k (good_loop n K (less k)) h u since r y))
 
   walk : (Q : State → Result → Type 0) (R : Entries → Result → Type 0) (p : Prog) (st : State) → InOrder P b Q st p → IsCalm P b st.entries R p → Fine (λ h r. Q h r × R h.entries r) st p
   unfolding InOrder
   walk Q R (Ret r) st o c = record { good = λ n K k. k st r (o, c) }
   walk Q R (Traps trap place) st o c = record { good = λ n K k. good_end P b L copies (Trapped trap place) tt }
   walk Q R (Act a j) st o c = record {
-    good = λ n K k. good_own P b L copies st a _ K o.0
-        (λ x u after fits. (walk Q R (j x) u (o.1 x u after fits) (subst (λ E. IsCalm P b E R (j x)) (sym after.entries) (c x))).good n K k);
+    good = λ n K k. good_own P b L copies st a _ K o.0 c.0
+        (λ x u after fits. (walk Q R (j x) u (o.1 x u after fits) (subst (λ E. IsCalm P b E R (j x)) (sym after.entries) (c.1 x (small_answers P b st a o.0 x u fits)))).good n K k);
   }
   walk Q R (Makes j) st o c = record {
     good = λ n K k. made n K
@@ -91,16 +92,16 @@ module _ (P : PlainProgram) (b : Bounds) (L : Scope) (copies : List ℕ) where
         good_same P b L copies (λ w l. ap (λ z. finish z K) (ap (λ z. bind z (λ r v. run (told (named_by b.path)) (j r) v)) (bind_done _)))
         (good_same P b L copies (λ w l. sym (finish_bind (again (named_by b.path) t s f w) _ K))
         (good_loop o.0 o.1 st c.0 t s
-        (λ h e since ff. walk (Rounds P b.path h o.1 o.0) (Back st.entries c.0) (t e) h (o.3 h e since ff) (subst (λ E. IsCalm P b E (Back st.entries c.0) (t e)) (sym since.entries) (c.1 e)))
-        (λ h e since ff. walk (Rounds P b.path h o.1 o.0) (Back st.entries c.0) (s e) h (o.4 h e since ff) (subst (λ E. IsCalm P b E (Back st.entries c.0) (s e)) (sym since.entries) (c.2 e)))
-        n _ (λ h r y. (walk Q R (j r) h (o.5 h r y.0) (subst (λ E. IsCalm P b E R (j r)) (sym y.1.0) (c.3 r y.1.1))).good n K k) st f (since_now st) o.2));
+        (λ h e since ff small. walk (Rounds P b.path h o.1 o.0) (Back st.entries c.0) (t e) h (o.3 h e since ff) (subst (λ E. IsCalm P b E (Back st.entries c.0) (t e)) (sym since.entries) (c.1 e small)))
+        (λ h e since ff small. walk (Rounds P b.path h o.1 o.0) (Back st.entries c.0) (s e) h (o.4 h e since ff) (subst (λ E. IsCalm P b E (Back st.entries c.0) (s e)) (sym since.entries) (c.2 e small)))
+        n _ (λ h r y. (walk Q R (j r) h (o.5 h r y.0) (subst (λ E. IsCalm P b E R (j r)) (sym y.1.0) (c.3 r y.1.1 y.1.2))).good n K k) st f (since_now st) o.2 c.4));
   }
   walk Q R (Split forking ts bs j) st o c = record {
     good = λ n K k.
         good_same P b L copies (λ w l. ap (λ z. finish z K)
         (sym (bind_bind (asked (Fork (record { kind = forking; tasks = ts })) w) (λ a v. begins_then 0 (length ts) told_join v) (λ x v. run (told (named_by b.path)) (j x) v))))
         (good_fork P b L copies st forking ts o.0 c.0 (λ x v. run (told (named_by b.path)) (j x) v) K
-        (λ x u since brings. (walk Q R (j x) u (o.1 x u since brings) (subst (λ E. IsCalm P b E R (j x)) (sym since.entries) (c.1 x))).good n K k));
+        (λ x u since brings. (walk Q R (j x) u (o.1 x u since brings) (subst (λ E. IsCalm P b E R (j x)) (sym since.entries) (c.1 x (small_brings P b st forking ts o.0 u x brings)))).good n K k));
   }
 
   replied_is : (k : Work) (o : Out Result) → finish o (λ r w. ending (ended k r) w.since w.to_come) ≡ replied k o

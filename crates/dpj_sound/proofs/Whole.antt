@@ -29,6 +29,8 @@ use Rattle.dpj_sound.proofs.Carried.{stepped_on}
 use Rattle.dpj_sound.proofs.Cells.{first_value_fits}
 use Rattle.dpj_sound.proofs.Moments.{at, EndFits, Goes}
 use Rattle.dpj_sound.proofs.Root.{first_good, root_in_order}
+use Rattle.dpj_sound.proofs.Ints.{zero_fits}
+use Rattle.dpj_sound.proofs.Small.{small_cons, small_nil, small_padded}
 use Rattle.dpj_sound.proofs.Sound.{Kept, Stands, branches_of, Sound}
 use Rattle.dpj_sound.proofs.Walks.{task_goes}
 
@@ -52,8 +54,9 @@ module _ (P : PlainProgram) (wt : WellTyped P) (arg : ℤ) (small : FitsSigned w
   main_calm : (c : Bool) × IsCalm P (main_bounds P wt) [] (Back [] c) (does (named_by []) P (root_task (named_by []) P first_name arg))
   main_calm = subst (λ o. (c : Bool) × IsCalm P (main_bounds P wt) [] (Back [] c) (does (named_by []) P (enters_main (named_by []) first_name arg o))) (sym wt.main.member_is)
       (task_calm P (main_bounds P wt) wt refl (named_by []) 499 (wt.members P.main_member wt.main.member wt.main.member_is).passes refl []
-      (λ must. elim must [ inl none ↦ wt.without_nd none P.main_member | inr inside ↦ absurd (false≢true inside) ])
-      (entered (named_by []) wt.main.member (Object first_name ∷ Int arg ∷ []) [] 499))
+      (λ must. elim must [ inl none ↦ wt.without_nd none P.main_member | inr inside ↦ absurd (false≢true inside) ]) (λ h. h P.main_member wt.main.member wt.main.member_is)
+      (entered (named_by []) wt.main.member (Object first_name ∷ Int arg ∷ []) [] 499)
+      (small_padded wt.main.member.slots (Object first_name ∷ Int arg ∷ []) (small_cons (Object first_name) (Int arg ∷ []) zero_fits (small_cons (Int arg) [] small small_nil))))
 
   -- the first object stands alone
   first_shape : (n : Name) (z : Shape) → (start P).shapes n ≡ Some z → (first_name ≡ n) × (object P.main_class [] ≡ z)

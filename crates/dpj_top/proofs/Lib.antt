@@ -2,3 +2,5 @@ pub mod Verdicts
 pub mod Promised
 pub mod Sources
 pub mod Traces
+pub mod Ranges
+pub mod Owed

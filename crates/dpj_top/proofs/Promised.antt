@@ -1,5 +1,5 @@
 -- Answers of runs by the source alone, over plain variables.
-use Rattle.std.proofs.Common.{◌≡◌, ◌∙◌, ◌≤◌, ℕ, ℤ, FitsSigned, false, List, Some, None, ap, sym, refl, subst}
+use Rattle.std.proofs.Common.{◌≡◌, ◌∙◌, ◌≤◌, ℕ, ℤ, FitsSigned, false, List, Some, None, ap, sym, refl, reverse, subst}
 use Rattle.std.specs.Int.{w32}
 use Rattle.dpj_base.specs.declared.outcome.Limits.{Limits}
 use Rattle.dpj_base.specs.declared.outcome.Outcome.{Outcome}
@@ -7,49 +7,138 @@ use Rattle.dpj_base.specs.declared.place.Place.{Place}
 use Rattle.dpj_machine.specs.Keeping.{Played}
 use Rattle.dpj_typed.specs.Plain.{PlainProgram}
 use Rattle.dpj_typed.specs.WellTyped.{WellTyped}
-use Rattle.dpj_front.specs.Judging.{CanRun}
-use Rattle.dpj_promise.specs.Promise.{GreedyMachinesElide, MachinesComeOutAsElided, elision}
-use Rattle.dpj_run.specs.Run.{IsElision, IsRunOf, ComesOut, finished}
+use Rattle.dpj_passed.specs.Laws.{Keeps, PassedKeeps}
+use Rattle.dpj_promise.specs.Promise.{GreedyMachinesElide, MachinesAreNotStuck, MachinesComeOutAsElided, MachinesGoOn, elision}
+use Rattle.dpj_promise.specs.Reduced.{ComesOutReduced, MachinesAreReduced}
+use Rattle.dpj_machine.specs.Keeping.{HaltsGreedily, HasEnded, IsStuckAt, WhyHaltedAt}
+use Rattle.dpj_machine.specs.declared.halted.Halted.{Halted}
+use Rattle.dpj_machine.specs.declared.halted.Halted.TheVariants as halt
+use Rattle.dpj_rounds.specs.Rounds.{BreaksOff, at_once, within as in_turn}
+use Rattle.dpj_run.specs.Run.{ComesOut, HasNoRun, IsElision, IsRunOf, finished, halted, never_begun, no_record, recorded_so, stuck, unfinished}
 use Rattle.dpj_run.specs.Run.{not_at_all as never}
-use Rattle.dpj_words.specs.Jobs.{IsInRange}
+use Rattle.dpj_run.specs.Rounding.{HasNoRounds, by_rounds, no_rounds}
+use Rattle.dpj_run.specs.Rounding.{HasNoRounds as rounds}
+use Rattle.dpj_run.specs.declared.recorded.Recorded.{Recorded}
+use Rattle.dpj_words.specs.declared.key.Mode.{Mode}
+use Rattle.dpj_words.specs.declared.key.Mode.TheVariants as mode
 use Rattle.dpj_words.specs.declared.job.Job.{Job}
 use Rattle.dpj_words.specs.declared.verdict.Verdict.TheVariants.{Ran}
 use Rattle.dpj_top.specs.declared.answered.Answered.{Answered}
-use Rattle.dpj_top.specs.Answer.{IsElided, IsRan, came_out, not_at_all, limits_of, only, refused_form, told_of, verdict_of_elision}
-use Rattle.dpj_top.specs.Promise.{KeepsPromise, TellsElision, as_elided, TellsElided, elided, no_elision}
-use Rattle.dpj_top.specs.Promise.{not_at_all as no_run}
+use Rattle.dpj_top.specs.Answer.{IsElided, IsRan, IsRunBy, came_out, not_at_all, limits_of, only, told_of, verdict_of_elision}
+use Rattle.dpj_top.specs.Promise.{IsAcceptedAs, IsWithin, KeepsPromise, TellsElision, TellsReduced, elision_for}
 
-module _ (machines : MachinesComeOutAsElided) (typed : PlainProgram) (L : Limits) (argument : ℤ) (few : L.steps ≤ 20000000) (fits : FitsSigned w32 argument)
-    (can : CanRun typed) (wt : WellTyped typed) (none : typed.uses_nd ≡ false) where
+module _ (typed : PlainProgram) (keeps : Keeps typed) (L : Limits) (argument : ℤ) (few : L.steps ≤ 20000000) (fits : FitsSigned w32 argument) where
+  few_steps : (p : Played) → IsRunOf typed L argument p → p.limits.steps ≤ 20000000
+  few_steps p is = subst (λ (k : Limits). k.steps ≤ 20000000) (sym is.limits) few
+
+  fits_there : (p : Played) → IsRunOf typed L argument p → FitsSigned w32 p.argument
+  fits_there p is = subst (λ a. FitsSigned w32 a) (sym is.is_argument) fits
+
+  same_elision : (p : Played) → IsRunOf typed L argument p → elision typed p.limits p.argument ≡ elision typed L argument
+  same_elision p is = ap (λ k. elision typed k p.argument) is.limits ∙ ap (λ a. elision typed L a) is.is_argument
+
   -- a machine that has finished a run tells the outcome of the elision
-  pub told_elision : (p : Played) (o : Outcome) → IsRunOf typed L argument p → p.outcome ≡ Some o → o ≡ elision typed L argument
-  told_elision p o is come =
-      machines typed p o wt none can.0 can.1 is.is_code (subst (λ (k : Limits). k.steps ≤ 20000000) (sym is.limits) few) (subst (λ a. FitsSigned w32 a) (sym is.is_argument) fits)
-      is.replayed come
-      ∙ ap (λ k. elision typed k p.argument) is.limits ∙ ap (λ a. elision typed L a) is.is_argument
+  pub told_elision : MachinesComeOutAsElided → typed.uses_nd ≡ false → (p : Played) (o : Outcome) → IsRunOf typed L argument p → p.outcome ≡ Some o → o ≡ elision typed L argument
+  told_elision machines none p o is come =
+      machines typed p o keeps.well_typed none keeps.resolved keeps.has_main is.is_code (few_steps p is) (fits_there p is) is.replayed come ∙ same_elision p is
 
-module _ (greedy : GreedyMachinesElide) (typed : PlainProgram) (L : Limits) (argument : ℤ) (few : L.steps ≤ 20000000) (can : CanRun typed) where
   -- so does one that has made an elision, of any program
-  pub told_greedy : (p : Played) (o : Outcome) → IsElision typed L argument p → p.outcome ≡ Some o → o ≡ elision typed L argument
-  told_greedy p o e come =
-      greedy typed e.start p o can.0 can.1 e.is_run.is_code (subst (λ (k : Limits). k.steps ≤ 20000000) (sym e.is_run.limits) few) e.nothing e.steps e.is_run.replayed come
-      ∙ ap (λ k. elision typed k p.argument) e.is_run.limits ∙ ap (λ a. elision typed L a) e.is_run.is_argument
+  pub told_greedy : GreedyMachinesElide → (p : Played) (o : Outcome) → IsElision typed L argument p → p.outcome ≡ Some o → o ≡ elision typed L argument
+  told_greedy greedy p o e come =
+      greedy typed e.start p o keeps.resolved keeps.has_main e.is_run.is_code (few_steps p e.is_run) e.nothing e.steps e.is_run.replayed come ∙ same_elision p e.is_run
 
-pub keeps_promise : MachinesComeOutAsElided → GreedyMachinesElide → KeepsPromise
-keeps_promise machines greedy = record { run = run; elide = elide }
-  where
-    run : (job : Job) (text : List ℕ) (place : Place) (typed : PlainProgram) (answered : Answered) → IsInRange job → FitsSigned w32 job.arg → CanRun typed
-        → WellTyped typed → typed.uses_nd ≡ false → IsRan job text place typed answered → TellsElision job text place typed answered
-    run job text place typed _ range fits can wt none (came_out r is) =
-        as_elided r.record.machine.schedule
-        (ap (λ o. told_of job text r.record.machine.schedule o)
-        (told_elision machines typed (limits_of job) job.arg range.steps_most fits can wt none r.record.machine r.outcome is.is_run is.came))
-    run job text place typed _ range fits can wt none (not_at_all halts) = no_run halts refl
+  pub reduced_so : MachinesAreReduced → (p : Played) (o : Outcome) → IsRunOf typed L argument p → p.outcome ≡ Some o → ComesOutReduced typed keeps.well_typed p o
+  reduced_so machines p o is come =
+      machines typed keeps.well_typed p o keeps.resolved keeps.has_main is.is_code (few_steps p is) (fits_there p is) is.replayed come
 
-    elide : (job : Job) (place : Place) (typed : PlainProgram) (answered : Answered) → IsInRange job → CanRun typed → IsElided job place typed answered
-        → TellsElided job place typed answered
-    elide job place typed answered range can e = by e.outcome e.comes e.is
+  -- and none can't go on
+  module _ (never_stuck : MachinesAreNotStuck) (machines : MachinesGoOn) (cells : L.cells ≤ 16777216) where
+    few_cells : (p : Played) → IsRunOf typed L argument p → p.limits.cells ≤ 16777216
+    few_cells p is = subst (λ (k : Limits). k.cells ≤ 16777216) (sym is.limits) cells
+
+    going : (p : Played) → IsRunOf typed L argument p → (HaltsGreedily p halt.Stuck → ⊥) × (p.outcome ≡ None → HasEnded p → ⊥)
+    going p is = machines typed p keeps.well_typed keeps.resolved keeps.has_main is.is_code (keeps.narrow p.code is.is_code) (few_steps p is) (few_cells p is) (fits_there p is) is.replayed
+
+    not_stuck : (p : Played) → IsRunOf typed L argument p → (k : ℕ) → IsStuckAt p k → ⊥
+    not_stuck p is k s =
+        never_stuck typed p.code p.limits p.argument keeps.well_typed keeps.resolved keeps.has_main is.is_code (keeps.narrow p.code is.is_code) (few_steps p is) (few_cells p is) (fits_there p is)
+        (reverse p.schedule) s.replayed.moment s.replayed.leads k s.stuck
+
+    pub goes_on : HasNoRun typed L argument → ⊥
+    goes_on (never_begun wide) = wide.wide (keeps.narrow wide.code wide.is_code)
+    goes_on (halted p is (stuck halts)) = (going p is).0 halts
+    goes_on (halted p is (unfinished none ended)) = (going p is).1 none ended
+
+    no_break : (before p : Played) (h : Halted) → h ≡ halt.Stuck → IsRunOf typed L argument p → BreaksOff before p h → ⊥
+    no_break before p h same is at_once = absurd (cc same)
+    no_break before p h same is (in_turn _ _ tasks ready breaks) = by h same breaks.why
       where
-        by : (outcome : _) → ComesOut typed (limits_of job) job.arg outcome → answered ≡ only (verdict_of_elision place outcome) → TellsElided job place typed answered
-        by _ (finished p o is come) same = elided (same ∙ ap (λ k. only (Ran k)) (told_greedy greedy typed (limits_of job) job.arg range.steps_most can p o is come))
-        by _ (never halts) same = no_elision halts same
+        by : (h : Halted) → h ≡ halt.Stuck → WhyHaltedAt p breaks.task h → ⊥
+        by halt.Stuck same why = not_stuck p is breaks.task why
+        by halt.NoMemory same why = absurd (cc same)
+
+    pub goes_on_in_rounds : HasNoRounds typed L argument → ⊥
+    goes_on_in_rounds (rounds.never_begun wide) = wide.wide (keeps.narrow wide.code wide.is_code)
+    goes_on_in_rounds (rounds.unfinished p is none ended) = (going p is.is_run).1 none ended
+    goes_on_in_rounds (rounds.broken_off p is) = no_break is.broken.middle p halt.Stuck refl is.is_run is.broken.breaks
+
+    pub goes_on_by : (m : Mode) (workers : ℕ) → IsRunBy m typed L argument workers None → ⊥
+    goes_on_by mode.Steps workers (no_record halts) = goes_on halts
+    goes_on_by mode.Rounds workers (no_rounds halts) = goes_on_in_rounds halts
+
+-- what was made by workers or in rounds is a run
+made_run : (m : Mode) (typed : PlainProgram) (L : Limits) (argument : ℤ) (workers : ℕ) (r : Recorded) → IsRunBy m typed L argument workers (Some r)
+    → IsRunOf typed L argument r.record.machine × (r.record.machine.outcome ≡ Some r.outcome)
+made_run mode.Steps typed L argument workers r (recorded_so _ is) = (is.is_run, is.came)
+made_run mode.Rounds typed L argument workers r (by_rounds _ p is alone) =
+    (subst (λ q. IsRunOf typed L argument q) (sym alone.machine) is.is_run, ap (λ (q : Played). q.outcome) alone.machine ∙ alone.came)
+
+pub keeps_promise : MachinesComeOutAsElided → GreedyMachinesElide → MachinesAreReduced → MachinesAreNotStuck → MachinesGoOn → PassedKeeps → KeepsPromise
+keeps_promise machines greedy reduce never_stuck goes passed = record { typed_well = typed_well; run = run; reduce = reduces; elide = elide }
+  where
+    kept : (text : List ℕ) (place : Place) (typed : PlainProgram) → IsAcceptedAs text place typed → Keeps typed
+    kept text place typed accepted = passed text place typed accepted.0 accepted.1
+
+    typed_well : (text : List ℕ) (place : Place) (typed : PlainProgram) → IsAcceptedAs text place typed → WellTyped typed
+    typed_well text place typed accepted = (kept text place typed accepted).well_typed
+
+    never_halts : (job : Job) (text : List ℕ) (place : Place) (typed : PlainProgram) → IsWithin job → IsAcceptedAs text place typed → HasNoRun typed (limits_of job) job.arg → ⊥
+    never_halts job text place typed within accepted =
+        goes_on typed (kept text place typed accepted) (limits_of job) job.arg within.0.steps_most within.1 never_stuck goes within.0.cells_most
+
+    never_halts_by : (job : Job) (text : List ℕ) (place : Place) (typed : PlainProgram) → IsWithin job → IsAcceptedAs text place typed →
+        IsRunBy job.mode typed (limits_of job) job.arg job.workers None → ⊥
+    never_halts_by job text place typed within accepted =
+        goes_on_by typed (kept text place typed accepted) (limits_of job) job.arg within.0.steps_most within.1 never_stuck goes within.0.cells_most job.mode job.workers
+
+    made : (job : Job) (typed : PlainProgram) (r : Recorded) → IsRunBy job.mode typed (limits_of job) job.arg job.workers (Some r) →
+        IsRunOf typed (limits_of job) job.arg r.record.machine × (r.record.machine.outcome ≡ Some r.outcome)
+    made job typed r is = made_run job.mode typed (limits_of job) job.arg job.workers r is
+
+    run : (job : Job) (text : List ℕ) (place : Place) (typed : PlainProgram) (answered : Answered) → IsWithin job → IsAcceptedAs text place typed
+        → typed.uses_nd ≡ false → IsRan job text place typed answered → TellsElision job text typed answered
+    run job text place typed _ within accepted none (came_out r is) = record {
+      schedule = r.record.machine.schedule;
+      is = ap (λ o. told_of job text r.record.machine.schedule o)
+          (told_elision typed (kept text place typed accepted) (limits_of job) job.arg within.0.steps_most within.1 machines none r.record.machine r.outcome (made job typed r is).0 (made job typed r is).1);
+    }
+    run job text place typed _ within accepted none (not_at_all halts) = absurd (never_halts_by job text place typed within accepted halts)
+
+    reduces : (job : Job) (text : List ℕ) (place : Place) (typed : PlainProgram) (answered : Answered) → IsWithin job → IsAcceptedAs text place typed
+        → IsRan job text place typed answered → TellsReduced job text typed answered
+    reduces job text place typed _ within accepted (came_out r is) = record {
+      well_typed = (kept text place typed accepted).well_typed;
+      made = r;
+      is = refl;
+      reduced = reduced_so typed (kept text place typed accepted) (limits_of job) job.arg within.0.steps_most within.1 reduce r.record.machine r.outcome (made job typed r is).0 (made job typed r is).1;
+    }
+    reduces job text place typed _ within accepted (not_at_all halts) = absurd (never_halts_by job text place typed within accepted halts)
+
+    elide : (job : Job) (text : List ℕ) (place : Place) (typed : PlainProgram) (answered : Answered) → IsWithin job → IsAcceptedAs text place typed
+        → IsElided job place typed answered → answered ≡ only (Ran (elision_for job typed))
+    elide job text place typed answered within accepted e = by e.outcome e.comes e.is
+      where
+        by : (outcome : _) → ComesOut typed (limits_of job) job.arg outcome → answered ≡ only (verdict_of_elision place outcome) → answered ≡ only (Ran (elision_for job typed))
+        by _ (finished p o is come) same =
+            same ∙ ap (λ k. only (Ran k)) (told_greedy typed (kept text place typed accepted) (limits_of job) job.arg within.0.steps_most within.1 greedy p o is come)
+        by _ (never halts) same = absurd (never_halts job text place typed within accepted halts)

@@ -1,5 +1,5 @@
 -- Answers to traces, over plain variables.
-use Rattle.std.proofs.Common.{◌≡◌, ◌∙◌, ◌-◌, ◌≤◌, arith, ℕ, List, length, take, drop, IfOk, Result, Ok, Err, refl, sym, ap, subst}
+use Rattle.std.proofs.Common.{◌≡◌, ◌∙◌, ◌≤◌, ℕ, List, length, IfOk, Result, Ok, Err, sym, ap, subst}
 use Rattle.dpj_base.specs.declared.memory.NoMemory.{NoMemory}
 use Rattle.dpj_base.specs.declared.place.Place.{Place}
 use Rattle.dpj_base.specs.declared.refusal.Refusal.{Refusal}

@@ -1,31 +1,31 @@
 -- Answers, over plain variables.
-use Rattle.std.proofs.Common.{◌≡◌, ◌≢◌, ◌∙◌, ◌<◌, ◌≤◌, ◌⊎◌, ℕ, ℤ, Bool, true, false, List, length, Option, Some, None, IfSome, IfOk, Result, Ok, Err, MatchOption, cond, refl, sym, ap, subst, inl, inr, arith}
+use Rattle.std.proofs.Common.{◌≡◌, ◌≢◌, ◌∙◌, ◌≤◌, ◌⊎◌, ℕ, ℤ, Bool, true, false, List, length, Option, Some, None, IfOk, Result, Ok, Err, cond, refl, sym, ap, subst, inl, inr, arith}
 use Rattle.dpj_base.specs.declared.memory.NoMemory.{NoMemory}
 use Rattle.dpj_base.specs.declared.outcome.Limits.{Limits}
 use Rattle.dpj_base.specs.declared.outcome.Outcome.{Outcome}
 use Rattle.dpj_base.specs.declared.outcome.Ending.{Ending}
 use Rattle.dpj_base.specs.declared.outcome.Ending.TheVariants.{Done, Trapped, Limited}
 use Rattle.dpj_base.specs.declared.place.Place.{Place}
-use Rattle.dpj_base.specs.declared.refusal.Kind.TheVariants.{TooLong}
 use Rattle.dpj_base.specs.declared.refusal.Refusal.{Refusal}
 use Rattle.dpj_first.specs.declared.program.First.{First}
 use Rattle.dpj_first.specs.Form.{IsFirstForm}
 use Rattle.dpj_words.specs.declared.command.Command.{Command}
 use Rattle.dpj_words.specs.declared.command.Command.TheVariants as command
 use Rattle.dpj_words.specs.declared.job.Job.{Job}
+use Rattle.dpj_words.specs.declared.key.Mode.{Mode}
 use Rattle.dpj_words.specs.declared.verdict.Status.TheVariants as ended
 use Rattle.dpj_words.specs.declared.verdict.Verdict.{Verdict}
-use Rattle.dpj_words.specs.declared.verdict.Verdict.TheVariants.{Usage, Refused, Ran, Accepted}
+use Rattle.dpj_words.specs.declared.verdict.Verdict.TheVariants.{Refused, Accepted}
 use Rattle.dpj_words.specs.Jobs.{job}
 use Rattle.dpj_words.specs.Reports.{status_of, ending_status}
 use Rattle.dpj_typed.specs.Plain.{PlainProgram}
 use Rattle.dpj_tokens.specs.declared.token.Token.{Token}
 use Rattle.dpj_tokens.specs.Cutting.{Cuts, OneCutting}
-use Rattle.dpj_run.specs.Run.{ComesOut, HasNoRun, IsRecordOf, IsRun, recorded_so, no_record}
+use Rattle.dpj_run.specs.Run.{ComesOut}
 use Rattle.dpj_run.specs.declared.recorded.Recorded.{Recorded}
 use Rattle.dpj_front.specs.Front.{IsPassed, IsFault}
 use Rattle.dpj_top.specs.declared.answered.Answered.{Answered}
-use Rattle.dpj_top.specs.Answer.{IsAnswer, too_long, of_first_form, faulty, of_program, IsDecided, is_long, is_first, has_no_tokens, IsLeft, IsRan, came_out, not_at_all, IsElided, IsListing, IsAnswerOn, to_check, to_run, to_elide, to_list, to_effects, TellsEffects, told_by, told_of, limits_of, refused_form, verdict_of_elision, only, asks_run, asks_outcome, reads_form, first_answer, refused_at_start, max_text}
+use Rattle.dpj_top.specs.Answer.{IsAnswer, too_long, of_first_form, faulty, of_program, IsDecided, is_long, is_first, has_no_tokens, IsLeft, IsRan, IsRunBy, came_out, not_at_all, IsElided, IsListing, IsAnswerOn, to_check, to_run, to_elide, to_list, to_effects, TellsEffects, told_by, told_of, limits_of, refused_form, verdict_of_elision, only, asks_run, asks_outcome, reads_form, first_answer, max_text}
 
 pub ending_status-no-usage : (ending : Ending) → ending_status ending ≡ ended.Usage → ⊥
 ending_status-no-usage (Done value) e = cc
@@ -197,25 +197,21 @@ pub faulty-answer : (asked : Job) (text : List ℕ) (found told : Refusal) (answ
 faulty-answer asked text found told answered same is short left fault =
     subst (λ a. IsAnswer asked text a) (sym is) (faulty told short left (subst (λ r. IsFault text r) same fault))
 
--- the run of a program, under limits and an argument that equal the job's, with its verdict
-pub run_as : (made typed : PlainProgram) (L limits : Limits) (a argument : ℤ) (workers : ℕ) (run : Option Recorded) → made ≡ typed → L ≡ limits → a ≡ argument
-    → IsRun made L a workers run → IsRun typed limits argument workers run
-run_as made typed L limits a argument workers run is same given runs =
-    subst (λ k. IsRun typed k argument workers run) same (subst (λ k. IsRun typed L k workers run) given (subst (λ P. IsRun P L a workers run) is runs))
+-- a run in the mode that is asked, under limits and an argument that equal the job's
+pub run_in_mode : (asked made : Mode) (typed : PlainProgram) (L limits : Limits) (a argument : ℤ) (workers : ℕ) (result : Result (Option Recorded) NoMemory)
+    → asked ≡ made → L ≡ limits → a ≡ argument → IfOk result (IsRunBy made typed L a workers) → IfOk result (IsRunBy asked typed limits argument workers)
+run_in_mode asked made typed L limits a argument workers result is same given runs =
+    subst (λ m. IfOk result (IsRunBy m typed limits argument workers)) (sym is)
+    (subst (λ k. IfOk result (IsRunBy made typed k argument workers)) same (subst (λ k. IfOk result (IsRunBy made typed L k workers)) given runs))
 
-recorded_of : {P : PlainProgram} {L : Limits} {a : ℤ} {workers : ℕ} (r : Recorded) → IsRun P L a workers (Some r) → IsRecordOf P L a workers r
-recorded_of _ (recorded_so r is) = is
-
-unrecorded_of : {P : PlainProgram} {L : Limits} {a : ℤ} {workers : ℕ} → IsRun P L a workers None → HasNoRun P L a
-unrecorded_of (no_record halts) = halts
-
+-- the verdict on the run of a program
 pub ran-so : (asked : Job) (text : List ℕ) (place : Place) (typed : PlainProgram) (r : Recorded) (schedule : List ℕ) (verdict : Verdict)
-    → IsRun typed (limits_of asked) asked.arg asked.workers (Some r) → schedule ≡ r.record.machine.schedule → verdict ≡ told_of asked text schedule r.outcome
-    → IsRan asked text place typed (record { verdict = verdict; recorded = Some r.record })
+    → IsRunBy asked.mode typed (limits_of asked) asked.arg asked.workers (Some r) → schedule ≡ r.record.machine.schedule
+    → verdict ≡ told_of asked text schedule r.outcome → IsRan asked text place typed (record { verdict = verdict; recorded = Some r.record })
 ran-so asked text place typed r schedule verdict runs same is =
     subst (λ v. IsRan asked text place typed (record { verdict = v; recorded = Some r.record }))
-    (sym (is ∙ ap (λ ks. told_of asked text ks r.outcome) same)) (came_out r (recorded_of r runs))
+    (sym (is ∙ ap (λ ks. told_of asked text ks r.outcome) same)) (came_out r runs)
 
-pub not-ran : (asked : Job) (text : List ℕ) (place : Place) (typed : PlainProgram) (answered : Answered) → IsRun typed (limits_of asked) asked.arg asked.workers None
-    → answered ≡ only (refused_form place) → IsRan asked text place typed answered
-not-ran asked text place typed answered runs is = subst (λ a. IsRan asked text place typed a) (sym is) (not_at_all (unrecorded_of runs))
+pub not-ran : (asked : Job) (text : List ℕ) (place : Place) (typed : PlainProgram) (answered : Answered)
+    → IsRunBy asked.mode typed (limits_of asked) asked.arg asked.workers None → answered ≡ only (refused_form place) → IsRan asked text place typed answered
+not-ran asked text place typed answered runs is = subst (λ a. IsRan asked text place typed a) (sym is) (not_at_all runs)

@@ -1,5 +1,5 @@
 -- What the tool answers to a job and a text, and what it records.
-use Rattle.std.specs.Prelude.{ℕ, ◌≡◌, ◌<◌, ◌≤◌, ◌⊎◌, Bool, true, false, cond, min, List, length, Option, Some, None}
+use Rattle.std.specs.Prelude.{ℕ, ℤ, ◌≡◌, ◌<◌, ◌≤◌, ◌⊎◌, Bool, true, false, cond, min, List, length, Option, Some, None}
 use Rattle.dpj_base.specs.declared.outcome.Limits.{Limits}
 use Rattle.dpj_base.specs.declared.outcome.Outcome.{Outcome}
 use Rattle.dpj_base.specs.declared.place.Place.{Place}
@@ -15,13 +15,16 @@ use Rattle.dpj_code.specs.declared.code.Code.{Code}
 use Rattle.dpj_code.specs.Plain.{plain_code}
 use Rattle.dpj_gen.specs.Whole.{compiled}
 use Rattle.dpj_listing.specs.Listing.{listing_of}
-use Rattle.dpj_run.specs.Run.{ComesOut, HasNoRun, IsRecordOf}
+use Rattle.dpj_run.specs.Run.{ComesOut, IsRun}
+use Rattle.dpj_run.specs.Rounding.{ComesByRounds}
 use Rattle.dpj_run.specs.declared.recorded.Recorded.{Recorded}
 use Rattle.dpj_trace.specs.Text.{trace_text}
 use Rattle.dpj_front.specs.Front.{IsPassed, IsFault}
 use Rattle.dpj_words.specs.declared.command.Command.{Command}
 use Rattle.dpj_words.specs.declared.command.Command.TheVariants as command
 use Rattle.dpj_words.specs.declared.job.Job.{Job}
+use Rattle.dpj_words.specs.declared.key.Mode.{Mode}
+use Rattle.dpj_words.specs.declared.key.Mode.TheVariants as mode
 use Rattle.dpj_words.specs.declared.verdict.Verdict.{Verdict}
 use Rattle.dpj_words.specs.declared.verdict.Verdict.TheVariants.{Refused, Ran, Listed, Accepted, Demo, Traced, Effects}
 use Rattle.dpj_top.specs.declared.answered.Answered.{Answered}
@@ -100,11 +103,16 @@ told_by _ job text schedule outcome = Ran outcome
 abbrev pub told_of : Job → List ℕ → List ℕ → Outcome → Verdict
 told_of job text schedule outcome = told_by job.command job text schedule outcome
 
--- the run of an accepted program, with its record
+-- the run that a mode asks for, with its record: by workers, or in rounds, of which the caller makes all events; or that there is none
+abbrev pub IsRunBy : Mode → PlainProgram → Limits → ℤ → ℕ → Option Recorded → Type 0
+IsRunBy mode.Steps = IsRun
+IsRunBy mode.Rounds = ComesByRounds
+
+-- the run of an accepted program by the job's mode, with its record
 pub data IsRan (job : Job) (text : List ℕ) (place : Place) (typed : PlainProgram) : Answered → Type 0 where
-  came_out : (r : Recorded) → IsRecordOf typed (limits_of job) job.arg job.workers r
+  came_out : (r : Recorded) → IsRunBy job.mode typed (limits_of job) job.arg job.workers (Some r)
       → IsRan job text place typed (record { verdict = told_of job text r.record.machine.schedule r.outcome; recorded = Some r.record })
-  not_at_all : HasNoRun typed (limits_of job) job.arg → IsRan job text place typed (only (refused_form place))
+  not_at_all : IsRunBy job.mode typed (limits_of job) job.arg job.workers None → IsRan job text place typed (only (refused_form place))
 
 -- the listing of the code of a program
 pub record IsListing (typed : PlainProgram) (answered : Answered) : Type 0 where

@@ -9,7 +9,6 @@ use Rattle.dpj_trace.specs.Reading.{IsMisfit, IsTrace}
 use Rattle.dpj_trace.specs.Runs.{line_of}
 use Rattle.dpj_trace.specs.declared.reading.Trace.{Trace}
 use Rattle.dpj_run.specs.Replays.{IsFollowed}
-use Rattle.dpj_run.specs.declared.recorded.Recorded.{Recorded}
 use Rattle.dpj_run.specs.declared.replaying.Replayed.{Replayed}
 use Rattle.dpj_run.specs.declared.replaying.Replayed.TheVariants as replayed
 use Rattle.dpj_front.specs.Front.{IsPassed, IsFault}

@@ -5,15 +5,18 @@ ghost use Rattle.dpj_make.specs.Demo.{demo_text};
 ghost use Rattle.dpj_words.specs.Jobs.{job, IsInRange};
 ghost use Rattle.dpj_words.specs.Reports.{report_of, status_of};
 ghost use Rattle.dpj_top.specs.Answer.{IsAnswer, most_bytes, only};
+ghost use Rattle.dpj_top.specs.Promise.{OwesElision};
 ghost use Rattle.dpj_top.specs.Call.{Answers, IsAnswered, TellsOfVerdict, Tells, BreaksOff, ReadToEnd, Appends, AppendsPart, asks_text, makes_text};
 
 use crate::answered::Answered;
 use crate::answers::{MAX_TEXT, answer};
+use crate::laws::promise;
 use crate::replays::{MAX_TRACE, replayed};
 use dpj_base::{Kind, NoMemory};
 use dpj_history::Record;
 use dpj_io::{ReadEnd, Sink, Source, WriteFault, read_all, write_all};
 use dpj_make::demo_source;
+use dpj_passed::laws::law_one_passing;
 use dpj_words::{Command, Job, Status, Usage, Verdict, read_words, report, status};
 use dpj_workers::Gate;
 use std::alloc::Global;
@@ -45,6 +48,9 @@ pub fn dpj<R: Threads + Wait + Sync, S: Source, K: Sink, G: Gate + Sync>(
     ensures told { TellsOfVerdict result.status
         → Tells (map string_bytes words.now) (S.left source.old) (K.held sink.old) (K.held sink.new) result.status result.recorded }
     ensures usage { result.status ≡ Status.Usage → job (map string_bytes words.now) ≡ None }
+    // The promise: a run of an accepted program without nd constructs is told by its sequential elision, whatever the workers did.
+    ensures promised { TellsOfVerdict result.status
+        → OwesElision (map string_bytes words.now) (S.left source.old) (K.held sink.old) (K.held sink.new) result.status }
 
     // Every other status has its cause, and want of memory alone needs none.
     ensures read_fault { result.status ≡ Status.ReadFault → Rose (S.faults source.old) (S.faults source.new) }
@@ -63,6 +69,8 @@ pub fn dpj<R: Threads + Wait + Sync, S: Source, K: Sink, G: Gate + Sync>(
     ensures source_count { S.faults source.old ≤ S.faults source.new }
     ensures sink_count { K.faults sink.old ≤ K.faults sink.new }
 {
+    promise();
+    law_one_passing();
     match answer_to(rt, alloc, words, source, gate) {
         Ok(answered) => tell(alloc, answered, sink),
         Err(Unread::ReadFault) => Ended {

@@ -1,8 +1,9 @@
 ghost use Rattle.std.specs.Prelude.{◌≡◌, ◌≢◌, IfOk};
 ghost use Rattle.dpj_front.specs.Judging.{CanRun, typed_of};
+ghost use Rattle.dpj_typed.specs.Plain.{plain_program};
 ghost use Rattle.dpj_words.specs.Jobs.{IsInRange};
 ghost use Rattle.dpj_words.specs.declared.command.Command.TheVariants.{Replay};
-ghost use Rattle.dpj_top.specs.Answer.{IsAnswerOn, IsElided, IsListing, IsRan, TellsEffects, only, told_of, verdict_of_elision};
+ghost use Rattle.dpj_top.specs.Answer.{IsAnswerOn, IsElided, IsListing, IsRan, IsRunBy, TellsEffects, limits_of, only, told_of, verdict_of_elision};
 
 use crate::answered::{Answered, limits};
 use dpj_base::{NoMemory, Outcome, Place};
@@ -10,9 +11,10 @@ use dpj_compile::compile;
 use dpj_front::Passed;
 use dpj_infer::{infer, lines};
 use dpj_listing::listing;
-use dpj_run::{Recorded, elide, run};
+use dpj_run::{Recorded, elide, run, run_rounds};
 use dpj_trace::trace_text;
-use dpj_words::{Command, Job, Verdict};
+use dpj_typed::Program;
+use dpj_words::{Command, Job, Mode, Verdict};
 use dpj_workers::Gate;
 use std::alloc::Global;
 use std::sync::Wait;
@@ -56,7 +58,7 @@ fn ran<R: Threads + Wait + Sync, G: Gate + Sync>(
 {
     let place = passed.place;
     let typed = passed.typed(alloc)?;
-    let Some(run) = run(rt, alloc, &typed, limits(job), job.arg, job.workers, gate)? else {
+    let Some(run) = made(rt, alloc, job, &typed, gate)? else {
         return Ok(Answered::refused_form(place));
     };
     let Recorded { record, outcome } = run;
@@ -65,6 +67,24 @@ fn ran<R: Threads + Wait + Sync, G: Gate + Sync>(
         verdict,
         recorded: Some(record),
     })
+}
+
+/// The run that the job's mode asks for: by workers, or in rounds. None, where it can't go on.
+fn made<R: Threads + Wait + Sync, G: Gate + Sync>(
+    rt: &R,
+    alloc: Global,
+    job: &Job,
+    typed: &Program,
+    gate: &G,
+) -> Result<Option<Recorded>, NoMemory>
+    requires in_range { IsInRange job.now }
+    requires can_run { CanRun (plain_program typed.now) }
+    ensures { IfOk result (IsRunBy job.now.mode (plain_program typed.now) (limits_of job.now) job.now.arg job.now.workers) }
+{
+    match job.mode {
+        Mode::Steps => run(rt, alloc, typed, limits(job), job.arg, job.workers, gate),
+        Mode::Rounds => run_rounds(alloc, typed, limits(job), job.arg, job.workers),
+    }
 }
 
 /// The verdict on a run of a text, by its schedule and how it came out.

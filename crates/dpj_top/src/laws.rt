@@ -3,7 +3,8 @@ ghost use Rattle.dpj_top.specs.Answer.{OneAnswer};
 ghost use Rattle.dpj_top.specs.Promise.{KeepsPromise};
 
 use dpj_first::one_reading;
-use dpj_promise::laws::{law_elide, law_promise};
+use dpj_passed::laws::law_passed;
+use dpj_promise::laws::{law_elide, law_goes_on, law_promise, law_reduced};
 use dpj_tokens::one_cutting;
 
 /// There is at most one answer to a job on a text that is too long, is a program of the first form, or has a
@@ -15,12 +16,16 @@ pub fn one_answer()
     one_cutting();
 }
 
-/// The promise of the language, of each accepted program that is well typed and has no nd construct: whatever schedule a run
-/// made, it is answered by the outcome of the program's sequential elision. An elision is answered by that outcome for every
-/// accepted program.
+/// The promise of the language. What is accepted is well typed. A run of an accepted program without nd constructs is answered by the
+/// outcome of its sequential elision, whatever schedule it made; of every accepted program a run is one of the source, whose
+/// unordered events that conflict lie in atomic blocks, and gathered by blocks it comes out the same; and an elision is answered by
+/// the outcome of the elision.
 pub fn promise()
     ensures { KeepsPromise }
 {
     law_promise();
     law_elide();
+    law_reduced();
+    law_goes_on();
+    law_passed();
 }

@@ -6,7 +6,7 @@ use Rattle.dpj_base.specs.declared.effect.Effect.{Effect}
 use Rattle.dpj_locks.specs.Locks.{Standings, MayEnter, IsFree, IsLeastHolder, is_inside, hinders}
 use Rattle.dpj_tasks.specs.Tree.{is_ready, task_at, ready}
 use Rattle.dpj_tasks.specs.Tree as tree
-use Rattle.dpj_world.specs.Ready.{IsFreeToEnter, IsFreeFor, IsReady, NoneReady, IsGreatestReady}
+use Rattle.dpj_world.specs.Ready.{IsFreeToEnter, IsFreeFor, IsReady, NoneReady, IsGreatestReady, NoneReadyBelow, IsGreatestBelow}
 use Rattle.dpj_world.specs.declared.world.World.{World}
 
 clash : (b : Bool) → IsTrue b → b ≡ false → ⊥
@@ -38,33 +38,48 @@ wants_nothing w task is = subst (IsFreeFor w.locks task) (sym is) tt
 pub none_yet : (w : World) → ((q : ℕ) → w.tree.begun ≤ q → task_at w.tree q ≡ None) → (q : ℕ) → w.tree.begun ≤ q → IsReady w q → ⊥
 none_yet w none q from r = true≢false (sym (subst (λ o. IsTrue (ready o)) (none q from) r.0))
 
--- nor any behind one that is hindered
-pub passed : (w : World) (bound task : ℕ) → tree.IsGreatestReady w.tree.tasks bound task → (IsFreeToEnter w task → ⊥)
-    → ((q : ℕ) → bound ≤ q → IsReady w q → ⊥) → (q : ℕ) → task ≤ q → IsReady w q → ⊥
-passed w bound task great stuck above q from r = by_case (cases_order q task)
+-- none between one that is hindered and a bound is ready, where none is between what is left and the bound
+pub passed : (w : World) (bound rest task : ℕ) → tree.IsGreatestReady w.tree.tasks rest task → (IsFreeToEnter w task → ⊥)
+    → ((q : ℕ) → rest ≤ q → q < bound → IsReady w q → ⊥) → (q : ℕ) → task ≤ q → q < bound → IsReady w q → ⊥
+passed w bound rest task great stuck above q from within r = by_case (cases_order q task)
   where
-    further : task < q → (q < bound) ⊎ (bound ≤ q) → ⊥
+    further : task < q → (q < rest) ⊎ (rest ≤ q) → ⊥
     further lt (inl below) = clash (is_ready w.tree q) r.0 (great.greatest q lt below)
-    further lt (inr over) = above q over r
+    further lt (inr over) = above q over within r
 
     by_case : (q ≡ task) ⊎ ((q < task) ⊎ (task < q)) → ⊥
     by_case (inl same) = stuck (subst (IsFreeToEnter w) same r.1)
     by_case (inr (inl less)) = omega (arith, less, from)
-    by_case (inr (inr more)) = further more (cases_lt q bound)
+    by_case (inr (inr more)) = further more (cases_lt q rest)
 
--- none is ready, where no task below the bound can go on, and none from it on is ready
-pub none_left : (w : World) (bound : ℕ) → tree.NoneReady w.tree.tasks bound → ((q : ℕ) → bound ≤ q → IsReady w q → ⊥) → NoneReady w
-none_left w bound none above q r = by_case (cases_lt q bound)
+-- none below the bound is ready, where none of what is left can go on
+pub none_left : (w : World) (bound rest : ℕ) → tree.NoneReady w.tree.tasks rest → ((q : ℕ) → rest ≤ q → q < bound → IsReady w q → ⊥) → NoneReadyBelow w bound
+none_left w bound rest none above q within r = by_case (cases_lt q rest)
   where
-    by_case : (q < bound) ⊎ (bound ≤ q) → ⊥
+    by_case : (q < rest) ⊎ (rest ≤ q) → ⊥
     by_case (inl below) = clash (is_ready w.tree q) r.0 (none q below)
-    by_case (inr over) = above q over r
+    by_case (inr over) = above q over within r
 
--- the greatest that can go on below the bound is the greatest that is ready, if it isn't hindered
-pub greatest_is : (w : World) (bound task : ℕ) → tree.IsGreatestReady w.tree.tasks bound task → IsFreeToEnter w task
-    → ((q : ℕ) → bound ≤ q → IsReady w q → ⊥) → IsGreatestReady w task
-greatest_is w bound task great free above = record { itself = (great.goes_on, free); greatest = λ q lt r. by_case q lt r (cases_lt q bound) }
+-- the greatest of what is left that can go on is the greatest below the bound that is ready, if it isn't hindered
+pub greatest_is : (w : World) (bound rest task : ℕ) → rest ≤ bound → tree.IsGreatestReady w.tree.tasks rest task → IsFreeToEnter w task
+    → ((q : ℕ) → rest ≤ q → q < bound → IsReady w q → ⊥) → IsGreatestBelow w bound task
+greatest_is w bound rest task within great free above =
+    record { itself = (great.goes_on, free); below = omega (arith, within, great.below); greatest = λ q lt less r. by_case q lt less r (cases_lt q rest) }
+  where
+    by_case : (q : ℕ) → task < q → q < bound → IsReady w q → (q < rest) ⊎ (rest ≤ q) → ⊥
+    by_case q lt less r (inl below) = clash (is_ready w.tree q) r.0 (great.greatest q lt below)
+    by_case q lt less r (inr over) = above q over less r
+
+-- below the number of the next stand all that are ready
+pub greatest_of : (w : World) (bound : ℕ) → ((q : ℕ) → bound ≤ q → IsReady w q → ⊥) → (o : Option ℕ) → MatchOption o (NoneReadyBelow w bound) (IsGreatestBelow w bound)
+    → MatchOption o (NoneReady w) (IsGreatestReady w)
+greatest_of w bound over None none = λ q r. by_case q r (cases_lt q bound)
+  where
+    by_case : (q : ℕ) → IsReady w q → (q < bound) ⊎ (bound ≤ q) → ⊥
+    by_case q r (inl below) = none q below r
+    by_case q r (inr from) = over q from r
+greatest_of w bound over (Some task) great = record { itself = great.itself; greatest = λ q lt r. by_case q lt r (cases_lt q bound) }
   where
     by_case : (q : ℕ) → task < q → IsReady w q → (q < bound) ⊎ (bound ≤ q) → ⊥
-    by_case q lt r (inl below) = clash (is_ready w.tree q) r.0 (great.greatest q lt below)
-    by_case q lt r (inr over) = above q over r
+    by_case q lt r (inl below) = great.greatest q lt below r
+    by_case q lt r (inr from) = over q from r

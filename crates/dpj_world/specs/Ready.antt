@@ -25,3 +25,12 @@ NoneReady w = (q : ℕ) → IsReady w q → ⊥
 pub record IsGreatestReady (w : World) (task : ℕ) : Type 0 where
   pub itself : IsReady w task
   pub greatest : (q : ℕ) → task < q → IsReady w q → ⊥
+
+-- the same, of the tasks below a bound
+abbrev pub NoneReadyBelow : World → ℕ → Type 0
+NoneReadyBelow w bound = (q : ℕ) → q < bound → IsReady w q → ⊥
+
+pub record IsGreatestBelow (w : World) (bound task : ℕ) : Type 0 where
+  pub itself : IsReady w task
+  pub below : task < bound
+  pub greatest : (q : ℕ) → task < q → q < bound → IsReady w q → ⊥

@@ -1,6 +1,6 @@
 ghost use Rattle.std.specs.Prelude.{◌≡◌, IsTrue, MatchOption, false};
 ghost use Rattle.dpj_locks.specs.Locks.{AllRoot, MayEnter};
-ghost use Rattle.dpj_world.specs.Ready.{IsFreeToEnter, IsReady, NoneReady, IsGreatestReady};
+ghost use Rattle.dpj_world.specs.Ready.{IsFreeToEnter, IsReady, NoneReady, IsGreatestReady, NoneReadyBelow, IsGreatestBelow};
 
 use crate::world::World;
 use dpj_base::Effect;
@@ -43,12 +43,19 @@ impl World {
     pub fn next_ready(&self) -> Option<u32>
         ensures { MatchOption result (NoneReady self.now) (IsGreatestReady self.now) }
     {
-        let mut bound = self.tree.begun();
-        while let Some(task) = self.tree.ready_below(bound) {
+        self.ready_below(self.tree.begun())
+    }
+
+    /// The greatest task below a bound that is ready. It takes no memory.
+    pub fn ready_below(&self, bound: u32) -> Option<u32>
+        ensures { MatchOption result (NoneReadyBelow self.now bound) (IsGreatestBelow self.now bound) }
+    {
+        let mut rest = bound;
+        while let Some(task) = self.tree.ready_below(rest) {
             if self.is_free(task) {
                 return Some(task);
             }
-            bound = task;
+            rest = task;
         }
         None
     }

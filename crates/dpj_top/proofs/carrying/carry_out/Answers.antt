@@ -1,6 +1,5 @@
 use Rattle.dpj_front.specs.Judging.{typed_of}
 use Rattle.dpj_top.proofs.Verdicts.{run-answer, elide-answer, list-answer, effects-answer, asks, is-check}
-use Rattle.std.proofs.Common.{refl}
 use Rattle.dpj_top.specs.Answer.{to_check}
 use Rattle.dpj_top.proofs.carrying.carry_out.Goals as goal
 

@@ -1,0 +1,12 @@
+pub mod Args
+pub mod Around
+pub mod Carried
+pub mod Classes
+pub mod Finding
+pub mod Indices
+pub mod Members
+pub mod Paths
+pub mod Putting
+pub mod Signs
+pub mod Text
+pub mod Types

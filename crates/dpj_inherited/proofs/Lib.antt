@@ -1,0 +1,10 @@
+pub mod Above
+pub mod Beginning
+pub mod Classes
+pub mod Closed
+pub mod Fitting
+pub mod Inheriting
+pub mod Params
+pub mod Rows
+pub mod Supers
+pub mod Text

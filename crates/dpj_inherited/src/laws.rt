@@ -1,0 +1,13 @@
+//! The laws of inheritance, each the clause of a function that does nothing.
+
+ghost use Rattle.dpj_inherited.specs.Laws.{AcceptedInherits, AcceptedHasMain};
+
+/// Classes of an accepted program keep what their superclasses have.
+pub fn law_inherits()
+    ensures inherits { AcceptedInherits }
+{}
+
+/// A run of an accepted program begins in a class and with a member as it should.
+pub fn law_main()
+    ensures main { AcceptedHasMain }
+{}

@@ -1,0 +1,4 @@
+pub mod Narrow
+pub mod Sites
+pub mod Statements
+pub mod Bodies

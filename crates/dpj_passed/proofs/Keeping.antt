@@ -1,0 +1,34 @@
+-- What the parts of a text that passes give of its typed program.
+use Rattle.std.proofs.Common.{◌≡◌, ◌≤◌, ◌<◌, ℕ, List, length, sym, subst, arith}
+use Rattle.dpj_headers.proofs.Shaped.{counted_when_named}
+use Rattle.dpj_tree.specs.Size.{program_size}
+use Rattle.dpj_tree.proofs.Sizes.{classes_counted}
+use Rattle.dpj_tokens.proofs.Spans.{cuts-stand}
+use Rattle.dpj_parse.proofs.Promised.{named_in, sized_in}
+use Rattle.dpj_accepted.specs.Laws.{AcceptedIsWellTyped}
+use Rattle.dpj_narrow.specs.Laws.{AcceptedIsNarrow}
+use Rattle.dpj_resolved.specs.Accepted.{AcceptedBegins, AcceptedIsResolved, SmallHasRows}
+use Rattle.dpj_resolved.specs.Accepted.{IsAccepted as Passes}
+use Rattle.dpj_written.specs.Laws.{TextsAreWritten}
+use Rattle.dpj_tree.specs.Nd.{program_uses_nd}
+use Rattle.dpj_passed.specs.Laws.{Keeps, PassedKeeps}
+
+pub passed_keeps : AcceptedIsWellTyped → TextsAreWritten → AcceptedIsNarrow → AcceptedIsResolved → AcceptedBegins → SmallHasRows → PassedKeeps
+passed_keeps well_typed written narrow resolved begins has_rows text place typed short passed =
+    let program = passed.has_program.program in
+    let accepted = passed.has_program.accepted in
+    let derived = passed.has_program.derived in
+    let sized : program_size program ≤ length text = sized_in (cuts-stand text passed.tokens passed.end passed.cut) derived in
+    let small : program_size program ≤ 1048576 = omega (arith, sized, short) in
+    let few : length program.classes < 4294967295 = omega (arith, small, classes_counted program) in
+    let passes : Passes program accepted.table accepted.bodies = record {
+      rows = has_rows program accepted.table (counted_when_named program few (named_in derived)) accepted.has_table.named accepted.has_table.is_table (omega (arith, small));
+      whole = accepted.has_table.whole;
+      checked = accepted.checked;
+    } in
+    subst Keeps (sym accepted.typed_so) (record {
+      well_typed = well_typed program accepted.table accepted.bodies (written text passed.tokens passed.end program short passed.cut derived) passes;
+      resolved = resolved program accepted.table accepted.bodies passes program.names (program_uses_nd program);
+      has_main = begins program accepted.table accepted.bodies passes (program_uses_nd program);
+      narrow = λ code is. narrow program accepted.table accepted.bodies small passes code is;
+    })

@@ -1,0 +1,41 @@
+-- What is kept by the typed program of a text that passes, as statements.
+use Rattle.std.specs.Prelude.{◌≡◌, ◌≤◌, ℕ, List, All, length}
+use Rattle.dpj_base.specs.declared.place.Place.{Place}
+use Rattle.dpj_base.specs.declared.refusal.Refusal.{Refusal}
+use Rattle.dpj_tokens.specs.declared.token.Token.{Token}
+use Rattle.dpj_tokens.specs.Cutting.{Cuts}
+use Rattle.dpj_parse.specs.Program.{IsGrammarFault}
+use Rattle.dpj_typed.specs.Plain.{PlainProgram}
+use Rattle.dpj_typed.specs.WellTyped.{WellTyped}
+use Rattle.dpj_code.specs.declared.code.Code.{Code}
+use Rattle.dpj_code.specs.Plain.{plain_code}
+use Rattle.dpj_gen.specs.Resolved.{Resolved}
+use Rattle.dpj_gen.specs.Whole.{compiled}
+use Rattle.dpj_going.specs.Going.{HasMain}
+use Rattle.dpj_legs.specs.Halts.{IsFew}
+use Rattle.dpj_front.specs.Front.{IsFault, IsPassed}
+
+-- it is well typed and resolved, has a `main`, and no fork of its code has more branches than a value counts
+pub record Keeps (typed : PlainProgram) : Type 0 where
+  pub well_typed : WellTyped typed
+  pub resolved : Resolved typed
+  pub has_main : HasMain typed
+  pub narrow : (code : Code) → plain_code code ≡ compiled typed → All IsFew code.sites
+
+abbrev pub PassedKeeps : Type 0
+PassedKeeps = (text : List ℕ) (place : Place) (typed : PlainProgram) → length text ≤ 1048576 → IsPassed text place typed → Keeps typed
+
+-- a text passes as one program
+abbrev pub OnePassing : Type 0
+OnePassing = (text : List ℕ) (place other : Place) (one another : PlainProgram) → IsPassed text place one → IsPassed text other another → one ≡ another
+
+-- the refusal is one that the grammar's part may tell of the tokens of a text
+pub record IsToldByGrammar (text : List ℕ) (refusal : Refusal) : Type 0 where
+  pub tokens : List Token
+  pub end : Place
+  pub cut : Cuts text tokens end
+  pub fault : IsGrammarFault text tokens end refusal
+
+-- a text that passes has no other fault
+abbrev pub NoOtherFault : Type 0
+NoOtherFault = (text : List ℕ) (place : Place) (typed : PlainProgram) (refusal : Refusal) → IsPassed text place typed → IsFault text refusal → IsToldByGrammar text refusal

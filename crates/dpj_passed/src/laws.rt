@@ -1,0 +1,33 @@
+//! The laws of accepted texts, the clauses of a function that does nothing but name others.
+
+ghost use Rattle.dpj_passed.specs.Laws.{PassedKeeps, OnePassing, NoOtherFault};
+
+use dpj_accepted::laws::law_well_typed;
+use dpj_front::one_judgement;
+use dpj_narrow::laws::law_narrow;
+use dpj_parse::one_program;
+use dpj_resolved::laws::{law_begins, law_has_rows, law_resolved};
+use dpj_tokens::one_cutting;
+use dpj_written::laws::law_written;
+
+/// The typed program of a text that passes is well typed, can be compiled and run, and has no fork that is too wide.
+pub fn law_passed()
+    ensures keeps { PassedKeeps }
+{
+    law_well_typed();
+    law_written();
+    law_narrow();
+    law_resolved();
+    law_begins();
+    law_has_rows();
+}
+
+/// A text passes as one typed program at most, and has no fault then but one that the grammar's part may tell.
+pub fn law_one_passing()
+    ensures one { OnePassing }
+    ensures no_other { NoOtherFault }
+{
+    one_cutting();
+    one_program();
+    one_judgement();
+}

@@ -1,0 +1,8 @@
+//! What the program of an accepted text is good for: laws over the definitions of `dpj_front`, with no code of its own.
+//!
+//! The typed program of a text that passes is well typed (`dpj_accepted`), since a text gives no tree but as the grammar has it
+//! (`dpj_written`); it is what the compiler asks for (`dpj_resolved`), and no fork of its code has more branches than a value counts
+//! (`dpj_narrow`). And there is one such program, and no fault but one that the grammar's part may tell: `specs/Laws.antt`.
+#![tactic(auto)]
+
+pub mod laws;

@@ -1,0 +1,69 @@
+ghost use Rattle.std.specs.Prelude.{◌≡◌, ◌↔◌, None, reverse, IsTrue, IfErr, OnOk, OnErr};
+ghost use Rattle.dpj_machine.specs.Keeping.{HasEnded, WhyHaltedAt};
+ghost use Rattle.dpj_rounds.specs.Rounds.{IsTurn, HadTurns, IsRound, RoundsOn, BreaksOff, RoundsBreakOff, TurnsBreakOff};
+
+use crate::ready::ready_tasks;
+use dpj_base::Items;
+use dpj_machine::{Halted, Machine};
+use std::alloc::Global;
+
+/// How many events `run_rounds` makes, after which it begins no more rounds. A run within the limits of a job has no more.
+const MOST_EVENTS: usize = 40000002;
+
+/// Makes rounds until the machine has finished, or no task is ready, or 40000002 events were made. Where it breaks off, the machine is
+/// where its schedule leaves it.
+pub fn run_rounds(alloc: Global, machine: &mut Machine) -> Result<(), Halted>
+    ensures rounds { OnOk result (RoundsOn machine.old machine.new) }
+    ensures done { OnOk result (HasEnded machine.new) }
+    ensures why { IfErr result (RoundsBreakOff machine.old machine.new) }
+{
+    while !has_ended(machine) {
+        round(alloc, machine)?;
+    }
+    Ok(())
+}
+
+/// Whether the machine has finished, or no task is ready, or 40000002 events were made.
+fn has_ended(machine: &Machine) -> bool
+    ensures { IsTrue result ↔ HasEnded machine.now }
+{
+    machine.finished() || machine.next_ready().is_none() || MOST_EVENTS <= machine.schedule().len()
+}
+
+/// Makes a round.
+pub fn round(alloc: Global, machine: &mut Machine) -> Result<(), Halted>
+    requires unfinished { machine.old.outcome ≡ None }
+    ensures round { OnOk result (IsRound machine.old machine.new) }
+    ensures why { IfErr result (BreaksOff machine.old machine.new) }
+{
+    let tasks = ready_tasks(alloc, machine)?;
+    turns(machine, tasks)
+}
+
+/// Gives each task its turn, the last first.
+fn turns(machine: &mut Machine, tasks: Items<u32>) -> Result<(), Halted>
+    ensures turns { OnOk result (HadTurns machine.old (reverse tasks) machine.new) }
+    ensures why { IfErr result (TurnsBreakOff machine.old (reverse tasks) machine.new) }
+{
+    let mut left = tasks;
+    while let Some(task) = left.pop() {
+        turn(machine, task)?;
+    }
+    Ok(())
+}
+
+/// The turn of a task.
+fn turn(machine: &mut Machine, task: u32) -> Result<(), Halted>
+    ensures turn { OnOk result (IsTurn machine.old task machine.new) }
+    ensures why { IfErr result (WhyHaltedAt machine.old task) }
+    ensures err { OnErr result (machine.new ≡ machine.old) }
+{
+    if machine.finished() {
+        return Ok(());
+    }
+    if !machine.ready(task) {
+        return Ok(());
+    }
+    let _ = machine.step(task)?;
+    Ok(())
+}
