@@ -91,6 +91,9 @@ pub two : {x y : Expected} {xs : List Expected} {before between after : List Pla
     Passes (x ∷ y ∷ xs) before after
 two p q = record { goes = λ s. p.goes (q.goes s) }
 
+pub three : {x y z : Expected} {xs : List Expected} {before between after : List Placed} → Passes (x ∷ y ∷ z ∷ []) before between → Passes xs between after → Passes (x ∷ y ∷ z ∷ xs) before after
+three p q = record { goes = λ s. p.goes (q.goes s) }
+
 pub is_next : (test : Terminal → Bool) (before : List Placed) {b : Bool} → starts test before ≡ b → next_is test (next_of before) ≡ b
 is_next test [] e = e
 is_next test (next ∷ after) e = e

@@ -14,3 +14,4 @@ pub mod Words
 pub mod Expecting
 pub mod Viable
 pub mod ExpectedText
+pub mod Telling
