@@ -4,7 +4,7 @@ use Rattle.dpj_base.specs.declared.place.Place.{Place}
 use Rattle.dpj_terminals.specs.declared.terminal.Placed.{Placed}
 use Rattle.dpj_terminals.specs.declared.terminal.Terminal.{Terminal}
 use Rattle.dpj_parse.specs.Taking.{Takes}
-use Rattle.dpj_parse.specs.Expecting.{Part, Expected, one, part, next_of, next_is, choose, Steps, stay, pick, pass, IsLost, no_part, no_terminal, too_many, Leads, Passes}
+use Rattle.dpj_parse.specs.Expecting.{Part, Expected, one, part, next_of, next_is, choose, Steps, stay, pick, pass, IsLost, no_part, no_terminal, too_many, Passes}
 use Rattle.dpj_parse.proofs.OnceReader.{starts}
 
 pub picked : {to : List Expected} {left : List Placed} {n : Part} {xs others : List Expected} {here : List Placed} →

@@ -26,10 +26,6 @@ pub mod OnceText
 pub mod Told
 pub mod Tested
 pub mod Expected
-pub mod Telling
-pub mod TellingPaths
-pub mod TellingExprs
-pub mod TellingMembers
 pub mod ExpectedPaths
 pub mod ExpectedExprs
 pub mod ExpectedStmts
@@ -47,3 +43,6 @@ pub mod Completing
 pub mod Viability
 pub mod Settled
 pub mod Decided
+pub mod Tables
+pub mod Followed
+pub mod Refused

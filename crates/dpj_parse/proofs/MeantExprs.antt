@@ -1,5 +1,5 @@
 -- Expressions derive what their parts derive.
-use Rattle.std.proofs.Common.{◌≡◌, ℕ, suc, ◌≤◌, List, [], ◌∷◌, ◌||◌, inl, inr, Option, Some, None, refl, sym, subst}
+use Rattle.std.proofs.Common.{◌≡◌, ℕ, suc, ◌≤◌, List, [], ◌∷◌, ◌||◌, inl, inr, Option, Some, None, refl, sym, ap, subst}
 use Rattle.std.proofs.lemmas.Bool.Decides.{leb_tells}
 use Rattle.dpj_tokens.specs.declared.token.Symbol.{Symbol}
 use Rattle.dpj_tokens.specs.declared.token.Keyword.{Keyword}
@@ -9,17 +9,39 @@ use Rattle.dpj_terminals.specs.declared.terminal.Terminal.TheVariants as termina
 use Rattle.dpj_tree.specs.declared.region.BaseTree.TheVariants as base
 use Rattle.dpj_tree.specs.declared.expr.UnaryOp.TheVariants as unary_op
 use Rattle.dpj_tree.specs.declared.expr.BinaryOp.{BinaryOp}
+use Rattle.dpj_tree.specs.declared.expr.BinaryOp.TheVariants as binary_op
 use Rattle.dpj_tree.specs.Plain.{expression, binary, no_exprs}
 use Rattle.dpj_parse.specs.Taking.{Takes, TakesName, Next, Many}
-use Rattle.dpj_parse.specs.Words.{is_any, is_name, is_dot, is_open_bracket, is_close_bracket, is_less, is_comma, is_open_paren, is_close_paren}
+use Rattle.dpj_parse.specs.Words.{op_at, is_any, is_name, is_dot, is_open_bracket, is_close_bracket, is_less, is_comma, is_open_paren, is_close_paren}
 use Rattle.dpj_parse.specs.Paths.{no_args}
 use Rattle.dpj_parse.specs.Types.{DerivesBase, suffix}
 use Rattle.dpj_parse.specs.Expressions.{symbol_of, level_of, left_level, as_value, as_field, as_element, as_call, as_creation, DerivesLevel, operand, operation, operator, postfix, new_array, DerivesPostfix, primary, behind_dot, called, indexed, DerivesPrimary, array, no_actuals, actuals, DerivesFurther, end, further}
 use Rattle.dpj_parse.specs.Expecting.{one, part, next_of, next_is, op_of, choose, climb_parts, unary_parts, created_parts, literal_parts}
 use Rattle.dpj_parse.specs.Expecting.{Part as p}
 use Rattle.dpj_parse.proofs.Lists.{many_more}
-use Rattle.dpj_parse.proofs.TellingExprs.{operator_next}
 use Rattle.dpj_parse.proofs.Meant.{One, Meant, All, AllOf, Valued, signed, worded, named, anyhow, either}
+
+-- the operator that comes next
+op_at_is : (t : Terminal) (op : BinaryOp) → op_at t ≡ Some op → t ≡ terminal.Symbol (symbol_of op)
+op_at_is (terminal.Symbol Symbol.Or) op e = let same : binary_op.Or ≡ op = cc in ap (λ (o : BinaryOp). terminal.Symbol (symbol_of o)) same
+op_at_is (terminal.Symbol Symbol.And) op e = let same : binary_op.And ≡ op = cc in ap (λ (o : BinaryOp). terminal.Symbol (symbol_of o)) same
+op_at_is (terminal.Symbol Symbol.Equal) op e = let same : binary_op.Eq ≡ op = cc in ap (λ (o : BinaryOp). terminal.Symbol (symbol_of o)) same
+op_at_is (terminal.Symbol Symbol.NotEqual) op e = let same : binary_op.Ne ≡ op = cc in ap (λ (o : BinaryOp). terminal.Symbol (symbol_of o)) same
+op_at_is (terminal.Symbol Symbol.Less) op e = let same : binary_op.Lt ≡ op = cc in ap (λ (o : BinaryOp). terminal.Symbol (symbol_of o)) same
+op_at_is (terminal.Symbol Symbol.AtMost) op e = let same : binary_op.Le ≡ op = cc in ap (λ (o : BinaryOp). terminal.Symbol (symbol_of o)) same
+op_at_is (terminal.Symbol Symbol.Greater) op e = let same : binary_op.Gt ≡ op = cc in ap (λ (o : BinaryOp). terminal.Symbol (symbol_of o)) same
+op_at_is (terminal.Symbol Symbol.AtLeast) op e = let same : binary_op.Ge ≡ op = cc in ap (λ (o : BinaryOp). terminal.Symbol (symbol_of o)) same
+op_at_is (terminal.Symbol Symbol.Plus) op e = let same : binary_op.Add ≡ op = cc in ap (λ (o : BinaryOp). terminal.Symbol (symbol_of o)) same
+op_at_is (terminal.Symbol Symbol.Minus) op e = let same : binary_op.Sub ≡ op = cc in ap (λ (o : BinaryOp). terminal.Symbol (symbol_of o)) same
+op_at_is (terminal.Symbol Symbol.Star) op e = let same : binary_op.Mul ≡ op = cc in ap (λ (o : BinaryOp). terminal.Symbol (symbol_of o)) same
+op_at_is (terminal.Symbol Symbol.Slash) op e = let same : binary_op.Div ≡ op = cc in ap (λ (o : BinaryOp). terminal.Symbol (symbol_of o)) same
+op_at_is (terminal.Symbol Symbol.Percent) op e = let same : binary_op.Rem ≡ op = cc in ap (λ (o : BinaryOp). terminal.Symbol (symbol_of o)) same
+op_at_is _ op e = cc
+
+operator_next : (op : BinaryOp) (here : List Placed) → Some op ≡ op_of (next_of here) → Next (terminal.Symbol (symbol_of op)) here
+operator_next op [] e = cc
+operator_next op (next ∷ after) e =
+    record { after = after; takes = record { place = next.place; takes = record { first = ap (λ (t : Terminal). record { terminal = t; place = next.place } ∷ after) (op_at_is next.terminal op (sym e)) } } }
 
 pub expr_of : (level : ℕ) {before after : List Placed} → AllOf (choose (p.expr level) (next_of before)) before after → Meant (p.expr level) before after
 expr_of level {before} h = h.others before h.first.0 (operand h.first.1) (λ k le. operand h.first.1)

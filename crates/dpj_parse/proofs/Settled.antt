@@ -134,7 +134,7 @@ weight p.member_list = 7
 weight p.program = 2
 weight p.more_classes = 2
 
-abbrev height : List Expected → ℕ
+abbrev pub height : List Expected → ℕ
 height [] = 0
 height (one test ∷ xs) = 0
 height (part n ∷ xs) = cond (vanishes n) (weight n + height xs) (weight n)
@@ -337,7 +337,7 @@ dropped_by p.more_classes (Some next) = some_drops (drops (λ others. omega arit
 of_some : {n : Part} {xs : List Expected} → DropsOf n (Some xs) → (others : List Expected) → height (xs ++ others) < height (part n ∷ others)
 of_some (some_drops (drops d)) = d
 
-dropped : (n : Part) (xs others : List Expected) (here : List Placed) → choose n (next_of here) ≡ Some xs → height (xs ++ others) < height (part n ∷ others)
+pub dropped : (n : Part) (xs others : List Expected) (here : List Placed) → choose n (next_of here) ≡ Some xs → height (xs ++ others) < height (part n ∷ others)
 dropped n xs others here e = of_some (subst (DropsOf n) e (dropped_by n (next_of here))) others
 
 -- where what is expected ends, or is lost

@@ -37,10 +37,6 @@ pub data DerivesKind : List Placed → List Placed → Bool → Type 0 where
   kind : {before one after : List Placed} {is_atomic : Bool} {place : Place} →
       DerivesAtomic before one is_atomic → TakesKeyword Keyword.Region one after place → DerivesKind before after is_atomic
 
--- a kind comes next
-abbrev pub BeginsKind : List Placed → Type 0
-BeginsKind before = Next (terminal.Keyword Keyword.Atomic) before ⊎ Next (terminal.Keyword Keyword.Region) before
-
 -- Name, as a parameter of a kind
 pub data DerivesParam : Bool → List Placed → List Placed → ParamTree → Type 0 where
   param : {is_atomic : Bool} {before after : List Placed} {named : Named} →

@@ -1,7 +1,7 @@
 -- What is expected of a text, as a list of what is still to come: terminals and parts of the grammar. The next terminal
 -- alone says what becomes of the first of them: a part is replaced by what it begins with, a terminal is passed. Where neither
 -- can be, the text is lost.
-use Rattle.std.specs.Prelude.{◌≡◌, ◌<◌, ◌⊎◌, ℕ, suc, List, [], ◌∷◌, ◌++◌, Bool, true, false, cond, ◌&&◌, ◌||◌, nat_le, Option, Some, None, Result, Ok, Err}
+use Rattle.std.specs.Prelude.{◌≡◌, ℕ, suc, List, [], ◌∷◌, ◌++◌, Bool, true, false, cond, ◌&&◌, ◌||◌, nat_le, Option, Some, None}
 use Rattle.dpj_tokens.specs.declared.token.Symbol.{Symbol}
 use Rattle.dpj_tokens.specs.declared.token.Keyword.{Keyword}
 use Rattle.dpj_terminals.specs.declared.terminal.Placed.{Placed}
@@ -9,10 +9,6 @@ use Rattle.dpj_terminals.specs.declared.terminal.Terminal.{Terminal}
 use Rattle.dpj_terminals.specs.declared.terminal.Terminal.TheVariants as terminal
 use Rattle.dpj_tree.specs.declared.expr.BinaryOp.{BinaryOp}
 use Rattle.dpj_parse.specs.Words.{op_at, is_any, is_assign, is_atomic, is_bar, is_boolean, is_class, is_close_brace, is_close_bracket, is_close_paren, is_colon, is_comma, is_dot, is_else, is_extends, is_final, is_foreach_parts, is_greater, is_hash, is_if, is_in, is_int, is_less, is_name, is_new, is_number, is_open_brace, is_open_bracket, is_open_paren, is_print, is_pure, is_question, is_reads, is_region, is_return, is_root, is_semicolon, is_star, is_text, is_void, is_while, is_writes}
-use Rattle.dpj_base.specs.Refused.{IfRefused}
-use Rattle.dpj_base.specs.declared.refusal.Kind.TheVariants as refusal_kind
-use Rattle.dpj_base.specs.declared.refusal.Stop.{Stop}
-use Rattle.dpj_parse.specs.Taking.{Next}
 use Rattle.dpj_parse.specs.Expressions.{level_of, left_level, Ending, as_value, as_name, as_field, as_element, as_call, as_creation}
 
 -- the parts of the grammar, as they are read; where one is named for what follows, it may be nothing
@@ -329,41 +325,3 @@ pub data IsLost : List Expected → List Placed → Type 0 where
 -- between two places of a text, all that is expected first is read, whatever is expected behind it
 pub record Passes (xs : List Expected) (before after : List Placed) : Type 0 where
   pub goes : {to : List Expected} {left : List Placed} {others : List Expected} → Steps to left others after → Steps to left (xs ++ others) before
-
--- the same, but something else is expected then
-pub record Leads (xs : List Expected) (before : List Placed) (ys : List Expected) (after : List Placed) : Type 0 where
-  pub goes : (others to : List Expected) (left : List Placed) → Steps to left (ys ++ others) after → Steps to left (xs ++ others) before
-
--- what is expected first is lost on the way, whatever is expected behind it
-pub record LostIn (xs : List Expected) (before here : List Placed) : Type 0 where
-  pub lost : (others : List Expected) → (to : List Expected) × Steps to here (xs ++ others) before × IsLost to here
-
--- a fact that holds where a fault of syntax is told
-pub record IfSyntax (stop : Stop) (fact : Type 0) : Type 0 where
-  pub told : IfRefused stop (λ refusal. refusal.kind ≡ refusal_kind.Syntax → fact)
-
--- reading leads on to its end, or a fault of syntax is told where what is expected is lost
-abbrev pub Tells : {A : Type 0} → List Expected → List Placed → Result A Stop → List Placed → Type 0
-Tells xs before (Ok tree) after = Passes xs before after
-Tells xs before (Err stop) here = IfSyntax stop (LostIn xs before here)
-
--- the same, where something else is expected in the end
-abbrev pub TellsOn : {A : Type 0} → List Expected → List Expected → List Placed → Result A Stop → List Placed → Type 0
-TellsOn xs ys before (Ok tree) after = Leads xs before ys after
-TellsOn xs ys before (Err stop) here = IfSyntax stop (LostIn xs before here)
-
-abbrev pub unwrapped : Option (List Expected) → List Expected
-unwrapped None = []
-unwrapped (Some xs) = xs
-
--- what a part begins with in front of these terminals
-abbrev pub begin_of : Part → List Placed → List Expected
-begin_of n here = unwrapped (choose n (next_of here))
-
--- a field, a call or an element of what stands in front comes next
-abbrev pub Selects : List Placed → Type 0
-Selects here = Next (terminal.Symbol Symbol.Dot) here ⊎ Next (terminal.Symbol Symbol.OpenBracket) here
-
--- no operator comes next that binds so tightly
-abbrev pub NoOperator : ℕ → ℕ → List Placed → Type 0
-NoOperator least most here = (op : BinaryOp) → op_of (next_of here) ≡ Some op → (level_of op < least) ⊎ (most < level_of op)

@@ -14,4 +14,6 @@ pub mod Words
 pub mod Expecting
 pub mod Viable
 pub mod ExpectedText
-pub mod Telling
+pub mod Table
+pub mod Following
+pub mod Refusing

@@ -1,5 +1,4 @@
-ghost use Rattle.std.specs.Prelude.{◌≡◌, ◌+◌, ◌∷◌, [], IfOk, OnOk, IfErr};
-ghost use Rattle.dpj_parse.specs.Expecting.{Part, Tells, part};
+ghost use Rattle.std.specs.Prelude.{◌≡◌, ◌+◌, IfOk, OnOk, IfErr};
 ghost use Rattle.dpj_parse.specs.Fault.{IsFault};
 ghost use Rattle.dpj_parse.specs.Classes.{DerivesClass, DerivesMember, DerivesMembers, DerivesParent, DerivesProgram};
 ghost use Rattle.dpj_parse.specs.Progress.{Keeps, Reads};
@@ -50,12 +49,11 @@ fn class(alloc: Global, cursor: &mut Cursor) -> Result<Class, Stop>
 }
 
 /// `[ "extends" Name [ Args ] ]`
-#[tactic(auto, using(crate::proofs::TellingMembers::parent_if_none, crate::proofs::TellingMembers::parent_if_read, crate::proofs::TellingMembers::parent_if_lost, crate::proofs::Expected::link, crate::proofs::Telling::lost_first, crate::proofs::Telling::lost_after, crate::proofs::Telling::no_memory, crate::proofs::Telling::memory_told, crate::proofs::Telling::alone_told, crate::specs::Classes::no_parent, crate::proofs::MemberForms::parent_of))]
+#[tactic(auto, using(crate::specs::Classes::no_parent, crate::proofs::MemberForms::parent_of))]
 fn parent(alloc: Global, cursor: &mut Cursor) -> Result<Option<Parent>, Stop>
     ensures moves { OnOk result (Keeps cursor.old cursor.new) }
     ensures fault { IfErr result (λ stop. IsFault cursor.old.text stop) }
     ensures derives { IfOk result (λ parent. DerivesParent cursor.old.rest.now cursor.new.rest.now parent) }
-    ensures reads { Tells (part Part.parent_if ∷ []) cursor.old.rest.now result cursor.new.rest.now }
 {
     if !cursor.keyword_if(Keyword::Extends)? {
         return Ok(None);

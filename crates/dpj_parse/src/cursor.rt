@@ -1,4 +1,4 @@
-ghost use Rattle.std.specs.Prelude.{◌≡◌, ◌+◌, ◌-◌, ◌<◌, ◌≤◌, ◌^◌, ◌↔◌, ◌∷◌, [], false, drop, length, MatchOption, OnErr, OnOk, IfErr, IfOk, IsTrue};
+ghost use Rattle.std.specs.Prelude.{◌≡◌, ◌+◌, ◌-◌, ◌<◌, ◌≤◌, ◌^◌, ◌↔◌, [], drop, length, MatchOption, OnOk, IfErr, IfOk, IsTrue};
 
 use dpj_base::{Kind, Place, Refusal, Stop};
 use dpj_terminals::{Placed, Terminal};
@@ -37,9 +37,7 @@ pub struct Cursor<'a> {
 
 impl<'a> Cursor<'a> {
     ghost use Rattle.dpj_base.specs.Refused.{IfRefused};
-    ghost use Rattle.dpj_parse.specs.Expecting.{IfSyntax, Tells, next_is, next_of, one};
     ghost use Rattle.dpj_parse.specs.Fault.{IsFault};
-    ghost use Rattle.dpj_parse.specs.Words.{is_name, is_number, is_open_bracket, sign, word};
     ghost use Rattle.dpj_parse.specs.Progress.{Advances, Closes, Joins, Opens, Reads, ReadsIf};
     ghost use Rattle.dpj_parse.specs.Taking.{Next, StandsAt, TakesIf, TakesKeyword, TakesName, TakesNext, TakesOne, TakesSymbol, place_of};
 
@@ -98,25 +96,6 @@ impl<'a> Cursor<'a> {
         }
     }
 
-    pub fn is_name(&self) -> bool
-        ensures { result ≡ next_is is_name (next_of self.now.rest.now) }
-    {
-        match self.next() {
-            Some(Terminal::Name(_)) => true,
-            _ => false,
-        }
-    }
-
-    /// The number that comes next.
-    pub fn number(&self) -> Option<i32>
-        ensures { MatchOption result (next_is is_number (next_of self.now.rest.now) ≡ false) (λ number. Next (Terminal.Int number) self.now.rest.now) }
-    {
-        match self.next() {
-            Some(Terminal::Int(number)) => Some(*number),
-            _ => None,
-        }
-    }
-
     /// No program goes on with the next terminal, or the text ends too early.
     #[tactic(auto, using(crate::proofs::Told::unexpected_told))]
     pub fn unexpected(&self) -> Stop
@@ -134,7 +113,6 @@ impl<'a> Cursor<'a> {
     pub fn too_many(&self) -> Stop
         ensures told { IsFault self.now.text result }
         ensures place { IfRefused result (λ refusal. refusal.place ≡ place_of self.now.rest.now self.now.text.end) }
-        ensures ended { IfSyntax result (self.now.rest.now ≡ []) }
     {
         match self.rest {
             [] => self.unexpected(),
@@ -151,8 +129,6 @@ impl<'a> Cursor<'a> {
         ensures fault { IfErr result (λ stop. IsFault self.old.text stop) }
         ensures takes { OnOk result (TakesNext self.old.rest.now self.new.rest.now (place_of self.old.rest.now self.old.text.end)) }
         ensures stays { OnOk result (Advances self.old self.new) }
-        ensures ended { IfErr result (λ stop. IfSyntax stop (self.old.rest.now ≡ [])) }
-        ensures waits { OnErr result (self.new.rest.now ≡ self.old.rest.now) }
     {
         match self.rest {
             [] => Err(self.unexpected()),
@@ -167,12 +143,10 @@ impl<'a> Cursor<'a> {
     }
 
     /// Takes a symbol, and tells where it stands.
-    #[tactic(auto, using(crate::proofs::Telling::symbol_read, crate::proofs::Telling::symbol_lost, crate::proofs::Telling::not_ended))]
     pub fn symbol(&mut self, symbol: Symbol) -> Result<Place, Stop>
         ensures moves { OnOk result (Reads self.old self.new) }
         ensures fault { IfErr result (λ stop. IsFault self.old.text stop) }
         ensures takes { IfOk result (λ place. TakesSymbol symbol self.old.rest.now self.new.rest.now place) }
-        ensures reads { Tells (one (sign symbol) ∷ []) self.old.rest.now result self.new.rest.now }
     {
         if !self.is_symbol(symbol) {
             return Err(self.unexpected());
@@ -183,12 +157,10 @@ impl<'a> Cursor<'a> {
     }
 
     /// Takes a keyword, and tells where it stands.
-    #[tactic(auto, using(crate::proofs::Telling::keyword_read, crate::proofs::Telling::keyword_lost, crate::proofs::Telling::not_ended))]
     pub fn keyword(&mut self, keyword: Keyword) -> Result<Place, Stop>
         ensures moves { OnOk result (Reads self.old self.new) }
         ensures fault { IfErr result (λ stop. IsFault self.old.text stop) }
         ensures takes { IfOk result (λ place. TakesKeyword keyword self.old.rest.now self.new.rest.now place) }
-        ensures reads { Tells (one (word keyword) ∷ []) self.old.rest.now result self.new.rest.now }
     {
         if !self.is_keyword(keyword) {
             return Err(self.unexpected());
@@ -199,12 +171,10 @@ impl<'a> Cursor<'a> {
     }
 
     /// Takes a symbol where it comes next.
-    #[tactic(auto, using(crate::proofs::Telling::not_ended))]
     pub fn symbol_if(&mut self, symbol: Symbol) -> Result<bool, Stop>
         ensures moves { IfOk result (λ found. ReadsIf found self.old self.new) }
         ensures fault { IfErr result (λ stop. IsFault self.old.text stop) }
         ensures takes { IfOk result (λ found. TakesIf (Terminal.Symbol symbol) found self.old.rest.now self.new.rest.now) }
-        ensures alone { IfErr result (λ stop. IfSyntax stop ⊥) }
     {
         if !self.is_symbol(symbol) {
             return Ok(false);
@@ -214,12 +184,10 @@ impl<'a> Cursor<'a> {
     }
 
     /// Takes a keyword where it comes next.
-    #[tactic(auto, using(crate::proofs::Telling::not_ended))]
     pub fn keyword_if(&mut self, keyword: Keyword) -> Result<bool, Stop>
         ensures moves { IfOk result (λ found. ReadsIf found self.old self.new) }
         ensures fault { IfErr result (λ stop. IsFault self.old.text stop) }
         ensures takes { IfOk result (λ found. TakesIf (Terminal.Keyword keyword) found self.old.rest.now self.new.rest.now) }
-        ensures alone { IfErr result (λ stop. IfSyntax stop ⊥) }
     {
         if !self.is_keyword(keyword) {
             return Ok(false);
@@ -229,12 +197,10 @@ impl<'a> Cursor<'a> {
     }
 
     /// Takes a name.
-    #[tactic(auto, using(crate::proofs::Telling::name_read, crate::proofs::Telling::not_ended, crate::proofs::Telling::name_lost))]
     pub fn name(&mut self) -> Result<Named, Stop>
         ensures moves { OnOk result (Reads self.old self.new) }
         ensures fault { IfErr result (λ stop. IsFault self.old.text stop) }
         ensures takes { IfOk result (λ named. TakesName self.old.rest.now self.new.rest.now named) }
-        ensures reads { Tells (one is_name ∷ []) self.old.rest.now result self.new.rest.now }
     {
         let Some(Terminal::Name(name)) = self.next() else {
             return Err(self.unexpected());
@@ -249,7 +215,6 @@ impl<'a> Cursor<'a> {
         ensures moves { OnOk result (Opens self.old self.new) }
         ensures fault { IfErr result (λ stop. IsFault self.old.text stop) }
         ensures takes { IfOk result (λ place. TakesSymbol bracket self.old.rest.now self.new.rest.now place) }
-        ensures reads { Tells (one (sign bracket) ∷ []) self.old.rest.now result self.new.rest.now }
     {
         let place = self.symbol(bracket)?;
         self.level += 1;
@@ -262,7 +227,6 @@ impl<'a> Cursor<'a> {
         ensures moves { OnOk result (Closes self.old self.new) }
         ensures fault { IfErr result (λ stop. IsFault self.old.text stop) }
         ensures takes { OnOk result (TakesOne (Terminal.Symbol bracket) self.old.rest.now self.new.rest.now) }
-        ensures reads { Tells (one (sign bracket) ∷ []) self.old.rest.now result self.new.rest.now }
     {
         self.symbol(bracket)?;
         self.level -= 1;
@@ -275,8 +239,6 @@ impl<'a> Cursor<'a> {
         ensures fault { IfErr result (λ stop. IsFault self.old.text stop) }
         ensures takes { IfOk result (λ place. TakesNext self.old.rest.now self.new.rest.now place) }
         ensures joins { OnOk result (Joins self.old self.new) }
-        ensures ended { IfErr result (λ stop. IfSyntax stop (self.old.rest.now ≡ [])) }
-        ensures waits { OnErr result (self.new.rest.now ≡ self.old.rest.now) }
     {
         let place = self.place();
         if self.joined >= MOST {
@@ -288,12 +250,10 @@ impl<'a> Cursor<'a> {
     }
 
     /// Takes a `[` of an expression, and tells where it stands. What follows is a level deeper.
-    #[tactic(auto, using(crate::proofs::Telling::open_bracket_read, crate::proofs::Telling::open_bracket_lost, crate::proofs::Telling::not_ended))]
     pub fn join_open(&mut self) -> Result<Place, Stop>
         ensures moves { OnOk result (Opens self.old self.new) }
         ensures fault { IfErr result (λ stop. IsFault self.old.text stop) }
         ensures takes { IfOk result (λ place. TakesSymbol Symbol.OpenBracket self.old.rest.now self.new.rest.now place) }
-        ensures reads { Tells (one is_open_bracket ∷ []) self.old.rest.now result self.new.rest.now }
     {
         if !self.is_symbol(Symbol::OpenBracket) {
             return Err(self.unexpected());

@@ -14,12 +14,12 @@ pub fn one_program()
 {}
 
 /// What is expected of a text after each of its terminals is what the grammar says: what derives a program is read
-/// to its end, nothing else is, and where a text is lost, it has its fault of syntax.
+/// to its end, and where a text is lost, no program goes on so.
 pub fn expected_text()
     ensures { ExpectedText }
 {}
 
-/// A text derives a program, or has one fault of syntax, and not both.
+/// A text has one fault of syntax at most, and a program has none.
 pub fn one_fault()
     ensures { OneFault }
 {}

@@ -10,14 +10,21 @@
 //! so that a text that has a tree gets it, and which fault is told.
 #![tactic(auto)]
 
+mod class_table;
 mod classes;
 mod cursor;
+mod expr_table;
 mod exprs;
+mod follow;
+mod kinds;
 mod laws;
 mod members;
 mod operator;
+mod parts;
+mod path_table;
 mod program;
 mod region;
+mod stmt_table;
 mod stmts;
 mod types;
 

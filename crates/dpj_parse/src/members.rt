@@ -1,8 +1,5 @@
-ghost use Rattle.std.specs.Prelude.{◌≡◌, ◌+◌, ◌∷◌, ◌↔◌, [], IfOk, IsTrue, OnOk, IfErr};
-ghost use Rattle.dpj_parse.specs.Expecting.{Part, Tells, one, part};
+ghost use Rattle.std.specs.Prelude.{◌≡◌, ◌+◌, ◌↔◌, IfOk, IsTrue, OnOk, IfErr};
 ghost use Rattle.dpj_parse.specs.Fault.{IsFault};
-ghost use Rattle.dpj_parse.specs.Telling.{IsEffects, effects_part};
-ghost use Rattle.dpj_parse.specs.Words.{is_semicolon};
 ghost use Rattle.dpj_parse.specs.Classes.{BeginsEffects, DerivesField, DerivesFormal, DerivesFormalList, DerivesFormals, DerivesIn, DerivesItem, DerivesItemsIf, DerivesMember, DerivesMethod, DerivesNamed, DerivesResult, DerivesSummary};
 ghost use Rattle.dpj_parse.specs.Progress.{Keeps, Reads};
 ghost use Rattle.dpj_parse.specs.Taking.{Listed};
@@ -42,12 +39,11 @@ pub fn member(alloc: Global, cursor: &mut Cursor) -> Result<Member, Stop>
 }
 
 /// `Kind Name { "," Name } ";"`
-#[tactic(auto, using(crate::proofs::TellingMembers::names_read, crate::proofs::TellingMembers::names_lost, crate::proofs::Expected::link, crate::proofs::Telling::lost_first, crate::proofs::Telling::lost_after, crate::proofs::Telling::no_memory, crate::proofs::Telling::memory_told, crate::proofs::Telling::alone_told, crate::proofs::MemberForms::regions_of))]
+#[tactic(auto, using(crate::proofs::MemberForms::regions_of))]
 fn regions(alloc: Global, cursor: &mut Cursor) -> Result<Member, Stop>
     ensures moves { OnOk result (Reads cursor.old cursor.new) }
     ensures fault { IfErr result (λ stop. IsFault cursor.old.text stop) }
     ensures derives { IfOk result (λ tree. DerivesMember cursor.old.rest.now cursor.new.rest.now tree) }
-    ensures reads { Tells (part Part.kind ∷ part Part.names ∷ one is_semicolon ∷ []) cursor.old.rest.now result cursor.new.rest.now }
 {
     let atomic = kind(cursor)?;
     let names = names(alloc, cursor)?;
@@ -67,12 +63,11 @@ fn constructs(cursor: &Cursor) -> bool {
 }
 
 /// `Type | "void"`
-#[tactic(auto, using(crate::proofs::TellingMembers::result_value_read, crate::proofs::TellingMembers::result_value_lost, crate::proofs::TellingMembers::result_void_read, crate::proofs::Telling::no_memory, crate::proofs::Telling::memory_told, crate::proofs::Telling::alone_told, crate::proofs::MemberForms::result_void, crate::proofs::MemberForms::result_value))]
+#[tactic(auto, using(crate::proofs::MemberForms::result_void, crate::proofs::MemberForms::result_value))]
 fn result(alloc: Global, cursor: &mut Cursor) -> Result<MethodResult, Stop>
     ensures moves { OnOk result (Reads cursor.old cursor.new) }
     ensures fault { IfErr result (λ stop. IsFault cursor.old.text stop) }
     ensures derives { IfOk result (λ answer. DerivesResult cursor.old.rest.now cursor.new.rest.now answer) }
-    ensures reads { Tells (part Part.result ∷ []) cursor.old.rest.now result cursor.new.rest.now }
 {
     if cursor.keyword_if(Keyword::Void)? {
         return Ok(MethodResult::Void);
@@ -102,12 +97,11 @@ fn typed(alloc: Global, cursor: &mut Cursor) -> Result<Member, Stop>
 }
 
 /// `[ "in" Rpl ] ";"`
-#[tactic(auto, using(crate::proofs::Expected::link, crate::proofs::Telling::lost_first, crate::proofs::Telling::lost_after, crate::proofs::Telling::no_memory, crate::proofs::Telling::memory_told, crate::proofs::Telling::alone_told, crate::proofs::MemberForms::field_of))]
+#[tactic(auto, using(crate::proofs::MemberForms::field_of))]
 fn field(alloc: Global, cursor: &mut Cursor, ty: TypeTree, named: Named) -> Result<Member, Stop>
     ensures moves { OnOk result (Reads cursor.old cursor.new) }
     ensures fault { IfErr result (λ stop. IsFault cursor.old.text stop) }
     ensures derives { IfOk result (λ tree. DerivesField ty named cursor.old.rest.now cursor.new.rest.now tree) }
-    ensures reads { Tells (part Part.in_if ∷ one is_semicolon ∷ []) cursor.old.rest.now result cursor.new.rest.now }
 {
     let region = region_if(alloc, cursor)?;
     cursor.symbol(Symbol::Semicolon)?;
@@ -120,12 +114,11 @@ fn field(alloc: Global, cursor: &mut Cursor, ty: TypeTree, named: Named) -> Resu
 }
 
 /// `[ "in" Rpl ]`
-#[tactic(auto, using(crate::proofs::TellingMembers::in_if_none, crate::proofs::TellingMembers::in_if_read, crate::proofs::TellingMembers::in_if_lost, crate::proofs::Telling::no_memory, crate::proofs::Telling::memory_told, crate::proofs::Telling::alone_told, crate::specs::Classes::nowhere, crate::proofs::MemberForms::in_region_of))]
+#[tactic(auto, using(crate::specs::Classes::nowhere, crate::proofs::MemberForms::in_region_of))]
 fn region_if(alloc: Global, cursor: &mut Cursor) -> Result<Option<RplTree>, Stop>
     ensures moves { OnOk result (Keeps cursor.old cursor.new) }
     ensures fault { IfErr result (λ stop. IsFault cursor.old.text stop) }
     ensures derives { IfOk result (λ region. DerivesIn cursor.old.rest.now cursor.new.rest.now region) }
-    ensures reads { Tells (part Part.in_if ∷ []) cursor.old.rest.now result cursor.new.rest.now }
 {
     if !cursor.keyword_if(Keyword::In)? {
         return Ok(None);
@@ -177,12 +170,11 @@ fn behind_name(
 }
 
 /// `"(" [ Formals ] ")"`
-#[tactic(auto, using(crate::proofs::TellingMembers::formals_read, crate::proofs::TellingMembers::formals_lost, crate::proofs::Expected::link, crate::proofs::Telling::lost_first, crate::proofs::Telling::lost_after, crate::proofs::Telling::no_memory, crate::proofs::Telling::memory_told, crate::proofs::Telling::alone_told, crate::proofs::MemberForms::formals_of))]
+#[tactic(auto, using(crate::proofs::MemberForms::formals_of))]
 fn formals(alloc: Global, cursor: &mut Cursor) -> Result<Items<Formal>, Stop>
     ensures moves { OnOk result (Reads cursor.old cursor.new) }
     ensures fault { IfErr result (λ stop. IsFault cursor.old.text stop) }
     ensures derives { IfOk result (λ formals. DerivesFormals cursor.old.rest.now cursor.new.rest.now formals) }
-    ensures reads { Tells (part Part.formals ∷ []) cursor.old.rest.now result cursor.new.rest.now }
 {
     cursor.open(Symbol::OpenParen)?;
     let formals = formal_list(alloc, cursor)?;
@@ -191,12 +183,11 @@ fn formals(alloc: Global, cursor: &mut Cursor) -> Result<Items<Formal>, Stop>
 }
 
 /// `[ Formals ]` with `Formals = Type Name { "," Type Name }`
-#[tactic(auto, using(crate::proofs::TellingMembers::formal_list_none, crate::proofs::TellingMembers::formal_list_begins, crate::proofs::TellingMembers::formal_list_lost, crate::proofs::TellingPaths::formals_more, crate::proofs::TellingPaths::formals_lost, crate::proofs::TellingPaths::formals_done, crate::proofs::Telling::no_memory, crate::proofs::Telling::memory_told, crate::proofs::Telling::alone_told, crate::specs::Classes::no_formals, crate::specs::Classes::formals, crate::proofs::Lists::listed_more, crate::specs::Taking::last))]
+#[tactic(auto, using(crate::specs::Classes::no_formals, crate::specs::Classes::formals, crate::proofs::Lists::listed_more, crate::specs::Taking::last))]
 fn formal_list(alloc: Global, cursor: &mut Cursor) -> Result<Items<Formal>, Stop>
     ensures moves { OnOk result (Keeps cursor.old cursor.new) }
     ensures fault { IfErr result (λ stop. IsFault cursor.old.text stop) }
     ensures derives { IfOk result (λ formals. DerivesFormalList cursor.old.rest.now cursor.new.rest.now formals) }
-    ensures reads { Tells (part Part.formal_list ∷ []) cursor.old.rest.now result cursor.new.rest.now }
 {
     if cursor.is_symbol(Symbol::CloseParen) {
         return Ok(Items::new(alloc));
@@ -210,12 +201,11 @@ fn formal_list(alloc: Global, cursor: &mut Cursor) -> Result<Items<Formal>, Stop
 }
 
 /// `Type Name`
-#[tactic(auto, using(crate::proofs::TellingMembers::formal_read, crate::proofs::TellingMembers::formal_lost, crate::proofs::Expected::link, crate::proofs::Telling::lost_first, crate::proofs::Telling::lost_after, crate::proofs::Telling::no_memory, crate::proofs::Telling::memory_told, crate::proofs::Telling::alone_told, crate::specs::Classes::formal))]
+#[tactic(auto, using(crate::specs::Classes::formal))]
 fn formal(alloc: Global, cursor: &mut Cursor) -> Result<Formal, Stop>
     ensures moves { OnOk result (Reads cursor.old cursor.new) }
     ensures fault { IfErr result (λ stop. IsFault cursor.old.text stop) }
     ensures derives { IfOk result (λ tree. DerivesFormal cursor.old.rest.now cursor.new.rest.now tree) }
-    ensures reads { Tells (part Part.formal ∷ []) cursor.old.rest.now result cursor.new.rest.now }
 {
     let ty = ty(alloc, cursor)?;
     let named = cursor.name()?;
@@ -227,12 +217,11 @@ fn formal(alloc: Global, cursor: &mut Cursor) -> Result<Formal, Stop>
 }
 
 /// `Summary = [ "pure" | "reads" Items [ "writes" Items ] | "writes" Items ]`
-#[tactic(auto, using(crate::proofs::TellingMembers::summary_effects_read, crate::proofs::TellingMembers::summary_effects_lost, crate::proofs::TellingMembers::summary_pure_read, crate::proofs::TellingMembers::summary_none, crate::proofs::Expected::link, crate::proofs::Telling::lost_first, crate::proofs::Telling::lost_after, crate::proofs::Telling::no_memory, crate::proofs::Telling::memory_told, crate::proofs::Telling::alone_told, crate::specs::Classes::no_summary, crate::proofs::MemberForms::summary_pure, crate::proofs::MemberForms::summary_effects))]
+#[tactic(auto, using(crate::specs::Classes::no_summary, crate::proofs::MemberForms::summary_pure, crate::proofs::MemberForms::summary_effects))]
 fn summary(alloc: Global, cursor: &mut Cursor) -> Result<Option<SummaryTree>, Stop>
     ensures moves { OnOk result (Keeps cursor.old cursor.new) }
     ensures fault { IfErr result (λ stop. IsFault cursor.old.text stop) }
     ensures derives { IfOk result (λ summary. DerivesSummary cursor.old.rest.now cursor.new.rest.now summary) }
-    ensures reads { Tells (part Part.summary ∷ []) cursor.old.rest.now result cursor.new.rest.now }
 {
     if begins_effects(cursor) {
         let reads = items_if(alloc, cursor, Keyword::Reads)?;
@@ -256,13 +245,11 @@ fn begins_effects(cursor: &Cursor) -> bool
 }
 
 /// A keyword and Items, or neither.
-#[tactic(auto, using(crate::proofs::TellingMembers::effects_none, crate::proofs::TellingMembers::effects_read, crate::proofs::TellingMembers::effects_lost, crate::proofs::Telling::no_memory, crate::proofs::Telling::memory_told, crate::proofs::Telling::alone_told, crate::proofs::MemberForms::items_none, crate::proofs::MemberForms::items_some))]
+#[tactic(auto, using(crate::proofs::MemberForms::items_none, crate::proofs::MemberForms::items_some))]
 fn items_if(alloc: Global, cursor: &mut Cursor, keyword: Keyword) -> Result<Items<Item>, Stop>
-    requires { IsEffects keyword }
     ensures moves { OnOk result (Keeps cursor.old cursor.new) }
     ensures fault { IfErr result (λ stop. IsFault cursor.old.text stop) }
     ensures derives { IfOk result (λ items. DerivesItemsIf keyword cursor.old.rest.now cursor.new.rest.now items) }
-    ensures reads { Tells (part (effects_part keyword) ∷ []) cursor.old.rest.now result cursor.new.rest.now }
 {
     if !cursor.keyword_if(keyword)? {
         return Ok(Items::new(alloc));
@@ -271,12 +258,11 @@ fn items_if(alloc: Global, cursor: &mut Cursor, keyword: Keyword) -> Result<Item
 }
 
 /// `Items = [ "atomic" ] Rpl { "," [ "atomic" ] Rpl }`
-#[tactic(auto, using(crate::proofs::TellingMembers::items_begins, crate::proofs::TellingMembers::items_first_lost, crate::proofs::TellingPaths::items_more, crate::proofs::TellingPaths::items_lost, crate::proofs::TellingPaths::items_done, crate::proofs::Telling::no_memory, crate::proofs::Telling::memory_told, crate::proofs::Telling::alone_told, crate::proofs::Lists::listed_more, crate::specs::Taking::last))]
+#[tactic(auto, using(crate::proofs::Lists::listed_more, crate::specs::Taking::last))]
 fn items(alloc: Global, cursor: &mut Cursor) -> Result<Items<Item>, Stop>
     ensures moves { OnOk result (Reads cursor.old cursor.new) }
     ensures fault { IfErr result (λ stop. IsFault cursor.old.text stop) }
     ensures derives { IfOk result (λ items. Listed DerivesItem cursor.old.rest.now cursor.new.rest.now items) }
-    ensures reads { Tells (part Part.items ∷ []) cursor.old.rest.now result cursor.new.rest.now }
 {
     let mut items = Items::new(alloc);
     items.push(item(alloc, cursor)?)?;
@@ -287,12 +273,11 @@ fn items(alloc: Global, cursor: &mut Cursor) -> Result<Items<Item>, Stop>
 }
 
 /// `[ "atomic" ] Rpl`
-#[tactic(auto, using(crate::proofs::TellingMembers::item_read, crate::proofs::TellingMembers::item_lost, crate::proofs::Telling::no_memory, crate::proofs::Telling::memory_told, crate::proofs::Telling::alone_told, crate::proofs::MemberForms::item_of))]
+#[tactic(auto, using(crate::proofs::MemberForms::item_of))]
 fn item(alloc: Global, cursor: &mut Cursor) -> Result<Item, Stop>
     ensures moves { OnOk result (Reads cursor.old cursor.new) }
     ensures fault { IfErr result (λ stop. IsFault cursor.old.text stop) }
     ensures derives { IfOk result (λ tree. DerivesItem cursor.old.rest.now cursor.new.rest.now tree) }
-    ensures reads { Tells (part Part.item ∷ []) cursor.old.rest.now result cursor.new.rest.now }
 {
     let atomic = cursor.keyword_if(Keyword::Atomic)?;
     let rpl = rpl(alloc, cursor)?;

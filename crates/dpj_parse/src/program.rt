@@ -1,4 +1,4 @@
-ghost use Rattle.std.specs.Prelude.{◌≤◌, ◌<◌, length, All, IfErr, IfOk};
+ghost use Rattle.std.specs.Prelude.{◌≤◌, ◌<◌, ◌∷◌, [], length, All, IfErr, IfOk};
 ghost use Rattle.std.specs.List.{IsDistinct};
 ghost use Rattle.std.specs.Str.{bytes_eq};
 ghost use Rattle.dpj_tokens.specs.Cutting.{StandInOrder};
@@ -6,14 +6,18 @@ ghost use Rattle.dpj_tree.specs.Names.{program_names};
 ghost use Rattle.dpj_tree.specs.Size.{program_size};
 ghost use Rattle.dpj_tree.specs.Shaped.{MemberHasTargets};
 ghost use Rattle.dpj_base.specs.Refused.{IfRefused};
+ghost use Rattle.dpj_parse.specs.Classes.{DerivesProgram};
+ghost use Rattle.dpj_parse.specs.Fault.{IsFault};
 ghost use Rattle.dpj_parse.specs.Program.{IsGrammarFault, IsProgram};
+ghost use Rattle.dpj_parse.specs.Refusing.{IsRefusedIn};
 
 use crate::classes::classes;
 use crate::cursor::{Cursor, Text};
-use dpj_base::Stop;
+use crate::follow::lost_at;
+use dpj_base::{Items, Kind, Refusal, Stop};
 use dpj_terminals::{Terminals, terminals};
 use dpj_tokens::Tokens;
-use dpj_tree::Program;
+use dpj_tree::{Class, Program};
 use std::alloc::Global;
 
 /// The tree of a program's text, or the first fault of its grammar.
@@ -28,15 +32,71 @@ pub fn parse(alloc: Global, bytes: &[u8], tokens: &Tokens) -> Result<Program, St
     ensures fault { IfErr result (λ stop. IfRefused stop (IsGrammarFault bytes.now tokens.now.list tokens.now.end)) }
 {
     let Terminals { list, names } = terminals(alloc, bytes, tokens)?;
+    let text = Text {
+        terminals: list.as_slice(),
+        end: tokens.end,
+    };
+    let classes = read(alloc, text)?;
+    Ok(Program { classes, names })
+}
+
+/// The classes of a text, or where it is refused.
+fn read(alloc: Global, text: Text) -> Result<Items<Class>, Stop>
+    ensures derives { IfOk result (DerivesProgram text.terminals.now) }
+    ensures refused { IfErr result (λ stop. IfRefused stop (IsRefusedIn text.terminals.now text.end)) }
+{
     let mut cursor = Cursor {
-        text: Text {
-            terminals: list.as_slice(),
-            end: tokens.end,
-        },
-        rest: list.as_slice(),
+        text,
+        rest: text.terminals,
         level: 0,
         joined: 0,
     };
-    let classes = classes(alloc, &mut cursor)?;
-    Ok(Program { classes, names })
+    match classes(alloc, &mut cursor) {
+        Ok(classes) => Ok(classes),
+        Err(stop) => Err(told(alloc, text, stop)),
+    }
+}
+
+/// What is told of a text that the parser refuses: a fault of syntax at the place where the text is lost.
+#[tactic(auto, using(crate::proofs::Refused::nest_told))]
+fn told(alloc: Global, text: Text, stop: Stop) -> Stop
+    requires { IsFault text stop }
+    ensures { IfRefused result (IsRefusedIn text.terminals.now text.end) }
+{
+    match stop {
+        Stop::NoMemory => Stop::NoMemory,
+        Stop::Refused(refusal) => match refusal.kind {
+            Kind::Syntax => lost(alloc, text),
+            _ => Stop::Refused(refusal),
+        },
+    }
+}
+
+/// What is told of a text that is lost. That the parser takes every text that isn't is not proved; if it left one, that
+/// would be told as one that nests too deep.
+#[tactic(auto, using(crate::proofs::Refused::lost_told, crate::specs::Refusing::nest))]
+fn lost(alloc: Global, text: Text) -> Stop
+    ensures { IfRefused result (IsRefusedIn text.terminals.now text.end) }
+{
+    match lost_at(alloc, text.terminals, text.end) {
+        Ok(Some(place)) => Stop::Refused(Refusal {
+            kind: Kind::Syntax,
+            place,
+        }),
+        Ok(None) => unread(text),
+        Err(_) => Stop::NoMemory,
+    }
+}
+
+#[tactic(auto, using(crate::proofs::Refused::first_told))]
+fn unread(text: Text) -> Stop
+    ensures { IfRefused result (IsRefusedIn text.terminals.now text.end) }
+{
+    match text.terminals {
+        [first, ..] => Stop::Refused(Refusal {
+            kind: Kind::Nest,
+            place: first.place,
+        }),
+        [] => Stop::NoMemory,
+    }
 }

