@@ -46,3 +46,4 @@ pub mod Decided
 pub mod Tables
 pub mod Followed
 pub mod Refused
+pub mod RefusedOnce

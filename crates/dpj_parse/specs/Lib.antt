@@ -17,3 +17,4 @@ pub mod ExpectedText
 pub mod Table
 pub mod Following
 pub mod Refusing
+pub mod OneRefusal

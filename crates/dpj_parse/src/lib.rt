@@ -4,10 +4,12 @@
 //! text nests deeper, joins longer or suffixes more than 32 times. The time is linear.
 //!
 //! Proved: the tree that is answered is the one that the grammar derives, from as many terminals as there are tokens
-//! and with none of them left; it has at most as many nodes as the text has bytes; and reading ends. As laws: tokens
-//! derive one program at most; a text has one fault of syntax at most, and a program none; and what is expected after
-//! each terminal (`specs/Expecting.antt`) is what the grammar says. Not proved: that the functions read as is expected,
-//! so that a text that has a tree gets it, and which fault is told.
+//! and with none of them left; it has at most as many nodes as the text has bytes; and reading ends. A text is refused
+//! as `syntax` only where it derives no program, at the one place of its fault: where the parser refuses it so, it is
+//! followed once more as is expected (`follow`), and told where it is lost. As laws: tokens derive one program at most;
+//! each text derives a program or has one fault of syntax; and what is expected after each terminal
+//! (`specs/Expecting.antt`) is what the grammar says. Not proved: that the parser takes every text that derives a program
+//! and nests no deeper than is allowed, and where `nest` is told.
 #![tactic(auto)]
 
 mod class_table;
@@ -28,5 +30,5 @@ mod stmt_table;
 mod stmts;
 mod types;
 
-pub use laws::{expected_text, one_fault, one_program, one_tree};
+pub use laws::{expected_text, one_fault, one_program, one_refusal, one_tree};
 pub use program::parse;

@@ -1,4 +1,4 @@
-ghost use Rattle.std.specs.Prelude.{◌≤◌, ◌<◌, ◌∷◌, [], length, All, IfErr, IfOk};
+ghost use Rattle.std.specs.Prelude.{◌≡◌, ◌≤◌, ◌<◌, length, All, IfErr, IfOk};
 ghost use Rattle.std.specs.List.{IsDistinct};
 ghost use Rattle.std.specs.Str.{bytes_eq};
 ghost use Rattle.dpj_tokens.specs.Cutting.{StandInOrder};
@@ -14,7 +14,7 @@ ghost use Rattle.dpj_parse.specs.Refusing.{IsRefusedIn};
 use crate::classes::classes;
 use crate::cursor::{Cursor, Text};
 use crate::follow::lost_at;
-use dpj_base::{Items, Kind, Refusal, Stop};
+use dpj_base::{Items, Kind, Place, Refusal, Stop};
 use dpj_terminals::{Terminals, terminals};
 use dpj_tokens::Tokens;
 use dpj_tree::{Class, Program};
@@ -79,12 +79,19 @@ fn lost(alloc: Global, text: Text) -> Stop
     ensures { IfRefused result (IsRefusedIn text.terminals.now text.end) }
 {
     match lost_at(alloc, text.terminals, text.end) {
-        Ok(Some(place)) => Stop::Refused(Refusal {
-            kind: Kind::Syntax,
-            place,
-        }),
+        Ok(Some(place)) => Stop::Refused(syntax(place)),
         Ok(None) => unread(text),
         Err(_) => Stop::NoMemory,
+    }
+}
+
+/// No program goes on with the terminal at a place.
+fn syntax(place: Place) -> Refusal
+    ensures { result ≡ record { kind = Kind.Syntax; place = place } }
+{
+    Refusal {
+        kind: Kind::Syntax,
+        place,
     }
 }
 
