@@ -1,5 +1,5 @@
 -- Where a text is lost it has its fault of syntax, and what the parser tells otherwise stands among its terminals.
-use Rattle.std.proofs.Common.{◌≡◌, ◌≢◌, List, [], ◌∷◌, ◌++◌, inl, refl, sym, subst}
+use Rattle.std.proofs.Common.{◌≡◌, ◌≢◌, ◌≤◌, List, [], ◌∷◌, ◌++◌, length, inl, refl, sym, subst, arith}
 use Rattle.dpj_base.specs.declared.place.Place.{Place}
 use Rattle.dpj_base.specs.declared.refusal.Kind.TheVariants as kind
 use Rattle.dpj_base.specs.declared.refusal.Refusal.{Refusal}
@@ -9,6 +9,7 @@ use Rattle.dpj_parse.specs.Expecting.{Expected, part, Steps}
 use Rattle.dpj_parse.specs.Expecting.{Part as p}
 use Rattle.dpj_parse.specs.Following.{IsLostPlace}
 use Rattle.dpj_parse.specs.Refusing.{IsRefusedIn, syntax, nest}
+use Rattle.dpj_parse.specs.Taking.{place_of}
 use Rattle.dpj_parse.specs.Viable.{HasSyntaxFault}
 use Rattle.dpj_parse.proofs.Expected.{alike}
 use Rattle.dpj_parse.proofs.Decided.{fault_at}
@@ -25,5 +26,6 @@ nest_told refusal (unexpected s) other = absurd (other refl)
 nest_told refusal (too_many s) other = nest s
 nest_told refusal ended other = absurd (other refl)
 
-pub first_told : {list : List Placed} {end : Place} (first : Placed) (after : List Placed) → list ≡ first ∷ after → IsRefusedIn list end (record { kind = kind.Nest; place = first.place })
-first_told {list} {end} first after is = rw is (nest (inl refl))
+pub first_told : (list : List Placed) {end place : Place} → 1 ≤ length list → place ≡ place_of list end → IsRefusedIn list end (record { kind = kind.Nest; place = place })
+first_told [] some is = absurd (omega arith)
+first_told (next ∷ after) some is = rw is (nest (inl refl))

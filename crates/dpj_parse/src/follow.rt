@@ -9,10 +9,10 @@ ghost use Rattle.dpj_parse.specs.Taking.{place_of};
 
 use crate::class_table::class_begin;
 use crate::expr_table::expr_begin;
+use crate::kinds::fits;
 use crate::parts::{Begin, ClassPart, Wanted};
 use crate::path_table::path_begin;
 use crate::stmt_table::stmt_begin;
-use crate::kinds::fits;
 use dpj_base::{Items, NoMemory, Place};
 use dpj_terminals::Placed;
 use std::alloc::Global;
@@ -156,7 +156,7 @@ fn behind<'a>(wanted: Wanted, here: &'a [Placed]) -> Option<&'a [Placed]>
 }
 
 /// The place of the next terminal, or the end.
-fn place_at(here: &[Placed], end: Place) -> Place
+pub fn place_at(here: &[Placed], end: Place) -> Place
     ensures { result ≡ place_of here.now end }
 {
     match here {

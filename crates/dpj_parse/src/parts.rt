@@ -147,39 +147,75 @@ pub enum Begin {
 }
 
 pub const ASSIGN: Wanted = Wanted::Symbol(Symbol::Assign);
+
 pub const ATOMIC: Wanted = Wanted::Keyword(Keyword::Atomic);
+
 pub const BAR: Wanted = Wanted::Symbol(Symbol::Bar);
+
 pub const CLASS: Wanted = Wanted::Keyword(Keyword::Class);
+
 pub const CLOSE_BRACE: Wanted = Wanted::Symbol(Symbol::CloseBrace);
+
 pub const CLOSE_BRACKET: Wanted = Wanted::Symbol(Symbol::CloseBracket);
+
 pub const CLOSE_PAREN: Wanted = Wanted::Symbol(Symbol::CloseParen);
+
 pub const COLON: Wanted = Wanted::Symbol(Symbol::Colon);
+
 pub const COMMA: Wanted = Wanted::Symbol(Symbol::Comma);
+
 pub const DOT: Wanted = Wanted::Symbol(Symbol::Dot);
+
 pub const ELSE: Wanted = Wanted::Keyword(Keyword::Else);
+
 pub const EXTENDS: Wanted = Wanted::Keyword(Keyword::Extends);
+
 pub const GREATER: Wanted = Wanted::Symbol(Symbol::Greater);
+
 pub const HASH: Wanted = Wanted::Symbol(Symbol::Hash);
+
 pub const IN: Wanted = Wanted::Keyword(Keyword::In);
+
 pub const INT: Wanted = Wanted::Keyword(Keyword::Int);
+
 pub const LESS: Wanted = Wanted::Symbol(Symbol::Less);
+
 pub const OPEN_BRACE: Wanted = Wanted::Symbol(Symbol::OpenBrace);
+
 pub const OPEN_BRACKET: Wanted = Wanted::Symbol(Symbol::OpenBracket);
+
 pub const OPEN_PAREN: Wanted = Wanted::Symbol(Symbol::OpenParen);
+
 pub const READS: Wanted = Wanted::Keyword(Keyword::Reads);
+
 pub const REGION: Wanted = Wanted::Keyword(Keyword::Region);
+
 pub const ROOT: Wanted = Wanted::Keyword(Keyword::Root);
+
 pub const SEMICOLON: Wanted = Wanted::Symbol(Symbol::Semicolon);
+
 pub const VOID: Wanted = Wanted::Keyword(Keyword::Void);
+
 pub const WRITES: Wanted = Wanted::Keyword(Keyword::Writes);
+
 pub const STAR: Wanted = Wanted::Symbol(Symbol::Star);
+
 pub const QUESTION: Wanted = Wanted::Symbol(Symbol::Question);
+
 pub const BOOLEAN: Wanted = Wanted::Keyword(Keyword::Boolean);
+
 pub const NEW: Wanted = Wanted::Keyword(Keyword::New);
+
 pub const IF: Wanted = Wanted::Keyword(Keyword::If);
+
 pub const WHILE: Wanted = Wanted::Keyword(Keyword::While);
+
 pub const FOREACH_PARTS: Wanted = Wanted::Keyword(Keyword::ForeachParts);
+
 pub const RETURN: Wanted = Wanted::Keyword(Keyword::Return);
+
 pub const PRINT: Wanted = Wanted::Keyword(Keyword::Print);
+
 pub const FINAL: Wanted = Wanted::Keyword(Keyword::Final);
+
 pub const PURE: Wanted = Wanted::Keyword(Keyword::Pure);

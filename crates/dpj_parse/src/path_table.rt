@@ -2,8 +2,8 @@ ghost use Rattle.std.specs.Prelude.{◌≡◌, Some};
 ghost use Rattle.dpj_parse.specs.Expecting.{Part, choose, next_of};
 ghost use Rattle.dpj_parse.specs.Table.{begin_if, begin_list, path_part};
 
-use crate::parts::*;
 use crate::kinds::{passes, where_next};
+use crate::parts::*;
 use dpj_terminals::{Placed, Terminal};
 use dpj_tokens::{Keyword, Symbol};
 
@@ -13,32 +13,147 @@ pub fn path_begin(part: PathPart, here: &[Placed]) -> Option<Begin>
 {
     match part {
         PathPart::Names => Some(Begin::Two(Wanted::Name, Wanted::Path(PathPart::MoreNames))),
-        PathPart::MoreNames => where_next(COMMA, here, Begin::Three(COMMA, Wanted::Name, Wanted::Path(PathPart::MoreNames)), Begin::Nothing),
+        PathPart::MoreNames => where_next(
+            COMMA,
+            here,
+            Begin::Three(COMMA, Wanted::Name, Wanted::Path(PathPart::MoreNames)),
+            Begin::Nothing,
+        ),
         PathPart::RegionName => Some(Begin::Two(Wanted::Name, Wanted::Path(PathPart::SecondName))),
-        PathPart::SecondName => where_next(DOT, here, Begin::Two(DOT, Wanted::Name), Begin::Nothing),
-        PathPart::Path => Some(Begin::Two(Wanted::Path(PathPart::Head), Wanted::Path(PathPart::Elems))),
-        PathPart::Head => where_next(ROOT, here, Begin::One(ROOT), Begin::One(Wanted::Path(PathPart::RegionName))),
-        PathPart::Elems => where_next(COLON, here, Begin::Three(COLON, Wanted::Path(PathPart::Elem), Wanted::Path(PathPart::Elems)), Begin::Nothing),
+        PathPart::SecondName => where_next(
+            DOT,
+            here,
+            Begin::Two(DOT, Wanted::Name),
+            Begin::Nothing,
+        ),
+        PathPart::Path => Some(Begin::Two(
+            Wanted::Path(PathPart::Head),
+            Wanted::Path(PathPart::Elems),
+        )),
+        PathPart::Head => where_next(
+            ROOT,
+            here,
+            Begin::One(ROOT),
+            Begin::One(Wanted::Path(PathPart::RegionName)),
+        ),
+        PathPart::Elems => where_next(
+            COLON,
+            here,
+            Begin::Three(
+                COLON,
+                Wanted::Path(PathPart::Elem),
+                Wanted::Path(PathPart::Elems),
+            ),
+            Begin::Nothing,
+        ),
         PathPart::Elem => Some(elem(here)),
-        PathPart::Index => Some(Begin::Three(OPEN_BRACKET, Wanted::Path(PathPart::Within), CLOSE_BRACKET)),
+        PathPart::Index => Some(Begin::Three(
+            OPEN_BRACKET,
+            Wanted::Path(PathPart::Within),
+            CLOSE_BRACKET,
+        )),
         PathPart::Within => Some(within(here)),
-        PathPart::ArgsIf => where_next(LESS, here, Begin::One(Wanted::Path(PathPart::Args)), Begin::Nothing),
-        PathPart::Args => Some(Begin::Four(LESS, Wanted::Path(PathPart::Path), Wanted::Path(PathPart::MorePaths), GREATER)),
-        PathPart::MorePaths => where_next(COMMA, here, Begin::Three(COMMA, Wanted::Path(PathPart::Path), Wanted::Path(PathPart::MorePaths)), Begin::Nothing),
-        PathPart::ParamsIf => where_next(LESS, here, Begin::One(Wanted::Path(PathPart::Params)), Begin::Nothing),
-        PathPart::Params => Some(Begin::Six(LESS, Wanted::Path(PathPart::Kind), Wanted::Name, Wanted::Path(PathPart::MoreDeclared), Wanted::Path(PathPart::Given), GREATER)),
-        PathPart::MoreDeclared => where_next(COMMA, here, Begin::Four(COMMA, Wanted::Path(PathPart::KindIf), Wanted::Name, Wanted::Path(PathPart::MoreDeclared)), Begin::Nothing),
+        PathPart::ArgsIf => where_next(
+            LESS,
+            here,
+            Begin::One(Wanted::Path(PathPart::Args)),
+            Begin::Nothing,
+        ),
+        PathPart::Args => Some(Begin::Four(
+            LESS,
+            Wanted::Path(PathPart::Path),
+            Wanted::Path(PathPart::MorePaths),
+            GREATER,
+        )),
+        PathPart::MorePaths => where_next(
+            COMMA,
+            here,
+            Begin::Three(
+                COMMA,
+                Wanted::Path(PathPart::Path),
+                Wanted::Path(PathPart::MorePaths),
+            ),
+            Begin::Nothing,
+        ),
+        PathPart::ParamsIf => where_next(
+            LESS,
+            here,
+            Begin::One(Wanted::Path(PathPart::Params)),
+            Begin::Nothing,
+        ),
+        PathPart::Params => Some(Begin::Six(
+            LESS,
+            Wanted::Path(PathPart::Kind),
+            Wanted::Name,
+            Wanted::Path(PathPart::MoreDeclared),
+            Wanted::Path(PathPart::Given),
+            GREATER,
+        )),
+        PathPart::MoreDeclared => where_next(
+            COMMA,
+            here,
+            Begin::Four(
+                COMMA,
+                Wanted::Path(PathPart::KindIf),
+                Wanted::Name,
+                Wanted::Path(PathPart::MoreDeclared),
+            ),
+            Begin::Nothing,
+        ),
         PathPart::Kind => Some(Begin::Two(Wanted::Path(PathPart::AtomicIf), REGION)),
         PathPart::AtomicIf => where_next(ATOMIC, here, Begin::One(ATOMIC), Begin::Nothing),
         PathPart::KindIf => Some(kind_if(here)),
-        PathPart::Given => where_next(BAR, here, Begin::Three(BAR, Wanted::Path(PathPart::Constraint), Wanted::Path(PathPart::MoreConstraints)), Begin::Nothing),
-        PathPart::Constraint => Some(Begin::Three(Wanted::Path(PathPart::Path), HASH, Wanted::Path(PathPart::Path))),
-        PathPart::MoreConstraints => where_next(COMMA, here, Begin::Three(COMMA, Wanted::Path(PathPart::Constraint), Wanted::Path(PathPart::MoreConstraints)), Begin::Nothing),
-        PathPart::Type => Some(Begin::Two(Wanted::Path(PathPart::Base), Wanted::Path(PathPart::Suffixes))),
+        PathPart::Given => where_next(
+            BAR,
+            here,
+            Begin::Three(
+                BAR,
+                Wanted::Path(PathPart::Constraint),
+                Wanted::Path(PathPart::MoreConstraints),
+            ),
+            Begin::Nothing,
+        ),
+        PathPart::Constraint => Some(Begin::Three(
+            Wanted::Path(PathPart::Path),
+            HASH,
+            Wanted::Path(PathPart::Path),
+        )),
+        PathPart::MoreConstraints => where_next(
+            COMMA,
+            here,
+            Begin::Three(
+                COMMA,
+                Wanted::Path(PathPart::Constraint),
+                Wanted::Path(PathPart::MoreConstraints),
+            ),
+            Begin::Nothing,
+        ),
+        PathPart::Type => Some(Begin::Two(
+            Wanted::Path(PathPart::Base),
+            Wanted::Path(PathPart::Suffixes),
+        )),
         PathPart::Base => Some(base(here)),
-        PathPart::Suffixes => where_next(OPEN_BRACKET, here, Begin::Four(OPEN_BRACKET, CLOSE_BRACKET, Wanted::Path(PathPart::BracketsBehind), Wanted::Path(PathPart::Suffixes)), Begin::Nothing),
-        PathPart::BracketsBehind => Some(Begin::Two(Wanted::Path(PathPart::RegionIf), Wanted::Path(PathPart::IndexIf))),
-        PathPart::RegionIf => where_next(LESS, here, Begin::Three(LESS, Wanted::Path(PathPart::Path), GREATER), Begin::Nothing),
+        PathPart::Suffixes => where_next(
+            OPEN_BRACKET,
+            here,
+            Begin::Four(
+                OPEN_BRACKET,
+                CLOSE_BRACKET,
+                Wanted::Path(PathPart::BracketsBehind),
+                Wanted::Path(PathPart::Suffixes),
+            ),
+            Begin::Nothing,
+        ),
+        PathPart::BracketsBehind => Some(Begin::Two(
+            Wanted::Path(PathPart::RegionIf),
+            Wanted::Path(PathPart::IndexIf),
+        )),
+        PathPart::RegionIf => where_next(
+            LESS,
+            here,
+            Begin::Three(LESS, Wanted::Path(PathPart::Path), GREATER),
+            Begin::Nothing,
+        ),
         PathPart::IndexIf => where_next(HASH, here, Begin::Two(HASH, Wanted::Name), Begin::Nothing),
     }
 }

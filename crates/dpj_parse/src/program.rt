@@ -13,7 +13,7 @@ ghost use Rattle.dpj_parse.specs.Refusing.{IsRefusedIn};
 
 use crate::classes::classes;
 use crate::cursor::{Cursor, Text};
-use crate::follow::lost_at;
+use crate::follow::{lost_at, place_at};
 use dpj_base::{Items, Kind, Place, Refusal, Stop};
 use dpj_terminals::{Terminals, terminals};
 use dpj_tokens::Tokens;
@@ -42,8 +42,8 @@ pub fn parse(alloc: Global, bytes: &[u8], tokens: &Tokens) -> Result<Program, St
 
 /// The classes of a text, or where it is refused.
 fn read(alloc: Global, text: Text) -> Result<Items<Class>, Stop>
-    ensures derives { IfOk result (DerivesProgram text.terminals.now) }
-    ensures refused { IfErr result (λ stop. IfRefused stop (IsRefusedIn text.terminals.now text.end)) }
+    ensures derives { IfOk result (DerivesProgram text.entry.terminals.now) }
+    ensures refused { IfErr result (λ stop. IfRefused stop (IsRefusedIn text.entry.terminals.now text.entry.end)) }
 {
     let mut cursor = Cursor {
         text,
@@ -61,7 +61,7 @@ fn read(alloc: Global, text: Text) -> Result<Items<Class>, Stop>
 #[tactic(auto, using(crate::proofs::Refused::nest_told))]
 fn told(alloc: Global, text: Text, stop: Stop) -> Stop
     requires { IsFault text stop }
-    ensures { IfRefused result (IsRefusedIn text.terminals.now text.end) }
+    ensures { IfRefused result (IsRefusedIn text.entry.terminals.now text.entry.end) }
 {
     match stop {
         Stop::NoMemory => Stop::NoMemory,
@@ -76,7 +76,7 @@ fn told(alloc: Global, text: Text, stop: Stop) -> Stop
 /// would be told as one that nests too deep.
 #[tactic(auto, using(crate::proofs::Refused::lost_told, crate::specs::Refusing::nest))]
 fn lost(alloc: Global, text: Text) -> Stop
-    ensures { IfRefused result (IsRefusedIn text.terminals.now text.end) }
+    ensures { IfRefused result (IsRefusedIn text.entry.terminals.now text.entry.end) }
 {
     match lost_at(alloc, text.terminals, text.end) {
         Ok(Some(place)) => Stop::Refused(syntax(place)),
@@ -97,12 +97,12 @@ fn syntax(place: Place) -> Refusal
 
 #[tactic(auto, using(crate::proofs::Refused::first_told))]
 fn unread(text: Text) -> Stop
-    ensures { IfRefused result (IsRefusedIn text.terminals.now text.end) }
+    ensures { IfRefused result (IsRefusedIn text.entry.terminals.now text.entry.end) }
 {
     match text.terminals {
-        [first, ..] => Stop::Refused(Refusal {
+        [_, ..] => Stop::Refused(Refusal {
             kind: Kind::Nest,
-            place: first.place,
+            place: place_at(text.terminals, text.end),
         }),
         [] => Stop::NoMemory,
     }
