@@ -1,8 +1,7 @@
 -- Following what is expected of a text, step by step.
-use Rattle.std.proofs.Common.{◌≡◌, ◌≢◌, ◌∙◌, ◌-◌, ◌<◌, List, [], ◌∷◌, ◌++◌, map, reverse, length, take, drop, Bool, true, false, Option, Some, None, refl, sym, ap, subst, arith}
+use Rattle.std.proofs.Common.{◌≡◌, ◌≢◌, ◌∙◌, ◌-◌, ◌<◌, List, [], ◌∷◌, ◌++◌, map, reverse, length, take, drop, Bool, true, false, Option, Some, None, append_assoc, refl, sym, ap, subst, arith}
 use Rattle.std.proofs.lemmas.Grind.{common_steps}
 use Rattle.std.proofs.lemmas.List.{reverse-append}
-use Rattle.dpj_base.specs.declared.place.Place.{Place}
 use Rattle.dpj_terminals.specs.declared.terminal.Placed.{Placed}
 use Rattle.dpj_terminals.specs.declared.terminal.Terminal.{Terminal}
 use Rattle.dpj_parse.specs.declared.parts.Wanted.{Wanted}
@@ -10,10 +9,9 @@ use Rattle.dpj_parse.specs.declared.parts.Begin.{Begin}
 use Rattle.dpj_parse.specs.declared.follow.Chosen.TheVariants as chosen
 use Rattle.dpj_parse.specs.declared.follow.First.{First}
 use Rattle.dpj_parse.specs.declared.follow.First.TheVariants as first
-use Rattle.dpj_parse.specs.Taking.{place_of}
 use Rattle.dpj_parse.specs.Expecting.{Part, Expected, one, part, choose, next_of, next_is, Steps, stay, pick, pass, IsLost, no_part, no_terminal, too_many}
 use Rattle.dpj_parse.specs.Table.{begin_list, expected_of, test_of}
-use Rattle.dpj_parse.specs.Following.{stacked, Chooses, terminal, lost, begins, Reaches, IsLostAt, ComesFirst, PassesOne, IsLostPlace}
+use Rattle.dpj_parse.specs.Following.{stacked, Chooses, terminal, lost, begins, Reaches, IsLostAt, ComesFirst, PassesOne, EndsWith}
 use Rattle.dpj_parse.proofs.Settled.{height, dropped}
 
 pub put : (old new : List Wanted) (a : Wanted) → new ≡ old ++ a ∷ [] → stacked new ≡ expected_of a ∷ stacked old
@@ -65,8 +63,8 @@ pub passed : {xs ys zs : List Expected} {test : Terminal → Bool} {before here 
 passed {xs} {ys} {zs} {test} {before} {here} {after} r f p =
     record { goes = λ to left s. r.goes to left (f.goes to left (rw p.is (pass p.passes s))) }
 
-pub lost_place : {list here : List Placed} {ys : List Expected} {end place : Place} → Reaches (part Part.program ∷ []) list ys here → IsLostAt ys here here → place ≡ place_of here end → IsLostPlace list end place
-lost_place {list} {here} r l is = record { here = here; at = record { to = l.to; steps = r.goes _ _ l.steps; lost = l.lost }; is = is }
+pub lost_on : {list here : List Placed} {ys : List Expected} → Reaches (part Part.program ∷ []) list ys here → IsLostAt ys here here → IsLostAt (part Part.program ∷ []) list here
+lost_on r l = record { to = l.to; steps = r.goes _ _ l.steps; lost = l.lost }
 
 pub terminal_lost : {ys zs : List Expected} {test : Terminal → Bool} {here : List Placed} → Reaches ys here (one test ∷ zs) here → next_is test (next_of here) ≡ false → IsLostAt ys here here
 terminal_lost {ys} {zs} {test} r e = record { to = one test ∷ zs; steps = r.goes _ _ stay; lost = no_terminal e }
@@ -89,3 +87,12 @@ terminal_comes {xs} {here} ys it is f = subst (λ (k : First). ComesFirst xs her
 pub empty : (here : List Placed) → length here ≡ 0 → here ≡ []
 empty [] e = refl
 empty (next ∷ after) e = absurd (omega (arith, e))
+
+pub ends_whole : {list : List Placed} → EndsWith list list
+ends_whole = record { read = []; is = refl }
+
+pub ends_behind : {test : Terminal → Bool} {list rest after : List Placed} → EndsWith list rest → PassesOne test rest after → EndsWith list after
+ends_behind {after = after} e p = record {
+  read = e.read ++ (p.next ∷ []);
+  is = e.is ∙ ap (λ (l : List Placed). e.read ++ l) p.is ∙ sym (append_assoc e.read (p.next ∷ []) after);
+}

@@ -19,7 +19,7 @@ use Rattle.dpj_parse.proofs.OnceText.{terminals_once}
 
 fault_of : {list : List Placed} {end : Place} (refusal : Refusal) → IsRefusedIn list end refusal → refusal.kind ≡ kind.Syntax → IsSyntaxFault list end refusal.place
 fault_of refusal (syntax f) e = f
-fault_of refusal (nest s) e = absurd cc
+fault_of refusal (nest read after next is v) e = absurd cc
 
 same_place : {list : List Placed} {end left right : Place} → IsSyntaxFault list end left → IsSyntaxFault list end right → left ≡ right
 same_place {list} {end} a b =

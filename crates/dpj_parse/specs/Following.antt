@@ -1,6 +1,5 @@
 -- How the code follows what is expected of a text.
-use Rattle.std.specs.Prelude.{◌≡◌, List, [], ◌∷◌, ◌++◌, map, reverse, Bool, true, false, Option, Some, None}
-use Rattle.dpj_base.specs.declared.place.Place.{Place}
+use Rattle.std.specs.Prelude.{◌≡◌, List, [], ◌∷◌, ◌++◌, map, reverse, Bool, true, false, Option, None, Some}
 use Rattle.dpj_terminals.specs.declared.terminal.Placed.{Placed}
 use Rattle.dpj_terminals.specs.declared.terminal.Terminal.{Terminal}
 use Rattle.dpj_parse.specs.declared.parts.Wanted.{Wanted}
@@ -9,7 +8,6 @@ use Rattle.dpj_parse.specs.declared.follow.Chosen.{Chosen}
 use Rattle.dpj_parse.specs.declared.follow.Chosen.TheVariants as chosen
 use Rattle.dpj_parse.specs.declared.follow.First.{First}
 use Rattle.dpj_parse.specs.declared.follow.First.TheVariants as first
-use Rattle.dpj_parse.specs.Taking.{place_of}
 use Rattle.dpj_parse.specs.Expecting.{Part, Expected, one, part, choose, Steps, IsLost}
 use Rattle.dpj_parse.specs.Table.{begin_list, expected_of, test_of}
 
@@ -45,13 +43,7 @@ pub record PassesOne (test : Terminal → Bool) (here after : List Placed) : Typ
   pub is : here ≡ next ∷ after
   pub passes : test next.terminal ≡ true
 
--- a place where the text of a program is lost
-pub record IsLostPlace (list : List Placed) (end place : Place) : Type 0 where
-  pub here : List Placed
-  pub at : IsLostAt (part Part.program ∷ []) list here
-  pub is : place ≡ place_of here end
-
--- a text is read to its end as is expected of a program, or lost at a place
-abbrev pub Follows : List Placed → Place → Option Place → Type 0
-Follows list end None = Steps [] [] (part Part.program ∷ []) list
-Follows list end (Some place) = IsLostPlace list end place
+-- a text ends with these terminals
+pub record EndsWith (list rest : List Placed) : Type 0 where
+  pub read : List Placed
+  pub is : list ≡ read ++ rest

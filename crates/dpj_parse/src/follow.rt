@@ -2,8 +2,8 @@
 //! list, so that a text may nest as deep as it will.
 
 ghost use Rattle.std.specs.Prelude.{◌≡◌, ◌∷◌, ◌++◌, [], false, IfOk, MatchOption, OnOk};
-ghost use Rattle.dpj_parse.specs.Expecting.{Part, next_is, next_of, part};
-ghost use Rattle.dpj_parse.specs.Following.{Chooses, ComesFirst, Follows, PassesOne, stacked};
+ghost use Rattle.dpj_parse.specs.Expecting.{Part, Steps, next_is, next_of, part};
+ghost use Rattle.dpj_parse.specs.Following.{Chooses, ComesFirst, EndsWith, IsLostAt, PassesOne, stacked};
 ghost use Rattle.dpj_parse.specs.Table.{begin_list, expected_of, test_of};
 ghost use Rattle.dpj_parse.specs.Taking.{place_of};
 
@@ -166,23 +166,38 @@ pub fn place_at(here: &[Placed], end: Place) -> Place
 }
 
 /// Where the text of a program is lost, if it isn't read to its end.
-pub fn lost_at(alloc: Global, list: &[Placed], end: Place) -> Result<Option<Place>, NoMemory>
-    ensures { IfOk result (Follows list.now end) }
+pub fn lost_at<'a>(alloc: Global, list: &'a [Placed]) -> Result<Option<&'a [Placed]>, NoMemory>
+    ensures { IfOk result (λ found. MatchOption found (Steps [] [] (part Part.program ∷ []) list.now) (λ here. IsLostAt (part Part.program ∷ []) list.now here.now)) }
 {
     let mut expected = Items::new(alloc);
     put(&mut expected, Wanted::Class(ClassPart::Program))?;
     let mut here = list;
     loop {
         match come_first(&mut expected, here)? {
-            First::Lost => return Ok(Some(place_at(here, end))),
+            First::Lost => return Ok(Some(here)),
             First::Nothing if here.is_empty() => return Ok(None),
-            First::Nothing => return Ok(Some(place_at(here, end))),
+            First::Nothing => return Ok(Some(here)),
             First::Terminal(wanted) => {
                 let Some(after) = behind(wanted, here) else {
-                    return Ok(Some(place_at(here, end)));
+                    return Ok(Some(here));
                 };
                 here = after;
             }
         }
     }
+}
+
+/// The terminals from one at a place on, or all of them where none stands there.
+#[tactic(auto, using(crate::proofs::Followed::ends_whole, crate::proofs::Followed::ends_behind))]
+pub fn from_place<'a>(list: &'a [Placed], place: Place, end: Place) -> &'a [Placed]
+    ensures { EndsWith list.now result.now }
+{
+    let mut rest = list;
+    while let Some(after) = behind(Wanted::Any, rest) {
+        if place_at(rest, end) == place {
+            return rest;
+        }
+        rest = after;
+    }
+    list
 }

@@ -7,15 +7,14 @@ ghost use Rattle.dpj_tree.specs.Size.{program_size};
 ghost use Rattle.dpj_tree.specs.Shaped.{MemberHasTargets};
 ghost use Rattle.dpj_base.specs.Refused.{IfRefused};
 ghost use Rattle.dpj_parse.specs.Classes.{DerivesProgram};
-ghost use Rattle.dpj_parse.specs.Fault.{IsFault};
 ghost use Rattle.dpj_parse.specs.Program.{IsGrammarFault, IsProgram};
-ghost use Rattle.dpj_parse.specs.Refusing.{IsRefusedIn};
+ghost use Rattle.dpj_parse.specs.Refusing.{CanGoOn, IsRefusedIn};
 
 use crate::classes::classes;
 use crate::cursor::{Cursor, Text};
-use crate::follow::{lost_at, place_at};
+use crate::follow::{from_place, lost_at, place_at};
 use dpj_base::{Items, Kind, Place, Refusal, Stop};
-use dpj_terminals::{Terminals, terminals};
+use dpj_terminals::{Placed, Terminals, terminals};
 use dpj_tokens::Tokens;
 use dpj_tree::{Class, Program};
 use std::alloc::Global;
@@ -57,30 +56,19 @@ fn read(alloc: Global, text: Text) -> Result<Items<Class>, Stop>
     }
 }
 
-/// What is told of a text that the parser refuses: a fault of syntax at the place where the text is lost.
-#[tactic(auto, using(crate::proofs::Refused::nest_told))]
+/// What is told of a text that the parser refuses: that it nests too deep, or where it is lost, if that comes first.
+#[tactic(auto, using(crate::proofs::Refused::read_goes_on, crate::proofs::Refused::lost_goes_on, crate::proofs::Refused::lost_told))]
 fn told(alloc: Global, text: Text, stop: Stop) -> Stop
-    requires { IsFault text stop }
     ensures { IfRefused result (IsRefusedIn text.entry.terminals.now text.entry.end) }
 {
-    match stop {
-        Stop::NoMemory => Stop::NoMemory,
-        Stop::Refused(refusal) => match refusal.kind {
-            Kind::Syntax => lost(alloc, text),
-            _ => Stop::Refused(refusal),
-        },
-    }
-}
-
-/// What is told of a text that is lost. That the parser takes every text that isn't is not proved; if it left one, that
-/// would be told as one that nests too deep.
-#[tactic(auto, using(crate::proofs::Refused::lost_told, crate::specs::Refusing::nest))]
-fn lost(alloc: Global, text: Text) -> Stop
-    ensures { IfRefused result (IsRefusedIn text.entry.terminals.now text.entry.end) }
-{
-    match lost_at(alloc, text.terminals, text.end) {
-        Ok(Some(place)) => Stop::Refused(syntax(place)),
-        Ok(None) => unread(text),
+    let Stop::Refused(refusal) = stop else {
+        return Stop::NoMemory;
+    };
+    let deep = from_place(text.terminals, refusal.place, text.end);
+    match lost_at(alloc, text.terminals) {
+        Ok(Some(here)) if refusal.kind == Kind::Nest && here.len() < deep.len() => nest(text, deep),
+        Ok(Some(here)) => Stop::Refused(syntax(place_at(here, text.end))),
+        Ok(None) => nest(text, deep),
         Err(_) => Stop::NoMemory,
     }
 }
@@ -95,14 +83,16 @@ fn syntax(place: Place) -> Refusal
     }
 }
 
-#[tactic(auto, using(crate::proofs::Refused::first_told))]
-fn unread(text: Text) -> Stop
+/// The first of these terminals is one too many.
+#[tactic(auto, using(crate::proofs::Refused::nest_told))]
+fn nest(text: Text, deep: &[Placed]) -> Stop
+    requires { CanGoOn text.terminals.now deep.now }
     ensures { IfRefused result (IsRefusedIn text.entry.terminals.now text.entry.end) }
 {
-    match text.terminals {
+    match deep {
         [_, ..] => Stop::Refused(Refusal {
             kind: Kind::Nest,
-            place: place_at(text.terminals, text.end),
+            place: place_at(deep, text.end),
         }),
         [] => Stop::NoMemory,
     }
