@@ -84,7 +84,6 @@ fn syntax(place: Place) -> Refusal
 }
 
 /// The first of these terminals is one too many.
-#[tactic(auto, using(crate::proofs::Refused::nest_told))]
 fn nest(text: Text, deep: &[Placed]) -> Stop
     requires { CanGoOn text.terminals.now deep.now }
     ensures { IfRefused result (IsRefusedIn text.entry.terminals.now text.entry.end) }
