@@ -5,11 +5,11 @@
 //!
 //! Proved: the tree that is answered is the one that the grammar derives, from as many terminals as there are tokens
 //! and with none of them left; it has at most as many nodes as the text has bytes; and reading ends. A text is refused
-//! as `syntax` only where it derives no program, at the one place of its fault: where the parser refuses it so, it is
-//! followed once more as is expected (`follow`), and told where it is lost. As laws: tokens derive one program at most;
-//! each text derives a program or has one fault of syntax; and what is expected after each terminal
-//! (`specs/Expecting.antt`) is what the grammar says. Not proved: that the parser takes every text that derives a program
-//! and nests no deeper than is allowed, and where `nest` is told.
+//! as `syntax` only where it derives no program, at the one place of its fault, and as `nest` only in front of that:
+//! where the parser refuses a text, it is followed once more as is expected (`follow`). As laws: tokens derive one
+//! program at most; each text derives a program or has one fault of syntax, and is refused so at one place at most; and
+//! what is expected after each terminal (`specs/Expecting.antt`) is what the grammar says. Not proved: which terminal is
+//! the first that is one too many, and that a text with none that derives a program is answered with it.
 #![tactic(auto)]
 
 mod class_table;

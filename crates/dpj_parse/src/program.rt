@@ -57,6 +57,8 @@ fn read(alloc: Global, text: Text) -> Result<Items<Class>, Stop>
 }
 
 /// What is told of a text that the parser refuses: that it nests too deep, or where it is lost, if that comes first.
+/// That the parser takes each text that isn't lost and doesn't nest too deep isn't proved; if it left one, that would be
+/// told as `nest`.
 #[tactic(auto, using(crate::proofs::Refused::read_goes_on, crate::proofs::Refused::lost_goes_on, crate::proofs::Refused::lost_told))]
 fn told(alloc: Global, text: Text, stop: Stop) -> Stop
     ensures { IfRefused result (IsRefusedIn text.entry.terminals.now text.entry.end) }
