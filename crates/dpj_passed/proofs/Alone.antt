@@ -24,9 +24,9 @@ one_passing cutting programs judgement text place other one another p q =
 
 pub no_other_fault : OneCutting → OneProgram → OneRefusal → OneJudgement → NoOtherFault
 no_other_fault cutting programs refusals judgement text place typed refusal p fault = elim fault [
-    | inl at ↦ absurd (cutting.either text p.tokens p.end refusal p.cut at)
-    | inr later ↦ by later later.fault
-  ]
+  | inl at ↦ absurd (cutting.either text p.tokens p.end refusal p.cut at)
+  | inr later ↦ by later later.fault
+]
   where
     same : (later : IsLaterFault text refusal) → later.tokens ≡ p.tokens
     same later = (cutting.tokens text later.tokens p.tokens later.end p.end later.cut p.cut).0
