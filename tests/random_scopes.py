@@ -111,6 +111,10 @@ class Class:
         self.name, self.parent, self.parameter = name, parent, parameter
         self.fields, self.methods, self.constructor, self.regions = [], [], None, {}
 
+    def __deepcopy__(self, memo):
+        """A class is one, also in copies of nodes that name it."""
+        return self
+
     def all_fields(self):
         """The fields of the superclasses and then its own."""
         return (self.parent.all_fields() if self.parent else []) + self.fields

@@ -1,4 +1,6 @@
 """Random statements. A parallel construct deals the rights of its scope out to its branches, so that no two of them interfere."""
+import copy
+
 from elision import (
     Assign, Atomic, Binary, Block, Cobegin, Declare, Do, Field, Foreach, ForeachParts, If, Length, Literal, Local, LocalRegions, New,
     Print, PrintText, While,
@@ -210,4 +212,4 @@ class Statements(Expressions):
         if not places:
             return self.print(scope)
         place = self.random.choice(places)
-        return Assign(place, Binary(place, "+", self.expression(INT, scope, 2)))
+        return Assign(place, Binary(copy.deepcopy(place), "+", self.expression(INT, scope, 2)))

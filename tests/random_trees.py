@@ -4,6 +4,7 @@ They are accepted by construction: each body is made in a scope with rights to w
 the rights with which the body of its method is made, a call is made only where the scope has the rights of that summary, and what runs
 side by side has rights that don't interfere.
 """
+import copy
 import dataclasses
 
 from elision import (
@@ -208,7 +209,7 @@ class Maker(Statements):
         return statements
 
     def tellings(self, scope):
-        """Prints of fields and elements, so that what was written is seen."""
+        """Prints of fields and elements, so that what was written is seen. A node stands at one place of a text, so they share none."""
         found = self.simple_places(scope)
         self.random.shuffle(found)
-        return [Print(place) for place, _, _ in found[:5]]
+        return [Print(copy.deepcopy(place)) for place, _, _ in found[:5]]
