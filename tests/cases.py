@@ -10,7 +10,8 @@ every examples/NAME.dpj, which must write examples/NAME.out with status 0; every
 must answer NAME.out, and where NAME.ran is there, `run` and `elide` on 10 what that holds; every examples/kernels/NAME.dpj, which
 writes NAME.ran on 40, elided, by 1, 4 and 64 workers, and by rounds; every program of README.md, docs/*.md
 and examples/README.md, which stands in a fence that begins with ```dpj check: ANSWER, ```dpj run: LINE, LINE or ```dpj elide: LINE, LINE;
-and prefixes of accepted programs (tests/prefixes.py), of three examples where the program is unproved. It is an error, and no
+and prefixes of accepted programs (tests/prefixes.py), of three examples where the program is unproved. Where it is proved, random
+programs follow (tests/random_programs.py; `--only random` asks for them alone), each of which passes or fails. It is an error, and no
 pass, where a fence isn't understood or no case is left.
 
 The program is out/dpj where ./build or the gate made it of these sources; else it is built once, unproved, by `rt try`.
@@ -27,6 +28,7 @@ import sys
 import tempfile
 
 import prefixes
+import random_programs
 
 TOP = pathlib.Path(__file__).resolve().parent.parent
 PROVED = TOP / "out" / "dpj"
@@ -226,6 +228,14 @@ def run_unproved(cases):
         case["got"] = (written, int(status.group(1)) if status else None)
 
 
+def wants_random(options, is_proved):
+    """Whether random programs are to be tried. Each is asked for many times, so an unproved program is too slow."""
+    is_wanted = not options.files and re.search(options.only or "", "random programs")
+    if is_wanted and not is_proved:
+        print("tests/run: the random programs are left out, since the sources run unproved")
+    return is_wanted and is_proved
+
+
 def main():
     options = argparse.ArgumentParser()
     options.add_argument("--only")
@@ -238,22 +248,25 @@ def main():
     if twice:
         sys.exit(f"tests/run: two cases are named {twice[0]}")
     cases = [case for case in loaded if re.search(options.only or "", case["name"])]
-    if not cases:
+    is_random = wants_random(options, is_proved)
+    if not cases and not is_random:
         sys.exit(f"tests/run: no case is left{f' whose name has {options.only}' if options.only else ''}")
     if is_proved:
         run_proved(cases)
     else:
         print("tests/run: the sources are newer than the proved program, so they run unproved")
         run_unproved(cases)
-    failed = 0
+    passed, failed = random_programs.campaign(PROVED, shows=options.show) if is_random else (0, 0)
     for case in cases:
         wanted, got = (case["stdout"], case["status"]), case.get("got", (b"(not run)", None))
         if got != wanted:
             failed += 1
             print(f"failed {case['name']}: {' '.join(case['words'])}: wanted {wanted}, got {got}"[:400])
-        elif options.show:
+            continue
+        passed += 1
+        if options.show:
             print(f"passed {case['name']}")
-    print(f"{len(cases) - failed} passed, {failed} failed")
+    print(f"{passed} passed, {failed} failed")
     return 1 if failed else 0
 
 

@@ -4,7 +4,7 @@ use Rattle.dpj_base.specs.declared.place.Place.{Place}
 use Rattle.dpj_terminals.specs.declared.terminal.Placed.{Placed}
 use Rattle.dpj_terminals.specs.declared.terminal.Terminal.{Terminal}
 use Rattle.dpj_parse.specs.Taking.{Takes}
-use Rattle.dpj_parse.specs.Expecting.{Part, Expected, one, part, next_of, next_is, choose, Steps, stay, pick, pass, IsLost, no_part, no_terminal, too_many, Leads, Passes}
+use Rattle.dpj_parse.specs.Expecting.{Part, Expected, one, part, next_of, next_is, choose, Steps, stay, pick, pass, IsLost, no_part, no_terminal, too_many, Passes}
 use Rattle.dpj_parse.proofs.OnceReader.{starts}
 
 pub picked : {to : List Expected} {left : List Placed} {n : Part} {xs others : List Expected} {here : List Placed} →
@@ -90,6 +90,9 @@ link p q = record { goes = λ s. p.goes (q.goes s) }
 pub two : {x y : Expected} {xs : List Expected} {before between after : List Placed} → Passes (x ∷ y ∷ []) before between → Passes xs between after →
     Passes (x ∷ y ∷ xs) before after
 two p q = record { goes = λ s. p.goes (q.goes s) }
+
+pub three : {x y z : Expected} {xs : List Expected} {before between after : List Placed} → Passes (x ∷ y ∷ z ∷ []) before between → Passes xs between after → Passes (x ∷ y ∷ z ∷ xs) before after
+three p q = record { goes = λ s. p.goes (q.goes s) }
 
 pub is_next : (test : Terminal → Bool) (before : List Placed) {b : Bool} → starts test before ≡ b → next_is test (next_of before) ≡ b
 is_next test [] e = e

@@ -119,12 +119,12 @@ mutual
       DerivesPostfix ending before after e → starts is_open_paren after ≡ false → Steps to left (part p.selected ∷ others) after →
       Steps to left (part p.unary ∷ others) before
   postfix_steps (primary d) closed s = primary_steps d s
-  postfix_steps (behind_dot d dot n) closed s = postfix_steps d (rw dot.first refl) (rw dot.first (pick refl (pass refl ((field_passes n closed).goes s))))
+  postfix_steps (behind_dot d dot n) closed s = postfix_steps d (rw dot.first refl) (rw dot.first (pick refl (pick refl (pass refl ((field_passes n closed).goes s)))))
   postfix_steps (called d dot r n a) closed s =
-      postfix_steps d (rw dot.first refl) (rw dot.first (pick refl (pass refl ((call_passes r n (actuals_start a is_open_paren) (actuals_pass a)).goes s))))
+      postfix_steps d (rw dot.first refl) (rw dot.first (pick refl (pick refl (pass refl ((call_passes r n (actuals_start a is_open_paren) (actuals_pass a)).goes s)))))
   postfix_steps (indexed d o l c) closed s =
-      postfix_steps d (rw o.first refl) (rw o.first (pick refl (pick refl (pass refl
-      (level_steps l 0 (omega arith) (omega arith) (ends_at c refl refl) (stops 0 (top_of l) (ends_at c refl refl) (taken c refl s)))))))
+      postfix_steps d (rw o.first refl) (rw o.first (pick refl (pick refl (pick refl (pass refl
+      (level_steps l 0 (omega arith) (omega arith) (ends_at c refl refl) (stops 0 (top_of l) (ends_at c refl refl) (taken c refl s))))))))
 
   primary_steps : {ending : Ending} {before after : List Placed} {e : PlainExpr} {to others : List Expected} {left : List Placed} →
       DerivesPrimary ending before after e → Steps to left (part p.selected ∷ others) after → Steps to left (part p.unary ∷ others) before
@@ -143,10 +143,10 @@ mutual
 
   array_passes : {before after : List Placed} {e : PlainExpr} → DerivesNewArray before after e → Passes (part p.unary ∷ []) before after
   array_passes (array t (DerivesBase.int b) ss o l c d) =
-      on_next t refl (link (took t refl) (on_next b refl (link (took b refl) (lengths_pass ss o (expr_begins_not is_close_bracket no_close_bracket _
+      on_next t refl (link (took t refl) (on_next b refl (link (on_next b refl (took b refl)) (lengths_pass ss o (expr_begins_not is_close_bracket no_close_bracket _
       (level_begins l)) (record { goes = λ s. level_steps l 0 (omega arith) (omega arith) (ends_at c refl refl) (stops 0 (top_of l) (ends_at c refl refl) s) }) c d))))
   array_passes (array t (DerivesBase.boolean b) ss o l c d) =
-      on_next t refl (link (took t refl) (on_next b refl (link (took b refl) (lengths_pass ss o (expr_begins_not is_close_bracket no_close_bracket _
+      on_next t refl (link (took t refl) (on_next b refl (link (on_next b refl (took b refl)) (lengths_pass ss o (expr_begins_not is_close_bracket no_close_bracket _
       (level_begins l)) (record { goes = λ s. level_steps l 0 (omega arith) (omega arith) (ends_at c refl refl) (stops 0 (top_of l) (ends_at c refl refl) s) }) c d))))
   array_passes (array t (DerivesBase.class b r) ss o l c d) =
       on_next t refl (link (took t refl) (on_next b refl (link (took b refl) (link (args_pass r (many_first

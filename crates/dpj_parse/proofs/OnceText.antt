@@ -106,14 +106,18 @@ mean_all_once names d bytes (token ∷ tokens) (a ∷ left) [] l r = absurd r
 mean_all_once names d bytes (token ∷ tokens) (a ∷ left) (b ∷ right) l r =
     same_first a b left right (means_once names d token.kind (token_text bytes token) a.terminal b.terminal l.1 r.1) (l.0 ∙ sym r.0) (mean_all_once names d bytes tokens left right l.2 r.2)
 
+-- the tokens of a text say one list of terminals at most
+pub terminals_once : (bytes : List ℕ) (tokens : List Token) (left right : List Placed) → MeanAll (distinct_names bytes tokens) bytes tokens left →
+    MeanAll (distinct_names bytes tokens) bytes tokens right → left ≡ right
+terminals_once bytes tokens left right l r =
+    mean_all_once (distinct_names bytes tokens) (all_distinct bytes [] tokens (record { once = λ i j text a b. absurd cc })) bytes tokens left right l r
+
 pub text_once : (bytes : List ℕ) (tokens : List Token) (left right : Program) → IsProgram bytes tokens left → IsProgram bytes tokens right →
     left ≡ right
 text_once bytes tokens left right l r =
-    let names = distinct_names bytes tokens in
-    let distinct = all_distinct bytes [] tokens (record { once = λ i j text a b. absurd cc }) in
     let said = subst (λ (n : List (List ℕ)). MeanAll n bytes tokens l.list) l.names l.said in
     let said_too = subst (λ (n : List (List ℕ)). MeanAll n bytes tokens r.list) r.names r.said in
-    let same = mean_all_once names distinct bytes tokens l.list r.list said said_too in
+    let same = terminals_once bytes tokens l.list r.list said said_too in
     let names_same : left.names ≡ right.names = l.names ∙ sym r.names in
     let classes_same : left.classes ≡ right.classes = one_program r.list left.classes right.classes (subst (λ (list : List Placed). DerivesProgram list left.classes) same l.derived) r.derived in
     ap (λ (n : List (List ℕ)). record { classes = left.classes; names = n }) names_same ∙ ap (λ (c : List Class). record { classes = c; names = right.names }) classes_same

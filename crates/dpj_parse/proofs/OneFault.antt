@@ -8,13 +8,13 @@ use Rattle.dpj_parse.specs.Expecting.{next_of}
 use Rattle.dpj_parse.specs.Viable.{IsViable, IsLostBefore, HasSyntaxFault}
 
 -- of two beginnings of a list, one goes on where the other ends
-record Further (read here first there : List Placed) : Type 0 where
-  next : Placed
-  more : List Placed
-  is : first ≡ read ++ (next ∷ more)
-  begins : next_of here ≡ next_of (next ∷ more)
+pub record Further (read here first there : List Placed) : Type 0 where
+  pub next : Placed
+  pub more : List Placed
+  pub is : first ≡ read ++ (next ∷ more)
+  pub begins : next_of here ≡ next_of (next ∷ more)
 
-compared : (read here first there : List Placed) → read ++ here ≡ first ++ there →
+pub compared : (read here first there : List Placed) → read ++ here ≡ first ++ there →
     (read ≡ first) ⊎ (Further read here first there ⊎ Further first there read here)
 compared [] here [] there e = inl refl
 compared [] here (next ∷ first) there e = inr (inl (record { next = next; more = first; is = refl; begins = ap next_of e }))

@@ -4,10 +4,12 @@ use Rattle.dpj_terminals.specs.declared.terminal.Placed.{Placed}
 use Rattle.dpj_tree.specs.declared.class.Class.{Class}
 use Rattle.dpj_parse.specs.Classes.{DerivesProgram}
 use Rattle.dpj_parse.specs.Expecting.{Part, Expected, part, Steps, IsLost}
-use Rattle.dpj_parse.specs.Viable.{IsLostBefore}
+use Rattle.dpj_parse.specs.Viable.{HasSyntaxFault}
 
 pub record ExpectedText : Type 0 where
   -- what derives a program is read to its end
   pub read : (list : List Placed) (classes : List Class) → DerivesProgram list classes → Steps [] [] (part Part.program ∷ []) list
-  -- where a text is lost, no program goes on so
-  pub lost : (read here : List Placed) (to : List Expected) → Steps to here (part Part.program ∷ []) (read ++ here) → IsLost to here → IsLostBefore read here
+  -- and what is read to its end derives a program
+  pub derives : (list : List Placed) → Steps [] [] (part Part.program ∷ []) list → (classes : List Class) × DerivesProgram list classes
+  -- where a text is lost, it has its fault of syntax
+  pub fault : (read here : List Placed) (to : List Expected) → Steps to here (part Part.program ∷ []) (read ++ here) → IsLost to here → HasSyntaxFault (read ++ here) read here

@@ -1,7 +1,7 @@
 -- What is expected of a text, as a list of what is still to come: terminals and parts of the grammar. The next terminal
 -- alone says what becomes of the first of them: a part is replaced by what it begins with, a terminal is passed. Where neither
 -- can be, the text is lost.
-use Rattle.std.specs.Prelude.{◌≡◌, ℕ, suc, List, [], ◌∷◌, ◌++◌, Bool, true, false, cond, ◌&&◌, ◌||◌, nat_le, Option, Some, None, Result, Ok, Err}
+use Rattle.std.specs.Prelude.{◌≡◌, ℕ, suc, List, [], ◌∷◌, ◌++◌, Bool, true, false, cond, ◌&&◌, ◌||◌, nat_le, Option, Some, None}
 use Rattle.dpj_tokens.specs.declared.token.Symbol.{Symbol}
 use Rattle.dpj_tokens.specs.declared.token.Keyword.{Keyword}
 use Rattle.dpj_terminals.specs.declared.terminal.Placed.{Placed}
@@ -9,9 +9,6 @@ use Rattle.dpj_terminals.specs.declared.terminal.Terminal.{Terminal}
 use Rattle.dpj_terminals.specs.declared.terminal.Terminal.TheVariants as terminal
 use Rattle.dpj_tree.specs.declared.expr.BinaryOp.{BinaryOp}
 use Rattle.dpj_parse.specs.Words.{op_at, is_any, is_assign, is_atomic, is_bar, is_boolean, is_class, is_close_brace, is_close_bracket, is_close_paren, is_colon, is_comma, is_dot, is_else, is_extends, is_final, is_foreach_parts, is_greater, is_hash, is_if, is_in, is_int, is_less, is_name, is_new, is_number, is_open_brace, is_open_bracket, is_open_paren, is_print, is_pure, is_question, is_reads, is_region, is_return, is_root, is_semicolon, is_star, is_text, is_void, is_while, is_writes}
-use Rattle.dpj_base.specs.Refused.{IfRefused}
-use Rattle.dpj_base.specs.declared.refusal.Kind.TheVariants as refusal_kind
-use Rattle.dpj_base.specs.declared.refusal.Stop.{Stop}
 use Rattle.dpj_parse.specs.Expressions.{level_of, left_level, Ending, as_value, as_name, as_field, as_element, as_call, as_creation}
 
 -- the parts of the grammar, as they are read; where one is named for what follows, it may be nothing
@@ -58,6 +55,7 @@ pub data Part : Type 0 where
   inner : Part
   literal : Part
   selected : Part
+  selection : Part
   element : Part
   dotted_rest : Part
   actuals_if : Part
@@ -135,8 +133,8 @@ base_parts (terminal.Keyword Keyword.Boolean) = one is_boolean ∷ []
 base_parts _ = one is_name ∷ part args_if ∷ []
 
 abbrev pub created_parts : Terminal → List Expected
-created_parts (terminal.Keyword Keyword.Int) = one is_int ∷ part array ∷ []
-created_parts (terminal.Keyword Keyword.Boolean) = one is_boolean ∷ part array ∷ []
+created_parts (terminal.Keyword Keyword.Int) = part base ∷ part array ∷ []
+created_parts (terminal.Keyword Keyword.Boolean) = part base ∷ part array ∷ []
 created_parts _ = one is_name ∷ part args_if ∷ part created_rest ∷ []
 
 abbrev pub literal_parts : Terminal → Option (List Expected)
@@ -247,8 +245,8 @@ choose region_if next = if_next is_less next (one is_less ∷ part path ∷ one 
 choose index_if next = if_next is_hash next (one is_hash ∷ one is_name ∷ []) []
 choose (expr level) next = Some (part unary ∷ part (climb level 6) ∷ [])
 choose (climb level top) next = Some (climb_parts level top (op_of next))
-choose unary next = Some (with_next (part literal ∷ []) unary_parts next)
-choose created next = Some (with_next (one is_name ∷ []) created_parts next)
+choose unary next = Some (with_next (part literal ∷ part selected ∷ []) unary_parts next)
+choose created next = Some (with_next (one is_name ∷ part args_if ∷ part created_rest ∷ []) created_parts next)
 choose created_rest next = if_next is_open_paren next (part actuals ∷ part selected ∷ []) (part array ∷ [])
 choose array next = Some (one is_open_bracket ∷ part array_open ∷ [])
 choose array_open next =
@@ -256,9 +254,8 @@ choose array_open next =
     (expr 0) ∷ one is_close_bracket ∷ part brackets_behind ∷ [])
 choose inner next = Some (one is_open_paren ∷ part (expr 0) ∷ one is_close_paren ∷ [])
 choose literal next = with_next None literal_parts next
-choose selected next =
-    Some (cond (next_is is_dot next) (one is_dot ∷ part dotted_rest ∷ part selected ∷ []) (cond (next_is is_open_bracket next)
-    (part element ∷ part selected ∷ []) []))
+choose selected next = Some (cond (next_is is_dot next || next_is is_open_bracket next) (part selection ∷ part selected ∷ []) [])
+choose selection next = if_next is_dot next (one is_dot ∷ part dotted_rest ∷ []) (part element ∷ [])
 choose element next = Some (one is_open_bracket ∷ part (expr 0) ∷ one is_close_bracket ∷ [])
 choose dotted_rest next = if_next is_less next (part args ∷ one is_name ∷ part actuals ∷ []) (one is_name ∷ part actuals_if ∷ [])
 choose actuals_if next = if_next is_open_paren next (part actuals ∷ []) []
@@ -285,8 +282,8 @@ choose selection_then next = with_next None (selection_parts None) next
 choose dotted_then next =
     if_next is_less next (part args ∷ one is_name ∷ part actuals ∷ part (selected_then as_call) ∷ []) (one is_name ∷ part dotted_rest_then ∷ [])
 choose dotted_rest_then next = if_next is_open_paren next (part actuals ∷ part (selected_then as_call) ∷ []) (part (selected_then as_field) ∷ [])
-choose performed next = Some (with_next (part literal ∷ []) performed_parts next)
-choose member next = Some (with_next (part type ∷ []) member_parts next)
+choose performed next = Some (with_next (part literal ∷ part (selected_then as_value) ∷ []) performed_parts next)
+choose member next = Some (with_next (part type ∷ one is_name ∷ part field_or_method ∷ []) member_parts next)
 choose after_member_name next = if_next is_open_paren next (part method_rest ∷ []) (part args_if ∷ part suffixes ∷ one is_name ∷ part field_or_method ∷ [])
 choose field_or_method next = if_next is_open_paren next (part method_rest ∷ []) (part in_if ∷ one is_semicolon ∷ [])
 choose in_if next = if_next is_in next (one is_in ∷ part path ∷ []) []
@@ -328,33 +325,3 @@ pub data IsLost : List Expected → List Placed → Type 0 where
 -- between two places of a text, all that is expected first is read, whatever is expected behind it
 pub record Passes (xs : List Expected) (before after : List Placed) : Type 0 where
   pub goes : {to : List Expected} {left : List Placed} {others : List Expected} → Steps to left others after → Steps to left (xs ++ others) before
-
--- the same, but something else is expected then
-pub record Leads (xs : List Expected) (before : List Placed) (ys : List Expected) (after : List Placed) : Type 0 where
-  pub goes : (others to : List Expected) (left : List Placed) → Steps to left (ys ++ others) after → Steps to left (xs ++ others) before
-
--- what is expected first is lost on the way, whatever is expected behind it
-pub record LostIn (xs : List Expected) (before here : List Placed) : Type 0 where
-  pub lost : (others : List Expected) → (to : List Expected) × Steps to here (xs ++ others) before × IsLost to here
-
--- a fact of a refusal that tells a fault of syntax
-abbrev pub IfSyntax : Stop → Type 0 → Type 0
-IfSyntax stop P = IfRefused stop (λ refusal. refusal.kind ≡ refusal_kind.Syntax → P)
-
--- reading leads on to its end, or a fault of syntax is told where what is expected is lost
-abbrev pub Tells : {A : Type 0} → List Expected → List Placed → Result A Stop → List Placed → Type 0
-Tells xs before (Ok tree) after = Passes xs before after
-Tells xs before (Err stop) here = IfSyntax stop (LostIn xs before here)
-
--- the same, where something else is expected in the end
-abbrev pub TellsOn : {A : Type 0} → List Expected → List Expected → List Placed → Result A Stop → List Placed → Type 0
-TellsOn xs ys before (Ok tree) after = Leads xs before ys after
-TellsOn xs ys before (Err stop) here = IfSyntax stop (LostIn xs before here)
-
-abbrev pub unwrapped : Option (List Expected) → List Expected
-unwrapped None = []
-unwrapped (Some xs) = xs
-
--- what a part begins with in front of these terminals
-abbrev pub begin_of : Part → List Placed → List Expected
-begin_of n here = unwrapped (choose n (next_of here))

@@ -1,4 +1,4 @@
--- What a refusal of the grammar names.
+-- What a function that reads names where it refuses.
 use Rattle.std.specs.Prelude.{◌≡◌, ◌⊎◌, List, [], ◌∷◌}
 use Rattle.dpj_base.specs.Refused.{IfRefused}
 use Rattle.dpj_base.specs.declared.place.Place.{Place}
@@ -13,7 +13,7 @@ abbrev pub StandsIn : List Placed → Place → Type 0
 StandsIn [] place = ⊥
 StandsIn (next ∷ list) place = (place ≡ next.place) ⊎ StandsIn list place
 
--- a refusal is told at a terminal that no program has there, at one that is one too many, or at the end of the text
+-- a refusal is told at one of the terminals, or at the end of the text
 pub data IsToldAmong (list : List Placed) (end : Place) : Refusal → Type 0 where
   unexpected : {place : Place} → StandsIn list place → IsToldAmong list end (record { kind = kind.Syntax; place = place })
   too_many : {place : Place} → StandsIn list place → IsToldAmong list end (record { kind = kind.Nest; place = place })

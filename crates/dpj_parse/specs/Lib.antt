@@ -14,3 +14,7 @@ pub mod Words
 pub mod Expecting
 pub mod Viable
 pub mod ExpectedText
+pub mod Table
+pub mod Following
+pub mod Refusing
+pub mod OneRefusal

@@ -7,7 +7,7 @@ use Rattle.dpj_terminals.specs.declared.terminal.Placed.{Placed}
 use Rattle.dpj_terminals.specs.Says.{MeanAll, distinct_names}
 use Rattle.dpj_tree.specs.declared.class.Program.{Program}
 use Rattle.dpj_parse.specs.Classes.{DerivesProgram}
-use Rattle.dpj_parse.specs.Fault.{IsToldAmong}
+use Rattle.dpj_parse.specs.Refusing.{IsRefusedIn}
 
 -- the terminals that these tokens of a text say derive the program, which has the distinct names among them
 pub record IsProgram (bytes : List ℕ) (tokens : List Token) (program : Program) : Type 0 where
@@ -16,8 +16,8 @@ pub record IsProgram (bytes : List ℕ) (tokens : List Token) (program : Program
   pub said : MeanAll program.names bytes tokens list
   pub derived : DerivesProgram list program.classes
 
--- a refusal is told among the terminals that these tokens of a text say, and the end of the text
+-- the terminals that these tokens of a text say are refused, the text ending at a place
 pub record IsGrammarFault (bytes : List ℕ) (tokens : List Token) (end : Place) (refusal : Refusal) : Type 0 where
   pub list : List Placed
   pub said : MeanAll (distinct_names bytes tokens) bytes tokens list
-  pub told : IsToldAmong list end refusal
+  pub told : IsRefusedIn list end refusal

@@ -1,5 +1,5 @@
 -- How far a text can still become a program.
-use Rattle.std.specs.Prelude.{◌≡◌, List, ◌++◌}
+use Rattle.std.specs.Prelude.{◌≡◌, ◌⊎◌, List, ◌++◌}
 use Rattle.dpj_terminals.specs.declared.terminal.Placed.{Placed}
 use Rattle.dpj_tree.specs.declared.class.Class.{Class}
 use Rattle.dpj_parse.specs.Classes.{DerivesProgram}
@@ -22,7 +22,14 @@ pub record HasSyntaxFault (list read here : List Placed) : Type 0 where
   pub viable : IsViable read
   pub lost : IsLostBefore read here
 
--- a text has one such place at most, and a program has none
+-- a text has its fault of syntax somewhere
+pub record IsFaulty (list : List Placed) : Type 0 where
+  pub read : List Placed
+  pub here : List Placed
+  pub fault : HasSyntaxFault list read here
+
+-- each text derives a program or has such a place, and not both, and it has one such place at most
 pub record OneFault : Type 0 where
+  pub some : (list : List Placed) → ((classes : List Class) × DerivesProgram list classes) ⊎ IsFaulty list
   pub one : (list read here first there : List Placed) → HasSyntaxFault list read here → HasSyntaxFault list first there → read ≡ first
   pub none : (list read here : List Placed) (classes : List Class) → HasSyntaxFault list read here → DerivesProgram list classes → ⊥

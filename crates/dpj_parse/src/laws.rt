@@ -1,5 +1,6 @@
 ghost use Rattle.dpj_parse.specs.ExpectedText.{ExpectedText};
 ghost use Rattle.dpj_parse.specs.OneProgram.{OneProgram};
+ghost use Rattle.dpj_parse.specs.OneRefusal.{OneRefusal};
 ghost use Rattle.dpj_parse.specs.OneTree.{OneTree};
 ghost use Rattle.dpj_parse.specs.Viable.{OneFault};
 
@@ -14,12 +15,17 @@ pub fn one_program()
 {}
 
 /// What is expected of a text after each of its terminals is what the grammar says: what derives a program is read
-/// to its end, and where a text is lost, no program goes on so.
+/// to its end, what is read to its end derives one, and where a text is lost it has its fault of syntax.
 pub fn expected_text()
     ensures { ExpectedText }
 {}
 
-/// A text has one fault of syntax at most, and a program has none.
+/// Each text derives a program or has a fault of syntax, and not both, and it has one such fault at most.
 pub fn one_fault()
     ensures { OneFault }
+{}
+
+/// A text is refused for its syntax at one place at most, and a program nowhere.
+pub fn one_refusal()
+    ensures { OneRefusal }
 {}

@@ -1,5 +1,7 @@
 ghost use Rattle.std.specs.Prelude.{◌≡◌, ◌≢◌, ◌≤◌, MatchOption};
 ghost use Rattle.dpj_parse.specs.Expressions.{symbol_of, unary_symbol, level_of, left_level};
+ghost use Rattle.dpj_parse.specs.Words.{op_at};
+ghost use Rattle.dpj_terminals.specs.declared.terminal.Terminal.TheVariants as Terminal;
 ghost use Rattle.dpj_tree.specs.declared.expr.BinaryOp.{BinaryOp};
 ghost use Rattle.dpj_tree.specs.declared.expr.UnaryOp.{UnaryOp};
 
@@ -18,7 +20,8 @@ pub const TIGHTEST: u32 = 5;
 /// The operator between two expressions that a symbol is.
 #[tactic(auto, using(crate::proofs::Ops::no_binary))]
 pub fn binary_of(symbol: Symbol) -> Option<BinaryOp>
-    ensures { MatchOption result ((op : BinaryOp) → symbol ≢ symbol_of op) (λ op. symbol ≡ symbol_of op) }
+    ensures which { MatchOption result ((op : BinaryOp) → symbol ≢ symbol_of op) (λ op. symbol ≡ symbol_of op) }
+    ensures at { result ≡ op_at (Terminal.Symbol symbol) }
 {
     match symbol {
         Symbol::Or => Some(BinaryOp::Or),

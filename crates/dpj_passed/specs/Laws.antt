@@ -1,10 +1,8 @@
 -- What is kept by the typed program of a text that passes, as statements.
 use Rattle.std.specs.Prelude.{◌≡◌, ◌≤◌, ℕ, List, All, length}
 use Rattle.dpj_base.specs.declared.place.Place.{Place}
+use Rattle.dpj_base.specs.declared.refusal.Kind.TheVariants as kind
 use Rattle.dpj_base.specs.declared.refusal.Refusal.{Refusal}
-use Rattle.dpj_tokens.specs.declared.token.Token.{Token}
-use Rattle.dpj_tokens.specs.Cutting.{Cuts}
-use Rattle.dpj_parse.specs.Program.{IsGrammarFault}
 use Rattle.dpj_typed.specs.Plain.{PlainProgram}
 use Rattle.dpj_typed.specs.WellTyped.{WellTyped}
 use Rattle.dpj_code.specs.declared.code.Code.{Code}
@@ -29,13 +27,6 @@ PassedKeeps = (text : List ℕ) (place : Place) (typed : PlainProgram) → lengt
 abbrev pub OnePassing : Type 0
 OnePassing = (text : List ℕ) (place other : Place) (one another : PlainProgram) → IsPassed text place one → IsPassed text other another → one ≡ another
 
--- the refusal is one that the grammar's part may tell of the tokens of a text
-pub record IsToldByGrammar (text : List ℕ) (refusal : Refusal) : Type 0 where
-  pub tokens : List Token
-  pub end : Place
-  pub cut : Cuts text tokens end
-  pub fault : IsGrammarFault text tokens end refusal
-
--- a text that passes has no other fault
+-- a text that passes may be refused for nothing but that it nests too deep
 abbrev pub NoOtherFault : Type 0
-NoOtherFault = (text : List ℕ) (place : Place) (typed : PlainProgram) (refusal : Refusal) → IsPassed text place typed → IsFault text refusal → IsToldByGrammar text refusal
+NoOtherFault = (text : List ℕ) (place : Place) (typed : PlainProgram) (refusal : Refusal) → IsPassed text place typed → IsFault text refusal → refusal.kind ≡ kind.Nest

@@ -5,7 +5,7 @@ ghost use Rattle.dpj_passed.specs.Laws.{PassedKeeps, OnePassing, NoOtherFault};
 use dpj_accepted::laws::law_well_typed;
 use dpj_front::one_judgement;
 use dpj_narrow::laws::law_narrow;
-use dpj_parse::one_program;
+use dpj_parse::{one_program, one_refusal};
 use dpj_resolved::laws::{law_begins, law_has_rows, law_resolved};
 use dpj_tokens::one_cutting;
 use dpj_written::laws::law_written;
@@ -22,12 +22,13 @@ pub fn law_passed()
     law_has_rows();
 }
 
-/// A text passes as one typed program at most, and has no fault then but one that the grammar's part may tell.
+/// A text passes as one typed program at most, and may be refused then for nothing but that it nests too deep.
 pub fn law_one_passing()
     ensures one { OnePassing }
     ensures no_other { NoOtherFault }
 {
     one_cutting();
     one_program();
+    one_refusal();
     one_judgement();
 }

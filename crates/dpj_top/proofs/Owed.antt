@@ -16,7 +16,7 @@ use Rattle.dpj_words.specs.declared.verdict.Verdict.TheVariants.{Ran, Refused, U
 use Rattle.dpj_top.specs.declared.answered.Answered.{Answered}
 use Rattle.dpj_top.specs.Answer.{IsAnswer, IsAnswerOn, asks_run, faulty, of_first_form, of_program, only, told_by, told_of, to_check, to_effects, to_elide, to_list, to_run, too_long}
 use Rattle.dpj_top.specs.Call.{Answers, AnswersBy, Appends, IsAnswered, Tells, text_for}
-use Rattle.dpj_top.specs.Promise.{AsksElision, IsAcceptedAs, IsReported, IsWithin, KeepsPromise, OwesElision, ReportsElision, as_elided, by_grammar, elision_for}
+use Rattle.dpj_top.specs.Promise.{AsksElision, IsAcceptedAs, IsReported, IsWithin, KeepsPromise, OwesElision, ReportsElision, as_elided, elision_for, too_deep}
 use Rattle.dpj_top.proofs.Ranges.{words_within}
 
 -- the answer to a job and a text that are there
@@ -88,7 +88,7 @@ module _ (keeps : KeepsPromise) (no_other : NoOtherFault) (one : OnePassing) (wo
         | inr other ↦ absurd (other program first)
       ]
       by (faulty refusal short left_so fault) same =
-          by_grammar refusal (no_other text place typed refusal accepted.1 fault) (verdict_told (Refused refusal) (ap (λ (a : Answered). a.verdict) (sym same)))
+          too_deep refusal (no_other text place typed refusal accepted.1 fault) (verdict_told (Refused refusal) (ap (λ (a : Answered). a.verdict) (sym same)))
       by (of_program other typed_so answered short left_so passed on) same =
           let again : typed_so ≡ typed = one text other place typed_so typed passed accepted.1 in
           on_program other answered same (short, subst (λ t. IsPassed text other t) again passed) (subst (λ t. IsAnswerOn asked text other t answered) again on)

@@ -3,11 +3,11 @@ use Rattle.std.specs.Prelude.{◌≡◌, ◌≤◌, ◌⊎◌, FitsSigned, true,
 use Rattle.std.specs.Int.{w32}
 use Rattle.dpj_base.specs.declared.outcome.Outcome.{Outcome}
 use Rattle.dpj_base.specs.declared.place.Place.{Place}
+use Rattle.dpj_base.specs.declared.refusal.Kind.TheVariants as kind
 use Rattle.dpj_base.specs.declared.refusal.Refusal.{Refusal}
 use Rattle.dpj_typed.specs.Plain.{PlainProgram}
 use Rattle.dpj_typed.specs.WellTyped.{WellTyped}
 use Rattle.dpj_front.specs.Front.{IsPassed}
-use Rattle.dpj_passed.specs.Laws.{IsToldByGrammar}
 use Rattle.dpj_promise.specs.Promise.{elision}
 use Rattle.dpj_promise.specs.Reduced.{ComesOutReduced}
 use Rattle.dpj_run.specs.declared.recorded.Recorded.{Recorded}
@@ -62,10 +62,10 @@ pub record KeepsPromise : Type 0 where
 abbrev pub IsReported : Verdict → Option (List ℕ) → Option (List ℕ) → Status → Type 0
 IsReported verdict before after status = (status ≡ status_of verdict) × Appends before after (report_of verdict)
 
--- a run is reported by the elision, whatever schedule was made; or the text was refused by its grammar
+-- a run is reported by the elision, whatever schedule was made; or the text is said to nest too deep
 pub data ReportsElision (job : Job) (text : List ℕ) (typed : PlainProgram) (before after : Option (List ℕ)) (status : Status) : Type 0 where
   as_elided : (schedule : List ℕ) → IsReported (told_of job text schedule (elision_for job typed)) before after status → ReportsElision job text typed before after status
-  by_grammar : (refusal : Refusal) → IsToldByGrammar text refusal → IsReported (Refused refusal) before after status → ReportsElision job text typed before after status
+  too_deep : (refusal : Refusal) → refusal.kind ≡ kind.Nest → IsReported (Refused refusal) before after status → ReportsElision job text typed before after status
 
 -- a run, or an elision, is asked of a program without nd constructs
 abbrev pub AsksElision : Job → PlainProgram → Type 0

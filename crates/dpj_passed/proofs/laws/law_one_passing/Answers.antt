@@ -4,5 +4,5 @@ use Rattle.dpj_passed.proofs.laws.law_one_passing.Goals as goal
 pub returns : goal.returns
 returns c = record {
   one = one_passing c.one_cutting.ensures c.one_program.ensures c.one_judgement.ensures;
-  no_other = no_other_fault c.one_cutting.ensures c.one_program.ensures c.one_judgement.ensures;
+  no_other = no_other_fault c.one_cutting.ensures c.one_program.ensures c.one_refusal.ensures c.one_judgement.ensures;
 }
