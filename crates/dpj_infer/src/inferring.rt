@@ -1,6 +1,7 @@
 ghost use Rattle.std.specs.Prelude.{◌≡◌, length, map, IfOk};
 ghost use Rattle.dpj_typed.specs.Plain.{plain_program};
 ghost use Rattle.dpj_infer.specs.Kept.{SaysOfEach, SayOfTheSame};
+ghost use Rattle.dpj_infer.specs.Asked.{raised};
 
 use crate::asking::{asked, done_by, kept_of, more, seen_items};
 use crate::classes::{class_at, counted, member_at};
@@ -190,7 +191,9 @@ fn raise(
     Ok(has_risen)
 }
 
-fn raised(item: &Effect, place: &Rpl, demands: &[Effect], old: Kept) -> Kept {
+fn raised(item: &Effect, place: &Rpl, demands: &[Effect], old: Kept) -> Kept
+    ensures { result ≡ raised item.now place.now demands.now old }
+{
     let mut risen = old;
     for demand in demands {
         risen = more(risen, asked(item, place, demand));
