@@ -1,3 +1,7 @@
 pub mod Same
 pub mod Reading
+pub mod Alike
+pub mod Outside
 pub mod Blocks
+pub mod Forks
+pub mod Raising

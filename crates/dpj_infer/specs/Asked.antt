@@ -1,5 +1,5 @@
 -- How much is asked of an item, and kept of it.
-use Rattle.std.specs.Prelude.{ℕ, Bool, true, false, List, [], ◌∷◌, fold, Option, Some, None, slice_get}
+use Rattle.std.specs.Prelude.{ℕ, suc, Bool, true, false, List, [], ◌∷◌, fold, Option, Some, None, slice_get, slice_set}
 use Rattle.dpj_base.specs.declared.effect.Access.{Access}
 use Rattle.dpj_base.specs.declared.effect.Access.TheVariants.{Read, Write}
 use Rattle.dpj_base.specs.declared.effect.Effect.{Effect}
@@ -36,3 +36,20 @@ kept_of_each ks m = []
 
 abbrev pub all_kept : Keeping → PlainProgram → ℕ → List Effect
 all_kept S P n = kept_of_each (slice_get S n) (member_at P n)
+
+abbrev pub raised_here : Option Effect → Option Rpl → List Effect → Kept → Kept
+raised_here (Some item) (Some place) demands old = raised item place demands old
+raised_here item place demands old = old
+
+-- what is kept of the items from one on, where these lie in these places
+abbrev pub raised_from : ℕ → List Effect → List Rpl → List Effect → List Kept → List Kept
+raised_from at items places demands [] = []
+raised_from at items places demands (k ∷ ks) = raised_here (slice_get items at) (slice_get places at) demands k ∷ raised_from (suc at) items places demands ks
+
+abbrev pub raised_of : Keeping → ℕ → List Effect → List Rpl → List Effect → Option (List Kept) → Keeping
+raised_of S n items places demands None = S
+raised_of S n items places demands (Some ks) = slice_set S n (raised_from 0 items places demands ks)
+
+-- the items of one member are raised to these demands
+abbrev pub raised_in : Keeping → ℕ → List Effect → List Rpl → List Effect → Keeping
+raised_in S n items places demands = raised_of S n items places demands (slice_get S n)

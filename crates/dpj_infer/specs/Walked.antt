@@ -119,7 +119,7 @@ operands_done P L e = []
 
 -- what is seen outside the scope of these variables and local regions
 abbrev pub outside_elem : List ℕ → Elem → Elem
-outside_elem vs (At (Variable w)) = cond (list_any (λ v. w == v) vs) Any (At (Variable w))
+outside_elem vs (At (Variable w)) = cond (list_any (λ v. v == w) vs) Any (At (Variable w))
 outside_elem vs x = x
 
 abbrev pub outside : List ℕ → Effect → Effect

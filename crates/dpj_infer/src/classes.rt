@@ -67,16 +67,16 @@ pub fn seen_as(
 ) -> Result<Items<Rpl>, NoMemory>
     ensures { IfOk result (λ seen. seen ≡ seen_as (plain_program program.now) class args above) }
 {
-    let mut class = class;
-    let mut args = args;
-    for _ in 0..program.classes.len() {
-        let Some(parent) = parent_below(program, class, above) else {
+    let mut at = class;
+    let mut seen = args;
+    for _step in 0..program.classes.len() {
+        let Some(parent) = parent_below(program, at, above) else {
             break;
         };
-        args = all_subst(alloc, &parent.args, &args)?;
-        class = parent.class.number;
+        seen = all_subst(alloc, &parent.args, &seen)?;
+        at = parent.class.number;
     }
-    Ok(args)
+    Ok(seen)
 }
 
 /// The superclass of a class that isn't that one yet.

@@ -56,10 +56,10 @@ fn has_region(regions: &[u32], number: u32) -> bool
 }
 
 fn has_variable(variables: &[u64], slot: u32) -> bool
-    ensures { result ≡ list_any (λ v. slot == v) variables.now }
+    ensures { result ≡ list_any (λ v. v == slot) variables.now }
 {
     for variable in variables {
-        if slot as u64 == *variable {
+        if *variable == slot as u64 {
             return true;
         }
     }
@@ -110,6 +110,7 @@ fn outside_variable(opened: &Opened, slot: u32) -> Elem
 }
 
 /// Adds what a loop's body does, as it is seen outside the scope of the loop's variable.
+#[tactic(auto, using(crate::proofs::Outside::outside_one))]
 pub fn leave_variable(
     alloc: Global,
     variable: u64,

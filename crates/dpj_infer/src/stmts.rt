@@ -100,6 +100,7 @@ fn declared(is_final: bool, ty: &Ty) -> Known
 
 /// Adds what a statement does.
 #[cycle(stmts)]
+#[tactic(auto, using(crate::proofs::Reading::joined))]
 fn statement(
     walk: Walk<'_>,
     scope: &mut Scope,
@@ -147,6 +148,7 @@ fn statement(
 }
 
 /// Adds what a statement does that holds no other.
+#[tactic(auto, using(crate::proofs::Reading::joined))]
 fn simple(walk: Walk<'_>, scope: &Scope, s: &Stmt, out: &mut Items<Own>) -> Result<(), NoMemory>
     ensures { OnOk result (all_done out.new ≡ all_done out.old ++ simple_done (program_kept walk.entry.kept.now (plain_program walk.entry.program.now)) (scope_of scope.now) (plain_stmt s.now)) }
 {
@@ -198,6 +200,7 @@ fn simple(walk: Walk<'_>, scope: &Scope, s: &Stmt, out: &mut Items<Own>) -> Resu
 
 /// Adds what a construct of branches does.
 #[cycle(stmts)]
+#[tactic(auto, using(crate::proofs::Reading::joined))]
 fn fork(walk: Walk<'_>, scope: &mut Scope, s: &Stmt, out: &mut Items<Own>) -> Result<(), NoMemory>
     ensures scope { OnOk result (scope.new ≡ scope.old) }
     ensures done { OnOk result (all_done out.new ≡ all_done out.old ++ fork_done (program_kept walk.entry.kept.now (plain_program walk.entry.program.now)) (scope_of scope.old) (plain_stmt s.now)) }
@@ -262,6 +265,7 @@ fn fork(walk: Walk<'_>, scope: &mut Scope, s: &Stmt, out: &mut Items<Own>) -> Re
 }
 
 #[cycle(stmts)]
+#[tactic(auto, using(crate::proofs::Reading::joined))]
 fn all_branches(
     walk: Walk<'_>,
     scope: &mut Scope,
@@ -279,6 +283,7 @@ fn all_branches(
 
 /// Adds what one iteration does, where the loop's variable is in scope.
 #[cycle(stmts)]
+#[tactic(auto, using(crate::proofs::Blocks::scopes))]
 fn iteration(
     walk: Walk<'_>,
     scope: &mut Scope,
@@ -297,6 +302,7 @@ fn iteration(
 }
 
 /// What is cut into parts, with what evaluating it does.
+#[tactic(auto, using(crate::proofs::Reading::part_use))]
 fn cut_part(
     walk: Walk<'_>,
     scope: &Scope,
@@ -311,7 +317,10 @@ fn cut_part(
             expr(walk, scope, array, out)?;
             part_of(walk, array)
         }
-        PartSource::Part(part) => scope.known_copy(walk.alloc, *part),
+        PartSource::Part(part) => {
+            let known = scope.known_copy(walk.alloc, *part)?;
+            Ok(known)
+        }
     }
 }
 
