@@ -1,7 +1,5 @@
 pub mod Same
 pub mod Reading
-pub mod Alike
 pub mod Outside
-pub mod Blocks
-pub mod Forks
+pub mod Calling
 pub mod Raising

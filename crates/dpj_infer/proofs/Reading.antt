@@ -64,12 +64,14 @@ seen_here P (suc n) c d args h = here (c == d) h
     here true h = refl
     here false h = ap (seen_by (λ q owned. seen_within n P q owned d) args) (sym h)
 
-pub nothing_left : (ks : List Kept) (es : List Effect) → (es ≡ []) ⊎ (ks ≡ []) → summary_kept ks es ≡ []
+pub ruleset seen = (seen_further, seen_here)
+
+pub nothing_left : (ks : List Kept) (es : List Effect) → (length es ≡ 0) ⊎ (length ks ≡ 0) → summary_kept ks es ≡ []
 nothing_left [] [] h = refl
 nothing_left [] (e ∷ es) h = refl
 nothing_left (k ∷ ks) [] h = refl
-nothing_left (k ∷ ks) (e ∷ es) (inl h) = cc
-nothing_left (k ∷ ks) (e ∷ es) (inr h) = cc
+nothing_left (k ∷ ks) (e ∷ es) (inl h) = absurd (omega arith)
+nothing_left (k ∷ ks) (e ∷ es) (inr h) = absurd (omega arith)
 
 part_kept : (o : Option Known) → part_of_local (option_map local_of o) ≡ local_of (known_of o)
 part_kept None = refl

@@ -58,6 +58,7 @@ pub fn args_of(ty: &Ty) -> Option<(u32, &Items<Rpl>)>
 }
 
 /// The arguments of a class, where one with these arguments is seen as that class at or above it.
+#[tactic(auto, using(crate::proofs::Reading::seen))]
 pub fn seen_as(
     alloc: Global,
     program: &Program,

@@ -1,4 +1,4 @@
-use Rattle.std.proofs.Common.{◌≡◌, ◌∙◌, ◌++◌, ap, inl, inr, ⊎_elim}
+use Rattle.std.proofs.Common.{◌≡◌, ◌∙◌, ◌++◌, ap, sym, inl, inr, ⊎_elim}
 use Rattle.std.proofs.lemmas.List.{append-nil}
 use Rattle.dpj_typed.specs.Effects.{summary_with}
 use Rattle.dpj_infer.specs.Kept.{summary_kept}
@@ -11,4 +11,4 @@ returns c =
     let at = c.loop-item in
     let none = nothing_left at.item-iterator.b.rest.now at.item-iterator.a.rest.now (⊎_elim (λ h. inl h.1.0) (λ h. inr h.1.0) c.in-None.ensures.steps) in
     let whole = ap (λ es. all_done at.out ++ summary_with c.args.args.now es) none ∙ append-nil (all_done at.out) in
-    cc (whole, at.invariant)
+    sym whole ∙ at.invariant
