@@ -60,10 +60,7 @@ impl Scope {
     pub fn put(&mut self, slot: u64, known: Known) -> Result<(), NoMemory>
         ensures { OnOk result (self.new ≡ self.old ++ (record { slot = slot; known = known }) ∷ []) }
     {
-        self.locals.push(Placed {
-            slot,
-            known,
-        })
+        self.locals.push(Placed { slot, known })
     }
 
     /// Forgets what came into scope behind the first `len`.

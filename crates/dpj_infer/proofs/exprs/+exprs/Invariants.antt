@@ -6,6 +6,6 @@ use Rattle.dpj_infer.specs.Walked.{all_done, scope_of}
 use Rattle.dpj_infer.proofs.exprs.+exprs.Given as goal
 
 abbrev pub invariant-exprs-loop-e : goal.invariant-exprs-loop-e
-invariant-exprs-loop-e l = 
+invariant-exprs-loop-e l =
     all_done l.out ++ done_by_all (program_kept l.walk.kept.now (plain_program l.walk.program.now)) (scope_of l.scope) (exprs_of (map plain_expr (drop l.e-index l.e-items)))
     ≡ all_done l.initial.out ++ done_by_all (program_kept l.walk.kept.now (plain_program l.walk.program.now)) (scope_of l.scope) (exprs_of (map plain_expr l.e-items))

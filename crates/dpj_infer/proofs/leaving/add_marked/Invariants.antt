@@ -5,6 +5,6 @@ use Rattle.dpj_infer.specs.Walked.{all_done}
 use Rattle.dpj_infer.proofs.leaving.add_marked.Given as goal
 
 abbrev pub invariant-loop-own : goal.invariant-loop-own
-invariant-loop-own l = 
+invariant-loop-own l =
     (all_done l.out ++ map (marked l.mark) (all_done (into_iter_items l.own-iterator)) ≡ all_done l.initial.out ++ map (marked l.mark) (all_done (into_iter_items l.initial.own-iterator)))
     × (into_iter_len l.own-iterator ≡ length (into_iter_items l.own-iterator))
