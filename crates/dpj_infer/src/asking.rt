@@ -1,5 +1,11 @@
-ghost use Rattle.std.specs.Prelude.{◌≡◌, IfOk};
-ghost use Rattle.dpj_typed.specs.Plain.{plain_program};
+ghost use Rattle.std.specs.Prelude.{◌≡◌, ◌+◌, ◌≤◌, ◌++◌, false, length, map, Some, IfOk};
+ghost use Rattle.dpj_base.specs.Regions.{substituted};
+ghost use Rattle.dpj_typed.specs.Plain.{plain_program, plain_class, plain_member, PlainClass};
+ghost use Rattle.dpj_typed.specs.Scope.{class_at};
+ghost use Rattle.dpj_typed.specs.Table.{body_scope, own_paths, method_paths};
+ghost use Rattle.dpj_infer.specs.Kept.{program_kept};
+ghost use Rattle.dpj_infer.specs.Doing.{effects_of_all, seen_as};
+ghost use Rattle.dpj_infer.specs.Walked.{all_done};
 ghost use Rattle.dpj_infer.specs.Asked.{asked, more, all_kept};
 
 use crate::classes::{add_copies, class_at, counted, member_at, params_from, seen_as};
@@ -14,7 +20,10 @@ use dpj_typed::{Class, ClassId, Member, MemberId, Program};
 use std::alloc::Global;
 
 /// What the body of a member does, where all members do what is kept of their summaries.
-pub fn done_by(walk: Walk<'_>, member: &Member) -> Result<Items<Own>, NoMemory> {
+#[tactic(auto, using(crate::proofs::Blocks::body_agrees))]
+pub fn done_by(walk: Walk<'_>, member: &Member) -> Result<Items<Own>, NoMemory>
+    ensures { IfOk result (λ done. (k : PlainClass) → all_done done ≡ effects_of_all (program_kept walk.entry.kept.now (plain_program walk.entry.program.now)) (body_scope k (λ x. false) 0 (plain_member member.now)) (plain_member member.now).body) }
+{
     // Nothing that is in scope at the beginning stands in an index or is a part.
     let mut scope = Scope::new(walk.alloc);
     let mut out = Items::new(walk.alloc);
@@ -52,7 +61,9 @@ pub fn seen_items(
     class: ClassId,
     below: &Class,
     member: &Member,
-) -> Result<Items<Rpl>, NoMemory> {
+) -> Result<Items<Rpl>, NoMemory>
+    ensures { (k : PlainClass) → class_at (plain_program program.now) member.now.class.number ≡ Some k → length below.now.params + 0 ≤ 4294967295 → length k.params + length member.now.params ≤ 4294967295 → IfOk result (λ places. places ≡ map (λ e. substituted (seen_as (plain_program program.now) class.number (own_paths (plain_class below.now)) member.now.class.number ++ method_paths k (plain_member member.now)) e.rpl) member.now.summary) }
+{
     let mut args = Items::new(alloc);
     params_from(alloc, 0, counted(&below.params), &mut args)?;
     let mut all = seen_as(alloc, program, class.number, args, member.class.number)?;

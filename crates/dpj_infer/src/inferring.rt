@@ -1,9 +1,11 @@
-ghost use Rattle.std.specs.Prelude.{◌≡◌, false, length, map, slice_get, IfOk, OnOk};
-ghost use Rattle.dpj_typed.specs.Plain.{plain_program};
+ghost use Rattle.std.specs.Prelude.{◌≡◌, false, length, map, slice_get, Some, IfOk, OnOk};
+ghost use Rattle.dpj_typed.specs.Plain.{plain_program, PlainClass, PlainMember};
+ghost use Rattle.dpj_typed.specs.Scope.{class_at, member_at};
 ghost use Rattle.dpj_typed.specs.Effects.{as_effects};
+ghost use Rattle.dpj_infer.specs.Firm.{done_in};
+ghost use Rattle.dpj_infer.specs.Walked.{all_done};
 ghost use Rattle.dpj_infer.specs.Kept.{SaysOfEach, SayOfTheSame};
 ghost use Rattle.dpj_infer.specs.Asked.{raised, raised_here, raised_in};
-ghost use Rattle.dpj_infer.specs.Walked.{all_done};
 
 use crate::asking::{asked, done_by, kept_of, more, seen_items};
 use crate::classes::{class_at, counted, member_at};
@@ -95,6 +97,7 @@ fn ask_body(
     kept: &mut Keeping,
 ) -> Result<bool, NoMemory>
     ensures same { SayOfTheSame kept.new kept.old }
+    ensures asked { let P = plain_program program.now in (k : PlainClass) (m : PlainMember) → member_at P number.number ≡ Some m → class_at P m.class ≡ Some k → OnOk result (kept.new ≡ raised_in kept.old number.number m.summary (map (λ e. e.rpl) m.summary) (done_in P kept.old k m)) }
     ensures still { IfOk result (λ risen. risen ≡ false → kept.new ≡ kept.old) }
 {
     let Some(member) = member_at(program, number) else {
