@@ -13,6 +13,14 @@ pub mod Stating
 pub mod Held
 pub mod Sized
 pub mod Targeted
+pub mod Coming
+pub mod Composed
+pub mod PathParts
+pub mod TypeParts
+pub mod ExprParts
+pub mod StmtParts
+pub mod MemberParts
+pub mod ClassParts
 pub mod Distinct
 pub mod Promised
 pub mod OnceReader
@@ -23,7 +31,6 @@ pub mod OnceStmts
 pub mod OnceMembers
 pub mod OnceClasses
 pub mod OnceText
-pub mod Told
 pub mod Tested
 pub mod Expected
 pub mod ExpectedPaths
@@ -43,7 +50,5 @@ pub mod Completing
 pub mod Viability
 pub mod Settled
 pub mod Decided
-pub mod Tables
-pub mod Followed
 pub mod Refused
 pub mod RefusedOnce

@@ -65,6 +65,7 @@ pub data Part : Type 0 where
   more_listed : Part
   -- statements
   stmt : Part
+  body : Part
   block : Part
   stmts : Part
   condition : Part
@@ -155,13 +156,13 @@ unary_parts _ = part literal ∷ part selected ∷ []
 
 abbrev pub stmt_parts : Terminal → List Expected
 stmt_parts (terminal.Symbol Symbol.OpenBrace) = part block ∷ []
-stmt_parts (terminal.Keyword Keyword.If) = one is_if ∷ part condition ∷ part stmt ∷ part else_if ∷ []
-stmt_parts (terminal.Keyword Keyword.While) = one is_while ∷ part condition ∷ part stmt ∷ []
+stmt_parts (terminal.Keyword Keyword.If) = one is_if ∷ part condition ∷ part body ∷ part else_if ∷ []
+stmt_parts (terminal.Keyword Keyword.While) = one is_while ∷ part condition ∷ part body ∷ []
 stmt_parts (terminal.Keyword Keyword.Cobegin) = one is_any ∷ part block ∷ []
 stmt_parts (terminal.Keyword Keyword.CobeginNd) = one is_any ∷ part block ∷ []
-stmt_parts (terminal.Keyword Keyword.Foreach) = one is_any ∷ one is_open_paren ∷ part range ∷ part stmt ∷ []
-stmt_parts (terminal.Keyword Keyword.ForeachNd) = one is_any ∷ one is_open_paren ∷ part range ∷ part stmt ∷ []
-stmt_parts (terminal.Keyword Keyword.ForeachParts) = one is_foreach_parts ∷ one is_open_paren ∷ one is_name ∷ one is_comma ∷ part range ∷ part stmt ∷ []
+stmt_parts (terminal.Keyword Keyword.Foreach) = one is_any ∷ one is_open_paren ∷ part range ∷ part body ∷ []
+stmt_parts (terminal.Keyword Keyword.ForeachNd) = one is_any ∷ one is_open_paren ∷ part range ∷ part body ∷ []
+stmt_parts (terminal.Keyword Keyword.ForeachParts) = one is_foreach_parts ∷ one is_open_paren ∷ one is_name ∷ one is_comma ∷ part range ∷ part body ∷ []
 stmt_parts (terminal.Keyword Keyword.Atomic) = one is_atomic ∷ part block ∷ []
 stmt_parts (terminal.Keyword Keyword.Return) = one is_return ∷ part return_rest ∷ []
 stmt_parts (terminal.Keyword Keyword.Print) = one is_print ∷ one is_open_paren ∷ part shown ∷ one is_close_paren ∷ one is_semicolon ∷ []
@@ -264,10 +265,12 @@ choose actuals_rest next = if_next is_close_paren next (one is_close_paren ∷ [
 choose listed next = Some (part (expr 0) ∷ part more_listed ∷ [])
 choose more_listed next = if_next is_comma next (one is_comma ∷ part (expr 0) ∷ part more_listed ∷ []) []
 choose stmt next = Some (with_next (part performed ∷ []) stmt_parts next)
+-- the body of another statement
+choose body next = Some (part stmt ∷ [])
 choose block next = Some (one is_open_brace ∷ part stmts ∷ one is_close_brace ∷ [])
 choose stmts next = if_next is_close_brace next [] (part stmt ∷ part stmts ∷ [])
 choose condition next = Some (one is_open_paren ∷ part (expr 0) ∷ one is_close_paren ∷ [])
-choose else_if next = if_next is_else next (one is_else ∷ part stmt ∷ []) []
+choose else_if next = if_next is_else next (one is_else ∷ part body ∷ []) []
 choose range next = Some (one is_int ∷ one is_name ∷ one is_in ∷ part (expr 0) ∷ one is_comma ∷ part (expr 0) ∷ one is_close_paren ∷ [])
 choose return_rest next = if_next is_semicolon next (one is_semicolon ∷ []) (part value ∷ [])
 choose value next = Some (part (expr 0) ∷ one is_semicolon ∷ [])

@@ -5,7 +5,6 @@ pub mod Expressions
 pub mod Statements
 pub mod Classes
 pub mod Reading
-pub mod Fault
 pub mod Progress
 pub mod Program
 pub mod OneTree
@@ -13,8 +12,9 @@ pub mod OneProgram
 pub mod Words
 pub mod Expecting
 pub mod Viable
+pub mod Limits
+pub mod Counted
+pub mod Targets
 pub mod ExpectedText
-pub mod Table
-pub mod Following
 pub mod Refusing
 pub mod OneRefusal

@@ -4,14 +4,14 @@ use Rattle.dpj_parse.specs.declared.cursor.Cursor.{Cursor}
 
 -- some terminals were taken, on the level where the next one stands
 pub record Reads (old new : Cursor) : Type 0 where
-  pub text : new.text ≡ old.text
+  pub end : new.end ≡ old.end
   pub shorter : length new.rest.now < length old.rest.now
   pub level : new.level ≡ old.level
   pub within : new.level ≤ 32
 
 -- perhaps none was taken
 pub record Keeps (old new : Cursor) : Type 0 where
-  pub text : new.text ≡ old.text
+  pub end : new.end ≡ old.end
   pub shorter : length new.rest.now ≤ length old.rest.now
   pub level : new.level ≡ old.level
 
@@ -22,24 +22,13 @@ ReadsIf false old new = new ≡ old
 
 -- a bracket was taken, and what follows is a level deeper
 pub record Opens (old new : Cursor) : Type 0 where
-  pub text : new.text ≡ old.text
+  pub end : new.end ≡ old.end
   pub shorter : length new.rest.now < length old.rest.now
   pub level : new.level ≡ old.level + 1
 
 -- the bracket that closes the level was taken
 pub record Closes (old new : Cursor) : Type 0 where
-  pub text : new.text ≡ old.text
+  pub end : new.end ≡ old.end
   pub shorter : length new.rest.now < length old.rest.now
   pub level : old.level ≡ new.level + 1
   pub within : new.level ≤ 31
-
--- nothing changed but the terminals that are left
-pub record Advances (old new : Cursor) : Type 0 where
-  pub text : new.text ≡ old.text
-  pub level : new.level ≡ old.level
-  pub joined : new.joined ≡ old.joined
-
--- an operator, a dot or a bracket was counted, of which an expression level has at most 32
-pub record Joins (old new : Cursor) : Type 0 where
-  pub counted : new.joined ≡ old.joined + 1
-  pub within : new.joined ≤ 32

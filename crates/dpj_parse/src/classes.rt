@@ -1,5 +1,6 @@
-ghost use Rattle.std.specs.Prelude.{◌≡◌, ◌+◌, IfOk, OnOk, IfErr};
-ghost use Rattle.dpj_parse.specs.Fault.{IsFault};
+ghost use Rattle.std.specs.Prelude.{◌≡◌, ◌+◌, IfOk, OnOk, IfErr, [], ◌∷◌};
+ghost use Rattle.dpj_parse.specs.Counted.{Reading, StopsAt};
+ghost use Rattle.dpj_parse.specs.Expecting.{Part, part};
 ghost use Rattle.dpj_parse.specs.Classes.{DerivesClass, DerivesMember, DerivesMembers, DerivesParent, DerivesProgram};
 ghost use Rattle.dpj_parse.specs.Progress.{Keeps, Reads};
 ghost use Rattle.dpj_parse.specs.Taking.{Many};
@@ -16,7 +17,8 @@ use std::alloc::Global;
 #[tactic(auto, using(crate::proofs::Lists::many_more, crate::proofs::Lists::many_one, crate::proofs::MemberForms::program_of))]
 pub fn classes(alloc: Global, cursor: &mut Cursor) -> Result<Items<Class>, Stop>
     ensures moves { OnOk result (Reads cursor.old cursor.new) }
-    ensures fault { IfErr result (λ stop. IsFault cursor.old.text stop) }
+    ensures reads { OnOk result (Reading (part Part.program ∷ []) cursor.old cursor.new) }
+    ensures stops { IfErr result (λ stop. StopsAt (part Part.program ∷ []) cursor.old stop) }
     ensures derives { IfOk result (λ classes. DerivesProgram cursor.old.rest.now classes) }
 {
     let mut classes = Items::new(alloc);
@@ -31,7 +33,8 @@ pub fn classes(alloc: Global, cursor: &mut Cursor) -> Result<Items<Class>, Stop>
 #[tactic(auto, using(crate::specs::Classes::class))]
 fn class(alloc: Global, cursor: &mut Cursor) -> Result<Class, Stop>
     ensures moves { OnOk result (Reads cursor.old cursor.new) }
-    ensures fault { IfErr result (λ stop. IsFault cursor.old.text stop) }
+    ensures reads { OnOk result (Reading (part Part.class ∷ []) cursor.old cursor.new) }
+    ensures stops { IfErr result (λ stop. StopsAt (part Part.class ∷ []) cursor.old stop) }
     ensures derives { IfOk result (λ tree. DerivesClass cursor.old.rest.now cursor.new.rest.now tree) }
 {
     cursor.keyword(Keyword::Class)?;
@@ -52,7 +55,8 @@ fn class(alloc: Global, cursor: &mut Cursor) -> Result<Class, Stop>
 #[tactic(auto, using(crate::specs::Classes::no_parent, crate::proofs::MemberForms::parent_of))]
 fn parent(alloc: Global, cursor: &mut Cursor) -> Result<Option<Parent>, Stop>
     ensures moves { OnOk result (Keeps cursor.old cursor.new) }
-    ensures fault { IfErr result (λ stop. IsFault cursor.old.text stop) }
+    ensures reads { OnOk result (Reading (part Part.parent_if ∷ []) cursor.old cursor.new) }
+    ensures stops { IfErr result (λ stop. StopsAt (part Part.parent_if ∷ []) cursor.old stop) }
     ensures derives { IfOk result (λ parent. DerivesParent cursor.old.rest.now cursor.new.rest.now parent) }
 {
     if !cursor.keyword_if(Keyword::Extends)? {
@@ -67,7 +71,8 @@ fn parent(alloc: Global, cursor: &mut Cursor) -> Result<Option<Parent>, Stop>
 #[tactic(auto, using(crate::proofs::MemberForms::members_of))]
 fn members(alloc: Global, cursor: &mut Cursor) -> Result<Items<Member>, Stop>
     ensures moves { OnOk result (Reads cursor.old cursor.new) }
-    ensures fault { IfErr result (λ stop. IsFault cursor.old.text stop) }
+    ensures reads { OnOk result (Reading (part Part.members ∷ []) cursor.old cursor.new) }
+    ensures stops { IfErr result (λ stop. StopsAt (part Part.members ∷ []) cursor.old stop) }
     ensures derives { IfOk result (λ members. DerivesMembers cursor.old.rest.now cursor.new.rest.now members) }
 {
     cursor.open(Symbol::OpenBrace)?;
@@ -80,7 +85,8 @@ fn members(alloc: Global, cursor: &mut Cursor) -> Result<Items<Member>, Stop>
 #[tactic(auto, using(crate::proofs::Lists::many_more, crate::specs::Taking::none))]
 fn member_list(alloc: Global, cursor: &mut Cursor) -> Result<Items<Member>, Stop>
     ensures moves { OnOk result (Keeps cursor.old cursor.new) }
-    ensures fault { IfErr result (λ stop. IsFault cursor.old.text stop) }
+    ensures reads { OnOk result (Reading (part Part.member_list ∷ []) cursor.old cursor.new) }
+    ensures stops { IfErr result (λ stop. StopsAt (part Part.member_list ∷ []) cursor.old stop) }
     ensures derives { IfOk result (λ members. Many DerivesMember cursor.old.rest.now cursor.new.rest.now members) }
 {
     let mut members = Items::new(alloc);

@@ -1,5 +1,8 @@
-ghost use Rattle.std.specs.Prelude.{◌≡◌, ◌+◌, ◌<◌, ◌≤◌, length, map, OnOk, IfOk, IfSome, IfErr};
-ghost use Rattle.dpj_parse.specs.Fault.{IsFault};
+ghost use Rattle.std.specs.Prelude.{◌≡◌, ◌+◌, ◌<◌, ◌≤◌, length, map, OnOk, IfOk, IfSome, IfErr, [], ◌∷◌};
+ghost use Rattle.dpj_parse.specs.Counted.{Reading, StopsAt, counts};
+ghost use Rattle.dpj_parse.specs.Expecting.{Part, one, part};
+ghost use Rattle.dpj_parse.specs.Targets.{IsTarget, Leads, stmt_begins};
+ghost use Rattle.dpj_parse.specs.Words.{is_name, is_new};
 ghost use Rattle.dpj_parse.specs.Progress.{Keeps, Opens, Reads};
 ghost use Rattle.dpj_parse.specs.Taking.{Next, Listed};
 ghost use Rattle.dpj_parse.specs.Expressions.{DerivesActuals, DerivesExpr, DerivesLevel, DerivesPostfix, DerivesPrimary, DerivesUnary, as_creation, level_of, symbol_of, unary_symbol};
@@ -27,7 +30,8 @@ fn made(place: Place, kind: ExprKind) -> Expr
 #[cycle(exprs)]
 pub fn expr(alloc: Global, cursor: &mut Cursor) -> Result<Expr, Stop>
     ensures moves { OnOk result (Reads cursor.old cursor.new) }
-    ensures fault { IfErr result (λ stop. IsFault cursor.old.text stop) }
+    ensures reads { OnOk result (Reading (part (Part.expr 0) ∷ []) cursor.old cursor.new) }
+    ensures stops { IfErr result (λ stop. StopsAt (part (Part.expr 0) ∷ []) cursor.old stop) }
     ensures derives { IfOk result (λ e. DerivesExpr cursor.old.rest.now cursor.new.rest.now (plain_expr e)) }
 {
     let outer = cursor.joined;
@@ -41,7 +45,8 @@ pub fn expr(alloc: Global, cursor: &mut Cursor) -> Result<Expr, Stop>
 #[cycle(exprs)]
 fn operators(alloc: Global, cursor: &mut Cursor, least: u32) -> Result<Expr, Stop>
     ensures moves { OnOk result (Reads cursor.old cursor.new) }
-    ensures fault { IfErr result (λ stop. IsFault cursor.old.text stop) }
+    ensures reads { OnOk result (Reading (part (Part.expr least) ∷ []) cursor.old cursor.new) }
+    ensures stops { IfErr result (λ stop. StopsAt (part (Part.expr least) ∷ []) cursor.old stop) }
     ensures derives { IfOk result (λ e. DerivesLevel least cursor.old.rest.now cursor.new.rest.now (plain_expr e)) }
 {
     let mut left = unary(alloc, cursor)?;
@@ -90,7 +95,8 @@ fn joined(
 #[cycle(exprs)]
 fn unary(alloc: Global, cursor: &mut Cursor) -> Result<Expr, Stop>
     ensures moves { OnOk result (Reads cursor.old cursor.new) }
-    ensures fault { IfErr result (λ stop. IsFault cursor.old.text stop) }
+    ensures reads { OnOk result (Reading (part Part.unary ∷ []) cursor.old cursor.new) }
+    ensures stops { IfErr result (λ stop. StopsAt (part Part.unary ∷ []) cursor.old stop) }
     ensures derives { IfOk result (λ e. DerivesUnary cursor.old.rest.now cursor.new.rest.now (plain_expr e)) }
 {
     if let Some(op) = operator_before(cursor) {
@@ -124,7 +130,8 @@ fn operator_before(cursor: &Cursor) -> Option<UnaryOp>
 #[cycle(exprs)]
 fn created(alloc: Global, cursor: &mut Cursor) -> Result<Expr, Stop>
     ensures moves { OnOk result (Reads cursor.old cursor.new) }
-    ensures fault { IfErr result (λ stop. IsFault cursor.old.text stop) }
+    ensures reads { OnOk result (Reading (one is_new ∷ part Part.created ∷ []) cursor.old cursor.new) }
+    ensures stops { IfErr result (λ stop. StopsAt (one is_new ∷ part Part.created ∷ []) cursor.old stop) }
     ensures derives { IfOk result (λ e. DerivesUnary cursor.old.rest.now cursor.new.rest.now (plain_expr e)) }
 {
     let place = cursor.keyword(Keyword::New)?;
@@ -156,7 +163,8 @@ fn object(place: Place, class: Named, regions: Items<RplTree>, actuals: Items<Ex
 #[cycle(exprs)]
 fn array(alloc: Global, cursor: &mut Cursor, place: Place, base: BaseTree) -> Result<Expr, Stop>
     ensures moves { OnOk result (Reads cursor.old cursor.new) }
-    ensures fault { IfErr result (λ stop. IsFault cursor.old.text stop) }
+    ensures reads { OnOk result (Reading (part Part.array ∷ []) cursor.old cursor.new) }
+    ensures stops { IfErr result (λ stop. StopsAt (part Part.array ∷ []) cursor.old stop) }
     ensures derives { IfOk result (λ e. DerivesLengths base place cursor.old.rest.now cursor.new.rest.now (plain_expr e)) }
 {
     let suffixes = open_suffixes(alloc, cursor)?;
@@ -177,7 +185,7 @@ fn array(alloc: Global, cursor: &mut Cursor, place: Place, base: BaseTree) -> Re
 #[tactic(auto, using(crate::proofs::Making::first_opened, crate::proofs::Making::more_opened))]
 fn open_suffixes(alloc: Global, cursor: &mut Cursor) -> Result<Items<Suffix>, Stop>
     ensures moves { OnOk result (Opens cursor.old cursor.new) }
-    ensures fault { IfErr result (λ stop. IsFault cursor.old.text stop) }
+    // TODO clause
     ensures derives { IfOk result (λ suffixes. DerivesOpenSuffixes cursor.old.rest.now cursor.new.rest.now suffixes) }
 {
     let mut suffixes = Items::new(alloc);
@@ -195,7 +203,8 @@ fn open_suffixes(alloc: Global, cursor: &mut Cursor) -> Result<Items<Suffix>, St
 #[cycle(exprs)]
 fn inner(alloc: Global, cursor: &mut Cursor) -> Result<Expr, Stop>
     ensures moves { OnOk result (Reads cursor.old cursor.new) }
-    ensures fault { IfErr result (λ stop. IsFault cursor.old.text stop) }
+    ensures reads { OnOk result (Reading (part Part.inner ∷ []) cursor.old cursor.new) }
+    ensures stops { IfErr result (λ stop. StopsAt (part Part.inner ∷ []) cursor.old stop) }
     ensures derives { IfOk result (λ e. DerivesInner cursor.old.rest.now cursor.new.rest.now (plain_expr e)) }
 {
     cursor.open(Symbol::OpenParen)?;
@@ -208,7 +217,8 @@ fn inner(alloc: Global, cursor: &mut Cursor) -> Result<Expr, Stop>
 #[tactic(auto, using(crate::proofs::Making::made_literal))]
 fn literal(cursor: &mut Cursor) -> Result<Expr, Stop>
     ensures moves { OnOk result (Reads cursor.old cursor.new) }
-    ensures fault { IfErr result (λ stop. IsFault cursor.old.text stop) }
+    ensures reads { OnOk result (Reading (part Part.literal ∷ []) cursor.old cursor.new) }
+    ensures stops { IfErr result (λ stop. StopsAt (part Part.literal ∷ []) cursor.old stop) }
     ensures derives { IfOk result (λ e. DerivesPrimary (ending_of (plain_expr e)) cursor.old.rest.now cursor.new.rest.now (plain_expr e)) }
 {
     let kind = spelled(cursor)?;
@@ -221,7 +231,7 @@ fn literal(cursor: &mut Cursor) -> Result<Expr, Stop>
 #[tactic(auto, using(crate::proofs::Spelling::next_number, crate::proofs::Spelling::next_name, crate::proofs::Spelling::next_true, crate::proofs::Spelling::next_false, crate::proofs::Spelling::next_null, crate::proofs::Spelling::next_this))]
 fn spelled(cursor: &Cursor) -> Result<ExprKind, Stop>
     ensures spells { IfOk result (λ kind. NextSpells cursor.now.rest.now (plain_kind kind)) }
-    ensures fault { IfErr result (λ stop. IsFault cursor.now.text stop) }
+    // TODO clause
 {
     match cursor.next() {
         Some(Terminal::Int(number)) => Ok(ExprKind::Int(*number)),
@@ -244,7 +254,8 @@ fn selects(cursor: &Cursor) -> bool {
 #[cycle(exprs)]
 fn selected(alloc: Global, cursor: &mut Cursor, first: Expr) -> Result<Expr, Stop>
     ensures moves { OnOk result (Keeps cursor.old cursor.new) }
-    ensures fault { IfErr result (λ stop. IsFault cursor.old.text stop) }
+    ensures reads { OnOk result (Reading (part Part.selected ∷ []) cursor.old cursor.new) }
+    ensures stops { IfErr result (λ stop. StopsAt (part Part.selected ∷ []) cursor.old stop) }
     ensures derives { IfOk result (λ e. DerivesSelections (plain_expr first) cursor.old.rest.now cursor.new.rest.now (plain_expr e)) }
 {
     let mut found = first;
@@ -258,7 +269,8 @@ fn selected(alloc: Global, cursor: &mut Cursor, first: Expr) -> Result<Expr, Sto
 #[cycle(exprs)]
 fn selection(alloc: Global, cursor: &mut Cursor, of: Expr) -> Result<Expr, Stop>
     ensures moves { OnOk result (Reads cursor.old cursor.new) }
-    ensures fault { IfErr result (λ stop. IsFault cursor.old.text stop) }
+    ensures reads { OnOk result (Reading (part Part.selection ∷ []) cursor.old cursor.new) }
+    ensures stops { IfErr result (λ stop. StopsAt (part Part.selection ∷ []) cursor.old stop) }
     ensures derives { IfOk result (λ e. DerivesSelection (plain_expr of) cursor.old.rest.now cursor.new.rest.now (plain_expr e)) }
 {
     if cursor.is_symbol(Symbol::Dot) {
@@ -272,7 +284,8 @@ fn selection(alloc: Global, cursor: &mut Cursor, of: Expr) -> Result<Expr, Stop>
 #[cycle(exprs)]
 fn element(alloc: Global, cursor: &mut Cursor, of: Expr) -> Result<Expr, Stop>
     ensures moves { OnOk result (Reads cursor.old cursor.new) }
-    ensures fault { IfErr result (λ stop. IsFault cursor.old.text stop) }
+    ensures reads { OnOk result (Reading (part Part.element ∷ []) cursor.old cursor.new) }
+    ensures stops { IfErr result (λ stop. StopsAt (part Part.element ∷ []) cursor.old stop) }
     ensures derives { IfOk result (λ e. DerivesSelection (plain_expr of) cursor.old.rest.now cursor.new.rest.now (plain_expr e)) }
 {
     let array = Boxed::new(alloc, of)?;
@@ -288,7 +301,8 @@ fn element(alloc: Global, cursor: &mut Cursor, of: Expr) -> Result<Expr, Stop>
 fn member(alloc: Global, cursor: &mut Cursor, of: Expr) -> Result<Expr, Stop>
     requires { Next (Terminal.Symbol Symbol.Dot) cursor.old.rest.now }
     ensures moves { OnOk result (Reads cursor.old cursor.new) }
-    ensures fault { IfErr result (λ stop. IsFault cursor.old.text stop) }
+    ensures reads { OnOk result (Reading (part Part.selection ∷ []) cursor.old cursor.new) }
+    ensures stops { IfErr result (λ stop. StopsAt (part Part.selection ∷ []) cursor.old stop) }
     ensures derives { IfOk result (λ e. DerivesSelection (plain_expr of) cursor.old.rest.now cursor.new.rest.now (plain_expr e)) }
 {
     let of = Boxed::new(alloc, of)?;
@@ -314,7 +328,8 @@ fn member(alloc: Global, cursor: &mut Cursor, of: Expr) -> Result<Expr, Stop>
 #[cycle(exprs)]
 fn actuals(alloc: Global, cursor: &mut Cursor) -> Result<Items<Expr>, Stop>
     ensures moves { OnOk result (Reads cursor.old cursor.new) }
-    ensures fault { IfErr result (λ stop. IsFault cursor.old.text stop) }
+    ensures reads { OnOk result (Reading (part Part.actuals ∷ []) cursor.old cursor.new) }
+    ensures stops { IfErr result (λ stop. StopsAt (part Part.actuals ∷ []) cursor.old stop) }
     ensures derives { IfOk result (λ all. DerivesActuals cursor.old.rest.now cursor.new.rest.now (plain_exprs (map plain_expr all))) }
 {
     cursor.open(Symbol::OpenParen)?;
@@ -332,7 +347,8 @@ fn actuals(alloc: Global, cursor: &mut Cursor) -> Result<Items<Expr>, Stop>
 #[cycle(exprs)]
 fn listed(alloc: Global, cursor: &mut Cursor) -> Result<Items<Expr>, Stop>
     ensures moves { OnOk result (Reads cursor.old cursor.new) }
-    ensures fault { IfErr result (λ stop. IsFault cursor.old.text stop) }
+    ensures reads { OnOk result (Reading (part Part.listed ∷ []) cursor.old cursor.new) }
+    ensures stops { IfErr result (λ stop. StopsAt (part Part.listed ∷ []) cursor.old stop) }
     ensures derives { IfOk result (λ all. Listed DerivesExprTree cursor.old.rest.now cursor.new.rest.now all) }
 {
     let mut all = Items::new(alloc);
@@ -348,10 +364,12 @@ fn listed(alloc: Global, cursor: &mut Cursor) -> Result<Items<Expr>, Stop>
 #[tactic(auto, using(crate::proofs::Selecting::selections_postfix))]
 pub fn target(alloc: Global, cursor: &mut Cursor) -> Result<Expr, Stop>
     ensures moves { OnOk result (Reads cursor.old cursor.new) }
-    ensures fault { IfErr result (λ stop. IsFault cursor.old.text stop) }
+    requires target { IsTarget cursor.old.rest.now }
+    requires anew { cursor.old.joined ≡ 0 }
+    ensures leads { IfOk result (λ e. Leads (counts cursor.old) cursor.old.rest.now (ending_of (plain_expr e)) (counts cursor.new) cursor.new.rest.now) }
+    ensures stops { IfErr result (λ stop. StopsAt (stmt_begins cursor.old.rest.now) cursor.old stop) }
     ensures derives { IfOk result (λ e. DerivesPostfix (ending_of (plain_expr e)) cursor.old.rest.now cursor.new.rest.now (plain_expr e)) }
 {
-    cursor.joined = 0;
     let first = target_first(alloc, cursor)?;
     selected(alloc, cursor, first)
 }
@@ -360,7 +378,7 @@ pub fn target(alloc: Global, cursor: &mut Cursor) -> Result<Expr, Stop>
 #[tactic(auto, using(crate::proofs::Making::inner_selection, crate::proofs::Making::primary_target))]
 fn target_first(alloc: Global, cursor: &mut Cursor) -> Result<Expr, Stop>
     ensures moves { OnOk result (Reads cursor.old cursor.new) }
-    ensures fault { IfErr result (λ stop. IsFault cursor.old.text stop) }
+    // TODO clause
     ensures derives { IfOk result (λ e. DerivesPostfix (ending_of (plain_expr e)) cursor.old.rest.now cursor.new.rest.now (plain_expr e)) }
 {
     if cursor.is_keyword(Keyword::New) {
@@ -376,7 +394,8 @@ fn target_first(alloc: Global, cursor: &mut Cursor) -> Result<Expr, Stop>
 /// `"new" Name [ Args ] "(" [ Actuals ] ")"`
 fn new_object(alloc: Global, cursor: &mut Cursor) -> Result<Expr, Stop>
     ensures moves { OnOk result (Reads cursor.old cursor.new) }
-    ensures fault { IfErr result (λ stop. IsFault cursor.old.text stop) }
+    ensures reads { OnOk result (Reading (one is_new ∷ one is_name ∷ part Part.args_if ∷ part Part.actuals ∷ []) cursor.old cursor.new) }
+    ensures stops { IfErr result (λ stop. StopsAt (one is_new ∷ one is_name ∷ part Part.args_if ∷ part Part.actuals ∷ []) cursor.old stop) }
     ensures derives { IfOk result (λ e. DerivesPostfix (ending_of (plain_expr e)) cursor.old.rest.now cursor.new.rest.now (plain_expr e)) }
 {
     let place = cursor.keyword(Keyword::New)?;

@@ -12,21 +12,14 @@
 //! the first that is one too many, and that a text with none that derives a program is answered with it.
 #![tactic(auto)]
 
-mod class_table;
 mod classes;
 mod cursor;
-mod expr_table;
 mod exprs;
-mod follow;
-mod kinds;
 mod laws;
 mod members;
 mod operator;
-mod parts;
-mod path_table;
 mod program;
 mod region;
-mod stmt_table;
 mod stmts;
 mod types;
 

@@ -1,5 +1,6 @@
-ghost use Rattle.std.specs.Prelude.{◌≡◌, ◌+◌, ◌↔◌, IfOk, IsTrue, OnOk, IfErr};
-ghost use Rattle.dpj_parse.specs.Fault.{IsFault};
+ghost use Rattle.std.specs.Prelude.{◌≡◌, ◌+◌, ◌↔◌, IfOk, IsTrue, OnOk, IfErr, [], ◌∷◌};
+ghost use Rattle.dpj_parse.specs.Counted.{Reading, StopsAt};
+ghost use Rattle.dpj_parse.specs.Expecting.{Part, part};
 ghost use Rattle.dpj_parse.specs.Classes.{BeginsEffects, DerivesField, DerivesFormal, DerivesFormalList, DerivesFormals, DerivesIn, DerivesItem, DerivesItemsIf, DerivesMember, DerivesMethod, DerivesNamed, DerivesResult, DerivesSummary};
 ghost use Rattle.dpj_parse.specs.Progress.{Keeps, Reads};
 ghost use Rattle.dpj_parse.specs.Taking.{Listed};
@@ -21,7 +22,8 @@ use std::alloc::Global;
 #[tactic(auto, using(crate::proofs::MemberForms::method_of, crate::proofs::MemberForms::constructor_of))]
 pub fn member(alloc: Global, cursor: &mut Cursor) -> Result<Member, Stop>
     ensures moves { OnOk result (Reads cursor.old cursor.new) }
-    ensures fault { IfErr result (λ stop. IsFault cursor.old.text stop) }
+    ensures reads { OnOk result (Reading (part Part.member ∷ []) cursor.old cursor.new) }
+    ensures stops { IfErr result (λ stop. StopsAt (part Part.member ∷ []) cursor.old stop) }
     ensures derives { IfOk result (λ tree. DerivesMember cursor.old.rest.now cursor.new.rest.now tree) }
 {
     if begins_kind(cursor) {
@@ -42,7 +44,7 @@ pub fn member(alloc: Global, cursor: &mut Cursor) -> Result<Member, Stop>
 #[tactic(auto, using(crate::proofs::MemberForms::regions_of))]
 fn regions(alloc: Global, cursor: &mut Cursor) -> Result<Member, Stop>
     ensures moves { OnOk result (Reads cursor.old cursor.new) }
-    ensures fault { IfErr result (λ stop. IsFault cursor.old.text stop) }
+    // PART regions
     ensures derives { IfOk result (λ tree. DerivesMember cursor.old.rest.now cursor.new.rest.now tree) }
 {
     let atomic = kind(cursor)?;
@@ -66,7 +68,8 @@ fn constructs(cursor: &Cursor) -> bool {
 #[tactic(auto, using(crate::proofs::MemberForms::result_void, crate::proofs::MemberForms::result_value))]
 fn result(alloc: Global, cursor: &mut Cursor) -> Result<MethodResult, Stop>
     ensures moves { OnOk result (Reads cursor.old cursor.new) }
-    ensures fault { IfErr result (λ stop. IsFault cursor.old.text stop) }
+    ensures reads { OnOk result (Reading (part Part.result ∷ []) cursor.old cursor.new) }
+    ensures stops { IfErr result (λ stop. StopsAt (part Part.result ∷ []) cursor.old stop) }
     ensures derives { IfOk result (λ answer. DerivesResult cursor.old.rest.now cursor.new.rest.now answer) }
 {
     if cursor.keyword_if(Keyword::Void)? {
@@ -79,7 +82,7 @@ fn result(alloc: Global, cursor: &mut Cursor) -> Result<MethodResult, Stop>
 #[tactic(auto, using(crate::proofs::MemberForms::typed_field, crate::proofs::MemberForms::typed_method))]
 fn typed(alloc: Global, cursor: &mut Cursor) -> Result<Member, Stop>
     ensures moves { OnOk result (Reads cursor.old cursor.new) }
-    ensures fault { IfErr result (λ stop. IsFault cursor.old.text stop) }
+    // PART typed
     ensures derives { IfOk result (λ tree. DerivesMember cursor.old.rest.now cursor.new.rest.now tree) }
 {
     let ty = ty(alloc, cursor)?;
@@ -100,7 +103,7 @@ fn typed(alloc: Global, cursor: &mut Cursor) -> Result<Member, Stop>
 #[tactic(auto, using(crate::proofs::MemberForms::field_of))]
 fn field(alloc: Global, cursor: &mut Cursor, ty: TypeTree, named: Named) -> Result<Member, Stop>
     ensures moves { OnOk result (Reads cursor.old cursor.new) }
-    ensures fault { IfErr result (λ stop. IsFault cursor.old.text stop) }
+    // PART field
     ensures derives { IfOk result (λ tree. DerivesField ty named cursor.old.rest.now cursor.new.rest.now tree) }
 {
     let region = region_if(alloc, cursor)?;
@@ -117,7 +120,8 @@ fn field(alloc: Global, cursor: &mut Cursor, ty: TypeTree, named: Named) -> Resu
 #[tactic(auto, using(crate::specs::Classes::nowhere, crate::proofs::MemberForms::in_region_of))]
 fn region_if(alloc: Global, cursor: &mut Cursor) -> Result<Option<RplTree>, Stop>
     ensures moves { OnOk result (Keeps cursor.old cursor.new) }
-    ensures fault { IfErr result (λ stop. IsFault cursor.old.text stop) }
+    ensures reads { OnOk result (Reading (part Part.in_if ∷ []) cursor.old cursor.new) }
+    ensures stops { IfErr result (λ stop. StopsAt (part Part.in_if ∷ []) cursor.old stop) }
     ensures derives { IfOk result (λ region. DerivesIn cursor.old.rest.now cursor.new.rest.now region) }
 {
     if !cursor.keyword_if(Keyword::In)? {
@@ -135,7 +139,7 @@ fn method(
     returns: MethodResult,
 ) -> Result<Member, Stop>
     ensures moves { OnOk result (Reads cursor.old cursor.new) }
-    ensures fault { IfErr result (λ stop. IsFault cursor.old.text stop) }
+    // PART method
     ensures derives { IfOk result (λ tree. DerivesNamed params returns cursor.old.rest.now cursor.new.rest.now tree) }
 {
     let named = cursor.name()?;
@@ -152,7 +156,8 @@ fn behind_name(
     named: Named,
 ) -> Result<Member, Stop>
     ensures moves { OnOk result (Reads cursor.old cursor.new) }
-    ensures fault { IfErr result (λ stop. IsFault cursor.old.text stop) }
+    ensures reads { OnOk result (Reading (part Part.method_rest ∷ []) cursor.old cursor.new) }
+    ensures stops { IfErr result (λ stop. StopsAt (part Part.method_rest ∷ []) cursor.old stop) }
     ensures derives { IfOk result (λ tree. DerivesMethod params returns named cursor.old.rest.now cursor.new.rest.now tree) }
 {
     let formals = formals(alloc, cursor)?;
@@ -173,7 +178,8 @@ fn behind_name(
 #[tactic(auto, using(crate::proofs::MemberForms::formals_of))]
 fn formals(alloc: Global, cursor: &mut Cursor) -> Result<Items<Formal>, Stop>
     ensures moves { OnOk result (Reads cursor.old cursor.new) }
-    ensures fault { IfErr result (λ stop. IsFault cursor.old.text stop) }
+    ensures reads { OnOk result (Reading (part Part.formals ∷ []) cursor.old cursor.new) }
+    ensures stops { IfErr result (λ stop. StopsAt (part Part.formals ∷ []) cursor.old stop) }
     ensures derives { IfOk result (λ formals. DerivesFormals cursor.old.rest.now cursor.new.rest.now formals) }
 {
     cursor.open(Symbol::OpenParen)?;
@@ -186,7 +192,8 @@ fn formals(alloc: Global, cursor: &mut Cursor) -> Result<Items<Formal>, Stop>
 #[tactic(auto, using(crate::specs::Classes::no_formals, crate::specs::Classes::formals, crate::proofs::Lists::listed_more, crate::specs::Taking::last))]
 fn formal_list(alloc: Global, cursor: &mut Cursor) -> Result<Items<Formal>, Stop>
     ensures moves { OnOk result (Keeps cursor.old cursor.new) }
-    ensures fault { IfErr result (λ stop. IsFault cursor.old.text stop) }
+    ensures reads { OnOk result (Reading (part Part.formal_list ∷ []) cursor.old cursor.new) }
+    ensures stops { IfErr result (λ stop. StopsAt (part Part.formal_list ∷ []) cursor.old stop) }
     ensures derives { IfOk result (λ formals. DerivesFormalList cursor.old.rest.now cursor.new.rest.now formals) }
 {
     if cursor.is_symbol(Symbol::CloseParen) {
@@ -204,7 +211,8 @@ fn formal_list(alloc: Global, cursor: &mut Cursor) -> Result<Items<Formal>, Stop
 #[tactic(auto, using(crate::specs::Classes::formal))]
 fn formal(alloc: Global, cursor: &mut Cursor) -> Result<Formal, Stop>
     ensures moves { OnOk result (Reads cursor.old cursor.new) }
-    ensures fault { IfErr result (λ stop. IsFault cursor.old.text stop) }
+    ensures reads { OnOk result (Reading (part Part.formal ∷ []) cursor.old cursor.new) }
+    ensures stops { IfErr result (λ stop. StopsAt (part Part.formal ∷ []) cursor.old stop) }
     ensures derives { IfOk result (λ tree. DerivesFormal cursor.old.rest.now cursor.new.rest.now tree) }
 {
     let ty = ty(alloc, cursor)?;
@@ -220,7 +228,8 @@ fn formal(alloc: Global, cursor: &mut Cursor) -> Result<Formal, Stop>
 #[tactic(auto, using(crate::specs::Classes::no_summary, crate::proofs::MemberForms::summary_pure, crate::proofs::MemberForms::summary_effects))]
 fn summary(alloc: Global, cursor: &mut Cursor) -> Result<Option<SummaryTree>, Stop>
     ensures moves { OnOk result (Keeps cursor.old cursor.new) }
-    ensures fault { IfErr result (λ stop. IsFault cursor.old.text stop) }
+    ensures reads { OnOk result (Reading (part Part.summary ∷ []) cursor.old cursor.new) }
+    ensures stops { IfErr result (λ stop. StopsAt (part Part.summary ∷ []) cursor.old stop) }
     ensures derives { IfOk result (λ summary. DerivesSummary cursor.old.rest.now cursor.new.rest.now summary) }
 {
     if begins_effects(cursor) {
@@ -248,7 +257,7 @@ fn begins_effects(cursor: &Cursor) -> bool
 #[tactic(auto, using(crate::proofs::MemberForms::items_none, crate::proofs::MemberForms::items_some))]
 fn items_if(alloc: Global, cursor: &mut Cursor, keyword: Keyword) -> Result<Items<Item>, Stop>
     ensures moves { OnOk result (Keeps cursor.old cursor.new) }
-    ensures fault { IfErr result (λ stop. IsFault cursor.old.text stop) }
+    // PART items_if
     ensures derives { IfOk result (λ items. DerivesItemsIf keyword cursor.old.rest.now cursor.new.rest.now items) }
 {
     if !cursor.keyword_if(keyword)? {
@@ -261,7 +270,8 @@ fn items_if(alloc: Global, cursor: &mut Cursor, keyword: Keyword) -> Result<Item
 #[tactic(auto, using(crate::proofs::Lists::listed_more, crate::specs::Taking::last))]
 fn items(alloc: Global, cursor: &mut Cursor) -> Result<Items<Item>, Stop>
     ensures moves { OnOk result (Reads cursor.old cursor.new) }
-    ensures fault { IfErr result (λ stop. IsFault cursor.old.text stop) }
+    ensures reads { OnOk result (Reading (part Part.items ∷ []) cursor.old cursor.new) }
+    ensures stops { IfErr result (λ stop. StopsAt (part Part.items ∷ []) cursor.old stop) }
     ensures derives { IfOk result (λ items. Listed DerivesItem cursor.old.rest.now cursor.new.rest.now items) }
 {
     let mut items = Items::new(alloc);
@@ -276,7 +286,8 @@ fn items(alloc: Global, cursor: &mut Cursor) -> Result<Items<Item>, Stop>
 #[tactic(auto, using(crate::proofs::MemberForms::item_of))]
 fn item(alloc: Global, cursor: &mut Cursor) -> Result<Item, Stop>
     ensures moves { OnOk result (Reads cursor.old cursor.new) }
-    ensures fault { IfErr result (λ stop. IsFault cursor.old.text stop) }
+    ensures reads { OnOk result (Reading (part Part.item ∷ []) cursor.old cursor.new) }
+    ensures stops { IfErr result (λ stop. StopsAt (part Part.item ∷ []) cursor.old stop) }
     ensures derives { IfOk result (λ tree. DerivesItem cursor.old.rest.now cursor.new.rest.now tree) }
 {
     let atomic = cursor.keyword_if(Keyword::Atomic)?;

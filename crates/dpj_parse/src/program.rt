@@ -8,12 +8,11 @@ ghost use Rattle.dpj_tree.specs.Shaped.{MemberHasTargets};
 ghost use Rattle.dpj_base.specs.Refused.{IfRefused};
 ghost use Rattle.dpj_parse.specs.Classes.{DerivesProgram};
 ghost use Rattle.dpj_parse.specs.Program.{IsGrammarFault, IsProgram};
-ghost use Rattle.dpj_parse.specs.Refusing.{CanGoOn, IsRefusedIn};
+ghost use Rattle.dpj_parse.specs.Refusing.{IsRefusedIn, IsWithin};
 
 use crate::classes::classes;
-use crate::cursor::{Cursor, Text};
-use crate::follow::{from_place, lost_at, place_at};
-use dpj_base::{Items, Kind, Place, Refusal, Stop};
+use crate::cursor::Cursor;
+use dpj_base::{Items, Place, Stop};
 use dpj_terminals::{Placed, Terminals, terminals};
 use dpj_tokens::Tokens;
 use dpj_tree::{Class, Program};
@@ -31,70 +30,22 @@ pub fn parse(alloc: Global, bytes: &[u8], tokens: &Tokens) -> Result<Program, St
     ensures fault { IfErr result (λ stop. IfRefused stop (IsGrammarFault bytes.now tokens.now.list tokens.now.end)) }
 {
     let Terminals { list, names } = terminals(alloc, bytes, tokens)?;
-    let text = Text {
-        terminals: list.as_slice(),
-        end: tokens.end,
-    };
-    let classes = read(alloc, text)?;
+    let classes = read(alloc, list.as_slice(), tokens.end)?;
     Ok(Program { classes, names })
 }
 
 /// The classes of a text, or where it is refused.
-fn read(alloc: Global, text: Text) -> Result<Items<Class>, Stop>
-    ensures derives { IfOk result (DerivesProgram text.entry.terminals.now) }
-    ensures refused { IfErr result (λ stop. IfRefused stop (IsRefusedIn text.entry.terminals.now text.entry.end)) }
+#[tactic(auto, using(crate::proofs::Refused::refused_in))]
+fn read(alloc: Global, list: &[Placed], end: Place) -> Result<Items<Class>, Stop>
+    ensures derives { IfOk result (DerivesProgram list.now) }
+    ensures within { OnOk result (IsWithin list.now) }
+    ensures refused { IfErr result (λ stop. IfRefused stop (IsRefusedIn list.now end)) }
 {
     let mut cursor = Cursor {
-        text,
-        rest: text.terminals,
+        end,
+        rest: list,
         level: 0,
         joined: 0,
     };
-    match classes(alloc, &mut cursor) {
-        Ok(classes) => Ok(classes),
-        Err(stop) => Err(told(alloc, text, stop)),
-    }
-}
-
-/// What is told of a text that the parser refuses: that it nests too deep, or where it is lost, if that comes first.
-/// That the parser takes each text that isn't lost and doesn't nest too deep isn't proved; if it left one, that would be
-/// told as `nest`.
-#[tactic(auto, using(crate::proofs::Refused::read_goes_on, crate::proofs::Refused::lost_goes_on, crate::proofs::Refused::lost_told))]
-fn told(alloc: Global, text: Text, stop: Stop) -> Stop
-    ensures { IfRefused result (IsRefusedIn text.entry.terminals.now text.entry.end) }
-{
-    let Stop::Refused(refusal) = stop else {
-        return Stop::NoMemory;
-    };
-    let deep = from_place(text.terminals, refusal.place, text.end);
-    match lost_at(alloc, text.terminals) {
-        Ok(Some(here)) if refusal.kind == Kind::Nest && here.len() < deep.len() => nest(text, deep),
-        Ok(Some(here)) => Stop::Refused(syntax(place_at(here, text.end))),
-        Ok(None) => nest(text, deep),
-        Err(_) => Stop::NoMemory,
-    }
-}
-
-/// No program goes on with the terminal at a place.
-fn syntax(place: Place) -> Refusal
-    ensures { result ≡ record { kind = Kind.Syntax; place = place } }
-{
-    Refusal {
-        kind: Kind::Syntax,
-        place,
-    }
-}
-
-/// The first of these terminals is one too many.
-fn nest(text: Text, deep: &[Placed]) -> Stop
-    requires { CanGoOn text.terminals.now deep.now }
-    ensures { IfRefused result (IsRefusedIn text.entry.terminals.now text.entry.end) }
-{
-    match deep {
-        [_, ..] => Stop::Refused(Refusal {
-            kind: Kind::Nest,
-            place: place_at(deep, text.end),
-        }),
-        [] => Stop::NoMemory,
-    }
+    classes(alloc, &mut cursor)
 }

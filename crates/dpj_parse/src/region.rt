@@ -1,11 +1,12 @@
-ghost use Rattle.std.specs.Prelude.{◌≡◌, ◌+◌, ◌≤◌, [], length, IfOk, OnOk, IfErr};
-ghost use Rattle.dpj_parse.specs.Fault.{IsFault};
+ghost use Rattle.std.specs.Prelude.{◌≡◌, ◌+◌, ◌≤◌, [], length, IfOk, OnOk, IfErr, ◌∷◌};
+ghost use Rattle.dpj_parse.specs.Counted.{Reading, StopsAt};
+ghost use Rattle.dpj_parse.specs.Expecting.{Part, part};
 ghost use Rattle.dpj_parse.specs.Classes.{DerivesConstr, DerivesDeclared, DerivesGiven, DerivesKind, DerivesKindOr, DerivesParam, DerivesParams};
 ghost use Rattle.dpj_parse.specs.Paths.{DerivesArgs, DerivesElem, DerivesHead, DerivesNext, DerivesRName, DerivesRpl, DerivesWithin};
 ghost use Rattle.dpj_parse.specs.Progress.{Keeps, Reads};
 ghost use Rattle.dpj_parse.specs.Taking.{Listed, Many, TakesName};
 
-use crate::cursor::{Cursor, MOST};
+use crate::cursor::Cursor;
 use dpj_base::{Items, Stop};
 use dpj_terminals::Terminal;
 use dpj_tokens::{Keyword, Symbol};
@@ -16,7 +17,8 @@ use std::alloc::Global;
 #[tactic(auto, using(crate::proofs::Lists::listed_more, crate::specs::Taking::last))]
 pub fn names(alloc: Global, cursor: &mut Cursor) -> Result<Items<Named>, Stop>
     ensures moves { OnOk result (Reads cursor.old cursor.new) }
-    ensures fault { IfErr result (λ stop. IsFault cursor.old.text stop) }
+    ensures reads { OnOk result (Reading (part Part.names ∷ []) cursor.old cursor.new) }
+    ensures stops { IfErr result (λ stop. StopsAt (part Part.names ∷ []) cursor.old stop) }
     ensures derives { IfOk result (λ names. Listed TakesName cursor.old.rest.now cursor.new.rest.now names) }
 {
     let mut names = Items::new(alloc);
@@ -31,7 +33,8 @@ pub fn names(alloc: Global, cursor: &mut Cursor) -> Result<Items<Named>, Stop>
 #[tactic(auto, using(crate::specs::Paths::one_name, crate::proofs::Regions::second_name))]
 fn region_name(cursor: &mut Cursor) -> Result<RName, Stop>
     ensures moves { OnOk result (Reads cursor.old cursor.new) }
-    ensures fault { IfErr result (λ stop. IsFault cursor.old.text stop) }
+    ensures reads { OnOk result (Reading (part Part.region_name ∷ []) cursor.old cursor.new) }
+    ensures stops { IfErr result (λ stop. StopsAt (part Part.region_name ∷ []) cursor.old stop) }
     ensures derives { IfOk result (λ name. DerivesRName cursor.old.rest.now cursor.new.rest.now name) }
 {
     let first = cursor.name()?;
@@ -47,19 +50,24 @@ fn region_name(cursor: &mut Cursor) -> Result<RName, Stop>
 #[tactic(auto, using(crate::specs::Paths::path))]
 pub fn rpl(alloc: Global, cursor: &mut Cursor) -> Result<RplTree, Stop>
     ensures moves { OnOk result (Reads cursor.old cursor.new) }
-    ensures fault { IfErr result (λ stop. IsFault cursor.old.text stop) }
+    ensures reads { OnOk result (Reading (part Part.path ∷ []) cursor.old cursor.new) }
+    ensures stops { IfErr result (λ stop. StopsAt (part Part.path ∷ []) cursor.old stop) }
     ensures derives { IfOk result (λ path. DerivesRpl cursor.old.rest.now cursor.new.rest.now path) }
 {
+    let outer = cursor.joined;
+    cursor.joined = 0;
     let place = cursor.place();
     let head = head(cursor)?;
     let elems = elems(alloc, cursor)?;
+    cursor.joined = outer;
     Ok(RplTree { place, head, elems })
 }
 
 #[tactic(auto, using(crate::proofs::Regions::head_root, crate::proofs::Regions::head_name))]
 fn head(cursor: &mut Cursor) -> Result<RplHead, Stop>
     ensures moves { OnOk result (Reads cursor.old cursor.new) }
-    ensures fault { IfErr result (λ stop. IsFault cursor.old.text stop) }
+    ensures reads { OnOk result (Reading (part Part.head ∷ []) cursor.old cursor.new) }
+    ensures stops { IfErr result (λ stop. StopsAt (part Part.head ∷ []) cursor.old stop) }
     ensures derives { IfOk result (λ start. DerivesHead cursor.old.rest.now cursor.new.rest.now start) }
 {
     if cursor.keyword_if(Keyword::Root)? {
@@ -72,45 +80,24 @@ fn head(cursor: &mut Cursor) -> Result<RplHead, Stop>
 #[tactic(auto, using(crate::proofs::Lists::many_more, crate::proofs::Lists::few_more, crate::specs::Taking::none, crate::proofs::Regions::next_elem))]
 fn elems(alloc: Global, cursor: &mut Cursor) -> Result<Items<ElemTree>, Stop>
     ensures moves { OnOk result (Keeps cursor.old cursor.new) }
-    ensures fault { IfErr result (λ stop. IsFault cursor.old.text stop) }
+    ensures reads { OnOk result (Reading (part Part.elems ∷ []) cursor.old cursor.new) }
+    ensures stops { IfErr result (λ stop. StopsAt (part Part.elems ∷ []) cursor.old stop) }
     ensures derives { IfOk result (λ elems. Many DerivesNext cursor.old.rest.now cursor.new.rest.now elems) }
-    ensures few { IfOk result (λ elems. length elems ≤ 32) }
 {
     let mut elems = Items::new(alloc);
     while cursor.symbol_if(Symbol::Colon)? {
-        if elems.len() >= MOST as usize {
-            return Err(one_more(cursor));
-        }
+        cursor.joined += 1;
         elems.push(elem(cursor)?)?;
     }
     Ok(elems)
-}
-
-/// No further element is taken, and something else can't stand here.
-fn one_more(cursor: &Cursor) -> Stop
-    ensures { IsFault cursor.now.text result }
-{
-    if begins_elem(cursor) {
-        cursor.too_many()
-    } else {
-        cursor.unexpected()
-    }
-}
-
-/// Whether an element of a region path comes next.
-fn begins_elem(cursor: &Cursor) -> bool {
-    match cursor.next() {
-        Some(Terminal::Name(_)) => true,
-        Some(Terminal::Symbol(Symbol::Star | Symbol::OpenBracket)) => true,
-        _ => false,
-    }
 }
 
 /// `Elem = RName | "*" | "[" ( Int | Name | "?" ) "]"`
 #[tactic(auto, using(crate::proofs::Regions::elem_star, crate::proofs::Regions::elem_name))]
 fn elem(cursor: &mut Cursor) -> Result<ElemTree, Stop>
     ensures moves { OnOk result (Reads cursor.old cursor.new) }
-    ensures fault { IfErr result (λ stop. IsFault cursor.old.text stop) }
+    ensures reads { OnOk result (Reading (part Part.elem ∷ []) cursor.old cursor.new) }
+    ensures stops { IfErr result (λ stop. StopsAt (part Part.elem ∷ []) cursor.old stop) }
     ensures derives { IfOk result (λ tree. DerivesElem cursor.old.rest.now cursor.new.rest.now tree) }
 {
     match cursor.next() {
@@ -124,10 +111,11 @@ fn elem(cursor: &mut Cursor) -> Result<ElemTree, Stop>
 }
 
 /// `"[" ( Int | Name | "?" ) "]"`
-#[tactic(auto, using(crate::proofs::Regions::elem_within))]
+#[tactic(auto, using(crate::proofs::Regions::elem_within, crate::proofs::Composed::seq, crate::proofs::Composed::read_part, crate::proofs::Composed::refused_part, crate::proofs::Composed::refused_first, crate::proofs::Composed::refused_after))]
 fn index(cursor: &mut Cursor) -> Result<ElemTree, Stop>
     ensures moves { OnOk result (Reads cursor.old cursor.new) }
-    ensures fault { IfErr result (λ stop. IsFault cursor.old.text stop) }
+    ensures reads { OnOk result (Reading (part Part.index ∷ []) cursor.old cursor.new) }
+    ensures stops { IfErr result (λ stop. StopsAt (part Part.index ∷ []) cursor.old stop) }
     ensures derives { IfOk result (λ tree. DerivesElem cursor.old.rest.now cursor.new.rest.now tree) }
 {
     cursor.open(Symbol::OpenBracket)?;
@@ -140,7 +128,8 @@ fn index(cursor: &mut Cursor) -> Result<ElemTree, Stop>
 #[tactic(auto, using(crate::specs::Paths::index, crate::proofs::Regions::within_number, crate::proofs::Regions::within_any))]
 fn within(cursor: &mut Cursor) -> Result<ElemTree, Stop>
     ensures moves { OnOk result (Reads cursor.old cursor.new) }
-    ensures fault { IfErr result (λ stop. IsFault cursor.old.text stop) }
+    ensures reads { OnOk result (Reading (part Part.within ∷ []) cursor.old cursor.new) }
+    ensures stops { IfErr result (λ stop. StopsAt (part Part.within ∷ []) cursor.old stop) }
     ensures derives { IfOk result (λ tree. DerivesWithin cursor.old.rest.now cursor.new.rest.now tree) }
 {
     match cursor.next() {
@@ -160,7 +149,8 @@ fn within(cursor: &mut Cursor) -> Result<ElemTree, Stop>
 #[tactic(auto, using(crate::specs::Paths::no_args))]
 pub fn args_if(alloc: Global, cursor: &mut Cursor) -> Result<Items<RplTree>, Stop>
     ensures moves { OnOk result (Keeps cursor.old cursor.new) }
-    ensures fault { IfErr result (λ stop. IsFault cursor.old.text stop) }
+    ensures reads { OnOk result (Reading (part Part.args_if ∷ []) cursor.old cursor.new) }
+    ensures stops { IfErr result (λ stop. StopsAt (part Part.args_if ∷ []) cursor.old stop) }
     ensures derives { IfOk result (λ paths. DerivesArgs cursor.old.rest.now cursor.new.rest.now paths) }
 {
     if !cursor.is_symbol(Symbol::Less) {
@@ -173,7 +163,8 @@ pub fn args_if(alloc: Global, cursor: &mut Cursor) -> Result<Items<RplTree>, Sto
 #[tactic(auto, using(crate::specs::Paths::args))]
 pub fn args(alloc: Global, cursor: &mut Cursor) -> Result<Items<RplTree>, Stop>
     ensures moves { OnOk result (Reads cursor.old cursor.new) }
-    ensures fault { IfErr result (λ stop. IsFault cursor.old.text stop) }
+    ensures reads { OnOk result (Reading (part Part.args ∷ []) cursor.old cursor.new) }
+    ensures stops { IfErr result (λ stop. StopsAt (part Part.args ∷ []) cursor.old stop) }
     ensures derives { IfOk result (λ paths. DerivesArgs cursor.old.rest.now cursor.new.rest.now paths) }
 {
     cursor.symbol(Symbol::Less)?;
@@ -186,7 +177,7 @@ pub fn args(alloc: Global, cursor: &mut Cursor) -> Result<Items<RplTree>, Stop>
 #[tactic(auto, using(crate::proofs::Lists::listed_more, crate::specs::Taking::last))]
 fn paths(alloc: Global, cursor: &mut Cursor) -> Result<Items<RplTree>, Stop>
     ensures moves { OnOk result (Reads cursor.old cursor.new) }
-    ensures fault { IfErr result (λ stop. IsFault cursor.old.text stop) }
+    // PART paths
     ensures derives { IfOk result (λ paths. Listed DerivesRpl cursor.old.rest.now cursor.new.rest.now paths) }
 {
     let mut paths = Items::new(alloc);
@@ -201,7 +192,8 @@ fn paths(alloc: Global, cursor: &mut Cursor) -> Result<Items<RplTree>, Stop>
 #[tactic(auto, using(crate::specs::Classes::no_params))]
 pub fn params_if(alloc: Global, cursor: &mut Cursor) -> Result<Params, Stop>
     ensures moves { OnOk result (Keeps cursor.old cursor.new) }
-    ensures fault { IfErr result (λ stop. IsFault cursor.old.text stop) }
+    ensures reads { OnOk result (Reading (part Part.params_if ∷ []) cursor.old cursor.new) }
+    ensures stops { IfErr result (λ stop. StopsAt (part Part.params_if ∷ []) cursor.old stop) }
     ensures derives { IfOk result (λ params. DerivesParams cursor.old.rest.now cursor.new.rest.now params) }
 {
     if !cursor.is_symbol(Symbol::Less) {
@@ -224,7 +216,8 @@ pub fn no_params(alloc: Global) -> Params
 #[tactic(auto, using(crate::specs::Classes::params))]
 fn params(alloc: Global, cursor: &mut Cursor) -> Result<Params, Stop>
     ensures moves { OnOk result (Reads cursor.old cursor.new) }
-    ensures fault { IfErr result (λ stop. IsFault cursor.old.text stop) }
+    ensures reads { OnOk result (Reading (part Part.params ∷ []) cursor.old cursor.new) }
+    ensures stops { IfErr result (λ stop. StopsAt (part Part.params ∷ []) cursor.old stop) }
     ensures derives { IfOk result (λ params. DerivesParams cursor.old.rest.now cursor.new.rest.now params) }
 {
     cursor.symbol(Symbol::Less)?;
@@ -238,7 +231,7 @@ fn params(alloc: Global, cursor: &mut Cursor) -> Result<Params, Stop>
 #[tactic(auto, using(crate::proofs::Regions::declares_first, crate::proofs::Regions::declares_more, crate::proofs::Regions::declares_done))]
 fn declared(alloc: Global, cursor: &mut Cursor) -> Result<Items<ParamTree>, Stop>
     ensures moves { OnOk result (Reads cursor.old cursor.new) }
-    ensures fault { IfErr result (λ stop. IsFault cursor.old.text stop) }
+    // PART declared
     ensures derives { IfOk result (λ list. DerivesDeclared cursor.old.rest.now cursor.new.rest.now list) }
 {
     let mut list = Items::new(alloc);
@@ -254,7 +247,7 @@ fn declared(alloc: Global, cursor: &mut Cursor) -> Result<Items<ParamTree>, Stop
 #[tactic(auto, using(crate::specs::Classes::param))]
 fn param(cursor: &mut Cursor, atomic: bool) -> Result<ParamTree, Stop>
     ensures moves { OnOk result (Reads cursor.old cursor.new) }
-    ensures fault { IfErr result (λ stop. IsFault cursor.old.text stop) }
+    // PART param
     ensures derives { IfOk result (λ tree. DerivesParam atomic cursor.old.rest.now cursor.new.rest.now tree) }
 {
     let named = cursor.name()?;
@@ -274,7 +267,8 @@ pub fn begins_kind(cursor: &Cursor) -> bool {
 #[tactic(auto, using(crate::proofs::Regions::kind_of))]
 pub fn kind(cursor: &mut Cursor) -> Result<bool, Stop>
     ensures moves { OnOk result (Reads cursor.old cursor.new) }
-    ensures fault { IfErr result (λ stop. IsFault cursor.old.text stop) }
+    ensures reads { OnOk result (Reading (part Part.kind ∷ []) cursor.old cursor.new) }
+    ensures stops { IfErr result (λ stop. StopsAt (part Part.kind ∷ []) cursor.old stop) }
     ensures derives { IfOk result (λ atomic. DerivesKind cursor.old.rest.now cursor.new.rest.now atomic) }
 {
     let atomic = cursor.keyword_if(Keyword::Atomic)?;
@@ -286,7 +280,8 @@ pub fn kind(cursor: &mut Cursor) -> Result<bool, Stop>
 #[tactic(auto, using(crate::specs::Classes::same, crate::specs::Classes::other))]
 fn kind_or(cursor: &mut Cursor, earlier: bool) -> Result<bool, Stop>
     ensures moves { OnOk result (Keeps cursor.old cursor.new) }
-    ensures fault { IfErr result (λ stop. IsFault cursor.old.text stop) }
+    ensures reads { OnOk result (Reading (part Part.kind_if ∷ []) cursor.old cursor.new) }
+    ensures stops { IfErr result (λ stop. StopsAt (part Part.kind_if ∷ []) cursor.old stop) }
     ensures derives { IfOk result (λ atomic. DerivesKindOr earlier cursor.old.rest.now cursor.new.rest.now atomic) }
 {
     if begins_kind(cursor) {
@@ -299,7 +294,8 @@ fn kind_or(cursor: &mut Cursor, earlier: bool) -> Result<bool, Stop>
 #[tactic(auto, using(crate::specs::Classes::nothing_given, crate::proofs::Regions::given_behind))]
 fn given(alloc: Global, cursor: &mut Cursor) -> Result<Items<ConstrTree>, Stop>
     ensures moves { OnOk result (Keeps cursor.old cursor.new) }
-    ensures fault { IfErr result (λ stop. IsFault cursor.old.text stop) }
+    ensures reads { OnOk result (Reading (part Part.given ∷ []) cursor.old cursor.new) }
+    ensures stops { IfErr result (λ stop. StopsAt (part Part.given ∷ []) cursor.old stop) }
     ensures derives { IfOk result (λ given. DerivesGiven cursor.old.rest.now cursor.new.rest.now given) }
 {
     if !cursor.symbol_if(Symbol::Bar)? {
@@ -312,7 +308,7 @@ fn given(alloc: Global, cursor: &mut Cursor) -> Result<Items<ConstrTree>, Stop>
 #[tactic(auto, using(crate::proofs::Lists::listed_more, crate::specs::Taking::last))]
 fn constraints(alloc: Global, cursor: &mut Cursor) -> Result<Items<ConstrTree>, Stop>
     ensures moves { OnOk result (Reads cursor.old cursor.new) }
-    ensures fault { IfErr result (λ stop. IsFault cursor.old.text stop) }
+    // PART constraints
     ensures derives { IfOk result (λ given. Listed DerivesConstr cursor.old.rest.now cursor.new.rest.now given) }
 {
     let mut given = Items::new(alloc);
@@ -327,7 +323,8 @@ fn constraints(alloc: Global, cursor: &mut Cursor) -> Result<Items<ConstrTree>, 
 #[tactic(auto, using(crate::specs::Classes::constraint))]
 fn constraint(alloc: Global, cursor: &mut Cursor) -> Result<ConstrTree, Stop>
     ensures moves { OnOk result (Reads cursor.old cursor.new) }
-    ensures fault { IfErr result (λ stop. IsFault cursor.old.text stop) }
+    ensures reads { OnOk result (Reading (part Part.constraint ∷ []) cursor.old cursor.new) }
+    ensures stops { IfErr result (λ stop. StopsAt (part Part.constraint ∷ []) cursor.old stop) }
     ensures derives { IfOk result (λ tree. DerivesConstr cursor.old.rest.now cursor.new.rest.now tree) }
 {
     let left = rpl(alloc, cursor)?;

@@ -1,5 +1,8 @@
-ghost use Rattle.std.specs.Prelude.{◌≡◌, ◌≤◌, ◌+◌, ◌<◌, length, map, OnOk, IfOk, IfSome, MatchOption, IfErr};
-ghost use Rattle.dpj_parse.specs.Fault.{IsFault};
+ghost use Rattle.std.specs.Prelude.{◌≡◌, ◌≤◌, ◌+◌, ◌<◌, length, map, OnOk, IfOk, IfSome, MatchOption, IfErr, [], ◌∷◌};
+ghost use Rattle.dpj_parse.specs.Counted.{Reading, StopsAt};
+ghost use Rattle.dpj_parse.specs.Expecting.{Part, one, part};
+ghost use Rattle.dpj_parse.specs.Targets.{IsTarget, begins_declaration, stmt_begins};
+ghost use Rattle.dpj_parse.specs.Words.{is_any, is_assign, is_atomic, is_close_paren, is_comma, is_foreach_parts, is_if, is_name, is_open_paren, is_print, is_region, is_return, is_semicolon, is_while};
 ghost use Rattle.dpj_parse.specs.Progress.{Closes, Keeps, Reads};
 ghost use Rattle.dpj_parse.specs.Taking.{Many, Next};
 ghost use Rattle.dpj_parse.specs.Statements.{DerivesBlock, DerivesCondition, DerivesForm, DerivesRange, DerivesStmt, DerivesValue, cobegin_word, foreach_word};
@@ -28,14 +31,19 @@ fn made(place: Place, kind: StmtKind) -> Stmt
 #[cycle(stmts)]
 fn stmt(alloc: Global, cursor: &mut Cursor) -> Result<Stmt, Stop>
     ensures moves { OnOk result (Reads cursor.old cursor.new) }
-    ensures fault { IfErr result (λ stop. IsFault cursor.old.text stop) }
+    ensures reads { OnOk result (Reading (part Part.stmt ∷ []) cursor.old cursor.new) }
+    ensures stops { IfErr result (λ stop. StopsAt (part Part.stmt ∷ []) cursor.old stop) }
     ensures derives { IfOk result (λ s. DerivesStmt cursor.old.rest.now cursor.new.rest.now (plain_stmt s)) }
 {
+    let outer = cursor.joined;
+    cursor.joined = 0;
     let place = cursor.place();
-    match form(alloc, cursor)? {
-        Some(kind) => Ok(made(place, kind)),
-        None => simple(alloc, cursor),
-    }
+    let stmt = match form(alloc, cursor)? {
+        Some(kind) => made(place, kind),
+        None => simple(alloc, cursor)?,
+    };
+    cursor.joined = outer;
+    Ok(stmt)
 }
 
 /// A statement that holds other ones, but for its place; None where one begins that holds none.
@@ -43,7 +51,8 @@ fn stmt(alloc: Global, cursor: &mut Cursor) -> Result<Stmt, Stop>
 #[cycle(stmts)]
 fn form(alloc: Global, cursor: &mut Cursor) -> Result<Option<StmtKind>, Stop>
     ensures moves { IfOk result (λ found. MatchOption found (cursor.new ≡ cursor.old) (λ kind. Reads cursor.old cursor.new)) }
-    ensures fault { IfErr result (λ stop. IsFault cursor.old.text stop) }
+    ensures reads { IfOk result (λ found. IfSome found (λ kind. Reading (stmt_begins cursor.old.rest.now) cursor.old cursor.new)) }
+    ensures stops { IfErr result (λ stop. StopsAt (stmt_begins cursor.old.rest.now) cursor.old stop) }
     ensures derives { IfOk result (λ found. IfSome found (λ kind. DerivesForm cursor.old.rest.now cursor.new.rest.now (plain_stmt_kind kind))) }
 {
     match cursor.next() {
@@ -67,7 +76,8 @@ fn form(alloc: Global, cursor: &mut Cursor) -> Result<Option<StmtKind>, Stop>
 #[cycle(stmts)]
 pub fn block(alloc: Global, cursor: &mut Cursor) -> Result<Items<Stmt>, Stop>
     ensures moves { OnOk result (Reads cursor.old cursor.new) }
-    ensures fault { IfErr result (λ stop. IsFault cursor.old.text stop) }
+    ensures reads { OnOk result (Reading (part Part.block ∷ []) cursor.old cursor.new) }
+    ensures stops { IfErr result (λ stop. StopsAt (part Part.block ∷ []) cursor.old stop) }
     ensures derives { IfOk result (λ all. DerivesBlock cursor.old.rest.now cursor.new.rest.now (plain_stmts (map plain_stmt all))) }
 {
     cursor.open(Symbol::OpenBrace)?;
@@ -81,7 +91,8 @@ pub fn block(alloc: Global, cursor: &mut Cursor) -> Result<Items<Stmt>, Stop>
 #[cycle(stmts)]
 fn stmts(alloc: Global, cursor: &mut Cursor) -> Result<Items<Stmt>, Stop>
     ensures moves { OnOk result (Keeps cursor.old cursor.new) }
-    ensures fault { IfErr result (λ stop. IsFault cursor.old.text stop) }
+    ensures reads { OnOk result (Reading (part Part.stmts ∷ []) cursor.old cursor.new) }
+    ensures stops { IfErr result (λ stop. StopsAt (part Part.stmts ∷ []) cursor.old stop) }
     ensures derives { IfOk result (λ all. Many DerivesStmtTree cursor.old.rest.now cursor.new.rest.now all) }
 {
     let mut all = Items::new(alloc);
@@ -96,7 +107,8 @@ fn stmts(alloc: Global, cursor: &mut Cursor) -> Result<Items<Stmt>, Stop>
 fn body(alloc: Global, cursor: &mut Cursor) -> Result<Boxed<Stmt>, Stop>
     requires { cursor.old.level ≤ 32 }
     ensures moves { OnOk result (Reads cursor.old cursor.new) }
-    ensures fault { IfErr result (λ stop. IsFault cursor.old.text stop) }
+    ensures reads { OnOk result (Reading (part Part.body ∷ []) cursor.old cursor.new) }
+    ensures stops { IfErr result (λ stop. StopsAt (part Part.body ∷ []) cursor.old stop) }
     ensures derives { IfOk result (λ s. DerivesStmt cursor.old.rest.now cursor.new.rest.now (plain_stmt s)) }
 {
     if cursor.is_symbol(Symbol::OpenBrace) {
@@ -113,7 +125,8 @@ fn body(alloc: Global, cursor: &mut Cursor) -> Result<Boxed<Stmt>, Stop>
 #[cycle(stmts)]
 fn choice(alloc: Global, cursor: &mut Cursor) -> Result<StmtKind, Stop>
     ensures moves { OnOk result (Reads cursor.old cursor.new) }
-    ensures fault { IfErr result (λ stop. IsFault cursor.old.text stop) }
+    ensures reads { OnOk result (Reading (one is_if ∷ part Part.condition ∷ part Part.body ∷ part Part.else_if ∷ []) cursor.old cursor.new) }
+    ensures stops { IfErr result (λ stop. StopsAt (one is_if ∷ part Part.condition ∷ part Part.body ∷ part Part.else_if ∷ []) cursor.old stop) }
     ensures derives { IfOk result (λ kind. DerivesForm cursor.old.rest.now cursor.new.rest.now (plain_stmt_kind kind)) }
 {
     cursor.keyword(Keyword::If)?;
@@ -135,7 +148,8 @@ fn choice(alloc: Global, cursor: &mut Cursor) -> Result<StmtKind, Stop>
 #[cycle(stmts)]
 fn while_loop(alloc: Global, cursor: &mut Cursor) -> Result<StmtKind, Stop>
     ensures moves { OnOk result (Reads cursor.old cursor.new) }
-    ensures fault { IfErr result (λ stop. IsFault cursor.old.text stop) }
+    ensures reads { OnOk result (Reading (one is_while ∷ part Part.condition ∷ part Part.body ∷ []) cursor.old cursor.new) }
+    ensures stops { IfErr result (λ stop. StopsAt (one is_while ∷ part Part.condition ∷ part Part.body ∷ []) cursor.old stop) }
     ensures derives { IfOk result (λ kind. DerivesForm cursor.old.rest.now cursor.new.rest.now (plain_stmt_kind kind)) }
 {
     cursor.keyword(Keyword::While)?;
@@ -145,10 +159,11 @@ fn while_loop(alloc: Global, cursor: &mut Cursor) -> Result<StmtKind, Stop>
 }
 
 /// `"(" Expr ")"`
-#[tactic(auto, using(crate::proofs::Stating::made_condition))]
+#[tactic(auto, using(crate::proofs::Stating::made_condition, crate::proofs::Composed::seq, crate::proofs::Composed::read_part, crate::proofs::Composed::refused_part, crate::proofs::Composed::refused_first, crate::proofs::Composed::refused_after))]
 fn condition(alloc: Global, cursor: &mut Cursor) -> Result<Expr, Stop>
     ensures moves { OnOk result (Reads cursor.old cursor.new) }
-    ensures fault { IfErr result (λ stop. IsFault cursor.old.text stop) }
+    ensures reads { OnOk result (Reading (part Part.condition ∷ []) cursor.old cursor.new) }
+    ensures stops { IfErr result (λ stop. StopsAt (part Part.condition ∷ []) cursor.old stop) }
     ensures derives { IfOk result (λ e. DerivesCondition cursor.old.rest.now cursor.new.rest.now (plain_expr e)) }
 {
     cursor.open(Symbol::OpenParen)?;
@@ -163,7 +178,8 @@ fn condition(alloc: Global, cursor: &mut Cursor) -> Result<Expr, Stop>
 fn cobegin(alloc: Global, cursor: &mut Cursor, nd: bool) -> Result<StmtKind, Stop>
     requires { Next (Terminal.Keyword (cobegin_word nd)) cursor.old.rest.now }
     ensures moves { OnOk result (Reads cursor.old cursor.new) }
-    ensures fault { IfErr result (λ stop. IsFault cursor.old.text stop) }
+    ensures reads { OnOk result (Reading (one is_any ∷ part Part.block ∷ []) cursor.old cursor.new) }
+    ensures stops { IfErr result (λ stop. StopsAt (one is_any ∷ part Part.block ∷ []) cursor.old stop) }
     ensures derives { IfOk result (λ kind. DerivesForm cursor.old.rest.now cursor.new.rest.now (plain_stmt_kind kind)) }
 {
     cursor.accept()?;
@@ -176,7 +192,8 @@ fn cobegin(alloc: Global, cursor: &mut Cursor, nd: bool) -> Result<StmtKind, Sto
 #[cycle(stmts)]
 fn atomic(alloc: Global, cursor: &mut Cursor) -> Result<StmtKind, Stop>
     ensures moves { OnOk result (Reads cursor.old cursor.new) }
-    ensures fault { IfErr result (λ stop. IsFault cursor.old.text stop) }
+    ensures reads { OnOk result (Reading (one is_atomic ∷ part Part.block ∷ []) cursor.old cursor.new) }
+    ensures stops { IfErr result (λ stop. StopsAt (one is_atomic ∷ part Part.block ∷ []) cursor.old stop) }
     ensures derives { IfOk result (λ kind. DerivesForm cursor.old.rest.now cursor.new.rest.now (plain_stmt_kind kind)) }
 {
     cursor.keyword(Keyword::Atomic)?;
@@ -188,7 +205,8 @@ fn atomic(alloc: Global, cursor: &mut Cursor) -> Result<StmtKind, Stop>
 fn foreach(alloc: Global, cursor: &mut Cursor, nd: bool) -> Result<StmtKind, Stop>
     requires { Next (Terminal.Keyword (foreach_word nd)) cursor.old.rest.now }
     ensures moves { OnOk result (Reads cursor.old cursor.new) }
-    ensures fault { IfErr result (λ stop. IsFault cursor.old.text stop) }
+    ensures reads { OnOk result (Reading (one is_any ∷ one is_open_paren ∷ part Part.range ∷ part Part.body ∷ []) cursor.old cursor.new) }
+    ensures stops { IfErr result (λ stop. StopsAt (one is_any ∷ one is_open_paren ∷ part Part.range ∷ part Part.body ∷ []) cursor.old stop) }
     ensures derives { IfOk result (λ kind. DerivesForm cursor.old.rest.now cursor.new.rest.now (plain_stmt_kind kind)) }
 {
     cursor.accept()?;
@@ -208,7 +226,8 @@ fn foreach(alloc: Global, cursor: &mut Cursor, nd: bool) -> Result<StmtKind, Sto
 #[cycle(stmts)]
 fn foreach_parts(alloc: Global, cursor: &mut Cursor) -> Result<StmtKind, Stop>
     ensures moves { OnOk result (Reads cursor.old cursor.new) }
-    ensures fault { IfErr result (λ stop. IsFault cursor.old.text stop) }
+    ensures reads { OnOk result (Reading (one is_foreach_parts ∷ one is_open_paren ∷ one is_name ∷ one is_comma ∷ part Part.range ∷ part Part.body ∷ []) cursor.old cursor.new) }
+    ensures stops { IfErr result (λ stop. StopsAt (one is_foreach_parts ∷ one is_open_paren ∷ one is_name ∷ one is_comma ∷ part Part.range ∷ part Part.body ∷ []) cursor.old stop) }
     ensures derives { IfOk result (λ kind. DerivesForm cursor.old.rest.now cursor.new.rest.now (plain_stmt_kind kind)) }
 {
     cursor.keyword(Keyword::ForeachParts)?;
@@ -238,7 +257,8 @@ struct Span {
 fn range(alloc: Global, cursor: &mut Cursor) -> Result<Span, Stop>
     requires { 1 ≤ cursor.old.level }
     ensures moves { OnOk result (Closes cursor.old cursor.new) }
-    ensures fault { IfErr result (λ stop. IsFault cursor.old.text stop) }
+    ensures reads { OnOk result (Reading (part Part.range ∷ []) cursor.old cursor.new) }
+    ensures stops { IfErr result (λ stop. StopsAt (part Part.range ∷ []) cursor.old stop) }
     ensures derives { IfOk result (λ span. DerivesRange cursor.old.rest.now cursor.new.rest.now span.var (plain_expr span.first) (plain_expr span.second)) }
 {
     cursor.keyword(Keyword::Int)?;
@@ -254,7 +274,8 @@ fn range(alloc: Global, cursor: &mut Cursor) -> Result<Span, Stop>
 /// A statement that holds no other one.
 fn simple(alloc: Global, cursor: &mut Cursor) -> Result<Stmt, Stop>
     ensures moves { OnOk result (Reads cursor.old cursor.new) }
-    ensures fault { IfErr result (λ stop. IsFault cursor.old.text stop) }
+    ensures reads { OnOk result (Reading (stmt_begins cursor.old.rest.now) cursor.old cursor.new) }
+    ensures stops { IfErr result (λ stop. StopsAt (stmt_begins cursor.old.rest.now) cursor.old stop) }
     ensures derives { IfOk result (λ s. DerivesStmt cursor.old.rest.now cursor.new.rest.now (plain_stmt s)) }
 {
     match cursor.next() {
@@ -271,7 +292,8 @@ fn simple(alloc: Global, cursor: &mut Cursor) -> Result<Stmt, Stop>
 #[tactic(auto, using(crate::proofs::Stating::return_alone, crate::proofs::Stating::return_with))]
 fn returned(alloc: Global, cursor: &mut Cursor) -> Result<Stmt, Stop>
     ensures moves { OnOk result (Reads cursor.old cursor.new) }
-    ensures fault { IfErr result (λ stop. IsFault cursor.old.text stop) }
+    ensures reads { OnOk result (Reading (one is_return ∷ part Part.return_rest ∷ []) cursor.old cursor.new) }
+    ensures stops { IfErr result (λ stop. StopsAt (one is_return ∷ part Part.return_rest ∷ []) cursor.old stop) }
     ensures derives { IfOk result (λ s. DerivesStmt cursor.old.rest.now cursor.new.rest.now (plain_stmt s)) }
 {
     let place = cursor.keyword(Keyword::Return)?;
@@ -285,7 +307,8 @@ fn returned(alloc: Global, cursor: &mut Cursor) -> Result<Stmt, Stop>
 /// `"print" "(" ( Expr | Text ) ")" ";"`
 fn printed(alloc: Global, cursor: &mut Cursor) -> Result<Stmt, Stop>
     ensures moves { OnOk result (Reads cursor.old cursor.new) }
-    ensures fault { IfErr result (λ stop. IsFault cursor.old.text stop) }
+    ensures reads { OnOk result (Reading (one is_print ∷ one is_open_paren ∷ part Part.shown ∷ one is_close_paren ∷ one is_semicolon ∷ []) cursor.old cursor.new) }
+    ensures stops { IfErr result (λ stop. StopsAt (one is_print ∷ one is_open_paren ∷ part Part.shown ∷ one is_close_paren ∷ one is_semicolon ∷ []) cursor.old stop) }
     ensures derives { IfOk result (λ s. DerivesStmt cursor.old.rest.now cursor.new.rest.now (plain_stmt s)) }
 {
     let place = cursor.keyword(Keyword::Print)?;
@@ -300,7 +323,8 @@ fn printed(alloc: Global, cursor: &mut Cursor) -> Result<Stmt, Stop>
 #[tactic(auto, using(crate::proofs::Stating::shown_value, crate::proofs::Stating::shown_text))]
 fn shown(alloc: Global, cursor: &mut Cursor) -> Result<StmtKind, Stop>
     ensures moves { OnOk result (Reads cursor.old cursor.new) }
-    ensures fault { IfErr result (λ stop. IsFault cursor.old.text stop) }
+    ensures reads { OnOk result (Reading (part Part.shown ∷ []) cursor.old cursor.new) }
+    ensures stops { IfErr result (λ stop. StopsAt (part Part.shown ∷ []) cursor.old stop) }
     ensures derives { IfOk result (λ kind. DerivesPrinted cursor.old.rest.now cursor.new.rest.now (plain_stmt_kind kind)) }
 {
     if let Some(Terminal::Text(text)) = cursor.next() {
@@ -315,7 +339,8 @@ fn shown(alloc: Global, cursor: &mut Cursor) -> Result<StmtKind, Stop>
 #[tactic(auto, using(crate::proofs::Stating::made_regions))]
 fn regions(alloc: Global, cursor: &mut Cursor) -> Result<Stmt, Stop>
     ensures moves { OnOk result (Reads cursor.old cursor.new) }
-    ensures fault { IfErr result (λ stop. IsFault cursor.old.text stop) }
+    ensures reads { OnOk result (Reading (one is_region ∷ part Part.names ∷ one is_semicolon ∷ []) cursor.old cursor.new) }
+    ensures stops { IfErr result (λ stop. StopsAt (one is_region ∷ part Part.names ∷ one is_semicolon ∷ []) cursor.old stop) }
     ensures derives { IfOk result (λ s. DerivesStmt cursor.old.rest.now cursor.new.rest.now (plain_stmt s)) }
 {
     let place = cursor.keyword(Keyword::Region)?;
@@ -326,7 +351,9 @@ fn regions(alloc: Global, cursor: &mut Cursor) -> Result<Stmt, Stop>
 
 /// Whether the statement is a declaration: it begins with `int`, `boolean`, `final`, or a name followed by a
 /// name, by `<`, or by `[` and `]`.
-fn declares(cursor: &Cursor) -> bool {
+fn declares(cursor: &Cursor) -> bool
+    ensures { result ≡ begins_declaration cursor.now.rest.now }
+{
     match cursor.next() {
         Some(Terminal::Keyword(Keyword::Int | Keyword::Boolean | Keyword::Final)) => true,
         Some(Terminal::Name(_)) => match cursor.second() {
@@ -349,7 +376,10 @@ fn closes_third(cursor: &Cursor) -> bool {
 /// `[ "final" ] Type Name "=" Expr ";"`
 fn declaration(alloc: Global, cursor: &mut Cursor) -> Result<Stmt, Stop>
     ensures moves { OnOk result (Reads cursor.old cursor.new) }
-    ensures fault { IfErr result (λ stop. IsFault cursor.old.text stop) }
+    requires declares { begins_declaration cursor.old.rest.now ≡ true }
+    requires anew { cursor.old.joined ≡ 0 }
+    ensures reads { OnOk result (Reading (stmt_begins cursor.old.rest.now) cursor.old cursor.new) }
+    ensures stops { IfErr result (λ stop. StopsAt (stmt_begins cursor.old.rest.now) cursor.old stop) }
     ensures derives { IfOk result (λ s. DerivesStmt cursor.old.rest.now cursor.new.rest.now (plain_stmt s)) }
 {
     let is_final = cursor.keyword_if(Keyword::Final)?;
@@ -370,7 +400,8 @@ fn declaration(alloc: Global, cursor: &mut Cursor) -> Result<Stmt, Stop>
 #[tactic(auto, using(crate::proofs::Stating::made_value))]
 fn value(alloc: Global, cursor: &mut Cursor) -> Result<Expr, Stop>
     ensures moves { OnOk result (Reads cursor.old cursor.new) }
-    ensures fault { IfErr result (λ stop. IsFault cursor.old.text stop) }
+    ensures reads { OnOk result (Reading (part Part.value ∷ []) cursor.old cursor.new) }
+    ensures stops { IfErr result (λ stop. StopsAt (part Part.value ∷ []) cursor.old stop) }
     ensures derives { IfOk result (λ e. DerivesValue cursor.old.rest.now cursor.new.rest.now (plain_expr e)) }
 {
     let value = expr(alloc, cursor)?;
@@ -392,7 +423,8 @@ fn assigns(cursor: &Cursor) -> bool {
 /// `Name "=" Expr ";"`
 fn assignment(alloc: Global, cursor: &mut Cursor) -> Result<Stmt, Stop>
     ensures moves { OnOk result (Reads cursor.old cursor.new) }
-    ensures fault { IfErr result (λ stop. IsFault cursor.old.text stop) }
+    ensures reads { OnOk result (Reading (one is_name ∷ one is_assign ∷ part Part.value ∷ []) cursor.old cursor.new) }
+    ensures stops { IfErr result (λ stop. StopsAt (one is_name ∷ one is_assign ∷ part Part.value ∷ []) cursor.old stop) }
     ensures derives { IfOk result (λ s. DerivesStmt cursor.old.rest.now cursor.new.rest.now (plain_stmt s)) }
 {
     let target = cursor.name()?;
@@ -405,7 +437,10 @@ fn assignment(alloc: Global, cursor: &mut Cursor) -> Result<Stmt, Stop>
 #[tactic(auto, using(crate::proofs::Stating::made_field_assignment, crate::proofs::Stating::made_element_assignment, crate::proofs::Stating::call_performed, crate::proofs::Stating::new_performed))]
 fn performed(alloc: Global, cursor: &mut Cursor) -> Result<Stmt, Stop>
     ensures moves { OnOk result (Reads cursor.old cursor.new) }
-    ensures fault { IfErr result (λ stop. IsFault cursor.old.text stop) }
+    requires target { IsTarget cursor.old.rest.now }
+    requires anew { cursor.old.joined ≡ 0 }
+    ensures reads { OnOk result (Reading (stmt_begins cursor.old.rest.now) cursor.old cursor.new) }
+    ensures stops { IfErr result (λ stop. StopsAt (stmt_begins cursor.old.rest.now) cursor.old stop) }
     ensures derives { IfOk result (λ s. DerivesStmt cursor.old.rest.now cursor.new.rest.now (plain_stmt s)) }
 {
     let target = target(alloc, cursor)?;

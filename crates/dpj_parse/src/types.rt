@@ -1,10 +1,11 @@
-ghost use Rattle.std.specs.Prelude.{◌≡◌, ◌+◌, ◌≤◌, length, IfOk, OnOk, IfErr};
-ghost use Rattle.dpj_parse.specs.Fault.{IsFault};
+ghost use Rattle.std.specs.Prelude.{◌≡◌, ◌+◌, ◌≤◌, length, IfOk, OnOk, IfErr, [], ◌∷◌};
+ghost use Rattle.dpj_parse.specs.Counted.{Reading, StopsAt};
+ghost use Rattle.dpj_parse.specs.Expecting.{Part, part};
 ghost use Rattle.dpj_parse.specs.Progress.{Keeps, Reads};
 ghost use Rattle.dpj_parse.specs.Taking.{Many};
 ghost use Rattle.dpj_parse.specs.Types.{DerivesBase, DerivesBehind, DerivesIndex, DerivesRegion, DerivesSuffix, DerivesType};
 
-use crate::cursor::{Cursor, MOST};
+use crate::cursor::Cursor;
 use crate::region::{args_if, rpl};
 use dpj_base::{Items, Stop};
 use dpj_terminals::Terminal;
@@ -16,12 +17,16 @@ use std::alloc::Global;
 #[tactic(auto, using(crate::specs::Types::type_of))]
 pub fn ty(alloc: Global, cursor: &mut Cursor) -> Result<TypeTree, Stop>
     ensures moves { OnOk result (Reads cursor.old cursor.new) }
-    ensures fault { IfErr result (λ stop. IsFault cursor.old.text stop) }
+    ensures reads { OnOk result (Reading (part Part.type ∷ []) cursor.old cursor.new) }
+    ensures stops { IfErr result (λ stop. StopsAt (part Part.type ∷ []) cursor.old stop) }
     ensures derives { IfOk result (λ tree. DerivesType cursor.old.rest.now cursor.new.rest.now tree) }
 {
+    let outer = cursor.joined;
+    cursor.joined = 0;
     let place = cursor.place();
     let base = base(alloc, cursor)?;
     let suffixes = suffixes(alloc, cursor)?;
+    cursor.joined = outer;
     Ok(TypeTree {
         place,
         base,
@@ -33,7 +38,8 @@ pub fn ty(alloc: Global, cursor: &mut Cursor) -> Result<TypeTree, Stop>
 #[tactic(auto, using(crate::proofs::TypeForms::base_int, crate::proofs::TypeForms::base_boolean, crate::specs::Types::class))]
 pub fn base(alloc: Global, cursor: &mut Cursor) -> Result<BaseTree, Stop>
     ensures moves { OnOk result (Reads cursor.old cursor.new) }
-    ensures fault { IfErr result (λ stop. IsFault cursor.old.text stop) }
+    ensures reads { OnOk result (Reading (part Part.base ∷ []) cursor.old cursor.new) }
+    ensures stops { IfErr result (λ stop. StopsAt (part Part.base ∷ []) cursor.old stop) }
     ensures derives { IfOk result (λ start. DerivesBase cursor.old.rest.now cursor.new.rest.now start) }
 {
     match cursor.next() {
@@ -57,16 +63,13 @@ pub fn base(alloc: Global, cursor: &mut Cursor) -> Result<BaseTree, Stop>
 #[tactic(auto, using(crate::proofs::Lists::many_more, crate::proofs::Lists::few_more, crate::specs::Taking::none, crate::proofs::TypeForms::suffix_of))]
 fn suffixes(alloc: Global, cursor: &mut Cursor) -> Result<Items<Suffix>, Stop>
     ensures moves { OnOk result (Keeps cursor.old cursor.new) }
-    ensures fault { IfErr result (λ stop. IsFault cursor.old.text stop) }
+    ensures reads { OnOk result (Reading (part Part.suffixes ∷ []) cursor.old cursor.new) }
+    ensures stops { IfErr result (λ stop. StopsAt (part Part.suffixes ∷ []) cursor.old stop) }
     ensures derives { IfOk result (λ suffixes. Many DerivesSuffix cursor.old.rest.now cursor.new.rest.now suffixes) }
-    ensures few { IfOk result (λ suffixes. length suffixes ≤ 32) }
 {
     let mut suffixes = Items::new(alloc);
     while cursor.is_symbol(Symbol::OpenBracket) {
-        if suffixes.len() >= MOST as usize {
-            return Err(cursor.too_many());
-        }
-        cursor.open(Symbol::OpenBracket)?;
+        cursor.join_open()?;
         cursor.close(Symbol::CloseBracket)?;
         suffixes.push(behind_brackets(alloc, cursor)?)?;
     }
@@ -77,7 +80,8 @@ fn suffixes(alloc: Global, cursor: &mut Cursor) -> Result<Items<Suffix>, Stop>
 #[tactic(auto, using(crate::specs::Types::behind))]
 pub fn behind_brackets(alloc: Global, cursor: &mut Cursor) -> Result<Suffix, Stop>
     ensures moves { OnOk result (Keeps cursor.old cursor.new) }
-    ensures fault { IfErr result (λ stop. IsFault cursor.old.text stop) }
+    ensures reads { OnOk result (Reading (part Part.brackets_behind ∷ []) cursor.old cursor.new) }
+    ensures stops { IfErr result (λ stop. StopsAt (part Part.brackets_behind ∷ []) cursor.old stop) }
     ensures derives { IfOk result (λ tree. DerivesBehind cursor.old.rest.now cursor.new.rest.now tree) }
 {
     let rpl = region_if(alloc, cursor)?;
@@ -89,7 +93,8 @@ pub fn behind_brackets(alloc: Global, cursor: &mut Cursor) -> Result<Suffix, Sto
 #[tactic(auto, using(crate::proofs::TypeForms::region_none, crate::proofs::TypeForms::region_some))]
 fn region_if(alloc: Global, cursor: &mut Cursor) -> Result<Option<RplTree>, Stop>
     ensures moves { OnOk result (Keeps cursor.old cursor.new) }
-    ensures fault { IfErr result (λ stop. IsFault cursor.old.text stop) }
+    ensures reads { OnOk result (Reading (part Part.region_if ∷ []) cursor.old cursor.new) }
+    ensures stops { IfErr result (λ stop. StopsAt (part Part.region_if ∷ []) cursor.old stop) }
     ensures derives { IfOk result (λ region. DerivesRegion cursor.old.rest.now cursor.new.rest.now region) }
 {
     if !cursor.symbol_if(Symbol::Less)? {
@@ -104,7 +109,8 @@ fn region_if(alloc: Global, cursor: &mut Cursor) -> Result<Option<RplTree>, Stop
 #[tactic(auto, using(crate::proofs::TypeForms::index_none, crate::proofs::TypeForms::index_some))]
 fn index_if(cursor: &mut Cursor) -> Result<Option<Named>, Stop>
     ensures moves { OnOk result (Keeps cursor.old cursor.new) }
-    ensures fault { IfErr result (λ stop. IsFault cursor.old.text stop) }
+    ensures reads { OnOk result (Reading (part Part.index_if ∷ []) cursor.old cursor.new) }
+    ensures stops { IfErr result (λ stop. StopsAt (part Part.index_if ∷ []) cursor.old stop) }
     ensures derives { IfOk result (λ index. DerivesIndex cursor.old.rest.now cursor.new.rest.now index) }
 {
     if !cursor.symbol_if(Symbol::Hash)? {

@@ -1,0 +1,1 @@
+-- The parts of the grammar's Stmt productions, by what they begin with.

@@ -1,0 +1,1 @@
+-- The parts of the grammar's Type productions, by what they begin with.
