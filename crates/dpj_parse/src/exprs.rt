@@ -363,9 +363,9 @@ fn listed(alloc: Global, cursor: &mut Cursor) -> Result<Items<Expr>, Stop>
 /// field, a call or an element behind it.
 #[tactic(auto, using(crate::proofs::Selecting::selections_postfix))]
 pub fn target(alloc: Global, cursor: &mut Cursor) -> Result<Expr, Stop>
-    ensures moves { OnOk result (Reads cursor.old cursor.new) }
     requires target { IsTarget cursor.old.rest.now }
     requires anew { cursor.old.joined ≡ 0 }
+    ensures moves { OnOk result (Reads cursor.old cursor.new) }
     ensures leads { IfOk result (λ e. Leads (counts cursor.old) cursor.old.rest.now (ending_of (plain_expr e)) (counts cursor.new) cursor.new.rest.now) }
     ensures stops { IfErr result (λ stop. StopsAt (stmt_begins cursor.old.rest.now) cursor.old stop) }
     ensures derives { IfOk result (λ e. DerivesPostfix (ending_of (plain_expr e)) cursor.old.rest.now cursor.new.rest.now (plain_expr e)) }

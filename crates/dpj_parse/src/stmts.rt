@@ -375,9 +375,9 @@ fn closes_third(cursor: &Cursor) -> bool {
 
 /// `[ "final" ] Type Name "=" Expr ";"`
 fn declaration(alloc: Global, cursor: &mut Cursor) -> Result<Stmt, Stop>
-    ensures moves { OnOk result (Reads cursor.old cursor.new) }
     requires declares { begins_declaration cursor.old.rest.now ≡ true }
     requires anew { cursor.old.joined ≡ 0 }
+    ensures moves { OnOk result (Reads cursor.old cursor.new) }
     ensures reads { OnOk result (Reading (stmt_begins cursor.old.rest.now) cursor.old cursor.new) }
     ensures stops { IfErr result (λ stop. StopsAt (stmt_begins cursor.old.rest.now) cursor.old stop) }
     ensures derives { IfOk result (λ s. DerivesStmt cursor.old.rest.now cursor.new.rest.now (plain_stmt s)) }
@@ -436,9 +436,9 @@ fn assignment(alloc: Global, cursor: &mut Cursor) -> Result<Stmt, Stop>
 /// `Postfix "=" Expr ";"` where it ends as a field or element, and `Postfix ";"` where as a call or creation.
 #[tactic(auto, using(crate::proofs::Stating::made_field_assignment, crate::proofs::Stating::made_element_assignment, crate::proofs::Stating::call_performed, crate::proofs::Stating::new_performed))]
 fn performed(alloc: Global, cursor: &mut Cursor) -> Result<Stmt, Stop>
-    ensures moves { OnOk result (Reads cursor.old cursor.new) }
     requires target { IsTarget cursor.old.rest.now }
     requires anew { cursor.old.joined ≡ 0 }
+    ensures moves { OnOk result (Reads cursor.old cursor.new) }
     ensures reads { OnOk result (Reading (stmt_begins cursor.old.rest.now) cursor.old cursor.new) }
     ensures stops { IfErr result (λ stop. StopsAt (stmt_begins cursor.old.rest.now) cursor.old stop) }
     ensures derives { IfOk result (λ s. DerivesStmt cursor.old.rest.now cursor.new.rest.now (plain_stmt s)) }
