@@ -89,6 +89,7 @@ made p.actuals_rest after = front (record { terminal = terminal.Symbol Symbol.Cl
 made p.listed after = front (record { terminal = terminal.Int (pos 0); place = nowhere } ∷ after) (record { mid = _; first = _; others = no_exprs; level = (operand (postfix (primary (number takes)))); further = end })
 made p.more_listed after = front (after) (no_exprs, end)
 made p.stmt after = front (record { terminal = terminal.Symbol Symbol.OpenBrace; place = nowhere } ∷ record { terminal = terminal.Symbol Symbol.CloseBrace; place = nowhere } ∷ after) (_, (at_first (stands nowhere _) (blocked (braces takes DerivesStmts.none takes))))
+made p.body after = front (record { terminal = terminal.Symbol Symbol.OpenBrace; place = nowhere } ∷ record { terminal = terminal.Symbol Symbol.CloseBrace; place = nowhere } ∷ after) (_, (at_first (stands nowhere _) (blocked (braces takes DerivesStmts.none takes))))
 made p.block after = front (record { terminal = terminal.Symbol Symbol.OpenBrace; place = nowhere } ∷ record { terminal = terminal.Symbol Symbol.CloseBrace; place = nowhere } ∷ after) (_, (braces takes DerivesStmts.none takes))
 made p.stmts after = front (after) (no_stmts, DerivesStmts.none)
 made p.condition after = front (record { terminal = terminal.Symbol Symbol.OpenParen; place = nowhere } ∷ record { terminal = terminal.Int (pos 0); place = nowhere } ∷ record { terminal = terminal.Symbol Symbol.CloseParen; place = nowhere } ∷ after) (_, condition takes (operand (postfix (primary (number takes)))) takes)

@@ -193,6 +193,9 @@ assigned_passes : {ending : Ending} {before after two rest : List Placed} {e giv
 assigned_passes {place = place} d is t v =
     record { goes = λ s. target_steps d (rw t.first refl) (step_next t (assign_goes_on place d is) (taken t refl ((value_passes v).goes s))) }
 
+as_body : {before after : List Placed} → Passes (part p.stmt ∷ []) before after → Passes (part p.body ∷ []) before after
+as_body s = rule refl s
+
 mutual
   pub block_passes : {before after : List Placed} {all : PlainStmts} → DerivesBlock before after all → Passes (part p.block ∷ []) before after
   block_passes (braces o ss c) = rule refl (link (took o refl) (link (stmts_pass ss (rw c.first refl)) (took c refl)))
@@ -214,12 +217,12 @@ mutual
   form_passes : {before after : List Placed} {form : StmtForm} → DerivesForm before after form → Passes (part p.stmt ∷ []) before after
   form_passes (blocked (braces o ss c)) = on_next o refl (block_passes (braces o ss c))
   form_passes {after = after} (if_alone t c s n) =
-      on_next t refl (link (took t refl) (link (condition_passes c) (link (stmt_passes s) (unless _ is_else refl
+      on_next t refl (link (took t refl) (link (condition_passes c) (link (as_body (stmt_passes s)) (unless _ is_else refl
       (not_next after is_else n else_or_not) nothing))))
   form_passes (if_else t c s e r) =
-      on_next t refl (link (took t refl) (link (condition_passes c) (link (stmt_passes s) (where_next _ is_else refl (rw e.first refl) (link (took e refl)
-      (stmt_passes r))))))
-  form_passes (turning t c s) = on_next t refl (link (took t refl) (link (condition_passes c) (stmt_passes s)))
+      on_next t refl (link (took t refl) (link (condition_passes c) (link (as_body (stmt_passes s)) (where_next _ is_else refl (rw e.first refl) (link (took e refl)
+      (as_body (stmt_passes r)))))))
+  form_passes (turning t c s) = on_next t refl (link (took t refl) (link (condition_passes c) (as_body (stmt_passes s))))
   form_passes (bare_return t c) = on_next t refl (link (took t refl) (where_next _ is_semicolon refl (rw c.first refl) (took c refl)))
   form_passes (return_with t v) = on_next t refl (link (took t refl) (unless _ is_semicolon refl (value_no_semicolon v) (value_passes v)))
   form_passes (printed t (condition {one = here} o d c) e) =
@@ -230,9 +233,9 @@ mutual
       (took e refl)))))
   form_passes (branching {nd = false} t b) = on_next t refl (link (took t refl) (block_passes b))
   form_passes (branching {nd = true} t b) = on_next t refl (link (took t refl) (block_passes b))
-  form_passes (spreading {nd = false} t o r s) = on_next t refl (link (took t refl) (link (took o refl) (link (range_passes r) (stmt_passes s))))
-  form_passes (spreading {nd = true} t o r s) = on_next t refl (link (took t refl) (link (took o refl) (link (range_passes r) (stmt_passes s))))
+  form_passes (spreading {nd = false} t o r s) = on_next t refl (link (took t refl) (link (took o refl) (link (range_passes r) (as_body (stmt_passes s)))))
+  form_passes (spreading {nd = true} t o r s) = on_next t refl (link (took t refl) (link (took o refl) (link (range_passes r) (as_body (stmt_passes s)))))
   form_passes (parting t o v c r s) =
-      on_next t refl (link (took t refl) (link (took o refl) (link (took v refl) (link (took c refl) (link (range_passes r) (stmt_passes s))))))
+      on_next t refl (link (took t refl) (link (took o refl) (link (took v refl) (link (took c refl) (link (range_passes r) (as_body (stmt_passes s)))))))
   form_passes (in_one t b) = on_next t refl (link (took t refl) (block_passes b))
   form_passes (new_regions t n c) = on_next t refl (link (took t refl) (link (names_pass n (rw c.first refl)) (took c refl)))

@@ -14,6 +14,7 @@ pub mod Held
 pub mod Sized
 pub mod Targeted
 pub mod Coming
+pub mod Readings
 pub mod Composed
 pub mod PathParts
 pub mod TypeParts
@@ -51,4 +52,3 @@ pub mod Viability
 pub mod Settled
 pub mod Decided
 pub mod Refused
-pub mod RefusedOnce

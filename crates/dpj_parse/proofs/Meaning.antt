@@ -57,6 +57,7 @@ meant p.actuals_rest before after h = actuals_rest_of {before = before} {after =
 meant p.listed before after h = listed_of {before = before} {after = after} h
 meant p.more_listed before after h = more_listed_of {before = before} {after = after} h
 meant p.stmt before after h = stmt_means {before = before} {after = after} h
+meant p.body before after h = h
 meant p.block before after h = block_of {before = before} {after = after} h
 meant p.stmts before after h = stmts_of {before = before} {after = after} h
 meant p.condition before after h = condition_of {before = before} {after = after} h

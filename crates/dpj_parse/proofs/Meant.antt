@@ -140,6 +140,7 @@ Meant p.actuals_rest before after = (s : List Placed) (place : Place) → TakesS
 Meant p.listed before after = Args before after
 Meant p.more_listed before after = (es : PlainExprs) × DerivesFurther before after es
 Meant p.stmt before after = Stated before after
+Meant p.body before after = Stated before after
 Meant p.block before after = (t : PlainStmts) × DerivesBlock before after t
 Meant p.stmts before after = (t : PlainStmts) × DerivesStmts before after t
 Meant p.condition before after = (e : PlainExpr) × DerivesCondition before after e

@@ -69,7 +69,7 @@ condition_of h = (_, condition (signed Symbol.OpenParen h.first) h.others.first.
 
 pub else_if_of : {before after : List Placed} → AllOf (choose p.else_if (next_of before)) before after → Meant p.else_if before after
 else_if_of {before} {after} h =
-    either (next_is is_else (next_of before)) (one is_else ∷ part p.stmt ∷ []) [] before after (Meant p.else_if before after) h
+    either (next_is is_else (next_of before)) (one is_else ∷ part p.body ∷ []) [] before after (Meant p.else_if before after) h
     (λ h s i j place test body t c d. (_, if_else t c d (worded Keyword.Else h.first) h.others.1))
     (λ f is s i j place test body t c d. subst (λ (l : List Placed). Formed s l) is (_, if_alone t c d (no_word Keyword.Else f)))
 

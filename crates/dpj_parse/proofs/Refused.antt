@@ -1,81 +1,89 @@
--- Where a text is lost it has its fault of syntax, and in front of that it can still become a program.
-use Rattle.std.proofs.Common.{◌≡◌, ◌∙◌, ◌≤◌, ◌<◌, List, [], ◌∷◌, ◌++◌, length, inl, inr, append_assoc, refl, sym, ap, subst, arith}
-use Rattle.std.proofs.lemmas.List.{append-nil, length-append}
+-- A text is read within the limits, or it is refused, and what that means for the programs that begin as it does.
+use Rattle.std.proofs.Common.{◌≡◌, ◌∙◌, ◌⊎◌, inl, inr, ℕ, suc, length, arith, List, [], ◌∷◌, ◌++◌, append_assoc, refl, sym, ap, subst}
 use Rattle.dpj_base.specs.declared.place.Place.{Place}
 use Rattle.dpj_base.specs.declared.refusal.Kind.TheVariants as kind
+use Rattle.dpj_base.specs.declared.refusal.Refusal.{Refusal}
+use Rattle.dpj_tokens.specs.declared.token.Token.{Token}
 use Rattle.dpj_terminals.specs.declared.terminal.Placed.{Placed}
+use Rattle.dpj_terminals.specs.Says.{MeanAll, distinct_names}
 use Rattle.dpj_tree.specs.declared.class.Class.{Class}
+use Rattle.dpj_tree.specs.declared.class.Program.{Program}
 use Rattle.dpj_parse.specs.Classes.{DerivesProgram}
-use Rattle.dpj_parse.specs.Expecting.{Expected, part, next_of, Steps}
+use Rattle.dpj_parse.specs.Expecting.{Expected, part, Steps, stay, IsLost}
+use Rattle.dpj_parse.specs.Limits.{Within}
+use Rattle.dpj_parse.proofs.Settled.{Settled, settled}
 use Rattle.dpj_parse.specs.Expecting.{Part as p}
-use Rattle.dpj_parse.specs.Following.{IsLostAt, EndsWith}
-use Rattle.dpj_parse.specs.Refusing.{IsSyntaxFault, CanGoOn, IsRefusedIn, syntax, nest}
+use Rattle.dpj_parse.specs.Program.{IsProgram, IsGrammarFault}
+use Rattle.dpj_parse.specs.Refusing.{at_start, IsWithin, IsRefusedIn, IsSyntaxFault, CanGoOn}
 use Rattle.dpj_parse.specs.Taking.{place_of}
 use Rattle.dpj_parse.specs.Viable.{IsViable, HasSyntaxFault}
 use Rattle.dpj_parse.proofs.Expected.{alike}
 use Rattle.dpj_parse.proofs.Decided.{fault_at}
-use Rattle.dpj_parse.proofs.OneFault.{Further, compared}
-use Rattle.dpj_parse.proofs.Viability.{read_program}
+use Rattle.dpj_parse.proofs.OnceText.{terminals_once}
+use Rattle.dpj_parse.proofs.Readings.{Ended, whole, halted, ended, whole_text, Cause, lost, over, Stopped, stopped_steps, within_steps, once_stopped, read_or_stopped, passed_on}
+use Rattle.dpj_parse.proofs.Viability.{read_program, viable}
 
--- the fault of a text that is lost, and where it stands
-record Fault (list here : List Placed) : Type 0 where
-  read : List Placed
-  fault : HasSyntaxFault list read here
+pub refused_once : (list : List Placed) (end : Place) (left right : Refusal) → IsRefusedIn list end left → IsRefusedIn list end right → left ≡ right
+refused_once list end left right l r =
+    let m = once_stopped l.stops r.stops in
+    let place : left.place ≡ right.place = l.place ∙ ap (λ here. place_of here end) m.1 ∙ sym r.place in
+    ap (λ kind. record { kind = kind; place = left.place }) m.0 ∙ ap (λ at. record { kind = right.kind; place = at }) place
 
-fault_of : {list here : List Placed} → IsLostAt (part p.program ∷ []) list here → Fault list here
-fault_of {list} {here} l =
-    let s = l.steps in
-    let a = alike s in
-    let steps : Steps l.to here (part p.program ∷ []) (a.read ++ here) = subst (λ (m : List Placed). Steps l.to here (part p.program ∷ []) m) a.is s in
-    record { read = a.read; fault = subst (λ (m : List Placed). HasSyntaxFault m a.read here) (sym a.is) (fault_at a.read here steps l.lost) }
+pub not_refused : (list : List Placed) (end : Place) (refusal : Refusal) → IsRefusedIn list end refusal → IsWithin list → ⊥
+not_refused list end refusal r w = read_or_stopped w.1 r.stops
 
-pub lost_told : {list here : List Placed} {end place : Place} → IsLostAt (part p.program ∷ []) list here → place ≡ place_of here end → IsRefusedIn list end (record { kind = kind.Syntax; place = place })
-lost_told {list} {here} l is = let f = fault_of l in syntax (record { read = f.read; here = here; fault = f.fault; is = is })
+pub read_derives : {list : List Placed} → IsWithin list → (classes : List Class) × DerivesProgram list classes
+read_derives w = read_program (within_steps [] w.1 stay)
 
--- what can become a program can do so at each earlier place
-earlier : (read more : List Placed) → IsViable (read ++ more) → IsViable read
-earlier read more v = record { others = more ++ v.others; classes = v.classes; derived = subst (λ (l : List Placed). DerivesProgram l v.classes) (append_assoc read more v.others) v.derived }
+syntax_of : {list here : List Placed} {end place : Place} → Stopped kind.Syntax (part p.program ∷ []) list here → place ≡ place_of here end → IsSyntaxFault list end place
+syntax_of {list} {here} {end} {place} s is = by s.cause s.steps
+  where
+    by : {to : List Expected} → Cause kind.Syntax to here → Steps to here (part p.program ∷ []) list → IsSyntaxFault list end place
+    by {to} (lost l) steps =
+        let a = alike steps in
+        let again = subst (λ (m : List Placed). Steps to here (part p.program ∷ []) m) a.is steps in
+        record { read = a.read; here = here; fault = subst (λ (m : List Placed). HasSyntaxFault m a.read here) (sym a.is) (fault_at a.read here again l); is = is }
 
-first_of : (read more : List Placed) (next : Placed) → IsViable (read ++ (next ∷ more)) → IsViable (read ++ (next ∷ []))
-first_of read more next v = earlier (read ++ (next ∷ [])) more (subst IsViable (sym (append_assoc read (next ∷ []) more)) v)
+nest_of : (end : Place) {list here : List Placed} {place : Place} → Stopped kind.Nest (part p.program ∷ []) list here → place ≡ place_of here end → CanGoOn list place
+nest_of end {list} {here} {place} s is = by s.cause s.steps is
+  where
+    by : {to : List Expected} {here : List Placed} → Cause kind.Nest to here → Steps to here (part p.program ∷ []) list → place ≡ place_of here end → CanGoOn list place
+    by (over {others = others} {next = next} {after = after} e) steps is =
+        let a = alike steps in
+        let on : Steps others after (part p.program ∷ []) list = passed_on e steps in
+        let again : Steps others after (part p.program ∷ []) ((a.read ++ (next ∷ [])) ++ after) = subst (λ (m : List Placed). Steps others after (part p.program ∷ []) m) (a.is ∙ sym (append_assoc a.read (next ∷ []) after)) on in
+        record { read = a.read; next = next; after = after; is = a.is; viable = viable (a.read ++ (next ∷ [])) after again; stands = is }
 
-whole_viable : (list : List Placed) → Steps [] [] (part p.program ∷ []) list → (read rest : List Placed) → list ≡ read ++ rest → IsViable (read ++ rest)
-whole_viable list s read rest is =
-    let d = read_program s in
-    record { others = []; classes = d.0; derived = subst (λ (l : List Placed). DerivesProgram l d.0) (is ∙ sym (append-nil (read ++ rest))) d.1 }
+pub syntax_fault : (list : List Placed) (end place : Place) → IsRefusedIn list end (record { kind = kind.Syntax; place = place }) → IsSyntaxFault list end place
+syntax_fault list end place r = syntax_of (stopped_steps [] r.stops) r.place
 
--- a text that is read to its end goes on at each place
-pub read_goes_on : {list rest : List Placed} → Steps [] [] (part p.program ∷ []) list → EndsWith list rest → CanGoOn list rest
-read_goes_on {list} {rest} s e = record {
-  read = e.read;
-  is = e.is;
-  viable = λ next after is. first_of e.read after next (subst (λ (l : List Placed). IsViable (e.read ++ l)) is (whole_viable list s e.read rest e.is));
-}
+pub nest_fault : (list : List Placed) (end place : Place) → IsRefusedIn list end (record { kind = kind.Nest; place = place }) → CanGoOn list place
+nest_fault list end place r = nest_of end (stopped_steps [] r.stops) r.place
 
-shorter : (read first rest here : List Placed) → read ++ rest ≡ first ++ here → length here < length rest → (next : Placed) (more : List Placed) → read ≡ first ++ (next ∷ more) → ⊥
-shorter read first rest here same less next more is =
-    let n = ap length same in
-    let m = ap length is in
-    omega (arith, n, m, less, length-append read rest, length-append first here, length-append first (next ∷ more))
+pub told_once : (bytes : List ℕ) (tokens : List Token) (end : Place) (left right : Refusal) → IsGrammarFault bytes tokens end left → IsGrammarFault bytes tokens end right → left ≡ right
+told_once bytes tokens end left right l r =
+    let same : l.list ≡ r.list = terminals_once bytes tokens l.list r.list l.said r.said in
+    refused_once r.list end left right (subst (λ (list : List Placed). IsRefusedIn list end left) same l.told) r.told
 
--- and one that is lost, up to there
-pub lost_goes_on : {list rest here : List Placed} → IsLostAt (part p.program ∷ []) list here → EndsWith list rest → length here < length rest → CanGoOn list rest
-lost_goes_on {list} {rest} {here} l e less =
-    let f = fault_of l in
-    let same : e.read ++ rest ≡ f.read ++ here = sym e.is ∙ f.fault.is in
-    record {
-      read = e.read;
-      is = e.is;
-      viable = λ next after is. elim (compared e.read rest f.read here same) [
-        | inl equal ↦ absurd (let n = ap length same in let m = ap length equal in omega (arith, n, m, less, length-append e.read rest, length-append f.read here))
-        | inr (inl g) ↦
-            let first : next ≡ g.next = let b = g.begins in cc in
-            let v : IsViable (e.read ++ (g.next ∷ g.more)) = subst IsViable g.is f.fault.viable in
-            subst (λ (n : Placed). IsViable (e.read ++ (n ∷ []))) (sym first) (first_of e.read g.more g.next v)
-        | inr (inr g) ↦ absurd (shorter e.read f.read rest here same less g.next g.more g.is)
-      ];
-    }
+pub no_program : (bytes : List ℕ) (tokens : List Token) (end : Place) (refusal : Refusal) (program : Program) → IsGrammarFault bytes tokens end refusal → IsProgram bytes tokens program → ⊥
+no_program bytes tokens end refusal program f d =
+    let said : MeanAll (distinct_names bytes tokens) bytes tokens d.list = subst (λ (names : List (List ℕ)). MeanAll names bytes tokens d.list) d.names d.said in
+    let same : d.list ≡ f.list = terminals_once bytes tokens d.list f.list said f.said in
+    not_refused f.list end refusal f.told (subst IsWithin same d.within)
 
-pub nest_told : (list rest : List Placed) {end place : Place} → CanGoOn list rest → 1 ≤ length rest → place ≡ place_of rest end → IsRefusedIn list end (record { kind = kind.Nest; place = place })
-nest_told list [] g some is = absurd (omega arith)
-nest_told list (next ∷ after) g some is = rw is (nest g.read after next g.is (g.viable next after refl))
+pub read_or_refused : (list : List Placed) (end : Place) → (((classes : List Class) × DerivesProgram list classes) × IsWithin list) ⊎ ((refusal : Refusal) × IsRefusedIn list end refusal)
+read_or_refused list end = by (ended at_start (part p.program ∷ []) list (settled_end s.ends) s.steps)
+  where
+    s : Settled (part p.program ∷ []) list
+    s = settled (suc (length list)) (part p.program ∷ []) list (omega arith)
+
+    settled_end : IsLost s.to s.left ⊎ ((s.to ≡ []) × (s.left ≡ [])) → IsLost s.to s.left ⊎ (s.to ≡ [])
+    settled_end (inl l) = inl l
+    settled_end (inr done) = inr done.0
+
+    by : Ended at_start (part p.program ∷ []) list → (((classes : List Class) × DerivesProgram list classes) × IsWithin list) ⊎ ((refusal : Refusal) × IsRefusedIn list end refusal)
+    by (whole {d = d} w) =
+        let none = whole_text (within_steps [] w stay) in
+        let all : IsWithin list = (d, subst (λ after. Within at_start (part p.program ∷ []) list d after) none w) in
+        inl (read_derives all, all)
+    by (halted {k = k} {here = here} r) = inr (record { kind = k; place = place_of here end }, record { here = here; stops = r; place = refl })

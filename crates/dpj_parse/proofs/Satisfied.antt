@@ -177,6 +177,7 @@ good p.actuals_rest next = some_next (decided (next_is is_close_paren next) (pas
 good p.listed next = some_next (part_next (part_next nothing_next))
 good p.more_listed next = some_next (decided (next_is is_comma next) (passed (terminal.Symbol Symbol.Comma) refl (part_next (part_next nothing_next))) (nothing_next))
 good p.stmt next = some_next (by_next next (part p.performed ∷ []) stmt_parts (part_next nothing_next) good_stmt_parts)
+good p.body next = some_next (part_next nothing_next)
 good p.block next = some_next (passed (terminal.Symbol Symbol.OpenBrace) refl (part_next (passed (terminal.Symbol Symbol.CloseBrace) refl nothing_next)))
 good p.stmts next = some_next (decided (next_is is_close_brace next) (nothing_next) (part_next (part_next nothing_next)))
 good p.condition next = some_next (passed (terminal.Symbol Symbol.OpenParen) refl (part_next (passed (terminal.Symbol Symbol.CloseParen) refl nothing_next)))

@@ -7,14 +7,15 @@ use Rattle.dpj_terminals.specs.declared.terminal.Placed.{Placed}
 use Rattle.dpj_terminals.specs.Says.{MeanAll, distinct_names}
 use Rattle.dpj_tree.specs.declared.class.Program.{Program}
 use Rattle.dpj_parse.specs.Classes.{DerivesProgram}
-use Rattle.dpj_parse.specs.Refusing.{IsRefusedIn}
+use Rattle.dpj_parse.specs.Refusing.{IsWithin, IsRefusedIn}
 
--- the terminals that these tokens of a text say derive the program, which has the distinct names among them
+-- the terminals that these tokens of a text say derive the program within the limits, which has the distinct names among them
 pub record IsProgram (bytes : List ℕ) (tokens : List Token) (program : Program) : Type 0 where
   pub list : List Placed
   pub names : program.names ≡ distinct_names bytes tokens
   pub said : MeanAll program.names bytes tokens list
   pub derived : DerivesProgram list program.classes
+  pub within : IsWithin list
 
 -- the terminals that these tokens of a text say are refused, the text ending at a place
 pub record IsGrammarFault (bytes : List ℕ) (tokens : List Token) (end : Place) (refusal : Refusal) : Type 0 where

@@ -1,11 +1,23 @@
--- Where a text is refused.
+-- Where a text is refused: where its reading stops.
 use Rattle.std.specs.Prelude.{◌≡◌, List, [], ◌∷◌, ◌++◌}
 use Rattle.dpj_base.specs.declared.place.Place.{Place}
-use Rattle.dpj_base.specs.declared.refusal.Kind.TheVariants as kind
 use Rattle.dpj_base.specs.declared.refusal.Refusal.{Refusal}
 use Rattle.dpj_terminals.specs.declared.terminal.Placed.{Placed}
+use Rattle.dpj_parse.specs.Expecting.{Part, part}
+use Rattle.dpj_parse.specs.Limits.{Counts, Within, Refuses}
 use Rattle.dpj_parse.specs.Taking.{place_of}
 use Rattle.dpj_parse.specs.Viable.{IsViable, HasSyntaxFault}
+
+abbrev pub at_start : Counts
+at_start = record { level = 0; joined = 0 }
+
+-- the whole text is read within the limits
+abbrev pub IsWithin : List Placed → Type 0
+IsWithin list = (counts : Counts) × Within at_start (part Part.program ∷ []) list counts []
+
+-- a text is refused at the first terminal that can't come or is one too many, or at its end
+abbrev pub IsRefusedIn : List Placed → Place → Refusal → Type 0
+IsRefusedIn list end refusal = Refuses at_start (part Part.program ∷ []) list end refusal
 
 -- the place of a text's fault of syntax: that of the first terminal with which no program goes on, or the end
 pub record IsSyntaxFault (list : List Placed) (end place : Place) : Type 0 where
@@ -14,14 +26,11 @@ pub record IsSyntaxFault (list : List Placed) (end place : Place) : Type 0 where
   pub fault : HasSyntaxFault list read here
   pub is : place ≡ place_of here end
 
--- a text ends with these terminals, and up to the first of them it can still become a program
-pub record CanGoOn (list rest : List Placed) : Type 0 where
+-- a place of a text where a terminal stands with which it can still become a program
+pub record CanGoOn (list : List Placed) (place : Place) : Type 0 where
   pub read : List Placed
-  pub is : list ≡ read ++ rest
-  pub viable : (next : Placed) (after : List Placed) → rest ≡ next ∷ after → IsViable (read ++ (next ∷ []))
-
--- a text is refused at its fault of syntax, or in front of that at a terminal that is one too many
-pub data IsRefusedIn (list : List Placed) (end : Place) : Refusal → Type 0 where
-  syntax : {place : Place} → IsSyntaxFault list end place → IsRefusedIn list end (record { kind = kind.Syntax; place = place })
-  nest : (read after : List Placed) (next : Placed) → list ≡ read ++ (next ∷ after) → IsViable (read ++ (next ∷ [])) →
-      IsRefusedIn list end (record { kind = kind.Nest; place = next.place })
+  pub next : Placed
+  pub after : List Placed
+  pub is : list ≡ read ++ (next ∷ after)
+  pub viable : IsViable (read ++ (next ∷ []))
+  pub stands : place ≡ next.place
