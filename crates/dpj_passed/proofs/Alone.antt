@@ -1,19 +1,17 @@
--- A text that passes does so as one program, and has no fault but of its grammar.
-use Rattle.std.proofs.Common.{◌≡◌, List, inl, inr, refl, sym, subst}
-use Rattle.dpj_base.specs.declared.refusal.Kind.TheVariants as kind
+-- A text passes as one program, or it has one fault.
+use Rattle.std.proofs.Common.{◌≡◌, ◌∙◌, ℕ, List, inl, inr, ap, sym, subst}
+use Rattle.dpj_base.specs.declared.place.Place.{Place}
 use Rattle.dpj_base.specs.declared.refusal.Refusal.{Refusal}
 use Rattle.dpj_tokens.specs.declared.token.Token.{Token}
 use Rattle.dpj_tokens.specs.Cutting.{OneCutting}
-use Rattle.dpj_terminals.specs.declared.terminal.Placed.{Placed}
-use Rattle.dpj_terminals.specs.Says.{MeanAll, distinct_names}
 use Rattle.dpj_parse.specs.OneProgram.{OneProgram}
 use Rattle.dpj_parse.specs.OneRefusal.{OneRefusal}
-use Rattle.dpj_parse.specs.Refusing.{IsRefusedIn, nest, syntax}
 use Rattle.dpj_parse.specs.Program.{IsProgram}
 use Rattle.dpj_tree.specs.declared.class.Program.{Program}
-use Rattle.dpj_front.specs.Front.{IsFault, IsLaterFault, IsPassed, IsTokenFault, of_grammar, of_program}
+use Rattle.dpj_typed.specs.Plain.{PlainProgram}
+use Rattle.dpj_front.specs.Front.{first_place, IsFault, IsLaterFault, IsPassed, IsTokenFault, of_grammar, of_program}
 use Rattle.dpj_front.specs.Judging.{IsAccepted, IsFaulty, OneJudgement}
-use Rattle.dpj_passed.specs.Laws.{NoOtherFault, OnePassing}
+use Rattle.dpj_passed.specs.Laws.{OneVerdict, OnePassing}
 
 pub one_passing : OneCutting → OneProgram → OneJudgement → OnePassing
 one_passing cutting programs judgement text place other one another p q =
@@ -22,25 +20,39 @@ one_passing cutting programs judgement text place other one another p q =
     let tree : q.has_program.program ≡ p.has_program.program = programs text p.tokens q.has_program.program p.has_program.program derived p.has_program.derived in
     judgement.one_program p.has_program.program one another p.has_program.accepted (subst (λ t. IsAccepted t another) tree q.has_program.accepted)
 
-pub no_other_fault : OneCutting → OneProgram → OneRefusal → OneJudgement → NoOtherFault
-no_other_fault cutting programs refusals judgement text place typed refusal p fault = elim fault [
-  | inl at ↦ absurd (cutting.either text p.tokens p.end refusal p.cut at)
-  | inr later ↦ by later later.fault
-]
+pub one_verdict : OneCutting → OneProgram → OneRefusal → OneJudgement → OneVerdict
+one_verdict cutting programs refusals judgement = record { one_fault = one_fault; not_both = not_both; one_place = one_place }
   where
-    same : (later : IsLaterFault text refusal) → later.tokens ≡ p.tokens
-    same later = (cutting.tokens text later.tokens p.tokens later.end p.end later.cut p.cut).0
+    one_place : (text : List ℕ) (place other : Place) (one another : PlainProgram) → IsPassed text place one → IsPassed text other another → place ≡ other
+    one_place text place other one another p q =
+        let same = cutting.tokens text p.tokens q.tokens p.end q.end p.cut q.cut in
+        p.first ∙ ap (λ ts. first_place ts p.end) same.0 ∙ ap (λ end. first_place q.tokens end) same.1 ∙ sym q.first
 
-    told : (later : IsLaterFault text refusal) (r : Refusal) → refusal ≡ r → (list : List Placed) → MeanAll (distinct_names text later.tokens) text later.tokens list → IsRefusedIn list later.end r →
-        r.kind ≡ kind.Nest
-    told later r is list said (nest read after next at viable) = refl
-    told later r is list said (syntax {place = at} lost) =
-        absurd (refusals.none text later.tokens later.end at p.has_program.program (record { list = list; said = said; told = syntax lost })
-        (subst (λ ts. IsProgram text ts p.has_program.program) (sym (same later)) p.has_program.derived))
+    -- two faults of one program, or of one grammar
+    later : (text : List ℕ) (tokens : List Token) (end : Place) (first second : Refusal) → IsTokenFault text tokens end first → IsTokenFault text tokens end second → first ≡ second
+    later text tokens end first second (of_grammar f) (of_grammar g) = refusals.told_once text tokens end first second f g
+    later text tokens end first second (of_grammar f) (of_program program d faulty) = absurd (refusals.no_program text tokens end first program f d)
+    later text tokens end first second (of_program program d faulty) (of_grammar g) = absurd (refusals.no_program text tokens end second program g d)
+    later text tokens end first second (of_program program d faulty) (of_program other e broken) =
+        let tree : other ≡ program = programs text tokens other program e d in
+        judgement.one_fault program first second faulty (subst (λ t. IsFaulty t second) tree broken)
 
-    by : (later : IsLaterFault text refusal) → IsTokenFault text later.tokens later.end refusal → refusal.kind ≡ kind.Nest
-    by later (of_grammar f) = told later refusal refl f.list f.said f.told
-    by later (of_program program derived faulty) =
-        let again = subst (λ ts. IsProgram text ts program) (same later) derived in
-        let tree : program ≡ p.has_program.program = programs text p.tokens program p.has_program.program again p.has_program.derived in
-        absurd (judgement.not_both p.has_program.program typed refusal p.has_program.accepted (subst (λ t. IsFaulty t refusal) tree faulty))
+    one_fault : (text : List ℕ) (first second : Refusal) → IsFault text first → IsFault text second → first ≡ second
+    one_fault text first second (inl f) (inl g) = cutting.faults text first second f g
+    one_fault text first second (inl f) (inr g) = absurd (cutting.either text g.tokens g.end first g.cut f)
+    one_fault text first second (inr f) (inl g) = absurd (cutting.either text f.tokens f.end second f.cut g)
+    one_fault text first second (inr f) (inr g) =
+        let same = cutting.tokens text g.tokens f.tokens g.end f.end g.cut f.cut in
+        later text f.tokens f.end first second f.fault (subst (λ ts. IsTokenFault text ts f.end second) same.0 (subst (λ end. IsTokenFault text g.tokens end second) same.1 g.fault))
+
+    faultless : (text : List ℕ) (place : Place) (typed : PlainProgram) (refusal : Refusal) (p : IsPassed text place typed) (end : Place) → IsTokenFault text p.tokens end refusal → ⊥
+    faultless text place typed refusal p end (of_grammar f) = refusals.no_program text p.tokens end refusal p.has_program.program f p.has_program.derived
+    faultless text place typed refusal p end (of_program program derived faulty) =
+        let tree : program ≡ p.has_program.program = programs text p.tokens program p.has_program.program derived p.has_program.derived in
+        judgement.not_both p.has_program.program typed refusal p.has_program.accepted (subst (λ t. IsFaulty t refusal) tree faulty)
+
+    not_both : (text : List ℕ) (place : Place) (typed : PlainProgram) (refusal : Refusal) → IsPassed text place typed → IsFault text refusal → ⊥
+    not_both text place typed refusal p (inl at) = cutting.either text p.tokens p.end refusal p.cut at
+    not_both text place typed refusal p (inr g) =
+        let same = (cutting.tokens text g.tokens p.tokens g.end p.end g.cut p.cut).0 in
+        faultless text place typed refusal p g.end (subst (λ ts. IsTokenFault text ts g.end refusal) same g.fault)

@@ -1,7 +1,6 @@
 -- What is kept by the typed program of a text that passes, as statements.
 use Rattle.std.specs.Prelude.{◌≡◌, ◌≤◌, ℕ, List, All, length}
 use Rattle.dpj_base.specs.declared.place.Place.{Place}
-use Rattle.dpj_base.specs.declared.refusal.Kind.TheVariants as kind
 use Rattle.dpj_base.specs.declared.refusal.Refusal.{Refusal}
 use Rattle.dpj_typed.specs.Plain.{PlainProgram}
 use Rattle.dpj_typed.specs.WellTyped.{WellTyped}
@@ -27,6 +26,9 @@ PassedKeeps = (text : List ℕ) (place : Place) (typed : PlainProgram) → lengt
 abbrev pub OnePassing : Type 0
 OnePassing = (text : List ℕ) (place other : Place) (one another : PlainProgram) → IsPassed text place one → IsPassed text other another → one ≡ another
 
--- a text that passes may be refused for nothing but that it nests too deep
-abbrev pub NoOtherFault : Type 0
-NoOtherFault = (text : List ℕ) (place : Place) (typed : PlainProgram) (refusal : Refusal) → IsPassed text place typed → IsFault text refusal → refusal.kind ≡ kind.Nest
+-- a text has one verdict at most: it passes, or it has one fault
+pub record OneVerdict : Type 0 where
+  pub one_fault : (text : List ℕ) (first second : Refusal) → IsFault text first → IsFault text second → first ≡ second
+  pub not_both : (text : List ℕ) (place : Place) (typed : PlainProgram) (refusal : Refusal) → IsPassed text place typed → IsFault text refusal → ⊥
+  -- its first token stands at one place
+  pub one_place : (text : List ℕ) (place other : Place) (one another : PlainProgram) → IsPassed text place one → IsPassed text other another → place ≡ other

@@ -1,6 +1,6 @@
 //! The laws of accepted texts, the clauses of a function that does nothing but name others.
 
-ghost use Rattle.dpj_passed.specs.Laws.{PassedKeeps, OnePassing, NoOtherFault};
+ghost use Rattle.dpj_passed.specs.Laws.{PassedKeeps, OnePassing, OneVerdict};
 
 use dpj_accepted::laws::law_well_typed;
 use dpj_front::one_judgement;
@@ -22,10 +22,10 @@ pub fn law_passed()
     law_has_rows();
 }
 
-/// A text passes as one typed program at most, and may be refused then for nothing but that it nests too deep.
+/// A text passes as one typed program at most, or it has one fault, and not both.
 pub fn law_one_passing()
     ensures one { OnePassing }
-    ensures no_other { NoOtherFault }
+    ensures verdict { OneVerdict }
 {
     one_cutting();
     one_program();

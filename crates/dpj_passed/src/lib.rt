@@ -2,8 +2,7 @@
 //!
 //! The typed program of a text that passes is well typed (`dpj_accepted`), since a text gives no tree but as the grammar has it
 //! (`dpj_written`); it is what the compiler asks for (`dpj_resolved`), and no fork of its code has more branches than a value counts
-//! (`dpj_narrow`). And there is one such program, and nothing for which the text may be refused but that it nests too deep:
-//! `specs/Laws.antt`.
+//! (`dpj_narrow`). And a text has one verdict at most: it passes as one typed program, or it has one fault (`specs/Laws.antt`).
 #![tactic(auto)]
 
 pub mod laws;

@@ -4,3 +4,4 @@ pub mod Sources
 pub mod Traces
 pub mod Ranges
 pub mod Owed
+pub mod Once

@@ -1,10 +1,8 @@
 -- What a call that tells of a verdict owes to a program, over plain variables.
 use Rattle.std.proofs.Common.{◌≡◌, ◌∙◌, ℕ, true, false, List, [], Option, Some, MatchOption, IfSome, inl, inr, refl, sym, ap, subst, arith}
-use Rattle.dpj_base.specs.declared.place.Place.{Place}
 use Rattle.dpj_history.specs.declared.record.Record.{Record}
 use Rattle.dpj_typed.specs.Plain.{PlainProgram}
-use Rattle.dpj_front.specs.Front.{IsPassed}
-use Rattle.dpj_passed.specs.Laws.{NoOtherFault, OnePassing}
+use Rattle.dpj_passed.specs.Laws.{OneVerdict, OnePassing}
 use Rattle.dpj_words.specs.Jobs.{job}
 use Rattle.dpj_words.specs.Reports.{report_of, status_of}
 use Rattle.dpj_words.specs.declared.command.Command.{Command}
@@ -12,11 +10,11 @@ use Rattle.dpj_words.specs.declared.command.Command.TheVariants as command
 use Rattle.dpj_words.specs.declared.job.Job.{Job}
 use Rattle.dpj_words.specs.declared.verdict.Status.{Status}
 use Rattle.dpj_words.specs.declared.verdict.Verdict.{Verdict}
-use Rattle.dpj_words.specs.declared.verdict.Verdict.TheVariants.{Ran, Refused, Usage}
+use Rattle.dpj_words.specs.declared.verdict.Verdict.TheVariants.{Ran, Usage}
 use Rattle.dpj_top.specs.declared.answered.Answered.{Answered}
-use Rattle.dpj_top.specs.Answer.{IsAnswer, IsAnswerOn, asks_run, faulty, of_first_form, of_program, only, told_by, told_of, to_check, to_effects, to_elide, to_list, to_run, too_long}
+use Rattle.dpj_top.specs.Answer.{IsAnswer, IsAnswerOn, IsElided, IsRan, IsWithin, asks_run, faulty, of_program, only, told_by, told_of, to_check, to_effects, to_elide, to_list, to_run, too_long}
 use Rattle.dpj_top.specs.Call.{Answers, AnswersBy, Appends, IsAnswered, Tells, text_for}
-use Rattle.dpj_top.specs.Promise.{AsksElision, IsAcceptedAs, IsReported, IsWithin, KeepsPromise, OwesElision, ReportsElision, as_elided, elision_for, too_deep}
+use Rattle.dpj_top.specs.Promise.{AsksElision, GivesJob, IsReported, KeepsPromise, ReportsElision, ReportsReduced, elision_for}
 use Rattle.dpj_top.proofs.Ranges.{words_within}
 
 -- the answer to a job and a text that are there
@@ -41,54 +39,68 @@ asked_of_program command.Effects asked text answered never a = a
 true_false : true ≡ false → ⊥
 true_false e = cc
 
-asks_no_replay : (asked : Job) (typed : PlainProgram) → AsksElision asked typed → asked.command ≡ command.Replay → ⊥
-asks_no_replay asked typed (inl run) e = true_false (sym run.0 ∙ ap asks_run e)
-asks_no_replay asked typed (inr elide) e = absurd (cc (sym elide ∙ e))
+-- the answer to a job that is given on an accepted text is that to its program
+module _ (keeps : KeepsPromise) (verdict : OneVerdict) (one : OnePassing) (words : List (List ℕ)) (held before after : Option (List ℕ)) (status : Status) (recorded : Option Record)
+    (tells : Tells words held before after status recorded) (asked : Job) (text : List ℕ) (typed : PlainProgram) (gives : GivesJob words held asked text typed) where
+  within : IsWithin asked
+  within = words_within words asked gives.said
 
-asks_no_other : (asked : Job) (typed : PlainProgram) (c : Command) → AsksElision asked typed → asked.command ≡ c → asks_run c ≡ false → (c ≡ command.Elide → ⊥) → ⊥
-asks_no_other asked typed c (inl run) e none other = true_false (sym run.0 ∙ ap asks_run e ∙ none)
-asks_no_other asked typed c (inr elide) e none other = other (sym e ∙ elide)
+  verdict_told : (told : Verdict) → tells.answered.verdict ≡ told → IsReported told before after status
+  verdict_told told is = (tells.status_told ∙ ap status_of is, subst (λ v. Appends before after (report_of v)) is tells.report_told)
 
-module _ (keeps : KeepsPromise) (no_other : NoOtherFault) (one : OnePassing) (words : List (List ℕ)) (held before after : Option (List ℕ)) (status : Status) (recorded : Option Record)
-    (tells : Tells words held before after status recorded) where
-  verdict_told : (verdict : Verdict) → tells.answered.verdict ≡ verdict → IsReported verdict before after status
-  verdict_told verdict is =
-      (tells.status_told ∙ ap status_of is, subst (λ v. Appends before after (report_of v)) is tells.report_told)
-
-  pub owes : OwesElision words held before after status
-  owes asked text place typed e f accepted left asks =
-      by (asked_of_program asked.command asked text tells.answered (asks_no_replay asked typed asks) (given_answer words held asked text tells.answered e f tells.is_answered)) refl
+  on_program : (asked.command ≡ command.Replay → ⊥) → IsAnswerOn asked text typed tells.answered
+  on_program never = by (asked_of_program asked.command asked text tells.answered never (given_answer words held asked text tells.answered gives.said gives.given tells.is_answered)) refl
     where
-      within : IsWithin asked
-      within = words_within words asked e
+      by : {answered : Answered} → IsAnswer asked text answered → answered ≡ tells.answered → IsAnswerOn asked text typed tells.answered
+      by (too_long h) same = let short = gives.accepted.0 in absurd (omega (arith, h, short))
+      by (faulty refusal short fault) same = absurd (verdict.not_both text gives.place typed refusal gives.accepted.1 fault)
+      by (of_program other typed_so answered accepted on) same =
+          subst (λ a. IsAnswerOn asked text typed a) same (subst (λ t. IsAnswerOn asked text t answered) (one text other gives.place typed_so typed accepted.1 gives.accepted.1) on)
 
-      elided : (c : Command) (schedule : List ℕ) → asked.command ≡ c → c ≡ command.Elide → told_by c asked text schedule (elision_for asked typed) ≡ Ran (elision_for asked typed)
-      elided c schedule is e = ap (λ d. told_by d asked text schedule (elision_for asked typed)) e
+  ran_so : asks_run asked.command ≡ true → IsRan asked text typed tells.answered
+  ran_so run = by (on_program (λ e. true_false (sym run ∙ ap asks_run e)))
+    where
+      other : (c : Command) → asked.command ≡ c → asks_run c ≡ false → ⊥
+      other c e none = true_false (sym run ∙ ap asks_run e ∙ none)
 
-      on_program : (other : Place) (answered : Answered) → answered ≡ tells.answered → IsAcceptedAs text other typed → IsAnswerOn asked text other typed answered → ReportsElision asked text typed before after status
-      on_program other answered same accepted_so (to_check c is) = absurd (asks_no_other asked typed command.Check asks c refl (λ e. absurd (cc e)))
-      on_program other answered same accepted_so (to_list c is) = absurd (asks_no_other asked typed command.«List» asks c refl (λ e. absurd (cc e)))
-      on_program other answered same accepted_so (to_effects c is) = absurd (asks_no_other asked typed command.Effects asks c refl (λ e. absurd (cc e)))
-      on_program other answered same accepted_so (to_elide c is) =
-          let told = keeps.elide asked text other typed answered within accepted_so is in
-          as_elided [] (verdict_told (told_of asked text [] (elision_for asked typed))
-          (ap (λ (a : Answered). a.verdict) (sym same ∙ told) ∙ sym (elided asked.command [] refl c)))
-      on_program other answered same accepted_so (to_run c is) = ran asks
-        where
-          ran : AsksElision asked typed → ReportsElision asked text typed before after status
-          ran (inr elide) = absurd (true_false (sym c ∙ ap asks_run elide))
-          ran (inl run) =
-              let told = keeps.run asked text other typed answered within accepted_so run.1 is in
-              as_elided told.schedule (verdict_told (told_of asked text told.schedule (elision_for asked typed)) (ap (λ (a : Answered). a.verdict) (sym same) ∙ told.is))
+      by : IsAnswerOn asked text typed tells.answered → IsRan asked text typed tells.answered
+      by (to_run c is) = is
+      by (to_check c is) = absurd (other command.Check c refl)
+      by (to_elide c is) = absurd (other command.Elide c refl)
+      by (to_list c is) = absurd (other command.«List» c refl)
+      by (to_effects c is) = absurd (other command.Effects c refl)
 
-      by : {answered : Answered} → IsAnswer asked text answered → answered ≡ tells.answered → ReportsElision asked text typed before after status
-      by (too_long h) same = absurd (omega (arith, h, accepted.0))
-      by (of_first_form program reads short first) same = elim left [
-        | inl unread ↦ absurd (true_false (sym reads ∙ unread))
-        | inr other ↦ absurd (other program first)
-      ]
-      by (faulty refusal short left_so fault) same =
-          too_deep refusal (no_other text place typed refusal accepted.1 fault) (verdict_told (Refused refusal) (ap (λ (a : Answered). a.verdict) (sym same)))
-      by (of_program other typed_so answered short left_so passed on) same =
-          let again : typed_so ≡ typed = one text other place typed_so typed passed accepted.1 in
-          on_program other answered same (short, subst (λ t. IsPassed text other t) again passed) (subst (λ t. IsAnswerOn asked text other t answered) again on)
+  elided_so : asked.command ≡ command.Elide → IsElided asked typed tells.answered
+  elided_so elide = by (on_program (λ e. absurd (cc (sym elide ∙ e))))
+    where
+      by : IsAnswerOn asked text typed tells.answered → IsElided asked typed tells.answered
+      by (to_elide c is) = is
+      by (to_run c is) = absurd (true_false (sym c ∙ ap asks_run elide))
+      by (to_check c is) = absurd (cc (sym elide ∙ c))
+      by (to_list c is) = absurd (cc (sym elide ∙ c))
+      by (to_effects c is) = absurd (cc (sym elide ∙ c))
+
+  told_elided : (c : Command) → c ≡ command.Elide → told_by c asked text [] (elision_for asked typed) ≡ Ran (elision_for asked typed)
+  told_elided c e = ap (λ d. told_by d asked text [] (elision_for asked typed)) e
+
+  pub owed_elision : AsksElision asked typed → ReportsElision asked text typed before after status
+  owed_elision (inl run) =
+      let told = keeps.run asked text gives.place typed tells.answered within gives.accepted run.1 (ran_so run.0) in
+      record { schedule = told.schedule; reported = verdict_told (told_of asked text told.schedule (elision_for asked typed)) told.is }
+  owed_elision (inr elide) =
+      let told = keeps.elide asked text gives.place typed tells.answered within gives.accepted (elided_so elide) in
+      record {
+        schedule = [];
+        reported = verdict_told (told_of asked text [] (elision_for asked typed)) (ap (λ (a : Answered). a.verdict) told ∙ sym (told_elided asked.command elide));
+      }
+
+  pub owed_reduction : asks_run asked.command ≡ true → ReportsReduced asked text typed before after status recorded
+  owed_reduction run =
+      let told = keeps.reduce asked text gives.place typed tells.answered within gives.accepted (ran_so run) in
+      record {
+        well_typed = told.well_typed;
+        made = told.made;
+        is = tells.run_recorded ∙ ap (λ (a : Answered). a.recorded) told.is;
+        reported = verdict_told (told_of asked text told.made.record.machine.schedule told.made.outcome) (ap (λ (a : Answered). a.verdict) told.is);
+        reduced = told.reduced;
+      }

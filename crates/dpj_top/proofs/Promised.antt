@@ -24,8 +24,8 @@ use Rattle.dpj_words.specs.declared.key.Mode.TheVariants as mode
 use Rattle.dpj_words.specs.declared.job.Job.{Job}
 use Rattle.dpj_words.specs.declared.verdict.Verdict.TheVariants.{Ran}
 use Rattle.dpj_top.specs.declared.answered.Answered.{Answered}
-use Rattle.dpj_top.specs.Answer.{IsElided, IsRan, IsRunBy, came_out, not_at_all, limits_of, only, told_of, verdict_of_elision}
-use Rattle.dpj_top.specs.Promise.{IsAcceptedAs, IsWithin, KeepsPromise, TellsElision, TellsReduced, elision_for}
+use Rattle.dpj_top.specs.Answer.{IsAcceptedAs, IsElided, IsRan, IsRunBy, IsWithin, limits_of, only, told_of}
+use Rattle.dpj_top.specs.Promise.{GoesOn, KeepsPromise, TellsElision, TellsReduced, elision_for}
 
 module _ (typed : PlainProgram) (keeps : Keeps typed) (L : Limits) (argument : ℤ) (few : L.steps ≤ 20000000) (fits : FitsSigned w32 argument) where
   few_steps : (p : Played) → IsRunOf typed L argument p → p.limits.steps ≤ 20000000
@@ -87,14 +87,14 @@ module _ (typed : PlainProgram) (keeps : Keeps typed) (L : Limits) (argument : �
     goes_on_by mode.Rounds workers (no_rounds halts) = goes_on_in_rounds halts
 
 -- what was made by workers or in rounds is a run
-made_run : (m : Mode) (typed : PlainProgram) (L : Limits) (argument : ℤ) (workers : ℕ) (r : Recorded) → IsRunBy m typed L argument workers (Some r)
+pub made_run : (m : Mode) (typed : PlainProgram) (L : Limits) (argument : ℤ) (workers : ℕ) (r : Recorded) → IsRunBy m typed L argument workers (Some r)
     → IsRunOf typed L argument r.record.machine × (r.record.machine.outcome ≡ Some r.outcome)
 made_run mode.Steps typed L argument workers r (recorded_so _ is) = (is.is_run, is.came)
 made_run mode.Rounds typed L argument workers r (by_rounds _ p is alone) =
     (subst (λ q. IsRunOf typed L argument q) (sym alone.machine) is.is_run, ap (λ (q : Played). q.outcome) alone.machine ∙ alone.came)
 
 pub keeps_promise : MachinesComeOutAsElided → GreedyMachinesElide → MachinesAreReduced → MachinesAreNotStuck → MachinesGoOn → PassedKeeps → KeepsPromise
-keeps_promise machines greedy reduce never_stuck goes passed = record { typed_well = typed_well; run = run; reduce = reduces; elide = elide }
+keeps_promise machines greedy reduce never_stuck goes passed = record { typed_well = typed_well; goes_on = goes_further; run = run; reduce = reduces; elide = elide }
   where
     kept : (text : List ℕ) (place : Place) (typed : PlainProgram) → IsAcceptedAs text place typed → Keeps typed
     kept text place typed accepted = passed text place typed accepted.0 accepted.1
@@ -115,30 +115,41 @@ keeps_promise machines greedy reduce never_stuck goes passed = record { typed_we
         IsRunOf typed (limits_of job) job.arg r.record.machine × (r.record.machine.outcome ≡ Some r.outcome)
     made job typed r is = made_run job.mode typed (limits_of job) job.arg job.workers r is
 
-    run : (job : Job) (text : List ℕ) (place : Place) (typed : PlainProgram) (answered : Answered) → IsWithin job → IsAcceptedAs text place typed
-        → typed.uses_nd ≡ false → IsRan job text place typed answered → TellsElision job text typed answered
-    run job text place typed _ within accepted none (came_out r is) = record {
-      schedule = r.record.machine.schedule;
-      is = ap (λ o. told_of job text r.record.machine.schedule o)
-          (told_elision typed (kept text place typed accepted) (limits_of job) job.arg within.0.steps_most within.1 machines none r.record.machine r.outcome (made job typed r is).0 (made job typed r is).1);
+    goes_further : (job : Job) (text : List ℕ) (place : Place) (typed : PlainProgram) → IsWithin job → IsAcceptedAs text place typed → GoesOn job typed
+    goes_further job text place typed within accepted = record {
+      runs = never_halts_by job text place typed within accepted;
+      elides = λ comes. by comes (never_halts job text place typed within accepted);
     }
-    run job text place typed _ within accepted none (not_at_all halts) = absurd (never_halts_by job text place typed within accepted halts)
+      where
+        by : ComesOut typed (limits_of job) job.arg None → (HasNoRun typed (limits_of job) job.arg → ⊥) → ⊥
+        by (never halts) none = none halts
+
+    run : (job : Job) (text : List ℕ) (place : Place) (typed : PlainProgram) (answered : Answered) → IsWithin job → IsAcceptedAs text place typed
+        → typed.uses_nd ≡ false → IsRan job text typed answered → TellsElision job text typed answered
+    run job text place typed answered within accepted none ran =
+        let r = ran.made in
+        let m = made job typed r ran.run in
+        record {
+          schedule = r.record.machine.schedule;
+          is = ap (λ (a : Answered). a.verdict) ran.is ∙ ap (λ o. told_of job text r.record.machine.schedule o)
+              (told_elision typed (kept text place typed accepted) (limits_of job) job.arg within.0.steps_most within.1 machines none r.record.machine r.outcome m.0 m.1);
+        }
 
     reduces : (job : Job) (text : List ℕ) (place : Place) (typed : PlainProgram) (answered : Answered) → IsWithin job → IsAcceptedAs text place typed
-        → IsRan job text place typed answered → TellsReduced job text typed answered
-    reduces job text place typed _ within accepted (came_out r is) = record {
-      well_typed = (kept text place typed accepted).well_typed;
-      made = r;
-      is = refl;
-      reduced = reduced_so typed (kept text place typed accepted) (limits_of job) job.arg within.0.steps_most within.1 reduce r.record.machine r.outcome (made job typed r is).0 (made job typed r is).1;
-    }
-    reduces job text place typed _ within accepted (not_at_all halts) = absurd (never_halts_by job text place typed within accepted halts)
+        → IsRan job text typed answered → TellsReduced job text typed answered
+    reduces job text place typed answered within accepted ran =
+        let r = ran.made in
+        let m = made job typed r ran.run in
+        record {
+          well_typed = (kept text place typed accepted).well_typed;
+          made = r;
+          is = ran.is;
+          reduced = reduced_so typed (kept text place typed accepted) (limits_of job) job.arg within.0.steps_most within.1 reduce r.record.machine r.outcome m.0 m.1;
+        }
 
     elide : (job : Job) (text : List ℕ) (place : Place) (typed : PlainProgram) (answered : Answered) → IsWithin job → IsAcceptedAs text place typed
-        → IsElided job place typed answered → answered ≡ only (Ran (elision_for job typed))
-    elide job text place typed answered within accepted e = by e.outcome e.comes e.is
+        → IsElided job typed answered → answered ≡ only (Ran (elision_for job typed))
+    elide job text place typed answered within accepted e = e.is ∙ ap (λ k. only (Ran k)) (by e.comes)
       where
-        by : (outcome : _) → ComesOut typed (limits_of job) job.arg outcome → answered ≡ only (verdict_of_elision place outcome) → answered ≡ only (Ran (elision_for job typed))
-        by _ (finished p o is come) same =
-            same ∙ ap (λ k. only (Ran k)) (told_greedy typed (kept text place typed accepted) (limits_of job) job.arg within.0.steps_most within.1 greedy p o is come)
-        by _ (never halts) same = absurd (never_halts job text place typed within accepted halts)
+        by : ComesOut typed (limits_of job) job.arg (Some e.outcome) → e.outcome ≡ elision_for job typed
+        by (finished p o is come) = told_greedy typed (kept text place typed accepted) (limits_of job) job.arg within.0.steps_most within.1 greedy p o is come

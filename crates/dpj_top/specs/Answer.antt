@@ -1,15 +1,12 @@
 -- What the tool answers to a job and a text, and what it records.
-use Rattle.std.specs.Prelude.{ℕ, ℤ, ◌≡◌, ◌<◌, ◌≤◌, ◌⊎◌, Bool, true, false, cond, min, List, length, Option, Some, None}
+use Rattle.std.specs.Int.{w32}
+use Rattle.std.specs.Prelude.{ℕ, ℤ, FitsSigned, ◌≡◌, ◌<◌, ◌≤◌, ◌⊎◌, Bool, true, false, cond, min, List, length, Option, Some, None}
 use Rattle.dpj_base.specs.declared.outcome.Limits.{Limits}
 use Rattle.dpj_base.specs.declared.outcome.Outcome.{Outcome}
 use Rattle.dpj_base.specs.declared.place.Place.{Place}
 use Rattle.dpj_base.specs.declared.refusal.Kind.{Kind}
 use Rattle.dpj_base.specs.declared.refusal.Kind.TheVariants.{Form, TooLong}
 use Rattle.dpj_base.specs.declared.refusal.Refusal.{Refusal}
-use Rattle.dpj_first.specs.declared.program.First.{First}
-use Rattle.dpj_first.specs.Form.{IsFirstForm}
-use Rattle.dpj_first.specs.Meaning.{outcome_of}
-use Rattle.dpj_tokens.specs.Cutting.{FaultsAt}
 use Rattle.dpj_typed.specs.Plain.{PlainProgram}
 use Rattle.dpj_code.specs.declared.code.Code.{Code}
 use Rattle.dpj_code.specs.Plain.{plain_code}
@@ -22,6 +19,7 @@ use Rattle.dpj_trace.specs.Text.{trace_text}
 use Rattle.dpj_front.specs.Front.{IsPassed, IsFault}
 use Rattle.dpj_words.specs.declared.command.Command.{Command}
 use Rattle.dpj_words.specs.declared.command.Command.TheVariants as command
+use Rattle.dpj_words.specs.Jobs.{IsInRange}
 use Rattle.dpj_words.specs.declared.job.Job.{Job}
 use Rattle.dpj_words.specs.declared.key.Mode.{Mode}
 use Rattle.dpj_words.specs.declared.key.Mode.TheVariants as mode
@@ -57,16 +55,6 @@ refused_at_start kind = refused_at kind 1
 abbrev pub limits_of : Job → Limits
 limits_of job = record { steps = job.steps; cells = job.cells }
 
--- a program of the first form is read off the bytes of its text, where it is to be checked or run
-abbrev pub asks_outcome : Command → Bool
-asks_outcome command.Run = true
-asks_outcome command.Elide = true
-asks_outcome _ = false
-
-abbrev pub reads_form : Command → Bool
-reads_form command.Check = true
-reads_form c = asks_outcome c
-
 -- a run is asked, and not its elision
 abbrev pub asks_run : Command → Bool
 asks_run command.Run = true
@@ -74,25 +62,15 @@ asks_run command.Demo = true
 asks_run command.Trace = true
 asks_run _ = false
 
--- a program of the first form, in which nothing runs side by side, is run within the job's limits where a run or its elision is
--- asked, and else accepted
-abbrev pub first_answer : Job → First → Answered
-first_answer job program = only (cond (asks_outcome job.command) (Ran (outcome_of program (limits_of job))) Accepted)
-
--- an accepted program that can't go on is refused where its first token stands
+-- a program that can't go on by a schedule is refused where its first token stands
 abbrev pub refused_form : Place → Verdict
 refused_form place = Refused (record { kind = Form; place = place })
 
--- the verdict on an elision that comes out so, of a program whose first token stands at the place
-abbrev pub verdict_of_elision : Place → Option Outcome → Verdict
-verdict_of_elision place (Some outcome) = Ran outcome
-verdict_of_elision place None = refused_form place
-
 -- the elision of an accepted program, of which nothing is recorded
-pub record IsElided (job : Job) (place : Place) (typed : PlainProgram) (answered : Answered) : Type 0 where
-  pub outcome : Option Outcome
-  pub comes : ComesOut typed (limits_of job) job.arg outcome
-  pub is : answered ≡ only (verdict_of_elision place outcome)
+pub record IsElided (job : Job) (typed : PlainProgram) (answered : Answered) : Type 0 where
+  pub outcome : Outcome
+  pub comes : ComesOut typed (limits_of job) job.arg (Some outcome)
+  pub is : answered ≡ only (Ran outcome)
 
 -- the verdict on a run of a text, by its schedule and how it came out: a demo tells what it made, and a trace is told in place of a report
 abbrev pub told_by : Command → Job → List ℕ → List ℕ → Outcome → Verdict
@@ -109,10 +87,10 @@ IsRunBy mode.Steps = IsRun
 IsRunBy mode.Rounds = ComesByRounds
 
 -- the run of an accepted program by the job's mode, with its record
-pub data IsRan (job : Job) (text : List ℕ) (place : Place) (typed : PlainProgram) : Answered → Type 0 where
-  came_out : (r : Recorded) → IsRunBy job.mode typed (limits_of job) job.arg job.workers (Some r)
-      → IsRan job text place typed (record { verdict = told_of job text r.record.machine.schedule r.outcome; recorded = Some r.record })
-  not_at_all : IsRunBy job.mode typed (limits_of job) job.arg job.workers None → IsRan job text place typed (only (refused_form place))
+pub record IsRan (job : Job) (text : List ℕ) (typed : PlainProgram) (answered : Answered) : Type 0 where
+  pub made : Recorded
+  pub run : IsRunBy job.mode typed (limits_of job) job.arg job.workers (Some made)
+  pub is : answered ≡ record { verdict = told_of job text made.record.machine.schedule made.outcome; recorded = Some made.record }
 
 -- the listing of the code of a program
 pub record IsListing (typed : PlainProgram) (answered : Answered) : Type 0 where
@@ -126,35 +104,34 @@ pub record TellsEffects (answered : Answered) : Type 0 where
   pub is : answered ≡ only (Effects lines)
 
 -- the answer to a job on the accepted program of a text
-pub data IsAnswerOn (job : Job) (text : List ℕ) (place : Place) (typed : PlainProgram) (answered : Answered) : Type 0 where
-  to_check : job.command ≡ command.Check → answered ≡ only Accepted → IsAnswerOn job text place typed answered
-  to_run : asks_run job.command ≡ true → IsRan job text place typed answered → IsAnswerOn job text place typed answered
-  to_elide : job.command ≡ command.Elide → IsElided job place typed answered → IsAnswerOn job text place typed answered
-  to_list : job.command ≡ command.«List» → IsListing typed answered → IsAnswerOn job text place typed answered
-  to_effects : job.command ≡ command.Effects → TellsEffects answered → IsAnswerOn job text place typed answered
+pub data IsAnswerOn (job : Job) (text : List ℕ) (typed : PlainProgram) (answered : Answered) : Type 0 where
+  to_check : job.command ≡ command.Check → answered ≡ only Accepted → IsAnswerOn job text typed answered
+  to_run : asks_run job.command ≡ true → IsRan job text typed answered → IsAnswerOn job text typed answered
+  to_elide : job.command ≡ command.Elide → IsElided job typed answered → IsAnswerOn job text typed answered
+  to_list : job.command ≡ command.«List» → IsListing typed answered → IsAnswerOn job text typed answered
+  to_effects : job.command ≡ command.Effects → TellsEffects answered → IsAnswerOn job text typed answered
 
--- the text is no program of the first form
-abbrev pub IsOther : List ℕ → Type 0
-IsOther text = (program : First) → IsFirstForm text program → ⊥
+-- the text isn't too long, and is accepted as this typed program, of which the first token stands at the place
+abbrev pub IsAcceptedAs : List ℕ → Place → PlainProgram → Type 0
+IsAcceptedAs text place typed = (length text ≤ max_text) × IsPassed text place typed
 
--- what is asked is had of every program by its tokens; or the text is no program of the first form
-abbrev pub IsLeft : Job → List ℕ → Type 0
-IsLeft job text = (reads_form job.command ≡ false) ⊎ IsOther text
+-- each number of the job is in the range of its key
+abbrev pub IsWithin : Job → Type 0
+IsWithin job = IsInRange job × FitsSigned w32 job.arg
 
--- the answer to a text
+-- the answer to a text: it is too long, it has a fault, or it is accepted
 pub data IsAnswer (job : Job) (text : List ℕ) : Answered → Type 0 where
   too_long : max_text < length text → IsAnswer job text (only (refused_at_start TooLong))
-  of_first_form : (program : First) → reads_form job.command ≡ true → length text ≤ max_text → IsFirstForm text program → IsAnswer job text (first_answer job program)
-  faulty : (refusal : Refusal) → length text ≤ max_text → IsLeft job text → IsFault text refusal → IsAnswer job text (only (Refused refusal))
-  of_program : (place : Place) (typed : PlainProgram) (answered : Answered) → length text ≤ max_text → IsLeft job text → IsPassed text place typed →
-      IsAnswerOn job text place typed answered → IsAnswer job text answered
+  faulty : (refusal : Refusal) → length text ≤ max_text → IsFault text refusal → IsAnswer job text (only (Refused refusal))
+  of_program : (place : Place) (typed : PlainProgram) (answered : Answered) → IsAcceptedAs text place typed → IsAnswerOn job text typed answered → IsAnswer job text answered
 
--- the text is too long, a program of the first form that is read off its bytes, or no text of tokens
-pub data IsDecided (job : Job) (text : List ℕ) : Type 0 where
-  is_long : max_text < length text → IsDecided job text
-  is_first : (program : First) → reads_form job.command ≡ true → length text ≤ max_text → IsFirstForm text program → IsDecided job text
-  has_no_tokens : (refusal : Refusal) → length text ≤ max_text → FaultsAt text refusal → IsDecided job text
+-- commands whose answer is pinned: the lines of inferred summaries aren't, nor are the titles of bodies in a listing
+abbrev pub is_pinned : Command → Bool
+is_pinned command.«List» = false
+is_pinned command.Effects = false
+is_pinned _ = true
 
--- there is one answer at most to a job on a text that is decided
+-- there is one answer at most to a job on a text, for each run that was recorded
 abbrev pub OneAnswer : Type 0
-OneAnswer = (job : Job) (text : List ℕ) (first second : Answered) → IsDecided job text → IsAnswer job text first → IsAnswer job text second → first ≡ second
+OneAnswer = (job : Job) (text : List ℕ) (first second : Answered) → IsWithin job → is_pinned job.command ≡ true → IsAnswer job text first → IsAnswer job text second
+    → first.recorded ≡ second.recorded → first ≡ second

@@ -3,10 +3,11 @@ ghost use Rattle.dpj_front.specs.Judging.{CanRun, typed_of};
 ghost use Rattle.dpj_typed.specs.Plain.{plain_program};
 ghost use Rattle.dpj_words.specs.Jobs.{IsInRange};
 ghost use Rattle.dpj_words.specs.declared.command.Command.TheVariants.{Replay};
-ghost use Rattle.dpj_top.specs.Answer.{IsAnswerOn, IsElided, IsListing, IsRan, IsRunBy, TellsEffects, limits_of, only, told_of, verdict_of_elision};
+ghost use Rattle.dpj_top.specs.Answer.{IsAcceptedAs, IsAnswer, IsElided, IsListing, IsRan, IsRunBy, TellsEffects, limits_of, told_of};
 
 use crate::answered::{Answered, limits};
-use dpj_base::{NoMemory, Outcome, Place};
+use crate::laws::promise;
+use dpj_base::{NoMemory, Outcome};
 use dpj_compile::compile;
 use dpj_front::Passed;
 use dpj_infer::{infer, lines};
@@ -30,13 +31,14 @@ pub fn carry_out<R: Threads + Wait + Sync, G: Gate + Sync>(
     gate: &G,
 ) -> Result<Answered, NoMemory>
     requires in_range { IsInRange job.now }
+    requires accepted { IsAcceptedAs text.now passed.place (typed_of passed) }
     requires can_run { CanRun (typed_of passed) }
     requires no_replay { job.now.command ≢ Replay }
-    ensures { IfOk result (IsAnswerOn job.now text.now passed.place (typed_of passed)) }
+    ensures { IfOk result (IsAnswer job.now text.now) }
 {
     match job.command {
         Command::Run | Command::Demo | Command::Trace => ran(rt, alloc, job, text, passed, gate),
-        Command::Elide => elided(alloc, job, passed),
+        Command::Elide => elided(alloc, job, text, passed),
         Command::List => listed(alloc, passed),
         Command::Effects => inferred(alloc, passed),
         _ => Ok(Answered::only(Verdict::Accepted)),
@@ -53,13 +55,14 @@ fn ran<R: Threads + Wait + Sync, G: Gate + Sync>(
     gate: &G,
 ) -> Result<Answered, NoMemory>
     requires in_range { IsInRange job.now }
+    requires accepted { IsAcceptedAs text.now passed.place (typed_of passed) }
     requires can_run { CanRun (typed_of passed) }
-    ensures { IfOk result (IsRan job.now text.now passed.place (typed_of passed)) }
+    ensures { IfOk result (IsRan job.now text.now (typed_of passed)) }
 {
-    let place = passed.place;
+    promise();
     let typed = passed.typed(alloc)?;
     let Some(run) = made(rt, alloc, job, &typed, gate)? else {
-        return Ok(Answered::refused_form(place));
+        unreachable!("an accepted program goes on until it has come out")
     };
     let Recorded { record, outcome } = run;
     let verdict = told(alloc, job, text, record.machine.schedule(), outcome)?;
@@ -69,7 +72,7 @@ fn ran<R: Threads + Wait + Sync, G: Gate + Sync>(
     })
 }
 
-/// The run that the job's mode asks for: by workers, or in rounds. None, where it can't go on.
+/// The run that the job's mode asks for: by workers, or in rounds; none where it can't go on.
 fn made<R: Threads + Wait + Sync, G: Gate + Sync>(
     rt: &R,
     alloc: Global,
@@ -112,25 +115,18 @@ fn told(
 }
 
 /// The elision of an accepted program.
-fn elided(alloc: Global, job: &Job, passed: Passed) -> Result<Answered, NoMemory>
+fn elided(alloc: Global, job: &Job, text: &[u8], passed: Passed) -> Result<Answered, NoMemory>
     requires in_range { IsInRange job.now }
+    requires accepted { IsAcceptedAs text.now passed.place (typed_of passed) }
     requires can_run { CanRun (typed_of passed) }
-    ensures { IfOk result (IsElided job.now passed.place (typed_of passed)) }
+    ensures { IfOk result (IsElided job.now (typed_of passed)) }
 {
-    let place = passed.place;
+    promise();
     let typed = passed.typed(alloc)?;
-    let outcome = elide(alloc, &typed, limits(job), job.arg)?;
-    Ok(of_elision(outcome, place))
-}
-
-/// The answer to an elision that comes out so, of a program whose first token stands at the place.
-fn of_elision(outcome: Option<Outcome>, place: Place) -> Answered
-    ensures { result ≡ only (verdict_of_elision place outcome) }
-{
-    match outcome {
-        Some(outcome) => Answered::only(Verdict::Ran(outcome)),
-        None => Answered::refused_form(place),
-    }
+    let Some(outcome) = elide(alloc, &typed, limits(job), job.arg)? else {
+        unreachable!("an accepted program goes on until it has come out")
+    };
+    Ok(Answered::only(Verdict::Ran(outcome)))
 }
 
 /// The inferred summaries of an accepted program.

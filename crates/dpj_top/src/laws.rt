@@ -2,21 +2,18 @@
 ghost use Rattle.dpj_top.specs.Answer.{OneAnswer};
 ghost use Rattle.dpj_top.specs.Promise.{KeepsPromise};
 
-use dpj_first::one_reading;
-use dpj_passed::laws::law_passed;
+use dpj_passed::laws::{law_one_passing, law_passed};
 use dpj_promise::laws::{law_elide, law_goes_on, law_promise, law_reduced};
-use dpj_tokens::one_cutting;
 
-/// There is at most one answer to a job on a text that is too long, is a program of the first form, or has a
-/// fault of its tokens.
+/// There is at most one answer to a job on a text, for each run that was recorded.
 pub fn one_answer()
     ensures { OneAnswer }
 {
-    one_reading();
-    one_cutting();
+    promise();
+    law_one_passing();
 }
 
-/// The promise of the language. What is accepted is well typed. A run of an accepted program without nd constructs is answered by the
+/// The promise of the language. What is accepted is well typed, and its runs come out. A run of an accepted program without nd constructs is answered by the
 /// outcome of its sequential elision, whatever schedule it made; of every accepted program a run is one of the source, whose
 /// unordered events that conflict lie in atomic blocks, and gathered by blocks it comes out the same; and an elision is answered by
 /// the outcome of the elision.

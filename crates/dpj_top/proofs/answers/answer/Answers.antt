@@ -1,9 +1,8 @@
-use Rattle.std.proofs.Common.{inl}
-use Rattle.dpj_top.proofs.Verdicts.{reads, reads-not}
+use Rattle.std.proofs.Common.{sym}
+use Rattle.dpj_top.proofs.Verdicts.{faulty-answer}
 use Rattle.dpj_top.proofs.answers.answer.Goals as goal
 
-pub by_form-requires-clause-reads : goal.by_form-requires-clause-reads
-by_form-requires-clause-reads g c κs within = reads c.args.job.now.command c.in-Check.is
-
-pub by_program-requires-clause-left : goal.by_program-requires-clause-left
-by_program-requires-clause-left g c κs within = inl (reads-not c.args.job.now.command c.in_default.not-Check c.in_default.not-Run c.in_default.not-Elide)
+pub returns-in-Err-Refused : goal.returns-in-Err-Refused
+returns-in-Err-Refused g c =
+    let fault = rw c.in-Err-Refused.field-0-is at c.in-Err-Refused.ensures.fault in
+    faulty-answer c.args.job.now c.args.text.now c.in-Err-Refused.refusal _ c.refused.result (sym c.in-Err-Refused.refusal-is) c.refused.ensures c.requires.short fault

@@ -1,12 +1,12 @@
 use Rattle.std.proofs.Common.{Global, map, refl}
 use Rattle.std.specs.String.{string_bytes}
-use Rattle.dpj_top.proofs.Owed.{owes}
+use Rattle.dpj_top.proofs.Owed.{owed_elision, owed_reduction}
 use Rattle.dpj_top.proofs.call.dpj.Goals as goal
 
 pub returns-in-Ok-clause-promised : goal.returns-in-Ok-clause-promised
 returns-in-Ok-clause-promised g c told =
     let whole = c.tell.ensures.whole told in
-    owes c.promise.ensures c.law_one_passing.ensures.no_other c.law_one_passing.ensures.one (map (string_bytes {Z = Global}) c.args.words.now)
+    owed_elision c.promise.ensures c.law_one_passing.ensures.verdict c.law_one_passing.ensures.one (map (string_bytes {Z = Global}) c.args.words.now)
     (g.S.Source.left c.args.source.now) (g.K.Sink.held c.args.sink.now) (g.K.Sink.held c.tell.new.sink) c.tell.result.status c.in-Ok.answered.recorded
     (record {
       answered = c.in-Ok.answered;
@@ -14,4 +14,17 @@ returns-in-Ok-clause-promised g c told =
       status_told = whole.0;
       report_told = whole.1;
       run_recorded = refl;
+    })
+
+pub returns-in-Ok-clause-reduced : goal.returns-in-Ok-clause-reduced
+returns-in-Ok-clause-reduced g c told =
+    let whole = c.tell.ensures.whole told in
+    owed_reduction c.promise.ensures c.law_one_passing.ensures.verdict c.law_one_passing.ensures.one (map (string_bytes {Z = Global}) c.args.words.now)
+    (g.S.Source.left c.args.source.now) (g.K.Sink.held c.args.sink.now) (g.K.Sink.held c.tell.new.sink) c.tell.result.status c.tell.result.recorded
+    (record {
+      answered = c.in-Ok.answered;
+      is_answered = c.in-Ok.ensures.ok;
+      status_told = whole.0;
+      report_told = whole.1;
+      run_recorded = ?;
     })

@@ -15,14 +15,3 @@ elide-requires-clause-resolved c = subst Resolved (sym c.in_ok-typed.ensures) c.
 
 pub elide-requires-clause-main : goal.elide-requires-clause-main
 elide-requires-clause-main c = subst HasMain (sym c.in_ok-typed.ensures) c.requires.can_run.1
-
-pub returns : goal.returns
-returns c =
-    let fits : SFits w32 c.args.job.now.arg = search rules in
-    record {
-      outcome = c.in_ok-outcome.outcome;
-      comes =
-          comes_as (plain_program c.in_ok-typed.typed) (typed_of c.args.passed) c.limits.result (limits_of c.args.job.now) _ c.args.job.now.arg c.in_ok-outcome.outcome
-          c.in_ok-typed.ensures c.limits.ensures (to_z-of_z fits) c.in_ok-outcome.ensures;
-      is = c.of_elision.ensures;
-    }

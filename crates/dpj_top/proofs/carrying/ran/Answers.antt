@@ -1,23 +1,16 @@
 use Rattle.std.proofs.Common.{sym, subst}
 use Rattle.dpj_front.specs.Judging.{CanRun, typed_of}
 use Rattle.dpj_top.specs.Answer.{IsRunBy, limits_of}
-use Rattle.dpj_top.proofs.Verdicts.{ran-so, not-ran}
+use Rattle.dpj_top.proofs.Verdicts.{ran-so}
 use Rattle.dpj_top.proofs.carrying.ran.Goals as goal
 
 pub made-requires-clause-can_run : goal.made-requires-clause-can_run
 made-requires-clause-can_run g c κs within = subst CanRun (sym c.in_ok-typed.ensures) c.requires.can_run
 
-pub returns-in_default : goal.returns-in_default
-returns-in_default g c =
-    let job = c.args.job.now in
-    let runs = subst (λ P. IsRunBy job.mode P (limits_of job) job.arg job.workers c.in_ok-run.field-0) c.in_ok-typed.ensures c.in_ok-run.ensures in
-    not-ran job c.args.text.now c.args.passed.place (typed_of c.args.passed) c.refused_form.result
-    (subst (λ r. IsRunBy job.mode (typed_of c.args.passed) (limits_of job) job.arg job.workers r) c.in_default.is runs) c.refused_form.ensures
-
 pub returns : goal.returns
 returns g c =
     let job = c.args.job.now in
     let runs = subst (λ P. IsRunBy job.mode P (limits_of job) job.arg job.workers c.in_ok-run.field-0) c.in_ok-typed.ensures c.in_ok-run.ensures in
-    ran-so job c.args.text.now c.args.passed.place (typed_of c.args.passed) c.in-Some.run' c.schedule.result.now c.in_ok-verdict.verdict
+    ran-so job c.args.text.now (typed_of c.args.passed) c.in-Some.run' c.schedule.result.now c.in_ok-verdict.verdict
     (subst (λ r. IsRunBy job.mode (typed_of c.args.passed) (limits_of job) job.arg job.workers r) c.in-Some.is runs) c.schedule.ensures.schedule
     c.in_ok-verdict.ensures

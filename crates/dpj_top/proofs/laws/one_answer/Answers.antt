@@ -1,5 +1,5 @@
-use Rattle.dpj_top.proofs.Verdicts.{answer-unique}
+use Rattle.dpj_top.proofs.Once.{answer_once}
 use Rattle.dpj_top.proofs.laws.one_answer.Goals as goal
 
 pub returns : goal.returns
-returns c = answer-unique c.one_reading.ensures c.one_cutting.ensures
+returns c = answer_once c.promise.ensures c.law_one_passing.ensures.verdict c.law_one_passing.ensures.one

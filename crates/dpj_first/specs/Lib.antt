@@ -1,4 +1,0 @@
-pub mod Form
-pub mod Meaning
-pub mod Reading
-pub mod Tokens

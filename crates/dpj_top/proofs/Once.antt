@@ -1,0 +1,81 @@
+-- There is one answer at most to a job on a text, for each run that was recorded.
+use Rattle.std.proofs.Common.{◌≡◌, ◌∙◌, ℕ, Bool, true, false, List, Option, Some, ap, sym, refl, subst, arith}
+use Rattle.dpj_base.specs.declared.outcome.Outcome.{Outcome}
+use Rattle.dpj_base.specs.declared.place.Place.{Place}
+use Rattle.dpj_history.specs.declared.record.Record.{Record}
+use Rattle.dpj_typed.specs.Plain.{PlainProgram}
+use Rattle.dpj_front.specs.Front.{IsPassed}
+use Rattle.dpj_passed.specs.Laws.{OnePassing, OneVerdict}
+use Rattle.dpj_run.specs.declared.recorded.Recorded.{Recorded}
+use Rattle.dpj_words.specs.declared.command.Command.{Command}
+use Rattle.dpj_words.specs.declared.command.Command.TheVariants as command
+use Rattle.dpj_words.specs.declared.job.Job.{Job}
+use Rattle.dpj_words.specs.declared.verdict.Verdict.TheVariants.{Refused}
+use Rattle.dpj_top.specs.declared.answered.Answered.{Answered}
+use Rattle.dpj_top.specs.Answer.{IsAcceptedAs, IsAnswer, IsAnswerOn, IsElided, IsRan, IsWithin, OneAnswer, asks_run, faulty, is_pinned, limits_of, of_program, only, told_of, to_check, to_effects, to_elide, to_list, to_run, too_long}
+use Rattle.dpj_top.specs.Promise.{KeepsPromise}
+use Rattle.dpj_top.proofs.Promised.{made_run}
+
+some_same : {A : Type 0} {x y : A} → Some x ≡ Some y → x ≡ y
+some_same e = cc
+
+not_true_false : true ≡ false → ⊥
+not_true_false e = cc
+
+ran_once : (job : Job) (text : List ℕ) (typed : PlainProgram) (first second : Answered) → IsRan job text typed first → IsRan job text typed second → first.recorded ≡ second.recorded → first ≡ second
+ran_once job text typed first second a b same =
+    let r = a.made in
+    let q = b.made in
+    let record_same : r.record ≡ q.record = some_same (sym (ap (λ (x : Answered). x.recorded) a.is) ∙ same ∙ ap (λ (x : Answered). x.recorded) b.is) in
+    let come = (made_run job.mode typed (limits_of job) job.arg job.workers r a.run).1 in
+    let came = (made_run job.mode typed (limits_of job) job.arg job.workers q b.run).1 in
+    let outcome_same : r.outcome ≡ q.outcome = some_same (sym come ∙ ap (λ (k : Record). k.machine.outcome) record_same ∙ came) in
+    a.is ∙ ap (λ (k : Record). record { verdict = told_of job text k.machine.schedule r.outcome; recorded = Some k }) record_same
+    ∙ ap (λ (o : Outcome). record { verdict = told_of job text q.record.machine.schedule o; recorded = Some q.record }) outcome_same ∙ sym b.is
+
+-- an answer on a program, by its command
+unlike : (job : Job) (c d : Command) → job.command ≡ c → job.command ≡ d → (c ≡ d → ⊥) → ⊥
+unlike job c d e f different = different (sym e ∙ f)
+
+unpinned : (job : Job) (c : Command) → is_pinned job.command ≡ true → job.command ≡ c → is_pinned c ≡ false → ⊥
+unpinned job c pinned e none = not_true_false (sym pinned ∙ ap is_pinned e ∙ none)
+
+no_run : (job : Job) (c : Command) → asks_run job.command ≡ true → job.command ≡ c → asks_run c ≡ false → ⊥
+no_run job c run e none = not_true_false (sym run ∙ ap asks_run e ∙ none)
+
+on_once : KeepsPromise → (job : Job) (text : List ℕ) (place : Place) (typed : PlainProgram) (first second : Answered) → IsWithin job → is_pinned job.command ≡ true → IsAcceptedAs text place typed →
+    IsAnswerOn job text typed first → IsAnswerOn job text typed second → first.recorded ≡ second.recorded → first ≡ second
+on_once keeps job text place typed first second within pinned accepted (to_check c is) (to_check d so) same = is ∙ sym so
+on_once keeps job text place typed first second within pinned accepted (to_check c is) (to_run d so) same = absurd (no_run job command.Check d c refl)
+on_once keeps job text place typed first second within pinned accepted (to_check c is) (to_elide d so) same = absurd (unlike job command.Check command.Elide c d (λ e. absurd (cc e)))
+on_once keeps job text place typed first second within pinned accepted (to_run c is) (to_check d so) same = absurd (no_run job command.Check c d refl)
+on_once keeps job text place typed first second within pinned accepted (to_run c is) (to_run d so) same = ran_once job text typed first second is so same
+on_once keeps job text place typed first second within pinned accepted (to_run c is) (to_elide d so) same = absurd (no_run job command.Elide c d refl)
+on_once keeps job text place typed first second within pinned accepted (to_elide c is) (to_check d so) same = absurd (unlike job command.Elide command.Check c d (λ e. absurd (cc e)))
+on_once keeps job text place typed first second within pinned accepted (to_elide c is) (to_run d so) same = absurd (no_run job command.Elide d c refl)
+on_once keeps job text place typed first second within pinned accepted (to_elide c is) (to_elide d so) same =
+    keeps.elide job text place typed first within accepted is ∙ sym (keeps.elide job text place typed second within accepted so)
+on_once keeps job text place typed first second within pinned accepted (to_list c is) other same = absurd (unpinned job command.«List» pinned c refl)
+on_once keeps job text place typed first second within pinned accepted (to_effects c is) other same = absurd (unpinned job command.Effects pinned c refl)
+on_once keeps job text place typed first second within pinned accepted (to_check c is) (to_list d so) same = absurd (unpinned job command.«List» pinned d refl)
+on_once keeps job text place typed first second within pinned accepted (to_check c is) (to_effects d so) same = absurd (unpinned job command.Effects pinned d refl)
+on_once keeps job text place typed first second within pinned accepted (to_run c is) (to_list d so) same = absurd (unpinned job command.«List» pinned d refl)
+on_once keeps job text place typed first second within pinned accepted (to_run c is) (to_effects d so) same = absurd (unpinned job command.Effects pinned d refl)
+on_once keeps job text place typed first second within pinned accepted (to_elide c is) (to_list d so) same = absurd (unpinned job command.«List» pinned d refl)
+on_once keeps job text place typed first second within pinned accepted (to_elide c is) (to_effects d so) same = absurd (unpinned job command.Effects pinned d refl)
+
+pub answer_once : KeepsPromise → OneVerdict → OnePassing → OneAnswer
+answer_once keeps verdict one job text first second within pinned = by
+  where
+    by : {x y : Answered} → IsAnswer job text x → IsAnswer job text y → x.recorded ≡ y.recorded → x ≡ y
+    by (too_long h) (too_long k) same = refl
+    by (too_long h) (faulty refusal short fault) same = absurd (omega (arith, h, short))
+    by (too_long h) (of_program place typed answered accepted on) same = let short = accepted.0 in absurd (omega (arith, h, short))
+    by (faulty refusal short fault) (too_long h) same = absurd (omega (arith, h, short))
+    by (faulty refusal short fault) (faulty other k others) same = ap (λ r. only (Refused r)) (verdict.one_fault text refusal other fault others)
+    by (faulty refusal short fault) (of_program place typed answered accepted on) same = absurd (verdict.not_both text place typed refusal accepted.1 fault)
+    by (of_program place typed answered accepted on) (too_long h) same = let short = accepted.0 in absurd (omega (arith, h, short))
+    by (of_program place typed answered accepted on) (faulty refusal short fault) same = absurd (verdict.not_both text place typed refusal accepted.1 fault)
+    by (of_program place typed answered accepted on) (of_program other typed_so another passed on_so) same =
+        on_once keeps job text place typed answered another within pinned accepted on
+        (subst (λ t. IsAnswerOn job text t another) (one text other place typed_so typed passed.1 accepted.1) on_so) same
