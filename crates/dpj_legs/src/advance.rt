@@ -1,4 +1,4 @@
-ghost use Rattle.std.specs.Prelude.{◌≡◌, ◌<◌, ◌+◌, ◌^◌, suc, IfOk, OnErr, MatchOption};
+ghost use Rattle.std.specs.Prelude.{◌≡◌, ◌<◌, ◌+◌, ◌^◌, true, false, suc, IfOk, OnErr, MatchOption};
 ghost use Rattle.dpj_code.specs.Machine.{Stuck};
 ghost use Rattle.dpj_code.specs.Plain.{plain_code};
 ghost use Rattle.dpj_legs.specs.Advances.{step_at, Kept, StepsTo, Advances, StandsAt};
@@ -9,6 +9,7 @@ ghost use Rattle.dpj_legs.specs.Tasks.{plain_level};
 use crate::action::Action;
 use crate::exec::exec;
 use crate::lines::line;
+use crate::pace::Pace;
 use crate::step::Step;
 use crate::task::{Standing, Task};
 use dpj_base::NoMemory;
@@ -41,6 +42,32 @@ impl Task {
             return Ok(Step::Stuck);
         };
         exec(alloc, code, line, &mut self.level, &mut self.callers)
+    }
+
+    /// One step, where it touches nothing but the level; whether it was made. Most steps are such, and this one is quick.
+    pub fn pace(&mut self, code: &Code) -> bool
+        requires paced { Paced self.old }
+        requires going { self.old.turns < 4096 }
+        ensures went { result ≡ true → Advances (plain_code code.now) self.old self.new }
+        ensures moved { result ≡ true → IsAsking (stands self.old.turns self.old.made (step_at (plain_code code.now) self.old)) → ⊥ }
+        ensures stayed { result ≡ false → self.new ≡ self.old }
+        ensures paced { Paced self.new }
+        ensures number { self.new.number ≡ self.old.number }
+    {
+        let Standing::At = &self.standing else {
+            return false;
+        };
+        let Some(line) = line(code, self.level.body, self.level.at) else {
+            return false;
+        };
+        match self.level.pace(line.0) {
+            Pace::Goes => true,
+            Pace::Turns => {
+                self.turns += 1;
+                true
+            }
+            _ => false,
+        }
     }
 
     /// One step on the way, or the action at which the task stands.
