@@ -12,4 +12,3 @@ pub mod Padding
 pub mod Dropped
 pub mod Leading
 pub mod Idle
-pub mod Pacing

@@ -51,10 +51,6 @@ module _ (C : PlainCode) where
   not_stuck t h (zero, (e, f)) s = let g = nothing_yet t h in cc
   not_stuck t h (suc n, (e, f)) s = let g : is_enough C t (suc n) ≡ false = ap is_well (one_step C t Stuck n h s) in cc
 
-  pub least_paced : (old new : Task) (went : Bool) → (went ≡ true → Advances C old new) → (went ≡ false → new ≡ old) → old.turns < 4096 → Least C old → Least C new
-  least_paced old new true w s h a = least_next old new h (w refl) a
-  least_paced old new false w s h a = subst (Least C) (sym (s refl)) a
-
   pub least_after : (old new : Task) (r : Result (Option Action) NoMemory) → IfOk r (λ o. MatchOption o (Advances C old new) (λ a. StandsAt C old a new))
       → OnErr r (new ≡ old) → old.turns < 4096 → Least C old → Least C new
   least_after old new (Ok None) o e h a = least_next old new h o a

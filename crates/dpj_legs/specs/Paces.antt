@@ -1,17 +1,18 @@
 -- What an instruction comes to that touches nothing but its own level.
-use Rattle.std.specs.Prelude.{◌≡◌, ℕ, List, map, Bool, true, false}
+use Rattle.std.specs.Prelude.{◌≡◌, ℕ, List, map, Bool, true, false, Some, slice_get}
 use Rattle.dpj_base.specs.declared.place.Place.{Place}
 use Rattle.dpj_base.specs.declared.value.Trap.TheVariants as trap
 use Rattle.dpj_code.specs.declared.instr.Instr.{Instr}
 use Rattle.dpj_code.specs.declared.instr.Instr.TheVariants as i
 use Rattle.dpj_code.specs.Machine.{On, Off, Stand, Goes, Turns, Stuck}
 use Rattle.dpj_code.specs.Machine as machine
+use Rattle.dpj_code.specs.Plain.{PlainCode, Line, body_at}
 use Rattle.dpj_legs.specs.declared.action.Ending.TheVariants as ending
 use Rattle.dpj_legs.specs.declared.pace.Pace.{Pace}
 use Rattle.dpj_legs.specs.declared.pace.Pace.TheVariants as pace
-use Rattle.dpj_legs.specs.declared.step.Step.{Step}
-use Rattle.dpj_legs.specs.declared.step.Step.TheVariants as step
 use Rattle.dpj_legs.specs.declared.task.Level.{Level}
+use Rattle.dpj_legs.specs.declared.task.Standing.TheVariants as standing
+use Rattle.dpj_legs.specs.declared.task.Task.{Task}
 use Rattle.dpj_legs.specs.Tasks.{plain_level, plain_ending}
 
 -- wherever the instruction stands, and whatever the callers are; unless it goes on, the level is as it was
@@ -22,15 +23,6 @@ Paces o g pace.Divides h = ((at : Place) (fs : List Level) → o at (map plain_l
 Paces o g pace.Stuck h = ((at : Place) (fs : List Level) → o at (map plain_level fs) ≡ Stuck) × (h ≡ g)
 Paces o g pace.Full h = h ≡ g
 Paces o g pace.Other h = h ≡ g
-
--- the same as a step, of an instruction at this place
-abbrev pub IsStep : Pace → Place → Step → Type 0
-IsStep pace.Goes at s = s ≡ step.Goes
-IsStep pace.Turns at s = s ≡ step.Turns
-IsStep pace.Divides at s = s ≡ step.Ends (ending.Trapped trap.Divide at)
-IsStep pace.Stuck at s = s ≡ step.Stuck
-IsStep pace.Full at s = ⊥
-IsStep pace.Other at s = s ≡ step.Stuck
 
 -- whether an instruction touches nothing but the stack and the slots of its level
 abbrev pub is_own : Instr → Bool
@@ -62,3 +54,7 @@ is_own x = false
 pub record IsOwn (old : Level) (p : Pace) (new : Level) : Type 0 where
   pub body : new.body ≡ old.body
   pub own : p ≡ pace.Other → ⊥
+
+-- where a task is at an instruction, that touches more than its level
+abbrev pub IsAtOther : PlainCode → Task → Type 0
+IsAtOther C t = t.standing ≡ standing.At → (l : Line) → Some l ≡ slice_get (body_at C t.level.body).lines t.level.at → is_own l.instr ≡ false

@@ -1,7 +1,8 @@
-ghost use Rattle.std.specs.Prelude.{◌≡◌, ℕ, map, IfOk, OnErr};
+ghost use Rattle.std.specs.Prelude.{◌≡◌, ℕ, false, map, IfOk, OnErr};
 ghost use Rattle.dpj_code.specs.Machine.{exec};
 ghost use Rattle.dpj_code.specs.Plain.{plain_code};
 ghost use Rattle.dpj_legs.specs.Names.{names_of};
+ghost use Rattle.dpj_legs.specs.Paces.{is_own};
 ghost use Rattle.dpj_legs.specs.Steps.{Comes, HasNext};
 ghost use Rattle.dpj_legs.specs.Tasks.{plain_level};
 
@@ -14,7 +15,7 @@ use dpj_base::{NoMemory, Place};
 use dpj_code::{Code, Instr};
 use std::alloc::Global;
 
-/// One instruction. After want of memory all is as it was.
+/// One instruction that touches more than its level. After want of memory all is as it was.
 pub fn exec(
     alloc: Global,
     code: &Code,
@@ -22,7 +23,8 @@ pub fn exec(
     level: &mut Level,
     callers: &mut Stack<Level>,
 ) -> Result<Step, NoMemory>
-    requires { HasNext level.old }
+    requires next { HasNext level.old }
+    requires other { is_own line.0 ≡ false }
     ensures ok { IfOk result (λ s. (task : ℕ) → Comes (plain_code code.now) (exec (names_of task) (plain_code code.now) line.1 line.0 (plain_level level.old) (map plain_level callers.old)) level.old callers.old s level.new callers.new) }
     ensures err { OnErr result ((level.new ≡ level.old) × (callers.new ≡ callers.old)) }
 {
@@ -51,6 +53,6 @@ pub fn exec(
         Instr::Part(part) => Ok(level.take_part(part)),
         Instr::InPart(part) => level.in_part(place, part),
         Instr::InParts(part) => level.in_parts(place, part),
-        _ => level.pace(line.0).step(place),
+        _ => unreachable!(),
     }
 }

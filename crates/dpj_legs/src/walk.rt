@@ -17,7 +17,7 @@ pub fn walk(way: &mut Way, alloc: Global) -> Result<Action, NoMemory>
 {
     while way.task.turns < 4096 {
         let code = way.code;
-        if way.task.pace(code) {
+        if way.task.pace(code)? {
             continue;
         }
         if let Some(action) = way.task.advance(alloc, code)? {

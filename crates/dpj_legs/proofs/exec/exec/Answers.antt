@@ -1,9 +1,5 @@
 use Rattle.std.proofs.lemmas.Result.{IfOk-weaker}
 use Rattle.dpj_code.specs.Plain.{plain_code}
-use Rattle.dpj_code.specs.Machine.{exec}
-use Rattle.dpj_legs.specs.Names.{names_of}
-use Rattle.dpj_legs.specs.Tasks.{plain_level}
-use Rattle.dpj_legs.proofs.Pacing.{as_step, kept_full, own}
 use Rattle.dpj_legs.proofs.exec.exec.Goals as goal
 
 pub returns-in-InPart-clause-ok : goal.returns-in-InPart-clause-ok
@@ -47,15 +43,3 @@ returns-in-Spread-clause-ok c = λ task. rw c.in-Spread.is (c.spread.ensures tas
 
 pub returns-in-Join-clause-ok : goal.returns-in-Join-clause-ok
 returns-in-Join-clause-ok c = λ task. rw c.in-Join.is (c.join.ensures task c.args.callers.now)
-
-pub returns-in_default-clause-ok : goal.returns-in_default-clause-ok
-returns-in_default-clause-ok c =
-    let o = own c.args.line.0 c.in_default.not-Get c.in_default.not-Put c.in_default.not-Elem c.in_default.not-PutElem c.in_default.not-Length c.in_default.not-Call c.in_default.not-New c.in_default.not-Array c.in_default.not-Return c.in_default.not-Leave c.in_default.not-Print c.in_default.not-Text c.in_default.not-Fork c.in_default.not-Spread c.in_default.not-Join c.in_default.not-Enter c.in_default.not-Exit c.in_default.not-End c.in_default.not-Region c.in_default.not-Part c.in_default.not-InPart c.in_default.not-InParts in
-    IfOk-weaker c.step.result _ _ (λ s l task. as_step (λ place fs. exec (names_of task) (plain_code c.args.code.now) place c.args.line.0 (plain_level c.args.level.now) fs)
-    c.args.level.now c.pace.new.self (plain_code c.args.code.now) c.args.line.1 c.args.callers.now c.pace.result s (λ e. let f = c.pace.ensures.other e in cc)
-    (c.pace.ensures.pace task (plain_code c.args.code.now)) l) c.step.ensures.ok
-
-pub returns-in_default-clause-err : goal.returns-in_default-clause-err
-returns-in_default-clause-err c =
-    kept_full (λ place fs. exec (names_of 0) (plain_code c.args.code.now) place c.args.line.0 (plain_level c.args.level.now) fs) c.args.level.now c.pace.new.self
-    c.pace.result c.step.result c.args.callers.now (c.pace.ensures.pace 0 (plain_code c.args.code.now)) c.step.ensures.err

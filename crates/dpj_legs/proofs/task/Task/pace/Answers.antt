@@ -1,13 +1,15 @@
-use Rattle.std.proofs.Common.{◌≡◌, ℕ, arith, ap, subst, refl, map, ◌+◌}
+use Rattle.std.proofs.Common.{◌∙◌, sym, Some, false, ◌≡◌, ℕ, arith, ap, subst, refl, map, ◌+◌}
 use Rattle.dpj_code.specs.Machine.{Goes, Turns, exec, step}
 use Rattle.dpj_code.specs.Plain.{plain_code}
-use Rattle.dpj_legs.specs.Advances.{step_at}
+use Rattle.dpj_base.specs.declared.value.Trap.TheVariants as trap
+use Rattle.dpj_legs.specs.declared.action.Ending.TheVariants as ending
+use Rattle.dpj_legs.specs.declared.task.Standing.TheVariants as standing
+use Rattle.dpj_legs.specs.Paces.{is_own}
 use Rattle.dpj_legs.specs.Halts.{IsAsking, stands}
 use Rattle.dpj_legs.specs.Names.{names_of}
 use Rattle.dpj_legs.specs.Steps.{plain_line}
 use Rattle.dpj_legs.specs.Tasks.{plain_level, state_of}
-use Rattle.dpj_legs.proofs.Pacing.{stays}
-use Rattle.dpj_legs.proofs.Stepping.{goes_by_itself, turns_by_itself, by_going, by_turning}
+use Rattle.dpj_legs.proofs.Stepping.{run_at, goes_by_itself, turns_by_itself, by_going, by_turning}
 use Rattle.dpj_legs.proofs.task.Task.pace.Goals as goal
 
 pub returns-in-Goes-clause-went : goal.returns-in-Goes-clause-went
@@ -38,7 +40,37 @@ returns-in-Turns-clause-moved c _ =
     (is c.in-Some.line.1 c.args.self.now.callers) in
     subst (λ o. IsAsking (stands c.args.self.now.turns c.args.self.now.made o)) e
 
-pub returns-in_default-pace-clause-stayed : goal.returns-in_default-pace-clause-stayed
-returns-in_default-pace-clause-stayed c _ =
-    ap (λ g. record c.args.self.now { level = g }) (stays (λ place fs. exec (names_of 0) (plain_code c.args.code.now) place c.in-Some.line.0 (plain_level c.args.self.now.level) fs)
-    c.args.self.now.level c.pace.new.self c.pace.result c.in_default-pace.not-Goes c.in_default-pace.not-Turns (c.pace.ensures.pace 0 (plain_code c.args.code.now)))
+pub returns-in-Divides-clause-went : goal.returns-in-Divides-clause-went
+returns-in-Divides-clause-went c _ =
+    let is = rw c.in-Divides.is at c.pace.ensures.pace c.args.self.now.number (plain_code c.args.code.now) in
+    by_going (plain_code c.args.code.now) c.args.self.now
+    (record c.args.self.now { level = c.pace.new.self; standing = standing.Ended (ending.Trapped trap.Divide c.in-Some.line.1) }) c.requires.going
+    (run_at (plain_code c.args.code.now) c.args.self.now (plain_line c.in-Some.line) c.in-At.is c.in-Some.ensures.line
+    ∙ is.0 c.in-Some.line.1 c.args.self.now.callers) refl refl refl
+
+pub returns-in-Divides-clause-moved : goal.returns-in-Divides-clause-moved
+returns-in-Divides-clause-moved c _ =
+    let is = rw c.in-Divides.is at c.pace.ensures.pace c.args.self.now.number (plain_code c.args.code.now) in
+    let e = run_at (plain_code c.args.code.now) c.args.self.now (plain_line c.in-Some.line) c.in-At.is c.in-Some.ensures.line
+    ∙ is.0 c.in-Some.line.1 c.args.self.now.callers in
+    subst (λ o. IsAsking (stands c.args.self.now.turns c.args.self.now.made o)) e
+
+pub returns-in-Full-clause-err : goal.returns-in-Full-clause-err
+returns-in-Full-clause-err c =
+    let is = rw c.in-Full.is at c.pace.ensures.pace c.args.self.now.number (plain_code c.args.code.now) in
+    ap (λ g. record c.args.self.now { level = g }) is
+
+pub returns-in-Other-clause-stayed : goal.returns-in-Other-clause-stayed
+returns-in-Other-clause-stayed c _ =
+    let is = rw c.in-Other.is at c.pace.ensures.pace c.args.self.now.number (plain_code c.args.code.now) in
+    let other = c.pace.ensures.other c.in-Other.is in (
+      ap (λ g. record c.args.self.now { level = g }) is,
+      λ at l e. (let same : Some (plain_line c.in-Some.line) ≡ Some l = c.in-Some.ensures.line ∙ sym e in
+          let line : plain_line c.in-Some.line ≡ l = cc in subst (λ l. is_own l.instr ≡ false) line other),
+    )
+
+pub unreachable-requires : goal.unreachable-requires
+unreachable-requires c =
+    let is = rw c.in-Stuck.is at c.pace.ensures.pace c.args.self.now.number (plain_code c.args.code.now) in
+    c.requires.alive (run_at (plain_code c.args.code.now) c.args.self.now (plain_line c.in-Some.line) c.in-At.is c.in-Some.ensures.line
+    ∙ is.0 c.in-Some.line.1 c.args.self.now.callers)
