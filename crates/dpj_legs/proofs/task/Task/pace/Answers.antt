@@ -1,14 +1,11 @@
-use Rattle.std.proofs.Common.{◌∙◌, sym, Some, false, ◌≡◌, ℕ, arith, ap, subst, refl, map, ◌+◌}
-use Rattle.dpj_code.specs.Machine.{Goes, Turns, exec, step}
+use Rattle.std.proofs.Common.{◌∙◌, sym, Some, false, ◌≡◌, arith, ap, subst, refl, ◌+◌}
 use Rattle.dpj_code.specs.Plain.{plain_code}
 use Rattle.dpj_base.specs.declared.value.Trap.TheVariants as trap
 use Rattle.dpj_legs.specs.declared.action.Ending.TheVariants as ending
 use Rattle.dpj_legs.specs.declared.task.Standing.TheVariants as standing
 use Rattle.dpj_legs.specs.Paces.{is_own}
 use Rattle.dpj_legs.specs.Halts.{IsAsking, stands}
-use Rattle.dpj_legs.specs.Names.{names_of}
 use Rattle.dpj_legs.specs.Steps.{plain_line}
-use Rattle.dpj_legs.specs.Tasks.{plain_level, state_of}
 use Rattle.dpj_legs.proofs.Stepping.{run_at, goes_by_itself, turns_by_itself, by_going, by_turning}
 use Rattle.dpj_legs.proofs.task.Task.pace.Goals as goal
 
