@@ -78,7 +78,9 @@ impl Task {
         Ok(true)
     }
 
-    /// One step on the way that touches more than the level, or the action at which the task stands.
+    /// One step on the way that touches more than the level, or the action at which the task stands. It is kept apart from the
+    /// loop around it, whose quick steps would slow down with it.
+    #[inline(never)]
     pub fn advance(&mut self, alloc: Global, code: &Code) -> Result<Option<Action>, NoMemory>
         requires paced { Paced self.old }
         requires going { self.old.turns < 4096 }
