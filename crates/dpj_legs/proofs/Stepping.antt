@@ -78,7 +78,6 @@ module _ (C : PlainCode) where
       by_case : (s : Step) → Comes C (exec (names_of t.number) C l.place l.instr (plain_level t.level) (map plain_level t.callers)) t.level t.callers s h hs
           → StepsTo C t s (record t { level = h; callers = hs })
       by_case step_of.Goes c = is ∙ c ∙ ap machine.Goes (sym on)
-      by_case step_of.Turns c = is ∙ c ∙ ap machine.Turns (sym on)
       by_case (step_of.Makes r) c = (
         is ∙ c.0 ∙ sym (ap (λ g. machine.Makes (λ m. machine.On (with_local r m (plain_level g)) (map plain_level hs))) c.1
             ∙ ap (λ gs. machine.Makes (λ m. machine.On (with_local r m (plain_level t.level)) (map plain_level gs))) c.2),
@@ -95,7 +94,6 @@ module _ (C : PlainCode) where
       (λ n m. subst (λ o. Tells C a (stands n m o)) (sym (step_rested t e)) (tells _ a (w t.number t.callers) n m), refl)
   rested_steps t step_of.Stuck e w = step_rested t e ∙ w t.number t.callers
   rested_steps t step_of.Goes e w = absurd (w t.number t.callers)
-  rested_steps t step_of.Turns e w = absurd (w t.number t.callers)
   rested_steps t (step_of.Makes r) e w = absurd (w t.number t.callers)
   rested_steps t (step_of.Ends x) e w = absurd (w t.number t.callers)
 

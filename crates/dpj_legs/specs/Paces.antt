@@ -1,4 +1,4 @@
--- What an instruction comes to that touches nothing but its own level.
+-- Instructions of values and jumps: they touch nothing but the stack and the slots of their level.
 use Rattle.std.specs.Prelude.{◌≡◌, ℕ, List, map, Bool, true, false, Some, slice_get}
 use Rattle.dpj_base.specs.declared.place.Place.{Place}
 use Rattle.dpj_base.specs.declared.value.Trap.TheVariants as trap
@@ -15,7 +15,7 @@ use Rattle.dpj_legs.specs.declared.task.Standing.TheVariants as standing
 use Rattle.dpj_legs.specs.declared.task.Task.{Task}
 use Rattle.dpj_legs.specs.Tasks.{plain_level, plain_ending}
 
--- wherever the instruction stands, and whatever the callers are; unless it goes on, the level is as it was
+-- what it comes to, wherever it stands and whatever the callers are; unless it goes on, the level is as it was
 abbrev pub Paces : (Place → List (machine.Level ℕ (ℕ × ℕ)) → Stand ℕ (ℕ × ℕ)) → Level → Pace → Level → Type 0
 Paces o g pace.Goes h = (at : Place) (fs : List Level) → o at (map plain_level fs) ≡ Goes (On (plain_level h) (map plain_level fs))
 Paces o g pace.Turns h = (at : Place) (fs : List Level) → o at (map plain_level fs) ≡ Turns (On (plain_level h) (map plain_level fs))
@@ -24,7 +24,7 @@ Paces o g pace.Stuck h = ((at : Place) (fs : List Level) → o at (map plain_lev
 Paces o g pace.Full h = h ≡ g
 Paces o g pace.Other h = h ≡ g
 
--- whether an instruction touches nothing but the stack and the slots of its level
+-- whether an instruction is one of values and jumps
 abbrev pub is_own : Instr → Bool
 is_own (i.Int k) = true
 is_own (i.Bool b) = true
@@ -50,11 +50,11 @@ is_own (i.Unless l) = true
 is_own i.Turn = true
 is_own x = false
 
--- the level stays in its body, and the instruction is one of these
+-- such an instruction leaves its level in its body
 pub record IsOwn (old : Level) (p : Pace) (new : Level) : Type 0 where
   pub body : new.body ≡ old.body
   pub own : p ≡ pace.Other → ⊥
 
--- where a task is at an instruction, that touches more than its level
+-- where a task is at an instruction, it is another one
 abbrev pub IsAtOther : PlainCode → Task → Type 0
 IsAtOther C t = t.standing ≡ standing.At → (l : Line) → Some l ≡ slice_get (body_at C t.level.body).lines t.level.at → is_own l.instr ≡ false

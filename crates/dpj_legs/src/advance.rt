@@ -47,7 +47,7 @@ impl Task {
         exec(alloc, code, line, &mut self.level, &mut self.callers)
     }
 
-    /// One step, where it touches nothing but the level; whether it was made. Most steps are such, and this one is quick.
+    /// One step, where it is one of values and jumps; whether it was made. Most steps are such, and this one is quick.
     pub fn pace(&mut self, code: &Code) -> Result<bool, NoMemory>
         requires paced { Paced self.old }
         requires going { self.old.turns < 4096 }
@@ -78,7 +78,7 @@ impl Task {
         Ok(true)
     }
 
-    /// One step on the way that touches more than the level, or the action at which the task stands. It is kept apart from the
+    /// Another step on the way, or the action at which the task stands. It is kept apart from the
     /// loop around it, whose quick steps would slow down with it.
     #[inline(never)]
     pub fn advance(&mut self, alloc: Global, code: &Code) -> Result<Option<Action>, NoMemory>
@@ -94,10 +94,6 @@ impl Task {
     {
         match self.step(alloc, code)? {
             Step::Goes => Ok(None),
-            Step::Turns => {
-                self.turns += 1;
-                Ok(None)
-            }
             Step::Makes(declaration) => {
                 self.make_region(declaration);
                 Ok(None)

@@ -15,7 +15,7 @@ use dpj_base::{NoMemory, Place};
 use dpj_code::{Code, Instr};
 use std::alloc::Global;
 
-/// One instruction that touches more than its level. After want of memory all is as it was.
+/// One instruction that isn't one of values and jumps. After want of memory all is as it was.
 pub fn exec(
     alloc: Global,
     code: &Code,

@@ -24,7 +24,7 @@ use dpj_code::Instr;
 use dpj_typed::BinaryOp;
 
 impl Level {
-    /// An instruction that touches nothing but the level's stack and slots; at any other it stays.
+    /// An instruction of values and jumps; at any other the level stays as it is.
     pub fn pace(&mut self, instr: Instr) -> Pace
         requires { HasNext self.old }
         ensures pace { (task : ℕ) (C : PlainCode) → Paces (λ place fs. exec (names_of task) C place instr (plain_level self.old) fs) self.old result self.new }

@@ -1,5 +1,5 @@
-/// What an instruction comes to that touches nothing but the stack and the slots of its level. It is small, since a task
-/// meets one at almost every instruction.
+/// What an instruction of values and jumps comes to, which touches nothing but the stack and the slots of its level. It is
+/// small, since most instructions are such.
 #[derive(Clone, Copy, Debug, PartialEq, Eq)]
 pub enum Pace {
     /// The next instruction.
@@ -12,6 +12,6 @@ pub enum Pace {
     Stuck,
     /// There is no memory for it.
     Full,
-    /// It touches more than its level.
+    /// It is another instruction.
     Other,
 }
