@@ -1,1 +1,5 @@
 pub mod Same
+pub mod Reading
+pub mod Outside
+pub mod Calling
+pub mod Raising

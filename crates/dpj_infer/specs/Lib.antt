@@ -1,3 +1,5 @@
 pub mod Kept
 pub mod Doing
+pub mod Walked
 pub mod Firm
+pub mod Asked

@@ -1,28 +1,31 @@
+ghost use Rattle.std.specs.Prelude.{◌≡◌, IfOk};
+ghost use Rattle.dpj_typed.specs.Plain.{plain_program};
+ghost use Rattle.dpj_infer.specs.Asked.{asked, more, all_kept};
+
 use crate::classes::{add_copies, class_at, counted, member_at, params_from, seen_as};
 use crate::kept::Kept;
 use crate::own::Own;
-use crate::scope::{Known, Scope};
+use crate::scope::Scope;
 use crate::stmts::block;
 use crate::walk::{Keeping, Walk, item_kept};
 use dpj_base::{Access, Effect, Items, NoMemory, Plain, Rpl};
 use dpj_regions::{includes, subst};
-use dpj_typed::{Class, ClassId, Member, MemberId, Program, Slot};
+use dpj_typed::{Class, ClassId, Member, MemberId, Program};
 use std::alloc::Global;
 
 /// What the body of a member does, where all members do what is kept of their summaries.
 pub fn done_by(walk: Walk<'_>, member: &Member) -> Result<Items<Own>, NoMemory> {
-    let mut scope = Scope::new(walk.alloc, member.slots, member.local_regions)?;
-    for at in 0..counted(&member.formals) {
-        let number = at.saturating_add(1);
-        scope.put(Slot { number }, Known::Variable);
-    }
+    // Nothing that is in scope at the beginning stands in an index or is a part.
+    let mut scope = Scope::new(walk.alloc);
     let mut out = Items::new(walk.alloc);
     block(walk, &mut scope, member.body.as_slice(), &mut out)?;
     Ok(out)
 }
 
 /// How much of an item a demand asks for, where the item takes it: it has the place, and it isn't marked, or the demand is too.
-pub fn asked(item: &Effect, place: &Rpl, demand: &Effect) -> Kept {
+pub fn asked(item: &Effect, place: &Rpl, demand: &Effect) -> Kept
+    ensures { result ≡ asked item.now place.now demand.now }
+{
     let takes = includes(place, &demand.rpl) && (!item.atomic || demand.atomic);
     match (takes, demand.access) {
         (false, _) => Kept::Nothing,
@@ -32,7 +35,9 @@ pub fn asked(item: &Effect, place: &Rpl, demand: &Effect) -> Kept {
 }
 
 /// The more of two.
-pub fn more(a: Kept, b: Kept) -> Kept {
+pub fn more(a: Kept, b: Kept) -> Kept
+    ensures { result ≡ more a b }
+{
     match (a, b) {
         (Kept::Whole, _) | (_, Kept::Whole) => Kept::Whole,
         (Kept::Read, _) | (_, Kept::Read) => Kept::Read,
@@ -76,7 +81,9 @@ pub fn kept_of(
     program: &Program,
     kept: &Keeping,
     number: MemberId,
-) -> Result<Items<Effect>, NoMemory> {
+) -> Result<Items<Effect>, NoMemory>
+    ensures { IfOk result (λ all. all ≡ all_kept kept.now (plain_program program.now) number.number) }
+{
     let mut all = Items::new(alloc);
     let (Some(member), Some(kept)) = (member_at(program, number), kept.get(number.number as usize))
     else {

@@ -1,24 +1,46 @@
+ghost use Rattle.std.specs.Prelude.{◌≡◌, ◌+◌, ◌≤◌, ◌++◌, length, map, min, option_map, IfOk, OnOk};
+ghost use Rattle.std.specs.Option.{option_copied};
+ghost use Rattle.dpj_base.specs.Regions.{substituted};
+ghost use Rattle.dpj_base.specs.Types.{plain_type};
+ghost use Rattle.dpj_typed.specs.Plain.{plain_program, plain_class, plain_member, plain_field, plain_parent};
+ghost use Rattle.dpj_typed.specs.Scope.{class_at, member_at, field_at, row_at};
+ghost use Rattle.dpj_typed.specs.Table.{params_from};
+ghost use Rattle.dpj_infer.specs.Doing.{seen_as};
+ghost use Rattle.dpj_infer.specs.Walked.{class_parts, parent_below};
+
 use dpj_base::{Elems, Head, Items, NoMemory, Plain, Rpl, Ty};
 use dpj_regions::subst;
 use dpj_typed::{Class, ClassId, Field, FieldSlot, Member, MemberId, Parent, Program, Row};
 use std::alloc::Global;
 
-pub fn class_at(program: &Program, class: u32) -> Option<&Class> {
+#[tactic(auto, using(crate::proofs::Reading::reading))]
+pub fn class_at(program: &Program, class: u32) -> Option<&Class>
+    ensures { option_map plain_class (option_copied result) ≡ class_at (plain_program program.now) class }
+{
     program.classes.get(class as usize)
 }
 
-pub fn member_at(program: &Program, member: MemberId) -> Option<&Member> {
+#[tactic(auto, using(crate::proofs::Reading::reading))]
+pub fn member_at(program: &Program, member: MemberId) -> Option<&Member>
+    ensures { option_map plain_member (option_copied result) ≡ member_at (plain_program program.now) member.number }
+{
     program.members.get(member.number as usize)
 }
 
-pub fn field_at(program: &Program, class: ClassId, field: FieldSlot) -> Option<&Field> {
+#[tactic(auto, using(crate::proofs::Reading::reading))]
+pub fn field_at(program: &Program, class: ClassId, field: FieldSlot) -> Option<&Field>
+    ensures { option_map plain_field (option_copied result) ≡ field_at (plain_program program.now) class.number field.number }
+{
     class_at(program, class.number)?
         .fields
         .get(field.number as usize)
 }
 
 /// The member in a row of a class.
-pub fn row_at(program: &Program, class: ClassId, row: Row) -> Option<MemberId> {
+#[tactic(auto, using(crate::proofs::Reading::reading))]
+pub fn row_at(program: &Program, class: ClassId, row: Row) -> Option<MemberId>
+    ensures { option_map (λ member. member.number) result ≡ row_at (plain_program program.now) class.number row.number }
+{
     class_at(program, class.number)?
         .rows
         .get(row.number as usize)
@@ -26,7 +48,9 @@ pub fn row_at(program: &Program, class: ClassId, row: Row) -> Option<MemberId> {
 }
 
 /// The arguments of a class type.
-pub fn args_of(ty: &Ty) -> Option<(u32, &Items<Rpl>)> {
+pub fn args_of(ty: &Ty) -> Option<(u32, &Items<Rpl>)>
+    ensures { option_map (λ parts. (parts.0, parts.1.now)) result ≡ class_parts (plain_type ty.now) }
+{
     match ty {
         Ty::Class { class, args } => Some((*class, args)),
         _ => None,
@@ -34,34 +58,41 @@ pub fn args_of(ty: &Ty) -> Option<(u32, &Items<Rpl>)> {
 }
 
 /// The arguments of a class, where one with these arguments is seen as that class at or above it.
+#[tactic(auto, using(crate::proofs::Reading::seen))]
 pub fn seen_as(
     alloc: Global,
     program: &Program,
     class: u32,
     args: Items<Rpl>,
     above: u32,
-) -> Result<Items<Rpl>, NoMemory> {
-    let mut class = class;
-    let mut args = args;
-    for _ in 0..program.classes.len() {
-        let Some(parent) = parent_below(program, class, above) else {
+) -> Result<Items<Rpl>, NoMemory>
+    ensures { IfOk result (λ seen. seen ≡ seen_as (plain_program program.now) class args above) }
+{
+    let mut at = class;
+    let mut seen = args;
+    for _step in 0..program.classes.len() {
+        let Some(parent) = parent_below(program, at, above) else {
             break;
         };
-        args = all_subst(alloc, &parent.args, &args)?;
-        class = parent.class.number;
+        seen = all_subst(alloc, &parent.args, &seen)?;
+        at = parent.class.number;
     }
-    Ok(args)
+    Ok(seen)
 }
 
 /// The superclass of a class that isn't that one yet.
-fn parent_below(program: &Program, class: u32, above: u32) -> Option<&Parent> {
+fn parent_below(program: &Program, class: u32, above: u32) -> Option<&Parent>
+    ensures { option_map plain_parent (option_copied result) ≡ parent_below (plain_program program.now) class above }
+{
     if class == above {
         return None;
     }
     class_at(program, class)?.parent.as_ref()
 }
 
-fn all_subst(alloc: Global, paths: &Items<Rpl>, args: &Items<Rpl>) -> Result<Items<Rpl>, NoMemory> {
+fn all_subst(alloc: Global, paths: &Items<Rpl>, args: &Items<Rpl>) -> Result<Items<Rpl>, NoMemory>
+    ensures { IfOk result (λ all. all ≡ map (substituted args.now) paths.now) }
+{
     let mut all = Items::new(alloc);
     for path in paths.as_slice() {
         all.push(subst(alloc, path, args.as_slice())?)?;
@@ -75,7 +106,9 @@ pub fn params_from(
     first: u32,
     count: u32,
     all: &mut Items<Rpl>,
-) -> Result<(), NoMemory> {
+) -> Result<(), NoMemory>
+    ensures { first + count ≤ 4294967296 → OnOk result (all.new ≡ all.old ++ params_from first count) }
+{
     for at in 0..count {
         all.push(Rpl {
             head: Head::Param(first.saturating_add(at)),
@@ -86,12 +119,16 @@ pub fn params_from(
 }
 
 /// How many there are, as far as a number of 32 bits counts.
-pub fn counted<T>(all: &Items<T>) -> u32 {
+pub fn counted<T>(all: &Items<T>) -> u32
+    ensures { result ≡ min (length all.now) 4294967295 }
+{
     all.len().min(4294967295) as u32
 }
 
 /// Adds copies of some paths to others.
-pub fn add_copies(alloc: Global, more: &Items<Rpl>, all: &mut Items<Rpl>) -> Result<(), NoMemory> {
+pub fn add_copies(alloc: Global, more: &Items<Rpl>, all: &mut Items<Rpl>) -> Result<(), NoMemory>
+    ensures { OnOk result (all.new ≡ all.old ++ more.now) }
+{
     for path in more.as_slice() {
         all.push(path.copy(alloc)?)?;
     }

@@ -1,10 +1,14 @@
-ghost use Rattle.std.specs.Prelude.{◌≡◌, length, map, IfOk};
+ghost use Rattle.std.specs.Prelude.{◌≡◌, false, length, map, slice_get, IfOk, OnOk};
 ghost use Rattle.dpj_typed.specs.Plain.{plain_program};
+ghost use Rattle.dpj_typed.specs.Effects.{as_effects};
 ghost use Rattle.dpj_infer.specs.Kept.{SaysOfEach, SayOfTheSame};
+ghost use Rattle.dpj_infer.specs.Asked.{raised, raised_here, raised_in};
+ghost use Rattle.dpj_infer.specs.Walked.{all_done};
 
 use crate::asking::{asked, done_by, kept_of, more, seen_items};
 use crate::classes::{class_at, counted, member_at};
 use crate::kept::Kept;
+use crate::own::Own;
 use crate::walk::{Keeping, Walk};
 use dpj_base::{Effect, Items, NoMemory, Plain, Rpl};
 use dpj_typed::{Class, ClassId, Member, MemberId, Program};
@@ -91,27 +95,44 @@ fn ask_body(
     kept: &mut Keeping,
 ) -> Result<bool, NoMemory>
     ensures same { SayOfTheSame kept.new kept.old }
+    ensures still { IfOk result (λ risen. risen ≡ false → kept.new ≡ kept.old) }
 {
     let Some(member) = member_at(program, number) else {
         return Ok(false);
     };
-    let done = done_by(
-        Walk {
-            alloc,
-            program,
-            kept,
-        },
-        member,
-    )?;
-    let mut items = Items::new(alloc);
-    let mut demands = Items::new(alloc);
+    let Some(_) = class_at(program, member.class.number) else {
+        return Ok(false);
+    };
+    let walk = Walk {
+        alloc,
+        program,
+        kept,
+    };
+    let demands = effects_in(alloc, done_by(walk, member)?)?;
+    let places = places_of(alloc, member)?;
+    raise(alloc, number, member, &places, &demands, kept)
+}
+
+/// The places of the items of a member.
+fn places_of(alloc: Global, member: &Member) -> Result<Items<Rpl>, NoMemory>
+    ensures { IfOk result (λ places. places ≡ map (λ e. e.rpl) member.now.summary) }
+{
+    let mut places = Items::new(alloc);
     for item in member.summary.as_slice() {
-        items.push(item.rpl.copy(alloc)?)?;
+        places.push(item.rpl.copy(alloc)?)?;
     }
+    Ok(places)
+}
+
+#[tactic(auto, using(crate::proofs::Raising::effects))]
+fn effects_in(alloc: Global, done: Items<Own>) -> Result<Items<Effect>, NoMemory>
+    ensures { IfOk result (λ effects. effects ≡ as_effects (all_done done)) }
+{
+    let mut effects = Items::new(alloc);
     for own in done.into_vec() {
-        demands.push(own.effect)?;
+        effects.push(own.effect)?;
     }
-    raise(alloc, number, member, &items, &demands, kept)
+    Ok(effects)
 }
 
 /// Raises the items of the members that the members of a class override.
@@ -134,7 +155,7 @@ fn ask_class(
     };
     let mut has_risen = false;
     for (over, member) in class.rows.as_slice().iter().zip(above.rows.as_slice()) {
-        if over != member && ask_override(alloc, program, number, class, *over, *member, kept)? {
+        if ask_override(alloc, program, number, class, *over, *member, kept)? {
             has_risen = true;
         }
     }
@@ -155,13 +176,19 @@ fn ask_override(
     let Some(member) = member_at(program, above) else {
         return Ok(false);
     };
+    let Some(own) = member_at(program, over) else {
+        return Ok(false);
+    };
+    if own.class != number {
+        return Ok(false);
+    }
     let items = seen_items(alloc, program, number, class, member)?;
     let demands = kept_of(alloc, program, kept, over)?;
     raise(alloc, above, member, &items, &demands, kept)
 }
 
 /// Raises the items of a member to what is asked, as far as they are written, where they lie in these places.
-#[tactic(auto, using(crate::proofs::Same::set_alike))]
+#[tactic(auto, using(crate::proofs::Raising::raising))]
 fn raise(
     alloc: Global,
     number: MemberId,
@@ -171,6 +198,8 @@ fn raise(
     kept: &mut Keeping,
 ) -> Result<bool, NoMemory>
     ensures same { SayOfTheSame kept.new kept.old }
+    ensures kept { OnOk result (kept.new ≡ raised_in kept.old number.number member.now.summary places.now demands.now) }
+    ensures still { IfOk result (λ risen. risen ≡ false → kept.new ≡ kept.old) }
 {
     let at = number.number as usize;
     let Some(old) = kept.get(at) else {
@@ -179,10 +208,7 @@ fn raise(
     let mut new = Items::new(alloc);
     let mut has_risen = false;
     for (position, old) in old.as_slice().iter().enumerate() {
-        let risen = match (member.summary.get(position), places.get(position)) {
-            (Some(item), Some(place)) => raised(item, place, demands.as_slice(), *old),
-            _ => *old,
-        };
+        let risen = raised_at(member, places, position, demands.as_slice(), *old);
         has_risen = has_risen || risen != *old;
         new.push(risen)?;
     }
@@ -190,7 +216,28 @@ fn raise(
     Ok(has_risen)
 }
 
-fn raised(item: &Effect, place: &Rpl, demands: &[Effect], old: Kept) -> Kept {
+/// How much of an item is kept behind these demands.
+fn raised_at(
+    member: &Member,
+    places: &Items<Rpl>,
+    position: usize,
+    demands: &[Effect],
+    old: Kept,
+) -> Kept
+    ensures { result ≡ raised_here (slice_get member.now.summary position) (slice_get places.now position) demands.now old }
+{
+    let Some(item) = member.summary.get(position) else {
+        return old;
+    };
+    let Some(place) = places.get(position) else {
+        return old;
+    };
+    raised(item, place, demands, old)
+}
+
+fn raised(item: &Effect, place: &Rpl, demands: &[Effect], old: Kept) -> Kept
+    ensures { result ≡ raised item.now place.now demands.now old }
+{
     let mut risen = old;
     for demand in demands {
         risen = more(risen, asked(item, place, demand));

@@ -4,7 +4,8 @@
 //! calls in it, and what is kept of the methods that override a method, has to lie in what is kept; the inferred summaries are the
 //! least for which this holds (`specs/Firm.antt`).
 //!
-//! What is proved is that `infer` says something of each item of each member. That it says the least is tested, and not proved yet.
+//! What is proved is that `infer` says something of each item of each member, that the walk of an expression gathers exactly what it
+//! does, and that the items of a member are raised to exactly what is asked. That `infer` says the least is tested, and not proved yet.
 #![tactic(auto)]
 
 mod asking;
