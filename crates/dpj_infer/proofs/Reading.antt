@@ -2,7 +2,7 @@
 use Rattle.std.proofs.Common.{◌≡◌, ◌∙◌, ℕ, zero, suc, ◌+◌, ◌-◌, ◌<◌, arith, Bool, true, false, cond, if◌then◌else◌, ◌==◌, List, [], ◌∷◌, ◌++◌, length, map, fold, Option, Some, None, refl, ap, sym, append_assoc, ◌⊎◌, inl, inr}
 use Rattle.std.specs.Option.{option_map}
 use Rattle.std.proofs.lemmas.Option.{slice_get-map}
-use Rattle.std.proofs.lemmas.List.{map-append, append-nil}
+use Rattle.std.proofs.lemmas.List.{map-append, append-nil, length-map}
 use Rattle.std.proofs.lemmas.List.Sums.{fold-append}
 use Rattle.dpj_base.specs.declared.effect.Effect.{Effect}
 use Rattle.dpj_base.specs.declared.region.Head.TheVariants.{Param}
@@ -21,6 +21,9 @@ use Rattle.dpj_infer.specs.Kept.{summary_kept}
 use Rattle.dpj_infer.specs.Walked.{parent_below, local_of, with_placed, nowhere, scope_of, last_of, is_constant, part_path, known_of, SameUse}
 
 pub ruleset reading = (slice_get-map)
+
+-- how many region parameters there are
+pub ruleset counting = (length-map)
 
 -- one list of effects behind another
 pub ruleset joined = (map-append, append_assoc, append-nil)

@@ -100,22 +100,35 @@ fn all_subst(alloc: Global, paths: &Items<Rpl>, args: &Items<Rpl>) -> Result<Ite
     Ok(all)
 }
 
-/// Region parameters from one on, so many, each as a path.
+/// Adds region parameters from one on, so many, each as a path.
 pub fn params_from(
     alloc: Global,
-    first: u32,
-    count: u32,
+    first: usize,
+    count: usize,
     all: &mut Items<Rpl>,
 ) -> Result<(), NoMemory>
-    ensures { first + count ≤ 4294967296 → OnOk result (all.new ≡ all.old ++ params_from first count) }
+    ensures { OnOk result (all.new ≡ all.old ++ params_from first count) }
 {
     for at in 0..count {
         all.push(Rpl {
-            head: Head::Param(first.saturating_add(at)),
+            head: Head::Param(number_after(first, at)?),
             elems: Elems::new(alloc),
         })?;
     }
     Ok(())
+}
+
+/// The number so many after another. No memory holds a region parameter that has none.
+fn number_after(first: usize, at: usize) -> Result<u32, NoMemory>
+    ensures { IfOk result (λ number. number ≡ first + at) }
+{
+    let Some(number) = first.checked_add(at) else {
+        return Err(NoMemory);
+    };
+    match u32::try_from(number) {
+        Ok(number) => Ok(number),
+        Err(_) => Err(NoMemory),
+    }
 }
 
 /// How many there are, as far as a number of 32 bits counts.

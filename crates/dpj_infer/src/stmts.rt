@@ -1,10 +1,11 @@
 ghost use Rattle.std.specs.Prelude.{◌≡◌, ◌++◌, map, Some, IfOk, OnOk};
-ghost use Rattle.dpj_base.specs.Types.{plain_type};
-ghost use Rattle.dpj_typed.specs.Plain.{plain_program, plain_stmt, plain_source};
+ghost use Rattle.dpj_base.specs.Types.{int, plain_type};
+ghost use Rattle.dpj_typed.specs.Plain.{plain_program, plain_stmt, plain_source, stmts_of, branches_of, TypedBranch};
+ghost use Rattle.dpj_typed.specs.Scope.{constant, with_local};
 ghost use Rattle.dpj_typed.specs.Effects.{after_branches, after_parts};
 ghost use Rattle.dpj_infer.specs.Kept.{program_kept};
-ghost use Rattle.dpj_infer.specs.Doing.{done_by_source, part_of, part_of_type};
-ghost use Rattle.dpj_infer.specs.Walked.{all_done, scope_of, local_of, known_as, placed_by, variables_by, regions_by, simple_done, SameUse};
+ghost use Rattle.dpj_infer.specs.Doing.{done_by_source, part_of, part_of_type, effects_of, effects_of_all, effects_of_branches};
+ghost use Rattle.dpj_infer.specs.Walked.{all_done, scope_of, local_of, known_as, placed_by, variables_by, regions_by, simple_done, fork_done, plain_branch, SameUse};
 
 use crate::exprs::{add_element, add_field, add_part, expr};
 use crate::leaving::{Opened, handed_on, leave, leave_block, leave_branches, leave_variable};
@@ -16,12 +17,16 @@ use dpj_typed::{Branch, Expr, Forking, LocalRegion, PartSource, Slot, Stmt, Stmt
 
 /// Adds what the statements of a block do, as it is seen outside of it.
 #[cycle(stmts)]
+#[tactic(auto, using(crate::proofs::Blocks::blocks))]
 pub fn block(
     walk: Walk<'_>,
     scope: &mut Scope,
     all: &[Stmt],
     out: &mut Items<Own>,
-) -> Result<(), NoMemory> {
+) -> Result<(), NoMemory>
+    ensures scope { OnOk result (scope.new ≡ scope.old) }
+    ensures done { OnOk result (all_done out.new ≡ all_done out.old ++ effects_of_all (program_kept walk.entry.kept.now (plain_program walk.entry.program.now)) (scope_of scope.old) (stmts_of (map plain_stmt all.now))) }
+{
     let outer = scope.len();
     let mut opened = Opened {
         variables: Items::new(walk.alloc),
@@ -95,12 +100,16 @@ fn declared(is_final: bool, ty: &Ty) -> Known
 
 /// Adds what a statement does.
 #[cycle(stmts)]
+#[tactic(auto, using(crate::proofs::Reading::joined))]
 fn statement(
     walk: Walk<'_>,
     scope: &mut Scope,
     s: &Stmt,
     out: &mut Items<Own>,
-) -> Result<(), NoMemory> {
+) -> Result<(), NoMemory>
+    ensures scope { OnOk result (scope.new ≡ scope.old) }
+    ensures done { OnOk result (all_done out.new ≡ all_done out.old ++ effects_of (program_kept walk.entry.kept.now (plain_program walk.entry.program.now)) (scope_of scope.old) (plain_stmt s.now)) }
+{
     match &s.form {
         StmtForm::Block(all) => block(walk, scope, all.as_slice(), out),
         StmtForm::If { test, then, other } => {
@@ -191,7 +200,11 @@ fn simple(walk: Walk<'_>, scope: &Scope, s: &Stmt, out: &mut Items<Own>) -> Resu
 
 /// Adds what a construct of branches does.
 #[cycle(stmts)]
-fn fork(walk: Walk<'_>, scope: &mut Scope, s: &Stmt, out: &mut Items<Own>) -> Result<(), NoMemory> {
+#[tactic(auto, using(crate::proofs::Reading::joined))]
+fn fork(walk: Walk<'_>, scope: &mut Scope, s: &Stmt, out: &mut Items<Own>) -> Result<(), NoMemory>
+    ensures scope { OnOk result (scope.new ≡ scope.old) }
+    ensures done { OnOk result (all_done out.new ≡ all_done out.old ++ fork_done (program_kept walk.entry.kept.now (plain_program walk.entry.program.now)) (scope_of scope.old) (plain_stmt s.now)) }
+{
     match &s.form {
         StmtForm::Cobegin { forking, branches } => {
             let mut inner = Items::new(walk.alloc);
@@ -252,12 +265,16 @@ fn fork(walk: Walk<'_>, scope: &mut Scope, s: &Stmt, out: &mut Items<Own>) -> Re
 }
 
 #[cycle(stmts)]
+#[tactic(auto, using(crate::proofs::Reading::joined))]
 fn all_branches(
     walk: Walk<'_>,
     scope: &mut Scope,
     branches: &[Branch],
     out: &mut Items<Own>,
-) -> Result<(), NoMemory> {
+) -> Result<(), NoMemory>
+    ensures scope { OnOk result (scope.new ≡ scope.old) }
+    ensures done { OnOk result (all_done out.new ≡ all_done out.old ++ effects_of_branches (program_kept walk.entry.kept.now (plain_program walk.entry.program.now)) (scope_of scope.old) (branches_of (map plain_branch branches.now))) }
+{
     for branch in branches {
         statement(walk, scope, &branch.body, out)?;
     }
@@ -266,13 +283,17 @@ fn all_branches(
 
 /// Adds what one iteration does, where the loop's variable is in scope.
 #[cycle(stmts)]
+#[tactic(auto, using(crate::proofs::Blocks::scopes))]
 fn iteration(
     walk: Walk<'_>,
     scope: &mut Scope,
     variable: u64,
     body: &Stmt,
     out: &mut Items<Own>,
-) -> Result<(), NoMemory> {
+) -> Result<(), NoMemory>
+    ensures scope { OnOk result (scope.new ≡ scope.old) }
+    ensures done { OnOk result (all_done out.new ≡ all_done out.old ++ effects_of (program_kept walk.entry.kept.now (plain_program walk.entry.program.now)) (with_local variable (constant int) (scope_of scope.old)) (plain_stmt body.now)) }
+{
     let outer = scope.len();
     scope.put(variable, Known::Constant)?;
     statement(walk, scope, body, out)?;
