@@ -1,5 +1,5 @@
 -- What calls and creations do, with what is kept of summaries.
-use Rattle.std.proofs.Common.{◌≡◌, ◌∙◌, ℕ, zero, suc, Bool, true, false, ◌==◌, if◌then◌else◌, List, [], ◌∷◌, ◌++◌, length, map, Option, Some, None, Result, Ok, Err, OnOk, refl, ap, sym, slice_get}
+use Rattle.std.proofs.Common.{◌≡◌, ◌∙◌, ℕ, zero, suc, Bool, true, false, ◌==◌, if◌then◌else◌, List, [], ◌∷◌, ◌++◌, length, map, Option, Some, None, Result, Ok, Err, IfOk, OnOk, refl, ap, sym, slice_get}
 use Rattle.dpj_base.specs.declared.region.Rpl.{Rpl}
 use Rattle.dpj_base.specs.Regions.{substituted}
 use Rattle.dpj_base.specs.Types.{PlainType, int, boolean, void, null, class, array}
@@ -14,6 +14,11 @@ use Rattle.dpj_infer.specs.Walked.{class_parts, summary_of, summary_in}
 pub on_ok : {X E : Type 0} {P Q : Type 0} (r : Result X E) → (P → Q) → OnOk r P → OnOk r Q
 on_ok (Ok x) f h = f h
 on_ok (Err e) f h = tt
+
+-- what three clauses say of an answer
+pub if_all : {X E K : Type 0} (A B C : X → Type 0) (r : Result X E) → (K → (x : X) → A x → B x → C x) → OnOk r K → IfOk r A → IfOk r B → IfOk r C
+if_all A B C (Ok x) f k a b = f k x a b
+if_all A B C (Err e) f k a b = tt
 
 -- a member with what is left of its summary
 abbrev kept_at : Option (List Kept) → Option PlainMember → Option PlainMember
@@ -76,6 +81,13 @@ callee_none S P t n row regions e h =
     ∙ ap (λ m. callee_by (program_kept S P) (class_parts t) m regions) (members_at S P.members n ∙ ap (kept_at (slice_get S n)) h ∙ no_member (slice_get S n))
     ∙ no_callee (program_kept S P) (class_parts t) regions
 
+-- where there is no callee to know
+pub callee_unknown : (P : PlainProgram) (t : PlainType) (regions : List Rpl) → of_callee P t None regions ≡ []
+callee_unknown P t regions = callee_is P t None regions ∙ no_callee P (class_parts t) regions
+
+pub callee_unclassed : (P : PlainProgram) (t : PlainType) (m : Option PlainMember) (regions : List Rpl) → class_parts t ≡ None → of_callee P t m regions ≡ []
+callee_unclassed P t m regions e = callee_is P t m regions ∙ ap (λ p. callee_by P p m regions) e
+
 kept_callee : (S : Keeping) (P : PlainProgram) (c : ℕ) (args regions : List Rpl) (o : Option (List Kept)) (m : PlainMember) →
     callee_by (program_kept S P) (Some (c, args)) (kept_at o (Some m)) regions ≡ summary_of o m.summary (seen_as P c args m.class ++ regions)
 kept_callee S P c args regions None m = refl
@@ -110,6 +122,12 @@ made_is P void = refl
 made_is P null = refl
 made_is P (class c args) = class_made c args (member_in P (constructor_of P c))
 made_is P (array t a named) = refl
+
+pub made_unclassed : (P : PlainProgram) (t : PlainType) → class_parts t ≡ None → of_constructor t (constructed P t) ≡ []
+made_unclassed P t e = made_is P t ∙ ap (made_by P) e
+
+pub made_unknown : (P : PlainProgram) (t : PlainType) (c : ℕ) (args : List Rpl) → class_parts t ≡ Some (c, args) → constructor_of P c ≡ None → of_constructor t (constructed P t) ≡ []
+made_unknown P t c args e h = made_is P t ∙ ap (made_by P) e ∙ ap (λ r. made_with args (member_in P r)) h
 
 kept_made : (args : List Rpl) (o : Option (List Kept)) (m : PlainMember) → made_with args (kept_at o (Some m)) ≡ summary_of o m.summary args
 kept_made args None m = refl

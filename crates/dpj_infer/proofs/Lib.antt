@@ -6,3 +6,7 @@ pub mod Calling
 pub mod Blocks
 pub mod Forks
 pub mod Raising
+pub mod Fewer
+pub mod Growing
+pub mod Strength
+pub mod Passing

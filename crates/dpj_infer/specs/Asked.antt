@@ -1,5 +1,5 @@
 -- How much is asked of an item, and kept of it.
-use Rattle.std.specs.Prelude.{ℕ, suc, Bool, true, false, List, [], ◌∷◌, fold, Option, Some, None, slice_get, slice_set}
+use Rattle.std.specs.Prelude.{ℕ, suc, Bool, true, false, List, [], ◌∷◌, map, fold, Option, Some, None, slice_get, slice_set}
 use Rattle.dpj_base.specs.declared.effect.Access.{Access}
 use Rattle.dpj_base.specs.declared.effect.Access.TheVariants.{Read, Write}
 use Rattle.dpj_base.specs.declared.effect.Effect.{Effect}
@@ -10,6 +10,13 @@ use Rattle.dpj_infer.specs.declared.kept.Kept.{Kept}
 use Rattle.dpj_infer.specs.declared.kept.Kept.TheVariants as kept
 use Rattle.dpj_infer.specs.Kept.{Keeping, summary_kept}
 use Rattle.dpj_infer.specs.Firm.{takes}
+
+-- nothing of each item of these, and of each member
+abbrev pub nothing_of : List Effect → List Kept
+nothing_of es = map (λ e. kept.Nothing) es
+
+abbrev pub nothing_kept : PlainProgram → Keeping
+nothing_kept P = map (λ m. nothing_of m.summary) P.members
 
 abbrev pub asked_by : Bool → Access → Kept
 asked_by false access = kept.Nothing

@@ -3,3 +3,4 @@ pub mod Doing
 pub mod Walked
 pub mod Firm
 pub mod Asked
+pub mod Passes

@@ -1,12 +1,13 @@
-ghost use Rattle.std.specs.Prelude.{◌≡◌, ◌+◌, ◌≤◌, ◌++◌, length, map, min, option_map, IfOk, OnOk};
+ghost use Rattle.std.specs.Prelude.{◌≡◌, ◌+◌, ◌++◌, map, option_map, MatchOption, IfOk, OnOk};
 ghost use Rattle.std.specs.Option.{option_copied};
 ghost use Rattle.dpj_base.specs.Regions.{substituted};
 ghost use Rattle.dpj_base.specs.Types.{plain_type};
-ghost use Rattle.dpj_typed.specs.Plain.{plain_program, plain_class, plain_member, plain_field, plain_parent};
+ghost use Rattle.dpj_typed.specs.Plain.{plain_program, plain_class, plain_member, plain_field, plain_parent, PlainMember};
 ghost use Rattle.dpj_typed.specs.Scope.{class_at, member_at, field_at, row_at};
 ghost use Rattle.dpj_typed.specs.Table.{params_from};
 ghost use Rattle.dpj_infer.specs.Doing.{seen_as};
 ghost use Rattle.dpj_infer.specs.Walked.{class_parts, parent_below};
+ghost use Rattle.dpj_infer.specs.Passes.{IsOverride, NoOverride};
 
 use dpj_base::{Elems, Head, Items, NoMemory, Plain, Rpl, Ty};
 use dpj_regions::subst;
@@ -100,6 +101,39 @@ fn all_subst(alloc: Global, paths: &Items<Rpl>, args: &Items<Rpl>) -> Result<Ite
     Ok(all)
 }
 
+/// A member of a class that stands in the place of one of its superclass.
+#[derive(Clone, Copy)]
+pub struct Override<'a> {
+    pub number: ClassId,
+    pub class: &'a Class,
+    pub over: MemberId,
+    pub above: MemberId,
+    pub member: &'a Member,
+}
+
+/// What the member in a row of a class overrides, if it does.
+#[tactic(auto, using(crate::proofs::Reading::reading))]
+pub fn override_in(program: &Program, number: usize, row: usize) -> Option<Override<'_>>
+    ensures { MatchOption result (NoOverride (plain_program program.now) number row) (λ found. (over : PlainMember) × IsOverride (plain_program program.now) number row found.above.number found.over.number (plain_class found.class.now) (plain_member found.member.now) over × (found.number.number ≡ number)) }
+{
+    let class = program.classes.get(number)?;
+    let parent = class.parent.as_ref()?;
+    let above = *class_at(program, parent.class.number)?.rows.get(row)?;
+    let member = member_at(program, above)?;
+    let over = *class.rows.get(row)?;
+    let own = member_at(program, over)?;
+    if own.class.number as usize != number {
+        return None;
+    }
+    Some(Override {
+        number: own.class,
+        class,
+        over,
+        above,
+        member,
+    })
+}
+
 /// Adds region parameters from one on, so many, each as a path.
 pub fn params_from(
     alloc: Global,
@@ -129,13 +163,6 @@ fn number_after(first: usize, at: usize) -> Result<u32, NoMemory>
         Ok(number) => Ok(number),
         Err(_) => Err(NoMemory),
     }
-}
-
-/// How many there are, as far as a number of 32 bits counts.
-pub fn counted<T>(all: &Items<T>) -> u32
-    ensures { result ≡ min (length all.now) 4294967295 }
-{
-    all.len().min(4294967295) as u32
 }
 
 /// Adds copies of some paths to others.
