@@ -162,7 +162,7 @@ mutual
       both_same (done_alike P L K h start) (both_same (done_alike P L K h count) (inner))
   effects_alike P L K h (statement at (form.foreach_parts k source count s)) =
       let inner = ap (λ E. outside_variable (k + 4) (after_branches Deterministic (after_parts k source E)))
-          (effects_alike P (with_parts k (part_of L source) L) (with_parts k (part_of K source) K) (parts_alike L K k (part_of L source) (part_of K source) h (part_alike L K h source)) s) in
+      (effects_alike P (with_parts k (part_of L source) L) (with_parts k (part_of K source) K) (parts_alike L K k (part_of L source) (part_of K source) h (part_alike L K h source)) s) in
       both_same (source_alike P L K h source) (both_same (done_alike P L K h count) (inner))
 
   pub all_alike : (P : PlainProgram) (L K : Scope) → Agree L K → (ss : TypedStmts) → effects_of_all P L ss ≡ effects_of_all P K ss

@@ -59,10 +59,10 @@ block_more P ps vs rs s ss out inner new e h =
     ap (λ E. E ++ outside_all (vs ++ variables_by s) (rs ++ regions_by s) (effects_of_all P (scope_of (ps ++ placed_by s)) ss)) (h ∙ ap (λ E. out ++ outside_all vs rs E) e)
     ∙ append_assoc out (outside_all vs rs (effects_of P (scope_of ps) s)) (outside_all (vs ++ variables_by s) (rs ++ regions_by s) (effects_of_all P (scope_of (ps ++ placed_by s)) ss))
     ∙ ap (λ E. out ++ E)
-      (ap (λ L. outside_all vs rs (effects_of P (scope_of ps) s) ++ outside_all (vs ++ variables_by s) (rs ++ regions_by s) (effects_of_all P L ss)) (scope_behind ps (placed_by s))
-      ∙ ap (λ E. outside_all vs rs (effects_of P (scope_of ps) s) ++ E) (sym (outside_twice vs rs (variables_by s) (regions_by s) F))
-      ∙ sym (outside_append vs rs (effects_of P (scope_of ps) s) G)
-      ∙ ap (outside_all vs rs) (sym (block_step P (scope_of ps) s ss)))
+    (ap (λ L. outside_all vs rs (effects_of P (scope_of ps) s) ++ outside_all (vs ++ variables_by s) (rs ++ regions_by s) (effects_of_all P L ss)) (scope_behind ps (placed_by s))
+    ∙ ap (λ E. outside_all vs rs (effects_of P (scope_of ps) s) ++ E) (sym (outside_twice vs rs (variables_by s) (regions_by s) F))
+    ∙ sym (outside_append vs rs (effects_of P (scope_of ps) s) G)
+    ∙ ap (outside_all vs rs) (sym (block_step P (scope_of ps) s ss)))
 
 -- what was put into scope, and what is in scope again once it is left
 pub scope_pushed : (ps : List Placed) (p : Placed) → scope_of (ps ++ p ∷ []) ≡ with_placed (scope_of ps) p

@@ -1,7 +1,7 @@
 -- What asking a member does to what is kept.
 use Rattle.std.proofs.Common.{◌≡◌, ◌∙◌, ◌<◌, ◌≤◌, ◌||◌, ◌⊎◌, ℕ, zero, suc, Bool, true, false, IsTrue, min, List, [], ◌∷◌, ◌++◌, map, length, Option, Some, None, Contains, slice_get, slice_set, inl, inr, ⊎_elim, refl, sym, ap, subst, arith}
-use Rattle.std.specs.Option.{option_map}
-use Rattle.std.proofs.lemmas.Option.{none-some, same_Some, slice_get-map}
+use Rattle.std.specs.Option.{option_map, option_and_then}
+use Rattle.std.proofs.lemmas.Option.{none-some, same_Some, slice_get-map, slice_get_within}
 use Rattle.dpj_base.specs.declared.effect.Access.{Access}
 use Rattle.dpj_base.specs.declared.effect.Access.TheVariants.{Read}
 use Rattle.dpj_base.specs.declared.effect.Effect.{Effect}
@@ -114,11 +114,13 @@ creation_less P S T says h t = by_class (class_parts t) refl
         fewer_alike Less (of_constructor t (constructed (program_kept S P) t)) (summary_in S n m.summary args)
         (of_constructor t (constructed (program_kept T P) t)) (summary_in T n m.summary args)
         (made_some S P t n c m args g e is) (made_some T P t n c m args g e is) (callee_less P S T n m args is says h)
+
     by_number : (c : ℕ) (args : List Rpl) (o : Option ℕ) → class_parts t ≡ Some (c, args) → constructor_of P c ≡ o →
         Fewer Less (of_constructor t (constructed (program_kept S P) t)) (of_constructor t (constructed (program_kept T P) t))
     by_number c args None g e =
         fewer_none Less (of_constructor t (constructed (program_kept S P) t)) (of_constructor t (constructed (program_kept T P) t)) (made_unknown (program_kept S P) t c args g e)
     by_number c args (Some n) g e = by_member c n args (member_at P n) g e refl
+
     by_class : (parts : Option (ℕ × List Rpl)) → class_parts t ≡ parts →
         Fewer Less (of_constructor t (constructed (program_kept S P) t)) (of_constructor t (constructed (program_kept T P) t))
     by_class None g =
@@ -213,14 +215,14 @@ raised_below P S T n m seen ds marks is firm asks h = by (slice_get S n) refl
     by (Some old) e = λ v i q ks ls item k l there a b c f g.
         ⊎_elim
         (λ w.
-            let same : q ≡ m = same_Some q m (sym there ∙ ap (member_at P) w.0 ∙ is) in
-            let c' : slice_get m.summary i ≡ Some item = ap (λ x. slice_get x.summary i) (sym same) ∙ c in
-            let b' : slice_get T n ≡ Some ls = ap (slice_get T) (sym w.0) ∙ b in
-            let r = item_raised seen m.summary ds old i item k c' (ap (λ x. slice_get x i) (sym w.1) ∙ f) in
-            let below : strength_kept r.0 item ≤ strength_kept l item = h n i m old ls item r.0 l is e b' c' r.1 g in
-            subst (λ x. strength_kept x item ≤ strength_kept l item) (sym r.2)
-            (raised_within item (seen item).rpl ds r.0 (strength_kept l item) below
-            (λ d x t. (let y = asks d x in asked_within P T n i m seen ls item d y.0 l marks firm is b' c' g y.1 y.2 t))))
+        let same : q ≡ m = same_Some q m (sym there ∙ ap (member_at P) w.0 ∙ is) in
+        let c' : slice_get m.summary i ≡ Some item = ap (λ x. slice_get x.summary i) (sym same) ∙ c in
+        let b' : slice_get T n ≡ Some ls = ap (slice_get T) (sym w.0) ∙ b in
+        let r = item_raised seen m.summary ds old i item k c' (ap (λ x. slice_get x i) (sym w.1) ∙ f) in
+        let below : strength_kept r.0 item ≤ strength_kept l item = h n i m old ls item r.0 l is e b' c' r.1 g in
+        subst (λ x. strength_kept x item ≤ strength_kept l item) (sym r.2)
+        (raised_within item (seen item).rpl ds r.0 (strength_kept l item) below
+        (λ d x t. (let y = asks d x in asked_within P T n i m seen ls item d y.0 l marks firm is b' c' g y.1 y.2 t))))
         (λ other. h v i q ks ls item k l there other b c f g)
         (set_cases S n v (raised_from 0 m.summary (places_by seen m.summary) ds old) ks a)
 
@@ -276,7 +278,7 @@ pub row_met : (P : PlainProgram) (S T : Keeping) (c r n j : ℕ) (k : PlainClass
 row_met P S T c r n j k m over is new still = λ v i l q other there.
     let class : k ≡ l = same_Some k l (sym (IsOverride.class is) ∙ IsOverride.class there) in
     let parent : IsOverride.parent is ≡ IsOverride.parent there =
-        same_Some (IsOverride.parent is) (IsOverride.parent there) (sym (IsOverride.extends is) ∙ ap (λ x. x.parent) class ∙ IsOverride.extends there) in
+    same_Some (IsOverride.parent is) (IsOverride.parent there) (sym (IsOverride.extends is) ∙ ap (λ x. x.parent) class ∙ IsOverride.extends there) in
     let above : n ≡ v = same_Some n v (sym (IsOverride.above is) ∙ ap (λ x. row_at P x.class r) parent ∙ IsOverride.above there) in
     let row : j ≡ i = same_Some j i (sym (IsOverride.row is) ∙ IsOverride.row there) in
     let member : m ≡ q = same_Some m q (sym (IsOverride.member is) ∙ ap (member_at P) above ∙ IsOverride.member there) in
@@ -304,6 +306,30 @@ rises_both P S T U false false h g =
 pub neither : (a b : Bool) → (a || b) ≡ false → (a ≡ false) × (b ≡ false)
 neither true b e = cc
 neither false b e = (refl, e)
+
+pub risen_before : (a b risen : Bool) → a ≡ true → risen ≡ a → risen ≡ (a || b)
+risen_before true b risen e g = g
+risen_before false b risen e g = cc
+
+pub risen_now : (a b risen : Bool) → a ≡ false → risen ≡ b → risen ≡ (a || b)
+risen_now true b risen e g = cc
+risen_now false b risen e g = g
+
+-- members, rows and classes that aren't there ask for nothing
+
+pub bodies_all : (P : PlainProgram) (S : Keeping) (end : ℕ) → length P.members ≤ end → ((n : ℕ) → n < end → MeetsBody P S n) → (n : ℕ) → MeetsBody P S n
+bodies_all P S end all met = λ n m k is of. let below = slice_get_within P.members n m is in met n (omega (arith, below)) m k is of
+
+pub rows_all : (P : PlainProgram) (S : Keeping) (c end : ℕ) (k : PlainClass) → class_at P c ≡ Some k → length k.rows ≤ end → ((r : ℕ) → r < end → MeetsRow P S c r) → (r : ℕ) → MeetsRow P S c r
+rows_all P S c end k is all met = λ r n j l m over there.
+    let same : slice_get k.rows r ≡ Some j = sym (ap (option_and_then (λ class. slice_get class.rows r)) is) ∙ IsOverride.row there in
+    let below = slice_get_within k.rows r j same in
+    met r (omega (arith, below)) n j l m over there
+
+pub classes_all : (P : PlainProgram) (S : Keeping) (end : ℕ) → length P.classes ≤ end → ((c r : ℕ) → c < end → MeetsRow P S c r) → (c r : ℕ) → MeetsRow P S c r
+classes_all P S end all met = λ c r n j k m over there.
+    let below = slice_get_within P.classes c k (IsOverride.class there) in
+    met c r (omega (arith, below)) n j k m over there
 
 -- where all is kept that bodies and overriding members ask for, that is firm
 

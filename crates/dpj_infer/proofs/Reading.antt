@@ -1,5 +1,5 @@
 -- What the code reads of a program and a scope is what the definitions read.
-use Rattle.std.proofs.Common.{◌≡◌, ◌∙◌, ℕ, zero, suc, ◌+◌, ◌-◌, ◌<◌, arith, Bool, true, false, cond, if◌then◌else◌, ◌==◌, List, [], ◌∷◌, ◌++◌, length, map, fold, Option, Some, None, refl, ap, sym, append_assoc, ◌⊎◌, inl, inr}
+use Rattle.std.proofs.Common.{◌≡◌, ◌∙◌, ℕ, zero, suc, ◌+◌, ◌-◌, ◌<◌, arith, Bool, true, false, cond, if◌then◌else◌, ◌==◌, List, [], ◌∷◌, ◌++◌, length, map, fold, Option, Some, None, refl, ap, sym, append_assoc, ◌⊎◌, inl, inr, slice_get}
 use Rattle.std.specs.Option.{option_map}
 use Rattle.std.proofs.lemmas.Option.{slice_get-map}
 use Rattle.std.proofs.lemmas.List.{map-append, append-nil, length-map}
@@ -21,6 +21,9 @@ use Rattle.dpj_infer.specs.Kept.{summary_kept}
 use Rattle.dpj_infer.specs.Walked.{parent_below, local_of, with_placed, nowhere, scope_of, last_of, is_constant, part_path, known_of, SameUse}
 
 pub ruleset reading = (slice_get-map)
+
+pub seen_there : {A B : Type 0} (f : A → B) (xs : List A) (i : ℕ) (x : A) → Some x ≡ slice_get xs i → slice_get (map f xs) i ≡ Some (f x)
+seen_there f xs i x e = slice_get-map f xs i ∙ ap (option_map f) (sym e)
 
 -- how many region parameters there are
 pub ruleset counting = (length-map)

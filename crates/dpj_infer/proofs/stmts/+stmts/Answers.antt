@@ -46,7 +46,7 @@ fork-returns-in_ok-behind_parts-in-ForeachParts-clause-done t c =
     ∙ ap (λ os. all_done os ++ effects_of P (with_local (k + 4) (constant int) (scope_of c.put.new.self)) (plain_stmt c.get-in-ForeachParts.result.now)) c.new-inner-in-ForeachParts.ensures
     ∙ ap (λ s. effects_of P (with_local (k + 4) (constant int) (scope_of c.put.new.self)) (plain_stmt s)) c.get-in-ForeachParts.ensures
     ∙ ap (λ L. effects_of P (with_local (k + 4) (constant int) L) (plain_stmt c.in-ForeachParts.body))
-      (ap scope_of c.in_ok-put-in-ForeachParts.ensures ∙ scope_pushed c.args.scope.now (record { slot = k; known = cut })))
+    (ap scope_of c.in_ok-put-in-ForeachParts.ensures ∙ scope_pushed c.args.scope.now (record { slot = k; known = cut })))
     (c.in_ok-behind_parts-in-ForeachParts.ensures
     ∙ ap (λ os. all_done os ++ after_branches Deterministic (after_parts k (plain_source c.in-ForeachParts.source) (all_done c.iteration-in-ForeachParts.new.out))) c.new-joined-in-ForeachParts.ensures) h)
     c.leave_variable-in-ForeachParts.ensures
@@ -66,8 +66,8 @@ block-loop-s-preserved t c =
           ∙ ap (λ vs. all_done c.leave.new.out ++ outside_all vs c.open.new.opened.regions (effects_of_all P (scope_of (at.scope ++ placed_by s)) ss)) c.in_ok-open.ensures.variables
           ∙ ap (λ rs. all_done c.leave.new.out ++ outside_all (at.opened.variables ++ variables_by s) rs (effects_of_all P (scope_of (at.scope ++ placed_by s)) ss)) c.in_ok-open.ensures.regions
           ∙ block_more P at.scope at.opened.variables at.opened.regions s ss (all_done at.out) (all_done c.statement.new.out) (all_done c.leave.new.out)
-            (c.in_ok-statement.ensures.done ∙ ap (λ os. all_done os ++ effects_of P (scope_of at.scope) s) c.new-inner.ensures) c.in_ok-leave.ensures
+          (c.in_ok-statement.ensures.done ∙ ap (λ os. all_done os ++ effects_of P (scope_of at.scope) s) c.new-inner.ensures) c.in_ok-leave.ensures
           ∙ ap (λ xs. all_done at.out ++ outside_all at.opened.variables at.opened.regions (effects_of_all P (scope_of at.scope) (stmts_of (map plain_stmt xs))))
-            (sym (next_is c.args.all.now at.s-index c.s-item.result c.loop-s-test.true c.s-item.is))
+          (sym (next_is c.args.all.now at.s-index c.s-item.result c.loop-s-test.true c.s-item.is))
           ∙ at.invariant.done;
     }
