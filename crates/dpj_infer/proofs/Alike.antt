@@ -1,7 +1,6 @@
 -- Effects under scopes that agree are the same.
-use Rattle.std.proofs.Common.{◌≡◌, ◌∙◌, ℕ, zero, suc, Bool, true, false, ◌==◌, ◌+◌, cond, List, [], ◌∷◌, ◌++◌, map, Option, Some, None, refl, ap, sym, slice_get}
+use Rattle.std.proofs.Common.{◌≡◌, ◌∙◌, ℕ, zero, suc, Bool, true, false, ◌==◌, ◌+◌, cond, List, [], ◌∷◌, ◌++◌, Option, Some, None, refl, ap, sym, slice_get}
 use Rattle.std.specs.Option.{option_map}
-use Rattle.dpj_base.specs.declared.elems.Elem.{Elem}
 use Rattle.dpj_base.specs.declared.elems.Elem.TheVariants.{At, Any}
 use Rattle.dpj_base.specs.declared.elems.Index.TheVariants.{Variable}
 use Rattle.dpj_base.specs.declared.region.Rpl.{Rpl}

@@ -11,7 +11,7 @@ use Rattle.dpj_typed.specs.Statements.{declared_as}
 use Rattle.dpj_typed.specs.Table.{body_scope}
 use Rattle.dpj_infer.specs.declared.scope.Placed.{Placed}
 use Rattle.dpj_infer.specs.Doing.{done_by, with_parts, effects_of, effects_of_all}
-use Rattle.dpj_infer.specs.Walked.{SameUse, Agree, nowhere, local_of, known_as, with_placed, scope_of, placed_by, variables_by, regions_by, outside_all}
+use Rattle.dpj_infer.specs.Walked.{SameUse, nowhere, local_of, known_as, with_placed, scope_of, placed_by, variables_by, regions_by, outside_all}
 use Rattle.dpj_infer.proofs.Alike.{same_use, with_alike, parts_alike, effects_alike, all_alike, declared_alike, body_alike}
 use Rattle.dpj_infer.proofs.Outside.{outside_none, outside_one, outside_some, outside_append, outside_twice}
 

@@ -1,5 +1,5 @@
 -- What calls and creations do, with what is kept of summaries.
-use Rattle.std.proofs.Common.{◌≡◌, ◌∙◌, ℕ, zero, suc, Bool, true, false, ◌==◌, if◌then◌else◌, List, [], ◌∷◌, ◌++◌, length, map, Option, Some, None, Result, Ok, Err, IfOk, OnOk, refl, ap, sym, slice_get}
+use Rattle.std.proofs.Common.{◌≡◌, ◌∙◌, ℕ, zero, suc, Bool, true, false, ◌==◌, if◌then◌else◌, List, [], ◌∷◌, ◌++◌, length, map, Option, Some, None, Result, Ok, Err, IfOk, OnOk, refl, ap, slice_get}
 use Rattle.dpj_base.specs.declared.region.Rpl.{Rpl}
 use Rattle.dpj_base.specs.Regions.{substituted}
 use Rattle.dpj_base.specs.Types.{PlainType, int, boolean, void, null, class, array}

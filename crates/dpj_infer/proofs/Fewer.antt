@@ -1,10 +1,9 @@
 -- Effects that are fewer and weaker than others.
-use Rattle.std.proofs.Common.{◌≡◌, ◌∙◌, ◌≤◌, ◌⊎◌, ◌==◌, ℕ, Bool, true, false, not, cond, List, [], ◌∷◌, ◌++◌, map, filter, Contains, inl, inr, ⊎_elim, refl, sym, ap, subst, arith}
+use Rattle.std.proofs.Common.{◌≡◌, ◌∙◌, ◌≤◌, ◌⊎◌, Bool, true, false, cond, List, [], ◌∷◌, ◌++◌, map, filter, Contains, inl, inr, ⊎_elim, refl, sym, ap, subst, arith}
 use Rattle.std.proofs.lemmas.List.Elements.{Contains-append_right, Contains-append_cases, Contains-push_cases}
 use Rattle.dpj_base.specs.declared.effect.Access.{Access}
 use Rattle.dpj_base.specs.declared.effect.Effect.{Effect}
-use Rattle.dpj_base.specs.declared.region.Rpl.{Rpl}
-use Rattle.dpj_typed.specs.Effects.{Own, does, uses, effect_of, as_effects}
+use Rattle.dpj_typed.specs.Effects.{Own, does, uses, effect_of}
 use Rattle.dpj_infer.specs.Kept.{strength_of}
 
 -- members of lists

@@ -1,5 +1,5 @@
 -- What constructs of branches do, by the forms of the code's statements.
-use Rattle.std.proofs.Common.{◌≡◌, ◌∙◌, ℕ, ◌+◌, List, [], ◌∷◌, ◌++◌, Some, map, ap, sym, rules, append_assoc}
+use Rattle.std.proofs.Common.{◌≡◌, ◌∙◌, ◌+◌, List, ◌++◌, Some, map, ap, sym, rules, append_assoc}
 use Rattle.dpj_base.specs.Types.{int}
 use Rattle.dpj_typed.specs.declared.expr.Expr.{Expr}
 use Rattle.dpj_typed.specs.declared.ids.Slot.{Slot}

@@ -1,18 +1,17 @@
 -- What is done grows with what members do by their summaries.
-use Rattle.std.proofs.Common.{◌≡◌, ◌∙◌, ◌≤◌, ◌+◌, ◌==◌, ℕ, Bool, true, false, not, cond, List, [], ◌∷◌, ◌++◌, map, Option, Some, None, refl, ap, sym}
+use Rattle.std.proofs.Common.{◌≡◌, ◌+◌, ◌==◌, ℕ, Bool, true, false, not, cond, List, ◌++◌, map, refl, ap}
 use Rattle.dpj_base.specs.declared.effect.Access.{Access}
 use Rattle.dpj_base.specs.declared.effect.Effect.{Effect}
-use Rattle.dpj_base.specs.declared.elems.Elem.{Elem}
 use Rattle.dpj_base.specs.declared.region.Rpl.{Rpl}
 use Rattle.dpj_base.specs.Regions.{generalised}
 use Rattle.dpj_base.specs.Types.{PlainType, int}
 use Rattle.dpj_typed.specs.declared.stmt.Forking.{Forking}
 use Rattle.dpj_typed.specs.declared.stmt.Forking.TheVariants.{Deterministic, Nondeterministic}
-use Rattle.dpj_typed.specs.Plain.{PlainProgram, PlainField, PlainMember, TypedExpr, typed, type_of, TypedExprs, no_exprs, more_exprs, Source, of_array, of_part, TypedStmt, statement, TypedStmts, no_stmts, more_stmts, TypedBranches, no_branches, more_branches}
+use Rattle.dpj_typed.specs.Plain.{PlainProgram, TypedExpr, typed, type_of, TypedExprs, no_exprs, more_exprs, Source, of_array, of_part, TypedStmt, statement, TypedStmts, no_stmts, more_stmts, TypedBranches, no_branches, more_branches}
 use Rattle.dpj_typed.specs.Plain.{ExprForm as expr}
 use Rattle.dpj_typed.specs.Plain.{StmtForm as form}
 use Rattle.dpj_typed.specs.Scope.{Scope, constant, row_at, field_at, with_local}
-use Rattle.dpj_typed.specs.Effects.{Own, does, uses, reads, writes, effect_of, as_effects, begins_in, is_through, handed_on, own_after, marked, mapped, after_block, after_branches, outside_variable, outside_regions, after_parts}
+use Rattle.dpj_typed.specs.Effects.{Own, does, uses, reads, writes, effect_of, as_effects, begins_in, handed_on, own_after, marked, mapped, after_branches, outside_variable, outside_regions, after_parts}
 use Rattle.dpj_typed.specs.Statements.{declared_as}
 use Rattle.dpj_infer.specs.Doing.{of_field, of_element, of_local, of_callee, of_constructor, member_in, constructed, done_by, done_by_all, done_by_source, part_of, with_parts, effects_of, effects_of_all, effects_of_branches}
 use Rattle.dpj_infer.proofs.Fewer.{Fewer, fewer_both, fewer_same, fewer_mapped, fewer_filtered, effect_by, own_by, Weaker, Less, less_same, less_effect, less_by}

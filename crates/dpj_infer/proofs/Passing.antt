@@ -2,16 +2,15 @@
 use Rattle.std.proofs.Common.{◌≡◌, ◌∙◌, ◌<◌, ◌≤◌, ◌||◌, ◌⊎◌, ℕ, zero, suc, Bool, true, false, IsTrue, min, List, [], ◌∷◌, ◌++◌, map, length, Option, Some, None, Contains, slice_get, slice_set, inl, inr, ⊎_elim, refl, sym, ap, subst, arith}
 use Rattle.std.specs.Option.{option_map, option_and_then}
 use Rattle.std.proofs.lemmas.Option.{none-some, same_Some, slice_get-map, slice_get_within}
-use Rattle.dpj_base.specs.declared.effect.Access.{Access}
 use Rattle.dpj_base.specs.declared.effect.Access.TheVariants.{Read}
 use Rattle.dpj_base.specs.declared.effect.Effect.{Effect}
 use Rattle.dpj_base.specs.declared.region.Rpl.{Rpl}
 use Rattle.dpj_base.specs.Regions.{substituted}
 use Rattle.dpj_base.specs.Types.{PlainType}
-use Rattle.dpj_typed.specs.Plain.{PlainProgram, PlainClass, PlainMember, PlainParent}
+use Rattle.dpj_typed.specs.Plain.{PlainProgram, PlainClass, PlainMember}
 use Rattle.dpj_typed.specs.Scope.{class_at, member_at, row_at, constructor_of}
 use Rattle.dpj_typed.specs.Table.{body_scope}
-use Rattle.dpj_typed.specs.Effects.{Own, does, effect_with, summary_with}
+use Rattle.dpj_typed.specs.Effects.{does, effect_with}
 use Rattle.dpj_infer.specs.declared.kept.Kept.{Kept}
 use Rattle.dpj_infer.specs.declared.kept.Kept.TheVariants as kept
 use Rattle.dpj_infer.specs.Kept.{Keeping, SaysOfEach, strength_of, strength_kept, item_kept, summary_kept, program_kept}
@@ -24,7 +23,7 @@ use Rattle.dpj_infer.proofs.Calling.{callee_none, callee_some, callee_unknown, c
 use Rattle.dpj_infer.proofs.Fewer.{Fewer, Weaker, Less, effect_by, fewer_none, fewer_alike, fewer_both, fewer_mapped, fewer_in, nothing_in}
 use Rattle.dpj_infer.proofs.Growing.{Grows, block_less, effects_less}
 use Rattle.dpj_infer.proofs.Same.{set_alike}
-use Rattle.dpj_infer.proofs.Strength.{some_strength, raised_within, raised_meets, raised_at, raised_long, Falls, room_in_raised}
+use Rattle.dpj_infer.proofs.Strength.{some_strength, raised_within, raised_meets, raised_at, raised_long, room_in_raised}
 
 -- where something is said of each item, something is said of those of this member
 pub said_at : (S : Keeping) (ms : List PlainMember) (n : ℕ) (m : PlainMember) → map length S ≡ map (λ m. length m.summary) ms → slice_get ms n ≡ Some m →

@@ -7,7 +7,6 @@ use Rattle.dpj_typed.specs.Effects.{effect_of}
 use Rattle.dpj_infer.specs.declared.kept.Kept.{Kept}
 use Rattle.dpj_infer.specs.Kept.{Keeping}
 use Rattle.dpj_infer.specs.Walked.{through}
-use Rattle.dpj_infer.proofs.Same.{set_alike}
 
 pub set_same : (S : Keeping) (at : ℕ) (old : List Kept) → slice_get S at ≡ Some old → slice_set S at old ≡ S
 set_same [] at old e = cc

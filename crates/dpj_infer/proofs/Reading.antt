@@ -3,18 +3,15 @@ use Rattle.std.proofs.Common.{◌≡◌, ◌∙◌, ℕ, zero, suc, ◌+◌, ◌
 use Rattle.std.specs.Option.{option_map}
 use Rattle.std.proofs.lemmas.Option.{slice_get-map}
 use Rattle.std.proofs.lemmas.List.{map-append, append-nil, length-map}
-use Rattle.std.proofs.lemmas.List.Sums.{fold-append}
 use Rattle.dpj_base.specs.declared.effect.Effect.{Effect}
 use Rattle.dpj_base.specs.declared.region.Head.TheVariants.{Param}
 use Rattle.dpj_base.specs.declared.region.Rpl.{Rpl}
 use Rattle.dpj_base.specs.Regions.{substituted}
-use Rattle.dpj_base.specs.Types.{int}
 use Rattle.dpj_typed.specs.Plain.{PlainProgram, PlainParent}
 use Rattle.dpj_typed.specs.Scope.{Scope, Local, parent_of}
 use Rattle.dpj_typed.specs.Table.{params_from}
 use Rattle.dpj_infer.specs.declared.kept.Kept.{Kept}
 use Rattle.dpj_infer.specs.declared.scope.Known.{Known}
-use Rattle.dpj_infer.specs.declared.scope.Known.TheVariants as known
 use Rattle.dpj_infer.specs.declared.scope.Placed.{Placed}
 use Rattle.dpj_infer.specs.Doing.{seen_by, seen_within, part_of_local}
 use Rattle.dpj_infer.specs.Kept.{summary_kept}

@@ -1,5 +1,5 @@
 -- Of how many items something is said, and what is kept at first.
-use Rattle.std.proofs.Common.{◌≡◌, ◌≤◌, ◌∙◌, ℕ, zero, suc, List, [], ◌∷◌, ◌++◌, drop, map, replicate, length, Some, None, refl, ap, sym, slice_get, slice_set, arith}
+use Rattle.std.proofs.Common.{◌≡◌, ◌≤◌, ◌∙◌, ℕ, zero, suc, List, [], ◌∷◌, ◌++◌, drop, map, replicate, length, Some, refl, ap, sym, slice_get, slice_set, arith}
 use Rattle.std.proofs.lemmas.List.{append-nil, drop_all, length-map}
 use Rattle.std.proofs.lemmas.Option.{none-some, same_Some}
 use Rattle.dpj_base.specs.declared.effect.Effect.{Effect}

@@ -1,10 +1,10 @@
 -- The least of what summaries may keep.
-use Rattle.std.specs.Prelude.{◌≡◌, ◌≤◌, ◌&&◌, ◌||◌, ℕ, Bool, false, not, IsTrue, min, List, [], ◌∷◌, ◌++◌, length, map, Contains, Option, Some, None, slice_get}
+use Rattle.std.specs.Prelude.{◌≡◌, ◌≤◌, ◌&&◌, ◌||◌, ℕ, Bool, false, not, IsTrue, min, List, ◌++◌, Contains, Some, slice_get}
 use Rattle.dpj_base.specs.declared.effect.Effect.{Effect}
 use Rattle.dpj_base.specs.declared.region.Rpl.{Rpl}
 use Rattle.dpj_base.specs.Regions.{within}
 use Rattle.dpj_typed.specs.Plain.{PlainProgram, PlainClass, PlainMember, PlainParent}
-use Rattle.dpj_typed.specs.Scope.{class_at, member_at, parent_of, row_at}
+use Rattle.dpj_typed.specs.Scope.{class_at, member_at, row_at}
 use Rattle.dpj_typed.specs.Effects.{as_effects, effect_with}
 use Rattle.dpj_typed.specs.Table.{body_scope, own_paths, method_paths}
 use Rattle.dpj_infer.specs.declared.kept.Kept.{Kept}

@@ -1,5 +1,5 @@
 -- What asking members does to what is kept.
-use Rattle.std.specs.Prelude.{◌≡◌, ◌+◌, ◌<◌, ◌≤◌, ℕ, Bool, true, false, IsTrue, min, List, [], ◌∷◌, Contains, Option, Some, None, slice_get}
+use Rattle.std.specs.Prelude.{◌≡◌, ◌+◌, ◌<◌, ◌≤◌, ℕ, Bool, true, false, IsTrue, min, List, [], ◌∷◌, Contains, Some, slice_get}
 use Rattle.dpj_base.specs.declared.effect.Effect.{Effect}
 use Rattle.dpj_typed.specs.Plain.{PlainProgram, PlainClass, PlainMember, PlainParent}
 use Rattle.dpj_typed.specs.Scope.{class_at, member_at, row_at}

@@ -1,13 +1,13 @@
 -- The code's lists as the definitions see them.
-use Rattle.std.specs.Prelude.{◌≡◌, ℕ, ◌==◌, Bool, true, false, cond, if◌then◌else◌, List, [], ◌∷◌, ◌++◌, map, fold, Option, Some, None, ◌||◌, IsTrue, not, slice_get}
-use Rattle.std.specs.List.{list_any, filter}
+use Rattle.std.specs.Prelude.{◌≡◌, ℕ, ◌==◌, Bool, true, false, cond, if◌then◌else◌, List, [], ◌∷◌, ◌++◌, map, fold, Option, Some, None, slice_get}
+use Rattle.std.specs.List.{list_any}
 use Rattle.dpj_base.specs.declared.effect.Access.{Access}
 use Rattle.dpj_base.specs.declared.effect.Effect.{Effect}
 use Rattle.dpj_base.specs.declared.elems.Elem.{Elem}
 use Rattle.dpj_base.specs.declared.elems.Elem.TheVariants.{At, Any}
 use Rattle.dpj_base.specs.declared.elems.Index.TheVariants.{Variable}
 use Rattle.dpj_base.specs.declared.region.Rpl.{Rpl}
-use Rattle.dpj_base.specs.Types.{PlainType, int, class, array}
+use Rattle.dpj_base.specs.Types.{PlainType, int, class}
 use Rattle.dpj_typed.specs.declared.ids.Slot.{Slot}
 use Rattle.dpj_typed.specs.declared.stmt.Branch.{Branch}
 use Rattle.dpj_typed.specs.declared.stmt.PartSource.{PartSource}
@@ -17,7 +17,7 @@ use Rattle.dpj_typed.specs.Plain.{ExprForm as expr}
 use Rattle.dpj_typed.specs.Plain.{StmtForm as form}
 use Rattle.dpj_typed.specs.Effects.{does, uses, effect_of, begins_in, mapped, summary_with}
 use Rattle.dpj_typed.specs.Effects.{Own as Done}
-use Rattle.dpj_typed.specs.Scope.{Scope, Local, variable, constant, part, reserved, parent_of, with_local}
+use Rattle.dpj_typed.specs.Scope.{Scope, Local, constant, part, reserved, parent_of, with_local}
 use Rattle.dpj_infer.specs.declared.kept.Kept.{Kept}
 use Rattle.dpj_infer.specs.declared.own.Own.{Own}
 use Rattle.dpj_infer.specs.declared.scope.Known.{Known}

@@ -1,6 +1,5 @@
-use Rattle.std.proofs.Common.{◌≡◌, ◌∙◌, ◌++◌, ap, sym, inl, inr, ⊎_elim}
+use Rattle.std.proofs.Common.{◌∙◌, ◌++◌, ap, sym, inl, inr, ⊎_elim}
 use Rattle.std.proofs.lemmas.List.{append-nil}
-use Rattle.dpj_infer.specs.Kept.{summary_kept}
 use Rattle.dpj_infer.proofs.Reading.{nothing_left}
 use Rattle.dpj_infer.proofs.asking.kept_of.Goals as goal
 

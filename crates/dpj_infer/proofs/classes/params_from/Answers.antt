@@ -1,4 +1,4 @@
-use Rattle.std.proofs.Common.{◌≡◌, ◌∙◌, ◌+◌, ◌++◌, ◌∷◌, [], ap, arith}
+use Rattle.std.proofs.Common.{◌∙◌, ◌++◌, ◌∷◌, [], ap}
 use Rattle.dpj_base.specs.declared.region.Head.TheVariants.{Param}
 use Rattle.dpj_infer.proofs.Reading.{params_more}
 use Rattle.dpj_infer.proofs.classes.params_from.Goals as goal

@@ -1,4 +1,4 @@
-use Rattle.std.proofs.Common.{◌≡◌, ◌∙◌, ◌+◌, ◌<◌, ◌≤◌, ◌||◌, ℕ, true, false, length, sym, subst, below_more, arith}
+use Rattle.std.proofs.Common.{◌≡◌, ◌∙◌, ◌≤◌, ◌||◌, length, sym, subst, below_more, arith}
 use Rattle.std.proofs.lemmas.List.{length-map}
 use Rattle.dpj_typed.specs.Plain.{plain_program, plain_member}
 use Rattle.dpj_infer.specs.Passes.{MeetsBody, Rises}

@@ -1,10 +1,7 @@
-use Rattle.std.proofs.Common.{◌≡◌, ◌∙◌, Bool, true, false, Some, List, map, ap, sym}
-use Rattle.dpj_base.specs.declared.effect.Effect.{Effect}
-use Rattle.dpj_base.specs.declared.region.Rpl.{Rpl}
+use Rattle.std.proofs.Common.{◌≡◌, ◌∙◌, true, false, Some, map, ap, sym}
 use Rattle.dpj_typed.specs.Plain.{plain_program, plain_class, plain_member}
 use Rattle.dpj_typed.specs.Scope.{member_at}
 use Rattle.dpj_typed.specs.Effects.{as_effects}
-use Rattle.dpj_infer.specs.Firm.{done_in}
 use Rattle.dpj_infer.specs.Asked.{raised_in}
 use Rattle.dpj_infer.specs.Passes.{MeetsBody, Rises}
 use Rattle.dpj_infer.proofs.Calling.{if_all}

@@ -1,4 +1,4 @@
-use Rattle.std.proofs.Common.{◌≡◌, ◌∙◌, true, false, map, ap, subst}
+use Rattle.std.proofs.Common.{◌≡◌, ◌∙◌, true, false, map, ap}
 use Rattle.dpj_base.specs.Regions.{substituted}
 use Rattle.dpj_typed.specs.Plain.{plain_program, plain_class, plain_member}
 use Rattle.dpj_infer.specs.Firm.{seen_below}

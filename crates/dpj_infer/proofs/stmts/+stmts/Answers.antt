@@ -6,7 +6,7 @@ use Rattle.dpj_typed.specs.declared.stmt.Forking.TheVariants.{Deterministic}
 use Rattle.dpj_typed.specs.Effects.{after_branches, after_parts}
 use Rattle.dpj_infer.specs.Kept.{program_kept}
 use Rattle.dpj_infer.specs.Doing.{effects_of, effects_of_all, effects_of_branches}
-use Rattle.dpj_infer.specs.Walked.{all_done, scope_of, local_of, outside_all, placed_by, variables_by, regions_by, plain_branch}
+use Rattle.dpj_infer.specs.Walked.{all_done, scope_of, local_of, outside_all, placed_by, variables_by, plain_branch}
 use Rattle.dpj_infer.proofs.Blocks.{scope_pushed, block_more, left_behind, long_behind, next_is}
 use Rattle.dpj_infer.proofs.Calling.{on_ok}
 use Rattle.dpj_infer.proofs.Forks.{cobegin_done, foreach_done, foreach_parts_done}
