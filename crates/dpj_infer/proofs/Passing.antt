@@ -18,7 +18,7 @@ use Rattle.dpj_infer.specs.Doing.{seen_as, member_in, of_callee, of_constructor,
 use Rattle.dpj_infer.specs.Walked.{class_parts, summary_of, summary_in}
 use Rattle.dpj_infer.specs.Firm.{takes, done_in, seen_below, IsAsked, by_body, by_override, IsFirm, KeepsNoMore}
 use Rattle.dpj_infer.specs.Asked.{raised, raised_from, raised_here, raised_of, raised_in, kept_of_each, all_kept}
-use Rattle.dpj_infer.specs.Passes.{Meets, MeetsBody, IsOverride, MeetsRow, room, Rises}
+use Rattle.dpj_infer.specs.Passes.{Meets, MeetsBody, IsOverride, MeetsRow, room, Climbs, Rises}
 use Rattle.dpj_infer.proofs.Calling.{callee_none, callee_some, callee_unknown, callee_unclassed, made_none, made_some, made_unknown, made_unclassed}
 use Rattle.dpj_infer.proofs.Fewer.{Fewer, Weaker, Less, effect_by, fewer_none, fewer_alike, fewer_both, fewer_mapped, fewer_in, nothing_in}
 use Rattle.dpj_infer.proofs.Growing.{Grows, block_less, effects_less}
@@ -245,10 +245,12 @@ raised_rises : (P : PlainProgram) (S T : Keeping) (n : ℕ) (m : PlainMember) (s
     ((L : Keeping) → SaysOfEach P L → KeepsNoMore P S L → Asks P L n m seen ds) →
     T ≡ raised_in S n m.summary (places_by seen m.summary) ds → (risen ≡ false → T ≡ S) → (risen ≡ true → T ≡ S → ⊥) → Rises P S T risen
 raised_rises P S T n m seen ds risen marks is asks new still moved = record {
-  same = ap (map length) new ∙ raised_alike S n m.summary (places_by seen m.summary) ds;
+  climbs = record {
+    same = ap (map length) new ∙ raised_alike S n m.summary (places_by seen m.summary) ds;
+    below = λ L says firm h. subst (λ U. KeepsNoMore P U L) (sym new) (raised_below P S L n m seen ds marks is firm (asks L says h) h);
+  };
   still = still;
   less = λ e. ⊎_elim (λ i. absurd (moved e (new ∙ i))) (λ l. subst (λ U. room U < room S) (sym new) l) (room_in_raised S n m.summary (places_by seen m.summary) ds);
-  below = λ L says firm h. subst (λ U. KeepsNoMore P U L) (sym new) (raised_below P S L n m seen ds marks is firm (asks L says h) h);
 }
 
 pub body_rises : (P : PlainProgram) (S T : Keeping) (n : ℕ) (m : PlainMember) (k : PlainClass) (risen : Bool) → member_at P n ≡ Some m → class_at P m.class ≡ Some k →
@@ -290,17 +292,41 @@ row_met P S T c r n j k m over is new still = λ v i l q other there.
 
 -- one step, none, and two
 
+pub climbs_none : (P : PlainProgram) (S : Keeping) → Climbs P S S
+climbs_none P S = record { same = refl; below = λ L says firm h. h }
+
+pub climbs_then : (P : PlainProgram) (S T U : Keeping) → Climbs P S T → Climbs P T U → Climbs P S U
+climbs_then P S T U h g = record { same = Climbs.same g ∙ Climbs.same h; below = λ L says firm i. Climbs.below g L says firm (Climbs.below h L says firm i) }
+
+pub climbs_rising : (P : PlainProgram) (S T U : Keeping) (risen : Bool) → Climbs P S T → Rises P T U risen → Climbs P S U
+climbs_rising P S T U risen h g = climbs_then P S T U h (Rises.climbs g)
+
+pub ruleset climbs = (climbs_none, climbs_then, climbs_rising)
+
 pub rises_none : (P : PlainProgram) (S : Keeping) → Rises P S S false
-rises_none P S = record { same = refl; still = λ e. refl; less = λ e. cc; below = λ L says firm h. h }
+rises_none P S = record { climbs = climbs_none P S; still = λ e. refl; less = λ e. cc }
 
 pub rises_both : (P : PlainProgram) (S T U : Keeping) (a b : Bool) → Rises P S T a → Rises P T U b → Rises P S U (a || b)
-rises_both P S T U true true h g = record { same = Rises.same g ∙ Rises.same h; still = λ e. cc; less = λ e. (let x = Rises.less h refl in let y = Rises.less g refl in omega (arith, x, y)); below = λ L says firm i. Rises.below g L says firm (Rises.below h L says firm i) }
-rises_both P S T U true false h g =
-    record { same = Rises.same g ∙ Rises.same h; still = λ e. cc; less = λ e. subst (λ V. room V < room S) (sym (Rises.still g refl)) (Rises.less h refl); below = λ L says firm i. Rises.below g L says firm (Rises.below h L says firm i) }
-rises_both P S T U false true h g =
-    record { same = Rises.same g ∙ Rises.same h; still = λ e. cc; less = λ e. subst (λ V. room U < room V) (Rises.still h refl) (Rises.less g refl); below = λ L says firm i. Rises.below g L says firm (Rises.below h L says firm i) }
-rises_both P S T U false false h g =
-    record { same = Rises.same g ∙ Rises.same h; still = λ e. Rises.still g refl ∙ Rises.still h refl; less = λ e. cc; below = λ L says firm i. Rises.below g L says firm (Rises.below h L says firm i) }
+rises_both P S T U true true h g = record {
+  climbs = climbs_then P S T U (Rises.climbs h) (Rises.climbs g);
+  still = λ e. cc;
+  less = λ e. (let x = Rises.less h refl in let y = Rises.less g refl in omega (arith, x, y));
+}
+rises_both P S T U true false h g = record {
+  climbs = climbs_then P S T U (Rises.climbs h) (Rises.climbs g);
+  still = λ e. cc;
+  less = λ e. subst (λ V. room V < room S) (sym (Rises.still g refl)) (Rises.less h refl);
+}
+rises_both P S T U false true h g = record {
+  climbs = climbs_then P S T U (Rises.climbs h) (Rises.climbs g);
+  still = λ e. cc;
+  less = λ e. subst (λ V. room U < room V) (Rises.still h refl) (Rises.less g refl);
+}
+rises_both P S T U false false h g = record {
+  climbs = climbs_then P S T U (Rises.climbs h) (Rises.climbs g);
+  still = λ e. Rises.still g refl ∙ Rises.still h refl;
+  less = λ e. cc;
+}
 
 pub neither : (a b : Bool) → (a || b) ≡ false → (a ≡ false) × (b ≡ false)
 neither true b e = cc

@@ -54,8 +54,12 @@ room [] = 0
 room (ks ∷ kss) = room_in ks + room kss
 
 -- from the first to the second items rose, or none did; none to more than a firm one keeps
-pub record Rises (P : PlainProgram) (S T : Keeping) (risen : Bool) : Type 0 where
+pub record Climbs (P : PlainProgram) (S T : Keeping) : Type 0 where
   pub same : SayOfTheSame T S
+  pub below : (L : Keeping) → SaysOfEach P L → IsFirm P L → KeepsNoMore P S L → KeepsNoMore P T L
+
+-- and it was told whether one rose
+pub record Rises (P : PlainProgram) (S T : Keeping) (risen : Bool) : Type 0 where
+  pub climbs : Climbs P S T
   pub still : risen ≡ false → T ≡ S
   pub less : risen ≡ true → room T < room S
-  pub below : (L : Keeping) → SaysOfEach P L → IsFirm P L → KeepsNoMore P S L → KeepsNoMore P T L

@@ -3,7 +3,7 @@ ghost use Rattle.std.specs.Option.{option_copied};
 ghost use Rattle.dpj_base.specs.Regions.{substituted};
 ghost use Rattle.dpj_base.specs.Types.{plain_type};
 ghost use Rattle.dpj_typed.specs.Plain.{plain_program, plain_class, plain_member, plain_field, plain_parent, PlainMember};
-ghost use Rattle.dpj_typed.specs.Scope.{class_at, member_at, field_at, row_at};
+ghost use Rattle.dpj_typed.specs.Scope.{class_at, member_at, field_at, row_at, constructor_of};
 ghost use Rattle.dpj_typed.specs.Table.{params_from};
 ghost use Rattle.dpj_infer.specs.Doing.{seen_as};
 ghost use Rattle.dpj_infer.specs.Walked.{class_parts, parent_below};
@@ -46,6 +46,12 @@ pub fn row_at(program: &Program, class: ClassId, row: Row) -> Option<MemberId>
         .rows
         .get(row.number as usize)
         .copied()
+}
+
+pub fn constructor_of(program: &Program, class: u32) -> Option<MemberId>
+    ensures { option_map (λ member. member.number) result ≡ constructor_of (plain_program program.now) class }
+{
+    class_at(program, class)?.constructor
 }
 
 /// The arguments of a class type.

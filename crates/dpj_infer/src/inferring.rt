@@ -11,6 +11,7 @@ use crate::asking::{asked, done_by, kept_of, more, seen_items};
 use crate::classes::{class_at, override_in};
 use crate::kept::Kept;
 use crate::own::Own;
+use crate::settling::settle;
 use crate::walk::{Keeping, Walk};
 use dpj_base::{Effect, Items, NoMemory, Plain, Rpl};
 use dpj_typed::{Member, Program};
@@ -23,7 +24,7 @@ pub fn infer(alloc: Global, program: &Program) -> Result<Keeping, NoMemory>
     ensures inferred { IfOk result (IsInferred (plain_program program.now)) }
 {
     let mut kept = nothing_kept(alloc, program)?;
-    // Each pass but the last raises an item, and each item rises at most twice.
+    settle(alloc, program, &mut kept)?;
     while pass(alloc, program, &mut kept)? {}
     Ok(kept)
 }
@@ -83,7 +84,7 @@ fn ask_classes(alloc: Global, program: &Program, kept: &mut Keeping) -> Result<b
 
 /// Raises the items of a member that its body asks for more of.
 #[tactic(auto, using(crate::proofs::Passing::rises_none))]
-fn ask_body(
+pub fn ask_body(
     alloc: Global,
     program: &Program,
     number: usize,
@@ -154,7 +155,7 @@ fn ask_class(
 
 /// Raises the items of the member that the one in a row of a class overrides, if it does.
 #[tactic(auto, using(crate::proofs::Passing::rises_none))]
-fn ask_row(
+pub fn ask_row(
     alloc: Global,
     program: &Program,
     number: usize,

@@ -7,7 +7,7 @@ ghost use Rattle.dpj_infer.specs.Kept.{item_kept, summary_kept, program_kept};
 ghost use Rattle.dpj_infer.specs.Doing.{member_in, of_callee, of_constructor, constructed};
 ghost use Rattle.dpj_infer.specs.Walked.{all_done, at_most_one, summary_in};
 
-use crate::classes::{add_copies, args_of, class_at, member_at, row_at, seen_as};
+use crate::classes::{add_copies, args_of, constructor_of, member_at, row_at, seen_as};
 use crate::kept::Kept;
 use crate::own::{Own, does};
 use dpj_base::{Access, Effect, Items, NoMemory, Plain, Rpl, Ty};
@@ -89,12 +89,6 @@ pub fn add_construction(walk: Walk<'_>, ty: &Ty, out: &mut Items<Own>) -> Result
         return Ok(());
     };
     add_summary(walk, number, member, args.as_slice(), out)
-}
-
-fn constructor_of(program: &Program, class: u32) -> Option<MemberId>
-    ensures { option_map (λ member. member.number) result ≡ constructor_of (plain_program program.now) class }
-{
-    class_at(program, class)?.constructor
 }
 
 /// Adds what is kept of a summary, with arguments put in.

@@ -2,22 +2,23 @@ use Rattle.std.proofs.Common.{◌∙◌, sym, subst}
 use Rattle.dpj_typed.specs.Plain.{plain_program}
 use Rattle.dpj_infer.specs.Kept.{SaysOfEach}
 use Rattle.dpj_infer.specs.Firm.{KeepsNoMore}
-use Rattle.dpj_infer.specs.Passes.{Rises}
+use Rattle.dpj_infer.specs.Passes.{Climbs, Rises}
 use Rattle.dpj_infer.proofs.Same.{nothing_says, nothing_least}
 use Rattle.dpj_infer.proofs.inferring.infer.Goals as goal
 
 pub loop-kept-init : goal.loop-kept-init
 loop-kept-init c =
     let P = plain_program c.args.program.now in
+    let climbs = c.in_ok-settle.ensures in
     record {
-      says = subst (SaysOfEach P) (sym c.in_ok-kept.ensures) (nothing_says P);
-      least = λ T says firm. subst (λ S. KeepsNoMore P S T) (sym c.in_ok-kept.ensures) (nothing_least P T);
+      says = Climbs.same climbs ∙ subst (SaysOfEach P) (sym c.in_ok-kept.ensures) (nothing_says P);
+      least = λ T says firm. Climbs.below climbs T says firm (subst (λ S. KeepsNoMore P S T) (sym c.in_ok-kept.ensures) (nothing_least P T));
     }
 
 pub loop-kept-preserved : goal.loop-kept-preserved
 loop-kept-preserved c =
-    let rises = c.in_ok-pass.ensures.rises in
+    let climbs = Rises.climbs c.in_ok-pass.ensures.rises in
     record {
-      says = Rises.same rises ∙ c.loop-kept.invariant.says;
-      least = λ T says firm. Rises.below rises T says firm (c.loop-kept.invariant.least T says firm);
+      says = Climbs.same climbs ∙ c.loop-kept.invariant.says;
+      least = λ T says firm. Climbs.below climbs T says firm (c.loop-kept.invariant.least T says firm);
     }
