@@ -301,8 +301,6 @@ climbs_then P S T U h g = record { same = Climbs.same g ∙ Climbs.same h; below
 pub climbs_rising : (P : PlainProgram) (S T U : Keeping) (risen : Bool) → Climbs P S T → Rises P T U risen → Climbs P S U
 climbs_rising P S T U risen h g = climbs_then P S T U h (Rises.climbs g)
 
-pub ruleset climbs = (climbs_none, climbs_then, climbs_rising)
-
 pub rises_none : (P : PlainProgram) (S : Keeping) → Rises P S S false
 rises_none P S = record { climbs = climbs_none P S; still = λ e. refl; less = λ e. cc }
 

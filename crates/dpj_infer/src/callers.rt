@@ -37,22 +37,33 @@ impl Links {
 /// Who calls whom, and who overrides whom.
 pub fn linked(alloc: Global, program: &Program) -> Result<Links, NoMemory> {
     let mut links = Links {
-        callers: Vec::new(alloc),
-        rows: Vec::new(alloc),
+        callers: empty_lists(alloc, program.members.len())?,
+        rows: empty_lists(alloc, program.members.len())?,
     };
-    for _ in program.members.as_slice() {
-        links.callers.push(Vec::new(alloc))?;
-        links.rows.push(Vec::new(alloc))?;
+    add_bodies(alloc, program, &mut links.callers)?;
+    add_classes(program, &mut links.rows)?;
+    Ok(links)
+}
+
+fn empty_lists<T: Drop>(alloc: Global, count: usize) -> Result<Vec<Vec<T>>, NoMemory> {
+    let mut lists = Vec::new(alloc);
+    for _ in 0..count {
+        lists.push(Vec::new(alloc))?;
     }
+    Ok(lists)
+}
+
+fn add_bodies(
+    alloc: Global,
+    program: &Program,
+    callers: &mut Vec<Vec<usize>>,
+) -> Result<(), NoMemory> {
     for (number, member) in program.members.as_slice().iter().enumerate() {
         let mut called = Items::new(alloc);
-        by_all(program, member.body.as_slice(), &mut called)?;
-        add_caller(number, called.as_slice(), &mut links.callers)?;
+        calls_of_all(program, member.body.as_slice(), &mut called)?;
+        add_caller(number, called.as_slice(), callers)?;
     }
-    for (number, class) in program.classes.as_slice().iter().enumerate() {
-        add_class(program, number, class.rows.len(), &mut links.rows)?;
-    }
-    Ok(links)
+    Ok(())
 }
 
 fn add_caller(
@@ -64,6 +75,13 @@ fn add_caller(
         if let Some(all) = callers.get_mut(member.number as usize) {
             all.push(caller)?;
         }
+    }
+    Ok(())
+}
+
+fn add_classes(program: &Program, rows: &mut Vec<Vec<Standing>>) -> Result<(), NoMemory> {
+    for (number, class) in program.classes.as_slice().iter().enumerate() {
+        add_class(program, number, class.rows.len(), rows)?;
     }
     Ok(())
 }
@@ -86,50 +104,61 @@ fn add_class(
 }
 
 /// Adds the members that statements call.
-#[cycle(calls)]
-fn by_all(program: &Program, all: &[Stmt], out: &mut Items<MemberId>) -> Result<(), NoMemory> {
+#[cycle(statement_calls)]
+fn calls_of_all(
+    program: &Program,
+    all: &[Stmt],
+    out: &mut Items<MemberId>,
+) -> Result<(), NoMemory> {
     for s in all {
-        by_statement(program, s, out)?;
+        calls_of_statement(program, s, out)?;
     }
     Ok(())
 }
 
-#[cycle(calls)]
-fn by_branches(
+#[cycle(statement_calls)]
+fn calls_of_branches(
     program: &Program,
     all: &[Branch],
     out: &mut Items<MemberId>,
 ) -> Result<(), NoMemory> {
     for branch in all {
-        by_statement(program, &branch.body, out)?;
+        calls_of_statement(program, &branch.body, out)?;
     }
     Ok(())
 }
 
-#[cycle(calls)]
-fn by_statement(program: &Program, s: &Stmt, out: &mut Items<MemberId>) -> Result<(), NoMemory> {
+#[cycle(statement_calls)]
+fn calls_of_statement(
+    program: &Program,
+    s: &Stmt,
+    out: &mut Items<MemberId>,
+) -> Result<(), NoMemory> {
     match &s.form {
-        StmtForm::Block(all) => by_all(program, all.as_slice(), out),
-        StmtForm::Atomic { body, .. } => by_all(program, body.as_slice(), out),
-        StmtForm::Cobegin { branches, .. } => by_branches(program, branches.as_slice(), out),
+        StmtForm::Block(all) => calls_of_all(program, all.as_slice(), out),
+        StmtForm::Atomic { body, .. } => calls_of_all(program, body.as_slice(), out),
+        StmtForm::Cobegin { branches, .. } => calls_of_branches(program, branches.as_slice(), out),
         StmtForm::If { test, then, other } => {
-            by_expr(program, test, out)?;
-            by_statement(program, then.get(), out)?;
+            calls_of_expr(program, test, out)?;
+            calls_of_statement(program, then.get(), out)?;
             match other {
-                Some(other) => by_statement(program, other.get(), out),
+                Some(other) => calls_of_statement(program, other.get(), out),
                 None => Ok(()),
             }
         }
         StmtForm::While { test, body } => {
-            by_expr(program, test, out)?;
-            by_statement(program, body.get(), out)
+            calls_of_expr(program, test, out)?;
+            calls_of_statement(program, body.get(), out)
         }
         StmtForm::Foreach {
-            start, count, body, ..
+            start,
+            count,
+            body,
+            ..
         } => {
-            by_expr(program, start, out)?;
-            by_expr(program, count, out)?;
-            by_statement(program, body.get(), out)
+            calls_of_expr(program, start, out)?;
+            calls_of_expr(program, count, out)?;
+            calls_of_statement(program, body.get(), out)
         }
         StmtForm::ForeachParts {
             source,
@@ -137,65 +166,69 @@ fn by_statement(program: &Program, s: &Stmt, out: &mut Items<MemberId>) -> Resul
             body,
             ..
         } => {
-            by_source(program, source, out)?;
-            by_expr(program, count, out)?;
-            by_statement(program, body.get(), out)
+            calls_of_source(program, source, out)?;
+            calls_of_expr(program, count, out)?;
+            calls_of_statement(program, body.get(), out)
         }
-        _ => by_simple(program, s, out),
+        _ => calls_of_simple(program, s, out),
     }
 }
 
-fn by_source(
+fn calls_of_source(
     program: &Program,
     source: &PartSource,
     out: &mut Items<MemberId>,
 ) -> Result<(), NoMemory> {
     match source {
-        PartSource::Array(array) => by_expr(program, array, out),
+        PartSource::Array(array) => calls_of_expr(program, array, out),
         PartSource::Part(_) => Ok(()),
     }
 }
 
 /// Adds the members that a statement calls which holds no other.
-fn by_simple(program: &Program, s: &Stmt, out: &mut Items<MemberId>) -> Result<(), NoMemory> {
+fn calls_of_simple(program: &Program, s: &Stmt, out: &mut Items<MemberId>) -> Result<(), NoMemory> {
     match &s.form {
         StmtForm::Declare { value, .. }
         | StmtForm::Store { value, .. }
         | StmtForm::Perform(value)
         | StmtForm::Return(Some(value))
         | StmtForm::PrintInt(value)
-        | StmtForm::PrintBool(value) => by_expr(program, value, out),
+        | StmtForm::PrintBool(value) => calls_of_expr(program, value, out),
         StmtForm::StoreField { of, value, .. } => {
-            by_expr(program, of, out)?;
-            by_expr(program, value, out)
+            calls_of_expr(program, of, out)?;
+            calls_of_expr(program, value, out)
         }
         StmtForm::StoreElement {
             array,
             index,
             value,
         } => {
-            by_expr(program, array, out)?;
-            by_expr(program, index, out)?;
-            by_expr(program, value, out)
+            calls_of_expr(program, array, out)?;
+            calls_of_expr(program, index, out)?;
+            calls_of_expr(program, value, out)
         }
         StmtForm::StorePart { index, value, .. } => {
-            by_expr(program, index, out)?;
-            by_expr(program, value, out)
+            calls_of_expr(program, index, out)?;
+            calls_of_expr(program, value, out)
         }
         _ => Ok(()),
     }
 }
 
-#[cycle(called)]
-fn by_exprs(program: &Program, all: &[Expr], out: &mut Items<MemberId>) -> Result<(), NoMemory> {
+#[cycle(expression_calls)]
+fn calls_of_exprs(
+    program: &Program,
+    all: &[Expr],
+    out: &mut Items<MemberId>,
+) -> Result<(), NoMemory> {
     for e in all {
-        by_expr(program, e, out)?;
+        calls_of_expr(program, e, out)?;
     }
     Ok(())
 }
 
-#[cycle(called)]
-fn by_expr(program: &Program, e: &Expr, out: &mut Items<MemberId>) -> Result<(), NoMemory> {
+#[cycle(expression_calls)]
+fn calls_of_expr(program: &Program, e: &Expr, out: &mut Items<MemberId>) -> Result<(), NoMemory> {
     match &e.form {
         ExprForm::Call {
             of,
@@ -204,19 +237,19 @@ fn by_expr(program: &Program, e: &Expr, out: &mut Items<MemberId>) -> Result<(),
             actuals,
             ..
         } => {
-            by_expr(program, of.get(), out)?;
-            by_exprs(program, actuals.as_slice(), out)?;
+            calls_of_expr(program, of.get(), out)?;
+            calls_of_exprs(program, actuals.as_slice(), out)?;
             add_called(row_at(program, *class, *row), out)
         }
         ExprForm::New(actuals) => {
-            by_exprs(program, actuals.as_slice(), out)?;
+            calls_of_exprs(program, actuals.as_slice(), out)?;
             add_called(made_by(program, &e.ty), out)
         }
         ExprForm::Field { of: part, .. }
         | ExprForm::Length(part)
         | ExprForm::NewArray(part)
         | ExprForm::Unary { arg: part, .. }
-        | ExprForm::PartElement { index: part, .. } => by_expr(program, part.get(), out),
+        | ExprForm::PartElement { index: part, .. } => calls_of_expr(program, part.get(), out),
         ExprForm::Element {
             array: left,
             index: right,
@@ -224,8 +257,8 @@ fn by_expr(program: &Program, e: &Expr, out: &mut Items<MemberId>) -> Result<(),
         | ExprForm::Binary { left, right, .. }
         | ExprForm::And { left, right }
         | ExprForm::Or { left, right } => {
-            by_expr(program, left.get(), out)?;
-            by_expr(program, right.get(), out)
+            calls_of_expr(program, left.get(), out)?;
+            calls_of_expr(program, right.get(), out)
         }
         ExprForm::Int(_)
         | ExprForm::Bool(_)

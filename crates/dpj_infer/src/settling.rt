@@ -11,17 +11,13 @@ use std::alloc::Global;
 
 /// Asks each member once, and again where one has risen that its body calls or that overrides it. A pass over all members says
 /// whether no more is asked for: only how long that takes rests on who is asked here.
-#[tactic(auto, using(crate::proofs::Passing::climbs))]
+#[tactic(auto, using(crate::proofs::Passing::climbs_none))]
 pub fn settle(alloc: Global, program: &Program, kept: &mut Keeping) -> Result<(), NoMemory>
     ensures { OnOk result (Climbs (plain_program program.now) kept.old kept.new) }
 {
     let links = linked(alloc, program)?;
-    let mut bodies = Items::new(alloc);
-    let mut marks = Items::new(alloc);
-    for number in 0..program.members.len() {
-        bodies.push(number)?;
-        marks.push(0)?;
-    }
+    let mut marks = Items::from_vec(vec![in alloc; 0; program.members.len()]?);
+    let mut bodies = numbers(alloc, program.members.len())?;
     let mut risen = Items::new(alloc);
     // Each round but the last raises an item, and each item rises at most twice.
     for round in 0..most_rounds(program) {
@@ -29,12 +25,20 @@ pub fn settle(alloc: Global, program: &Program, kept: &mut Keeping) -> Result<()
         ask_bodies(alloc, program, bodies.as_slice(), kept, &mut next)?;
         ask_rows(alloc, program, &links, risen.as_slice(), kept, &mut next)?;
         if next.is_empty() {
-            break;
+            return Ok(());
         }
         bodies = callers_of(alloc, &links, next.as_slice(), round, &mut marks)?;
         risen = next;
     }
     Ok(())
+}
+
+fn numbers(alloc: Global, count: usize) -> Result<Items<usize>, NoMemory> {
+    let mut all = Items::new(alloc);
+    for number in 0..count {
+        all.push(number)?;
+    }
+    Ok(all)
 }
 
 fn most_rounds(program: &Program) -> usize {
@@ -79,7 +83,7 @@ fn add_callers(
 }
 
 /// Raises what the bodies of these members ask for, and tells which rose.
-#[tactic(auto, using(crate::proofs::Passing::climbs))]
+#[tactic(auto, using(crate::proofs::Passing::climbs_none))]
 fn ask_bodies(
     alloc: Global,
     program: &Program,
@@ -98,7 +102,7 @@ fn ask_bodies(
 }
 
 /// Raises what members ask for that override others, and tells which of those rose.
-#[tactic(auto, using(crate::proofs::Passing::climbs))]
+#[tactic(auto, using(crate::proofs::Passing::climbs_none))]
 fn ask_rows(
     alloc: Global,
     program: &Program,
@@ -115,7 +119,7 @@ fn ask_rows(
     Ok(())
 }
 
-#[tactic(auto, using(crate::proofs::Passing::climbs))]
+#[tactic(auto, using(crate::proofs::Passing::climbs_none))]
 fn ask_member(
     alloc: Global,
     program: &Program,
