@@ -167,8 +167,8 @@ mutual
   pub all_alike : (P : PlainProgram) (L K : Scope) → Agree L K → (ss : TypedStmts) → effects_of_all P L ss ≡ effects_of_all P K ss
   all_alike P L K h no_stmts = refl
   all_alike P L K h (more_stmts (statement at (form.declare x t is_final e)) ss) =
-      let behind = ap (outside_variable x) (all_alike P (with_local x (declared_as is_final t) L) (with_local x (declared_as is_final t) K) (with_same L K x (declared_as is_final t) h) ss) in
-      both_same (done_alike P L K h e) (behind)
+      let later = ap (outside_variable x) (all_alike P (with_local x (declared_as is_final t) L) (with_local x (declared_as is_final t) K) (with_same L K x (declared_as is_final t) h) ss) in
+      both_same (done_alike P L K h e) later
   all_alike P L K h (more_stmts (statement at (form.local_regions rs)) ss) = ap (outside_regions rs) (all_alike P L K h ss)
   all_alike P L K h (more_stmts (statement at (form.store x e)) ss) = both_same (effects_alike P L K h (statement at (form.store x e))) (all_alike P L K h ss)
   all_alike P L K h (more_stmts (statement at (form.store_field o c k e)) ss) = both_same (effects_alike P L K h (statement at (form.store_field o c k e))) (all_alike P L K h ss)

@@ -18,7 +18,7 @@ use Rattle.dpj_infer.proofs.Outside.{outside_none, outside_one, outside_some, ou
 pub body_agrees : (P : PlainProgram) (k : PlainClass) (m : PlainMember) (ss : TypedStmts) → effects_of_all P nowhere ss ≡ effects_of_all P (body_scope k (λ x. false) 0 m) ss
 body_agrees P k m ss = all_alike P nowhere (body_scope k (λ x. false) 0 m) (body_alike k m) ss
 
--- the first statement of a block, and those behind it as they are seen outside of what it declares
+-- the first statement of a block, and those after it as they are seen outside of what it declares
 block_step : (P : PlainProgram) (L : Scope) (s : TypedStmt) (ss : TypedStmts) →
     effects_of_all P L (more_stmts s ss) ≡ effects_of P L s ++ outside_all (variables_by s) (regions_by s) (effects_of_all P (fold with_placed L (placed_by s)) ss)
 block_step P L (statement at (form.declare x t is_final e)) ss =
@@ -46,8 +46,8 @@ block_step P L (statement at (form.cobegin forking bs)) ss = ap (λ E. effects_o
 block_step P L (statement at (form.foreach forking x start count s)) ss = ap (λ E. effects_of P L (statement at (form.foreach forking x start count s)) ++ E) (sym (outside_none (effects_of_all P L ss)))
 block_step P L (statement at (form.foreach_parts k source count s)) ss = ap (λ E. effects_of P L (statement at (form.foreach_parts k source count s)) ++ E) (sym (outside_none (effects_of_all P L ss)))
 
-scope_behind : (ps qs : List Placed) → scope_of (ps ++ qs) ≡ fold with_placed (scope_of ps) qs
-scope_behind ps qs = fold-append with_placed nowhere ps qs
+scope_joined : (ps qs : List Placed) → scope_of (ps ++ qs) ≡ fold with_placed (scope_of ps) qs
+scope_joined ps qs = fold-append with_placed nowhere ps qs
 
 -- one statement more
 pub block_more : (P : PlainProgram) (ps : List Placed) (vs rs : List ℕ) (s : TypedStmt) (ss : TypedStmts) (out inner new : List Done) →
@@ -59,7 +59,7 @@ block_more P ps vs rs s ss out inner new e h =
     ap (λ E. E ++ outside_all (vs ++ variables_by s) (rs ++ regions_by s) (effects_of_all P (scope_of (ps ++ placed_by s)) ss)) (h ∙ ap (λ E. out ++ outside_all vs rs E) e)
     ∙ append_assoc out (outside_all vs rs (effects_of P (scope_of ps) s)) (outside_all (vs ++ variables_by s) (rs ++ regions_by s) (effects_of_all P (scope_of (ps ++ placed_by s)) ss))
     ∙ ap (λ E. out ++ E)
-    (ap (λ L. outside_all vs rs (effects_of P (scope_of ps) s) ++ outside_all (vs ++ variables_by s) (rs ++ regions_by s) (effects_of_all P L ss)) (scope_behind ps (placed_by s))
+    (ap (λ L. outside_all vs rs (effects_of P (scope_of ps) s) ++ outside_all (vs ++ variables_by s) (rs ++ regions_by s) (effects_of_all P L ss)) (scope_joined ps (placed_by s))
     ∙ ap (λ E. outside_all vs rs (effects_of P (scope_of ps) s) ++ E) (sym (outside_twice vs rs (variables_by s) (regions_by s) F))
     ∙ sym (outside_append vs rs (effects_of P (scope_of ps) s) G)
     ∙ ap (outside_all vs rs) (sym (block_step P (scope_of ps) s ss)))
@@ -72,11 +72,11 @@ pub scope_left : (ps qs : List Placed) → take (length ps) (ps ++ qs) ≡ ps
 scope_left [] qs = refl
 scope_left (p ∷ ps) qs = ap (λ more. p ∷ more) (scope_left ps qs)
 
-pub left_behind : (n : ℕ) (old ps qs : List Placed) → n ≤ length ps → take n ps ≡ old → take n (ps ++ qs) ≡ old
-left_behind n old ps qs h e = take-append-le n ps qs h ∙ e
+pub scope_kept : (n : ℕ) (old ps qs : List Placed) → n ≤ length ps → take n ps ≡ old → take n (ps ++ qs) ≡ old
+scope_kept n old ps qs h e = take-append-le n ps qs h ∙ e
 
-pub long_behind : (n : ℕ) (ps qs : List Placed) → n ≤ length ps → n ≤ length (ps ++ qs)
-long_behind n ps qs h = omega (arith, length-append ps qs)
+pub still_long : (n : ℕ) (ps qs : List Placed) → n ≤ length ps → n ≤ length (ps ++ qs)
+still_long n ps qs h = omega (arith, length-append ps qs)
 
 -- under the part that the walk keeps, and under that of the definition
 pub parts_done : (P : PlainProgram) (L : Scope) (k : ℕ) (l m : Local) (s : TypedStmt) → SameUse (Some l) (Some m) → effects_of P (with_parts k l L) s ≡ effects_of P (with_parts k m L) s

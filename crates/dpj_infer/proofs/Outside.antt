@@ -149,14 +149,14 @@ pub outside_some : (rs : List ℕ) (os : List Own) → outside_all [] rs os ≡ 
 outside_some rs [] = refl
 outside_some rs (o ∷ os) = kept_one (begins_in rs (effect_of o).rpl.elems) o (mapped (outside []) o) (outside_regions rs os) (outside_all [] rs os) (own_none o) (outside_some rs os)
 
-behind_one : (b : Bool) (o : Own) (os ps qs : List Own) → ps ≡ os ++ qs → cond b ps (o ∷ ps) ≡ cond b os (o ∷ os) ++ qs
-behind_one true o os ps qs e = e
-behind_one false o os ps qs e = cc
+joined_one : (b : Bool) (o : Own) (os ps qs : List Own) → ps ≡ os ++ qs → cond b ps (o ∷ ps) ≡ cond b os (o ∷ os) ++ qs
+joined_one true o os ps qs e = e
+joined_one false o os ps qs e = cc
 
 pub outside_append : (vs rs : List ℕ) (os ps : List Own) → outside_all vs rs (os ++ ps) ≡ outside_all vs rs os ++ outside_all vs rs ps
 outside_append vs rs [] ps = refl
 outside_append vs rs (o ∷ os) ps =
-    behind_one (begins_in rs (effect_of o).rpl.elems) (mapped (outside vs) o) (outside_all vs rs os) (outside_all vs rs (os ++ ps)) (outside_all vs rs ps) (outside_append vs rs os ps)
+    joined_one (begins_in rs (effect_of o).rpl.elems) (mapped (outside vs) o) (outside_all vs rs os) (outside_all vs rs (os ++ ps)) (outside_all vs rs ps) (outside_append vs rs os ps)
 
 twice_one : (vs ws rs : List ℕ) (o : Own) (a b : Bool) (os ps : List Own) → begins_in rs (effect_of o).rpl.elems ≡ a → outside_all vs rs os ≡ ps →
     outside_all vs rs (cond b os (mapped (outside ws) o ∷ os)) ≡ cond (a || b) ps (mapped (outside (vs ++ ws)) o ∷ ps)

@@ -25,7 +25,7 @@ seen_there f xs i x e = slice_get-map f xs i ∙ ap (option_map f) (sym e)
 -- how many region parameters there are
 pub ruleset counting = (length-map)
 
--- one list of effects behind another
+-- one list of effects after another
 pub ruleset joined = (map-append, append_assoc, append-nil)
 
 chosen : (b : Bool) (l : Option Local) (q : Known) (k : Option Known) → l ≡ option_map local_of k → cond b (Some (local_of q)) l ≡ option_map local_of (if b then Some q else k)

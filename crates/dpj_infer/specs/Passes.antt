@@ -53,12 +53,12 @@ abbrev pub room : Keeping → ℕ
 room [] = 0
 room (ks ∷ kss) = room_in ks + room kss
 
--- from the first to the second items rose, or none did; none to more than a firm one keeps
+-- the second says something of the same items, and has raised none above what a firm keeping has of it
 pub record Climbs (P : PlainProgram) (S T : Keeping) : Type 0 where
   pub same : SayOfTheSame T S
   pub below : (L : Keeping) → SaysOfEach P L → IsFirm P L → KeepsNoMore P S L → KeepsNoMore P T L
 
--- and it was told whether one rose
+-- the same, where it is known whether an item rose
 pub record Rises (P : PlainProgram) (S T : Keeping) (risen : Bool) : Type 0 where
   pub climbs : Climbs P S T
   pub still : risen ≡ false → T ≡ S

@@ -199,7 +199,7 @@ fn raise(
     Ok(true)
 }
 
-/// How much is kept of the items of a member behind these demands.
+/// How much is kept of the items of a member after these demands.
 fn raised_items(
     alloc: Global,
     member: &Member,
@@ -216,7 +216,7 @@ fn raised_items(
     Ok(new)
 }
 
-/// How much of an item is kept behind these demands.
+/// How much of an item is kept after these demands.
 fn raised_at(
     member: &Member,
     places: &Items<Rpl>,

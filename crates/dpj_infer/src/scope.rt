@@ -63,7 +63,7 @@ impl Scope {
         self.locals.push(Placed { slot, known })
     }
 
-    /// Forgets what came into scope behind the first `len`.
+    /// Forgets what came into scope after the first `len`.
     pub fn leave(&mut self, len: usize)
         ensures { self.new ≡ take len self.old }
     {

@@ -49,7 +49,7 @@ fn most_rounds(program: &Program) -> usize {
     items.saturating_mul(2).saturating_add(1)
 }
 
-/// The members whose bodies call one of these, each once: a member is marked by the number of the round behind this one.
+/// The members whose bodies call one of these, each once: a member is marked by the number of the round after this one.
 fn callers_of(
     alloc: Global,
     links: &Links,

@@ -42,7 +42,7 @@ pub fn block(
     Ok(())
 }
 
-/// What a statement declares is in scope behind it.
+/// What a statement declares is in scope after it.
 fn open(scope: &mut Scope, opened: &mut Opened, s: &Stmt) -> Result<(), NoMemory>
     ensures scope { OnOk result (scope.new ≡ scope.old ++ placed_by (plain_stmt s.now)) }
     ensures variables { OnOk result (opened.new.variables ≡ opened.old.variables ++ variables_by (plain_stmt s.now)) }
@@ -209,7 +209,7 @@ fn fork(walk: Walk<'_>, scope: &mut Scope, s: &Stmt, out: &mut Items<Own>) -> Re
         StmtForm::Cobegin { forking, branches } => {
             let mut inner = Items::new(walk.alloc);
             all_branches(walk, scope, branches.as_slice(), &mut inner)?;
-            behind(*forking, inner, out)
+            add_after(*forking, inner, out)
         }
         StmtForm::Foreach {
             forking,
@@ -223,7 +223,7 @@ fn fork(walk: Walk<'_>, scope: &mut Scope, s: &Stmt, out: &mut Items<Own>) -> Re
             let mut inner = Items::new(walk.alloc);
             iteration(walk, scope, slot.number as u64, body.get(), &mut inner)?;
             let mut joined = Items::new(walk.alloc);
-            behind(*forking, inner, &mut joined)?;
+            add_after(*forking, inner, &mut joined)?;
             leave_variable(walk.alloc, slot.number as u64, joined, out)
         }
         StmtForm::ForeachParts {
@@ -241,7 +241,7 @@ fn fork(walk: Walk<'_>, scope: &mut Scope, s: &Stmt, out: &mut Items<Own>) -> Re
             iteration(walk, scope, number, body.get(), &mut inner)?;
             scope.leave(outer);
             let mut joined = Items::new(walk.alloc);
-            behind_parts(walk, *part, source, inner, &mut joined)?;
+            add_after_parts(walk, *part, source, inner, &mut joined)?;
             leave_variable(walk.alloc, number, joined, out)
         }
         StmtForm::Declare { .. }
@@ -333,9 +333,9 @@ fn part_of(walk: Walk<'_>, array: &Expr) -> Result<Known, NoMemory>
     }
 }
 
-/// Adds what the branches of a construct do, as it is seen behind it.
+/// Adds what the branches of a construct do, as it is seen after it.
 #[tactic(auto, using(crate::proofs::Reading::joined))]
-fn behind(forking: Forking, inner: Items<Own>, out: &mut Items<Own>) -> Result<(), NoMemory>
+fn add_after(forking: Forking, inner: Items<Own>, out: &mut Items<Own>) -> Result<(), NoMemory>
     ensures { OnOk result (all_done out.new ≡ all_done out.old ++ after_branches forking (all_done inner)) }
 {
     match forking {
@@ -356,7 +356,7 @@ fn add_owns(more: Items<Own>, out: &mut Items<Own>) -> Result<(), NoMemory>
 
 /// The same of a construct over parts.
 #[tactic(auto, using(crate::proofs::Reading::joined))]
-fn behind_parts(
+fn add_after_parts(
     walk: Walk<'_>,
     part: Slot,
     source: &PartSource,

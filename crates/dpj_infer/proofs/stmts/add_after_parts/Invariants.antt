@@ -3,7 +3,7 @@ use Rattle.std.proofs.Common.{◌≡◌, ◌++◌, length}
 use Rattle.dpj_typed.specs.Plain.{plain_source}
 use Rattle.dpj_typed.specs.Effects.{after_parts}
 use Rattle.dpj_infer.specs.Walked.{all_done}
-use Rattle.dpj_infer.proofs.stmts.behind_parts.Given as goal
+use Rattle.dpj_infer.proofs.stmts.add_after_parts.Given as goal
 
 abbrev pub invariant-loop-own : goal.invariant-loop-own
 invariant-loop-own l =
