@@ -10,3 +10,4 @@ pub mod Fewer
 pub mod Growing
 pub mod Strength
 pub mod Passing
+pub mod Covering

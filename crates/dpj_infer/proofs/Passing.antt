@@ -51,7 +51,7 @@ item_less kept.Whole kept.Nothing e h = absurd (omega (arith, some_strength e.ac
 item_less kept.Whole kept.Read e h = (inl (record { access = Read; stronger = h; is = refl }), tt)
 item_less kept.Whole kept.Whole e h = (inl (weaker_same e), tt)
 
-summary_less : (ks ls : List Kept) (es : List Effect) → length ls ≡ length es →
+pub summary_less : (ks ls : List Kept) (es : List Effect) → length ls ≡ length es →
     ((i : ℕ) (e : Effect) (k l : Kept) → slice_get es i ≡ Some e → slice_get ks i ≡ Some k → slice_get ls i ≡ Some l → strength_kept k e ≤ strength_kept l e) →
     Fewer Weaker (summary_kept ks es) (summary_kept ls es)
 summary_less [] ls [] h g = tt
@@ -134,7 +134,7 @@ grown P S T says h = record {
 }
 
 -- a body does less
-body_less : (P : PlainProgram) (S T : Keeping) (k : PlainClass) (m : PlainMember) → SaysOfEach P T → KeepsNoMore P S T → Fewer Weaker (done_in P S k m) (done_in P T k m)
+pub body_less : (P : PlainProgram) (S T : Keeping) (k : PlainClass) (m : PlainMember) → SaysOfEach P T → KeepsNoMore P S T → Fewer Weaker (done_in P S k m) (done_in P T k m)
 body_less P S T k m says h =
     effects_less (effects_of_all (program_kept S P) (body_scope k (λ x. false) 0 m) m.body) (effects_of_all (program_kept T P) (body_scope k (λ x. false) 0 m) m.body)
     (block_less (program_kept S P) (program_kept T P) (body_scope k (λ x. false) 0 m) (grown P S T says h) m.body)

@@ -33,14 +33,14 @@ nothing_of_all all at ms made none =
 
 -- at first something is said of each item, and no more is kept than anything keeps
 
-all_said : (ms : List PlainMember) → map length (map (λ m. nothing_of m.summary) ms) ≡ map (λ m. length m.summary) ms
-all_said [] = refl
-all_said (m ∷ ms) = ap (λ n. n ∷ map length (map (λ m. nothing_of m.summary) ms)) (length-map m.summary (λ e. kept.Nothing)) ∙ ap (λ rest. length m.summary ∷ rest) (all_said ms)
+pub all_said : (k : Kept) (ms : List PlainMember) → map length (map (λ m. map (λ e. k) m.summary) ms) ≡ map (λ m. length m.summary) ms
+all_said k [] = refl
+all_said k (m ∷ ms) = ap (λ n. n ∷ map length (map (λ m. map (λ e. k) m.summary) ms)) (length-map m.summary (λ e. k)) ∙ ap (λ rest. length m.summary ∷ rest) (all_said k ms)
 
 pub nothing_says : (P : PlainProgram) → SaysOfEach P (nothing_kept P)
-nothing_says P = all_said P.members
+nothing_says P = all_said kept.Nothing P.members
 
-mapped_from : {A B : Type 0} (f : A → B) (xs : List A) (i : ℕ) (y : B) → slice_get (map f xs) i ≡ Some y → (x : A) × (y ≡ f x)
+pub mapped_from : {A B : Type 0} (f : A → B) (xs : List A) (i : ℕ) (y : B) → slice_get (map f xs) i ≡ Some y → (x : A) × (y ≡ f x)
 mapped_from f [] i y h = absurd (none-some y h)
 mapped_from f (x ∷ xs) zero y h = (x, sym (same_Some (f x) y h))
 mapped_from f (x ∷ xs) (suc i) y h = mapped_from f xs i y h

@@ -4,3 +4,4 @@ pub mod Walked
 pub mod Firm
 pub mod Asked
 pub mod Passes
+pub mod Covered

@@ -5,6 +5,7 @@ ghost use Rattle.dpj_infer.specs.Kept.{SaysOfEach};
 ghost use Rattle.dpj_infer.specs.Walked.{all_done};
 ghost use Rattle.dpj_infer.specs.Firm.{IsFirm, IsInferred};
 ghost use Rattle.dpj_infer.specs.Asked.{nothing_of, nothing_kept, raised, raised_here, raised_from, raised_in};
+ghost use Rattle.dpj_infer.specs.Covered.{BodiesCovered, OverridesCovered};
 ghost use Rattle.dpj_infer.specs.Passes.{MeetsBody, MeetsRow, Rises};
 
 use crate::asking::{asked, done_by, kept_of, more, seen_items};
@@ -18,10 +19,11 @@ use dpj_typed::{Member, Program};
 use std::alloc::Global;
 
 /// What of the summaries of a program its bodies need: of each member, by number, how much is kept of each written item.
-#[tactic(auto, using(crate::proofs::Passing::rises_none))]
 pub fn infer(alloc: Global, program: &Program) -> Result<Keeping, NoMemory>
     ensures says { IfOk result (SaysOfEach (plain_program program.now)) }
     ensures inferred { IfOk result (IsInferred (plain_program program.now)) }
+    ensures bodies { IfOk result (BodiesCovered (plain_program program.now)) }
+    ensures overrides { IfOk result (OverridesCovered (plain_program program.now)) }
 {
     let mut kept = nothing_kept(alloc, program)?;
     settle(alloc, program, &mut kept)?;

@@ -5,6 +5,8 @@
 //! least for which this holds (`specs/Firm.antt`).
 //!
 //! That is what `infer` answers: of each item of each member it says something, this is firm, and nothing firm keeps less of an item.
+//! So what lies in the written summaries lies in what is kept of them (`specs/Covered.antt`).
+//!
 //! The summaries are found by asking members until none rises, each again only where one has risen that its body calls or that
 //! overrides it (`settling`); passes over all members see that no more is asked for (`inferring`). The lines that `lines` writes
 //! aren't pinned.
