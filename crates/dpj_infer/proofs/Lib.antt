@@ -1,1 +1,13 @@
 pub mod Same
+pub mod Reading
+pub mod Alike
+pub mod Outside
+pub mod Calling
+pub mod Blocks
+pub mod Forks
+pub mod Raising
+pub mod Fewer
+pub mod Growing
+pub mod Strength
+pub mod Passing
+pub mod Covering

@@ -2,14 +2,14 @@
 use Rattle.std.specs.Prelude.{ℕ, zero, suc, ◌+◌, ◌==◌, if◌then◌else◌, List, [], ◌∷◌, ◌++◌, map, length, Option, Some, None}
 use Rattle.dpj_base.specs.declared.region.Rpl.{Rpl}
 use Rattle.dpj_base.specs.Regions.{substituted}
-use Rattle.dpj_base.specs.Types.{PlainType, int, boolean, void, null, class, array, path_at}
+use Rattle.dpj_base.specs.Types.{PlainType, int, class, array, path_at}
 use Rattle.dpj_typed.specs.declared.stmt.Forking.TheVariants.{Deterministic}
 use Rattle.dpj_typed.specs.Plain.{PlainProgram, PlainField, PlainMember, PlainParent, TypedExpr, typed, type_of, TypedExprs, no_exprs, more_exprs, Source, of_array, of_part, TypedStmt, statement, TypedStmts, no_stmts, more_stmts, TypedBranches, no_branches, more_branches}
 use Rattle.dpj_typed.specs.Plain.{ExprForm as expr}
 use Rattle.dpj_typed.specs.Plain.{StmtForm as form}
-use Rattle.dpj_typed.specs.Scope.{Scope, Local, variable, frozen, constant, part, reserved, member_at, field_at, row_at, constructor_of, parent_of, with_local}
+use Rattle.dpj_typed.specs.Scope.{Scope, Local, constant, part, reserved, member_at, field_at, row_at, constructor_of, parent_of, with_local}
 use Rattle.dpj_typed.specs.Effects.{Own, does, uses, reads, writes, summary_with, after_block, after_branches, outside_variable, outside_regions, after_parts}
-use Rattle.dpj_typed.specs.Statements.{declared_as, with_part}
+use Rattle.dpj_typed.specs.Statements.{declared_as}
 use Rattle.dpj_typed.specs.Typing.{index_elem}
 
 -- the arguments of a class, where one with these arguments is seen as that class at or above it, so many superclasses up at most

@@ -1,9 +1,10 @@
 -- The least of what summaries may keep.
-use Rattle.std.specs.Prelude.{◌≡◌, ◌≤◌, ◌&&◌, ◌||◌, ℕ, Bool, false, not, IsTrue, min, List, [], ◌∷◌, ◌++◌, length, map, Contains, Option, Some, None, slice_get}
+use Rattle.std.specs.Prelude.{◌≡◌, ◌≤◌, ◌&&◌, ◌||◌, ℕ, Bool, false, not, IsTrue, min, List, ◌++◌, Contains, Some, slice_get}
 use Rattle.dpj_base.specs.declared.effect.Effect.{Effect}
+use Rattle.dpj_base.specs.declared.region.Rpl.{Rpl}
 use Rattle.dpj_base.specs.Regions.{within}
 use Rattle.dpj_typed.specs.Plain.{PlainProgram, PlainClass, PlainMember, PlainParent}
-use Rattle.dpj_typed.specs.Scope.{class_at, member_at, parent_of, row_at}
+use Rattle.dpj_typed.specs.Scope.{class_at, member_at, row_at}
 use Rattle.dpj_typed.specs.Effects.{as_effects, effect_with}
 use Rattle.dpj_typed.specs.Table.{body_scope, own_paths, method_paths}
 use Rattle.dpj_infer.specs.declared.kept.Kept.{Kept}
@@ -18,6 +19,10 @@ takes item demand = within demand.rpl item.rpl && (not item.atomic || demand.ato
 abbrev pub done_in : PlainProgram → Keeping → PlainClass → PlainMember → List Effect
 done_in P S k m = as_effects (effects_of_all (program_kept S P) (body_scope k (λ x. false) 0 m) m.body)
 
+-- the region parameters of a member, as a class right below sees them
+abbrev pub seen_below : PlainProgram → ℕ → PlainClass → PlainMember → List Rpl
+seen_below P c k m = seen_as P c (own_paths k) m.class ++ method_paths k m
+
 -- what is asked of a member: an effect of its body, or an item that is kept of a member that overrides it in a class right below,
 -- which sees the items of the member so
 pub data IsAsked (P : PlainProgram) (S : Keeping) (n : ℕ) (m : PlainMember) : (Effect → Effect) → Effect → Type 0 where
@@ -25,7 +30,7 @@ pub data IsAsked (P : PlainProgram) (S : Keeping) (n : ℕ) (m : PlainMember) : 
   by_override : (c r j : ℕ) (k : PlainClass) (p : PlainParent) (over : PlainMember) (ks : List Kept) (d : Effect) →
       class_at P c ≡ Some k → k.parent ≡ Some p → row_at P p.class r ≡ Some n → row_at P c r ≡ Some j → member_at P j ≡ Some over → over.class ≡ c →
       slice_get S j ≡ Some ks → Contains (summary_kept ks over.summary) d →
-      IsAsked P S n m (effect_with (seen_as P c (own_paths k) m.class ++ method_paths k m)) d
+      IsAsked P S n m (effect_with (seen_below P c k m)) d
 
 -- each item that takes what is asked keeps at least as much as that is, as far as it was written
 abbrev pub IsFirm : PlainProgram → Keeping → Type 0

@@ -1,3 +1,12 @@
+ghost use Rattle.std.specs.Prelude.{◌≡◌, ◌++◌, map, OnOk};
+ghost use Rattle.dpj_base.specs.Types.{plain_type};
+ghost use Rattle.dpj_typed.specs.Plain.{plain_program, plain_expr, exprs_of};
+ghost use Rattle.dpj_typed.specs.Scope.{field_at};
+ghost use Rattle.dpj_typed.specs.Effects.{does, uses};
+ghost use Rattle.dpj_infer.specs.Kept.{program_kept};
+ghost use Rattle.dpj_infer.specs.Doing.{done_by, done_by_all, of_field, of_element, of_local};
+ghost use Rattle.dpj_infer.specs.Walked.{all_done, access_to, scope_of, operands_done};
+
 use crate::classes::{args_of, field_at};
 use crate::own::{Own, does, uses};
 use crate::scope::Scope;
@@ -9,7 +18,10 @@ use dpj_types::path_at;
 
 /// Adds what an expression does: what its parts do, and then what it does itself.
 #[cycle(exprs)]
-pub fn expr(walk: Walk<'_>, scope: &Scope, e: &Expr, out: &mut Items<Own>) -> Result<(), NoMemory> {
+#[tactic(auto, using(crate::proofs::Reading::joined))]
+pub fn expr(walk: Walk<'_>, scope: &Scope, e: &Expr, out: &mut Items<Own>) -> Result<(), NoMemory>
+    ensures { OnOk result (all_done out.new ≡ all_done out.old ++ done_by (program_kept walk.entry.kept.now (plain_program walk.entry.program.now)) (scope_of scope.now) (plain_expr e.now)) }
+{
     match &e.form {
         ExprForm::Field { of, class, field } => {
             expr(walk, scope, of.get(), out)?;
@@ -39,13 +51,26 @@ pub fn expr(walk: Walk<'_>, scope: &Scope, e: &Expr, out: &mut Items<Own>) -> Re
             exprs(walk, scope, actuals, out)?;
             add_construction(walk, &e.ty, out)
         }
-        _ => operands(walk, scope, e, out),
+        ExprForm::Length(_)
+        | ExprForm::NewArray(_)
+        | ExprForm::Unary { .. }
+        | ExprForm::Binary { .. }
+        | ExprForm::And { .. }
+        | ExprForm::Or { .. } => operands(walk, scope, e, out),
+        ExprForm::Int(_)
+        | ExprForm::Bool(_)
+        | ExprForm::Null
+        | ExprForm::Local(_)
+        | ExprForm::PartLength(_) => Ok(()),
     }
 }
 
 /// Adds what the parts do of an expression that does nothing itself.
 #[cycle(exprs)]
-fn operands(walk: Walk<'_>, scope: &Scope, e: &Expr, out: &mut Items<Own>) -> Result<(), NoMemory> {
+#[tactic(auto, using(crate::proofs::Reading::joined))]
+fn operands(walk: Walk<'_>, scope: &Scope, e: &Expr, out: &mut Items<Own>) -> Result<(), NoMemory>
+    ensures { OnOk result (all_done out.new ≡ all_done out.old ++ operands_done (program_kept walk.entry.kept.now (plain_program walk.entry.program.now)) (scope_of scope.now) (plain_expr e.now)) }
+{
     match &e.form {
         ExprForm::Length(part) | ExprForm::NewArray(part) => expr(walk, scope, part.get(), out),
         ExprForm::Unary { arg, .. } => expr(walk, scope, arg.get(), out),
@@ -55,18 +80,30 @@ fn operands(walk: Walk<'_>, scope: &Scope, e: &Expr, out: &mut Items<Own>) -> Re
             expr(walk, scope, left.get(), out)?;
             expr(walk, scope, right.get(), out)
         }
-        _ => Ok(()),
+        ExprForm::Int(_)
+        | ExprForm::Bool(_)
+        | ExprForm::Null
+        | ExprForm::Local(_)
+        | ExprForm::PartLength(_)
+        | ExprForm::Field { .. }
+        | ExprForm::Element { .. }
+        | ExprForm::PartElement { .. }
+        | ExprForm::Call { .. }
+        | ExprForm::New(_) => Ok(()),
     }
 }
 
 /// Adds what expressions do one after another.
 #[cycle(exprs)]
+#[tactic(auto, using(crate::proofs::Reading::joined))]
 fn exprs(
     walk: Walk<'_>,
     scope: &Scope,
     all: &Items<Expr>,
     out: &mut Items<Own>,
-) -> Result<(), NoMemory> {
+) -> Result<(), NoMemory>
+    ensures { OnOk result (all_done out.new ≡ all_done out.old ++ done_by_all (program_kept walk.entry.kept.now (plain_program walk.entry.program.now)) (scope_of scope.now) (exprs_of (map plain_expr all.now))) }
+{
     for e in all.as_slice() {
         expr(walk, scope, e, out)?;
     }
@@ -74,6 +111,7 @@ fn exprs(
 }
 
 /// Adds an access to a field of an object of this type.
+#[tactic(auto, using(crate::proofs::Reading::joined))]
 pub fn add_field(
     walk: Walk<'_>,
     of: &Ty,
@@ -81,7 +119,9 @@ pub fn add_field(
     field: FieldSlot,
     access: Access,
     out: &mut Items<Own>,
-) -> Result<(), NoMemory> {
+) -> Result<(), NoMemory>
+    ensures { let P = plain_program walk.entry.program.now in OnOk result (all_done out.new ≡ all_done out.old ++ of_field P (plain_type of.now) (field_at P class.number field.number) (λ a. does (access_to access a))) }
+{
     let Some(field) = field_at(walk.program, class, field) else {
         return Ok(());
     };
@@ -92,6 +132,7 @@ pub fn add_field(
 }
 
 /// Adds an access to an element of an array of this type.
+#[tactic(auto, using(crate::proofs::Reading::joined))]
 pub fn add_element(
     walk: Walk<'_>,
     scope: &Scope,
@@ -99,7 +140,9 @@ pub fn add_element(
     index: &Expr,
     access: Access,
     out: &mut Items<Own>,
-) -> Result<(), NoMemory> {
+) -> Result<(), NoMemory>
+    ensures { OnOk result (all_done out.new ≡ all_done out.old ++ of_element (scope_of scope.now) (plain_type array.now) (plain_expr index.now) (λ a. does (access_to access a))) }
+{
     if let Ty::Array { rpl, .. } = array {
         out.push(does(access, path_at(walk.alloc, rpl, scope.index(index))?))?;
     }
@@ -107,13 +150,16 @@ pub fn add_element(
 }
 
 /// Adds an access through a part.
+#[tactic(auto, using(crate::proofs::Reading::joined))]
 pub fn add_part(
     walk: Walk<'_>,
     scope: &Scope,
     part: Slot,
     access: Access,
     out: &mut Items<Own>,
-) -> Result<(), NoMemory> {
+) -> Result<(), NoMemory>
+    ensures { let L = scope_of scope.now in OnOk result (all_done out.new ≡ all_done out.old ++ of_local (L.local part.number) (λ a. uses part.number (access_to access a))) }
+{
     if let Some(rpl) = scope.part_copy(walk.alloc, part)? {
         out.push(uses(part, access, rpl))?;
     }

@@ -1,32 +1,39 @@
-ghost use Rattle.std.specs.Prelude.{◌≡◌, length, map, IfOk};
+ghost use Rattle.std.specs.Prelude.{◌≡◌, ◌≢◌, ℕ, true, false, map, slice_get, IfOk, OnOk};
 ghost use Rattle.dpj_typed.specs.Plain.{plain_program};
-ghost use Rattle.dpj_infer.specs.Kept.{SaysOfEach, SayOfTheSame};
+ghost use Rattle.dpj_typed.specs.Effects.{as_effects};
+ghost use Rattle.dpj_infer.specs.Kept.{SaysOfEach};
+ghost use Rattle.dpj_infer.specs.Walked.{all_done};
+ghost use Rattle.dpj_infer.specs.Firm.{IsFirm, IsInferred};
+ghost use Rattle.dpj_infer.specs.Asked.{nothing_of, nothing_kept, raised, raised_here, raised_from, raised_in};
+ghost use Rattle.dpj_infer.specs.Covered.{BodiesCovered, OverridesCovered};
+ghost use Rattle.dpj_infer.specs.Passes.{MeetsBody, MeetsRow, Rises};
 
 use crate::asking::{asked, done_by, kept_of, more, seen_items};
-use crate::classes::{class_at, counted, member_at};
+use crate::classes::{class_at, override_in};
 use crate::kept::Kept;
+use crate::own::Own;
+use crate::settling::settle;
 use crate::walk::{Keeping, Walk};
 use dpj_base::{Effect, Items, NoMemory, Plain, Rpl};
-use dpj_typed::{Class, ClassId, Member, MemberId, Program};
+use dpj_typed::{Member, Program};
 use std::alloc::Global;
 
 /// What of the summaries of a program its bodies need: of each member, by number, how much is kept of each written item.
 pub fn infer(alloc: Global, program: &Program) -> Result<Keeping, NoMemory>
     ensures says { IfOk result (SaysOfEach (plain_program program.now)) }
+    ensures inferred { IfOk result (IsInferred (plain_program program.now)) }
+    ensures bodies { IfOk result (BodiesCovered (plain_program program.now)) }
+    ensures overrides { IfOk result (OverridesCovered (plain_program program.now)) }
 {
     let mut kept = nothing_kept(alloc, program)?;
-    // Each pass but the last raises an item, and each item rises at most twice.
-    for _ in 0..most_passes(program) {
-        if !pass(alloc, program, &mut kept)? {
-            break;
-        }
-    }
+    settle(alloc, program, &mut kept)?;
+    while pass(alloc, program, &mut kept)? {}
     Ok(kept)
 }
 
-#[tactic(auto, using(crate::proofs::Same::said_of_all))]
+#[tactic(auto, using(crate::proofs::Same::nothing_of_all))]
 fn nothing_kept(alloc: Global, program: &Program) -> Result<Keeping, NoMemory>
-    ensures says { IfOk result (SaysOfEach (plain_program program.now)) }
+    ensures { IfOk result (λ all. all ≡ nothing_kept (plain_program program.now)) }
 {
     let mut all = Items::new(alloc);
     for member in program.members.as_slice() {
@@ -35,24 +42,18 @@ fn nothing_kept(alloc: Global, program: &Program) -> Result<Keeping, NoMemory>
     Ok(all)
 }
 
+#[tactic(auto, using(crate::proofs::Same::nothing_of_each))]
 fn nothing_of(alloc: Global, member: &Member) -> Result<Items<Kept>, NoMemory>
-    ensures { IfOk result (λ kept. length kept ≡ length member.now.summary) }
+    ensures { IfOk result (λ kept. kept ≡ nothing_of member.now.summary) }
 {
     let kept = vec![in alloc; Kept::Nothing; member.summary.len()]?;
     Ok(Items::from_vec(kept))
 }
 
-fn most_passes(program: &Program) -> usize {
-    let mut items = 0usize;
-    for member in program.members.as_slice() {
-        items = items.saturating_add(member.summary.len());
-    }
-    items.saturating_mul(2).saturating_add(1)
-}
-
 /// Asks each member once; whether an item rose.
 fn pass(alloc: Global, program: &Program, kept: &mut Keeping) -> Result<bool, NoMemory>
-    ensures same { SayOfTheSame kept.new kept.old }
+    ensures rises { IfOk result (Rises (plain_program program.now) kept.old kept.new) }
+    ensures firm { IfOk result (λ risen. risen ≡ false → IsFirm (plain_program program.now) kept.new) }
 {
     let by_bodies = ask_bodies(alloc, program, kept)?;
     let by_overriding = ask_classes(alloc, program, kept)?;
@@ -60,137 +61,185 @@ fn pass(alloc: Global, program: &Program, kept: &mut Keeping) -> Result<bool, No
 }
 
 fn ask_bodies(alloc: Global, program: &Program, kept: &mut Keeping) -> Result<bool, NoMemory>
-    ensures same { SayOfTheSame kept.new kept.old }
+    ensures rises { IfOk result (Rises (plain_program program.now) kept.old kept.new) }
+    ensures met { IfOk result (λ risen. risen ≡ false → (n : ℕ) → MeetsBody (plain_program program.now) kept.new n) }
 {
     let mut has_risen = false;
-    for number in 0..counted(&program.members) {
-        if ask_body(alloc, program, MemberId { number }, kept)? {
-            has_risen = true;
-        }
+    for number in 0..program.members.len() {
+        let risen = ask_body(alloc, program, number, kept)?;
+        has_risen = has_risen || risen;
     }
     Ok(has_risen)
 }
 
 fn ask_classes(alloc: Global, program: &Program, kept: &mut Keeping) -> Result<bool, NoMemory>
-    ensures same { SayOfTheSame kept.new kept.old }
+    ensures rises { IfOk result (Rises (plain_program program.now) kept.old kept.new) }
+    ensures met { IfOk result (λ risen. risen ≡ false → (c r : ℕ) → MeetsRow (plain_program program.now) kept.new c r) }
 {
     let mut has_risen = false;
-    for number in 0..counted(&program.classes) {
-        if ask_class(alloc, program, ClassId { number }, kept)? {
-            has_risen = true;
-        }
+    for number in 0..program.classes.len() {
+        let risen = ask_class(alloc, program, number, kept)?;
+        has_risen = has_risen || risen;
     }
     Ok(has_risen)
 }
 
 /// Raises the items of a member that its body asks for more of.
-fn ask_body(
+#[tactic(auto, using(crate::proofs::Passing::rises_none))]
+pub fn ask_body(
     alloc: Global,
     program: &Program,
-    number: MemberId,
+    number: usize,
     kept: &mut Keeping,
 ) -> Result<bool, NoMemory>
-    ensures same { SayOfTheSame kept.new kept.old }
+    ensures rises { IfOk result (Rises (plain_program program.now) kept.old kept.new) }
+    ensures met { IfOk result (λ risen. risen ≡ false → MeetsBody (plain_program program.now) kept.new number) }
 {
-    let Some(member) = member_at(program, number) else {
+    let Some(member) = program.members.get(number) else {
         return Ok(false);
     };
-    let done = done_by(
-        Walk {
-            alloc,
-            program,
-            kept,
-        },
-        member,
-    )?;
-    let mut items = Items::new(alloc);
-    let mut demands = Items::new(alloc);
+    let Some(_) = class_at(program, member.class.number) else {
+        return Ok(false);
+    };
+    let walk = Walk {
+        alloc,
+        program,
+        kept,
+    };
+    let demands = effects_in(alloc, done_by(walk, member)?)?;
+    let places = places_of(alloc, member)?;
+    raise(alloc, number, member, &places, &demands, kept)
+}
+
+/// The places of the items of a member.
+fn places_of(alloc: Global, member: &Member) -> Result<Items<Rpl>, NoMemory>
+    ensures { IfOk result (λ places. places ≡ map (λ e. e.rpl) member.now.summary) }
+{
+    let mut places = Items::new(alloc);
     for item in member.summary.as_slice() {
-        items.push(item.rpl.copy(alloc)?)?;
+        places.push(item.rpl.copy(alloc)?)?;
     }
+    Ok(places)
+}
+
+#[tactic(auto, using(crate::proofs::Raising::effects))]
+fn effects_in(alloc: Global, done: Items<Own>) -> Result<Items<Effect>, NoMemory>
+    ensures { IfOk result (λ effects. effects ≡ as_effects (all_done done)) }
+{
+    let mut effects = Items::new(alloc);
     for own in done.into_vec() {
-        demands.push(own.effect)?;
+        effects.push(own.effect)?;
     }
-    raise(alloc, number, member, &items, &demands, kept)
+    Ok(effects)
 }
 
 /// Raises the items of the members that the members of a class override.
+#[tactic(auto, using(crate::proofs::Passing::rises_none))]
 fn ask_class(
     alloc: Global,
     program: &Program,
-    number: ClassId,
+    number: usize,
     kept: &mut Keeping,
 ) -> Result<bool, NoMemory>
-    ensures same { SayOfTheSame kept.new kept.old }
+    ensures rises { IfOk result (Rises (plain_program program.now) kept.old kept.new) }
+    ensures met { IfOk result (λ risen. risen ≡ false → (r : ℕ) → MeetsRow (plain_program program.now) kept.new number r) }
 {
-    let Some(class) = class_at(program, number.number) else {
-        return Ok(false);
-    };
-    let Some(parent) = &class.parent else {
-        return Ok(false);
-    };
-    let Some(above) = class_at(program, parent.class.number) else {
+    let Some(class) = program.classes.get(number) else {
         return Ok(false);
     };
     let mut has_risen = false;
-    for (over, member) in class.rows.as_slice().iter().zip(above.rows.as_slice()) {
-        if over != member && ask_override(alloc, program, number, class, *over, *member, kept)? {
-            has_risen = true;
-        }
+    for row in 0..class.rows.len() {
+        let risen = ask_row(alloc, program, number, row, kept)?;
+        has_risen = has_risen || risen;
     }
     Ok(has_risen)
 }
 
-fn ask_override(
+/// Raises the items of the member that the one in a row of a class overrides, if it does.
+#[tactic(auto, using(crate::proofs::Passing::rises_none))]
+pub fn ask_row(
     alloc: Global,
     program: &Program,
-    number: ClassId,
-    class: &Class,
-    over: MemberId,
-    above: MemberId,
+    number: usize,
+    row: usize,
     kept: &mut Keeping,
 ) -> Result<bool, NoMemory>
-    ensures same { SayOfTheSame kept.new kept.old }
+    ensures rises { IfOk result (Rises (plain_program program.now) kept.old kept.new) }
+    ensures met { IfOk result (λ risen. risen ≡ false → MeetsRow (plain_program program.now) kept.new number row) }
 {
-    let Some(member) = member_at(program, above) else {
+    let Some(found) = override_in(program, number, row) else {
         return Ok(false);
     };
-    let items = seen_items(alloc, program, number, class, member)?;
-    let demands = kept_of(alloc, program, kept, over)?;
-    raise(alloc, above, member, &items, &demands, kept)
+    let places = seen_items(alloc, program, found.number, found.class, found.member)?;
+    let demands = kept_of(alloc, program, kept, found.over)?;
+    let above = found.above.number as usize;
+    raise(alloc, above, found.member, &places, &demands, kept)
 }
 
-/// Raises the items of a member to what is asked, as far as they are written, where they lie in these places.
-#[tactic(auto, using(crate::proofs::Same::set_alike))]
+/// Raises the items of a member to what is asked, as far as they are written, where they lie in these places; whether one rose.
+#[tactic(auto, using(crate::proofs::Raising::set_same))]
 fn raise(
     alloc: Global,
-    number: MemberId,
+    number: usize,
     member: &Member,
     places: &Items<Rpl>,
     demands: &Items<Effect>,
     kept: &mut Keeping,
 ) -> Result<bool, NoMemory>
-    ensures same { SayOfTheSame kept.new kept.old }
+    ensures raised { OnOk result (kept.new ≡ raised_in kept.old number member.now.summary places.now demands.now) }
+    ensures still { IfOk result (λ risen. risen ≡ false → kept.new ≡ kept.old) }
+    ensures moved { IfOk result (λ risen. risen ≡ true → kept.new ≢ kept.old) }
 {
-    let at = number.number as usize;
-    let Some(old) = kept.get(at) else {
+    let Some(old) = kept.get(number) else {
         return Ok(false);
     };
-    let mut new = Items::new(alloc);
-    let mut has_risen = false;
-    for (position, old) in old.as_slice().iter().enumerate() {
-        let risen = match (member.summary.get(position), places.get(position)) {
-            (Some(item), Some(place)) => raised(item, place, demands.as_slice(), *old),
-            _ => *old,
-        };
-        has_risen = has_risen || risen != *old;
-        new.push(risen)?;
+    let new = raised_items(alloc, member, places, demands.as_slice(), old)?;
+    if new.same(old) {
+        return Ok(false);
     }
-    kept.set(at, new);
-    Ok(has_risen)
+    kept.set(number, new);
+    Ok(true)
 }
 
-fn raised(item: &Effect, place: &Rpl, demands: &[Effect], old: Kept) -> Kept {
+/// How much is kept of the items of a member after these demands.
+fn raised_items(
+    alloc: Global,
+    member: &Member,
+    places: &Items<Rpl>,
+    demands: &[Effect],
+    old: &Items<Kept>,
+) -> Result<Items<Kept>, NoMemory>
+    ensures { IfOk result (λ new. new ≡ raised_from 0 member.now.summary places.now demands.now old.now) }
+{
+    let mut new = Items::new(alloc);
+    for (position, old) in old.as_slice().iter().enumerate() {
+        new.push(raised_at(member, places, position, demands, *old))?;
+    }
+    Ok(new)
+}
+
+/// How much of an item is kept after these demands.
+fn raised_at(
+    member: &Member,
+    places: &Items<Rpl>,
+    position: usize,
+    demands: &[Effect],
+    old: Kept,
+) -> Kept
+    ensures { result ≡ raised_here (slice_get member.now.summary position) (slice_get places.now position) demands.now old }
+{
+    let Some(item) = member.summary.get(position) else {
+        return old;
+    };
+    let Some(place) = places.get(position) else {
+        return old;
+    };
+    raised(item, place, demands, old)
+}
+
+fn raised(item: &Effect, place: &Rpl, demands: &[Effect], old: Kept) -> Kept
+    ensures { result ≡ raised item.now place.now demands.now old }
+{
     let mut risen = old;
     for demand in demands {
         risen = more(risen, asked(item, place, demand));

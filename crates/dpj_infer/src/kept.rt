@@ -1,3 +1,6 @@
+use dpj_base::{NoMemory, Plain};
+use std::alloc::Global;
+
 /// How much of a written item of a summary is kept.
 #[derive(Clone, Copy, Debug, PartialEq, Eq)]
 pub enum Kept {
@@ -6,4 +9,14 @@ pub enum Kept {
     Read,
     /// The item as it is written.
     Whole,
+}
+
+impl Plain for Kept {
+    fn copy(&self, _alloc: Global) -> Result<Kept, NoMemory> {
+        Ok(*self)
+    }
+
+    fn same(&self, other: &Kept) -> bool {
+        *self == *other
+    }
 }

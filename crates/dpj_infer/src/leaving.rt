@@ -1,93 +1,198 @@
+ghost use Rattle.std.specs.Prelude.{◌≡◌, ◌==◌, ◌++◌, map, not, true, false, IfOk, OnOk};
+ghost use Rattle.std.specs.List.{list_any};
+ghost use Rattle.dpj_typed.specs.Plain.{plain_source};
+ghost use Rattle.dpj_typed.specs.Effects.{begins_in, mapped, marked, own_after, outside_variable};
+ghost use Rattle.dpj_infer.specs.Walked.{all_done, done_of, outside_elem, outside, outside_all, handed_to};
+
 use crate::own::Own;
-use crate::scope::Scope;
 use dpj_base::{Elem, Elems, Index, Items, NoMemory, Rpl};
 use dpj_typed::{PartSource, Slot};
 use std::alloc::Global;
 
-/// Adds what a part of a body does, as it is seen outside the scope of what was declared in it: an index variable that isn't in
-/// scope any more is any index, and nobody sees an access to local regions that aren't.
+/// What came into scope at a place of a body and isn't in scope outside of it.
+#[derive(Drop)]
+pub struct Opened {
+    pub variables: Items<u64>,
+    pub regions: Items<u32>,
+}
+
+/// Adds what a part of a body does, as it is seen outside the scope of what was opened: an index variable of it is any index, and
+/// nobody sees an access to its local regions.
+#[tactic(auto, using(crate::proofs::Reading::joined))]
 pub fn leave(
     alloc: Global,
-    scope: &Scope,
+    opened: &Opened,
     inner: Items<Own>,
     out: &mut Items<Own>,
-) -> Result<(), NoMemory> {
+) -> Result<(), NoMemory>
+    ensures { OnOk result (all_done out.new ≡ all_done out.old ++ outside_all opened.now.variables opened.now.regions (all_done inner)) }
+{
     for own in inner.into_vec() {
-        if is_seen(scope, &own.effect.rpl) {
-            out.push(outside(alloc, scope, own)?)?;
+        if is_seen(opened, &own.effect.rpl) {
+            out.push(outside(alloc, opened, own)?)?;
         }
     }
     Ok(())
 }
 
-fn is_seen(scope: &Scope, rpl: &Rpl) -> bool {
-    match rpl.elems.as_slice().first() {
-        Some(Elem::Local(number, 0)) => scope.has_region(*number),
+fn is_seen(opened: &Opened, rpl: &Rpl) -> bool
+    ensures { result ≡ not (begins_in opened.now.regions rpl.now.elems) }
+{
+    match rpl.elems.as_slice() {
+        [Elem::Local(number, _), ..] => !has_region(opened.regions.as_slice(), *number),
         _ => true,
     }
 }
 
-fn outside(alloc: Global, scope: &Scope, own: Own) -> Result<Own, NoMemory> {
+fn has_region(regions: &[u32], number: u32) -> bool
+    ensures { result ≡ list_any (λ q. number == q) regions.now }
+{
+    for region in regions {
+        if number == *region {
+            return true;
+        }
+    }
+    false
+}
+
+fn has_variable(variables: &[u64], slot: u32) -> bool
+    ensures { result ≡ list_any (λ v. v == slot) variables.now }
+{
+    for variable in variables {
+        if *variable == slot as u64 {
+            return true;
+        }
+    }
+    false
+}
+
+fn outside(alloc: Global, opened: &Opened, own: Own) -> Result<Own, NoMemory>
+    ensures { IfOk result (λ made. done_of made ≡ mapped (outside opened.now.variables) (done_of own)) }
+{
     let Own { mut effect, part } = own;
-    effect.rpl.elems = outside_elems(alloc, scope, &effect.rpl.elems)?;
+    effect.rpl.elems = outside_elems(alloc, opened, &effect.rpl.elems)?;
     Ok(Own { effect, part })
 }
 
-fn outside_elems(alloc: Global, scope: &Scope, elems: &Elems) -> Result<Elems, NoMemory> {
+fn outside_elems(alloc: Global, opened: &Opened, elems: &Elems) -> Result<Elems, NoMemory>
+    ensures { IfOk result (λ made. made ≡ map (outside_elem opened.now.variables) elems.now) }
+{
     let mut all = Elems::new(alloc);
     for elem in elems.as_slice() {
-        all.push(outside_elem(scope, *elem))?;
+        all.push(outside_elem(opened, *elem))?;
     }
     Ok(all)
 }
 
-fn outside_elem(scope: &Scope, elem: Elem) -> Elem {
+fn outside_elem(opened: &Opened, elem: Elem) -> Elem
+    ensures { result ≡ outside_elem opened.now.variables elem }
+{
     match elem {
-        Elem::At(Index::Variable(slot)) if !scope.is_constant(slot) => Elem::Any,
-        _ => elem,
+        Elem::At(Index::Variable(slot)) => outside_variable(opened, slot),
+        Elem::At(Index::Literal(_))
+        | Elem::At(Index::Renamed(_))
+        | Elem::At(Index::Own(_))
+        | Elem::Name(_)
+        | Elem::Any
+        | Elem::Star
+        | Elem::Local(_, _) => elem,
     }
 }
 
+fn outside_variable(opened: &Opened, slot: u32) -> Elem
+    ensures { result ≡ outside_elem opened.now.variables (Elem.At (Index.Variable slot)) }
+{
+    if has_variable(opened.variables.as_slice(), slot) {
+        Elem::Any
+    } else {
+        Elem::At(Index::Variable(slot))
+    }
+}
+
+/// Adds what a loop's body does, as it is seen outside the scope of the loop's variable.
+#[tactic(auto, using(crate::proofs::Outside::outside_one))]
+pub fn leave_variable(
+    alloc: Global,
+    variable: u64,
+    inner: Items<Own>,
+    out: &mut Items<Own>,
+) -> Result<(), NoMemory>
+    ensures { OnOk result (all_done out.new ≡ all_done out.old ++ outside_variable variable (all_done inner)) }
+{
+    let mut opened = Opened {
+        variables: Items::new(alloc),
+        regions: Items::new(alloc),
+    };
+    opened.variables.push(variable)?;
+    leave(alloc, &opened, inner, out)
+}
+
 /// Adds what an atomic block does: it is marked, but for what is done through a part.
-pub fn leave_block(inner: Items<Own>, out: &mut Items<Own>) -> Result<(), NoMemory> {
+pub fn leave_block(inner: Items<Own>, out: &mut Items<Own>) -> Result<(), NoMemory>
+    ensures { OnOk result (all_done out.new ≡ all_done out.old ++ map (marked true) (all_done inner)) }
+{
     add_marked(inner, true, out)
 }
 
 /// Adds what a deterministic construct does, which has no marks.
-pub fn leave_branches(inner: Items<Own>, out: &mut Items<Own>) -> Result<(), NoMemory> {
+pub fn leave_branches(inner: Items<Own>, out: &mut Items<Own>) -> Result<(), NoMemory>
+    ensures { OnOk result (all_done out.new ≡ all_done out.old ++ map (marked false) (all_done inner)) }
+{
     add_marked(inner, false, out)
 }
 
-fn add_marked(inner: Items<Own>, mark: bool, out: &mut Items<Own>) -> Result<(), NoMemory> {
+#[tactic(auto, using(crate::proofs::Reading::joined))]
+fn add_marked(inner: Items<Own>, mark: bool, out: &mut Items<Own>) -> Result<(), NoMemory>
+    ensures { OnOk result (all_done out.new ≡ all_done out.old ++ map (marked mark) (all_done inner)) }
+{
     for own in inner.into_vec() {
         out.push(marked(own, mark))?;
     }
     Ok(())
 }
 
-fn marked(own: Own, mark: bool) -> Own {
+fn marked(own: Own, mark: bool) -> Own
+    ensures { done_of result ≡ marked mark (done_of own) }
+{
     let Own { mut effect, part } = own;
-    if part.is_none() {
-        effect.atomic = mark;
+    match part {
+        Some(slot) => Own {
+            effect,
+            part: Some(slot),
+        },
+        None => {
+            effect.atomic = mark;
+            Own { effect, part: None }
+        }
     }
-    Own { effect, part }
 }
 
 /// What a part was used for is done to the array behind a construct over parts, or to the part that was cut.
-pub fn handed_on(own: Own, part: Slot, source: &PartSource) -> Own {
+pub fn handed_on(own: Own, part: Slot, source: &PartSource) -> Own
+    ensures { done_of result ≡ own_after part.number (plain_source source.now) (done_of own) }
+{
     let Own {
         effect,
         part: through,
     } = own;
-    if through != Some(part) {
-        return Own {
+    match through {
+        None => Own { effect, part: None },
+        Some(slot) if slot.number == part.number => Own {
             effect,
-            part: through,
-        };
+            part: handed_to(source),
+        },
+        Some(slot) => Own {
+            effect,
+            part: Some(slot),
+        },
     }
-    let part = match source {
+}
+
+fn handed_to(source: &PartSource) -> Option<Slot>
+    ensures { result ≡ handed_to source.now }
+{
+    match source {
         PartSource::Array(_) => None,
         PartSource::Part(outer) => Some(*outer),
-    };
-    Own { effect, part }
+    }
 }

@@ -4,10 +4,16 @@
 //! calls in it, and what is kept of the methods that override a method, has to lie in what is kept; the inferred summaries are the
 //! least for which this holds (`specs/Firm.antt`).
 //!
-//! What is proved is that `infer` says something of each item of each member. That it says the least is tested, and not proved yet.
+//! That is what `infer` answers: of each item of each member it says something, this is firm, and nothing firm keeps less of an item.
+//! So what lies in the written summaries lies in what is kept of them (`specs/Covered.antt`).
+//!
+//! The summaries are found by asking members until none rises, each again only where one has risen that its body calls or that
+//! overrides it (`settling`); passes over all members see that no more is asked for (`inferring`). The lines that `lines` writes
+//! aren't pinned.
 #![tactic(auto)]
 
 mod asking;
+mod callers;
 mod classes;
 mod exprs;
 mod inferring;
@@ -15,6 +21,7 @@ mod kept;
 mod leaving;
 mod own;
 mod scope;
+mod settling;
 mod stmts;
 mod text;
 mod walk;

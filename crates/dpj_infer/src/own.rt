@@ -1,3 +1,7 @@
+ghost use Rattle.std.specs.Prelude.{◌≡◌};
+ghost use Rattle.dpj_typed.specs.Effects.{does, uses};
+ghost use Rattle.dpj_infer.specs.Walked.{done_of, access_to};
+
 use dpj_base::{Access, Effect, Rpl};
 use dpj_typed::Slot;
 
@@ -10,7 +14,9 @@ pub struct Own {
 }
 
 /// An access to a region path.
-pub fn does(access: Access, rpl: Rpl) -> Own {
+pub fn does(access: Access, rpl: Rpl) -> Own
+    ensures { done_of result ≡ does (access_to access rpl) }
+{
     Own {
         effect: plain(access, rpl),
         part: None,
@@ -18,14 +24,18 @@ pub fn does(access: Access, rpl: Rpl) -> Own {
 }
 
 /// An access through a part of an array in that region path.
-pub fn uses(part: Slot, access: Access, rpl: Rpl) -> Own {
+pub fn uses(part: Slot, access: Access, rpl: Rpl) -> Own
+    ensures { done_of result ≡ uses part.number (access_to access rpl) }
+{
     Own {
         effect: plain(access, rpl),
         part: Some(part),
     }
 }
 
-fn plain(access: Access, rpl: Rpl) -> Effect {
+fn plain(access: Access, rpl: Rpl) -> Effect
+    ensures { result ≡ access_to access rpl }
+{
     Effect {
         access,
         atomic: false,

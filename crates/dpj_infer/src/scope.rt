@@ -1,77 +1,100 @@
+ghost use Rattle.std.specs.Prelude.{◌≡◌, ◌∷◌, ◌++◌, [], length, take, IfOk, OnOk, None};
+ghost use Rattle.std.specs.Option.{option_copied};
+ghost use Rattle.dpj_typed.specs.Plain.{plain_expr};
+ghost use Rattle.dpj_typed.specs.Typing.{index_elem};
+ghost use Rattle.dpj_infer.specs.Walked.{scope_of, last_of, is_constant_in, path_in, known_of};
+
 use dpj_base::{Elem, Index, Items, NoMemory, Plain, Rpl};
-use dpj_typed::{Expr, ExprForm, LocalRegion, Slot};
+use dpj_typed::{Expr, ExprForm, Slot};
 use std::alloc::Global;
+use std::marker::Model;
 
 /// What a walk knows of a slot.
 #[derive(Drop)]
 pub enum Known {
-    /// Not in scope.
-    Nothing,
-    /// A local that may change.
-    Variable,
+    /// Nothing that an effect depends on.
+    Hidden,
     /// A local that keeps its value, and may stand in an index.
     Constant,
     /// A part of an array whose elements lie in this region path.
     Part(Rpl),
 }
 
-/// What is in scope at a place of a body.
+/// A slot that came into scope.
+#[derive(Drop)]
+pub struct Placed {
+    pub slot: u64,
+    pub known: Known,
+}
+
+/// What is in scope at a place of a body; what came last stands last.
 #[derive(Drop)]
 pub struct Scope {
-    locals: Items<Known>,
-    regions: Items<bool>,
+    locals: Items<Placed>,
+}
+
+impl Model for Scope {
+    ghost use Rattle.std.specs.Prelude.{List};
+    ghost use Rattle.dpj_infer.specs.declared.scope.Placed.{Placed};
+
+    ghost Value = { List Placed };
+
+    ghost view = { λ scope. scope.locals };
 }
 
 impl Scope {
-    /// At the beginning of a body with so many slots and local regions.
-    pub fn new(alloc: Global, slots: u32, regions: u32) -> Result<Scope, NoMemory> {
-        let mut locals = Items::new(alloc);
-        for _ in 0..slots {
-            locals.push(Known::Nothing)?;
-        }
-        let mut all = Items::new(alloc);
-        for _ in 0..regions {
-            all.push(false)?;
-        }
-        Ok(Scope {
-            locals,
-            regions: all,
-        })
-    }
-
-    pub fn put(&mut self, slot: Slot, known: Known) {
-        let at = slot.number as usize;
-        if at < self.locals.len() {
-            self.locals.set(at, known);
+    pub fn new(alloc: Global) -> Scope
+        ensures { result ≡ [] }
+    {
+        Scope {
+            locals: Items::new(alloc),
         }
     }
 
-    pub fn set_region(&mut self, region: LocalRegion, is_known: bool) {
-        let at = region.number as usize;
-        if at < self.regions.len() {
-            self.regions.set(at, is_known);
+    pub fn len(&self) -> usize
+        ensures { result ≡ length self.now }
+    {
+        self.locals.len()
+    }
+
+    pub fn put(&mut self, slot: u64, known: Known) -> Result<(), NoMemory>
+        ensures { OnOk result (self.new ≡ self.old ++ (record { slot = slot; known = known }) ∷ []) }
+    {
+        self.locals.push(Placed { slot, known })
+    }
+
+    /// Forgets what came into scope after the first `len`.
+    pub fn leave(&mut self, len: usize)
+        ensures { self.new ≡ take len self.old }
+    {
+        self.locals.truncate(len);
+    }
+
+    /// What came last into scope under a slot.
+    fn find(&self, slot: u32) -> Option<&Known>
+        ensures { option_copied result ≡ last_of slot None self.now }
+    {
+        let mut last = None;
+        for placed in self.locals.as_slice() {
+            if slot as u64 == placed.slot {
+                last = Some(&placed.known);
+            }
         }
+        last
     }
 
-    /// The region path of a part.
-    pub fn part(&self, slot: Slot) -> Option<&Rpl> {
-        match self.locals.get(slot.number as usize) {
-            Some(Known::Part(rpl)) => Some(rpl),
-            _ => None,
-        }
-    }
-
-    pub fn is_constant(&self, slot: u32) -> bool {
-        matches!(self.locals.get(slot as usize), Some(Known::Constant))
-    }
-
-    /// Whether a local region is in scope.
-    pub fn has_region(&self, number: u32) -> bool {
-        matches!(self.regions.get(number as usize), Some(true))
+    #[tactic(auto, using(crate::proofs::Reading::found_local))]
+    fn is_constant(&self, slot: u32) -> bool
+        ensures { result ≡ is_constant_in (scope_of self.now) slot }
+    {
+        matches!(self.find(slot), Some(Known::Constant))
     }
 
     /// How an index stands in a region path: a literal, a local that keeps its value, or else any index.
-    pub fn index(&self, index: &Expr) -> Elem {
+    #[tactic(auto, using(crate::proofs::Reading::found_local))]
+    pub fn index(&self, index: &Expr) -> Elem
+        ensures { result ≡ index_elem (scope_of self.now) (plain_expr index.now) }
+    {
         match &index.form {
             ExprForm::Int(number) => Elem::At(Index::Literal(*number)),
             ExprForm::Local(slot) if self.is_constant(slot.number) => {
@@ -82,10 +105,25 @@ impl Scope {
     }
 
     /// A copy of the region path of a part.
-    pub fn part_copy(&self, alloc: Global, slot: Slot) -> Result<Option<Rpl>, NoMemory> {
-        match self.part(slot) {
-            Some(rpl) => Ok(Some(rpl.copy(alloc)?)),
-            None => Ok(None),
+    #[tactic(auto, using(crate::proofs::Reading::found_local))]
+    pub fn part_copy(&self, alloc: Global, slot: Slot) -> Result<Option<Rpl>, NoMemory>
+        ensures { IfOk result (λ path. path ≡ path_in (scope_of self.now) slot.number) }
+    {
+        match self.find(slot.number) {
+            Some(Known::Part(rpl)) => Ok(Some(rpl.copy(alloc)?)),
+            _ => Ok(None),
+        }
+    }
+
+    /// A copy of what is known of a slot.
+    #[tactic(auto, using(crate::proofs::Reading::found_local))]
+    pub fn known_copy(&self, alloc: Global, slot: Slot) -> Result<Known, NoMemory>
+        ensures { IfOk result (λ known. known ≡ known_of (last_of slot.number None self.now)) }
+    {
+        match self.find(slot.number) {
+            Some(Known::Part(rpl)) => Ok(Known::Part(rpl.copy(alloc)?)),
+            Some(Known::Constant) => Ok(Known::Constant),
+            _ => Ok(Known::Hidden),
         }
     }
 }

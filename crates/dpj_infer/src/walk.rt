@@ -1,4 +1,13 @@
-use crate::classes::{add_copies, args_of, class_at, member_at, row_at, seen_as};
+ghost use Rattle.std.specs.Prelude.{◌≡◌, ◌++◌, option_map, IfOk, OnOk};
+ghost use Rattle.dpj_base.specs.Types.{plain_type};
+ghost use Rattle.dpj_typed.specs.Plain.{plain_program, plain_member};
+ghost use Rattle.dpj_typed.specs.Scope.{member_at, row_at, constructor_of};
+ghost use Rattle.dpj_typed.specs.Effects.{summary_with};
+ghost use Rattle.dpj_infer.specs.Kept.{item_kept, summary_kept, program_kept};
+ghost use Rattle.dpj_infer.specs.Doing.{member_in, of_callee, of_constructor, constructed};
+ghost use Rattle.dpj_infer.specs.Walked.{all_done, at_most_one, summary_in};
+
+use crate::classes::{add_copies, args_of, constructor_of, member_at, row_at, seen_as};
 use crate::kept::Kept;
 use crate::own::{Own, does};
 use dpj_base::{Access, Effect, Items, NoMemory, Plain, Rpl, Ty};
@@ -18,7 +27,9 @@ pub struct Walk<'a> {
 }
 
 /// What is kept of an item, as an effect.
-pub fn item_kept(alloc: Global, kept: Kept, item: &Effect) -> Result<Option<Effect>, NoMemory> {
+pub fn item_kept(alloc: Global, kept: Kept, item: &Effect) -> Result<Option<Effect>, NoMemory>
+    ensures { IfOk result (λ made. at_most_one made ≡ item_kept kept item.now) }
+{
     let access = match kept {
         Kept::Nothing => return Ok(None),
         Kept::Read => Access::Read,
@@ -32,6 +43,7 @@ pub fn item_kept(alloc: Global, kept: Kept, item: &Effect) -> Result<Option<Effe
 }
 
 /// Adds what a call of the member in a row does, by what is kept of its summary.
+#[tactic(auto, using(crate::proofs::Reading::joined))]
 pub fn add_call(
     walk: Walk<'_>,
     of: &Ty,
@@ -39,7 +51,9 @@ pub fn add_call(
     row: Row,
     regions: &Items<Rpl>,
     out: &mut Items<Own>,
-) -> Result<(), NoMemory> {
+) -> Result<(), NoMemory>
+    ensures { let P = program_kept walk.entry.kept.now (plain_program walk.entry.program.now) in OnOk result (all_done out.new ≡ all_done out.old ++ of_callee P (plain_type of.now) (member_in P (row_at P class.number row.number)) regions.now) }
+{
     let Some(number) = row_at(walk.program, class, row) else {
         return Ok(());
     };
@@ -61,7 +75,10 @@ pub fn add_call(
 }
 
 /// Adds what the constructor of a created object does.
-pub fn add_construction(walk: Walk<'_>, ty: &Ty, out: &mut Items<Own>) -> Result<(), NoMemory> {
+#[tactic(auto, using(crate::proofs::Reading::joined))]
+pub fn add_construction(walk: Walk<'_>, ty: &Ty, out: &mut Items<Own>) -> Result<(), NoMemory>
+    ensures { let P = program_kept walk.entry.kept.now (plain_program walk.entry.program.now) in OnOk result (all_done out.new ≡ all_done out.old ++ of_constructor (plain_type ty.now) (constructed P (plain_type ty.now))) }
+{
     let Some((class, args)) = args_of(ty) else {
         return Ok(());
     };
@@ -74,10 +91,6 @@ pub fn add_construction(walk: Walk<'_>, ty: &Ty, out: &mut Items<Own>) -> Result
     add_summary(walk, number, member, args.as_slice(), out)
 }
 
-fn constructor_of(program: &Program, class: u32) -> Option<MemberId> {
-    class_at(program, class)?.constructor
-}
-
 /// Adds what is kept of a summary, with arguments put in.
 fn add_summary(
     walk: Walk<'_>,
@@ -85,7 +98,9 @@ fn add_summary(
     member: &Member,
     args: &[Rpl],
     out: &mut Items<Own>,
-) -> Result<(), NoMemory> {
+) -> Result<(), NoMemory>
+    ensures { OnOk result (all_done out.new ≡ all_done out.old ++ summary_in walk.entry.kept.now number.number member.now.summary args.now) }
+{
     let Some(kept) = walk.kept.get(number.number as usize) else {
         return Ok(());
     };
@@ -95,13 +110,16 @@ fn add_summary(
     Ok(())
 }
 
+#[tactic(auto, using(crate::proofs::Reading::joined))]
 fn add_item(
     alloc: Global,
     kept: Kept,
     item: &Effect,
     args: &[Rpl],
     out: &mut Items<Own>,
-) -> Result<(), NoMemory> {
+) -> Result<(), NoMemory>
+    ensures { OnOk result (all_done out.new ≡ all_done out.old ++ summary_with args.now (item_kept kept item.now)) }
+{
     if let Some(effect) = item_kept(alloc, kept, item)? {
         let mut own = does(effect.access, subst(alloc, &effect.rpl, args)?);
         own.effect.atomic = effect.atomic;

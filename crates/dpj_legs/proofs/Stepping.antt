@@ -43,6 +43,20 @@ module _ (C : PlainCode) where
   pub run_short : (t : Task) → t.standing ≡ standing.At → None ≡ slice_get (body_at C t.level.body).lines t.level.at → step_at C t ≡ Stuck
   run_short t e h = step_on t e ∙ ap (λ l. exec_line (names_of t.number) C l (plain_level t.level) (map plain_level t.callers)) (sym h)
 
+  pub run_at : (t : Task) (l : Line) → t.standing ≡ standing.At → Some l ≡ slice_get (body_at C t.level.body).lines t.level.at
+      → step_at C t ≡ exec (names_of t.number) C l.place l.instr (plain_level t.level) (map plain_level t.callers)
+  run_at t l e f = step_on t e ∙ ap (λ l. exec_line (names_of t.number) C l (plain_level t.level) (map plain_level t.callers)) (sym f)
+
+  pub goes_by_itself : (t : Task) (h : Level) (l : Line) → t.standing ≡ standing.At → Some l ≡ slice_get (body_at C t.level.body).lines t.level.at
+      → exec (names_of t.number) C l.place l.instr (plain_level t.level) (map plain_level t.callers) ≡ Goes (machine.On (plain_level h) (map plain_level t.callers))
+      → step_at C t ≡ Goes (state_of (record t { level = h }))
+  goes_by_itself t h l e f is = run_at t l e f ∙ is ∙ ap (λ s. Goes (state_in s h t.callers)) (sym e)
+
+  pub turns_by_itself : (t : Task) (h : Level) (l : Line) → t.standing ≡ standing.At → Some l ≡ slice_get (body_at C t.level.body).lines t.level.at
+      → exec (names_of t.number) C l.place l.instr (plain_level t.level) (map plain_level t.callers) ≡ Turns (machine.On (plain_level h) (map plain_level t.callers))
+      → step_at C t ≡ Turns (state_of (record t { level = h }))
+  turns_by_itself t h l e f is = run_at t l e f ∙ is ∙ ap (λ s. Turns (state_in s h t.callers)) (sym e)
+
   tells : (o : Stand ℕ (ℕ × ℕ)) (a : Action) → WaitsFor C o a → (n m : ℕ) → Tells C a (stands n m o)
   tells o a w n m = subst (λ o. Tells C a (stands n m o)) (sym w.waits) w.says
 
@@ -56,7 +70,7 @@ module _ (C : PlainCode) where
   run_steps t h hs l s e f room c = by_case s c
     where
       is : step_at C t ≡ exec (names_of t.number) C l.place l.instr (plain_level t.level) (map plain_level t.callers)
-      is = step_on t e ∙ ap (λ l. exec_line (names_of t.number) C l (plain_level t.level) (map plain_level t.callers)) (sym f)
+      is = run_at t l e f
 
       on : state_in t.standing h hs ≡ state_in standing.At h hs
       on = ap (λ s. state_in s h hs) e
@@ -64,7 +78,6 @@ module _ (C : PlainCode) where
       by_case : (s : Step) → Comes C (exec (names_of t.number) C l.place l.instr (plain_level t.level) (map plain_level t.callers)) t.level t.callers s h hs
           → StepsTo C t s (record t { level = h; callers = hs })
       by_case step_of.Goes c = is ∙ c ∙ ap machine.Goes (sym on)
-      by_case step_of.Turns c = is ∙ c ∙ ap machine.Turns (sym on)
       by_case (step_of.Makes r) c = (
         is ∙ c.0 ∙ sym (ap (λ g. machine.Makes (λ m. machine.On (with_local r m (plain_level g)) (map plain_level hs))) c.1
             ∙ ap (λ gs. machine.Makes (λ m. machine.On (with_local r m (plain_level t.level)) (map plain_level gs))) c.2),
@@ -81,7 +94,6 @@ module _ (C : PlainCode) where
       (λ n m. subst (λ o. Tells C a (stands n m o)) (sym (step_rested t e)) (tells _ a (w t.number t.callers) n m), refl)
   rested_steps t step_of.Stuck e w = step_rested t e ∙ w t.number t.callers
   rested_steps t step_of.Goes e w = absurd (w t.number t.callers)
-  rested_steps t step_of.Turns e w = absurd (w t.number t.callers)
   rested_steps t (step_of.Makes r) e w = absurd (w t.number t.callers)
   rested_steps t (step_of.Ends x) e w = absurd (w t.number t.callers)
 

@@ -1,6 +1,6 @@
 -- One step of a task on the way to its next action.
 use Rattle.std.specs.Prelude.{◌≡◌, ℕ, suc, map}
-use Rattle.dpj_code.specs.Machine.{On, Off, Stand, Goes, Turns, Makes, Stuck, step}
+use Rattle.dpj_code.specs.Machine.{On, Off, Stand, Goes, Makes, Stuck, step}
 use Rattle.dpj_code.specs.Plain.{PlainCode}
 use Rattle.dpj_legs.specs.declared.action.Action.{Action}
 use Rattle.dpj_legs.specs.declared.step.Step.{Step}
@@ -24,7 +24,6 @@ pub record Kept (old new : Task) : Type 0 where
 -- what a step comes to
 abbrev pub StepsTo : PlainCode → Task → Step → Task → Type 0
 StepsTo C old step_of.Goes new = step_at C old ≡ Goes (state_of new)
-StepsTo C old step_of.Turns new = step_at C old ≡ Turns (state_of new)
 StepsTo C old (step_of.Makes r) new =
     (step_at C old ≡ Makes (λ m. On (with_local r m (plain_level new.level)) (map plain_level new.callers))) × HasNext new.level
     × (new.standing ≡ standing.At)

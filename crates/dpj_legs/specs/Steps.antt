@@ -9,7 +9,7 @@ use Rattle.dpj_meaning.specs.Counts.{number, how_many}
 use Rattle.dpj_meaning.specs.Regions.{around, concrete, some_long}
 use Rattle.dpj_meaning.specs.Actions as meaning
 use Rattle.dpj_code.specs.declared.instr.Instr.{Instr}
-use Rattle.dpj_code.specs.Machine.{Start, State, On, Off, Stand, Goes, Turns, Makes, Waits, Stuck, one, two, unless_null, unless_long}
+use Rattle.dpj_code.specs.Machine.{Start, State, On, Off, Stand, Goes, Makes, Waits, Stuck, one, two, unless_null, unless_long}
 use Rattle.dpj_code.specs.Machine as machine
 use Rattle.dpj_code.specs.Plain.{PlainCode, Line, spread_site, constructor_of}
 use Rattle.dpj_legs.specs.declared.action.Action.{Action}
@@ -38,7 +38,6 @@ with_local r m g = record g { at = suc g.at; frame = record g.frame { locals = s
 -- from a level and its callers a step goes on in others
 abbrev pub Comes : PlainCode → Stand ℕ (ℕ × ℕ) → Level → List Level → Step → Level → List Level → Type 0
 Comes C o g fs step.Goes h hs = o ≡ Goes (On (plain_level h) (map plain_level hs))
-Comes C o g fs step.Turns h hs = o ≡ Turns (On (plain_level h) (map plain_level hs))
 Comes C o g fs (step.Makes r) h hs = (o ≡ Makes (λ m. On (with_local r m (plain_level g)) (map plain_level fs))) × (h ≡ g) × (hs ≡ fs)
 Comes C o g fs (step.Ends e) h hs = o ≡ Goes (Off (plain_ending e))
 Comes C o g fs (step.Waits action) h hs = WaitsFor C o action × (h ≡ g) × (hs ≡ fs)
@@ -57,7 +56,6 @@ abbrev pub OnlyWaits : PlainCode → Stand ℕ (ℕ × ℕ) → Step → Type 0
 OnlyWaits C o (step.Waits action) = WaitsFor C o action
 OnlyWaits C o step.Stuck = o ≡ Stuck
 OnlyWaits C o step.Goes = ⊥
-OnlyWaits C o step.Turns = ⊥
 OnlyWaits C o (step.Makes r) = ⊥
 OnlyWaits C o (step.Ends e) = ⊥
 

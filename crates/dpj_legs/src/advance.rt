@@ -1,23 +1,26 @@
-ghost use Rattle.std.specs.Prelude.{◌≡◌, ◌<◌, ◌+◌, ◌^◌, suc, IfOk, OnErr, MatchOption};
+ghost use Rattle.std.specs.Prelude.{◌≡◌, ◌<◌, ◌+◌, ◌^◌, true, false, suc, IfOk, OnErr, MatchOption};
 ghost use Rattle.dpj_code.specs.Machine.{Stuck};
 ghost use Rattle.dpj_code.specs.Plain.{plain_code};
 ghost use Rattle.dpj_legs.specs.Advances.{step_at, Kept, StepsTo, Advances, StandsAt};
 ghost use Rattle.dpj_legs.specs.Halts.{Paced, IsAsking, stands};
+ghost use Rattle.dpj_legs.specs.Paces.{IsAtOther};
 ghost use Rattle.dpj_legs.specs.Steps.{HasNext, with_local};
 ghost use Rattle.dpj_legs.specs.Tasks.{plain_level};
 
-use crate::action::Action;
+use crate::action::{Action, Ending};
 use crate::exec::exec;
 use crate::lines::line;
+use crate::pace::Pace;
 use crate::step::Step;
 use crate::task::{Standing, Task};
-use dpj_base::NoMemory;
+use dpj_base::{NoMemory, Trap};
 use dpj_code::Code;
 use std::alloc::Global;
 
 impl Task {
     /// One step, but for the counts. After want of memory the task is as it was.
     fn step(&mut self, alloc: Global, code: &Code) -> Result<Step, NoMemory>
+        requires { IsAtOther (plain_code code.now) self.old }
         ensures ok { IfOk result (λ s. StepsTo (plain_code code.now) self.old s self.new) }
         ensures kept { Kept self.old self.new }
         ensures err { OnErr result (self.new ≡ self.old) }
@@ -32,7 +35,8 @@ impl Task {
 
     /// The instruction at which the task stands.
     fn run(&mut self, alloc: Global, code: &Code) -> Result<Step, NoMemory>
-        requires { self.old.standing ≡ Standing.At }
+        requires at { self.old.standing ≡ Standing.At }
+        requires other { IsAtOther (plain_code code.now) self.old }
         ensures ok { IfOk result (λ s. StepsTo (plain_code code.now) self.old s self.new) }
         ensures kept { Kept self.old self.new }
         ensures err { OnErr result (self.new ≡ self.old) }
@@ -43,11 +47,45 @@ impl Task {
         exec(alloc, code, line, &mut self.level, &mut self.callers)
     }
 
-    /// One step on the way, or the action at which the task stands.
+    /// One step, where it is one of values and jumps; whether it was made. Most steps are such, and this one is quick.
+    pub fn pace(&mut self, code: &Code) -> Result<bool, NoMemory>
+        requires paced { Paced self.old }
+        requires going { self.old.turns < 4096 }
+        requires alive { step_at (plain_code code.now) self.old ≡ Stuck → ⊥ }
+        ensures went { IfOk result (λ went. went ≡ true → Advances (plain_code code.now) self.old self.new) }
+        ensures moved { IfOk result (λ went. went ≡ true → IsAsking (stands self.old.turns self.old.made (step_at (plain_code code.now) self.old)) → ⊥) }
+        ensures stayed { IfOk result (λ went. went ≡ false → (self.new ≡ self.old) × IsAtOther (plain_code code.now) self.old) }
+        ensures paced { Paced self.new }
+        ensures number { self.new.number ≡ self.old.number }
+        ensures err { OnErr result (self.new ≡ self.old) }
+    {
+        let Standing::At = &self.standing else {
+            return Ok(false);
+        };
+        let Some(line) = line(code, self.level.body, self.level.at) else {
+            return Ok(false);
+        };
+        match self.level.pace(line.0) {
+            Pace::Goes => (),
+            Pace::Turns => self.turns += 1,
+            Pace::Divides => {
+                self.standing = Standing::Ended(Ending::Trapped(Trap::Divide, line.1));
+            }
+            Pace::Full => return Err(NoMemory),
+            Pace::Other => return Ok(false),
+            Pace::Stuck => unreachable!(),
+        }
+        Ok(true)
+    }
+
+    /// Another step on the way, or the action at which the task stands. It is kept apart from the
+    /// loop around it, whose quick steps would slow down with it.
+    #[inline(never)]
     pub fn advance(&mut self, alloc: Global, code: &Code) -> Result<Option<Action>, NoMemory>
         requires paced { Paced self.old }
         requires going { self.old.turns < 4096 }
         requires alive { step_at (plain_code code.now) self.old ≡ Stuck → ⊥ }
+        requires other { IsAtOther (plain_code code.now) self.old }
         ensures ok { IfOk result (λ o. MatchOption o (Advances (plain_code code.now) self.old self.new) (λ action. StandsAt (plain_code code.now) self.old action self.new)) }
         ensures moved { IfOk result (λ o. MatchOption o (IsAsking (stands self.old.turns self.old.made (step_at (plain_code code.now) self.old)) → ⊥) (λ _. Unit {0})) }
         ensures paced { Paced self.new }
@@ -56,10 +94,6 @@ impl Task {
     {
         match self.step(alloc, code)? {
             Step::Goes => Ok(None),
-            Step::Turns => {
-                self.turns += 1;
-                Ok(None)
-            }
             Step::Makes(declaration) => {
                 self.make_region(declaration);
                 Ok(None)

@@ -1,7 +1,8 @@
-ghost use Rattle.std.specs.Prelude.{◌≡◌, ℕ, map, IfOk, OnErr};
+ghost use Rattle.std.specs.Prelude.{◌≡◌, ℕ, false, map, IfOk, OnErr};
 ghost use Rattle.dpj_code.specs.Machine.{exec};
 ghost use Rattle.dpj_code.specs.Plain.{plain_code};
 ghost use Rattle.dpj_legs.specs.Names.{names_of};
+ghost use Rattle.dpj_legs.specs.Paces.{is_own};
 ghost use Rattle.dpj_legs.specs.Steps.{Comes, HasNext};
 ghost use Rattle.dpj_legs.specs.Tasks.{plain_level};
 
@@ -10,12 +11,11 @@ use crate::local::{leave, return_value};
 use crate::stack::Stack;
 use crate::step::Step;
 use crate::task::Level;
-use dpj_base::{NoMemory, Place, Value};
+use dpj_base::{NoMemory, Place};
 use dpj_code::{Code, Instr};
-use dpj_typed::BinaryOp;
 use std::alloc::Global;
 
-/// One instruction. After want of memory all is as it was.
+/// One instruction that isn't one of values and jumps. After want of memory all is as it was.
 pub fn exec(
     alloc: Global,
     code: &Code,
@@ -23,34 +23,13 @@ pub fn exec(
     level: &mut Level,
     callers: &mut Stack<Level>,
 ) -> Result<Step, NoMemory>
-    requires { HasNext level.old }
+    requires next { HasNext level.old }
+    requires other { is_own line.0 ≡ false }
     ensures ok { IfOk result (λ s. (task : ℕ) → Comes (plain_code code.now) (exec (names_of task) (plain_code code.now) line.1 line.0 (plain_level level.old) (map plain_level callers.old)) level.old callers.old s level.new callers.new) }
     ensures err { OnErr result ((level.new ≡ level.old) × (callers.new ≡ callers.old)) }
 {
     let place = line.1;
     match line.0 {
-        Instr::Int(n) => level.push(Value::Int(n)),
-        Instr::Bool(b) => level.push(Value::Bool(b)),
-        Instr::Null => level.push(Value::Null),
-        Instr::Load(at) => level.load(at),
-        Instr::Store(at) => Ok(level.store(at)),
-        Instr::Pop => Ok(level.discard()),
-        Instr::Neg => Ok(level.negate()),
-        Instr::Not => Ok(level.invert()),
-        Instr::Add => Ok(level.operate(place, BinaryOp::Add)),
-        Instr::Sub => Ok(level.operate(place, BinaryOp::Subtract)),
-        Instr::Mul => Ok(level.operate(place, BinaryOp::Multiply)),
-        Instr::Div => Ok(level.operate(place, BinaryOp::Divide)),
-        Instr::Rem => Ok(level.operate(place, BinaryOp::Remainder)),
-        Instr::Eq => Ok(level.operate(place, BinaryOp::Equal)),
-        Instr::Ne => Ok(level.operate(place, BinaryOp::NotEqual)),
-        Instr::Lt => Ok(level.operate(place, BinaryOp::Less)),
-        Instr::Le => Ok(level.operate(place, BinaryOp::AtMost)),
-        Instr::Gt => Ok(level.operate(place, BinaryOp::Greater)),
-        Instr::Ge => Ok(level.operate(place, BinaryOp::AtLeast)),
-        Instr::Jump(to) => Ok(level.jump(to)),
-        Instr::Unless(to) => Ok(level.jump_unless(to)),
-        Instr::Turn => Ok(level.turn()),
         Instr::Get(field) => Ok(level.get(place, field)),
         Instr::Put(field) => Ok(level.put(place, field)),
         Instr::Elem => Ok(level.element(place)),
@@ -74,5 +53,6 @@ pub fn exec(
         Instr::Part(part) => Ok(level.take_part(part)),
         Instr::InPart(part) => level.in_part(place, part),
         Instr::InParts(part) => level.in_parts(place, part),
+        _ => unreachable!(),
     }
 }

@@ -25,6 +25,7 @@ mod leg;
 mod lines;
 mod local;
 mod operations;
+mod pace;
 mod parts;
 mod prints;
 mod regions;

@@ -1,141 +1,193 @@
-ghost use Rattle.std.specs.Prelude.{◌≡◌, ◌∷◌, suc, cond, map, IfOk, OnErr};
+ghost use Rattle.std.specs.Prelude.{◌≡◌, ◌∷◌, ℕ, false, suc, cond, map, IfOk, OnErr};
 ghost use Rattle.dpj_meaning.specs.Counts.{unary, truth, slot_value, part_taken};
 ghost use Rattle.dpj_meaning.specs.Statements.{with_value, with_values};
 ghost use Rattle.dpj_meaning.specs.Expressions.{none};
 ghost use Rattle.dpj_meaning.specs.Values.{Int};
 ghost use Rattle.dpj_typed.specs.declared.expr.UnaryOp.TheVariants.{Negate, Not};
-ghost use Rattle.dpj_code.specs.Machine.{pushes, one, two, next, operates, in_part, returned, left_with, Goes, Turns, On};
+ghost use Rattle.dpj_code.specs.Machine.{exec, pushes, one, two, next, operates, in_part, returned, left_with, Goes, Turns, On};
 ghost use Rattle.dpj_code.specs.Plain.{PlainCode};
 ghost use Rattle.dpj_legs.specs.Names.{names_of, plain_value};
+ghost use Rattle.dpj_legs.specs.Paces.{Paces, IsOwn, is_own};
 ghost use Rattle.dpj_legs.specs.Steps.{Comes, Local, HasNext};
 ghost use Rattle.dpj_legs.specs.Tasks.{plain_level};
 
 use crate::action::Ending;
 use crate::operations::{inverted, negated, operated};
+use crate::pace::Pace;
 use crate::parts::{part_place, take_part};
 use crate::stack::Stack;
 use crate::step::Step;
 use crate::task::Level;
 use crate::values::{number, set_slot, slot, truth};
 use dpj_base::{NoMemory, Place, Trap, Value};
+use dpj_code::Instr;
 use dpj_typed::BinaryOp;
 
 impl Level {
-    /// Puts a value on the stack.
-    pub fn push(&mut self, value: Value) -> Result<Step, NoMemory>
+    /// An instruction of values and jumps; at any other the level stays as it is.
+    pub fn pace(&mut self, instr: Instr) -> Pace
         requires { HasNext self.old }
-        ensures ok { IfOk result (λ s. Local (pushes (plain_value value) (plain_level self.old)) self.old s self.new) }
-        ensures err { OnErr result (self.new ≡ self.old) }
+        ensures pace { (task : ℕ) (C : PlainCode) → Paces (λ place fs. exec (names_of task) C place instr (plain_level self.old) fs) self.old result self.new }
+        ensures other { result ≡ Pace.Other → is_own instr ≡ false }
+        ensures body { self.new.body ≡ self.old.body }
+    {
+        match instr {
+            Instr::Int(n) => self.push(Value::Int(n)),
+            Instr::Bool(b) => self.push(Value::Bool(b)),
+            Instr::Null => self.push(Value::Null),
+            Instr::Load(at) => self.load(at),
+            Instr::Store(at) => self.store(at),
+            Instr::Pop => self.discard(),
+            Instr::Neg => self.negate(),
+            Instr::Not => self.invert(),
+            Instr::Add => self.operate(BinaryOp::Add),
+            Instr::Sub => self.operate(BinaryOp::Subtract),
+            Instr::Mul => self.operate(BinaryOp::Multiply),
+            Instr::Div => self.operate(BinaryOp::Divide),
+            Instr::Rem => self.operate(BinaryOp::Remainder),
+            Instr::Eq => self.operate(BinaryOp::Equal),
+            Instr::Ne => self.operate(BinaryOp::NotEqual),
+            Instr::Lt => self.operate(BinaryOp::Less),
+            Instr::Le => self.operate(BinaryOp::AtMost),
+            Instr::Gt => self.operate(BinaryOp::Greater),
+            Instr::Ge => self.operate(BinaryOp::AtLeast),
+            Instr::Jump(to) => self.jump(to),
+            Instr::Unless(to) => self.jump_unless(to),
+            Instr::Turn => self.turn(),
+            _ => Pace::Other,
+        }
+    }
+
+    /// Puts a value on the stack.
+    fn push(&mut self, value: Value) -> Pace
+        requires { HasNext self.old }
+        ensures pace { Paces (λ place. pushes (plain_value value) (plain_level self.old)) self.old result self.new }
+        ensures own { IsOwn self.old result self.new }
     {
         if self.stack.push(value).is_err() {
-            return Err(NoMemory);
+            return Pace::Full;
         }
         self.at += 1;
-        Ok(Step::Goes)
+        Pace::Goes
     }
 
     /// Puts the value of a slot on the stack.
-    pub fn load(&mut self, at: usize) -> Result<Step, NoMemory>
+    fn load(&mut self, at: usize) -> Pace
         requires { HasNext self.old }
-        ensures ok { IfOk result (λ s. Local (pushes (slot_value (map plain_value self.old.frame.values) at) (plain_level self.old)) self.old s self.new) }
-        ensures err { OnErr result (self.new ≡ self.old) }
+        ensures pace { Paces (λ place. pushes (slot_value (map plain_value self.old.frame.values) at) (plain_level self.old)) self.old result self.new }
+        ensures own { IsOwn self.old result self.new }
     {
         let value = slot(&self.frame.values, at);
         self.push(value)
     }
 
     /// Takes a value into a slot.
-    pub fn store(&mut self, slot: usize) -> Step
+    fn store(&mut self, slot: usize) -> Pace
         requires { HasNext self.old }
-        ensures { Local (λ fs. one (plain_level self.old).stack (λ v st. Goes (On (record (plain_level self.old) { at = suc self.old.at; frame = with_value (plain_level self.old).frame slot v; stack = st }) fs))) self.old result self.new }
+        ensures pace { Paces (λ place fs. one (plain_level self.old).stack (λ v st. Goes (On (record (plain_level self.old) { at = suc self.old.at; frame = with_value (plain_level self.old).frame slot v; stack = st }) fs))) self.old result self.new }
+        ensures own { IsOwn self.old result self.new }
     {
         let Some(value) = self.stack.pop() else {
-            return Step::Stuck;
+            return Pace::Stuck;
         };
         set_slot(&mut self.frame.values, slot, value);
         self.at += 1;
-        Step::Goes
+        Pace::Goes
     }
 
     /// An operation on the two values on top.
-    pub fn operate(&mut self, place: Place, op: BinaryOp) -> Step
+    fn operate(&mut self, op: BinaryOp) -> Pace
         requires { HasNext self.old }
-        ensures { Local (operates (names_of 0) place op (plain_level self.old)) self.old result self.new }
+        ensures pace { Paces (λ place. operates (names_of 0) place op (plain_level self.old)) self.old result self.new }
+        ensures own { IsOwn self.old result self.new }
     {
-        let Some(right) = self.stack.pop() else {
-            return Step::Stuck;
-        };
-        let Some(left) = self.stack.top() else {
-            return Step::Stuck;
+        let Some((left, right)) = self.stack.top_two() else {
+            return Pace::Stuck;
         };
         let Some(value) = operated(op, left, right) else {
-            return Step::Ends(Ending::Trapped(Trap::Divide, place));
+            return Pace::Divides;
         };
+        self.stack.drop_top(1);
         self.stack.set_top(value);
         self.at += 1;
-        Step::Goes
+        Pace::Goes
     }
 
     /// Takes a value off.
-    pub fn discard(&mut self) -> Step
+    fn discard(&mut self) -> Pace
         requires { HasNext self.old }
-        ensures { Local (λ fs. one (plain_level self.old).stack (λ v st. Goes (next (plain_level self.old) st fs))) self.old result self.new }
+        ensures pace { Paces (λ place fs. one (plain_level self.old).stack (λ v st. Goes (next (plain_level self.old) st fs))) self.old result self.new }
+        ensures own { IsOwn self.old result self.new }
     {
         if self.stack.pop().is_none() {
-            return Step::Stuck;
+            return Pace::Stuck;
         }
         self.at += 1;
-        Step::Goes
+        Pace::Goes
     }
 
     /// The number on top with its sign turned.
-    pub fn negate(&mut self) -> Step
+    fn negate(&mut self) -> Pace
         requires { HasNext self.old }
-        ensures { Local (λ fs. one (plain_level self.old).stack (λ v st. Goes (next (plain_level self.old) (unary Negate v ∷ st) fs))) self.old result self.new }
+        ensures pace { Paces (λ place fs. one (plain_level self.old).stack (λ v st. Goes (next (plain_level self.old) (unary Negate v ∷ st) fs))) self.old result self.new }
+        ensures own { IsOwn self.old result self.new }
     {
         let Some(value) = self.stack.top() else {
-            return Step::Stuck;
+            return Pace::Stuck;
         };
         self.stack.set_top(negated(value));
         self.at += 1;
-        Step::Goes
+        Pace::Goes
     }
 
     /// The other truth on top.
-    pub fn invert(&mut self) -> Step
+    fn invert(&mut self) -> Pace
         requires { HasNext self.old }
-        ensures { Local (λ fs. one (plain_level self.old).stack (λ v st. Goes (next (plain_level self.old) (unary Not v ∷ st) fs))) self.old result self.new }
+        ensures pace { Paces (λ place fs. one (plain_level self.old).stack (λ v st. Goes (next (plain_level self.old) (unary Not v ∷ st) fs))) self.old result self.new }
+        ensures own { IsOwn self.old result self.new }
     {
         let Some(value) = self.stack.top() else {
-            return Step::Stuck;
+            return Pace::Stuck;
         };
         self.stack.set_top(inverted(value));
         self.at += 1;
-        Step::Goes
+        Pace::Goes
     }
 
     /// To another position.
-    pub fn jump(&mut self, at: usize) -> Step
-        ensures { Local (λ fs. Goes (On (record (plain_level self.old) { at = at }) fs)) self.old result self.new }
+    fn jump(&mut self, at: usize) -> Pace
+        ensures pace { Paces (λ place fs. Goes (On (record (plain_level self.old) { at = at }) fs)) self.old result self.new }
+        ensures own { IsOwn self.old result self.new }
     {
         self.at = at;
-        Step::Goes
+        Pace::Goes
     }
 
     /// To another position, where the value on top is false.
-    pub fn jump_unless(&mut self, at: usize) -> Step
+    fn jump_unless(&mut self, at: usize) -> Pace
         requires { HasNext self.old }
-        ensures { Local (λ fs. one (plain_level self.old).stack (λ v st. Goes (On (record (plain_level self.old) { at = cond (truth v) (suc self.old.at) at; stack = st }) fs))) self.old result self.new }
+        ensures pace { Paces (λ place fs. one (plain_level self.old).stack (λ v st. Goes (On (record (plain_level self.old) { at = cond (truth v) (suc self.old.at) at; stack = st }) fs))) self.old result self.new }
+        ensures own { IsOwn self.old result self.new }
     {
         let Some(value) = self.stack.pop() else {
-            return Step::Stuck;
+            return Pace::Stuck;
         };
         if truth(value) {
             self.at += 1;
         } else {
             self.at = at;
         }
-        Step::Goes
+        Pace::Goes
+    }
+
+    /// A turn of a loop.
+    fn turn(&mut self) -> Pace
+        requires { HasNext self.old }
+        ensures pace { Paces (λ place fs. Turns (next (plain_level self.old) (plain_level self.old).stack fs)) self.old result self.new }
+        ensures own { IsOwn self.old result self.new }
+    {
+        self.at += 1;
+        Pace::Turns
     }
 
     /// Takes the part of an array that the branch has.
@@ -189,15 +241,6 @@ impl Level {
         self.stack.set(2, array);
         self.at += 1;
         Ok(Step::Goes)
-    }
-
-    /// A turn of a loop.
-    pub fn turn(&mut self) -> Step
-        requires { HasNext self.old }
-        ensures { Local (λ fs. Turns (next (plain_level self.old) (plain_level self.old).stack fs)) self.old result self.new }
-    {
-        self.at += 1;
-        Step::Turns
     }
 }
 

@@ -1,12 +1,10 @@
 use crate::action::{Action, Ending};
 
-/// What an instruction comes to.
+/// What an instruction comes to that isn't one of values and jumps.
 #[derive(Drop)]
 pub enum Step {
     /// The next instruction.
     Goes,
-    /// The next instruction, after a turn.
-    Turns,
     /// A new local region, for a declaration; the level is as it was.
     Makes(u32),
     Ends(Ending),

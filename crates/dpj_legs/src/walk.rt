@@ -17,6 +17,9 @@ pub fn walk(way: &mut Way, alloc: Global) -> Result<Action, NoMemory>
 {
     while way.task.turns < 4096 {
         let code = way.code;
+        if way.task.pace(code)? {
+            continue;
+        }
         if let Some(action) = way.task.advance(alloc, code)? {
             return Ok(action);
         }

@@ -1,5 +1,10 @@
-use Rattle.dpj_infer.specs.Kept.{SayOfTheSame}
+use Rattle.std.proofs.Common.{◌≡◌, ◌<◌, ℕ, false}
+use Rattle.dpj_typed.specs.Plain.{plain_program}
+use Rattle.dpj_infer.specs.Passes.{MeetsRow, Rises}
 use Rattle.dpj_infer.proofs.inferring.ask_classes.Given as goal
 
 abbrev pub invariant-loop-number : goal.invariant-loop-number
-invariant-loop-number l = SayOfTheSame l.kept l.initial.kept
+invariant-loop-number l = record {
+  rises : Rises (plain_program l.program) l.initial.kept l.kept l.has_risen;
+  met : l.has_risen ≡ false → (n r : ℕ) → n < l.number → MeetsRow (plain_program l.program) l.kept n r;
+}

@@ -1,6 +1,14 @@
 use Rattle.dpj_typed.specs.Plain.{plain_program}
-use Rattle.dpj_infer.specs.Kept.{SaysOfEach}
+use Rattle.dpj_infer.specs.Kept.{Keeping, SaysOfEach}
+use Rattle.dpj_infer.specs.Firm.{IsFirm, KeepsNoMore}
+use Rattle.dpj_infer.specs.Passes.{room}
 use Rattle.dpj_infer.proofs.inferring.infer.Given as goal
 
-abbrev pub invariant-loop : goal.invariant-loop
-invariant-loop l = SaysOfEach (plain_program l.program) l.kept
+abbrev pub invariant-loop-kept : goal.invariant-loop-kept
+invariant-loop-kept l = record {
+  says : SaysOfEach (plain_program l.program) l.kept;
+  least : (T : Keeping) → SaysOfEach (plain_program l.program) T → IsFirm (plain_program l.program) T → KeepsNoMore (plain_program l.program) l.kept T;
+}
+
+abbrev pub decreases-loop-kept : goal.decreases-loop-kept
+decreases-loop-kept l = room l.kept

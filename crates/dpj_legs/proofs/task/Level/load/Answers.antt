@@ -1,5 +1,4 @@
-use Rattle.std.proofs.lemmas.Result.{IfOk-weaker}
 use Rattle.dpj_legs.proofs.task.Level.load.Goals as goal
 
-pub returns-clause-ok : goal.returns-clause-ok
-returns-clause-ok c = IfOk-weaker c.push.result _ _ (λ s l. rw c.slot-value.ensures at l) c.push.ensures.ok
+pub returns-clause-pace : goal.returns-clause-pace
+returns-clause-pace c = rw c.slot-value.ensures at c.push.ensures.pace

@@ -1,10 +1,10 @@
-use Rattle.std.proofs.Common.{arith, ap, suc, ◌∙◌, map, ◌+◌}
+use Rattle.std.proofs.Common.{ap, suc, ◌∙◌, map}
 use Rattle.dpj_code.specs.Machine.{On}
 use Rattle.dpj_code.specs.Plain.{plain_code}
 use Rattle.dpj_legs.specs.declared.task.Standing.TheVariants as standing
 use Rattle.dpj_legs.specs.Steps.{with_local}
 use Rattle.dpj_legs.specs.Tasks.{plain_level}
-use Rattle.dpj_legs.proofs.Stepping.{by_going, by_turning, by_making, made_here}
+use Rattle.dpj_legs.proofs.Stepping.{by_going, by_making, made_here}
 use Rattle.dpj_legs.proofs.task.Task.advance.Goals as goal
 
 pub returns-in-Goes-clause-ok : goal.returns-in-Goes-clause-ok
@@ -12,12 +12,6 @@ returns-in-Goes-clause-ok c =
     let s = rw c.in-Goes.is at c.in_ok-step.ensures.ok in
     by_going (plain_code c.args.code.now) c.args.self.now c.step.new.self c.requires.going s c.step.ensures.kept.number c.step.ensures.kept.turns
     c.step.ensures.kept.made
-
-pub returns-in-Turns-clause-ok : goal.returns-in-Turns-clause-ok
-returns-in-Turns-clause-ok c =
-    let s = rw c.in-Turns.is at c.in_ok-step.ensures.ok in
-    by_turning (plain_code c.args.code.now) c.args.self.now (record c.step.new.self { turns = c.step.new.self.turns + 1 }) c.requires.going s
-    c.step.ensures.kept.number (omega (arith, c.step.ensures.kept.turns)) c.step.ensures.kept.made
 
 pub returns-in-Makes-clause-ok : goal.returns-in-Makes-clause-ok
 returns-in-Makes-clause-ok c =
