@@ -9,13 +9,18 @@ use Rattle.dpj_words.specs.declared.command.Command.{Command}
 use Rattle.dpj_words.specs.declared.command.Command.TheVariants as command
 use Rattle.dpj_words.specs.declared.job.Job.{Job}
 use Rattle.dpj_words.specs.declared.verdict.Status.{Status}
+use Rattle.dpj_words.specs.declared.verdict.Status.TheVariants as ended
 use Rattle.dpj_words.specs.declared.verdict.Verdict.{Verdict}
 use Rattle.dpj_words.specs.declared.verdict.Verdict.TheVariants.{Ran, Usage}
 use Rattle.dpj_top.specs.declared.answered.Answered.{Answered}
 use Rattle.dpj_top.specs.Answer.{IsAnswer, IsAnswerOn, IsElided, IsRan, IsWithin, asks_run, faulty, of_program, only, told_by, told_of, to_check, to_effects, to_elide, to_list, to_run, too_long}
-use Rattle.dpj_top.specs.Call.{Answers, AnswersBy, Appends, IsAnswered, Tells, text_for}
+use Rattle.dpj_top.specs.Call.{Answers, AnswersBy, Appends, IsAnswered, Tells, TellsOfVerdict, text_for}
 use Rattle.dpj_top.specs.Promise.{AsksElision, GivesJob, IsReported, KeepsPromise, ReportsElision, ReportsReduced, elision_for}
 use Rattle.dpj_top.proofs.Ranges.{words_within}
+
+-- a status that tells of a verdict is no want of memory
+pub tells-no-want : (status : Status) → TellsOfVerdict status → status ≡ ended.NoMemory → ⊥
+tells-no-want status told e = subst TellsOfVerdict e told
 
 -- the answer to a job and a text that are there
 given_answer : (words : List (List ℕ)) (held : Option (List ℕ)) (asked : Job) (text : List ℕ) (answered : Answered) → job words ≡ Some asked → text_for asked held ≡ Some text →

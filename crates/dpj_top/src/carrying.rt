@@ -1,4 +1,5 @@
-ghost use Rattle.std.specs.Prelude.{◌≡◌, ◌≢◌, IfOk};
+ghost use Rattle.std.specs.Int.{w32};
+ghost use Rattle.std.specs.Prelude.{◌≡◌, ◌≢◌, FitsSigned, IfOk};
 ghost use Rattle.dpj_front.specs.Judging.{CanRun, typed_of};
 ghost use Rattle.dpj_typed.specs.Plain.{plain_program};
 ghost use Rattle.dpj_words.specs.Jobs.{IsInRange};
@@ -82,7 +83,8 @@ fn made<R: Threads + Wait + Sync, G: Gate + Sync>(
 ) -> Result<Option<Recorded>, NoMemory>
     requires in_range { IsInRange job.now }
     requires can_run { CanRun (plain_program typed.now) }
-    ensures { IfOk result (IsRunBy job.now.mode (plain_program typed.now) (limits_of job.now) job.now.arg job.now.workers) }
+    ensures run { IfOk result (IsRunBy job.now.mode (plain_program typed.now) (limits_of job.now) job.now.arg job.now.workers) }
+    ensures fits { FitsSigned w32 job.now.arg }
 {
     match job.mode {
         Mode::Steps => run(rt, alloc, typed, limits(job), job.arg, job.workers, gate),

@@ -1,6 +1,6 @@
 use Rattle.std.proofs.Common.{Global, map, refl}
 use Rattle.std.specs.String.{string_bytes}
-use Rattle.dpj_top.proofs.Owed.{owed_elision, owed_reduction}
+use Rattle.dpj_top.proofs.Owed.{owed_elision, owed_reduction, tells-no-want}
 use Rattle.dpj_top.proofs.call.dpj.Goals as goal
 
 pub returns-in-Ok-clause-promised : goal.returns-in-Ok-clause-promised
@@ -26,5 +26,5 @@ returns-in-Ok-clause-reduced g c told =
       is_answered = c.in-Ok.ensures.ok;
       status_told = whole.0;
       report_told = whole.1;
-      run_recorded = ?;
+      run_recorded = c.tell.ensures.kept (tells-no-want c.tell.result.status told);
     })
