@@ -77,7 +77,7 @@ fn head(cursor: &mut Cursor) -> Result<RplHead, Stop>
 }
 
 /// `{ ":" Elem }`
-#[tactic(auto, using(crate::proofs::Lists::many_more, crate::proofs::Lists::few_more, crate::specs::Taking::none, crate::proofs::Regions::next_elem))]
+#[tactic(auto, using(crate::proofs::Lists::many_more, crate::specs::Taking::none, crate::proofs::Regions::next_elem))]
 fn elems(alloc: Global, cursor: &mut Cursor) -> Result<Items<ElemTree>, Stop>
     ensures moves { OnOk result (Keeps cursor.old cursor.new) }
     ensures reads { OnOk result (Reading (part Part.elems ∷ []) cursor.old cursor.new) }
@@ -111,7 +111,7 @@ fn elem(cursor: &mut Cursor) -> Result<ElemTree, Stop>
 }
 
 /// `"[" ( Int | Name | "?" ) "]"`
-#[tactic(auto, using(crate::proofs::Regions::elem_within, crate::proofs::Composed::seq, crate::proofs::Composed::read_part, crate::proofs::Composed::refused_part, crate::proofs::Composed::refused_first, crate::proofs::Composed::refused_after))]
+#[tactic(auto, using(crate::proofs::Regions::elem_within, crate::proofs::PathParts::index_reads, crate::proofs::PathParts::index_at_open, crate::proofs::PathParts::index_at_within, crate::proofs::PathParts::index_at_close))]
 fn index(cursor: &mut Cursor) -> Result<ElemTree, Stop>
     ensures moves { OnOk result (Reads cursor.old cursor.new) }
     ensures reads { OnOk result (Reading (part Part.index ∷ []) cursor.old cursor.new) }
@@ -125,7 +125,7 @@ fn index(cursor: &mut Cursor) -> Result<ElemTree, Stop>
 }
 
 /// `Int | Name | "?"`
-#[tactic(auto, using(crate::specs::Paths::index, crate::proofs::Regions::within_number, crate::proofs::Regions::within_any))]
+#[tactic(auto, using(crate::specs::Paths::index, crate::proofs::Regions::within_number, crate::proofs::Regions::within_any, crate::proofs::PathParts::within_reads_number, crate::proofs::PathParts::within_reads_question, crate::proofs::PathParts::within_reads_name, crate::proofs::PathParts::within_halts_number, crate::proofs::PathParts::within_halts_question, crate::proofs::PathParts::within_at_name))]
 fn within(cursor: &mut Cursor) -> Result<ElemTree, Stop>
     ensures moves { OnOk result (Reads cursor.old cursor.new) }
     ensures reads { OnOk result (Reading (part Part.within ∷ []) cursor.old cursor.new) }

@@ -60,7 +60,7 @@ pub fn base(alloc: Global, cursor: &mut Cursor) -> Result<BaseTree, Stop>
 }
 
 /// `{ "[" "]" [ "<" Rpl ">" ] [ "#" Name ] }`
-#[tactic(auto, using(crate::proofs::Lists::many_more, crate::proofs::Lists::few_more, crate::specs::Taking::none, crate::proofs::TypeForms::suffix_of))]
+#[tactic(auto, using(crate::proofs::Lists::many_more, crate::specs::Taking::none, crate::proofs::TypeForms::suffix_of))]
 fn suffixes(alloc: Global, cursor: &mut Cursor) -> Result<Items<Suffix>, Stop>
     ensures moves { OnOk result (Keeps cursor.old cursor.new) }
     ensures reads { OnOk result (Reading (part Part.suffixes ∷ []) cursor.old cursor.new) }
