@@ -1,10 +1,11 @@
-ghost use Rattle.std.specs.Prelude.{◌≡◌, ◌+◌, ◌≤◌, [], length, IfOk, OnOk, IfErr, ◌∷◌};
+ghost use Rattle.std.specs.Prelude.{◌≡◌, ◌≤◌, ◌||◌, [], IfOk, OnOk, IfErr, ◌∷◌};
 ghost use Rattle.dpj_parse.specs.Counted.{Reading, StopsAt};
-ghost use Rattle.dpj_parse.specs.Expecting.{Part, part};
+ghost use Rattle.dpj_parse.specs.Expecting.{Part, next_is, next_of, one, part};
 ghost use Rattle.dpj_parse.specs.Classes.{DerivesConstr, DerivesDeclared, DerivesGiven, DerivesKind, DerivesKindOr, DerivesParam, DerivesParams};
 ghost use Rattle.dpj_parse.specs.Paths.{DerivesArgs, DerivesElem, DerivesHead, DerivesNext, DerivesRName, DerivesRpl, DerivesWithin};
 ghost use Rattle.dpj_parse.specs.Progress.{Keeps, Reads};
 ghost use Rattle.dpj_parse.specs.Taking.{Listed, Many, TakesName};
+ghost use Rattle.dpj_parse.specs.Words.{is_atomic, is_name, is_region};
 
 use crate::cursor::Cursor;
 use dpj_base::{Items, Stop};
@@ -14,7 +15,7 @@ use dpj_tree::{ConstrTree, ElemTree, Named, ParamTree, Params, RName, RplHead, R
 use std::alloc::Global;
 
 /// `Name { "," Name }`
-#[tactic(auto, using(crate::proofs::Lists::listed_more, crate::specs::Taking::last))]
+#[tactic(auto, using(crate::proofs::Lists::listed_more, crate::specs::Taking::last, crate::proofs::PathParts::more_names, crate::proofs::PathParts::listed_on, crate::proofs::PathParts::names_end, crate::proofs::PathParts::names_at_comma, crate::proofs::PathParts::names_at_item, crate::proofs::PathParts::names_begin, crate::proofs::PathParts::names_at_first))]
 pub fn names(alloc: Global, cursor: &mut Cursor) -> Result<Items<Named>, Stop>
     ensures moves { OnOk result (Reads cursor.old cursor.new) }
     ensures reads { OnOk result (Reading (part Part.names ∷ []) cursor.old cursor.new) }
@@ -30,8 +31,9 @@ pub fn names(alloc: Global, cursor: &mut Cursor) -> Result<Items<Named>, Stop>
 }
 
 /// `RName = Name [ "." Name ]`
-#[tactic(auto, using(crate::specs::Paths::one_name, crate::proofs::Regions::second_name))]
+#[tactic(auto, using(crate::specs::Paths::one_name, crate::proofs::Regions::second_name, crate::proofs::PathParts::region_name_alone, crate::proofs::PathParts::region_name_second, crate::proofs::PathParts::region_name_at_first, crate::proofs::PathParts::region_name_at_dot, crate::proofs::PathParts::region_name_at_second, crate::proofs::PathParts::few_read))]
 fn region_name(cursor: &mut Cursor) -> Result<RName, Stop>
+    ensures few { OnOk result (cursor.new.joined ≤ 32) }
     ensures moves { OnOk result (Reads cursor.old cursor.new) }
     ensures reads { OnOk result (Reading (part Part.region_name ∷ []) cursor.old cursor.new) }
     ensures stops { IfErr result (λ stop. StopsAt (part Part.region_name ∷ []) cursor.old stop) }
@@ -47,8 +49,9 @@ fn region_name(cursor: &mut Cursor) -> Result<RName, Stop>
 }
 
 /// `Rpl = ( "Root" | RName ) { ":" Elem }`
-#[tactic(auto, using(crate::specs::Paths::path))]
+#[tactic(auto, using(crate::specs::Paths::path, crate::proofs::PathParts::path_reads, crate::proofs::PathParts::path_at_head, crate::proofs::PathParts::path_at_elems))]
 pub fn rpl(alloc: Global, cursor: &mut Cursor) -> Result<RplTree, Stop>
+    ensures same { OnOk result (cursor.new.joined ≡ cursor.old.joined) }
     ensures moves { OnOk result (Reads cursor.old cursor.new) }
     ensures reads { OnOk result (Reading (part Part.path ∷ []) cursor.old cursor.new) }
     ensures stops { IfErr result (λ stop. StopsAt (part Part.path ∷ []) cursor.old stop) }
@@ -63,8 +66,9 @@ pub fn rpl(alloc: Global, cursor: &mut Cursor) -> Result<RplTree, Stop>
     Ok(RplTree { place, head, elems })
 }
 
-#[tactic(auto, using(crate::proofs::Regions::head_root, crate::proofs::Regions::head_name))]
+#[tactic(auto, using(crate::proofs::Regions::head_root, crate::proofs::Regions::head_name, crate::proofs::PathParts::head_reads_root, crate::proofs::PathParts::head_reads_name, crate::proofs::PathParts::head_at_root, crate::proofs::PathParts::head_at_name, crate::proofs::PathParts::few_read))]
 fn head(cursor: &mut Cursor) -> Result<RplHead, Stop>
+    ensures few { OnOk result (cursor.new.joined ≤ 32) }
     ensures moves { OnOk result (Reads cursor.old cursor.new) }
     ensures reads { OnOk result (Reading (part Part.head ∷ []) cursor.old cursor.new) }
     ensures stops { IfErr result (λ stop. StopsAt (part Part.head ∷ []) cursor.old stop) }
@@ -77,8 +81,9 @@ fn head(cursor: &mut Cursor) -> Result<RplHead, Stop>
 }
 
 /// `{ ":" Elem }`
-#[tactic(auto, using(crate::proofs::Lists::many_more, crate::specs::Taking::none, crate::proofs::Regions::next_elem))]
+#[tactic(auto, using(crate::proofs::Lists::many_more, crate::specs::Taking::none, crate::proofs::Regions::next_elem, crate::proofs::PathParts::elems_begin, crate::proofs::PathParts::elems_on, crate::proofs::PathParts::elems_end, crate::proofs::PathParts::elems_at_colon, crate::proofs::PathParts::elems_at_elem, crate::proofs::PathParts::few_read))]
 fn elems(alloc: Global, cursor: &mut Cursor) -> Result<Items<ElemTree>, Stop>
+    requires { cursor.old.joined ≤ 32 }
     ensures moves { OnOk result (Keeps cursor.old cursor.new) }
     ensures reads { OnOk result (Reading (part Part.elems ∷ []) cursor.old cursor.new) }
     ensures stops { IfErr result (λ stop. StopsAt (part Part.elems ∷ []) cursor.old stop) }
@@ -86,20 +91,22 @@ fn elems(alloc: Global, cursor: &mut Cursor) -> Result<Items<ElemTree>, Stop>
 {
     let mut elems = Items::new(alloc);
     while cursor.symbol_if(Symbol::Colon)? {
-        cursor.joined += 1;
         elems.push(elem(cursor)?)?;
     }
     Ok(elems)
 }
 
 /// `Elem = RName | "*" | "[" ( Int | Name | "?" ) "]"`
-#[tactic(auto, using(crate::proofs::Regions::elem_star, crate::proofs::Regions::elem_name))]
+#[tactic(auto, using(crate::proofs::Regions::elem_star, crate::proofs::Regions::elem_name, crate::proofs::PathParts::elem_reads_star, crate::proofs::PathParts::elem_reads_brackets, crate::proofs::PathParts::elem_reads_name, crate::proofs::PathParts::elem_at_star, crate::proofs::PathParts::elem_at_brackets, crate::proofs::PathParts::elem_at_name))]
 fn elem(cursor: &mut Cursor) -> Result<ElemTree, Stop>
+    requires { cursor.old.joined ≤ 32 }
+    ensures few { OnOk result (cursor.new.joined ≤ 32) }
     ensures moves { OnOk result (Reads cursor.old cursor.new) }
     ensures reads { OnOk result (Reading (part Part.elem ∷ []) cursor.old cursor.new) }
     ensures stops { IfErr result (λ stop. StopsAt (part Part.elem ∷ []) cursor.old stop) }
     ensures derives { IfOk result (λ tree. DerivesElem cursor.old.rest.now cursor.new.rest.now tree) }
 {
+    cursor.joined += 1;
     match cursor.next() {
         Some(Terminal::Symbol(Symbol::Star)) => {
             cursor.accept()?;
@@ -111,8 +118,9 @@ fn elem(cursor: &mut Cursor) -> Result<ElemTree, Stop>
 }
 
 /// `"[" ( Int | Name | "?" ) "]"`
-#[tactic(auto, using(crate::proofs::Regions::elem_within, crate::proofs::PathParts::index_reads, crate::proofs::PathParts::index_at_open, crate::proofs::PathParts::index_at_within, crate::proofs::PathParts::index_at_close))]
+#[tactic(auto, using(crate::proofs::Regions::elem_within, crate::proofs::PathParts::index_reads, crate::proofs::PathParts::index_at_open, crate::proofs::PathParts::index_at_within, crate::proofs::PathParts::index_at_close, crate::proofs::PathParts::few_read))]
 fn index(cursor: &mut Cursor) -> Result<ElemTree, Stop>
+    ensures few { OnOk result (cursor.new.joined ≤ 32) }
     ensures moves { OnOk result (Reads cursor.old cursor.new) }
     ensures reads { OnOk result (Reading (part Part.index ∷ []) cursor.old cursor.new) }
     ensures stops { IfErr result (λ stop. StopsAt (part Part.index ∷ []) cursor.old stop) }
@@ -146,7 +154,7 @@ fn within(cursor: &mut Cursor) -> Result<ElemTree, Stop>
 }
 
 /// `[ Args ]`
-#[tactic(auto, using(crate::specs::Paths::no_args))]
+#[tactic(auto, using(crate::specs::Paths::no_args, crate::proofs::PathParts::args_none, crate::proofs::PathParts::args_some, crate::proofs::PathParts::args_if_at))]
 pub fn args_if(alloc: Global, cursor: &mut Cursor) -> Result<Items<RplTree>, Stop>
     ensures moves { OnOk result (Keeps cursor.old cursor.new) }
     ensures reads { OnOk result (Reading (part Part.args_if ∷ []) cursor.old cursor.new) }
@@ -160,7 +168,7 @@ pub fn args_if(alloc: Global, cursor: &mut Cursor) -> Result<Items<RplTree>, Sto
 }
 
 /// `Args = "<" Rpl { "," Rpl } ">"`
-#[tactic(auto, using(crate::specs::Paths::args))]
+#[tactic(auto, using(crate::specs::Paths::args, crate::proofs::PathParts::args_reads, crate::proofs::PathParts::args_at_open, crate::proofs::PathParts::args_at_paths, crate::proofs::PathParts::args_at_close))]
 pub fn args(alloc: Global, cursor: &mut Cursor) -> Result<Items<RplTree>, Stop>
     ensures moves { OnOk result (Reads cursor.old cursor.new) }
     ensures reads { OnOk result (Reading (part Part.args ∷ []) cursor.old cursor.new) }
@@ -174,10 +182,11 @@ pub fn args(alloc: Global, cursor: &mut Cursor) -> Result<Items<RplTree>, Stop>
 }
 
 /// `Rpl { "," Rpl }`
-#[tactic(auto, using(crate::proofs::Lists::listed_more, crate::specs::Taking::last))]
+#[tactic(auto, using(crate::proofs::Lists::listed_more, crate::specs::Taking::last, crate::proofs::PathParts::more_paths, crate::proofs::PathParts::behind_first, crate::proofs::PathParts::listed_on, crate::proofs::PathParts::paths_end, crate::proofs::PathParts::paths_at_comma, crate::proofs::PathParts::paths_at_item, crate::proofs::PathParts::paths_at_first))]
 fn paths(alloc: Global, cursor: &mut Cursor) -> Result<Items<RplTree>, Stop>
     ensures moves { OnOk result (Reads cursor.old cursor.new) }
-    // PART paths
+    ensures reads { OnOk result (Reading (part Part.path ∷ part Part.more_paths ∷ []) cursor.old cursor.new) }
+    ensures stops { IfErr result (λ stop. StopsAt (part Part.path ∷ part Part.more_paths ∷ []) cursor.old stop) }
     ensures derives { IfOk result (λ paths. Listed DerivesRpl cursor.old.rest.now cursor.new.rest.now paths) }
 {
     let mut paths = Items::new(alloc);
@@ -189,7 +198,7 @@ fn paths(alloc: Global, cursor: &mut Cursor) -> Result<Items<RplTree>, Stop>
 }
 
 /// `[ Params ]`
-#[tactic(auto, using(crate::specs::Classes::no_params))]
+#[tactic(auto, using(crate::specs::Classes::no_params, crate::proofs::PathParts::params_none, crate::proofs::PathParts::params_some, crate::proofs::PathParts::params_if_at))]
 pub fn params_if(alloc: Global, cursor: &mut Cursor) -> Result<Params, Stop>
     ensures moves { OnOk result (Keeps cursor.old cursor.new) }
     ensures reads { OnOk result (Reading (part Part.params_if ∷ []) cursor.old cursor.new) }
@@ -213,7 +222,7 @@ pub fn no_params(alloc: Global) -> Params
 }
 
 /// `Params = "<" Kind Name { "," [ Kind ] Name } [ "|" Constr { "," Constr } ] ">"`
-#[tactic(auto, using(crate::specs::Classes::params))]
+#[tactic(auto, using(crate::specs::Classes::params, crate::proofs::PathParts::params_reads, crate::proofs::PathParts::params_at_open, crate::proofs::PathParts::params_at_declared, crate::proofs::PathParts::params_at_given, crate::proofs::PathParts::params_at_close))]
 fn params(alloc: Global, cursor: &mut Cursor) -> Result<Params, Stop>
     ensures moves { OnOk result (Reads cursor.old cursor.new) }
     ensures reads { OnOk result (Reading (part Part.params ∷ []) cursor.old cursor.new) }
@@ -228,10 +237,11 @@ fn params(alloc: Global, cursor: &mut Cursor) -> Result<Params, Stop>
 }
 
 /// `Kind Name { "," [ Kind ] Name }`: a bare name has the kind of the one before it.
-#[tactic(auto, using(crate::proofs::Regions::declares_first, crate::proofs::Regions::declares_more, crate::proofs::Regions::declares_done))]
+#[tactic(auto, using(crate::proofs::Regions::declares_first, crate::proofs::Regions::declares_more, crate::proofs::Regions::declares_done, crate::proofs::PathParts::declared_begin, crate::proofs::PathParts::declared_at_kind, crate::proofs::PathParts::declared_at_name, crate::proofs::PathParts::declared_on, crate::proofs::PathParts::declared_end, crate::proofs::PathParts::declared_at_comma, crate::proofs::PathParts::declared_at_next_kind, crate::proofs::PathParts::declared_at_next_name))]
 fn declared(alloc: Global, cursor: &mut Cursor) -> Result<Items<ParamTree>, Stop>
     ensures moves { OnOk result (Reads cursor.old cursor.new) }
-    // PART declared
+    ensures reads { OnOk result (Reading (part Part.kind ∷ one is_name ∷ part Part.more_declared ∷ []) cursor.old cursor.new) }
+    ensures stops { IfErr result (λ stop. StopsAt (part Part.kind ∷ one is_name ∷ part Part.more_declared ∷ []) cursor.old stop) }
     ensures derives { IfOk result (λ list. DerivesDeclared cursor.old.rest.now cursor.new.rest.now list) }
 {
     let mut list = Items::new(alloc);
@@ -247,7 +257,8 @@ fn declared(alloc: Global, cursor: &mut Cursor) -> Result<Items<ParamTree>, Stop
 #[tactic(auto, using(crate::specs::Classes::param))]
 fn param(cursor: &mut Cursor, atomic: bool) -> Result<ParamTree, Stop>
     ensures moves { OnOk result (Reads cursor.old cursor.new) }
-    // PART param
+    ensures reads { OnOk result (Reading (one is_name ∷ []) cursor.old cursor.new) }
+    ensures stops { IfErr result (λ stop. StopsAt (one is_name ∷ []) cursor.old stop) }
     ensures derives { IfOk result (λ tree. DerivesParam atomic cursor.old.rest.now cursor.new.rest.now tree) }
 {
     let named = cursor.name()?;
@@ -259,12 +270,15 @@ fn param(cursor: &mut Cursor, atomic: bool) -> Result<ParamTree, Stop>
 }
 
 /// Whether `atomic` or `region` comes next.
-pub fn begins_kind(cursor: &Cursor) -> bool {
+#[tactic(auto, using(crate::proofs::PathParts::begins_atomic, crate::proofs::PathParts::begins_region, crate::proofs::PathParts::begins_no_kind))]
+pub fn begins_kind(cursor: &Cursor) -> bool
+    ensures { result ≡ (next_is is_atomic (next_of cursor.now.rest.now) || next_is is_region (next_of cursor.now.rest.now)) }
+{
     cursor.is_keyword(Keyword::Atomic) || cursor.is_keyword(Keyword::Region)
 }
 
 /// `Kind = [ "atomic" ] "region"`: whether it is atomic.
-#[tactic(auto, using(crate::proofs::Regions::kind_of))]
+#[tactic(auto, using(crate::proofs::Regions::kind_of, crate::proofs::PathParts::kind_plain, crate::proofs::PathParts::kind_atomic, crate::proofs::PathParts::kind_at_atomic, crate::proofs::PathParts::kind_at_region, crate::proofs::PathParts::kind_at_region_behind))]
 pub fn kind(cursor: &mut Cursor) -> Result<bool, Stop>
     ensures moves { OnOk result (Reads cursor.old cursor.new) }
     ensures reads { OnOk result (Reading (part Part.kind ∷ []) cursor.old cursor.new) }
@@ -277,7 +291,7 @@ pub fn kind(cursor: &mut Cursor) -> Result<bool, Stop>
 }
 
 /// `[ Kind ]`: whether it is atomic, or the one before it.
-#[tactic(auto, using(crate::specs::Classes::same, crate::specs::Classes::other))]
+#[tactic(auto, using(crate::specs::Classes::same, crate::specs::Classes::other, crate::proofs::PathParts::kind_if_none, crate::proofs::PathParts::kind_if_some, crate::proofs::PathParts::kind_if_at))]
 fn kind_or(cursor: &mut Cursor, earlier: bool) -> Result<bool, Stop>
     ensures moves { OnOk result (Keeps cursor.old cursor.new) }
     ensures reads { OnOk result (Reading (part Part.kind_if ∷ []) cursor.old cursor.new) }
@@ -291,7 +305,7 @@ fn kind_or(cursor: &mut Cursor, earlier: bool) -> Result<bool, Stop>
 }
 
 /// `[ "|" Constr { "," Constr } ]`
-#[tactic(auto, using(crate::specs::Classes::nothing_given, crate::proofs::Regions::given_behind))]
+#[tactic(auto, using(crate::specs::Classes::nothing_given, crate::proofs::Regions::given_behind, crate::proofs::PathParts::given_none, crate::proofs::PathParts::given_some, crate::proofs::PathParts::given_at_bar, crate::proofs::PathParts::given_at_constraints))]
 fn given(alloc: Global, cursor: &mut Cursor) -> Result<Items<ConstrTree>, Stop>
     ensures moves { OnOk result (Keeps cursor.old cursor.new) }
     ensures reads { OnOk result (Reading (part Part.given ∷ []) cursor.old cursor.new) }
@@ -305,10 +319,11 @@ fn given(alloc: Global, cursor: &mut Cursor) -> Result<Items<ConstrTree>, Stop>
 }
 
 /// `Constr { "," Constr }`
-#[tactic(auto, using(crate::proofs::Lists::listed_more, crate::specs::Taking::last))]
+#[tactic(auto, using(crate::proofs::Lists::listed_more, crate::specs::Taking::last, crate::proofs::PathParts::more_constraints, crate::proofs::PathParts::behind_first, crate::proofs::PathParts::listed_on, crate::proofs::PathParts::constraints_end, crate::proofs::PathParts::constraints_at_comma, crate::proofs::PathParts::constraints_at_item, crate::proofs::PathParts::constraints_at_first))]
 fn constraints(alloc: Global, cursor: &mut Cursor) -> Result<Items<ConstrTree>, Stop>
     ensures moves { OnOk result (Reads cursor.old cursor.new) }
-    // PART constraints
+    ensures reads { OnOk result (Reading (part Part.constraint ∷ part Part.more_constraints ∷ []) cursor.old cursor.new) }
+    ensures stops { IfErr result (λ stop. StopsAt (part Part.constraint ∷ part Part.more_constraints ∷ []) cursor.old stop) }
     ensures derives { IfOk result (λ given. Listed DerivesConstr cursor.old.rest.now cursor.new.rest.now given) }
 {
     let mut given = Items::new(alloc);
@@ -320,7 +335,7 @@ fn constraints(alloc: Global, cursor: &mut Cursor) -> Result<Items<ConstrTree>, 
 }
 
 /// `Constr = Rpl "#" Rpl`
-#[tactic(auto, using(crate::specs::Classes::constraint))]
+#[tactic(auto, using(crate::specs::Classes::constraint, crate::proofs::PathParts::constraint_reads, crate::proofs::PathParts::constraint_at_left, crate::proofs::PathParts::constraint_at_hash, crate::proofs::PathParts::constraint_at_right))]
 fn constraint(alloc: Global, cursor: &mut Cursor) -> Result<ConstrTree, Stop>
     ensures moves { OnOk result (Reads cursor.old cursor.new) }
     ensures reads { OnOk result (Reading (part Part.constraint ∷ []) cursor.old cursor.new) }
