@@ -190,7 +190,7 @@ pub onward_refused : (c d : Counts) (xs ys : List Expected) (a b : List Placed) 
 onward_refused c d xs ys a b end later stop so_far is r = on_refused end stop so_far.stops (rw is at r)
 
 -- it may end where no more comes
-onward_end : {c d e : Counts} {xs : List Expected} {a b g : List Placed} (m : Part) → Onward c xs a d (part m ∷ []) b → choose m (next_of b) ≡ Some [] →
+pub onward_end : {c d e : Counts} {xs : List Expected} {a b g : List Placed} (m : Part) → Onward c xs a d (part m ∷ []) b → choose m (next_of b) ≡ Some [] →
     inside m (next_of b) d ≡ d → ((f : Counts) → outside m d f ≡ f) → e ≡ d → g ≡ b → Within c xs a e g
 onward_end {d = d} {b = b} m so_far chosen enters leaves same at =
     rw (same, at) (so_far.reads d b (rw (leaves d) at (read_part d d m [] b b chosen (rw enters nothing))))

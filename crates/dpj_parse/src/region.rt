@@ -156,6 +156,7 @@ fn within(cursor: &mut Cursor) -> Result<ElemTree, Stop>
 /// `[ Args ]`
 #[tactic(auto, using(crate::specs::Paths::no_args, crate::proofs::PathParts::args_none, crate::proofs::PathParts::args_some, crate::proofs::PathParts::args_if_at))]
 pub fn args_if(alloc: Global, cursor: &mut Cursor) -> Result<Items<RplTree>, Stop>
+    ensures same { OnOk result (cursor.new.joined ≡ cursor.old.joined) }
     ensures moves { OnOk result (Keeps cursor.old cursor.new) }
     ensures reads { OnOk result (Reading (part Part.args_if ∷ []) cursor.old cursor.new) }
     ensures stops { IfErr result (λ stop. StopsAt (part Part.args_if ∷ []) cursor.old stop) }
@@ -168,8 +169,9 @@ pub fn args_if(alloc: Global, cursor: &mut Cursor) -> Result<Items<RplTree>, Sto
 }
 
 /// `Args = "<" Rpl { "," Rpl } ">"`
-#[tactic(auto, using(crate::specs::Paths::args, crate::proofs::PathParts::args_reads, crate::proofs::PathParts::args_at_open, crate::proofs::PathParts::args_at_paths, crate::proofs::PathParts::args_at_close))]
+#[tactic(auto, using(crate::specs::Paths::args, crate::proofs::PathParts::args_reads, crate::proofs::PathParts::args_at_open, crate::proofs::PathParts::args_at_paths, crate::proofs::PathParts::args_at_close, crate::proofs::PathParts::joined_read))]
 pub fn args(alloc: Global, cursor: &mut Cursor) -> Result<Items<RplTree>, Stop>
+    ensures same { OnOk result (cursor.new.joined ≡ cursor.old.joined) }
     ensures moves { OnOk result (Reads cursor.old cursor.new) }
     ensures reads { OnOk result (Reading (part Part.args ∷ []) cursor.old cursor.new) }
     ensures stops { IfErr result (λ stop. StopsAt (part Part.args ∷ []) cursor.old stop) }
@@ -182,8 +184,9 @@ pub fn args(alloc: Global, cursor: &mut Cursor) -> Result<Items<RplTree>, Stop>
 }
 
 /// `Rpl { "," Rpl }`
-#[tactic(auto, using(crate::proofs::Lists::listed_more, crate::specs::Taking::last, crate::proofs::PathParts::more_paths, crate::proofs::PathParts::behind_first, crate::proofs::PathParts::listed_on, crate::proofs::PathParts::paths_end, crate::proofs::PathParts::paths_at_comma, crate::proofs::PathParts::paths_at_item, crate::proofs::PathParts::paths_at_first))]
+#[tactic(auto, using(crate::proofs::Lists::listed_more, crate::specs::Taking::last, crate::proofs::PathParts::more_paths, crate::proofs::PathParts::behind_first, crate::proofs::PathParts::listed_on, crate::proofs::PathParts::paths_end, crate::proofs::PathParts::paths_at_comma, crate::proofs::PathParts::paths_at_item, crate::proofs::PathParts::paths_at_first, crate::proofs::PathParts::joined_read))]
 fn paths(alloc: Global, cursor: &mut Cursor) -> Result<Items<RplTree>, Stop>
+    ensures same { OnOk result (cursor.new.joined ≡ cursor.old.joined) }
     ensures moves { OnOk result (Reads cursor.old cursor.new) }
     ensures reads { OnOk result (Reading (part Part.path ∷ part Part.more_paths ∷ []) cursor.old cursor.new) }
     ensures stops { IfErr result (λ stop. StopsAt (part Part.path ∷ part Part.more_paths ∷ []) cursor.old stop) }

@@ -1,4 +1,4 @@
-use Rattle.std.proofs.Common.{[], ◌∷◌, length}
+use Rattle.std.proofs.Common.{◌≡◌, [], ◌∷◌, length}
 use Rattle.dpj_parse.specs.Counted.{counts}
 use Rattle.dpj_parse.specs.Expecting.{Part, part}
 use Rattle.dpj_parse.specs.Progress.{Reads}
@@ -11,6 +11,7 @@ abbrev pub invariant-loop-paths : goal.invariant-loop-paths
 invariant-loop-paths l = record {
   moves : Reads l.fn.cursor l.cursor;
   onward : Onward (counts l.fn.cursor) (part Part.path ∷ part Part.more_paths ∷ []) l.fn.cursor.rest.now (counts l.cursor) (part Part.more_paths ∷ []) l.cursor.rest.now;
+  same : l.cursor.joined ≡ l.fn.cursor.joined;
   derives : Listed DerivesRpl l.fn.cursor.rest.now l.cursor.rest.now l.paths;
 }
 
