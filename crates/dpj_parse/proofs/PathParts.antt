@@ -1,5 +1,5 @@
 -- The parts of region paths, by what they begin with.
-use Rattle.std.proofs.Common.{◌≡◌, ◌≤◌, ◌+◌, ℤ, List, [], ◌∷◌, ◌++◌, Bool, ◌||◌, true, false, cond, Option, Some, refl, ap, ◌∙◌}
+use Rattle.std.proofs.Common.{◌≡◌, ◌≤◌, ℤ, List, [], ◌∷◌, ◌++◌, Bool, ◌||◌, true, false, cond, Option, Some, refl, ap, ◌∙◌}
 use Rattle.dpj_base.specs.Refused.{IfRefused}
 use Rattle.dpj_base.specs.declared.place.Place.{Place}
 use Rattle.dpj_base.specs.declared.refusal.Kind.{Kind}
@@ -15,7 +15,7 @@ use Rattle.dpj_parse.specs.Words.{is_atomic, is_bar, is_close_bracket, is_colon,
 use Rattle.dpj_parse.specs.Limits.{Counts, Fits, inside, outside, past, more, anew, Within, nothing, begins, passes, Stops, in_part, Refuses}
 use Rattle.dpj_parse.specs.Counted.{MayCome, Halts}
 use Rattle.dpj_parse.proofs.Composed.{seq, stops_after, on_refused, read_part, refused_part, refused_first, refused_after}
-use Rattle.dpj_parse.proofs.Coming.{read_any, symbol_comes_not, keyword_comes_not, next_comes, keyword_comes, comes_next, halted, halted_symbol, symbol_may}
+use Rattle.dpj_parse.proofs.Coming.{read_any, symbol_comes_not, keyword_comes_not, next_comes, keyword_comes, comes_next, halted, halted_symbol}
 
 -- a terminal that was read has come, and was not one too many
 pub next_read : {c d : Counts} {test : Terminal → Bool} {a b : List Placed} → Within c (one test ∷ []) a d b → next_is test (next_of a) ≡ true
@@ -49,25 +49,25 @@ both nothing v = v
 both (begins chosen inner w) v = begins chosen inner (both w v)
 both (passes is fits w) v = passes is fits (both w v)
 
-stops_behind : {c d : Counts} {xs ys : List Expected} {a b here : List Placed} {k : Kind} → Within c xs a d b → Stops d ys b k here → Stops c (xs ++ ys) a k here
-stops_behind nothing s = s
-stops_behind (begins chosen inner w) s = Stops.after_part chosen inner (stops_behind w s)
-stops_behind (passes is fits w) s = Stops.after_terminal is fits (stops_behind w s)
+stops_after_list : {c d : Counts} {xs ys : List Expected} {a b here : List Placed} {k : Kind} → Within c xs a d b → Stops d ys b k here → Stops c (xs ++ ys) a k here
+stops_after_list nothing s = s
+stops_after_list (begins chosen inner w) s = Stops.after_part chosen inner (stops_after_list w s)
+stops_after_list (passes is fits w) s = Stops.after_terminal is fits (stops_after_list w s)
 
-stops_before : {c : Counts} {xs : List Expected} (ys : List Expected) {a here : List Placed} {k : Kind} → Stops c xs a k here → Stops c (xs ++ ys) a k here
-stops_before ys (Stops.no_part none) = Stops.no_part none
-stops_before ys (Stops.no_terminal none) = Stops.no_terminal none
-stops_before ys (Stops.too_many is over) = Stops.too_many is over
-stops_before ys (Stops.in_part chosen s) = Stops.in_part chosen s
-stops_before ys (Stops.after_part chosen w s) = Stops.after_part chosen w (stops_before ys s)
-stops_before ys (Stops.after_terminal is fits s) = Stops.after_terminal is fits (stops_before ys s)
+stops_in_list : {c : Counts} {xs : List Expected} (ys : List Expected) {a here : List Placed} {k : Kind} → Stops c xs a k here → Stops c (xs ++ ys) a k here
+stops_in_list ys (Stops.no_part none) = Stops.no_part none
+stops_in_list ys (Stops.no_terminal none) = Stops.no_terminal none
+stops_in_list ys (Stops.too_many is over) = Stops.too_many is over
+stops_in_list ys (Stops.in_part chosen s) = Stops.in_part chosen s
+stops_in_list ys (Stops.after_part chosen w s) = Stops.after_part chosen w (stops_in_list ys s)
+stops_in_list ys (Stops.after_terminal is fits s) = Stops.after_terminal is fits (stops_in_list ys s)
 
-pub refused_before : (c : Counts) (xs ys : List Expected) (a : List Placed) (end : Place) (stop : Stop) → IfRefused stop (Refuses c xs a end) → IfRefused stop (Refuses c (xs ++ ys) a end)
-refused_before c xs ys a end stop r = on_refused end stop (λ k here s. stops_before ys s) r
+pub refused_in_list : (c : Counts) (xs ys : List Expected) (a : List Placed) (end : Place) (stop : Stop) → IfRefused stop (Refuses c xs a end) → IfRefused stop (Refuses c (xs ++ ys) a end)
+refused_in_list c xs ys a end stop r = on_refused end stop (λ k here s. stops_in_list ys s) r
 
-pub refused_behind : (c d : Counts) (xs ys : List Expected) (a b : List Placed) (end later : Place) (stop : Stop) →
+pub refused_after_list : (c d : Counts) (xs ys : List Expected) (a b : List Placed) (end later : Place) (stop : Stop) →
     Within c xs a d b → later ≡ end → IfRefused stop (Refuses d ys b later) → IfRefused stop (Refuses c (xs ++ ys) a end)
-refused_behind c d xs ys a b end later stop w is r = on_refused end stop (λ k here s. stops_behind w s) (rw is at r)
+refused_after_list c d xs ys a b end later stop w is r = on_refused end stop (λ k here s. stops_after_list w s) (rw is at r)
 
 -- a part is read by the two, three or four that it begins with
 pub read_one : (c d e : Counts) (n : Part) (x : Expected) (a b : List Placed) →
@@ -104,8 +104,7 @@ pub refused_at_third : (c d e : Counts) (n : Part) (x y z : Expected) (ys : List
 refused_at_third c d e n x y z ys a b g end first later stop chosen v is w same r =
     refused_part c n _ a end stop chosen
     (refused_later _ d x y (z ∷ ys) a b end first stop v is
-     (refused_later d e y z ys b g first later stop w same (refused_first e z ys g later stop r)))
-
+    (refused_later d e y z ys b g first later stop w same (refused_first e z ys g later stop r)))
 
 -- "[" within "]"
 pub index_reads : {c d e f : Counts} {a b g i : List Placed} →
@@ -182,7 +181,7 @@ pub onward_more : {c d e : Counts} {xs : List Expected} (ys : List Expected) {a 
     choose m (next_of b) ≡ Some (ys ++ part m ∷ []) → Within (inside m (next_of b) d) ys b e g → ((f : Counts) → outside m d f ≡ f) → Onward c xs a e (part m ∷ []) g
 onward_more {d = d} ys m so_far chosen w leaves = record {
   reads = λ f after v. so_far.reads f after (rw (leaves f) at (read_part _ _ m _ _ _ chosen (both w v)));
-  stops = λ k here s. so_far.stops k here (in_part chosen (stops_behind w s));
+  stops = λ k here s. so_far.stops k here (in_part chosen (stops_after_list w s));
 }
 
 pub onward_refused : (c d : Counts) (xs ys : List Expected) (a b : List Placed) (end later : Place) (stop : Stop) → Onward c xs a d ys b → later ≡ end →
@@ -232,6 +231,7 @@ listed_at_item : (c d e : Counts) (xs : List Expected) (a b g : List Placed) (en
 listed_at_item c d e xs a b g end first later stop m x is so_far same comma at r =
     onward_refused c d xs _ a b end first stop so_far same
     (refused_at_second d e m (one is_comma) x (part m ∷ []) b g first later stop (rw (is.chooses (next_of b)) (this_one _ _ (next_read comma))) (rw (is.enters (next_of b) d) comma) at r)
+
 pub names_end : {c d e : Counts} {a b g : List Placed} → Onward c (part Part.names ∷ []) a d (part Part.more_names ∷ []) b → (Next (terminal.Symbol Symbol.Comma) b → ⊥) → e ≡ d → g ≡ b →
     Within c (part Part.names ∷ []) a e g
 names_end so_far none same at = listed_end more_names so_far none same at
@@ -278,8 +278,8 @@ pub names_at_first : (c : Counts) (a : List Placed) (end : Place) (stop : Stop) 
     IfRefused stop (Refuses c (part Part.names ∷ []) a end)
 names_at_first c a end stop r = refused_at_first c Part.names _ _ a end stop refl r
 
-pub behind_first : {c d : Counts} {x y : Expected} {a b : List Placed} → Within c (x ∷ []) a d b → Onward c (x ∷ y ∷ []) a d (y ∷ []) b
-behind_first w = record { reads = λ e after v. seq w v; stops = λ k here s. stops_after w s }
+pub after_first : {c d : Counts} {x y : Expected} {a b : List Placed} → Within c (x ∷ []) a d b → Onward c (x ∷ y ∷ []) a d (y ∷ []) b
+after_first w = record { reads = λ e after v. seq w v; stops = λ k here s. stops_after w s }
 
 pub paths_at_first : (c : Counts) (a : List Placed) (end : Place) (stop : Stop) → IfRefused stop (Refuses c (part Part.path ∷ []) a end) →
     IfRefused stop (Refuses c (part Part.path ∷ part Part.more_paths ∷ []) a end)
@@ -294,7 +294,7 @@ pub region_name_alone : {c d e : Counts} {a b g : List Placed} → Within c (one
     Within c (part Part.region_name ∷ []) a e g
 region_name_alone {d = d} {b = b} w none same at =
     rw (same, at) (read_two _ _ _ _ Part.region_name _ _ _ _ _ refl w
-     (read_part d d Part.second_name [] b b (that_one _ _ (symbol_comes_not Symbol.Dot b none)) nothing) refl)
+    (read_part d d Part.second_name [] b b (that_one _ _ (symbol_comes_not Symbol.Dot b none)) nothing) refl)
 
 pub region_name_second : {c d e f : Counts} {a b g i : List Placed} → Within c (one is_name ∷ []) a d b → Within d (one is_dot ∷ []) b e g → Within e (one is_name ∷ []) g f i →
     Within c (part Part.region_name ∷ []) a f i
@@ -429,14 +429,14 @@ pub args_at_paths : (c d : Counts) (a b : List Placed) (end later : Place) (stop
     IfRefused stop (Refuses d (part Part.path ∷ part Part.more_paths ∷ []) b later) → IfRefused stop (Refuses c (part Part.args ∷ []) a end)
 args_at_paths c d a b end later stop w is r =
     refused_part c Part.args _ a end stop refl
-    (refused_later c d _ (part Part.path) (part Part.more_paths ∷ one is_greater ∷ []) a b end later stop w is (refused_before d _ (one is_greater ∷ []) b later stop r))
+    (refused_later c d _ (part Part.path) (part Part.more_paths ∷ one is_greater ∷ []) a b end later stop w is (refused_in_list d _ (one is_greater ∷ []) b later stop r))
 
 pub args_at_close : (c d e : Counts) (a b g : List Placed) (end first later : Place) (stop : Stop) → Within c (one is_less ∷ []) a d b → first ≡ end →
     Within d (part Part.path ∷ part Part.more_paths ∷ []) b e g → later ≡ first → IfRefused stop (Refuses e (one is_greater ∷ []) g later) →
     IfRefused stop (Refuses c (part Part.args ∷ []) a end)
 args_at_close c d e a b g end first later stop w is v same r =
     refused_part c Part.args _ a end stop refl
-    (refused_later c d _ (part Part.path) (part Part.more_paths ∷ one is_greater ∷ []) a b end first stop w is (refused_behind d e _ (one is_greater ∷ []) b g first later stop v same r))
+    (refused_later c d _ (part Part.path) (part Part.more_paths ∷ one is_greater ∷ []) a b end first stop w is (refused_after_list d e _ (one is_greater ∷ []) b g first later stop v same r))
 
 -- [ "atomic" ] "region"
 pub kind_plain : {c d e : Counts} {a b g : List Placed} → (Next (terminal.Keyword Keyword.Atomic) a → ⊥) → e ≡ c → g ≡ a → Within e (one is_region ∷ []) g d b →
@@ -458,9 +458,9 @@ kind_at_region c d a b end later stop none same at is r =
     refused_at_second c c Part.kind _ _ _ a a end end stop refl (read_part c c Part.atomic_if [] a a (that_one _ _ (keyword_comes_not Keyword.Atomic a none)) nothing) refl
     (rw (same, at, is) at r)
 
-pub kind_at_region_behind : (c d : Counts) (a b : List Placed) (end later : Place) (stop : Stop) → Within c (one is_atomic ∷ []) a d b → later ≡ end →
+pub kind_at_region_after : (c d : Counts) (a b : List Placed) (end later : Place) (stop : Stop) → Within c (one is_atomic ∷ []) a d b → later ≡ end →
     IfRefused stop (Refuses d (one is_region ∷ []) b later) → IfRefused stop (Refuses c (part Part.kind ∷ []) a end)
-kind_at_region_behind c d a b end later stop w is r =
+kind_at_region_after c d a b end later stop w is r =
     refused_at_second c d Part.kind _ _ _ a b end later stop refl (read_one _ _ _ Part.atomic_if _ _ _ (this_one _ _ (next_read w)) w refl) is r
 
 -- [ Kind ]
@@ -567,31 +567,31 @@ pub params_at_open : (c : Counts) (a : List Placed) (end : Place) (stop : Stop) 
     IfRefused stop (Refuses c (part Part.params ∷ []) a end)
 params_at_open c a end stop r = refused_at_first c Part.params _ _ a end stop refl r
 
-behind_less : (c d : Counts) (ys : List Expected) (a b : List Placed) (end later : Place) (stop : Stop) → Within c (one is_less ∷ []) a d b → later ≡ end →
+params_later : (c d : Counts) (ys : List Expected) (a b : List Placed) (end later : Place) (stop : Stop) → Within c (one is_less ∷ []) a d b → later ≡ end →
     ys ≡ part Part.kind ∷ one is_name ∷ part Part.more_declared ∷ part Part.given ∷ one is_greater ∷ [] →
     IfRefused stop (Refuses d ys b later) → IfRefused stop (Refuses c (part Part.params ∷ []) a end)
-behind_less c d ys a b end later stop w is same r =
+params_later c d ys a b end later stop w is same r =
     refused_part c Part.params _ a end stop refl
     (refused_later c d _ (part Part.kind) (one is_name ∷ part Part.more_declared ∷ part Part.given ∷ one is_greater ∷ []) a b end later stop w is (rw same at r))
 
 pub params_at_declared : (c d : Counts) (a b : List Placed) (end later : Place) (stop : Stop) → Within c (one is_less ∷ []) a d b → later ≡ end →
     IfRefused stop (Refuses d (part Part.kind ∷ one is_name ∷ part Part.more_declared ∷ []) b later) → IfRefused stop (Refuses c (part Part.params ∷ []) a end)
 params_at_declared c d a b end later stop w is r =
-    behind_less c d _ a b end later stop w is refl (refused_before d _ (part Part.given ∷ one is_greater ∷ []) b later stop r)
+    params_later c d _ a b end later stop w is refl (refused_in_list d _ (part Part.given ∷ one is_greater ∷ []) b later stop r)
 
 pub params_at_given : (c d e : Counts) (a b g : List Placed) (end first later : Place) (stop : Stop) → Within c (one is_less ∷ []) a d b → first ≡ end →
     Within d (part Part.kind ∷ one is_name ∷ part Part.more_declared ∷ []) b e g → later ≡ first → IfRefused stop (Refuses e (part Part.given ∷ []) g later) →
     IfRefused stop (Refuses c (part Part.params ∷ []) a end)
 params_at_given c d e a b g end first later stop w is v same r =
-    behind_less c d _ a b end first stop w is refl
-    (refused_behind d e _ (part Part.given ∷ one is_greater ∷ []) b g first later stop v same (refused_first e _ _ g later stop r))
+    params_later c d _ a b end first stop w is refl
+    (refused_after_list d e _ (part Part.given ∷ one is_greater ∷ []) b g first later stop v same (refused_first e _ _ g later stop r))
 
 pub params_at_close : (c d e f : Counts) (a b g i : List Placed) (end first middle later : Place) (stop : Stop) → Within c (one is_less ∷ []) a d b → first ≡ end →
     Within d (part Part.kind ∷ one is_name ∷ part Part.more_declared ∷ []) b e g → middle ≡ first → Within e (part Part.given ∷ []) g f i → later ≡ middle →
     IfRefused stop (Refuses f (one is_greater ∷ []) i later) → IfRefused stop (Refuses c (part Part.params ∷ []) a end)
 params_at_close c d e f a b g i end first middle later stop w is v same u at r =
-    behind_less c d _ a b end first stop w is refl
-    (refused_behind d e _ (part Part.given ∷ one is_greater ∷ []) b g first middle stop v same (refused_later e f _ (one is_greater) [] g i middle later stop u at r))
+    params_later c d _ a b end first stop w is refl
+    (refused_after_list d e _ (part Part.given ∷ one is_greater ∷ []) b g first middle stop v same (refused_later e f _ (one is_greater) [] g i middle later stop u at r))
 
 pub begins_atomic : (here : List Placed) → Next (terminal.Keyword Keyword.Atomic) here → true ≡ (next_is is_atomic (next_of here) || next_is is_region (next_of here))
 begins_atomic here n = rw (keyword_comes Keyword.Atomic here n) refl

@@ -1,5 +1,5 @@
 -- The parts of types, by what they begin with.
-use Rattle.std.proofs.Common.{◌≡◌, List, [], ◌∷◌, Bool, true, false, cond, Some, refl, ap, ◌∙◌}
+use Rattle.std.proofs.Common.{◌≡◌, List, [], ◌∷◌, true, false, cond, Some, refl, ap, ◌∙◌}
 use Rattle.dpj_base.specs.Refused.{IfRefused}
 use Rattle.dpj_base.specs.declared.place.Place.{Place}
 use Rattle.dpj_base.specs.declared.refusal.Stop.{Stop}
@@ -9,7 +9,7 @@ use Rattle.dpj_terminals.specs.declared.terminal.Placed.{Placed}
 use Rattle.dpj_terminals.specs.declared.terminal.Terminal.{Terminal}
 use Rattle.dpj_terminals.specs.declared.terminal.Terminal.TheVariants as terminal
 use Rattle.dpj_parse.specs.Taking.{Next}
-use Rattle.dpj_parse.specs.Expecting.{Part, Expected, one, part, base_parts, choose, next_of, next_is}
+use Rattle.dpj_parse.specs.Expecting.{Part, one, part, base_parts, choose, next_of, next_is}
 use Rattle.dpj_parse.specs.Words.{is_boolean, is_close_bracket, is_greater, is_hash, is_int, is_less, is_name, is_open_bracket}
 use Rattle.dpj_parse.specs.Limits.{Counts, Fits, anew, inside, more, Within, nothing, Refuses}
 use Rattle.dpj_parse.specs.Counted.{Halts}
@@ -113,26 +113,26 @@ suffixes_at_close c d e a b g end first later stop so_far same first_bracket at 
     onward_refused c d _ _ a b end first stop so_far same
     (refused_at_second d e Part.suffixes _ _ _ b g first later stop (this_one _ _ (next_read first_bracket)) (rw (more_inside d b (next_read first_bracket)) first_bracket) at r)
 
-pub suffixes_at_behind : (c d e f : Counts) (a b g i : List Placed) (end first middle later : Place) (stop : Stop) →
+pub suffixes_at_rest : (c d e f : Counts) (a b g i : List Placed) (end first middle later : Place) (stop : Stop) →
     Onward c (part Part.suffixes ∷ []) a d (part Part.suffixes ∷ []) b → first ≡ end → Within (more d) (one is_open_bracket ∷ []) b e g → middle ≡ first →
     Within e (one is_close_bracket ∷ []) g f i → later ≡ middle → IfRefused stop (Refuses f (part Part.brackets_behind ∷ []) i later) →
     IfRefused stop (Refuses c (part Part.suffixes ∷ []) a end)
-suffixes_at_behind c d e f a b g i end first middle later stop so_far same first_bracket at second_bracket is r =
+suffixes_at_rest c d e f a b g i end first middle later stop so_far same first_bracket at second_bracket is r =
     onward_refused c d _ _ a b end first stop so_far same
     (refused_at_third d e f Part.suffixes _ _ _ _ b g i first middle later stop (this_one _ _ (next_read first_bracket)) (rw (more_inside d b (next_read first_bracket)) first_bracket) at second_bracket is r)
 
 -- [ "<" path ">" ] [ "#" name ]
-pub behind_reads : {c d e : Counts} {a b g : List Placed} → Within c (part Part.region_if ∷ []) a d b → Within d (part Part.index_if ∷ []) b e g →
+pub after_brackets_reads : {c d e : Counts} {a b g : List Placed} → Within c (part Part.region_if ∷ []) a d b → Within d (part Part.index_if ∷ []) b e g →
     Within c (part Part.brackets_behind ∷ []) a e g
-behind_reads v w = read_two _ _ _ _ Part.brackets_behind _ _ _ _ _ refl v w refl
+after_brackets_reads v w = read_two _ _ _ _ Part.brackets_behind _ _ _ _ _ refl v w refl
 
-pub behind_at_region : (c : Counts) (a : List Placed) (end : Place) (stop : Stop) → IfRefused stop (Refuses c (part Part.region_if ∷ []) a end) →
+pub after_brackets_at_region : (c : Counts) (a : List Placed) (end : Place) (stop : Stop) → IfRefused stop (Refuses c (part Part.region_if ∷ []) a end) →
     IfRefused stop (Refuses c (part Part.brackets_behind ∷ []) a end)
-behind_at_region c a end stop r = refused_at_first c Part.brackets_behind _ _ a end stop refl r
+after_brackets_at_region c a end stop r = refused_at_first c Part.brackets_behind _ _ a end stop refl r
 
-pub behind_at_index : (c d : Counts) (a b : List Placed) (end later : Place) (stop : Stop) → Within c (part Part.region_if ∷ []) a d b → later ≡ end →
+pub after_brackets_at_index : (c d : Counts) (a b : List Placed) (end later : Place) (stop : Stop) → Within c (part Part.region_if ∷ []) a d b → later ≡ end →
     IfRefused stop (Refuses d (part Part.index_if ∷ []) b later) → IfRefused stop (Refuses c (part Part.brackets_behind ∷ []) a end)
-behind_at_index c d a b end later stop w is r = refused_at_second c d Part.brackets_behind _ _ _ a b end later stop refl w is r
+after_brackets_at_index c d a b end later stop w is r = refused_at_second c d Part.brackets_behind _ _ _ a b end later stop refl w is r
 
 pub region_if_none : {c d : Counts} {a b : List Placed} → (Next (terminal.Symbol Symbol.Less) a → ⊥) → d ≡ c → b ≡ a → Within c (part Part.region_if ∷ []) a d b
 region_if_none {c = c} {a = a} none same at = rw (same, at) (read_part c c Part.region_if [] a a (that_one _ _ (symbol_comes_not Symbol.Less a none)) nothing)

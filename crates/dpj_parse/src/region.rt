@@ -96,7 +96,7 @@ fn elems(alloc: Global, cursor: &mut Cursor) -> Result<Items<ElemTree>, Stop>
     Ok(elems)
 }
 
-/// `Elem = RName | "*" | "[" ( Int | Name | "?" ) "]"`
+/// `Elem = RName | "*" | "[" ( Int | Name | "?" ) "]"`, one more of its path
 #[tactic(auto, using(crate::proofs::Regions::elem_star, crate::proofs::Regions::elem_name, crate::proofs::PathParts::elem_reads_star, crate::proofs::PathParts::elem_reads_brackets, crate::proofs::PathParts::elem_reads_name, crate::proofs::PathParts::elem_at_star, crate::proofs::PathParts::elem_at_brackets, crate::proofs::PathParts::elem_at_name))]
 fn elem(cursor: &mut Cursor) -> Result<ElemTree, Stop>
     requires { cursor.old.joined ≤ 32 }
@@ -184,7 +184,7 @@ pub fn args(alloc: Global, cursor: &mut Cursor) -> Result<Items<RplTree>, Stop>
 }
 
 /// `Rpl { "," Rpl }`
-#[tactic(auto, using(crate::proofs::Lists::listed_more, crate::specs::Taking::last, crate::proofs::PathParts::more_paths, crate::proofs::PathParts::behind_first, crate::proofs::PathParts::listed_on, crate::proofs::PathParts::paths_end, crate::proofs::PathParts::paths_at_comma, crate::proofs::PathParts::paths_at_item, crate::proofs::PathParts::paths_at_first, crate::proofs::PathParts::joined_read))]
+#[tactic(auto, using(crate::proofs::Lists::listed_more, crate::specs::Taking::last, crate::proofs::PathParts::more_paths, crate::proofs::PathParts::after_first, crate::proofs::PathParts::listed_on, crate::proofs::PathParts::paths_end, crate::proofs::PathParts::paths_at_comma, crate::proofs::PathParts::paths_at_item, crate::proofs::PathParts::paths_at_first, crate::proofs::PathParts::joined_read))]
 fn paths(alloc: Global, cursor: &mut Cursor) -> Result<Items<RplTree>, Stop>
     ensures same { OnOk result (cursor.new.joined ≡ cursor.old.joined) }
     ensures moves { OnOk result (Reads cursor.old cursor.new) }
@@ -281,7 +281,7 @@ pub fn begins_kind(cursor: &Cursor) -> bool
 }
 
 /// `Kind = [ "atomic" ] "region"`: whether it is atomic.
-#[tactic(auto, using(crate::proofs::Regions::kind_of, crate::proofs::PathParts::kind_plain, crate::proofs::PathParts::kind_atomic, crate::proofs::PathParts::kind_at_atomic, crate::proofs::PathParts::kind_at_region, crate::proofs::PathParts::kind_at_region_behind))]
+#[tactic(auto, using(crate::proofs::Regions::kind_of, crate::proofs::PathParts::kind_plain, crate::proofs::PathParts::kind_atomic, crate::proofs::PathParts::kind_at_atomic, crate::proofs::PathParts::kind_at_region, crate::proofs::PathParts::kind_at_region_after))]
 pub fn kind(cursor: &mut Cursor) -> Result<bool, Stop>
     ensures moves { OnOk result (Reads cursor.old cursor.new) }
     ensures reads { OnOk result (Reading (part Part.kind ∷ []) cursor.old cursor.new) }
@@ -322,7 +322,7 @@ fn given(alloc: Global, cursor: &mut Cursor) -> Result<Items<ConstrTree>, Stop>
 }
 
 /// `Constr { "," Constr }`
-#[tactic(auto, using(crate::proofs::Lists::listed_more, crate::specs::Taking::last, crate::proofs::PathParts::more_constraints, crate::proofs::PathParts::behind_first, crate::proofs::PathParts::listed_on, crate::proofs::PathParts::constraints_end, crate::proofs::PathParts::constraints_at_comma, crate::proofs::PathParts::constraints_at_item, crate::proofs::PathParts::constraints_at_first))]
+#[tactic(auto, using(crate::proofs::Lists::listed_more, crate::specs::Taking::last, crate::proofs::PathParts::more_constraints, crate::proofs::PathParts::after_first, crate::proofs::PathParts::listed_on, crate::proofs::PathParts::constraints_end, crate::proofs::PathParts::constraints_at_comma, crate::proofs::PathParts::constraints_at_item, crate::proofs::PathParts::constraints_at_first))]
 fn constraints(alloc: Global, cursor: &mut Cursor) -> Result<Items<ConstrTree>, Stop>
     ensures moves { OnOk result (Reads cursor.old cursor.new) }
     ensures reads { OnOk result (Reading (part Part.constraint ∷ part Part.more_constraints ∷ []) cursor.old cursor.new) }

@@ -61,7 +61,7 @@ pub fn base(alloc: Global, cursor: &mut Cursor) -> Result<BaseTree, Stop>
 }
 
 /// `{ "[" "]" [ "<" Rpl ">" ] [ "#" Name ] }`
-#[tactic(auto, using(crate::proofs::Lists::many_more, crate::specs::Taking::none, crate::proofs::TypeForms::suffix_of, crate::proofs::TypeParts::suffixes_begin, crate::proofs::TypeParts::suffixes_on, crate::proofs::TypeParts::suffixes_end, crate::proofs::TypeParts::suffixes_at_open, crate::proofs::TypeParts::suffixes_at_close, crate::proofs::TypeParts::suffixes_at_behind, crate::proofs::PathParts::few_read))]
+#[tactic(auto, using(crate::proofs::Lists::many_more, crate::specs::Taking::none, crate::proofs::TypeForms::suffix_of, crate::proofs::TypeParts::suffixes_begin, crate::proofs::TypeParts::suffixes_on, crate::proofs::TypeParts::suffixes_end, crate::proofs::TypeParts::suffixes_at_open, crate::proofs::TypeParts::suffixes_at_close, crate::proofs::TypeParts::suffixes_at_rest, crate::proofs::PathParts::few_read))]
 fn suffixes(alloc: Global, cursor: &mut Cursor) -> Result<Items<Suffix>, Stop>
     requires { cursor.old.joined ≤ 32 }
     ensures moves { OnOk result (Keeps cursor.old cursor.new) }
@@ -79,7 +79,7 @@ fn suffixes(alloc: Global, cursor: &mut Cursor) -> Result<Items<Suffix>, Stop>
 }
 
 /// `[ "<" Rpl ">" ] [ "#" Name ]`
-#[tactic(auto, using(crate::specs::Types::behind, crate::proofs::TypeParts::behind_reads, crate::proofs::TypeParts::behind_at_region, crate::proofs::TypeParts::behind_at_index))]
+#[tactic(auto, using(crate::specs::Types::behind, crate::proofs::TypeParts::after_brackets_reads, crate::proofs::TypeParts::after_brackets_at_region, crate::proofs::TypeParts::after_brackets_at_index))]
 pub fn behind_brackets(alloc: Global, cursor: &mut Cursor) -> Result<Suffix, Stop>
     ensures same { OnOk result (cursor.new.joined ≡ cursor.old.joined) }
     ensures moves { OnOk result (Keeps cursor.old cursor.new) }
