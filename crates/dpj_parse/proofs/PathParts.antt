@@ -16,95 +16,7 @@ use Rattle.dpj_parse.specs.Limits.{Counts, Fits, inside, outside, past, more, an
 use Rattle.dpj_parse.specs.Counted.{MayCome, Halts}
 use Rattle.dpj_parse.proofs.Composed.{seq, stops_after, on_refused, read_part, refused_part, refused_first, refused_after}
 use Rattle.dpj_parse.proofs.Coming.{read_any, symbol_comes_not, keyword_comes_not, next_comes, keyword_comes, comes_next, halted, halted_symbol}
-
--- a terminal that was read has come, and was not one too many
-pub next_read : {c d : Counts} {test : Terminal → Bool} {a b : List Placed} → Within c (one test ∷ []) a d b → next_is test (next_of a) ≡ true
-next_read (passes is fits w) = is
-
-past_joined : (t : Terminal) (c : Counts) → (past t c).joined ≡ c.joined
-past_joined (terminal.Symbol Symbol.OpenParen) c = refl
-past_joined (terminal.Symbol Symbol.OpenBracket) c = refl
-past_joined (terminal.Symbol Symbol.OpenBrace) c = refl
-past_joined (terminal.Symbol Symbol.CloseParen) c = refl
-past_joined (terminal.Symbol Symbol.CloseBracket) c = refl
-past_joined (terminal.Symbol Symbol.CloseBrace) c = refl
-past_joined _ c = refl
-
-pub joined_read : {c d : Counts} {test : Terminal → Bool} {a b : List Placed} → Within c (one test ∷ []) a d b → d.joined ≡ c.joined
-joined_read {c = c} (passes {next = next} is fits nothing) = past_joined next.terminal c
-
-pub few_read : {c d : Counts} {test : Terminal → Bool} {a b : List Placed} → Within c (one test ∷ []) a d b → d.joined ≤ 32
-few_read {c = c} (passes {next = next} is fits nothing) = rw (past_joined next.terminal c) fits.joined
-
--- one of two, by the next terminal
-pub this_one : {b : Bool} (x y : List Expected) → b ≡ true → Some (cond b x y) ≡ Some x
-this_one x y is = ap (λ b. Some (cond b x y)) is
-
-pub that_one : {b : Bool} (x y : List Expected) → b ≡ false → Some (cond b x y) ≡ Some y
-that_one x y is = ap (λ b. Some (cond b x y)) is
-
--- one list behind another
-pub both : {c d e : Counts} {xs ys : List Expected} {a b g : List Placed} → Within c xs a d b → Within d ys b e g → Within c (xs ++ ys) a e g
-both nothing v = v
-both (begins chosen inner w) v = begins chosen inner (both w v)
-both (passes is fits w) v = passes is fits (both w v)
-
-stops_after_list : {c d : Counts} {xs ys : List Expected} {a b here : List Placed} {k : Kind} → Within c xs a d b → Stops d ys b k here → Stops c (xs ++ ys) a k here
-stops_after_list nothing s = s
-stops_after_list (begins chosen inner w) s = Stops.after_part chosen inner (stops_after_list w s)
-stops_after_list (passes is fits w) s = Stops.after_terminal is fits (stops_after_list w s)
-
-stops_in_list : {c : Counts} {xs : List Expected} (ys : List Expected) {a here : List Placed} {k : Kind} → Stops c xs a k here → Stops c (xs ++ ys) a k here
-stops_in_list ys (Stops.no_part none) = Stops.no_part none
-stops_in_list ys (Stops.no_terminal none) = Stops.no_terminal none
-stops_in_list ys (Stops.too_many is over) = Stops.too_many is over
-stops_in_list ys (Stops.in_part chosen s) = Stops.in_part chosen s
-stops_in_list ys (Stops.after_part chosen w s) = Stops.after_part chosen w (stops_in_list ys s)
-stops_in_list ys (Stops.after_terminal is fits s) = Stops.after_terminal is fits (stops_in_list ys s)
-
-pub refused_in_list : (c : Counts) (xs ys : List Expected) (a : List Placed) (end : Place) (stop : Stop) → IfRefused stop (Refuses c xs a end) → IfRefused stop (Refuses c (xs ++ ys) a end)
-refused_in_list c xs ys a end stop r = on_refused end stop (λ k here s. stops_in_list ys s) r
-
-pub refused_after_list : (c d : Counts) (xs ys : List Expected) (a b : List Placed) (end later : Place) (stop : Stop) →
-    Within c xs a d b → later ≡ end → IfRefused stop (Refuses d ys b later) → IfRefused stop (Refuses c (xs ++ ys) a end)
-refused_after_list c d xs ys a b end later stop w is r = on_refused end stop (λ k here s. stops_after_list w s) (rw is at r)
-
--- a part is read by the two, three or four that it begins with
-pub read_one : (c d e : Counts) (n : Part) (x : Expected) (a b : List Placed) →
-    choose n (next_of a) ≡ Some (x ∷ []) → Within (inside n (next_of a) c) (x ∷ []) a d b → e ≡ outside n c d → Within c (part n ∷ []) a e b
-read_one c d e n x a b chosen w is = rw is (read_part _ _ n _ _ _ chosen w)
-
-pub read_two : (c d e f : Counts) (n : Part) (x y : Expected) (a b g : List Placed) →
-    choose n (next_of a) ≡ Some (x ∷ y ∷ []) → Within (inside n (next_of a) c) (x ∷ []) a d b → Within d (y ∷ []) b e g → f ≡ outside n c e → Within c (part n ∷ []) a f g
-read_two c d e f n x y a b g chosen v w is = rw is (read_part _ _ n _ _ _ chosen (seq v w))
-
-pub read_three : (c d e f h : Counts) (n : Part) (x y z : Expected) (a b g i : List Placed) →
-    choose n (next_of a) ≡ Some (x ∷ y ∷ z ∷ []) → Within (inside n (next_of a) c) (x ∷ []) a d b → Within d (y ∷ []) b e g → Within e (z ∷ []) g f i → h ≡ outside n c f → Within c (part n ∷ []) a h i
-read_three c d e f h n x y z a b g i chosen u v w is = rw is (read_part _ _ n _ _ _ chosen (seq u (seq v w)))
-
--- what stops within a part, at the first of what it begins with, or at a later one
-pub refused_at_first : (c : Counts) (n : Part) (x : Expected) (xs : List Expected) (a : List Placed) (end : Place) (stop : Stop) →
-    choose n (next_of a) ≡ Some (x ∷ xs) → IfRefused stop (Refuses (inside n (next_of a) c) (x ∷ []) a end) → IfRefused stop (Refuses c (part n ∷ []) a end)
-refused_at_first c n x xs a end stop chosen r = refused_part c n _ a end stop chosen (refused_first _ x xs a end stop r)
-
--- what stops later, where the text ends as it did
-pub refused_later : (c d : Counts) (x y : Expected) (ys : List Expected) (a b : List Placed) (end later : Place) (stop : Stop) →
-    Within c (x ∷ []) a d b → later ≡ end → IfRefused stop (Refuses d (y ∷ ys) b later) → IfRefused stop (Refuses c (x ∷ y ∷ ys) a end)
-refused_later c d x y ys a b end later stop w is r = refused_after c d x (y ∷ ys) a b end stop w (rw is at r)
-
-pub refused_at_second : (c d : Counts) (n : Part) (x y : Expected) (ys : List Expected) (a b : List Placed) (end later : Place) (stop : Stop) →
-    choose n (next_of a) ≡ Some (x ∷ y ∷ ys) → Within (inside n (next_of a) c) (x ∷ []) a d b → later ≡ end → IfRefused stop (Refuses d (y ∷ []) b later) →
-    IfRefused stop (Refuses c (part n ∷ []) a end)
-refused_at_second c d n x y ys a b end later stop chosen w is r =
-    refused_part c n _ a end stop chosen (refused_later _ d x y ys a b end later stop w is (refused_first d y ys b later stop r))
-
-pub refused_at_third : (c d e : Counts) (n : Part) (x y z : Expected) (ys : List Expected) (a b g : List Placed) (end first later : Place) (stop : Stop) →
-    choose n (next_of a) ≡ Some (x ∷ y ∷ z ∷ ys) → Within (inside n (next_of a) c) (x ∷ []) a d b → first ≡ end → Within d (y ∷ []) b e g → later ≡ first →
-    IfRefused stop (Refuses e (z ∷ []) g later) → IfRefused stop (Refuses c (part n ∷ []) a end)
-refused_at_third c d e n x y z ys a b g end first later stop chosen v is w same r =
-    refused_part c n _ a end stop chosen
-    (refused_later _ d x y (z ∷ ys) a b end first stop v is
-    (refused_later d e y z ys b g first later stop w same (refused_first e z ys g later stop r)))
+use Rattle.dpj_parse.proofs.InOrder.{next_read, joined_read, few_read, this_one, that_one, both, refused_in_list, refused_after_list, read_one, read_two, read_three, refused_at_first, refused_later, refused_at_second, refused_at_third, Onward, onward_more, onward_refused, onward_end, IsMore, listed_on, listed_end, listed_at_comma, listed_at_item, after_first}
 
 -- "[" within "]"
 pub index_reads : {c d e f : Counts} {a b g i : List Placed} →
@@ -171,35 +83,7 @@ pub within_at_name : (c : Counts) (a : List Placed) (end : Place) (stop : Stop) 
     IfRefused stop (Refuses c (one is_name ∷ []) a end) → IfRefused stop (Refuses c (part Part.within ∷ []) a end)
 within_at_name c a end stop no_int no_question r = refused_at_first c Part.within _ _ a end stop (within_name a no_int no_question) r
 
--- what is expected at a place leads to what is expected at a later one
-pub record Onward (c : Counts) (xs : List Expected) (a : List Placed) (d : Counts) (ys : List Expected) (b : List Placed) : Type 0 where
-  pub reads : (e : Counts) (after : List Placed) → Within d ys b e after → Within c xs a e after
-  pub stops : (k : Kind) (here : List Placed) → Stops d ys b k here → Stops c xs a k here
-
--- a part that repeats itself goes on behind one of its items
-pub onward_more : {c d e : Counts} {xs : List Expected} (ys : List Expected) {a b g : List Placed} (m : Part) → Onward c xs a d (part m ∷ []) b →
-    choose m (next_of b) ≡ Some (ys ++ part m ∷ []) → Within (inside m (next_of b) d) ys b e g → ((f : Counts) → outside m d f ≡ f) → Onward c xs a e (part m ∷ []) g
-onward_more {d = d} ys m so_far chosen w leaves = record {
-  reads = λ f after v. so_far.reads f after (rw (leaves f) at (read_part _ _ m _ _ _ chosen (both w v)));
-  stops = λ k here s. so_far.stops k here (in_part chosen (stops_after_list w s));
-}
-
-pub onward_refused : (c d : Counts) (xs ys : List Expected) (a b : List Placed) (end later : Place) (stop : Stop) → Onward c xs a d ys b → later ≡ end →
-    IfRefused stop (Refuses d ys b later) → IfRefused stop (Refuses c xs a end)
-onward_refused c d xs ys a b end later stop so_far is r = on_refused end stop so_far.stops (rw is at r)
-
--- it may end where no more comes
-pub onward_end : {c d e : Counts} {xs : List Expected} {a b g : List Placed} (m : Part) → Onward c xs a d (part m ∷ []) b → choose m (next_of b) ≡ Some [] →
-    inside m (next_of b) d ≡ d → ((f : Counts) → outside m d f ≡ f) → e ≡ d → g ≡ b → Within c xs a e g
-onward_end {d = d} {b = b} m so_far chosen enters leaves same at =
-    rw (same, at) (so_far.reads d b (rw (leaves d) at (read_part d d m [] b b chosen (rw enters nothing))))
-
 -- { "," X }
-pub record IsMore (m : Part) (x : Expected) : Type 0 where
-  pub chooses : (next : Option Placed) → choose m next ≡ Some (cond (next_is is_comma next) (one is_comma ∷ x ∷ part m ∷ []) [])
-  pub enters : (next : Option Placed) (c : Counts) → inside m next c ≡ c
-  pub leaves : (c d : Counts) → outside m c d ≡ d
-
 pub more_names : IsMore Part.more_names (one is_name)
 more_names = record { chooses = λ next. refl; enters = λ next c. refl; leaves = λ c d. refl }
 
@@ -208,29 +92,6 @@ more_paths = record { chooses = λ next. refl; enters = λ next c. refl; leaves 
 
 pub more_constraints : IsMore Part.more_constraints (part Part.constraint)
 more_constraints = record { chooses = λ next. refl; enters = λ next c. refl; leaves = λ c d. refl }
-
-pub listed_on : {c d e f : Counts} {xs : List Expected} {a b g i : List Placed} {m : Part} {x : Expected} → IsMore m x → Onward c xs a d (part m ∷ []) b →
-    Within d (one is_comma ∷ []) b e g → Within e (x ∷ []) g f i → Onward c xs a f (part m ∷ []) i
-listed_on {d = d} {b = b} {m = m} {x = x} is so_far comma item =
-    onward_more (one is_comma ∷ x ∷ []) m so_far (rw (is.chooses (next_of b)) (this_one _ _ (next_read comma))) (rw (is.enters (next_of b) d) (seq comma item)) (is.leaves d)
-
-listed_end : {c d e : Counts} {xs : List Expected} {a b g : List Placed} {m : Part} {x : Expected} → IsMore m x → Onward c xs a d (part m ∷ []) b →
-    (Next (terminal.Symbol Symbol.Comma) b → ⊥) → e ≡ d → g ≡ b → Within c xs a e g
-listed_end {d = d} {b = b} {m = m} is so_far none same at =
-    onward_end m so_far (rw (is.chooses (next_of b)) (that_one _ _ (symbol_comes_not Symbol.Comma b none))) (is.enters (next_of b) d) (is.leaves d) same at
-
-listed_at_comma : (c d : Counts) (xs : List Expected) (a b : List Placed) (end later : Place) (stop : Stop) (m : Part) (x : Expected) → IsMore m x →
-    Onward c xs a d (part m ∷ []) b → later ≡ end → Next (terminal.Symbol Symbol.Comma) b → IfRefused stop (Refuses d (one is_comma ∷ []) b later) → IfRefused stop (Refuses c xs a end)
-listed_at_comma c d xs a b end later stop m x is so_far same n r =
-    onward_refused c d xs _ a b end later stop so_far same
-    (refused_at_first d m (one is_comma) (x ∷ part m ∷ []) b later stop (rw (is.chooses (next_of b)) (this_one _ _ (next_comes Symbol.Comma b n))) (rw (is.enters (next_of b) d) r))
-
-listed_at_item : (c d e : Counts) (xs : List Expected) (a b g : List Placed) (end first later : Place) (stop : Stop) (m : Part) (x : Expected) → IsMore m x →
-    Onward c xs a d (part m ∷ []) b → first ≡ end → Within d (one is_comma ∷ []) b e g → later ≡ first → IfRefused stop (Refuses e (x ∷ []) g later) →
-    IfRefused stop (Refuses c xs a end)
-listed_at_item c d e xs a b g end first later stop m x is so_far same comma at r =
-    onward_refused c d xs _ a b end first stop so_far same
-    (refused_at_second d e m (one is_comma) x (part m ∷ []) b g first later stop (rw (is.chooses (next_of b)) (this_one _ _ (next_read comma))) (rw (is.enters (next_of b) d) comma) at r)
 
 pub names_end : {c d e : Counts} {a b g : List Placed} → Onward c (part Part.names ∷ []) a d (part Part.more_names ∷ []) b → (Next (terminal.Symbol Symbol.Comma) b → ⊥) → e ≡ d → g ≡ b →
     Within c (part Part.names ∷ []) a e g
@@ -277,9 +138,6 @@ names_begin w = record {
 pub names_at_first : (c : Counts) (a : List Placed) (end : Place) (stop : Stop) → IfRefused stop (Refuses c (one is_name ∷ []) a end) →
     IfRefused stop (Refuses c (part Part.names ∷ []) a end)
 names_at_first c a end stop r = refused_at_first c Part.names _ _ a end stop refl r
-
-pub after_first : {c d : Counts} {x y : Expected} {a b : List Placed} → Within c (x ∷ []) a d b → Onward c (x ∷ y ∷ []) a d (y ∷ []) b
-after_first w = record { reads = λ e after v. seq w v; stops = λ k here s. stops_after w s }
 
 pub paths_at_first : (c : Counts) (a : List Placed) (end : Place) (stop : Stop) → IfRefused stop (Refuses c (part Part.path ∷ []) a end) →
     IfRefused stop (Refuses c (part Part.path ∷ part Part.more_paths ∷ []) a end)
@@ -602,3 +460,44 @@ begins_region here n = rw (n.takes.takes.first) refl
 pub begins_no_kind : (here : List Placed) → (Next (terminal.Keyword Keyword.Atomic) here → ⊥) → (Next (terminal.Keyword Keyword.Region) here → ⊥) →
     false ≡ (next_is is_atomic (next_of here) || next_is is_region (next_of here))
 begins_no_kind here no_atomic no_region = rw (keyword_comes_not Keyword.Atomic here no_atomic, keyword_comes_not Keyword.Region here no_region) refl
+
+-- what each function reads and refuses
+pub ruleset names_reading = (more_names, listed_on, names_end, names_at_comma, names_at_item, names_begin, names_at_first)
+
+pub ruleset region_name_reading = (region_name_alone, region_name_second, region_name_at_first, region_name_at_dot, region_name_at_second, few_read)
+
+pub ruleset rpl_reading = (path_reads, path_at_head, path_at_elems)
+
+pub ruleset head_reading = (head_reads_root, head_reads_name, head_at_root, head_at_name, few_read)
+
+pub ruleset elems_reading = (elems_begin, elems_on, elems_end, elems_at_colon, elems_at_elem, few_read)
+
+pub ruleset elem_reading = (elem_reads_star, elem_reads_brackets, elem_reads_name, elem_at_star, elem_at_brackets, elem_at_name)
+
+pub ruleset index_reading = (index_reads, index_at_open, index_at_within, index_at_close, few_read)
+
+pub ruleset within_reading = (within_reads_number, within_reads_question, within_reads_name, within_halts_number, within_halts_question, within_at_name)
+
+pub ruleset args_if_reading = (args_none, args_some, args_if_at)
+
+pub ruleset args_reading = (args_reads, args_at_open, args_at_paths, args_at_close, joined_read)
+
+pub ruleset paths_reading = (more_paths, after_first, listed_on, paths_end, paths_at_comma, paths_at_item, paths_at_first, joined_read)
+
+pub ruleset params_if_reading = (params_none, params_some, params_if_at)
+
+pub ruleset params_reading = (params_reads, params_at_open, params_at_declared, params_at_given, params_at_close)
+
+pub ruleset declared_reading = (declared_begin, declared_at_kind, declared_at_name, declared_on, declared_end, declared_at_comma, declared_at_next_kind, declared_at_next_name)
+
+pub ruleset begins_kind_reading = (begins_atomic, begins_region, begins_no_kind)
+
+pub ruleset kind_reading = (kind_plain, kind_atomic, kind_at_atomic, kind_at_region, kind_at_region_after)
+
+pub ruleset kind_or_reading = (kind_if_none, kind_if_some, kind_if_at)
+
+pub ruleset given_reading = (given_none, given_some, given_at_bar, given_at_constraints)
+
+pub ruleset constraints_reading = (more_constraints, after_first, listed_on, constraints_end, constraints_at_comma, constraints_at_item, constraints_at_first)
+
+pub ruleset constraint_reading = (constraint_reads, constraint_at_left, constraint_at_hash, constraint_at_right)

@@ -15,7 +15,7 @@ use Rattle.dpj_parse.specs.Limits.{Counts, Fits, anew, inside, more, Within, not
 use Rattle.dpj_parse.specs.Counted.{Halts}
 use Rattle.dpj_parse.proofs.Composed.{seq, read_part}
 use Rattle.dpj_parse.proofs.Coming.{read_any, symbol_comes_not, next_comes, comes_next, halted_keyword}
-use Rattle.dpj_parse.proofs.PathParts.{next_read, this_one, that_one, read_one, read_two, read_three, refused_at_first, refused_at_second, refused_at_third, Onward, onward_more, onward_refused, onward_end}
+use Rattle.dpj_parse.proofs.InOrder.{few_read, joined_read, next_read, this_one, that_one, read_one, read_two, read_three, refused_at_first, refused_at_second, refused_at_third, Onward, onward_more, onward_refused, onward_end}
 
 -- a type counts anew
 pub type_reads : {c d e f : Counts} {a b g : List Placed} → Within (anew c) (part Part.base ∷ []) a d b → Within d (part Part.suffixes ∷ []) b e g →
@@ -167,3 +167,16 @@ index_if_at_hash c a end stop n r = refused_at_first c Part.index_if _ _ a end s
 pub index_if_at_name : (c d : Counts) (a b : List Placed) (end later : Place) (stop : Stop) → Within c (one is_hash ∷ []) a d b → later ≡ end →
     IfRefused stop (Refuses d (one is_name ∷ []) b later) → IfRefused stop (Refuses c (part Part.index_if ∷ []) a end)
 index_if_at_name c d a b end later stop w is r = refused_at_second c d Part.index_if _ _ _ a b end later stop (this_one _ _ (next_read w)) w is r
+
+-- what each function reads and refuses
+pub ruleset ty_reading = (type_reads, type_at_base, type_at_suffixes)
+
+pub ruleset base_reading = (base_reads_int, base_reads_boolean, base_reads_class, base_halts_int, base_halts_boolean, base_at_name, base_at_args, joined_read)
+
+pub ruleset suffixes_reading = (suffixes_begin, suffixes_on, suffixes_end, suffixes_at_open, suffixes_at_close, suffixes_at_rest, few_read)
+
+pub ruleset behind_brackets_reading = (after_brackets_reads, after_brackets_at_region, after_brackets_at_index)
+
+pub ruleset region_if_reading = (region_if_none, region_if_some, region_if_at_open, region_if_at_path, region_if_at_close, joined_read)
+
+pub ruleset index_if_reading = (index_if_none, index_if_some, index_if_at_hash, index_if_at_name, joined_read)

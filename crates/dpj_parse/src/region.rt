@@ -15,7 +15,7 @@ use dpj_tree::{ConstrTree, ElemTree, Named, ParamTree, Params, RName, RplHead, R
 use std::alloc::Global;
 
 /// `Name { "," Name }`
-#[tactic(auto, using(crate::proofs::Lists::listed_more, crate::specs::Taking::last, crate::proofs::PathParts::more_names, crate::proofs::PathParts::listed_on, crate::proofs::PathParts::names_end, crate::proofs::PathParts::names_at_comma, crate::proofs::PathParts::names_at_item, crate::proofs::PathParts::names_begin, crate::proofs::PathParts::names_at_first))]
+#[tactic(auto, using(crate::proofs::Lists::listed_more, crate::specs::Taking::last, crate::proofs::PathParts::names_reading))]
 pub fn names(alloc: Global, cursor: &mut Cursor) -> Result<Items<Named>, Stop>
     ensures moves { OnOk result (Reads cursor.old cursor.new) }
     ensures reads { OnOk result (Reading (part Part.names ∷ []) cursor.old cursor.new) }
@@ -31,7 +31,7 @@ pub fn names(alloc: Global, cursor: &mut Cursor) -> Result<Items<Named>, Stop>
 }
 
 /// `RName = Name [ "." Name ]`
-#[tactic(auto, using(crate::specs::Paths::one_name, crate::proofs::Regions::second_name, crate::proofs::PathParts::region_name_alone, crate::proofs::PathParts::region_name_second, crate::proofs::PathParts::region_name_at_first, crate::proofs::PathParts::region_name_at_dot, crate::proofs::PathParts::region_name_at_second, crate::proofs::PathParts::few_read))]
+#[tactic(auto, using(crate::specs::Paths::one_name, crate::proofs::Regions::second_name, crate::proofs::PathParts::region_name_reading))]
 fn region_name(cursor: &mut Cursor) -> Result<RName, Stop>
     ensures few { OnOk result (cursor.new.joined ≤ 32) }
     ensures moves { OnOk result (Reads cursor.old cursor.new) }
@@ -49,7 +49,7 @@ fn region_name(cursor: &mut Cursor) -> Result<RName, Stop>
 }
 
 /// `Rpl = ( "Root" | RName ) { ":" Elem }`
-#[tactic(auto, using(crate::specs::Paths::path, crate::proofs::PathParts::path_reads, crate::proofs::PathParts::path_at_head, crate::proofs::PathParts::path_at_elems))]
+#[tactic(auto, using(crate::specs::Paths::path, crate::proofs::PathParts::rpl_reading))]
 pub fn rpl(alloc: Global, cursor: &mut Cursor) -> Result<RplTree, Stop>
     ensures same { OnOk result (cursor.new.joined ≡ cursor.old.joined) }
     ensures moves { OnOk result (Reads cursor.old cursor.new) }
@@ -66,7 +66,7 @@ pub fn rpl(alloc: Global, cursor: &mut Cursor) -> Result<RplTree, Stop>
     Ok(RplTree { place, head, elems })
 }
 
-#[tactic(auto, using(crate::proofs::Regions::head_root, crate::proofs::Regions::head_name, crate::proofs::PathParts::head_reads_root, crate::proofs::PathParts::head_reads_name, crate::proofs::PathParts::head_at_root, crate::proofs::PathParts::head_at_name, crate::proofs::PathParts::few_read))]
+#[tactic(auto, using(crate::proofs::Regions::head_root, crate::proofs::Regions::head_name, crate::proofs::PathParts::head_reading))]
 fn head(cursor: &mut Cursor) -> Result<RplHead, Stop>
     ensures few { OnOk result (cursor.new.joined ≤ 32) }
     ensures moves { OnOk result (Reads cursor.old cursor.new) }
@@ -81,7 +81,7 @@ fn head(cursor: &mut Cursor) -> Result<RplHead, Stop>
 }
 
 /// `{ ":" Elem }`
-#[tactic(auto, using(crate::proofs::Lists::many_more, crate::specs::Taking::none, crate::proofs::Regions::next_elem, crate::proofs::PathParts::elems_begin, crate::proofs::PathParts::elems_on, crate::proofs::PathParts::elems_end, crate::proofs::PathParts::elems_at_colon, crate::proofs::PathParts::elems_at_elem, crate::proofs::PathParts::few_read))]
+#[tactic(auto, using(crate::proofs::Lists::many_more, crate::specs::Taking::none, crate::proofs::Regions::next_elem, crate::proofs::PathParts::elems_reading))]
 fn elems(alloc: Global, cursor: &mut Cursor) -> Result<Items<ElemTree>, Stop>
     requires { cursor.old.joined ≤ 32 }
     ensures moves { OnOk result (Keeps cursor.old cursor.new) }
@@ -97,7 +97,7 @@ fn elems(alloc: Global, cursor: &mut Cursor) -> Result<Items<ElemTree>, Stop>
 }
 
 /// `Elem = RName | "*" | "[" ( Int | Name | "?" ) "]"`, one more of its path
-#[tactic(auto, using(crate::proofs::Regions::elem_star, crate::proofs::Regions::elem_name, crate::proofs::PathParts::elem_reads_star, crate::proofs::PathParts::elem_reads_brackets, crate::proofs::PathParts::elem_reads_name, crate::proofs::PathParts::elem_at_star, crate::proofs::PathParts::elem_at_brackets, crate::proofs::PathParts::elem_at_name))]
+#[tactic(auto, using(crate::proofs::Regions::elem_star, crate::proofs::Regions::elem_name, crate::proofs::PathParts::elem_reading))]
 fn elem(cursor: &mut Cursor) -> Result<ElemTree, Stop>
     requires { cursor.old.joined ≤ 32 }
     ensures few { OnOk result (cursor.new.joined ≤ 32) }
@@ -118,7 +118,7 @@ fn elem(cursor: &mut Cursor) -> Result<ElemTree, Stop>
 }
 
 /// `"[" ( Int | Name | "?" ) "]"`
-#[tactic(auto, using(crate::proofs::Regions::elem_within, crate::proofs::PathParts::index_reads, crate::proofs::PathParts::index_at_open, crate::proofs::PathParts::index_at_within, crate::proofs::PathParts::index_at_close, crate::proofs::PathParts::few_read))]
+#[tactic(auto, using(crate::proofs::Regions::elem_within, crate::proofs::PathParts::index_reading))]
 fn index(cursor: &mut Cursor) -> Result<ElemTree, Stop>
     ensures few { OnOk result (cursor.new.joined ≤ 32) }
     ensures moves { OnOk result (Reads cursor.old cursor.new) }
@@ -133,7 +133,7 @@ fn index(cursor: &mut Cursor) -> Result<ElemTree, Stop>
 }
 
 /// `Int | Name | "?"`
-#[tactic(auto, using(crate::specs::Paths::index, crate::proofs::Regions::within_number, crate::proofs::Regions::within_any, crate::proofs::PathParts::within_reads_number, crate::proofs::PathParts::within_reads_question, crate::proofs::PathParts::within_reads_name, crate::proofs::PathParts::within_halts_number, crate::proofs::PathParts::within_halts_question, crate::proofs::PathParts::within_at_name))]
+#[tactic(auto, using(crate::specs::Paths::index, crate::proofs::Regions::within_number, crate::proofs::Regions::within_any, crate::proofs::PathParts::within_reading))]
 fn within(cursor: &mut Cursor) -> Result<ElemTree, Stop>
     ensures moves { OnOk result (Reads cursor.old cursor.new) }
     ensures reads { OnOk result (Reading (part Part.within ∷ []) cursor.old cursor.new) }
@@ -154,7 +154,7 @@ fn within(cursor: &mut Cursor) -> Result<ElemTree, Stop>
 }
 
 /// `[ Args ]`
-#[tactic(auto, using(crate::specs::Paths::no_args, crate::proofs::PathParts::args_none, crate::proofs::PathParts::args_some, crate::proofs::PathParts::args_if_at))]
+#[tactic(auto, using(crate::specs::Paths::no_args, crate::proofs::PathParts::args_if_reading))]
 pub fn args_if(alloc: Global, cursor: &mut Cursor) -> Result<Items<RplTree>, Stop>
     ensures same { OnOk result (cursor.new.joined ≡ cursor.old.joined) }
     ensures moves { OnOk result (Keeps cursor.old cursor.new) }
@@ -169,7 +169,7 @@ pub fn args_if(alloc: Global, cursor: &mut Cursor) -> Result<Items<RplTree>, Sto
 }
 
 /// `Args = "<" Rpl { "," Rpl } ">"`
-#[tactic(auto, using(crate::specs::Paths::args, crate::proofs::PathParts::args_reads, crate::proofs::PathParts::args_at_open, crate::proofs::PathParts::args_at_paths, crate::proofs::PathParts::args_at_close, crate::proofs::PathParts::joined_read))]
+#[tactic(auto, using(crate::specs::Paths::args, crate::proofs::PathParts::args_reading))]
 pub fn args(alloc: Global, cursor: &mut Cursor) -> Result<Items<RplTree>, Stop>
     ensures same { OnOk result (cursor.new.joined ≡ cursor.old.joined) }
     ensures moves { OnOk result (Reads cursor.old cursor.new) }
@@ -184,7 +184,7 @@ pub fn args(alloc: Global, cursor: &mut Cursor) -> Result<Items<RplTree>, Stop>
 }
 
 /// `Rpl { "," Rpl }`
-#[tactic(auto, using(crate::proofs::Lists::listed_more, crate::specs::Taking::last, crate::proofs::PathParts::more_paths, crate::proofs::PathParts::after_first, crate::proofs::PathParts::listed_on, crate::proofs::PathParts::paths_end, crate::proofs::PathParts::paths_at_comma, crate::proofs::PathParts::paths_at_item, crate::proofs::PathParts::paths_at_first, crate::proofs::PathParts::joined_read))]
+#[tactic(auto, using(crate::proofs::Lists::listed_more, crate::specs::Taking::last, crate::proofs::PathParts::paths_reading))]
 fn paths(alloc: Global, cursor: &mut Cursor) -> Result<Items<RplTree>, Stop>
     ensures same { OnOk result (cursor.new.joined ≡ cursor.old.joined) }
     ensures moves { OnOk result (Reads cursor.old cursor.new) }
@@ -201,7 +201,7 @@ fn paths(alloc: Global, cursor: &mut Cursor) -> Result<Items<RplTree>, Stop>
 }
 
 /// `[ Params ]`
-#[tactic(auto, using(crate::specs::Classes::no_params, crate::proofs::PathParts::params_none, crate::proofs::PathParts::params_some, crate::proofs::PathParts::params_if_at))]
+#[tactic(auto, using(crate::specs::Classes::no_params, crate::proofs::PathParts::params_if_reading))]
 pub fn params_if(alloc: Global, cursor: &mut Cursor) -> Result<Params, Stop>
     ensures moves { OnOk result (Keeps cursor.old cursor.new) }
     ensures reads { OnOk result (Reading (part Part.params_if ∷ []) cursor.old cursor.new) }
@@ -225,7 +225,7 @@ pub fn no_params(alloc: Global) -> Params
 }
 
 /// `Params = "<" Kind Name { "," [ Kind ] Name } [ "|" Constr { "," Constr } ] ">"`
-#[tactic(auto, using(crate::specs::Classes::params, crate::proofs::PathParts::params_reads, crate::proofs::PathParts::params_at_open, crate::proofs::PathParts::params_at_declared, crate::proofs::PathParts::params_at_given, crate::proofs::PathParts::params_at_close))]
+#[tactic(auto, using(crate::specs::Classes::params, crate::proofs::PathParts::params_reading))]
 fn params(alloc: Global, cursor: &mut Cursor) -> Result<Params, Stop>
     ensures moves { OnOk result (Reads cursor.old cursor.new) }
     ensures reads { OnOk result (Reading (part Part.params ∷ []) cursor.old cursor.new) }
@@ -240,7 +240,7 @@ fn params(alloc: Global, cursor: &mut Cursor) -> Result<Params, Stop>
 }
 
 /// `Kind Name { "," [ Kind ] Name }`: a bare name has the kind of the one before it.
-#[tactic(auto, using(crate::proofs::Regions::declares_first, crate::proofs::Regions::declares_more, crate::proofs::Regions::declares_done, crate::proofs::PathParts::declared_begin, crate::proofs::PathParts::declared_at_kind, crate::proofs::PathParts::declared_at_name, crate::proofs::PathParts::declared_on, crate::proofs::PathParts::declared_end, crate::proofs::PathParts::declared_at_comma, crate::proofs::PathParts::declared_at_next_kind, crate::proofs::PathParts::declared_at_next_name))]
+#[tactic(auto, using(crate::proofs::Regions::declares_first, crate::proofs::Regions::declares_more, crate::proofs::Regions::declares_done, crate::proofs::PathParts::declared_reading))]
 fn declared(alloc: Global, cursor: &mut Cursor) -> Result<Items<ParamTree>, Stop>
     ensures moves { OnOk result (Reads cursor.old cursor.new) }
     ensures reads { OnOk result (Reading (part Part.kind ∷ one is_name ∷ part Part.more_declared ∷ []) cursor.old cursor.new) }
@@ -273,7 +273,7 @@ fn param(cursor: &mut Cursor, atomic: bool) -> Result<ParamTree, Stop>
 }
 
 /// Whether `atomic` or `region` comes next.
-#[tactic(auto, using(crate::proofs::PathParts::begins_atomic, crate::proofs::PathParts::begins_region, crate::proofs::PathParts::begins_no_kind))]
+#[tactic(auto, using(crate::proofs::PathParts::begins_kind_reading))]
 pub fn begins_kind(cursor: &Cursor) -> bool
     ensures { result ≡ (next_is is_atomic (next_of cursor.now.rest.now) || next_is is_region (next_of cursor.now.rest.now)) }
 {
@@ -281,7 +281,7 @@ pub fn begins_kind(cursor: &Cursor) -> bool
 }
 
 /// `Kind = [ "atomic" ] "region"`: whether it is atomic.
-#[tactic(auto, using(crate::proofs::Regions::kind_of, crate::proofs::PathParts::kind_plain, crate::proofs::PathParts::kind_atomic, crate::proofs::PathParts::kind_at_atomic, crate::proofs::PathParts::kind_at_region, crate::proofs::PathParts::kind_at_region_after))]
+#[tactic(auto, using(crate::proofs::Regions::kind_of, crate::proofs::PathParts::kind_reading))]
 pub fn kind(cursor: &mut Cursor) -> Result<bool, Stop>
     ensures moves { OnOk result (Reads cursor.old cursor.new) }
     ensures reads { OnOk result (Reading (part Part.kind ∷ []) cursor.old cursor.new) }
@@ -294,7 +294,7 @@ pub fn kind(cursor: &mut Cursor) -> Result<bool, Stop>
 }
 
 /// `[ Kind ]`: whether it is atomic, or the one before it.
-#[tactic(auto, using(crate::specs::Classes::same, crate::specs::Classes::other, crate::proofs::PathParts::kind_if_none, crate::proofs::PathParts::kind_if_some, crate::proofs::PathParts::kind_if_at))]
+#[tactic(auto, using(crate::specs::Classes::same, crate::specs::Classes::other, crate::proofs::PathParts::kind_or_reading))]
 fn kind_or(cursor: &mut Cursor, earlier: bool) -> Result<bool, Stop>
     ensures moves { OnOk result (Keeps cursor.old cursor.new) }
     ensures reads { OnOk result (Reading (part Part.kind_if ∷ []) cursor.old cursor.new) }
@@ -308,7 +308,7 @@ fn kind_or(cursor: &mut Cursor, earlier: bool) -> Result<bool, Stop>
 }
 
 /// `[ "|" Constr { "," Constr } ]`
-#[tactic(auto, using(crate::specs::Classes::nothing_given, crate::proofs::Regions::given_behind, crate::proofs::PathParts::given_none, crate::proofs::PathParts::given_some, crate::proofs::PathParts::given_at_bar, crate::proofs::PathParts::given_at_constraints))]
+#[tactic(auto, using(crate::specs::Classes::nothing_given, crate::proofs::Regions::given_behind, crate::proofs::PathParts::given_reading))]
 fn given(alloc: Global, cursor: &mut Cursor) -> Result<Items<ConstrTree>, Stop>
     ensures moves { OnOk result (Keeps cursor.old cursor.new) }
     ensures reads { OnOk result (Reading (part Part.given ∷ []) cursor.old cursor.new) }
@@ -322,7 +322,7 @@ fn given(alloc: Global, cursor: &mut Cursor) -> Result<Items<ConstrTree>, Stop>
 }
 
 /// `Constr { "," Constr }`
-#[tactic(auto, using(crate::proofs::Lists::listed_more, crate::specs::Taking::last, crate::proofs::PathParts::more_constraints, crate::proofs::PathParts::after_first, crate::proofs::PathParts::listed_on, crate::proofs::PathParts::constraints_end, crate::proofs::PathParts::constraints_at_comma, crate::proofs::PathParts::constraints_at_item, crate::proofs::PathParts::constraints_at_first))]
+#[tactic(auto, using(crate::proofs::Lists::listed_more, crate::specs::Taking::last, crate::proofs::PathParts::constraints_reading))]
 fn constraints(alloc: Global, cursor: &mut Cursor) -> Result<Items<ConstrTree>, Stop>
     ensures moves { OnOk result (Reads cursor.old cursor.new) }
     ensures reads { OnOk result (Reading (part Part.constraint ∷ part Part.more_constraints ∷ []) cursor.old cursor.new) }
@@ -338,7 +338,7 @@ fn constraints(alloc: Global, cursor: &mut Cursor) -> Result<Items<ConstrTree>, 
 }
 
 /// `Constr = Rpl "#" Rpl`
-#[tactic(auto, using(crate::specs::Classes::constraint, crate::proofs::PathParts::constraint_reads, crate::proofs::PathParts::constraint_at_left, crate::proofs::PathParts::constraint_at_hash, crate::proofs::PathParts::constraint_at_right))]
+#[tactic(auto, using(crate::specs::Classes::constraint, crate::proofs::PathParts::constraint_reading))]
 fn constraint(alloc: Global, cursor: &mut Cursor) -> Result<ConstrTree, Stop>
     ensures moves { OnOk result (Reads cursor.old cursor.new) }
     ensures reads { OnOk result (Reading (part Part.constraint ∷ []) cursor.old cursor.new) }

@@ -14,7 +14,7 @@ use dpj_tree::{BaseTree, Named, RplTree, Suffix, TypeTree};
 use std::alloc::Global;
 
 /// `Type = Base { "[" "]" [ "<" Rpl ">" ] [ "#" Name ] }`
-#[tactic(auto, using(crate::specs::Types::type_of, crate::proofs::TypeParts::type_reads, crate::proofs::TypeParts::type_at_base, crate::proofs::TypeParts::type_at_suffixes))]
+#[tactic(auto, using(crate::specs::Types::type_of, crate::proofs::TypeParts::ty_reading))]
 pub fn ty(alloc: Global, cursor: &mut Cursor) -> Result<TypeTree, Stop>
     ensures moves { OnOk result (Reads cursor.old cursor.new) }
     ensures reads { OnOk result (Reading (part Part.type ∷ []) cursor.old cursor.new) }
@@ -35,7 +35,7 @@ pub fn ty(alloc: Global, cursor: &mut Cursor) -> Result<TypeTree, Stop>
 }
 
 /// `Base = "int" | "boolean" | Name [ Args ]`
-#[tactic(auto, using(crate::proofs::TypeForms::base_int, crate::proofs::TypeForms::base_boolean, crate::specs::Types::class, crate::proofs::TypeParts::base_reads_int, crate::proofs::TypeParts::base_reads_boolean, crate::proofs::TypeParts::base_reads_class, crate::proofs::TypeParts::base_halts_int, crate::proofs::TypeParts::base_halts_boolean, crate::proofs::TypeParts::base_at_name, crate::proofs::TypeParts::base_at_args, crate::proofs::PathParts::joined_read))]
+#[tactic(auto, using(crate::proofs::TypeForms::base_int, crate::proofs::TypeForms::base_boolean, crate::specs::Types::class, crate::proofs::TypeParts::base_reading))]
 pub fn base(alloc: Global, cursor: &mut Cursor) -> Result<BaseTree, Stop>
     ensures same { OnOk result (cursor.new.joined ≡ cursor.old.joined) }
     ensures moves { OnOk result (Reads cursor.old cursor.new) }
@@ -61,7 +61,7 @@ pub fn base(alloc: Global, cursor: &mut Cursor) -> Result<BaseTree, Stop>
 }
 
 /// `{ "[" "]" [ "<" Rpl ">" ] [ "#" Name ] }`
-#[tactic(auto, using(crate::proofs::Lists::many_more, crate::specs::Taking::none, crate::proofs::TypeForms::suffix_of, crate::proofs::TypeParts::suffixes_begin, crate::proofs::TypeParts::suffixes_on, crate::proofs::TypeParts::suffixes_end, crate::proofs::TypeParts::suffixes_at_open, crate::proofs::TypeParts::suffixes_at_close, crate::proofs::TypeParts::suffixes_at_rest, crate::proofs::PathParts::few_read))]
+#[tactic(auto, using(crate::proofs::Lists::many_more, crate::specs::Taking::none, crate::proofs::TypeForms::suffix_of, crate::proofs::TypeParts::suffixes_reading))]
 fn suffixes(alloc: Global, cursor: &mut Cursor) -> Result<Items<Suffix>, Stop>
     requires { cursor.old.joined ≤ 32 }
     ensures moves { OnOk result (Keeps cursor.old cursor.new) }
@@ -79,7 +79,7 @@ fn suffixes(alloc: Global, cursor: &mut Cursor) -> Result<Items<Suffix>, Stop>
 }
 
 /// `[ "<" Rpl ">" ] [ "#" Name ]`
-#[tactic(auto, using(crate::specs::Types::behind, crate::proofs::TypeParts::after_brackets_reads, crate::proofs::TypeParts::after_brackets_at_region, crate::proofs::TypeParts::after_brackets_at_index))]
+#[tactic(auto, using(crate::specs::Types::behind, crate::proofs::TypeParts::behind_brackets_reading))]
 pub fn behind_brackets(alloc: Global, cursor: &mut Cursor) -> Result<Suffix, Stop>
     ensures same { OnOk result (cursor.new.joined ≡ cursor.old.joined) }
     ensures moves { OnOk result (Keeps cursor.old cursor.new) }
@@ -93,7 +93,7 @@ pub fn behind_brackets(alloc: Global, cursor: &mut Cursor) -> Result<Suffix, Sto
 }
 
 /// `[ "<" Rpl ">" ]`
-#[tactic(auto, using(crate::proofs::TypeForms::region_none, crate::proofs::TypeForms::region_some, crate::proofs::TypeParts::region_if_none, crate::proofs::TypeParts::region_if_some, crate::proofs::TypeParts::region_if_at_open, crate::proofs::TypeParts::region_if_at_path, crate::proofs::TypeParts::region_if_at_close, crate::proofs::PathParts::joined_read))]
+#[tactic(auto, using(crate::proofs::TypeForms::region_none, crate::proofs::TypeForms::region_some, crate::proofs::TypeParts::region_if_reading))]
 fn region_if(alloc: Global, cursor: &mut Cursor) -> Result<Option<RplTree>, Stop>
     ensures same { OnOk result (cursor.new.joined ≡ cursor.old.joined) }
     ensures moves { OnOk result (Keeps cursor.old cursor.new) }
@@ -110,7 +110,7 @@ fn region_if(alloc: Global, cursor: &mut Cursor) -> Result<Option<RplTree>, Stop
 }
 
 /// `[ "#" Name ]`
-#[tactic(auto, using(crate::proofs::TypeForms::index_none, crate::proofs::TypeForms::index_some, crate::proofs::TypeParts::index_if_none, crate::proofs::TypeParts::index_if_some, crate::proofs::TypeParts::index_if_at_hash, crate::proofs::TypeParts::index_if_at_name, crate::proofs::PathParts::joined_read))]
+#[tactic(auto, using(crate::proofs::TypeForms::index_none, crate::proofs::TypeForms::index_some, crate::proofs::TypeParts::index_if_reading))]
 fn index_if(cursor: &mut Cursor) -> Result<Option<Named>, Stop>
     ensures same { OnOk result (cursor.new.joined ≡ cursor.old.joined) }
     ensures moves { OnOk result (Keeps cursor.old cursor.new) }

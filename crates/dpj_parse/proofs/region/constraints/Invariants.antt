@@ -4,7 +4,7 @@ use Rattle.dpj_parse.specs.Expecting.{Part, part}
 use Rattle.dpj_parse.specs.Progress.{Reads}
 use Rattle.dpj_parse.specs.Taking.{Listed}
 use Rattle.dpj_parse.specs.Classes.{DerivesConstr}
-use Rattle.dpj_parse.proofs.PathParts.{Onward}
+use Rattle.dpj_parse.proofs.InOrder.{Onward}
 use Rattle.dpj_parse.proofs.region.constraints.Given as goal
 
 abbrev pub invariant-loop-given : goal.invariant-loop-given

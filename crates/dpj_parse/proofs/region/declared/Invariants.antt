@@ -4,7 +4,7 @@ use Rattle.dpj_parse.specs.Expecting.{Part, one, part}
 use Rattle.dpj_parse.specs.Progress.{Reads}
 use Rattle.dpj_parse.specs.Words.{is_name}
 use Rattle.dpj_parse.proofs.Regions.{Declares}
-use Rattle.dpj_parse.proofs.PathParts.{Onward}
+use Rattle.dpj_parse.proofs.InOrder.{Onward}
 use Rattle.dpj_parse.proofs.region.declared.Given as goal
 
 abbrev pub invariant-loop-list : goal.invariant-loop-list

@@ -4,7 +4,7 @@ use Rattle.dpj_parse.specs.Expecting.{Part, part}
 use Rattle.dpj_parse.specs.Progress.{Keeps}
 use Rattle.dpj_parse.specs.Taking.{Many}
 use Rattle.dpj_parse.specs.Paths.{DerivesNext}
-use Rattle.dpj_parse.proofs.PathParts.{Onward}
+use Rattle.dpj_parse.proofs.InOrder.{Onward}
 use Rattle.dpj_parse.proofs.region.elems.Given as goal
 
 abbrev pub invariant-loop-elems : goal.invariant-loop-elems

@@ -3,7 +3,7 @@ use Rattle.dpj_parse.specs.Counted.{counts}
 use Rattle.dpj_parse.specs.Expecting.{Part, part}
 use Rattle.dpj_parse.specs.Progress.{Reads}
 use Rattle.dpj_parse.specs.Taking.{Listed, TakesName}
-use Rattle.dpj_parse.proofs.PathParts.{Onward}
+use Rattle.dpj_parse.proofs.InOrder.{Onward}
 use Rattle.dpj_parse.proofs.region.names.Given as goal
 
 abbrev pub invariant-loop-names : goal.invariant-loop-names

@@ -4,7 +4,7 @@ use Rattle.dpj_parse.specs.Expecting.{Part, part}
 use Rattle.dpj_parse.specs.Progress.{Reads}
 use Rattle.dpj_parse.specs.Taking.{Listed}
 use Rattle.dpj_parse.specs.Paths.{DerivesRpl}
-use Rattle.dpj_parse.proofs.PathParts.{Onward}
+use Rattle.dpj_parse.proofs.InOrder.{Onward}
 use Rattle.dpj_parse.proofs.region.paths.Given as goal
 
 abbrev pub invariant-loop-paths : goal.invariant-loop-paths

@@ -1,7 +1,7 @@
 use Rattle.std.proofs.Common.{rules}
 use Rattle.std.proofs.lemmas.Result.{err_from_is_err_and}
 use Rattle.dpj_parse.proofs.Lists.{many_more}
-use Rattle.dpj_parse.proofs.PathParts.{few_read}
+use Rattle.dpj_parse.proofs.InOrder.{few_read}
 use Rattle.dpj_parse.proofs.TypeForms.{suffix_of}
 use Rattle.dpj_parse.proofs.TypeParts.{suffixes_on, suffixes_at_close, suffixes_at_rest}
 use Rattle.dpj_parse.proofs.types.suffixes.Goals as goal

@@ -4,7 +4,7 @@ use Rattle.dpj_parse.specs.Expecting.{Part, part}
 use Rattle.dpj_parse.specs.Progress.{Keeps}
 use Rattle.dpj_parse.specs.Taking.{Many}
 use Rattle.dpj_parse.specs.Types.{DerivesSuffix}
-use Rattle.dpj_parse.proofs.PathParts.{Onward}
+use Rattle.dpj_parse.proofs.InOrder.{Onward}
 use Rattle.dpj_parse.proofs.types.suffixes.Given as goal
 
 abbrev pub invariant-loop-alloc : goal.invariant-loop-alloc
