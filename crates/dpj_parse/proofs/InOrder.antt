@@ -1,21 +1,19 @@
 -- Parts that are read in order, one after another, and lists that a loop reads item by item.
-use Rattle.std.proofs.Common.{◌≡◌, ◌≤◌, ℤ, List, [], ◌∷◌, ◌++◌, Bool, ◌||◌, true, false, cond, Option, Some, refl, ap, ◌∙◌}
+use Rattle.std.proofs.Common.{◌≡◌, ◌≤◌, List, [], ◌∷◌, ◌++◌, Bool, true, false, cond, Option, Some, refl, ap}
 use Rattle.dpj_base.specs.Refused.{IfRefused}
 use Rattle.dpj_base.specs.declared.place.Place.{Place}
 use Rattle.dpj_base.specs.declared.refusal.Kind.{Kind}
 use Rattle.dpj_base.specs.declared.refusal.Stop.{Stop}
-use Rattle.dpj_tokens.specs.declared.token.Keyword.{Keyword}
 use Rattle.dpj_tokens.specs.declared.token.Symbol.{Symbol}
 use Rattle.dpj_terminals.specs.declared.terminal.Placed.{Placed}
 use Rattle.dpj_terminals.specs.declared.terminal.Terminal.{Terminal}
 use Rattle.dpj_terminals.specs.declared.terminal.Terminal.TheVariants as terminal
 use Rattle.dpj_parse.specs.Taking.{Next}
 use Rattle.dpj_parse.specs.Expecting.{Part, Expected, one, part, choose, next_of, next_is}
-use Rattle.dpj_parse.specs.Words.{is_atomic, is_bar, is_close_bracket, is_colon, is_comma, is_dot, is_greater, is_hash, is_less, is_name, is_number, is_open_bracket, is_question, is_region, is_root, is_star}
-use Rattle.dpj_parse.specs.Limits.{Counts, Fits, inside, outside, past, more, anew, Within, nothing, begins, passes, Stops, in_part, Refuses}
-use Rattle.dpj_parse.specs.Counted.{MayCome, Halts}
+use Rattle.dpj_parse.specs.Words.{is_comma}
+use Rattle.dpj_parse.specs.Limits.{Counts, inside, outside, past, Within, nothing, begins, passes, Stops, in_part, Refuses}
 use Rattle.dpj_parse.proofs.Composed.{seq, stops_after, on_refused, read_part, refused_part, refused_first, refused_after}
-use Rattle.dpj_parse.proofs.Coming.{read_any, symbol_comes_not, keyword_comes_not, next_comes, keyword_comes, comes_next, halted, halted_symbol}
+use Rattle.dpj_parse.proofs.Coming.{symbol_comes_not, next_comes}
 
 -- a terminal that was read has come, and was not one too many
 pub next_read : {c d : Counts} {test : Terminal → Bool} {a b : List Placed} → Within c (one test ∷ []) a d b → next_is test (next_of a) ≡ true

@@ -1,8 +1,7 @@
 -- The parts of region paths, by what they begin with.
-use Rattle.std.proofs.Common.{◌≡◌, ◌≤◌, ℤ, List, [], ◌∷◌, ◌++◌, Bool, ◌||◌, true, false, cond, Option, Some, refl, ap, ◌∙◌}
+use Rattle.std.proofs.Common.{◌≡◌, ℤ, List, [], ◌∷◌, ◌||◌, true, false, Some, refl, ap, ◌∙◌}
 use Rattle.dpj_base.specs.Refused.{IfRefused}
 use Rattle.dpj_base.specs.declared.place.Place.{Place}
-use Rattle.dpj_base.specs.declared.refusal.Kind.{Kind}
 use Rattle.dpj_base.specs.declared.refusal.Stop.{Stop}
 use Rattle.dpj_tokens.specs.declared.token.Keyword.{Keyword}
 use Rattle.dpj_tokens.specs.declared.token.Symbol.{Symbol}
@@ -12,9 +11,9 @@ use Rattle.dpj_terminals.specs.declared.terminal.Terminal.TheVariants as termina
 use Rattle.dpj_parse.specs.Taking.{Next}
 use Rattle.dpj_parse.specs.Expecting.{Part, Expected, one, part, choose, next_of, next_is}
 use Rattle.dpj_parse.specs.Words.{is_atomic, is_bar, is_close_bracket, is_colon, is_comma, is_dot, is_greater, is_hash, is_less, is_name, is_number, is_open_bracket, is_question, is_region, is_root, is_star}
-use Rattle.dpj_parse.specs.Limits.{Counts, Fits, inside, outside, past, more, anew, Within, nothing, begins, passes, Stops, in_part, Refuses}
+use Rattle.dpj_parse.specs.Limits.{Counts, Fits, more, anew, Within, nothing, in_part, Refuses}
 use Rattle.dpj_parse.specs.Counted.{MayCome, Halts}
-use Rattle.dpj_parse.proofs.Composed.{seq, stops_after, on_refused, read_part, refused_part, refused_first, refused_after}
+use Rattle.dpj_parse.proofs.Composed.{seq, stops_after, read_part, refused_part, refused_first}
 use Rattle.dpj_parse.proofs.Coming.{read_any, symbol_comes_not, keyword_comes_not, next_comes, keyword_comes, comes_next, halted, halted_symbol}
 use Rattle.dpj_parse.proofs.InOrder.{next_read, joined_read, few_read, this_one, that_one, both, refused_in_list, refused_after_list, read_one, read_two, read_three, refused_at_first, refused_later, refused_at_second, refused_at_third, Onward, onward_more, onward_refused, onward_end, IsMore, listed_on, listed_end, listed_at_comma, listed_at_item, after_first}
 
