@@ -18,7 +18,7 @@ use Rattle.dpj_parse.specs.Limits.{Counts, Fits, past, Within, nothing, passes, 
 use Rattle.dpj_parse.specs.Counted.{MayCome, Halts}
 use Rattle.dpj_parse.proofs.Tested.{sign_own, word_own, sign_or_not, word_or_not}
 
-comes_next : {wanted : Terminal} {next : Placed} {after : List Placed} → next.terminal ≡ wanted → Next wanted (next ∷ after)
+pub comes_next : {wanted : Terminal} {next : Placed} {after : List Placed} → next.terminal ≡ wanted → Next wanted (next ∷ after)
 comes_next {next = next} {after = after} is =
     record { after = after; takes = record { place = next.place; takes = record { first = ap (λ t. record { terminal = t; place = next.place } ∷ after) is } } }
 
@@ -106,7 +106,7 @@ pub lost_name : (here : List Placed) (end : Place) (c : Counts) (stop : Stop) �
 lost_name here end c stop none is = rw is (no_name c here end (place_of here end) none refl)
 
 -- and where one comes that is one too many
-halted : (test : Terminal → Bool) (here : List Placed) (end : Place) (c : Counts) (stop : Stop) → MayCome test here → IfRefused stop (Halts c here end) → IfRefused stop (Refuses c (one test ∷ []) here end)
+pub halted : (test : Terminal → Bool) (here : List Placed) (end : Place) (c : Counts) (stop : Stop) → MayCome test here → IfRefused stop (Halts c here end) → IfRefused stop (Refuses c (one test ∷ []) here end)
 halted test here end c (Stop.Refused refusal) may h = h.stops test may
 halted test here end c Stop.NoMemory may h = h
 

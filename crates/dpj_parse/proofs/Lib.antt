@@ -16,6 +16,7 @@ pub mod Targeted
 pub mod Coming
 pub mod Readings
 pub mod Composed
+pub mod InOrder
 pub mod PathParts
 pub mod TypeParts
 pub mod ExprParts
