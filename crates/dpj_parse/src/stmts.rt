@@ -159,7 +159,7 @@ fn while_loop(alloc: Global, cursor: &mut Cursor) -> Result<StmtKind, Stop>
 }
 
 /// `"(" Expr ")"`
-#[tactic(auto, using(crate::proofs::Stating::made_condition, crate::proofs::Composed::seq, crate::proofs::Composed::read_part, crate::proofs::Composed::refused_part, crate::proofs::Composed::refused_first, crate::proofs::Composed::refused_after))]
+#[tactic(auto, using(crate::proofs::Stating::made_condition, crate::proofs::StmtParts::of_condition))]
 fn condition(alloc: Global, cursor: &mut Cursor) -> Result<Expr, Stop>
     ensures moves { OnOk result (Reads cursor.old cursor.new) }
     ensures reads { OnOk result (Reading (part Part.condition ∷ []) cursor.old cursor.new) }
@@ -254,6 +254,7 @@ struct Span {
 }
 
 /// `"int" Name "in" Expr "," Expr ")"`
+#[tactic(auto, using(crate::proofs::StmtParts::of_range))]
 fn range(alloc: Global, cursor: &mut Cursor) -> Result<Span, Stop>
     requires { 1 ≤ cursor.old.level }
     ensures moves { OnOk result (Closes cursor.old cursor.new) }
@@ -305,6 +306,7 @@ fn returned(alloc: Global, cursor: &mut Cursor) -> Result<Stmt, Stop>
 }
 
 /// `"print" "(" ( Expr | Text ) ")" ";"`
+#[tactic(auto, using(crate::proofs::StmtParts::in_order))]
 fn printed(alloc: Global, cursor: &mut Cursor) -> Result<Stmt, Stop>
     ensures moves { OnOk result (Reads cursor.old cursor.new) }
     ensures reads { OnOk result (Reading (one is_print ∷ one is_open_paren ∷ part Part.shown ∷ one is_close_paren ∷ one is_semicolon ∷ []) cursor.old cursor.new) }
@@ -336,7 +338,7 @@ fn shown(alloc: Global, cursor: &mut Cursor) -> Result<StmtKind, Stop>
 }
 
 /// `"region" Name { "," Name } ";"`
-#[tactic(auto, using(crate::proofs::Stating::made_regions))]
+#[tactic(auto, using(crate::proofs::Stating::made_regions, crate::proofs::StmtParts::in_order))]
 fn regions(alloc: Global, cursor: &mut Cursor) -> Result<Stmt, Stop>
     ensures moves { OnOk result (Reads cursor.old cursor.new) }
     ensures reads { OnOk result (Reading (one is_region ∷ part Part.names ∷ one is_semicolon ∷ []) cursor.old cursor.new) }
@@ -397,7 +399,7 @@ fn declaration(alloc: Global, cursor: &mut Cursor) -> Result<Stmt, Stop>
 }
 
 /// `Expr ";"`
-#[tactic(auto, using(crate::proofs::Stating::made_value))]
+#[tactic(auto, using(crate::proofs::Stating::made_value, crate::proofs::StmtParts::of_value))]
 fn value(alloc: Global, cursor: &mut Cursor) -> Result<Expr, Stop>
     ensures moves { OnOk result (Reads cursor.old cursor.new) }
     ensures reads { OnOk result (Reading (part Part.value ∷ []) cursor.old cursor.new) }
@@ -421,6 +423,7 @@ fn assigns(cursor: &Cursor) -> bool {
 }
 
 /// `Name "=" Expr ";"`
+#[tactic(auto, using(crate::proofs::StmtParts::in_order))]
 fn assignment(alloc: Global, cursor: &mut Cursor) -> Result<Stmt, Stop>
     ensures moves { OnOk result (Reads cursor.old cursor.new) }
     ensures reads { OnOk result (Reading (one is_name ∷ one is_assign ∷ part Part.value ∷ []) cursor.old cursor.new) }
