@@ -1,12 +1,20 @@
 -- The parts of the grammar's Stmt productions, by what they begin with.
-use Rattle.std.proofs.Common.{◌≡◌, ◌∙◌, List, [], ◌∷◌, Bool, true, false, cond, Option, Some, None, refl}
+use Rattle.std.proofs.Common.{◌≡◌, ◌∙◌, ℕ, List, [], ◌∷◌, Bool, true, false, cond, Option, Some, None, refl, ap}
 use Rattle.dpj_base.specs.Refused.{IfRefused}
 use Rattle.dpj_base.specs.declared.place.Place.{Place}
 use Rattle.dpj_base.specs.declared.refusal.Stop.{Stop}
+use Rattle.dpj_tokens.specs.declared.token.Symbol.{Symbol}
 use Rattle.dpj_terminals.specs.declared.terminal.Placed.{Placed}
-use Rattle.dpj_parse.specs.Expecting.{Part, expr, Expected, one, part, choose, next_of, condition, value, range}
-use Rattle.dpj_parse.specs.Limits.{Counts, inside, outside, Within, Refuses}
-use Rattle.dpj_parse.specs.Words.{is_close_paren, is_comma, is_in, is_int, is_name, is_open_paren, is_semicolon}
+use Rattle.dpj_terminals.specs.declared.terminal.Terminal.{Terminal}
+use Rattle.dpj_terminals.specs.declared.terminal.Terminal.TheVariants as terminal
+use Rattle.dpj_parse.specs.declared.cursor.Cursor.{Cursor}
+use Rattle.dpj_parse.specs.Expecting.{Part, expr, Expected, one, part, choose, next_of, condition, value, range, return_rest, shown}
+use Rattle.dpj_parse.specs.Limits.{Counts, Fits, inside, outside, Within, Refuses}
+use Rattle.dpj_parse.specs.Counted.{counts, Halts, MayCome}
+use Rattle.dpj_parse.specs.Progress.{ReadsIf}
+use Rattle.dpj_parse.specs.Taking.{Next, TakesIf}
+use Rattle.dpj_parse.specs.Words.{is_close_paren, is_comma, is_in, is_int, is_name, is_open_paren, is_return, is_semicolon, is_text}
+use Rattle.dpj_parse.proofs.Coming.{halted, next_comes, read_any, symbol_comes_not}
 use Rattle.dpj_parse.proofs.Composed.{Refused, seq, refused_first, refused_after, read_part, refused_part}
 
 -- a refusal after what was read: the end of the text stays where it is
@@ -99,3 +107,79 @@ pub range_refused : (c : Counts) (before : List Placed) (end : Place) (stop : St
 range_refused c before end stop r = refused_part c range _ before end stop refl r
 
 pub ruleset of_range = (in_order, range_reads, range_refused)
+
+pub range_not_closed : {c d e f g h i : Counts} {before one_after two_after three_after four_after five_after six_after : List Placed} {end end_one end_two end_three end_four end_five end_six : Place} (stop : Stop) →
+    Within c (one is_int ∷ []) before d one_after → end_one ≡ end → Within d (one is_name ∷ []) one_after e two_after → end_two ≡ end_one →
+    Within e (one is_in ∷ []) two_after f three_after → end_three ≡ end_two → Within f (part (expr 0) ∷ []) three_after g four_after → end_four ≡ end_three →
+    Within g (one is_comma ∷ []) four_after h five_after → end_five ≡ end_four → Within h (part (expr 0) ∷ []) five_after i six_after → end_six ≡ end_five →
+    Refused i (one is_close_paren ∷ []) six_after end_six stop → Refused c (part range ∷ []) before end stop
+range_not_closed {c = c} {before = before} {end = end} stop p is q is_two k is_three l is_four m is_five n is_six r =
+    range_refused c before end stop (refused_seventh _ _ _ _ _ _ _ [] stop p is q is_two k is_three l is_four m is_five n is_six r)
+
+shown_text : {text : List ℕ} {here : List Placed} → Next (terminal.Text text) here → choose shown (next_of here) ≡ Some (one is_text ∷ [])
+shown_text n = rw (n.takes.takes.first) refl
+
+is_no_text : (t : Terminal) {place : Place} {after : List Placed} → ((text : List ℕ) → Next (terminal.Text text) (record { terminal = t; place = place } ∷ after) → ⊥) → is_text t ≡ false
+is_no_text (terminal.Text text) {place = place} {after = after} none = absurd (none text (record { after = after; takes = record { place = place; takes = record { first = refl } } }))
+is_no_text (terminal.Name n) none = refl
+is_no_text (terminal.Int n) none = refl
+is_no_text (terminal.Symbol s) none = refl
+is_no_text (terminal.Keyword k) none = refl
+
+shown_value : (here : List Placed) → ((text : List ℕ) → Next (terminal.Text text) here → ⊥) → choose shown (next_of here) ≡ Some (part (expr 0) ∷ [])
+shown_value [] none = refl
+shown_value (next ∷ after) none = rw (is_no_text next.terminal none) refl
+
+pub reads_text : {text : List ℕ} {c d : Counts} {before after : List Placed} {next : Placed} →
+    Next (terminal.Text text) before → before ≡ next ∷ after → Fits c → d ≡ c → Within c (part shown ∷ []) before d after
+reads_text {text = text} {c = c} {next = next} n is fits same =
+    let it : next.terminal ≡ terminal.Text text = let f = n.takes.takes.first in cc in
+    read_part _ _ shown _ _ _ (shown_text n) (read_any is (rw it refl) fits (rw (it, same) refl))
+
+pub text_refused : {text : List ℕ} (c : Counts) (here : List Placed) (end : Place) (stop : Stop) →
+    Next (terminal.Text text) here → IfRefused stop (Halts c here end) → Refused c (part shown ∷ []) here end stop
+text_refused {text = text} c here end stop n h =
+    let may : MayCome is_text here = λ next after is. let it : next.terminal ≡ terminal.Text text = let f = n.takes.takes.first in cc in rw it refl in
+    refused_part c shown _ here end stop (shown_text n) (halted is_text here end c stop may h)
+
+pub reads_shown_value : {c d : Counts} {before after : List Placed} → ((text : List ℕ) → Next (terminal.Text text) before → ⊥) →
+    Within c (part (expr 0) ∷ []) before d after → Within c (part shown ∷ []) before d after
+reads_shown_value none w = read_part _ _ shown _ _ _ (shown_value _ none) w
+
+pub shown_value_refused : (c : Counts) (before : List Placed) (end : Place) (stop : Stop) → ((text : List ℕ) → Next (terminal.Text text) before → ⊥) →
+    Refused c (part (expr 0) ∷ []) before end stop → Refused c (part shown ∷ []) before end stop
+shown_value_refused c before end stop none r = refused_part c shown _ before end stop (shown_value before none) r
+
+pub ruleset of_shown = (reads_text, text_refused, reads_shown_value, shown_value_refused)
+
+return_ends : {here : List Placed} → Next (terminal.Symbol Symbol.Semicolon) here → choose return_rest (next_of here) ≡ Some (one is_semicolon ∷ [])
+return_ends {here = here} n = rw (n.takes.takes.first) refl
+
+return_goes_on : (here : List Placed) → (Next (terminal.Symbol Symbol.Semicolon) here → ⊥) → choose return_rest (next_of here) ≡ Some (part value ∷ [])
+return_goes_on here none = ap (λ b. Some (cond b (one is_semicolon ∷ []) (part value ∷ []))) (symbol_comes_not Symbol.Semicolon here none)
+
+pub reads_return : {c d e : Counts} {before one_after after : List Placed} (found : Bool) → Within c (one is_return ∷ []) before d one_after →
+    TakesIf (terminal.Symbol Symbol.Semicolon) found one_after after → (found ≡ true → Within d (one is_semicolon ∷ []) one_after e after) → found ≡ true →
+    Within c (one is_return ∷ part return_rest ∷ []) before e after
+reads_return false p takes w is = absurd (cc is)
+reads_return true p takes w is = seq p (read_part _ _ return_rest _ _ _ (return_ends (record { after = _; takes = takes })) (w is))
+
+pub reads_return_value : {c e : Counts} {before after : List Placed} (old new : Cursor) (found : Bool) → Within c (one is_return ∷ []) before (counts old) old.rest.now →
+    TakesIf (terminal.Symbol Symbol.Semicolon) found old.rest.now new.rest.now → ReadsIf found old new → found ≡ false →
+    Within (counts new) (part value ∷ []) new.rest.now e after → Within c (one is_return ∷ part return_rest ∷ []) before e after
+reads_return_value old new true p takes same is w = absurd (cc is)
+reads_return_value old new false p takes same is w =
+    seq p (read_part _ _ return_rest _ _ _ (return_goes_on old.rest.now takes.0) (rw (← same) w))
+
+pub return_end_refused : {c d : Counts} {before one_after : List Placed} {end end_one : Place} (stop : Stop) → Within c (one is_return ∷ []) before d one_after → end_one ≡ end →
+    Next (terminal.Symbol Symbol.Semicolon) one_after → Refused d (one is_semicolon ∷ []) one_after end_one stop → Refused c (one is_return ∷ part return_rest ∷ []) before end stop
+return_end_refused {d = d} {one_after = one_after} {end_one = end_one} stop p is n r = refused_second _ _ [] stop p is (refused_part d return_rest _ one_after end_one stop (return_ends n) r)
+
+pub return_value_refused : {c : Counts} {before : List Placed} {end : Place} (old new : Cursor) (found : Bool) (stop : Stop) → Within c (one is_return ∷ []) before (counts old) old.rest.now → old.end ≡ end →
+    TakesIf (terminal.Symbol Symbol.Semicolon) found old.rest.now new.rest.now → ReadsIf found old new → found ≡ false →
+    Refused (counts new) (part value ∷ []) new.rest.now new.end stop → Refused c (one is_return ∷ part return_rest ∷ []) before end stop
+return_value_refused old new true stop p end takes same is r = absurd (cc is)
+return_value_refused old new false stop p end takes same is r =
+    refused_second _ _ [] stop p end (refused_part (counts old) return_rest _ old.rest.now old.end stop (return_goes_on old.rest.now takes.0) (rw (← same) r))
+
+pub ruleset of_return = (refused_first, reads_return, reads_return_value, return_end_refused, return_value_refused)

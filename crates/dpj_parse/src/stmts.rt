@@ -290,7 +290,7 @@ fn simple(alloc: Global, cursor: &mut Cursor) -> Result<Stmt, Stop>
 }
 
 /// `"return" [ Expr ] ";"`
-#[tactic(auto, using(crate::proofs::Stating::return_alone, crate::proofs::Stating::return_with))]
+#[tactic(auto, using(crate::proofs::Stating::return_alone, crate::proofs::Stating::return_with, crate::proofs::StmtParts::of_return))]
 fn returned(alloc: Global, cursor: &mut Cursor) -> Result<Stmt, Stop>
     ensures moves { OnOk result (Reads cursor.old cursor.new) }
     ensures reads { OnOk result (Reading (one is_return ∷ part Part.return_rest ∷ []) cursor.old cursor.new) }
@@ -322,7 +322,7 @@ fn printed(alloc: Global, cursor: &mut Cursor) -> Result<Stmt, Stop>
 }
 
 /// `Expr | Text`
-#[tactic(auto, using(crate::proofs::Stating::shown_value, crate::proofs::Stating::shown_text))]
+#[tactic(auto, using(crate::proofs::Stating::shown_value, crate::proofs::Stating::shown_text, crate::proofs::StmtParts::of_shown))]
 fn shown(alloc: Global, cursor: &mut Cursor) -> Result<StmtKind, Stop>
     ensures moves { OnOk result (Reads cursor.old cursor.new) }
     ensures reads { OnOk result (Reading (part Part.shown ∷ []) cursor.old cursor.new) }
