@@ -106,8 +106,6 @@ range_reads w = read_part _ _ range _ _ _ refl w
 pub range_refused : (c : Counts) (before : List Placed) (end : Place) (stop : Stop) → Refused c range_parts before end stop → Refused c (part range ∷ []) before end stop
 range_refused c before end stop r = refused_part c range _ before end stop refl r
 
-pub ruleset of_range = (in_order, range_reads, range_refused)
-
 pub range_not_closed : {c d e f g h i : Counts} {before one_after two_after three_after four_after five_after six_after : List Placed} {end end_one end_two end_three end_four end_five end_six : Place} (stop : Stop) →
     Within c (one is_int ∷ []) before d one_after → end_one ≡ end → Within d (one is_name ∷ []) one_after e two_after → end_two ≡ end_one →
     Within e (one is_in ∷ []) two_after f three_after → end_three ≡ end_two → Within f (part (expr 0) ∷ []) three_after g four_after → end_four ≡ end_three →
@@ -115,6 +113,8 @@ pub range_not_closed : {c d e f g h i : Counts} {before one_after two_after thre
     Refused i (one is_close_paren ∷ []) six_after end_six stop → Refused c (part range ∷ []) before end stop
 range_not_closed {c = c} {before = before} {end = end} stop p is q is_two k is_three l is_four m is_five n is_six r =
     range_refused c before end stop (refused_seventh _ _ _ _ _ _ _ [] stop p is q is_two k is_three l is_four m is_five n is_six r)
+
+pub ruleset of_range = (reads_seven, refused_first, refused_second, refused_third, refused_fourth, refused_fifth, refused_sixth, range_reads, range_refused)
 
 shown_text : {text : List ℕ} {here : List Placed} → Next (terminal.Text text) here → choose shown (next_of here) ≡ Some (one is_text ∷ [])
 shown_text n = rw (n.takes.takes.first) refl
