@@ -1,21 +1,25 @@
 -- The parts of the grammar's Stmt productions, by what they begin with.
-use Rattle.std.proofs.Common.{◌≡◌, ◌∙◌, ℕ, List, [], ◌∷◌, Bool, true, false, cond, Option, Some, None, refl, ap}
+use Rattle.std.proofs.Common.{◌≡◌, ◌+◌, ◌-◌, ◌∙◌, arith, ℕ, List, [], ◌∷◌, Bool, true, false, cond, Option, Some, None, refl, ap, subst, sym}
 use Rattle.dpj_base.specs.Refused.{IfRefused}
 use Rattle.dpj_base.specs.declared.place.Place.{Place}
+use Rattle.dpj_base.specs.declared.refusal.Kind.{Kind}
 use Rattle.dpj_base.specs.declared.refusal.Stop.{Stop}
+use Rattle.dpj_base.specs.declared.refusal.Stop.TheVariants as Stop
+use Rattle.dpj_tokens.specs.declared.token.Keyword.{Keyword}
 use Rattle.dpj_tokens.specs.declared.token.Symbol.{Symbol}
 use Rattle.dpj_terminals.specs.declared.terminal.Placed.{Placed}
 use Rattle.dpj_terminals.specs.declared.terminal.Terminal.{Terminal}
 use Rattle.dpj_terminals.specs.declared.terminal.Terminal.TheVariants as terminal
 use Rattle.dpj_parse.specs.declared.cursor.Cursor.{Cursor}
-use Rattle.dpj_parse.specs.Expecting.{Part, expr, Expected, one, part, choose, next_of, condition, value, range, return_rest, shown}
-use Rattle.dpj_parse.specs.Limits.{Counts, Fits, inside, outside, Within, Refuses}
-use Rattle.dpj_parse.specs.Counted.{counts, Halts, MayCome}
+use Rattle.dpj_parse.specs.Expecting.{Part, expr, Expected, one, part, choose, next_of, condition, value, range, return_rest, shown, stmt, stmts, body, block, else_if, stmt_parts}
+use Rattle.dpj_parse.specs.Limits.{Counts, Fits, deeper, inside, outside, Within, nothing, begins, Stops, in_part, Refuses}
+use Rattle.dpj_parse.specs.Counted.{counts, Completed, Halts, MayCome, Took}
 use Rattle.dpj_parse.specs.Progress.{ReadsIf}
 use Rattle.dpj_parse.specs.Taking.{Next, TakesIf}
-use Rattle.dpj_parse.specs.Words.{is_close_paren, is_comma, is_in, is_int, is_name, is_open_paren, is_return, is_semicolon, is_text}
-use Rattle.dpj_parse.proofs.Coming.{halted, next_comes, read_any, symbol_comes_not}
-use Rattle.dpj_parse.proofs.Composed.{Refused, seq, refused_first, refused_after, read_part, refused_part}
+use Rattle.dpj_parse.specs.Targets.{stmt_begins}
+use Rattle.dpj_parse.specs.Words.{is_any, is_close_brace, is_close_paren, is_else, is_open_brace, is_comma, is_in, is_int, is_name, is_open_paren, is_return, is_semicolon, is_text}
+use Rattle.dpj_parse.proofs.Coming.{halted, keyword_comes_not, next_comes, read_any, symbol_comes_not}
+use Rattle.dpj_parse.proofs.Composed.{Refused, seq, stops_after, stops_first, refused_first, refused_after, read_part, refused_part}
 
 -- a refusal after what was read: the end of the text stays where it is
 refused_later : (x : Expected) (ys : List Expected) {c d : Counts} {before between : List Placed} {end end_now : Place} (stop : Stop) →
@@ -183,3 +187,156 @@ return_value_refused old new false stop p end takes same is r =
     refused_second _ _ [] stop p end (refused_part (counts old) return_rest _ old.rest.now old.end stop (return_goes_on old.rest.now takes.0) (rw (← same) r))
 
 pub ruleset of_return = (refused_first, reads_return, reads_return_value, return_end_refused, return_value_refused)
+
+-- a statement by its first terminal
+pub begins_reads : (t : Terminal) {c d : Counts} {before after : List Placed} → Next t before → Within c (stmt_parts t) before d after → Within c (stmt_begins before) before d after
+begins_reads t {c = c} {d = d} {after = after} n w = let P : List Placed → Type 0 = λ l. Within c (stmt_parts t) l d after → Within c (stmt_begins l) l d after in subst P (sym (n.takes.takes.first)) (λ v. v) w
+
+pub begins_refused : (t : Terminal) (c : Counts) (before : List Placed) (end : Place) (stop : Stop) → Next t before → Refused c (stmt_parts t) before end stop → Refused c (stmt_begins before) before end stop
+begins_refused t c before end stop n r = let P : List Placed → Type 0 = λ l. Refused c (stmt_parts t) l end stop → Refused c (stmt_begins l) l end stop in subst P (sym (n.takes.takes.first)) (λ v. v) r
+
+pub ruleset of_begin = (begins_reads, begins_refused)
+
+abbrev pub block_parts : List Expected
+block_parts = one is_open_brace ∷ part stmts ∷ one is_close_brace ∷ []
+
+pub block_reads : {c d : Counts} {before after : List Placed} → Within c block_parts before d after → Within c (part block ∷ []) before d after
+block_reads w = read_part _ _ block _ _ _ refl w
+
+pub block_refused : (c : Counts) (before : List Placed) (end : Place) (stop : Stop) → Refused c block_parts before end stop → Refused c (part block ∷ []) before end stop
+block_refused c before end stop r = refused_part c block _ before end stop refl r
+
+pub ruleset of_block = (reads_three, refused_first, refused_second, refused_third, block_reads, block_refused)
+
+-- what begins with a keyword that was seen already
+pub reads_seen : (k : Keyword) (old new : Cursor) → Next (terminal.Keyword k) old.rest.now → Took old new → Within (counts old) (one is_any ∷ []) old.rest.now (counts new) new.rest.now
+reads_seen k old new n took =
+    let it : took.next.terminal ≡ terminal.Keyword k = let f = n.takes.takes.first in let g = took.is in cc in
+    read_any took.is refl took.fits (rw it took.same)
+
+pub seen_refused : (c : Counts) (here : List Placed) (end : Place) (stop : Stop) → IfRefused stop (Halts c here end) → Refused c (one is_any ∷ []) here end stop
+seen_refused c here end stop h = halted is_any here end c stop (λ next after is. refl) h
+
+pub ruleset of_seen = (in_order, reads_seen, seen_refused)
+
+-- an `else` belongs to the statement in front of it
+else_comes : {here : List Placed} → Next (terminal.Keyword Keyword.Else) here → choose else_if (next_of here) ≡ Some (one is_else ∷ part body ∷ [])
+else_comes n = rw (n.takes.takes.first) refl
+
+else_comes_not : (here : List Placed) → (Next (terminal.Keyword Keyword.Else) here → ⊥) → choose else_if (next_of here) ≡ Some []
+else_comes_not here none = ap (λ b. Some (cond b (one is_else ∷ part body ∷ []) [])) (keyword_comes_not Keyword.Else here none)
+
+pub reads_no_else : (old new : Cursor) (found : Bool) → TakesIf (terminal.Keyword Keyword.Else) found old.rest.now new.rest.now → ReadsIf found old new → found ≡ false →
+    Within (counts old) (part else_if ∷ []) old.rest.now (counts new) new.rest.now
+reads_no_else old new true takes same is = absurd (cc is)
+reads_no_else old new false takes same is = rw same (begins (else_comes_not old.rest.now takes.0) nothing nothing)
+
+pub reads_else : {c d e : Counts} {before between after : List Placed} (found : Bool) → TakesIf (terminal.Keyword Keyword.Else) found before between →
+    (found ≡ true → Within c (one is_else ∷ []) before d between) → found ≡ true → Within d (part body ∷ []) between e after → Within c (part else_if ∷ []) before e after
+reads_else false takes w is v = absurd (cc is)
+reads_else true takes w is v = read_part _ _ else_if _ _ _ (else_comes (record { after = _; takes = takes })) (seq (w is) v)
+
+pub else_refused : (c : Counts) (before : List Placed) (end : Place) (stop : Stop) → Next (terminal.Keyword Keyword.Else) before → Refused c (one is_else ∷ []) before end stop →
+    Refused c (part else_if ∷ []) before end stop
+else_refused c before end stop n r = refused_part c else_if _ before end stop (else_comes n) (refused_first c _ (part body ∷ []) before end stop r)
+
+pub else_body_refused : (old new : Cursor) (found : Bool) (stop : Stop) → TakesIf (terminal.Keyword Keyword.Else) found old.rest.now new.rest.now → ReadsIf found old new →
+    (found ≡ true → Within (counts old) (one is_else ∷ []) old.rest.now (counts new) new.rest.now) → found ≡ true →
+    Refused (counts new) (part body ∷ []) new.rest.now new.end stop → Refused (counts old) (part else_if ∷ []) old.rest.now old.end stop
+else_body_refused old new false stop takes moves w is r = absurd (cc is)
+else_body_refused old new true stop takes moves w is r =
+    refused_part (counts old) else_if _ old.rest.now old.end stop (else_comes (record { after = _; takes = takes })) (refused_second _ _ [] stop (w is) moves.end r)
+
+pub ruleset of_choice = (reads_four, refused_first, refused_second, refused_third, refused_fourth, reads_no_else, reads_else, else_refused, else_body_refused)
+
+-- the body of another statement
+stmt_same : {c d : Counts} {before after : List Placed} → Within c (part stmt ∷ []) before d after → d ≡ c
+stmt_same (begins chosen w nothing) = refl
+
+pub reads_in_braces : {c d : Counts} {before after : List Placed} → Next (terminal.Symbol Symbol.OpenBrace) before → Within c (part stmt ∷ []) before d after → Within c (part body ∷ []) before d after
+reads_in_braces {c = c} {d = d} {before = before} {after = after} n w =
+    let inner : Within (inside body (next_of before) c) (part stmt ∷ []) before d after = rw (next_comes Symbol.OpenBrace before n) w in
+    rw (stmt_same w) (read_part c d body _ before after refl inner)
+
+pub braces_refused : (c : Counts) (before : List Placed) (end : Place) (stop : Stop) → Next (terminal.Symbol Symbol.OpenBrace) before → Refused c (part stmt ∷ []) before end stop →
+    Refused c (part body ∷ []) before end stop
+braces_refused c before end stop n r =
+    let inner : Refused (inside body (next_of before) c) (part stmt ∷ []) before end stop = rw (next_comes Symbol.OpenBrace before n) r in
+    refused_part c body _ before end stop refl inner
+
+pub reads_deeper : {level joined new_level new_joined : ℕ} {before after : List Placed} → (Next (terminal.Symbol Symbol.OpenBrace) before → ⊥) →
+    Within (record { level = level + 1; joined = joined }) (part stmt ∷ []) before (record { level = new_level; joined = new_joined }) after →
+    Within (record { level = level; joined = joined }) (part body ∷ []) before (record { level = new_level - 1; joined = new_joined }) after
+reads_deeper {level} {joined} {new_level} {new_joined} {before} {after} none w =
+    let c : Counts = record { level = level; joined = joined } in
+    let d : Counts = record { level = new_level; joined = new_joined } in
+    let same : d ≡ deeper c = stmt_same w in
+    let at : new_level - 1 ≡ level = let one_more : new_level ≡ level + 1 = ap (λ (k : Counts). k.level) same in omega arith in
+    let rest : new_joined ≡ joined = ap (λ (k : Counts). k.joined) same in
+    let inner : Within (inside body (next_of before) c) (part stmt ∷ []) before d after = rw (symbol_comes_not Symbol.OpenBrace before none) w in
+    rw (at, rest) (read_part c d body _ before after refl inner)
+
+pub deeper_refused : (level joined : ℕ) (before : List Placed) (end : Place) (stop : Stop) → (Next (terminal.Symbol Symbol.OpenBrace) before → ⊥) →
+    Refused (record { level = level + 1; joined = joined }) (part stmt ∷ []) before end stop → Refused (record { level = level; joined = joined }) (part body ∷ []) before end stop
+deeper_refused level joined before end stop none r =
+    let c : Counts = record { level = level; joined = joined } in
+    let inner : Refused (inside body (next_of before) c) (part stmt ∷ []) before end stop = rw (symbol_comes_not Symbol.OpenBrace before none) r in
+    refused_part c body _ before end stop refl inner
+
+pub ruleset of_body = (reads_in_braces, braces_refused, reads_deeper, deeper_refused)
+
+-- what is left of a list of statements follows what was read of it
+pub record Onward (old new : Cursor) : Type 0 where
+  pub reads : (e : Counts) (after : List Placed) → Within (counts new) (part stmts ∷ []) new.rest.now e after → Within (counts old) (part stmts ∷ []) old.rest.now e after
+  pub stops : (k : Kind) (here : List Placed) → Stops (counts new) (part stmts ∷ []) new.rest.now k here → Stops (counts old) (part stmts ∷ []) old.rest.now k here
+
+pub onward_here : (here : Cursor) → Onward here here
+onward_here here = record { reads = λ e after w. w; stops = λ k at s. s }
+
+goes_on : (here : List Placed) → (Next (terminal.Symbol Symbol.CloseBrace) here → ⊥) → choose stmts (next_of here) ≡ Some (part stmt ∷ part stmts ∷ [])
+goes_on here none = ap (λ b. Some (cond b [] (part stmt ∷ part stmts ∷ []))) (symbol_comes_not Symbol.CloseBrace here none)
+
+pub onward_more : (old now new : Cursor) → Onward old now → (Next (terminal.Symbol Symbol.CloseBrace) now.rest.now → ⊥) →
+    Within (counts now) (part stmt ∷ []) now.rest.now (counts new) new.rest.now → Onward old new
+onward_more old now new o none w = record {
+  reads = λ e after v. o.reads e after (begins (goes_on now.rest.now none) (seq w v) nothing);
+  stops = λ k here s. o.stops k here (in_part (goes_on now.rest.now none) (stops_after w s));
+}
+
+pub reads_onward : (old now : Cursor) → Onward old now → Next (terminal.Symbol Symbol.CloseBrace) now.rest.now → Within (counts old) (part stmts ∷ []) old.rest.now (counts now) now.rest.now
+reads_onward old now o n =
+    let ends : choose stmts (next_of now.rest.now) ≡ Some [] = ap (λ b. Some (cond b [] (part stmt ∷ part stmts ∷ []))) (next_comes Symbol.CloseBrace now.rest.now n) in
+    o.reads (counts now) now.rest.now (begins ends nothing nothing)
+
+pub onward_refused : (old now : Cursor) (stop : Stop) → Onward old now → (Next (terminal.Symbol Symbol.CloseBrace) now.rest.now → ⊥) → now.end ≡ old.end →
+    Refused (counts now) (part stmt ∷ []) now.rest.now now.end stop → Refused (counts old) (part stmts ∷ []) old.rest.now old.end stop
+onward_refused old now (Stop.Refused refusal) o none end r =
+    record { here = r.here; stops = o.stops _ _ (in_part (goes_on now.rest.now none) (stops_first (part stmts ∷ []) r.stops)); place = rw (← end) r.place }
+onward_refused old now Stop.NoMemory o none end r = r
+
+pub ruleset of_stmts = (onward_here, onward_more, reads_onward, onward_refused)
+
+-- a statement counts anew
+pub reads_stmt : {level joined new_level : ℕ} {d : Counts} {before after : List Placed} → new_level ≡ level → Within (record { level = level; joined = 0 }) (stmt_begins before) before d after →
+    Within (record { level = level; joined = joined }) (part stmt ∷ []) before (record { level = new_level; joined = joined }) after
+reads_stmt {level} {joined} {d = d} {before = before} {after = after} same w = rw same (read_part (record { level = level; joined = joined }) d stmt _ before after refl w)
+
+pub stmt_refused : (level joined : ℕ) (before : List Placed) (end : Place) (stop : Stop) → Refused (record { level = level; joined = 0 }) (stmt_begins before) before end stop →
+    Refused (record { level = level; joined = joined }) (part stmt ∷ []) before end stop
+stmt_refused level joined before end stop r = refused_part (record { level = level; joined = joined }) stmt _ before end stop refl r
+
+pub reads_simple : {joined : ℕ} (old new last : Cursor) → new ≡ old → old.joined ≡ 0 → Completed (stmt_begins new.rest.now) new last → last.level ≡ new.level →
+    Within (record { level = old.level; joined = joined }) (part stmt ∷ []) old.rest.now (record { level = last.level; joined = joined }) last.rest.now
+reads_simple {joined} old new last same anew done level =
+    let start : counts old ≡ record { level = old.level; joined = 0 } = rw anew refl in
+    let w : Within (counts old) (stmt_begins old.rest.now) old.rest.now done.last last.rest.now = rw same at done.reads in
+    reads_stmt (level ∙ ap (λ (c : Cursor). c.level) same) (rw start at w)
+
+pub simple_refused : (joined : ℕ) (old new : Cursor) (stop : Stop) → new ≡ old → old.joined ≡ 0 → Refused (counts new) (stmt_begins new.rest.now) new.rest.now new.end stop →
+    Refused (record { level = old.level; joined = joined }) (part stmt ∷ []) old.rest.now old.end stop
+simple_refused joined old new stop same anew r =
+    let start : counts old ≡ record { level = old.level; joined = 0 } = rw anew refl in
+    let w : Refused (counts old) (stmt_begins old.rest.now) old.rest.now old.end stop = rw same at r in
+    stmt_refused old.level joined old.rest.now old.end stop (rw start at w)
+
+pub ruleset of_stmt = (reads_stmt, stmt_refused, reads_simple, simple_refused)
