@@ -19,6 +19,8 @@ pub mod PathParts
 pub mod TypeParts
 pub mod ExprParts
 pub mod StmtParts
+pub mod Declaring
+pub mod Declarations
 pub mod MemberParts
 pub mod ClassParts
 pub mod Distinct

