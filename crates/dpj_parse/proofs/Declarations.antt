@@ -127,7 +127,7 @@ record Opened (c : Counts) (test : Terminal → Bool) (ys : List Expected) (next
 opened : {c d : Counts} {test : Terminal → Bool} {ys : List Expected} {next : Placed} {rest after : List Placed} → Within c (one test ∷ ys) (next ∷ rest) d after → Opened c test ys next rest d after
 opened (passes test fits w) = record { passed = test; fits = fits; reads = w }
 
-opened_stops : {c : Counts} {test : Terminal → Bool} {ys : List Expected} (zs : List Expected) {next : Placed} {rest at : List Placed} {k : Kind} →
+pub opened_stops : {c : Counts} {test : Terminal → Bool} {ys : List Expected} (zs : List Expected) {next : Placed} {rest at : List Placed} {k : Kind} →
     (Stops (past next.terminal c) ys rest k at → Stops (past next.terminal c) zs rest k at) → Stops c (one test ∷ ys) (next ∷ rest) k at → Stops c (one test ∷ zs) (next ∷ rest) k at
 opened_stops zs f (no_terminal none) = no_terminal none
 opened_stops zs f (too_many test over) = too_many test over
@@ -230,7 +230,7 @@ pub record Begun (c : Counts) (before between : List Placed) : Type 0 where
   pub reads : (e : Counts) (after : List Placed) → Within c (part Part.declared_name ∷ []) between e after → Somehow c (stmt_begins before) before after
   pub stops : (k : Kind) (at : List Placed) → Stops c (part Part.declared_name ∷ []) between k at → Stops c (stmt_begins before) before k at
 
-begins_name : (t : Terminal) → is_name t ≡ true → stmt_parts t ≡ one is_name ∷ part Part.after_name ∷ []
+pub begins_name : (t : Terminal) → is_name t ≡ true → stmt_parts t ≡ one is_name ∷ part Part.after_name ∷ []
 begins_name (terminal.Name n) is = refl
 begins_name (terminal.Int n) is = cc
 begins_name (terminal.Text text) is = cc

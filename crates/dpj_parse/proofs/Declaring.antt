@@ -101,7 +101,7 @@ hash_only : (t : Terminal) → is_hash t ≡ true → t ≡ terminal.Symbol Symb
 hash_only (terminal.Symbol Symbol.Hash) is = refl
 hash_only _ is = cc
 
-assign_only : (t : Terminal) → is_assign t ≡ true → t ≡ terminal.Symbol Symbol.Assign
+pub assign_only : (t : Terminal) → is_assign t ≡ true → t ≡ terminal.Symbol Symbol.Assign
 assign_only (terminal.Symbol Symbol.Assign) is = refl
 assign_only _ is = cc
 

@@ -21,6 +21,7 @@ pub mod ExprParts
 pub mod StmtParts
 pub mod Declaring
 pub mod Declarations
+pub mod Performing
 pub mod MemberParts
 pub mod ClassParts
 pub mod Distinct

@@ -277,6 +277,7 @@ fn range(alloc: Global, cursor: &mut Cursor) -> Result<Span, Stop>
 }
 
 /// A statement that holds no other one.
+#[tactic(auto, using(crate::proofs::Performing::is_target))]
 fn simple(alloc: Global, cursor: &mut Cursor) -> Result<Stmt, Stop>
     requires alone { next_is holds_others (next_of cursor.old.rest.now) ≡ false }
     requires anew { cursor.old.joined ≡ 0 }
@@ -285,7 +286,14 @@ fn simple(alloc: Global, cursor: &mut Cursor) -> Result<Stmt, Stop>
     ensures stops { IfErr result (λ stop. StopsAt (stmt_begins cursor.old.rest.now) cursor.old stop) }
     ensures derives { IfOk result (λ s. DerivesStmt cursor.old.rest.now cursor.new.rest.now (plain_stmt s)) }
 {
-    Err(Stop::NoMemory)
+    match cursor.next() {
+        Some(Terminal::Keyword(Keyword::Return)) => returned(alloc, cursor),
+        Some(Terminal::Keyword(Keyword::Print)) => printed(alloc, cursor),
+        Some(Terminal::Keyword(Keyword::Region)) => regions(alloc, cursor),
+        _ if declares(cursor) => declaration(alloc, cursor),
+        _ if assigns(cursor) => assignment(alloc, cursor),
+        _ => performed(alloc, cursor),
+    }
 }
 
 /// `"return" [ Expr ] ";"`
