@@ -57,12 +57,15 @@ assign_counts (next ∷ after) c is = rw (assign_only next.terminal is) refl
 abbrev pub assigned_parts : List Expected
 assigned_parts = one is_name ∷ one is_assign ∷ part Part.value ∷ []
 
-pub assigned_reads : {c d : Counts} (before : List Placed) {after : List Placed} → begins_assignment before ≡ true → Within c assigned_parts before d after → Within c (stmt_begins before) before d after
+assigned_reads : {c d : Counts} (before : List Placed) {after : List Placed} → begins_assignment before ≡ true → Within c assigned_parts before d after → Within c (stmt_begins before) before d after
 assigned_reads [] is w = cc
 assigned_reads {c} {d} (next ∷ rest) {after} is (passes test fits w) =
     let then = and_second (is_name next.terminal) _ is in
     let left = subst (λ (b : Counts). Within b (one is_assign ∷ part Part.value ∷ []) rest d after) (sym (assign_counts rest (past next.terminal c) then)) w in
     subst (λ (xs : List Expected). Within c xs (next ∷ rest) d after) (sym (begins_name next.terminal test)) (passes test fits (begins (assign_follows rest then) left nothing))
+
+pub assigned_completed : (old new : Cursor) → begins_assignment old.rest.now ≡ true → Within (counts old) assigned_parts old.rest.now (counts new) new.rest.now → Completed (stmt_begins old.rest.now) old new
+assigned_completed old new is w = record { last = counts new; reads = assigned_reads old.rest.now is w }
 
 assigned_stops : {c : Counts} (before : List Placed) {at : List Placed} {k : Kind} → begins_assignment before ≡ true → Stops c assigned_parts before k at → Stops c (stmt_begins before) before k at
 assigned_stops [] is s = cc
