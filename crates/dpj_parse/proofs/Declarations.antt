@@ -12,13 +12,14 @@ use Rattle.dpj_terminals.specs.declared.terminal.Terminal.{Terminal}
 use Rattle.dpj_terminals.specs.declared.terminal.Terminal.TheVariants as terminal
 use Rattle.dpj_parse.specs.Words.{is_assign, is_close_bracket, is_dot, is_final, is_less, is_name, is_open_bracket, is_semicolon}
 use Rattle.dpj_parse.specs.Taking.{Next, TakesIf, TakesOne, place_of}
-use Rattle.dpj_parse.specs.Counted.{counts}
+use Rattle.dpj_parse.specs.Counted.{counts, Completes}
 use Rattle.dpj_parse.specs.Progress.{ReadsIf}
 use Rattle.dpj_parse.specs.declared.cursor.Cursor.{Cursor}
 use Rattle.dpj_parse.specs.Expecting.{Part, expr, Expected, one, part, choose, next_of, next_is, if_next, stmt_parts, after_name_parts, base_parts}
 use Rattle.dpj_parse.specs.Expressions.{as_element}
 use Rattle.dpj_parse.specs.Limits.{Counts, Fits, more, more_if, anew, past, inside, outside, Within, nothing, begins, passes, Stops, no_part, no_terminal, too_many, in_part, after_part, after_terminal}
 use Rattle.dpj_parse.specs.Targets.{begins_declaration, follows_a_type, opens_declaration, rest_of, stmt_begins}
+use Rattle.dpj_parse.proofs.Coming.{comes_next}
 use Rattle.dpj_parse.proofs.StmtParts.{begins_refused}
 use Rattle.dpj_parse.proofs.Composed.{Refused, refused_first, seq, stops_after, stops_first}
 use Rattle.dpj_parse.proofs.Declaring.{Split, split, SplitStops, in_first, in_rest, split_stops, append, stops_append, stops_later, Chosen, chosen_reads, chosen_stops, NoBracket, name_no_bracket, assign_plain, semicolon_plain, IsInner, Flat, Kept, keeps}
@@ -169,7 +170,7 @@ bracket_read : {c d : Counts} {next : Placed} {rest between : List Placed} → n
 bracket_read {c} {d} {next} {rest} {between} is w =
     let b = chosen_reads (suffixes_first is w) (a_suffix next is) in
     let at : Within (more c) (one is_open_bracket ∷ bracket_parts) (next ∷ rest) b.last between =
-        subst (λ (k : Counts). Within k (one is_open_bracket ∷ bracket_parts) (next ∷ rest) b.last between) (one_more next c is) b.reads in
+    subst (λ (k : Counts). Within k (one is_open_bracket ∷ bracket_parts) (next ∷ rest) b.last between) (one_more next c is) b.reads in
     opened (subst (λ (k : Counts). Within (more c) (one is_open_bracket ∷ bracket_parts) (next ∷ rest) k between) (sym b.same) at)
 
 bracket_tail : {c d : Counts} {next : Placed} {rest between : List Placed} → next.terminal ≡ terminal.Symbol Symbol.OpenBracket → next_is is_close_bracket (next_of rest) ≡ true →
@@ -191,9 +192,9 @@ bracket_stops : {c : Counts} {next : Placed} {rest at : List Placed} {k : Kind} 
     Stops c (part Part.suffixes ∷ []) (next ∷ rest) k at → Stops c (part Part.after_name ∷ []) (next ∷ rest) k at
 bracket_stops {c} {next} {rest} {at} {k} is closed s =
     let inner : Stops (more c) (one is_open_bracket ∷ bracket_parts) (next ∷ rest) k at =
-        subst (λ (b : Counts). Stops b (one is_open_bracket ∷ bracket_parts) (next ∷ rest) k at) (one_more next c is) (chosen_stops s (a_suffix next is)) in
+    subst (λ (b : Counts). Stops b (one is_open_bracket ∷ bracket_parts) (next ∷ rest) k at) (one_more next c is) (chosen_stops s (a_suffix next is)) in
     let outer : Stops (more c) (one is_open_bracket ∷ part Part.after_bracket ∷ []) (next ∷ rest) k at =
-        opened_stops (part Part.after_bracket ∷ []) (λ t. in_part (closes rest closed) (stops_append (part Part.declared_name ∷ []) t)) inner in
+    opened_stops (part Part.after_bracket ∷ []) (λ t. in_part (closes rest closed) (stops_append (part Part.declared_name ∷ []) t)) inner in
     in_part (a_bracket next is) (subst (λ (b : Counts). Stops b (one is_open_bracket ∷ part Part.after_bracket ∷ []) (next ∷ rest) k at) (sym (as_many next c is)) outer)
 
 bracket_tail_stops : {c : Counts} {next : Placed} {rest at : List Placed} {k : Kind} → next.terminal ≡ terminal.Symbol Symbol.OpenBracket → next_is is_close_bracket (next_of rest) ≡ true →
@@ -203,7 +204,7 @@ bracket_tail_stops {c} {next} {rest} {at} {k} is closed (in_rest {d = d} {betwee
     let a = chosen_reads w (no_args next is) in
     let none = nothing_read a.reads in
     let there : Stops c (part Part.suffixes ∷ []) (next ∷ rest) k at =
-        subst (λ (l : List Placed). Stops c (part Part.suffixes ∷ []) l k at) none.1 (subst (λ (b : Counts). Stops b (part Part.suffixes ∷ []) between k at) (a.same ∙ none.0) s) in
+    subst (λ (l : List Placed). Stops c (part Part.suffixes ∷ []) l k at) none.1 (subst (λ (b : Counts). Stops b (part Part.suffixes ∷ []) between k at) (a.same ∙ none.0) s) in
     bracket_stops is closed there
 
 tail_read : {c d : Counts} {here between : List Placed} → Follows here → Within c tail_parts here d between → TailRead c here d between
@@ -222,12 +223,8 @@ tail_stops {c} {here} {at} {k} (Follows.brackets is opened closed) s =
     subst (λ (l : List Placed). Stops c (part Part.after_name ∷ []) l k at) (sym is) (bracket_tail_stops opened closed (split_stops (subst (λ (l : List Placed). Stops c tail_parts l k at) is s)))
 
 -- a type was read that begins a declaration
-pub record Somehow (c : Counts) (xs : List Expected) (before after : List Placed) : Type 0 where
-  pub last : Counts
-  pub reads : Within c xs before last after
-
 pub record Begun (c : Counts) (before between : List Placed) : Type 0 where
-  pub reads : (e : Counts) (after : List Placed) → Within c (part Part.declared_name ∷ []) between e after → Somehow c (stmt_begins before) before after
+  pub reads : (e : Counts) (after : List Placed) → Within c (part Part.declared_name ∷ []) between e after → Completes c (stmt_begins before) before after
   pub stops : (k : Kind) (at : List Placed) → Stops c (part Part.declared_name ∷ []) between k at → Stops c (stmt_begins before) before k at
 
 pub begins_name : (t : Terminal) → is_name t ≡ true → stmt_parts t ≡ one is_name ∷ part Part.after_name ∷ []
@@ -330,22 +327,18 @@ begun_type {c} {d} {xs} {before} {between} is start w =
       stops = λ k at s. subst (λ (l : List Expected). Stops c l before k at) begin (stops_after typed s);
     }
 
-not_final : {next : Placed} {after : List Placed} → (Next (terminal.Keyword Keyword.Final) (next ∷ after) → ⊥) → next.terminal ≡ terminal.Keyword Keyword.Final → ⊥
-not_final {next} {after} none is =
-    none (record { after = after; takes = record { place = next.place; takes = record { first = ap (λ t. record { terminal = t; place = next.place } ∷ after) is } } })
-
 pub begun : {c d : Counts} (before : List Placed) {between : List Placed} → begins_declaration before ≡ true → c.joined ≡ 0 → (Next (terminal.Keyword Keyword.Final) before → ⊥) →
     Within c (part Part.type ∷ []) before d between → Begun c before between
 begun [] is zero none w = cc
 begun (next ∷ after) is zero none w =
-    elim (opens_how next.terminal after is (not_final none)) [ inl typed ↦ begun_type typed refl w | inr name ↦ begun_name name.0 (follows after name.1) zero w ]
+    elim (opens_how next.terminal after is (λ same. none (comes_next same))) [ inl typed ↦ begun_type typed refl w | inr name ↦ begun_name name.0 (follows after name.1) zero w ]
 
 pub stopped : {c : Counts} (before : List Placed) {at : List Placed} {k : Kind} → begins_declaration before ≡ true → c.joined ≡ 0 → (Next (terminal.Keyword Keyword.Final) before → ⊥) →
     Stops c (part Part.type ∷ []) before k at → Stops c (stmt_begins before) before k at
 stopped [] is zero none s = cc
-stopped {c} (next ∷ after) {at} {k} is zero none s = elim (opens_how next.terminal after is (not_final none)) [
-  inl typed ↦ subst (λ (l : List Expected). Stops c l (next ∷ after) k at) (sym typed) (stops_first (part Part.declared_name ∷ []) s) |
-  inr name ↦ stopped_name name.0 (follows after name.1) zero s
+stopped {c} (next ∷ after) {at} {k} is zero none s = elim (opens_how next.terminal after is (λ same. none (comes_next same))) [
+  | inl typed ↦ subst (λ (l : List Expected). Stops c l (next ∷ after) k at) (sym typed) (stops_first (part Part.declared_name ∷ []) s)
+  | inr name ↦ stopped_name name.0 (follows after name.1) zero s
 ]
 
 -- a declaration with or without its `final`
@@ -377,7 +370,7 @@ begun_here old new typed true s w =
     let c = counts old in
     let final : Within c (one is_final ∷ []) old.rest.now c new.rest.now = subst (λ (b : Counts). Within c (one is_final ∷ []) old.rest.now b new.rest.now) (final_same f) f in
     let from : Within c (part Part.type ∷ []) new.rest.now (counts typed) typed.rest.now =
-        subst (λ (b : Counts). Within b (part Part.type ∷ []) new.rest.now (counts typed) typed.rest.now) (final_same f) w in
+    subst (λ (b : Counts). Within b (part Part.type ∷ []) new.rest.now (counts typed) typed.rest.now) (final_same f) w in
     let type : Within c (part Part.type ∷ []) new.rest.now c typed.rest.now = subst (λ (b : Counts). Within c (part Part.type ∷ []) new.rest.now b typed.rest.now) (type_same from) from in
     let begin = sym (begins_final s.takes) in
     record {
@@ -398,7 +391,7 @@ declared_parts = one is_name ∷ one is_assign ∷ part Part.value ∷ []
 
 pub declared_reads : {e : Counts} {after : List Placed} (old new typed : Cursor) (found : Bool) → Started found old new →
     Within (counts new) (part Part.type ∷ []) new.rest.now (counts typed) typed.rest.now → Within (counts typed) declared_parts typed.rest.now e after →
-    Somehow (counts old) (stmt_begins old.rest.now) old.rest.now after
+    Completes (counts old) (stmt_begins old.rest.now) old.rest.now after
 declared_reads {e} {after} old new typed found s w v =
     let b = begun_here old new typed found s w in
     let named : Within (counts typed) (part Part.declared_name ∷ []) typed.rest.now e after = begins refl v nothing in

@@ -28,14 +28,11 @@ use Rattle.dpj_parse.specs.Limits.{Counts, past, inside, Within, nothing, begins
 use Rattle.dpj_parse.specs.Reading.{ending_of, form_ending, plain_kind}
 use Rattle.dpj_parse.specs.Targets.{IsTarget, Leads, begins_assignment, begins_declaration, holds_others, opens_declaration, rest_of, stmt_begins}
 use Rattle.dpj_parse.proofs.Composed.{Refused}
-use Rattle.dpj_parse.proofs.StmtParts.{begins_reads}
+use Rattle.dpj_parse.proofs.Coming.{comes_next}
 use Rattle.dpj_parse.proofs.Stating.{ending_is}
 use Rattle.dpj_parse.proofs.Trees.{kind_Int, kind_Bool, kind_Null, kind_This, kind_Local, kind_NewArray, kind_Unary, kind_Binary}
 use Rattle.dpj_parse.proofs.Declaring.{assign_only}
 use Rattle.dpj_parse.proofs.Declarations.{begins_name, opened_stops}
-
-pub begins_completed : (t : Terminal) (old new : Cursor) → Next t old.rest.now → Within (counts old) (stmt_parts t) old.rest.now (counts new) new.rest.now → Completed (stmt_begins old.rest.now) old new
-begins_completed t old new n w = record { last = counts new; reads = begins_reads t n w }
 
 -- an assignment to a local
 and_first : (a b : Bool) → (a && b) ≡ true → a ≡ true
@@ -72,7 +69,7 @@ assigned_stops [] is s = cc
 assigned_stops {c} (next ∷ rest) {at} {k} is s =
     let then = and_second (is_name next.terminal) _ is in
     let left = opened_stops (part Part.after_name ∷ [])
-        (λ t. in_part (assign_follows rest then) (subst (λ (b : Counts). Stops b (one is_assign ∷ part Part.value ∷ []) rest k at) (sym (assign_counts rest (past next.terminal c) then)) t)) s in
+    (λ t. in_part (assign_follows rest then) (subst (λ (b : Counts). Stops b (one is_assign ∷ part Part.value ∷ []) rest k at) (sym (assign_counts rest (past next.terminal c) then)) t)) s in
     subst (λ (xs : List Expected). Stops c xs (next ∷ rest) k at) (sym (begins_name next.terminal (and_first (is_name next.terminal) _ is))) left
 
 pub assigned_refused : (c : Counts) (before : List Placed) (end : Place) (stop : Stop) → begins_assignment before ≡ true → Refused c assigned_parts before end stop → Refused c (stmt_begins before) before end stop
@@ -80,10 +77,6 @@ assigned_refused c before end (Stop.Refused refusal) is r = record { here = r.he
 assigned_refused c before end Stop.NoMemory is r = r
 
 -- any other one begins with an expression, or with a name
-not_next : {t : Terminal} {next : Placed} {after : List Placed} → (Next t (next ∷ after) → ⊥) → next.terminal ≡ t → ⊥
-not_next {t} {next} {after} none is =
-    none (record { after = after; takes = record { place = next.place; takes = record { first = ap (λ t. record { terminal = t; place = next.place } ∷ after) is } } })
-
 others_begin : (t : Terminal) (after : List Placed) → holds_others t ≡ false → (t ≡ terminal.Keyword Keyword.Return → ⊥) → (t ≡ terminal.Keyword Keyword.Print → ⊥) →
     (t ≡ terminal.Keyword Keyword.Region → ⊥) → opens_declaration t after ≡ false → (stmt_parts t ≡ part Part.performed ∷ []) ⊎ (is_name t ≡ true)
 others_begin (terminal.Symbol Symbol.OpenBrace) after holds returns prints regions opens = cc
@@ -108,7 +101,7 @@ pub is_target : (here : List Placed) → next_is holds_others (next_of here) ≡
     (Next (terminal.Keyword Keyword.Region) here → ⊥) → begins_declaration here ≡ false → IsTarget here
 is_target [] holds returns prints regions other = record { other = other; begins = inl refl }
 is_target (next ∷ after) holds returns prints regions other =
-    record { other = other; begins = others_begin next.terminal after holds (not_next returns) (not_next prints) (not_next regions) other }
+    record { other = other; begins = others_begin next.terminal after holds (λ is. returns (comes_next is)) (λ is. prints (comes_next is)) (λ is. regions (comes_next is)) other }
 
 -- what follows an expression that begins a statement
 pub led_reads : {c d e : Counts} {before between after : List Placed} {ending : Ending} (xs : List Expected) → Leads c before ending d between → ending_parts ending ≡ Some xs → Within d xs between e after →

@@ -27,32 +27,32 @@ refused_later : (x : Expected) (ys : List Expected) {c d : Counts} {before betwe
 refused_later x ys {c = c} {d = d} {before = before} {between = between} {end = end} stop w is r = refused_after c d x ys before between end stop w (rw is at r)
 
 pub refused_second : (x y : Expected) (ys : List Expected) {c d : Counts} {before one_after : List Placed} {end end_one : Place} (stop : Stop) →
-    Within c (x ∷ []) before d one_after → end_one ≡ end → 
+    Within c (x ∷ []) before d one_after → end_one ≡ end →
     Refused d (y ∷ []) one_after end_one stop → Refused c (x ∷ y ∷ ys) before end stop
 refused_second x y ys {d = d} {one_after = one_after} {end_one = end_one} stop p is r = refused_later x (y ∷ ys) stop p is (refused_first d y ys one_after end_one stop r)
 
 pub refused_third : (x y z : Expected) (ys : List Expected) {c d e : Counts} {before one_after two_after : List Placed} {end end_one end_two : Place} (stop : Stop) →
-    Within c (x ∷ []) before d one_after → end_one ≡ end → Within d (y ∷ []) one_after e two_after → end_two ≡ end_one → 
+    Within c (x ∷ []) before d one_after → end_one ≡ end → Within d (y ∷ []) one_after e two_after → end_two ≡ end_one →
     Refused e (z ∷ []) two_after end_two stop → Refused c (x ∷ y ∷ z ∷ ys) before end stop
 refused_third x y z ys stop p is q is_two r = refused_later x (y ∷ z ∷ ys) stop p is (refused_second y z ys stop q is_two r)
 
 pub refused_fourth : (x y z u : Expected) (ys : List Expected) {c d e f : Counts} {before one_after two_after three_after : List Placed} {end end_one end_two end_three : Place} (stop : Stop) →
-    Within c (x ∷ []) before d one_after → end_one ≡ end → Within d (y ∷ []) one_after e two_after → end_two ≡ end_one → Within e (z ∷ []) two_after f three_after → end_three ≡ end_two → 
+    Within c (x ∷ []) before d one_after → end_one ≡ end → Within d (y ∷ []) one_after e two_after → end_two ≡ end_one → Within e (z ∷ []) two_after f three_after → end_three ≡ end_two →
     Refused f (u ∷ []) three_after end_three stop → Refused c (x ∷ y ∷ z ∷ u ∷ ys) before end stop
 refused_fourth x y z u ys stop p is q is_two k is_three r = refused_later x (y ∷ z ∷ u ∷ ys) stop p is (refused_third y z u ys stop q is_two k is_three r)
 
 pub refused_fifth : (x y z u v : Expected) (ys : List Expected) {c d e f g : Counts} {before one_after two_after three_after four_after : List Placed} {end end_one end_two end_three end_four : Place} (stop : Stop) →
-    Within c (x ∷ []) before d one_after → end_one ≡ end → Within d (y ∷ []) one_after e two_after → end_two ≡ end_one → Within e (z ∷ []) two_after f three_after → end_three ≡ end_two → Within f (u ∷ []) three_after g four_after → end_four ≡ end_three → 
+    Within c (x ∷ []) before d one_after → end_one ≡ end → Within d (y ∷ []) one_after e two_after → end_two ≡ end_one → Within e (z ∷ []) two_after f three_after → end_three ≡ end_two → Within f (u ∷ []) three_after g four_after → end_four ≡ end_three →
     Refused g (v ∷ []) four_after end_four stop → Refused c (x ∷ y ∷ z ∷ u ∷ v ∷ ys) before end stop
 refused_fifth x y z u v ys stop p is q is_two k is_three l is_four r = refused_later x (y ∷ z ∷ u ∷ v ∷ ys) stop p is (refused_fourth y z u v ys stop q is_two k is_three l is_four r)
 
 pub refused_sixth : (x y z u v w : Expected) (ys : List Expected) {c d e f g h : Counts} {before one_after two_after three_after four_after five_after : List Placed} {end end_one end_two end_three end_four end_five : Place} (stop : Stop) →
-    Within c (x ∷ []) before d one_after → end_one ≡ end → Within d (y ∷ []) one_after e two_after → end_two ≡ end_one → Within e (z ∷ []) two_after f three_after → end_three ≡ end_two → Within f (u ∷ []) three_after g four_after → end_four ≡ end_three → Within g (v ∷ []) four_after h five_after → end_five ≡ end_four → 
+    Within c (x ∷ []) before d one_after → end_one ≡ end → Within d (y ∷ []) one_after e two_after → end_two ≡ end_one → Within e (z ∷ []) two_after f three_after → end_three ≡ end_two → Within f (u ∷ []) three_after g four_after → end_four ≡ end_three → Within g (v ∷ []) four_after h five_after → end_five ≡ end_four →
     Refused h (w ∷ []) five_after end_five stop → Refused c (x ∷ y ∷ z ∷ u ∷ v ∷ w ∷ ys) before end stop
 refused_sixth x y z u v w ys stop p is q is_two k is_three l is_four m is_five r = refused_later x (y ∷ z ∷ u ∷ v ∷ w ∷ ys) stop p is (refused_fifth y z u v w ys stop q is_two k is_three l is_four m is_five r)
 
 pub refused_seventh : (x y z u v w t : Expected) (ys : List Expected) {c d e f g h i : Counts} {before one_after two_after three_after four_after five_after six_after : List Placed} {end end_one end_two end_three end_four end_five end_six : Place} (stop : Stop) →
-    Within c (x ∷ []) before d one_after → end_one ≡ end → Within d (y ∷ []) one_after e two_after → end_two ≡ end_one → Within e (z ∷ []) two_after f three_after → end_three ≡ end_two → Within f (u ∷ []) three_after g four_after → end_four ≡ end_three → Within g (v ∷ []) four_after h five_after → end_five ≡ end_four → Within h (w ∷ []) five_after i six_after → end_six ≡ end_five → 
+    Within c (x ∷ []) before d one_after → end_one ≡ end → Within d (y ∷ []) one_after e two_after → end_two ≡ end_one → Within e (z ∷ []) two_after f three_after → end_three ≡ end_two → Within f (u ∷ []) three_after g four_after → end_four ≡ end_three → Within g (v ∷ []) four_after h five_after → end_five ≡ end_four → Within h (w ∷ []) five_after i six_after → end_six ≡ end_five →
     Refused i (t ∷ []) six_after end_six stop → Refused c (x ∷ y ∷ z ∷ u ∷ v ∷ w ∷ t ∷ ys) before end stop
 refused_seventh x y z u v w t ys stop p is q is_two k is_three l is_four m is_five n is_six r = refused_later x (y ∷ z ∷ u ∷ v ∷ w ∷ t ∷ ys) stop p is (refused_sixth y z u v w t ys stop q is_two k is_three l is_four m is_five n is_six r)
 

@@ -30,8 +30,7 @@ returns-clause-reads c =
       reads = c.in_ok-is_final.ensures.reads;
     } in
     let v = reads_three c.in_ok-named.ensures.reads c.in_ok-symbol.ensures.reads c.in_ok-value.ensures.reads in
-    let all = declared_reads c.args.cursor.now c.keyword_if.new.self c.ty.new.cursor c.in_ok-is_final.is_final s c.in_ok-ty.ensures.reads v in
-    record { last = all.last; reads = all.reads }
+    declared_reads c.args.cursor.now c.keyword_if.new.self c.ty.new.cursor c.in_ok-is_final.is_final s c.in_ok-ty.ensures.reads v
 
 pub returns-in_err-is_final-clause-stops : goal.returns-in_err-is_final-clause-stops
 returns-in_err-is_final-clause-stops c =

@@ -42,10 +42,10 @@ pub returns-in_err-symbol-in-Call-clause-stops : goal.returns-in_err-symbol-in-C
 returns-in_err-symbol-in-Call-clause-stops c =
     let residual = err_from_is_err_and c.from_residual-in_err-symbol-in-Call.result c.from_residual-in_err-symbol-in-Call.ensures.1 in
     let ends : ending_parts (ending_of (plain_expr c.in_ok-target.target)) ≡ Some (one is_semicolon ∷ []) =
-        elim c.in-Call.is [
-          inl is ↦ ap ending_parts (call_ending c.in_ok-target.target is.0 is.1 is.2 is.3 is.4) |
-          inr is ↦ ap ending_parts (new_ending c.in_ok-target.target is.0 is.1 is.2 is.3)
-        ]
+    elim c.in-Call.is [
+      | inl is ↦ ap ending_parts (call_ending c.in_ok-target.target is.0 is.1 is.2 is.3 is.4)
+      | inr is ↦ ap ending_parts (new_ending c.in_ok-target.target is.0 is.1 is.2 is.3)
+    ]
     in
     rw
     (residual.1, residual.2)
@@ -54,18 +54,18 @@ returns-in_err-symbol-in-Call-clause-stops c =
 pub returns-in_ok-symbol-in-Call-clause-reads : goal.returns-in_ok-symbol-in-Call-clause-reads
 returns-in_ok-symbol-in-Call-clause-reads c =
     let ends : ending_parts (ending_of (plain_expr c.in_ok-target.target)) ≡ Some (one is_semicolon ∷ []) =
-        elim c.in-Call.is [
-          inl is ↦ ap ending_parts (call_ending c.in_ok-target.target is.0 is.1 is.2 is.3 is.4) |
-          inr is ↦ ap ending_parts (new_ending c.in_ok-target.target is.0 is.1 is.2 is.3)
-        ]
+    elim c.in-Call.is [
+      | inl is ↦ ap ending_parts (call_ending c.in_ok-target.target is.0 is.1 is.2 is.3 is.4)
+      | inr is ↦ ap ending_parts (new_ending c.in_ok-target.target is.0 is.1 is.2 is.3)
+    ]
     in
     record { last = _; reads = led_reads _ c.in_ok-target.ensures.leads ends c.in_ok-symbol-in-Call.ensures.reads }
 
 pub returns-in_ok-symbol-in-Call-clause-derives : goal.returns-in_ok-symbol-in-Call-clause-derives
 returns-in_ok-symbol-in-Call-clause-derives c =
     elim c.in-Call.is [
-      inl is ↦ call_performed c.in_ok-target.target is.0 is.1 is.2 is.3 is.4 c.in_ok-target.ensures.derives c.in_ok-symbol-in-Call.ensures.takes c.made-in-Call.ensures |
-      inr is ↦ new_performed c.in_ok-target.target is.0 is.1 is.2 is.3 c.in_ok-target.ensures.derives c.in_ok-symbol-in-Call.ensures.takes c.made-in-Call.ensures
+      | inl is ↦ call_performed c.in_ok-target.target is.0 is.1 is.2 is.3 is.4 c.in_ok-target.ensures.derives c.in_ok-symbol-in-Call.ensures.takes c.made-in-Call.ensures
+      | inr is ↦ new_performed c.in_ok-target.target is.0 is.1 is.2 is.3 c.in_ok-target.ensures.derives c.in_ok-symbol-in-Call.ensures.takes c.made-in-Call.ensures
     ]
 
 pub returns-in_default : goal.returns-in_default
