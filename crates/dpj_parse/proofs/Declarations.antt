@@ -1,28 +1,26 @@
 -- A declaration is read as a type and what follows it, however it begins.
-use Rattle.std.proofs.Common.{◌≡◌, ◌≤◌, ◌⊎◌, inl, inr, ◌∙◌, arith, ℕ, List, [], ◌∷◌, ◌++◌, Bool, true, false, cond, ◌||◌, ◌&&◌, Option, Some, None, refl, ap, subst, sym}
-use Rattle.dpj_base.specs.Refused.{IfRefused}
+use Rattle.std.proofs.Common.{◌≡◌, ◌≤◌, ◌⊎◌, inl, inr, ◌∙◌, arith, List, [], ◌∷◌, ◌++◌, Bool, true, false, cond, ◌||◌, Option, Some, refl, ap, subst, sym}
 use Rattle.dpj_base.specs.declared.place.Place.{Place}
 use Rattle.dpj_base.specs.declared.refusal.Kind.{Kind}
 use Rattle.dpj_base.specs.declared.refusal.Stop.{Stop}
-use Rattle.dpj_base.specs.declared.refusal.Stop.TheVariants as Stop
 use Rattle.dpj_tokens.specs.declared.token.Symbol.{Symbol}
 use Rattle.dpj_tokens.specs.declared.token.Keyword.{Keyword}
 use Rattle.dpj_terminals.specs.declared.terminal.Placed.{Placed}
 use Rattle.dpj_terminals.specs.declared.terminal.Terminal.{Terminal}
 use Rattle.dpj_terminals.specs.declared.terminal.Terminal.TheVariants as terminal
-use Rattle.dpj_parse.specs.Words.{is_assign, is_close_bracket, is_dot, is_final, is_less, is_name, is_open_bracket, is_semicolon}
+use Rattle.dpj_parse.specs.Words.{is_assign, is_close_bracket, is_dot, is_final, is_name, is_open_bracket}
 use Rattle.dpj_parse.specs.Taking.{Next, TakesIf, TakesOne, place_of}
 use Rattle.dpj_parse.specs.Counted.{counts, Completes}
 use Rattle.dpj_parse.specs.Progress.{ReadsIf}
 use Rattle.dpj_parse.specs.declared.cursor.Cursor.{Cursor}
-use Rattle.dpj_parse.specs.Expecting.{Part, expr, Expected, one, part, choose, next_of, next_is, if_next, stmt_parts, after_name_parts, base_parts}
+use Rattle.dpj_parse.specs.Expecting.{Part, expr, Expected, one, part, choose, next_of, next_is, stmt_parts, base_parts}
 use Rattle.dpj_parse.specs.Expressions.{as_element}
-use Rattle.dpj_parse.specs.Limits.{Counts, Fits, more, more_if, anew, past, inside, outside, Within, nothing, begins, passes, Stops, no_part, no_terminal, too_many, in_part, after_part, after_terminal}
-use Rattle.dpj_parse.specs.Targets.{begins_declaration, follows_a_type, opens_declaration, rest_of, stmt_begins}
+use Rattle.dpj_parse.specs.Limits.{Counts, Fits, more, more_if, anew, past, inside, Within, nothing, begins, passes, Stops, no_part, no_terminal, too_many, in_part, after_part, after_terminal}
+use Rattle.dpj_parse.specs.Targets.{begins_declaration, follows_a_type, opens_declaration, stmt_begins}
 use Rattle.dpj_parse.proofs.Coming.{comes_next}
 use Rattle.dpj_parse.proofs.StmtParts.{begins_refused}
 use Rattle.dpj_parse.proofs.Composed.{Refused, refused_first, seq, stops_after, stops_first}
-use Rattle.dpj_parse.proofs.Declaring.{Split, split, SplitStops, in_first, in_rest, split_stops, append, stops_append, stops_later, Chosen, chosen_reads, chosen_stops, NoBracket, name_no_bracket, assign_plain, semicolon_plain, IsInner, Flat, Kept, keeps}
+use Rattle.dpj_parse.proofs.Declaring.{split, SplitStops, in_first, in_rest, split_stops, append, stops_append, stops_later, chosen_reads, chosen_stops, NoBracket, name_no_bracket, assign_plain, semicolon_plain, IsInner, Flat, keeps}
 
 -- what may follow a type in a declaration
 pub data Ends : List Expected → Type 0 where

@@ -1,16 +1,13 @@
 -- A declaration: what is read of its type is what is expected of a statement that begins with a name.
-use Rattle.std.proofs.Common.{◌≡◌, ◌+◌, ◌-◌, ◌≤◌, ◌⊎◌, inl, inr, ◌∙◌, arith, ℕ, List, [], ◌∷◌, ◌++◌, Bool, true, false, cond, ◌||◌, ◌&&◌, Option, Some, None, refl, ap, subst, sym}
+use Rattle.std.proofs.Common.{◌≡◌, ◌+◌, ◌-◌, ◌≤◌, ◌⊎◌, inl, inr, ◌∙◌, arith, List, [], ◌∷◌, ◌++◌, Bool, true, false, cond, Option, Some, refl, subst}
 use Rattle.dpj_base.specs.declared.refusal.Kind.{Kind}
 use Rattle.dpj_tokens.specs.declared.token.Symbol.{Symbol}
-use Rattle.dpj_tokens.specs.declared.token.Keyword.{Keyword}
 use Rattle.dpj_terminals.specs.declared.terminal.Placed.{Placed}
 use Rattle.dpj_terminals.specs.declared.terminal.Terminal.{Terminal}
 use Rattle.dpj_terminals.specs.declared.terminal.Terminal.TheVariants as terminal
-use Rattle.dpj_parse.specs.Words.{is_assign, is_close_bracket, is_comma, is_dot, is_greater, is_hash, is_less, is_name, is_open_bracket, is_semicolon}
-use Rattle.dpj_parse.specs.Expecting.{Part, expr, Expected, one, part, choose, next_of, next_is, stmt_parts, after_name_parts, base_parts}
-use Rattle.dpj_parse.specs.Limits.{Counts, Fits, deeper, higher, more, more_if, anew, past, inside, outside, Within, nothing, begins, passes, Stops, no_part, no_terminal, too_many, in_part, after_part, after_terminal}
-use Rattle.dpj_parse.specs.Targets.{begins_declaration, follows_a_type, opens_declaration, rest_of, stmt_begins}
-use Rattle.dpj_parse.proofs.Composed.{stops_after, stops_first}
+use Rattle.dpj_parse.specs.Words.{is_assign, is_close_bracket, is_comma, is_greater, is_hash, is_less, is_name, is_open_bracket, is_semicolon}
+use Rattle.dpj_parse.specs.Expecting.{Part, Expected, one, part, choose, next_of, next_is}
+use Rattle.dpj_parse.specs.Limits.{Counts, Fits, more, more_if, past, inside, outside, Within, nothing, begins, passes, Stops, no_part, no_terminal, too_many, in_part, after_part, after_terminal}
 
 -- reading and stopping in two parts
 pub record Split (c : Counts) (x : Expected) (ys : List Expected) (before : List Placed) (e : Counts) (after : List Placed) : Type 0 where

@@ -1,11 +1,9 @@
 -- A statement that holds no other one, by what it begins with: an assignment to a local, or an expression that something follows.
-use Rattle.std.proofs.Common.{◌≡◌, ◌⊎◌, inl, inr, ◌∙◌, ℕ, List, [], ◌∷◌, Bool, true, false, ◌&&◌, Option, Some, None, refl, ap, subst, sym}
-use Rattle.dpj_base.specs.Refused.{IfRefused}
+use Rattle.std.proofs.Common.{◌≡◌, ◌⊎◌, inl, inr, ◌∙◌, ℕ, List, [], ◌∷◌, Bool, true, false, ◌&&◌, Some, refl, ap, subst, sym}
 use Rattle.dpj_base.specs.declared.place.Place.{Place}
 use Rattle.dpj_base.specs.declared.refusal.Kind.{Kind}
 use Rattle.dpj_base.specs.declared.refusal.Kind.TheVariants as kind
 use Rattle.dpj_base.specs.declared.refusal.Stop.{Stop}
-use Rattle.dpj_base.specs.declared.refusal.Stop.TheVariants as Stop
 use Rattle.dpj_tokens.specs.declared.token.Symbol.{Symbol}
 use Rattle.dpj_tokens.specs.declared.token.Keyword.{Keyword}
 use Rattle.dpj_terminals.specs.declared.terminal.Placed.{Placed}
@@ -19,10 +17,10 @@ use Rattle.dpj_tree.specs.declared.region.RplTree.{RplTree}
 use Rattle.dpj_tree.specs.declared.region.Named.{Named}
 use Rattle.dpj_tree.specs.Plain.{PlainExpr, ExprForm, plain_expr}
 use Rattle.dpj_parse.specs.declared.cursor.Cursor.{Cursor}
-use Rattle.dpj_parse.specs.Words.{is_assign, is_name, is_semicolon}
+use Rattle.dpj_parse.specs.Words.{is_assign, is_name}
 use Rattle.dpj_parse.specs.Taking.{Next, place_of}
 use Rattle.dpj_parse.specs.Counted.{counts, Completed}
-use Rattle.dpj_parse.specs.Expressions.{Ending, as_value, as_name, as_field, as_element, as_call, as_creation, DerivesPostfix, primary, DerivesPrimary}
+use Rattle.dpj_parse.specs.Expressions.{Ending, as_value, as_name, DerivesPostfix, DerivesPrimary}
 use Rattle.dpj_parse.specs.Expecting.{Part, Expected, one, part, choose, next_of, next_is, stmt_parts, ending_parts}
 use Rattle.dpj_parse.specs.Limits.{Counts, past, inside, Within, nothing, begins, passes, Stops, no_terminal, in_part}
 use Rattle.dpj_parse.specs.Reading.{ending_of, form_ending, plain_kind}

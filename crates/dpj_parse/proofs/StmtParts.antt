@@ -1,18 +1,17 @@
 -- The parts of the grammar's Stmt productions, by what they begin with.
-use Rattle.std.proofs.Common.{◌≡◌, ◌+◌, ◌-◌, ◌∙◌, arith, ℕ, List, [], ◌∷◌, Bool, true, false, cond, Option, Some, None, refl, ap, subst, sym}
+use Rattle.std.proofs.Common.{◌≡◌, ◌+◌, ◌-◌, ◌∙◌, arith, ℕ, List, [], ◌∷◌, Bool, true, false, cond, Some, refl, ap, subst, sym}
 use Rattle.dpj_base.specs.Refused.{IfRefused}
 use Rattle.dpj_base.specs.declared.place.Place.{Place}
 use Rattle.dpj_base.specs.declared.refusal.Kind.{Kind}
 use Rattle.dpj_base.specs.declared.refusal.Stop.{Stop}
-use Rattle.dpj_base.specs.declared.refusal.Stop.TheVariants as Stop
 use Rattle.dpj_tokens.specs.declared.token.Keyword.{Keyword}
 use Rattle.dpj_tokens.specs.declared.token.Symbol.{Symbol}
 use Rattle.dpj_terminals.specs.declared.terminal.Placed.{Placed}
 use Rattle.dpj_terminals.specs.declared.terminal.Terminal.{Terminal}
 use Rattle.dpj_terminals.specs.declared.terminal.Terminal.TheVariants as terminal
 use Rattle.dpj_parse.specs.declared.cursor.Cursor.{Cursor}
-use Rattle.dpj_parse.specs.Expecting.{Part, expr, Expected, one, part, choose, next_of, condition, value, range, return_rest, shown, stmt, stmts, body, block, else_if, stmt_parts}
-use Rattle.dpj_parse.specs.Limits.{Counts, Fits, deeper, inside, outside, Within, nothing, begins, Stops, in_part, Refuses}
+use Rattle.dpj_parse.specs.Expecting.{expr, Expected, one, part, choose, next_of, condition, value, range, return_rest, shown, stmt, stmts, body, block, else_if, stmt_parts}
+use Rattle.dpj_parse.specs.Limits.{Counts, Fits, deeper, inside, Within, nothing, begins, Stops, in_part}
 use Rattle.dpj_parse.specs.Counted.{counts, Completed, Halts, MayCome, Took}
 use Rattle.dpj_parse.specs.Progress.{ReadsIf}
 use Rattle.dpj_parse.specs.Taking.{Next, TakesIf}
