@@ -19,15 +19,349 @@ use dpj_tokens::{Keyword, Symbol};
 use dpj_tree::{BaseTree, BinaryOp, Expr, ExprKind, Named, RplTree, Suffix, UnaryOp};
 use std::alloc::Global;
 
+/// An expression of this kind at a place.
+fn made(place: Place, kind: ExprKind) -> Expr
+    ensures { plain_expr result ≡ expression place (plain_kind kind) }
+{
+    Expr { place, kind }
+}
+
+/// `Expr`: an expression level of its own.
+#[cycle(exprs)]
 pub fn expr(alloc: Global, cursor: &mut Cursor) -> Result<Expr, Stop>
     ensures moves { OnOk result (Reads cursor.old cursor.new) }
     ensures reads { OnOk result (Reading (part (Part.expr 0) ∷ []) cursor.old cursor.new) }
     ensures stops { IfErr result (λ stop. StopsAt (part (Part.expr 0) ∷ []) cursor.old stop) }
     ensures derives { IfOk result (λ e. DerivesExpr cursor.old.rest.now cursor.new.rest.now (plain_expr e)) }
 {
-    Err(Stop::NoMemory)
+    let outer = cursor.joined;
+    cursor.joined = 0;
+    let found = operators(alloc, cursor, LOOSEST)?;
+    cursor.joined = outer;
+    Ok(found)
 }
 
+/// `Unary { operator Unary }`, with operators that bind at least so tightly.
+#[cycle(exprs)]
+fn operators(alloc: Global, cursor: &mut Cursor, least: u32) -> Result<Expr, Stop>
+    ensures moves { OnOk result (Reads cursor.old cursor.new) }
+    ensures reads { OnOk result (Reading (part (Part.expr least) ∷ []) cursor.old cursor.new) }
+    ensures stops { IfErr result (λ stop. StopsAt (part (Part.expr least) ∷ []) cursor.old stop) }
+    ensures derives { IfOk result (λ e. DerivesLevel least cursor.old.rest.now cursor.new.rest.now (plain_expr e)) }
+{
+    let mut left = unary(alloc, cursor)?;
+    let mut most = TIGHTEST;
+    while let Some(op) = operator_within(cursor, least, most) {
+        let place = cursor.join()?;
+        let right = operators(alloc, cursor, binding(op) + 1)?;
+        left = joined(alloc, place, op, left, right)?;
+        most = tightest_behind(op);
+    }
+    Ok(left)
+}
+
+/// The operator that comes next, where it binds so tightly.
+fn operator_within(cursor: &Cursor, least: u32, most: u32) -> Option<BinaryOp>
+    ensures next { IfSome result (λ op. Next (Terminal.Symbol (symbol_of op)) cursor.now.rest.now) }
+    ensures within { IfSome result (λ op. (least ≤ level_of op) × (level_of op ≤ most)) }
+{
+    let Some(Terminal::Symbol(symbol)) = cursor.next() else {
+        return None;
+    };
+    let op = binary_of(*symbol)?;
+    if binding(op) < least || binding(op) > most {
+        return None;
+    }
+    Some(op)
+}
+
+#[tactic(auto, using(crate::proofs::Trees::kind_Binary))]
+fn joined(
+    alloc: Global,
+    place: Place,
+    op: BinaryOp,
+    left: Expr,
+    right: Expr,
+) -> Result<Expr, NoMemory>
+    ensures { IfOk result (λ e. plain_expr e ≡ expression place (binary op (plain_expr left) (plain_expr right))) }
+{
+    let left = Boxed::new(alloc, left)?;
+    let right = Boxed::new(alloc, right)?;
+    Ok(made(place, ExprKind::Binary { op, left, right }))
+}
+
+/// `Unary = ( "-" | "!" ) Unary | Postfix | NewArray`
+#[tactic(auto, using(crate::proofs::Making::made_operator, crate::proofs::Making::inner_selected, crate::proofs::Making::primary_selected))]
+#[cycle(exprs)]
+fn unary(alloc: Global, cursor: &mut Cursor) -> Result<Expr, Stop>
+    ensures moves { OnOk result (Reads cursor.old cursor.new) }
+    ensures reads { OnOk result (Reading (part Part.unary ∷ []) cursor.old cursor.new) }
+    ensures stops { IfErr result (λ stop. StopsAt (part Part.unary ∷ []) cursor.old stop) }
+    ensures derives { IfOk result (λ e. DerivesUnary cursor.old.rest.now cursor.new.rest.now (plain_expr e)) }
+{
+    if let Some(op) = operator_before(cursor) {
+        let place = cursor.join()?;
+        let arg = Boxed::new(alloc, unary(alloc, cursor)?)?;
+        return Ok(made(place, ExprKind::Unary { op, arg }));
+    }
+    if cursor.is_keyword(Keyword::New) {
+        return created(alloc, cursor);
+    }
+    if cursor.is_symbol(Symbol::OpenParen) {
+        let first = inner(alloc, cursor)?;
+        return selected(alloc, cursor, first);
+    }
+    let first = literal(cursor)?;
+    selected(alloc, cursor, first)
+}
+
+/// The operator before an expression that comes next.
+fn operator_before(cursor: &Cursor) -> Option<UnaryOp>
+    ensures { IfSome result (λ op. Next (Terminal.Symbol (unary_symbol op)) cursor.now.rest.now) }
+{
+    match cursor.next() {
+        Some(Terminal::Symbol(symbol)) => unary_of(*symbol),
+        _ => None,
+    }
+}
+
+/// A Postfix that begins with a creation, or a NewArray.
+#[tactic(auto, using(crate::proofs::Making::made_object, crate::proofs::Making::made_array))]
+#[cycle(exprs)]
+fn created(alloc: Global, cursor: &mut Cursor) -> Result<Expr, Stop>
+    ensures moves { OnOk result (Reads cursor.old cursor.new) }
+    ensures reads { OnOk result (Reading (one is_new ∷ part Part.created ∷ []) cursor.old cursor.new) }
+    ensures stops { IfErr result (λ stop. StopsAt (one is_new ∷ part Part.created ∷ []) cursor.old stop) }
+    ensures derives { IfOk result (λ e. DerivesUnary cursor.old.rest.now cursor.new.rest.now (plain_expr e)) }
+{
+    let place = cursor.keyword(Keyword::New)?;
+    match base(alloc, cursor)? {
+        BaseTree::Class { name, args } if cursor.is_symbol(Symbol::OpenParen) => {
+            let actuals = actuals(alloc, cursor)?;
+            let object = object(place, name, args, actuals);
+            selected(alloc, cursor, object)
+        }
+        base => array(alloc, cursor, place, base),
+    }
+}
+
+/// The creation of an object, after its actuals.
+#[tactic(auto, using(crate::proofs::Trees::kind_New))]
+fn object(place: Place, class: Named, regions: Items<RplTree>, actuals: Items<Expr>) -> Expr
+    ensures { plain_expr result ≡ expression place (create class regions (plain_exprs (map plain_expr actuals))) }
+{
+    let kind = ExprKind::New {
+        class,
+        regions,
+        actuals,
+    };
+    made(place, kind)
+}
+
+/// `NewArray` behind its base: `{ "[" "]" [ "<" Rpl ">" ] [ "#" Name ] } "[" Expr "]" [ "<" Rpl ">" ] [ "#" Name ]`
+#[tactic(auto, using(crate::proofs::Making::made_lengths))]
+#[cycle(exprs)]
+fn array(alloc: Global, cursor: &mut Cursor, place: Place, base: BaseTree) -> Result<Expr, Stop>
+    ensures moves { OnOk result (Reads cursor.old cursor.new) }
+    ensures reads { OnOk result (Reading (part Part.array ∷ []) cursor.old cursor.new) }
+    ensures stops { IfErr result (λ stop. StopsAt (part Part.array ∷ []) cursor.old stop) }
+    ensures derives { IfOk result (λ e. DerivesLengths base place cursor.old.rest.now cursor.new.rest.now (plain_expr e)) }
+{
+    let suffixes = open_suffixes(alloc, cursor)?;
+    let length = Boxed::new(alloc, expr(alloc, cursor)?)?;
+    cursor.close(Symbol::CloseBracket)?;
+    let own = behind_brackets(alloc, cursor)?;
+    let kind = ExprKind::NewArray {
+        base,
+        suffixes,
+        length,
+        rpl: own.rpl,
+        index: own.index,
+    };
+    Ok(made(place, kind))
+}
+
+/// The suffixes before the length of an array, and the `[` in front of the length.
+#[tactic(auto, using(crate::proofs::Making::first_opened, crate::proofs::Making::more_opened))]
+fn open_suffixes(alloc: Global, cursor: &mut Cursor) -> Result<Items<Suffix>, Stop>
+    ensures moves { OnOk result (Opens cursor.old cursor.new) }
+    // TODO clause
+    ensures derives { IfOk result (λ suffixes. DerivesOpenSuffixes cursor.old.rest.now cursor.new.rest.now suffixes) }
+{
+    let mut suffixes = Items::new(alloc);
+    cursor.join_open()?;
+    while cursor.is_symbol(Symbol::CloseBracket) {
+        cursor.close(Symbol::CloseBracket)?;
+        suffixes.push(behind_brackets(alloc, cursor)?)?;
+        cursor.join_open()?;
+    }
+    Ok(suffixes)
+}
+
+/// `"(" Expr ")"`
+#[tactic(auto, using(crate::proofs::Making::made_inner))]
+#[cycle(exprs)]
+fn inner(alloc: Global, cursor: &mut Cursor) -> Result<Expr, Stop>
+    ensures moves { OnOk result (Reads cursor.old cursor.new) }
+    ensures reads { OnOk result (Reading (part Part.inner ∷ []) cursor.old cursor.new) }
+    ensures stops { IfErr result (λ stop. StopsAt (part Part.inner ∷ []) cursor.old stop) }
+    ensures derives { IfOk result (λ e. DerivesInner cursor.old.rest.now cursor.new.rest.now (plain_expr e)) }
+{
+    cursor.open(Symbol::OpenParen)?;
+    let inner = expr(alloc, cursor)?;
+    cursor.close(Symbol::CloseParen)?;
+    Ok(inner)
+}
+
+/// `Int | "true" | "false" | "null" | "this" | Name`
+#[tactic(auto, using(crate::proofs::Making::made_literal))]
+fn literal(cursor: &mut Cursor) -> Result<Expr, Stop>
+    ensures moves { OnOk result (Reads cursor.old cursor.new) }
+    ensures reads { OnOk result (Reading (part Part.literal ∷ []) cursor.old cursor.new) }
+    ensures stops { IfErr result (λ stop. StopsAt (part Part.literal ∷ []) cursor.old stop) }
+    ensures derives { IfOk result (λ e. DerivesPrimary (ending_of (plain_expr e)) cursor.old.rest.now cursor.new.rest.now (plain_expr e)) }
+{
+    let kind = spelled(cursor)?;
+    let place = cursor.place();
+    cursor.accept()?;
+    Ok(made(place, kind))
+}
+
+/// The expression that the next terminal is.
+#[tactic(auto, using(crate::proofs::Spelling::next_number, crate::proofs::Spelling::next_name, crate::proofs::Spelling::next_true, crate::proofs::Spelling::next_false, crate::proofs::Spelling::next_null, crate::proofs::Spelling::next_this))]
+fn spelled(cursor: &Cursor) -> Result<ExprKind, Stop>
+    ensures spells { IfOk result (λ kind. NextSpells cursor.now.rest.now (plain_kind kind)) }
+    // TODO clause
+{
+    match cursor.next() {
+        Some(Terminal::Int(number)) => Ok(ExprKind::Int(*number)),
+        Some(Terminal::Name(name)) => Ok(ExprKind::Local(*name)),
+        Some(Terminal::Keyword(Keyword::True)) => Ok(ExprKind::Bool(true)),
+        Some(Terminal::Keyword(Keyword::False)) => Ok(ExprKind::Bool(false)),
+        Some(Terminal::Keyword(Keyword::Null)) => Ok(ExprKind::Null),
+        Some(Terminal::Keyword(Keyword::This)) => Ok(ExprKind::This),
+        _ => Err(cursor.unexpected()),
+    }
+}
+
+/// Whether a field, a call or an element of what stands before comes next.
+fn selects(cursor: &Cursor) -> bool {
+    cursor.is_symbol(Symbol::Dot) || cursor.is_symbol(Symbol::OpenBracket)
+}
+
+/// `{ "." Name | "." [ Args ] Name "(" [ Actuals ] ")" | "[" Expr "]" }`
+#[tactic(auto, using(crate::specs::Reading::none, crate::specs::Reading::more))]
+#[cycle(exprs)]
+fn selected(alloc: Global, cursor: &mut Cursor, first: Expr) -> Result<Expr, Stop>
+    ensures moves { OnOk result (Keeps cursor.old cursor.new) }
+    ensures reads { OnOk result (Reading (part Part.selected ∷ []) cursor.old cursor.new) }
+    ensures stops { IfErr result (λ stop. StopsAt (part Part.selected ∷ []) cursor.old stop) }
+    ensures derives { IfOk result (λ e. DerivesSelections (plain_expr first) cursor.old.rest.now cursor.new.rest.now (plain_expr e)) }
+{
+    let mut found = first;
+    while selects(cursor) {
+        found = selection(alloc, cursor, found)?;
+    }
+    Ok(found)
+}
+
+/// `"." Name | "." [ Args ] Name "(" [ Actuals ] ")" | "[" Expr "]"`
+#[cycle(exprs)]
+fn selection(alloc: Global, cursor: &mut Cursor, of: Expr) -> Result<Expr, Stop>
+    ensures moves { OnOk result (Reads cursor.old cursor.new) }
+    ensures reads { OnOk result (Reading (part Part.selection ∷ []) cursor.old cursor.new) }
+    ensures stops { IfErr result (λ stop. StopsAt (part Part.selection ∷ []) cursor.old stop) }
+    ensures derives { IfOk result (λ e. DerivesSelection (plain_expr of) cursor.old.rest.now cursor.new.rest.now (plain_expr e)) }
+{
+    if cursor.is_symbol(Symbol::Dot) {
+        return member(alloc, cursor, of);
+    }
+    element(alloc, cursor, of)
+}
+
+/// `"[" Expr "]"`
+#[tactic(auto, using(crate::proofs::Making::made_element))]
+#[cycle(exprs)]
+fn element(alloc: Global, cursor: &mut Cursor, of: Expr) -> Result<Expr, Stop>
+    ensures moves { OnOk result (Reads cursor.old cursor.new) }
+    ensures reads { OnOk result (Reading (part Part.element ∷ []) cursor.old cursor.new) }
+    ensures stops { IfErr result (λ stop. StopsAt (part Part.element ∷ []) cursor.old stop) }
+    ensures derives { IfOk result (λ e. DerivesSelection (plain_expr of) cursor.old.rest.now cursor.new.rest.now (plain_expr e)) }
+{
+    let array = Boxed::new(alloc, of)?;
+    let place = cursor.join_open()?;
+    let index = Boxed::new(alloc, expr(alloc, cursor)?)?;
+    cursor.close(Symbol::CloseBracket)?;
+    Ok(made(place, ExprKind::Element { array, index }))
+}
+
+/// `"." Name | "." [ Args ] Name "(" [ Actuals ] ")"`
+#[tactic(auto, using(crate::proofs::Making::made_field, crate::proofs::Making::made_call))]
+#[cycle(exprs)]
+fn member(alloc: Global, cursor: &mut Cursor, of: Expr) -> Result<Expr, Stop>
+    requires { Next (Terminal.Symbol Symbol.Dot) cursor.old.rest.now }
+    ensures moves { OnOk result (Reads cursor.old cursor.new) }
+    ensures reads { OnOk result (Reading (part Part.selection ∷ []) cursor.old cursor.new) }
+    ensures stops { IfErr result (λ stop. StopsAt (part Part.selection ∷ []) cursor.old stop) }
+    ensures derives { IfOk result (λ e. DerivesSelection (plain_expr of) cursor.old.rest.now cursor.new.rest.now (plain_expr e)) }
+{
+    let of = Boxed::new(alloc, of)?;
+    cursor.join()?;
+    let has_args = cursor.is_symbol(Symbol::Less);
+    let regions = args_if(alloc, cursor)?;
+    let named = cursor.name()?;
+    if !has_args && !cursor.is_symbol(Symbol::OpenParen) {
+        let name = named.name;
+        return Ok(made(named.place, ExprKind::Field { of, name }));
+    }
+    let kind = ExprKind::Call {
+        of,
+        regions,
+        name: named.name,
+        actuals: actuals(alloc, cursor)?,
+    };
+    Ok(made(named.place, kind))
+}
+
+/// `"(" [ Actuals ] ")"`
+#[tactic(auto, using(crate::proofs::Making::made_no_actuals, crate::proofs::Making::made_actuals))]
+#[cycle(exprs)]
+fn actuals(alloc: Global, cursor: &mut Cursor) -> Result<Items<Expr>, Stop>
+    ensures moves { OnOk result (Reads cursor.old cursor.new) }
+    ensures reads { OnOk result (Reading (part Part.actuals ∷ []) cursor.old cursor.new) }
+    ensures stops { IfErr result (λ stop. StopsAt (part Part.actuals ∷ []) cursor.old stop) }
+    ensures derives { IfOk result (λ all. DerivesActuals cursor.old.rest.now cursor.new.rest.now (plain_exprs (map plain_expr all))) }
+{
+    cursor.open(Symbol::OpenParen)?;
+    if cursor.is_symbol(Symbol::CloseParen) {
+        cursor.close(Symbol::CloseParen)?;
+        return Ok(Items::new(alloc));
+    }
+    let actuals = listed(alloc, cursor)?;
+    cursor.close(Symbol::CloseParen)?;
+    Ok(actuals)
+}
+
+/// `Actuals = Expr { "," Expr }`
+#[tactic(auto, using(crate::proofs::Making::first_listed, crate::proofs::Making::more_listed))]
+#[cycle(exprs)]
+fn listed(alloc: Global, cursor: &mut Cursor) -> Result<Items<Expr>, Stop>
+    ensures moves { OnOk result (Reads cursor.old cursor.new) }
+    ensures reads { OnOk result (Reading (part Part.listed ∷ []) cursor.old cursor.new) }
+    ensures stops { IfErr result (λ stop. StopsAt (part Part.listed ∷ []) cursor.old stop) }
+    ensures derives { IfOk result (λ all. Listed DerivesExprTree cursor.old.rest.now cursor.new.rest.now all) }
+{
+    let mut all = Items::new(alloc);
+    all.push(expr(alloc, cursor)?)?;
+    while cursor.symbol_if(Symbol::Comma)? {
+        all.push(expr(alloc, cursor)?)?;
+    }
+    Ok(all)
+}
+
+/// `Postfix` at the beginning of a statement: a creation is that of an object, and something in parentheses has a
+/// field, a call or an element behind it.
+#[tactic(auto, using(crate::proofs::Selecting::selections_postfix))]
 pub fn target(alloc: Global, cursor: &mut Cursor) -> Result<Expr, Stop>
     requires target { IsTarget cursor.old.rest.now }
     requires anew { cursor.old.joined ≡ 0 }
@@ -36,5 +370,37 @@ pub fn target(alloc: Global, cursor: &mut Cursor) -> Result<Expr, Stop>
     ensures stops { IfErr result (λ stop. StopsAt (stmt_begins cursor.old.rest.now) cursor.old stop) }
     ensures derives { IfOk result (λ e. DerivesPostfix (ending_of (plain_expr e)) cursor.old.rest.now cursor.new.rest.now (plain_expr e)) }
 {
-    Err(Stop::NoMemory)
+    let first = target_first(alloc, cursor)?;
+    selected(alloc, cursor, first)
+}
+
+/// The shortest such Postfix.
+#[tactic(auto, using(crate::proofs::Making::inner_selection, crate::proofs::Making::primary_target))]
+fn target_first(alloc: Global, cursor: &mut Cursor) -> Result<Expr, Stop>
+    ensures moves { OnOk result (Reads cursor.old cursor.new) }
+    // TODO clause
+    ensures derives { IfOk result (λ e. DerivesPostfix (ending_of (plain_expr e)) cursor.old.rest.now cursor.new.rest.now (plain_expr e)) }
+{
+    if cursor.is_keyword(Keyword::New) {
+        return new_object(alloc, cursor);
+    }
+    if cursor.is_symbol(Symbol::OpenParen) {
+        let inner = inner(alloc, cursor)?;
+        return selection(alloc, cursor, inner);
+    }
+    literal(cursor)
+}
+
+/// `"new" Name [ Args ] "(" [ Actuals ] ")"`
+fn new_object(alloc: Global, cursor: &mut Cursor) -> Result<Expr, Stop>
+    ensures moves { OnOk result (Reads cursor.old cursor.new) }
+    ensures reads { OnOk result (Reading (one is_new ∷ one is_name ∷ part Part.args_if ∷ part Part.actuals ∷ []) cursor.old cursor.new) }
+    ensures stops { IfErr result (λ stop. StopsAt (one is_new ∷ one is_name ∷ part Part.args_if ∷ part Part.actuals ∷ []) cursor.old stop) }
+    ensures derives { IfOk result (λ e. DerivesPostfix (ending_of (plain_expr e)) cursor.old.rest.now cursor.new.rest.now (plain_expr e)) }
+{
+    let place = cursor.keyword(Keyword::New)?;
+    let class = cursor.name()?;
+    let regions = args_if(alloc, cursor)?;
+    let actuals = actuals(alloc, cursor)?;
+    Ok(object(place, class, regions, actuals))
 }

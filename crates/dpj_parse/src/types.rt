@@ -13,29 +13,108 @@ use dpj_tokens::{Keyword, Symbol};
 use dpj_tree::{BaseTree, Named, RplTree, Suffix, TypeTree};
 use std::alloc::Global;
 
+/// `Type = Base { "[" "]" [ "<" Rpl ">" ] [ "#" Name ] }`
+#[tactic(auto, using(crate::specs::Types::type_of))]
 pub fn ty(alloc: Global, cursor: &mut Cursor) -> Result<TypeTree, Stop>
     ensures moves { OnOk result (Reads cursor.old cursor.new) }
     ensures reads { OnOk result (Reading (part Part.type ∷ []) cursor.old cursor.new) }
     ensures stops { IfErr result (λ stop. StopsAt (part Part.type ∷ []) cursor.old stop) }
     ensures derives { IfOk result (λ tree. DerivesType cursor.old.rest.now cursor.new.rest.now tree) }
 {
-    Err(Stop::NoMemory)
+    let outer = cursor.joined;
+    cursor.joined = 0;
+    let place = cursor.place();
+    let base = base(alloc, cursor)?;
+    let suffixes = suffixes(alloc, cursor)?;
+    cursor.joined = outer;
+    Ok(TypeTree {
+        place,
+        base,
+        suffixes,
+    })
 }
 
+/// `Base = "int" | "boolean" | Name [ Args ]`
+#[tactic(auto, using(crate::proofs::TypeForms::base_int, crate::proofs::TypeForms::base_boolean, crate::specs::Types::class))]
 pub fn base(alloc: Global, cursor: &mut Cursor) -> Result<BaseTree, Stop>
     ensures moves { OnOk result (Reads cursor.old cursor.new) }
     ensures reads { OnOk result (Reading (part Part.base ∷ []) cursor.old cursor.new) }
     ensures stops { IfErr result (λ stop. StopsAt (part Part.base ∷ []) cursor.old stop) }
     ensures derives { IfOk result (λ start. DerivesBase cursor.old.rest.now cursor.new.rest.now start) }
 {
-    Err(Stop::NoMemory)
+    match cursor.next() {
+        Some(Terminal::Keyword(Keyword::Int)) => {
+            cursor.accept()?;
+            Ok(BaseTree::Int)
+        }
+        Some(Terminal::Keyword(Keyword::Boolean)) => {
+            cursor.accept()?;
+            Ok(BaseTree::Bool)
+        }
+        _ => {
+            let name = cursor.name()?;
+            let args = args_if(alloc, cursor)?;
+            Ok(BaseTree::Class { name, args })
+        }
+    }
 }
 
+/// `{ "[" "]" [ "<" Rpl ">" ] [ "#" Name ] }`
+#[tactic(auto, using(crate::proofs::Lists::many_more, crate::proofs::Lists::few_more, crate::specs::Taking::none, crate::proofs::TypeForms::suffix_of))]
+fn suffixes(alloc: Global, cursor: &mut Cursor) -> Result<Items<Suffix>, Stop>
+    ensures moves { OnOk result (Keeps cursor.old cursor.new) }
+    ensures reads { OnOk result (Reading (part Part.suffixes ∷ []) cursor.old cursor.new) }
+    ensures stops { IfErr result (λ stop. StopsAt (part Part.suffixes ∷ []) cursor.old stop) }
+    ensures derives { IfOk result (λ suffixes. Many DerivesSuffix cursor.old.rest.now cursor.new.rest.now suffixes) }
+{
+    let mut suffixes = Items::new(alloc);
+    while cursor.is_symbol(Symbol::OpenBracket) {
+        cursor.join_open()?;
+        cursor.close(Symbol::CloseBracket)?;
+        suffixes.push(behind_brackets(alloc, cursor)?)?;
+    }
+    Ok(suffixes)
+}
+
+/// `[ "<" Rpl ">" ] [ "#" Name ]`
+#[tactic(auto, using(crate::specs::Types::behind))]
 pub fn behind_brackets(alloc: Global, cursor: &mut Cursor) -> Result<Suffix, Stop>
     ensures moves { OnOk result (Keeps cursor.old cursor.new) }
     ensures reads { OnOk result (Reading (part Part.brackets_behind ∷ []) cursor.old cursor.new) }
     ensures stops { IfErr result (λ stop. StopsAt (part Part.brackets_behind ∷ []) cursor.old stop) }
     ensures derives { IfOk result (λ tree. DerivesBehind cursor.old.rest.now cursor.new.rest.now tree) }
 {
-    Err(Stop::NoMemory)
+    let rpl = region_if(alloc, cursor)?;
+    let index = index_if(cursor)?;
+    Ok(Suffix { rpl, index })
+}
+
+/// `[ "<" Rpl ">" ]`
+#[tactic(auto, using(crate::proofs::TypeForms::region_none, crate::proofs::TypeForms::region_some))]
+fn region_if(alloc: Global, cursor: &mut Cursor) -> Result<Option<RplTree>, Stop>
+    ensures moves { OnOk result (Keeps cursor.old cursor.new) }
+    ensures reads { OnOk result (Reading (part Part.region_if ∷ []) cursor.old cursor.new) }
+    ensures stops { IfErr result (λ stop. StopsAt (part Part.region_if ∷ []) cursor.old stop) }
+    ensures derives { IfOk result (λ region. DerivesRegion cursor.old.rest.now cursor.new.rest.now region) }
+{
+    if !cursor.symbol_if(Symbol::Less)? {
+        return Ok(None);
+    }
+    let region = rpl(alloc, cursor)?;
+    cursor.symbol(Symbol::Greater)?;
+    Ok(Some(region))
+}
+
+/// `[ "#" Name ]`
+#[tactic(auto, using(crate::proofs::TypeForms::index_none, crate::proofs::TypeForms::index_some))]
+fn index_if(cursor: &mut Cursor) -> Result<Option<Named>, Stop>
+    ensures moves { OnOk result (Keeps cursor.old cursor.new) }
+    ensures reads { OnOk result (Reading (part Part.index_if ∷ []) cursor.old cursor.new) }
+    ensures stops { IfErr result (λ stop. StopsAt (part Part.index_if ∷ []) cursor.old stop) }
+    ensures derives { IfOk result (λ index. DerivesIndex cursor.old.rest.now cursor.new.rest.now index) }
+{
+    if !cursor.symbol_if(Symbol::Hash)? {
+        return Ok(None);
+    }
+    Ok(Some(cursor.name()?))
 }

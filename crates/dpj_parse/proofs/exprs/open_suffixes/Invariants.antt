@@ -1,0 +1,13 @@
+use Rattle.std.proofs.Common.{length}
+use Rattle.dpj_parse.specs.Progress.{Opens}
+use Rattle.dpj_parse.specs.Reading.{DerivesOpenSuffixes}
+use Rattle.dpj_parse.proofs.exprs.open_suffixes.Given as goal
+
+abbrev pub invariant-loop-alloc : goal.invariant-loop-alloc
+invariant-loop-alloc l = record {
+  moves : Opens l.fn.cursor l.cursor;
+  derives : DerivesOpenSuffixes l.fn.cursor.rest.now l.cursor.rest.now l.suffixes;
+}
+
+abbrev pub decreases-loop-alloc : goal.decreases-loop-alloc
+decreases-loop-alloc l = length l.cursor.rest.now
