@@ -21,6 +21,9 @@ pub mod PathParts
 pub mod TypeParts
 pub mod ExprParts
 pub mod StmtParts
+pub mod Declaring
+pub mod Declarations
+pub mod Performing
 pub mod MemberParts
 pub mod ClassParts
 pub mod Distinct
