@@ -1,12 +1,12 @@
-ghost use Rattle.std.specs.Prelude.{◌≡◌, ◌+◌, ◌<◌, ◌≤◌, length, map, OnOk, IfOk, IfSome, IfErr, [], ◌∷◌};
+ghost use Rattle.std.specs.Prelude.{None, MatchOption, ◌≡◌, ◌+◌, ◌<◌, ◌≤◌, length, map, OnOk, IfOk, IfSome, IfErr, [], ◌∷◌};
 ghost use Rattle.dpj_parse.specs.Counted.{Reading, StopsAt, counts};
-ghost use Rattle.dpj_parse.specs.Expecting.{Part, one, part};
+ghost use Rattle.dpj_parse.specs.Expecting.{Part, choose, literal_parts, next_of, one, part};
 ghost use Rattle.dpj_parse.specs.Targets.{IsTarget, Leads, stmt_begins};
 ghost use Rattle.dpj_parse.specs.Words.{is_name, is_new};
 ghost use Rattle.dpj_parse.specs.Progress.{Keeps, Opens, Reads};
 ghost use Rattle.dpj_parse.specs.Taking.{Next, Listed};
 ghost use Rattle.dpj_parse.specs.Expressions.{DerivesActuals, DerivesExpr, DerivesLevel, DerivesPostfix, DerivesPrimary, DerivesUnary, as_creation, level_of, symbol_of, unary_symbol};
-ghost use Rattle.dpj_parse.specs.Reading.{DerivesExprTree, DerivesInner, DerivesLengths, DerivesOpenSuffixes, DerivesSelection, DerivesSelections, NextSpells, ending_of, plain_kind};
+ghost use Rattle.dpj_parse.specs.Reading.{DerivesExprTree, DerivesInner, DerivesLengths, DerivesOpenSuffixes, DerivesSelection, DerivesSelections, NextSpells, Spells, ending_of, plain_kind};
 ghost use Rattle.dpj_tree.specs.Plain.{binary, create, expression, plain_expr, plain_exprs};
 
 use crate::cursor::Cursor;
@@ -214,33 +214,53 @@ fn inner(alloc: Global, cursor: &mut Cursor) -> Result<Expr, Stop>
 }
 
 /// `Int | "true" | "false" | "null" | "this" | Name`
-#[tactic(auto, using(crate::proofs::Making::made_literal))]
+#[tactic(auto, using(crate::proofs::Making::made_literal, crate::proofs::ExprParts::literal_reads, crate::proofs::ExprParts::literal_halts, crate::proofs::ExprParts::literal_lost))]
 fn literal(cursor: &mut Cursor) -> Result<Expr, Stop>
     ensures moves { OnOk result (Reads cursor.old cursor.new) }
     ensures reads { OnOk result (Reading (part Part.literal ∷ []) cursor.old cursor.new) }
     ensures stops { IfErr result (λ stop. StopsAt (part Part.literal ∷ []) cursor.old stop) }
     ensures derives { IfOk result (λ e. DerivesPrimary (ending_of (plain_expr e)) cursor.old.rest.now cursor.new.rest.now (plain_expr e)) }
 {
-    let kind = spelled(cursor)?;
+    let Some(kind) = spelled(cursor) else {
+        return Err(cursor.unexpected());
+    };
     let place = cursor.place();
     cursor.accept()?;
     Ok(made(place, kind))
 }
 
 /// The expression that the next terminal is.
-#[tactic(auto, using(crate::proofs::Spelling::next_number, crate::proofs::Spelling::next_name, crate::proofs::Spelling::next_true, crate::proofs::Spelling::next_false, crate::proofs::Spelling::next_null, crate::proofs::Spelling::next_this))]
-fn spelled(cursor: &Cursor) -> Result<ExprKind, Stop>
-    ensures spells { IfOk result (λ kind. NextSpells cursor.now.rest.now (plain_kind kind)) }
-    // TODO clause
+#[tactic(auto, using(crate::proofs::ExprParts::no_literal_at_end, crate::proofs::ExprParts::no_literal, crate::proofs::ExprParts::next_spells))]
+fn spelled(cursor: &Cursor) -> Option<ExprKind>
+    ensures { MatchOption result (choose Part.literal (next_of cursor.now.rest.now) ≡ None) (λ kind. NextSpells cursor.now.rest.now (plain_kind kind)) }
 {
-    match cursor.next() {
-        Some(Terminal::Int(number)) => Ok(ExprKind::Int(*number)),
-        Some(Terminal::Name(name)) => Ok(ExprKind::Local(*name)),
-        Some(Terminal::Keyword(Keyword::True)) => Ok(ExprKind::Bool(true)),
-        Some(Terminal::Keyword(Keyword::False)) => Ok(ExprKind::Bool(false)),
-        Some(Terminal::Keyword(Keyword::Null)) => Ok(ExprKind::Null),
-        Some(Terminal::Keyword(Keyword::This)) => Ok(ExprKind::This),
-        _ => Err(cursor.unexpected()),
+    single(cursor.next()?)
+}
+
+/// The expression that a terminal is.
+#[tactic(auto, using(crate::proofs::Spelling::number_spelled, crate::proofs::Spelling::name_spelled))]
+fn single(terminal: &Terminal) -> Option<ExprKind>
+    ensures { MatchOption result (literal_parts terminal.now ≡ None) (λ kind. Spells terminal.now (plain_kind kind)) }
+{
+    match terminal {
+        Terminal::Int(number) => Some(ExprKind::Int(*number)),
+        Terminal::Name(name) => Some(ExprKind::Local(*name)),
+        Terminal::Keyword(keyword) => constant(*keyword),
+        Terminal::Symbol(_) | Terminal::Text(_) => None,
+    }
+}
+
+/// The expression that a keyword is.
+#[tactic(auto, using(crate::proofs::Spelling::true_spelled, crate::proofs::Spelling::false_spelled, crate::proofs::Spelling::null_spelled, crate::proofs::Spelling::this_spelled, crate::proofs::Spelling::no_constant))]
+fn constant(keyword: Keyword) -> Option<ExprKind>
+    ensures { MatchOption result (literal_parts (Terminal.Keyword keyword) ≡ None) (λ kind. Spells (Terminal.Keyword keyword) (plain_kind kind)) }
+{
+    match keyword {
+        Keyword::True => Some(ExprKind::Bool(true)),
+        Keyword::False => Some(ExprKind::Bool(false)),
+        Keyword::Null => Some(ExprKind::Null),
+        Keyword::This => Some(ExprKind::This),
+        _ => None,
     }
 }
 

