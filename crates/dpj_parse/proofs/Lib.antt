@@ -16,6 +16,7 @@ pub mod Targeted
 pub mod Coming
 pub mod Composed
 pub mod Onwards
+pub mod Few
 pub mod PathParts
 pub mod TypeParts
 pub mod ExprParts

@@ -36,5 +36,6 @@ ends o = o.reads _ _ nothing
 -- and where the first of it is refused
 pub refused_on : {c d : Counts} {xs : List Expected} {x : Expected} (ys : List Expected) {before between : List Placed} {end last : Place} (stop : Stop) →
     Onward c xs before d (x ∷ ys) between → last ≡ end → IfRefused stop (Refuses d (x ∷ []) between last) → IfRefused stop (Refuses c xs before end)
-refused_on {d = d} ys {between = between} {last = last} stop o same r =
-    subst (λ place. IfRefused stop (Refuses _ _ _ place)) same (on_refused last stop (λ k here s. o.stops k here (stops_first ys s)) r)
+refused_on {c} {d} {xs} {x} ys {before} {between} {end} {last} stop o same r =
+    let there : IfRefused stop (Refuses c xs before last) = on_refused last stop (λ k here s. o.stops k here (stops_first ys s)) r in
+    subst (λ place. IfRefused stop (Refuses c xs before place)) same there

@@ -1,8 +1,9 @@
 ghost use Rattle.std.specs.Prelude.{None, MatchOption, ◌≡◌, ◌+◌, ◌<◌, ◌≤◌, length, map, OnOk, IfOk, IfSome, IfErr, [], ◌∷◌};
 ghost use Rattle.dpj_parse.specs.Counted.{Reading, StopsAt, counts};
 ghost use Rattle.dpj_parse.specs.Expecting.{Part, choose, literal_parts, next_of, one, part};
+ghost use Rattle.dpj_parse.specs.Onward.{ReadsOn};
 ghost use Rattle.dpj_parse.specs.Targets.{IsTarget, Leads, stmt_begins};
-ghost use Rattle.dpj_parse.specs.Words.{is_name, is_new};
+ghost use Rattle.dpj_parse.specs.Words.{is_close_bracket, is_name, is_new};
 ghost use Rattle.dpj_parse.specs.Progress.{Keeps, Opens, Reads};
 ghost use Rattle.dpj_parse.specs.Taking.{Next, Listed};
 ghost use Rattle.dpj_parse.specs.Expressions.{DerivesActuals, DerivesExpr, DerivesLevel, DerivesPostfix, DerivesPrimary, DerivesUnary, as_creation, level_of, symbol_of, unary_symbol};
@@ -182,10 +183,12 @@ fn array(alloc: Global, cursor: &mut Cursor, place: Place, base: BaseTree) -> Re
 }
 
 /// The suffixes before the length of an array, and the `[` in front of the length.
-#[tactic(auto, using(crate::proofs::Making::first_opened, crate::proofs::Making::more_opened))]
+#[tactic(auto, using(crate::proofs::Making::first_opened, crate::proofs::Making::more_opened, crate::proofs::Few::still_few, crate::proofs::ExprParts::array_refused, crate::proofs::ExprParts::array_opened, crate::proofs::ExprParts::length_opened, crate::proofs::ExprParts::suffix_read, crate::proofs::ExprParts::suffix_close_refused, crate::proofs::ExprParts::suffix_tail_refused, crate::proofs::ExprParts::suffix_open_refused))]
 fn open_suffixes(alloc: Global, cursor: &mut Cursor) -> Result<Items<Suffix>, Stop>
+    requires { cursor.old.joined ≤ 32 }
     ensures moves { OnOk result (Opens cursor.old cursor.new) }
-    // TODO clause
+    ensures reads { OnOk result (ReadsOn (part Part.array ∷ []) cursor.old (part (Part.expr 0) ∷ one is_close_bracket ∷ part Part.brackets_behind ∷ []) cursor.new) }
+    ensures stops { IfErr result (λ stop. StopsAt (part Part.array ∷ []) cursor.old stop) }
     ensures derives { IfOk result (λ suffixes. DerivesOpenSuffixes cursor.old.rest.now cursor.new.rest.now suffixes) }
 {
     let mut suffixes = Items::new(alloc);
