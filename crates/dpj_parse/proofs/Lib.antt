@@ -20,6 +20,7 @@ pub mod Few
 pub mod PathParts
 pub mod TypeParts
 pub mod ExprParts
+pub mod OperatorParts
 pub mod StmtParts
 pub mod MemberParts
 pub mod ClassParts

@@ -1,13 +1,16 @@
-ghost use Rattle.std.specs.Prelude.{None, MatchOption, ◌≡◌, ◌+◌, ◌<◌, ◌≤◌, length, map, OnOk, IfOk, IfSome, IfErr, [], ◌∷◌};
+ghost use Rattle.std.specs.Prelude.{None, Some, MatchOption, IfNone, ◌≡◌, ◌+◌, ◌<◌, ◌≤◌, length, map, OnOk, IfOk, IfSome, IfErr, [], ◌∷◌};
 ghost use Rattle.dpj_parse.specs.Counted.{Reading, StopsAt, counts};
-ghost use Rattle.dpj_parse.specs.Expecting.{Part, choose, literal_parts, next_of, one, part};
+ghost use Rattle.dpj_parse.specs.Expecting.{Part, choose, literal_parts, next_of, one, op_of, part};
 ghost use Rattle.dpj_parse.specs.Onward.{ReadsOn};
 ghost use Rattle.dpj_parse.specs.Targets.{IsTarget, Leads, stmt_begins};
-ghost use Rattle.dpj_parse.specs.Words.{is_close_bracket, is_name, is_new};
+ghost use Rattle.dpj_parse.specs.Words.{is_close_bracket, is_name, is_new, op_at};
 ghost use Rattle.dpj_parse.specs.Progress.{Keeps, Opens, Reads};
 ghost use Rattle.dpj_parse.specs.Taking.{Next, Listed};
 ghost use Rattle.dpj_parse.specs.Expressions.{DerivesActuals, DerivesExpr, DerivesLevel, DerivesPostfix, DerivesPrimary, DerivesUnary, as_creation, level_of, symbol_of, unary_symbol};
 ghost use Rattle.dpj_parse.specs.Reading.{DerivesExprTree, DerivesInner, DerivesLengths, DerivesOpenSuffixes, DerivesSelection, DerivesSelections, NextSpells, Spells, ending_of, plain_kind};
+ghost use Rattle.dpj_terminals.specs.declared.terminal.Terminal.TheVariants as Terminal;
+ghost use Rattle.dpj_tree.specs.declared.expr.BinaryOp.{BinaryOp};
+ghost use Rattle.dpj_tree.specs.declared.expr.UnaryOp.{UnaryOp};
 ghost use Rattle.dpj_tree.specs.Plain.{binary, create, expression, plain_expr, plain_exprs};
 
 use crate::cursor::Cursor;
@@ -28,6 +31,7 @@ fn made(place: Place, kind: ExprKind) -> Expr
 }
 
 /// `Expr`: an expression level of its own.
+#[tactic(auto, using(crate::proofs::OperatorParts::expr_reads, crate::proofs::OperatorParts::expr_refused))]
 #[cycle(exprs)]
 pub fn expr(alloc: Global, cursor: &mut Cursor) -> Result<Expr, Stop>
     ensures moves { OnOk result (Reads cursor.old cursor.new) }
@@ -43,11 +47,13 @@ pub fn expr(alloc: Global, cursor: &mut Cursor) -> Result<Expr, Stop>
 }
 
 /// `Unary { operator Unary }`, with operators that bind at least so tightly.
+#[tactic(auto, using(crate::proofs::Composed::refused_first, crate::proofs::OperatorParts::joined_few, crate::proofs::OperatorParts::operator_halts, crate::proofs::OperatorParts::operand_refused, crate::proofs::OperatorParts::operators_end))]
 #[cycle(exprs)]
 fn operators(alloc: Global, cursor: &mut Cursor, least: u32) -> Result<Expr, Stop>
+    requires { cursor.old.joined ≤ 32 }
     ensures moves { OnOk result (Reads cursor.old cursor.new) }
-    ensures reads { OnOk result (Reading (part (Part.expr least) ∷ []) cursor.old cursor.new) }
-    ensures stops { IfErr result (λ stop. StopsAt (part (Part.expr least) ∷ []) cursor.old stop) }
+    ensures reads { OnOk result (Reading (part Part.unary ∷ part (Part.climb least 6) ∷ []) cursor.old cursor.new) }
+    ensures stops { IfErr result (λ stop. StopsAt (part Part.unary ∷ part (Part.climb least 6) ∷ []) cursor.old stop) }
     ensures derives { IfOk result (λ e. DerivesLevel least cursor.old.rest.now cursor.new.rest.now (plain_expr e)) }
 {
     let mut left = unary(alloc, cursor)?;
@@ -62,18 +68,28 @@ fn operators(alloc: Global, cursor: &mut Cursor, least: u32) -> Result<Expr, Sto
 }
 
 /// The operator that comes next, where it binds so tightly.
+#[tactic(auto, using(crate::proofs::OperatorParts::no_op_at_end, crate::proofs::OperatorParts::op_here))]
 fn operator_within(cursor: &Cursor, least: u32, most: u32) -> Option<BinaryOp>
     ensures next { IfSome result (λ op. Next (Terminal.Symbol (symbol_of op)) cursor.now.rest.now) }
     ensures within { IfSome result (λ op. (least ≤ level_of op) × (level_of op ≤ most)) }
+    ensures otherwise { IfNone result ((op : BinaryOp) → op_of (next_of cursor.now.rest.now) ≡ Some op → least ≤ level_of op → level_of op ≤ most → ⊥) }
 {
-    let Some(Terminal::Symbol(symbol)) = cursor.next() else {
-        return None;
-    };
-    let op = binary_of(*symbol)?;
+    let op = operator_of(cursor.next()?)?;
     if binding(op) < least || binding(op) > most {
         return None;
     }
     Some(op)
+}
+
+/// The operator between two expressions that a terminal is.
+fn operator_of(terminal: &Terminal) -> Option<BinaryOp>
+    ensures which { IfSome result (λ op. terminal.now ≡ Terminal.Symbol (symbol_of op)) }
+    ensures at { result ≡ op_at terminal.now }
+{
+    match terminal {
+        Terminal::Symbol(symbol) => binary_of(*symbol),
+        Terminal::Int(_) | Terminal::Name(_) | Terminal::Text(_) | Terminal::Keyword(_) => None,
+    }
 }
 
 #[tactic(auto, using(crate::proofs::Trees::kind_Binary))]
