@@ -1,5 +1,5 @@
 -- The parts of the grammar's Expr productions, by what they begin with.
-use Rattle.std.proofs.Common.{◌≡◌, List, [], ◌∷◌, Some, None, refl}
+use Rattle.std.proofs.Common.{◌≡◌, List, [], ◌∷◌, true, Some, None, refl}
 use Rattle.dpj_base.specs.Refused.{IfRefused}
 use Rattle.dpj_base.specs.declared.place.Place.{Place}
 use Rattle.dpj_base.specs.declared.refusal.Kind.TheVariants as kind
@@ -10,14 +10,14 @@ use Rattle.dpj_terminals.specs.declared.terminal.Placed.{Placed}
 use Rattle.dpj_terminals.specs.declared.terminal.Terminal.{Terminal}
 use Rattle.dpj_terminals.specs.declared.terminal.Terminal.TheVariants as terminal
 use Rattle.dpj_tree.specs.Plain.{ExprForm}
-use Rattle.dpj_parse.specs.Words.{is_any, is_open_paren, is_close_paren, is_open_bracket, is_close_bracket}
+use Rattle.dpj_parse.specs.Words.{is_any, is_comma, is_open_paren, is_close_paren, is_open_bracket, is_close_bracket}
 use Rattle.dpj_parse.specs.Taking.{Next, place_of}
 use Rattle.dpj_parse.specs.Reading.{Spells, NextSpells}
-use Rattle.dpj_parse.specs.Expecting.{Part, one, part, choose, literal_parts, next_of}
-use Rattle.dpj_parse.specs.Limits.{Counts, Fits, past, more, Within, no_part, Refuses}
+use Rattle.dpj_parse.specs.Expecting.{Part, one, part, choose, literal_parts, next_is, next_of}
+use Rattle.dpj_parse.specs.Limits.{Counts, Fits, past, more, Within, passes, no_part, Refuses}
 use Rattle.dpj_parse.specs.Counted.{Halts}
 use Rattle.dpj_parse.specs.Onward.{Onward}
-use Rattle.dpj_parse.proofs.Onwards.{over, step, enter, refused_on}
+use Rattle.dpj_parse.proofs.Onwards.{over, step, enter, ends, refused_on}
 use Rattle.dpj_parse.proofs.Composed.{seq, read_part, refused_first, refused_part}
 use Rattle.dpj_parse.proofs.Coming.{read_any, next_comes, symbol_comes_not}
 
@@ -108,3 +108,142 @@ pub suffix_open_refused : {c d e f : Counts} {before here one_after two_after : 
     IfRefused stop (Refuses (more f) (one is_open_bracket ∷ []) two_after last) → IfRefused stop (Refuses c (part Part.array ∷ []) before end)
 suffix_open_refused {f = f} end {last} stop o n close tail same r =
     refused_on [] stop (over o (over (suffix_opened n) (over (step _ close) (step _ tail)))) same (array_refused f _ last stop r)
+
+-- a new array, behind the `[` of its length
+pub array_reads : {c d e f g : Counts} {before at length_after close_after after : List Placed} →
+    Onward c (part Part.array ∷ []) before d (part (Part.expr 0) ∷ one is_close_bracket ∷ part Part.brackets_behind ∷ []) at → Within d (part (Part.expr 0) ∷ []) at e length_after →
+    Within e (one is_close_bracket ∷ []) length_after f close_after → Within f (part Part.brackets_behind ∷ []) close_after g after → Within c (part Part.array ∷ []) before g after
+array_reads o len close tail = o.reads _ _ (seq len (seq close tail))
+
+pub length_refused : {c d : Counts} {before at : List Placed} (end : Place) {last : Place} (stop : Stop) →
+    Onward c (part Part.array ∷ []) before d (part (Part.expr 0) ∷ one is_close_bracket ∷ part Part.brackets_behind ∷ []) at → last ≡ end →
+    IfRefused stop (Refuses d (part (Part.expr 0) ∷ []) at last) → IfRefused stop (Refuses c (part Part.array ∷ []) before end)
+length_refused end stop o same r = refused_on _ stop o same r
+
+pub length_close_refused : {c d e : Counts} {before at length_after : List Placed} (end : Place) {last : Place} (stop : Stop) →
+    Onward c (part Part.array ∷ []) before d (part (Part.expr 0) ∷ one is_close_bracket ∷ part Part.brackets_behind ∷ []) at → Within d (part (Part.expr 0) ∷ []) at e length_after → last ≡ end →
+    IfRefused stop (Refuses e (one is_close_bracket ∷ []) length_after last) → IfRefused stop (Refuses c (part Part.array ∷ []) before end)
+length_close_refused end stop o len same r = refused_on _ stop (over o (step _ len)) same r
+
+pub length_tail_refused : {c d e f : Counts} {before at length_after close_after : List Placed} (end : Place) {last : Place} (stop : Stop) →
+    Onward c (part Part.array ∷ []) before d (part (Part.expr 0) ∷ one is_close_bracket ∷ part Part.brackets_behind ∷ []) at → Within d (part (Part.expr 0) ∷ []) at e length_after →
+    Within e (one is_close_bracket ∷ []) length_after f close_after → last ≡ end →
+    IfRefused stop (Refuses f (part Part.brackets_behind ∷ []) close_after last) → IfRefused stop (Refuses c (part Part.array ∷ []) before end)
+length_tail_refused end stop o len close same r = refused_on _ stop (over o (over (step _ len) (step _ close))) same r
+
+-- "(" Expr ")"
+inner_enter : {c : Counts} {here : List Placed} → Onward c (part Part.inner ∷ []) here c (one is_open_paren ∷ part (Part.expr 0) ∷ one is_close_paren ∷ []) here
+inner_enter = enter Part.inner refl (λ d. refl)
+
+pub inner_reads : {c d e f : Counts} {before one_after two_after after : List Placed} → Within c (one is_open_paren ∷ []) before d one_after →
+    Within d (part (Part.expr 0) ∷ []) one_after e two_after → Within e (one is_close_paren ∷ []) two_after f after → Within c (part Part.inner ∷ []) before f after
+inner_reads start w close = inner_enter.reads _ _ (seq start (seq w close))
+
+pub inner_refused : (c : Counts) (before : List Placed) (end : Place) (stop : Stop) → IfRefused stop (Refuses c (one is_open_paren ∷ []) before end) →
+    IfRefused stop (Refuses c (part Part.inner ∷ []) before end)
+inner_refused c before end stop r = refused_on _ stop inner_enter refl r
+
+pub inner_expr_refused : {c d : Counts} {before one_after : List Placed} (end : Place) {last : Place} (stop : Stop) → Within c (one is_open_paren ∷ []) before d one_after → last ≡ end →
+    IfRefused stop (Refuses d (part (Part.expr 0) ∷ []) one_after last) → IfRefused stop (Refuses c (part Part.inner ∷ []) before end)
+inner_expr_refused end stop start same r = refused_on _ stop (over inner_enter (step _ start)) same r
+
+pub inner_close_refused : {c d e : Counts} {before one_after two_after : List Placed} (end : Place) {last : Place} (stop : Stop) → Within c (one is_open_paren ∷ []) before d one_after →
+    Within d (part (Part.expr 0) ∷ []) one_after e two_after → last ≡ end → IfRefused stop (Refuses e (one is_close_paren ∷ []) two_after last) →
+    IfRefused stop (Refuses c (part Part.inner ∷ []) before end)
+inner_close_refused end stop start w same r = refused_on _ stop (over inner_enter (over (step _ start) (step _ w))) same r
+
+-- "[" Expr "]"
+element_enter : {c : Counts} {here : List Placed} → Onward c (part Part.element ∷ []) here (more c) (one is_open_bracket ∷ part (Part.expr 0) ∷ one is_close_bracket ∷ []) here
+element_enter = enter Part.element refl (λ d. refl)
+
+pub element_reads : {c d e f : Counts} {before one_after two_after after : List Placed} → Within (more c) (one is_open_bracket ∷ []) before d one_after →
+    Within d (part (Part.expr 0) ∷ []) one_after e two_after → Within e (one is_close_bracket ∷ []) two_after f after → Within c (part Part.element ∷ []) before f after
+element_reads start w close = element_enter.reads _ _ (seq start (seq w close))
+
+pub element_refused : (c : Counts) (before : List Placed) (end : Place) (stop : Stop) → IfRefused stop (Refuses (more c) (one is_open_bracket ∷ []) before end) →
+    IfRefused stop (Refuses c (part Part.element ∷ []) before end)
+element_refused c before end stop r = refused_on _ stop element_enter refl r
+
+pub index_refused : (c : Counts) {d : Counts} {before one_after : List Placed} (end : Place) {last : Place} (stop : Stop) → Within (more c) (one is_open_bracket ∷ []) before d one_after → last ≡ end →
+    IfRefused stop (Refuses d (part (Part.expr 0) ∷ []) one_after last) → IfRefused stop (Refuses c (part Part.element ∷ []) before end)
+index_refused c end stop start same r = refused_on _ stop (over element_enter (step _ start)) same r
+
+pub index_close_refused : (c : Counts) {d e : Counts} {before one_after two_after : List Placed} (end : Place) {last : Place} (stop : Stop) → Within (more c) (one is_open_bracket ∷ []) before d one_after →
+    Within d (part (Part.expr 0) ∷ []) one_after e two_after → last ≡ end → IfRefused stop (Refuses e (one is_close_bracket ∷ []) two_after last) →
+    IfRefused stop (Refuses c (part Part.element ∷ []) before end)
+index_close_refused c end stop start w same r = refused_on _ stop (over element_enter (over (step _ start) (step _ w))) same r
+
+-- "(" [ Actuals ] ")"
+actuals_enter : {c : Counts} {here : List Placed} → Onward c (part Part.actuals ∷ []) here c (one is_open_paren ∷ part Part.actuals_rest ∷ []) here
+actuals_enter = enter Part.actuals refl (λ d. refl)
+
+actuals_empty : {c d : Counts} {before here : List Placed} → Within c (one is_open_paren ∷ []) before d here → Next (terminal.Symbol Symbol.CloseParen) here →
+    Onward c (part Part.actuals ∷ []) before d (one is_close_paren ∷ []) here
+actuals_empty {here = here} start n =
+    over actuals_enter (over (step _ start) (enter Part.actuals_rest (rw (next_comes Symbol.CloseParen here n) refl) (λ d. refl)))
+
+actuals_some : {c d : Counts} {before here : List Placed} → Within c (one is_open_paren ∷ []) before d here → (Next (terminal.Symbol Symbol.CloseParen) here → ⊥) →
+    Onward c (part Part.actuals ∷ []) before d (part Part.listed ∷ one is_close_paren ∷ []) here
+actuals_some {here = here} start away =
+    over actuals_enter (over (step _ start) (enter Part.actuals_rest (rw (symbol_comes_not Symbol.CloseParen here away) refl) (λ d. refl)))
+
+pub actuals_refused : (c : Counts) (before : List Placed) (end : Place) (stop : Stop) → IfRefused stop (Refuses c (one is_open_paren ∷ []) before end) →
+    IfRefused stop (Refuses c (part Part.actuals ∷ []) before end)
+actuals_refused c before end stop r = refused_on _ stop actuals_enter refl r
+
+pub no_actuals_read : {c d e : Counts} {before here after : List Placed} → Within c (one is_open_paren ∷ []) before d here → Next (terminal.Symbol Symbol.CloseParen) here →
+    Within d (one is_close_paren ∷ []) here e after → Within c (part Part.actuals ∷ []) before e after
+no_actuals_read start n close = (actuals_empty start n).reads _ _ close
+
+pub no_actuals_refused : {c d : Counts} {before here : List Placed} (end : Place) {last : Place} (stop : Stop) → Within c (one is_open_paren ∷ []) before d here →
+    Next (terminal.Symbol Symbol.CloseParen) here → last ≡ end → IfRefused stop (Refuses d (one is_close_paren ∷ []) here last) → IfRefused stop (Refuses c (part Part.actuals ∷ []) before end)
+no_actuals_refused end stop start n same r = refused_on _ stop (actuals_empty start n) same r
+
+pub actuals_read : {c d e f : Counts} {before here one_after after : List Placed} → Within c (one is_open_paren ∷ []) before d here →
+    (Next (terminal.Symbol Symbol.CloseParen) here → ⊥) → Within d (part Part.listed ∷ []) here e one_after → Within e (one is_close_paren ∷ []) one_after f after →
+    Within c (part Part.actuals ∷ []) before f after
+actuals_read start away w close = (actuals_some start away).reads _ _ (seq w close)
+
+pub listed_refused : {c d : Counts} {before here : List Placed} (end : Place) {last : Place} (stop : Stop) → Within c (one is_open_paren ∷ []) before d here →
+    (Next (terminal.Symbol Symbol.CloseParen) here → ⊥) → last ≡ end → IfRefused stop (Refuses d (part Part.listed ∷ []) here last) → IfRefused stop (Refuses c (part Part.actuals ∷ []) before end)
+listed_refused end stop start away same r = refused_on _ stop (actuals_some start away) same r
+
+pub actuals_close_refused : {c d e : Counts} {before here one_after : List Placed} (end : Place) {last : Place} (stop : Stop) → Within c (one is_open_paren ∷ []) before d here →
+    (Next (terminal.Symbol Symbol.CloseParen) here → ⊥) → Within d (part Part.listed ∷ []) here e one_after → last ≡ end → IfRefused stop (Refuses e (one is_close_paren ∷ []) one_after last) →
+    IfRefused stop (Refuses c (part Part.actuals ∷ []) before end)
+actuals_close_refused end stop start away w same r = refused_on _ stop (over (actuals_some start away) (step _ w)) same r
+
+-- Expr { "," Expr }
+pub first_reads : {c d : Counts} {before here : List Placed} → Within c (part (Part.expr 0) ∷ []) before d here → Onward c (part Part.listed ∷ []) before d (part Part.more_listed ∷ []) here
+first_reads w = over (enter Part.listed refl (λ d. refl)) (step _ w)
+
+pub first_refused : (c : Counts) (before : List Placed) (end : Place) (stop : Stop) → IfRefused stop (Refuses c (part (Part.expr 0) ∷ []) before end) →
+    IfRefused stop (Refuses c (part Part.listed ∷ []) before end)
+first_refused c before end stop r = refused_on _ stop (enter Part.listed refl (λ d. refl)) refl r
+
+comma_enter : {c : Counts} {here : List Placed} → Next (terminal.Symbol Symbol.Comma) here →
+    Onward c (part Part.more_listed ∷ []) here c (one is_comma ∷ part (Part.expr 0) ∷ part Part.more_listed ∷ []) here
+comma_enter {here = here} n = enter Part.more_listed (rw (next_comes Symbol.Comma here n) refl) (λ d. refl)
+
+comma_first : {c d : Counts} {before after : List Placed} → Within c (one is_comma ∷ []) before d after → next_is is_comma (next_of before) ≡ true
+comma_first (passes test fits w) = test
+
+comma_read : {c d : Counts} {before after : List Placed} → Within c (one is_comma ∷ []) before d after → Onward c (part Part.more_listed ∷ []) before d (part (Part.expr 0) ∷ part Part.more_listed ∷ []) after
+comma_read w = over (enter Part.more_listed (rw (comma_first w) refl) (λ d. refl)) (step _ w)
+
+pub next_reads : {c d e f : Counts} {before here one_after after : List Placed} → Onward c (part Part.listed ∷ []) before d (part Part.more_listed ∷ []) here →
+    Within d (one is_comma ∷ []) here e one_after → Within e (part (Part.expr 0) ∷ []) one_after f after → Onward c (part Part.listed ∷ []) before f (part Part.more_listed ∷ []) after
+next_reads o comma w = over o (over (comma_read comma) (step _ w))
+
+pub comma_refused : {c d : Counts} {before here : List Placed} (end : Place) {last : Place} (stop : Stop) → Onward c (part Part.listed ∷ []) before d (part Part.more_listed ∷ []) here →
+    Next (terminal.Symbol Symbol.Comma) here → last ≡ end → IfRefused stop (Refuses d (one is_comma ∷ []) here last) → IfRefused stop (Refuses c (part Part.listed ∷ []) before end)
+comma_refused end stop o n same r = refused_on _ stop (over o (comma_enter n)) same r
+
+pub next_refused : {c d e : Counts} {before here one_after : List Placed} (end : Place) {last : Place} (stop : Stop) → Onward c (part Part.listed ∷ []) before d (part Part.more_listed ∷ []) here →
+    Within d (one is_comma ∷ []) here e one_after → last ≡ end → IfRefused stop (Refuses e (part (Part.expr 0) ∷ []) one_after last) →
+    IfRefused stop (Refuses c (part Part.listed ∷ []) before end)
+next_refused end stop o comma same r = refused_on _ stop (over o (comma_read comma)) same r
+
+pub listed_ends : {c d : Counts} {before here : List Placed} → Onward c (part Part.listed ∷ []) before d (part Part.more_listed ∷ []) here →
+    (Next (terminal.Symbol Symbol.Comma) here → ⊥) → Within c (part Part.listed ∷ []) before d here
+listed_ends {here = here} o away = ends (over o (enter Part.more_listed (rw (symbol_comes_not Symbol.Comma here away) refl) (λ d. refl)))
