@@ -18,7 +18,7 @@ use Rattle.dpj_parse.specs.Limits.{Counts, Fits, past, Within, nothing, passes, 
 use Rattle.dpj_parse.specs.Counted.{MayCome, Halts}
 use Rattle.dpj_parse.proofs.Tested.{sign_own, word_own, sign_or_not, word_or_not}
 
-comes_next : {wanted : Terminal} {next : Placed} {after : List Placed} → next.terminal ≡ wanted → Next wanted (next ∷ after)
+pub comes_next : {wanted : Terminal} {next : Placed} {after : List Placed} → next.terminal ≡ wanted → Next wanted (next ∷ after)
 comes_next {next = next} {after = after} is =
     record { after = after; takes = record { place = next.place; takes = record { first = ap (λ t. record { terminal = t; place = next.place } ∷ after) is } } }
 

@@ -21,6 +21,7 @@ pub mod PathParts
 pub mod TypeParts
 pub mod ExprParts
 pub mod OperatorParts
+pub mod UnaryParts
 pub mod StmtParts
 pub mod MemberParts
 pub mod ClassParts

@@ -1,11 +1,11 @@
-ghost use Rattle.std.specs.Prelude.{None, Some, MatchOption, IfNone, ◌≡◌, ◌+◌, ◌<◌, ◌≤◌, length, map, OnOk, IfOk, IfSome, IfErr, [], ◌∷◌};
+ghost use Rattle.std.specs.Prelude.{None, Some, MatchOption, IfNone, ◌≡◌, ◌≢◌, ◌+◌, ◌<◌, ◌≤◌, length, map, OnOk, IfOk, IfSome, IfErr, [], ◌∷◌};
 ghost use Rattle.dpj_parse.specs.Counted.{Reading, StopsAt, counts};
 ghost use Rattle.dpj_parse.specs.Expecting.{Part, choose, literal_parts, next_of, one, op_of, part};
 ghost use Rattle.dpj_parse.specs.Onward.{ReadsOn};
 ghost use Rattle.dpj_parse.specs.Targets.{IsTarget, Leads, stmt_begins};
 ghost use Rattle.dpj_parse.specs.Words.{is_close_bracket, is_name, is_new, op_at};
 ghost use Rattle.dpj_parse.specs.Progress.{Keeps, Opens, Reads};
-ghost use Rattle.dpj_parse.specs.Taking.{Next, Listed};
+ghost use Rattle.dpj_parse.specs.Taking.{Next, NoNext, Listed};
 ghost use Rattle.dpj_parse.specs.Expressions.{DerivesActuals, DerivesExpr, DerivesLevel, DerivesPostfix, DerivesPrimary, DerivesUnary, as_creation, level_of, symbol_of, unary_symbol};
 ghost use Rattle.dpj_parse.specs.Reading.{DerivesExprTree, DerivesInner, DerivesLengths, DerivesOpenSuffixes, DerivesSelection, DerivesSelections, NextSpells, Spells, ending_of, plain_kind};
 ghost use Rattle.dpj_terminals.specs.declared.terminal.Terminal.TheVariants as Terminal;
@@ -108,9 +108,10 @@ fn joined(
 }
 
 /// `Unary = ( "-" | "!" ) Unary | Postfix | NewArray`
-#[tactic(auto, using(crate::proofs::Making::made_operator, crate::proofs::Making::inner_selected, crate::proofs::Making::primary_selected))]
+#[tactic(auto, using(crate::proofs::Making::made_operator, crate::proofs::Making::inner_selected, crate::proofs::Making::primary_selected, crate::proofs::Few::still_few, crate::proofs::OperatorParts::joined_few, crate::proofs::UnaryParts::prefix_read, crate::proofs::UnaryParts::prefix_halts, crate::proofs::UnaryParts::prefixed_refused, crate::proofs::UnaryParts::new_read, crate::proofs::UnaryParts::new_refused, crate::proofs::UnaryParts::paren_read, crate::proofs::UnaryParts::paren_refused, crate::proofs::UnaryParts::paren_selected_refused, crate::proofs::UnaryParts::literal_read, crate::proofs::UnaryParts::literal_refused, crate::proofs::UnaryParts::literal_selected_refused))]
 #[cycle(exprs)]
 fn unary(alloc: Global, cursor: &mut Cursor) -> Result<Expr, Stop>
+    requires { cursor.old.joined ≤ 32 }
     ensures moves { OnOk result (Reads cursor.old cursor.new) }
     ensures reads { OnOk result (Reading (part Part.unary ∷ []) cursor.old cursor.new) }
     ensures stops { IfErr result (λ stop. StopsAt (part Part.unary ∷ []) cursor.old stop) }
@@ -133,19 +134,28 @@ fn unary(alloc: Global, cursor: &mut Cursor) -> Result<Expr, Stop>
 }
 
 /// The operator before an expression that comes next.
+#[tactic(auto, using(crate::proofs::UnaryParts::no_prefix_at_end, crate::proofs::UnaryParts::no_prefix))]
 fn operator_before(cursor: &Cursor) -> Option<UnaryOp>
-    ensures { IfSome result (λ op. Next (Terminal.Symbol (unary_symbol op)) cursor.now.rest.now) }
+    ensures { MatchOption result ((op : UnaryOp) → NoNext (Terminal.Symbol (unary_symbol op)) cursor.now.rest.now) (λ op. Next (Terminal.Symbol (unary_symbol op)) cursor.now.rest.now) }
 {
-    match cursor.next() {
-        Some(Terminal::Symbol(symbol)) => unary_of(*symbol),
-        _ => None,
+    prefix_of(cursor.next()?)
+}
+
+/// The operator before an expression that a terminal is.
+fn prefix_of(terminal: &Terminal) -> Option<UnaryOp>
+    ensures { MatchOption result ((op : UnaryOp) → terminal.now ≢ Terminal.Symbol (unary_symbol op)) (λ op. terminal.now ≡ Terminal.Symbol (unary_symbol op)) }
+{
+    match terminal {
+        Terminal::Symbol(symbol) => unary_of(*symbol),
+        Terminal::Int(_) | Terminal::Name(_) | Terminal::Text(_) | Terminal::Keyword(_) => None,
     }
 }
 
 /// A Postfix that begins with a creation, or a NewArray.
-#[tactic(auto, using(crate::proofs::Making::made_object, crate::proofs::Making::made_array))]
+#[tactic(auto, using(crate::proofs::Making::made_object, crate::proofs::Making::made_array, crate::proofs::Few::still_few, crate::proofs::UnaryParts::object_read, crate::proofs::UnaryParts::object_refused, crate::proofs::UnaryParts::object_selected_refused, crate::proofs::UnaryParts::array_read, crate::proofs::UnaryParts::lengths_refused, crate::proofs::UnaryParts::plain_array_read, crate::proofs::UnaryParts::plain_lengths_refused, crate::proofs::UnaryParts::base_refused, crate::proofs::Composed::refused_first))]
 #[cycle(exprs)]
 fn created(alloc: Global, cursor: &mut Cursor) -> Result<Expr, Stop>
+    requires { cursor.old.joined ≤ 32 }
     ensures moves { OnOk result (Reads cursor.old cursor.new) }
     ensures reads { OnOk result (Reading (one is_new ∷ part Part.created ∷ []) cursor.old cursor.new) }
     ensures stops { IfErr result (λ stop. StopsAt (one is_new ∷ part Part.created ∷ []) cursor.old stop) }
@@ -176,9 +186,10 @@ fn object(place: Place, class: Named, regions: Items<RplTree>, actuals: Items<Ex
 }
 
 /// `NewArray` behind its base: `{ "[" "]" [ "<" Rpl ">" ] [ "#" Name ] } "[" Expr "]" [ "<" Rpl ">" ] [ "#" Name ]`
-#[tactic(auto, using(crate::proofs::Making::made_lengths))]
+#[tactic(auto, using(crate::proofs::Making::made_lengths, crate::proofs::ExprParts::array_reads, crate::proofs::ExprParts::length_refused, crate::proofs::ExprParts::length_close_refused, crate::proofs::ExprParts::length_tail_refused))]
 #[cycle(exprs)]
 fn array(alloc: Global, cursor: &mut Cursor, place: Place, base: BaseTree) -> Result<Expr, Stop>
+    requires { cursor.old.joined ≤ 32 }
     ensures moves { OnOk result (Reads cursor.old cursor.new) }
     ensures reads { OnOk result (Reading (part Part.array ∷ []) cursor.old cursor.new) }
     ensures stops { IfErr result (λ stop. StopsAt (part Part.array ∷ []) cursor.old stop) }
@@ -218,7 +229,7 @@ fn open_suffixes(alloc: Global, cursor: &mut Cursor) -> Result<Items<Suffix>, St
 }
 
 /// `"(" Expr ")"`
-#[tactic(auto, using(crate::proofs::Making::made_inner))]
+#[tactic(auto, using(crate::proofs::Making::made_inner, crate::proofs::ExprParts::inner_reads, crate::proofs::ExprParts::inner_refused, crate::proofs::ExprParts::inner_expr_refused, crate::proofs::ExprParts::inner_close_refused))]
 #[cycle(exprs)]
 fn inner(alloc: Global, cursor: &mut Cursor) -> Result<Expr, Stop>
     ensures moves { OnOk result (Reads cursor.old cursor.new) }
@@ -319,9 +330,10 @@ fn selection(alloc: Global, cursor: &mut Cursor, of: Expr) -> Result<Expr, Stop>
 }
 
 /// `"[" Expr "]"`
-#[tactic(auto, using(crate::proofs::Making::made_element))]
+#[tactic(auto, using(crate::proofs::Making::made_element, crate::proofs::ExprParts::element_reads, crate::proofs::ExprParts::element_refused, crate::proofs::ExprParts::index_refused, crate::proofs::ExprParts::index_close_refused))]
 #[cycle(exprs)]
 fn element(alloc: Global, cursor: &mut Cursor, of: Expr) -> Result<Expr, Stop>
+    requires { cursor.old.joined ≤ 32 }
     ensures moves { OnOk result (Reads cursor.old cursor.new) }
     ensures reads { OnOk result (Reading (part Part.element ∷ []) cursor.old cursor.new) }
     ensures stops { IfErr result (λ stop. StopsAt (part Part.element ∷ []) cursor.old stop) }
@@ -363,7 +375,7 @@ fn member(alloc: Global, cursor: &mut Cursor, of: Expr) -> Result<Expr, Stop>
 }
 
 /// `"(" [ Actuals ] ")"`
-#[tactic(auto, using(crate::proofs::Making::made_no_actuals, crate::proofs::Making::made_actuals))]
+#[tactic(auto, using(crate::proofs::Making::made_no_actuals, crate::proofs::Making::made_actuals, crate::proofs::ExprParts::actuals_refused, crate::proofs::ExprParts::no_actuals_read, crate::proofs::ExprParts::no_actuals_refused, crate::proofs::ExprParts::actuals_read, crate::proofs::ExprParts::listed_refused, crate::proofs::ExprParts::actuals_close_refused))]
 #[cycle(exprs)]
 fn actuals(alloc: Global, cursor: &mut Cursor) -> Result<Items<Expr>, Stop>
     ensures moves { OnOk result (Reads cursor.old cursor.new) }
@@ -382,7 +394,7 @@ fn actuals(alloc: Global, cursor: &mut Cursor) -> Result<Items<Expr>, Stop>
 }
 
 /// `Actuals = Expr { "," Expr }`
-#[tactic(auto, using(crate::proofs::Making::first_listed, crate::proofs::Making::more_listed))]
+#[tactic(auto, using(crate::proofs::Making::first_listed, crate::proofs::Making::more_listed, crate::proofs::ExprParts::first_reads, crate::proofs::ExprParts::first_refused, crate::proofs::ExprParts::next_reads, crate::proofs::ExprParts::comma_refused, crate::proofs::ExprParts::next_refused, crate::proofs::ExprParts::listed_ends))]
 #[cycle(exprs)]
 fn listed(alloc: Global, cursor: &mut Cursor) -> Result<Items<Expr>, Stop>
     ensures moves { OnOk result (Reads cursor.old cursor.new) }
