@@ -22,6 +22,7 @@ pub mod TypeParts
 pub mod ExprParts
 pub mod OperatorParts
 pub mod UnaryParts
+pub mod SelectionParts
 pub mod StmtParts
 pub mod MemberParts
 pub mod ClassParts

@@ -1,9 +1,9 @@
-ghost use Rattle.std.specs.Prelude.{None, Some, MatchOption, IfNone, ◌≡◌, ◌≢◌, ◌+◌, ◌<◌, ◌≤◌, length, map, OnOk, IfOk, IfSome, IfErr, [], ◌∷◌};
+ghost use Rattle.std.specs.Prelude.{None, Some, ◌||◌, MatchOption, IfNone, ◌≡◌, ◌≢◌, ◌+◌, ◌<◌, ◌≤◌, length, map, OnOk, IfOk, IfSome, IfErr, [], ◌∷◌};
 ghost use Rattle.dpj_parse.specs.Counted.{Reading, StopsAt, counts};
-ghost use Rattle.dpj_parse.specs.Expecting.{Part, choose, literal_parts, next_of, one, op_of, part};
+ghost use Rattle.dpj_parse.specs.Expecting.{Part, choose, literal_parts, next_is, next_of, one, op_of, part};
 ghost use Rattle.dpj_parse.specs.Onward.{ReadsOn};
 ghost use Rattle.dpj_parse.specs.Targets.{IsTarget, Leads, stmt_begins};
-ghost use Rattle.dpj_parse.specs.Words.{is_close_bracket, is_name, is_new, op_at};
+ghost use Rattle.dpj_parse.specs.Words.{is_close_bracket, is_dot, is_name, is_new, is_open_bracket, op_at};
 ghost use Rattle.dpj_parse.specs.Progress.{Keeps, Opens, Reads};
 ghost use Rattle.dpj_parse.specs.Taking.{Next, NoNext, Listed};
 ghost use Rattle.dpj_parse.specs.Expressions.{DerivesActuals, DerivesExpr, DerivesLevel, DerivesPostfix, DerivesPrimary, DerivesUnary, as_creation, level_of, symbol_of, unary_symbol};
@@ -295,14 +295,18 @@ fn constant(keyword: Keyword) -> Option<ExprKind>
 }
 
 /// Whether a field, a call or an element of what stands before comes next.
-fn selects(cursor: &Cursor) -> bool {
+#[tactic(auto, using(crate::proofs::SelectionParts::dot_selects, crate::proofs::SelectionParts::bracket_selects))]
+fn selects(cursor: &Cursor) -> bool
+    ensures { result ≡ (next_is is_dot (next_of cursor.now.rest.now) || next_is is_open_bracket (next_of cursor.now.rest.now)) }
+{
     cursor.is_symbol(Symbol::Dot) || cursor.is_symbol(Symbol::OpenBracket)
 }
 
 /// `{ "." Name | "." [ Args ] Name "(" [ Actuals ] ")" | "[" Expr "]" }`
-#[tactic(auto, using(crate::specs::Reading::none, crate::specs::Reading::more))]
+#[tactic(auto, using(crate::specs::Reading::none, crate::specs::Reading::more, crate::proofs::Few::still_few, crate::proofs::SelectionParts::selected_on, crate::proofs::SelectionParts::selected_refused, crate::proofs::SelectionParts::selected_ends))]
 #[cycle(exprs)]
 fn selected(alloc: Global, cursor: &mut Cursor, first: Expr) -> Result<Expr, Stop>
+    requires { cursor.old.joined ≤ 32 }
     ensures moves { OnOk result (Keeps cursor.old cursor.new) }
     ensures reads { OnOk result (Reading (part Part.selected ∷ []) cursor.old cursor.new) }
     ensures stops { IfErr result (λ stop. StopsAt (part Part.selected ∷ []) cursor.old stop) }
@@ -316,8 +320,10 @@ fn selected(alloc: Global, cursor: &mut Cursor, first: Expr) -> Result<Expr, Sto
 }
 
 /// `"." Name | "." [ Args ] Name "(" [ Actuals ] ")" | "[" Expr "]"`
+#[tactic(auto, using(crate::proofs::SelectionParts::element_selected, crate::proofs::SelectionParts::element_lost))]
 #[cycle(exprs)]
 fn selection(alloc: Global, cursor: &mut Cursor, of: Expr) -> Result<Expr, Stop>
+    requires { cursor.old.joined ≤ 32 }
     ensures moves { OnOk result (Reads cursor.old cursor.new) }
     ensures reads { OnOk result (Reading (part Part.selection ∷ []) cursor.old cursor.new) }
     ensures stops { IfErr result (λ stop. StopsAt (part Part.selection ∷ []) cursor.old stop) }
@@ -347,10 +353,11 @@ fn element(alloc: Global, cursor: &mut Cursor, of: Expr) -> Result<Expr, Stop>
 }
 
 /// `"." Name | "." [ Args ] Name "(" [ Actuals ] ")"`
-#[tactic(auto, using(crate::proofs::Making::made_field, crate::proofs::Making::made_call))]
+#[tactic(auto, using(crate::proofs::Making::made_field, crate::proofs::Making::made_call, crate::proofs::SelectionParts::dot_halts, crate::proofs::SelectionParts::dot_read, crate::proofs::SelectionParts::args_refused, crate::proofs::SelectionParts::name_refused, crate::proofs::SelectionParts::field_read, crate::proofs::SelectionParts::call_read, crate::proofs::SelectionParts::call_refused))]
 #[cycle(exprs)]
 fn member(alloc: Global, cursor: &mut Cursor, of: Expr) -> Result<Expr, Stop>
-    requires { Next (Terminal.Symbol Symbol.Dot) cursor.old.rest.now }
+    requires dot { Next (Terminal.Symbol Symbol.Dot) cursor.old.rest.now }
+    requires few { cursor.old.joined ≤ 32 }
     ensures moves { OnOk result (Reads cursor.old cursor.new) }
     ensures reads { OnOk result (Reading (part Part.selection ∷ []) cursor.old cursor.new) }
     ensures stops { IfErr result (λ stop. StopsAt (part Part.selection ∷ []) cursor.old stop) }
