@@ -23,6 +23,7 @@ pub mod ExprParts
 pub mod OperatorParts
 pub mod UnaryParts
 pub mod SelectionParts
+pub mod TargetParts
 pub mod StmtParts
 pub mod MemberParts
 pub mod ClassParts

@@ -1,9 +1,16 @@
-use Rattle.std.proofs.Common.{rules}
+use Rattle.std.proofs.Common.{◌≡◌, ◌∙◌, rules}
+use Rattle.dpj_tokens.specs.declared.token.Symbol.{Symbol}
+use Rattle.dpj_terminals.specs.declared.terminal.Terminal.TheVariants as terminal
+use Rattle.dpj_parse.specs.Counted.{counts}
+use Rattle.dpj_parse.specs.Taking.{Next}
+use Rattle.dpj_parse.proofs.ExprParts.{element_reads, index_refused, index_close_refused}
+use Rattle.dpj_parse.proofs.SelectionParts.{args_refused, call_read, call_refused, dot_read, field_read, name_refused}
 use Rattle.dpj_parse.proofs.Few.{still_few}
 use Rattle.dpj_parse.proofs.OperatorParts.{climbs_first, climbs_on}
 use Rattle.dpj_parse.proofs.Ops.{grouped_unary, grouped_operation}
 use Rattle.dpj_parse.proofs.Taken.{next-takes}
 use Rattle.dpj_parse.proofs.exprs.+exprs.Goals as goal
+use Rattle.dpj_parse.proofs.exprs.+exprs.Goals.{else-not-has_args-via-then-not-has_args+else-not-is_symbol, else-not-has_args-via-else-not-has_args}
 
 pub operators-loop-op-init : goal.operators-loop-op-init
 operators-loop-op-init t c = record {
@@ -42,3 +49,57 @@ operators-loop-op-preserved t c = record {
       c.tightest_behind-most.ensures.left
       c.in_ok-left-2.ensures;
 }
+
+pub element-returns-in_err-expr-clause-stops : goal.element-returns-in_err-expr-clause-stops
+element-returns-in_err-expr-clause-stops t c =
+    let r = index_refused (counts c.args.cursor.now) c.args.cursor.now.end _ c.in_ok-place.ensures.reads c.in_ok-place.ensures.moves.end c.in_err-expr.ensures.stops in
+    search (rules, r)
+
+pub element-returns-in_err-close-clause-stops : goal.element-returns-in_err-close-clause-stops
+element-returns-in_err-close-clause-stops t c =
+    let same : c.expr.new.cursor.end ≡ c.args.cursor.now.end = c.in_ok-expr.ensures.moves.end ∙ c.in_ok-place.ensures.moves.end in
+    let r =
+        index_close_refused (counts c.args.cursor.now) c.args.cursor.now.end _ c.in_ok-place.ensures.reads c.in_ok-expr.ensures.reads same c.in_err-close.ensures.stops in
+    search (rules, r)
+
+pub element-returns-clause-reads : goal.element-returns-clause-reads
+element-returns-clause-reads t c = element_reads c.in_ok-place.ensures.reads c.in_ok-expr.ensures.reads c.in_ok-close.ensures.reads
+
+pub member-returns-in_err-regions-clause-stops : goal.member-returns-in_err-regions-clause-stops
+member-returns-in_err-regions-clause-stops t c =
+    let o = dot_read (counts c.args.cursor.now) _ c.requires.dot c.in_ok-join.ensures.takes c.in_ok-join.ensures.fits c.in_ok-join.ensures.counted in
+    let r = args_refused c.args.cursor.now.end _ o c.in_ok-join.ensures.moves.end c.in_err-regions.ensures.stops in
+    search (rules, r)
+
+pub member-returns-in_err-named-clause-stops : goal.member-returns-in_err-named-clause-stops
+member-returns-in_err-named-clause-stops t c =
+    let o = dot_read (counts c.args.cursor.now) _ c.requires.dot c.in_ok-join.ensures.takes c.in_ok-join.ensures.fits c.in_ok-join.ensures.counted in
+    let same : c.args_if.new.cursor.end ≡ c.args.cursor.now.end = c.in_ok-regions.ensures.moves.end ∙ c.in_ok-join.ensures.moves.end in
+    let r = name_refused c.args.cursor.now.end _ o c.in_ok-regions.ensures.reads same c.in_err-named.ensures.stops in
+    search (rules, r)
+
+pub member-returns-then-not-is_symbol-clause-reads : goal.member-returns-then-not-is_symbol-clause-reads
+member-returns-then-not-is_symbol-clause-reads t c =
+    let o = dot_read (counts c.args.cursor.now) _ c.requires.dot c.in_ok-join.ensures.takes c.in_ok-join.ensures.fits c.in_ok-join.ensures.counted in
+    let bare : Next (terminal.Symbol Symbol.Less) c.join.new.self.rest.now → ⊥ = search rules in
+    let away : Next (terminal.Symbol Symbol.OpenParen) c.name.new.self.rest.now → ⊥ = search rules in
+    field_read o c.in_ok-regions.ensures.reads bare c.in_ok-named.ensures.reads away
+
+pub member-returns-in_err-actuals-clause-stops : goal.member-returns-in_err-actuals-clause-stops
+member-returns-in_err-actuals-clause-stops t c =
+    let o = dot_read (counts c.args.cursor.now) _ c.requires.dot c.in_ok-join.ensures.takes c.in_ok-join.ensures.fits c.in_ok-join.ensures.counted in
+    let calls : (Next (terminal.Symbol Symbol.Less) c.join.new.self.rest.now → ⊥) → Next (terminal.Symbol Symbol.OpenParen) c.name.new.self.rest.now = λ bare. elim c.else-not-has_args.branch [
+      else-not-has_args-via-then-not-has_args+else-not-is_symbol w ↦ search rules
+      | else-not-has_args-via-else-not-has_args w ↦ absurd (search (rules, bare)) ] in
+    let named : c.name.new.self.end ≡ c.args_if.new.cursor.end = c.in_ok-named.ensures.moves.end in
+    let same : c.name.new.self.end ≡ c.args.cursor.now.end = named ∙ c.in_ok-regions.ensures.moves.end ∙ c.in_ok-join.ensures.moves.end in
+    let r = call_refused c.args.cursor.now.end _ o c.in_ok-regions.ensures.reads c.in_ok-named.ensures.reads calls same c.in_err-actuals.ensures.stops in
+    search (rules, r)
+
+pub member-returns-clause-reads : goal.member-returns-clause-reads
+member-returns-clause-reads t c =
+    let o = dot_read (counts c.args.cursor.now) _ c.requires.dot c.in_ok-join.ensures.takes c.in_ok-join.ensures.fits c.in_ok-join.ensures.counted in
+    let calls : (Next (terminal.Symbol Symbol.Less) c.join.new.self.rest.now → ⊥) → Next (terminal.Symbol Symbol.OpenParen) c.name.new.self.rest.now = λ bare. elim c.else-not-has_args.branch [
+      else-not-has_args-via-then-not-has_args+else-not-is_symbol w ↦ search rules
+      | else-not-has_args-via-else-not-has_args w ↦ absurd (search (rules, bare)) ] in
+    call_read o c.in_ok-regions.ensures.reads c.in_ok-named.ensures.reads calls c.in_ok-actuals.ensures.reads

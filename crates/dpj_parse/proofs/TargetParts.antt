@@ -1,0 +1,56 @@
+-- Selections behind which a statement ends.
+use Rattle.std.proofs.Common.{◌≡◌, ◌⊎◌, ◌∙◌, List, [], ◌∷◌, Bool, true, false, cond, ◌||◌, Option, Some, None, inl, inr, refl, sym, ap, subst}
+use Rattle.dpj_base.specs.Refused.{IfRefused}
+use Rattle.dpj_base.specs.declared.place.Place.{Place}
+use Rattle.dpj_base.specs.declared.refusal.Kind.{Kind}
+use Rattle.dpj_base.specs.declared.refusal.Stop.{Stop}
+use Rattle.dpj_tokens.specs.declared.token.Symbol.{Symbol}
+use Rattle.dpj_terminals.specs.declared.terminal.Placed.{Placed}
+use Rattle.dpj_terminals.specs.declared.terminal.Terminal.{Terminal}
+use Rattle.dpj_terminals.specs.declared.terminal.Terminal.TheVariants as terminal
+use Rattle.dpj_parse.specs.Words.{is_dot, is_less, is_name, is_open_bracket, is_open_paren, sign}
+use Rattle.dpj_parse.specs.Taking.{Next, TakesNext}
+use Rattle.dpj_parse.specs.Expressions.{Ending, as_field, as_element, as_call}
+use Rattle.dpj_parse.specs.Expecting.{Part, Expected, one, part, choose, next_is, next_of, selection_parts, ending_parts}
+use Rattle.dpj_parse.specs.Limits.{Counts, Fits, more, Within, begins, passes, nothing, Stops, no_part, no_terminal, too_many, in_part, after_part, after_terminal, Refuses}
+use Rattle.dpj_parse.specs.Onward.{Onward}
+use Rattle.dpj_parse.specs.Targets.{Leads}
+use Rattle.dpj_parse.proofs.Composed.{stops_first, on_refused}
+use Rattle.dpj_parse.proofs.Coming.{comes_next, next_comes, symbol_comes_not}
+use Rattle.dpj_parse.proofs.Onwards.{over, step, enter, extend_stops, part_inside, part_stops}
+use Rattle.dpj_parse.proofs.OperatorParts.{joined_reads}
+use Rattle.dpj_parse.proofs.SelectionParts.{no_args_if, args_if_args}
+use Rattle.dpj_parse.proofs.Tested.{sign_or_not}
+
+-- a `[` or a `.` comes where its test says so
+comes : (s : Symbol) (here : List Placed) → next_is (sign s) (next_of here) ≡ true → Next (terminal.Symbol s) here
+comes s [] on = cc
+comes s (next ∷ after) on = elim (sign_or_not s next.terminal) [ inl is ↦ comes_next is | inr off ↦ cc ]
+
+same_selection : (others : Option (List Expected)) (t : Terminal) → (is_dot t || is_open_bracket t) ≡ true → selection_parts others t ≡ selection_parts None t
+same_selection others (terminal.Symbol Symbol.Dot) on = refl
+same_selection others (terminal.Symbol Symbol.OpenBracket) on = refl
+same_selection others _ on = cc
+
+same_choice : (ending : Ending) (here : List Placed) → (next_is is_dot (next_of here) || next_is is_open_bracket (next_of here)) ≡ true →
+    choose (Part.selected_then ending) (next_of here) ≡ choose Part.selection_then (next_of here)
+same_choice ending [] on = cc
+same_choice ending (next ∷ after) on = same_selection (ending_parts ending) next.terminal on
+
+-- where a selection comes, it comes whatever stands before
+then_reads : (ending : Ending) {c d : Counts} {here after : List Placed} → choose (Part.selected_then ending) (next_of here) ≡ choose Part.selection_then (next_of here) →
+    Within c (part Part.selection_then ∷ []) here d after → Within c (part (Part.selected_then ending) ∷ []) here d after
+then_reads ending same (begins chosen w nothing) = begins (same ∙ chosen) w nothing
+
+then_stops : (ending : Ending) {c : Counts} {before here : List Placed} {k : Kind} → choose (Part.selected_then ending) (next_of before) ≡ choose Part.selection_then (next_of before) →
+    Stops c (part Part.selection_then ∷ []) before k here → Stops c (part (Part.selected_then ending) ∷ []) before k here
+then_stops ending same (no_part none) = no_part (same ∙ none)
+then_stops ending same (in_part chosen s) = in_part (same ∙ chosen) s
+then_stops ending same (after_part chosen w s) = elim s [ ]
+
+pub then_enter : (ending : Ending) {c : Counts} {here : List Placed} → (next_is is_dot (next_of here) || next_is is_open_bracket (next_of here)) ≡ true →
+    Onward c (part (Part.selected_then ending) ∷ []) here c (part Part.selection_then ∷ []) here
+then_enter ending {here = here} on = record {
+  reads = λ e after w. then_reads ending (same_choice ending here on) w;
+  stops = λ k at s. then_stops ending (same_choice ending here on) s;
+}
