@@ -6,7 +6,7 @@ use Rattle.dpj_parse.specs.Taking.{Next}
 use Rattle.dpj_parse.proofs.ExprParts.{element_reads, index_refused, index_close_refused}
 use Rattle.dpj_parse.proofs.SelectionParts.{args_refused, call_read, call_refused, dot_read, field_read, name_refused}
 use Rattle.dpj_parse.proofs.Few.{still_few}
-use Rattle.dpj_parse.proofs.OperatorParts.{climbs_first, climbs_on}
+use Rattle.dpj_parse.proofs.OperatorParts.{climbs_first, climbs_on, operand_refused, operator_halts, operators_end}
 use Rattle.dpj_parse.proofs.Ops.{grouped_unary, grouped_operation}
 use Rattle.dpj_parse.proofs.Taken.{next-takes}
 use Rattle.dpj_parse.proofs.exprs.+exprs.Goals as goal
@@ -103,3 +103,41 @@ member-returns-clause-reads t c =
       else-not-has_args-via-then-not-has_args+else-not-is_symbol w ↦ search rules
       | else-not-has_args-via-else-not-has_args w ↦ absurd (search (rules, bare)) ] in
     call_read o c.in_ok-regions.ensures.reads c.in_ok-named.ensures.reads calls c.in_ok-actuals.ensures.reads
+
+pub operators-returns-in_err-place-clause-stops : goal.operators-returns-in_err-place-clause-stops
+operators-returns-in_err-place-clause-stops t c =
+    let r =
+        operator_halts
+        c.in-Some.op
+        c.args.cursor.now.end
+        _
+        c.loop-op.invariant.climbs
+        c.in-Some.ensures.within.0
+        c.in-Some.ensures.within.1
+        c.in-Some.ensures.next
+        c.loop-op.invariant.moves.end
+        c.in_err-place.ensures.halts in
+    search (rules, r)
+
+pub operators-returns-in_err-right-clause-stops : goal.operators-returns-in_err-right-clause-stops
+operators-returns-in_err-right-clause-stops t c =
+    let same : c.join.new.self.end ≡ c.args.cursor.now.end = c.in_ok-place.ensures.moves.end ∙ c.loop-op.invariant.moves.end in
+    let r =
+        operand_refused
+        c.in-Some.op
+        c.args.cursor.now.end
+        _
+        c.loop-op.invariant.climbs
+        c.in-Some.ensures.within.0
+        c.in-Some.ensures.within.1
+        c.in-Some.ensures.next
+        c.in_ok-place.ensures.takes
+        c.in_ok-place.ensures.fits
+        c.in_ok-place.ensures.counted
+        c.binding.ensures.level
+        same
+        c.in_err-right.ensures.stops in
+    search (rules, r)
+
+pub operators-returns-clause-reads : goal.operators-returns-clause-reads
+operators-returns-clause-reads t c = operators_end c.loop-op.invariant.climbs c.in_default.ensures.otherwise
