@@ -10,7 +10,7 @@ use Rattle.dpj_terminals.specs.declared.terminal.Placed.{Placed}
 use Rattle.dpj_terminals.specs.declared.terminal.Terminal.{Terminal}
 use Rattle.dpj_terminals.specs.declared.terminal.Terminal.TheVariants as terminal
 use Rattle.dpj_tree.specs.Plain.{ExprForm}
-use Rattle.dpj_parse.specs.Words.{is_any, is_comma, is_open_paren, is_close_paren, is_open_bracket, is_close_bracket}
+use Rattle.dpj_parse.specs.Words.{is_any, is_comma, is_name, is_new, is_open_paren, is_close_paren, is_open_bracket, is_close_bracket}
 use Rattle.dpj_parse.specs.Taking.{Next, place_of}
 use Rattle.dpj_parse.specs.Reading.{Spells, NextSpells}
 use Rattle.dpj_parse.specs.Expecting.{Part, one, part, choose, literal_parts, next_is, next_of}
@@ -247,3 +247,23 @@ next_refused end stop o comma same r = refused_on _ stop (over o (comma_read com
 pub listed_ends : {c d : Counts} {before here : List Placed} → Onward c (part Part.listed ∷ []) before d (part Part.more_listed ∷ []) here →
     (Next (terminal.Symbol Symbol.Comma) here → ⊥) → Within c (part Part.listed ∷ []) before d here
 listed_ends {here = here} o away = ends (over o (enter Part.more_listed (rw (symbol_comes_not Symbol.Comma here away) refl) (λ d. refl)))
+
+-- the creation of an object, with which a statement begins
+pub new_reads : {c d e f g : Counts} {before one_after two_after three_after after : List Placed} → Within c (one is_new ∷ []) before d one_after → Within d (one is_name ∷ []) one_after e two_after →
+    Within e (part Part.args_if ∷ []) two_after f three_after → Within f (part Part.actuals ∷ []) three_after g after →
+    Within c (one is_new ∷ one is_name ∷ part Part.args_if ∷ part Part.actuals ∷ []) before g after
+new_reads start name args all = seq start (seq name (seq args all))
+
+pub class_refused : {c d : Counts} {before one_after : List Placed} (end : Place) {last : Place} (stop : Stop) → Within c (one is_new ∷ []) before d one_after → last ≡ end →
+    IfRefused stop (Refuses d (one is_name ∷ []) one_after last) → IfRefused stop (Refuses c (one is_new ∷ one is_name ∷ part Part.args_if ∷ part Part.actuals ∷ []) before end)
+class_refused end stop start same r = refused_on _ stop (step _ start) same r
+
+pub class_args_refused : {c d e : Counts} {before one_after two_after : List Placed} (end : Place) {last : Place} (stop : Stop) → Within c (one is_new ∷ []) before d one_after →
+    Within d (one is_name ∷ []) one_after e two_after → last ≡ end → IfRefused stop (Refuses e (part Part.args_if ∷ []) two_after last) →
+    IfRefused stop (Refuses c (one is_new ∷ one is_name ∷ part Part.args_if ∷ part Part.actuals ∷ []) before end)
+class_args_refused end stop start name same r = refused_on _ stop (over (step _ start) (step _ name)) same r
+
+pub new_actuals_refused : {c d e f : Counts} {before one_after two_after three_after : List Placed} (end : Place) {last : Place} (stop : Stop) → Within c (one is_new ∷ []) before d one_after →
+    Within d (one is_name ∷ []) one_after e two_after → Within e (part Part.args_if ∷ []) two_after f three_after → last ≡ end → IfRefused stop (Refuses f (part Part.actuals ∷ []) three_after last) →
+    IfRefused stop (Refuses c (one is_new ∷ one is_name ∷ part Part.args_if ∷ part Part.actuals ∷ []) before end)
+new_actuals_refused end stop start name args same r = refused_on _ stop (over (step _ start) (over (step _ name) (step _ args))) same r

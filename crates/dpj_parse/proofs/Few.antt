@@ -121,11 +121,12 @@ is_elem _ = inr (λ e. cc)
 inside_few : (n : Part) (c : Counts) {d : Counts} {xs : List Expected} {before after : List Placed} →
     c.joined ≤ 32 → choose n (next_of before) ≡ Some xs → Within (inside n (next_of before) c) xs before d after → (inside n (next_of before) c).joined ≤ 32
 inside_few n c {d} {xs} {before} {after} h e w = elim (is_elem n) [
-  inl is ↦
+  | inl is ↦
       (let chosen : choose Part.elem (next_of before) ≡ Some xs = rw is at e in
       let v : Within (inside Part.elem (next_of before) c) xs before d after = rw is at w in
       rw is (elem_fits (next_is is_star (next_of before)) (next_is is_open_bracket (next_of before)) chosen v))
-  | inr not ↦ begun_fits (begun_at n (next_of before) c not h e) w ]
+  | inr not ↦ begun_fits (begun_at n (next_of before) c not h e) w
+]
 
 outside_few : (n : Part) (c d : Counts) → c.joined ≤ 32 → d.joined ≤ 32 → (outside n c d).joined ≤ 32
 outside_few (expr zero) c d h k = h

@@ -88,5 +88,5 @@ pub skip : {n : Part} {c d : Counts} {ys : List Expected} {before after : List P
 skip {n} {c} {d} {ys} {before} {after} w e begun same =
     let i = part_inside w e in
     let v : Within c [] before d after =
-        subst (λ f. Within f [] before d after) begun (subst (λ f. Within (inside n (next_of before) c) [] before f after) (sym (same i.last) ∙ i.is) i.within) in
+    subst (λ f. Within f [] before d after) begun (subst (λ f. Within (inside n (next_of before) c) [] before f after) (sym (same i.last) ∙ i.is) i.within) in
     steps ys v

@@ -57,7 +57,6 @@ op_plain _ c = refl
 op_comes : (op : BinaryOp) {here : List Placed} → Next (terminal.Symbol (symbol_of op)) here → op_of (next_of here) ≡ Some op
 op_comes op n = rw (n.takes.takes.first) (op_of_symbol op)
 
-
 climb_chosen : (level top : ℕ) (op : BinaryOp) (o : Option BinaryOp) → o ≡ Some op → level ≤ level_of op → left_level op ≤ top →
     climb_parts level top o ≡ one is_any ∷ part (expr (suc (level_of op))) ∷ part (Part.climb level (level_of op)) ∷ []
 climb_chosen level top op o is low high = rw (is, le-leb level (level_of op) low, le-leb (left_level op) top high) refl
@@ -102,7 +101,7 @@ pub climbs_on : (op : BinaryOp) {least most later bound : ℕ} {c d e f : Counts
     Climbs least later c f before after
 climbs_on op {bound = bound} {e = e} {f = f} {between = between} {after = after} climbs low high n takes fits same binds w left own =
     let v : Within e (part Part.unary ∷ part (Part.climb (suc (level_of op)) 6) ∷ []) between f after =
-        subst (λ level. Within e (part Part.unary ∷ part (Part.climb level 6) ∷ []) between f after) (next_level op binds) w in
+    subst (λ level. Within e (part Part.unary ∷ part (Part.climb level 6) ∷ []) between f after) (next_level op binds) w in
     let operand : Within e (part (expr (suc (level_of op))) ∷ []) between f after = read_part e f (expr (suc (level_of op))) _ between after refl v in
     record {
       top = level_of op;
@@ -122,7 +121,7 @@ pub operand_refused : (op : BinaryOp) {least most bound : ℕ} {c d e : Counts} 
     IfRefused stop (Refuses c (part Part.unary ∷ part (Part.climb least 6) ∷ []) before end)
 operand_refused op {e = e} {between = between} end {last} stop climbs low high n takes fits joined binds same r =
     let q : IfRefused stop (Refuses e (part Part.unary ∷ part (Part.climb (suc (level_of op)) 6) ∷ []) between last) =
-        subst (λ level. IfRefused stop (Refuses e (part Part.unary ∷ part (Part.climb level 6) ∷ []) between last)) (next_level op binds) r in
+    subst (λ level. IfRefused stop (Refuses e (part Part.unary ∷ part (Part.climb level 6) ∷ []) between last)) (next_level op binds) r in
     refused_on _ stop (over (operator_enter op climbs low high n) (step _ (operator_reads op _ _ n takes fits joined))) same
     (refused_part e (expr (suc (level_of op))) _ between last stop refl q)
 

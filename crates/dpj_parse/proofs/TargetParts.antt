@@ -54,3 +54,33 @@ then_enter ending {here = here} on = record {
   reads = λ e after w. then_reads ending (same_choice ending here on) w;
   stops = λ k at s. then_stops ending (same_choice ending here on) s;
 }
+
+-- a selection stops alike, whether more stands behind it or a statement ends there
+if_behind : {c : Counts} {test : Terminal → Bool} {xs ys : List Expected} {before here : List Placed} {k : Kind} →
+    ((d : Counts) (at : List Placed) → Stops d xs at k here → Stops d ys at k here) → Stops c (one test ∷ xs) before k here → Stops c (one test ∷ ys) before k here
+if_behind same (no_terminal none) = no_terminal none
+if_behind same (too_many test over_most) = too_many test over_most
+if_behind same (after_terminal test fits s) = after_terminal test fits (same _ _ s)
+
+actuals_stop : (b : Bool) {c : Counts} {before here : List Placed} {k : Kind} → next_is is_open_paren (next_of before) ≡ b →
+    Stops c (part Part.actuals_if ∷ []) before k here → Stops c (part Part.dotted_rest_then ∷ []) before k here
+actuals_stop true on s = in_part {xs = part Part.actuals ∷ part (Part.selected_then as_call) ∷ []} (rw on refl)
+    (stops_first (part (Part.selected_then as_call) ∷ []) (part_stops {xs = part Part.actuals ∷ []} s (rw on refl)))
+actuals_stop false off s = elim (part_stops {xs = []} s (rw off refl)) [ ]
+
+dotted_stop : (b : Bool) {c : Counts} {before here : List Placed} {k : Kind} → next_is is_less (next_of before) ≡ b →
+    Stops c (part Part.dotted_rest ∷ []) before k here → Stops c (part Part.dotted_then ∷ []) before k here
+dotted_stop true on s = in_part {xs = part Part.args ∷ one is_name ∷ part Part.actuals ∷ part (Part.selected_then as_call) ∷ []} (rw on refl)
+    (extend_stops (part (Part.selected_then as_call) ∷ []) (part_stops {xs = part Part.args ∷ one is_name ∷ part Part.actuals ∷ []} s (rw on refl)))
+dotted_stop false off s = in_part {xs = one is_name ∷ part Part.dotted_rest_then ∷ []} (rw off refl)
+    (if_behind (λ d at v. actuals_stop (next_is is_open_paren (next_of at)) refl v) (part_stops {xs = one is_name ∷ part Part.actuals_if ∷ []} s (rw off refl)))
+
+dot_stop : {c : Counts} {after here : List Placed} {place : Place} {k : Kind} → Stops c (part Part.selection ∷ []) (record { terminal = terminal.Symbol Symbol.Dot; place = place } ∷ after) k here →
+    Stops c (part Part.selection_then ∷ []) (record { terminal = terminal.Symbol Symbol.Dot; place = place } ∷ after) k here
+dot_stop s = in_part {xs = one is_dot ∷ part Part.dotted_then ∷ []} refl
+    (if_behind (λ d at v. dotted_stop (next_is is_less (next_of at)) refl v) (part_stops {xs = one is_dot ∷ part Part.dotted_rest ∷ []} s refl))
+
+bracket_stop : {c : Counts} {after here : List Placed} {place : Place} {k : Kind} → Stops c (part Part.selection ∷ []) (record { terminal = terminal.Symbol Symbol.OpenBracket; place = place } ∷ after) k here →
+    Stops c (part Part.selection_then ∷ []) (record { terminal = terminal.Symbol Symbol.OpenBracket; place = place } ∷ after) k here
+bracket_stop s = in_part {xs = part Part.element ∷ part (Part.selected_then as_element) ∷ []} refl
+    (stops_first (part (Part.selected_then as_element) ∷ []) (part_stops {xs = part Part.element ∷ []} s refl))

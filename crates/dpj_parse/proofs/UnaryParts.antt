@@ -192,8 +192,9 @@ based _ = inr (refl, refl)
 base_stops : {d : Counts} {before here : List Placed} {k : Kind} → Stops d (part Part.base ∷ []) before k here → Stops d (part Part.created ∷ []) before k here
 base_stops {before = []} s = in_part refl (extend_stops (part Part.created_rest ∷ []) (part_stops {xs = one is_name ∷ part Part.args_if ∷ []} s refl))
 base_stops {before = next ∷ after} s = elim (based next.terminal) [
-  inl e ↦ in_part (ap Some e) (stops_first (part Part.array ∷ []) s)
-  | inr e ↦ in_part (ap Some e.0) (extend_stops (part Part.created_rest ∷ []) (part_stops {xs = one is_name ∷ part Part.args_if ∷ []} s (ap Some e.1))) ]
+  | inl e ↦ in_part (ap Some e) (stops_first (part Part.array ∷ []) s)
+  | inr e ↦ in_part (ap Some e.0) (extend_stops (part Part.created_rest ∷ []) (part_stops {xs = one is_name ∷ part Part.args_if ∷ []} s (ap Some e.1)))
+]
 
 pub base_refused : {c d : Counts} {before at : List Placed} (end : Place) {last : Place} (stop : Stop) → Within c (one is_new ∷ []) before d at → last ≡ end →
     IfRefused stop (Refuses d (part Part.base ∷ []) at last) → IfRefused stop (Refuses c (one is_new ∷ part Part.created ∷ []) before end)

@@ -435,8 +435,11 @@ pub fn target(alloc: Global, cursor: &mut Cursor) -> Result<Expr, Stop>
 /// The shortest such Postfix.
 #[tactic(auto, using(crate::proofs::Making::inner_selection, crate::proofs::Making::primary_target))]
 fn target_first(alloc: Global, cursor: &mut Cursor) -> Result<Expr, Stop>
+    requires target { IsTarget cursor.old.rest.now }
+    requires few { cursor.old.joined ≤ 32 }
     ensures moves { OnOk result (Reads cursor.old cursor.new) }
-    // TODO clause
+    ensures goes { IfOk result (λ e. ReadsOn (stmt_begins cursor.old.rest.now) cursor.old (part (Part.selected_then (ending_of (plain_expr e))) ∷ []) cursor.new) }
+    ensures stops { IfErr result (λ stop. StopsAt (stmt_begins cursor.old.rest.now) cursor.old stop) }
     ensures derives { IfOk result (λ e. DerivesPostfix (ending_of (plain_expr e)) cursor.old.rest.now cursor.new.rest.now (plain_expr e)) }
 {
     if cursor.is_keyword(Keyword::New) {
@@ -450,6 +453,7 @@ fn target_first(alloc: Global, cursor: &mut Cursor) -> Result<Expr, Stop>
 }
 
 /// `"new" Name [ Args ] "(" [ Actuals ] ")"`
+#[tactic(auto, using(crate::proofs::Composed::refused_first, crate::proofs::ExprParts::new_reads, crate::proofs::ExprParts::class_refused, crate::proofs::ExprParts::class_args_refused, crate::proofs::ExprParts::new_actuals_refused))]
 fn new_object(alloc: Global, cursor: &mut Cursor) -> Result<Expr, Stop>
     ensures moves { OnOk result (Reads cursor.old cursor.new) }
     ensures reads { OnOk result (Reading (one is_new ∷ one is_name ∷ part Part.args_if ∷ part Part.actuals ∷ []) cursor.old cursor.new) }

@@ -59,7 +59,7 @@ pub element-returns-in_err-close-clause-stops : goal.element-returns-in_err-clos
 element-returns-in_err-close-clause-stops t c =
     let same : c.expr.new.cursor.end ≡ c.args.cursor.now.end = c.in_ok-expr.ensures.moves.end ∙ c.in_ok-place.ensures.moves.end in
     let r =
-        index_close_refused (counts c.args.cursor.now) c.args.cursor.now.end _ c.in_ok-place.ensures.reads c.in_ok-expr.ensures.reads same c.in_err-close.ensures.stops in
+    index_close_refused (counts c.args.cursor.now) c.args.cursor.now.end _ c.in_ok-place.ensures.reads c.in_ok-expr.ensures.reads same c.in_err-close.ensures.stops in
     search (rules, r)
 
 pub element-returns-clause-reads : goal.element-returns-clause-reads
@@ -89,8 +89,9 @@ pub member-returns-in_err-actuals-clause-stops : goal.member-returns-in_err-actu
 member-returns-in_err-actuals-clause-stops t c =
     let o = dot_read (counts c.args.cursor.now) _ c.requires.dot c.in_ok-join.ensures.takes c.in_ok-join.ensures.fits c.in_ok-join.ensures.counted in
     let calls : (Next (terminal.Symbol Symbol.Less) c.join.new.self.rest.now → ⊥) → Next (terminal.Symbol Symbol.OpenParen) c.name.new.self.rest.now = λ bare. elim c.else-not-has_args.branch [
-      else-not-has_args-via-then-not-has_args+else-not-is_symbol w ↦ search rules
-      | else-not-has_args-via-else-not-has_args w ↦ absurd (search (rules, bare)) ] in
+      | else-not-has_args-via-then-not-has_args+else-not-is_symbol w ↦ search rules
+      | else-not-has_args-via-else-not-has_args w ↦ absurd (search (rules, bare))
+    ] in
     let named : c.name.new.self.end ≡ c.args_if.new.cursor.end = c.in_ok-named.ensures.moves.end in
     let same : c.name.new.self.end ≡ c.args.cursor.now.end = named ∙ c.in_ok-regions.ensures.moves.end ∙ c.in_ok-join.ensures.moves.end in
     let r = call_refused c.args.cursor.now.end _ o c.in_ok-regions.ensures.reads c.in_ok-named.ensures.reads calls same c.in_err-actuals.ensures.stops in
@@ -100,43 +101,44 @@ pub member-returns-clause-reads : goal.member-returns-clause-reads
 member-returns-clause-reads t c =
     let o = dot_read (counts c.args.cursor.now) _ c.requires.dot c.in_ok-join.ensures.takes c.in_ok-join.ensures.fits c.in_ok-join.ensures.counted in
     let calls : (Next (terminal.Symbol Symbol.Less) c.join.new.self.rest.now → ⊥) → Next (terminal.Symbol Symbol.OpenParen) c.name.new.self.rest.now = λ bare. elim c.else-not-has_args.branch [
-      else-not-has_args-via-then-not-has_args+else-not-is_symbol w ↦ search rules
-      | else-not-has_args-via-else-not-has_args w ↦ absurd (search (rules, bare)) ] in
+      | else-not-has_args-via-then-not-has_args+else-not-is_symbol w ↦ search rules
+      | else-not-has_args-via-else-not-has_args w ↦ absurd (search (rules, bare))
+    ] in
     call_read o c.in_ok-regions.ensures.reads c.in_ok-named.ensures.reads calls c.in_ok-actuals.ensures.reads
 
 pub operators-returns-in_err-place-clause-stops : goal.operators-returns-in_err-place-clause-stops
 operators-returns-in_err-place-clause-stops t c =
     let r =
-        operator_halts
-        c.in-Some.op
-        c.args.cursor.now.end
-        _
-        c.loop-op.invariant.climbs
-        c.in-Some.ensures.within.0
-        c.in-Some.ensures.within.1
-        c.in-Some.ensures.next
-        c.loop-op.invariant.moves.end
-        c.in_err-place.ensures.halts in
+    operator_halts
+    c.in-Some.op
+    c.args.cursor.now.end
+    _
+    c.loop-op.invariant.climbs
+    c.in-Some.ensures.within.0
+    c.in-Some.ensures.within.1
+    c.in-Some.ensures.next
+    c.loop-op.invariant.moves.end
+    c.in_err-place.ensures.halts in
     search (rules, r)
 
 pub operators-returns-in_err-right-clause-stops : goal.operators-returns-in_err-right-clause-stops
 operators-returns-in_err-right-clause-stops t c =
     let same : c.join.new.self.end ≡ c.args.cursor.now.end = c.in_ok-place.ensures.moves.end ∙ c.loop-op.invariant.moves.end in
     let r =
-        operand_refused
-        c.in-Some.op
-        c.args.cursor.now.end
-        _
-        c.loop-op.invariant.climbs
-        c.in-Some.ensures.within.0
-        c.in-Some.ensures.within.1
-        c.in-Some.ensures.next
-        c.in_ok-place.ensures.takes
-        c.in_ok-place.ensures.fits
-        c.in_ok-place.ensures.counted
-        c.binding.ensures.level
-        same
-        c.in_err-right.ensures.stops in
+    operand_refused
+    c.in-Some.op
+    c.args.cursor.now.end
+    _
+    c.loop-op.invariant.climbs
+    c.in-Some.ensures.within.0
+    c.in-Some.ensures.within.1
+    c.in-Some.ensures.next
+    c.in_ok-place.ensures.takes
+    c.in_ok-place.ensures.fits
+    c.in_ok-place.ensures.counted
+    c.binding.ensures.level
+    same
+    c.in_err-right.ensures.stops in
     search (rules, r)
 
 pub operators-returns-clause-reads : goal.operators-returns-clause-reads
