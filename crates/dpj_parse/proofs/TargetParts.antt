@@ -5,19 +5,20 @@ use Rattle.dpj_base.specs.declared.place.Place.{Place}
 use Rattle.dpj_base.specs.declared.refusal.Kind.{Kind}
 use Rattle.dpj_base.specs.declared.refusal.Stop.{Stop}
 use Rattle.dpj_tokens.specs.declared.token.Symbol.{Symbol}
+use Rattle.dpj_tokens.specs.declared.token.Keyword.{Keyword}
 use Rattle.dpj_terminals.specs.declared.terminal.Placed.{Placed}
 use Rattle.dpj_terminals.specs.declared.terminal.Terminal.{Terminal}
 use Rattle.dpj_terminals.specs.declared.terminal.Terminal.TheVariants as terminal
-use Rattle.dpj_parse.specs.Words.{is_dot, is_less, is_name, is_open_bracket, is_open_paren, sign}
+use Rattle.dpj_parse.specs.Words.{is_dot, is_less, is_name, is_new, is_open_bracket, is_open_paren, sign}
 use Rattle.dpj_parse.specs.Taking.{Next, TakesNext}
-use Rattle.dpj_parse.specs.Expressions.{Ending, as_field, as_element, as_call}
+use Rattle.dpj_parse.specs.Expressions.{Ending, as_field, as_element, as_call, as_creation}
 use Rattle.dpj_parse.specs.Expecting.{Part, Expected, one, part, choose, next_is, next_of, selection_parts, ending_parts}
-use Rattle.dpj_parse.specs.Limits.{Counts, Fits, more, Within, begins, passes, nothing, Stops, no_part, no_terminal, too_many, in_part, after_part, after_terminal, Refuses}
+use Rattle.dpj_parse.specs.Limits.{Counts, Fits, more, more_if, Within, begins, passes, nothing, Stops, no_part, no_terminal, too_many, in_part, after_part, after_terminal, Refuses}
 use Rattle.dpj_parse.specs.Onward.{Onward}
-use Rattle.dpj_parse.specs.Targets.{Leads}
+use Rattle.dpj_parse.specs.Targets.{Leads, stmt_begins}
 use Rattle.dpj_parse.proofs.Composed.{stops_first, on_refused}
 use Rattle.dpj_parse.proofs.Coming.{comes_next, next_comes, symbol_comes_not}
-use Rattle.dpj_parse.proofs.Onwards.{over, step, enter, extend_stops, part_inside, part_stops}
+use Rattle.dpj_parse.proofs.Onwards.{over, step, steps, enter, refused_on, extend_stops, part_inside, part_stops}
 use Rattle.dpj_parse.proofs.OperatorParts.{joined_reads}
 use Rattle.dpj_parse.proofs.SelectionParts.{no_args_if, args_if_args}
 use Rattle.dpj_parse.proofs.Tested.{sign_or_not}
@@ -84,3 +85,57 @@ bracket_stop : {c : Counts} {after here : List Placed} {place : Place} {k : Kind
     Stops c (part Part.selection_then ∷ []) (record { terminal = terminal.Symbol Symbol.OpenBracket; place = place } ∷ after) k here
 bracket_stop s = in_part {xs = part Part.element ∷ part (Part.selected_then as_element) ∷ []} refl
     (stops_first (part (Part.selected_then as_element) ∷ []) (part_stops {xs = part Part.element ∷ []} s refl))
+
+-- where no selection comes, what ends the statement does
+other_parts : (others : Option (List Expected)) (t : Terminal) → (is_dot t || is_open_bracket t) ≡ false → (selection_parts others t ≡ others) × (is_dot t ≡ false)
+other_parts others (terminal.Symbol Symbol.Dot) off = cc
+other_parts others (terminal.Symbol Symbol.OpenBracket) off = cc
+other_parts others _ off = (refl, refl)
+
+end_choice : (ending : Ending) (here : List Placed) → (next_is is_dot (next_of here) || next_is is_open_bracket (next_of here)) ≡ false →
+    (choose (Part.selected_then ending) (next_of here) ≡ ending_parts ending) × (next_is is_dot (next_of here) ≡ false)
+end_choice ending [] off = (refl, refl)
+end_choice ending (next ∷ after) off = other_parts (ending_parts ending) next.terminal off
+
+end_enter : (ending : Ending) {c : Counts} {xs : List Expected} {here : List Placed} → (next_is is_dot (next_of here) || next_is is_open_bracket (next_of here)) ≡ false → ending_parts ending ≡ Some xs →
+    Onward c (part (Part.selected_then ending) ∷ []) here c xs here
+end_enter ending {c} {xs} {here} off is =
+    let chosen = end_choice ending here off in
+    subst (λ b. Onward c (part (Part.selected_then ending) ∷ []) here (more_if b c) xs here) chosen.1 (enter (Part.selected_then ending) (chosen.0 ∙ is) (λ d. refl))
+
+pub target_leads : (ending : Ending) {c d : Counts} {before here : List Placed} → Onward c (stmt_begins before) before d (part (Part.selected_then ending) ∷ []) here →
+    (next_is is_dot (next_of here) || next_is is_open_bracket (next_of here)) ≡ false → Leads c before ending d here
+target_leads ending {here = here} o off = record {
+  reads = λ xs e after is w. o.reads e after ((end_enter ending off is).reads e after w);
+  stops = λ xs k at is s. o.stops k at ((end_enter ending off is).stops k at s);
+  lost = λ none. (let chosen = end_choice ending here off in o.stops _ _ (no_part (chosen.0 ∙ none)));
+}
+
+-- a selection behind something in parentheses
+other_stop : {c : Counts} {before here : List Placed} {k : Kind} → next_is is_dot (next_of before) ≡ false → next_is is_open_bracket (next_of before) ≡ false →
+    Stops c (part Part.selection ∷ []) before k here → Stops c (part Part.element ∷ []) before k here
+other_stop {c} {before} {here} {k} dot bracket s =
+    subst (λ b. Stops (more_if b c) (part Part.element ∷ []) before k here) dot (part_stops {xs = part Part.element ∷ []} s (rw dot refl))
+
+-- what begins as a creation
+new_enter : {c : Counts} {before : List Placed} → Next (terminal.Keyword Keyword.New) before →
+    Onward c (stmt_begins before) before c (one is_new ∷ one is_name ∷ part Part.args_if ∷ part Part.actuals ∷ part (Part.selected_then as_creation) ∷ []) before
+new_enter n = rw (n.takes.takes.first) (enter Part.performed refl (λ d. refl))
+
+pub new_goes : {c d : Counts} {before after : List Placed} → Next (terminal.Keyword Keyword.New) before →
+    Within c (one is_new ∷ one is_name ∷ part Part.args_if ∷ part Part.actuals ∷ []) before d after → Onward c (stmt_begins before) before d (part (Part.selected_then as_creation) ∷ []) after
+new_goes n w = over (new_enter n) (steps (part (Part.selected_then as_creation) ∷ []) w)
+
+pub new_target_refused : (c : Counts) (before : List Placed) (end : Place) (stop : Stop) → Next (terminal.Keyword Keyword.New) before →
+    IfRefused stop (Refuses c (one is_new ∷ one is_name ∷ part Part.args_if ∷ part Part.actuals ∷ []) before end) → IfRefused stop (Refuses c (stmt_begins before) before end)
+new_target_refused c before end stop n r =
+    on_refused end stop (λ k here s. (new_enter n).stops k here (extend_stops (part (Part.selected_then as_creation) ∷ []) s)) r
+
+-- or in parentheses
+inner_enter : {c : Counts} {before : List Placed} → Next (terminal.Symbol Symbol.OpenParen) before →
+    Onward c (stmt_begins before) before c (part Part.inner ∷ part Part.selection_then ∷ []) before
+inner_enter n = rw (n.takes.takes.first) (enter Part.performed refl (λ d. refl))
+
+pub inner_target_refused : (c : Counts) (before : List Placed) (end : Place) (stop : Stop) → Next (terminal.Symbol Symbol.OpenParen) before →
+    IfRefused stop (Refuses c (part Part.inner ∷ []) before end) → IfRefused stop (Refuses c (stmt_begins before) before end)
+inner_target_refused c before end stop n r = refused_on _ stop (inner_enter n) refl r

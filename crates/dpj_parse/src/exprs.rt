@@ -433,7 +433,7 @@ pub fn target(alloc: Global, cursor: &mut Cursor) -> Result<Expr, Stop>
 }
 
 /// The shortest such Postfix.
-#[tactic(auto, using(crate::proofs::Making::inner_selection, crate::proofs::Making::primary_target))]
+#[tactic(auto, using(crate::proofs::Making::inner_selection, crate::proofs::Making::primary_target, crate::proofs::TargetParts::target_leads))]
 fn target_first(alloc: Global, cursor: &mut Cursor) -> Result<Expr, Stop>
     requires target { IsTarget cursor.old.rest.now }
     requires few { cursor.old.joined ≤ 32 }

@@ -10,7 +10,7 @@ use Rattle.dpj_parse.proofs.OperatorParts.{climbs_first, climbs_on, operand_refu
 use Rattle.dpj_parse.proofs.Ops.{grouped_unary, grouped_operation}
 use Rattle.dpj_parse.proofs.Taken.{next-takes}
 use Rattle.dpj_parse.proofs.exprs.+exprs.Goals as goal
-use Rattle.dpj_parse.proofs.exprs.+exprs.Goals.{else-not-has_args-via-then-not-has_args+else-not-is_symbol, else-not-has_args-via-else-not-has_args}
+use Rattle.dpj_parse.proofs.exprs.+exprs.Goals.{member-else-not-has_args-via-then-not-has_args+else-not-is_symbol, member-else-not-has_args-via-else-not-has_args}
 
 pub operators-loop-op-init : goal.operators-loop-op-init
 operators-loop-op-init t c = record {
@@ -89,8 +89,8 @@ pub member-returns-in_err-actuals-clause-stops : goal.member-returns-in_err-actu
 member-returns-in_err-actuals-clause-stops t c =
     let o = dot_read (counts c.args.cursor.now) _ c.requires.dot c.in_ok-join.ensures.takes c.in_ok-join.ensures.fits c.in_ok-join.ensures.counted in
     let calls : (Next (terminal.Symbol Symbol.Less) c.join.new.self.rest.now → ⊥) → Next (terminal.Symbol Symbol.OpenParen) c.name.new.self.rest.now = λ bare. elim c.else-not-has_args.branch [
-      | else-not-has_args-via-then-not-has_args+else-not-is_symbol w ↦ search rules
-      | else-not-has_args-via-else-not-has_args w ↦ absurd (search (rules, bare))
+      | member-else-not-has_args-via-then-not-has_args+else-not-is_symbol w ↦ search rules
+      | member-else-not-has_args-via-else-not-has_args w ↦ absurd (search (rules, bare))
     ] in
     let named : c.name.new.self.end ≡ c.args_if.new.cursor.end = c.in_ok-named.ensures.moves.end in
     let same : c.name.new.self.end ≡ c.args.cursor.now.end = named ∙ c.in_ok-regions.ensures.moves.end ∙ c.in_ok-join.ensures.moves.end in
@@ -101,8 +101,8 @@ pub member-returns-clause-reads : goal.member-returns-clause-reads
 member-returns-clause-reads t c =
     let o = dot_read (counts c.args.cursor.now) _ c.requires.dot c.in_ok-join.ensures.takes c.in_ok-join.ensures.fits c.in_ok-join.ensures.counted in
     let calls : (Next (terminal.Symbol Symbol.Less) c.join.new.self.rest.now → ⊥) → Next (terminal.Symbol Symbol.OpenParen) c.name.new.self.rest.now = λ bare. elim c.else-not-has_args.branch [
-      | else-not-has_args-via-then-not-has_args+else-not-is_symbol w ↦ search rules
-      | else-not-has_args-via-else-not-has_args w ↦ absurd (search (rules, bare))
+      | member-else-not-has_args-via-then-not-has_args+else-not-is_symbol w ↦ search rules
+      | member-else-not-has_args-via-else-not-has_args w ↦ absurd (search (rules, bare))
     ] in
     call_read o c.in_ok-regions.ensures.reads c.in_ok-named.ensures.reads calls c.in_ok-actuals.ensures.reads
 
