@@ -9,6 +9,10 @@ use Rattle.dpj_tokens.specs.declared.token.Keyword.{Keyword}
 use Rattle.dpj_terminals.specs.declared.terminal.Placed.{Placed}
 use Rattle.dpj_terminals.specs.declared.terminal.Terminal.{Terminal}
 use Rattle.dpj_terminals.specs.declared.terminal.Terminal.TheVariants as terminal
+use Rattle.dpj_tree.specs.declared.region.Named.{Named}
+use Rattle.dpj_tree.specs.declared.region.RplTree.{RplTree}
+use Rattle.dpj_tree.specs.Plain.{PlainExpr, PlainExprs, expression, create}
+use Rattle.dpj_parse.specs.Reading.{ending_of}
 use Rattle.dpj_parse.specs.Words.{is_dot, is_less, is_name, is_new, is_open_bracket, is_open_paren, sign}
 use Rattle.dpj_parse.specs.Taking.{Next, TakesNext}
 use Rattle.dpj_parse.specs.Expressions.{Ending, as_field, as_element, as_call, as_creation}
@@ -20,7 +24,6 @@ use Rattle.dpj_parse.proofs.Composed.{stops_first, on_refused}
 use Rattle.dpj_parse.proofs.Coming.{comes_next, next_comes, symbol_comes_not}
 use Rattle.dpj_parse.proofs.Onwards.{over, step, steps, enter, refused_on, extend_stops, part_inside, part_stops}
 use Rattle.dpj_parse.proofs.OperatorParts.{joined_reads}
-use Rattle.dpj_parse.proofs.SelectionParts.{no_args_if, args_if_args}
 use Rattle.dpj_parse.proofs.Tested.{sign_or_not}
 
 -- a `[` or a `.` comes where its test says so
@@ -122,9 +125,13 @@ new_enter : {c : Counts} {before : List Placed} → Next (terminal.Keyword Keywo
     Onward c (stmt_begins before) before c (one is_new ∷ one is_name ∷ part Part.args_if ∷ part Part.actuals ∷ part (Part.selected_then as_creation) ∷ []) before
 new_enter n = rw (n.takes.takes.first) (enter Part.performed refl (λ d. refl))
 
-pub new_goes : {c d : Counts} {before after : List Placed} → Next (terminal.Keyword Keyword.New) before →
-    Within c (one is_new ∷ one is_name ∷ part Part.args_if ∷ part Part.actuals ∷ []) before d after → Onward c (stmt_begins before) before d (part (Part.selected_then as_creation) ∷ []) after
-new_goes n w = over (new_enter n) (steps (part (Part.selected_then as_creation) ∷ []) w)
+pub new_goes : {ending : Ending} {c d : Counts} {before after : List Placed} → Next (terminal.Keyword Keyword.New) before →
+    Within c (one is_new ∷ one is_name ∷ part Part.args_if ∷ part Part.actuals ∷ []) before d after → ending ≡ as_creation →
+    Onward c (stmt_begins before) before d (part (Part.selected_then ending) ∷ []) after
+new_goes n w is = rw is (over (new_enter n) (steps (part (Part.selected_then as_creation) ∷ []) w))
+
+pub new_ending : {name : Named} {regions : List RplTree} {all : PlainExprs} {e : PlainExpr} {place : Place} → e ≡ expression place (create name regions all) → ending_of e ≡ as_creation
+new_ending is = rw is refl
 
 pub new_target_refused : (c : Counts) (before : List Placed) (end : Place) (stop : Stop) → Next (terminal.Keyword Keyword.New) before →
     IfRefused stop (Refuses c (one is_new ∷ one is_name ∷ part Part.args_if ∷ part Part.actuals ∷ []) before end) → IfRefused stop (Refuses c (stmt_begins before) before end)

@@ -433,7 +433,7 @@ pub fn target(alloc: Global, cursor: &mut Cursor) -> Result<Expr, Stop>
 }
 
 /// The shortest such Postfix.
-#[tactic(auto, using(crate::proofs::Making::inner_selection, crate::proofs::Making::primary_target, crate::proofs::TargetParts::target_leads))]
+#[tactic(auto, using(crate::proofs::Making::inner_selection, crate::proofs::Making::primary_target, crate::proofs::TargetParts::new_target_refused, crate::proofs::TargetParts::inner_target_refused, crate::proofs::TargetParts::new_goes, crate::proofs::Few::still_few))]
 fn target_first(alloc: Global, cursor: &mut Cursor) -> Result<Expr, Stop>
     requires target { IsTarget cursor.old.rest.now }
     requires few { cursor.old.joined ≤ 32 }
@@ -453,11 +453,12 @@ fn target_first(alloc: Global, cursor: &mut Cursor) -> Result<Expr, Stop>
 }
 
 /// `"new" Name [ Args ] "(" [ Actuals ] ")"`
-#[tactic(auto, using(crate::proofs::Composed::refused_first, crate::proofs::ExprParts::new_reads, crate::proofs::ExprParts::class_refused, crate::proofs::ExprParts::class_args_refused, crate::proofs::ExprParts::new_actuals_refused))]
+#[tactic(auto, using(crate::proofs::Composed::refused_first, crate::proofs::ExprParts::new_reads, crate::proofs::ExprParts::class_refused, crate::proofs::ExprParts::class_args_refused, crate::proofs::ExprParts::new_actuals_refused, crate::proofs::TargetParts::new_ending))]
 fn new_object(alloc: Global, cursor: &mut Cursor) -> Result<Expr, Stop>
     ensures moves { OnOk result (Reads cursor.old cursor.new) }
     ensures reads { OnOk result (Reading (one is_new ∷ one is_name ∷ part Part.args_if ∷ part Part.actuals ∷ []) cursor.old cursor.new) }
     ensures stops { IfErr result (λ stop. StopsAt (one is_new ∷ one is_name ∷ part Part.args_if ∷ part Part.actuals ∷ []) cursor.old stop) }
+    ensures ending { IfOk result (λ e. ending_of (plain_expr e) ≡ as_creation) }
     ensures derives { IfOk result (λ e. DerivesPostfix (ending_of (plain_expr e)) cursor.old.rest.now cursor.new.rest.now (plain_expr e)) }
 {
     let place = cursor.keyword(Keyword::New)?;

@@ -153,7 +153,10 @@ pub fn args_if(alloc: Global, cursor: &mut Cursor) -> Result<Items<RplTree>, Sto
     ensures stops { IfErr result (λ stop. StopsAt (part Part.args_if ∷ []) cursor.old stop) }
     ensures derives { IfOk result (λ paths. DerivesArgs cursor.old.rest.now cursor.new.rest.now paths) }
 {
-    Err(Stop::NoMemory)
+    if !cursor.is_symbol(Symbol::Less) {
+        return Ok(Items::new(alloc));
+    }
+    args(alloc, cursor)
 }
 
 /// `Args = "<" Rpl { "," Rpl } ">"`

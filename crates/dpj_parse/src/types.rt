@@ -42,7 +42,21 @@ pub fn base(alloc: Global, cursor: &mut Cursor) -> Result<BaseTree, Stop>
     ensures stops { IfErr result (λ stop. StopsAt (part Part.base ∷ []) cursor.old stop) }
     ensures derives { IfOk result (λ start. DerivesBase cursor.old.rest.now cursor.new.rest.now start) }
 {
-    Err(Stop::NoMemory)
+    match cursor.next() {
+        Some(Terminal::Keyword(Keyword::Int)) => {
+            cursor.accept()?;
+            Ok(BaseTree::Int)
+        }
+        Some(Terminal::Keyword(Keyword::Boolean)) => {
+            cursor.accept()?;
+            Ok(BaseTree::Bool)
+        }
+        _ => {
+            let name = cursor.name()?;
+            let args = args_if(alloc, cursor)?;
+            Ok(BaseTree::Class { name, args })
+        }
+    }
 }
 
 /// `{ "[" "]" [ "<" Rpl ">" ] [ "#" Name ] }`
@@ -70,7 +84,9 @@ pub fn behind_brackets(alloc: Global, cursor: &mut Cursor) -> Result<Suffix, Sto
     ensures stops { IfErr result (λ stop. StopsAt (part Part.brackets_behind ∷ []) cursor.old stop) }
     ensures derives { IfOk result (λ tree. DerivesBehind cursor.old.rest.now cursor.new.rest.now tree) }
 {
-    Err(Stop::NoMemory)
+    let rpl = region_if(alloc, cursor)?;
+    let index = index_if(cursor)?;
+    Ok(Suffix { rpl, index })
 }
 
 /// `[ "<" Rpl ">" ]`
