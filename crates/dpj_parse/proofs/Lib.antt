@@ -17,9 +17,15 @@ pub mod Coming
 pub mod Readings
 pub mod Composed
 pub mod InOrder
+pub mod Onwards
+pub mod Few
 pub mod PathParts
 pub mod TypeParts
 pub mod ExprParts
+pub mod OperatorParts
+pub mod UnaryParts
+pub mod SelectionParts
+pub mod TargetParts
 pub mod StmtParts
 pub mod Declaring
 pub mod Declarations

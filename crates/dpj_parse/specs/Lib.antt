@@ -14,6 +14,7 @@ pub mod Expecting
 pub mod Viable
 pub mod Limits
 pub mod Counted
+pub mod Onward
 pub mod Targets
 pub mod ExpectedText
 pub mod Refusing
