@@ -1,1 +1,297 @@
 -- The parts of the grammar's Member productions, by what they begin with.
+use Rattle.std.proofs.Common.{◌≡◌, ◌∙◌, ◌⊎◌, ℕ, ◌++◌, ap, inl, inr, List, [], ◌∷◌, Bool, true, false, cond, ◌||◌, Option, Some, None, refl}
+use Rattle.dpj_base.specs.Refused.{IfRefused}
+use Rattle.dpj_base.specs.declared.place.Place.{Place}
+use Rattle.dpj_base.specs.declared.refusal.Kind.{Kind}
+use Rattle.dpj_base.specs.declared.refusal.Stop.{Stop}
+use Rattle.dpj_tokens.specs.declared.token.Symbol.{Symbol}
+use Rattle.dpj_tokens.specs.declared.token.Keyword.{Keyword}
+use Rattle.dpj_terminals.specs.declared.terminal.Placed.{Placed}
+use Rattle.dpj_terminals.specs.declared.terminal.Terminal.{Terminal}
+use Rattle.dpj_terminals.specs.declared.terminal.Terminal.TheVariants as terminal
+use Rattle.dpj_parse.specs.declared.cursor.Cursor.{Cursor}
+use Rattle.dpj_parse.specs.Taking.{Next, NoNext, TakesIf}
+use Rattle.dpj_parse.specs.Classes.{BeginsEffects}
+use Rattle.dpj_parse.specs.Members.{member_begins, BeginsKind, constructor_comes, BeginsTyped, type_begins, IsItemsPart, reads, writes}
+use Rattle.dpj_parse.specs.Progress.{ReadsIf}
+use Rattle.dpj_parse.specs.Expecting.{Expected, Part, one, part, choose, next_of, next_is}
+use Rattle.dpj_parse.specs.Expecting.Part.{member, after_member_name, field_or_method, in_if, result, method_rest, formals, formal_list, formal, more_formals, summary, reads_if, writes_if, items, item, more_items, atomic_if, block, path, type, kind, names, params_if, args_if, suffixes}
+use Rattle.dpj_parse.specs.Words.{is_atomic, is_close_paren, is_comma, is_in, is_name, is_open_paren, is_pure, is_reads, is_semicolon, is_void, is_writes, word}
+use Rattle.dpj_parse.specs.Limits.{Counts, inside, outside, Within, begins, nothing, passes, anew, Stops, no_part, no_terminal, too_many, in_part, after_part, after_terminal, Refuses}
+use Rattle.dpj_parse.specs.Counted.{counts, Reading, StopsAt}
+use Rattle.dpj_parse.proofs.Coming.{next_comes, symbol_comes_not, keyword_comes, keyword_comes_not}
+use Rattle.dpj_parse.proofs.Composed.{Refused, seq, stops_first, stops_after, refused_first, refused_after, read_part, refused_part, on_refused}
+
+-- a refusal after what was read: the end of the text stays where it is
+pub refused_later : (x : Expected) (ys : List Expected) {c d : Counts} {before between : List Placed} {end end_now : Place} (stop : Stop) →
+    Within c (x ∷ []) before d between → end_now ≡ end → Refused d ys between end_now stop → Refused c (x ∷ ys) before end stop
+refused_later x ys {c = c} {d = d} {before = before} {between = between} {end = end} stop w is r = refused_after c d x ys before between end stop w (rw is at r)
+
+pub refused_second : (x y : Expected) (ys : List Expected) {c d : Counts} {before one_after : List Placed} {end end_one : Place} (stop : Stop) →
+    Within c (x ∷ []) before d one_after → end_one ≡ end → Refused d (y ∷ []) one_after end_one stop → Refused c (x ∷ y ∷ ys) before end stop
+refused_second x y ys {d = d} {one_after = one_after} {end_one = end_one} stop w is r = refused_later x (y ∷ ys) stop w is (refused_first d y ys one_after end_one stop r)
+
+pub refused_third : (x y z : Expected) (ys : List Expected) {c d e : Counts} {before one_after two_after : List Placed} {end end_one end_two : Place} (stop : Stop) →
+    Within c (x ∷ []) before d one_after → end_one ≡ end → Within d (y ∷ []) one_after e two_after → end_two ≡ end_one →
+    Refused e (z ∷ []) two_after end_two stop → Refused c (x ∷ y ∷ z ∷ ys) before end stop
+refused_third x y z ys stop w is v same r = refused_later x (y ∷ z ∷ ys) stop w is (refused_second y z ys stop v same r)
+
+pub formals_reads : {c d e f : Counts} {a b g h : List Placed} →
+    Within c (one is_open_paren ∷ []) a d b → Within d (part formal_list ∷ []) b e g → Within e (one is_close_paren ∷ []) g f h → Within c (part formals ∷ []) a f h
+formals_reads opened list closed = read_part _ _ formals _ _ _ refl (seq opened (seq list closed))
+
+pub formals_refused : (c : Counts) (before : List Placed) (end : Place) (stop : Stop) →
+    Refused c (one is_open_paren ∷ part formal_list ∷ one is_close_paren ∷ []) before end stop → Refused c (part formals ∷ []) before end stop
+formals_refused c before end stop r = refused_part c formals _ before end stop refl r
+
+pub formal_reads : {c d e : Counts} {a b g : List Placed} → Within c (part type ∷ []) a d b → Within d (one is_name ∷ []) b e g → Within c (part formal ∷ []) a e g
+formal_reads ty named = read_part _ _ formal _ _ _ refl (seq ty named)
+
+pub formal_refused : (c : Counts) (before : List Placed) (end : Place) (stop : Stop) → Refused c (part type ∷ one is_name ∷ []) before end stop → Refused c (part formal ∷ []) before end stop
+formal_refused c before end stop r = refused_part c formal _ before end stop refl r
+
+pub method_rest_reads : {c d e f : Counts} {a b g h : List Placed} →
+    Within c (part formals ∷ []) a d b → Within d (part summary ∷ []) b e g → Within e (part block ∷ []) g f h → Within c (part method_rest ∷ []) a f h
+method_rest_reads f s b = read_part _ _ method_rest _ _ _ refl (seq f (seq s b))
+
+pub method_rest_refused : (c : Counts) (before : List Placed) (end : Place) (stop : Stop) →
+    Refused c (part formals ∷ part summary ∷ part block ∷ []) before end stop → Refused c (part method_rest ∷ []) before end stop
+method_rest_refused c before end stop r = refused_part c method_rest _ before end stop refl r
+
+-- what is expected is read in turn
+pub read_two : {x y : Expected} {c d e : Counts} {a b g : List Placed} → Within c (x ∷ []) a d b → Within d (y ∷ []) b e g → Within c (x ∷ y ∷ []) a e g
+read_two v w = seq v w
+
+pub read_three : {x y z : Expected} {c d e f : Counts} {a b g h : List Placed} → Within c (x ∷ []) a d b → Within d (y ∷ []) b e g → Within e (z ∷ []) g f h → Within c (x ∷ y ∷ z ∷ []) a f h
+read_three u v w = seq u (seq v w)
+
+-- a terminal that was read came next
+came : {test : Terminal → Bool} {others : List Expected} {c e : Counts} {before after : List Placed} → Within c (one test ∷ others) before e after → next_is test (next_of before) ≡ true
+came (passes test fits w) = test
+
+-- what a part begins with is read behind what was read so far, whatever follows
+pub record Onward (c : Counts) (xs : List Expected) (before : List Placed) (d : Counts) (ys : List Expected) (between : List Placed) : Type 0 where
+  pub reads : (e : Counts) (after : List Placed) → Within d ys between e after → Within c xs before e after
+  pub stops : (k : Kind) (here : List Placed) → Stops d ys between k here → Stops c xs before k here
+
+pub onward_step : {x y : Expected} {ys xs : List Expected} {c d e : Counts} {a b g : List Placed} → Onward c xs a d (x ∷ y ∷ ys) b → Within d (x ∷ []) b e g → Onward c xs a e (y ∷ ys) g
+onward_step o w = record { reads = λ e after v. o.reads e after (seq w v); stops = λ k here s. o.stops k here (stops_after w s) }
+
+pub onward_refused : {x : Expected} {xs ys : List Expected} {c d : Counts} {a b : List Placed} {end end_now : Place} (stop : Stop) →
+    Onward c xs a d (x ∷ ys) b → end_now ≡ end → Refused d (x ∷ []) b end_now stop → Refused c xs a end stop
+onward_refused {ys = ys} stop o is r = on_refused _ stop (λ k here s. o.stops k here (stops_first ys s)) (rw is at r)
+
+-- the formals of a method
+pub formal_list_none : {c : Counts} {a : List Placed} → Next (terminal.Symbol Symbol.CloseParen) a → Within c (part formal_list ∷ []) a c a
+formal_list_none {c} {a} n = read_part c c formal_list [] a a (rw (next_comes Symbol.CloseParen a n) refl) nothing
+
+formal_list_comes : (a : List Placed) → NoNext (terminal.Symbol Symbol.CloseParen) a → choose formal_list (next_of a) ≡ Some (part formal ∷ part more_formals ∷ [])
+formal_list_comes a none = rw (symbol_comes_not Symbol.CloseParen a none) refl
+
+pub formal_list_refused : (c : Counts) (before : List Placed) (end : Place) (stop : Stop) →
+    NoNext (terminal.Symbol Symbol.CloseParen) before → Refused c (part formal ∷ []) before end stop → Refused c (part formal_list ∷ []) before end stop
+formal_list_refused c before end stop none r = refused_part c formal_list _ before end stop (formal_list_comes before none) (refused_first c _ (part more_formals ∷ []) before end stop r)
+
+pub formal_list_begun : {c d : Counts} {a b : List Placed} →
+    NoNext (terminal.Symbol Symbol.CloseParen) a → Within c (part formal ∷ []) a d b → Onward c (part formal_list ∷ []) a d (part more_formals ∷ []) b
+formal_list_begun {a = a} none w = record {
+  reads = λ e after v. read_part _ _ formal_list _ _ _ (formal_list_comes a none) (seq w v);
+  stops = λ k here s. in_part (formal_list_comes a none) (stops_after w s);
+}
+
+more_formals_on : {c d : Counts} {xs : List Expected} {a b : List Placed} → Onward c xs a d (part more_formals ∷ []) b → next_is is_comma (next_of b) ≡ true →
+    Onward c xs a d (one is_comma ∷ part formal ∷ part more_formals ∷ []) b
+more_formals_on {b = b} o comes =
+    let chosen : choose more_formals (next_of b) ≡ Some (one is_comma ∷ part formal ∷ part more_formals ∷ []) = rw comes refl in
+    record { reads = λ e after v. o.reads e after (read_part _ _ more_formals _ _ _ chosen v); stops = λ k here s. o.stops k here (in_part chosen s) }
+
+pub more_formals_round : {c d e f : Counts} {xs : List Expected} {a b g h : List Placed} → Onward c xs a d (part more_formals ∷ []) b →
+    Within d (one is_comma ∷ []) b e g → Within e (part formal ∷ []) g f h → Onward c xs a f (part more_formals ∷ []) h
+more_formals_round o comma w = onward_step (onward_step (more_formals_on o (came comma)) comma) w
+
+pub more_formals_end : {c d : Counts} {xs : List Expected} {a b : List Placed} → Onward c xs a d (part more_formals ∷ []) b → NoNext (terminal.Symbol Symbol.Comma) b → Within c xs a d b
+more_formals_end {d = d} {b = b} o none = o.reads d b (read_part d d more_formals [] b b (rw (symbol_comes_not Symbol.Comma b none) refl) nothing)
+
+pub more_formals_lost : {c d : Counts} {xs : List Expected} {a b : List Placed} {end end_now : Place} (stop : Stop) → Onward c xs a d (part more_formals ∷ []) b →
+    Next (terminal.Symbol Symbol.Comma) b → end_now ≡ end → Refused d (one is_comma ∷ []) b end_now stop → Refused c xs a end stop
+more_formals_lost {b = b} stop o n is r = onward_refused stop (more_formals_on o (next_comes Symbol.Comma b n)) is r
+
+pub more_formals_refused : {c d e : Counts} {xs : List Expected} {a b g : List Placed} {end end_now end_then : Place} (stop : Stop) → Onward c xs a d (part more_formals ∷ []) b →
+    Within d (one is_comma ∷ []) b e g → end_now ≡ end → end_then ≡ end_now → Refused e (part formal ∷ []) g end_then stop → Refused c xs a end stop
+more_formals_refused stop o comma is then r = onward_refused stop (onward_step (more_formals_on o (came comma)) comma) (then ∙ is) r
+
+-- the regions that a summary names
+pub items_refused : (c : Counts) (before : List Placed) (end : Place) (stop : Stop) → Refused c (part item ∷ []) before end stop → Refused c (part items ∷ []) before end stop
+items_refused c before end stop r = refused_part c items _ before end stop refl (refused_first c _ (part more_items ∷ []) before end stop r)
+
+pub items_begun : {c d : Counts} {a b : List Placed} → Within c (part item ∷ []) a d b → Onward c (part items ∷ []) a d (part more_items ∷ []) b
+items_begun w = record { reads = λ e after v. read_part _ _ items _ _ _ refl (seq w v); stops = λ k here s. in_part refl (stops_after w s) }
+
+more_items_on : {c d : Counts} {xs : List Expected} {a b : List Placed} → Onward c xs a d (part more_items ∷ []) b → next_is is_comma (next_of b) ≡ true →
+    Onward c xs a d (one is_comma ∷ part item ∷ part more_items ∷ []) b
+more_items_on {b = b} o comes =
+    let chosen : choose more_items (next_of b) ≡ Some (one is_comma ∷ part item ∷ part more_items ∷ []) = rw comes refl in
+    record { reads = λ e after v. o.reads e after (read_part _ _ more_items _ _ _ chosen v); stops = λ k here s. o.stops k here (in_part chosen s) }
+
+pub more_items_round : {c d e f : Counts} {xs : List Expected} {a b g h : List Placed} → Onward c xs a d (part more_items ∷ []) b →
+    Within d (one is_comma ∷ []) b e g → Within e (part item ∷ []) g f h → Onward c xs a f (part more_items ∷ []) h
+more_items_round o comma w = onward_step (onward_step (more_items_on o (came comma)) comma) w
+
+pub more_items_end : {c d : Counts} {xs : List Expected} {a b : List Placed} → Onward c xs a d (part more_items ∷ []) b → NoNext (terminal.Symbol Symbol.Comma) b → Within c xs a d b
+more_items_end {d = d} {b = b} o none = o.reads d b (read_part d d more_items [] b b (rw (symbol_comes_not Symbol.Comma b none) refl) nothing)
+
+pub more_items_lost : {c d : Counts} {xs : List Expected} {a b : List Placed} {end end_now : Place} (stop : Stop) → Onward c xs a d (part more_items ∷ []) b →
+    Next (terminal.Symbol Symbol.Comma) b → end_now ≡ end → Refused d (one is_comma ∷ []) b end_now stop → Refused c xs a end stop
+more_items_lost {b = b} stop o n is r = onward_refused stop (more_items_on o (next_comes Symbol.Comma b n)) is r
+
+pub more_items_refused : {c d e : Counts} {xs : List Expected} {a b g : List Placed} {end end_now end_then : Place} (stop : Stop) → Onward c xs a d (part more_items ∷ []) b →
+    Within d (one is_comma ∷ []) b e g → end_now ≡ end → end_then ≡ end_now → Refused e (part item ∷ []) g end_then stop → Refused c xs a end stop
+more_items_refused stop o comma is then r = onward_refused stop (onward_step (more_items_on o (came comma)) comma) (then ∙ is) r
+
+-- the result of a method
+pub result_void_reads : {c d : Counts} {a b : List Placed} → Within c (one is_void ∷ []) a d b → Within c (part result ∷ []) a d b
+result_void_reads w = read_part _ _ result _ _ _ (rw (came w) refl) w
+
+pub result_void_refused : (c : Counts) (before : List Placed) (end : Place) (stop : Stop) →
+    Next (terminal.Keyword Keyword.Void) before → Refused c (one is_void ∷ []) before end stop → Refused c (part result ∷ []) before end stop
+result_void_refused c before end stop n r = refused_part c result _ before end stop (rw (keyword_comes Keyword.Void before n) refl) r
+
+pub result_value_reads : {c d : Counts} {a b : List Placed} → NoNext (terminal.Keyword Keyword.Void) a → Within c (part type ∷ []) a d b → Within c (part result ∷ []) a d b
+result_value_reads {a = a} none w = read_part _ _ result _ _ _ (rw (keyword_comes_not Keyword.Void a none) refl) w
+
+pub result_value_refused : (c : Counts) (before : List Placed) (end : Place) (stop : Stop) →
+    NoNext (terminal.Keyword Keyword.Void) before → Refused c (part type ∷ []) before end stop → Refused c (part result ∷ []) before end stop
+result_value_refused c before end stop none r = refused_part c result _ before end stop (rw (keyword_comes_not Keyword.Void before none) refl) r
+
+-- the region of a field
+pub in_if_none : {c : Counts} {a : List Placed} → NoNext (terminal.Keyword Keyword.In) a → Within c (part in_if ∷ []) a c a
+in_if_none {c} {a} none = read_part c c in_if [] a a (rw (keyword_comes_not Keyword.In a none) refl) nothing
+
+pub in_if_reads : {c d e : Counts} {a b g : List Placed} → Within c (one is_in ∷ []) a d b → Within d (part path ∷ []) b e g → Within c (part in_if ∷ []) a e g
+in_if_reads word w = read_part _ _ in_if _ _ _ (rw (came word) refl) (seq word w)
+
+pub in_if_lost : (c : Counts) (before : List Placed) (end : Place) (stop : Stop) →
+    Next (terminal.Keyword Keyword.In) before → Refused c (one is_in ∷ []) before end stop → Refused c (part in_if ∷ []) before end stop
+in_if_lost c before end stop n r = refused_part c in_if _ before end stop (rw (keyword_comes Keyword.In before n) refl) (refused_first c _ (part path ∷ []) before end stop r)
+
+pub in_if_refused : {c d : Counts} {a b : List Placed} {end end_now : Place} (stop : Stop) →
+    Within c (one is_in ∷ []) a d b → end_now ≡ end → Refused d (part path ∷ []) b end_now stop → Refused c (part in_if ∷ []) a end stop
+in_if_refused {c} {a = a} stop word is r = refused_part c in_if _ a _ stop (rw (came word) refl) (refused_second _ _ [] stop word is r)
+
+-- a keyword that may come leaves the end of the text where it is
+pub end_if : (found : Bool) (old new : Cursor) → ReadsIf found old new → new.end ≡ old.end
+end_if true old new moves = moves.end
+end_if false old new same = ap (λ c. c.end) same
+
+-- one region of them
+atomic_reads : (found : Bool) (old new : Cursor) → ReadsIf found old new → TakesIf (terminal.Keyword Keyword.Atomic) found old.rest.now new.rest.now →
+    (found ≡ true → Reading (one is_atomic ∷ []) old new) → Reading (part atomic_if ∷ []) old new
+atomic_reads true old new moves takes reading = let w = reading refl in read_part _ _ atomic_if _ _ _ (rw (came w) refl) w
+atomic_reads false old new same takes reading =
+    rw same (read_part (counts old) (counts old) atomic_if [] old.rest.now old.rest.now (rw (keyword_comes_not Keyword.Atomic old.rest.now takes.0) refl) nothing)
+
+pub item_reads : (found : Bool) (old mid new : Cursor) → ReadsIf found old mid → TakesIf (terminal.Keyword Keyword.Atomic) found old.rest.now mid.rest.now →
+    (found ≡ true → Reading (one is_atomic ∷ []) old mid) → Reading (part path ∷ []) mid new → Reading (part item ∷ []) old new
+item_reads found old mid new moves takes reading w = read_part _ _ item _ _ _ refl (seq (atomic_reads found old mid moves takes reading) w)
+
+pub item_lost : (c : Counts) (before : List Placed) (end : Place) (stop : Stop) →
+    Next (terminal.Keyword Keyword.Atomic) before → Refused c (one is_atomic ∷ []) before end stop → Refused c (part item ∷ []) before end stop
+item_lost c before end stop n r =
+    refused_part c item _ before end stop refl
+    (refused_first c _ (part path ∷ []) before end stop (refused_part c atomic_if _ before end stop (rw (keyword_comes Keyword.Atomic before n) refl) r))
+
+pub item_refused : (found : Bool) (old mid : Cursor) (stop : Stop) → ReadsIf found old mid → TakesIf (terminal.Keyword Keyword.Atomic) found old.rest.now mid.rest.now →
+    (found ≡ true → Reading (one is_atomic ∷ []) old mid) → StopsAt (part path ∷ []) mid stop → StopsAt (part item ∷ []) old stop
+item_refused found old mid stop moves takes reading r =
+    refused_part _ item _ _ _ stop refl (refused_second _ _ [] stop (atomic_reads found old mid moves takes reading) (end_if found old mid moves) r)
+
+-- a keyword and regions, or neither
+pub items_if_none : {keyword : Keyword} {n : Part} {c : Counts} {a : List Placed} → IsItemsPart keyword n → NoNext (terminal.Keyword keyword) a → Within c (part n ∷ []) a c a
+items_if_none {c = c} {a = a} reads none = read_part c c reads_if [] a a (rw (keyword_comes_not Keyword.Reads a none) refl) nothing
+items_if_none {c = c} {a = a} writes none = read_part c c writes_if [] a a (rw (keyword_comes_not Keyword.Writes a none) refl) nothing
+
+pub items_if_reads : {keyword : Keyword} {n : Part} {c d e : Counts} {a b g : List Placed} → IsItemsPart keyword n →
+    Within c (one (word keyword) ∷ []) a d b → Within d (part items ∷ []) b e g → Within c (part n ∷ []) a e g
+items_if_reads reads v w = read_part _ _ reads_if _ _ _ (rw (came v) refl) (seq v w)
+items_if_reads writes v w = read_part _ _ writes_if _ _ _ (rw (came v) refl) (seq v w)
+
+pub items_if_lost : {keyword : Keyword} {n : Part} (c : Counts) (before : List Placed) (end : Place) (stop : Stop) → IsItemsPart keyword n →
+    Next (terminal.Keyword keyword) before → Refused c (one (word keyword) ∷ []) before end stop → Refused c (part n ∷ []) before end stop
+items_if_lost c before end stop reads n r = refused_part c reads_if _ before end stop (rw (keyword_comes Keyword.Reads before n) refl) (refused_first c _ (part items ∷ []) before end stop r)
+items_if_lost c before end stop writes n r = refused_part c writes_if _ before end stop (rw (keyword_comes Keyword.Writes before n) refl) (refused_first c _ (part items ∷ []) before end stop r)
+
+pub items_if_refused : {keyword : Keyword} {n : Part} {c d : Counts} {a b : List Placed} {end end_now : Place} (stop : Stop) → IsItemsPart keyword n →
+    Within c (one (word keyword) ∷ []) a d b → end_now ≡ end → Refused d (part items ∷ []) b end_now stop → Refused c (part n ∷ []) a end stop
+items_if_refused {c = c} {a = a} stop reads v is r = refused_part c reads_if _ a _ stop (rw (came v) refl) (refused_second _ _ [] stop v is r)
+items_if_refused {c = c} {a = a} stop writes v is r = refused_part c writes_if _ a _ stop (rw (came v) refl) (refused_second _ _ [] stop v is r)
+
+-- the summary of a method
+effects_come : (a : List Placed) → BeginsEffects a → choose summary (next_of a) ≡ Some (part reads_if ∷ part writes_if ∷ [])
+effects_come a (inl n) = rw (n.takes.takes.first) refl
+effects_come a (inr n) = rw (n.takes.takes.first) refl
+
+no_effects : (a : List Placed) → (BeginsEffects a → ⊥) → choose summary (next_of a) ≡ Some (cond (next_is is_pure (next_of a)) (one is_pure ∷ []) [])
+no_effects a none = rw (keyword_comes_not Keyword.Reads a (λ n. none (inl n)), keyword_comes_not Keyword.Writes a (λ n. none (inr n))) refl
+
+pub summary_effects_reads : {c d e : Counts} {a b g : List Placed} → BeginsEffects a → Within c (part reads_if ∷ []) a d b → Within d (part writes_if ∷ []) b e g → Within c (part summary ∷ []) a e g
+summary_effects_reads {a = a} n v w = read_part _ _ summary _ _ _ (effects_come a n) (seq v w)
+
+pub summary_reads_refused : (c : Counts) (before : List Placed) (end : Place) (stop : Stop) → BeginsEffects before →
+    Refused c (part reads_if ∷ []) before end stop → Refused c (part summary ∷ []) before end stop
+summary_reads_refused c before end stop n r = refused_part c summary _ before end stop (effects_come before n) (refused_first c _ (part writes_if ∷ []) before end stop r)
+
+pub summary_writes_refused : {c d : Counts} {a b : List Placed} {end end_now : Place} (stop : Stop) → BeginsEffects a →
+    Within c (part reads_if ∷ []) a d b → end_now ≡ end → Refused d (part writes_if ∷ []) b end_now stop → Refused c (part summary ∷ []) a end stop
+summary_writes_refused {c = c} {a = a} stop n v is r = refused_part c summary _ a _ stop (effects_come a n) (refused_second _ _ [] stop v is r)
+
+pub summary_pure_reads : {c d : Counts} {a b : List Placed} → (BeginsEffects a → ⊥) → Within c (one is_pure ∷ []) a d b → Within c (part summary ∷ []) a d b
+summary_pure_reads {a = a} none w = read_part _ _ summary _ _ _ (no_effects a none ∙ rw (came w) refl) w
+
+pub summary_pure_refused : (c : Counts) (before : List Placed) (end : Place) (stop : Stop) → (BeginsEffects before → ⊥) → Next (terminal.Keyword Keyword.Pure) before →
+    Refused c (one is_pure ∷ []) before end stop → Refused c (part summary ∷ []) before end stop
+summary_pure_refused c before end stop none n r = refused_part c summary _ before end stop (no_effects before none ∙ rw (keyword_comes Keyword.Pure before n) refl) r
+
+pub summary_none : {c : Counts} {a : List Placed} → (BeginsEffects a → ⊥) → NoNext (terminal.Keyword Keyword.Pure) a → Within c (part summary ∷ []) a c a
+summary_none {c} {a} none not = read_part c c summary [] a a (no_effects a none ∙ rw (keyword_comes_not Keyword.Pure a not) refl) nothing
+
+-- what follows the type and the name of a member
+pub method_comes : {c d : Counts} {a b : List Placed} → Next (terminal.Symbol Symbol.OpenParen) a → Within c (part method_rest ∷ []) a d b → Within c (part field_or_method ∷ []) a d b
+method_comes {a = a} n w = read_part _ _ field_or_method _ _ _ (rw (next_comes Symbol.OpenParen a n) refl) w
+
+pub method_refused : (c : Counts) (before : List Placed) (end : Place) (stop : Stop) → Next (terminal.Symbol Symbol.OpenParen) before →
+    Refused c (part method_rest ∷ []) before end stop → Refused c (part field_or_method ∷ []) before end stop
+method_refused c before end stop n r = refused_part c field_or_method _ before end stop (rw (next_comes Symbol.OpenParen before n) refl) r
+
+pub field_comes : {c d : Counts} {a b : List Placed} → NoNext (terminal.Symbol Symbol.OpenParen) a → Within c (part in_if ∷ one is_semicolon ∷ []) a d b → Within c (part field_or_method ∷ []) a d b
+field_comes {a = a} none w = read_part _ _ field_or_method _ _ _ (rw (symbol_comes_not Symbol.OpenParen a none) refl) w
+
+pub field_refused : (c : Counts) (before : List Placed) (end : Place) (stop : Stop) → NoNext (terminal.Symbol Symbol.OpenParen) before →
+    Refused c (part in_if ∷ one is_semicolon ∷ []) before end stop → Refused c (part field_or_method ∷ []) before end stop
+field_refused c before end stop none r = refused_part c field_or_method _ before end stop (rw (symbol_comes_not Symbol.OpenParen before none) refl) r
+
+-- a member of each kind
+kind_begins : (a : List Placed) → BeginsKind a → member_begins a ≡ part kind ∷ part names ∷ one is_semicolon ∷ []
+kind_begins a (inl n) = rw (n.takes.takes.first) refl
+kind_begins a (inr n) = rw (n.takes.takes.first) refl
+
+pub regions_comes : {c d : Counts} {a b : List Placed} → BeginsKind a → Within c (part kind ∷ part names ∷ one is_semicolon ∷ []) a d b → Within c (member_begins a) a d b
+regions_comes {a = a} n w = rw (kind_begins a n) w
+
+pub regions_refused : (c : Counts) (before : List Placed) (end : Place) (stop : Stop) → BeginsKind before →
+    Refused c (part kind ∷ part names ∷ one is_semicolon ∷ []) before end stop → Refused c (member_begins before) before end stop
+regions_refused c before end stop n r = rw (kind_begins before n) r
+
+-- region parameters or `void` come next
+abbrev pub BeginsAnswering : List Placed → Type 0
+BeginsAnswering here = Next (terminal.Symbol Symbol.Less) here ⊎ Next (terminal.Keyword Keyword.Void) here
+
+answering_begins : (a : List Placed) → BeginsAnswering a → member_begins a ≡ part params_if ∷ part result ∷ one is_name ∷ part method_rest ∷ []
+answering_begins a (inl n) = rw (n.takes.takes.first) refl
+answering_begins a (inr n) = rw (n.takes.takes.first) refl
+
+pub answering_comes : {c d : Counts} {a b : List Placed} → BeginsAnswering a → Within c (part params_if ∷ part result ∷ one is_name ∷ part method_rest ∷ []) a d b → Within c (member_begins a) a d b
+answering_comes {a = a} n w = rw (answering_begins a n) w
+
+pub answering_refused : (c : Counts) (before : List Placed) (end : Place) (stop : Stop) → BeginsAnswering before →
+    Refused c (part params_if ∷ part result ∷ one is_name ∷ part method_rest ∷ []) before end stop → Refused c (member_begins before) before end stop
+answering_refused c before end stop n r = rw (answering_begins before n) r

@@ -15,6 +15,7 @@ pub mod Viable
 pub mod Limits
 pub mod Counted
 pub mod Targets
+pub mod Members
 pub mod ExpectedText
 pub mod Refusing
 pub mod OneRefusal

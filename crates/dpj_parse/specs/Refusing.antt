@@ -6,6 +6,8 @@ use Rattle.dpj_base.specs.declared.refusal.Refusal.{Refusal}
 use Rattle.dpj_terminals.specs.declared.terminal.Placed.{Placed}
 use Rattle.dpj_parse.specs.Taking.{place_of}
 use Rattle.dpj_parse.specs.Viable.{IsViable, HasSyntaxFault}
+use Rattle.dpj_parse.specs.Expecting.{Part, part}
+use Rattle.dpj_parse.specs.Limits.{Counts, Within}
 
 -- the place of a text's fault of syntax: that of the first terminal with which no program goes on, or the end
 pub record IsSyntaxFault (list : List Placed) (end place : Place) : Type 0 where
@@ -25,3 +27,12 @@ pub data IsRefusedIn (list : List Placed) (end : Place) : Refusal → Type 0 whe
   syntax : {place : Place} → IsSyntaxFault list end place → IsRefusedIn list end (record { kind = kind.Syntax; place = place })
   nest : (read after : List Placed) (next : Placed) → list ≡ read ++ (next ∷ after) → IsViable (read ++ (next ∷ [])) →
       IsRefusedIn list end (record { kind = kind.Nest; place = next.place })
+
+-- nothing is counted yet
+abbrev pub start : Counts
+start = record { level = 0; joined = 0 }
+
+-- the whole text is read as a program, within the limits
+pub record IsWithin (list : List Placed) : Type 0 where
+  pub last : Counts
+  pub within : Within start (part Part.program ∷ []) list last []

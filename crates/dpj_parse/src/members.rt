@@ -1,6 +1,7 @@
 ghost use Rattle.std.specs.Prelude.{◌≡◌, ◌+◌, ◌↔◌, IfOk, IsTrue, OnOk, IfErr, [], ◌∷◌};
 ghost use Rattle.dpj_parse.specs.Counted.{Reading, StopsAt};
-ghost use Rattle.dpj_parse.specs.Expecting.{Part, part};
+ghost use Rattle.dpj_parse.specs.Expecting.{Part, one, part};
+ghost use Rattle.dpj_parse.specs.Members.{IsItemsPart};
 ghost use Rattle.dpj_parse.specs.Classes.{BeginsEffects, DerivesField, DerivesFormal, DerivesFormalList, DerivesFormals, DerivesIn, DerivesItem, DerivesItemsIf, DerivesMember, DerivesMethod, DerivesNamed, DerivesResult, DerivesSummary};
 ghost use Rattle.dpj_parse.specs.Progress.{Keeps, Reads};
 ghost use Rattle.dpj_parse.specs.Taking.{Listed};
@@ -65,7 +66,7 @@ fn constructs(cursor: &Cursor) -> bool {
 }
 
 /// `Type | "void"`
-#[tactic(auto, using(crate::proofs::MemberForms::result_void, crate::proofs::MemberForms::result_value))]
+#[tactic(auto, using(crate::proofs::MemberForms::result_void, crate::proofs::MemberForms::result_value, crate::proofs::MemberParts::result_void_reads, crate::proofs::MemberParts::result_void_refused, crate::proofs::MemberParts::result_value_reads, crate::proofs::MemberParts::result_value_refused))]
 fn result(alloc: Global, cursor: &mut Cursor) -> Result<MethodResult, Stop>
     ensures moves { OnOk result (Reads cursor.old cursor.new) }
     ensures reads { OnOk result (Reading (part Part.result ∷ []) cursor.old cursor.new) }
@@ -117,7 +118,7 @@ fn field(alloc: Global, cursor: &mut Cursor, ty: TypeTree, named: Named) -> Resu
 }
 
 /// `[ "in" Rpl ]`
-#[tactic(auto, using(crate::specs::Classes::nowhere, crate::proofs::MemberForms::in_region_of))]
+#[tactic(auto, using(crate::specs::Classes::nowhere, crate::proofs::MemberForms::in_region_of, crate::proofs::MemberParts::in_if_none, crate::proofs::MemberParts::in_if_reads, crate::proofs::MemberParts::in_if_lost, crate::proofs::MemberParts::in_if_refused))]
 fn region_if(alloc: Global, cursor: &mut Cursor) -> Result<Option<RplTree>, Stop>
     ensures moves { OnOk result (Keeps cursor.old cursor.new) }
     ensures reads { OnOk result (Reading (part Part.in_if ∷ []) cursor.old cursor.new) }
@@ -147,7 +148,7 @@ fn method(
 }
 
 /// `"(" [ Formals ] ")" Summary Block`
-#[tactic(auto, using(crate::proofs::MemberForms::method_behind))]
+#[tactic(auto, using(crate::proofs::MemberForms::method_behind, crate::proofs::MemberParts::method_rest_reads, crate::proofs::MemberParts::method_rest_refused, crate::proofs::Composed::refused_first, crate::proofs::MemberParts::refused_second, crate::proofs::MemberParts::refused_third))]
 fn behind_name(
     alloc: Global,
     cursor: &mut Cursor,
@@ -175,7 +176,7 @@ fn behind_name(
 }
 
 /// `"(" [ Formals ] ")"`
-#[tactic(auto, using(crate::proofs::MemberForms::formals_of))]
+#[tactic(auto, using(crate::proofs::MemberForms::formals_of, crate::proofs::MemberParts::formals_reads, crate::proofs::MemberParts::formals_refused, crate::proofs::Composed::refused_first, crate::proofs::MemberParts::refused_second, crate::proofs::MemberParts::refused_third))]
 fn formals(alloc: Global, cursor: &mut Cursor) -> Result<Items<Formal>, Stop>
     ensures moves { OnOk result (Reads cursor.old cursor.new) }
     ensures reads { OnOk result (Reading (part Part.formals ∷ []) cursor.old cursor.new) }
@@ -189,7 +190,7 @@ fn formals(alloc: Global, cursor: &mut Cursor) -> Result<Items<Formal>, Stop>
 }
 
 /// `[ Formals ]` with `Formals = Type Name { "," Type Name }`
-#[tactic(auto, using(crate::specs::Classes::no_formals, crate::specs::Classes::formals, crate::proofs::Lists::listed_more, crate::specs::Taking::last))]
+#[tactic(auto, using(crate::specs::Classes::no_formals, crate::specs::Classes::formals, crate::proofs::Lists::listed_more, crate::specs::Taking::last, crate::proofs::MemberParts::formal_list_none, crate::proofs::MemberParts::formal_list_refused, crate::proofs::MemberParts::formal_list_begun, crate::proofs::MemberParts::more_formals_round, crate::proofs::MemberParts::more_formals_end, crate::proofs::MemberParts::more_formals_lost, crate::proofs::MemberParts::more_formals_refused))]
 fn formal_list(alloc: Global, cursor: &mut Cursor) -> Result<Items<Formal>, Stop>
     ensures moves { OnOk result (Keeps cursor.old cursor.new) }
     ensures reads { OnOk result (Reading (part Part.formal_list ∷ []) cursor.old cursor.new) }
@@ -208,7 +209,7 @@ fn formal_list(alloc: Global, cursor: &mut Cursor) -> Result<Items<Formal>, Stop
 }
 
 /// `Type Name`
-#[tactic(auto, using(crate::specs::Classes::formal))]
+#[tactic(auto, using(crate::specs::Classes::formal, crate::proofs::MemberParts::formal_reads, crate::proofs::MemberParts::formal_refused, crate::proofs::Composed::refused_first, crate::proofs::MemberParts::refused_second))]
 fn formal(alloc: Global, cursor: &mut Cursor) -> Result<Formal, Stop>
     ensures moves { OnOk result (Reads cursor.old cursor.new) }
     ensures reads { OnOk result (Reading (part Part.formal ∷ []) cursor.old cursor.new) }
@@ -225,7 +226,7 @@ fn formal(alloc: Global, cursor: &mut Cursor) -> Result<Formal, Stop>
 }
 
 /// `Summary = [ "pure" | "reads" Items [ "writes" Items ] | "writes" Items ]`
-#[tactic(auto, using(crate::specs::Classes::no_summary, crate::proofs::MemberForms::summary_pure, crate::proofs::MemberForms::summary_effects))]
+#[tactic(auto, using(crate::specs::Classes::no_summary, crate::proofs::MemberForms::summary_pure, crate::proofs::MemberForms::summary_effects, crate::proofs::MemberParts::summary_effects_reads, crate::proofs::MemberParts::summary_reads_refused, crate::proofs::MemberParts::summary_writes_refused, crate::proofs::MemberParts::summary_pure_reads, crate::proofs::MemberParts::summary_pure_refused, crate::proofs::MemberParts::summary_none, crate::specs::Members::reads, crate::specs::Members::writes))]
 fn summary(alloc: Global, cursor: &mut Cursor) -> Result<Option<SummaryTree>, Stop>
     ensures moves { OnOk result (Keeps cursor.old cursor.new) }
     ensures reads { OnOk result (Reading (part Part.summary ∷ []) cursor.old cursor.new) }
@@ -254,10 +255,11 @@ fn begins_effects(cursor: &Cursor) -> bool
 }
 
 /// A keyword and Items, or neither.
-#[tactic(auto, using(crate::proofs::MemberForms::items_none, crate::proofs::MemberForms::items_some))]
+#[tactic(auto, using(crate::proofs::MemberForms::items_none, crate::proofs::MemberForms::items_some, crate::proofs::MemberParts::items_if_none, crate::proofs::MemberParts::items_if_reads, crate::proofs::MemberParts::items_if_lost, crate::proofs::MemberParts::items_if_refused))]
 fn items_if(alloc: Global, cursor: &mut Cursor, keyword: Keyword) -> Result<Items<Item>, Stop>
     ensures moves { OnOk result (Keeps cursor.old cursor.new) }
-    // PART items_if
+    ensures reads { OnOk result ((n : Part) → IsItemsPart keyword n → Reading (part n ∷ []) cursor.old cursor.new) }
+    ensures stops { IfErr result (λ stop. (n : Part) → IsItemsPart keyword n → StopsAt (part n ∷ []) cursor.old stop) }
     ensures derives { IfOk result (λ items. DerivesItemsIf keyword cursor.old.rest.now cursor.new.rest.now items) }
 {
     if !cursor.keyword_if(keyword)? {
@@ -267,7 +269,7 @@ fn items_if(alloc: Global, cursor: &mut Cursor, keyword: Keyword) -> Result<Item
 }
 
 /// `Items = [ "atomic" ] Rpl { "," [ "atomic" ] Rpl }`
-#[tactic(auto, using(crate::proofs::Lists::listed_more, crate::specs::Taking::last))]
+#[tactic(auto, using(crate::proofs::Lists::listed_more, crate::specs::Taking::last, crate::proofs::MemberParts::items_refused, crate::proofs::MemberParts::items_begun, crate::proofs::MemberParts::more_items_round, crate::proofs::MemberParts::more_items_end, crate::proofs::MemberParts::more_items_lost, crate::proofs::MemberParts::more_items_refused))]
 fn items(alloc: Global, cursor: &mut Cursor) -> Result<Items<Item>, Stop>
     ensures moves { OnOk result (Reads cursor.old cursor.new) }
     ensures reads { OnOk result (Reading (part Part.items ∷ []) cursor.old cursor.new) }
@@ -283,7 +285,7 @@ fn items(alloc: Global, cursor: &mut Cursor) -> Result<Items<Item>, Stop>
 }
 
 /// `[ "atomic" ] Rpl`
-#[tactic(auto, using(crate::proofs::MemberForms::item_of))]
+#[tactic(auto, using(crate::proofs::MemberForms::item_of, crate::proofs::MemberParts::item_reads, crate::proofs::MemberParts::item_lost, crate::proofs::MemberParts::item_refused))]
 fn item(alloc: Global, cursor: &mut Cursor) -> Result<Item, Stop>
     ensures moves { OnOk result (Reads cursor.old cursor.new) }
     ensures reads { OnOk result (Reading (part Part.item ∷ []) cursor.old cursor.new) }
