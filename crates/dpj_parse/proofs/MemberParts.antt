@@ -1,5 +1,5 @@
 -- The parts of the grammar's Member productions, by what they begin with.
-use Rattle.std.proofs.Common.{◌≡◌, ◌∙◌, ◌⊎◌, ℕ, ◌++◌, ap, inl, inr, List, [], ◌∷◌, Bool, true, false, cond, ◌||◌, Option, Some, None, refl}
+use Rattle.std.proofs.Common.{◌≡◌, ◌∙◌, ◌⊎◌, ℕ, ◌++◌, ap, inl, inr, List, [], ◌∷◌, Bool, true, false, cond, ◌||◌, Option, Some, None, Result, Ok, Err, IfErr, refl}
 use Rattle.dpj_base.specs.Refused.{IfRefused}
 use Rattle.dpj_base.specs.declared.place.Place.{Place}
 use Rattle.dpj_base.specs.declared.refusal.Kind.{Kind}
@@ -36,6 +36,22 @@ pub refused_third : (x y z : Expected) (ys : List Expected) {c d e : Counts} {be
     Refused e (z ∷ []) two_after end_two stop → Refused c (x ∷ y ∷ z ∷ ys) before end stop
 refused_third x y z ys stop w is v same r = refused_later x (y ∷ z ∷ ys) stop w is (refused_second y z ys stop v same r)
 
+pub refused_fourth : (w x y z : Expected) (ys : List Expected) {c d e f : Counts} {before one_after two_after three_after : List Placed} {end end_one end_two end_three : Place} (stop : Stop) →
+    Within c (w ∷ []) before d one_after → end_one ≡ end → Within d (x ∷ []) one_after e two_after → end_two ≡ end_one → Within e (y ∷ []) two_after f three_after → end_three ≡ end_two →
+    Refused f (z ∷ []) three_after end_three stop → Refused c (w ∷ x ∷ y ∷ z ∷ ys) before end stop
+refused_fourth w x y z ys stop read is others same more equal r = refused_later w (x ∷ y ∷ z ∷ ys) stop read is (refused_third x y z ys stop others same more equal r)
+
+pub refused_fifth : (v w x y z : Expected) (ys : List Expected) {c d e f g : Counts} {before one_after two_after three_after four_after : List Placed}
+    {end end_one end_two end_three end_four : Place} (stop : Stop) →
+    Within c (v ∷ []) before d one_after → end_one ≡ end → Within d (w ∷ []) one_after e two_after → end_two ≡ end_one → Within e (x ∷ []) two_after f three_after → end_three ≡ end_two →
+    Within f (y ∷ []) three_after g four_after → end_four ≡ end_three → Refused g (z ∷ []) four_after end_four stop → Refused c (v ∷ w ∷ x ∷ y ∷ z ∷ ys) before end stop
+refused_fifth v w x y z ys stop read is others same more equal most alike r = refused_later v (w ∷ x ∷ y ∷ z ∷ ys) stop read is (refused_fourth w x y z ys stop others same more equal most alike r)
+
+-- what is answered or refused where another function answers
+pub on_err : {T : Type 0} {P Q : Stop → Type 0} (result : Result T Stop) → ((stop : Stop) → P stop → Q stop) → IfErr result P → IfErr result Q
+on_err (Ok x) f h = tt
+on_err (Err stop) f h = f stop h
+
 pub formals_reads : {c d e f : Counts} {a b g h : List Placed} →
     Within c (one is_open_paren ∷ []) a d b → Within d (part formal_list ∷ []) b e g → Within e (one is_close_paren ∷ []) g f h → Within c (part formals ∷ []) a f h
 formals_reads opened list closed = read_part _ _ formals _ _ _ refl (seq opened (seq list closed))
@@ -66,7 +82,7 @@ pub read_three : {x y z : Expected} {c d e f : Counts} {a b g h : List Placed} �
 read_three u v w = seq u (seq v w)
 
 -- a terminal that was read came next
-came : {test : Terminal → Bool} {others : List Expected} {c e : Counts} {before after : List Placed} → Within c (one test ∷ others) before e after → next_is test (next_of before) ≡ true
+pub came : {test : Terminal → Bool} {others : List Expected} {c e : Counts} {before after : List Placed} → Within c (one test ∷ others) before e after → next_is test (next_of before) ≡ true
 came (passes test fits w) = test
 
 -- what a part begins with is read behind what was read so far, whatever follows
