@@ -14,7 +14,7 @@ use Rattle.dpj_parse.specs.Words.{is_class, is_close_brace, is_extends, is_name,
 use Rattle.dpj_parse.specs.Limits.{Counts, Within, begins, nothing, Stops, in_part, Refuses}
 use Rattle.dpj_parse.proofs.Coming.{next_comes, symbol_comes_not, keyword_comes, keyword_comes_not}
 use Rattle.dpj_parse.proofs.Composed.{Refused, seq, stops_after, refused_first, read_part, refused_part}
-use Rattle.dpj_parse.proofs.MemberParts.{Onward, onward_step, onward_refused, refused_later, came}
+use Rattle.dpj_parse.proofs.MemberParts.{Onward, onward_step, onward_refused, refused_second, refused_third, came}
 
 -- a class
 pub class_reads : {c d e f g h : Counts} {a b i j k l : List Placed} → Within c (one is_class ∷ []) a d b → Within d (one is_name ∷ []) b e i →
@@ -38,9 +38,13 @@ pub parent_lost : (c : Counts) (before : List Placed) (end : Place) (stop : Stop
 parent_lost c before end stop n r =
     refused_part c parent_if _ before end stop (rw (keyword_comes Keyword.Extends before n) refl) (refused_first c _ (one is_name ∷ part args_if ∷ []) before end stop r)
 
-pub parent_refused : {c d : Counts} {a b : List Placed} {end end_now : Place} (stop : Stop) → Within c (one is_extends ∷ []) a d b → end_now ≡ end →
-    Refused d (one is_name ∷ part args_if ∷ []) b end_now stop → Refused c (part parent_if ∷ []) a end stop
-parent_refused {c} {a = a} stop word is r = refused_part c parent_if _ a _ stop (rw (came word) refl) (refused_later _ _ stop word is r)
+pub parent_name_refused : {c d : Counts} {a b : List Placed} {end end_now : Place} (stop : Stop) → Within c (one is_extends ∷ []) a d b → end_now ≡ end →
+    Refused d (one is_name ∷ []) b end_now stop → Refused c (part parent_if ∷ []) a end stop
+parent_name_refused {c} {a = a} stop word is r = refused_part c parent_if _ a _ stop (rw (came word) refl) (refused_second _ _ (part args_if ∷ []) stop word is r)
+
+pub parent_args_refused : {c d e : Counts} {a b g : List Placed} {end end_now end_then : Place} (stop : Stop) → Within c (one is_extends ∷ []) a d b → end_now ≡ end →
+    Within d (one is_name ∷ []) b e g → end_then ≡ end_now → Refused e (part args_if ∷ []) g end_then stop → Refused c (part parent_if ∷ []) a end stop
+parent_args_refused {c} {a = a} stop word is named then r = refused_part c parent_if _ a _ stop (rw (came word) refl) (refused_third _ _ _ [] stop word is named then r)
 
 -- its members
 pub members_reads : {c d e f : Counts} {a b g h : List Placed} →

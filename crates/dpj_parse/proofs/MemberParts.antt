@@ -1,5 +1,5 @@
 -- The parts of the grammar's Member productions, by what they begin with.
-use Rattle.std.proofs.Common.{◌≡◌, ◌∙◌, ◌⊎◌, ℕ, ◌++◌, ap, inl, inr, List, [], ◌∷◌, Bool, true, false, cond, ◌||◌, Option, Some, None, Result, Ok, Err, IfErr, refl}
+use Rattle.std.proofs.Common.{◌≡◌, ◌∙◌, ◌⊎◌, ℕ, ◌++◌, ap, inl, inr, List, [], ◌∷◌, Bool, true, false, cond, ◌||◌, ◌&&◌, sym, Option, Some, None, refl}
 use Rattle.dpj_base.specs.Refused.{IfRefused}
 use Rattle.dpj_base.specs.declared.place.Place.{Place}
 use Rattle.dpj_base.specs.declared.refusal.Kind.{Kind}
@@ -12,14 +12,16 @@ use Rattle.dpj_terminals.specs.declared.terminal.Terminal.TheVariants as termina
 use Rattle.dpj_parse.specs.declared.cursor.Cursor.{Cursor}
 use Rattle.dpj_parse.specs.Taking.{Next, NoNext, TakesIf}
 use Rattle.dpj_parse.specs.Classes.{BeginsEffects}
-use Rattle.dpj_parse.specs.Members.{member_begins, BeginsKind, constructor_comes, BeginsTyped, type_begins, IsItemsPart, reads, writes}
+use Rattle.dpj_parse.specs.Members.{member_begins, kind_comes, BeginsAnswering, constructor_comes, BeginsTyped, type_begins, IsItemsPart, reads, writes}
+use Rattle.dpj_parse.specs.Targets.{rest_of}
 use Rattle.dpj_parse.specs.Progress.{ReadsIf}
-use Rattle.dpj_parse.specs.Expecting.{Expected, Part, one, part, choose, next_of, next_is}
+use Rattle.dpj_parse.specs.Expecting.{Expected, Part, one, part, choose, next_of, next_is, member_parts}
 use Rattle.dpj_parse.specs.Expecting.Part.{member, after_member_name, field_or_method, in_if, result, method_rest, formals, formal_list, formal, more_formals, summary, reads_if, writes_if, items, item, more_items, atomic_if, block, path, type, kind, names, params_if, args_if, suffixes}
-use Rattle.dpj_parse.specs.Words.{is_atomic, is_close_paren, is_comma, is_in, is_name, is_open_paren, is_pure, is_reads, is_semicolon, is_void, is_writes, word}
+use Rattle.dpj_parse.specs.Words.{is_atomic, is_close_paren, is_comma, is_in, is_name, is_open_paren, is_pure, is_reads, is_region, is_semicolon, is_void, is_writes, word}
 use Rattle.dpj_parse.specs.Limits.{Counts, inside, outside, Within, begins, nothing, passes, anew, Stops, no_part, no_terminal, too_many, in_part, after_part, after_terminal, Refuses}
 use Rattle.dpj_parse.specs.Counted.{counts, Reading, StopsAt}
-use Rattle.dpj_parse.proofs.Coming.{next_comes, symbol_comes_not, keyword_comes, keyword_comes_not}
+use Rattle.dpj_parse.proofs.Coming.{comes_next, no_name_comes, next_comes, symbol_comes_not, keyword_comes, keyword_comes_not}
+use Rattle.dpj_parse.proofs.Tested.{word_or_not}
 use Rattle.dpj_parse.proofs.Composed.{Refused, seq, stops_first, stops_after, refused_first, refused_after, read_part, refused_part, on_refused}
 
 -- a refusal after what was read: the end of the text stays where it is
@@ -46,11 +48,6 @@ pub refused_fifth : (v w x y z : Expected) (ys : List Expected) {c d e f g : Cou
     Within c (v ∷ []) before d one_after → end_one ≡ end → Within d (w ∷ []) one_after e two_after → end_two ≡ end_one → Within e (x ∷ []) two_after f three_after → end_three ≡ end_two →
     Within f (y ∷ []) three_after g four_after → end_four ≡ end_three → Refused g (z ∷ []) four_after end_four stop → Refused c (v ∷ w ∷ x ∷ y ∷ z ∷ ys) before end stop
 refused_fifth v w x y z ys stop read is others same more equal most alike r = refused_later v (w ∷ x ∷ y ∷ z ∷ ys) stop read is (refused_fourth w x y z ys stop others same more equal most alike r)
-
--- what is answered or refused where another function answers
-pub on_err : {T : Type 0} {P Q : Stop → Type 0} (result : Result T Stop) → ((stop : Stop) → P stop → Q stop) → IfErr result P → IfErr result Q
-on_err (Ok x) f h = tt
-on_err (Err stop) f h = f stop h
 
 pub formals_reads : {c d e f : Counts} {a b g h : List Placed} →
     Within c (one is_open_paren ∷ []) a d b → Within d (part formal_list ∷ []) b e g → Within e (one is_close_paren ∷ []) g f h → Within c (part formals ∷ []) a f h
@@ -286,20 +283,25 @@ pub field_refused : (c : Counts) (before : List Placed) (end : Place) (stop : St
 field_refused c before end stop none r = refused_part c field_or_method _ before end stop (rw (symbol_comes_not Symbol.OpenParen before none) refl) r
 
 -- a member of each kind
-kind_begins : (a : List Placed) → BeginsKind a → member_begins a ≡ part kind ∷ part names ∷ one is_semicolon ∷ []
-kind_begins a (inl n) = rw (n.takes.takes.first) refl
-kind_begins a (inr n) = rw (n.takes.takes.first) refl
+opposed : {b : Bool} {A : Type 0} → b ≡ true → b ≡ false → A
+opposed is not = absurd (let e : true ≡ false = cc in cc)
 
-pub regions_comes : {c d : Counts} {a b : List Placed} → BeginsKind a → Within c (part kind ∷ part names ∷ one is_semicolon ∷ []) a d b → Within c (member_begins a) a d b
-regions_comes {a = a} n w = rw (kind_begins a n) w
+kind_parts : (t : Terminal) → (is_atomic t || is_region t) ≡ true → member_parts t ≡ part kind ∷ part names ∷ one is_semicolon ∷ []
+kind_parts t comes = elim (word_or_not Keyword.Atomic t) [
+  | inl is ↦ rw is refl
+  | inr neither ↦ elim (word_or_not Keyword.Region t) [ inl is ↦ rw is refl | inr not ↦ opposed comes (rw (neither, not) refl) ]
+]
 
-pub regions_refused : (c : Counts) (before : List Placed) (end : Place) (stop : Stop) → BeginsKind before →
+kind_begins : (a : List Placed) → kind_comes a ≡ true → member_begins a ≡ part kind ∷ part names ∷ one is_semicolon ∷ []
+kind_begins [] comes = opposed comes refl
+kind_begins (next ∷ after) comes = kind_parts next.terminal comes
+
+pub regions_comes : {c d : Counts} {a b : List Placed} → kind_comes a ≡ true → Within c (part kind ∷ part names ∷ one is_semicolon ∷ []) a d b → Within c (member_begins a) a d b
+regions_comes {a = a} comes w = rw (kind_begins a comes) w
+
+pub regions_refused : (c : Counts) (before : List Placed) (end : Place) (stop : Stop) → kind_comes before ≡ true →
     Refused c (part kind ∷ part names ∷ one is_semicolon ∷ []) before end stop → Refused c (member_begins before) before end stop
-regions_refused c before end stop n r = rw (kind_begins before n) r
-
--- region parameters or `void` come next
-abbrev pub BeginsAnswering : List Placed → Type 0
-BeginsAnswering here = Next (terminal.Symbol Symbol.Less) here ⊎ Next (terminal.Keyword Keyword.Void) here
+regions_refused c before end stop comes r = rw (kind_begins before comes) r
 
 answering_begins : (a : List Placed) → BeginsAnswering a → member_begins a ≡ part params_if ∷ part result ∷ one is_name ∷ part method_rest ∷ []
 answering_begins a (inl n) = rw (n.takes.takes.first) refl
@@ -311,3 +313,183 @@ answering_comes {a = a} n w = rw (answering_begins a n) w
 pub answering_refused : (c : Counts) (before : List Placed) (end : Place) (stop : Stop) → BeginsAnswering before →
     Refused c (part params_if ∷ part result ∷ one is_name ∷ part method_rest ∷ []) before end stop → Refused c (member_begins before) before end stop
 answering_refused c before end stop n r = rw (answering_begins before n) r
+
+-- region parameters and a result, and then a method
+pub answering_reads : {c d e f : Counts} {a b g h : List Placed} → Within c (part params_if ∷ []) a d b → Within d (part result ∷ []) b e g →
+    Within e (one is_name ∷ part method_rest ∷ []) g f h → Within c (part params_if ∷ part result ∷ one is_name ∷ part method_rest ∷ []) a f h
+answering_reads params answer w = seq params (seq answer w)
+
+pub answering_method_refused : {c d e : Counts} {a b g : List Placed} {end end_now end_then : Place} (stop : Stop) → Within c (part params_if ∷ []) a d b → end_now ≡ end →
+    Within d (part result ∷ []) b e g → end_then ≡ end_now → Refused e (one is_name ∷ part method_rest ∷ []) g end_then stop →
+    Refused c (part params_if ∷ part result ∷ one is_name ∷ part method_rest ∷ []) a end stop
+answering_method_refused stop params is answer then r = refused_later _ _ stop params is (refused_later _ _ stop answer then r)
+
+-- whether a constructor comes
+pub constructor_here : {n : ℕ} (a : List Placed) → Next (terminal.Name n) a → Next (terminal.Symbol Symbol.OpenParen) (rest_of a) → constructor_comes a ≡ true
+constructor_here {n} a name opens =
+    let named : next_is is_name (next_of a) ≡ true = rw (name.takes.takes.first) refl in
+    let opened : next_is is_open_paren (next_of (rest_of a)) ≡ true = next_comes Symbol.OpenParen (rest_of a) opens in
+    rw (named, opened) refl
+
+pub constructor_unopened : {n : ℕ} (a : List Placed) → Next (terminal.Name n) a → NoNext (terminal.Symbol Symbol.OpenParen) (rest_of a) → constructor_comes a ≡ false
+constructor_unopened {n} a name none =
+    let named : next_is is_name (next_of a) ≡ true = rw (name.takes.takes.first) refl in
+    let unopened : next_is is_open_paren (next_of (rest_of a)) ≡ false = symbol_comes_not Symbol.OpenParen (rest_of a) none in
+    rw (named, unopened) refl
+
+pub constructor_unnamed : (a : List Placed) → ((n : ℕ) → Next (terminal.Name n) a → ⊥) → constructor_comes a ≡ false
+constructor_unnamed a none = let unnamed : next_is is_name (next_of a) ≡ false = no_name_comes a none in rw unnamed refl
+
+named_parts : (t : Terminal) → is_name t ≡ true → member_parts t ≡ one is_name ∷ part after_member_name ∷ []
+named_parts (terminal.Name n) is = refl
+named_parts (terminal.Int n) is = opposed is refl
+named_parts (terminal.Text text) is = opposed is refl
+named_parts (terminal.Symbol s) is = opposed is refl
+named_parts (terminal.Keyword k) is = opposed is refl
+
+named_opens : (named opens : Bool) → named ≡ true → (named && opens) ≡ true → opens ≡ true
+named_opens true opens is both = both
+named_opens false opens is both = opposed is refl
+
+named_unopened : (named opens : Bool) → named ≡ true → (named && opens) ≡ false → opens ≡ false
+named_unopened true opens is not = not
+named_unopened false opens is not = opposed is refl
+
+first_named : (named opens : Bool) → (named && opens) ≡ true → named ≡ true
+first_named true opens both = refl
+first_named false opens both = both
+
+method_chosen : (rest : List Placed) → next_is is_open_paren (next_of rest) ≡ true → choose after_member_name (next_of rest) ≡ Some (part method_rest ∷ [])
+method_chosen rest opens = rw opens refl
+
+type_chosen : (rest : List Placed) → next_is is_open_paren (next_of rest) ≡ false →
+    choose after_member_name (next_of rest) ≡ Some (part args_if ∷ part suffixes ∷ one is_name ∷ part field_or_method ∷ [])
+type_chosen rest none = rw none refl
+
+pub constructor_reads : {c d : Counts} {a b : List Placed} → constructor_comes a ≡ true → Within c (one is_name ∷ part method_rest ∷ []) a d b → Within c (member_begins a) a d b
+constructor_reads both (passes {next = next} {between = between} named fits w) =
+    rw (named_parts next.terminal named) (passes named fits (read_part _ _ after_member_name _ _ _ (method_chosen between (named_opens _ _ named both)) w))
+
+constructor_stops : {c : Counts} {next : Placed} {rest here : List Placed} {k : Kind} → choose after_member_name (next_of rest) ≡ Some (part method_rest ∷ []) →
+    Stops c (one is_name ∷ part method_rest ∷ []) (next ∷ rest) k here → Stops c (one is_name ∷ part after_member_name ∷ []) (next ∷ rest) k here
+constructor_stops chosen (no_terminal none) = no_terminal none
+constructor_stops chosen (too_many named over) = too_many named over
+constructor_stops chosen (after_terminal named fits s) = after_terminal named fits (in_part chosen s)
+
+pub constructor_refused : (c : Counts) (before : List Placed) (end : Place) (stop : Stop) → constructor_comes before ≡ true →
+    Refused c (one is_name ∷ part method_rest ∷ []) before end stop → Refused c (member_begins before) before end stop
+constructor_refused c [] end stop both r = opposed both refl
+constructor_refused c (next ∷ rest) end stop both r =
+    let named : is_name next.terminal ≡ true = first_named _ _ both in
+    rw (named_parts next.terminal named) (on_refused end stop (λ k here s. constructor_stops (method_chosen rest (named_opens _ _ named both)) s) r)
+
+-- what stops in a list stops so in a longer one
+stops_longer : (ys : List Expected) {c : Counts} {xs : List Expected} {before here : List Placed} {k : Kind} → Stops c xs before k here → Stops c (xs ++ ys) before k here
+stops_longer ys (no_part none) = no_part none
+stops_longer ys (no_terminal none) = no_terminal none
+stops_longer ys (too_many test over) = too_many test over
+stops_longer ys (in_part chosen s) = in_part chosen s
+stops_longer ys (after_part chosen w s) = after_part chosen w (stops_longer ys s)
+stops_longer ys (after_terminal test fits s) = after_terminal test fits (stops_longer ys s)
+
+type_stops : {c : Counts} {next : Placed} {rest here : List Placed} {k : Kind} →
+    choose after_member_name (next_of rest) ≡ Some (part args_if ∷ part suffixes ∷ one is_name ∷ part field_or_method ∷ []) →
+    Stops c (one is_name ∷ part args_if ∷ part suffixes ∷ []) (next ∷ rest) k here → Stops c (one is_name ∷ part after_member_name ∷ []) (next ∷ rest) k here
+type_stops chosen (no_terminal none) = no_terminal none
+type_stops chosen (too_many named over) = too_many named over
+type_stops chosen (after_terminal named fits s) = after_terminal named fits (in_part chosen (stops_longer (one is_name ∷ part field_or_method ∷ []) s))
+
+named_begun : {c d : Counts} {next : Placed} {rest b : List Placed} →
+    choose after_member_name (next_of rest) ≡ Some (part args_if ∷ part suffixes ∷ one is_name ∷ part field_or_method ∷ []) →
+    Within c (one is_name ∷ part args_if ∷ part suffixes ∷ []) (next ∷ rest) d b →
+    Onward c (one is_name ∷ part after_member_name ∷ []) (next ∷ rest) d (one is_name ∷ part field_or_method ∷ []) b
+named_begun chosen (passes named fits (begins args v (begins suffixed w nothing))) = record {
+  reads = λ e after u. passes named fits (read_part _ _ after_member_name _ _ _ chosen (begins args v (begins suffixed w u)));
+  stops = λ k here s. after_terminal named fits (in_part chosen (after_part args v (after_part suffixed w s)));
+}
+
+type_named : (next : Placed) (rest : List Placed) → is_name next.terminal ≡ true → type_begins (next ∷ rest) ≡ one is_name ∷ part args_if ∷ part suffixes ∷ []
+type_named next rest named = rw named refl
+
+type_unnamed : (next : Placed) (rest : List Placed) → is_name next.terminal ≡ false → type_begins (next ∷ rest) ≡ part type ∷ []
+type_unnamed next rest unnamed = rw unnamed refl
+
+typed_by : {c d : Counts} {next : Placed} {rest b : List Placed} (named : Bool) → is_name next.terminal ≡ named → BeginsTyped (next ∷ rest) → Within c (type_begins (next ∷ rest)) (next ∷ rest) d b →
+    Onward c (member_begins (next ∷ rest)) (next ∷ rest) d (one is_name ∷ part field_or_method ∷ []) b
+typed_by {c} {d} {next} {rest} {b} true named t w =
+    let v : Within c (one is_name ∷ part args_if ∷ part suffixes ∷ []) (next ∷ rest) d b = rw (sym (type_named next rest named)) w in
+    rw (named_parts next.terminal named) (named_begun (type_chosen rest (named_unopened _ _ named t.other)) v)
+typed_by {c} {d} {next} {rest} {b} false unnamed t w =
+    let v : Within c (part type ∷ []) (next ∷ rest) d b = rw (sym (type_unnamed next rest unnamed)) w in
+    rw (t.unnamed unnamed) (record { reads = λ e after u. seq v u; stops = λ k here s. stops_after v s })
+
+typed_refused_by : (c : Counts) (next : Placed) (rest : List Placed) (end : Place) (stop : Stop) (named : Bool) → is_name next.terminal ≡ named → BeginsTyped (next ∷ rest) →
+    Refused c (type_begins (next ∷ rest)) (next ∷ rest) end stop → Refused c (member_begins (next ∷ rest)) (next ∷ rest) end stop
+typed_refused_by c next rest end stop true named t r =
+    let q : Refused c (one is_name ∷ part args_if ∷ part suffixes ∷ []) (next ∷ rest) end stop = rw (sym (type_named next rest named)) r in
+    rw (named_parts next.terminal named) (on_refused end stop (λ k here s. type_stops (type_chosen rest (named_unopened _ _ named t.other)) s) q)
+typed_refused_by c next rest end stop false unnamed t r =
+    let q : Refused c (part type ∷ []) (next ∷ rest) end stop = rw (sym (type_unnamed next rest unnamed)) r in
+    rw (t.unnamed unnamed) (refused_first c (part type) (one is_name ∷ part field_or_method ∷ []) (next ∷ rest) end stop q)
+
+-- behind the type of a field or a method
+pub typed_begun : {c d : Counts} {b : List Placed} (a : List Placed) → BeginsTyped a → Within c (type_begins a) a d b → Onward c (member_begins a) a d (one is_name ∷ part field_or_method ∷ []) b
+typed_begun {c} {d} {b} [] t w = record { reads = λ e after u. seq w u; stops = λ k here s. stops_after w s }
+typed_begun {c} {d} {b} (next ∷ rest) t w = typed_by (is_name next.terminal) refl t w
+
+pub typed_refused : (c : Counts) (before : List Placed) (end : Place) (stop : Stop) → BeginsTyped before → Refused c (type_begins before) before end stop → Refused c (member_begins before) before end stop
+typed_refused c [] end stop t r = refused_first c _ (one is_name ∷ part field_or_method ∷ []) [] end stop r
+typed_refused c (next ∷ rest) end stop t r = typed_refused_by c next rest end stop (is_name next.terminal) refl t r
+
+-- how the type is read
+pub type_by_name : {n : ℕ} {c d : Counts} {a b : List Placed} → Next (terminal.Name n) a → Within c (one is_name ∷ part args_if ∷ part suffixes ∷ []) a d b → Within c (type_begins a) a d b
+type_by_name {a = a} n w = let e : type_begins a ≡ one is_name ∷ part args_if ∷ part suffixes ∷ [] = rw (n.takes.takes.first) refl in rw e w
+
+pub type_by_name_refused : {n : ℕ} (c : Counts) (before : List Placed) (end : Place) (stop : Stop) → Next (terminal.Name n) before →
+    Refused c (one is_name ∷ part args_if ∷ part suffixes ∷ []) before end stop → Refused c (type_begins before) before end stop
+type_by_name_refused c before end stop n r = let e : type_begins before ≡ one is_name ∷ part args_if ∷ part suffixes ∷ [] = rw (n.takes.takes.first) refl in rw e r
+
+no_name_parts : (a : List Placed) → ((n : ℕ) → Next (terminal.Name n) a → ⊥) → type_begins a ≡ part type ∷ []
+no_name_parts a none = let unnamed : next_is is_name (next_of a) ≡ false = no_name_comes a none in rw unnamed refl
+
+pub type_by_itself : {c d : Counts} {a b : List Placed} → ((n : ℕ) → Next (terminal.Name n) a → ⊥) → Within c (part type ∷ []) a d b → Within c (type_begins a) a d b
+type_by_itself {a = a} none w = rw (no_name_parts a none) w
+
+pub type_by_itself_refused : (c : Counts) (before : List Placed) (end : Place) (stop : Stop) → ((n : ℕ) → Next (terminal.Name n) before → ⊥) →
+    Refused c (part type ∷ []) before end stop → Refused c (type_begins before) before end stop
+type_by_itself_refused c before end stop none r = rw (no_name_parts before none) r
+
+-- what follows a type
+pub behind_type_method : {c d e : Counts} {a b g : List Placed} → Within c (one is_name ∷ []) a d b → Within d (part field_or_method ∷ []) b e g →
+    Within c (one is_name ∷ part field_or_method ∷ []) a e g
+behind_type_method named w = seq named w
+
+pub onward_reads : {c d e : Counts} {xs ys : List Expected} {a b g : List Placed} → Onward c xs a d ys b → Within d ys b e g → Within c xs a e g
+onward_reads {e = e} {g = g} o w = o.reads e g w
+
+pub onward_stops : {c d : Counts} {xs ys : List Expected} {a b : List Placed} {end end_now : Place} (stop : Stop) → Onward c xs a d ys b → end_now ≡ end → Refused d ys b end_now stop → Refused c xs a end stop
+onward_stops stop o is r = on_refused _ stop o.stops (rw is at r)
+
+-- a type comes where nothing else does
+typed_parts : (t : Terminal) → (is_atomic t || is_region t) ≡ false → (t ≡ terminal.Symbol Symbol.Less → ⊥) → (t ≡ terminal.Keyword Keyword.Void → ⊥) → is_name t ≡ false →
+    member_parts t ≡ part type ∷ one is_name ∷ part field_or_method ∷ []
+typed_parts (terminal.Keyword Keyword.Atomic) kinds less void unnamed = opposed refl kinds
+typed_parts (terminal.Keyword Keyword.Region) kinds less void unnamed = opposed refl kinds
+typed_parts (terminal.Symbol Symbol.Less) kinds less void unnamed = absurd (less refl)
+typed_parts (terminal.Keyword Keyword.Void) kinds less void unnamed = absurd (void refl)
+typed_parts (terminal.Name n) kinds less void unnamed = opposed refl unnamed
+typed_parts _ kinds less void unnamed = refl
+
+pub typed_comes : (a : List Placed) → kind_comes a ≡ false → (BeginsAnswering a → ⊥) → constructor_comes a ≡ false → BeginsTyped a
+typed_comes [] kinds none other = record { other = other; unnamed = λ unnamed. refl }
+typed_comes (next ∷ after) kinds none other = record {
+  other = other;
+  unnamed = λ unnamed. typed_parts next.terminal kinds (λ is. none (inl (comes_next is))) (λ is. none (inr (comes_next is))) unnamed;
+}
+
+-- a member counts anew
+pub member_reads : {c d : Counts} {level : ℕ} {a b : List Placed} → level ≡ c.level → Within (anew c) (member_begins a) a d b → Within c (part member ∷ []) a (record { level = level; joined = c.joined }) b
+member_reads same w = rw same (read_part _ _ member _ _ _ refl w)
+
+pub member_refused : (c : Counts) (before : List Placed) (end : Place) (stop : Stop) → Refused (anew c) (member_begins before) before end stop → Refused c (part member ∷ []) before end stop
+member_refused c before end stop r = refused_part c member _ before end stop refl r

@@ -1,9 +1,10 @@
 -- What members begin with.
-use Rattle.std.specs.Prelude.{◌≡◌, ◌⊎◌, List, [], ◌∷◌, Bool, true, false, cond, ◌&&◌}
+use Rattle.std.specs.Prelude.{◌≡◌, ◌⊎◌, List, [], ◌∷◌, Bool, true, false, cond, ◌&&◌, ◌||◌}
+use Rattle.dpj_tokens.specs.declared.token.Symbol.{Symbol}
 use Rattle.dpj_tokens.specs.declared.token.Keyword.{Keyword}
 use Rattle.dpj_terminals.specs.declared.terminal.Placed.{Placed}
 use Rattle.dpj_terminals.specs.declared.terminal.Terminal.TheVariants as terminal
-use Rattle.dpj_parse.specs.Words.{is_name, is_open_paren}
+use Rattle.dpj_parse.specs.Words.{is_atomic, is_name, is_open_paren, is_region}
 use Rattle.dpj_parse.specs.Taking.{Next}
 use Rattle.dpj_parse.specs.Expecting.{Expected, Part, one, part, next_of, next_is, with_next, member_parts}
 use Rattle.dpj_parse.specs.Targets.{rest_of}
@@ -12,9 +13,13 @@ use Rattle.dpj_parse.specs.Targets.{rest_of}
 abbrev pub member_begins : List Placed → List Expected
 member_begins here = with_next (part Part.type ∷ one is_name ∷ part Part.field_or_method ∷ []) member_parts (next_of here)
 
--- Kind comes next
-abbrev pub BeginsKind : List Placed → Type 0
-BeginsKind here = Next (terminal.Keyword Keyword.Atomic) here ⊎ Next (terminal.Keyword Keyword.Region) here
+-- whether Kind comes next
+abbrev pub kind_comes : List Placed → Bool
+kind_comes here = next_is is_atomic (next_of here) || next_is is_region (next_of here)
+
+-- region parameters or `void` come next
+abbrev pub BeginsAnswering : List Placed → Type 0
+BeginsAnswering here = Next (terminal.Symbol Symbol.Less) here ⊎ Next (terminal.Keyword Keyword.Void) here
 
 -- whether a constructor comes next: a name, and `(` behind it
 abbrev pub constructor_comes : List Placed → Bool

@@ -52,7 +52,7 @@ fn class(alloc: Global, cursor: &mut Cursor) -> Result<Class, Stop>
 }
 
 /// `[ "extends" Name [ Args ] ]`
-#[tactic(auto, using(crate::specs::Classes::no_parent, crate::proofs::MemberForms::parent_of, crate::proofs::ClassParts::parent_none, crate::proofs::ClassParts::parent_reads, crate::proofs::ClassParts::parent_lost, crate::proofs::ClassParts::parent_refused, crate::proofs::Composed::refused_first, crate::proofs::MemberParts::refused_second))]
+#[tactic(auto, using(crate::specs::Classes::no_parent, crate::proofs::MemberForms::parent_of, crate::proofs::ClassParts::parent_none, crate::proofs::ClassParts::parent_reads, crate::proofs::ClassParts::parent_lost, crate::proofs::ClassParts::parent_name_refused, crate::proofs::ClassParts::parent_args_refused))]
 fn parent(alloc: Global, cursor: &mut Cursor) -> Result<Option<Parent>, Stop>
     ensures moves { OnOk result (Keeps cursor.old cursor.new) }
     ensures reads { OnOk result (Reading (part Part.parent_if ∷ []) cursor.old cursor.new) }
@@ -82,7 +82,7 @@ fn members(alloc: Global, cursor: &mut Cursor) -> Result<Items<Member>, Stop>
 }
 
 /// `{ Member }`
-#[tactic(auto, using(crate::proofs::Lists::many_more, crate::specs::Taking::none, crate::proofs::ClassParts::onward_start, crate::proofs::ClassParts::member_list_round, crate::proofs::ClassParts::member_list_end, crate::proofs::ClassParts::member_list_refused))]
+#[tactic(auto, using(crate::proofs::Lists::many_more, crate::specs::Taking::none, crate::proofs::ClassParts::member_list_round, crate::proofs::ClassParts::member_list_end, crate::proofs::ClassParts::member_list_refused))]
 fn member_list(alloc: Global, cursor: &mut Cursor) -> Result<Items<Member>, Stop>
     ensures moves { OnOk result (Keeps cursor.old cursor.new) }
     ensures reads { OnOk result (Reading (part Part.member_list ∷ []) cursor.old cursor.new) }

@@ -1,6 +1,7 @@
-ghost use Rattle.std.specs.Prelude.{◌≡◌, ◌+◌, ◌≤◌, [], length, IfOk, OnOk, IfErr, ◌∷◌};
+ghost use Rattle.std.specs.Prelude.{◌||◌, ◌≡◌, ◌+◌, ◌≤◌, [], length, IfOk, OnOk, IfErr, ◌∷◌};
 ghost use Rattle.dpj_parse.specs.Counted.{Reading, StopsAt};
-ghost use Rattle.dpj_parse.specs.Expecting.{Part, part};
+ghost use Rattle.dpj_parse.specs.Expecting.{Part, next_is, next_of, part};
+ghost use Rattle.dpj_parse.specs.Words.{is_atomic, is_region};
 ghost use Rattle.dpj_parse.specs.Classes.{DerivesConstr, DerivesDeclared, DerivesGiven, DerivesKind, DerivesKindOr, DerivesParam, DerivesParams};
 ghost use Rattle.dpj_parse.specs.Paths.{DerivesArgs, DerivesElem, DerivesHead, DerivesNext, DerivesRName, DerivesRpl, DerivesWithin};
 ghost use Rattle.dpj_parse.specs.Progress.{Keeps, Reads};
@@ -242,7 +243,10 @@ fn param(cursor: &mut Cursor, atomic: bool) -> Result<ParamTree, Stop>
 }
 
 /// Whether `atomic` or `region` comes next.
-pub fn begins_kind(cursor: &Cursor) -> bool {
+#[tactic(auto, using(crate::proofs::StubParts::begins_atomic, crate::proofs::StubParts::begins_region, crate::proofs::StubParts::begins_no_kind))]
+pub fn begins_kind(cursor: &Cursor) -> bool
+    ensures { result ≡ (next_is is_atomic (next_of cursor.now.rest.now) || next_is is_region (next_of cursor.now.rest.now)) }
+{
     cursor.is_keyword(Keyword::Atomic) || cursor.is_keyword(Keyword::Region)
 }
 

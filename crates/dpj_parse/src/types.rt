@@ -1,6 +1,7 @@
 ghost use Rattle.std.specs.Prelude.{◌≡◌, ◌+◌, ◌≤◌, length, IfOk, OnOk, IfErr, [], ◌∷◌};
 ghost use Rattle.dpj_parse.specs.Counted.{Reading, StopsAt};
-ghost use Rattle.dpj_parse.specs.Expecting.{Part, part};
+ghost use Rattle.dpj_parse.specs.Expecting.{Part, one, part};
+ghost use Rattle.dpj_parse.specs.Words.{is_name};
 ghost use Rattle.dpj_parse.specs.Progress.{Keeps, Reads};
 ghost use Rattle.dpj_parse.specs.Taking.{Many};
 ghost use Rattle.dpj_parse.specs.Types.{DerivesBase, DerivesBehind, DerivesIndex, DerivesRegion, DerivesSuffix, DerivesType};
@@ -107,4 +108,15 @@ fn index_if(cursor: &mut Cursor) -> Result<Option<Named>, Stop>
         return Ok(None);
     }
     Ok(Some(cursor.name()?))
+}
+
+/// A type that begins with a name, whose suffixes are counted on.
+#[tactic(auto, using(crate::specs::Types::type_of, crate::specs::Types::class))]
+pub fn named_type(alloc: Global, cursor: &mut Cursor) -> Result<TypeTree, Stop>
+    ensures moves { OnOk result (Reads cursor.old cursor.new) }
+    ensures reads { OnOk result (Reading (one is_name ∷ part Part.args_if ∷ part Part.suffixes ∷ []) cursor.old cursor.new) }
+    ensures stops { IfErr result (λ stop. StopsAt (one is_name ∷ part Part.args_if ∷ part Part.suffixes ∷ []) cursor.old stop) }
+    ensures derives { IfOk result (λ tree. DerivesType cursor.old.rest.now cursor.new.rest.now tree) }
+{
+    Err(Stop::NoMemory)
 }

@@ -1,10 +1,10 @@
 use Rattle.std.proofs.Common.{◌≡◌, true, rules, [], ◌∷◌}
-use Rattle.std.proofs.lemmas.Result.{on_ok_weaker}
+use Rattle.std.proofs.lemmas.Result.{on_ok_weaker, IfErr-weaker}
 use Rattle.dpj_parse.specs.Expecting.{one}
 use Rattle.dpj_parse.specs.Words.{word}
 use Rattle.dpj_parse.specs.Counted.{Reading}
 use Rattle.dpj_parse.proofs.members.items_if.Goals as goal
-use Rattle.dpj_parse.proofs.MemberParts.{items_if_reads, items_if_refused, on_err}
+use Rattle.dpj_parse.proofs.MemberParts.{items_if_reads, items_if_refused}
 
 pub returns-clause-reads : goal.returns-clause-reads
 returns-clause-reads c =
@@ -14,4 +14,4 @@ returns-clause-reads c =
 pub returns-clause-stops : goal.returns-clause-stops
 returns-clause-stops c =
     let taken : Reading (one (word c.args.keyword) ∷ []) c.args.cursor.now c.keyword_if.new.self = search rules in
-    on_err c.items.result (λ stop r n is. items_if_refused stop is taken (search rules) r) c.items.ensures.stops
+    IfErr-weaker c.items.result _ _ (λ stop r n is. items_if_refused stop is taken (search rules) r) c.items.ensures.stops
