@@ -459,10 +459,9 @@ pub type_by_itself_refused : (c : Counts) (before : List Placed) (end : Place) (
     Refused c (part type ∷ []) before end stop → Refused c (type_begins before) before end stop
 type_by_itself_refused c before end stop none r = rw (no_name_parts before none) r
 
--- what follows a type
-pub behind_type_method : {c d e : Counts} {a b g : List Placed} → Within c (one is_name ∷ []) a d b → Within d (part field_or_method ∷ []) b e g →
-    Within c (one is_name ∷ part field_or_method ∷ []) a e g
-behind_type_method named w = seq named w
+pub typed_name_refused : {c d : Counts} {a b : List Placed} {end end_now : Place} (stop : Stop) → BeginsTyped a → Within c (type_begins a) a d b → end_now ≡ end →
+    Refused d (one is_name ∷ []) b end_now stop → Refused c (member_begins a) a end stop
+typed_name_refused {a = a} stop t w is r = onward_refused stop (typed_begun a t w) is r
 
 pub onward_reads : {c d e : Counts} {xs ys : List Expected} {a b g : List Placed} → Onward c xs a d ys b → Within d ys b e g → Within c xs a e g
 onward_reads {e = e} {g = g} o w = o.reads e g w

@@ -119,7 +119,7 @@ fn result(alloc: Global, cursor: &mut Cursor) -> Result<MethodResult, Stop>
 }
 
 /// A field, or a method with a result and without region parameters.
-#[tactic(auto, using(crate::proofs::MemberForms::typed_field, crate::proofs::MemberForms::typed_method, crate::proofs::MemberParts::typed_begun, crate::proofs::MemberParts::typed_refused, crate::proofs::MemberParts::onward_step))]
+#[tactic(auto, using(crate::proofs::MemberForms::typed_field, crate::proofs::MemberForms::typed_method, crate::proofs::MemberParts::typed_refused, crate::proofs::MemberParts::typed_name_refused))]
 fn typed(alloc: Global, cursor: &mut Cursor) -> Result<Member, Stop>
     requires { BeginsTyped cursor.old.rest.now }
     ensures moves { OnOk result (Reads cursor.old cursor.new) }
