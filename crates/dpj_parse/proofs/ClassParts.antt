@@ -1,5 +1,5 @@
 -- The parts of the grammar's Class productions, by what they begin with.
-use Rattle.std.proofs.Common.{◌≡◌, ◌≤◌, ◌==◌, ℕ, List, [], ◌∷◌, length, true, false, Some, refl, arith}
+use Rattle.std.proofs.Common.{◌≡◌, ◌==◌, ap, List, [], ◌∷◌, length, true, false, Some, Result, Ok, Err, OnOk, refl, subst, arith}
 use Rattle.dpj_base.specs.Refused.{IfRefused}
 use Rattle.dpj_base.specs.declared.place.Place.{Place}
 use Rattle.dpj_base.specs.declared.refusal.Stop.{Stop}
@@ -7,6 +7,9 @@ use Rattle.dpj_tokens.specs.declared.token.Symbol.{Symbol}
 use Rattle.dpj_tokens.specs.declared.token.Keyword.{Keyword}
 use Rattle.dpj_terminals.specs.declared.terminal.Placed.{Placed}
 use Rattle.dpj_terminals.specs.declared.terminal.Terminal.TheVariants as terminal
+use Rattle.dpj_parse.specs.declared.cursor.Cursor.{Cursor}
+use Rattle.dpj_parse.specs.Counted.{counts}
+use Rattle.dpj_parse.specs.Refusing.{start, IsWithin}
 use Rattle.dpj_parse.specs.Taking.{Next, NoNext}
 use Rattle.dpj_parse.specs.Expecting.{Expected, Part, one, part, choose, next_of}
 use Rattle.dpj_parse.specs.Expecting.Part.{args_if, class, member, member_list, members, more_classes, parent_if, program, params_if}
@@ -83,6 +86,10 @@ program_refused c before end stop r = refused_part c program _ before end stop r
 pub program_begun : {c d : Counts} {a b : List Placed} → Within c (part class ∷ []) a d b → Onward c (part program ∷ []) a d (part more_classes ∷ []) b
 program_begun w = record { reads = λ e after v. read_part _ _ program _ _ _ refl (seq w v); stops = λ k here s. in_part refl (stops_after w s) }
 
+pub some_rest : (rest : List Placed) → (length rest == 0) ≡ false → rest ≡ [] → ⊥
+some_rest [] some is = absurd (let no : true ≡ false = some in cc)
+some_rest (next ∷ rest) some is = absurd (let n = ap length is in omega (arith, n))
+
 classes_come : (b : List Placed) → (b ≡ [] → ⊥) → choose more_classes (next_of b) ≡ Some (part class ∷ part more_classes ∷ [])
 classes_come [] some = absurd (some refl)
 classes_come (next ∷ after) some = refl
@@ -101,3 +108,9 @@ more_classes_end {d = d} {b = b} o none = o.reads d b (read_part d d more_classe
 pub more_classes_refused : {c d : Counts} {xs : List Expected} {a b : List Placed} {end end_now : Place} (stop : Stop) → Onward c xs a d (part more_classes ∷ []) b → (b ≡ [] → ⊥) →
     end_now ≡ end → Refused d (part class ∷ []) b end_now stop → Refused c xs a end stop
 more_classes_refused stop o some is r = onward_refused stop (more_classes_on o some) is r
+
+-- a text that was read to its end
+pub read_within : {T : Type 0} (result : Result T Stop) (list : List Placed) (new : Cursor) → OnOk result (Within start (part program ∷ []) list (counts new) new.rest.now) →
+    OnOk result (new.rest.now ≡ []) → OnOk result (IsWithin list)
+read_within (Ok x) list new w ends = record { last = counts new; within = subst (λ (after : List Placed). Within start (part program ∷ []) list (counts new) after) ends w }
+read_within (Err stop) list new w ends = tt

@@ -19,6 +19,7 @@ pub fn classes(alloc: Global, cursor: &mut Cursor) -> Result<Items<Class>, Stop>
     ensures moves { OnOk result (Reads cursor.old cursor.new) }
     ensures reads { OnOk result (Reading (part Part.program ∷ []) cursor.old cursor.new) }
     ensures stops { IfErr result (λ stop. StopsAt (part Part.program ∷ []) cursor.old stop) }
+    ensures ends { OnOk result (cursor.new.rest.now ≡ []) }
     ensures derives { IfOk result (λ classes. DerivesProgram cursor.old.rest.now classes) }
 {
     let mut classes = Items::new(alloc);
