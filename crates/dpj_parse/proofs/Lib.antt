@@ -15,7 +15,6 @@ pub mod Sized
 pub mod Targeted
 pub mod Coming
 pub mod Composed
-pub mod StubParts
 pub mod PathParts
 pub mod TypeParts
 pub mod ExprParts

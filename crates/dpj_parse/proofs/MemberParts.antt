@@ -1,5 +1,5 @@
 -- The parts of the grammar's Member productions, by what they begin with.
-use Rattle.std.proofs.Common.{◌≡◌, ◌∙◌, ◌⊎◌, ℕ, ◌++◌, ap, inl, inr, List, [], ◌∷◌, Bool, true, false, cond, ◌||◌, ◌&&◌, sym, Option, Some, None, refl}
+use Rattle.std.proofs.Common.{◌≡◌, ◌∙◌, ◌≤◌, ◌⊎◌, ℕ, ◌++◌, ap, inl, inr, List, [], ◌∷◌, Bool, true, false, cond, ◌||◌, ◌&&◌, sym, Option, Some, None, refl}
 use Rattle.dpj_base.specs.Refused.{IfRefused}
 use Rattle.dpj_base.specs.declared.place.Place.{Place}
 use Rattle.dpj_base.specs.declared.refusal.Kind.{Kind}
@@ -18,7 +18,7 @@ use Rattle.dpj_parse.specs.Progress.{ReadsIf}
 use Rattle.dpj_parse.specs.Expecting.{Expected, Part, one, part, choose, next_of, next_is, member_parts}
 use Rattle.dpj_parse.specs.Expecting.Part.{member, after_member_name, field_or_method, in_if, result, method_rest, formals, formal_list, formal, more_formals, summary, reads_if, writes_if, items, item, more_items, atomic_if, block, path, type, kind, names, params_if, args_if, suffixes}
 use Rattle.dpj_parse.specs.Words.{is_atomic, is_close_paren, is_comma, is_in, is_name, is_open_paren, is_pure, is_reads, is_region, is_semicolon, is_void, is_writes, word}
-use Rattle.dpj_parse.specs.Limits.{Counts, inside, outside, Within, begins, nothing, passes, anew, Stops, no_part, no_terminal, too_many, in_part, after_part, after_terminal, Refuses}
+use Rattle.dpj_parse.specs.Limits.{Counts, inside, outside, Within, begins, nothing, passes, anew, past, Stops, no_part, no_terminal, too_many, in_part, after_part, after_terminal, Refuses}
 use Rattle.dpj_parse.specs.Counted.{counts, Reading, StopsAt}
 use Rattle.dpj_parse.proofs.Coming.{comes_next, no_name_comes, next_comes, symbol_comes_not, keyword_comes, keyword_comes_not}
 use Rattle.dpj_parse.proofs.Tested.{word_or_not}
@@ -492,3 +492,16 @@ member_reads same w = rw same (read_part _ _ member _ _ _ refl w)
 
 pub member_refused : (c : Counts) (before : List Placed) (end : Place) (stop : Stop) → Refused (anew c) (member_begins before) before end stop → Refused c (part member ∷ []) before end stop
 member_refused c before end stop r = refused_part c member _ before end stop refl r
+
+-- a terminal that was read is within the limits, and so is what follows it with no more counted
+past_joined : (t : Terminal) (c : Counts) → (past t c).joined ≡ c.joined
+past_joined (terminal.Symbol Symbol.OpenParen) c = refl
+past_joined (terminal.Symbol Symbol.OpenBracket) c = refl
+past_joined (terminal.Symbol Symbol.OpenBrace) c = refl
+past_joined (terminal.Symbol Symbol.CloseParen) c = refl
+past_joined (terminal.Symbol Symbol.CloseBracket) c = refl
+past_joined (terminal.Symbol Symbol.CloseBrace) c = refl
+past_joined _ c = refl
+
+pub few_still : {test : Terminal → Bool} {joined : ℕ} {c d : Counts} {a b : List Placed} → Within c (one test ∷ []) a d b → joined ≡ d.joined → joined ≤ 32
+few_still (passes {next = next} {c = c} test fits nothing) same = rw (same, past_joined next.terminal c) (fits.joined)

@@ -21,7 +21,6 @@ mod operator;
 mod program;
 mod region;
 mod stmts;
-mod stubbed;
 mod types;
 
 pub use laws::{expected_text, one_fault, one_program, one_refusal, one_tree};

@@ -10,7 +10,7 @@ ghost use Rattle.dpj_parse.specs.Taking.{Listed};
 
 use crate::cursor::Cursor;
 use crate::region::{begins_kind, kind, names, no_params, params_if, rpl};
-use crate::stubbed::block;
+use crate::stmts::block;
 use crate::types::{named_type, ty};
 use dpj_base::{Items, Stop};
 use dpj_terminals::Terminal;

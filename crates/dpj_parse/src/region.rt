@@ -1,7 +1,6 @@
-ghost use Rattle.std.specs.Prelude.{◌||◌, ◌≡◌, ◌+◌, ◌≤◌, [], length, IfOk, OnOk, IfErr, ◌∷◌};
+ghost use Rattle.std.specs.Prelude.{◌≡◌, ◌+◌, ◌≤◌, [], length, IfOk, OnOk, IfErr, ◌∷◌};
 ghost use Rattle.dpj_parse.specs.Counted.{Reading, StopsAt};
-ghost use Rattle.dpj_parse.specs.Expecting.{Part, next_is, next_of, part};
-ghost use Rattle.dpj_parse.specs.Words.{is_atomic, is_region};
+ghost use Rattle.dpj_parse.specs.Expecting.{Part, part};
 ghost use Rattle.dpj_parse.specs.Classes.{DerivesConstr, DerivesDeclared, DerivesGiven, DerivesKind, DerivesKindOr, DerivesParam, DerivesParams};
 ghost use Rattle.dpj_parse.specs.Paths.{DerivesArgs, DerivesElem, DerivesHead, DerivesNext, DerivesRName, DerivesRpl, DerivesWithin};
 ghost use Rattle.dpj_parse.specs.Progress.{Keeps, Reads};
@@ -22,7 +21,12 @@ pub fn names(alloc: Global, cursor: &mut Cursor) -> Result<Items<Named>, Stop>
     ensures stops { IfErr result (λ stop. StopsAt (part Part.names ∷ []) cursor.old stop) }
     ensures derives { IfOk result (λ names. Listed TakesName cursor.old.rest.now cursor.new.rest.now names) }
 {
-    Err(Stop::NoMemory)
+    let mut names = Items::new(alloc);
+    names.push(cursor.name()?)?;
+    while cursor.symbol_if(Symbol::Comma)? {
+        names.push(cursor.name()?)?;
+    }
+    Ok(names)
 }
 
 /// `RName = Name [ "." Name ]`
@@ -50,7 +54,13 @@ pub fn rpl(alloc: Global, cursor: &mut Cursor) -> Result<RplTree, Stop>
     ensures stops { IfErr result (λ stop. StopsAt (part Part.path ∷ []) cursor.old stop) }
     ensures derives { IfOk result (λ path. DerivesRpl cursor.old.rest.now cursor.new.rest.now path) }
 {
-    Err(Stop::NoMemory)
+    let outer = cursor.joined;
+    cursor.joined = 0;
+    let place = cursor.place();
+    let head = head(cursor)?;
+    let elems = elems(alloc, cursor)?;
+    cursor.joined = outer;
+    Ok(RplTree { place, head, elems })
 }
 
 #[tactic(auto, using(crate::proofs::Regions::head_root, crate::proofs::Regions::head_name))]
@@ -143,7 +153,10 @@ pub fn args_if(alloc: Global, cursor: &mut Cursor) -> Result<Items<RplTree>, Sto
     ensures stops { IfErr result (λ stop. StopsAt (part Part.args_if ∷ []) cursor.old stop) }
     ensures derives { IfOk result (λ paths. DerivesArgs cursor.old.rest.now cursor.new.rest.now paths) }
 {
-    Err(Stop::NoMemory)
+    if !cursor.is_symbol(Symbol::Less) {
+        return Ok(Items::new(alloc));
+    }
+    args(alloc, cursor)
 }
 
 /// `Args = "<" Rpl { "," Rpl } ">"`
@@ -183,7 +196,10 @@ pub fn params_if(alloc: Global, cursor: &mut Cursor) -> Result<Params, Stop>
     ensures stops { IfErr result (λ stop. StopsAt (part Part.params_if ∷ []) cursor.old stop) }
     ensures derives { IfOk result (λ params. DerivesParams cursor.old.rest.now cursor.new.rest.now params) }
 {
-    Err(Stop::NoMemory)
+    if !cursor.is_symbol(Symbol::Less) {
+        return Ok(no_params(alloc));
+    }
+    params(alloc, cursor)
 }
 
 /// No region parameters are written.
@@ -243,10 +259,7 @@ fn param(cursor: &mut Cursor, atomic: bool) -> Result<ParamTree, Stop>
 }
 
 /// Whether `atomic` or `region` comes next.
-#[tactic(auto, using(crate::proofs::StubParts::begins_atomic, crate::proofs::StubParts::begins_region, crate::proofs::StubParts::begins_no_kind))]
-pub fn begins_kind(cursor: &Cursor) -> bool
-    ensures { result ≡ (next_is is_atomic (next_of cursor.now.rest.now) || next_is is_region (next_of cursor.now.rest.now)) }
-{
+pub fn begins_kind(cursor: &Cursor) -> bool {
     cursor.is_keyword(Keyword::Atomic) || cursor.is_keyword(Keyword::Region)
 }
 
@@ -258,7 +271,9 @@ pub fn kind(cursor: &mut Cursor) -> Result<bool, Stop>
     ensures stops { IfErr result (λ stop. StopsAt (part Part.kind ∷ []) cursor.old stop) }
     ensures derives { IfOk result (λ atomic. DerivesKind cursor.old.rest.now cursor.new.rest.now atomic) }
 {
-    Err(Stop::NoMemory)
+    let atomic = cursor.keyword_if(Keyword::Atomic)?;
+    cursor.keyword(Keyword::Region)?;
+    Ok(atomic)
 }
 
 /// `[ Kind ]`: whether it is atomic, or the one before it.

@@ -1,9 +1,9 @@
 ghost use Rattle.std.specs.Prelude.{◌≡◌, ◌+◌, ◌≤◌, length, IfOk, OnOk, IfErr, [], ◌∷◌};
 ghost use Rattle.dpj_parse.specs.Counted.{Reading, StopsAt};
 ghost use Rattle.dpj_parse.specs.Expecting.{Part, one, part};
-ghost use Rattle.dpj_parse.specs.Words.{is_name};
 ghost use Rattle.dpj_parse.specs.Progress.{Keeps, Reads};
 ghost use Rattle.dpj_parse.specs.Taking.{Many};
+ghost use Rattle.dpj_parse.specs.Words.{is_name};
 ghost use Rattle.dpj_parse.specs.Types.{DerivesBase, DerivesBehind, DerivesIndex, DerivesRegion, DerivesSuffix, DerivesType};
 
 use crate::cursor::Cursor;
@@ -22,7 +22,17 @@ pub fn ty(alloc: Global, cursor: &mut Cursor) -> Result<TypeTree, Stop>
     ensures stops { IfErr result (λ stop. StopsAt (part Part.type ∷ []) cursor.old stop) }
     ensures derives { IfOk result (λ tree. DerivesType cursor.old.rest.now cursor.new.rest.now tree) }
 {
-    Err(Stop::NoMemory)
+    let outer = cursor.joined;
+    cursor.joined = 0;
+    let place = cursor.place();
+    let base = base(alloc, cursor)?;
+    let suffixes = suffixes(alloc, cursor)?;
+    cursor.joined = outer;
+    Ok(TypeTree {
+        place,
+        base,
+        suffixes,
+    })
 }
 
 /// `Base = "int" | "boolean" | Name [ Args ]`
@@ -110,13 +120,22 @@ fn index_if(cursor: &mut Cursor) -> Result<Option<Named>, Stop>
     Ok(Some(cursor.name()?))
 }
 
-/// A type that begins with a name, whose suffixes are counted on.
-#[tactic(auto, using(crate::specs::Types::type_of, crate::specs::Types::class))]
+/// A type that begins with a name, within a member that might have been a constructor up to there: its suffixes are counted on.
+#[tactic(auto, using(crate::specs::Types::type_of, crate::specs::Types::class, crate::proofs::MemberParts::read_three, crate::proofs::Composed::refused_first, crate::proofs::MemberParts::refused_second, crate::proofs::MemberParts::refused_third, crate::proofs::MemberParts::few_still))]
 pub fn named_type(alloc: Global, cursor: &mut Cursor) -> Result<TypeTree, Stop>
     ensures moves { OnOk result (Reads cursor.old cursor.new) }
     ensures reads { OnOk result (Reading (one is_name ∷ part Part.args_if ∷ part Part.suffixes ∷ []) cursor.old cursor.new) }
     ensures stops { IfErr result (λ stop. StopsAt (one is_name ∷ part Part.args_if ∷ part Part.suffixes ∷ []) cursor.old stop) }
     ensures derives { IfOk result (λ tree. DerivesType cursor.old.rest.now cursor.new.rest.now tree) }
 {
-    Err(Stop::NoMemory)
+    let place = cursor.place();
+    let name = cursor.name()?;
+    let args = args_if(alloc, cursor)?;
+    let suffixes = suffixes(alloc, cursor)?;
+    let base = BaseTree::Class { name, args };
+    Ok(TypeTree {
+        place,
+        base,
+        suffixes,
+    })
 }
