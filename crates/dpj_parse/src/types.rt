@@ -121,7 +121,7 @@ fn index_if(cursor: &mut Cursor) -> Result<Option<Named>, Stop>
 }
 
 /// A type that begins with a name, within a member that might have been a constructor up to there: its suffixes are counted on.
-#[tactic(auto, using(crate::specs::Types::type_of, crate::specs::Types::class, crate::proofs::MemberParts::read_three, crate::proofs::Composed::refused_first, crate::proofs::MemberParts::refused_second, crate::proofs::MemberParts::refused_third, crate::proofs::MemberParts::few_still))]
+#[tactic(auto, using(crate::proofs::MemberParts::read_three, crate::proofs::Composed::refused_first, crate::proofs::MemberParts::refused_second, crate::proofs::MemberParts::refused_third, crate::proofs::MemberParts::few_still))]
 pub fn named_type(alloc: Global, cursor: &mut Cursor) -> Result<TypeTree, Stop>
     ensures moves { OnOk result (Reads cursor.old cursor.new) }
     ensures reads { OnOk result (Reading (one is_name ∷ part Part.args_if ∷ part Part.suffixes ∷ []) cursor.old cursor.new) }
