@@ -1,6 +1,5 @@
 -- The parts of the grammar's Class productions, by what they begin with.
 use Rattle.std.proofs.Common.{◌≡◌, ◌==◌, ap, List, [], ◌∷◌, length, true, false, Some, Result, Ok, Err, OnOk, refl, subst, arith}
-use Rattle.dpj_base.specs.Refused.{IfRefused}
 use Rattle.dpj_base.specs.declared.place.Place.{Place}
 use Rattle.dpj_base.specs.declared.refusal.Stop.{Stop}
 use Rattle.dpj_tokens.specs.declared.token.Symbol.{Symbol}
@@ -11,10 +10,10 @@ use Rattle.dpj_parse.specs.declared.cursor.Cursor.{Cursor}
 use Rattle.dpj_parse.specs.Counted.{counts}
 use Rattle.dpj_parse.specs.Refusing.{start, IsWithin}
 use Rattle.dpj_parse.specs.Taking.{Next, NoNext}
-use Rattle.dpj_parse.specs.Expecting.{Expected, Part, one, part, choose, next_of}
+use Rattle.dpj_parse.specs.Expecting.{Expected, one, part, choose, next_of}
 use Rattle.dpj_parse.specs.Expecting.Part.{args_if, class, member, member_list, members, more_classes, parent_if, program, params_if}
 use Rattle.dpj_parse.specs.Words.{is_class, is_close_brace, is_extends, is_name, is_open_brace}
-use Rattle.dpj_parse.specs.Limits.{Counts, Within, begins, nothing, Stops, in_part, Refuses}
+use Rattle.dpj_parse.specs.Limits.{Counts, Within, nothing, in_part}
 use Rattle.dpj_parse.proofs.Coming.{next_comes, symbol_comes_not, keyword_comes, keyword_comes_not}
 use Rattle.dpj_parse.proofs.Composed.{Refused, seq, stops_after, refused_first, read_part, refused_part}
 use Rattle.dpj_parse.proofs.MemberParts.{Onward, onward_step, onward_refused, refused_second, refused_third, came}

@@ -1,6 +1,5 @@
 -- The parts of the grammar's Member productions, by what they begin with.
-use Rattle.std.proofs.Common.{◌≡◌, ◌∙◌, ◌≤◌, ◌⊎◌, ℕ, ◌++◌, ap, inl, inr, List, [], ◌∷◌, Bool, true, false, cond, ◌||◌, ◌&&◌, sym, Option, Some, None, refl}
-use Rattle.dpj_base.specs.Refused.{IfRefused}
+use Rattle.std.proofs.Common.{◌≡◌, ◌∙◌, ◌≤◌, ℕ, ◌++◌, ap, inl, inr, List, [], ◌∷◌, Bool, true, false, cond, ◌||◌, ◌&&◌, sym, Some, refl}
 use Rattle.dpj_base.specs.declared.place.Place.{Place}
 use Rattle.dpj_base.specs.declared.refusal.Kind.{Kind}
 use Rattle.dpj_base.specs.declared.refusal.Stop.{Stop}
@@ -17,8 +16,8 @@ use Rattle.dpj_parse.specs.Targets.{rest_of}
 use Rattle.dpj_parse.specs.Progress.{ReadsIf}
 use Rattle.dpj_parse.specs.Expecting.{Expected, Part, one, part, choose, next_of, next_is, member_parts}
 use Rattle.dpj_parse.specs.Expecting.Part.{member, after_member_name, field_or_method, in_if, result, method_rest, formals, formal_list, formal, more_formals, summary, reads_if, writes_if, items, item, more_items, atomic_if, block, path, type, kind, names, params_if, args_if, suffixes}
-use Rattle.dpj_parse.specs.Words.{is_atomic, is_close_paren, is_comma, is_in, is_name, is_open_paren, is_pure, is_reads, is_region, is_semicolon, is_void, is_writes, word}
-use Rattle.dpj_parse.specs.Limits.{Counts, inside, outside, Within, begins, nothing, passes, anew, past, Stops, no_part, no_terminal, too_many, in_part, after_part, after_terminal, Refuses}
+use Rattle.dpj_parse.specs.Words.{is_atomic, is_close_paren, is_comma, is_in, is_name, is_open_paren, is_pure, is_region, is_semicolon, is_void, word}
+use Rattle.dpj_parse.specs.Limits.{Counts, Within, begins, nothing, passes, anew, past, Stops, no_part, no_terminal, too_many, in_part, after_part, after_terminal}
 use Rattle.dpj_parse.specs.Counted.{counts, Reading, StopsAt}
 use Rattle.dpj_parse.proofs.Coming.{comes_next, no_name_comes, next_comes, symbol_comes_not, keyword_comes, keyword_comes_not}
 use Rattle.dpj_parse.proofs.Tested.{word_or_not}

@@ -1,4 +1,4 @@
-use Rattle.std.proofs.Common.{List, [], ◌∷◌, ◌≤◌, length}
+use Rattle.std.proofs.Common.{[], ◌∷◌, ◌≤◌, length}
 use Rattle.dpj_parse.specs.Progress.{Reads}
 use Rattle.dpj_parse.specs.Classes.{DerivesClass}
 use Rattle.dpj_parse.specs.Taking.{Many}
