@@ -110,7 +110,7 @@ pub lost_name : (here : List Placed) (end : Place) (c : Counts) (stop : Stop) �
 lost_name here end c stop none is = rw is (no_name c here end (place_of here end) none refl)
 
 -- and where one comes that is one too many
-halted : (test : Terminal → Bool) (here : List Placed) (end : Place) (c : Counts) (stop : Stop) → MayCome test here → IfRefused stop (Halts c here end) → IfRefused stop (Refuses c (one test ∷ []) here end)
+pub halted : (test : Terminal → Bool) (here : List Placed) (end : Place) (c : Counts) (stop : Stop) → MayCome test here → IfRefused stop (Halts c here end) → IfRefused stop (Refuses c (one test ∷ []) here end)
 halted test here end c (Stop.Refused refusal) may h = h.stops test may
 halted test here end c Stop.NoMemory may h = h
 

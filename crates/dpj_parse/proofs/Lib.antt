@@ -15,6 +15,7 @@ pub mod Sized
 pub mod Targeted
 pub mod Coming
 pub mod Composed
+pub mod InOrder
 pub mod PathParts
 pub mod TypeParts
 pub mod ExprParts
