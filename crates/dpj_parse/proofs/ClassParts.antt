@@ -16,7 +16,8 @@ use Rattle.dpj_parse.specs.Words.{is_class, is_close_brace, is_extends, is_name,
 use Rattle.dpj_parse.specs.Limits.{Counts, Within, nothing, in_part}
 use Rattle.dpj_parse.proofs.Coming.{next_comes, symbol_comes_not, keyword_comes, keyword_comes_not}
 use Rattle.dpj_parse.proofs.Composed.{Refused, seq, stops_after, refused_first, read_part, refused_part}
-use Rattle.dpj_parse.proofs.MemberParts.{Onward, onward_step, onward_refused, refused_second, refused_third, came}
+use Rattle.dpj_parse.proofs.InOrder.{Onward, next_read}
+use Rattle.dpj_parse.proofs.MemberParts.{onward_step, onward_refused, refused_second, refused_third}
 
 -- a class
 pub class_reads : {c d e f g h : Counts} {a b i j k l : List Placed} → Within c (one is_class ∷ []) a d b → Within d (one is_name ∷ []) b e i →
@@ -33,7 +34,7 @@ parent_none {c} {a} none = read_part c c parent_if [] a a (rw (keyword_comes_not
 
 pub parent_reads : {c d e f : Counts} {a b g h : List Placed} → Within c (one is_extends ∷ []) a d b → Within d (one is_name ∷ []) b e g → Within e (part args_if ∷ []) g f h →
     Within c (part parent_if ∷ []) a f h
-parent_reads word named args = read_part _ _ parent_if _ _ _ (rw (came word) refl) (seq word (seq named args))
+parent_reads word named args = read_part _ _ parent_if _ _ _ (rw (next_read word) refl) (seq word (seq named args))
 
 pub parent_lost : (c : Counts) (before : List Placed) (end : Place) (stop : Stop) → Next (terminal.Keyword Keyword.Extends) before →
     Refused c (one is_extends ∷ []) before end stop → Refused c (part parent_if ∷ []) before end stop
@@ -42,11 +43,11 @@ parent_lost c before end stop n r =
 
 pub parent_name_refused : {c d : Counts} {a b : List Placed} {end end_now : Place} (stop : Stop) → Within c (one is_extends ∷ []) a d b → end_now ≡ end →
     Refused d (one is_name ∷ []) b end_now stop → Refused c (part parent_if ∷ []) a end stop
-parent_name_refused {c} {a = a} stop word is r = refused_part c parent_if _ a _ stop (rw (came word) refl) (refused_second _ _ (part args_if ∷ []) stop word is r)
+parent_name_refused {c} {a = a} stop word is r = refused_part c parent_if _ a _ stop (rw (next_read word) refl) (refused_second _ _ (part args_if ∷ []) stop word is r)
 
 pub parent_args_refused : {c d e : Counts} {a b g : List Placed} {end end_now end_then : Place} (stop : Stop) → Within c (one is_extends ∷ []) a d b → end_now ≡ end →
     Within d (one is_name ∷ []) b e g → end_then ≡ end_now → Refused e (part args_if ∷ []) g end_then stop → Refused c (part parent_if ∷ []) a end stop
-parent_args_refused {c} {a = a} stop word is named then r = refused_part c parent_if _ a _ stop (rw (came word) refl) (refused_third _ _ _ [] stop word is named then r)
+parent_args_refused {c} {a = a} stop word is named then r = refused_part c parent_if _ a _ stop (rw (next_read word) refl) (refused_third _ _ _ [] stop word is named then r)
 
 -- its members
 pub members_reads : {c d e f : Counts} {a b g h : List Placed} →

@@ -21,6 +21,7 @@ use Rattle.dpj_parse.specs.Limits.{Counts, Within, begins, nothing, passes, anew
 use Rattle.dpj_parse.specs.Counted.{counts, Reading, StopsAt}
 use Rattle.dpj_parse.proofs.Coming.{comes_next, no_name_comes, next_comes, symbol_comes_not, keyword_comes, keyword_comes_not}
 use Rattle.dpj_parse.proofs.Tested.{word_or_not}
+use Rattle.dpj_parse.proofs.InOrder.{Onward, IsMore, next_read, few_read, stops_in_list}
 use Rattle.dpj_parse.proofs.Composed.{Refused, seq, stops_first, stops_after, refused_first, refused_after, read_part, refused_part, on_refused}
 
 -- a refusal after what was read: the end of the text stays where it is
@@ -77,15 +78,7 @@ read_two v w = seq v w
 pub read_three : {x y z : Expected} {c d e f : Counts} {a b g h : List Placed} → Within c (x ∷ []) a d b → Within d (y ∷ []) b e g → Within e (z ∷ []) g f h → Within c (x ∷ y ∷ z ∷ []) a f h
 read_three u v w = seq u (seq v w)
 
--- a terminal that was read came next
-pub came : {test : Terminal → Bool} {others : List Expected} {c e : Counts} {before after : List Placed} → Within c (one test ∷ others) before e after → next_is test (next_of before) ≡ true
-came (passes test fits w) = test
-
--- what a part begins with is read behind what was read so far, whatever follows
-pub record Onward (c : Counts) (xs : List Expected) (before : List Placed) (d : Counts) (ys : List Expected) (between : List Placed) : Type 0 where
-  pub reads : (e : Counts) (after : List Placed) → Within d ys between e after → Within c xs before e after
-  pub stops : (k : Kind) (here : List Placed) → Stops d ys between k here → Stops c xs before k here
-
+-- what is read behind what was read so far
 pub onward_step : {x y : Expected} {ys xs : List Expected} {c d e : Counts} {a b g : List Placed} → Onward c xs a d (x ∷ y ∷ ys) b → Within d (x ∷ []) b e g → Onward c xs a e (y ∷ ys) g
 onward_step o w = record { reads = λ e after v. o.reads e after (seq w v); stops = λ k here s. o.stops k here (stops_after w s) }
 
@@ -111,26 +104,8 @@ formal_list_begun {a = a} none w = record {
   stops = λ k here s. in_part (formal_list_comes a none) (stops_after w s);
 }
 
-more_formals_on : {c d : Counts} {xs : List Expected} {a b : List Placed} → Onward c xs a d (part more_formals ∷ []) b → next_is is_comma (next_of b) ≡ true →
-    Onward c xs a d (one is_comma ∷ part formal ∷ part more_formals ∷ []) b
-more_formals_on {b = b} o comes =
-    let chosen : choose more_formals (next_of b) ≡ Some (one is_comma ∷ part formal ∷ part more_formals ∷ []) = rw comes refl in
-    record { reads = λ e after v. o.reads e after (read_part _ _ more_formals _ _ _ chosen v); stops = λ k here s. o.stops k here (in_part chosen s) }
-
-pub more_formals_round : {c d e f : Counts} {xs : List Expected} {a b g h : List Placed} → Onward c xs a d (part more_formals ∷ []) b →
-    Within d (one is_comma ∷ []) b e g → Within e (part formal ∷ []) g f h → Onward c xs a f (part more_formals ∷ []) h
-more_formals_round o comma w = onward_step (onward_step (more_formals_on o (came comma)) comma) w
-
-pub more_formals_end : {c d : Counts} {xs : List Expected} {a b : List Placed} → Onward c xs a d (part more_formals ∷ []) b → NoNext (terminal.Symbol Symbol.Comma) b → Within c xs a d b
-more_formals_end {d = d} {b = b} o none = o.reads d b (read_part d d more_formals [] b b (rw (symbol_comes_not Symbol.Comma b none) refl) nothing)
-
-pub more_formals_lost : {c d : Counts} {xs : List Expected} {a b : List Placed} {end end_now : Place} (stop : Stop) → Onward c xs a d (part more_formals ∷ []) b →
-    Next (terminal.Symbol Symbol.Comma) b → end_now ≡ end → Refused d (one is_comma ∷ []) b end_now stop → Refused c xs a end stop
-more_formals_lost {b = b} stop o n is r = onward_refused stop (more_formals_on o (next_comes Symbol.Comma b n)) is r
-
-pub more_formals_refused : {c d e : Counts} {xs : List Expected} {a b g : List Placed} {end end_now end_then : Place} (stop : Stop) → Onward c xs a d (part more_formals ∷ []) b →
-    Within d (one is_comma ∷ []) b e g → end_now ≡ end → end_then ≡ end_now → Refused e (part formal ∷ []) g end_then stop → Refused c xs a end stop
-more_formals_refused stop o comma is then r = onward_refused stop (onward_step (more_formals_on o (came comma)) comma) (then ∙ is) r
+pub more_formals_listed : IsMore more_formals (part formal)
+more_formals_listed = record { chooses = λ next. refl; enters = λ next c. refl; leaves = λ c d. refl }
 
 -- the regions that a summary names
 pub items_refused : (c : Counts) (before : List Placed) (end : Place) (stop : Stop) → Refused c (part item ∷ []) before end stop → Refused c (part items ∷ []) before end stop
@@ -139,30 +114,12 @@ items_refused c before end stop r = refused_part c items _ before end stop refl 
 pub items_begun : {c d : Counts} {a b : List Placed} → Within c (part item ∷ []) a d b → Onward c (part items ∷ []) a d (part more_items ∷ []) b
 items_begun w = record { reads = λ e after v. read_part _ _ items _ _ _ refl (seq w v); stops = λ k here s. in_part refl (stops_after w s) }
 
-more_items_on : {c d : Counts} {xs : List Expected} {a b : List Placed} → Onward c xs a d (part more_items ∷ []) b → next_is is_comma (next_of b) ≡ true →
-    Onward c xs a d (one is_comma ∷ part item ∷ part more_items ∷ []) b
-more_items_on {b = b} o comes =
-    let chosen : choose more_items (next_of b) ≡ Some (one is_comma ∷ part item ∷ part more_items ∷ []) = rw comes refl in
-    record { reads = λ e after v. o.reads e after (read_part _ _ more_items _ _ _ chosen v); stops = λ k here s. o.stops k here (in_part chosen s) }
-
-pub more_items_round : {c d e f : Counts} {xs : List Expected} {a b g h : List Placed} → Onward c xs a d (part more_items ∷ []) b →
-    Within d (one is_comma ∷ []) b e g → Within e (part item ∷ []) g f h → Onward c xs a f (part more_items ∷ []) h
-more_items_round o comma w = onward_step (onward_step (more_items_on o (came comma)) comma) w
-
-pub more_items_end : {c d : Counts} {xs : List Expected} {a b : List Placed} → Onward c xs a d (part more_items ∷ []) b → NoNext (terminal.Symbol Symbol.Comma) b → Within c xs a d b
-more_items_end {d = d} {b = b} o none = o.reads d b (read_part d d more_items [] b b (rw (symbol_comes_not Symbol.Comma b none) refl) nothing)
-
-pub more_items_lost : {c d : Counts} {xs : List Expected} {a b : List Placed} {end end_now : Place} (stop : Stop) → Onward c xs a d (part more_items ∷ []) b →
-    Next (terminal.Symbol Symbol.Comma) b → end_now ≡ end → Refused d (one is_comma ∷ []) b end_now stop → Refused c xs a end stop
-more_items_lost {b = b} stop o n is r = onward_refused stop (more_items_on o (next_comes Symbol.Comma b n)) is r
-
-pub more_items_refused : {c d e : Counts} {xs : List Expected} {a b g : List Placed} {end end_now end_then : Place} (stop : Stop) → Onward c xs a d (part more_items ∷ []) b →
-    Within d (one is_comma ∷ []) b e g → end_now ≡ end → end_then ≡ end_now → Refused e (part item ∷ []) g end_then stop → Refused c xs a end stop
-more_items_refused stop o comma is then r = onward_refused stop (onward_step (more_items_on o (came comma)) comma) (then ∙ is) r
+pub more_items_listed : IsMore more_items (part item)
+more_items_listed = record { chooses = λ next. refl; enters = λ next c. refl; leaves = λ c d. refl }
 
 -- the result of a method
 pub result_void_reads : {c d : Counts} {a b : List Placed} → Within c (one is_void ∷ []) a d b → Within c (part result ∷ []) a d b
-result_void_reads w = read_part _ _ result _ _ _ (rw (came w) refl) w
+result_void_reads w = read_part _ _ result _ _ _ (rw (next_read w) refl) w
 
 pub result_void_refused : (c : Counts) (before : List Placed) (end : Place) (stop : Stop) →
     Next (terminal.Keyword Keyword.Void) before → Refused c (one is_void ∷ []) before end stop → Refused c (part result ∷ []) before end stop
@@ -180,7 +137,7 @@ pub in_if_none : {c : Counts} {a : List Placed} → NoNext (terminal.Keyword Key
 in_if_none {c} {a} none = read_part c c in_if [] a a (rw (keyword_comes_not Keyword.In a none) refl) nothing
 
 pub in_if_reads : {c d e : Counts} {a b g : List Placed} → Within c (one is_in ∷ []) a d b → Within d (part path ∷ []) b e g → Within c (part in_if ∷ []) a e g
-in_if_reads word w = read_part _ _ in_if _ _ _ (rw (came word) refl) (seq word w)
+in_if_reads word w = read_part _ _ in_if _ _ _ (rw (next_read word) refl) (seq word w)
 
 pub in_if_lost : (c : Counts) (before : List Placed) (end : Place) (stop : Stop) →
     Next (terminal.Keyword Keyword.In) before → Refused c (one is_in ∷ []) before end stop → Refused c (part in_if ∷ []) before end stop
@@ -188,7 +145,7 @@ in_if_lost c before end stop n r = refused_part c in_if _ before end stop (rw (k
 
 pub in_if_refused : {c d : Counts} {a b : List Placed} {end end_now : Place} (stop : Stop) →
     Within c (one is_in ∷ []) a d b → end_now ≡ end → Refused d (part path ∷ []) b end_now stop → Refused c (part in_if ∷ []) a end stop
-in_if_refused {c} {a = a} stop word is r = refused_part c in_if _ a _ stop (rw (came word) refl) (refused_second _ _ [] stop word is r)
+in_if_refused {c} {a = a} stop word is r = refused_part c in_if _ a _ stop (rw (next_read word) refl) (refused_second _ _ [] stop word is r)
 
 -- a keyword that may come leaves the end of the text where it is
 pub end_if : (found : Bool) (old new : Cursor) → ReadsIf found old new → new.end ≡ old.end
@@ -198,7 +155,7 @@ end_if false old new same = ap (λ c. c.end) same
 -- one region of them
 atomic_reads : (found : Bool) (old new : Cursor) → ReadsIf found old new → TakesIf (terminal.Keyword Keyword.Atomic) found old.rest.now new.rest.now →
     (found ≡ true → Reading (one is_atomic ∷ []) old new) → Reading (part atomic_if ∷ []) old new
-atomic_reads true old new moves takes reading = let w = reading refl in read_part _ _ atomic_if _ _ _ (rw (came w) refl) w
+atomic_reads true old new moves takes reading = let w = reading refl in read_part _ _ atomic_if _ _ _ (rw (next_read w) refl) w
 atomic_reads false old new same takes reading =
     rw same (read_part (counts old) (counts old) atomic_if [] old.rest.now old.rest.now (rw (keyword_comes_not Keyword.Atomic old.rest.now takes.0) refl) nothing)
 
@@ -224,8 +181,8 @@ items_if_none {c = c} {a = a} writes none = read_part c c writes_if [] a a (rw (
 
 pub items_if_reads : {keyword : Keyword} {n : Part} {c d e : Counts} {a b g : List Placed} → IsItemsPart keyword n →
     Within c (one (word keyword) ∷ []) a d b → Within d (part items ∷ []) b e g → Within c (part n ∷ []) a e g
-items_if_reads reads v w = read_part _ _ reads_if _ _ _ (rw (came v) refl) (seq v w)
-items_if_reads writes v w = read_part _ _ writes_if _ _ _ (rw (came v) refl) (seq v w)
+items_if_reads reads v w = read_part _ _ reads_if _ _ _ (rw (next_read v) refl) (seq v w)
+items_if_reads writes v w = read_part _ _ writes_if _ _ _ (rw (next_read v) refl) (seq v w)
 
 pub items_if_lost : {keyword : Keyword} {n : Part} (c : Counts) (before : List Placed) (end : Place) (stop : Stop) → IsItemsPart keyword n →
     Next (terminal.Keyword keyword) before → Refused c (one (word keyword) ∷ []) before end stop → Refused c (part n ∷ []) before end stop
@@ -234,8 +191,8 @@ items_if_lost c before end stop writes n r = refused_part c writes_if _ before e
 
 pub items_if_refused : {keyword : Keyword} {n : Part} {c d : Counts} {a b : List Placed} {end end_now : Place} (stop : Stop) → IsItemsPart keyword n →
     Within c (one (word keyword) ∷ []) a d b → end_now ≡ end → Refused d (part items ∷ []) b end_now stop → Refused c (part n ∷ []) a end stop
-items_if_refused {c = c} {a = a} stop reads v is r = refused_part c reads_if _ a _ stop (rw (came v) refl) (refused_second _ _ [] stop v is r)
-items_if_refused {c = c} {a = a} stop writes v is r = refused_part c writes_if _ a _ stop (rw (came v) refl) (refused_second _ _ [] stop v is r)
+items_if_refused {c = c} {a = a} stop reads v is r = refused_part c reads_if _ a _ stop (rw (next_read v) refl) (refused_second _ _ [] stop v is r)
+items_if_refused {c = c} {a = a} stop writes v is r = refused_part c writes_if _ a _ stop (rw (next_read v) refl) (refused_second _ _ [] stop v is r)
 
 -- the summary of a method
 effects_come : (a : List Placed) → BeginsEffects a → choose summary (next_of a) ≡ Some (part reads_if ∷ part writes_if ∷ [])
@@ -257,7 +214,7 @@ pub summary_writes_refused : {c d : Counts} {a b : List Placed} {end end_now : P
 summary_writes_refused {c = c} {a = a} stop n v is r = refused_part c summary _ a _ stop (effects_come a n) (refused_second _ _ [] stop v is r)
 
 pub summary_pure_reads : {c d : Counts} {a b : List Placed} → (BeginsEffects a → ⊥) → Within c (one is_pure ∷ []) a d b → Within c (part summary ∷ []) a d b
-summary_pure_reads {a = a} none w = read_part _ _ summary _ _ _ (no_effects a none ∙ rw (came w) refl) w
+summary_pure_reads {a = a} none w = read_part _ _ summary _ _ _ (no_effects a none ∙ rw (next_read w) refl) w
 
 pub summary_pure_refused : (c : Counts) (before : List Placed) (end : Place) (stop : Stop) → (BeginsEffects before → ⊥) → Next (terminal.Keyword Keyword.Pure) before →
     Refused c (one is_pure ∷ []) before end stop → Refused c (part summary ∷ []) before end stop
@@ -382,21 +339,12 @@ constructor_refused c (next ∷ rest) end stop both r =
     let named : is_name next.terminal ≡ true = first_named _ _ both in
     rw (named_parts next.terminal named) (on_refused end stop (λ k here s. constructor_stops (method_chosen rest (named_opens _ _ named both)) s) r)
 
--- what stops in a list stops so in a longer one
-stops_longer : (ys : List Expected) {c : Counts} {xs : List Expected} {before here : List Placed} {k : Kind} → Stops c xs before k here → Stops c (xs ++ ys) before k here
-stops_longer ys (no_part none) = no_part none
-stops_longer ys (no_terminal none) = no_terminal none
-stops_longer ys (too_many test over) = too_many test over
-stops_longer ys (in_part chosen s) = in_part chosen s
-stops_longer ys (after_part chosen w s) = after_part chosen w (stops_longer ys s)
-stops_longer ys (after_terminal test fits s) = after_terminal test fits (stops_longer ys s)
-
 type_stops : {c : Counts} {next : Placed} {rest here : List Placed} {k : Kind} →
     choose after_member_name (next_of rest) ≡ Some (part args_if ∷ part suffixes ∷ one is_name ∷ part field_or_method ∷ []) →
     Stops c (one is_name ∷ part args_if ∷ part suffixes ∷ []) (next ∷ rest) k here → Stops c (one is_name ∷ part after_member_name ∷ []) (next ∷ rest) k here
 type_stops chosen (no_terminal none) = no_terminal none
 type_stops chosen (too_many named over) = too_many named over
-type_stops chosen (after_terminal named fits s) = after_terminal named fits (in_part chosen (stops_longer (one is_name ∷ part field_or_method ∷ []) s))
+type_stops chosen (after_terminal named fits s) = after_terminal named fits (in_part chosen (stops_in_list (one is_name ∷ part field_or_method ∷ []) s))
 
 named_begun : {c d : Counts} {next : Placed} {rest b : List Placed} →
     choose after_member_name (next_of rest) ≡ Some (part args_if ∷ part suffixes ∷ one is_name ∷ part field_or_method ∷ []) →
@@ -492,15 +440,6 @@ member_reads same w = rw same (read_part _ _ member _ _ _ refl w)
 pub member_refused : (c : Counts) (before : List Placed) (end : Place) (stop : Stop) → Refused (anew c) (member_begins before) before end stop → Refused c (part member ∷ []) before end stop
 member_refused c before end stop r = refused_part c member _ before end stop refl r
 
--- a terminal that was read is within the limits, and so is what follows it with no more counted
-past_joined : (t : Terminal) (c : Counts) → (past t c).joined ≡ c.joined
-past_joined (terminal.Symbol Symbol.OpenParen) c = refl
-past_joined (terminal.Symbol Symbol.OpenBracket) c = refl
-past_joined (terminal.Symbol Symbol.OpenBrace) c = refl
-past_joined (terminal.Symbol Symbol.CloseParen) c = refl
-past_joined (terminal.Symbol Symbol.CloseBracket) c = refl
-past_joined (terminal.Symbol Symbol.CloseBrace) c = refl
-past_joined _ c = refl
-
+-- what follows a terminal that was read is within the limits, with no more counted
 pub few_still : {test : Terminal → Bool} {joined : ℕ} {c d : Counts} {a b : List Placed} → Within c (one test ∷ []) a d b → joined ≡ d.joined → joined ≤ 32
-few_still (passes {next = next} {c = c} test fits nothing) same = rw (same, past_joined next.terminal c) (fits.joined)
+few_still w same = rw same (few_read w)

@@ -5,7 +5,7 @@ use Rattle.dpj_parse.specs.Taking.{Listed}
 use Rattle.dpj_parse.specs.Expecting.{part}
 use Rattle.dpj_parse.specs.Expecting.{Part as p}
 use Rattle.dpj_parse.specs.Counted.{counts}
-use Rattle.dpj_parse.proofs.MemberParts.{Onward}
+use Rattle.dpj_parse.proofs.InOrder.{Onward}
 use Rattle.dpj_parse.proofs.members.items.Given as goal
 
 abbrev pub invariant-loop-items : goal.invariant-loop-items
