@@ -1,5 +1,5 @@
 -- The parts of the grammar's Member productions, by what they begin with.
-use Rattle.std.proofs.Common.{◌≡◌, ◌∙◌, ◌≤◌, ℕ, ◌++◌, ap, inl, inr, List, [], ◌∷◌, Bool, true, false, cond, ◌||◌, ◌&&◌, sym, Some, refl}
+use Rattle.std.proofs.Common.{◌≡◌, ◌∙◌, ◌≤◌, ℕ, ap, inl, inr, List, [], ◌∷◌, Bool, true, false, cond, ◌||◌, ◌&&◌, sym, Some, refl}
 use Rattle.dpj_base.specs.declared.place.Place.{Place}
 use Rattle.dpj_base.specs.declared.refusal.Kind.{Kind}
 use Rattle.dpj_base.specs.declared.refusal.Stop.{Stop}
@@ -17,11 +17,11 @@ use Rattle.dpj_parse.specs.Progress.{ReadsIf}
 use Rattle.dpj_parse.specs.Expecting.{Expected, Part, one, part, choose, next_of, next_is, member_parts}
 use Rattle.dpj_parse.specs.Expecting.Part.{member, after_member_name, field_or_method, in_if, result, method_rest, formals, formal_list, formal, more_formals, summary, reads_if, writes_if, items, item, more_items, atomic_if, block, path, type, kind, names, params_if, args_if, suffixes}
 use Rattle.dpj_parse.specs.Words.{is_atomic, is_close_paren, is_comma, is_in, is_name, is_open_paren, is_pure, is_region, is_semicolon, is_void, word}
-use Rattle.dpj_parse.specs.Limits.{Counts, Within, begins, nothing, passes, anew, past, Stops, no_part, no_terminal, too_many, in_part, after_part, after_terminal}
+use Rattle.dpj_parse.specs.Limits.{Counts, Within, begins, nothing, passes, anew, Stops, no_terminal, too_many, in_part, after_part, after_terminal}
 use Rattle.dpj_parse.specs.Counted.{counts, Reading, StopsAt}
 use Rattle.dpj_parse.proofs.Coming.{comes_next, no_name_comes, next_comes, symbol_comes_not, keyword_comes, keyword_comes_not}
 use Rattle.dpj_parse.proofs.Tested.{word_or_not}
-use Rattle.dpj_parse.proofs.InOrder.{Onward, IsMore, next_read, few_read, stops_in_list}
+use Rattle.dpj_parse.proofs.InOrder.{Onward, IsMore, next_read, few_read, listed_at_comma, listed_at_item, listed_end, listed_on, stops_in_list}
 use Rattle.dpj_parse.proofs.Composed.{Refused, seq, stops_first, stops_after, refused_first, refused_after, read_part, refused_part, on_refused}
 
 -- a refusal after what was read: the end of the text stays where it is
@@ -104,8 +104,23 @@ formal_list_begun {a = a} none w = record {
   stops = λ k here s. in_part (formal_list_comes a none) (stops_after w s);
 }
 
-pub more_formals_listed : IsMore more_formals (part formal)
+more_formals_listed : IsMore more_formals (part formal)
 more_formals_listed = record { chooses = λ next. refl; enters = λ next c. refl; leaves = λ c d. refl }
+
+pub more_formals_round : {c d e f : Counts} {xs : List Expected} {a b g h : List Placed} → Onward c xs a d (part more_formals ∷ []) b →
+    Within d (one is_comma ∷ []) b e g → Within e (part formal ∷ []) g f h → Onward c xs a f (part more_formals ∷ []) h
+more_formals_round o comma w = listed_on more_formals_listed o comma w
+
+pub more_formals_end : {c d : Counts} {xs : List Expected} {a b : List Placed} → Onward c xs a d (part more_formals ∷ []) b → NoNext (terminal.Symbol Symbol.Comma) b → Within c xs a d b
+more_formals_end o none = listed_end more_formals_listed o none refl refl
+
+pub more_formals_lost : {c d : Counts} {xs : List Expected} {a b : List Placed} {end later : Place} (stop : Stop) → Onward c xs a d (part more_formals ∷ []) b →
+    Next (terminal.Symbol Symbol.Comma) b → later ≡ end → Refused d (one is_comma ∷ []) b later stop → Refused c xs a end stop
+more_formals_lost stop o n same r = listed_at_comma _ _ _ _ _ _ _ stop _ _ more_formals_listed o same n r
+
+pub more_formals_refused : {c d e : Counts} {xs : List Expected} {a b g : List Placed} {end end_now end_then : Place} (stop : Stop) → Onward c xs a d (part more_formals ∷ []) b →
+    Within d (one is_comma ∷ []) b e g → end_now ≡ end → end_then ≡ end_now → Refused e (part formal ∷ []) g end_then stop → Refused c xs a end stop
+more_formals_refused stop o comma is then r = listed_at_item _ _ _ _ _ _ _ _ _ _ stop _ _ more_formals_listed o is comma then r
 
 -- the regions that a summary names
 pub items_refused : (c : Counts) (before : List Placed) (end : Place) (stop : Stop) → Refused c (part item ∷ []) before end stop → Refused c (part items ∷ []) before end stop
@@ -114,8 +129,23 @@ items_refused c before end stop r = refused_part c items _ before end stop refl 
 pub items_begun : {c d : Counts} {a b : List Placed} → Within c (part item ∷ []) a d b → Onward c (part items ∷ []) a d (part more_items ∷ []) b
 items_begun w = record { reads = λ e after v. read_part _ _ items _ _ _ refl (seq w v); stops = λ k here s. in_part refl (stops_after w s) }
 
-pub more_items_listed : IsMore more_items (part item)
+more_items_listed : IsMore more_items (part item)
 more_items_listed = record { chooses = λ next. refl; enters = λ next c. refl; leaves = λ c d. refl }
+
+pub more_items_round : {c d e f : Counts} {xs : List Expected} {a b g h : List Placed} → Onward c xs a d (part more_items ∷ []) b →
+    Within d (one is_comma ∷ []) b e g → Within e (part item ∷ []) g f h → Onward c xs a f (part more_items ∷ []) h
+more_items_round o comma w = listed_on more_items_listed o comma w
+
+pub more_items_end : {c d : Counts} {xs : List Expected} {a b : List Placed} → Onward c xs a d (part more_items ∷ []) b → NoNext (terminal.Symbol Symbol.Comma) b → Within c xs a d b
+more_items_end o none = listed_end more_items_listed o none refl refl
+
+pub more_items_lost : {c d : Counts} {xs : List Expected} {a b : List Placed} {end later : Place} (stop : Stop) → Onward c xs a d (part more_items ∷ []) b →
+    Next (terminal.Symbol Symbol.Comma) b → later ≡ end → Refused d (one is_comma ∷ []) b later stop → Refused c xs a end stop
+more_items_lost stop o n same r = listed_at_comma _ _ _ _ _ _ _ stop _ _ more_items_listed o same n r
+
+pub more_items_refused : {c d e : Counts} {xs : List Expected} {a b g : List Placed} {end end_now end_then : Place} (stop : Stop) → Onward c xs a d (part more_items ∷ []) b →
+    Within d (one is_comma ∷ []) b e g → end_now ≡ end → end_then ≡ end_now → Refused e (part item ∷ []) g end_then stop → Refused c xs a end stop
+more_items_refused stop o comma is then r = listed_at_item _ _ _ _ _ _ _ _ _ _ stop _ _ more_items_listed o is comma then r
 
 -- the result of a method
 pub result_void_reads : {c d : Counts} {a b : List Placed} → Within c (one is_void ∷ []) a d b → Within c (part result ∷ []) a d b

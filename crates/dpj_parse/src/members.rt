@@ -247,7 +247,7 @@ fn formals(alloc: Global, cursor: &mut Cursor) -> Result<Items<Formal>, Stop>
 }
 
 /// `[ Formals ]` with `Formals = Type Name { "," Type Name }`
-#[tactic(auto, using(crate::specs::Classes::no_formals, crate::specs::Classes::formals, crate::proofs::Lists::listed_more, crate::specs::Taking::last, crate::proofs::MemberParts::formal_list_none, crate::proofs::MemberParts::formal_list_refused, crate::proofs::MemberParts::formal_list_begun, crate::proofs::MemberParts::more_formals_listed, crate::proofs::InOrder::listed_on, crate::proofs::InOrder::listed_end, crate::proofs::InOrder::listed_at_comma, crate::proofs::InOrder::listed_at_item))]
+#[tactic(auto, using(crate::specs::Classes::no_formals, crate::specs::Classes::formals, crate::proofs::Lists::listed_more, crate::specs::Taking::last, crate::proofs::MemberParts::formal_list_none, crate::proofs::MemberParts::formal_list_refused, crate::proofs::MemberParts::formal_list_begun, crate::proofs::MemberParts::more_formals_round, crate::proofs::MemberParts::more_formals_end, crate::proofs::MemberParts::more_formals_lost, crate::proofs::MemberParts::more_formals_refused))]
 fn formal_list(alloc: Global, cursor: &mut Cursor) -> Result<Items<Formal>, Stop>
     ensures moves { OnOk result (Keeps cursor.old cursor.new) }
     ensures reads { OnOk result (Reading (part Part.formal_list ∷ []) cursor.old cursor.new) }
@@ -326,7 +326,7 @@ fn items_if(alloc: Global, cursor: &mut Cursor, keyword: Keyword) -> Result<Item
 }
 
 /// `Items = [ "atomic" ] Rpl { "," [ "atomic" ] Rpl }`
-#[tactic(auto, using(crate::proofs::Lists::listed_more, crate::specs::Taking::last, crate::proofs::MemberParts::items_refused, crate::proofs::MemberParts::items_begun, crate::proofs::MemberParts::more_items_listed, crate::proofs::InOrder::listed_on, crate::proofs::InOrder::listed_end, crate::proofs::InOrder::listed_at_comma, crate::proofs::InOrder::listed_at_item))]
+#[tactic(auto, using(crate::proofs::Lists::listed_more, crate::specs::Taking::last, crate::proofs::MemberParts::items_refused, crate::proofs::MemberParts::items_begun, crate::proofs::MemberParts::more_items_round, crate::proofs::MemberParts::more_items_end, crate::proofs::MemberParts::more_items_lost, crate::proofs::MemberParts::more_items_refused))]
 fn items(alloc: Global, cursor: &mut Cursor) -> Result<Items<Item>, Stop>
     ensures moves { OnOk result (Reads cursor.old cursor.new) }
     ensures reads { OnOk result (Reading (part Part.items ∷ []) cursor.old cursor.new) }
