@@ -16,6 +16,7 @@ pub mod Limits
 pub mod Counted
 pub mod Onward
 pub mod Targets
+pub mod Members
 pub mod ExpectedText
 pub mod Refusing
 pub mod OneRefusal
