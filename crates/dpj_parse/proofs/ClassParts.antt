@@ -8,7 +8,7 @@ use Rattle.dpj_terminals.specs.declared.terminal.Placed.{Placed}
 use Rattle.dpj_terminals.specs.declared.terminal.Terminal.TheVariants as terminal
 use Rattle.dpj_parse.specs.declared.cursor.Cursor.{Cursor}
 use Rattle.dpj_parse.specs.Counted.{counts}
-use Rattle.dpj_parse.specs.Refusing.{start, IsWithin}
+use Rattle.dpj_parse.specs.Refusing.{at_start, IsWithin}
 use Rattle.dpj_parse.specs.Taking.{Next, NoNext}
 use Rattle.dpj_parse.specs.Expecting.{Expected, one, part, choose, next_of}
 use Rattle.dpj_parse.specs.Expecting.Part.{args_if, class, member, member_list, members, more_classes, parent_if, program, params_if}
@@ -110,7 +110,7 @@ pub more_classes_refused : {c d : Counts} {xs : List Expected} {a b : List Place
 more_classes_refused stop o some is r = onward_refused stop (more_classes_on o some) is r
 
 -- a text that was read to its end
-pub read_within : {T : Type 0} (result : Result T Stop) (list : List Placed) (new : Cursor) → OnOk result (Within start (part program ∷ []) list (counts new) new.rest.now) →
+pub read_within : {T : Type 0} (result : Result T Stop) (list : List Placed) (new : Cursor) → OnOk result (Within at_start (part program ∷ []) list (counts new) new.rest.now) →
     OnOk result (new.rest.now ≡ []) → OnOk result (IsWithin list)
-read_within (Ok x) list new w ends = record { last = counts new; within = subst (λ (after : List Placed). Within start (part program ∷ []) list (counts new) after) ends w }
+read_within (Ok x) list new w ends = (counts new, subst (λ (after : List Placed). Within at_start (part program ∷ []) list (counts new) after) ends w)
 read_within (Err stop) list new w ends = tt
