@@ -53,3 +53,5 @@ pub mod Viability
 pub mod Settled
 pub mod Decided
 pub mod Refused
+pub mod Runs
+pub mod Sampled

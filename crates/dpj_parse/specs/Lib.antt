@@ -18,3 +18,4 @@ pub mod Targets
 pub mod ExpectedText
 pub mod Refusing
 pub mod OneRefusal
+pub mod Samples
