@@ -12,13 +12,11 @@ use Rattle.dpj_terminals.specs.declared.terminal.Terminal.TheVariants as termina
 use Rattle.dpj_tree.specs.declared.class.Class.{Class}
 use Rattle.dpj_parse.specs.Classes.{DerivesProgram}
 use Rattle.dpj_parse.specs.Refusing.{IsWithin, IsRefusedIn}
+use Rattle.dpj_parse.specs.Taking.{place_of}
 
 -- a text of one line, in which the n-th terminal stands in column n
-abbrev pub column : ℕ → Place
-column n = record { line = 1; col = n }
-
 abbrev pub at : ℕ → Terminal → Placed
-at n t = record { terminal = t; place = column n }
+at n t = record { terminal = t; place = record { line = 1; col = n } }
 
 abbrev pub line_from : ℕ → List Terminal → List Placed
 line_from n [] = []
@@ -32,10 +30,14 @@ pub record IsRead (text : List Terminal) : Type 0 where
   pub within : IsWithin (line text)
   pub derives : (classes : List Class) × DerivesProgram (line text) classes
 
--- a text of two parts is refused at the first terminal of the second, and not otherwise
-pub record IsRefusedBehind (front back : List Terminal) (why : Kind) : Type 0 where
-  pub refused : (end : Place) → IsRefusedIn (line (front ++ back)) end (record { kind = why; place = column (suc (length front)) })
-  pub once : (end : Place) (other : Refusal) → IsRefusedIn (line (front ++ back)) end other → other ≡ record { kind = why; place = column (suc (length front)) }
+-- where the second of two parts of a text begins, or the end
+abbrev pub start_after : List Terminal → List Terminal → Place → Place
+start_after front back end = place_of (line_from (suc (length front)) back) end
+
+-- a text of two parts is refused where the second begins, and not otherwise
+pub record IsRefusedAfter (front back : List Terminal) (why : Kind) : Type 0 where
+  pub refused : (end : Place) → IsRefusedIn (line (front ++ back)) end (record { kind = why; place = start_after front back end })
+  pub once : (end : Place) (refusal : Refusal) → IsRefusedIn (line (front ++ back)) end refusal → refusal ≡ record { kind = why; place = start_after front back end }
   pub not_read : IsWithin (line (front ++ back)) → ⊥
 
 abbrev pub repeat : ℕ → List Terminal → List Terminal
@@ -71,25 +73,29 @@ returning = opened ++ (word Keyword.Return ∷ [])
 abbrev pub opens : ℕ → List Terminal
 opens n = repeat n (symbol Symbol.OpenParen ∷ [])
 
--- .. ) )
+-- ) ) ..
 abbrev pub closes : ℕ → List Terminal
 closes n = repeat n (symbol Symbol.CloseParen ∷ [])
 
--- return 1 + 1 + ..
-abbrev pub added : ℕ → List Terminal
-added n = returning ++ (digit ∷ repeat n (symbol Symbol.Plus ∷ digit ∷ []))
+-- 1 + 1 + ..
+abbrev pub sum_of : ℕ → List Terminal
+sum_of n = digit ∷ repeat n (symbol Symbol.Plus ∷ digit ∷ [])
 
--- return - - ..
-abbrev pub negated : ℕ → List Terminal
-negated n = returning ++ repeat n (symbol Symbol.Minus ∷ [])
+-- - - ..
+abbrev pub signs : ℕ → List Terminal
+signs n = repeat n (symbol Symbol.Minus ∷ [])
 
--- return n . n . ..
-abbrev pub selected : ℕ → List Terminal
-selected n = returning ++ (name 2 ∷ repeat n (symbol Symbol.Dot ∷ name 2 ∷ []))
+-- n . n . ..
+abbrev pub dotted_names : ℕ → List Terminal
+dotted_names n = name 2 ∷ repeat n (symbol Symbol.Dot ∷ name 2 ∷ [])
 
--- if ( true ) if ( true ) ..
-abbrev pub tested : ℕ → List Terminal
-tested n = opened ++ repeat n (word Keyword.If ∷ symbol Symbol.OpenParen ∷ word Keyword.True ∷ symbol Symbol.CloseParen ∷ [])
+-- if ( true )
+abbrev pub tested : List Terminal
+tested = word Keyword.If ∷ symbol Symbol.OpenParen ∷ word Keyword.True ∷ symbol Symbol.CloseParen ∷ []
+
+-- return 1 ;
+abbrev pub returned : List Terminal
+returned = word Keyword.Return ∷ digit ∷ symbol Symbol.Semicolon ∷ []
 
 -- class Main { int
 abbrev pub declaring : List Terminal
@@ -99,35 +105,39 @@ declaring = word Keyword.Class ∷ name 0 ∷ symbol Symbol.OpenBrace ∷ word K
 abbrev pub declared : List Terminal
 declared = symbol Symbol.Semicolon ∷ symbol Symbol.CloseBrace ∷ []
 
--- int n in Root : * : * ..
+-- class Main { int n in Root : * : * ..
 abbrev pub placed : ℕ → List Terminal
 placed n = declaring ++ (name 2 ∷ word Keyword.In ∷ word Keyword.Root ∷ repeat n (symbol Symbol.Colon ∷ symbol Symbol.Star ∷ []))
 
--- int [ ] [ ] ..
+-- class Main { int [ ] [ ] ..
 abbrev pub suffixed : ℕ → List Terminal
 suffixed n = declaring ++ repeat n (symbol Symbol.OpenBracket ∷ symbol Symbol.CloseBracket ∷ [])
 
 pub record Samples : Type 0 where
-  -- return ( 1 ) ; and without the )
-  pub whole : IsRead ((returning ++ (symbol Symbol.OpenParen ∷ digit ∷ symbol Symbol.CloseParen ∷ [])) ++ closed)
-  pub unclosed : IsRefusedBehind (returning ++ (symbol Symbol.OpenParen ∷ digit ∷ [])) closed kind.Syntax
-  -- two brackets are open in front of 30 parentheses, so that 1 is at level 32; and one more
-  pub nested : IsRead ((returning ++ opens 30) ++ (digit ∷ closes 30 ++ closed))
-  pub nested_more : IsRefusedBehind (returning ++ opens 31) (digit ∷ closes 31 ++ closed) kind.Nest
-  -- 32 operators, and one more
-  pub joined : IsRead (added 32 ++ closed)
-  pub joined_more : IsRefusedBehind (added 32) (symbol Symbol.Plus ∷ digit ∷ closed) kind.Nest
-  pub signed : IsRead (negated 32 ++ (digit ∷ closed))
-  pub signed_more : IsRefusedBehind (negated 32) (symbol Symbol.Minus ∷ digit ∷ closed) kind.Nest
+  -- return ( 1 ) ; whole, without its ) and cut off
+  pub whole : IsRead (returning ++ (symbol Symbol.OpenParen ∷ digit ∷ symbol Symbol.CloseParen ∷ closed))
+  pub unclosed : IsRefusedAfter (returning ++ (symbol Symbol.OpenParen ∷ digit ∷ [])) closed kind.Syntax
+  pub cut_off : IsRefusedAfter (returning ++ (symbol Symbol.OpenParen ∷ digit ∷ [])) [] kind.Syntax
+  -- 30 parentheses within the two brackets of the class and the method, and one more, whose number is too deep
+  pub deep : IsRead (returning ++ (opens 30 ++ (digit ∷ closes 30 ++ closed)))
+  pub too_deep : IsRefusedAfter (returning ++ opens 31) (digit ∷ closes 31 ++ closed) kind.Nest
+  -- 30 bodies without braces, and one more, whose condition is too deep; 40 in order
+  pub bare : IsRead (opened ++ (repeat 30 tested ++ (word Keyword.Return ∷ digit ∷ closed)))
+  pub too_bare : IsRefusedAfter (opened ++ (repeat 30 tested ++ (word Keyword.If ∷ symbol Symbol.OpenParen ∷ []))) (word Keyword.True ∷ symbol Symbol.CloseParen ∷ word Keyword.Return ∷ digit ∷ closed) kind.Nest
+  pub bare_in_order : IsRead (opened ++ (repeat 40 (tested ++ returned) ++ (word Keyword.Return ∷ digit ∷ closed)))
+  -- 32 operators, and one more; in front of the last, as many within parentheses count for themselves
+  pub joined : IsRead (returning ++ (sum_of 32 ++ closed))
+  pub too_joined : IsRefusedAfter (returning ++ sum_of 32) (symbol Symbol.Plus ∷ digit ∷ closed) kind.Nest
+  pub inner : IsRead (returning ++ (symbol Symbol.OpenParen ∷ sum_of 32 ++ (symbol Symbol.CloseParen ∷ repeat 32 (symbol Symbol.Plus ∷ digit ∷ []) ++ closed)))
+  -- 32 signs in front of a number, and one more
+  pub signed : IsRead (returning ++ (signs 32 ++ (digit ∷ closed)))
+  pub too_signed : IsRefusedAfter (returning ++ signs 32) (symbol Symbol.Minus ∷ digit ∷ closed) kind.Nest
   -- 32 dots, and one more
-  pub dotted : IsRead (selected 32 ++ closed)
-  pub dotted_more : IsRefusedBehind (selected 32) (symbol Symbol.Dot ∷ name 2 ∷ closed) kind.Nest
-  -- 30 bodies without braces, and one more, whose condition is a bracket too deep
-  pub bare : IsRead (tested 30 ++ (word Keyword.Return ∷ digit ∷ closed))
-  pub bare_more : IsRefusedBehind (tested 30 ++ (word Keyword.If ∷ symbol Symbol.OpenParen ∷ [])) (word Keyword.True ∷ symbol Symbol.CloseParen ∷ word Keyword.Return ∷ digit ∷ closed) kind.Nest
+  pub dotted : IsRead (returning ++ (dotted_names 32 ++ closed))
+  pub too_dotted : IsRefusedAfter (returning ++ dotted_names 32) (symbol Symbol.Dot ∷ name 2 ∷ closed) kind.Nest
   -- 32 elements of a region path, and one more
   pub path : IsRead (placed 32 ++ declared)
-  pub path_more : IsRefusedBehind (placed 32 ++ (symbol Symbol.Colon ∷ [])) (symbol Symbol.Star ∷ declared) kind.Nest
+  pub too_long_path : IsRefusedAfter (placed 32 ++ (symbol Symbol.Colon ∷ [])) (symbol Symbol.Star ∷ declared) kind.Nest
   -- 32 suffixes of a type, and one more
   pub array : IsRead (suffixed 32 ++ (name 2 ∷ declared))
-  pub array_more : IsRefusedBehind (suffixed 32) (symbol Symbol.OpenBracket ∷ symbol Symbol.CloseBracket ∷ name 2 ∷ declared) kind.Nest
+  pub too_long_array : IsRefusedAfter (suffixed 32) (symbol Symbol.OpenBracket ∷ symbol Symbol.CloseBracket ∷ name 2 ∷ declared) kind.Nest
