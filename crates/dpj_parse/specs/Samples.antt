@@ -77,9 +77,25 @@ opens n = repeat n (symbol Symbol.OpenParen ∷ [])
 abbrev pub closes : ℕ → List Terminal
 closes n = repeat n (symbol Symbol.CloseParen ∷ [])
 
+-- + 1 + 1 ..
+abbrev pub added : ℕ → List Terminal
+added n = repeat n (symbol Symbol.Plus ∷ digit ∷ [])
+
 -- 1 + 1 + ..
 abbrev pub sum_of : ℕ → List Terminal
-sum_of n = digit ∷ repeat n (symbol Symbol.Plus ∷ digit ∷ [])
+sum_of n = digit ∷ added n
+
+-- 17 operators, parentheses with 32, and some more
+abbrev pub with_inner_sum : ℕ → List Terminal
+with_inner_sum n = sum_of 16 ++ (symbol Symbol.Plus ∷ symbol Symbol.OpenParen ∷ sum_of 32 ++ (symbol Symbol.CloseParen ∷ added n))
+
+-- n [ n [ ..
+abbrev pub indexed : ℕ → List Terminal
+indexed n = repeat n (name 2 ∷ symbol Symbol.OpenBracket ∷ [])
+
+-- ] ] ..
+abbrev pub brackets : ℕ → List Terminal
+brackets n = repeat n (symbol Symbol.CloseBracket ∷ [])
 
 -- - - ..
 abbrev pub signs : ℕ → List Terminal
@@ -88,6 +104,10 @@ signs n = repeat n (symbol Symbol.Minus ∷ [])
 -- n . n . ..
 abbrev pub dotted_names : ℕ → List Terminal
 dotted_names n = name 2 ∷ repeat n (symbol Symbol.Dot ∷ name 2 ∷ [])
+
+-- { }
+abbrev pub empty_block : List Terminal
+empty_block = symbol Symbol.OpenBrace ∷ symbol Symbol.CloseBrace ∷ []
 
 -- if ( true )
 abbrev pub tested : List Terminal
@@ -121,14 +141,20 @@ pub record Samples : Type 0 where
   -- 30 parentheses within the two brackets of the class and the method, and one more, whose number is too deep
   pub deep : IsRead (returning ++ (opens 30 ++ (digit ∷ closes 30 ++ closed)))
   pub too_deep : IsRefusedAfter (returning ++ opens 31) (digit ∷ closes 31 ++ closed) kind.Nest
+  -- likewise with 30 brackets
+  pub indices : IsRead (returning ++ (indexed 30 ++ (digit ∷ brackets 30 ++ closed)))
+  pub too_deep_index : IsRefusedAfter (returning ++ indexed 31) (digit ∷ brackets 31 ++ closed) kind.Nest
+  -- braces that are closed don't count
+  pub blocks_in_order : IsRead (opened ++ (repeat 40 empty_block ++ (word Keyword.Return ∷ digit ∷ closed)))
   -- 30 bodies without braces, and one more, whose condition is too deep; 40 in order
   pub bare : IsRead (opened ++ (repeat 30 tested ++ (word Keyword.Return ∷ digit ∷ closed)))
   pub too_bare : IsRefusedAfter (opened ++ (repeat 30 tested ++ (word Keyword.If ∷ symbol Symbol.OpenParen ∷ []))) (word Keyword.True ∷ symbol Symbol.CloseParen ∷ word Keyword.Return ∷ digit ∷ closed) kind.Nest
   pub bare_in_order : IsRead (opened ++ (repeat 40 (tested ++ returned) ++ (word Keyword.Return ∷ digit ∷ closed)))
-  -- 32 operators, and one more; in front of the last, as many within parentheses count for themselves
+  -- 32 operators, and one more; those within parentheses count for themselves
   pub joined : IsRead (returning ++ (sum_of 32 ++ closed))
   pub too_joined : IsRefusedAfter (returning ++ sum_of 32) (symbol Symbol.Plus ∷ digit ∷ closed) kind.Nest
-  pub inner : IsRead (returning ++ (symbol Symbol.OpenParen ∷ sum_of 32 ++ (symbol Symbol.CloseParen ∷ repeat 32 (symbol Symbol.Plus ∷ digit ∷ []) ++ closed)))
+  pub inner : IsRead (returning ++ (with_inner_sum 15 ++ closed))
+  pub too_joined_outside : IsRefusedAfter (returning ++ with_inner_sum 15) (symbol Symbol.Plus ∷ digit ∷ closed) kind.Nest
   -- 32 signs in front of a number, and one more
   pub signed : IsRead (returning ++ (signs 32 ++ (digit ∷ closed)))
   pub too_signed : IsRefusedAfter (returning ++ signs 32) (symbol Symbol.Minus ∷ digit ∷ closed) kind.Nest
