@@ -9,7 +9,7 @@ use Rattle.dpj_terminals.specs.declared.terminal.Terminal.{Terminal}
 use Rattle.dpj_parse.specs.Expecting.{part}
 use Rattle.dpj_parse.specs.Expecting.{Part as p}
 use Rattle.dpj_parse.specs.Refusing.{at_start, IsWithin, IsRefusedIn}
-use Rattle.dpj_parse.specs.Samples.{line, line_from, start_after, IsRead, IsRefusedAfter, Samples}
+use Rattle.dpj_parse.specs.Samples.{line, line_from, start_after, IsRead, IsRefusedAfter, IsMost, Samples}
 use Rattle.dpj_parse.proofs.MeantPaths.{nowhere}
 use Rattle.dpj_parse.proofs.Refused.{refused_once, not_refused, read_derives}
 use Rattle.dpj_parse.proofs.Runs.{read, stopped, run, within_by, stops_by}
@@ -29,6 +29,10 @@ is_refused front back why e =
       not_read = not_refused list nowhere _ (refused nowhere);
     }
 
+is_most : (front next ending : List Terminal) → run 1000 at_start (part p.program ∷ []) (line (front ++ ending)) ≡ read at_start [] →
+    run 1000 at_start (part p.program ∷ []) (line (front ++ (next ++ ending))) ≡ stopped kind.Nest (line_from (suc (length front)) (next ++ ending)) → IsMost front next ending
+is_most front next ending e f = record { read = is_read (front ++ ending) e; refused = is_refused front (next ++ ending) kind.Nest f }
+
 pub samples : Samples
 samples = record {
   whole = is_read _ refl;
@@ -36,22 +40,23 @@ samples = record {
   cut_off = is_refused _ _ _ refl;
   deep = is_read _ refl;
   too_deep = is_refused _ _ _ refl;
-  indices = is_read _ refl;
+  deep_index = is_read _ refl;
   too_deep_index = is_refused _ _ _ refl;
-  blocks_in_order = is_read _ refl;
   bare = is_read _ refl;
   too_bare = is_refused _ _ _ refl;
-  bare_in_order = is_read _ refl;
-  joined = is_read _ refl;
-  too_joined = is_refused _ _ _ refl;
-  inner = is_read _ refl;
-  too_joined_outside = is_refused _ _ _ refl;
-  signed = is_read _ refl;
-  too_signed = is_refused _ _ _ refl;
-  dotted = is_read _ refl;
-  too_dotted = is_refused _ _ _ refl;
+  otherwise = is_read _ refl;
+  too_often_otherwise = is_refused _ _ _ refl;
+  blocks_in_order = is_read _ refl;
+  bodies_in_order = is_read _ refl;
+  operators = is_most _ _ _ refl refl;
+  inner_operators = is_most _ _ _ refl refl;
+  signs = is_most _ _ _ refl refl;
+  dots = is_most _ _ _ refl refl;
+  elements = is_most _ _ _ refl refl;
+  assigned_field = is_most _ _ _ refl refl;
+  assigned_element = is_most _ _ _ refl refl;
+  field_type = is_most _ _ _ refl refl;
+  local_type = is_most _ _ _ refl refl;
   path = is_read _ refl;
   too_long_path = is_refused _ _ _ refl;
-  array = is_read _ refl;
-  too_long_array = is_refused _ _ _ refl;
 }

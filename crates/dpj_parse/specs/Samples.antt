@@ -40,6 +40,11 @@ pub record IsRefusedAfter (front back : List Terminal) (why : Kind) : Type 0 whe
   pub once : (end : Place) (refusal : Refusal) → IsRefusedIn (line (front ++ back)) end refusal → refusal ≡ record { kind = why; place = start_after front back end }
   pub not_read : IsWithin (line (front ++ back)) → ⊥
 
+-- 32 of what is counted stand in the first part of a text, and a further one is one too many
+pub record IsMost (front next ending : List Terminal) : Type 0 where
+  pub read : IsRead (front ++ ending)
+  pub refused : IsRefusedAfter front (next ++ ending) kind.Nest
+
 abbrev pub repeat : ℕ → List Terminal → List Terminal
 repeat zero part = []
 repeat (suc n) part = part ++ repeat n part
@@ -57,17 +62,25 @@ name n = terminal.Name n
 abbrev pub digit : Terminal
 digit = terminal.Int (pos 1)
 
+-- class Main { int
+abbrev pub declaring : List Terminal
+declaring = word Keyword.Class ∷ name 0 ∷ symbol Symbol.OpenBrace ∷ word Keyword.Int ∷ []
+
 -- class Main { int main ( int n ) {
 abbrev pub opened : List Terminal
-opened = word Keyword.Class ∷ name 0 ∷ symbol Symbol.OpenBrace ∷ word Keyword.Int ∷ name 1 ∷ symbol Symbol.OpenParen ∷ word Keyword.Int ∷ name 2 ∷ symbol Symbol.CloseParen ∷ symbol Symbol.OpenBrace ∷ []
+opened = declaring ++ (name 1 ∷ symbol Symbol.OpenParen ∷ word Keyword.Int ∷ name 2 ∷ symbol Symbol.CloseParen ∷ symbol Symbol.OpenBrace ∷ [])
+
+-- return, in the method
+abbrev pub returning : List Terminal
+returning = opened ++ (word Keyword.Return ∷ [])
 
 -- ; } }
 abbrev pub closed : List Terminal
 closed = symbol Symbol.Semicolon ∷ symbol Symbol.CloseBrace ∷ symbol Symbol.CloseBrace ∷ []
 
--- return, in the method
-abbrev pub returning : List Terminal
-returning = opened ++ (word Keyword.Return ∷ [])
+-- return 1 ; } }
+abbrev pub ending : List Terminal
+ending = word Keyword.Return ∷ digit ∷ closed
 
 -- ( ( ..
 abbrev pub opens : ℕ → List Terminal
@@ -77,18 +90,6 @@ opens n = repeat n (symbol Symbol.OpenParen ∷ [])
 abbrev pub closes : ℕ → List Terminal
 closes n = repeat n (symbol Symbol.CloseParen ∷ [])
 
--- + 1 + 1 ..
-abbrev pub added : ℕ → List Terminal
-added n = repeat n (symbol Symbol.Plus ∷ digit ∷ [])
-
--- 1 + 1 + ..
-abbrev pub sum_of : ℕ → List Terminal
-sum_of n = digit ∷ added n
-
--- 17 operators, parentheses with 32, and some more
-abbrev pub with_inner_sum : ℕ → List Terminal
-with_inner_sum n = sum_of 16 ++ (symbol Symbol.Plus ∷ symbol Symbol.OpenParen ∷ sum_of 32 ++ (symbol Symbol.CloseParen ∷ added n))
-
 -- n [ n [ ..
 abbrev pub indexed : ℕ → List Terminal
 indexed n = repeat n (name 2 ∷ symbol Symbol.OpenBracket ∷ [])
@@ -97,73 +98,98 @@ indexed n = repeat n (name 2 ∷ symbol Symbol.OpenBracket ∷ [])
 abbrev pub brackets : ℕ → List Terminal
 brackets n = repeat n (symbol Symbol.CloseBracket ∷ [])
 
--- - - ..
-abbrev pub signs : ℕ → List Terminal
-signs n = repeat n (symbol Symbol.Minus ∷ [])
-
--- n . n . ..
-abbrev pub dotted_names : ℕ → List Terminal
-dotted_names n = name 2 ∷ repeat n (symbol Symbol.Dot ∷ name 2 ∷ [])
-
 -- { }
 abbrev pub empty_block : List Terminal
 empty_block = symbol Symbol.OpenBrace ∷ symbol Symbol.CloseBrace ∷ []
 
--- if ( true )
+-- if (
+abbrev pub testing : List Terminal
+testing = word Keyword.If ∷ symbol Symbol.OpenParen ∷ []
+
+-- true )
 abbrev pub tested : List Terminal
-tested = word Keyword.If ∷ symbol Symbol.OpenParen ∷ word Keyword.True ∷ symbol Symbol.CloseParen ∷ []
+tested = word Keyword.True ∷ symbol Symbol.CloseParen ∷ []
+
+-- if ( true )
+abbrev pub if_true : List Terminal
+if_true = testing ++ tested
 
 -- return 1 ;
 abbrev pub returned : List Terminal
 returned = word Keyword.Return ∷ digit ∷ symbol Symbol.Semicolon ∷ []
 
--- class Main { int
-abbrev pub declaring : List Terminal
-declaring = word Keyword.Class ∷ name 0 ∷ symbol Symbol.OpenBrace ∷ word Keyword.Int ∷ []
+-- if ( true ) return 1 ; else
+abbrev pub or_else : List Terminal
+or_else = if_true ++ (returned ++ (word Keyword.Else ∷ []))
 
--- ; }
-abbrev pub declared : List Terminal
-declared = symbol Symbol.Semicolon ∷ symbol Symbol.CloseBrace ∷ []
+-- + 1
+abbrev pub plus_one : List Terminal
+plus_one = symbol Symbol.Plus ∷ digit ∷ []
+
+-- 1 + 1 + ..
+abbrev pub sum_of : ℕ → List Terminal
+sum_of n = digit ∷ repeat n plus_one
+
+-- 1 + 1 + .. + ( 1 + 1 + .. ) + 1 + .., with 17 operators in front and 15 after
+abbrev pub with_inner : List Terminal
+with_inner = sum_of 16 ++ (symbol Symbol.Plus ∷ symbol Symbol.OpenParen ∷ sum_of 32 ++ (symbol Symbol.CloseParen ∷ repeat 15 plus_one))
+
+-- . n
+abbrev pub dot_name : List Terminal
+dot_name = symbol Symbol.Dot ∷ name 2 ∷ []
+
+-- [ 1 ]
+abbrev pub element : List Terminal
+element = symbol Symbol.OpenBracket ∷ digit ∷ symbol Symbol.CloseBracket ∷ []
+
+-- [ ]
+abbrev pub suffix : List Terminal
+suffix = symbol Symbol.OpenBracket ∷ symbol Symbol.CloseBracket ∷ []
+
+-- = 1 ;
+abbrev pub assigned : List Terminal
+assigned = symbol Symbol.Assign ∷ digit ∷ symbol Symbol.Semicolon ∷ []
 
 -- class Main { int n in Root : * : * ..
 abbrev pub placed : ℕ → List Terminal
 placed n = declaring ++ (name 2 ∷ word Keyword.In ∷ word Keyword.Root ∷ repeat n (symbol Symbol.Colon ∷ symbol Symbol.Star ∷ []))
 
--- class Main { int [ ] [ ] ..
-abbrev pub suffixed : ℕ → List Terminal
-suffixed n = declaring ++ repeat n (symbol Symbol.OpenBracket ∷ symbol Symbol.CloseBracket ∷ [])
+-- ; }
+abbrev pub declared : List Terminal
+declared = symbol Symbol.Semicolon ∷ symbol Symbol.CloseBrace ∷ []
 
 pub record Samples : Type 0 where
   -- return ( 1 ) ; whole, without its ) and cut off
   pub whole : IsRead (returning ++ (symbol Symbol.OpenParen ∷ digit ∷ symbol Symbol.CloseParen ∷ closed))
   pub unclosed : IsRefusedAfter (returning ++ (symbol Symbol.OpenParen ∷ digit ∷ [])) closed kind.Syntax
   pub cut_off : IsRefusedAfter (returning ++ (symbol Symbol.OpenParen ∷ digit ∷ [])) [] kind.Syntax
-  -- 30 parentheses within the two brackets of the class and the method, and one more, whose number is too deep
+  -- 30 parentheses within the two braces, and one more, whose number is too deep
   pub deep : IsRead (returning ++ (opens 30 ++ (digit ∷ closes 30 ++ closed)))
   pub too_deep : IsRefusedAfter (returning ++ opens 31) (digit ∷ closes 31 ++ closed) kind.Nest
-  -- likewise with 30 brackets
-  pub indices : IsRead (returning ++ (indexed 30 ++ (digit ∷ brackets 30 ++ closed)))
+  -- likewise with brackets
+  pub deep_index : IsRead (returning ++ (indexed 30 ++ (digit ∷ brackets 30 ++ closed)))
   pub too_deep_index : IsRefusedAfter (returning ++ indexed 31) (digit ∷ brackets 31 ++ closed) kind.Nest
-  -- braces that are closed don't count
-  pub blocks_in_order : IsRead (opened ++ (repeat 40 empty_block ++ (word Keyword.Return ∷ digit ∷ closed)))
-  -- 30 bodies without braces, and one more, whose condition is too deep; 40 in order
-  pub bare : IsRead (opened ++ (repeat 30 tested ++ (word Keyword.Return ∷ digit ∷ closed)))
-  pub too_bare : IsRefusedAfter (opened ++ (repeat 30 tested ++ (word Keyword.If ∷ symbol Symbol.OpenParen ∷ []))) (word Keyword.True ∷ symbol Symbol.CloseParen ∷ word Keyword.Return ∷ digit ∷ closed) kind.Nest
-  pub bare_in_order : IsRead (opened ++ (repeat 40 (tested ++ returned) ++ (word Keyword.Return ∷ digit ∷ closed)))
-  -- 32 operators, and one more; those within parentheses count for themselves
-  pub joined : IsRead (returning ++ (sum_of 32 ++ closed))
-  pub too_joined : IsRefusedAfter (returning ++ sum_of 32) (symbol Symbol.Plus ∷ digit ∷ closed) kind.Nest
-  pub inner : IsRead (returning ++ (with_inner_sum 15 ++ closed))
-  pub too_joined_outside : IsRefusedAfter (returning ++ with_inner_sum 15) (symbol Symbol.Plus ∷ digit ∷ closed) kind.Nest
-  -- 32 signs in front of a number, and one more
-  pub signed : IsRead (returning ++ (signs 32 ++ (digit ∷ closed)))
-  pub too_signed : IsRefusedAfter (returning ++ signs 32) (symbol Symbol.Minus ∷ digit ∷ closed) kind.Nest
-  -- 32 dots, and one more
-  pub dotted : IsRead (returning ++ (dotted_names 32 ++ closed))
-  pub too_dotted : IsRefusedAfter (returning ++ dotted_names 32) (symbol Symbol.Dot ∷ name 2 ∷ closed) kind.Nest
+  -- 30 bodies without braces, and one more, whose condition is too deep
+  pub bare : IsRead (opened ++ (repeat 30 if_true ++ ending))
+  pub too_bare : IsRefusedAfter (opened ++ (repeat 30 if_true ++ testing)) (tested ++ ending) kind.Nest
+  -- likewise where each follows an else
+  pub otherwise : IsRead (opened ++ (repeat 30 or_else ++ ending))
+  pub too_often_otherwise : IsRefusedAfter (opened ++ (repeat 30 or_else ++ testing)) (tested ++ ending) kind.Nest
+  -- blocks and bodies that have ended don't count
+  pub blocks_in_order : IsRead (opened ++ (repeat 40 empty_block ++ ending))
+  pub bodies_in_order : IsRead (opened ++ (repeat 40 (if_true ++ returned) ++ ending))
+  -- operators: those within parentheses count for themselves
+  pub operators : IsMost (returning ++ sum_of 32) plus_one closed
+  pub inner_operators : IsMost (returning ++ with_inner) plus_one closed
+  pub signs : IsMost (returning ++ repeat 32 (symbol Symbol.Minus ∷ [])) (symbol Symbol.Minus ∷ []) (digit ∷ closed)
+  -- dots and brackets, also of what is assigned to
+  pub dots : IsMost (returning ++ (name 2 ∷ repeat 32 dot_name)) dot_name closed
+  pub elements : IsMost (returning ++ (name 2 ∷ repeat 32 element)) element closed
+  pub assigned_field : IsMost (opened ++ (name 2 ∷ repeat 32 dot_name)) dot_name (assigned ++ ending)
+  pub assigned_element : IsMost (opened ++ (name 2 ∷ repeat 32 element)) element (assigned ++ ending)
+  -- suffixes of a field's type and of a local's
+  pub field_type : IsMost (declaring ++ repeat 32 suffix) suffix (name 2 ∷ declared)
+  pub local_type : IsMost (opened ++ (name 0 ∷ repeat 32 suffix)) suffix (name 3 ∷ assigned ++ ending)
   -- 32 elements of a region path, and one more
   pub path : IsRead (placed 32 ++ declared)
   pub too_long_path : IsRefusedAfter (placed 32 ++ (symbol Symbol.Colon ∷ [])) (symbol Symbol.Star ∷ declared) kind.Nest
-  -- 32 suffixes of a type, and one more
-  pub array : IsRead (suffixed 32 ++ (name 2 ∷ declared))
-  pub too_long_array : IsRefusedAfter (suffixed 32) (symbol Symbol.OpenBracket ∷ symbol Symbol.CloseBracket ∷ name 2 ∷ declared) kind.Nest
