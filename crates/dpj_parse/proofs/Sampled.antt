@@ -56,6 +56,9 @@ samples = record {
   assigned_element = is_most _ _ _ refl refl;
   field_type = is_most _ _ _ refl refl;
   local_type = is_most _ _ _ refl refl;
-  path = is_read _ refl;
+  type_of_path = is_most _ _ _ refl refl;
+  array = is_read _ refl;
+  too_long_array = is_refused _ _ _ refl;
+  long_path = is_read _ refl;
   too_long_path = is_refused _ _ _ refl;
 }

@@ -150,9 +150,17 @@ suffix = symbol Symbol.OpenBracket ∷ symbol Symbol.CloseBracket ∷ []
 abbrev pub assigned : List Terminal
 assigned = symbol Symbol.Assign ∷ digit ∷ symbol Symbol.Semicolon ∷ []
 
+-- new int [ ] [ ] ..
+abbrev pub created : ℕ → List Terminal
+created n = word Keyword.New ∷ word Keyword.Int ∷ repeat n suffix
+
+-- Root : * : * ..
+abbrev pub path : ℕ → List Terminal
+path n = word Keyword.Root ∷ repeat n (symbol Symbol.Colon ∷ symbol Symbol.Star ∷ [])
+
 -- class Main { int n in Root : * : * ..
 abbrev pub placed : ℕ → List Terminal
-placed n = declaring ++ (name 2 ∷ word Keyword.In ∷ word Keyword.Root ∷ repeat n (symbol Symbol.Colon ∷ symbol Symbol.Star ∷ []))
+placed n = declaring ++ (name 2 ∷ word Keyword.In ∷ path n)
 
 -- ; }
 abbrev pub declared : List Terminal
@@ -190,6 +198,11 @@ pub record Samples : Type 0 where
   -- suffixes of a field's type and of a local's
   pub field_type : IsMost (declaring ++ repeat 32 suffix) suffix (name 2 ∷ declared)
   pub local_type : IsMost (opened ++ (name 0 ∷ repeat 32 suffix)) suffix (name 3 ∷ assigned ++ ending)
+  -- and after a region argument, whose elements count for themselves
+  pub type_of_path : IsMost (opened ++ (name 0 ∷ symbol Symbol.Less ∷ path 32 ++ (symbol Symbol.Greater ∷ repeat 32 suffix))) suffix (name 3 ∷ assigned ++ ending)
+  -- 32 brackets of an array that is created, and one more
+  pub array : IsRead (returning ++ (created 31 ++ (element ++ closed)))
+  pub too_long_array : IsRefusedAfter (returning ++ created 32) (element ++ closed) kind.Nest
   -- 32 elements of a region path, and one more
-  pub path : IsRead (placed 32 ++ declared)
+  pub long_path : IsRead (placed 32 ++ declared)
   pub too_long_path : IsRefusedAfter (placed 32 ++ (symbol Symbol.Colon ∷ [])) (symbol Symbol.Star ∷ declared) kind.Nest
