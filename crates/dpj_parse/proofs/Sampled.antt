@@ -11,14 +11,18 @@ use Rattle.dpj_parse.specs.Refusing.{at_start, IsWithin, IsRefusedIn}
 use Rattle.dpj_parse.specs.Samples.{line, line_from, start_after, IsRead, IsRefusedAfter, IsMost, Samples}
 use Rattle.dpj_parse.proofs.MeantPaths.{nowhere}
 use Rattle.dpj_parse.proofs.Refused.{refused_once, not_refused, read_derives}
-use Rattle.dpj_parse.proofs.Runs.{read, stopped, run, within_by, stops_by}
+use Rattle.dpj_parse.proofs.Runs.{Run, read, stopped, run, within_by, stops_by}
 
-is_read : (text : List Terminal) → run 1000 at_start (part p.program ∷ []) (line text) ≡ read at_start [] → IsRead text
+-- a text, from its start
+abbrev run_text : List Terminal → Run
+run_text text = run 1000 at_start (part p.program ∷ []) (line text)
+
+is_read : (text : List Terminal) → run_text text ≡ read at_start [] → IsRead text
 is_read text e =
     let all : IsWithin (line text) = (at_start, within_by 1000 e) in
     record { within = all; derives = read_derives all }
 
-is_refused : (front back : List Terminal) (why : Kind) → run 1000 at_start (part p.program ∷ []) (line (front ++ back)) ≡ stopped why (line_from (suc (length front)) back) → IsRefusedAfter front back why
+is_refused : (front back : List Terminal) (why : Kind) → run_text (front ++ back) ≡ stopped why (line_from (suc (length front)) back) → IsRefusedAfter front back why
 is_refused front back why e =
     let list : List Placed = line (front ++ back) in
     let refused : (end : Place) → IsRefusedIn list end (record { kind = why; place = start_after front back end }) = λ end. record { here = line_from (suc (length front)) back; stops = stops_by 1000 e; place = refl } in
@@ -28,8 +32,7 @@ is_refused front back why e =
       not_read = not_refused list nowhere _ (refused nowhere);
     }
 
-is_most : (front next ending : List Terminal) → run 1000 at_start (part p.program ∷ []) (line (front ++ ending)) ≡ read at_start [] →
-    run 1000 at_start (part p.program ∷ []) (line (front ++ (next ++ ending))) ≡ stopped kind.Nest (line_from (suc (length front)) (next ++ ending)) → IsMost front next ending
+is_most : (front next ending : List Terminal) → run_text (front ++ ending) ≡ read at_start [] → run_text (front ++ (next ++ ending)) ≡ stopped kind.Nest (line_from (suc (length front)) (next ++ ending)) → IsMost front next ending
 is_most front next ending e f = record { read = is_read (front ++ ending) e; refused = is_refused front (next ++ ending) kind.Nest f }
 
 pub samples : Samples

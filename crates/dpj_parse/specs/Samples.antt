@@ -40,7 +40,7 @@ pub record IsRefusedAfter (front back : List Terminal) (why : Kind) : Type 0 whe
   pub once : (end : Place) (refusal : Refusal) → IsRefusedIn (line (front ++ back)) end refusal → refusal ≡ record { kind = why; place = start_after front back end }
   pub not_read : IsWithin (line (front ++ back)) → ⊥
 
--- 32 of what is counted stand in the first part of a text, and a further one is one too many
+-- the first terminals are read with the last ones, but refused at the next ones, which are one thing more
 pub record IsMost (front next ending : List Terminal) : Type 0 where
   pub read : IsRead (front ++ ending)
   pub refused : IsRefusedAfter front (next ++ ending) kind.Nest
