@@ -70,6 +70,10 @@ not_name (terminal.Keyword k) none = refl
 pub name_may : (here : List Placed) {n : ℕ} → Next (terminal.Name n) here → MayCome is_name here
 name_may here {n} t next after is = let same : next.terminal ≡ terminal.Name n = let f = t.takes.takes.first in cc in rw same refl
 
+pub no_name_comes : (here : List Placed) → ((n : ℕ) → Next (terminal.Name n) here → ⊥) → next_is is_name (next_of here) ≡ false
+no_name_comes [] none = refl
+no_name_comes (next ∷ after) none = not_name next.terminal (λ n e. none n (comes_next e))
+
 pub no_name : (c : Counts) (here : List Placed) (end place : Place) → ((n : ℕ) → Next (terminal.Name n) here → ⊥) → place ≡ place_of here end →
     Refuses c (one is_name ∷ []) here end (record { kind = kind.Syntax; place = place })
 no_name c [] end place none is = lost_here c refl is

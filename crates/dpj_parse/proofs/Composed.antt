@@ -19,7 +19,7 @@ pub stops_after : {c d : Counts} {x : Expected} {ys : List Expected} {before bet
 stops_after (begins chosen within nothing) s = after_part chosen within s
 stops_after (passes test fits nothing) s = after_terminal test fits s
 
-stops_first : {c : Counts} {x : Expected} (ys : List Expected) {before here : List Placed} {k : Kind} → Stops c (x ∷ []) before k here → Stops c (x ∷ ys) before k here
+pub stops_first : {c : Counts} {x : Expected} (ys : List Expected) {before here : List Placed} {k : Kind} → Stops c (x ∷ []) before k here → Stops c (x ∷ ys) before k here
 stops_first ys (no_part none) = no_part none
 stops_first ys (no_terminal none) = no_terminal none
 stops_first ys (too_many test over) = too_many test over

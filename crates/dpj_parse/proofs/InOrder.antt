@@ -52,7 +52,7 @@ stops_after_list nothing s = s
 stops_after_list (begins chosen inner w) s = Stops.after_part chosen inner (stops_after_list w s)
 stops_after_list (passes is fits w) s = Stops.after_terminal is fits (stops_after_list w s)
 
-stops_in_list : {c : Counts} {xs : List Expected} (ys : List Expected) {a here : List Placed} {k : Kind} → Stops c xs a k here → Stops c (xs ++ ys) a k here
+pub stops_in_list : {c : Counts} {xs : List Expected} (ys : List Expected) {a here : List Placed} {k : Kind} → Stops c xs a k here → Stops c (xs ++ ys) a k here
 stops_in_list ys (Stops.no_part none) = Stops.no_part none
 stops_in_list ys (Stops.no_terminal none) = Stops.no_terminal none
 stops_in_list ys (Stops.too_many is over) = Stops.too_many is over

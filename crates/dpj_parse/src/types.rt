@@ -1,8 +1,9 @@
 ghost use Rattle.std.specs.Prelude.{◌≡◌, ◌≤◌, IfOk, OnOk, IfErr, [], ◌∷◌};
 ghost use Rattle.dpj_parse.specs.Counted.{Reading, StopsAt};
-ghost use Rattle.dpj_parse.specs.Expecting.{Part, part};
+ghost use Rattle.dpj_parse.specs.Expecting.{Part, one, part};
 ghost use Rattle.dpj_parse.specs.Progress.{Keeps, Reads};
 ghost use Rattle.dpj_parse.specs.Taking.{Many};
+ghost use Rattle.dpj_parse.specs.Words.{is_name};
 ghost use Rattle.dpj_parse.specs.Types.{DerivesBase, DerivesBehind, DerivesIndex, DerivesRegion, DerivesSuffix, DerivesType};
 
 use crate::cursor::Cursor;
@@ -122,4 +123,24 @@ fn index_if(cursor: &mut Cursor) -> Result<Option<Named>, Stop>
         return Ok(None);
     }
     Ok(Some(cursor.name()?))
+}
+
+/// A type that begins with a name, within a member that might have been a constructor up to there: its suffixes are counted on.
+#[tactic(auto, using(crate::proofs::MemberParts::read_three, crate::proofs::Composed::refused_first, crate::proofs::MemberParts::refused_second, crate::proofs::MemberParts::refused_third, crate::proofs::MemberParts::few_still))]
+pub fn named_type(alloc: Global, cursor: &mut Cursor) -> Result<TypeTree, Stop>
+    ensures moves { OnOk result (Reads cursor.old cursor.new) }
+    ensures reads { OnOk result (Reading (one is_name ∷ part Part.args_if ∷ part Part.suffixes ∷ []) cursor.old cursor.new) }
+    ensures stops { IfErr result (λ stop. StopsAt (one is_name ∷ part Part.args_if ∷ part Part.suffixes ∷ []) cursor.old stop) }
+    ensures derives { IfOk result (λ tree. DerivesType cursor.old.rest.now cursor.new.rest.now tree) }
+{
+    let place = cursor.place();
+    let name = cursor.name()?;
+    let args = args_if(alloc, cursor)?;
+    let suffixes = suffixes(alloc, cursor)?;
+    let base = BaseTree::Class { name, args };
+    Ok(TypeTree {
+        place,
+        base,
+        suffixes,
+    })
 }
