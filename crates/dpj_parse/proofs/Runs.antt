@@ -21,19 +21,19 @@ Reader = Counts → List Expected → List Placed → Run
 abbrev fits : Counts → Bool
 fits c = nat_le c.level 32 && nat_le c.joined 32
 
--- one terminal, that passes its test or not and fits or not, and what is expected behind it
+-- one terminal, that passes its test or not and fits or not, and what is expected after it
 abbrev run_one : Reader → Counts → List Expected → Placed → List Placed → Bool → Bool → Run
 run_one go c others next after false room = stopped kind.Syntax (next ∷ after)
 run_one go c others next after true false = stopped kind.Nest (next ∷ after)
 run_one go c others next after true true = go (past next.terminal c) others after
 
--- what is expected behind a part
+-- what is expected after a part
 abbrev run_others : Reader → Part → Counts → List Expected → Run → Run
 run_others go n c others (read d between) = go (outside n c d) others between
 run_others go n c others (stopped k here) = stopped k here
 run_others go n c others unknown = unknown
 
--- one part, and what is expected behind it
+-- one part, and what is expected after it
 abbrev run_part : Reader → Part → Counts → List Expected → List Placed → Option (List Expected) → Run
 run_part go n c others before None = stopped kind.Syntax before
 run_part go n c others before (Some xs) = run_others go n c others (go (inside n (next_of before) c) xs before)
