@@ -62,3 +62,5 @@ pub mod Viability
 pub mod Settled
 pub mod Decided
 pub mod Refused
+pub mod Runs
+pub mod Sampled

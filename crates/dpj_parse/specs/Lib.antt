@@ -20,3 +20,4 @@ pub mod Members
 pub mod ExpectedText
 pub mod Refusing
 pub mod OneRefusal
+pub mod Samples

@@ -23,5 +23,5 @@ mod region;
 mod stmts;
 mod types;
 
-pub use laws::{expected_text, one_fault, one_program, one_refusal, one_tree};
+pub use laws::{expected_text, law_samples, one_fault, one_program, one_refusal, one_tree};
 pub use program::parse;
