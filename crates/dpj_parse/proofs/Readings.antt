@@ -93,7 +93,6 @@ fits_or_over c = elim (leb_tells c.level 32) [
   | inr l ↦ inr (λ fits. let h = fits.level in let k = l.1 in omega (arith, k, h))
 ]
 
-
 -- how many steps
 abbrev steps_of : {to : List Expected} {left : List Placed} {xs : List Expected} {before : List Placed} → Steps to left xs before → ℕ
 steps_of stay = 0

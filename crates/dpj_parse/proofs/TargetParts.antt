@@ -1,5 +1,5 @@
 -- Selections behind which a statement ends.
-use Rattle.std.proofs.Common.{◌≡◌, ◌≤◌, ◌<◌, ◌⊎◌, ◌∙◌, arith, length, List, [], ◌∷◌, ◌++◌, ℕ, Bool, true, false, cond, ◌||◌, Option, Some, None, inl, inr, refl, sym, ap, subst}
+use Rattle.std.proofs.Common.{◌≡◌, ◌<◌, ◌∙◌, arith, length, List, [], ◌∷◌, ◌++◌, ℕ, Bool, true, false, ◌||◌, Option, Some, None, inl, inr, refl, sym, ap, subst}
 use Rattle.dpj_base.specs.Refused.{IfRefused}
 use Rattle.dpj_base.specs.declared.place.Place.{Place}
 use Rattle.dpj_base.specs.declared.refusal.Kind.{Kind}
@@ -15,17 +15,16 @@ use Rattle.dpj_tree.specs.Plain.{PlainExpr, PlainExprs, expression, create}
 use Rattle.dpj_parse.specs.Paths.{DerivesArgs, no_args, args}
 use Rattle.dpj_parse.specs.Reading.{DerivesSelection, behind_dot, called, indexed, ending_of}
 use Rattle.dpj_parse.specs.Words.{is_any, is_assign, is_close_bracket, is_dot, is_less, is_name, is_new, is_open_bracket, is_open_paren, sign}
-use Rattle.dpj_parse.specs.Taking.{Takes, Next, TakesNext}
+use Rattle.dpj_parse.specs.Taking.{Takes, Next}
 use Rattle.dpj_parse.specs.Expressions.{DerivesActuals, DerivesPrimary, Ending, as_value, as_name, as_field, as_element, as_call, as_creation}
 use Rattle.dpj_parse.specs.Expecting.{Part, Expected, one, part, choose, next_is, next_of, selection_parts, ending_parts, performed_parts}
-use Rattle.dpj_parse.specs.Limits.{Counts, Fits, inside, outside, past, more, more_if, Within, begins, passes, nothing, Stops, no_part, no_terminal, too_many, in_part, after_part, after_terminal, Refuses}
+use Rattle.dpj_parse.specs.Limits.{Counts, inside, outside, past, more, more_if, Within, begins, passes, nothing, Stops, no_part, no_terminal, too_many, in_part, after_part, after_terminal, Refuses}
 use Rattle.dpj_parse.specs.Onward.{Onward}
 use Rattle.dpj_parse.specs.Targets.{IsTarget, Leads, begins_declaration, follows_a_type, stmt_begins}
 use Rattle.dpj_parse.proofs.Composed.{stops_first, on_refused}
 use Rattle.dpj_parse.proofs.Readings.{no_longer}
-use Rattle.dpj_parse.proofs.Coming.{comes_next, next_comes, symbol_comes_not, keyword_comes_not}
+use Rattle.dpj_parse.proofs.Coming.{comes_next, symbol_comes_not, keyword_comes_not}
 use Rattle.dpj_parse.proofs.Onwards.{over, step, steps, enter, refused_on, extend_stops, part_inside, part_stops, skip}
-use Rattle.dpj_parse.proofs.OperatorParts.{joined_reads}
 use Rattle.dpj_parse.proofs.Tested.{sign_or_not}
 
 -- a `[` or a `.` comes where its test says so
@@ -62,11 +61,11 @@ then_enter ending {here = here} on = record {
 }
 
 -- a selection stops alike, whether more stands behind it or a statement ends there
-if_behind : {c : Counts} {test : Terminal → Bool} {xs ys : List Expected} {before here : List Placed} {k : Kind} →
+if_after : {c : Counts} {test : Terminal → Bool} {xs ys : List Expected} {before here : List Placed} {k : Kind} →
     ((d : Counts) (at : List Placed) → Stops d xs at k here → Stops d ys at k here) → Stops c (one test ∷ xs) before k here → Stops c (one test ∷ ys) before k here
-if_behind same (no_terminal none) = no_terminal none
-if_behind same (too_many test over_most) = too_many test over_most
-if_behind same (after_terminal test fits s) = after_terminal test fits (same _ _ s)
+if_after same (no_terminal none) = no_terminal none
+if_after same (too_many test over_most) = too_many test over_most
+if_after same (after_terminal test fits s) = after_terminal test fits (same _ _ s)
 
 actuals_stop : (b : Bool) {c : Counts} {before here : List Placed} {k : Kind} → next_is is_open_paren (next_of before) ≡ b →
     Stops c (part Part.actuals_if ∷ []) before k here → Stops c (part Part.dotted_rest_then ∷ []) before k here
@@ -79,12 +78,12 @@ dotted_stop : (b : Bool) {c : Counts} {before here : List Placed} {k : Kind} →
 dotted_stop true on s = in_part {xs = part Part.args ∷ one is_name ∷ part Part.actuals ∷ part (Part.selected_then as_call) ∷ []} (rw on refl)
     (extend_stops (part (Part.selected_then as_call) ∷ []) (part_stops {xs = part Part.args ∷ one is_name ∷ part Part.actuals ∷ []} s (rw on refl)))
 dotted_stop false off s = in_part {xs = one is_name ∷ part Part.dotted_rest_then ∷ []} (rw off refl)
-    (if_behind (λ d at v. actuals_stop (next_is is_open_paren (next_of at)) refl v) (part_stops {xs = one is_name ∷ part Part.actuals_if ∷ []} s (rw off refl)))
+    (if_after (λ d at v. actuals_stop (next_is is_open_paren (next_of at)) refl v) (part_stops {xs = one is_name ∷ part Part.actuals_if ∷ []} s (rw off refl)))
 
 dot_stop : {c : Counts} {after here : List Placed} {place : Place} {k : Kind} → Stops c (part Part.selection ∷ []) (record { terminal = terminal.Symbol Symbol.Dot; place = place } ∷ after) k here →
     Stops c (part Part.selection_then ∷ []) (record { terminal = terminal.Symbol Symbol.Dot; place = place } ∷ after) k here
 dot_stop s = in_part {xs = one is_dot ∷ part Part.dotted_then ∷ []} refl
-    (if_behind (λ d at v. dotted_stop (next_is is_less (next_of at)) refl v) (part_stops {xs = one is_dot ∷ part Part.dotted_rest ∷ []} s refl))
+    (if_after (λ d at v. dotted_stop (next_is is_less (next_of at)) refl v) (part_stops {xs = one is_dot ∷ part Part.dotted_rest ∷ []} s refl))
 
 bracket_stop : {c : Counts} {after here : List Placed} {place : Place} {k : Kind} → Stops c (part Part.selection ∷ []) (record { terminal = terminal.Symbol Symbol.OpenBracket; place = place } ∷ after) k here →
     Stops c (part Part.selection_then ∷ []) (record { terminal = terminal.Symbol Symbol.OpenBracket; place = place } ∷ after) k here
@@ -209,9 +208,9 @@ inside_of {n} {c} {xs = xs} {before} {after} w chosen same =
     let i = part_inside w chosen in
     subst (λ f. Within (inside n (next_of before) c) xs before f after) (sym (same i.last) ∙ i.is) i.within
 
-behind : {test : Terminal → Bool} {c d : Counts} {xs : List Expected} {next : Placed} {between after : List Placed} → Within c (one test ∷ xs) (next ∷ between) d after →
+after_first : {test : Terminal → Bool} {c d : Counts} {xs : List Expected} {next : Placed} {between after : List Placed} → Within c (one test ∷ xs) (next ∷ between) d after →
     Within (past next.terminal c) xs between d after
-behind (passes test fits w) = w
+after_first (passes test fits w) = w
 
 pass_on : {test : Terminal → Bool} {c d : Counts} {xs : List Expected} (ys : List Expected) {next : Placed} {between after : List Placed} → Within c (one test ∷ xs) (next ∷ between) d after →
     Onward c (one test ∷ ys) (next ∷ between) (past next.terminal c) ys between
@@ -227,7 +226,7 @@ dot_goes : {c d : Counts} {place : Place} {between after : List Placed} {ys : Li
     Onward c (part Part.selection_then ∷ []) (record { terminal = terminal.Symbol Symbol.Dot; place = place } ∷ between) d ys after
 dot_goes {c} goes w =
     let v = inside_of {xs = one is_dot ∷ part Part.dotted_rest ∷ []} w refl (λ e. refl) in
-    over (enter Part.selection_then {xs = one is_dot ∷ part Part.dotted_then ∷ []} refl (λ e. refl)) (over (pass_on (part Part.dotted_then ∷ []) v) (goes (more c) (behind v)))
+    over (enter Part.selection_then {xs = one is_dot ∷ part Part.dotted_then ∷ []} refl (λ e. refl)) (over (pass_on (part Part.dotted_then ∷ []) v) (goes (more c) (after_first v)))
 
 field_end : (b : Bool) {c d : Counts} {here : List Placed} → next_is is_open_paren (next_of here) ≡ b → Within c (part Part.actuals_if ∷ []) here d here →
     Onward c (part Part.dotted_rest_then ∷ []) here d (part (Part.selected_then as_field) ∷ []) here
@@ -243,7 +242,7 @@ field_goes : {c d : Counts} {n : ℕ} {place : Place} {after : List Placed} → 
 field_goes {after = after} w =
     let v = inside_of {xs = one is_name ∷ part Part.actuals_if ∷ []} w refl (λ e. refl) in
     over (enter Part.dotted_then {xs = one is_name ∷ part Part.dotted_rest_then ∷ []} refl (λ e. refl))
-    (over (pass_on (part Part.dotted_rest_then ∷ []) v) (field_end (next_is is_open_paren (next_of after)) refl (behind v)))
+    (over (pass_on (part Part.dotted_rest_then ∷ []) v) (field_end (next_is is_open_paren (next_of after)) refl (after_first v)))
 
 call_goes : {c d : Counts} {n : ℕ} {place : Place} {here after : List Placed} → next_is is_open_paren (next_of here) ≡ true →
     Within c (part Part.dotted_rest ∷ []) (record { terminal = terminal.Name n; place = place } ∷ here) d after →
@@ -253,7 +252,7 @@ call_goes on w =
     over (enter Part.dotted_then {xs = one is_name ∷ part Part.dotted_rest_then ∷ []} refl (λ e. refl))
     (over (pass_on (part Part.dotted_rest_then ∷ []) v)
     (over (enter Part.dotted_rest_then {xs = part Part.actuals ∷ part (Part.selected_then as_call) ∷ []} (rw on refl) (λ e. refl))
-    (step (part (Part.selected_then as_call) ∷ []) (inside_of {xs = part Part.actuals ∷ []} (behind v) (rw on refl) (λ e. refl)))))
+    (step (part (Part.selected_then as_call) ∷ []) (inside_of {xs = part Part.actuals ∷ []} (after_first v) (rw on refl) (λ e. refl)))))
 
 args_call_goes : {c d : Counts} {here after : List Placed} → next_is is_less (next_of here) ≡ true → Within c (part Part.dotted_rest ∷ []) here d after →
     Onward c (part Part.dotted_then ∷ []) here d (part (Part.selected_then as_call) ∷ []) after
