@@ -14,7 +14,7 @@ use Rattle.dpj_tree.specs.declared.region.RplTree.{RplTree}
 use Rattle.dpj_tree.specs.Plain.{PlainExpr, PlainExprs, expression, create}
 use Rattle.dpj_parse.specs.Paths.{DerivesArgs, no_args, args}
 use Rattle.dpj_parse.specs.Reading.{DerivesSelection, behind_dot, called, indexed, ending_of}
-use Rattle.dpj_parse.specs.Words.{is_any, is_assign, is_close_bracket, is_dot, is_less, is_name, is_new, is_open_bracket, is_open_paren, sign}
+use Rattle.dpj_parse.specs.Words.{is_any, is_assign, is_close_bracket, is_dot, is_less, is_name, is_new, is_open_bracket, is_open_paren}
 use Rattle.dpj_parse.specs.Taking.{Takes, Next}
 use Rattle.dpj_parse.specs.Expressions.{DerivesActuals, DerivesPrimary, Ending, as_value, as_name, as_field, as_element, as_call, as_creation}
 use Rattle.dpj_parse.specs.Expecting.{Part, Expected, one, part, choose, next_is, next_of, selection_parts, ending_parts, performed_parts}
@@ -23,14 +23,8 @@ use Rattle.dpj_parse.specs.Onward.{Onward}
 use Rattle.dpj_parse.specs.Targets.{IsTarget, Leads, begins_declaration, follows_a_type, stmt_begins}
 use Rattle.dpj_parse.proofs.Composed.{stops_first, on_refused}
 use Rattle.dpj_parse.proofs.Readings.{no_longer}
-use Rattle.dpj_parse.proofs.Coming.{comes_next, symbol_comes_not, keyword_comes_not}
+use Rattle.dpj_parse.proofs.Coming.{symbol_comes_not, keyword_comes_not}
 use Rattle.dpj_parse.proofs.Onwards.{over, step, steps, enter, refused_on, extend_stops, part_inside, part_stops, skip}
-use Rattle.dpj_parse.proofs.Tested.{sign_or_not}
-
--- a `[` or a `.` comes where its test says so
-comes : (s : Symbol) (here : List Placed) → next_is (sign s) (next_of here) ≡ true → Next (terminal.Symbol s) here
-comes s [] on = cc
-comes s (next ∷ after) on = elim (sign_or_not s next.terminal) [ inl is ↦ comes_next is | inr off ↦ cc ]
 
 same_selection : (others : Option (List Expected)) (t : Terminal) → (is_dot t || is_open_bracket t) ≡ true → selection_parts others t ≡ selection_parts None t
 same_selection others (terminal.Symbol Symbol.Dot) on = refl
