@@ -419,7 +419,7 @@ fn listed(alloc: Global, cursor: &mut Cursor) -> Result<Items<Expr>, Stop>
 
 /// `Postfix` at the beginning of a statement: a creation is that of an object, and something in parentheses has a
 /// field, a call or an element behind it.
-#[tactic(auto, using(crate::proofs::Selecting::selections_postfix))]
+#[tactic(auto, using(crate::proofs::Selecting::selection_postfix, crate::proofs::TargetParts::target_on, crate::proofs::TargetParts::target_refused, crate::proofs::TargetParts::target_ends, crate::proofs::Few::still_few))]
 pub fn target(alloc: Global, cursor: &mut Cursor) -> Result<Expr, Stop>
     requires target { IsTarget cursor.old.rest.now }
     requires anew { cursor.old.joined ≡ 0 }
@@ -428,16 +428,20 @@ pub fn target(alloc: Global, cursor: &mut Cursor) -> Result<Expr, Stop>
     ensures stops { IfErr result (λ stop. StopsAt (stmt_begins cursor.old.rest.now) cursor.old stop) }
     ensures derives { IfOk result (λ e. DerivesPostfix (ending_of (plain_expr e)) cursor.old.rest.now cursor.new.rest.now (plain_expr e)) }
 {
-    let first = target_first(alloc, cursor)?;
-    selected(alloc, cursor, first)
+    let mut found = target_first(alloc, cursor)?;
+    while selects(cursor) {
+        found = selection(alloc, cursor, found)?;
+    }
+    Ok(found)
 }
 
 /// The shortest such Postfix.
-#[tactic(auto, using(crate::proofs::Making::inner_selection, crate::proofs::Making::primary_target, crate::proofs::TargetParts::new_target_refused, crate::proofs::TargetParts::inner_target_refused, crate::proofs::TargetParts::new_goes, crate::proofs::Few::still_few))]
+#[tactic(auto, using(crate::proofs::Making::inner_selection, crate::proofs::Making::primary_target, crate::proofs::TargetParts::new_target_refused, crate::proofs::TargetParts::inner_target_refused, crate::proofs::TargetParts::inner_selection_refused, crate::proofs::TargetParts::literal_refused, crate::proofs::TargetParts::new_goes, crate::proofs::TargetParts::inner_goes, crate::proofs::TargetParts::literal_goes, crate::proofs::Few::still_few))]
 fn target_first(alloc: Global, cursor: &mut Cursor) -> Result<Expr, Stop>
     requires target { IsTarget cursor.old.rest.now }
     requires few { cursor.old.joined ≤ 32 }
     ensures moves { OnOk result (Reads cursor.old cursor.new) }
+    ensures few { OnOk result (cursor.new.joined ≤ 32) }
     ensures goes { IfOk result (λ e. ReadsOn (stmt_begins cursor.old.rest.now) cursor.old (part (Part.selected_then (ending_of (plain_expr e))) ∷ []) cursor.new) }
     ensures stops { IfErr result (λ stop. StopsAt (stmt_begins cursor.old.rest.now) cursor.old stop) }
     ensures derives { IfOk result (λ e. DerivesPostfix (ending_of (plain_expr e)) cursor.old.rest.now cursor.new.rest.now (plain_expr e)) }
