@@ -18,7 +18,7 @@ use Rattle.dpj_parse.specs.Limits.{Counts, Fits, past, Within, nothing, passes, 
 use Rattle.dpj_parse.specs.Counted.{MayCome, Halts}
 use Rattle.dpj_parse.proofs.Tested.{sign_own, word_own, sign_or_not, word_or_not}
 
-comes_next : {wanted : Terminal} {next : Placed} {after : List Placed} → next.terminal ≡ wanted → Next wanted (next ∷ after)
+pub comes_next : {wanted : Terminal} {next : Placed} {after : List Placed} → next.terminal ≡ wanted → Next wanted (next ∷ after)
 comes_next {next = next} {after = after} is =
     record { after = after; takes = record { place = next.place; takes = record { first = ap (λ t. record { terminal = t; place = next.place } ∷ after) is } } }
 
@@ -70,6 +70,10 @@ not_name (terminal.Keyword k) none = refl
 pub name_may : (here : List Placed) {n : ℕ} → Next (terminal.Name n) here → MayCome is_name here
 name_may here {n} t next after is = let same : next.terminal ≡ terminal.Name n = let f = t.takes.takes.first in cc in rw same refl
 
+pub no_name_comes : (here : List Placed) → ((n : ℕ) → Next (terminal.Name n) here → ⊥) → next_is is_name (next_of here) ≡ false
+no_name_comes [] none = refl
+no_name_comes (next ∷ after) none = not_name next.terminal (λ n e. none n (comes_next e))
+
 pub no_name : (c : Counts) (here : List Placed) (end place : Place) → ((n : ℕ) → Next (terminal.Name n) here → ⊥) → place ≡ place_of here end →
     Refuses c (one is_name ∷ []) here end (record { kind = kind.Syntax; place = place })
 no_name c [] end place none is = lost_here c refl is
@@ -106,7 +110,7 @@ pub lost_name : (here : List Placed) (end : Place) (c : Counts) (stop : Stop) �
 lost_name here end c stop none is = rw is (no_name c here end (place_of here end) none refl)
 
 -- and where one comes that is one too many
-halted : (test : Terminal → Bool) (here : List Placed) (end : Place) (c : Counts) (stop : Stop) → MayCome test here → IfRefused stop (Halts c here end) → IfRefused stop (Refuses c (one test ∷ []) here end)
+pub halted : (test : Terminal → Bool) (here : List Placed) (end : Place) (c : Counts) (stop : Stop) → MayCome test here → IfRefused stop (Halts c here end) → IfRefused stop (Refuses c (one test ∷ []) here end)
 halted test here end c (Stop.Refused refusal) may h = h.stops test may
 halted test here end c Stop.NoMemory may h = h
 

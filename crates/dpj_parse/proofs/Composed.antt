@@ -15,11 +15,11 @@ pub seq : {c d e : Counts} {x : Expected} {ys : List Expected} {before between a
 seq (begins chosen within nothing) w = begins chosen within w
 seq (passes test fits nothing) w = passes test fits w
 
-stops_after : {c d : Counts} {x : Expected} {ys : List Expected} {before between here : List Placed} {k : Kind} → Within c (x ∷ []) before d between → Stops d ys between k here → Stops c (x ∷ ys) before k here
+pub stops_after : {c d : Counts} {x : Expected} {ys : List Expected} {before between here : List Placed} {k : Kind} → Within c (x ∷ []) before d between → Stops d ys between k here → Stops c (x ∷ ys) before k here
 stops_after (begins chosen within nothing) s = after_part chosen within s
 stops_after (passes test fits nothing) s = after_terminal test fits s
 
-stops_first : {c : Counts} {x : Expected} (ys : List Expected) {before here : List Placed} {k : Kind} → Stops c (x ∷ []) before k here → Stops c (x ∷ ys) before k here
+pub stops_first : {c : Counts} {x : Expected} (ys : List Expected) {before here : List Placed} {k : Kind} → Stops c (x ∷ []) before k here → Stops c (x ∷ ys) before k here
 stops_first ys (no_part none) = no_part none
 stops_first ys (no_terminal none) = no_terminal none
 stops_first ys (too_many test over) = too_many test over
@@ -31,7 +31,7 @@ stops_first ys (after_terminal test fits s) = elim s [ ]
 abbrev pub Refused : Counts → List Expected → List Placed → Place → Stop → Type 0
 Refused c xs before end stop = IfRefused stop (Refuses c xs before end)
 
-on_refused : {c d : Counts} {xs ys : List Expected} {before between : List Placed} (end : Place) (stop : Stop) →
+pub on_refused : {c d : Counts} {xs ys : List Expected} {before between : List Placed} (end : Place) (stop : Stop) →
     ((k : Kind) (here : List Placed) → Stops c xs before k here → Stops d ys between k here) → IfRefused stop (Refuses c xs before end) → IfRefused stop (Refuses d ys between end)
 on_refused end (Stop.Refused refusal) f r = record { here = r.here; stops = f _ _ r.stops; place = r.place }
 on_refused end Stop.NoMemory f r = r

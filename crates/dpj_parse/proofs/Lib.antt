@@ -16,10 +16,20 @@ pub mod Targeted
 pub mod Coming
 pub mod Readings
 pub mod Composed
+pub mod InOrder
+pub mod Onwards
+pub mod Few
 pub mod PathParts
 pub mod TypeParts
 pub mod ExprParts
+pub mod OperatorParts
+pub mod UnaryParts
+pub mod SelectionParts
+pub mod TargetParts
 pub mod StmtParts
+pub mod Declaring
+pub mod Declarations
+pub mod Performing
 pub mod MemberParts
 pub mod ClassParts
 pub mod Distinct
@@ -52,3 +62,5 @@ pub mod Viability
 pub mod Settled
 pub mod Decided
 pub mod Refused
+pub mod Runs
+pub mod Sampled

@@ -33,6 +33,21 @@ left_behind_comparison op h = elim (left_level_is op) [ inl e ↦ omega arith | 
 pub left_behind : (op : BinaryOp) (level : ℕ) → level_of op ≤ level → level ≢ 3 → left_level op ≤ level
 left_behind op level h ne = elim (left_level_is op) [ inl e ↦ omega arith | inr e ↦ omega arith ]
 
+-- nothing binds as tightly as a comparison on both its sides
+own_below : (op : BinaryOp) → left_level op ≡ level_of op → left_level op ≤ 3 → level_of op ≤ 2
+own_below binary_op.Or e h = omega arith
+own_below binary_op.Lt e h = absurd (omega (arith, e))
+own_below binary_op.Le e h = absurd (omega (arith, e))
+own_below binary_op.Gt e h = absurd (omega (arith, e))
+own_below binary_op.Ge e h = absurd (omega (arith, e))
+own_below _ e h = omega (arith, h)
+
+pub own_behind_comparison : (op : BinaryOp) → left_level op ≤ 3 → level_of op ≤ 2
+own_behind_comparison op h = elim (left_level_is op) [ inl e ↦ own_below op e h | inr e ↦ omega arith ]
+
+pub own_behind : (op : BinaryOp) (level : ℕ) → left_level op ≤ level → level_of op ≤ level
+own_behind op level h = elim (left_level_is op) [ inl e ↦ omega arith | inr e ↦ omega arith ]
+
 -- an expression that may stand on the left of the operators that bind at most so tightly
 pub record Grouped (least most : ℕ) (before after : List Placed) (e : PlainExpr) : Type 0 where
   pub whole : DerivesLevel least before after e

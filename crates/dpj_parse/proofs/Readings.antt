@@ -79,7 +79,7 @@ once_stopped r s = let m = stops_once r s in (m.kind, m.here)
 pub read_or_stopped : {c d : Counts} {xs : List Expected} {before after here : List Placed} {k : Kind} → Within c xs before d after → Stops c xs before k here → ⊥
 read_or_stopped w s = not_both w s
 
-no_longer : {c d : Counts} {xs : List Expected} {before after : List Placed} → Within c xs before d after → length after ≤ length before
+pub no_longer : {c d : Counts} {xs : List Expected} {before after : List Placed} → Within c xs before d after → length after ≤ length before
 no_longer nothing = omega arith
 no_longer (begins e w v) = let a = no_longer w in let b = no_longer v in omega (arith, a, b)
 no_longer (passes e f v) = let b = no_longer v in omega (arith, b)
@@ -92,7 +92,6 @@ fits_or_over c = elim (leb_tells c.level 32) [
   ]
   | inr l ↦ inr (λ fits. let h = fits.level in let k = l.1 in omega (arith, k, h))
 ]
-
 
 -- how many steps
 abbrev steps_of : {to : List Expected} {left : List Placed} {xs : List Expected} {before : List Placed} → Steps to left xs before → ℕ

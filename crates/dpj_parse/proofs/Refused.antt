@@ -3,6 +3,8 @@ use Rattle.std.proofs.Common.{◌≡◌, ◌∙◌, ◌⊎◌, inl, inr, ℕ, su
 use Rattle.dpj_base.specs.declared.place.Place.{Place}
 use Rattle.dpj_base.specs.declared.refusal.Kind.TheVariants as kind
 use Rattle.dpj_base.specs.declared.refusal.Refusal.{Refusal}
+use Rattle.dpj_base.specs.declared.refusal.Stop.{Stop}
+use Rattle.dpj_base.specs.Refused.{IfRefused}
 use Rattle.dpj_tokens.specs.declared.token.Token.{Token}
 use Rattle.dpj_terminals.specs.declared.terminal.Placed.{Placed}
 use Rattle.dpj_terminals.specs.Says.{MeanAll, distinct_names}
@@ -10,7 +12,7 @@ use Rattle.dpj_tree.specs.declared.class.Class.{Class}
 use Rattle.dpj_tree.specs.declared.class.Program.{Program}
 use Rattle.dpj_parse.specs.Classes.{DerivesProgram}
 use Rattle.dpj_parse.specs.Expecting.{Expected, part, Steps, stay, IsLost}
-use Rattle.dpj_parse.specs.Limits.{Within}
+use Rattle.dpj_parse.specs.Limits.{Within, Refuses}
 use Rattle.dpj_parse.proofs.Settled.{Settled, settled}
 use Rattle.dpj_parse.specs.Expecting.{Part as p}
 use Rattle.dpj_parse.specs.Program.{IsProgram, IsGrammarFault}
@@ -87,3 +89,7 @@ read_or_refused list end = by (ended at_start (part p.program ∷ []) list (sett
         let all : IsWithin list = (d, subst (λ after. Within at_start (part p.program ∷ []) list d after) none w) in
         inl (read_derives all, all)
     by (halted {k = k} {here = here} r) = inr (record { kind = k; place = place_of here end }, record { here = here; stops = r; place = refl })
+
+-- what the reading of a program refuses, the text is refused for
+pub refused_in : (list : List Placed) (end : Place) (stop : Stop) → IfRefused stop (Refuses at_start (part p.program ∷ []) list end) → IfRefused stop (IsRefusedIn list end)
+refused_in list end stop r = r

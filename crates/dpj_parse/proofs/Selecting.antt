@@ -11,11 +11,6 @@ selection_postfix d (DerivesSelection.behind_dot dot name) = DerivesPostfix.behi
 selection_postfix d (DerivesSelection.called dot paths name all) = DerivesPostfix.called d dot paths name all
 selection_postfix d (DerivesSelection.indexed start at end) = DerivesPostfix.indexed d start at end
 
-pub selections_postfix : {before one after : List Placed} {first found : PlainExpr} →
-    DerivesPostfix (ending_of first) before one first → DerivesSelections first one after found → DerivesPostfix (ending_of found) before after found
-selections_postfix d DerivesSelections.none = d
-selections_postfix d (DerivesSelections.more earlier next) = selection_postfix (selections_postfix d earlier) next
-
 pub selections_some : {ending : Ending} {before one after : List Placed} {first found : PlainExpr} →
     DerivesPostfix ending before one first → DerivesSelections first one after found → (last : Ending) × DerivesPostfix last before after found
 selections_some {ending} d DerivesSelections.none = (ending, d)

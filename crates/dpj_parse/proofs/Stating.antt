@@ -168,19 +168,19 @@ pub made_assignment : (target : Named) (value : Expr) {before one two after : Li
     s ≡ statement place (plain_stmt_kind (kind.AssignLocal target value)) → DerivesStmt before after s
 made_assignment target value name equals d is = rw (is, kind_AssignLocal target value) (DerivesStmt.local_assignment name equals d)
 
-ending_is : (target : Expr) → ending_of (plain_expr target) ≡ form_ending (plain_kind target.kind)
+pub ending_is : (target : Expr) → ending_of (plain_expr target) ≡ form_ending (plain_kind target.kind)
 ending_is target = ap ending_of (plain_node target)
 
-field_ending : (target of : Expr) (name : ℕ) → target.kind ≡ expr_kind.Field of name → ending_of (plain_expr target) ≡ as_field
+pub field_ending : (target of : Expr) (name : ℕ) → target.kind ≡ expr_kind.Field of name → ending_of (plain_expr target) ≡ as_field
 field_ending target of name is = ending_is target ∙ (ap (λ k. form_ending (plain_kind k)) is ∙ ap form_ending (kind_Field of name))
 
-element_ending : (target of at : Expr) → target.kind ≡ expr_kind.Element of at → ending_of (plain_expr target) ≡ as_element
+pub element_ending : (target of at : Expr) → target.kind ≡ expr_kind.Element of at → ending_of (plain_expr target) ≡ as_element
 element_ending target of at is = ending_is target ∙ (ap (λ k. form_ending (plain_kind k)) is ∙ ap form_ending (kind_Element of at))
 
-call_ending : (target of : Expr) (regions : List RplTree) (name : ℕ) (all : List Expr) → target.kind ≡ expr_kind.Call of regions name all → ending_of (plain_expr target) ≡ as_call
+pub call_ending : (target of : Expr) (regions : List RplTree) (name : ℕ) (all : List Expr) → target.kind ≡ expr_kind.Call of regions name all → ending_of (plain_expr target) ≡ as_call
 call_ending target of regions name all is = ending_is target ∙ (ap (λ k. form_ending (plain_kind k)) is ∙ ap form_ending (kind_Call of regions name all))
 
-new_ending : (target : Expr) (name : Named) (regions : List RplTree) (all : List Expr) → target.kind ≡ expr_kind.New name regions all → ending_of (plain_expr target) ≡ as_creation
+pub new_ending : (target : Expr) (name : Named) (regions : List RplTree) (all : List Expr) → target.kind ≡ expr_kind.New name regions all → ending_of (plain_expr target) ≡ as_creation
 new_ending target name regions all is = ending_is target ∙ (ap (λ k. form_ending (plain_kind k)) is ∙ ap form_ending (kind_New name regions all))
 
 pub made_field_assignment : (target value of : Expr) (name : ℕ) {before one two after : List Placed} {s : PlainStmt} {place : Place} →

@@ -17,6 +17,14 @@ counts cursor = record { level = cursor.level; joined = cursor.joined }
 abbrev pub Reading : List Expected → Cursor → Cursor → Type 0
 Reading xs old new = Within (counts old) xs old.rest.now (counts new) new.rest.now
 
+-- it was, whatever the counts came to
+pub record Completes (c : Counts) (xs : List Expected) (before after : List Placed) : Type 0 where
+  pub last : Counts
+  pub reads : Within c xs before last after
+
+abbrev pub Completed : List Expected → Cursor → Cursor → Type 0
+Completed xs old new = Completes (counts old) xs old.rest.now new.rest.now
+
 -- the reading of what is expected stops so
 abbrev pub StopsAt : List Expected → Cursor → Stop → Type 0
 StopsAt xs old stop = IfRefused stop (Refuses (counts old) xs old.rest.now old.end)

@@ -14,7 +14,10 @@ pub mod Expecting
 pub mod Viable
 pub mod Limits
 pub mod Counted
+pub mod Onward
 pub mod Targets
+pub mod Members
 pub mod ExpectedText
 pub mod Refusing
 pub mod OneRefusal
+pub mod Samples

@@ -2,11 +2,12 @@
 use Rattle.std.specs.Prelude.{◌≡◌, ◌⊎◌, List, [], ◌∷◌, Bool, true, false, ◌||◌, ◌&&◌, Option, Some, None}
 use Rattle.dpj_base.specs.declared.refusal.Kind.{Kind}
 use Rattle.dpj_base.specs.declared.refusal.Kind.TheVariants as kind
+use Rattle.dpj_tokens.specs.declared.token.Symbol.{Symbol}
 use Rattle.dpj_tokens.specs.declared.token.Keyword.{Keyword}
 use Rattle.dpj_terminals.specs.declared.terminal.Placed.{Placed}
 use Rattle.dpj_terminals.specs.declared.terminal.Terminal.{Terminal}
 use Rattle.dpj_terminals.specs.declared.terminal.Terminal.TheVariants as terminal
-use Rattle.dpj_parse.specs.Words.{is_name, is_less, is_open_bracket, is_close_bracket}
+use Rattle.dpj_parse.specs.Words.{is_assign, is_name, is_less, is_open_bracket, is_close_bracket}
 use Rattle.dpj_parse.specs.Expressions.{Ending}
 use Rattle.dpj_parse.specs.Expecting.{Expected, part, performed, next_of, next_is, with_next, stmt_parts, ending_parts}
 use Rattle.dpj_parse.specs.Limits.{Counts, Within, Stops}
@@ -31,6 +32,23 @@ opens_declaration _ after = false
 abbrev pub begins_declaration : List Placed → Bool
 begins_declaration [] = false
 begins_declaration (next ∷ after) = opens_declaration next.terminal after
+
+-- whether it is an assignment to a local
+abbrev pub begins_assignment : List Placed → Bool
+begins_assignment here = next_is is_name (next_of here) && next_is is_assign (next_of (rest_of here))
+
+-- a statement that holds other ones begins with a brace or with one of these words
+abbrev pub holds_others : Terminal → Bool
+holds_others (terminal.Symbol Symbol.OpenBrace) = true
+holds_others (terminal.Keyword Keyword.If) = true
+holds_others (terminal.Keyword Keyword.While) = true
+holds_others (terminal.Keyword Keyword.Cobegin) = true
+holds_others (terminal.Keyword Keyword.CobeginNd) = true
+holds_others (terminal.Keyword Keyword.Foreach) = true
+holds_others (terminal.Keyword Keyword.ForeachNd) = true
+holds_others (terminal.Keyword Keyword.ForeachParts) = true
+holds_others (terminal.Keyword Keyword.Atomic) = true
+holds_others _ = false
 
 -- what a statement begins with
 abbrev pub stmt_begins : List Placed → List Expected

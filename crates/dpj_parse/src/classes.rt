@@ -14,11 +14,12 @@ use dpj_tree::{Class, Member, Parent};
 use std::alloc::Global;
 
 /// `Class { Class }` up to the end of the text
-#[tactic(auto, using(crate::proofs::Lists::many_more, crate::proofs::Lists::many_one, crate::proofs::MemberForms::program_of))]
+#[tactic(auto, using(crate::proofs::Lists::many_more, crate::proofs::Lists::many_one, crate::proofs::MemberForms::program_of, crate::proofs::ClassParts::program_refused, crate::proofs::ClassParts::program_begun, crate::proofs::ClassParts::more_classes_round, crate::proofs::ClassParts::more_classes_end, crate::proofs::ClassParts::more_classes_refused))]
 pub fn classes(alloc: Global, cursor: &mut Cursor) -> Result<Items<Class>, Stop>
     ensures moves { OnOk result (Reads cursor.old cursor.new) }
     ensures reads { OnOk result (Reading (part Part.program ∷ []) cursor.old cursor.new) }
     ensures stops { IfErr result (λ stop. StopsAt (part Part.program ∷ []) cursor.old stop) }
+    ensures ends { OnOk result (cursor.new.rest.now ≡ []) }
     ensures derives { IfOk result (λ classes. DerivesProgram cursor.old.rest.now classes) }
 {
     let mut classes = Items::new(alloc);
@@ -30,7 +31,7 @@ pub fn classes(alloc: Global, cursor: &mut Cursor) -> Result<Items<Class>, Stop>
 }
 
 /// `Class = "class" Name [ Params ] [ "extends" Name [ Args ] ] "{" { Member } "}"`
-#[tactic(auto, using(crate::specs::Classes::class))]
+#[tactic(auto, using(crate::specs::Classes::class, crate::proofs::ClassParts::class_reads, crate::proofs::ClassParts::class_refused, crate::proofs::Composed::refused_first, crate::proofs::MemberParts::refused_second, crate::proofs::MemberParts::refused_third, crate::proofs::MemberParts::refused_fourth, crate::proofs::MemberParts::refused_fifth))]
 fn class(alloc: Global, cursor: &mut Cursor) -> Result<Class, Stop>
     ensures moves { OnOk result (Reads cursor.old cursor.new) }
     ensures reads { OnOk result (Reading (part Part.class ∷ []) cursor.old cursor.new) }
@@ -52,7 +53,7 @@ fn class(alloc: Global, cursor: &mut Cursor) -> Result<Class, Stop>
 }
 
 /// `[ "extends" Name [ Args ] ]`
-#[tactic(auto, using(crate::specs::Classes::no_parent, crate::proofs::MemberForms::parent_of))]
+#[tactic(auto, using(crate::specs::Classes::no_parent, crate::proofs::MemberForms::parent_of, crate::proofs::ClassParts::parent_none, crate::proofs::ClassParts::parent_reads, crate::proofs::ClassParts::parent_lost, crate::proofs::ClassParts::parent_name_refused, crate::proofs::ClassParts::parent_args_refused))]
 fn parent(alloc: Global, cursor: &mut Cursor) -> Result<Option<Parent>, Stop>
     ensures moves { OnOk result (Keeps cursor.old cursor.new) }
     ensures reads { OnOk result (Reading (part Part.parent_if ∷ []) cursor.old cursor.new) }
@@ -68,7 +69,7 @@ fn parent(alloc: Global, cursor: &mut Cursor) -> Result<Option<Parent>, Stop>
 }
 
 /// `"{" { Member } "}"`
-#[tactic(auto, using(crate::proofs::MemberForms::members_of))]
+#[tactic(auto, using(crate::proofs::MemberForms::members_of, crate::proofs::ClassParts::members_reads, crate::proofs::ClassParts::members_refused, crate::proofs::Composed::refused_first, crate::proofs::MemberParts::refused_second, crate::proofs::MemberParts::refused_third))]
 fn members(alloc: Global, cursor: &mut Cursor) -> Result<Items<Member>, Stop>
     ensures moves { OnOk result (Reads cursor.old cursor.new) }
     ensures reads { OnOk result (Reading (part Part.members ∷ []) cursor.old cursor.new) }
@@ -82,7 +83,7 @@ fn members(alloc: Global, cursor: &mut Cursor) -> Result<Items<Member>, Stop>
 }
 
 /// `{ Member }`
-#[tactic(auto, using(crate::proofs::Lists::many_more, crate::specs::Taking::none))]
+#[tactic(auto, using(crate::proofs::Lists::many_more, crate::specs::Taking::none, crate::proofs::ClassParts::member_list_round, crate::proofs::ClassParts::member_list_end, crate::proofs::ClassParts::member_list_refused))]
 fn member_list(alloc: Global, cursor: &mut Cursor) -> Result<Items<Member>, Stop>
     ensures moves { OnOk result (Keeps cursor.old cursor.new) }
     ensures reads { OnOk result (Reading (part Part.member_list ∷ []) cursor.old cursor.new) }

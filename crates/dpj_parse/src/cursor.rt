@@ -34,6 +34,7 @@ impl<'a> Cursor<'a> {
     ghost use Rattle.dpj_parse.specs.Limits.{Counts, Fits, Refuses, Within, deeper, higher, more, past};
     ghost use Rattle.dpj_parse.specs.Progress.{Closes, Opens, Reads, ReadsIf};
     ghost use Rattle.dpj_parse.specs.Taking.{Next, StandsAt, TakesIf, TakesKeyword, TakesName, TakesNext, TakesOne, TakesSymbol, place_of};
+    ghost use Rattle.dpj_parse.specs.Targets.{rest_of};
     ghost use Rattle.dpj_parse.specs.Words.{is_name, is_open_bracket, sign, word};
 
     /// The next terminal.
@@ -47,7 +48,9 @@ impl<'a> Cursor<'a> {
     }
 
     /// The terminal behind the next one.
-    pub fn second(&self) -> Option<&'a Terminal> {
+    pub fn second(&self) -> Option<&'a Terminal>
+        ensures { MatchOption result (rest_of self.now.rest.now ≡ []) (λ next. Next next.now (rest_of self.now.rest.now)) }
+    {
         match self.rest {
             [_, second, ..] => Some(&second.terminal),
             _ => None,
@@ -55,7 +58,9 @@ impl<'a> Cursor<'a> {
     }
 
     /// The terminal behind the second one.
-    pub fn third(&self) -> Option<&'a Terminal> {
+    pub fn third(&self) -> Option<&'a Terminal>
+        ensures { MatchOption result (rest_of (rest_of self.now.rest.now) ≡ []) (λ next. Next next.now (rest_of (rest_of self.now.rest.now))) }
+    {
         match self.rest {
             [_, _, third, ..] => Some(&third.terminal),
             _ => None,

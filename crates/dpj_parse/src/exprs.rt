@@ -1,12 +1,16 @@
-ghost use Rattle.std.specs.Prelude.{◌≡◌, ◌+◌, ◌<◌, ◌≤◌, length, map, OnOk, IfOk, IfSome, IfErr, [], ◌∷◌};
+ghost use Rattle.std.specs.Prelude.{None, Some, ◌||◌, MatchOption, IfNone, ◌≡◌, ◌≢◌, ◌+◌, ◌<◌, ◌≤◌, length, map, OnOk, IfOk, IfSome, IfErr, [], ◌∷◌};
 ghost use Rattle.dpj_parse.specs.Counted.{Reading, StopsAt, counts};
-ghost use Rattle.dpj_parse.specs.Expecting.{Part, one, part};
+ghost use Rattle.dpj_parse.specs.Expecting.{Part, choose, literal_parts, next_is, next_of, one, op_of, part};
+ghost use Rattle.dpj_parse.specs.Onward.{ReadsOn};
 ghost use Rattle.dpj_parse.specs.Targets.{IsTarget, Leads, stmt_begins};
-ghost use Rattle.dpj_parse.specs.Words.{is_name, is_new};
+ghost use Rattle.dpj_parse.specs.Words.{is_close_bracket, is_dot, is_name, is_new, is_open_bracket, op_at};
 ghost use Rattle.dpj_parse.specs.Progress.{Keeps, Opens, Reads};
-ghost use Rattle.dpj_parse.specs.Taking.{Next, Listed};
+ghost use Rattle.dpj_parse.specs.Taking.{Next, NoNext, Listed};
 ghost use Rattle.dpj_parse.specs.Expressions.{DerivesActuals, DerivesExpr, DerivesLevel, DerivesPostfix, DerivesPrimary, DerivesUnary, as_creation, level_of, symbol_of, unary_symbol};
-ghost use Rattle.dpj_parse.specs.Reading.{DerivesExprTree, DerivesInner, DerivesLengths, DerivesOpenSuffixes, DerivesSelection, DerivesSelections, NextSpells, ending_of, plain_kind};
+ghost use Rattle.dpj_parse.specs.Reading.{DerivesExprTree, DerivesInner, DerivesLengths, DerivesOpenSuffixes, DerivesSelection, DerivesSelections, NextSpells, Spells, ending_of, plain_kind};
+ghost use Rattle.dpj_terminals.specs.declared.terminal.Terminal.TheVariants as Terminal;
+ghost use Rattle.dpj_tree.specs.declared.expr.BinaryOp.{BinaryOp};
+ghost use Rattle.dpj_tree.specs.declared.expr.UnaryOp.{UnaryOp};
 ghost use Rattle.dpj_tree.specs.Plain.{binary, create, expression, plain_expr, plain_exprs};
 
 use crate::cursor::Cursor;
@@ -27,6 +31,7 @@ fn made(place: Place, kind: ExprKind) -> Expr
 }
 
 /// `Expr`: an expression level of its own.
+#[tactic(auto, using(crate::proofs::OperatorParts::expr_reads, crate::proofs::OperatorParts::expr_refused))]
 #[cycle(exprs)]
 pub fn expr(alloc: Global, cursor: &mut Cursor) -> Result<Expr, Stop>
     ensures moves { OnOk result (Reads cursor.old cursor.new) }
@@ -42,11 +47,13 @@ pub fn expr(alloc: Global, cursor: &mut Cursor) -> Result<Expr, Stop>
 }
 
 /// `Unary { operator Unary }`, with operators that bind at least so tightly.
+#[tactic(auto, using(crate::proofs::Composed::refused_first, crate::proofs::OperatorParts::joined_few, crate::proofs::OperatorParts::operator_halts, crate::proofs::OperatorParts::operand_refused, crate::proofs::OperatorParts::operators_end))]
 #[cycle(exprs)]
 fn operators(alloc: Global, cursor: &mut Cursor, least: u32) -> Result<Expr, Stop>
+    requires { cursor.old.joined ≤ 32 }
     ensures moves { OnOk result (Reads cursor.old cursor.new) }
-    ensures reads { OnOk result (Reading (part (Part.expr least) ∷ []) cursor.old cursor.new) }
-    ensures stops { IfErr result (λ stop. StopsAt (part (Part.expr least) ∷ []) cursor.old stop) }
+    ensures reads { OnOk result (Reading (part Part.unary ∷ part (Part.climb least 6) ∷ []) cursor.old cursor.new) }
+    ensures stops { IfErr result (λ stop. StopsAt (part Part.unary ∷ part (Part.climb least 6) ∷ []) cursor.old stop) }
     ensures derives { IfOk result (λ e. DerivesLevel least cursor.old.rest.now cursor.new.rest.now (plain_expr e)) }
 {
     let mut left = unary(alloc, cursor)?;
@@ -61,18 +68,28 @@ fn operators(alloc: Global, cursor: &mut Cursor, least: u32) -> Result<Expr, Sto
 }
 
 /// The operator that comes next, where it binds so tightly.
+#[tactic(auto, using(crate::proofs::OperatorParts::no_op_at_end, crate::proofs::OperatorParts::op_here))]
 fn operator_within(cursor: &Cursor, least: u32, most: u32) -> Option<BinaryOp>
     ensures next { IfSome result (λ op. Next (Terminal.Symbol (symbol_of op)) cursor.now.rest.now) }
     ensures within { IfSome result (λ op. (least ≤ level_of op) × (level_of op ≤ most)) }
+    ensures otherwise { IfNone result ((op : BinaryOp) → op_of (next_of cursor.now.rest.now) ≡ Some op → least ≤ level_of op → level_of op ≤ most → ⊥) }
 {
-    let Some(Terminal::Symbol(symbol)) = cursor.next() else {
-        return None;
-    };
-    let op = binary_of(*symbol)?;
+    let op = operator_of(cursor.next()?)?;
     if binding(op) < least || binding(op) > most {
         return None;
     }
     Some(op)
+}
+
+/// The operator between two expressions that a terminal is.
+fn operator_of(terminal: &Terminal) -> Option<BinaryOp>
+    ensures which { IfSome result (λ op. terminal.now ≡ Terminal.Symbol (symbol_of op)) }
+    ensures at { result ≡ op_at terminal.now }
+{
+    match terminal {
+        Terminal::Symbol(symbol) => binary_of(*symbol),
+        Terminal::Int(_) | Terminal::Name(_) | Terminal::Text(_) | Terminal::Keyword(_) => None,
+    }
 }
 
 #[tactic(auto, using(crate::proofs::Trees::kind_Binary))]
@@ -91,9 +108,10 @@ fn joined(
 }
 
 /// `Unary = ( "-" | "!" ) Unary | Postfix | NewArray`
-#[tactic(auto, using(crate::proofs::Making::made_operator, crate::proofs::Making::inner_selected, crate::proofs::Making::primary_selected))]
+#[tactic(auto, using(crate::proofs::Making::made_operator, crate::proofs::Making::inner_selected, crate::proofs::Making::primary_selected, crate::proofs::Few::still_few, crate::proofs::OperatorParts::joined_few, crate::proofs::UnaryParts::prefix_read, crate::proofs::UnaryParts::prefix_halts, crate::proofs::UnaryParts::prefixed_refused, crate::proofs::UnaryParts::new_read, crate::proofs::UnaryParts::new_refused, crate::proofs::UnaryParts::paren_read, crate::proofs::UnaryParts::paren_refused, crate::proofs::UnaryParts::paren_selected_refused, crate::proofs::UnaryParts::literal_read, crate::proofs::UnaryParts::literal_refused, crate::proofs::UnaryParts::literal_selected_refused))]
 #[cycle(exprs)]
 fn unary(alloc: Global, cursor: &mut Cursor) -> Result<Expr, Stop>
+    requires { cursor.old.joined ≤ 32 }
     ensures moves { OnOk result (Reads cursor.old cursor.new) }
     ensures reads { OnOk result (Reading (part Part.unary ∷ []) cursor.old cursor.new) }
     ensures stops { IfErr result (λ stop. StopsAt (part Part.unary ∷ []) cursor.old stop) }
@@ -116,19 +134,28 @@ fn unary(alloc: Global, cursor: &mut Cursor) -> Result<Expr, Stop>
 }
 
 /// The operator before an expression that comes next.
+#[tactic(auto, using(crate::proofs::UnaryParts::no_prefix_at_end, crate::proofs::UnaryParts::no_prefix))]
 fn operator_before(cursor: &Cursor) -> Option<UnaryOp>
-    ensures { IfSome result (λ op. Next (Terminal.Symbol (unary_symbol op)) cursor.now.rest.now) }
+    ensures { MatchOption result ((op : UnaryOp) → NoNext (Terminal.Symbol (unary_symbol op)) cursor.now.rest.now) (λ op. Next (Terminal.Symbol (unary_symbol op)) cursor.now.rest.now) }
 {
-    match cursor.next() {
-        Some(Terminal::Symbol(symbol)) => unary_of(*symbol),
-        _ => None,
+    prefix_of(cursor.next()?)
+}
+
+/// The operator before an expression that a terminal is.
+fn prefix_of(terminal: &Terminal) -> Option<UnaryOp>
+    ensures { MatchOption result ((op : UnaryOp) → terminal.now ≢ Terminal.Symbol (unary_symbol op)) (λ op. terminal.now ≡ Terminal.Symbol (unary_symbol op)) }
+{
+    match terminal {
+        Terminal::Symbol(symbol) => unary_of(*symbol),
+        Terminal::Int(_) | Terminal::Name(_) | Terminal::Text(_) | Terminal::Keyword(_) => None,
     }
 }
 
 /// A Postfix that begins with a creation, or a NewArray.
-#[tactic(auto, using(crate::proofs::Making::made_object, crate::proofs::Making::made_array))]
+#[tactic(auto, using(crate::proofs::Making::made_object, crate::proofs::Making::made_array, crate::proofs::Few::still_few, crate::proofs::UnaryParts::object_read, crate::proofs::UnaryParts::object_refused, crate::proofs::UnaryParts::object_selected_refused, crate::proofs::UnaryParts::array_read, crate::proofs::UnaryParts::lengths_refused, crate::proofs::UnaryParts::plain_array_read, crate::proofs::UnaryParts::plain_lengths_refused, crate::proofs::UnaryParts::base_refused, crate::proofs::Composed::refused_first))]
 #[cycle(exprs)]
 fn created(alloc: Global, cursor: &mut Cursor) -> Result<Expr, Stop>
+    requires { cursor.old.joined ≤ 32 }
     ensures moves { OnOk result (Reads cursor.old cursor.new) }
     ensures reads { OnOk result (Reading (one is_new ∷ part Part.created ∷ []) cursor.old cursor.new) }
     ensures stops { IfErr result (λ stop. StopsAt (one is_new ∷ part Part.created ∷ []) cursor.old stop) }
@@ -159,9 +186,10 @@ fn object(place: Place, class: Named, regions: Items<RplTree>, actuals: Items<Ex
 }
 
 /// `NewArray` behind its base: `{ "[" "]" [ "<" Rpl ">" ] [ "#" Name ] } "[" Expr "]" [ "<" Rpl ">" ] [ "#" Name ]`
-#[tactic(auto, using(crate::proofs::Making::made_lengths))]
+#[tactic(auto, using(crate::proofs::Making::made_lengths, crate::proofs::ExprParts::array_reads, crate::proofs::ExprParts::length_refused, crate::proofs::ExprParts::length_close_refused, crate::proofs::ExprParts::length_tail_refused))]
 #[cycle(exprs)]
 fn array(alloc: Global, cursor: &mut Cursor, place: Place, base: BaseTree) -> Result<Expr, Stop>
+    requires { cursor.old.joined ≤ 32 }
     ensures moves { OnOk result (Reads cursor.old cursor.new) }
     ensures reads { OnOk result (Reading (part Part.array ∷ []) cursor.old cursor.new) }
     ensures stops { IfErr result (λ stop. StopsAt (part Part.array ∷ []) cursor.old stop) }
@@ -182,10 +210,12 @@ fn array(alloc: Global, cursor: &mut Cursor, place: Place, base: BaseTree) -> Re
 }
 
 /// The suffixes before the length of an array, and the `[` in front of the length.
-#[tactic(auto, using(crate::proofs::Making::first_opened, crate::proofs::Making::more_opened))]
+#[tactic(auto, using(crate::proofs::Making::first_opened, crate::proofs::Making::more_opened, crate::proofs::Few::still_few, crate::proofs::ExprParts::array_refused, crate::proofs::ExprParts::array_opened, crate::proofs::ExprParts::length_opened, crate::proofs::ExprParts::suffix_read, crate::proofs::ExprParts::suffix_close_refused, crate::proofs::ExprParts::suffix_tail_refused, crate::proofs::ExprParts::suffix_open_refused))]
 fn open_suffixes(alloc: Global, cursor: &mut Cursor) -> Result<Items<Suffix>, Stop>
+    requires { cursor.old.joined ≤ 32 }
     ensures moves { OnOk result (Opens cursor.old cursor.new) }
-    // TODO clause
+    ensures reads { OnOk result (ReadsOn (part Part.array ∷ []) cursor.old (part (Part.expr 0) ∷ one is_close_bracket ∷ part Part.brackets_behind ∷ []) cursor.new) }
+    ensures stops { IfErr result (λ stop. StopsAt (part Part.array ∷ []) cursor.old stop) }
     ensures derives { IfOk result (λ suffixes. DerivesOpenSuffixes cursor.old.rest.now cursor.new.rest.now suffixes) }
 {
     let mut suffixes = Items::new(alloc);
@@ -199,7 +229,7 @@ fn open_suffixes(alloc: Global, cursor: &mut Cursor) -> Result<Items<Suffix>, St
 }
 
 /// `"(" Expr ")"`
-#[tactic(auto, using(crate::proofs::Making::made_inner))]
+#[tactic(auto, using(crate::proofs::Making::made_inner, crate::proofs::ExprParts::inner_reads, crate::proofs::ExprParts::inner_refused, crate::proofs::ExprParts::inner_expr_refused, crate::proofs::ExprParts::inner_close_refused))]
 #[cycle(exprs)]
 fn inner(alloc: Global, cursor: &mut Cursor) -> Result<Expr, Stop>
     ensures moves { OnOk result (Reads cursor.old cursor.new) }
@@ -214,45 +244,69 @@ fn inner(alloc: Global, cursor: &mut Cursor) -> Result<Expr, Stop>
 }
 
 /// `Int | "true" | "false" | "null" | "this" | Name`
-#[tactic(auto, using(crate::proofs::Making::made_literal))]
+#[tactic(auto, using(crate::proofs::Making::made_literal, crate::proofs::ExprParts::literal_reads, crate::proofs::ExprParts::literal_halts, crate::proofs::ExprParts::literal_lost))]
 fn literal(cursor: &mut Cursor) -> Result<Expr, Stop>
     ensures moves { OnOk result (Reads cursor.old cursor.new) }
     ensures reads { OnOk result (Reading (part Part.literal ∷ []) cursor.old cursor.new) }
     ensures stops { IfErr result (λ stop. StopsAt (part Part.literal ∷ []) cursor.old stop) }
     ensures derives { IfOk result (λ e. DerivesPrimary (ending_of (plain_expr e)) cursor.old.rest.now cursor.new.rest.now (plain_expr e)) }
 {
-    let kind = spelled(cursor)?;
+    let Some(kind) = spelled(cursor) else {
+        return Err(cursor.unexpected());
+    };
     let place = cursor.place();
     cursor.accept()?;
     Ok(made(place, kind))
 }
 
 /// The expression that the next terminal is.
-#[tactic(auto, using(crate::proofs::Spelling::next_number, crate::proofs::Spelling::next_name, crate::proofs::Spelling::next_true, crate::proofs::Spelling::next_false, crate::proofs::Spelling::next_null, crate::proofs::Spelling::next_this))]
-fn spelled(cursor: &Cursor) -> Result<ExprKind, Stop>
-    ensures spells { IfOk result (λ kind. NextSpells cursor.now.rest.now (plain_kind kind)) }
-    // TODO clause
+#[tactic(auto, using(crate::proofs::ExprParts::no_literal_at_end, crate::proofs::ExprParts::no_literal, crate::proofs::ExprParts::next_spells))]
+fn spelled(cursor: &Cursor) -> Option<ExprKind>
+    ensures { MatchOption result (choose Part.literal (next_of cursor.now.rest.now) ≡ None) (λ kind. NextSpells cursor.now.rest.now (plain_kind kind)) }
 {
-    match cursor.next() {
-        Some(Terminal::Int(number)) => Ok(ExprKind::Int(*number)),
-        Some(Terminal::Name(name)) => Ok(ExprKind::Local(*name)),
-        Some(Terminal::Keyword(Keyword::True)) => Ok(ExprKind::Bool(true)),
-        Some(Terminal::Keyword(Keyword::False)) => Ok(ExprKind::Bool(false)),
-        Some(Terminal::Keyword(Keyword::Null)) => Ok(ExprKind::Null),
-        Some(Terminal::Keyword(Keyword::This)) => Ok(ExprKind::This),
-        _ => Err(cursor.unexpected()),
+    single(cursor.next()?)
+}
+
+/// The expression that a terminal is.
+#[tactic(auto, using(crate::proofs::Spelling::number_spelled, crate::proofs::Spelling::name_spelled))]
+fn single(terminal: &Terminal) -> Option<ExprKind>
+    ensures { MatchOption result (literal_parts terminal.now ≡ None) (λ kind. Spells terminal.now (plain_kind kind)) }
+{
+    match terminal {
+        Terminal::Int(number) => Some(ExprKind::Int(*number)),
+        Terminal::Name(name) => Some(ExprKind::Local(*name)),
+        Terminal::Keyword(keyword) => constant(*keyword),
+        Terminal::Symbol(_) | Terminal::Text(_) => None,
+    }
+}
+
+/// The expression that a keyword is.
+#[tactic(auto, using(crate::proofs::Spelling::true_spelled, crate::proofs::Spelling::false_spelled, crate::proofs::Spelling::null_spelled, crate::proofs::Spelling::this_spelled, crate::proofs::Spelling::no_constant))]
+fn constant(keyword: Keyword) -> Option<ExprKind>
+    ensures { MatchOption result (literal_parts (Terminal.Keyword keyword) ≡ None) (λ kind. Spells (Terminal.Keyword keyword) (plain_kind kind)) }
+{
+    match keyword {
+        Keyword::True => Some(ExprKind::Bool(true)),
+        Keyword::False => Some(ExprKind::Bool(false)),
+        Keyword::Null => Some(ExprKind::Null),
+        Keyword::This => Some(ExprKind::This),
+        _ => None,
     }
 }
 
 /// Whether a field, a call or an element of what stands before comes next.
-fn selects(cursor: &Cursor) -> bool {
+#[tactic(auto, using(crate::proofs::SelectionParts::dot_selects, crate::proofs::SelectionParts::bracket_selects))]
+fn selects(cursor: &Cursor) -> bool
+    ensures { result ≡ (next_is is_dot (next_of cursor.now.rest.now) || next_is is_open_bracket (next_of cursor.now.rest.now)) }
+{
     cursor.is_symbol(Symbol::Dot) || cursor.is_symbol(Symbol::OpenBracket)
 }
 
 /// `{ "." Name | "." [ Args ] Name "(" [ Actuals ] ")" | "[" Expr "]" }`
-#[tactic(auto, using(crate::specs::Reading::none, crate::specs::Reading::more))]
+#[tactic(auto, using(crate::specs::Reading::none, crate::specs::Reading::more, crate::proofs::Few::still_few, crate::proofs::SelectionParts::selected_on, crate::proofs::SelectionParts::selected_refused, crate::proofs::SelectionParts::selected_ends))]
 #[cycle(exprs)]
 fn selected(alloc: Global, cursor: &mut Cursor, first: Expr) -> Result<Expr, Stop>
+    requires { cursor.old.joined ≤ 32 }
     ensures moves { OnOk result (Keeps cursor.old cursor.new) }
     ensures reads { OnOk result (Reading (part Part.selected ∷ []) cursor.old cursor.new) }
     ensures stops { IfErr result (λ stop. StopsAt (part Part.selected ∷ []) cursor.old stop) }
@@ -266,8 +320,10 @@ fn selected(alloc: Global, cursor: &mut Cursor, first: Expr) -> Result<Expr, Sto
 }
 
 /// `"." Name | "." [ Args ] Name "(" [ Actuals ] ")" | "[" Expr "]"`
+#[tactic(auto, using(crate::proofs::SelectionParts::element_selected, crate::proofs::SelectionParts::element_lost))]
 #[cycle(exprs)]
 fn selection(alloc: Global, cursor: &mut Cursor, of: Expr) -> Result<Expr, Stop>
+    requires { cursor.old.joined ≤ 32 }
     ensures moves { OnOk result (Reads cursor.old cursor.new) }
     ensures reads { OnOk result (Reading (part Part.selection ∷ []) cursor.old cursor.new) }
     ensures stops { IfErr result (λ stop. StopsAt (part Part.selection ∷ []) cursor.old stop) }
@@ -280,9 +336,10 @@ fn selection(alloc: Global, cursor: &mut Cursor, of: Expr) -> Result<Expr, Stop>
 }
 
 /// `"[" Expr "]"`
-#[tactic(auto, using(crate::proofs::Making::made_element))]
+#[tactic(auto, using(crate::proofs::Making::made_element, crate::proofs::ExprParts::element_reads, crate::proofs::ExprParts::element_refused, crate::proofs::ExprParts::index_refused, crate::proofs::ExprParts::index_close_refused))]
 #[cycle(exprs)]
 fn element(alloc: Global, cursor: &mut Cursor, of: Expr) -> Result<Expr, Stop>
+    requires { cursor.old.joined ≤ 32 }
     ensures moves { OnOk result (Reads cursor.old cursor.new) }
     ensures reads { OnOk result (Reading (part Part.element ∷ []) cursor.old cursor.new) }
     ensures stops { IfErr result (λ stop. StopsAt (part Part.element ∷ []) cursor.old stop) }
@@ -296,10 +353,11 @@ fn element(alloc: Global, cursor: &mut Cursor, of: Expr) -> Result<Expr, Stop>
 }
 
 /// `"." Name | "." [ Args ] Name "(" [ Actuals ] ")"`
-#[tactic(auto, using(crate::proofs::Making::made_field, crate::proofs::Making::made_call))]
+#[tactic(auto, using(crate::proofs::Making::made_field, crate::proofs::Making::made_call, crate::proofs::SelectionParts::dot_halts, crate::proofs::SelectionParts::dot_read, crate::proofs::SelectionParts::args_refused, crate::proofs::SelectionParts::name_refused, crate::proofs::SelectionParts::field_read, crate::proofs::SelectionParts::call_read, crate::proofs::SelectionParts::call_refused))]
 #[cycle(exprs)]
 fn member(alloc: Global, cursor: &mut Cursor, of: Expr) -> Result<Expr, Stop>
-    requires { Next (Terminal.Symbol Symbol.Dot) cursor.old.rest.now }
+    requires dot { Next (Terminal.Symbol Symbol.Dot) cursor.old.rest.now }
+    requires few { cursor.old.joined ≤ 32 }
     ensures moves { OnOk result (Reads cursor.old cursor.new) }
     ensures reads { OnOk result (Reading (part Part.selection ∷ []) cursor.old cursor.new) }
     ensures stops { IfErr result (λ stop. StopsAt (part Part.selection ∷ []) cursor.old stop) }
@@ -324,7 +382,7 @@ fn member(alloc: Global, cursor: &mut Cursor, of: Expr) -> Result<Expr, Stop>
 }
 
 /// `"(" [ Actuals ] ")"`
-#[tactic(auto, using(crate::proofs::Making::made_no_actuals, crate::proofs::Making::made_actuals))]
+#[tactic(auto, using(crate::proofs::Making::made_no_actuals, crate::proofs::Making::made_actuals, crate::proofs::ExprParts::actuals_refused, crate::proofs::ExprParts::no_actuals_read, crate::proofs::ExprParts::no_actuals_refused, crate::proofs::ExprParts::actuals_read, crate::proofs::ExprParts::listed_refused, crate::proofs::ExprParts::actuals_close_refused))]
 #[cycle(exprs)]
 fn actuals(alloc: Global, cursor: &mut Cursor) -> Result<Items<Expr>, Stop>
     ensures moves { OnOk result (Reads cursor.old cursor.new) }
@@ -343,7 +401,7 @@ fn actuals(alloc: Global, cursor: &mut Cursor) -> Result<Items<Expr>, Stop>
 }
 
 /// `Actuals = Expr { "," Expr }`
-#[tactic(auto, using(crate::proofs::Making::first_listed, crate::proofs::Making::more_listed))]
+#[tactic(auto, using(crate::proofs::Making::first_listed, crate::proofs::Making::more_listed, crate::proofs::ExprParts::first_reads, crate::proofs::ExprParts::first_refused, crate::proofs::ExprParts::next_reads, crate::proofs::ExprParts::comma_refused, crate::proofs::ExprParts::next_refused, crate::proofs::ExprParts::listed_ends))]
 #[cycle(exprs)]
 fn listed(alloc: Global, cursor: &mut Cursor) -> Result<Items<Expr>, Stop>
     ensures moves { OnOk result (Reads cursor.old cursor.new) }
@@ -361,7 +419,7 @@ fn listed(alloc: Global, cursor: &mut Cursor) -> Result<Items<Expr>, Stop>
 
 /// `Postfix` at the beginning of a statement: a creation is that of an object, and something in parentheses has a
 /// field, a call or an element behind it.
-#[tactic(auto, using(crate::proofs::Selecting::selections_postfix))]
+#[tactic(auto, using(crate::proofs::Selecting::selection_postfix, crate::proofs::TargetParts::target_on, crate::proofs::TargetParts::target_refused, crate::proofs::TargetParts::target_ends, crate::proofs::Few::still_few))]
 pub fn target(alloc: Global, cursor: &mut Cursor) -> Result<Expr, Stop>
     requires target { IsTarget cursor.old.rest.now }
     requires anew { cursor.old.joined ≡ 0 }
@@ -370,15 +428,22 @@ pub fn target(alloc: Global, cursor: &mut Cursor) -> Result<Expr, Stop>
     ensures stops { IfErr result (λ stop. StopsAt (stmt_begins cursor.old.rest.now) cursor.old stop) }
     ensures derives { IfOk result (λ e. DerivesPostfix (ending_of (plain_expr e)) cursor.old.rest.now cursor.new.rest.now (plain_expr e)) }
 {
-    let first = target_first(alloc, cursor)?;
-    selected(alloc, cursor, first)
+    let mut found = target_first(alloc, cursor)?;
+    while selects(cursor) {
+        found = selection(alloc, cursor, found)?;
+    }
+    Ok(found)
 }
 
 /// The shortest such Postfix.
-#[tactic(auto, using(crate::proofs::Making::inner_selection, crate::proofs::Making::primary_target))]
+#[tactic(auto, using(crate::proofs::Making::inner_selection, crate::proofs::Making::primary_target, crate::proofs::TargetParts::new_target_refused, crate::proofs::TargetParts::inner_target_refused, crate::proofs::TargetParts::inner_selection_refused, crate::proofs::TargetParts::literal_refused, crate::proofs::TargetParts::new_goes, crate::proofs::TargetParts::inner_goes, crate::proofs::TargetParts::literal_goes, crate::proofs::Few::still_few))]
 fn target_first(alloc: Global, cursor: &mut Cursor) -> Result<Expr, Stop>
+    requires target { IsTarget cursor.old.rest.now }
+    requires few { cursor.old.joined ≤ 32 }
     ensures moves { OnOk result (Reads cursor.old cursor.new) }
-    // TODO clause
+    ensures few { OnOk result (cursor.new.joined ≤ 32) }
+    ensures goes { IfOk result (λ e. ReadsOn (stmt_begins cursor.old.rest.now) cursor.old (part (Part.selected_then (ending_of (plain_expr e))) ∷ []) cursor.new) }
+    ensures stops { IfErr result (λ stop. StopsAt (stmt_begins cursor.old.rest.now) cursor.old stop) }
     ensures derives { IfOk result (λ e. DerivesPostfix (ending_of (plain_expr e)) cursor.old.rest.now cursor.new.rest.now (plain_expr e)) }
 {
     if cursor.is_keyword(Keyword::New) {
@@ -392,10 +457,12 @@ fn target_first(alloc: Global, cursor: &mut Cursor) -> Result<Expr, Stop>
 }
 
 /// `"new" Name [ Args ] "(" [ Actuals ] ")"`
+#[tactic(auto, using(crate::proofs::Composed::refused_first, crate::proofs::ExprParts::new_reads, crate::proofs::ExprParts::class_refused, crate::proofs::ExprParts::class_args_refused, crate::proofs::ExprParts::new_actuals_refused, crate::proofs::TargetParts::new_ending))]
 fn new_object(alloc: Global, cursor: &mut Cursor) -> Result<Expr, Stop>
     ensures moves { OnOk result (Reads cursor.old cursor.new) }
     ensures reads { OnOk result (Reading (one is_new ∷ one is_name ∷ part Part.args_if ∷ part Part.actuals ∷ []) cursor.old cursor.new) }
     ensures stops { IfErr result (λ stop. StopsAt (one is_new ∷ one is_name ∷ part Part.args_if ∷ part Part.actuals ∷ []) cursor.old stop) }
+    ensures ending { IfOk result (λ e. ending_of (plain_expr e) ≡ as_creation) }
     ensures derives { IfOk result (λ e. DerivesPostfix (ending_of (plain_expr e)) cursor.old.rest.now cursor.new.rest.now (plain_expr e)) }
 {
     let place = cursor.keyword(Keyword::New)?;

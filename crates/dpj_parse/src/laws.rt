@@ -2,6 +2,7 @@ ghost use Rattle.dpj_parse.specs.ExpectedText.{ExpectedText};
 ghost use Rattle.dpj_parse.specs.OneProgram.{OneProgram};
 ghost use Rattle.dpj_parse.specs.OneRefusal.{OneRefusal};
 ghost use Rattle.dpj_parse.specs.OneTree.{OneTree};
+ghost use Rattle.dpj_parse.specs.Samples.{Samples};
 ghost use Rattle.dpj_parse.specs.Viable.{OneFault};
 
 /// A list of terminals derives one program at most.
@@ -28,4 +29,9 @@ pub fn one_fault()
 /// A text is refused for its syntax at one place at most, and a program nowhere.
 pub fn one_refusal()
     ensures { OneRefusal }
+{}
+
+/// A small program is read, and texts that are just within the limits; with one thing more they are refused, at that.
+pub fn law_samples()
+    ensures { Samples }
 {}

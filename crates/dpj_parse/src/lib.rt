@@ -4,12 +4,12 @@
 //! text nests deeper, joins longer or suffixes more than 32 times. The time is linear.
 //!
 //! Proved: the tree that is answered is the one that the grammar derives, from as many terminals as there are tokens
-//! and with none of them left; it has at most as many nodes as the text has bytes; and reading ends. A text is refused
-//! as `syntax` only where it derives no program, at the one place of its fault, and as `nest` only in front of that:
-//! where the parser refuses a text, it is followed once more as is expected (`follow`). As laws: tokens derive one
-//! program at most; each text derives a program or has one fault of syntax, and is refused so at one place at most; and
-//! what is expected after each terminal (`specs/Expecting.antt`) is what the grammar says. Not proved: which terminal is
-//! the first that is one too many, and that a text with none that derives a program is answered with it.
+//! and with none of them left; it has at most as many nodes as the text has bytes; and reading ends. A text is answered
+//! exactly where it is read within the limits (`specs/Limits.antt`), and refused exactly where that reading stops: as
+//! `syntax` where a terminal can't come, as `nest` where it is one too many. As laws: tokens derive one program at most;
+//! what is expected after each terminal (`specs/Expecting.antt`) is what the grammar says; and each text is read within the
+//! limits or refused at one place, `syntax` only at the first terminal with which no program goes on, `nest` only at one
+//! with which it can still become a program.
 #![tactic(auto)]
 
 mod classes;
@@ -23,5 +23,5 @@ mod region;
 mod stmts;
 mod types;
 
-pub use laws::{expected_text, one_fault, one_program, one_refusal, one_tree};
+pub use laws::{expected_text, law_samples, one_fault, one_program, one_refusal, one_tree};
 pub use program::parse;

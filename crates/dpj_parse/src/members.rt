@@ -1,6 +1,9 @@
 ghost use Rattle.std.specs.Prelude.{◌≡◌, ◌+◌, ◌↔◌, IfOk, IsTrue, OnOk, IfErr, [], ◌∷◌};
 ghost use Rattle.dpj_parse.specs.Counted.{Reading, StopsAt};
-ghost use Rattle.dpj_parse.specs.Expecting.{Part, part};
+ghost use Rattle.dpj_parse.specs.Expecting.{Part, one, part};
+ghost use Rattle.dpj_parse.specs.Members.{BeginsAnswering, BeginsTyped, IsItemsPart, constructor_comes, member_begins, type_begins};
+ghost use Rattle.dpj_parse.specs.Types.{DerivesType};
+ghost use Rattle.dpj_parse.specs.Words.{is_name, is_semicolon};
 ghost use Rattle.dpj_parse.specs.Classes.{BeginsEffects, DerivesField, DerivesFormal, DerivesFormalList, DerivesFormals, DerivesIn, DerivesItem, DerivesItemsIf, DerivesMember, DerivesMethod, DerivesNamed, DerivesResult, DerivesSummary};
 ghost use Rattle.dpj_parse.specs.Progress.{Keeps, Reads};
 ghost use Rattle.dpj_parse.specs.Taking.{Listed};
@@ -8,7 +11,7 @@ ghost use Rattle.dpj_parse.specs.Taking.{Listed};
 use crate::cursor::Cursor;
 use crate::region::{begins_kind, kind, names, no_params, params_if, rpl};
 use crate::stmts::block;
-use crate::types::ty;
+use crate::types::{named_type, ty};
 use dpj_base::{Items, Stop};
 use dpj_terminals::Terminal;
 use dpj_tokens::{Keyword, Symbol};
@@ -18,21 +21,34 @@ use dpj_tree::{
 };
 use std::alloc::Global;
 
-/// `Member`
-#[tactic(auto, using(crate::proofs::MemberForms::method_of, crate::proofs::MemberForms::constructor_of))]
+/// `Member`: its types and expressions count anew.
+#[tactic(auto, using(crate::proofs::MemberParts::member_reads, crate::proofs::MemberParts::member_refused))]
 pub fn member(alloc: Global, cursor: &mut Cursor) -> Result<Member, Stop>
     ensures moves { OnOk result (Reads cursor.old cursor.new) }
     ensures reads { OnOk result (Reading (part Part.member ∷ []) cursor.old cursor.new) }
     ensures stops { IfErr result (λ stop. StopsAt (part Part.member ∷ []) cursor.old stop) }
     ensures derives { IfOk result (λ tree. DerivesMember cursor.old.rest.now cursor.new.rest.now tree) }
 {
+    let outer = cursor.joined;
+    cursor.joined = 0;
+    let member = kind_of_member(alloc, cursor)?;
+    cursor.joined = outer;
+    Ok(member)
+}
+
+/// A member of one of the four kinds, which its first two terminals tell.
+#[tactic(auto, using(crate::proofs::MemberForms::constructor_of, crate::proofs::MemberParts::regions_comes, crate::proofs::MemberParts::regions_refused, crate::proofs::MemberParts::answering_comes, crate::proofs::MemberParts::answering_refused, crate::proofs::MemberParts::constructor_reads, crate::proofs::MemberParts::constructor_refused, crate::proofs::MemberParts::typed_comes))]
+fn kind_of_member(alloc: Global, cursor: &mut Cursor) -> Result<Member, Stop>
+    ensures moves { OnOk result (Reads cursor.old cursor.new) }
+    ensures reads { OnOk result (Reading (member_begins cursor.old.rest.now) cursor.old cursor.new) }
+    ensures stops { IfErr result (λ stop. StopsAt (member_begins cursor.old.rest.now) cursor.old stop) }
+    ensures derives { IfOk result (λ tree. DerivesMember cursor.old.rest.now cursor.new.rest.now tree) }
+{
     if begins_kind(cursor) {
         return regions(alloc, cursor);
     }
-    if cursor.is_symbol(Symbol::Less) || cursor.is_keyword(Keyword::Void) {
-        let params = params_if(alloc, cursor)?;
-        let returns = result(alloc, cursor)?;
-        return method(alloc, cursor, params, returns);
+    if begins_answering(cursor) {
+        return answering(alloc, cursor);
     }
     if constructs(cursor) {
         return method(alloc, cursor, no_params(alloc), MethodResult::Constructor);
@@ -41,10 +57,11 @@ pub fn member(alloc: Global, cursor: &mut Cursor) -> Result<Member, Stop>
 }
 
 /// `Kind Name { "," Name } ";"`
-#[tactic(auto, using(crate::proofs::MemberForms::regions_of))]
+#[tactic(auto, using(crate::proofs::MemberForms::regions_of, crate::proofs::MemberParts::read_three, crate::proofs::Composed::refused_first, crate::proofs::MemberParts::refused_second, crate::proofs::MemberParts::refused_third))]
 fn regions(alloc: Global, cursor: &mut Cursor) -> Result<Member, Stop>
     ensures moves { OnOk result (Reads cursor.old cursor.new) }
-    // PART regions
+    ensures reads { OnOk result (Reading (part Part.kind ∷ part Part.names ∷ one is_semicolon ∷ []) cursor.old cursor.new) }
+    ensures stops { IfErr result (λ stop. StopsAt (part Part.kind ∷ part Part.names ∷ one is_semicolon ∷ []) cursor.old stop) }
     ensures derives { IfOk result (λ tree. DerivesMember cursor.old.rest.now cursor.new.rest.now tree) }
 {
     let atomic = kind(cursor)?;
@@ -53,8 +70,31 @@ fn regions(alloc: Global, cursor: &mut Cursor) -> Result<Member, Stop>
     Ok(Member::Regions { atomic, names })
 }
 
+/// Whether region parameters or `void` come next.
+fn begins_answering(cursor: &Cursor) -> bool
+    ensures { IsTrue result ↔ BeginsAnswering cursor.now.rest.now }
+{
+    cursor.is_symbol(Symbol::Less) || cursor.is_keyword(Keyword::Void)
+}
+
+/// `[ Params ] ( Type | "void" ) Name "(" [ Formals ] ")" Summary Block`
+#[tactic(auto, using(crate::proofs::MemberForms::method_of, crate::proofs::MemberParts::answering_reads, crate::proofs::Composed::refused_first, crate::proofs::MemberParts::refused_second, crate::proofs::MemberParts::answering_method_refused))]
+fn answering(alloc: Global, cursor: &mut Cursor) -> Result<Member, Stop>
+    ensures moves { OnOk result (Reads cursor.old cursor.new) }
+    ensures reads { OnOk result (Reading (part Part.params_if ∷ part Part.result ∷ one is_name ∷ part Part.method_rest ∷ []) cursor.old cursor.new) }
+    ensures stops { IfErr result (λ stop. StopsAt (part Part.params_if ∷ part Part.result ∷ one is_name ∷ part Part.method_rest ∷ []) cursor.old stop) }
+    ensures derives { IfOk result (λ tree. DerivesMember cursor.old.rest.now cursor.new.rest.now tree) }
+{
+    let params = params_if(alloc, cursor)?;
+    let returns = result(alloc, cursor)?;
+    method(alloc, cursor, params, returns)
+}
+
 /// Whether the member is a constructor.
-fn constructs(cursor: &Cursor) -> bool {
+#[tactic(auto, using(crate::proofs::MemberParts::constructor_here, crate::proofs::MemberParts::constructor_unopened, crate::proofs::MemberParts::constructor_unnamed))]
+fn constructs(cursor: &Cursor) -> bool
+    ensures { result ≡ constructor_comes cursor.now.rest.now }
+{
     match cursor.next() {
         Some(Terminal::Name(_)) => match cursor.second() {
             Some(Terminal::Symbol(Symbol::OpenParen)) => true,
@@ -65,7 +105,7 @@ fn constructs(cursor: &Cursor) -> bool {
 }
 
 /// `Type | "void"`
-#[tactic(auto, using(crate::proofs::MemberForms::result_void, crate::proofs::MemberForms::result_value))]
+#[tactic(auto, using(crate::proofs::MemberForms::result_void, crate::proofs::MemberForms::result_value, crate::proofs::MemberParts::result_void_reads, crate::proofs::MemberParts::result_void_refused, crate::proofs::MemberParts::result_value_reads, crate::proofs::MemberParts::result_value_refused))]
 fn result(alloc: Global, cursor: &mut Cursor) -> Result<MethodResult, Stop>
     ensures moves { OnOk result (Reads cursor.old cursor.new) }
     ensures reads { OnOk result (Reading (part Part.result ∷ []) cursor.old cursor.new) }
@@ -79,13 +119,15 @@ fn result(alloc: Global, cursor: &mut Cursor) -> Result<MethodResult, Stop>
 }
 
 /// A field, or a method with a result and without region parameters.
-#[tactic(auto, using(crate::proofs::MemberForms::typed_field, crate::proofs::MemberForms::typed_method))]
+#[tactic(auto, using(crate::proofs::MemberForms::typed_field, crate::proofs::MemberForms::typed_method, crate::proofs::MemberParts::typed_refused, crate::proofs::MemberParts::typed_name_refused))]
 fn typed(alloc: Global, cursor: &mut Cursor) -> Result<Member, Stop>
+    requires { BeginsTyped cursor.old.rest.now }
     ensures moves { OnOk result (Reads cursor.old cursor.new) }
-    // PART typed
+    ensures reads { OnOk result (Reading (member_begins cursor.old.rest.now) cursor.old cursor.new) }
+    ensures stops { IfErr result (λ stop. StopsAt (member_begins cursor.old.rest.now) cursor.old stop) }
     ensures derives { IfOk result (λ tree. DerivesMember cursor.old.rest.now cursor.new.rest.now tree) }
 {
-    let ty = ty(alloc, cursor)?;
+    let ty = member_type(alloc, cursor)?;
     let named = cursor.name()?;
     if cursor.is_symbol(Symbol::OpenParen) {
         return behind_name(
@@ -99,11 +141,26 @@ fn typed(alloc: Global, cursor: &mut Cursor) -> Result<Member, Stop>
     field(alloc, cursor, ty, named)
 }
 
+/// `Type`: what follows a name counts on, since the name could still have been a constructor's.
+#[tactic(auto, using(crate::proofs::MemberParts::type_by_name, crate::proofs::MemberParts::type_by_name_refused, crate::proofs::MemberParts::type_by_itself, crate::proofs::MemberParts::type_by_itself_refused))]
+fn member_type(alloc: Global, cursor: &mut Cursor) -> Result<TypeTree, Stop>
+    ensures moves { OnOk result (Reads cursor.old cursor.new) }
+    ensures reads { OnOk result (Reading (type_begins cursor.old.rest.now) cursor.old cursor.new) }
+    ensures stops { IfErr result (λ stop. StopsAt (type_begins cursor.old.rest.now) cursor.old stop) }
+    ensures derives { IfOk result (λ ty. DerivesType cursor.old.rest.now cursor.new.rest.now ty) }
+{
+    match cursor.next() {
+        Some(Terminal::Name(_)) => named_type(alloc, cursor),
+        _ => ty(alloc, cursor),
+    }
+}
+
 /// `[ "in" Rpl ] ";"`
-#[tactic(auto, using(crate::proofs::MemberForms::field_of))]
+#[tactic(auto, using(crate::proofs::MemberForms::field_of, crate::proofs::MemberParts::read_two, crate::proofs::Composed::refused_first, crate::proofs::MemberParts::refused_second))]
 fn field(alloc: Global, cursor: &mut Cursor, ty: TypeTree, named: Named) -> Result<Member, Stop>
     ensures moves { OnOk result (Reads cursor.old cursor.new) }
-    // PART field
+    ensures reads { OnOk result (Reading (part Part.in_if ∷ one is_semicolon ∷ []) cursor.old cursor.new) }
+    ensures stops { IfErr result (λ stop. StopsAt (part Part.in_if ∷ one is_semicolon ∷ []) cursor.old stop) }
     ensures derives { IfOk result (λ tree. DerivesField ty named cursor.old.rest.now cursor.new.rest.now tree) }
 {
     let region = region_if(alloc, cursor)?;
@@ -117,7 +174,7 @@ fn field(alloc: Global, cursor: &mut Cursor, ty: TypeTree, named: Named) -> Resu
 }
 
 /// `[ "in" Rpl ]`
-#[tactic(auto, using(crate::specs::Classes::nowhere, crate::proofs::MemberForms::in_region_of))]
+#[tactic(auto, using(crate::specs::Classes::nowhere, crate::proofs::MemberForms::in_region_of, crate::proofs::MemberParts::in_if_none, crate::proofs::MemberParts::in_if_reads, crate::proofs::MemberParts::in_if_lost, crate::proofs::MemberParts::in_if_refused))]
 fn region_if(alloc: Global, cursor: &mut Cursor) -> Result<Option<RplTree>, Stop>
     ensures moves { OnOk result (Keeps cursor.old cursor.new) }
     ensures reads { OnOk result (Reading (part Part.in_if ∷ []) cursor.old cursor.new) }
@@ -131,7 +188,7 @@ fn region_if(alloc: Global, cursor: &mut Cursor) -> Result<Option<RplTree>, Stop
 }
 
 /// `Name "(" [ Formals ] ")" Summary Block`
-#[tactic(auto, using(crate::specs::Classes::named))]
+#[tactic(auto, using(crate::specs::Classes::named, crate::proofs::MemberParts::read_two, crate::proofs::Composed::refused_first, crate::proofs::MemberParts::refused_second))]
 fn method(
     alloc: Global,
     cursor: &mut Cursor,
@@ -139,7 +196,8 @@ fn method(
     returns: MethodResult,
 ) -> Result<Member, Stop>
     ensures moves { OnOk result (Reads cursor.old cursor.new) }
-    // PART method
+    ensures reads { OnOk result (Reading (one is_name ∷ part Part.method_rest ∷ []) cursor.old cursor.new) }
+    ensures stops { IfErr result (λ stop. StopsAt (one is_name ∷ part Part.method_rest ∷ []) cursor.old stop) }
     ensures derives { IfOk result (λ tree. DerivesNamed params returns cursor.old.rest.now cursor.new.rest.now tree) }
 {
     let named = cursor.name()?;
@@ -147,7 +205,7 @@ fn method(
 }
 
 /// `"(" [ Formals ] ")" Summary Block`
-#[tactic(auto, using(crate::proofs::MemberForms::method_behind))]
+#[tactic(auto, using(crate::proofs::MemberForms::method_behind, crate::proofs::MemberParts::method_rest_reads, crate::proofs::MemberParts::method_rest_refused, crate::proofs::Composed::refused_first, crate::proofs::MemberParts::refused_second, crate::proofs::MemberParts::refused_third))]
 fn behind_name(
     alloc: Global,
     cursor: &mut Cursor,
@@ -175,7 +233,7 @@ fn behind_name(
 }
 
 /// `"(" [ Formals ] ")"`
-#[tactic(auto, using(crate::proofs::MemberForms::formals_of))]
+#[tactic(auto, using(crate::proofs::MemberForms::formals_of, crate::proofs::MemberParts::formals_reads, crate::proofs::MemberParts::formals_refused, crate::proofs::Composed::refused_first, crate::proofs::MemberParts::refused_second, crate::proofs::MemberParts::refused_third))]
 fn formals(alloc: Global, cursor: &mut Cursor) -> Result<Items<Formal>, Stop>
     ensures moves { OnOk result (Reads cursor.old cursor.new) }
     ensures reads { OnOk result (Reading (part Part.formals ∷ []) cursor.old cursor.new) }
@@ -189,7 +247,7 @@ fn formals(alloc: Global, cursor: &mut Cursor) -> Result<Items<Formal>, Stop>
 }
 
 /// `[ Formals ]` with `Formals = Type Name { "," Type Name }`
-#[tactic(auto, using(crate::specs::Classes::no_formals, crate::specs::Classes::formals, crate::proofs::Lists::listed_more, crate::specs::Taking::last))]
+#[tactic(auto, using(crate::specs::Classes::no_formals, crate::specs::Classes::formals, crate::proofs::Lists::listed_more, crate::specs::Taking::last, crate::proofs::MemberParts::formal_list_none, crate::proofs::MemberParts::formal_list_refused, crate::proofs::MemberParts::formal_list_begun, crate::proofs::MemberParts::more_formals_round, crate::proofs::MemberParts::more_formals_end, crate::proofs::MemberParts::more_formals_lost, crate::proofs::MemberParts::more_formals_refused))]
 fn formal_list(alloc: Global, cursor: &mut Cursor) -> Result<Items<Formal>, Stop>
     ensures moves { OnOk result (Keeps cursor.old cursor.new) }
     ensures reads { OnOk result (Reading (part Part.formal_list ∷ []) cursor.old cursor.new) }
@@ -208,7 +266,7 @@ fn formal_list(alloc: Global, cursor: &mut Cursor) -> Result<Items<Formal>, Stop
 }
 
 /// `Type Name`
-#[tactic(auto, using(crate::specs::Classes::formal))]
+#[tactic(auto, using(crate::specs::Classes::formal, crate::proofs::MemberParts::formal_reads, crate::proofs::MemberParts::formal_refused, crate::proofs::Composed::refused_first, crate::proofs::MemberParts::refused_second))]
 fn formal(alloc: Global, cursor: &mut Cursor) -> Result<Formal, Stop>
     ensures moves { OnOk result (Reads cursor.old cursor.new) }
     ensures reads { OnOk result (Reading (part Part.formal ∷ []) cursor.old cursor.new) }
@@ -225,7 +283,7 @@ fn formal(alloc: Global, cursor: &mut Cursor) -> Result<Formal, Stop>
 }
 
 /// `Summary = [ "pure" | "reads" Items [ "writes" Items ] | "writes" Items ]`
-#[tactic(auto, using(crate::specs::Classes::no_summary, crate::proofs::MemberForms::summary_pure, crate::proofs::MemberForms::summary_effects))]
+#[tactic(auto, using(crate::specs::Classes::no_summary, crate::proofs::MemberForms::summary_pure, crate::proofs::MemberForms::summary_effects, crate::proofs::MemberParts::summary_effects_reads, crate::proofs::MemberParts::summary_reads_refused, crate::proofs::MemberParts::summary_writes_refused, crate::proofs::MemberParts::summary_pure_reads, crate::proofs::MemberParts::summary_pure_refused, crate::proofs::MemberParts::summary_none, crate::specs::Members::reads, crate::specs::Members::writes))]
 fn summary(alloc: Global, cursor: &mut Cursor) -> Result<Option<SummaryTree>, Stop>
     ensures moves { OnOk result (Keeps cursor.old cursor.new) }
     ensures reads { OnOk result (Reading (part Part.summary ∷ []) cursor.old cursor.new) }
@@ -254,10 +312,11 @@ fn begins_effects(cursor: &Cursor) -> bool
 }
 
 /// A keyword and Items, or neither.
-#[tactic(auto, using(crate::proofs::MemberForms::items_none, crate::proofs::MemberForms::items_some))]
+#[tactic(auto, using(crate::proofs::MemberForms::items_none, crate::proofs::MemberForms::items_some, crate::proofs::MemberParts::items_if_none, crate::proofs::MemberParts::items_if_reads, crate::proofs::MemberParts::items_if_lost, crate::proofs::MemberParts::items_if_refused))]
 fn items_if(alloc: Global, cursor: &mut Cursor, keyword: Keyword) -> Result<Items<Item>, Stop>
     ensures moves { OnOk result (Keeps cursor.old cursor.new) }
-    // PART items_if
+    ensures reads { OnOk result ((n : Part) → IsItemsPart keyword n → Reading (part n ∷ []) cursor.old cursor.new) }
+    ensures stops { IfErr result (λ stop. (n : Part) → IsItemsPart keyword n → StopsAt (part n ∷ []) cursor.old stop) }
     ensures derives { IfOk result (λ items. DerivesItemsIf keyword cursor.old.rest.now cursor.new.rest.now items) }
 {
     if !cursor.keyword_if(keyword)? {
@@ -267,7 +326,7 @@ fn items_if(alloc: Global, cursor: &mut Cursor, keyword: Keyword) -> Result<Item
 }
 
 /// `Items = [ "atomic" ] Rpl { "," [ "atomic" ] Rpl }`
-#[tactic(auto, using(crate::proofs::Lists::listed_more, crate::specs::Taking::last))]
+#[tactic(auto, using(crate::proofs::Lists::listed_more, crate::specs::Taking::last, crate::proofs::MemberParts::items_refused, crate::proofs::MemberParts::items_begun, crate::proofs::MemberParts::more_items_round, crate::proofs::MemberParts::more_items_end, crate::proofs::MemberParts::more_items_lost, crate::proofs::MemberParts::more_items_refused))]
 fn items(alloc: Global, cursor: &mut Cursor) -> Result<Items<Item>, Stop>
     ensures moves { OnOk result (Reads cursor.old cursor.new) }
     ensures reads { OnOk result (Reading (part Part.items ∷ []) cursor.old cursor.new) }
@@ -283,7 +342,7 @@ fn items(alloc: Global, cursor: &mut Cursor) -> Result<Items<Item>, Stop>
 }
 
 /// `[ "atomic" ] Rpl`
-#[tactic(auto, using(crate::proofs::MemberForms::item_of))]
+#[tactic(auto, using(crate::proofs::MemberForms::item_of, crate::proofs::MemberParts::item_reads, crate::proofs::MemberParts::item_lost, crate::proofs::MemberParts::item_refused))]
 fn item(alloc: Global, cursor: &mut Cursor) -> Result<Item, Stop>
     ensures moves { OnOk result (Reads cursor.old cursor.new) }
     ensures reads { OnOk result (Reading (part Part.item ∷ []) cursor.old cursor.new) }

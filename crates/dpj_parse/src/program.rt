@@ -1,4 +1,4 @@
-ghost use Rattle.std.specs.Prelude.{◌≡◌, ◌≤◌, ◌<◌, length, All, IfErr, IfOk};
+ghost use Rattle.std.specs.Prelude.{◌≡◌, ◌≤◌, ◌<◌, length, All, IfErr, IfOk, OnOk};
 ghost use Rattle.std.specs.List.{IsDistinct};
 ghost use Rattle.std.specs.Str.{bytes_eq};
 ghost use Rattle.dpj_tokens.specs.Cutting.{StandInOrder};
@@ -35,7 +35,7 @@ pub fn parse(alloc: Global, bytes: &[u8], tokens: &Tokens) -> Result<Program, St
 }
 
 /// The classes of a text, or where it is refused.
-#[tactic(auto, using(crate::proofs::Refused::refused_in))]
+#[tactic(auto, using(crate::proofs::Refused::refused_in, crate::proofs::ClassParts::read_within))]
 fn read(alloc: Global, list: &[Placed], end: Place) -> Result<Items<Class>, Stop>
     ensures derives { IfOk result (DerivesProgram list.now) }
     ensures within { OnOk result (IsWithin list.now) }

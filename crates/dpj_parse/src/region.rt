@@ -1,10 +1,11 @@
-ghost use Rattle.std.specs.Prelude.{◌≡◌, ◌+◌, ◌≤◌, [], length, IfOk, OnOk, IfErr, ◌∷◌};
+ghost use Rattle.std.specs.Prelude.{◌≡◌, ◌≤◌, ◌||◌, [], IfOk, OnOk, IfErr, ◌∷◌};
 ghost use Rattle.dpj_parse.specs.Counted.{Reading, StopsAt};
-ghost use Rattle.dpj_parse.specs.Expecting.{Part, part};
+ghost use Rattle.dpj_parse.specs.Expecting.{Part, next_is, next_of, one, part};
 ghost use Rattle.dpj_parse.specs.Classes.{DerivesConstr, DerivesDeclared, DerivesGiven, DerivesKind, DerivesKindOr, DerivesParam, DerivesParams};
 ghost use Rattle.dpj_parse.specs.Paths.{DerivesArgs, DerivesElem, DerivesHead, DerivesNext, DerivesRName, DerivesRpl, DerivesWithin};
 ghost use Rattle.dpj_parse.specs.Progress.{Keeps, Reads};
 ghost use Rattle.dpj_parse.specs.Taking.{Listed, Many, TakesName};
+ghost use Rattle.dpj_parse.specs.Words.{is_atomic, is_name, is_region};
 
 use crate::cursor::Cursor;
 use dpj_base::{Items, Stop};
@@ -14,7 +15,7 @@ use dpj_tree::{ConstrTree, ElemTree, Named, ParamTree, Params, RName, RplHead, R
 use std::alloc::Global;
 
 /// `Name { "," Name }`
-#[tactic(auto, using(crate::proofs::Lists::listed_more, crate::specs::Taking::last))]
+#[tactic(auto, using(crate::proofs::Lists::listed_more, crate::specs::Taking::last, crate::proofs::PathParts::names_reading))]
 pub fn names(alloc: Global, cursor: &mut Cursor) -> Result<Items<Named>, Stop>
     ensures moves { OnOk result (Reads cursor.old cursor.new) }
     ensures reads { OnOk result (Reading (part Part.names ∷ []) cursor.old cursor.new) }
@@ -30,8 +31,9 @@ pub fn names(alloc: Global, cursor: &mut Cursor) -> Result<Items<Named>, Stop>
 }
 
 /// `RName = Name [ "." Name ]`
-#[tactic(auto, using(crate::specs::Paths::one_name, crate::proofs::Regions::second_name))]
+#[tactic(auto, using(crate::specs::Paths::one_name, crate::proofs::Regions::second_name, crate::proofs::PathParts::region_name_reading))]
 fn region_name(cursor: &mut Cursor) -> Result<RName, Stop>
+    ensures few { OnOk result (cursor.new.joined ≤ 32) }
     ensures moves { OnOk result (Reads cursor.old cursor.new) }
     ensures reads { OnOk result (Reading (part Part.region_name ∷ []) cursor.old cursor.new) }
     ensures stops { IfErr result (λ stop. StopsAt (part Part.region_name ∷ []) cursor.old stop) }
@@ -47,8 +49,9 @@ fn region_name(cursor: &mut Cursor) -> Result<RName, Stop>
 }
 
 /// `Rpl = ( "Root" | RName ) { ":" Elem }`
-#[tactic(auto, using(crate::specs::Paths::path))]
+#[tactic(auto, using(crate::specs::Paths::path, crate::proofs::PathParts::rpl_reading))]
 pub fn rpl(alloc: Global, cursor: &mut Cursor) -> Result<RplTree, Stop>
+    ensures same { OnOk result (cursor.new.joined ≡ cursor.old.joined) }
     ensures moves { OnOk result (Reads cursor.old cursor.new) }
     ensures reads { OnOk result (Reading (part Part.path ∷ []) cursor.old cursor.new) }
     ensures stops { IfErr result (λ stop. StopsAt (part Part.path ∷ []) cursor.old stop) }
@@ -63,8 +66,9 @@ pub fn rpl(alloc: Global, cursor: &mut Cursor) -> Result<RplTree, Stop>
     Ok(RplTree { place, head, elems })
 }
 
-#[tactic(auto, using(crate::proofs::Regions::head_root, crate::proofs::Regions::head_name))]
+#[tactic(auto, using(crate::proofs::Regions::head_root, crate::proofs::Regions::head_name, crate::proofs::PathParts::head_reading))]
 fn head(cursor: &mut Cursor) -> Result<RplHead, Stop>
+    ensures few { OnOk result (cursor.new.joined ≤ 32) }
     ensures moves { OnOk result (Reads cursor.old cursor.new) }
     ensures reads { OnOk result (Reading (part Part.head ∷ []) cursor.old cursor.new) }
     ensures stops { IfErr result (λ stop. StopsAt (part Part.head ∷ []) cursor.old stop) }
@@ -77,8 +81,9 @@ fn head(cursor: &mut Cursor) -> Result<RplHead, Stop>
 }
 
 /// `{ ":" Elem }`
-#[tactic(auto, using(crate::proofs::Lists::many_more, crate::proofs::Lists::few_more, crate::specs::Taking::none, crate::proofs::Regions::next_elem))]
+#[tactic(auto, using(crate::proofs::Lists::many_more, crate::specs::Taking::none, crate::proofs::Regions::next_elem, crate::proofs::PathParts::elems_reading))]
 fn elems(alloc: Global, cursor: &mut Cursor) -> Result<Items<ElemTree>, Stop>
+    requires { cursor.old.joined ≤ 32 }
     ensures moves { OnOk result (Keeps cursor.old cursor.new) }
     ensures reads { OnOk result (Reading (part Part.elems ∷ []) cursor.old cursor.new) }
     ensures stops { IfErr result (λ stop. StopsAt (part Part.elems ∷ []) cursor.old stop) }
@@ -86,20 +91,22 @@ fn elems(alloc: Global, cursor: &mut Cursor) -> Result<Items<ElemTree>, Stop>
 {
     let mut elems = Items::new(alloc);
     while cursor.symbol_if(Symbol::Colon)? {
-        cursor.joined += 1;
         elems.push(elem(cursor)?)?;
     }
     Ok(elems)
 }
 
-/// `Elem = RName | "*" | "[" ( Int | Name | "?" ) "]"`
-#[tactic(auto, using(crate::proofs::Regions::elem_star, crate::proofs::Regions::elem_name))]
+/// `Elem = RName | "*" | "[" ( Int | Name | "?" ) "]"`, one more of its path
+#[tactic(auto, using(crate::proofs::Regions::elem_star, crate::proofs::Regions::elem_name, crate::proofs::PathParts::elem_reading))]
 fn elem(cursor: &mut Cursor) -> Result<ElemTree, Stop>
+    requires { cursor.old.joined ≤ 32 }
+    ensures few { OnOk result (cursor.new.joined ≤ 32) }
     ensures moves { OnOk result (Reads cursor.old cursor.new) }
     ensures reads { OnOk result (Reading (part Part.elem ∷ []) cursor.old cursor.new) }
     ensures stops { IfErr result (λ stop. StopsAt (part Part.elem ∷ []) cursor.old stop) }
     ensures derives { IfOk result (λ tree. DerivesElem cursor.old.rest.now cursor.new.rest.now tree) }
 {
+    cursor.joined += 1;
     match cursor.next() {
         Some(Terminal::Symbol(Symbol::Star)) => {
             cursor.accept()?;
@@ -111,8 +118,9 @@ fn elem(cursor: &mut Cursor) -> Result<ElemTree, Stop>
 }
 
 /// `"[" ( Int | Name | "?" ) "]"`
-#[tactic(auto, using(crate::proofs::Regions::elem_within, crate::proofs::Composed::seq, crate::proofs::Composed::read_part, crate::proofs::Composed::refused_part, crate::proofs::Composed::refused_first, crate::proofs::Composed::refused_after))]
+#[tactic(auto, using(crate::proofs::Regions::elem_within, crate::proofs::PathParts::index_reading))]
 fn index(cursor: &mut Cursor) -> Result<ElemTree, Stop>
+    ensures few { OnOk result (cursor.new.joined ≤ 32) }
     ensures moves { OnOk result (Reads cursor.old cursor.new) }
     ensures reads { OnOk result (Reading (part Part.index ∷ []) cursor.old cursor.new) }
     ensures stops { IfErr result (λ stop. StopsAt (part Part.index ∷ []) cursor.old stop) }
@@ -125,7 +133,7 @@ fn index(cursor: &mut Cursor) -> Result<ElemTree, Stop>
 }
 
 /// `Int | Name | "?"`
-#[tactic(auto, using(crate::specs::Paths::index, crate::proofs::Regions::within_number, crate::proofs::Regions::within_any))]
+#[tactic(auto, using(crate::specs::Paths::index, crate::proofs::Regions::within_number, crate::proofs::Regions::within_any, crate::proofs::PathParts::within_reading))]
 fn within(cursor: &mut Cursor) -> Result<ElemTree, Stop>
     ensures moves { OnOk result (Reads cursor.old cursor.new) }
     ensures reads { OnOk result (Reading (part Part.within ∷ []) cursor.old cursor.new) }
@@ -146,8 +154,9 @@ fn within(cursor: &mut Cursor) -> Result<ElemTree, Stop>
 }
 
 /// `[ Args ]`
-#[tactic(auto, using(crate::specs::Paths::no_args))]
+#[tactic(auto, using(crate::specs::Paths::no_args, crate::proofs::PathParts::args_if_reading))]
 pub fn args_if(alloc: Global, cursor: &mut Cursor) -> Result<Items<RplTree>, Stop>
+    ensures same { OnOk result (cursor.new.joined ≡ cursor.old.joined) }
     ensures moves { OnOk result (Keeps cursor.old cursor.new) }
     ensures reads { OnOk result (Reading (part Part.args_if ∷ []) cursor.old cursor.new) }
     ensures stops { IfErr result (λ stop. StopsAt (part Part.args_if ∷ []) cursor.old stop) }
@@ -160,8 +169,9 @@ pub fn args_if(alloc: Global, cursor: &mut Cursor) -> Result<Items<RplTree>, Sto
 }
 
 /// `Args = "<" Rpl { "," Rpl } ">"`
-#[tactic(auto, using(crate::specs::Paths::args))]
+#[tactic(auto, using(crate::specs::Paths::args, crate::proofs::PathParts::args_reading))]
 pub fn args(alloc: Global, cursor: &mut Cursor) -> Result<Items<RplTree>, Stop>
+    ensures same { OnOk result (cursor.new.joined ≡ cursor.old.joined) }
     ensures moves { OnOk result (Reads cursor.old cursor.new) }
     ensures reads { OnOk result (Reading (part Part.args ∷ []) cursor.old cursor.new) }
     ensures stops { IfErr result (λ stop. StopsAt (part Part.args ∷ []) cursor.old stop) }
@@ -174,10 +184,12 @@ pub fn args(alloc: Global, cursor: &mut Cursor) -> Result<Items<RplTree>, Stop>
 }
 
 /// `Rpl { "," Rpl }`
-#[tactic(auto, using(crate::proofs::Lists::listed_more, crate::specs::Taking::last))]
+#[tactic(auto, using(crate::proofs::Lists::listed_more, crate::specs::Taking::last, crate::proofs::PathParts::paths_reading))]
 fn paths(alloc: Global, cursor: &mut Cursor) -> Result<Items<RplTree>, Stop>
+    ensures same { OnOk result (cursor.new.joined ≡ cursor.old.joined) }
     ensures moves { OnOk result (Reads cursor.old cursor.new) }
-    // PART paths
+    ensures reads { OnOk result (Reading (part Part.path ∷ part Part.more_paths ∷ []) cursor.old cursor.new) }
+    ensures stops { IfErr result (λ stop. StopsAt (part Part.path ∷ part Part.more_paths ∷ []) cursor.old stop) }
     ensures derives { IfOk result (λ paths. Listed DerivesRpl cursor.old.rest.now cursor.new.rest.now paths) }
 {
     let mut paths = Items::new(alloc);
@@ -189,7 +201,7 @@ fn paths(alloc: Global, cursor: &mut Cursor) -> Result<Items<RplTree>, Stop>
 }
 
 /// `[ Params ]`
-#[tactic(auto, using(crate::specs::Classes::no_params))]
+#[tactic(auto, using(crate::specs::Classes::no_params, crate::proofs::PathParts::params_if_reading))]
 pub fn params_if(alloc: Global, cursor: &mut Cursor) -> Result<Params, Stop>
     ensures moves { OnOk result (Keeps cursor.old cursor.new) }
     ensures reads { OnOk result (Reading (part Part.params_if ∷ []) cursor.old cursor.new) }
@@ -213,7 +225,7 @@ pub fn no_params(alloc: Global) -> Params
 }
 
 /// `Params = "<" Kind Name { "," [ Kind ] Name } [ "|" Constr { "," Constr } ] ">"`
-#[tactic(auto, using(crate::specs::Classes::params))]
+#[tactic(auto, using(crate::specs::Classes::params, crate::proofs::PathParts::params_reading))]
 fn params(alloc: Global, cursor: &mut Cursor) -> Result<Params, Stop>
     ensures moves { OnOk result (Reads cursor.old cursor.new) }
     ensures reads { OnOk result (Reading (part Part.params ∷ []) cursor.old cursor.new) }
@@ -228,10 +240,11 @@ fn params(alloc: Global, cursor: &mut Cursor) -> Result<Params, Stop>
 }
 
 /// `Kind Name { "," [ Kind ] Name }`: a bare name has the kind of the one before it.
-#[tactic(auto, using(crate::proofs::Regions::declares_first, crate::proofs::Regions::declares_more, crate::proofs::Regions::declares_done))]
+#[tactic(auto, using(crate::proofs::Regions::declares_first, crate::proofs::Regions::declares_more, crate::proofs::Regions::declares_done, crate::proofs::PathParts::declared_reading))]
 fn declared(alloc: Global, cursor: &mut Cursor) -> Result<Items<ParamTree>, Stop>
     ensures moves { OnOk result (Reads cursor.old cursor.new) }
-    // PART declared
+    ensures reads { OnOk result (Reading (part Part.kind ∷ one is_name ∷ part Part.more_declared ∷ []) cursor.old cursor.new) }
+    ensures stops { IfErr result (λ stop. StopsAt (part Part.kind ∷ one is_name ∷ part Part.more_declared ∷ []) cursor.old stop) }
     ensures derives { IfOk result (λ list. DerivesDeclared cursor.old.rest.now cursor.new.rest.now list) }
 {
     let mut list = Items::new(alloc);
@@ -247,7 +260,8 @@ fn declared(alloc: Global, cursor: &mut Cursor) -> Result<Items<ParamTree>, Stop
 #[tactic(auto, using(crate::specs::Classes::param))]
 fn param(cursor: &mut Cursor, atomic: bool) -> Result<ParamTree, Stop>
     ensures moves { OnOk result (Reads cursor.old cursor.new) }
-    // PART param
+    ensures reads { OnOk result (Reading (one is_name ∷ []) cursor.old cursor.new) }
+    ensures stops { IfErr result (λ stop. StopsAt (one is_name ∷ []) cursor.old stop) }
     ensures derives { IfOk result (λ tree. DerivesParam atomic cursor.old.rest.now cursor.new.rest.now tree) }
 {
     let named = cursor.name()?;
@@ -259,12 +273,15 @@ fn param(cursor: &mut Cursor, atomic: bool) -> Result<ParamTree, Stop>
 }
 
 /// Whether `atomic` or `region` comes next.
-pub fn begins_kind(cursor: &Cursor) -> bool {
+#[tactic(auto, using(crate::proofs::PathParts::begins_kind_reading))]
+pub fn begins_kind(cursor: &Cursor) -> bool
+    ensures { result ≡ (next_is is_atomic (next_of cursor.now.rest.now) || next_is is_region (next_of cursor.now.rest.now)) }
+{
     cursor.is_keyword(Keyword::Atomic) || cursor.is_keyword(Keyword::Region)
 }
 
 /// `Kind = [ "atomic" ] "region"`: whether it is atomic.
-#[tactic(auto, using(crate::proofs::Regions::kind_of))]
+#[tactic(auto, using(crate::proofs::Regions::kind_of, crate::proofs::PathParts::kind_reading))]
 pub fn kind(cursor: &mut Cursor) -> Result<bool, Stop>
     ensures moves { OnOk result (Reads cursor.old cursor.new) }
     ensures reads { OnOk result (Reading (part Part.kind ∷ []) cursor.old cursor.new) }
@@ -277,7 +294,7 @@ pub fn kind(cursor: &mut Cursor) -> Result<bool, Stop>
 }
 
 /// `[ Kind ]`: whether it is atomic, or the one before it.
-#[tactic(auto, using(crate::specs::Classes::same, crate::specs::Classes::other))]
+#[tactic(auto, using(crate::specs::Classes::same, crate::specs::Classes::other, crate::proofs::PathParts::kind_or_reading))]
 fn kind_or(cursor: &mut Cursor, earlier: bool) -> Result<bool, Stop>
     ensures moves { OnOk result (Keeps cursor.old cursor.new) }
     ensures reads { OnOk result (Reading (part Part.kind_if ∷ []) cursor.old cursor.new) }
@@ -291,7 +308,7 @@ fn kind_or(cursor: &mut Cursor, earlier: bool) -> Result<bool, Stop>
 }
 
 /// `[ "|" Constr { "," Constr } ]`
-#[tactic(auto, using(crate::specs::Classes::nothing_given, crate::proofs::Regions::given_behind))]
+#[tactic(auto, using(crate::specs::Classes::nothing_given, crate::proofs::Regions::given_behind, crate::proofs::PathParts::given_reading))]
 fn given(alloc: Global, cursor: &mut Cursor) -> Result<Items<ConstrTree>, Stop>
     ensures moves { OnOk result (Keeps cursor.old cursor.new) }
     ensures reads { OnOk result (Reading (part Part.given ∷ []) cursor.old cursor.new) }
@@ -305,10 +322,11 @@ fn given(alloc: Global, cursor: &mut Cursor) -> Result<Items<ConstrTree>, Stop>
 }
 
 /// `Constr { "," Constr }`
-#[tactic(auto, using(crate::proofs::Lists::listed_more, crate::specs::Taking::last))]
+#[tactic(auto, using(crate::proofs::Lists::listed_more, crate::specs::Taking::last, crate::proofs::PathParts::constraints_reading))]
 fn constraints(alloc: Global, cursor: &mut Cursor) -> Result<Items<ConstrTree>, Stop>
     ensures moves { OnOk result (Reads cursor.old cursor.new) }
-    // PART constraints
+    ensures reads { OnOk result (Reading (part Part.constraint ∷ part Part.more_constraints ∷ []) cursor.old cursor.new) }
+    ensures stops { IfErr result (λ stop. StopsAt (part Part.constraint ∷ part Part.more_constraints ∷ []) cursor.old stop) }
     ensures derives { IfOk result (λ given. Listed DerivesConstr cursor.old.rest.now cursor.new.rest.now given) }
 {
     let mut given = Items::new(alloc);
@@ -320,7 +338,7 @@ fn constraints(alloc: Global, cursor: &mut Cursor) -> Result<Items<ConstrTree>, 
 }
 
 /// `Constr = Rpl "#" Rpl`
-#[tactic(auto, using(crate::specs::Classes::constraint))]
+#[tactic(auto, using(crate::specs::Classes::constraint, crate::proofs::PathParts::constraint_reading))]
 fn constraint(alloc: Global, cursor: &mut Cursor) -> Result<ConstrTree, Stop>
     ensures moves { OnOk result (Reads cursor.old cursor.new) }
     ensures reads { OnOk result (Reading (part Part.constraint ∷ []) cursor.old cursor.new) }

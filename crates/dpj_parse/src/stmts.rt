@@ -1,8 +1,8 @@
-ghost use Rattle.std.specs.Prelude.{◌≡◌, ◌≤◌, ◌+◌, ◌<◌, length, map, OnOk, IfOk, IfSome, MatchOption, IfErr, [], ◌∷◌};
-ghost use Rattle.dpj_parse.specs.Counted.{Reading, StopsAt};
-ghost use Rattle.dpj_parse.specs.Expecting.{Part, one, part};
-ghost use Rattle.dpj_parse.specs.Targets.{IsTarget, begins_declaration, stmt_begins};
-ghost use Rattle.dpj_parse.specs.Words.{is_any, is_assign, is_atomic, is_close_paren, is_comma, is_foreach_parts, is_if, is_name, is_open_paren, is_print, is_region, is_return, is_semicolon, is_while};
+ghost use Rattle.std.specs.Prelude.{◌≡◌, true, false, ◌≤◌, ◌+◌, ◌<◌, length, map, OnOk, IfOk, IfSome, MatchOption, IfErr, [], ◌∷◌};
+ghost use Rattle.dpj_parse.specs.Counted.{Completed, Reading, StopsAt};
+ghost use Rattle.dpj_parse.specs.Expecting.{Part, next_is, next_of, one, part};
+ghost use Rattle.dpj_parse.specs.Targets.{IsTarget, begins_assignment, begins_declaration, holds_others, rest_of, stmt_begins};
+ghost use Rattle.dpj_parse.specs.Words.{is_any, is_assign, is_atomic, is_close_bracket, is_close_paren, is_comma, is_foreach_parts, is_if, is_name, is_open_paren, is_print, is_region, is_return, is_semicolon, is_while};
 ghost use Rattle.dpj_parse.specs.Progress.{Closes, Keeps, Reads};
 ghost use Rattle.dpj_parse.specs.Taking.{Many, Next};
 ghost use Rattle.dpj_parse.specs.Statements.{DerivesBlock, DerivesCondition, DerivesForm, DerivesRange, DerivesStmt, DerivesValue, cobegin_word, foreach_word};
@@ -27,7 +27,7 @@ fn made(place: Place, kind: StmtKind) -> Stmt
 }
 
 /// `Stmt`
-#[tactic(auto, using(crate::proofs::Stating::stmt_form, crate::proofs::Stating::stmt_stays))]
+#[tactic(auto, using(crate::proofs::Stating::stmt_form, crate::proofs::Stating::stmt_stays, crate::proofs::StmtParts::of_stmt))]
 #[cycle(stmts)]
 fn stmt(alloc: Global, cursor: &mut Cursor) -> Result<Stmt, Stop>
     ensures moves { OnOk result (Reads cursor.old cursor.new) }
@@ -47,11 +47,12 @@ fn stmt(alloc: Global, cursor: &mut Cursor) -> Result<Stmt, Stop>
 }
 
 /// A statement that holds other ones, but for its place; None where one begins that holds none.
-#[tactic(auto, using(crate::proofs::Stating::block_form))]
+#[tactic(auto, using(crate::proofs::Stating::block_form, crate::proofs::StmtParts::of_begin))]
 #[cycle(stmts)]
 fn form(alloc: Global, cursor: &mut Cursor) -> Result<Option<StmtKind>, Stop>
     ensures moves { IfOk result (λ found. MatchOption found (cursor.new ≡ cursor.old) (λ kind. Reads cursor.old cursor.new)) }
     ensures reads { IfOk result (λ found. IfSome found (λ kind. Reading (stmt_begins cursor.old.rest.now) cursor.old cursor.new)) }
+    ensures alone { IfOk result (λ found. found ≡ None → next_is holds_others (next_of cursor.old.rest.now) ≡ false) }
     ensures stops { IfErr result (λ stop. StopsAt (stmt_begins cursor.old.rest.now) cursor.old stop) }
     ensures derives { IfOk result (λ found. IfSome found (λ kind. DerivesForm cursor.old.rest.now cursor.new.rest.now (plain_stmt_kind kind))) }
 {
@@ -72,7 +73,7 @@ fn form(alloc: Global, cursor: &mut Cursor) -> Result<Option<StmtKind>, Stop>
 }
 
 /// `Block = "{" { Stmt } "}"`
-#[tactic(auto, using(crate::proofs::Stating::block_braces))]
+#[tactic(auto, using(crate::proofs::Stating::block_braces, crate::proofs::StmtParts::of_block))]
 #[cycle(stmts)]
 pub fn block(alloc: Global, cursor: &mut Cursor) -> Result<Items<Stmt>, Stop>
     ensures moves { OnOk result (Reads cursor.old cursor.new) }
@@ -87,7 +88,7 @@ pub fn block(alloc: Global, cursor: &mut Cursor) -> Result<Items<Stmt>, Stop>
 }
 
 /// `{ Stmt }`, up to the `}`
-#[tactic(auto, using(crate::proofs::Stating::first_stmts, crate::proofs::Stating::more_stmts))]
+#[tactic(auto, using(crate::proofs::Stating::first_stmts, crate::proofs::Stating::more_stmts, crate::proofs::StmtParts::of_stmts))]
 #[cycle(stmts)]
 fn stmts(alloc: Global, cursor: &mut Cursor) -> Result<Items<Stmt>, Stop>
     ensures moves { OnOk result (Keeps cursor.old cursor.new) }
@@ -103,6 +104,7 @@ fn stmts(alloc: Global, cursor: &mut Cursor) -> Result<Items<Stmt>, Stop>
 }
 
 /// A body of another statement, which is a level deeper where it has no braces.
+#[tactic(auto, using(crate::proofs::StmtParts::of_body))]
 #[cycle(stmts)]
 fn body(alloc: Global, cursor: &mut Cursor) -> Result<Boxed<Stmt>, Stop>
     requires { cursor.old.level ≤ 32 }
@@ -121,7 +123,7 @@ fn body(alloc: Global, cursor: &mut Cursor) -> Result<Boxed<Stmt>, Stop>
 }
 
 /// `"if" "(" Expr ")" Stmt [ "else" Stmt ]`
-#[tactic(auto, using(crate::proofs::Stating::if_form, crate::proofs::Stating::else_form))]
+#[tactic(auto, using(crate::proofs::Stating::if_form, crate::proofs::Stating::else_form, crate::proofs::StmtParts::of_choice))]
 #[cycle(stmts)]
 fn choice(alloc: Global, cursor: &mut Cursor) -> Result<StmtKind, Stop>
     ensures moves { OnOk result (Reads cursor.old cursor.new) }
@@ -144,7 +146,7 @@ fn choice(alloc: Global, cursor: &mut Cursor) -> Result<StmtKind, Stop>
 }
 
 /// `"while" "(" Expr ")" Stmt`
-#[tactic(auto, using(crate::proofs::Stating::while_form))]
+#[tactic(auto, using(crate::proofs::Stating::while_form, crate::proofs::StmtParts::in_order))]
 #[cycle(stmts)]
 fn while_loop(alloc: Global, cursor: &mut Cursor) -> Result<StmtKind, Stop>
     ensures moves { OnOk result (Reads cursor.old cursor.new) }
@@ -159,7 +161,7 @@ fn while_loop(alloc: Global, cursor: &mut Cursor) -> Result<StmtKind, Stop>
 }
 
 /// `"(" Expr ")"`
-#[tactic(auto, using(crate::proofs::Stating::made_condition, crate::proofs::Composed::seq, crate::proofs::Composed::read_part, crate::proofs::Composed::refused_part, crate::proofs::Composed::refused_first, crate::proofs::Composed::refused_after))]
+#[tactic(auto, using(crate::proofs::Stating::made_condition, crate::proofs::StmtParts::of_condition))]
 fn condition(alloc: Global, cursor: &mut Cursor) -> Result<Expr, Stop>
     ensures moves { OnOk result (Reads cursor.old cursor.new) }
     ensures reads { OnOk result (Reading (part Part.condition ∷ []) cursor.old cursor.new) }
@@ -173,7 +175,7 @@ fn condition(alloc: Global, cursor: &mut Cursor) -> Result<Expr, Stop>
 }
 
 /// `( "cobegin" | "cobegin_nd" ) Block`
-#[tactic(auto, using(crate::proofs::Stating::cobegin_form))]
+#[tactic(auto, using(crate::proofs::Stating::cobegin_form, crate::proofs::StmtParts::of_seen))]
 #[cycle(stmts)]
 fn cobegin(alloc: Global, cursor: &mut Cursor, nd: bool) -> Result<StmtKind, Stop>
     requires { Next (Terminal.Keyword (cobegin_word nd)) cursor.old.rest.now }
@@ -188,7 +190,7 @@ fn cobegin(alloc: Global, cursor: &mut Cursor, nd: bool) -> Result<StmtKind, Sto
 }
 
 /// `"atomic" Block`
-#[tactic(auto, using(crate::proofs::Stating::atomic_form))]
+#[tactic(auto, using(crate::proofs::Stating::atomic_form, crate::proofs::StmtParts::in_order))]
 #[cycle(stmts)]
 fn atomic(alloc: Global, cursor: &mut Cursor) -> Result<StmtKind, Stop>
     ensures moves { OnOk result (Reads cursor.old cursor.new) }
@@ -201,6 +203,7 @@ fn atomic(alloc: Global, cursor: &mut Cursor) -> Result<StmtKind, Stop>
 }
 
 /// `( "foreach" | "foreach_nd" ) "(" "int" Name "in" Expr "," Expr ")" Stmt`
+#[tactic(auto, using(crate::proofs::StmtParts::of_seen))]
 #[cycle(stmts)]
 fn foreach(alloc: Global, cursor: &mut Cursor, nd: bool) -> Result<StmtKind, Stop>
     requires { Next (Terminal.Keyword (foreach_word nd)) cursor.old.rest.now }
@@ -223,6 +226,7 @@ fn foreach(alloc: Global, cursor: &mut Cursor, nd: bool) -> Result<StmtKind, Sto
 }
 
 /// `"foreach_parts" "(" Name "," "int" Name "in" Expr "," Expr ")" Stmt`
+#[tactic(auto, using(crate::proofs::StmtParts::in_order))]
 #[cycle(stmts)]
 fn foreach_parts(alloc: Global, cursor: &mut Cursor) -> Result<StmtKind, Stop>
     ensures moves { OnOk result (Reads cursor.old cursor.new) }
@@ -254,6 +258,7 @@ struct Span {
 }
 
 /// `"int" Name "in" Expr "," Expr ")"`
+#[tactic(auto, using(crate::proofs::StmtParts::of_range))]
 fn range(alloc: Global, cursor: &mut Cursor) -> Result<Span, Stop>
     requires { 1 ≤ cursor.old.level }
     ensures moves { OnOk result (Closes cursor.old cursor.new) }
@@ -272,9 +277,12 @@ fn range(alloc: Global, cursor: &mut Cursor) -> Result<Span, Stop>
 }
 
 /// A statement that holds no other one.
+#[tactic(auto, using(crate::proofs::Performing::is_target))]
 fn simple(alloc: Global, cursor: &mut Cursor) -> Result<Stmt, Stop>
+    requires alone { next_is holds_others (next_of cursor.old.rest.now) ≡ false }
+    requires anew { cursor.old.joined ≡ 0 }
     ensures moves { OnOk result (Reads cursor.old cursor.new) }
-    ensures reads { OnOk result (Reading (stmt_begins cursor.old.rest.now) cursor.old cursor.new) }
+    ensures reads { OnOk result (Completed (stmt_begins cursor.old.rest.now) cursor.old cursor.new) }
     ensures stops { IfErr result (λ stop. StopsAt (stmt_begins cursor.old.rest.now) cursor.old stop) }
     ensures derives { IfOk result (λ s. DerivesStmt cursor.old.rest.now cursor.new.rest.now (plain_stmt s)) }
 {
@@ -289,7 +297,7 @@ fn simple(alloc: Global, cursor: &mut Cursor) -> Result<Stmt, Stop>
 }
 
 /// `"return" [ Expr ] ";"`
-#[tactic(auto, using(crate::proofs::Stating::return_alone, crate::proofs::Stating::return_with))]
+#[tactic(auto, using(crate::proofs::Stating::return_alone, crate::proofs::Stating::return_with, crate::proofs::StmtParts::of_return))]
 fn returned(alloc: Global, cursor: &mut Cursor) -> Result<Stmt, Stop>
     ensures moves { OnOk result (Reads cursor.old cursor.new) }
     ensures reads { OnOk result (Reading (one is_return ∷ part Part.return_rest ∷ []) cursor.old cursor.new) }
@@ -305,6 +313,7 @@ fn returned(alloc: Global, cursor: &mut Cursor) -> Result<Stmt, Stop>
 }
 
 /// `"print" "(" ( Expr | Text ) ")" ";"`
+#[tactic(auto, using(crate::proofs::StmtParts::in_order))]
 fn printed(alloc: Global, cursor: &mut Cursor) -> Result<Stmt, Stop>
     ensures moves { OnOk result (Reads cursor.old cursor.new) }
     ensures reads { OnOk result (Reading (one is_print ∷ one is_open_paren ∷ part Part.shown ∷ one is_close_paren ∷ one is_semicolon ∷ []) cursor.old cursor.new) }
@@ -320,7 +329,7 @@ fn printed(alloc: Global, cursor: &mut Cursor) -> Result<Stmt, Stop>
 }
 
 /// `Expr | Text`
-#[tactic(auto, using(crate::proofs::Stating::shown_value, crate::proofs::Stating::shown_text))]
+#[tactic(auto, using(crate::proofs::Stating::shown_value, crate::proofs::Stating::shown_text, crate::proofs::StmtParts::of_shown))]
 fn shown(alloc: Global, cursor: &mut Cursor) -> Result<StmtKind, Stop>
     ensures moves { OnOk result (Reads cursor.old cursor.new) }
     ensures reads { OnOk result (Reading (part Part.shown ∷ []) cursor.old cursor.new) }
@@ -336,7 +345,7 @@ fn shown(alloc: Global, cursor: &mut Cursor) -> Result<StmtKind, Stop>
 }
 
 /// `"region" Name { "," Name } ";"`
-#[tactic(auto, using(crate::proofs::Stating::made_regions))]
+#[tactic(auto, using(crate::proofs::Stating::made_regions, crate::proofs::StmtParts::in_order))]
 fn regions(alloc: Global, cursor: &mut Cursor) -> Result<Stmt, Stop>
     ensures moves { OnOk result (Reads cursor.old cursor.new) }
     ensures reads { OnOk result (Reading (one is_region ∷ part Part.names ∷ one is_semicolon ∷ []) cursor.old cursor.new) }
@@ -366,7 +375,9 @@ fn declares(cursor: &Cursor) -> bool
     }
 }
 
-fn closes_third(cursor: &Cursor) -> bool {
+fn closes_third(cursor: &Cursor) -> bool
+    ensures { result ≡ next_is is_close_bracket (next_of (rest_of (rest_of cursor.now.rest.now))) }
+{
     match cursor.third() {
         Some(Terminal::Symbol(Symbol::CloseBracket)) => true,
         _ => false,
@@ -378,7 +389,7 @@ fn declaration(alloc: Global, cursor: &mut Cursor) -> Result<Stmt, Stop>
     requires declares { begins_declaration cursor.old.rest.now ≡ true }
     requires anew { cursor.old.joined ≡ 0 }
     ensures moves { OnOk result (Reads cursor.old cursor.new) }
-    ensures reads { OnOk result (Reading (stmt_begins cursor.old.rest.now) cursor.old cursor.new) }
+    ensures reads { OnOk result (Completed (stmt_begins cursor.old.rest.now) cursor.old cursor.new) }
     ensures stops { IfErr result (λ stop. StopsAt (stmt_begins cursor.old.rest.now) cursor.old stop) }
     ensures derives { IfOk result (λ s. DerivesStmt cursor.old.rest.now cursor.new.rest.now (plain_stmt s)) }
 {
@@ -397,7 +408,7 @@ fn declaration(alloc: Global, cursor: &mut Cursor) -> Result<Stmt, Stop>
 }
 
 /// `Expr ";"`
-#[tactic(auto, using(crate::proofs::Stating::made_value))]
+#[tactic(auto, using(crate::proofs::Stating::made_value, crate::proofs::StmtParts::of_value))]
 fn value(alloc: Global, cursor: &mut Cursor) -> Result<Expr, Stop>
     ensures moves { OnOk result (Reads cursor.old cursor.new) }
     ensures reads { OnOk result (Reading (part Part.value ∷ []) cursor.old cursor.new) }
@@ -410,7 +421,9 @@ fn value(alloc: Global, cursor: &mut Cursor) -> Result<Expr, Stop>
 }
 
 /// Whether the statement is an assignment to a local.
-fn assigns(cursor: &Cursor) -> bool {
+fn assigns(cursor: &Cursor) -> bool
+    ensures { result ≡ begins_assignment cursor.now.rest.now }
+{
     match cursor.next() {
         Some(Terminal::Name(_)) => match cursor.second() {
             Some(Terminal::Symbol(Symbol::Assign)) => true,
@@ -421,6 +434,7 @@ fn assigns(cursor: &Cursor) -> bool {
 }
 
 /// `Name "=" Expr ";"`
+#[tactic(auto, using(crate::proofs::StmtParts::in_order))]
 fn assignment(alloc: Global, cursor: &mut Cursor) -> Result<Stmt, Stop>
     ensures moves { OnOk result (Reads cursor.old cursor.new) }
     ensures reads { OnOk result (Reading (one is_name ∷ one is_assign ∷ part Part.value ∷ []) cursor.old cursor.new) }
@@ -437,9 +451,10 @@ fn assignment(alloc: Global, cursor: &mut Cursor) -> Result<Stmt, Stop>
 #[tactic(auto, using(crate::proofs::Stating::made_field_assignment, crate::proofs::Stating::made_element_assignment, crate::proofs::Stating::call_performed, crate::proofs::Stating::new_performed))]
 fn performed(alloc: Global, cursor: &mut Cursor) -> Result<Stmt, Stop>
     requires target { IsTarget cursor.old.rest.now }
+    requires other { begins_assignment cursor.old.rest.now ≡ false }
     requires anew { cursor.old.joined ≡ 0 }
     ensures moves { OnOk result (Reads cursor.old cursor.new) }
-    ensures reads { OnOk result (Reading (stmt_begins cursor.old.rest.now) cursor.old cursor.new) }
+    ensures reads { OnOk result (Completed (stmt_begins cursor.old.rest.now) cursor.old cursor.new) }
     ensures stops { IfErr result (λ stop. StopsAt (stmt_begins cursor.old.rest.now) cursor.old stop) }
     ensures derives { IfOk result (λ s. DerivesStmt cursor.old.rest.now cursor.new.rest.now (plain_stmt s)) }
 {

@@ -1,8 +1,9 @@
-ghost use Rattle.std.specs.Prelude.{◌≡◌, ◌+◌, ◌≤◌, length, IfOk, OnOk, IfErr, [], ◌∷◌};
+ghost use Rattle.std.specs.Prelude.{◌≡◌, ◌≤◌, IfOk, OnOk, IfErr, [], ◌∷◌};
 ghost use Rattle.dpj_parse.specs.Counted.{Reading, StopsAt};
-ghost use Rattle.dpj_parse.specs.Expecting.{Part, part};
+ghost use Rattle.dpj_parse.specs.Expecting.{Part, one, part};
 ghost use Rattle.dpj_parse.specs.Progress.{Keeps, Reads};
 ghost use Rattle.dpj_parse.specs.Taking.{Many};
+ghost use Rattle.dpj_parse.specs.Words.{is_name};
 ghost use Rattle.dpj_parse.specs.Types.{DerivesBase, DerivesBehind, DerivesIndex, DerivesRegion, DerivesSuffix, DerivesType};
 
 use crate::cursor::Cursor;
@@ -14,7 +15,7 @@ use dpj_tree::{BaseTree, Named, RplTree, Suffix, TypeTree};
 use std::alloc::Global;
 
 /// `Type = Base { "[" "]" [ "<" Rpl ">" ] [ "#" Name ] }`
-#[tactic(auto, using(crate::specs::Types::type_of))]
+#[tactic(auto, using(crate::specs::Types::type_of, crate::proofs::TypeParts::ty_reading))]
 pub fn ty(alloc: Global, cursor: &mut Cursor) -> Result<TypeTree, Stop>
     ensures moves { OnOk result (Reads cursor.old cursor.new) }
     ensures reads { OnOk result (Reading (part Part.type ∷ []) cursor.old cursor.new) }
@@ -35,8 +36,9 @@ pub fn ty(alloc: Global, cursor: &mut Cursor) -> Result<TypeTree, Stop>
 }
 
 /// `Base = "int" | "boolean" | Name [ Args ]`
-#[tactic(auto, using(crate::proofs::TypeForms::base_int, crate::proofs::TypeForms::base_boolean, crate::specs::Types::class))]
+#[tactic(auto, using(crate::proofs::TypeForms::base_int, crate::proofs::TypeForms::base_boolean, crate::specs::Types::class, crate::proofs::TypeParts::base_reading))]
 pub fn base(alloc: Global, cursor: &mut Cursor) -> Result<BaseTree, Stop>
+    ensures same { OnOk result (cursor.new.joined ≡ cursor.old.joined) }
     ensures moves { OnOk result (Reads cursor.old cursor.new) }
     ensures reads { OnOk result (Reading (part Part.base ∷ []) cursor.old cursor.new) }
     ensures stops { IfErr result (λ stop. StopsAt (part Part.base ∷ []) cursor.old stop) }
@@ -60,8 +62,9 @@ pub fn base(alloc: Global, cursor: &mut Cursor) -> Result<BaseTree, Stop>
 }
 
 /// `{ "[" "]" [ "<" Rpl ">" ] [ "#" Name ] }`
-#[tactic(auto, using(crate::proofs::Lists::many_more, crate::proofs::Lists::few_more, crate::specs::Taking::none, crate::proofs::TypeForms::suffix_of))]
+#[tactic(auto, using(crate::proofs::Lists::many_more, crate::specs::Taking::none, crate::proofs::TypeForms::suffix_of, crate::proofs::TypeParts::suffixes_reading))]
 fn suffixes(alloc: Global, cursor: &mut Cursor) -> Result<Items<Suffix>, Stop>
+    requires { cursor.old.joined ≤ 32 }
     ensures moves { OnOk result (Keeps cursor.old cursor.new) }
     ensures reads { OnOk result (Reading (part Part.suffixes ∷ []) cursor.old cursor.new) }
     ensures stops { IfErr result (λ stop. StopsAt (part Part.suffixes ∷ []) cursor.old stop) }
@@ -77,8 +80,9 @@ fn suffixes(alloc: Global, cursor: &mut Cursor) -> Result<Items<Suffix>, Stop>
 }
 
 /// `[ "<" Rpl ">" ] [ "#" Name ]`
-#[tactic(auto, using(crate::specs::Types::behind))]
+#[tactic(auto, using(crate::specs::Types::behind, crate::proofs::TypeParts::behind_brackets_reading))]
 pub fn behind_brackets(alloc: Global, cursor: &mut Cursor) -> Result<Suffix, Stop>
+    ensures same { OnOk result (cursor.new.joined ≡ cursor.old.joined) }
     ensures moves { OnOk result (Keeps cursor.old cursor.new) }
     ensures reads { OnOk result (Reading (part Part.brackets_behind ∷ []) cursor.old cursor.new) }
     ensures stops { IfErr result (λ stop. StopsAt (part Part.brackets_behind ∷ []) cursor.old stop) }
@@ -90,8 +94,9 @@ pub fn behind_brackets(alloc: Global, cursor: &mut Cursor) -> Result<Suffix, Sto
 }
 
 /// `[ "<" Rpl ">" ]`
-#[tactic(auto, using(crate::proofs::TypeForms::region_none, crate::proofs::TypeForms::region_some))]
+#[tactic(auto, using(crate::proofs::TypeForms::region_none, crate::proofs::TypeForms::region_some, crate::proofs::TypeParts::region_if_reading))]
 fn region_if(alloc: Global, cursor: &mut Cursor) -> Result<Option<RplTree>, Stop>
+    ensures same { OnOk result (cursor.new.joined ≡ cursor.old.joined) }
     ensures moves { OnOk result (Keeps cursor.old cursor.new) }
     ensures reads { OnOk result (Reading (part Part.region_if ∷ []) cursor.old cursor.new) }
     ensures stops { IfErr result (λ stop. StopsAt (part Part.region_if ∷ []) cursor.old stop) }
@@ -106,8 +111,9 @@ fn region_if(alloc: Global, cursor: &mut Cursor) -> Result<Option<RplTree>, Stop
 }
 
 /// `[ "#" Name ]`
-#[tactic(auto, using(crate::proofs::TypeForms::index_none, crate::proofs::TypeForms::index_some))]
+#[tactic(auto, using(crate::proofs::TypeForms::index_none, crate::proofs::TypeForms::index_some, crate::proofs::TypeParts::index_if_reading))]
 fn index_if(cursor: &mut Cursor) -> Result<Option<Named>, Stop>
+    ensures same { OnOk result (cursor.new.joined ≡ cursor.old.joined) }
     ensures moves { OnOk result (Keeps cursor.old cursor.new) }
     ensures reads { OnOk result (Reading (part Part.index_if ∷ []) cursor.old cursor.new) }
     ensures stops { IfErr result (λ stop. StopsAt (part Part.index_if ∷ []) cursor.old stop) }
@@ -117,4 +123,24 @@ fn index_if(cursor: &mut Cursor) -> Result<Option<Named>, Stop>
         return Ok(None);
     }
     Ok(Some(cursor.name()?))
+}
+
+/// A type that begins with a name, within a member that might have been a constructor up to there: its suffixes are counted on.
+#[tactic(auto, using(crate::proofs::MemberParts::read_three, crate::proofs::Composed::refused_first, crate::proofs::MemberParts::refused_second, crate::proofs::MemberParts::refused_third, crate::proofs::MemberParts::few_still))]
+pub fn named_type(alloc: Global, cursor: &mut Cursor) -> Result<TypeTree, Stop>
+    ensures moves { OnOk result (Reads cursor.old cursor.new) }
+    ensures reads { OnOk result (Reading (one is_name ∷ part Part.args_if ∷ part Part.suffixes ∷ []) cursor.old cursor.new) }
+    ensures stops { IfErr result (λ stop. StopsAt (one is_name ∷ part Part.args_if ∷ part Part.suffixes ∷ []) cursor.old stop) }
+    ensures derives { IfOk result (λ tree. DerivesType cursor.old.rest.now cursor.new.rest.now tree) }
+{
+    let place = cursor.place();
+    let name = cursor.name()?;
+    let args = args_if(alloc, cursor)?;
+    let suffixes = suffixes(alloc, cursor)?;
+    let base = BaseTree::Class { name, args };
+    Ok(TypeTree {
+        place,
+        base,
+        suffixes,
+    })
 }

@@ -1,11 +1,15 @@
-use Rattle.std.proofs.Common.{◌≤◌, length}
+use Rattle.std.proofs.Common.{[], ◌∷◌, ◌≤◌, length}
 use Rattle.dpj_parse.specs.Progress.{Reads}
 use Rattle.dpj_parse.specs.Classes.{DerivesClass}
 use Rattle.dpj_parse.specs.Taking.{Many}
+use Rattle.dpj_parse.specs.Expecting.{part}
+use Rattle.dpj_parse.specs.Expecting.{Part as p}
+use Rattle.dpj_parse.specs.Counted.{counts}
+use Rattle.dpj_parse.proofs.InOrder.{Onward}
 use Rattle.dpj_parse.proofs.classes.classes.Given as goal
 
 abbrev pub invariant-loop-alloc : goal.invariant-loop-alloc
-invariant-loop-alloc l = record { moves : Reads l.fn.cursor l.cursor; derives : Many DerivesClass l.fn.cursor.rest.now l.cursor.rest.now l.classes; one : 1 ≤ length l.classes }
+invariant-loop-alloc l = record { moves : Reads l.fn.cursor l.cursor; derives : Many DerivesClass l.fn.cursor.rest.now l.cursor.rest.now l.classes; one : 1 ≤ length l.classes; onward : Onward (counts l.fn.cursor) (part p.program ∷ []) l.fn.cursor.rest.now (counts l.cursor) (part p.more_classes ∷ []) l.cursor.rest.now }
 
 abbrev pub decreases-loop-alloc : goal.decreases-loop-alloc
 decreases-loop-alloc l = length l.cursor.rest.now

@@ -1,8 +1,12 @@
-use Rattle.std.proofs.Common.{◌+◌, ◌*◌, length}
+use Rattle.std.proofs.Common.{◌≤◌, ◌+◌, ◌*◌, [], ◌∷◌, length}
 use Rattle.dpj_tree.specs.Plain.{plain_expr}
 use Rattle.dpj_parse.specs.Progress.{Reads, Keeps}
 use Rattle.dpj_parse.specs.Taking.{Listed}
 use Rattle.dpj_parse.specs.Reading.{DerivesExprTree, DerivesSelections}
+use Rattle.dpj_parse.specs.Counted.{counts}
+use Rattle.dpj_parse.specs.Expecting.{Part, part}
+use Rattle.dpj_parse.specs.Onward.{ReadsOn}
+use Rattle.dpj_parse.proofs.OperatorParts.{Climbs}
 use Rattle.dpj_parse.proofs.Ops.{Grouped}
 use Rattle.dpj_parse.proofs.exprs.+exprs.Given as goal
 
@@ -45,6 +49,7 @@ decreases-actuals l = 6 * length l.cursor.now.rest.now
 abbrev pub invariant-listed-loop-all : goal.invariant-listed-loop-all
 invariant-listed-loop-all l = record {
   moves : Reads l.fn.cursor l.cursor;
+  onward : ReadsOn (part Part.listed ∷ []) l.fn.cursor (part Part.more_listed ∷ []) l.cursor;
   derives : Listed DerivesExprTree l.fn.cursor.rest.now l.cursor.rest.now l.all;
 }
 
@@ -54,6 +59,8 @@ decreases-listed-loop-all l = length l.cursor.rest.now
 abbrev pub invariant-operators-loop-op : goal.invariant-operators-loop-op
 invariant-operators-loop-op l = record {
   moves : Reads l.fn.cursor l.cursor;
+  few : l.cursor.joined ≤ 32;
+  climbs : Climbs l.least l.most (counts l.fn.cursor) (counts l.cursor) l.fn.cursor.rest.now l.cursor.rest.now;
   groups : Grouped l.least l.most l.fn.cursor.rest.now l.cursor.rest.now (plain_expr l.left);
 }
 
@@ -63,6 +70,8 @@ decreases-operators-loop-op l = length l.cursor.rest.now
 abbrev pub invariant-selected-loop-alloc : goal.invariant-selected-loop-alloc
 invariant-selected-loop-alloc l = record {
   moves : Keeps l.fn.cursor l.cursor;
+  few : l.cursor.joined ≤ 32;
+  onward : ReadsOn (part Part.selected ∷ []) l.fn.cursor (part Part.selected ∷ []) l.cursor;
   derives : DerivesSelections (plain_expr l.fn.first) l.fn.cursor.rest.now l.cursor.rest.now (plain_expr l.found);
 }
 

@@ -1,11 +1,15 @@
-use Rattle.std.proofs.Common.{length}
+use Rattle.std.proofs.Common.{◌≤◌, [], ◌∷◌, length}
 use Rattle.dpj_parse.specs.Progress.{Opens}
+use Rattle.dpj_parse.specs.Expecting.{Part, part}
+use Rattle.dpj_parse.specs.Onward.{ReadsOn}
 use Rattle.dpj_parse.specs.Reading.{DerivesOpenSuffixes}
 use Rattle.dpj_parse.proofs.exprs.open_suffixes.Given as goal
 
 abbrev pub invariant-loop-alloc : goal.invariant-loop-alloc
 invariant-loop-alloc l = record {
   moves : Opens l.fn.cursor l.cursor;
+  few : l.cursor.joined ≤ 32;
+  onward : ReadsOn (part Part.array ∷ []) l.fn.cursor (part Part.array_open ∷ []) l.cursor;
   derives : DerivesOpenSuffixes l.fn.cursor.rest.now l.cursor.rest.now l.suffixes;
 }
 

@@ -1,3 +1,7 @@
+use Rattle.std.proofs.Common.{[]}
+use Rattle.std.proofs.lemmas.Result.{err_from_is_err_and}
+use Rattle.dpj_parse.specs.Statements.{cobegin_word, foreach_word}
+use Rattle.dpj_parse.proofs.StmtParts.{reads_seen, reads_two, reads_four, refused_second, refused_third, refused_fourth}
 use Rattle.dpj_parse.proofs.Stating.{foreach_form, parts_form}
 use Rattle.dpj_parse.proofs.stmts.+stmts.Goals as goal
 
@@ -29,3 +33,29 @@ foreach_parts-returns-clause-derives t c =
     c.in_ok-symbol.ensures.takes
     c.in_ok-range.ensures.derives
     c.in_ok-body.ensures.derives
+
+pub cobegin-returns-clause-reads : goal.cobegin-returns-clause-reads
+cobegin-returns-clause-reads t c = reads_two (reads_seen (cobegin_word c.args.nd) c.args.cursor.now c.accept.new.self c.requires c.in_ok-accept.ensures.took) c.in_ok-branches.ensures.reads
+
+pub cobegin-returns-in_err-branches-clause-stops : goal.cobegin-returns-in_err-branches-clause-stops
+cobegin-returns-in_err-branches-clause-stops t c =
+    let residual = err_from_is_err_and c.from_residual-in_err-branches.result c.from_residual-in_err-branches.ensures.1 in
+    rw (residual.1, residual.2) (refused_second _ _ [] c.in_err-branches.field-0.0 (reads_seen (cobegin_word c.args.nd) c.args.cursor.now c.accept.new.self c.requires c.in_ok-accept.ensures.took) c.in_ok-accept.ensures.moves.end c.in_err-branches.ensures.stops)
+
+pub foreach-returns-clause-reads : goal.foreach-returns-clause-reads
+foreach-returns-clause-reads t c = reads_four (reads_seen (foreach_word c.args.nd) c.args.cursor.now c.accept.new.self c.requires c.in_ok-accept.ensures.took) c.in_ok-open.ensures.reads c.in_ok-range.ensures.reads c.in_ok-body.ensures.reads
+
+pub foreach-returns-in_err-open-clause-stops : goal.foreach-returns-in_err-open-clause-stops
+foreach-returns-in_err-open-clause-stops t c =
+    let residual = err_from_is_err_and c.from_residual-in_err-open.result c.from_residual-in_err-open.ensures.1 in
+    rw (residual.1, residual.2) (refused_second _ _ _ c.in_err-open.field-0.0 (reads_seen (foreach_word c.args.nd) c.args.cursor.now c.accept.new.self c.requires c.in_ok-accept.ensures.took) c.in_ok-accept.ensures.moves.end c.in_err-open.ensures.stops)
+
+pub foreach-returns-in_err-range-clause-stops : goal.foreach-returns-in_err-range-clause-stops
+foreach-returns-in_err-range-clause-stops t c =
+    let residual = err_from_is_err_and c.from_residual-in_err-range.result c.from_residual-in_err-range.ensures.1 in
+    rw (residual.1, residual.2) (refused_third _ _ _ _ c.in_err-range.field-0.0 (reads_seen (foreach_word c.args.nd) c.args.cursor.now c.accept.new.self c.requires c.in_ok-accept.ensures.took) c.in_ok-accept.ensures.moves.end c.in_ok-open.ensures.reads c.in_ok-open.ensures.moves.end c.in_err-range.ensures.stops)
+
+pub foreach-returns-in_err-body-clause-stops : goal.foreach-returns-in_err-body-clause-stops
+foreach-returns-in_err-body-clause-stops t c =
+    let residual = err_from_is_err_and c.from_residual-in_err-body.result c.from_residual-in_err-body.ensures.1 in
+    rw (residual.1, residual.2) (refused_fourth _ _ _ _ [] c.in_err-body.field-0.0 (reads_seen (foreach_word c.args.nd) c.args.cursor.now c.accept.new.self c.requires c.in_ok-accept.ensures.took) c.in_ok-accept.ensures.moves.end c.in_ok-open.ensures.reads c.in_ok-open.ensures.moves.end c.in_ok-range.ensures.reads c.in_ok-range.ensures.moves.end c.in_err-body.ensures.stops)

@@ -2,6 +2,7 @@ use Rattle.std.proofs.Common.{◌+◌, ◌*◌, length}
 use Rattle.dpj_parse.specs.Progress.{Keeps}
 use Rattle.dpj_parse.specs.Taking.{Many}
 use Rattle.dpj_parse.specs.Reading.{DerivesStmtTree}
+use Rattle.dpj_parse.proofs.StmtParts.{Onward}
 use Rattle.dpj_parse.proofs.stmts.+stmts.Given as goal
 
 abbrev pub decreases-body : goal.decreases-body
@@ -41,6 +42,7 @@ abbrev pub invariant-stmts-loop-alloc : goal.invariant-stmts-loop-alloc
 invariant-stmts-loop-alloc l = record {
   moves : Keeps l.fn.cursor l.cursor;
   derives : Many DerivesStmtTree l.fn.cursor.rest.now l.cursor.rest.now l.all;
+  onward : Onward l.fn.cursor l.cursor;
 }
 
 abbrev pub decreases-stmts-loop-alloc : goal.decreases-stmts-loop-alloc
