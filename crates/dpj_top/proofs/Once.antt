@@ -1,18 +1,16 @@
 -- There is one answer at most to a job on a text, for each run that was recorded.
-use Rattle.std.proofs.Common.{◌≡◌, ◌∙◌, ℕ, Bool, true, false, List, Option, Some, ap, sym, refl, subst, arith}
+use Rattle.std.proofs.Common.{◌≡◌, ◌∙◌, ℕ, true, false, List, Some, ap, sym, refl, subst, arith}
 use Rattle.dpj_base.specs.declared.outcome.Outcome.{Outcome}
 use Rattle.dpj_base.specs.declared.place.Place.{Place}
 use Rattle.dpj_history.specs.declared.record.Record.{Record}
 use Rattle.dpj_typed.specs.Plain.{PlainProgram}
-use Rattle.dpj_front.specs.Front.{IsPassed}
 use Rattle.dpj_passed.specs.Laws.{OnePassing, OneVerdict}
-use Rattle.dpj_run.specs.declared.recorded.Recorded.{Recorded}
 use Rattle.dpj_words.specs.declared.command.Command.{Command}
 use Rattle.dpj_words.specs.declared.command.Command.TheVariants as command
 use Rattle.dpj_words.specs.declared.job.Job.{Job}
 use Rattle.dpj_words.specs.declared.verdict.Verdict.TheVariants.{Refused}
 use Rattle.dpj_top.specs.declared.answered.Answered.{Answered}
-use Rattle.dpj_top.specs.Answer.{IsAcceptedAs, IsAnswer, IsAnswerOn, IsElided, IsRan, IsWithin, OneAnswer, asks_run, faulty, is_pinned, limits_of, of_program, only, told_of, to_check, to_effects, to_elide, to_list, to_run, too_long}
+use Rattle.dpj_top.specs.Answer.{IsAcceptedAs, IsAnswer, IsAnswerOn, IsRan, IsWithin, OneAnswer, asks_run, faulty, is_pinned, limits_of, of_program, only, told_of, to_check, to_effects, to_elide, to_list, to_run, too_long}
 use Rattle.dpj_top.specs.Promise.{KeepsPromise}
 use Rattle.dpj_top.proofs.Promised.{made_run}
 

@@ -16,6 +16,11 @@ use Rattle.dpj_machine.specs.declared.halted.Halted.TheVariants as halt
 use Rattle.dpj_rounds.specs.Rounds.{BreaksOff, at_once, within as in_turn}
 use Rattle.dpj_run.specs.Run.{ComesOut, HasNoRun, IsElision, IsRunOf, finished, halted, never_begun, no_record, recorded_so, stuck, unfinished}
 use Rattle.dpj_run.specs.Run.{not_at_all as never}
+use Rattle.dpj_run.specs.Replays.{IsFollowed}
+use Rattle.dpj_run.specs.declared.replaying.Replayed.TheVariants as replayed
+use Rattle.dpj_trace.specs.Reading.{AreLimits}
+use Rattle.dpj_code.specs.Plain.{plain_code}
+use Rattle.dpj_gen.specs.Whole.{compiled}
 use Rattle.dpj_run.specs.Rounding.{HasNoRounds, by_rounds, no_rounds}
 use Rattle.dpj_run.specs.Rounding.{HasNoRounds as rounds}
 use Rattle.dpj_run.specs.declared.recorded.Recorded.{Recorded}
@@ -69,6 +74,17 @@ module _ (typed : PlainProgram) (keeps : Keeps typed) (L : Limits) (argument : �
     goes_on (halted p is (stuck halts)) = (going p is).0 halts
     goes_on (halted p is (unfinished none ended)) = (going p is).1 none ended
 
+    -- nor can a number of a schedule, where it is that of a ready task
+    pub follows_on : (schedule : List ℕ) → IsFollowed typed L argument schedule replayed.Halted → ⊥
+    follows_on schedule (IsFollowed.halted at p followed why) =
+        not_stuck p (record {
+          is_code = subst (λ c. plain_code c ≡ compiled typed) (sym followed.made.is_at.is_code) followed.is_code;
+          limits = followed.made.is_at.is_limits;
+          is_argument = followed.made.is_at.is_argument;
+          replayed = followed.made.is_at.replayed;
+        }) why.task why.stuck
+    follows_on schedule (IsFollowed.too_wide wide) = wide.wide (keeps.narrow wide.code wide.is_code)
+
     no_break : (before p : Played) (h : Halted) → h ≡ halt.Stuck → IsRunOf typed L argument p → BreaksOff before p h → ⊥
     no_break before p h same is at_once = absurd (cc same)
     no_break before p h same is (in_turn _ _ tasks ready breaks) = by h same breaks.why
@@ -94,7 +110,7 @@ made_run mode.Rounds typed L argument workers r (by_rounds _ p is alone) =
     (subst (λ q. IsRunOf typed L argument q) (sym alone.machine) is.is_run, ap (λ (q : Played). q.outcome) alone.machine ∙ alone.came)
 
 pub keeps_promise : MachinesComeOutAsElided → GreedyMachinesElide → MachinesAreReduced → MachinesAreNotStuck → MachinesGoOn → PassedKeeps → KeepsPromise
-keeps_promise machines greedy reduce never_stuck goes passed = record { typed_well = typed_well; goes_on = goes_further; run = run; reduce = reduces; elide = elide }
+keeps_promise machines greedy reduce never_stuck goes passed = record { typed_well = typed_well; goes_on = goes_further; follows = follows; run = run; reduce = reduces; elide = elide }
   where
     kept : (text : List ℕ) (place : Place) (typed : PlainProgram) → IsAcceptedAs text place typed → Keeps typed
     kept text place typed accepted = passed text place typed accepted.0 accepted.1
@@ -123,6 +139,11 @@ keeps_promise machines greedy reduce never_stuck goes passed = record { typed_we
       where
         by : ComesOut typed (limits_of job) job.arg None → (HasNoRun typed (limits_of job) job.arg → ⊥) → ⊥
         by (never halts) none = none halts
+
+    follows : (text : List ℕ) (place : Place) (typed : PlainProgram) (limits : Limits) (argument : ℤ) (schedule : List ℕ) → IsAcceptedAs text place typed → AreLimits limits → FitsSigned w32 argument
+        → IsFollowed typed limits argument schedule replayed.Halted → ⊥
+    follows text place typed limits argument schedule accepted allowed fits =
+        follows_on typed (kept text place typed accepted) limits argument allowed.steps_most fits never_stuck goes allowed.cells_most schedule
 
     run : (job : Job) (text : List ℕ) (place : Place) (typed : PlainProgram) (answered : Answered) → IsWithin job → IsAcceptedAs text place typed
         → typed.uses_nd ≡ false → IsRan job text typed answered → TellsElision job text typed answered

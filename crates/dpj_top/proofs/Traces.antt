@@ -1,5 +1,5 @@
 -- Answers to traces, over plain variables.
-use Rattle.std.proofs.Common.{◌≡◌, ◌∙◌, ◌≤◌, ℕ, List, length, IfOk, Result, Ok, Err, sym, ap, subst}
+use Rattle.std.proofs.Common.{◌≡◌, ◌∙◌, ◌≤◌, ℕ, ℤ, List, length, IfOk, Result, Ok, Err, sym, ap, subst}
 use Rattle.dpj_base.specs.declared.memory.NoMemory.{NoMemory}
 use Rattle.dpj_base.specs.declared.place.Place.{Place}
 use Rattle.dpj_base.specs.declared.refusal.Refusal.{Refusal}
@@ -7,21 +7,17 @@ use Rattle.dpj_base.specs.declared.refusal.Kind.TheVariants.{Trace as trace_kind
 use Rattle.dpj_typed.specs.Plain.{PlainProgram}
 use Rattle.dpj_trace.specs.Reading.{IsMisfit, IsTrace}
 use Rattle.dpj_trace.specs.declared.reading.Trace.{Trace}
+use Rattle.dpj_base.specs.declared.outcome.Limits.{Limits}
+use Rattle.dpj_run.specs.Replays.{IsFollowed}
 use Rattle.dpj_run.specs.declared.replaying.Replayed.{Replayed}
-use Rattle.dpj_run.specs.declared.replaying.Replayed.TheVariants as replayed
 use Rattle.dpj_front.specs.Front.{IsPassed, IsFault}
 use Rattle.dpj_words.specs.declared.verdict.Status.TheVariants as ended
 use Rattle.dpj_words.specs.declared.verdict.Verdict.TheVariants.{Refused}
 use Rattle.dpj_words.specs.Reports.{status_of}
 use Rattle.dpj_top.specs.declared.answered.Answered.{Answered}
 use Rattle.dpj_top.specs.Answer.{max_text, max_trace, only, refused_at}
-use Rattle.dpj_top.specs.Replaying.{IsReplayed, too_long, no_trace, of_trace, IsAnswerOnTrace, long_program, faulty, followed, IsReplayOf, told_of_replay, program_of}
+use Rattle.dpj_top.specs.Replaying.{IsReplayed, too_long, no_trace, of_trace, IsAnswerOnTrace, long_program, faulty, followed, IsReplayOf, ran, unfit, program_of}
 use Rattle.dpj_top.proofs.Verdicts.{ending_status-no-usage}
-
-told-no-usage : (trace : Trace) (place : Place) (r : Replayed) → status_of (told_of_replay trace place r).verdict ≡ ended.Usage → ⊥
-told-no-usage trace place (replayed.Ran r) e = ending_status-no-usage r.outcome.ending e
-told-no-usage trace place (replayed.Unfit at) e = cc
-told-no-usage trace place replayed.Halted e = cc
 
 same-status : (answered told : Answered) → answered ≡ told → status_of answered.verdict ≡ ended.Usage → status_of told.verdict ≡ ended.Usage
 same-status answered told is e = ap (λ (a : Answered). status_of a.verdict) (sym is) ∙ e
@@ -29,7 +25,8 @@ same-status answered told is e = ap (λ (a : Answered). status_of a.verdict) (sy
 on-trace-no-usage : (bytes : List ℕ) (trace : Trace) (answered : Answered) → IsAnswerOnTrace bytes trace answered → status_of answered.verdict ≡ ended.Usage → ⊥
 on-trace-no-usage bytes trace answered (long_program long is) e = let s = same-status answered _ is e in cc
 on-trace-no-usage bytes trace answered (faulty refusal short fault is) e = let s = same-status answered _ is e in cc
-on-trace-no-usage bytes trace answered (followed place typed short passed r) e = told-no-usage trace place r.replayed (same-status answered _ r.is e)
+on-trace-no-usage bytes trace answered (followed place typed accepted (ran r f is)) e = ending_status-no-usage r.outcome.ending (same-status answered _ is e)
+on-trace-no-usage bytes trace answered (followed place typed accepted (unfit at f is)) e = let s = same-status answered _ is e in cc
 
 -- the answer to a replay isn't told as usage
 pub replay-no-usage : (bytes : List ℕ) (answered : Answered) → IsReplayed bytes answered → status_of answered.verdict ≡ ended.Usage → ⊥
@@ -49,12 +46,18 @@ misfit-answer bytes found told answered same is short misfit = no_trace told sho
 
 -- the program of a trace, read off the bytes
 pub follow-answer : (bytes text : List ℕ) (trace : Trace) (place : Place) (typed : PlainProgram) (result : Result Answered NoMemory) → text ≡ program_of bytes trace
-    → length text ≤ max_text → IsPassed text place typed → IfOk result (IsReplayOf trace place typed) → IfOk result (IsAnswerOnTrace bytes trace)
+    → length text ≤ max_text → IsPassed text place typed → IfOk result (IsReplayOf trace typed) → IfOk result (IsAnswerOnTrace bytes trace)
 follow-answer bytes text trace place typed (Ok answered) same short passed r =
-    followed place typed (subst (λ (t : List ℕ). length t ≤ max_text) same short) (subst (λ t. IsPassed t place typed) same passed) r
+    followed place typed (subst (λ (t : List ℕ). length t ≤ max_text) same short, subst (λ t. IsPassed t place typed) same passed) r
 follow-answer bytes text trace place typed (Err none) same short passed r = tt
 
 pub fault-answer : (bytes text : List ℕ) (trace : Trace) (found told : Refusal) (answered : Answered) → text ≡ program_of bytes trace → found ≡ told → answered ≡ only (Refused told)
     → length text ≤ max_text → IsFault text found → IsAnswerOnTrace bytes trace answered
 fault-answer bytes text trace found told answered same alike is short fault =
     faulty told (subst (λ (t : List ℕ). length t ≤ max_text) same short) (subst (λ t. IsFault t told) same (subst (λ r. IsFault text r) alike fault)) is
+
+-- what a schedule comes to, of an equal program under an equal argument
+pub followed_as : (made typed : PlainProgram) (L : Limits) (a argument : ℤ) (schedule numbers : List ℕ) (found : Replayed) → made ≡ typed → a ≡ argument → schedule ≡ numbers →
+    IsFollowed made L a schedule found → IsFollowed typed L argument numbers found
+followed_as made typed L a argument schedule numbers found is given same f =
+    subst (λ P. IsFollowed P L argument numbers found) is (subst (λ b. IsFollowed made L b numbers found) given (subst (λ ks. IsFollowed made L a ks found) same f))

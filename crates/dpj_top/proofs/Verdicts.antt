@@ -1,5 +1,5 @@
 -- Answers, over plain variables.
-use Rattle.std.proofs.Common.{◌≡◌, ◌≢◌, ◌∙◌, ◌≤◌, ◌⊎◌, ℕ, ℤ, Bool, true, false, List, length, Option, Some, None, IfOk, Result, Ok, Err, cond, refl, sym, ap, subst, inl, inr, arith}
+use Rattle.std.proofs.Common.{◌≡◌, ◌≢◌, ◌∙◌, ◌≤◌, ◌⊎◌, ℕ, ℤ, true, List, length, Option, Some, IfOk, Result, Ok, Err, refl, sym, ap, subst, inl, inr}
 use Rattle.dpj_base.specs.declared.memory.NoMemory.{NoMemory}
 use Rattle.dpj_base.specs.declared.outcome.Limits.{Limits}
 use Rattle.dpj_base.specs.declared.outcome.Outcome.{Outcome}
@@ -13,13 +13,13 @@ use Rattle.dpj_words.specs.declared.job.Job.{Job}
 use Rattle.dpj_words.specs.declared.key.Mode.{Mode}
 use Rattle.dpj_words.specs.declared.verdict.Status.TheVariants as ended
 use Rattle.dpj_words.specs.declared.verdict.Verdict.{Verdict}
-use Rattle.dpj_words.specs.declared.verdict.Verdict.TheVariants.{Refused, Accepted}
+use Rattle.dpj_words.specs.declared.verdict.Verdict.TheVariants.{Refused}
 use Rattle.dpj_words.specs.Jobs.{job}
 use Rattle.dpj_words.specs.Reports.{status_of, ending_status}
 use Rattle.dpj_typed.specs.Plain.{PlainProgram}
 use Rattle.dpj_run.specs.Run.{ComesOut}
 use Rattle.dpj_run.specs.declared.recorded.Recorded.{Recorded}
-use Rattle.dpj_front.specs.Front.{IsPassed, IsFault}
+use Rattle.dpj_front.specs.Front.{IsFault}
 use Rattle.dpj_top.specs.declared.answered.Answered.{Answered}
 use Rattle.dpj_top.specs.Answer.{IsAcceptedAs, IsAnswer, too_long, faulty, of_program, IsRan, IsRunBy, IsElided, IsListing, IsAnswerOn, to_check, to_run, to_elide, to_list, to_effects, TellsEffects, told_by, told_of, limits_of, only, asks_run, max_text}
 

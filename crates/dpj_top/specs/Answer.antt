@@ -1,11 +1,11 @@
 -- What the tool answers to a job and a text, and what it records.
 use Rattle.std.specs.Int.{w32}
-use Rattle.std.specs.Prelude.{ℕ, ℤ, FitsSigned, ◌≡◌, ◌<◌, ◌≤◌, ◌⊎◌, Bool, true, false, cond, min, List, length, Option, Some, None}
+use Rattle.std.specs.Prelude.{ℕ, ℤ, FitsSigned, ◌≡◌, ◌<◌, ◌≤◌, Bool, true, false, min, List, length, Option, Some, None}
 use Rattle.dpj_base.specs.declared.outcome.Limits.{Limits}
 use Rattle.dpj_base.specs.declared.outcome.Outcome.{Outcome}
 use Rattle.dpj_base.specs.declared.place.Place.{Place}
 use Rattle.dpj_base.specs.declared.refusal.Kind.{Kind}
-use Rattle.dpj_base.specs.declared.refusal.Kind.TheVariants.{Form, TooLong}
+use Rattle.dpj_base.specs.declared.refusal.Kind.TheVariants.{TooLong}
 use Rattle.dpj_base.specs.declared.refusal.Refusal.{Refusal}
 use Rattle.dpj_typed.specs.Plain.{PlainProgram}
 use Rattle.dpj_code.specs.declared.code.Code.{Code}
@@ -61,10 +61,6 @@ asks_run command.Run = true
 asks_run command.Demo = true
 asks_run command.Trace = true
 asks_run _ = false
-
--- a program that can't go on by a schedule is refused where its first token stands
-abbrev pub refused_form : Place → Verdict
-refused_form place = Refused (record { kind = Form; place = place })
 
 -- the elision of an accepted program, of which nothing is recorded
 pub record IsElided (job : Job) (typed : PlainProgram) (answered : Answered) : Type 0 where

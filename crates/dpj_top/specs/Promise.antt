@@ -1,5 +1,7 @@
 -- What the answer to a run comes to by the source alone.
-use Rattle.std.specs.Prelude.{◌≡◌, ◌⊎◌, true, false, List, Option, Some, None, ℕ}
+use Rattle.std.specs.Prelude.{◌≡◌, ◌⊎◌, ℤ, FitsSigned, true, false, List, Option, Some, None, ℕ}
+use Rattle.std.specs.Int.{w32}
+use Rattle.dpj_base.specs.declared.outcome.Limits.{Limits}
 use Rattle.dpj_base.specs.declared.outcome.Outcome.{Outcome}
 use Rattle.dpj_base.specs.declared.place.Place.{Place}
 use Rattle.dpj_typed.specs.Plain.{PlainProgram}
@@ -8,7 +10,10 @@ use Rattle.dpj_history.specs.declared.record.Record.{Record}
 use Rattle.dpj_promise.specs.Promise.{elision}
 use Rattle.dpj_promise.specs.Reduced.{ComesOutReduced}
 use Rattle.dpj_run.specs.declared.recorded.Recorded.{Recorded}
+use Rattle.dpj_run.specs.Replays.{IsFollowed}
 use Rattle.dpj_run.specs.Run.{ComesOut}
+use Rattle.dpj_run.specs.declared.replaying.Replayed.TheVariants.{Halted}
+use Rattle.dpj_trace.specs.Reading.{AreLimits}
 use Rattle.dpj_words.specs.Jobs.{job as job_of}
 use Rattle.dpj_words.specs.Reports.{report_of, status_of}
 use Rattle.dpj_words.specs.declared.command.Command.TheVariants as command
@@ -47,6 +52,9 @@ pub record GoesOn (job : Job) (typed : PlainProgram) : Type 0 where
 pub record KeepsPromise : Type 0 where
   pub typed_well : (text : List ℕ) (place : Place) (typed : PlainProgram) → IsAcceptedAs text place typed → WellTyped typed
   pub goes_on : (job : Job) (text : List ℕ) (place : Place) (typed : PlainProgram) → IsWithin job → IsAcceptedAs text place typed → GoesOn job typed
+  -- also by a schedule, as far as it can be followed
+  pub follows : (text : List ℕ) (place : Place) (typed : PlainProgram) (limits : Limits) (argument : ℤ) (schedule : List ℕ) → IsAcceptedAs text place typed → AreLimits limits → FitsSigned w32 argument
+      → IsFollowed typed limits argument schedule Halted → ⊥
   pub run : (job : Job) (text : List ℕ) (place : Place) (typed : PlainProgram) (answered : Answered) → IsWithin job → IsAcceptedAs text place typed
       → typed.uses_nd ≡ false → IsRan job text typed answered → TellsElision job text typed answered
   pub reduce : (job : Job) (text : List ℕ) (place : Place) (typed : PlainProgram) (answered : Answered) → IsWithin job → IsAcceptedAs text place typed

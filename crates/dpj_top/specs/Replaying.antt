@@ -9,36 +9,29 @@ use Rattle.dpj_trace.specs.Reading.{IsMisfit, IsTrace}
 use Rattle.dpj_trace.specs.Runs.{line_of}
 use Rattle.dpj_trace.specs.declared.reading.Trace.{Trace}
 use Rattle.dpj_run.specs.Replays.{IsFollowed}
-use Rattle.dpj_run.specs.declared.replaying.Replayed.{Replayed}
+use Rattle.dpj_run.specs.declared.recorded.Recorded.{Recorded}
 use Rattle.dpj_run.specs.declared.replaying.Replayed.TheVariants as replayed
-use Rattle.dpj_front.specs.Front.{IsPassed, IsFault}
+use Rattle.dpj_front.specs.Front.{IsFault}
 use Rattle.dpj_words.specs.declared.verdict.Verdict.TheVariants.{Refused, Ran}
 use Rattle.dpj_top.specs.declared.answered.Answered.{Answered}
-use Rattle.dpj_top.specs.Answer.{max_text, max_trace, only, refused_at, refused_at_start, refused_form}
+use Rattle.dpj_top.specs.Answer.{IsAcceptedAs, max_text, max_trace, only, refused_at, refused_at_start}
 
 -- the text of the program that a trace holds
 abbrev pub program_of : List ℕ → Trace → List ℕ
 program_of bytes trace = drop trace.from bytes
 
--- what is told of a schedule that came to this
-abbrev pub told_of_replay : Trace → Place → Replayed → Answered
-told_of_replay trace place (replayed.Ran r) = record { verdict = Ran r.outcome; recorded = Some r.record }
-told_of_replay trace place (replayed.Unfit at) = only (refused_at Schedule (line_of trace.schedule at))
-told_of_replay trace place replayed.Halted = only (refused_form place)
-
--- an accepted program has followed the schedule of a trace
-pub record IsReplayOf (trace : Trace) (place : Place) (typed : PlainProgram) (answered : Answered) : Type 0 where
-  pub replayed : Replayed
-  pub followed : IsFollowed typed trace.limits trace.arg trace.schedule replayed
-  pub is : answered ≡ told_of_replay trace place replayed
+-- an accepted program has followed the schedule of a trace: a run has come out by it, or a number of it can't be followed
+pub data IsReplayOf (trace : Trace) (typed : PlainProgram) (answered : Answered) : Type 0 where
+  ran : (r : Recorded) → IsFollowed typed trace.limits trace.arg trace.schedule (replayed.Ran r) → answered ≡ record { verdict = Ran r.outcome; recorded = Some r.record } →
+      IsReplayOf trace typed answered
+  unfit : (at : ℕ) → IsFollowed typed trace.limits trace.arg trace.schedule (replayed.Unfit at) → answered ≡ only (refused_at Schedule (line_of trace.schedule at)) → IsReplayOf trace typed answered
 
 -- the answer to bytes that are a trace: its program is too long, or has a first fault, or follows its schedule
 pub data IsAnswerOnTrace (bytes : List ℕ) (trace : Trace) (answered : Answered) : Type 0 where
   long_program : max_text < length (program_of bytes trace) → answered ≡ only (refused_at_start TooLong) → IsAnswerOnTrace bytes trace answered
   faulty : (refusal : Refusal) → length (program_of bytes trace) ≤ max_text → IsFault (program_of bytes trace) refusal → answered ≡ only (Refused refusal)
       → IsAnswerOnTrace bytes trace answered
-  followed : (place : Place) (typed : PlainProgram) → length (program_of bytes trace) ≤ max_text → IsPassed (program_of bytes trace) place typed
-      → IsReplayOf trace place typed answered → IsAnswerOnTrace bytes trace answered
+  followed : (place : Place) (typed : PlainProgram) → IsAcceptedAs (program_of bytes trace) place typed → IsReplayOf trace typed answered → IsAnswerOnTrace bytes trace answered
 
 -- the answer to any bytes, of which a replay is asked
 pub data IsReplayed (bytes : List ℕ) (answered : Answered) : Type 0 where

@@ -1,5 +1,5 @@
 ghost use Rattle.std.specs.Prelude.{◌≡◌};
-ghost use Rattle.dpj_top.specs.Answer.{limits_of, only, refused_at, refused_form};
+ghost use Rattle.dpj_top.specs.Answer.{limits_of, only, refused_at};
 
 use dpj_base::{Kind, Limits, Place, Refusal};
 use dpj_history::Record;
@@ -37,16 +37,6 @@ impl Answered {
         Answered::refused(Refusal {
             kind,
             place: Place { line, col: 1 },
-        })
-    }
-
-    /// A program that can't go on is refused where its first token stands.
-    pub fn refused_form(place: Place) -> Answered
-        ensures { result ≡ only (refused_form place) }
-    {
-        Answered::refused(Refusal {
-            kind: Kind::Form,
-            place,
         })
     }
 }

@@ -1,10 +1,12 @@
 ghost use Rattle.std.specs.Prelude.{◌≤◌, length, IfOk};
 ghost use Rattle.dpj_front.specs.Judging.{CanRun, typed_of};
 ghost use Rattle.dpj_trace.specs.Reading.{AreLimits, IsTrace};
+ghost use Rattle.dpj_top.specs.Answer.{IsAcceptedAs};
 ghost use Rattle.dpj_top.specs.Replaying.{IsAnswerOnTrace, IsReplayOf, IsReplayed};
 
 use crate::answered::Answered;
 use crate::answers::MAX_TEXT;
+use crate::laws::promise;
 use dpj_base::{Kind, NoMemory, Stop};
 use dpj_front::{Passed, front};
 use dpj_run::{Replayed, replay};
@@ -37,29 +39,31 @@ fn on_trace(alloc: Global, bytes: &[u8], trace: &Trace) -> Result<Answered, NoMe
         return Ok(Answered::refused_at(Kind::TooLong, 1));
     }
     match front(alloc, text) {
-        Ok(passed) => follow(alloc, trace, passed),
+        Ok(passed) => follow(alloc, trace, text, passed),
         Err(Stop::Refused(refusal)) => Ok(Answered::refused(refusal)),
         Err(Stop::NoMemory) => Err(NoMemory),
     }
 }
 
-/// The answer to a trace of an accepted program.
-fn follow(alloc: Global, trace: &Trace, passed: Passed) -> Result<Answered, NoMemory>
+/// The answer to a trace of an accepted program, which a text is.
+fn follow(alloc: Global, trace: &Trace, text: &[u8], passed: Passed) -> Result<Answered, NoMemory>
+    requires accepted { IsAcceptedAs text.now passed.place (typed_of passed) }
     requires can_run { CanRun (typed_of passed) }
     requires limits { AreLimits trace.now.limits }
-    ensures { IfOk result (IsReplayOf trace.now passed.place (typed_of passed)) }
+    ensures { IfOk result (IsReplayOf trace.now (typed_of passed)) }
 {
-    let place = passed.place;
+    promise();
     let typed = passed.typed(alloc)?;
     let schedule = trace.schedule.as_slice();
-    Ok(
-        match replay(alloc, &typed, trace.limits, trace.arg, schedule)? {
-            Replayed::Ran(run) => Answered {
-                verdict: Verdict::Ran(run.outcome),
-                recorded: Some(run.record),
-            },
-            Replayed::Unfit(at) => Answered::refused_at(Kind::Schedule, trace_line(schedule, at)),
-            Replayed::Halted => Answered::refused_form(place),
-        },
-    )
+    match replay(alloc, &typed, trace.limits, trace.arg, schedule)? {
+        Replayed::Ran(run) => Ok(Answered {
+            verdict: Verdict::Ran(run.outcome),
+            recorded: Some(run.record),
+        }),
+        Replayed::Unfit(at) => {
+            let line = trace_line(schedule, at);
+            Ok(Answered::refused_at(Kind::Schedule, line))
+        }
+        Replayed::Halted => unreachable!("an accepted program follows each number of a ready task"),
+    }
 }
