@@ -154,7 +154,7 @@ def unmended(path):
     for _, heading, info, _ in fences(path):
         answers[heading].append(info.split(" ")[-1])
     # The text of the first would have a megabyte, no program is known that gets the second, and the others are of traces.
-    names = set(re.findall(r"^## (.+)$", path.read_text(encoding="utf-8"), re.M)) - {"too-long", "form", "trace", "schedule"}
+    names = set(re.findall(r"^## (.+)$", path.read_text(encoding="utf-8"), re.M)) - {"too-long", "trace", "schedule"}
     return next((name for name in sorted(names) if not {name, "accepted"} <= set(answers[name])), None)
 
 
