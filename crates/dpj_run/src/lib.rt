@@ -4,7 +4,7 @@
 //! What it promises (`specs/Run.antt`): an outcome is that of a run of the program's code within the limits, which the
 //! schedule leads to that was made. `elide` makes the run in which at each step the task that began last goes on. Where there
 //! is no outcome, the run is at a moment at which no task can go on, or the code has a fork of more branches than a value
-//! counts; nothing is known of a program of the language that comes to this, and that none does is open.
+//! counts; no accepted program comes to this, as a law says that stands above (`law_goes_on` of `dpj_promise`).
 #![tactic(auto)]
 
 mod eliding;
