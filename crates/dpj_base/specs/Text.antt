@@ -20,7 +20,6 @@ trap_name trap.Size = codes "size"
 trap_name trap.Stack = codes "stack"
 
 abbrev pub kind_name : Kind → List ℕ
-kind_name kind.Form = codes "form"
 kind_name kind.TooLong = codes "too-long"
 kind_name kind.Syntax = codes "syntax"
 kind_name kind.Number = codes "number"
@@ -47,30 +46,29 @@ kind_name kind.Schedule = codes "schedule"
 
 -- the order in which faults of one place are told
 abbrev pub kind_number : Kind → ℕ
-kind_number kind.Form = 0
-kind_number kind.TooLong = 1
-kind_number kind.Syntax = 2
-kind_number kind.Number = 3
-kind_number kind.Nest = 4
-kind_number kind.Duplicate = 5
-kind_number kind.Unknown = 6
-kind_number kind.Cycle = 7
-kind_number kind.Main = 8
-kind_number kind.«Type» = 9
-kind_number kind.RegionArgs = 10
-kind_number kind.Override = 11
-kind_number kind.Return = 12
-kind_number kind.Assign = 13
-kind_number kind.PartialWrite = 14
-kind_number kind.Constraint = 15
-kind_number kind.Summary = 16
-kind_number kind.OverrideEffect = 17
-kind_number kind.Interferes = 18
-kind_number kind.InterferesNd = 19
-kind_number kind.AtomicBody = 20
-kind_number kind.LocalRegion = 21
-kind_number kind.Trace = 22
-kind_number kind.Schedule = 23
+kind_number kind.TooLong = 0
+kind_number kind.Syntax = 1
+kind_number kind.Number = 2
+kind_number kind.Nest = 3
+kind_number kind.Duplicate = 4
+kind_number kind.Unknown = 5
+kind_number kind.Cycle = 6
+kind_number kind.Main = 7
+kind_number kind.«Type» = 8
+kind_number kind.RegionArgs = 9
+kind_number kind.Override = 10
+kind_number kind.Return = 11
+kind_number kind.Assign = 12
+kind_number kind.PartialWrite = 13
+kind_number kind.Constraint = 14
+kind_number kind.Summary = 15
+kind_number kind.OverrideEffect = 16
+kind_number kind.Interferes = 17
+kind_number kind.InterferesNd = 18
+kind_number kind.AtomicBody = 19
+kind_number kind.LocalRegion = 20
+kind_number kind.Trace = 21
+kind_number kind.Schedule = 22
 
 -- `line:col name`
 abbrev pub refusal_text : Refusal → List ℕ

@@ -7,8 +7,6 @@ use std::fmt;
 /// Why a text is refused. `docs/REFUSALS.md` of the repository explains each to its reader.
 #[derive(Clone, Copy, Debug, PartialEq, Eq)]
 pub enum Kind {
-    /// The program doesn't run this form of text yet.
-    Form,
     /// More bytes than a text may have.
     TooLong,
     /// Not a text of the grammar.
@@ -90,7 +88,6 @@ impl Kind {
         ensures { result.now ≡ kind_name self }
     {
         match self {
-            Kind::Form => "form",
             Kind::TooLong => "too-long",
             Kind::Syntax => "syntax",
             Kind::Number => "number",

@@ -82,14 +82,13 @@ before_self order.Number a h = lex_self (kind_number a.kind) (lex_self a.place.l
 -- a kind of refusal by its number
 abbrev kind_at : ℕ → Kind
 kind_at n =
-    cond (n == 0) kind.Form (cond (n == 1) kind.TooLong (cond (n == 2) kind.Syntax (cond (n == 3) kind.Number (cond (n == 4) kind.Nest
-    (cond (n == 5) kind.Duplicate (cond (n == 6) kind.Unknown (cond (n == 7) kind.Cycle (cond (n == 8) kind.Main (cond (n == 9) kind.«Type»
-    (cond (n == 10) kind.RegionArgs (cond (n == 11) kind.Override (cond (n == 12) kind.Return (cond (n == 13) kind.Assign (cond (n == 14) kind.PartialWrite
-    (cond (n == 15) kind.Constraint (cond (n == 16) kind.Summary (cond (n == 17) kind.OverrideEffect (cond (n == 18) kind.Interferes (cond (n == 19) kind.InterferesNd
-    (cond (n == 20) kind.AtomicBody (cond (n == 21) kind.LocalRegion (cond (n == 22) kind.Trace kind.Schedule))))))))))))))))))))))
+    cond (n == 0) kind.TooLong (cond (n == 1) kind.Syntax (cond (n == 2) kind.Number (cond (n == 3) kind.Nest (cond (n == 4) kind.Duplicate
+    (cond (n == 5) kind.Unknown (cond (n == 6) kind.Cycle (cond (n == 7) kind.Main (cond (n == 8) kind.«Type» (cond (n == 9) kind.RegionArgs
+    (cond (n == 10) kind.Override (cond (n == 11) kind.Return (cond (n == 12) kind.Assign (cond (n == 13) kind.PartialWrite (cond (n == 14) kind.Constraint
+    (cond (n == 15) kind.Summary (cond (n == 16) kind.OverrideEffect (cond (n == 17) kind.Interferes (cond (n == 18) kind.InterferesNd (cond (n == 19) kind.AtomicBody
+    (cond (n == 20) kind.LocalRegion (cond (n == 21) kind.Trace kind.Schedule)))))))))))))))))))))
 
 kind_again : (k : Kind) → kind_at (kind_number k) ≡ k
-kind_again kind.Form = refl
 kind_again kind.TooLong = refl
 kind_again kind.Syntax = refl
 kind_again kind.Number = refl
