@@ -1,5 +1,6 @@
 pub mod Effects
 pub mod Laws
+pub mod Names
 pub mod Plain
 pub mod Samples
 pub mod Scope
