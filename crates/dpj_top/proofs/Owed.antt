@@ -23,7 +23,7 @@ pub tells-no-want : (status : Status) → TellsOfVerdict status → status ≡ e
 tells-no-want status told e = subst TellsOfVerdict e told
 
 -- the answer to a job and a text that are there
-given_answer : (words : List (List ℕ)) (held : Option (List ℕ)) (asked : Job) (text : List ℕ) (answered : Answered) → job words ≡ Some asked → text_for asked held ≡ Some text →
+pub given_answer : (words : List (List ℕ)) (held : Option (List ℕ)) (asked : Job) (text : List ℕ) (answered : Answered) → job words ≡ Some asked → text_for asked held ≡ Some text →
     IsAnswered words held answered → Answers asked text answered
 given_answer words held asked text answered e f is =
     let some : IfSome (text_for asked held) (λ t. Answers asked t answered) =

@@ -30,7 +30,7 @@ use Rattle.dpj_words.specs.declared.job.Job.{Job}
 use Rattle.dpj_words.specs.declared.verdict.Verdict.TheVariants.{Ran}
 use Rattle.dpj_top.specs.declared.answered.Answered.{Answered}
 use Rattle.dpj_top.specs.Answer.{IsAcceptedAs, IsElided, IsRan, IsRunBy, IsWithin, limits_of, only, told_of}
-use Rattle.dpj_top.specs.Promise.{GoesOn, KeepsPromise, TellsElision, TellsReduced, elision_for}
+use Rattle.dpj_top.specs.Promise.{FollowsReduced, GoesOn, KeepsPromise, TellsElision, TellsReduced, elision_for}
 
 module _ (typed : PlainProgram) (keeps : Keeps typed) (L : Limits) (argument : ℤ) (few : L.steps ≤ 20000000) (fits : FitsSigned w32 argument) where
   few_steps : (p : Played) → IsRunOf typed L argument p → p.limits.steps ≤ 20000000
@@ -110,7 +110,7 @@ made_run mode.Rounds typed L argument workers r (by_rounds _ p is alone) =
     (subst (λ q. IsRunOf typed L argument q) (sym alone.machine) is.is_run, ap (λ (q : Played). q.outcome) alone.machine ∙ alone.came)
 
 pub keeps_promise : MachinesComeOutAsElided → GreedyMachinesElide → MachinesAreReduced → MachinesAreNotStuck → MachinesGoOn → PassedKeeps → KeepsPromise
-keeps_promise machines greedy reduce never_stuck goes passed = record { typed_well = typed_well; goes_on = goes_further; follows = follows; run = run; reduce = reduces; elide = elide }
+keeps_promise machines greedy reduce never_stuck goes passed = record { typed_well = typed_well; goes_on = goes_further; follows = follows; replay = replay; run = run; reduce = reduces; elide = elide }
   where
     kept : (text : List ℕ) (place : Place) (typed : PlainProgram) → IsAcceptedAs text place typed → Keeps typed
     kept text place typed accepted = passed text place typed accepted.0 accepted.1
@@ -144,6 +144,17 @@ keeps_promise machines greedy reduce never_stuck goes passed = record { typed_we
         → IsFollowed typed limits argument schedule replayed.Halted → ⊥
     follows text place typed limits argument schedule accepted allowed fits =
         follows_on typed (kept text place typed accepted) limits argument allowed.steps_most fits never_stuck goes allowed.cells_most schedule
+
+    replay : (text : List ℕ) (place : Place) (typed : PlainProgram) (limits : Limits) (argument : ℤ) (schedule : List ℕ) (made : Recorded) → IsAcceptedAs text place typed → AreLimits limits
+        → FitsSigned w32 argument → IsFollowed typed limits argument schedule (replayed.Ran made) → FollowsReduced typed limits argument schedule made
+    replay text place typed limits argument schedule made accepted allowed fits (IsFollowed.ran _ is same) =
+        let keeps = kept text place typed accepted in
+        record {
+          well_typed = keeps.well_typed;
+          by_schedule = same;
+          reduced = reduced_so typed keeps limits argument allowed.steps_most fits reduce made.record.machine made.outcome is.is_run is.came;
+          elided = λ none. told_elision typed keeps limits argument allowed.steps_most fits machines none made.record.machine made.outcome is.is_run is.came;
+        }
 
     run : (job : Job) (text : List ℕ) (place : Place) (typed : PlainProgram) (answered : Answered) → IsWithin job → IsAcceptedAs text place typed
         → typed.uses_nd ≡ false → IsRan job text typed answered → TellsElision job text typed answered
