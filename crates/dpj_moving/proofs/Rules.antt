@@ -4,7 +4,7 @@ use Rattle.dpj_runs.specs.Actions.{Action, Answer, Begin, Do, End, Enter, Exit, 
 use Rattle.dpj_runs.specs.Blocks.{with_rule}
 use Rattle.dpj_runs.specs.Meaning.{Disciplined}
 use Rattle.dpj_runs.specs.Objects.{Path}
-use Rattle.dpj_runs.specs.Runs.{Begun, Right, Run, branch, reply, root}
+use Rattle.dpj_runs.specs.Runs.{Begun, Event, Follows, Right, Run, branch, reply, root}
 use Rattle.dpj_runs.specs.Standing.{Admitted, Valid}
 use Rattle.dpj_moving.specs.Laws.{Weaker}
 
@@ -29,18 +29,21 @@ right_rule P rule R p (Begin b) x h = h
 right_rule P rule R p Join x h = h
 right_rule P rule R p (End y) x h = h
 
+pub follows_rule : (P : Program) (rule : Rule) (R : Run) (e : Event) → Follows P R e → Follows (with_rule rule P) R e
+follows_rule P rule R e f = record {
+  task = f.task;
+  begun = begun_rule P rule f.begun;
+  asks = f.asks;
+  right = right_rule P rule R e.path e.act e.ans f.right;
+}
+
 pub valid_rule : (P : Program) (weak : Rule) → Weaker weak P.rule → (R : Run) → Valid P R → Valid (with_rule weak P) R
 valid_rule P weak w [] l = tt
 valid_rule P weak w (e ∷ R) l = (admitted l.0, valid_rule P weak w R l.1)
   where
     admitted : Admitted P R e → Admitted (with_rule weak P) R e
     admitted a = record {
-      follows = (let f = a.follows in record {
-        task = f.task;
-        begun = begun_rule P weak f.begun;
-        asks = f.asks;
-        right = right_rule P weak R e.path e.act e.ans f.right;
-      });
+      follows = follows_rule P weak R e a.follows;
       enters = λ E k. (let c = a.enters E k in record { clear = λ s q F h. w F E (c.clear s q F h) });
     }
 
