@@ -1,0 +1,4 @@
+pub mod Decided
+pub mod Fitting
+pub mod Listed
+pub mod Touching
