@@ -1,0 +1,1 @@
+//! The laws of judged programs, the clauses of functions that do nothing.
