@@ -1,4 +1,4 @@
-use Rattle.std.proofs.Common.{◌∙◌, ap, ap₂, sym, map, [], slice_index_or, subst, ◌<◌, arith}
+use Rattle.std.proofs.Common.{◌∙◌, ap, ap₂, map, [], slice_index_or, subst, ◌<◌, arith}
 use Rattle.dpj_headers.specs.Headers.{class_count}
 use Rattle.dpj_headers.specs.Numbers.{as_number}
 use Rattle.dpj_typed.specs.Names.{named_class}
