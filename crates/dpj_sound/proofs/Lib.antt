@@ -23,9 +23,11 @@ pub mod Free
 pub mod Guarding
 pub mod InEffects
 pub mod InScope
+pub mod Including
 pub mod Indices
 pub mod Ints
 pub mod Keeping
+pub mod Levels
 pub mod Locals
 pub mod Making
 pub mod Meeting

@@ -1,7 +1,15 @@
 use Rattle.dpj_sound.proofs.Free.{runs_are_free}
 use Rattle.dpj_sound.proofs.Guarding.{conflicts_are_guarded, nd_forks_are_outside}
 use Rattle.dpj_sound.proofs.Keeping.{runs_keep_to}
+use Rattle.dpj_sound.proofs.Levels.{conflicts_are_levelled, entries_are_let}
 use Rattle.dpj_sound.proofs.laws.law_runs.Goals as goal
 
 pub returns : goal.returns
-returns c = record { keep_to = runs_keep_to; free = runs_are_free; guarded = conflicts_are_guarded; outside = nd_forks_are_outside }
+returns c = record {
+  keep_to = runs_keep_to;
+  free = runs_are_free;
+  guarded = conflicts_are_guarded;
+  outside = nd_forks_are_outside;
+  levelled = conflicts_are_levelled;
+  entries = entries_are_let;
+}
