@@ -78,22 +78,24 @@ taken rows = let ordered = ordered_decided rows in taken_by rows ordered.0 order
 
 fresh : (table : Table) (length_name : Option ℕ) → (env : Env) × IsFresh table length_name env
 fresh table length_name =
-    let supers = taken (superclasses table) in
-    (record {
-      table = table;
-      class = 0;
-      method = 0;
-      supers = supers.0;
-      length = length_name;
-      params = no_names;
-      rows = [];
-      variables = no_names;
-      slots = 1;
-      regions = no_names;
-      declared = 0;
-      given = [];
-      class_given = 0;
-    }, record { table_is = refl; supers_are = supers.1; length_is = refl })
+    let supers = taken (superclasses table) in (
+      record {
+        table = table;
+        class = 0;
+        method = 0;
+        supers = supers.0;
+        length = length_name;
+        params = no_names;
+        rows = [];
+        variables = no_names;
+        slots = 1;
+        regions = no_names;
+        declared = 0;
+        given = [];
+        class_given = 0;
+      },
+      record { table_is = refl; supers_are = supers.1; length_is = refl },
+    )
 
 verdict : (program : Program) (table : Table) → (v : Result (List PlainBody) Refusal) × BodiesChecking program table v
 verdict program table =

@@ -51,10 +51,11 @@ verdict_done : (class_env : Env) (params : List Bool) (number : ℕ) (method : M
     IfMade (method_judged class_env number method u) (MethodKeeps method)
 verdict_done class_env params number method (passes ss w) d =
     made_where {P = MethodKeeps method} (method_told class_env number method w.found.effects) (typed_body ss w.env)
-    (λ none.
-    (body_keeps d,
-    no_fault (has_value method.result && all_complete (plain_stmts (map plain_stmt method.body))) (set_covers (summary_of (numbered (table_of class_env) number)) w.found.effects)
-    (has_room (body_begun class_env number method).env) (λ reason. fault reason method.place) none))
+    (λ none. (
+      body_keeps d,
+      no_fault (has_value method.result && all_complete (plain_stmts (map plain_stmt method.body))) (set_covers (summary_of (numbered (table_of class_env) number)) w.found.effects)
+          (has_room (body_begun class_env number method).env) (λ reason. fault reason method.place) none,
+    ))
 verdict_done class_env params number method (refused q) d = tt
 
 method_done : {class_env : Env} {params : List Bool} {number : ℕ} {method : Method} {v : Result PlainBody Refusal} → MethodChecking class_env params number method v →

@@ -51,10 +51,6 @@ behind : (f g : Found) (a : Answer) → Grows f g → IfGives a (Grows g) → If
 behind f g (gives t h) before after = λ n. after (before n)
 behind f g (refused q) before after = tt
 
-all_behind : (f g : Found) (a : AllAnswer) → Grows f g → IfAllGive a (Grows g) → IfAllGive a (Grows f)
-all_behind f g (all_give types h) before after = λ n. after (before n)
-all_behind f g (one_refused q) before after = tt
-
 aim_behind : (f g : Found) (a : TargetAnswer) → Grows f g → IfAims a (Grows g) → IfAims a (Grows f)
 aim_behind f g (aims aim h) before after = λ n. after (before n)
 aim_behind f g (misses q) before after = tt
